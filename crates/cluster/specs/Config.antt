@@ -1,0 +1,45 @@
+-- A shelf's parameters (document 01, "The parts"; document 01 says box for server).
+-- Every threshold and every length is a function of these: no other file writes 2t+1, t+1 or 3t+1.
+use mathlib.Core.Path.{_≡_}
+use mathlib.Core.Logic.{_≢_}
+use mathlib.Core.List.{List, [], _∷_, _++_}
+use Prim.Native.Nat.{ℕ, zero, suc, _+_, _-_, _*_, _≤_, _<_}
+use lib.ListN.{length, getD}
+
+pub record Config : Type 0 where
+  -- how many servers may lie
+  pub t : ℕ
+  -- S: how many servers there are, numbered from 1
+  pub servers : ℕ
+  -- k: how many fragments give a content back
+  pub shares : ℕ
+  -- the point of each server, a byte; those of servers 1 to k belong to the plain runs of a content
+  pub points : List ℕ
+
+-- 1, 2, .., n
+unfoldable pub upTo : ℕ → List ℕ
+upTo zero = []
+upTo (suc n) = upTo n ++ (suc n ∷ [])
+
+-- document 01's shelf: S = 3t+1, k = t+1, and server i has the point i
+unfoldable pub shelf : ℕ → Config
+shelf t = record { t = t; servers = 3 * t + 1; shares = t + 1; points = upTo (3 * t + 1) }
+
+-- how many replies end a round: S - t, which is document 01's 2t+1
+unfoldable pub quorum : Config → ℕ
+quorum s = s .servers - s .t
+
+-- the point of server i, counted from 1
+unfoldable pub pointOf : List ℕ → ℕ → ℕ
+pointOf points i = getD points (i - 1) 0
+
+-- all that proofs use of the numbers
+pub record Legal (s : Config) : Type 0 where
+  pub faulty : 1 ≤ s .t
+  pub most : 3 * s .t + 1 ≤ s .servers
+  pub restores : s .t + 1 ≤ s .shares
+  pub covered : s .shares + 2 * s .t ≤ s .servers
+  pub few : s .servers ≤ 13
+  pub table : length (s .points) ≡ s .servers
+  pub bytes : (i : ℕ) → getD (s .points) i 0 < 256
+  pub different : (i j : ℕ) → i < s .servers → j < s .servers → i ≢ j → getD (s .points) i 0 ≢ getD (s .points) j 0

@@ -1,0 +1,22 @@
+-- Refusals as an ordered list of tests (document 01, "What is turned down": if several apply, the lowest is given).
+-- The order is the list's own, so that a later table may put a new number anywhere.
+use mathlib.Core.Bool.{Bool, cond}
+use mathlib.Core.List.{List, [], _∷_}
+use Prim.Native.Nat.{ℕ, zero, suc}
+
+pub record Check : Type 0 where
+  pub number : ℕ
+  pub when : Bool
+
+abbrev pub refuse : ℕ → Bool → Check
+refuse n b = record { number = n; when = b }
+
+-- the number of the first test that applies, or 0
+abbrev pub firstOf : List Check → ℕ
+firstOf [] = 0
+firstOf (c ∷ cs) = cond (c .when) (c .number) (firstOf cs)
+
+-- accepted, or refused with a number
+abbrev pub onRefusal : {A : Type 0} → ℕ → A → A → A
+onRefusal zero accepted refused = accepted
+onRefusal (suc n) accepted refused = refused
