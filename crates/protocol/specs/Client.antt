@@ -1,0 +1,337 @@
+-- The client (Algorithms 4 and 6 as document 01, "The client", amends them): a pending call, its packets, and what a reply does, on values.
+-- Document 01 says call in hand for pending call and giving up for abort.
+use mathlib.Core.Bool.{Bool, true, false, cond, not, _&&_, _||_}
+use mathlib.Core.List.{List, [], _∷_, _++_}
+use mathlib.Core.Option.{Option, none, some}
+use Prim.Native.Nat.{ℕ, zero, suc, _+_, _*_}
+use lib.Dec.{leb, ltb, eqb}
+use lib.ListN.{length}
+use Rattle.cluster.specs.Config.{Config, quorum, shelf}
+use Rattle.cluster.specs.Ranges.{within, topFaults, topWriter, topClient, topNumber, leastLength, topLength, packetRoom, contentRoom}
+use Rattle.cluster.specs.Refusals.{Check, refuse, firstOf, onRefusal}
+use Rattle.protocol.specs.declared.Stamp.{Stamp}
+use Rattle.protocol.specs.declared.Head.{Head}
+use Rattle.protocol.specs.Values.{Candidate, Share, Write, Held, sameList, runOf, isBlank, blankStamp, blankCandidate, noHeld, noShare}
+use Rattle.protocol.specs.Packet.{Body, Packet, kindOf}
+use Rattle.protocol.specs.Packet.{clock, clockReply, store, storeReply, complete, completeReply, collect, collectReply, filter, filterReply, repair, repairReply}
+use Rattle.protocol.specs.Primitives.{Primitives, stampMessage, candidateMessage}
+use Rattle.protocol.specs.Rules.{ByServer, upd, nobody, countTo, gather, live, choice, leader, restoredBy, tagsIn}
+
+-- ---- the state
+
+-- a pending call by its round
+pub data Hand : Type 0 where
+  idle : Hand
+  -- content, nonce, highest number so far
+  clocking : List ℕ → List ℕ → ℕ → Hand
+  -- the candidate that the write will show, and each server's share
+  storing : Candidate → ByServer Share → Hand
+  completing : Candidate → Hand
+  -- what each server sent
+  collecting : ByServer Candidate → Hand
+  -- the list as collect left it, and what each server replied
+  filtering : List Candidate → ByServer Held → Hand
+  -- the candidate with the proven tags, and the content read
+  repairing : Candidate → List ℕ → Hand
+
+pub record Client : Type 0 where
+  -- the number of the last call. Amended: one counter for writes and reads takes the place of ts and tsr in every packet
+  pub calls : ℕ
+  -- the number of the last stamp made
+  pub last : ℕ
+  -- who replied in this round
+  pub marks : ByServer Bool
+  pub hand : Hand
+
+abbrev pub newClient : Client
+newClient = record { calls = 0; last = 0; marks = nobody; hand = idle }
+
+-- the kind of the replies that a round awaits: twice the round's number
+unfoldable pub awaits : Hand → ℕ
+awaits idle = 0
+awaits (clocking r n m) = 2
+awaits (storing c h) = 4
+awaits (completing c) = 6
+awaits (collecting g) = 8
+awaits (filtering cs g) = 10
+awaits (repairing c r) = 12
+
+unfoldable pub isIdle : Hand → Bool
+isIdle h = eqb (awaits h) 0
+
+pub data Result : Type 0 where
+  refused : ℕ → Result
+  more : Result
+  -- the stamp's number
+  written : ℕ → Result
+  -- the stamp's number, and the content
+  gave : ℕ → List ℕ → Result
+  gaveBlank : Result
+  -- given up, and whether in the complete round
+  aborted : Bool → Result
+
+pub record Turn : Type 0 where
+  pub client : Client
+  pub result : Result
+
+-- ---- what a write makes at the end of clock
+
+module _ (P : Primitives) (s : Config) (client : ℕ) (writers : List ℕ) (keys : ByServer (List ℕ)) where
+  -- line 96
+  unfoldable pub stampOf : ℕ → Stamp
+  stampOf k = record { number = k; writer = client; tag = P .tag writers (stampMessage k client) }
+
+  -- line 88
+  unfoldable pub tagsOf : Stamp → List ℕ → List ℕ
+  tagsOf a nonce = runOf (s .servers) (λ i. P .tag (keys i) (candidateMessage a (P .digest nonce)))
+
+  -- what complete will show (line 90)
+  unfoldable pub candidateMade : List ℕ → ℕ → Candidate
+  candidateMade nonce k = record { stamp = stampOf k; nonce = nonce; tags = tagsOf (stampOf k) nonce }
+
+  -- what store sends to server b (lines 102 to 104)
+  unfoldable pub shareMade : List ℕ → List ℕ → ℕ → ℕ → Share
+  shareMade r nonce k b =
+    record {
+      size = length r;
+      part = P .fragment (s .points) (s .shares) r b;
+      digests = runOf (s .servers) (λ i. P .digest (P .fragment (s .points) (s .shares) r i));
+      nonceDigest = P .digest nonce;
+      tags = tagsOf (stampOf k) nonce }
+
+  unfoldable pub sharesMade : List ℕ → List ℕ → ℕ → ByServer Share
+  sharesMade r nonce k b = cond (within 1 (s .servers) b) (shareMade r nonce k b) noShare
+
+  unfoldable pub prepared : List ℕ → List ℕ → ℕ → Hand
+  prepared r nonce k = storing (candidateMade nonce k) (sharesMade r nonce k)
+
+-- ---- the packet of the round
+
+abbrev pub request : Hand → ℕ → Body
+request idle b = collect
+request (clocking r n h) b = clock
+request (storing c h) b = store (record { stamp = c .stamp; share = h b })
+request (completing c) b = complete c
+request (collecting g) b = collect
+-- the list as collect left it, whoever has left it since
+request (filtering cs g) b = filter cs
+request (repairing c r) b = repair c
+
+unfoldable pub made : ℕ → ℕ → Client → ℕ → Packet
+made t client cl b =
+  let x = request (cl .hand) b in
+  record { head = record { kind = kindOf x; client = client; server = b; t = t; call = cl .calls }; body = x }
+
+-- ---- what a reply of the awaited kind holds
+
+abbrev pub stampIn : Body → Stamp
+stampIn (clockReply x) = x
+stampIn clock = blankStamp
+stampIn (store x) = blankStamp
+stampIn (storeReply x) = blankStamp
+stampIn (complete x) = blankStamp
+stampIn completeReply = blankStamp
+stampIn collect = blankStamp
+stampIn (collectReply x) = blankStamp
+stampIn (filter x) = blankStamp
+stampIn (filterReply x) = blankStamp
+stampIn (repair x) = blankStamp
+stampIn repairReply = blankStamp
+
+abbrev pub codeIn : Body → ℕ
+codeIn (storeReply x) = x
+codeIn clock = 0
+codeIn (clockReply x) = 0
+codeIn (store x) = 0
+codeIn (complete x) = 0
+codeIn completeReply = 0
+codeIn collect = 0
+codeIn (collectReply x) = 0
+codeIn (filter x) = 0
+codeIn (filterReply x) = 0
+codeIn (repair x) = 0
+codeIn repairReply = 0
+
+abbrev pub candidateIn : Config → Body → Candidate
+candidateIn s (collectReply x) = x
+candidateIn s clock = blankCandidate s
+candidateIn s (clockReply x) = blankCandidate s
+candidateIn s (store x) = blankCandidate s
+candidateIn s (storeReply x) = blankCandidate s
+candidateIn s (complete x) = blankCandidate s
+candidateIn s completeReply = blankCandidate s
+candidateIn s collect = blankCandidate s
+candidateIn s (filter x) = blankCandidate s
+candidateIn s (filterReply x) = blankCandidate s
+candidateIn s (repair x) = blankCandidate s
+candidateIn s repairReply = blankCandidate s
+
+abbrev pub heldIn : Body → Held
+heldIn (filterReply x) = x
+heldIn clock = noHeld
+heldIn (clockReply x) = noHeld
+heldIn (store x) = noHeld
+heldIn (storeReply x) = noHeld
+heldIn (complete x) = noHeld
+heldIn completeReply = noHeld
+heldIn collect = noHeld
+heldIn (collectReply x) = noHeld
+heldIn (filter x) = noHeld
+heldIn (repair x) = noHeld
+heldIn repairReply = noHeld
+
+-- ---- a reply is taken
+
+unfoldable pub onto : Client → ByServer Bool → Hand → Client
+onto cl m h = record { calls = cl .calls; last = cl .last; marks = m; hand = h }
+
+-- line 100: the tag of a stamp checks; the blank stamp has none
+unfoldable pub checks : Primitives → List ℕ → Stamp → Bool
+checks P writers a = not (isBlank a) && sameList (a .tag) (P .tag writers (stampMessage (a .number) (a .writer)))
+
+unfoldable pub higher : Primitives → List ℕ → ℕ → Stamp → ℕ
+higher P writers h a = cond (checks P writers a && ltb h (a .number)) (a .number) h
+
+-- lines 94, 105, 108, 159: S - t servers have replied
+unfoldable pub isFull : Config → ByServer Bool → Bool
+isFull s m = leb (quorum s) (countTo (s .servers) m)
+
+module _ (P : Primitives) (s : Config) (client : ℕ) (writers : List ℕ) (keys : ByServer (List ℕ)) where
+  -- lines 143 to 145: c is chosen, server b leads its group. Amended: with other tags than the group's it is repaired first, and the content waits
+  unfoldable pub found : Client → ByServer Bool → ByServer Held → Candidate → ℕ → Turn
+  found cl m g c b =
+    let content = restoredBy P s m g c b (g b .share) in
+    let tags = tagsIn P s c (g b .share) in
+    cond (sameList tags (c .tags)) (record { client = onto cl nobody idle; result = gave (c .stamp .number) content })
+      (record { client = onto cl nobody (repairing (record { stamp = c .stamp; nonce = c .nonce; tags = tags }) content); result = more })
+
+  -- lines 142 to 146, of those still in the list and of the choice
+  unfoldable pub judge : Client → ByServer Bool → List Candidate → ByServer Held → List Candidate → Option Candidate → Turn
+  judge cl m cs g [] o = record { client = onto cl nobody idle; result = gaveBlank }
+  judge cl m cs g (l ∷ ls) none = record { client = onto cl m (filtering cs g); result = more }
+  judge cl m cs g (l ∷ ls) (some c) = found cl m g c (leader P s m g c (s .servers))
+
+  -- an accepted reply x of server b; m are the marks with b's, and full tells that they are a quorum
+  unfoldable pub update : Client → ℕ → Body → ByServer Bool → Bool → Hand → Turn
+  update cl b x m full idle = record { client = cl; result = more }
+  -- lines 94 to 100
+  update cl b x m full (clocking r n h) =
+    let h' = higher P writers h (stampIn x) in
+    cond full
+      (record { client = record { calls = cl .calls; last = suc h'; marks = nobody; hand = prepared P s client writers keys r n (suc h') }; result = more })
+      (record { client = onto cl m (clocking r n h'); result = more })
+  -- line 105. Amended: 11 changes nothing and isn't counted
+  update cl b x m full (storing c h) =
+    cond (eqb (codeIn x) 11) (record { client = cl; result = more })
+      (cond full (record { client = onto cl nobody (completing c); result = more }) (record { client = onto cl m (storing c h); result = more }))
+  -- line 108
+  update cl b x m full (completing c) =
+    cond full (record { client = onto cl nobody idle; result = written (c .stamp .number) }) (record { client = onto cl m (completing c); result = more })
+  -- lines 148 to 150. Amended: filter is sent even when the list is empty
+  update cl b x m full (collecting g) =
+    let g' = upd g b (candidateIn s x) in
+    cond full (record { client = onto cl nobody (filtering (gather g' (s .servers)) (λ i. noHeld)); result = more })
+      (record { client = onto cl m (collecting g'); result = more })
+  -- lines 151 to 153
+  update cl b x m full (filtering cs g) =
+    let g' = upd g b (heldIn x) in
+    cond full (judge cl m cs g' (live P s m g' cs) (choice P s m g' cs)) (record { client = onto cl m (filtering cs g'); result = more })
+  -- line 159
+  update cl b x m full (repairing c r) =
+    cond full (record { client = onto cl nobody idle; result = gave (c .stamp .number) r }) (record { client = onto cl m (repairing c r); result = more })
+
+-- the stamp number would pass its top at the reply that would end clock
+unfoldable pub tooHigh : Primitives → List ℕ → Body → Bool → Hand → Bool
+tooHigh P writers x full idle = false
+tooHigh P writers x full (clocking r n h) = full && leb topNumber (higher P writers h (stampIn x))
+tooHigh P writers x full (storing c h) = false
+tooHigh P writers x full (completing c) = false
+tooHigh P writers x full (collecting g) = false
+tooHigh P writers x full (filtering cs g) = false
+tooHigh P writers x full (repairing c r) = false
+
+-- ---- refusals, in document 01's order. pending: a call is in hand
+
+abbrev pub badFaults : Config → Bool
+badFaults s = not (within 1 topFaults (s .t))
+
+unfoldable pub writeRefusal : Config → ℕ → ℕ → Bool → ℕ → ℕ
+writeRefusal s client n pending calls =
+  firstOf
+    (refuse 3 (badFaults s) ∷ refuse 5 (not (within 1 topWriter client)) ∷ refuse 6 (not (within leastLength topLength n))
+    ∷ refuse 13 pending ∷ refuse 14 (leb topNumber calls) ∷ [])
+
+unfoldable pub readRefusal : Config → ℕ → Bool → ℕ → ℕ
+readRefusal s client pending calls =
+  firstOf (refuse 3 (badFaults s) ∷ refuse 5 (not (within 1 topClient client)) ∷ refuse 13 pending ∷ refuse 14 (leb topNumber calls) ∷ [])
+
+unfoldable pub makeRefusal : Config → ℕ → ℕ → Bool → ℕ → ℕ
+makeRefusal s client b pending room =
+  firstOf
+    (refuse 3 (badFaults s) ∷ refuse 4 (not (within 1 (s .servers) b)) ∷ refuse 5 (not (within 1 topClient client))
+    ∷ refuse 13 (not pending) ∷ refuse 15 (ltb room packetRoom) ∷ [])
+
+unfoldable pub abortRefusal : Config → ℕ → Bool → ℕ
+abortRefusal s client pending =
+  firstOf (refuse 3 (badFaults s) ∷ refuse 5 (not (within 1 topClient client)) ∷ refuse 13 (not pending) ∷ [])
+
+-- kind: what the round awaits, 0 with no call in hand; replied: who has replied in this round; high: this reply would end clock with too high a number
+unfoldable pub takeRefusal : Config → ℕ → Option Packet → ℕ → ℕ → ByServer Bool → (ℕ → Body → Bool) → ℕ → ℕ
+takeRefusal s client none calls kind replied high room =
+  firstOf (refuse 3 (badFaults s) ∷ refuse 5 (not (within 1 topClient client)) ∷ refuse 7 true ∷ [])
+takeRefusal s client (some p) calls kind replied high room =
+  firstOf
+    (refuse 3 (badFaults s) ∷ refuse 5 (not (within 1 topClient client))
+    ∷ refuse 8 (not (eqb (p .head .t) (s .t) && eqb (p .head .client) client))
+    ∷ refuse 12 (not (eqb kind 0) && (not (eqb (p .head .call) calls && eqb (kindOf (p .body)) kind) || replied (p .head .server)))
+    ∷ refuse 13 (eqb kind 0)
+    ∷ refuse 14 (high (p .head .server) (p .body))
+    ∷ refuse 15 (ltb room contentRoom) ∷ [])
+
+-- ---- the steps
+
+unfoldable pub begun : Client → Hand → Client
+begun cl h = record { calls = suc (cl .calls); last = cl .last; marks = nobody; hand = h }
+
+-- lines 83, 84, 93
+unfoldable pub writeStep : Config → ℕ → Client → List ℕ → List ℕ → Turn
+writeStep s client cl r n =
+  let k = writeRefusal s client (length r) (not (isIdle (cl .hand))) (cl .calls) in
+  onRefusal k (record { client = begun cl (clocking r n (cl .last)); result = more }) (record { client = cl; result = refused k })
+
+-- lines 137 to 140
+unfoldable pub readStep : Config → ℕ → Client → Turn
+readStep s client cl =
+  let k = readRefusal s client (not (isIdle (cl .hand))) (cl .calls) in
+  onRefusal k (record { client = begun cl (collecting (λ b. blankCandidate s)); result = more }) (record { client = cl; result = refused k })
+
+-- amended: giving up leaves no call in hand; the call number and the last stamp made stay
+unfoldable pub abortStep : Config → ℕ → Client → Turn
+abortStep s client cl =
+  let k = abortRefusal s client (not (isIdle (cl .hand))) in
+  onRefusal k (record { client = onto cl nobody idle; result = aborted (eqb (awaits (cl .hand)) 6) }) (record { client = cl; result = refused k })
+
+-- making a packet changes nothing
+pub record Made : Type 0 where
+  pub number : ℕ
+  pub packet : Option Packet
+
+unfoldable pub makeStep : Config → ℕ → Client → ℕ → ℕ → Made
+makeStep s client cl b room =
+  let k = makeRefusal s client b (not (isIdle (cl .hand))) room in
+  onRefusal k (record { number = 0; packet = some (made (s .t) client cl b) }) (record { number = k; packet = none })
+
+module _ (P : Primitives) (s : Config) (client : ℕ) (writers : List ℕ) (keys : ByServer (List ℕ)) where
+  unfoldable pub turnOn : Client → Option Packet → Turn
+  turnOn cl none = record { client = cl; result = more }
+  turnOn cl (some p) =
+    let m = upd (cl .marks) (p .head .server) true in
+    update P s client writers keys cl (p .head .server) (p .body) m (isFull s m) (cl .hand)
+
+  unfoldable pub highAt : Client → ℕ → Body → Bool
+  highAt cl b x = tooHigh P writers x (isFull s (upd (cl .marks) b true)) (cl .hand)
+
+  unfoldable pub takeStep : Client → Option Packet → ℕ → Turn
+  takeStep cl o room =
+    let k = takeRefusal s client o (cl .calls) (awaits (cl .hand)) (cl .marks) (highAt cl) room in
+    onRefusal k (turnOn cl o) (record { client = cl; result = refused k })

@@ -1,0 +1,12 @@
+pub mod Format
+pub mod Values
+pub mod Packet
+pub mod Memory
+pub mod Primitives
+pub mod Server
+pub mod ServerBytes
+pub mod Rules
+pub mod Client
+pub mod View
+pub mod ClientBytes
+pub mod Runs

@@ -1,0 +1,130 @@
+-- The server (Algorithm 5 as document 01, "The box", amends it): its answer to each request, on values.
+-- Document 01 says box for server and stored write for what the paper's Hist holds.
+use mathlib.Core.Bool.{Bool, true, false, cond, not, _&&_, _||_}
+use mathlib.Core.List.{List, [], _∷_, _++_}
+use mathlib.Core.Option.{Option, none, some}
+use Prim.Native.Nat.{ℕ, zero, suc}
+use lib.Dec.{leb, ltb, eqb}
+use lib.ListN.{length}
+use Rattle.cluster.specs.Config.{Config}
+use Rattle.cluster.specs.Ranges.{capacity, topWriter, packetRoom}
+use Rattle.cluster.specs.Refusals.{refuse, firstOf, onRefusal}
+use Rattle.hmac.specs.Hmac.{tagSize}
+use Rattle.protocol.specs.declared.Stamp.{Stamp}
+use Rattle.protocol.specs.declared.Head.{Head}
+use Rattle.protocol.specs.Values.{Candidate, Share, Write, Held, sameList, nth, below, blankCandidate, isSome}
+use Rattle.protocol.specs.Packet.{Body, Packet, kindOf}
+use Rattle.protocol.specs.Packet.{clock, clockReply, store, storeReply, complete, completeReply, collect, collectReply, filter, filterReply, repair, repairReply}
+use Rattle.protocol.specs.Memory.{held}
+use Rattle.protocol.specs.Primitives.{Primitives, candidateMessage}
+
+-- lines 110, 111: lc, and Hist in order of arrival (document 01: at most 32 stored writes)
+pub record Server : Type 0 where
+  pub latest : Candidate
+  pub history : List Write
+
+abbrev pub blankServer : Config → Server
+blankServer s = record { latest = blankCandidate s; history = [] }
+
+-- what a request does, and its answer
+pub record Acted : Type 0 where
+  pub server : Server
+  pub reply : Body
+
+abbrev pub hasDigest : List ℕ → Option Share → Bool
+hasDigest d none = false
+hasDigest d (some h) = sameList (h .nonceDigest) d
+
+-- the latest becomes c if c's stamp is higher
+unfoldable pub raise : Candidate → Server → Server
+raise c v = cond (below (v .latest .stamp) (c .stamp)) (record { latest = c; history = v .history }) v
+
+-- lines 114 to 116. Amended: a held stamp is answered 10 and left as it is, a full history 11, and 0 means kept
+unfoldable pub kept : Server → Write → Acted
+kept v w =
+  cond (isSome (held (w .stamp) (v .history))) (record { server = v; reply = storeReply 10 })
+    (cond (leb capacity (length (v .history))) (record { server = v; reply = storeReply 11 })
+      (record { server = record { latest = v .latest; history = v .history ++ (w ∷ []) }; reply = storeReply 0 }))
+
+module _ (P : Primitives) (s : Config) (key : List ℕ) (number : ℕ) where
+  -- line 131: the history holds its stamp with the digest of its nonce, or its tag of this server checks
+  unfoldable pub byHistory : Server → Candidate → Bool
+  byHistory v c = hasDigest (P .digest (c .nonce)) (held (c .stamp) (v .history))
+
+  unfoldable pub byTag : Candidate → Bool
+  byTag c = sameList (nth tagSize (c .tags) number) (P .tag key (candidateMessage (c .stamp) (P .digest (c .nonce))))
+
+  unfoldable pub valid : Server → Candidate → Bool
+  valid v c = byHistory v c || byTag c
+
+  -- line 123: the highest valid one, or the one given. Amended: the first among equals
+  unfoldable pub best : Server → Candidate → List Candidate → Candidate
+  best v c [] = c
+  best v c (d ∷ ds) = best v (cond (valid v d && below (c .stamp) (d .stamp)) d c) ds
+
+  unfoldable pub act : Server → Body → Acted
+  -- lines 112, 113
+  act v clock = record { server = v; reply = clockReply (v .latest .stamp) }
+  act v (store w) = kept v w
+  -- lines 117 to 119: higher only, and no test of validity
+  act v (complete c) = record { server = raise c v; reply = completeReply }
+  -- lines 120, 121
+  act v collect = record { server = v; reply = collectReply (v .latest) }
+  -- lines 122 to 126. Amended: the answer has length and nonce digest too, and says where nothing is held
+  act v (filter cs) =
+    let c = best v (blankCandidate s) cs in
+    record { server = raise c v; reply = filterReply (record { stamp = c .stamp; share = held (c .stamp) (v .history) }) }
+  -- lines 127 to 129
+  act v (repair c) = record { server = cond (valid v c) (raise c v) v; reply = repairReply }
+  -- a reply is no request: refused with 9 before
+  act v (clockReply x) = record { server = v; reply = completeReply }
+  act v (storeReply x) = record { server = v; reply = completeReply }
+  act v completeReply = record { server = v; reply = completeReply }
+  act v (collectReply x) = record { server = v; reply = completeReply }
+  act v (filterReply x) = record { server = v; reply = completeReply }
+  act v repairReply = record { server = v; reply = completeReply }
+
+-- refusal 9 of a packet from client c: lines 112, 114 and 117 take requests of writers only, and a write only from its stamp's writer
+unfoldable pub barred : ℕ → Body → Bool
+barred c clock = ltb topWriter c
+barred c (store w) = ltb topWriter c || not (eqb (w .stamp .writer) c)
+barred c (complete d) = ltb topWriter c || not (eqb (d .stamp .writer) c)
+barred c collect = false
+barred c (filter cs) = false
+barred c (repair d) = false
+barred c (clockReply x) = true
+barred c (storeReply x) = true
+barred c completeReply = true
+barred c (collectReply x) = true
+barred c (filterReply x) = true
+barred c repairReply = true
+
+-- ---- the whole step: a packet that breaks the layout is `none`, and room is the output buffer's length
+
+-- the reply to a packet, of the same call
+unfoldable pub replyTo : Packet → Body → Packet
+replyTo p x =
+  record { head = record { kind = kindOf x; client = p .head .client; server = p .head .server; t = p .head .t; call = p .head .call }; body = x }
+
+unfoldable pub serverRefusal : ℕ → ℕ → Option Packet → ℕ → ℕ
+serverRefusal t b none room = firstOf (refuse 7 true ∷ [])
+serverRefusal t b (some p) room =
+  firstOf
+    (refuse 8 (not (eqb (p .head .t) t && eqb (p .head .server) b))
+    ∷ refuse 9 (barred (p .head .client) (p .body))
+    ∷ refuse 15 (ltb room packetRoom)
+    ∷ [])
+
+pub record Stepped : Type 0 where
+  -- 0, or the refusal
+  pub number : ℕ
+  pub server : Server
+  pub reply : Option Packet
+
+module _ (P : Primitives) (s : Config) (key : List ℕ) (number : ℕ) (v : Server) (room : ℕ) where
+  unfoldable pub answered : Option Packet → Stepped
+  answered none = record { number = 0; server = v; reply = none }
+  answered (some p) = let a = act P s key number v (p .body) in record { number = 0; server = a .server; reply = some (replyTo p (a .reply)) }
+
+  unfoldable pub serverStep : Option Packet → Stepped
+  serverStep o = let n = serverRefusal (s .t) number o room in onRefusal n (answered o) (record { number = n; server = v; reply = none })

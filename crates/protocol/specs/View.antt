@@ -1,0 +1,112 @@
+-- A client's bytes, and the client that they stand for. Every value of the bytes stands for one: they are read by place, and no range is tested.
+use mathlib.Core.Bool.{Bool, true, false, cond, not, _&&_}
+use mathlib.Core.List.{List, [], _∷_, _++_}
+use mathlib.Core.Option.{Option, none, some}
+use Prim.Native.Nat.{ℕ, zero, suc, _+_, _-_, _*_}
+use lib.Dec.{leb, ltb, eqb}
+use lib.ListN.{length, take, drop, getD}
+use Rattle.cluster.specs.Config.{Config}
+use Rattle.cluster.specs.Ranges.{within, mostServers, topLength}
+use Rattle.hmac.specs.Hmac.{tagSize}
+use Rattle.erasure.specs.Fragments.{fragmentSize}
+use Rattle.protocol.specs.declared.Stamp.{Stamp}
+use Rattle.protocol.specs.declared.Call.{Call}
+use Rattle.protocol.specs.declared.Tally.{Tally}
+use Rattle.protocol.specs.Format.{value2, value4}
+use Rattle.protocol.specs.Values.{Candidate, Share, Held, blankCandidate, noHeld, noShare, digestSize, nonceSize, stampSize, digestsSize, tagsSize}
+use Rattle.protocol.specs.Rules.{ByServer, gather}
+use Rattle.protocol.specs.Client.{Client, Hand, idle, clocking, storing, completing, collecting, filtering, repairing}
+
+-- ---- readers by place
+
+-- n bytes from the place at on
+unfoldable pub part : List ℕ → ℕ → ℕ → List ℕ
+part d at n = take n (drop at d)
+
+unfoldable pub stampAt : List ℕ → Stamp
+stampAt d = record { number = value4 (getD d 0 0) (getD d 1 0) (getD d 2 0) (getD d 3 0); writer = getD d 4 0; tag = part d 5 tagSize }
+
+unfoldable pub candidateAt : Config → List ℕ → Candidate
+candidateAt s d = record { stamp = stampAt d; nonce = part d stampSize nonceSize; tags = part d (stampSize + nonceSize) (tagsSize s) }
+
+-- a share of a content of n bytes
+unfoldable pub shareOfSize : Config → ℕ → List ℕ → Share
+shareOfSize s n d =
+  let f = fragmentSize (s .shares) n in
+  record {
+    size = n;
+    part = part d 2 f;
+    digests = part d (2 + f) (digestsSize s);
+    nonceDigest = part d (2 + f + digestsSize s) digestSize;
+    tags = part d (2 + f + digestsSize s + digestSize) (tagsSize s) }
+
+unfoldable pub shareAt : Config → List ℕ → Share
+shareAt s d = shareOfSize s (value2 (getD d 0 0) (getD d 1 0)) d
+
+unfoldable pub heldAt : Config → List ℕ → Held
+heldAt s d = record { stamp = stampAt d; share = cond (eqb (getD d stampSize 0) 0) none (some (shareAt s (drop (stampSize + 1) d))) }
+
+-- ---- the kept bytes: content, nonce, candidate of the write or of repair, a slot for each server's candidate, a slot for each server's share or reply
+
+abbrev pub keptSize : ℕ
+keptSize = 24576
+
+-- the places and sizes of its parts, for the most servers
+abbrev pub nonceAt : ℕ
+nonceAt = topLength
+
+abbrev pub chosenAt : ℕ
+chosenAt = nonceAt + nonceSize
+
+abbrev pub candidateSlot : ℕ
+candidateSlot = stampSize + nonceSize + tagSize * mostServers
+
+abbrev pub candidatesAt : ℕ
+candidatesAt = chosenAt + candidateSlot
+
+abbrev pub repliesAt : ℕ
+repliesAt = candidatesAt + candidateSlot * mostServers
+
+abbrev pub replySlot : ℕ
+replySlot = 1120
+
+unfoldable pub contentOf : Call → List ℕ → List ℕ
+contentOf c kept = part kept 0 (cond (leb (c .length) topLength) (c .length) topLength)
+
+unfoldable pub nonceOf : List ℕ → List ℕ
+nonceOf kept = part kept nonceAt nonceSize
+
+unfoldable pub chosenOf : Config → List ℕ → Candidate
+chosenOf s kept = candidateAt s (part kept chosenAt candidateSlot)
+
+unfoldable pub replySlotOf : List ℕ → ℕ → List ℕ
+replySlotOf kept i = part kept (repliesAt + replySlot * i) replySlot
+
+unfoldable pub marked : List ℕ → ByServer Bool
+marked ms zero = false
+marked ms (suc i) = not (eqb (getD ms i 0) 0)
+
+-- past the servers there is nothing
+unfoldable pub candidatesIn : Config → List ℕ → ByServer Candidate
+candidatesIn s kept zero = blankCandidate s
+candidatesIn s kept (suc i) = cond (ltb i mostServers) (candidateAt s (part kept (candidatesAt + candidateSlot * i) candidateSlot)) (blankCandidate s)
+
+unfoldable pub repliesIn : Config → List ℕ → List ℕ → ByServer Held
+repliesIn s ms kept zero = noHeld
+repliesIn s ms kept (suc i) = cond (ltb i mostServers && marked ms (suc i)) (heldAt s (replySlotOf kept i)) noHeld
+
+unfoldable pub sharesIn : Config → List ℕ → ByServer Share
+sharesIn s kept b = cond (within 1 (s .servers) b) (shareAt s (replySlotOf kept (b - 1))) noShare
+
+-- round 1 clock, 2 store, 3 complete, 4 collect, 5 filter, 6 repair; any other: no call in hand
+unfoldable pub handOf : Config → ℕ → Call → List ℕ → Hand
+handOf s r c kept =
+  cond (eqb r 1) (clocking (contentOf c kept) (nonceOf kept) (c .high))
+    (cond (eqb r 2) (storing (chosenOf s kept) (sharesIn s kept))
+      (cond (eqb r 3) (completing (chosenOf s kept))
+        (cond (eqb r 4) (collecting (candidatesIn s kept))
+          (cond (eqb r 5) (filtering (gather (candidatesIn s kept) (s .servers)) (repliesIn s (c .tally .marks) kept))
+            (cond (eqb r 6) (repairing (chosenOf s kept) (contentOf c kept)) idle)))))
+
+unfoldable pub view : Config → Call → List ℕ → Client
+view s c kept = record { calls = c .number; last = c .last; marks = marked (c .tally .marks); hand = handOf s (c .tally .round) c kept }
