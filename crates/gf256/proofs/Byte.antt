@@ -15,7 +15,7 @@ use Rattle.gf256.specs.Bytes.{bytes}
 use Rattle.gf256.proofs.Xor.{xor-assoc}
 use Rattle.gf256.proofs.Linear.{times-lt, times-comm, times-assoc, one-times, times-xor-r}
 use Rattle.gf256.proofs.Tables.{inverse-lt, times-inverse-suc}
-use Rattle.gf256.proofs.Algebra.{Laws, Distinct, Apart, restored, through-is, throughC, length-throughC, throughC-eval}
+use Rattle.gf256.proofs.Algebra.{Laws, Distinct, Apart, restored, through-at, through-is, throughC, length-throughC, throughC-eval}
 
 abbrev pub Byte : Type 0
 Byte = (n : ℕ) × (n < 256)
@@ -92,6 +92,10 @@ abbrev pub lift : (xs : List ℕ) → Small xs → List Byte
 lift [] s = []
 lift (x ∷ xs) s = (x, s .0) ∷ lift xs (s .1)
 
+pub numbers-small : (bs : List Byte) → Small (map (λ b. b .0) bs)
+numbers-small [] = tt
+numbers-small (b ∷ bs) = (b .1, numbers-small bs)
+
 pub lift-map : (xs : List ℕ) (s : Small xs) → map (λ b. b .0) (lift xs s) ≡ xs
 lift-map [] s = refl
 lift-map (x ∷ xs) s = ap (λ (t : List ℕ). x ∷ t) (lift-map xs (s .1))
@@ -130,7 +134,7 @@ map-lift ps rs [] sp sr sx = refl
 map-lift ps rs (x ∷ xs) sp sr sx =
     ap₂ (λ (u : ℕ) (v : List ℕ). u ∷ v) (through-lift ps rs sp sr x (sx .0)) (map-lift ps rs xs sp sr (sx .1))
 
-getD-small : (xs : List ℕ) → Small xs → (i : ℕ) → getD xs i 0 < 256
+pub getD-small : (xs : List ℕ) → Small xs → (i : ℕ) → getD xs i 0 < 256
 getD-small [] s i = zero-lt-suc 255
 getD-small (x ∷ xs) s zero = s .0
 getD-small (x ∷ xs) s (suc i) = getD-small xs (s .1) i
@@ -139,6 +143,18 @@ lift-getD : (xs : List ℕ) (s : Small xs) (i : ℕ) → getD (lift xs s) i nilB
 lift-getD [] s i = refl
 lift-getD (x ∷ xs) s zero = refl
 lift-getD (x ∷ xs) s (suc i) = lift-getD xs (s .1) i
+
+-- at the i-th point the polynomial has the i-th value
+pub through-value : (xs ys : List ℕ) → Small xs → Small ys → length ys ≡ length xs → DistinctN xs → (i : ℕ) → i < length xs
+    → through bytes xs ys (getD xs i 0) ≡ getD ys i 0
+through-value xs ys sx sy l d i b =
+    let z : Byte = getD (lift xs sx) i nilB in
+    ap (through bytes xs ys) (sym (lift-getD xs sx i))
+    ∙ sym (through-lift xs ys sx sy (z .0) (z .1))
+    ∙ ap (λ (b : Byte). b .0)
+    (through-at field laws (lift xs sx) (lift ys sy) nilB (lift-length ys sy ∙ l ∙ sym (lift-length xs sx)) (lift-distinct xs sx d) i
+    (subst (λ (n : ℕ). i < n) (sym (lift-length xs sx)) b))
+    ∙ lift-getD ys sy i
 
 -- fragments of as many different points as there are runs give each run back
 pub restored-bytes : (ps rs xs : List ℕ) → Small ps → Small rs → Small xs → length rs ≡ length ps → DistinctN ps → length xs ≡ length ps → DistinctN xs
@@ -176,10 +192,12 @@ the-one xs ys p sx sy sp lp ly d e z h =
     ∙ through-lift xs ys sx sy z h
 
 -- and there is one
-pub there-is : (xs ys : List ℕ) → Small xs → Small ys → (p : List ℕ) × (length p ≡ length xs) × ((z : ℕ) → z < 256 → eval bytes p z ≡ through bytes xs ys z)
+pub there-is : (xs ys : List ℕ) → Small xs → Small ys
+    → (p : List ℕ) × (length p ≡ length xs) × Small p × ((z : ℕ) → z < 256 → eval bytes p z ≡ through bytes xs ys z)
 there-is xs ys sx sy =
     let q : List Byte = throughC field laws (lift xs sx) (lift ys sy) in (
       map (λ b. b .0) q,
       length-map q (λ b. b .0) ∙ length-throughC field laws (lift xs sx) (lift ys sy) ∙ lift-length xs sx,
+      numbers-small q,
       λ z h. sym (eval-number q (z, h)) ∙ ap (λ (b : Byte). b .0) (throughC-eval field laws (lift xs sx) (lift ys sy) (z, h)) ∙ through-lift xs ys sx sy z h,
     )
