@@ -1,0 +1,4 @@
+pub mod Fragments
+pub mod Choice
+pub mod Steps
+pub mod System
