@@ -92,12 +92,13 @@ module _ (P : Primitives) (s : Config) (client : ℕ) (writers : List ℕ) (keys
   -- what store sends to server b (lines 102 to 104)
   unfoldable pub shareMade : List ℕ → List ℕ → ℕ → ℕ → Share
   shareMade r nonce k b =
-    record {
-      size = length r;
-      part = P .fragment (s .points) (s .shares) r b;
-      digests = runOf (s .servers) (λ i. P .digest (P .fragment (s .points) (s .shares) r i));
-      nonceDigest = P .digest nonce;
-      tags = tagsOf (stampOf k) nonce }
+      record {
+        size = length r;
+        part = P .fragment (s .points) (s .shares) r b;
+        digests = runOf (s .servers) (λ i. P .digest (P .fragment (s .points) (s .shares) r i));
+        nonceDigest = P .digest nonce;
+        tags = tagsOf (stampOf k) nonce;
+      }
 
   unfoldable pub sharesMade : List ℕ → List ℕ → ℕ → ByServer Share
   sharesMade r nonce k b = cond (within 1 (s .servers) b) (shareMade r nonce k b) noShare
@@ -119,8 +120,8 @@ request (repairing c r) b = repair c
 
 unfoldable pub made : ℕ → ℕ → Client → ℕ → Packet
 made t client cl b =
-  let x = request (cl .hand) b in
-  record { head = record { kind = kindOf x; client = client; server = b; t = t; call = cl .calls }; body = x }
+    let x = request (cl .hand) b in
+    record { head = record { kind = kindOf x; client = client; server = b; t = t; call = cl .calls }; body = x }
 
 -- ---- what a reply of the awaited kind holds
 
@@ -200,9 +201,9 @@ module _ (P : Primitives) (s : Config) (client : ℕ) (writers : List ℕ) (keys
   -- lines 143 to 145: c is chosen, server b leads its group. Amended: with other tags than the group's it is repaired first, and the content waits
   unfoldable pub found : Client → ByServer Bool → ByServer Held → Candidate → ℕ → Turn
   found cl m g c b =
-    let content = restoredBy P s m g c b (g b .share) in
-    let tags = tagsIn P s c (g b .share) in
-    cond (sameList tags (c .tags)) (record { client = onto cl nobody idle; result = gave (c .stamp .number) content })
+      let content = restoredBy P s m g c b (g b .share) in
+      let tags = tagsIn P s c (g b .share) in
+      cond (sameList tags (c .tags)) (record { client = onto cl nobody idle; result = gave (c .stamp .number) content })
       (record { client = onto cl nobody (repairing (record { stamp = c .stamp; nonce = c .nonce; tags = tags }) content); result = more })
 
   -- lines 142 to 146, of those still in the list and of the choice
@@ -216,29 +217,29 @@ module _ (P : Primitives) (s : Config) (client : ℕ) (writers : List ℕ) (keys
   update cl b x m full idle = record { client = cl; result = more }
   -- lines 94 to 100
   update cl b x m full (clocking r n h) =
-    let h' = higher P writers h (stampIn x) in
-    cond full
+      let h' = higher P writers h (stampIn x) in
+      cond full
       (record { client = record { calls = cl .calls; last = suc h'; marks = nobody; hand = prepared P s client writers keys r n (suc h') }; result = more })
       (record { client = onto cl m (clocking r n h'); result = more })
   -- line 105. Amended: 11 changes nothing and isn't counted
   update cl b x m full (storing c h) =
-    cond (eqb (codeIn x) 11) (record { client = cl; result = more })
+      cond (eqb (codeIn x) 11) (record { client = cl; result = more })
       (cond full (record { client = onto cl nobody (completing c); result = more }) (record { client = onto cl m (storing c h); result = more }))
   -- line 108
   update cl b x m full (completing c) =
-    cond full (record { client = onto cl nobody idle; result = written (c .stamp .number) }) (record { client = onto cl m (completing c); result = more })
+      cond full (record { client = onto cl nobody idle; result = written (c .stamp .number) }) (record { client = onto cl m (completing c); result = more })
   -- lines 148 to 150. Amended: filter is sent even when the list is empty
   update cl b x m full (collecting g) =
-    let g' = upd g b (candidateIn s x) in
-    cond full (record { client = onto cl nobody (filtering (gather g' (s .servers)) (λ i. noHeld)); result = more })
+      let g' = upd g b (candidateIn s x) in
+      cond full (record { client = onto cl nobody (filtering (gather g' (s .servers)) (λ i. noHeld)); result = more })
       (record { client = onto cl m (collecting g'); result = more })
   -- lines 151 to 153
   update cl b x m full (filtering cs g) =
-    let g' = upd g b (heldIn x) in
-    cond full (judge cl m cs g' (live P s m g' cs) (choice P s m g' cs)) (record { client = onto cl m (filtering cs g'); result = more })
+      let g' = upd g b (heldIn x) in
+      cond full (judge cl m cs g' (live P s m g' cs) (choice P s m g' cs)) (record { client = onto cl m (filtering cs g'); result = more })
   -- line 159
   update cl b x m full (repairing c r) =
-    cond full (record { client = onto cl nobody idle; result = gave (c .stamp .number) r }) (record { client = onto cl m (repairing c r); result = more })
+      cond full (record { client = onto cl nobody idle; result = gave (c .stamp .number) r }) (record { client = onto cl m (repairing c r); result = more })
 
 -- the stamp number would pass its top at the reply that would end clock
 unfoldable pub tooHigh : Primitives → List ℕ → Body → Bool → Hand → Bool
@@ -257,30 +258,30 @@ badFaults s = not (within 1 topFaults (s .t))
 
 unfoldable pub writeRefusal : Config → ℕ → ℕ → Bool → ℕ → ℕ
 writeRefusal s client n pending calls =
-  firstOf
+    firstOf
     (refuse 3 (badFaults s) ∷ refuse 5 (not (within 1 topWriter client)) ∷ refuse 6 (not (within leastLength topLength n))
     ∷ refuse 13 pending ∷ refuse 14 (leb topNumber calls) ∷ [])
 
 unfoldable pub readRefusal : Config → ℕ → Bool → ℕ → ℕ
 readRefusal s client pending calls =
-  firstOf (refuse 3 (badFaults s) ∷ refuse 5 (not (within 1 topClient client)) ∷ refuse 13 pending ∷ refuse 14 (leb topNumber calls) ∷ [])
+    firstOf (refuse 3 (badFaults s) ∷ refuse 5 (not (within 1 topClient client)) ∷ refuse 13 pending ∷ refuse 14 (leb topNumber calls) ∷ [])
 
 unfoldable pub makeRefusal : Config → ℕ → ℕ → Bool → ℕ → ℕ
 makeRefusal s client b pending room =
-  firstOf
+    firstOf
     (refuse 3 (badFaults s) ∷ refuse 4 (not (within 1 (s .servers) b)) ∷ refuse 5 (not (within 1 topClient client))
     ∷ refuse 13 (not pending) ∷ refuse 15 (ltb room packetRoom) ∷ [])
 
 unfoldable pub abortRefusal : Config → ℕ → Bool → ℕ
 abortRefusal s client pending =
-  firstOf (refuse 3 (badFaults s) ∷ refuse 5 (not (within 1 topClient client)) ∷ refuse 13 (not pending) ∷ [])
+    firstOf (refuse 3 (badFaults s) ∷ refuse 5 (not (within 1 topClient client)) ∷ refuse 13 (not pending) ∷ [])
 
 -- kind: what the round awaits, 0 with no call in hand; replied: who has replied in this round; high: this reply would end clock with too high a number
 unfoldable pub takeRefusal : Config → ℕ → Option Packet → ℕ → ℕ → ByServer Bool → (ℕ → Body → Bool) → ℕ → ℕ
 takeRefusal s client none calls kind replied high room =
-  firstOf (refuse 3 (badFaults s) ∷ refuse 5 (not (within 1 topClient client)) ∷ refuse 7 true ∷ [])
+    firstOf (refuse 3 (badFaults s) ∷ refuse 5 (not (within 1 topClient client)) ∷ refuse 7 true ∷ [])
 takeRefusal s client (some p) calls kind replied high room =
-  firstOf
+    firstOf
     (refuse 3 (badFaults s) ∷ refuse 5 (not (within 1 topClient client))
     ∷ refuse 8 (not (eqb (p .head .t) (s .t) && eqb (p .head .client) client))
     ∷ refuse 12 (not (eqb kind 0) && (not (eqb (p .head .call) calls && eqb (kindOf (p .body)) kind) || replied (p .head .server)))
@@ -296,20 +297,20 @@ begun cl h = record { calls = suc (cl .calls); last = cl .last; marks = nobody; 
 -- lines 83, 84, 93
 unfoldable pub writeStep : Config → ℕ → Client → List ℕ → List ℕ → Turn
 writeStep s client cl r n =
-  let k = writeRefusal s client (length r) (not (isIdle (cl .hand))) (cl .calls) in
-  onRefusal k (record { client = begun cl (clocking r n (cl .last)); result = more }) (record { client = cl; result = refused k })
+    let k = writeRefusal s client (length r) (not (isIdle (cl .hand))) (cl .calls) in
+    onRefusal k (record { client = begun cl (clocking r n (cl .last)); result = more }) (record { client = cl; result = refused k })
 
 -- lines 137 to 140
 unfoldable pub readStep : Config → ℕ → Client → Turn
 readStep s client cl =
-  let k = readRefusal s client (not (isIdle (cl .hand))) (cl .calls) in
-  onRefusal k (record { client = begun cl (collecting (λ b. blankCandidate s)); result = more }) (record { client = cl; result = refused k })
+    let k = readRefusal s client (not (isIdle (cl .hand))) (cl .calls) in
+    onRefusal k (record { client = begun cl (collecting (λ b. blankCandidate s)); result = more }) (record { client = cl; result = refused k })
 
 -- amended: giving up leaves no call in hand; the call number and the last stamp made stay
 unfoldable pub abortStep : Config → ℕ → Client → Turn
 abortStep s client cl =
-  let k = abortRefusal s client (not (isIdle (cl .hand))) in
-  onRefusal k (record { client = onto cl nobody idle; result = aborted (eqb (awaits (cl .hand)) 6) }) (record { client = cl; result = refused k })
+    let k = abortRefusal s client (not (isIdle (cl .hand))) in
+    onRefusal k (record { client = onto cl nobody idle; result = aborted (eqb (awaits (cl .hand)) 6) }) (record { client = cl; result = refused k })
 
 -- making a packet changes nothing
 pub record Made : Type 0 where
@@ -318,20 +319,20 @@ pub record Made : Type 0 where
 
 unfoldable pub makeStep : Config → ℕ → Client → ℕ → ℕ → Made
 makeStep s client cl b room =
-  let k = makeRefusal s client b (not (isIdle (cl .hand))) room in
-  onRefusal k (record { number = 0; packet = some (made (s .t) client cl b) }) (record { number = k; packet = none })
+    let k = makeRefusal s client b (not (isIdle (cl .hand))) room in
+    onRefusal k (record { number = 0; packet = some (made (s .t) client cl b) }) (record { number = k; packet = none })
 
 module _ (P : Primitives) (s : Config) (client : ℕ) (writers : List ℕ) (keys : ByServer (List ℕ)) where
   unfoldable pub turnOn : Client → Option Packet → Turn
   turnOn cl none = record { client = cl; result = more }
   turnOn cl (some p) =
-    let m = upd (cl .marks) (p .head .server) true in
-    update P s client writers keys cl (p .head .server) (p .body) m (isFull s m) (cl .hand)
+      let m = upd (cl .marks) (p .head .server) true in
+      update P s client writers keys cl (p .head .server) (p .body) m (isFull s m) (cl .hand)
 
   unfoldable pub highAt : Client → ℕ → Body → Bool
   highAt cl b x = tooHigh P writers x (isFull s (upd (cl .marks) b true)) (cl .hand)
 
   unfoldable pub takeStep : Client → Option Packet → ℕ → Turn
   takeStep cl o room =
-    let k = takeRefusal s client o (cl .calls) (awaits (cl .hand)) (cl .marks) (highAt cl) room in
-    onRefusal k (turnOn cl o) (record { client = cl; result = refused k })
+      let k = takeRefusal s client o (cl .calls) (awaits (cl .hand)) (cl .marks) (highAt cl) room in
+      onRefusal k (turnOn cl o) (record { client = cl; result = refused k })

@@ -61,22 +61,24 @@ pub record Begun : Type 0 where
 
 unfoldable pub beginWrite : ℕ → ℕ → Call → List ℕ → List ℕ → List ℕ → Begun
 beginWrite t client c kept content nonce =
-  let n = writeRefusal (shelf t) client (length content) (inHand c) (c .number) in
-  onRefusal n
+    let n = writeRefusal (shelf t) client (length content) (inHand c) (c .number) in
+    onRefusal n
     (record {
       result = record { number = n; count = 0 };
       call = record { number = suc (c .number); last = c .last; high = c .last; length = length content; tally = fresh 1 };
-      kept = put (put kept 0 content) nonceAt nonce })
+      kept = put (put kept 0 content) nonceAt nonce;
+    })
     (record { result = record { number = n; count = 0 }; call = c; kept = kept })
 
 unfoldable pub beginRead : ℕ → ℕ → Call → List ℕ → Begun
 beginRead t client c kept =
-  let n = readRefusal (shelf t) client (inHand c) (c .number) in
-  onRefusal n
+    let n = readRefusal (shelf t) client (inHand c) (c .number) in
+    onRefusal n
     (record {
       result = record { number = n; count = 0 };
       call = record { number = suc (c .number); last = c .last; high = c .high; length = c .length; tally = fresh 4 };
-      kept = put kept candidatesAt (replicate (candidateSlot * mostServers) 0) })
+      kept = put kept candidatesAt (replicate (candidateSlot * mostServers) 0);
+    })
     (record { result = record { number = n; count = 0 }; call = c; kept = kept })
 
 pub record GaveUp : Type 0 where
@@ -85,8 +87,8 @@ pub record GaveUp : Type 0 where
 
 unfoldable pub giveUp : ℕ → ℕ → Call → GaveUp
 giveUp t client c =
-  let n = abortRefusal (shelf t) client (inHand c) in
-  onRefusal n (record { answer = cond (eqb (c .tally .round) 3) aborts.InComplete aborts.Before; call = withTally c (fresh 0) })
+    let n = abortRefusal (shelf t) client (inHand c) in
+    onRefusal n (record { answer = cond (eqb (c .tally .round) 3) aborts.InComplete aborts.Before; call = withTally c (fresh 0) })
     (record { answer = aborts.Refused n; call = c })
 
 -- ---- making the round's packet
@@ -97,9 +99,9 @@ pub record Written : Type 0 where
 
 unfoldable pub clientMake : ℕ → ℕ → ℕ → Call → List ℕ → List ℕ → Written
 clientMake t client b c kept output =
-  let n = makeRefusal (shelf t) client b (inHand c) (length output) in
-  let bytes = encode (made t client (view (shelf t) c kept) b) in
-  onRefusal n (record { result = record { number = n; count = length bytes }; output = over bytes output })
+    let n = makeRefusal (shelf t) client b (inHand c) (length output) in
+    let bytes = encode (made t client (view (shelf t) c kept) b) in
+    onRefusal n (record { result = record { number = n; count = length bytes }; output = over bytes output })
     (record { result = record { number = n; count = 0 }; output = output })
 
 -- ---- taking a reply
@@ -123,39 +125,39 @@ module _ (P : Primitives) (s : Config) (client : ℕ) (writers : List ℕ) (keys
   -- a content is delivered
   unfoldable pub delivers : ℕ → List ℕ → List ℕ → Took
   delivers number content k =
-    record { answer = taken.Read number (length content); call = withTally c (fresh 0); kept = k; output = over content output }
+      record { answer = taken.Read number (length content); call = withTally c (fresh 0); kept = k; output = over content output }
 
   -- each round takes `e`: this reply is the one that makes a quorum
   unfoldable pub takeClock : Bool → ℕ → Body → Took
   takeClock e b x =
-    let h = higher P writers (c .high) (stampIn x) in
-    cond e
+      let h = higher P writers (c .high) (stampIn x) in
+      cond e
       (took taken.More (record { number = c .number; last = suc h; high = h; length = c .length; tally = fresh 2 })
-        (putShares s (put kept chosenAt (candidateF s .print (candidateMade P s client writers keys (nonceOf kept) (suc h))))
-          (sharesMade P s client writers keys (contentOf c kept) (nonceOf kept) (suc h)) (s .servers)))
+      (putShares s (put kept chosenAt (candidateF s .print (candidateMade P s client writers keys (nonceOf kept) (suc h))))
+      (sharesMade P s client writers keys (contentOf c kept) (nonceOf kept) (suc h)) (s .servers)))
       (took taken.More (record { number = c .number; last = c .last; high = h; length = c .length; tally = noted (c .tally) b }) kept)
 
   unfoldable pub takeStore : Bool → ℕ → Body → Took
   takeStore e b x =
-    cond (eqb (codeIn x) 11) (took taken.More c kept)
+      cond (eqb (codeIn x) 11) (took taken.More c kept)
       (cond e (took taken.More (withTally c (fresh 3)) kept) (took taken.More (withTally c (noted (c .tally) b)) kept))
 
   unfoldable pub takeComplete : Bool → ℕ → Took
   takeComplete e b =
-    cond e (took (taken.Written (chosenOf s kept .stamp .number)) (withTally c (fresh 0)) kept) (took taken.More (withTally c (noted (c .tally) b)) kept)
+      cond e (took (taken.Written (chosenOf s kept .stamp .number)) (withTally c (fresh 0)) kept) (took taken.More (withTally c (noted (c .tally) b)) kept)
 
   unfoldable pub takeCollect : Bool → ℕ → Body → Took
   takeCollect e b x =
-    let k = put kept (candidatesAt + candidateSlot * (b - 1)) (anyCandidateF s .print (candidateIn s x)) in
-    cond e (took taken.More (withTally c (fresh 5)) k) (took taken.More (withTally c (noted (c .tally) b)) k)
+      let k = put kept (candidatesAt + candidateSlot * (b - 1)) (anyCandidateF s .print (candidateIn s x)) in
+      cond e (took taken.More (withTally c (fresh 5)) k) (took taken.More (withTally c (noted (c .tally) b)) k)
 
   unfoldable pub foundIn : ByServer Bool → ByServer Held → List ℕ → Candidate → ℕ → Took
   foundIn m g k d b =
-    let content = restoredBy P s m g d b (g b .share) in
-    let tags = tagsIn P s d (g b .share) in
-    cond (sameList tags (d .tags)) (delivers (d .stamp .number) content k)
+      let content = restoredBy P s m g d b (g b .share) in
+      let tags = tagsIn P s d (g b .share) in
+      cond (sameList tags (d .tags)) (delivers (d .stamp .number) content k)
       (took taken.More (record { number = c .number; last = c .last; high = c .high; length = length content; tally = fresh 6 })
-        (put (put k 0 content) chosenAt (candidateF s .print (record { stamp = d .stamp; nonce = d .nonce; tags = tags }))))
+      (put (put k 0 content) chosenAt (candidateF s .print (record { stamp = d .stamp; nonce = d .nonce; tags = tags }))))
 
   unfoldable pub judgeIn : Call → ByServer Bool → ByServer Held → List ℕ → List Candidate → Option Candidate → Took
   judgeIn c' m g k [] o = took taken.Blank (withTally c (fresh 0)) k
@@ -164,23 +166,23 @@ module _ (P : Primitives) (s : Config) (client : ℕ) (writers : List ℕ) (keys
 
   unfoldable pub takeFilter : Bool → ℕ → Body → Took
   takeFilter e b x =
-    let k = put kept (repliesAt + replySlot * (b - 1)) (heldF s .print (heldIn x)) in
-    let c' = withTally c (noted (c .tally) b) in
-    let m = marked (c' .tally .marks) in
-    let g = repliesIn s (c' .tally .marks) k in
-    let cs = gather (candidatesIn s k) (s .servers) in
-    cond e (judgeIn c' m g k (live P s m g cs) (choice P s m g cs)) (took taken.More c' k)
+      let k = put kept (repliesAt + replySlot * (b - 1)) (heldF s .print (heldIn x)) in
+      let c' = withTally c (noted (c .tally) b) in
+      let m = marked (c' .tally .marks) in
+      let g = repliesIn s (c' .tally .marks) k in
+      let cs = gather (candidatesIn s k) (s .servers) in
+      cond e (judgeIn c' m g k (live P s m g cs) (choice P s m g cs)) (took taken.More c' k)
 
   unfoldable pub takeRepair : Bool → ℕ → Took
   takeRepair e b =
-    cond e (delivers (chosenOf s kept .stamp .number) (contentOf c kept) kept) (took taken.More (withTally c (noted (c .tally) b)) kept)
+      cond e (delivers (chosenOf s kept .stamp .number) (contentOf c kept) kept) (took taken.More (withTally c (noted (c .tally) b)) kept)
 
   unfoldable pub takeOn : ℕ → Option Packet → Took
   takeOn r none = took taken.More c kept
   takeOn r (some p) =
-    let b = p .head .server in
-    let e = ends s c in
-    cond (eqb r 1) (takeClock e b (p .body)) (cond (eqb r 2) (takeStore e b (p .body)) (cond (eqb r 3) (takeComplete e b)
+      let b = p .head .server in
+      let e = ends s c in
+      cond (eqb r 1) (takeClock e b (p .body)) (cond (eqb r 2) (takeStore e b (p .body)) (cond (eqb r 3) (takeComplete e b)
       (cond (eqb r 4) (takeCollect e b (p .body)) (cond (eqb r 5) (takeFilter e b (p .body)) (takeRepair e b)))))
 
   unfoldable pub highIn : ℕ → Body → Bool
@@ -188,8 +190,8 @@ module _ (P : Primitives) (s : Config) (client : ℕ) (writers : List ℕ) (keys
 
   unfoldable pub takeIn : Option Packet → Took
   takeIn o =
-    let n = takeRefusal s client o (c .number) (awaited c) (marked (c .tally .marks)) highIn (length output) in
-    onRefusal n (takeOn (c .tally .round) o) (took (taken.Refused n) c kept)
+      let n = takeRefusal s client o (c .number) (awaited c) (marked (c .tally .marks)) highIn (length output) in
+      onRefusal n (takeOn (c .tally .round) o) (took (taken.Refused n) c kept)
 
 -- the key of server i in a table of keys
 unfoldable pub keyOf : List (List ℕ) → ByServer (List ℕ)

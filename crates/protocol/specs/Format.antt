@@ -88,7 +88,8 @@ run n =
     record {
       Ok = λ x. length x ≡ n;
       print = λ x. x;
-      parse = λ b. guard (leb n (length b)) (some (take n b, drop n b)) }
+      parse = λ b. guard (leb n (length b)) (some (take n b, drop n b));
+    }
 
 unfoldable pub empty : Fmt (Unit {0})
 empty = record { Ok = λ x. Unit {0}; print = λ x. []; parse = λ b. some (tt, b) }
@@ -100,7 +101,8 @@ seq F G =
     record {
       Ok = λ x. (F .Ok (x .0)) × (G (x .0) .Ok (x .1));
       print = λ x. F .print (x .0) ++ G (x .0) .print (x .1);
-      parse = λ b. andThen (F .parse b) (λ a q. andThen (G a .parse q) (λ c r. some ((a, c), r))) }
+      parse = λ b. andThen (F .parse b) (λ a q. andThen (G a .parse q) (λ c r. some ((a, c), r)));
+    }
 
 -- ---- the same bytes, read as another type
 
@@ -109,7 +111,8 @@ via to from F =
     record {
       Ok = λ x. F .Ok (from x);
       print = λ x. F .print (from x);
-      parse = λ b. andThen (F .parse b) (λ a r. some (to a, r)) }
+      parse = λ b. andThen (F .parse b) (λ a r. some (to a, r));
+    }
 
 -- ---- values that pass a test
 
@@ -118,7 +121,8 @@ keep test F =
     record {
       Ok = λ x. (test x ≡ true) × (F .Ok x);
       print = F .print;
-      parse = λ b. andThen (F .parse b) (λ a r. guard (test a) (some (a, r))) }
+      parse = λ b. andThen (F .parse b) (λ a r. guard (test a) (some (a, r)));
+    }
 
 -- ---- n zeros for the blank value, where F takes no such bytes
 
@@ -134,7 +138,8 @@ orBlank n blank F =
     record {
       Ok = λ x. (x ≡ blank) ⊎ F .Ok x;
       print = F .print;
-      parse = λ b. orElse (F .parse b) (parseBlank n blank b) }
+      parse = λ b. orElse (F .parse b) (parseBlank n blank b);
+    }
 
 -- ---- n of a kind
 
@@ -171,7 +176,8 @@ optional hi F =
     record {
       Ok = OkOptional hi F;
       print = printOptional F;
-      parse = λ b. andThen (parseByte 0 hi b) (parsePresent F) }
+      parse = λ b. andThen (parseByte 0 hi b) (parsePresent F);
+    }
 
 -- ---- the whole of the bytes, and nothing after them
 

@@ -45,8 +45,8 @@ first p (x ∷ xs) = cond (p x) (some x) (first p xs)
 unfoldable pub gather : ByServer Candidate → ℕ → List Candidate
 gather g zero = []
 gather g (suc n) =
-  let l = gather g n in
-  cond (isBlank (g (suc n) .stamp) || any (sameCandidate (g (suc n))) l) l (l ++ (g (suc n) ∷ []))
+    let l = gather g n in
+    cond (isBlank (g (suc n) .stamp) || any (sameCandidate (g (suc n))) l) l (l ++ (g (suc n) ∷ []))
 
 -- ---- the filter round: m marks the servers that replied, g is what each replied
 
@@ -72,7 +72,7 @@ module _ (P : Primitives) (s : Config) where
   sameShare none y = false
   sameShare (some a) none = false
   sameShare (some a) (some b) =
-    eqb (a .size) (b .size) && (sameList (a .digests) (b .digests) && (sameList (a .nonceDigest) (b .nonceDigest) && sameList (a .tags) (b .tags)))
+      eqb (a .size) (b .size) && (sameList (a .digests) (b .digests) && (sameList (a .nonceDigest) (b .nonceDigest) && sameList (a .tags) (b .tags)))
 
   -- server i's reply is of the group of server b's
   unfoldable pub agrees : ByServer Bool → ByServer Held → Candidate → ℕ → ByServer Bool

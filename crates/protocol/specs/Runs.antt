@@ -85,26 +85,27 @@ module _ (P : Primitives) (s : Shelf) where
 
   unfoldable pub doBytes : Machines → Step → Done
   doBytes w (write c r n) =
-    let m = w .client c in let d = beginWrite (s .t) c (m .call) (m .kept) r n in
-    setMachine w c (record { call = d .call; kept = d .kept }) (resultOf (d .result .number))
+      let m = w .client c in let d = beginWrite (s .t) c (m .call) (m .kept) r n in
+      setMachine w c (record { call = d .call; kept = d .kept }) (resultOf (d .result .number))
   doBytes w (read c) =
-    let m = w .client c in let d = beginRead (s .t) c (m .call) (m .kept) in
-    setMachine w c (record { call = d .call; kept = d .kept }) (resultOf (d .result .number))
+      let m = w .client c in let d = beginRead (s .t) c (m .call) (m .kept) in
+      setMachine w c (record { call = d .call; kept = d .kept }) (resultOf (d .result .number))
   doBytes w (make c b output) =
-    let m = w .client c in let d = clientMake (s .t) c b (m .call) (m .kept) output in
-    record { machines = w; result = resultOf (d .result .number); sent = take (d .result .count) (d .output) }
+      let m = w .client c in let d = clientMake (s .t) c b (m .call) (m .kept) output in
+      record { machines = w; result = resultOf (d .result .number); sent = take (d .result .count) (d .output) }
   doBytes w (take-reply c reply output) =
-    let m = w .client c in let d = clientTake P (s .t) c (s .writers) (s .keys) (m .call) (m .kept) reply output in
-    setMachine w c (record { call = d .call; kept = d .kept }) (takenOut (d .answer) (d .output))
+      let m = w .client c in let d = clientTake P (s .t) c (s .writers) (s .keys) (m .call) (m .kept) reply output in
+      setMachine w c (record { call = d .call; kept = d .kept }) (takenOut (d .answer) (d .output))
   doBytes w (give-up c) =
-    let m = w .client c in let d = giveUp (s .t) c (m .call) in
-    setMachine w c (record { call = d .call; kept = m .kept }) (abortedOut (d .answer))
+      let m = w .client c in let d = giveUp (s .t) c (m .call) in
+      setMachine w c (record { call = d .call; kept = m .kept }) (abortedOut (d .answer))
   doBytes w (serve b packet output) =
-    let d = serverTake P (w .memory b) (keyOf (s .keys) b) packet output in
-    record {
-      machines = record { client = w .client; memory = upd (w .memory) b (d .memory) };
-      result = resultOf (d .result .number);
-      sent = take (d .result .count) (d .output) }
+      let d = serverTake P (w .memory b) (keyOf (s .keys) b) packet output in
+      record {
+        machines = record { client = w .client; memory = upd (w .memory) b (d .memory) };
+        result = resultOf (d .result .number);
+        sent = take (d .result .count) (d .output);
+      }
 
   unfoldable pub nowBytes : List Step → Machines
   nowBytes [] = record { client = λ c. newMachine; memory = λ b. encodeMemory (blankMemory (s .t) b) }
@@ -130,13 +131,13 @@ module _ (P : Primitives) (s : Config) (writers : List ℕ) (keys : ByServer (Li
   doValues w (write c r n) = setClient w c (writeStep s c (w .client c) r n)
   doValues w (read c) = setClient w c (readStep s c (w .client c))
   doValues w (make c b output) =
-    let d = makeStep s c (w .client c) b (length output) in
-    record { world = w; result = resultOf (d .number); sent = d .packet }
+      let d = makeStep s c (w .client c) b (length output) in
+      record { world = w; result = resultOf (d .number); sent = d .packet }
   doValues w (take-reply c reply output) = setClient w c (takeStep P s c writers keys (w .client c) (decode reply) (length output))
   doValues w (give-up c) = setClient w c (abortStep s c (w .client c))
   doValues w (serve b packet output) =
-    let d = serverStep P s (keys b) b (w .server b) (length output) (decode packet) in
-    record { world = record { client = w .client; server = upd (w .server) b (d .server) }; result = resultOf (d .number); sent = d .reply }
+      let d = serverStep P s (keys b) b (w .server b) (length output) (decode packet) in
+      record { world = record { client = w .client; server = upd (w .server) b (d .server) }; result = resultOf (d .number); sent = d .reply }
 
   unfoldable pub nowValues : List Step → World
   nowValues [] = record { client = λ c. newClient; server = λ b. blankServer s }
@@ -179,17 +180,19 @@ serverOr s (some m) = serverIn m
 -- by the operations on bytes
 unfoldable pub byBytes : Primitives → (s : Shelf) → Account (configOf s)
 byBytes P s =
-  record {
-    result = λ x xs. doBytes P s (nowBytes P s (steps xs)) (x .step) .result;
-    sent = λ x xs. doBytes P s (nowBytes P s (steps xs)) (x .step) .sent;
-    client = λ xs c. view (configOf s) (nowBytes P s (steps xs) .client c .call) (nowBytes P s (steps xs) .client c .kept);
-    server = λ xs b. cond (within 1 (configOf s .servers) b) (serverOr (configOf s) (decodeMemory (nowBytes P s (steps xs) .memory b))) (blankServer (configOf s)) }
+    record {
+      result = λ x xs. doBytes P s (nowBytes P s (steps xs)) (x .step) .result;
+      sent = λ x xs. doBytes P s (nowBytes P s (steps xs)) (x .step) .sent;
+      client = λ xs c. view (configOf s) (nowBytes P s (steps xs) .client c .call) (nowBytes P s (steps xs) .client c .kept);
+      server = λ xs b. cond (within 1 (configOf s .servers) b) (serverOr (configOf s) (decodeMemory (nowBytes P s (steps xs) .memory b))) (blankServer (configOf s));
+    }
 
 -- by the steps on values
 unfoldable pub byValues : Primitives → (s : Config) → List ℕ → ByServer (List ℕ) → Account s
 byValues P s writers keys =
-  record {
-    result = λ x xs. doValues P s writers keys (nowValues P s writers keys (steps xs)) (x .step) .result;
-    sent = λ x xs. sentOf (doValues P s writers keys (nowValues P s writers keys (steps xs)) (x .step) .sent);
-    client = λ xs c. nowValues P s writers keys (steps xs) .client c;
-    server = λ xs b. cond (within 1 (s .servers) b) (nowValues P s writers keys (steps xs) .server b) (blankServer s) }
+    record {
+      result = λ x xs. doValues P s writers keys (nowValues P s writers keys (steps xs)) (x .step) .result;
+      sent = λ x xs. sentOf (doValues P s writers keys (nowValues P s writers keys (steps xs)) (x .step) .sent);
+      client = λ xs c. nowValues P s writers keys (steps xs) .client c;
+      server = λ xs b. cond (within 1 (s .servers) b) (nowValues P s writers keys (steps xs) .server b) (blankServer s);
+    }

@@ -42,9 +42,9 @@ raise c v = cond (below (v .latest .stamp) (c .stamp)) (record { latest = c; his
 -- lines 114 to 116. Amended: a held stamp is answered 10 and left as it is, a full history 11, and 0 means kept
 unfoldable pub kept : Server → Write → Acted
 kept v w =
-  cond (isSome (held (w .stamp) (v .history))) (record { server = v; reply = storeReply 10 })
+    cond (isSome (held (w .stamp) (v .history))) (record { server = v; reply = storeReply 10 })
     (cond (leb capacity (length (v .history))) (record { server = v; reply = storeReply 11 })
-      (record { server = record { latest = v .latest; history = v .history ++ (w ∷ []) }; reply = storeReply 0 }))
+    (record { server = record { latest = v .latest; history = v .history ++ (w ∷ []) }; reply = storeReply 0 }))
 
 module _ (P : Primitives) (s : Config) (key : List ℕ) (number : ℕ) where
   -- line 131: the history holds its stamp with the digest of its nonce, or its tag of this server checks
@@ -72,8 +72,8 @@ module _ (P : Primitives) (s : Config) (key : List ℕ) (number : ℕ) where
   act v collect = record { server = v; reply = collectReply (v .latest) }
   -- lines 122 to 126. Amended: the answer has length and nonce digest too, and says where nothing is held
   act v (filter cs) =
-    let c = best v (blankCandidate s) cs in
-    record { server = raise c v; reply = filterReply (record { stamp = c .stamp; share = held (c .stamp) (v .history) }) }
+      let c = best v (blankCandidate s) cs in
+      record { server = raise c v; reply = filterReply (record { stamp = c .stamp; share = held (c .stamp) (v .history) }) }
   -- lines 127 to 129
   act v (repair c) = record { server = cond (valid v c) (raise c v) v; reply = repairReply }
   -- a reply is no request: refused with 9 before
@@ -104,12 +104,12 @@ barred c repairReply = true
 -- the reply to a packet, of the same call
 unfoldable pub replyTo : Packet → Body → Packet
 replyTo p x =
-  record { head = record { kind = kindOf x; client = p .head .client; server = p .head .server; t = p .head .t; call = p .head .call }; body = x }
+    record { head = record { kind = kindOf x; client = p .head .client; server = p .head .server; t = p .head .t; call = p .head .call }; body = x }
 
 unfoldable pub serverRefusal : ℕ → ℕ → Option Packet → ℕ → ℕ
 serverRefusal t b none room = firstOf (refuse 7 true ∷ [])
 serverRefusal t b (some p) room =
-  firstOf
+    firstOf
     (refuse 8 (not (eqb (p .head .t) t && eqb (p .head .server) b))
     ∷ refuse 9 (barred (p .head .client) (p .body))
     ∷ refuse 15 (ltb room packetRoom)

@@ -32,7 +32,7 @@ pub record Blanked : Type 0 where
 
 unfoldable pub blankRefusal : ℕ → ℕ → ℕ → ℕ
 blankRefusal size t b =
-  firstOf
+    firstOf
     (refuse 1 (not (eqb size memorySize))
     ∷ refuse 3 (not (within 1 topFaults t))
     ∷ refuse 4 (not (within 1 (shelf t .servers) b))
@@ -40,8 +40,8 @@ blankRefusal size t b =
 
 unfoldable pub blankStep : List ℕ → ℕ → ℕ → Blanked
 blankStep memory t b =
-  let n = blankRefusal (length memory) t b in
-  record { result = record { number = n; count = 0 }; memory = onRefusal n (encodeMemory (blankMemory t b)) memory }
+    let n = blankRefusal (length memory) t b in
+    record { result = record { number = n; count = 0 }; memory = onRefusal n (encodeMemory (blankMemory t b)) memory }
 
 -- ---- taking a packet: 1, 2, 7, 8, 9, 15
 
@@ -58,15 +58,15 @@ module _ (P : Primitives) (memory key packet output : List ℕ) where
   unfoldable pub accepted : Memory → Option Packet → Served
   accepted m none = turnedDown 0
   accepted m (some p) =
-    let a = act P (shelf (m .t)) key (m .server) (serverIn m) (p .body) in
-    let bytes = encode (replyTo p (a .reply)) in
-    record { result = record { number = 0; count = length bytes }; memory = encodeMemory (memoryOf (m .t) (m .server) (a .server)); output = over bytes output }
+      let a = act P (shelf (m .t)) key (m .server) (serverIn m) (p .body) in
+      let bytes = encode (replyTo p (a .reply)) in
+      record { result = record { number = 0; count = length bytes }; memory = encodeMemory (memoryOf (m .t) (m .server) (a .server)); output = over bytes output }
 
   unfoldable pub onMemory : Option Memory → Served
   onMemory none = turnedDown 2
   onMemory (some m) =
-    let n = serverRefusal (m .t) (m .server) (decode packet) (length output) in
-    onRefusal n (accepted m (decode packet)) (turnedDown n)
+      let n = serverRefusal (m .t) (m .server) (decode packet) (length output) in
+      onRefusal n (accepted m (decode packet)) (turnedDown n)
 
   unfoldable pub serverTake : Served
   serverTake = cond (eqb (length memory) memorySize) (onMemory (decodeMemory memory)) (turnedDown 1)

@@ -32,13 +32,14 @@ candidateAt s d = record { stamp = stampAt d; nonce = part d stampSize nonceSize
 -- a share of a content of n bytes
 unfoldable pub shareOfSize : Config → ℕ → List ℕ → Share
 shareOfSize s n d =
-  let f = fragmentSize (s .shares) n in
-  record {
-    size = n;
-    part = part d 2 f;
-    digests = part d (2 + f) (digestsSize s);
-    nonceDigest = part d (2 + f + digestsSize s) digestSize;
-    tags = part d (2 + f + digestsSize s + digestSize) (tagsSize s) }
+    let f = fragmentSize (s .shares) n in
+    record {
+      size = n;
+      part = part d 2 f;
+      digests = part d (2 + f) (digestsSize s);
+      nonceDigest = part d (2 + f + digestsSize s) digestSize;
+      tags = part d (2 + f + digestsSize s + digestSize) (tagsSize s);
+    }
 
 unfoldable pub shareAt : Config → List ℕ → Share
 shareAt s d = shareOfSize s (value2 (getD d 0 0) (getD d 1 0)) d
@@ -101,12 +102,12 @@ sharesIn s kept b = cond (within 1 (s .servers) b) (shareAt s (replySlotOf kept 
 -- round 1 clock, 2 store, 3 complete, 4 collect, 5 filter, 6 repair; any other: no call in hand
 unfoldable pub handOf : Config → ℕ → Call → List ℕ → Hand
 handOf s r c kept =
-  cond (eqb r 1) (clocking (contentOf c kept) (nonceOf kept) (c .high))
+    cond (eqb r 1) (clocking (contentOf c kept) (nonceOf kept) (c .high))
     (cond (eqb r 2) (storing (chosenOf s kept) (sharesIn s kept))
-      (cond (eqb r 3) (completing (chosenOf s kept))
-        (cond (eqb r 4) (collecting (candidatesIn s kept))
-          (cond (eqb r 5) (filtering (gather (candidatesIn s kept) (s .servers)) (repliesIn s (c .tally .marks) kept))
-            (cond (eqb r 6) (repairing (chosenOf s kept) (contentOf c kept)) idle)))))
+    (cond (eqb r 3) (completing (chosenOf s kept))
+    (cond (eqb r 4) (collecting (candidatesIn s kept))
+    (cond (eqb r 5) (filtering (gather (candidatesIn s kept) (s .servers)) (repliesIn s (c .tally .marks) kept))
+    (cond (eqb r 6) (repairing (chosenOf s kept) (contentOf c kept)) idle)))))
 
 unfoldable pub view : Config → Call → List ℕ → Client
 view s c kept = record { calls = c .number; last = c .last; marks = marked (c .tally .marks); hand = handOf s (c .tally .round) c kept }
