@@ -6,3 +6,8 @@ pub mod Puts
 pub mod Packets
 pub mod Bodies
 pub mod Whole
+pub mod Equal
+pub mod Walks
+pub mod Room
+pub mod Memories
+pub mod Changes
