@@ -11,3 +11,4 @@ pub mod Walks
 pub mod Room
 pub mod Memories
 pub mod Changes
+pub mod Primitive
