@@ -17,3 +17,5 @@ pub mod Readers
 pub mod Marks
 pub mod Slots
 pub mod Kept
+pub mod Acts
+pub mod ServerLift
