@@ -19,3 +19,9 @@ pub mod Slots
 pub mod Kept
 pub mod Acts
 pub mod ServerLift
+pub mod HandOk
+pub mod Prepared
+pub mod Updates
+pub mod ClientLift
+pub mod Turns
+pub mod Filtered
