@@ -25,7 +25,7 @@ use Rattle.protocol.proofs.Slots.{slots-zero}
 
 -- ---- the pending round
 
-past : (n k : ℕ) → k < 7 → eqb (suc (suc (suc (suc (suc (suc (suc n))))))) k ≡ false
+pub past : (n k : ℕ) → k < 7 → eqb (suc (suc (suc (suc (suc (suc (suc n))))))) k ≡ false
 past n k h = ne-eqb _ k (λ e. omega arith)
 
 pub out-of-rounds : (n : ℕ) → within 1 6 (suc (suc (suc (suc (suc (suc (suc n))))))) ≡ false
@@ -57,6 +57,10 @@ busy-is c = go (within 1 6 (c .tally .round)) refl
     go true e =
         let l : 1 ≤ c .tally .round = leb-true _ _ (and-on _ _ e .0) in
         rw (ne-eqb (2 * c .tally .round) 0 (λ z. omega arith))
+
+pub in-round : (c : Call) → eqb (awaited c) 0 ≡ false → within 1 6 (c .tally .round) ≡ true
+unfolding inHand
+in-round c i = sym (unfold inHand in busy-is c) ∙ ap not i
 
 module _ (s : Config) (c : Call) (kept : List ℕ) where
   -- the kind awaited, by the view and by the call

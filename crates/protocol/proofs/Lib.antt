@@ -25,3 +25,4 @@ pub mod Updates
 pub mod ClientLift
 pub mod Turns
 pub mod Filtered
+pub mod TakeLift
