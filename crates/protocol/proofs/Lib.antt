@@ -26,3 +26,6 @@ pub mod ClientLift
 pub mod Turns
 pub mod Filtered
 pub mod TakeLift
+pub mod Fine
+pub mod MakeLift
+pub mod StepLift
