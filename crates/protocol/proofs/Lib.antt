@@ -29,3 +29,5 @@ pub mod TakeLift
 pub mod Fine
 pub mod MakeLift
 pub mod StepLift
+pub mod RunLift
+pub mod Accounts
