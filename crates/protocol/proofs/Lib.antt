@@ -31,3 +31,4 @@ pub mod MakeLift
 pub mod StepLift
 pub mod RunLift
 pub mod Accounts
+mod Examples
