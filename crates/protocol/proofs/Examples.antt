@@ -1,24 +1,22 @@
 -- Runs computed from the definitions, on values, with toy primitives that can be followed by eye: t = 1, four servers, quorum 3, k = 2.
 -- Each holds by computation alone. Nothing is assumed.
 use mathlib.Core.Path.{_≡_, refl}
-use mathlib.Core.Bool.{Bool, true, false}
+use mathlib.Core.Bool.{true}
 use mathlib.Core.List.{List, [], _∷_, _++_}
-use mathlib.Core.Option.{Option, none, some}
+use mathlib.Core.Option.{Option, some}
 use Prim.Native.Nat.{ℕ, zero, suc, _+_, _-_, _*_}
 use lib.ListN.{length, replicate}
-use Rattle.cluster.specs.Config.{Config, shelf, upTo, quorum}
+use Rattle.cluster.specs.Config.{shelf, upTo, quorum}
 use Rattle.cluster.specs.Ranges.{packetRoom, contentRoom}
 use Rattle.hmac.specs.Hmac.{tagSize}
 use Rattle.erasure.specs.Fragments.{Part}
-use Rattle.protocol.specs.declared.Stamp.{Stamp}
-use Rattle.protocol.specs.declared.Head.{Head}
-use Rattle.protocol.specs.Values.{Candidate, Write, digestSize, nth, runOf, isBlank, below, sameStamp, sameCandidate, blankCandidate, noShare}
-use Rattle.protocol.specs.Packet.{Body, Packet, store, storeReply, collectReply}
+use Rattle.protocol.specs.Values.{Candidate, Write, digestSize, nth, runOf, isBlank, below, sameStamp, sameCandidate, noShare}
+use Rattle.protocol.specs.Packet.{Packet, store, storeReply, collectReply}
 use Rattle.protocol.specs.Memory.{held}
 use Rattle.protocol.specs.Primitives.{Primitives, stampMessage, candidateMessage}
 use Rattle.protocol.specs.Rules.{ByServer, upd, nobody, countTo, any, keep, first, gather, lower, live, fits, agrees, leads, leader, highest, choice, parts, restoredBy}
 use Rattle.protocol.specs.Server.{Server, blankServer, kept, raise, byHistory, byTag, valid, best, act, barred, replyTo, serverRefusal, answered, serverStep}
-use Rattle.protocol.specs.Client.{Client, Hand, Result, refused, more, written, gave, gaveBlank, newClient, awaits, isIdle, stampOf, tagsOf, candidateMade, shareMade, sharesMade, prepared, made, onto, checks, higher, isFull, found, judge, update, tooHigh}
+use Rattle.protocol.specs.Client.{Client, Result, more, written, gave, newClient, awaits, isIdle, stampOf, tagsOf, candidateMade, shareMade, sharesMade, prepared, made, onto, checks, higher, isFull, found, judge, update, tooHigh}
 use Rattle.protocol.specs.Client.{writeRefusal, readRefusal, makeRefusal, takeRefusal, begun, writeStep, readStep, makeStep, turnOn, highAt, takeStep}
 
 -- ---- the toy shelf

@@ -4,8 +4,8 @@ use mathlib.Core.Path.{_≡_, refl, sym, ap, _∙_, subst}
 use mathlib.Core.Bool.{Bool, true, false, cond, _||_}
 use mathlib.Core.List.{List, [], _∷_, _++_}
 use mathlib.Core.Option.{Option, none, some, Option·some-injective}
-use mathlib.Core.Logic.{_⊎_, inl, inr}
-use Prim.Native.Nat.{ℕ, zero, suc, _+_, _≤_, _<_}
+use mathlib.Core.Logic.{inl, inr}
+use Prim.Native.Nat.{ℕ, zero, suc, _≤_}
 use native.Mathlib.Omega.{arith}
 use lib.Dec.{T, eqb, lit≤}
 use lib.ListN.{length, length-append}
@@ -22,7 +22,7 @@ use Rattle.protocol.specs.View.{replySlot}
 use Rattle.protocol.proofs.Answers.{no-some, at-cond, or-off}
 use Rattle.protocol.proofs.Packets.{stamp-length, candidate-lengths, share-lengths}
 use Rattle.protocol.proofs.Room.{Fitting, share-room, share-size}
-use Rattle.protocol.proofs.Readers.{HeldLengths, held-lengths, share-held}
+use Rattle.protocol.proofs.Readers.{held-lengths, share-held}
 use Rattle.protocol.proofs.Walks.{all-snoc}
 
 -- a writer's content and nonce

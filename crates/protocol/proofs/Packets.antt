@@ -2,12 +2,11 @@
 -- Each law is a term of the layout's shape. Nothing is assumed.
 use mathlib.Core.Path.{_≡_, refl, sym, ap, _∙_, subst}
 use mathlib.Core.Bool.{Bool, true, false, cond}
-use mathlib.Core.Option.{none, some}
-use mathlib.Core.Logic.{_⊎_, inl, inr}
+use mathlib.Core.Logic.{inl, inr}
 use mathlib.Core.List.{List, _++_}
-use Prim.Native.Nat.{ℕ, _+_, _*_, _≤_}
+use Prim.Native.Nat.{ℕ, _+_, _≤_}
 use native.Mathlib.Omega.{arith}
-use lib.ListN.{length, replicate, replicate-append-replicate, length-append, length-replicate}
+use lib.ListN.{length, replicate-append-replicate, length-append, length-replicate}
 use lib.Dec.{eqb, lit≤}
 use Rattle.cluster.specs.Config.{Config}
 use Rattle.cluster.specs.Ranges.{topFaults, mostServers, topWriter, topClient, topNumber, leastLength, topLength}
@@ -15,8 +14,8 @@ use Rattle.hmac.specs.Hmac.{tagSize}
 use Rattle.erasure.specs.Fragments.{fragmentSize}
 use Rattle.protocol.specs.declared.Stamp.{Stamp}
 use Rattle.protocol.specs.declared.Head.{Head}
-use Rattle.protocol.specs.Format.{Lawful, byte, number2, number4, run, seq, via, keep, orBlank, many, printMany}
-use Rattle.protocol.specs.Values.{Candidate, Share, Write, Held, blankStamp, blankCandidate, digestSize, nonceSize, stampSize, digestsSize, tagsSize, candidateSize}
+use Rattle.protocol.specs.Format.{Lawful, byte, number2, number4, run, seq, via, keep, orBlank, many}
+use Rattle.protocol.specs.Values.{Candidate, Share, Write, blankStamp, blankCandidate, digestSize, nonceSize, stampSize, digestsSize, tagsSize, candidateSize}
 use Rattle.protocol.specs.Packet.{stampF, anyStampF, shareF, writeF, candidateF, anyCandidateF, candidatesF, heldMost, heldF, codeF, headF, headSize}
 use Rattle.protocol.proofs.Formats.{byte-law, number2-law, number4-law, run-law, seq-law, via-law, keep-law}
 use Rattle.protocol.proofs.Repeats.{orBlank-law, many-law, optional-law}

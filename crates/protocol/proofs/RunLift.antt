@@ -1,28 +1,25 @@
 -- Runs: for every list of steps, bytes and values agree at every moment in states, in each result and in what is sent.
 -- By induction over the steps; a step touches one party. Nothing is assumed but the primitives' lengths.
 use mathlib.Core.Path.{_≡_, refl, sym, ap, _∙_, subst}
-use mathlib.Core.Bool.{Bool, true, false, cond, _&&_}
+use mathlib.Core.Bool.{Bool, true, false, cond}
 use mathlib.Core.List.{List, [], _∷_}
-use mathlib.Core.Option.{Option, none, some, Option·some-injective}
-use Prim.Native.Nat.{ℕ, _+_, _≤_}
+use mathlib.Core.Option.{Option, none, some}
+use Prim.Native.Nat.{ℕ, _≤_}
 use lib.Dec.{eqb}
-use lib.ListN.{length, take, replicate, length-replicate}
+use lib.ListN.{length, take, length-replicate}
 use borrow.Author.Tests.{eqb-true, leb-true}
 use Rattle.cluster.specs.Config.{Config, shelf}
 use Rattle.cluster.specs.Ranges.{topFaults}
-use Rattle.protocol.specs.declared.Call.{Call}
-use Rattle.protocol.specs.declared.Tally.{Tally}
 use Rattle.protocol.specs.Format.{via, seq, keep, byte}
 use Rattle.protocol.specs.Packet.{Packet, PacketOk, packetF, headF, decode, encode}
-use Rattle.protocol.specs.Memory.{encodeMemory, blankMemory}
 use Rattle.protocol.specs.Primitives.{Primitives, Lengths}
 use Rattle.protocol.specs.Rules.{ByServer, upd}
-use Rattle.protocol.specs.Server.{Server, blankServer, serverStep}
+use Rattle.protocol.specs.Server.{serverStep}
 use Rattle.protocol.specs.ServerBytes.{serverTake}
 use Rattle.protocol.specs.Client.{Client, Turn, Result, idle, newClient, writeStep, readStep, abortStep, takeStep, makeStep}
 use Rattle.protocol.specs.View.{handOf, view, keptSize}
-use Rattle.protocol.specs.ClientBytes.{fresh, beginWrite, beginRead, giveUp, clientMake, clientTake, keyOf}
-use Rattle.protocol.specs.Runs.{Shelf, configOf, Step, write, read, make, take-reply, give-up, serve, resultOf, takenOut, abortedOut, sentOf, Machine, Machines, Done, newMachine, setMachine, doBytes, nowBytes, World, After, setClient, doValues, nowValues, Fed}
+use Rattle.protocol.specs.ClientBytes.{fresh, clientMake, keyOf}
+use Rattle.protocol.specs.Runs.{Shelf, configOf, Step, write, read, make, take-reply, give-up, serve, resultOf, sentOf, Machine, Machines, Done, newMachine, setMachine, doBytes, nowBytes, World, After, setClient, doValues, nowValues, Fed}
 use Rattle.protocol.proofs.Answers.{and-on, no-some}
 use Rattle.protocol.proofs.Bodies.{decode-encode}
 use Rattle.protocol.proofs.Room.{Fitting, shelf-fits}
@@ -31,7 +28,7 @@ use Rattle.protocol.proofs.ServerLift.{Holds, blank-holds, serve-lift}
 use Rattle.protocol.proofs.Marks.{marked-fresh}
 use Rattle.protocol.proofs.ClientLift.{Sound, Lifted, fresh-sound}
 use Rattle.protocol.proofs.Fine.{Fine, start-fine}
-use Rattle.protocol.proofs.StepLift.{Good, Sent, write-good, read-good, abort-good, take-good, make-good}
+use Rattle.protocol.proofs.StepLift.{Good, write-good, read-good, abort-good, take-good, make-good}
 
 pub decode-nothing : decode [] ≡ none
 unfolding decode packetF headF keep via seq byte

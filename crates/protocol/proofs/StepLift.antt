@@ -1,37 +1,35 @@
 -- Each operation of a client on bytes against its step on values: result, bytes sent, and the client that the bytes stand for after it.
 -- Refusals are one list at both levels; an accepted step is lifted by its round. Nothing is assumed but the primitives' lengths.
 use mathlib.Core.Path.{_≡_, refl, sym, ap, _∙_, subst}
-use mathlib.Core.Bool.{Bool, true, false, cond, not, _&&_}
-use mathlib.Core.List.{List, [], _∷_}
+use mathlib.Core.Bool.{Bool, true, false, cond, not}
+use mathlib.Core.List.{List}
 use mathlib.Core.Option.{Option, none, some, Option·some-injective}
-use Prim.Native.Nat.{ℕ, zero, suc, _+_, _*_, _≤_, _<_}
+use Prim.Native.Nat.{ℕ, zero, suc, _*_, _≤_}
 use native.Mathlib.Omega.{arith}
-use lib.Dec.{ltb, eqb, lit≤}
+use lib.Dec.{eqb, lit≤}
 use lib.ListN.{length, take, replicate}
 use borrow.Author.Tests.{eq-eqb, eqb-true, not-true, not-false}
 use Rattle.cluster.specs.Config.{Config, shelf}
 use Rattle.cluster.specs.Ranges.{within, topFaults, topClient, mostServers}
 use Rattle.cluster.specs.Refusals.{onRefusal}
 use Rattle.protocol.specs.declared.Call.{Call}
-use Rattle.protocol.specs.declared.Tally.{Tally}
-use Rattle.protocol.specs.declared.Aborted.{Aborted}
 use Rattle.protocol.specs.declared.Aborted.the-variants as aborts
 use Rattle.protocol.specs.Values.{nonceSize, blankCandidate}
 use Rattle.protocol.specs.Packet.{Packet, PacketOk, decode, encode}
 use Rattle.protocol.specs.Primitives.{Primitives, Lengths}
-use Rattle.protocol.specs.Rules.{ByServer, nobody}
+use Rattle.protocol.specs.Rules.{nobody}
 use Rattle.protocol.specs.Client.{Client, Turn, Result, refused, more, aborted, onto, begun, idle, clocking, collecting, awaits, isIdle, writeRefusal, readRefusal, makeRefusal, abortRefusal, badFaults, writeStep, readStep, abortStep, makeStep, Made, takeStep, made}
 use Rattle.protocol.specs.ServerBytes.{over}
 use Rattle.protocol.specs.View.{view, nonceAt, candidateSlot, candidatesAt}
 use Rattle.protocol.specs.ClientBytes.{put, fresh, withTally, Begun, GaveUp, Written, inHand, awaited, beginWrite, beginRead, giveUp, clientMake, clientTake, keyOf}
 use Rattle.protocol.specs.Runs.{Machine, resultOf, takenOut, abortedOut, sentOf}
-use Rattle.protocol.proofs.Answers.{and-on, no-some}
+use Rattle.protocol.proofs.Answers.{no-some}
 use Rattle.protocol.proofs.Bodies.{decode-ok}
 use Rattle.protocol.proofs.Equal.{test-ext}
 use Rattle.protocol.proofs.Room.{Fitting}
 use Rattle.protocol.proofs.ServerLift.{over-start}
 use Rattle.protocol.proofs.ClientLift.{Sound, Lifted, pending-is, awaits-is, write-begun, read-begun, idled}
-use Rattle.protocol.proofs.TakeLift.{pass, shelf-t, take-lift}
+use Rattle.protocol.proofs.TakeLift.{pass, take-lift}
 use Rattle.protocol.proofs.Fine.{Fine, write-accepted, write-fine, read-fine, abort-fine, take-fine, inside}
 use Rattle.protocol.proofs.MakeLift.{made-ok}
 

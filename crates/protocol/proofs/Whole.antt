@@ -1,15 +1,15 @@
 -- What the parts of a packet say of the whole, for every kind: its readers leave the packet, a part that stops refuses it, and so does a byte too many.
 -- By the kinds of Bodies and the composition of Leaves. Nothing is assumed.
 use mathlib.Core.Path.{_≡_, refl, sym, ap, _∙_, subst}
-use mathlib.Core.Option.{Option, none, some}
-use mathlib.Core.List.{List, [], _∷_, _++_}
+use mathlib.Core.Option.{none, some}
+use mathlib.Core.List.{List, []}
 use Prim.Native.Nat.{ℕ, _≤_, _<_}
 use lib.ListN.{length, drop, drop-of-length-le}
 use lib.Seq.{drop-cons}
 use Rattle.cluster.specs.Config.{Config, shelf}
 use Rattle.protocol.specs.declared.Head.{Head}
 use Rattle.protocol.specs.Format.{Fmt, andThen, seq, via}
-use Rattle.protocol.specs.Packet.{Body, Packet, kindOf, printBody, bodyF, headF, packetF, decode, encode, PacketOk}
+use Rattle.protocol.specs.Packet.{Body, Packet, kindOf, bodyF, headF, packetF, decode, PacketOk}
 use Rattle.protocol.specs.Reading.{Leaves, Stops}
 use Rattle.protocol.proofs.Answers.{same-value, andThen-some, whole-some}
 use Rattle.protocol.proofs.Leaves.{leaves-seq, stops-first, stops-second, leaves-via, stops-via}
