@@ -153,11 +153,11 @@ module _ (P : Primitives) (s : Config) (key : List ℕ) (b : ℕ) (v : Server) (
   act-ok clock h = record { server = ok; reply = any-stamp s (v .latest) (ok .latest) }
   act-ok (store w) h =
       at-cond (isSome (held (w .stamp) (v .history))) _ _ Right
-      (λ e. record { server = ok; reply = code-ok 10 refl (lit≤ tt) })
+      (λ e. record { server = ok; reply = code-ok _ refl (lit≤ tt) })
       (λ e.
       at-cond (leb capacity (length (v .history))) _ _ Right
-      (λ f. record { server = ok; reply = code-ok 11 refl (lit≤ tt) })
-      (λ f. record { server = store-ok w h e f; reply = code-ok 0 refl (lit≤ tt) }))
+      (λ f. record { server = ok; reply = code-ok _ refl (lit≤ tt) })
+      (λ f. record { server = store-ok w h e f; reply = code-ok _ refl (lit≤ tt) }))
   act-ok (complete c) h = record { server = raise-ok c (any-candidate s c h); reply = tt }
   act-ok collect h = record { server = ok; reply = ok .latest }
   act-ok (filter cs) h =

@@ -3,7 +3,7 @@
 use mathlib.Core.Path.{_≡_, refl}
 use mathlib.Core.Bool.{true}
 use mathlib.Core.List.{List, [], _∷_, _++_}
-use mathlib.Core.Option.{Option, some}
+use mathlib.Core.Option.{Option, none, some}
 use Prim.Native.Nat.{ℕ, zero, suc, _+_, _-_, _*_}
 use lib.ListN.{length, replicate}
 use Rattle.cluster.specs.Config.{shelf, upTo, quorum}
@@ -11,7 +11,7 @@ use Rattle.cluster.specs.Ranges.{packetRoom, contentRoom}
 use Rattle.hmac.specs.Hmac.{tagSize}
 use Rattle.erasure.specs.Fragments.{Part}
 use Rattle.protocol.specs.Values.{Candidate, Write, digestSize, nth, runOf, isBlank, below, sameStamp, sameCandidate, noShare}
-use Rattle.protocol.specs.Packet.{Packet, store, storeReply, collectReply}
+use Rattle.protocol.specs.Packet.{Body, Packet, kindOf, store, storeReply, collectReply, filterReply}
 use Rattle.protocol.specs.Memory.{held}
 use Rattle.protocol.specs.Primitives.{Primitives, stampMessage, candidateMessage}
 use Rattle.protocol.specs.Rules.{ByServer, upd, nobody, countTo, any, keep, first, gather, lower, live, fits, agrees, leads, leader, highest, choice, parts, restoredBy}
@@ -102,9 +102,9 @@ read-gives = refl
 
 -- ---- a write whose tags a liar spoiled, read through repair
 
--- an answer of server 1 to client 9's collect
-abbrev lie : Candidate → Option Packet
-lie c = some (record { head = record { kind = 8; client = 9; server = 1; t = 1; call = 1 }; body = collectReply c })
+-- an answer of server 1 to client 9
+abbrev lie : Body → Option Packet
+lie x = some (record { head = record { kind = kindOf x; client = 9; server = 1; t = 1; call = 1 }; body = x })
 
 -- client 1's candidate without its tags
 unfoldable spoilt : Candidate
@@ -112,7 +112,7 @@ spoilt = record { stamp = stampOf toy (shelf 1) 1 writers keys 1; nonce = 42 ∷
 
 -- the write stopped after store, and only the liar shows a candidate. Servers 2 and 3 know it by their history, server 4 cannot check it
 unfoldable filtered : Scene
-filtered = asksAll 9 (2 ∷ 3 ∷ 4 ∷ []) (asksAll 9 (2 ∷ 3 ∷ []) (hears (reads 9 stored) 9 (lie spoilt)))
+filtered = asksAll 9 (2 ∷ 3 ∷ 4 ∷ []) (asksAll 9 (2 ∷ 3 ∷ []) (hears (reads 9 stored) 9 (lie (collectReply spoilt))))
 
 -- the content waits for the repair
 awaits-repair : awaits (filtered .client 9 .hand) ≡ 12
@@ -131,10 +131,13 @@ read-repaired = (refl, refl)
 unfoldable invented : Candidate
 invented = record { stamp = record { number = 50; writer = 2; tag = [] }; nonce = 13 ∷ []; tags = [] }
 
+-- it shows it in collect, and in filter it says that it holds nothing lower
 unfoldable misled : Scene
-misled = asksAll 9 (2 ∷ 3 ∷ []) (hears (reads 9 completed) 9 (lie invented))
+misled =
+    hears (asksAll 9 (2 ∷ 3 ∷ []) (hears (reads 9 completed) 9 (lie (collectReply invented)))) 9
+    (lie (filterReply (record { stamp = invented .stamp; share = none })))
 
--- after two lower replies and the liar's silence it is still in the list; the third is the S - t th, it leaves, and the write is read
+-- with two lower replies the round has its quorum and the invented one is still in the list; the third lower one is the S - t th: it leaves, and the write is read
 leaves-list : (asksAll 9 (2 ∷ 3 ∷ []) misled .result ≡ more) × (asksAll 9 (2 ∷ 3 ∷ 4 ∷ []) misled .result ≡ gave 1 (65 ∷ 66 ∷ []))
 unfolding misled invented completed stored asksAll asks hears writes reads new toy mix writers keys shelf upTo quorum nth runOf isBlank below sameStamp sameCandidate held stampMessage candidateMessage upd nobody countTo any keep first gather lower live fits agrees leads leader highest choice parts restoredBy kept raise byHistory byTag valid best act barred replyTo serverRefusal answered serverStep awaits isIdle stampOf tagsOf candidateMade shareMade sharesMade prepared made onto checks higher isFull found judge update tooHigh writeRefusal readRefusal makeRefusal takeRefusal begun writeStep readStep makeStep turnOn highAt takeStep
 leaves-list = (refl, refl)

@@ -26,9 +26,9 @@ unfolding memoryF seq many
 memory-law =
     keep-law _ _
     (via-law _ _ _ (λ b. refl) (λ a h. λ i. (a .0, (a .1 .0, (h .1 .1 .1 .1 .0 i, a .1 .1 .1))))
-    (seq-law _ _ (byte-law 1 topFaults)
-    (λ t. seq-law _ _ (byte-law 1 (shelf t .servers))
-    (λ b. seq-law _ _ (byte-law 0 capacity) (λ n. seq-law _ _ (any-candidate-law (shelf t)) (λ l. many-law (writeF (shelf t)) (write-law (shelf t)) n))))))
+    (seq-law _ _ (byte-law _ _)
+    (λ t. seq-law _ _ (byte-law _ _)
+    (λ b. seq-law _ _ (byte-law _ _) (λ n. seq-law _ _ (any-candidate-law (shelf t)) (λ l. many-law (writeF (shelf t)) (write-law (shelf t)) n))))))
 
 -- ---- the ranges of a memory, each by its name
 

@@ -14,8 +14,8 @@ use Rattle.protocol.specs.Format.{via, seq, keep, byte}
 use Rattle.protocol.specs.Packet.{Packet, PacketOk, packetF, headF, decode, encode}
 use Rattle.protocol.specs.Primitives.{Primitives, Lengths}
 use Rattle.protocol.specs.Rules.{ByServer, upd}
-use Rattle.protocol.specs.Server.{serverStep}
-use Rattle.protocol.specs.ServerBytes.{serverTake}
+use Rattle.protocol.specs.Server.{Stepped, serverStep}
+use Rattle.protocol.specs.ServerBytes.{Served, serverTake}
 use Rattle.protocol.specs.Client.{Client, Turn, Result, idle, newClient, writeStep, readStep, abortStep, takeStep, makeStep}
 use Rattle.protocol.specs.View.{handOf, view, keptSize}
 use Rattle.protocol.specs.ClientBytes.{fresh, clientMake, keyOf}
@@ -101,6 +101,13 @@ module _ (P : Primitives) (law : Lengths P) (sh : Shelf) (tr : (1 ≤ sh .t) × 
         (let (r, x) = make-good (sh .t) c (w .client c .call) (w .client c .kept) tr fits (sound c) (here c) b output in
         record { matches = m; result = r; sent = x .bytes; ok = x .ok })
 
+    -- server b takes a packet, on values and on bytes
+    abbrev stepped : ℕ → List ℕ → List ℕ → Stepped
+    stepped b packet output = serverStep P s (keys b) b (v .server b) (length output) (decode packet)
+
+    abbrev served : ℕ → List ℕ → List ℕ → Served
+    served b packet output = serverTake P (w .memory b) (keys b) packet output
+
     serve-agrees : (b : ℕ) (packet output : List ℕ) → 1 ≤ b → b ≤ s .servers
         → Agrees (doValues P s (sh .writers) keys v (serve b packet output)) (doBytes P sh w (serve b packet output))
     unfolding doValues doBytes upd
@@ -108,29 +115,21 @@ module _ (P : Primitives) (law : Lengths P) (sh : Shelf) (tr : (1 ≤ sh .t) × 
         record {
           matches = record { client = m .client; fine = m .fine; memory = λ i l k. go i l k (eqb i b) refl };
           result = ap resultOf (x .number);
-          sent = sent-as _ (x .sent) (x .silent);
+          sent = sent-as (stepped b packet output .reply) (x .sent) (x .silent);
           ok = x .ok;
         }
       where
-        x : server.Lifted (sh .t) b (serverStep P (shelf (sh .t)) (keyOf (sh .keys) b) b (v .server b) (length output) (decode packet))
-            (serverTake P (w .memory b) (keyOf (sh .keys) b) packet output)
-        x = serve-lift P (sh .t) b (v .server b) (w .memory b) (keyOf (sh .keys) b) packet output (m .memory b lo hi)
+        x : server.Lifted (sh .t) b (stepped b packet output) (served b packet output)
+        x = serve-lift P (sh .t) b (v .server b) (w .memory b) (keys b) packet output (m .memory b lo hi)
 
-        sent-as : (o : Option Packet)
-            → ((p : Packet) → o ≡ some p → take (serverTake P (w .memory b) (keyOf (sh .keys) b) packet output .result .count) (serverTake P (w .memory b) (keyOf (sh .keys) b) packet output .output) ≡ encode p)
-            → (o ≡ none → serverTake P (w .memory b) (keyOf (sh .keys) b) packet output .result .count ≡ 0)
-            → take (serverTake P (w .memory b) (keyOf (sh .keys) b) packet output .result .count) (serverTake P (w .memory b) (keyOf (sh .keys) b) packet output .output) ≡ sentOf o
-        sent-as none f g = ap (λ (n : ℕ). take n (serverTake P (w .memory b) (keyOf (sh .keys) b) packet output .output)) (g refl)
+        sent-as : (o : Option Packet) → ((p : Packet) → o ≡ some p → take (served b packet output .result .count) (served b packet output .output) ≡ encode p)
+            → (o ≡ none → served b packet output .result .count ≡ 0) → take (served b packet output .result .count) (served b packet output .output) ≡ sentOf o
+        sent-as none f g = ap (λ (n : ℕ). take n (served b packet output .output)) (g refl)
         sent-as (some p) f g = f p refl
 
-        go : (i : ℕ) → 1 ≤ i → i ≤ shelf (sh .t) .servers → (q : Bool) → eqb i b ≡ q
-            → Holds (sh .t) i (cond q (serverStep P (shelf (sh .t)) (keyOf (sh .keys) b) b (v .server b) (length output) (decode packet) .server) (v .server i))
-            (cond q (serverTake P (w .memory b) (keyOf (sh .keys) b) packet output .memory) (w .memory i))
-        go i l k true e =
-            subst
-            (λ (j : ℕ). Holds (sh .t) j (serverStep P (shelf (sh .t)) (keyOf (sh .keys) b) b (v .server b) (length output) (decode packet) .server)
-            (serverTake P (w .memory b) (keyOf (sh .keys) b) packet output .memory))
-            (sym (eqb-true i b e)) (x .memory)
+        go : (i : ℕ) → 1 ≤ i → i ≤ s .servers → (q : Bool) → eqb i b ≡ q
+            → Holds (sh .t) i (cond q (stepped b packet output .server) (v .server i)) (cond q (served b packet output .memory) (w .memory i))
+        go i l k true e = subst (λ (j : ℕ). Holds (sh .t) j (stepped b packet output .server) (served b packet output .memory)) (sym (eqb-true i b e)) (x .memory)
         go i l k false e = m .memory i l k
 
     step-agrees : (x : Step) → Fed s x → Agrees (doValues P s (sh .writers) keys v x) (doBytes P sh w x)
