@@ -4,3 +4,6 @@ pub mod Counting
 pub mod Model
 pub mod Moves
 pub mod Rounds
+pub mod Setup
+pub mod Marks
+pub mod Begun

@@ -24,16 +24,17 @@ use Rattle.atomicity.proofs.Util.{cond-both, and-right, clash, ever-map
 use Rattle.atomicity.proofs.Model.{Run, perform, now, updated, turn, preparedFor}
 use Rattle.atomicity.proofs.Moves.{Moved, kept, wbegan, rbegan, quit, took, moved}
 
-pub data Next (s : System) (c : ℕ) : Hand → Hand → Type 0 where
-  stays : (h : Hand) → Next s c h h
-  clock-on : (r n : List ℕ) (k k' : ℕ) → k ≤ k' → Next s c (clocking r n k) (clocking r n k')
-  clock-ends : (r n : List ℕ) (k k' : ℕ) → k ≤ k' → Next s c (clocking r n k) (preparedFor s c r n (suc k'))
-  store-ends : (d : Candidate) (h : ByServer Share) → Next s c (storing d h) (completing d)
-  collect-on : (g g' : ByServer Candidate) → Next s c (collecting g) (collecting g')
-  collect-ends : (g : ByServer Candidate) (cs : List Candidate) → Next s c (collecting g) (filtering cs (λ i. noHeld))
-  filter-on : (cs : List Candidate) (g g' : ByServer Held) → Next s c (filtering cs g) (filtering cs g')
-  filter-ends : (cs : List Candidate) (g : ByServer Held) (d : Candidate) (r : List ℕ) → Next s c (filtering cs g) (repairing d r)
-  over : (h : Hand) → Next s c h idle
+-- hand and last stamp's number before, and after
+pub data Next (s : System) (c : ℕ) : Hand → ℕ → Hand → ℕ → Type 0 where
+  stays : (h : Hand) (l : ℕ) → Next s c h l h l
+  clock-on : (r n : List ℕ) (k k' l : ℕ) → k ≤ k' → Next s c (clocking r n k) l (clocking r n k') l
+  clock-ends : (r n : List ℕ) (k k' l : ℕ) → k ≤ k' → Next s c (clocking r n k) l (preparedFor s c r n (suc k')) (suc k')
+  store-ends : (d : Candidate) (h : ByServer Share) (l : ℕ) → Next s c (storing d h) l (completing d) l
+  collect-on : (g g' : ByServer Candidate) (l : ℕ) → Next s c (collecting g) l (collecting g') l
+  collect-ends : (g : ByServer Candidate) (cs : List Candidate) (l : ℕ) → Next s c (collecting g) l (filtering cs (λ i. noHeld)) l
+  filter-on : (cs : List Candidate) (g g' : ByServer Held) (l : ℕ) → Next s c (filtering cs g) l (filtering cs g') l
+  filter-ends : (cs : List Candidate) (g : ByServer Held) (d : Candidate) (r : List ℕ) (l : ℕ) → Next s c (filtering cs g) l (repairing d r) l
+  over : (h : Hand) (l : ℕ) → Next s c h l idle l
 
 pub higher-le : (s : System) (k : ℕ) (a : Stamp) → k ≤ higher (s .P) (s .writers) k a
 unfolding higher
@@ -46,44 +47,42 @@ higher-le s k a = go (checks (s .P) (s .writers) a && ltb k (a .number)) refl
 -- ---- a reply that is let in
 
 module _ (s : System) (c : ℕ) where
-  -- it keeps the call's number, is accepted, and gives a new last stamp at the end of clock only
+  -- it keeps the call's number and is accepted
   pub record Turned (cl : Client) (h : Hand) (u : Turn) : Type 0 where
     pub calls : u .client .calls ≡ cl .calls
     pub fine : accepted (u .result) ≡ true
-    pub next : Next s c h (u .client .hand)
-    pub last : (u .client .last ≡ cl .last) ⊎
-      ((r : List ℕ) × (n : List ℕ) × (k : ℕ) × (k' : ℕ) × (h ≡ clocking r n k) × (k ≤ k') × (u .client .hand ≡ preparedFor s c r n (suc k')) × (u .client .last ≡ suc k'))
+    pub next : Next s c h (cl .last) (u .client .hand) (u .client .last)
 
   found-turned : (cl : Client) (cs : List Candidate) (g g' : ByServer Held) (m : ByServer Bool) (d : Candidate) (b : ℕ) → Turned cl (filtering cs g) (found (s .P) (s .config) c (s .writers) (s .keys) cl m g' d b)
   unfolding found onto
   found-turned cl cs g g' m d b = cond-both (Turned cl (filtering cs g)) (sameList (tagsIn (s .P) (s .config) d (g' b .share)) (d .tags)) _ _
-    (record { calls = refl; fine = refl; next = over (filtering cs g); last = inl refl }) (record { calls = refl; fine = refl; next = filter-ends cs g _ _; last = inl refl })
+    (record { calls = refl; fine = refl; next = over (filtering cs g) _ }) (record { calls = refl; fine = refl; next = filter-ends cs g _ _ _ })
 
   judge-turned : (cl : Client) (cs : List Candidate) (g g' : ByServer Held) (m : ByServer Bool) (ls : List Candidate) (o : Option Candidate) →
     Turned cl (filtering cs g) (judge (s .P) (s .config) c (s .writers) (s .keys) cl m cs g' ls o)
   unfolding judge onto
-  judge-turned cl cs g g' m [] o = record { calls = refl; fine = refl; next = over (filtering cs g); last = inl refl }
-  judge-turned cl cs g g' m (l ∷ ls) none = record { calls = refl; fine = refl; next = filter-on cs g g'; last = inl refl }
+  judge-turned cl cs g g' m [] o = record { calls = refl; fine = refl; next = over (filtering cs g) _ }
+  judge-turned cl cs g g' m (l ∷ ls) none = record { calls = refl; fine = refl; next = filter-on cs g g' _ }
   judge-turned cl cs g g' m (l ∷ ls) (some d) = found-turned cl cs g g' m d (leader (s .P) (s .config) m g' d (s .config .servers))
 
   pub turned : (cl : Client) (b : ℕ) (x : Body) (m : ByServer Bool) (full : Bool) (h : Hand) → cl .hand ≡ h → Turned cl h (updated s c cl b x m full h)
   unfolding update onto
-  turned cl b x m full idle e = record { calls = refl; fine = refl; next = subst (Next s c idle) (sym e) (stays idle); last = inl refl }
+  turned cl b x m full idle e = record { calls = refl; fine = refl; next = subst (λ (z : Hand). Next s c idle (cl .last) z (cl .last)) (sym e) (stays idle _) }
   turned cl b x m true (clocking r n k) e = let l = higher-le s k (stampIn x) in
-    record { calls = refl; fine = refl; next = clock-ends r n k (higher (s .P) (s .writers) k (stampIn x)) l; last = inr (r, n, k, higher (s .P) (s .writers) k (stampIn x), refl, l, refl, refl) }
-  turned cl b x m false (clocking r n k) e = record { calls = refl; fine = refl; next = clock-on r n k _ (higher-le s k (stampIn x)); last = inl refl }
+    record { calls = refl; fine = refl; next = clock-ends r n k (higher (s .P) (s .writers) k (stampIn x)) _ l }
+  turned cl b x m false (clocking r n k) e = record { calls = refl; fine = refl; next = clock-on r n k _ _ (higher-le s k (stampIn x)) }
   turned cl b x m full (storing d h) e = cond-both (Turned cl (storing d h)) (eqb (codeIn x) 11) _ _
-    (record { calls = refl; fine = refl; next = subst (Next s c (storing d h)) (sym e) (stays (storing d h)); last = inl refl })
+    (record { calls = refl; fine = refl; next = subst (λ (z : Hand). Next s c (storing d h) (cl .last) z (cl .last)) (sym e) (stays (storing d h) _) })
     (cond-both (Turned cl (storing d h)) full _ _
-      (record { calls = refl; fine = refl; next = store-ends d h; last = inl refl }) (record { calls = refl; fine = refl; next = stays (storing d h); last = inl refl }))
-  turned cl b x m true (completing d) e = record { calls = refl; fine = refl; next = over (completing d); last = inl refl }
-  turned cl b x m false (completing d) e = record { calls = refl; fine = refl; next = stays (completing d); last = inl refl }
-  turned cl b x m true (collecting g) e = record { calls = refl; fine = refl; next = collect-ends g _; last = inl refl }
-  turned cl b x m false (collecting g) e = record { calls = refl; fine = refl; next = collect-on g _; last = inl refl }
+      (record { calls = refl; fine = refl; next = store-ends d h _ }) (record { calls = refl; fine = refl; next = stays (storing d h) _ }))
+  turned cl b x m true (completing d) e = record { calls = refl; fine = refl; next = over (completing d) _ }
+  turned cl b x m false (completing d) e = record { calls = refl; fine = refl; next = stays (completing d) _ }
+  turned cl b x m true (collecting g) e = record { calls = refl; fine = refl; next = collect-ends g _ _ }
+  turned cl b x m false (collecting g) e = record { calls = refl; fine = refl; next = collect-on g _ _ }
   turned cl b x m true (filtering cs g) e = judge-turned cl cs g _ m _ _
-  turned cl b x m false (filtering cs g) e = record { calls = refl; fine = refl; next = filter-on cs g _; last = inl refl }
-  turned cl b x m true (repairing d r) e = record { calls = refl; fine = refl; next = over (repairing d r); last = inl refl }
-  turned cl b x m false (repairing d r) e = record { calls = refl; fine = refl; next = stays (repairing d r); last = inl refl }
+  turned cl b x m false (filtering cs g) e = record { calls = refl; fine = refl; next = filter-on cs g _ _ }
+  turned cl b x m true (repairing d r) e = record { calls = refl; fine = refl; next = over (repairing d r) _ }
+  turned cl b x m false (repairing d r) e = record { calls = refl; fine = refl; next = stays (repairing d r) _ }
 
   pub turn-turned : (cl : Client) (p : Packet) → Turned cl (cl .hand) (turn s c cl p)
   turn-turned cl p = turned cl _ _ _ _ (cl .hand) refl
@@ -120,17 +119,17 @@ stage-bound (filtering cs g) = (omega arith, omega arith)
 stage-bound (repairing d r) = (omega arith, omega arith)
 
 -- a reply leaves the hand's round and request as they are, or ends the round
-pub next-stage : (s : System) (c : ℕ) (h h' : Hand) → Next s c h h' → (stage h ≤ stage h') × (stage h ≡ stage h' → (b : ℕ) → request h b ≡ request h' b)
+pub next-stage : (s : System) (c : ℕ) (h : Hand) (l : ℕ) (h' : Hand) (l' : ℕ) → Next s c h l h' l' → (stage h ≤ stage h') × (stage h ≡ stage h' → (b : ℕ) → request h b ≡ request h' b)
 unfolding stage prepared
-next-stage s c h h' (stays _) = (le-refl _, λ e b. refl)
-next-stage s c h h' (clock-on r n k k' l) = (le-refl _, λ e b. refl)
-next-stage s c h h' (clock-ends r n k k' l) = (omega arith, λ e. absurd (omega (arith, e)))
-next-stage s c h h' (store-ends d g) = (omega arith, λ e. absurd (omega (arith, e)))
-next-stage s c h h' (collect-on g g') = (le-refl _, λ e b. refl)
-next-stage s c h h' (collect-ends g cs) = (omega arith, λ e. absurd (omega (arith, e)))
-next-stage s c h h' (filter-on cs g g') = (le-refl _, λ e b. refl)
-next-stage s c h h' (filter-ends cs g d r) = (omega arith, λ e. absurd (omega (arith, e)))
-next-stage s c h h' (over _) = last h
+next-stage s c h a h' b (stays _ _) = (le-refl _, λ e b. refl)
+next-stage s c h a h' b (clock-on r n k k' _ l) = (le-refl _, λ e b. refl)
+next-stage s c h a h' b (clock-ends r n k k' _ l) = (omega arith, λ e. absurd (omega (arith, e)))
+next-stage s c h a h' b (store-ends d g _) = (omega arith, λ e. absurd (omega (arith, e)))
+next-stage s c h a h' b (collect-on g g' _) = (le-refl _, λ e b. refl)
+next-stage s c h a h' b (collect-ends g cs _) = (omega arith, λ e. absurd (omega (arith, e)))
+next-stage s c h a h' b (filter-on cs g g' _) = (le-refl _, λ e b. refl)
+next-stage s c h a h' b (filter-ends cs g d r _) = (omega arith, λ e. absurd (omega (arith, e)))
+next-stage s c h a h' b (over _ _) = last h
   where
     last : (g : Hand) → (stage g ≤ 15) × (stage g ≡ 15 → (b : ℕ) → request g b ≡ request idle b)
     last idle = (omega arith, λ e b. refl)
@@ -154,9 +153,9 @@ module _ (s : System) where
   later-refl : (cl : Client) → Later cl cl
   later-refl cl = record { mono = le-refl _; same-ask = λ e b. refl; same-calls = λ e. refl; calls-mono = le-refl _ }
 
-  later-next : (c : ℕ) (cl cl' : Client) → cl' .calls ≡ cl .calls → Next s c (cl .hand) (cl' .hand) → Later cl cl'
+  later-next : (c : ℕ) (cl cl' : Client) → cl' .calls ≡ cl .calls → Next s c (cl .hand) (cl .last) (cl' .hand) (cl' .last) → Later cl cl'
   unfolding pos
-  later-next c cl cl' e n = let k = next-stage s c (cl .hand) (cl' .hand) n in
+  later-next c cl cl' e n = let k = next-stage s c (cl .hand) (cl .last) (cl' .hand) (cl' .last) n in
     record { mono = omega (arith, k .0, e); same-ask = λ q. k .1 (omega (arith, q, e)); same-calls = λ q. sym e; calls-mono = omega (arith, e) }
 
   later-fresh : (cl : Client) (h : Hand) → Later cl (begun cl h)
@@ -166,7 +165,7 @@ module _ (s : System) where
 
   quitted : (c : ℕ) (cl : Client) → Later cl (onto cl nobody idle)
   unfolding onto
-  quitted c cl = later-next c cl _ refl (over (cl .hand))
+  quitted c cl = later-next c cl _ refl (over (cl .hand) _)
 
   pub later : (w : World) (c : ℕ) (x : Step) → Later (w .client c) (perform s w x .world .client c)
   later w c x = go (moved s c w x)
