@@ -7,3 +7,4 @@ pub mod Rounds
 pub mod Setup
 pub mod Marks
 pub mod Begun
+pub mod Servers
