@@ -8,3 +8,6 @@ pub mod Setup
 pub mod Marks
 pub mod Begun
 pub mod Servers
+pub mod Sources
+pub mod Genuine
+pub mod Heard

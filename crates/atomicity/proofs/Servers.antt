@@ -125,7 +125,7 @@ module _ (s : System) (j : ℕ) where
   -- ---- one request
 
   -- where a new latest comes from
-  pub Origin : Server → Body → Candidate → Type 0
+  abbrev pub Origin : Server → Body → Candidate → Type 0
   Origin v x c = (c ≡ blankCandidate (s .config)) ⊎ ((In c (judged x) × (isValid s j v c ≡ true)) ⊎ (x ≡ complete c))
 
   -- a server before and after the request x
@@ -155,7 +155,7 @@ module _ (s : System) (j : ℕ) where
       go e (inr (inr z)) = absurd z
 
   pub act-grows : (v : Server) (x : Body) → Grows v x (acts s j v x .server)
-  unfolding act kept Origin In
+  unfolding act kept In
   act-grows v clock = unmoved v clock
   act-grows v (store w) = cond-both (λ (a : Acted). Grows v (store w) (a .server)) (isSome (held (w .stamp) (v .history))) _ _ (unmoved v (store w))
     (cond-both (λ (a : Acted). Grows v (store w) (a .server)) (leb capacity (length (v .history))) _ _ (unmoved v (store w)) (stored v w))
