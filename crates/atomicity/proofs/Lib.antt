@@ -11,3 +11,5 @@ pub mod Servers
 pub mod Sources
 pub mod Genuine
 pub mod Heard
+pub mod States
+pub mod Telling
