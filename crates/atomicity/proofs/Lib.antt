@@ -13,3 +13,4 @@ pub mod Genuine
 pub mod Heard
 pub mod States
 pub mod Telling
+pub mod Groups
