@@ -14,3 +14,5 @@ pub mod Heard
 pub mod States
 pub mod Telling
 pub mod Groups
+pub mod Choosing
+pub mod Turns
