@@ -16,3 +16,4 @@ pub mod Telling
 pub mod Groups
 pub mod Choosing
 pub mod Turns
+pub mod Invariant
