@@ -76,7 +76,7 @@ module _ (s : System) where
       to : {cl : Client} → cl' ≡ cl → Known (x ∷ xs) c (cl .hand) → Known (x ∷ xs) c (cl' .hand)
       to e k = subst (λ (z : Client). Known (x ∷ xs) c (z .hand)) (sym e) k
       go : Moved s c w (x .step) cl' (perform s w (x .step) .result) → Known xs c (w .client c .hand) → Known (x ∷ xs) c (cl' .hand)
-      go (kept e) f = to e (known-up x xs c (w .client c .hand) f)
+      go (kept e _) f = to e (known-up x xs c (w .client c .hand) f)
       go (wbegan r n a b d l e) f = to e (inl (a, subst (λ (z : Result). accepted z ≡ true) (sym b) refl))
       go (rbegan a b d e) f = to e tt
       go (quit a b d e) f = to e tt
@@ -181,7 +181,7 @@ module _ (K : Setup) where
       on (filtering cs g) e f = tt
       on (repairing d r) e f = tt
       go : Moved (K .s) c w (x .step) cl' (perform (K .s) w (x .step) .result) → Unmarked xs (w .client c .hand) → Unmarked (x ∷ xs) (cl' .hand)
-      go (kept e) u = on (cl' .hand) refl (λ r n k q. subst (Unmarked xs) (sym (ap (λ (y : Client). y .hand) e) ∙ q) u)
+      go (kept e _) u = on (cl' .hand) refl (λ r n k q. subst (Unmarked xs) (sym (ap (λ (y : Client). y .hand) e) ∙ q) u)
       go (wbegan r n a b d l e) u = on (cl' .hand) refl (λ r' n' k q m i z. let q' : clocking r n (w .client c .last) ≡ clocking r' n' k = sym (ap (λ (y : Client). y .hand) e) ∙ q in
         let nn : n ≡ n' = cc in
         fair .0 .fresh c n (r, a, subst (λ (z : Result). accepted z ≡ true) (sym b) refl) .0 (m .client) (subst (λ (y : List ℕ). Ever (Begin K (m .client) y) xs) (z ∙ sym nn) (begins xs m i)))

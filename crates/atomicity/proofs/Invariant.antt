@@ -160,7 +160,7 @@ module _ (K : Setup) where
       At : Steps K → Steps K → Client → Type 0
       At z0 z1 cl = HandOk K (x ∷ xs) z0 z1 (cl .marks) (cl .hand)
       go : Moved (K .s) c w (x .step) cl' (perform (K .s) w (x .step) .result) → At (since (K .s) c (x ∷ xs)) (from (K .s) c (x ∷ xs)) cl'
-      go (kept e) = subst (λ (z : Steps K). At z (from (K .s) c (x ∷ xs)) cl') (sym (since-same (K .s) c x xs (sym (ap (λ (z : Client). z .calls) e))))
+      go (kept e _) = subst (λ (z : Steps K). At z (from (K .s) c (x ∷ xs)) cl') (sym (since-same (K .s) c x xs (sym (ap (λ (z : Client). z .calls) e))))
         (subst (λ (z : Steps K). At (since (K .s) c xs) z cl') (sym (from-same (K .s) c x xs (sym (ap pos e))))
           (subst (At (since (K .s) c xs) (from (K .s) c xs)) (sym e) (ok-up K (since (K .s) c xs) (from (K .s) c xs) (w .client c .marks) (hand K xs c) x xs (hands c good))))
       go (wbegan r n a b d l e) = subst (At (since (K .s) c (x ∷ xs)) (from (K .s) c (x ∷ xs))) (sym e) (record { short = none-short K; low = λ j h i. unmarked K j i })

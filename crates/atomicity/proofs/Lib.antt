@@ -17,3 +17,5 @@ pub mod Groups
 pub mod Choosing
 pub mod Turns
 pub mod Invariant
+pub mod Calls
+pub mod Replies

@@ -94,7 +94,7 @@ module _ (s : System) where
       cl' : Client
       cl' = perform s w x .world .client c
       go : Moved s c w x cl' (perform s w x .result) → Marked s w x m
-      go (kept e) = absurd (mark-none c (w .client c .hand) m (subst (λ (z : Client). In m (stampedFrom c (w .client c .hand) (z .hand))) e i))
+      go (kept e _) = absurd (mark-none c (w .client c .hand) m (subst (λ (z : Client). In m (stampedFrom c (w .client c .hand) (z .hand))) e i))
       go (wbegan r n a d f l e) = absurd (let z : _≡_ {A = ℕ} 0 1 = cc in omega arith)
       go (rbegan a d f e) = absurd (let z : _≡_ {A = ℕ} 0 1 = cc in omega arith)
       go (quit a d f e) = absurd (let z : _≡_ {A = ℕ} 0 1 = cc in omega arith)
@@ -175,7 +175,7 @@ module _ (s : System) where
       Goal : Client → Type 0
       Goal z = LastOk (z .last) (z .hand) × (w .client c .last ≤ z .last)
       go : Moved s c w x cl' (perform s w x .result) → Goal cl'
-      go (kept e) = subst Goal (sym e) (o, le-refl _)
+      go (kept e _) = subst Goal (sym e) (o, le-refl _)
       go (wbegan r n a b d l e) = subst Goal (sym e) (le-refl _, le-refl _)
       go (rbegan a b d e) = subst Goal (sym e) (tt, le-refl _)
       go (quit a b d e) = subst Goal (sym e) (tt, le-refl _)

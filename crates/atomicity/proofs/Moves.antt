@@ -41,8 +41,17 @@ pub record Fits (s : System) (c : ℕ) (cl : Client) (p : Packet) : Type 0 where
   pub new : cl .marks (p .head .server) ≡ false
   pub small : tooHigh (s .P) (s .writers) (p .body) (isFull (s .config) (upd (cl .marks) (p .head .server) true)) (cl .hand) ≡ false
 
+-- client c begins, takes or gives up
+abbrev pub acting : ℕ → Step → Bool
+acting c (write d r n) = eqb c d
+acting c (read d) = eqb c d
+acting c (make d b o) = false
+acting c (take-reply d b o) = eqb c d
+acting c (give-up d) = eqb c d
+acting c (serve b p o) = false
+
 pub data Moved (s : System) (c : ℕ) (w : World) (x : Step) (cl : Client) (res : Result) : Type 0 where
-  kept : cl ≡ w .client c → Moved s c w x cl res
+  kept : cl ≡ w .client c → (acting c x ≡ true → accepted res ≡ false) → Moved s c w x cl res
   wbegan : (r n : List ℕ) → x ≡ write c r n → res ≡ more → isIdle (w .client c .hand) ≡ true → c ≤ topWriter →
     cl ≡ begun (w .client c) (clocking r n (w .client c .last)) → Moved s c w x cl res
   rbegan : x ≡ read c → res ≡ more → isIdle (w .client c .hand) ≡ true → cl ≡ begun (w .client c) (collecting (λ b. blankCandidate (s .config))) → Moved s c w x cl res
@@ -75,9 +84,9 @@ module _ (s : System) (c : ℕ) (w : World) where
   MovedTo x a = Moved s c w x (a .world .client c) (a .result)
 
   -- client d makes the turn u
-  set-moved : (x : Step) (d : ℕ) (u : Turn) → (c ≡ d → Moved s c w x (u .client) (u .result)) → MovedTo x (setClient (s .P) (s .config) (s .writers) (s .keys) w d u)
+  set-moved : (x : Step) (d : ℕ) (u : Turn) → (eqb c d ≡ false → acting c x ≡ false) → (c ≡ d → Moved s c w x (u .client) (u .result)) → MovedTo x (setClient (s .P) (s .config) (s .writers) (s .keys) w d u)
   unfolding setClient
-  set-moved x d u f = upd-case (λ (y : Client). Moved s c w x y (u .result)) (w .client) d (u .client) c f (λ e. kept refl)
+  set-moved x d u g f = upd-case (λ (y : Client). Moved s c w x y (u .result)) (w .client) d (u .client) c f (λ e. kept refl (λ q. clash q (g e)))
 
   write-moved : (r n : List ℕ) → Moved s c w (write c r n) (writeStep (s .config) c (w .client c) r n .client) (writeStep (s .config) c (w .client c) r n .result)
   unfolding writeStep writeRefusal
@@ -87,7 +96,7 @@ module _ (s : System) (c : ℕ) (w : World) where
       let z3 = cond-zero (not (within leastLength topLength (length r))) 5 _ (z2 .1) in
       let z4 = cond-zero (not (isIdle (w .client c .hand))) 12 _ (z3 .1) in
       wbegan r n refl refl (not-false _ (z4 .0)) (leb-true c topWriter (and-right (leb 1 c) (leb c topWriter) (not-false _ (z2 .0)))) refl)
-    (λ k e. kept refl)
+    (λ k e. kept refl (λ q. refl))
 
   read-moved : Moved s c w (read c) (readStep (s .config) c (w .client c) .client) (readStep (s .config) c (w .client c) .result)
   unfolding readStep readRefusal
@@ -96,7 +105,7 @@ module _ (s : System) (c : ℕ) (w : World) where
       let z2 = cond-zero (not (within 1 topClient c)) 4 _ (z1 .1) in
       let z3 = cond-zero (not (isIdle (w .client c .hand))) 12 _ (z2 .1) in
       rbegan refl refl (not-false _ (z3 .0)) refl)
-    (λ k e. kept refl)
+    (λ k e. kept refl (λ q. refl))
 
   quit-moved : Moved s c w (give-up c) (abortStep (s .config) c (w .client c) .client) (abortStep (s .config) c (w .client c) .result)
   unfolding abortStep abortRefusal
@@ -105,7 +114,7 @@ module _ (s : System) (c : ℕ) (w : World) where
       let z2 = cond-zero (not (within 1 topClient c)) 4 _ (z1 .1) in
       let z3 = cond-zero (not (not (isIdle (w .client c .hand)))) 12 _ (z2 .1) in
       quit refl refl (not-t _ (not-false _ (z3 .0))) refl)
-    (λ k e. kept refl)
+    (λ k e. kept refl (λ q. refl))
 
   take-moved : (b o : List ℕ) (q : Option Packet) → decode b ≡ q →
     Moved s c w (take-reply c b o) (takeStep (s .P) (s .config) c (s .writers) (s .keys) (w .client c) q (length o) .client) (takeStep (s .P) (s .config) c (s .writers) (s .keys) (w .client c) q (length o) .result)
@@ -113,20 +122,20 @@ module _ (s : System) (c : ℕ) (w : World) where
   take-moved b o none d = refusal-case (λ (u : Turn). Moved s c w (take-reply c b o) (u .client) (u .result))
     (takeRefusal (s .config) c none (w .client c .calls) (awaits (w .client c .hand)) (w .client c .marks) (highAt (s .P) (s .config) c (s .writers) (s .keys) (w .client c)) (length o)) _ _
     (λ e. let z1 = cond-zero (badFaults (s .config)) 2 _ e in let z2 = cond-zero (not (within 1 topClient c)) 4 _ (z1 .1) in absurd (omega (arith, z2 .1)))
-    (λ k e. kept refl)
+    (λ k e. kept refl (λ q. refl))
   take-moved b o (some p) d = refusal-case (λ (u : Turn). Moved s c w (take-reply c b o) (u .client) (u .result))
     (takeRefusal (s .config) c (some p) (w .client c .calls) (awaits (w .client c .hand)) (w .client c .marks) (highAt (s .P) (s .config) c (s .writers) (s .keys) (w .client c)) (length o)) _ _
     (λ e. took p b o refl d (take-fits s c (w .client c) p (length o) e) refl refl)
-    (λ k e. kept refl)
+    (λ k e. kept refl (λ q. refl))
 
   pub moved : (x : Step) → Moved s c w x (perform s w x .world .client c) (perform s w x .result)
   unfolding doValues setClient
-  moved (write d r n) = set-moved (write d r n) d _ (λ e. subst (λ (i : ℕ). Moved s c w (write i r n) (writeStep (s .config) i (w .client i) r n .client) (writeStep (s .config) i (w .client i) r n .result)) e (write-moved r n))
-  moved (read d) = set-moved (read d) d _ (λ e. subst (λ (i : ℕ). Moved s c w (read i) (readStep (s .config) i (w .client i) .client) (readStep (s .config) i (w .client i) .result)) e read-moved)
-  moved (make d b o) = kept refl
-  moved (take-reply d b o) = set-moved (take-reply d b o) d _ (λ e. subst (λ (i : ℕ). Moved s c w (take-reply i b o) (takeStep (s .P) (s .config) i (s .writers) (s .keys) (w .client i) (decode b) (length o) .client) (takeStep (s .P) (s .config) i (s .writers) (s .keys) (w .client i) (decode b) (length o) .result)) e (take-moved b o (decode b) refl))
-  moved (give-up d) = set-moved (give-up d) d _ (λ e. subst (λ (i : ℕ). Moved s c w (give-up i) (abortStep (s .config) i (w .client i) .client) (abortStep (s .config) i (w .client i) .result)) e quit-moved)
-  moved (serve b p o) = kept refl
+  moved (write d r n) = set-moved (write d r n) d _ (λ e. e) (λ e. subst (λ (i : ℕ). Moved s c w (write i r n) (writeStep (s .config) i (w .client i) r n .client) (writeStep (s .config) i (w .client i) r n .result)) e (write-moved r n))
+  moved (read d) = set-moved (read d) d _ (λ e. e) (λ e. subst (λ (i : ℕ). Moved s c w (read i) (readStep (s .config) i (w .client i) .client) (readStep (s .config) i (w .client i) .result)) e read-moved)
+  moved (make d b o) = kept refl (λ q. clash q refl)
+  moved (take-reply d b o) = set-moved (take-reply d b o) d _ (λ e. e) (λ e. subst (λ (i : ℕ). Moved s c w (take-reply i b o) (takeStep (s .P) (s .config) i (s .writers) (s .keys) (w .client i) (decode b) (length o) .client) (takeStep (s .P) (s .config) i (s .writers) (s .keys) (w .client i) (decode b) (length o) .result)) e (take-moved b o (decode b) refl))
+  moved (give-up d) = set-moved (give-up d) d _ (λ e. e) (λ e. subst (λ (i : ℕ). Moved s c w (give-up i) (abortStep (s .config) i (w .client i) .client) (abortStep (s .config) i (w .client i) .result)) e quit-moved)
+  moved (serve b p o) = kept refl (λ q. clash q refl)
 
 -- ---- a server
 

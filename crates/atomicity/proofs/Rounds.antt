@@ -173,7 +173,7 @@ module _ (s : System) where
       cl' : Client
       cl' = perform s w x .world .client c
       go : Moved s c w x cl' (perform s w x .result) → Later (w .client c) cl'
-      go (kept e) = subst (Later (w .client c)) (sym e) (later-refl (w .client c))
+      go (kept e _) = subst (Later (w .client c)) (sym e) (later-refl (w .client c))
       go (wbegan r n a b d l e) = subst (Later (w .client c)) (sym e) (later-fresh (w .client c) _)
       go (rbegan a b d e) = subst (Later (w .client c)) (sym e) (later-fresh (w .client c) _)
       go (quit a b d e) = subst (Later (w .client c)) (sym e) (quitted c (w .client c))
