@@ -13,10 +13,10 @@ use lib.ListN.{length}
 use Rattle.protocol.specs.declared.Stamp.{Stamp}
 use Rattle.protocol.specs.Values.{Candidate, Share, below, blankStamp}
 use Rattle.protocol.specs.Packet.{Packet, decode}
-use Rattle.protocol.specs.Client.{Client, Hand, idle, clocking, storing, completing, collecting, filtering, repairing, begun, onto}
+use Rattle.protocol.specs.Client.{Client, Hand, Result, idle, clocking, storing, completing, collecting, filtering, repairing, begun, onto}
 use Rattle.protocol.specs.Runs.{Step, take-reply, Typed, World, nowValues}
 use Rattle.atomicity.specs.Lists.{Ever, Always, In}
-use Rattle.atomicity.specs.Steps.{System, Stamped, stampedAt}
+use Rattle.atomicity.specs.Steps.{System, Stamped, accepted, stampedAt}
 use Rattle.atomicity.specs.Claim.{Call}
 use Rattle.atomicity.proofs.Util.{cond-case, left-in, right-in}
 use Rattle.atomicity.proofs.Model.{Run, perform, now, account, marks}
@@ -164,7 +164,7 @@ module _ (K : Setup) where
 
   -- a call that takes no reply in this step
   pub carry : (x : StepOf K) (xs : Steps K) (a : Call) (σ : Stamp) → CallOk xs a σ →
-    ((p : Packet) (b o : List ℕ) → x .step ≡ take-reply (a .client) b o → decode b ≡ some p → Fits (K .s) (a .client) (now (K .s) xs .client (a .client)) p → a .number ≡ calls K xs (a .client) → ⊥) →
+    ((p : Packet) (b o : List ℕ) → x .step ≡ take-reply (a .client) b o → decode b ≡ some p → accepted (perform (K .s) (now (K .s) xs) (x .step) .result) ≡ true → a .number ≡ calls K xs (a .client) → ⊥) →
     CallOk (x ∷ xs) a σ
   unfolding nowValues Cur begun onto
   carry x xs a σ h f = go (moved (K .s) (a .client) (now (K .s) xs) (x .step))
@@ -181,5 +181,5 @@ module _ (K : Setup) where
         record { base = base-up x xs a σ (omega (arith, q)) (h .base); current = λ n. absurd (omega (arith, n, q, h .base .number-le)) }
       go (quit s b i e) = let q : cl' .calls ≡ calls K xs (a .client) = ap (λ (z : Client). z .calls) e in
         record { base = base-up x xs a σ (omega (arith, q)) (h .base); current = λ n. subst (λ (z : Client). Cur (x ∷ xs) a σ (z .hand)) (sym e) tt }
-      go (took p b o s rd fit e v) = let q : cl' .calls ≡ calls K xs (a .client) = ap (λ (z : Client). z .calls) e ∙ turn-turned (K .s) (a .client) (now (K .s) xs .client (a .client)) p .calls in
-        record { base = base-up x xs a σ (omega (arith, q)) (h .base); current = λ n. absurd (f p b o s rd fit (n ∙ q)) }
+      go (took p b o s rd fit e v) = let t = turn-turned (K .s) (a .client) (now (K .s) xs .client (a .client)) p in let q : cl' .calls ≡ calls K xs (a .client) = ap (λ (z : Client). z .calls) e ∙ t .calls in
+        record { base = base-up x xs a σ (omega (arith, q)) (h .base); current = λ n. absurd (f p b o s rd (subst (λ (z : Result). accepted z ≡ true) (sym v) (t .fine)) (n ∙ q)) }

@@ -19,3 +19,5 @@ pub mod Turns
 pub mod Invariant
 pub mod Calls
 pub mod Replies
+pub mod Logs
+pub mod Story
