@@ -21,3 +21,7 @@ pub mod Calls
 pub mod Replies
 pub mod Logs
 pub mod Story
+pub mod Sorting
+pub mod Keys
+pub mod Ordering
+pub mod Safety

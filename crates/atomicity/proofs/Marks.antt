@@ -196,16 +196,18 @@ module _ (s : System) where
       go (inl k) r = let t = mark-source (now s xs) (x .step) m k in omega (arith, ap (λ (a : Stamp). a .number) (t .stamp-is), t .last-is)
       go (inr k) r = omega (arith, r k, last-step (now s xs) (m .client) (x .step) (last-ok xs (m .client)) .1)
 
+  -- a new mark is above the old ones of its client
+  pub above : (x : Typed (s .config)) (xs : Run s) (a b : Stamped) → a .client ≡ b .client → Marked s (now s xs) (x .step) a → In b (marks s xs) → b .stamp .number < a .stamp .number
+  unfolding stampOf LastOk
+  above x xs a b w t j = omega (arith, ap (λ (a : Stamp). a .number) (t .stamp-is), t .rises, capped xs b j, ap (λ (c : ℕ). now s xs .client c .last) w,
+    subst (LastOk (now s xs .client (a .client) .last)) (t .was) (last-ok xs (a .client)))
+
   -- two marks of one client with one number are one
   one-mark : (xs : Run s) (a b : Stamped) → In a (marks s xs) → In b (marks s xs) → a .client ≡ b .client → a .stamp .number ≡ b .stamp .number → a ≡ b
   unfolding marks nowValues In stampOf LastOk
   one-mark [] a b i j w n = absurd i
   one-mark (x ∷ xs) a b i j w n = go (split-in a (stampedAt s (account s) x xs) (marks s xs) i) (split-in b (stampedAt s (account s) x xs) (marks s xs) j) (λ k l. one-mark xs a b k l w n)
     where
-      -- a new one is above the old ones
-      above : (a b : Stamped) → a .client ≡ b .client → Marked s (now s xs) (x .step) a → In b (marks s xs) → b .stamp .number < a .stamp .number
-      above a b w t j = omega (arith, ap (λ (a : Stamp). a .number) (t .stamp-is), t .rises, capped xs b j, ap (λ (c : ℕ). now s xs .client c .last) w,
-        subst (LastOk (now s xs .client (a .client) .last)) (t .was) (last-ok xs (a .client)))
       both : Marked s (now s xs) (x .step) a → Marked s (now s xs) (x .step) b → a ≡ b
       both t u =
         let h : clocking (a .content) (a .nonce) (t .top) ≡ clocking (b .content) (b .nonce) (u .top) = sym (t .was) ∙ ap (λ (i : ℕ). now s xs .client i .hand) w ∙ u .was in
@@ -214,8 +216,8 @@ module _ (s : System) where
         (λ i. record { client = w i; content = r i; nonce = q i; stamp = σ i })
       go : In a (stampedAt s (account s) x xs) ⊎ In a (marks s xs) → In b (stampedAt s (account s) x xs) ⊎ In b (marks s xs) → (In a (marks s xs) → In b (marks s xs) → a ≡ b) → a ≡ b
       go (inl k) (inl l) r = both (mark-source (now s xs) (x .step) a k) (mark-source (now s xs) (x .step) b l)
-      go (inl k) (inr l) r = absurd (omega (arith, n, above a b w (mark-source (now s xs) (x .step) a k) l))
-      go (inr k) (inl l) r = absurd (omega (arith, n, above b a (sym w) (mark-source (now s xs) (x .step) b l) k))
+      go (inl k) (inr l) r = absurd (omega (arith, n, above x xs a b w (mark-source (now s xs) (x .step) a k) l))
+      go (inr k) (inl l) r = absurd (omega (arith, n, above x xs b a (sym w) (mark-source (now s xs) (x .step) b l) k))
       go (inr k) (inr l) r = r k l
 
   pub by-stamp : (xs : Run s) (a b : Stamped) → In a (marks s xs) → In b (marks s xs) → a .stamp .number ≡ b .stamp .number → a .stamp .writer ≡ b .stamp .writer → a ≡ b
