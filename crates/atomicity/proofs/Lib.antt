@@ -25,3 +25,7 @@ pub mod Sorting
 pub mod Keys
 pub mod Ordering
 pub mod Safety
+pub mod Listed
+pub mod Bounds
+pub mod Numbers
+pub mod Full

@@ -187,7 +187,7 @@ module _ (s : System) where
   last-ok (x ∷ xs) c = last-step (now s xs) c (x .step) (last-ok xs c) .0
 
   -- no mark's number is above its client's last
-  capped : (xs : Run s) (m : Stamped) → In m (marks s xs) → m .stamp .number ≤ now s xs .client (m .client) .last
+  pub capped : (xs : Run s) (m : Stamped) → In m (marks s xs) → m .stamp .number ≤ now s xs .client (m .client) .last
   unfolding marks nowValues In stampOf
   capped [] m i = absurd i
   capped (x ∷ xs) m i = go (split-in m (stampedAt s (account s) x xs) (marks s xs) i) (λ k. capped xs m k)

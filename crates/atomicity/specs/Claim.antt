@@ -149,7 +149,7 @@ module _ (s : System) (A : Account (s .config)) (correct : Correct) where
   CameIn l c b =
       Ever
       (λ x xs. (reply : List ℕ) × (o : List ℕ) × (p : Packet) × (x .step ≡ take-reply c reply o) × (cameIn (A .result x xs) ≡ true) × (decode reply ≡ some p)
-      × (p .head .server ≡ b) × (p .head .call ≡ A .client l c .calls) × (kindOf (p .body) ≡ awaits (A .client l c .hand))
+      × (p .head .client ≡ c) × (p .head .server ≡ b) × (p .head .call ≡ A .client l c .calls) × (kindOf (p .body) ≡ awaits (A .client l c .hand))
       × Sent s A correct (serves b) reply xs)
       l
 
