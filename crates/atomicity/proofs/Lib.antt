@@ -29,3 +29,4 @@ pub mod Listed
 pub mod Bounds
 pub mod Numbers
 pub mod Full
+pub mod Arrived
