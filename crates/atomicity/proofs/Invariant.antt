@@ -108,7 +108,7 @@ module _ (K : Setup) where
   piece-in repairReply f e = absurd (let z : _≡_ {A = ℕ} 0 1 = cc in omega arith)
 
   -- what a hand awaits is of even kind
-  awaits-even : (h : Hand) → odd (awaits h) ≡ false
+  pub awaits-even : (h : Hand) → odd (awaits h) ≡ false
   unfolding awaits
   awaits-even idle = refl
   awaits-even (clocking r n k) = refl

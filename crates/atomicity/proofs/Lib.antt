@@ -30,3 +30,4 @@ pub mod Bounds
 pub mod Numbers
 pub mod Full
 pub mod Arrived
+pub mod Waiting

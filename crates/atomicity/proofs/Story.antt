@@ -20,7 +20,7 @@ use Rattle.atomicity.specs.Steps.{System, Stamped, accepted}
 use Rattle.atomicity.specs.Claim.{Call, log}
 use Rattle.atomicity.proofs.Util.{cond-case, clash, left-in, right-in, in-map, map-in, all-of}
 use Rattle.atomicity.proofs.Model.{Run, perform, now, account, marks}
-use Rattle.atomicity.proofs.Setup.{Setup, Steps, StepOf, Fair, Show, hand, calls}
+use Rattle.atomicity.proofs.Setup.{Setup, Steps, StepOf, Meets, Fair, Show, hand, calls}
 use Rattle.atomicity.proofs.Moves.{Moved, kept, wbegan, rbegan, quit, took, moved, acting}
 use Rattle.atomicity.proofs.Rounds.{turn-turned}
 use Rattle.atomicity.proofs.Marks.{by-stamp, marks-up}
@@ -34,6 +34,10 @@ module _ (K : Setup) where
   unfoldable pub past : (x : StepOf K) (xs : Steps K) → Fair K (x ∷ xs) → Fair K xs
   unfolding Always
   past x xs fair = fair .1
+
+  pub meets : (x : StepOf K) (xs : Steps K) → Fair K (x ∷ xs) → Meets K x xs
+  unfolding Always
+  meets x xs fair = fair .0
 
   unfoldable pub stepSigned : (x : StepOf K) (xs : Steps K) → Fair K (x ∷ xs) → Signed K xs → Signed K (x ∷ xs)
   stepSigned x xs fair g = let r = step-call K x xs fair (g .call) (g .stamp) (g .ok) (x .step) refl in record { call = touched K x xs (x .step) (g .call); stamp = r .0; ok = r .1 }
