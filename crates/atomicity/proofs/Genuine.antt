@@ -114,7 +114,7 @@ module _ (K : Setup) where
     pub fine : accepted (perform (K .s) (now (K .s) xs) (x .step) .result) ≡ true
 
   -- a property of lists that the step gives, if it is accepted and a server's
-  at-serve : {A : Type 0} (u : A) (x : StepOf K) (xs : Steps K) (j : ℕ) (p : Packet) → Judging x xs j p → (f : Step → List A) → ((b o : List ℕ) → decode b ≡ some p → In u (f (serve j b o))) →
+  pub at-serve : {A : Type 0} (u : A) (x : StepOf K) (xs : Steps K) (j : ℕ) (p : Packet) → Judging x xs j p → (f : Step → List A) → ((b o : List ℕ) → decode b ≡ some p → In u (f (serve j b o))) →
     In u (cond (accepted (perform (K .s) (now (K .s) xs) (x .step) .result)) (f (x .step)) [])
   at-serve {A} u x xs j p t f h = let v = serve-shape j (x .step) (t .by) in
     subst (λ (b : Bool). In u (cond b (f (x .step)) [])) (sym (t .fine)) (subst (λ (y : Step). In u (f y)) (sym (v .2)) (h (v .0) (v .1) (ap packetIn (sym (v .2)) ∙ t .got)))

@@ -64,7 +64,7 @@ module _ (K : Setup) where
     pub nonce-is : write .nonce ≡ n
     pub full : FullAt K zs (write .stamp)
 
-  shown-at : (c : ℕ) (n : List ℕ) (y : StepOf K) (ys : Steps K) → Meets K y ys → Hands ys → Show K c n y ys → Shown (y ∷ ys) c n
+  pub shown-at : (c : ℕ) (n : List ℕ) (y : StepOf K) (ys : Steps K) → Meets K y ys → Hands ys → Show K c n y ys → Shown (y ∷ ys) c n
   unfolding Hands HandOk Known Shows
   shown-at c n y ys prem hands h =
     let v = show-hand c n y ys h in
@@ -74,7 +74,7 @@ module _ (K : Setup) where
     record { write = f .0; made = marks-up (K .s) (f .0) y ys (f .1); nonce-is = sym (ap (λ (z : Candidate). z .nonce) (f .3)) ∙ v .2;
       full = full-up K (f .0 .stamp) y ys (subst (λ (z : Candidate). FullAt K ys (z .stamp)) (f .3) (k .full)) }
 
-  shown-up : (c : ℕ) (n : List ℕ) (x : StepOf K) (xs : Steps K) → Shown xs c n → Shown (x ∷ xs) c n
+  pub shown-up : (c : ℕ) (n : List ℕ) (x : StepOf K) (xs : Steps K) → Shown xs c n → Shown (x ∷ xs) c n
   shown-up c n x xs h = record { write = h .write; made = marks-up (K .s) (h .write) x xs (h .made); nonce-is = h .nonce-is; full = full-up K (h .write .stamp) x xs (h .full) }
 
   pub zip : (P R : StepOf K → Steps K → Type 0) (xs : Steps K) → Always P xs → Always R xs → Always (λ y ys. P y ys × R y ys) xs

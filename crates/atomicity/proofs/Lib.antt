@@ -31,3 +31,7 @@ pub mod Numbers
 pub mod Full
 pub mod Arrived
 pub mod Waiting
+pub mod Suffixes
+pub mod Moments
+pub mod Decides
+pub mod OneServer
