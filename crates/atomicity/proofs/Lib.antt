@@ -35,3 +35,4 @@ pub mod Suffixes
 pub mod Moments
 pub mod Decides
 pub mod OneServer
+pub mod Real
