@@ -49,7 +49,7 @@ module _ (K : Setup) where
   ends-since c (x ∷ xs) a e h l = go (eqb (calls K xs c) (calls K (x ∷ xs) c)) h l (λ k m. ends-since c xs a e k m) (since-length c xs)
     where
       go : (b : Bool) → Ends K a e (x ∷ xs) → e < length (cond b (since (K .s) c xs) xs) → (Ends K a e xs → e < length (since (K .s) c xs) → Ends K a e (since (K .s) c xs)) →
-        length (since (K .s) c xs) ≤ length xs → Ends K a e (cond b (since (K .s) c xs) xs)
+          length (since (K .s) c xs) ≤ length xs → Ends K a e (cond b (since (K .s) c xs) xs)
       go true (inl k) m f n = absurd (omega (arith, k .0, m, n))
       go true (inr k) m f n = f k m
       go false (inl k) m f n = absurd (omega (arith, k .0, m))
@@ -128,7 +128,9 @@ module _ (K : Setup) where
     ended = λ e q. let r = h .ended e q in (r .0, omega (arith, r .1), inr (r .2));
     write = λ v p q. let r = h .write v p q in record { floor = λ b e k m. r .floor b e (ends-back x xs b e k (omega (arith, m, h .begun-lt))) m; write = r .write; mine = r .mine; content-is = r .content-is; stamp-is = r .stamp-is; since-when = inr (r .since-when) };
     read = λ e p q. let r = h .read e p q in record { floor = λ b e k m. r .floor b e (ends-back x xs b e k (omega (arith, m, h .begun-lt))) m; value = go (r .value) };
-    reaches = h .reaches; leaves = h .leaves }
+    reaches = h .reaches;
+    leaves = h .leaves;
+  }
     where
       go : ((a .answer ≡ none) × (σ ≡ blankStamp)) ⊎ ((m : Stamped) × Given xs a σ m) → ((a .answer ≡ none) × (σ ≡ blankStamp)) ⊎ ((m : Stamped) × Given (x ∷ xs) a σ m)
       go (inl p) = inl p
@@ -164,22 +166,25 @@ module _ (K : Setup) where
 
   -- a call that takes no reply in this step
   pub carry : (x : StepOf K) (xs : Steps K) (a : Call) (σ : Stamp) → CallOk xs a σ →
-    ((p : Packet) (b o : List ℕ) → x .step ≡ take-reply (a .client) b o → decode b ≡ some p → accepted (perform (K .s) (now (K .s) xs) (x .step) .result) ≡ true → a .number ≡ calls K xs (a .client) → ⊥) →
-    CallOk (x ∷ xs) a σ
+      ((p : Packet) (b o : List ℕ) → x .step ≡ take-reply (a .client) b o → decode b ≡ some p → accepted (perform (K .s) (now (K .s) xs) (x .step) .result) ≡ true → a .number ≡ calls K xs (a .client) → ⊥) →
+      CallOk (x ∷ xs) a σ
   unfolding nowValues Cur begun onto
   carry x xs a σ h f = go (moved (K .s) (a .client) (now (K .s) xs) (x .step))
     where
       cl' : Client
       cl' = perform (K .s) (now (K .s) xs) (x .step) .world .client (a .client)
+
       go : Moved (K .s) (a .client) (now (K .s) xs) (x .step) cl' (perform (K .s) (now (K .s) xs) (x .step) .result) → CallOk (x ∷ xs) a σ
       go (kept e _) = let q : calls K xs (a .client) ≡ cl' .calls = sym (ap (λ (z : Client). z .calls) e) in
-        record { base = base-up x xs a σ (omega (arith, q)) (h .base);
-          current = λ n. subst (λ (z : Client). Cur (x ∷ xs) a σ (z .hand)) (sym e) (cur-up x xs a σ (hand K xs (a .client)) q (h .current (n ∙ sym q))) }
+          record {
+            base = base-up x xs a σ (omega (arith, q)) (h .base);
+            current = λ n. subst (λ (z : Client). Cur (x ∷ xs) a σ (z .hand)) (sym e) (cur-up x xs a σ (hand K xs (a .client)) q (h .current (n ∙ sym q)));
+          }
       go (wbegan r n s b i l e) = let q : cl' .calls ≡ suc (calls K xs (a .client)) = ap (λ (z : Client). z .calls) e in
-        record { base = base-up x xs a σ (omega (arith, q)) (h .base); current = λ n. absurd (omega (arith, n, q, h .base .number-le)) }
+          record { base = base-up x xs a σ (omega (arith, q)) (h .base); current = λ n. absurd (omega (arith, n, q, h .base .number-le)) }
       go (rbegan s b i e) = let q : cl' .calls ≡ suc (calls K xs (a .client)) = ap (λ (z : Client). z .calls) e in
-        record { base = base-up x xs a σ (omega (arith, q)) (h .base); current = λ n. absurd (omega (arith, n, q, h .base .number-le)) }
+          record { base = base-up x xs a σ (omega (arith, q)) (h .base); current = λ n. absurd (omega (arith, n, q, h .base .number-le)) }
       go (quit s b i e) = let q : cl' .calls ≡ calls K xs (a .client) = ap (λ (z : Client). z .calls) e in
-        record { base = base-up x xs a σ (omega (arith, q)) (h .base); current = λ n. subst (λ (z : Client). Cur (x ∷ xs) a σ (z .hand)) (sym e) tt }
+          record { base = base-up x xs a σ (omega (arith, q)) (h .base); current = λ n. subst (λ (z : Client). Cur (x ∷ xs) a σ (z .hand)) (sym e) tt }
       go (took p b o s rd fit e v) = let t = turn-turned (K .s) (a .client) (now (K .s) xs .client (a .client)) p in let q : cl' .calls ≡ calls K xs (a .client) = ap (λ (z : Client). z .calls) e ∙ t .calls in
-        record { base = base-up x xs a σ (omega (arith, q)) (h .base); current = λ n. absurd (f p b o s rd (subst (λ (z : Result). accepted z ≡ true) (sym v) (t .fine)) (n ∙ q)) }
+          record { base = base-up x xs a σ (omega (arith, q)) (h .base); current = λ n. absurd (f p b o s rd (subst (λ (z : Result). accepted z ≡ true) (sym v) (t .fine)) (n ∙ q)) }

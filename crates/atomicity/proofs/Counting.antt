@@ -18,7 +18,7 @@ meet-one true true false = omega arith
 meet-one true true true = omega arith
 
 pub meet-count : (h a b : ℕ → Bool) (n : ℕ) →
-  countTo n (λ x. h x && a x) + countTo n (λ x. h x && b x) ≤ countTo n h + countTo n (λ x. h x && (a x && b x))
+    countTo n (λ x. h x && a x) + countTo n (λ x. h x && b x) ≤ countTo n h + countTo n (λ x. h x && (a x && b x))
 unfolding countTo
 meet-count h a b zero = omega arith
 meet-count h a b (suc n) = omega (arith, meet-count h a b n, meet-one (h (suc n)) (a (suc n)) (b (suc n)))
@@ -62,7 +62,7 @@ pub count-mono : (p r : ℕ → Bool) (n : ℕ) → ((x : ℕ) → 1 ≤ x → x
 unfolding countTo
 count-mono p r zero h = omega arith
 count-mono p r (suc n) h =
-  omega (arith, count-mono p r n (λ x a b. h x a (omega arith)), mono-one (p (suc n)) (r (suc n)) (h (suc n) (omega arith) (omega arith)))
+    omega (arith, count-mono p r n (λ x a b. h x a (omega arith)), mono-one (p (suc n)) (r (suc n)) (h (suc n) (omega arith) (omega arith)))
 
 -- nobody is marked
 pub count-none : (p : ℕ → Bool) (n : ℕ) → ((x : ℕ) → p x ≡ false) → countTo n p ≡ 0
@@ -82,9 +82,9 @@ count-upd m b zero lo hi e = absurd (omega arith)
 count-upd m b (suc n) lo hi e = go (eqb (suc n) b) refl (λ k. count-upd m b n lo k e)
   where
     go : (t : Bool) → eqb (suc n) b ≡ t → (b ≤ n → countTo n (upd m b true) ≡ suc (countTo n m)) →
-      cond (cond t true (m (suc n))) 1 0 + countTo n (upd m b true) ≡ suc (cond (m (suc n)) 1 0 + countTo n m)
+        cond (cond t true (m (suc n))) 1 0 + countTo n (upd m b true) ≡ suc (cond (m (suc n)) 1 0 + countTo n m)
     go true q f = let z : suc n ≡ b = eqb-true (suc n) b q in
-      omega (arith, upd-out m b n (omega (arith, z)), ap {B = ℕ} (λ (t : Bool). cond t 1 0) (ap m z ∙ e))
+        omega (arith, upd-out m b n (omega (arith, z)), ap {B = ℕ} (λ (t : Bool). cond t 1 0) (ap m z ∙ e))
     go false q f = omega (arith, f (below-b (eqb-false (suc n) b q)))
       where
         below-b : (suc n ≡ b → ⊥) → b ≤ n
@@ -99,17 +99,17 @@ quorum-sum s l = omega (arith, l .most)
 module _ (s : Config) (legal : Legal s) (correct : ℕ → Bool) (few : countTo (s .servers) (λ b. not (correct b)) ≤ s .t) where
   -- two quorums, less the liars, share a correct server
   pub share : (a b : ℕ → Bool) →
-    quorum s ≤ countTo (s .servers) (λ x. correct x && a x) + countTo (s .servers) (λ x. not (correct x)) →
-    quorum s ≤ countTo (s .servers) (λ x. correct x && b x) + countTo (s .servers) (λ x. not (correct x)) →
-    (x : ℕ) × (1 ≤ x) × (x ≤ s .servers) × ((correct x && (a x && b x)) ≡ true)
+      quorum s ≤ countTo (s .servers) (λ x. correct x && a x) + countTo (s .servers) (λ x. not (correct x)) →
+      quorum s ≤ countTo (s .servers) (λ x. correct x && b x) + countTo (s .servers) (λ x. not (correct x)) →
+      (x : ℕ) × (1 ≤ x) × (x ≤ s .servers) × ((correct x && (a x && b x)) ≡ true)
   share a b ha hb = found (λ x. correct x && (a x && b x)) (s .servers)
-    (omega (arith, meet-count correct a b (s .servers), split-count correct (s .servers), quorum-sum s legal, legal .most))
+      (omega (arith, meet-count correct a b (s .servers), split-count correct (s .servers), quorum-sum s legal, legal .most))
 
   -- a quorum of correct replies and a store quorum share k correct servers, however many lie
   pub share-k : (a b : ℕ → Bool) →
-    quorum s ≤ countTo (s .servers) (λ x. correct x && a x) + countTo (s .servers) (λ x. not (correct x)) →
-    quorum s ≤ countTo (s .servers) (λ x. correct x && b x) →
-    s .shares ≤ countTo (s .servers) (λ x. correct x && (a x && b x))
+      quorum s ≤ countTo (s .servers) (λ x. correct x && a x) + countTo (s .servers) (λ x. not (correct x)) →
+      quorum s ≤ countTo (s .servers) (λ x. correct x && b x) →
+      s .shares ≤ countTo (s .servers) (λ x. correct x && (a x && b x))
   share-k a b ha hb = omega (arith, meet-count correct a b (s .servers), split-count correct (s .servers), quorum-sum s legal, legal .covered)
 
   -- a quorum, less the liars

@@ -48,7 +48,7 @@ act-apart : (s : System) (j : ℕ) (v : Server) (x : Body) → Apart v → Apart
 unfolding act kept Apart
 act-apart s j v clock h = h
 act-apart s j v (store w) h = cond-case (λ (a : Acted). Apart (a .server)) (isSome (held (w .stamp) (v .history))) _ _ (λ e. h)
-  (λ e. cond-both (λ (a : Acted). Apart (a .server)) (leb capacity (length (v .history))) _ _ h
+    (λ e. cond-both (λ (a : Acted). Apart (a .server)) (leb capacity (length (v .history))) _ _ h
     (pairs-snoc (λ (a b : Write). a .stamp ≡ b .stamp → ⊥) (v .history) w h (all-of (λ (a : Write). a .stamp ≡ w .stamp → ⊥) (v .history) (λ a i q. clash (in-held (w .stamp) (v .history) a i q) e))))
 act-apart s j v (complete c) h = raise-apart c v h
 act-apart s j v collect h = h
@@ -66,8 +66,8 @@ unfolding act kept
 store-full s j v w = go (isSome (held (w .stamp) (v .history))) refl (leb capacity (length (v .history))) refl
   where
     go : (u : Bool) → isSome (held (w .stamp) (v .history)) ≡ u → (t : Bool) → leb capacity (length (v .history)) ≡ t →
-      codeIn ((cond {A = Acted} u (record { server = v; reply = storeReply 10 }) (cond t (record { server = v; reply = storeReply 11 }) (record { server = record { latest = v .latest; history = v .history ++ (w ∷ []) }; reply = storeReply 0 }))) .reply) ≡ 11 →
-      (isSome (held (w .stamp) (v .history)) ≡ false) × (capacity ≤ length (v .history))
+        codeIn ((cond {A = Acted} u (record { server = v; reply = storeReply 10 }) (cond t (record { server = v; reply = storeReply 11 }) (record { server = record { latest = v .latest; history = v .history ++ (w ∷ []) }; reply = storeReply 0 }))) .reply) ≡ 11 →
+        (isSome (held (w .stamp) (v .history)) ≡ false) × (capacity ≤ length (v .history))
     go true p t q k = absurd (omega (arith, k))
     go false p true q k = (p, leb-true capacity (length (v .history)) q)
     go false p false q k = absurd (omega (arith, k))
@@ -93,21 +93,27 @@ module _ (K : Setup) where
   pub eleven : (c j : ℕ) (xs : Steps K) → (d : Candidate) (g : ByServer Share) → hand K xs c ≡ storing d g → (x : Body) → Ever (Heard K c j xs x) xs → codeIn x ≡ 11 → capacity < length (marks (K .s) xs)
   unfolding Known AllPairs In
   eleven c j xs d g hq x ev k =
-    let v = rise (Moment j (d .stamp)) (λ x zs f. record { ys = f .ys; kept-marks = λ m i. marks-up (K .s) m x zs (f .kept-marks m i); fair-then = f .fair-then; not-held = f .not-held; is-full = f .is-full }) xs
+      let v = rise (Moment j (d .stamp)) (λ x zs f. record { ys = f .ys; kept-marks = λ m i. marks-up (K .s) m x zs (f .kept-marks m i); fair-then = f .fair-then; not-held = f .not-held; is-full = f .is-full }) xs
       (ever-map (Heard K c j xs x) (λ y ys. Moment j (d .stamp) (y ∷ ys)) (λ y ys t. let a = at-step K c j xs x (storing d g) hq y ys t in
-        let w = store-full (K .s) j (now (K .s) ys .server j) (record { stamp = d .stamp; share = g j }) (sym (ap codeIn (a .says)) ∙ k) in
-        record { ys = ys; kept-marks = λ m i. marks-up (K .s) m y ys i; fair-then = a .old; not-held = w .0; is-full = w .1 }) xs ev) in
-    let es = map (λ (e : Write). e .stamp) (hist K (v .ys) j) in
-    let f = subst (Known (K .s) xs c) hq (known (K .s) xs c) in
-    omega (arith, v .is-full, map-size (λ (e : Write). e .stamp) (hist K (v .ys) j), map-size (λ (m : Stamped). m .stamp) (marks (K .s) xs),
-      pigeon (d .stamp ∷ es) (map (λ (m : Stamped). m .stamp) (marks (K .s) xs))
-        (all-of (λ z. d .stamp ≡ z → ⊥) es (λ z i q. let w = map-in (λ (e : Write). e .stamp) (hist K (v .ys) j) z i in clash (in-held (d .stamp) (hist K (v .ys) j) (w .0) (w .1) (sym (q ∙ w .2))) (v .not-held)),
-          map-apart (λ (e : Write). e .stamp) (λ a b. a .stamp ≡ b .stamp → ⊥) (hist K (v .ys) j) (λ a b i j r e. r e) (history-apart (v .ys) j))
-        (λ z i. each (v .ys) z (subst (λ (y : Stamp). In y (map (λ (m : Stamped). m .stamp) (marks (K .s) xs))) (sym (ap (λ (y : Candidate). y .stamp) (f .3))) (in-map (λ (m : Stamped). m .stamp) (marks (K .s) xs) (f .0) (f .1)))
-          (λ e l. let o = history K (v .ys) (v .fair-then) j e l in
-          subst (λ (y : Stamp). In y (map (λ (m : Stamped). m .stamp) (marks (K .s) xs))) (sym (ap (λ (y : Write). y .stamp) (o .2))) (in-map (λ (m : Stamped). m .stamp) (marks (K .s) xs) (o .0) (v .kept-marks (o .0) (o .1)))) i))
+      let w = store-full (K .s) j (now (K .s) ys .server j) (record { stamp = d .stamp; share = g j }) (sym (ap codeIn (a .says)) ∙ k) in
+      record { ys = ys; kept-marks = λ m i. marks-up (K .s) m y ys i; fair-then = a .old; not-held = w .0; is-full = w .1 }) xs ev) in
+      let es = map (λ (e : Write). e .stamp) (hist K (v .ys) j) in
+      let f = subst (Known (K .s) xs c) hq (known (K .s) xs c) in
+      omega (
+        arith,
+        v .is-full,
+        map-size (λ (e : Write). e .stamp) (hist K (v .ys) j),
+        map-size (λ (m : Stamped). m .stamp) (marks (K .s) xs),
+        pigeon (d .stamp ∷ es) (map (λ (m : Stamped). m .stamp) (marks (K .s) xs)) (
+          all-of (λ z. d .stamp ≡ z → ⊥) es (λ z i q. let w = map-in (λ (e : Write). e .stamp) (hist K (v .ys) j) z i in clash (in-held (d .stamp) (hist K (v .ys) j) (w .0) (w .1) (sym (q ∙ w .2))) (v .not-held)),
+          map-apart (λ (e : Write). e .stamp) (λ a b. a .stamp ≡ b .stamp → ⊥) (hist K (v .ys) j) (λ a b i j r e. r e) (history-apart (v .ys) j),
+        )
+            (λ z i. each (v .ys) z (subst (λ (y : Stamp). In y (map (λ (m : Stamped). m .stamp) (marks (K .s) xs))) (sym (ap (λ (y : Candidate). y .stamp) (f .3))) (in-map (λ (m : Stamped). m .stamp) (marks (K .s) xs) (f .0) (f .1)))
+            (λ e l. let o = history K (v .ys) (v .fair-then) j e l in
+            subst (λ (y : Stamp). In y (map (λ (m : Stamped). m .stamp) (marks (K .s) xs))) (sym (ap (λ (y : Write). y .stamp) (o .2))) (in-map (λ (m : Stamped). m .stamp) (marks (K .s) xs) (o .0) (v .kept-marks (o .0) (o .1)))) i),
+      )
     where
       each : (zs : Steps K) (z : Stamp) → In (d .stamp) (map (λ (m : Stamped). m .stamp) (marks (K .s) xs)) → ((e : Write) → In e (hist K zs j) → In (e .stamp) (map (λ (m : Stamped). m .stamp) (marks (K .s) xs))) →
-        (z ≡ d .stamp) ⊎ In z (map (λ (e : Write). e .stamp) (hist K zs j)) → In z (map (λ (m : Stamped). m .stamp) (marks (K .s) xs))
+          (z ≡ d .stamp) ⊎ In z (map (λ (e : Write). e .stamp) (hist K zs j)) → In z (map (λ (m : Stamped). m .stamp) (marks (K .s) xs))
       each zs z f g (inl q) = subst (λ (y : Stamp). In y (map (λ (m : Stamped). m .stamp) (marks (K .s) xs))) (sym q) f
       each zs z f g (inr i) = let w = map-in (λ (e : Write). e .stamp) (hist K zs j) z i in subst (λ (y : Stamp). In y (map (λ (m : Stamped). m .stamp) (marks (K .s) xs))) (sym (w .2)) (g (w .0) (w .1))

@@ -41,7 +41,7 @@ module _ (K : Setup) where
   pub held-up : (x : StepOf K) (xs : Steps K) (j : ℕ) (a : Stamp) → isSome (held a (hist K xs j)) ≡ true → isSome (held a (hist K (x ∷ xs) j)) ≡ true
   unfolding nowValues
   held-up x xs j a h = let f = is-some (held a (hist K xs j)) h in let e = held-some a (f .0) (hist K xs j) (f .1) in
-    in-held a (hist K (x ∷ xs) j) (e .0) (history-keeps (K .s) (now (K .s) xs) j (x .step) (e .0) (e .1)) (e .2)
+      in-held a (hist K (x ∷ xs) j) (e .0) (history-keeps (K .s) (now (K .s) xs) j (x .step) (e .0) (e .1)) (e .2)
 
   -- from the moment when the call or the round began
   pub since-up : (c : ℕ) (P : Steps K → Type 0) → ((x : StepOf K) (xs : Steps K) → P xs → P (x ∷ xs)) → (xs : Steps K) → P (since (K .s) c xs) → P xs
@@ -77,7 +77,7 @@ pub act-kind : (s : System) (j : ℕ) (v : Server) (c : ℕ) (x : Body) → barr
 unfolding act kept barred
 act-kind s j v c clock e = refl
 act-kind s j v c (store w) e = cond-both (λ (a : Acted). kindOf (a .reply) ≡ 4) (isSome (held (w .stamp) (v .history))) _ _ refl
-  (cond-both (λ (a : Acted). kindOf (a .reply) ≡ 4) (leb capacity (length (v .history))) _ _ refl refl)
+    (cond-both (λ (a : Acted). kindOf (a .reply) ≡ 4) (leb capacity (length (v .history))) _ _ refl refl)
 act-kind s j v c (complete d) e = refl
 act-kind s j v c collect e = refl
 act-kind s j v c (filter cs) e = refl
@@ -116,45 +116,55 @@ module _ (K : Setup) where
 
   -- the client's position when it made the request behind a reply
   asked-pos : (p : Packet) (y : StepOf K) (ys : Steps K) (t : Told K p y ys) (z : StepOf K) (zs : Steps K) → MadeBy K (makes (p .head .client)) (t .behind .ask) z zs →
-    (isIdle (hand K zs (p .head .client)) ≡ false) × (pos (now (K .s) zs .client (p .head .client)) ≡ 16 * p .head .call + kindOf (p .body)) × (t .behind .ask .body ≡ request (hand K zs (p .head .client)) (p .head .server))
+      (isIdle (hand K zs (p .head .client)) ≡ false) × (pos (now (K .s) zs .client (p .head .client)) ≡ 16 * p .head .call + kindOf (p .body)) × (t .behind .ask .body ≡ request (hand K zs (p .head .client)) (p .head .server))
   unfolding pos made replyTo
   asked-pos p y ys t z zs h =
-    let d = p .head .client in
-    let a = t .behind in
-    let m = making (K .s) (now (K .s) zs) d (z .step) (a .ask) (h .0) (h .2) in
-    let bq : a .ask .body ≡ request (hand K zs d) (m .to) = ap (λ (x : Packet). x .body) (m .is) in
-    let k : kindOf (p .body) ≡ awaits (hand K zs d) = ap (λ (x : Packet). kindOf (x .body)) (a .reply) ∙ act-kind (K .s) (p .head .server) _ (a .ask .head .client) (a .ask .body) (a .asked .allowed)
+      let d = p .head .client in
+      let a = t .behind in
+      let m = making (K .s) (now (K .s) zs) d (z .step) (a .ask) (h .0) (h .2) in
+      let bq : a .ask .body ≡ request (hand K zs d) (m .to) = ap (λ (x : Packet). x .body) (m .is) in
+      let k : kindOf (p .body) ≡ awaits (hand K zs d) = ap (λ (x : Packet). kindOf (x .body)) (a .reply) ∙ act-kind (K .s) (p .head .server) _ (a .ask .head .client) (a .ask .body) (a .asked .allowed)
       ∙ ap (λ (x : Body). suc (kindOf x)) bq ∙ request-kind (hand K zs d) (m .to) (m .busy) in
-    let cq : p .head .call ≡ calls K zs d = sym (t .same-call) ∙ ap (λ (x : Packet). x .head .call) (m .is) in
-    let to-is : m .to ≡ p .head .server = sym (ap (λ (x : Packet). x .head .server) (m .is)) ∙ a .asked .mine in
-    (m .busy, omega (arith, k, cq, stage-awaits (hand K zs d) (m .busy)), bq ∙ ap (request (hand K zs d)) to-is)
+      let cq : p .head .call ≡ calls K zs d = sym (t .same-call) ∙ ap (λ (x : Packet). x .head .call) (m .is) in
+      let to-is : m .to ≡ p .head .server = sym (ap (λ (x : Packet). x .head .server) (m .is)) ∙ a .asked .mine in
+      (m .busy, omega (arith, k, cq, stage-awaits (hand K zs d) (m .busy)), bq ∙ ap (request (hand K zs d)) to-is)
 
   -- the moment of the request behind a reply
   pub asked-at : (c : ℕ) (p : Packet) (y : StepOf K) (ys : Steps K) → p .head .client ≡ c → Told K p y ys →
-    Ever (λ z zs. Before (K .s) c zs ys × (pos (now (K .s) zs .client c) ≡ 16 * p .head .call + kindOf (p .body))) ys
+      Ever (λ z zs. Before (K .s) c zs ys × (pos (now (K .s) zs .client c) ≡ 16 * p .head .call + kindOf (p .body))) ys
   asked-at c p y ys mine t = ever-map (λ z zs. MadeBy K (makes (p .head .client)) (t .behind .ask) z zs × Before (K .s) c zs ys) _
-    (λ z zs h. (h .1, subst (λ (i : ℕ). pos (now (K .s) zs .client i) ≡ 16 * p .head .call + kindOf (p .body)) mine (asked-pos p y ys t z zs (h .0) .1)))
-    ys (ever-before (K .s) c (MadeBy K (makes (p .head .client)) (t .behind .ask)) ys (t .source))
+      (λ z zs h. (h .1, subst (λ (i : ℕ). pos (now (K .s) zs .client i) ≡ 16 * p .head .call + kindOf (p .body)) mine (asked-pos p y ys t z zs (h .0) .1)))
+      ys (ever-before (K .s) c (MadeBy K (makes (p .head .client)) (t .behind .ask)) ys (t .source))
 
   heard-at : (c : ℕ) (xs : Steps K) (p : Packet) → p .head .client ≡ c → p .head .call ≡ calls K xs c → isIdle (hand K xs c) ≡ false → kindOf (p .body) ≡ awaits (hand K xs c) →
-    (y : StepOf K) (ys : Steps K) → Meets K y ys → Fair K ys → Told K p y ys → Before (K .s) c ys xs → Heard c (p .head .server) xs (p .body) y ys
+      (y : StepOf K) (ys : Steps K) → Meets K y ys → Fair K ys → Told K p y ys → Before (K .s) c ys xs → Heard c (p .head .server) xs (p .body) y ys
   unfolding nowValues pos replyTo
   heard-at c xs p mine call busy kind y ys prem old t bef = ever-out _ ys
-    (λ z zs h.
+      (λ z zs h.
       let a = t .behind in
       let q = asked-pos p y ys t z zs (h .0) in
       let here : pos (now (K .s) zs .client c) ≡ pos (now (K .s) xs .client c) =
-        subst (λ (i : ℕ). pos (now (K .s) zs .client i) ≡ pos (now (K .s) xs .client c)) mine (omega (arith, q .1, call, kind, stage-awaits (hand K xs c) busy)) in
+      subst (λ (i : ℕ). pos (now (K .s) zs .client i) ≡ pos (now (K .s) xs .client c)) mine (omega (arith, q .1, call, kind, stage-awaits (hand K xs c) busy)) in
       let e1 = h .1 .round (omega (arith, here, h .1 .low, bef .low)) in
       let e2 = bef .round (omega (arith, here, h .1 .low, bef .low)) in
-      record { ask = a .ask; by = t .by; got = a .got;
+      record {
+        ask = a .ask;
+        by = t .by;
+        got = a .got;
         body-is = q .2 ∙ ap (λ (i : ℕ). request (hand K zs i) (p .head .server)) mine ∙ e1 .2 (p .head .server) ∙ e2 .2 (p .head .server);
-        fine = a .fine; says = ap (λ (x : Packet). x .body) (a .reply); after = a .after; prem = prem; old = old; from-is = e2 .0; since-is = e2 .1 })
-    (ever-before (K .s) c (MadeBy K (makes (p .head .client)) (t .behind .ask)) ys (t .source))
+        fine = a .fine;
+        says = ap (λ (x : Packet). x .body) (a .reply);
+        after = a .after;
+        prem = prem;
+        old = old;
+        from-is = e2 .0;
+        since-is = e2 .1;
+      })
+      (ever-before (K .s) c (MadeBy K (makes (p .head .client)) (t .behind .ask)) ys (t .source))
 
   pub heard : (c : ℕ) (xs : Steps K) → Fair K xs → (p : Packet) → K .correct .client c ≡ true → p .head .client ≡ c → p .head .call ≡ calls K xs c →
-    isIdle (hand K xs c) ≡ false → kindOf (p .body) ≡ awaits (hand K xs c) → Ever (MadeBy K (serves (p .head .server)) p) xs → Ever (Heard c (p .head .server) xs (p .body)) xs
+      isIdle (hand K xs c) ≡ false → kindOf (p .body) ≡ awaits (hand K xs c) → Ever (MadeBy K (serves (p .head .server)) p) xs → Ever (Heard c (p .head .server) xs (p .body)) xs
   heard c xs fair p good mine call busy kind ev =
-    let t = reply-source K xs fair p (subst (λ (i : ℕ). K .correct .client i ≡ true) (sym mine) good) ev in
-    let u = ever-with (Meets K) (Told K p) xs fair t in
-    ever-map _ _ (λ y ys h. heard-at c xs p mine call busy kind y ys (h .0 .0) (h .0 .1) (h .0 .2) (h .1)) xs (ever-before (K .s) c _ xs u)
+      let t = reply-source K xs fair p (subst (λ (i : ℕ). K .correct .client i ≡ true) (sym mine) good) ev in
+      let u = ever-with (Meets K) (Told K p) xs fair t in
+      ever-map _ _ (λ y ys h. heard-at c xs p mine call busy kind y ys (h .0 .0) (h .0 .1) (h .0 .2) (h .1)) xs (ever-before (K .s) c _ xs u)

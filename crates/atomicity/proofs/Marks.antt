@@ -64,14 +64,14 @@ mark-idle c (repairing d r) m i = i
 module _ (s : System) where
   Ended : ℕ → Hand → Hand → ℕ → Stamped → Type 0
   Ended c h h' l' m = (m .client ≡ c) × (k : ℕ) × (k' : ℕ) × (h ≡ clocking (m .content) (m .nonce) k) × (k ≤ k')
-    × (h' ≡ preparedFor s c (m .content) (m .nonce) (suc k')) × (l' ≡ suc k') × (m .stamp ≡ stampFor s c (suc k'))
+      × (h' ≡ preparedFor s c (m .content) (m .nonce) (suc k')) × (l' ≡ suc k') × (m .stamp ≡ stampFor s c (suc k'))
 
   from-next : (c : ℕ) (h : Hand) (l : ℕ) (h' : Hand) (l' : ℕ) (m : Stamped) → Next s c h l h' l' → In m (stampedFrom c h h') → Ended c h h' l' m
   unfolding stampedFrom In prepared candidateMade Ended
   from-next c h l h' l' m (stays _ _) i = absurd (mark-none c h m i)
   from-next c h l h' l' m (clock-on r n k k' _ e) i = absurd i
   from-next c h l h' l' m (clock-ends r n k k' _ e) (inl q) =
-    subst (Ended c (clocking r n k) (preparedFor s c r n (suc k')) (suc k')) (sym q) (refl, k, k', refl, e, refl, refl, refl)
+      subst (Ended c (clocking r n k) (preparedFor s c r n (suc k')) (suc k')) (sym q) (refl, k, k', refl, e, refl, refl, refl)
   from-next c h l h' l' m (clock-ends r n k k' _ e) (inr i) = absurd i
   from-next c h l h' l' m (store-ends d g _) i = absurd i
   from-next c h l h' l' m (collect-on g g' _) i = absurd i
@@ -91,23 +91,32 @@ module _ (s : System) where
     where
       x : Step
       x = take-reply c b o
+
       cl' : Client
       cl' = perform s w x .world .client c
+
       go : Moved s c w x cl' (perform s w x .result) → Marked s w x m
       go (kept e _) = absurd (mark-none c (w .client c .hand) m (subst (λ (z : Client). In m (stampedFrom c (w .client c .hand) (z .hand))) e i))
       go (wbegan r n a d f l e) = absurd (let z : _≡_ {A = ℕ} 0 1 = cc in omega arith)
       go (rbegan a d f e) = absurd (let z : _≡_ {A = ℕ} 0 1 = cc in omega arith)
       go (quit a d f e) = absurd (let z : _≡_ {A = ℕ} 0 1 = cc in omega arith)
       go (took p b' o' a d f e r) =
-        let t = turn-turned s c (w .client c) p in
-        let g = from-next c (w .client c .hand) (w .client c .last) (cl' .hand) (cl' .last) m
+          let t = turn-turned s c (w .client c) p in
+          let g = from-next c (w .client c .hand) (w .client c .last) (cl' .hand) (cl' .last) m
           (subst (λ (z : Client). Next s c (w .client c .hand) (w .client c .last) (z .hand) (z .last)) (sym e) (t .next)) i in
-        record { packet = b; output = o; step = ap (λ (d : ℕ). take-reply d b o) (sym (g .0)); top = g .1; top' = g .2;
-          was = ap (λ (d : ℕ). w .client d .hand) (g .0) ∙ g .3; rises = g .4;
-          is = ap (λ (d : ℕ). perform s w x .world .client d .hand) (g .0) ∙ g .5 ∙ ap (λ (d : ℕ). preparedFor s d (m .content) (m .nonce) (suc (g .2))) (sym (g .0));
-          last-is = ap (λ (d : ℕ). perform s w x .world .client d .last) (g .0) ∙ g .6;
-          stamp-is = g .7 ∙ ap (λ (d : ℕ). stampFor s d (suc (g .2))) (sym (g .0));
-          fine = subst (λ (z : Result). accepted z ≡ true) (sym r) (t .fine) }
+          record {
+            packet = b;
+            output = o;
+            step = ap (λ (d : ℕ). take-reply d b o) (sym (g .0));
+            top = g .1;
+            top' = g .2;
+            was = ap (λ (d : ℕ). w .client d .hand) (g .0) ∙ g .3;
+            rises = g .4;
+            is = ap (λ (d : ℕ). perform s w x .world .client d .hand) (g .0) ∙ g .5 ∙ ap (λ (d : ℕ). preparedFor s d (m .content) (m .nonce) (suc (g .2))) (sym (g .0));
+            last-is = ap (λ (d : ℕ). perform s w x .world .client d .last) (g .0) ∙ g .6;
+            stamp-is = g .7 ∙ ap (λ (d : ℕ). stampFor s d (suc (g .2))) (sym (g .0));
+            fine = subst (λ (z : Result). accepted z ≡ true) (sym r) (t .fine);
+          }
 
   -- a property of each new mark is one of all
   pub mark-all : (P : Stamped → Type 0) → ((x : Typed (s .config)) (xs : Run s) (m : Stamped) → Marked s (now s xs) (x .step) m → P m) → (xs : Run s) (m : Stamped) → In m (marks s xs) → P m
@@ -126,7 +135,7 @@ module _ (s : System) where
   pub mark-form : (xs : Run s) (m : Stamped) → In m (marks s xs) → m .stamp ≡ stampFor s (m .client) (m .stamp .number)
   unfolding stampOf
   mark-form = mark-all (λ (m : Stamped). m .stamp ≡ stampFor s (m .client) (m .stamp .number))
-    (λ x xs m t. t .stamp-is ∙ ap (λ (k : ℕ). stampFor s (m .client) k) (sym (ap (λ (a : Stamp). a .number) (t .stamp-is))))
+      (λ x xs m t. t .stamp-is ∙ ap (λ (k : ℕ). stampFor s (m .client) k) (sym (ap (λ (a : Stamp). a .number) (t .stamp-is))))
 
   pub mark-who : (xs : Run s) (m : Stamped) → In m (marks s xs) → m .stamp .writer ≡ m .client
   unfolding stampOf
@@ -135,7 +144,7 @@ module _ (s : System) where
   pub mark-checks : (xs : Run s) (m : Stamped) → In m (marks s xs) → checks (s .P) (s .writers) (m .stamp) ≡ true
   unfolding checks isBlank stampOf
   mark-checks xs m i = subst (λ (a : Stamp). (not (eqb (a .number) 0) && sameList (a .tag) (s .P .tag (s .writers) (stampMessage (a .number) (a .writer)))) ≡ true) (sym (mark-form xs m i))
-    (and-intro _ _ (not-f _ (ne-eqb (m .stamp .number) 0 (λ e. omega (arith, e, mark-num xs m i)))) (same-refl (s .P .tag (s .writers) (stampMessage (m .stamp .number) (m .client)))))
+      (and-intro _ _ (not-f _ (ne-eqb (m .stamp .number) 0 (λ e. omega (arith, e, mark-num xs m i)))) (same-refl (s .P .tag (s .writers) (stampMessage (m .stamp .number) (m .client)))))
 
   pub marks-up : (m : Stamped) (x : Typed (s .config)) (xs : Run s) → In m (marks s xs) → In m (marks s (x ∷ xs))
   unfolding marks
@@ -166,14 +175,16 @@ module _ (s : System) where
   last-next c h l h' l' (over _ _) o = (tt, le-refl l)
 
   last-step : (w : World) (c : ℕ) (x : Step) → LastOk (w .client c .last) (w .client c .hand) →
-    LastOk (perform s w x .world .client c .last) (perform s w x .world .client c .hand) × (w .client c .last ≤ perform s w x .world .client c .last)
+      LastOk (perform s w x .world .client c .last) (perform s w x .world .client c .hand) × (w .client c .last ≤ perform s w x .world .client c .last)
   unfolding begun onto LastOk
   last-step w c x o = go (moved s c w x)
     where
       cl' : Client
       cl' = perform s w x .world .client c
+
       Goal : Client → Type 0
       Goal z = LastOk (z .last) (z .hand) × (w .client c .last ≤ z .last)
+
       go : Moved s c w x cl' (perform s w x .result) → Goal cl'
       go (kept e _) = subst Goal (sym e) (o, le-refl _)
       go (wbegan r n a b d l e) = subst Goal (sym e) (le-refl _, le-refl _)
@@ -199,8 +210,14 @@ module _ (s : System) where
   -- a new mark is above the old ones of its client
   pub above : (x : Typed (s .config)) (xs : Run s) (a b : Stamped) → a .client ≡ b .client → Marked s (now s xs) (x .step) a → In b (marks s xs) → b .stamp .number < a .stamp .number
   unfolding stampOf LastOk
-  above x xs a b w t j = omega (arith, ap (λ (a : Stamp). a .number) (t .stamp-is), t .rises, capped xs b j, ap (λ (c : ℕ). now s xs .client c .last) w,
-    subst (LastOk (now s xs .client (a .client) .last)) (t .was) (last-ok xs (a .client)))
+  above x xs a b w t j = omega (
+    arith,
+    ap (λ (a : Stamp). a .number) (t .stamp-is),
+    t .rises,
+    capped xs b j,
+    ap (λ (c : ℕ). now s xs .client c .last) w,
+    subst (LastOk (now s xs .client (a .client) .last)) (t .was) (last-ok xs (a .client)),
+  )
 
   -- two marks of one client with one number are one
   one-mark : (xs : Run s) (a b : Stamped) → In a (marks s xs) → In b (marks s xs) → a .client ≡ b .client → a .stamp .number ≡ b .stamp .number → a ≡ b
@@ -210,10 +227,11 @@ module _ (s : System) where
     where
       both : Marked s (now s xs) (x .step) a → Marked s (now s xs) (x .step) b → a ≡ b
       both t u =
-        let h : clocking (a .content) (a .nonce) (t .top) ≡ clocking (b .content) (b .nonce) (u .top) = sym (t .was) ∙ ap (λ (i : ℕ). now s xs .client i .hand) w ∙ u .was in
-        let r : a .content ≡ b .content = cc in let q : a .nonce ≡ b .nonce = cc in
-        let σ : a .stamp ≡ b .stamp = mark-form (x ∷ xs) a i ∙ ap (λ (c : ℕ). stampFor s c (a .stamp .number)) w ∙ ap (λ (k : ℕ). stampFor s (b .client) k) n ∙ sym (mark-form (x ∷ xs) b j) in
-        (λ i. record { client = w i; content = r i; nonce = q i; stamp = σ i })
+          let h : clocking (a .content) (a .nonce) (t .top) ≡ clocking (b .content) (b .nonce) (u .top) = sym (t .was) ∙ ap (λ (i : ℕ). now s xs .client i .hand) w ∙ u .was in
+          let r : a .content ≡ b .content = cc in let q : a .nonce ≡ b .nonce = cc in
+          let σ : a .stamp ≡ b .stamp = mark-form (x ∷ xs) a i ∙ ap (λ (c : ℕ). stampFor s c (a .stamp .number)) w ∙ ap (λ (k : ℕ). stampFor s (b .client) k) n ∙ sym (mark-form (x ∷ xs) b j) in
+          (λ i. record { client = w i; content = r i; nonce = q i; stamp = σ i })
+
       go : In a (stampedAt s (account s) x xs) ⊎ In a (marks s xs) → In b (stampedAt s (account s) x xs) ⊎ In b (marks s xs) → (In a (marks s xs) → In b (marks s xs) → a ≡ b) → a ≡ b
       go (inl k) (inl l) r = both (mark-source (now s xs) (x .step) a k) (mark-source (now s xs) (x .step) b l)
       go (inl k) (inr l) r = absurd (omega (arith, n, above x xs a b w (mark-source (now s xs) (x .step) a k) l))

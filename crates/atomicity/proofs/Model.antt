@@ -115,7 +115,7 @@ module _ (s : System) where
     pub reads : (x : Typed (s .config)) (xs : Run s) (p : Packet) → decode (sentOf (perform (now xs) (x .step) .sent)) ≡ some p → perform (now xs) (x .step) .sent ≡ some p
     -- the ranges of a packet's head
     pub heads : (b : List ℕ) (p : Packet) → decode b ≡ some p → p .head .t ≡ s .config .t
-      → (1 ≤ p .head .client) × (p .head .client ≤ topClient) × (1 ≤ p .head .server) × (p .head .server ≤ s .config .servers)
+        → (1 ≤ p .head .client) × (p .head .client ≤ topClient) × (1 ≤ p .head .server) × (p .head .server ≤ s .config .servers)
     -- entry i of a run
     pub digest-at : (f : ℕ → List ℕ) (i : ℕ) → 1 ≤ i → i ≤ s .config .servers → nth digestSize (runOf (s .config .servers) (λ j. s .P .digest (f j))) i ≡ s .P .digest (f i)
     pub tag-at : (k f : ℕ → List ℕ) (i : ℕ) → 1 ≤ i → i ≤ s .config .servers → nth tagSize (runOf (s .config .servers) (λ j. s .P .tag (k j) (f j))) i ≡ s .P .tag (k i) (f i)
@@ -125,4 +125,4 @@ module _ (s : System) where
     pub apart : (a : Stamp) (m : List ℕ) (c d : ℕ) → candidateMessage a (s .P .digest m) ≡ stampMessage c d → ⊥
     -- k fragments of different servers give a content back
     pub restores : (r : List ℕ) → Bytes r → (is : List ℕ) → AllPairs (λ a b. eqb a b ≡ false) is → All (λ i. (1 ≤ i) × (i ≤ s .config .servers)) is → s .config .shares ≤ length is
-      → s .P .restored (s .config .points) (s .config .shares) (length r) (map (λ i. record { server = i; bytes = fragmentFor r i }) is) ≡ r
+        → s .P .restored (s .config .points) (s .config .shares) (length r) (map (λ i. record { server = i; bytes = fragmentFor r i }) is) ≡ r

@@ -61,17 +61,28 @@ module _ (K : Setup) (xs : Steps K) (fair : Fair K xs) (cs : List Candidate) (g 
     where
       go : (t : Bool) → told (suc n) ≡ t → (o : Bool) → leb 1 (countTo n told) ≡ o → 1 ≤ cond t 1 0 + countTo n told → (1 ≤ countTo n told → Earliest n) → Earliest (suc n)
       go false e o q l f = let r = f (omega arith) in
-        (r .0, r .1, λ u lo hi h. bool-case (leb u n) (λ t. r .2 u lo (leb-true u n t) h) (λ t. let z : u ≡ suc n = omega (arith, leb-false u n t) in clash (subst (λ (i : ℕ). told i ≡ true) z h) e))
-      go true e false q l f = let M = moment (suc n) e in
-        (suc n, M, λ u lo hi h. bool-case (leb u n) (λ t. absurd (omega (arith, leb-false 1 (countTo n told) q, counted-one n told u lo (leb-true u n t) h)))
-          (λ t. let z : u ≡ suc n = omega (arith, leb-false u n t) in subst (λ (i : ℕ). (N : Moment i) × Suf (M .ys) (N .ys)) (sym z) (M, suf-refl (M .ys))))
+          (r .0, r .1, λ u lo hi h. bool-case (leb u n) (λ t. r .2 u lo (leb-true u n t) h) (λ t. let z : u ≡ suc n = omega (arith, leb-false u n t) in clash (subst (λ (i : ℕ). told i ≡ true) z h) e))
+      go true e false q l f = let M = moment (suc n) e in (
+        suc n,
+        M,
+        λ u lo hi h. bool-case (leb u n) (λ t. absurd (omega (arith, leb-false 1 (countTo n told) q, counted-one n told u lo (leb-true u n t) h)))
+            (λ t. let z : u ≡ suc n = omega (arith, leb-false u n t) in subst (λ (i : ℕ). (N : Moment i) × Suf (M .ys) (N .ys)) (sym z) (M, suf-refl (M .ys))),
+      )
       go true e true q l f = let r = f (leb-true 1 (countTo n told) q) in let M = moment (suc n) e in pick r M (suf-total (M .ys) (r .1 .ys) xs (before-now (suc n) M) (before-now (r .0) (r .1)))
         where
           pick : (r : Earliest n) (M : Moment (suc n)) → Suf (M .ys) (r .1 .ys) ⊎ Suf (r .1 .ys) (M .ys) → Earliest (suc n)
-          pick r M (inl s) = (suc n, M, λ u lo hi h. bool-case (leb u n) (λ t. let k = r .2 u lo (leb-true u n t) h in (k .0, suf-trans (M .ys) (r .1 .ys) (k .0 .ys) s (k .1)))
-            (λ t. let z : u ≡ suc n = omega (arith, leb-false u n t) in subst (λ (i : ℕ). (N : Moment i) × Suf (M .ys) (N .ys)) (sym z) (M, suf-refl (M .ys))))
-          pick r M (inr s) = (r .0, r .1, λ u lo hi h. bool-case (leb u n) (λ t. r .2 u lo (leb-true u n t) h)
-            (λ t. let z : u ≡ suc n = omega (arith, leb-false u n t) in subst (λ (i : ℕ). (N : Moment i) × Suf (r .1 .ys) (N .ys)) (sym z) (M, s)))
+          pick r M (inl s) = (
+            suc n,
+            M,
+            λ u lo hi h. bool-case (leb u n) (λ t. let k = r .2 u lo (leb-true u n t) h in (k .0, suf-trans (M .ys) (r .1 .ys) (k .0 .ys) s (k .1)))
+                (λ t. let z : u ≡ suc n = omega (arith, leb-false u n t) in subst (λ (i : ℕ). (N : Moment i) × Suf (M .ys) (N .ys)) (sym z) (M, suf-refl (M .ys))),
+          )
+          pick r M (inr s) = (
+            r .0,
+            r .1,
+            λ u lo hi h. bool-case (leb u n) (λ t. r .2 u lo (leb-true u n t) h)
+                (λ t. let z : u ≡ suc n = omega (arith, leb-false u n t) in subst (λ (i : ℕ). (N : Moment i) × Suf (r .1 .ys) (N .ys)) (sym z) (M, s)),
+          )
 
   -- ---- what a server found at its moment
 
@@ -80,6 +91,7 @@ module _ (K : Setup) (xs : Steps K) (fair : Fair K xs) (cs : List Candidate) (g 
     where
       b : Candidate
       b = best K cs j (M .ys)
+
       go : (b ≡ blankCandidate (K .s .config)) ⊎ (In b cs × (isValid (K .s) j (now (K .s) (M .ys) .server j) b ≡ true)) → (b ≡ blankCandidate (K .s .config)) ⊎ (In b cs × Genuine K (M .ys) b)
       go (inl e) = inl e
       go (inr v) = let T = M .sat in inr (v .0, genuine K (M .y) (M .ys) (T .old) j (T .ask) (T .judging) b (subst (λ (z : Body). In b (judged z)) (sym (T .asked)) (v .0)) (v .1))
@@ -103,15 +115,16 @@ module _ (K : Setup) (xs : Steps K) (fair : Fair K xs) (cs : List Candidate) (g 
   pub then-genuine : (j : ℕ) (M : Moment j) (d : Candidate) → In d cs → Genuine K xs d → Genuine K (M .ys) d × FullAt K (M .ys) (d .stamp)
   unfolding NoEarlyNonce noncesBy
   then-genuine j M d i gen =
-    let T = M .sat in let w = gen .write in let y = M .y in let ys = M .ys in
-    let seen : In (w .nonce) (noncesGot (K .s) (account (K .s)) y ys) = at-serve K (w .nonce) y ys j (T .ask) (T .judging) (noncesBy (K .s))
+      let T = M .sat in let w = gen .write in let y = M .y in let ys = M .ys in
+      let seen : In (w .nonce) (noncesGot (K .s) (account (K .s)) y ys) = at-serve K (w .nonce) y ys j (T .ask) (T .judging) (noncesBy (K .s))
       (λ b o e. subst (λ (q : Option Packet). In (w .nonce) (map (λ (c : Candidate). c .nonce) (onBody shown q))) (sym e)
-        (subst (λ (z : Body). In (w .nonce) (map (λ (c : Candidate). c .nonce) (shown z))) (sym (T .asked)) (subst (λ (z : List ℕ). In z (map (λ (c : Candidate). c .nonce) cs)) (sym (gen .nonce-is)) (in-map (λ (c : Candidate). c .nonce) cs d i)))) in
-    let beg = born (w .nonce) (w .client) j y ys xs (T .judging .by) seen fair (M .suf) (begins K xs w (gen .made)) in
-    let showed : Ever (Show K (w .client) (w .nonce)) ys = all-in (λ n. (c : ℕ) → Ever (Begin K c n) ys → Ever (Show K c n) ys) (noncesGot (K .s) (account (K .s)) y ys) (T .judging .prem .unshown) (w .nonce) seen (w .client) beg in
-    let hs = hands-all K ys (T .old) in
-    let Sh : Shown K ys (w .client) (w .nonce) = rise (λ (zs : Steps K). Shown K zs (w .client) (w .nonce)) (shown-up K (w .client) (w .nonce)) ys (ever-map _ _ (λ z zs h. shown-at K (w .client) (w .nonce) z zs (h .0 .0) (h .0 .1) (h .2)) ys
+      (subst (λ (z : Body). In (w .nonce) (map (λ (c : Candidate). c .nonce) (shown z))) (sym (T .asked)) (subst (λ (z : List ℕ). In z (map (λ (c : Candidate). c .nonce) cs)) (sym (gen .nonce-is)) (in-map (λ (c : Candidate). c .nonce) cs d i)))) in
+      let beg = born (w .nonce) (w .client) j y ys xs (T .judging .by) seen fair (M .suf) (begins K xs w (gen .made)) in
+      let showed : Ever (Show K (w .client) (w .nonce)) ys = all-in (λ n. (c : ℕ) → Ever (Begin K c n) ys → Ever (Show K c n) ys) (noncesGot (K .s) (account (K .s)) y ys) (T .judging .prem .unshown) (w .nonce) seen (w .client) beg in
+      let hs = hands-all K ys (T .old) in
+      let Sh : Shown K ys (w .client) (w .nonce) = rise (λ (zs : Steps K). Shown K zs (w .client) (w .nonce)) (shown-up K (w .client) (w .nonce)) ys (ever-map _ _ (λ z zs h. shown-at K (w .client) (w .nonce) z zs (h .0 .0) (h .0 .1) (h .2)) ys
       (ever-with _ (Show K (w .client) (w .nonce)) ys (zip K (Meets K) (λ z zs. Hands K zs) ys (T .old) (hs .1)) showed)) in
-    let eq : Sh .write ≡ w = by-nonce K xs fair (Sh .write) w (suf-up (λ (zs : Steps K). In (Sh .write) (marks (K .s) zs)) (marks-up (K .s) (Sh .write)) ys xs (before-now j M) (Sh .made)) (gen .made) (Sh .nonce-is) in
-    (record { write = w; made = subst (λ (z : Stamped). In z (marks (K .s) ys)) eq (Sh .made); stamp-is = gen .stamp-is; nonce-is = gen .nonce-is; shown = showed },
-      subst (FullAt K ys) (ap (λ (z : Stamped). z .stamp) eq ∙ gen .stamp-is) (Sh .full))
+      let eq : Sh .write ≡ w = by-nonce K xs fair (Sh .write) w (suf-up (λ (zs : Steps K). In (Sh .write) (marks (K .s) zs)) (marks-up (K .s) (Sh .write)) ys xs (before-now j M) (Sh .made)) (gen .made) (Sh .nonce-is) in (
+        record { write = w; made = subst (λ (z : Stamped). In z (marks (K .s) ys)) eq (Sh .made); stamp-is = gen .stamp-is; nonce-is = gen .nonce-is; shown = showed },
+        subst (FullAt K ys) (ap (λ (z : Stamped). z .stamp) eq ∙ gen .stamp-is) (Sh .full),
+      )

@@ -44,10 +44,10 @@ module _ (K : Setup) (xs : Steps K) (fair : Fair K xs) where
   pub never-read : NeverRead (Log K xs)
   unfolding NeverRead counted
   never-read o w i up un j =
-    let g = known-call w i in
-    let c = keep-in counted (Log K xs) w (in-perm (perm-sym (o .exact)) w j) .1 in
-    let over : w .over ≡ none = subst (λ (a : Call). a .gaveUp ≡ true → a .over ≡ none) (sym (g .2)) (g .0 .ok .base .leaves) up in
-    go over (or-cases (given (w .over)) (given (w .wrote) && w .reached) c)
+      let g = known-call w i in
+      let c = keep-in counted (Log K xs) w (in-perm (perm-sym (o .exact)) w j) .1 in
+      let over : w .over ≡ none = subst (λ (a : Call). a .gaveUp ≡ true → a .over ≡ none) (sym (g .2)) (g .0 .ok .base .leaves) up in
+      go over (or-cases (given (w .over)) (given (w .wrote) && w .reached) c)
     where
       go : w .over ≡ none → (given (w .over) ≡ true) ⊎ ((given (w .wrote) && w .reached) ≡ true) → ⊥
       go q (inl k) = clash k (ap given q)
@@ -56,7 +56,7 @@ module _ (K : Setup) (xs : Steps K) (fair : Fair K xs) where
   -- ---- progress
 
   short : (c : ℕ) (m : ByServer Bool) (h : Hand) → isIdle h ≡ false → HandOk K xs (since (K .s) c xs) (from (K .s) c xs) m h → Wait K xs m h →
-    (n : ℕ) → n ≤ countTo (S K) (λ j. right K j && m j) → n ≤ countTo (S K) m → n < Q K
+      (n : ℕ) → n ≤ countTo (S K) (λ j. right K j && m j) → n ≤ countTo (S K) m → n < Q K
   unfolding HandOk Wait isIdle awaits
   short c m idle busy ok w n k l = clash refl busy
   short c m (clocking r t u) busy ok w n k l = omega (arith, ok .short, l)
@@ -69,10 +69,10 @@ module _ (K : Setup) (xs : Steps K) (fair : Fair K xs) where
   pub progress : Progress (K .s) (account (K .s)) (K .correct) xs
   unfolding Progress Hands CameIn Roomy
   progress c good busy room bs d came =
-    let m = now (K .s) xs .client c .marks in
-    let each : (b : ℕ) → In b bs → (right K b ≡ true) × (m b ≡ true) = λ b i. let k = all-in (λ b. (right K b ≡ true) × CameIn (K .s) (account (K .s)) (K .correct) xs c b) bs came b i in
+      let m = now (K .s) xs .client c .marks in
+      let each : (b : ℕ) → In b bs → (right K b ≡ true) × (m b ≡ true) = λ b i. let k = all-in (λ b. (right K b ≡ true) × CameIn (K .s) (account (K .s)) (K .correct) xs c b) bs came b i in
       (k .0, arrived K c xs fair good b (calls K xs c) (awaits (hand K xs c)) refl refl busy (roomy room) (k .1)) in
-    short c m (hand K xs c) busy (hands-all K xs fair .0 c good) (waiting K xs fair c good) (length bs)
+      short c m (hand K xs c) busy (hands-all K xs fair .0 c good) (waiting K xs fair c good) (length bs)
       (marked-count (S K) bs (λ j. right K j && m j) d (λ b i. let e = each b i in let rg = K .parties .servers b (e .0) in (rg .0, rg .1, and-intro _ _ (e .0) (e .1))))
       (marked-count (S K) bs m d (λ b i. let e = each b i in let rg = K .parties .servers b (e .0) in (rg .0, rg .1, e .1)))
     where
@@ -83,5 +83,5 @@ module _ (K : Setup) (xs : Steps K) (fair : Fair K xs) where
 pub one-server : (s : System) → Legal (s .config) → Laws s → OneServer s (byValues (s .P) (s .config) (s .writers) (s .keys))
 unfolding OneServer byValues
 one-server s legal laws correct parties l fair =
-  let K : Setup = record { s = s; legal = legal; laws = laws; correct = correct; parties = parties } in
-  (order K l fair, (never-read K l fair, progress K l fair))
+    let K : Setup = record { s = s; legal = legal; laws = laws; correct = correct; parties = parties } in
+    (order K l fair, (never-read K l fair, progress K l fair))

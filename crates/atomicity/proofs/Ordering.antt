@@ -35,9 +35,8 @@ perm-map f (swap x y xs) = swap (f x) (f y) (map f xs)
 perm-map f (trans p q) = trans (perm-map f p) (perm-map f q)
 
 module _ {A : Type 0} (call : A → Call) (less : A → A → Bool)
-  (chain : (a b c : A) → less a b ≡ true → less b c ≡ true → less a c ≡ true)
-  (asym : (a b : A) → less a b ≡ true → less b a ≡ true → ⊥) where
-
+    (chain : (a b c : A) → less a b ≡ true → less b c ≡ true → less a c ≡ true)
+    (asym : (a b : A) → less a b ≡ true → less b a ≡ true → ⊥) where
   -- no write of cs stands below r
   unfoldable pub Clear : List A → A → Type 0
   Clear cs r = (w : A) (v : List ℕ) → In w cs → call w .wrote ≡ some v → less w r ≡ true → ⊥
@@ -45,7 +44,7 @@ module _ {A : Type 0} (call : A → Call) (less : A → A → Bool)
   -- w, with the content v, is the last write of cs below r
   unfoldable pub Last : List A → A → A → List ℕ → Type 0
   Last cs r w v = In w cs × (call w .wrote ≡ some v) × (less w r ≡ true) ×
-    ((x : A) (u : List ℕ) → In x cs → call x .wrote ≡ some u → less x r ≡ true → less w x ≡ true → ⊥)
+      ((x : A) (u : List ℕ) → In x cs → call x .wrote ≡ some u → less x r ≡ true → less w x ≡ true → ⊥)
 
   -- what the read r gives is explained by the register's content m and the calls cs to come
   unfoldable pub Explained : Option (List ℕ) → List A → A → Type 0
@@ -76,13 +75,16 @@ module _ {A : Type 0} (call : A → Call) (less : A → A → Bool)
     where
       ahead : (x : A) → In x cs → less c x ≡ true
       ahead = all-in (λ x. less c x ≡ true) cs (s .0)
+
       go : Explained m (c ∷ cs) r → Explained (some v) cs r
       go (inl p) = absurd (p .1 c v (inl refl) e (ahead r i))
       go (inr p) = keep-it (p .3 .0)
         where
           keep-it : In (p .0) (c ∷ cs) → Explained (some v) cs r
-          keep-it (inl q) = inl (p .2 ∙ sym (p .3 .1) ∙ ap (λ (x : A). call x .wrote) q ∙ e,
-            λ x u k l b. p .3 .3 x u (inr k) l b (subst (λ (y : A). less y x ≡ true) (sym q) (ahead x k)))
+          keep-it (inl q) = inl (
+            p .2 ∙ sym (p .3 .1) ∙ ap (λ (x : A). call x .wrote) q ∙ e,
+            λ x u k l b. p .3 .3 x u (inr k) l b (subst (λ (y : A). less y x ≡ true) (sym q) (ahead x k)),
+          )
           keep-it (inr k) = inr (p .0, p .1, p .2, (k, p .3 .1, p .3 .2, λ x u j. p .3 .3 x u (inr j)))
 
   pub replays : (m : Option (List ℕ)) (cs : List A) → Sorted cs → Reads m cs → Replay m (map call cs)
@@ -98,13 +100,14 @@ module _ {A : Type 0} (call : A → Call) (less : A → A → Bool)
           here : In (p .0) (c ∷ cs) → ⊥
           here (inl q) = no-some (sym e ∙ ap (λ (x : A). call x .wrote) (sym q) ∙ p .3 .1)
           here (inr k) = asym c (p .0) (all-in (λ x. less c x ≡ true) cs (s .0) (p .0) k) (p .3 .2)
+
       go : (o : Option (List ℕ)) → call c .wrote ≡ o → (call c .wrote ≡ none → Replay m (map call cs)) → ((v : List ℕ) → call c .wrote ≡ some v → Replay (some v) (map call cs)) →
-        shows m o (call c) × Replay (holds m o) (map call cs)
+          shows m o (call c) × Replay (holds m o) (map call cs)
       go none e f g = (mine e (h c (inl refl) e), f e)
       go (some v) e f g = (tt, g v e)
 
   pub timely : (cs : List A) → ((a b : A) → In a cs → In b cs → before (call a) (call b) ≡ true → less a b ≡ true) →
-    Sorted cs → AllPairs (λ a b. before b a ≡ false) (map call cs)
+      Sorted cs → AllPairs (λ a b. before b a ≡ false) (map call cs)
   unfolding Sorted AllPairs In All
   timely [] t s = tt
   timely (c ∷ cs) t s = (each cs (λ x i. i) (s .0), timely cs (λ a b i j. t a b (inr i) (inr j)) (s .1))
@@ -148,15 +151,16 @@ module _ {A : Type 0} (call : A → Call) (less : A → A → Bool)
 
   -- the one order, from three facts about the calls that count
   pub one-order : (cs : List A) →
-    AllPairs (λ a b. (less a b ≡ true) ⊎ (less b a ≡ true)) (count-in cs) →
-    ((a b : A) → In a (count-in cs) → In b (count-in cs) → before (call a) (call b) ≡ true → less a b ≡ true) →
-    Reads none (count-in cs) → OneOrder (map call cs)
+      AllPairs (λ a b. (less a b ≡ true) ⊎ (less b a ≡ true)) (count-in cs) →
+      ((a b : A) → In a (count-in cs) → In b (count-in cs) → before (call a) (call b) ≡ true → less a b ≡ true) →
+      Reads none (count-in cs) → OneOrder (map call cs)
   unfolding Sorted
   one-order cs apart fits reads =
-    let xs = count-in cs in
-    let o = sort-sorted less chain xs apart in
-    record {
-      order = map call (sort less xs);
-      exact = subst (Perm (map call (sort less xs))) (sym (keep-call cs)) (perm-map call (perm-sort less xs));
-      time = timely (sort less xs) (λ a b i j. fits a b (from-sort xs a i) (from-sort xs b j)) o;
-      legal = replays none (sort less xs) o (reads-sort none xs reads) }
+      let xs = count-in cs in
+      let o = sort-sorted less chain xs apart in
+      record {
+        order = map call (sort less xs);
+        exact = subst (Perm (map call (sort less xs))) (sym (keep-call cs)) (perm-map call (perm-sort less xs));
+        time = timely (sort less xs) (λ a b i j. fits a b (from-sort xs a i) (from-sort xs b j)) o;
+        legal = replays none (sort less xs) o (reads-sort none xs reads);
+      }

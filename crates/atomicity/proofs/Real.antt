@@ -54,7 +54,7 @@ different (x ∷ is) h = (apart-from x is (h .0), different is (h .1))
 head-ranges : (b : List ℕ) (p : Packet) → decode b ≡ some p → (1 ≤ p .head .client) × (p .head .client ≤ topClient) × (1 ≤ p .head .server) × (p .head .server ≤ shelf (p .head .t) .servers)
 unfolding PacketOk packetF headF via seq keep byte number4
 head-ranges b p e = let o = decode-ok b p e .0 in
-  (o .1 .1 .0 .0, o .1 .1 .0 .1, o .1 .1 .1 .0 .0, leb-true (p .head .server) (shelf (p .head .t) .servers) (o .0))
+    (o .1 .1 .0 .0, o .1 .1 .0 .1, o .1 .1 .1 .0 .0, leb-true (p .head .server) (shelf (p .head .t) .servers) (o .0))
 
 module _ (sh : Shelf) (lo : 1 ≤ sh .t) (hi : sh .t ≤ topFaults) where
   abbrev s : System

@@ -56,10 +56,10 @@ module _ (s : System) (c : ℕ) where
   found-turned : (cl : Client) (cs : List Candidate) (g g' : ByServer Held) (m : ByServer Bool) (d : Candidate) (b : ℕ) → Turned cl (filtering cs g) (found (s .P) (s .config) c (s .writers) (s .keys) cl m g' d b)
   unfolding found onto
   found-turned cl cs g g' m d b = cond-both (Turned cl (filtering cs g)) (sameList (tagsIn (s .P) (s .config) d (g' b .share)) (d .tags)) _ _
-    (record { calls = refl; fine = refl; next = over (filtering cs g) _ }) (record { calls = refl; fine = refl; next = filter-ends cs g _ _ _ })
+      (record { calls = refl; fine = refl; next = over (filtering cs g) _ }) (record { calls = refl; fine = refl; next = filter-ends cs g _ _ _ })
 
   judge-turned : (cl : Client) (cs : List Candidate) (g g' : ByServer Held) (m : ByServer Bool) (ls : List Candidate) (o : Option Candidate) →
-    Turned cl (filtering cs g) (judge (s .P) (s .config) c (s .writers) (s .keys) cl m cs g' ls o)
+      Turned cl (filtering cs g) (judge (s .P) (s .config) c (s .writers) (s .keys) cl m cs g' ls o)
   unfolding judge onto
   judge-turned cl cs g g' m [] o = record { calls = refl; fine = refl; next = over (filtering cs g) _ }
   judge-turned cl cs g g' m (l ∷ ls) none = record { calls = refl; fine = refl; next = filter-on cs g g' _ }
@@ -69,11 +69,11 @@ module _ (s : System) (c : ℕ) where
   unfolding update onto
   turned cl b x m full idle e = record { calls = refl; fine = refl; next = subst (λ (z : Hand). Next s c idle (cl .last) z (cl .last)) (sym e) (stays idle _) }
   turned cl b x m true (clocking r n k) e = let l = higher-le s k (stampIn x) in
-    record { calls = refl; fine = refl; next = clock-ends r n k (higher (s .P) (s .writers) k (stampIn x)) _ l }
+      record { calls = refl; fine = refl; next = clock-ends r n k (higher (s .P) (s .writers) k (stampIn x)) _ l }
   turned cl b x m false (clocking r n k) e = record { calls = refl; fine = refl; next = clock-on r n k _ _ (higher-le s k (stampIn x)) }
   turned cl b x m full (storing d h) e = cond-both (Turned cl (storing d h)) (eqb (codeIn x) 11) _ _
-    (record { calls = refl; fine = refl; next = subst (λ (z : Hand). Next s c (storing d h) (cl .last) z (cl .last)) (sym e) (stays (storing d h) _) })
-    (cond-both (Turned cl (storing d h)) full _ _
+      (record { calls = refl; fine = refl; next = subst (λ (z : Hand). Next s c (storing d h) (cl .last) z (cl .last)) (sym e) (stays (storing d h) _) })
+      (cond-both (Turned cl (storing d h)) full _ _
       (record { calls = refl; fine = refl; next = store-ends d h _ }) (record { calls = refl; fine = refl; next = stays (storing d h) _ }))
   turned cl b x m true (completing d) e = record { calls = refl; fine = refl; next = over (completing d) _ }
   turned cl b x m false (completing d) e = record { calls = refl; fine = refl; next = stays (completing d) _ }
@@ -156,12 +156,12 @@ module _ (s : System) where
   later-next : (c : ℕ) (cl cl' : Client) → cl' .calls ≡ cl .calls → Next s c (cl .hand) (cl .last) (cl' .hand) (cl' .last) → Later cl cl'
   unfolding pos
   later-next c cl cl' e n = let k = next-stage s c (cl .hand) (cl .last) (cl' .hand) (cl' .last) n in
-    record { mono = omega (arith, k .0, e); same-ask = λ q. k .1 (omega (arith, q, e)); same-calls = λ q. sym e; calls-mono = omega (arith, e) }
+      record { mono = omega (arith, k .0, e); same-ask = λ q. k .1 (omega (arith, q, e)); same-calls = λ q. sym e; calls-mono = omega (arith, e) }
 
   later-fresh : (cl : Client) (h : Hand) → Later cl (begun cl h)
   unfolding pos begun
   later-fresh cl h = let a = stage-bound (cl .hand) in let b = stage-bound h in
-    record { mono = omega (arith, a .1, b .0); same-ask = λ q. absurd (omega (arith, q, a .1, b .0)); same-calls = λ q. absurd (omega (arith, q, a .1, b .0)); calls-mono = omega arith }
+      record { mono = omega (arith, a .1, b .0); same-ask = λ q. absurd (omega (arith, q, a .1, b .0)); same-calls = λ q. absurd (omega (arith, q, a .1, b .0)); calls-mono = omega arith }
 
   quitted : (c : ℕ) (cl : Client) → Later cl (onto cl nobody idle)
   unfolding onto
@@ -172,13 +172,14 @@ module _ (s : System) where
     where
       cl' : Client
       cl' = perform s w x .world .client c
+
       go : Moved s c w x cl' (perform s w x .result) → Later (w .client c) cl'
       go (kept e _) = subst (Later (w .client c)) (sym e) (later-refl (w .client c))
       go (wbegan r n a b d l e) = subst (Later (w .client c)) (sym e) (later-fresh (w .client c) _)
       go (rbegan a b d e) = subst (Later (w .client c)) (sym e) (later-fresh (w .client c) _)
       go (quit a b d e) = subst (Later (w .client c)) (sym e) (quitted c (w .client c))
       go (took p b o a d f e r) = let t = turn-turned s c (w .client c) p in
-        subst (Later (w .client c)) (sym e) (later-next c (w .client c) _ (t .calls) (t .next))
+          subst (Later (w .client c)) (sym e) (later-next c (w .client c) _ (t .calls) (t .next))
 
   -- ---- the moments when the call and the round of client c began
   -- the steps before the begin of c's present call
@@ -211,21 +212,23 @@ module _ (s : System) where
   pub record Before (c : ℕ) (ys xs : Run s) : Type 0 where
     pub low : pos (now s ys .client c) ≤ pos (now s xs .client c)
     pub round : pos (now s ys .client c) ≡ pos (now s xs .client c) →
-      (from c ys ≡ from c xs) × (since c ys ≡ since c xs) × ((b : ℕ) → request (now s ys .client c .hand) b ≡ request (now s xs .client c .hand) b) × (now s ys .client c .calls ≡ now s xs .client c .calls)
+        (from c ys ≡ from c xs) × (since c ys ≡ since c xs) × ((b : ℕ) → request (now s ys .client c .hand) b ≡ request (now s xs .client c .hand) b) × (now s ys .client c .calls ≡ now s xs .client c .calls)
 
   pub before-one : (c : ℕ) (x : Typed (s .config)) (xs : Run s) → Before c xs (x ∷ xs)
   unfolding nowValues
   before-one c x xs = let l = later (now s xs) c (x .step) in
-    record { low = l .mono; round = λ e. (sym (from-same c x xs e), sym (since-same c x xs (l .same-calls e)), l .same-ask e, l .same-calls e) }
+      record { low = l .mono; round = λ e. (sym (from-same c x xs e), sym (since-same c x xs (l .same-calls e)), l .same-ask e, l .same-calls e) }
 
   pub before-trans : (c : ℕ) (zs ys xs : Run s) → Before c zs ys → Before c ys xs → Before c zs xs
-  before-trans c zs ys xs a b = record { low = omega (arith, a .low, b .low);
+  before-trans c zs ys xs a b = record {
+    low = omega (arith, a .low, b .low);
     round = λ e. let f = a .round (omega (arith, a .low, b .low, e)) in let g = b .round (omega (arith, a .low, b .low, e)) in
-      (f .0 ∙ g .0, f .1 ∙ g .1, λ b. f .2 b ∙ g .2 b, f .3 ∙ g .3) }
+        (f .0 ∙ g .0, f .1 ∙ g .1, λ b. f .2 b ∙ g .2 b, f .3 ∙ g .3);
+  }
 
   pub ever-before : (c : ℕ) (P : Typed (s .config) → Run s → Type 0) (xs : Run s) → Ever P xs → Ever (λ y ys. P y ys × Before c ys xs) xs
   unfolding Ever
   ever-before c P [] e = absurd e
   ever-before c P (x ∷ xs) (inl p) = inl (p, before-one c x xs)
   ever-before c P (x ∷ xs) (inr e) = inr (ever-map (λ y ys. P y ys × Before c ys xs) (λ y ys. P y ys × Before c ys (x ∷ xs))
-    (λ y ys h. (h .0, before-trans c ys xs (x ∷ xs) (h .1) (before-one c x xs))) xs (ever-before c P xs e))
+      (λ y ys h. (h .0, before-trans c ys xs (x ∷ xs) (h .1) (before-one c x xs))) xs (ever-before c P xs e))

@@ -35,7 +35,7 @@ keep-pairs : {A : Type 0} (R : A → A → Type 0) (p : A → Bool) (l : List A)
 unfolding keep AllPairs
 keep-pairs R p [] h = tt
 keep-pairs {A} R p (x ∷ l) h = cond-case (AllPairs R) (p x) (x ∷ keep p l) (keep p l)
-  (λ e. (all-of (R x) (keep p l) (λ y i. all-in (R x) l (h .0) y (keep-in p l y i .0)), keep-pairs R p l (h .1))) (λ e. keep-pairs R p l (h .1))
+    (λ e. (all-of (R x) (keep p l) (λ y i. all-in (R x) l (h .0) y (keep-in p l y i .0)), keep-pairs R p l (h .1))) (λ e. keep-pairs R p l (h .1))
 
 pub given-some : {A : Type 0} (o : Option A) → given o ≡ true → (a : A) × (o ≡ some a)
 given-some none e = clash e refl
@@ -110,16 +110,18 @@ module _ (K : Setup) where
       where
         ended : (o : ℕ) → a .call .over ≡ some o → o < b .call .begun → keyless a b ≡ true
         ended e q l = let E = a .ok .base .ended e q in wrote-case (b .call)
-          (λ r. let R = b .ok .base .read (read-over b j r .0) r (read-over b j r .1) in tail r (le-view (a .stamp) (b .stamp) (R .floor (a .stamp) e (E .2) l)) (omega (arith, E .0, l)))
-          (λ v w. lex-lt (a .stamp .number) (b .stamp .number) _ (b .ok .base .write v w (write-reached b j v w) .floor (a .stamp) e (E .2) l))
+            (λ r. let R = b .ok .base .read (read-over b j r .0) r (read-over b j r .1) in tail r (le-view (a .stamp) (b .stamp) (R .floor (a .stamp) e (E .2) l)) (omega (arith, E .0, l)))
+            (λ v w. lex-lt (a .stamp .number) (b .stamp .number) _ (b .ok .base .write v w (write-reached b j v w) .floor (a .stamp) e (E .2) l))
           where
             last : b .call .wrote ≡ none → a .call .begun < b .call .begun → lesser (a .call) (b .call) ≡ true
             last r l = wrote-case (a .call) (λ w. lex-eq (part (a .call)) (part (b .call)) _ (part-read (a .call) w ∙ sym (part-read (b .call) r)) (lt-ltb (a .call .begun) (b .call .begun) l))
-              (λ v w. lex-lt (part (a .call)) (part (b .call)) _ (omega (arith, part-write (a .call) v w, part-read (b .call) r)))
+                (λ v w. lex-lt (part (a .call)) (part (b .call)) _ (omega (arith, part-write (a .call) v w, part-read (b .call) r)))
+
             tail : b .call .wrote ≡ none → (a .stamp .number < b .stamp .number) ⊎ ((a .stamp .number ≡ b .stamp .number) × (a .stamp .writer ≤ b .stamp .writer)) → a .call .begun < b .call .begun → keyless a b ≡ true
             tail r (inl n) l = lex-lt (a .stamp .number) (b .stamp .number) _ n
             tail r (inr n) l = lex-eq (a .stamp .number) (b .stamp .number) _ (n .0) (bool-case (ltb (a .stamp .writer) (b .stamp .writer)) (λ t. lex-lt (a .stamp .writer) (b .stamp .writer) _ (ltb-true _ _ t))
-              (λ t. lex-eq (a .stamp .writer) (b .stamp .writer) _ (let z : a .stamp .writer ≡ b .stamp .writer = omega (arith, n .1, ltb-false (a .stamp .writer) (b .stamp .writer) t) in z) (last r l)))
+                (λ t. lex-eq (a .stamp .writer) (b .stamp .writer) _ (let z : a .stamp .writer ≡ b .stamp .writer = omega (arith, n .1, ltb-false (a .stamp .writer) (b .stamp .writer) t) in z) (last r l)))
+
         go : (o : Option ℕ) → a .call .over ≡ o → endedBy o (b .call .begun) ≡ true → keyless a b ≡ true
         go none q k = clash k refl
         go (some e) q k = ended e q (ltb-true e (b .call .begun) k)
@@ -135,34 +137,49 @@ module _ (K : Setup) where
             clear : (u : Signed K xs) (v : List ℕ) → In u gs → u .call .wrote ≡ some v → Rest (u .stamp) (u .call) (r .stamp) (r .call) → ⊥
             clear u v j q (inl k) = omega (arith, k, ap (λ (a : Stamp). a .number) (p .1))
             clear u v j q (inr k) = let W = u .ok .base .write v q (write-reached u j v q) in
-              omega (arith, k .0, ap (λ (a : Stamp). a .number) (p .1), mark-num (K .s) xs (W .write) (mark-at K (W .write) (u .call .begun) xs (W .since-when)), ap (λ (a : Stamp). a .number) (W .stamp-is))
-        go (inr g) = inr (C .known, m .content, g .1 .answer-is, (among, C .wrote ∙ ap (λ (z : Stamped). some (z .content)) eq, below-it,
+                omega (arith, k .0, ap (λ (a : Stamp). a .number) (p .1), mark-num (K .s) xs (W .write) (mark-at K (W .write) (u .call .begun) xs (W .since-when)), ap (λ (a : Stamp). a .number) (W .stamp-is))
+        go (inr g) = inr (
+          C .known,
+          m .content,
+          g .1 .answer-is,
+          (
+            among,
+            C .wrote ∙ ap (λ (z : Stamped). some (z .content)) eq,
+            below-it,
             λ u v j q l k. last u v j q (between (C .known .stamp) (C .known .call) (u .stamp) (u .call) (r .stamp) (r .call) (ap (λ (a : Stamp). a .number) stamps) (ap (λ (a : Stamp). a .writer) stamps)
-              (less-rest (C .known .stamp) (C .known .call) (u .stamp) (u .call) k) (less-rest (u .stamp) (u .call) (r .stamp) (r .call) l))))
+                (less-rest (C .known .stamp) (C .known .call) (u .stamp) (u .call) k) (less-rest (u .stamp) (u .call) (r .stamp) (r .call) l)),
+          ),
+        )
           where
             m : Stamped
             m = g .0
+
             C : Counts K xs fair (m .nonce)
             C = shown-call K xs fair (m .client) (m .nonce) (g .1 .shown)
+
             eq : C .write ≡ m
             eq = by-nonce K xs fair (C .write) m (C .made) (g .1 .made) (C .nonce-is)
+
             stamps : C .known .stamp ≡ r .stamp
             stamps = sym (C .stamp-is) ∙ ap (λ (z : Stamped). z .stamp) eq ∙ g .1 .stamp-is
+
             among : In (C .known) gs
             among = in-keep (λ (g : Signed K xs). counted (g .call)) (story K xs fair) (C .known) (C .among) (or-right (given (C .known .call .over)) _ (and-intro _ _ (ap given (C .wrote)) (C .reached)))
+
             below-it : keyless (C .known) r ≡ true
             below-it = lex-eq _ _ _ (ap (λ (a : Stamp). a .number) stamps) (lex-eq _ _ _ (ap (λ (a : Stamp). a .writer) stamps)
-              (lex-lt (part (C .known .call)) (part (r .call)) _ (omega (arith, part-write (C .known .call) (C .write .content) (C .wrote), part-read (r .call) w))))
+                (lex-lt (part (C .known .call)) (part (r .call)) _ (omega (arith, part-write (C .known .call) (C .write .content) (C .wrote), part-read (r .call) w))))
+
             last : (u : Signed K xs) (v : List ℕ) → In u gs → u .call .wrote ≡ some v → (C .known .stamp .number ≡ u .stamp .number) × (C .known .stamp .writer ≡ u .stamp .writer) × (lesser (C .known .call) (u .call) ≡ true) → ⊥
             last u v j q b =
-              let W = u .ok .base .write v q (write-reached u j v q) in
-              let X = C .known .ok .base .write (C .write .content) (C .wrote) (C .reached) in
-              let wm = mark-at K (W .write) (u .call .begun) xs (W .since-when) in
-              let xm = mark-at K (X .write) (C .known .call .begun) xs (X .since-when) in
-              let sn : X .write .stamp .number ≡ W .write .stamp .number = ap (λ (a : Stamp). a .number) (X .stamp-is) ∙ b .0 ∙ sym (ap (λ (a : Stamp). a .number) (W .stamp-is)) in
-              let sw : X .write .stamp .writer ≡ W .write .stamp .writer = ap (λ (a : Stamp). a .writer) (X .stamp-is) ∙ b .1 ∙ sym (ap (λ (a : Stamp). a .writer) (W .stamp-is)) in
-              let t = mark-when xs (X .write) (W .write) (C .known .call .begun) (u .call .begun) (sym (mark-who (K .s) xs (X .write) xm) ∙ sw ∙ mark-who (K .s) xs (W .write) wm) sn (X .since-when) (W .since-when) in
-              early t (lex-view _ _ _ (b .2))
+                let W = u .ok .base .write v q (write-reached u j v q) in
+                let X = C .known .ok .base .write (C .write .content) (C .wrote) (C .reached) in
+                let wm = mark-at K (W .write) (u .call .begun) xs (W .since-when) in
+                let xm = mark-at K (X .write) (C .known .call .begun) xs (X .since-when) in
+                let sn : X .write .stamp .number ≡ W .write .stamp .number = ap (λ (a : Stamp). a .number) (X .stamp-is) ∙ b .0 ∙ sym (ap (λ (a : Stamp). a .number) (W .stamp-is)) in
+                let sw : X .write .stamp .writer ≡ W .write .stamp .writer = ap (λ (a : Stamp). a .writer) (X .stamp-is) ∙ b .1 ∙ sym (ap (λ (a : Stamp). a .writer) (W .stamp-is)) in
+                let t = mark-when xs (X .write) (W .write) (C .known .call .begun) (u .call .begun) (sym (mark-who (K .s) xs (X .write) xm) ∙ sw ∙ mark-who (K .s) xs (W .write) wm) sn (X .since-when) (W .since-when) in
+                early t (lex-view _ _ _ (b .2))
               where
                 early : C .known .call .begun ≡ u .call .begun → (part (C .known .call) < part (u .call)) ⊎ ((part (C .known .call) ≡ part (u .call)) × (ltb (C .known .call .begun) (u .call .begun) ≡ true)) → ⊥
                 early t (inl k) = omega (arith, k, part-write (u .call) v q)

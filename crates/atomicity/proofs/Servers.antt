@@ -34,7 +34,7 @@ held-some a f [] h = absurd (let z : _≡_ {A = ℕ} 0 1 = cc in omega arith)
 held-some a f (e ∷ es) h = go (sameStamp (e .stamp) a) refl h (λ k. held-some a f es k)
   where
     go : (b : Bool) → sameStamp (e .stamp) a ≡ b → cond b (some (e .share)) (held a es) ≡ some f → (held a es ≡ some f → (x : Write) × In x es × (x .stamp ≡ a) × (x .share ≡ f)) →
-      (x : Write) × In x (e ∷ es) × (x .stamp ≡ a) × (x .share ≡ f)
+        (x : Write) × In x (e ∷ es) × (x .stamp ≡ a) × (x .share ≡ f)
     go true q k r = (e, inl refl, same-stamp (e .stamp) a q, let z : e .share ≡ f = cc in z)
     go false q k r = let y = r k in (y .0, inr (y .1), y .2, y .3)
 
@@ -46,7 +46,7 @@ pub in-held : (a : Stamp) (es : List Write) (e : Write) → In e es → e .stamp
 unfolding held In
 in-held a [] e i q = absurd i
 in-held a (x ∷ es) e (inl p) q = subst (λ (b : Bool). isSome (cond b (some (x .share)) (held a es)) ≡ true)
-  (sym (subst (λ (y : Stamp). sameStamp y a ≡ true) (sym (ap (λ (y : Write). y .stamp) (sym p) ∙ q)) (stamp-refl a))) refl
+    (sym (subst (λ (y : Stamp). sameStamp y a ≡ true) (sym (ap (λ (y : Write). y .stamp) (sym p) ∙ q)) (stamp-refl a))) refl
 in-held a (x ∷ es) e (inr i) q = go (sameStamp (x .stamp) a) (in-held a es e i q)
   where
     go : (b : Bool) → isSome (held a es) ≡ true → isSome (cond b (some (x .share)) (held a es)) ≡ true
@@ -70,7 +70,7 @@ raise-ge c v = cond-case (λ (y : Server). below (y .latest .stamp) (c .stamp) �
 raise-rises : (c : Candidate) (v : Server) → below (raise c v .latest .stamp) (v .latest .stamp) ≡ false
 unfolding raise
 raise-rises c v = cond-case (λ (y : Server). below (y .latest .stamp) (v .latest .stamp) ≡ false) (below (v .latest .stamp) (c .stamp)) _ v
-  (λ e. below-asym (v .latest .stamp) (c .stamp) e) (λ e. below-irrefl (v .latest .stamp))
+    (λ e. below-asym (v .latest .stamp) (c .stamp) e) (λ e. below-irrefl (v .latest .stamp))
 
 raise-history : (c : Candidate) (v : Server) → raise c v .history ≡ v .history
 unfolding raise
@@ -90,9 +90,10 @@ module _ (s : System) (j : ℕ) where
     where
       Seen : Candidate → Type 0
       Seen x = (x ≡ c) ⊎ (In x (d ∷ ds) × (isValid s j v x ≡ true))
+
       go : (t : Bool) → (isValid s j v d && below (c .stamp) (d .stamp)) ≡ t →
-        (bestOf s j v d ds ≡ d) ⊎ (In (bestOf s j v d ds) ds × (isValid s j v (bestOf s j v d ds) ≡ true)) →
-        (bestOf s j v c ds ≡ c) ⊎ (In (bestOf s j v c ds) ds × (isValid s j v (bestOf s j v c ds) ≡ true)) → Seen (bestOf s j v (cond t d c) ds)
+          (bestOf s j v d ds ≡ d) ⊎ (In (bestOf s j v d ds) ds × (isValid s j v (bestOf s j v d ds) ≡ true)) →
+          (bestOf s j v c ds ≡ c) ⊎ (In (bestOf s j v c ds) ds × (isValid s j v (bestOf s j v c ds) ≡ true)) → Seen (bestOf s j v (cond t d c) ds)
       go true e (inl f) g = inr (inl f, subst (λ (x : Candidate). isValid s j v x ≡ true) (sym f) (and-left (isValid s j v d) _ e))
       go true e (inr p) g = inr (inr (p .0), p .1)
       go false e f (inl g) = inl g
@@ -104,7 +105,7 @@ module _ (s : System) (j : ℕ) where
   best-from v c (d ∷ ds) = go (isValid s j v d && below (c .stamp) (d .stamp)) refl (best-from v d ds) (best-from v c ds)
     where
       go : (t : Bool) → (isValid s j v d && below (c .stamp) (d .stamp)) ≡ t → below (bestOf s j v d ds .stamp) (d .stamp) ≡ false → below (bestOf s j v c ds .stamp) (c .stamp) ≡ false →
-        below (bestOf s j v (cond t d c) ds .stamp) (c .stamp) ≡ false
+          below (bestOf s j v (cond t d c) ds .stamp) (c .stamp) ≡ false
       go true e f g = le-trans (c .stamp) (d .stamp) (bestOf s j v d ds .stamp) (below-asym (c .stamp) (d .stamp) (and-right (isValid s j v d) _ e)) f
       go false e f g = g
 
@@ -115,8 +116,10 @@ module _ (s : System) (j : ℕ) where
     where
       ve : isValid s j v e ≡ true
       ve = subst (λ (y : Candidate). isValid s j v y ≡ true) q k
+
       low : (isValid s j v e && below (c .stamp) (e .stamp)) ≡ false → below (c .stamp) (e .stamp) ≡ false
       low k = untrue _ (λ z. clash (and-intro _ _ ve z) k)
+
       go : (t : Bool) → (isValid s j v e && below (c .stamp) (e .stamp)) ≡ t → below (bestOf s j v (cond t e c) es .stamp) (d .stamp) ≡ false
       go true k = subst (λ (y : Candidate). below (bestOf s j v e es .stamp) (y .stamp) ≡ false) (sym q) (best-from v e es)
       go false k = subst (λ (y : Candidate). below (bestOf s j v c es .stamp) (y .stamp) ≡ false) (sym q) (le-trans (e .stamp) (c .stamp) (bestOf s j v c es .stamp) (low k) (best-from v c es))
@@ -158,13 +161,13 @@ module _ (s : System) (j : ℕ) where
   unfolding act kept In
   act-grows v clock = unmoved v clock
   act-grows v (store w) = cond-both (λ (a : Acted). Grows v (store w) (a .server)) (isSome (held (w .stamp) (v .history))) _ _ (unmoved v (store w))
-    (cond-both (λ (a : Acted). Grows v (store w) (a .server)) (leb capacity (length (v .history))) _ _ (unmoved v (store w)) (stored v w))
+      (cond-both (λ (a : Acted). Grows v (store w) (a .server)) (leb capacity (length (v .history))) _ _ (unmoved v (store w)) (stored v w))
   act-grows v (complete c) = raised v (complete c) c (inr (inr refl))
   act-grows v collect = unmoved v collect
   act-grows v (filter cs) = raised v (filter cs) (bestOf s j v (blankCandidate (s .config)) cs) (go (best-view v (blankCandidate (s .config)) cs))
     where
       go : (bestOf s j v (blankCandidate (s .config)) cs ≡ blankCandidate (s .config)) ⊎ (In (bestOf s j v (blankCandidate (s .config)) cs) cs × (isValid s j v (bestOf s j v (blankCandidate (s .config)) cs) ≡ true))
-        → Origin v (filter cs) (bestOf s j v (blankCandidate (s .config)) cs)
+          → Origin v (filter cs) (bestOf s j v (blankCandidate (s .config)) cs)
       go (inl e) = inl e
       go (inr p) = inr (inl p)
   act-grows v (repair c) = cond-case (λ (y : Server). Grows v (repair c) y) (isValid s j v c) _ v (λ e. raised v (repair c) c (inr (inl (inl refl, e)))) (λ e. unmoved v (repair c))
@@ -181,8 +184,8 @@ unfolding act kept In
 store-held s j v w = go (isSome (held (w .stamp) (v .history))) refl (leb capacity (length (v .history)))
   where
     go : (u : Bool) → isSome (held (w .stamp) (v .history)) ≡ u → (t : Bool) →
-      let a = cond {A = Acted} u (record { server = v; reply = storeReply 10 }) (cond t (record { server = v; reply = storeReply 11 }) (record { server = record { latest = v .latest; history = v .history ++ (w ∷ []) }; reply = storeReply 0 })) in
-      eqb (codeIn (a .reply)) 11 ≡ false → isSome (held (w .stamp) (a .server .history)) ≡ true
+        let a = cond {A = Acted} u (record { server = v; reply = storeReply 10 }) (cond t (record { server = v; reply = storeReply 11 }) (record { server = record { latest = v .latest; history = v .history ++ (w ∷ []) }; reply = storeReply 0 })) in
+        eqb (codeIn (a .reply)) 11 ≡ false → isSome (held (w .stamp) (a .server .history)) ≡ true
     go true q t k = q
     go false q true k = clash refl k
     go false q false k = in-held (w .stamp) (v .history ++ (w ∷ [])) w (right-in w (v .history) (w ∷ []) (inl refl)) refl

@@ -51,13 +51,13 @@ module _ {A : Type 0} (less : A → A → Bool) where
 
   module _ (chain : (a b c : A) → less a b ≡ true → less b c ≡ true → less a c ≡ true) where
     insert-sorted : (x : A) (ys : List A) → AllPairs (λ a b. less a b ≡ true) ys →
-      All (λ y. (less x y ≡ true) ⊎ (less y x ≡ true)) ys → AllPairs (λ a b. less a b ≡ true) (insert x ys)
+        All (λ y. (less x y ≡ true) ⊎ (less y x ≡ true)) ys → AllPairs (λ a b. less a b ≡ true) (insert x ys)
     unfolding insert All AllPairs
     insert-sorted x [] h k = (tt, tt)
     insert-sorted x (y ∷ ys) h k = go (less x y) refl (insert-sorted x ys (h .1) (k .1)) (k .0)
       where
         go : (b : Bool) → less x y ≡ b → AllPairs (λ a b. less a b ≡ true) (insert x ys) → (less x y ≡ true) ⊎ (less y x ≡ true) →
-          AllPairs (λ a b. less a b ≡ true) (cond b (x ∷ y ∷ ys) (y ∷ insert x ys))
+            AllPairs (λ a b. less a b ≡ true) (cond b (x ∷ y ∷ ys) (y ∷ insert x ys))
         go true e r d = ((e, all-map (λ z. less y z ≡ true) (λ z. less x z ≡ true) (λ z l. chain x y z e l) ys (h .0)), h)
         go false e r (inl l) = absurd (true≢false (sym l ∙ e))
         go false e r (inr l) = (all-insert (λ z. less y z ≡ true) x ys l (h .0), r)

@@ -31,11 +31,11 @@ below-who a b e h = or-right (ltb (a .number) (b .number)) _ (and-intro _ _ (eq-
 -- b is not below a: a is at most b
 pub le-view : (a b : Stamp) → below b a ≡ false → (a .number < b .number) ⊎ ((a .number ≡ b .number) × (a .writer ≤ b .writer))
 le-view a b e = bool-case (ltb (a .number) (b .number)) (λ h. inl (ltb-true _ _ h))
-  (λ h. bool-case (ltb (b .number) (a .number)) (λ k. clash (below-num b a (ltb-true _ _ k)) e) (λ k. same (ltb-false _ _ h) (ltb-false _ _ k)))
+    (λ h. bool-case (ltb (b .number) (a .number)) (λ k. clash (below-num b a (ltb-true _ _ k)) e) (λ k. same (ltb-false _ _ h) (ltb-false _ _ k)))
   where
     same : b .number ≤ a .number → a .number ≤ b .number → (a .number < b .number) ⊎ ((a .number ≡ b .number) × (a .writer ≤ b .writer))
     same h k = let q : b .number ≡ a .number = omega arith in
-      bool-case (ltb (b .writer) (a .writer)) (λ l. clash (below-who b a q (ltb-true _ _ l)) e) (λ l. inr (sym q, ltb-false _ _ l))
+        bool-case (ltb (b .writer) (a .writer)) (λ l. clash (below-who b a q (ltb-true _ _ l)) e) (λ l. inr (sym q, ltb-false _ _ l))
 
 pub num-le : (a b : Stamp) → below b a ≡ false → a .number ≤ b .number
 num-le a b e = go (le-view a b e)
@@ -49,7 +49,7 @@ pub le-trans : (a b c : Stamp) → below b a ≡ false → below c b ≡ false �
 le-trans a b c p q = untrue (below c a) (λ h. go (le-view a b p) (le-view b c q) (below-view c a h))
   where
     go : (a .number < b .number) ⊎ ((a .number ≡ b .number) × (a .writer ≤ b .writer)) → (b .number < c .number) ⊎ ((b .number ≡ c .number) × (b .writer ≤ c .writer)) →
-      (c .number < a .number) ⊎ ((c .number ≡ a .number) × (c .writer < a .writer)) → ⊥
+        (c .number < a .number) ⊎ ((c .number ≡ a .number) × (c .writer < a .writer)) → ⊥
     go (inl x) (inl y) (inl z) = omega arith
     go (inl x) (inl y) (inr z) = omega (arith, z .0)
     go (inl x) (inr y) (inl z) = omega (arith, y .0)
@@ -95,7 +95,7 @@ same-eq [] [] e = refl
 same-eq [] (y ∷ ys) e = clash e refl
 same-eq (x ∷ xs) [] e = clash e refl
 same-eq (x ∷ xs) (y ∷ ys) e =
-  ap (λ (z : ℕ). z ∷ xs) (eqb-true x y (and-left (eqb x y) (sameList xs ys) e)) ∙ ap (λ (zs : List ℕ). y ∷ zs) (same-eq xs ys (and-right (eqb x y) (sameList xs ys) e))
+    ap (λ (z : ℕ). z ∷ xs) (eqb-true x y (and-left (eqb x y) (sameList xs ys) e)) ∙ ap (λ (zs : List ℕ). y ∷ zs) (same-eq xs ys (and-right (eqb x y) (sameList xs ys) e))
 
 pub same-refl : (b : List ℕ) → sameList b b ≡ true
 same-refl [] = refl
@@ -107,11 +107,11 @@ same-is xs ys e = subst (λ (z : List ℕ). sameList xs z ≡ true) e (same-refl
 pub same-stamp : (a b : Stamp) → sameStamp a b ≡ true → a ≡ b
 unfolding sameStamp
 same-stamp a b e =
-  let p = eqb-true (a .number) (b .number) (and-left (eqb (a .number) (b .number)) (eqb (a .writer) (b .writer) && sameList (a .tag) (b .tag)) e) in
-  let r = and-right (eqb (a .number) (b .number)) (eqb (a .writer) (b .writer) && sameList (a .tag) (b .tag)) e in
-  let q = eqb-true (a .writer) (b .writer) (and-left (eqb (a .writer) (b .writer)) (sameList (a .tag) (b .tag)) r) in
-  let t = same-eq (a .tag) (b .tag) (and-right (eqb (a .writer) (b .writer)) (sameList (a .tag) (b .tag)) r) in
-  λ i. record { number = p i; writer = q i; tag = t i }
+    let p = eqb-true (a .number) (b .number) (and-left (eqb (a .number) (b .number)) (eqb (a .writer) (b .writer) && sameList (a .tag) (b .tag)) e) in
+    let r = and-right (eqb (a .number) (b .number)) (eqb (a .writer) (b .writer) && sameList (a .tag) (b .tag)) e in
+    let q = eqb-true (a .writer) (b .writer) (and-left (eqb (a .writer) (b .writer)) (sameList (a .tag) (b .tag)) r) in
+    let t = same-eq (a .tag) (b .tag) (and-right (eqb (a .writer) (b .writer)) (sameList (a .tag) (b .tag)) r) in
+    λ i. record { number = p i; writer = q i; tag = t i }
 
 pub stamp-refl : (a : Stamp) → sameStamp a a ≡ true
 unfolding sameStamp

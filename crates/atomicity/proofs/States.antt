@@ -49,8 +49,12 @@ module _ (K : Setup) where
 
   pub many-mono : (P R : ℕ → Bool) → ((j : ℕ) → right j ≡ true → P j ≡ true → R j ≡ true) → Many P → Many R
   unfolding Many
-  many-mono P R f h = omega (arith, h, count-mono (λ j. right j && P j) (λ j. right j && R j) S
-    (λ j lo hi e. let a = and-left (right j) (P j) e in and-intro (right j) (R j) a (f j a (and-right (right j) (P j) e))))
+  many-mono P R f h = omega (
+    arith,
+    h,
+    count-mono (λ j. right j && P j) (λ j. right j && R j) S
+        (λ j lo hi e. let a = and-left (right j) (P j) e in and-intro (right j) (R j) a (f j a (and-right (right j) (P j) e))),
+  )
 
   -- a quorum of replies
   pub many-marks : (P m : ℕ → Bool) → Q ≤ countTo S m → ((j : ℕ) → right j ≡ true → m j ≡ true → P j ≡ true) → Many P
@@ -60,9 +64,9 @@ module _ (K : Setup) where
   pub meets : (P R : ℕ → Bool) → Many P → Many R → (j : ℕ) × (right j ≡ true) × (P j ≡ true) × (R j ≡ true)
   unfolding Many
   meets P R p q = let r = share (K .s .config) (K .legal) right (K .parties .liars) P R p q in
-    let j = r .0 in
-    let b = and-right (right j) _ (r .3) in
-    (j, and-left (right j) _ (r .3), and-left (P j) (R j) b, and-right (P j) (R j) b)
+      let j = r .0 in
+      let b = and-right (right j) _ (r .3) in
+      (j, and-left (right j) _ (r .3), and-left (P j) (R j) b, and-right (P j) (R j) b)
 
   pub meets-marks : (P m : ℕ → Bool) → Many P → Q ≤ countTo S m → (j : ℕ) × (right j ≡ true) × (P j ≡ true) × (m j ≡ true)
   meets-marks P m p l = meets P m p (many-marks m m l (λ j h e. e))
@@ -70,7 +74,7 @@ module _ (K : Setup) where
   -- k servers have a correct one
   pub correct-in : (m : ℕ → Bool) → K .s .config .shares ≤ countTo S m → (j : ℕ) × (1 ≤ j) × (j ≤ S) × (right j ≡ true) × (m j ≡ true)
   correct-in m l = let r = correct-one (K .s .config) (K .legal) right (K .parties .liars) m l in
-    (r .0, r .1, r .2, and-left (right (r .0)) _ (r .3), and-right (right (r .0)) _ (r .3))
+      (r .0, r .1, r .2, and-left (right (r .0)) _ (r .3), and-right (right (r .0)) _ (r .3))
 
   pub full-up : (a : Stamp) (x : StepOf K) (xs : Steps K) → FullAt xs a → FullAt (x ∷ xs) a
   full-up a x xs h = many-mono _ _ (λ j e p. held-up K x xs j a p) h
@@ -110,7 +114,7 @@ module _ (K : Setup) where
     pub what : ByServer Candidate
     pub enough : Q ≤ countTo S whom
     pub each : (j : ℕ) → right j ≡ true → whom j ≡ true →
-      (below (what j .stamp) (lat K z0 j) ≡ false) × ((what j ≡ blankCandidate (K .s .config)) ⊎ (In (what j) cs × Genuine K z1 (what j) × FullAt z1 (what j .stamp)))
+        (below (what j .stamp) (lat K z0 j) ≡ false) × ((what j ≡ blankCandidate (K .s .config)) ⊎ (In (what j) cs × Genuine K z1 (what j) × FullAt z1 (what j .stamp)))
 
   -- a candidate that a read may give, with its content
   pub record Proved (xs z0 : Steps K) (d : Candidate) (r : List ℕ) : Type 0 where
@@ -185,7 +189,8 @@ module _ (K : Setup) where
   sift-up z1 j cs h x xs t = record {
     piece = λ f e. piece-up j (h .stamp) f x xs (t .piece f e);
     tags = λ d i e. lat-up K x xs j (d .stamp) (t .tags d i e);
-    stands = t .stands }
+    stands = t .stands;
+  }
 
   pub proved-up : (z0 : Steps K) (d : Candidate) (r : List ℕ) (x : StepOf K) (xs : Steps K) → Proved xs z0 d r → Proved (x ∷ xs) z0 d r
   unfolding Ever

@@ -64,11 +64,11 @@ module _ (K : Setup) where
   unfolding story log stepSigned
   story-log [] fair = refl
   story-log (x ∷ xs) fair = map-append (λ (g : Signed K (x ∷ xs)). g .call) (newSigned K x xs (x .step) refl) (map (stepSigned x xs fair) (story xs (past x xs fair)))
-    ∙ ap₂ (λ (us vs : List Call). us ++ vs) (new-calls K x xs (x .step) refl)
-        (map-map (λ (g : Signed K (x ∷ xs)). g .call) (stepSigned x xs fair) (story xs (past x xs fair))
-          ∙ sym (map-map (touched K x xs (x .step)) (λ (g : Signed K xs). g .call) (story xs (past x xs fair)))
-          ∙ ap (map (touched K x xs (x .step))) (story-log xs (past x xs fair)))
-    ∙ sym (note-shape K x xs (Log K xs) (x .step))
+      ∙ ap₂ (λ (us vs : List Call). us ++ vs) (new-calls K x xs (x .step) refl)
+      (map-map (λ (g : Signed K (x ∷ xs)). g .call) (stepSigned x xs fair) (story xs (past x xs fair))
+      ∙ sym (map-map (touched K x xs (x .step)) (λ (g : Signed K xs). g .call) (story xs (past x xs fair)))
+      ∙ ap (map (touched K x xs (x .step))) (story-log xs (past x xs fair)))
+      ∙ sym (note-shape K x xs (Log K xs) (x .step))
 
   -- a known call, a step later
   pub story-next : (x : StepOf K) (xs : Steps K) (fair : Fair K (x ∷ xs)) (g : Signed K xs) → In g (story xs (past x xs fair)) → In (stepSigned x xs fair g) (story (x ∷ xs) fair)
@@ -90,13 +90,13 @@ module _ (K : Setup) where
       go (d ∷ ds) k = (omega (arith, k .0, step-keeps x xs fair a .begun, step-keeps x xs fair d .begun), go ds (k .1))
 
   begin-pairs : {ys : Steps K} (a : Call) (b : Bool) (f : b ≡ true → CallOk K ys a blankStamp) (l : List (Signed K ys)) → ((g : Signed K ys) → In g l → g .call .begun < a .begun) →
-    AllPairs (λ (a b : Signed K ys). Later a b) l → AllPairs (λ (a b : Signed K ys). Later a b) (beginSigned K a b f ++ l)
+      AllPairs (λ (a b : Signed K ys). Later a b) l → AllPairs (λ (a b : Signed K ys). Later a b) (beginSigned K a b f ++ l)
   unfolding beginSigned AllPairs
   begin-pairs {ys} a true f l k h = (all-of (λ (g : Signed K ys). g .call .begun < a .begun) l k, h)
   begin-pairs a false f l k h = h
 
   new-pairs : (x : StepOf K) (xs : Steps K) (st : Step) (e : x .step ≡ st) (l : List (Signed K (x ∷ xs))) → ((g : Signed K (x ∷ xs)) → In g l → g .call .begun < length xs) →
-    AllPairs (λ (a b : Signed K (x ∷ xs)). Later a b) l → AllPairs (λ (a b : Signed K (x ∷ xs)). Later a b) (newSigned K x xs st e ++ l)
+      AllPairs (λ (a b : Signed K (x ∷ xs)). Later a b) l → AllPairs (λ (a b : Signed K (x ∷ xs)). Later a b) (newSigned K x xs st e ++ l)
   unfolding newSigned newCall
   new-pairs x xs (write c r n) e l f h = begin-pairs _ (accepted (result K x xs)) (new-write K x xs c r n e) l f h
   new-pairs x xs (read c) e l f h = begin-pairs _ (accepted (result K x xs)) (new-read K x xs c e) l f h
@@ -112,7 +112,7 @@ module _ (K : Setup) where
     where
       old : (g : Signed K (x ∷ xs)) → In g (map (stepSigned x xs fair) (story xs (past x xs fair))) → g .call .begun < length xs
       old g i = let r = map-in (stepSigned x xs fair) (story xs (past x xs fair)) g i in
-        omega (arith, ap (λ (z : Signed K (x ∷ xs)). z .call .begun) (r .2), step-keeps x xs fair (r .0) .begun, r .0 .ok .base .begun-lt)
+          omega (arith, ap (λ (z : Signed K (x ∷ xs)). z .call .begun) (r .2), step-keeps x xs fair (r .0) .begun, r .0 .ok .base .begun-lt)
 
   -- ---- the call in hand
 
@@ -128,7 +128,7 @@ module _ (K : Setup) where
   begin-has a false f l e = clash e refl
 
   new-has : (x : StepOf K) (xs : Steps K) (c : ℕ) (st : Step) (e : x .step ≡ st) (l : List (Signed K (x ∷ xs))) → accepted (result K x xs) ≡ true → ((r n : List ℕ) × (st ≡ write c r n)) ⊎ (st ≡ read c) →
-    (g : Signed K (x ∷ xs)) × In g (newSigned K x xs st e ++ l) × (g .call .client ≡ c) × (g .call .number ≡ suc (calls K xs c))
+      (g : Signed K (x ∷ xs)) × In g (newSigned K x xs st e ++ l) × (g .call .client ≡ c) × (g .call .number ≡ suc (calls K xs c))
   unfolding newSigned newCall
   new-has x xs c (write d r n) e l acc s = let g = begin-has _ (accepted (result K x xs)) (new-write K x xs d r n e) l acc in let q : d ≡ c = same s in
       (g .0, g .1, ap (λ (a : Call). a .client) (g .2) ∙ q, ap (λ (a : Call). a .number) (g .2) ∙ ap (λ (i : ℕ). suc (calls K xs i)) q)
@@ -158,14 +158,18 @@ module _ (K : Setup) where
     where
       w : World
       w = now (K .s) xs
+
       cl' : Client
       cl' = perform (K .s) w (x .step) .world .client c
+
       on : calls K xs c ≡ cl' .calls → Has xs (past x xs fair) c → Has (x ∷ xs) fair c
       on q h = let k = step-keeps x xs fair (h .known) in
-        record { known = stepSigned x xs fair (h .known); among = story-next x xs fair (h .known) (h .among); client = k .client ∙ h .client; number = k .number ∙ h .number ∙ q }
+          record { known = stepSigned x xs fair (h .known); among = story-next x xs fair (h .known) (h .among); client = k .client ∙ h .client; number = k .number ∙ h .number ∙ q }
+
       began : cl' .calls ≡ suc (calls K xs c) → accepted (result K x xs) ≡ true → ((r n : List ℕ) × (x .step ≡ write c r n)) ⊎ (x .step ≡ read c) → Has (x ∷ xs) fair c
       began q acc s = let g = new-has x xs c (x .step) refl (map (stepSigned x xs fair) (story xs (past x xs fair))) acc s in
-        record { known = g .0; among = g .1; client = g .2; number = g .3 ∙ sym q }
+          record { known = g .0; among = g .1; client = g .2; number = g .3 ∙ sym q }
+
       go : Moved (K .s) c w (x .step) cl' (result K x xs) → (isIdle (hand K xs c) ≡ false → Has xs (past x xs fair) c) → Has (x ∷ xs) fair c
       go (kept e _) f = on (sym (ap (λ (z : Client). z .calls) e)) (f (subst (λ (z : Client). isIdle (z .hand) ≡ false) e b))
       go (wbegan r n s a i l e) f = began (ap (λ (z : Client). z .calls) e) (subst (λ (v : Result). accepted v ≡ true) (sym a) refl) (inl (r, n, s))
@@ -187,22 +191,38 @@ module _ (K : Setup) where
 
   counts-up : (x : StepOf K) (xs : Steps K) (fair : Fair K (x ∷ xs)) (n : List ℕ) → Counts xs (past x xs fair) n → Counts (x ∷ xs) fair n
   counts-up x xs fair n h = let k = step-keeps x xs fair (h .known) in let r = k .reached (h .reached) in
-    record { known = stepSigned x xs fair (h .known); among = story-next x xs fair (h .known) (h .among); reached = r .0; write = h .write; made = marks-up (K .s) (h .write) x xs (h .made);
-      nonce-is = h .nonce-is; stamp-is = h .stamp-is ∙ sym (r .1); wrote = k .wrote ∙ h .wrote }
+      record {
+        known = stepSigned x xs fair (h .known);
+        among = story-next x xs fair (h .known) (h .among);
+        reached = r .0;
+        write = h .write;
+        made = marks-up (K .s) (h .write) x xs (h .made);
+        nonce-is = h .nonce-is;
+        stamp-is = h .stamp-is ∙ sym (r .1);
+        wrote = k .wrote ∙ h .wrote;
+      }
 
   pub shown-call : (xs : Steps K) (fair : Fair K xs) (c : ℕ) (n : List ℕ) → Ever (Show K c n) xs → Counts xs fair n
   unfolding Ever Cur Known isIdle awaits
   shown-call [] fair c n h = absurd h
   shown-call (x ∷ xs) fair c n (inl h) = counts-up x xs fair n
-    (let v = show-hand K c n x xs h in
-     let a = has-call xs (past x xs fair) c (subst (λ (z : Hand). isIdle z ≡ false) (sym (v .1)) refl) in
-     let g = a .known in
-     let cur = subst (Cur K xs (g .call) (g .stamp)) (ap (λ (i : ℕ). hand K xs i) (a .client) ∙ v .1) (g .ok .current (a .number ∙ ap (calls K xs) (sym (a .client)))) in
-     let W = cur .0 in
-     let f = subst (Known (K .s) xs c) (v .1) (known (K .s) xs c) in
-     let made = mark-at K (W .write) (g .call .begun) xs (W .since-when) in
-     let q : W .write .stamp ≡ f .0 .stamp = W .stamp-is ∙ sym (W .hand-is) ∙ ap (λ (z : Candidate). z .stamp) (f .3) in
-     let e : W .write ≡ f .0 = by-stamp (K .s) xs (W .write) (f .0) made (f .1) (ap (λ (z : Stamp). z .number) q) (ap (λ (z : Stamp). z .writer) q) in
-     record { known = g; among = a .among; reached = cur .3; write = W .write; made = made; nonce-is = ap (λ (m : Stamped). m .nonce) e ∙ sym (ap (λ (z : Candidate). z .nonce) (f .3)) ∙ v .2;
-       stamp-is = W .stamp-is; wrote = W .content-is })
+      (let v = show-hand K c n x xs h in
+      let a = has-call xs (past x xs fair) c (subst (λ (z : Hand). isIdle z ≡ false) (sym (v .1)) refl) in
+      let g = a .known in
+      let cur = subst (Cur K xs (g .call) (g .stamp)) (ap (λ (i : ℕ). hand K xs i) (a .client) ∙ v .1) (g .ok .current (a .number ∙ ap (calls K xs) (sym (a .client)))) in
+      let W = cur .0 in
+      let f = subst (Known (K .s) xs c) (v .1) (known (K .s) xs c) in
+      let made = mark-at K (W .write) (g .call .begun) xs (W .since-when) in
+      let q : W .write .stamp ≡ f .0 .stamp = W .stamp-is ∙ sym (W .hand-is) ∙ ap (λ (z : Candidate). z .stamp) (f .3) in
+      let e : W .write ≡ f .0 = by-stamp (K .s) xs (W .write) (f .0) made (f .1) (ap (λ (z : Stamp). z .number) q) (ap (λ (z : Stamp). z .writer) q) in
+      record {
+        known = g;
+        among = a .among;
+        reached = cur .3;
+        write = W .write;
+        made = made;
+        nonce-is = ap (λ (m : Stamped). m .nonce) e ∙ sym (ap (λ (z : Candidate). z .nonce) (f .3)) ∙ v .2;
+        stamp-is = W .stamp-is;
+        wrote = W .content-is;
+      })
   shown-call (x ∷ xs) fair c n (inr h) = counts-up x xs fair n (shown-call xs (past x xs fair) c n h)
