@@ -1,0 +1,175 @@
+-- Marks are no more than the writes begun: their nonces differ, and each is the nonce of a write that began.
+-- Assumes nothing.
+use mathlib.Core.Path.{_≡_, refl, sym, ap, ap₂, _∙_, subst}
+use mathlib.Core.Bool.{Bool, true, false, cond, not, _&&_, _||_}
+use mathlib.Core.List.{List, [], _∷_, _++_, map}
+use mathlib.Core.Option.{Option, none, some}
+use mathlib.Core.Logic.{_⊎_, inl, inr}
+use Prim.Native.Nat.{ℕ, zero, suc, _+_, _*_, _≤_, _<_}
+use native.Mathlib.Omega.{arith}
+use lib.Dec.{leb, ltb, eqb}
+use lib.ListN.{length, length-append}
+use Rattle.cluster.specs.Config.{upTo}
+use Rattle.protocol.specs.declared.Stamp.{Stamp}
+use Rattle.protocol.specs.Values.{Candidate, Held, sameList}
+use Rattle.protocol.specs.Packet.{Body, Packet, kindOf, decode}
+use Rattle.protocol.specs.Packet.{clock, clockReply, store, storeReply, complete, completeReply, collect, collectReply, filter, filterReply, repair, repairReply}
+use Rattle.protocol.specs.Primitives.{stampMessage, candidateMessage}
+use Rattle.protocol.specs.Rules.{ByServer, keep, leader, tagsIn}
+use Rattle.protocol.specs.Client.{Client, Hand, Turn, Result, idle, clocking, storing, completing, collecting, filtering, repairing, awaits}
+use Rattle.protocol.specs.Client.{update, judge, found, onto, begun, prepared, candidateMade, stampOf, higher, checks, stampIn, codeIn}
+use Rattle.protocol.specs.Runs.{Step, write, read, make, take-reply, give-up, serve, Typed, World, nowValues}
+use Rattle.atomicity.specs.Lists.{Ever, Always, All, In, AllPairs, flat}
+use Rattle.atomicity.specs.Steps.{System, Stamped, accepted, onBody, clockStamps, stampedFrom, stampedBy, stampedAt, tagsWith, tagsMade, clockChecks, checkedBy, tagsChecked}
+use Rattle.atomicity.specs.Premises.{Begins, NoForgery}
+use Rattle.atomicity.specs.Claim.{Call, given, log, begunWrites}
+use Rattle.atomicity.proofs.Util.{cond-case, cond-both, clash, and-left, left-in, right-in, split-in, in-flat, map-in, all-in, all-of, ever-map}
+use Rattle.atomicity.proofs.Model.{Run, perform, now, account, marks, updated, turn}
+use Rattle.atomicity.proofs.Setup.{Setup, Steps, StepOf, Fair, Begin, hand, calls}
+use Rattle.atomicity.proofs.Moves.{Moved, kept, wbegan, rbegan, quit, took, moved}
+use Rattle.atomicity.proofs.Rounds.{turn-turned}
+use Rattle.atomicity.proofs.Marks.{mark-source, capped, above}
+use Rattle.atomicity.proofs.Begun.{begins, by-nonce}
+use Rattle.atomicity.proofs.Logs.{Log, result, touched, news, newCall, note-shape, Signed}
+use Rattle.atomicity.proofs.Story.{past, story, story-log, stepSigned, step-keeps}
+use Rattle.atomicity.proofs.Listed.{pigeon, map-size, map-apart}
+
+-- ---- a step gives one mark at most
+
+from-one : (c : ℕ) (h h' : Hand) → (stampedFrom c h h' ≡ []) ⊎ ((m : Stamped) × (stampedFrom c h h' ≡ m ∷ []))
+unfolding stampedFrom
+from-one c idle h' = inl refl
+from-one c (clocking r n k) idle = inl refl
+from-one c (clocking r n k) (clocking r' n' k') = inl refl
+from-one c (clocking r n k) (storing d g) = inr (_, refl)
+from-one c (clocking r n k) (completing d) = inl refl
+from-one c (clocking r n k) (collecting g) = inl refl
+from-one c (clocking r n k) (filtering cs g) = inl refl
+from-one c (clocking r n k) (repairing d r') = inl refl
+from-one c (storing d g) h' = inl refl
+from-one c (completing d) h' = inl refl
+from-one c (collecting g) h' = inl refl
+from-one c (filtering cs g) h' = inl refl
+from-one c (repairing d r) h' = inl refl
+
+by-one : (was is : ℕ → Client) (x : Step) → (stampedBy was is x ≡ []) ⊎ ((m : Stamped) × (stampedBy was is x ≡ m ∷ []))
+unfolding stampedBy
+by-one was is (write c r n) = inl refl
+by-one was is (read c) = inl refl
+by-one was is (make c b o) = inl refl
+by-one was is (take-reply c b o) = from-one c (was c .hand) (is c .hand)
+by-one was is (give-up c) = inl refl
+by-one was is (serve b p o) = inl refl
+
+module _ (K : Setup) where
+  -- ---- marks are no more than the writes begun
+
+  marks-apart : (xs : Steps K) → Fair K xs → AllPairs (λ (a b : Stamped). a .nonce ≡ b .nonce → ⊥) (marks (K .s) xs)
+  unfolding marks AllPairs nowValues In
+  marks-apart [] fair = tt
+  marks-apart (x ∷ xs) fair = go (by-one (now (K .s) xs .client) (perform (K .s) (now (K .s) xs) (x .step) .world .client) (x .step)) (marks-apart xs (past K x xs fair))
+    where
+      A : List Stamped
+      A = stampedAt (K .s) (account (K .s)) x xs
+
+      go : (A ≡ []) ⊎ ((m : Stamped) × (A ≡ m ∷ [])) → AllPairs (λ (a b : Stamped). a .nonce ≡ b .nonce → ⊥) (marks (K .s) xs) → AllPairs (λ (a b : Stamped). a .nonce ≡ b .nonce → ⊥) (A ++ marks (K .s) xs)
+      go (inl e) h = subst (λ (l : List Stamped). AllPairs (λ (a b : Stamped). a .nonce ≡ b .nonce → ⊥) (l ++ marks (K .s) xs)) (sym e) h
+      go (inr m) h = subst (λ (l : List Stamped). AllPairs (λ (a b : Stamped). a .nonce ≡ b .nonce → ⊥) (l ++ marks (K .s) xs)) (sym (m .1)) (
+        all-of (λ (b : Stamped). m .0 .nonce ≡ b .nonce → ⊥) (marks (K .s) xs) (λ b i e.
+            let here : In (m .0) A = subst (λ (l : List Stamped). In (m .0) l) (sym (m .1)) (inl refl) in
+            let q : m .0 ≡ b = by-nonce K (x ∷ xs) fair (m .0) b (left-in (m .0) A (marks (K .s) xs) here) (right-in b A (marks (K .s) xs) i) e in
+            omega (arith, above (K .s) x xs (m .0) b (ap (λ (z : Stamped). z .client) q) (mark-source (K .s) (now (K .s) xs) (x .step) (m .0) here) i, ap (λ (z : Stamped). z .stamp .number) q)),
+        h,
+      )
+
+  -- the nonces of the writes begun
+  begunNonce : StepOf K → Steps K → Step → List (List ℕ)
+  begunNonce x xs (write c r n) = cond (accepted (result K x xs)) (n ∷ []) []
+  begunNonce x xs (read c) = []
+  begunNonce x xs (make c b o) = []
+  begunNonce x xs (take-reply c b o) = []
+  begunNonce x xs (give-up c) = []
+  begunNonce x xs (serve b p o) = []
+
+  nonces : Steps K → List (List ℕ)
+  nonces [] = []
+  nonces (x ∷ xs) = begunNonce x xs (x .step) ++ nonces xs
+
+  begun-nonce : (xs : Steps K) (c : ℕ) (n : List ℕ) → Ever (Begin K c n) xs → In n (nonces xs)
+  unfolding Ever Begins In nonces begunNonce
+  begun-nonce [] c n h = absurd h
+  begun-nonce (x ∷ xs) c n (inl h) = left-in n (begunNonce x xs (x .step)) (nonces xs) (subst (λ (y : Step). In n (begunNonce x xs y)) (sym (h .1)) (here (h .0) (h .2)))
+    where
+      here : (r : List ℕ) → accepted (result K x xs) ≡ true → In n (begunNonce x xs (write c r n))
+      here r e = subst (λ (b : Bool). In n (cond b (n ∷ []) [])) (sym e) (inl refl)
+  begun-nonce (x ∷ xs) c n (inr h) = right-in n (begunNonce x xs (x .step)) (nonces xs) (begun-nonce xs c n h)
+
+  abbrev isWrite : Call → Bool
+  isWrite c = given (c .wrote)
+
+  keep-append : (p : Call → Bool) (us vs : List Call) → length (keep p (us ++ vs)) ≡ length (keep p us) + length (keep p vs)
+  unfolding keep
+  keep-append p [] vs = omega arith
+  keep-append p (u ∷ us) vs = go (p u) (keep-append p us vs)
+    where
+      go : (b : Bool) → length (keep p (us ++ vs)) ≡ length (keep p us) + length (keep p vs) → length (cond b (u ∷ keep p (us ++ vs)) (keep p (us ++ vs))) ≡ length (cond b (u ∷ keep p us) (keep p us)) + length (keep p vs)
+      go true e = omega (arith, e)
+      go false e = e
+
+  map-writes : (x : StepOf K) (xs : Steps K) (fair : Fair K (x ∷ xs)) (gs : List (Signed K xs)) →
+      length (keep isWrite (map (touched K x xs (x .step)) (map (λ (g : Signed K xs). g .call) gs))) ≡ length (keep isWrite (map (λ (g : Signed K xs). g .call) gs))
+  unfolding keep stepSigned
+  map-writes x xs fair [] = refl
+  map-writes x xs fair (g ∷ gs) = go (step-keeps K x xs fair g .wrote) (map-writes x xs fair gs)
+    where
+      T : List Call
+      T = map (touched K x xs (x .step)) (map (λ (g : Signed K xs). g .call) gs)
+
+      C : List Call
+      C = map (λ (g : Signed K xs). g .call) gs
+
+      two : (b : Bool) (u v : Call) → length (keep isWrite T) ≡ length (keep isWrite C) → length (cond b (u ∷ keep isWrite T) (keep isWrite T)) ≡ length (cond b (v ∷ keep isWrite C) (keep isWrite C))
+      two true u v e = ap suc e
+      two false u v e = e
+
+      go : touched K x xs (x .step) (g .call) .wrote ≡ g .call .wrote → length (keep isWrite T) ≡ length (keep isWrite C) →
+          length (cond (given (touched K x xs (x .step) (g .call) .wrote)) (touched K x xs (x .step) (g .call) ∷ keep isWrite T) (keep isWrite T)) ≡ length (cond (given (g .call .wrote)) (g .call ∷ keep isWrite C) (keep isWrite C))
+      go q e = ap (λ (o : Option (List ℕ)). length (cond (given o) (touched K x xs (x .step) (g .call) ∷ keep isWrite T) (keep isWrite T))) q ∙ two (given (g .call .wrote)) (touched K x xs (x .step) (g .call)) (g .call) e
+
+  new-writes : (x : StepOf K) (xs : Steps K) (st : Step) → length (begunNonce x xs st) ≡ length (keep isWrite (news K x xs st))
+  unfolding begunNonce news keep newCall
+  new-writes x xs (write c r n) = go (accepted (result K x xs))
+    where
+      go : (b : Bool) → length (cond b (n ∷ []) []) ≡ length (keep isWrite (cond b (newCall c (suc (calls K xs c)) (some r) (length xs) ∷ []) []))
+      go true = refl
+      go false = refl
+  new-writes x xs (read c) = go (accepted (result K x xs))
+    where
+      go : (b : Bool) → _≡_ {A = ℕ} 0 (length (keep isWrite (cond b (newCall c (suc (calls K xs c)) none (length xs) ∷ []) [])))
+      go true = refl
+      go false = refl
+  new-writes x xs (make c b o) = refl
+  new-writes x xs (take-reply c b o) = refl
+  new-writes x xs (give-up c) = refl
+  new-writes x xs (serve b p o) = refl
+
+  nonces-writes : (xs : Steps K) → Fair K xs → length (nonces xs) ≡ begunWrites (Log K xs)
+  unfolding log nonces begunWrites keep
+  nonces-writes [] fair = refl
+  nonces-writes (x ∷ xs) fair = length-append (begunNonce x xs (x .step)) (nonces xs)
+      ∙ ap₂ (λ (a b : ℕ). a + b) (new-writes x xs (x .step)) (nonces-writes xs (past K x xs fair) ∙ sym old)
+      ∙ sym (keep-append isWrite (news K x xs (x .step)) (map (touched K x xs (x .step)) (Log K xs)))
+      ∙ ap (λ (l : List Call). length (keep isWrite l)) (sym (note-shape K x xs (Log K xs) (x .step)))
+    where
+      old : length (keep isWrite (map (touched K x xs (x .step)) (Log K xs))) ≡ length (keep isWrite (Log K xs))
+      old = subst (λ (l : List Call). length (keep isWrite (map (touched K x xs (x .step)) l)) ≡ length (keep isWrite l)) (story-log K xs (past K x xs fair)) (map-writes x xs fair (story K xs (past K x xs fair)))
+
+  pub few-marks : (xs : Steps K) → Fair K xs → length (marks (K .s) xs) ≤ begunWrites (Log K xs)
+  few-marks xs fair = omega (
+    arith,
+    nonces-writes xs fair,
+    map-size (λ (m : Stamped). m .nonce) (marks (K .s) xs),
+    pigeon (map (λ (m : Stamped). m .nonce) (marks (K .s) xs)) (nonces xs)
+        (map-apart (λ (m : Stamped). m .nonce) (λ (a b : Stamped). a .nonce ≡ b .nonce → ⊥) (marks (K .s) xs) (λ a b i j r e. r e) (marks-apart xs fair))
+        (λ n i. let r = map-in (λ (m : Stamped). m .nonce) (marks (K .s) xs) n i in subst (λ (z : List ℕ). In z (nonces xs)) (sym (r .2)) (begun-nonce xs (r .0 .client) (r .0 .nonce) (begins K xs (r .0) (r .1)))),
+  )

@@ -1,0 +1,190 @@
+-- What is known of each call of the log, with a stamp that the proof keeps beside it; and that it lasts while other calls step.
+-- A write's stamp is above all that had ended when it began, a read's is at least as high and is that of the write whose content it gave.
+-- Assumes nothing.
+use mathlib.Core.Path.{_≡_, refl, sym, ap, _∙_, subst}
+use mathlib.Core.Bool.{Bool, true, false, cond, not, _&&_, _||_}
+use mathlib.Core.List.{List, [], _∷_, _++_}
+use mathlib.Core.Option.{Option, none, some}
+use mathlib.Core.Logic.{_⊎_, inl, inr}
+use Prim.Native.Nat.{ℕ, zero, suc, _+_, _*_, _≤_, _<_}
+use native.Mathlib.Omega.{arith}
+use lib.Dec.{leb, ltb, eqb}
+use lib.ListN.{length}
+use Rattle.protocol.specs.declared.Stamp.{Stamp}
+use Rattle.protocol.specs.Values.{Candidate, Share, below, blankStamp}
+use Rattle.protocol.specs.Packet.{Packet, decode}
+use Rattle.protocol.specs.Client.{Client, Hand, Result, idle, clocking, storing, completing, collecting, filtering, repairing, begun, onto}
+use Rattle.protocol.specs.Runs.{Step, take-reply, Typed, World, nowValues}
+use Rattle.atomicity.specs.Lists.{Ever, Always, In}
+use Rattle.atomicity.specs.Steps.{System, Stamped, accepted, stampedAt}
+use Rattle.atomicity.specs.Claim.{Call}
+use Rattle.atomicity.proofs.Util.{cond-case, left-in, right-in}
+use Rattle.atomicity.proofs.Model.{Run, perform, now, account, marks}
+use Rattle.atomicity.proofs.Setup.{Setup, Steps, StepOf, Fair, Show, hand, calls}
+use Rattle.atomicity.proofs.Moves.{Fits, Moved, kept, wbegan, rbegan, quit, took, moved}
+use Rattle.atomicity.proofs.Rounds.{turn-turned, since, since-same}
+use Rattle.atomicity.proofs.Marks.{marks-up}
+use Rattle.atomicity.proofs.Invariant.{Ends}
+
+module _ (K : Setup) where
+  -- a mark, and when its call began
+  abbrev pub MarkAt : Stamped → ℕ → Steps K → Type 0
+  MarkAt m t xs = Ever (λ (y : StepOf K) ys. In m (stampedAt (K .s) (account (K .s)) y ys) × (length (since (K .s) (m .client) ys) ≡ t)) xs
+
+  pub mark-at : (m : Stamped) (t : ℕ) (zs : Steps K) → MarkAt m t zs → In m (marks (K .s) zs)
+  unfolding Ever marks
+  mark-at m t [] h = absurd h
+  mark-at m t (z ∷ zs) (inl h) = left-in m (stampedAt (K .s) (account (K .s)) z zs) (marks (K .s) zs) (h .0)
+  mark-at m t (z ∷ zs) (inr h) = right-in m (stampedAt (K .s) (account (K .s)) z zs) (marks (K .s) zs) (mark-at m t zs h)
+
+  pub since-length : (c : ℕ) (xs : Steps K) → length (since (K .s) c xs) ≤ length xs
+  unfolding since
+  since-length c [] = omega arith
+  since-length c (x ∷ xs) = cond-case (λ (z : Steps K). length z ≤ length (x ∷ xs)) (eqb (calls K xs c) (calls K (x ∷ xs) c)) _ xs (λ e. omega (arith, since-length c xs)) (λ e. omega arith)
+
+  -- an end before the begin of the call lies before it
+  pub ends-since : (c : ℕ) (xs : Steps K) (a : Stamp) (e : ℕ) → Ends K a e xs → e < length (since (K .s) c xs) → Ends K a e (since (K .s) c xs)
+  unfolding since Ever
+  ends-since c [] a e h l = h
+  ends-since c (x ∷ xs) a e h l = go (eqb (calls K xs c) (calls K (x ∷ xs) c)) h l (λ k m. ends-since c xs a e k m) (since-length c xs)
+    where
+      go : (b : Bool) → Ends K a e (x ∷ xs) → e < length (cond b (since (K .s) c xs) xs) → (Ends K a e xs → e < length (since (K .s) c xs) → Ends K a e (since (K .s) c xs)) →
+          length (since (K .s) c xs) ≤ length xs → Ends K a e (cond b (since (K .s) c xs) xs)
+      go true (inl k) m f n = absurd (omega (arith, k .0, m, n))
+      go true (inr k) m f n = f k m
+      go false (inl k) m f n = absurd (omega (arith, k .0, m))
+      go false (inr k) m f n = k
+
+  pub ends-back : (x : StepOf K) (xs : Steps K) (a : Stamp) (e : ℕ) → Ends K a e (x ∷ xs) → e < length xs → Ends K a e xs
+  unfolding Ever
+  ends-back x xs a e (inl k) l = absurd (omega (arith, k .0, l))
+  ends-back x xs a e (inr k) l = k
+
+  -- ---- a call of the log, with its stamp
+
+  pub record Written (xs : Steps K) (a : Call) (σ : Stamp) (v : List ℕ) : Type 0 where
+    pub floor : (b : Stamp) (e : ℕ) → Ends K b e xs → e < a .begun → b .number < σ .number
+    pub write : Stamped
+    pub mine : write .client ≡ a .client
+    pub content-is : write .content ≡ v
+    pub stamp-is : write .stamp ≡ σ
+    pub since-when : MarkAt write (a .begun) xs
+
+  pub record Given (xs : Steps K) (a : Call) (σ : Stamp) (m : Stamped) : Type 0 where
+    pub made : In m (marks (K .s) xs)
+    pub shown : Ever (Show K (m .client) (m .nonce)) xs
+    pub stamp-is : m .stamp ≡ σ
+    pub answer-is : a .answer ≡ some (m .content)
+
+  pub record Read (xs : Steps K) (a : Call) (σ : Stamp) : Type 0 where
+    pub floor : (b : Stamp) (e : ℕ) → Ends K b e xs → e < a .begun → below σ b ≡ false
+    pub value : ((a .answer ≡ none) × (σ ≡ blankStamp)) ⊎ ((m : Stamped) × Given xs a σ m)
+
+  pub record Base (xs : Steps K) (a : Call) (σ : Stamp) : Type 0 where
+    pub begun-lt : a .begun < length xs
+    pub number-le : a .number ≤ calls K xs (a .client)
+    pub ended : (e : ℕ) → a .over ≡ some e → (a .begun < e) × (e < length xs) × Ends K σ e xs
+    pub write : (v : List ℕ) → a .wrote ≡ some v → a .reached ≡ true → Written xs a σ v
+    pub read : (e : ℕ) → a .wrote ≡ none → a .over ≡ some e → Read xs a σ
+    pub reaches : (v : List ℕ) (e : ℕ) → a .wrote ≡ some v → a .over ≡ some e → a .reached ≡ true
+    pub leaves : a .gaveUp ≡ true → a .over ≡ none
+
+  -- the call in hand
+  pub record Open (xs : Steps K) (a : Call) : Type 0 where
+    pub going : a .over ≡ none
+    pub staying : a .gaveUp ≡ false
+    pub began : a .begun ≡ length (since (K .s) (a .client) xs)
+    pub unreached : a .reached ≡ false
+
+  -- a write in hand that has its stamp
+  pub record Writing (xs : Steps K) (a : Call) (σ : Stamp) (d : Candidate) : Type 0 where
+    pub write : Stamped
+    pub mine : write .client ≡ a .client
+    pub content-is : a .wrote ≡ some (write .content)
+    pub stamp-is : write .stamp ≡ σ
+    pub hand-is : d .stamp ≡ σ
+    pub since-when : MarkAt write (a .begun) xs
+
+  unfoldable pub Cur : Steps K → Call → Stamp → Hand → Type 0
+  Cur xs a σ idle = Unit {0}
+  Cur xs a σ (clocking r n k) = Open xs a × (a .wrote ≡ some r)
+  Cur xs a σ (storing d g) = Open xs a × Writing xs a σ d
+  Cur xs a σ (completing d) = Writing xs a σ d × (a .over ≡ none) × (a .gaveUp ≡ false) × (a .reached ≡ true)
+  Cur xs a σ (collecting g) = Open xs a × (a .wrote ≡ none)
+  Cur xs a σ (filtering cs g) = Open xs a × (a .wrote ≡ none)
+  Cur xs a σ (repairing d r) = Open xs a × (a .wrote ≡ none)
+
+  pub record CallOk (xs : Steps K) (a : Call) (σ : Stamp) : Type 0 where
+    pub base : Base xs a σ
+    pub current : a .number ≡ calls K xs (a .client) → Cur xs a σ (hand K xs (a .client))
+
+  -- ---- what lasts
+
+  pub base-up : (x : StepOf K) (xs : Steps K) (a : Call) (σ : Stamp) → calls K xs (a .client) ≤ calls K (x ∷ xs) (a .client) → Base xs a σ → Base (x ∷ xs) a σ
+  unfolding Ever
+  base-up x xs a σ l h = record {
+    begun-lt = omega (arith, h .begun-lt);
+    number-le = omega (arith, h .number-le, l);
+    ended = λ e q. let r = h .ended e q in (r .0, omega (arith, r .1), inr (r .2));
+    write = λ v p q. let r = h .write v p q in record { floor = λ b e k m. r .floor b e (ends-back x xs b e k (omega (arith, m, h .begun-lt))) m; write = r .write; mine = r .mine; content-is = r .content-is; stamp-is = r .stamp-is; since-when = inr (r .since-when) };
+    read = λ e p q. let r = h .read e p q in record { floor = λ b e k m. r .floor b e (ends-back x xs b e k (omega (arith, m, h .begun-lt))) m; value = go (r .value) };
+    reaches = h .reaches;
+    leaves = h .leaves;
+  }
+    where
+      go : ((a .answer ≡ none) × (σ ≡ blankStamp)) ⊎ ((m : Stamped) × Given xs a σ m) → ((a .answer ≡ none) × (σ ≡ blankStamp)) ⊎ ((m : Stamped) × Given (x ∷ xs) a σ m)
+      go (inl p) = inl p
+      go (inr g) = inr (g .0, record { made = marks-up (K .s) (g .0) x xs (g .1 .made); shown = inr (g .1 .shown); stamp-is = g .1 .stamp-is; answer-is = g .1 .answer-is })
+
+  pub open-up : (x : StepOf K) (xs : Steps K) (a : Call) → calls K xs (a .client) ≡ calls K (x ∷ xs) (a .client) → Open xs a → Open (x ∷ xs) a
+  open-up x xs a e h = record { going = h .going; staying = h .staying; began = h .began ∙ ap length (sym (since-same (K .s) (a .client) x xs e)); unreached = h .unreached }
+
+  pub writing-up : (x : StepOf K) (xs : Steps K) (a : Call) (σ : Stamp) (d : Candidate) → Writing xs a σ d → Writing (x ∷ xs) a σ d
+  unfolding Ever
+  writing-up x xs a σ d h = record { write = h .write; mine = h .mine; content-is = h .content-is; stamp-is = h .stamp-is; hand-is = h .hand-is; since-when = inr (h .since-when) }
+
+  pub cur-up : (x : StepOf K) (xs : Steps K) (a : Call) (σ : Stamp) (h : Hand) → calls K xs (a .client) ≡ calls K (x ∷ xs) (a .client) → Cur xs a σ h → Cur (x ∷ xs) a σ h
+  unfolding Cur
+  cur-up x xs a σ idle e c = tt
+  cur-up x xs a σ (clocking r n k) e c = (open-up x xs a e (c .0), c .1)
+  cur-up x xs a σ (storing d g) e c = (open-up x xs a e (c .0), writing-up x xs a σ d (c .1))
+  cur-up x xs a σ (completing d) e c = (writing-up x xs a σ d (c .0), c .1, c .2, c .3)
+  cur-up x xs a σ (collecting g) e c = (open-up x xs a e (c .0), c .1)
+  cur-up x xs a σ (filtering cs g) e c = (open-up x xs a e (c .0), c .1)
+  cur-up x xs a σ (repairing d r) e c = (open-up x xs a e (c .0), c .1)
+
+  -- what a step keeps of a call
+  pub record Keeps (a : Call) (σ : Stamp) (b : Call) (τ : Stamp) : Type 0 where
+    pub client : b .client ≡ a .client
+    pub number : b .number ≡ a .number
+    pub begun : b .begun ≡ a .begun
+    pub wrote : b .wrote ≡ a .wrote
+    pub reached : a .reached ≡ true → (b .reached ≡ true) × (τ ≡ σ)
+
+  pub keeps-refl : (a : Call) (σ : Stamp) → Keeps a σ a σ
+  keeps-refl a σ = record { client = refl; number = refl; begun = refl; wrote = refl; reached = λ e. (e, refl) }
+
+  -- a call that takes no reply in this step
+  pub carry : (x : StepOf K) (xs : Steps K) (a : Call) (σ : Stamp) → CallOk xs a σ →
+      ((p : Packet) (b o : List ℕ) → x .step ≡ take-reply (a .client) b o → decode b ≡ some p → accepted (perform (K .s) (now (K .s) xs) (x .step) .result) ≡ true → a .number ≡ calls K xs (a .client) → ⊥) →
+      CallOk (x ∷ xs) a σ
+  unfolding nowValues Cur begun onto
+  carry x xs a σ h f = go (moved (K .s) (a .client) (now (K .s) xs) (x .step))
+    where
+      cl' : Client
+      cl' = perform (K .s) (now (K .s) xs) (x .step) .world .client (a .client)
+
+      go : Moved (K .s) (a .client) (now (K .s) xs) (x .step) cl' (perform (K .s) (now (K .s) xs) (x .step) .result) → CallOk (x ∷ xs) a σ
+      go (kept e _) = let q : calls K xs (a .client) ≡ cl' .calls = sym (ap (λ (z : Client). z .calls) e) in
+          record {
+            base = base-up x xs a σ (omega (arith, q)) (h .base);
+            current = λ n. subst (λ (z : Client). Cur (x ∷ xs) a σ (z .hand)) (sym e) (cur-up x xs a σ (hand K xs (a .client)) q (h .current (n ∙ sym q)));
+          }
+      go (wbegan r n s b i l e) = let q : cl' .calls ≡ suc (calls K xs (a .client)) = ap (λ (z : Client). z .calls) e in
+          record { base = base-up x xs a σ (omega (arith, q)) (h .base); current = λ n. absurd (omega (arith, n, q, h .base .number-le)) }
+      go (rbegan s b i e) = let q : cl' .calls ≡ suc (calls K xs (a .client)) = ap (λ (z : Client). z .calls) e in
+          record { base = base-up x xs a σ (omega (arith, q)) (h .base); current = λ n. absurd (omega (arith, n, q, h .base .number-le)) }
+      go (quit s b i e) = let q : cl' .calls ≡ calls K xs (a .client) = ap (λ (z : Client). z .calls) e in
+          record { base = base-up x xs a σ (omega (arith, q)) (h .base); current = λ n. subst (λ (z : Client). Cur (x ∷ xs) a σ (z .hand)) (sym e) tt }
+      go (took p b o s rd fit e v) = let t = turn-turned (K .s) (a .client) (now (K .s) xs .client (a .client)) p in let q : cl' .calls ≡ calls K xs (a .client) = ap (λ (z : Client). z .calls) e ∙ t .calls in
+          record { base = base-up x xs a σ (omega (arith, q)) (h .base); current = λ n. absurd (f p b o s rd (subst (λ (z : Result). accepted z ≡ true) (sym v) (t .fine)) (n ∙ q)) }

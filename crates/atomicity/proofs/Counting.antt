@@ -1,0 +1,121 @@
+-- Counting servers: how quorums meet. A count is of a test over servers 1 to n, and only the laws of Legal are used of the numbers.
+-- Assumes nothing.
+use mathlib.Core.Path.{_≡_, refl, sym, ap, _∙_, subst}
+use mathlib.Core.Bool.{Bool, true, false, cond, not, _&&_, _||_}
+use Prim.Native.Nat.{ℕ, zero, suc, _+_, _-_, _*_, _≤_, _<_}
+use native.Mathlib.Omega.{arith}
+use lib.Dec.{eqb}
+use borrow.Author.Tests.{eqb-true, eqb-false, eq-eqb, ne-eqb}
+use Rattle.cluster.specs.Config.{Config, Legal, quorum}
+use Rattle.protocol.specs.Rules.{countTo, upd}
+
+-- two tests inside a third
+meet-one : (h a b : Bool) → cond (h && a) 1 0 + cond (h && b) 1 0 ≤ cond h 1 0 + cond (h && (a && b)) 1 0
+meet-one false a b = omega arith
+meet-one true false false = omega arith
+meet-one true false true = omega arith
+meet-one true true false = omega arith
+meet-one true true true = omega arith
+
+pub meet-count : (h a b : ℕ → Bool) (n : ℕ) →
+    countTo n (λ x. h x && a x) + countTo n (λ x. h x && b x) ≤ countTo n h + countTo n (λ x. h x && (a x && b x))
+unfolding countTo
+meet-count h a b zero = omega arith
+meet-count h a b (suc n) = omega (arith, meet-count h a b n, meet-one (h (suc n)) (a (suc n)) (b (suc n)))
+
+split-one : (h : Bool) → cond h 1 0 + cond (not h) 1 0 ≡ 1
+split-one false = refl
+split-one true = refl
+
+pub split-count : (h : ℕ → Bool) (n : ℕ) → countTo n h + countTo n (λ x. not (h x)) ≡ n
+unfolding countTo
+split-count h zero = refl
+split-count h (suc n) = omega (arith, split-count h n, split-one (h (suc n)))
+
+part-one : (h a : Bool) → cond a 1 0 ≤ cond (h && a) 1 0 + cond (not h) 1 0
+part-one false false = omega arith
+part-one false true = omega arith
+part-one true false = omega arith
+part-one true true = omega arith
+
+-- the correct part of a set, and all that lie
+pub part-count : (h a : ℕ → Bool) (n : ℕ) → countTo n a ≤ countTo n (λ x. h x && a x) + countTo n (λ x. not (h x))
+unfolding countTo
+part-count h a zero = omega arith
+part-count h a (suc n) = omega (arith, part-count h a n, part-one (h (suc n)) (a (suc n)))
+
+-- a positive count has a witness
+pub found : (p : ℕ → Bool) (n : ℕ) → 1 ≤ countTo n p → (x : ℕ) × (1 ≤ x) × (x ≤ n) × (p x ≡ true)
+unfolding countTo
+found p zero h = absurd (omega arith)
+found p (suc n) h = go (p (suc n)) refl h (λ k. found p n k)
+  where
+    go : (b : Bool) → p (suc n) ≡ b → 1 ≤ cond b 1 0 + countTo n p → (1 ≤ countTo n p → (y : ℕ) × (1 ≤ y) × (y ≤ n) × (p y ≡ true)) → (y : ℕ) × (1 ≤ y) × (y ≤ suc n) × (p y ≡ true)
+    go true e k rest = (suc n, omega arith, omega arith, e)
+    go false e k rest = let r = rest (omega arith) in (r .0, r .1, omega (arith, r .2), r .3)
+
+mono-one : (p r : Bool) → (p ≡ true → r ≡ true) → cond p 1 0 ≤ cond r 1 0
+mono-one false r h = omega arith
+mono-one true r h = omega (arith, ap {B = ℕ} (λ (b : Bool). cond b 1 0) (h refl))
+
+pub count-mono : (p r : ℕ → Bool) (n : ℕ) → ((x : ℕ) → 1 ≤ x → x ≤ n → p x ≡ true → r x ≡ true) → countTo n p ≤ countTo n r
+unfolding countTo
+count-mono p r zero h = omega arith
+count-mono p r (suc n) h =
+    omega (arith, count-mono p r n (λ x a b. h x a (omega arith)), mono-one (p (suc n)) (r (suc n)) (h (suc n) (omega arith) (omega arith)))
+
+-- nobody is marked
+pub count-none : (p : ℕ → Bool) (n : ℕ) → ((x : ℕ) → p x ≡ false) → countTo n p ≡ 0
+unfolding countTo
+count-none p zero h = refl
+count-none p (suc n) h = omega (arith, count-none p n h, ap {B = ℕ} (λ (b : Bool). cond b 1 0) (h (suc n)))
+
+-- one more is marked
+upd-out : (m : ℕ → Bool) (b n : ℕ) → n < b → countTo n (upd m b true) ≡ countTo n m
+unfolding countTo upd
+upd-out m b zero l = refl
+upd-out m b (suc n) l = omega (arith, upd-out m b n (omega arith), ap {B = ℕ} (λ (t : Bool). cond (cond t true (m (suc n))) 1 0) (ne-eqb (suc n) b (λ e. omega (arith, e))))
+
+pub count-upd : (m : ℕ → Bool) (b n : ℕ) → 1 ≤ b → b ≤ n → m b ≡ false → countTo n (upd m b true) ≡ suc (countTo n m)
+unfolding countTo upd
+count-upd m b zero lo hi e = absurd (omega arith)
+count-upd m b (suc n) lo hi e = go (eqb (suc n) b) refl (λ k. count-upd m b n lo k e)
+  where
+    go : (t : Bool) → eqb (suc n) b ≡ t → (b ≤ n → countTo n (upd m b true) ≡ suc (countTo n m)) →
+        cond (cond t true (m (suc n))) 1 0 + countTo n (upd m b true) ≡ suc (cond (m (suc n)) 1 0 + countTo n m)
+    go true q f = let z : suc n ≡ b = eqb-true (suc n) b q in
+        omega (arith, upd-out m b n (omega (arith, z)), ap {B = ℕ} (λ (t : Bool). cond t 1 0) (ap m z ∙ e))
+    go false q f = omega (arith, f (below-b (eqb-false (suc n) b q)))
+      where
+        below-b : (suc n ≡ b → ⊥) → b ≤ n
+        below-b z = omega arith
+
+-- ---- quorums
+
+pub quorum-sum : (s : Config) → Legal s → quorum s + s .t ≡ s .servers
+unfolding quorum
+quorum-sum s l = omega (arith, l .most)
+
+module _ (s : Config) (legal : Legal s) (correct : ℕ → Bool) (few : countTo (s .servers) (λ b. not (correct b)) ≤ s .t) where
+  -- two quorums, less the liars, share a correct server
+  pub share : (a b : ℕ → Bool) →
+      quorum s ≤ countTo (s .servers) (λ x. correct x && a x) + countTo (s .servers) (λ x. not (correct x)) →
+      quorum s ≤ countTo (s .servers) (λ x. correct x && b x) + countTo (s .servers) (λ x. not (correct x)) →
+      (x : ℕ) × (1 ≤ x) × (x ≤ s .servers) × ((correct x && (a x && b x)) ≡ true)
+  share a b ha hb = found (λ x. correct x && (a x && b x)) (s .servers)
+      (omega (arith, meet-count correct a b (s .servers), split-count correct (s .servers), quorum-sum s legal, legal .most))
+
+  -- a quorum of correct replies and a store quorum share k correct servers, however many lie
+  pub share-k : (a b : ℕ → Bool) →
+      quorum s ≤ countTo (s .servers) (λ x. correct x && a x) + countTo (s .servers) (λ x. not (correct x)) →
+      quorum s ≤ countTo (s .servers) (λ x. correct x && b x) →
+      s .shares ≤ countTo (s .servers) (λ x. correct x && (a x && b x))
+  share-k a b ha hb = omega (arith, meet-count correct a b (s .servers), split-count correct (s .servers), quorum-sum s legal, legal .covered)
+
+  -- a quorum, less the liars
+  pub correct-part : (a : ℕ → Bool) → quorum s ≤ countTo (s .servers) a → quorum s ≤ countTo (s .servers) (λ x. correct x && a x) + countTo (s .servers) (λ x. not (correct x))
+  correct-part a h = omega (arith, part-count correct a (s .servers))
+
+  -- k matching replies have a correct one
+  pub correct-one : (a : ℕ → Bool) → s .shares ≤ countTo (s .servers) a → (x : ℕ) × (1 ≤ x) × (x ≤ s .servers) × ((correct x && a x) ≡ true)
+  correct-one a h = found (λ x. correct x && a x) (s .servers) (omega (arith, part-count correct a (s .servers), legal .restores))

@@ -1,0 +1,87 @@
+-- The claim on values: for every system with its laws and every run that meets the premises there is one order of the calls, a write given up before its complete
+-- round is in none, and a round in hand lacks a quorum of correct replies.
+-- Assumes nothing.
+use mathlib.Core.Path.{_≡_, refl, sym, ap, _∙_, subst}
+use mathlib.Core.Bool.{Bool, true, false, cond, not, _&&_, _||_}
+use mathlib.Core.List.{List, [], _∷_, map}
+use mathlib.Core.Option.{Option, none, some}
+use mathlib.Core.Logic.{_⊎_, inl, inr}
+use Prim.Native.Nat.{ℕ, _≤_, _<_}
+use native.Mathlib.Omega.{arith}
+use lib.Dec.{leb, ltb, eqb}
+use lib.ListN.{length}
+use borrow.Author.Tests.{leb-true, ltb-true, ltb-false}
+use Rattle.cluster.specs.Config.{Legal}
+use Rattle.cluster.specs.Ranges.{capacity}
+use Rattle.protocol.specs.Rules.{ByServer, countTo}
+use Rattle.protocol.specs.Client.{Hand, idle, clocking, storing, completing, collecting, filtering, repairing, awaits, isIdle}
+use Rattle.protocol.specs.Runs.{byValues}
+use Rattle.atomicity.specs.Lists.{All, In, AllPairs}
+use Rattle.atomicity.specs.Steps.{System}
+use Rattle.atomicity.specs.Claim.{Call, given, counted, begunWrites, NeverRead, CameIn, Progress, OneServer}
+use Rattle.atomicity.proofs.Util.{bool-case, clash, and-right, and-intro, or-cases, keep-in, all-in, map-in}
+use Rattle.atomicity.proofs.Model.{Laws, account, marks, now}
+use Rattle.atomicity.proofs.Setup.{Setup, Steps, Fair, hand, calls}
+use Rattle.atomicity.proofs.Rounds.{since, from}
+use Rattle.atomicity.proofs.States.{S, Q, right, HandOk}
+use Rattle.atomicity.proofs.Invariant.{Hands, hands-all}
+use Rattle.atomicity.proofs.Calls.{CallOk}
+use Rattle.atomicity.proofs.Logs.{Log, Signed}
+use Rattle.atomicity.proofs.Story.{story, story-log}
+use Rattle.atomicity.proofs.Ordering.{in-perm, perm-sym}
+use Rattle.atomicity.proofs.Safety.{order}
+use Rattle.atomicity.proofs.Bounds.{few-marks}
+use Rattle.atomicity.proofs.Listed.{marked-count}
+use Rattle.atomicity.proofs.Arrived.{Roomy, arrived}
+use Rattle.atomicity.proofs.Waiting.{Wait, waiting}
+use Rattle.atomicity.proofs.Decides.{decides}
+
+module _ (K : Setup) (xs : Steps K) (fair : Fair K xs) where
+  -- a call of the log is known
+  pub known-call : (a : Call) → In a (Log K xs) → (g : Signed K xs) × In g (story K xs fair) × (a ≡ g .call)
+  known-call a i = map-in (λ (g : Signed K xs). g .call) (story K xs fair) a (subst (λ (l : List Call). In a l) (sym (story-log K xs fair)) i)
+
+  pub never-read : NeverRead (Log K xs)
+  unfolding NeverRead counted
+  never-read o w i up un j =
+      let g = known-call w i in
+      let c = keep-in counted (Log K xs) w (in-perm (perm-sym (o .exact)) w j) .1 in
+      let over : w .over ≡ none = subst (λ (a : Call). a .gaveUp ≡ true → a .over ≡ none) (sym (g .2)) (g .0 .ok .base .leaves) up in
+      go over (or-cases (given (w .over)) (given (w .wrote) && w .reached) c)
+    where
+      go : w .over ≡ none → (given (w .over) ≡ true) ⊎ ((given (w .wrote) && w .reached) ≡ true) → ⊥
+      go q (inl k) = clash k (ap given q)
+      go q (inr k) = clash (and-right (given (w .wrote)) (w .reached) k) un
+
+  -- ---- progress
+
+  short : (c : ℕ) (m : ByServer Bool) (h : Hand) → isIdle h ≡ false → HandOk K xs (since (K .s) c xs) (from (K .s) c xs) m h → Wait K xs m h →
+      (n : ℕ) → n ≤ countTo (S K) (λ j. right K j && m j) → n ≤ countTo (S K) m → n < Q K
+  unfolding HandOk Wait isIdle awaits
+  short c m idle busy ok w n k l = clash refl busy
+  short c m (clocking r t u) busy ok w n k l = omega (arith, ok .short, l)
+  short c m (storing d g) busy ok w n k l = omega (arith, ok .short, l)
+  short c m (completing d) busy ok w n k l = omega (arith, ok .short, l)
+  short c m (collecting g) busy ok w n k l = omega (arith, ok .short, l)
+  short c m (filtering cs g) busy ok w n k l = bool-case (ltb n (Q K)) (λ e. ltb-true n (Q K) e) (λ e. absurd (decides K xs fair cs g m w (omega (arith, k, ltb-false n (Q K) e))))
+  short c m (repairing d r) busy ok w n k l = omega (arith, ok .short, l)
+
+  pub progress : Progress (K .s) (account (K .s)) (K .correct) xs
+  unfolding Progress Hands CameIn Roomy
+  progress c good busy room bs d came =
+      let m = now (K .s) xs .client c .marks in
+      let each : (b : ℕ) → In b bs → (right K b ≡ true) × (m b ≡ true) = λ b i. let k = all-in (λ b. (right K b ≡ true) × CameIn (K .s) (account (K .s)) (K .correct) xs c b) bs came b i in
+      (k .0, arrived K c xs fair good b (calls K xs c) (awaits (hand K xs c)) refl refl busy (roomy room) (k .1)) in
+      short c m (hand K xs c) busy (hands-all K xs fair .0 c good) (waiting K xs fair c good) (length bs)
+      (marked-count (S K) bs (λ j. right K j && m j) d (λ b i. let e = each b i in let rg = K .parties .servers b (e .0) in (rg .0, rg .1, and-intro _ _ (e .0) (e .1))))
+      (marked-count (S K) bs m d (λ b i. let e = each b i in let rg = K .parties .servers b (e .0) in (rg .0, rg .1, e .1)))
+    where
+      roomy : (leb 8 (awaits (hand K xs c)) ≡ true) ⊎ (begunWrites (Log K xs) ≤ capacity) → (8 ≤ awaits (hand K xs c)) ⊎ (length (marks (K .s) xs) ≤ capacity)
+      roomy (inl h) = inl (leb-true 8 (awaits (hand K xs c)) h)
+      roomy (inr h) = inr (omega (arith, h, few-marks K xs fair))
+
+pub one-server : (s : System) → Legal (s .config) → Laws s → OneServer s (byValues (s .P) (s .config) (s .writers) (s .keys))
+unfolding OneServer byValues
+one-server s legal laws correct parties l fair =
+    let K : Setup = record { s = s; legal = legal; laws = laws; correct = correct; parties = parties } in
+    (order K l fair, (never-read K l fair, progress K l fair))

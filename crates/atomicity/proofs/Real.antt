@@ -1,0 +1,85 @@
+-- The laws that the proof rests on, of the real digest, tag and fragments and the real packets, on document 01's shelf; and with them the claim of the
+-- operations on bytes, which give the same account of every run as the steps on values.
+-- Assumes nothing.
+use mathlib.Core.Path.{_≡_, refl, sym, ap, _∙_, subst}
+use mathlib.Core.Bool.{Bool, true, false}
+use mathlib.Core.Logic.{_≢_}
+use mathlib.Core.List.{List, [], _∷_, map}
+use mathlib.Core.Option.{Option, none, some}
+use Prim.Native.Nat.{ℕ, zero, suc, _≤_, _<_}
+use native.Mathlib.Omega.{arith}
+use lib.Dec.{leb, eqb}
+use lib.ListN.{length, getD}
+use borrow.Author.Tests.{leb-true, eqb-false}
+use Rattle.cluster.specs.Config.{Config, shelf}
+use Rattle.cluster.specs.Ranges.{topFaults, topClient}
+use Rattle.cluster.proofs.Legal.{legal-shelf}
+use Rattle.hmac.specs.Hmac.{tagSize}
+use Rattle.gf256.proofs.Byte.{DistinctN, ApartN}
+use Rattle.protocol.specs.Format.{Bytes, byte, number4, seq, via, keep}
+use Rattle.protocol.specs.Values.{digestSize}
+use Rattle.protocol.specs.Packet.{Packet, PacketOk, packetF, headF, bodyF, decode}
+use Rattle.protocol.specs.Primitives.{real}
+use Rattle.protocol.specs.Runs.{Shelf, configOf, Typed, steps, sentOf, byBytes}
+use Rattle.protocol.proofs.Bodies.{decode-ok}
+use Rattle.protocol.proofs.Primitive.{real-lengths, stamp-inj, cand-inj, apart, nth-run, restores-parts}
+use Rattle.protocol.proofs.RunLift.{AllFed, run-agrees, sent-value}
+use Rattle.protocol.proofs.Accounts.{claimed}
+use Rattle.atomicity.specs.Lists.{All, In, AllPairs}
+use Rattle.atomicity.specs.Steps.{System}
+use Rattle.atomicity.specs.Claim.{OneServer, systemOf, Demand3}
+use Rattle.atomicity.proofs.Model.{Run, Laws, perform, now}
+use Rattle.atomicity.proofs.OneServer.{one-server}
+
+-- ---- lists of different servers
+
+all-at : (P : ℕ → Type 0) (is : List ℕ) → All P is → (i : ℕ) → i < length is → P (getD is i 0)
+unfolding All
+all-at P [] h i l = absurd (omega arith)
+all-at P (x ∷ is) h zero l = h .0
+all-at P (x ∷ is) h (suc i) l = all-at P is (h .1) i (omega arith)
+
+apart-from : (x : ℕ) (is : List ℕ) → All (λ y. eqb x y ≡ false) is → ApartN x is
+unfolding All
+apart-from x [] h = tt
+apart-from x (y ∷ is) h = (eqb-false x y (h .0), apart-from x is (h .1))
+
+different : (is : List ℕ) → AllPairs (λ a b. eqb a b ≡ false) is → DistinctN is
+unfolding AllPairs
+different [] h = tt
+different (x ∷ is) h = (apart-from x is (h .0), different is (h .1))
+
+-- ---- packets
+
+head-ranges : (b : List ℕ) (p : Packet) → decode b ≡ some p → (1 ≤ p .head .client) × (p .head .client ≤ topClient) × (1 ≤ p .head .server) × (p .head .server ≤ shelf (p .head .t) .servers)
+unfolding PacketOk packetF headF via seq keep byte number4
+head-ranges b p e = let o = decode-ok b p e .0 in
+    (o .1 .1 .0 .0, o .1 .1 .0 .1, o .1 .1 .1 .0 .0, leb-true (p .head .server) (shelf (p .head .t) .servers) (o .0))
+
+module _ (sh : Shelf) (lo : 1 ≤ sh .t) (hi : sh .t ≤ topFaults) where
+  abbrev s : System
+  s = systemOf sh
+
+  fed : (l : Run s) → AllFed real real-lengths sh (lo, hi) (steps l)
+  unfolding AllFed
+  fed [] = tt
+  fed (x ∷ xs) = (x .fed, fed xs)
+
+  pub real-laws : Laws s
+  unfolding shelf
+  real-laws =
+      record {
+        reads = λ x xs p e. let a = run-agrees real real-lengths sh (lo, hi) (x .step) (steps xs) (x .fed) (fed xs) in sent-value real real-lengths sh (lo, hi) a (sentOf (perform s (now s xs) (x .step) .sent)) p (a .sent) e;
+        heads = λ b p e t. let h = head-ranges b p e in (h .0, h .1, h .2, subst (λ (k : ℕ). p .head .server ≤ shelf k .servers) t (h .3));
+        digest-at = λ f i l h. nth-run digestSize (λ j. real .digest (f j)) (λ j. real-lengths .digest (f j)) (configOf sh .servers) i l h;
+        tag-at = λ k f i l h. nth-run tagSize (λ j. real .tag (k j) (f j)) (λ j. real-lengths .tag (k j) (f j)) (configOf sh .servers) i l h;
+        stamp-inj = stamp-inj;
+        candidate-inj = λ a b m n e. cand-inj a b (real .digest m) (real .digest n) (real-lengths .digest m ∙ sym (real-lengths .digest n)) e;
+        apart = λ a m c d e. apart a (real .digest m) c d (real-lengths .digest m) e;
+        restores = λ r b is d a l. restores-parts (configOf sh) (legal-shelf (sh .t) lo hi) r b is (all-at (λ i. (1 ≤ i) × (i ≤ configOf sh .servers)) is a) (different is d) l;
+      }
+
+-- demand 3
+pub atomic-and-live : Demand3
+unfolding Demand3
+atomic-and-live sh lo hi = claimed real real-lengths sh (lo, hi) (OneServer (systemOf sh)) (one-server (systemOf sh) (legal-shelf (sh .t) lo hi) (real-laws sh lo hi))

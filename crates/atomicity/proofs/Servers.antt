@@ -1,0 +1,208 @@
+-- What a request does to a server: the latest never falls, the history keeps its writes and grows by a stored one only, and a new latest is
+-- the blank, a valid candidate of the request, or the one of a complete. And lookups in a history.
+-- Assumes nothing.
+use mathlib.Core.Path.{_≡_, refl, sym, ap, _∙_, subst}
+use mathlib.Core.Bool.{Bool, true, false, cond, not, _&&_, _||_}
+use mathlib.Core.List.{List, [], _∷_, _++_}
+use mathlib.Core.Option.{Option, none, some}
+use mathlib.Core.Logic.{_⊎_, inl, inr}
+use Prim.Native.Nat.{ℕ, zero, suc, _≤_}
+use native.Mathlib.Omega.{arith}
+use lib.Dec.{leb, ltb, eqb}
+use lib.ListN.{length}
+use Rattle.cluster.specs.Ranges.{capacity}
+use Rattle.protocol.specs.declared.Stamp.{Stamp}
+use Rattle.protocol.specs.Values.{Candidate, Share, Write, Held, below, sameStamp, sameList, blankCandidate, isSome}
+use Rattle.protocol.specs.Packet.{Body, Packet}
+use Rattle.protocol.specs.Packet.{clock, clockReply, store, storeReply, complete, completeReply, collect, collectReply, filter, filterReply, repair, repairReply}
+use Rattle.protocol.specs.Memory.{held}
+use Rattle.protocol.specs.Server.{Server, Acted, hasDigest, raise, kept, best, valid, act}
+use Rattle.protocol.specs.Client.{codeIn}
+use Rattle.protocol.specs.Runs.{Step, World, Typed, nowValues}
+use Rattle.atomicity.specs.Lists.{In}
+use Rattle.atomicity.specs.Steps.{System, judged}
+use Rattle.atomicity.proofs.Util.{cond-both, cond-case, clash, untrue, and-left, and-right, and-intro, left-in, right-in, split-in}
+use Rattle.atomicity.proofs.Stamps.{below-irrefl, below-asym, le-trans, same-eq, same-stamp, stamp-refl}
+use Rattle.atomicity.proofs.Model.{Run, perform, now, acts, isValid, bestOf}
+use Rattle.atomicity.proofs.Moves.{Served, same, acted, served}
+
+-- ---- lookups in a history
+
+pub held-some : (a : Stamp) (f : Share) (es : List Write) → held a es ≡ some f → (e : Write) × In e es × (e .stamp ≡ a) × (e .share ≡ f)
+unfolding held In
+held-some a f [] h = absurd (let z : _≡_ {A = ℕ} 0 1 = cc in omega arith)
+held-some a f (e ∷ es) h = go (sameStamp (e .stamp) a) refl h (λ k. held-some a f es k)
+  where
+    go : (b : Bool) → sameStamp (e .stamp) a ≡ b → cond b (some (e .share)) (held a es) ≡ some f → (held a es ≡ some f → (x : Write) × In x es × (x .stamp ≡ a) × (x .share ≡ f)) →
+        (x : Write) × In x (e ∷ es) × (x .stamp ≡ a) × (x .share ≡ f)
+    go true q k r = (e, inl refl, same-stamp (e .stamp) a q, let z : e .share ≡ f = cc in z)
+    go false q k r = let y = r k in (y .0, inr (y .1), y .2, y .3)
+
+pub is-some : {A : Type 0} (o : Option A) → isSome o ≡ true → (a : A) × (o ≡ some a)
+is-some none e = clash e refl
+is-some (some a) e = (a, refl)
+
+pub in-held : (a : Stamp) (es : List Write) (e : Write) → In e es → e .stamp ≡ a → isSome (held a es) ≡ true
+unfolding held In
+in-held a [] e i q = absurd i
+in-held a (x ∷ es) e (inl p) q = subst (λ (b : Bool). isSome (cond b (some (x .share)) (held a es)) ≡ true)
+    (sym (subst (λ (y : Stamp). sameStamp y a ≡ true) (sym (ap (λ (y : Write). y .stamp) (sym p) ∙ q)) (stamp-refl a))) refl
+in-held a (x ∷ es) e (inr i) q = go (sameStamp (x .stamp) a) (in-held a es e i q)
+  where
+    go : (b : Bool) → isSome (held a es) ≡ true → isSome (cond b (some (x .share)) (held a es)) ≡ true
+    go true k = refl
+    go false k = k
+
+-- a write of the history behind a nonce digest
+pub held-digest : (a : Stamp) (d : List ℕ) (es : List Write) → hasDigest d (held a es) ≡ true → (e : Write) × In e es × (e .stamp ≡ a) × (e .share .nonceDigest ≡ d)
+held-digest a d es h = go (held a es) refl h
+  where
+    go : (o : Option Share) → held a es ≡ o → hasDigest d o ≡ true → (e : Write) × In e es × (e .stamp ≡ a) × (e .share .nonceDigest ≡ d)
+    go none q k = clash k refl
+    go (some f) q k = let r = held-some a f es q in (r .0, r .1, r .2, ap (λ (z : Share). z .nonceDigest) (r .3) ∙ same-eq (f .nonceDigest) d k)
+
+-- ---- raise
+
+pub raise-ge : (c : Candidate) (v : Server) → below (raise c v .latest .stamp) (c .stamp) ≡ false
+unfolding raise
+raise-ge c v = cond-case (λ (y : Server). below (y .latest .stamp) (c .stamp) ≡ false) (below (v .latest .stamp) (c .stamp)) _ v (λ e. below-irrefl (c .stamp)) (λ e. e)
+
+raise-rises : (c : Candidate) (v : Server) → below (raise c v .latest .stamp) (v .latest .stamp) ≡ false
+unfolding raise
+raise-rises c v = cond-case (λ (y : Server). below (y .latest .stamp) (v .latest .stamp) ≡ false) (below (v .latest .stamp) (c .stamp)) _ v
+    (λ e. below-asym (v .latest .stamp) (c .stamp) e) (λ e. below-irrefl (v .latest .stamp))
+
+raise-history : (c : Candidate) (v : Server) → raise c v .history ≡ v .history
+unfolding raise
+raise-history c v = cond-both (λ (y : Server). y .history ≡ v .history) (below (v .latest .stamp) (c .stamp)) _ v refl refl
+
+raise-view : (c : Candidate) (v : Server) → (raise c v .latest ≡ v .latest) ⊎ (raise c v .latest ≡ c)
+unfolding raise
+raise-view c v = cond-both (λ (y : Server). (y .latest ≡ v .latest) ⊎ (y .latest ≡ c)) (below (v .latest .stamp) (c .stamp)) _ v (inr refl) (inl refl)
+
+module _ (s : System) (j : ℕ) where
+  -- ---- best: the one begun with, or the highest valid one of the list
+
+  pub best-view : (v : Server) (c : Candidate) (cs : List Candidate) → (bestOf s j v c cs ≡ c) ⊎ (In (bestOf s j v c cs) cs × (isValid s j v (bestOf s j v c cs) ≡ true))
+  unfolding best In
+  best-view v c [] = inl refl
+  best-view v c (d ∷ ds) = go (isValid s j v d && below (c .stamp) (d .stamp)) refl (best-view v d ds) (best-view v c ds)
+    where
+      Seen : Candidate → Type 0
+      Seen x = (x ≡ c) ⊎ (In x (d ∷ ds) × (isValid s j v x ≡ true))
+
+      go : (t : Bool) → (isValid s j v d && below (c .stamp) (d .stamp)) ≡ t →
+          (bestOf s j v d ds ≡ d) ⊎ (In (bestOf s j v d ds) ds × (isValid s j v (bestOf s j v d ds) ≡ true)) →
+          (bestOf s j v c ds ≡ c) ⊎ (In (bestOf s j v c ds) ds × (isValid s j v (bestOf s j v c ds) ≡ true)) → Seen (bestOf s j v (cond t d c) ds)
+      go true e (inl f) g = inr (inl f, subst (λ (x : Candidate). isValid s j v x ≡ true) (sym f) (and-left (isValid s j v d) _ e))
+      go true e (inr p) g = inr (inr (p .0), p .1)
+      go false e f (inl g) = inl g
+      go false e f (inr p) = inr (inr (p .0), p .1)
+
+  best-from : (v : Server) (c : Candidate) (cs : List Candidate) → below (bestOf s j v c cs .stamp) (c .stamp) ≡ false
+  unfolding best
+  best-from v c [] = below-irrefl (c .stamp)
+  best-from v c (d ∷ ds) = go (isValid s j v d && below (c .stamp) (d .stamp)) refl (best-from v d ds) (best-from v c ds)
+    where
+      go : (t : Bool) → (isValid s j v d && below (c .stamp) (d .stamp)) ≡ t → below (bestOf s j v d ds .stamp) (d .stamp) ≡ false → below (bestOf s j v c ds .stamp) (c .stamp) ≡ false →
+          below (bestOf s j v (cond t d c) ds .stamp) (c .stamp) ≡ false
+      go true e f g = le-trans (c .stamp) (d .stamp) (bestOf s j v d ds .stamp) (below-asym (c .stamp) (d .stamp) (and-right (isValid s j v d) _ e)) f
+      go false e f g = g
+
+  pub best-max : (v : Server) (c : Candidate) (cs : List Candidate) (d : Candidate) → In d cs → isValid s j v d ≡ true → below (bestOf s j v c cs .stamp) (d .stamp) ≡ false
+  unfolding best In
+  best-max v c [] d i q = absurd i
+  best-max v c (e ∷ es) d (inl q) k = go (isValid s j v e && below (c .stamp) (e .stamp)) refl
+    where
+      ve : isValid s j v e ≡ true
+      ve = subst (λ (y : Candidate). isValid s j v y ≡ true) q k
+
+      low : (isValid s j v e && below (c .stamp) (e .stamp)) ≡ false → below (c .stamp) (e .stamp) ≡ false
+      low k = untrue _ (λ z. clash (and-intro _ _ ve z) k)
+
+      go : (t : Bool) → (isValid s j v e && below (c .stamp) (e .stamp)) ≡ t → below (bestOf s j v (cond t e c) es .stamp) (d .stamp) ≡ false
+      go true k = subst (λ (y : Candidate). below (bestOf s j v e es .stamp) (y .stamp) ≡ false) (sym q) (best-from v e es)
+      go false k = subst (λ (y : Candidate). below (bestOf s j v c es .stamp) (y .stamp) ≡ false) (sym q) (le-trans (e .stamp) (c .stamp) (bestOf s j v c es .stamp) (low k) (best-from v c es))
+  best-max v c (e ∷ es) d (inr i) q = best-max v (cond (isValid s j v e && below (c .stamp) (e .stamp)) e c) es d i q
+
+  -- ---- one request
+
+  -- where a new latest comes from
+  abbrev pub Origin : Server → Body → Candidate → Type 0
+  Origin v x c = (c ≡ blankCandidate (s .config)) ⊎ ((In c (judged x) × (isValid s j v c ≡ true)) ⊎ (x ≡ complete c))
+
+  -- a server before and after the request x
+  pub record Grows (v : Server) (x : Body) (v' : Server) : Type 0 where
+    pub rises : below (v' .latest .stamp) (v .latest .stamp) ≡ false
+    pub keeps : (e : Write) → In e (v .history) → In e (v' .history)
+    pub new : (e : Write) → In e (v' .history) → In e (v .history) ⊎ (x ≡ store e)
+    pub latest : (v' .latest ≡ v .latest) ⊎ Origin v x (v' .latest)
+
+  unmoved : (v : Server) (x : Body) → Grows v x v
+  unmoved v x = record { rises = below-irrefl (v .latest .stamp); keeps = λ e i. i; new = λ e i. inl i; latest = inl refl }
+
+  raised : (v : Server) (x : Body) (c : Candidate) → Origin v x c → Grows v x (raise c v)
+  raised v x c o = record { rises = raise-rises c v; keeps = λ e i. subst (In e) (sym (raise-history c v)) i; new = λ e i. inl (subst (In e) (raise-history c v) i); latest = go (raise-view c v) }
+    where
+      go : (raise c v .latest ≡ v .latest) ⊎ (raise c v .latest ≡ c) → (raise c v .latest ≡ v .latest) ⊎ Origin v x (raise c v .latest)
+      go (inl e) = inl e
+      go (inr e) = inr (subst (Origin v x) (sym e) o)
+
+  stored : (v : Server) (w : Write) → Grows v (store w) (record { latest = v .latest; history = v .history ++ (w ∷ []) })
+  unfolding In
+  stored v w = record { rises = below-irrefl (v .latest .stamp); keeps = λ e i. left-in e (v .history) (w ∷ []) i; new = λ e i. go e (split-in e (v .history) (w ∷ []) i); latest = inl refl }
+    where
+      go : (e : Write) → In e (v .history) ⊎ ((e ≡ w) ⊎ ⊥) → In e (v .history) ⊎ (store w ≡ store e)
+      go e (inl i) = inl i
+      go e (inr (inl q)) = inr (ap store (sym q))
+      go e (inr (inr z)) = absurd z
+
+  pub act-grows : (v : Server) (x : Body) → Grows v x (acts s j v x .server)
+  unfolding act kept In
+  act-grows v clock = unmoved v clock
+  act-grows v (store w) = cond-both (λ (a : Acted). Grows v (store w) (a .server)) (isSome (held (w .stamp) (v .history))) _ _ (unmoved v (store w))
+      (cond-both (λ (a : Acted). Grows v (store w) (a .server)) (leb capacity (length (v .history))) _ _ (unmoved v (store w)) (stored v w))
+  act-grows v (complete c) = raised v (complete c) c (inr (inr refl))
+  act-grows v collect = unmoved v collect
+  act-grows v (filter cs) = raised v (filter cs) (bestOf s j v (blankCandidate (s .config)) cs) (go (best-view v (blankCandidate (s .config)) cs))
+    where
+      go : (bestOf s j v (blankCandidate (s .config)) cs ≡ blankCandidate (s .config)) ⊎ (In (bestOf s j v (blankCandidate (s .config)) cs) cs × (isValid s j v (bestOf s j v (blankCandidate (s .config)) cs) ≡ true))
+          → Origin v (filter cs) (bestOf s j v (blankCandidate (s .config)) cs)
+      go (inl e) = inl e
+      go (inr p) = inr (inl p)
+  act-grows v (repair c) = cond-case (λ (y : Server). Grows v (repair c) y) (isValid s j v c) _ v (λ e. raised v (repair c) c (inr (inl (inl refl, e)))) (λ e. unmoved v (repair c))
+  act-grows v (clockReply x) = unmoved v (clockReply x)
+  act-grows v (storeReply x) = unmoved v (storeReply x)
+  act-grows v completeReply = unmoved v completeReply
+  act-grows v (collectReply x) = unmoved v (collectReply x)
+  act-grows v (filterReply x) = unmoved v (filterReply x)
+  act-grows v repairReply = unmoved v repairReply
+
+-- a reply other than 11 to a store means that the stamp is held
+pub store-held : (s : System) (j : ℕ) (v : Server) (w : Write) → eqb (codeIn (acts s j v (store w) .reply)) 11 ≡ false → isSome (held (w .stamp) (acts s j v (store w) .server .history)) ≡ true
+unfolding act kept In
+store-held s j v w = go (isSome (held (w .stamp) (v .history))) refl (leb capacity (length (v .history)))
+  where
+    go : (u : Bool) → isSome (held (w .stamp) (v .history)) ≡ u → (t : Bool) →
+        let a = cond {A = Acted} u (record { server = v; reply = storeReply 10 }) (cond t (record { server = v; reply = storeReply 11 }) (record { server = record { latest = v .latest; history = v .history ++ (w ∷ []) }; reply = storeReply 0 })) in
+        eqb (codeIn (a .reply)) 11 ≡ false → isSome (held (w .stamp) (a .server .history)) ≡ true
+    go true q t k = q
+    go false q true k = clash refl k
+    go false q false k = in-held (w .stamp) (v .history ++ (w ∷ [])) w (right-in w (v .history) (w ∷ []) (inl refl)) refl
+
+-- ---- along a run
+
+module _ (s : System) where
+  pub latest-rises : (w : World) (j : ℕ) (x : Step) → below (perform s w x .world .server j .latest .stamp) (w .server j .latest .stamp) ≡ false
+  latest-rises w j x = go (served s w j x)
+    where
+      go : Served s j w x (perform s w x .world .server j) → below (perform s w x .world .server j .latest .stamp) (w .server j .latest .stamp) ≡ false
+      go (same e) = subst (λ (v : Server). below (v .latest .stamp) (w .server j .latest .stamp) ≡ false) (sym e) (below-irrefl (w .server j .latest .stamp))
+      go (acted p a b c d e) = subst (λ (v : Server). below (v .latest .stamp) (w .server j .latest .stamp) ≡ false) (sym e) (act-grows s j (w .server j) (p .body) .rises)
+
+  pub history-keeps : (w : World) (j : ℕ) (x : Step) (e : Write) → In e (w .server j .history) → In e (perform s w x .world .server j .history)
+  history-keeps w j x e i = go (served s w j x)
+    where
+      go : Served s j w x (perform s w x .world .server j) → In e (perform s w x .world .server j .history)
+      go (same q) = subst (λ (v : Server). In e (v .history)) (sym q) i
+      go (acted p a b c d q) = subst (λ (v : Server). In e (v .history)) (sym q) (act-grows s j (w .server j) (p .body) .keeps e i)

@@ -1,0 +1,151 @@
+-- Where packets come from: a request of a correct client was made by it, a reply of a correct server was given by it on a request that the
+-- client had made. It holds by the premise on channels and because bytes that were sent are read back as they were sent.
+-- Assumes nothing.
+use mathlib.Core.Path.{_≡_, refl, sym, ap, _∙_, subst}
+use mathlib.Core.Bool.{Bool, true, false, cond, not, _&&_, _||_}
+use mathlib.Core.List.{List, [], _∷_, _++_}
+use mathlib.Core.Option.{Option, none, some}
+use mathlib.Core.Logic.{_⊎_, inl, inr}
+use Prim.Native.Nat.{ℕ, zero, suc, _≤_, _<_}
+use native.Mathlib.Omega.{arith}
+use lib.Dec.{leb, ltb, eqb}
+use borrow.Author.Tests.{eqb-true, ltb-false, le-leb}
+use Rattle.cluster.specs.Ranges.{within, topWriter}
+use Rattle.protocol.specs.Values.{Candidate, Share, Write}
+use Rattle.protocol.specs.Packet.{Body, Packet, kindOf, decode}
+use Rattle.protocol.specs.Packet.{clock, clockReply, store, storeReply, complete, completeReply, collect, collectReply, filter, filterReply, repair, repairReply}
+use Rattle.protocol.specs.Rules.{ByServer}
+use Rattle.protocol.specs.Server.{Server, barred, replyTo}
+use Rattle.protocol.specs.Client.{Hand, idle, clocking, storing, completing, collecting, filtering, repairing, request, made}
+use Rattle.protocol.specs.Runs.{Step, write, read, make, take-reply, give-up, serve, Typed, World, sentOf}
+use Rattle.atomicity.specs.Lists.{Ever, Always}
+use Rattle.atomicity.specs.Steps.{System, accepted, bytesIn, packetIn, makes, serves}
+use Rattle.atomicity.specs.Premises.{Authentic, PartyOf, odd}
+use Rattle.atomicity.proofs.Util.{clash, no-some, and-intro, or-none, ever-map, ever-with, not-false}
+use Rattle.atomicity.proofs.Model.{Run, perform, now, account, acts}
+use Rattle.atomicity.proofs.Setup.{Setup, Steps, StepOf, Meets, Fair}
+use Rattle.atomicity.proofs.Moves.{Asked, Answered, answer, Making, making}
+
+-- ---- shapes of steps
+
+pub read-back : (x : Step) (p : Packet) → packetIn x ≡ some p → decode (bytesIn x) ≡ some p
+read-back (write c r n) p e = absurd (no-some e)
+read-back (read c) p e = absurd (no-some e)
+read-back (make c b o) p e = absurd (no-some e)
+read-back (take-reply c b o) p e = e
+read-back (give-up c) p e = absurd (no-some e)
+read-back (serve b q o) p e = e
+
+pub serve-shape : (j : ℕ) (x : Step) → serves j x ≡ true → (b : List ℕ) × (o : List ℕ) × (x ≡ serve j b o)
+serve-shape j (write c r n) e = clash e refl
+serve-shape j (read c) e = clash e refl
+serve-shape j (make c b o) e = clash e refl
+serve-shape j (take-reply c b o) e = clash e refl
+serve-shape j (give-up c) e = clash e refl
+serve-shape j (serve i b o) e = (b, o, ap (λ (k : ℕ). serve k b o) (sym (eqb-true j i e)))
+
+-- what is let in is a request
+pub asked-odd : (c : ℕ) (x : Body) → barred c x ≡ false → odd (kindOf x) ≡ true
+unfolding barred
+asked-odd c clock e = refl
+asked-odd c (store w) e = refl
+asked-odd c (complete d) e = refl
+asked-odd c collect e = refl
+asked-odd c (filter cs) e = refl
+asked-odd c (repair d) e = refl
+asked-odd c (clockReply x) e = clash refl e
+asked-odd c (storeReply x) e = clash refl e
+asked-odd c completeReply e = clash refl e
+asked-odd c (collectReply x) e = clash refl e
+asked-odd c (filterReply x) e = clash refl e
+asked-odd c repairReply e = clash refl e
+
+-- a store or a complete that is let in is from a writer
+pub store-writer : (c : ℕ) (w : Write) → barred c (store w) ≡ false → c ≤ topWriter
+unfolding barred
+store-writer c w h = ltb-false topWriter c (or-none (ltb topWriter c) (not (eqb (w .stamp .writer) c)) h .0)
+
+pub complete-writer : (c : ℕ) (d : Candidate) → barred c (complete d) ≡ false → c ≤ topWriter
+unfolding barred
+complete-writer c d h = ltb-false topWriter c (or-none (ltb topWriter c) (not (eqb (d .stamp .writer) c)) h .0)
+
+-- ---- requests by hands
+
+pub store-made : (h : Hand) (b : ℕ) (w : Write) → request h b ≡ store w → (d : Candidate) × (g : ByServer Share) × (h ≡ storing d g) × (w ≡ record { stamp = d .stamp; share = g b })
+store-made idle b w q = absurd (let z : _≡_ {A = ℕ} 0 1 = cc in omega arith)
+store-made (clocking r n k) b w q = absurd (let z : _≡_ {A = ℕ} 0 1 = cc in omega arith)
+store-made (storing d g) b w q = (d, g, refl, let z : w ≡ record { stamp = d .stamp; share = g b } = cc in z)
+store-made (completing d) b w q = absurd (let z : _≡_ {A = ℕ} 0 1 = cc in omega arith)
+store-made (collecting g) b w q = absurd (let z : _≡_ {A = ℕ} 0 1 = cc in omega arith)
+store-made (filtering cs g) b w q = absurd (let z : _≡_ {A = ℕ} 0 1 = cc in omega arith)
+store-made (repairing d r) b w q = absurd (let z : _≡_ {A = ℕ} 0 1 = cc in omega arith)
+
+pub complete-made : (h : Hand) (b : ℕ) (c : Candidate) → request h b ≡ complete c → h ≡ completing c
+complete-made idle b w q = absurd (let z : _≡_ {A = ℕ} 0 1 = cc in omega arith)
+complete-made (clocking r n k) b w q = absurd (let z : _≡_ {A = ℕ} 0 1 = cc in omega arith)
+complete-made (storing d g) b w q = absurd (let z : _≡_ {A = ℕ} 0 1 = cc in omega arith)
+complete-made (completing d) b w q = cc
+complete-made (collecting g) b w q = absurd (let z : _≡_ {A = ℕ} 0 1 = cc in omega arith)
+complete-made (filtering cs g) b w q = absurd (let z : _≡_ {A = ℕ} 0 1 = cc in omega arith)
+complete-made (repairing d r) b w q = absurd (let z : _≡_ {A = ℕ} 0 1 = cc in omega arith)
+
+module _ (K : Setup) where
+  -- such a step sent p
+  abbrev pub MadeBy : (Step → Bool) → Packet → StepOf K → Steps K → Type 0
+  MadeBy who p y ys = (who (y .step) ≡ true) × (decode (sentOf (perform (K .s) (now (K .s) ys) (y .step) .sent)) ≡ some p) × (perform (K .s) (now (K .s) ys) (y .step) .sent ≡ some p)
+
+  pub sent-made : (who : Step → Bool) (b : List ℕ) (p : Packet) → decode b ≡ some p → (xs : Steps K) →
+      Ever (λ (y : StepOf K) ys. (who (y .step) ≡ true) × (account (K .s) .sent y ys ≡ b)) xs → Ever (MadeBy who p) xs
+  sent-made who b p d xs e = ever-map _ (MadeBy who p) (λ y ys h. let q = ap decode (h .1) ∙ d in (h .0, q, K .laws .reads y ys p q)) xs e
+
+  pub by-client : (x : StepOf K) (xs : Steps K) → Meets K x xs → (p : Packet) → packetIn (x .step) ≡ some p → accepted (perform (K .s) (now (K .s) xs) (x .step) .result) ≡ true →
+      odd (kindOf (p .body)) ≡ true → K .correct .client (p .head .client) ≡ true → Ever (MadeBy (makes (p .head .client)) p) xs
+  unfolding Authentic
+  by-client x xs prem p e f o c = sent-made (makes (p .head .client)) (bytesIn (x .step)) p (read-back (x .step) p e) xs (prem .authentic p e f .0 o c)
+
+  pub by-server : (x : StepOf K) (xs : Steps K) → Meets K x xs → (p : Packet) → packetIn (x .step) ≡ some p → accepted (perform (K .s) (now (K .s) xs) (x .step) .result) ≡ true →
+      odd (kindOf (p .body)) ≡ false → K .correct .server (p .head .server) ≡ true → Ever (MadeBy (serves (p .head .server)) p) xs
+  unfolding Authentic
+  by-server x xs prem p e f o c = sent-made (serves (p .head .server)) (bytesIn (x .step)) p (read-back (x .step) p e) xs (prem .authentic p e f .1 o c)
+
+  -- a server that steps is correct, and one of the shelf
+  pub server-correct : (x : StepOf K) (xs : Steps K) → Meets K x xs → (j : ℕ) → serves j (x .step) ≡ true → K .correct .server j ≡ true
+  server-correct x xs prem j e = let h = serve-shape j (x .step) e in
+      subst (λ (y : Step). PartyOf (K .s) (account (K .s)) (K .correct) xs y) (h .2) (prem .party)
+
+  pub in-range : (b : ℕ) → 1 ≤ b → b ≤ K .s .config .servers → within 1 (K .s .config .servers) b ≡ true
+  in-range b lo hi = and-intro _ _ (le-leb 1 b lo) (le-leb b (K .s .config .servers) hi)
+
+  -- a writer's packet was made by it
+  pub writer-made : (x : StepOf K) (xs : Steps K) → Meets K x xs → (j : ℕ) (p : Packet) → packetIn (x .step) ≡ some p → Asked (K .s) j p → accepted (perform (K .s) (now (K .s) xs) (x .step) .result) ≡ true →
+      p .head .client ≤ topWriter → Ever (MadeBy (makes (p .head .client)) p) xs
+  writer-made x xs prem j p e a f l = by-client x xs prem p e f (asked-odd (p .head .client) (p .body) (a .allowed))
+      (K .parties .writers (p .head .client) (K .laws .heads (bytesIn (x .step)) p (read-back (x .step) p e) (a .same-t) .0) l)
+
+  -- ---- replies
+
+  -- y, after ys, is the step of a server that gave the packet p, on a request that the client had made
+  pub record Told (p : Packet) (y : StepOf K) (ys : Steps K) : Type 0 where
+    pub by : serves (p .head .server) (y .step) ≡ true
+    pub behind : Answered (K .s) (now (K .s) ys) (p .head .server) (y .step) p
+    pub same-client : behind .ask .head .client ≡ p .head .client
+    pub same-call : behind .ask .head .call ≡ p .head .call
+    pub source : Ever (MadeBy (makes (p .head .client)) (behind .ask)) ys
+
+  told-at : (p : Packet) → K .correct .client (p .head .client) ≡ true → (y : StepOf K) (ys : Steps K) → Meets K y ys → MadeBy (serves (p .head .server)) p y ys → Told p y ys
+  unfolding replyTo
+  told-at p c y ys prem m =
+      let a = answer (K .s) (now (K .s) ys) (p .head .server) (y .step) p (m .0) (m .2) in
+      let mine : a .ask .head .client ≡ p .head .client = sym (ap (λ (q : Packet). q .head .client) (a .reply)) in
+      record {
+        by = m .0;
+        behind = a;
+        same-client = mine;
+        same-call = sym (ap (λ (q : Packet). q .head .call) (a .reply));
+        source = subst (λ (i : ℕ). Ever (MadeBy (makes i) (a .ask)) ys) mine
+            (by-client y ys prem (a .ask) (a .got) (a .fine) (asked-odd (a .ask .head .client) (a .ask .body) (a .asked .allowed)) (subst (λ (i : ℕ). K .correct .client i ≡ true) (sym mine) c));
+      }
+
+  pub reply-source : (xs : Steps K) → Fair K xs → (p : Packet) → K .correct .client (p .head .client) ≡ true → Ever (MadeBy (serves (p .head .server)) p) xs → Ever (Told p) xs
+  reply-source xs h p c m = ever-map (λ y ys. Meets K y ys × Fair K ys × MadeBy (serves (p .head .server)) p y ys) (Told p)
+      (λ y ys t. told-at p c y ys (t .0) (t .2)) xs (ever-with (Meets K) (MadeBy (serves (p .head .server)) p) xs h m)

@@ -1,0 +1,118 @@
+-- The order of stamps (by number, then writer) and the equality of bytes and of stamps.
+-- Assumes nothing.
+use mathlib.Core.Path.{_≡_, refl, sym, ap, _∙_, subst}
+use mathlib.Core.Bool.{Bool, true, false, cond, not, _&&_, _||_, true≢false}
+use mathlib.Core.List.{List, [], _∷_}
+use mathlib.Core.Logic.{_⊎_, inl, inr, _≢_}
+use Prim.Native.Nat.{ℕ, zero, suc, _+_, _*_, _≤_, _<_}
+use native.Mathlib.Omega.{arith}
+use lib.Dec.{leb, ltb, eqb}
+use borrow.Author.Tests.{ltb-true, ltb-false, eqb-true, eqb-false, lt-ltb, eq-eqb, ne-eqb}
+use Rattle.protocol.specs.declared.Stamp.{Stamp}
+use Rattle.protocol.specs.Values.{below, blankStamp, sameList, sameStamp}
+use Rattle.atomicity.proofs.Util.{bool-case, clash, untrue, and-left, and-right, and-intro, or-cases, or-left, or-right}
+
+pub below-view : (a b : Stamp) → below a b ≡ true → (a .number < b .number) ⊎ ((a .number ≡ b .number) × (a .writer < b .writer))
+unfolding below
+below-view a b e = go (or-cases (ltb (a .number) (b .number)) (eqb (a .number) (b .number) && ltb (a .writer) (b .writer)) e)
+  where
+    go : (ltb (a .number) (b .number) ≡ true) ⊎ ((eqb (a .number) (b .number) && ltb (a .writer) (b .writer)) ≡ true) → (a .number < b .number) ⊎ ((a .number ≡ b .number) × (a .writer < b .writer))
+    go (inl h) = inl (ltb-true _ _ h)
+    go (inr h) = inr (eqb-true _ _ (and-left _ _ h), ltb-true _ _ (and-right (eqb (a .number) (b .number)) _ h))
+
+pub below-num : (a b : Stamp) → a .number < b .number → below a b ≡ true
+unfolding below
+below-num a b h = or-left _ _ (lt-ltb _ _ h)
+
+pub below-who : (a b : Stamp) → a .number ≡ b .number → a .writer < b .writer → below a b ≡ true
+unfolding below
+below-who a b e h = or-right (ltb (a .number) (b .number)) _ (and-intro _ _ (eq-eqb _ _ e) (lt-ltb _ _ h))
+
+-- b is not below a: a is at most b
+pub le-view : (a b : Stamp) → below b a ≡ false → (a .number < b .number) ⊎ ((a .number ≡ b .number) × (a .writer ≤ b .writer))
+le-view a b e = bool-case (ltb (a .number) (b .number)) (λ h. inl (ltb-true _ _ h))
+    (λ h. bool-case (ltb (b .number) (a .number)) (λ k. clash (below-num b a (ltb-true _ _ k)) e) (λ k. same (ltb-false _ _ h) (ltb-false _ _ k)))
+  where
+    same : b .number ≤ a .number → a .number ≤ b .number → (a .number < b .number) ⊎ ((a .number ≡ b .number) × (a .writer ≤ b .writer))
+    same h k = let q : b .number ≡ a .number = omega arith in
+        bool-case (ltb (b .writer) (a .writer)) (λ l. clash (below-who b a q (ltb-true _ _ l)) e) (λ l. inr (sym q, ltb-false _ _ l))
+
+pub num-le : (a b : Stamp) → below b a ≡ false → a .number ≤ b .number
+num-le a b e = go (le-view a b e)
+  where
+    go : (a .number < b .number) ⊎ ((a .number ≡ b .number) × (a .writer ≤ b .writer)) → a .number ≤ b .number
+    go (inl h) = omega arith
+    go (inr h) = omega (arith, h .0)
+
+-- below c a, a at most b: below c b; in the form of the negative
+pub le-trans : (a b c : Stamp) → below b a ≡ false → below c b ≡ false → below c a ≡ false
+le-trans a b c p q = untrue (below c a) (λ h. go (le-view a b p) (le-view b c q) (below-view c a h))
+  where
+    go : (a .number < b .number) ⊎ ((a .number ≡ b .number) × (a .writer ≤ b .writer)) → (b .number < c .number) ⊎ ((b .number ≡ c .number) × (b .writer ≤ c .writer)) →
+        (c .number < a .number) ⊎ ((c .number ≡ a .number) × (c .writer < a .writer)) → ⊥
+    go (inl x) (inl y) (inl z) = omega arith
+    go (inl x) (inl y) (inr z) = omega (arith, z .0)
+    go (inl x) (inr y) (inl z) = omega (arith, y .0)
+    go (inl x) (inr y) (inr z) = omega (arith, y .0, z .0)
+    go (inr x) (inl y) (inl z) = omega (arith, x .0)
+    go (inr x) (inl y) (inr z) = omega (arith, x .0, z .0)
+    go (inr x) (inr y) (inl z) = omega (arith, x .0, y .0)
+    go (inr x) (inr y) (inr z) = omega (arith, x .1, y .1, z .1)
+
+pub below-blank : (a : Stamp) → below a blankStamp ≡ false
+below-blank a = untrue (below a blankStamp) (λ h. go (below-view a blankStamp h))
+  where
+    go : (a .number < 0) ⊎ ((a .number ≡ 0) × (a .writer < 0)) → ⊥
+    go (inl x) = omega arith
+    go (inr x) = omega (arith, x .1)
+
+-- nothing is below what is at most the blank
+pub le-blank : (a b : Stamp) → below blankStamp a ≡ false → below b a ≡ false
+le-blank a b e = le-trans a blankStamp b e (below-blank b)
+
+-- ---- a stamp is never below itself
+
+pub below-irrefl : (a : Stamp) → below a a ≡ false
+below-irrefl a = untrue (below a a) (λ h. go (below-view a a h))
+  where
+    go : (a .number < a .number) ⊎ ((a .number ≡ a .number) × (a .writer < a .writer)) → ⊥
+    go (inl x) = omega arith
+    go (inr x) = omega (arith, x .1)
+
+pub below-asym : (a b : Stamp) → below a b ≡ true → below b a ≡ false
+below-asym a b p = untrue (below b a) (λ q. go (below-view a b p) (below-view b a q))
+  where
+    go : (a .number < b .number) ⊎ ((a .number ≡ b .number) × (a .writer < b .writer)) → (b .number < a .number) ⊎ ((b .number ≡ a .number) × (b .writer < a .writer)) → ⊥
+    go (inl x) (inl y) = omega arith
+    go (inl x) (inr y) = omega (arith, y .0)
+    go (inr x) (inl y) = omega (arith, x .0)
+    go (inr x) (inr y) = omega (arith, x .1, y .1)
+
+-- ---- equality
+
+pub same-eq : (xs ys : List ℕ) → sameList xs ys ≡ true → xs ≡ ys
+same-eq [] [] e = refl
+same-eq [] (y ∷ ys) e = clash e refl
+same-eq (x ∷ xs) [] e = clash e refl
+same-eq (x ∷ xs) (y ∷ ys) e =
+    ap (λ (z : ℕ). z ∷ xs) (eqb-true x y (and-left (eqb x y) (sameList xs ys) e)) ∙ ap (λ (zs : List ℕ). y ∷ zs) (same-eq xs ys (and-right (eqb x y) (sameList xs ys) e))
+
+pub same-refl : (b : List ℕ) → sameList b b ≡ true
+same-refl [] = refl
+same-refl (x ∷ xs) = and-intro _ _ (eq-eqb x x refl) (same-refl xs)
+
+pub same-is : (xs ys : List ℕ) → xs ≡ ys → sameList xs ys ≡ true
+same-is xs ys e = subst (λ (z : List ℕ). sameList xs z ≡ true) e (same-refl xs)
+
+pub same-stamp : (a b : Stamp) → sameStamp a b ≡ true → a ≡ b
+unfolding sameStamp
+same-stamp a b e =
+    let p = eqb-true (a .number) (b .number) (and-left (eqb (a .number) (b .number)) (eqb (a .writer) (b .writer) && sameList (a .tag) (b .tag)) e) in
+    let r = and-right (eqb (a .number) (b .number)) (eqb (a .writer) (b .writer) && sameList (a .tag) (b .tag)) e in
+    let q = eqb-true (a .writer) (b .writer) (and-left (eqb (a .writer) (b .writer)) (sameList (a .tag) (b .tag)) r) in
+    let t = same-eq (a .tag) (b .tag) (and-right (eqb (a .writer) (b .writer)) (sameList (a .tag) (b .tag)) r) in
+    λ i. record { number = p i; writer = q i; tag = t i }
+
+pub stamp-refl : (a : Stamp) → sameStamp a a ≡ true
+unfolding sameStamp
+stamp-refl a = and-intro _ _ (eq-eqb (a .number) (a .number) refl) (and-intro _ _ (eq-eqb (a .writer) (a .writer) refl) (same-refl (a .tag)))

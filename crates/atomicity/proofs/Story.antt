@@ -1,0 +1,228 @@
+-- The list of known calls of a run, newest first: it is the log; calls begin one after the other; the call in hand is in it; and a write whose nonce was
+-- shown has its call in it, which has reached its complete round.
+-- Assumes nothing.
+use mathlib.Core.Path.{_≡_, refl, sym, ap, ap₂, _∙_, subst}
+use mathlib.Core.Bool.{Bool, true, false, cond, not, _&&_, _||_}
+use mathlib.Core.List.{List, [], _∷_, _++_, map}
+use mathlib.Core.Option.{Option, none, some}
+use mathlib.Core.Logic.{_⊎_, inl, inr}
+use Prim.Native.Nat.{ℕ, zero, suc, _+_, _≤_, _<_}
+use native.Mathlib.Omega.{arith}
+use lib.Dec.{eqb}
+use lib.ListN.{length}
+use borrow.Author.Tests.{eq-eqb}
+use Rattle.protocol.specs.declared.Stamp.{Stamp}
+use Rattle.protocol.specs.Values.{Candidate, blankStamp}
+use Rattle.protocol.specs.Client.{Client, Hand, Result, idle, completing, begun, onto, awaits, isIdle}
+use Rattle.protocol.specs.Runs.{Step, write, read, make, take-reply, give-up, serve, Typed, World, nowValues}
+use Rattle.atomicity.specs.Lists.{Ever, Always, All, In, AllPairs}
+use Rattle.atomicity.specs.Steps.{System, Stamped, accepted}
+use Rattle.atomicity.specs.Claim.{Call, log}
+use Rattle.atomicity.proofs.Util.{cond-case, clash, left-in, right-in, in-map, map-in, all-of}
+use Rattle.atomicity.proofs.Model.{Run, perform, now, account, marks}
+use Rattle.atomicity.proofs.Setup.{Setup, Steps, StepOf, Meets, Fair, Show, hand, calls}
+use Rattle.atomicity.proofs.Moves.{Moved, kept, wbegan, rbegan, quit, took, moved, acting}
+use Rattle.atomicity.proofs.Rounds.{turn-turned}
+use Rattle.atomicity.proofs.Marks.{by-stamp, marks-up}
+use Rattle.atomicity.proofs.Begun.{Known, known}
+use Rattle.atomicity.proofs.Invariant.{show-hand}
+use Rattle.atomicity.proofs.Calls.{mark-at, Writing, Cur, CallOk, Keeps}
+use Rattle.atomicity.proofs.Logs.{Log, result, touched, news, newCall, note-shape, Signed, beginSigned, newSigned, new-calls, new-write, new-read, step-call}
+
+module _ (K : Setup) where
+  -- the steps before the last one meet the premises too
+  unfoldable pub past : (x : StepOf K) (xs : Steps K) → Fair K (x ∷ xs) → Fair K xs
+  unfolding Always
+  past x xs fair = fair .1
+
+  pub meets : (x : StepOf K) (xs : Steps K) → Fair K (x ∷ xs) → Meets K x xs
+  unfolding Always
+  meets x xs fair = fair .0
+
+  unfoldable pub stepSigned : (x : StepOf K) (xs : Steps K) → Fair K (x ∷ xs) → Signed K xs → Signed K (x ∷ xs)
+  stepSigned x xs fair g = let r = step-call K x xs fair (g .call) (g .stamp) (g .ok) (x .step) refl in record { call = touched K x xs (x .step) (g .call); stamp = r .0; ok = r .1 }
+
+  pub step-keeps : (x : StepOf K) (xs : Steps K) (fair : Fair K (x ∷ xs)) (g : Signed K xs) → Keeps K (g .call) (g .stamp) (stepSigned x xs fair g .call) (stepSigned x xs fair g .stamp)
+  unfolding stepSigned
+  step-keeps x xs fair g = step-call K x xs fair (g .call) (g .stamp) (g .ok) (x .step) refl .2
+
+  unfoldable pub story : (xs : Steps K) → Fair K xs → List (Signed K xs)
+  story [] fair = []
+  story (x ∷ xs) fair = newSigned K x xs (x .step) refl ++ map (stepSigned x xs fair) (story xs (past x xs fair))
+
+  -- ---- it is the log
+
+  map-append : {A B : Type 0} (f : A → B) (us vs : List A) → map f (us ++ vs) ≡ map f us ++ map f vs
+  map-append f [] vs = refl
+  map-append {B = B} f (u ∷ us) vs = ap (λ (l : List B). f u ∷ l) (map-append f us vs)
+
+  map-map : {A B C : Type 0} (g : B → C) (f : A → B) (us : List A) → map g (map f us) ≡ map (λ u. g (f u)) us
+  map-map g f [] = refl
+  map-map {C = C} g f (u ∷ us) = ap (λ (l : List C). g (f u) ∷ l) (map-map g f us)
+
+  pub story-log : (xs : Steps K) (fair : Fair K xs) → map (λ (g : Signed K xs). g .call) (story xs fair) ≡ Log K xs
+  unfolding story log stepSigned
+  story-log [] fair = refl
+  story-log (x ∷ xs) fair = map-append (λ (g : Signed K (x ∷ xs)). g .call) (newSigned K x xs (x .step) refl) (map (stepSigned x xs fair) (story xs (past x xs fair)))
+      ∙ ap₂ (λ (us vs : List Call). us ++ vs) (new-calls K x xs (x .step) refl)
+      (map-map (λ (g : Signed K (x ∷ xs)). g .call) (stepSigned x xs fair) (story xs (past x xs fair))
+      ∙ sym (map-map (touched K x xs (x .step)) (λ (g : Signed K xs). g .call) (story xs (past x xs fair)))
+      ∙ ap (map (touched K x xs (x .step))) (story-log xs (past x xs fair)))
+      ∙ sym (note-shape K x xs (Log K xs) (x .step))
+
+  -- a known call, a step later
+  pub story-next : (x : StepOf K) (xs : Steps K) (fair : Fair K (x ∷ xs)) (g : Signed K xs) → In g (story xs (past x xs fair)) → In (stepSigned x xs fair g) (story (x ∷ xs) fair)
+  unfolding story
+  story-next x xs fair g i = right-in (stepSigned x xs fair g) (newSigned K x xs (x .step) refl) (map (stepSigned x xs fair) (story xs (past x xs fair))) (in-map (stepSigned x xs fair) (story xs (past x xs fair)) g i)
+
+  -- ---- one after the other
+
+  abbrev Later : {xs : Steps K} → Signed K xs → Signed K xs → Type 0
+  Later a b = b .call .begun < a .call .begun
+
+  map-pairs : (x : StepOf K) (xs : Steps K) (fair : Fair K (x ∷ xs)) (gs : List (Signed K xs)) → AllPairs (λ (a b : Signed K xs). Later a b) gs → AllPairs (λ (a b : Signed K (x ∷ xs)). Later a b) (map (stepSigned x xs fair) gs)
+  unfolding AllPairs All
+  map-pairs x xs fair [] h = tt
+  map-pairs x xs fair (a ∷ gs) h = (go gs (h .0), map-pairs x xs fair gs (h .1))
+    where
+      go : (ds : List (Signed K xs)) → All (λ (b : Signed K xs). Later a b) ds → All (λ (b : Signed K (x ∷ xs)). Later (stepSigned x xs fair a) b) (map (stepSigned x xs fair) ds)
+      go [] k = tt
+      go (d ∷ ds) k = (omega (arith, k .0, step-keeps x xs fair a .begun, step-keeps x xs fair d .begun), go ds (k .1))
+
+  begin-pairs : {ys : Steps K} (a : Call) (b : Bool) (f : b ≡ true → CallOk K ys a blankStamp) (l : List (Signed K ys)) → ((g : Signed K ys) → In g l → g .call .begun < a .begun) →
+      AllPairs (λ (a b : Signed K ys). Later a b) l → AllPairs (λ (a b : Signed K ys). Later a b) (beginSigned K a b f ++ l)
+  unfolding beginSigned AllPairs
+  begin-pairs {ys} a true f l k h = (all-of (λ (g : Signed K ys). g .call .begun < a .begun) l k, h)
+  begin-pairs a false f l k h = h
+
+  new-pairs : (x : StepOf K) (xs : Steps K) (st : Step) (e : x .step ≡ st) (l : List (Signed K (x ∷ xs))) → ((g : Signed K (x ∷ xs)) → In g l → g .call .begun < length xs) →
+      AllPairs (λ (a b : Signed K (x ∷ xs)). Later a b) l → AllPairs (λ (a b : Signed K (x ∷ xs)). Later a b) (newSigned K x xs st e ++ l)
+  unfolding newSigned newCall
+  new-pairs x xs (write c r n) e l f h = begin-pairs _ (accepted (result K x xs)) (new-write K x xs c r n e) l f h
+  new-pairs x xs (read c) e l f h = begin-pairs _ (accepted (result K x xs)) (new-read K x xs c e) l f h
+  new-pairs x xs (make c b o) e l f h = h
+  new-pairs x xs (take-reply c b o) e l f h = h
+  new-pairs x xs (give-up c) e l f h = h
+  new-pairs x xs (serve b p o) e l f h = h
+
+  pub story-pairs : (xs : Steps K) (fair : Fair K xs) → AllPairs (λ (a b : Signed K xs). b .call .begun < a .call .begun) (story xs fair)
+  unfolding story AllPairs
+  story-pairs [] fair = tt
+  story-pairs (x ∷ xs) fair = new-pairs x xs (x .step) refl (map (stepSigned x xs fair) (story xs (past x xs fair))) old (map-pairs x xs fair (story xs (past x xs fair)) (story-pairs xs (past x xs fair)))
+    where
+      old : (g : Signed K (x ∷ xs)) → In g (map (stepSigned x xs fair) (story xs (past x xs fair))) → g .call .begun < length xs
+      old g i = let r = map-in (stepSigned x xs fair) (story xs (past x xs fair)) g i in
+          omega (arith, ap (λ (z : Signed K (x ∷ xs)). z .call .begun) (r .2), step-keeps x xs fair (r .0) .begun, r .0 .ok .base .begun-lt)
+
+  -- ---- the call in hand
+
+  pub record Has (xs : Steps K) (fair : Fair K xs) (c : ℕ) : Type 0 where
+    pub known : Signed K xs
+    pub among : In known (story xs fair)
+    pub client : known .call .client ≡ c
+    pub number : known .call .number ≡ calls K xs c
+
+  begin-has : {ys : Steps K} (a : Call) (b : Bool) (f : b ≡ true → CallOk K ys a blankStamp) (l : List (Signed K ys)) → b ≡ true → (g : Signed K ys) × In g (beginSigned K a b f ++ l) × (g .call ≡ a)
+  unfolding beginSigned In
+  begin-has a true f l e = (record { call = a; stamp = blankStamp; ok = f refl }, inl refl, refl)
+  begin-has a false f l e = clash e refl
+
+  new-has : (x : StepOf K) (xs : Steps K) (c : ℕ) (st : Step) (e : x .step ≡ st) (l : List (Signed K (x ∷ xs))) → accepted (result K x xs) ≡ true → ((r n : List ℕ) × (st ≡ write c r n)) ⊎ (st ≡ read c) →
+      (g : Signed K (x ∷ xs)) × In g (newSigned K x xs st e ++ l) × (g .call .client ≡ c) × (g .call .number ≡ suc (calls K xs c))
+  unfolding newSigned newCall
+  new-has x xs c (write d r n) e l acc s = let g = begin-has _ (accepted (result K x xs)) (new-write K x xs d r n e) l acc in let q : d ≡ c = same s in
+      (g .0, g .1, ap (λ (a : Call). a .client) (g .2) ∙ q, ap (λ (a : Call). a .number) (g .2) ∙ ap (λ (i : ℕ). suc (calls K xs i)) q)
+    where
+      same : ((r' n' : List ℕ) × (write d r n ≡ write c r' n')) ⊎ (write d r n ≡ read c) → d ≡ c
+      same (inl z) = let y = z .2 in cc
+      same (inr z) = absurd (let y : _≡_ {A = ℕ} 0 1 = cc in omega arith)
+  new-has x xs c (read d) e l acc s = let g = begin-has _ (accepted (result K x xs)) (new-read K x xs d e) l acc in let q : d ≡ c = same s in
+      (g .0, g .1, ap (λ (a : Call). a .client) (g .2) ∙ q, ap (λ (a : Call). a .number) (g .2) ∙ ap (λ (i : ℕ). suc (calls K xs i)) q)
+    where
+      same : ((r' n' : List ℕ) × (read d ≡ write c r' n')) ⊎ (read d ≡ read c) → d ≡ c
+      same (inl z) = absurd (let y = z .2 in let w : _≡_ {A = ℕ} 0 1 = cc in omega arith)
+      same (inr z) = cc
+  new-has x xs c (make d b o) e l acc (inl z) = absurd (let y = z .2 in let w : _≡_ {A = ℕ} 0 1 = cc in omega arith)
+  new-has x xs c (make d b o) e l acc (inr z) = absurd (let w : _≡_ {A = ℕ} 0 1 = cc in omega arith)
+  new-has x xs c (take-reply d b o) e l acc (inl z) = absurd (let y = z .2 in let w : _≡_ {A = ℕ} 0 1 = cc in omega arith)
+  new-has x xs c (take-reply d b o) e l acc (inr z) = absurd (let w : _≡_ {A = ℕ} 0 1 = cc in omega arith)
+  new-has x xs c (give-up d) e l acc (inl z) = absurd (let y = z .2 in let w : _≡_ {A = ℕ} 0 1 = cc in omega arith)
+  new-has x xs c (give-up d) e l acc (inr z) = absurd (let w : _≡_ {A = ℕ} 0 1 = cc in omega arith)
+  new-has x xs c (serve b p o) e l acc (inl z) = absurd (let y = z .2 in let w : _≡_ {A = ℕ} 0 1 = cc in omega arith)
+  new-has x xs c (serve b p o) e l acc (inr z) = absurd (let w : _≡_ {A = ℕ} 0 1 = cc in omega arith)
+
+  pub has-call : (xs : Steps K) (fair : Fair K xs) (c : ℕ) → isIdle (hand K xs c) ≡ false → Has xs fair c
+  unfolding nowValues story isIdle awaits begun onto
+  has-call [] fair c b = clash refl b
+  has-call (x ∷ xs) fair c b = go (moved (K .s) c (now (K .s) xs) (x .step)) (λ k. has-call xs (past x xs fair) c k)
+    where
+      w : World
+      w = now (K .s) xs
+
+      cl' : Client
+      cl' = perform (K .s) w (x .step) .world .client c
+
+      on : calls K xs c ≡ cl' .calls → Has xs (past x xs fair) c → Has (x ∷ xs) fair c
+      on q h = let k = step-keeps x xs fair (h .known) in
+          record { known = stepSigned x xs fair (h .known); among = story-next x xs fair (h .known) (h .among); client = k .client ∙ h .client; number = k .number ∙ h .number ∙ q }
+
+      began : cl' .calls ≡ suc (calls K xs c) → accepted (result K x xs) ≡ true → ((r n : List ℕ) × (x .step ≡ write c r n)) ⊎ (x .step ≡ read c) → Has (x ∷ xs) fair c
+      began q acc s = let g = new-has x xs c (x .step) refl (map (stepSigned x xs fair) (story xs (past x xs fair))) acc s in
+          record { known = g .0; among = g .1; client = g .2; number = g .3 ∙ sym q }
+
+      go : Moved (K .s) c w (x .step) cl' (result K x xs) → (isIdle (hand K xs c) ≡ false → Has xs (past x xs fair) c) → Has (x ∷ xs) fair c
+      go (kept e _) f = on (sym (ap (λ (z : Client). z .calls) e)) (f (subst (λ (z : Client). isIdle (z .hand) ≡ false) e b))
+      go (wbegan r n s a i l e) f = began (ap (λ (z : Client). z .calls) e) (subst (λ (v : Result). accepted v ≡ true) (sym a) refl) (inl (r, n, s))
+      go (rbegan s a i e) f = began (ap (λ (z : Client). z .calls) e) (subst (λ (v : Result). accepted v ≡ true) (sym a) refl) (inr s)
+      go (quit s a i e) f = clash refl (subst (λ (z : Client). isIdle (z .hand) ≡ false) e b)
+      go (took p b' o s rd fit e v) f = on (sym (ap (λ (z : Client). z .calls) e ∙ turn-turned (K .s) c (w .client c) p .calls)) (f (fit .busy))
+
+  -- ---- a write that was shown
+
+  pub record Counts (xs : Steps K) (fair : Fair K xs) (n : List ℕ) : Type 0 where
+    pub known : Signed K xs
+    pub among : In known (story xs fair)
+    pub reached : known .call .reached ≡ true
+    pub write : Stamped
+    pub made : In write (marks (K .s) xs)
+    pub nonce-is : write .nonce ≡ n
+    pub stamp-is : write .stamp ≡ known .stamp
+    pub wrote : known .call .wrote ≡ some (write .content)
+
+  counts-up : (x : StepOf K) (xs : Steps K) (fair : Fair K (x ∷ xs)) (n : List ℕ) → Counts xs (past x xs fair) n → Counts (x ∷ xs) fair n
+  counts-up x xs fair n h = let k = step-keeps x xs fair (h .known) in let r = k .reached (h .reached) in
+      record {
+        known = stepSigned x xs fair (h .known);
+        among = story-next x xs fair (h .known) (h .among);
+        reached = r .0;
+        write = h .write;
+        made = marks-up (K .s) (h .write) x xs (h .made);
+        nonce-is = h .nonce-is;
+        stamp-is = h .stamp-is ∙ sym (r .1);
+        wrote = k .wrote ∙ h .wrote;
+      }
+
+  pub shown-call : (xs : Steps K) (fair : Fair K xs) (c : ℕ) (n : List ℕ) → Ever (Show K c n) xs → Counts xs fair n
+  unfolding Ever Cur Known isIdle awaits
+  shown-call [] fair c n h = absurd h
+  shown-call (x ∷ xs) fair c n (inl h) = counts-up x xs fair n
+      (let v = show-hand K c n x xs h in
+      let a = has-call xs (past x xs fair) c (subst (λ (z : Hand). isIdle z ≡ false) (sym (v .1)) refl) in
+      let g = a .known in
+      let cur = subst (Cur K xs (g .call) (g .stamp)) (ap (λ (i : ℕ). hand K xs i) (a .client) ∙ v .1) (g .ok .current (a .number ∙ ap (calls K xs) (sym (a .client)))) in
+      let W = cur .0 in
+      let f = subst (Known (K .s) xs c) (v .1) (known (K .s) xs c) in
+      let made = mark-at K (W .write) (g .call .begun) xs (W .since-when) in
+      let q : W .write .stamp ≡ f .0 .stamp = W .stamp-is ∙ sym (W .hand-is) ∙ ap (λ (z : Candidate). z .stamp) (f .3) in
+      let e : W .write ≡ f .0 = by-stamp (K .s) xs (W .write) (f .0) made (f .1) (ap (λ (z : Stamp). z .number) q) (ap (λ (z : Stamp). z .writer) q) in
+      record {
+        known = g;
+        among = a .among;
+        reached = cur .3;
+        write = W .write;
+        made = made;
+        nonce-is = ap (λ (m : Stamped). m .nonce) e ∙ sym (ap (λ (z : Candidate). z .nonce) (f .3)) ∙ v .2;
+        stamp-is = W .stamp-is;
+        wrote = W .content-is;
+      })
+  shown-call (x ∷ xs) fair c n (inr h) = counts-up x xs fair n (shown-call xs (past x xs fair) c n h)

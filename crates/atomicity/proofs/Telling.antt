@@ -1,0 +1,179 @@
+-- What a correct server's reply means for the hand that it is for: by the server's rule on the request of that hand, and by what it holds.
+-- Assumes nothing.
+use mathlib.Core.Path.{_≡_, refl, sym, ap, _∙_, subst}
+use mathlib.Core.Bool.{Bool, true, false, cond, not, _&&_, _||_}
+use mathlib.Core.List.{List, [], _∷_, _++_}
+use mathlib.Core.Option.{Option, none, some}
+use mathlib.Core.Logic.{_⊎_, inl, inr}
+use Prim.Native.Nat.{ℕ, zero, suc, _≤_, _<_}
+use native.Mathlib.Nat.{le-refl}
+use native.Mathlib.Omega.{arith}
+use lib.Dec.{leb, ltb, eqb}
+use borrow.Author.Tests.{ltb-false}
+use Rattle.protocol.specs.declared.Stamp.{Stamp}
+use Rattle.protocol.specs.Values.{Candidate, Share, Write, Held, below, blankCandidate, blankStamp, sameList, isSome}
+use Rattle.protocol.specs.Packet.{Body, Packet}
+use Rattle.protocol.specs.Packet.{clock, store, complete, collect, filter, filterReply, repair}
+use Rattle.protocol.specs.Memory.{held}
+use Rattle.protocol.specs.Server.{Server, Acted, hasDigest, raise, valid, byHistory, act}
+use Rattle.protocol.specs.Client.{Hand, idle, clocking, storing, completing, collecting, filtering, repairing, stampIn, codeIn, candidateIn, heldIn, higher, checks, request}
+use Rattle.protocol.specs.Runs.{Typed, nowValues}
+use Rattle.atomicity.specs.Lists.{Ever, In}
+use Rattle.atomicity.specs.Steps.{System, Stamped, judged}
+use Rattle.atomicity.proofs.Util.{cond-case, clash, untrue, and-intro, or-left, or-right, ever-map, rise}
+use Rattle.atomicity.proofs.Stamps.{le-trans, num-le, same-is}
+use Rattle.atomicity.proofs.Model.{Run, now, acts, marks, vouched, tagged, isValid, bestOf, shareFor}
+use Rattle.atomicity.proofs.Setup.{Setup, Steps, StepOf, Fair, lat, hist, hand}
+use Rattle.atomicity.proofs.Rounds.{since, from}
+use Rattle.atomicity.proofs.Marks.{mark-num, mark-checks, by-stamp}
+use Rattle.atomicity.proofs.Servers.{held-some, is-some, raise-ge, best-view, best-max, store-held}
+use Rattle.atomicity.proofs.Genuine.{history, Judging, Genuine, genuine, genuine-up, latest-known}
+use Rattle.atomicity.proofs.Heard.{lat-since, held-from, marks-from, Heard}
+use Rattle.atomicity.proofs.States.{Piece, piece-up, Sift, Coll, Says, says-up}
+
+pub higher-checked : (s : System) (k : ℕ) (a : Stamp) → checks (s .P) (s .writers) a ≡ true → a .number ≤ higher (s .P) (s .writers) k a
+unfolding higher
+higher-checked s k a h = cond-case (λ (v : ℕ). a .number ≤ v) (checks (s .P) (s .writers) a && ltb k (a .number)) _ k (λ e. le-refl _)
+    (λ e. ltb-false k (a .number) (untrue _ (λ z. clash (and-intro _ _ h z) e)))
+
+module _ (K : Setup) where
+  -- one step of server j, on the request q, with the reply x, in c's present round
+  pub record At (c j : ℕ) (xs : Steps K) (q : Body) (x : Body) (y : StepOf K) (ys : Steps K) : Type 0 where
+    pub ask : Packet
+    pub asked : ask .body ≡ q
+    pub judging : Judging K y ys j ask
+    pub says : x ≡ acts (K .s) j (now (K .s) ys .server j) q .reply
+    pub after : now (K .s) (y ∷ ys) .server j ≡ acts (K .s) j (now (K .s) ys .server j) q .server
+    pub old : Fair K ys
+    pub from-is : from (K .s) c ys ≡ from (K .s) c xs
+    pub since-is : since (K .s) c ys ≡ since (K .s) c xs
+
+  pub at-step : (c j : ℕ) (xs : Steps K) (x : Body) (h : Hand) → hand K xs c ≡ h → (y : StepOf K) (ys : Steps K) → Heard K c j xs x y ys → At c j xs (request h j) x y ys
+  at-step c j xs x h e y ys t =
+      let q : t .ask .body ≡ request h j = t .body-is ∙ ap (λ (z : Hand). request z j) e in
+      record {
+        ask = t .ask;
+        asked = q;
+        judging = record { prem = t .prem; by = t .by; got = t .got; fine = t .fine };
+        says = t .says ∙ ap (λ (z : Body). acts (K .s) j (now (K .s) ys .server j) z .reply) q;
+        after = t .after ∙ ap (λ (z : Body). acts (K .s) j (now (K .s) ys .server j) z .server) q;
+        old = t .old;
+        from-is = t .from-is;
+        since-is = t .since-is;
+      }
+
+  -- ---- what a history vouches for
+
+  pub vouches : (ys : Steps K) → Fair K ys → (j : ℕ) (d : Candidate) (m : Stamped) → In m (marks (K .s) ys) → m .stamp ≡ d .stamp → m .nonce ≡ d .nonce →
+      isSome (held (d .stamp) (hist K ys j)) ≡ true → isValid (K .s) j (now (K .s) ys .server j) d ≡ true
+  unfolding valid byHistory
+  vouches ys fair j d m i a n h =
+      let f = is-some (held (d .stamp) (hist K ys j)) h in
+      let e = held-some (d .stamp) (f .0) (hist K ys j) (f .1) in
+      let o = history K ys fair j (e .0) (e .1) in
+      let k : o .0 .stamp ≡ m .stamp = sym (ap (λ (z : Write). z .stamp) (o .2)) ∙ e .2 ∙ sym a in
+      let eq : o .0 ≡ m = by-stamp (K .s) ys (o .0) m (o .1) i (ap (λ (z : Stamp). z .number) k) (ap (λ (z : Stamp). z .writer) k) in
+      let nd : f .0 .nonceDigest ≡ K .s .P .digest (d .nonce) = sym (ap (λ (z : Share). z .nonceDigest) (e .3)) ∙ ap (λ (z : Write). z .share .nonceDigest) (o .2) ∙ ap (λ (z : Stamped). K .s .P .digest (z .nonce)) eq ∙ ap (K .s .P .digest) n in
+      or-left _ _ (subst (λ (z : Option Share). hasDigest (K .s .P .digest (d .nonce)) z ≡ true) (sym (f .1)) (same-is (f .0 .nonceDigest) (K .s .P .digest (d .nonce)) nd))
+
+  -- a share under the stamp of a shown write
+  pub piece-of : (ys : Steps K) → Fair K ys → (j : ℕ) (d : Candidate) → Genuine K ys d → (f : Share) → held (d .stamp) (hist K ys j) ≡ some f → Piece K ys j (d .stamp) f
+  piece-of ys fair j d g f h =
+      let e = held-some (d .stamp) f (hist K ys j) h in
+      let o = history K ys fair j (e .0) (e .1) in
+      let k : o .0 .stamp ≡ g .write .stamp = sym (ap (λ (z : Write). z .stamp) (o .2)) ∙ e .2 ∙ sym (g .stamp-is) in
+      let eq : o .0 ≡ g .write = by-stamp (K .s) ys (o .0) (g .write) (o .1) (g .made) (ap (λ (z : Stamp). z .number) k) (ap (λ (z : Stamp). z .writer) k) in
+      record {
+        write = g .write;
+        made = g .made;
+        shown = g .shown;
+        stamp-is = g .stamp-is;
+        share-is = sym (e .3) ∙ ap (λ (z : Write). z .share) (o .2) ∙ ap (λ (z : Stamped). shareFor (K .s) z j) eq;
+      }
+
+  -- nothing is held under the blank stamp
+  pub no-blank : (ys : Steps K) → Fair K ys → (j : ℕ) (f : Share) → held blankStamp (hist K ys j) ≡ some f → ⊥
+  no-blank ys fair j f h =
+      let e = held-some blankStamp f (hist K ys j) h in
+      let o = history K ys fair j (e .0) (e .1) in
+      let k : o .0 .stamp ≡ blankStamp = sym (ap (λ (z : Write). z .stamp) (o .2)) ∙ e .2 in
+      omega (arith, mark-num (K .s) ys (o .0) (o .1), ap (λ (z : Stamp). z .number) k)
+
+  -- ---- round by round
+
+  sifted : (c j : ℕ) (xs : Steps K) (cs : List Candidate) (x : Body) (y : StepOf K) (ys : Steps K) → At c j xs (filter cs) x y ys → Sift K (y ∷ ys) (from (K .s) c xs) j cs (heldIn x)
+  unfolding act valid
+  sifted c j xs cs x y ys t =
+      let v = now (K .s) ys .server j in
+      let b = bestOf (K .s) j v (blankCandidate (K .s .config)) cs in
+      let rq : heldIn x ≡ record { stamp = b .stamp; share = held (b .stamp) (hist K ys j) } = ap heldIn (t .says) in
+      let sq : heldIn x .stamp ≡ b .stamp = ap (λ (h : Held). h .stamp) rq in
+      let fq : heldIn x .share ≡ held (b .stamp) (hist K ys j) = ap (λ (h : Held). h .share) rq in
+      record {
+        piece = λ f e. subst (λ (a : Stamp). Piece K (y ∷ ys) j a f) (sym sq) (go b f (sym fq ∙ e) (best-view (K .s) j v (blankCandidate (K .s .config)) cs));
+        tags = λ d i e. subst (λ (z : Server). below (z .latest .stamp) (d .stamp) ≡ false) (sym (t .after))
+            (le-trans (d .stamp) (b .stamp) (raise b v .latest .stamp) (best-max (K .s) j v (blankCandidate (K .s .config)) cs d i (tag-valid d e)) (raise-ge b v));
+        stands = λ d i h m k a n. subst (λ (z : Stamp). below z (d .stamp) ≡ false) (sym sq) (best-max (K .s) j v (blankCandidate (K .s .config)) cs d i
+            (vouches ys (t .old) j d m (marks-from K c ys m (subst (λ (l : Steps K). In m (marks (K .s) l)) (sym (t .from-is)) k)) a n
+            (held-from K c ys j (d .stamp) (subst (λ (l : Steps K). isSome (held (d .stamp) (hist K l j)) ≡ true) (sym (t .from-is)) h))));
+      }
+    where
+      tag-valid : (d : Candidate) → tagged (K .s) j d ≡ true → isValid (K .s) j (now (K .s) ys .server j) d ≡ true
+      tag-valid d e = or-right (vouched (K .s) j (now (K .s) ys .server j) d) (tagged (K .s) j d) e
+
+      go : (b : Candidate) (f : Share) → held (b .stamp) (hist K ys j) ≡ some f → (b ≡ blankCandidate (K .s .config)) ⊎ (In b cs × (isValid (K .s) j (now (K .s) ys .server j) b ≡ true)) → Piece K (y ∷ ys) j (b .stamp) f
+      go b f h (inl e) = absurd (no-blank ys (t .old) j f (subst (λ (z : Candidate). held (z .stamp) (hist K ys j) ≡ some f) e h))
+      go b f h (inr v) = piece-up K j (b .stamp) f y ys (piece-of ys (t .old) j b
+          (genuine K y ys (t .old) j (t .ask) (t .judging) b (subst (λ (z : Body). In b (judged z)) (sym (t .asked)) (v .0)) (v .1)) f h)
+
+  clocked : (c j : ℕ) (xs : Steps K) (x : Body) (y : StepOf K) (ys : Steps K) → At c j xs clock x y ys → (k : ℕ) → lat K (since (K .s) c xs) j .number ≤ higher (K .s .P) (K .s .writers) k (stampIn x)
+  unfolding act
+  clocked c j xs x y ys t k =
+      let low : lat K (since (K .s) c xs) j .number ≤ lat K ys j .number = num-le _ (lat K ys j) (subst (λ (l : Steps K). below (lat K ys j) (lat K l j) ≡ false) (t .since-is) (lat-since K c ys j)) in
+      subst (λ (a : Stamp). lat K (since (K .s) c xs) j .number ≤ higher (K .s .P) (K .s .writers) k a) (sym (ap stampIn (t .says))) (go low (latest-known K ys (t .old) j))
+    where
+      go : lat K (since (K .s) c xs) j .number ≤ lat K ys j .number → (now (K .s) ys .server j .latest ≡ blankCandidate (K .s .config)) ⊎ Genuine K ys (now (K .s) ys .server j .latest) →
+          lat K (since (K .s) c xs) j .number ≤ higher (K .s .P) (K .s .writers) k (lat K ys j)
+      go low (inl e) = omega (arith, low, ap (λ (z : Candidate). z .stamp .number) e)
+      go low (inr g) = omega (arith, low, higher-checked (K .s) k (lat K ys j) (subst (λ (a : Stamp). checks (K .s .P) (K .s .writers) a ≡ true) (g .stamp-is) (mark-checks (K .s) ys (g .write) (g .made))))
+
+  stored : (c j : ℕ) (xs : Steps K) (w : Write) (x : Body) (y : StepOf K) (ys : Steps K) → At c j xs (store w) x y ys → eqb (codeIn x) 11 ≡ false → isSome (held (w .stamp) (hist K (y ∷ ys) j)) ≡ true
+  stored c j xs w x y ys t k = subst (λ (z : Server). isSome (held (w .stamp) (z .history)) ≡ true) (sym (t .after))
+      (store-held (K .s) j (now (K .s) ys .server j) w (subst (λ (z : Body). eqb (codeIn z) 11 ≡ false) (t .says) k))
+
+  done-high : (c j : ℕ) (xs : Steps K) (d : Candidate) (x : Body) (y : StepOf K) (ys : Steps K) → At c j xs (complete d) x y ys → below (lat K (y ∷ ys) j) (d .stamp) ≡ false
+  unfolding act
+  done-high c j xs d x y ys t = subst (λ (z : Server). below (z .latest .stamp) (d .stamp) ≡ false) (sym (t .after)) (raise-ge d (now (K .s) ys .server j))
+
+  collected : (c j : ℕ) (xs : Steps K) (x : Body) (y : StepOf K) (ys : Steps K) → At c j xs collect x y ys → Coll K (y ∷ ys) (since (K .s) c xs) j (candidateIn (K .s .config) x)
+  unfolding act
+  collected c j xs x y ys t = subst (Coll K (y ∷ ys) (since (K .s) c xs) j) (sym (ap (candidateIn (K .s .config)) (t .says)))
+      (record {
+        high = subst (λ (l : Steps K). below (lat K ys j) (lat K l j) ≡ false) (t .since-is) (lat-since K c ys j);
+        real = go (latest-known K ys (t .old) j);
+      })
+    where
+      go : (now (K .s) ys .server j .latest ≡ blankCandidate (K .s .config)) ⊎ Genuine K ys (now (K .s) ys .server j .latest) →
+          (now (K .s) ys .server j .latest ≡ blankCandidate (K .s .config)) ⊎ Genuine K (y ∷ ys) (now (K .s) ys .server j .latest)
+      go (inl e) = inl e
+      go (inr g) = inr (genuine-up K _ y ys g)
+
+  repaired : (c j : ℕ) (xs : Steps K) (d : Candidate) (x : Body) (y : StepOf K) (ys : Steps K) → At c j xs (repair d) x y ys → tagged (K .s) j d ≡ true → below (lat K (y ∷ ys) j) (d .stamp) ≡ false
+  unfolding act valid
+  repaired c j xs d x y ys t e = subst (λ (z : Server). below (z .latest .stamp) (d .stamp) ≡ false) (sym (t .after))
+      (subst (λ (b : Bool). below ((cond b (raise d (now (K .s) ys .server j)) (now (K .s) ys .server j)) .latest .stamp) (d .stamp) ≡ false)
+      (sym (or-right (vouched (K .s) j (now (K .s) ys .server j) d) (tagged (K .s) j d) e)) (raise-ge d (now (K .s) ys .server j)))
+
+  pub says : (c : ℕ) (xs : Steps K) (j : ℕ) (x : Body) (h : Hand) → hand K xs c ≡ h → Ever (Heard K c j xs x) xs → Says K xs (since (K .s) c xs) (from (K .s) c xs) j x h
+  unfolding Says
+  says c xs j x h e ev = rise (λ (zs : Steps K). Says K zs (since (K .s) c xs) (from (K .s) c xs) j x h) (λ y zs k. says-up K (since (K .s) c xs) (from (K .s) c xs) j x h y zs k) xs
+      (ever-map (Heard K c j xs x) (λ y ys. Says K (y ∷ ys) (since (K .s) c xs) (from (K .s) c xs) j x h) (λ y ys t. go h y ys (at-step c j xs x h e y ys t)) xs ev)
+    where
+      go : (g : Hand) (y : StepOf K) (ys : Steps K) → At c j xs (request g j) x y ys → Says K (y ∷ ys) (since (K .s) c xs) (from (K .s) c xs) j x g
+      go idle y ys t = tt
+      go (clocking r n k) y ys t = clocked c j xs x y ys t
+      go (storing d g) y ys t = stored c j xs (record { stamp = d .stamp; share = g j }) x y ys t
+      go (completing d) y ys t = done-high c j xs d x y ys t
+      go (collecting g) y ys t = collected c j xs x y ys t
+      go (filtering cs g) y ys t = sifted c j xs cs x y ys t
+      go (repairing d r) y ys t = repaired c j xs d x y ys t

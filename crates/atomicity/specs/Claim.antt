@@ -1,0 +1,177 @@
+-- Demand 3: "the shelf answers as one honest box, for every list of steps, refused ones too".
+-- The calls are read off the list of steps and results; one order of them replays on one server; and no call waits for ever.
+use mathlib.Core.Path.{_≡_}
+use mathlib.Core.Bool.{Bool, true, false, cond, not, _&&_, _||_}
+use mathlib.Core.List.{List, [], _∷_}
+use mathlib.Core.Option.{Option, none, some}
+use mathlib.Core.Logic.{_⊎_}
+use Prim.Native.Nat.{ℕ, suc, _≤_, _<_}
+use lib.Dec.{leb, ltb, eqb}
+use lib.ListN.{length}
+use Rattle.cluster.specs.Config.{Config, quorum}
+use Rattle.cluster.specs.Ranges.{topFaults, capacity}
+use Rattle.protocol.specs.Packet.{Packet, kindOf, decode}
+use Rattle.protocol.specs.Primitives.{real}
+use Rattle.protocol.specs.Rules.{keep}
+use Rattle.protocol.specs.Client.{Client, Hand, Result, refused, more, written, gave, gaveBlank, aborted, awaits, isIdle}
+use Rattle.protocol.specs.ClientBytes.{keyOf}
+use Rattle.protocol.specs.Runs.{Shelf, configOf, Step, write, read, make, take-reply, give-up, serve, Typed, Account, byBytes}
+use Rattle.atomicity.specs.Lists.{Ever, Always, All, In, AllPairs, Perm}
+use Rattle.atomicity.specs.Steps.{System, accepted, serves}
+use Rattle.atomicity.specs.Premises.{Correct, Parties, correctAt, Sent, Premise}
+
+-- ---- calls
+
+pub record Call : Type 0 where
+  pub client : ℕ
+  pub number : ℕ
+  -- the content of a write; none for a read
+  pub wrote : Option (List ℕ)
+  -- how many steps were done when it began
+  pub begun : ℕ
+  -- its complete round has begun
+  pub reached : Bool
+  -- how many steps were done when it ended, finished
+  pub over : Option ℕ
+  -- the content that a read gave; none for blank
+  pub answer : Option (List ℕ)
+  pub gaveUp : Bool
+
+-- f of the call of client c with this number
+unfoldable pub change : ℕ → ℕ → (Call → Call) → List Call → List Call
+change c n f [] = []
+change c n f (x ∷ xs) = cond (eqb (x .client) c && eqb (x .number) n) (f x) x ∷ change c n f xs
+
+abbrev pub reach : Bool → Call → Call
+reach b x = record { client = x .client; number = x .number; wrote = x .wrote; begun = x .begun; reached = x .reached || b; over = x .over; answer = x .answer; gaveUp = x .gaveUp }
+
+abbrev pub close : ℕ → Option (List ℕ) → Call → Call
+close n a x = record { client = x .client; number = x .number; wrote = x .wrote; begun = x .begun; reached = x .reached; over = some n; answer = a; gaveUp = x .gaveUp }
+
+abbrev pub leave : Call → Call
+leave x = record { client = x .client; number = x .number; wrote = x .wrote; begun = x .begun; reached = x .reached; over = x .over; answer = x .answer; gaveUp = true }
+
+-- what a step's result does to its client's call: complete tells that the hand is in the complete round, n is how many steps were done
+abbrev pub follow : Result → Bool → ℕ → Call → Call
+follow (refused k) complete n x = x
+follow more complete n x = reach complete x
+follow (written k) complete n x = close n none x
+follow (gave k r) complete n x = close n (some r) x
+follow gaveBlank complete n x = close n none x
+follow (aborted b) complete n x = leave x
+
+module _ {s : Config} (A : Account s) where
+  -- "A call begins when accepted and ends, finished, at the reply that gives its result"
+  abbrev pub enter : Typed s → List (Typed s) → ℕ → Option (List ℕ) → List Call → List Call
+  enter x xs c w cs =
+      cond (accepted (A .result x xs))
+      (record { client = c; number = suc (A .client xs c .calls); wrote = w; begun = length xs; reached = false; over = none; answer = none; gaveUp = false } ∷ cs)
+      cs
+
+  abbrev pub touch : Typed s → List (Typed s) → ℕ → List Call → List Call
+  touch x xs c cs = change c (A .client xs c .calls) (follow (A .result x xs) (eqb (awaits (A .client (x ∷ xs) c .hand)) 6) (length xs)) cs
+
+  unfoldable pub note : Typed s → List (Typed s) → List Call → Step → List Call
+  note x xs cs (write c r n) = enter x xs c (some r) cs
+  note x xs cs (read c) = enter x xs c none cs
+  note x xs cs (make c b o) = cs
+  note x xs cs (take-reply c p o) = touch x xs c cs
+  note x xs cs (give-up c) = touch x xs c cs
+  note x xs cs (serve b p o) = cs
+
+  unfoldable pub log : List (Typed s) → List Call
+  log [] = []
+  log (x ∷ xs) = note x xs (log xs) (x .step)
+
+abbrev pub given : {B : Type 0} → Option B → Bool
+given none = false
+given (some a) = true
+
+-- ---- the one order
+
+-- a ended before b began
+abbrev pub endedBy : Option ℕ → ℕ → Bool
+endedBy none n = false
+endedBy (some e) n = ltb e n
+
+unfoldable pub before : Call → Call → Bool
+before a b = endedBy (a .over) (b .begun)
+
+-- "the right clients' finished calls, with some unfinished writes": those whose complete round began
+unfoldable pub counted : Call → Bool
+counted c = given (c .over) || (given (c .wrote) && c .reached)
+
+-- "it holds blank, then the last write's record, and each read gives what it holds, blank or the same length and bytes"
+abbrev pub shows : Option (List ℕ) → Option (List ℕ) → Call → Type 0
+shows m none c = c .answer ≡ m
+shows m (some r) c = Unit {0}
+
+abbrev pub holds : Option (List ℕ) → Option (List ℕ) → Option (List ℕ)
+holds m none = m
+holds m (some r) = some r
+
+unfoldable pub Replay : Option (List ℕ) → List Call → Type 0
+Replay m [] = Unit {0}
+Replay m (c ∷ cs) = shows m (c .wrote) c × Replay (holds m (c .wrote)) cs
+
+-- "have one order: a call that ended before another began stands ahead of it, and each read gives the last write before it, or blank if none"
+pub record OneOrder (cs : List Call) : Type 0 where
+  pub order : List Call
+  pub exact : Perm order (keep counted cs)
+  pub time : AllPairs (λ a b. before b a ≡ false) order
+  pub legal : Replay none order
+
+-- a write given up before its complete round is in no order, so that no read gives it
+unfoldable pub NeverRead : List Call → Type 0
+NeverRead cs = (o : OneOrder cs) (w : Call) → In w cs → w .gaveUp ≡ true → w .reached ≡ false → In w (o .order) → ⊥
+
+-- ---- progress
+
+unfoldable pub begunWrites : List Call → ℕ
+begunWrites cs = length (keep (λ c. given (c .wrote)) cs)
+
+-- "A reply refused with 15 hasn't come in"
+abbrev pub cameIn : Result → Bool
+cameIn (refused n) = not (eqb n 15)
+cameIn more = true
+cameIn (written n) = true
+cameIn (gave n r) = true
+cameIn gaveBlank = true
+cameIn (aborted b) = true
+
+-- a read is in hand; or "at most 32 writes have begun". The text asks the second of reads too
+abbrev pub Room : List Call → Hand → Type 0
+Room cs h = (leb 8 (awaits h) ≡ true) ⊎ (begunWrites cs ≤ capacity)
+
+module _ (s : System) (A : Account (s .config)) (correct : Correct) where
+  -- server b's reply to the round that client c has in hand after the steps l has come in
+  unfoldable pub CameIn : List (Typed (s .config)) → ℕ → ℕ → Type 0
+  CameIn l c b =
+      Ever
+      (λ x xs. (reply : List ℕ) × (o : List ℕ) × (p : Packet) × (x .step ≡ take-reply c reply o) × (cameIn (A .result x xs) ≡ true) × (decode reply ≡ some p)
+      × (p .head .client ≡ c) × (p .head .server ≡ b) × (p .head .call ≡ A .client l c .calls) × (kindOf (p .body) ≡ awaits (A .client l c .hand))
+      × Sent s A correct (serves b) reply xs)
+      l
+
+  -- while a call is in hand, its round lacks replies of S - t correct servers. "A right client's call that isn't given up has ended once
+  -- 2t+1 honest boxes' replies to each of its rounds have come in, while at most 32 writes have begun"
+  unfoldable pub Progress : List (Typed (s .config)) → Type 0
+  Progress l =
+      (c : ℕ) → correct .client c ≡ true → isIdle (A .client l c .hand) ≡ false → Room (log A l) (A .client l c .hand)
+      → (bs : List ℕ) → AllPairs (λ a b. eqb a b ≡ false) bs → All (λ b. (correctAt s A correct l b ≡ true) × CameIn l c b) bs
+      → length bs < quorum (s .config)
+
+-- ---- the claim, of an account of runs
+
+unfoldable pub OneServer : (s : System) → Account (s .config) → Type 0
+OneServer s A =
+    (correct : Correct) → Parties (s .config) correct → (l : List (Typed (s .config))) → Always (Premise s A correct) l
+    → OneOrder (log A l) × (NeverRead (log A l) × Progress s A correct l)
+
+-- the real digest, tag and fragments, on a shelf of document 01
+abbrev pub systemOf : Shelf → System
+systemOf s = record { P = real; config = configOf s; writers = s .writers; keys = keyOf (s .keys) }
+
+-- demand 3, of the operations on bytes
+unfoldable pub Demand3 : Type 0
+Demand3 = (s : Shelf) → 1 ≤ s .t → s .t ≤ topFaults → OneServer (systemOf s) (byBytes real s)

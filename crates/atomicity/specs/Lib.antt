@@ -1,0 +1,4 @@
+pub mod Lists
+pub mod Steps
+pub mod Premises
+pub mod Claim
