@@ -89,7 +89,11 @@ unfoldable completed : Scene
 completed = asksAll 1 (1 ∷ 2 ∷ 3 ∷ []) stored
 
 write-ends : completed .result ≡ written 1
-unfolding completed stored asksAll asks hears writes reads new toy mix writers keys shelf upTo quorum nth runOf isBlank below sameStamp sameCandidate held stampMessage candidateMessage upd nobody countTo any keep first gather lower live fits agrees leads leader highest choice parts restoredBy kept raise byHistory byTag valid best act barred replyTo serverRefusal answered serverStep awaits isIdle stampOf tagsOf candidateMade shareMade sharesMade prepared made onto checks higher isFull found judge update tooHigh writeRefusal readRefusal makeRefusal takeRefusal begun writeStep readStep makeStep turnOn highAt takeStep
+unfolding completed stored asksAll asks hears writes reads new toy mix writers keys shelf upTo quorum nth runOf isBlank below sameStamp
+    sameCandidate held stampMessage candidateMessage upd nobody countTo any keep first gather lower live fits agrees leads leader highest choice
+    parts restoredBy kept raise byHistory byTag valid best act barred replyTo serverRefusal answered serverStep awaits isIdle stampOf tagsOf
+    candidateMade shareMade sharesMade prepared made onto checks higher isFull found judge update tooHigh writeRefusal readRefusal makeRefusal
+    takeRefusal begun writeStep readStep makeStep turnOn highAt takeStep
 write-ends = refl
 
 -- client 9 reads: collect and filter at servers 2, 3, 4, of which 4 missed the write
@@ -97,7 +101,11 @@ unfoldable readAfter : Scene
 readAfter = asksAll 9 (2 ∷ 3 ∷ 4 ∷ []) (asksAll 9 (2 ∷ 3 ∷ 4 ∷ []) (reads 9 completed))
 
 read-gives : readAfter .result ≡ gave 1 (65 ∷ 66 ∷ [])
-unfolding readAfter completed stored asksAll asks hears writes reads new toy mix writers keys shelf upTo quorum nth runOf isBlank below sameStamp sameCandidate held stampMessage candidateMessage upd nobody countTo any keep first gather lower live fits agrees leads leader highest choice parts restoredBy kept raise byHistory byTag valid best act barred replyTo serverRefusal answered serverStep awaits isIdle stampOf tagsOf candidateMade shareMade sharesMade prepared made onto checks higher isFull found judge update tooHigh writeRefusal readRefusal makeRefusal takeRefusal begun writeStep readStep makeStep turnOn highAt takeStep
+unfolding readAfter completed stored asksAll asks hears writes reads new toy mix writers keys shelf upTo quorum nth runOf isBlank below sameStamp
+    sameCandidate held stampMessage candidateMessage upd nobody countTo any keep first gather lower live fits agrees leads leader highest choice
+    parts restoredBy kept raise byHistory byTag valid best act barred replyTo serverRefusal answered serverStep awaits isIdle stampOf tagsOf
+    candidateMade shareMade sharesMade prepared made onto checks higher isFull found judge update tooHigh writeRefusal readRefusal makeRefusal
+    takeRefusal begun writeStep readStep makeStep turnOn highAt takeStep
 read-gives = refl
 
 -- ---- a write whose tags a liar spoiled, read through repair
@@ -116,13 +124,21 @@ filtered = asksAll 9 (2 ∷ 3 ∷ 4 ∷ []) (asksAll 9 (2 ∷ 3 ∷ []) (hears (
 
 -- the content waits for the repair
 awaits-repair : awaits (filtered .client 9 .hand) ≡ 12
-unfolding filtered spoilt completed stored asksAll asks hears writes reads new toy mix writers keys shelf upTo quorum nth runOf isBlank below sameStamp sameCandidate held stampMessage candidateMessage upd nobody countTo any keep first gather lower live fits agrees leads leader highest choice parts restoredBy kept raise byHistory byTag valid best act barred replyTo serverRefusal answered serverStep awaits isIdle stampOf tagsOf candidateMade shareMade sharesMade prepared made onto checks higher isFull found judge update tooHigh writeRefusal readRefusal makeRefusal takeRefusal begun writeStep readStep makeStep turnOn highAt takeStep
+unfolding filtered spoilt completed stored asksAll asks hears writes reads new toy mix writers keys shelf upTo quorum nth runOf isBlank below
+    sameStamp sameCandidate held stampMessage candidateMessage upd nobody countTo any keep first gather lower live fits agrees leads leader
+    highest choice parts restoredBy kept raise byHistory byTag valid best act barred replyTo serverRefusal answered serverStep awaits isIdle
+    stampOf tagsOf candidateMade shareMade sharesMade prepared made onto checks higher isFull found judge update tooHigh writeRefusal readRefusal
+    makeRefusal takeRefusal begun writeStep readStep makeStep turnOn highAt takeStep
 awaits-repair = refl
 
 -- after it the content is given, and server 4, which has no share of it, shows the candidate with tags that every server can check
 read-repaired : let w = asksAll 9 (2 ∷ 3 ∷ 4 ∷ []) filtered in
     (w .result ≡ gave 1 (65 ∷ 66 ∷ [])) × (sameCandidate (w .server 4 .latest) (candidateMade toy (shelf 1) 1 writers keys (42 ∷ []) 1) ≡ true)
-unfolding filtered spoilt completed stored asksAll asks hears writes reads new toy mix writers keys shelf upTo quorum nth runOf isBlank below sameStamp sameCandidate held stampMessage candidateMessage upd nobody countTo any keep first gather lower live fits agrees leads leader highest choice parts restoredBy kept raise byHistory byTag valid best act barred replyTo serverRefusal answered serverStep awaits isIdle stampOf tagsOf candidateMade shareMade sharesMade prepared made onto checks higher isFull found judge update tooHigh writeRefusal readRefusal makeRefusal takeRefusal begun writeStep readStep makeStep turnOn highAt takeStep
+unfolding filtered spoilt completed stored asksAll asks hears writes reads new toy mix writers keys shelf upTo quorum nth runOf isBlank below
+    sameStamp sameCandidate held stampMessage candidateMessage upd nobody countTo any keep first gather lower live fits agrees leads leader
+    highest choice parts restoredBy kept raise byHistory byTag valid best act barred replyTo serverRefusal answered serverStep awaits isIdle
+    stampOf tagsOf candidateMade shareMade sharesMade prepared made onto checks higher isFull found judge update tooHigh writeRefusal readRefusal
+    makeRefusal takeRefusal begun writeStep readStep makeStep turnOn highAt takeStep
 read-repaired = (refl, refl)
 
 -- ---- a candidate that leaves the list
@@ -139,7 +155,11 @@ misled =
 
 -- with two lower replies the round has its quorum and the invented one is still in the list; the third lower one is the S - t th: it leaves, and the write is read
 leaves-list : (asksAll 9 (2 ∷ 3 ∷ []) misled .result ≡ more) × (asksAll 9 (2 ∷ 3 ∷ 4 ∷ []) misled .result ≡ gave 1 (65 ∷ 66 ∷ []))
-unfolding misled invented completed stored asksAll asks hears writes reads new toy mix writers keys shelf upTo quorum nth runOf isBlank below sameStamp sameCandidate held stampMessage candidateMessage upd nobody countTo any keep first gather lower live fits agrees leads leader highest choice parts restoredBy kept raise byHistory byTag valid best act barred replyTo serverRefusal answered serverStep awaits isIdle stampOf tagsOf candidateMade shareMade sharesMade prepared made onto checks higher isFull found judge update tooHigh writeRefusal readRefusal makeRefusal takeRefusal begun writeStep readStep makeStep turnOn highAt takeStep
+unfolding misled invented completed stored asksAll asks hears writes reads new toy mix writers keys shelf upTo quorum nth runOf isBlank below
+    sameStamp sameCandidate held stampMessage candidateMessage upd nobody countTo any keep first gather lower live fits agrees leads leader
+    highest choice parts restoredBy kept raise byHistory byTag valid best act barred replyTo serverRefusal answered serverStep awaits isIdle
+    stampOf tagsOf candidateMade shareMade sharesMade prepared made onto checks higher isFull found judge update tooHigh writeRefusal readRefusal
+    makeRefusal takeRefusal begun writeStep readStep makeStep turnOn highAt takeStep
 leaves-list = (refl, refl)
 
 -- ---- 32 held, then 11 and 10

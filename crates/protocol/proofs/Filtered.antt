@@ -139,7 +139,8 @@ module _ (P : Primitives) (law : Lengths P) (s : Config) (f : Fitting s) (client
   marks-then = marks-now s f c kept h b lo hi new
 
   filter-more : c .tally .round ≡ 5
-      → Lifted s (onto (view s c kept) (M s f c kept h b lo hi new) (filtering (gather (candidatesIn s kept) (s .servers)) (upd old b y))) (withTally c (noted (c .tally) b)) K
+      → Lifted s (onto (view s c kept) (M s f c kept h b lo hi new) (filtering (gather (candidatesIn s kept) (s .servers)) (upd old b y)))
+      (withTally c (noted (c .tally) b)) K
   filter-more e =
       subst (λ (cl : Client). Lifted s cl (withTally c (noted (c .tally) b)) K)
       (λ i. onto (view s c kept) (marks-then i) (filtering (gather (slots-now i) (s .servers)) (replies-now i)))

@@ -163,7 +163,8 @@ module _ (P : Primitives) (law : Lengths P) (s : Config) (m : ByServer Bool) (g 
       lengths none k = candidate-lengths s d h .tags
       lengths (some q) k = share-lengths s q (k q refl) .tags
 
-      put-tags : (d : Candidate) (ts : List ℕ) → candidateF s .Ok d → length ts ≡ tagsSize s → candidateF s .Ok (record { stamp = d .stamp; nonce = d .nonce; tags = ts })
+      put-tags : (d : Candidate) (ts : List ℕ) → candidateF s .Ok d → length ts ≡ tagsSize s
+          → candidateF s .Ok (record { stamp = d .stamp; nonce = d .nonce; tags = ts })
       put-tags d ts h l = unfold candidateF via seq run in (h .0, (h .1 .0, l))
 
   -- the content restored from the group of server n

@@ -173,8 +173,8 @@ module _ (P : Primitives) (law : Lengths P) (t : ℕ) (f : Fitting (shelf t)) (c
   unfolding view
   code-is none ok = unfold takeRefusal in refl
   code-is (some p) ok =
-      high-only s client p (c .number) (awaited c) (marked (c .tally .marks)) (highIn P s client writers keys c kept output) (highAt P s client writers keys cl) (length output)
-      (high-same p (ok p refl))
+      high-only s client p (c .number) (awaited c) (marked (c .tally .marks)) (highIn P s client writers keys c kept output)
+      (highAt P s client writers keys cl) (length output) (high-same p (ok p refl))
       ∙ ap (λ (k : ℕ). takeRefusal s client (some p) (c .number) k (marked (c .tally .marks)) (highAt P s client writers keys cl) (length output))
       (sym (unfold view in awaits-is s c kept))
 
@@ -210,5 +210,6 @@ module _ (P : Primitives) (law : Lengths P) (t : ℕ) (f : Fitting (shelf t)) (c
   unfolding takeStep takeIn
   take-lift o ok =
       subst
-      (λ (n : ℕ). Turned s (onRefusal n (turnOn P s client writers keys cl o) (record { client = cl; result = refused n })) (takeIn P s client writers keys c kept output o))
+      (λ (n : ℕ). Turned s (onRefusal n (turnOn P s client writers keys cl o) (record { client = cl; result = refused n }))
+      (takeIn P s client writers keys c kept output o))
       (code-is o ok) (settle o ok (codeB o) refl)

@@ -69,7 +69,8 @@ head-decoded {s} {h} {k} {p} f e =
     andThen-some (seq headF G .parse s) (λ a r. some (record { head = a .0; body = a .1 }, r)) p [] (whole-some (packetF .parse s) p e) in
     let (a, r, ea, eb) = andThen-some (headF .parse s) (λ a q. andThen (G a .parse q) (λ c r. some ((a, c), r))) x q ex in
     let (c, u, ec, ed) = andThen-some (G a .parse r) (λ c r. some ((a, c), r)) x q eb in
-    sym (ap (λ (y : Packet). y .head) (same-value _ p q [] ey)) ∙ sym (ap (λ (y : Head × Body). y .0) (same-value (a, c) x u q ed)) ∙ same-value a h r (drop k s) (sym ea ∙ f .parsed)
+    sym (ap (λ (y : Packet). y .head) (same-value _ p q [] ey)) ∙ sym (ap (λ (y : Head × Body). y .0) (same-value (a, c) x u q ed))
+    ∙ same-value a h r (drop k s) (sym ea ∙ f .parsed)
 
 -- its kind is its body's
 pub kind-ok : (p : Packet) → PacketOk p → kindOf (p .body) ≡ p .head .kind
