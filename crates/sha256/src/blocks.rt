@@ -6,7 +6,7 @@ use super::rounds::small1;
 ghost use mathlib.Core.Path.{_≡_};
 ghost use Prim.Native.Nat.{_+_, _*_, _≤_, _<_, _/_};
 ghost use lib.ListN.{length, getD, take};
-ghost use Rattle.sha256.specs.Sha256.{nextWord, grow, wordAt, block, hashed};
+ghost use Rattle.sha256.specs.Sha256.{nextWord, grow, wordAt, block, compressOf, hashed};
 
 // Word t of a schedule whose first t words are there.
 fn next(w: &[u32; 64], t: usize) -> u32
@@ -52,25 +52,33 @@ fn words(m: &[u8], j: usize) -> [u32; 64]
     w
 }
 
-// The schedule of block j. Four words in a turn.
-fn schedule(m: &[u8], j: usize) -> [u32; 64]
-    requires { ⌜ 64 * j + 63 < length (now m) ⌝ }
-    ensures { λ r. ⌜ r ≡ grow 48 (block (now (m .entry)) j) ⌝ }
+// The schedule behind its first 16 words. Four words in a turn.
+fn extend(w: &mut [u32; 64])
+    requires { ⌜ length (now w) ≡ 64 ⌝ }
+    ensures { λ _. ⌜ now (w .exit) ≡ grow 48 (take 16 (now (w .entry))) ⌝ }
 {
-    let mut w = words(m, j);
     let mut t = 16;
     while t < 64 {
-        let x = next(&w, t);
+        let x = next(w, t);
         w[t] = x;
-        let y = next(&w, t + 1);
+        let y = next(w, t + 1);
         w[t + 1] = y;
-        let z = next(&w, t + 2);
+        let z = next(w, t + 2);
         w[t + 2] = z;
-        let u = next(&w, t + 3);
+        let u = next(w, t + 3);
         w[t + 3] = u;
         t += 4;
     }
-    w
+}
+
+// The hash value after block j of m, from the value before it.
+fn step(h: [u32; 8], m: &[u8], j: usize) -> [u32; 8]
+    requires { ⌜ 64 * j + 63 < length (now m) ⌝ }
+    ensures { λ r. ⌜ r ≡ compressOf h (grow 48 (block (now (m .entry)) j)) ⌝ }
+{
+    let mut w = words(m, j);
+    extend(&mut w);
+    compress(h, &w)
 }
 
 // The hash value after the whole blocks of m.
@@ -81,8 +89,7 @@ pub(crate) fn absorb(h: [u32; 8], m: &[u8]) -> [u32; 8]
     let mut v = h;
     let mut j = 0;
     while j < blocks {
-        let w = schedule(m, j);
-        let g = compress(v, &w);
+        let g = step(v, m, j);
         v = g;
         j += 1;
     }

@@ -98,10 +98,11 @@ fn ch(x: u32, y: u32, z: u32) -> u32
     (x & y) ^ (!x & z)
 }
 
+// Majority in three operations; y ^ z was x ^ y in the round before.
 fn maj(x: u32, y: u32, z: u32) -> u32
     ensures { λ r. ⌜ r ≡ majority x y z ⌝ }
 {
-    ((x & y) ^ (x & z)) ^ (y & z)
+    y ^ ((x ^ y) & (y ^ z))
 }
 
 fn big0(x: u32) -> u32

@@ -19,11 +19,8 @@ loop-holds : tie.Need-loop-holds Inv-loop μ-loop
 unfolding hashed
 loop-holds c = (omega arith, refl)
 
-schedule-requires : tie.Need-schedule-requires Inv-loop μ-loop
-schedule-requires c κs = search needs
-
-compress-requires : tie.Need-compress-requires Inv-loop μ-loop
-compress-requires c κs = search needs
+step-requires : tie.Need-step-requires Inv-loop μ-loop
+step-requires c κs = search needs
 
 add-j : tie.Need-add-j Inv-loop μ-loop
 add-j c = search needs
@@ -41,13 +38,4 @@ returns c = let e : c .before .loop .j ≡ length (c .before .before .before .ar
 pub absorb-spec : {M : Type 1} → statement M
 absorb-spec =
     tie.close
-    (tie.spec
-    Inv-loop
-    μ-loop
-    loop-holds
-    schedule-requires
-    compress-requires
-    add-j
-    loop-less
-    loop-again
-    returns)
+    (tie.spec Inv-loop μ-loop loop-holds step-requires add-j loop-less loop-again returns)

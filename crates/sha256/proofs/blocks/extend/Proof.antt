@@ -1,28 +1,24 @@
--- `sha256::blocks::schedule` meets its contract: at t the first t words are the schedule's. Assumes nothing.
+-- `sha256::blocks::extend` meets its contract: at t the first t words are the schedule's. Assumes nothing.
 use native.Mathlib.Omega.{arith}
 use mathlib.Core.Path.{_≡_, refl, sym, _∙_}
 use Prim.Native.Nat.{_≤_, _-_, _+_, _%_}
 use lib.ListN.{length, take, set, length-set}
-use lib.Seq.{take-all}
-use Rattle.sha256.specs.Sha256.{tab, grow, block}
-use Rattle.sha256.proofs.Laws.{tab-length}
+use lib.Seq.{take-all, length-take-le}
+use Rattle.sha256.specs.Sha256.{grow}
 use Rattle.sha256.proofs.Schedule.{grow-next}
 use borrow.Author.Needs.{needs}
-use Rattle.sha256.proofs.blocks.schedule.Statement.{statement}
-use Rattle.sha256.proofs.blocks.schedule.Tie as tie
+use Rattle.sha256.proofs.blocks.extend.Statement.{statement}
+use Rattle.sha256.proofs.blocks.extend.Tie as tie
 
 abbrev Inv-loop : tie.InvT-loop
-Inv-loop m j w₀ t₀ w t = (16 ≤ t) × (t ≤ 64) × (t % 4 ≡ 0) × (length w ≡ 64) × (take t w ≡ grow (t - 16) (block m j))
+Inv-loop w₀ t₀ w t = (16 ≤ t) × (t ≤ 64) × (t % 4 ≡ 0) × (length w ≡ 64) × (take t w ≡ grow (t - 16) (take 16 w₀))
 
 abbrev μ-loop : tie.MeasureT-loop
-μ-loop m j w₀ t₀ w t = 64 - t
-
-words-requires : tie.Need-words-requires Inv-loop μ-loop
-words-requires c κs = search needs
+μ-loop w₀ t₀ w t = 64 - t
 
 loop-holds : tie.Need-loop-holds Inv-loop μ-loop
 unfolding grow
-loop-holds c = (omega arith, omega arith, refl, c .words .ensures .0, c .words .ensures .1)
+loop-holds c = (omega arith, omega arith, refl, search needs, refl)
 
 next-requires : tie.Need-next-requires Inv-loop μ-loop
 next-requires c κs = search needs
@@ -30,8 +26,8 @@ next-requires c κs = search needs
 mul-w : tie.Need-mul-w Inv-loop μ-loop
 mul-w c = search needs
 
-array-write-w : tie.Need-array-write-w Inv-loop μ-loop
-array-write-w c = search needs
+element-write-w : tie.Need-element-write-w Inv-loop μ-loop
+element-write-w c = search needs
 
 add-next : tie.Need-add-next Inv-loop μ-loop
 add-next c = search needs
@@ -45,8 +41,8 @@ add-w c = search needs
 mul-w-2 : tie.Need-mul-w-2 Inv-loop μ-loop
 mul-w-2 c = search needs
 
-array-write-w-2 : tie.Need-array-write-w-2 Inv-loop μ-loop
-array-write-w-2 c = search needs
+element-write-w-2 : tie.Need-element-write-w-2 Inv-loop μ-loop
+element-write-w-2 c = search needs
 
 add-next-2 : tie.Need-add-next-2 Inv-loop μ-loop
 add-next-2 c = search needs
@@ -60,8 +56,8 @@ add-w-2 c = search needs
 mul-w-3 : tie.Need-mul-w-3 Inv-loop μ-loop
 mul-w-3 c = search needs
 
-array-write-w-3 : tie.Need-array-write-w-3 Inv-loop μ-loop
-array-write-w-3 c = search needs
+element-write-w-3 : tie.Need-element-write-w-3 Inv-loop μ-loop
+element-write-w-3 c = search needs
 
 add-next-3 : tie.Need-add-next-3 Inv-loop μ-loop
 add-next-3 c = search needs
@@ -75,8 +71,8 @@ add-w-3 c = search needs
 mul-w-4 : tie.Need-mul-w-4 Inv-loop μ-loop
 mul-w-4 c = search needs
 
-array-write-w-4 : tie.Need-array-write-w-4 Inv-loop μ-loop
-array-write-w-4 c = search needs
+element-write-w-4 : tie.Need-element-write-w-4 Inv-loop μ-loop
+element-write-w-4 c = search needs
 
 add-t : tie.Need-add-t Inv-loop μ-loop
 add-t c = search needs
@@ -85,11 +81,10 @@ loop-less : tie.Need-loop-less Inv-loop μ-loop
 loop-less c = search needs
 
 loop-again : tie.Need-loop-again Inv-loop μ-loop
-unfolding block
 loop-again c =
     let at = c .before .before .before .before .before .before .before .before .before .loop in
     let t = at .t in
-    let b = tab-length 16 _ in
+    let b = length-take-le 16 (c .before .before .before .before .before .before .before .before .before .before .args .w .now) (omega arith) in
     let w1 = grow-next t (t + 1) _ (at .w) _ b (omega arith) (omega arith) (omega arith) (at .inv .4) (c .before .before .before .before .before .before .next .ensures) in
     let w2 = grow-next (t + 1) (t + 2) _ (set (at .w) t _) _ b (omega arith) (simp length-set (omega arith)) (omega arith) w1 (c .before .before .before .before .next2 .ensures) in
     let w3 = grow-next (t + 2) (t + 3) _ (set (set (at .w) t _) (t + 1) _) _ b (omega arith) (simp length-set (omega arith)) (omega arith) w2 (c .before .before .next3 .ensures) in
@@ -102,32 +97,31 @@ returns c =
     let e : at .t ≡ 64 = omega arith in
     sym (take-all 64 (at .w) (omega arith)) ∙ rw e at (at .inv .4)
 
-pub schedule-spec : {M : Type 1} → statement M
-schedule-spec =
+pub extend-spec : {M : Type 1} → statement M
+extend-spec =
     tie.close
     (tie.spec
     Inv-loop
     μ-loop
-    words-requires
     loop-holds
     next-requires
     mul-w
-    array-write-w
+    element-write-w
     add-next
     next-requires-2
     add-w
     mul-w-2
-    array-write-w-2
+    element-write-w-2
     add-next-2
     next-requires-3
     add-w-2
     mul-w-3
-    array-write-w-3
+    element-write-w-3
     add-next-3
     next-requires-4
     add-w-3
     mul-w-4
-    array-write-w-4
+    element-write-w-4
     add-t
     loop-less
     loop-again
