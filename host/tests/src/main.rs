@@ -1,0 +1,20 @@
+//! Holds the proved library to the vectors and sheets of a folder and, on random and damaged inputs,
+//! to the plain shelf: `tests FOLDER`. The first difference is printed with its input and ends the run
+//! with status 1.
+
+mod check;
+mod plain;
+mod random;
+mod text;
+mod vectors;
+
+use check::Run;
+use std::path::Path;
+
+fn main() {
+    let folder = std::env::args_os().nth(1).expect("usage: tests FOLDER");
+    let mut run = Run::new();
+    vectors::all(&mut run, Path::new(&folder));
+    random::all(&mut run);
+    run.end();
+}

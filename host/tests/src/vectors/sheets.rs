@@ -1,0 +1,28 @@
+//! Drill sheets and their listings.
+
+use crate::check::{Run, Seen, FILLER};
+use cendrulas::Answer;
+use std::path::Path;
+
+const WORK_AREA: usize = 2_097_152;
+
+pub fn sheets(run: &mut Run, folder: &Path) {
+    let mut names: Vec<_> = std::fs::read_dir(folder.join("sheets"))
+        .expect("the folder of sheets")
+        .map(|entry| entry.expect("an entry").path())
+        .filter(|path| path.extension().is_some_and(|e| e == "sheet"))
+        .collect();
+    names.sort();
+    for path in names {
+        let sheet = std::fs::read(&path).expect("a sheet");
+        let listing = std::fs::read(path.with_extension("expected")).expect("its listing");
+        let mut out = vec![FILLER; shelf::drill::output_size(&sheet) + 7];
+        let mut work = vec![FILLER; WORK_AREA];
+        let got = cendrulas::drill(&sheet, &mut out, &mut work);
+        let left = super::filled(&listing, out.len());
+        let count = |refusal, count: usize| Seen { answer: Answer { refusal, ..Answer::wrote(count) }, buffers: &[] };
+        run.same(|| path.display().to_string(), count(got.refusal, got.count), count(0, listing.len()));
+        let seen = |buffers| Seen { answer: Answer::wrote(0), buffers };
+        run.same(|| path.display().to_string(), seen(&[&out, &work]), seen(&[&left, &vec![0; WORK_AREA]]));
+    }
+}
