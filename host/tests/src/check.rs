@@ -1,6 +1,6 @@
 //! What was compared so far, and what a difference prints.
 
-use cendrulas::Answer;
+use std::fmt::Debug;
 use std::time::Instant;
 
 /// What fills a lent output before a call, so that a byte written past the count is seen.
@@ -12,14 +12,20 @@ pub struct Run {
 }
 
 /// A call as its caller sees it: the answer, and every lent buffer after the call.
-pub struct Seen<'a> {
-    pub answer: Answer,
+pub struct Seen<'a, A> {
+    pub answer: A,
     pub buffers: &'a [&'a [u8]],
 }
 
 impl Run {
     pub fn new() -> Self {
         Run { inputs: 0, begun: Instant::now() }
+    }
+
+    /// How many inputs were compared so far.
+    #[cfg(feature = "client")]
+    pub fn inputs(&self) -> u64 {
+        self.inputs
     }
 
     /// Runs one group of comparisons and says how many inputs it had.
@@ -30,7 +36,7 @@ impl Run {
     }
 
     /// Counts an input; ends the run if the two differ.
-    pub fn same(&mut self, input: impl Fn() -> String, got: Seen, want: Seen) {
+    pub fn same<A: PartialEq + Debug>(&mut self, input: impl Fn() -> String, got: Seen<A>, want: Seen<A>) {
         self.inputs += 1;
         if got.answer != want.answer {
             fail(&input(), &format!("got  {:?}\nwant {:?}", got.answer, want.answer));

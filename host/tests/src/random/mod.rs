@@ -27,6 +27,8 @@ pub fn all(run: &mut Run) {
     #[cfg(feature = "server")]
     run.group("random server steps", |run| server::all(run, &mut Source::new(3), 40_000));
     #[cfg(feature = "client")]
+    run.group("clients out of range", client::out_of_range);
+    #[cfg(feature = "client")]
     run.group("random client steps", |run| client::all(run, &mut Source::new(4), 40_000));
     #[cfg(feature = "drill")]
     run.group("random sheets", |run| drill::all(run, &mut Source::new(5), 1_500));

@@ -15,6 +15,9 @@ mod server;
 #[cfg(feature = "drill")]
 mod sheets;
 
+#[cfg(feature = "client")]
+pub use client::drill_keys;
+
 pub fn all(run: &mut Run, folder: &Path) {
     let vectors = folder.join("vectors");
     run.group("tags.txt", |run| tags::tags(run, &vectors));

@@ -2,7 +2,7 @@
 
 use super::due;
 use crate::check::{Run, Seen, FILLER};
-use crate::text::{each_line, hex, number, raw, Line};
+use crate::text::{each_line, hex, number, raw};
 use cendrulas::{server_blank, server_take, Answer};
 use std::path::Path;
 
@@ -20,7 +20,9 @@ fn packets(run: &mut Run, folder: &Path) {
     server_blank(&mut memory, 1, 1);
     each_line(folder, "packets.txt", |line| {
         let answer = server_take(&mut memory, &[1; 32], &raw(line.left[1]), &mut []);
-        layout(run, line, answer.refusal == 7, number::<u8>(line.right[0]) == 7);
+        let code: u8 = if answer.refusal == 7 { 7 } else { 0 };
+        let want = number(line.right[0]);
+        run.same(|| line.place.clone(), Seen { answer: code, buffers: &[] }, Seen { answer: want, buffers: &[] });
     });
 }
 
@@ -36,11 +38,6 @@ fn memories(run: &mut Run, folder: &Path) {
     });
 }
 
-fn layout(run: &mut Run, line: &Line, broken: bool, want: bool) {
-    let seen = |broken: bool| Seen { answer: Answer::refused(if broken { 7 } else { 0 }), buffers: &[] };
-    run.same(|| line.place.clone(), seen(broken), seen(want));
-}
-
 fn steps(run: &mut Run, folder: &Path) {
     let mut memory = vec![FILLER; MEMORY];
     let mut server = 0u8;
@@ -54,9 +51,7 @@ fn steps(run: &mut Run, folder: &Path) {
         let answer = server_take(&mut memory, &[server; 32], &raw(line.left[1]), &mut out);
         due(run, line, answer, &out);
         let digest = hex(&shelf::sha256::digest(&memory));
-        let want = line.right.last().expect("a digest");
-        let same = |text: &str| text.as_bytes().to_vec();
-        let seen = |bytes| Seen { answer, buffers: bytes };
-        run.same(|| line.place.clone(), seen(&[&same(&digest)]), seen(&[&same(want)]));
+        let want = *line.right.last().expect("a digest");
+        run.same(|| line.place.clone(), Seen { answer: &digest[..], buffers: &[] }, Seen { answer: want, buffers: &[] });
     });
 }

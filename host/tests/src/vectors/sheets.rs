@@ -1,7 +1,8 @@
 //! Drill sheets and their listings.
 
+use super::filled;
 use crate::check::{Run, Seen, FILLER};
-use cendrulas::Answer;
+use cendrulas::Listing;
 use std::path::Path;
 
 const WORK_AREA: usize = 2_097_152;
@@ -19,10 +20,12 @@ pub fn sheets(run: &mut Run, folder: &Path) {
         let mut out = vec![FILLER; shelf::drill::output_size(&sheet) + 7];
         let mut work = vec![FILLER; WORK_AREA];
         let got = cendrulas::drill(&sheet, &mut out, &mut work);
-        let left = super::filled(&listing, out.len());
-        let count = |refusal, count: usize| Seen { answer: Answer { refusal, ..Answer::wrote(count) }, buffers: &[] };
-        run.same(|| path.display().to_string(), count(got.refusal, got.count), count(0, listing.len()));
-        let seen = |buffers| Seen { answer: Answer::wrote(0), buffers };
-        run.same(|| path.display().to_string(), seen(&[&out, &work]), seen(&[&left, &vec![0; WORK_AREA]]));
+        let left = filled(&listing, out.len());
+        let want = Listing { refusal: 0, count: listing.len() };
+        run.same(
+            || path.display().to_string(),
+            Seen { answer: got, buffers: &[&out, &work] },
+            Seen { answer: want, buffers: &[&left, &vec![0; WORK_AREA]] },
+        );
     }
 }
