@@ -2,8 +2,16 @@
 
 mod digest;
 mod table;
+#[cfg(feature = "client")]
+mod calls;
 #[cfg(feature = "coding")]
 mod coding;
+#[cfg(feature = "drill")]
+mod drill;
+#[cfg(feature = "server")]
+mod server;
+#[cfg(feature = "client")]
+mod sides;
 
 use table::Table;
 
@@ -12,6 +20,12 @@ fn main() {
     digest::rows(&mut table);
     #[cfg(feature = "coding")]
     coding::rows(&mut table);
+    #[cfg(feature = "server")]
+    server::rows(&mut table);
+    #[cfg(feature = "client")]
+    calls::rows(&mut table);
+    #[cfg(feature = "drill")]
+    drill::rows(&mut table);
 }
 
 /// Bytes that look like no pattern, the same in every run.

@@ -2,6 +2,19 @@
 
 use crate::abi;
 
+/// Bytes of the work area.
+pub const WORK_AREA: usize = 2_097_152;
+/// Bytes of a line of a listing.
+const LISTING_LINE: usize = 65;
+
+/// The output that a run asks for: a line for each of the sheet's after the first, and at least one. Lines are counted by their
+/// ends, with an unended rest as one more.
+pub fn listing_room(sheet: &[u8]) -> usize {
+    let ends = sheet.iter().filter(|&&byte| byte == b'\n').count();
+    let unended = sheet.last().is_some_and(|&byte| byte != b'\n') as usize;
+    LISTING_LINE * (ends + unended).saturating_sub(1).max(1)
+}
+
 /// What a run answers: a listing can be longer than an `Answer` can count.
 #[derive(Clone, Copy, Debug, PartialEq, Eq)]
 pub struct Listing {

@@ -25,4 +25,4 @@ pub use client::{Client, Keys, CLIENT_STATE};
 #[cfg(feature = "drill")]
 mod drill;
 #[cfg(feature = "drill")]
-pub use drill::{drill, Listing};
+pub use drill::{drill, listing_room, Listing, WORK_AREA};

@@ -2,10 +2,8 @@
 
 use super::filled;
 use crate::check::{Run, Seen, FILLER};
-use cendrulas::Listing;
+use cendrulas::{listing_room, Listing, WORK_AREA};
 use std::path::Path;
-
-const WORK_AREA: usize = 2_097_152;
 
 pub fn sheets(run: &mut Run, folder: &Path) {
     let mut names: Vec<_> = std::fs::read_dir(folder.join("sheets"))
@@ -17,7 +15,7 @@ pub fn sheets(run: &mut Run, folder: &Path) {
     for path in names {
         let sheet = std::fs::read(&path).expect("a sheet");
         let listing = std::fs::read(path.with_extension("expected")).expect("its listing");
-        let mut out = vec![FILLER; shelf::drill::output_size(&sheet) + 7];
+        let mut out = vec![FILLER; listing_room(&sheet) + 7];
         let mut work = vec![FILLER; WORK_AREA];
         let got = cendrulas::drill(&sheet, &mut out, &mut work);
         let left = filled(&listing, out.len());
