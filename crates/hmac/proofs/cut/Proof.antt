@@ -1,0 +1,64 @@
+-- `hmac::cut` meets its contract: after i turns the first i bytes are the array's. Assumes nothing.
+use borrow.Author.Needs.{needs}
+use native.Mathlib.Omega.{arith}
+use mathlib.Core.Path.{_≡_, refl, sym, _∙_}
+use Prim.Native.Nat.{_≤_, _-_}
+use lib.ListN.{length, take, length-set}
+use lib.Seq.{take-all}
+use Rattle.hmac.specs.Hmac.{tagSize}
+use Rattle.hmac.proofs.Laws.{copy-more}
+use Rattle.hmac.proofs.cut.Statement.{statement}
+use Rattle.hmac.proofs.cut.Tie as tie
+
+abbrev Inv-loop : tie.InvT-loop
+Inv-loop full out₀ i₀ out i = (i ≤ tagSize) × (length out ≡ tagSize) × (take i out ≡ take i full)
+
+abbrev μ-loop : tie.MeasureT-loop
+μ-loop full out₀ i₀ out i = tagSize - i
+
+loop-holds : tie.Need-loop-holds Inv-loop μ-loop
+unfolding tagSize
+loop-holds c = (omega arith, refl, refl)
+
+array-read-out : tie.Need-array-read-out Inv-loop μ-loop
+array-read-out c = search needs
+
+array-write-out : tie.Need-array-write-out Inv-loop μ-loop
+array-write-out c = search needs
+
+add-i : tie.Need-add-i Inv-loop μ-loop
+add-i c = search needs
+
+loop-less : tie.Need-loop-less Inv-loop μ-loop
+unfolding tagSize
+loop-less c = search needs
+
+loop-again : tie.Need-loop-again Inv-loop μ-loop
+unfolding tagSize
+loop-again c =
+    let at = c .before .loop in (
+      omega arith,
+      simp length-set (at .inv .1),
+      copy-more (at .i) (c .before .before .args .t1) (at .out) (omega arith) (omega arith) (at .inv .2),
+    )
+
+returns : tie.Need-returns Inv-loop μ-loop
+unfolding tagSize
+returns c =
+    let at = c .before .loop in
+    let e : at .i ≡ 32 = omega arith in
+    sym (take-all 32 (at .out) (omega arith)) ∙ rw e at (at .inv .2)
+
+pub cut-spec : {M : Type 1} → statement M
+cut-spec =
+    tie.close
+    (tie.spec
+    Inv-loop
+    μ-loop
+    loop-holds
+    array-read-out
+    array-write-out
+    add-i
+    loop-less
+    loop-again
+    returns)
