@@ -3,13 +3,15 @@
 use mathlib.Core.Path.{_≡_, refl, sym, ap, _∙_}
 use mathlib.Core.List.{List, [], _∷_, _++_}
 use Prim.Native.Nat.{ℕ, suc, _≤_, _<_}
-use native.Mathlib.Nat.{le-of-lt, le-refl}
+use native.Mathlib.Nat.{le-of-lt}
 use lib.ListN.{length, getD, take, drop, set, drop-of-length-le}
 use borrow.Author.Tests.{eq-eqb, ne-eqb, lt-ltb, le-ltb}
 use lib.Seq.{length-take-le, take-suc, take-all, drop-cons, append-snoc, set-at}
 use mathlib.Core.List.{append-nil}
-use Rattle.embed.specs.Packing.{packed}
-use Rattle.embed.specs.Leaves.{answer, written, digestRefusal, tagRefusal}
+use Rattle.hmac.specs.Hmac.{tagOf, tagSize}
+use Rattle.hmac.proofs.Laws.{tag-length}
+use Rattle.embed.specs.Packing.{packed, answer, written}
+use Rattle.embed.specs.Digests.{digestRefusal, tagRefusal}
 
 -- a turn of the loop that copies
 pub copied-more : (s d : List ℕ) (j : ℕ) → j < length s → j < length d
@@ -21,26 +23,28 @@ copied-more s d j in-s in-d =
     ∙ sym (append-snoc (take j s) (getD s j 0) rest)
     ∙ ap (λ (r : List ℕ). r ++ rest) (sym (take-suc s j 0 in-s))
 
--- and its end
-pub copied-all : (s d x : List ℕ) (i : ℕ) → x ≡ take i s ++ drop i d → i ≡ length s → x ≡ s ++ drop (length s) d
-copied-all s d x i e end =
-    e
-    ∙ ap (λ (k : ℕ). take k s ++ drop k d) end
-    ∙ ap (λ (r : List ℕ). r ++ drop (length s) d) (take-all (length s) s (le-refl (length s)))
+-- a whole copy over a buffer of the same length is the source
+pub copied-whole : (s d : List ℕ) (n : ℕ) → length s ≤ n → length d ≤ n → take n s ++ drop n d ≡ s
+copied-whole s d n all over =
+    ap (λ (r : List ℕ). r ++ drop n d) (take-all n s all) ∙ ap (λ (r : List ℕ). s ++ r) (drop-of-length-le d over) ∙ append-nil s
 
--- a copy as long as the buffer is the source
-pub copied-whole : (s d : List ℕ) → length d ≤ length s → s ++ drop (length s) d ≡ s
-copied-whole s d short = ap (λ (r : List ℕ). s ++ r) (drop-of-length-le d short) ∙ append-nil s
+pub refused : (n q r : ℕ) (bytes out : List ℕ) → q ≡ suc n → r ≡ packed (suc n) 0 0 0
+    → (r ≡ answer q bytes) × (out ≡ written q bytes out)
+refused n q r bytes out e gives = rw e (gives, refl)
 
-pub refused : (n count q r : ℕ) (bytes out : List ℕ) → q ≡ suc n → r ≡ packed (suc n) 0 0 0
-    → (r ≡ answer q count) × (out ≡ written q bytes out)
-refused n count q r bytes out e gives = rw e (gives, refl)
+pub accepted : (n q r : ℕ) (bytes made out after : List ℕ) → q ≡ 0 → r ≡ packed 0 0 0 n
+    → take n made ≡ bytes → length bytes ≡ n → after ≡ take n made ++ drop n out
+    → (r ≡ answer q bytes) × (after ≡ written q bytes out)
+accepted n q r bytes made out after e gives same long puts =
+    rw e (
+      gives ∙ ap (λ (k : ℕ). packed 0 0 0 k) (sym long),
+      puts ∙ ap (λ (b : List ℕ). b ++ drop n out) same ∙ ap (λ (k : ℕ). bytes ++ drop k out) (sym long),
+    )
 
-pub accepted : (count q r : ℕ) (bytes made out after : List ℕ) → q ≡ 0 → r ≡ packed 0 0 0 count
-    → made ≡ bytes → after ≡ made ++ drop (length made) out
-    → (r ≡ answer q count) × (after ≡ written q bytes out)
-accepted count q r bytes made out after e gives same puts =
-    rw e (gives, puts ∙ ap (λ (b : List ℕ). b ++ drop (length b) out) same)
+-- the tag's length as the number that the code has
+pub tag-bytes : (key message : List ℕ) → length (tagOf key message) ≡ 32
+unfolding tagSize
+tag-bytes key message = tag-length key message
 
 -- ---- the refusals, test by test
 
@@ -57,9 +61,9 @@ unfolding tagRefusal
 tag-key key out h = rw (ne-eqb _ _ h) refl
 
 pub tag-short : (key out : List ℕ) → length key ≡ 32 → length out < 32 → tagRefusal key out ≡ 15
-unfolding tagRefusal
+unfolding tagRefusal tagSize
 tag-short key out k h = rw (eq-eqb _ _ k) (rw (lt-ltb _ _ h) refl)
 
 pub tag-room : (key out : List ℕ) → length key ≡ 32 → 32 ≤ length out → tagRefusal key out ≡ 0
-unfolding tagRefusal
+unfolding tagRefusal tagSize
 tag-room key out k h = rw (eq-eqb _ _ k) (rw (le-ltb _ _ h) refl)

@@ -3,12 +3,14 @@
 use mathlib.Core.Path.{_∙_, ap}
 use mathlib.Core.List.{List}
 use Prim.Native.Nat.{ℕ}
+use lib.ListN.{take}
+use lib.Seq.{take-all}
 use native.Mathlib.Omega.{arith}
 use borrow.Author.Needs.{needs}
-use Rattle.hmac.specs.Hmac.{hmacSha256}
-use Rattle.embed.proofs.Laws.{refused, accepted, tag-key, tag-short, tag-room}
-use Rattle.embed.proofs.cendrulas_tag.Statement.{statement}
-use Rattle.embed.proofs.cendrulas_tag.Tie as tie
+use Rattle.hmac.specs.Hmac.{tagOf}
+use Rattle.embed.proofs.Laws.{refused, accepted, tag-key, tag-short, tag-room, tag-bytes}
+use Rattle.embed.proofs.digests.cendrulas_tag.Statement.{statement}
+use Rattle.embed.proofs.digests.cendrulas_tag.Tie as tie
 
 pack-requires : tie.Need-pack-requires
 pack-requires c κs = search needs
@@ -16,7 +18,7 @@ pack-requires c κs = search needs
 returns : tie.Need-returns
 returns c =
     let a = c .before .before .before .before .before .args in
-    refused 254 32 _ _ (hmacSha256 (a .key .now) (a .message .now)) (a .out .now) (tag-key (a .key .now) (a .out .now) (c .before .if1 .taken)) (c .pack .ensures)
+    refused 254 _ _ (tagOf (a .key .now) (a .message .now)) (a .out .now) (tag-key (a .key .now) (a .out .now) (c .before .if1 .taken)) (c .pack .ensures)
 
 pack-requires-2 : tie.Need-pack-requires-2
 pack-requires-2 c κs = search needs
@@ -24,7 +26,7 @@ pack-requires-2 c κs = search needs
 returns-2 : tie.Need-returns-2
 returns-2 c =
     let a = c .before .before .before .before .before .before .args in
-    refused 14 32 _ _ (hmacSha256 (a .key .now) (a .message .now)) (a .out .now) (tag-short (a .key .now) (a .out .now) (c .before .before .if1 .left) (c .before .if2 .taken)) (c .pack2 .ensures)
+    refused 14 _ _ (tagOf (a .key .now) (a .message .now)) (a .out .now) (tag-short (a .key .now) (a .out .now) (c .before .before .if1 .left) (c .before .if2 .taken)) (c .pack2 .ensures)
 
 array-requires : tie.Need-array-requires
 array-requires c κs = search needs
@@ -38,6 +40,9 @@ slice-aggregate-put c = search needs
 put-requires : tie.Need-put-requires
 put-requires c κs = search needs
 
+cast-pack : tie.Need-cast-pack
+cast-pack c = search needs
+
 pack-requires-3 : tie.Need-pack-requires-3
 pack-requires-3 c κs = search needs
 
@@ -49,8 +54,9 @@ returns-3 c =
     let past-put = c .before .before .before in
     let past-array = past-put .before .before .before .before in
     let a = past-array .before .before .before .before .before .before .args in
-    accepted 32 _ _ _ _ (a .out .now) _ (tag-room (a .key .now) (a .out .now) (past-array .before .before .if1 .left) (omega arith)) (c .pack3 .ensures)
-    (past-put .before .before .before .tag .ensures ∙ ap (λ (k : List ℕ). hmacSha256 k (a .message .now)) (past-array .array .ensures))
+    accepted 32 _ _ (tagOf (a .key .now) (a .message .now)) (past-put .before .before .before .tag .result) (a .out .now) _ (tag-room (a .key .now) (a .out .now) (past-array .before .before .if1 .left) (omega arith)) (c .pack3 .ensures)
+    (ap (λ (d : List ℕ). take 32 d) (past-put .before .before .before .tag .ensures ∙ ap (λ (k : List ℕ). tagOf k (a .message .now)) (past-array .array .ensures)) ∙ take-all 32 (tagOf (a .key .now) (a .message .now)) (omega (arith, tag-bytes (a .key .now) (a .message .now))))
+    (tag-bytes (a .key .now) (a .message .now))
     (past-put .put .ensures)
 
 pub cendrulas-tag-spec : {M : Type 1} → statement M
@@ -65,6 +71,7 @@ cendrulas-tag-spec =
     tag-requires
     slice-aggregate-put
     put-requires
+    cast-pack
     pack-requires-3
     same-length
     returns-3)

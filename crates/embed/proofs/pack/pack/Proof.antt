@@ -1,8 +1,8 @@
 -- `embed::pack` is `packed`: each part is below its place's size, so no sum leaves 64 bits. Assumes nothing.
 use borrow.Author.Needs.{needs}
 use Rattle.embed.specs.Packing.{packed}
-use Rattle.embed.proofs.pack.Statement.{statement}
-use Rattle.embed.proofs.pack.Tie as tie
+use Rattle.embed.proofs.pack.pack.Statement.{statement}
+use Rattle.embed.proofs.pack.pack.Tie as tie
 
 mul-result : tie.Need-mul-result
 mul-result c = search needs

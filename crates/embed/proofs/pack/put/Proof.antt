@@ -1,4 +1,4 @@
--- `embed::put` leaves dst with the whole of src at its front: after i turns the first i bytes stand. Assumes nothing.
+-- `embed::put` leaves dst with the first bytes of src at its front: after i turns the first i bytes stand. Assumes nothing.
 use mathlib.Core.Path.{_≡_, refl, sym}
 use mathlib.Core.List.{_++_}
 use Prim.Native.Nat.{ℕ, _≤_, _-_}
@@ -6,15 +6,15 @@ use native.Mathlib.Numerals.{add-one}
 use native.Mathlib.Omega.{arith}
 use lib.ListN.{length, take, drop, length-set}
 use borrow.Author.Needs.{needs}
-use Rattle.embed.proofs.Laws.{copied-more, copied-all}
-use Rattle.embed.proofs.put.Statement.{statement}
-use Rattle.embed.proofs.put.Tie as tie
+use Rattle.embed.proofs.Laws.{copied-more}
+use Rattle.embed.proofs.pack.put.Statement.{statement}
+use Rattle.embed.proofs.pack.put.Tie as tie
 
 abbrev Inv-loop : tie.InvT-loop
-Inv-loop dst₀ src i₀ dst i = (i ≤ length src) × ((dst ≡ take i src ++ drop i dst₀) × (length dst ≡ length dst₀))
+Inv-loop dst₀ src n i₀ dst i = (i ≤ n) × ((dst ≡ take i src ++ drop i dst₀) × (length dst ≡ length dst₀))
 
 abbrev μ-loop : tie.MeasureT-loop
-μ-loop dst₀ src i₀ dst i = length src - i
+μ-loop dst₀ src n i₀ dst i = n - i
 
 loop-holds : tie.Need-loop-holds Inv-loop μ-loop
 loop-holds c = (search needs, (refl, refl))
@@ -41,9 +41,7 @@ same-length : tie.Need-same-length Inv-loop μ-loop
 same-length c = c .before .loop .inv .1 .1
 
 returns : tie.Need-returns Inv-loop μ-loop
-returns c =
-    let a = c .before .before .args in
-    copied-all (a .src .now) (a .dst .now) _ (c .before .loop .i) (c .before .loop .inv .1 .0) (omega arith)
+returns c = let e : c .before .before .args .n ≡ c .before .loop .i = omega arith in rw e (c .before .loop .inv .1 .0)
 
 pub put-spec : {M : Type 1} → statement M
 put-spec = tie.close (tie.spec Inv-loop μ-loop loop-holds shared-slice-read-dst slice-write-dst add-i loop-less loop-again same-length returns)
