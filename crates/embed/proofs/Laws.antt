@@ -3,7 +3,7 @@
 use mathlib.Core.Path.{_≡_, refl, sym, ap, _∙_}
 use mathlib.Core.List.{List, [], _∷_, _++_}
 use Prim.Native.Nat.{ℕ, suc, _≤_, _<_}
-use native.Mathlib.Nat.{le-of-lt}
+use native.Mathlib.Nat.{le-of-lt, le-of-eq}
 use lib.ListN.{length, getD, take, drop, set, drop-of-length-le}
 use borrow.Author.Tests.{eq-eqb, ne-eqb, lt-ltb, le-ltb}
 use lib.Seq.{length-take-le, take-suc, take-all, drop-cons, append-snoc, set-at}
@@ -27,6 +27,10 @@ copied-more s d j in-s in-d =
 pub copied-whole : (s d : List ℕ) (n : ℕ) → length s ≤ n → length d ≤ n → take n s ++ drop n d ≡ s
 copied-whole s d n all over =
     ap (λ (r : List ℕ). r ++ drop n d) (take-all n s all) ∙ ap (λ (r : List ℕ). s ++ r) (drop-of-length-le d over) ∙ append-nil s
+
+-- an array that is as long as what is taken of it
+pub all-of : (n : ℕ) (made bytes : List ℕ) → made ≡ bytes → length bytes ≡ n → take n made ≡ bytes
+all-of n made bytes e long = ap (λ (d : List ℕ). take n d) e ∙ take-all n bytes (le-of-eq long)
 
 pub refused : (n q r : ℕ) (bytes out : List ℕ) → q ≡ suc n → r ≡ packed (suc n) 0 0 0
     → (r ≡ answer q bytes) × (out ≡ written q bytes out)

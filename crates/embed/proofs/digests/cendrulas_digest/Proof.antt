@@ -1,15 +1,10 @@
 -- `embed::cendrulas_digest` answers and leaves `out` as its definitions say: a short buffer is refused before anything is written,
 -- and an accepted call puts the digest at the front. Assumes nothing.
-use mathlib.Core.Path.{_∙_, ap}
-use mathlib.Core.List.{List}
-use Prim.Native.Nat.{ℕ}
-use lib.ListN.{take}
-use lib.Seq.{take-all}
 use native.Mathlib.Omega.{arith}
 use borrow.Author.Needs.{needs}
 use Rattle.sha256.specs.Sha256.{sha256}
 use Rattle.sha256.proofs.Laws.{sha-length}
-use Rattle.embed.proofs.Laws.{refused, accepted, digest-short, digest-room}
+use Rattle.embed.proofs.Laws.{refused, accepted, all-of, digest-short, digest-room}
 use Rattle.embed.proofs.digests.cendrulas_digest.Statement.{statement}
 use Rattle.embed.proofs.digests.cendrulas_digest.Tie as tie
 
@@ -41,9 +36,10 @@ returns-2 c =
     let past-put = c .before .before .before in
     let past-digest = past-put .before .before .before in
     let a = past-digest .before .before .before .before .args in
-    accepted 32 _ _ (sha256 (a .message .now)) (past-digest .digest .result) (a .out .now) _ (digest-room (a .out .now) (omega arith)) (c .pack2 .ensures)
-    (ap (λ (d : List ℕ). take 32 d) (past-digest .digest .ensures) ∙ take-all 32 (sha256 (a .message .now)) (omega (arith, sha-length (a .message .now))))
-    (sha-length (a .message .now))
+    let long = sha-length (a .message .now) in
+    accepted 32 _ _ _ (past-digest .digest .result) (a .out .now) _ (digest-room (a .out .now) (omega arith)) (c .pack2 .ensures)
+    (all-of 32 (past-digest .digest .result) (sha256 (a .message .now)) (past-digest .digest .ensures) long)
+    long
     (past-put .put .ensures)
 
 pub cendrulas-digest-spec : {M : Type 1} → statement M

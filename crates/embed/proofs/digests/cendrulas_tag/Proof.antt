@@ -3,12 +3,10 @@
 use mathlib.Core.Path.{_∙_, ap}
 use mathlib.Core.List.{List}
 use Prim.Native.Nat.{ℕ}
-use lib.ListN.{take}
-use lib.Seq.{take-all}
 use native.Mathlib.Omega.{arith}
 use borrow.Author.Needs.{needs}
 use Rattle.hmac.specs.Hmac.{tagOf}
-use Rattle.embed.proofs.Laws.{refused, accepted, tag-key, tag-short, tag-room, tag-bytes}
+use Rattle.embed.proofs.Laws.{refused, accepted, all-of, tag-key, tag-short, tag-room, tag-bytes}
 use Rattle.embed.proofs.digests.cendrulas_tag.Statement.{statement}
 use Rattle.embed.proofs.digests.cendrulas_tag.Tie as tie
 
@@ -18,7 +16,9 @@ pack-requires c κs = search needs
 returns : tie.Need-returns
 returns c =
     let a = c .before .before .before .before .before .args in
-    refused 254 _ _ (tagOf (a .key .now) (a .message .now)) (a .out .now) (tag-key (a .key .now) (a .out .now) (c .before .if1 .taken)) (c .pack .ensures)
+    refused 254 _ _ (tagOf (a .key .now) (a .message .now)) (a .out .now)
+    (tag-key (a .key .now) (a .out .now) (c .before .if1 .taken))
+    (c .pack .ensures)
 
 pack-requires-2 : tie.Need-pack-requires-2
 pack-requires-2 c κs = search needs
@@ -26,7 +26,9 @@ pack-requires-2 c κs = search needs
 returns-2 : tie.Need-returns-2
 returns-2 c =
     let a = c .before .before .before .before .before .before .args in
-    refused 14 _ _ (tagOf (a .key .now) (a .message .now)) (a .out .now) (tag-short (a .key .now) (a .out .now) (c .before .before .if1 .left) (c .before .if2 .taken)) (c .pack2 .ensures)
+    refused 14 _ _ (tagOf (a .key .now) (a .message .now)) (a .out .now)
+    (tag-short (a .key .now) (a .out .now) (c .before .before .if1 .left) (c .before .if2 .taken))
+    (c .pack2 .ensures)
 
 array-requires : tie.Need-array-requires
 array-requires c κs = search needs
@@ -52,11 +54,18 @@ same-length c = search needs
 returns-3 : tie.Need-returns-3
 returns-3 c =
     let past-put = c .before .before .before in
-    let past-array = past-put .before .before .before .before in
+    let past-tag = past-put .before .before .before in
+    let past-array = past-tag .before in
     let a = past-array .before .before .before .before .before .before .args in
-    accepted 32 _ _ (tagOf (a .key .now) (a .message .now)) (past-put .before .before .before .tag .result) (a .out .now) _ (tag-room (a .key .now) (a .out .now) (past-array .before .before .if1 .left) (omega arith)) (c .pack3 .ensures)
-    (ap (λ (d : List ℕ). take 32 d) (past-put .before .before .before .tag .ensures ∙ ap (λ (k : List ℕ). tagOf k (a .message .now)) (past-array .array .ensures)) ∙ take-all 32 (tagOf (a .key .now) (a .message .now)) (omega (arith, tag-bytes (a .key .now) (a .message .now))))
-    (tag-bytes (a .key .now) (a .message .now))
+    let key = a .key .now in
+    let message = a .message .now in
+    let long = tag-bytes key message in
+    let made = past-tag .tag .ensures ∙ ap (λ (k : List ℕ). tagOf k message) (past-array .array .ensures) in
+    accepted 32 _ _ _ (past-tag .tag .result) (a .out .now) _
+    (tag-room key (a .out .now) (past-array .before .before .if1 .left) (omega arith))
+    (c .pack3 .ensures)
+    (all-of 32 (past-tag .tag .result) (tagOf key message) made long)
+    long
     (past-put .put .ensures)
 
 pub cendrulas-tag-spec : {M : Type 1} → statement M

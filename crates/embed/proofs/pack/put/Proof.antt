@@ -33,9 +33,14 @@ loop-less c = search needs
 
 loop-again : tie.Need-loop-again Inv-loop μ-loop
 loop-again c =
-    let a = c .before .before .before .args in
-    let i = c .before .before .loop .i in
-    (search needs, (rw (c .before .before .loop .inv .1 .0) (rw add-one (copied-more (a .src .now) (a .dst .now) i (omega arith) (omega arith))), simp length-set (c .before .before .loop .inv .1 .1)))
+    let entered = c .before .before .before .args in
+    let loop = c .before .before .loop in (
+      search needs,
+      (
+        rw (loop .inv .1 .0) (rw add-one (copied-more (entered .src .now) (entered .dst .now) (loop .i) (omega arith) (omega arith))),
+        simp length-set (loop .inv .1 .1),
+      ),
+    )
 
 same-length : tie.Need-same-length Inv-loop μ-loop
 same-length c = c .before .loop .inv .1 .1
