@@ -1,19 +1,40 @@
--- `hmac::hmac` meets its contract: nothing follows the message. Assumes nothing.
-use mathlib.Core.Path.{_∙_, ap}
-use mathlib.Core.List.{append-nil}
-use Rattle.hmac.specs.Hmac.{hmacSha256}
+-- `hmac::hmac` meets its contract: a digest of the message, then one of that digest, each behind the key's block. Assumes nothing.
+use mathlib.Core.Path.{_≡_}
+use Rattle.hmac.specs.Hmac.{hmacSha256, keyOf}
+use Rattle.hmac.proofs.Laws.{short-key}
 use borrow.Author.Needs.{needs}
 use Rattle.hmac.proofs.hmac.Statement.{statement}
 use Rattle.hmac.proofs.hmac.Tie as tie
 
-slice-aggregate-of-parts : tie.Need-slice-aggregate-of-parts
-slice-aggregate-of-parts c = search needs
+masked-requires : tie.Need-masked-requires
+masked-requires c κs = search needs
 
-of-parts-requires : tie.Need-of-parts-requires
-of-parts-requires c κs = search needs
+digest-after-requires : tie.Need-digest-after-requires
+digest-after-requires c κs = search needs
+
+masked-requires-2 : tie.Need-masked-requires-2
+masked-requires-2 c κs = search needs
+
+slice-aggregate-digest-after : tie.Need-slice-aggregate-digest-after
+slice-aggregate-digest-after c = search needs
+
+digest-after-requires-2 : tie.Need-digest-after-requires-2
+digest-after-requires-2 c κs = search needs
 
 returns : tie.Need-returns
-returns c = c .of-parts .ensures ∙ ap (hmacSha256 _) (append-nil _)
+unfolding hmacSha256
+returns c =
+    let key = c .before .before .before .before .before .before .args .key in
+    let e : keyOf key ≡ key = short-key key (search needs) in
+    cc
 
 pub hmac-spec : {M : Type 1} → statement M
-hmac-spec = tie.close (tie.spec slice-aggregate-of-parts of-parts-requires returns)
+hmac-spec =
+    tie.close
+    (tie.spec
+    masked-requires
+    digest-after-requires
+    masked-requires-2
+    slice-aggregate-digest-after
+    digest-after-requires-2
+    returns)

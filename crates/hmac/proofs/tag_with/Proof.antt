@@ -6,19 +6,15 @@ use borrow.Author.Needs.{needs}
 use Rattle.hmac.proofs.tag_with.Statement.{statement}
 use Rattle.hmac.proofs.tag_with.Tie as tie
 
-slice-aggregate-of-parts : tie.Need-slice-aggregate-of-parts
-slice-aggregate-of-parts c = search needs
-
-of-parts-requires : tie.Need-of-parts-requires
-of-parts-requires c κs = search needs
+hmac-with-requires : tie.Need-hmac-with-requires
+hmac-with-requires c κs = search needs
 
 cut-requires : tie.Need-cut-requires
 cut-requires c κs = search needs
 
 returns : tie.Need-returns
 unfolding tagOf
-returns c = c .cut .ensures ∙ ap (take tagSize) (c .before .of-parts .ensures)
+returns c = c .cut .ensures ∙ ap (take tagSize) (c .before .hmac-with .ensures)
 
 pub tag-with-spec : {M : Type 1} → statement M
-tag-with-spec =
-    tie.close (tie.spec slice-aggregate-of-parts of-parts-requires cut-requires returns)
+tag-with-spec = tie.close (tie.spec hmac-with-requires cut-requires returns)
