@@ -128,12 +128,11 @@ pub(crate) fn small1(x: u32) -> u32
     (((x >> 17) | (x << 15)) ^ ((x >> 19) | (x << 13))) ^ (x >> 10)
 }
 
-// Round t, with word t of the schedule.
-fn round(v: Work, t: usize, w: u32) -> Work
-    requires { ⌜ t < 64 ⌝ }
-    ensures { λ r. ⌜ r ≡ roundOf v (getD kTable t 0) w ⌝ }
+// A round, with its constant and its word of the schedule.
+fn round(v: Work, k: u32, w: u32) -> Work
+    ensures { λ r. ⌜ r ≡ roundOf v k w ⌝ }
 {
-    let t1 = add(add(add(add(v.h, big1(v.e)), ch(v.e, v.f, v.g)), K[t]), w);
+    let t1 = add(add(add(add(v.h, big1(v.e)), ch(v.e, v.f, v.g)), k), w);
     let t2 = add(big0(v.a), maj(v.a, v.b, v.c));
     Work {
         a: add(t1, t2),
@@ -163,7 +162,8 @@ fn added(h: [u32; 8], v: Work) -> [u32; 8]
     ]
 }
 
-// The hash value after one block, from the value before it and the block's schedule. Four rounds in a turn, so that no value has to move.
+// The hash value after one block, from the value before it and the block's schedule. Four rounds in a turn, so that no value has to
+// move; the table is copied once, before the rounds.
 pub(crate) fn compress(h: [u32; 8], w: &[u32; 64]) -> [u32; 8]
     ensures { λ r. ⌜ r ≡ compressOf h (now (w .entry)) ⌝ }
 {
@@ -177,12 +177,13 @@ pub(crate) fn compress(h: [u32; 8], w: &[u32; 64]) -> [u32; 8]
         g: h[6],
         h: h[7],
     };
+    let k = K;
     let mut t = 0;
     while t < 64 {
-        v = round(v, t, w[t]);
-        v = round(v, t + 1, w[t + 1]);
-        v = round(v, t + 2, w[t + 2]);
-        v = round(v, t + 3, w[t + 3]);
+        v = round(v, k[t], w[t]);
+        v = round(v, k[t + 1], w[t + 1]);
+        v = round(v, k[t + 2], w[t + 2]);
+        v = round(v, k[t + 3], w[t + 3]);
         t += 4;
     }
     added(h, v)

@@ -1,5 +1,5 @@
 -- `sha256::rounds::round` meets its contract. Assumes nothing.
-use Rattle.sha256.specs.Sha256.{roundOf, kTable}
+use Rattle.sha256.specs.Sha256.{roundOf}
 use borrow.Author.Needs.{needs}
 use Rattle.sha256.proofs.rounds.round.Statement.{statement}
 use Rattle.sha256.proofs.rounds.round.Tie as tie
@@ -15,12 +15,6 @@ ch-requires c κs = search needs
 
 add-requires-2 : tie.Need-add-requires-2
 add-requires-2 c κs = search needs
-
-mul-add : tie.Need-mul-add
-mul-add c = search needs
-
-array-read-add : tie.Need-array-read-add
-array-read-add c = search needs
 
 add-requires-3 : tie.Need-add-requires-3
 add-requires-3 c κs = search needs
@@ -44,7 +38,7 @@ add-requires-7 : tie.Need-add-requires-7
 add-requires-7 c κs = search needs
 
 returns : tie.Need-returns
-unfolding roundOf kTable
+unfolding roundOf
 returns c = cc
 
 pub round-spec : {M : Type 1} → statement M
@@ -55,8 +49,6 @@ round-spec =
     add-requires
     ch-requires
     add-requires-2
-    mul-add
-    array-read-add
     add-requires-3
     add-requires-4
     big0-requires
