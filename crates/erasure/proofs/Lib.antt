@@ -1,2 +1,5 @@
 pub mod Lists
 pub mod Laws
+pub mod Sums
+pub mod Rows
+pub mod Solved

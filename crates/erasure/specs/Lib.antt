@@ -2,3 +2,4 @@ pub mod Fragments
 pub mod Choice
 pub mod Steps
 pub mod System
+pub mod Lanes
