@@ -1,4 +1,5 @@
 // Fragments of a content, and the content from fragments.
+mod lanes;
 mod system;
 
 // Room for the longest fragment.
