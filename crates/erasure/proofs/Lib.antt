@@ -5,3 +5,5 @@ pub mod Horner
 pub mod Entries
 pub mod Rows
 pub mod Solved
+pub mod Choosing
+pub mod Refused

@@ -3,3 +3,4 @@ pub mod Choice
 pub mod Steps
 pub mod System
 pub mod Lanes
+pub mod Chosen
