@@ -1,0 +1,6 @@
+pub mod Fragments
+pub mod Choice
+pub mod Steps
+pub mod System
+pub mod Lanes
+pub mod Chosen

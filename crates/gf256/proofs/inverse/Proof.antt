@@ -1,0 +1,31 @@
+use native.Mathlib.Omega.{arith}
+use mathlib.Core.Path.{_≡_, sym, ap, _∙_}
+use Rattle.gf256.proofs.Tables.{inverse-of-log, inverse-zero}
+use Rattle.gf256.specs.Gf.{inverse}
+use borrow.Author.Needs.{needs}
+use Rattle.gf256.proofs.inverse.Statement.{statement}
+use Rattle.gf256.proofs.inverse.Tie as tie
+use Rattle.gf256.proofs.inverse.Reads as reads
+use Rattle.gf256.proofs.inverse.Lts as lts
+use Rattle.gf256.proofs.log_of.Reads as log-of-reads
+use Rattle.gf256.proofs.power_of.Reads as power-of-reads
+
+returns : tie.Need-returns
+returns c = sym (ap inverse (c .if1 .taken) ∙ inverse-zero)
+
+log-of-requires : tie.Need-log-of-requires
+log-of-requires c κs = search needs
+
+sub-power-of : tie.Need-sub-power-of
+sub-power-of c = search needs
+
+power-of-requires : tie.Need-power-of-requires
+power-of-requires c κs = search needs
+
+returns-2 : tie.Need-returns-2
+returns-2 c =
+    c .power-of .ensures
+    ∙ inverse-of-log (c .before .before .before .args .a) (c .before .log-of .result) (omega arith) (omega arith) (c .before .log-of .ensures .0) (c .before .log-of .ensures .1)
+
+pub inverse-spec : {M : Type 1} → statement M
+inverse-spec = tie.close (tie.spec returns log-of-requires sub-power-of power-of-requires returns-2)
