@@ -1,0 +1,47 @@
+-- `embed::cendrulas_digest` answers and leaves `out` as its definitions say: a short buffer is refused before anything is written,
+-- and an accepted call puts the digest at the front. Assumes nothing.
+use native.Mathlib.Omega.{arith}
+use borrow.Author.Needs.{needs}
+use Rattle.sha256.specs.Sha256.{sha256}
+use Rattle.sha256.proofs.Laws.{sha-length}
+use Rattle.embed.proofs.Laws.{refused, accepted, all-of, digest-short, digest-room}
+use Rattle.embed.proofs.digests.cendrulas_digest.Statement.{statement}
+use Rattle.embed.proofs.digests.cendrulas_digest.Tie as tie
+
+pack-requires : tie.Need-pack-requires
+pack-requires c κs = search needs
+
+returns : tie.Need-returns
+returns c =
+    let a = c .before .before .before .before .args in
+    refused 14 _ _ (sha256 (a .message .now)) (a .out .now) (digest-short (a .out .now) (c .before .if1 .taken)) (c .pack .ensures)
+
+digest-requires : tie.Need-digest-requires
+digest-requires c κs = search needs
+
+slice-aggregate-put : tie.Need-slice-aggregate-put
+slice-aggregate-put c = search needs
+
+put-requires : tie.Need-put-requires
+put-requires c κs = search needs
+
+pack-requires-2 : tie.Need-pack-requires-2
+pack-requires-2 c κs = search needs
+
+same-length : tie.Need-same-length
+same-length c = search needs
+
+returns-2 : tie.Need-returns-2
+returns-2 c =
+    let past-put = c .before .before .before in
+    let past-digest = past-put .before .before .before in
+    let a = past-digest .before .before .before .before .args in
+    let long = sha-length (a .message .now) in
+    accepted 32 _ _ _ (past-digest .digest .result) (a .out .now) _ (digest-room (a .out .now) (omega arith)) (c .pack2 .ensures)
+    (all-of 32 (past-digest .digest .result) (sha256 (a .message .now)) (past-digest .digest .ensures) long)
+    long
+    (past-put .put .ensures)
+
+pub cendrulas-digest-spec : {M : Type 1} → statement M
+cendrulas-digest-spec =
+    tie.close (tie.spec pack-requires returns digest-requires slice-aggregate-put put-requires pack-requires-2 same-length returns-2)

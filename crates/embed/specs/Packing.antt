@@ -1,0 +1,25 @@
+-- How an answer stands in one u64 (include/cendrulas.h has the same table for C):
+--   bits 56 to 63   the refusal, 0 where the call was accepted
+--   bits 48 to 55   the result of a client's step, as a drill listing shows it
+--   bits 16 to 47   a stamp's number
+--   bits  0 to 15   how many bytes of the output were written
+use mathlib.Core.List.{List, _++_}
+use Prim.Native.Nat.{ℕ, _+_, _*_, _^_}
+use lib.ListN.{length, drop}
+use Rattle.cluster.specs.Refusals.{onRefusal}
+
+unfoldable pub packed : ℕ → ℕ → ℕ → ℕ → ℕ
+packed refusal result number count = refusal * 2 ^ 56 + result * 2 ^ 48 + number * 2 ^ 16 + count
+
+-- A number above those of documents 01 and 02, which only a caller from another language can meet:
+-- a key, a nonce or a client's state is lent with another size than the type has.
+abbrev pub wrongSize : ℕ
+wrongSize = 255
+
+-- ---- a call that is refused, or writes bytes to the front of its output
+
+abbrev pub answer : ℕ → List ℕ → ℕ
+answer refusal bytes = packed refusal 0 0 (onRefusal refusal (length bytes) 0)
+
+abbrev pub written : ℕ → List ℕ → List ℕ → List ℕ
+written refusal bytes out = onRefusal refusal (bytes ++ drop (length bytes) out) out

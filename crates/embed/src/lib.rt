@@ -1,0 +1,3 @@
+// The library's functions for C and Rust, on numbers and slices only; include/cendrulas.h declares them.
+mod digests;
+mod pack;

@@ -1,0 +1,30 @@
+-- What the private functions on lanes promise each other; no public contract names these.
+-- A lane is a run of places that are worked on together.
+use mathlib.Core.Path.{_≡_}
+use mathlib.Core.List.{List, []}
+use Prim.Native.Nat.{ℕ, _+_, _*_, _/_, _%_, _^_, _≤_, _<_}
+use lib.ListN.{getD, length}
+use Rattle.gf256.specs.Gf.{times}
+use Rattle.erasure.specs.System.{sumTo}
+
+abbrev pub lane : ℕ
+lane = 64
+
+-- bit b of w
+abbrev pub bitOf : ℕ → ℕ → ℕ
+bitOf w b = w / 2 ^ b % 2
+
+-- each place i of a lane holds g i
+abbrev pub Lane : List ℕ → (ℕ → ℕ) → Type 0
+Lane x g = (i : ℕ) → i < lane → getD x i 0 ≡ g i
+
+-- at place i, the sum of the runs that begin at starts, each times its weight
+unfoldable pub sumAt : (k : ℕ) (weights src starts : List ℕ) → ℕ → ℕ
+sumAt k weights src starts i = sumTo k (λ j. times (getD src (getD starts j 0 + i) 0) (getD weights j 0))
+
+-- new is old, with g 0, .., g (m - 1) written from place at on
+pub record Written (old new : List ℕ) (at m : ℕ) (g : ℕ → ℕ) : Type 0 where
+  pub long : length new ≡ length old
+  pub here : (i : ℕ) → i < m → getD new (at + i) 0 ≡ g i
+  pub below : (i : ℕ) → i < at → getD new i 0 ≡ getD old i 0
+  pub above : (i : ℕ) → at + m ≤ i → getD new i 0 ≡ getD old i 0

@@ -1,0 +1,105 @@
+//! The exported functions as include/cendrulas.h declares them. A slice is a pointer and a length.
+
+/// Named so that a library built anew is linked anew: a build only follows files that its sources name.
+const _: &[u8] = include_bytes!("../../../target/staticlib/libembed.a");
+
+#[link(name = "embed", kind = "static")]
+extern "C" {
+    pub fn cendrulas_digest(message: *const u8, message_len: usize, out: *mut u8, out_len: usize) -> u64;
+    pub fn cendrulas_tag(
+        key: *const u8,
+        key_len: usize,
+        message: *const u8,
+        message_len: usize,
+        out: *mut u8,
+        out_len: usize,
+    ) -> u64;
+}
+
+#[cfg(feature = "coding")]
+extern "C" {
+    pub fn cendrulas_fragment(
+        t: usize,
+        server: usize,
+        content: *const u8,
+        content_len: usize,
+        out: *mut u8,
+        out_len: usize,
+    ) -> u64;
+    pub fn cendrulas_restore(
+        t: usize,
+        length: usize,
+        servers: *const u8,
+        servers_len: usize,
+        fragments: *const u8,
+        fragments_len: usize,
+        out: *mut u8,
+        out_len: usize,
+    ) -> u64;
+}
+
+#[cfg(feature = "server")]
+extern "C" {
+    pub fn cendrulas_server_blank(memory: *mut u8, memory_len: usize, t: usize, server: usize) -> u64;
+    pub fn cendrulas_server_take(
+        memory: *mut u8,
+        memory_len: usize,
+        key: *const u8,
+        key_len: usize,
+        packet: *const u8,
+        packet_len: usize,
+        out: *mut u8,
+        out_len: usize,
+    ) -> u64;
+}
+
+#[cfg(feature = "client")]
+extern "C" {
+    pub fn cendrulas_client_begin_write(
+        state: *mut u8,
+        state_len: usize,
+        t: usize,
+        client: usize,
+        content: *const u8,
+        content_len: usize,
+        nonce: *const u8,
+        nonce_len: usize,
+    ) -> u64;
+    pub fn cendrulas_client_begin_read(state: *mut u8, state_len: usize, t: usize, client: usize) -> u64;
+    pub fn cendrulas_client_make(
+        state: *const u8,
+        state_len: usize,
+        t: usize,
+        client: usize,
+        server: usize,
+        out: *mut u8,
+        out_len: usize,
+    ) -> u64;
+    pub fn cendrulas_client_take(
+        state: *mut u8,
+        state_len: usize,
+        t: usize,
+        client: usize,
+        writers: *const u8,
+        writers_len: usize,
+        keys: *const u8,
+        keys_len: usize,
+        packet: *const u8,
+        packet_len: usize,
+        out: *mut u8,
+        out_len: usize,
+    ) -> u64;
+    pub fn cendrulas_client_give_up(state: *mut u8, state_len: usize, t: usize, client: usize) -> u64;
+}
+
+#[cfg(feature = "drill")]
+extern "C" {
+    pub fn cendrulas_drill(
+        sheet: *const u8,
+        sheet_len: usize,
+        out: *mut u8,
+        out_len: usize,
+        work: *mut u8,
+        work_len: usize,
+    ) -> u64;
+}

@@ -1,0 +1,28 @@
+//! The proved library for Rust: the functions of include/cendrulas.h on slices, each with its
+//! answer unpacked. Every one of them is total, so the wrappers test nothing.
+
+mod abi;
+mod answer;
+mod digest;
+pub use answer::Answer;
+pub use digest::{digest, tag};
+
+#[cfg(feature = "coding")]
+mod coding;
+#[cfg(feature = "coding")]
+pub use coding::{fragment, restore};
+
+#[cfg(feature = "server")]
+mod server;
+#[cfg(feature = "server")]
+pub use server::{server_blank, server_take};
+
+#[cfg(feature = "client")]
+mod client;
+#[cfg(feature = "client")]
+pub use client::{Client, Keys, CLIENT_STATE};
+
+#[cfg(feature = "drill")]
+mod drill;
+#[cfg(feature = "drill")]
+pub use drill::{drill, listing_room, Listing, WORK_AREA};

@@ -1,0 +1,40 @@
+//! The plain shelf behind the library's own interface, so that one call can be made on both.
+
+mod digest;
+pub use digest::{digest, tag};
+
+#[cfg(feature = "coding")]
+mod coding;
+#[cfg(feature = "coding")]
+pub use coding::{fragment, restore};
+
+#[cfg(feature = "server")]
+mod server;
+#[cfg(feature = "server")]
+pub use server::{server_blank, server_take};
+
+#[cfg(feature = "client")]
+mod client;
+#[cfg(feature = "client")]
+pub use client::Client;
+
+#[cfg(feature = "drill")]
+mod drill;
+#[cfg(feature = "drill")]
+pub use drill::drill;
+
+use cendrulas::Answer;
+use shelf::Refusal;
+
+/// The answer of an operation that writes bytes or is refused.
+fn answer(outcome: Result<usize, Refusal>) -> Answer {
+    match outcome {
+        Ok(count) => Answer::wrote(count),
+        Err(refusal) => Answer::refused(refusal as u8),
+    }
+}
+
+/// A number that fits no byte is as little in range as 0.
+fn narrow(number: usize) -> u8 {
+    u8::try_from(number).unwrap_or(0)
+}

@@ -1,0 +1,76 @@
+//! Sheets of random lines, some of them not of the form.
+
+use super::source::Source;
+use crate::check::{Run, Seen, FILLER};
+use crate::plain;
+use shelf::WORK_AREA;
+
+pub fn all(run: &mut Run, source: &mut Source, inputs: usize) {
+    let mut work = [vec![FILLER; WORK_AREA], vec![FILLER; WORK_AREA]];
+    for _ in 0..inputs {
+        let sheet = sheet(source);
+        let needed = shelf::drill::output_size(&sheet);
+        let room = if source.once_in(20) { needed - 1 } else { needed + source.below(3) };
+        let short = source.once_in(30) as usize;
+        let (mut got, mut want) = (vec![FILLER; room], vec![FILLER; room]);
+        let [ours, plains] = &mut work;
+        let answer = cendrulas::drill(&sheet, &mut got, &mut ours[short..]);
+        let plain = plain::drill(&sheet, &mut want, &mut plains[short..]);
+        run.same(
+            || format!("sheet, room {room}, work area less {short}:\n{}", String::from_utf8_lossy(&sheet)),
+            Seen { answer, buffers: &[&got, ours] },
+            Seen { answer: plain, buffers: &[&want, plains] },
+        );
+    }
+}
+
+fn sheet(source: &mut Source) -> Vec<u8> {
+    let t = if source.once_in(20) { source.below(7) } else { source.within(1, 4) };
+    let mut sheet = line(0, t, 0, 0, 0);
+    let clients = [1, 2, source.within(3, 8), source.within(9, 16)];
+    for _ in 0..source.below(150) {
+        let client = if source.once_in(40) { source.below(20) } else { *source.pick(&clients) };
+        let server = if source.once_in(40) { source.below(16) } else { source.within(1, 3 * t.clamp(1, 4) + 1) };
+        sheet.extend(match source.below(40) {
+            0 => line(4, 0, server, 0, 0),
+            1 => line(5, client, 0, 0, 0),
+            2..=4 => line(1, client, 0, length(source), source.below(256)),
+            5..=7 => line(2, client, 0, 0, 0),
+            8 if source.once_in(40) => odd_line(source),
+            _ => line(3, client, server, 0, 0),
+        });
+    }
+    if source.once_in(10) {
+        spoil(source, &mut sheet);
+    }
+    sheet
+}
+
+fn length(source: &mut Source) -> usize {
+    if source.once_in(5) {
+        *source.pick(&[0, 1, 2, 5, 1_024, 1_025, 99_999_999])
+    } else {
+        source.within(1, 1_024)
+    }
+}
+
+fn line(verb: usize, client: usize, server: usize, length: usize, fill: usize) -> Vec<u8> {
+    format!("{verb:>8}{client:>8}{server:>8}{length:>8}{fill:>8}\n").into_bytes()
+}
+
+/// Five numbers without sense.
+fn odd_line(source: &mut Source) -> Vec<u8> {
+    let mut number = || source.below(300);
+    let (verb, client) = (number() % 8, number());
+    line(verb, client, number() % 3, number() % 2, number())
+}
+
+/// A changed character, or the last ones cut off.
+fn spoil(source: &mut Source, sheet: &mut Vec<u8>) {
+    if source.once_in(3) {
+        sheet.truncate(source.below(sheet.len() + 1));
+    } else {
+        let at = source.below(sheet.len());
+        sheet[at] = *source.pick(b" 0159\n\tx");
+    }
+}

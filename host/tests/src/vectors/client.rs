@@ -1,0 +1,69 @@
+//! Steps of clients against honest and lying servers.
+
+use super::filled;
+use crate::check::{Run, Seen, FILLER};
+use crate::text::{each_line, number, raw, Line};
+use cendrulas::{Answer, Client, Keys};
+use std::path::Path;
+
+/// The keys of the examples and of a drill.
+pub fn drill_keys() -> Keys {
+    Keys { writers: [0xFF; 32], servers: std::array::from_fn(|i| (i / 32) as u8 + 1) }
+}
+
+pub fn clients(run: &mut Run, folder: &Path) {
+    let keys = drill_keys();
+    let mut client = Client::new(1, 1);
+    each_line(folder, "clients.txt", |line| {
+        let words = &line.left;
+        if words[0] == "CLIENT" {
+            client = Client::new(number(words[1]), number(words[2]));
+            return;
+        }
+        let room = if matches!(words[0], "M" | "T") { number(words[2]) } else { 0 };
+        let mut out = vec![FILLER; room];
+        let answer = match words[0] {
+            "W" => client.begin_write(&raw(words[1]), &raw(words[2]).try_into().expect("a nonce")),
+            "R" => client.begin_read(),
+            "G" => client.give_up(),
+            "M" => client.make(number(words[1]), &mut out),
+            _ => client.take(&keys, &raw(words[1]), &mut out),
+        };
+        let (want, bytes) = due(line);
+        let left = filled(&bytes, room);
+        let (round, due_round) = ([round(&client)], [number(line.right.last().expect("a round"))]);
+        run.same(
+            || line.place.clone(),
+            Seen { answer, buffers: &[&out, &round] },
+            Seen { answer: want, buffers: &[&left, &due_round] },
+        );
+    });
+}
+
+/// What stands between ` = ` and `round`, for each kind of step.
+fn due(line: &Line) -> (Answer, Vec<u8>) {
+    let right = &line.right;
+    let code: u8 = number(right[0]);
+    if code != 0 {
+        return (Answer::refused(code), Vec::new());
+    }
+    match line.left[0] {
+        "G" => (Answer { result: number(right[1]), ..Answer::wrote(0) }, Vec::new()),
+        "M" => (Answer::wrote(raw(right[1]).len()), raw(right[1])),
+        "T" => {
+            let content = raw(right[3]);
+            let answer = Answer { result: number(right[1]), number: number(right[2]), ..Answer::wrote(content.len()) };
+            (answer, content)
+        }
+        _ => (Answer::wrote(0), Vec::new()),
+    }
+}
+
+/// The round now: the kind of the packet that is made in it, 0 where none is.
+fn round(client: &Client) -> u8 {
+    let mut packet = vec![0; 6_400];
+    match client.make(1, &mut packet).refusal {
+        0 => packet[0].div_ceil(2),
+        _ => 0,
+    }
+}

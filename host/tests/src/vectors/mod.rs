@@ -1,0 +1,48 @@
+//! The examples that an independent model of document 01 made.
+
+use crate::check::{Run, Seen, FILLER};
+use crate::text::{number, raw, Line};
+use cendrulas::Answer;
+use std::path::Path;
+
+mod tags;
+#[cfg(feature = "client")]
+mod client;
+#[cfg(feature = "coding")]
+mod coding;
+#[cfg(feature = "server")]
+mod server;
+#[cfg(feature = "drill")]
+mod sheets;
+
+#[cfg(feature = "client")]
+pub use client::drill_keys;
+
+pub fn all(run: &mut Run, folder: &Path) {
+    let vectors = folder.join("vectors");
+    run.group("tags.txt", |run| tags::tags(run, &vectors));
+    #[cfg(feature = "coding")]
+    coding::all(run, &vectors);
+    #[cfg(feature = "server")]
+    server::all(run, &vectors);
+    #[cfg(feature = "client")]
+    run.group("clients.txt", |run| client::clients(run, &vectors));
+    #[cfg(feature = "drill")]
+    run.group("sheets", |run| sheets::sheets(run, folder));
+}
+
+/// Compares what an operation answered and left in its output with a line's `CODE [BYTES]`.
+fn due(run: &mut Run, line: &Line, answer: Answer, out: &[u8]) {
+    let code: u8 = number(line.right[0]);
+    let bytes = if code == 0 { raw(line.right[1]) } else { Vec::new() };
+    let want = if code == 0 { Answer::wrote(bytes.len()) } else { Answer::refused(code) };
+    let left = filled(&bytes, out.len());
+    run.same(|| line.place.clone(), Seen { answer, buffers: &[out] }, Seen { answer: want, buffers: &[&left] });
+}
+
+/// An output of a length after a call that wrote these bytes.
+fn filled(bytes: &[u8], length: usize) -> Vec<u8> {
+    let mut out = bytes.to_vec();
+    out.resize(length.max(bytes.len()), FILLER);
+    out
+}
