@@ -1,0 +1,1 @@
+// The bench cards of document 01 that are marked to be proved: a table in specs/, one theorem in proofs/. There is no code here.
