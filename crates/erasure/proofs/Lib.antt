@@ -7,3 +7,4 @@ pub mod Rows
 pub mod Solved
 pub mod Choosing
 pub mod Refused
+pub mod Placed

@@ -15,6 +15,7 @@ ghost use Rattle.erasure.specs.System.{width, AllDifferent};
 
 mod choice;
 mod lanes;
+mod runs;
 mod system;
 
 const WIDTH: usize = system::WIDTH;
