@@ -8,3 +8,5 @@ pub mod Solved
 pub mod Choosing
 pub mod Refused
 pub mod Placed
+pub mod Answers
+pub mod Chosen
