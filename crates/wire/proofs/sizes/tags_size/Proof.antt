@@ -1,0 +1,24 @@
+use borrow.Author.Needs.{needs}
+use Rattle.wire.proofs.sizes.tags_size.Statement.{statement}
+use Rattle.wire.proofs.sizes.tags_size.Tie as tie
+use Rattle.wire.proofs.sizes.tags_size.Reads as reads
+use Rattle.wire.proofs.sizes.tags_size.Lts as lts
+
+-- src/sizes.rt:30:18
+mul-result : tie.Need-mul-result
+mul-result c = search needs
+
+-- src/sizes.rt:30:18
+add-result : tie.Need-add-result
+add-result c = search needs
+
+-- src/sizes.rt:30:5
+mul-result-2 : tie.Need-mul-result-2
+mul-result-2 c = search needs
+
+-- src/sizes.rt:27:1
+returns : tie.Need-returns
+returns c = search needs
+
+pub tags-size-spec : {M : Type 1} → statement M
+tags-size-spec = tie.close (tie.spec mul-result add-result mul-result-2 returns)
