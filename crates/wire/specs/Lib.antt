@@ -1,3 +1,3 @@
 pub mod Places
-pub mod Wrote
+pub mod Reads
 pub mod Make

@@ -6,7 +6,7 @@ ghost use lib.ListN.{length};
 ghost use Rattle.protocol.specs.Format.{print2, print4};
 ghost use Rattle.protocol.specs.Packet.{headF, stampF};
 ghost use Rattle.wire.specs.Make.{placed, packetStep};
-ghost use Rattle.wire.specs.Wrote.{Wrote};
+ghost use Rattle.protocol.specs.Reading.{Wrote};
 
 // The bytes written at a place where there is room for them.
 fn copy(out: &mut [u8], at: usize, bytes: &[u8]) -> usize

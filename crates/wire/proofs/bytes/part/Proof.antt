@@ -2,7 +2,9 @@
 -- Assumes nothing.
 use borrow.Author.Needs.{needs}
 use mathlib.Core.Path.{refl}
+use Prim.Native.Nat.{_+_, _-_}
 use native.Mathlib.Omega.{arith}
+use lib.ListN.{length}
 use Rattle.wire.proofs.Runs.{part-past, part-short, part-whole}
 use Rattle.wire.proofs.bytes.part.Statement.{statement}
 use Rattle.wire.proofs.bytes.part.Tie as tie
@@ -13,7 +15,7 @@ slice-aggregate-result : tie.Need-slice-aggregate-result
 slice-aggregate-result c = search needs
 
 returns : tie.Need-returns
-returns c = part-past _ _ _ (omega arith)
+returns c = part-past (c .before .before .args .s .now) (c .before .before .args .at) (c .before .before .args .n) (omega arith)
 
 sub-if2 : tie.Need-sub-if2
 sub-if2 c = search needs
@@ -28,7 +30,7 @@ part-result-end : tie.Need-part-result-end
 part-result-end c = search needs
 
 returns-2 : tie.Need-returns-2
-returns-2 c = part-short _ _ _ _ (omega arith) (omega arith)
+returns-2 c = part-short (c .before .before .before .args .s .now) (c .before .before .before .args .at) (length (c .before .before .before .args .s .now) - c .before .before .before .args .at) (c .before .before .before .args .n) (omega arith) (omega arith)
 
 add-end : tie.Need-add-end
 add-end c = search needs
@@ -43,7 +45,7 @@ part-result-end-2 : tie.Need-part-result-end-2
 part-result-end-2 c = search needs
 
 returns-3 : tie.Need-returns-3
-returns-3 c = part-whole _ _ _ _ (omega arith)
+returns-3 c = part-whole (c .before .before .before .args .s .now) (c .before .before .before .args .at) (c .before .before .before .args .at + c .before .before .before .args .n - c .before .before .before .args .at) (c .before .before .before .args .n) (omega arith)
 
 pub part-spec : {M : Type 1} → statement M
 part-spec =

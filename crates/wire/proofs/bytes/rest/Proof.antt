@@ -13,7 +13,7 @@ slice-aggregate-result : tie.Need-slice-aggregate-result
 slice-aggregate-result c = search needs
 
 returns : tie.Need-returns
-returns c = rest-past _ _ (omega arith)
+returns c = rest-past (c .before .before .args .s .now) (c .before .before .args .at) (omega arith)
 
 sub-result : tie.Need-sub-result
 sub-result c = search needs
@@ -25,7 +25,7 @@ part-result-end : tie.Need-part-result-end
 part-result-end c = search needs
 
 returns-2 : tie.Need-returns-2
-returns-2 c = rest-whole _ _ _ refl
+returns-2 c = rest-whole (c .before .before .args .s .now) (c .before .before .args .at) _ refl
 
 pub rest-spec : {M : Type 1} → statement M
 rest-spec =

@@ -1,19 +1,20 @@
+-- A length, as the definitions give it for the shelf of t.
+-- Assumes nothing.
 use borrow.Author.Needs.{needs}
+use Rattle.cluster.specs.Config.{shelf}
 use Rattle.wire.proofs.sizes.servers.Statement.{statement}
 use Rattle.wire.proofs.sizes.servers.Tie as tie
 use Rattle.wire.proofs.sizes.servers.Reads as reads
 use Rattle.wire.proofs.sizes.servers.Lts as lts
 
--- src/sizes.rt:18:5
 mul-result : tie.Need-mul-result
 mul-result c = search needs
 
--- src/sizes.rt:18:5
 add-result : tie.Need-add-result
 add-result c = search needs
 
--- src/sizes.rt:15:1
 returns : tie.Need-returns
+unfolding shelf
 returns c = search needs
 
 pub servers-spec : {M : Type 1} → statement M

@@ -1,23 +1,23 @@
+-- A length, as the definitions give it for the shelf of t.
+-- Assumes nothing.
 use borrow.Author.Needs.{needs}
+use Rattle.cluster.specs.Config.{shelf}
 use Rattle.wire.proofs.sizes.tags_size.Statement.{statement}
 use Rattle.wire.proofs.sizes.tags_size.Tie as tie
 use Rattle.wire.proofs.sizes.tags_size.Reads as reads
 use Rattle.wire.proofs.sizes.tags_size.Lts as lts
 
--- src/sizes.rt:30:18
 mul-result : tie.Need-mul-result
 mul-result c = search needs
 
--- src/sizes.rt:30:18
 add-result : tie.Need-add-result
 add-result c = search needs
 
--- src/sizes.rt:30:5
 mul-result-2 : tie.Need-mul-result-2
 mul-result-2 c = search needs
 
--- src/sizes.rt:27:1
 returns : tie.Need-returns
+unfolding shelf
 returns c = search needs
 
 pub tags-size-spec : {M : Type 1} → statement M
