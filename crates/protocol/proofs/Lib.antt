@@ -12,3 +12,10 @@ pub mod Room
 pub mod Memories
 pub mod Changes
 pub mod Primitive
+pub mod Places
+pub mod Readers
+pub mod Marks
+pub mod Slots
+pub mod Kept
+pub mod Acts
+pub mod ServerLift

@@ -101,42 +101,68 @@ pub stamp-length : (a : Stamp) → length (a .tag) ≡ tagSize → length (stamp
 unfolding stampF via seq number4 byte run
 stamp-length a e = rw e
 
+-- bytes of a share of a content of n bytes
+abbrev pub shareSize : Config → ℕ → ℕ
+shareSize s n = 2 + fragmentSize (s .shares) n + digestsSize s + digestSize + tagsSize s
+
 module _ (s : Config) where
-  pub share-length : (h : Share) → shareF s .Ok h
-      → length (shareF s .print h) ≡ 2 + fragmentSize (s .shares) (h .size) + digestsSize s + digestSize + tagsSize s
+  -- the lengths within a share, and within a candidate, that the layout takes
+  pub record ShareLengths (h : Share) : Type 0 where
+    pub part : length (h .part) ≡ fragmentSize (s .shares) (h .size)
+    pub digests : length (h .digests) ≡ digestsSize s
+    pub nonceDigest : length (h .nonceDigest) ≡ digestSize
+    pub tags : length (h .tags) ≡ tagsSize s
+
+  pub record CandidateLengths (c : Candidate) : Type 0 where
+    pub tag : length (c .stamp .tag) ≡ tagSize
+    pub nonce : length (c .nonce) ≡ nonceSize
+    pub tags : length (c .tags) ≡ tagsSize s
+
+  pub share-lengths : (h : Share) → shareF s .Ok h → ShareLengths h
+  unfolding shareF via seq run
+  share-lengths h (o, (p, (d, (e, g)))) = record { part = p; digests = d; nonceDigest = e; tags = g }
+
+  pub share-length : (h : Share) → ShareLengths h → length (shareF s .print h) ≡ shareSize s (h .size)
   unfolding shareF via seq number2 run
-  share-length h (o, (p, (d, (e, g)))) =
+  share-length h l =
       omega (
         arith,
         length-append (h .part) (h .digests ++ (h .nonceDigest ++ h .tags)),
         length-append (h .digests) (h .nonceDigest ++ h .tags),
         length-append (h .nonceDigest) (h .tags),
-        p,
-        d,
-        e,
-        g,
+        l .part,
+        l .digests,
+        l .nonceDigest,
+        l .tags,
       )
 
   pub write-length : (w : Write) → writeF s .Ok w → length (writeF s .print w) ≡ stampSize + length (shareF s .print (w .share))
   unfolding writeF stampF via seq number4 byte run
   write-length w ((n, (c, g)), h) = omega (arith, length-append (w .stamp .tag) (shareF s .print (w .share)), g)
 
-  pub candidate-length : (c : Candidate) → length (c .stamp .tag) ≡ tagSize → length (c .nonce) ≡ nonceSize → length (c .tags) ≡ tagsSize s
-      → length (candidateF s .print c) ≡ candidateSize s
+  pub candidate-lengths : (c : Candidate) → candidateF s .Ok c → CandidateLengths c
+  unfolding candidateF stampF via seq run
+  candidate-lengths c ((n, (w, g)), (h, k)) = record { tag = g; nonce = h; tags = k }
+
+  pub any-candidate-lengths : (c : Candidate) → anyCandidateF s .Ok c → CandidateLengths c
+  unfolding anyCandidateF orBlank
+  any-candidate-lengths c (inr h) = candidate-lengths c h
+  any-candidate-lengths c (inl e) = subst CandidateLengths (sym e) (record { tag = refl; nonce = refl; tags = length-replicate (tagsSize s) 0 })
+
+  pub candidate-length : (c : Candidate) → CandidateLengths c → length (candidateF s .print c) ≡ candidateSize s
   unfolding candidateF stampF via seq number4 byte run
-  candidate-length c g h k = omega (arith, length-append (c .stamp .tag) (c .nonce ++ c .tags), length-append (c .nonce) (c .tags), g, h, k)
+  candidate-length c l =
+      omega (arith, length-append (c .stamp .tag) (c .nonce ++ c .tags), length-append (c .nonce) (c .tags), l .tag, l .nonce, l .tags)
 
-  -- the lengths within a candidate that the layout takes
-  pub record CandidateLengths (c : Candidate) : Type 0 where
-    pub tag : length (c .stamp .tag) ≡ tagSize
-    pub nonce : length (c .nonce) ≡ nonceSize
-    pub tags : length (c .tags) ≡ tagsSize s
-
-  pub candidate-lengths : (c : Candidate) → anyCandidateF s .Ok c → CandidateLengths c
-  unfolding anyCandidateF orBlank candidateF stampF via seq run
-  candidate-lengths c (inr ((n, (w, g)), (h, k))) = record { tag = g; nonce = h; tags = k }
-  candidate-lengths c (inl e) = subst CandidateLengths (sym e) (record { tag = refl; nonce = refl; tags = length-replicate (tagsSize s) 0 })
+  -- a blank is printed like any other
+  pub any-print : (c : Candidate) → anyCandidateF s .print c ≡ candidateF s .print c
+  unfolding anyCandidateF orBlank
+  any-print c = refl
 
   pub any-candidate-length : (c : Candidate) → anyCandidateF s .Ok c → length (anyCandidateF s .print c) ≡ candidateSize s
-  unfolding anyCandidateF orBlank
-  any-candidate-length c h = let l = candidate-lengths c h in candidate-length c (l .tag) (l .nonce) (l .tags)
+  any-candidate-length c h = ap length (any-print c) ∙ candidate-length c (any-candidate-lengths c h)
+
+pub any-stamp-tag : (a : Stamp) → anyStampF .Ok a → length (a .tag) ≡ tagSize
+unfolding anyStampF orBlank stampF via seq run
+any-stamp-tag a (inl e) = ap (λ (x : Stamp). length (x .tag)) e
+any-stamp-tag a (inr h) = h .1 .1
