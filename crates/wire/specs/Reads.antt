@@ -20,8 +20,8 @@ use Rattle.wire.specs.declared.fields.Field.{Field}
 use Rattle.wire.specs.declared.fields.Field.the-variants as field
 use Rattle.wire.specs.declared.fields.Run.{Run}
 use Rattle.wire.specs.declared.fields.Run.the-variants as runs
-use Rattle.wire.specs.declared.fields.HeadRead.{HeadRead}
-use Rattle.wire.specs.declared.fields.HeadRead.the-variants as heads
+use Rattle.wire.specs.declared.packet.HeadRead.{HeadRead}
+use Rattle.wire.specs.declared.packet.HeadRead.the-variants as heads
 use Rattle.wire.specs.declared.packet.PacketRead.{PacketRead}
 use Rattle.wire.specs.declared.packet.PacketRead.the-variants as packets
 
@@ -36,7 +36,7 @@ pub record Layout (A : Type 0) : Type 1 where
 pub record Took {A : Type 0} (L : Layout A) (s : List ℕ) (at v next : ℕ) : Type 0 where
   pub leaves : Leaves (L .format) s at (L .value (drop at s)) next
   pub number : v ≡ L .number (drop at s)
-  pub next : next ≡ at + L .size (drop at s)
+  pub place : next ≡ at + L .size (drop at s)
 
 abbrev pub FieldAs : {A : Type 0} → Layout A → List ℕ → ℕ → Field → Type 0
 FieldAs L s at (field.Value v c) = Took L s at v (c .at)
@@ -44,17 +44,28 @@ FieldAs L s at field.Broken = Stops (L .format) s at
 
 -- ---- the fields
 
-abbrev pub byteL : ℕ → ℕ → Layout ℕ
-byteL lo hi = record { format = byte lo hi; value = λ d. getD d 0 0; number = λ d. getD d 0 0; size = λ d. 1 }
+-- a number of w bytes
+abbrev pub numberL : Fmt ℕ → (List ℕ → ℕ) → ℕ → Layout ℕ
+numberL F x w = record { format = F; value = x; number = x; size = λ d. w }
 
-abbrev pub number2L : ℕ → ℕ → Layout ℕ
-number2L lo hi = record { format = number2 lo hi; value = lengthAt; number = lengthAt; size = λ d. 2 }
+abbrev pub first : List ℕ → ℕ
+first d = getD d 0 0
 
 abbrev pub four : List ℕ → ℕ
 four d = value4 (getD d 0 0) (getD d 1 0) (getD d 2 0) (getD d 3 0)
 
+abbrev pub byteL : ℕ → ℕ → Layout ℕ
+byteL lo hi = numberL (byte lo hi) first 1
+
+abbrev pub number2L : ℕ → ℕ → Layout ℕ
+number2L lo hi = numberL (number2 lo hi) lengthAt 2
+
 abbrev pub number4L : ℕ → ℕ → Layout ℕ
-number4L lo hi = record { format = number4 lo hi; value = four; number = four; size = λ d. 4 }
+number4L lo hi = numberL (number4 lo hi) four 4
+
+-- an answer to store
+abbrev pub codeL : Layout ℕ
+codeL = numberL codeF first 1
 
 -- a stamp answers its number, which is 0 for the blank one
 abbrev pub stampL : Layout Stamp
@@ -96,9 +107,6 @@ candidatesL s =
 -- what a server holds for a stamp answers the byte after the stamp
 abbrev pub heldL : Config → Layout Held
 heldL s = record { format = heldF s; value = heldAt s; number = λ d. getD d stampSize 0; size = heldSize s }
-
-abbrev pub codeL : Layout ℕ
-codeL = record { format = codeF; value = λ d. getD d 0 0; number = λ d. getD d 0 0; size = λ d. 1 }
 
 -- ---- runs of bytes, which have no number
 

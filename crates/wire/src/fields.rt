@@ -1,11 +1,8 @@
-// Readers of fields. Each answers a number and the cursor past the field, or that the bytes break the layout there.
+// Readers of single fields. Each answers a number and the cursor past the field, or that the bytes break the layout there.
 ghost use mathlib.Core.Path.{_≡_};
-ghost use mathlib.Core.Bool.{cond};
 ghost use Prim.Native.Nat.{_≤_, _<_};
-ghost use lib.Dec.{eqb};
 ghost use lib.ListN.{length};
-ghost use Rattle.cluster.specs.Config.{shelf};
-ghost use Rattle.wire.specs.Reads.{FieldAs, byteL, number2L, number4L, stampL, anyStampL, shareL, writeL, candidateL, anyCandidateL, candidatesL, heldL, codeL, RunAs, ZeroAs, ManyAs, HeadAs};
+ghost use Rattle.wire.specs.Reads.{FieldAs, byteL, number2L, number4L, codeL, RunAs, ZeroAs};
 
 // A place in bytes.
 pub struct Cursor {
@@ -21,12 +18,6 @@ pub enum Field {
 // A run of bytes that is there: the cursor past it.
 pub enum Run {
     Past(Cursor),
-    Broken,
-}
-
-// A packet's head, and the cursor past it.
-pub enum HeadRead {
-    Value(protocol::Head, Cursor),
     Broken,
 }
 
@@ -124,43 +115,18 @@ pub(crate) fn zero_run(s: &[u8], c: Cursor, n: usize) -> Run
     Run::Broken
 }
 
-// kind, client, server, t, call.
-pub fn head_field(s: &[u8]) -> HeadRead
-    ensures { λ r. ⌜ HeadAs (now (s .entry)) r ⌝ }
+// The answer to a store: 0, 10 or 11.
+pub fn code_field(s: &[u8], c: Cursor) -> Field
+    ensures { λ r. ⌜ FieldAs codeL (now (s .entry)) (c .at) r ⌝ }
 {
-    let Field::Value(kind, c1) = byte_field(s, Cursor { at: 0 }, 1, 12) else {
-        return HeadRead::Broken;
+    let Field::Value(v, c1) = byte_field(s, c, 0, 11) else {
+        return Field::Broken;
     };
-    let Field::Value(client, c2) = byte_field(s, c1, 1, cluster::TOP_CLIENT as u32) else {
-        return HeadRead::Broken;
-    };
-    let Field::Value(server, c3) = byte_field(s, c2, 1, cluster::MOST_SERVERS as u32) else {
-        return HeadRead::Broken;
-    };
-    let Field::Value(t, c4) = byte_field(s, c3, 1, cluster::TOP_FAULTS as u32) else {
-        return HeadRead::Broken;
-    };
-    let Field::Value(call, c5) = number4_field(s, c4, 1, cluster::TOP_NUMBER as u32) else {
-        return HeadRead::Broken;
-    };
-    if 3 * t + 1 < server {
-        return HeadRead::Broken;
+    if v == 0 {
+        return Field::Value(v, c1);
     }
-    HeadRead::Value(protocol::Head { kind: kind as u8, client: client as u8, server: server as u8, t: t as u8, call }, c5)
-}
-
-// A stamp that is not blank: number, writer, tag.
-pub fn stamp_field(s: &[u8], c: Cursor) -> Field
-    ensures { λ r. ⌜ FieldAs stampL (now (s .entry)) (c .at) r ⌝ }
-{
-    let Field::Value(number, c1) = number4_field(s, c, 1, cluster::TOP_NUMBER as u32) else {
+    if v < 10 {
         return Field::Broken;
-    };
-    let Field::Value(_, c2) = byte_field(s, c1, 1, cluster::TOP_WRITER as u32) else {
-        return Field::Broken;
-    };
-    let Run::Past(c3) = run_field(s, c2, hmac::TAG) else {
-        return Field::Broken;
-    };
-    Field::Value(number, c3)
+    }
+    Field::Value(v, c1)
 }
