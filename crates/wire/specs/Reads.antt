@@ -133,6 +133,10 @@ ManyAs c n s at runs.Broken = Stops (many n (candidateF c)) s at
 
 -- ---- heads, bodies, packets
 
+abbrev pub pastOf : Field → Run
+pastOf (field.Value v c) = runs.Past c
+pastOf field.Broken = runs.Broken
+
 abbrev pub HeadAs : List ℕ → HeadRead → Type 0
 HeadAs s (heads.Value h c) = Past headF s 0 h (c .at) headSize
 HeadAs s heads.Broken = Stops headF s 0

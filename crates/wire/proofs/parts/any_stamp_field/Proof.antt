@@ -1,0 +1,52 @@
+use borrow.Author.Needs.{needs}
+use Rattle.wire.proofs.parts.any_stamp_field.Statement.{statement}
+use Rattle.wire.proofs.parts.any_stamp_field.Tie as tie
+use Rattle.wire.proofs.parts.any_stamp_field.Reads as reads
+use Rattle.wire.proofs.parts.any_stamp_field.Lts as lts
+use Rattle.wire.proofs.fields.zero_run.Reads as zero-run-reads
+use Rattle.wire.proofs.parts.stamp_field.Reads as stamp-field-reads
+
+returns : tie.Need-returns
+returns c = ?h1
+
+stamp-field-requires : tie.Need-stamp-field-requires
+stamp-field-requires c κs = search needs
+
+enum-known-number : tie.Need-enum-known-number
+enum-known-number c = search needs
+
+enum-told : tie.Need-enum-told
+enum-told c = search needs
+
+zero-run-requires : tie.Need-zero-run-requires
+zero-run-requires c κs = search needs
+
+enum-known-c1 : tie.Need-enum-known-c1
+enum-known-c1 c = search needs
+
+enum-told-2 : tie.Need-enum-told-2
+enum-told-2 c = search needs
+
+returns-2 : tie.Need-returns-2
+returns-2 c = ?h2
+
+returns-3 : tie.Need-returns-3
+returns-3 c = ?h3
+
+returns-4 : tie.Need-returns-4
+returns-4 c = ?h4
+
+pub any-stamp-field-spec : {M : Type 1} → statement M
+any-stamp-field-spec =
+    tie.close
+    (tie.spec
+    returns
+    stamp-field-requires
+    enum-known-number
+    enum-told
+    zero-run-requires
+    enum-known-c1
+    enum-told-2
+    returns-2
+    returns-3
+    returns-4)
