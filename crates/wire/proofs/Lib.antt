@@ -7,3 +7,4 @@ pub mod Through
 pub mod Lists
 pub mod Optional
 pub mod Heads
+pub mod Whole

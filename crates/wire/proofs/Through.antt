@@ -21,10 +21,11 @@ use Rattle.protocol.specs.Values.{Candidate, Share, Held, stampSize, nonceSize,
 use Rattle.protocol.specs.Packet.{stampF, anyStampF, shareF, writeF, candidateF, anyCandidateF, candidatesF, heldF, heldMost, codeF}
 use Rattle.protocol.specs.View.{part, stampAt, candidateAt, shareAt, shareOfSize, heldAt}
 use Rattle.protocol.specs.Reading.{Leaves, Stops}
-use Rattle.protocol.proofs.Leaves.{leaves-seq, leaves-via, stops-via, stops-first, stops-second, leaves-keep, stops-test, leaves-some, leaves-blank, leaves-absent, leaves-present, stops-flag, stops-present}
+use Rattle.protocol.proofs.Leaves.{leaves-seq, leaves-via, stops-via, stops-first, stops-second, leaves-keep, stops-test, leaves-some, leaves-blank, stops-short, leaves-absent, leaves-present, stops-flag, stops-present}
 use Rattle.protocol.proofs.Walks.{many-count}
 use Rattle.wire.specs.Places.{lengthAt, shareSize, writeAt, candidateList, heldSize}
 use Rattle.wire.specs.Reads.{Took, Past, first, four, byteL, number2L, number4L, stampL, anyStampL, shareL, writeL, candidateL, anyCandidateL, candidatesL, heldL, codeL}
+use Rattle.wire.proofs.Leaf.{number4-end}
 use Rattle.wire.proofs.From.{drop-from, part-from, first-from, blank-stamp, blank-candidate}
 
 module _ {s : List ℕ} {at : ℕ} where
@@ -39,6 +40,19 @@ module _ {s : List ℕ} {at : ℕ} where
         number = a .number;
         place = omega (arith, a .place, b .place, r .place);
       }
+
+  pub any-stamp-took : {v e : ℕ} → Took stampL s at v e → Took anyStampL s at v e
+  unfolding anyStampF
+  any-stamp-took t = record { leaves = leaves-some _ _ _ (t .leaves); number = t .number; place = t .place }
+
+  -- past the end
+  pub past-stamp : length s ≤ at → Stops stampF s at
+  unfolding stampF
+  past-stamp h = stops-via _ _ _ (stops-first _ _ (number4-end 1 topNumber (omega arith)))
+
+  pub past-any-stamp : length s ≤ at → Stops anyStampF s at
+  unfolding anyStampF
+  past-any-stamp h = stops-short _ _ _ (past-stamp h) (omega arith)
 
   pub blank-stamp-took : {e : ℕ} → Stops stampF s at → at + stampSize ≤ length s → zeros (take stampSize (drop at s)) ≡ true → e ≡ at + stampSize
       → Took anyStampL s at 0 e
@@ -134,6 +148,14 @@ module _ (c : Config) {s : List ℕ} {at : ℕ} where
         number = a .number;
         place = omega (arith, a .place, b .place, r .place);
       }
+
+  pub any-candidate-took : {v e : ℕ} → Took (candidateL c) s at v e → Took (anyCandidateL c) s at v e
+  unfolding anyCandidateF
+  any-candidate-took t = record { leaves = leaves-some _ _ _ (t .leaves); number = t .number; place = t .place }
+
+  pub past-any-candidate : length s ≤ at → Stops (anyCandidateF c) s at
+  unfolding anyCandidateF candidateF
+  past-any-candidate h = stops-short _ _ _ (stops-via _ _ _ (stops-first _ _ (past-stamp h))) (omega arith)
 
   pub blank-candidate-took : {e : ℕ} → Stops (candidateF c) s at → at + candidateSize c ≤ length s → zeros (take (candidateSize c) (drop at s)) ≡ true
       → e ≡ at + candidateSize c → Took (anyCandidateL c) s at 0 e

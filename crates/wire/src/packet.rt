@@ -6,7 +6,7 @@ ghost use Rattle.cluster.specs.Config.{shelf};
 ghost use Rattle.protocol.specs.Packet.{decode};
 ghost use Rattle.protocol.specs.View.{shareAt};
 ghost use Rattle.wire.specs.Places.{fragmentIn};
-ghost use Rattle.wire.specs.Reads.{pastOf, HeadAs, BodyAs, PacketAs};
+ghost use Rattle.wire.specs.Reads.{HeadAs, BodyAs, PacketAs};
 
 use crate::bytes::byte_at;
 use crate::bytes::number2;
@@ -14,7 +14,6 @@ use crate::bytes::part;
 use crate::bytes::rest;
 use crate::fields::Cursor;
 use crate::fields::Field;
-use crate::fields::Run;
 use crate::fields::byte_field;
 use crate::fields::code_field;
 use crate::fields::number4_field;
@@ -62,46 +61,36 @@ pub fn head_field(s: &[u8]) -> HeadRead
     HeadRead::Value(protocol::Head { kind: kind as u8, client: client as u8, server: server as u8, t: t as u8, call }, c5)
 }
 
-// The cursor past a field.
-fn past(f: Field) -> Run
-    ensures { λ r. ⌜ r ≡ pastOf f ⌝ }
-{
-    match f {
-        Field::Value(v, c) => Run::Past(c),
-        Field::Broken => Run::Broken,
-    }
-}
-
 // The body of a packet of a kind from 1 to 12; kinds 1, 6, 7 and 12 have none.
-fn body_field(s: &[u8], c: Cursor, kind: u8, t: u8) -> Run
+fn body_field(s: &[u8], c: Cursor, kind: u8, t: u8) -> Field
     requires { ⌜ (1 ≤ kind) × (kind ≤ 12) × (c .at ≤ length (now s)) ⌝ }
     ensures { λ r. ⌜ BodyAs (shelf t) kind (now (s .entry)) (c .at) r ⌝ }
 {
     if kind == 2 {
-        return past(any_stamp_field(s, c));
+        return any_stamp_field(s, c);
     }
     if kind == 3 {
-        return past(write_field(s, c, t));
+        return write_field(s, c, t);
     }
     if kind == 4 {
-        return past(code_field(s, c));
+        return code_field(s, c);
     }
     if kind == 5 {
-        return past(candidate_field(s, c, t));
+        return candidate_field(s, c, t);
     }
     if kind == 8 {
-        return past(any_candidate_field(s, c, t));
+        return any_candidate_field(s, c, t);
     }
     if kind == 9 {
-        return past(candidates_field(s, c, t));
+        return candidates_field(s, c, t);
     }
     if kind == 10 {
-        return past(held_field(s, c, t));
+        return held_field(s, c, t);
     }
     if kind == 11 {
-        return past(candidate_field(s, c, t));
+        return candidate_field(s, c, t);
     }
-    Run::Past(c)
+    Field::Value(0, c)
 }
 
 // A whole packet of any kind.
@@ -113,7 +102,7 @@ pub fn read_packet(packet: &[u8]) -> PacketRead
     };
     let kind = head.kind;
     let t = head.t;
-    let Run::Past(c2) = body_field(packet, c1, kind, t) else {
+    let Field::Value(v, c2) = body_field(packet, c1, kind, t) else {
         return PacketRead::Broken;
     };
     let end = c2.at;

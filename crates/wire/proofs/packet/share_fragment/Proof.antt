@@ -1,4 +1,11 @@
+-- The fragment stands after the length, which tells how long it is.
+-- Assumes nothing.
 use borrow.Author.Needs.{needs}
+use mathlib.Core.Path.{ap, _∙_}
+use Prim.Native.Nat.{ℕ}
+use Rattle.cluster.specs.Config.{shelf}
+use Rattle.erasure.specs.Fragments.{fragmentSize}
+use Rattle.protocol.specs.View.{part, shareAt, shareOfSize}
 use Rattle.wire.proofs.packet.share_fragment.Statement.{statement}
 use Rattle.wire.proofs.packet.share_fragment.Tie as tie
 use Rattle.wire.proofs.packet.share_fragment.Reads as reads
@@ -17,7 +24,8 @@ part-requires : tie.Need-part-requires
 part-requires c κs = search needs
 
 returns : tie.Need-returns
-returns c = ?h1
+unfolding shareAt shareOfSize
+returns c = rw (c .part .ensures, c .before .fragment-size .ensures, c .before .before .number2 .ensures)
 
 pub share-fragment-spec : {M : Type 1} → statement M
 share-fragment-spec =
