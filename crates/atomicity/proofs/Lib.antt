@@ -37,3 +37,4 @@ pub mod Decides
 pub mod OneServer
 pub mod Real
 pub mod Settled
+pub mod InWords
