@@ -16,7 +16,7 @@ use Rattle.protocol.specs.Rules.{ByServer}
 use Rattle.protocol.specs.Client.{Client, Hand, Result, more, idle, clocking, storing, completing, collecting, filtering, repairing, begun, onto, prepared, candidateMade, shareMade, sharesMade, stampOf, tagsOf}
 use Rattle.protocol.specs.Runs.{Step, write, read, make, take-reply, give-up, serve, Typed, World, Fed, nowValues}
 use Rattle.atomicity.specs.Lists.{Ever, Always, In, flat}
-use Rattle.atomicity.specs.Steps.{System, Stamped, accepted, stampedFrom, stampedBy, stampedAt, digestsWith, digestedBy, digested, allDigested, onBody, fragments}
+use Rattle.atomicity.specs.Steps.{System, Stamped, accepted, stampedFrom, stampedBy, stampedAt, digestsWith, digestedBy, digested, allDigested, inPacket, fragments}
 use Rattle.atomicity.specs.Premises.{Begins, FreshNonce}
 use Rattle.atomicity.proofs.Util.{left-in, right-in, split-in, flat-in, ever-map, ever-out}
 use Rattle.atomicity.proofs.Model.{Run, perform, now, account, marks, stampFor, preparedFor, candidateFor, sharesFor}
@@ -125,7 +125,7 @@ module _ (s : System) where
           t = mark-source s (now s xs) (x .step) m k
 
           here : In u (flat (digestsWith s) (stampedAt s (account s) x xs)) → In u (digestedBy s (stampedAt s (account s) x xs) (take-reply (m .client) (t .packet) (t .output)))
-          here j = left-in u (flat (digestsWith s) (stampedAt s (account s) x xs)) (onBody fragments (decode (t .packet))) j
+          here j = left-in u (flat (digestsWith s) (stampedAt s (account s) x xs)) (inPacket fragments (decode (t .packet))) j
 
 module _ (K : Setup) where
   pub begins : (xs : Steps K) (m : Stamped) → In m (marks (K .s) xs) → Ever (Begin K (m .client) (m .nonce)) xs

@@ -20,7 +20,7 @@ use Rattle.protocol.specs.Client.{Client, Hand, Turn, Result, idle, clocking, s
 use Rattle.protocol.specs.Client.{update, judge, found, onto, begun, prepared, candidateMade, stampOf, higher, checks, stampIn, codeIn}
 use Rattle.protocol.specs.Runs.{Step, write, read, make, take-reply, give-up, serve, Typed, World, nowValues}
 use Rattle.atomicity.specs.Lists.{Ever, Always, All, In, AllPairs, flat}
-use Rattle.atomicity.specs.Steps.{System, Stamped, accepted, onBody, clockStamps, stampedFrom, stampedBy, stampedAt, tagsWith, tagsMade, clockChecks, checkedBy, tagsChecked}
+use Rattle.atomicity.specs.Steps.{System, Stamped, accepted, inPacket, clockStamps, stampedFrom, stampedBy, stampedAt, tagsWith, tagsMade, clockChecks, checkedBy, tagsChecked}
 use Rattle.atomicity.specs.Premises.{Begins, NoForgery}
 use Rattle.atomicity.specs.Claim.{Call, given, log, begunWrites}
 use Rattle.atomicity.proofs.Util.{cond-case, cond-both, clash, and-left, left-in, right-in, split-in, in-flat, map-in, all-in, all-of, ever-map}

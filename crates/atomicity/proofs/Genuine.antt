@@ -20,7 +20,7 @@ use Rattle.protocol.specs.Server.{Server, blankServer, byHistory, valid, barred
 use Rattle.protocol.specs.Client.{Hand, storing, completing, request, made}
 use Rattle.protocol.specs.Runs.{Step, serve, Typed, World, nowValues}
 use Rattle.atomicity.specs.Lists.{Ever, Always, All, In, flat}
-use Rattle.atomicity.specs.Steps.{System, Stamped, accepted, packetIn, makes, serves, shown, judged, onBody, stampedAt, tagsWith, digestsWith, tagsMade, tagsChecked, checkedBy, serverChecks, digested, digestedBy, allDigested, noncesGot, noncesBy}
+use Rattle.atomicity.specs.Steps.{System, Stamped, accepted, packetIn, makes, serves, shown, judged, inPacket, stampedAt, tagsWith, digestsWith, tagsMade, tagsChecked, checkedBy, serverChecks, digested, digestedBy, allDigested, noncesGot, noncesBy}
 use Rattle.atomicity.specs.Premises.{NoForgery, NoCollision, NoEarlyNonce, Shows}
 use Rattle.atomicity.proofs.Util.{clash, left-in, right-in, split-in, flat-in, in-flat, in-map, map-in, all-in, ever-map}
 use Rattle.atomicity.proofs.Model.{Run, perform, now, account, marks, vouched, tagged, isValid, candidateFor, sharesFor, writeFor}
@@ -144,8 +144,8 @@ module _ (K : Setup) where
       one = subst (λ (v : Server). In kb (serverChecks (K .s) j v c)) (sym mine)
           (subst (λ (b : Bool). In kb (cond (not b && tagged (K .s) j c) (kb ∷ []) [])) (sym e) (subst (λ (b : Bool). In kb (cond b (kb ∷ []) [])) (sym k) (inl refl)))
 
-      here : (b o : List ℕ) → decode b ≡ some p → In kb (flat (serverChecks (K .s) j (account (K .s) .server xs j)) (onBody judged (decode b)))
-      here b o d = flat-in (serverChecks (K .s) j (account (K .s) .server xs j)) (onBody judged (decode b)) c kb (subst (λ (q : Option Packet). In c (onBody judged q)) (sym d) i) one
+      here : (b o : List ℕ) → decode b ≡ some p → In kb (flat (serverChecks (K .s) j (account (K .s) .server xs j)) (inPacket judged (decode b)))
+      here b o d = flat-in (serverChecks (K .s) j (account (K .s) .server xs j)) (inPacket judged (decode b)) c kb (subst (λ (q : Option Packet). In c (inPacket judged q)) (sym d) i) one
 
   vouched-for : (x : StepOf K) (xs : Steps K) → Fair K xs → (j : ℕ) (p : Packet) → Judging x xs j p → (c : Candidate) → In c (judged (p .body)) → isValid (K .s) j (now (K .s) xs .server j) c ≡ true → Vouched xs c
   unfolding valid
@@ -187,12 +187,12 @@ module _ (K : Setup) where
       let D = digested (K .s) (account (K .s)) x xs in
       let all = D ++ allDigested (K .s) (account (K .s)) xs in
       let mine : In (c .nonce) D = at-serve (c .nonce) x xs j p t (digestedBy (K .s) (stampedAt (K .s) (account (K .s)) x xs))
-      (λ b o d. in-map nonceOf (onBody judged (decode b)) c (subst (λ (q : Option Packet). In c (onBody judged q)) (sym d) i)) in
+      (λ b o d. in-map nonceOf (inPacket judged (decode b)) c (subst (λ (q : Option Packet). In c (inPacket judged q)) (sym d) i)) in
       let theirs : In (m .nonce) all = right-in (m .nonce) D (allDigested (K .s) (account (K .s)) xs) (mark-digested (K .s) xs m (m .nonce) (r .1) (inl refl)) in
       let equal : c .nonce ≡ m .nonce = all-in (λ u. K .s .P .digest (c .nonce) ≡ K .s .P .digest u → c .nonce ≡ u) all
       (all-in (λ u. All (λ w. K .s .P .digest u ≡ K .s .P .digest w → u ≡ w) all) D (t .prem .uncollided) (c .nonce) mine) (m .nonce) theirs (sym (r .3)) in
       let seen : In (m .nonce) (noncesGot (K .s) (account (K .s)) x xs) = subst (λ (n : List ℕ). In n (noncesGot (K .s) (account (K .s)) x xs)) equal
-      (at-serve (c .nonce) x xs j p t (noncesBy (K .s)) (λ b o d. in-map nonceOf (onBody shown (decode b)) c (subst (λ (q : Option Packet). In c (onBody shown q)) (sym d) (judged-shown (p .body) c i)))) in
+      (at-serve (c .nonce) x xs j p t (noncesBy (K .s)) (λ b o d. in-map nonceOf (inPacket shown (decode b)) c (subst (λ (q : Option Packet). In c (inPacket shown q)) (sym d) (judged-shown (p .body) c i)))) in
       record {
         write = m;
         made = r .1;

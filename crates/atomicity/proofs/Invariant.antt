@@ -19,7 +19,7 @@ use Rattle.protocol.specs.Rules.{ByServer, upd, countTo}
 use Rattle.protocol.specs.Client.{Client, Hand, Turn, Result, idle, clocking, storing, completing, collecting, filtering, repairing, isFull, awaits, isIdle, begun, onto, request, made, heldIn}
 use Rattle.protocol.specs.Runs.{Step, write, read, make, take-reply, give-up, serve, Typed, World, nowValues}
 use Rattle.atomicity.specs.Lists.{Ever, Always, In, flat}
-use Rattle.atomicity.specs.Steps.{System, Stamped, accepted, packetIn, makes, stampedAt, partIn, fragments, onBody, digestsWith, digested, digestedBy, allDigested}
+use Rattle.atomicity.specs.Steps.{System, Stamped, accepted, packetIn, makes, stampedAt, partIn, fragments, inPacket, digestsWith, digested, digestedBy, allDigested}
 use Rattle.atomicity.specs.Premises.{Shows, PartyOf, odd}
 use Rattle.atomicity.proofs.Util.{cond-case, bool-case, clash, left-in, right-in, ever-map, ever-with, rise, not-f, and-intro}
 use Rattle.atomicity.proofs.Stamps.{below-blank}
@@ -132,7 +132,7 @@ module _ (K : Setup) where
       turn-ok K x xs (since (K .s) c xs) (from (K .s) c xs) fair (λ d g. shown-full (x ∷ xs) fair (hands, always) d g) c (now (K .s) xs .client c) (p .head .server) (p .body)
       (λ f e. left-in (f .part) (digested (K .s) (account (K .s)) x xs) (allDigested (K .s) (account (K .s)) xs) (subst (λ (t : Bool). In (f .part) (cond t (digestedBy (K .s) (stampedAt (K .s) (account (K .s)) x xs) (x .step)) [])) (sym fine)
       (subst (λ (y : Step). In (f .part) (digestedBy (K .s) (stampedAt (K .s) (account (K .s)) x xs) y)) (sym st)
-      (right-in (f .part) (flat (digestsWith (K .s)) (stampedAt (K .s) (account (K .s)) x xs)) (onBody fragments (decode b)) (subst (λ (q : Option Packet). In (f .part) (onBody fragments q)) (sym rd) (piece-in (p .body) f e))))))
+      (right-in (f .part) (flat (digestsWith (K .s)) (stampedAt (K .s) (account (K .s)) x xs)) (inPacket fragments (decode b)) (subst (λ (q : Option Packet). In (f .part) (inPacket fragments q)) (sym rd) (piece-in (p .body) f e))))))
       (rg .2) (rg .3) (leb (Q K) (countTo (S K) (upd (now (K .s) xs .client c .marks) (p .head .server) true))) (λ e. leb-true (Q K) _ e) (λ e. leb-false (Q K) _ e) (hand K xs c) refl
       (hands c good)
       (λ h. says-up K (since (K .s) c xs) (from (K .s) c xs) (p .head .server) (p .body) (hand K xs c) x xs (says K c xs (p .head .server) (p .body) (hand K xs c) refl

@@ -36,3 +36,5 @@ pub mod Moments
 pub mod Decides
 pub mod OneServer
 pub mod Real
+pub mod Settled
+pub mod InWords

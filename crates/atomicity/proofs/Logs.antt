@@ -49,7 +49,7 @@ map-id (a ∷ cs) = ap (λ (l : List Call). a ∷ l) (map-id cs)
 unfoldable pub newCall : ℕ → ℕ → Option (List ℕ) → ℕ → Call
 newCall c n w t = record { client = c; number = n; wrote = w; begun = t; reached = false; over = none; answer = none; gaveUp = false }
 
-refused-view : (v : Result) → accepted v ≡ false → (n : ℕ) × (v ≡ refused n)
+pub refused-view : (v : Result) → accepted v ≡ false → (n : ℕ) × (v ≡ refused n)
 refused-view (refused n) e = (n, refl)
 refused-view more e = clash refl e
 refused-view (written n) e = clash refl e

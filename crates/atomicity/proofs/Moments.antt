@@ -16,7 +16,7 @@ use Rattle.protocol.specs.Packet.{Body, Packet, decode, filter}
 use Rattle.protocol.specs.Rules.{ByServer, countTo}
 use Rattle.protocol.specs.Runs.{Step, write, serve, Typed}
 use Rattle.atomicity.specs.Lists.{Ever, Always, In}
-use Rattle.atomicity.specs.Steps.{System, Stamped, serves, packetIn, judged, shown, onBody, noncesBy, noncesGot}
+use Rattle.atomicity.specs.Steps.{System, Stamped, serves, packetIn, judged, shown, inPacket, noncesBy, noncesGot}
 use Rattle.atomicity.specs.Premises.{Begins, FreshNonce, NoEarlyNonce}
 use Rattle.atomicity.proofs.Util.{bool-case, clash, and-left, and-right, in-map, all-in, rise, ever-map, ever-with}
 use Rattle.atomicity.proofs.Model.{Run, now, account, marks, isValid}
@@ -117,7 +117,7 @@ module _ (K : Setup) (xs : Steps K) (fair : Fair K xs) (cs : List Candidate) (g 
   then-genuine j M d i gen =
       let T = M .sat in let w = gen .write in let y = M .y in let ys = M .ys in
       let seen : In (w .nonce) (noncesGot (K .s) (account (K .s)) y ys) = at-serve K (w .nonce) y ys j (T .ask) (T .judging) (noncesBy (K .s))
-      (λ b o e. subst (λ (q : Option Packet). In (w .nonce) (map (λ (c : Candidate). c .nonce) (onBody shown q))) (sym e)
+      (λ b o e. subst (λ (q : Option Packet). In (w .nonce) (map (λ (c : Candidate). c .nonce) (inPacket shown q))) (sym e)
       (subst (λ (z : Body). In (w .nonce) (map (λ (c : Candidate). c .nonce) (shown z))) (sym (T .asked)) (subst (λ (z : List ℕ). In z (map (λ (c : Candidate). c .nonce) cs)) (sym (gen .nonce-is)) (in-map (λ (c : Candidate). c .nonce) cs d i)))) in
       let beg = born (w .nonce) (w .client) j y ys xs (T .judging .by) seen fair (M .suf) (begins K xs w (gen .made)) in
       let showed : Ever (Show K (w .client) (w .nonce)) ys = all-in (λ n. (c : ℕ) → Ever (Begin K c n) ys → Ever (Show K c n) ys) (noncesGot (K .s) (account (K .s)) y ys) (T .judging .prem .unshown) (w .nonce) seen (w .client) beg in

@@ -20,7 +20,7 @@ use Rattle.protocol.specs.Client.{Client, Hand, Turn, Result, idle, clocking, s
 use Rattle.protocol.specs.Client.{update, judge, found, onto, begun, prepared, candidateMade, stampOf, higher, checks, stampIn, codeIn}
 use Rattle.protocol.specs.Runs.{Step, write, read, make, take-reply, give-up, serve, Typed, World, nowValues}
 use Rattle.atomicity.specs.Lists.{Ever, Always, All, In, AllPairs, flat}
-use Rattle.atomicity.specs.Steps.{System, Stamped, accepted, onBody, clockStamps, stampedFrom, stampedBy, stampedAt, tagsWith, tagsMade, clockChecks, checkedBy, tagsChecked}
+use Rattle.atomicity.specs.Steps.{System, Stamped, accepted, inPacket, clockStamps, stampedFrom, stampedBy, stampedAt, tagsWith, tagsMade, clockChecks, checkedBy, tagsChecked}
 use Rattle.atomicity.specs.Premises.{Begins, NoForgery}
 use Rattle.atomicity.specs.Claim.{Call, given, log, begunWrites}
 use Rattle.atomicity.proofs.Util.{cond-case, cond-both, clash, and-left, left-in, right-in, split-in, in-flat, map-in, all-in, all-of, ever-map}
@@ -172,7 +172,7 @@ module _ (K : Setup) where
               let i : In (kb (p .body)) (tagsChecked (K .s) (account (K .s)) x xs) =
               subst (λ (z : Bool). In (kb (p .body)) (cond z (checkedBy (K .s) (account (K .s) .server xs) (x .step)) [])) (sym fine)
               (subst (λ (y : Step). In (kb (p .body)) (checkedBy (K .s) (account (K .s) .server xs) y)) (sym s)
-              (subst (λ (q : Option Packet). In (kb (p .body)) (flat (clockChecks (K .s)) (onBody clockStamps q))) (sym rd) (clock-in (p .body) k t))) in
+              (subst (λ (q : Option Packet). In (kb (p .body)) (flat (clockChecks (K .s)) (inPacket clockStamps q))) (sym rd) (clock-in (p .body) k t))) in
               let m = made-num (K .s .writers) (stampIn (p .body) .number) (stampIn (p .body) .writer) xs (all-in (λ z. Ever (λ y ys. In z (tagsMade (K .s) (account (K .s)) y ys)) xs) (tagsChecked (K .s) (account (K .s)) x xs) (fair .0 .unforged) _ i) in
               omega (arith, m .2, mark-small xs h (m .0) (m .1))
 

@@ -18,7 +18,7 @@ use Rattle.protocol.specs.Client.{Hand, idle, clocking, storing, completing, co
 use Rattle.protocol.specs.Runs.{byValues}
 use Rattle.atomicity.specs.Lists.{All, In, AllPairs}
 use Rattle.atomicity.specs.Steps.{System}
-use Rattle.atomicity.specs.Claim.{Call, given, counted, begunWrites, NeverRead, CameIn, Progress, OneServer}
+use Rattle.atomicity.specs.Claim.{Call, given, counted, begunWrites, NeverRead, CameTo, CameIn, Progress, OneServer}
 use Rattle.atomicity.proofs.Util.{bool-case, clash, and-right, and-intro, or-cases, keep-in, all-in, map-in}
 use Rattle.atomicity.proofs.Model.{Laws, account, marks, now}
 use Rattle.atomicity.proofs.Setup.{Setup, Steps, Fair, hand, calls}
@@ -67,7 +67,7 @@ module _ (K : Setup) (xs : Steps K) (fair : Fair K xs) where
   short c m (repairing d r) busy ok w n k l = omega (arith, ok .short, l)
 
   pub progress : Progress (K .s) (account (K .s)) (K .correct) xs
-  unfolding Progress Hands CameIn Roomy
+  unfolding Progress Hands CameTo Roomy
   progress c good busy room bs d came =
       let m = now (K .s) xs .client c .marks in
       let each : (b : ℕ) → In b bs → (right K b ≡ true) × (m b ≡ true) = λ b i. let k = all-in (λ b. (right K b ≡ true) × CameIn (K .s) (account (K .s)) (K .correct) xs c b) bs came b i in

@@ -19,7 +19,8 @@ use Rattle.gf256.proofs.Byte.{DistinctN, ApartN}
 use Rattle.protocol.specs.Format.{Bytes, byte, number4, seq, via, keep}
 use Rattle.protocol.specs.Values.{digestSize}
 use Rattle.protocol.specs.Packet.{Packet, PacketOk, packetF, headF, bodyF, decode}
-use Rattle.protocol.specs.Primitives.{real}
+use Rattle.protocol.specs.Primitives.{Primitives, Lengths, real}
+use Rattle.protocol.specs.ClientBytes.{keyOf}
 use Rattle.protocol.specs.Runs.{Shelf, configOf, Typed, steps, sentOf, byBytes}
 use Rattle.protocol.proofs.Bodies.{decode-ok}
 use Rattle.protocol.proofs.Primitive.{real-lengths, stamp-inj, cand-inj, apart, nth-run, restores-parts}
@@ -56,28 +57,44 @@ unfolding PacketOk packetF headF via seq keep byte number4
 head-ranges b p e = let o = decode-ok b p e .0 in
     (o .1 .1 .0 .0, o .1 .1 .0 .1, o .1 .1 .1 .0 .0, leb-true (p .head .server) (shelf (p .head .t) .servers) (o .0))
 
-module _ (sh : Shelf) (lo : 1 ≤ sh .t) (hi : sh .t ≤ topFaults) where
-  abbrev s : System
-  s = systemOf sh
+-- fragments of k or more different servers give a content back
+abbrev pub Restores : Primitives → Config → Type 0
+Restores P c =
+    (r : List ℕ) → Bytes r → (is : List ℕ) → AllPairs (λ a b. eqb a b ≡ false) is → All (λ i. (1 ≤ i) × (i ≤ c .servers)) is → c .shares ≤ length is
+    → P .restored (c .points) (c .shares) (length r) (map (λ i. record { server = i; bytes = P .fragment (c .points) (c .shares) r i }) is) ≡ r
 
-  fed : (l : Run s) → AllFed real real-lengths sh (lo, hi) (steps l)
+pub real-restores : (t : ℕ) → 1 ≤ t → t ≤ topFaults → Restores real (shelf t)
+real-restores t lo hi r b is d a l = restores-parts (shelf t) (legal-shelf t lo hi) r b is (all-at (λ i. (1 ≤ i) × (i ≤ shelf t .servers)) is a) (different is d) l
+
+-- the laws of all primitives of these lengths that give contents back, on a shelf of document 01
+module _ (P : Primitives) (size : Lengths P) (sh : Shelf) (lo : 1 ≤ sh .t) (hi : sh .t ≤ topFaults) where
+  abbrev pub systemWith : System
+  systemWith = record { P = P; config = configOf sh; writers = sh .writers; keys = keyOf (sh .keys) }
+
+  fed : (l : Run systemWith) → AllFed P size sh (lo, hi) (steps l)
   unfolding AllFed
   fed [] = tt
   fed (x ∷ xs) = (x .fed, fed xs)
 
-  pub real-laws : Laws s
+  pub laws-of : Restores P (configOf sh) → Laws systemWith
   unfolding shelf
-  real-laws =
+  laws-of back =
       record {
-        reads = λ x xs p e. let a = run-agrees real real-lengths sh (lo, hi) (x .step) (steps xs) (x .fed) (fed xs) in sent-value real real-lengths sh (lo, hi) a (sentOf (perform s (now s xs) (x .step) .sent)) p (a .sent) e;
+        reads =
+            λ x xs p e.
+            let a = run-agrees P size sh (lo, hi) (x .step) (steps xs) (x .fed) (fed xs) in
+            sent-value P size sh (lo, hi) a (sentOf (perform systemWith (now systemWith xs) (x .step) .sent)) p (a .sent) e;
         heads = λ b p e t. let h = head-ranges b p e in (h .0, h .1, h .2, subst (λ (k : ℕ). p .head .server ≤ shelf k .servers) t (h .3));
-        digest-at = λ f i l h. nth-run digestSize (λ j. real .digest (f j)) (λ j. real-lengths .digest (f j)) (configOf sh .servers) i l h;
-        tag-at = λ k f i l h. nth-run tagSize (λ j. real .tag (k j) (f j)) (λ j. real-lengths .tag (k j) (f j)) (configOf sh .servers) i l h;
+        digest-at = λ f i l h. nth-run digestSize (λ j. P .digest (f j)) (λ j. size .digest (f j)) (configOf sh .servers) i l h;
+        tag-at = λ k f i l h. nth-run tagSize (λ j. P .tag (k j) (f j)) (λ j. size .tag (k j) (f j)) (configOf sh .servers) i l h;
         stamp-inj = stamp-inj;
-        candidate-inj = λ a b m n e. cand-inj a b (real .digest m) (real .digest n) (real-lengths .digest m ∙ sym (real-lengths .digest n)) e;
-        apart = λ a m c d e. apart a (real .digest m) c d (real-lengths .digest m) e;
-        restores = λ r b is d a l. restores-parts (configOf sh) (legal-shelf (sh .t) lo hi) r b is (all-at (λ i. (1 ≤ i) × (i ≤ configOf sh .servers)) is a) (different is d) l;
+        candidate-inj = λ a b m n e. cand-inj a b (P .digest m) (P .digest n) (size .digest m ∙ sym (size .digest n)) e;
+        apart = λ a m c d e. apart a (P .digest m) c d (size .digest m) e;
+        restores = back;
       }
+
+pub real-laws : (sh : Shelf) → 1 ≤ sh .t → sh .t ≤ topFaults → Laws (systemOf sh)
+real-laws sh lo hi = laws-of real real-lengths sh lo hi (real-restores (sh .t) lo hi)
 
 -- demand 3
 pub atomic-and-live : Demand3

@@ -144,14 +144,17 @@ abbrev pub Room : List Call → Hand → Type 0
 Room cs h = (leb 8 (awaits h) ≡ true) ⊎ (begunWrites cs ≤ capacity)
 
 module _ (s : System) (A : Account (s .config)) (correct : Correct) where
-  -- server b's reply to the round that client c has in hand after the steps l has come in
-  unfoldable pub CameIn : List (Typed (s .config)) → ℕ → ℕ → Type 0
-  CameIn l c b =
+  -- server b's reply to the round of client c's call n that awaits kind k has come in
+  unfoldable pub CameTo : List (Typed (s .config)) → ℕ → ℕ → ℕ → ℕ → Type 0
+  CameTo l c n k b =
       Ever
       (λ x xs. (reply : List ℕ) × (o : List ℕ) × (p : Packet) × (x .step ≡ take-reply c reply o) × (cameIn (A .result x xs) ≡ true) × (decode reply ≡ some p)
-      × (p .head .client ≡ c) × (p .head .server ≡ b) × (p .head .call ≡ A .client l c .calls) × (kindOf (p .body) ≡ awaits (A .client l c .hand))
-      × Sent s A correct (serves b) reply xs)
+      × (p .head .client ≡ c) × (p .head .server ≡ b) × (p .head .call ≡ n) × (kindOf (p .body) ≡ k) × Sent s A correct (serves b) reply xs)
       l
+
+  -- to the round that it has in hand
+  abbrev pub CameIn : List (Typed (s .config)) → ℕ → ℕ → Type 0
+  CameIn l c b = CameTo l c (A .client l c .calls) (awaits (A .client l c .hand)) b
 
   -- while a call is in hand, its round lacks replies of S - t correct servers. "A right client's call that isn't given up has ended once
   -- 2t+1 honest boxes' replies to each of its rounds have come in, while at most 32 writes have begun"

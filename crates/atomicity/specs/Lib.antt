@@ -2,3 +2,4 @@ pub mod Lists
 pub mod Steps
 pub mod Premises
 pub mod Claim
+pub mod Page41

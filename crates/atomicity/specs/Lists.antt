@@ -15,6 +15,11 @@ module _ {A : Type 0} where
   Always P [] = Unit {0}
   Always P (x ∷ xs) = P x xs × Always P xs
 
+  -- P held at some moment: of the steps so far, or of those before one of them
+  unfoldable pub Once : (List A → Type 0) → List A → Type 0
+  Once P [] = P []
+  Once P (x ∷ xs) = P (x ∷ xs) ⊎ Once P xs
+
   unfoldable pub All : (A → Type 0) → List A → Type 0
   All P [] = Unit {0}
   All P (x ∷ xs) = P x × All P xs

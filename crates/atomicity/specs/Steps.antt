@@ -8,7 +8,7 @@ use Prim.Native.Nat.{ℕ, zero, suc}
 use lib.Dec.{eqb}
 use Rattle.cluster.specs.Config.{Config, upTo}
 use Rattle.protocol.specs.declared.Stamp.{Stamp}
-use Rattle.protocol.specs.Values.{Candidate, Share}
+use Rattle.protocol.specs.Values.{Candidate, Share, Held}
 use Rattle.protocol.specs.Packet.{Body, Packet, decode}
 use Rattle.protocol.specs.Packet.{clock, clockReply, store, storeReply, complete, completeReply, collect, collectReply, filter, filterReply, repair, repairReply}
 use Rattle.protocol.specs.Primitives.{Primitives, stampMessage, candidateMessage}
@@ -35,105 +35,66 @@ accepted (aborted b) = true
 
 -- ---- the packet that a step gets, and its party
 
+-- by the step: of the client that makes a packet; of the client that takes these bytes; of the server that takes these bytes
+abbrev pub onStep : {A : Type 0} → A → (ℕ → A) → (ℕ → List ℕ → A) → (ℕ → List ℕ → A) → Step → A
+onStep other made took served (write c r n) = other
+onStep other made took served (read c) = other
+onStep other made took served (make c b o) = made c
+onStep other made took served (take-reply c p o) = took c p
+onStep other made took served (give-up c) = other
+onStep other made took served (serve b p o) = served b p
+
 abbrev pub bytesIn : Step → List ℕ
-bytesIn (write c r n) = []
-bytesIn (read c) = []
-bytesIn (make c b o) = []
-bytesIn (take-reply c p o) = p
-bytesIn (give-up c) = []
-bytesIn (serve b p o) = p
+bytesIn x = onStep [] (λ c. []) (λ c p. p) (λ b p. p) x
 
 abbrev pub packetIn : Step → Option Packet
-packetIn (write c r n) = none
-packetIn (read c) = none
-packetIn (make c b o) = none
-packetIn (take-reply c p o) = decode p
-packetIn (give-up c) = none
-packetIn (serve b p o) = decode p
+packetIn x = onStep none (λ c. none) (λ c p. decode p) (λ b p. decode p) x
 
--- client c makes a packet
+-- client c makes a packet; server b takes one
 abbrev pub makes : ℕ → Step → Bool
-makes c (write d r n) = false
-makes c (read d) = false
-makes c (make d b o) = eqb c d
-makes c (take-reply d p o) = false
-makes c (give-up d) = false
-makes c (serve b p o) = false
+makes c x = onStep false (λ d. eqb c d) (λ d p. false) (λ b p. false) x
 
--- server b takes a packet
 abbrev pub serves : ℕ → Step → Bool
-serves b (write d r n) = false
-serves b (read d) = false
-serves b (make d e o) = false
-serves b (take-reply d p o) = false
-serves b (give-up d) = false
-serves b (serve e p o) = eqb b e
+serves b x = onStep false (λ d. false) (λ d p. false) (λ e p. eqb b e) x
 
--- ---- of a packet's body: the candidates that it shows, those that a server judges by their tags, the stamps of a clock reply, the fragment of a filter reply
+-- ---- what a packet's body holds
 
+-- by the body: of a complete, of a filter, of a repair, of a clock reply, of a filter reply
+abbrev pub onBody : {A : Type 0} → A → (Candidate → A) → (List Candidate → A) → (Candidate → A) → (Stamp → A) → (Held → A) → Body → A
+onBody other done sifts mends clocks sifted clock = other
+onBody other done sifts mends clocks sifted (clockReply a) = clocks a
+onBody other done sifts mends clocks sifted (store w) = other
+onBody other done sifts mends clocks sifted (storeReply n) = other
+onBody other done sifts mends clocks sifted (complete c) = done c
+onBody other done sifts mends clocks sifted completeReply = other
+onBody other done sifts mends clocks sifted collect = other
+onBody other done sifts mends clocks sifted (collectReply c) = other
+onBody other done sifts mends clocks sifted (filter cs) = sifts cs
+onBody other done sifts mends clocks sifted (filterReply h) = sifted h
+onBody other done sifts mends clocks sifted (repair c) = mends c
+onBody other done sifts mends clocks sifted repairReply = other
+
+-- the candidates that it shows, and those that a server judges by their tags
 abbrev pub shown : Body → List Candidate
-shown clock = []
-shown (clockReply x) = []
-shown (store x) = []
-shown (storeReply x) = []
-shown (complete c) = c ∷ []
-shown completeReply = []
-shown collect = []
-shown (collectReply x) = []
-shown (filter cs) = cs
-shown (filterReply x) = []
-shown (repair c) = c ∷ []
-shown repairReply = []
+shown x = onBody [] (λ c. c ∷ []) (λ cs. cs) (λ c. c ∷ []) (λ a. []) (λ h. []) x
 
 abbrev pub judged : Body → List Candidate
-judged clock = []
-judged (clockReply x) = []
-judged (store x) = []
-judged (storeReply x) = []
-judged (complete c) = []
-judged completeReply = []
-judged collect = []
-judged (collectReply x) = []
-judged (filter cs) = cs
-judged (filterReply x) = []
-judged (repair c) = c ∷ []
-judged repairReply = []
+judged x = onBody [] (λ c. []) (λ cs. cs) (λ c. c ∷ []) (λ a. []) (λ h. []) x
 
+-- the stamp of a clock reply, and the fragment of a filter reply
 abbrev pub clockStamps : Body → List Stamp
-clockStamps clock = []
-clockStamps (clockReply x) = x ∷ []
-clockStamps (store x) = []
-clockStamps (storeReply x) = []
-clockStamps (complete c) = []
-clockStamps completeReply = []
-clockStamps collect = []
-clockStamps (collectReply x) = []
-clockStamps (filter cs) = []
-clockStamps (filterReply x) = []
-clockStamps (repair c) = []
-clockStamps repairReply = []
+clockStamps x = onBody [] (λ c. []) (λ cs. []) (λ c. []) (λ a. a ∷ []) (λ h. []) x
 
 abbrev pub partIn : Option Share → List (List ℕ)
 partIn none = []
 partIn (some h) = h .part ∷ []
 
 abbrev pub fragments : Body → List (List ℕ)
-fragments clock = []
-fragments (clockReply x) = []
-fragments (store x) = []
-fragments (storeReply x) = []
-fragments (complete c) = []
-fragments completeReply = []
-fragments collect = []
-fragments (collectReply x) = []
-fragments (filter cs) = []
-fragments (filterReply x) = partIn (x .share)
-fragments (repair c) = []
-fragments repairReply = []
+fragments x = onBody [] (λ c. []) (λ cs. []) (λ c. []) (λ a. []) (λ h. partIn (h .share)) x
 
-abbrev pub onBody : {A : Type 0} → (Body → List A) → Option Packet → List A
-onBody f none = []
-onBody f (some p) = f (p .body)
+abbrev pub inPacket : {A : Type 0} → (Body → List A) → Option Packet → List A
+inPacket f none = []
+inPacket f (some p) = f (p .body)
 
 -- ---- a write that gets its stamp: at the reply that ends clock the hand was clocking and is storing
 
@@ -160,12 +121,7 @@ stampedFrom c (repairing d r) h = []
 
 -- by the clients before and after the step
 unfoldable pub stampedBy : (ℕ → Client) → (ℕ → Client) → Step → List Stamped
-stampedBy was is (write c r n) = []
-stampedBy was is (read c) = []
-stampedBy was is (make c b o) = []
-stampedBy was is (take-reply c p o) = stampedFrom c (was c .hand) (is c .hand)
-stampedBy was is (give-up c) = []
-stampedBy was is (serve b p o) = []
+stampedBy was is x = onStep [] (λ c. []) (λ c p. stampedFrom c (was c .hand) (is c .hand)) (λ b p. []) x
 
 module _ (s : System) where
   -- (key, bytes) of the tags that are made with a stamp, and the inputs that are digested with it
@@ -187,28 +143,13 @@ module _ (s : System) where
       ((s .keys b, candidateMessage (c .stamp) (s .P .digest (c .nonce))) ∷ []) []
 
   unfoldable pub checkedBy : (ℕ → Server) → Step → List (List ℕ × List ℕ)
-  checkedBy v (write c r n) = []
-  checkedBy v (read c) = []
-  checkedBy v (make c b o) = []
-  checkedBy v (take-reply c p o) = flat clockChecks (onBody clockStamps (decode p))
-  checkedBy v (give-up c) = []
-  checkedBy v (serve b p o) = flat (serverChecks b (v b)) (onBody judged (decode p))
+  checkedBy v x = onStep [] (λ c. []) (λ c p. flat clockChecks (inPacket clockStamps (decode p))) (λ b p. flat (serverChecks b (v b)) (inPacket judged (decode p))) x
 
   unfoldable pub digestedBy : List Stamped → Step → List (List ℕ)
-  digestedBy ms (write c r n) = []
-  digestedBy ms (read c) = []
-  digestedBy ms (make c b o) = []
-  digestedBy ms (take-reply c p o) = flat digestsWith ms ++ onBody fragments (decode p)
-  digestedBy ms (give-up c) = []
-  digestedBy ms (serve b p o) = map (λ c. c .nonce) (onBody judged (decode p))
+  digestedBy ms x = onStep [] (λ c. []) (λ c p. flat digestsWith ms ++ inPacket fragments (decode p)) (λ b p. map (λ c. c .nonce) (inPacket judged (decode p))) x
 
   unfoldable pub noncesBy : Step → List (List ℕ)
-  noncesBy (write c r n) = []
-  noncesBy (read c) = []
-  noncesBy (make c b o) = []
-  noncesBy (take-reply c p o) = []
-  noncesBy (give-up c) = []
-  noncesBy (serve b p o) = map (λ c. c .nonce) (onBody shown (decode p))
+  noncesBy x = onStep [] (λ c. []) (λ c p. []) (λ b p. map (λ c. c .nonce) (inPacket shown (decode p))) x
 
   -- ---- of a step x after the steps xs, by an account. A refused step checks, digests and shows nothing: the premises then ask less
   module _ (A : Account (s .config)) where
