@@ -7,3 +7,6 @@ pub mod Rows
 pub mod Solved
 pub mod Choosing
 pub mod Refused
+pub mod Placed
+pub mod Answers
+pub mod Chosen

@@ -8,7 +8,7 @@ use Rattle.cluster.specs.Config.{Config, shelf}
 use Rattle.cluster.specs.Ranges.{within, leastLength, topLength, topFaults, contentRoom}
 use Rattle.cluster.specs.Refusals.{Check, refuse, firstOf, onRefusal}
 use Rattle.cluster.specs.declared.Outcome.{Outcome}
-use Rattle.erasure.specs.declared.Fragment.{Fragment}
+use Rattle.erasure.specs.declared.FragmentOutcome.{FragmentOutcome}
 use Rattle.erasure.specs.Fragments.{table, fragmentSize, fragment, restored}
 use Rattle.erasure.specs.Choice.{firstDifferent, partsAt}
 
@@ -38,7 +38,7 @@ unfoldable pub fragmentBytes : (t server : ℕ) → List ℕ → List ℕ
 fragmentBytes t server content = fragment (shelf t .points) (shelf t .shares) content server
 
 -- the fragment and its length, padded with 00h to its room; or a refusal
-unfoldable pub fragmentStep : (t server : ℕ) → List ℕ → Fragment
+unfoldable pub fragmentStep : (t server : ℕ) → List ℕ → FragmentOutcome
 fragmentStep t server content =
     onRefusal (fragmentRefusal t server (length content))
     (record {

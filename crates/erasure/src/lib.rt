@@ -15,6 +15,7 @@ ghost use Rattle.erasure.specs.System.{width, AllDifferent};
 
 mod choice;
 mod lanes;
+mod runs;
 mod system;
 
 const WIDTH: usize = system::WIDTH;
@@ -31,7 +32,7 @@ const TOP_LENGTH: usize = 1024;
 const CONTENT_ROOM: usize = 1024;
 
 // A fragment and its length, padded with 00h; or a refusal.
-pub struct Fragment {
+pub struct FragmentOutcome {
     pub number: u8,
     pub count: usize,
     pub bytes: [u8; ROOM],
@@ -139,4 +140,63 @@ fn restore_refusal(t: usize, n: usize, servers: &[u8], given: usize, room: usize
         return 16;
     }
     0
+}
+
+// ---- the operations
+
+// The fragment of a server.
+pub fn fragment(t: usize, server: usize, content: &[u8]) -> FragmentOutcome
+    ensures { λ r. ⌜ r ≡ fragmentStep t server (now (content .entry)) ⌝ }
+{
+    let number = fragment_refusal(t, server, content.len());
+    if number != 0 {
+        return FragmentOutcome {
+            number: number,
+            count: 0,
+            bytes: runs::blank(),
+        };
+    }
+    let k = shares_of(t);
+    let f = size(k, content.len());
+    let bytes = runs::make(k, f, server as u8, content);
+    FragmentOutcome {
+        number: 0,
+        count: f,
+        bytes: bytes,
+    }
+}
+
+// The content of `length` bytes that the fragments of the servers give, which stand one after the other, at the start of out.
+pub fn restore(
+    t: usize,
+    length: usize,
+    servers: &[u8],
+    fragments: &[u8],
+    out: &mut [u8],
+) -> cluster::Outcome
+    ensures { λ r. ⌜ (r, now (out .exit)) ≡ restoreStep t length (now (servers .entry)) (now (fragments .entry)) (now (out .entry)) ⌝ }
+{
+    let number = restore_refusal(t, length, servers, fragments.len(), out.len());
+    if number != 0 {
+        return cluster::Outcome {
+            number: number,
+            count: 0,
+        };
+    }
+    let k = shares_of(t);
+    let c = choice::select(servers, k);
+    let chosen = c.servers;
+    let at = c.at;
+    let count = c.count;
+    if count < k {
+        return cluster::Outcome {
+            number: 16,
+            count: 0,
+        };
+    }
+    runs::rebuild(chosen, at, fragments, k, size(k, length), length, out);
+    cluster::Outcome {
+        number: 0,
+        count: length,
+    }
 }
