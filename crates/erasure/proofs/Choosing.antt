@@ -30,7 +30,7 @@ unfolding among
 among-none b [] h = refl
 among-none b (x ∷ xs) h = ap (λ t. t || among b xs) (ne-eqb x b (h 0 (zero-lt-suc (length xs)))) ∙ among-none b xs (λ i l. h (suc i) (suc-le-suc l))
 
-map-snoc : (g : ℕ → ℕ) (ps : List ℕ) (i : ℕ) → map g (ps ++ (i ∷ [])) ≡ map g ps ++ (g i ∷ [])
+pub map-snoc : (g : ℕ → ℕ) (ps : List ℕ) (i : ℕ) → map g (ps ++ (i ∷ [])) ≡ map g ps ++ (g i ∷ [])
 map-snoc g [] i = refl
 map-snoc g (p ∷ ps) i = ap (λ (t : List ℕ). g p ∷ t) (map-snoc g ps i)
 

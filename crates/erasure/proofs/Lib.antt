@@ -10,3 +10,5 @@ pub mod Refused
 pub mod Placed
 pub mod Answers
 pub mod Chosen
+pub mod Enough
+pub mod Round

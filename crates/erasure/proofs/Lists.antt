@@ -74,7 +74,7 @@ distinct-of (x ∷ xs) h = (
   distinct-of xs (λ i j l b. h (suc i) (suc j) (suc-le-suc l) (suc-le-suc b)),
 )
 
-apart-at : (y : ℕ) (xs : List ℕ) → ApartN y xs → (j : ℕ) → j < length xs → y ≢ getD xs j 0
+pub apart-at : (y : ℕ) (xs : List ℕ) → ApartN y xs → (j : ℕ) → j < length xs → y ≢ getD xs j 0
 apart-at y [] d j h = absurd (not-suc-le-zero h)
 apart-at y (x ∷ xs) d zero h = d .0
 apart-at y (x ∷ xs) d (suc j) h = apart-at y xs (d .1) j (le-of-suc-le-suc h)
