@@ -43,6 +43,20 @@ uint64_t cendrulas_digest(const uint8_t *message, size_t message_len, uint8_t *o
 uint64_t cendrulas_tag(const uint8_t *key, size_t key_len, const uint8_t *message, size_t message_len,
                        uint8_t *out, size_t out_len);
 
+/* A server's fragment of the content: f bytes, f = content_len / (t+1) rounded up; at most 512.
+ * Refusals: 3 where t is outside 1 to 4; 4 where server is outside 1 to 3t+1; 6 where content_len is outside 1 to 1,024;
+ * 15 where out_len < 512, however short the fragment. Writes the fragment; count f. */
+uint64_t cendrulas_fragment(size_t t, size_t server, const uint8_t *content, size_t content_len,
+                            uint8_t *out, size_t out_len);
+
+/* The content of `length` bytes from fragments of the servers named, which stand one after the other in `fragments`, each of f bytes.
+ * The first t+1 different servers are used; a server's second fragment is ignored.
+ * Refusals: 3 where t is outside 1 to 4; 4 where a server is outside 1 to 3t+1; 6 where length is outside 1 to 1,024;
+ * 15 where out_len < 1,024; 16 where fragments_len is not servers_len times f, or fewer than t+1 different servers are named.
+ * Writes the content; count length. */
+uint64_t cendrulas_restore(size_t t, size_t length, const uint8_t *servers, size_t servers_len,
+                           const uint8_t *fragments, size_t fragments_len, uint8_t *out, size_t out_len);
+
 #ifdef __cplusplus
 }
 #endif

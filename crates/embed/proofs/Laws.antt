@@ -1,8 +1,9 @@
 -- What the exported functions share: a copy to the front of a buffer, byte by byte, and what a refused and an accepted call answer and leave.
 -- Assumes nothing.
 use mathlib.Core.Path.{_≡_, refl, sym, ap, _∙_}
+use mathlib.Core.Logic.{_≢_}
 use mathlib.Core.List.{List, [], _∷_, _++_}
-use Prim.Native.Nat.{ℕ, suc, _≤_, _<_}
+use Prim.Native.Nat.{ℕ, zero, suc, _≤_, _<_}
 use native.Mathlib.Nat.{le-of-lt, le-of-eq}
 use lib.ListN.{length, getD, take, drop, set, drop-of-length-le}
 use borrow.Author.Tests.{eq-eqb, ne-eqb, lt-ltb, le-ltb}
@@ -35,6 +36,12 @@ all-of n made bytes e long = ap (λ (d : List ℕ). take n d) e ∙ take-all n b
 pub refused : (n q r : ℕ) (bytes out : List ℕ) → q ≡ suc n → r ≡ packed (suc n) 0 0 0
     → (r ≡ answer q bytes) × (out ≡ written q bytes out)
 refused n q r bytes out e gives = rw e (gives, refl)
+
+-- the same for a number that is only known not to be 0
+pub refused-with : (m q r : ℕ) (bytes out : List ℕ) → q ≡ m → m ≢ 0 → r ≡ packed m 0 0 0
+    → (r ≡ answer q bytes) × (out ≡ written q bytes out)
+refused-with zero q r bytes out e some gives = absurd (some refl)
+refused-with (suc n) q r bytes out e some gives = refused n q r bytes out e gives
 
 pub accepted : (n q r : ℕ) (bytes made out after : List ℕ) → q ≡ 0 → r ≡ packed 0 0 0 n
     → take n made ≡ bytes → length bytes ≡ n → after ≡ take n made ++ drop n out

@@ -1,3 +1,4 @@
 // The library's functions for C and Rust, on numbers and slices only; include/cendrulas.h declares them.
+mod coding;
 mod digests;
 mod pack;
