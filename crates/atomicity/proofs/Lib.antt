@@ -38,3 +38,4 @@ pub mod OneServer
 pub mod Real
 pub mod Settled
 pub mod InWords
+pub mod Playing
