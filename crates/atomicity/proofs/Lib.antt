@@ -39,3 +39,5 @@ pub mod Real
 pub mod Settled
 pub mod InWords
 pub mod Playing
+pub mod Scene
+pub mod Example
