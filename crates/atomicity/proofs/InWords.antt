@@ -49,7 +49,7 @@ rising n m [] t a r i j b = absurd i
 rising n m (c ∷ cs) t a r (inl p) (inl q) b = omega (arith, ap (λ (z : Version). z .number) p, ap (λ (z : Version). z .number) q)
 rising n m (c ∷ cs) t a r (inl p) (inr j) b = omega (arith, ap (λ (z : Version). z .number) p, version-in (n + cond (given (c .wrote)) 1 0) (holds m (c .wrote)) cs r j .1)
 rising n m (c ∷ cs) t a r (inr i) (inl q) b = clash (subst (λ (z : Call). before (a .call) z ≡ true) (ap (λ (z : Version). z .call) q) b)
-  (all-in (λ x. before x c ≡ false) cs (t .0) (a .call) (version-in (n + cond (given (c .wrote)) 1 0) (holds m (c .wrote)) cs a i .0))
+    (all-in (λ x. before x c ≡ false) cs (t .0) (a .call) (version-in (n + cond (given (c .wrote)) 1 0) (holds m (c .wrote)) cs a i .0))
 rising n m (c ∷ cs) t a r (inr i) (inr j) b = rising (n + cond (given (c .wrote)) 1 0) (holds m (c .wrote)) cs (t .1) a r i j b
 
 -- a read shows the content of its version
@@ -82,34 +82,35 @@ module _ (K : Setup) (xs : Steps K) (fair : Fair K xs) where
   pub ended : Ended (K .s) (account (K .s)) (K .correct) xs
   unfolding Ended Settled Progress
   ended a i good stays room answers =
-    let g = known-call K xs fair a i in
-    let settled : Settled K xs a = subst (Settled K xs) (sym (g .2)) (all-settled K xs fair (g .0) (g .1)) in
-    over (or-cases (given (a .over)) (a .gaveUp) (settled (λ n. unfalse _ (λ busy. pending n busy (awaits (hand K xs (a .client))) refl))))
+      let g = known-call K xs fair a i in
+      let settled : Settled K xs a = subst (Settled K xs) (sym (g .2)) (all-settled K xs fair (g .0) (g .1)) in
+      over (or-cases (given (a .over)) (a .gaveUp) (settled (λ n. unfalse _ (λ busy. pending n busy (awaits (hand K xs (a .client))) refl))))
     where
       over : (given (a .over) ≡ true) ⊎ (a .gaveUp ≡ true) → given (a .over) ≡ true
       over (inl k) = k
       over (inr k) = clash k stays
+
       -- the call is in hand, in a round that awaits k
       pending : a .number ≡ calls K xs (a .client) → isIdle (hand K xs (a .client)) ≡ false → (k : ℕ) → awaits (hand K xs (a .client)) ≡ k → ⊥
       pending n busy zero e = in-round (hand K xs (a .client)) busy e
       pending n busy (suc k) e =
-        let A = answers k (once-now _ xs (sym n, e)) in
-        let came = subst (λ (j : ℕ). All (λ b. (K .correct .server b ≡ true) × CameTo (K .s) (account (K .s)) (K .correct) xs (a .client) j (suc k) b) (A .0)) n (A .2) in
-        let came' = subst (λ (j : ℕ). All (λ b. (K .correct .server b ≡ true) × CameTo (K .s) (account (K .s)) (K .correct) xs (a .client) (calls K xs (a .client)) j b) (A .0)) (sym e) came in
-        let z = progress K xs fair (a .client) good busy (inr room) (A .0) (A .1) came' in
-        omega (arith, z, A .3)
+          let A = answers k (once-now _ xs (sym n, e)) in
+          let came = subst (λ (j : ℕ). All (λ b. (K .correct .server b ≡ true) × CameTo (K .s) (account (K .s)) (K .correct) xs (a .client) j (suc k) b) (A .0)) n (A .2) in
+          let came' = subst (λ (j : ℕ). All (λ b. (K .correct .server b ≡ true) × CameTo (K .s) (account (K .s)) (K .correct) xs (a .client) (calls K xs (a .client)) j b) (A .0)) (sym e) came in
+          let z = progress K xs fair (a .client) good busy (inr room) (A .0) (A .1) came' in
+          omega (arith, z, A .3)
 
 -- ---- on bytes, with the real functions
 
 on-values : (s : System) → Legal (s .config) → Laws s → (correct : Correct) → Parties (s .config) correct → (l : List (Typed (s .config))) → Always (Premise s (byValues (s .P) (s .config) (s .writers) (s .keys)) correct) l →
-  NeverOlder (log (byValues (s .P) (s .config) (s .writers) (s .keys)) l) × Ended s (byValues (s .P) (s .config) (s .writers) (s .keys)) correct l
+    NeverOlder (log (byValues (s .P) (s .config) (s .writers) (s .keys)) l) × Ended s (byValues (s .P) (s .config) (s .writers) (s .keys)) correct l
 unfolding byValues
 on-values s legal laws correct parties l fair =
-  let K : Setup = record { s = s; legal = legal; laws = laws; correct = correct; parties = parties } in
-  (never-older (Log K l), ended K l fair)
+    let K : Setup = record { s = s; legal = legal; laws = laws; correct = correct; parties = parties } in
+    (never-older (Log K l), ended K l fair)
 
 pub page-41 : Page41
 unfolding Page41
 page-41 sh lo hi correct parties = claimed real real-lengths sh (lo, hi)
-  (λ A. (l : List (Typed (systemOf sh .config))) → Always (Premise (systemOf sh) A correct) l → NeverOlder (log A l) × Ended (systemOf sh) A correct l)
-  (on-values (systemOf sh) (legal-shelf (sh .t) lo hi) (real-laws sh lo hi) correct parties)
+    (λ A. (l : List (Typed (systemOf sh .config))) → Always (Premise (systemOf sh) A correct) l → NeverOlder (log A l) × Ended (systemOf sh) A correct l)
+    (on-values (systemOf sh) (legal-shelf (sh .t) lo hi) (real-laws sh lo hi) correct parties)

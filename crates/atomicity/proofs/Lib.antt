@@ -38,3 +38,6 @@ pub mod OneServer
 pub mod Real
 pub mod Settled
 pub mod InWords
+pub mod Playing
+pub mod Scene
+pub mod Example
