@@ -75,28 +75,28 @@ fn body_field(s: &[u8], c: Cursor, kind: u8, t: u8) -> Field
     ensures { λ r. ⌜ BodyAs (shelf t) kind (now (s .entry)) (c .at) r ⌝ }
 {
     if kind == 2 {
-        return any_stamp_field(s, c);
+        return any_stamp_field(s, c); // clock reply: a stamp, or the blank
     }
     if kind == 3 {
-        return write_field(s, c, t);
+        return write_field(s, c, t); // store: a stored write
     }
     if kind == 4 {
-        return code_field(s, c);
-    }
-    if kind == 5 {
-        return candidate_field(s, c, t);
+        return code_field(s, c); // store reply: 0, 10 or 11
     }
     if kind == 8 {
-        return any_candidate_field(s, c, t);
+        return any_candidate_field(s, c, t); // collect reply: a candidate, or the blank
+    }
+    if kind == 5 {
+        return candidate_field(s, c, t); // complete: a candidate
     }
     if kind == 9 {
-        return candidates_field(s, c, t);
+        return candidates_field(s, c, t); // filter: a list of candidates
     }
     if kind == 10 {
-        return held_field(s, c, t);
+        return held_field(s, c, t); // filter reply: what is held for a stamp, or the blank
     }
     if kind == 11 {
-        return candidate_field(s, c, t);
+        return candidate_field(s, c, t); // repair: a candidate
     }
     Field::Value(0, c)
 }

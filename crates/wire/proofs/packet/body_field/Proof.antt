@@ -34,17 +34,21 @@ code-field-requires c κs = search needs
 returns-3 : tie.Need-returns-3
 returns-3 c = let a = c .before .before .before .before .before .args in store-reply-as (shelf (a .t)) (a .s .now) (a .c .at) (a .kind) (c .code-field .result) (omega arith) (c .code-field .ensures)
 
-candidate-field-requires : tie.Need-candidate-field-requires
-candidate-field-requires c κs = search needs
-
-returns-4 : tie.Need-returns-4
-returns-4 c = let a = c .before .before .before .before .before .before .args in complete-as (shelf (a .t)) (a .s .now) (a .c .at) (a .kind) (c .candidate-field .result) (omega arith) (c .candidate-field .ensures)
-
 any-candidate-field-requires : tie.Need-any-candidate-field-requires
 any-candidate-field-requires c κs = search needs
 
+returns-4 : tie.Need-returns-4
+returns-4 c =
+    let a = c .before .before .before .before .before .before .args in
+    collect-reply-as (shelf (a .t)) (a .s .now) (a .c .at) (a .kind) (c .any-candidate-field .result) (omega arith) (c .any-candidate-field .ensures)
+
+candidate-field-requires : tie.Need-candidate-field-requires
+candidate-field-requires c κs = search needs
+
 returns-5 : tie.Need-returns-5
-returns-5 c = let a = c .before .before .before .before .before .before .before .args in collect-reply-as (shelf (a .t)) (a .s .now) (a .c .at) (a .kind) (c .any-candidate-field .result) (omega arith) (c .any-candidate-field .ensures)
+returns-5 c =
+    let a = c .before .before .before .before .before .before .before .args in
+    complete-as (shelf (a .t)) (a .s .now) (a .c .at) (a .kind) (c .candidate-field .result) (omega arith) (c .candidate-field .ensures)
 
 candidates-field-requires : tie.Need-candidates-field-requires
 candidates-field-requires c κs = search needs
@@ -65,7 +69,7 @@ returns-8 : tie.Need-returns-8
 returns-8 c = let a = c .before .before .before .before .before .before .before .before .before .before .args in repair-as (shelf (a .t)) (a .s .now) (a .c .at) (a .kind) (c .candidate-field2 .result) (omega arith) (c .candidate-field2 .ensures)
 
 returns-9 : tie.Need-returns-9
-returns-9 c = let p = c .before .before .before .before .before .before .before .before .before .pre in let a = c .before .before .before .before .before .before .before .before .before .args in bare-as (shelf (a .t)) (a .s .now) (a .c .at) (p .2) (a .kind) (p .0) (p .1) (c .before .before .before .before .before .before .before .if1 .left) (c .before .before .before .before .before .before .if2 .left) (c .before .before .before .before .before .if3 .left) (c .before .before .before .before .if4 .left) (c .before .before .before .if5 .left) (c .before .before .if6 .left) (c .before .if7 .left) (c .if8 .left)
+returns-9 c = let p = c .before .before .before .before .before .before .before .before .before .pre in let a = c .before .before .before .before .before .before .before .before .before .args in bare-as (shelf (a .t)) (a .s .now) (a .c .at) (p .2) (a .kind) (p .0) (p .1) (c .before .before .before .before .before .before .before .if1 .left) (c .before .before .before .before .before .before .if2 .left) (c .before .before .before .before .before .if3 .left) (c .before .before .before .if5 .left) (c .before .before .before .before .if4 .left) (c .before .before .if6 .left) (c .before .if7 .left) (c .if8 .left)
 
 pub body-field-spec : {M : Type 1} → statement M
 body-field-spec =
@@ -77,9 +81,9 @@ body-field-spec =
     returns-2
     code-field-requires
     returns-3
-    candidate-field-requires
-    returns-4
     any-candidate-field-requires
+    returns-4
+    candidate-field-requires
     returns-5
     candidates-field-requires
     returns-6
