@@ -4,7 +4,7 @@
 use mathlib.Core.Path.{_≡_, refl, sym, ap, _∙_}
 use mathlib.Core.List.{List, _++_}
 use mathlib.Core.Option.{some}
-use Prim.Native.Nat.{ℕ, _≤_, _<_}
+use Prim.Native.Nat.{ℕ, _≤_}
 use native.Mathlib.Omega.{arith}
 use lib.ListN.{length, drop}
 use lib.Seq.{drop-at}
@@ -15,11 +15,9 @@ use Rattle.protocol.specs.declared.Head.{Head}
 use Rattle.protocol.specs.Format.{Bytes, keep, via, seq, byte, number4}
 use Rattle.protocol.specs.Packet.{Packet, printBody, headF, headSize, bodyF, packetF, decode, encode, PacketOk}
 use Rattle.protocol.specs.ServerBytes.{over}
-use Rattle.protocol.specs.ClientBytes.{Written}
 use Rattle.protocol.proofs.Bodies.{decode-ok, encode-decode}
 use Rattle.protocol.proofs.Packets.{head-length}
 use Rattle.protocol.proofs.PacketRoom.{packet-room}
-use Rattle.wire.specs.Places.{bodyAt, packetAt}
 use Rattle.wire.specs.Make.{writeStep, packetStep}
 
 -- ---- what was let through
