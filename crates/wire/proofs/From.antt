@@ -1,15 +1,15 @@
 -- Places counted from another place: what stands n bytes after `at` stands at n in the bytes from `at` on.
 -- Assumes nothing.
-use mathlib.Core.Path.{_≡_, refl, sym, ap, _∙_}
+use mathlib.Core.Path.{_≡_, sym, ap, _∙_}
 use mathlib.Core.Bool.{true}
-use mathlib.Core.List.{List, _++_}
+use mathlib.Core.List.{List}
 use Prim.Native.Nat.{ℕ, _+_, _≤_, _<_}
 use native.Mathlib.Omega.{arith}
 use lib.ListN.{length, take, drop, getD, replicate, take-append-drop, getD-replicate}
 use lib.Seq.{drop-drop, getD-drop, getD-take, length-take-le, drop-append-le, take-append-le}
 use Rattle.hmac.specs.Hmac.{tagSize}
 use Rattle.cluster.specs.Config.{Config}
-use Rattle.protocol.specs.Format.{zeros, value4}
+use Rattle.protocol.specs.Format.{zeros}
 use Rattle.protocol.specs.Values.{stampSize, nonceSize, tagsSize, candidateSize, blankStamp, blankCandidate}
 use Rattle.protocol.specs.View.{part, stampAt, candidateAt}
 use Rattle.protocol.proofs.Answers.{zeros-only}

@@ -1,14 +1,12 @@
 -- A packet's head is let through field by field; its last rule is that the server is one of the shelf's.
 -- Assumes nothing.
-use mathlib.Core.Path.{_≡_, refl, sym, ap, _∙_, subst}
+use mathlib.Core.Path.{refl, sym, subst}
 use mathlib.Core.List.{List}
 use Prim.Native.Nat.{ℕ, _+_, _*_, _≤_, _<_}
 use native.Mathlib.Omega.{arith}
-use lib.ListN.{length, drop}
 use borrow.Author.Tests.{le-leb, lt-leb}
 use Rattle.cluster.specs.Config.{shelf}
 use Rattle.cluster.specs.Ranges.{topClient, mostServers, topFaults, topNumber}
-use Rattle.protocol.specs.declared.Head.{Head}
 use Rattle.protocol.specs.Format.{Fmt, byte}
 use Rattle.protocol.specs.Packet.{headF, headSize}
 use Rattle.protocol.specs.Reading.{Leaves, Stops}

@@ -4,16 +4,17 @@
 use mathlib.Core.Path.{_≡_, refl, sym, ap, _∙_}
 use mathlib.Core.Bool.{Bool, true, false, _&&_}
 use mathlib.Core.List.{List, [], _∷_}
-use Prim.Native.Nat.{ℕ, zero, suc, _+_, _*_, _≤_, _<_}
+use Prim.Native.Nat.{ℕ, zero, suc, _+_, _≤_, _<_}
 use native.Mathlib.Omega.{arith}
 use native.Mathlib.Numerals.{add-one}
-use lib.Bits.{bitOr, bitAnd, bitXor, or-zero-l, or-add-and, and-le-l, and-le-r, xor-self, xor-add-and}
+use lib.Bits.{bitOr, bitXor, or-zero-l, or-add-and, and-le-l, and-le-r, xor-self, xor-add-and}
 use lib.Dec.{eqb}
 use lib.ListN.{length, getD, drop, drop-of-length-le}
 use lib.Seq.{drop-cons}
 use borrow.Author.Tests.{eq-eqb, ne-eqb, eqb-true, eqb-false}
 use Rattle.protocol.specs.Format.{zeros}
 use Rattle.protocol.specs.Values.{sameList}
+use Rattle.protocol.proofs.Equal.{same-true}
 
 and-true : (p : Bool) → p && true ≡ p
 and-true true = refl
@@ -53,6 +54,13 @@ lengths-differ [] [] h = absurd (h refl)
 lengths-differ [] (y ∷ ys) h = refl
 lengths-differ (x ∷ xs) [] h = refl
 lengths-differ (x ∷ xs) (y ∷ ys) h = ap (λ (z : Bool). eqb x y && z) (lengths-differ xs ys (λ e. h (ap suc e))) ∙ and-false (eqb x y)
+
+pub byte-differs : (a b : List ℕ) (i : ℕ) → (getD a i 0 ≡ getD b i 0 → ⊥) → sameList a b ≡ false
+byte-differs a b i h = by (sameList a b) refl
+  where
+    by : (t : Bool) → sameList a b ≡ t → t ≡ false
+    by true e = absurd (h (ap (λ (x : List ℕ). getD x i 0) (same-true a b e)))
+    by false e = refl
 
 module _ (a b : List ℕ) (i : ℕ) where
   pub same-more : (all : ℕ) → i < length a → i < length b

@@ -2,12 +2,12 @@
 -- Each parser looks at the bytes that stand there, so one look at the front of the list tells its answer.
 -- Assumes nothing.
 use mathlib.Core.Path.{_≡_, refl, sym, ap, _∙_, subst}
-use mathlib.Core.Option.{Option, none, some}
+use mathlib.Core.Option.{none, some}
 use mathlib.Core.List.{List, [], _∷_}
-use Prim.Native.Nat.{ℕ, suc, _+_, _-_, _*_, _≤_, _<_}
+use Prim.Native.Nat.{ℕ, suc, _+_, _-_, _≤_, _<_}
 use native.Mathlib.Omega.{arith}
 use native.Mathlib.Numerals.{add-one, add-two, add-three, add-four}
-use lib.ListN.{length, getD, take, drop, drop-of-length-le, length-drop}
+use lib.ListN.{length, getD, drop, drop-of-length-le, length-drop}
 use lib.Seq.{drop-cons, drop-drop, length-take-le, getD-drop}
 use lib.Dec.{leb}
 use borrow.Author.Tests.{le-leb, lt-leb}
@@ -15,7 +15,7 @@ use Rattle.protocol.specs.Format.{Fmt, guard, parse2, parse4, value2, value4, r
 use Rattle.protocol.specs.View.{part}
 use Rattle.protocol.specs.Reading.{Leaves, Stops}
 use Rattle.wire.specs.Places.{lengthAt}
-use Rattle.wire.specs.Reads.{Layout, Took, Past, numberL, first, four, byteL, number2L, number4L}
+use Rattle.wire.specs.Reads.{Took, Past, numberL, first, four, byteL, number2L, number4L}
 
 -- ---- numbers
 

@@ -1,21 +1,21 @@
 -- A run of candidates is let through one by one: what was let through is a run, one more lengthens it, and one that stops breaks the longer run.
 -- With its count before it, it is a list.
 -- Assumes nothing.
-use mathlib.Core.Path.{_≡_, refl, sym, ap, ap₂, _∙_, subst}
+use mathlib.Core.Path.{_≡_, ap, _∙_, subst}
 use mathlib.Core.List.{List, [], _∷_, _++_}
-use mathlib.Core.Option.{Option, none, some}
+use mathlib.Core.Option.{none, some}
 use Prim.Native.Nat.{ℕ, zero, suc, _+_, _-_, _*_, _≤_, _<_}
 use native.Mathlib.Omega.{arith}
 use native.Mathlib.Nat.{mul-suc}
 use native.Mathlib.Numerals.{add-one}
-use lib.ListN.{length, drop, getD}
+use lib.ListN.{length, drop}
 use Rattle.cluster.specs.Config.{Config}
 use Rattle.protocol.specs.Format.{Fmt, andThen, parseMany, byte, many}
 use Rattle.protocol.specs.Values.{Candidate, candidateSize}
 use Rattle.protocol.specs.Packet.{candidateF, candidatesF}
 use Rattle.protocol.specs.View.{candidateAt}
 use Rattle.protocol.specs.Reading.{Leaves, Stops}
-use Rattle.protocol.proofs.Answers.{same-value, same-rest, andThen-some}
+use Rattle.protocol.proofs.Answers.{same-rest, andThen-some}
 use Rattle.protocol.proofs.Leaves.{leaves-none, leaves-seq, leaves-via, stops-via, stops-first, stops-second}
 use Rattle.protocol.proofs.Walks.{many-count, many-snoc}
 use Rattle.wire.specs.Places.{candidateList}

@@ -1,23 +1,23 @@
 -- What may be there or not: a share after a stamp, told by a byte; and the answers to a store, of which some bytes are none.
 -- Assumes nothing.
-use mathlib.Core.Path.{_≡_, refl, sym, ap, ap₂, _∙_, subst}
+use mathlib.Core.Path.{_≡_, refl, sym, ap, _∙_, subst}
 use mathlib.Core.Bool.{Bool, true, false, cond, _||_}
 use mathlib.Core.List.{List}
-use mathlib.Core.Option.{Option, none, some}
+use mathlib.Core.Option.{none, some}
 use Prim.Native.Nat.{ℕ, zero, suc, _+_, _≤_, _<_}
 use native.Mathlib.Omega.{arith}
 use lib.Dec.{leb, eqb}
-use lib.ListN.{length, drop, getD}
+use lib.ListN.{drop, getD}
 use borrow.Author.Tests.{eq-eqb, ne-eqb, le-leb, lt-leb}
 use Rattle.cluster.specs.Config.{Config}
 use Rattle.protocol.specs.Format.{byte}
-use Rattle.protocol.specs.Values.{Share, Held, stampSize}
+use Rattle.protocol.specs.Values.{Held, stampSize}
 use Rattle.protocol.specs.Packet.{shareF, heldF, heldMost, codeF}
 use Rattle.protocol.specs.View.{stampAt, shareAt, heldAt}
 use Rattle.protocol.specs.Reading.{Leaves, Stops}
-use Rattle.protocol.proofs.Leaves.{leaves-seq, leaves-via, stops-via, stops-first, stops-second, leaves-keep, stops-test, leaves-absent, leaves-present, stops-flag, stops-present}
+use Rattle.protocol.proofs.Leaves.{leaves-seq, leaves-via, stops-via, stops-second, leaves-keep, stops-test, leaves-absent, leaves-present, stops-flag, stops-present}
 use Rattle.wire.specs.Places.{lengthAt, shareSize, heldSize}
-use Rattle.wire.specs.Reads.{Took, first, byteL, anyStampL, shareL, heldL, codeL}
+use Rattle.wire.specs.Reads.{Took, byteL, anyStampL, shareL, heldL, codeL}
 use Rattle.wire.proofs.From.{drop-from, first-from}
 
 -- ---- a byte that is at most 1

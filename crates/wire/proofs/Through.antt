@@ -2,29 +2,25 @@
 -- Each format is a sequence, so its value is the tuple of its fields' values, and these stand one after the other.
 -- Assumes nothing.
 use mathlib.Core.Path.{_≡_, refl, sym, ap, ap₂, _∙_, subst}
-use mathlib.Core.Bool.{Bool, true, false, cond, _||_}
-use mathlib.Core.List.{List, [], _∷_, _++_}
-use mathlib.Core.Option.{Option, none, some}
-use Prim.Native.Nat.{ℕ, suc, _+_, _-_, _*_, _≤_, _<_}
+use mathlib.Core.Bool.{true}
+use mathlib.Core.List.{List}
+use Prim.Native.Nat.{ℕ, _+_, _-_, _≤_}
 use native.Mathlib.Omega.{arith}
 use native.Mathlib.Nat.{add-assoc}
-use lib.Dec.{leb, eqb}
-use lib.ListN.{length, take, drop, getD}
-use borrow.Author.Tests.{eq-eqb, ne-eqb, le-leb, lt-leb}
+use lib.ListN.{length, take, drop}
 use Rattle.cluster.specs.Config.{Config}
 use Rattle.cluster.specs.Ranges.{topNumber, topWriter, leastLength, topLength}
 use Rattle.hmac.specs.Hmac.{tagSize}
 use Rattle.erasure.specs.Fragments.{fragmentSize}
 use Rattle.protocol.specs.declared.Stamp.{Stamp}
-use Rattle.protocol.specs.Format.{zeros, byte, number2, number4, run, many}
-use Rattle.protocol.specs.Values.{Candidate, Share, Held, stampSize, nonceSize, digestSize, digestsSize, tagsSize, candidateSize, blankStamp, blankCandidate}
-use Rattle.protocol.specs.Packet.{stampF, anyStampF, shareF, writeF, candidateF, anyCandidateF, candidatesF, heldF, heldMost, codeF}
-use Rattle.protocol.specs.View.{part, stampAt, candidateAt, shareAt, shareOfSize, heldAt}
+use Rattle.protocol.specs.Format.{zeros, run}
+use Rattle.protocol.specs.Values.{Candidate, Share, stampSize, nonceSize, digestSize, digestsSize, tagsSize, candidateSize, blankStamp, blankCandidate}
+use Rattle.protocol.specs.Packet.{stampF, anyStampF, shareF, writeF, candidateF, anyCandidateF}
+use Rattle.protocol.specs.View.{part, stampAt, candidateAt, shareAt, shareOfSize}
 use Rattle.protocol.specs.Reading.{Leaves, Stops}
-use Rattle.protocol.proofs.Leaves.{leaves-seq, leaves-via, stops-via, stops-first, stops-second, leaves-keep, stops-test, leaves-some, leaves-blank, stops-short, leaves-absent, leaves-present, stops-flag, stops-present}
-use Rattle.protocol.proofs.Walks.{many-count}
-use Rattle.wire.specs.Places.{lengthAt, shareSize, writeAt, candidateList, heldSize}
-use Rattle.wire.specs.Reads.{Took, Past, first, four, byteL, number2L, number4L, stampL, anyStampL, shareL, writeL, candidateL, anyCandidateL, candidatesL, heldL, codeL}
+use Rattle.protocol.proofs.Leaves.{leaves-seq, leaves-via, stops-via, stops-first, stops-second, leaves-some, leaves-blank, stops-short}
+use Rattle.wire.specs.Places.{lengthAt, shareSize, writeAt}
+use Rattle.wire.specs.Reads.{Took, Past, four, byteL, number2L, number4L, stampL, anyStampL, shareL, writeL, candidateL, anyCandidateL}
 use Rattle.wire.proofs.Leaf.{number4-end}
 use Rattle.wire.proofs.From.{drop-from, part-from, first-from, blank-stamp, blank-candidate}
 

@@ -1,6 +1,6 @@
 -- From a body's fields to the body of its kind, and from head and body to the packet.
 -- Assumes nothing.
-use mathlib.Core.Path.{_≡_, refl, sym, ap, _∙_, subst}
+use mathlib.Core.Path.{_≡_, refl, sym, subst}
 use mathlib.Core.Bool.{Bool, true, false, cond}
 use mathlib.Core.List.{List, []}
 use mathlib.Core.Option.{none, some}
@@ -8,23 +8,21 @@ use Prim.Native.Nat.{ℕ, _+_, _≤_, _<_}
 use native.Mathlib.Omega.{arith}
 use lib.Dec.{eqb}
 use lib.ListN.{length, drop, getD}
-use lib.Seq.{getD-drop}
-use borrow.Author.Tests.{eq-eqb, ne-eqb, eqb-true, eqb-false}
+use borrow.Author.Tests.{ne-eqb, eqb-true, eqb-false}
 use Rattle.cluster.specs.Config.{Config, shelf}
 use Rattle.protocol.specs.declared.Head.{Head}
 use Rattle.protocol.specs.Format.{byte, empty, seq, via, keep}
 use Rattle.protocol.specs.Values.{stampSize}
-use Rattle.protocol.specs.Packet.{Body, clock, clockReply, store, storeReply, complete, completeReply, collect, collectReply, filter, filterReply, repair, repairReply, Packet, headF, headSize, bodyF, packetF, decode}
+use Rattle.protocol.specs.Packet.{Body, headF, headSize, bodyF, packetF, decode}
 use Rattle.protocol.specs.View.{shareAt, heldAt}
 use Rattle.protocol.specs.Reading.{Leaves, Stops}
 use Rattle.protocol.proofs.Leaves.{leaves-seq, leaves-via, stops-via, stops-second}
 use Rattle.protocol.proofs.Bodies.{Kind, clock-kind, clock-reply-kind, store-kind, store-reply-kind, complete-kind, complete-reply-kind, collect-kind, collect-reply-kind, filter-kind, filter-reply-kind, repair-kind, repair-reply-kind}
 use Rattle.protocol.proofs.Whole.{body-leaves, body-stops, decoded, refused, trailing}
 use Rattle.wire.specs.Places.{bodyAt, packetAt, writeAt, fragmentHeld, fragmentOf, fragmentIn}
-use Rattle.wire.specs.Reads.{Layout, Took, Past, FieldAs, BodyAs, anyStampL, writeL, codeL, candidateL, anyCandidateL, candidatesL, heldL}
+use Rattle.wire.specs.Reads.{Layout, Past, FieldAs, BodyAs, anyStampL, writeL, codeL, candidateL, anyCandidateL, candidatesL, heldL}
 use Rattle.wire.specs.declared.fields.Field.{Field}
 use Rattle.wire.specs.declared.fields.Field.the-variants as field
-use Rattle.wire.proofs.From.{drop-from}
 
 -- ---- bodies
 

@@ -1,16 +1,15 @@
 -- What each reader's answer says of the bytes from a place on. A reader answers `Broken` exactly where its format takes nothing;
 -- that is document 01's refusal 7. Otherwise it answers a number, and the cursor past the field: the field's value is known by its place.
 use mathlib.Core.Path.{_≡_}
-use mathlib.Core.List.{List, []}
+use mathlib.Core.List.{List}
 use mathlib.Core.Logic.{_⊎_}
 use mathlib.Core.Option.{none, some}
 use mathlib.Core.Bool.{true, false}
 use Prim.Native.Nat.{ℕ, _+_, _-_, _*_, _≤_, _<_}
 use lib.ListN.{length, take, drop, getD}
 use Rattle.cluster.specs.Config.{Config}
-use Rattle.cluster.specs.Ranges.{leastLength, topLength}
 use Rattle.protocol.specs.declared.Stamp.{Stamp}
-use Rattle.protocol.specs.Format.{Fmt, zeros, value2, value4, byte, number2, number4, run, many}
+use Rattle.protocol.specs.Format.{Fmt, zeros, value4, byte, number2, number4, run, many}
 use Rattle.protocol.specs.Values.{Candidate, Share, Write, Held, stampSize, candidateSize}
 use Rattle.protocol.specs.Packet.{headF, headSize, stampF, anyStampF, shareF, writeF, candidateF, anyCandidateF, candidatesF, heldF, codeF, bodyF, decode}
 use Rattle.protocol.specs.View.{part, stampAt, candidateAt, shareAt, heldAt}

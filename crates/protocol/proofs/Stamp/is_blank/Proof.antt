@@ -1,3 +1,5 @@
+-- The blank stamp is the one of number 0.
+-- Assumes nothing.
 use borrow.Author.Needs.{needs}
 use Rattle.protocol.specs.Values.{isBlank}
 use Rattle.protocol.proofs.Stamp.is_blank.Statement.{statement}

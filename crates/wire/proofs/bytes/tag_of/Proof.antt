@@ -1,8 +1,7 @@
 -- The first bytes by value: no more than the part is needed.
 -- Assumes nothing.
 use borrow.Author.Needs.{needs}
-use mathlib.Core.Path.{_≡_, sym, ap, _∙_}
-use native.Mathlib.Omega.{arith}
+use mathlib.Core.Path.{ap, _∙_}
 use Rattle.hmac.specs.Hmac.{tagSize}
 use Rattle.wire.specs.Places.{padded}
 use Rattle.wire.proofs.Runs.{part-most, padded-cut}

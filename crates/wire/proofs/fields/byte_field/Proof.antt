@@ -1,3 +1,5 @@
+-- A byte is let through where it is there and in its range.
+-- Assumes nothing.
 use borrow.Author.Needs.{needs}
 use native.Mathlib.Omega.{arith}
 use Rattle.wire.proofs.Leaf.{byte-end, byte-low, byte-high, byte-in}

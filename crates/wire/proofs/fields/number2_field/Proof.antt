@@ -1,3 +1,5 @@
+-- A number of two bytes is let through where they are there and it is in its range.
+-- Assumes nothing.
 use borrow.Author.Needs.{needs}
 use native.Mathlib.Omega.{arith}
 use Rattle.wire.proofs.Leaf.{number2-end, number2-low, number2-high, number2-in}

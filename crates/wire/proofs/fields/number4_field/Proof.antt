@@ -1,3 +1,5 @@
+-- A number of four bytes is let through where they are there and it is in its range.
+-- Assumes nothing.
 use borrow.Author.Needs.{needs}
 use native.Mathlib.Omega.{arith}
 use Rattle.wire.proofs.Leaf.{number4-end, number4-low, number4-high, number4-in}

@@ -1,3 +1,5 @@
+-- A run is let through where so many bytes are there.
+-- Assumes nothing.
 use borrow.Author.Needs.{needs}
 use native.Mathlib.Omega.{arith}
 use Rattle.wire.proofs.Leaf.{run-past, run-in}

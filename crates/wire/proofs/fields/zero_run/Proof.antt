@@ -1,3 +1,5 @@
+-- A run of zeros is let through where so many bytes are there and none of them is another.
+-- Assumes nothing.
 use borrow.Author.Needs.{needs}
 use native.Mathlib.Omega.{arith}
 use mathlib.Core.Path.{_≡_, refl, sym, _∙_}

@@ -1,8 +1,9 @@
+-- A copy byte by byte: after i turns the first i bytes are pasted over the buffer.
+-- Assumes nothing.
 use native.Mathlib.Omega.{arith}
-use borrow.Author.Needs.{needs}
-use mathlib.Core.Path.{_≡_, refl, ap, _∙_, sym}
+use mathlib.Core.Path.{_≡_, ap, _∙_, sym}
 use Prim.Native.Nat.{ℕ, _≤_, _-_, _+_}
-use lib.ListN.{length, set, getD, length-set}
+use lib.ListN.{length, set, getD}
 use lib.Seq.{paste, paste-zero, paste-suc, length-paste}
 use native.Mathlib.Numerals.{add-one}
 use mathlib.Core.List.{List}

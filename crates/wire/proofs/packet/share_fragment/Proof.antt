@@ -1,10 +1,6 @@
 -- The fragment stands after the length, which tells how long it is.
 -- Assumes nothing.
 use borrow.Author.Needs.{needs}
-use mathlib.Core.Path.{ap, _∙_}
-use Prim.Native.Nat.{ℕ}
-use Rattle.cluster.specs.Config.{shelf}
-use Rattle.erasure.specs.Fragments.{fragmentSize}
 use Rattle.protocol.specs.View.{part, shareAt, shareOfSize}
 use Rattle.wire.proofs.packet.share_fragment.Statement.{statement}
 use Rattle.wire.proofs.packet.share_fragment.Tie as tie

@@ -1,6 +1,5 @@
 -- The highest byte after a stamp.
 -- Assumes nothing.
-use mathlib.Core.Path.{sym}
 use native.Mathlib.Omega.{arith}
 use borrow.Author.Tests.{eq-eqb, ne-eqb}
 use Rattle.wire.proofs.parts.held_most.Statement.{statement}

@@ -1,7 +1,7 @@
 -- A share is let through by its length, which tells the length of the fragment, and by its four runs.
 -- Assumes nothing.
 use borrow.Author.Needs.{needs}
-use Rattle.protocol.proofs.Leaves.{stops-first, stops-second, stops-via}
+use Rattle.protocol.proofs.Leaves.{stops-first, stops-via}
 use Rattle.cluster.specs.Config.{shelf}
 use Rattle.protocol.specs.Packet.{shareF}
 use Rattle.wire.proofs.Through.{share-took, share-stops1, share-stops2, share-stops3, share-stops4}
