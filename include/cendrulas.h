@@ -57,6 +57,9 @@ uint64_t cendrulas_fragment(size_t t, size_t server, const uint8_t *content, siz
 uint64_t cendrulas_restore(size_t t, size_t length, const uint8_t *servers, size_t servers_len,
                            const uint8_t *fragments, size_t fragments_len, uint8_t *out, size_t out_len);
 
+/* Whether bytes are a packet. 7 where they break the layout. Writes nothing; count 0. */
+uint64_t cendrulas_packet_check(const uint8_t *packet, size_t packet_len);
+
 #ifdef __cplusplus
 }
 #endif

@@ -1,3 +1,4 @@
 pub mod Packing
 pub mod Digests
 pub mod Coding
+pub mod Packets

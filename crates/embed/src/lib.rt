@@ -2,3 +2,4 @@
 mod coding;
 mod digests;
 mod pack;
+mod packets;

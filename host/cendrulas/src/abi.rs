@@ -38,6 +38,11 @@ extern "C" {
     ) -> u64;
 }
 
+#[cfg(feature = "wire")]
+extern "C" {
+    pub fn cendrulas_packet_check(packet: *const u8, packet_len: usize) -> u64;
+}
+
 #[cfg(feature = "server")]
 extern "C" {
     pub fn cendrulas_server_blank(memory: *mut u8, memory_len: usize, t: usize, server: usize) -> u64;

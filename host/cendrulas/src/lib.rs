@@ -12,6 +12,11 @@ mod coding;
 #[cfg(feature = "coding")]
 pub use coding::{fragment, restore};
 
+#[cfg(feature = "wire")]
+mod packets;
+#[cfg(feature = "wire")]
+pub use packets::packet_check;
+
 #[cfg(feature = "server")]
 mod server;
 #[cfg(feature = "server")]

@@ -14,6 +14,8 @@ mod coding;
 mod server;
 #[cfg(feature = "drill")]
 mod sheets;
+#[cfg(feature = "wire")]
+mod packets;
 
 #[cfg(feature = "client")]
 pub use client::drill_keys;
@@ -23,6 +25,8 @@ pub fn all(run: &mut Run, folder: &Path) {
     run.group("tags.txt", |run| tags::tags(run, &vectors));
     #[cfg(feature = "coding")]
     coding::all(run, &vectors);
+    #[cfg(feature = "wire")]
+    run.group("packets.txt", |run| packets::packets(run, &vectors));
     #[cfg(feature = "server")]
     server::all(run, &vectors);
     #[cfg(feature = "client")]

@@ -1,4 +1,4 @@
-//! Packets, memories and steps of a server.
+//! Memories and steps of a server.
 
 use super::due;
 use crate::check::{Run, Seen, FILLER};
@@ -9,21 +9,8 @@ use std::path::Path;
 const MEMORY: usize = 40_960;
 
 pub fn all(run: &mut Run, folder: &Path) {
-    run.group("packets.txt", |run| packets(run, folder));
     run.group("boxcheck.txt", |run| memories(run, folder));
     run.group("boxes.txt", |run| steps(run, folder));
-}
-
-/// A server looks at a packet's layout before anything else of it: 7, or any other answer.
-fn packets(run: &mut Run, folder: &Path) {
-    let mut memory = vec![0; MEMORY];
-    server_blank(&mut memory, 1, 1);
-    each_line(folder, "packets.txt", |line| {
-        let answer = server_take(&mut memory, &[1; 32], &raw(line.left[1]), &mut []);
-        let code: u8 = if answer.refusal == 7 { 7 } else { 0 };
-        let want = number(line.right[0]);
-        run.same(|| line.place.clone(), Seen { answer: code, buffers: &[] }, Seen { answer: want, buffers: &[] });
-    });
 }
 
 /// No packet breaks its layout as much as the empty one: 1 or 2 for the memory, or 7 where it is a server's.

@@ -1,0 +1,10 @@
+-- Whether bytes are a packet: 0, or refusal 7.
+use mathlib.Core.Bool.{not}
+use mathlib.Core.List.{List, [], _∷_}
+use Prim.Native.Nat.{ℕ}
+use Rattle.cluster.specs.Refusals.{refuse, firstOf}
+use Rattle.protocol.specs.Values.{isSome}
+use Rattle.protocol.specs.Packet.{decode}
+
+unfoldable pub packetRefusal : List ℕ → ℕ
+packetRefusal b = firstOf (refuse 7 (not (isSome (decode b))) ∷ [])
