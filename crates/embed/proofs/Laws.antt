@@ -9,7 +9,7 @@ use lib.ListN.{length, getD, take, drop, set, drop-of-length-le}
 use borrow.Author.Tests.{eq-eqb, ne-eqb, lt-ltb, le-ltb}
 use lib.Seq.{length-take-le, take-suc, take-all, drop-cons, append-snoc, set-at}
 use mathlib.Core.List.{append-nil}
-use Rattle.hmac.specs.Hmac.{tagOf, tagSize}
+use Rattle.hmac.specs.Hmac.{tagOf}
 use Rattle.hmac.proofs.Laws.{tag-length}
 use Rattle.embed.specs.Packing.{packed, answer, written}
 use Rattle.embed.specs.Digests.{digestRefusal, tagRefusal}
@@ -54,7 +54,6 @@ accepted n q r bytes made out after e gives same long puts =
 
 -- the tag's length as the number that the code has
 pub tag-bytes : (key message : List ℕ) → length (tagOf key message) ≡ 32
-unfolding tagSize
 tag-bytes key message = tag-length key message
 
 -- ---- the refusals, test by test
@@ -72,9 +71,9 @@ unfolding tagRefusal
 tag-key key out h = rw (ne-eqb _ _ h) refl
 
 pub tag-short : (key out : List ℕ) → length key ≡ 32 → length out < 32 → tagRefusal key out ≡ 15
-unfolding tagRefusal tagSize
+unfolding tagRefusal
 tag-short key out k h = rw (eq-eqb _ _ k) (rw (lt-ltb _ _ h) refl)
 
 pub tag-room : (key out : List ℕ) → length key ≡ 32 → 32 ≤ length out → tagRefusal key out ≡ 0
-unfolding tagRefusal tagSize
+unfolding tagRefusal
 tag-room key out k h = rw (eq-eqb _ _ k) (rw (le-ltb _ _ h) refl)
