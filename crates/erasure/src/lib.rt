@@ -13,6 +13,7 @@ ghost use Rattle.erasure.specs.Choice.{partsAt};
 ghost use Rattle.erasure.specs.Steps.{each, fragmentRefusal, argumentChecks, fragmentStep, restoreStep};
 ghost use Rattle.erasure.specs.System.{width, AllDifferent};
 
+mod bits;
 mod choice;
 mod lanes;
 mod runs;
