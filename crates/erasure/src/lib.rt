@@ -15,6 +15,7 @@ ghost use Rattle.erasure.specs.System.{width, AllDifferent};
 
 mod bits;
 mod choice;
+mod direct;
 mod lanes;
 mod runs;
 mod system;
