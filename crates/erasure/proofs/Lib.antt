@@ -5,6 +5,7 @@ pub mod Horner
 pub mod Entries
 pub mod Rows
 pub mod Solved
+pub mod Weighed
 pub mod Choosing
 pub mod Refused
 pub mod Placed

@@ -14,7 +14,7 @@ use Rattle.gf256.specs.Bytes.{bytes}
 use Rattle.cluster.specs.Config.{upTo}
 use Rattle.erasure.specs.Fragments.{table}
 use Rattle.erasure.specs.Steps.{zeros, fragmentRoom}
-use Rattle.erasure.specs.System.{width, sumTo, weightAt, AllDifferent, Solves}
+use Rattle.erasure.specs.System.{width, sumTo, weightAt, AllDifferent, Weighs, Solves}
 use Rattle.erasure.specs.Lanes.{sumAt, Written, madeOf, rebuiltOf}
 use Rattle.erasure.proofs.Lists.{length-table, getD-table, table-is, take-is, written-on, written-as, written-first}
 use Rattle.erasure.proofs.Sums.{sumTo-ext}
@@ -52,14 +52,14 @@ plain-start k f j x kw fr h e = mul-le-mul {n₁ = x} {m₁ = f} {n₂ = width} 
 
 -- ---- one place
 
-pub sum-through : (k : ℕ) (w src starts at xs : List ℕ) (a : List (List ℕ)) (f z i : ℕ) → Solves k xs a
-    → ((j : ℕ) → j < k → getD w j 0 ≡ weightAt k a z j) → ((j : ℕ) → j < k → getD starts j 0 ≡ getD at j 0 * f) → ((j : ℕ) → getD src j 0 < 256) → z < 256
+pub sum-through : (k : ℕ) (w src starts at xs : List ℕ) (v : ℕ → ℕ) (f z i : ℕ) → Weighs k xs v z
+    → ((j : ℕ) → j < k → getD w j 0 ≡ v j) → ((j : ℕ) → j < k → getD starts j 0 ≡ getD at j 0 * f) → ((j : ℕ) → getD src j 0 < 256)
     → sumAt k w src starts i ≡ through bytes (take k xs) (table k (λ j. getD src (getD at j 0 * f + i) 0)) z
 unfolding sumAt
-sum-through k w src starts at xs a f z i solved ew es small hz =
-    sumTo-ext k (λ j. times (getD src (getD starts j 0 + i) 0) (getD w j 0)) (λ j. times (getD src (getD at j 0 * f + i) 0) (weightAt k a z j))
+sum-through k w src starts at xs v f z i weighs ew es small =
+    sumTo-ext k (λ j. times (getD src (getD starts j 0 + i) 0) (getD w j 0)) (λ j. times (getD src (getD at j 0 * f + i) 0) (v j))
     (λ j h. ap₂ (λ (x y : ℕ). times (getD src (x + i) 0) y) (es j h) (ew j h))
-    ∙ solved (λ j. getD src (getD at j 0 * f + i) 0) (λ j. small (getD at j 0 * f + i)) z hz
+    ∙ weighs (λ j. getD src (getD at j 0 * f + i) 0) (λ j. small (getD at j 0 * f + i))
 
 -- ---- a fragment
 
@@ -73,16 +73,16 @@ drop-zeros n f h =
     table-is (n - f) (drop f (table n (λ i. 0))) (λ i. 0) (length-drop f (table n (λ i. 0)) ∙ ap (λ (x : ℕ). x - f) (length-table n (λ i. 0)))
     (λ i b. getD-drop f (table n (λ i. 0)) i 0 ∙ getD-table n (λ i. 0) (f + i) 0 (omega arith))
 
-pub made : (k f room z : ℕ) (w content starts at xs old out : List ℕ) (a : List (List ℕ)) → old ≡ zeros room → k ≤ width → f ≤ room → Solves k xs a → take k xs ≡ upTo k
-    → ((j : ℕ) → j < width → getD w j 0 ≡ weightAt k a z j) → ((j : ℕ) → j < k → getD starts j 0 ≡ getD at j 0 * f) → ((j : ℕ) → j < width → getD at j 0 ≡ j)
-    → ((j : ℕ) → getD content j 0 < 256) → z < 256 → Written old out 0 f (sumAt k w content starts) → out ≡ madeOf k f content z ++ zeros (room - f)
+pub made : (k f room z : ℕ) (w content starts at xs old out : List ℕ) (v : ℕ → ℕ) → old ≡ zeros room → k ≤ width → f ≤ room → Weighs k xs v z → take k xs ≡ upTo k
+    → ((j : ℕ) → j < k → getD w j 0 ≡ v j) → ((j : ℕ) → j < k → getD starts j 0 ≡ getD at j 0 * f) → ((j : ℕ) → j < width → getD at j 0 ≡ j)
+    → ((j : ℕ) → getD content j 0 < 256) → Written old out 0 f (sumAt k w content starts) → out ≡ madeOf k f content z ++ zeros (room - f)
 unfolding madeOf
-made k f room z w content starts at xs old out a eo kw fr solved ex ew es ea small hz wr =
+made k f room z w content starts at xs old out v eo kw fr weighs ex ew es ea small wr =
     let long : length old ≡ room = ap length eo ∙ length-zeros room in
     written-first old out f (λ q. through bytes (upTo k) (table k (λ j. getD content (j * f + q) 0)) z) (omega arith)
     (written-as old out 0 f (sumAt k w content starts) (λ q. through bytes (upTo k) (table k (λ j. getD content (j * f + q) 0)) z)
     (λ i h.
-    sum-through k w content starts at xs a f z i solved (λ j b. ew j (omega arith)) es small hz
+    sum-through k w content starts at xs v f z i weighs ew es small
     ∙ ap₂ (λ (u v : List ℕ). through bytes u v z) ex
     (table-ext k (λ j. getD content (getD at j 0 * f + i) 0) (λ j. getD content (j * f + i) 0)
     (λ j b. ap (λ (x : ℕ). getD content (x * f + i) 0) (ea j (omega arith))))) wr)
@@ -135,5 +135,5 @@ rebuilt k f n fragments starts at servers old new a kw hf hn ho solved es small 
     sumTo-ext k (λ j. times (getD fragments (getD starts j 0 + m % f) 0) (weightAt k a (m / f + 1) j))
     (λ j. times (getD fragments (getD at j 0 * f + m % f) 0) (weightAt k a (m / f + 1) j))
     (λ j b. ap (λ (x : ℕ). times (getD fragments (x + m % f) 0) (weightAt k a (m / f + 1) j)) (es j b))
-    ∙ solved (λ j. getD fragments (getD at j 0 * f + m % f) 0) (λ j. small (getD at j 0 * f + m % f)) (m / f + 1) (omega (arith, run-point k f n m hf hn h)))
+    ∙ solved (m / f + 1) (omega (arith, run-point k f n m hf hn h)) (λ j. getD fragments (getD at j 0 * f + m % f) 0) (λ j. small (getD at j 0 * f + m % f)))
     wr)

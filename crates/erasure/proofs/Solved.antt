@@ -111,13 +111,13 @@ unfolding sumTo sum
 sum-number zero f = refl
 sum-number (suc k) f = ap (λ (b : Byte). b .0) (sum-more field laws k f) ∙ ap (λ (x : ℕ). bitXor x (f k .0)) (sum-number k f)
 
-tab-take : (k : ℕ) (xs : List ℕ) (f : ℕ → Byte) → k ≤ length xs → ((i : ℕ) → f i .0 ≡ getD xs i 0) → map (λ b. b .0) (tab field laws k f) ≡ take k xs
+pub tab-take : (k : ℕ) (xs : List ℕ) (f : ℕ → Byte) → k ≤ length xs → ((i : ℕ) → f i .0 ≡ getD xs i 0) → map (λ b. b .0) (tab field laws k f) ≡ take k xs
 unfolding tab
 tab-take zero xs f h e = refl
 tab-take (suc k) [] f h e = absurd (not-suc-le-zero h)
 tab-take (suc k) (x ∷ xs) f h e = ap₂ (λ (u : ℕ) (v : List ℕ). u ∷ v) (e 0) (tab-take k xs (λ i. f (suc i)) (le-of-suc-le-suc h) (λ i. e (suc i)))
 
-tab-table : (k : ℕ) (f : ℕ → Byte) (y : ℕ → ℕ) → ((i : ℕ) → f i .0 ≡ y i) → map (λ b. b .0) (tab field laws k f) ≡ table k y
+pub tab-table : (k : ℕ) (f : ℕ → Byte) (y : ℕ → ℕ) → ((i : ℕ) → f i .0 ≡ y i) → map (λ b. b .0) (tab field laws k f) ≡ table k y
 unfolding tab table
 tab-table zero f y e = refl
 tab-table (suc k) f y e = ap₂ (λ (u : ℕ) (v : List ℕ). u ∷ v) (e 0) (tab-table k (λ i. f (suc i)) (λ i. y (suc i)) (λ i. e (suc i)))
@@ -125,7 +125,7 @@ tab-table (suc k) f y e = ap₂ (λ (u : ℕ) (v : List ℕ). u ∷ v) (e 0) (ta
 pub solves : (k : ℕ) (xs : List ℕ) (a : List (List ℕ)) → k ≤ width → k ≤ length xs → ((i : ℕ) → getD xs i 0 < 256) → Small a → AllDifferent k xs
     → Half field laws k (λ r c. pow field laws (point xs r) c) k (mat a) → Solves k xs a
 unfolding weightAt
-solves k xs a kw kx s sa d half y sy z hz =
+solves k xs a kw kx s sa d half z hz y sy =
     let v : ℕ → Byte = λ j. toByte (y j) in
     let q : Byte = (z, hz) in
     let w : ℕ → Byte = λ j. sum field laws k (λ c. mulB (pow field laws q c) (mat a c j)) in

@@ -2,11 +2,13 @@
 -- A system of at most 5 rows of 5 bytes (document 01): row r has the powers of point r. It is turned at one pivot after the other.
 use mathlib.Core.Path.{_≡_}
 use mathlib.Core.Logic.{_≢_}
-use mathlib.Core.List.{List, [], map}
+use mathlib.Core.Bool.{cond}
+use mathlib.Core.List.{List, []}
 use Prim.Native.Nat.{ℕ, zero, suc, _≤_, _<_}
 use lib.Bits.{bitXor}
+use lib.Dec.{eqb}
 use lib.ListN.{getD, take}
-use Rattle.gf256.specs.Gf.{times, power}
+use Rattle.gf256.specs.Gf.{times, power, inverse}
 use Rattle.gf256.specs.Poly.{through}
 use Rattle.gf256.specs.Bytes.{bytes}
 use Rattle.erasure.specs.Fragments.{table}
@@ -45,7 +47,24 @@ weightAt k a z j = sumTo k (λ c. times (power z c) (entry a c j))
 abbrev pub AllDifferent : ℕ → List ℕ → Type 0
 AllDifferent k xs = (i j : ℕ) → i < k → j < k → i ≢ j → getD xs i 0 ≢ getD xs j 0
 
--- the weights of a give, for any values y, the polynomial through the first k points
+-- the weights w at z give, for any values y, the polynomial through the first k points
+abbrev pub Weighs : (k : ℕ) (xs : List ℕ) (w : ℕ → ℕ) (z : ℕ) → Type 0
+Weighs k xs w z = (y : ℕ → ℕ) → ((j : ℕ) → y j < 256) → sumTo k (λ j. times (y j) (w j)) ≡ through bytes (take k xs) (table k y) z
+
+-- the weights of a are those of the first k points
 abbrev pub Solves : ℕ → List ℕ → List (List ℕ) → Type 0
-Solves k xs a =
-    (y : ℕ → ℕ) → ((j : ℕ) → y j < 256) → (z : ℕ) → z < 256 → sumTo k (λ j. times (y j) (weightAt k a z j)) ≡ through bytes (take k xs) (table k y) z
+Solves k xs a = (z : ℕ) → z < 256 → Weighs k xs (weightAt k a z) z
+
+-- ---- the same weights in closed form
+
+unfoldable pub productTo : ℕ → (ℕ → ℕ) → ℕ
+productTo zero f = 1
+productTo (suc n) f = times (productTo n f) (f n)
+
+-- z less point m, but 1 at j
+abbrev pub factorAt : (points : List ℕ) (j z m : ℕ) → ℕ
+factorAt points j z m = cond (eqb m j) 1 (bitXor z (getD points m 0))
+
+-- the product over the other points, of z less each, over that of point j less each
+unfoldable pub directAt : (k : ℕ) (points : List ℕ) (z j : ℕ) → ℕ
+directAt k points z j = times (productTo k (factorAt points j z)) (inverse (productTo k (factorAt points j (getD points j 0))))

@@ -1,5 +1,5 @@
 // Sums of runs of bytes, each times a weight, a lane of places at a time.
-// A product goes through the bits of its weight, the highest first: the sum so far is doubled, then each run is added whose weight has the bit.
+// A sum goes through the bits of the weights, the highest first: what is there is doubled, then each run is added whose weight has the bit.
 ghost use mathlib.Core.Path.{_≡_};
 ghost use Prim.Native.Nat.{ℕ, _+_, _*_, _<_, _≤_};
 ghost use lib.Bits.{bitXor};
@@ -14,13 +14,6 @@ const LANE: usize = 64;
 
 const WIDTH: usize = crate::system::WIDTH;
 
-// The double of a byte.
-fn double(a: u8) -> u8
-    ensures { λ r. ⌜ r ≡ xtime a ⌝ }
-{
-    if a < 128 { a << 1 } else { (a << 1) ^ 27 }
-}
-
 // Each byte doubled.
 fn doubled(x: [u8; LANE]) -> [u8; LANE]
     ensures { λ r. ⌜ Lane r (λ i. xtime (getD x i 0)) ⌝ }
@@ -28,18 +21,10 @@ fn doubled(x: [u8; LANE]) -> [u8; LANE]
     let mut out = [0u8; LANE];
     let mut i: usize = 0;
     while i < LANE {
-        out[i] = double(x[i]);
+        out[i] = crate::bits::double(x[i]);
         i += 1;
     }
     out
-}
-
-// All bits set where bit b of w is, and else none.
-fn mask(w: u8, b: u32) -> u8
-    requires { ⌜ b < 8 ⌝ }
-    ensures { λ r. ⌜ r ≡ bitOf w b * 255 ⌝ }
-{
-    if (w >> b) & 1 == 0 { 0 } else { 255 }
 }
 
 // The sum so far, and x where bit b of w is set. The mask keeps the loop free of branches.
@@ -47,7 +32,7 @@ fn added(sum: [u8; LANE], x: [u8; LANE], w: u8, b: u32) -> [u8; LANE]
     requires { ⌜ b < 8 ⌝ }
     ensures { λ r. ⌜ Lane r (λ i. bitXor (getD sum i 0) (bitOf w b * getD x i 0)) ⌝ }
 {
-    let m = mask(w, b);
+    let m = crate::bits::mask(w, b);
     let mut out = [0u8; LANE];
     let mut i: usize = 0;
     while i < LANE {

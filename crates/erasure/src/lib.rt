@@ -13,7 +13,9 @@ ghost use Rattle.erasure.specs.Choice.{partsAt};
 ghost use Rattle.erasure.specs.Steps.{each, fragmentRefusal, argumentChecks, fragmentStep, restoreStep};
 ghost use Rattle.erasure.specs.System.{width, AllDifferent};
 
+mod bits;
 mod choice;
+mod direct;
 mod lanes;
 mod runs;
 mod system;

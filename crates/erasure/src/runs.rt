@@ -66,8 +66,7 @@ pub(crate) fn make(k: usize, f: usize, z: u8, content: &[u8]) -> [u8; ROOM]
     requires { ⌜ (k ≤ width) × (f ≤ fragmentRoom) ⌝ }
     ensures { λ r. ⌜ r ≡ madeOf k f (now (content .entry)) z ++ zeros (fragmentRoom - f) ⌝ }
 {
-    let a = crate::system::solve(plain_points(), k);
-    let weights = crate::system::weights(a, k, z);
+    let weights = crate::direct::weights(plain_points(), k, z);
     let starts = starts_of(plain_places(), f, k);
     let mut bytes = blank();
     crate::lanes::combine(weights, content, starts, k, &mut bytes, 0, f);

@@ -332,13 +332,17 @@ module _ (O : Ops) (L : Laws O) where
   each-at P (x ∷ xs) e h zero b = h .0
   each-at P (x ∷ xs) e h (suc i) b = each-at P xs e (h .1) i (le-of-suc-le-suc b)
 
+  -- the product is zero at each point
+  pub vanish-at : (xs : List F) (e : F) (i : ℕ) → i < length xs → vanish O xs (getD xs i e) ≡ 0#
+  vanish-at xs e i b = each-at (λ z. vanish O xs z ≡ 0#) xs e (vanish-each xs) i b
+
   -- at the i-th point it has the i-th value
   pub through-at : (xs ys : List F) (e : F) → length ys ≡ length xs → Distinct xs → (i : ℕ) → i < length xs → through O xs ys (getD xs i e) ≡ getD ys i e
   through-at [] ys e l d i b = absurd (not-suc-le-zero b)
   through-at (x ∷ xs) [] e l d i b = absurd (suc-ne-zero (length xs) (sym l))
   through-at (x ∷ xs) (y ∷ ys) e l d zero b = through-here x xs y ys (d .0)
   through-at (x ∷ xs) (y ∷ ys) e l d (suc i) b =
-      through-there x xs y ys (getD xs i e) (each-at (λ z. vanish O xs z ≡ 0#) xs e (vanish-each xs) i (le-of-suc-le-suc b))
+      through-there x xs y ys (getD xs i e) (vanish-at xs e i (le-of-suc-le-suc b))
       ∙ through-at xs ys e (suc-inj l) (d .1) i (le-of-suc-le-suc b)
 
   -- fragments from as many different points as there are runs give each run back
@@ -365,6 +369,10 @@ module _ (O : Ops) (L : Laws O) where
   unfoldable pub sum : ℕ → (ℕ → F) → F
   sum zero f = 0#
   sum (suc n) f = f 0 ⊕ sum n (λ i. f (suc i))
+
+  pub sum-none : (f : ℕ → F) → sum 0 f ≡ 0#
+  unfolding sum
+  sum-none f = refl
 
   -- without the term at p
   unfoldable pub rest : ℕ → ℕ → (ℕ → F) → F

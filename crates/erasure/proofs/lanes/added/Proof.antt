@@ -19,7 +19,7 @@ use Rattle.erasure.proofs.lanes.added.Statement.{statement}
 use Rattle.erasure.proofs.lanes.added.Tie as tie
 use Rattle.erasure.proofs.lanes.added.Reads as reads
 use Rattle.erasure.proofs.lanes.added.Lts as lts
-use Rattle.erasure.proofs.lanes.mask.Reads as mask-reads
+use Rattle.erasure.proofs.bits.mask.Reads as mask-reads
 
 abbrev Inv-loop : tie.InvT-loop
 Inv-loop w b sum x m out₀ i₀ out i = (i ≤ lane) × (length out ≡ lane) × ((j : ℕ) → j < i → getD out j 0 ≡ bitXor (getD sum j 0) (bitAnd (getD x j 0) m))

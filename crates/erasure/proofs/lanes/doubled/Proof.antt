@@ -18,7 +18,7 @@ use Rattle.erasure.proofs.lanes.doubled.Statement.{statement}
 use Rattle.erasure.proofs.lanes.doubled.Tie as tie
 use Rattle.erasure.proofs.lanes.doubled.Reads as reads
 use Rattle.erasure.proofs.lanes.doubled.Lts as lts
-use Rattle.erasure.proofs.lanes.double.Reads as double-reads
+use Rattle.erasure.proofs.bits.double.Reads as double-reads
 
 abbrev Inv-loop : tie.InvT-loop
 Inv-loop x out₀ i₀ out i = (i ≤ lane) × (length out ≡ lane) × ((j : ℕ) → j < i → getD out j 0 ≡ xtime (getD x j 0))

@@ -14,7 +14,7 @@ use Rattle.erasure.proofs.system.powers_row.Statement.{statement}
 use Rattle.erasure.proofs.system.powers_row.Tie as tie
 use Rattle.erasure.proofs.system.powers_row.Reads as reads
 use Rattle.erasure.proofs.system.powers_row.Lts as lts
-use Rattle.gf256.proofs.mul.Reads as mul-reads
+use Rattle.erasure.proofs.bits.product.Reads as product-reads
 
 abbrev Inv-loop : tie.InvT-loop
 Inv-loop x out₀ w₀ c₀ out w c = (c ≤ width) × (w ≡ power x c) × (length out ≡ width) × ((j : ℕ) → j < c → getD out j 0 ≡ power x j)
@@ -29,8 +29,8 @@ loop-holds c = (search needs, refl, refl, below-none (λ (j : ℕ). getD (0 ∷ 
 array-write-out : tie.Need-array-write-out Inv-loop μ-loop
 array-write-out c = search needs
 
-mul-requires : tie.Need-mul-requires Inv-loop μ-loop
-mul-requires c κs = search needs
+product-requires : tie.Need-product-requires Inv-loop μ-loop
+product-requires c κs = search needs
 
 add-c : tie.Need-add-c Inv-loop μ-loop
 add-c c = search needs
@@ -44,7 +44,7 @@ loop-again c =
     let at = c .before .before .loop in
     let x = c .before .before .before .args .x in (
       search needs,
-      c .mul .ensures ∙ ap (λ (w : ℕ). times w x) (at .inv .1) ∙ ap (power x) (sym (add-one (at .c))),
+      c .product .ensures ∙ ap (λ (w : ℕ). times w x) (at .inv .1) ∙ ap (power x) (sym (add-one (at .c))),
       length-set (at .out) (at .c) (at .w) ∙ at .inv .2,
       fill-more 0 (λ j v. v ≡ power x j) (at .out) (at .c) (at .w) (omega arith) (at .inv .3) (at .inv .1),
     )
@@ -60,7 +60,7 @@ powers-row-spec =
     μ-loop
     loop-holds
     array-write-out
-    mul-requires
+    product-requires
     add-c
     loop-less
     loop-again

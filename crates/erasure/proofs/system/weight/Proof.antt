@@ -11,7 +11,7 @@ use Rattle.erasure.proofs.system.weight.Statement.{statement}
 use Rattle.erasure.proofs.system.weight.Tie as tie
 use Rattle.erasure.proofs.system.weight.Reads as reads
 use Rattle.erasure.proofs.system.weight.Lts as lts
-use Rattle.gf256.proofs.mul.Reads as mul-reads
+use Rattle.erasure.proofs.bits.product.Reads as product-reads
 
 abbrev Inv-loop : tie.InvT-loop
 Inv-loop k j a powers acc₀ c₀ acc c = (c ≤ k) × (acc ≡ sumTo c (λ i. times (getD powers i 0) (entry a i j)))
@@ -28,14 +28,14 @@ mul-row c = search needs
 array-copy-out-row : tie.Need-array-copy-out-row Inv-loop μ-loop
 array-copy-out-row c = search needs
 
-array-read-mul : tie.Need-array-read-mul Inv-loop μ-loop
-array-read-mul c = search needs
+array-read-product : tie.Need-array-read-product Inv-loop μ-loop
+array-read-product c = search needs
 
-array-read-mul-2 : tie.Need-array-read-mul-2 Inv-loop μ-loop
-array-read-mul-2 c = search needs
+array-read-product-2 : tie.Need-array-read-product-2 Inv-loop μ-loop
+array-read-product-2 c = search needs
 
-mul-requires : tie.Need-mul-requires Inv-loop μ-loop
-mul-requires c κs = search needs
+product-requires : tie.Need-product-requires Inv-loop μ-loop
+product-requires c κs = search needs
 
 add-c : tie.Need-add-c Inv-loop μ-loop
 add-c c = search needs
@@ -47,7 +47,7 @@ loop-again : tie.Need-loop-again Inv-loop μ-loop
 loop-again c =
     let at = c .before .before .before .loop in
     let args = c .before .before .before .before .args in
-    (search needs, sumTo-more (at .c) (λ i. times (getD (args .t2) i 0) (entry (args .t1) i (args .j))) (at .acc) (c .mul .result) (at .inv .1) (c .mul .ensures))
+    (search needs, sumTo-more (at .c) (λ i. times (getD (args .t2) i 0) (entry (args .t1) i (args .j))) (at .acc) (c .product .result) (at .inv .1) (c .product .ensures))
 
 returns : tie.Need-returns Inv-loop μ-loop
 returns c =
@@ -63,9 +63,9 @@ weight-spec =
     loop-holds
     mul-row
     array-copy-out-row
-    array-read-mul
-    array-read-mul-2
-    mul-requires
+    array-read-product
+    array-read-product-2
+    product-requires
     add-c
     loop-less
     loop-again

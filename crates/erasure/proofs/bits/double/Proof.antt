@@ -14,10 +14,10 @@ use Rattle.gf256.specs.Gf.{xtime, timesBits, times, power, inverse}
 use Rattle.gf256.proofs.Fill.{fill-more}
 use Rattle.erasure.proofs.Horner.{double-low, double-high}
 use borrow.Author.Needs.{needs}
-use Rattle.erasure.proofs.lanes.double.Statement.{statement}
-use Rattle.erasure.proofs.lanes.double.Tie as tie
-use Rattle.erasure.proofs.lanes.double.Reads as reads
-use Rattle.erasure.proofs.lanes.double.Lts as lts
+use Rattle.erasure.proofs.bits.double.Statement.{statement}
+use Rattle.erasure.proofs.bits.double.Tie as tie
+use Rattle.erasure.proofs.bits.double.Reads as reads
+use Rattle.erasure.proofs.bits.double.Lts as lts
 
 returns : tie.Need-returns
 returns c = double-low (c .before .args .a) (omega arith)

@@ -14,10 +14,10 @@ use Rattle.gf256.specs.Gf.{xtime, timesBits, times, power, inverse}
 use Rattle.gf256.proofs.Fill.{fill-more}
 use Rattle.erasure.proofs.Horner.{mask-none, mask-all}
 use borrow.Author.Needs.{needs}
-use Rattle.erasure.proofs.lanes.mask.Statement.{statement}
-use Rattle.erasure.proofs.lanes.mask.Tie as tie
-use Rattle.erasure.proofs.lanes.mask.Reads as reads
-use Rattle.erasure.proofs.lanes.mask.Lts as lts
+use Rattle.erasure.proofs.bits.mask.Statement.{statement}
+use Rattle.erasure.proofs.bits.mask.Tie as tie
+use Rattle.erasure.proofs.bits.mask.Reads as reads
+use Rattle.erasure.proofs.bits.mask.Lts as lts
 
 cast-if1 : tie.Need-cast-if1
 cast-if1 c = search needs

@@ -1,0 +1,88 @@
+-- After n turns the product with the highest n bits of b stands there.
+use mathlib.Core.Path.{_≡_, refl, sym, ap, ap₂, subst, _∙_}
+use mathlib.Core.Logic.{_≢_}
+use mathlib.Core.List.{List, [], _∷_, _++_, map}
+use Prim.Native.Nat.{ℕ, zero, suc, _+_, _-_, _*_, _/_, _%_, _^_, _<_, _≤_}
+use native.Mathlib.Numerals.{add-one}
+use native.Mathlib.Omega.{arith}
+use lib.Bits.{bitXor, bitAnd}
+use lib.ListN.{length, getD, set, take, drop, length-set}
+use lib.Seq.{getD-set-same, getD-set-other}
+use mir.Val.{Fits}
+use mir.Syntax.{w8}
+use Rattle.gf256.specs.Gf.{xtime, timesBits, times, power, inverse}
+use Rattle.gf256.proofs.Fill.{fill-more}
+use native.Mathlib.Nat.{div-one}
+use Rattle.erasure.specs.Lanes.{bitOf}
+use Rattle.erasure.proofs.Horner.{masked, bit-lt, bit-more}
+use borrow.Author.Needs.{needs}
+use Rattle.erasure.proofs.bits.product.Statement.{statement}
+use Rattle.erasure.proofs.bits.product.Tie as tie
+use Rattle.erasure.proofs.bits.product.Reads as reads
+use Rattle.erasure.proofs.bits.product.Lts as lts
+use Rattle.erasure.proofs.bits.double.Reads as double-reads
+use Rattle.erasure.proofs.bits.mask.Reads as mask-reads
+
+abbrev Inv-loop : tie.InvT-loop
+Inv-loop a b out₀ n₀ out n = (n ≤ 8) × (out ≡ timesBits n a (b / 2 ^ (8 - n)))
+
+abbrev μ-loop : tie.MeasureT-loop
+μ-loop a b out₀ n₀ out n = 8 - n
+
+loop-holds : tie.Need-loop-holds Inv-loop μ-loop
+unfolding timesBits
+loop-holds c = (search needs, refl)
+
+double-requires : tie.Need-double-requires Inv-loop μ-loop
+double-requires c κs = search needs
+
+sub-mask : tie.Need-sub-mask Inv-loop μ-loop
+sub-mask c = search needs
+
+mask-requires : tie.Need-mask-requires Inv-loop μ-loop
+mask-requires c κs = search needs
+
+add-n : tie.Need-add-n Inv-loop μ-loop
+add-n c = search needs
+
+loop-less : tie.Need-loop-less Inv-loop μ-loop
+loop-less c = search needs
+
+loop-again : tie.Need-loop-again Inv-loop μ-loop
+loop-again c =
+    let l = c .before .before .before .loop in
+    let args = c .before .before .before .before .args in
+    let i : ℕ = 7 - l .n in
+    let up : i + 1 ≡ 8 - l .n = omega arith in
+    let down : i ≡ 8 - (l .n + 1) = omega arith in
+    let x = args .a in
+    let w = args .b in (
+      search needs,
+      ap₂ bitXor (c .before .double .ensures ∙ ap xtime (l .inv .1 ∙ ap (λ (m : ℕ). timesBits (l .n) x (w / 2 ^ m)) (sym up)))
+          (ap (bitAnd x) (c .mask .ensures) ∙ masked (bitOf w i) x (bit-lt w i) (omega arith))
+          ∙ bit-more (l .n) x w i (omega arith)
+          ∙ ap (λ (m : ℕ). timesBits (l .n + 1) x (w / 2 ^ m)) down,
+    )
+
+returns : tie.Need-returns Inv-loop μ-loop
+unfolding times
+returns c =
+    let l = c .before .loop in
+    let args = c .before .before .args in
+    let e : l .n ≡ 8 = omega arith in
+    subst (λ (n : ℕ). l .out ≡ timesBits n (args .a) (args .b / 2 ^ (8 - n))) e (l .inv .1) ∙ ap (timesBits 8 (args .a)) (div-one (args .b))
+
+pub product-spec : {M : Type 1} → statement M
+product-spec =
+    tie.close
+    (tie.spec
+    Inv-loop
+    μ-loop
+    loop-holds
+    double-requires
+    sub-mask
+    mask-requires
+    add-n
+    loop-less
+    loop-again
+    returns)
