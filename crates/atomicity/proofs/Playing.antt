@@ -1,4 +1,5 @@
--- Tools to show that a given run meets the premises: a toy shelf of t = 1 whose digest and tag can be followed by eye, servers 1 to 3 and clients 1 to 15 correct, so
+-- Tools to show that a given run meets the premises: a toy shelf of t = 1 whose digest and tag can be followed by eye, servers 1 to 3 and clients 1
+-- to 15 correct, so
 -- that server 4 may lie and client 16 is wild; and lemmas that extend such a run by a step or by a whole exchange, from facts that are computed.
 -- Assumes nothing.
 use mathlib.Core.Path.{_≡_, refl, sym, ap, _∙_, subst}
@@ -38,13 +39,19 @@ use Rattle.atomicity.proofs.Real.{Restores, real-restores, systemWith, 
 
 -- the first bytes of the input, and zeros
 unfoldable pub toy : Primitives
-toy = record { digest = λ m. take digestSize (m ++ replicate digestSize 0); tag = λ k m. take tagSize (k ++ (m ++ replicate tagSize 0)); fragment = fragment; restored = restored }
+toy = record {
+  digest = λ m. take digestSize (m ++ replicate digestSize 0);
+  tag = λ k m. take tagSize (k ++ (m ++ replicate tagSize 0));
+  fragment = fragment;
+  restored = restored;
+}
 
 pub toy-lengths : Lengths toy
 unfolding toy real
 toy-lengths =
     record {
-      digest = λ m. length-take-le digestSize (m ++ replicate digestSize 0) (omega (arith, length-append m (replicate digestSize 0), length-replicate {A = ℕ} digestSize 0));
+      digest = λ m. length-take-le digestSize (m ++ replicate digestSize 0)
+          (omega (arith, length-append m (replicate digestSize 0), length-replicate {A = ℕ} digestSize 0));
       tag =
           λ k m.
           length-take-le tagSize (k ++ (m ++ replicate tagSize 0))
@@ -131,7 +138,8 @@ pub alone-ok : (u : List ℕ) (vs : List (List ℕ)) → alone u vs ≡ true →
 unfolding All
 alone-ok u [] e = tt
 alone-ok u (v ∷ vs) e = (
-  λ q. one q (or-cases (not (sameList (toy .digest u) (toy .digest v))) (sameList u v) (and-left (not (sameList (toy .digest u) (toy .digest v)) || sameList u v) _ e)),
+  λ q. one q (or-cases (not (sameList (toy .digest u) (toy .digest v))) (sameList u v)
+      (and-left (not (sameList (toy .digest u) (toy .digest v)) || sameList u v) _ e)),
   alone-ok u vs (and-right (not (sameList (toy .digest u) (toy .digest v)) || sameList u v) _ e),
 )
   where
@@ -154,8 +162,10 @@ pub record Good (D : List (List ℕ)) (xs : Steps K) : Type 0 where
   pub digs : allDigested (K .s) A xs ≡ D
 
 -- one more step, which begins no write
-pub good-step : (D E : List (List ℕ)) (x : StepOf K) (xs : Steps K) → Good D xs → PartyOf (K .s) A who xs (x .step) → Authentic (K .s) A who x xs → ((c : ℕ) (r n : List ℕ) → x .step ≡ write c r n → ⊥) →
-    tagsChecked (K .s) A x xs ≡ [] → digested (K .s) A x xs ≡ E → clear E (E ++ D) ≡ true → (noncesGot (K .s) A x xs ≡ []) ⊎ ShownAll xs → Good (E ++ D) (x ∷ xs)
+pub good-step : (D E : List (List ℕ)) (x : StepOf K) (xs : Steps K) → Good D xs → PartyOf (K .s) A who xs (x .step) → Authentic (K .s) A who x xs →
+    ((c : ℕ) (r n : List ℕ) → x .step ≡ write c r n → ⊥) →
+    tagsChecked (K .s) A x xs ≡ [] → digested (K .s) A x xs ≡ E → clear E (E ++ D) ≡ true → (noncesGot (K .s) A x xs ≡ []) ⊎ ShownAll xs →
+    Good (E ++ D) (x ∷ xs)
 unfolding Always allDigested FreshNonce Begins NoForgery NoCollision NoEarlyNonce All
 good-step D E x xs g p a w t e c n = record {
   fair = (
@@ -164,7 +174,8 @@ good-step D E x xs g p a w t e c n = record {
       authentic = a;
       fresh = λ d m h. absurd (w d (h .0) m (h .1));
       unforged = subst (All (λ kb. Ever (λ y ys. In kb (tagsMade (K .s) A y ys)) xs)) (sym t) tt;
-      uncollided = subst (λ (u : List (List ℕ)). All (λ u. All (λ v. toy .digest u ≡ toy .digest v → u ≡ v) (digested (K .s) A x xs ++ allDigested (K .s) A xs)) u) (sym e)
+      uncollided = subst (λ (u : List (List ℕ)). All
+          (λ u. All (λ v. toy .digest u ≡ toy .digest v → u ≡ v) (digested (K .s) A x xs ++ allDigested (K .s) A xs)) u) (sym e)
           (subst (λ (v : List (List ℕ)). All (λ u. All (λ v. toy .digest u ≡ toy .digest v → u ≡ v) v) E) (sym both) (clear-ok E (E ++ D) c));
       unshown = shows n;
     },
@@ -198,11 +209,13 @@ Reads c b n x = decode (packet c b n x) ≡ some (record { head = record { kind 
 
 -- ---- an exchange: client c makes its packet for server b, which answers it, and takes the answer
 
-abbrev pub exchange : (c b n : ℕ) (x y : Body) → within 1 (shelf 1 .servers) b ≡ true → allBytes (packet c b n x) ≡ true → allBytes (packet c b n y) ≡ true → Steps K → Steps K
+abbrev pub exchange : (c b n : ℕ) (x y : Body) → within 1 (shelf 1 .servers) b ≡ true → allBytes (packet c b n x) ≡ true →
+    allBytes (packet c b n y) ≡ true → Steps K → Steps K
 exchange c b n x y i e f xs = takes-it c (packet c b n y) f ∷ serves-it b (packet c b n x) i e ∷ makes-it c b ∷ xs
 
 -- what is computed of it: who takes part, what is sent, what reads back, what is checked and digested
-pub record Calm (c b n : ℕ) (x y : Body) (i : within 1 (shelf 1 .servers) b ≡ true) (e : allBytes (packet c b n x) ≡ true) (f : allBytes (packet c b n y) ≡ true) (xs : Steps K) (E F : List (List ℕ)) : Type 0 where
+pub record Calm (c b n : ℕ) (x y : Body) (i : within 1 (shelf 1 .servers) b ≡ true) (e : allBytes (packet c b n x) ≡ true)
+    (f : allBytes (packet c b n y) ≡ true) (xs : Steps K) (E F : List (List ℕ)) : Type 0 where
   pub client : upto 15 c ≡ true
   pub server : upto 3 b ≡ true
   pub asks : odd (kindOf x) ≡ true
@@ -216,39 +229,56 @@ pub record Calm (c b n : ℕ) (x y : Body) (i : within 1 (shelf 1 .servers) b �
   pub digests : digested (K .s) A (serves-it b (packet c b n x) i e) (makes-it c b ∷ xs) ≡ E
   pub digests-back : digested (K .s) A (takes-it c (packet c b n y) f) (serves-it b (packet c b n x) i e ∷ makes-it c b ∷ xs) ≡ F
 
-module _ (c b n : ℕ) (x y : Body) (i : within 1 (shelf 1 .servers) b ≡ true) (e : allBytes (packet c b n x) ≡ true) (f : allBytes (packet c b n y) ≡ true) where
-  pub good-exchange : (D E F : List (List ℕ)) (xs : Steps K) → Good D xs → Calm c b n x y i e f xs E F → clear E (E ++ D) ≡ true → clear F (F ++ (E ++ D)) ≡ true →
-      (noncesGot (K .s) A (serves-it b (packet c b n x) i e) (makes-it c b ∷ xs) ≡ []) ⊎ ShownAll (makes-it c b ∷ xs) → Good (F ++ (E ++ D)) (exchange c b n x y i e f xs)
+module _ (c b n : ℕ) (x y : Body) (i : within 1 (shelf 1 .servers) b ≡ true) (e : allBytes (packet c b n x) ≡ true)
+    (f : allBytes (packet c b n y) ≡ true) where
+  pub good-exchange : (D E F : List (List ℕ)) (xs : Steps K) → Good D xs → Calm c b n x y i e f xs E F → clear E (E ++ D) ≡ true →
+      clear F (F ++ (E ++ D)) ≡ true →
+      (noncesGot (K .s) A (serves-it b (packet c b n x) i e) (makes-it c b ∷ xs) ≡ []) ⊎ ShownAll (makes-it c b ∷ xs) →
+      Good (F ++ (E ++ D)) (exchange c b n x y i e f xs)
   unfolding Authentic noncesBy Ever
   good-exchange D E F xs g k u v s =
       good-step (E ++ D) F (takes-it c (packet c b n y) f) (serves-it b (packet c b n x) i e ∷ makes-it c b ∷ xs)
-      (good-step D E (serves-it b (packet c b n x) i e) (makes-it c b ∷ xs) (good-make D c b xs (k .client) g) (k .server) ask (λ d r m q. (let z : _≡_ {A = ℕ} 0 1 = cc in omega arith)) (k .checks) (k .digests) u s)
-      (k .client) back (λ d r m q. (let z : _≡_ {A = ℕ} 0 1 = cc in omega arith)) (k .checks-back) (k .digests-back) v (inl (cond-nil (fine (takes-it c (packet c b n y) f) (serves-it b (packet c b n x) i e ∷ makes-it c b ∷ xs))))
+      (good-step D E (serves-it b (packet c b n x) i e) (makes-it c b ∷ xs) (good-make D c b xs (k .client) g) (k .server) ask
+      (λ d r m q. (let z : _≡_ {A = ℕ} 0 1 = cc in omega arith)) (k .checks) (k .digests) u s)
+      (k .client) back (λ d r m q. (let z : _≡_ {A = ℕ} 0 1 = cc in omega arith)) (k .checks-back) (k .digests-back) v
+      (inl (cond-nil (fine (takes-it c (packet c b n y) f) (serves-it b (packet c b n x) i e ∷ makes-it c b ∷ xs))))
     where
       ask : Authentic (K .s) A who (serves-it b (packet c b n x) i e) (makes-it c b ∷ xs)
-      ask p q o = let z = Option·some-injective _ _ (sym q ∙ k .reads) in
-          (λ w h. inl (eq-eqb (p .head .client) c (ap (λ (t : Packet). t .head .client) z), k .asked), λ w h. clash (subst (λ (t : Packet). odd (kindOf (t .body)) ≡ true) (sym z) (k .asks)) w)
+      ask p q o = let z = Option·some-injective _ _ (sym q ∙ k .reads) in (
+        λ w h. inl (eq-eqb (p .head .client) c (ap (λ (t : Packet). t .head .client) z), k .asked),
+        λ w h. clash (subst (λ (t : Packet). odd (kindOf (t .body)) ≡ true) (sym z) (k .asks)) w,
+      )
 
       back : Authentic (K .s) A who (takes-it c (packet c b n y) f) (serves-it b (packet c b n x) i e ∷ makes-it c b ∷ xs)
-      back p q o = let z = Option·some-injective _ _ (sym q ∙ k .reads-back) in
-          (λ w h. clash w (subst (λ (t : Packet). odd (kindOf (t .body)) ≡ false) (sym z) (k .answers)), λ w h. inl (eq-eqb (p .head .server) b (ap (λ (t : Packet). t .head .server) z), k .answered))
+      back p q o = let z = Option·some-injective _ _ (sym q ∙ k .reads-back) in (
+        λ w h. clash w (subst (λ (t : Packet). odd (kindOf (t .body)) ≡ false) (sym z) (k .answers)),
+        λ w h. inl (eq-eqb (p .head .server) b (ap (λ (t : Packet). t .head .server) z), k .answered),
+      )
 
 -- ---- a lie that a client takes, and a wild client's packet that a server takes
 
-pub good-lie : (c b n : ℕ) (y : Body) (f : allBytes (packet c b n y) ≡ true) (D F : List (List ℕ)) (xs : Steps K) → Good D xs → upto 15 c ≡ true → upto 3 b ≡ false → odd (kindOf y) ≡ false → Reads c b n y →
-    tagsChecked (K .s) A (takes-it c (packet c b n y) f) xs ≡ [] → digested (K .s) A (takes-it c (packet c b n y) f) xs ≡ F → clear F (F ++ D) ≡ true → Good (F ++ D) (takes-it c (packet c b n y) f ∷ xs)
+pub good-lie : (c b n : ℕ) (y : Body) (f : allBytes (packet c b n y) ≡ true) (D F : List (List ℕ)) (xs : Steps K) → Good D xs → upto 15 c ≡ true →
+    upto 3 b ≡ false → odd (kindOf y) ≡ false → Reads c b n y →
+    tagsChecked (K .s) A (takes-it c (packet c b n y) f) xs ≡ [] → digested (K .s) A (takes-it c (packet c b n y) f) xs ≡ F →
+    clear F (F ++ D) ≡ true → Good (F ++ D) (takes-it c (packet c b n y) f ∷ xs)
 unfolding Authentic noncesBy
 good-lie c b n y f D F xs g w l a r t d v = good-step D F (takes-it c (packet c b n y) f) xs g w
-    (λ p q o. let z = Option·some-injective _ _ (sym q ∙ r) in
-    (λ k h. clash k (subst (λ (s : Packet). odd (kindOf (s .body)) ≡ false) (sym z) a), λ k h. clash h (subst (λ (s : Packet). upto 3 (s .head .server) ≡ false) (sym z) l)))
+    (λ p q o. let z = Option·some-injective _ _ (sym q ∙ r) in (
+      λ k h. clash k (subst (λ (s : Packet). odd (kindOf (s .body)) ≡ false) (sym z) a),
+      λ k h. clash h (subst (λ (s : Packet). upto 3 (s .head .server) ≡ false) (sym z) l),
+    ))
     (λ d r m q. (let z : _≡_ {A = ℕ} 0 1 = cc in omega arith)) t d v (inl (cond-nil (fine (takes-it c (packet c b n y) f) xs)))
 
-pub good-wild : (c b n : ℕ) (x : Body) (i : within 1 (shelf 1 .servers) b ≡ true) (e : allBytes (packet c b n x) ≡ true) (D E : List (List ℕ)) (xs : Steps K) → Good D xs → upto 15 c ≡ false → upto 3 b ≡ true → odd (kindOf x) ≡ true → Reads c b n x →
-    tagsChecked (K .s) A (serves-it b (packet c b n x) i e) xs ≡ [] → digested (K .s) A (serves-it b (packet c b n x) i e) xs ≡ E → clear E (E ++ D) ≡ true → ShownAll xs → Good (E ++ D) (serves-it b (packet c b n x) i e ∷ xs)
+pub good-wild : (c b n : ℕ) (x : Body) (i : within 1 (shelf 1 .servers) b ≡ true) (e : allBytes (packet c b n x) ≡ true) (D E : List (List ℕ))
+    (xs : Steps K) → Good D xs → upto 15 c ≡ false → upto 3 b ≡ true → odd (kindOf x) ≡ true → Reads c b n x →
+    tagsChecked (K .s) A (serves-it b (packet c b n x) i e) xs ≡ [] → digested (K .s) A (serves-it b (packet c b n x) i e) xs ≡ E →
+    clear E (E ++ D) ≡ true → ShownAll xs → Good (E ++ D) (serves-it b (packet c b n x) i e ∷ xs)
 unfolding Authentic
 good-wild c b n x i e D E xs g l w a r t d v s = good-step D E (serves-it b (packet c b n x) i e) xs g w
-    (λ p q o. let z = Option·some-injective _ _ (sym q ∙ r) in
-    (λ k h. clash h (subst (λ (s : Packet). upto 15 (s .head .client) ≡ false) (sym z) l), λ k h. clash (subst (λ (s : Packet). odd (kindOf (s .body)) ≡ true) (sym z) a) k))
+    (λ p q o. let z = Option·some-injective _ _ (sym q ∙ r) in (
+      λ k h. clash h (subst (λ (s : Packet). upto 15 (s .head .client) ≡ false) (sym z) l),
+      λ k h. clash (subst (λ (s : Packet). odd (kindOf (s .body)) ≡ true) (sym z) a) k,
+    ))
     (λ d r m q. (let z : _≡_ {A = ℕ} 0 1 = cc in omega arith)) t d v (inr s)
 
 -- ---- begins
@@ -282,8 +312,10 @@ good-first x c r n e w = record {
 
 pub good-read : (D : List (List ℕ)) (c : ℕ) (xs : Steps K) → upto 15 c ≡ true → Good D xs → Good D (record { step = read c; fed = tt } ∷ xs)
 unfolding Authentic checkedBy digestedBy noncesBy
-good-read D c xs w g = good-step D [] (record { step = read c; fed = tt }) xs g w (λ p e o. absurd (no-some e)) (λ d r n e. (let z : _≡_ {A = ℕ} 0 1 = cc in omega arith))
-    (cond-nil (fine (record { step = read c; fed = tt }) xs)) (cond-nil (fine (record { step = read c; fed = tt }) xs)) refl (inl (cond-nil (fine (record { step = read c; fed = tt }) xs)))
+good-read D c xs w g = good-step D [] (record { step = read c; fed = tt }) xs g w (λ p e o. absurd (no-some e))
+    (λ d r n e. (let z : _≡_ {A = ℕ} 0 1 = cc in omega arith))
+    (cond-nil (fine (record { step = read c; fed = tt }) xs)) (cond-nil (fine (record { step = read c; fed = tt }) xs)) refl
+    (inl (cond-nil (fine (record { step = read c; fed = tt }) xs)))
 
 -- what has been shown stays shown while no write begins
 pub shown-later : (x : StepOf K) (xs : Steps K) → ((c : ℕ) (r n : List ℕ) → x .step ≡ write c r n → ⊥) → ShownAll xs → ShownAll (x ∷ xs)
@@ -291,18 +323,22 @@ unfolding Ever Begins
 shown-later x xs f h c n (inl b) = absurd (f c (b .0) n (b .1))
 shown-later x xs f h c n (inr b) = inr (h c n b)
 
-pub old-begin : (x : StepOf K) (xs : Steps K) → ((c : ℕ) (r n : List ℕ) → x .step ≡ write c r n → ⊥) → (c : ℕ) (n : List ℕ) → Ever (Begin K c n) (x ∷ xs) → Ever (Begin K c n) xs
+pub old-begin : (x : StepOf K) (xs : Steps K) → ((c : ℕ) (r n : List ℕ) → x .step ≡ write c r n → ⊥) → (c : ℕ) (n : List ℕ) →
+    Ever (Begin K c n) (x ∷ xs) → Ever (Begin K c n) xs
 unfolding Ever Begins
 old-begin x xs f c n (inl b) = absurd (f c (b .0) n (b .1))
 old-begin x xs f c n (inr b) = b
 
-module _ (c b n : ℕ) (x y : Body) (i : within 1 (shelf 1 .servers) b ≡ true) (e : allBytes (packet c b n x) ≡ true) (f : allBytes (packet c b n y) ≡ true) (xs : Steps K) where
+module _ (c b n : ℕ) (x y : Body) (i : within 1 (shelf 1 .servers) b ≡ true) (e : allBytes (packet c b n x) ≡ true)
+    (f : allBytes (packet c b n y) ≡ true) (xs : Steps K) where
   pub old-exchange : (d : ℕ) (m : List ℕ) → Ever (Begin K d m) (exchange c b n x y i e f xs) → Ever (Begin K d m) xs
   old-exchange d m h = old-begin (makes-it c b) xs (λ d r k q. (let z : _≡_ {A = ℕ} 0 1 = cc in omega arith)) d m
       (old-begin (serves-it b (packet c b n x) i e) (makes-it c b ∷ xs) (λ d r k q. (let z : _≡_ {A = ℕ} 0 1 = cc in omega arith)) d m
-      (old-begin (takes-it c (packet c b n y) f) (serves-it b (packet c b n x) i e ∷ makes-it c b ∷ xs) (λ d r k q. (let z : _≡_ {A = ℕ} 0 1 = cc in omega arith)) d m h))
+      (old-begin (takes-it c (packet c b n y) f) (serves-it b (packet c b n x) i e ∷ makes-it c b ∷ xs)
+      (λ d r k q. (let z : _≡_ {A = ℕ} 0 1 = cc in omega arith)) d m h))
 
   pub shown-exchange : ShownAll xs → ShownAll (exchange c b n x y i e f xs)
-  shown-exchange h = shown-later (takes-it c (packet c b n y) f) (serves-it b (packet c b n x) i e ∷ makes-it c b ∷ xs) (λ d r k q. (let z : _≡_ {A = ℕ} 0 1 = cc in omega arith))
+  shown-exchange h = shown-later (takes-it c (packet c b n y) f) (serves-it b (packet c b n x) i e ∷ makes-it c b ∷ xs)
+      (λ d r k q. (let z : _≡_ {A = ℕ} 0 1 = cc in omega arith))
       (shown-later (serves-it b (packet c b n x) i e) (makes-it c b ∷ xs) (λ d r k q. (let z : _≡_ {A = ℕ} 0 1 = cc in omega arith))
       (shown-later (makes-it c b) xs (λ d r k q. (let z : _≡_ {A = ℕ} 0 1 = cc in omega arith)) h))
