@@ -1,33 +1,32 @@
--- A correct server whose reply to the round in hand has come in is marked: the reply fits, so it was let in or its server had replied; refusal 14 and
--- the
--- answer 11 do not come while numbers are small and histories have room, and a reply refused with 15 has not come in.
+-- A correct server whose reply to the round in hand has come in is marked: the reply fits, so it was let in or its server had replied; refusal
+-- 14 and the answer 11 do not come while numbers are small and histories have room, and a reply refused with 15 has not come in.
 -- Assumes nothing.
 use mathlib.Core.Path.{_≡_, refl, sym, ap, _∙_, subst}
-use mathlib.Core.Bool.{Bool, true, false, cond, not, _&&_, _||_}
+use mathlib.Core.Bool.{Bool, true, false, not}
 use mathlib.Core.List.{List, [], _∷_, _++_}
-use mathlib.Core.Option.{Option, none, some, Option·some-injective}
+use mathlib.Core.Option.{some, Option·some-injective}
 use mathlib.Core.Logic.{_⊎_, inl, inr}
-use Prim.Native.Nat.{ℕ, zero, suc, _+_, _*_, _≤_, _<_}
+use Prim.Native.Nat.{ℕ, _+_, _*_, _≤_}
 use native.Mathlib.Omega.{arith}
-use lib.Dec.{leb, ltb, eqb}
+use lib.Dec.{ltb}
 use lib.ListN.{length, length-append}
-use borrow.Author.Tests.{leb-true, le-leb, eqb-true, eq-eqb, ne-eqb}
+use borrow.Author.Tests.{leb-true, le-leb, eq-eqb}
 use Rattle.cluster.specs.Ranges.{within, topFaults, topClient, topNumber, capacity, contentRoom}
 use Rattle.cluster.specs.Refusals.{onRefusal}
 use Rattle.protocol.specs.declared.Stamp.{Stamp}
-use Rattle.protocol.specs.Values.{Candidate, Share, Held, sameList, blankCandidate}
+use Rattle.protocol.specs.Values.{Candidate, blankCandidate}
 use Rattle.protocol.specs.Packet.{Body, Packet, kindOf, decode}
-use Rattle.protocol.specs.Rules.{ByServer, upd, leader, tagsIn}
-use Rattle.protocol.specs.Server.{act, replyTo}
-use Rattle.protocol.specs.Client.{Client, Hand, Turn, Result, refused, idle, clocking, storing, completing, collecting, filtering, repairing, awaits, isIdle, isFull, tooHigh, highAt, badFaults}
-use Rattle.protocol.specs.Client.{update, judge, found, onto, begun, prepared, higher, stampIn, codeIn, takeRefusal, takeStep, turnOn}
-use Rattle.protocol.specs.Runs.{Step, take-reply, Typed, World, nowValues, doValues, setClient}
-use Rattle.atomicity.specs.Lists.{Ever, Always, In}
-use Rattle.atomicity.specs.Steps.{System, Stamped, accepted, serves, stampedAt}
+use Rattle.protocol.specs.Rules.{upd}
+use Rattle.protocol.specs.Server.{act}
+use Rattle.protocol.specs.Client.{Client, Hand, Turn, refused, idle, clocking, storing, completing, collecting, filtering, repairing, awaits, isIdle, isFull, tooHigh, highAt, badFaults}
+use Rattle.protocol.specs.Client.{onto, begun, higher, stampIn, codeIn}
+use Rattle.protocol.specs.Runs.{Step, take-reply, World, nowValues}
+use Rattle.atomicity.specs.Lists.{Ever}
+use Rattle.atomicity.specs.Steps.{accepted, serves, stampedAt}
 use Rattle.atomicity.specs.Premises.{Sent}
 use Rattle.atomicity.specs.Claim.{cameIn}
-use Rattle.atomicity.proofs.Util.{cond-case, cond-both, bool-case, clash, and-right, and-intro, not-t, upd-here, upd-else, ever-map, ever-with, ever-out, rise}
-use Rattle.atomicity.proofs.Model.{Run, perform, now, account, marks, acts, updated, turn}
+use Rattle.atomicity.proofs.Util.{clash, and-right, and-intro, ever-map, ever-with, ever-out, rise}
+use Rattle.atomicity.proofs.Model.{perform, now, account, marks, turn}
 use Rattle.atomicity.proofs.Setup.{Setup, Steps, StepOf, Meets, Fair, hand, calls, lat}
 use Rattle.atomicity.proofs.Moves.{Fits, Moved, kept, wbegan, rbegan, quit, took, moved, acting}
 use Rattle.atomicity.proofs.Rounds.{Next, next-stage, turn-turned, stage, stage-awaits, stage-bound, pos, ever-before}
@@ -35,107 +34,11 @@ use Rattle.atomicity.proofs.Sources.{MadeBy, Told, reply-source, sent-m
 use Rattle.atomicity.proofs.Genuine.{Genuine, latest-known}
 use Rattle.atomicity.proofs.Heard.{Heard, heard, asked-at}
 use Rattle.atomicity.proofs.Telling.{at-step}
-use Rattle.atomicity.proofs.Logs.{result}
+use Rattle.atomicity.proofs.Shape.{result}
 use Rattle.atomicity.proofs.Story.{past}
 use Rattle.atomicity.proofs.Numbers.{Low, Small, small, mark-small, higher-low}
 use Rattle.atomicity.proofs.Full.{eleven}
-
-reply-t : (p ask : Packet) (y : Body) → p ≡ replyTo ask y → p .head .t ≡ ask .head .t
-unfolding replyTo
-reply-t p ask y e = ap (λ (q : Packet). q .head .t) e
-
--- ---- the marks of a round grow
-
-keeps-mark : (m : ByServer Bool) (b j : ℕ) → m j ≡ true → upd m b true j ≡ true
-keeps-mark m b j e = bool-case (eqb j b) (λ t. ap (upd m b true) (eqb-true j b t) ∙ upd-here m b true) (λ t. upd-else m b true j t ∙ e)
-
-module _ (s : System) (c : ℕ) where
-  abbrev Grown : ByServer Bool → ℕ → Body → Hand → Turn → Type 0
-  Grown m b y h u = stage h ≡ stage (u .client .hand) → ((j : ℕ) → m j ≡ true → u .client .marks j ≡ true)
-      × ((codeIn y ≡ 11 → awaits h ≡ 4 → ⊥) → u .client .marks b ≡ true)
-
-  marked : (m : ByServer Bool) (b : ℕ) → ((j : ℕ) → m j ≡ true → upd m b true j ≡ true) × (upd m b true b ≡ true)
-  marked m b = (λ j e. keeps-mark m b j e, upd-here m b true)
-
-  found-grown : (m : ByServer Bool) (b : ℕ) (y : Body) (cs : List Candidate) (g g' : ByServer Held) (m' : ByServer Bool) (cl : Client) (d : Candidate)
-      (l : ℕ) → Grown m b y (filtering cs g) (found (s .P) (s .config) c (s .writers) (s .keys) cl m' g' d l)
-  unfolding found onto stage
-  found-grown m b y cs g g' m' cl d l =
-      cond-both (Grown m b y (filtering cs g)) (sameList (tagsIn (s .P) (s .config) d (g' l .share)) (d .tags)) _ _ (λ z. absurd (omega (arith, z)))
-      (λ z. absurd (omega (arith, z)))
-
-  judge-grown : (m : ByServer Bool) (b : ℕ) (y : Body) (cs : List Candidate) (g g' : ByServer Held) (cl : Client) (ls : List Candidate)
-      (o : Option Candidate) →
-      Grown m b y (filtering cs g) (judge (s .P) (s .config) c (s .writers) (s .keys) cl (upd m b true) cs g' ls o)
-  unfolding judge onto stage
-  judge-grown m b y cs g g' cl [] o = λ z. absurd (omega (arith, z))
-  judge-grown m b y cs g g' cl (x ∷ ls) none = λ z. (marked m b .0, λ n. marked m b .1)
-  judge-grown m b y cs g g' cl (x ∷ ls) (some d) =
-      found-grown m b y cs g g' (upd m b true) cl d (leader (s .P) (s .config) (upd m b true) g' d (s .config .servers))
-
-  update-grown : (cl : Client) (b : ℕ) (y : Body) (full : Bool) (h : Hand) → cl .hand ≡ h → isIdle h ≡ false →
-      Grown (cl .marks) b y h (updated s c cl b y (upd (cl .marks) b true) full h)
-  unfolding update onto stage awaits isIdle prepared
-  update-grown cl b y full idle e busy = clash refl busy
-  update-grown cl b y true (clocking r n k) e busy = λ z. absurd (omega (arith, z))
-  update-grown cl b y false (clocking r n k) e busy = λ z. (marked (cl .marks) b .0, λ n. marked (cl .marks) b .1)
-  update-grown cl b y full (storing d g) e busy = cond-case (Grown (cl .marks) b y (storing d g)) (eqb (codeIn y) 11) _ _
-      (λ q z. (λ j i. i, λ n. absurd (n (eqb-true (codeIn y) 11 q) refl)))
-      (λ k. cond-both (Grown (cl .marks) b y (storing d g)) full _ _ (λ z. absurd (omega (arith, z)))
-      (λ z. (marked (cl .marks) b .0, λ n. marked (cl .marks) b .1)))
-  update-grown cl b y true (completing d) e busy = λ z. absurd (omega (arith, z))
-  update-grown cl b y false (completing d) e busy = λ z. (marked (cl .marks) b .0, λ n. marked (cl .marks) b .1)
-  update-grown cl b y true (collecting g) e busy = λ z. absurd (omega (arith, z))
-  update-grown cl b y false (collecting g) e busy = λ z. (marked (cl .marks) b .0, λ n. marked (cl .marks) b .1)
-  update-grown cl b y true (filtering cs g) e busy = judge-grown (cl .marks) b y cs g _ cl _ _
-  update-grown cl b y false (filtering cs g) e busy = λ z. (marked (cl .marks) b .0, λ n. marked (cl .marks) b .1)
-  update-grown cl b y true (repairing d r) e busy = λ z. absurd (omega (arith, z))
-  update-grown cl b y false (repairing d r) e busy = λ z. (marked (cl .marks) b .0, λ n. marked (cl .marks) b .1)
-
-  -- ---- the code of a reply that fits
-
-  abbrev code : Client → Packet → ℕ → ℕ
-  code cl p room = takeRefusal (s .config) c (some p) (cl .calls) (awaits (cl .hand)) (cl .marks)
-      (highAt (s .P) (s .config) c (s .writers) (s .keys) cl) room
-
-  code-is : (cl : Client) (p : Packet) (room : ℕ) → badFaults (s .config) ≡ false → within 1 topClient c ≡ true → p .head .t ≡ s .config .t →
-      p .head .client ≡ c → isIdle (cl .hand) ≡ false → p .head .call ≡ cl .calls → kindOf (p .body) ≡ awaits (cl .hand) →
-      code cl p room ≡ cond (cl .marks (p .head .server)) 12
-      (cond (highAt (s .P) (s .config) c (s .writers) (s .keys) cl (p .head .server) (p .body)) 14 (cond (ltb room contentRoom) 15 0))
-  unfolding takeRefusal isIdle
-  code-is cl p room f r t m i l k =
-      ap (λ (z : Bool). cond z 3 (cond (not (within 1 topClient c)) 5
-      (cond (not (eqb (p .head .t) (s .config .t) && eqb (p .head .client) c)) 8 T12))) f
-      ∙ ap (λ (z : Bool). cond (not z) 5 (cond (not (eqb (p .head .t) (s .config .t) && eqb (p .head .client) c)) 8 T12)) r
-      ∙ ap (λ (z : Bool). cond (not (z && eqb (p .head .client) c)) 8 T12) (eq-eqb (p .head .t) (s .config .t) t)
-      ∙ ap (λ (z : Bool). cond (not z) 8 T12) (eq-eqb (p .head .client) c m)
-      ∙ ap (λ (z : Bool). cond (not z &&
-      (not (eqb (p .head .call) (cl .calls) && eqb (kindOf (p .body)) (awaits (cl .hand))) || cl .marks (p .head .server))) 12 (cond z 13 T14)) i
-      ∙ ap (λ (z : Bool). cond (not (z && eqb (kindOf (p .body)) (awaits (cl .hand))) || cl .marks (p .head .server)) 12 T14)
-      (eq-eqb (p .head .call) (cl .calls) l)
-      ∙ ap (λ (z : Bool). cond (not z || cl .marks (p .head .server)) 12 T14) (eq-eqb (kindOf (p .body)) (awaits (cl .hand)) k)
-    where
-      T14 : ℕ
-      T14 = cond (highAt (s .P) (s .config) c (s .writers) (s .keys) cl (p .head .server) (p .body)) 14 (cond (ltb room contentRoom) 15 0)
-
-      T12 : ℕ
-      T12 = cond (not (eqb (awaits (cl .hand)) 0) &&
-          (not (eqb (p .head .call) (cl .calls) && eqb (kindOf (p .body)) (awaits (cl .hand))) || cl .marks (p .head .server))) 12
-          (cond (eqb (awaits (cl .hand)) 0) 13 T14)
-
-  -- the result by the code
-  result-is : (w : World) (b o : List ℕ) (p : Packet) → decode b ≡ some p →
-      perform s w (take-reply c b o) .result ≡ onRefusal (code (w .client c) p (length o)) (turn s c (w .client c) p)
-      (record { client = w .client c; result = refused (code (w .client c) p (length o)) }) .result
-  unfolding doValues setClient takeStep turnOn
-  result-is w b o p e = ap (λ (q : Option Packet). takeStep (s .P) (s .config) c (s .writers) (s .keys) (w .client c) q (length o) .result) e
-
-code-cases : {B : Type 0} (n : ℕ) (u v w : Bool) → n ≡ cond u 12 (cond v 14 (cond w 15 0)) → (u ≡ true → B) → (v ≡ true → B) → (n ≡ 15 → B) →
-    (n ≡ 0 → B) → B
-code-cases n true v w e f g h i = f refl
-code-cases n false true w e f g h i = g refl
-code-cases n false false true e f g h i = h e
-code-cases n false false false e f g h i = i e
+use Rattle.atomicity.proofs.Grown.{code, code-cases, code-is, reply-t, result-is, update-grown}
 
 module _ (K : Setup) (c : ℕ) where
   -- server b's reply to the round of kind k of call n comes in

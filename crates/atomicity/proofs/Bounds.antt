@@ -30,7 +30,8 @@ use Rattle.atomicity.proofs.Moves.{Moved, kept, wbegan, rbegan, quit, t
 use Rattle.atomicity.proofs.Rounds.{turn-turned}
 use Rattle.atomicity.proofs.Marks.{mark-source, capped, above}
 use Rattle.atomicity.proofs.Begun.{begins, by-nonce}
-use Rattle.atomicity.proofs.Logs.{Log, result, touched, news, newCall, note-shape, Signed}
+use Rattle.atomicity.proofs.Shape.{Log, result, touched, news, newCall, note-shape}
+use Rattle.atomicity.proofs.Logs.{Signed}
 use Rattle.atomicity.proofs.Story.{past, story, story-log, stepSigned, step-keeps}
 use Rattle.atomicity.proofs.Listed.{pigeon, map-size, map-apart}
 

@@ -1,5 +1,5 @@
--- What is known of each call of the log, with a stamp that the proof keeps beside it; and that it lasts while other calls step.
--- A write's stamp is above all that had ended when it began, a read's is at least as high and is that of the write whose content it gave.
+-- What is known of each call of the log, with a stamp that the proof keeps beside it; and that it lasts while other calls step. A write's
+-- stamp is above all that had ended when it began, a read's is at least as high and is that of the write whose content it gave.
 -- Assumes nothing.
 use mathlib.Core.Path.{_≡_, refl, sym, ap, _∙_, subst}
 use mathlib.Core.Bool.{Bool, true, false, cond, not, _&&_, _||_}

@@ -1,6 +1,5 @@
--- What the filter round may choose: a write that a quorum held since the round began is never excluded, so the choice is no lower than what had ended
--- when
--- the call began; and a proven candidate is that of a write, whose content its group gives back.
+-- What the filter round may choose: a write that a quorum held since the round began is never excluded, so the choice is no lower than what
+-- had ended when the call began; and a proven candidate is that of a write, whose content its group gives back.
 -- Assumes nothing.
 use mathlib.Core.Path.{_≡_, refl, sym, ap, ap₂, _∙_, subst}
 use mathlib.Core.Bool.{Bool, true, false, cond, not, _&&_, _||_}
@@ -28,7 +27,8 @@ use Rattle.atomicity.proofs.Setup.{Setup, Steps, Fair, Show, lat, hist}
 use Rattle.atomicity.proofs.Begun.{mark-bytes, mark-digested}
 use Rattle.atomicity.proofs.Genuine.{Genuine}
 use Rattle.atomicity.proofs.States.{S, Q, right, FullAt, TopAt, Beats, meets-marks, correct-in, Filters}
-use Rattle.atomicity.proofs.Groups.{members, members-length, members-range, members-apart, upTo-in, Fit, fit-view, Alike, member, leader-view, parts-are, no-two}
+use Rattle.atomicity.proofs.Gathered.{members, members-length, members-range, members-apart, upTo-in}
+use Rattle.atomicity.proofs.Groups.{Fit, fit-view, Alike, member, leader-view, parts-are, no-two}
 
 pub first-view : {A : Type 0} (p : A → Bool) (l : List A) (c : A) → first p l ≡ some c → In c l × (p c ≡ true)
 unfolding first In

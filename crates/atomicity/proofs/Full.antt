@@ -1,5 +1,5 @@
--- A correct server answers 11 only if more writes than its capacity have got a stamp: its history holds different marks, and none of them is this
--- one.
+-- A correct server answers 11 only if more writes than its capacity have got a stamp: its history holds different marks, and none of them is
+-- this one.
 -- Assumes nothing.
 use mathlib.Core.Path.{_≡_, refl, sym, ap, _∙_, subst}
 use mathlib.Core.Bool.{Bool, true, false, cond}
@@ -26,14 +26,14 @@ use Rattle.atomicity.specs.Steps.{System, Stamped}
 use Rattle.atomicity.proofs.Util.{cond-both, cond-case, clash, rise, ever-map, all-of, in-map, map-in}
 use Rattle.atomicity.proofs.Model.{Run, perform, now, acts, marks, isValid, bestOf}
 use Rattle.atomicity.proofs.Setup.{Setup, Steps, StepOf, Fair, hand, hist}
-use Rattle.atomicity.proofs.Moves.{Served, same, acted, served}
+use Rattle.atomicity.proofs.Serving.{Served, same, acted, served}
 use Rattle.atomicity.proofs.Marks.{marks-up}
 use Rattle.atomicity.proofs.Begun.{Known, known}
 use Rattle.atomicity.proofs.Servers.{in-held}
-use Rattle.atomicity.proofs.Genuine.{history}
+use Rattle.atomicity.proofs.Histories.{history}
 use Rattle.atomicity.proofs.Heard.{Heard}
 use Rattle.atomicity.proofs.Telling.{at-step}
-use Rattle.atomicity.proofs.Groups.{pairs-snoc}
+use Rattle.atomicity.proofs.Gathered.{pairs-snoc}
 use Rattle.atomicity.proofs.Listed.{pigeon, map-size, map-apart}
 
 -- ---- a history's stamps differ

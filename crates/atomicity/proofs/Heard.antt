@@ -1,5 +1,5 @@
--- What only rises along a run; and that a correct server's reply to the round in hand was given in this very round, on the request of this hand.
--- So what such a reply says was true of that server after the call and the round began: late replies, replays and disorder do no harm.
+-- What only rises along a run; and that a correct server's reply to the round in hand was given in this very round, on the request of this
+-- hand. So what such a reply says was true of that server after the call and the round began: late replies, replays and disorder do no harm.
 -- Assumes nothing.
 use mathlib.Core.Path.{_≡_, refl, sym, ap, _∙_, subst}
 use mathlib.Core.Bool.{Bool, true, false, cond, not, _&&_, _||_}
@@ -25,7 +25,7 @@ use Rattle.atomicity.proofs.Util.{clash, cond-both, ever-map, ever-with
 use Rattle.atomicity.proofs.Stamps.{le-trans, below-irrefl}
 use Rattle.atomicity.proofs.Model.{Run, perform, now, account, acts, marks}
 use Rattle.atomicity.proofs.Setup.{Setup, Steps, StepOf, Meets, Fair, lat, hist, hand, calls}
-use Rattle.atomicity.proofs.Moves.{Asked, Making, making}
+use Rattle.atomicity.proofs.Serving.{Asked, Making, making}
 use Rattle.atomicity.proofs.Rounds.{stage, pos, stage-awaits, since, from, Before, ever-before, before-one, before-trans}
 use Rattle.atomicity.proofs.Marks.{marks-up}
 use Rattle.atomicity.proofs.Servers.{held-some, is-some, in-held, latest-rises, history-keeps}

@@ -1,6 +1,6 @@
--- The claim in the user's words. Page 41 follows from the one order alone: a call that ended before another began stands ahead of it, and versions
--- only rise
--- along the order. And a call has ended once its rounds are answered, since else its round in hand would lack a quorum of correct replies.
+-- The claim in the user's words. Page 41 follows from the one order alone: a call that ended before another began stands ahead of it, and
+-- versions only rise along the order. And a call has ended once its rounds are answered, since else its round in hand would lack a quorum of
+-- correct replies.
 -- Assumes nothing.
 use mathlib.Core.Path.{_≡_, refl, sym, ap, _∙_, subst}
 use mathlib.Core.Bool.{Bool, true, false, cond, _||_}
@@ -29,7 +29,8 @@ use Rattle.atomicity.specs.Page41.{Version, versions, NeverOlder, Answer
 use Rattle.atomicity.proofs.Util.{unfalse, clash, or-cases, all-in}
 use Rattle.atomicity.proofs.Model.{Laws, account}
 use Rattle.atomicity.proofs.Setup.{Setup, Steps, Fair, hand, calls}
-use Rattle.atomicity.proofs.Logs.{Log, Signed}
+use Rattle.atomicity.proofs.Shape.{Log}
+use Rattle.atomicity.proofs.Logs.{Signed}
 use Rattle.atomicity.proofs.Story.{story}
 use Rattle.atomicity.proofs.Settled.{Out, Settled, all-settled}
 use Rattle.atomicity.proofs.OneServer.{known-call, progress}

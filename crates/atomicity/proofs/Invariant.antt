@@ -1,6 +1,5 @@
--- The invariant of every run that meets the premises: what is known of each correct client's hand, and that a write whose nonce was shown is held by
--- a
--- quorum, since it was shown in its complete round. And what has ended stays on top.
+-- The invariant of every run that meets the premises: what is known of each correct client's hand, and that a write whose nonce was shown is
+-- held by a quorum, since it was shown in its complete round. And what has ended stays on top.
 -- Assumes nothing.
 use mathlib.Core.Path.{_≡_, refl, sym, ap, _∙_, subst}
 use mathlib.Core.Bool.{Bool, true, false, cond, not, _&&_, _||_}
@@ -27,7 +26,8 @@ use Rattle.atomicity.proofs.Stamps.{below-blank}
 use Rattle.atomicity.proofs.Counting.{split-count, quorum-sum, count-mono}
 use Rattle.atomicity.proofs.Model.{Run, perform, now, account, marks, turn, candidateFor}
 use Rattle.atomicity.proofs.Setup.{Setup, Steps, StepOf, Meets, Fair, Show, hand, calls, lat}
-use Rattle.atomicity.proofs.Moves.{Fits, Moved, kept, wbegan, rbegan, quit, took, moved, Making, making}
+use Rattle.atomicity.proofs.Moves.{Fits, Moved, kept, wbegan, rbegan, quit, took, moved}
+use Rattle.atomicity.proofs.Serving.{Making, making}
 use Rattle.atomicity.proofs.Rounds.{Next, next-stage, turn-turned, stage, pos, since, from, since-same, from-same, from-new}
 use Rattle.atomicity.proofs.Marks.{marks-up}
 use Rattle.atomicity.proofs.Begun.{Known, known, by-nonce}

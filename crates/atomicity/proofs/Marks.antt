@@ -1,5 +1,6 @@
--- Marks, the writes that have a stamp: each is made by the reply that ends clock; a storing or completing hand has one; two with one writer and
--- number are one, since a client's numbers rise; its write was begun with its content and nonce, and what it digests is among the inputs digested.
+-- Marks, the writes that have a stamp: each is made by the reply that ends clock; a storing or completing hand has one; two with one writer
+-- and number are one, since a client's numbers rise; its write was begun with its content and nonce, and what it digests is among the inputs
+-- digested.
 -- Assumes nothing.
 use mathlib.Core.Path.{_≡_, refl, sym, ap, _∙_, subst}
 use mathlib.Core.Bool.{Bool, true, false, cond, not, _&&_, _||_}

@@ -1,5 +1,5 @@
--- The vocabulary of the proof: a system's runs on values, the account of them, the writes that have a stamp (marks) with what they send,
--- and the laws of digest, tag, fragments and packets that the proof rests on. The laws are proved for the real functions in the module Real.
+-- The vocabulary of the proof: a system's runs on values, the account of them, the writes that have a stamp (marks) with what they send, and
+-- the laws of digest, tag, fragments and packets that the proof rests on. The laws are proved for the real functions in the module Real.
 -- Assumes nothing.
 use mathlib.Core.Path.{_≡_}
 use mathlib.Core.Bool.{Bool, true, false, cond, not, _&&_}

@@ -1,6 +1,5 @@
--- The moments when correct servers replied to an undecided filter round: a genuine candidate of the list was shown, and held by a quorum, before each
--- of them.
--- Here the premise enters that no nonce is seen before its write begins. And the earliest of the moments.
+-- The moments when correct servers replied to an undecided filter round: a genuine candidate of the list was shown, and held by a quorum,
+-- before each of them. Here the premise enters that no nonce is seen before its write begins. And the earliest of the moments.
 -- Assumes nothing.
 use mathlib.Core.Path.{_≡_, refl, sym, ap, _∙_, subst}
 use mathlib.Core.Bool.{Bool, true, false, cond, not, _&&_, _||_}

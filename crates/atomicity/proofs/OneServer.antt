@@ -1,6 +1,5 @@
--- The claim on values: for every system with its laws and every run that meets the premises there is one order of the calls, a write given up before
--- its complete
--- round is in none, and a round in hand lacks a quorum of correct replies.
+-- The claim on values: for every system with its laws and every run that meets the premises there is one order of the calls, a write given up
+-- before its complete round is in none, and a round in hand lacks a quorum of correct replies.
 -- Assumes nothing.
 use mathlib.Core.Path.{_≡_, refl, sym, ap, _∙_, subst}
 use mathlib.Core.Bool.{Bool, true, false, cond, not, _&&_, _||_}
@@ -27,7 +26,8 @@ use Rattle.atomicity.proofs.Rounds.{since, from}
 use Rattle.atomicity.proofs.States.{S, Q, right, HandOk}
 use Rattle.atomicity.proofs.Invariant.{Hands, hands-all}
 use Rattle.atomicity.proofs.Calls.{CallOk}
-use Rattle.atomicity.proofs.Logs.{Log, Signed}
+use Rattle.atomicity.proofs.Shape.{Log}
+use Rattle.atomicity.proofs.Logs.{Signed}
 use Rattle.atomicity.proofs.Story.{story, story-log}
 use Rattle.atomicity.proofs.Ordering.{in-perm, perm-sym}
 use Rattle.atomicity.proofs.Safety.{order}

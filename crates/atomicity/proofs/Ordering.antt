@@ -1,5 +1,5 @@
--- From "who ended before another began has the lower key" and "a read's write is the last one below it" to the one order: the calls that count,
--- sorted by key.
+-- From "who ended before another began has the lower key" and "a read's write is the last one below it" to the one order: the calls that
+-- count, sorted by key.
 -- Assumes nothing.
 use mathlib.Core.Path.{_≡_, refl, sym, ap, _∙_, subst}
 use mathlib.Core.Bool.{Bool, true, false, cond, true≢false}

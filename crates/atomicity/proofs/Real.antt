@@ -1,6 +1,5 @@
--- The laws that the proof rests on, of the real digest, tag and fragments and the real packets, on document 01's shelf; and with them the claim of
--- the
--- operations on bytes, which give the same account of every run as the steps on values.
+-- The laws that the proof rests on, of the real digest, tag and fragments and the real packets, on document 01's shelf; and with them the
+-- claim of the operations on bytes, which give the same account of every run as the steps on values.
 -- Assumes nothing.
 use mathlib.Core.Path.{_≡_, refl, sym, ap, _∙_, subst}
 use mathlib.Core.Bool.{Bool, true, false}

@@ -1,5 +1,5 @@
--- The call that takes a reply: what is known of it after the reply, by its hand and by the result. It gets its stamp when clock ends, has reached its
--- complete round when store ends, and is over when its result is given.
+-- The call that takes a reply: what is known of it after the reply, by its hand and by the result. It gets its stamp when clock ends, has
+-- reached its complete round when store ends, and is over when its result is given.
 -- Assumes nothing.
 use mathlib.Core.Path.{_≡_, refl, sym, ap, _∙_, subst}
 use mathlib.Core.Bool.{Bool, true, false, cond, not, _&&_, _||_}

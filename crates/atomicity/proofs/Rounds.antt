@@ -1,5 +1,5 @@
--- How a reply may move a hand, a client's position (call and round), and the moments when its call and its round began.
--- A reply that is let in leaves the round as it is or ends it, so a position never falls, and within one position the request is the same.
+-- How a reply may move a hand, a client's position (call and round), and the moments when its call and its round began. A reply that is let in
+-- leaves the round as it is or ends it, so a position never falls, and within one position the request is the same.
 -- Assumes nothing.
 use mathlib.Core.Path.{_≡_, refl, sym, ap, _∙_, subst}
 use mathlib.Core.Bool.{Bool, true, false, cond, not, _&&_, _||_}

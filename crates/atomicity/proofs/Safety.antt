@@ -1,7 +1,6 @@
--- The one order of a run's calls: sorted by stamp, a write before its reads, then by the begin. Real time holds because a call's stamp is above, or
--- no lower
--- than, what had ended when it began; each read gives the last write below it because that write's call is in the log and no other write has its
--- stamp.
+-- The one order of a run's calls: sorted by stamp, a write before its reads, then by the begin. Real time holds because a call's stamp is
+-- above, or no lower than, what had ended when it began; each read gives the last write below it because that write's call is in the log and
+-- no other write has its stamp.
 -- Assumes nothing.
 use mathlib.Core.Path.{_≡_, refl, sym, ap, _∙_, subst}
 use mathlib.Core.Bool.{Bool, true, false, cond, not, _&&_, _||_}
@@ -28,7 +27,8 @@ use Rattle.atomicity.proofs.Rounds.{since}
 use Rattle.atomicity.proofs.Marks.{mark-num, mark-who, by-stamp, mark-source, above}
 use Rattle.atomicity.proofs.Begun.{by-nonce}
 use Rattle.atomicity.proofs.Calls.{MarkAt, mark-at, Given, Base}
-use Rattle.atomicity.proofs.Logs.{Log, Signed}
+use Rattle.atomicity.proofs.Shape.{Log}
+use Rattle.atomicity.proofs.Logs.{Signed}
 use Rattle.atomicity.proofs.Story.{story, story-log, story-pairs, Counts, shown-call}
 use Rattle.atomicity.proofs.Keys.{lex-lt, lex-eq, lex-view, part, lesser, less, less-chain, less-asym, less-total, Rest, less-rest, between}
 use Rattle.atomicity.proofs.Ordering.{Clear, Last, Explained, Reads, one-order, in-perm, perm-sym}

@@ -1,5 +1,5 @@
--- A run of the toy shelf: client 1 writes, client 16 is wild and sends a server a made-up candidate, client 9 reads, and server 4 lies to it with
--- that candidate.
+-- A run of the toy shelf: client 1 writes, client 16 is wild and sends a server a made-up candidate, client 9 reads, and server 4 lies to it
+-- with that candidate.
 -- Assumes nothing.
 use mathlib.Core.Path.{_≡_, refl}
 use mathlib.Core.Bool.{true, cond}
@@ -28,7 +28,8 @@ use Rattle.protocol.specs.Runs.{write, read, doValues, nowValues, setClient}
 use Rattle.atomicity.specs.Lists.{flat}
 use Rattle.atomicity.specs.Steps.{stampedFrom, stampedBy, clockChecks, serverChecks, checkedBy, digestsWith, digestedBy, noncesBy}
 use Rattle.atomicity.proofs.Setup.{Steps}
-use Rattle.atomicity.proofs.Playing.{toy, K, packet, allBytes, bytes-ok, serves-it, takes-it, exchange}
+use Rattle.atomicity.proofs.Playing.{toy, K, packet, allBytes, bytes-ok, serves-it, takes-it}
+use Rattle.atomicity.proofs.Exchanges.{exchange}
 
 -- ---- what is written, and what the liar makes up
 

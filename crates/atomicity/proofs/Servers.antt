@@ -24,7 +24,7 @@ use Rattle.atomicity.specs.Steps.{System, judged}
 use Rattle.atomicity.proofs.Util.{cond-both, cond-case, clash, untrue, and-left, and-right, and-intro, left-in, right-in, split-in}
 use Rattle.atomicity.proofs.Stamps.{below-irrefl, below-asym, le-trans, same-eq, same-stamp, stamp-refl}
 use Rattle.atomicity.proofs.Model.{Run, perform, now, acts, isValid, bestOf}
-use Rattle.atomicity.proofs.Moves.{Served, same, acted, served}
+use Rattle.atomicity.proofs.Serving.{Served, same, acted, served}
 
 -- ---- lookups in a history
 

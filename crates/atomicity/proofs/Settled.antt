@@ -26,7 +26,8 @@ use Rattle.atomicity.proofs.Setup.{Setup, Steps, StepOf, Fair, hand, ca
 use Rattle.atomicity.proofs.Moves.{Moved, kept, wbegan, rbegan, quit, took, moved, acting}
 use Rattle.atomicity.proofs.Rounds.{turn-turned}
 use Rattle.atomicity.proofs.Calls.{CallOk}
-use Rattle.atomicity.proofs.Logs.{result, touch, touched, newCall, refused-view, Signed, beginSigned, newSigned, new-write, new-read}
+use Rattle.atomicity.proofs.Shape.{result, touch, touched, newCall, refused-view}
+use Rattle.atomicity.proofs.Logs.{Signed, beginSigned, newSigned, new-write, new-read}
 use Rattle.atomicity.proofs.Story.{past, stepSigned, story}
 
 -- over, or given up

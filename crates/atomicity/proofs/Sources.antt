@@ -24,7 +24,7 @@ use Rattle.atomicity.specs.Premises.{Authentic, PartyOf, odd}
 use Rattle.atomicity.proofs.Util.{clash, no-some, and-intro, or-none, ever-map, ever-with, not-false}
 use Rattle.atomicity.proofs.Model.{Run, perform, now, account, acts}
 use Rattle.atomicity.proofs.Setup.{Setup, Steps, StepOf, Meets, Fair}
-use Rattle.atomicity.proofs.Moves.{Asked, Answered, answer, Making, making}
+use Rattle.atomicity.proofs.Serving.{Asked, Answered, answer, Making, making}
 
 -- ---- shapes of steps
 

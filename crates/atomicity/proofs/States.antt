@@ -1,5 +1,5 @@
--- What is known of a client's hand with the marks of who replied, and of a correct server's reply to it; and that all of it lasts while others step.
--- Quorums are counts at a moment: so many correct servers that with all liars they are S - t.
+-- What is known of a client's hand with the marks of who replied, and of a correct server's reply to it; and that all of it lasts while others
+-- step. Quorums are counts at a moment: so many correct servers that with all liars they are S - t.
 -- Assumes nothing.
 use mathlib.Core.Path.{_≡_, refl, sym, ap, _∙_, subst}
 use mathlib.Core.Bool.{Bool, true, false, cond, not, _&&_, _||_}

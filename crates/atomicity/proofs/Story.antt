@@ -1,6 +1,5 @@
--- The list of known calls of a run, newest first: it is the log; calls begin one after the other; the call in hand is in it; and a write whose nonce
--- was
--- shown has its call in it, which has reached its complete round.
+-- The list of known calls of a run, newest first: it is the log; calls begin one after the other; the call in hand is in it; and a write whose
+-- nonce was shown has its call in it, which has reached its complete round.
 -- Assumes nothing.
 use mathlib.Core.Path.{_≡_, refl, sym, ap, ap₂, _∙_, subst}
 use mathlib.Core.Bool.{Bool, true, false, cond, not, _&&_, _||_}
@@ -28,7 +27,8 @@ use Rattle.atomicity.proofs.Marks.{by-stamp, marks-up}
 use Rattle.atomicity.proofs.Begun.{Known, known}
 use Rattle.atomicity.proofs.Invariant.{show-hand}
 use Rattle.atomicity.proofs.Calls.{mark-at, Writing, Cur, CallOk, Keeps}
-use Rattle.atomicity.proofs.Logs.{Log, result, touched, news, newCall, note-shape, Signed, beginSigned, newSigned, new-calls, new-write, new-read, step-call}
+use Rattle.atomicity.proofs.Shape.{Log, result, touched, news, newCall, note-shape}
+use Rattle.atomicity.proofs.Logs.{Signed, beginSigned, newSigned, new-calls, new-write, new-read, step-call}
 
 module _ (K : Setup) where
   -- the steps before the last one meet the premises too

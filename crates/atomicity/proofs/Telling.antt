@@ -27,7 +27,8 @@ use Rattle.atomicity.proofs.Setup.{Setup, Steps, StepOf, Fair, lat, his
 use Rattle.atomicity.proofs.Rounds.{since, from}
 use Rattle.atomicity.proofs.Marks.{mark-num, mark-checks, by-stamp}
 use Rattle.atomicity.proofs.Servers.{held-some, is-some, raise-ge, best-view, best-max, store-held}
-use Rattle.atomicity.proofs.Genuine.{history, Judging, Genuine, genuine, genuine-up, latest-known}
+use Rattle.atomicity.proofs.Histories.{history}
+use Rattle.atomicity.proofs.Genuine.{Judging, Genuine, genuine, genuine-up, latest-known}
 use Rattle.atomicity.proofs.Heard.{lat-since, held-from, marks-from, Heard}
 use Rattle.atomicity.proofs.States.{Piece, piece-up, Sift, Coll, Says, says-up}
 

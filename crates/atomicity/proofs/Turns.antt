@@ -1,6 +1,5 @@
--- A client's hand after each reply, and what a call gives when it ends: round by round, what is known of the hand and what the reply says give what
--- is
--- known after it; a quorum of replies, less the liars, is so many correct servers.
+-- A client's hand after each reply, and what a call gives when it ends: round by round, what is known of the hand and what the reply says give
+-- what is known after it; a quorum of replies, less the liars, is so many correct servers.
 -- Assumes nothing.
 use mathlib.Core.Path.{_≡_, refl, sym, ap, _∙_, subst}
 use mathlib.Core.Bool.{Bool, true, false, cond, not, _&&_, _||_}
@@ -30,7 +29,8 @@ use Rattle.atomicity.proofs.Marks.{mark-num}
 use Rattle.atomicity.proofs.Genuine.{Genuine}
 use Rattle.atomicity.proofs.Heard.{lat-up, held-up}
 use Rattle.atomicity.proofs.States.{S, Q, right, FullAt, TopAt, WBeats, Beats, many-marks, meets-marks, Coll, coll-up, Sift, sift-up, Proved, proved-up, Filters, HandOk, Says, ok-up, full-up, dig-up}
-use Rattle.atomicity.proofs.Groups.{in-gather, tagged-of}
+use Rattle.atomicity.proofs.Gathered.{in-gather}
+use Rattle.atomicity.proofs.Groups.{tagged-of}
 use Rattle.atomicity.proofs.Choosing.{q-pos, floor, Live, Chosen, chosen}
 
 module _ (K : Setup) where

@@ -31,11 +31,11 @@ use Rattle.atomicity.proofs.Genuine.{Judging}
 use Rattle.atomicity.proofs.Heard.{Heard, heard}
 use Rattle.atomicity.proofs.States.{S, Q, right}
 use Rattle.atomicity.proofs.Telling.{at-step}
-use Rattle.atomicity.proofs.Groups.{gather-blank}
+use Rattle.atomicity.proofs.Gathered.{gather-blank}
 use Rattle.atomicity.proofs.Choosing.{Live}
 use Rattle.atomicity.proofs.Turns.{none-short, unmarked}
 use Rattle.atomicity.proofs.Invariant.{awaits-even}
-use Rattle.atomicity.proofs.Logs.{result}
+use Rattle.atomicity.proofs.Shape.{result}
 use Rattle.atomicity.proofs.Story.{past, meets}
 
 module _ (K : Setup) where
