@@ -1,32 +1,32 @@
--- A correct server whose reply to the round in hand has come in is marked: the reply fits, so it was let in or its server had replied; refusal 14 and the
--- answer 11 do not come while numbers are small and histories have room, and a reply refused with 15 has not come in.
+-- A correct server whose reply to the round in hand has come in is marked: the reply fits, so it was let in or its server had replied; refusal
+-- 14 and the answer 11 do not come while numbers are small and histories have room, and a reply refused with 15 has not come in.
 -- Assumes nothing.
 use mathlib.Core.Path.{_≡_, refl, sym, ap, _∙_, subst}
-use mathlib.Core.Bool.{Bool, true, false, cond, not, _&&_, _||_}
+use mathlib.Core.Bool.{Bool, true, false, not}
 use mathlib.Core.List.{List, [], _∷_, _++_}
-use mathlib.Core.Option.{Option, none, some, Option·some-injective}
+use mathlib.Core.Option.{some, Option·some-injective}
 use mathlib.Core.Logic.{_⊎_, inl, inr}
-use Prim.Native.Nat.{ℕ, zero, suc, _+_, _*_, _≤_, _<_}
+use Prim.Native.Nat.{ℕ, _+_, _*_, _≤_}
 use native.Mathlib.Omega.{arith}
-use lib.Dec.{leb, ltb, eqb}
+use lib.Dec.{ltb}
 use lib.ListN.{length, length-append}
-use borrow.Author.Tests.{leb-true, le-leb, eqb-true, eq-eqb, ne-eqb}
+use borrow.Author.Tests.{leb-true, le-leb, eq-eqb}
 use Rattle.cluster.specs.Ranges.{within, topFaults, topClient, topNumber, capacity, contentRoom}
 use Rattle.cluster.specs.Refusals.{onRefusal}
 use Rattle.protocol.specs.declared.Stamp.{Stamp}
-use Rattle.protocol.specs.Values.{Candidate, Share, Held, sameList, blankCandidate}
+use Rattle.protocol.specs.Values.{Candidate, blankCandidate}
 use Rattle.protocol.specs.Packet.{Body, Packet, kindOf, decode}
-use Rattle.protocol.specs.Rules.{ByServer, upd, leader, tagsIn}
-use Rattle.protocol.specs.Server.{act, replyTo}
-use Rattle.protocol.specs.Client.{Client, Hand, Turn, Result, refused, idle, clocking, storing, completing, collecting, filtering, repairing, awaits, isIdle, isFull, tooHigh, highAt, badFaults}
-use Rattle.protocol.specs.Client.{update, judge, found, onto, begun, prepared, higher, stampIn, codeIn, takeRefusal, takeStep, turnOn}
-use Rattle.protocol.specs.Runs.{Step, take-reply, Typed, World, nowValues, doValues, setClient}
-use Rattle.atomicity.specs.Lists.{Ever, Always, In}
-use Rattle.atomicity.specs.Steps.{System, Stamped, accepted, serves, stampedAt}
+use Rattle.protocol.specs.Rules.{upd}
+use Rattle.protocol.specs.Server.{act}
+use Rattle.protocol.specs.Client.{Client, Hand, Turn, refused, idle, clocking, storing, completing, collecting, filtering, repairing, awaits, isIdle, isFull, tooHigh, highAt, badFaults}
+use Rattle.protocol.specs.Client.{onto, begun, higher, stampIn, codeIn}
+use Rattle.protocol.specs.Runs.{Step, take-reply, World, nowValues}
+use Rattle.atomicity.specs.Lists.{Ever}
+use Rattle.atomicity.specs.Steps.{accepted, serves, stampedAt}
 use Rattle.atomicity.specs.Premises.{Sent}
 use Rattle.atomicity.specs.Claim.{cameIn}
-use Rattle.atomicity.proofs.Util.{cond-case, cond-both, bool-case, clash, and-right, and-intro, not-t, upd-here, upd-else, ever-map, ever-with, ever-out, rise}
-use Rattle.atomicity.proofs.Model.{Run, perform, now, account, marks, acts, updated, turn}
+use Rattle.atomicity.proofs.Util.{clash, and-right, and-intro, ever-map, ever-with, ever-out, rise}
+use Rattle.atomicity.proofs.Model.{perform, now, account, marks, turn}
 use Rattle.atomicity.proofs.Setup.{Setup, Steps, StepOf, Meets, Fair, hand, calls, lat}
 use Rattle.atomicity.proofs.Moves.{Fits, Moved, kept, wbegan, rbegan, quit, took, moved, acting}
 use Rattle.atomicity.proofs.Rounds.{Next, next-stage, turn-turned, stage, stage-awaits, stage-bound, pos, ever-before}
@@ -34,102 +34,29 @@ use Rattle.atomicity.proofs.Sources.{MadeBy, Told, reply-source, sent-m
 use Rattle.atomicity.proofs.Genuine.{Genuine, latest-known}
 use Rattle.atomicity.proofs.Heard.{Heard, heard, asked-at}
 use Rattle.atomicity.proofs.Telling.{at-step}
-use Rattle.atomicity.proofs.Logs.{result}
+use Rattle.atomicity.proofs.Shape.{result}
 use Rattle.atomicity.proofs.Story.{past}
 use Rattle.atomicity.proofs.Numbers.{Low, Small, small, mark-small, higher-low}
 use Rattle.atomicity.proofs.Full.{eleven}
-
-reply-t : (p ask : Packet) (y : Body) → p ≡ replyTo ask y → p .head .t ≡ ask .head .t
-unfolding replyTo
-reply-t p ask y e = ap (λ (q : Packet). q .head .t) e
-
--- ---- the marks of a round grow
-
-keeps-mark : (m : ByServer Bool) (b j : ℕ) → m j ≡ true → upd m b true j ≡ true
-keeps-mark m b j e = bool-case (eqb j b) (λ t. ap (upd m b true) (eqb-true j b t) ∙ upd-here m b true) (λ t. upd-else m b true j t ∙ e)
-
-module _ (s : System) (c : ℕ) where
-  abbrev Grown : ByServer Bool → ℕ → Body → Hand → Turn → Type 0
-  Grown m b y h u = stage h ≡ stage (u .client .hand) → ((j : ℕ) → m j ≡ true → u .client .marks j ≡ true) × ((codeIn y ≡ 11 → awaits h ≡ 4 → ⊥) → u .client .marks b ≡ true)
-
-  marked : (m : ByServer Bool) (b : ℕ) → ((j : ℕ) → m j ≡ true → upd m b true j ≡ true) × (upd m b true b ≡ true)
-  marked m b = (λ j e. keeps-mark m b j e, upd-here m b true)
-
-  found-grown : (m : ByServer Bool) (b : ℕ) (y : Body) (cs : List Candidate) (g g' : ByServer Held) (m' : ByServer Bool) (cl : Client) (d : Candidate) (l : ℕ) → Grown m b y (filtering cs g) (found (s .P) (s .config) c (s .writers) (s .keys) cl m' g' d l)
-  unfolding found onto stage
-  found-grown m b y cs g g' m' cl d l = cond-both (Grown m b y (filtering cs g)) (sameList (tagsIn (s .P) (s .config) d (g' l .share)) (d .tags)) _ _ (λ z. absurd (omega (arith, z))) (λ z. absurd (omega (arith, z)))
-
-  judge-grown : (m : ByServer Bool) (b : ℕ) (y : Body) (cs : List Candidate) (g g' : ByServer Held) (cl : Client) (ls : List Candidate) (o : Option Candidate) →
-      Grown m b y (filtering cs g) (judge (s .P) (s .config) c (s .writers) (s .keys) cl (upd m b true) cs g' ls o)
-  unfolding judge onto stage
-  judge-grown m b y cs g g' cl [] o = λ z. absurd (omega (arith, z))
-  judge-grown m b y cs g g' cl (x ∷ ls) none = λ z. (marked m b .0, λ n. marked m b .1)
-  judge-grown m b y cs g g' cl (x ∷ ls) (some d) = found-grown m b y cs g g' (upd m b true) cl d (leader (s .P) (s .config) (upd m b true) g' d (s .config .servers))
-
-  update-grown : (cl : Client) (b : ℕ) (y : Body) (full : Bool) (h : Hand) → cl .hand ≡ h → isIdle h ≡ false → Grown (cl .marks) b y h (updated s c cl b y (upd (cl .marks) b true) full h)
-  unfolding update onto stage awaits isIdle prepared
-  update-grown cl b y full idle e busy = clash refl busy
-  update-grown cl b y true (clocking r n k) e busy = λ z. absurd (omega (arith, z))
-  update-grown cl b y false (clocking r n k) e busy = λ z. (marked (cl .marks) b .0, λ n. marked (cl .marks) b .1)
-  update-grown cl b y full (storing d g) e busy = cond-case (Grown (cl .marks) b y (storing d g)) (eqb (codeIn y) 11) _ _
-      (λ q z. (λ j i. i, λ n. absurd (n (eqb-true (codeIn y) 11 q) refl)))
-      (λ k. cond-both (Grown (cl .marks) b y (storing d g)) full _ _ (λ z. absurd (omega (arith, z))) (λ z. (marked (cl .marks) b .0, λ n. marked (cl .marks) b .1)))
-  update-grown cl b y true (completing d) e busy = λ z. absurd (omega (arith, z))
-  update-grown cl b y false (completing d) e busy = λ z. (marked (cl .marks) b .0, λ n. marked (cl .marks) b .1)
-  update-grown cl b y true (collecting g) e busy = λ z. absurd (omega (arith, z))
-  update-grown cl b y false (collecting g) e busy = λ z. (marked (cl .marks) b .0, λ n. marked (cl .marks) b .1)
-  update-grown cl b y true (filtering cs g) e busy = judge-grown (cl .marks) b y cs g _ cl _ _
-  update-grown cl b y false (filtering cs g) e busy = λ z. (marked (cl .marks) b .0, λ n. marked (cl .marks) b .1)
-  update-grown cl b y true (repairing d r) e busy = λ z. absurd (omega (arith, z))
-  update-grown cl b y false (repairing d r) e busy = λ z. (marked (cl .marks) b .0, λ n. marked (cl .marks) b .1)
-
-  -- ---- the code of a reply that fits
-
-  abbrev code : Client → Packet → ℕ → ℕ
-  code cl p room = takeRefusal (s .config) c (some p) (cl .calls) (awaits (cl .hand)) (cl .marks) (highAt (s .P) (s .config) c (s .writers) (s .keys) cl) room
-
-  code-is : (cl : Client) (p : Packet) (room : ℕ) → badFaults (s .config) ≡ false → within 1 topClient c ≡ true → p .head .t ≡ s .config .t → p .head .client ≡ c → isIdle (cl .hand) ≡ false → p .head .call ≡ cl .calls → kindOf (p .body) ≡ awaits (cl .hand) →
-      code cl p room ≡ cond (cl .marks (p .head .server)) 12 (cond (highAt (s .P) (s .config) c (s .writers) (s .keys) cl (p .head .server) (p .body)) 14 (cond (ltb room contentRoom) 15 0))
-  unfolding takeRefusal isIdle
-  code-is cl p room f r t m i l k =
-      ap (λ (z : Bool). cond z 3 (cond (not (within 1 topClient c)) 5 (cond (not (eqb (p .head .t) (s .config .t) && eqb (p .head .client) c)) 8 T12))) f
-      ∙ ap (λ (z : Bool). cond (not z) 5 (cond (not (eqb (p .head .t) (s .config .t) && eqb (p .head .client) c)) 8 T12)) r
-      ∙ ap (λ (z : Bool). cond (not (z && eqb (p .head .client) c)) 8 T12) (eq-eqb (p .head .t) (s .config .t) t)
-      ∙ ap (λ (z : Bool). cond (not z) 8 T12) (eq-eqb (p .head .client) c m)
-      ∙ ap (λ (z : Bool). cond (not z && (not (eqb (p .head .call) (cl .calls) && eqb (kindOf (p .body)) (awaits (cl .hand))) || cl .marks (p .head .server))) 12 (cond z 13 T14)) i
-      ∙ ap (λ (z : Bool). cond (not (z && eqb (kindOf (p .body)) (awaits (cl .hand))) || cl .marks (p .head .server)) 12 T14) (eq-eqb (p .head .call) (cl .calls) l)
-      ∙ ap (λ (z : Bool). cond (not z || cl .marks (p .head .server)) 12 T14) (eq-eqb (kindOf (p .body)) (awaits (cl .hand)) k)
-    where
-      T14 : ℕ
-      T14 = cond (highAt (s .P) (s .config) c (s .writers) (s .keys) cl (p .head .server) (p .body)) 14 (cond (ltb room contentRoom) 15 0)
-
-      T12 : ℕ
-      T12 = cond (not (eqb (awaits (cl .hand)) 0) && (not (eqb (p .head .call) (cl .calls) && eqb (kindOf (p .body)) (awaits (cl .hand))) || cl .marks (p .head .server))) 12 (cond (eqb (awaits (cl .hand)) 0) 13 T14)
-
-  -- the result by the code
-  result-is : (w : World) (b o : List ℕ) (p : Packet) → decode b ≡ some p →
-      perform s w (take-reply c b o) .result ≡ onRefusal (code (w .client c) p (length o)) (turn s c (w .client c) p) (record { client = w .client c; result = refused (code (w .client c) p (length o)) }) .result
-  unfolding doValues setClient takeStep turnOn
-  result-is w b o p e = ap (λ (q : Option Packet). takeStep (s .P) (s .config) c (s .writers) (s .keys) (w .client c) q (length o) .result) e
-
-code-cases : {B : Type 0} (n : ℕ) (u v w : Bool) → n ≡ cond u 12 (cond v 14 (cond w 15 0)) → (u ≡ true → B) → (v ≡ true → B) → (n ≡ 15 → B) → (n ≡ 0 → B) → B
-code-cases n true v w e f g h i = f refl
-code-cases n false true w e f g h i = g refl
-code-cases n false false true e f g h i = h e
-code-cases n false false false e f g h i = i e
+use Rattle.atomicity.proofs.Grown.{code, code-cases, code-is, reply-t, result-is, update-grown}
 
 module _ (K : Setup) (c : ℕ) where
   -- server b's reply to the round of kind k of call n comes in
   abbrev pub Arr : ℕ → ℕ → ℕ → StepOf K → Steps K → Type 0
-  Arr n k b x xs = (reply : List ℕ) × (o : List ℕ) × (p : Packet) × (x .step ≡ take-reply c reply o) × (cameIn (result K x xs) ≡ true) × (decode reply ≡ some p)
-      × (p .head .client ≡ c) × (p .head .server ≡ b) × (p .head .call ≡ n) × (kindOf (p .body) ≡ k) × Sent (K .s) (account (K .s)) (K .correct) (serves b) reply xs
+  Arr n k b x xs = (reply : List ℕ) × (o : List ℕ) × (p : Packet) × (x .step ≡ take-reply c reply o) × (cameIn (result K x xs) ≡ true)
+      × (decode reply ≡ some p)
+      × (p .head .client ≡ c) × (p .head .server ≡ b) × (p .head .call ≡ n) × (kindOf (p .body) ≡ k)
+      × Sent (K .s) (account (K .s)) (K .correct) (serves b) reply xs
 
   -- it was asked for no later than now
-  too-early : (xs : Steps K) → Fair K xs → K .correct .client c ≡ true → (n k b : ℕ) → Ever (Arr n k b) xs → 16 * n + k ≤ pos (now (K .s) xs .client c)
+  too-early : (xs : Steps K) → Fair K xs → K .correct .client c ≡ true → (n k b : ℕ) → Ever (Arr n k b) xs →
+      16 * n + k ≤ pos (now (K .s) xs .client c)
   too-early xs fair good n k b ev = ever-out _ xs
       (λ y ys h. let a = h .0 .2 in let p = a .2 in
-      let t = reply-source K ys (h .0 .1) p (subst (λ (i : ℕ). K .correct .client i ≡ true) (sym (a .6)) good) (subst (λ (i : ℕ). Ever (MadeBy K (serves i) p) ys) (sym (a .7)) (sent-made K (serves b) (a .0) p (a .5) ys (a .10))) in
-      ever-out _ ys (λ z zs u. ever-out _ zs (λ w ws v. omega (arith, v .1, a .8, a .9, v .0 .low, u .1 .low, h .1 .low)) (asked-at K c p z zs (a .6) (u .0))) (ever-before (K .s) c _ ys t))
+      let t = reply-source K ys (h .0 .1) p (subst (λ (i : ℕ). K .correct .client i ≡ true) (sym (a .6)) good)
+      (subst (λ (i : ℕ). Ever (MadeBy K (serves i) p) ys) (sym (a .7)) (sent-made K (serves b) (a .0) p (a .5) ys (a .10))) in
+      ever-out _ ys (λ z zs u. ever-out _ zs (λ w ws v. omega (arith, v .1, a .8, a .9, v .0 .low, u .1 .low, h .1 .low))
+      (asked-at K c p z zs (a .6) (u .0))) (ever-before (K .s) c _ ys t))
       (ever-before (K .s) c _ xs (ever-with (Meets K) (Arr n k b) xs fair ev))
 
   -- ---- refusal 14 and the answer 11 do not come
@@ -142,7 +69,8 @@ module _ (K : Setup) (c : ℕ) where
   roomy-down k x xs (inl h) = inl h
   roomy-down k x xs (inr h) = inr (omega (arith, h, length-append (stampedAt (K .s) (account (K .s)) x xs) (marks (K .s) xs)))
 
-  not-eleven : (xs : Steps K) (j : ℕ) (y : Body) (h : Hand) → hand K xs c ≡ h → Roomy (awaits h) xs → Ever (Heard K c j xs y) xs → codeIn y ≡ 11 → awaits h ≡ 4 → ⊥
+  not-eleven : (xs : Steps K) (j : ℕ) (y : Body) (h : Hand) → hand K xs c ≡ h → Roomy (awaits h) xs → Ever (Heard K c j xs y) xs → codeIn y ≡ 11 →
+      awaits h ≡ 4 → ⊥
   unfolding awaits Roomy
   not-eleven xs j y idle e room ev k a = omega (arith, a)
   not-eleven xs j y (clocking r n m) e room ev k a = omega (arith, a)
@@ -154,19 +82,29 @@ module _ (K : Setup) (c : ℕ) where
   not-eleven xs j y (repairing d r) e room ev k a = omega (arith, a)
 
   -- a correct clock reply is a mark's number
-  clock-low : (xs : Steps K) (j : ℕ) (y : Body) (r n : List ℕ) (m : ℕ) → hand K xs c ≡ clocking r n m → Ever (Heard K c j xs y) xs → stampIn y .number ≤ length (marks (K .s) xs)
+  clock-low : (xs : Steps K) (j : ℕ) (y : Body) (r n : List ℕ) (m : ℕ) → hand K xs c ≡ clocking r n m → Ever (Heard K c j xs y) xs →
+      stampIn y .number ≤ length (marks (K .s) xs)
   unfolding act marks
-  clock-low xs j y r n m e ev = rise (λ (zs : Steps K). stampIn y .number ≤ length (marks (K .s) zs)) (λ x zs l. omega (arith, l, length-append (stampedAt (K .s) (account (K .s)) x zs) (marks (K .s) zs))) xs
+  clock-low xs j y r n m e ev = rise (λ (zs : Steps K). stampIn y .number ≤ length (marks (K .s) zs))
+      (λ x zs l. omega (arith, l, length-append (stampedAt (K .s) (account (K .s)) x zs) (marks (K .s) zs))) xs
       (ever-map (Heard K c j xs y) (λ z zs. stampIn y .number ≤ length (marks (K .s) (z ∷ zs))) (λ z zs t.
       let a = at-step K c j xs y (clocking r n m) e z zs t in
       go z zs (ap (λ (σ : Stamp). σ .number) (ap stampIn (a .says))) (a .old) (latest-known K zs (a .old) j)) xs ev)
     where
-      go : (z : StepOf K) (zs : Steps K) → stampIn y .number ≡ lat K zs j .number → Fair K zs → (now (K .s) zs .server j .latest ≡ blankCandidate (K .s .config)) ⊎ Genuine K zs (now (K .s) zs .server j .latest) →
+      go : (z : StepOf K) (zs : Steps K) → stampIn y .number ≡ lat K zs j .number → Fair K zs →
+          (now (K .s) zs .server j .latest ≡ blankCandidate (K .s .config)) ⊎ Genuine K zs (now (K .s) zs .server j .latest) →
           stampIn y .number ≤ length (stampedAt (K .s) (account (K .s)) z zs ++ marks (K .s) zs)
       go z zs q f (inl b) = omega (arith, q, ap (λ (d : Candidate). d .stamp .number) b)
-      go z zs q f (inr g) = omega (arith, q, ap (λ (σ : Stamp). σ .number) (g .stamp-is), mark-small K zs (small K zs f) (g .write) (g .made), length-append (stampedAt (K .s) (account (K .s)) z zs) (marks (K .s) zs))
+      go z zs q f (inr g) = omega (
+        arith,
+        q,
+        ap (λ (σ : Stamp). σ .number) (g .stamp-is),
+        mark-small K zs (small K zs f) (g .write) (g .made),
+        length-append (stampedAt (K .s) (account (K .s)) z zs) (marks (K .s) zs),
+      )
 
-  not-high : (xs : Steps K) → Fair K xs → (j : ℕ) (y : Body) (full : Bool) (h : Hand) → hand K xs c ≡ h → Roomy (awaits h) xs → Ever (Heard K c j xs y) xs → tooHigh (K .s .P) (K .s .writers) y full h ≡ true → ⊥
+  not-high : (xs : Steps K) → Fair K xs → (j : ℕ) (y : Body) (full : Bool) (h : Hand) → hand K xs c ≡ h → Roomy (awaits h) xs →
+      Ever (Heard K c j xs y) xs → tooHigh (K .s .P) (K .s .writers) y full h ≡ true → ⊥
   unfolding tooHigh awaits Roomy Small Low
   not-high xs fair j y full idle e room ev t = clash t refl
   not-high xs fair j y full (clocking r n m) e (inl h) ev t = omega (arith, h)
@@ -181,16 +119,20 @@ module _ (K : Setup) (c : ℕ) where
   not-high xs fair j y full (repairing d r) e room ev t = clash t refl
 
   good-faults : badFaults (K .s .config) ≡ false
-  good-faults = ap not (and-intro _ _ (le-leb 1 (K .s .config .t) (K .legal .faulty)) (le-leb (K .s .config .t) topFaults (omega (arith, K .legal .most, K .legal .few))))
+  good-faults = ap not (and-intro _ _ (le-leb 1 (K .s .config .t) (K .legal .faulty))
+      (le-leb (K .s .config .t) topFaults (omega (arith, K .legal .most, K .legal .few))))
 
   good-client : K .correct .client c ≡ true → within 1 topClient c ≡ true
   good-client good = let r = K .parties .clients c good in and-intro _ _ (le-leb 1 c (r .0)) (le-leb c topClient (r .1))
 
-  pub arrived : (xs : Steps K) → Fair K xs → K .correct .client c ≡ true → (b : ℕ) → (n k : ℕ) → n ≡ calls K xs c → k ≡ awaits (hand K xs c) → isIdle (hand K xs c) ≡ false → Roomy k xs → Ever (Arr n k b) xs →
+  pub arrived : (xs : Steps K) → Fair K xs → K .correct .client c ≡ true → (b : ℕ) → (n k : ℕ) → n ≡ calls K xs c → k ≡ awaits (hand K xs c) →
+      isIdle (hand K xs c) ≡ false → Roomy k xs → Ever (Arr n k b) xs →
       now (K .s) xs .client c .marks b ≡ true
   unfolding Ever nowValues pos begun onto isIdle awaits stage highAt
   arrived [] fair good b n k nq kq busy room ev = absurd ev
-  arrived (x ∷ xs) fair good b n k nq kq busy room (inr ev) = go (moved (K .s) c w (x .step)) (λ u v z. arrived xs (past K x xs fair) good b n k u v z (roomy-down k x xs room) ev) (too-early xs (past K x xs fair) good n k b ev)
+  arrived (x ∷ xs) fair good b n k nq kq busy room (inr ev) =
+      go (moved (K .s) c w (x .step)) (λ u v z. arrived xs (past K x xs fair) good b n k u v z (roomy-down k x xs room) ev)
+      (too-early xs (past K x xs fair) good n k b ev)
     where
       w : World
       w = now (K .s) xs
@@ -198,17 +140,27 @@ module _ (K : Setup) (c : ℕ) where
       cl' : Client
       cl' = perform (K .s) w (x .step) .world .client c
 
-      go : Moved (K .s) c w (x .step) cl' (result K x xs) → (n ≡ calls K xs c → k ≡ awaits (hand K xs c) → isIdle (hand K xs c) ≡ false → w .client c .marks b ≡ true) → 16 * n + k ≤ pos (w .client c) → cl' .marks b ≡ true
-      go (kept e _) f low = subst (λ (z : Client). z .marks b ≡ true) (sym e) (f (nq ∙ ap (λ (z : Client). z .calls) e) (kq ∙ ap (λ (z : Client). awaits (z .hand)) e) (subst (λ (z : Client). isIdle (z .hand) ≡ false) e busy))
-      go (wbegan r m s a i l e) f low = absurd (omega (arith, low, nq, ap (λ (z : Client). z .calls) e, stage-bound (hand K xs c) .1, ap (λ (z : Client). awaits (z .hand)) e, kq))
-      go (rbegan s a i e) f low = absurd (omega (arith, low, nq, ap (λ (z : Client). z .calls) e, stage-bound (hand K xs c) .1, ap (λ (z : Client). awaits (z .hand)) e, kq))
+      go : Moved (K .s) c w (x .step) cl' (result K x xs) →
+          (n ≡ calls K xs c → k ≡ awaits (hand K xs c) → isIdle (hand K xs c) ≡ false → w .client c .marks b ≡ true) →
+          16 * n + k ≤ pos (w .client c) → cl' .marks b ≡ true
+      go (kept e _) f low = subst (λ (z : Client). z .marks b ≡ true) (sym e)
+          (f (nq ∙ ap (λ (z : Client). z .calls) e) (kq ∙ ap (λ (z : Client). awaits (z .hand)) e)
+          (subst (λ (z : Client). isIdle (z .hand) ≡ false) e busy))
+      go (wbegan r m s a i l e) f low =
+          absurd (omega (arith, low, nq, ap (λ (z : Client). z .calls) e, stage-bound (hand K xs c) .1, ap (λ (z : Client). awaits (z .hand)) e, kq))
+      go (rbegan s a i e) f low = absurd
+          (omega (arith, low, nq, ap (λ (z : Client). z .calls) e, stage-bound (hand K xs c) .1, ap (λ (z : Client). awaits (z .hand)) e, kq))
       go (quit s a i e) f low = clash refl (subst (λ (z : Client). isIdle (z .hand) ≡ false) e busy)
       go (took p b' o s rd fit e v) f low =
           let t = turn-turned (K .s) c (w .client c) p in
           let cq : cl' .calls ≡ calls K xs c = ap (λ (y : Client). y .calls) e ∙ t .calls in
-          let st = next-stage (K .s) c (hand K xs c) (w .client c .last) (cl' .hand) (cl' .last) (subst (λ (y : Client). Next (K .s) c (hand K xs c) (w .client c .last) (y .hand) (y .last)) (sym e) (t .next)) in
-          let sq : stage (hand K xs c) ≡ stage (cl' .hand) = omega (arith, st .0, low, nq, cq, kq, stage-awaits (cl' .hand) busy, stage-awaits (hand K xs c) (fit .busy)) in
-          subst (λ (y : Client). y .marks b ≡ true) (sym e) (update-grown (K .s) c (w .client c) (p .head .server) (p .body) _ (hand K xs c) refl (fit .busy) (sq ∙ ap (λ (y : Client). stage (y .hand)) e) .0 b
+          let st = next-stage (K .s) c (hand K xs c) (w .client c .last) (cl' .hand) (cl' .last)
+          (subst (λ (y : Client). Next (K .s) c (hand K xs c) (w .client c .last) (y .hand) (y .last)) (sym e) (t .next)) in
+          let sq : stage (hand K xs c) ≡ stage (cl' .hand) =
+          omega (arith, st .0, low, nq, cq, kq, stage-awaits (cl' .hand) busy, stage-awaits (hand K xs c) (fit .busy)) in
+          subst (λ (y : Client). y .marks b ≡ true) (sym e)
+          (update-grown (K .s) c (w .client c) (p .head .server) (p .body) _ (hand K xs c) refl (fit .busy)
+          (sq ∙ ap (λ (y : Client). stage (y .hand)) e) .0 b
           (f (nq ∙ cq) (omega (arith, kq, sq, stage-awaits (cl' .hand) busy, stage-awaits (hand K xs c) (fit .busy))) (fit .busy)))
   arrived (x ∷ xs) fair good b n k nq kq busy room (inl a) = go (moved (K .s) c w (x .step))
     where
@@ -225,15 +177,21 @@ module _ (K : Setup) (c : ℕ) where
       made-by = subst (λ (i : ℕ). Ever (MadeBy K (serves i) p) xs) (sym (a .7)) (sent-made K (serves b) (a .0) p (a .5) xs (a .10))
 
       -- it was let in
-      let-in : (q : Packet) (b' o : List ℕ) → x .step ≡ take-reply c b' o → decode b' ≡ some q → Fits (K .s) c (w .client c) q → cl' ≡ turn (K .s) c (w .client c) q .client → cl' .marks b ≡ true
+      let-in : (q : Packet) (b' o : List ℕ) → x .step ≡ take-reply c b' o → decode b' ≡ some q → Fits (K .s) c (w .client c) q →
+          cl' ≡ turn (K .s) c (w .client c) q .client → cl' .marks b ≡ true
       let-in q b' o s rd fit e =
           let same-bytes : b' ≡ a .0 = take-inj (sym s ∙ a .3) in
           let pq : q ≡ p = Option·some-injective _ _ (sym rd ∙ ap decode same-bytes ∙ a .5) in
-          let ev : Ever (Heard K c (q .head .server) xs (q .body)) xs = heard K c xs (past K x xs fair) q good (fit .mine) (fit .call) (fit .busy) (fit .kind) (subst (λ (z : Packet). Ever (MadeBy K (serves (z .head .server)) z) xs) (sym pq) made-by) in
+          let ev : Ever (Heard K c (q .head .server) xs (q .body)) xs =
+          heard K c xs (past K x xs fair) q good (fit .mine) (fit .call) (fit .busy) (fit .kind)
+          (subst (λ (z : Packet). Ever (MadeBy K (serves (z .head .server)) z) xs) (sym pq) made-by) in
           let kk : k ≡ awaits (hand K xs c) = sym (a .9) ∙ ap (λ (z : Packet). kindOf (z .body)) (sym pq) ∙ fit .kind in
-          let sq : stage (hand K xs c) ≡ stage (cl' .hand) = omega (arith, kk, kq, stage-awaits (cl' .hand) busy, stage-awaits (hand K xs c) (fit .busy)) in
-          subst (λ (y : Client). y .marks b ≡ true) (sym e) (subst (λ (i : ℕ). turn (K .s) c (w .client c) q .client .marks i ≡ true) (ap (λ (z : Packet). z .head .server) pq ∙ a .7)
-          (update-grown (K .s) c (w .client c) (q .head .server) (q .body) _ (hand K xs c) refl (fit .busy) (sq ∙ ap (λ (y : Client). stage (y .hand)) e) .1
+          let sq : stage (hand K xs c) ≡ stage (cl' .hand) =
+          omega (arith, kk, kq, stage-awaits (cl' .hand) busy, stage-awaits (hand K xs c) (fit .busy)) in
+          subst (λ (y : Client). y .marks b ≡ true) (sym e)
+          (subst (λ (i : ℕ). turn (K .s) c (w .client c) q .client .marks i ≡ true) (ap (λ (z : Packet). z .head .server) pq ∙ a .7)
+          (update-grown (K .s) c (w .client c) (q .head .server) (q .body) _ (hand K xs c) refl (fit .busy)
+          (sq ∙ ap (λ (y : Client). stage (y .hand)) e) .1
           (not-eleven xs (q .head .server) (q .body) (hand K xs c) refl (subst (λ (i : ℕ). Roomy i xs) kk (roomy-down k x xs room)) ev)))
         where
           take-inj : {u v u' v' : List ℕ} → take-reply c u v ≡ take-reply c u' v' → u ≡ u'
@@ -249,23 +207,32 @@ module _ (K : Setup) (c : ℕ) where
           let ev = heard K c xs (past K x xs fair) p good (a .6) call busy' kind made-by in
           let room' : Roomy (awaits (hand K xs c)) xs = subst (λ (i : ℕ). Roomy i xs) (kq ∙ ap awaits hq) (roomy-down k x xs room) in
           let same-t : p .head .t ≡ K .s .config .t = told-t in
-          let res : result K x xs ≡ onRefusal (code (K .s) c (w .client c) p (length (a .1))) (turn (K .s) c (w .client c) p) (record { client = w .client c; result = refused (code (K .s) c (w .client c) p (length (a .1))) }) .result =
+          let res : result K x xs ≡ onRefusal (code (K .s) c (w .client c) p (length (a .1))) (turn (K .s) c (w .client c) p)
+          (record { client = w .client c; result = refused (code (K .s) c (w .client c) p (length (a .1))) }) .result =
           ap (λ (y : Step). perform (K .s) w y .result) (a .3) ∙ result-is (K .s) c w (a .0) (a .1) p (a .5) in
-          code-cases (code (K .s) c (w .client c) p (length (a .1))) (w .client c .marks (p .head .server)) (highAt (K .s .P) (K .s .config) c (K .s .writers) (K .s .keys) (w .client c) (p .head .server) (p .body)) (ltb (length (a .1)) contentRoom)
+          code-cases (code (K .s) c (w .client c) p (length (a .1))) (w .client c .marks (p .head .server))
+          (highAt (K .s .P) (K .s .config) c (K .s .writers) (K .s .keys) (w .client c) (p .head .server) (p .body))
+          (ltb (length (a .1)) contentRoom)
           (code-is (K .s) c (w .client c) p (length (a .1)) good-faults (good-client good) same-t (a .6) busy' call kind)
           (λ u. subst (λ (z : Client). z .marks b ≡ true) (sym e) (subst (λ (i : ℕ). w .client c .marks i ≡ true) (a .7) u))
-          (λ u. absurd (not-high xs (past K x xs fair) (p .head .server) (p .body) (isFull (K .s .config) (upd (w .client c .marks) (p .head .server) true)) (hand K xs c) refl room' ev u))
+          (λ u. absurd (not-high xs (past K x xs fair) (p .head .server) (p .body)
+          (isFull (K .s .config) (upd (w .client c .marks) (p .head .server) true)) (hand K xs c) refl room' ev u))
           (λ u. clash (a .4) (fifteen (turn (K .s) c (w .client c) p) (code (K .s) c (w .client c) p (length (a .1))) res u))
           (λ u. clash (through (code (K .s) c (w .client c) p (length (a .1))) res u) down)
         where
           told-t : p .head .t ≡ K .s .config .t
-          told-t = ever-out (Told K p) xs (λ y ys t. reply-t p (t .behind .ask) _ (t .behind .reply) ∙ t .behind .asked .same-t) (reply-source K xs (past K x xs fair) p (subst (λ (i : ℕ). K .correct .client i ≡ true) (sym (a .6)) good) made-by)
+          told-t = ever-out (Told K p) xs (λ y ys t. reply-t p (t .behind .ask) _ (t .behind .reply) ∙ t .behind .asked .same-t)
+              (reply-source K xs (past K x xs fair) p (subst (λ (i : ℕ). K .correct .client i ≡ true) (sym (a .6)) good) made-by)
 
-          fifteen : (u : Turn) (v : ℕ) → result K x xs ≡ onRefusal v u (record { client = w .client c; result = refused v }) .result → v ≡ 15 → cameIn (result K x xs) ≡ false
+          fifteen : (u : Turn) (v : ℕ) → result K x xs ≡ onRefusal v u (record { client = w .client c; result = refused v }) .result → v ≡ 15 →
+              cameIn (result K x xs) ≡ false
           fifteen u v r z = ap cameIn (r ∙ ap (λ (i : ℕ). onRefusal i u (record { client = w .client c; result = refused i }) .result) z)
 
-          through : (v : ℕ) → result K x xs ≡ onRefusal v (turn (K .s) c (w .client c) p) (record { client = w .client c; result = refused v }) .result → v ≡ 0 → accepted (result K x xs) ≡ true
-          through v r z = ap accepted (r ∙ ap (λ (i : ℕ). onRefusal i (turn (K .s) c (w .client c) p) (record { client = w .client c; result = refused i }) .result) z) ∙ turn-turned (K .s) c (w .client c) p .fine
+          through : (v : ℕ) → result K x xs ≡ onRefusal v (turn (K .s) c (w .client c) p)
+              (record { client = w .client c; result = refused v }) .result → v ≡ 0 → accepted (result K x xs) ≡ true
+          through v r z = ap accepted (r ∙ ap
+              (λ (i : ℕ). onRefusal i (turn (K .s) c (w .client c) p) (record { client = w .client c; result = refused i }) .result) z)
+              ∙ turn-turned (K .s) c (w .client c) p .fine
 
       go : Moved (K .s) c w (x .step) cl' (result K x xs) → cl' .marks b ≡ true
       go (kept e f) = turned-down e (f (ap (acting c) (a .3) ∙ eq-eqb c c refl))

@@ -84,10 +84,12 @@ module _ (s : System) where
       go (rbegan a b d e) f = to e tt
       go (quit a b d e) f = to e tt
       go (took p b o a d g e r) f = known-next x xs c (w .client c .hand) (w .client c .last) (cl' .hand) (cl' .last)
-          (subst (λ (z : Client). Next s c (w .client c .hand) (w .client c .last) (z .hand) (z .last)) (sym e) (turn-turned s c (w .client c) p .next))
+          (subst (λ (z : Client). Next s c (w .client c .hand) (w .client c .last) (z .hand) (z .last)) (sym e)
+          (turn-turned s c (w .client c) p .next))
           (λ m i. new m (subst (λ (y : Step). In m (stampedBy (w .client) (perform s w (x .step) .world .client) y)) (sym a) (here m i))) f
         where
-          here : (m : Stamped) → In m (stampedFrom c (w .client c .hand) (cl' .hand)) → In m (stampedBy (w .client) (perform s w (x .step) .world .client) (take-reply c b o))
+          here : (m : Stamped) → In m (stampedFrom c (w .client c .hand) (cl' .hand)) →
+              In m (stampedBy (w .client) (perform s w (x .step) .world .client) (take-reply c b o))
           here m i = i
 
           new : (m : Stamped) → In m (stampedAt s (account s) x xs) → In m (marks s (x ∷ xs))
@@ -106,7 +108,8 @@ module _ (s : System) where
 
   -- so its content is of bytes
   pub mark-bytes : (xs : Run s) (m : Stamped) → In m (marks s xs) → Bytes (m .content)
-  mark-bytes xs m i = ever-out (Opening (m .client) (m .content) (m .nonce)) xs (λ y ys o. subst (λ (st : Step). Fed (s .config) st → Bytes (m .content)) (sym (o .0)) (λ f. f .0) (y .fed)) (opened xs m i)
+  mark-bytes xs m i = ever-out (Opening (m .client) (m .content) (m .nonce)) xs
+      (λ y ys o. subst (λ (st : Step). Fed (s .config) st → Bytes (m .content)) (sym (o .0)) (λ f. f .0) (y .fed)) (opened xs m i)
 
   -- what a mark digests is among the inputs digested
   pub mark-digested : (xs : Run s) (m : Stamped) (u : List ℕ) → In m (marks s xs) → In u (digestsWith s m) → In u (allDigested s (account s) xs)
@@ -114,7 +117,8 @@ module _ (s : System) where
   mark-digested [] m u i d = absurd i
   mark-digested (x ∷ xs) m u i d = go (split-in m (stampedAt s (account s) x xs) (marks s xs) i) (λ k. mark-digested xs m u k d)
     where
-      go : In m (stampedAt s (account s) x xs) ⊎ In m (marks s xs) → (In m (marks s xs) → In u (allDigested s (account s) xs)) → In u (digested s (account s) x xs ++ allDigested s (account s) xs)
+      go : In m (stampedAt s (account s) x xs) ⊎ In m (marks s xs) → (In m (marks s xs) → In u (allDigested s (account s) xs)) →
+          In u (digested s (account s) x xs ++ allDigested s (account s) xs)
       go (inr k) f = right-in u (digested s (account s) x xs) (allDigested s (account s) xs) (f k)
       go (inl k) f = left-in u (digested s (account s) x xs) (allDigested s (account s) xs)
           (subst (λ (b : Bool). In u (cond b (digestedBy s (stampedAt s (account s) x xs) (x .step)) [])) (sym (t .fine))
@@ -124,7 +128,8 @@ module _ (s : System) where
           t : Marked s (now s xs) (x .step) m
           t = mark-source s (now s xs) (x .step) m k
 
-          here : In u (flat (digestsWith s) (stampedAt s (account s) x xs)) → In u (digestedBy s (stampedAt s (account s) x xs) (take-reply (m .client) (t .packet) (t .output)))
+          here : In u (flat (digestsWith s) (stampedAt s (account s) x xs)) →
+              In u (digestedBy s (stampedAt s (account s) x xs) (take-reply (m .client) (t .packet) (t .output)))
           here j = left-in u (flat (digestsWith s) (stampedAt s (account s) x xs)) (inPacket fragments (decode (t .packet))) j
 
 module _ (K : Setup) where
@@ -133,10 +138,12 @@ module _ (K : Setup) where
   begins xs m i = ever-map _ _ (λ y ys o. (m .content, o .0, o .1)) xs (opened (K .s) xs m i)
 
   -- one nonce, one write
-  one-nonce : (xs : Steps K) → Fair K xs → (c d : ℕ) (r q n : List ℕ) → Ever (Opening (K .s) c r n) xs → Ever (Opening (K .s) d q n) xs → (c ≡ d) × (r ≡ q)
+  one-nonce : (xs : Steps K) → Fair K xs → (c d : ℕ) (r q n : List ℕ) → Ever (Opening (K .s) c r n) xs → Ever (Opening (K .s) d q n) xs → (c ≡ d)
+      × (r ≡ q)
   unfolding Ever Always Begins FreshNonce
   one-nonce [] h c d r q n e f = absurd e
-  one-nonce (x ∷ xs) h c d r q n (inl e) (inl f) = let a : write c r n ≡ write d q n = sym (e .0) ∙ f .0 in let z : c ≡ d = cc in let y : r ≡ q = cc in (z, y)
+  one-nonce (x ∷ xs) h c d r q n (inl e) (inl f) = let a : write c r n ≡ write d q n = sym (e .0) ∙ f .0 in let z : c ≡ d = cc in
+      let y : r ≡ q = cc in (z, y)
   one-nonce (x ∷ xs) h c d r q n (inl e) (inr f) = absurd (h .0 .fresh c n (r, e .0, e .1) .0 d (ever-map _ _ (λ y ys o. (q, o .0, o .1)) xs f))
   one-nonce (x ∷ xs) h c d r q n (inr e) (inl f) = absurd (h .0 .fresh d n (q, f .0, f .1) .0 c (ever-map _ _ (λ y ys o. (r, o .0, o .1)) xs e))
   one-nonce (x ∷ xs) h c d r q n (inr e) (inr f) = one-nonce xs (h .1) c d r q n e f
@@ -162,9 +169,11 @@ module _ (K : Setup) where
       go (inl j) =
           let t = mark-source (K .s) (now (K .s) xs) (x .step) m j in
           let o : Ever (Opening (K .s) c r n) (x ∷ xs) = subst (Known (K .s) (x ∷ xs) c) e (known (K .s) (x ∷ xs) c) in
-          let b : Ever (Opening (K .s) (m .client) (m .content) n) (x ∷ xs) = subst (λ (y : List ℕ). Ever (Opening (K .s) (m .client) (m .content) y) (x ∷ xs)) q (opened (K .s) (x ∷ xs) m i) in
+          let b : Ever (Opening (K .s) (m .client) (m .content) n) (x ∷ xs) =
+          subst (λ (y : List ℕ). Ever (Opening (K .s) (m .client) (m .content) y) (x ∷ xs)) q (opened (K .s) (x ∷ xs) m i) in
           let w : m .client ≡ c = one-nonce (x ∷ xs) fair (m .client) c (m .content) r n b o .0 in
-          let a : preparedFor (K .s) (m .client) (m .content) (m .nonce) (suc (t .top')) ≡ clocking r n k = sym (t .is) ∙ ap (λ (i : ℕ). hand K (x ∷ xs) i) w ∙ e in
+          let a : preparedFor (K .s) (m .client) (m .content) (m .nonce) (suc (t .top')) ≡ clocking r n k = sym (t .is)
+          ∙ ap (λ (i : ℕ). hand K (x ∷ xs) i) w ∙ e in
           (let z : _≡_ {A = ℕ} 0 1 = cc in omega arith)
 
   pub unmarked : (xs : Steps K) → Fair K xs → (c : ℕ) → Unmarked xs (hand K xs c)
@@ -179,7 +188,8 @@ module _ (K : Setup) where
       cl' = perform (K .s) w (x .step) .world .client c
 
       -- from the hand before, by the hand after
-      on : (h : Hand) → cl' .hand ≡ h → ((r n : List ℕ) (k : ℕ) → h ≡ clocking r n k → (m : Stamped) → In m (marks (K .s) xs) → m .nonce ≡ n → ⊥) → Unmarked (x ∷ xs) h
+      on : (h : Hand) → cl' .hand ≡ h → ((r n : List ℕ) (k : ℕ) → h ≡ clocking r n k → (m : Stamped) → In m (marks (K .s) xs) → m .nonce ≡ n → ⊥) →
+          Unmarked (x ∷ xs) h
       on idle e f = tt
       on (clocking r n k) e f = unmarked-at x xs fair c r n k e (f r n k refl)
       on (storing d h) e f = tt
@@ -190,17 +200,22 @@ module _ (K : Setup) where
 
       go : Moved (K .s) c w (x .step) cl' (perform (K .s) w (x .step) .result) → Unmarked xs (w .client c .hand) → Unmarked (x ∷ xs) (cl' .hand)
       go (kept e _) u = on (cl' .hand) refl (λ r n k q. subst (Unmarked xs) (sym (ap (λ (y : Client). y .hand) e) ∙ q) u)
-      go (wbegan r n a b d l e) u = on (cl' .hand) refl (λ r' n' k q m i z. let q' : clocking r n (w .client c .last) ≡ clocking r' n' k = sym (ap (λ (y : Client). y .hand) e) ∙ q in
+      go (wbegan r n a b d l e) u = on (cl' .hand) refl
+          (λ r' n' k q m i z. let q' : clocking r n (w .client c .last) ≡ clocking r' n' k = sym (ap (λ (y : Client). y .hand) e) ∙ q in
           let nn : n ≡ n' = cc in
-          fair .0 .fresh c n (r, a, subst (λ (z : Result). accepted z ≡ true) (sym b) refl) .0 (m .client) (subst (λ (y : List ℕ). Ever (Begin K (m .client) y) xs) (z ∙ sym nn) (begins xs m i)))
+          fair .0 .fresh c n (r, a, subst (λ (z : Result). accepted z ≡ true) (sym b) refl) .0 (m .client)
+          (subst (λ (y : List ℕ). Ever (Begin K (m .client) y) xs) (z ∙ sym nn) (begins xs m i)))
       go (rbegan a b d e) u = subst (Unmarked (x ∷ xs)) (sym (ap (λ (y : Client). y .hand) e)) tt
       go (quit a b d e) u = subst (Unmarked (x ∷ xs)) (sym (ap (λ (y : Client). y .hand) e)) tt
       go (took p b o a d f e r) u = let t = turn-turned (K .s) c (w .client c) p .next in
-          on (cl' .hand) refl (λ r n k q. on-next (w .client c .hand) (w .client c .last) (cl' .hand) (cl' .last) (subst (λ (z : Client). Next (K .s) c (w .client c .hand) (w .client c .last) (z .hand) (z .last)) (sym e) t) r n k q u)
+          on (cl' .hand) refl (λ r n k q. on-next (w .client c .hand) (w .client c .last) (cl' .hand) (cl' .last)
+          (subst (λ (z : Client). Next (K .s) c (w .client c .hand) (w .client c .last) (z .hand) (z .last)) (sym e) t) r n k q u)
         where
-          on-next : (h : Hand) (l : ℕ) (h' : Hand) (l' : ℕ) → Next (K .s) c h l h' l' → (r n : List ℕ) (k : ℕ) → h' ≡ clocking r n k → Unmarked xs h → (m : Stamped) → In m (marks (K .s) xs) → m .nonce ≡ n → ⊥
+          on-next : (h : Hand) (l : ℕ) (h' : Hand) (l' : ℕ) → Next (K .s) c h l h' l' → (r n : List ℕ) (k : ℕ) → h' ≡ clocking r n k → Unmarked xs h →
+              (m : Stamped) → In m (marks (K .s) xs) → m .nonce ≡ n → ⊥
           on-next h l h' l' (stays _ _) r n k q u = subst (Unmarked xs) q u
-          on-next h l h' l' (clock-on r' n' k' k'' _ z) r n k q u = let nn : n' ≡ n = cc in subst (λ (y : List ℕ). (m : Stamped) → In m (marks (K .s) xs) → m .nonce ≡ y → ⊥) nn u
+          on-next h l h' l' (clock-on r' n' k' k'' _ z) r n k q u = let nn : n' ≡ n = cc in
+              subst (λ (y : List ℕ). (m : Stamped) → In m (marks (K .s) xs) → m .nonce ≡ y → ⊥) nn u
           on-next h l h' l' (clock-ends r' n' k' k'' _ z) r n k q u = absurd (let z : _≡_ {A = ℕ} 0 1 = cc in omega arith)
           on-next h l h' l' (store-ends d g _) r n k q u = absurd (let z : _≡_ {A = ℕ} 0 1 = cc in omega arith)
           on-next h l h' l' (collect-on g g' _) r n k q u = absurd (let z : _≡_ {A = ℕ} 0 1 = cc in omega arith)
@@ -213,7 +228,9 @@ module _ (K : Setup) where
   pub by-nonce : (xs : Steps K) → Fair K xs → (a b : Stamped) → In a (marks (K .s) xs) → In b (marks (K .s) xs) → a .nonce ≡ b .nonce → a ≡ b
   unfolding marks In Always Unmarked nowValues
   by-nonce [] fair a b i j e = absurd i
-  by-nonce (x ∷ xs) fair a b i j e = go (split-in a (stampedAt (K .s) (account (K .s)) x xs) (marks (K .s) xs) i) (split-in b (stampedAt (K .s) (account (K .s)) x xs) (marks (K .s) xs) j) (λ k l. by-nonce xs (fair .1) a b k l e)
+  by-nonce (x ∷ xs) fair a b i j e =
+      go (split-in a (stampedAt (K .s) (account (K .s)) x xs) (marks (K .s) xs) i)
+      (split-in b (stampedAt (K .s) (account (K .s)) x xs) (marks (K .s) xs) j) (λ k l. by-nonce xs (fair .1) a b k l e)
     where
       M : Stamped → Type 0
       M m = Marked (K .s) (now (K .s) xs) (x .step) m
@@ -224,13 +241,17 @@ module _ (K : Setup) where
       both : M a → M b → a ≡ b
       both t u =
           let w : a .client ≡ b .client = (let z = sym (t .step) ∙ u .step in cc) in
-          let h : clocking (a .content) (a .nonce) (t .top) ≡ clocking (b .content) (b .nonce) (u .top) = sym (t .was) ∙ ap (λ (i : ℕ). hand K xs i) w ∙ u .was in
+          let h : clocking (a .content) (a .nonce) (t .top) ≡ clocking (b .content) (b .nonce) (u .top) = sym (t .was) ∙ ap (λ (i : ℕ). hand K xs i) w
+          ∙ u .was in
           let r : a .content ≡ b .content = cc in let n : a .nonce ≡ b .nonce = cc in
-          let l : suc (t .top') ≡ suc (u .top') = sym (t .last-is) ∙ ap (λ (i : ℕ). perform (K .s) (now (K .s) xs) (x .step) .world .client i .last) w ∙ u .last-is in
-          let σ : a .stamp ≡ b .stamp = t .stamp-is ∙ ap (λ (c : ℕ). stampFor (K .s) c (suc (t .top'))) w ∙ ap (λ (k : ℕ). stampFor (K .s) (b .client) k) l ∙ sym (u .stamp-is) in
+          let l : suc (t .top') ≡ suc (u .top') = sym (t .last-is) ∙ ap (λ (i : ℕ). perform (K .s) (now (K .s) xs) (x .step) .world .client i .last) w
+          ∙ u .last-is in
+          let σ : a .stamp ≡ b .stamp = t .stamp-is ∙ ap (λ (c : ℕ). stampFor (K .s) c (suc (t .top'))) w
+          ∙ ap (λ (k : ℕ). stampFor (K .s) (b .client) k) l ∙ sym (u .stamp-is) in
           (λ i. record { client = w i; content = r i; nonce = n i; stamp = σ i })
 
-      go : In a (stampedAt (K .s) (account (K .s)) x xs) ⊎ In a (marks (K .s) xs) → In b (stampedAt (K .s) (account (K .s)) x xs) ⊎ In b (marks (K .s) xs) → (In a (marks (K .s) xs) → In b (marks (K .s) xs) → a ≡ b) → a ≡ b
+      go : In a (stampedAt (K .s) (account (K .s)) x xs) ⊎ In a (marks (K .s) xs) → In b (stampedAt (K .s) (account (K .s)) x xs)
+          ⊎ In b (marks (K .s) xs) → (In a (marks (K .s) xs) → In b (marks (K .s) xs) → a ≡ b) → a ≡ b
       go (inl k) (inl l) r = both (mark-source (K .s) (now (K .s) xs) (x .step) a k) (mark-source (K .s) (now (K .s) xs) (x .step) b l)
       go (inl k) (inr l) r = absurd (never a b e (mark-source (K .s) (now (K .s) xs) (x .step) a k) l)
       go (inr k) (inl l) r = absurd (never b a (sym e) (mark-source (K .s) (now (K .s) xs) (x .step) b l) k)

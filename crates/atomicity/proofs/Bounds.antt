@@ -30,7 +30,8 @@ use Rattle.atomicity.proofs.Moves.{Moved, kept, wbegan, rbegan, quit, t
 use Rattle.atomicity.proofs.Rounds.{turn-turned}
 use Rattle.atomicity.proofs.Marks.{mark-source, capped, above}
 use Rattle.atomicity.proofs.Begun.{begins, by-nonce}
-use Rattle.atomicity.proofs.Logs.{Log, result, touched, news, newCall, note-shape, Signed}
+use Rattle.atomicity.proofs.Shape.{Log, result, touched, news, newCall, note-shape}
+use Rattle.atomicity.proofs.Logs.{Signed}
 use Rattle.atomicity.proofs.Story.{past, story, story-log, stepSigned, step-keeps}
 use Rattle.atomicity.proofs.Listed.{pigeon, map-size, map-apart}
 
@@ -67,18 +68,24 @@ module _ (K : Setup) where
   marks-apart : (xs : Steps K) → Fair K xs → AllPairs (λ (a b : Stamped). a .nonce ≡ b .nonce → ⊥) (marks (K .s) xs)
   unfolding marks AllPairs nowValues In
   marks-apart [] fair = tt
-  marks-apart (x ∷ xs) fair = go (by-one (now (K .s) xs .client) (perform (K .s) (now (K .s) xs) (x .step) .world .client) (x .step)) (marks-apart xs (past K x xs fair))
+  marks-apart (x ∷ xs) fair = go (by-one (now (K .s) xs .client) (perform (K .s) (now (K .s) xs) (x .step) .world .client) (x .step))
+      (marks-apart xs (past K x xs fair))
     where
       A : List Stamped
       A = stampedAt (K .s) (account (K .s)) x xs
 
-      go : (A ≡ []) ⊎ ((m : Stamped) × (A ≡ m ∷ [])) → AllPairs (λ (a b : Stamped). a .nonce ≡ b .nonce → ⊥) (marks (K .s) xs) → AllPairs (λ (a b : Stamped). a .nonce ≡ b .nonce → ⊥) (A ++ marks (K .s) xs)
+      go : (A ≡ []) ⊎ ((m : Stamped) × (A ≡ m ∷ [])) → AllPairs (λ (a b : Stamped). a .nonce ≡ b .nonce → ⊥) (marks (K .s) xs) →
+          AllPairs (λ (a b : Stamped). a .nonce ≡ b .nonce → ⊥) (A ++ marks (K .s) xs)
       go (inl e) h = subst (λ (l : List Stamped). AllPairs (λ (a b : Stamped). a .nonce ≡ b .nonce → ⊥) (l ++ marks (K .s) xs)) (sym e) h
       go (inr m) h = subst (λ (l : List Stamped). AllPairs (λ (a b : Stamped). a .nonce ≡ b .nonce → ⊥) (l ++ marks (K .s) xs)) (sym (m .1)) (
         all-of (λ (b : Stamped). m .0 .nonce ≡ b .nonce → ⊥) (marks (K .s) xs) (λ b i e.
             let here : In (m .0) A = subst (λ (l : List Stamped). In (m .0) l) (sym (m .1)) (inl refl) in
             let q : m .0 ≡ b = by-nonce K (x ∷ xs) fair (m .0) b (left-in (m .0) A (marks (K .s) xs) here) (right-in b A (marks (K .s) xs) i) e in
-            omega (arith, above (K .s) x xs (m .0) b (ap (λ (z : Stamped). z .client) q) (mark-source (K .s) (now (K .s) xs) (x .step) (m .0) here) i, ap (λ (z : Stamped). z .stamp .number) q)),
+            omega (
+              arith,
+              above (K .s) x xs (m .0) b (ap (λ (z : Stamped). z .client) q) (mark-source (K .s) (now (K .s) xs) (x .step) (m .0) here) i,
+              ap (λ (z : Stamped). z .stamp .number) q,
+            )),
         h,
       )
 
@@ -98,7 +105,8 @@ module _ (K : Setup) where
   begun-nonce : (xs : Steps K) (c : ℕ) (n : List ℕ) → Ever (Begin K c n) xs → In n (nonces xs)
   unfolding Ever Begins In nonces begunNonce
   begun-nonce [] c n h = absurd h
-  begun-nonce (x ∷ xs) c n (inl h) = left-in n (begunNonce x xs (x .step)) (nonces xs) (subst (λ (y : Step). In n (begunNonce x xs y)) (sym (h .1)) (here (h .0) (h .2)))
+  begun-nonce (x ∷ xs) c n (inl h) =
+      left-in n (begunNonce x xs (x .step)) (nonces xs) (subst (λ (y : Step). In n (begunNonce x xs y)) (sym (h .1)) (here (h .0) (h .2)))
     where
       here : (r : List ℕ) → accepted (result K x xs) ≡ true → In n (begunNonce x xs (write c r n))
       here r e = subst (λ (b : Bool). In n (cond b (n ∷ []) [])) (sym e) (inl refl)
@@ -112,12 +120,14 @@ module _ (K : Setup) where
   keep-append p [] vs = omega arith
   keep-append p (u ∷ us) vs = go (p u) (keep-append p us vs)
     where
-      go : (b : Bool) → length (keep p (us ++ vs)) ≡ length (keep p us) + length (keep p vs) → length (cond b (u ∷ keep p (us ++ vs)) (keep p (us ++ vs))) ≡ length (cond b (u ∷ keep p us) (keep p us)) + length (keep p vs)
+      go : (b : Bool) → length (keep p (us ++ vs)) ≡ length (keep p us) + length (keep p vs) →
+          length (cond b (u ∷ keep p (us ++ vs)) (keep p (us ++ vs))) ≡ length (cond b (u ∷ keep p us) (keep p us)) + length (keep p vs)
       go true e = omega (arith, e)
       go false e = e
 
   map-writes : (x : StepOf K) (xs : Steps K) (fair : Fair K (x ∷ xs)) (gs : List (Signed K xs)) →
-      length (keep isWrite (map (touched K x xs (x .step)) (map (λ (g : Signed K xs). g .call) gs))) ≡ length (keep isWrite (map (λ (g : Signed K xs). g .call) gs))
+      length (keep isWrite (map (touched K x xs (x .step)) (map (λ (g : Signed K xs). g .call) gs))) ≡ length
+      (keep isWrite (map (λ (g : Signed K xs). g .call) gs))
   unfolding keep stepSigned
   map-writes x xs fair [] = refl
   map-writes x xs fair (g ∷ gs) = go (step-keeps K x xs fair g .wrote) (map-writes x xs fair gs)
@@ -128,13 +138,16 @@ module _ (K : Setup) where
       C : List Call
       C = map (λ (g : Signed K xs). g .call) gs
 
-      two : (b : Bool) (u v : Call) → length (keep isWrite T) ≡ length (keep isWrite C) → length (cond b (u ∷ keep isWrite T) (keep isWrite T)) ≡ length (cond b (v ∷ keep isWrite C) (keep isWrite C))
+      two : (b : Bool) (u v : Call) → length (keep isWrite T) ≡ length (keep isWrite C) →
+          length (cond b (u ∷ keep isWrite T) (keep isWrite T)) ≡ length (cond b (v ∷ keep isWrite C) (keep isWrite C))
       two true u v e = ap suc e
       two false u v e = e
 
       go : touched K x xs (x .step) (g .call) .wrote ≡ g .call .wrote → length (keep isWrite T) ≡ length (keep isWrite C) →
-          length (cond (given (touched K x xs (x .step) (g .call) .wrote)) (touched K x xs (x .step) (g .call) ∷ keep isWrite T) (keep isWrite T)) ≡ length (cond (given (g .call .wrote)) (g .call ∷ keep isWrite C) (keep isWrite C))
-      go q e = ap (λ (o : Option (List ℕ)). length (cond (given o) (touched K x xs (x .step) (g .call) ∷ keep isWrite T) (keep isWrite T))) q ∙ two (given (g .call .wrote)) (touched K x xs (x .step) (g .call)) (g .call) e
+          length (cond (given (touched K x xs (x .step) (g .call) .wrote)) (touched K x xs (x .step) (g .call) ∷ keep isWrite T)
+          (keep isWrite T)) ≡ length (cond (given (g .call .wrote)) (g .call ∷ keep isWrite C) (keep isWrite C))
+      go q e = ap (λ (o : Option (List ℕ)). length (cond (given o) (touched K x xs (x .step) (g .call) ∷ keep isWrite T) (keep isWrite T))) q
+          ∙ two (given (g .call .wrote)) (touched K x xs (x .step) (g .call)) (g .call) e
 
   new-writes : (x : StepOf K) (xs : Steps K) (st : Step) → length (begunNonce x xs st) ≡ length (keep isWrite (news K x xs st))
   unfolding begunNonce news keep newCall
@@ -162,7 +175,8 @@ module _ (K : Setup) where
       ∙ ap (λ (l : List Call). length (keep isWrite l)) (sym (note-shape K x xs (Log K xs) (x .step)))
     where
       old : length (keep isWrite (map (touched K x xs (x .step)) (Log K xs))) ≡ length (keep isWrite (Log K xs))
-      old = subst (λ (l : List Call). length (keep isWrite (map (touched K x xs (x .step)) l)) ≡ length (keep isWrite l)) (story-log K xs (past K x xs fair)) (map-writes x xs fair (story K xs (past K x xs fair)))
+      old = subst (λ (l : List Call). length (keep isWrite (map (touched K x xs (x .step)) l)) ≡ length (keep isWrite l))
+          (story-log K xs (past K x xs fair)) (map-writes x xs fair (story K xs (past K x xs fair)))
 
   pub few-marks : (xs : Steps K) → Fair K xs → length (marks (K .s) xs) ≤ begunWrites (Log K xs)
   few-marks xs fair = omega (
@@ -170,6 +184,8 @@ module _ (K : Setup) where
     nonces-writes xs fair,
     map-size (λ (m : Stamped). m .nonce) (marks (K .s) xs),
     pigeon (map (λ (m : Stamped). m .nonce) (marks (K .s) xs)) (nonces xs)
-        (map-apart (λ (m : Stamped). m .nonce) (λ (a b : Stamped). a .nonce ≡ b .nonce → ⊥) (marks (K .s) xs) (λ a b i j r e. r e) (marks-apart xs fair))
-        (λ n i. let r = map-in (λ (m : Stamped). m .nonce) (marks (K .s) xs) n i in subst (λ (z : List ℕ). In z (nonces xs)) (sym (r .2)) (begun-nonce xs (r .0 .client) (r .0 .nonce) (begins K xs (r .0) (r .1)))),
+        (map-apart (λ (m : Stamped). m .nonce) (λ (a b : Stamped). a .nonce ≡ b .nonce → ⊥) (marks (K .s) xs) (λ a b i j r e. r e)
+        (marks-apart xs fair))
+        (λ n i. let r = map-in (λ (m : Stamped). m .nonce) (marks (K .s) xs) n i in
+        subst (λ (z : List ℕ). In z (nonces xs)) (sym (r .2)) (begun-nonce xs (r .0 .client) (r .0 .nonce) (begins K xs (r .0) (r .1)))),
   )

@@ -1,5 +1,5 @@
--- What is known of each call of the log, with a stamp that the proof keeps beside it; and that it lasts while other calls step.
--- A write's stamp is above all that had ended when it began, a read's is at least as high and is that of the write whose content it gave.
+-- What is known of each call of the log, with a stamp that the proof keeps beside it; and that it lasts while other calls step. A write's
+-- stamp is above all that had ended when it began, a read's is at least as high and is that of the write whose content it gave.
 -- Assumes nothing.
 use mathlib.Core.Path.{_≡_, refl, sym, ap, _∙_, subst}
 use mathlib.Core.Bool.{Bool, true, false, cond, not, _&&_, _||_}
@@ -40,7 +40,8 @@ module _ (K : Setup) where
   pub since-length : (c : ℕ) (xs : Steps K) → length (since (K .s) c xs) ≤ length xs
   unfolding since
   since-length c [] = omega arith
-  since-length c (x ∷ xs) = cond-case (λ (z : Steps K). length z ≤ length (x ∷ xs)) (eqb (calls K xs c) (calls K (x ∷ xs) c)) _ xs (λ e. omega (arith, since-length c xs)) (λ e. omega arith)
+  since-length c (x ∷ xs) = cond-case (λ (z : Steps K). length z ≤ length (x ∷ xs)) (eqb (calls K xs c) (calls K (x ∷ xs) c)) _ xs
+      (λ e. omega (arith, since-length c xs)) (λ e. omega arith)
 
   -- an end before the begin of the call lies before it
   pub ends-since : (c : ℕ) (xs : Steps K) (a : Stamp) (e : ℕ) → Ends K a e xs → e < length (since (K .s) c xs) → Ends K a e (since (K .s) c xs)
@@ -48,7 +49,8 @@ module _ (K : Setup) where
   ends-since c [] a e h l = h
   ends-since c (x ∷ xs) a e h l = go (eqb (calls K xs c) (calls K (x ∷ xs) c)) h l (λ k m. ends-since c xs a e k m) (since-length c xs)
     where
-      go : (b : Bool) → Ends K a e (x ∷ xs) → e < length (cond b (since (K .s) c xs) xs) → (Ends K a e xs → e < length (since (K .s) c xs) → Ends K a e (since (K .s) c xs)) →
+      go : (b : Bool) → Ends K a e (x ∷ xs) → e < length (cond b (since (K .s) c xs) xs) →
+          (Ends K a e xs → e < length (since (K .s) c xs) → Ends K a e (since (K .s) c xs)) →
           length (since (K .s) c xs) ≤ length xs → Ends K a e (cond b (since (K .s) c xs) xs)
       go true (inl k) m f n = absurd (omega (arith, k .0, m, n))
       go true (inr k) m f n = f k m
@@ -120,30 +122,62 @@ module _ (K : Setup) where
 
   -- ---- what lasts
 
-  pub base-up : (x : StepOf K) (xs : Steps K) (a : Call) (σ : Stamp) → calls K xs (a .client) ≤ calls K (x ∷ xs) (a .client) → Base xs a σ → Base (x ∷ xs) a σ
+  pub base-up : (x : StepOf K) (xs : Steps K) (a : Call) (σ : Stamp) → calls K xs (a .client) ≤ calls K (x ∷ xs) (a .client) → Base xs a σ →
+      Base (x ∷ xs) a σ
   unfolding Ever
   base-up x xs a σ l h = record {
     begun-lt = omega (arith, h .begun-lt);
     number-le = omega (arith, h .number-le, l);
     ended = λ e q. let r = h .ended e q in (r .0, omega (arith, r .1), inr (r .2));
-    write = λ v p q. let r = h .write v p q in record { floor = λ b e k m. r .floor b e (ends-back x xs b e k (omega (arith, m, h .begun-lt))) m; write = r .write; mine = r .mine; content-is = r .content-is; stamp-is = r .stamp-is; since-when = inr (r .since-when) };
-    read = λ e p q. let r = h .read e p q in record { floor = λ b e k m. r .floor b e (ends-back x xs b e k (omega (arith, m, h .begun-lt))) m; value = go (r .value) };
+    write = λ v p q. let r = h .write v p q in
+        record {
+          floor = λ b e k m. r .floor b e (ends-back x xs b e k (omega (arith, m, h .begun-lt))) m;
+          write = r .write;
+          mine = r .mine;
+          content-is = r .content-is;
+          stamp-is = r .stamp-is;
+          since-when = inr (r .since-when);
+        };
+    read = λ e p q. let r = h .read e p q in
+        record { floor = λ b e k m. r .floor b e (ends-back x xs b e k (omega (arith, m, h .begun-lt))) m; value = go (r .value) };
     reaches = h .reaches;
     leaves = h .leaves;
   }
     where
-      go : ((a .answer ≡ none) × (σ ≡ blankStamp)) ⊎ ((m : Stamped) × Given xs a σ m) → ((a .answer ≡ none) × (σ ≡ blankStamp)) ⊎ ((m : Stamped) × Given (x ∷ xs) a σ m)
+      go : ((a .answer ≡ none) × (σ ≡ blankStamp)) ⊎ ((m : Stamped) × Given xs a σ m) → ((a .answer ≡ none) × (σ ≡ blankStamp))
+          ⊎ ((m : Stamped) × Given (x ∷ xs) a σ m)
       go (inl p) = inl p
-      go (inr g) = inr (g .0, record { made = marks-up (K .s) (g .0) x xs (g .1 .made); shown = inr (g .1 .shown); stamp-is = g .1 .stamp-is; answer-is = g .1 .answer-is })
+      go (inr g) = inr (
+        g .0,
+        record {
+          made = marks-up (K .s) (g .0) x xs (g .1 .made);
+          shown = inr (g .1 .shown);
+          stamp-is = g .1 .stamp-is;
+          answer-is = g .1 .answer-is;
+        },
+      )
 
   pub open-up : (x : StepOf K) (xs : Steps K) (a : Call) → calls K xs (a .client) ≡ calls K (x ∷ xs) (a .client) → Open xs a → Open (x ∷ xs) a
-  open-up x xs a e h = record { going = h .going; staying = h .staying; began = h .began ∙ ap length (sym (since-same (K .s) (a .client) x xs e)); unreached = h .unreached }
+  open-up x xs a e h = record {
+    going = h .going;
+    staying = h .staying;
+    began = h .began ∙ ap length (sym (since-same (K .s) (a .client) x xs e));
+    unreached = h .unreached;
+  }
 
   pub writing-up : (x : StepOf K) (xs : Steps K) (a : Call) (σ : Stamp) (d : Candidate) → Writing xs a σ d → Writing (x ∷ xs) a σ d
   unfolding Ever
-  writing-up x xs a σ d h = record { write = h .write; mine = h .mine; content-is = h .content-is; stamp-is = h .stamp-is; hand-is = h .hand-is; since-when = inr (h .since-when) }
+  writing-up x xs a σ d h = record {
+    write = h .write;
+    mine = h .mine;
+    content-is = h .content-is;
+    stamp-is = h .stamp-is;
+    hand-is = h .hand-is;
+    since-when = inr (h .since-when);
+  }
 
-  pub cur-up : (x : StepOf K) (xs : Steps K) (a : Call) (σ : Stamp) (h : Hand) → calls K xs (a .client) ≡ calls K (x ∷ xs) (a .client) → Cur xs a σ h → Cur (x ∷ xs) a σ h
+  pub cur-up : (x : StepOf K) (xs : Steps K) (a : Call) (σ : Stamp) (h : Hand) → calls K xs (a .client) ≡ calls K (x ∷ xs) (a .client) →
+      Cur xs a σ h → Cur (x ∷ xs) a σ h
   unfolding Cur
   cur-up x xs a σ idle e c = tt
   cur-up x xs a σ (clocking r n k) e c = (open-up x xs a e (c .0), c .1)
@@ -166,7 +200,8 @@ module _ (K : Setup) where
 
   -- a call that takes no reply in this step
   pub carry : (x : StepOf K) (xs : Steps K) (a : Call) (σ : Stamp) → CallOk xs a σ →
-      ((p : Packet) (b o : List ℕ) → x .step ≡ take-reply (a .client) b o → decode b ≡ some p → accepted (perform (K .s) (now (K .s) xs) (x .step) .result) ≡ true → a .number ≡ calls K xs (a .client) → ⊥) →
+      ((p : Packet) (b o : List ℕ) → x .step ≡ take-reply (a .client) b o → decode b ≡ some p →
+      accepted (perform (K .s) (now (K .s) xs) (x .step) .result) ≡ true → a .number ≡ calls K xs (a .client) → ⊥) →
       CallOk (x ∷ xs) a σ
   unfolding nowValues Cur begun onto
   carry x xs a σ h f = go (moved (K .s) (a .client) (now (K .s) xs) (x .step))
@@ -178,13 +213,21 @@ module _ (K : Setup) where
       go (kept e _) = let q : calls K xs (a .client) ≡ cl' .calls = sym (ap (λ (z : Client). z .calls) e) in
           record {
             base = base-up x xs a σ (omega (arith, q)) (h .base);
-            current = λ n. subst (λ (z : Client). Cur (x ∷ xs) a σ (z .hand)) (sym e) (cur-up x xs a σ (hand K xs (a .client)) q (h .current (n ∙ sym q)));
+            current = λ n. subst (λ (z : Client). Cur (x ∷ xs) a σ (z .hand)) (sym e)
+                (cur-up x xs a σ (hand K xs (a .client)) q (h .current (n ∙ sym q)));
           }
       go (wbegan r n s b i l e) = let q : cl' .calls ≡ suc (calls K xs (a .client)) = ap (λ (z : Client). z .calls) e in
           record { base = base-up x xs a σ (omega (arith, q)) (h .base); current = λ n. absurd (omega (arith, n, q, h .base .number-le)) }
       go (rbegan s b i e) = let q : cl' .calls ≡ suc (calls K xs (a .client)) = ap (λ (z : Client). z .calls) e in
           record { base = base-up x xs a σ (omega (arith, q)) (h .base); current = λ n. absurd (omega (arith, n, q, h .base .number-le)) }
       go (quit s b i e) = let q : cl' .calls ≡ calls K xs (a .client) = ap (λ (z : Client). z .calls) e in
-          record { base = base-up x xs a σ (omega (arith, q)) (h .base); current = λ n. subst (λ (z : Client). Cur (x ∷ xs) a σ (z .hand)) (sym e) tt }
-      go (took p b o s rd fit e v) = let t = turn-turned (K .s) (a .client) (now (K .s) xs .client (a .client)) p in let q : cl' .calls ≡ calls K xs (a .client) = ap (λ (z : Client). z .calls) e ∙ t .calls in
-          record { base = base-up x xs a σ (omega (arith, q)) (h .base); current = λ n. absurd (f p b o s rd (subst (λ (z : Result). accepted z ≡ true) (sym v) (t .fine)) (n ∙ q)) }
+          record {
+            base = base-up x xs a σ (omega (arith, q)) (h .base);
+            current = λ n. subst (λ (z : Client). Cur (x ∷ xs) a σ (z .hand)) (sym e) tt;
+          }
+      go (took p b o s rd fit e v) = let t = turn-turned (K .s) (a .client) (now (K .s) xs .client (a .client)) p in
+          let q : cl' .calls ≡ calls K xs (a .client) = ap (λ (z : Client). z .calls) e ∙ t .calls in
+          record {
+            base = base-up x xs a σ (omega (arith, q)) (h .base);
+            current = λ n. absurd (f p b o s rd (subst (λ (z : Result). accepted z ≡ true) (sym v) (t .fine)) (n ∙ q));
+          }

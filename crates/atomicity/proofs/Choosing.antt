@@ -1,5 +1,5 @@
--- What the filter round may choose: a write that a quorum held since the round began is never excluded, so the choice is no lower than what had ended when
--- the call began; and a proven candidate is that of a write, whose content its group gives back.
+-- What the filter round may choose: a write that a quorum held since the round began is never excluded, so the choice is no lower than what
+-- had ended when the call began; and a proven candidate is that of a write, whose content its group gives back.
 -- Assumes nothing.
 use mathlib.Core.Path.{_≡_, refl, sym, ap, ap₂, _∙_, subst}
 use mathlib.Core.Bool.{Bool, true, false, cond, not, _&&_, _||_}
@@ -27,7 +27,8 @@ use Rattle.atomicity.proofs.Setup.{Setup, Steps, Fair, Show, lat, hist}
 use Rattle.atomicity.proofs.Begun.{mark-bytes, mark-digested}
 use Rattle.atomicity.proofs.Genuine.{Genuine}
 use Rattle.atomicity.proofs.States.{S, Q, right, FullAt, TopAt, Beats, meets-marks, correct-in, Filters}
-use Rattle.atomicity.proofs.Groups.{members, members-length, members-range, members-apart, upTo-in, Fit, fit-view, Alike, member, leader-view, parts-are, no-two}
+use Rattle.atomicity.proofs.Gathered.{members, members-length, members-range, members-apart, upTo-in}
+use Rattle.atomicity.proofs.Groups.{Fit, fit-view, Alike, member, leader-view, parts-are, no-two}
 
 pub first-view : {A : Type 0} (p : A → Bool) (l : List A) (c : A) → first p l ≡ some c → In c l × (p c ≡ true)
 unfolding first In
@@ -46,7 +47,8 @@ module _ (K : Setup) where
   Live m g cs = live (K .s .P) (K .s .config) m g cs
 
   -- what is held by a quorum since the round began is never excluded
-  pub live-in : (ys z0 z1 : Steps K) (cs : List Candidate) (g : ByServer Held) (m : ByServer Bool) → Filters K ys z0 z1 cs g m → (d : Candidate) → In d cs → Genuine K z1 d → FullAt K z1 (d .stamp) → In d (Live m g cs)
+  pub live-in : (ys z0 z1 : Steps K) (cs : List Candidate) (g : ByServer Held) (m : ByServer Bool) → Filters K ys z0 z1 cs g m → (d : Candidate) →
+      In d cs → Genuine K z1 d → FullAt K z1 (d .stamp) → In d (Live m g cs)
   unfolding live lower
   live-in ys z0 z1 cs g m F d i gen full = in-keep (λ c. ltb (countTo (S K) (lower (K .s .P) (K .s .config) m g c)) (Q K)) cs d i
       (bool-case (ltb (countTo (S K) (lower (K .s .P) (K .s .config) m g d)) (Q K)) (λ e. e) (λ e. absurd (bad (ltb-false _ _ e))))
@@ -55,10 +57,12 @@ module _ (K : Setup) where
       bad h =
           let r = meets-marks K (λ j. isSome (held (d .stamp) (hist K z1 j))) (lower (K .s .P) (K .s .config) m g d) full h in
           let j = r .0 in
-          clash (and-right (m j) _ (r .3)) (F .sift j (r .1) (and-left (m j) _ (r .3)) .stands d i (r .2) (gen .write) (gen .made) (gen .stamp-is) (gen .nonce-is))
+          clash (and-right (m j) _ (r .3))
+          (F .sift j (r .1) (and-left (m j) _ (r .3)) .stands d i (r .2) (gen .write) (gen .made) (gen .stamp-is) (gen .nonce-is))
 
   -- what had ended when the call began is no higher than a candidate that is live
-  pub floor : (ys z0 z1 : Steps K) (cs : List Candidate) (g : ByServer Held) (m : ByServer Bool) → Filters K ys z0 z1 cs g m → (b : Stamp) → TopAt K z0 b →
+  pub floor : (ys z0 z1 : Steps K) (cs : List Candidate) (g : ByServer Held) (m : ByServer Bool) → Filters K ys z0 z1 cs g m → (b : Stamp) →
+      TopAt K z0 b →
       (below blankStamp b ≡ false) ⊎ ((d : Candidate) × In d (Live m g cs) × (below (d .stamp) b ≡ false))
   floor ys z0 z1 cs g m F b top =
       let C = F .first in
@@ -66,7 +70,8 @@ module _ (K : Setup) where
       let e = C .each (r .0) (r .1) (r .3) in
       go (C .what (r .0)) (le-trans b (lat K z0 (r .0)) (C .what (r .0) .stamp) (not-t _ (r .2)) (e .0)) (e .1)
     where
-      go : (d : Candidate) → below (d .stamp) b ≡ false → (d ≡ blankCandidate (K .s .config)) ⊎ (In d cs × Genuine K z1 d × FullAt K z1 (d .stamp)) → (below blankStamp b ≡ false) ⊎ ((d : Candidate) × In d (Live m g cs) × (below (d .stamp) b ≡ false))
+      go : (d : Candidate) → below (d .stamp) b ≡ false → (d ≡ blankCandidate (K .s .config)) ⊎ (In d cs × Genuine K z1 d × FullAt K z1 (d .stamp)) →
+          (below blankStamp b ≡ false) ⊎ ((d : Candidate) × In d (Live m g cs) × (below (d .stamp) b ≡ false))
       go d h (inl e) = inl (subst (λ (z : Candidate). below (z .stamp) b ≡ false) e h)
       go d h (inr k) = inr (d, live-in ys z0 z1 cs g m F d (k .0) (k .1) (k .2), h)
 
@@ -81,7 +86,8 @@ module _ (K : Setup) where
     pub tags-is : tagsIn (K .s .P) (K .s .config) c (g b .share) ≡ tagsFor (K .s) write
     pub gives : restoredBy (K .s .P) (K .s .config) m g c b (g b .share) ≡ write .content
 
-  pub real : (ys z0 z1 : Steps K) (cs : List Candidate) (g : ByServer Held) (m : ByServer Bool) → Fair K ys → Filters K ys z0 z1 cs g m → (c : Candidate) (b : ℕ) →
+  pub real : (ys z0 z1 : Steps K) (cs : List Candidate) (g : ByServer Held) (m : ByServer Bool) → Fair K ys → Filters K ys z0 z1 cs g m →
+      (c : Candidate) (b : ℕ) →
       leads (K .s .P) (K .s .config) m g c b ≡ true → Real ys c g m b
   unfolding leads restoredBy In digestsWith
   real ys z0 z1 cs g m fair F c b L =
@@ -95,14 +101,18 @@ module _ (K : Setup) where
       let w = P .write in
       let size : own .share .size ≡ length (w .content) = f .1 .size ∙ ap (λ (z : Share). z .size) (P .share-is) in
       let tags : own .share .tags ≡ tagsFor (K .s) w = f .1 .tags ∙ ap (λ (z : Share). z .tags) (P .share-is) in
-      let digests : own .share .digests ≡ runOf (S K) (λ i. K .s .P .digest (fragmentFor (K .s) (w .content) i)) = f .1 .digests ∙ ap (λ (z : Share). z .digests) (P .share-is) in
-      let each : (i : ℕ) → 1 ≤ i → i ≤ S K → A i ≡ true → (h : Share) × (g i .share ≡ some h) × (h .part ≡ fragmentFor (K .s) (w .content) i) = λ i lo hi e.
+      let digests : own .share .digests ≡ runOf (S K) (λ i. K .s .P .digest (fragmentFor (K .s) (w .content) i)) = f .1 .digests
+      ∙ ap (λ (z : Share). z .digests) (P .share-is) in
+      let each : (i : ℕ) → 1 ≤ i → i ≤ S K → A i ≡ true → (h : Share) × (g i .share ≡ some h)
+      × (h .part ≡ fragmentFor (K .s) (w .content) i) = λ i lo hi e.
       let t = member (K .s) m g c b i (own .share) (own .share-is) e in (
         t .0 .share,
         t .0 .share-is,
         no-two K ys fair (t .0 .share .part) (fragmentFor (K .s) (w .content) i) (F .digs i (t .0 .share) (t .0 .marked) (t .0 .share-is))
-            (mark-digested (K .s) ys w (fragmentFor (K .s) (w .content) i) (P .made) (inr (in-map (λ (i : ℕ). fragmentFor (K .s) (w .content) i) (upTo (S K)) i (upTo-in (S K) i lo hi))))
-            (t .0 .digest-is ∙ ap (λ (z : List ℕ). nth digestSize z i) (sym (t .1 .digests) ∙ digests) ∙ K .laws .digest-at (fragmentFor (K .s) (w .content)) i lo hi),
+            (mark-digested (K .s) ys w (fragmentFor (K .s) (w .content) i) (P .made)
+            (inr (in-map (λ (i : ℕ). fragmentFor (K .s) (w .content) i) (upTo (S K)) i (upTo-in (S K) i lo hi))))
+            (t .0 .digest-is ∙ ap (λ (z : List ℕ). nth digestSize z i) (sym (t .1 .digests) ∙ digests)
+            ∙ K .laws .digest-at (fragmentFor (K .s) (w .content)) i lo hi),
       ) in
       record {
         write = w;
@@ -112,8 +122,10 @@ module _ (K : Setup) where
         digest-is = sym (ap (λ (z : Share). z .nonceDigest) (P .share-is)) ∙ f .0 .nonce-is;
         tags-is = ap (tagsIn (K .s .P) (K .s .config) c) (own .share-is) ∙ tags;
         gives = ap (restoredBy (K .s .P) (K .s .config) m g c b) (own .share-is)
-            ∙ ap₂ (λ (n : ℕ) (l : List Part). K .s .P .restored (K .s .config .points) (K .s .config .shares) n l) size (parts-are (K .s) m g c (fragmentFor (K .s) (w .content)) b (S K) each)
-            ∙ K .laws .restores (w .content) (mark-bytes (K .s) ys w (P .made)) (members A (S K)) (members-apart A (S K)) (members-range A (S K)) (omega (arith, many, members-length A (S K)));
+            ∙ ap₂ (λ (n : ℕ) (l : List Part). K .s .P .restored (K .s .config .points) (K .s .config .shares) n l) size
+            (parts-are (K .s) m g c (fragmentFor (K .s) (w .content)) b (S K) each)
+            ∙ K .laws .restores (w .content) (mark-bytes (K .s) ys w (P .made)) (members A (S K)) (members-apart A (S K)) (members-range A (S K))
+            (omega (arith, many, members-length A (S K)));
       }
 
   -- ---- the choice
@@ -123,7 +135,8 @@ module _ (K : Setup) where
     pub beats : Beats K z0 (c .stamp)
     pub real : Real ys c g m (leader (K .s .P) (K .s .config) m g c (S K))
 
-  pub chosen : (ys z0 z1 : Steps K) (cs : List Candidate) (g : ByServer Held) (m : ByServer Bool) → Fair K ys → Filters K ys z0 z1 cs g m → (c : Candidate) →
+  pub chosen : (ys z0 z1 : Steps K) (cs : List Candidate) (g : ByServer Held) (m : ByServer Bool) → Fair K ys → Filters K ys z0 z1 cs g m →
+      (c : Candidate) →
       choice (K .s .P) (K .s .config) m g cs ≡ some c → Chosen ys z0 cs g m c
   unfolding choice highest live Beats
   chosen ys z0 z1 cs g m fair F c ch =
@@ -135,7 +148,9 @@ module _ (K : Setup) where
         real = led (leader-view (K .s) m g c (S K)) (not-t _ (v .1));
       }
     where
-      led : (leader (K .s .P) (K .s .config) m g c (S K) ≡ 0) ⊎ ((1 ≤ leader (K .s .P) (K .s .config) m g c (S K)) × (leader (K .s .P) (K .s .config) m g c (S K) ≤ S K) × (leads (K .s .P) (K .s .config) m g c (leader (K .s .P) (K .s .config) m g c (S K)) ≡ true)) →
+      led : (leader (K .s .P) (K .s .config) m g c (S K) ≡ 0)
+          ⊎ ((1 ≤ leader (K .s .P) (K .s .config) m g c (S K)) × (leader (K .s .P) (K .s .config) m g c (S K) ≤ S K)
+          × (leads (K .s .P) (K .s .config) m g c (leader (K .s .P) (K .s .config) m g c (S K)) ≡ true)) →
           eqb (leader (K .s .P) (K .s .config) m g c (S K)) 0 ≡ false → Real ys c g m (leader (K .s .P) (K .s .config) m g c (S K))
       led (inl z) e = absurd (eqb-false _ _ e z)
       led (inr z) e = real ys z0 z1 cs g m fair F c (leader (K .s .P) (K .s .config) m g c (S K)) (z .2)

@@ -50,7 +50,8 @@ unfolding countTo
 found p zero h = absurd (omega arith)
 found p (suc n) h = go (p (suc n)) refl h (λ k. found p n k)
   where
-    go : (b : Bool) → p (suc n) ≡ b → 1 ≤ cond b 1 0 + countTo n p → (1 ≤ countTo n p → (y : ℕ) × (1 ≤ y) × (y ≤ n) × (p y ≡ true)) → (y : ℕ) × (1 ≤ y) × (y ≤ suc n) × (p y ≡ true)
+    go : (b : Bool) → p (suc n) ≡ b → 1 ≤ cond b 1 0 + countTo n p → (1 ≤ countTo n p → (y : ℕ) × (1 ≤ y) × (y ≤ n) × (p y ≡ true)) → (y : ℕ)
+        × (1 ≤ y) × (y ≤ suc n) × (p y ≡ true)
     go true e k rest = (suc n, omega arith, omega arith, e)
     go false e k rest = let r = rest (omega arith) in (r .0, r .1, omega (arith, r .2), r .3)
 
@@ -74,7 +75,11 @@ count-none p (suc n) h = omega (arith, count-none p n h, ap {B = ℕ} (λ (b : B
 upd-out : (m : ℕ → Bool) (b n : ℕ) → n < b → countTo n (upd m b true) ≡ countTo n m
 unfolding countTo upd
 upd-out m b zero l = refl
-upd-out m b (suc n) l = omega (arith, upd-out m b n (omega arith), ap {B = ℕ} (λ (t : Bool). cond (cond t true (m (suc n))) 1 0) (ne-eqb (suc n) b (λ e. omega (arith, e))))
+upd-out m b (suc n) l = omega (
+  arith,
+  upd-out m b n (omega arith),
+  ap {B = ℕ} (λ (t : Bool). cond (cond t true (m (suc n))) 1 0) (ne-eqb (suc n) b (λ e. omega (arith, e))),
+)
 
 pub count-upd : (m : ℕ → Bool) (b n : ℕ) → 1 ≤ b → b ≤ n → m b ≡ false → countTo n (upd m b true) ≡ suc (countTo n m)
 unfolding countTo upd
@@ -113,7 +118,8 @@ module _ (s : Config) (legal : Legal s) (correct : ℕ → Bool) (few : countTo 
   share-k a b ha hb = omega (arith, meet-count correct a b (s .servers), split-count correct (s .servers), quorum-sum s legal, legal .covered)
 
   -- a quorum, less the liars
-  pub correct-part : (a : ℕ → Bool) → quorum s ≤ countTo (s .servers) a → quorum s ≤ countTo (s .servers) (λ x. correct x && a x) + countTo (s .servers) (λ x. not (correct x))
+  pub correct-part : (a : ℕ → Bool) → quorum s ≤ countTo (s .servers) a →
+      quorum s ≤ countTo (s .servers) (λ x. correct x && a x) + countTo (s .servers) (λ x. not (correct x))
   correct-part a h = omega (arith, part-count correct a (s .servers))
 
   -- k matching replies have a correct one

@@ -1,26 +1,27 @@
--- A filter round with a quorum of correct replies is decided. Take the highest stamp among them. If it is blank, all candidates leave the list. Else it is that of a
--- genuine candidate: all above it leave, it stays, and k correct servers that held it replied with its write's shares, so it is proven.
+-- A filter round with a quorum of correct replies is decided. Take the highest stamp among them. If it is blank, all candidates leave the
+-- list. Else it is that of a genuine candidate: all above it leave, it stays, and k correct servers that held it replied with its write's
+-- shares, so it is proven.
 -- Assumes nothing.
 use mathlib.Core.Path.{_≡_, refl, sym, ap, _∙_, subst}
-use mathlib.Core.Bool.{Bool, true, false, cond, not, _&&_, _||_}
-use mathlib.Core.List.{List, [], _∷_, _++_}
-use mathlib.Core.Option.{Option, none, some}
+use mathlib.Core.Bool.{Bool, true, false, not, _&&_}
+use mathlib.Core.List.{List}
+use mathlib.Core.Option.{Option, some}
 use mathlib.Core.Logic.{_⊎_, inl, inr}
-use Prim.Native.Nat.{ℕ, zero, suc, _+_, _≤_, _<_}
+use Prim.Native.Nat.{ℕ, _≤_}
 use native.Mathlib.Omega.{arith}
 use lib.Dec.{leb, ltb, eqb}
 use lib.ListN.{length}
-use borrow.Author.Tests.{ltb-true, ltb-false, le-ltb, leb-true, leb-false, le-leb, eqb-false, eq-eqb, ne-eqb}
+use borrow.Author.Tests.{ltb-false, le-ltb, leb-true, leb-false, le-leb, eqb-false, eq-eqb, ne-eqb}
 use Rattle.protocol.specs.declared.Stamp.{Stamp}
-use Rattle.protocol.specs.Values.{Candidate, Share, Held, below, blankStamp, blankCandidate, isBlank, isSome, sameStamp, sameList, nth, digestSize}
+use Rattle.protocol.specs.Values.{Candidate, Share, Held, below, blankStamp, blankCandidate, isBlank, isSome, sameStamp}
 use Rattle.protocol.specs.Memory.{held}
-use Rattle.protocol.specs.Rules.{ByServer, any, keep, first, countTo, lower, live, shareFits, fits, sameShare, agrees, leads, leader, proven, highest, choice}
+use Rattle.protocol.specs.Rules.{ByServer, any, countTo, lower, live, shareFits, fits, sameShare, agrees, leads, leader, proven, highest, choice}
 use Rattle.atomicity.specs.Lists.{In}
-use Rattle.atomicity.specs.Steps.{System, Stamped}
+use Rattle.atomicity.specs.Steps.{Stamped}
 use Rattle.atomicity.proofs.Util.{bool-case, clash, untrue, not-f, and-left, and-right, and-intro, in-keep, keep-in, any-in}
-use Rattle.atomicity.proofs.Stamps.{below-num, num-le, le-view, le-trans, below-irrefl, below-asym, same-is, same-refl, stamp-refl}
+use Rattle.atomicity.proofs.Stamps.{below-num, num-le, le-view, same-is, same-refl, stamp-refl}
 use Rattle.atomicity.proofs.Counting.{count-mono, found, share-k}
-use Rattle.atomicity.proofs.Model.{Run, now, marks, shareFor, fragmentFor}
+use Rattle.atomicity.proofs.Model.{now, marks, shareFor, fragmentFor}
 use Rattle.atomicity.proofs.Setup.{Setup, Steps, Fair, hist}
 use Rattle.atomicity.proofs.Marks.{mark-num, marks-up, by-stamp}
 use Rattle.atomicity.proofs.Servers.{is-some, best-max}
@@ -30,66 +31,13 @@ use Rattle.atomicity.proofs.States.{S, Q, right, Many, FullAt, meets-ma
 use Rattle.atomicity.proofs.Telling.{vouches, piece-of}
 use Rattle.atomicity.proofs.Groups.{leader-some}
 use Rattle.atomicity.proofs.Choosing.{q-pos, Live}
-use Rattle.atomicity.proofs.Listed.{counted-one}
 use Rattle.atomicity.proofs.Suffixes.{Suf, suf-up}
-use Rattle.atomicity.proofs.Waiting.{best, Sat, Waits}
+use Rattle.atomicity.proofs.Waiting.{best, Waits}
 use Rattle.atomicity.proofs.Moments.{told, Moment, before-now, earliest, best-real, then-genuine}
+use Rattle.atomicity.proofs.Highest.{Most, both-le, first-some, keep-none, le-lt, most}
 
--- ---- lists and orders
-
-first-some : {A : Type 0} (p : A → Bool) (l : List A) (c : A) → In c l → p c ≡ true → first p l ≡ none → ⊥
-unfolding first In
-first-some p [] c i q e = i
-first-some {A} p (x ∷ xs) c (inl z) q e = go (p x) (subst (λ (y : A). p y ≡ true) z q) e
-  where
-    go : (b : Bool) → b ≡ true → cond b (some x) (first p xs) ≡ none → ⊥
-    go true k f = (let y : _≡_ {A = ℕ} 0 1 = cc in omega arith)
-    go false k f = clash k refl
-first-some p (x ∷ xs) c (inr i) q e = go (p x) e (first-some p xs c i q)
-  where
-    go : (b : Bool) → cond b (some x) (first p xs) ≡ none → (first p xs ≡ none → ⊥) → ⊥
-    go true k f = (let y : _≡_ {A = ℕ} 0 1 = cc in omega arith)
-    go false k f = f k
-
-keep-none : {A : Type 0} (p : A → Bool) (l : List A) → ((x : A) → In x l → p x ≡ false) → keep p l ≡ []
-unfolding keep In
-keep-none p [] f = refl
-keep-none p (x ∷ l) f = ap (λ (b : Bool). cond b (x ∷ keep p l) (keep p l)) (f x (inl refl)) ∙ keep-none p l (λ y i. f y (inr i))
-
--- a ≤ b, b < c: a < c
-le-lt : (a b c : Stamp) → below b a ≡ false → below b c ≡ true → below a c ≡ true
-le-lt a b c p q = bool-case (below a c) (λ t. t) (λ t. clash q (le-trans c a b t p))
-
-both-le : (a b : Stamp) → (a .number < b .number) ⊎ ((a .number ≡ b .number) × (a .writer ≤ b .writer)) → (b .number < a .number) ⊎ ((b .number ≡ a .number) × (b .writer ≤ a .writer)) → (a .number ≡ b .number) × (a .writer ≡ b .writer)
-both-le a b (inl p) (inl q) = absurd (omega arith)
-both-le a b (inl p) (inr q) = absurd (omega (arith, q .0))
-both-le a b (inr p) (inl q) = absurd (omega (arith, p .0))
-both-le a b (inr p) (inr q) = (p .0, omega (arith, p .1, q .1))
-
--- the server of 1 to n with the highest stamp among those that p marks
-abbrev Most : (ℕ → Bool) → (ℕ → Stamp) → ℕ → Type 0
-Most p f n = (y : ℕ) × (1 ≤ y) × (y ≤ n) × (p y ≡ true) × ((z : ℕ) → 1 ≤ z → z ≤ n → p z ≡ true → below (f y) (f z) ≡ false)
-
-most : (p : ℕ → Bool) (f : ℕ → Stamp) (n : ℕ) → 1 ≤ countTo n p → Most p f n
-unfolding countTo
-most p f zero l = absurd (omega arith)
-most p f (suc n) l = go (p (suc n)) refl (leb 1 (countTo n p)) refl l (λ k. most p f n k)
-  where
-    last : (u : ℕ) → u ≤ suc n → leb u n ≡ false → u ≡ suc n
-    last u hi t = let z : u ≡ suc n = omega (arith, leb-false u n t) in z
-
-    only : p (suc n) ≡ true → ((z : ℕ) → 1 ≤ z → z ≤ n → p z ≡ true → below (f (suc n)) (f z) ≡ false) → Most p f (suc n)
-    only e h = (suc n, omega arith, omega arith, e, λ z lo hi q. bool-case (leb z n) (λ t. h z lo (leb-true z n t) q) (λ t. subst (λ (i : ℕ). below (f (suc n)) (f i) ≡ false) (sym (last z hi t)) (below-irrefl (f (suc n)))))
-
-    go : (t : Bool) → p (suc n) ≡ t → (o : Bool) → leb 1 (countTo n p) ≡ o → 1 ≤ cond t 1 0 + countTo n p → (1 ≤ countTo n p → Most p f n) → Most p f (suc n)
-    go false e o q l r = let k = r (omega arith) in
-        (k .0, k .1, omega (arith, k .2), k .3, λ z lo hi h. bool-case (leb z n) (λ t. k .4 z lo (leb-true z n t) h) (λ t. clash (subst (λ (i : ℕ). p i ≡ true) (last z hi t) h) e))
-    go true e false q l r = only e (λ z lo hi h. absurd (omega (arith, leb-false 1 (countTo n p) q, counted-one n p z lo hi h)))
-    go true e true q l r = let k = r (leb-true 1 (countTo n p) q) in bool-case (below (f (k .0)) (f (suc n)))
-        (λ t. only e (λ z lo hi h. le-trans (f z) (f (k .0)) (f (suc n)) (k .4 z lo hi h) (below-asym (f (k .0)) (f (suc n)) t)))
-        (λ t. (k .0, k .1, omega (arith, k .2), k .3, λ z lo hi h. bool-case (leb z n) (λ u. k .4 z lo (leb-true z n u) h) (λ u. subst (λ (i : ℕ). below (f (k .0)) (f i) ≡ false) (sym (last z hi u)) t)))
-
-module _ (K : Setup) (xs : Steps K) (fair : Fair K xs) (cs : List Candidate) (g : ByServer Held) (m : ByServer Bool) (W : Waits K xs cs g m) (enough : Q K ≤ countTo (S K) (λ j. right K j && m j)) where
+module _ (K : Setup) (xs : Steps K) (fair : Fair K xs) (cs : List Candidate) (g : ByServer Held) (m : ByServer Bool) (W : Waits K xs cs g m)
+    (enough : Q K ≤ countTo (S K) (λ j. right K j && m j)) where
   abbrev tells : ℕ → Bool
   tells = told K xs fair cs g m W
 
@@ -100,14 +48,22 @@ module _ (K : Setup) (xs : Steps K) (fair : Fair K xs) (cs : List Candidate) (g 
   all-marked = omega (arith, enough, count-mono tells m (S K) (λ j lo hi e. and-right (right K j) (m j) e))
 
   -- all correct replies are below d: it leaves the list
-  excluded : (d : Candidate) → ((j : ℕ) → 1 ≤ j → j ≤ S K → tells j ≡ true → below (g j .stamp) (d .stamp) ≡ true) → ltb (countTo (S K) (lower (K .s .P) (K .s .config) m g d)) (Q K) ≡ false
+  excluded : (d : Candidate) → ((j : ℕ) → 1 ≤ j → j ≤ S K → tells j ≡ true → below (g j .stamp) (d .stamp) ≡ true) →
+      ltb (countTo (S K) (lower (K .s .P) (K .s .config) m g d)) (Q K) ≡ false
   unfolding lower
-  excluded d f = le-ltb (countTo (S K) (lower (K .s .P) (K .s .config) m g d)) (Q K) (omega (arith, enough, count-mono tells (lower (K .s .P) (K .s .config) m g d) (S K) (λ j lo hi e. and-intro _ _ (and-right (right K j) (m j) e) (f j lo hi e))))
+  excluded d f = le-ltb (countTo (S K) (lower (K .s .P) (K .s .config) m g d)) (Q K)
+      (omega (
+        arith,
+        enough,
+        count-mono tells (lower (K .s .P) (K .s .config) m g d) (S K)
+            (λ j lo hi e. and-intro _ _ (and-right (right K j) (m j) e) (f j lo hi e)),
+      ))
 
   top : Most tells (λ j. g j .stamp) (S K)
   top = most tells (λ j. g j .stamp) (S K) some-told
 
-  first-moment : (z : ℕ) × (M : Moment K xs fair cs g m W z) × ((u : ℕ) → 1 ≤ u → u ≤ S K → tells u ≡ true → (N : Moment K xs fair cs g m W u) × Suf (M .ys) (N .ys))
+  first-moment : (z : ℕ) × (M : Moment K xs fair cs g m W z)
+      × ((u : ℕ) → 1 ≤ u → u ≤ S K → tells u ≡ true → (N : Moment K xs fair cs g m W u) × Suf (M .ys) (N .ys))
   first-moment = earliest K xs fair cs g m W (S K) some-told
 
   -- all correct replies are blank
@@ -115,10 +71,12 @@ module _ (K : Setup) (xs : Steps K) (fair : Fair K xs) (cs : List Candidate) (g 
   unfolding live isBlank
   all-blank e = W .undecided all-marked .1
       (keep-none (λ c. ltb (countTo (S K) (lower (K .s .P) (K .s .config) m g c)) (Q K)) cs (λ d i. excluded d (λ j lo hi t.
-      below-num (g j .stamp) (d .stamp) (omega (arith, num-le (g j .stamp) (g (top .0) .stamp) (top .4 j lo hi t), ap (λ (a : Stamp). a .number) e, pos-num d (W .listed d i))))))
+      below-num (g j .stamp) (d .stamp)
+      (omega (arith, num-le (g j .stamp) (g (top .0) .stamp) (top .4 j lo hi t), ap (λ (a : Stamp). a .number) e, pos-num d (W .listed d i))))))
     where
       pos-num : (d : Candidate) → eqb (d .stamp .number) 0 ≡ false → 1 ≤ d .stamp .number
-      pos-num d k = bool-case (leb 1 (d .stamp .number)) (λ t. leb-true 1 (d .stamp .number) t) (λ t. absurd (eqb-false (d .stamp .number) 0 k (omega (arith, leb-false 1 (d .stamp .number) t))))
+      pos-num d k = bool-case (leb 1 (d .stamp .number)) (λ t. leb-true 1 (d .stamp .number) t)
+          (λ t. absurd (eqb-false (d .stamp .number) 0 k (omega (arith, leb-false 1 (d .stamp .number) t))))
 
   -- the highest correct reply is a genuine candidate's
   module _ (d : Candidate) (ind : In d cs) (gen : Genuine K xs d) (is-top : g (top .0) .stamp ≡ d .stamp) where
@@ -139,12 +97,14 @@ module _ (K : Setup) (xs : Steps K) (fair : Fair K xs) (cs : List Candidate) (g 
 
     held-then : (j : ℕ) (r : Reply j) → isSome (held (d .stamp) (hist K (at-of j r .ys) j)) ≡ true
     unfolding at-of
-    held-then j r = suf-up (λ (zs : Steps K). isSome (held (d .stamp) (hist K zs j)) ≡ true) (λ x zs k. held-up K x zs j (d .stamp) k) (first-moment .1 .ys) (at-of j r .ys) (first-moment .2 j (r .low) (r .high) (r .tell) .1) (r .hold)
+    held-then j r = suf-up (λ (zs : Steps K). isSome (held (d .stamp) (hist K zs j)) ≡ true) (λ x zs k. held-up K x zs j (d .stamp) k)
+        (first-moment .1 .ys) (at-of j r .ys) (first-moment .2 j (r .low) (r .high) (r .tell) .1) (r .hold)
 
     -- a holder's reply is not below d
     high-then : (j : ℕ) → Reply j → below (g j .stamp) (d .stamp) ≡ false
     high-then j r = let N = at-of j r in let T = N .sat in let G = then-genuine K xs fair cs g m W j N d ind gen .0 in
-        subst (λ (a : Stamp). below a (d .stamp) ≡ false) (sym (T .stamp-is)) (best-max (K .s) j (now (K .s) (N .ys) .server j) (blankCandidate (K .s .config)) cs d ind
+        subst (λ (a : Stamp). below a (d .stamp) ≡ false) (sym (T .stamp-is))
+        (best-max (K .s) j (now (K .s) (N .ys) .server j) (blankCandidate (K .s .config)) cs d ind
         (vouches K (N .ys) (T .old) j d (G .write) (G .made) (G .stamp-is) (G .nonce-is) (held-then j r)))
 
     is-live : In d (Live K m g cs)
@@ -156,56 +116,80 @@ module _ (K : Setup) (xs : Steps K) (fair : Fair K xs) (cs : List Candidate) (g 
         bad h =
             let r = meets-marks K holds (lower (K .s .P) (K .s .config) m g d) full0 h in
             let j = r .0 in let rg = K .parties .servers j (r .1) in
-            clash (and-right (m j) _ (r .3)) (high-then j (record { low = rg .0; high = rg .1; tell = and-intro _ _ (r .1) (and-left (m j) _ (r .3)); hold = r .2 }))
+            clash (and-right (m j) _ (r .3))
+            (high-then j (record { low = rg .0; high = rg .1; tell = and-intro _ _ (r .1) (and-left (m j) _ (r .3)); hold = r .2 }))
 
     is-highest : In d (highest (K .s .P) (K .s .config) (Live K m g cs))
     unfolding highest live
-    is-highest = in-keep (λ c. not (any (λ e. below (c .stamp) (e .stamp)) (Live K m g cs))) (Live K m g cs) d is-live (not-f _ (untrue _ (λ t. bad (any-in (λ e. below (d .stamp) (e .stamp)) (Live K m g cs) t))))
+    is-highest = in-keep (λ c. not (any (λ e. below (c .stamp) (e .stamp)) (Live K m g cs))) (Live K m g cs) d is-live
+        (not-f _ (untrue _ (λ t. bad (any-in (λ e. below (d .stamp) (e .stamp)) (Live K m g cs) t))))
       where
         bad : (e : Candidate) × In e (Live K m g cs) × (below (d .stamp) (e .stamp) ≡ true) → ⊥
-        bad e = clash (keep-in (λ c. ltb (countTo (S K) (lower (K .s .P) (K .s .config) m g c)) (Q K)) cs (e .0) (e .1) .1) (excluded (e .0) (λ j lo hi t.
-            le-lt (g j .stamp) (g (top .0) .stamp) (e .0 .stamp) (top .4 j lo hi t) (subst (λ (a : Stamp). below a (e .0 .stamp) ≡ true) (sym is-top) (e .2))))
+        bad e = clash (keep-in (λ c. ltb (countTo (S K) (lower (K .s .P) (K .s .config) m g c)) (Q K)) cs (e .0) (e .1) .1)
+            (excluded (e .0) (λ j lo hi t.
+            le-lt (g j .stamp) (g (top .0) .stamp) (e .0 .stamp) (top .4 j lo hi t)
+            (subst (λ (a : Stamp). below a (e .0 .stamp) ≡ true) (sym is-top) (e .2))))
 
     -- ---- a holder among the repliers gave the write's share
 
     abbrev share : ℕ → Share
     share j = shareFor (K .s) (gen .write) j
 
-    same-stamp : (j : ℕ) (N : Moment K xs fair cs g m W j) → g j .stamp ≡ best K cs j (N .ys) .stamp → below (g j .stamp) (d .stamp) ≡ false → below (d .stamp) (g j .stamp) ≡ false → Genuine K (N .ys) d →
-        (best K cs j (N .ys) ≡ blankCandidate (K .s .config)) ⊎ (In (best K cs j (N .ys)) cs × Genuine K (N .ys) (best K cs j (N .ys))) → g j .stamp ≡ d .stamp
-    same-stamp j N q hi lo G (inl z) = absurd (omega (arith, num-le (d .stamp) (g j .stamp) hi, ap (λ (a : Stamp). a .number) q, ap (λ (c : Candidate). c .stamp .number) z, mark-num (K .s) (N .ys) (G .write) (G .made), ap (λ (a : Stamp). a .number) (G .stamp-is)))
+    same-stamp : (j : ℕ) (N : Moment K xs fair cs g m W j) → g j .stamp ≡ best K cs j (N .ys) .stamp → below (g j .stamp) (d .stamp) ≡ false →
+        below (d .stamp) (g j .stamp) ≡ false → Genuine K (N .ys) d →
+        (best K cs j (N .ys) ≡ blankCandidate (K .s .config)) ⊎ (In (best K cs j (N .ys)) cs × Genuine K (N .ys) (best K cs j (N .ys))) →
+        g j .stamp ≡ d .stamp
+    same-stamp j N q hi lo G (inl z) =
+        absurd (omega (
+          arith,
+          num-le (d .stamp) (g j .stamp) hi,
+          ap (λ (a : Stamp). a .number) q,
+          ap (λ (c : Candidate). c .stamp .number) z,
+          mark-num (K .s) (N .ys) (G .write) (G .made),
+          ap (λ (a : Stamp). a .number) (G .stamp-is),
+        ))
     same-stamp j N q hi lo G (inr z) =
         let B = z .1 in
         let r = both-le (d .stamp) (g j .stamp) (le-view (d .stamp) (g j .stamp) hi) (le-view (g j .stamp) (d .stamp) lo) in
         let k : B .write .stamp ≡ g j .stamp = B .stamp-is ∙ sym q in
         let eq : B .write ≡ G .write = by-stamp (K .s) (N .ys) (B .write) (G .write) (B .made) (G .made)
-        (ap (λ (a : Stamp). a .number) k ∙ sym (r .0) ∙ sym (ap (λ (a : Stamp). a .number) (G .stamp-is))) (ap (λ (a : Stamp). a .writer) k ∙ sym (r .1) ∙ sym (ap (λ (a : Stamp). a .writer) (G .stamp-is))) in
+        (ap (λ (a : Stamp). a .number) k ∙ sym (r .0) ∙ sym (ap (λ (a : Stamp). a .number) (G .stamp-is)))
+        (ap (λ (a : Stamp). a .writer) k ∙ sym (r .1) ∙ sym (ap (λ (a : Stamp). a .writer) (G .stamp-is))) in
         sym k ∙ ap (λ (w : Stamped). w .stamp) eq ∙ G .stamp-is
 
     votes : (j : ℕ) → Reply j → (g j .stamp ≡ d .stamp) × (g j .share ≡ some (share j))
     votes j r =
         let N = at-of j r in let T = N .sat in
         let G = then-genuine K xs fair cs g m W j N d ind gen .0 in
-        let low : below (d .stamp) (g j .stamp) ≡ false = subst (λ (a : Stamp). below a (g j .stamp) ≡ false) is-top (top .4 j (r .low) (r .high) (r .tell)) in
+        let low : below (d .stamp) (g j .stamp) ≡ false =
+        subst (λ (a : Stamp). below a (g j .stamp) ≡ false) is-top (top .4 j (r .low) (r .high) (r .tell)) in
         let sq : g j .stamp ≡ d .stamp = same-stamp j N (T .stamp-is) (high-then j r) low G (best-real K xs fair cs g m W j N) in
         let hs = is-some (held (d .stamp) (hist K (N .ys) j)) (held-then j r) in
         let fq : g j .share ≡ some (hs .0) = T .share-is ∙ ap (λ (a : Stamp). held a (hist K (N .ys) j)) (sym (T .stamp-is) ∙ sq) ∙ hs .1 in
         let P = piece-of K (N .ys) (T .old) j d G (hs .0) (hs .1) in
-        let pw : P .write ≡ gen .write = by-stamp (K .s) xs (P .write) (gen .write) (suf-up (λ (zs : Steps K). In (P .write) (marks (K .s) zs)) (marks-up (K .s) (P .write)) (N .ys) xs (before-now K xs fair cs g m W j N) (P .made)) (gen .made)
+        let pw : P .write ≡ gen .write =
+        by-stamp (K .s) xs (P .write) (gen .write)
+        (suf-up (λ (zs : Steps K). In (P .write) (marks (K .s) zs)) (marks-up (K .s) (P .write)) (N .ys) xs (before-now K xs fair cs g m W j N)
+        (P .made)) (gen .made)
         (ap (λ (a : Stamp). a .number) (P .stamp-is ∙ sym (gen .stamp-is))) (ap (λ (a : Stamp). a .writer) (P .stamp-is ∙ sym (gen .stamp-is))) in
         (sq, fq ∙ ap some (P .share-is ∙ ap (λ (w : Stamped). shareFor (K .s) w j) pw))
 
     fits-one : (j : ℕ) → Reply j → fits (K .s .P) (K .s .config) m g d j ≡ true
     unfolding fits
     fits-one j r = let v = votes j r in
-        and-intro _ _ (and-right (right K j) (m j) (r .tell)) (and-intro _ _ (subst (λ (a : Stamp). sameStamp a (d .stamp) ≡ true) (sym (v .0)) (stamp-refl (d .stamp)))
+        and-intro _ _ (and-right (right K j) (m j) (r .tell))
+        (and-intro _ _ (subst (λ (a : Stamp). sameStamp a (d .stamp) ≡ true) (sym (v .0)) (stamp-refl (d .stamp)))
         (subst (λ (o : Option Share). shareFits (K .s .P) (K .s .config) d j o ≡ true) (sym (v .1))
-        (and-intro _ _ (same-is _ _ (ap (K .s .P .digest) (gen .nonce-is))) (same-is _ _ (sym (K .laws .digest-at (fragmentFor (K .s) (gen .write .content)) j (r .low) (r .high)))))))
+        (and-intro _ _ (same-is _ _ (ap (K .s .P .digest) (gen .nonce-is)))
+        (same-is _ _ (sym (K .laws .digest-at (fragmentFor (K .s) (gen .write .content)) j (r .low) (r .high)))))))
 
     agrees-one : (i j : ℕ) → Reply i → Reply j → agrees (K .s .P) (K .s .config) m g d i j ≡ true
     unfolding agrees
-    agrees-one i j r t = and-intro _ _ (fits-one j t) (subst (λ (o : Option Share). sameShare (K .s .P) (K .s .config) o (g j .share) ≡ true) (sym (votes i r .1)) (subst (λ (o : Option Share). sameShare (K .s .P) (K .s .config) (some (share i)) o ≡ true) (sym (votes j t .1))
-        (and-intro _ _ (eq-eqb (length (gen .write .content)) (length (gen .write .content)) refl) (and-intro _ _ (same-refl (share i .digests)) (and-intro _ _ (same-refl (share i .nonceDigest)) (same-refl (share i .tags)))))))
+    agrees-one i j r t = and-intro _ _ (fits-one j t)
+        (subst (λ (o : Option Share). sameShare (K .s .P) (K .s .config) o (g j .share) ≡ true) (sym (votes i r .1))
+        (subst (λ (o : Option Share). sameShare (K .s .P) (K .s .config) (some (share i)) o ≡ true) (sym (votes j t .1))
+        (and-intro _ _ (eq-eqb (length (gen .write .content)) (length (gen .write .content)) refl)
+        (and-intro _ _ (same-refl (share i .digests)) (and-intro _ _ (same-refl (share i .nonceDigest)) (same-refl (share i .tags)))))))
 
     -- the correct servers that held it and replied
     abbrev voter : ℕ → Bool
@@ -224,16 +208,28 @@ module _ (K : Setup) (xs : Steps K) (fair : Fair K xs) (cs : List Candidate) (g 
     is-proven =
         let w = found voter (S K) (omega (arith, many-voters, K .legal .restores)) in
         let r = reply-of (w .0) (w .1) (w .2) (w .3) in
-        let big : K .s .config .shares ≤ countTo (S K) (agrees (K .s .P) (K .s .config) m g d (w .0)) = omega (arith, many-voters, count-mono voter (agrees (K .s .P) (K .s .config) m g d (w .0)) (S K) (λ j lo hi e. agrees-one (w .0) j r (reply-of j lo hi e))) in
-        not-f _ (ne-eqb (leader (K .s .P) (K .s .config) m g d (S K)) 0 (leader-some (K .s) m g d (S K) (w .0) (w .1) (w .2) (and-intro _ _ (fits-one (w .0) r) (le-leb _ _ big))))
+        let big : K .s .config .shares ≤ countTo (S K) (agrees (K .s .P) (K .s .config) m g d (w .0)) =
+        omega (
+          arith,
+          many-voters,
+          count-mono voter (agrees (K .s .P) (K .s .config) m g d (w .0)) (S K)
+              (λ j lo hi e. agrees-one (w .0) j r (reply-of j lo hi e)),
+        ) in
+        not-f _ (ne-eqb (leader (K .s .P) (K .s .config) m g d (S K)) 0
+        (leader-some (K .s) m g d (S K) (w .0) (w .1) (w .2) (and-intro _ _ (fits-one (w .0) r) (le-leb _ _ big))))
 
     decided : ⊥
     unfolding choice
-    decided = first-some (proven (K .s .P) (K .s .config) m g) (highest (K .s .P) (K .s .config) (Live K m g cs)) d is-highest is-proven (W .undecided all-marked .0)
+    decided = first-some (proven (K .s .P) (K .s .config) m g) (highest (K .s .P) (K .s .config) (Live K m g cs)) d is-highest is-proven
+        (W .undecided all-marked .0)
 
   pub decides : ⊥
   decides = let M = first-moment .2 (top .0) (top .1) (top .2) (top .3) .0 in go M (M .sat .stamp-is) (best-real K xs fair cs g m W (top .0) M)
     where
-      go : (M : Moment K xs fair cs g m W (top .0)) → g (top .0) .stamp ≡ best K cs (top .0) (M .ys) .stamp → (best K cs (top .0) (M .ys) ≡ blankCandidate (K .s .config)) ⊎ (In (best K cs (top .0) (M .ys)) cs × Genuine K (M .ys) (best K cs (top .0) (M .ys))) → ⊥
+      go : (M : Moment K xs fair cs g m W (top .0)) → g (top .0) .stamp ≡ best K cs (top .0) (M .ys) .stamp →
+          (best K cs (top .0) (M .ys) ≡ blankCandidate (K .s .config))
+          ⊎ (In (best K cs (top .0) (M .ys)) cs × Genuine K (M .ys) (best K cs (top .0) (M .ys))) → ⊥
       go M q (inl e) = all-blank (q ∙ ap (λ (c : Candidate). c .stamp) e)
-      go M q (inr r) = decided (best K cs (top .0) (M .ys)) (r .0) (suf-up (λ (zs : Steps K). Genuine K zs (best K cs (top .0) (M .ys))) (genuine-up K (best K cs (top .0) (M .ys))) (M .ys) xs (before-now K xs fair cs g m W (top .0) M) (r .1)) q
+      go M q (inr r) = decided (best K cs (top .0) (M .ys)) (r .0)
+          (suf-up (λ (zs : Steps K). Genuine K zs (best K cs (top .0) (M .ys))) (genuine-up K (best K cs (top .0) (M .ys))) (M .ys) xs
+          (before-now K xs fair cs g m W (top .0) M) (r .1)) q

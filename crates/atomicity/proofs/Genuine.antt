@@ -1,115 +1,33 @@
--- What correct servers hold. Every write in a history is that of a mark; a candidate that is valid at a server has the stamp and the nonce of a mark
--- whose write has shown them (a forged tag, a second input with one digest and an early nonce are excluded by the premises); and so has a latest, if it is not blank.
+-- A candidate that is valid at a correct server has the stamp and the nonce of a mark whose write has shown them (a forged tag, a second input
+-- with one digest and an early nonce are excluded by the premises); and so has a latest, if it is not blank.
 -- Assumes nothing.
 use mathlib.Core.Path.{_≡_, refl, sym, ap, _∙_, subst}
 use mathlib.Core.Bool.{Bool, true, false, cond, not, _&&_, _||_}
-use mathlib.Core.List.{List, [], _∷_, _++_, map}
-use mathlib.Core.Option.{Option, none, some}
+use mathlib.Core.List.{List, [], _∷_, _++_}
+use mathlib.Core.Option.{Option, some}
 use mathlib.Core.Logic.{_⊎_, inl, inr}
-use Prim.Native.Nat.{ℕ, zero, suc, _≤_, _<_}
-use native.Mathlib.Omega.{arith}
-use Rattle.cluster.specs.Config.{upTo}
-use Rattle.cluster.specs.Ranges.{within}
-use Rattle.protocol.specs.declared.Stamp.{Stamp}
-use Rattle.protocol.specs.Values.{Candidate, Share, Write, Held, blankCandidate, noShare}
+use Prim.Native.Nat.{ℕ, _≤_}
+use Rattle.protocol.specs.Values.{Candidate, blankCandidate}
 use Rattle.protocol.specs.Packet.{Body, Packet, decode}
 use Rattle.protocol.specs.Packet.{clock, clockReply, store, storeReply, complete, completeReply, collect, collectReply, filter, filterReply, repair, repairReply}
-use Rattle.protocol.specs.Primitives.{stampMessage, candidateMessage}
-use Rattle.protocol.specs.Memory.{held}
-use Rattle.protocol.specs.Server.{Server, blankServer, byHistory, valid, barred}
-use Rattle.protocol.specs.Client.{Hand, storing, completing, request, made}
-use Rattle.protocol.specs.Runs.{Step, serve, Typed, World, nowValues}
+use Rattle.protocol.specs.Primitives.{candidateMessage}
+use Rattle.protocol.specs.Server.{Server, blankServer, valid, barred}
+use Rattle.protocol.specs.Client.{made}
+use Rattle.protocol.specs.Runs.{Step, serve, World, nowValues}
 use Rattle.atomicity.specs.Lists.{Ever, Always, All, In, flat}
-use Rattle.atomicity.specs.Steps.{System, Stamped, accepted, packetIn, makes, serves, shown, judged, inPacket, stampedAt, tagsWith, digestsWith, tagsMade, tagsChecked, checkedBy, serverChecks, digested, digestedBy, allDigested, noncesGot, noncesBy}
+use Rattle.atomicity.specs.Steps.{Stamped, accepted, packetIn, makes, serves, shown, judged, inPacket, stampedAt, digestsWith, tagsMade, tagsChecked, checkedBy, serverChecks, digested, digestedBy, allDigested, noncesGot, noncesBy}
 use Rattle.atomicity.specs.Premises.{NoForgery, NoCollision, NoEarlyNonce, Shows}
-use Rattle.atomicity.proofs.Util.{clash, left-in, right-in, split-in, flat-in, in-flat, in-map, map-in, all-in, ever-map}
-use Rattle.atomicity.proofs.Model.{Run, perform, now, account, marks, vouched, tagged, isValid, candidateFor, sharesFor, writeFor}
-use Rattle.atomicity.proofs.Setup.{Setup, Steps, StepOf, Meets, Fair, Begin, Show, hist}
-use Rattle.atomicity.proofs.Moves.{Served, same, acted, served, Asked, Making, making}
+use Rattle.atomicity.proofs.Util.{right-in, flat-in, in-map, all-in, ever-map}
+use Rattle.atomicity.proofs.Model.{perform, now, account, marks, vouched, tagged, isValid}
+use Rattle.atomicity.proofs.Setup.{Setup, Steps, StepOf, Meets, Fair, Begin, Show}
+use Rattle.atomicity.proofs.Serving.{Served, same, acted, served, making}
 use Rattle.atomicity.proofs.Marks.{marks-up}
 use Rattle.atomicity.proofs.Begun.{Known, known, begins, mark-digested}
-use Rattle.atomicity.proofs.Servers.{held-digest, Origin, act-grows}
-use Rattle.atomicity.proofs.Sources.{read-back, serve-shape, store-writer, complete-writer, store-made, complete-made, MadeBy, server-correct, in-range, writer-made}
+use Rattle.atomicity.proofs.Servers.{Origin, act-grows}
+use Rattle.atomicity.proofs.Sources.{serve-shape, complete-writer, complete-made, MadeBy, server-correct, in-range, writer-made}
+use Rattle.atomicity.proofs.Histories.{Vouched, by-history, made-mark}
 
 module _ (K : Setup) where
-  -- ---- histories
-
-  abbrev pub From : ℕ → Write → Steps K → Type 0
-  From j e xs = (m : Stamped) × In m (marks (K .s) xs) × (e ≡ writeFor (K .s) m j)
-
-  from-up : (j : ℕ) (e : Write) (x : StepOf K) (xs : Steps K) → From j e xs → From j e (x ∷ xs)
-  from-up j e x xs f = (f .0, marks-up (K .s) (f .0) x xs (f .1), f .2)
-
-  ever-from : (j : ℕ) (e : Write) (xs : Steps K) → Ever (λ y ys. From j e ys) xs → From j e xs
-  unfolding Ever
-  ever-from j e [] h = absurd h
-  ever-from j e (x ∷ xs) (inl f) = from-up j e x xs f
-  ever-from j e (x ∷ xs) (inr h) = from-up j e x xs (ever-from j e xs h)
-
-  made-from : (j : ℕ) (e : Write) (p : Packet) → p .body ≡ store e → p .head .server ≡ j → (y : StepOf K) (ys : Steps K) → MadeBy K (makes (p .head .client)) p y ys → From j e ys
-  unfolding made Known
-  made-from j e p is at y ys h =
-      let c = p .head .client in
-      let t = making (K .s) (now (K .s) ys) c (y .step) p (h .0) (h .2) in
-      let w = store-made (now (K .s) ys .client c .hand) (t .to) e (sym (ap (λ (q : Packet). q .body) (t .is)) ∙ is) in
-      let k = subst (Known (K .s) ys c) (w .2) (known (K .s) ys c) in
-      let to-j : t .to ≡ j = sym (ap (λ (q : Packet). q .head .server) (t .is)) ∙ at in (
-        k .0,
-        k .1,
-        w .3 ∙ (λ i. record { stamp = k .3 i .stamp; share = k .4 i (t .to) })
-            ∙ ap (λ (b : Bool). record { stamp = k .0 .stamp; share = cond b (writeFor (K .s) (k .0) (t .to) .share) noShare }) (in-range K (t .to) (t .low) (t .high))
-            ∙ ap (writeFor (K .s) (k .0)) to-j,
-      )
-
-  pub history : (xs : Steps K) → Fair K xs → (j : ℕ) (e : Write) → In e (hist K xs j) → From j e xs
-  unfolding Always nowValues In
-  history [] h j e i = absurd i
-  history (x ∷ xs) h j e i = go (served (K .s) (now (K .s) xs) j (x .step)) (λ k. history xs (h .1) j e k)
-    where
-      w : World
-      w = now (K .s) xs
-
-      go : Served (K .s) j w (x .step) (perform (K .s) w (x .step) .world .server j) → (In e (hist K xs j) → From j e xs) → From j e (x ∷ xs)
-      go (same q) f = from-up j e x xs (f (subst (λ (v : Server). In e (v .history)) q i))
-      go (acted p a b c d q) f = from-up j e x xs (new (act-grows (K .s) j (w .server j) (p .body) .new e (subst (λ (v : Server). In e (v .history)) q i)))
-        where
-          new : In e (w .server j .history) ⊎ (p .body ≡ store e) → From j e xs
-          new (inl k) = f k
-          new (inr k) = ever-from j e xs (ever-map (MadeBy K (makes (p .head .client)) p) (λ y ys. From j e ys) (made-from j e p k (c .mine)) xs
-              (writer-made K x xs (h .0) j p b c d (store-writer (p .head .client) e (subst (λ (z : Body). barred (p .head .client) z ≡ false) k (c .allowed)))))
-
-  -- ---- valid candidates
-
-  -- a mark with the candidate's stamp and nonce digest
-  abbrev Vouched : Steps K → Candidate → Type 0
-  Vouched xs c = (m : Stamped) × In m (marks (K .s) xs) × (m .stamp ≡ c .stamp) × (K .s .P .digest (m .nonce) ≡ K .s .P .digest (c .nonce))
-
-  by-history : (xs : Steps K) → Fair K xs → (j : ℕ) (c : Candidate) → vouched (K .s) j (now (K .s) xs .server j) c ≡ true → Vouched xs c
-  unfolding byHistory
-  by-history xs h j c v =
-      let b = held-digest (c .stamp) (K .s .P .digest (c .nonce)) (hist K xs j) v in
-      let f = history xs h j (b .0) (b .1) in
-      (f .0, f .1, sym (ap (λ (e : Write). e .stamp) (f .2)) ∙ b .2, sym (ap (λ (e : Write). e .share .nonceDigest) (f .2)) ∙ b .3)
-
-  -- a tag over stamp and nonce digest that was made for a mark names that mark
-  tag-mark : (k : List ℕ) (a : Stamp) (n : List ℕ) (m : Stamped) → In {A = List ℕ × List ℕ} (k, candidateMessage a (K .s .P .digest n)) (tagsWith (K .s) m) → (m .stamp ≡ a) × (K .s .P .digest (m .nonce) ≡ K .s .P .digest n)
-  unfolding tagsWith In
-  tag-mark k a n m (inl e) = absurd (K .laws .apart a n (m .stamp .number) (m .stamp .writer) (ap (λ (x : List ℕ × List ℕ). x .1) e))
-  tag-mark k a n m (inr i) =
-      let r = map-in (λ (i : ℕ). (K .s .keys i, candidateMessage (m .stamp) (K .s .P .digest (m .nonce)))) (upTo (K .s .config .servers)) _ i in
-      let q = K .laws .candidate-inj a (m .stamp) n (m .nonce) (ap (λ (y : List ℕ × List ℕ). y .1) (r .2)) in (sym (q .0), sym (q .1))
-
-  made-mark : (k : List ℕ) (a : Stamp) (n : List ℕ) (xs : Steps K) → Ever (λ y ys. In {A = List ℕ × List ℕ} (k, candidateMessage a (K .s .P .digest n)) (tagsMade (K .s) (account (K .s)) y ys)) xs →
-      (m : Stamped) × In m (marks (K .s) xs) × (m .stamp ≡ a) × (K .s .P .digest (m .nonce) ≡ K .s .P .digest n)
-  unfolding Ever marks
-  made-mark k a n [] e = absurd e
-  made-mark k a n (x ∷ xs) (inl i) =
-      let f = in-flat (tagsWith (K .s)) (stampedAt (K .s) (account (K .s)) x xs) _ i in
-      let t = tag-mark k a n (f .0) (f .2) in
-      (f .0, left-in (f .0) (stampedAt (K .s) (account (K .s)) x xs) (marks (K .s) xs) (f .1), t .0, t .1)
-  made-mark k a n (x ∷ xs) (inr e) =
-      let r = made-mark k a n xs e in (r .0, right-in (r .0) (stampedAt (K .s) (account (K .s)) x xs) (marks (K .s) xs) (r .1), r .2, r .3)
-
   -- the step of a server that judges candidates
   pub record Judging (x : StepOf K) (xs : Steps K) (j : ℕ) (p : Packet) : Type 0 where
     pub prem : Meets K x xs
@@ -118,14 +36,17 @@ module _ (K : Setup) where
     pub fine : accepted (perform (K .s) (now (K .s) xs) (x .step) .result) ≡ true
 
   -- a property of lists that the step gives, if it is accepted and a server's
-  pub at-serve : {A : Type 0} (u : A) (x : StepOf K) (xs : Steps K) (j : ℕ) (p : Packet) → Judging x xs j p → (f : Step → List A) → ((b o : List ℕ) → decode b ≡ some p → In u (f (serve j b o))) →
+  pub at-serve : {A : Type 0} (u : A) (x : StepOf K) (xs : Steps K) (j : ℕ) (p : Packet) → Judging x xs j p → (f : Step → List A) →
+      ((b o : List ℕ) → decode b ≡ some p → In u (f (serve j b o))) →
       In u (cond (accepted (perform (K .s) (now (K .s) xs) (x .step) .result)) (f (x .step)) [])
   at-serve {A} u x xs j p t f h = let v = serve-shape j (x .step) (t .by) in
-      subst (λ (b : Bool). In u (cond b (f (x .step)) [])) (sym (t .fine)) (subst (λ (y : Step). In u (f y)) (sym (v .2)) (h (v .0) (v .1) (ap packetIn (sym (v .2)) ∙ t .got)))
+      subst (λ (b : Bool). In u (cond b (f (x .step)) [])) (sym (t .fine))
+      (subst (λ (y : Step). In u (f y)) (sym (v .2)) (h (v .0) (v .1) (ap packetIn (sym (v .2)) ∙ t .got)))
 
   forged : (x : StepOf K) (xs : Steps K) (j : ℕ) (p : Packet) → Judging x xs j p → (c : Candidate) → In c (judged (p .body)) →
       vouched (K .s) j (now (K .s) xs .server j) c ≡ false → tagged (K .s) j c ≡ true →
-      Ever (λ y ys. In {A = List ℕ × List ℕ} (K .s .keys j, candidateMessage (c .stamp) (K .s .P .digest (c .nonce))) (tagsMade (K .s) (account (K .s)) y ys)) xs
+      Ever (λ y ys. In {A = List ℕ × List ℕ} (K .s .keys j, candidateMessage (c .stamp) (K .s .P .digest (c .nonce)))
+      (tagsMade (K .s) (account (K .s)) y ys)) xs
   unfolding NoForgery checkedBy serverChecks In
   forged x xs j p t c i e k =
       all-in (λ kb. Ever (λ y ys. In kb (tagsMade (K .s) (account (K .s)) y ys)) xs) (tagsChecked (K .s) (account (K .s)) x xs) (t .prem .unforged) _
@@ -142,18 +63,21 @@ module _ (K : Setup) where
 
       one : In kb (serverChecks (K .s) j (account (K .s) .server xs j) c)
       one = subst (λ (v : Server). In kb (serverChecks (K .s) j v c)) (sym mine)
-          (subst (λ (b : Bool). In kb (cond (not b && tagged (K .s) j c) (kb ∷ []) [])) (sym e) (subst (λ (b : Bool). In kb (cond b (kb ∷ []) [])) (sym k) (inl refl)))
+          (subst (λ (b : Bool). In kb (cond (not b && tagged (K .s) j c) (kb ∷ []) [])) (sym e)
+          (subst (λ (b : Bool). In kb (cond b (kb ∷ []) [])) (sym k) (inl refl)))
 
       here : (b o : List ℕ) → decode b ≡ some p → In kb (flat (serverChecks (K .s) j (account (K .s) .server xs j)) (inPacket judged (decode b)))
-      here b o d = flat-in (serverChecks (K .s) j (account (K .s) .server xs j)) (inPacket judged (decode b)) c kb (subst (λ (q : Option Packet). In c (inPacket judged q)) (sym d) i) one
+      here b o d = flat-in (serverChecks (K .s) j (account (K .s) .server xs j)) (inPacket judged (decode b)) c kb
+          (subst (λ (q : Option Packet). In c (inPacket judged q)) (sym d) i) one
 
-  vouched-for : (x : StepOf K) (xs : Steps K) → Fair K xs → (j : ℕ) (p : Packet) → Judging x xs j p → (c : Candidate) → In c (judged (p .body)) → isValid (K .s) j (now (K .s) xs .server j) c ≡ true → Vouched xs c
+  vouched-for : (x : StepOf K) (xs : Steps K) → Fair K xs → (j : ℕ) (p : Packet) → Judging x xs j p → (c : Candidate) → In c (judged (p .body)) →
+      isValid (K .s) j (now (K .s) xs .server j) c ≡ true → Vouched K xs c
   unfolding valid
   vouched-for x xs h j p t c i v = go (vouched (K .s) j (now (K .s) xs .server j) c) refl v
     where
-      go : (b : Bool) → vouched (K .s) j (now (K .s) xs .server j) c ≡ b → (b || tagged (K .s) j c) ≡ true → Vouched xs c
-      go true e k = by-history xs h j c e
-      go false e k = made-mark (K .s .keys j) (c .stamp) (c .nonce) xs (forged x xs j p t c i e k)
+      go : (b : Bool) → vouched (K .s) j (now (K .s) xs .server j) c ≡ b → (b || tagged (K .s) j c) ≡ true → Vouched K xs c
+      go true e k = by-history K xs h j c e
+      go false e k = made-mark K (K .s .keys j) (c .stamp) (c .nonce) xs (forged x xs j p t c i e k)
 
   -- its stamp and nonce are those of a write that has shown them
   pub record Genuine (xs : Steps K) (c : Candidate) : Type 0 where
@@ -178,7 +102,8 @@ module _ (K : Setup) where
   judged-shown (filterReply x) c i = absurd i
   judged-shown repairReply c i = absurd i
 
-  pub genuine : (x : StepOf K) (xs : Steps K) → Fair K xs → (j : ℕ) (p : Packet) → Judging x xs j p → (c : Candidate) → In c (judged (p .body)) → isValid (K .s) j (now (K .s) xs .server j) c ≡ true → Genuine xs c
+  pub genuine : (x : StepOf K) (xs : Steps K) → Fair K xs → (j : ℕ) (p : Packet) → Judging x xs j p → (c : Candidate) → In c (judged (p .body)) →
+      isValid (K .s) j (now (K .s) xs .server j) c ≡ true → Genuine xs c
   unfolding NoCollision NoEarlyNonce digestedBy noncesBy digestsWith In
   genuine x xs h j p t c i v =
       let r = vouched-for x xs h j p t c i v in
@@ -188,22 +113,33 @@ module _ (K : Setup) where
       let all = D ++ allDigested (K .s) (account (K .s)) xs in
       let mine : In (c .nonce) D = at-serve (c .nonce) x xs j p t (digestedBy (K .s) (stampedAt (K .s) (account (K .s)) x xs))
       (λ b o d. in-map nonceOf (inPacket judged (decode b)) c (subst (λ (q : Option Packet). In c (inPacket judged q)) (sym d) i)) in
-      let theirs : In (m .nonce) all = right-in (m .nonce) D (allDigested (K .s) (account (K .s)) xs) (mark-digested (K .s) xs m (m .nonce) (r .1) (inl refl)) in
+      let theirs : In (m .nonce) all =
+      right-in (m .nonce) D (allDigested (K .s) (account (K .s)) xs) (mark-digested (K .s) xs m (m .nonce) (r .1) (inl refl)) in
       let equal : c .nonce ≡ m .nonce = all-in (λ u. K .s .P .digest (c .nonce) ≡ K .s .P .digest u → c .nonce ≡ u) all
-      (all-in (λ u. All (λ w. K .s .P .digest u ≡ K .s .P .digest w → u ≡ w) all) D (t .prem .uncollided) (c .nonce) mine) (m .nonce) theirs (sym (r .3)) in
+      (all-in (λ u. All (λ w. K .s .P .digest u ≡ K .s .P .digest w → u ≡ w) all) D (t .prem .uncollided) (c .nonce) mine) (m .nonce) theirs
+      (sym (r .3)) in
       let seen : In (m .nonce) (noncesGot (K .s) (account (K .s)) x xs) = subst (λ (n : List ℕ). In n (noncesGot (K .s) (account (K .s)) x xs)) equal
-      (at-serve (c .nonce) x xs j p t (noncesBy (K .s)) (λ b o d. in-map nonceOf (inPacket shown (decode b)) c (subst (λ (q : Option Packet). In c (inPacket shown q)) (sym d) (judged-shown (p .body) c i)))) in
+      (at-serve (c .nonce) x xs j p t (noncesBy (K .s))
+      (λ b o d. in-map nonceOf (inPacket shown (decode b)) c
+      (subst (λ (q : Option Packet). In c (inPacket shown q)) (sym d) (judged-shown (p .body) c i)))) in
       record {
         write = m;
         made = r .1;
         stamp-is = r .2;
         nonce-is = sym equal;
-        shown = all-in (λ n. (d : ℕ) → Ever (Begin K d n) xs → Ever (Show K d n) xs) (noncesGot (K .s) (account (K .s)) x xs) (t .prem .unshown) (m .nonce) seen (m .client) (begins K xs m (r .1));
+        shown = all-in (λ n. (d : ℕ) → Ever (Begin K d n) xs → Ever (Show K d n) xs) (noncesGot (K .s) (account (K .s)) x xs) (t .prem .unshown)
+            (m .nonce) seen (m .client) (begins K xs m (r .1));
       }
 
   pub genuine-up : (c : Candidate) (x : StepOf K) (xs : Steps K) → Genuine xs c → Genuine (x ∷ xs) c
   unfolding Ever
-  genuine-up c x xs g = record { write = g .write; made = marks-up (K .s) (g .write) x xs (g .made); stamp-is = g .stamp-is; nonce-is = g .nonce-is; shown = inr (g .shown) }
+  genuine-up c x xs g = record {
+    write = g .write;
+    made = marks-up (K .s) (g .write) x xs (g .made);
+    stamp-is = g .stamp-is;
+    nonce-is = g .nonce-is;
+    shown = inr (g .shown);
+  }
 
   -- ---- the latest
 
@@ -213,7 +149,8 @@ module _ (K : Setup) where
   ever-genuine c (x ∷ xs) (inl g) = g
   ever-genuine c (x ∷ xs) (inr e) = genuine-up c x xs (ever-genuine c xs e)
 
-  completed : (c : Candidate) (p : Packet) → p .body ≡ complete c → (y : StepOf K) (ys : Steps K) → MadeBy K (makes (p .head .client)) p y ys → Genuine (y ∷ ys) c
+  completed : (c : Candidate) (p : Packet) → p .body ≡ complete c → (y : StepOf K) (ys : Steps K) → MadeBy K (makes (p .head .client)) p y ys →
+      Genuine (y ∷ ys) c
   unfolding made Known Ever Shows
   completed c p is y ys h =
       let d = p .head .client in
@@ -228,7 +165,8 @@ module _ (K : Setup) where
         shown = inl (c, p, subst (λ (i : ℕ). makes i (y .step) ≡ true) (sym (k .2)) (h .0), h .1, is, ap (λ (z : Candidate). z .nonce) (k .3));
       }
 
-  pub latest-known : (xs : Steps K) → Fair K xs → (j : ℕ) → (now (K .s) xs .server j .latest ≡ blankCandidate (K .s .config)) ⊎ Genuine xs (now (K .s) xs .server j .latest)
+  pub latest-known : (xs : Steps K) → Fair K xs → (j : ℕ) → (now (K .s) xs .server j .latest ≡ blankCandidate (K .s .config))
+      ⊎ Genuine xs (now (K .s) xs .server j .latest)
   unfolding nowValues Always
   latest-known [] h j = inl refl
   latest-known (x ∷ xs) h j = go (served (K .s) (now (K .s) xs) j (x .step)) (latest-known xs (h .1) j)
@@ -243,15 +181,20 @@ module _ (K : Setup) where
       later c (inl e) = inl e
       later c (inr g) = inr (genuine-up c x xs g)
 
-      go : Served (K .s) j w (x .step) (perform (K .s) w (x .step) .world .server j) → Good xs (w .server j .latest) → Good (x ∷ xs) (perform (K .s) w (x .step) .world .server j .latest)
+      go : Served (K .s) j w (x .step) (perform (K .s) w (x .step) .world .server j) → Good xs (w .server j .latest) →
+          Good (x ∷ xs) (perform (K .s) w (x .step) .world .server j .latest)
       go (same q) old = later _ (subst (λ (v : Server). Good xs (v .latest)) (sym q) old)
-      go (acted p a b c d q) old = later _ (subst (λ (v : Server). Good xs (v .latest)) (sym q) (new _ (act-grows (K .s) j (w .server j) (p .body) .latest)))
+      go (acted p a b c d q) old = later _
+          (subst (λ (v : Server). Good xs (v .latest)) (sym q) (new _ (act-grows (K .s) j (w .server j) (p .body) .latest)))
         where
-          from : (z : Candidate) → (z ≡ blankCandidate (K .s .config)) ⊎ ((In z (judged (p .body)) × (isValid (K .s) j (w .server j) z ≡ true)) ⊎ (p .body ≡ complete z)) → Good xs z
+          from : (z : Candidate) → (z ≡ blankCandidate (K .s .config))
+              ⊎ ((In z (judged (p .body)) × (isValid (K .s) j (w .server j) z ≡ true)) ⊎ (p .body ≡ complete z)) → Good xs z
           from z (inl e) = inl e
           from z (inr (inl v)) = inr (genuine x xs (h .1) j p (record { prem = h .0; by = a; got = b; fine = d }) z (v .0) (v .1))
-          from z (inr (inr k)) = inr (ever-genuine z xs (ever-map (MadeBy K (makes (p .head .client)) p) (λ y ys. Genuine (y ∷ ys) z) (completed z p k) xs
-              (writer-made K x xs (h .0) j p b c d (complete-writer (p .head .client) z (subst (λ (y : Body). barred (p .head .client) y ≡ false) k (c .allowed))))))
+          from z (inr (inr k)) = inr (ever-genuine z xs
+              (ever-map (MadeBy K (makes (p .head .client)) p) (λ y ys. Genuine (y ∷ ys) z) (completed z p k) xs
+              (writer-made K x xs (h .0) j p b c d
+              (complete-writer (p .head .client) z (subst (λ (y : Body). barred (p .head .client) y ≡ false) k (c .allowed))))))
 
           new : (z : Candidate) → (z ≡ w .server j .latest) ⊎ Origin (K .s) j (w .server j) (p .body) z → Good xs z
           new z (inl e) = subst (Good xs) (sym e) old

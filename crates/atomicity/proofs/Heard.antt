@@ -1,5 +1,5 @@
--- What only rises along a run; and that a correct server's reply to the round in hand was given in this very round, on the request of this hand.
--- So what such a reply says was true of that server after the call and the round began: late replies, replays and disorder do no harm.
+-- What only rises along a run; and that a correct server's reply to the round in hand was given in this very round, on the request of this
+-- hand. So what such a reply says was true of that server after the call and the round began: late replies, replays and disorder do no harm.
 -- Assumes nothing.
 use mathlib.Core.Path.{_≡_, refl, sym, ap, _∙_, subst}
 use mathlib.Core.Bool.{Bool, true, false, cond, not, _&&_, _||_}
@@ -25,7 +25,7 @@ use Rattle.atomicity.proofs.Util.{clash, cond-both, ever-map, ever-with
 use Rattle.atomicity.proofs.Stamps.{le-trans, below-irrefl}
 use Rattle.atomicity.proofs.Model.{Run, perform, now, account, acts, marks}
 use Rattle.atomicity.proofs.Setup.{Setup, Steps, StepOf, Meets, Fair, lat, hist, hand, calls}
-use Rattle.atomicity.proofs.Moves.{Asked, Making, making}
+use Rattle.atomicity.proofs.Serving.{Asked, Making, making}
 use Rattle.atomicity.proofs.Rounds.{stage, pos, stage-awaits, since, from, Before, ever-before, before-one, before-trans}
 use Rattle.atomicity.proofs.Marks.{marks-up}
 use Rattle.atomicity.proofs.Servers.{held-some, is-some, in-held, latest-rises, history-keeps}
@@ -63,9 +63,11 @@ module _ (K : Setup) where
       go false k r = k
 
   pub lat-since : (c : ℕ) (xs : Steps K) (j : ℕ) → below (lat K xs j) (lat K (since (K .s) c xs) j) ≡ false
-  lat-since c xs j = since-up c (λ (zs : Steps K). below (lat K zs j) (lat K (since (K .s) c xs) j) ≡ false) (λ x zs h. lat-up x zs j _ h) xs (below-irrefl _)
+  lat-since c xs j = since-up c (λ (zs : Steps K). below (lat K zs j) (lat K (since (K .s) c xs) j) ≡ false) (λ x zs h. lat-up x zs j _ h) xs
+      (below-irrefl _)
 
-  pub held-from : (c : ℕ) (xs : Steps K) (j : ℕ) (a : Stamp) → isSome (held a (hist K (from (K .s) c xs) j)) ≡ true → isSome (held a (hist K xs j)) ≡ true
+  pub held-from : (c : ℕ) (xs : Steps K) (j : ℕ) (a : Stamp) → isSome (held a (hist K (from (K .s) c xs) j)) ≡ true →
+      isSome (held a (hist K xs j)) ≡ true
   held-from c xs j a h = from-up c (λ (zs : Steps K). isSome (held a (hist K zs j)) ≡ true) (λ x zs k. held-up x zs j a k) xs h
 
   pub marks-from : (c : ℕ) (xs : Steps K) (m : Stamped) → In m (marks (K .s) (from (K .s) c xs)) → In m (marks (K .s) xs)
@@ -115,15 +117,18 @@ module _ (K : Setup) where
     pub since-is : since (K .s) c ys ≡ since (K .s) c xs
 
   -- the client's position when it made the request behind a reply
-  asked-pos : (p : Packet) (y : StepOf K) (ys : Steps K) (t : Told K p y ys) (z : StepOf K) (zs : Steps K) → MadeBy K (makes (p .head .client)) (t .behind .ask) z zs →
-      (isIdle (hand K zs (p .head .client)) ≡ false) × (pos (now (K .s) zs .client (p .head .client)) ≡ 16 * p .head .call + kindOf (p .body)) × (t .behind .ask .body ≡ request (hand K zs (p .head .client)) (p .head .server))
+  asked-pos : (p : Packet) (y : StepOf K) (ys : Steps K) (t : Told K p y ys) (z : StepOf K) (zs : Steps K) →
+      MadeBy K (makes (p .head .client)) (t .behind .ask) z zs →
+      (isIdle (hand K zs (p .head .client)) ≡ false) × (pos (now (K .s) zs .client (p .head .client)) ≡ 16 * p .head .call + kindOf (p .body))
+      × (t .behind .ask .body ≡ request (hand K zs (p .head .client)) (p .head .server))
   unfolding pos made replyTo
   asked-pos p y ys t z zs h =
       let d = p .head .client in
       let a = t .behind in
       let m = making (K .s) (now (K .s) zs) d (z .step) (a .ask) (h .0) (h .2) in
       let bq : a .ask .body ≡ request (hand K zs d) (m .to) = ap (λ (x : Packet). x .body) (m .is) in
-      let k : kindOf (p .body) ≡ awaits (hand K zs d) = ap (λ (x : Packet). kindOf (x .body)) (a .reply) ∙ act-kind (K .s) (p .head .server) _ (a .ask .head .client) (a .ask .body) (a .asked .allowed)
+      let k : kindOf (p .body) ≡ awaits (hand K zs d) = ap (λ (x : Packet). kindOf (x .body)) (a .reply)
+      ∙ act-kind (K .s) (p .head .server) _ (a .ask .head .client) (a .ask .body) (a .asked .allowed)
       ∙ ap (λ (x : Body). suc (kindOf x)) bq ∙ request-kind (hand K zs d) (m .to) (m .busy) in
       let cq : p .head .call ≡ calls K zs d = sym (t .same-call) ∙ ap (λ (x : Packet). x .head .call) (m .is) in
       let to-is : m .to ≡ p .head .server = sym (ap (λ (x : Packet). x .head .server) (m .is)) ∙ a .asked .mine in
@@ -133,10 +138,15 @@ module _ (K : Setup) where
   pub asked-at : (c : ℕ) (p : Packet) (y : StepOf K) (ys : Steps K) → p .head .client ≡ c → Told K p y ys →
       Ever (λ z zs. Before (K .s) c zs ys × (pos (now (K .s) zs .client c) ≡ 16 * p .head .call + kindOf (p .body))) ys
   asked-at c p y ys mine t = ever-map (λ z zs. MadeBy K (makes (p .head .client)) (t .behind .ask) z zs × Before (K .s) c zs ys) _
-      (λ z zs h. (h .1, subst (λ (i : ℕ). pos (now (K .s) zs .client i) ≡ 16 * p .head .call + kindOf (p .body)) mine (asked-pos p y ys t z zs (h .0) .1)))
+      (λ z zs h. (
+        h .1,
+        subst (λ (i : ℕ). pos (now (K .s) zs .client i) ≡ 16 * p .head .call + kindOf (p .body)) mine
+            (asked-pos p y ys t z zs (h .0) .1),
+      ))
       ys (ever-before (K .s) c (MadeBy K (makes (p .head .client)) (t .behind .ask)) ys (t .source))
 
-  heard-at : (c : ℕ) (xs : Steps K) (p : Packet) → p .head .client ≡ c → p .head .call ≡ calls K xs c → isIdle (hand K xs c) ≡ false → kindOf (p .body) ≡ awaits (hand K xs c) →
+  heard-at : (c : ℕ) (xs : Steps K) (p : Packet) → p .head .client ≡ c → p .head .call ≡ calls K xs c → isIdle (hand K xs c) ≡ false →
+      kindOf (p .body) ≡ awaits (hand K xs c) →
       (y : StepOf K) (ys : Steps K) → Meets K y ys → Fair K ys → Told K p y ys → Before (K .s) c ys xs → Heard c (p .head .server) xs (p .body) y ys
   unfolding nowValues pos replyTo
   heard-at c xs p mine call busy kind y ys prem old t bef = ever-out _ ys
@@ -144,7 +154,8 @@ module _ (K : Setup) where
       let a = t .behind in
       let q = asked-pos p y ys t z zs (h .0) in
       let here : pos (now (K .s) zs .client c) ≡ pos (now (K .s) xs .client c) =
-      subst (λ (i : ℕ). pos (now (K .s) zs .client i) ≡ pos (now (K .s) xs .client c)) mine (omega (arith, q .1, call, kind, stage-awaits (hand K xs c) busy)) in
+      subst (λ (i : ℕ). pos (now (K .s) zs .client i) ≡ pos (now (K .s) xs .client c)) mine
+      (omega (arith, q .1, call, kind, stage-awaits (hand K xs c) busy)) in
       let e1 = h .1 .round (omega (arith, here, h .1 .low, bef .low)) in
       let e2 = bef .round (omega (arith, here, h .1 .low, bef .low)) in
       record {
@@ -163,7 +174,8 @@ module _ (K : Setup) where
       (ever-before (K .s) c (MadeBy K (makes (p .head .client)) (t .behind .ask)) ys (t .source))
 
   pub heard : (c : ℕ) (xs : Steps K) → Fair K xs → (p : Packet) → K .correct .client c ≡ true → p .head .client ≡ c → p .head .call ≡ calls K xs c →
-      isIdle (hand K xs c) ≡ false → kindOf (p .body) ≡ awaits (hand K xs c) → Ever (MadeBy K (serves (p .head .server)) p) xs → Ever (Heard c (p .head .server) xs (p .body)) xs
+      isIdle (hand K xs c) ≡ false → kindOf (p .body) ≡ awaits (hand K xs c) → Ever (MadeBy K (serves (p .head .server)) p) xs →
+      Ever (Heard c (p .head .server) xs (p .body)) xs
   heard c xs fair p good mine call busy kind ev =
       let t = reply-source K xs fair p (subst (λ (i : ℕ). K .correct .client i ≡ true) (sym mine) good) ev in
       let u = ever-with (Meets K) (Told K p) xs fair t in

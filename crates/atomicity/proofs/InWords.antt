@@ -1,5 +1,6 @@
--- The claim in the user's words. Page 41 follows from the one order alone: a call that ended before another began stands ahead of it, and versions only rise
--- along the order. And a call has ended once its rounds are answered, since else its round in hand would lack a quorum of correct replies.
+-- The claim in the user's words. Page 41 follows from the one order alone: a call that ended before another began stands ahead of it, and
+-- versions only rise along the order. And a call has ended once its rounds are answered, since else its round in hand would lack a quorum of
+-- correct replies.
 -- Assumes nothing.
 use mathlib.Core.Path.{_≡_, refl, sym, ap, _∙_, subst}
 use mathlib.Core.Bool.{Bool, true, false, cond, _||_}
@@ -28,7 +29,8 @@ use Rattle.atomicity.specs.Page41.{Version, versions, NeverOlder, Answer
 use Rattle.atomicity.proofs.Util.{unfalse, clash, or-cases, all-in}
 use Rattle.atomicity.proofs.Model.{Laws, account}
 use Rattle.atomicity.proofs.Setup.{Setup, Steps, Fair, hand, calls}
-use Rattle.atomicity.proofs.Logs.{Log, Signed}
+use Rattle.atomicity.proofs.Shape.{Log}
+use Rattle.atomicity.proofs.Logs.{Signed}
 use Rattle.atomicity.proofs.Story.{story}
 use Rattle.atomicity.proofs.Settled.{Out, Settled, all-settled}
 use Rattle.atomicity.proofs.OneServer.{known-call, progress}
@@ -40,23 +42,28 @@ version-in : (n : ℕ) (m : Option (List ℕ)) (cs : List Call) (v : Version) �
 unfolding versions In
 version-in n m [] v i = absurd i
 version-in n m (c ∷ cs) v (inl e) = (inl (ap (λ (z : Version). z .call) e), omega (arith, ap (λ (z : Version). z .number) e))
-version-in n m (c ∷ cs) v (inr i) = let r = version-in (n + cond (given (c .wrote)) 1 0) (holds m (c .wrote)) cs v i in (inr (r .0), omega (arith, r .1))
+version-in n m (c ∷ cs) v (inr i) = let r = version-in (n + cond (given (c .wrote)) 1 0) (holds m (c .wrote)) cs v i in
+    (inr (r .0), omega (arith, r .1))
 
 -- who stands ahead is no newer
-rising : (n : ℕ) (m : Option (List ℕ)) (cs : List Call) → AllPairs (λ a b. before b a ≡ false) cs → (a r : Version) → In a (versions n m cs) → In r (versions n m cs) → before (a .call) (r .call) ≡ true → a .number ≤ r .number
+rising : (n : ℕ) (m : Option (List ℕ)) (cs : List Call) → AllPairs (λ a b. before b a ≡ false) cs → (a r : Version) → In a (versions n m cs) →
+    In r (versions n m cs) → before (a .call) (r .call) ≡ true → a .number ≤ r .number
 unfolding versions In AllPairs
 rising n m [] t a r i j b = absurd i
 rising n m (c ∷ cs) t a r (inl p) (inl q) b = omega (arith, ap (λ (z : Version). z .number) p, ap (λ (z : Version). z .number) q)
-rising n m (c ∷ cs) t a r (inl p) (inr j) b = omega (arith, ap (λ (z : Version). z .number) p, version-in (n + cond (given (c .wrote)) 1 0) (holds m (c .wrote)) cs r j .1)
+rising n m (c ∷ cs) t a r (inl p) (inr j) b =
+    omega (arith, ap (λ (z : Version). z .number) p, version-in (n + cond (given (c .wrote)) 1 0) (holds m (c .wrote)) cs r j .1)
 rising n m (c ∷ cs) t a r (inr i) (inl q) b = clash (subst (λ (z : Call). before (a .call) z ≡ true) (ap (λ (z : Version). z .call) q) b)
     (all-in (λ x. before x c ≡ false) cs (t .0) (a .call) (version-in (n + cond (given (c .wrote)) 1 0) (holds m (c .wrote)) cs a i .0))
 rising n m (c ∷ cs) t a r (inr i) (inr j) b = rising (n + cond (given (c .wrote)) 1 0) (holds m (c .wrote)) cs (t .1) a r i j b
 
 -- a read shows the content of its version
-shown : (n : ℕ) (m : Option (List ℕ)) (cs : List Call) → Replay m cs → (r : Version) → In r (versions n m cs) → r .call .wrote ≡ none → r .call .answer ≡ r .content
+shown : (n : ℕ) (m : Option (List ℕ)) (cs : List Call) → Replay m cs → (r : Version) → In r (versions n m cs) → r .call .wrote ≡ none →
+    r .call .answer ≡ r .content
 unfolding versions In Replay
 shown n m [] h r i w = absurd i
-shown n m (c ∷ cs) h r (inl q) w = let e = ap (λ (z : Version). z .call) q in ap (λ (z : Call). z .answer) e ∙ here (c .wrote) (sym (ap (λ (z : Call). z .wrote) e) ∙ w) (h .0) ∙ sym (ap (λ (z : Version). z .content) q)
+shown n m (c ∷ cs) h r (inl q) w = let e = ap (λ (z : Version). z .call) q in ap (λ (z : Call). z .answer) e
+    ∙ here (c .wrote) (sym (ap (λ (z : Call). z .wrote) e) ∙ w) (h .0) ∙ sym (ap (λ (z : Version). z .content) q)
   where
     here : (o : Option (List ℕ)) → o ≡ none → shows m o c → c .answer ≡ holds m o
     here none e h = h
@@ -95,14 +102,18 @@ module _ (K : Setup) (xs : Steps K) (fair : Fair K xs) where
       pending n busy zero e = in-round (hand K xs (a .client)) busy e
       pending n busy (suc k) e =
           let A = answers k (once-now _ xs (sym n, e)) in
-          let came = subst (λ (j : ℕ). All (λ b. (K .correct .server b ≡ true) × CameTo (K .s) (account (K .s)) (K .correct) xs (a .client) j (suc k) b) (A .0)) n (A .2) in
-          let came' = subst (λ (j : ℕ). All (λ b. (K .correct .server b ≡ true) × CameTo (K .s) (account (K .s)) (K .correct) xs (a .client) (calls K xs (a .client)) j b) (A .0)) (sym e) came in
+          let came = subst (λ (j : ℕ). All
+          (λ b. (K .correct .server b ≡ true) × CameTo (K .s) (account (K .s)) (K .correct) xs (a .client) j (suc k) b) (A .0)) n (A .2) in
+          let came' = subst (λ (j : ℕ). All
+          (λ b. (K .correct .server b ≡ true) × CameTo (K .s) (account (K .s)) (K .correct) xs (a .client) (calls K xs (a .client)) j b) (A .0))
+          (sym e) came in
           let z = progress K xs fair (a .client) good busy (inr room) (A .0) (A .1) came' in
           omega (arith, z, A .3)
 
 -- ---- on bytes, with the real functions
 
-on-values : (s : System) → Legal (s .config) → Laws s → (correct : Correct) → Parties (s .config) correct → (l : List (Typed (s .config))) → Always (Premise s (byValues (s .P) (s .config) (s .writers) (s .keys)) correct) l →
+on-values : (s : System) → Legal (s .config) → Laws s → (correct : Correct) → Parties (s .config) correct → (l : List (Typed (s .config))) →
+    Always (Premise s (byValues (s .P) (s .config) (s .writers) (s .keys)) correct) l →
     NeverOlder (log (byValues (s .P) (s .config) (s .writers) (s .keys)) l) × Ended s (byValues (s .P) (s .config) (s .writers) (s .keys)) correct l
 unfolding byValues
 on-values s legal laws correct parties l fair =
@@ -112,5 +123,6 @@ on-values s legal laws correct parties l fair =
 pub page-41 : Page41
 unfolding Page41
 page-41 sh lo hi correct parties = claimed real real-lengths sh (lo, hi)
-    (λ A. (l : List (Typed (systemOf sh .config))) → Always (Premise (systemOf sh) A correct) l → NeverOlder (log A l) × Ended (systemOf sh) A correct l)
+    (λ A. (l : List (Typed (systemOf sh .config))) → Always (Premise (systemOf sh) A correct) l → NeverOlder (log A l)
+    × Ended (systemOf sh) A correct l)
     (on-values (systemOf sh) (legal-shelf (sh .t) lo hi) (real-laws sh lo hi) correct parties)

@@ -1,5 +1,5 @@
--- The invariant of every run that meets the premises: what is known of each correct client's hand, and that a write whose nonce was shown is held by a
--- quorum, since it was shown in its complete round. And what has ended stays on top.
+-- The invariant of every run that meets the premises: what is known of each correct client's hand, and that a write whose nonce was shown is
+-- held by a quorum, since it was shown in its complete round. And what has ended stays on top.
 -- Assumes nothing.
 use mathlib.Core.Path.{_≡_, refl, sym, ap, _∙_, subst}
 use mathlib.Core.Bool.{Bool, true, false, cond, not, _&&_, _||_}
@@ -26,7 +26,8 @@ use Rattle.atomicity.proofs.Stamps.{below-blank}
 use Rattle.atomicity.proofs.Counting.{split-count, quorum-sum, count-mono}
 use Rattle.atomicity.proofs.Model.{Run, perform, now, account, marks, turn, candidateFor}
 use Rattle.atomicity.proofs.Setup.{Setup, Steps, StepOf, Meets, Fair, Show, hand, calls, lat}
-use Rattle.atomicity.proofs.Moves.{Fits, Moved, kept, wbegan, rbegan, quit, took, moved, Making, making}
+use Rattle.atomicity.proofs.Moves.{Fits, Moved, kept, wbegan, rbegan, quit, took, moved}
+use Rattle.atomicity.proofs.Serving.{Making, making}
 use Rattle.atomicity.proofs.Rounds.{Next, next-stage, turn-turned, stage, pos, since, from, since-same, from-same, from-new}
 use Rattle.atomicity.proofs.Marks.{marks-up}
 use Rattle.atomicity.proofs.Begun.{Known, known, by-nonce}
@@ -43,7 +44,8 @@ module _ (K : Setup) where
 
   -- ---- a write that was shown is held by a quorum
 
-  pub make-shape : (c : ℕ) (x : Step) → makes c x ≡ true → (xs : Steps K) → PartyOf (K .s) (account (K .s)) (K .correct) xs x → K .correct .client c ≡ true
+  pub make-shape : (c : ℕ) (x : Step) → makes c x ≡ true → (xs : Steps K) → PartyOf (K .s) (account (K .s)) (K .correct) xs x →
+      K .correct .client c ≡ true
   make-shape c (write d r n) e xs p = clash e refl
   make-shape c (read d) e xs p = clash e refl
   make-shape c (make d b o) e xs p = subst (λ (i : ℕ). K .correct .client i ≡ true) (sym (eqb-true c d e)) p
@@ -52,7 +54,8 @@ module _ (K : Setup) where
   make-shape c (serve b q o) e xs p = clash e refl
 
   -- at the moment of a show the hand was completing, with that nonce
-  pub show-hand : (c : ℕ) (n : List ℕ) (y : StepOf K) (ys : Steps K) → Show K c n y ys → (d : Candidate) × (hand K ys c ≡ completing d) × (d .nonce ≡ n)
+  pub show-hand : (c : ℕ) (n : List ℕ) (y : StepOf K) (ys : Steps K) → Show K c n y ys → (d : Candidate) × (hand K ys c ≡ completing d)
+      × (d .nonce ≡ n)
   unfolding Shows made
   show-hand c n y ys h =
       let t = making (K .s) (now (K .s) ys) c (y .step) (h .1) (h .2) (K .laws .reads y ys (h .1) (h .3)) in
@@ -79,7 +82,12 @@ module _ (K : Setup) where
       }
 
   pub shown-up : (c : ℕ) (n : List ℕ) (x : StepOf K) (xs : Steps K) → Shown xs c n → Shown (x ∷ xs) c n
-  shown-up c n x xs h = record { write = h .write; made = marks-up (K .s) (h .write) x xs (h .made); nonce-is = h .nonce-is; full = full-up K (h .write .stamp) x xs (h .full) }
+  shown-up c n x xs h = record {
+    write = h .write;
+    made = marks-up (K .s) (h .write) x xs (h .made);
+    nonce-is = h .nonce-is;
+    full = full-up K (h .write .stamp) x xs (h .full);
+  }
 
   pub zip : (P R : StepOf K → Steps K → Type 0) (xs : Steps K) → Always P xs → Always R xs → Always (λ y ys. P y ys × R y ys) xs
   unfolding Always
@@ -89,7 +97,8 @@ module _ (K : Setup) where
   pub shown-full : (xs : Steps K) → Fair K xs → Always (λ y ys. Hands ys) xs → (d : Candidate) → Genuine K xs d → FullAt K xs (d .stamp)
   shown-full xs fair hands d g =
       let c = g .write .client in let n = g .write .nonce in
-      let T : Shown xs c n = rise (λ (zs : Steps K). Shown zs c n) (shown-up c n) xs (ever-map _ _ (λ y ys h. shown-at c n y ys (h .0 .0) (h .0 .1) (h .2)) xs
+      let T : Shown xs c n = rise (λ (zs : Steps K). Shown zs c n) (shown-up c n) xs
+      (ever-map _ _ (λ y ys h. shown-at c n y ys (h .0 .0) (h .0 .1) (h .2)) xs
       (ever-with _ (Show K c n) xs (zip (Meets K) (λ y ys. Hands ys) xs fair hands) (g .shown))) in
       let e : T .write ≡ g .write = by-nonce K xs fair (T .write) (g .write) (T .made) (g .made) (T .nonce-is) in
       subst (FullAt K xs) (ap (λ (z : Stamped). z .stamp) e ∙ g .stamp-is) (T .full)
@@ -122,20 +131,27 @@ module _ (K : Setup) where
   awaits-even (filtering cs g) = refl
   awaits-even (repairing d r) = refl
 
-  pub outcome : (x : StepOf K) (xs : Steps K) → Fair K (x ∷ xs) → Hands xs → Always (λ y ys. Hands ys) xs → (c : ℕ) → K .correct .client c ≡ true → (p : Packet) (b o : List ℕ) →
-      x .step ≡ take-reply c b o → decode b ≡ some p → Fits (K .s) c (now (K .s) xs .client c) p → accepted (perform (K .s) (now (K .s) xs) (x .step) .result) ≡ true →
+  pub outcome : (x : StepOf K) (xs : Steps K) → Fair K (x ∷ xs) → Hands xs → Always (λ y ys. Hands ys) xs → (c : ℕ) → K .correct .client c ≡ true →
+      (p : Packet) (b o : List ℕ) →
+      x .step ≡ take-reply c b o → decode b ≡ some p → Fits (K .s) c (now (K .s) xs .client c) p →
+      accepted (perform (K .s) (now (K .s) xs) (x .step) .result) ≡ true →
       Outcome K x xs (since (K .s) c xs) (from (K .s) c xs) (hand K xs c) (turn (K .s) c (now (K .s) xs .client c) p)
   unfolding Always Hands allDigested digestedBy isFull
   outcome x xs fair hands always c good p b o st rd fit fine =
       let rg = K .laws .heads b p rd (fit .same-t) in
       let got : packetIn (x .step) ≡ some p = ap packetIn st ∙ rd in
-      turn-ok K x xs (since (K .s) c xs) (from (K .s) c xs) fair (λ d g. shown-full (x ∷ xs) fair (hands, always) d g) c (now (K .s) xs .client c) (p .head .server) (p .body)
-      (λ f e. left-in (f .part) (digested (K .s) (account (K .s)) x xs) (allDigested (K .s) (account (K .s)) xs) (subst (λ (t : Bool). In (f .part) (cond t (digestedBy (K .s) (stampedAt (K .s) (account (K .s)) x xs) (x .step)) [])) (sym fine)
+      turn-ok K x xs (since (K .s) c xs) (from (K .s) c xs) fair (λ d g. shown-full (x ∷ xs) fair (hands, always) d g) c (now (K .s) xs .client c)
+      (p .head .server) (p .body)
+      (λ f e. left-in (f .part) (digested (K .s) (account (K .s)) x xs) (allDigested (K .s) (account (K .s)) xs)
+      (subst (λ (t : Bool). In (f .part) (cond t (digestedBy (K .s) (stampedAt (K .s) (account (K .s)) x xs) (x .step)) [])) (sym fine)
       (subst (λ (y : Step). In (f .part) (digestedBy (K .s) (stampedAt (K .s) (account (K .s)) x xs) y)) (sym st)
-      (right-in (f .part) (flat (digestsWith (K .s)) (stampedAt (K .s) (account (K .s)) x xs)) (inPacket fragments (decode b)) (subst (λ (q : Option Packet). In (f .part) (inPacket fragments q)) (sym rd) (piece-in (p .body) f e))))))
-      (rg .2) (rg .3) (leb (Q K) (countTo (S K) (upd (now (K .s) xs .client c .marks) (p .head .server) true))) (λ e. leb-true (Q K) _ e) (λ e. leb-false (Q K) _ e) (hand K xs c) refl
+      (right-in (f .part) (flat (digestsWith (K .s)) (stampedAt (K .s) (account (K .s)) x xs)) (inPacket fragments (decode b))
+      (subst (λ (q : Option Packet). In (f .part) (inPacket fragments q)) (sym rd) (piece-in (p .body) f e))))))
+      (rg .2) (rg .3) (leb (Q K) (countTo (S K) (upd (now (K .s) xs .client c .marks) (p .head .server) true))) (λ e. leb-true (Q K) _ e)
+      (λ e. leb-false (Q K) _ e) (hand K xs c) refl
       (hands c good)
-      (λ h. says-up K (since (K .s) c xs) (from (K .s) c xs) (p .head .server) (p .body) (hand K xs c) x xs (says K c xs (p .head .server) (p .body) (hand K xs c) refl
+      (λ h. says-up K (since (K .s) c xs) (from (K .s) c xs) (p .head .server) (p .body) (hand K xs c) x xs
+      (says K c xs (p .head .server) (p .body) (hand K xs c) refl
       (heard K c xs (fair .1) p good (fit .mine) (fit .call) (fit .busy) (fit .kind)
       (by-server K x xs (fair .0) p got fine (ap odd (fit .kind) ∙ awaits-even (hand K xs c)) h))))
 
@@ -167,19 +183,25 @@ module _ (K : Setup) where
       At z0 z1 cl = HandOk K (x ∷ xs) z0 z1 (cl .marks) (cl .hand)
 
       go : Moved (K .s) c w (x .step) cl' (perform (K .s) w (x .step) .result) → At (since (K .s) c (x ∷ xs)) (from (K .s) c (x ∷ xs)) cl'
-      go (kept e _) = subst (λ (z : Steps K). At z (from (K .s) c (x ∷ xs)) cl') (sym (since-same (K .s) c x xs (sym (ap (λ (z : Client). z .calls) e))))
+      go (kept e _) = subst (λ (z : Steps K). At z (from (K .s) c (x ∷ xs)) cl')
+          (sym (since-same (K .s) c x xs (sym (ap (λ (z : Client). z .calls) e))))
           (subst (λ (z : Steps K). At (since (K .s) c xs) z cl') (sym (from-same (K .s) c x xs (sym (ap pos e))))
-          (subst (At (since (K .s) c xs) (from (K .s) c xs)) (sym e) (ok-up K (since (K .s) c xs) (from (K .s) c xs) (w .client c .marks) (hand K xs c) x xs (hands c good))))
-      go (wbegan r n a b d l e) = subst (At (since (K .s) c (x ∷ xs)) (from (K .s) c (x ∷ xs))) (sym e) (record { short = none-short K; low = λ j h i. unmarked K j i })
-      go (rbegan a b d e) = subst (At (since (K .s) c (x ∷ xs)) (from (K .s) c (x ∷ xs))) (sym e) (record { short = none-short K; coll = λ j h i. unmarked K j i })
+          (subst (At (since (K .s) c xs) (from (K .s) c xs)) (sym e)
+          (ok-up K (since (K .s) c xs) (from (K .s) c xs) (w .client c .marks) (hand K xs c) x xs (hands c good))))
+      go (wbegan r n a b d l e) = subst (At (since (K .s) c (x ∷ xs)) (from (K .s) c (x ∷ xs))) (sym e)
+          (record { short = none-short K; low = λ j h i. unmarked K j i })
+      go (rbegan a b d e) = subst (At (since (K .s) c (x ∷ xs)) (from (K .s) c (x ∷ xs))) (sym e)
+          (record { short = none-short K; coll = λ j h i. unmarked K j i })
       go (quit a b d e) = subst (At (since (K .s) c (x ∷ xs)) (from (K .s) c (x ∷ xs))) (sym e) tt
       go (took p b o st rd fit e f) =
           let t = turn-turned (K .s) c (w .client c) p in
           let u = outcome x xs fair hands always c good p b o st rd fit (subst (λ (z : Result). accepted z ≡ true) (sym f) (t .fine)) .0 in
           let cq : cl' .calls ≡ calls K xs c = ap (λ (z : Client). z .calls) e ∙ t .calls in
           let u' : At (since (K .s) c xs) (cond (eqb (stage (hand K xs c)) (stage (cl' .hand))) (from (K .s) c xs) (x ∷ xs)) cl' =
-          subst (λ (v : Client). At (since (K .s) c xs) (cond (eqb (stage (hand K xs c)) (stage (v .hand))) (from (K .s) c xs) (x ∷ xs)) v) (sym e) u in
-          let st' = next-stage (K .s) c (hand K xs c) (w .client c .last) (cl' .hand) (cl' .last) (subst (λ (v : Client). Next (K .s) c (hand K xs c) (w .client c .last) (v .hand) (v .last)) (sym e) (t .next)) in
+          subst (λ (v : Client). At (since (K .s) c xs) (cond (eqb (stage (hand K xs c)) (stage (v .hand))) (from (K .s) c xs) (x ∷ xs)) v)
+          (sym e) u in
+          let st' = next-stage (K .s) c (hand K xs c) (w .client c .last) (cl' .hand) (cl' .last)
+          (subst (λ (v : Client). Next (K .s) c (hand K xs c) (w .client c .last) (v .hand) (v .last)) (sym e) (t .next)) in
           subst (λ (v : Steps K). At v (from (K .s) c (x ∷ xs)) cl') (sym (since-same (K .s) c x xs (sym cq)))
           (subst (λ (v : Steps K). At (since (K .s) c xs) v cl') (from-cond x xs c cq (st' .0)) u')
 
@@ -203,5 +225,6 @@ module _ (K : Setup) where
     arith,
     split-count (right K) (S K),
     quorum-sum (K .s .config) (K .legal),
-    count-mono (right K) (λ j. right K j && not (below (lat K ys j) blankStamp)) (S K) (λ j lo hi h. and-intro _ _ h (not-f _ (below-blank (lat K ys j)))),
+    count-mono (right K) (λ j. right K j && not (below (lat K ys j) blankStamp)) (S K)
+        (λ j lo hi h. and-intro _ _ h (not-f _ (below-blank (lat K ys j)))),
   )

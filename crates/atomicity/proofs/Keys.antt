@@ -50,7 +50,8 @@ lex-asym a b r1 r2 f p q = go (lex-view a b r1 p) (lex-view b a r2 q)
 
 pub lex-total : (m n : ℕ) (r s : Bool) → (r ≡ true) ⊎ (s ≡ true) → (lex m n r ≡ true) ⊎ (lex n m s ≡ true)
 lex-total m n r s h = bool-case (ltb m n) (λ e. inl (lex-lt m n r (ltb-true m n e)))
-    (λ e. bool-case (ltb n m) (λ f. inr (lex-lt n m s (ltb-true n m f))) (λ f. let q : m ≡ n = omega (arith, ltb-false m n e, ltb-false n m f) in go q h))
+    (λ e. bool-case (ltb n m) (λ f. inr (lex-lt n m s (ltb-true n m f)))
+    (λ f. let q : m ≡ n = omega (arith, ltb-false m n e, ltb-false n m f) in go q h))
   where
     go : m ≡ n → (r ≡ true) ⊎ (s ≡ true) → (lex m n r ≡ true) ⊎ (lex n m s ≡ true)
     go q (inl k) = inl (lex-eq m n r q k)
@@ -75,7 +76,8 @@ lt-chain a b c p q = lt-ltb a c (omega (arith, ltb-true a b p, ltb-true b c q))
 lt-asym : (a b : ℕ) → ltb a b ≡ true → ltb b a ≡ true → ⊥
 lt-asym a b p q = omega (arith, ltb-true a b p, ltb-true b a q)
 
-pub less-chain : (σ : Stamp) (a : Call) (τ : Stamp) (b : Call) (υ : Stamp) (c : Call) → less σ a τ b ≡ true → less τ b υ c ≡ true → less σ a υ c ≡ true
+pub less-chain : (σ : Stamp) (a : Call) (τ : Stamp) (b : Call) (υ : Stamp) (c : Call) → less σ a τ b ≡ true → less τ b υ c ≡ true →
+    less σ a υ c ≡ true
 unfolding less lesser
 less-chain σ a τ b υ c = lex-chain _ _ _ _ _ _ (lex-chain _ _ _ _ _ _ (lex-chain _ _ _ _ _ _ (lt-chain (a .begun) (b .begun) (c .begun))))
 
@@ -103,7 +105,8 @@ less-rest σ a τ b h = go (lex-view _ _ _ h)
     go (inr k) = inr (k .0, inner (k .1))
 
 -- w ≤ x ≤ r, and w and r have one stamp: so has x
-pub between : (σ : Stamp) (w : Call) (τ : Stamp) (x : Call) (υ : Stamp) (r : Call) → σ .number ≡ υ .number → σ .writer ≡ υ .writer → Rest σ w τ x → Rest τ x υ r →
+pub between : (σ : Stamp) (w : Call) (τ : Stamp) (x : Call) (υ : Stamp) (r : Call) → σ .number ≡ υ .number → σ .writer ≡ υ .writer → Rest σ w τ x →
+    Rest τ x υ r →
     (σ .number ≡ τ .number) × (σ .writer ≡ τ .writer) × (lesser w x ≡ true)
 between σ w τ x υ r n o (inl p) (inl q) = absurd (omega (arith, n))
 between σ w τ x υ r n o (inl p) (inr q) = absurd (omega (arith, n, q .0))

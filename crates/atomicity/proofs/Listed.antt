@@ -39,16 +39,19 @@ pub map-size : {A B : Type 0} (g : A → B) (xs : List A) → length (map g xs) 
 map-size g [] = refl
 map-size g (x ∷ xs) = ap suc (map-size g xs)
 
-pub map-apart : {A B : Type 0} (g : A → B) (R : A → A → Type 0) (l : List A) → ((a b : A) → In a l → In b l → R a b → g a ≡ g b → ⊥) → AllPairs R l → AllPairs (λ a b. a ≡ b → ⊥) (map g l)
+pub map-apart : {A B : Type 0} (g : A → B) (R : A → A → Type 0) (l : List A) → ((a b : A) → In a l → In b l → R a b → g a ≡ g b → ⊥) → AllPairs R l →
+    AllPairs (λ a b. a ≡ b → ⊥) (map g l)
 unfolding AllPairs In
 map-apart g R [] f h = tt
 map-apart {A} g R (x ∷ l) f h = (
-  all-of (λ z. g x ≡ z → ⊥) (map g l) (λ z i. let r = map-in g l z i in λ e. f x (r .0) (inl refl) (inr (r .1)) (all-in (R x) l (h .0) (r .0) (r .1)) (e ∙ r .2)),
+  all-of (λ z. g x ≡ z → ⊥) (map g l)
+      (λ z i. let r = map-in g l z i in λ e. f x (r .0) (inl refl) (inr (r .1)) (all-in (R x) l (h .0) (r .0) (r .1)) (e ∙ r .2)),
   map-apart g R l (λ a b i j. f a b (inr i) (inr j)) (h .1),
 )
 
 -- different servers of 1 to n that p marks are no more than p counts
-pub marked-count : (n : ℕ) (bs : List ℕ) (p : ℕ → Bool) → AllPairs (λ a b. eqb a b ≡ false) bs → ((b : ℕ) → In b bs → (1 ≤ b) × (b ≤ n) × (p b ≡ true)) → length bs ≤ countTo n p
+pub marked-count : (n : ℕ) (bs : List ℕ) (p : ℕ → Bool) → AllPairs (λ a b. eqb a b ≡ false) bs →
+    ((b : ℕ) → In b bs → (1 ≤ b) × (b ≤ n) × (p b ≡ true)) → length bs ≤ countTo n p
 unfolding AllPairs In
 marked-count n [] p d f = omega arith
 marked-count n (b ∷ bs) p d f =
@@ -56,7 +59,8 @@ marked-count n (b ∷ bs) p d f =
     let q = upd p b false in
     omega (
       arith,
-      marked-count n bs q (d .1) (λ c i. let k = f c (inr i) in (k .0, k .1, upd-else p b false c (ne-eqb c b (λ e. eqb-false b c (all-in (λ z. eqb b z ≡ false) bs (d .0) c i) (sym e))) ∙ k .2)),
+      marked-count n bs q (d .1) (λ c i. let k = f c (inr i) in
+          (k .0, k .1, upd-else p b false c (ne-eqb c b (λ e. eqb-false b c (all-in (λ z. eqb b z ≡ false) bs (d .0) c i) (sym e))) ∙ k .2)),
       count-upd q b n (h .0) (h .1) (upd-here p b false),
       count-mono (upd q b true) p n (λ x lo hi e. bool-case (eqb x b) (λ t. subst (λ (i : ℕ). p i ≡ true) (sym (eqb-true x b t)) (h .2))
           (λ t. sym (upd-else p b false x t) ∙ sym (upd-else q b true x t) ∙ e)),

@@ -1,5 +1,6 @@
--- Marks, the writes that have a stamp: each is made by the reply that ends clock; a storing or completing hand has one; two with one writer and
--- number are one, since a client's numbers rise; its write was begun with its content and nonce, and what it digests is among the inputs digested.
+-- Marks, the writes that have a stamp: each is made by the reply that ends clock; a storing or completing hand has one; two with one writer
+-- and number are one, since a client's numbers rise; its write was begun with its content and nonce, and what it digests is among the inputs
+-- digested.
 -- Assumes nothing.
 use mathlib.Core.Path.{_≡_, refl, sym, ap, _∙_, subst}
 use mathlib.Core.Bool.{Bool, true, false, cond, not, _&&_, _||_}
@@ -112,14 +113,16 @@ module _ (s : System) where
             top' = g .2;
             was = ap (λ (d : ℕ). w .client d .hand) (g .0) ∙ g .3;
             rises = g .4;
-            is = ap (λ (d : ℕ). perform s w x .world .client d .hand) (g .0) ∙ g .5 ∙ ap (λ (d : ℕ). preparedFor s d (m .content) (m .nonce) (suc (g .2))) (sym (g .0));
+            is = ap (λ (d : ℕ). perform s w x .world .client d .hand) (g .0) ∙ g .5
+                ∙ ap (λ (d : ℕ). preparedFor s d (m .content) (m .nonce) (suc (g .2))) (sym (g .0));
             last-is = ap (λ (d : ℕ). perform s w x .world .client d .last) (g .0) ∙ g .6;
             stamp-is = g .7 ∙ ap (λ (d : ℕ). stampFor s d (suc (g .2))) (sym (g .0));
             fine = subst (λ (z : Result). accepted z ≡ true) (sym r) (t .fine);
           }
 
   -- a property of each new mark is one of all
-  pub mark-all : (P : Stamped → Type 0) → ((x : Typed (s .config)) (xs : Run s) (m : Stamped) → Marked s (now s xs) (x .step) m → P m) → (xs : Run s) (m : Stamped) → In m (marks s xs) → P m
+  pub mark-all : (P : Stamped → Type 0) → ((x : Typed (s .config)) (xs : Run s) (m : Stamped) → Marked s (now s xs) (x .step) m → P m) →
+      (xs : Run s) (m : Stamped) → In m (marks s xs) → P m
   unfolding marks In nowValues
   mark-all P f [] m i = absurd i
   mark-all P f (x ∷ xs) m i = go (split-in m (stampedAt s (account s) x xs) (marks s xs) i) (λ k. mark-all P f xs m k)
@@ -143,8 +146,10 @@ module _ (s : System) where
 
   pub mark-checks : (xs : Run s) (m : Stamped) → In m (marks s xs) → checks (s .P) (s .writers) (m .stamp) ≡ true
   unfolding checks isBlank stampOf
-  mark-checks xs m i = subst (λ (a : Stamp). (not (eqb (a .number) 0) && sameList (a .tag) (s .P .tag (s .writers) (stampMessage (a .number) (a .writer)))) ≡ true) (sym (mark-form xs m i))
-      (and-intro _ _ (not-f _ (ne-eqb (m .stamp .number) 0 (λ e. omega (arith, e, mark-num xs m i)))) (same-refl (s .P .tag (s .writers) (stampMessage (m .stamp .number) (m .client)))))
+  mark-checks xs m i = subst (λ (a : Stamp).
+      (not (eqb (a .number) 0) && sameList (a .tag) (s .P .tag (s .writers) (stampMessage (a .number) (a .writer)))) ≡ true) (sym (mark-form xs m i))
+      (and-intro _ _ (not-f _ (ne-eqb (m .stamp .number) 0 (λ e. omega (arith, e, mark-num xs m i))))
+      (same-refl (s .P .tag (s .writers) (stampMessage (m .stamp .number) (m .client)))))
 
   pub marks-up : (m : Stamped) (x : Typed (s .config)) (xs : Run s) → In m (marks s xs) → In m (marks s (x ∷ xs))
   unfolding marks
@@ -175,7 +180,8 @@ module _ (s : System) where
   last-next c h l h' l' (over _ _) o = (tt, le-refl l)
 
   last-step : (w : World) (c : ℕ) (x : Step) → LastOk (w .client c .last) (w .client c .hand) →
-      LastOk (perform s w x .world .client c .last) (perform s w x .world .client c .hand) × (w .client c .last ≤ perform s w x .world .client c .last)
+      LastOk (perform s w x .world .client c .last) (perform s w x .world .client c .hand)
+      × (w .client c .last ≤ perform s w x .world .client c .last)
   unfolding begun onto LastOk
   last-step w c x o = go (moved s c w x)
     where
@@ -203,12 +209,14 @@ module _ (s : System) where
   capped [] m i = absurd i
   capped (x ∷ xs) m i = go (split-in m (stampedAt s (account s) x xs) (marks s xs) i) (λ k. capped xs m k)
     where
-      go : In m (stampedAt s (account s) x xs) ⊎ In m (marks s xs) → (In m (marks s xs) → m .stamp .number ≤ now s xs .client (m .client) .last) → m .stamp .number ≤ perform s (now s xs) (x .step) .world .client (m .client) .last
+      go : In m (stampedAt s (account s) x xs) ⊎ In m (marks s xs) → (In m (marks s xs) → m .stamp .number ≤ now s xs .client (m .client) .last) →
+          m .stamp .number ≤ perform s (now s xs) (x .step) .world .client (m .client) .last
       go (inl k) r = let t = mark-source (now s xs) (x .step) m k in omega (arith, ap (λ (a : Stamp). a .number) (t .stamp-is), t .last-is)
       go (inr k) r = omega (arith, r k, last-step (now s xs) (m .client) (x .step) (last-ok xs (m .client)) .1)
 
   -- a new mark is above the old ones of its client
-  pub above : (x : Typed (s .config)) (xs : Run s) (a b : Stamped) → a .client ≡ b .client → Marked s (now s xs) (x .step) a → In b (marks s xs) → b .stamp .number < a .stamp .number
+  pub above : (x : Typed (s .config)) (xs : Run s) (a b : Stamped) → a .client ≡ b .client → Marked s (now s xs) (x .step) a → In b (marks s xs) →
+      b .stamp .number < a .stamp .number
   unfolding stampOf LastOk
   above x xs a b w t j = omega (
     arith,
@@ -220,23 +228,30 @@ module _ (s : System) where
   )
 
   -- two marks of one client with one number are one
-  one-mark : (xs : Run s) (a b : Stamped) → In a (marks s xs) → In b (marks s xs) → a .client ≡ b .client → a .stamp .number ≡ b .stamp .number → a ≡ b
+  one-mark : (xs : Run s) (a b : Stamped) → In a (marks s xs) → In b (marks s xs) → a .client ≡ b .client → a .stamp .number ≡ b .stamp .number →
+      a ≡ b
   unfolding marks nowValues In stampOf LastOk
   one-mark [] a b i j w n = absurd i
-  one-mark (x ∷ xs) a b i j w n = go (split-in a (stampedAt s (account s) x xs) (marks s xs) i) (split-in b (stampedAt s (account s) x xs) (marks s xs) j) (λ k l. one-mark xs a b k l w n)
+  one-mark (x ∷ xs) a b i j w n =
+      go (split-in a (stampedAt s (account s) x xs) (marks s xs) i) (split-in b (stampedAt s (account s) x xs) (marks s xs) j)
+      (λ k l. one-mark xs a b k l w n)
     where
       both : Marked s (now s xs) (x .step) a → Marked s (now s xs) (x .step) b → a ≡ b
       both t u =
-          let h : clocking (a .content) (a .nonce) (t .top) ≡ clocking (b .content) (b .nonce) (u .top) = sym (t .was) ∙ ap (λ (i : ℕ). now s xs .client i .hand) w ∙ u .was in
+          let h : clocking (a .content) (a .nonce) (t .top) ≡ clocking (b .content) (b .nonce) (u .top) = sym (t .was)
+          ∙ ap (λ (i : ℕ). now s xs .client i .hand) w ∙ u .was in
           let r : a .content ≡ b .content = cc in let q : a .nonce ≡ b .nonce = cc in
-          let σ : a .stamp ≡ b .stamp = mark-form (x ∷ xs) a i ∙ ap (λ (c : ℕ). stampFor s c (a .stamp .number)) w ∙ ap (λ (k : ℕ). stampFor s (b .client) k) n ∙ sym (mark-form (x ∷ xs) b j) in
+          let σ : a .stamp ≡ b .stamp = mark-form (x ∷ xs) a i ∙ ap (λ (c : ℕ). stampFor s c (a .stamp .number)) w
+          ∙ ap (λ (k : ℕ). stampFor s (b .client) k) n ∙ sym (mark-form (x ∷ xs) b j) in
           (λ i. record { client = w i; content = r i; nonce = q i; stamp = σ i })
 
-      go : In a (stampedAt s (account s) x xs) ⊎ In a (marks s xs) → In b (stampedAt s (account s) x xs) ⊎ In b (marks s xs) → (In a (marks s xs) → In b (marks s xs) → a ≡ b) → a ≡ b
+      go : In a (stampedAt s (account s) x xs) ⊎ In a (marks s xs) → In b (stampedAt s (account s) x xs) ⊎ In b (marks s xs) →
+          (In a (marks s xs) → In b (marks s xs) → a ≡ b) → a ≡ b
       go (inl k) (inl l) r = both (mark-source (now s xs) (x .step) a k) (mark-source (now s xs) (x .step) b l)
       go (inl k) (inr l) r = absurd (omega (arith, n, above x xs a b w (mark-source (now s xs) (x .step) a k) l))
       go (inr k) (inl l) r = absurd (omega (arith, n, above x xs b a (sym w) (mark-source (now s xs) (x .step) b l) k))
       go (inr k) (inr l) r = r k l
 
-  pub by-stamp : (xs : Run s) (a b : Stamped) → In a (marks s xs) → In b (marks s xs) → a .stamp .number ≡ b .stamp .number → a .stamp .writer ≡ b .stamp .writer → a ≡ b
+  pub by-stamp : (xs : Run s) (a b : Stamped) → In a (marks s xs) → In b (marks s xs) → a .stamp .number ≡ b .stamp .number →
+      a .stamp .writer ≡ b .stamp .writer → a ≡ b
   by-stamp xs a b i j n w = one-mark xs a b i j (sym (mark-who xs a i) ∙ w ∙ mark-who xs b j) n

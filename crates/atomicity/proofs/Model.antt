@@ -1,5 +1,5 @@
--- The vocabulary of the proof: a system's runs on values, the account of them, the writes that have a stamp (marks) with what they send,
--- and the laws of digest, tag, fragments and packets that the proof rests on. The laws are proved for the real functions in the module Real.
+-- The vocabulary of the proof: a system's runs on values, the account of them, the writes that have a stamp (marks) with what they send, and
+-- the laws of digest, tag, fragments and packets that the proof rests on. The laws are proved for the real functions in the module Real.
 -- Assumes nothing.
 use mathlib.Core.Path.{_≡_}
 use mathlib.Core.Bool.{Bool, true, false, cond, not, _&&_}
@@ -68,7 +68,8 @@ module _ (s : System) where
 
   abbrev pub turn : ℕ → Client → Packet → Turn
   turn c cl p =
-      updated c cl (p .head .server) (p .body) (upd (cl .marks) (p .head .server) true) (isFull (s .config) (upd (cl .marks) (p .head .server) true)) (cl .hand)
+      updated c cl (p .head .server) (p .body) (upd (cl .marks) (p .head .server) true) (isFull (s .config) (upd (cl .marks) (p .head .server) true))
+      (cl .hand)
 
   abbrev pub stampFor : ℕ → ℕ → Stamp
   stampFor c k = stampOf (s .P) (s .config) c (s .writers) (s .keys) k
@@ -112,17 +113,22 @@ module _ (s : System) where
 
   pub record Laws : Type 0 where
     -- bytes that were sent and decode to p were sent as p
-    pub reads : (x : Typed (s .config)) (xs : Run s) (p : Packet) → decode (sentOf (perform (now xs) (x .step) .sent)) ≡ some p → perform (now xs) (x .step) .sent ≡ some p
+    pub reads : (x : Typed (s .config)) (xs : Run s) (p : Packet) → decode (sentOf (perform (now xs) (x .step) .sent)) ≡ some p →
+        perform (now xs) (x .step) .sent ≡ some p
     -- the ranges of a packet's head
     pub heads : (b : List ℕ) (p : Packet) → decode b ≡ some p → p .head .t ≡ s .config .t
         → (1 ≤ p .head .client) × (p .head .client ≤ topClient) × (1 ≤ p .head .server) × (p .head .server ≤ s .config .servers)
     -- entry i of a run
-    pub digest-at : (f : ℕ → List ℕ) (i : ℕ) → 1 ≤ i → i ≤ s .config .servers → nth digestSize (runOf (s .config .servers) (λ j. s .P .digest (f j))) i ≡ s .P .digest (f i)
-    pub tag-at : (k f : ℕ → List ℕ) (i : ℕ) → 1 ≤ i → i ≤ s .config .servers → nth tagSize (runOf (s .config .servers) (λ j. s .P .tag (k j) (f j))) i ≡ s .P .tag (k i) (f i)
+    pub digest-at : (f : ℕ → List ℕ) (i : ℕ) → 1 ≤ i → i ≤ s .config .servers →
+        nth digestSize (runOf (s .config .servers) (λ j. s .P .digest (f j))) i ≡ s .P .digest (f i)
+    pub tag-at : (k f : ℕ → List ℕ) (i : ℕ) → 1 ≤ i → i ≤ s .config .servers →
+        nth tagSize (runOf (s .config .servers) (λ j. s .P .tag (k j) (f j))) i ≡ s .P .tag (k i) (f i)
     -- the tagged bytes tell what is tagged
     pub stamp-inj : (a b c d : ℕ) → stampMessage a b ≡ stampMessage c d → (a ≡ c) × (b ≡ d)
-    pub candidate-inj : (a b : Stamp) (m n : List ℕ) → candidateMessage a (s .P .digest m) ≡ candidateMessage b (s .P .digest n) → (a ≡ b) × (s .P .digest m ≡ s .P .digest n)
+    pub candidate-inj : (a b : Stamp) (m n : List ℕ) → candidateMessage a (s .P .digest m) ≡ candidateMessage b (s .P .digest n) → (a ≡ b)
+        × (s .P .digest m ≡ s .P .digest n)
     pub apart : (a : Stamp) (m : List ℕ) (c d : ℕ) → candidateMessage a (s .P .digest m) ≡ stampMessage c d → ⊥
     -- k fragments of different servers give a content back
-    pub restores : (r : List ℕ) → Bytes r → (is : List ℕ) → AllPairs (λ a b. eqb a b ≡ false) is → All (λ i. (1 ≤ i) × (i ≤ s .config .servers)) is → s .config .shares ≤ length is
+    pub restores : (r : List ℕ) → Bytes r → (is : List ℕ) → AllPairs (λ a b. eqb a b ≡ false) is → All (λ i. (1 ≤ i) × (i ≤ s .config .servers)) is →
+        s .config .shares ≤ length is
         → s .P .restored (s .config .points) (s .config .shares) (length r) (map (λ i. record { server = i; bytes = fragmentFor r i }) is) ≡ r

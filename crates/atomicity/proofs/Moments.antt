@@ -1,5 +1,5 @@
--- The moments when correct servers replied to an undecided filter round: a genuine candidate of the list was shown, and held by a quorum, before each of them.
--- Here the premise enters that no nonce is seen before its write begins. And the earliest of the moments.
+-- The moments when correct servers replied to an undecided filter round: a genuine candidate of the list was shown, and held by a quorum,
+-- before each of them. Here the premise enters that no nonce is seen before its write begins. And the earliest of the moments.
 -- Assumes nothing.
 use mathlib.Core.Path.{_≡_, refl, sym, ap, _∙_, subst}
 use mathlib.Core.Bool.{Bool, true, false, cond, not, _&&_, _||_}
@@ -44,7 +44,8 @@ module _ (K : Setup) (xs : Steps K) (fair : Fair K xs) (cs : List Candidate) (g 
     pub suf : Suf (y ∷ ys) xs
 
   moment : (j : ℕ) → told j ≡ true → Moment j
-  moment j e = let r = ever-suf (Sat K cs j (g j)) xs (W .told j (and-left (right K j) (m j) e) (and-right (right K j) (m j) e)) in record { y = r .0; ys = r .1; sat = r .2; suf = r .3 }
+  moment j e = let r = ever-suf (Sat K cs j (g j)) xs (W .told j (and-left (right K j) (m j) e) (and-right (right K j) (m j) e)) in
+      record { y = r .0; ys = r .1; sat = r .2; suf = r .3 }
 
   pub before-now : (j : ℕ) (M : Moment j) → Suf (M .ys) xs
   before-now j M = suf-tail (M .y) (M .ys) xs (M .suf)
@@ -59,48 +60,62 @@ module _ (K : Setup) (xs : Steps K) (fair : Fair K xs) (cs : List Candidate) (g 
   earliest zero l = absurd (omega arith)
   earliest (suc n) l = go (told (suc n)) refl (leb 1 (countTo n told)) refl l (λ k. earliest n k)
     where
-      go : (t : Bool) → told (suc n) ≡ t → (o : Bool) → leb 1 (countTo n told) ≡ o → 1 ≤ cond t 1 0 + countTo n told → (1 ≤ countTo n told → Earliest n) → Earliest (suc n)
-      go false e o q l f = let r = f (omega arith) in
-          (r .0, r .1, λ u lo hi h. bool-case (leb u n) (λ t. r .2 u lo (leb-true u n t) h) (λ t. let z : u ≡ suc n = omega (arith, leb-false u n t) in clash (subst (λ (i : ℕ). told i ≡ true) z h) e))
+      go : (t : Bool) → told (suc n) ≡ t → (o : Bool) → leb 1 (countTo n told) ≡ o → 1 ≤ cond t 1 0 + countTo n told →
+          (1 ≤ countTo n told → Earliest n) → Earliest (suc n)
+      go false e o q l f = let r = f (omega arith) in (
+        r .0,
+        r .1,
+        λ u lo hi h. bool-case (leb u n) (λ t. r .2 u lo (leb-true u n t) h)
+            (λ t. let z : u ≡ suc n = omega (arith, leb-false u n t) in clash (subst (λ (i : ℕ). told i ≡ true) z h) e),
+      )
       go true e false q l f = let M = moment (suc n) e in (
         suc n,
         M,
         λ u lo hi h. bool-case (leb u n) (λ t. absurd (omega (arith, leb-false 1 (countTo n told) q, counted-one n told u lo (leb-true u n t) h)))
-            (λ t. let z : u ≡ suc n = omega (arith, leb-false u n t) in subst (λ (i : ℕ). (N : Moment i) × Suf (M .ys) (N .ys)) (sym z) (M, suf-refl (M .ys))),
+            (λ t. let z : u ≡ suc n = omega (arith, leb-false u n t) in
+            subst (λ (i : ℕ). (N : Moment i) × Suf (M .ys) (N .ys)) (sym z) (M, suf-refl (M .ys))),
       )
-      go true e true q l f = let r = f (leb-true 1 (countTo n told) q) in let M = moment (suc n) e in pick r M (suf-total (M .ys) (r .1 .ys) xs (before-now (suc n) M) (before-now (r .0) (r .1)))
+      go true e true q l f = let r = f (leb-true 1 (countTo n told) q) in let M = moment (suc n) e in
+          pick r M (suf-total (M .ys) (r .1 .ys) xs (before-now (suc n) M) (before-now (r .0) (r .1)))
         where
           pick : (r : Earliest n) (M : Moment (suc n)) → Suf (M .ys) (r .1 .ys) ⊎ Suf (r .1 .ys) (M .ys) → Earliest (suc n)
           pick r M (inl s) = (
             suc n,
             M,
             λ u lo hi h. bool-case (leb u n) (λ t. let k = r .2 u lo (leb-true u n t) h in (k .0, suf-trans (M .ys) (r .1 .ys) (k .0 .ys) s (k .1)))
-                (λ t. let z : u ≡ suc n = omega (arith, leb-false u n t) in subst (λ (i : ℕ). (N : Moment i) × Suf (M .ys) (N .ys)) (sym z) (M, suf-refl (M .ys))),
+                (λ t. let z : u ≡ suc n = omega (arith, leb-false u n t) in
+                subst (λ (i : ℕ). (N : Moment i) × Suf (M .ys) (N .ys)) (sym z) (M, suf-refl (M .ys))),
           )
           pick r M (inr s) = (
             r .0,
             r .1,
             λ u lo hi h. bool-case (leb u n) (λ t. r .2 u lo (leb-true u n t) h)
-                (λ t. let z : u ≡ suc n = omega (arith, leb-false u n t) in subst (λ (i : ℕ). (N : Moment i) × Suf (r .1 .ys) (N .ys)) (sym z) (M, s)),
+                (λ t. let z : u ≡ suc n = omega (arith, leb-false u n t) in
+                subst (λ (i : ℕ). (N : Moment i) × Suf (r .1 .ys) (N .ys)) (sym z) (M, s)),
           )
 
   -- ---- what a server found at its moment
 
-  pub best-real : (j : ℕ) (M : Moment j) → (best K cs j (M .ys) ≡ blankCandidate (K .s .config)) ⊎ (In (best K cs j (M .ys)) cs × Genuine K (M .ys) (best K cs j (M .ys)))
+  pub best-real : (j : ℕ) (M : Moment j) → (best K cs j (M .ys) ≡ blankCandidate (K .s .config))
+      ⊎ (In (best K cs j (M .ys)) cs × Genuine K (M .ys) (best K cs j (M .ys)))
   best-real j M = go (best-view (K .s) j (now (K .s) (M .ys) .server j) (blankCandidate (K .s .config)) cs)
     where
       b : Candidate
       b = best K cs j (M .ys)
 
-      go : (b ≡ blankCandidate (K .s .config)) ⊎ (In b cs × (isValid (K .s) j (now (K .s) (M .ys) .server j) b ≡ true)) → (b ≡ blankCandidate (K .s .config)) ⊎ (In b cs × Genuine K (M .ys) b)
+      go : (b ≡ blankCandidate (K .s .config)) ⊎ (In b cs × (isValid (K .s) j (now (K .s) (M .ys) .server j) b ≡ true)) →
+          (b ≡ blankCandidate (K .s .config)) ⊎ (In b cs × Genuine K (M .ys) b)
       go (inl e) = inl e
-      go (inr v) = let T = M .sat in inr (v .0, genuine K (M .y) (M .ys) (T .old) j (T .ask) (T .judging) b (subst (λ (z : Body). In b (judged z)) (sym (T .asked)) (v .0)) (v .1))
+      go (inr v) = let T = M .sat in inr
+          (v .0, genuine K (M .y) (M .ys) (T .old) j (T .ask) (T .judging) b (subst (λ (z : Body). In b (judged z)) (sym (T .asked)) (v .0)) (v .1))
 
   -- a nonce that a server got belongs to a write that was begun before
-  born : (n : List ℕ) (c j : ℕ) (y : StepOf K) (ys zs : Steps K) → serves j (y .step) ≡ true → In n (noncesGot (K .s) (account (K .s)) y ys) → Fair K zs → Suf (y ∷ ys) zs → Ever (Begin K c n) zs → Ever (Begin K c n) ys
+  born : (n : List ℕ) (c j : ℕ) (y : StepOf K) (ys zs : Steps K) → serves j (y .step) ≡ true → In n (noncesGot (K .s) (account (K .s)) y ys) →
+      Fair K zs → Suf (y ∷ ys) zs → Ever (Begin K c n) zs → Ever (Begin K c n) ys
   unfolding Suf Ever Begins Always FreshNonce
   born n c j y ys [] e i f s h = absurd h
-  born n c j y ys (x ∷ zs) e i f (inl q) (inl h) = absurd (let a : y ≡ x = head-inj q in clash (subst (λ (z : StepOf K). serves j (z .step) ≡ true) a e) (ap (serves j) (h .1)))
+  born n c j y ys (x ∷ zs) e i f (inl q) (inl h) =
+      absurd (let a : y ≡ x = head-inj q in clash (subst (λ (z : StepOf K). serves j (z .step) ≡ true) a e) (ap (serves j) (h .1)))
     where
       head-inj : y ∷ ys ≡ x ∷ zs → y ≡ x
       head-inj q = cc
@@ -108,7 +123,8 @@ module _ (K : Setup) (xs : Steps K) (fair : Fair K xs) (cs : List Candidate) (g 
     where
       tail-inj : y ∷ ys ≡ x ∷ zs → ys ≡ zs
       tail-inj q = cc
-  born n c j y ys (x ∷ zs) e i f (inr s) (inl h) = absurd (f .0 .fresh c n h .1 (suf-ever (λ y ys. In n (noncesGot (K .s) (account (K .s)) y ys)) y ys zs s i))
+  born n c j y ys (x ∷ zs) e i f (inr s) (inl h) =
+      absurd (f .0 .fresh c n h .1 (suf-ever (λ y ys. In n (noncesGot (K .s) (account (K .s)) y ys)) y ys zs s i))
   born n c j y ys (x ∷ zs) e i f (inr s) (inr h) = born n c j y ys zs e i (f .1) s h
 
   -- a genuine candidate of the list was shown, and held by a quorum, before every correct reply
@@ -118,13 +134,27 @@ module _ (K : Setup) (xs : Steps K) (fair : Fair K xs) (cs : List Candidate) (g 
       let T = M .sat in let w = gen .write in let y = M .y in let ys = M .ys in
       let seen : In (w .nonce) (noncesGot (K .s) (account (K .s)) y ys) = at-serve K (w .nonce) y ys j (T .ask) (T .judging) (noncesBy (K .s))
       (λ b o e. subst (λ (q : Option Packet). In (w .nonce) (map (λ (c : Candidate). c .nonce) (inPacket shown q))) (sym e)
-      (subst (λ (z : Body). In (w .nonce) (map (λ (c : Candidate). c .nonce) (shown z))) (sym (T .asked)) (subst (λ (z : List ℕ). In z (map (λ (c : Candidate). c .nonce) cs)) (sym (gen .nonce-is)) (in-map (λ (c : Candidate). c .nonce) cs d i)))) in
+      (subst (λ (z : Body). In (w .nonce) (map (λ (c : Candidate). c .nonce) (shown z))) (sym (T .asked))
+      (subst (λ (z : List ℕ). In z (map (λ (c : Candidate). c .nonce) cs)) (sym (gen .nonce-is))
+      (in-map (λ (c : Candidate). c .nonce) cs d i)))) in
       let beg = born (w .nonce) (w .client) j y ys xs (T .judging .by) seen fair (M .suf) (begins K xs w (gen .made)) in
-      let showed : Ever (Show K (w .client) (w .nonce)) ys = all-in (λ n. (c : ℕ) → Ever (Begin K c n) ys → Ever (Show K c n) ys) (noncesGot (K .s) (account (K .s)) y ys) (T .judging .prem .unshown) (w .nonce) seen (w .client) beg in
+      let showed : Ever (Show K (w .client) (w .nonce)) ys =
+      all-in (λ n. (c : ℕ) → Ever (Begin K c n) ys → Ever (Show K c n) ys) (noncesGot (K .s) (account (K .s)) y ys) (T .judging .prem .unshown)
+      (w .nonce) seen (w .client) beg in
       let hs = hands-all K ys (T .old) in
-      let Sh : Shown K ys (w .client) (w .nonce) = rise (λ (zs : Steps K). Shown K zs (w .client) (w .nonce)) (shown-up K (w .client) (w .nonce)) ys (ever-map _ _ (λ z zs h. shown-at K (w .client) (w .nonce) z zs (h .0 .0) (h .0 .1) (h .2)) ys
+      let Sh : Shown K ys (w .client) (w .nonce) =
+      rise (λ (zs : Steps K). Shown K zs (w .client) (w .nonce)) (shown-up K (w .client) (w .nonce)) ys
+      (ever-map _ _ (λ z zs h. shown-at K (w .client) (w .nonce) z zs (h .0 .0) (h .0 .1) (h .2)) ys
       (ever-with _ (Show K (w .client) (w .nonce)) ys (zip K (Meets K) (λ z zs. Hands K zs) ys (T .old) (hs .1)) showed)) in
-      let eq : Sh .write ≡ w = by-nonce K xs fair (Sh .write) w (suf-up (λ (zs : Steps K). In (Sh .write) (marks (K .s) zs)) (marks-up (K .s) (Sh .write)) ys xs (before-now j M) (Sh .made)) (gen .made) (Sh .nonce-is) in (
-        record { write = w; made = subst (λ (z : Stamped). In z (marks (K .s) ys)) eq (Sh .made); stamp-is = gen .stamp-is; nonce-is = gen .nonce-is; shown = showed },
+      let eq : Sh .write ≡ w = by-nonce K xs fair (Sh .write) w
+      (suf-up (λ (zs : Steps K). In (Sh .write) (marks (K .s) zs)) (marks-up (K .s) (Sh .write)) ys xs (before-now j M) (Sh .made)) (gen .made)
+      (Sh .nonce-is) in (
+        record {
+          write = w;
+          made = subst (λ (z : Stamped). In z (marks (K .s) ys)) eq (Sh .made);
+          stamp-is = gen .stamp-is;
+          nonce-is = gen .nonce-is;
+          shown = showed;
+        },
         subst (FullAt K ys) (ap (λ (z : Stamped). z .stamp) eq ∙ gen .stamp-is) (Sh .full),
       )

@@ -1,29 +1,26 @@
--- How a step changes one client and one server, and what is behind the packet that a step sends: each as a view with equations, so that
--- no later module takes a step apart. It holds by the cases of the step and of its refusals.
+-- How a step changes one client, as a view with equations, so that no later module takes a step apart. It holds by the cases of the step and
+-- of its refusals.
 -- Assumes nothing.
-use mathlib.Core.Path.{_≡_, refl, sym, ap, _∙_, subst}
-use mathlib.Core.Bool.{Bool, true, false, cond, not, _&&_, _||_, true≢false}
-use mathlib.Core.List.{List, [], _∷_, _++_}
-use mathlib.Core.Option.{Option, none, some, Option·some-injective}
-use mathlib.Core.Logic.{_⊎_, inl, inr}
-use Prim.Native.Nat.{ℕ, zero, suc, _+_, _*_, _≤_, _<_}
+use mathlib.Core.Path.{_≡_, refl, subst}
+use mathlib.Core.Bool.{Bool, true, false, not, _&&_, _||_}
+use mathlib.Core.List.{List}
+use mathlib.Core.Option.{Option, none, some}
+use Prim.Native.Nat.{ℕ, zero, suc, _≤_}
 use native.Mathlib.Omega.{arith}
 use lib.ListN.{length}
-use lib.Dec.{leb, ltb, eqb}
-use borrow.Author.Tests.{leb-true, eqb-true, eq-eqb}
-use Rattle.cluster.specs.Config.{Config}
+use lib.Dec.{leb, eqb}
+use borrow.Author.Tests.{leb-true, eqb-true}
 use Rattle.cluster.specs.Ranges.{within, topWriter, topClient, leastLength, topLength}
 use Rattle.cluster.specs.Refusals.{onRefusal}
 use Rattle.protocol.specs.Values.{blankCandidate}
-use Rattle.protocol.specs.Packet.{Body, Packet, kindOf, decode}
+use Rattle.protocol.specs.Packet.{Packet, kindOf, decode}
 use Rattle.protocol.specs.Rules.{upd, nobody}
-use Rattle.protocol.specs.Server.{Server, Stepped, barred, replyTo, serverRefusal, serverStep, answered}
-use Rattle.protocol.specs.Client.{Client, Hand, Turn, Made, Result, refused, more, aborted, idle, clocking, collecting, awaits, isIdle, isFull, tooHigh, highAt, onto, begun, made, badFaults}
-use Rattle.protocol.specs.Client.{writeRefusal, readRefusal, makeRefusal, abortRefusal, takeRefusal, writeStep, readStep, abortStep, makeStep, takeStep, turnOn}
-use Rattle.protocol.specs.Runs.{Step, write, read, make, take-reply, give-up, serve, World, After, doValues, setClient, resultOf}
-use Rattle.atomicity.specs.Steps.{System, accepted, makes, serves, packetIn}
-use Rattle.atomicity.proofs.Util.{cond-zero, not-false, not-t, not-f, no-some, and-left, and-right, or-none, upd-case, upd-here, clash}
-use Rattle.atomicity.proofs.Model.{Run, perform, turn, acts}
+use Rattle.protocol.specs.Client.{Client, Turn, Result, more, aborted, idle, clocking, collecting, awaits, isIdle, isFull, tooHigh, highAt, onto, begun, badFaults}
+use Rattle.protocol.specs.Client.{writeRefusal, readRefusal, abortRefusal, takeRefusal, writeStep, readStep, abortStep, takeStep, turnOn}
+use Rattle.protocol.specs.Runs.{Step, write, read, make, take-reply, give-up, serve, World, After, doValues, setClient}
+use Rattle.atomicity.specs.Steps.{System, accepted}
+use Rattle.atomicity.proofs.Util.{cond-zero, not-false, not-t, and-left, and-right, or-none, upd-case, clash}
+use Rattle.atomicity.proofs.Model.{perform, turn}
 
 pub refusal-case : {A : Type 0} (P : A → Type 0) (k : ℕ) (a b : A) → (k ≡ 0 → P a) → ((n : ℕ) → k ≡ suc n → P b) → P (onRefusal k a b)
 refusal-case P zero a b f g = f refl
@@ -54,23 +51,28 @@ pub data Moved (s : System) (c : ℕ) (w : World) (x : Step) (cl : Client) (res 
   kept : cl ≡ w .client c → (acting c x ≡ true → accepted res ≡ false) → Moved s c w x cl res
   wbegan : (r n : List ℕ) → x ≡ write c r n → res ≡ more → isIdle (w .client c .hand) ≡ true → c ≤ topWriter →
       cl ≡ begun (w .client c) (clocking r n (w .client c .last)) → Moved s c w x cl res
-  rbegan : x ≡ read c → res ≡ more → isIdle (w .client c .hand) ≡ true → cl ≡ begun (w .client c) (collecting (λ b. blankCandidate (s .config))) → Moved s c w x cl res
-  quit : x ≡ give-up c → res ≡ aborted (eqb (awaits (w .client c .hand)) 6) → isIdle (w .client c .hand) ≡ false → cl ≡ onto (w .client c) nobody idle → Moved s c w x cl res
+  rbegan : x ≡ read c → res ≡ more → isIdle (w .client c .hand) ≡ true → cl ≡ begun (w .client c) (collecting (λ b. blankCandidate (s .config))) →
+      Moved s c w x cl res
+  quit : x ≡ give-up c → res ≡ aborted (eqb (awaits (w .client c .hand)) 6) → isIdle (w .client c .hand) ≡ false →
+      cl ≡ onto (w .client c) nobody idle → Moved s c w x cl res
   took : (p : Packet) (b o : List ℕ) → x ≡ take-reply c b o → decode b ≡ some p → Fits s c (w .client c) p →
       cl ≡ turn s c (w .client c) p .client → res ≡ turn s c (w .client c) p .result → Moved s c w x cl res
 
 pub take-fits : (s : System) (c : ℕ) (cl : Client) (p : Packet) (room : ℕ) →
-    takeRefusal (s .config) c (some p) (cl .calls) (awaits (cl .hand)) (cl .marks) (highAt (s .P) (s .config) c (s .writers) (s .keys) cl) room ≡ 0 → Fits s c cl p
+    takeRefusal (s .config) c (some p) (cl .calls) (awaits (cl .hand)) (cl .marks) (highAt (s .P) (s .config) c (s .writers) (s .keys) cl) room ≡ 0 →
+    Fits s c cl p
 unfolding takeRefusal highAt isIdle
 take-fits s c cl p room e =
     let z1 = cond-zero (badFaults (s .config)) 2 _ e in
     let z2 = cond-zero (not (within 1 topClient c)) 4 _ (z1 .1) in
     let z3 = cond-zero (not (eqb (p .head .t) (s .config .t) && eqb (p .head .client) c)) 7 _ (z2 .1) in
-    let z4 = cond-zero (not (eqb (awaits (cl .hand)) 0) && (not (eqb (p .head .call) (cl .calls) && eqb (kindOf (p .body)) (awaits (cl .hand))) || cl .marks (p .head .server))) 11 _ (z3 .1) in
+    let z4 = cond-zero (not (eqb (awaits (cl .hand)) 0) &&
+    (not (eqb (p .head .call) (cl .calls) && eqb (kindOf (p .body)) (awaits (cl .hand))) || cl .marks (p .head .server))) 11 _ (z3 .1) in
     let z5 = cond-zero (eqb (awaits (cl .hand)) 0) 12 _ (z4 .1) in
     let z6 = cond-zero (highAt (s .P) (s .config) c (s .writers) (s .keys) cl (p .head .server) (p .body)) 13 _ (z5 .1) in
     let a = not-false (eqb (p .head .t) (s .config .t) && eqb (p .head .client) c) (z3 .0) in
-    let o = or-none (not (eqb (p .head .call) (cl .calls) && eqb (kindOf (p .body)) (awaits (cl .hand)))) (cl .marks (p .head .server)) (second (eqb (awaits (cl .hand)) 0) _ (z5 .0) (z4 .0)) in
+    let o = or-none (not (eqb (p .head .call) (cl .calls) && eqb (kindOf (p .body)) (awaits (cl .hand)))) (cl .marks (p .head .server))
+    (second (eqb (awaits (cl .hand)) 0) _ (z5 .0) (z4 .0)) in
     let k = not-false (eqb (p .head .call) (cl .calls) && eqb (kindOf (p .body)) (awaits (cl .hand))) (o .0) in
     record {
       same-t = eqb-true _ _ (and-left _ _ a);
@@ -91,13 +93,16 @@ module _ (s : System) (c : ℕ) (w : World) where
   MovedTo x a = Moved s c w x (a .world .client c) (a .result)
 
   -- client d makes the turn u
-  set-moved : (x : Step) (d : ℕ) (u : Turn) → (eqb c d ≡ false → acting c x ≡ false) → (c ≡ d → Moved s c w x (u .client) (u .result)) → MovedTo x (setClient (s .P) (s .config) (s .writers) (s .keys) w d u)
+  set-moved : (x : Step) (d : ℕ) (u : Turn) → (eqb c d ≡ false → acting c x ≡ false) → (c ≡ d → Moved s c w x (u .client) (u .result)) →
+      MovedTo x (setClient (s .P) (s .config) (s .writers) (s .keys) w d u)
   unfolding setClient
   set-moved x d u g f = upd-case (λ (y : Client). Moved s c w x y (u .result)) (w .client) d (u .client) c f (λ e. kept refl (λ q. clash q (g e)))
 
-  write-moved : (r n : List ℕ) → Moved s c w (write c r n) (writeStep (s .config) c (w .client c) r n .client) (writeStep (s .config) c (w .client c) r n .result)
+  write-moved : (r n : List ℕ) → Moved s c w (write c r n) (writeStep (s .config) c (w .client c) r n .client)
+      (writeStep (s .config) c (w .client c) r n .result)
   unfolding writeStep writeRefusal
-  write-moved r n = refusal-case (λ (u : Turn). Moved s c w (write c r n) (u .client) (u .result)) (writeRefusal (s .config) c (length r) (not (isIdle (w .client c .hand))) (w .client c .calls)) _ _
+  write-moved r n = refusal-case (λ (u : Turn). Moved s c w (write c r n) (u .client) (u .result))
+      (writeRefusal (s .config) c (length r) (not (isIdle (w .client c .hand))) (w .client c .calls)) _ _
       (λ e. let z1 = cond-zero (badFaults (s .config)) 2 _ e in
       let z2 = cond-zero (not (within 1 topWriter c)) 4 _ (z1 .1) in
       let z3 = cond-zero (not (within leastLength topLength (length r))) 5 _ (z2 .1) in
@@ -107,7 +112,8 @@ module _ (s : System) (c : ℕ) (w : World) where
 
   read-moved : Moved s c w (read c) (readStep (s .config) c (w .client c) .client) (readStep (s .config) c (w .client c) .result)
   unfolding readStep readRefusal
-  read-moved = refusal-case (λ (u : Turn). Moved s c w (read c) (u .client) (u .result)) (readRefusal (s .config) c (not (isIdle (w .client c .hand))) (w .client c .calls)) _ _
+  read-moved = refusal-case (λ (u : Turn). Moved s c w (read c) (u .client) (u .result))
+      (readRefusal (s .config) c (not (isIdle (w .client c .hand))) (w .client c .calls)) _ _
       (λ e. let z1 = cond-zero (badFaults (s .config)) 2 _ e in
       let z2 = cond-zero (not (within 1 topClient c)) 4 _ (z1 .1) in
       let z3 = cond-zero (not (isIdle (w .client c .hand))) 12 _ (z2 .1) in
@@ -116,7 +122,8 @@ module _ (s : System) (c : ℕ) (w : World) where
 
   quit-moved : Moved s c w (give-up c) (abortStep (s .config) c (w .client c) .client) (abortStep (s .config) c (w .client c) .result)
   unfolding abortStep abortRefusal
-  quit-moved = refusal-case (λ (u : Turn). Moved s c w (give-up c) (u .client) (u .result)) (abortRefusal (s .config) c (not (isIdle (w .client c .hand)))) _ _
+  quit-moved = refusal-case (λ (u : Turn). Moved s c w (give-up c) (u .client) (u .result))
+      (abortRefusal (s .config) c (not (isIdle (w .client c .hand)))) _ _
       (λ e. let z1 = cond-zero (badFaults (s .config)) 2 _ e in
       let z2 = cond-zero (not (within 1 topClient c)) 4 _ (z1 .1) in
       let z3 = cond-zero (not (not (isIdle (w .client c .hand)))) 12 _ (z2 .1) in
@@ -124,154 +131,35 @@ module _ (s : System) (c : ℕ) (w : World) where
       (λ k e. kept refl (λ q. refl))
 
   take-moved : (b o : List ℕ) (q : Option Packet) → decode b ≡ q →
-      Moved s c w (take-reply c b o) (takeStep (s .P) (s .config) c (s .writers) (s .keys) (w .client c) q (length o) .client) (takeStep (s .P) (s .config) c (s .writers) (s .keys) (w .client c) q (length o) .result)
+      Moved s c w (take-reply c b o) (takeStep (s .P) (s .config) c (s .writers) (s .keys) (w .client c) q (length o) .client)
+      (takeStep (s .P) (s .config) c (s .writers) (s .keys) (w .client c) q (length o) .result)
   unfolding takeStep turnOn takeRefusal
   take-moved b o none d = refusal-case (λ (u : Turn). Moved s c w (take-reply c b o) (u .client) (u .result))
-      (takeRefusal (s .config) c none (w .client c .calls) (awaits (w .client c .hand)) (w .client c .marks) (highAt (s .P) (s .config) c (s .writers) (s .keys) (w .client c)) (length o)) _ _
-      (λ e. let z1 = cond-zero (badFaults (s .config)) 2 _ e in let z2 = cond-zero (not (within 1 topClient c)) 4 _ (z1 .1) in absurd (omega (arith, z2 .1)))
+      (takeRefusal (s .config) c none (w .client c .calls) (awaits (w .client c .hand)) (w .client c .marks)
+      (highAt (s .P) (s .config) c (s .writers) (s .keys) (w .client c)) (length o)) _ _
+      (λ e. let z1 = cond-zero (badFaults (s .config)) 2 _ e in let z2 = cond-zero (not (within 1 topClient c)) 4 _ (z1 .1) in
+      absurd (omega (arith, z2 .1)))
       (λ k e. kept refl (λ q. refl))
   take-moved b o (some p) d = refusal-case (λ (u : Turn). Moved s c w (take-reply c b o) (u .client) (u .result))
-      (takeRefusal (s .config) c (some p) (w .client c .calls) (awaits (w .client c .hand)) (w .client c .marks) (highAt (s .P) (s .config) c (s .writers) (s .keys) (w .client c)) (length o)) _ _
+      (takeRefusal (s .config) c (some p) (w .client c .calls) (awaits (w .client c .hand)) (w .client c .marks)
+      (highAt (s .P) (s .config) c (s .writers) (s .keys) (w .client c)) (length o)) _ _
       (λ e. took p b o refl d (take-fits s c (w .client c) p (length o) e) refl refl)
       (λ k e. kept refl (λ q. refl))
 
   pub moved : (x : Step) → Moved s c w x (perform s w x .world .client c) (perform s w x .result)
   unfolding doValues setClient
-  moved (write d r n) = set-moved (write d r n) d _ (λ e. e) (λ e. subst (λ (i : ℕ). Moved s c w (write i r n) (writeStep (s .config) i (w .client i) r n .client) (writeStep (s .config) i (w .client i) r n .result)) e (write-moved r n))
-  moved (read d) = set-moved (read d) d _ (λ e. e) (λ e. subst (λ (i : ℕ). Moved s c w (read i) (readStep (s .config) i (w .client i) .client) (readStep (s .config) i (w .client i) .result)) e read-moved)
+  moved (write d r n) = set-moved (write d r n) d _ (λ e. e)
+      (λ e. subst (λ (i : ℕ). Moved s c w (write i r n) (writeStep (s .config) i (w .client i) r n .client)
+      (writeStep (s .config) i (w .client i) r n .result)) e (write-moved r n))
+  moved (read d) = set-moved (read d) d _ (λ e. e)
+      (λ e. subst (λ (i : ℕ). Moved s c w (read i) (readStep (s .config) i (w .client i) .client)
+      (readStep (s .config) i (w .client i) .result)) e read-moved)
   moved (make d b o) = kept refl (λ q. clash q refl)
-  moved (take-reply d b o) = set-moved (take-reply d b o) d _ (λ e. e) (λ e. subst (λ (i : ℕ). Moved s c w (take-reply i b o) (takeStep (s .P) (s .config) i (s .writers) (s .keys) (w .client i) (decode b) (length o) .client) (takeStep (s .P) (s .config) i (s .writers) (s .keys) (w .client i) (decode b) (length o) .result)) e (take-moved b o (decode b) refl))
-  moved (give-up d) = set-moved (give-up d) d _ (λ e. e) (λ e. subst (λ (i : ℕ). Moved s c w (give-up i) (abortStep (s .config) i (w .client i) .client) (abortStep (s .config) i (w .client i) .result)) e quit-moved)
+  moved (take-reply d b o) = set-moved (take-reply d b o) d _ (λ e. e)
+      (λ e. subst (λ (i : ℕ). Moved s c w (take-reply i b o)
+      (takeStep (s .P) (s .config) i (s .writers) (s .keys) (w .client i) (decode b) (length o) .client)
+      (takeStep (s .P) (s .config) i (s .writers) (s .keys) (w .client i) (decode b) (length o) .result)) e (take-moved b o (decode b) refl))
+  moved (give-up d) = set-moved (give-up d) d _ (λ e. e)
+      (λ e. subst (λ (i : ℕ). Moved s c w (give-up i) (abortStep (s .config) i (w .client i) .client)
+      (abortStep (s .config) i (w .client i) .result)) e quit-moved)
   moved (serve b p o) = kept refl (λ q. clash q refl)
-
--- ---- a server
-
--- what is known of a request that is let in
-pub record Asked (s : System) (j : ℕ) (p : Packet) : Type 0 where
-  pub same-t : p .head .t ≡ s .config .t
-  pub mine : p .head .server ≡ j
-  pub allowed : barred (p .head .client) (p .body) ≡ false
-
-pub serve-asked : (s : System) (j : ℕ) (p : Packet) (room : ℕ) → serverRefusal (s .config .t) j (some p) room ≡ 0 → Asked s j p
-unfolding serverRefusal
-serve-asked s j p room e =
-    let z1 = cond-zero (not (eqb (p .head .t) (s .config .t) && eqb (p .head .server) j)) 7 _ e in
-    let z2 = cond-zero (barred (p .head .client) (p .body)) 8 _ (z1 .1) in
-    let a = not-false (eqb (p .head .t) (s .config .t) && eqb (p .head .server) j) (z1 .0) in
-    record { same-t = eqb-true _ _ (and-left _ _ a); mine = eqb-true _ _ (and-right (eqb (p .head .t) (s .config .t)) _ a); allowed = z2 .0 }
-
-pub data Served (s : System) (j : ℕ) (w : World) (x : Step) (v : Server) : Type 0 where
-  same : v ≡ w .server j → Served s j w x v
-  acted : (p : Packet) → serves j x ≡ true → packetIn x ≡ some p → Asked s j p → accepted (perform s w x .result) ≡ true → v ≡ acts s j (w .server j) (p .body) .server → Served s j w x v
-
--- what is behind a reply
-pub record Answered (s : System) (w : World) (j : ℕ) (x : Step) (p : Packet) : Type 0 where
-  pub ask : Packet
-  pub got : packetIn x ≡ some ask
-  pub asked : Asked s j ask
-  pub fine : accepted (perform s w x .result) ≡ true
-  pub after : perform s w x .world .server j ≡ acts s j (w .server j) (ask .body) .server
-  pub reply : p ≡ replyTo ask (acts s j (w .server j) (ask .body) .reply)
-
-module _ (s : System) (w : World) where
-  serve-view : (b : ℕ) (p o : List ℕ) (q : Option Packet) → decode p ≡ q →
-      let d = serverStep (s .P) (s .config) (s .keys b) b (w .server b) (length o) q in
-      ((d .server ≡ w .server b) × ((r : Packet) → d .reply ≡ some r → ⊥))
-      ⊎ ((a : Packet) × (q ≡ some a) × Asked s b a × (d .number ≡ 0) × (d .server ≡ acts s b (w .server b) (a .body) .server) × (d .reply ≡ some (replyTo a (acts s b (w .server b) (a .body) .reply))))
-  unfolding serverStep answered serverRefusal
-  serve-view b p o none e = inl (refl, λ r k. no-some k)
-  serve-view b p o (some a) e = go (serverRefusal (s .config .t) b (some a) (length o)) refl
-    where
-      go : (k : ℕ) → serverRefusal (s .config .t) b (some a) (length o) ≡ k →
-          let d = onRefusal k (answered (s .P) (s .config) (s .keys b) b (w .server b) (length o) (some a)) (record { number = k; server = w .server b; reply = none }) in
-          ((d .server ≡ w .server b) × ((r : Packet) → d .reply ≡ some r → ⊥))
-          ⊎ ((a' : Packet) × (some a ≡ some a') × Asked s b a' × (d .number ≡ 0) × (d .server ≡ acts s b (w .server b) (a' .body) .server) × (d .reply ≡ some (replyTo a' (acts s b (w .server b) (a' .body) .reply))))
-      go zero z = inr (a, refl, serve-asked s b a (length o) z, refl, refl, refl)
-      go (suc n) z = inl (refl, λ r k. no-some k)
-
-  -- server j after a step
-  pub served : (j : ℕ) (x : Step) → Served s j w x (perform s w x .world .server j)
-  unfolding doValues setClient
-  served j (write c r n) = same refl
-  served j (read c) = same refl
-  served j (make c b o) = same refl
-  served j (take-reply c b o) = same refl
-  served j (give-up c) = same refl
-  served j (serve b p o) = upd-case (λ (v : Server). Served s j w (serve b p o) v) (w .server) b _ j (λ e. here e (serve-view b p o (decode p) refl)) (λ e. same refl)
-    where
-      d : Stepped
-      d = serverStep (s .P) (s .config) (s .keys b) b (w .server b) (length o) (decode p)
-
-      here : j ≡ b → ((d .server ≡ w .server b) × ((r : Packet) → d .reply ≡ some r → ⊥))
-          ⊎ ((a : Packet) × (decode p ≡ some a) × Asked s b a × (d .number ≡ 0) × (d .server ≡ acts s b (w .server b) (a .body) .server) × (d .reply ≡ some (replyTo a (acts s b (w .server b) (a .body) .reply))))
-          → Served s j w (serve b p o) (d .server)
-      here e (inl q) = same (q .0 ∙ ap (w .server) (sym e))
-      here e (inr q) = acted (q .0) (eq-eqb j b e) (q .1) (subst (λ (i : ℕ). Asked s i (q .0)) (sym e) (q .2)) (ap (λ (k : ℕ). accepted (resultOf k)) (q .3))
-          (q .4 ∙ ap (λ (i : ℕ). acts s i (w .server i) (q .0 .body) .server) (sym e))
-
-  -- ---- what is behind a packet that was sent
-
-  pub answer : (j : ℕ) (x : Step) (p : Packet) → serves j x ≡ true → perform s w x .sent ≡ some p → Answered s w j x p
-  unfolding doValues setClient
-  answer j (write c r n) p e f = clash e refl
-  answer j (read c) p e f = clash e refl
-  answer j (make c b o) p e f = clash e refl
-  answer j (take-reply c b o) p e f = clash e refl
-  answer j (give-up c) p e f = clash e refl
-  answer j (serve b q o) p e f = go (serve-view b q o (decode q) refl)
-    where
-      d : Stepped
-      d = serverStep (s .P) (s .config) (s .keys b) b (w .server b) (length o) (decode q)
-
-      same-server : b ≡ j
-      same-server = sym (eqb-true j b e)
-
-      go : ((d .server ≡ w .server b) × ((r : Packet) → d .reply ≡ some r → ⊥))
-          ⊎ ((a : Packet) × (decode q ≡ some a) × Asked s b a × (d .number ≡ 0) × (d .server ≡ acts s b (w .server b) (a .body) .server) × (d .reply ≡ some (replyTo a (acts s b (w .server b) (a .body) .reply))))
-          → Answered s w j (serve b q o) p
-      go (inl z) = absurd (z .1 p f)
-      go (inr z) = record {
-        ask = z .0;
-        got = z .1;
-        asked = subst (λ (i : ℕ). Asked s i (z .0)) same-server (z .2);
-        fine = ap (λ (k : ℕ). accepted (resultOf k)) (z .3);
-        after = subst (λ (i : ℕ). upd (w .server) b (d .server) i ≡ acts s i (w .server i) (z .0 .body) .server) same-server (upd-here (w .server) b (d .server) ∙ z .4);
-        reply = Option·some-injective _ _ (sym f ∙ z .5) ∙ ap (λ (i : ℕ). replyTo (z .0) (acts s i (w .server i) (z .0 .body) .reply)) same-server;
-      }
-
-  -- a packet made by client c
-  pub record Making (c : ℕ) (x : Step) (p : Packet) : Type 0 where
-    pub to : ℕ
-    pub low : 1 ≤ to
-    pub high : to ≤ s .config .servers
-    pub busy : isIdle (w .client c .hand) ≡ false
-    pub is : p ≡ made (s .config .t) c (w .client c) to
-
-  pub making : (c : ℕ) (x : Step) (p : Packet) → makes c x ≡ true → perform s w x .sent ≡ some p → Making c x p
-  unfolding doValues setClient makeStep makeRefusal
-  making c (write d r n) p e f = clash e refl
-  making c (read d) p e f = clash e refl
-  making c (take-reply d b o) p e f = clash e refl
-  making c (give-up d) p e f = clash e refl
-  making c (serve b q o) p e f = clash e refl
-  making c (make d b o) p e f = go (makeRefusal (s .config) d b (not (isIdle (w .client d .hand))) (length o)) refl f
-    where
-      same-client : d ≡ c
-      same-client = sym (eqb-true c d e)
-
-      go : (k : ℕ) → makeRefusal (s .config) d b (not (isIdle (w .client d .hand))) (length o) ≡ k →
-          (onRefusal {A = Made} k (record { number = 0; packet = some (made (s .config .t) d (w .client d) b) }) (record { number = k; packet = none })) .packet ≡ some p → Making c (make d b o) p
-      go (suc n) z q = absurd (no-some q)
-      go zero z q =
-          let z1 = cond-zero (badFaults (s .config)) 2 _ z in
-          let z2 = cond-zero (not (within 1 (s .config .servers) b)) 3 _ (z1 .1) in
-          let z3 = cond-zero (not (within 1 topClient d)) 4 _ (z2 .1) in
-          let z4 = cond-zero (not (not (isIdle (w .client d .hand)))) 12 _ (z3 .1) in
-          let i = not-false (within 1 (s .config .servers) b) (z2 .0) in
-          record {
-            to = b;
-            low = leb-true 1 b (and-left _ _ i);
-            high = leb-true b (s .config .servers) (and-right (leb 1 b) _ i);
-            busy = subst (λ (i : ℕ). isIdle (w .client i .hand) ≡ false) same-client (not-t _ (not-false _ (z4 .0)));
-            is = sym (Option·some-injective _ _ q) ∙ ap (λ (i : ℕ). made (s .config .t) i (w .client i) b) same-client;
-          }

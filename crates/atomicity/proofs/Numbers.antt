@@ -30,7 +30,8 @@ use Rattle.atomicity.proofs.Moves.{Moved, kept, wbegan, rbegan, quit, t
 use Rattle.atomicity.proofs.Rounds.{turn-turned}
 use Rattle.atomicity.proofs.Marks.{mark-source, capped, above}
 use Rattle.atomicity.proofs.Begun.{begins, by-nonce}
-use Rattle.atomicity.proofs.Logs.{Log, result, touched, news, newCall, note-shape, Signed}
+use Rattle.atomicity.proofs.Shape.{Log, result, touched, news, newCall, note-shape}
+use Rattle.atomicity.proofs.Logs.{Signed}
 use Rattle.atomicity.proofs.Story.{past, story, story-log, stepSigned, step-keeps}
 use Rattle.atomicity.proofs.Listed.{pigeon, map-size, map-apart}
 
@@ -54,32 +55,41 @@ module _ (K : Setup) where
   low-up n m (filtering cs g) l h = tt
   low-up n m (repairing d r) l h = tt
 
-  pub higher-low : (N m : ℕ) (a : Stamp) → m ≤ N → (checks (K .s .P) (K .s .writers) a ≡ true → a .number ≤ N) → higher (K .s .P) (K .s .writers) m a ≤ N
+  pub higher-low : (N m : ℕ) (a : Stamp) → m ≤ N → (checks (K .s .P) (K .s .writers) a ≡ true → a .number ≤ N) →
+      higher (K .s .P) (K .s .writers) m a ≤ N
   unfolding higher
-  higher-low N m a l f = cond-case (λ (v : ℕ). v ≤ N) (checks (K .s .P) (K .s .writers) a && ltb m (a .number)) (a .number) m (λ e. f (and-left (checks (K .s .P) (K .s .writers) a) _ e)) (λ e. l)
+  higher-low N m a l f = cond-case (λ (v : ℕ). v ≤ N) (checks (K .s .P) (K .s .writers) a && ltb m (a .number)) (a .number) m
+      (λ e. f (and-left (checks (K .s .P) (K .s .writers) a) _ e)) (λ e. l)
 
   -- the client after a reply, with M marks then
   abbrev LowTurn : ℕ → ℕ → Hand → Turn → Type 0
-  LowTurn c N h u = (u .client .last ≤ N + length (stampedFrom c h (u .client .hand))) × Low (N + length (stampedFrom c h (u .client .hand))) (u .client .hand)
+  LowTurn c N h u = (u .client .last ≤ N + length (stampedFrom c h (u .client .hand)))
+      × Low (N + length (stampedFrom c h (u .client .hand))) (u .client .hand)
 
-  found-low : (c N : ℕ) (cs : List Candidate) (g g' : ByServer Held) (m : ByServer Bool) (cl : Client) (d : Candidate) (b : ℕ) → cl .last ≤ N → LowTurn c N (filtering cs g) (found (K .s .P) (K .s .config) c (K .s .writers) (K .s .keys) cl m g' d b)
+  found-low : (c N : ℕ) (cs : List Candidate) (g g' : ByServer Held) (m : ByServer Bool) (cl : Client) (d : Candidate) (b : ℕ) → cl .last ≤ N →
+      LowTurn c N (filtering cs g) (found (K .s .P) (K .s .config) c (K .s .writers) (K .s .keys) cl m g' d b)
   unfolding found onto Low stampedFrom
-  found-low c N cs g g' m cl d b l = cond-both (LowTurn c N (filtering cs g)) (sameList (tagsIn (K .s .P) (K .s .config) d (g' b .share)) (d .tags)) _ _ (omega arith, tt) (omega arith, tt)
+  found-low c N cs g g' m cl d b l =
+      cond-both (LowTurn c N (filtering cs g)) (sameList (tagsIn (K .s .P) (K .s .config) d (g' b .share)) (d .tags)) _ _ (omega arith, tt)
+      (omega arith, tt)
 
-  judge-low : (c N : ℕ) (cs : List Candidate) (g g' : ByServer Held) (m : ByServer Bool) (cl : Client) (ls : List Candidate) (o : Option Candidate) → cl .last ≤ N →
+  judge-low : (c N : ℕ) (cs : List Candidate) (g g' : ByServer Held) (m : ByServer Bool) (cl : Client) (ls : List Candidate) (o : Option Candidate) →
+      cl .last ≤ N →
       LowTurn c N (filtering cs g) (judge (K .s .P) (K .s .config) c (K .s .writers) (K .s .keys) cl m cs g' ls o)
   unfolding judge onto Low stampedFrom
   judge-low c N cs g g' m cl [] o l = (omega arith, tt)
   judge-low c N cs g g' m cl (x ∷ ls) none l = (omega arith, tt)
   judge-low c N cs g g' m cl (x ∷ ls) (some d) l = found-low c N cs g g' m cl d (leader (K .s .P) (K .s .config) m g' d (K .s .config .servers)) l
 
-  update-low : (c N : ℕ) (cl : Client) (b : ℕ) (y : Body) (m : ByServer Bool) (full : Bool) (h : Hand) → cl .hand ≡ h → cl .last ≤ N → Low N h → (awaits h ≡ 2 → checks (K .s .P) (K .s .writers) (stampIn y) ≡ true → stampIn y .number ≤ N) →
+  update-low : (c N : ℕ) (cl : Client) (b : ℕ) (y : Body) (m : ByServer Bool) (full : Bool) (h : Hand) → cl .hand ≡ h → cl .last ≤ N → Low N h →
+      (awaits h ≡ 2 → checks (K .s .P) (K .s .writers) (stampIn y) ≡ true → stampIn y .number ≤ N) →
       LowTurn c N h (updated (K .s) c cl b y m full h)
   unfolding update onto Low stampedFrom awaits prepared candidateMade
   update-low c N cl b y m full idle e l lo f = (omega arith, subst (Low (N + 0)) (sym e) tt)
   update-low c N cl b y m true (clocking r n k) e l lo f = (omega (arith, higher-low N k (stampIn y) lo (f refl)), tt)
   update-low c N cl b y m false (clocking r n k) e l lo f = (omega arith, omega (arith, higher-low N k (stampIn y) lo (f refl)))
-  update-low c N cl b y m full (storing d g) e l lo f = cond-both (LowTurn c N (storing d g)) (eqb (codeIn y) 11) _ _ (omega arith, subst (Low (N + 0)) (sym e) tt)
+  update-low c N cl b y m full (storing d g) e l lo f =
+      cond-both (LowTurn c N (storing d g)) (eqb (codeIn y) 11) _ _ (omega arith, subst (Low (N + 0)) (sym e) tt)
       (cond-both (LowTurn c N (storing d g)) full _ _ (omega arith, tt) (omega arith, tt))
   update-low c N cl b y m true (completing d) e l lo f = (omega arith, tt)
   update-low c N cl b y m false (completing d) e l lo f = (omega arith, tt)
@@ -94,22 +104,27 @@ module _ (K : Setup) where
   tag-in : (k : List ℕ) (a b : ℕ) (m : Stamped) → In {A = List ℕ × List ℕ} (k, stampMessage a b) (tagsWith (K .s) m) → m .stamp .number ≡ a
   unfolding tagsWith In
   tag-in k a b m (inl e) = sym (K .laws .stamp-inj a b (m .stamp .number) (m .stamp .writer) (ap (λ (x : List ℕ × List ℕ). x .1) e) .0)
-  tag-in k a b m (inr i) = let r = map-in (λ (i : ℕ). (K .s .keys i, candidateMessage (m .stamp) (K .s .P .digest (m .nonce)))) (upTo (K .s .config .servers)) _ i in
+  tag-in k a b m (inr i) = let r =
+      map-in (λ (i : ℕ). (K .s .keys i, candidateMessage (m .stamp) (K .s .P .digest (m .nonce)))) (upTo (K .s .config .servers)) _ i in
       absurd (K .laws .apart (m .stamp) (m .nonce) a b (sym (ap (λ (x : List ℕ × List ℕ). x .1) (r .2))))
 
-  made-num : (k : List ℕ) (a b : ℕ) (xs : Steps K) → Ever (λ y ys. In {A = List ℕ × List ℕ} (k, stampMessage a b) (tagsMade (K .s) (account (K .s)) y ys)) xs → (m : Stamped) × In m (marks (K .s) xs) × (m .stamp .number ≡ a)
+  made-num : (k : List ℕ) (a b : ℕ) (xs : Steps K) →
+      Ever (λ y ys. In {A = List ℕ × List ℕ} (k, stampMessage a b) (tagsMade (K .s) (account (K .s)) y ys)) xs → (m : Stamped)
+      × In m (marks (K .s) xs) × (m .stamp .number ≡ a)
   unfolding Ever marks
   made-num k a b [] h = absurd h
   made-num k a b (x ∷ xs) (inl h) = let r = in-flat (tagsWith (K .s)) (stampedAt (K .s) (account (K .s)) x xs) _ h in
       (r .0, left-in (r .0) (stampedAt (K .s) (account (K .s)) x xs) (marks (K .s) xs) (r .1), tag-in k a b (r .0) (r .2))
-  made-num k a b (x ∷ xs) (inr h) = let r = made-num k a b xs h in (r .0, right-in (r .0) (stampedAt (K .s) (account (K .s)) x xs) (marks (K .s) xs) (r .1), r .2)
+  made-num k a b (x ∷ xs) (inr h) = let r = made-num k a b xs h in
+      (r .0, right-in (r .0) (stampedAt (K .s) (account (K .s)) x xs) (marks (K .s) xs) (r .1), r .2)
 
   abbrev kb : Body → List ℕ × List ℕ
   kb y = (K .s .writers, stampMessage (stampIn y .number) (stampIn y .writer))
 
   clock-in : (y : Body) → kindOf y ≡ 2 → checks (K .s .P) (K .s .writers) (stampIn y) ≡ true → In (kb y) (flat (clockChecks (K .s)) (clockStamps y))
   unfolding flat clockChecks In
-  clock-in (clockReply a) k e = left-in (kb (clockReply a)) (cond (checks (K .s .P) (K .s .writers) a) (kb (clockReply a) ∷ []) []) [] (subst (λ (b : Bool). In (kb (clockReply a)) (cond b (kb (clockReply a) ∷ []) [])) (sym e) (inl refl))
+  clock-in (clockReply a) k e = left-in (kb (clockReply a)) (cond (checks (K .s .P) (K .s .writers) a) (kb (clockReply a) ∷ []) []) []
+      (subst (λ (b : Bool). In (kb (clockReply a)) (cond b (kb (clockReply a) ∷ []) [])) (sym e) (inl refl))
   clock-in clock k e = absurd (omega (arith, k))
   clock-in (store x) k e = absurd (omega (arith, k))
   clock-in (storeReply x) k e = absurd (omega (arith, k))
@@ -157,8 +172,10 @@ module _ (K : Setup) where
       go (rbegan s a i e) = subst (Goal M) (sym e) (omega (arith, up, h c .0), tt)
       go (quit s a i e) = subst (Goal M) (sym e) (omega (arith, up, h c .0), tt)
       go (took p b o s rd fit e v) =
-          let u = update-low c N (w .client c) (p .head .server) (p .body) _ _ (hand K xs c) refl (h c .0) (h c .1) (λ k t. checked (fit .kind ∙ k) t) in
-          let q : M ≡ N + length (stampedFrom c (hand K xs c) (cl' .hand)) = omega (arith, length-append (stampedAt (K .s) (account (K .s)) x xs) (marks (K .s) xs), ap length at-take) in
+          let u = update-low c N (w .client c) (p .head .server) (p .body) _ _ (hand K xs c) refl (h c .0) (h c .1)
+          (λ k t. checked (fit .kind ∙ k) t) in
+          let q : M ≡ N + length (stampedFrom c (hand K xs c) (cl' .hand)) =
+          omega (arith, length-append (stampedAt (K .s) (account (K .s)) x xs) (marks (K .s) xs), ap length at-take) in
           subst (λ (m : ℕ). Goal m cl') (sym q) (subst (λ (y : Client). Goal (N + length (stampedFrom c (hand K xs c) (y .hand))) y) (sym e) u)
         where
           at-take : stampedAt (K .s) (account (K .s)) x xs ≡ stampedFrom c (hand K xs c) (cl' .hand)
@@ -172,8 +189,11 @@ module _ (K : Setup) where
               let i : In (kb (p .body)) (tagsChecked (K .s) (account (K .s)) x xs) =
               subst (λ (z : Bool). In (kb (p .body)) (cond z (checkedBy (K .s) (account (K .s) .server xs) (x .step)) [])) (sym fine)
               (subst (λ (y : Step). In (kb (p .body)) (checkedBy (K .s) (account (K .s) .server xs) y)) (sym s)
-              (subst (λ (q : Option Packet). In (kb (p .body)) (flat (clockChecks (K .s)) (inPacket clockStamps q))) (sym rd) (clock-in (p .body) k t))) in
-              let m = made-num (K .s .writers) (stampIn (p .body) .number) (stampIn (p .body) .writer) xs (all-in (λ z. Ever (λ y ys. In z (tagsMade (K .s) (account (K .s)) y ys)) xs) (tagsChecked (K .s) (account (K .s)) x xs) (fair .0 .unforged) _ i) in
+              (subst (λ (q : Option Packet). In (kb (p .body)) (flat (clockChecks (K .s)) (inPacket clockStamps q))) (sym rd)
+              (clock-in (p .body) k t))) in
+              let m = made-num (K .s .writers) (stampIn (p .body) .number) (stampIn (p .body) .writer) xs
+              (all-in (λ z. Ever (λ y ys. In z (tagsMade (K .s) (account (K .s)) y ys)) xs) (tagsChecked (K .s) (account (K .s)) x xs)
+              (fair .0 .unforged) _ i) in
               omega (arith, m .2, mark-small xs h (m .0) (m .1))
 
   pub small : (xs : Steps K) → Fair K xs → Small xs

@@ -1,5 +1,5 @@
--- The claim on values: for every system with its laws and every run that meets the premises there is one order of the calls, a write given up before its complete
--- round is in none, and a round in hand lacks a quorum of correct replies.
+-- The claim on values: for every system with its laws and every run that meets the premises there is one order of the calls, a write given up
+-- before its complete round is in none, and a round in hand lacks a quorum of correct replies.
 -- Assumes nothing.
 use mathlib.Core.Path.{_≡_, refl, sym, ap, _∙_, subst}
 use mathlib.Core.Bool.{Bool, true, false, cond, not, _&&_, _||_}
@@ -26,7 +26,8 @@ use Rattle.atomicity.proofs.Rounds.{since, from}
 use Rattle.atomicity.proofs.States.{S, Q, right, HandOk}
 use Rattle.atomicity.proofs.Invariant.{Hands, hands-all}
 use Rattle.atomicity.proofs.Calls.{CallOk}
-use Rattle.atomicity.proofs.Logs.{Log, Signed}
+use Rattle.atomicity.proofs.Shape.{Log}
+use Rattle.atomicity.proofs.Logs.{Signed}
 use Rattle.atomicity.proofs.Story.{story, story-log}
 use Rattle.atomicity.proofs.Ordering.{in-perm, perm-sym}
 use Rattle.atomicity.proofs.Safety.{order}
@@ -63,20 +64,24 @@ module _ (K : Setup) (xs : Steps K) (fair : Fair K xs) where
   short c m (storing d g) busy ok w n k l = omega (arith, ok .short, l)
   short c m (completing d) busy ok w n k l = omega (arith, ok .short, l)
   short c m (collecting g) busy ok w n k l = omega (arith, ok .short, l)
-  short c m (filtering cs g) busy ok w n k l = bool-case (ltb n (Q K)) (λ e. ltb-true n (Q K) e) (λ e. absurd (decides K xs fair cs g m w (omega (arith, k, ltb-false n (Q K) e))))
+  short c m (filtering cs g) busy ok w n k l =
+      bool-case (ltb n (Q K)) (λ e. ltb-true n (Q K) e) (λ e. absurd (decides K xs fair cs g m w (omega (arith, k, ltb-false n (Q K) e))))
   short c m (repairing d r) busy ok w n k l = omega (arith, ok .short, l)
 
   pub progress : Progress (K .s) (account (K .s)) (K .correct) xs
   unfolding Progress Hands CameTo Roomy
   progress c good busy room bs d came =
       let m = now (K .s) xs .client c .marks in
-      let each : (b : ℕ) → In b bs → (right K b ≡ true) × (m b ≡ true) = λ b i. let k = all-in (λ b. (right K b ≡ true) × CameIn (K .s) (account (K .s)) (K .correct) xs c b) bs came b i in
+      let each : (b : ℕ) → In b bs → (right K b ≡ true)
+      × (m b ≡ true) = λ b i. let k = all-in (λ b. (right K b ≡ true) × CameIn (K .s) (account (K .s)) (K .correct) xs c b) bs came b i in
       (k .0, arrived K c xs fair good b (calls K xs c) (awaits (hand K xs c)) refl refl busy (roomy room) (k .1)) in
       short c m (hand K xs c) busy (hands-all K xs fair .0 c good) (waiting K xs fair c good) (length bs)
-      (marked-count (S K) bs (λ j. right K j && m j) d (λ b i. let e = each b i in let rg = K .parties .servers b (e .0) in (rg .0, rg .1, and-intro _ _ (e .0) (e .1))))
+      (marked-count (S K) bs (λ j. right K j && m j) d
+      (λ b i. let e = each b i in let rg = K .parties .servers b (e .0) in (rg .0, rg .1, and-intro _ _ (e .0) (e .1))))
       (marked-count (S K) bs m d (λ b i. let e = each b i in let rg = K .parties .servers b (e .0) in (rg .0, rg .1, e .1)))
     where
-      roomy : (leb 8 (awaits (hand K xs c)) ≡ true) ⊎ (begunWrites (Log K xs) ≤ capacity) → (8 ≤ awaits (hand K xs c)) ⊎ (length (marks (K .s) xs) ≤ capacity)
+      roomy : (leb 8 (awaits (hand K xs c)) ≡ true) ⊎ (begunWrites (Log K xs) ≤ capacity) → (8 ≤ awaits (hand K xs c))
+          ⊎ (length (marks (K .s) xs) ≤ capacity)
       roomy (inl h) = inl (leb-true 8 (awaits (hand K xs c)) h)
       roomy (inr h) = inr (omega (arith, h, few-marks K xs fair))
 

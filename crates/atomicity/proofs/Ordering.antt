@@ -1,4 +1,5 @@
--- From "who ended before another began has the lower key" and "a read's write is the last one below it" to the one order: the calls that count, sorted by key.
+-- From "who ended before another began has the lower key" and "a read's write is the last one below it" to the one order: the calls that
+-- count, sorted by key.
 -- Assumes nothing.
 use mathlib.Core.Path.{_≡_, refl, sym, ap, _∙_, subst}
 use mathlib.Core.Bool.{Bool, true, false, cond, true≢false}
@@ -69,7 +70,8 @@ module _ {A : Type 0} (call : A → Call) (less : A → A → Bool)
           keep-it (inl q) = absurd (no-some (sym e ∙ ap (λ (x : A). call x .wrote) (sym q) ∙ p .3 .1))
           keep-it (inr k) = inr (p .0, p .1, p .2, (k, p .3 .1, p .3 .2, λ x u j. p .3 .3 x u (inr j)))
 
-  past-write : (m : Option (List ℕ)) (c : A) (v : List ℕ) (cs : List A) → call c .wrote ≡ some v → Sorted (c ∷ cs) → Reads m (c ∷ cs) → Reads (some v) cs
+  past-write : (m : Option (List ℕ)) (c : A) (v : List ℕ) (cs : List A) → call c .wrote ≡ some v → Sorted (c ∷ cs) → Reads m (c ∷ cs) →
+      Reads (some v) cs
   unfolding Reads Explained Clear Last In Sorted AllPairs
   past-write m c v cs e s h r i n = go (h r (inr i) n)
     where
@@ -101,7 +103,8 @@ module _ {A : Type 0} (call : A → Call) (less : A → A → Bool)
           here (inl q) = no-some (sym e ∙ ap (λ (x : A). call x .wrote) (sym q) ∙ p .3 .1)
           here (inr k) = asym c (p .0) (all-in (λ x. less c x ≡ true) cs (s .0) (p .0) k) (p .3 .2)
 
-      go : (o : Option (List ℕ)) → call c .wrote ≡ o → (call c .wrote ≡ none → Replay m (map call cs)) → ((v : List ℕ) → call c .wrote ≡ some v → Replay (some v) (map call cs)) →
+      go : (o : Option (List ℕ)) → call c .wrote ≡ o → (call c .wrote ≡ none → Replay m (map call cs)) →
+          ((v : List ℕ) → call c .wrote ≡ some v → Replay (some v) (map call cs)) →
           shows m o (call c) × Replay (holds m o) (map call cs)
       go none e f g = (mine e (h c (inl refl) e), f e)
       go (some v) e f g = (tt, g v e)
@@ -114,7 +117,10 @@ module _ {A : Type 0} (call : A → Call) (less : A → A → Bool)
     where
       each : (xs : List A) → ((x : A) → In x xs → In x cs) → All (λ x. less c x ≡ true) xs → All (λ x. before x (call c) ≡ false) (map call xs)
       each [] sub h = tt
-      each (x ∷ xs) sub h = (untrue (before (call x) (call c)) (λ b. asym c x (h .0) (t x c (inr (sub x (inl refl))) (inl refl) b)), each xs (λ y i. sub y (inr i)) (h .1))
+      each (x ∷ xs) sub h = (
+        untrue (before (call x) (call c)) (λ b. asym c x (h .0) (t x c (inr (sub x (inl refl))) (inl refl) b)),
+        each xs (λ y i. sub y (inr i)) (h .1),
+      )
 
   -- membership in the sorted list, both ways
   all-self : (xs : List A) → All (λ x. In x xs) xs
@@ -145,7 +151,8 @@ module _ {A : Type 0} (call : A → Call) (less : A → A → Bool)
   keep-call [] = refl
   keep-call (c ∷ cs) = go (counted (call c)) (keep-call cs)
     where
-      go : (b : Bool) → keep counted (map call cs) ≡ map call (count-in cs) → cond b (call c ∷ keep counted (map call cs)) (keep counted (map call cs)) ≡ map call (cond b (c ∷ count-in cs) (count-in cs))
+      go : (b : Bool) → keep counted (map call cs) ≡ map call (count-in cs) →
+          cond b (call c ∷ keep counted (map call cs)) (keep counted (map call cs)) ≡ map call (cond b (c ∷ count-in cs) (count-in cs))
       go true e = ap (λ (l : List Call). call c ∷ l) e
       go false e = e
 

@@ -1,5 +1,5 @@
--- The laws that the proof rests on, of the real digest, tag and fragments and the real packets, on document 01's shelf; and with them the claim of the
--- operations on bytes, which give the same account of every run as the steps on values.
+-- The laws that the proof rests on, of the real digest, tag and fragments and the real packets, on document 01's shelf; and with them the
+-- claim of the operations on bytes, which give the same account of every run as the steps on values.
 -- Assumes nothing.
 use mathlib.Core.Path.{_≡_, refl, sym, ap, _∙_, subst}
 use mathlib.Core.Bool.{Bool, true, false}
@@ -52,7 +52,8 @@ different (x ∷ is) h = (apart-from x is (h .0), different is (h .1))
 
 -- ---- packets
 
-head-ranges : (b : List ℕ) (p : Packet) → decode b ≡ some p → (1 ≤ p .head .client) × (p .head .client ≤ topClient) × (1 ≤ p .head .server) × (p .head .server ≤ shelf (p .head .t) .servers)
+head-ranges : (b : List ℕ) (p : Packet) → decode b ≡ some p → (1 ≤ p .head .client) × (p .head .client ≤ topClient) × (1 ≤ p .head .server)
+    × (p .head .server ≤ shelf (p .head .t) .servers)
 unfolding PacketOk packetF headF via seq keep byte number4
 head-ranges b p e = let o = decode-ok b p e .0 in
     (o .1 .1 .0 .0, o .1 .1 .0 .1, o .1 .1 .1 .0 .0, leb-true (p .head .server) (shelf (p .head .t) .servers) (o .0))
@@ -64,7 +65,8 @@ Restores P c =
     → P .restored (c .points) (c .shares) (length r) (map (λ i. record { server = i; bytes = P .fragment (c .points) (c .shares) r i }) is) ≡ r
 
 pub real-restores : (t : ℕ) → 1 ≤ t → t ≤ topFaults → Restores real (shelf t)
-real-restores t lo hi r b is d a l = restores-parts (shelf t) (legal-shelf t lo hi) r b is (all-at (λ i. (1 ≤ i) × (i ≤ shelf t .servers)) is a) (different is d) l
+real-restores t lo hi r b is d a l =
+    restores-parts (shelf t) (legal-shelf t lo hi) r b is (all-at (λ i. (1 ≤ i) × (i ≤ shelf t .servers)) is a) (different is d) l
 
 -- the laws of all primitives of these lengths that give contents back, on a shelf of document 01
 module _ (P : Primitives) (size : Lengths P) (sh : Shelf) (lo : 1 ≤ sh .t) (hi : sh .t ≤ topFaults) where
@@ -99,4 +101,5 @@ real-laws sh lo hi = laws-of real real-lengths sh lo hi (real-restores (sh .t) l
 -- demand 3
 pub atomic-and-live : Demand3
 unfolding Demand3
-atomic-and-live sh lo hi = claimed real real-lengths sh (lo, hi) (OneServer (systemOf sh)) (one-server (systemOf sh) (legal-shelf (sh .t) lo hi) (real-laws sh lo hi))
+atomic-and-live sh lo hi = claimed real real-lengths sh (lo, hi) (OneServer (systemOf sh))
+    (one-server (systemOf sh) (legal-shelf (sh .t) lo hi) (real-laws sh lo hi))

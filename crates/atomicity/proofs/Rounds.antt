@@ -1,5 +1,5 @@
--- How a reply may move a hand, a client's position (call and round), and the moments when its call and its round began.
--- A reply that is let in leaves the round as it is or ends it, so a position never falls, and within one position the request is the same.
+-- How a reply may move a hand, a client's position (call and round), and the moments when its call and its round began. A reply that is let in
+-- leaves the round as it is or ends it, so a position never falls, and within one position the request is the same.
 -- Assumes nothing.
 use mathlib.Core.Path.{_≡_, refl, sym, ap, _∙_, subst}
 use mathlib.Core.Bool.{Bool, true, false, cond, not, _&&_, _||_}
@@ -53,7 +53,8 @@ module _ (s : System) (c : ℕ) where
     pub fine : accepted (u .result) ≡ true
     pub next : Next s c h (cl .last) (u .client .hand) (u .client .last)
 
-  found-turned : (cl : Client) (cs : List Candidate) (g g' : ByServer Held) (m : ByServer Bool) (d : Candidate) (b : ℕ) → Turned cl (filtering cs g) (found (s .P) (s .config) c (s .writers) (s .keys) cl m g' d b)
+  found-turned : (cl : Client) (cs : List Candidate) (g g' : ByServer Held) (m : ByServer Bool) (d : Candidate) (b : ℕ) →
+      Turned cl (filtering cs g) (found (s .P) (s .config) c (s .writers) (s .keys) cl m g' d b)
   unfolding found onto
   found-turned cl cs g g' m d b = cond-both (Turned cl (filtering cs g)) (sameList (tagsIn (s .P) (s .config) d (g' b .share)) (d .tags)) _ _
       (record { calls = refl; fine = refl; next = over (filtering cs g) _ }) (record { calls = refl; fine = refl; next = filter-ends cs g _ _ _ })
@@ -65,14 +66,23 @@ module _ (s : System) (c : ℕ) where
   judge-turned cl cs g g' m (l ∷ ls) none = record { calls = refl; fine = refl; next = filter-on cs g g' _ }
   judge-turned cl cs g g' m (l ∷ ls) (some d) = found-turned cl cs g g' m d (leader (s .P) (s .config) m g' d (s .config .servers))
 
-  pub turned : (cl : Client) (b : ℕ) (x : Body) (m : ByServer Bool) (full : Bool) (h : Hand) → cl .hand ≡ h → Turned cl h (updated s c cl b x m full h)
+  pub turned : (cl : Client) (b : ℕ) (x : Body) (m : ByServer Bool) (full : Bool) (h : Hand) → cl .hand ≡ h →
+      Turned cl h (updated s c cl b x m full h)
   unfolding update onto
-  turned cl b x m full idle e = record { calls = refl; fine = refl; next = subst (λ (z : Hand). Next s c idle (cl .last) z (cl .last)) (sym e) (stays idle _) }
+  turned cl b x m full idle e = record {
+    calls = refl;
+    fine = refl;
+    next = subst (λ (z : Hand). Next s c idle (cl .last) z (cl .last)) (sym e) (stays idle _);
+  }
   turned cl b x m true (clocking r n k) e = let l = higher-le s k (stampIn x) in
       record { calls = refl; fine = refl; next = clock-ends r n k (higher (s .P) (s .writers) k (stampIn x)) _ l }
   turned cl b x m false (clocking r n k) e = record { calls = refl; fine = refl; next = clock-on r n k _ _ (higher-le s k (stampIn x)) }
   turned cl b x m full (storing d h) e = cond-both (Turned cl (storing d h)) (eqb (codeIn x) 11) _ _
-      (record { calls = refl; fine = refl; next = subst (λ (z : Hand). Next s c (storing d h) (cl .last) z (cl .last)) (sym e) (stays (storing d h) _) })
+      (record {
+        calls = refl;
+        fine = refl;
+        next = subst (λ (z : Hand). Next s c (storing d h) (cl .last) z (cl .last)) (sym e) (stays (storing d h) _);
+      })
       (cond-both (Turned cl (storing d h)) full _ _
       (record { calls = refl; fine = refl; next = store-ends d h _ }) (record { calls = refl; fine = refl; next = stays (storing d h) _ }))
   turned cl b x m true (completing d) e = record { calls = refl; fine = refl; next = over (completing d) _ }
@@ -119,7 +129,8 @@ stage-bound (filtering cs g) = (omega arith, omega arith)
 stage-bound (repairing d r) = (omega arith, omega arith)
 
 -- a reply leaves the hand's round and request as they are, or ends the round
-pub next-stage : (s : System) (c : ℕ) (h : Hand) (l : ℕ) (h' : Hand) (l' : ℕ) → Next s c h l h' l' → (stage h ≤ stage h') × (stage h ≡ stage h' → (b : ℕ) → request h b ≡ request h' b)
+pub next-stage : (s : System) (c : ℕ) (h : Hand) (l : ℕ) (h' : Hand) (l' : ℕ) → Next s c h l h' l' → (stage h ≤ stage h')
+    × (stage h ≡ stage h' → (b : ℕ) → request h b ≡ request h' b)
 unfolding stage prepared
 next-stage s c h a h' b (stays _ _) = (le-refl _, λ e b. refl)
 next-stage s c h a h' b (clock-on r n k k' _ l) = (le-refl _, λ e b. refl)
@@ -161,7 +172,12 @@ module _ (s : System) where
   later-fresh : (cl : Client) (h : Hand) → Later cl (begun cl h)
   unfolding pos begun
   later-fresh cl h = let a = stage-bound (cl .hand) in let b = stage-bound h in
-      record { mono = omega (arith, a .1, b .0); same-ask = λ q. absurd (omega (arith, q, a .1, b .0)); same-calls = λ q. absurd (omega (arith, q, a .1, b .0)); calls-mono = omega arith }
+      record {
+        mono = omega (arith, a .1, b .0);
+        same-ask = λ q. absurd (omega (arith, q, a .1, b .0));
+        same-calls = λ q. absurd (omega (arith, q, a .1, b .0));
+        calls-mono = omega arith;
+      }
 
   quitted : (c : ℕ) (cl : Client) → Later cl (onto cl nobody idle)
   unfolding onto
@@ -192,27 +208,32 @@ module _ (s : System) where
   from c [] = []
   from c (x ∷ xs) = cond (eqb (pos (now s xs .client c)) (pos (now s (x ∷ xs) .client c))) (from c xs) (x ∷ xs)
 
-  pub since-same : (c : ℕ) (x : Typed (s .config)) (xs : Run s) → now s xs .client c .calls ≡ now s (x ∷ xs) .client c .calls → since c (x ∷ xs) ≡ since c xs
+  pub since-same : (c : ℕ) (x : Typed (s .config)) (xs : Run s) → now s xs .client c .calls ≡ now s (x ∷ xs) .client c .calls →
+      since c (x ∷ xs) ≡ since c xs
   unfolding since
   since-same c x xs e = ap (λ (b : Bool). cond b (since c xs) xs) (eq-eqb _ _ e)
 
   pub since-new : (c : ℕ) (x : Typed (s .config)) (xs : Run s) → now s xs .client c .calls < now s (x ∷ xs) .client c .calls → since c (x ∷ xs) ≡ xs
   unfolding since
-  since-new c x xs l = ap (λ (b : Bool). cond b (since c xs) xs) (ne-eqb (now s xs .client c .calls) (now s (x ∷ xs) .client c .calls) (λ q. omega (arith, q)))
+  since-new c x xs l = ap (λ (b : Bool). cond b (since c xs) xs)
+      (ne-eqb (now s xs .client c .calls) (now s (x ∷ xs) .client c .calls) (λ q. omega (arith, q)))
 
-  pub from-same : (c : ℕ) (x : Typed (s .config)) (xs : Run s) → pos (now s xs .client c) ≡ pos (now s (x ∷ xs) .client c) → from c (x ∷ xs) ≡ from c xs
+  pub from-same : (c : ℕ) (x : Typed (s .config)) (xs : Run s) → pos (now s xs .client c) ≡ pos (now s (x ∷ xs) .client c) →
+      from c (x ∷ xs) ≡ from c xs
   unfolding from
   from-same c x xs e = ap (λ (b : Bool). cond b (from c xs) (x ∷ xs)) (eq-eqb _ _ e)
 
   pub from-new : (c : ℕ) (x : Typed (s .config)) (xs : Run s) → pos (now s xs .client c) < pos (now s (x ∷ xs) .client c) → from c (x ∷ xs) ≡ x ∷ xs
   unfolding from
-  from-new c x xs l = ap (λ (b : Bool). cond b (from c xs) (x ∷ xs)) (ne-eqb (pos (now s xs .client c)) (pos (now s (x ∷ xs) .client c)) (λ q. omega (arith, q)))
+  from-new c x xs l = ap (λ (b : Bool). cond b (from c xs) (x ∷ xs))
+      (ne-eqb (pos (now s xs .client c)) (pos (now s (x ∷ xs) .client c)) (λ q. omega (arith, q)))
 
   -- an earlier moment, seen from now
   pub record Before (c : ℕ) (ys xs : Run s) : Type 0 where
     pub low : pos (now s ys .client c) ≤ pos (now s xs .client c)
     pub round : pos (now s ys .client c) ≡ pos (now s xs .client c) →
-        (from c ys ≡ from c xs) × (since c ys ≡ since c xs) × ((b : ℕ) → request (now s ys .client c .hand) b ≡ request (now s xs .client c .hand) b) × (now s ys .client c .calls ≡ now s xs .client c .calls)
+        (from c ys ≡ from c xs) × (since c ys ≡ since c xs) × ((b : ℕ) → request (now s ys .client c .hand) b ≡ request (now s xs .client c .hand) b)
+        × (now s ys .client c .calls ≡ now s xs .client c .calls)
 
   pub before-one : (c : ℕ) (x : Typed (s .config)) (xs : Run s) → Before c xs (x ∷ xs)
   unfolding nowValues

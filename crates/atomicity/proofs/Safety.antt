@@ -1,5 +1,6 @@
--- The one order of a run's calls: sorted by stamp, a write before its reads, then by the begin. Real time holds because a call's stamp is above, or no lower
--- than, what had ended when it began; each read gives the last write below it because that write's call is in the log and no other write has its stamp.
+-- The one order of a run's calls: sorted by stamp, a write before its reads, then by the begin. Real time holds because a call's stamp is
+-- above, or no lower than, what had ended when it began; each read gives the last write below it because that write's call is in the log and
+-- no other write has its stamp.
 -- Assumes nothing.
 use mathlib.Core.Path.{_≡_, refl, sym, ap, _∙_, subst}
 use mathlib.Core.Bool.{Bool, true, false, cond, not, _&&_, _||_}
@@ -26,7 +27,8 @@ use Rattle.atomicity.proofs.Rounds.{since}
 use Rattle.atomicity.proofs.Marks.{mark-num, mark-who, by-stamp, mark-source, above}
 use Rattle.atomicity.proofs.Begun.{by-nonce}
 use Rattle.atomicity.proofs.Calls.{MarkAt, mark-at, Given, Base}
-use Rattle.atomicity.proofs.Logs.{Log, Signed}
+use Rattle.atomicity.proofs.Shape.{Log}
+use Rattle.atomicity.proofs.Logs.{Signed}
 use Rattle.atomicity.proofs.Story.{story, story-log, story-pairs, Counts, shown-call}
 use Rattle.atomicity.proofs.Keys.{lex-lt, lex-eq, lex-view, part, lesser, less, less-chain, less-asym, less-total, Rest, less-rest, between}
 use Rattle.atomicity.proofs.Ordering.{Clear, Last, Explained, Reads, one-order, in-perm, perm-sym}
@@ -58,12 +60,15 @@ wrote-case {B} a f g = go (a .wrote) refl
 
 module _ (K : Setup) where
   -- a mark tells when its call began
-  mark-when : (xs : Steps K) (m k : Stamped) (t u : ℕ) → m .client ≡ k .client → m .stamp .number ≡ k .stamp .number → MarkAt K m t xs → MarkAt K k u xs → t ≡ u
+  mark-when : (xs : Steps K) (m k : Stamped) (t u : ℕ) → m .client ≡ k .client → m .stamp .number ≡ k .stamp .number → MarkAt K m t xs →
+      MarkAt K k u xs → t ≡ u
   unfolding Ever nowValues
   mark-when [] m k t u w n h i = absurd h
   mark-when (x ∷ xs) m k t u w n (inl h) (inl i) = sym (h .1) ∙ ap (λ (c : ℕ). length (since (K .s) c xs)) w ∙ i .1
-  mark-when (x ∷ xs) m k t u w n (inl h) (inr i) = absurd (omega (arith, n, above (K .s) x xs m k w (mark-source (K .s) (now (K .s) xs) (x .step) m (h .0)) (mark-at K k u xs i)))
-  mark-when (x ∷ xs) m k t u w n (inr h) (inl i) = absurd (omega (arith, n, above (K .s) x xs k m (sym w) (mark-source (K .s) (now (K .s) xs) (x .step) k (i .0)) (mark-at K m t xs h)))
+  mark-when (x ∷ xs) m k t u w n (inl h) (inr i) =
+      absurd (omega (arith, n, above (K .s) x xs m k w (mark-source (K .s) (now (K .s) xs) (x .step) m (h .0)) (mark-at K k u xs i)))
+  mark-when (x ∷ xs) m k t u w n (inr h) (inl i) =
+      absurd (omega (arith, n, above (K .s) x xs k m (sym w) (mark-source (K .s) (now (K .s) xs) (x .step) k (i .0)) (mark-at K m t xs h)))
   mark-when (x ∷ xs) m k t u w n (inr h) (inr i) = mark-when xs m k t u w n h i
 
   module _ (xs : Steps K) (fair : Fair K xs) where
@@ -110,17 +115,25 @@ module _ (K : Setup) where
       where
         ended : (o : ℕ) → a .call .over ≡ some o → o < b .call .begun → keyless a b ≡ true
         ended e q l = let E = a .ok .base .ended e q in wrote-case (b .call)
-            (λ r. let R = b .ok .base .read (read-over b j r .0) r (read-over b j r .1) in tail r (le-view (a .stamp) (b .stamp) (R .floor (a .stamp) e (E .2) l)) (omega (arith, E .0, l)))
+            (λ r. let R = b .ok .base .read (read-over b j r .0) r (read-over b j r .1) in
+            tail r (le-view (a .stamp) (b .stamp) (R .floor (a .stamp) e (E .2) l)) (omega (arith, E .0, l)))
             (λ v w. lex-lt (a .stamp .number) (b .stamp .number) _ (b .ok .base .write v w (write-reached b j v w) .floor (a .stamp) e (E .2) l))
           where
             last : b .call .wrote ≡ none → a .call .begun < b .call .begun → lesser (a .call) (b .call) ≡ true
-            last r l = wrote-case (a .call) (λ w. lex-eq (part (a .call)) (part (b .call)) _ (part-read (a .call) w ∙ sym (part-read (b .call) r)) (lt-ltb (a .call .begun) (b .call .begun) l))
+            last r l = wrote-case (a .call)
+                (λ w. lex-eq (part (a .call)) (part (b .call)) _ (part-read (a .call) w ∙ sym (part-read (b .call) r))
+                (lt-ltb (a .call .begun) (b .call .begun) l))
                 (λ v w. lex-lt (part (a .call)) (part (b .call)) _ (omega (arith, part-write (a .call) v w, part-read (b .call) r)))
 
-            tail : b .call .wrote ≡ none → (a .stamp .number < b .stamp .number) ⊎ ((a .stamp .number ≡ b .stamp .number) × (a .stamp .writer ≤ b .stamp .writer)) → a .call .begun < b .call .begun → keyless a b ≡ true
+            tail : b .call .wrote ≡ none → (a .stamp .number < b .stamp .number)
+                ⊎ ((a .stamp .number ≡ b .stamp .number) × (a .stamp .writer ≤ b .stamp .writer)) → a .call .begun < b .call .begun →
+                keyless a b ≡ true
             tail r (inl n) l = lex-lt (a .stamp .number) (b .stamp .number) _ n
-            tail r (inr n) l = lex-eq (a .stamp .number) (b .stamp .number) _ (n .0) (bool-case (ltb (a .stamp .writer) (b .stamp .writer)) (λ t. lex-lt (a .stamp .writer) (b .stamp .writer) _ (ltb-true _ _ t))
-                (λ t. lex-eq (a .stamp .writer) (b .stamp .writer) _ (let z : a .stamp .writer ≡ b .stamp .writer = omega (arith, n .1, ltb-false (a .stamp .writer) (b .stamp .writer) t) in z) (last r l)))
+            tail r (inr n) l = lex-eq (a .stamp .number) (b .stamp .number) _ (n .0)
+                (bool-case (ltb (a .stamp .writer) (b .stamp .writer)) (λ t. lex-lt (a .stamp .writer) (b .stamp .writer) _ (ltb-true _ _ t))
+                (λ t. lex-eq (a .stamp .writer) (b .stamp .writer) _
+                (let z : a .stamp .writer ≡ b .stamp .writer = omega (arith, n .1, ltb-false (a .stamp .writer) (b .stamp .writer) t) in z)
+                (last r l)))
 
         go : (o : Option ℕ) → a .call .over ≡ o → endedBy o (b .call .begun) ≡ true → keyless a b ≡ true
         go none q k = clash k refl
@@ -131,13 +144,20 @@ module _ (K : Setup) where
     unfolding Reads Explained Clear Last counted less lesser
     reads r i w = let o = read-over r i w in go (r .ok .base .read (o .0) w (o .1) .value)
       where
-        go : ((r .call .answer ≡ none) × (r .stamp ≡ blankStamp)) ⊎ ((m : Stamped) × Given K xs (r .call) (r .stamp) m) → Explained callOf keyless chain asym none gs r
+        go : ((r .call .answer ≡ none) × (r .stamp ≡ blankStamp)) ⊎ ((m : Stamped) × Given K xs (r .call) (r .stamp) m) →
+            Explained callOf keyless chain asym none gs r
         go (inl p) = inl (p .0, λ u v j q l. clear u v j q (less-rest (u .stamp) (u .call) (r .stamp) (r .call) l))
           where
             clear : (u : Signed K xs) (v : List ℕ) → In u gs → u .call .wrote ≡ some v → Rest (u .stamp) (u .call) (r .stamp) (r .call) → ⊥
             clear u v j q (inl k) = omega (arith, k, ap (λ (a : Stamp). a .number) (p .1))
             clear u v j q (inr k) = let W = u .ok .base .write v q (write-reached u j v q) in
-                omega (arith, k .0, ap (λ (a : Stamp). a .number) (p .1), mark-num (K .s) xs (W .write) (mark-at K (W .write) (u .call .begun) xs (W .since-when)), ap (λ (a : Stamp). a .number) (W .stamp-is))
+                omega (
+                  arith,
+                  k .0,
+                  ap (λ (a : Stamp). a .number) (p .1),
+                  mark-num (K .s) xs (W .write) (mark-at K (W .write) (u .call .begun) xs (W .since-when)),
+                  ap (λ (a : Stamp). a .number) (W .stamp-is),
+                )
         go (inr g) = inr (
           C .known,
           m .content,
@@ -146,7 +166,8 @@ module _ (K : Setup) where
             among,
             C .wrote ∙ ap (λ (z : Stamped). some (z .content)) eq,
             below-it,
-            λ u v j q l k. last u v j q (between (C .known .stamp) (C .known .call) (u .stamp) (u .call) (r .stamp) (r .call) (ap (λ (a : Stamp). a .number) stamps) (ap (λ (a : Stamp). a .writer) stamps)
+            λ u v j q l k. last u v j q (between (C .known .stamp) (C .known .call) (u .stamp) (u .call) (r .stamp) (r .call)
+                (ap (λ (a : Stamp). a .number) stamps) (ap (λ (a : Stamp). a .writer) stamps)
                 (less-rest (C .known .stamp) (C .known .call) (u .stamp) (u .call) k) (less-rest (u .stamp) (u .call) (r .stamp) (r .call) l)),
           ),
         )
@@ -164,34 +185,47 @@ module _ (K : Setup) where
             stamps = sym (C .stamp-is) ∙ ap (λ (z : Stamped). z .stamp) eq ∙ g .1 .stamp-is
 
             among : In (C .known) gs
-            among = in-keep (λ (g : Signed K xs). counted (g .call)) (story K xs fair) (C .known) (C .among) (or-right (given (C .known .call .over)) _ (and-intro _ _ (ap given (C .wrote)) (C .reached)))
+            among = in-keep (λ (g : Signed K xs). counted (g .call)) (story K xs fair) (C .known) (C .among)
+                (or-right (given (C .known .call .over)) _ (and-intro _ _ (ap given (C .wrote)) (C .reached)))
 
             below-it : keyless (C .known) r ≡ true
             below-it = lex-eq _ _ _ (ap (λ (a : Stamp). a .number) stamps) (lex-eq _ _ _ (ap (λ (a : Stamp). a .writer) stamps)
-                (lex-lt (part (C .known .call)) (part (r .call)) _ (omega (arith, part-write (C .known .call) (C .write .content) (C .wrote), part-read (r .call) w))))
+                (lex-lt (part (C .known .call)) (part (r .call)) _
+                (omega (arith, part-write (C .known .call) (C .write .content) (C .wrote), part-read (r .call) w))))
 
-            last : (u : Signed K xs) (v : List ℕ) → In u gs → u .call .wrote ≡ some v → (C .known .stamp .number ≡ u .stamp .number) × (C .known .stamp .writer ≡ u .stamp .writer) × (lesser (C .known .call) (u .call) ≡ true) → ⊥
+            last : (u : Signed K xs) (v : List ℕ) → In u gs → u .call .wrote ≡ some v → (C .known .stamp .number ≡ u .stamp .number)
+                × (C .known .stamp .writer ≡ u .stamp .writer) × (lesser (C .known .call) (u .call) ≡ true) → ⊥
             last u v j q b =
                 let W = u .ok .base .write v q (write-reached u j v q) in
                 let X = C .known .ok .base .write (C .write .content) (C .wrote) (C .reached) in
                 let wm = mark-at K (W .write) (u .call .begun) xs (W .since-when) in
                 let xm = mark-at K (X .write) (C .known .call .begun) xs (X .since-when) in
-                let sn : X .write .stamp .number ≡ W .write .stamp .number = ap (λ (a : Stamp). a .number) (X .stamp-is) ∙ b .0 ∙ sym (ap (λ (a : Stamp). a .number) (W .stamp-is)) in
-                let sw : X .write .stamp .writer ≡ W .write .stamp .writer = ap (λ (a : Stamp). a .writer) (X .stamp-is) ∙ b .1 ∙ sym (ap (λ (a : Stamp). a .writer) (W .stamp-is)) in
-                let t = mark-when xs (X .write) (W .write) (C .known .call .begun) (u .call .begun) (sym (mark-who (K .s) xs (X .write) xm) ∙ sw ∙ mark-who (K .s) xs (W .write) wm) sn (X .since-when) (W .since-when) in
+                let sn : X .write .stamp .number ≡ W .write .stamp .number = ap (λ (a : Stamp). a .number) (X .stamp-is) ∙ b .0
+                ∙ sym (ap (λ (a : Stamp). a .number) (W .stamp-is)) in
+                let sw : X .write .stamp .writer ≡ W .write .stamp .writer = ap (λ (a : Stamp). a .writer) (X .stamp-is) ∙ b .1
+                ∙ sym (ap (λ (a : Stamp). a .writer) (W .stamp-is)) in
+                let t = mark-when xs (X .write) (W .write) (C .known .call .begun) (u .call .begun)
+                (sym (mark-who (K .s) xs (X .write) xm) ∙ sw ∙ mark-who (K .s) xs (W .write) wm) sn (X .since-when) (W .since-when) in
                 early t (lex-view _ _ _ (b .2))
               where
-                early : C .known .call .begun ≡ u .call .begun → (part (C .known .call) < part (u .call)) ⊎ ((part (C .known .call) ≡ part (u .call)) × (ltb (C .known .call .begun) (u .call .begun) ≡ true)) → ⊥
+                early : C .known .call .begun ≡ u .call .begun → (part (C .known .call) < part (u .call))
+                    ⊎ ((part (C .known .call) ≡ part (u .call)) × (ltb (C .known .call .begun) (u .call .begun) ≡ true)) → ⊥
                 early t (inl k) = omega (arith, k, part-write (u .call) v q)
                 early t (inr k) = omega (arith, t, ltb-true (C .known .call .begun) (u .call .begun) (k .1))
 
     apart : AllPairs (λ a b. (keyless a b ≡ true) ⊎ (keyless b a ≡ true)) gs
     unfolding AllPairs
-    apart = weaken gs (keep-pairs (λ (a b : Signed K xs). b .call .begun < a .call .begun) (λ (g : Signed K xs). counted (g .call)) (story K xs fair) (story-pairs K xs fair))
+    apart = weaken gs (keep-pairs (λ (a b : Signed K xs). b .call .begun < a .call .begun) (λ (g : Signed K xs). counted (g .call)) (story K xs fair)
+        (story-pairs K xs fair))
       where
-        weaken : (l : List (Signed K xs)) → AllPairs (λ (a b : Signed K xs). b .call .begun < a .call .begun) l → AllPairs (λ a b. (keyless a b ≡ true) ⊎ (keyless b a ≡ true)) l
+        weaken : (l : List (Signed K xs)) → AllPairs (λ (a b : Signed K xs). b .call .begun < a .call .begun) l →
+            AllPairs (λ a b. (keyless a b ≡ true) ⊎ (keyless b a ≡ true)) l
         weaken [] h = tt
-        weaken (a ∷ l) h = (all-map (λ (b : Signed K xs). b .call .begun < a .call .begun) (λ b. (keyless a b ≡ true) ⊎ (keyless b a ≡ true)) (λ b k. less-total (a .stamp) (a .call) (b .stamp) (b .call) k) l (h .0), weaken l (h .1))
+        weaken (a ∷ l) h = (
+          all-map (λ (b : Signed K xs). b .call .begun < a .call .begun) (λ b. (keyless a b ≡ true) ⊎ (keyless b a ≡ true))
+              (λ b k. less-total (a .stamp) (a .call) (b .stamp) (b .call) k) l (h .0),
+          weaken l (h .1),
+        )
 
     pub order : OneOrder (Log K xs)
     order = subst OneOrder (story-log K xs fair) (one-order callOf keyless chain asym (story K xs fair) apart fits reads)

@@ -1,4 +1,5 @@
--- A run of the toy shelf: client 1 writes, client 16 is wild and sends a server a made-up candidate, client 9 reads, and server 4 lies to it with that candidate.
+-- A run of the toy shelf: client 1 writes, client 16 is wild and sends a server a made-up candidate, client 9 reads, and server 4 lies to it
+-- with that candidate.
 -- Assumes nothing.
 use mathlib.Core.Path.{_≡_, refl}
 use mathlib.Core.Bool.{true, cond}
@@ -27,7 +28,8 @@ use Rattle.protocol.specs.Runs.{write, read, doValues, nowValues, setClient}
 use Rattle.atomicity.specs.Lists.{flat}
 use Rattle.atomicity.specs.Steps.{stampedFrom, stampedBy, clockChecks, serverChecks, checkedBy, digestsWith, digestedBy, noncesBy}
 use Rattle.atomicity.proofs.Setup.{Steps}
-use Rattle.atomicity.proofs.Playing.{toy, K, packet, allBytes, bytes-ok, serves-it, takes-it, exchange}
+use Rattle.atomicity.proofs.Playing.{toy, K, packet, allBytes, bytes-ok, serves-it, takes-it}
+use Rattle.atomicity.proofs.Exchanges.{exchange}
 
 -- ---- what is written, and what the liar makes up
 
@@ -119,7 +121,53 @@ pub record Fit : Type 0 where
 
 pub fit : Fit
 unfolding toy keyOf packet piece nonce0 content0 cand liar share nonceL shelf upTo quorum pointOf fragment restored table fragmentSize column xtime timesBits times power inverse product eval vanish through byte number2 number4 run seq via keepF orBlank many optional empty packetF headF bodyF stampF anyStampF shareF writeF candidateF anyCandidateF candidatesF heldF codeF decode encode nth runOf isBlank below sameStamp sameCandidate held stampMessage candidateMessage upd nobody countTo any keep first gather lower live fits agrees leads leader highest choice parts restoredBy kept raise byHistory byTag valid best act barred replyTo serverRefusal answered serverStep awaits isIdle stampOf tagsOf candidateMade shareMade sharesMade prepared made onto checks higher isFull found judge update tooHigh writeRefusal readRefusal makeRefusal takeRefusal begun writeStep readStep makeStep turnOn highAt takeStep doValues nowValues setClient flat stampedFrom stampedBy clockChecks serverChecks checkedBy digestsWith digestedBy noncesBy
-fit = record { i1 = refl; a1 = refl; r1 = refl; i2 = refl; a2 = refl; r2 = refl; i3 = refl; a3 = refl; r3 = refl; i4 = refl; a4 = refl; r4 = refl; i5 = refl; a5 = refl; r5 = refl; i6 = refl; a6 = refl; r6 = refl; i7 = refl; a7 = refl; r7 = refl; i8 = refl; a8 = refl; r8 = refl; i9 = refl; a9 = refl; r9 = refl; i10 = refl; a10 = refl; r10 = refl; i11 = refl; a11 = refl; r11 = refl; i12 = refl; a12 = refl; r12 = refl; i13 = refl; a13 = refl; r13 = refl; i14 = refl; a14 = refl; r14 = refl; inside = refl; wild = refl; lie = refl }
+fit = record {
+  i1 = refl;
+  a1 = refl;
+  r1 = refl;
+  i2 = refl;
+  a2 = refl;
+  r2 = refl;
+  i3 = refl;
+  a3 = refl;
+  r3 = refl;
+  i4 = refl;
+  a4 = refl;
+  r4 = refl;
+  i5 = refl;
+  a5 = refl;
+  r5 = refl;
+  i6 = refl;
+  a6 = refl;
+  r6 = refl;
+  i7 = refl;
+  a7 = refl;
+  r7 = refl;
+  i8 = refl;
+  a8 = refl;
+  r8 = refl;
+  i9 = refl;
+  a9 = refl;
+  r9 = refl;
+  i10 = refl;
+  a10 = refl;
+  r10 = refl;
+  i11 = refl;
+  a11 = refl;
+  r11 = refl;
+  i12 = refl;
+  a12 = refl;
+  r12 = refl;
+  i13 = refl;
+  a13 = refl;
+  r13 = refl;
+  i14 = refl;
+  a14 = refl;
+  r14 = refl;
+  inside = refl;
+  wild = refl;
+  lie = refl;
+}
 
 unfoldable pub run1 : Steps K
 run1 = exchange 1 1 1 clock (clockReply blankStamp) (fit .i1) (fit .a1) (fit .r1) run0
@@ -164,10 +212,13 @@ unfoldable pub lied : Steps K
 lied = takes-it 9 (packet 9 4 1 (collectReply liar)) (fit .lie) ∷ run11
 
 unfoldable pub run12 : Steps K
-run12 = exchange 9 1 1 (filter (cand ∷ liar ∷ [])) (filterReply (record { stamp = cand .stamp; share = some (share 1) })) (fit .i12) (fit .a12) (fit .r12) lied
+run12 = exchange 9 1 1 (filter (cand ∷ liar ∷ [])) (filterReply (record { stamp = cand .stamp; share = some (share 1) })) (fit .i12) (fit .a12)
+    (fit .r12) lied
 
 unfoldable pub run13 : Steps K
-run13 = exchange 9 2 1 (filter (cand ∷ liar ∷ [])) (filterReply (record { stamp = cand .stamp; share = some (share 2) })) (fit .i13) (fit .a13) (fit .r13) run12
+run13 = exchange 9 2 1 (filter (cand ∷ liar ∷ [])) (filterReply (record { stamp = cand .stamp; share = some (share 2) })) (fit .i13) (fit .a13)
+    (fit .r13) run12
 
 unfoldable pub run14 : Steps K
-run14 = exchange 9 3 1 (filter (cand ∷ liar ∷ [])) (filterReply (record { stamp = cand .stamp; share = some (share 3) })) (fit .i14) (fit .a14) (fit .r14) run13
+run14 = exchange 9 3 1 (filter (cand ∷ liar ∷ [])) (filterReply (record { stamp = cand .stamp; share = some (share 3) })) (fit .i14) (fit .a14)
+    (fit .r14) run13

@@ -24,7 +24,7 @@ use Rattle.atomicity.specs.Steps.{System, judged}
 use Rattle.atomicity.proofs.Util.{cond-both, cond-case, clash, untrue, and-left, and-right, and-intro, left-in, right-in, split-in}
 use Rattle.atomicity.proofs.Stamps.{below-irrefl, below-asym, le-trans, same-eq, same-stamp, stamp-refl}
 use Rattle.atomicity.proofs.Model.{Run, perform, now, acts, isValid, bestOf}
-use Rattle.atomicity.proofs.Moves.{Served, same, acted, served}
+use Rattle.atomicity.proofs.Serving.{Served, same, acted, served}
 
 -- ---- lookups in a history
 
@@ -33,7 +33,8 @@ unfolding held In
 held-some a f [] h = absurd (let z : _≡_ {A = ℕ} 0 1 = cc in omega arith)
 held-some a f (e ∷ es) h = go (sameStamp (e .stamp) a) refl h (λ k. held-some a f es k)
   where
-    go : (b : Bool) → sameStamp (e .stamp) a ≡ b → cond b (some (e .share)) (held a es) ≡ some f → (held a es ≡ some f → (x : Write) × In x es × (x .stamp ≡ a) × (x .share ≡ f)) →
+    go : (b : Bool) → sameStamp (e .stamp) a ≡ b → cond b (some (e .share)) (held a es) ≡ some f →
+        (held a es ≡ some f → (x : Write) × In x es × (x .stamp ≡ a) × (x .share ≡ f)) →
         (x : Write) × In x (e ∷ es) × (x .stamp ≡ a) × (x .share ≡ f)
     go true q k r = (e, inl refl, same-stamp (e .stamp) a q, let z : e .share ≡ f = cc in z)
     go false q k r = let y = r k in (y .0, inr (y .1), y .2, y .3)
@@ -54,7 +55,8 @@ in-held a (x ∷ es) e (inr i) q = go (sameStamp (x .stamp) a) (in-held a es e i
     go false k = k
 
 -- a write of the history behind a nonce digest
-pub held-digest : (a : Stamp) (d : List ℕ) (es : List Write) → hasDigest d (held a es) ≡ true → (e : Write) × In e es × (e .stamp ≡ a) × (e .share .nonceDigest ≡ d)
+pub held-digest : (a : Stamp) (d : List ℕ) (es : List Write) → hasDigest d (held a es) ≡ true → (e : Write) × In e es × (e .stamp ≡ a)
+    × (e .share .nonceDigest ≡ d)
 held-digest a d es h = go (held a es) refl h
   where
     go : (o : Option Share) → held a es ≡ o → hasDigest d o ≡ true → (e : Write) × In e es × (e .stamp ≡ a) × (e .share .nonceDigest ≡ d)
@@ -65,7 +67,8 @@ held-digest a d es h = go (held a es) refl h
 
 pub raise-ge : (c : Candidate) (v : Server) → below (raise c v .latest .stamp) (c .stamp) ≡ false
 unfolding raise
-raise-ge c v = cond-case (λ (y : Server). below (y .latest .stamp) (c .stamp) ≡ false) (below (v .latest .stamp) (c .stamp)) _ v (λ e. below-irrefl (c .stamp)) (λ e. e)
+raise-ge c v = cond-case (λ (y : Server). below (y .latest .stamp) (c .stamp) ≡ false) (below (v .latest .stamp) (c .stamp)) _ v
+    (λ e. below-irrefl (c .stamp)) (λ e. e)
 
 raise-rises : (c : Candidate) (v : Server) → below (raise c v .latest .stamp) (v .latest .stamp) ≡ false
 unfolding raise
@@ -83,7 +86,8 @@ raise-view c v = cond-both (λ (y : Server). (y .latest ≡ v .latest) ⊎ (y .l
 module _ (s : System) (j : ℕ) where
   -- ---- best: the one begun with, or the highest valid one of the list
 
-  pub best-view : (v : Server) (c : Candidate) (cs : List Candidate) → (bestOf s j v c cs ≡ c) ⊎ (In (bestOf s j v c cs) cs × (isValid s j v (bestOf s j v c cs) ≡ true))
+  pub best-view : (v : Server) (c : Candidate) (cs : List Candidate) → (bestOf s j v c cs ≡ c)
+      ⊎ (In (bestOf s j v c cs) cs × (isValid s j v (bestOf s j v c cs) ≡ true))
   unfolding best In
   best-view v c [] = inl refl
   best-view v c (d ∷ ds) = go (isValid s j v d && below (c .stamp) (d .stamp)) refl (best-view v d ds) (best-view v c ds)
@@ -104,12 +108,14 @@ module _ (s : System) (j : ℕ) where
   best-from v c [] = below-irrefl (c .stamp)
   best-from v c (d ∷ ds) = go (isValid s j v d && below (c .stamp) (d .stamp)) refl (best-from v d ds) (best-from v c ds)
     where
-      go : (t : Bool) → (isValid s j v d && below (c .stamp) (d .stamp)) ≡ t → below (bestOf s j v d ds .stamp) (d .stamp) ≡ false → below (bestOf s j v c ds .stamp) (c .stamp) ≡ false →
+      go : (t : Bool) → (isValid s j v d && below (c .stamp) (d .stamp)) ≡ t → below (bestOf s j v d ds .stamp) (d .stamp) ≡ false →
+          below (bestOf s j v c ds .stamp) (c .stamp) ≡ false →
           below (bestOf s j v (cond t d c) ds .stamp) (c .stamp) ≡ false
       go true e f g = le-trans (c .stamp) (d .stamp) (bestOf s j v d ds .stamp) (below-asym (c .stamp) (d .stamp) (and-right (isValid s j v d) _ e)) f
       go false e f g = g
 
-  pub best-max : (v : Server) (c : Candidate) (cs : List Candidate) (d : Candidate) → In d cs → isValid s j v d ≡ true → below (bestOf s j v c cs .stamp) (d .stamp) ≡ false
+  pub best-max : (v : Server) (c : Candidate) (cs : List Candidate) (d : Candidate) → In d cs → isValid s j v d ≡ true →
+      below (bestOf s j v c cs .stamp) (d .stamp) ≡ false
   unfolding best In
   best-max v c [] d i q = absurd i
   best-max v c (e ∷ es) d (inl q) k = go (isValid s j v e && below (c .stamp) (e .stamp)) refl
@@ -122,7 +128,8 @@ module _ (s : System) (j : ℕ) where
 
       go : (t : Bool) → (isValid s j v e && below (c .stamp) (e .stamp)) ≡ t → below (bestOf s j v (cond t e c) es .stamp) (d .stamp) ≡ false
       go true k = subst (λ (y : Candidate). below (bestOf s j v e es .stamp) (y .stamp) ≡ false) (sym q) (best-from v e es)
-      go false k = subst (λ (y : Candidate). below (bestOf s j v c es .stamp) (y .stamp) ≡ false) (sym q) (le-trans (e .stamp) (c .stamp) (bestOf s j v c es .stamp) (low k) (best-from v c es))
+      go false k = subst (λ (y : Candidate). below (bestOf s j v c es .stamp) (y .stamp) ≡ false) (sym q)
+          (le-trans (e .stamp) (c .stamp) (bestOf s j v c es .stamp) (low k) (best-from v c es))
   best-max v c (e ∷ es) d (inr i) q = best-max v (cond (isValid s j v e && below (c .stamp) (e .stamp)) e c) es d i q
 
   -- ---- one request
@@ -142,7 +149,12 @@ module _ (s : System) (j : ℕ) where
   unmoved v x = record { rises = below-irrefl (v .latest .stamp); keeps = λ e i. i; new = λ e i. inl i; latest = inl refl }
 
   raised : (v : Server) (x : Body) (c : Candidate) → Origin v x c → Grows v x (raise c v)
-  raised v x c o = record { rises = raise-rises c v; keeps = λ e i. subst (In e) (sym (raise-history c v)) i; new = λ e i. inl (subst (In e) (raise-history c v) i); latest = go (raise-view c v) }
+  raised v x c o = record {
+    rises = raise-rises c v;
+    keeps = λ e i. subst (In e) (sym (raise-history c v)) i;
+    new = λ e i. inl (subst (In e) (raise-history c v) i);
+    latest = go (raise-view c v);
+  }
     where
       go : (raise c v .latest ≡ v .latest) ⊎ (raise c v .latest ≡ c) → (raise c v .latest ≡ v .latest) ⊎ Origin v x (raise c v .latest)
       go (inl e) = inl e
@@ -150,7 +162,12 @@ module _ (s : System) (j : ℕ) where
 
   stored : (v : Server) (w : Write) → Grows v (store w) (record { latest = v .latest; history = v .history ++ (w ∷ []) })
   unfolding In
-  stored v w = record { rises = below-irrefl (v .latest .stamp); keeps = λ e i. left-in e (v .history) (w ∷ []) i; new = λ e i. go e (split-in e (v .history) (w ∷ []) i); latest = inl refl }
+  stored v w = record {
+    rises = below-irrefl (v .latest .stamp);
+    keeps = λ e i. left-in e (v .history) (w ∷ []) i;
+    new = λ e i. go e (split-in e (v .history) (w ∷ []) i);
+    latest = inl refl;
+  }
     where
       go : (e : Write) → In e (v .history) ⊎ ((e ≡ w) ⊎ ⊥) → In e (v .history) ⊎ (store w ≡ store e)
       go e (inl i) = inl i
@@ -166,11 +183,13 @@ module _ (s : System) (j : ℕ) where
   act-grows v collect = unmoved v collect
   act-grows v (filter cs) = raised v (filter cs) (bestOf s j v (blankCandidate (s .config)) cs) (go (best-view v (blankCandidate (s .config)) cs))
     where
-      go : (bestOf s j v (blankCandidate (s .config)) cs ≡ blankCandidate (s .config)) ⊎ (In (bestOf s j v (blankCandidate (s .config)) cs) cs × (isValid s j v (bestOf s j v (blankCandidate (s .config)) cs) ≡ true))
+      go : (bestOf s j v (blankCandidate (s .config)) cs ≡ blankCandidate (s .config))
+          ⊎ (In (bestOf s j v (blankCandidate (s .config)) cs) cs × (isValid s j v (bestOf s j v (blankCandidate (s .config)) cs) ≡ true))
           → Origin v (filter cs) (bestOf s j v (blankCandidate (s .config)) cs)
       go (inl e) = inl e
       go (inr p) = inr (inl p)
-  act-grows v (repair c) = cond-case (λ (y : Server). Grows v (repair c) y) (isValid s j v c) _ v (λ e. raised v (repair c) c (inr (inl (inl refl, e)))) (λ e. unmoved v (repair c))
+  act-grows v (repair c) = cond-case (λ (y : Server). Grows v (repair c) y) (isValid s j v c) _ v
+      (λ e. raised v (repair c) c (inr (inl (inl refl, e)))) (λ e. unmoved v (repair c))
   act-grows v (clockReply x) = unmoved v (clockReply x)
   act-grows v (storeReply x) = unmoved v (storeReply x)
   act-grows v completeReply = unmoved v completeReply
@@ -179,12 +198,15 @@ module _ (s : System) (j : ℕ) where
   act-grows v repairReply = unmoved v repairReply
 
 -- a reply other than 11 to a store means that the stamp is held
-pub store-held : (s : System) (j : ℕ) (v : Server) (w : Write) → eqb (codeIn (acts s j v (store w) .reply)) 11 ≡ false → isSome (held (w .stamp) (acts s j v (store w) .server .history)) ≡ true
+pub store-held : (s : System) (j : ℕ) (v : Server) (w : Write) → eqb (codeIn (acts s j v (store w) .reply)) 11 ≡ false →
+    isSome (held (w .stamp) (acts s j v (store w) .server .history)) ≡ true
 unfolding act kept In
 store-held s j v w = go (isSome (held (w .stamp) (v .history))) refl (leb capacity (length (v .history)))
   where
     go : (u : Bool) → isSome (held (w .stamp) (v .history)) ≡ u → (t : Bool) →
-        let a = cond {A = Acted} u (record { server = v; reply = storeReply 10 }) (cond t (record { server = v; reply = storeReply 11 }) (record { server = record { latest = v .latest; history = v .history ++ (w ∷ []) }; reply = storeReply 0 })) in
+        let a = cond {A = Acted} u (record { server = v; reply = storeReply 10 })
+        (cond t (record { server = v; reply = storeReply 11 })
+        (record { server = record { latest = v .latest; history = v .history ++ (w ∷ []) }; reply = storeReply 0 })) in
         eqb (codeIn (a .reply)) 11 ≡ false → isSome (held (w .stamp) (a .server .history)) ≡ true
     go true q t k = q
     go false q true k = clash refl k
@@ -196,9 +218,12 @@ module _ (s : System) where
   pub latest-rises : (w : World) (j : ℕ) (x : Step) → below (perform s w x .world .server j .latest .stamp) (w .server j .latest .stamp) ≡ false
   latest-rises w j x = go (served s w j x)
     where
-      go : Served s j w x (perform s w x .world .server j) → below (perform s w x .world .server j .latest .stamp) (w .server j .latest .stamp) ≡ false
-      go (same e) = subst (λ (v : Server). below (v .latest .stamp) (w .server j .latest .stamp) ≡ false) (sym e) (below-irrefl (w .server j .latest .stamp))
-      go (acted p a b c d e) = subst (λ (v : Server). below (v .latest .stamp) (w .server j .latest .stamp) ≡ false) (sym e) (act-grows s j (w .server j) (p .body) .rises)
+      go : Served s j w x (perform s w x .world .server j) →
+          below (perform s w x .world .server j .latest .stamp) (w .server j .latest .stamp) ≡ false
+      go (same e) = subst (λ (v : Server). below (v .latest .stamp) (w .server j .latest .stamp) ≡ false) (sym e)
+          (below-irrefl (w .server j .latest .stamp))
+      go (acted p a b c d e) = subst (λ (v : Server). below (v .latest .stamp) (w .server j .latest .stamp) ≡ false) (sym e)
+          (act-grows s j (w .server j) (p .body) .rises)
 
   pub history-keeps : (w : World) (j : ℕ) (x : Step) (e : Write) → In e (w .server j .history) → In e (perform s w x .world .server j .history)
   history-keeps w j x e i = go (served s w j x)

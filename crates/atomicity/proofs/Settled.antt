@@ -26,7 +26,8 @@ use Rattle.atomicity.proofs.Setup.{Setup, Steps, StepOf, Fair, hand, ca
 use Rattle.atomicity.proofs.Moves.{Moved, kept, wbegan, rbegan, quit, took, moved, acting}
 use Rattle.atomicity.proofs.Rounds.{turn-turned}
 use Rattle.atomicity.proofs.Calls.{CallOk}
-use Rattle.atomicity.proofs.Logs.{result, touch, touched, newCall, refused-view, Signed, beginSigned, newSigned, new-write, new-read}
+use Rattle.atomicity.proofs.Shape.{result, touch, touched, newCall, refused-view}
+use Rattle.atomicity.proofs.Logs.{Signed, beginSigned, newSigned, new-write, new-read}
 use Rattle.atomicity.proofs.Story.{past, stepSigned, story}
 
 -- over, or given up
@@ -45,22 +46,27 @@ follow-keeps gaveBlank b t a = (refl, refl)
 follow-keeps (aborted f) b t a = (refl, refl)
 
 module _ (s : System) (c : ℕ) (a : Call) (t : ℕ) (f : Bool) where
-  found-closed : (g : ByServer Held) (m : ByServer Bool) (cl : Client) (d : Candidate) (b : ℕ) → Closed a t f (found (s .P) (s .config) c (s .writers) (s .keys) cl m g d b)
+  found-closed : (g : ByServer Held) (m : ByServer Bool) (cl : Client) (d : Candidate) (b : ℕ) →
+      Closed a t f (found (s .P) (s .config) c (s .writers) (s .keys) cl m g d b)
   unfolding found onto isIdle awaits
-  found-closed g m cl d b = cond-both (Closed a t f) (sameList (tagsIn (s .P) (s .config) d (g b .share)) (d .tags)) _ _ (λ e. refl) (λ e. clash e refl)
+  found-closed g m cl d b = cond-both (Closed a t f) (sameList (tagsIn (s .P) (s .config) d (g b .share)) (d .tags)) _ _ (λ e. refl)
+      (λ e. clash e refl)
 
-  judge-closed : (cs : List Candidate) (g : ByServer Held) (m : ByServer Bool) (cl : Client) (ls : List Candidate) (o : Option Candidate) → Closed a t f (judge (s .P) (s .config) c (s .writers) (s .keys) cl m cs g ls o)
+  judge-closed : (cs : List Candidate) (g : ByServer Held) (m : ByServer Bool) (cl : Client) (ls : List Candidate) (o : Option Candidate) →
+      Closed a t f (judge (s .P) (s .config) c (s .writers) (s .keys) cl m cs g ls o)
   unfolding judge onto isIdle awaits
   judge-closed cs g m cl [] o = λ e. refl
   judge-closed cs g m cl (l ∷ ls) none = λ e. clash e refl
   judge-closed cs g m cl (l ∷ ls) (some d) = found-closed g m cl d (leader (s .P) (s .config) m g d (s .config .servers))
 
-  update-closed : (cl : Client) (b : ℕ) (y : Body) (m : ByServer Bool) (full : Bool) (h : Hand) → isIdle (cl .hand) ≡ false → isIdle h ≡ false → Closed a t f (updated s c cl b y m full h)
+  update-closed : (cl : Client) (b : ℕ) (y : Body) (m : ByServer Bool) (full : Bool) (h : Hand) → isIdle (cl .hand) ≡ false → isIdle h ≡ false →
+      Closed a t f (updated s c cl b y m full h)
   unfolding update onto isIdle awaits prepared
   update-closed cl b y m full idle v w = clash refl w
   update-closed cl b y m true (clocking r n k) v w = λ e. clash e refl
   update-closed cl b y m false (clocking r n k) v w = λ e. clash e refl
-  update-closed cl b y m full (storing d g) v w = cond-both (Closed a t f) (eqb (codeIn y) 11) _ _ (λ e. clash e v) (cond-both (Closed a t f) full _ _ (λ e. clash e refl) (λ e. clash e refl))
+  update-closed cl b y m full (storing d g) v w =
+      cond-both (Closed a t f) (eqb (codeIn y) 11) _ _ (λ e. clash e v) (cond-both (Closed a t f) full _ _ (λ e. clash e refl) (λ e. clash e refl))
   update-closed cl b y m true (completing d) v w = λ e. refl
   update-closed cl b y m false (completing d) v w = λ e. clash e refl
   update-closed cl b y m true (collecting g) v w = λ e. clash e refl
@@ -76,11 +82,13 @@ module _ (K : Setup) where
 
   -- a call that the step leaves as it is
   same-call : (x : StepOf K) (xs : Steps K) (a : Call) → Settled xs a →
-      (((b o : List ℕ) × (x .step ≡ take-reply (a .client) b o)) ⊎ (x .step ≡ give-up (a .client)) → a .number ≡ calls K xs (a .client) → ⊥) → Settled (x ∷ xs) a
+      (((b o : List ℕ) × (x .step ≡ take-reply (a .client) b o)) ⊎ (x .step ≡ give-up (a .client)) → a .number ≡ calls K xs (a .client) → ⊥) →
+      Settled (x ∷ xs) a
   unfolding Settled nowValues
   same-call x xs a h f hyp = go (moved (K .s) (a .client) (now (K .s) xs) (x .step))
     where
-      go : Moved (K .s) (a .client) (now (K .s) xs) (x .step) (perform (K .s) (now (K .s) xs) (x .step) .world .client (a .client)) (result K x xs) → Out a
+      go : Moved (K .s) (a .client) (now (K .s) xs) (x .step) (perform (K .s) (now (K .s) xs) (x .step) .world .client (a .client)) (result K x xs) →
+          Out a
       go (kept e _) = h (λ n. subst (λ (z : Client). isIdle (z .hand) ≡ true) e (hyp (n ∙ sym (ap (λ (z : Client). z .calls) e))))
       go (wbegan r n s b i m e) = h (λ n. i)
       go (rbegan s b i e) = h (λ n. i)
@@ -92,7 +100,8 @@ module _ (K : Setup) where
 
   -- the client's own call, at its own take or give-up
   own-settled : (x : StepOf K) (xs : Steps K) (a : Call) → Settled xs a → a .number ≡ calls K xs (a .client) →
-      ((b o : List ℕ) × (x .step ≡ take-reply (a .client) b o)) ⊎ (x .step ≡ give-up (a .client)) → acting (a .client) (x .step) ≡ true → Settled (x ∷ xs) (effect x xs (a .client) a)
+      ((b o : List ℕ) × (x .step ≡ take-reply (a .client) b o)) ⊎ (x .step ≡ give-up (a .client)) → acting (a .client) (x .step) ≡ true →
+      Settled (x ∷ xs) (effect x xs (a .client) a)
   unfolding Settled nowValues
   own-settled x xs a h n shape act hyp = go (moved (K .s) (a .client) w (x .step)) (back (follow-keeps (result K x xs) _ (length xs) a) hyp)
     where
@@ -105,9 +114,12 @@ module _ (K : Setup) where
       T : Call
       T = effect x xs (a .client) a
 
-      back : (T .client ≡ a .client) × (T .number ≡ a .number) → (T .number ≡ perform (K .s) w (x .step) .world .client (T .client) .calls → isIdle (perform (K .s) w (x .step) .world .client (T .client) .hand) ≡ true) →
+      back : (T .client ≡ a .client) × (T .number ≡ a .number) →
+          (T .number ≡ perform (K .s) w (x .step) .world .client (T .client) .calls →
+          isIdle (perform (K .s) w (x .step) .world .client (T .client) .hand) ≡ true) →
           a .number ≡ cl' .calls → isIdle (cl' .hand) ≡ true
-      back k f q = subst (λ (i : ℕ). isIdle (perform (K .s) w (x .step) .world .client i .hand) ≡ true) (k .0) (f (k .1 ∙ q ∙ ap (λ (i : ℕ). perform (K .s) w (x .step) .world .client i .calls) (sym (k .0))))
+      back k f q = subst (λ (i : ℕ). isIdle (perform (K .s) w (x .step) .world .client i .hand) ≡ true) (k .0)
+          (f (k .1 ∙ q ∙ ap (λ (i : ℕ). perform (K .s) w (x .step) .world .client i .calls) (sym (k .0))))
 
       nope : {y : Step} → x .step ≡ y → ((b o : List ℕ) → y ≡ take-reply (a .client) b o → ⊥) → (y ≡ give-up (a .client) → ⊥) → ⊥
       nope {y} e f g = pick shape
@@ -118,15 +130,20 @@ module _ (K : Setup) where
 
       go : Moved (K .s) (a .client) w (x .step) cl' (result K x xs) → (a .number ≡ cl' .calls → isIdle (cl' .hand) ≡ true) → Out T
       go (kept e f) i = let r = refused-view (result K x xs) (f act) in
-          subst (λ (y : Result). Out (follow y (eqb (awaits (cl' .hand)) 6) (length xs) a)) (sym (r .1)) (h (λ m. subst (λ (z : Client). isIdle (z .hand) ≡ true) e (i (m ∙ sym (ap (λ (z : Client). z .calls) e)))))
-      go (wbegan r n' s b d l e) i = absurd (nope s (λ b o q. (let z : _≡_ {A = ℕ} 0 1 = cc in omega arith)) (λ q. (let z : _≡_ {A = ℕ} 0 1 = cc in omega arith)))
-      go (rbegan s b d e) i = absurd (nope s (λ b o q. (let z : _≡_ {A = ℕ} 0 1 = cc in omega arith)) (λ q. (let z : _≡_ {A = ℕ} 0 1 = cc in omega arith)))
-      go (quit s v d e) i = subst (λ (y : Result). Out (follow y (eqb (awaits (cl' .hand)) 6) (length xs) a)) (sym v) (or-right (given (a .over)) true refl)
+          subst (λ (y : Result). Out (follow y (eqb (awaits (cl' .hand)) 6) (length xs) a)) (sym (r .1))
+          (h (λ m. subst (λ (z : Client). isIdle (z .hand) ≡ true) e (i (m ∙ sym (ap (λ (z : Client). z .calls) e)))))
+      go (wbegan r n' s b d l e) i = absurd
+          (nope s (λ b o q. (let z : _≡_ {A = ℕ} 0 1 = cc in omega arith)) (λ q. (let z : _≡_ {A = ℕ} 0 1 = cc in omega arith)))
+      go (rbegan s b d e) i = absurd (nope s (λ b o q. (let z : _≡_ {A = ℕ} 0 1 = cc in omega arith))
+          (λ q. (let z : _≡_ {A = ℕ} 0 1 = cc in omega arith)))
+      go (quit s v d e) i = subst (λ (y : Result). Out (follow y (eqb (awaits (cl' .hand)) 6) (length xs) a)) (sym v)
+          (or-right (given (a .over)) true refl)
       go (took p b o s rd fit e v) i =
           let t = turn-turned (K .s) (a .client) (w .client (a .client)) p in
           let idle-now = i (n ∙ sym (t .calls) ∙ sym (ap (λ (z : Client). z .calls) e)) in
           subst (λ (y : Result). Out (follow y (eqb (awaits (cl' .hand)) 6) (length xs) a)) (sym v)
-          (update-closed (K .s) (a .client) a (length xs) (eqb (awaits (cl' .hand)) 6) (w .client (a .client)) (p .head .server) (p .body) _ _ (hand K xs (a .client)) (fit .busy) (fit .busy) (subst (λ (z : Client). isIdle (z .hand) ≡ true) e idle-now))
+          (update-closed (K .s) (a .client) a (length xs) (eqb (awaits (cl' .hand)) 6) (w .client (a .client)) (p .head .server) (p .body) _ _
+          (hand K xs (a .client)) (fit .busy) (fit .busy) (subst (λ (z : Client). isIdle (z .hand) ≡ true) e idle-now))
 
   step-settled : (x : StepOf K) (xs : Steps K) (a : Call) → Settled xs a → (st : Step) → x .step ≡ st → Settled (x ∷ xs) (touched K x xs st a)
   unfolding touched touch
@@ -152,31 +169,41 @@ module _ (K : Setup) where
       other (inr z) = let q = sym e ∙ z in (let y : _≡_ {A = ℕ} 0 1 = cc in omega arith)
   step-settled x xs a h (take-reply c b o) e = cond-case (Settled (x ∷ xs)) (eqb (a .client) c && eqb (a .number) (calls K xs c)) _ a
       (λ t. let q : a .client ≡ c = eqb-true _ _ (and-left (eqb (a .client) c) _ t) in
-      subst (λ (i : ℕ). Settled (x ∷ xs) (effect x xs i a)) q (own-settled x xs a h (eqb-true _ _ (and-right (eqb (a .client) c) _ t) ∙ ap (calls K xs) (sym q)) (inl (b, o, e ∙ ap (λ (i : ℕ). take-reply i b o) (sym q))) (ap (acting (a .client)) e ∙ eq-eqb _ _ q)))
+      subst (λ (i : ℕ). Settled (x ∷ xs) (effect x xs i a)) q
+      (own-settled x xs a h (eqb-true _ _ (and-right (eqb (a .client) c) _ t) ∙ ap (calls K xs) (sym q))
+      (inl (b, o, e ∙ ap (λ (i : ℕ). take-reply i b o) (sym q))) (ap (acting (a .client)) e ∙ eq-eqb _ _ q)))
       (λ t. same-call x xs a h (λ s m. other t m s))
     where
-      other : (eqb (a .client) c && eqb (a .number) (calls K xs c)) ≡ false → a .number ≡ calls K xs (a .client) → ((b' o' : List ℕ) × (x .step ≡ take-reply (a .client) b' o')) ⊎ (x .step ≡ give-up (a .client)) → ⊥
-      other t m (inl z) = let w = sym e ∙ z .2 in let q : c ≡ a .client = cc in clash (and-intro _ _ (eq-eqb (a .client) c (sym q)) (eq-eqb (a .number) (calls K xs c) (m ∙ ap (calls K xs) (sym q)))) t
+      other : (eqb (a .client) c && eqb (a .number) (calls K xs c)) ≡ false → a .number ≡ calls K xs (a .client) →
+          ((b' o' : List ℕ) × (x .step ≡ take-reply (a .client) b' o')) ⊎ (x .step ≡ give-up (a .client)) → ⊥
+      other t m (inl z) = let w = sym e ∙ z .2 in let q : c ≡ a .client = cc in
+          clash (and-intro _ _ (eq-eqb (a .client) c (sym q)) (eq-eqb (a .number) (calls K xs c) (m ∙ ap (calls K xs) (sym q)))) t
       other t m (inr z) = let w = sym e ∙ z in (let y : _≡_ {A = ℕ} 0 1 = cc in omega arith)
   step-settled x xs a h (give-up c) e = cond-case (Settled (x ∷ xs)) (eqb (a .client) c && eqb (a .number) (calls K xs c)) _ a
       (λ t. let q : a .client ≡ c = eqb-true _ _ (and-left (eqb (a .client) c) _ t) in
-      subst (λ (i : ℕ). Settled (x ∷ xs) (effect x xs i a)) q (own-settled x xs a h (eqb-true _ _ (and-right (eqb (a .client) c) _ t) ∙ ap (calls K xs) (sym q)) (inr (e ∙ ap give-up (sym q))) (ap (acting (a .client)) e ∙ eq-eqb _ _ q)))
+      subst (λ (i : ℕ). Settled (x ∷ xs) (effect x xs i a)) q
+      (own-settled x xs a h (eqb-true _ _ (and-right (eqb (a .client) c) _ t) ∙ ap (calls K xs) (sym q)) (inr (e ∙ ap give-up (sym q)))
+      (ap (acting (a .client)) e ∙ eq-eqb _ _ q)))
       (λ t. same-call x xs a h (λ s m. other t m s))
     where
-      other : (eqb (a .client) c && eqb (a .number) (calls K xs c)) ≡ false → a .number ≡ calls K xs (a .client) → ((b' o' : List ℕ) × (x .step ≡ take-reply (a .client) b' o')) ⊎ (x .step ≡ give-up (a .client)) → ⊥
+      other : (eqb (a .client) c && eqb (a .number) (calls K xs c)) ≡ false → a .number ≡ calls K xs (a .client) →
+          ((b' o' : List ℕ) × (x .step ≡ take-reply (a .client) b' o')) ⊎ (x .step ≡ give-up (a .client)) → ⊥
       other t m (inl z) = let w = sym e ∙ z .2 in (let y : _≡_ {A = ℕ} 0 1 = cc in omega arith)
-      other t m (inr z) = let w = sym e ∙ z in let q : c ≡ a .client = cc in clash (and-intro _ _ (eq-eqb (a .client) c (sym q)) (eq-eqb (a .number) (calls K xs c) (m ∙ ap (calls K xs) (sym q)))) t
+      other t m (inr z) = let w = sym e ∙ z in let q : c ≡ a .client = cc in
+          clash (and-intro _ _ (eq-eqb (a .client) c (sym q)) (eq-eqb (a .number) (calls K xs c) (m ∙ ap (calls K xs) (sym q)))) t
 
   -- ---- a new call
 
-  begin-settled : {ys : Steps K} (a : Call) (b : Bool) (f : b ≡ true → CallOk K ys a blankStamp) → (b ≡ true → Settled ys a) → (g : Signed K ys) → In g (beginSigned K a b f) → Settled ys (g .call)
+  begin-settled : {ys : Steps K} (a : Call) (b : Bool) (f : b ≡ true → CallOk K ys a blankStamp) → (b ≡ true → Settled ys a) → (g : Signed K ys) →
+      In g (beginSigned K a b f) → Settled ys (g .call)
   unfolding beginSigned In
   begin-settled {ys} a true f h g (inl e) = subst (λ (z : Signed K ys). Settled ys (z .call)) (sym e) (h refl)
   begin-settled a true f h g (inr k) = absurd k
   begin-settled a false f h g k = absurd k
 
   -- the hand of a client that has just begun is not idle
-  begun-settled : (x : StepOf K) (xs : Steps K) (c : ℕ) (w : Option (List ℕ)) → acting c (x .step) ≡ true → accepted (result K x xs) ≡ true → ((b o : List ℕ) → x .step ≡ take-reply c b o → ⊥) → (x .step ≡ give-up c → ⊥) →
+  begun-settled : (x : StepOf K) (xs : Steps K) (c : ℕ) (w : Option (List ℕ)) → acting c (x .step) ≡ true → accepted (result K x xs) ≡ true →
+      ((b o : List ℕ) → x .step ≡ take-reply c b o → ⊥) → (x .step ≡ give-up c → ⊥) →
       Settled (x ∷ xs) (newCall c (suc (calls K xs c)) w (length xs))
   unfolding Settled nowValues newCall begun isIdle awaits
   begun-settled x xs c w act acc f g hyp = go (moved (K .s) c (now (K .s) xs) (x .step))
@@ -191,12 +218,17 @@ module _ (K : Setup) where
       go (quit s b i e) = absurd (g s)
       go (took p b o s rd fit e v) = absurd (f b o s)
 
-  new-settled : (x : StepOf K) (xs : Steps K) (st : Step) (e : x .step ≡ st) (g : Signed K (x ∷ xs)) → In g (newSigned K x xs st e) → Settled (x ∷ xs) (g .call)
+  new-settled : (x : StepOf K) (xs : Steps K) (st : Step) (e : x .step ≡ st) (g : Signed K (x ∷ xs)) → In g (newSigned K x xs st e) →
+      Settled (x ∷ xs) (g .call)
   unfolding newSigned In
   new-settled x xs (write c r n) e g i = begin-settled _ (accepted (result K x xs)) (new-write K x xs c r n e)
-      (λ acc. begun-settled x xs c (some r) (ap (acting c) e ∙ eq-eqb c c refl) acc (λ b o s. (let q = sym e ∙ s in let y : _≡_ {A = ℕ} 0 1 = cc in omega arith)) (λ s. (let q = sym e ∙ s in let y : _≡_ {A = ℕ} 0 1 = cc in omega arith))) g i
+      (λ acc. begun-settled x xs c (some r) (ap (acting c) e ∙ eq-eqb c c refl) acc
+      (λ b o s. (let q = sym e ∙ s in let y : _≡_ {A = ℕ} 0 1 = cc in omega arith))
+      (λ s. (let q = sym e ∙ s in let y : _≡_ {A = ℕ} 0 1 = cc in omega arith))) g i
   new-settled x xs (read c) e g i = begin-settled _ (accepted (result K x xs)) (new-read K x xs c e)
-      (λ acc. begun-settled x xs c none (ap (acting c) e ∙ eq-eqb c c refl) acc (λ b o s. (let q = sym e ∙ s in let y : _≡_ {A = ℕ} 0 1 = cc in omega arith)) (λ s. (let q = sym e ∙ s in let y : _≡_ {A = ℕ} 0 1 = cc in omega arith))) g i
+      (λ acc. begun-settled x xs c none (ap (acting c) e ∙ eq-eqb c c refl) acc
+      (λ b o s. (let q = sym e ∙ s in let y : _≡_ {A = ℕ} 0 1 = cc in omega arith))
+      (λ s. (let q = sym e ∙ s in let y : _≡_ {A = ℕ} 0 1 = cc in omega arith))) g i
   new-settled x xs (make c b o) e g i = absurd i
   new-settled x xs (take-reply c b o) e g i = absurd i
   new-settled x xs (give-up c) e g i = absurd i
@@ -205,9 +237,12 @@ module _ (K : Setup) where
   pub all-settled : (xs : Steps K) (fair : Fair K xs) (g : Signed K xs) → In g (story K xs fair) → Settled xs (g .call)
   unfolding story In stepSigned
   all-settled [] fair g i = absurd i
-  all-settled (x ∷ xs) fair g i = go (split-in g (newSigned K x xs (x .step) refl) (map (stepSigned K x xs fair) (story K xs (past K x xs fair))) i) (λ h k. all-settled xs (past K x xs fair) h k)
+  all-settled (x ∷ xs) fair g i =
+      go (split-in g (newSigned K x xs (x .step) refl) (map (stepSigned K x xs fair) (story K xs (past K x xs fair))) i)
+      (λ h k. all-settled xs (past K x xs fair) h k)
     where
-      go : In g (newSigned K x xs (x .step) refl) ⊎ In g (map (stepSigned K x xs fair) (story K xs (past K x xs fair))) → ((h : Signed K xs) → In h (story K xs (past K x xs fair)) → Settled xs (h .call)) → Settled (x ∷ xs) (g .call)
+      go : In g (newSigned K x xs (x .step) refl) ⊎ In g (map (stepSigned K x xs fair) (story K xs (past K x xs fair))) →
+          ((h : Signed K xs) → In h (story K xs (past K x xs fair)) → Settled xs (h .call)) → Settled (x ∷ xs) (g .call)
       go (inl k) f = new-settled x xs (x .step) refl g k
       go (inr k) f = let r = map-in (stepSigned K x xs fair) (story K xs (past K x xs fair)) g k in
           subst (λ (z : Signed K (x ∷ xs)). Settled (x ∷ xs) (z .call)) (sym (r .2)) (step-settled x xs (r .0 .call) (f (r .0) (r .1)) (x .step) refl)

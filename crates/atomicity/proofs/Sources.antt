@@ -24,7 +24,7 @@ use Rattle.atomicity.specs.Premises.{Authentic, PartyOf, odd}
 use Rattle.atomicity.proofs.Util.{clash, no-some, and-intro, or-none, ever-map, ever-with, not-false}
 use Rattle.atomicity.proofs.Model.{Run, perform, now, account, acts}
 use Rattle.atomicity.proofs.Setup.{Setup, Steps, StepOf, Meets, Fair}
-use Rattle.atomicity.proofs.Moves.{Asked, Answered, answer, Making, making}
+use Rattle.atomicity.proofs.Serving.{Asked, Answered, answer, Making, making}
 
 -- ---- shapes of steps
 
@@ -71,7 +71,8 @@ complete-writer c d h = ltb-false topWriter c (or-none (ltb topWriter c) (not (e
 
 -- ---- requests by hands
 
-pub store-made : (h : Hand) (b : ℕ) (w : Write) → request h b ≡ store w → (d : Candidate) × (g : ByServer Share) × (h ≡ storing d g) × (w ≡ record { stamp = d .stamp; share = g b })
+pub store-made : (h : Hand) (b : ℕ) (w : Write) → request h b ≡ store w → (d : Candidate) × (g : ByServer Share) × (h ≡ storing d g)
+    × (w ≡ record { stamp = d .stamp; share = g b })
 store-made idle b w q = absurd (let z : _≡_ {A = ℕ} 0 1 = cc in omega arith)
 store-made (clocking r n k) b w q = absurd (let z : _≡_ {A = ℕ} 0 1 = cc in omega arith)
 store-made (storing d g) b w q = (d, g, refl, let z : w ≡ record { stamp = d .stamp; share = g b } = cc in z)
@@ -92,21 +93,26 @@ complete-made (repairing d r) b w q = absurd (let z : _≡_ {A = ℕ} 0 1 = cc i
 module _ (K : Setup) where
   -- such a step sent p
   abbrev pub MadeBy : (Step → Bool) → Packet → StepOf K → Steps K → Type 0
-  MadeBy who p y ys = (who (y .step) ≡ true) × (decode (sentOf (perform (K .s) (now (K .s) ys) (y .step) .sent)) ≡ some p) × (perform (K .s) (now (K .s) ys) (y .step) .sent ≡ some p)
+  MadeBy who p y ys = (who (y .step) ≡ true) × (decode (sentOf (perform (K .s) (now (K .s) ys) (y .step) .sent)) ≡ some p)
+      × (perform (K .s) (now (K .s) ys) (y .step) .sent ≡ some p)
 
   pub sent-made : (who : Step → Bool) (b : List ℕ) (p : Packet) → decode b ≡ some p → (xs : Steps K) →
       Ever (λ (y : StepOf K) ys. (who (y .step) ≡ true) × (account (K .s) .sent y ys ≡ b)) xs → Ever (MadeBy who p) xs
   sent-made who b p d xs e = ever-map _ (MadeBy who p) (λ y ys h. let q = ap decode (h .1) ∙ d in (h .0, q, K .laws .reads y ys p q)) xs e
 
-  pub by-client : (x : StepOf K) (xs : Steps K) → Meets K x xs → (p : Packet) → packetIn (x .step) ≡ some p → accepted (perform (K .s) (now (K .s) xs) (x .step) .result) ≡ true →
+  pub by-client : (x : StepOf K) (xs : Steps K) → Meets K x xs → (p : Packet) → packetIn (x .step) ≡ some p →
+      accepted (perform (K .s) (now (K .s) xs) (x .step) .result) ≡ true →
       odd (kindOf (p .body)) ≡ true → K .correct .client (p .head .client) ≡ true → Ever (MadeBy (makes (p .head .client)) p) xs
   unfolding Authentic
-  by-client x xs prem p e f o c = sent-made (makes (p .head .client)) (bytesIn (x .step)) p (read-back (x .step) p e) xs (prem .authentic p e f .0 o c)
+  by-client x xs prem p e f o c =
+      sent-made (makes (p .head .client)) (bytesIn (x .step)) p (read-back (x .step) p e) xs (prem .authentic p e f .0 o c)
 
-  pub by-server : (x : StepOf K) (xs : Steps K) → Meets K x xs → (p : Packet) → packetIn (x .step) ≡ some p → accepted (perform (K .s) (now (K .s) xs) (x .step) .result) ≡ true →
+  pub by-server : (x : StepOf K) (xs : Steps K) → Meets K x xs → (p : Packet) → packetIn (x .step) ≡ some p →
+      accepted (perform (K .s) (now (K .s) xs) (x .step) .result) ≡ true →
       odd (kindOf (p .body)) ≡ false → K .correct .server (p .head .server) ≡ true → Ever (MadeBy (serves (p .head .server)) p) xs
   unfolding Authentic
-  by-server x xs prem p e f o c = sent-made (serves (p .head .server)) (bytesIn (x .step)) p (read-back (x .step) p e) xs (prem .authentic p e f .1 o c)
+  by-server x xs prem p e f o c =
+      sent-made (serves (p .head .server)) (bytesIn (x .step)) p (read-back (x .step) p e) xs (prem .authentic p e f .1 o c)
 
   -- a server that steps is correct, and one of the shelf
   pub server-correct : (x : StepOf K) (xs : Steps K) → Meets K x xs → (j : ℕ) → serves j (x .step) ≡ true → K .correct .server j ≡ true
@@ -117,7 +123,8 @@ module _ (K : Setup) where
   in-range b lo hi = and-intro _ _ (le-leb 1 b lo) (le-leb b (K .s .config .servers) hi)
 
   -- a writer's packet was made by it
-  pub writer-made : (x : StepOf K) (xs : Steps K) → Meets K x xs → (j : ℕ) (p : Packet) → packetIn (x .step) ≡ some p → Asked (K .s) j p → accepted (perform (K .s) (now (K .s) xs) (x .step) .result) ≡ true →
+  pub writer-made : (x : StepOf K) (xs : Steps K) → Meets K x xs → (j : ℕ) (p : Packet) → packetIn (x .step) ≡ some p → Asked (K .s) j p →
+      accepted (perform (K .s) (now (K .s) xs) (x .step) .result) ≡ true →
       p .head .client ≤ topWriter → Ever (MadeBy (makes (p .head .client)) p) xs
   writer-made x xs prem j p e a f l = by-client x xs prem p e f (asked-odd (p .head .client) (p .body) (a .allowed))
       (K .parties .writers (p .head .client) (K .laws .heads (bytesIn (x .step)) p (read-back (x .step) p e) (a .same-t) .0) l)
@@ -132,7 +139,8 @@ module _ (K : Setup) where
     pub same-call : behind .ask .head .call ≡ p .head .call
     pub source : Ever (MadeBy (makes (p .head .client)) (behind .ask)) ys
 
-  told-at : (p : Packet) → K .correct .client (p .head .client) ≡ true → (y : StepOf K) (ys : Steps K) → Meets K y ys → MadeBy (serves (p .head .server)) p y ys → Told p y ys
+  told-at : (p : Packet) → K .correct .client (p .head .client) ≡ true → (y : StepOf K) (ys : Steps K) → Meets K y ys →
+      MadeBy (serves (p .head .server)) p y ys → Told p y ys
   unfolding replyTo
   told-at p c y ys prem m =
       let a = answer (K .s) (now (K .s) ys) (p .head .server) (y .step) p (m .0) (m .2) in
@@ -143,9 +151,11 @@ module _ (K : Setup) where
         same-client = mine;
         same-call = sym (ap (λ (q : Packet). q .head .call) (a .reply));
         source = subst (λ (i : ℕ). Ever (MadeBy (makes i) (a .ask)) ys) mine
-            (by-client y ys prem (a .ask) (a .got) (a .fine) (asked-odd (a .ask .head .client) (a .ask .body) (a .asked .allowed)) (subst (λ (i : ℕ). K .correct .client i ≡ true) (sym mine) c));
+            (by-client y ys prem (a .ask) (a .got) (a .fine) (asked-odd (a .ask .head .client) (a .ask .body) (a .asked .allowed))
+            (subst (λ (i : ℕ). K .correct .client i ≡ true) (sym mine) c));
       }
 
-  pub reply-source : (xs : Steps K) → Fair K xs → (p : Packet) → K .correct .client (p .head .client) ≡ true → Ever (MadeBy (serves (p .head .server)) p) xs → Ever (Told p) xs
+  pub reply-source : (xs : Steps K) → Fair K xs → (p : Packet) → K .correct .client (p .head .client) ≡ true →
+      Ever (MadeBy (serves (p .head .server)) p) xs → Ever (Told p) xs
   reply-source xs h p c m = ever-map (λ y ys. Meets K y ys × Fair K ys × MadeBy (serves (p .head .server)) p y ys) (Told p)
       (λ y ys t. told-at p c y ys (t .0) (t .2)) xs (ever-with (Meets K) (MadeBy (serves (p .head .server)) p) xs h m)

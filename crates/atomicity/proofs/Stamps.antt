@@ -16,7 +16,8 @@ pub below-view : (a b : Stamp) → below a b ≡ true → (a .number < b .number
 unfolding below
 below-view a b e = go (or-cases (ltb (a .number) (b .number)) (eqb (a .number) (b .number) && ltb (a .writer) (b .writer)) e)
   where
-    go : (ltb (a .number) (b .number) ≡ true) ⊎ ((eqb (a .number) (b .number) && ltb (a .writer) (b .writer)) ≡ true) → (a .number < b .number) ⊎ ((a .number ≡ b .number) × (a .writer < b .writer))
+    go : (ltb (a .number) (b .number) ≡ true) ⊎ ((eqb (a .number) (b .number) && ltb (a .writer) (b .writer)) ≡ true) → (a .number < b .number)
+        ⊎ ((a .number ≡ b .number) × (a .writer < b .writer))
     go (inl h) = inl (ltb-true _ _ h)
     go (inr h) = inr (eqb-true _ _ (and-left _ _ h), ltb-true _ _ (and-right (eqb (a .number) (b .number)) _ h))
 
@@ -48,7 +49,8 @@ num-le a b e = go (le-view a b e)
 pub le-trans : (a b c : Stamp) → below b a ≡ false → below c b ≡ false → below c a ≡ false
 le-trans a b c p q = untrue (below c a) (λ h. go (le-view a b p) (le-view b c q) (below-view c a h))
   where
-    go : (a .number < b .number) ⊎ ((a .number ≡ b .number) × (a .writer ≤ b .writer)) → (b .number < c .number) ⊎ ((b .number ≡ c .number) × (b .writer ≤ c .writer)) →
+    go : (a .number < b .number) ⊎ ((a .number ≡ b .number) × (a .writer ≤ b .writer)) → (b .number < c .number)
+        ⊎ ((b .number ≡ c .number) × (b .writer ≤ c .writer)) →
         (c .number < a .number) ⊎ ((c .number ≡ a .number) × (c .writer < a .writer)) → ⊥
     go (inl x) (inl y) (inl z) = omega arith
     go (inl x) (inl y) (inr z) = omega (arith, z .0)
@@ -82,7 +84,8 @@ below-irrefl a = untrue (below a a) (λ h. go (below-view a a h))
 pub below-asym : (a b : Stamp) → below a b ≡ true → below b a ≡ false
 below-asym a b p = untrue (below b a) (λ q. go (below-view a b p) (below-view b a q))
   where
-    go : (a .number < b .number) ⊎ ((a .number ≡ b .number) × (a .writer < b .writer)) → (b .number < a .number) ⊎ ((b .number ≡ a .number) × (b .writer < a .writer)) → ⊥
+    go : (a .number < b .number) ⊎ ((a .number ≡ b .number) × (a .writer < b .writer)) → (b .number < a .number)
+        ⊎ ((b .number ≡ a .number) × (b .writer < a .writer)) → ⊥
     go (inl x) (inl y) = omega arith
     go (inl x) (inr y) = omega (arith, y .0)
     go (inr x) (inl y) = omega (arith, x .0)
@@ -95,7 +98,8 @@ same-eq [] [] e = refl
 same-eq [] (y ∷ ys) e = clash e refl
 same-eq (x ∷ xs) [] e = clash e refl
 same-eq (x ∷ xs) (y ∷ ys) e =
-    ap (λ (z : ℕ). z ∷ xs) (eqb-true x y (and-left (eqb x y) (sameList xs ys) e)) ∙ ap (λ (zs : List ℕ). y ∷ zs) (same-eq xs ys (and-right (eqb x y) (sameList xs ys) e))
+    ap (λ (z : ℕ). z ∷ xs) (eqb-true x y (and-left (eqb x y) (sameList xs ys) e))
+    ∙ ap (λ (zs : List ℕ). y ∷ zs) (same-eq xs ys (and-right (eqb x y) (sameList xs ys) e))
 
 pub same-refl : (b : List ℕ) → sameList b b ≡ true
 same-refl [] = refl

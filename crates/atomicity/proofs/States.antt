@@ -1,5 +1,5 @@
--- What is known of a client's hand with the marks of who replied, and of a correct server's reply to it; and that all of it lasts while others step.
--- Quorums are counts at a moment: so many correct servers that with all liars they are S - t.
+-- What is known of a client's hand with the marks of who replied, and of a correct server's reply to it; and that all of it lasts while others
+-- step. Quorums are counts at a moment: so many correct servers that with all liars they are S - t.
 -- Assumes nothing.
 use mathlib.Core.Path.{_≡_, refl, sym, ap, _∙_, subst}
 use mathlib.Core.Bool.{Bool, true, false, cond, not, _&&_, _||_}
@@ -106,7 +106,8 @@ module _ (K : Setup) where
   pub record Sift (xs z1 : Steps K) (j : ℕ) (cs : List Candidate) (h : Held) : Type 0 where
     pub piece : (f : Share) → h .share ≡ some f → Piece xs j (h .stamp) f
     pub tags : (d : Candidate) → In d cs → tagged (K .s) j d ≡ true → below (lat K xs j) (d .stamp) ≡ false
-    pub stands : (d : Candidate) → In d cs → isSome (held (d .stamp) (hist K z1 j)) ≡ true → (m : Stamped) → In m (marks (K .s) z1) → m .stamp ≡ d .stamp → m .nonce ≡ d .nonce → below (h .stamp) (d .stamp) ≡ false
+    pub stands : (d : Candidate) → In d cs → isSome (held (d .stamp) (hist K z1 j)) ≡ true → (m : Stamped) → In m (marks (K .s) z1) →
+        m .stamp ≡ d .stamp → m .nonce ≡ d .nonce → below (h .stamp) (d .stamp) ≡ false
 
   -- what collect left: q replies, and each correct one's candidate is in the list or blank
   pub record Collected (z0 z1 : Steps K) (cs : List Candidate) : Type 0 where
@@ -114,7 +115,8 @@ module _ (K : Setup) where
     pub what : ByServer Candidate
     pub enough : Q ≤ countTo S whom
     pub each : (j : ℕ) → right j ≡ true → whom j ≡ true →
-        (below (what j .stamp) (lat K z0 j) ≡ false) × ((what j ≡ blankCandidate (K .s .config)) ⊎ (In (what j) cs × Genuine K z1 (what j) × FullAt z1 (what j .stamp)))
+        (below (what j .stamp) (lat K z0 j) ≡ false)
+        × ((what j ≡ blankCandidate (K .s .config)) ⊎ (In (what j) cs × Genuine K z1 (what j) × FullAt z1 (what j .stamp)))
 
   -- a candidate that a read may give, with its content
   pub record Proved (xs z0 : Steps K) (d : Candidate) (r : List ℕ) : Type 0 where
@@ -170,7 +172,8 @@ module _ (K : Setup) where
 
   -- ---- what lasts
 
-  pub dig-up : (u : List ℕ) (x : StepOf K) (xs : Steps K) → In u (allDigested (K .s) (account (K .s)) xs) → In u (allDigested (K .s) (account (K .s)) (x ∷ xs))
+  pub dig-up : (u : List ℕ) (x : StepOf K) (xs : Steps K) → In u (allDigested (K .s) (account (K .s)) xs) →
+      In u (allDigested (K .s) (account (K .s)) (x ∷ xs))
   unfolding allDigested
   dig-up u x xs i = right-in u (digested (K .s) (account (K .s)) x xs) (allDigested (K .s) (account (K .s)) xs) i
 
@@ -183,7 +186,13 @@ module _ (K : Setup) where
 
   pub piece-up : (j : ℕ) (a : Stamp) (f : Share) (x : StepOf K) (xs : Steps K) → Piece xs j a f → Piece (x ∷ xs) j a f
   unfolding Ever
-  piece-up j a f x xs p = record { write = p .write; made = marks-up (K .s) (p .write) x xs (p .made); shown = inr (p .shown); stamp-is = p .stamp-is; share-is = p .share-is }
+  piece-up j a f x xs p = record {
+    write = p .write;
+    made = marks-up (K .s) (p .write) x xs (p .made);
+    shown = inr (p .shown);
+    stamp-is = p .stamp-is;
+    share-is = p .share-is;
+  }
 
   pub sift-up : (z1 : Steps K) (j : ℕ) (cs : List Candidate) (h : Held) (x : StepOf K) (xs : Steps K) → Sift xs z1 j cs h → Sift (x ∷ xs) z1 j cs h
   sift-up z1 j cs h x xs t = record {
@@ -194,17 +203,36 @@ module _ (K : Setup) where
 
   pub proved-up : (z0 : Steps K) (d : Candidate) (r : List ℕ) (x : StepOf K) (xs : Steps K) → Proved xs z0 d r → Proved (x ∷ xs) z0 d r
   unfolding Ever
-  proved-up z0 d r x xs p = record { write = p .write; made = marks-up (K .s) (p .write) x xs (p .made); shown = inr (p .shown); stamp-is = p .stamp-is; content-is = p .content-is; beats = p .beats }
+  proved-up z0 d r x xs p = record {
+    write = p .write;
+    made = marks-up (K .s) (p .write) x xs (p .made);
+    shown = inr (p .shown);
+    stamp-is = p .stamp-is;
+    content-is = p .content-is;
+    beats = p .beats;
+  }
 
   pub ok-up : (z0 z1 : Steps K) (m : ByServer Bool) (h : Hand) (x : StepOf K) (xs : Steps K) → HandOk xs z0 z1 m h → HandOk (x ∷ xs) z0 z1 m h
   unfolding HandOk
   ok-up z0 z1 m idle x xs h = tt
   ok-up z0 z1 m (clocking r n k) x xs h = record { short = h .short; low = h .low }
   ok-up z0 z1 m (storing d g) x xs h = record { short = h .short; beats = h .beats; holds = λ j g i. held-up K x xs j (d .stamp) (h .holds j g i) }
-  ok-up z0 z1 m (completing d) x xs h = record { short = h .short; full = full-up (d .stamp) x xs (h .full); high = λ j g i. lat-up K x xs j (d .stamp) (h .high j g i) }
+  ok-up z0 z1 m (completing d) x xs h =
+      record { short = h .short; full = full-up (d .stamp) x xs (h .full); high = λ j g i. lat-up K x xs j (d .stamp) (h .high j g i) }
   ok-up z0 z1 m (collecting g) x xs h = record { short = h .short; coll = λ j k i. coll-up z0 j (g j) x xs (h .coll j k i) }
-  ok-up z0 z1 m (filtering cs g) x xs h = record { first = h .first; sift = λ j k i. sift-up z1 j cs (g j) x xs (h .sift j k i); digs = λ j f i e. dig-up (f .part) x xs (h .digs j f i e) }
-  ok-up z0 z1 m (repairing d r) x xs h = record { short = h .short; proved = proved-up z0 d r x xs (h .proved); tagged = h .tagged; high = λ j g i. lat-up K x xs j (d .stamp) (h .high j g i) }
+  ok-up z0 z1 m (filtering cs g) x xs h =
+      record {
+        first = h .first;
+        sift = λ j k i. sift-up z1 j cs (g j) x xs (h .sift j k i);
+        digs = λ j f i e. dig-up (f .part) x xs (h .digs j f i e);
+      }
+  ok-up z0 z1 m (repairing d r) x xs h =
+      record {
+        short = h .short;
+        proved = proved-up z0 d r x xs (h .proved);
+        tagged = h .tagged;
+        high = λ j g i. lat-up K x xs j (d .stamp) (h .high j g i);
+      }
 
   -- what the reply x of a correct server j to the hand means
   unfoldable pub Says : Steps K → Steps K → Steps K → ℕ → Body → Hand → Type 0

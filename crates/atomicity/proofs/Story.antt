@@ -1,5 +1,5 @@
--- The list of known calls of a run, newest first: it is the log; calls begin one after the other; the call in hand is in it; and a write whose nonce was
--- shown has its call in it, which has reached its complete round.
+-- The list of known calls of a run, newest first: it is the log; calls begin one after the other; the call in hand is in it; and a write whose
+-- nonce was shown has its call in it, which has reached its complete round.
 -- Assumes nothing.
 use mathlib.Core.Path.{_≡_, refl, sym, ap, ap₂, _∙_, subst}
 use mathlib.Core.Bool.{Bool, true, false, cond, not, _&&_, _||_}
@@ -27,7 +27,8 @@ use Rattle.atomicity.proofs.Marks.{by-stamp, marks-up}
 use Rattle.atomicity.proofs.Begun.{Known, known}
 use Rattle.atomicity.proofs.Invariant.{show-hand}
 use Rattle.atomicity.proofs.Calls.{mark-at, Writing, Cur, CallOk, Keeps}
-use Rattle.atomicity.proofs.Logs.{Log, result, touched, news, newCall, note-shape, Signed, beginSigned, newSigned, new-calls, new-write, new-read, step-call}
+use Rattle.atomicity.proofs.Shape.{Log, result, touched, news, newCall, note-shape}
+use Rattle.atomicity.proofs.Logs.{Signed, beginSigned, newSigned, new-calls, new-write, new-read, step-call}
 
 module _ (K : Setup) where
   -- the steps before the last one meet the premises too
@@ -40,9 +41,11 @@ module _ (K : Setup) where
   meets x xs fair = fair .0
 
   unfoldable pub stepSigned : (x : StepOf K) (xs : Steps K) → Fair K (x ∷ xs) → Signed K xs → Signed K (x ∷ xs)
-  stepSigned x xs fair g = let r = step-call K x xs fair (g .call) (g .stamp) (g .ok) (x .step) refl in record { call = touched K x xs (x .step) (g .call); stamp = r .0; ok = r .1 }
+  stepSigned x xs fair g = let r = step-call K x xs fair (g .call) (g .stamp) (g .ok) (x .step) refl in
+      record { call = touched K x xs (x .step) (g .call); stamp = r .0; ok = r .1 }
 
-  pub step-keeps : (x : StepOf K) (xs : Steps K) (fair : Fair K (x ∷ xs)) (g : Signed K xs) → Keeps K (g .call) (g .stamp) (stepSigned x xs fair g .call) (stepSigned x xs fair g .stamp)
+  pub step-keeps : (x : StepOf K) (xs : Steps K) (fair : Fair K (x ∷ xs)) (g : Signed K xs) →
+      Keeps K (g .call) (g .stamp) (stepSigned x xs fair g .call) (stepSigned x xs fair g .stamp)
   unfolding stepSigned
   step-keeps x xs fair g = step-call K x xs fair (g .call) (g .stamp) (g .ok) (x .step) refl .2
 
@@ -63,7 +66,8 @@ module _ (K : Setup) where
   pub story-log : (xs : Steps K) (fair : Fair K xs) → map (λ (g : Signed K xs). g .call) (story xs fair) ≡ Log K xs
   unfolding story log stepSigned
   story-log [] fair = refl
-  story-log (x ∷ xs) fair = map-append (λ (g : Signed K (x ∷ xs)). g .call) (newSigned K x xs (x .step) refl) (map (stepSigned x xs fair) (story xs (past x xs fair)))
+  story-log (x ∷ xs) fair = map-append (λ (g : Signed K (x ∷ xs)). g .call) (newSigned K x xs (x .step) refl)
+      (map (stepSigned x xs fair) (story xs (past x xs fair)))
       ∙ ap₂ (λ (us vs : List Call). us ++ vs) (new-calls K x xs (x .step) refl)
       (map-map (λ (g : Signed K (x ∷ xs)). g .call) (stepSigned x xs fair) (story xs (past x xs fair))
       ∙ sym (map-map (touched K x xs (x .step)) (λ (g : Signed K xs). g .call) (story xs (past x xs fair)))
@@ -71,31 +75,37 @@ module _ (K : Setup) where
       ∙ sym (note-shape K x xs (Log K xs) (x .step))
 
   -- a known call, a step later
-  pub story-next : (x : StepOf K) (xs : Steps K) (fair : Fair K (x ∷ xs)) (g : Signed K xs) → In g (story xs (past x xs fair)) → In (stepSigned x xs fair g) (story (x ∷ xs) fair)
+  pub story-next : (x : StepOf K) (xs : Steps K) (fair : Fair K (x ∷ xs)) (g : Signed K xs) → In g (story xs (past x xs fair)) →
+      In (stepSigned x xs fair g) (story (x ∷ xs) fair)
   unfolding story
-  story-next x xs fair g i = right-in (stepSigned x xs fair g) (newSigned K x xs (x .step) refl) (map (stepSigned x xs fair) (story xs (past x xs fair))) (in-map (stepSigned x xs fair) (story xs (past x xs fair)) g i)
+  story-next x xs fair g i = right-in (stepSigned x xs fair g) (newSigned K x xs (x .step) refl)
+      (map (stepSigned x xs fair) (story xs (past x xs fair))) (in-map (stepSigned x xs fair) (story xs (past x xs fair)) g i)
 
   -- ---- one after the other
 
   abbrev Later : {xs : Steps K} → Signed K xs → Signed K xs → Type 0
   Later a b = b .call .begun < a .call .begun
 
-  map-pairs : (x : StepOf K) (xs : Steps K) (fair : Fair K (x ∷ xs)) (gs : List (Signed K xs)) → AllPairs (λ (a b : Signed K xs). Later a b) gs → AllPairs (λ (a b : Signed K (x ∷ xs)). Later a b) (map (stepSigned x xs fair) gs)
+  map-pairs : (x : StepOf K) (xs : Steps K) (fair : Fair K (x ∷ xs)) (gs : List (Signed K xs)) → AllPairs (λ (a b : Signed K xs). Later a b) gs →
+      AllPairs (λ (a b : Signed K (x ∷ xs)). Later a b) (map (stepSigned x xs fair) gs)
   unfolding AllPairs All
   map-pairs x xs fair [] h = tt
   map-pairs x xs fair (a ∷ gs) h = (go gs (h .0), map-pairs x xs fair gs (h .1))
     where
-      go : (ds : List (Signed K xs)) → All (λ (b : Signed K xs). Later a b) ds → All (λ (b : Signed K (x ∷ xs)). Later (stepSigned x xs fair a) b) (map (stepSigned x xs fair) ds)
+      go : (ds : List (Signed K xs)) → All (λ (b : Signed K xs). Later a b) ds →
+          All (λ (b : Signed K (x ∷ xs)). Later (stepSigned x xs fair a) b) (map (stepSigned x xs fair) ds)
       go [] k = tt
       go (d ∷ ds) k = (omega (arith, k .0, step-keeps x xs fair a .begun, step-keeps x xs fair d .begun), go ds (k .1))
 
-  begin-pairs : {ys : Steps K} (a : Call) (b : Bool) (f : b ≡ true → CallOk K ys a blankStamp) (l : List (Signed K ys)) → ((g : Signed K ys) → In g l → g .call .begun < a .begun) →
+  begin-pairs : {ys : Steps K} (a : Call) (b : Bool) (f : b ≡ true → CallOk K ys a blankStamp) (l : List (Signed K ys)) →
+      ((g : Signed K ys) → In g l → g .call .begun < a .begun) →
       AllPairs (λ (a b : Signed K ys). Later a b) l → AllPairs (λ (a b : Signed K ys). Later a b) (beginSigned K a b f ++ l)
   unfolding beginSigned AllPairs
   begin-pairs {ys} a true f l k h = (all-of (λ (g : Signed K ys). g .call .begun < a .begun) l k, h)
   begin-pairs a false f l k h = h
 
-  new-pairs : (x : StepOf K) (xs : Steps K) (st : Step) (e : x .step ≡ st) (l : List (Signed K (x ∷ xs))) → ((g : Signed K (x ∷ xs)) → In g l → g .call .begun < length xs) →
+  new-pairs : (x : StepOf K) (xs : Steps K) (st : Step) (e : x .step ≡ st) (l : List (Signed K (x ∷ xs))) →
+      ((g : Signed K (x ∷ xs)) → In g l → g .call .begun < length xs) →
       AllPairs (λ (a b : Signed K (x ∷ xs)). Later a b) l → AllPairs (λ (a b : Signed K (x ∷ xs)). Later a b) (newSigned K x xs st e ++ l)
   unfolding newSigned newCall
   new-pairs x xs (write c r n) e l f h = begin-pairs _ (accepted (result K x xs)) (new-write K x xs c r n e) l f h
@@ -108,7 +118,8 @@ module _ (K : Setup) where
   pub story-pairs : (xs : Steps K) (fair : Fair K xs) → AllPairs (λ (a b : Signed K xs). b .call .begun < a .call .begun) (story xs fair)
   unfolding story AllPairs
   story-pairs [] fair = tt
-  story-pairs (x ∷ xs) fair = new-pairs x xs (x .step) refl (map (stepSigned x xs fair) (story xs (past x xs fair))) old (map-pairs x xs fair (story xs (past x xs fair)) (story-pairs xs (past x xs fair)))
+  story-pairs (x ∷ xs) fair = new-pairs x xs (x .step) refl (map (stepSigned x xs fair) (story xs (past x xs fair))) old
+      (map-pairs x xs fair (story xs (past x xs fair)) (story-pairs xs (past x xs fair)))
     where
       old : (g : Signed K (x ∷ xs)) → In g (map (stepSigned x xs fair) (story xs (past x xs fair))) → g .call .begun < length xs
       old g i = let r = map-in (stepSigned x xs fair) (story xs (past x xs fair)) g i in
@@ -122,15 +133,18 @@ module _ (K : Setup) where
     pub client : known .call .client ≡ c
     pub number : known .call .number ≡ calls K xs c
 
-  begin-has : {ys : Steps K} (a : Call) (b : Bool) (f : b ≡ true → CallOk K ys a blankStamp) (l : List (Signed K ys)) → b ≡ true → (g : Signed K ys) × In g (beginSigned K a b f ++ l) × (g .call ≡ a)
+  begin-has : {ys : Steps K} (a : Call) (b : Bool) (f : b ≡ true → CallOk K ys a blankStamp) (l : List (Signed K ys)) → b ≡ true → (g : Signed K ys)
+      × In g (beginSigned K a b f ++ l) × (g .call ≡ a)
   unfolding beginSigned In
   begin-has a true f l e = (record { call = a; stamp = blankStamp; ok = f refl }, inl refl, refl)
   begin-has a false f l e = clash e refl
 
-  new-has : (x : StepOf K) (xs : Steps K) (c : ℕ) (st : Step) (e : x .step ≡ st) (l : List (Signed K (x ∷ xs))) → accepted (result K x xs) ≡ true → ((r n : List ℕ) × (st ≡ write c r n)) ⊎ (st ≡ read c) →
+  new-has : (x : StepOf K) (xs : Steps K) (c : ℕ) (st : Step) (e : x .step ≡ st) (l : List (Signed K (x ∷ xs))) → accepted (result K x xs) ≡ true →
+      ((r n : List ℕ) × (st ≡ write c r n)) ⊎ (st ≡ read c) →
       (g : Signed K (x ∷ xs)) × In g (newSigned K x xs st e ++ l) × (g .call .client ≡ c) × (g .call .number ≡ suc (calls K xs c))
   unfolding newSigned newCall
-  new-has x xs c (write d r n) e l acc s = let g = begin-has _ (accepted (result K x xs)) (new-write K x xs d r n e) l acc in let q : d ≡ c = same s in
+  new-has x xs c (write d r n) e l acc s = let g = begin-has _ (accepted (result K x xs)) (new-write K x xs d r n e) l acc in
+      let q : d ≡ c = same s in
       (g .0, g .1, ap (λ (a : Call). a .client) (g .2) ∙ q, ap (λ (a : Call). a .number) (g .2) ∙ ap (λ (i : ℕ). suc (calls K xs i)) q)
     where
       same : ((r' n' : List ℕ) × (write d r n ≡ write c r' n')) ⊎ (write d r n ≡ read c) → d ≡ c
@@ -164,9 +178,15 @@ module _ (K : Setup) where
 
       on : calls K xs c ≡ cl' .calls → Has xs (past x xs fair) c → Has (x ∷ xs) fair c
       on q h = let k = step-keeps x xs fair (h .known) in
-          record { known = stepSigned x xs fair (h .known); among = story-next x xs fair (h .known) (h .among); client = k .client ∙ h .client; number = k .number ∙ h .number ∙ q }
+          record {
+            known = stepSigned x xs fair (h .known);
+            among = story-next x xs fair (h .known) (h .among);
+            client = k .client ∙ h .client;
+            number = k .number ∙ h .number ∙ q;
+          }
 
-      began : cl' .calls ≡ suc (calls K xs c) → accepted (result K x xs) ≡ true → ((r n : List ℕ) × (x .step ≡ write c r n)) ⊎ (x .step ≡ read c) → Has (x ∷ xs) fair c
+      began : cl' .calls ≡ suc (calls K xs c) → accepted (result K x xs) ≡ true → ((r n : List ℕ) × (x .step ≡ write c r n)) ⊎ (x .step ≡ read c) →
+          Has (x ∷ xs) fair c
       began q acc s = let g = new-has x xs c (x .step) refl (map (stepSigned x xs fair) (story xs (past x xs fair))) acc s in
           record { known = g .0; among = g .1; client = g .2; number = g .3 ∙ sym q }
 
@@ -209,12 +229,14 @@ module _ (K : Setup) where
       (let v = show-hand K c n x xs h in
       let a = has-call xs (past x xs fair) c (subst (λ (z : Hand). isIdle z ≡ false) (sym (v .1)) refl) in
       let g = a .known in
-      let cur = subst (Cur K xs (g .call) (g .stamp)) (ap (λ (i : ℕ). hand K xs i) (a .client) ∙ v .1) (g .ok .current (a .number ∙ ap (calls K xs) (sym (a .client)))) in
+      let cur = subst (Cur K xs (g .call) (g .stamp)) (ap (λ (i : ℕ). hand K xs i) (a .client) ∙ v .1)
+      (g .ok .current (a .number ∙ ap (calls K xs) (sym (a .client)))) in
       let W = cur .0 in
       let f = subst (Known (K .s) xs c) (v .1) (known (K .s) xs c) in
       let made = mark-at K (W .write) (g .call .begun) xs (W .since-when) in
       let q : W .write .stamp ≡ f .0 .stamp = W .stamp-is ∙ sym (W .hand-is) ∙ ap (λ (z : Candidate). z .stamp) (f .3) in
-      let e : W .write ≡ f .0 = by-stamp (K .s) xs (W .write) (f .0) made (f .1) (ap (λ (z : Stamp). z .number) q) (ap (λ (z : Stamp). z .writer) q) in
+      let e : W .write ≡ f .0 = by-stamp (K .s) xs (W .write) (f .0) made (f .1) (ap (λ (z : Stamp). z .number) q)
+      (ap (λ (z : Stamp). z .writer) q) in
       record {
         known = g;
         among = a .among;

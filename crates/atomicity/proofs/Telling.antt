@@ -27,7 +27,8 @@ use Rattle.atomicity.proofs.Setup.{Setup, Steps, StepOf, Fair, lat, his
 use Rattle.atomicity.proofs.Rounds.{since, from}
 use Rattle.atomicity.proofs.Marks.{mark-num, mark-checks, by-stamp}
 use Rattle.atomicity.proofs.Servers.{held-some, is-some, raise-ge, best-view, best-max, store-held}
-use Rattle.atomicity.proofs.Genuine.{history, Judging, Genuine, genuine, genuine-up, latest-known}
+use Rattle.atomicity.proofs.Histories.{history}
+use Rattle.atomicity.proofs.Genuine.{Judging, Genuine, genuine, genuine-up, latest-known}
 use Rattle.atomicity.proofs.Heard.{lat-since, held-from, marks-from, Heard}
 use Rattle.atomicity.proofs.States.{Piece, piece-up, Sift, Coll, Says, says-up}
 
@@ -48,7 +49,8 @@ module _ (K : Setup) where
     pub from-is : from (K .s) c ys ≡ from (K .s) c xs
     pub since-is : since (K .s) c ys ≡ since (K .s) c xs
 
-  pub at-step : (c j : ℕ) (xs : Steps K) (x : Body) (h : Hand) → hand K xs c ≡ h → (y : StepOf K) (ys : Steps K) → Heard K c j xs x y ys → At c j xs (request h j) x y ys
+  pub at-step : (c j : ℕ) (xs : Steps K) (x : Body) (h : Hand) → hand K xs c ≡ h → (y : StepOf K) (ys : Steps K) → Heard K c j xs x y ys →
+      At c j xs (request h j) x y ys
   at-step c j xs x h e y ys t =
       let q : t .ask .body ≡ request h j = t .body-is ∙ ap (λ (z : Hand). request z j) e in
       record {
@@ -64,7 +66,8 @@ module _ (K : Setup) where
 
   -- ---- what a history vouches for
 
-  pub vouches : (ys : Steps K) → Fair K ys → (j : ℕ) (d : Candidate) (m : Stamped) → In m (marks (K .s) ys) → m .stamp ≡ d .stamp → m .nonce ≡ d .nonce →
+  pub vouches : (ys : Steps K) → Fair K ys → (j : ℕ) (d : Candidate) (m : Stamped) → In m (marks (K .s) ys) → m .stamp ≡ d .stamp →
+      m .nonce ≡ d .nonce →
       isSome (held (d .stamp) (hist K ys j)) ≡ true → isValid (K .s) j (now (K .s) ys .server j) d ≡ true
   unfolding valid byHistory
   vouches ys fair j d m i a n h =
@@ -73,16 +76,20 @@ module _ (K : Setup) where
       let o = history K ys fair j (e .0) (e .1) in
       let k : o .0 .stamp ≡ m .stamp = sym (ap (λ (z : Write). z .stamp) (o .2)) ∙ e .2 ∙ sym a in
       let eq : o .0 ≡ m = by-stamp (K .s) ys (o .0) m (o .1) i (ap (λ (z : Stamp). z .number) k) (ap (λ (z : Stamp). z .writer) k) in
-      let nd : f .0 .nonceDigest ≡ K .s .P .digest (d .nonce) = sym (ap (λ (z : Share). z .nonceDigest) (e .3)) ∙ ap (λ (z : Write). z .share .nonceDigest) (o .2) ∙ ap (λ (z : Stamped). K .s .P .digest (z .nonce)) eq ∙ ap (K .s .P .digest) n in
-      or-left _ _ (subst (λ (z : Option Share). hasDigest (K .s .P .digest (d .nonce)) z ≡ true) (sym (f .1)) (same-is (f .0 .nonceDigest) (K .s .P .digest (d .nonce)) nd))
+      let nd : f .0 .nonceDigest ≡ K .s .P .digest (d .nonce) = sym (ap (λ (z : Share). z .nonceDigest) (e .3))
+      ∙ ap (λ (z : Write). z .share .nonceDigest) (o .2) ∙ ap (λ (z : Stamped). K .s .P .digest (z .nonce)) eq ∙ ap (K .s .P .digest) n in
+      or-left _ _ (subst (λ (z : Option Share). hasDigest (K .s .P .digest (d .nonce)) z ≡ true) (sym (f .1))
+      (same-is (f .0 .nonceDigest) (K .s .P .digest (d .nonce)) nd))
 
   -- a share under the stamp of a shown write
-  pub piece-of : (ys : Steps K) → Fair K ys → (j : ℕ) (d : Candidate) → Genuine K ys d → (f : Share) → held (d .stamp) (hist K ys j) ≡ some f → Piece K ys j (d .stamp) f
+  pub piece-of : (ys : Steps K) → Fair K ys → (j : ℕ) (d : Candidate) → Genuine K ys d → (f : Share) → held (d .stamp) (hist K ys j) ≡ some f →
+      Piece K ys j (d .stamp) f
   piece-of ys fair j d g f h =
       let e = held-some (d .stamp) f (hist K ys j) h in
       let o = history K ys fair j (e .0) (e .1) in
       let k : o .0 .stamp ≡ g .write .stamp = sym (ap (λ (z : Write). z .stamp) (o .2)) ∙ e .2 ∙ sym (g .stamp-is) in
-      let eq : o .0 ≡ g .write = by-stamp (K .s) ys (o .0) (g .write) (o .1) (g .made) (ap (λ (z : Stamp). z .number) k) (ap (λ (z : Stamp). z .writer) k) in
+      let eq : o .0 ≡ g .write = by-stamp (K .s) ys (o .0) (g .write) (o .1) (g .made) (ap (λ (z : Stamp). z .number) k)
+      (ap (λ (z : Stamp). z .writer) k) in
       record {
         write = g .write;
         made = g .made;
@@ -101,7 +108,8 @@ module _ (K : Setup) where
 
   -- ---- round by round
 
-  sifted : (c j : ℕ) (xs : Steps K) (cs : List Candidate) (x : Body) (y : StepOf K) (ys : Steps K) → At c j xs (filter cs) x y ys → Sift K (y ∷ ys) (from (K .s) c xs) j cs (heldIn x)
+  sifted : (c j : ℕ) (xs : Steps K) (cs : List Candidate) (x : Body) (y : StepOf K) (ys : Steps K) → At c j xs (filter cs) x y ys →
+      Sift K (y ∷ ys) (from (K .s) c xs) j cs (heldIn x)
   unfolding act valid
   sifted c j xs cs x y ys t =
       let v = now (K .s) ys .server j in
@@ -110,10 +118,13 @@ module _ (K : Setup) where
       let sq : heldIn x .stamp ≡ b .stamp = ap (λ (h : Held). h .stamp) rq in
       let fq : heldIn x .share ≡ held (b .stamp) (hist K ys j) = ap (λ (h : Held). h .share) rq in
       record {
-        piece = λ f e. subst (λ (a : Stamp). Piece K (y ∷ ys) j a f) (sym sq) (go b f (sym fq ∙ e) (best-view (K .s) j v (blankCandidate (K .s .config)) cs));
+        piece = λ f e. subst (λ (a : Stamp). Piece K (y ∷ ys) j a f) (sym sq)
+            (go b f (sym fq ∙ e) (best-view (K .s) j v (blankCandidate (K .s .config)) cs));
         tags = λ d i e. subst (λ (z : Server). below (z .latest .stamp) (d .stamp) ≡ false) (sym (t .after))
-            (le-trans (d .stamp) (b .stamp) (raise b v .latest .stamp) (best-max (K .s) j v (blankCandidate (K .s .config)) cs d i (tag-valid d e)) (raise-ge b v));
-        stands = λ d i h m k a n. subst (λ (z : Stamp). below z (d .stamp) ≡ false) (sym sq) (best-max (K .s) j v (blankCandidate (K .s .config)) cs d i
+            (le-trans (d .stamp) (b .stamp) (raise b v .latest .stamp) (best-max (K .s) j v (blankCandidate (K .s .config)) cs d i (tag-valid d e))
+            (raise-ge b v));
+        stands = λ d i h m k a n. subst (λ (z : Stamp). below z (d .stamp) ≡ false) (sym sq)
+            (best-max (K .s) j v (blankCandidate (K .s .config)) cs d i
             (vouches ys (t .old) j d m (marks-from K c ys m (subst (λ (l : Steps K). In m (marks (K .s) l)) (sym (t .from-is)) k)) a n
             (held-from K c ys j (d .stamp) (subst (λ (l : Steps K). isSome (held (d .stamp) (hist K l j)) ≡ true) (sym (t .from-is)) h))));
       }
@@ -121,31 +132,45 @@ module _ (K : Setup) where
       tag-valid : (d : Candidate) → tagged (K .s) j d ≡ true → isValid (K .s) j (now (K .s) ys .server j) d ≡ true
       tag-valid d e = or-right (vouched (K .s) j (now (K .s) ys .server j) d) (tagged (K .s) j d) e
 
-      go : (b : Candidate) (f : Share) → held (b .stamp) (hist K ys j) ≡ some f → (b ≡ blankCandidate (K .s .config)) ⊎ (In b cs × (isValid (K .s) j (now (K .s) ys .server j) b ≡ true)) → Piece K (y ∷ ys) j (b .stamp) f
+      go : (b : Candidate) (f : Share) → held (b .stamp) (hist K ys j) ≡ some f → (b ≡ blankCandidate (K .s .config))
+          ⊎ (In b cs × (isValid (K .s) j (now (K .s) ys .server j) b ≡ true)) → Piece K (y ∷ ys) j (b .stamp) f
       go b f h (inl e) = absurd (no-blank ys (t .old) j f (subst (λ (z : Candidate). held (z .stamp) (hist K ys j) ≡ some f) e h))
       go b f h (inr v) = piece-up K j (b .stamp) f y ys (piece-of ys (t .old) j b
           (genuine K y ys (t .old) j (t .ask) (t .judging) b (subst (λ (z : Body). In b (judged z)) (sym (t .asked)) (v .0)) (v .1)) f h)
 
-  clocked : (c j : ℕ) (xs : Steps K) (x : Body) (y : StepOf K) (ys : Steps K) → At c j xs clock x y ys → (k : ℕ) → lat K (since (K .s) c xs) j .number ≤ higher (K .s .P) (K .s .writers) k (stampIn x)
+  clocked : (c j : ℕ) (xs : Steps K) (x : Body) (y : StepOf K) (ys : Steps K) → At c j xs clock x y ys → (k : ℕ) →
+      lat K (since (K .s) c xs) j .number ≤ higher (K .s .P) (K .s .writers) k (stampIn x)
   unfolding act
   clocked c j xs x y ys t k =
-      let low : lat K (since (K .s) c xs) j .number ≤ lat K ys j .number = num-le _ (lat K ys j) (subst (λ (l : Steps K). below (lat K ys j) (lat K l j) ≡ false) (t .since-is) (lat-since K c ys j)) in
-      subst (λ (a : Stamp). lat K (since (K .s) c xs) j .number ≤ higher (K .s .P) (K .s .writers) k a) (sym (ap stampIn (t .says))) (go low (latest-known K ys (t .old) j))
+      let low : lat K (since (K .s) c xs) j .number ≤ lat K ys j .number =
+      num-le _ (lat K ys j) (subst (λ (l : Steps K). below (lat K ys j) (lat K l j) ≡ false) (t .since-is) (lat-since K c ys j)) in
+      subst (λ (a : Stamp). lat K (since (K .s) c xs) j .number ≤ higher (K .s .P) (K .s .writers) k a) (sym (ap stampIn (t .says)))
+      (go low (latest-known K ys (t .old) j))
     where
-      go : lat K (since (K .s) c xs) j .number ≤ lat K ys j .number → (now (K .s) ys .server j .latest ≡ blankCandidate (K .s .config)) ⊎ Genuine K ys (now (K .s) ys .server j .latest) →
+      go : lat K (since (K .s) c xs) j .number ≤ lat K ys j .number → (now (K .s) ys .server j .latest ≡ blankCandidate (K .s .config))
+          ⊎ Genuine K ys (now (K .s) ys .server j .latest) →
           lat K (since (K .s) c xs) j .number ≤ higher (K .s .P) (K .s .writers) k (lat K ys j)
       go low (inl e) = omega (arith, low, ap (λ (z : Candidate). z .stamp .number) e)
-      go low (inr g) = omega (arith, low, higher-checked (K .s) k (lat K ys j) (subst (λ (a : Stamp). checks (K .s .P) (K .s .writers) a ≡ true) (g .stamp-is) (mark-checks (K .s) ys (g .write) (g .made))))
+      go low (inr g) = omega (
+        arith,
+        low,
+        higher-checked (K .s) k (lat K ys j)
+            (subst (λ (a : Stamp). checks (K .s .P) (K .s .writers) a ≡ true) (g .stamp-is) (mark-checks (K .s) ys (g .write) (g .made))),
+      )
 
-  stored : (c j : ℕ) (xs : Steps K) (w : Write) (x : Body) (y : StepOf K) (ys : Steps K) → At c j xs (store w) x y ys → eqb (codeIn x) 11 ≡ false → isSome (held (w .stamp) (hist K (y ∷ ys) j)) ≡ true
+  stored : (c j : ℕ) (xs : Steps K) (w : Write) (x : Body) (y : StepOf K) (ys : Steps K) → At c j xs (store w) x y ys → eqb (codeIn x) 11 ≡ false →
+      isSome (held (w .stamp) (hist K (y ∷ ys) j)) ≡ true
   stored c j xs w x y ys t k = subst (λ (z : Server). isSome (held (w .stamp) (z .history)) ≡ true) (sym (t .after))
       (store-held (K .s) j (now (K .s) ys .server j) w (subst (λ (z : Body). eqb (codeIn z) 11 ≡ false) (t .says) k))
 
-  done-high : (c j : ℕ) (xs : Steps K) (d : Candidate) (x : Body) (y : StepOf K) (ys : Steps K) → At c j xs (complete d) x y ys → below (lat K (y ∷ ys) j) (d .stamp) ≡ false
+  done-high : (c j : ℕ) (xs : Steps K) (d : Candidate) (x : Body) (y : StepOf K) (ys : Steps K) → At c j xs (complete d) x y ys →
+      below (lat K (y ∷ ys) j) (d .stamp) ≡ false
   unfolding act
-  done-high c j xs d x y ys t = subst (λ (z : Server). below (z .latest .stamp) (d .stamp) ≡ false) (sym (t .after)) (raise-ge d (now (K .s) ys .server j))
+  done-high c j xs d x y ys t = subst (λ (z : Server). below (z .latest .stamp) (d .stamp) ≡ false) (sym (t .after))
+      (raise-ge d (now (K .s) ys .server j))
 
-  collected : (c j : ℕ) (xs : Steps K) (x : Body) (y : StepOf K) (ys : Steps K) → At c j xs collect x y ys → Coll K (y ∷ ys) (since (K .s) c xs) j (candidateIn (K .s .config) x)
+  collected : (c j : ℕ) (xs : Steps K) (x : Body) (y : StepOf K) (ys : Steps K) → At c j xs collect x y ys →
+      Coll K (y ∷ ys) (since (K .s) c xs) j (candidateIn (K .s .config) x)
   unfolding act
   collected c j xs x y ys t = subst (Coll K (y ∷ ys) (since (K .s) c xs) j) (sym (ap (candidateIn (K .s .config)) (t .says)))
       (record {
@@ -158,16 +183,20 @@ module _ (K : Setup) where
       go (inl e) = inl e
       go (inr g) = inr (genuine-up K _ y ys g)
 
-  repaired : (c j : ℕ) (xs : Steps K) (d : Candidate) (x : Body) (y : StepOf K) (ys : Steps K) → At c j xs (repair d) x y ys → tagged (K .s) j d ≡ true → below (lat K (y ∷ ys) j) (d .stamp) ≡ false
+  repaired : (c j : ℕ) (xs : Steps K) (d : Candidate) (x : Body) (y : StepOf K) (ys : Steps K) → At c j xs (repair d) x y ys →
+      tagged (K .s) j d ≡ true → below (lat K (y ∷ ys) j) (d .stamp) ≡ false
   unfolding act valid
   repaired c j xs d x y ys t e = subst (λ (z : Server). below (z .latest .stamp) (d .stamp) ≡ false) (sym (t .after))
       (subst (λ (b : Bool). below ((cond b (raise d (now (K .s) ys .server j)) (now (K .s) ys .server j)) .latest .stamp) (d .stamp) ≡ false)
       (sym (or-right (vouched (K .s) j (now (K .s) ys .server j) d) (tagged (K .s) j d) e)) (raise-ge d (now (K .s) ys .server j)))
 
-  pub says : (c : ℕ) (xs : Steps K) (j : ℕ) (x : Body) (h : Hand) → hand K xs c ≡ h → Ever (Heard K c j xs x) xs → Says K xs (since (K .s) c xs) (from (K .s) c xs) j x h
+  pub says : (c : ℕ) (xs : Steps K) (j : ℕ) (x : Body) (h : Hand) → hand K xs c ≡ h → Ever (Heard K c j xs x) xs →
+      Says K xs (since (K .s) c xs) (from (K .s) c xs) j x h
   unfolding Says
-  says c xs j x h e ev = rise (λ (zs : Steps K). Says K zs (since (K .s) c xs) (from (K .s) c xs) j x h) (λ y zs k. says-up K (since (K .s) c xs) (from (K .s) c xs) j x h y zs k) xs
-      (ever-map (Heard K c j xs x) (λ y ys. Says K (y ∷ ys) (since (K .s) c xs) (from (K .s) c xs) j x h) (λ y ys t. go h y ys (at-step c j xs x h e y ys t)) xs ev)
+  says c xs j x h e ev = rise (λ (zs : Steps K). Says K zs (since (K .s) c xs) (from (K .s) c xs) j x h)
+      (λ y zs k. says-up K (since (K .s) c xs) (from (K .s) c xs) j x h y zs k) xs
+      (ever-map (Heard K c j xs x) (λ y ys. Says K (y ∷ ys) (since (K .s) c xs) (from (K .s) c xs) j x h)
+      (λ y ys t. go h y ys (at-step c j xs x h e y ys t)) xs ev)
     where
       go : (g : Hand) (y : StepOf K) (ys : Steps K) → At c j xs (request g j) x y ys → Says K (y ∷ ys) (since (K .s) c xs) (from (K .s) c xs) j x g
       go idle y ys t = tt

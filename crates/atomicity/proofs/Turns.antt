@@ -1,5 +1,5 @@
--- A client's hand after each reply, and what a call gives when it ends: round by round, what is known of the hand and what the reply says give what is
--- known after it; a quorum of replies, less the liars, is so many correct servers.
+-- A client's hand after each reply, and what a call gives when it ends: round by round, what is known of the hand and what the reply says give
+-- what is known after it; a quorum of replies, less the liars, is so many correct servers.
 -- Assumes nothing.
 use mathlib.Core.Path.{_≡_, refl, sym, ap, _∙_, subst}
 use mathlib.Core.Bool.{Bool, true, false, cond, not, _&&_, _||_}
@@ -29,7 +29,8 @@ use Rattle.atomicity.proofs.Marks.{mark-num}
 use Rattle.atomicity.proofs.Genuine.{Genuine}
 use Rattle.atomicity.proofs.Heard.{lat-up, held-up}
 use Rattle.atomicity.proofs.States.{S, Q, right, FullAt, TopAt, WBeats, Beats, many-marks, meets-marks, Coll, coll-up, Sift, sift-up, Proved, proved-up, Filters, HandOk, Says, ok-up, full-up, dig-up}
-use Rattle.atomicity.proofs.Groups.{in-gather, tagged-of}
+use Rattle.atomicity.proofs.Gathered.{in-gather}
+use Rattle.atomicity.proofs.Groups.{tagged-of}
 use Rattle.atomicity.proofs.Choosing.{q-pos, floor, Live, Chosen, chosen}
 
 module _ (K : Setup) where
@@ -43,14 +44,17 @@ module _ (K : Setup) where
   ResultOk ys z0 h (aborted b) = Unit {0}
 
   unfoldable pub Outcome : StepOf K → Steps K → Steps K → Steps K → Hand → Turn → Type 0
-  Outcome x xs z0 z1 h u = HandOk K (x ∷ xs) z0 (cond (eqb (stage h) (stage (u .client .hand))) z1 (x ∷ xs)) (u .client .marks) (u .client .hand) × ResultOk (x ∷ xs) z0 h (u .result)
+  Outcome x xs z0 z1 h u = HandOk K (x ∷ xs) z0 (cond (eqb (stage h) (stage (u .client .hand))) z1 (x ∷ xs)) (u .client .marks) (u .client .hand)
+      × ResultOk (x ∷ xs) z0 h (u .result)
 
   -- nothing but time went on
-  same-outcome : (x : StepOf K) (xs z0 z1 : Steps K) (h : Hand) (cl : Client) → cl .hand ≡ h → HandOk K xs z0 z1 (cl .marks) h → Outcome x xs z0 z1 h (record { client = cl; result = more })
+  same-outcome : (x : StepOf K) (xs z0 z1 : Steps K) (h : Hand) (cl : Client) → cl .hand ≡ h → HandOk K xs z0 z1 (cl .marks) h →
+      Outcome x xs z0 z1 h (record { client = cl; result = more })
   unfolding Outcome ResultOk
   same-outcome x xs z0 z1 h cl e k = (
     subst (λ (g : Hand). HandOk K (x ∷ xs) z0 (cond (eqb (stage h) (stage g)) z1 (x ∷ xs)) (cl .marks) g) (sym e)
-        (subst (λ (b : Bool). HandOk K (x ∷ xs) z0 (cond b z1 (x ∷ xs)) (cl .marks) h) (sym (eq-eqb (stage h) (stage h) refl)) (ok-up K z0 z1 (cl .marks) h x xs k)),
+        (subst (λ (b : Bool). HandOk K (x ∷ xs) z0 (cond b z1 (x ∷ xs)) (cl .marks) h) (sym (eq-eqb (stage h) (stage h) refl))
+        (ok-up K z0 z1 (cl .marks) h x xs k)),
     tt,
   )
 
@@ -64,13 +68,18 @@ module _ (K : Setup) where
   unfolding nobody
   unmarked j e = clash e refl
 
-  on-marks : (P : ℕ → Type 0) (m : ByServer Bool) (b : ℕ) → (right K b ≡ true → P b) → ((j : ℕ) → right K j ≡ true → m j ≡ true → P j) → (j : ℕ) → right K j ≡ true → upd m b true j ≡ true → P j
-  on-marks P m b f g j r e = bool-case (eqb j b) (λ q. let z = eqb-true j b q in subst P (sym z) (f (subst (λ (i : ℕ). right K i ≡ true) z r))) (λ q. g j r (sym (upd-else m b true j q) ∙ e))
+  on-marks : (P : ℕ → Type 0) (m : ByServer Bool) (b : ℕ) → (right K b ≡ true → P b) → ((j : ℕ) → right K j ≡ true → m j ≡ true → P j) → (j : ℕ) →
+      right K j ≡ true → upd m b true j ≡ true → P j
+  on-marks P m b f g j r e = bool-case (eqb j b) (λ q. let z = eqb-true j b q in subst P (sym z) (f (subst (λ (i : ℕ). right K i ≡ true) z r)))
+      (λ q. g j r (sym (upd-else m b true j q) ∙ e))
 
   -- ---- the ends of a filter round
 
-  finished : (x : StepOf K) (xs z0 z1 : Steps K) (cs : List Candidate) (old g : ByServer Held) (m : ByServer Bool) → Fair K (x ∷ xs) → Filters K (x ∷ xs) z0 z1 cs g m → Q K ≤ countTo (S K) m → (c : ℕ) (cl : Client) (d : Candidate) →
-      choice (K .s .P) (K .s .config) m g cs ≡ some d → Outcome x xs z0 z1 (filtering cs old) (found (K .s .P) (K .s .config) c (K .s .writers) (K .s .keys) cl m g d (leader (K .s .P) (K .s .config) m g d (S K)))
+  finished : (x : StepOf K) (xs z0 z1 : Steps K) (cs : List Candidate) (old g : ByServer Held) (m : ByServer Bool) → Fair K (x ∷ xs) →
+      Filters K (x ∷ xs) z0 z1 cs g m → Q K ≤ countTo (S K) m → (c : ℕ) (cl : Client) (d : Candidate) →
+      choice (K .s .P) (K .s .config) m g cs ≡ some d →
+      Outcome x xs z0 z1 (filtering cs old)
+      (found (K .s .P) (K .s .config) c (K .s .writers) (K .s .keys) cl m g d (leader (K .s .P) (K .s .config) m g d (S K)))
   unfolding found Outcome ResultOk HandOk stage onto
   finished x xs z0 z1 cs old g m fair F l c cl d ch =
       let C = chosen K (x ∷ xs) z0 z1 cs g m fair F d ch in
@@ -82,7 +91,9 @@ module _ (K : Setup) where
         (
           d,
           many-marks K _ m l
-              (λ j h i. let rg = K .parties .servers j h in not-f _ (F .sift j h i .tags d (C .among) (tagged-of K d (R .write) (sym (same-eq _ _ q) ∙ R .tags-is) (R .stamp-is) (R .digest-is) j (rg .0) (rg .1)))),
+              (λ j h i. let rg = K .parties .servers j h in
+              not-f _ (F .sift j h i .tags d (C .among)
+              (tagged-of K d (R .write) (sym (same-eq _ _ q) ∙ R .tags-is) (R .stamp-is) (R .digest-is) j (rg .0) (rg .1)))),
           record { write = R .write; made = R .made; shown = R .shown; stamp-is = R .stamp-is; content-is = R .gives; beats = C .beats },
         ),
       ))
@@ -96,12 +107,15 @@ module _ (K : Setup) where
         tt,
       ))
 
-  judged : (x : StepOf K) (xs z0 z1 : Steps K) (cs : List Candidate) (old g : ByServer Held) (m : ByServer Bool) → Fair K (x ∷ xs) → Filters K (x ∷ xs) z0 z1 cs g m → Q K ≤ countTo (S K) m → (c : ℕ) (cl : Client)
-      (ls : List Candidate) → Live K m g cs ≡ ls → (o : Option Candidate) → choice (K .s .P) (K .s .config) m g cs ≡ o → Outcome x xs z0 z1 (filtering cs old) (judge (K .s .P) (K .s .config) c (K .s .writers) (K .s .keys) cl m cs g ls o)
+  judged : (x : StepOf K) (xs z0 z1 : Steps K) (cs : List Candidate) (old g : ByServer Held) (m : ByServer Bool) → Fair K (x ∷ xs) →
+      Filters K (x ∷ xs) z0 z1 cs g m → Q K ≤ countTo (S K) m → (c : ℕ) (cl : Client)
+      (ls : List Candidate) → Live K m g cs ≡ ls → (o : Option Candidate) → choice (K .s .P) (K .s .config) m g cs ≡ o →
+      Outcome x xs z0 z1 (filtering cs old) (judge (K .s .P) (K .s .config) c (K .s .writers) (K .s .keys) cl m cs g ls o)
   unfolding judge Outcome ResultOk HandOk stage onto Beats In
   judged x xs z0 z1 cs old g m fair F l c cl [] e o q = (tt, λ b top. go b (floor K (x ∷ xs) z0 z1 cs g m F b top))
     where
-      go : (b : Stamp) → (below blankStamp b ≡ false) ⊎ ((d : Candidate) × In d (Live K m g cs) × (below (d .stamp) b ≡ false)) → below blankStamp b ≡ false
+      go : (b : Stamp) → (below blankStamp b ≡ false) ⊎ ((d : Candidate) × In d (Live K m g cs) × (below (d .stamp) b ≡ false)) →
+          below blankStamp b ≡ false
       go b (inl z) = z
       go b (inr d) = absurd (subst (λ (z : List Candidate). In (d .0) z) e (d .1))
   judged x xs z0 z1 cs old g m fair F l c cl (a ∷ ls) e none q = (F, tt)
@@ -109,8 +123,10 @@ module _ (K : Setup) where
 
   -- ---- a reply y of server b to the hand h
 
-  module _ (x : StepOf K) (xs z0 z1 : Steps K) (fair : Fair K (x ∷ xs)) (held-by : (d : Candidate) → Genuine K (x ∷ xs) d → FullAt K (x ∷ xs) (d .stamp))
-      (c : ℕ) (cl : Client) (b : ℕ) (y : Body) (dig : (f : Share) → heldIn y .share ≡ some f → In (f .part) (allDigested (K .s) (account (K .s)) (x ∷ xs))) where
+  module _ (x : StepOf K) (xs z0 z1 : Steps K) (fair : Fair K (x ∷ xs))
+      (held-by : (d : Candidate) → Genuine K (x ∷ xs) d → FullAt K (x ∷ xs) (d .stamp))
+      (c : ℕ) (cl : Client) (b : ℕ) (y : Body)
+      (dig : (f : Share) → heldIn y .share ≡ some f → In (f .part) (allDigested (K .s) (account (K .s)) (x ∷ xs))) where
     abbrev m : ByServer Bool
     m = cl .marks
 
@@ -120,28 +136,34 @@ module _ (K : Setup) where
     clock-on : (r n : List ℕ) (k : ℕ) → HandOk K xs z0 z1 m (clocking r n k) → (right K b ≡ true → Says K (x ∷ xs) z0 z1 b y (clocking r n k)) →
         (j : ℕ) → right K j ≡ true → m' j ≡ true → lat K z0 j .number ≤ higher (K .s .P) (K .s .writers) k (stampIn y)
     unfolding HandOk Says
-    clock-on r n k ok say = on-marks (λ j. lat K z0 j .number ≤ higher (K .s .P) (K .s .writers) k (stampIn y)) m b (λ h. say h k) (λ j h i. omega (arith, ok .low j h i, higher-le (K .s) k (stampIn y)))
+    clock-on r n k ok say = on-marks (λ j. lat K z0 j .number ≤ higher (K .s .P) (K .s .writers) k (stampIn y)) m b (λ h. say h k)
+        (λ j h i. omega (arith, ok .low j h i, higher-le (K .s) k (stampIn y)))
 
-    clock-beats : (r n : List ℕ) (k : ℕ) → HandOk K xs z0 z1 m (clocking r n k) → (right K b ≡ true → Says K (x ∷ xs) z0 z1 b y (clocking r n k)) → Q K ≤ countTo (S K) m' →
+    clock-beats : (r n : List ℕ) (k : ℕ) → HandOk K xs z0 z1 m (clocking r n k) → (right K b ≡ true → Says K (x ∷ xs) z0 z1 b y (clocking r n k)) →
+        Q K ≤ countTo (S K) m' →
         (a : Stamp) → a .number ≡ suc (higher (K .s .P) (K .s .writers) k (stampIn y)) → WBeats K z0 a
     unfolding WBeats
     clock-beats r n k ok say l a e τ top = let v = meets-marks K (λ j. not (below (lat K z0 j) τ)) m' top l in
         omega (arith, e, clock-on r n k ok say (v .0) (v .1) (v .3), num-le τ (lat K z0 (v .0)) (not-t _ (v .2)))
 
-    store-on : (d : Candidate) (g : ByServer Share) → HandOk K xs z0 z1 m (storing d g) → (right K b ≡ true → Says K (x ∷ xs) z0 z1 b y (storing d g)) → eqb (codeIn y) 11 ≡ false →
+    store-on : (d : Candidate) (g : ByServer Share) → HandOk K xs z0 z1 m (storing d g) →
+        (right K b ≡ true → Says K (x ∷ xs) z0 z1 b y (storing d g)) → eqb (codeIn y) 11 ≡ false →
         (j : ℕ) → right K j ≡ true → m' j ≡ true → isSome (held (d .stamp) (hist K (x ∷ xs) j)) ≡ true
     unfolding HandOk Says
-    store-on d g ok say k = on-marks (λ j. isSome (held (d .stamp) (hist K (x ∷ xs) j)) ≡ true) m b (λ h. say h k) (λ j h i. held-up K x xs j (d .stamp) (ok .holds j h i))
+    store-on d g ok say k = on-marks (λ j. isSome (held (d .stamp) (hist K (x ∷ xs) j)) ≡ true) m b (λ h. say h k)
+        (λ j h i. held-up K x xs j (d .stamp) (ok .holds j h i))
 
     complete-on : (d : Candidate) → HandOk K xs z0 z1 m (completing d) → (right K b ≡ true → Says K (x ∷ xs) z0 z1 b y (completing d)) →
         (j : ℕ) → right K j ≡ true → m' j ≡ true → below (lat K (x ∷ xs) j) (d .stamp) ≡ false
     unfolding HandOk Says
     complete-on d ok say = on-marks (λ j. below (lat K (x ∷ xs) j) (d .stamp) ≡ false) m b say (λ j h i. lat-up K x xs j (d .stamp) (ok .high j h i))
 
-    repair-on : (d : Candidate) (r : List ℕ) → 1 ≤ b → b ≤ S K → HandOk K xs z0 z1 m (repairing d r) → (right K b ≡ true → Says K (x ∷ xs) z0 z1 b y (repairing d r)) →
+    repair-on : (d : Candidate) (r : List ℕ) → 1 ≤ b → b ≤ S K → HandOk K xs z0 z1 m (repairing d r) →
+        (right K b ≡ true → Says K (x ∷ xs) z0 z1 b y (repairing d r)) →
         (j : ℕ) → right K j ≡ true → m' j ≡ true → below (lat K (x ∷ xs) j) (d .stamp) ≡ false
     unfolding HandOk Says
-    repair-on d r lo hi ok say = on-marks (λ j. below (lat K (x ∷ xs) j) (d .stamp) ≡ false) m b (λ h. say h (ok .tagged b lo hi)) (λ j h i. lat-up K x xs j (d .stamp) (ok .high j h i))
+    repair-on d r lo hi ok say = on-marks (λ j. below (lat K (x ∷ xs) j) (d .stamp) ≡ false) m b (λ h. say h (ok .tagged b lo hi))
+        (λ j h i. lat-up K x xs j (d .stamp) (ok .high j h i))
 
     abbrev sent : Candidate
     sent = candidateIn (K .s .config) y
@@ -150,7 +172,9 @@ module _ (K : Setup) where
         (j : ℕ) → right K j ≡ true → m' j ≡ true → Coll K (x ∷ xs) z0 j (upd g b sent j)
     unfolding HandOk Says
     collect-on g ok say j h e = bool-case (eqb j b)
-        (λ q. let z = eqb-true j b q in subst (λ (i : ℕ). right K i ≡ true → Coll K (x ∷ xs) z0 i (upd g b sent i)) (sym z) (λ k. subst (Coll K (x ∷ xs) z0 b) (sym (upd-here g b sent)) (say k)) h)
+        (λ q. let z = eqb-true j b q in
+        subst (λ (i : ℕ). right K i ≡ true → Coll K (x ∷ xs) z0 i (upd g b sent i)) (sym z)
+        (λ k. subst (Coll K (x ∷ xs) z0 b) (sym (upd-here g b sent)) (say k)) h)
         (λ q. subst (Coll K (x ∷ xs) z0 j) (sym (upd-else g b sent j q)) (coll-up K z0 j (g j) x xs (ok .coll j h (sym (upd-else m b true j q) ∙ e))))
 
     -- a genuine candidate is in the list that collect leaves
@@ -159,21 +183,33 @@ module _ (K : Setup) where
     unfolding isBlank
     listed g j h (inl e) = inl e
     listed g j h (inr gd) = let rg = K .parties .servers j h in
-        inr (in-gather g (S K) j (rg .0) (rg .1) (ne-eqb (g j .stamp .number) 0 (λ z. omega (arith, z, mark-num (K .s) (x ∷ xs) (gd .write) (gd .made), ap (λ (a : Stamp). a .number) (gd .stamp-is)))), gd, held-by (g j) gd)
+        inr (
+          in-gather g (S K) j (rg .0) (rg .1)
+              (ne-eqb (g j .stamp .number) 0 (λ z. omega
+              (arith, z, mark-num (K .s) (x ∷ xs) (gd .write) (gd .made), ap (λ (a : Stamp). a .number) (gd .stamp-is)))),
+          gd,
+          held-by (g j) gd,
+        )
 
-    filter-on : (cs : List Candidate) (g : ByServer Held) → HandOk K xs z0 z1 m (filtering cs g) → (right K b ≡ true → Says K (x ∷ xs) z0 z1 b y (filtering cs g)) → Filters K (x ∷ xs) z0 z1 cs (upd g b (heldIn y)) m'
+    filter-on : (cs : List Candidate) (g : ByServer Held) → HandOk K xs z0 z1 m (filtering cs g) →
+        (right K b ≡ true → Says K (x ∷ xs) z0 z1 b y (filtering cs g)) → Filters K (x ∷ xs) z0 z1 cs (upd g b (heldIn y)) m'
     unfolding HandOk Says
     filter-on cs g ok say = record {
       first = ok .first;
       sift = λ j h e. bool-case (eqb j b)
-          (λ q. let z = eqb-true j b q in subst (λ (i : ℕ). right K i ≡ true → Sift K (x ∷ xs) z1 i cs (upd g b (heldIn y) i)) (sym z) (λ k. subst (Sift K (x ∷ xs) z1 b cs) (sym (upd-here g b (heldIn y))) (say k)) h)
-          (λ q. subst (Sift K (x ∷ xs) z1 j cs) (sym (upd-else g b (heldIn y) j q)) (sift-up K z1 j cs (g j) x xs (ok .sift j h (sym (upd-else m b true j q) ∙ e))));
+          (λ q. let z = eqb-true j b q in
+          subst (λ (i : ℕ). right K i ≡ true → Sift K (x ∷ xs) z1 i cs (upd g b (heldIn y) i)) (sym z)
+          (λ k. subst (Sift K (x ∷ xs) z1 b cs) (sym (upd-here g b (heldIn y))) (say k)) h)
+          (λ q. subst (Sift K (x ∷ xs) z1 j cs) (sym (upd-else g b (heldIn y) j q))
+          (sift-up K z1 j cs (g j) x xs (ok .sift j h (sym (upd-else m b true j q) ∙ e))));
       digs = λ j f i e. bool-case (eqb j b)
           (λ q. dig f (sym (ap (λ (h : Held). h .share) (ap (upd g b (heldIn y)) (eqb-true j b q) ∙ upd-here g b (heldIn y))) ∙ e))
-          (λ q. dig-up K (f .part) x xs (ok .digs j f (sym (upd-else m b true j q) ∙ i) (sym (ap (λ (h : Held). h .share) (upd-else g b (heldIn y) j q)) ∙ e)));
+          (λ q. dig-up K (f .part) x xs (ok .digs j f (sym (upd-else m b true j q) ∙ i)
+          (sym (ap (λ (h : Held). h .share) (upd-else g b (heldIn y) j q)) ∙ e)));
     }
 
-    pub turn-ok : 1 ≤ b → b ≤ S K → (full : Bool) → (full ≡ true → Q K ≤ countTo (S K) m') → (full ≡ false → countTo (S K) m' < Q K) → (h : Hand) → cl .hand ≡ h →
+    pub turn-ok : 1 ≤ b → b ≤ S K → (full : Bool) → (full ≡ true → Q K ≤ countTo (S K) m') → (full ≡ false → countTo (S K) m' < Q K) → (h : Hand) →
+        cl .hand ≡ h →
         HandOk K xs z0 z1 m h → (right K b ≡ true → Says K (x ∷ xs) z0 z1 b y h) → Outcome x xs z0 z1 h (updated (K .s) c cl b y m' full h)
     unfolding update Outcome ResultOk HandOk stage onto prepared candidateMade stampOf
     turn-ok lo hi full yes-full no-full idle e ok say = same-outcome x xs z0 z1 idle cl e tt
@@ -185,18 +221,27 @@ module _ (K : Setup) where
         (λ k. cond-case (Outcome x xs z0 z1 (storing d g)) full _ _
         (λ q. (record { short = none-short; full = many-marks K _ m' (yes-full q) (store-on d g ok say k); high = λ j h i. unmarked j i }, tt))
         (λ q. (record { short = no-full q; beats = ok .beats; holds = store-on d g ok say k }, tt)))
-    turn-ok lo hi true yes-full no-full (completing d) e ok say = (tt, (d, refl, many-marks K _ m' (yes-full refl) (λ j h i. not-f _ (complete-on d ok say j h i))))
-    turn-ok lo hi false yes-full no-full (completing d) e ok say = (record { short = no-full refl; full = full-up K (d .stamp) x xs (ok .full); high = complete-on d ok say }, tt)
+    turn-ok lo hi true yes-full no-full (completing d) e ok say =
+        (tt, (d, refl, many-marks K _ m' (yes-full refl) (λ j h i. not-f _ (complete-on d ok say j h i))))
+    turn-ok lo hi false yes-full no-full (completing d) e ok say =
+        (record { short = no-full refl; full = full-up K (d .stamp) x xs (ok .full); high = complete-on d ok say }, tt)
     turn-ok lo hi true yes-full no-full (collecting g) e ok say = (
       record {
-        first = record { whom = m'; what = upd g b sent; enough = yes-full refl; each = λ j h i. let t = collect-on g ok say j h i in (t .high, listed (upd g b sent) j h (t .real)) };
+        first = record {
+          whom = m';
+          what = upd g b sent;
+          enough = yes-full refl;
+          each = λ j h i. let t = collect-on g ok say j h i in
+              (t .high, listed (upd g b sent) j h (t .real));
+        };
         sift = λ j h i. unmarked j i;
         digs = λ j f i e. unmarked j i;
       },
       tt,
     )
     turn-ok lo hi false yes-full no-full (collecting g) e ok say = (record { short = no-full refl; coll = collect-on g ok say }, tt)
-    turn-ok lo hi true yes-full no-full (filtering cs g) e ok say = judged x xs z0 z1 cs g (upd g b (heldIn y)) m' fair (filter-on cs g ok say) (yes-full refl) c cl _ refl _ refl
+    turn-ok lo hi true yes-full no-full (filtering cs g) e ok say =
+        judged x xs z0 z1 cs g (upd g b (heldIn y)) m' fair (filter-on cs g ok say) (yes-full refl) c cl _ refl _ refl
     turn-ok lo hi false yes-full no-full (filtering cs g) e ok say = (filter-on cs g ok say, tt)
     turn-ok lo hi true yes-full no-full (repairing d r) e ok say =
         (tt, (d, many-marks K _ m' (yes-full refl) (λ j h i. not-f _ (repair-on d r lo hi ok say j h i)), proved-up K z0 d r x xs (ok .proved)))

@@ -166,7 +166,8 @@ module _ {A : Type 0} where
   keep-in p [] x i = absurd i
   keep-in p (y ∷ ys) x i = go (p y) refl i (λ k. keep-in p ys x k)
     where
-      go : (b : Bool) → p y ≡ b → In x (cond b (y ∷ keep p ys) (keep p ys)) → (In x (keep p ys) → In x ys × (p x ≡ true)) → In x (y ∷ ys) × (p x ≡ true)
+      go : (b : Bool) → p y ≡ b → In x (cond b (y ∷ keep p ys) (keep p ys)) → (In x (keep p ys) → In x ys × (p x ≡ true)) → In x (y ∷ ys)
+          × (p x ≡ true)
       go true q (inl e) f = (inl e, subst (λ (z : A). p z ≡ true) (sym e) q)
       go true q (inr k) f = (inr (f k .0), f k .1)
       go false q k f = (inr (f k .0), f k .1)

@@ -31,11 +31,11 @@ use Rattle.atomicity.proofs.Genuine.{Judging}
 use Rattle.atomicity.proofs.Heard.{Heard, heard}
 use Rattle.atomicity.proofs.States.{S, Q, right}
 use Rattle.atomicity.proofs.Telling.{at-step}
-use Rattle.atomicity.proofs.Groups.{gather-blank}
+use Rattle.atomicity.proofs.Gathered.{gather-blank}
 use Rattle.atomicity.proofs.Choosing.{Live}
 use Rattle.atomicity.proofs.Turns.{none-short, unmarked}
 use Rattle.atomicity.proofs.Invariant.{awaits-even}
-use Rattle.atomicity.proofs.Logs.{result}
+use Rattle.atomicity.proofs.Shape.{result}
 use Rattle.atomicity.proofs.Story.{past, meets}
 
 module _ (K : Setup) where
@@ -81,33 +81,56 @@ module _ (K : Setup) where
   abbrev WaitTurn : StepOf K → Steps K → Turn → Type 0
   WaitTurn x xs u = Wait (x ∷ xs) (u .client .marks) (u .client .hand)
 
-  found-wait : (x : StepOf K) (xs : Steps K) (c : ℕ) (g : ByServer Held) (m : ByServer Bool) (cl : Client) (d : Candidate) (b : ℕ) → WaitTurn x xs (found (K .s .P) (K .s .config) c (K .s .writers) (K .s .keys) cl m g d b)
+  found-wait : (x : StepOf K) (xs : Steps K) (c : ℕ) (g : ByServer Held) (m : ByServer Bool) (cl : Client) (d : Candidate) (b : ℕ) →
+      WaitTurn x xs (found (K .s .P) (K .s .config) c (K .s .writers) (K .s .keys) cl m g d b)
   unfolding found onto Wait
   found-wait x xs c g m cl d b = cond-both (WaitTurn x xs) (sameList (tagsIn (K .s .P) (K .s .config) d (g b .share)) (d .tags)) _ _ tt tt
 
-  judge-wait : (x : StepOf K) (xs : Steps K) (c : ℕ) (cs : List Candidate) (g : ByServer Held) (m : ByServer Bool) (cl : Client) (ls : List Candidate) (o : Option Candidate) → ((d : Candidate) → In d cs → isBlank (d .stamp) ≡ false) →
-      Live K m g cs ≡ ls → choice (K .s .P) (K .s .config) m g cs ≡ o → Told (x ∷ xs) cs g m → WaitTurn x xs (judge (K .s .P) (K .s .config) c (K .s .writers) (K .s .keys) cl m cs g ls o)
+  judge-wait : (x : StepOf K) (xs : Steps K) (c : ℕ) (cs : List Candidate) (g : ByServer Held) (m : ByServer Bool) (cl : Client) (ls : List Candidate)
+      (o : Option Candidate) → ((d : Candidate) → In d cs → isBlank (d .stamp) ≡ false) →
+      Live K m g cs ≡ ls → choice (K .s .P) (K .s .config) m g cs ≡ o → Told (x ∷ xs) cs g m →
+      WaitTurn x xs (judge (K .s .P) (K .s .config) c (K .s .writers) (K .s .keys) cl m cs g ls o)
   unfolding judge onto Wait
   judge-wait x xs c cs g m cl [] o w lq cq t = tt
-  judge-wait x xs c cs g m cl (l ∷ ls) none w lq cq t = record { listed = w; undecided = λ q. (cq, λ z. (let k : _≡_ {A = List Candidate} [] (l ∷ ls) = sym z ∙ lq in (let y : _≡_ {A = ℕ} 0 1 = cc in omega arith))); told = t }
+  judge-wait x xs c cs g m cl (l ∷ ls) none w lq cq t =
+      record {
+        listed = w;
+        undecided =
+            λ q. (cq, λ z. (let k : _≡_ {A = List Candidate} [] (l ∷ ls) = sym z ∙ lq in (let y : _≡_ {A = ℕ} 0 1 = cc in omega arith)));
+        told = t;
+      }
   judge-wait x xs c cs g m cl (l ∷ ls) (some d) w lq cq t = found-wait x xs c g m cl d (leader (K .s .P) (K .s .config) m g d (K .s .config .servers))
 
-  sat-at : (c j : ℕ) (xs : Steps K) (cs : List Candidate) (g : ByServer Held) (y : Body) → hand K xs c ≡ filtering cs g → Ever (Heard K c j xs y) xs → Ever (Sat cs j (heldIn y)) xs
+  sat-at : (c j : ℕ) (xs : Steps K) (cs : List Candidate) (g : ByServer Held) (y : Body) → hand K xs c ≡ filtering cs g → Ever (Heard K c j xs y) xs →
+      Ever (Sat cs j (heldIn y)) xs
   unfolding act
   sat-at c j xs cs g y e ev = ever-map (Heard K c j xs y) (Sat cs j (heldIn y)) (λ z zs t. let a = at-step K c j xs y (filtering cs g) e z zs t in
-      record { ask = a .ask; asked = a .asked; judging = a .judging; old = a .old; stamp-is = ap (λ (b : Body). heldIn b .stamp) (a .says); share-is = ap (λ (b : Body). heldIn b .share) (a .says) }) xs ev
+      record {
+        ask = a .ask;
+        asked = a .asked;
+        judging = a .judging;
+        old = a .old;
+        stamp-is = ap (λ (b : Body). heldIn b .stamp) (a .says);
+        share-is = ap (λ (b : Body). heldIn b .share) (a .says);
+      }) xs ev
 
-  update-wait : (x : StepOf K) (xs : Steps K) (c : ℕ) (cl : Client) (b : ℕ) (y : Body) (full : Bool) → (full ≡ false → countTo (S K) (upd (cl .marks) b true) < Q K) → (h : Hand) → cl .hand ≡ h → hand K xs c ≡ h → Wait xs (cl .marks) h →
+  update-wait : (x : StepOf K) (xs : Steps K) (c : ℕ) (cl : Client) (b : ℕ) (y : Body) (full : Bool) →
+      (full ≡ false → countTo (S K) (upd (cl .marks) b true) < Q K) → (h : Hand) → cl .hand ≡ h → hand K xs c ≡ h → Wait xs (cl .marks) h →
       (right K b ≡ true → Ever (Heard K c b xs y) xs) → WaitTurn x xs (updated (K .s) c cl b y (upd (cl .marks) b true) full h)
   unfolding update onto Wait Ever prepared
   update-wait x xs c cl b y full short idle e hq w ev = subst (Wait (x ∷ xs) (cl .marks)) (sym e) tt
   update-wait x xs c cl b y true short (clocking r n k) e hq w ev = tt
   update-wait x xs c cl b y false short (clocking r n k) e hq w ev = tt
-  update-wait x xs c cl b y full short (storing d g) e hq w ev = cond-both (WaitTurn x xs) (eqb (codeIn y) 11) _ _ (subst (Wait (x ∷ xs) (cl .marks)) (sym e) tt) (cond-both (WaitTurn x xs) full _ _ tt tt)
+  update-wait x xs c cl b y full short (storing d g) e hq w ev =
+      cond-both (WaitTurn x xs) (eqb (codeIn y) 11) _ _ (subst (Wait (x ∷ xs) (cl .marks)) (sym e) tt) (cond-both (WaitTurn x xs) full _ _ tt tt)
   update-wait x xs c cl b y true short (completing d) e hq w ev = tt
   update-wait x xs c cl b y false short (completing d) e hq w ev = tt
   update-wait x xs c cl b y true short (collecting g) e hq w ev =
-      record { listed = λ d i. gather-blank (upd g b (candidateIn (K .s .config) y)) (S K) d i; undecided = λ l. absurd (omega (arith, l, none-short K)); told = λ j h i. unmarked K j i }
+      record {
+        listed = λ d i. gather-blank (upd g b (candidateIn (K .s .config) y)) (S K) d i;
+        undecided = λ l. absurd (omega (arith, l, none-short K));
+        told = λ j h i. unmarked K j i;
+      }
   update-wait x xs c cl b y false short (collecting g) e hq w ev = tt
   update-wait x xs c cl b y full short (filtering cs g) e hq w ev = go full short
     where
@@ -121,7 +144,8 @@ module _ (K : Setup) where
       told j h i = bool-case (eqb j b)
           (λ t. let z = eqb-true j b t in subst (λ (k : ℕ). right K k ≡ true → Ever (Sat cs k (g' k)) (x ∷ xs)) (sym z)
           (λ k. inr (subst (λ (v : Held). Ever (Sat cs b v) xs) (sym (upd-here g b (heldIn y))) (sat-at c b xs cs g y hq (ev k)))) h)
-          (λ t. inr (subst (λ (v : Held). Ever (Sat cs j v) xs) (sym (upd-else g b (heldIn y) j t)) (w .told j h (sym (upd-else (cl .marks) b true j t) ∙ i))))
+          (λ t. inr (subst (λ (v : Held). Ever (Sat cs j v) xs) (sym (upd-else g b (heldIn y) j t))
+          (w .told j h (sym (upd-else (cl .marks) b true j t) ∙ i))))
 
       go : (full : Bool) → (full ≡ false → countTo (S K) m' < Q K) → WaitTurn x xs (updated (K .s) c cl b y m' full (filtering cs g))
       go true short = judge-wait x xs c cs g' m' cl (Live K m' g' cs) (choice (K .s .P) (K .s .config) m' g' cs) (w .listed) refl refl told
@@ -149,6 +173,9 @@ module _ (K : Setup) where
       go (rbegan s a i e) h = subst At (sym e) tt
       go (quit s a i e) h = subst At (sym e) tt
       go (took p b o s rd fit e v) h =
-          subst At (sym e) (update-wait x xs c (w .client c) (p .head .server) (p .body) _ (λ q. leb-false (Q K) (countTo (S K) (upd (w .client c .marks) (p .head .server) true)) q) (hand K xs c) refl refl h
+          subst At (sym e) (update-wait x xs c (w .client c) (p .head .server) (p .body) _
+          (λ q. leb-false (Q K) (countTo (S K) (upd (w .client c .marks) (p .head .server) true)) q) (hand K xs c) refl refl h
           (λ k. heard K c xs (past K x xs fair) p good (fit .mine) (fit .call) (fit .busy) (fit .kind)
-          (by-server K x xs (meets K x xs fair) p (ap packetIn s ∙ rd) (subst (λ (z : Result). accepted z ≡ true) (sym v) (turn-turned (K .s) c (w .client c) p .fine)) (ap odd (fit .kind) ∙ awaits-even K (hand K xs c)) k)))
+          (by-server K x xs (meets K x xs fair) p (ap packetIn s ∙ rd)
+          (subst (λ (z : Result). accepted z ≡ true) (sym v) (turn-turned (K .s) c (w .client c) p .fine))
+          (ap odd (fit .kind) ∙ awaits-even K (hand K xs c)) k)))

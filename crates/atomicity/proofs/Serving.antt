@@ -1,0 +1,165 @@
+-- How a step changes one server, and what is behind the packet that a step sends, each as a view with equations. It holds by the cases of the
+-- step and of its refusals.
+-- Assumes nothing.
+use mathlib.Core.Path.{_≡_, refl, sym, ap, _∙_, subst}
+use mathlib.Core.Bool.{true, false, not, _&&_}
+use mathlib.Core.List.{List}
+use mathlib.Core.Option.{Option, none, some, Option·some-injective}
+use mathlib.Core.Logic.{_⊎_, inl, inr}
+use Prim.Native.Nat.{ℕ, zero, suc, _≤_}
+use lib.ListN.{length}
+use lib.Dec.{leb, eqb}
+use borrow.Author.Tests.{leb-true, eqb-true, eq-eqb}
+use Rattle.cluster.specs.Ranges.{within, topClient}
+use Rattle.cluster.specs.Refusals.{onRefusal}
+use Rattle.protocol.specs.Packet.{Packet, decode}
+use Rattle.protocol.specs.Rules.{upd}
+use Rattle.protocol.specs.Server.{Server, Stepped, barred, replyTo, serverRefusal, serverStep, answered}
+use Rattle.protocol.specs.Client.{Made, isIdle, made, badFaults}
+use Rattle.protocol.specs.Client.{makeRefusal, makeStep}
+use Rattle.protocol.specs.Runs.{Step, write, read, make, take-reply, give-up, serve, World, doValues, setClient, resultOf}
+use Rattle.atomicity.specs.Steps.{System, accepted, makes, serves, packetIn}
+use Rattle.atomicity.proofs.Util.{cond-zero, not-false, not-t, no-some, and-left, and-right, upd-case, upd-here, clash}
+use Rattle.atomicity.proofs.Model.{perform, acts}
+
+-- ---- a server
+
+-- what is known of a request that is let in
+pub record Asked (s : System) (j : ℕ) (p : Packet) : Type 0 where
+  pub same-t : p .head .t ≡ s .config .t
+  pub mine : p .head .server ≡ j
+  pub allowed : barred (p .head .client) (p .body) ≡ false
+
+pub serve-asked : (s : System) (j : ℕ) (p : Packet) (room : ℕ) → serverRefusal (s .config .t) j (some p) room ≡ 0 → Asked s j p
+unfolding serverRefusal
+serve-asked s j p room e =
+    let z1 = cond-zero (not (eqb (p .head .t) (s .config .t) && eqb (p .head .server) j)) 7 _ e in
+    let z2 = cond-zero (barred (p .head .client) (p .body)) 8 _ (z1 .1) in
+    let a = not-false (eqb (p .head .t) (s .config .t) && eqb (p .head .server) j) (z1 .0) in
+    record { same-t = eqb-true _ _ (and-left _ _ a); mine = eqb-true _ _ (and-right (eqb (p .head .t) (s .config .t)) _ a); allowed = z2 .0 }
+
+pub data Served (s : System) (j : ℕ) (w : World) (x : Step) (v : Server) : Type 0 where
+  same : v ≡ w .server j → Served s j w x v
+  acted : (p : Packet) → serves j x ≡ true → packetIn x ≡ some p → Asked s j p → accepted (perform s w x .result) ≡ true →
+      v ≡ acts s j (w .server j) (p .body) .server → Served s j w x v
+
+-- what is behind a reply
+pub record Answered (s : System) (w : World) (j : ℕ) (x : Step) (p : Packet) : Type 0 where
+  pub ask : Packet
+  pub got : packetIn x ≡ some ask
+  pub asked : Asked s j ask
+  pub fine : accepted (perform s w x .result) ≡ true
+  pub after : perform s w x .world .server j ≡ acts s j (w .server j) (ask .body) .server
+  pub reply : p ≡ replyTo ask (acts s j (w .server j) (ask .body) .reply)
+
+module _ (s : System) (w : World) where
+  serve-view : (b : ℕ) (p o : List ℕ) (q : Option Packet) → decode p ≡ q →
+      let d = serverStep (s .P) (s .config) (s .keys b) b (w .server b) (length o) q in
+      ((d .server ≡ w .server b) × ((r : Packet) → d .reply ≡ some r → ⊥))
+      ⊎ ((a : Packet) × (q ≡ some a) × Asked s b a × (d .number ≡ 0) × (d .server ≡ acts s b (w .server b) (a .body) .server)
+      × (d .reply ≡ some (replyTo a (acts s b (w .server b) (a .body) .reply))))
+  unfolding serverStep answered serverRefusal
+  serve-view b p o none e = inl (refl, λ r k. no-some k)
+  serve-view b p o (some a) e = go (serverRefusal (s .config .t) b (some a) (length o)) refl
+    where
+      go : (k : ℕ) → serverRefusal (s .config .t) b (some a) (length o) ≡ k →
+          let d = onRefusal k (answered (s .P) (s .config) (s .keys b) b (w .server b) (length o) (some a))
+          (record { number = k; server = w .server b; reply = none }) in
+          ((d .server ≡ w .server b) × ((r : Packet) → d .reply ≡ some r → ⊥))
+          ⊎ ((a' : Packet) × (some a ≡ some a') × Asked s b a' × (d .number ≡ 0) × (d .server ≡ acts s b (w .server b) (a' .body) .server)
+          × (d .reply ≡ some (replyTo a' (acts s b (w .server b) (a' .body) .reply))))
+      go zero z = inr (a, refl, serve-asked s b a (length o) z, refl, refl, refl)
+      go (suc n) z = inl (refl, λ r k. no-some k)
+
+  -- server j after a step
+  pub served : (j : ℕ) (x : Step) → Served s j w x (perform s w x .world .server j)
+  unfolding doValues setClient
+  served j (write c r n) = same refl
+  served j (read c) = same refl
+  served j (make c b o) = same refl
+  served j (take-reply c b o) = same refl
+  served j (give-up c) = same refl
+  served j (serve b p o) = upd-case (λ (v : Server). Served s j w (serve b p o) v) (w .server) b _ j (λ e. here e (serve-view b p o (decode p) refl))
+      (λ e. same refl)
+    where
+      d : Stepped
+      d = serverStep (s .P) (s .config) (s .keys b) b (w .server b) (length o) (decode p)
+
+      here : j ≡ b → ((d .server ≡ w .server b) × ((r : Packet) → d .reply ≡ some r → ⊥))
+          ⊎ ((a : Packet) × (decode p ≡ some a) × Asked s b a × (d .number ≡ 0) × (d .server ≡ acts s b (w .server b) (a .body) .server)
+          × (d .reply ≡ some (replyTo a (acts s b (w .server b) (a .body) .reply))))
+          → Served s j w (serve b p o) (d .server)
+      here e (inl q) = same (q .0 ∙ ap (w .server) (sym e))
+      here e (inr q) = acted (q .0) (eq-eqb j b e) (q .1) (subst (λ (i : ℕ). Asked s i (q .0)) (sym e) (q .2))
+          (ap (λ (k : ℕ). accepted (resultOf k)) (q .3))
+          (q .4 ∙ ap (λ (i : ℕ). acts s i (w .server i) (q .0 .body) .server) (sym e))
+
+  -- ---- what is behind a packet that was sent
+
+  pub answer : (j : ℕ) (x : Step) (p : Packet) → serves j x ≡ true → perform s w x .sent ≡ some p → Answered s w j x p
+  unfolding doValues setClient
+  answer j (write c r n) p e f = clash e refl
+  answer j (read c) p e f = clash e refl
+  answer j (make c b o) p e f = clash e refl
+  answer j (take-reply c b o) p e f = clash e refl
+  answer j (give-up c) p e f = clash e refl
+  answer j (serve b q o) p e f = go (serve-view b q o (decode q) refl)
+    where
+      d : Stepped
+      d = serverStep (s .P) (s .config) (s .keys b) b (w .server b) (length o) (decode q)
+
+      same-server : b ≡ j
+      same-server = sym (eqb-true j b e)
+
+      go : ((d .server ≡ w .server b) × ((r : Packet) → d .reply ≡ some r → ⊥))
+          ⊎ ((a : Packet) × (decode q ≡ some a) × Asked s b a × (d .number ≡ 0) × (d .server ≡ acts s b (w .server b) (a .body) .server)
+          × (d .reply ≡ some (replyTo a (acts s b (w .server b) (a .body) .reply))))
+          → Answered s w j (serve b q o) p
+      go (inl z) = absurd (z .1 p f)
+      go (inr z) = record {
+        ask = z .0;
+        got = z .1;
+        asked = subst (λ (i : ℕ). Asked s i (z .0)) same-server (z .2);
+        fine = ap (λ (k : ℕ). accepted (resultOf k)) (z .3);
+        after = subst (λ (i : ℕ). upd (w .server) b (d .server) i ≡ acts s i (w .server i) (z .0 .body) .server) same-server
+            (upd-here (w .server) b (d .server) ∙ z .4);
+        reply = Option·some-injective _ _ (sym f ∙ z .5) ∙ ap (λ (i : ℕ). replyTo (z .0) (acts s i (w .server i) (z .0 .body) .reply)) same-server;
+      }
+
+  -- a packet made by client c
+  pub record Making (c : ℕ) (x : Step) (p : Packet) : Type 0 where
+    pub to : ℕ
+    pub low : 1 ≤ to
+    pub high : to ≤ s .config .servers
+    pub busy : isIdle (w .client c .hand) ≡ false
+    pub is : p ≡ made (s .config .t) c (w .client c) to
+
+  pub making : (c : ℕ) (x : Step) (p : Packet) → makes c x ≡ true → perform s w x .sent ≡ some p → Making c x p
+  unfolding doValues setClient makeStep makeRefusal
+  making c (write d r n) p e f = clash e refl
+  making c (read d) p e f = clash e refl
+  making c (take-reply d b o) p e f = clash e refl
+  making c (give-up d) p e f = clash e refl
+  making c (serve b q o) p e f = clash e refl
+  making c (make d b o) p e f = go (makeRefusal (s .config) d b (not (isIdle (w .client d .hand))) (length o)) refl f
+    where
+      same-client : d ≡ c
+      same-client = sym (eqb-true c d e)
+
+      go : (k : ℕ) → makeRefusal (s .config) d b (not (isIdle (w .client d .hand))) (length o) ≡ k →
+          (onRefusal {A = Made} k (record { number = 0; packet = some (made (s .config .t) d (w .client d) b) })
+          (record { number = k; packet = none })) .packet ≡ some p → Making c (make d b o) p
+      go (suc n) z q = absurd (no-some q)
+      go zero z q =
+          let z1 = cond-zero (badFaults (s .config)) 2 _ z in
+          let z2 = cond-zero (not (within 1 (s .config .servers) b)) 3 _ (z1 .1) in
+          let z3 = cond-zero (not (within 1 topClient d)) 4 _ (z2 .1) in
+          let z4 = cond-zero (not (not (isIdle (w .client d .hand)))) 12 _ (z3 .1) in
+          let i = not-false (within 1 (s .config .servers) b) (z2 .0) in
+          record {
+            to = b;
+            low = leb-true 1 b (and-left _ _ i);
+            high = leb-true b (s .config .servers) (and-right (leb 1 b) _ i);
+            busy = subst (λ (i : ℕ). isIdle (w .client i .hand) ≡ false) same-client (not-t _ (not-false _ (z4 .0)));
+            is = sym (Option·some-injective _ _ q) ∙ ap (λ (i : ℕ). made (s .config .t) i (w .client i) b) same-client;
+          }
