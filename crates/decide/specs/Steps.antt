@@ -1,0 +1,107 @@
+-- The steps to a decision, one for each function of the code, in terms of the rules.
+-- A stamp's rank is number and writer as one number: for bytes, stamps are ordered by it.
+use mathlib.Core.Path.{_≡_}
+use mathlib.Core.Bool.{Bool, true, false, cond, not, _&&_}
+use mathlib.Core.List.{List, [], _∷_, _++_}
+use mathlib.Core.Option.{Option, none, some}
+use Prim.Native.Nat.{ℕ, zero, suc, _+_, _*_, _≤_, _<_}
+use lib.Dec.{ltb, eqb}
+use lib.ListN.{length, take, drop, getD}
+use Rattle.cluster.specs.Config.{Config, quorum, shelf}
+use Rattle.cluster.specs.Ranges.{within, leastLength, topLength, topFaults}
+use Rattle.sha256.specs.Sha256.{sha256}
+use Rattle.protocol.specs.declared.Stamp.{Stamp}
+use Rattle.protocol.specs.Format.{Bytes, value2, value4}
+use Rattle.protocol.specs.Values.{Candidate, Share, Held, sameList, nth, digestSize, stampSize, sameStamp}
+use Rattle.protocol.specs.Primitives.{real}
+use Rattle.protocol.specs.Rules.{ByServer, countTo, fits, agrees, leader}
+use Rattle.protocol.specs.View.{keptSize, marked, candidatesIn, repliesIn, replySlotOf, heldAt}
+use Rattle.decide.specs.Listing.{usable, enters}
+
+-- what the private functions ask of their arguments
+pub record Usable (t : ℕ) (kept : List ℕ) : Type 0 where
+  pub low : 1 ≤ t
+  pub high : t ≤ topFaults
+  pub size : length kept ≡ keptSize
+  pub bytes : Bytes kept
+
+-- the test of the arguments, and what it tells
+pub record UsableAs (t : ℕ) (kept : List ℕ) (r : Bool) : Type 0 where
+  pub same : r ≡ usable t kept
+  pub told : r ≡ true → Usable t kept
+
+abbrev pub bit : Bool → ℕ
+bit true = 1
+bit false = 0
+
+-- ---- ranks
+
+abbrev pub rank : Stamp → ℕ
+rank a = 256 * a .number + a .writer
+
+unfoldable pub rankAt : List ℕ → ℕ → ℕ
+rankAt d at = 256 * value4 (getD d at 0) (getD d (at + 1) 0) (getD d (at + 2) 0) (getD d (at + 3) 0) + getD d (at + 4) 0
+
+-- the ranks of blank stamps go up to this one
+abbrev pub blankRank : ℕ
+blankRank = 255
+
+-- server i replied with a stamp of a lower rank
+abbrev pub ranksBelow : ByServer Bool → ByServer Held → ℕ → ByServer Bool
+ranksBelow m g key i = m i && ltb (rank (g i .stamp)) key
+
+-- a candidate of this rank is still in the list
+unfoldable pub stays : Config → ByServer Bool → ByServer Held → ℕ → Bool
+stays s m g key = ltb (countTo (s .servers) (ranksBelow m g key)) (quorum s)
+
+-- the highest rank of the candidates of servers 1 to n that stay, or the blank one
+unfoldable pub topRank : Config → ByServer Bool → ByServer Held → ByServer Candidate → ℕ → ℕ
+topRank s m g held zero = blankRank
+topRank s m g held (suc n) =
+    let top = topRank s m g held n in
+    let key = rank (held (suc n) .stamp) in
+    cond (ltb top key && stays s m g key) key top
+
+-- ---- groups
+
+-- what a reply shows without a digest of its fragment: the candidate's stamp, a length in its range, and the nonce's digest d
+abbrev pub namesShare : List ℕ → Option Share → Bool
+namesShare d none = false
+namesShare d (some h) = within leastLength topLength (h .size) && sameList (h .nonceDigest) d
+
+unfoldable pub names : Candidate → List ℕ → Held → Bool
+names c d x = sameStamp (x .stamp) (c .stamp) && namesShare d (x .share)
+
+-- server i's fragment has its own digest
+abbrev pub intact : ℕ → Option Share → Bool
+intact i none = false
+intact i (some h) = sameList (sha256 (h .part)) (nth digestSize (h .digests) i)
+
+-- the marked ones of servers 1 to n, in order
+unfoldable pub serversOf : ℕ → ByServer Bool → List ℕ
+serversOf zero m = []
+serversOf (suc n) m = serversOf n m ++ cond (m (suc n)) (suc n ∷ []) []
+
+-- the rules at the candidate of slot i, for the servers of slots b and j
+unfoldable pub fitsAt : ℕ → List ℕ → List ℕ → ℕ → ℕ → Bool
+fitsAt t marks kept i j = fits real (shelf t) (marked marks) (repliesIn (shelf t) marks kept) (candidatesIn (shelf t) kept (suc i)) (suc j)
+
+unfoldable pub agreesAt : ℕ → List ℕ → List ℕ → ℕ → ℕ → ByServer Bool
+agreesAt t marks kept i b = agrees real (shelf t) (marked marks) (repliesIn (shelf t) marks kept) (candidatesIn (shelf t) kept (suc i)) (suc b)
+
+unfoldable pub leaderAt : ℕ → List ℕ → List ℕ → ℕ → ℕ → ℕ
+leaderAt t marks kept i n = leader real (shelf t) (marked marks) (repliesIn (shelf t) marks kept) (candidatesIn (shelf t) kept (suc i)) n
+
+-- the reply in slot j, whoever is marked
+unfoldable pub slotHeld : ℕ → List ℕ → ℕ → Held
+slotHeld t kept j = heldAt (shelf t) (replySlotOf kept j)
+
+-- a reply's slot has byte 1 (any but 0) and a length in its range
+pub record Full (reply : List ℕ) : Type 0 where
+  pub flag : eqb (getD reply stampSize 0) 0 ≡ false
+  pub least : leastLength ≤ value2 (getD reply (stampSize + 1) 0) (getD reply (stampSize + 2) 0)
+  pub top : value2 (getD reply (stampSize + 1) 0) (getD reply (stampSize + 2) 0) ≤ topLength
+
+-- the servers of b's group, as many as restore a content
+unfoldable pub membersAt : ℕ → List ℕ → List ℕ → ℕ → ℕ → List ℕ
+membersAt t marks kept i b = take (shelf t .shares) (serversOf (shelf t .servers) (agreesAt t marks kept i b))
