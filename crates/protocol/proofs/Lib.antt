@@ -1,0 +1,14 @@
+pub mod Answers
+pub mod Formats
+pub mod Repeats
+pub mod Leaves
+pub mod Puts
+pub mod Packets
+pub mod Bodies
+pub mod Whole
+pub mod Equal
+pub mod Walks
+pub mod Room
+pub mod Memories
+pub mod Changes
+pub mod Primitive
