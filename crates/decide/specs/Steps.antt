@@ -11,7 +11,7 @@ use Rattle.cluster.specs.Config.{Config, quorum, shelf}
 use Rattle.cluster.specs.Ranges.{within, leastLength, topLength, topFaults}
 use Rattle.sha256.specs.Sha256.{sha256}
 use Rattle.protocol.specs.declared.Stamp.{Stamp}
-use Rattle.protocol.specs.Format.{Bytes, value2, value4}
+use Rattle.protocol.specs.Format.{value2, value4}
 use Rattle.protocol.specs.Values.{Candidate, Share, Held, sameList, nth, digestSize, stampSize, sameStamp}
 use Rattle.protocol.specs.Primitives.{real}
 use Rattle.protocol.specs.Rules.{ByServer, countTo, fits, agrees, leader}
@@ -23,7 +23,6 @@ pub record Usable (t : ℕ) (kept : List ℕ) : Type 0 where
   pub low : 1 ≤ t
   pub high : t ≤ topFaults
   pub size : length kept ≡ keptSize
-  pub bytes : Bytes kept
 
 -- the test of the arguments, and what it tells
 pub record UsableAs (t : ℕ) (kept : List ℕ) (r : Bool) : Type 0 where

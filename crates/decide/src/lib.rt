@@ -6,7 +6,7 @@ ghost use Prim.Native.Nat.{suc, _+_, _*_, _-_, _<_, _≤_};
 ghost use lib.ListN.{length, getD, take};
 ghost use Rattle.cluster.specs.Config.{shelf, quorum};
 ghost use Rattle.erasure.specs.Fragments.{fragmentSize};
-ghost use Rattle.protocol.specs.Format.{Bytes, value2};
+ghost use Rattle.protocol.specs.Format.{value2};
 ghost use Rattle.protocol.specs.Values.{sameList, sameCandidate};
 ghost use Rattle.protocol.specs.View.{candidatesIn};
 ghost use Rattle.decide.specs.Listing.{usable, enters, listedIn, listedCount};
@@ -45,10 +45,7 @@ fn is_usable(kept: &[u8], t: usize) -> bool
     if t > cluster::TOP_FAULTS {
         return false;
     }
-    if kept.len() != KEPT {
-        return false;
-    }
-    kept[0] as usize <= 255
+    kept.len() == KEPT
 }
 
 fn wide(x: u8) -> u64

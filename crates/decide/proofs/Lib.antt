@@ -1,0 +1,4 @@
+pub mod Places
+pub mod Gathered
+pub mod Arguments
+pub mod Ranks
