@@ -2,3 +2,5 @@ pub mod Places
 pub mod Gathered
 pub mod Arguments
 pub mod Ranks
+pub mod Counted
+pub mod Replies

@@ -91,6 +91,12 @@ pub same-stamps : (a b : List ℕ) → Bytes a → Bytes b → stampSize ≤ len
     → sameList (part a 0 stampSize) (part b 0 stampSize) ≡ sameStamp (stampAt a) (stampAt b)
 same-stamps a b p q h k = rw (← stamp-bytes a p h, ← stamp-bytes b q k) (same-printed (stampAt a) (stampAt b))
 
+-- the same, of the first bytes as the code takes them
+pub same-heads : (a b : List ℕ) → Bytes a → Bytes b → stampSize ≤ length a → stampSize ≤ length b
+    → sameList (take stampSize a) (take stampSize b) ≡ sameStamp (stampAt a) (stampAt b)
+unfolding part
+same-heads a b p q h k = same-stamps a b p q h k
+
 pub same-candidates : (s : Config) (a b : List ℕ) → Bytes a → Bytes b → candidateSize s ≤ length a → candidateSize s ≤ length b
     → sameList (part a 0 (candidateSize s)) (part b 0 (candidateSize s)) ≡ sameCandidate (candidateAt s a) (candidateAt s b)
 unfolding candidateAt sameCandidate

@@ -1,11 +1,12 @@
 -- Stamps of bytes are ordered by rank: the writer is below 256, so number and writer are the digits of one number. A stamp is blank where its rank is
 -- at most 255. Ranks in slots are read off the kept bytes. Nothing is assumed.
 use mathlib.Core.Path.{_≡_, refl, sym, ap, _∙_}
-use mathlib.Core.Bool.{Bool, true, false, cond, _&&_, _||_}
+use mathlib.Core.Bool.{Bool, true, false, cond, not, _&&_, _||_}
 use mathlib.Core.List.{List}
 use Prim.Native.Nat.{ℕ, zero, suc, _+_, _*_, _≤_, _<_}
 use native.Mathlib.Omega.{arith}
 use lib.Dec.{ltb, eqb}
+use lib.ListN.{getD}
 use borrow.Author.Tests.{ltb-true, ltb-false, eqb-true, eqb-false, lt-ltb, le-ltb, eq-eqb, ne-eqb}
 use Rattle.cluster.specs.Config.{Config}
 use Rattle.cluster.specs.Ranges.{mostServers}
@@ -14,7 +15,7 @@ use Rattle.protocol.specs.Format.{Bytes}
 use Rattle.protocol.specs.Values.{Candidate, Held, noHeld, blankCandidate, isBlank, below}
 use Rattle.protocol.specs.View.{part, stampAt, candidateAt, heldAt, candidateSlot, candidatesAt, repliesAt, replySlot, marked, candidatesIn, repliesIn, replySlotOf}
 use Rattle.protocol.proofs.Equal.{test-ext}
-use Rattle.decide.specs.Steps.{rank, rankAt, blankRank}
+use Rattle.decide.specs.Steps.{ranksBelow, rank, rankAt, blankRank}
 use Rattle.decide.proofs.Places.{bytes-part, candidate-in, reply-in, stamp-rank}
 
 pub below-rank : (a b : Stamp) → a .writer < 256 → b .writer < 256 → below a b ≡ ltb (rank a) (rank b)
@@ -91,3 +92,14 @@ module _ (s : Config) (kept : List ℕ) where
         go : (y : Bool) → cond y (heldAt s (part kept (repliesAt + replySlot * i) replySlot)) noHeld .stamp .writer < 256
         go true = stamp-writer kept (repliesAt + replySlot * i) replySlot b
         go false = omega arith
+
+    -- a lower reply, as it is read
+    pub below-slot : (key i : ℕ) → i < 13
+        → ranksBelow (marked ms) (repliesIn s ms kept) key (suc i) ≡ (not (eqb (getD ms i 0) 0) && ltb (rankAt kept (repliesAt + replySlot * i)) key)
+    unfolding marked
+    below-slot key i h = go (not (eqb (getD ms i 0) 0)) refl
+      where
+        go : (b : Bool) → not (eqb (getD ms i 0) 0) ≡ b
+            → (b && ltb (rank (repliesIn s ms kept (suc i) .stamp)) key) ≡ (b && ltb (rankAt kept (repliesAt + replySlot * i)) key)
+        go true e = ap (λ (r : ℕ). ltb r key) (reply-rank i h e)
+        go false e = refl

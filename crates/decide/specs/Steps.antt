@@ -12,10 +12,13 @@ use Rattle.cluster.specs.Ranges.{within, leastLength, topLength, topFaults}
 use Rattle.sha256.specs.Sha256.{sha256}
 use Rattle.protocol.specs.declared.Stamp.{Stamp}
 use Rattle.protocol.specs.Format.{value2, value4}
-use Rattle.protocol.specs.Values.{Candidate, Share, Held, sameList, nth, digestSize, stampSize, sameStamp}
+use Rattle.protocol.specs.Values.{Candidate, Share, Held, sameList, nth, digestSize, digestsSize, tagsSize, stampSize, sameStamp}
 use Rattle.protocol.specs.Primitives.{real}
-use Rattle.protocol.specs.Rules.{ByServer, countTo, fits, agrees, leader}
-use Rattle.protocol.specs.View.{keptSize, marked, candidatesIn, repliesIn, replySlotOf, heldAt}
+use Rattle.protocol.specs.Rules.{ByServer, countTo, fits, agrees, leads, leader}
+use Rattle.protocol.specs.View.{keptSize, marked, candidatesIn, repliesIn, replySlotOf, replySlot, heldAt}
+use Rattle.erasure.specs.Fragments.{fragmentSize}
+use Rattle.decide.specs.declared.Members.{Members}
+use Rattle.decide.specs.declared.Group.{Group}
 use Rattle.decide.specs.Listing.{usable, enters}
 
 -- what the private functions ask of their arguments
@@ -53,13 +56,14 @@ ranksBelow m g key i = m i && ltb (rank (g i .stamp)) key
 unfoldable pub stays : Config → ByServer Bool → ByServer Held → ℕ → Bool
 stays s m g key = ltb (countTo (s .servers) (ranksBelow m g key)) (quorum s)
 
+-- the higher of a rank and the candidate's, where it stays
+unfoldable pub raised : Config → ByServer Bool → ByServer Held → Candidate → ℕ → ℕ
+raised s m g c top = cond (ltb top (rank (c .stamp)) && stays s m g (rank (c .stamp))) (rank (c .stamp)) top
+
 -- the highest rank of the candidates of servers 1 to n that stay, or the blank one
 unfoldable pub topRank : Config → ByServer Bool → ByServer Held → ByServer Candidate → ℕ → ℕ
 topRank s m g held zero = blankRank
-topRank s m g held (suc n) =
-    let top = topRank s m g held n in
-    let key = rank (held (suc n) .stamp) in
-    cond (ltb top key && stays s m g key) key top
+topRank s m g held (suc n) = raised s m g (held (suc n)) (topRank s m g held n)
 
 -- ---- groups
 
@@ -88,8 +92,14 @@ fitsAt t marks kept i j = fits real (shelf t) (marked marks) (repliesIn (shelf t
 unfoldable pub agreesAt : ℕ → List ℕ → List ℕ → ℕ → ℕ → ByServer Bool
 agreesAt t marks kept i b = agrees real (shelf t) (marked marks) (repliesIn (shelf t) marks kept) (candidatesIn (shelf t) kept (suc i)) (suc b)
 
+unfoldable pub leadsAt : ℕ → List ℕ → List ℕ → ℕ → ℕ → Bool
+leadsAt t marks kept i b = leads real (shelf t) (marked marks) (repliesIn (shelf t) marks kept) (candidatesIn (shelf t) kept (suc i)) (suc b)
+
 unfoldable pub leaderAt : ℕ → List ℕ → List ℕ → ℕ → ℕ → ℕ
 leaderAt t marks kept i n = leader real (shelf t) (marked marks) (repliesIn (shelf t) marks kept) (candidatesIn (shelf t) kept (suc i)) n
+
+unfoldable pub topAt : ℕ → List ℕ → List ℕ → ℕ → ℕ
+topAt t marks kept n = topRank (shelf t) (marked marks) (repliesIn (shelf t) marks kept) (candidatesIn (shelf t) kept) n
 
 -- the reply in slot j, whoever is marked
 unfoldable pub slotHeld : ℕ → List ℕ → ℕ → Held
@@ -104,3 +114,23 @@ pub record Full (reply : List ℕ) : Type 0 where
 -- the servers of b's group, as many as restore a content
 unfoldable pub membersAt : ℕ → List ℕ → List ℕ → ℕ → ℕ → List ℕ
 membersAt t marks kept i b = take (shelf t .shares) (serversOf (shelf t .servers) (agreesAt t marks kept i b))
+
+-- ---- what the functions that answer with a group tell
+
+pub record DigestsAt (t n r : ℕ) : Type 0 where
+  pub place : r ≡ stampSize + 3 + fragmentSize (shelf t .shares) n
+  pub room : r + digestsSize (shelf t) + digestSize + tagsSize (shelf t) ≤ replySlot
+
+-- the first servers of the array are the members
+pub record MembersAs (t : ℕ) (marks kept : List ℕ) (i b : ℕ) (r : Members) : Type 0 where
+  pub count : r .count ≡ length (membersAt t marks kept i b)
+  pub these : take (r .count) (r .servers) ≡ membersAt t marks kept i b
+
+-- the server is that of slot b, with its members, where `led` holds; else 0
+pub record GroupAs (t : ℕ) (marks kept : List ℕ) (i n : ℕ) (r : Group) : Type 0 where
+  pub server : r .server ≡ n
+  pub these : (b : ℕ) → n ≡ suc b → take (shelf t .shares) (r .servers) ≡ membersAt t marks kept i b
+
+-- the candidate of slot i has this rank and is listed
+unfoldable pub triedAt : ℕ → List ℕ → ℕ → ℕ → Bool
+triedAt t kept key i = eqb (rank (candidatesIn (shelf t) kept (suc i) .stamp)) key && enters (candidatesIn (shelf t) kept) (suc i)

@@ -63,7 +63,7 @@ returns c =
     let s = c .before .before .before .servers .ensures in
     c .same .ensures ∙ rw (part-of, part-of, s .0)
     (same-slots (shelf (a .t)) (a .kept .now) (a .i) (a .j) (omega arith) (λ k. c .before .before .before .before .shared-slice-known .given k .fits)
-    (p .0 .0 .size) (p .0 .1) (p .1))
+    (p .0 .size) (p .1) (p .2))
 
 pub twins-spec : {M : Type 1} → statement M
 twins-spec =
