@@ -25,6 +25,10 @@ pub bit-some : (b : Bool) → bit b ≡ 0 → b ≡ false
 bit-some true e = absurd (omega arith)
 bit-some false e = refl
 
+pub bit-here : (b : Bool) → (bit b ≡ 0 → ⊥) → b ≡ true
+bit-here true h = refl
+bit-here false h = absurd (h refl)
+
 pub count-more : (n : ℕ) (m : ByServer Bool) → countTo (n + 1) m ≡ countTo n m + bit (m (suc n))
 unfolding countTo
 count-more n m = rw add-one (go (m (suc n)))

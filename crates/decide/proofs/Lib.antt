@@ -4,3 +4,5 @@ pub mod Arguments
 pub mod Ranks
 pub mod Counted
 pub mod Replies
+pub mod Groups
+pub mod Led

@@ -140,3 +140,9 @@ same-slots s kept i j few b l h k =
     rw (← p, ← q, candidate-in s kept i h, candidate-in s kept j k)
     (same-candidates s (part kept n candidateSlot) (part kept m candidateSlot) (bytes-part kept n candidateSlot b) (bytes-part kept m candidateSlot b)
     (omega (arith, part-length kept n candidateSlot (omega arith))) (omega (arith, part-length kept m candidateSlot (omega arith))))
+
+pub nonce-in : (s : Config) (kept : List ℕ) (i : ℕ) → i < 13
+    → candidatesIn s kept (suc i) .nonce ≡ part kept (candidatesAt + candidateSlot * i + stampSize) nonceSize
+unfolding candidateAt
+nonce-in s kept i h =
+    ap (λ (c : Candidate). c .nonce) (candidate-in s kept i h) ∙ part-part kept (candidatesAt + candidateSlot * i) candidateSlot stampSize nonceSize (omega arith)

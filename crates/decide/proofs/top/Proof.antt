@@ -37,7 +37,7 @@ unfolding topAt topRank
 loop-again c = (omega arith, rw (add-one, ← c .before .before .loop .inv .1) (c .raised .ensures))
 
 returns : tie.Need-returns Inv-loop μ-loop
-returns c = let e : c .before .loop .i ≡ shelf (c .before .before .before .before .args .t) .servers = omega (arith, c .before .before .servers .ensures .0) in c .before .loop .inv .1 ∙ ap (λ (k : ℕ). topAt (c .before .before .before .before .args .t) (c .before .before .before .before .args .t2) (c .before .before .before .before .args .kept .now) k) e
+returns c = let e : c .before .loop .i ≡ shelf (c .before .before .before .before .args .t) .servers = omega (arith, c .before .before .servers .ensures .0) in c .before .loop .inv .1 ∙ ap (λ (k : ℕ). topAt (c .before .before .before .before .args .t) (c .before .before .before .before .args .marks) (c .before .before .before .before .args .kept .now) k) e
 
 pub top-spec : {M : Type 1} → statement M
 top-spec =
