@@ -1,7 +1,7 @@
 -- The answers of parsers: what a guard, a sequel or an alternative that gave a value tells of its parts; and lists of bytes, runs of zeros.
 -- Each by cases on the answer. Nothing is assumed.
 use mathlib.Core.Path.{_≡_, refl, sym, ap, _∙_, subst}
-use mathlib.Core.Bool.{Bool, true, false, cond, _&&_}
+use mathlib.Core.Bool.{Bool, true, false, cond, _&&_, _||_}
 use mathlib.Core.Option.{Option, none, some, Option·some-injective, Option·none-ne-some}
 use mathlib.Core.Logic.{_⊎_, inl, inr}
 use mathlib.Core.List.{List, [], _∷_, _++_}
@@ -22,6 +22,20 @@ guard-some false o a e = absurd (Option·none-ne-some a e)
 pub and-on : (a b : Bool) → (a && b) ≡ true → (a ≡ true) × (b ≡ true)
 and-on true b e = (refl, e)
 and-on false b e = absurd (subst T (sym e) tt)
+
+pub or-off : (a b : Bool) → (a || b) ≡ false → (a ≡ false) × (b ≡ false)
+or-off true b e = absurd (subst T e tt)
+or-off false b e = (refl, e)
+
+-- one eliminator for a test
+pub at-cond : {A : Type 0} (b : Bool) (x y : A) (Q : A → Type 0) → (b ≡ true → Q x) → (b ≡ false → Q y) → Q (cond b x y)
+at-cond true x y Q f g = f refl
+at-cond false x y Q f g = g refl
+
+-- the second may differ where it is not taken
+pub cond-cong : {A : Type 0} (b : Bool) (x y z : A) → (b ≡ false → y ≡ z) → cond b x y ≡ cond b x z
+cond-cong true x y z f = refl
+cond-cong false x y z f = f refl
 
 -- a value within its range
 pub in-range : {A : Type 0} (lo hi x : ℕ) (o : Option A) (a : A) → guard (leb lo x) (guard (leb x hi) o) ≡ some a

@@ -12,3 +12,25 @@ pub mod Room
 pub mod Memories
 pub mod Changes
 pub mod Primitive
+pub mod Places
+pub mod Readers
+pub mod Marks
+pub mod Slots
+pub mod Kept
+pub mod Acts
+pub mod ServerLift
+pub mod HandOk
+pub mod PacketRoom
+pub mod Prepared
+pub mod Updates
+pub mod ClientLift
+pub mod Turns
+pub mod Collected
+pub mod Filtered
+pub mod TakeLift
+pub mod Fine
+pub mod MakeLift
+pub mod StepLift
+pub mod RunLift
+pub mod Accounts
+mod Examples
