@@ -7,7 +7,7 @@ use Prim.Native.Nat.{ℕ, zero, suc, _+_, _≤_, _<_}
 use native.Mathlib.Omega.{arith}
 use lib.Dec.{T, eqb}
 use lib.ListN.{length, length-append}
-use borrow.Author.Tests.{eqb-true, eqb-false}
+use borrow.Author.Tests.{eqb-true, eqb-false, not-false}
 use Rattle.protocol.specs.Values.{Candidate, sameCandidate, isBlank}
 use Rattle.protocol.specs.Rules.{ByServer, countTo, any, gather}
 use Rattle.protocol.proofs.Equal.{candidate-same, candidate-refl}
@@ -103,3 +103,15 @@ module _ (g : ByServer Candidate) where
   pub enters-new : (n : ℕ) → isBlank (g (suc n) .stamp) ≡ false → ((j : ℕ) → j < n → sameCandidate (g (suc n)) (g (suc j)) ≡ false) → enters g (suc n) ≡ true
   unfolding enters
   enters-new n b h = rw (b, any-none (g (suc n)) n h)
+
+  pub entered : (n : ℕ) → enters g (suc n) ≡ true → isBlank (g (suc n) .stamp) ≡ false
+  entered n e = go (isBlank (g (suc n) .stamp)) refl
+    where
+      go : (b : Bool) → isBlank (g (suc n) .stamp) ≡ b → isBlank (g (suc n) .stamp) ≡ false
+      go true q = absurd (subst T (sym e ∙ enters-blank n q) tt)
+      go false q = q
+
+  -- one that is kept out, and not for being blank, has a twin in the list
+  pub kept-out : (n : ℕ) → enters g (suc n) ≡ false → isBlank (g (suc n) .stamp) ≡ false → any (sameCandidate (g (suc n))) (gather g n) ≡ true
+  unfolding enters
+  kept-out n e q = not-false (any (sameCandidate (g (suc n))) (gather g n)) (subst (λ (b : Bool). not (b || any (sameCandidate (g (suc n))) (gather g n)) ≡ false) q e)

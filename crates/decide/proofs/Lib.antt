@@ -6,3 +6,6 @@ pub mod Counted
 pub mod Replies
 pub mod Groups
 pub mod Led
+pub mod Tops
+pub mod Chosen
+pub mod Firsts

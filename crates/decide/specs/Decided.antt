@@ -52,8 +52,11 @@ decided t marks kept output =
 unfoldable pub shareOf : ℕ → List ℕ → ℕ → Share
 shareOf t kept b = shareAt (shelf t) (drop (stampSize + 1) (replySlotOf kept (b - 1)))
 
--- server b's tags are those of the candidate in slot i; with other arguments, or a length out of its range, they are not
+-- server b's reply has a length in its range and the tags of the candidate in slot i
+unfoldable pub sameTagsAt : ℕ → List ℕ → ℕ → ℕ → Bool
+sameTagsAt t kept i b =
+    within leastLength topLength (shareOf t kept b .size) && sameList (shareOf t kept b .tags) (candidatesIn (shelf t) kept (suc i) .tags)
+
+-- the same, with other arguments false
 unfoldable pub sameTags : ℕ → List ℕ → ℕ → ℕ → Bool
-sameTags t kept i b =
-    (usable t kept && (ltb i (shelf t .servers) && within 1 (shelf t .servers) b))
-    && (within leastLength topLength (shareOf t kept b .size) && sameList (shareOf t kept b .tags) (candidatesIn (shelf t) kept (suc i) .tags))
+sameTags t kept i b = (usable t kept && (ltb i (shelf t .servers) && within 1 (shelf t .servers) b)) && sameTagsAt t kept i b

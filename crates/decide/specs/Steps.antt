@@ -2,9 +2,9 @@
 -- A stamp's rank is number and writer as one number: for bytes, stamps are ordered by it.
 use mathlib.Core.Path.{_≡_}
 use mathlib.Core.Bool.{Bool, true, false, cond, not, _&&_}
-use mathlib.Core.List.{List, [], _∷_, _++_}
+use mathlib.Core.List.{List, [], _∷_, _++_, map}
 use mathlib.Core.Option.{Option, none, some}
-use Prim.Native.Nat.{ℕ, zero, suc, _+_, _*_, _≤_, _<_}
+use Prim.Native.Nat.{ℕ, zero, suc, _+_, _-_, _*_, _≤_, _<_}
 use lib.Dec.{ltb, eqb}
 use lib.ListN.{length, take, drop, getD}
 use Rattle.cluster.specs.Config.{Config, quorum, shelf}
@@ -14,10 +14,11 @@ use Rattle.protocol.specs.declared.Stamp.{Stamp}
 use Rattle.protocol.specs.Format.{value2, value4}
 use Rattle.protocol.specs.Values.{Candidate, Share, Held, sameList, nth, digestSize, digestsSize, tagsSize, stampSize, sameStamp}
 use Rattle.protocol.specs.Primitives.{real}
-use Rattle.protocol.specs.Rules.{ByServer, countTo, fits, agrees, leads, leader}
-use Rattle.protocol.specs.View.{keptSize, marked, candidatesIn, repliesIn, replySlotOf, replySlot, heldAt}
-use Rattle.erasure.specs.Fragments.{fragmentSize}
+use Rattle.protocol.specs.Rules.{ByServer, countTo, keep, first, gather, proven, fits, agrees, leads, leader}
+use Rattle.protocol.specs.View.{keptSize, marked, candidatesIn, repliesIn, replySlotOf, repliesAt, replySlot, part, shareAt, heldAt}
+use Rattle.erasure.specs.Fragments.{Part, fragmentSize, restored}
 use Rattle.decide.specs.declared.Members.{Members}
+use Rattle.decide.specs.declared.Choice.{Choice}
 use Rattle.decide.specs.declared.Group.{Group}
 use Rattle.decide.specs.Listing.{usable, enters}
 
@@ -134,3 +135,33 @@ pub record GroupAs (t : ℕ) (marks kept : List ℕ) (i n : ℕ) (r : Group) : T
 -- the candidate of slot i has this rank and is listed
 unfoldable pub triedAt : ℕ → List ℕ → ℕ → ℕ → Bool
 triedAt t kept key i = eqb (rank (candidatesIn (shelf t) kept (suc i) .stamp)) key && enters (candidatesIn (shelf t) kept) (suc i)
+
+-- the first proven candidate of this rank among those of servers 1 to n
+unfoldable pub chosenAt : ℕ → List ℕ → List ℕ → ℕ → ℕ → Option Candidate
+chosenAt t marks kept key n =
+    first (proven real (shelf t) (marked marks) (repliesIn (shelf t) marks kept))
+    (keep (λ c. eqb (rank (c .stamp)) key) (gather (candidatesIn (shelf t) kept) n))
+
+-- it stands in the slot, which is listed, and slot b leads its group
+pub record Hit (t : ℕ) (marks kept : List ℕ) (key : ℕ) (r : Choice) (b : ℕ) : Type 0 where
+  pub slot : r .slot < shelf t .servers
+  pub listed : enters (candidatesIn (shelf t) kept) (suc (r .slot)) ≡ true
+  pub chosen : chosenAt t marks kept key (shelf t .servers) ≡ some (candidatesIn (shelf t) kept (suc (r .slot)))
+  pub leader : leaderAt t marks kept (r .slot) (shelf t .servers) ≡ suc b
+  pub members : take (shelf t .shares) (r .servers) ≡ membersAt t marks kept (r .slot) b
+
+pub record ChoiceAs (t : ℕ) (marks kept : List ℕ) (key : ℕ) (r : Choice) : Type 0 where
+  pub nothing : r .server ≡ 0 → chosenAt t marks kept key (shelf t .servers) ≡ none
+  pub hit : (b : ℕ) → r .server ≡ suc b → Hit t marks kept key r b
+
+-- ---- restoring
+
+-- server i's fragment of f bytes, as it stands in its slot
+unfoldable pub fragmentOf : List ℕ → ℕ → ℕ → Part
+fragmentOf kept f i = record { server = i; bytes = part kept (repliesAt + replySlot * (i - 1) + (stampSize + 3)) f }
+
+-- the content that these servers' fragments give, of the length in slot b
+unfoldable pub contentOf : ℕ → List ℕ → ℕ → List ℕ → List ℕ
+contentOf t kept b servers =
+    let n = shareAt (shelf t) (drop (stampSize + 1) (replySlotOf kept b)) .size in
+    restored (shelf t .points) (shelf t .shares) n (map (fragmentOf kept (fragmentSize (shelf t .shares) n)) servers)

@@ -16,7 +16,8 @@ ghost use Rattle.protocol.specs.Rules.{sameShare};
 ghost use Rattle.protocol.specs.View.{keptSize, repliesAt, replySlot, candidateSlot, candidatesIn, repliesIn, replySlotOf, marked, candidateAt, heldAt};
 ghost use Rattle.decide.specs.Listing.{usable, enters, listedIn, listedCount};
 ghost use Rattle.decide.specs.Steps.{Usable, UsableAs, rankAt, bit, stays, raised, topAt, DigestsAt, Full, names, intact, slotHeld, fitsAt, agreesAt};
-ghost use Rattle.decide.specs.Steps.{MembersAs, GroupAs, leadsAt, leaderAt, triedAt};
+ghost use Rattle.decide.specs.Steps.{MembersAs, GroupAs, leadsAt, leaderAt, triedAt, ChoiceAs};
+ghost use Rattle.decide.specs.Decided.{sameTags, sameTagsAt};
 
 // The kept bytes, and where the slots of candidates and of replies stand in them.
 pub const KEPT: usize = 24576;
@@ -459,6 +460,69 @@ fn tried(kept: &[u8], marks: [u8; 13], t: usize, key: u64, i: usize) -> Group
         return Group { server: 0, servers: [0; 13] };
     }
     leader(kept, marks, t, i)
+}
+
+// A slot, the server that leads a group of its candidate, or 0, and the servers of the group.
+struct Choice {
+    slot: usize,
+    server: usize,
+    servers: [u8; 13],
+}
+
+// The first slot that is listed, has this rank, and has a leader.
+fn find(kept: &[u8], marks: [u8; 13], t: usize, key: u64) -> Choice
+    requires { ⌜ Usable t (now kept) ⌝ }
+    ensures { λ r. ⌜ ChoiceAs t marks (now (kept .entry)) key r ⌝ }
+{
+    let s = servers(t);
+    let mut i = 0;
+    while i < s {
+        let g = tried(kept, marks, t, key, i);
+        if g.server != 0 {
+            let group = g.servers;
+            return Choice { slot: i, server: g.server, servers: group };
+        }
+        i += 1;
+    }
+    Choice { slot: 0, server: 0, servers: [0; 13] }
+}
+
+// Whether server b's tags are those of the candidate in slot i.
+pub fn same_tags(kept: &[u8], t: usize, i: usize, b: usize) -> bool
+    ensures { λ r. ⌜ r ≡ sameTags t (now (kept .entry)) i b ⌝ }
+{
+    if !is_usable(kept, t) {
+        return false;
+    }
+    if i >= servers(t) {
+        return false;
+    }
+    if b < 1 {
+        return false;
+    }
+    if b > servers(t) {
+        return false;
+    }
+    tags_alike(kept, t, i, b - 1)
+}
+
+// Whether the reply in slot j has a length in its range and the tags of the candidate in slot i.
+fn tags_alike(kept: &[u8], t: usize, i: usize, j: usize) -> bool
+    requires { ⌜ (Usable t (now kept)) × (i < 13) × (j < 13) ⌝ }
+    ensures { λ r. ⌜ r ≡ sameTagsAt t (now (kept .entry)) i (suc j) ⌝ }
+{
+    let a = CANDIDATES + CANDIDATE_SLOT * i + NAME;
+    let y = REPLIES + REPLY_SLOT * j;
+    let n = size_of(&kept[y..y + REPLY_SLOT]);
+    if n < cluster::LEAST_LENGTH {
+        return false;
+    }
+    if n > cluster::TOP_LENGTH {
+        return false;
+    }
+    let s = servers(t);
+    let at = y + digests_at(t, n) + DIGEST * s + DIGEST;
+    same(&kept[at..at + hmac::TAG * s], &kept[a..a + hmac::TAG * s])
 }
 
 // What a filter round has decided: nothing yet; no candidate is left; or the slot that holds the chosen one, the server that leads its group,
