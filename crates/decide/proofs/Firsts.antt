@@ -20,7 +20,7 @@ use Rattle.decide.specs.Decided.{slotOf}
 use Rattle.decide.specs.Listing.{enters}
 use Rattle.decide.specs.declared.Group.{Group}
 use Rattle.decide.specs.declared.Choice.{Choice}
-use Rattle.decide.specs.Steps.{rank, leaderAt, GroupAs, triedAt, chosenAt, Hit, slot, listed, chosen, leader, members, ChoiceAs, nothing, hit}
+use Rattle.decide.specs.Steps.{rank, leaderAt, GroupAs, triedAt, chosenAt, Hit, ChoiceAs}
 use Rattle.decide.proofs.Tops.{keep-append}
 use Rattle.decide.proofs.Gathered.{gather-more, enters-twin, entered}
 

@@ -146,3 +146,9 @@ pub nonce-in : (s : Config) (kept : List ℕ) (i : ℕ) → i < 13
 unfolding candidateAt
 nonce-in s kept i h =
     ap (λ (c : Candidate). c .nonce) (candidate-in s kept i h) ∙ part-part kept (candidatesAt + candidateSlot * i) candidateSlot stampSize nonceSize (omega arith)
+
+pub candidate-tags : (s : Config) (kept : List ℕ) (i : ℕ) → i < 13 → s .servers ≤ 13
+    → candidatesIn s kept (suc i) .tags ≡ part kept (candidatesAt + candidateSlot * i + (stampSize + nonceSize)) (tagsSize s)
+unfolding candidateAt
+candidate-tags s kept i h few =
+    ap (λ (c : Candidate). c .tags) (candidate-in s kept i h) ∙ part-part kept (candidatesAt + candidateSlot * i) candidateSlot (stampSize + nonceSize) (tagsSize s) (omega arith)

@@ -10,7 +10,7 @@ use lib.Dec.{T, leb, eqb}
 use lib.ListN.{length, take, drop, getD}
 use lib.Seq.{drop-drop, getD-drop}
 use borrow.Author.Tests.{leb-true, le-leb, lt-leb, eq-eqb, ne-eqb}
-use Rattle.cluster.specs.Config.{Config}
+use Rattle.cluster.specs.Config.{Config, shelf}
 use Rattle.cluster.specs.Ranges.{within, leastLength, topLength}
 use Rattle.sha256.specs.Sha256.{sha256}
 use Rattle.erasure.specs.Fragments.{fragmentSize}
@@ -18,9 +18,10 @@ use Rattle.protocol.specs.Format.{value2}
 use Rattle.protocol.specs.Values.{Candidate, Share, sameList, sameStamp, nth, stampSize, digestSize, digestsSize, tagsSize}
 use Rattle.protocol.specs.Primitives.{real}
 use Rattle.protocol.specs.Rules.{sameShare}
-use Rattle.protocol.specs.View.{part, stampAt, candidateAt, shareOfSize, shareAt, heldAt}
+use Rattle.protocol.specs.View.{part, stampAt, candidateAt, shareOfSize, shareAt, heldAt, repliesAt, replySlot, replySlotOf}
 use Rattle.protocol.proofs.Answers.{and-on}
 use Rattle.protocol.proofs.Equal.{and-off}
+use Rattle.decide.specs.Decided.{shareOf}
 use Rattle.decide.specs.Steps.{namesShare, names, intact, Full}
 use Rattle.decide.proofs.Places.{part-part, and-assoc, same-parts}
 
@@ -121,6 +122,29 @@ module _ (s : Config) (d : List ℕ) where
         ≡ sameList (sha256 (part d (stampSize + 3) (fragmentSize (s .shares) (sizeIn d)))) (part d (digestsIn s d + digestSize * j) digestSize)
   intact-in f j h =
       rw (held-share (f .flag), fragment-in (sizeIn d), digests-in (sizeIn d), nth-part d (digestsIn s d) (digestsSize s) digestSize j (omega arith))
+
+-- a part of a slot, and the share in a slot
+pub slot-part : (kept : List ℕ) (j p n : ℕ) → p + n ≤ replySlot → part (replySlotOf kept j) p n ≡ part kept (repliesAt + replySlot * j + p) n
+unfolding replySlotOf
+slot-part kept j p n h = part-part kept (repliesAt + replySlot * j) replySlot p n h
+
+share-sized : (t : ℕ) (kept : List ℕ) (j : ℕ)
+    → shareOf t kept (suc j) ≡ shareOfSize (shelf t) (shareOf t kept (suc j) .size) (drop (stampSize + 1) (replySlotOf kept j))
+unfolding shareOf shareAt shareOfSize
+share-sized t kept j = let z : suc j - 1 ≡ j = omega arith in rw z
+
+-- the tags of a reply in the kept bytes
+pub reply-tags : (t : ℕ) (kept : List ℕ) (j n at : ℕ) → n ≡ shareOf t kept (suc j) .size
+    → at ≡ repliesAt + replySlot * j + (stampSize + 3 + fragmentSize (shelf t .shares) n + digestsSize (shelf t) + digestSize)
+    → stampSize + 3 + fragmentSize (shelf t .shares) n + digestsSize (shelf t) + digestSize + tagsSize (shelf t) ≤ replySlot
+    → shareOf t kept (suc j) .tags ≡ part kept at (tagsSize (shelf t))
+reply-tags t kept j n at e q l =
+    let w : shareOf t kept (suc j) ≡ shareOfSize (shelf t) n (drop (stampSize + 1) (replySlotOf kept j)) =
+        share-sized t kept j ∙ ap (λ (x : ℕ). shareOfSize (shelf t) x (drop (stampSize + 1) (replySlotOf kept j))) (sym e) in
+    let p : part (replySlotOf kept j) (stampSize + 3 + fragmentSize (shelf t .shares) n + digestsSize (shelf t) + digestSize) (tagsSize (shelf t)) ≡ part kept (repliesAt + replySlot * j + (stampSize + 3 + fragmentSize (shelf t .shares) n + digestsSize (shelf t) + digestSize)) (tagsSize (shelf t)) =
+        slot-part kept j (stampSize + 3 + fragmentSize (shelf t .shares) n + digestsSize (shelf t) + digestSize) (tagsSize (shelf t)) l in
+    ap (λ (h : Share). h .tags) w ∙ tags-in (shelf t) (replySlotOf kept j) n
+    ∙ p ∙ ap (λ (x : ℕ). part kept x (tagsSize (shelf t))) (sym q)
 
 -- ---- two replies
 

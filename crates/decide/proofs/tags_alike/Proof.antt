@@ -14,8 +14,10 @@ use Rattle.protocol.specs.Format.{value2}
 use Rattle.protocol.specs.Values.{sameList, stampSize, nonceSize, tagsSize}
 use Rattle.protocol.specs.View.{part, shareOfSize, shareAt, candidateSlot, candidatesAt, repliesAt, replySlot, candidatesIn, replySlotOf}
 use Rattle.protocol.proofs.Equal.{and-off}
+use Rattle.protocol.proofs.Room.{shelf-fits}
 use Rattle.decide.specs.Decided.{shareOf, sameTagsAt}
-use Rattle.decide.proofs.Places.{part-length, part-of}
+use Rattle.decide.proofs.Places.{part-length, part-of, candidate-tags}
+use Rattle.decide.proofs.Replies.{reply-tags}
 use Rattle.decide.proofs.tags_alike.Statement.{statement}
 use Rattle.decide.proofs.tags_alike.Tie as tie
 
@@ -137,7 +139,7 @@ returns-3 c =
     let e : w ≡ tagsSize (shelf (a .t)) = omega (arith, c .before .before .before .before .servers .ensures .0) in
     rw (le-leb leastLength (shareOf (a .t) (a .kept .now) (suc (a .j)) .size) (omega (arith, c .before .before .before .before .before .before .if1 .left, z)), le-leb (shareOf (a .t) (a .kept .now) (suc (a .j)) .size) topLength (omega (arith, c .before .before .before .before .before .if2 .left, z)))
     (c .same .ensures
-    ∙ rw (part-of (a .kept .now) at w, part-of (a .kept .now) (candidatesAt + candidateSlot * a .i + (stampSize + nonceSize)) w, e, ← candidate-tags (a .t) (a .kept .now) (a .i) (p .1) (p .0 .high))
+    ∙ rw (part-of (a .kept .now) at w, part-of (a .kept .now) (candidatesAt + candidateSlot * a .i + (stampSize + nonceSize)) w, e, ← candidate-tags (shelf (a .t)) (a .kept .now) (a .i) (p .1) (shelf-fits (a .t) (p .0 .low) (p .0 .high) .few))
     (ap (λ (x : List ℕ). sameList x (candidatesIn (shelf (a .t)) (a .kept .now) (suc (a .i)) .tags))
     (sym (reply-tags (a .t) (a .kept .now) (a .j) (c .before .before .before .before .before .before .before .size-of .result) at z (omega (arith, c .before .before .before .digests-at .ensures .place, c .before .before .before .before .servers .ensures .0)) (omega (arith, c .before .before .before .digests-at .ensures .room, c .before .before .before .digests-at .ensures .place))))))
 
