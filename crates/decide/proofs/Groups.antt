@@ -7,10 +7,10 @@ use mathlib.Core.Option.{Option, none, some}
 use Prim.Native.Nat.{ℕ, zero, suc, _+_, _≤_, _<_}
 use native.Mathlib.Numerals.{add-one}
 use native.Mathlib.Omega.{arith}
-use lib.Dec.{T, leb}
+use lib.Dec.{T, leb, eqb}
 use Prim.Native.Nat.{min}
 use lib.ListN.{length, drop, getD, length-take}
-use borrow.Author.Tests.{le-leb, lt-leb, eq-eqb, ne-eqb}
+use borrow.Author.Tests.{leb-true, eqb-true, eqb-false, le-leb, lt-leb, eq-eqb, ne-eqb}
 use Rattle.cluster.specs.Config.{Config, shelf}
 use Rattle.cluster.specs.Ranges.{within, leastLength, topLength}
 use Rattle.sha256.specs.Sha256.{sha256}
@@ -23,7 +23,7 @@ use Rattle.protocol.proofs.Equal.{and-off, same-refl}
 use Rattle.decide.specs.Steps.{namesShare, names, intact, serversOf, fitsAt, agreesAt, leadsAt, leaderAt, slotHeld, Full, membersAt}
 use Rattle.decide.proofs.Counted.{servers-length}
 use Rattle.decide.proofs.Places.{and-assoc, reply-in}
-use Rattle.decide.proofs.Replies.{sizeIn, held-share, names-full}
+use Rattle.decide.proofs.Replies.{sizeIn, held-share, names-full, alike-not}
 
 same-share-self : (h : Share) → sameShare real (shelf 0) (some h) (some h) ≡ true
 same-share-self h = rw (eq-eqb (h .size) (h .size) refl, same-refl (h .digests), same-refl (h .nonceDigest)) (same-refl (h .tags))
@@ -123,6 +123,32 @@ module _ (t : ℕ) (ms kept : List ℕ) (i : ℕ) where
         agrees-fits b b ∙ rw (fit, reply-in (shelf t) ms kept b small leads-marked, held-share (shelf t) (replySlotOf kept b) (leader-full .flag))
         (same-share-self (shareOfSize (shelf t) (sizeIn (replySlotOf kept b)) (drop (stampSize + 1) (replySlotOf kept b))))
 
+  -- what agreeing tells: a mark, a share, and the leader's length
+  pub member-shares : (d : List ℕ) (e : d ≡ sha256 (candidatesIn (shelf t) kept (suc i) .nonce)) (b : ℕ) (small : b < 13) (fit : fitsAt t ms kept i b ≡ true) (j : ℕ) → j < 13
+      → agreesAt t ms kept i b (suc j) ≡ true
+      → (marked ms (suc j) ≡ true) × (eqb (getD (replySlotOf kept j) stampSize 0) 0 ≡ false) × (sizeIn (replySlotOf kept j) ≡ sizeIn (replySlotOf kept b))
+  unfolding slotHeld
+  member-shares d e b small fit j l h =
+      let k = and-on (fitsAt t ms kept i j) (sameShare real (shelf t) (repliesIn (shelf t) ms kept (suc b) .share) (repliesIn (shelf t) ms kept (suc j) .share)) (sym (agrees-fits b j) ∙ h) in
+      let w = fits-named d e j l (k .0) in
+      let f = names-full (shelf t) (replySlotOf kept j) (candidatesIn (shelf t) kept (suc i)) d (w .1) in
+      let g = leader-full d e b small fit in
+      let r : sameShare real (shelf t) (heldAt (shelf t) (replySlotOf kept b) .share) (heldAt (shelf t) (replySlotOf kept j) .share) ≡ true =
+          subst (λ (x : Held). sameShare real (shelf t) (heldAt (shelf t) (replySlotOf kept b) .share) (x .share) ≡ true) (reply-in (shelf t) ms kept j l (w .0))
+          (subst (λ (x : Held). sameShare real (shelf t) (x .share) (repliesIn (shelf t) ms kept (suc j) .share) ≡ true) (reply-in (shelf t) ms kept b small (fits-named d e b small fit .0)) (k .1)) in
+      (w .0, f .flag, sizes (eqb (sizeIn (replySlotOf kept j)) (sizeIn (replySlotOf kept b))) refl r f g)
+    where
+      sizes : (y : Bool) → eqb (sizeIn (replySlotOf kept j)) (sizeIn (replySlotOf kept b)) ≡ y
+          → sameShare real (shelf t) (heldAt (shelf t) (replySlotOf kept b) .share) (heldAt (shelf t) (replySlotOf kept j) .share) ≡ true
+          → Full (replySlotOf kept j) → Full (replySlotOf kept b) → sizeIn (replySlotOf kept j) ≡ sizeIn (replySlotOf kept b)
+      sizes true q r f g = eqb-true (sizeIn (replySlotOf kept j)) (sizeIn (replySlotOf kept b)) q
+      sizes false q r f g =
+          absurd (subst T (sym r ∙ alike-not (shelf t) (replySlotOf kept b) (replySlotOf kept j) g f (eqb-false (sizeIn (replySlotOf kept j)) (sizeIn (replySlotOf kept b)) q)) tt)
+
+  pub agrees-at : (b j : ℕ) → agrees real (shelf t) (marked ms) (repliesIn (shelf t) ms kept) (candidatesIn (shelf t) kept (suc i)) (suc b) j ≡ agreesAt t ms kept i b j
+  unfolding agreesAt
+  agrees-at b j = refl
+
 -- ---- leading
 
 module _ (t : ℕ) (ms kept : List ℕ) (i : ℕ) where
@@ -149,6 +175,14 @@ module _ (t : ℕ) (ms kept : List ℕ) (i : ℕ) where
   pub leads-enough : (b : ℕ) → fitsAt t ms kept i b ≡ true → shelf t .shares ≤ length (membersAt t ms kept i b) → leadsAt t ms kept i b ≡ true
   leads-enough b h l = leads-count b h ∙ le-leb (shelf t .shares) (countTo (shelf t .servers) (agreesAt t ms kept i b)) (omega (arith, members-length b))
 
+  pub leads-fits : (b : ℕ) → leadsAt t ms kept i b ≡ true → (fitsAt t ms kept i b ≡ true) × (shelf t .shares ≤ length (serversOf (shelf t .servers) (agreesAt t ms kept i b)))
+  unfolding leadsAt leads fitsAt agreesAt
+  leads-fits b h =
+      let k = and-on (fits real (shelf t) (marked ms) (repliesIn (shelf t) ms kept) (candidatesIn (shelf t) kept (suc i)) (suc b))
+          (leb (shelf t .shares) (countTo (shelf t .servers) (agrees real (shelf t) (marked ms) (repliesIn (shelf t) ms kept) (candidatesIn (shelf t) kept (suc i)) (suc b)))) h in
+      (k .0, omega (arith, leb-true (shelf t .shares) (countTo (shelf t .servers) (agrees real (shelf t) (marked ms) (repliesIn (shelf t) ms kept) (candidatesIn (shelf t) kept (suc i)) (suc b))) (k .1),
+      servers-length (shelf t .servers) (agrees real (shelf t) (marked ms) (repliesIn (shelf t) ms kept) (candidatesIn (shelf t) kept (suc i)) (suc b))))
+
   -- the lowest leader, one slot more at a time
   pub leader-none : leaderAt t ms kept i 0 ≡ 0
   unfolding leaderAt leader
@@ -157,6 +191,23 @@ module _ (t : ℕ) (ms kept : List ℕ) (i : ℕ) where
   pub leader-more : (n : ℕ) → leaderAt t ms kept i n ≡ 0 → leaderAt t ms kept i (n + 1) ≡ cond (leadsAt t ms kept i n) (suc n) 0
   unfolding leaderAt leader leadsAt
   leader-more n h = rw (add-one, h)
+
+  pub leader-leads : (n b : ℕ) → leaderAt t ms kept i n ≡ suc b → (leadsAt t ms kept i b ≡ true) × (b < n)
+  unfolding leaderAt leader leadsAt
+  leader-leads zero b h = absurd (omega arith)
+  leader-leads (suc n) b h =
+      go (leader real (shelf t) (marked ms) (repliesIn (shelf t) ms kept) (candidatesIn (shelf t) kept (suc i)) n) refl
+      (leads real (shelf t) (marked ms) (repliesIn (shelf t) ms kept) (candidatesIn (shelf t) kept (suc i)) (suc n)) refl h (leader-leads n b)
+    where
+      go : (x : ℕ) → leader real (shelf t) (marked ms) (repliesIn (shelf t) ms kept) (candidatesIn (shelf t) kept (suc i)) n ≡ x
+          → (y : Bool) → leads real (shelf t) (marked ms) (repliesIn (shelf t) ms kept) (candidatesIn (shelf t) kept (suc i)) (suc n) ≡ y
+          → cond (eqb x 0 && y) (suc n) x ≡ suc b → (leaderAt t ms kept i n ≡ suc b → (leadsAt t ms kept i b ≡ true) × (b < n)) → (leadsAt t ms kept i b ≡ true) × (b < suc n)
+      go zero e true q w f = let z : n ≡ b = omega arith in (subst (λ (k : ℕ). leadsAt t ms kept i k ≡ true) z q, omega arith)
+      go zero e false q w f = absurd (omega arith)
+      go (suc x) e y q w f =
+          let v : suc x ≡ suc b = sym (ap (λ (z : Bool). cond (z && y) (suc n) (suc x)) (ne-eqb (suc x) 0 (λ z. omega arith))) ∙ w in
+          let r = f (e ∙ v) in
+          (r .0, omega (arith, r .1))
 
   pub leader-kept : (b n : ℕ) → leaderAt t ms kept i n ≡ suc b → (k : ℕ) → leaderAt t ms kept i (n + k) ≡ suc b
   leader-kept b n h zero = let e : n + 0 ≡ n = omega arith in ap (leaderAt t ms kept i) e ∙ h

@@ -9,3 +9,5 @@ pub mod Led
 pub mod Tops
 pub mod Chosen
 pub mod Firsts
+pub mod Rises
+pub mod Restoring

@@ -165,3 +165,13 @@ unfoldable pub contentOf : ℕ → List ℕ → ℕ → List ℕ → List ℕ
 contentOf t kept b servers =
     let n = shareAt (shelf t) (drop (stampSize + 1) (replySlotOf kept b)) .size in
     restored (shelf t .points) (shelf t .shares) n (map (fragmentOf kept (fragmentSize (shelf t .shares) n)) servers)
+
+-- the first k servers of an array are servers, in rising order
+pub record Rising (t : ℕ) (servers : List ℕ) : Type 0 where
+  pub lowest : (i : ℕ) → i < shelf t .shares → 1 ≤ getD servers i 0
+  pub highest : (i : ℕ) → i < shelf t .shares → getD servers i 0 ≤ shelf t .servers
+  pub rising : (i j : ℕ) → i < j → j < shelf t .shares → getD servers i 0 < getD servers j 0
+
+-- r holds the fragments of f bytes of the first k servers, one after the other
+pub record FragmentsAs (t : ℕ) (kept : List ℕ) (f : ℕ) (servers r : List ℕ) : Type 0 where
+  pub each : (p : ℕ) → p < shelf t .shares → part r (p * f) f ≡ fragmentOf kept f (getD servers p 0) .bytes

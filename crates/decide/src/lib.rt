@@ -6,18 +6,20 @@ ghost use Prim.Native.Nat.{suc, _+_, _*_, _-_, _<_, _≤_};
 ghost use lib.Dec.{ltb, eqb};
 ghost use lib.ListN.{length, getD, take};
 ghost use Rattle.cluster.specs.Config.{shelf};
-ghost use Rattle.cluster.specs.Ranges.{topLength};
+ghost use Rattle.cluster.specs.Ranges.{topLength, contentRoom};
 ghost use Rattle.sha256.specs.Sha256.{sha256};
 ghost use Rattle.erasure.specs.Fragments.{fragmentSize};
 ghost use Rattle.protocol.specs.Format.{value2};
 ghost use Rattle.protocol.specs.Values.{stampSize, sameList, sameCandidate};
 ghost use Rattle.protocol.specs.Primitives.{real};
 ghost use Rattle.protocol.specs.Rules.{sameShare};
+ghost use Rattle.protocol.specs.ServerBytes.{over};
+ghost use Rattle.protocol.specs.ClientBytes.{put};
 ghost use Rattle.protocol.specs.View.{keptSize, repliesAt, replySlot, candidateSlot, candidatesIn, repliesIn, replySlotOf, marked, candidateAt, heldAt};
 ghost use Rattle.decide.specs.Listing.{usable, enters, listedIn, listedCount};
 ghost use Rattle.decide.specs.Steps.{Usable, UsableAs, rankAt, bit, stays, raised, topAt, DigestsAt, Full, names, intact, slotHeld, fitsAt, agreesAt};
-ghost use Rattle.decide.specs.Steps.{MembersAs, GroupAs, leadsAt, leaderAt, triedAt, ChoiceAs};
-ghost use Rattle.decide.specs.Decided.{sameTags, sameTagsAt};
+ghost use Rattle.decide.specs.Steps.{MembersAs, GroupAs, leadsAt, leaderAt, triedAt, ChoiceAs, Rising, FragmentsAs, contentOf};
+ghost use Rattle.decide.specs.Decided.{sameTags, sameTagsAt, decided};
 
 // The kept bytes, and where the slots of candidates and of replies stand in them.
 pub const KEPT: usize = 24576;
@@ -30,6 +32,9 @@ pub const REPLY_SLOT: usize = 1120;
 const STAMP: usize = 37;
 const DIGEST: usize = 32;
 const NAME: usize = 69;
+
+// The bytes of k fragments are at most k - 1 more than a content's.
+const FRAGMENTS: usize = 1028;
 
 // The ranks of blank stamps go up to this one.
 const BLANK_RANK: u64 = 255;
@@ -487,6 +492,52 @@ fn find(kept: &[u8], marks: [u8; 13], t: usize, key: u64) -> Choice
     Choice { slot: 0, server: 0, servers: [0; 13] }
 }
 
+// Copies src to a place of out.
+fn copy(out: &mut [u8], to: usize, src: &[u8])
+    requires { ⌜ to + length (now src) ≤ length (now out) ⌝ }
+    ensures { λ _. ⌜ now (out .exit) ≡ put (now (out .entry)) to (now (src .entry)) ⌝ }
+{
+    let mut i = 0;
+    while i < src.len() {
+        out[to + i] = src[i];
+        i += 1;
+    }
+}
+
+// The fragments of the first servers of the array, one after the other, of a content of n bytes.
+fn fragments_of(kept: &[u8], t: usize, n: usize, servers: [u8; 13]) -> [u8; FRAGMENTS]
+    requires { ⌜ (Usable t (now kept)) × (n ≤ topLength) × (Rising t servers) ⌝ }
+    ensures { λ r. ⌜ FragmentsAs t (now (kept .entry)) (fragmentSize (shelf t .shares) n) servers r ⌝ }
+{
+    let f = fragment_size(t, n);
+    let k = shares(t);
+    let mut out = [0u8; FRAGMENTS];
+    let mut p = 0;
+    while p < k {
+        let at = REPLIES + REPLY_SLOT * (servers[p] as usize - 1) + (STAMP + 3);
+        copy(&mut out, p * f, &kept[at..at + f]);
+        p += 1;
+    }
+    out
+}
+
+// The content that the first servers of the array give, of the length in slot b, at the start of out; its length.
+fn rebuild(kept: &[u8], t: usize, b: usize, servers: [u8; 13], out: &mut [u8]) -> usize
+    requires { ⌜ (Usable t (now kept)) × (b < 13) × (Full (replySlotOf (now kept) b)) × (Rising t servers) × (contentRoom ≤ length (now out)) ⌝ }
+    ensures {
+        λ r. ⌜ (r ≡ length (contentOf t (now (kept .entry)) b (take (shelf t .shares) servers)))
+            × (now (out .exit) ≡ over (contentOf t (now (kept .entry)) b (take (shelf t .shares) servers)) (now (out .entry))) ⌝
+    }
+{
+    let y = REPLIES + REPLY_SLOT * b;
+    let n = size_of(&kept[y..y + REPLY_SLOT]);
+    let k = shares(t);
+    let end = k * fragment_size(t, n);
+    let fragments = fragments_of(kept, t, n, servers);
+    let r = erasure::restore(t, n, &servers[0..k], &fragments[0..end], out);
+    r.count
+}
+
 // Whether server b's tags are those of the candidate in slot i.
 pub fn same_tags(kept: &[u8], t: usize, i: usize, b: usize) -> bool
     ensures { λ r. ⌜ r ≡ sameTags t (now (kept .entry)) i b ⌝ }
@@ -531,4 +582,32 @@ pub enum Decision {
     Wait,
     Blank,
     Found(usize, usize, usize),
+}
+
+// What the filter round has decided; where a candidate is found, its content at the start of out.
+pub fn decide(kept: &[u8], marks: [u8; 13], t: usize, out: &mut [u8]) -> Decision
+    ensures {
+        λ r. ⌜ (r ≡ decided t marks (now (kept .entry)) (now (out .entry)) .answer)
+            × (now (out .exit) ≡ decided t marks (now (kept .entry)) (now (out .entry)) .output) ⌝
+    }
+{
+    if !is_usable(kept, t) {
+        return Decision::Wait;
+    }
+    if out.len() < cluster::CONTENT_ROOM {
+        return Decision::Wait;
+    }
+    let key = top(kept, marks, t);
+    if key <= BLANK_RANK {
+        return Decision::Blank;
+    }
+    let c = find(kept, marks, t, key);
+    let slot = c.slot;
+    let server = c.server;
+    let group = c.servers;
+    if server == 0 {
+        return Decision::Wait;
+    }
+    let count = rebuild(kept, t, server - 1, group, out);
+    Decision::Found(slot, server, count)
 }

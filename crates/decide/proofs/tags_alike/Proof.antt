@@ -12,7 +12,7 @@ use Rattle.cluster.specs.Config.{shelf}
 use Rattle.cluster.specs.Ranges.{leastLength, topLength}
 use Rattle.protocol.specs.Format.{value2}
 use Rattle.protocol.specs.Values.{sameList, stampSize, nonceSize, tagsSize}
-use Rattle.protocol.specs.View.{part, shareOfSize, shareAt, candidateSlot, candidatesAt, repliesAt, replySlot, candidatesIn, replySlotOf}
+use Rattle.protocol.specs.View.{part, shareOfSize, shareAt, candidateSlot, candidatesAt, repliesAt, replySlot, replySlotOf}
 use Rattle.protocol.proofs.Equal.{and-off}
 use Rattle.protocol.proofs.Room.{shelf-fits}
 use Rattle.decide.specs.Decided.{shareOf, sameTagsAt}
@@ -63,6 +63,9 @@ unfolding shareOf shareAt shareOfSize replySlotOf
 size t kept j n e =
     let z : suc j - 1 ≡ j = omega arith in
     e ∙ rw (part-of kept (repliesAt + replySlot * j) replySlot, z, getD-drop (stampSize + 1) (part kept (repliesAt + replySlot * j) replySlot) 0 0, getD-drop (stampSize + 1) (part kept (repliesAt + replySlot * j) replySlot) 1 0)
+
+both : (kept : List ℕ) (x y n m : ℕ) → n ≡ m → sameList (take (x + n - x) (drop x kept)) (take (y + n - y) (drop y kept)) ≡ sameList (part kept x m) (part kept y m)
+both kept x y n m e = rw (part-of kept x n, part-of kept y n, e)
 
 returns : tie.Need-returns
 unfolding sameTagsAt
@@ -138,10 +141,10 @@ returns-3 c =
     let w : ℕ = 32 * c .before .before .before .before .servers .result in
     let e : w ≡ tagsSize (shelf (a .t)) = omega (arith, c .before .before .before .before .servers .ensures .0) in
     rw (le-leb leastLength (shareOf (a .t) (a .kept .now) (suc (a .j)) .size) (omega (arith, c .before .before .before .before .before .before .if1 .left, z)), le-leb (shareOf (a .t) (a .kept .now) (suc (a .j)) .size) topLength (omega (arith, c .before .before .before .before .before .if2 .left, z)))
-    (c .same .ensures
-    ∙ rw (part-of (a .kept .now) at w, part-of (a .kept .now) (candidatesAt + candidateSlot * a .i + (stampSize + nonceSize)) w, e, ← candidate-tags (shelf (a .t)) (a .kept .now) (a .i) (p .1) (shelf-fits (a .t) (p .0 .low) (p .0 .high) .few))
-    (ap (λ (x : List ℕ). sameList x (candidatesIn (shelf (a .t)) (a .kept .now) (suc (a .i)) .tags))
-    (sym (reply-tags (a .t) (a .kept .now) (a .j) (c .before .before .before .before .before .before .before .size-of .result) at z (omega (arith, c .before .before .before .digests-at .ensures .place, c .before .before .before .before .servers .ensures .0)) (omega (arith, c .before .before .before .digests-at .ensures .room, c .before .before .before .digests-at .ensures .place))))))
+    (c .same .ensures ∙ both (a .kept .now) at (candidatesAt + candidateSlot * a .i + (stampSize + nonceSize)) w (tagsSize (shelf (a .t))) e
+    ∙ ap (λ (x : List ℕ). sameList x (part (a .kept .now) (candidatesAt + candidateSlot * a .i + (stampSize + nonceSize)) (tagsSize (shelf (a .t)))))
+    (sym (reply-tags (a .t) (a .kept .now) (a .j) (c .before .before .before .before .before .before .before .size-of .result) at z (omega (arith, c .before .before .before .digests-at .ensures .place, c .before .before .before .before .servers .ensures .0)) (omega (arith, c .before .before .before .digests-at .ensures .room, c .before .before .before .digests-at .ensures .place))))
+    ∙ ap (sameList (shareOf (a .t) (a .kept .now) (suc (a .j)) .tags)) (sym (candidate-tags (shelf (a .t)) (a .kept .now) (a .i) (p .1) (shelf-fits (a .t) (p .0 .low) (p .0 .high) .few))))
 
 pub tags-alike-spec : {M : Type 1} → statement M
 tags-alike-spec =
