@@ -11,3 +11,4 @@ pub mod Chosen
 pub mod Firsts
 pub mod Rises
 pub mod Restoring
+pub mod Outcomes

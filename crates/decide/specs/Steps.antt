@@ -174,4 +174,5 @@ pub record Rising (t : ℕ) (servers : List ℕ) : Type 0 where
 
 -- r holds the fragments of f bytes of the first k servers, one after the other
 pub record FragmentsAs (t : ℕ) (kept : List ℕ) (f : ℕ) (servers r : List ℕ) : Type 0 where
+  pub long : shelf t .shares * f ≤ length r
   pub each : (p : ℕ) → p < shelf t .shares → part r (p * f) f ≡ fragmentOf kept f (getD servers p 0) .bytes

@@ -1,93 +1,127 @@
+-- `decide::rebuild` meets its contract: the arguments of restoring are never refused. Nothing is assumed.
+use mathlib.Core.Path.{_≡_, ap, _∙_}
+use mathlib.Core.List.{List}
+use Prim.Native.Nat.{ℕ, _+_, _-_, _*_, _≤_}
+use native.Mathlib.Omega.{arith}
+use lib.ListN.{length, take, drop, getD}
 use borrow.Author.Needs.{needs}
+use Rattle.cluster.specs.Config.{shelf}
+use Rattle.cluster.specs.Ranges.{topLength}
+use Rattle.erasure.specs.Fragments.{fragmentSize}
+use Rattle.protocol.specs.Format.{value2}
+use Rattle.protocol.specs.Values.{stampSize}
+use Rattle.protocol.specs.View.{repliesAt, replySlot, replySlotOf}
+use Rattle.erasure.specs.Steps.{restoreStep}
+use Rattle.decide.proofs.Restoring.{fragments-room, rebuilt}
+use Rattle.decide.proofs.Places.{part-length, part-of}
+use Rattle.decide.proofs.Replies.{sizeIn}
 use Rattle.decide.proofs.rebuild.Statement.{statement}
 use Rattle.decide.proofs.rebuild.Tie as tie
-use Rattle.decide.proofs.rebuild.Reads as reads
-use Rattle.decide.proofs.rebuild.Lts as lts
-use Rattle.decide.proofs.fragment_size.Reads as fragment-size-reads
-use Rattle.decide.proofs.fragments_of.Reads as fragments-of-reads
-use Rattle.decide.proofs.shares.Reads as shares-reads
-use Rattle.decide.proofs.size_of.Reads as size-of-reads
-use Rattle.erasure.proofs.restore.Reads as restore-reads
 
--- src/lib.rt:532:23
 mul-y : tie.Need-mul-y
-mul-y c = ?
+mul-y c = let p = c .before .before .pre in omega (arith, p .0 .size)
 
--- src/lib.rt:532:13
 add-y : tie.Need-add-y
-add-y c = ?
+add-y c = let p = c .before .before .pre in omega (arith, p .0 .size)
 
--- src/lib.rt:533:30
 add-size-of : tie.Need-add-size-of
-add-size-of c = ?
+add-size-of c = let p = c .before .before .pre in omega (arith, p .0 .size)
 
--- src/lib.rt:533:21
 sub-size-of : tie.Need-sub-size-of
-sub-size-of c = ?
+sub-size-of c = let p = c .before .before .pre in omega (arith, p .0 .size)
 
--- src/lib.rt:533:21
 part-size-of-start : tie.Need-part-size-of-start
-part-size-of-start c = ?
+part-size-of-start c = let p = c .before .before .pre in omega (arith, p .0 .size)
 
--- src/lib.rt:533:21
 part-size-of-end : tie.Need-part-size-of-end
-part-size-of-end c = ?
+part-size-of-end c = let p = c .before .before .pre in omega (arith, p .0 .size)
 
--- src/lib.rt:533:9
 size-of-requires : tie.Need-size-of-requires
-size-of-requires c κs = ?
+size-of-requires c κs =
+    let a = c .before .before .before .args in
+    let p = c .before .before .before .pre in
+    ap length (part-of (a .kept .now) (repliesAt + replySlot * a .b) replySlot) ∙ part-length (a .kept .now) (repliesAt + replySlot * a .b) replySlot (omega (arith, p .0 .size))
 
--- src/lib.rt:534:9
+-- the length read
+size : (kept : List ℕ) (b n : ℕ)
+    → n ≡ value2 (getD (take (repliesAt + replySlot * b + replySlot - (repliesAt + replySlot * b)) (drop (repliesAt + replySlot * b) kept)) (stampSize + 1) 0)
+      (getD (take (repliesAt + replySlot * b + replySlot - (repliesAt + replySlot * b)) (drop (repliesAt + replySlot * b) kept)) (stampSize + 2) 0)
+    → n ≡ sizeIn (replySlotOf kept b)
+unfolding replySlotOf
+size kept b n e = e ∙ rw (part-of kept (repliesAt + replySlot * b) replySlot)
+
 shares-requires : tie.Need-shares-requires
-shares-requires c κs = ?
+shares-requires c κs = c .before .before .before .before .pre .0 .high
 
--- src/lib.rt:535:19
 fragment-size-requires : tie.Need-fragment-size-requires
-fragment-size-requires c κs = ?
+fragment-size-requires c κs =
+    let a = c .before .before .before .before .before .args in
+    let p = c .before .before .before .before .before .pre in
+    (p .0 .low, p .0 .high, omega (arith, p .2 .top, size (a .kept .now) (a .b) (c .before .size-of .result) (c .before .size-of .ensures)))
 
--- src/lib.rt:535:15
+-- the fragments' room, by what was read
+room : (t n k f : ℕ) → 1 ≤ t → t ≤ 4 → n ≤ topLength → k ≡ shelf t .shares → f ≡ fragmentSize (shelf t .shares) n → k * f ≤ 1028
+room t n k f l h m e q = rw (e, q) (fragments-room t n l h m)
+
 mul-end : tie.Need-mul-end
-mul-end c = ?
+mul-end c =
+    let a = c .before .before .before .before .before .before .args in
+    let p = c .before .before .before .before .before .before .pre in
+    omega (arith, room (a .t) (c .before .before .size-of .result) (c .before .shares .result) (c .fragment-size .result) (p .0 .low) (p .0 .high) (omega (arith, p .2 .top, size (a .kept .now) (a .b) (c .before .before .size-of .result) (c .before .before .size-of .ensures))) (c .before .shares .ensures .0) (c .fragment-size .ensures))
 
--- src/lib.rt:536:21
 fragments-of-requires : tie.Need-fragments-of-requires
-fragments-of-requires c κs = ?
+fragments-of-requires c κs =
+    let a = c .before .before .before .before .before .before .args in
+    let p = c .before .before .before .before .before .before .pre in
+    (p .0, omega (arith, p .2 .top, size (a .kept .now) (a .b) (c .before .before .size-of .result) (c .before .before .size-of .ensures)), p .3)
 
--- src/lib.rt:537:36
 sub-restore : tie.Need-sub-restore
-sub-restore c = ?
+sub-restore c = omega arith
 
--- src/lib.rt:537:36
 part-restore-start : tie.Need-part-restore-start
-part-restore-start c = ?
+part-restore-start c = omega arith
 
--- src/lib.rt:537:36
 part-restore-end : tie.Need-part-restore-end
-part-restore-end c = ?
+part-restore-end c = omega (arith, c .before .before .before .shares .ensures .1, c .before .before .before .before .before .before .before .before .pre .0 .high, c .before .before .before .before .before .before .before .before .good .1 .1 .1 .0 .1 .0 .1)
 
--- src/lib.rt:537:52
 sub-restore-2 : tie.Need-sub-restore-2
-sub-restore-2 c = ?
+sub-restore-2 c = omega arith
 
--- src/lib.rt:537:52
 part-restore-start-2 : tie.Need-part-restore-start-2
-part-restore-start-2 c = ?
+part-restore-start-2 c = omega arith
 
--- src/lib.rt:537:52
+products : (k l f g : ℕ) → k ≡ l → f ≡ g → k * f ≡ l * g
+products k l f g e q = rw (e, q)
+
 part-restore-end-2 : tie.Need-part-restore-end-2
-part-restore-end-2 c = ?
+part-restore-end-2 c =
+    omega (arith, c .before .before .before .fragments-of .ensures .long, products (c .before .before .before .before .before .shares .result) (shelf (c .before .before .before .before .before .before .before .before .before .before .args .t) .shares) (c .before .before .before .before .fragment-size .result) (fragmentSize (shelf (c .before .before .before .before .before .before .before .before .before .before .args .t) .shares) (c .before .before .before .before .before .before .size-of .result)) (c .before .before .before .before .before .shares .ensures .0) (c .before .before .before .before .fragment-size .ensures))
 
--- src/lib.rt:537:9
 restore-requires : tie.Need-restore-requires
-restore-requires c κs = ?
+restore-requires c κs = search needs
 
--- src/lib.rt:525:1
 same-length : tie.Need-same-length
-same-length c = ?
+same-length c = search needs
 
--- src/lib.rt:525:1
+-- what is lent to restoring
+lent : (t n k l f g : ℕ) (servers frs out : List ℕ) → k ≡ l → f ≡ g
+    → restoreStep t n (take (k - 0) servers) (take (k * f - 0) frs) out ≡ restoreStep t n (take l servers) (take (l * g) frs) out
+lent t n k l f g servers frs out e q =
+    let x : k - 0 ≡ l = omega arith in
+    let y : k * f - 0 ≡ l * g = rw (e, q) (omega arith) in
+    rw (x, y)
+
 returns : tie.Need-returns
-returns c = ?
+returns c =
+    let a = c .before .before .before .before .before .before .before .before .before .before .before .before .before .before .before .args in
+    let p = c .before .before .before .before .before .before .before .before .before .before .before .before .before .before .before .pre in
+    let n = size (a .kept .now) (a .b) (c .before .before .before .before .before .before .before .before .before .before .before .size-of .result) (c .before .before .before .before .before .before .before .before .before .before .before .size-of .ensures) in
+    let k = c .before .before .before .before .before .before .before .before .before .before .shares .ensures .0 in
+    let f = c .before .before .before .before .before .before .before .before .before .fragment-size .ensures in
+    rebuilt (a .t) (a .kept .now) (a .t4) (c .before .before .before .before .before .before .before .before .before .before .before .size-of .result) (p .0) (omega (arith, p .2 .top, n)) (p .3) (a .b) (c .before .before .before .before .before .before .before .before .fragments-of .result) (a .out .now) (c .before .before .restore .last .1 .1 .1 .1 .0)
+    (c .before .before .restore .result) (omega (arith, p .2 .least, n)) n (c .before .before .before .before .before .before .before .before .before .before .before .before .before .before .before .good .1 .1 .1 .0 .1 .0 .1) (c .before .before .before .before .before .before .before .before .fragments-of .ensures) (p .4)
+    (c .before .before .restore .ensures
+    ∙ lent (a .t) (c .before .before .before .before .before .before .before .before .before .before .before .size-of .result) (c .before .before .before .before .before .before .before .before .before .before .shares .result) (shelf (a .t) .shares) (c .before .before .before .before .before .before .before .before .before .fragment-size .result) (fragmentSize (shelf (a .t) .shares) (c .before .before .before .before .before .before .before .before .before .before .before .size-of .result)) (a .t4) (c .before .before .before .before .before .before .before .before .fragments-of .result) (a .out .now) k f)
 
 pub rebuild-spec : {M : Type 1} → statement M
 rebuild-spec =
