@@ -29,6 +29,7 @@ module _ (s : Config) (m : ByServer Bool) (g : ByServer Held) (held : ByServer C
       one : (b : Bool) → any (λ (d : Candidate). ltb x (rank (d .stamp))) (cond b (held (suc n) ∷ []) []) ≡ (b && ltb x (rank (held (suc n) .stamp)))
       one true = or-false (ltb x (rank (held (suc n) .stamp)))
       one false = refl
+
       -- a twin raises nothing
       twin : ((y : ℕ) → blankRank ≤ y → ltb y (topRank s m g held n) ≡ any (λ d. ltb y (rank (d .stamp))) (keep (isLive s m g held W U) (gather held n)))
           → any (sameCandidate (held (suc n))) (gather held n) ≡ true → (b d : Bool) → ltb (topRank s m g held n) (rank (held (suc n) .stamp)) ≡ b → stays s m g (rank (held (suc n) .stamp)) ≡ d
@@ -37,13 +38,14 @@ module _ (s : Config) (m : ByServer Bool) (g : ByServer Held) (held : ByServer C
       twin f q true false e k = refl
       twin f q true true e k =
           let z : any (λ d. ltb (topRank s m g held n) (rank (d .stamp))) (keep (isLive s m g held W U) (gather held n)) ≡ true =
-              any-member (held (suc n)) (λ d. ltb (topRank s m g held n) (rank (d .stamp))) (isLive s m g held W U) (gather held n) q (live-stays s m g held W U (suc n) ∙ k) e in
+          any-member (held (suc n)) (λ d. ltb (topRank s m g held n) (rank (d .stamp))) (isLive s m g held W U) (gather held n) q (live-stays s m g held W U (suc n) ∙ k) e in
           let w : ltb (topRank s m g held n) (topRank s m g held n) ≡ true = f (topRank s m g held n) (top-least s m g held W U n) ∙ z in
           absurd (let l = ltb-true (topRank s m g held n) (topRank s m g held n) w in omega arith)
+
       go : (b : Bool) → enters held (suc n) ≡ b
           → ((y : ℕ) → blankRank ≤ y → ltb y (topRank s m g held n) ≡ any (λ d. ltb y (rank (d .stamp))) (keep (isLive s m g held W U) (gather held n)))
           → ltb x (cond (ltb (topRank s m g held n) (rank (held (suc n) .stamp)) && stays s m g (rank (held (suc n) .stamp))) (rank (held (suc n) .stamp)) (topRank s m g held n))
-            ≡ any (λ d. ltb x (rank (d .stamp))) (keep (isLive s m g held W U) (cond b (gather held n ++ (held (suc n) ∷ [])) (gather held n)))
+          ≡ any (λ d. ltb x (rank (d .stamp))) (keep (isLive s m g held W U) (cond b (gather held n ++ (held (suc n) ∷ [])) (gather held n)))
       go true e f =
           raise-law x (topRank s m g held n) (rank (held (suc n) .stamp)) (stays s m g (rank (held (suc n) .stamp)))
           ∙ rw (keep-append (isLive s m g held W U) (gather held n) (held (suc n) ∷ []), any-append (λ d. ltb x (rank (d .stamp))) (keep (isLive s m g held W U) (gather held n)) (keep (isLive s m g held W U) (held (suc n) ∷ [])))
@@ -54,7 +56,7 @@ module _ (s : Config) (m : ByServer Bool) (g : ByServer Held) (held : ByServer C
         where
           by-blank : (y : Bool) → isBlank (held (suc n) .stamp) ≡ y
               → ltb x (cond (ltb (topRank s m g held n) (rank (held (suc n) .stamp)) && stays s m g (rank (held (suc n) .stamp))) (rank (held (suc n) .stamp)) (topRank s m g held n))
-                ≡ any (λ d. ltb x (rank (d .stamp))) (keep (isLive s m g held W U) (gather held n))
+              ≡ any (λ d. ltb x (rank (d .stamp))) (keep (isLive s m g held W U) (gather held n))
           by-blank true q =
               rw (le-ltb (topRank s m g held n) (rank (held (suc n) .stamp)) (omega (arith, blank-low (held (suc n) .stamp) (W (suc n)) q, top-least s m g held W U n))) (f x h)
           by-blank false q =

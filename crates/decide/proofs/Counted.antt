@@ -97,9 +97,10 @@ unfolding serversOf
 servers-step m j n out e h l = rw add-one (go (m (suc j)))
   where
     go : (b : Bool) → (n + bit b ≡ length (serversOf j m ++ cond b (suc j ∷ []) [])) × (take (n + bit b) (set out n (suc j)) ≡ serversOf j m ++ cond b (suc j ∷ []) [])
-    go true =
-        (omega (arith, length-append (serversOf j m) (suc j ∷ [])),
-        rw add-one (take-suc-set out n (suc j) l ∙ ap (λ (z : List ℕ). z ++ (suc j ∷ [])) h))
+    go true = (
+      omega (arith, length-append (serversOf j m) (suc j ∷ [])),
+      rw add-one (take-suc-set out n (suc j) l ∙ ap (λ (z : List ℕ). z ++ (suc j ∷ [])) h),
+    )
     go false =
         let z : n + 0 ≡ n = omega arith in
         (rw append-nil (omega arith), rw (append-nil, z) (take-set-le n out n (suc j) (omega arith) ∙ h))

@@ -18,8 +18,8 @@ use Rattle.protocol.proofs.Answers.{and-on}
 use Rattle.protocol.proofs.Equal.{candidate-same, candidate-refl}
 use Rattle.decide.specs.Decided.{slotOf}
 use Rattle.decide.specs.Listing.{enters}
-use Rattle.decide.specs.declared.Group.{Group}
-use Rattle.decide.specs.declared.Choice.{Choice}
+use Rattle.decide.specs.declared.leading.Group.{Group}
+use Rattle.decide.specs.declared.leading.Choice.{Choice}
 use Rattle.decide.specs.Steps.{rank, leaderAt, GroupAs, triedAt, chosenAt, Hit, ChoiceAs}
 use Rattle.decide.proofs.Tops.{keep-append}
 use Rattle.decide.proofs.Gathered.{gather-more, enters-twin, entered}
@@ -77,7 +77,7 @@ module _ (t : ℕ) (marks kept : List ℕ) (key : ℕ) where
 
   chosen-more : (n : ℕ) → chosenAt t marks kept key n ≡ none
       → chosenAt t marks kept key (suc n)
-        ≡ cond (triedAt t kept key n) (cond (not (eqb (leaderAt t marks kept n (shelf t .servers)) 0)) (some (candidatesIn (shelf t) kept (suc n))) none) none
+      ≡ cond (triedAt t kept key n) (cond (not (eqb (leaderAt t marks kept n (shelf t .servers)) 0)) (some (candidatesIn (shelf t) kept (suc n))) none) none
   unfolding chosenAt triedAt leaderAt
   chosen-more n h =
       found-more (proven real (shelf t) (marked marks) (repliesIn (shelf t) marks kept)) (λ c. eqb (rank (c .stamp)) key) (candidatesIn (shelf t) kept) n h
@@ -100,11 +100,13 @@ module _ (t : ℕ) (marks kept : List ℕ) (key : ℕ) where
     where
       entering : triedAt t kept key n ≡ true → enters (candidatesIn (shelf t) kept) (suc n) ≡ true
       entering q = unfold triedAt in and-on (eqb (rank (candidatesIn (shelf t) kept (suc n) .stamp)) key) (enters (candidatesIn (shelf t) kept) (suc n)) q .1
+
       later : (c : Candidate) → chosenAt t marks kept key (suc n) ≡ some c → chosenAt t marks kept key (shelf t .servers) ≡ some c
       later c q =
           let e : suc n + (shelf t .servers - suc n) ≡ shelf t .servers = omega arith in
           sym (ap (chosenAt t marks kept key) e)
           ∙ (unfold chosenAt in found-kept (proven real (shelf t) (marked marks) (repliesIn (shelf t) marks kept)) (λ d. eqb (rank (d .stamp)) key) (candidatesIn (shelf t) kept) c (suc n) (shelf t .servers - suc n) (unfold chosenAt in q))
+
       go : (b : ℕ) → r .server ≡ suc b → (y : Bool) → triedAt t kept key n ≡ y → Hit t marks kept key (record { slot = n; server = r .server; servers = r .servers }) b
       go b e true q =
           let w : leaderAt t marks kept n (shelf t .servers) ≡ suc b = sym (ap (λ (z : Bool). cond z (leaderAt t marks kept n (shelf t .servers)) 0) q) ∙ sym (g .server) ∙ e in

@@ -97,7 +97,7 @@ module _ (t : ℕ) (ms kept : List ℕ) (i : ℕ) where
       -- the order of the code: names, then the same share, then its own digest
       agrees-in : agreesAt t ms kept i b (suc j)
           ≡ ((names (candidatesIn (shelf t) kept (suc i)) d (slotHeld t kept j) && intact (suc j) (slotHeld t kept j .share))
-            && sameShare real (shelf t) (slotHeld t kept b .share) (slotHeld t kept j .share))
+          && sameShare real (shelf t) (slotHeld t kept b .share) (slotHeld t kept j .share))
       agrees-in =
           agrees-fits b j
           ∙ rw (fits-marked d e j l m, reply-in (shelf t) ms kept b small leads-marked, reply-in (shelf t) ms kept j l m) (unfold slotHeld in refl)
@@ -134,8 +134,8 @@ module _ (t : ℕ) (ms kept : List ℕ) (i : ℕ) where
       let f = names-full (shelf t) (replySlotOf kept j) (candidatesIn (shelf t) kept (suc i)) d (w .1) in
       let g = leader-full d e b small fit in
       let r : sameShare real (shelf t) (heldAt (shelf t) (replySlotOf kept b) .share) (heldAt (shelf t) (replySlotOf kept j) .share) ≡ true =
-          subst (λ (x : Held). sameShare real (shelf t) (heldAt (shelf t) (replySlotOf kept b) .share) (x .share) ≡ true) (reply-in (shelf t) ms kept j l (w .0))
-          (subst (λ (x : Held). sameShare real (shelf t) (x .share) (repliesIn (shelf t) ms kept (suc j) .share) ≡ true) (reply-in (shelf t) ms kept b small (fits-named d e b small fit .0)) (k .1)) in
+      subst (λ (x : Held). sameShare real (shelf t) (heldAt (shelf t) (replySlotOf kept b) .share) (x .share) ≡ true) (reply-in (shelf t) ms kept j l (w .0))
+      (subst (λ (x : Held). sameShare real (shelf t) (x .share) (repliesIn (shelf t) ms kept (suc j) .share) ≡ true) (reply-in (shelf t) ms kept b small (fits-named d e b small fit .0)) (k .1)) in
       (w .0, f .flag, sizes (eqb (sizeIn (replySlotOf kept j)) (sizeIn (replySlotOf kept b))) refl r f g)
     where
       sizes : (y : Bool) → eqb (sizeIn (replySlotOf kept j)) (sizeIn (replySlotOf kept b)) ≡ y
@@ -179,9 +179,14 @@ module _ (t : ℕ) (ms kept : List ℕ) (i : ℕ) where
   unfolding leadsAt leads fitsAt agreesAt
   leads-fits b h =
       let k = and-on (fits real (shelf t) (marked ms) (repliesIn (shelf t) ms kept) (candidatesIn (shelf t) kept (suc i)) (suc b))
-          (leb (shelf t .shares) (countTo (shelf t .servers) (agrees real (shelf t) (marked ms) (repliesIn (shelf t) ms kept) (candidatesIn (shelf t) kept (suc i)) (suc b)))) h in
-      (k .0, omega (arith, leb-true (shelf t .shares) (countTo (shelf t .servers) (agrees real (shelf t) (marked ms) (repliesIn (shelf t) ms kept) (candidatesIn (shelf t) kept (suc i)) (suc b))) (k .1),
-      servers-length (shelf t .servers) (agrees real (shelf t) (marked ms) (repliesIn (shelf t) ms kept) (candidatesIn (shelf t) kept (suc i)) (suc b))))
+      (leb (shelf t .shares) (countTo (shelf t .servers) (agrees real (shelf t) (marked ms) (repliesIn (shelf t) ms kept) (candidatesIn (shelf t) kept (suc i)) (suc b)))) h in (
+        k .0,
+        omega (
+          arith,
+          leb-true (shelf t .shares) (countTo (shelf t .servers) (agrees real (shelf t) (marked ms) (repliesIn (shelf t) ms kept) (candidatesIn (shelf t) kept (suc i)) (suc b))) (k .1),
+          servers-length (shelf t .servers) (agrees real (shelf t) (marked ms) (repliesIn (shelf t) ms kept) (candidatesIn (shelf t) kept (suc i)) (suc b)),
+        ),
+      )
 
   -- the lowest leader, one slot more at a time
   pub leader-none : leaderAt t ms kept i 0 ≡ 0

@@ -11,7 +11,7 @@ use Rattle.cluster.specs.Config.{shelf}
 use Rattle.protocol.specs.View.{candidatesIn}
 use Rattle.protocol.proofs.Equal.{and-off}
 use Rattle.decide.specs.Listing.{enters}
-use Rattle.decide.specs.declared.Group.{Group}
+use Rattle.decide.specs.declared.leading.Group.{Group}
 use Rattle.decide.specs.Steps.{rank, leadsAt, leaderAt, membersAt, GroupAs, triedAt}
 use Rattle.decide.proofs.Groups.{leader-more, leader-kept}
 

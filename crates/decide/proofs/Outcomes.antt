@@ -19,7 +19,7 @@ use Rattle.protocol.specs.Rules.{ByServer, any, first, gather, live, leader, pr
 use Rattle.protocol.specs.ServerBytes.{over}
 use Rattle.protocol.specs.View.{marked, candidatesIn, repliesIn, replySlotOf}
 use Rattle.protocol.proofs.Room.{shelf-fits}
-use Rattle.decide.specs.declared.Choice.{Choice}
+use Rattle.decide.specs.declared.leading.Choice.{Choice}
 use Rattle.decide.specs.Decided.{slotOf, decidedOn, decided}
 use Rattle.decide.specs.Listing.{usable}
 use Rattle.decide.specs.declared.Decision.the-variants as decisions
@@ -50,8 +50,8 @@ module _ (t : ℕ) (marks kept output : List ℕ) where
 
     on : decided t marks kept output
         ≡ decidedOn (shelf t) (marked marks) (repliesIn (shelf t) marks kept) (candidatesIn (shelf t) kept) output
-          (live real (shelf t) (marked marks) (repliesIn (shelf t) marks kept) (gather (candidatesIn (shelf t) kept) (shelf t .servers)))
-          (choice real (shelf t) (marked marks) (repliesIn (shelf t) marks kept) (gather (candidatesIn (shelf t) kept) (shelf t .servers)))
+        (live real (shelf t) (marked marks) (repliesIn (shelf t) marks kept) (gather (candidatesIn (shelf t) kept) (shelf t .servers)))
+        (choice real (shelf t) (marked marks) (repliesIn (shelf t) marks kept) (gather (candidatesIn (shelf t) kept) (shelf t .servers)))
     on = unfold decided in rw (e, le-leb contentRoom (length output) l)
 
     pub decided-blank : topAt t marks kept (shelf t .servers) ≤ blankRank → decided t marks kept output ≡ record { answer = decisions.Blank; output = output }
@@ -61,7 +61,7 @@ module _ (t : ℕ) (marks kept output : List ℕ) where
     -- the choice is what was looked for
     choice-is : blankRank < topAt t marks kept (shelf t .servers)
         → choice real (shelf t) (marked marks) (repliesIn (shelf t) marks kept) (gather (candidatesIn (shelf t) kept) (shelf t .servers))
-          ≡ chosenAt t marks kept (topAt t marks kept (shelf t .servers)) (shelf t .servers)
+        ≡ chosenAt t marks kept (topAt t marks kept (shelf t .servers)) (shelf t .servers)
     unfolding topAt choice chosenAt
     choice-is h =
         ap (first (proven real (shelf t) (marked marks) (repliesIn (shelf t) marks kept)))
@@ -70,7 +70,7 @@ module _ (t : ℕ) (marks kept output : List ℕ) where
     -- with a live candidate, the choice decides
     by-choice : (ls : List Candidate) (o : Option Candidate) → any (λ d. true) ls ≡ true → (y : Candidate)
         → decidedOn (shelf t) (marked marks) (repliesIn (shelf t) marks kept) (candidatesIn (shelf t) kept) output ls o
-          ≡ decidedOn (shelf t) (marked marks) (repliesIn (shelf t) marks kept) (candidatesIn (shelf t) kept) output (y ∷ []) o
+        ≡ decidedOn (shelf t) (marked marks) (repliesIn (shelf t) marks kept) (candidatesIn (shelf t) kept) output (y ∷ []) o
     unfolding decidedOn any
     by-choice [] o h y = absurd (subst T (sym h) tt)
     by-choice (x ∷ xs) none h y = refl
@@ -79,7 +79,7 @@ module _ (t : ℕ) (marks kept output : List ℕ) where
     chosen-on : blankRank < topAt t marks kept (shelf t .servers) → (o : Option Candidate)
         → chosenAt t marks kept (topAt t marks kept (shelf t .servers)) (shelf t .servers) ≡ o
         → decided t marks kept output
-          ≡ decidedOn (shelf t) (marked marks) (repliesIn (shelf t) marks kept) (candidatesIn (shelf t) kept) output (candidatesIn (shelf t) kept 0 ∷ []) o
+        ≡ decidedOn (shelf t) (marked marks) (repliesIn (shelf t) marks kept) (candidatesIn (shelf t) kept) output (candidatesIn (shelf t) kept 0 ∷ []) o
     chosen-on h o q =
         on
         ∙ by-choice (live real (shelf t) (marked marks) (repliesIn (shelf t) marks kept) (gather (candidatesIn (shelf t) kept) (shelf t .servers)))

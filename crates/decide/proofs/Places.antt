@@ -129,14 +129,14 @@ stamp-rank d at n h =
 -- two slots of candidates, compared by as many bytes as a candidate has
 pub same-slots : (s : Config) (kept : List ℕ) (i j : ℕ) → s .servers ≤ 13 → Bytes kept → length kept ≡ keptSize → i < 13 → j < 13
     → sameList (part kept (candidatesAt + candidateSlot * i) (candidateSize s)) (part kept (candidatesAt + candidateSlot * j) (candidateSize s))
-      ≡ sameCandidate (candidatesIn s kept (suc i)) (candidatesIn s kept (suc j))
+    ≡ sameCandidate (candidatesIn s kept (suc i)) (candidatesIn s kept (suc j))
 same-slots s kept i j few b l h k =
     let n : ℕ = candidatesAt + candidateSlot * i in
     let m : ℕ = candidatesAt + candidateSlot * j in
     let p : part (part kept n candidateSlot) 0 (candidateSize s) ≡ part kept n (candidateSize s) =
-        part-part kept n candidateSlot 0 (candidateSize s) (omega arith) ∙ (let e : n + 0 ≡ n = omega arith in ap (λ (x : ℕ). part kept x (candidateSize s)) e) in
+    part-part kept n candidateSlot 0 (candidateSize s) (omega arith) ∙ (let e : n + 0 ≡ n = omega arith in ap (λ (x : ℕ). part kept x (candidateSize s)) e) in
     let q : part (part kept m candidateSlot) 0 (candidateSize s) ≡ part kept m (candidateSize s) =
-        part-part kept m candidateSlot 0 (candidateSize s) (omega arith) ∙ (let e : m + 0 ≡ m = omega arith in ap (λ (x : ℕ). part kept x (candidateSize s)) e) in
+    part-part kept m candidateSlot 0 (candidateSize s) (omega arith) ∙ (let e : m + 0 ≡ m = omega arith in ap (λ (x : ℕ). part kept x (candidateSize s)) e) in
     rw (← p, ← q, candidate-in s kept i h, candidate-in s kept j k)
     (same-candidates s (part kept n candidateSlot) (part kept m candidateSlot) (bytes-part kept n candidateSlot b) (bytes-part kept m candidateSlot b)
     (omega (arith, part-length kept n candidateSlot (omega arith))) (omega (arith, part-length kept m candidateSlot (omega arith))))

@@ -82,7 +82,7 @@ module _ (s : Config) (d : List ℕ) where
   module _ (e x : List ℕ) where
     names-some : eqb (getD d stampSize 0) 0 ≡ false
         → names (candidateAt s e) x (heldAt s d)
-          ≡ (sameStamp (stampAt d) (stampAt e) && (within leastLength topLength (sizeIn d) && sameList (part d (digestsIn s d + digestsSize s) digestSize) x))
+        ≡ (sameStamp (stampAt d) (stampAt e) && (within leastLength topLength (sizeIn d) && sameList (part d (digestsIn s d + digestsSize s) digestSize) x))
     unfolding names candidateAt
     names-some h =
         rw (held-share h)
@@ -119,7 +119,7 @@ module _ (s : Config) (d : List ℕ) where
   -- ---- a fragment's own digest
   pub intact-in : Full d → (j : ℕ) → j < s .servers
       → intact (suc j) (heldAt s d .share)
-        ≡ sameList (sha256 (part d (stampSize + 3) (fragmentSize (s .shares) (sizeIn d)))) (part d (digestsIn s d + digestSize * j) digestSize)
+      ≡ sameList (sha256 (part d (stampSize + 3) (fragmentSize (s .shares) (sizeIn d)))) (part d (digestsIn s d + digestSize * j) digestSize)
   intact-in f j h =
       rw (held-share (f .flag), fragment-in (sizeIn d), digests-in (sizeIn d), nth-part d (digestsIn s d) (digestsSize s) digestSize j (omega arith))
 
@@ -140,9 +140,9 @@ pub reply-tags : (t : ℕ) (kept : List ℕ) (j n at : ℕ) → n ≡ shareOf t 
     → shareOf t kept (suc j) .tags ≡ part kept at (tagsSize (shelf t))
 reply-tags t kept j n at e q l =
     let w : shareOf t kept (suc j) ≡ shareOfSize (shelf t) n (drop (stampSize + 1) (replySlotOf kept j)) =
-        share-sized t kept j ∙ ap (λ (x : ℕ). shareOfSize (shelf t) x (drop (stampSize + 1) (replySlotOf kept j))) (sym e) in
+    share-sized t kept j ∙ ap (λ (x : ℕ). shareOfSize (shelf t) x (drop (stampSize + 1) (replySlotOf kept j))) (sym e) in
     let p : part (replySlotOf kept j) (stampSize + 3 + fragmentSize (shelf t .shares) n + digestsSize (shelf t) + digestSize) (tagsSize (shelf t)) ≡ part kept (repliesAt + replySlot * j + (stampSize + 3 + fragmentSize (shelf t .shares) n + digestsSize (shelf t) + digestSize)) (tagsSize (shelf t)) =
-        slot-part kept j (stampSize + 3 + fragmentSize (shelf t .shares) n + digestsSize (shelf t) + digestSize) (tagsSize (shelf t)) l in
+    slot-part kept j (stampSize + 3 + fragmentSize (shelf t .shares) n + digestsSize (shelf t) + digestSize) (tagsSize (shelf t)) l in
     ap (λ (h : Share). h .tags) w ∙ tags-in (shelf t) (replySlotOf kept j) n
     ∙ p ∙ ap (λ (x : ℕ). part kept x (tagsSize (shelf t))) (sym q)
 
@@ -157,9 +157,9 @@ module _ (s : Config) (a b : List ℕ) (f : Full a) (g : Full b) where
     -- the three runs, one after the other
     three-runs : (l : D + digestsSize s + digestSize + tagsSize s ≤ length a) (k : D + digestsSize s + digestSize + tagsSize s ≤ length b)
         → sameList (part a D (digestsSize s + digestSize + tagsSize s)) (part b D (digestsSize s + digestSize + tagsSize s))
-          ≡ (sameList (part a D (digestsSize s)) (part b D (digestsSize s))
-            && (sameList (part a (D + digestsSize s) digestSize) (part b (D + digestsSize s) digestSize)
-              && sameList (part a (D + digestsSize s + digestSize) (tagsSize s)) (part b (D + digestsSize s + digestSize) (tagsSize s))))
+        ≡ (sameList (part a D (digestsSize s)) (part b D (digestsSize s))
+        && (sameList (part a (D + digestsSize s) digestSize) (part b (D + digestsSize s) digestSize)
+        && sameList (part a (D + digestsSize s + digestSize) (tagsSize s)) (part b (D + digestsSize s + digestSize) (tagsSize s))))
     three-runs l k =
         let e : D + (digestsSize s + digestSize) ≡ D + digestsSize s + digestSize = omega arith in
         same-parts a b D D (digestsSize s + digestSize) (tagsSize s) (omega arith) (omega arith)
@@ -169,7 +169,7 @@ module _ (s : Config) (a b : List ℕ) (f : Full a) (g : Full b) where
 
   pub alike-in : sizeIn b ≡ sizeIn a → digestsIn s a + digestsSize s + digestSize + tagsSize s ≤ length a → digestsIn s a + digestsSize s + digestSize + tagsSize s ≤ length b
       → sameShare real s (heldAt s a .share) (heldAt s b .share)
-        ≡ sameList (part a (digestsIn s a) (digestsSize s + digestSize + tagsSize s)) (part b (digestsIn s a) (digestsSize s + digestSize + tagsSize s))
+      ≡ sameList (part a (digestsIn s a) (digestsSize s + digestSize + tagsSize s)) (part b (digestsIn s a) (digestsSize s + digestSize + tagsSize s))
   alike-in e l k =
       let n : ℕ = sizeIn a in
       let p : heldAt s b .share ≡ some (shareOfSize s n (drop (stampSize + 1) b)) = held-share s b (g .flag) ∙ ap (λ (z : ℕ). some (shareOfSize s z (drop (stampSize + 1) b))) e in

@@ -56,6 +56,7 @@ fragment-put kept out f p k g x l r s e h q m = go (eqb q p) refl
   where
     fits : p * f + length x ≤ length out
     fits = omega (arith, place-room p k f l)
+
     go : (b : Bool) → eqb q p ≡ b → part (put out (p * f) x) (q * f) f ≡ g q
     go true w =
         let z : q ≡ p = eqb-true q p w in
@@ -91,9 +92,19 @@ restores t n ss frs out g lo hi least most size within-range rise given room eac
     let d : firstDifferent (shelf t .shares) ss ≡ places (length ss) = ap (λ (k : ℕ). firstDifferent k ss) (sym size) ∙ all-chosen ss rise in
     let w : length (firstDifferent (shelf t .shares) ss) ≡ shelf t .shares = ap (λ (k : ℕ). length (firstDifferent k ss)) (sym size) ∙ chosen-length ss rise ∙ size in
     let p : partsAt (fragmentSize (shelf t .shares) n) ss frs (firstDifferent (shelf t .shares) ss) ≡ map g ss =
-        ap (partsAt (fragmentSize (shelf t .shares) n) ss frs) d ∙ parts-all (fragmentSize (shelf t .shares) n) ss frs g each-part in
-    rw (le-leb 1 t lo, le-leb t 4 hi, each-within 1 (shelf t .servers) ss within-range, le-leb leastLength n least, le-leb n topLength most, le-ltb (length out) contentRoom room,
-    eq-eqb (length frs) (length ss * fragmentSize (shelf t .shares) n) given, w, le-ltb (shelf t .shares) (shelf t .shares) (omega arith), p)
+    ap (partsAt (fragmentSize (shelf t .shares) n) ss frs) d ∙ parts-all (fragmentSize (shelf t .shares) n) ss frs g each-part in
+    rw (
+      le-leb 1 t lo,
+      le-leb t 4 hi,
+      each-within 1 (shelf t .servers) ss within-range,
+      le-leb leastLength n least,
+      le-leb n topLength most,
+      le-ltb (length out) contentRoom room,
+      eq-eqb (length frs) (length ss * fragmentSize (shelf t .shares) n) given,
+      w,
+      le-ltb (shelf t .shares) (shelf t .shares) (omega arith),
+      p,
+    )
 
 -- ---- one loop's turn, and the whole, at the kept bytes
 
@@ -117,11 +128,12 @@ module _ (t : ℕ) (kept servers : List ℕ) (n : ℕ) (u : Usable t kept) (most
   fragments-more out out' f p at e l q s h w =
       let x : List ℕ = take (at + f - at) (drop at kept) in
       let z : length (take (at + f - at) (drop at kept)) ≡ f = source-length f p at e l q in
-      let m : shelf t .shares * f ≤ 1028 = omega (arith, fragments-room t n (u .low) (u .high) most, ap (λ (k : ℕ). shelf t .shares * k) e) in
-      (ap length w ∙ put-length out (p * f) (take (at + f - at) (drop at kept)) (omega (arith, place-room p (shelf t .shares) f l)) ∙ s,
-      λ y k.
-      ap (λ (d : List ℕ). part d (y * f) f) w
-      ∙ fragment-put kept out f p (shelf t .shares) (λ j. fragmentOf kept f (getD servers j 0) .bytes) (take (at + f - at) (drop at kept)) l (omega arith) z (here f p at q) h y k)
+      let m : shelf t .shares * f ≤ 1028 = omega (arith, fragments-room t n (u .low) (u .high) most, ap (λ (k : ℕ). shelf t .shares * k) e) in (
+        ap length w ∙ put-length out (p * f) (take (at + f - at) (drop at kept)) (omega (arith, place-room p (shelf t .shares) f l)) ∙ s,
+        λ y k.
+            ap (λ (d : List ℕ). part d (y * f) f) w
+            ∙ fragment-put kept out f p (shelf t .shares) (λ j. fragmentOf kept f (getD servers j 0) .bytes) (take (at + f - at) (drop at kept)) l (omega arith) z (here f p at q) h y k,
+      )
     where
       here : (f p at : ℕ) → at ≡ repliesAt + replySlot * (getD servers p 0 - 1) + (stampSize + 3) → take (at + f - at) (drop at kept) ≡ fragmentOf kept f (getD servers p 0) .bytes
       here f p at q = part-of kept at f ∙ (unfold fragmentOf in ap (λ (k : ℕ). part kept k f) q)
@@ -135,24 +147,25 @@ module _ (t : ℕ) (kept servers : List ℕ) (n : ℕ) (u : Usable t kept) (most
       let c : shelf t .shares ≤ 13 = shares-few t (u .high) in
       let l : length (take (shelf t .shares) servers) ≡ shelf t .shares = length-take-le (shelf t .shares) servers (omega arith) in
       let v : length (take (shelf t .shares * fragmentSize (shelf t .shares) n) frs) ≡ shelf t .shares * fragmentSize (shelf t .shares) n =
-          length-take-le (shelf t .shares * fragmentSize (shelf t .shares) n) frs (each .long) in
+      length-take-le (shelf t .shares * fragmentSize (shelf t .shares) n) frs (each .long) in
       let at : (i : ℕ) → i < length (take (shelf t .shares) servers) → getD (take (shelf t .shares) servers) i 0 ≡ getD servers i 0 =
-          λ i q. getD-take (shelf t .shares) servers i 0 (omega arith) in
+      λ i q. getD-take (shelf t .shares) servers i 0 (omega arith) in
       let z =
-          restores t n (take (shelf t .shares) servers) (take (shelf t .shares * fragmentSize (shelf t .shares) n) frs) out (fragmentOf kept (fragmentSize (shelf t .shares) n))
-          (u .low) (u .high) least most l
-          (λ i q. rw (at i q) (r .lowest i (omega arith), r .highest i (omega arith)))
-          (λ i j q p. rw (at i (omega arith), at j p) (r .rising i j q (omega arith)))
-          (v ∙ ap (λ (x : ℕ). x * fragmentSize (shelf t .shares) n) (sym l)) room
-          (λ p q. rw (at p q) (standing frs p (fragmentSize (shelf t .shares) n) (shelf t .shares) (omega arith) (each .each p (omega arith)))) in
+      restores t n (take (shelf t .shares) servers) (take (shelf t .shares * fragmentSize (shelf t .shares) n) frs) out (fragmentOf kept (fragmentSize (shelf t .shares) n))
+      (u .low) (u .high) least most l
+      (λ i q. rw (at i q) (r .lowest i (omega arith), r .highest i (omega arith)))
+      (λ i j q p. rw (at i (omega arith), at j p) (r .rising i j q (omega arith)))
+      (v ∙ ap (λ (x : ℕ). x * fragmentSize (shelf t .shares) n) (sym l)) room
+      (λ p q. rw (at p q) (standing frs p (fragmentSize (shelf t .shares) n) (shelf t .shares) (omega arith) (each .each p (omega arith)))) in
       let y = h ∙ z in
       let e : n ≡ value2 (getD (drop (stampSize + 1) (replySlotOf kept b)) 0 0) (getD (drop (stampSize + 1) (replySlotOf kept b)) 1 0) =
-          size ∙ sym (length-read (replySlotOf kept b)) in
-      rw (← e)
-      (ap (λ (x : Outcome × List ℕ). x .0 .count) y ∙ sym (restored-length (shelf t .points) (shelf t .shares) n (map (fragmentOf kept (fragmentSize (shelf t .shares) n)) (take (shelf t .shares) servers))),
-      ap (λ (x : Outcome × List ℕ). x .1) y
-      ∙ ap (λ (x : ℕ). restored (shelf t .points) (shelf t .shares) n (map (fragmentOf kept (fragmentSize (shelf t .shares) n)) (take (shelf t .shares) servers)) ++ drop x out)
-      (sym (restored-length (shelf t .points) (shelf t .shares) n (map (fragmentOf kept (fragmentSize (shelf t .shares) n)) (take (shelf t .shares) servers)))))
+      size ∙ sym (length-read (replySlotOf kept b)) in
+      rw (← e) (
+        ap (λ (x : Outcome × List ℕ). x .0 .count) y ∙ sym (restored-length (shelf t .points) (shelf t .shares) n (map (fragmentOf kept (fragmentSize (shelf t .shares) n)) (take (shelf t .shares) servers))),
+        ap (λ (x : Outcome × List ℕ). x .1) y
+            ∙ ap (λ (x : ℕ). restored (shelf t .points) (shelf t .shares) n (map (fragmentOf kept (fragmentSize (shelf t .shares) n)) (take (shelf t .shares) servers)) ++ drop x out)
+            (sym (restored-length (shelf t .points) (shelf t .shares) n (map (fragmentOf kept (fragmentSize (shelf t .shares) n)) (take (shelf t .shares) servers)))),
+      )
     where
       standing : (frs : List ℕ) (p f k : ℕ) → p < k → part frs (p * f) f ≡ fragmentOf kept f (getD servers p 0) .bytes
           → record { server = getD servers p 0; bytes = take f (drop (p * f) (take (k * f) frs)) } ≡ fragmentOf kept f (getD servers p 0)
@@ -177,9 +190,9 @@ map-append f (x ∷ xs) ys = ap (λ z. f x ∷ z) (map-append f xs ys)
 
 content-of : (t : ℕ) (ms kept : List ℕ) (i b : ℕ)
     → parts real (shelf t) (marked ms) (repliesIn (shelf t) ms kept) (candidatesIn (shelf t) kept (suc i)) (suc b) (shelf t .servers)
-      ≡ map (fragmentOf kept (fragmentSize (shelf t .shares) (sizeIn (replySlotOf kept b)))) (serversOf (shelf t .servers) (agreesAt t ms kept i b))
+    ≡ map (fragmentOf kept (fragmentSize (shelf t .shares) (sizeIn (replySlotOf kept b)))) (serversOf (shelf t .servers) (agreesAt t ms kept i b))
     → restoredBy real (shelf t) (marked ms) (repliesIn (shelf t) ms kept) (candidatesIn (shelf t) kept (suc i)) (suc b) (some (shareOfSize (shelf t) (sizeIn (replySlotOf kept b)) (drop (stampSize + 1) (replySlotOf kept b))))
-      ≡ contentOf t kept b (membersAt t ms kept i b)
+    ≡ contentOf t kept b (membersAt t ms kept i b)
 unfolding restoredBy real contentOf membersAt shareAt shareOfSize
 content-of t ms kept i b h =
     rw (h, getD-drop (stampSize + 1) (replySlotOf kept b) 0 0, getD-drop (stampSize + 1) (replySlotOf kept b) 1 0)
@@ -199,16 +212,16 @@ module _ (t : ℕ) (ms kept : List ℕ) (i : ℕ) (d : List ℕ) (e : d ≡ sha2
       let a = member-shares t ms kept i d e b small fit j l h in
       let q : sizeIn (replySlotOf kept j) ≡ sizeIn (replySlotOf kept b) = a .2 in
       let s : repliesIn (shelf t) ms kept (suc j) .share ≡ some (shareOfSize (shelf t) (sizeIn (replySlotOf kept j)) (drop (stampSize + 1) (replySlotOf kept j))) =
-          ap (λ (x : Held). x .share) (reply-in (shelf t) ms kept j l (a .0)) ∙ held-share (shelf t) (replySlotOf kept j) (a .1) in
+      ap (λ (x : Held). x .share) (reply-in (shelf t) ms kept j l (a .0)) ∙ held-share (shelf t) (replySlotOf kept j) (a .1) in
       let f : shareOfSize (shelf t) (sizeIn (replySlotOf kept j)) (drop (stampSize + 1) (replySlotOf kept j)) .part ≡ part kept (repliesAt + replySlot * (suc j - 1) + (stampSize + 3)) (fragmentSize (shelf t .shares) (sizeIn (replySlotOf kept b))) =
-          fragment-in (shelf t) (replySlotOf kept j) (sizeIn (replySlotOf kept j)) ∙ ap (λ (x : ℕ). part (replySlotOf kept j) (stampSize + 3) (fragmentSize (shelf t .shares) x)) q
-          ∙ slot-part kept j (stampSize + 3) (fragmentSize (shelf t .shares) (sizeIn (replySlotOf kept b))) room
-          ∙ ap (λ (x : ℕ). part kept (repliesAt + replySlot * x + (stampSize + 3)) (fragmentSize (shelf t .shares) (sizeIn (replySlotOf kept b)))) (sym z) in
+      fragment-in (shelf t) (replySlotOf kept j) (sizeIn (replySlotOf kept j)) ∙ ap (λ (x : ℕ). part (replySlotOf kept j) (stampSize + 3) (fragmentSize (shelf t .shares) x)) q
+      ∙ slot-part kept j (stampSize + 3) (fragmentSize (shelf t .shares) (sizeIn (replySlotOf kept b))) room
+      ∙ ap (λ (x : ℕ). part kept (repliesAt + replySlot * x + (stampSize + 3)) (fragmentSize (shelf t .shares) (sizeIn (replySlotOf kept b)))) (sym z) in
       ap (partOf real (shelf t) (suc j)) s ∙ ap (λ (x : List ℕ). record { server = suc j; bytes = x } ∷ []) f
 
   parts-members : (n : ℕ) → n ≤ 13
       → parts real (shelf t) (marked ms) (repliesIn (shelf t) ms kept) (candidatesIn (shelf t) kept (suc i)) (suc b) n
-        ≡ map (fragmentOf kept (fragmentSize (shelf t .shares) (sizeIn (replySlotOf kept b)))) (serversOf n (agreesAt t ms kept i b))
+      ≡ map (fragmentOf kept (fragmentSize (shelf t .shares) (sizeIn (replySlotOf kept b)))) (serversOf n (agreesAt t ms kept i b))
   unfolding parts serversOf
   parts-members zero l = refl
   parts-members (suc n) l =
@@ -217,9 +230,9 @@ module _ (t : ℕ) (ms kept : List ℕ) (i : ℕ) (d : List ℕ) (e : d ≡ sha2
     where
       go : (y : Bool) → agreesAt t ms kept i b (suc n) ≡ y
           → map (fragmentOf kept (fragmentSize (shelf t .shares) (sizeIn (replySlotOf kept b)))) (serversOf n (agreesAt t ms kept i b))
-              ++ cond (agrees real (shelf t) (marked ms) (repliesIn (shelf t) ms kept) (candidatesIn (shelf t) kept (suc i)) (suc b) (suc n)) (partOf real (shelf t) (suc n) (repliesIn (shelf t) ms kept (suc n) .share)) []
-            ≡ map (fragmentOf kept (fragmentSize (shelf t .shares) (sizeIn (replySlotOf kept b)))) (serversOf n (agreesAt t ms kept i b))
-              ++ map (fragmentOf kept (fragmentSize (shelf t .shares) (sizeIn (replySlotOf kept b)))) (cond (agreesAt t ms kept i b (suc n)) (suc n ∷ []) [])
+          ++ cond (agrees real (shelf t) (marked ms) (repliesIn (shelf t) ms kept) (candidatesIn (shelf t) kept (suc i)) (suc b) (suc n)) (partOf real (shelf t) (suc n) (repliesIn (shelf t) ms kept (suc n) .share)) []
+          ≡ map (fragmentOf kept (fragmentSize (shelf t .shares) (sizeIn (replySlotOf kept b)))) (serversOf n (agreesAt t ms kept i b))
+          ++ map (fragmentOf kept (fragmentSize (shelf t .shares) (sizeIn (replySlotOf kept b)))) (cond (agreesAt t ms kept i b (suc n)) (suc n ∷ []) [])
       go true q =
           ap (λ (z : List Part). map (fragmentOf kept (fragmentSize (shelf t .shares) (sizeIn (replySlotOf kept b)))) (serversOf n (agreesAt t ms kept i b)) ++ z)
           (ap (λ (y : Bool). cond y (partOf real (shelf t) (suc n) (repliesIn (shelf t) ms kept (suc n) .share)) []) (agrees-at t ms kept i b (suc n) ∙ q)

@@ -65,7 +65,7 @@ pub members-rise : (t : ℕ) (m : ByServer Bool) (servers : List ℕ) → take (
     → shelf t .shares ≤ length (serversOf (shelf t .servers) m) → Rising t servers
 members-rise t m servers e k =
     let g : (i : ℕ) → i < shelf t .shares → getD servers i 0 ≡ getD (serversOf (shelf t .servers) m) i 0 =
-        λ i l. sym (getD-take (shelf t .shares) servers i 0 l) ∙ ap (λ (z : List ℕ). getD z i 0) e ∙ getD-take (shelf t .shares) (serversOf (shelf t .servers) m) i 0 l in
+    λ i l. sym (getD-take (shelf t .shares) servers i 0 l) ∙ ap (λ (z : List ℕ). getD z i 0) e ∙ getD-take (shelf t .shares) (serversOf (shelf t .servers) m) i 0 l in
     record {
       lowest = λ i l. rw (g i l) (servers-in m (shelf t .servers) i (omega arith) .0);
       highest = λ i l. rw (g i l) (servers-in m (shelf t .servers) i (omega arith) .1);

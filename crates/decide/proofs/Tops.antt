@@ -46,6 +46,7 @@ any-member c p q (y ∷ ys) h k m = go (sameCandidate c y) refl (any-member c p 
     kept : (b : Bool) → any p (keep q ys) ≡ true → any p (cond b (y ∷ keep q ys) (keep q ys)) ≡ true
     kept true e = rw e (or-true (p y))
     kept false e = e
+
     go : (b : Bool) → sameCandidate c y ≡ b → (any (sameCandidate c) ys ≡ true → q c ≡ true → p c ≡ true → any p (keep q ys) ≡ true)
         → any p (cond (q y) (y ∷ keep q ys) (keep q ys)) ≡ true
     go true e f = let s : c ≡ y = candidate-same c y e in rw (ap q (sym s) ∙ k, ap p (sym s) ∙ m)
@@ -115,6 +116,7 @@ module _ (s : Config) (m : ByServer Bool) (g : ByServer Held) (held : ByServer C
       last : (b : Bool) → isBlank (held (suc n) .stamp) ≡ false → any p (cond b (held (suc n) ∷ []) []) ≡ any q (cond b (held (suc n) ∷ []) [])
       last true e = rw (h n e)
       last false e = refl
+
       go : (b : Bool) → enters held (suc n) ≡ b → any p (keep r (gather held n)) ≡ any q (keep r (gather held n))
           → any p (keep r (cond b (gather held n ++ (held (suc n) ∷ [])) (gather held n))) ≡ any q (keep r (cond b (gather held n ++ (held (suc n) ∷ [])) (gather held n)))
       go true e f =
@@ -151,6 +153,7 @@ module _ (s : Config) (m : ByServer Bool) (g : ByServer Held) (held : ByServer C
               → rank (held (suc n) .stamp) ≤ cond (b && true) (rank (held (suc n) .stamp)) (topRank s m g held n)
           here true q = omega arith
           here false q = ltb-false (topRank s m g held n) (rank (held (suc n) .stamp)) q
+
       go : (b : Bool) → eqb i n ≡ b → (i < n → stays s m g (rank (held (suc i) .stamp)) ≡ true → rank (held (suc i) .stamp) ≤ topRank s m g held n)
           → rank (held (suc i) .stamp) ≤ raised s m g (held (suc n)) (topRank s m g held n)
       go true q f =

@@ -17,9 +17,9 @@ use Rattle.protocol.specs.Primitives.{real}
 use Rattle.protocol.specs.Rules.{ByServer, countTo, keep, first, gather, proven, fits, agrees, leads, leader}
 use Rattle.protocol.specs.View.{keptSize, marked, candidatesIn, repliesIn, replySlotOf, repliesAt, replySlot, part, shareAt, heldAt}
 use Rattle.erasure.specs.Fragments.{Part, fragmentSize, restored}
-use Rattle.decide.specs.declared.Members.{Members}
-use Rattle.decide.specs.declared.Choice.{Choice}
-use Rattle.decide.specs.declared.Group.{Group}
+use Rattle.decide.specs.declared.leading.Members.{Members}
+use Rattle.decide.specs.declared.leading.Choice.{Choice}
+use Rattle.decide.specs.declared.leading.Group.{Group}
 use Rattle.decide.specs.Listing.{usable, enters}
 
 -- what the private functions ask of their arguments

@@ -11,7 +11,7 @@ use Rattle.cluster.specs.Config.{shelf}
 use Rattle.cluster.specs.Ranges.{contentRoom}
 use Rattle.protocol.specs.Rules.{fits}
 use Rattle.decide.specs.Decided.{Decided}
-use Rattle.decide.specs.declared.Choice.{Choice}
+use Rattle.decide.specs.declared.leading.Choice.{Choice}
 use Rattle.decide.specs.Decided.{Decided}
 use Rattle.decide.specs.declared.Decision.the-variants as decisions
 use Rattle.decide.specs.Steps.{blankRank, topAt, chosenAt, Hit, ChoiceAs}
@@ -51,7 +51,7 @@ returns-4 c =
     let a = c .before .before .before .before .before .before .before .before .before .before .args in
     let q = c .before .before .before .before .top .ensures in
     let n : chosenAt (a .t) (a .marks) (a .kept .now) (topAt (a .t) (a .marks) (a .kept .now) (shelf (a .t) .servers)) (shelf (a .t) .servers) ≡ none =
-        ap (λ (x : ℕ). chosenAt (a .t) (a .marks) (a .kept .now) x (shelf (a .t) .servers)) (sym q) ∙ c .before .before .find .ensures .nothing (c .if4 .taken) in
+    ap (λ (x : ℕ). chosenAt (a .t) (a .marks) (a .kept .now) x (shelf (a .t) .servers)) (sym q) ∙ c .before .before .find .ensures .nothing (c .if4 .taken) in
     let d = decided-none (a .t) (a .marks) (a .kept .now) (a .out .now) (sym (c .before .before .before .before .before .before .before .is-usable .ensures .same) ∙ not-false (c .before .before .before .before .before .before .before .is-usable .result) (c .before .before .before .before .before .before .if1 .left)) (omega (arith, c .before .before .before .before .before .if2 .left)) (λ i. c .before .before .before .before .before .before .before .before .before .shared-slice-known .given i .fits) (omega (arith, c .before .before .before .if3 .left, q)) n in
     (sym (ap (λ (x : Decided). x .answer) d), sym (ap (λ (x : Decided). x .output) d))
 
@@ -77,10 +77,13 @@ rebuild-requires c κs =
     let k = hit (a .t) (a .marks) (a .kept .now) (c .before .before .before .before .before .top .result) (c .before .before .before .find .result) q (c .before .before .before .find .ensures) (some-server (c .before .before .before .find .result .server) (c .before .if4 .left)) in
     let B : ℕ = c .before .before .before .find .result .server - 1 in
     let h : blankRank < topAt (a .t) (a .marks) (a .kept .now) (shelf (a .t) .servers) = omega (arith, c .before .before .before .before .if3 .left, q) in
-    let l : contentRoom ≤ length (a .out .now) = omega (arith, c .before .before .before .before .before .before .if2 .left) in
-    (u, hit-small (a .t) (a .marks) (a .kept .now) (a .out .now) (sym (c .before .before .before .before .before .before .before .before .is-usable .ensures .same) ∙ not-false (c .before .before .before .before .before .before .before .before .is-usable .result) (c .before .before .before .before .before .before .before .if1 .left)) l (λ i. c .before .before .before .before .before .before .before .before .before .before .shared-slice-known .given i .fits) u (c .before .before .before .find .result) B h k,
-    hit-full (a .t) (a .marks) (a .kept .now) (a .out .now) (sym (c .before .before .before .before .before .before .before .before .is-usable .ensures .same) ∙ not-false (c .before .before .before .before .before .before .before .before .is-usable .result) (c .before .before .before .before .before .before .before .if1 .left)) l (λ i. c .before .before .before .before .before .before .before .before .before .before .shared-slice-known .given i .fits) u (c .before .before .before .find .result) B h k,
-    hit-rises (a .t) (a .marks) (a .kept .now) (a .out .now) (sym (c .before .before .before .before .before .before .before .before .is-usable .ensures .same) ∙ not-false (c .before .before .before .before .before .before .before .before .is-usable .result) (c .before .before .before .before .before .before .before .if1 .left)) l (λ i. c .before .before .before .before .before .before .before .before .before .before .shared-slice-known .given i .fits) u (c .before .before .before .find .result) B h k, l)
+    let l : contentRoom ≤ length (a .out .now) = omega (arith, c .before .before .before .before .before .before .if2 .left) in (
+      u,
+      hit-small (a .t) (a .marks) (a .kept .now) (a .out .now) (sym (c .before .before .before .before .before .before .before .before .is-usable .ensures .same) ∙ not-false (c .before .before .before .before .before .before .before .before .is-usable .result) (c .before .before .before .before .before .before .before .if1 .left)) l (λ i. c .before .before .before .before .before .before .before .before .before .before .shared-slice-known .given i .fits) u (c .before .before .before .find .result) B h k,
+      hit-full (a .t) (a .marks) (a .kept .now) (a .out .now) (sym (c .before .before .before .before .before .before .before .before .is-usable .ensures .same) ∙ not-false (c .before .before .before .before .before .before .before .before .is-usable .result) (c .before .before .before .before .before .before .before .if1 .left)) l (λ i. c .before .before .before .before .before .before .before .before .before .before .shared-slice-known .given i .fits) u (c .before .before .before .find .result) B h k,
+      hit-rises (a .t) (a .marks) (a .kept .now) (a .out .now) (sym (c .before .before .before .before .before .before .before .before .is-usable .ensures .same) ∙ not-false (c .before .before .before .before .before .before .before .before .is-usable .result) (c .before .before .before .before .before .before .before .if1 .left)) l (λ i. c .before .before .before .before .before .before .before .before .before .before .shared-slice-known .given i .fits) u (c .before .before .before .find .result) B h k,
+      l,
+    )
 
 same-length : tie.Need-same-length
 same-length c = search needs

@@ -42,7 +42,6 @@ returns-4 c =
     let a = c .before .before .before .before .before .before .before .before .args in
     rw (sym (c .before .before .before .before .before .before .is-usable .ensures .same) ∙ not-false (c .before .before .before .before .before .before .is-usable .result) (c .before .before .before .before .before .if1 .left), lt-leb (a .b) (shelf (a .t) .servers) (omega (arith, c .if4 .taken, c .before .servers2 .ensures .0)), and-off (leb 1 (a .b)), and-off (ltb (a .i) (shelf (a .t) .servers)))
 
-
 tags-alike-requires : tie.Need-tags-alike-requires
 tags-alike-requires c κs =
     let u = c .before .before .before .before .before .before .is-usable .ensures .told (not-false (c .before .before .before .before .before .before .is-usable .result) (c .before .before .before .before .before .if1 .left)) in
