@@ -6,6 +6,7 @@ use mathlib.Core.Option.{Option, none, some}
 use Prim.Native.Nat.{ℕ, zero, suc, _+_}
 use lib.Dec.{leb, ltb, eqb}
 use Rattle.cluster.specs.Config.{Config, quorum}
+use Rattle.cluster.specs.Ranges.{within, leastLength, topLength}
 use Rattle.erasure.specs.Fragments.{Part}
 use Rattle.protocol.specs.declared.Stamp.{Stamp}
 use Rattle.protocol.specs.Values.{Candidate, Share, Held, sameList, nth, digestSize, below, sameStamp, sameCandidate, isBlank}
@@ -59,9 +60,12 @@ module _ (P : Primitives) (s : Config) where
   unfoldable pub live : ByServer Bool → ByServer Held → List Candidate → List Candidate
   live m g cs = keep (λ c. ltb (countTo (s .servers) (lower m g c)) (quorum s)) cs
 
+  -- the length is in its range, as in every decoded reply: bytes that no packet gave fit nothing
   abbrev pub shareFits : Candidate → ℕ → Option Share → Bool
   shareFits c i none = false
-  shareFits c i (some h) = sameList (h .nonceDigest) (P .digest (c .nonce)) && sameList (P .digest (h .part)) (nth digestSize (h .digests) i)
+  shareFits c i (some h) =
+      within leastLength topLength (h .size)
+      && (sameList (h .nonceDigest) (P .digest (c .nonce)) && sameList (P .digest (h .part)) (nth digestSize (h .digests) i))
 
   -- line 161, of one reply: the candidate's stamp and, amended, byte 1, a nonce digest that is the nonce's, and a fragment that has its own digest
   unfoldable pub fits : ByServer Bool → ByServer Held → Candidate → ByServer Bool

@@ -1,0 +1,14 @@
+pub mod Places
+pub mod Gathered
+pub mod Arguments
+pub mod Ranks
+pub mod Counted
+pub mod Replies
+pub mod Groups
+pub mod Led
+pub mod Tops
+pub mod Chosen
+pub mod Firsts
+pub mod Rises
+pub mod Restoring
+pub mod Outcomes

@@ -1,0 +1,134 @@
+-- What is decided, by the highest rank that stays and by what was found: nothing with other arguments, blank where the rank is the blank one, nothing yet
+-- where no slot was found, and else the slot, the leader and the content that its members' fragments give. Nothing is assumed.
+use mathlib.Core.Path.{_≡_, refl, sym, ap, _∙_, subst}
+use mathlib.Core.Bool.{Bool, true, false}
+use mathlib.Core.List.{List, [], _∷_}
+use mathlib.Core.Option.{Option, none, some}
+use Prim.Native.Nat.{ℕ, suc, _+_, _-_, _≤_, _<_}
+use native.Mathlib.Omega.{arith}
+use lib.Dec.{T}
+use lib.ListN.{length, take}
+use borrow.Author.Tests.{le-leb, lt-leb}
+use Rattle.cluster.specs.Config.{shelf}
+use Rattle.cluster.specs.Ranges.{contentRoom}
+use Rattle.sha256.specs.Sha256.{sha256}
+use Rattle.protocol.specs.Format.{Bytes}
+use Rattle.protocol.specs.Values.{Candidate}
+use Rattle.protocol.specs.Primitives.{real}
+use Rattle.protocol.specs.Rules.{ByServer, any, first, gather, live, leader, proven, choice, restoredBy}
+use Rattle.protocol.specs.ServerBytes.{over}
+use Rattle.protocol.specs.View.{marked, candidatesIn, repliesIn, replySlotOf}
+use Rattle.protocol.proofs.Room.{shelf-fits}
+use Rattle.decide.specs.declared.leading.Choice.{Choice}
+use Rattle.decide.specs.Decided.{slotOf, decidedOn, decided}
+use Rattle.decide.specs.Listing.{usable}
+use Rattle.decide.specs.declared.Decision.the-variants as decisions
+use Rattle.decide.specs.Steps.{Usable, blankRank, serversOf, fitsAt, agreesAt, leadsAt, leaderAt, topAt, Full, membersAt, chosenAt, Hit, contentOf, Rising}
+use Rattle.decide.proofs.Restoring.{restored-members}
+use Rattle.decide.proofs.Ranks.{candidate-writer, reply-writer}
+use Rattle.decide.proofs.Groups.{leader-full, leads-fits, leader-leads}
+use Rattle.decide.proofs.Firsts.{slot-of}
+use Rattle.decide.proofs.Rises.{members-rise}
+use Rattle.decide.proofs.Chosen.{live-none, live-some, highest-top}
+use Rattle.decide.proofs.Replies.{sizeIn}
+
+module _ (t : ℕ) (marks kept output : List ℕ) where
+  pub decided-unusable : usable t kept ≡ false → decided t marks kept output ≡ record { answer = decisions.Wait; output = output }
+  unfolding decided
+  decided-unusable e = rw e
+
+  pub decided-roomless : usable t kept ≡ true → length output < contentRoom → decided t marks kept output ≡ record { answer = decisions.Wait; output = output }
+  unfolding decided
+  decided-roomless e l = rw (e, lt-leb contentRoom (length output) l)
+
+  module _ (e : usable t kept ≡ true) (l : contentRoom ≤ length output) (bytes : Bytes kept) where
+    writers : (i : ℕ) → candidatesIn (shelf t) kept i .stamp .writer < 256
+    writers = candidate-writer (shelf t) kept bytes
+
+    repliers : (i : ℕ) → repliesIn (shelf t) marks kept i .stamp .writer < 256
+    repliers = reply-writer (shelf t) kept marks bytes
+
+    on : decided t marks kept output
+        ≡ decidedOn (shelf t) (marked marks) (repliesIn (shelf t) marks kept) (candidatesIn (shelf t) kept) output
+        (live real (shelf t) (marked marks) (repliesIn (shelf t) marks kept) (gather (candidatesIn (shelf t) kept) (shelf t .servers)))
+        (choice real (shelf t) (marked marks) (repliesIn (shelf t) marks kept) (gather (candidatesIn (shelf t) kept) (shelf t .servers)))
+    on = unfold decided in rw (e, le-leb contentRoom (length output) l)
+
+    pub decided-blank : topAt t marks kept (shelf t .servers) ≤ blankRank → decided t marks kept output ≡ record { answer = decisions.Blank; output = output }
+    unfolding topAt decidedOn
+    decided-blank h = on ∙ rw (live-none (shelf t) (marked marks) (repliesIn (shelf t) marks kept) (candidatesIn (shelf t) kept) writers repliers h)
+
+    -- the choice is what was looked for
+    choice-is : blankRank < topAt t marks kept (shelf t .servers)
+        → choice real (shelf t) (marked marks) (repliesIn (shelf t) marks kept) (gather (candidatesIn (shelf t) kept) (shelf t .servers))
+        ≡ chosenAt t marks kept (topAt t marks kept (shelf t .servers)) (shelf t .servers)
+    unfolding topAt choice chosenAt
+    choice-is h =
+        ap (first (proven real (shelf t) (marked marks) (repliesIn (shelf t) marks kept)))
+        (highest-top (shelf t) (marked marks) (repliesIn (shelf t) marks kept) (candidatesIn (shelf t) kept) writers repliers h)
+
+    -- with a live candidate, the choice decides
+    by-choice : (ls : List Candidate) (o : Option Candidate) → any (λ d. true) ls ≡ true → (y : Candidate)
+        → decidedOn (shelf t) (marked marks) (repliesIn (shelf t) marks kept) (candidatesIn (shelf t) kept) output ls o
+        ≡ decidedOn (shelf t) (marked marks) (repliesIn (shelf t) marks kept) (candidatesIn (shelf t) kept) output (y ∷ []) o
+    unfolding decidedOn any
+    by-choice [] o h y = absurd (subst T (sym h) tt)
+    by-choice (x ∷ xs) none h y = refl
+    by-choice (x ∷ xs) (some c) h y = refl
+
+    chosen-on : blankRank < topAt t marks kept (shelf t .servers) → (o : Option Candidate)
+        → chosenAt t marks kept (topAt t marks kept (shelf t .servers)) (shelf t .servers) ≡ o
+        → decided t marks kept output
+        ≡ decidedOn (shelf t) (marked marks) (repliesIn (shelf t) marks kept) (candidatesIn (shelf t) kept) output (candidatesIn (shelf t) kept 0 ∷ []) o
+    chosen-on h o q =
+        on
+        ∙ by-choice (live real (shelf t) (marked marks) (repliesIn (shelf t) marks kept) (gather (candidatesIn (shelf t) kept) (shelf t .servers)))
+        (choice real (shelf t) (marked marks) (repliesIn (shelf t) marks kept) (gather (candidatesIn (shelf t) kept) (shelf t .servers)))
+        (live-some (shelf t) (marked marks) (repliesIn (shelf t) marks kept) (candidatesIn (shelf t) kept) writers repliers (unfold topAt in h)) (candidatesIn (shelf t) kept 0)
+        ∙ ap (decidedOn (shelf t) (marked marks) (repliesIn (shelf t) marks kept) (candidatesIn (shelf t) kept) output (candidatesIn (shelf t) kept 0 ∷ [])) (choice-is h ∙ q)
+
+    pub decided-none : blankRank < topAt t marks kept (shelf t .servers) → chosenAt t marks kept (topAt t marks kept (shelf t .servers)) (shelf t .servers) ≡ none
+        → decided t marks kept output ≡ record { answer = decisions.Wait; output = output }
+    unfolding decidedOn
+    decided-none h q = chosen-on h none q
+
+    module _ (u : Usable t kept) (r : Choice) (b : ℕ) (h : blankRank < topAt t marks kept (shelf t .servers))
+        (k : Hit t marks kept (topAt t marks kept (shelf t .servers)) r b) where
+      -- the leader's reply fits
+      led : (leadsAt t marks kept (r .slot) b ≡ true) × (b < shelf t .servers)
+      led = leader-leads t marks kept (r .slot) (shelf t .servers) b (k .leader)
+
+      pub hit-fits : (fitsAt t marks kept (r .slot) b ≡ true) × (shelf t .shares ≤ length (serversOf (shelf t .servers) (agreesAt t marks kept (r .slot) b)))
+      hit-fits = leads-fits t marks kept (r .slot) b (led .0)
+
+      pub hit-small : b < 13
+      hit-small = omega (arith, led .1, shelf-fits t (u .low) (u .high) .few)
+
+      pub hit-full : Full (replySlotOf kept b)
+      hit-full = leader-full t marks kept (r .slot) (sha256 (candidatesIn (shelf t) kept (suc (r .slot)) .nonce)) refl b hit-small (hit-fits .0)
+
+      pub hit-rises : Rising t (r .servers)
+      hit-rises = members-rise t (agreesAt t marks kept (r .slot) b) (r .servers) (unfold membersAt in k .members) (hit-fits .1)
+
+      content : restoredBy real (shelf t) (marked marks) (repliesIn (shelf t) marks kept) (candidatesIn (shelf t) kept (suc (r .slot))) (suc b) (repliesIn (shelf t) marks kept (suc b) .share)
+          ≡ contentOf t kept b (take (shelf t .shares) (r .servers))
+      content =
+          let f = shelf-fits t (u .low) (u .high) in
+          restored-members t marks kept (r .slot) (sha256 (candidatesIn (shelf t) kept (suc (r .slot)) .nonce)) refl b hit-small (hit-fits .0) (f .few)
+          (omega (arith, f .room (sizeIn (replySlotOf kept b)) (hit-full .top)))
+          ∙ ap (contentOf t kept b) (sym (k .members))
+
+      slot : slotOf (candidatesIn (shelf t) kept) (candidatesIn (shelf t) kept (suc (r .slot))) (shelf t .servers) ≡ r .slot
+      slot =
+          let z : suc (r .slot) + (shelf t .servers - suc (r .slot)) ≡ shelf t .servers = omega (arith, k .slot) in
+          sym (ap (slotOf (candidatesIn (shelf t) kept) (candidatesIn (shelf t) kept (suc (r .slot)))) z)
+          ∙ slot-of (candidatesIn (shelf t) kept) (r .slot) (k .listed) (shelf t .servers - suc (r .slot))
+
+      pub decided-found : decided t marks kept output
+          ≡ record {
+            answer = decisions.Found (r .slot) (suc b) (length (contentOf t kept b (take (shelf t .shares) (r .servers))));
+            output = over (contentOf t kept b (take (shelf t .shares) (r .servers))) output;
+          }
+      unfolding decidedOn leaderAt
+      decided-found =
+          chosen-on h (some (candidatesIn (shelf t) kept (suc (r .slot)))) (k .chosen) ∙ rw (k .leader, content, slot)

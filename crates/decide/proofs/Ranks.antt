@@ -1,0 +1,105 @@
+-- Stamps of bytes are ordered by rank: the writer is below 256, so number and writer are the digits of one number. A stamp is blank where its rank is
+-- at most 255. Ranks in slots are read off the kept bytes. Nothing is assumed.
+use mathlib.Core.Path.{_≡_, refl, sym, ap, _∙_}
+use mathlib.Core.Bool.{Bool, true, false, cond, not, _&&_, _||_}
+use mathlib.Core.List.{List}
+use Prim.Native.Nat.{ℕ, zero, suc, _+_, _*_, _≤_, _<_}
+use native.Mathlib.Omega.{arith}
+use lib.Dec.{ltb, eqb}
+use lib.ListN.{getD, getD}
+use borrow.Author.Tests.{ltb-true, ltb-false, eqb-true, eqb-false, lt-ltb, le-ltb, eq-eqb, ne-eqb}
+use Rattle.cluster.specs.Config.{Config}
+use Rattle.cluster.specs.Ranges.{mostServers}
+use Rattle.protocol.specs.declared.Stamp.{Stamp}
+use Rattle.protocol.specs.Format.{Bytes}
+use Rattle.protocol.specs.Values.{Candidate, Held, noHeld, blankCandidate, isBlank, below}
+use Rattle.protocol.specs.View.{part, stampAt, candidateAt, heldAt, candidateSlot, candidatesAt, repliesAt, replySlot, marked, candidatesIn, repliesIn, replySlotOf}
+use Rattle.protocol.proofs.Equal.{test-ext}
+use Rattle.decide.specs.Steps.{ranksBelow, rank, rankAt, blankRank}
+use Rattle.decide.proofs.Places.{bytes-part, candidate-in, reply-in, stamp-rank}
+
+pub below-rank : (a b : Stamp) → a .writer < 256 → b .writer < 256 → below a b ≡ ltb (rank a) (rank b)
+unfolding below
+below-rank a b h k = go (ltb (a .number) (b .number)) refl (eqb (a .number) (b .number)) refl
+  where
+    go : (p : Bool) → ltb (a .number) (b .number) ≡ p → (q : Bool) → eqb (a .number) (b .number) ≡ q
+        → (p || (q && ltb (a .writer) (b .writer))) ≡ ltb (rank a) (rank b)
+    go true e q f = let l = ltb-true (a .number) (b .number) e in sym (lt-ltb (rank a) (rank b) (omega arith))
+    go false e true f =
+        let n = eqb-true (a .number) (b .number) f in
+        test-ext (ltb (a .writer) (b .writer)) (ltb (rank a) (rank b))
+        (λ x. let l = ltb-true (a .writer) (b .writer) x in lt-ltb (rank a) (rank b) (omega arith))
+        (λ x. let l = ltb-true (rank a) (rank b) x in lt-ltb (a .writer) (b .writer) (omega arith))
+    go false e false f =
+        let n = eqb-false (a .number) (b .number) f in
+        let l = ltb-false (a .number) (b .number) e in
+        let m : b .number < a .number = less (a .number) (b .number) l n in
+        sym (le-ltb (rank a) (rank b) (omega arith))
+      where
+        less : (x y : ℕ) → y ≤ x → (x ≡ y → ⊥) → y < x
+        less x y p q = omega arith
+
+pub low-rank : (a : Stamp) → rank a ≤ blankRank → isBlank a ≡ true
+unfolding isBlank
+low-rank a h = eq-eqb (a .number) 0 (omega arith)
+
+pub high-rank : (a : Stamp) → a .writer < 256 → blankRank < rank a → isBlank a ≡ false
+unfolding isBlank
+high-rank a w h = ne-eqb (a .number) 0 (λ e. omega arith)
+
+pub blank-low : (a : Stamp) → a .writer < 256 → isBlank a ≡ true → rank a ≤ blankRank
+unfolding isBlank
+blank-low a w e = let n = eqb-true (a .number) 0 e in omega arith
+
+pub not-blank-high : (a : Stamp) → isBlank a ≡ false → blankRank < rank a
+unfolding isBlank
+not-blank-high a e = let n = eqb-false (a .number) 0 e in let m : 1 ≤ a .number = some-one (a .number) n in omega arith
+  where
+    some-one : (x : ℕ) → (x ≡ 0 → ⊥) → 1 ≤ x
+    some-one zero f = absurd (f refl)
+    some-one (suc x) f = omega arith
+
+-- ---- in slots
+
+stamp-writer : (d : List ℕ) (at n : ℕ) → Bytes d → stampAt (part d at n) .writer < 256
+unfolding stampAt
+stamp-writer d at n b = bytes-part d at n b 4
+
+module _ (s : Config) (kept : List ℕ) where
+  pub candidate-rank : (i : ℕ) → i < 13 → rank (candidatesIn s kept (suc i) .stamp) ≡ rankAt kept (candidatesAt + candidateSlot * i)
+  unfolding candidateAt
+  candidate-rank i h = ap (λ (c : Candidate). rank (c .stamp)) (candidate-in s kept i h) ∙ stamp-rank kept (candidatesAt + candidateSlot * i) candidateSlot (omega arith)
+
+  pub candidate-writer : Bytes kept → (i : ℕ) → candidatesIn s kept i .stamp .writer < 256
+  unfolding candidatesIn candidateAt
+  candidate-writer b zero = omega arith
+  candidate-writer b (suc i) = go (ltb i mostServers)
+    where
+      go : (y : Bool) → cond y (candidateAt s (part kept (candidatesAt + candidateSlot * i) candidateSlot)) (blankCandidate s) .stamp .writer < 256
+      go true = stamp-writer kept (candidatesAt + candidateSlot * i) candidateSlot b
+      go false = omega arith
+
+  module _ (ms : List ℕ) where
+    pub reply-rank : (i : ℕ) → i < 13 → marked ms (suc i) ≡ true → rank (repliesIn s ms kept (suc i) .stamp) ≡ rankAt kept (repliesAt + replySlot * i)
+    unfolding heldAt replySlotOf
+    reply-rank i h e = ap (λ (x : Held). rank (x .stamp)) (reply-in s ms kept i h e) ∙ stamp-rank kept (repliesAt + replySlot * i) replySlot (omega arith)
+
+    pub reply-writer : Bytes kept → (i : ℕ) → repliesIn s ms kept i .stamp .writer < 256
+    unfolding repliesIn heldAt replySlotOf
+    reply-writer b zero = omega arith
+    reply-writer b (suc i) = go (ltb i mostServers && marked ms (suc i))
+      where
+        go : (y : Bool) → cond y (heldAt s (part kept (repliesAt + replySlot * i) replySlot)) noHeld .stamp .writer < 256
+        go true = stamp-writer kept (repliesAt + replySlot * i) replySlot b
+        go false = omega arith
+
+    -- a lower reply, as it is read
+    pub below-slot : (key i : ℕ) → i < 13
+        → ranksBelow (marked ms) (repliesIn s ms kept) key (suc i) ≡ (not (eqb (getD ms i 0) 0) && ltb (rankAt kept (repliesAt + replySlot * i)) key)
+    unfolding marked
+    below-slot key i h = go (not (eqb (getD ms i 0) 0)) refl
+      where
+        go : (b : Bool) → not (eqb (getD ms i 0) 0) ≡ b
+            → (b && ltb (rank (repliesIn s ms kept (suc i) .stamp)) key) ≡ (b && ltb (rankAt kept (repliesAt + replySlot * i)) key)
+        go true e = ap (λ (r : ℕ). ltb r key) (reply-rank i h e)
+        go false e = refl

@@ -1,0 +1,149 @@
+-- `decide::rebuild` meets its contract: the arguments of restoring are never refused. Nothing is assumed.
+use mathlib.Core.Path.{_≡_, ap, _∙_}
+use mathlib.Core.List.{List}
+use Prim.Native.Nat.{ℕ, _+_, _-_, _*_, _≤_}
+use native.Mathlib.Omega.{arith}
+use lib.ListN.{length, take, drop, getD}
+use borrow.Author.Needs.{needs}
+use Rattle.cluster.specs.Config.{shelf}
+use Rattle.cluster.specs.Ranges.{topLength}
+use Rattle.erasure.specs.Fragments.{fragmentSize}
+use Rattle.protocol.specs.Format.{value2}
+use Rattle.protocol.specs.Values.{stampSize}
+use Rattle.protocol.specs.View.{repliesAt, replySlot, replySlotOf}
+use Rattle.erasure.specs.Steps.{restoreStep}
+use Rattle.decide.proofs.Restoring.{fragments-room, rebuilt}
+use Rattle.decide.proofs.Places.{part-length, part-of}
+use Rattle.decide.proofs.Replies.{sizeIn}
+use Rattle.decide.proofs.content.rebuild.Statement.{statement}
+use Rattle.decide.proofs.content.rebuild.Tie as tie
+
+mul-y : tie.Need-mul-y
+mul-y c = let p = c .before .before .pre in omega (arith, p .0 .size)
+
+add-y : tie.Need-add-y
+add-y c = let p = c .before .before .pre in omega (arith, p .0 .size)
+
+add-size-of : tie.Need-add-size-of
+add-size-of c = let p = c .before .before .pre in omega (arith, p .0 .size)
+
+sub-size-of : tie.Need-sub-size-of
+sub-size-of c = let p = c .before .before .pre in omega (arith, p .0 .size)
+
+part-size-of-start : tie.Need-part-size-of-start
+part-size-of-start c = let p = c .before .before .pre in omega (arith, p .0 .size)
+
+part-size-of-end : tie.Need-part-size-of-end
+part-size-of-end c = let p = c .before .before .pre in omega (arith, p .0 .size)
+
+size-of-requires : tie.Need-size-of-requires
+size-of-requires c κs =
+    let a = c .before .before .before .args in
+    let p = c .before .before .before .pre in
+    ap length (part-of (a .kept .now) (repliesAt + replySlot * a .b) replySlot) ∙ part-length (a .kept .now) (repliesAt + replySlot * a .b) replySlot (omega (arith, p .0 .size))
+
+-- the length read
+size : (kept : List ℕ) (b n : ℕ)
+    → n ≡ value2 (getD (take (repliesAt + replySlot * b + replySlot - (repliesAt + replySlot * b)) (drop (repliesAt + replySlot * b) kept)) (stampSize + 1) 0)
+    (getD (take (repliesAt + replySlot * b + replySlot - (repliesAt + replySlot * b)) (drop (repliesAt + replySlot * b) kept)) (stampSize + 2) 0)
+    → n ≡ sizeIn (replySlotOf kept b)
+unfolding replySlotOf
+size kept b n e = e ∙ rw (part-of kept (repliesAt + replySlot * b) replySlot)
+
+shares-requires : tie.Need-shares-requires
+shares-requires c κs = c .before .before .before .before .pre .0 .high
+
+fragment-size-requires : tie.Need-fragment-size-requires
+fragment-size-requires c κs =
+    let a = c .before .before .before .before .before .args in
+    let p = c .before .before .before .before .before .pre in
+    (p .0 .low, p .0 .high, omega (arith, p .2 .top, size (a .kept .now) (a .b) (c .before .size-of .result) (c .before .size-of .ensures)))
+
+-- the fragments' room, by what was read
+room : (t n k f : ℕ) → 1 ≤ t → t ≤ 4 → n ≤ topLength → k ≡ shelf t .shares → f ≡ fragmentSize (shelf t .shares) n → k * f ≤ 1028
+room t n k f l h m e q = rw (e, q) (fragments-room t n l h m)
+
+mul-end : tie.Need-mul-end
+mul-end c =
+    let a = c .before .before .before .before .before .before .args in
+    let p = c .before .before .before .before .before .before .pre in
+    omega (arith, room (a .t) (c .before .before .size-of .result) (c .before .shares .result) (c .fragment-size .result) (p .0 .low) (p .0 .high) (omega (arith, p .2 .top, size (a .kept .now) (a .b) (c .before .before .size-of .result) (c .before .before .size-of .ensures))) (c .before .shares .ensures .0) (c .fragment-size .ensures))
+
+fragments-of-requires : tie.Need-fragments-of-requires
+fragments-of-requires c κs =
+    let a = c .before .before .before .before .before .before .args in
+    let p = c .before .before .before .before .before .before .pre in
+    (p .0, omega (arith, p .2 .top, size (a .kept .now) (a .b) (c .before .before .size-of .result) (c .before .before .size-of .ensures)), p .3)
+
+sub-restore : tie.Need-sub-restore
+sub-restore c = omega arith
+
+part-restore-start : tie.Need-part-restore-start
+part-restore-start c = omega arith
+
+part-restore-end : tie.Need-part-restore-end
+part-restore-end c = omega (arith, c .before .before .before .shares .ensures .1, c .before .before .before .before .before .before .before .before .pre .0 .high, c .before .before .before .before .before .before .before .before .good .1 .1 .1 .0 .1 .0 .1)
+
+sub-restore-2 : tie.Need-sub-restore-2
+sub-restore-2 c = omega arith
+
+part-restore-start-2 : tie.Need-part-restore-start-2
+part-restore-start-2 c = omega arith
+
+products : (k l f g : ℕ) → k ≡ l → f ≡ g → k * f ≡ l * g
+products k l f g e q = rw (e, q)
+
+part-restore-end-2 : tie.Need-part-restore-end-2
+part-restore-end-2 c =
+    omega (arith, c .before .before .before .fragments-of .ensures .long, products (c .before .before .before .before .before .shares .result) (shelf (c .before .before .before .before .before .before .before .before .before .before .args .t) .shares) (c .before .before .before .before .fragment-size .result) (fragmentSize (shelf (c .before .before .before .before .before .before .before .before .before .before .args .t) .shares) (c .before .before .before .before .before .before .size-of .result)) (c .before .before .before .before .before .shares .ensures .0) (c .before .before .before .before .fragment-size .ensures))
+
+restore-requires : tie.Need-restore-requires
+restore-requires c κs = search needs
+
+same-length : tie.Need-same-length
+same-length c = search needs
+
+-- what is lent to restoring
+lent : (t n k l f g : ℕ) (servers frs out : List ℕ) → k ≡ l → f ≡ g
+    → restoreStep t n (take (k - 0) servers) (take (k * f - 0) frs) out ≡ restoreStep t n (take l servers) (take (l * g) frs) out
+lent t n k l f g servers frs out e q =
+    let x : k - 0 ≡ l = omega arith in
+    let y : k * f - 0 ≡ l * g = rw (e, q) (omega arith) in
+    rw (x, y)
+
+returns : tie.Need-returns
+returns c =
+    let a = c .before .before .before .before .before .before .before .before .before .before .before .before .before .before .before .args in
+    let p = c .before .before .before .before .before .before .before .before .before .before .before .before .before .before .before .pre in
+    let n = size (a .kept .now) (a .b) (c .before .before .before .before .before .before .before .before .before .before .before .size-of .result) (c .before .before .before .before .before .before .before .before .before .before .before .size-of .ensures) in
+    let k = c .before .before .before .before .before .before .before .before .before .before .shares .ensures .0 in
+    let f = c .before .before .before .before .before .before .before .before .before .fragment-size .ensures in
+    rebuilt (a .t) (a .kept .now) (a .t4) (c .before .before .before .before .before .before .before .before .before .before .before .size-of .result) (p .0) (omega (arith, p .2 .top, n)) (p .3) (a .b) (c .before .before .before .before .before .before .before .before .fragments-of .result) (a .out .now) (c .before .before .restore .last .1 .1 .1 .1 .0)
+    (c .before .before .restore .result) (omega (arith, p .2 .least, n)) n (c .before .before .before .before .before .before .before .before .before .before .before .before .before .before .before .good .1 .1 .1 .0 .1 .0 .1) (c .before .before .before .before .before .before .before .before .fragments-of .ensures) (p .4)
+    (c .before .before .restore .ensures
+    ∙ lent (a .t) (c .before .before .before .before .before .before .before .before .before .before .before .size-of .result) (c .before .before .before .before .before .before .before .before .before .before .shares .result) (shelf (a .t) .shares) (c .before .before .before .before .before .before .before .before .before .fragment-size .result) (fragmentSize (shelf (a .t) .shares) (c .before .before .before .before .before .before .before .before .before .before .before .size-of .result)) (a .t4) (c .before .before .before .before .before .before .before .before .fragments-of .result) (a .out .now) k f)
+
+pub rebuild-spec : {M : Type 1} → statement M
+rebuild-spec =
+    tie.close
+    (tie.spec
+    mul-y
+    add-y
+    add-size-of
+    sub-size-of
+    part-size-of-start
+    part-size-of-end
+    size-of-requires
+    shares-requires
+    fragment-size-requires
+    mul-end
+    fragments-of-requires
+    sub-restore
+    part-restore-start
+    part-restore-end
+    sub-restore-2
+    part-restore-start-2
+    part-restore-end-2
+    restore-requires
+    same-length
+    returns)

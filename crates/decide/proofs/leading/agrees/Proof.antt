@@ -1,0 +1,117 @@
+-- `decide::agrees` meets its contract: the leader itself; then the mark, what names the candidate, the same share, and last the digest of the fragment. Nothing is assumed.
+use mathlib.Core.Path.{_≡_, sym, _∙_}
+use Prim.Native.Nat.{suc, _<_}
+use native.Mathlib.Omega.{arith}
+use borrow.Author.Tests.{not-true, not-false}
+use Rattle.cluster.specs.Config.{shelf}
+use Rattle.protocol.specs.View.{candidatesIn, replySlotOf}
+use Rattle.protocol.proofs.Room.{shelf-fits}
+use Rattle.decide.specs.Steps.{slotHeld}
+use Rattle.decide.proofs.Groups.{is-marked, agrees-unmarked, leader-full, agrees-nameless, agrees-unlike, agrees-last, agrees-self}
+use Rattle.decide.proofs.Replies.{names-full}
+use Rattle.decide.proofs.leading.agrees.Statement.{statement}
+use Rattle.decide.proofs.leading.agrees.Tie as tie
+
+returns : tie.Need-returns
+returns c =
+    let a = c .before .before .before .args in
+    let p = c .before .before .before .pre in
+    let k : a .b < 13 = omega (arith, p .2, shelf-fits (a .t) (p .0 .low) (p .0 .high) .few) in
+    let e : a .j ≡ a .b = c .if1 .taken in
+    rw (e, agrees-self (a .t) (a .t2) (a .kept .now) (a .i) (a .d .now) (p .4) (a .b) k (p .5))
+
+array-read-if2 : tie.Need-array-read-if2
+array-read-if2 c = let a = c .before .before .before .args in let p = c .before .before .before .pre in omega (arith, p .3, shelf-fits (a .t) (p .0 .low) (p .0 .high) .few)
+
+returns-2 : tie.Need-returns-2
+returns-2 c = let a = c .before .before .before .before .args in rw (agrees-unmarked (a .t) (a .t2) (a .kept .now) (a .i) (a .b) (a .j) (c .if2 .taken))
+
+names-at-requires : tie.Need-names-at-requires
+names-at-requires c κs = let a = c .before .before .before .before .args in let p = c .before .before .before .before .pre in (p .0, p .1, omega (arith, p .3, shelf-fits (a .t) (p .0 .low) (p .0 .high) .few))
+
+returns-3 : tie.Need-returns-3
+returns-3 c =
+    let a = c .before .before .before .before .before .before .args in
+    let p = c .before .before .before .before .before .before .pre in
+    let l : a .j < 13 = omega (arith, p .3, shelf-fits (a .t) (p .0 .low) (p .0 .high) .few) in
+    let k : a .b < 13 = omega (arith, p .2, shelf-fits (a .t) (p .0 .low) (p .0 .high) .few) in
+    rw (agrees-nameless (a .t) (a .t2) (a .kept .now) (a .i) (a .d .now) (p .4) (a .b) k (p .5) (a .j) l (is-marked (a .t) (a .t2) (a .kept .now) (a .i) (a .j) (c .before .before .if2 .left))
+    (sym (c .before .names-at .ensures) ∙ not-true (c .before .names-at .result) (c .if3 .taken)))
+
+alike-at-requires : tie.Need-alike-at-requires
+unfolding slotHeld
+alike-at-requires c κs =
+    let a = c .before .before .before .before .before .before .args in
+    let p = c .before .before .before .before .before .before .pre in
+    let l : a .j < 13 = omega (arith, p .3, shelf-fits (a .t) (p .0 .low) (p .0 .high) .few) in
+    let k : a .b < 13 = omega (arith, p .2, shelf-fits (a .t) (p .0 .low) (p .0 .high) .few) in (
+      p .0,
+      k,
+      l,
+      leader-full (a .t) (a .t2) (a .kept .now) (a .i) (a .d .now) (p .4) (a .b) k (p .5),
+      names-full (shelf (a .t)) (replySlotOf (a .kept .now) (a .j)) (candidatesIn (shelf (a .t)) (a .kept .now) (suc (a .i))) (a .d .now)
+          (sym (c .before .names-at .ensures) ∙ not-false (c .before .names-at .result) (c .if3 .left)),
+    )
+
+returns-4 : tie.Need-returns-4
+returns-4 c =
+    let a = c .before .before .before .before .before .before .before .before .args in
+    let p = c .before .before .before .before .before .before .before .before .pre in
+    let l : a .j < 13 = omega (arith, p .3, shelf-fits (a .t) (p .0 .low) (p .0 .high) .few) in
+    let k : a .b < 13 = omega (arith, p .2, shelf-fits (a .t) (p .0 .low) (p .0 .high) .few) in
+    rw (agrees-unlike (a .t) (a .t2) (a .kept .now) (a .i) (a .d .now) (p .4) (a .b) k (p .5) (a .j) l (is-marked (a .t) (a .t2) (a .kept .now) (a .i) (a .j) (c .before .before .before .before .if2 .left))
+    (sym (c .before .alike-at .ensures) ∙ not-true (c .before .alike-at .result) (c .if4 .taken)))
+
+intact-at-requires : tie.Need-intact-at-requires
+unfolding slotHeld
+intact-at-requires c κs =
+    let a = c .before .before .before .before .before .before .before .before .args in
+    let p = c .before .before .before .before .before .before .before .before .pre in (
+      p .0,
+      p .3,
+      names-full (shelf (a .t)) (replySlotOf (a .kept .now) (a .j)) (candidatesIn (shelf (a .t)) (a .kept .now) (suc (a .i))) (a .d .now)
+          (sym (c .before .before .before .names-at .ensures) ∙ not-false (c .before .before .before .names-at .result) (c .before .before .if3 .left)),
+    )
+
+returns-5 : tie.Need-returns-5
+returns-5 c =
+    let a = c .before .before .before .before .before .before .before .before .before .before .args in
+    let p = c .before .before .before .before .before .before .before .before .before .before .pre in
+    let l : a .j < 13 = omega (arith, p .3, shelf-fits (a .t) (p .0 .low) (p .0 .high) .few) in
+    let k : a .b < 13 = omega (arith, p .2, shelf-fits (a .t) (p .0 .low) (p .0 .high) .few) in
+    rw (
+      agrees-last (a .t) (a .t2) (a .kept .now) (a .i) (a .d .now) (p .4) (a .b) k (p .5) (a .j) l (is-marked (a .t) (a .t2) (a .kept .now) (a .i) (a .j) (c .before .before .before .before .before .before .if2 .left))
+          (sym (c .before .before .before .before .before .names-at .ensures) ∙ not-false (c .before .before .before .before .before .names-at .result) (c .before .before .before .before .if3 .left))
+          (sym (c .before .before .before .alike-at .ensures) ∙ not-false (c .before .before .before .alike-at .result) (c .before .before .if4 .left)),
+      ← c .before .intact-at .ensures,
+      c .if5 .taken,
+    )
+
+returns-6 : tie.Need-returns-6
+returns-6 c =
+    let a = c .before .before .before .before .before .before .before .before .before .before .args in
+    let p = c .before .before .before .before .before .before .before .before .before .before .pre in
+    let l : a .j < 13 = omega (arith, p .3, shelf-fits (a .t) (p .0 .low) (p .0 .high) .few) in
+    let k : a .b < 13 = omega (arith, p .2, shelf-fits (a .t) (p .0 .low) (p .0 .high) .few) in
+    rw (
+      agrees-last (a .t) (a .t2) (a .kept .now) (a .i) (a .d .now) (p .4) (a .b) k (p .5) (a .j) l (is-marked (a .t) (a .t2) (a .kept .now) (a .i) (a .j) (c .before .before .before .before .before .before .if2 .left))
+          (sym (c .before .before .before .before .before .names-at .ensures) ∙ not-false (c .before .before .before .before .before .names-at .result) (c .before .before .before .before .if3 .left))
+          (sym (c .before .before .before .alike-at .ensures) ∙ not-false (c .before .before .before .alike-at .result) (c .before .before .if4 .left)),
+      ← c .before .intact-at .ensures,
+      c .if5 .left,
+    )
+
+pub agrees-spec : {M : Type 1} → statement M
+agrees-spec =
+    tie.close
+    (tie.spec
+    returns
+    array-read-if2
+    returns-2
+    names-at-requires
+    returns-3
+    alike-at-requires
+    returns-4
+    intact-at-requires
+    returns-5
+    returns-6)

@@ -1,0 +1,63 @@
+-- `decide::find` meets its contract: slot by slot.
+-- The loop's invariant: no candidate of a slot passed is the choice. Nothing is assumed.
+use mathlib.Core.Path.{_≡_, sym, ap, _∙_}
+use mathlib.Core.Option.{none}
+use Prim.Native.Nat.{_-_, _≤_}
+use native.Mathlib.Omega.{arith}
+use Rattle.cluster.specs.Config.{shelf}
+use Rattle.decide.specs.Steps.{chosenAt}
+use Rattle.decide.proofs.Firsts.{chosen-none, chosen-passed, chosen-here}
+use Rattle.decide.proofs.leading.find.Statement.{statement}
+use Rattle.decide.proofs.leading.find.Tie as tie
+
+abbrev Inv-loop : tie.InvT-loop
+Inv-loop kept marks t key s i₀ i = (i ≤ s) × (chosenAt t marks kept key i ≡ none)
+
+abbrev μ-loop : tie.MeasureT-loop
+μ-loop kept marks t key s i₀ i = s - i
+
+servers-requires : tie.Need-servers-requires Inv-loop μ-loop
+servers-requires c κs = c .before .pre .high
+
+loop-holds : tie.Need-loop-holds Inv-loop μ-loop
+loop-holds c = let a = c .before .before .args in (omega arith, chosen-none (a .t) (a .marks) (a .kept .now) (a .key))
+
+tried-requires : tie.Need-tried-requires Inv-loop μ-loop
+tried-requires c κs = (c .before .before .before .before .pre, omega (arith, c .before .before .servers .ensures .1, c .before .before .before .before .pre .high))
+
+returns : tie.Need-returns Inv-loop μ-loop
+returns c =
+    let a = c .before .before .before .before .before .before .before .before .args in
+    chosen-here (a .t) (a .marks) (a .kept .now) (a .key) (c .before .before .before .before .before .loop .i) (c .before .before .before .tried .result) (omega (arith, c .before .before .before .before .before .before .servers .ensures .0)) (c .before .before .before .before .before .loop .inv .1) (c .before .before .before .tried .ensures) (c .before .if1 .taken)
+
+add-i : tie.Need-add-i Inv-loop μ-loop
+add-i c = omega (arith, c .before .before .before .before .before .servers .ensures .1, c .before .before .before .before .before .before .before .pre .high)
+
+loop-less : tie.Need-loop-less Inv-loop μ-loop
+loop-less c = omega arith
+
+loop-again : tie.Need-loop-again Inv-loop μ-loop
+loop-again c =
+    let a = c .before .before .before .before .before .before .before .args in
+    (omega arith, chosen-passed (a .t) (a .marks) (a .kept .now) (a .key) (c .before .before .before .before .loop .i) (c .before .before .tried .result) (c .before .before .before .before .loop .inv .1) (c .before .before .tried .ensures) (c .if1 .left))
+
+returns-2 : tie.Need-returns-2 Inv-loop μ-loop
+returns-2 c =
+    let a = c .before .before .before .before .args in
+    let e : c .before .loop .i ≡ shelf (a .t) .servers = omega (arith, c .before .before .servers .ensures .0) in
+    record { nothing = λ z. sym (ap (chosenAt (a .t) (a .marks) (a .kept .now) (a .key)) e) ∙ c .before .loop .inv .1; hit = λ b z. absurd (omega (arith, z)) }
+
+pub find-spec : {M : Type 1} → statement M
+find-spec =
+    tie.close
+    (tie.spec
+    Inv-loop
+    μ-loop
+    servers-requires
+    loop-holds
+    tried-requires
+    returns
+    add-i
+    loop-less
+    loop-again
+    returns-2)

@@ -1,0 +1,60 @@
+-- `decide::group_of` meets its contract: a slot that does not fit leads none; else its members decide. Nothing is assumed.
+use mathlib.Core.Path.{_≡_, refl, sym, ap, _∙_}
+use Prim.Native.Nat.{ℕ, _≤_}
+use native.Mathlib.Numerals.{add-one}
+use native.Mathlib.Omega.{arith}
+use lib.ListN.{length, take}
+use borrow.Author.Tests.{not-true, not-false}
+use Rattle.cluster.specs.Config.{shelf}
+use Rattle.protocol.proofs.Room.{shelf-fits}
+use Rattle.decide.specs.Steps.{membersAt}
+use Rattle.decide.proofs.Groups.{leads-unfit, members-most, leads-few, leads-enough}
+use Rattle.decide.proofs.Led.{nobody-leads, slot-leads}
+use Rattle.decide.proofs.leading.group_of.Statement.{statement}
+use Rattle.decide.proofs.leading.group_of.Tie as tie
+
+fits-requires : tie.Need-fits-requires
+fits-requires c κs = let p = c .before .before .pre in (p .0, p .1, p .2, p .3)
+
+returns : tie.Need-returns
+returns c =
+    let a = c .before .before .before .before .args in
+    nobody-leads (a .t) (a .marks) (a .kept .now) (a .i) (a .b) _ refl (leads-unfit (a .t) (a .marks) (a .kept .now) (a .i) (a .b) (sym (c .before .fits2 .ensures) ∙ not-true (c .before .fits2 .result) (c .if1 .taken)))
+
+members-of-requires : tie.Need-members-of-requires
+members-of-requires c κs = let p = c .before .before .before .before .pre in (p .0, p .1, p .2, p .3, sym (c .before .fits2 .ensures) ∙ not-false (c .before .fits2 .result) (c .if1 .left))
+
+shares-requires : tie.Need-shares-requires
+shares-requires c κs = c .before .before .before .before .before .pre .0 .high
+
+returns-2 : tie.Need-returns-2
+returns-2 c =
+    let a = c .before .before .before .before .before .before .before .before .args in
+    nobody-leads (a .t) (a .marks) (a .kept .now) (a .i) (a .b) _ refl
+    (leads-few (a .t) (a .marks) (a .kept .now) (a .i) (a .b) (sym (c .before .before .before .before .before .fits2 .ensures) ∙ not-false (c .before .before .before .before .before .fits2 .result) (c .before .before .before .before .if1 .left))
+    (omega (arith, c .if2 .taken, c .before .before .before .members-of .ensures .count, c .before .before .shares .ensures .0)))
+
+add-t12 : tie.Need-add-t12
+add-t12 c = let p = c .before .before .before .before .before .before .before .before .before .pre in omega (arith, p .2, shelf-fits (c .before .before .before .before .before .before .before .before .before .args .t) (p .0 .low) (p .0 .high) .few)
+
+returns-3 : tie.Need-returns-3
+returns-3 c =
+    let a = c .before .before .before .before .before .before .before .before .before .args in
+    let m = c .before .before .before .before .members-of .ensures in
+    let l : shelf (a .t) .shares ≤ length (membersAt (a .t) (a .marks) (a .kept .now) (a .i) (a .b)) = omega (arith, c .before .if2 .left, m .count, c .before .before .before .shares .ensures .0) in
+    let k : shelf (a .t) .shares ≡ c .before .before .before .before .members-of .result .count = omega (arith, l, m .count, members-most (a .t) (a .marks) (a .kept .now) (a .i) (a .b)) in
+    slot-leads (a .t) (a .marks) (a .kept .now) (a .i) (a .b) _ (add-one (a .b))
+    (leads-enough (a .t) (a .marks) (a .kept .now) (a .i) (a .b) (sym (c .before .before .before .before .before .before .fits2 .ensures) ∙ not-false (c .before .before .before .before .before .before .fits2 .result) (c .before .before .before .before .before .if1 .left)) l)
+    (ap (λ (x : ℕ). take x (c .before .before .before .before .members-of .result .servers)) k ∙ m .these)
+
+pub group-of-spec : {M : Type 1} → statement M
+group-of-spec =
+    tie.close
+    (tie.spec
+    fits-requires
+    returns
+    members-of-requires
+    shares-requires
+    returns-2
+    add-t12
+    returns-3)

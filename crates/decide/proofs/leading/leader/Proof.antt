@@ -1,0 +1,112 @@
+-- `decide::leader` meets its contract: the digest of the nonce is made once; then slot by slot.
+-- The loop's invariant: no slot passed leads. Nothing is assumed.
+use mathlib.Core.Path.{_≡_, refl, sym, ap, _∙_}
+use Prim.Native.Nat.{_+_, _-_, _*_, _≤_}
+use native.Mathlib.Omega.{arith}
+use borrow.Author.Needs.{needs}
+use Rattle.cluster.specs.Config.{shelf}
+use Rattle.sha256.specs.Sha256.{sha256}
+use Rattle.protocol.specs.Values.{stampSize, digestSize}
+use Rattle.protocol.specs.View.{candidateSlot, candidatesAt}
+use Rattle.decide.specs.Steps.{leaderAt}
+use Rattle.decide.proofs.Groups.{leader-none, leader-more}
+use Rattle.decide.proofs.Led.{no-group, first-leads}
+use Rattle.decide.proofs.Places.{part-of, nonce-in}
+use Rattle.decide.proofs.leading.leader.Statement.{statement}
+use Rattle.decide.proofs.leading.leader.Tie as tie
+
+abbrev Inv-loop : tie.InvT-loop
+Inv-loop kept marks t i at d s b₀ b = (b ≤ s) × (leaderAt t marks kept i b ≡ 0)
+
+abbrev μ-loop : tie.MeasureT-loop
+μ-loop kept marks t i at d s b₀ b = s - b
+
+mul-at : tie.Need-mul-at Inv-loop μ-loop
+mul-at c = let p = c .before .pre in omega (arith, p .0 .size)
+
+add-at : tie.Need-add-at Inv-loop μ-loop
+add-at c = let p = c .before .pre in omega (arith, p .0 .size)
+
+add-at-2 : tie.Need-add-at-2 Inv-loop μ-loop
+add-at-2 c = let p = c .before .pre in omega (arith, p .0 .size)
+
+add-digest : tie.Need-add-digest Inv-loop μ-loop
+add-digest c = let p = c .before .pre in omega (arith, p .0 .size)
+
+sub-digest : tie.Need-sub-digest Inv-loop μ-loop
+sub-digest c = let p = c .before .pre in omega (arith, p .0 .size)
+
+part-digest-start : tie.Need-part-digest-start Inv-loop μ-loop
+part-digest-start c = let p = c .before .pre in omega (arith, p .0 .size)
+
+part-digest-end : tie.Need-part-digest-end Inv-loop μ-loop
+part-digest-end c = let p = c .before .pre in omega (arith, p .0 .size)
+
+digest-requires : tie.Need-digest-requires Inv-loop μ-loop
+digest-requires c κs = search needs
+
+servers-requires : tie.Need-servers-requires Inv-loop μ-loop
+servers-requires c κs = c .before .before .before .pre .0 .high
+
+loop-holds : tie.Need-loop-holds Inv-loop μ-loop
+loop-holds c = let a = c .before .before .before .before .args in (omega arith, leader-none (a .t) (a .marks) (a .kept .now) (a .i))
+
+slice-aggregate-group-of : tie.Need-slice-aggregate-group-of Inv-loop μ-loop
+slice-aggregate-group-of c = search needs
+
+group-of-requires : tie.Need-group-of-requires Inv-loop μ-loop
+group-of-requires c κs =
+    let a = c .before .before .before .before .before .before .before .args in
+    let p = c .before .before .before .before .before .before .before .pre in
+    (p .0, p .1, omega (arith, c .before .before .before .servers .ensures .0), c .before .before .before .before .digest .ensures ∙ ap sha256 (part-of (a .kept .now) (candidatesAt + candidateSlot * a .i + stampSize) digestSize ∙ sym (nonce-in (shelf (a .t)) (a .kept .now) (a .i) (p .1))))
+
+returns : tie.Need-returns Inv-loop μ-loop
+returns c =
+    let a = c .before .before .before .before .before .before .before .before .before .before .args in
+    let j = c .before .before .before .before .before .loop .b in
+    let v = c .before .before .before .before .before .loop .inv in
+    let g = c .before .before .group-of .ensures in
+    first-leads (a .t) (a .marks) (a .kept .now) (a .i) (c .before .before .before .before .before .loop .b) (c .before .before .group-of .result) (omega (arith, c .before .before .before .before .before .before .servers .ensures .0)) (v .1) g (c .if1 .taken)
+
+add-b : tie.Need-add-b Inv-loop μ-loop
+add-b c = omega (arith, c .before .before .before .before .before .before .servers .ensures .1, c .before .before .before .before .before .before .before .before .before .before .pre .0 .high)
+
+loop-less : tie.Need-loop-less Inv-loop μ-loop
+loop-less c = omega arith
+
+loop-again : tie.Need-loop-again Inv-loop μ-loop
+loop-again c =
+    let a = c .before .before .before .before .before .before .before .before .before .before .args in
+    let g = c .before .before .group-of .ensures in
+    (omega arith, leader-more (a .t) (a .marks) (a .kept .now) (a .i) (c .before .before .before .before .before .loop .b) (c .before .before .before .before .before .loop .inv .1) ∙ sym (g .server) ∙ c .if1 .left)
+
+returns-2 : tie.Need-returns-2 Inv-loop μ-loop
+returns-2 c =
+    let a = c .before .before .before .before .before .before .args in
+    let e : c .before .loop .b ≡ shelf (a .t) .servers = omega (arith, c .before .before .servers .ensures .0) in
+    no-group (a .t) (a .marks) (a .kept .now) (a .i) (leaderAt (a .t) (a .marks) (a .kept .now) (a .i) (shelf (a .t) .servers)) _ refl
+    (sym (ap (leaderAt (a .t) (a .marks) (a .kept .now) (a .i)) e) ∙ c .before .loop .inv .1)
+
+pub leader-spec : {M : Type 1} → statement M
+leader-spec =
+    tie.close
+    (tie.spec
+    Inv-loop
+    μ-loop
+    mul-at
+    add-at
+    add-at-2
+    add-digest
+    sub-digest
+    part-digest-start
+    part-digest-end
+    digest-requires
+    servers-requires
+    loop-holds
+    slice-aggregate-group-of
+    group-of-requires
+    returns
+    add-b
+    loop-less
+    loop-again
+    returns-2)

@@ -1,0 +1,64 @@
+-- `decide::tried` meets its contract: the rank, then the list, then the groups. Nothing is assumed.
+use mathlib.Core.Path.{refl, sym, _∙_}
+use mathlib.Core.Bool.{cond}
+use Prim.Native.Nat.{suc}
+use borrow.Author.Needs.{needs}
+use Rattle.cluster.specs.Config.{shelf}
+use Rattle.protocol.specs.Rules.{leader}
+use Rattle.protocol.specs.View.{candidatesIn}
+use Rattle.decide.specs.Listing.{enters}
+use Rattle.decide.specs.Steps.{leaderAt, triedAt}
+use Rattle.decide.proofs.Ranks.{candidate-rank}
+use Rattle.decide.proofs.Counted.{bit-some, bit-here}
+use Rattle.decide.proofs.Led.{no-group, other-rank, not-listed, is-tried}
+use Rattle.decide.proofs.leading.tried.Statement.{statement}
+use Rattle.decide.proofs.leading.tried.Tie as tie
+
+mul-rank-at : tie.Need-mul-rank-at
+mul-rank-at c = search needs
+
+add-rank-at : tie.Need-add-rank-at
+add-rank-at c = search needs
+
+rank-at-requires : tie.Need-rank-at-requires
+rank-at-requires c κs = search needs
+
+returns : tie.Need-returns
+returns c =
+    let a = c .before .before .before .args in
+    let n = leaderAt (a .t) (a .marks) (a .kept .now) (a .i) (shelf (a .t) .servers) in
+    no-group (a .t) (a .marks) (a .kept .now) (a .i) (cond (triedAt (a .t) (a .kept .now) (a .key) (a .i)) n 0) _ refl
+    (rw (other-rank (a .t) (a .kept .now) (a .key) (a .i) (λ e. c .if1 .taken (c .before .rank-at .ensures ∙ sym (candidate-rank (shelf (a .t)) (a .kept .now) (a .i) (c .before .before .before .pre .1)) ∙ e))))
+
+entry-requires : tie.Need-entry-requires
+entry-requires c κs = search needs
+
+returns-2 : tie.Need-returns-2
+returns-2 c =
+    let a = c .before .before .before .before .before .args in
+    let n = leaderAt (a .t) (a .marks) (a .kept .now) (a .i) (shelf (a .t) .servers) in
+    no-group (a .t) (a .marks) (a .kept .now) (a .i) (cond (triedAt (a .t) (a .kept .now) (a .key) (a .i)) n 0) _ refl
+    (rw (not-listed (a .t) (a .kept .now) (a .key) (a .i) (bit-some (enters (candidatesIn (shelf (a .t)) (a .kept .now)) (suc (a .i))) (sym (c .before .entry .ensures) ∙ c .if2 .taken))))
+
+leader-requires : tie.Need-leader-requires
+leader-requires c κs = search needs
+
+returns-3 : tie.Need-returns-3
+returns-3 c =
+    let a = c .before .before .before .before .before .before .args in
+    rw (is-tried (a .t) (a .kept .now) (a .key) (a .i) (candidate-rank (shelf (a .t)) (a .kept .now) (a .i) (c .before .before .before .before .before .before .pre .1) ∙ sym (c .before .before .before .before .rank-at .ensures) ∙ c .before .before .before .if1 .left)
+    (bit-here (enters (candidatesIn (shelf (a .t)) (a .kept .now)) (suc (a .i))) (λ e. c .before .if2 .left (c .before .before .entry .ensures ∙ e))))
+    (c .leader .ensures)
+
+pub tried-spec : {M : Type 1} → statement M
+tried-spec =
+    tie.close
+    (tie.spec
+    mul-rank-at
+    add-rank-at
+    rank-at-requires
+    returns
+    entry-requires
+    returns-2
+    leader-requires
+    returns-3)

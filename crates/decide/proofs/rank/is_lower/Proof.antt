@@ -1,0 +1,42 @@
+-- `decide::is_lower` meets its contract: the mark, then the rank. Nothing is assumed.
+use Prim.Native.Nat.{_+_, _*_}
+use native.Mathlib.Omega.{arith}
+use borrow.Author.Needs.{needs}
+use borrow.Author.Tests.{lt-ltb, le-ltb, eq-eqb, ne-eqb}
+use Rattle.protocol.specs.View.{repliesAt, replySlot}
+use Rattle.decide.specs.Steps.{rankAt}
+use Rattle.decide.proofs.rank.is_lower.Statement.{statement}
+use Rattle.decide.proofs.rank.is_lower.Tie as tie
+
+returns : tie.Need-returns
+returns c = rw (eq-eqb (c .before .before .args .mark) 0 (c .if1 .taken))
+
+mul-rank-at : tie.Need-mul-rank-at
+mul-rank-at c = search needs
+
+add-rank-at : tie.Need-add-rank-at
+add-rank-at c = search needs
+
+rank-at-requires : tie.Need-rank-at-requires
+rank-at-requires c κs = search needs
+
+returns-2 : tie.Need-returns-2
+returns-2 c =
+    let a = c .before .before .before .before .args in
+    rw (ne-eqb (a .mark) 0 (c .before .before .if1 .left), lt-ltb (rankAt (a .kept .now) (repliesAt + replySlot * a .j)) (a .key) (omega (arith, c .before .rank-at .ensures)))
+
+returns-3 : tie.Need-returns-3
+returns-3 c =
+    let a = c .before .before .before .before .args in
+    rw (ne-eqb (a .mark) 0 (c .before .before .if1 .left), le-ltb (rankAt (a .kept .now) (repliesAt + replySlot * a .j)) (a .key) (omega (arith, c .before .rank-at .ensures)))
+
+pub is-lower-spec : {M : Type 1} → statement M
+is-lower-spec =
+    tie.close
+    (tie.spec
+    returns
+    mul-rank-at
+    add-rank-at
+    rank-at-requires
+    returns-2
+    returns-3)

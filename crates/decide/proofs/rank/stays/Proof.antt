@@ -1,0 +1,96 @@
+-- `decide::stays` meets its contract: the lower replies are counted.
+-- The loop's invariant: so many of the slots passed hold one. Nothing is assumed.
+use mathlib.Core.Path.{_≡_, sym, ap, _∙_}
+use mathlib.Core.Bool.{not, _&&_}
+use Prim.Native.Nat.{ℕ, suc, _+_, _-_, _*_, _≤_, _<_}
+use native.Mathlib.Omega.{arith}
+use lib.Dec.{ltb, eqb}
+use lib.ListN.{getD}
+use borrow.Author.Needs.{needs}
+use Rattle.cluster.specs.Config.{shelf}
+use Rattle.protocol.specs.Rules.{countTo}
+use Rattle.protocol.specs.View.{repliesAt, replySlot, marked, repliesIn}
+use Rattle.decide.specs.Steps.{bit, rankAt, ranksBelow, stays}
+use Rattle.decide.proofs.Ranks.{below-slot}
+use Rattle.decide.proofs.Counted.{bit-le, count-more, count-le, count-none, quorum-of}
+use Rattle.decide.proofs.rank.stays.Statement.{statement}
+use Rattle.decide.proofs.rank.stays.Tie as tie
+
+abbrev Inv-loop : tie.InvT-loop
+Inv-loop kept t key marks s n₀ j₀ n j = (j ≤ s) × (n ≡ countTo j (ranksBelow (marked marks) (repliesIn (shelf t) marks kept) key))
+
+abbrev μ-loop : tie.MeasureT-loop
+μ-loop kept t key marks s n₀ j₀ n j = s - j
+
+servers-requires : tie.Need-servers-requires Inv-loop μ-loop
+servers-requires c κs = search needs
+
+loop-holds : tie.Need-loop-holds Inv-loop μ-loop
+loop-holds c =
+    let a = c .before .before .args in
+    (omega arith, sym (count-none (ranksBelow (marked (a .t2)) (repliesIn (shelf (a .t)) (a .t2) (a .kept .now)) (a .key))))
+
+array-read-is-lower : tie.Need-array-read-is-lower Inv-loop μ-loop
+array-read-is-lower c = omega (arith, c .before .before .servers .ensures .1, c .before .before .before .before .pre .high)
+
+is-lower-requires : tie.Need-is-lower-requires Inv-loop μ-loop
+is-lower-requires c κs = (c .before .before .before .before .pre .size, omega (arith, c .before .before .servers .ensures .1, c .before .before .before .before .pre .high))
+
+add-n : tie.Need-add-n Inv-loop μ-loop
+add-n c =
+    let a = c .before .before .before .before .before .args in
+    let p = ranksBelow (marked (a .t2)) (repliesIn (shelf (a .t)) (a .t2) (a .kept .now)) (a .key) in
+    let j : c .before .before .loop .j < 13 = omega (arith, c .before .before .before .servers .ensures .1, c .before .before .before .before .before .pre .high) in
+    omega (
+      arith,
+      c .before .before .loop .inv .1,
+      count-le (c .before .before .loop .j) p,
+      c .is-lower .ensures,
+      c .before .before .before .before .before .pre .high,
+      c .before .before .before .servers .ensures .1,
+      bit-le (not (eqb (getD (a .t2) (c .before .before .loop .j) 0) 0) && ltb (rankAt (a .kept .now) (repliesAt + replySlot * c .before .before .loop .j)) (a .key)),
+    )
+
+add-j : tie.Need-add-j Inv-loop μ-loop
+add-j c = omega (arith, c .before .before .before .servers .ensures .1, c .before .before .before .before .before .pre .high)
+
+loop-less : tie.Need-loop-less Inv-loop μ-loop
+loop-less c = omega arith
+
+loop-again : tie.Need-loop-again Inv-loop μ-loop
+loop-again c =
+    let a = c .before .before .before .before .before .args in
+    let p = ranksBelow (marked (a .t2)) (repliesIn (shelf (a .t)) (a .t2) (a .kept .now)) (a .key) in
+    let j : c .before .before .loop .j < 13 = omega (arith, c .before .before .before .servers .ensures .1, c .before .before .before .before .before .pre .high) in
+    let e : c .is-lower .result ≡ bit (p (suc (c .before .before .loop .j))) = c .is-lower .ensures ∙ ap bit (sym (below-slot (shelf (a .t)) (a .kept .now) (a .t2) (a .key) (c .before .before .loop .j) j)) in
+    (omega arith, omega (arith, c .before .before .loop .inv .1, count-more (c .before .before .loop .j) p, e))
+
+sub-result : tie.Need-sub-result Inv-loop μ-loop
+sub-result c = omega (arith, c .before .before .servers .ensures .1)
+
+returns : tie.Need-returns Inv-loop μ-loop
+unfolding stays
+returns c =
+    let a = c .before .before .before .before .args in
+    let p = ranksBelow (marked (a .t2)) (repliesIn (shelf (a .t)) (a .t2) (a .kept .now)) (a .key) in
+    let e : c .before .loop .j ≡ shelf (a .t) .servers = omega (arith, c .before .before .servers .ensures .0) in
+    let n : c .before .loop .n ≡ countTo (shelf (a .t) .servers) p = c .before .loop .inv .1 ∙ ap (λ (k : ℕ). countTo k p) e in
+    ap (λ (x : ℕ). ltb x (c .before .before .servers .result - a .t)) n
+    ∙ ap (λ (x : ℕ). ltb (countTo (shelf (a .t) .servers) p) x) (quorum-of (a .t) (c .before .before .servers .result) (c .before .before .servers .ensures .1))
+
+pub stays-spec : {M : Type 1} → statement M
+stays-spec =
+    tie.close
+    (tie.spec
+    Inv-loop
+    μ-loop
+    servers-requires
+    loop-holds
+    array-read-is-lower
+    is-lower-requires
+    add-n
+    add-j
+    loop-less
+    loop-again
+    sub-result
+    returns)

@@ -1,0 +1,139 @@
+-- `decide::names` meets its contract: each test that fails says no, and the last one decides. Stamps of bytes are compared by their bytes. Nothing is assumed.
+use mathlib.Core.Path.{_≡_, sym, ap, _∙_}
+use mathlib.Core.Bool.{true}
+use mathlib.Core.List.{List}
+use Prim.Native.Nat.{ℕ, _+_, _*_}
+use native.Mathlib.Omega.{arith}
+use lib.ListN.{getD}
+use borrow.Author.Needs.{needs}
+use borrow.Author.Tests.{not-true, not-false, eq-eqb, ne-eqb}
+use Rattle.cluster.specs.Config.{shelf}
+use Rattle.erasure.specs.Fragments.{fragmentSize}
+use Rattle.protocol.specs.Values.{sameList, sameStamp, stampSize, digestSize, digestsSize}
+use Rattle.protocol.specs.Rules.{fits}
+use Rattle.protocol.specs.View.{part, stampAt, candidateAt}
+use Rattle.decide.specs.Steps.{Full}
+use Rattle.decide.proofs.Places.{part-of, same-heads}
+use Rattle.decide.proofs.Replies.{digestsIn, names-none, names-short, names-long, names-other, names-last}
+use Rattle.decide.proofs.reply.names.Statement.{statement}
+use Rattle.decide.proofs.reply.names.Tie as tie
+
+shared-slice-read-if1 : tie.Need-shared-slice-read-if1
+shared-slice-read-if1 c = search needs
+
+returns : tie.Need-returns
+returns c =
+    let a = c .before .before .before .before .before .args in
+    sym (names-none (shelf (a .t)) (a .reply .now) (candidateAt (shelf (a .t)) (a .candidate .now)) (a .d .now) (eq-eqb (getD (a .reply .now) stampSize 0) 0 (c .if1 .taken)))
+
+size-of-requires : tie.Need-size-of-requires
+size-of-requires c κs = search needs
+
+returns-2 : tie.Need-returns-2
+returns-2 c =
+    let a = c .before .before .before .before .before .before .before .args in
+    sym (names-short (shelf (a .t)) (a .reply .now) (a .candidate .now) (a .d .now) (ne-eqb (getD (a .reply .now) stampSize 0) 0 (c .before .before .if1 .left)) (omega (arith, c .before .size-of .ensures)))
+
+returns-3 : tie.Need-returns-3
+returns-3 c =
+    let a = c .before .before .before .before .before .before .before .before .args in
+    sym (names-long (shelf (a .t)) (a .reply .now) (a .candidate .now) (a .d .now) (ne-eqb (getD (a .reply .now) stampSize 0) 0 (c .before .before .before .if1 .left)) (omega (arith, c .before .before .size-of .ensures)))
+
+sub-same : tie.Need-sub-same
+sub-same c = search needs
+
+part-same-start : tie.Need-part-same-start
+part-same-start c = search needs
+
+part-same-end : tie.Need-part-same-end
+part-same-end c = search needs
+
+sub-same-2 : tie.Need-sub-same-2
+sub-same-2 c = search needs
+
+part-same-start-2 : tie.Need-part-same-start-2
+part-same-start-2 c = search needs
+
+part-same-end-2 : tie.Need-part-same-end-2
+part-same-end-2 c = search needs
+
+same-requires : tie.Need-same-requires
+same-requires c κs = search needs
+
+returns-4 : tie.Need-returns-4
+returns-4 c =
+    let a = c .before .before .before .before .before .before .before .before .before .before .before .before .args in
+    let p = c .before .before .before .before .before .before .before .before .before .before .before .before .pre in
+    sym (names-other (shelf (a .t)) (a .reply .now) (a .candidate .now) (a .d .now) (ne-eqb (getD (a .reply .now) stampSize 0) 0 (c .before .before .before .before .before .before .before .if1 .left))
+    (sym (same-heads (a .reply .now) (a .candidate .now) (λ k. c .before .before .before .before .before .before .before .before .before .before .before .shared-slice-known .given k .fits) (λ k. c .before .before .before .before .before .before .before .before .before .before .shared-slice-known2 .given k .fits) (omega (arith, p .2)) (omega (arith, p .3)))
+    ∙ sym (c .before .same .ensures) ∙ not-true (c .before .same .result) (c .if4 .taken)))
+
+digests-at-requires : tie.Need-digests-at-requires
+digests-at-requires c κs = let p = c .before .before .before .before .before .before .before .before .before .before .before .before .pre in (p .0, p .1, omega arith)
+
+servers-requires : tie.Need-servers-requires
+servers-requires c κs = c .before .before .before .before .before .before .before .before .before .before .before .before .before .pre .1
+
+mul-at : tie.Need-mul-at
+mul-at c = let r = c .before .digests-at .ensures .room in omega (arith, r, c .servers .ensures .0)
+
+add-at : tie.Need-add-at
+add-at c = let r = c .before .digests-at .ensures .room in omega (arith, r, c .servers .ensures .0)
+
+add-same : tie.Need-add-same
+add-same c = let r = c .before .digests-at .ensures .room in omega (arith, r, c .servers .ensures .0)
+
+sub-same-3 : tie.Need-sub-same-3
+sub-same-3 c = let r = c .before .digests-at .ensures .room in omega (arith, r, c .servers .ensures .0)
+
+part-same-start-3 : tie.Need-part-same-start-3
+part-same-start-3 c = let r = c .before .digests-at .ensures .room in omega (arith, r, c .servers .ensures .0)
+
+part-same-end-3 : tie.Need-part-same-end-3
+part-same-end-3 c = let r = c .before .digests-at .ensures .room in omega (arith, r, c .servers .ensures .0, c .before .before .before .before .before .before .before .before .before .before .before .before .before .before .pre .2)
+
+same-requires-2 : tie.Need-same-requires-2
+same-requires-2 c κs = search needs
+
+returns-5 : tie.Need-returns-5
+returns-5 c =
+    let a = c .before .before .before .before .before .before .before .before .before .before .before .before .before .before .before .before .args in
+    let p = c .before .before .before .before .before .before .before .before .before .before .before .before .before .before .before .before .pre in
+    let f : Full (a .reply .now) =
+    record { flag = ne-eqb (getD (a .reply .now) stampSize 0) 0 (c .before .before .before .before .before .before .before .before .before .before .before .if1 .left); least = omega (arith, c .before .before .before .before .before .before .before .before .before .before .size-of .ensures); top = omega (arith, c .before .before .before .before .before .before .before .before .before .before .size-of .ensures) } in
+    let q : sameStamp (stampAt (a .reply .now)) (stampAt (a .candidate .now)) ≡ true =
+    sym (same-heads (a .reply .now) (a .candidate .now) (λ k. c .before .before .before .before .before .before .before .before .before .before .before .before .before .before .before .shared-slice-known .given k .fits) (λ k. c .before .before .before .before .before .before .before .before .before .before .before .before .before .before .shared-slice-known2 .given k .fits) (omega (arith, p .2)) (omega (arith, p .3)))
+    ∙ sym (c .before .before .before .before .before .same .ensures) ∙ not-false (c .before .before .before .before .before .same .result) (c .before .before .before .before .if4 .left) in
+    let at : ℕ = c .before .before .before .digests-at .result + 32 * c .before .before .servers .result in
+    let e : at ≡ digestsIn (shelf (a .t)) (a .reply .now) + digestsSize (shelf (a .t)) =
+    omega (arith, c .before .before .before .digests-at .ensures .place, c .before .before .servers .ensures .0, ap (fragmentSize (shelf (a .t) .shares)) (c .before .before .before .before .before .before .before .before .before .before .size-of .ensures)) in
+    c .same2 .ensures ∙ ap (λ (z : List ℕ). sameList z (a .d .now)) (part-of (a .reply .now) at digestSize ∙ ap (λ (k : ℕ). part (a .reply .now) k digestSize) e)
+    ∙ sym (names-last (shelf (a .t)) (a .reply .now) (a .candidate .now) (a .d .now) f q)
+
+pub names-spec : {M : Type 1} → statement M
+names-spec =
+    tie.close
+    (tie.spec
+    shared-slice-read-if1
+    returns
+    size-of-requires
+    returns-2
+    returns-3
+    sub-same
+    part-same-start
+    part-same-end
+    sub-same-2
+    part-same-start-2
+    part-same-end-2
+    same-requires
+    returns-4
+    digests-at-requires
+    servers-requires
+    mul-at
+    add-at
+    add-same
+    sub-same-3
+    part-same-start-3
+    part-same-end-3
+    same-requires-2
+    returns-5)

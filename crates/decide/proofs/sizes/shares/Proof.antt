@@ -1,0 +1,19 @@
+-- `decide::shares` meets its contract: document 01's number of fragments that give a content back. Nothing is assumed.
+use borrow.Author.Needs.{needs}
+use Rattle.cluster.specs.Config.{shelf}
+use Rattle.decide.proofs.sizes.shares.Statement.{statement}
+use Rattle.decide.proofs.sizes.shares.Tie as tie
+
+add-result : tie.Need-add-result
+add-result c = search needs
+
+returns : tie.Need-returns
+unfolding shelf
+returns c = search needs
+
+pub shares-spec : {M : Type 1} → statement M
+shares-spec =
+    tie.close
+    (tie.spec
+    add-result
+    returns)

@@ -1,0 +1,62 @@
+-- What a filter round has decided, by document 01's rules on the view of the kept bytes, and the content that it gives.
+use mathlib.Core.Bool.{Bool, true, false, cond, _&&_, _||_}
+use mathlib.Core.List.{List, [], _∷_}
+use mathlib.Core.Option.{Option, none, some}
+use Prim.Native.Nat.{ℕ, zero, suc, _+_, _-_}
+use lib.Dec.{leb, ltb}
+use lib.ListN.{length, drop}
+use Rattle.cluster.specs.Config.{Config, shelf}
+use Rattle.cluster.specs.Ranges.{within, leastLength, topLength, contentRoom}
+use Rattle.protocol.specs.Values.{Candidate, Share, Held, sameList, sameCandidate, stampSize}
+use Rattle.protocol.specs.Primitives.{real}
+use Rattle.protocol.specs.Rules.{ByServer, gather, live, choice, leader, restoredBy}
+use Rattle.protocol.specs.ServerBytes.{over}
+use Rattle.protocol.specs.View.{marked, candidatesIn, repliesIn, replySlotOf, shareAt}
+use Rattle.decide.specs.declared.Decision.{Decision}
+use Rattle.decide.specs.declared.Decision.the-variants as decisions
+use Rattle.decide.specs.Listing.{usable}
+
+-- the answer, and the output buffer after it
+pub record Decided : Type 0 where
+  pub answer : Decision
+  pub output : List ℕ
+
+-- the first of the first n slots that holds the candidate, or n
+unfoldable pub slotOf : ByServer Candidate → Candidate → ℕ → ℕ
+slotOf g c zero = 0
+slotOf g c (suc n) = cond (ltb (slotOf g c n) n) (slotOf g c n) (cond (sameCandidate (g (suc n)) c) n (suc n))
+
+module _ (s : Config) (m : ByServer Bool) (g : ByServer Held) (held : ByServer Candidate) (output : List ℕ) where
+  -- of those still in the list and of the choice: no candidate is left; none is proven yet; or the slot that holds the choice,
+  -- the server that leads its group, and the length of the content, which is written to the output
+  unfoldable pub decidedOn : List Candidate → Option Candidate → Decided
+  decidedOn [] o = record { answer = decisions.Blank; output = output }
+  decidedOn (l ∷ ls) none = record { answer = decisions.Wait; output = output }
+  decidedOn (l ∷ ls) (some c) =
+      let b = leader real s m g c (s .servers) in
+      let content = restoredBy real s m g c b (g b .share) in
+      record { answer = decisions.Found (slotOf held c (s .servers)) b (length content); output = over content output }
+
+-- t, marks, kept bytes and output. With other arguments, or no room for a content, it waits
+unfoldable pub decided : ℕ → List ℕ → List ℕ → List ℕ → Decided
+decided t marks kept output =
+    let s = shelf t in
+    let m = marked marks in
+    let g = repliesIn s marks kept in
+    let cs = gather (candidatesIn s kept) (s .servers) in
+    cond (usable t kept && leb contentRoom (length output))
+    (decidedOn s m g (candidatesIn s kept) output (live real s m g cs) (choice real s m g cs))
+    (record { answer = decisions.Wait; output = output })
+
+-- the share in server b's reply, whatever its byte and its mark say
+unfoldable pub shareOf : ℕ → List ℕ → ℕ → Share
+shareOf t kept b = shareAt (shelf t) (drop (stampSize + 1) (replySlotOf kept (b - 1)))
+
+-- server b's reply has a length in its range and the tags of the candidate in slot i
+unfoldable pub sameTagsAt : ℕ → List ℕ → ℕ → ℕ → Bool
+sameTagsAt t kept i b =
+    within leastLength topLength (shareOf t kept b .size) && sameList (shareOf t kept b .tags) (candidatesIn (shelf t) kept (suc i) .tags)
+
+-- the same, with other arguments false
+unfoldable pub sameTags : ℕ → List ℕ → ℕ → ℕ → Bool
+sameTags t kept i b = (usable t kept && (ltb i (shelf t .servers) && within 1 (shelf t .servers) b)) && sameTagsAt t kept i b

@@ -1,0 +1,139 @@
+// A client's reading of a filter round over its kept bytes: which candidates are listed, what is decided, and the content that it gives.
+// A slot is counted from 0, a server from 1: slot i is server i + 1's.
+ghost use mathlib.Core.Path.{_≡_};
+ghost use Rattle.decide.specs.Listing.{listedIn, listedCount};
+ghost use Rattle.decide.specs.Steps.{UsableAs};
+ghost use Rattle.decide.specs.Decided.{sameTags, decided};
+use crate::content::rebuild;
+use crate::leading::find;
+use crate::list::entry;
+use crate::rank::top;
+use crate::reply::tags_alike;
+use crate::sizes::servers;
+
+mod content;
+mod leading;
+mod list;
+mod rank;
+mod reply;
+mod sizes;
+
+// The kept bytes, and where the slots of candidates and of replies stand in them.
+pub const KEPT: usize = 24576;
+
+pub const CANDIDATES: usize = 1541;
+
+pub const CANDIDATE_SLOT: usize = 485;
+
+pub const REPLIES: usize = 7846;
+
+pub const REPLY_SLOT: usize = 1120;
+
+// Bytes of a stamp, of a digest, of a candidate's stamp and nonce.
+pub(crate) const STAMP: usize = 37;
+
+pub(crate) const DIGEST: usize = 32;
+
+pub(crate) const NAME: usize = 69;
+
+// The bytes of k fragments are at most k - 1 more than a content's.
+pub(crate) const FRAGMENTS: usize = 1028;
+
+// The ranks of blank stamps go up to this one.
+pub(crate) const BLANK_RANK: u64 = 255;
+
+// The arguments mean a shelf's kept bytes.
+fn is_usable(kept: &[u8], t: usize) -> bool
+    ensures { λ r. ⌜ UsableAs t (now (kept .entry)) r ⌝ }
+{
+    if t < 1 {
+        return false;
+    }
+    if t > cluster::TOP_FAULTS {
+        return false;
+    }
+    kept.len() == KEPT
+}
+
+// Whether slot i is listed.
+pub fn listed(kept: &[u8], t: usize, i: usize) -> bool
+    ensures { λ r. ⌜ r ≡ listedIn t (now (kept .entry)) i ⌝ }
+{
+    if !is_usable(kept, t) {
+        return false;
+    }
+    if i >= servers(t) {
+        return false;
+    }
+    entry(kept, t, i) == 1
+}
+
+// How many slots are listed.
+pub fn count_listed(kept: &[u8], t: usize) -> u8
+    ensures { λ r. ⌜ r ≡ listedCount t (now (kept .entry)) ⌝ }
+{
+    if !is_usable(kept, t) {
+        return 0;
+    }
+    let s = servers(t);
+    let mut n: u8 = 0;
+    let mut i = 0;
+    while i < s {
+        n += entry(kept, t, i);
+        i += 1;
+    }
+    n
+}
+
+// Whether server b's tags are those of the candidate in slot i.
+pub fn same_tags(kept: &[u8], t: usize, i: usize, b: usize) -> bool
+    ensures { λ r. ⌜ r ≡ sameTags t (now (kept .entry)) i b ⌝ }
+{
+    if !is_usable(kept, t) {
+        return false;
+    }
+    if i >= servers(t) {
+        return false;
+    }
+    if b < 1 {
+        return false;
+    }
+    if b > servers(t) {
+        return false;
+    }
+    tags_alike(kept, t, i, b - 1)
+}
+
+// What a filter round has decided: nothing yet; no candidate is left; or the slot that holds the chosen one, the server that leads its group,
+// and the length of the content.
+pub enum Decision {
+    Wait,
+    Blank,
+    Found(usize, usize, usize),
+}
+
+// What the filter round has decided; where a candidate is found, its content at the start of out.
+pub fn decide(kept: &[u8], marks: [u8; 13], t: usize, out: &mut [u8]) -> Decision
+    ensures { λ r. ⌜ (r ≡ decided t marks (now (kept .entry)) (now (out .entry)) .answer)
+        × (now (out .exit) ≡ decided t marks (now (kept .entry)) (now (out .entry)) .output) ⌝ }
+{
+    if !is_usable(kept, t) {
+        return Decision::Wait;
+    }
+    if out.len() < cluster::CONTENT_ROOM {
+        return Decision::Wait;
+    }
+    let key = top(kept, marks, t);
+    if key <= BLANK_RANK {
+        return Decision::Blank;
+    }
+    let c = find(kept, marks, t, key);
+    let slot = c.slot;
+    let server = c.server;
+    let group = c.servers;
+    if server == 0 {
+        return Decision::Wait;
+    }
+    let count = rebuild(kept, t, server - 1, group, out);
+    Decision::Found(slot, server, count)
+}

@@ -1,0 +1,104 @@
+// Lengths for a shelf, and runs of bytes.
+ghost use mathlib.Core.Path.{_≡_};
+ghost use Prim.Native.Nat.{_+_, _*_, _<_, _≤_};
+ghost use lib.ListN.{length, getD};
+ghost use Rattle.cluster.specs.Config.{shelf};
+ghost use Rattle.cluster.specs.Ranges.{topLength};
+ghost use Rattle.erasure.specs.Fragments.{fragmentSize};
+ghost use Rattle.protocol.specs.Format.{value2};
+ghost use Rattle.protocol.specs.Values.{stampSize, sameList};
+ghost use Rattle.protocol.specs.ClientBytes.{put};
+ghost use Rattle.protocol.specs.View.{replySlot};
+ghost use Rattle.decide.specs.Steps.{rankAt, DigestsAt};
+use crate::STAMP;
+
+// How many servers there are.
+pub(crate) fn servers(t: usize) -> usize
+    requires { ⌜ t ≤ 4 ⌝ }
+    ensures { λ r. ⌜ (r ≡ shelf t .servers) × (r ≡ 3 * t + 1) ⌝ }
+{
+    3 * t + 1
+}
+
+// How many fragments give a content back.
+pub(crate) fn shares(t: usize) -> usize
+    requires { ⌜ t ≤ 4 ⌝ }
+    ensures { λ r. ⌜ (r ≡ shelf t .shares) × (r ≡ t + 1) ⌝ }
+{
+    t + 1
+}
+
+// The length of a fragment of a content of n bytes.
+pub(crate) fn fragment_size(t: usize, n: usize) -> usize
+    requires { ⌜ (1 ≤ t) × (t ≤ 4) × (n ≤ topLength) ⌝ }
+    ensures { λ r. ⌜ r ≡ fragmentSize (shelf t .shares) n ⌝ }
+{
+    let k = shares(t);
+    (n + k - 1) / k
+}
+
+// Where the digests stand in a reply: past the stamp, the byte, the length and the fragment.
+pub(crate) fn digests_at(t: usize, n: usize) -> usize
+    requires { ⌜ (1 ≤ t) × (t ≤ 4) × (n ≤ topLength) ⌝ }
+    ensures { λ r. ⌜ DigestsAt t n r ⌝ }
+{
+    STAMP + 3 + fragment_size(t, n)
+}
+
+// The length of a reply's content.
+pub(crate) fn size_of(reply: &[u8]) -> usize
+    requires { ⌜ length (now reply) ≡ replySlot ⌝ }
+    ensures { λ r. ⌜ r ≡ value2 (getD (now (reply .entry)) (stampSize + 1) 0) (getD (now (reply .entry)) (stampSize + 2) 0) ⌝ }
+{
+    let a = wide(reply[STAMP + 1]) as usize;
+    let b = wide(reply[STAMP + 2]) as usize;
+    256 * a + b
+}
+
+pub(crate) fn wide(x: u8) -> u64
+    ensures { λ r. ⌜ (r ≡ x) × (r < 256) ⌝ }
+{
+    x as u64
+}
+
+// The rank of the stamp at a place: number and writer as one number.
+pub(crate) fn rank_at(kept: &[u8], at: usize) -> u64
+    requires { ⌜ at + 5 ≤ length (now kept) ⌝ }
+    ensures { λ r. ⌜ r ≡ rankAt (now (kept .entry)) at ⌝ }
+{
+    let a = wide(kept[at]);
+    let b = wide(kept[at + 1]);
+    let c = wide(kept[at + 2]);
+    let d = wide(kept[at + 3]);
+    let e = wide(kept[at + 4]);
+    256 * (16777216 * a + 65536 * b + 256 * c + d) + e
+}
+
+// Whether two runs of bytes are the same.
+pub(crate) fn same(a: &[u8], b: &[u8]) -> bool
+    ensures { λ r. ⌜ r ≡ sameList (now (a .entry)) (now (b .entry)) ⌝ }
+{
+    if a.len() != b.len() {
+        return false;
+    }
+    let mut i = 0;
+    while i < a.len() {
+        if a[i] != b[i] {
+            return false;
+        }
+        i += 1;
+    }
+    true
+}
+
+// Copies src to a place of out.
+pub(crate) fn copy(out: &mut [u8], to: usize, src: &[u8])
+    requires { ⌜ to + length (now src) ≤ length (now out) ⌝ }
+    ensures { λ _. ⌜ now (out .exit) ≡ put (now (out .entry)) to (now (src .entry)) ⌝ }
+{
+    let mut i = 0;
+    while i < src.len() {
+        out[to + i] = src[i];
+        i += 1;
+    }
+}
