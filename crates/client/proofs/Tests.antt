@@ -1,0 +1,27 @@
+-- Tests and refusals as facts: a range test that fails gives its bounds, and a refusal's number tells which of the two ways is taken.
+-- Each is by cases on the test. Assumes nothing.
+use mathlib.Core.Path.{_≡_, refl, sym}
+use mathlib.Core.Bool.{Bool, true, false, not, _&&_, true≢false}
+use Prim.Native.Nat.{ℕ, zero, suc, _≤_, _<_}
+use lib.Dec.{leb}
+use borrow.Author.Tests.{leb-true, not-false}
+use native.Mathlib.Omega.{arith}
+use Rattle.cluster.specs.Ranges.{within}
+use Rattle.cluster.specs.Refusals.{onRefusal}
+
+pub both : (a b : Bool) → (a && b) ≡ true → (a ≡ true) × (b ≡ true)
+both true b e = (refl, e)
+both false b e = absurd (true≢false (sym e))
+
+pub inside : (lo hi x : ℕ) → not (within lo hi x) ≡ false → (lo ≤ x) × (x ≤ hi)
+inside lo hi x e =
+    let w = both (leb lo x) (leb x hi) (not-false (within lo hi x) e) in
+    (leb-true lo x (w .0), leb-true x hi (w .1))
+
+pub refused : {A : Type 0} (n : ℕ) (a b : A) → (n ≡ 0 → ⊥) → onRefusal n a b ≡ b
+refused zero a b h = absurd (h refl)
+refused (suc n) a b h = refl
+
+pub accepted : {A : Type 0} (n : ℕ) (a b : A) → n ≡ 0 → onRefusal n a b ≡ a
+accepted zero a b h = refl
+accepted (suc n) a b h = let z : ⊥ = omega arith in absurd z
