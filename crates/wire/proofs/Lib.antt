@@ -1,0 +1,3 @@
+pub mod Joined
+pub mod Runs
+pub mod Put

@@ -1,0 +1,5 @@
+// Packets.
+pub enum PacketRead {
+    Value(protocol::Head),
+    Broken,
+}
