@@ -1,7 +1,7 @@
 -- Tests and refusals as facts: a range test that fails gives its bounds, and a refusal's number tells which of the two ways is taken.
 -- Each is by cases on the test. Assumes nothing.
 use mathlib.Core.Path.{_≡_, refl, sym}
-use mathlib.Core.Bool.{Bool, true, false, not, _&&_, true≢false}
+use mathlib.Core.Bool.{Bool, true, false, not, cond, _&&_, true≢false}
 use Prim.Native.Nat.{ℕ, zero, suc, _≤_, _<_}
 use lib.Dec.{leb}
 use borrow.Author.Tests.{leb-true, not-false}
@@ -25,3 +25,8 @@ refused (suc n) a b h = refl
 pub accepted : {A : Type 0} (n : ℕ) (a b : A) → n ≡ 0 → onRefusal n a b ≡ a
 accepted zero a b h = refl
 accepted (suc n) a b h = let z : ⊥ = omega arith in absurd z
+
+-- a test of a list of refusals that gives 0 does not apply
+pub passes : (n : ℕ) (b : Bool) (x : ℕ) → cond b (suc n) x ≡ 0 → (b ≡ false) × (x ≡ 0)
+passes n true x e = let z : ⊥ = omega arith in absurd z
+passes n false x e = (refl, e)

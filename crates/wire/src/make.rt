@@ -51,6 +51,11 @@ pub fn put_number2(out: &mut [u8], at: usize, v: u16) -> usize
 pub fn put_number4(out: &mut [u8], at: usize, v: u32) -> usize
     ensures { λ r. ⌜ record { next = r; output = now (out .exit) } ≡ placed (now (out .entry)) at (print4 v) ⌝ }
 {
-    let bytes = [(v / 16777216) as u8, (v / 65536 % 256) as u8, (v / 256 % 256) as u8, (v % 256) as u8];
+    let bytes = [
+        (v / 16777216) as u8,
+        (v / 65536 % 256) as u8,
+        (v / 256 % 256) as u8,
+        (v % 256) as u8,
+    ];
     put(out, at, &bytes)
 }

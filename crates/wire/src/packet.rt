@@ -1,5 +1,0 @@
-// Packets.
-pub enum PacketRead {
-    Value(protocol::Head),
-    Broken,
-}
