@@ -7,6 +7,8 @@ mod refusals; // which number refuses a step
 mod rounds; // the tally of a round
 pub mod kept; // the kept bytes: their places, and what is read and written there
 pub mod answers; // what a reply leads to
+mod replies; // whether a packet is an awaited reply
+mod stamps; // stamps and tags
 mod writes; // the rounds of a write
 mod reads; // the rounds of a read
 pub mod begin; // beginning a call and giving it up
