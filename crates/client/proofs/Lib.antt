@@ -1,3 +1,6 @@
 pub mod Tests
 pub mod Begins
 pub mod StampBytes
+pub mod TakeRefusals
+pub mod RoundSteps
+pub mod ReplyBytes

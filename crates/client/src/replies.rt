@@ -57,7 +57,12 @@ fn is_other(head: protocol::Head, call: protocol::Call, kind: u8) -> bool
 }
 
 // 8, 12, 13.
-pub(crate) fn reply_refusal(head: protocol::Head, call: protocol::Call, t: usize, client: usize) -> u8
+pub(crate) fn reply_refusal(
+    head: protocol::Head,
+    call: protocol::Call,
+    t: usize,
+    client: usize,
+) -> u8
     requires { ⌜ (1 ≤ head .server) × (head .server ≤ mostServers) ⌝ }
     ensures { λ r. ⌜ r ≡ replyRefusal t client call head ⌝ }
 {

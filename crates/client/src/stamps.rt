@@ -35,7 +35,13 @@ pub(crate) fn higher(writers: &[u8; 32], high: u32, body: &[u8]) -> u32
 fn stamp_message(number: u32, writer: u8) -> [u8; 5]
     ensures { λ r. ⌜ r ≡ stampMessage number writer ⌝ }
 {
-    [(number / 16777216) as u8, (number / 65536 % 256) as u8, (number / 256 % 256) as u8, (number % 256) as u8, writer]
+    [
+        (number / 16777216) as u8,
+        (number / 65536 % 256) as u8,
+        (number / 256 % 256) as u8,
+        (number % 256) as u8,
+        writer,
+    ]
 }
 
 // Line 96: a stamp's bytes.
@@ -51,7 +57,13 @@ pub(crate) fn stamp_bytes(writers: &[u8; 32], number: u32, writer: u8) -> [u8; w
 }
 
 // Line 88: the tag of each server.
-pub(crate) fn put_tags(tags: &mut [u8], t: usize, keys: &[[u8; 32]; 13], stamp: &[u8], digest: [u8; 32])
+pub(crate) fn put_tags(
+    tags: &mut [u8],
+    t: usize,
+    keys: &[[u8; 32]; 13],
+    stamp: &[u8],
+    digest: [u8; 32],
+)
     requires { ⌜ (t ≤ topFaults) × (tagSize * shelf t .servers ≤ length (now tags)) ⌝ }
     ensures { λ _. ⌜ now (tags .exit) ≡ put (now (tags .entry)) 0 (tagRun (now (keys .entry)) (now (stamp .entry)) digest (shelf t .servers)) ⌝ }
 {

@@ -14,7 +14,7 @@ is-pending-requires c κs = search needs
 
 mul-result : tie.Need-mul-result
 unfolding inHand
-mul-result c = 
+mul-result c =
     let a = c .before .before .before .before .args in
     let w : inHand (a .call) ≡ true = sym (c .before .before .before .is-pending .ensures) ∙ c .before .before .if1 .taken in
     let r = leb-true (a .call .tally .round) 6 (both (leb 1 (a .call .tally .round)) (leb (a .call .tally .round) 6) w .1) in
@@ -22,13 +22,13 @@ mul-result c =
 
 returns : tie.Need-returns
 unfolding awaited
-returns c = 
+returns c =
     let w = sym (c .before .before .before .is-pending .ensures) ∙ c .before .before .if1 .taken in
     rw w
 
 returns-2 : tie.Need-returns-2
 unfolding awaited
-returns-2 c = 
+returns-2 c =
     let w = sym (c .before .is-pending .ensures) ∙ c .if1 .left in
     rw w
 

@@ -16,13 +16,13 @@ element-copy-out-if1 : tie.Need-element-copy-out-if1
 element-copy-out-if1 c = search needs
 
 returns : tie.Need-returns
-returns c = 
+returns c =
     let a = c .before .before .args in
     let e : eqb (getD (a .t1 .marks) (a .server - 1) 0) 0 ≡ true = eq-eqb (getD (a .t1 .marks) (a .server - 1) 0) 0 (c .if1 .taken) in
     rw (marked-at (a .t1 .marks) (a .server) (c .before .before .pre .0), e)
 
 returns-2 : tie.Need-returns-2
-returns-2 c = 
+returns-2 c =
     let a = c .before .before .args in
     let e : eqb (getD (a .t1 .marks) (a .server - 1) 0) 0 ≡ false = ne-eqb (getD (a .t1 .marks) (a .server - 1) 0) 0 (c .if1 .left) in
     rw (marked-at (a .t1 .marks) (a .server) (c .before .before .pre .0), e)

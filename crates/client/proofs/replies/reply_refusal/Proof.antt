@@ -13,7 +13,7 @@ is-foreign-requires c κs = search needs
 
 returns : tie.Need-returns
 unfolding replyRefusal
-returns c = 
+returns c =
     let w = sym (c .before .is-foreign .ensures) ∙ c .if1 .taken in
     rw w
 
@@ -22,7 +22,7 @@ awaited-kind-requires c κs = search needs
 
 returns-2 : tie.Need-returns-2
 unfolding replyRefusal
-returns-2 c = 
+returns-2 c =
     let w = sym (c .before .before .before .is-foreign .ensures) ∙ c .before .before .if1 .left in
     let z = sym (c .before .awaited-kind .ensures) ∙ c .if2 .taken in
     rw (w, z)
@@ -32,7 +32,7 @@ is-other-requires c κs = search needs
 
 returns-3 : tie.Need-returns-3
 unfolding replyRefusal
-returns-3 c = 
+returns-3 c =
     let a = c .before .before .before .before .before .before .args in
     let w = sym (c .before .before .before .before .before .is-foreign .ensures) ∙ c .before .before .before .before .if1 .left in
     let k = c .before .before .before .awaited-kind .ensures in
@@ -42,7 +42,7 @@ returns-3 c =
 
 returns-4 : tie.Need-returns-4
 unfolding replyRefusal
-returns-4 c = 
+returns-4 c =
     let a = c .before .before .before .before .before .before .args in
     let w = sym (c .before .before .before .before .before .is-foreign .ensures) ∙ c .before .before .before .before .if1 .left in
     let k = c .before .before .before .awaited-kind .ensures in

@@ -15,7 +15,7 @@ number4-requires c κs = search needs
 
 returns : tie.Need-returns
 unfolding stampAt
-returns c = 
+returns c =
     let a = c .before .before .before .args in
     let e = c .before .number4 .ensures in
     sym (stays-low (a .writers .now) (a .body .now) (a .high) (rw e at (c .if1 .taken)))
@@ -37,7 +37,7 @@ same-requires c κs = search needs
 
 returns-2 : tie.Need-returns-2
 unfolding stampAt
-returns-2 c = 
+returns-2 c =
     let a = c .before .before .before .before .before .before .before .before .before .before .args in
     let e = c .before .before .before .before .before .before .before .before .number4 .ensures in
     let s : sameList (part (a .body .now) 5 tagSize) (tagOf (a .writers .now) (part (a .body .now) 0 5)) ≡ true = rw (c .before .before .before .part2 .ensures, c .before .before .before .before .tag .ensures, c .before .before .before .before .before .part .ensures) at (sym (c .before .same .ensures) ∙ c .if2 .taken) in
@@ -46,7 +46,7 @@ returns-2 c =
 
 returns-3 : tie.Need-returns-3
 unfolding stampAt
-returns-3 c = 
+returns-3 c =
     let a = c .before .before .before .before .before .before .before .before .before .before .args in
     let e = c .before .before .before .before .before .before .before .before .number4 .ensures in
     let s : sameList (part (a .body .now) 5 tagSize) (tagOf (a .writers .now) (part (a .body .now) 0 5)) ≡ false = rw (c .before .before .before .part2 .ensures, c .before .before .before .before .tag .ensures, c .before .before .before .before .before .part .ensures) at (sym (c .before .same .ensures) ∙ c .if2 .left) in

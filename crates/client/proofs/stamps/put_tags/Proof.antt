@@ -46,7 +46,7 @@ slice-aggregate-write-at c = search needs
 
 write-at-requires : tie.Need-write-at-requires Inv-loop μ-loop
 unfolding shelf
-write-at-requires c κs = 
+write-at-requires c κs =
     let a = c .before .before .before .before .before .before .before .before .before .args in
     let e : c .before .before .before .before .before .before .servers .result ≡ 3 * a .t + 1 = c .before .before .before .before .before .before .servers .ensures in
     let p : tagSize * (3 * a .t + 1) ≤ length (a .tags .now) = c .before .before .before .before .before .before .before .before .before .pre .1 in
@@ -64,7 +64,7 @@ loop-less c = omega arith
 
 loop-again : tie.Need-loop-again Inv-loop μ-loop
 unfolding shelf
-loop-again c = 
+loop-again c =
     let a = c .before .before .before .before .before .before .before .before .before .before .before .before .args in
     let e : c .before .before .before .before .before .before .before .before .before .servers .result ≡ 3 * a .t + 1 = c .before .before .before .before .before .before .before .before .before .servers .ensures in
     let p : tagSize * (3 * a .t + 1) ≤ length (a .tags .now) = c .before .before .before .before .before .before .before .before .before .before .before .before .pre .1 in
@@ -78,7 +78,7 @@ loop-again c =
 
 same-length : tie.Need-same-length Inv-loop μ-loop
 unfolding shelf
-same-length c = 
+same-length c =
     let a = c .before .before .before .before .before .args in
     let e : c .before .before .servers .result ≡ 3 * a .t + 1 = c .before .before .servers .ensures in
     let p : tagSize * (3 * a .t + 1) ≤ length (a .tags .now) = c .before .before .before .before .before .pre .1 in
@@ -88,7 +88,7 @@ same-length c =
     l
 
 returns : tie.Need-returns Inv-loop μ-loop
-returns c = 
+returns c =
     let a = c .before .before .before .before .before .args in
     let q : c .before .loop .i ≡ shelf (a .t) .servers = omega (arith, c .before .before .servers .ensures) in
     rw q at (c .before .loop .inv .1)

@@ -41,7 +41,7 @@ write-at-requires-2 c κs = search needs
 
 returns : tie.Need-returns
 unfolding stampMessage real
-returns c = 
+returns c =
     let z = c .before .write-at2 .ensures in
     let y = c .before .before .before .before .before .write-at .ensures in
     let m = c .before .before .before .before .before .before .before .before .before .before .before .stamp-message .ensures in
