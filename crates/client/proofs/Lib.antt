@@ -4,3 +4,4 @@ pub mod StampBytes
 pub mod TakeRefusals
 pub mod RoundSteps
 pub mod ReplyBytes
+pub mod Printed

@@ -3,14 +3,16 @@ use mathlib.Core.Bool.{Bool, not, _&&_, _||_}
 use mathlib.Core.List.{List, [], _∷_, _++_}
 use Prim.Native.Nat.{ℕ}
 use lib.Dec.{eqb}
+use lib.ListN.{length}
 use Rattle.cluster.specs.Config.{Config}
 use Rattle.cluster.specs.Refusals.{refuse, firstOf}
 use Rattle.hmac.specs.Hmac.{tagOf}
 use Rattle.protocol.specs.declared.Call.{Call}
 use Rattle.protocol.specs.declared.Head.{Head}
 use Rattle.protocol.specs.Values.{runOf}
+use Rattle.protocol.specs.ServerBytes.{over}
 use Rattle.protocol.specs.View.{marked}
-use Rattle.protocol.specs.ClientBytes.{awaited, keyOf}
+use Rattle.protocol.specs.ClientBytes.{Written, awaited, keyOf}
 
 -- another shelf's packet, or another client's
 abbrev pub foreign : ℕ → ℕ → Head → Bool
@@ -29,3 +31,7 @@ replyRefusal t client c h =
 -- the tags of servers 1 to n, of a stamp's bytes and a nonce's digest
 unfoldable pub tagRun : List (List ℕ) → List ℕ → List ℕ → ℕ → List ℕ
 tagRun keys stamp d n = runOf n (λ i. tagOf (keyOf keys i) (stamp ++ d))
+
+-- a packet's bytes over the start of a buffer that has room for them
+unfoldable pub wholePacket : List ℕ → List ℕ → Written
+wholePacket bytes output = record { result = record { number = 0; count = length bytes }; output = over bytes output }
