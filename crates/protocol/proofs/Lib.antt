@@ -19,3 +19,18 @@ pub mod Slots
 pub mod Kept
 pub mod Acts
 pub mod ServerLift
+pub mod HandOk
+pub mod PacketRoom
+pub mod Prepared
+pub mod Updates
+pub mod ClientLift
+pub mod Turns
+pub mod Collected
+pub mod Filtered
+pub mod TakeLift
+pub mod Fine
+pub mod MakeLift
+pub mod StepLift
+pub mod RunLift
+pub mod Accounts
+mod Examples
