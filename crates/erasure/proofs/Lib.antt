@@ -1,2 +1,12 @@
 pub mod Lists
 pub mod Laws
+pub mod Sums
+pub mod Horner
+pub mod Entries
+pub mod Rows
+pub mod Solved
+pub mod Choosing
+pub mod Refused
+pub mod Placed
+pub mod Answers
+pub mod Chosen

@@ -4,13 +4,14 @@ use mathlib.Core.Path.{_≡_, refl, sym, ap, ap₂, subst, _∙_}
 use mathlib.Core.Logic.{_≢_}
 use mathlib.Core.List.{List, [], _∷_, _++_, map}
 use Prim.Native.Nat.{ℕ, zero, suc, _+_, _-_, _<_, _≤_, suc-le-suc}
-use native.Mathlib.Nat.{zero-lt-suc, le-of-suc-le-suc, not-suc-le-zero}
+use native.Mathlib.Nat.{zero-lt-suc, zero-add, le-of-suc-le-suc, not-suc-le-zero}
 use native.Mathlib.Decide.{decLt}
 use native.Mathlib.Omega.{arith}
-use lib.ListN.{length, getD, take, drop, length-append, length-drop, List·getD-append}
-use lib.Seq.{ext-getD, length-take-le, getD-take, getD-drop, getD-append-add}
+use lib.ListN.{length, getD, set, take, drop, length-append, length-drop, length-set, List·getD-append}
+use lib.Seq.{ext-getD, length-take-le, getD-take, getD-drop, getD-append-add, getD-set-same, getD-set-other}
 use Rattle.gf256.proofs.Byte.{Small, DistinctN, ApartN}
 use Rattle.erasure.specs.Fragments.{table}
+use Rattle.erasure.specs.Lanes.{Written}
 
 pub length-table : {A : Type 0} (n : ℕ) (g : ℕ → A) → length (table n g) ≡ n
 unfolding table
@@ -84,3 +85,49 @@ distinct-at (x ∷ xs) d zero zero l h = absurd (not-suc-le-zero l)
 distinct-at (x ∷ xs) d (suc i) zero l h = absurd (not-suc-le-zero l)
 distinct-at (x ∷ xs) d zero (suc j) l h = apart-at x xs (d .0) j (le-of-suc-le-suc h)
 distinct-at (x ∷ xs) d (suc i) (suc j) l h = distinct-at xs (d .1) i j (le-of-suc-le-suc l) (le-of-suc-le-suc h)
+
+-- ---- writing from a place on
+
+pub written-none : (old : List ℕ) (at : ℕ) (g : ℕ → ℕ) → Written old old at 0 g
+written-none old at g = record { long = refl; here = λ i h. absurd (not-suc-le-zero h); below = λ i h. refl; above = λ i h. refl }
+
+-- a second piece behind the first
+pub written-on : (old mid new : List ℕ) (at n m : ℕ) (g : ℕ → ℕ) → Written old mid at n g → Written mid new (at + n) m (λ i. g (n + i)) → Written old new at (n + m) g
+written-on old mid new at n m g a b = record {
+  long = b .long ∙ a .long;
+  here = λ i h. go i h (decLt i n);
+  below = λ i h. b .below i (omega arith) ∙ a .below i h;
+  above = λ i h. b .above i (omega arith) ∙ a .above i (omega arith);
+}
+  where
+    go : (i : ℕ) → i < n + m → Dec (i < n) → getD new (at + i) 0 ≡ g i
+    go i h (yes l) = b .below (at + i) (omega arith) ∙ a .here i l
+    go i h (no nl) =
+        let e : n + (i - n) ≡ i = omega arith in
+        ap (λ (x : ℕ). getD new x 0) (omega arith) ∙ b .here (i - n) (omega arith) ∙ ap g e
+
+written-one : (old : List ℕ) (at v : ℕ) → at < length old → Written old (set old at v) at 1 (λ i. v)
+written-one old at v h = record {
+  long = length-set old at v;
+  here = λ i l. ap (λ (x : ℕ). getD (set old at v) x 0) (omega arith) ∙ getD-set-same old at v 0 h;
+  below = λ i l. getD-set-other old at i v 0 (λ e. omega arith);
+  above = λ i l. getD-set-other old at i v 0 (λ e. omega arith);
+}
+
+-- one byte more
+pub written-more : (old mid : List ℕ) (at i : ℕ) (g : ℕ → ℕ) (v : ℕ) → at + i < length mid → v ≡ g i → Written old mid at i g
+    → Written old (set mid (at + i) v) at (i + 1) g
+written-more old mid at i g v h e w =
+    let one : Written mid (set mid (at + i) v) (at + i) 1 (λ j. v) = written-one mid (at + i) v h in
+    written-on old mid (set mid (at + i) v) at i 1 g w
+    (record { long = one .long; here = λ j l. one .here j l ∙ e ∙ ap g (omega arith); below = one .below; above = one .above })
+
+-- a buffer whose first n bytes were written
+pub written-first : (old new : List ℕ) (n : ℕ) (g : ℕ → ℕ) → n ≤ length old → Written old new 0 n g → new ≡ table n g ++ drop n old
+written-first old new n g h w =
+    written new old n g (w .long) h (λ i b. ap (λ (x : ℕ). getD new x 0) (sym (zero-add i)) ∙ w .here i b)
+    (λ i b. w .above i (omega arith))
+
+-- the same bytes, told otherwise
+pub written-as : (old new : List ℕ) (at m : ℕ) (g h : ℕ → ℕ) → ((i : ℕ) → i < m → g i ≡ h i) → Written old new at m g → Written old new at m h
+written-as old new at m g h e w = record { long = w .long; here = λ i l. w .here i l ∙ e i l; below = w .below; above = w .above }

@@ -2,3 +2,5 @@ pub mod Fragments
 pub mod Choice
 pub mod Steps
 pub mod System
+pub mod Lanes
+pub mod Chosen

@@ -6,9 +6,9 @@ use lib.Dec.{eqb, ltb}
 use lib.ListN.{length, getD, drop}
 use Rattle.cluster.specs.Config.{Config, shelf}
 use Rattle.cluster.specs.Ranges.{within, leastLength, topLength, topFaults, contentRoom}
-use Rattle.cluster.specs.Refusals.{refuse, firstOf, onRefusal}
+use Rattle.cluster.specs.Refusals.{Check, refuse, firstOf, onRefusal}
 use Rattle.cluster.specs.declared.Outcome.{Outcome}
-use Rattle.erasure.specs.declared.Fragment.{Fragment}
+use Rattle.erasure.specs.declared.FragmentOutcome.{FragmentOutcome}
 use Rattle.erasure.specs.Fragments.{table, fragmentSize, fragment, restored}
 use Rattle.erasure.specs.Choice.{firstDifferent, partsAt}
 
@@ -38,7 +38,7 @@ unfoldable pub fragmentBytes : (t server : ℕ) → List ℕ → List ℕ
 fragmentBytes t server content = fragment (shelf t .points) (shelf t .shares) content server
 
 -- the fragment and its length, padded with 00h to its room; or a refusal
-unfoldable pub fragmentStep : (t server : ℕ) → List ℕ → Fragment
+unfoldable pub fragmentStep : (t server : ℕ) → List ℕ → FragmentOutcome
 fragmentStep t server content =
     onRefusal (fragmentRefusal t server (length content))
     (record {
@@ -50,16 +50,22 @@ fragmentStep t server content =
 
 -- ---- restoring
 
-unfoldable pub restoreRefusal : (t n : ℕ) (servers : List ℕ) (given room : ℕ) → ℕ
-restoreRefusal t n servers given room =
-    firstOf
-    (refuse 3 (not (within 1 topFaults t))
+-- what is asked of the arguments, in document 01's order
+unfoldable pub argumentChecks : (t n : ℕ) (servers : List ℕ) (given room : ℕ) → List Check
+argumentChecks t n servers given room =
+    refuse 3 (not (within 1 topFaults t))
     ∷ refuse 4 (not (each (within 1 (shelf t .servers)) servers))
     ∷ refuse 6 (not (within leastLength topLength n))
     ∷ refuse 15 (ltb room contentRoom)
     ∷ refuse 16 (not (eqb given (length servers * fragmentSize (shelf t .shares) n)))
-    ∷ refuse 16 (ltb (length (firstDifferent (shelf t .shares) servers)) (shelf t .shares))
-    ∷ [])
+    ∷ []
+
+-- and of the choice: k different servers
+unfoldable pub restoreRefusal : (t n : ℕ) (servers : List ℕ) (given room : ℕ) → ℕ
+restoreRefusal t n servers given room =
+    firstOf
+    (argumentChecks t n servers given room
+    ++ (refuse 16 (ltb (length (firstDifferent (shelf t .shares) servers)) (shelf t .shares)) ∷ []))
 
 -- the content that the first k different servers' fragments give
 unfoldable pub restoredBytes : (t n : ℕ) (servers fragments : List ℕ) → List ℕ

@@ -1,10 +1,202 @@
 // Fragments of a content, and the content from fragments.
+ghost use mathlib.Core.Bool.{not};
+ghost use mathlib.Core.List.{_++_};
 ghost use mathlib.Core.Path.{_≡_};
-ghost use Rattle.erasure.specs.Steps.{fragmentStep, restoreStep};
+ghost use Prim.Native.Nat.{ℕ, _+_, _*_, _<_, _≤_};
+ghost use lib.Dec.{eqb};
+ghost use lib.ListN.{getD, length, take, drop};
+ghost use Rattle.cluster.specs.Config.{shelf};
+ghost use Rattle.cluster.specs.Ranges.{within, topFaults, topLength};
+ghost use Rattle.cluster.specs.Refusals.{firstOf};
+ghost use Rattle.erasure.specs.Fragments.{fragmentSize, restored};
+ghost use Rattle.erasure.specs.Choice.{partsAt};
+ghost use Rattle.erasure.specs.Steps.{each, fragmentRefusal, argumentChecks, fragmentStep, restoreStep};
+ghost use Rattle.erasure.specs.System.{width, AllDifferent};
+
+mod choice;
+mod lanes;
+mod runs;
+mod system;
+
+const WIDTH: usize = system::WIDTH;
+
+// Room for the longest fragment, and the ranges of t and of a content's length.
+const ROOM: usize = 512;
+
+const TOP_FAULTS: usize = 4;
+
+const LEAST_LENGTH: usize = 1;
+
+const TOP_LENGTH: usize = 1024;
+
+const CONTENT_ROOM: usize = 1024;
 
 // A fragment and its length, padded with 00h; or a refusal.
-pub struct Fragment {
+pub struct FragmentOutcome {
     pub number: u8,
     pub count: usize,
-    pub bytes: [u8; 512],
+    pub bytes: [u8; ROOM],
+}
+
+// S: how many servers there are.
+fn servers_of(t: usize) -> usize
+    requires { ⌜ t ≤ topFaults ⌝ }
+    ensures { λ r. ⌜ r ≡ shelf t .servers ⌝ }
+{
+    3 * t + 1
+}
+
+// k: how many fragments give a content back.
+fn shares_of(t: usize) -> usize
+    requires { ⌜ t ≤ topFaults ⌝ }
+    ensures { λ r. ⌜ r ≡ shelf t .shares ⌝ }
+{
+    t + 1
+}
+
+// The length of each fragment of a content of n bytes.
+fn size(k: usize, n: usize) -> usize
+    requires { ⌜ (1 ≤ k) × (k ≤ width) × (n ≤ topLength) ⌝ }
+    ensures { λ r. ⌜ r ≡ fragmentSize k n ⌝ }
+{
+    (n + k - 1) / k
+}
+
+fn wide(x: u8) -> usize
+    ensures { λ r. ⌜ r ≡ x ⌝ }
+{
+    x as usize
+}
+
+// ---- refusals
+
+// Whether x is not from lo to hi.
+fn outside(lo: usize, hi: usize, x: usize) -> bool
+    ensures { λ r. ⌜ r ≡ not (within lo hi x) ⌝ }
+{
+    if x < lo {
+        return true;
+    }
+    hi < x
+}
+
+// Whether a server is not from 1 to most.
+fn server_outside(servers: &[u8], most: usize) -> bool
+    ensures { λ r. ⌜ r ≡ not (each (within 1 most) (now (servers .entry))) ⌝ }
+{
+    let mut i: usize = 0;
+    while i < servers.len() {
+        if outside(1, most, wide(servers[i])) {
+            return true;
+        }
+        i += 1;
+    }
+    false
+}
+
+// Whether given is not count times f. The product is not made: it could pass the largest number.
+fn miscounted(given: usize, count: usize, f: usize) -> bool
+    requires { ⌜ 0 < f ⌝ }
+    ensures { λ r. ⌜ r ≡ not (eqb given (count * f)) ⌝ }
+{
+    if given % f != 0 {
+        return true;
+    }
+    given / f != count
+}
+
+fn fragment_refusal(t: usize, server: usize, n: usize) -> u8
+    ensures { λ r. ⌜ r ≡ fragmentRefusal t server n ⌝ }
+{
+    if outside(1, TOP_FAULTS, t) {
+        return 3;
+    }
+    if outside(1, servers_of(t), server) {
+        return 4;
+    }
+    if outside(LEAST_LENGTH, TOP_LENGTH, n) {
+        return 6;
+    }
+    0
+}
+
+// The refusals of restoring, but for too few different servers.
+fn restore_refusal(t: usize, n: usize, servers: &[u8], given: usize, room: usize) -> u8
+    ensures { λ r. ⌜ r ≡ firstOf (argumentChecks t n (now (servers .entry)) given room) ⌝ }
+{
+    if outside(1, TOP_FAULTS, t) {
+        return 3;
+    }
+    if server_outside(servers, servers_of(t)) {
+        return 4;
+    }
+    if outside(LEAST_LENGTH, TOP_LENGTH, n) {
+        return 6;
+    }
+    if room < CONTENT_ROOM {
+        return 15;
+    }
+    if miscounted(given, servers.len(), size(shares_of(t), n)) {
+        return 16;
+    }
+    0
+}
+
+// ---- the operations
+
+// The fragment of a server.
+pub fn fragment(t: usize, server: usize, content: &[u8]) -> FragmentOutcome
+    ensures { λ r. ⌜ r ≡ fragmentStep t server (now (content .entry)) ⌝ }
+{
+    let number = fragment_refusal(t, server, content.len());
+    if number != 0 {
+        return FragmentOutcome {
+            number: number,
+            count: 0,
+            bytes: runs::blank(),
+        };
+    }
+    let k = shares_of(t);
+    let f = size(k, content.len());
+    let bytes = runs::make(k, f, server as u8, content);
+    FragmentOutcome {
+        number: 0,
+        count: f,
+        bytes: bytes,
+    }
+}
+
+// The content of `length` bytes that the fragments of the servers give, which stand one after the other, at the start of out.
+pub fn restore(
+    t: usize,
+    length: usize,
+    servers: &[u8],
+    fragments: &[u8],
+    out: &mut [u8],
+) -> cluster::Outcome
+    ensures { λ r. ⌜ (r, now (out .exit)) ≡ restoreStep t length (now (servers .entry)) (now (fragments .entry)) (now (out .entry)) ⌝ }
+{
+    let number = restore_refusal(t, length, servers, fragments.len(), out.len());
+    if number != 0 {
+        return cluster::Outcome {
+            number: number,
+            count: 0,
+        };
+    }
+    let k = shares_of(t);
+    let c = choice::select(servers, k);
+    let chosen = c.servers;
+    let at = c.at;
+    let count = c.count;
+    if count < k {
+        return cluster::Outcome {
+            number: 16,
+            count: 0,
+        };
+    }
+    runs::rebuild(chosen, at, fragments, k, size(k, length), length, out);
+    cluster::Outcome {
+        number: 0,
+        count: length,
+    }
 }

@@ -91,7 +91,7 @@ timesBits-zero zero b = refl
 timesBits-zero (suc n) b =
     ap₂ bitXor (mul-zero (b % 2)) (ap (λ (x : ℕ). timesBits n x (b / 2)) xtime-zero ∙ timesBits-zero n (b / 2))
 
-timesBits-xtime : (n a b : ℕ) → a < 256 → timesBits n (xtime a) b ≡ xtime (timesBits n a b)
+pub timesBits-xtime : (n a b : ℕ) → a < 256 → timesBits n (xtime a) b ≡ xtime (timesBits n a b)
 unfolding timesBits
 timesBits-xtime zero a b h = sym xtime-zero
 timesBits-xtime (suc n) a b h =

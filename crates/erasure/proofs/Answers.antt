@@ -1,0 +1,84 @@
+-- What the two public operations answer, refused and accepted, in terms of what the code made: the shelf's table is 1 to S, so the point of
+-- a server is its number. Nothing is assumed.
+use mathlib.Core.Path.{_≡_, refl, sym, ap, ap₂, subst, _∙_}
+use mathlib.Core.Logic.{_≢_}
+use mathlib.Core.Bool.{Bool, true, false, cond}
+use mathlib.Core.List.{List, [], _∷_, _++_, map}
+use Prim.Native.Nat.{ℕ, zero, suc, _+_, _-_, _*_, _/_, _%_, _<_, _≤_}
+use native.Mathlib.Nat.{mod-lt, suc-ne-zero, div-lt-iff-lt-mul, mul-le-mul-right, suc-mul}
+use native.Mathlib.Omega.{arith}
+use borrow.Author.Tests.{lt-ltb, le-ltb}
+use lib.Dec.{ltb}
+use lib.ListN.{length, getD, take, drop, length-map}
+use lib.Seq.{length-take-le, getD-take, getD-drop}
+use Rattle.gf256.specs.Poly.{through}
+use Rattle.gf256.specs.Bytes.{bytes}
+use Rattle.cluster.specs.Config.{Config, shelf, upTo, pointOf}
+use Rattle.cluster.specs.Ranges.{topFaults, topLength}
+use Rattle.cluster.specs.Refusals.{firstOf, onRefusal}
+use Rattle.cluster.specs.declared.Outcome.{Outcome}
+use Rattle.erasure.specs.declared.choice.Chosen.{Chosen}
+use Rattle.erasure.specs.declared.FragmentOutcome.{FragmentOutcome}
+use Rattle.erasure.specs.Fragments.{table, fragmentSize, column, fragment, Part, restored}
+use Rattle.erasure.specs.Choice.{serversAt, firstDifferent, partsAt}
+use Rattle.erasure.specs.Chosen.{Holds}
+use Rattle.erasure.specs.Steps.{zeros, fragmentRoom, fragmentRefusal, fragmentBytes, fragmentStep, argumentChecks, restoreRefusal, restoredBytes, restoreStep}
+use Rattle.erasure.specs.System.{width, AllDifferent}
+use Rattle.erasure.specs.Lanes.{madeOf, rebuiltOf}
+use Rattle.erasure.proofs.Lists.{getD-map, table-is, take-is}
+use Rattle.erasure.proofs.Laws.{size-pos, run-lt}
+use Rattle.erasure.proofs.Placed.{table-ext, length-upTo, getD-upTo}
+use Rattle.erasure.proofs.Choosing.{chosen-different, chosen-lt}
+use Rattle.erasure.proofs.Refused.{first-of-first, first-of-second}
+
+pub refused-is : {A : Type 0} (x : ℕ) (a b : A) → x ≢ 0 → onRefusal x a b ≡ b
+refused-is zero a b h = absurd (h refl)
+refused-is (suc x) a b h = refl
+
+-- ---- the shelf's points
+
+pub point-is : (s i : ℕ) → 1 ≤ i → i ≤ s → pointOf (upTo s) i ≡ i
+unfolding pointOf
+point-is s i lo hi = getD-upTo s (i - 1) (omega arith) ∙ omega arith
+
+pub first-points : (s k : ℕ) → k ≤ s → take k (upTo s) ≡ upTo k
+first-points s k h =
+    take-is k (upTo s) (upTo k) (omega (arith, length-upTo s)) (length-upTo k) (λ i b. getD-upTo s i (omega arith) ∙ sym (getD-upTo k i b))
+
+-- a fragment fits its room
+pub size-fits : (k n : ℕ) → 2 ≤ k → n ≤ topLength → fragmentSize k n ≤ fragmentRoom
+unfolding fragmentSize
+size-fits k n hk hn =
+    let pos : 0 < k = omega arith in
+    let below : n + k - 1 < (fragmentRoom + 1) * k = omega arith in
+    let h : (n + k - 1) / k < fragmentRoom + 1 = div-lt-iff-lt-mul pos .1 below in
+    omega (arith, h)
+
+-- ---- making a fragment
+
+pub make-refused : (t server : ℕ) (content : List ℕ) (x : ℕ) → x ≡ fragmentRefusal t server (length content) → x ≢ 0
+    → fragmentStep t server content ≡ record { number = x; count = 0; bytes = zeros fragmentRoom }
+unfolding fragmentStep
+make-refused t server content x e h =
+    let done : FragmentOutcome = record {
+      number = 0;
+      count = fragmentSize (shelf t .shares) (length content);
+      bytes = fragmentBytes t server content ++ zeros (fragmentRoom - fragmentSize (shelf t .shares) (length content));
+    } in
+    let no : ℕ → FragmentOutcome = λ y. record { number = y; count = 0; bytes = zeros fragmentRoom } in
+    ap (λ (y : ℕ). onRefusal y done (no y)) (sym e) ∙ refused-is x done (no x) h
+
+pub make-accepted : (t server : ℕ) (content : List ℕ) → t ≤ topFaults → 1 ≤ server → server ≤ shelf t .servers → fragmentRefusal t server (length content) ≡ 0
+    → let f = fragmentSize (shelf t .shares) (length content) in
+    fragmentStep t server content ≡ record { number = 0; count = f; bytes = madeOf (shelf t .shares) f content server ++ zeros (fragmentRoom - f) }
+unfolding fragmentStep fragmentBytes fragment madeOf column shelf
+make-accepted t server content ht lo hi e =
+    let k : ℕ = t + 1 in
+    let f : ℕ = fragmentSize k (length content) in
+    let s : ℕ = 3 * t + 1 in
+    let make : List ℕ → FragmentOutcome = λ b. record { number = 0; count = f; bytes = b ++ zeros (fragmentRoom - f) } in
+    let no : ℕ → FragmentOutcome = λ y. record { number = y; count = 0; bytes = zeros fragmentRoom } in
+    ap (λ (y : ℕ). onRefusal y (make (fragmentBytes t server content)) (no y)) e
+    ∙ ap make
+    (table-ext f (λ q. through bytes (take k (upTo s)) (column k content q) (pointOf (upTo s) server)) (λ q. through bytes (upTo k) (column k content q) server)
+    (λ q h. ap₂ (λ (u : List ℕ) (z : ℕ). through bytes u (column k content q) z) (first-points s k (omega arith)) (point-is s server lo hi)))

@@ -1,0 +1,74 @@
+-- The loop goes on only where the server is not found.
+use mathlib.Core.Path.{_≡_, refl, sym, ap, ap₂, subst, _∙_}
+use mathlib.Core.Bool.{Bool, true, false}
+use mathlib.Core.List.{List, map}
+use Prim.Native.Nat.{ℕ, _+_, _-_, _<_, _≤_}
+use native.Mathlib.Numerals.{add-one}
+use native.Mathlib.Omega.{arith}
+use borrow.Author.Count.{below-more}
+use borrow.Author.Needs.{needs}
+use borrow.Author.Tests.{lt-ltb, le-ltb}
+use lib.Dec.{ltb}
+use lib.ListN.{length, getD, set, take}
+use lib.Seq.{getD-take, length-take-le, take-suc-set}
+use Rattle.erasure.specs.System.{width}
+use Rattle.erasure.specs.Choice.{among, more, chosenOf, firstDifferent, serversAt}
+use Rattle.erasure.specs.Chosen.{Holds}
+use Rattle.erasure.specs.declared.choice.Chosen.{Chosen}
+use Rattle.erasure.proofs.Choosing.{among-found, among-none, more-map}
+use Rattle.erasure.proofs.choice.holds.Statement.{statement}
+use Rattle.erasure.proofs.choice.holds.Tie as tie
+use Rattle.erasure.proofs.choice.holds.Reads as reads
+use Rattle.erasure.proofs.choice.holds.Lts as lts
+
+abbrev Inv-loop : tie.InvT-loop
+Inv-loop count s servers j₀ j = (j ≤ count) × ((i : ℕ) → i < j → getD servers i 0 ≡ s → ⊥)
+
+abbrev μ-loop : tie.MeasureT-loop
+μ-loop count s servers j₀ j = count - j
+
+loop-holds : tie.Need-loop-holds Inv-loop μ-loop
+loop-holds c = (search needs, λ i h. absurd (omega arith))
+
+array-read-if1 : tie.Need-array-read-if1 Inv-loop μ-loop
+array-read-if1 c = search needs
+
+returns : tie.Need-returns Inv-loop μ-loop
+returns c =
+    let args = c .before .before .before .args in
+    let j = c .before .before .loop .j in
+    let h : j < args .count = search needs in
+    let l : length (args .t1) ≡ width = search needs in
+    let full : length (take (args .count) (args .t1)) ≡ args .count = length-take-le (args .count) (args .t1) (omega arith) in
+    sym (among-found (args .s) (take (args .count) (args .t1)) j (omega arith) (getD-take (args .count) (args .t1) j 0 h ∙ c .if1 .taken))
+
+add-j : tie.Need-add-j Inv-loop μ-loop
+add-j c = search needs
+
+loop-less : tie.Need-loop-less Inv-loop μ-loop
+loop-less c = search needs
+
+loop-again : tie.Need-loop-again Inv-loop μ-loop
+loop-again c = (search needs, below-more _ _ (c .before .before .loop .inv .1) (c .if1 .left))
+
+returns-2 : tie.Need-returns-2 Inv-loop μ-loop
+returns-2 c =
+    let args = c .before .before .args in
+    let l : length (args .t1) ≡ width = search needs in
+    let full : length (take (args .count) (args .t1)) ≡ args .count = length-take-le (args .count) (args .t1) (omega arith) in
+    sym (among-none (args .s) (take (args .count) (args .t1))
+    (λ i h e. let b : i < args .count = omega arith in c .before .loop .inv .1 i (omega arith) (sym (getD-take (args .count) (args .t1) i 0 b) ∙ e)))
+
+pub holds-spec : {M : Type 1} → statement M
+holds-spec =
+    tie.close
+    (tie.spec
+    Inv-loop
+    μ-loop
+    loop-holds
+    array-read-if1
+    returns
+    add-j
+    loop-less
+    loop-again
+    returns-2)

@@ -1,0 +1,115 @@
+-- Refused: the number alone. Accepted: the arguments are in range, and the sums are the fragment.
+use mathlib.Core.Path.{_≡_, refl, sym, ap, ap₂, subst, _∙_}
+use mathlib.Core.Logic.{_≢_}
+use mathlib.Core.List.{List, [], _∷_, _++_, map}
+use Prim.Native.Nat.{ℕ, zero, suc, _+_, _-_, _*_, _/_, _%_, _^_, _<_, _≤_}
+use native.Mathlib.Numerals.{add-one}
+use native.Mathlib.Omega.{arith}
+use lib.Bits.{bitXor, bitAnd}
+use lib.ListN.{length, getD, set, take, drop, length-set}
+use lib.Seq.{getD-set-same, getD-set-other}
+use mir.Val.{Fits}
+use mir.Syntax.{w8}
+use Rattle.gf256.specs.Gf.{xtime, timesBits, times, power, inverse}
+use Rattle.gf256.proofs.Fill.{fill-more}
+use Rattle.cluster.specs.Config.{Config, shelf}
+use Rattle.erasure.specs.Fragments.{fragmentSize}
+use Rattle.erasure.specs.Steps.{zeros, fragmentRoom, fragmentStep}
+use Rattle.erasure.specs.System.{width}
+use Rattle.erasure.specs.Lanes.{madeOf}
+use Rattle.erasure.specs.declared.FragmentOutcome.{FragmentOutcome}
+use Rattle.erasure.proofs.Answers.{size-fits, make-refused, make-accepted}
+use Rattle.erasure.proofs.Refused.{Makes, makes}
+use borrow.Author.Needs.{needs}
+use Rattle.erasure.proofs.fragment.Statement.{statement}
+use Rattle.erasure.proofs.fragment.Tie as tie
+use Rattle.erasure.proofs.fragment.Reads as reads
+use Rattle.erasure.proofs.fragment.Lts as lts
+use Rattle.erasure.proofs.fragment_refusal.Reads as fragment-refusal-reads
+use Rattle.erasure.proofs.runs.blank.Reads as blank-reads
+use Rattle.erasure.proofs.runs.make.Reads as make-reads
+use Rattle.erasure.proofs.shares_of.Reads as shares-of-reads
+use Rattle.erasure.proofs.size.Reads as size-reads
+
+fragment-refusal-requires : tie.Need-fragment-refusal-requires
+fragment-refusal-requires c κs = search needs
+
+blank-requires : tie.Need-blank-requires
+blank-requires c κs = search needs
+
+returns : tie.Need-returns
+returns c =
+    let args = c .before .before .before .before .args in
+    let r = c .before .before .fragment-refusal in
+    sym (make-refused (args .t) (args .server) (denote.Ref.now (args .content)) (r .result) (r .ensures) (c .before .if1 .taken)
+    ∙ ap (λ (b : List ℕ). record { number = r .result; count = 0; bytes = b }) (sym (c .blank .ensures)))
+
+shares-of-requires : tie.Need-shares-of-requires
+shares-of-requires c κs =
+    let start = c .before .before .before in
+    let args = start .args in
+    let content = denote.Ref.now (args .content) in
+    let e = sym (c .before .fragment-refusal .ensures) ∙ c .if1 .left in
+    let ok : Makes (args .t) (args .server) (length content) = makes (args .t) (args .server) (length content) e in
+    ok .faults .1
+
+size-requires : tie.Need-size-requires
+unfolding shelf
+size-requires c κs =
+    let start = c .before .before .before .before in
+    let args = start .args in
+    let content = denote.Ref.now (args .content) in
+    let e = sym (c .before .before .fragment-refusal .ensures) ∙ c .before .if1 .left in
+    let ok : Makes (args .t) (args .server) (length content) = makes (args .t) (args .server) (length content) e in
+    let k : c .shares-of .result ≡ args .t + 1 = c .shares-of .ensures in
+    (omega (arith, k), omega (arith, k, ok .faults .1), ok .bytes .1)
+
+cast-make : tie.Need-cast-make
+unfolding shelf
+cast-make c =
+    let start = c .before .before .before .before .before in
+    let args = start .args in
+    let content = denote.Ref.now (args .content) in
+    let e = sym (c .before .before .before .fragment-refusal .ensures) ∙ c .before .before .if1 .left in
+    let ok : Makes (args .t) (args .server) (length content) = makes (args .t) (args .server) (length content) e in
+    let s : args .server ≤ 3 * args .t + 1 = ok .number .1 in
+    omega (arith, s, ok .faults .1)
+
+make-requires : tie.Need-make-requires
+unfolding shelf
+make-requires c κs =
+    let start = c .before .before .before .before .before in
+    let args = start .args in
+    let content = denote.Ref.now (args .content) in
+    let e = sym (c .before .before .before .fragment-refusal .ensures) ∙ c .before .before .if1 .left in
+    let ok : Makes (args .t) (args .server) (length content) = makes (args .t) (args .server) (length content) e in
+    let k : c .before .shares-of .result ≡ args .t + 1 = c .before .shares-of .ensures in
+    (omega (arith, k, ok .faults .1), subst (λ (x : ℕ). x ≤ fragmentRoom) (sym (c .size .ensures)) (size-fits (c .before .shares-of .result) (length content) (omega (arith, k, ok .faults .0)) (ok .bytes .1)))
+
+returns-2 : tie.Need-returns-2
+returns-2 c =
+    let start = c .before .before .before .before .before .before in
+    let args = start .args in
+    let content = denote.Ref.now (args .content) in
+    let e = sym (c .before .before .before .before .fragment-refusal .ensures) ∙ c .before .before .before .if1 .left in
+    let ok : Makes (args .t) (args .server) (length content) = makes (args .t) (args .server) (length content) e in
+    let size = c .before .size in
+    let shares = c .before .before .shares-of in
+    let f : size .result ≡ fragmentSize (shelf (args .t) .shares) (length content) = size .ensures ∙ ap (λ (k : ℕ). fragmentSize k (length content)) (shares .ensures) in
+    let outcome : ℕ → ℕ → FragmentOutcome = λ k x. record { number = 0; count = x; bytes = madeOf k x content (args .server) ++ zeros (fragmentRoom - x) } in
+    ap (λ (b : List ℕ). record { number = 0; count = size .result; bytes = b }) (c .make .ensures)
+    ∙ ap₂ outcome (shares .ensures) f
+    ∙ sym (make-accepted (args .t) (args .server) content (ok .faults .1) (ok .number .0) (ok .number .1) e)
+
+pub fragment-spec : {M : Type 1} → statement M
+fragment-spec =
+    tie.close
+    (tie.spec
+    fragment-refusal-requires
+    blank-requires
+    returns
+    shares-of-requires
+    size-requires
+    cast-make
+    make-requires
+    returns-2)

@@ -1,0 +1,84 @@
+-- At each place the mask lets x through, or 0.
+use mathlib.Core.Path.{_≡_, refl, sym, ap, ap₂, subst, _∙_}
+use mathlib.Core.Logic.{_≢_}
+use mathlib.Core.List.{List, [], _∷_, _++_, map}
+use Prim.Native.Nat.{ℕ, zero, suc, _+_, _-_, _*_, _/_, _%_, _^_, _<_, _≤_}
+use native.Mathlib.Numerals.{add-one}
+use native.Mathlib.Omega.{arith}
+use lib.Bits.{bitXor, bitAnd}
+use lib.ListN.{length, getD, set, take, drop, length-set}
+use lib.Seq.{getD-set-same, getD-set-other}
+use mir.Val.{Fits}
+use mir.Syntax.{w8}
+use Rattle.gf256.specs.Gf.{xtime, timesBits, times, power, inverse}
+use Rattle.gf256.proofs.Fill.{fill-more}
+use Rattle.erasure.specs.Lanes.{lane, bitOf, Lane}
+use Rattle.erasure.proofs.Horner.{masked, bit-lt}
+use borrow.Author.Needs.{needs}
+use Rattle.erasure.proofs.lanes.added.Statement.{statement}
+use Rattle.erasure.proofs.lanes.added.Tie as tie
+use Rattle.erasure.proofs.lanes.added.Reads as reads
+use Rattle.erasure.proofs.lanes.added.Lts as lts
+use Rattle.erasure.proofs.lanes.mask.Reads as mask-reads
+
+abbrev Inv-loop : tie.InvT-loop
+Inv-loop w b sum x m out₀ i₀ out i = (i ≤ lane) × (length out ≡ lane) × ((j : ℕ) → j < i → getD out j 0 ≡ bitXor (getD sum j 0) (bitAnd (getD x j 0) m))
+
+abbrev μ-loop : tie.MeasureT-loop
+μ-loop w b sum x m out₀ i₀ out i = lane - i
+
+mask-requires : tie.Need-mask-requires Inv-loop μ-loop
+mask-requires c κs = search needs
+
+loop-holds : tie.Need-loop-holds Inv-loop μ-loop
+loop-holds c = (search needs, refl, λ j h. absurd (omega arith))
+
+array-read-out : tie.Need-array-read-out Inv-loop μ-loop
+array-read-out c = search needs
+
+array-read-out-2 : tie.Need-array-read-out-2 Inv-loop μ-loop
+array-read-out-2 c = search needs
+
+array-write-out : tie.Need-array-write-out Inv-loop μ-loop
+array-write-out c = search needs
+
+add-i : tie.Need-add-i Inv-loop μ-loop
+add-i c = search needs
+
+loop-less : tie.Need-loop-less Inv-loop μ-loop
+loop-less c = search needs
+
+loop-again : tie.Need-loop-again Inv-loop μ-loop
+loop-again c =
+    let at = c .before .loop in
+    let args = c .before .before .before .args in
+    let m = c .before .before .mask .result in
+    let v = bitXor (getD (args .t1) (at .i) 0) (bitAnd (getD (args .t2) (at .i) 0) m) in (
+      search needs,
+      length-set (at .out) (at .i) v ∙ at .inv .1,
+      fill-more 0 (λ j v. v ≡ bitXor (getD (args .t1) j 0) (bitAnd (getD (args .t2) j 0) m)) (at .out) (at .i) v (omega arith) (at .inv .2) refl,
+    )
+
+returns : tie.Need-returns Inv-loop μ-loop
+returns c i h =
+    let args = c .before .before .before .args in
+    let x = getD (args .t2) i 0 in
+    let f : Fits w8 x = search needs in
+    c .before .loop .inv .2 i (omega arith)
+    ∙ ap (bitXor (getD (args .t1) i 0)) (ap (bitAnd x) (c .before .before .mask .ensures) ∙ masked (bitOf (args .w) (args .b)) x (bit-lt (args .w) (args .b)) (f .fits))
+
+pub added-spec : {M : Type 1} → statement M
+added-spec =
+    tie.close
+    (tie.spec
+    Inv-loop
+    μ-loop
+    mask-requires
+    loop-holds
+    array-read-out
+    array-read-out-2
+    array-write-out
+    add-i
+    loop-less
+    loop-again
+    returns)

@@ -1,0 +1,94 @@
+-- The doubled sum, and one run after the other where its weight has the bit.
+use mathlib.Core.Path.{_≡_, refl, sym, ap, ap₂, subst, _∙_}
+use mathlib.Core.Logic.{_≢_}
+use mathlib.Core.List.{List, [], _∷_, _++_, map}
+use Prim.Native.Nat.{ℕ, zero, suc, _+_, _-_, _*_, _/_, _%_, _^_, _<_, _≤_}
+use native.Mathlib.Numerals.{add-one}
+use native.Mathlib.Omega.{arith}
+use lib.Bits.{bitXor, bitAnd}
+use lib.ListN.{length, getD, set, take, drop, length-set}
+use lib.Seq.{getD-set-same, getD-set-other}
+use mir.Val.{Fits}
+use mir.Syntax.{w8}
+use Rattle.gf256.specs.Gf.{xtime, timesBits, times, power, inverse}
+use Rattle.gf256.proofs.Fill.{fill-more}
+use Rattle.erasure.specs.System.{width, entry, sumTo}
+use Rattle.erasure.specs.Lanes.{lane, bitOf, Lane}
+use lib.Bits.{xor-zero-r}
+use Rattle.gf256.proofs.Xor.{xor-assoc}
+use Rattle.erasure.proofs.Sums.{sumTo-none, sumTo-more}
+use borrow.Author.Needs.{needs}
+use Rattle.erasure.proofs.lanes.bit_step.Statement.{statement}
+use Rattle.erasure.proofs.lanes.bit_step.Tie as tie
+use Rattle.erasure.proofs.lanes.bit_step.Reads as reads
+use Rattle.erasure.proofs.lanes.bit_step.Lts as lts
+use Rattle.erasure.proofs.lanes.added.Reads as added-reads
+use Rattle.erasure.proofs.lanes.doubled.Reads as doubled-reads
+
+abbrev Inv-loop : tie.InvT-loop
+Inv-loop b k lanes weights out₀ j₀ out j = (j ≤ k) × Lane out (λ i. bitXor (getD out₀ i 0) (sumTo j (λ m. bitOf (getD weights m 0) b * entry lanes m i)))
+
+abbrev μ-loop : tie.MeasureT-loop
+μ-loop b k lanes weights out₀ j₀ out j = k - j
+
+doubled-requires : tie.Need-doubled-requires Inv-loop μ-loop
+doubled-requires c κs = search needs
+
+loop-holds : tie.Need-loop-holds Inv-loop μ-loop
+loop-holds c = (search needs, λ i h. sym (ap (bitXor (getD (c .doubled .result) i 0)) (sumTo-none _) ∙ xor-zero-r (getD (c .doubled .result) i 0)))
+
+mul-added : tie.Need-mul-added Inv-loop μ-loop
+mul-added c = search needs
+
+array-copy-out-added : tie.Need-array-copy-out-added Inv-loop μ-loop
+array-copy-out-added c = search needs
+
+array-read-added : tie.Need-array-read-added Inv-loop μ-loop
+array-read-added c = search needs
+
+added-requires : tie.Need-added-requires Inv-loop μ-loop
+added-requires c κs = search needs
+
+add-j : tie.Need-add-j Inv-loop μ-loop
+add-j c = search needs
+
+loop-less : tie.Need-loop-less Inv-loop μ-loop
+loop-less c = search needs
+
+loop-again : tie.Need-loop-again Inv-loop μ-loop
+loop-again c =
+    let l = c .before .before .before .loop in
+    let args = c .before .before .before .before .before .args in
+    let begun = c .before .before .before .before .doubled .result in
+    let term : ℕ → ℕ → ℕ = λ i m. bitOf (getD (args .t3) m 0) (args .b) * entry (args .t2) m i in (
+      search needs,
+      λ i h.
+          c .added .ensures i h
+          ∙ ap (λ (x : ℕ). bitXor x (term i (l .j))) (l .inv .1 i h)
+          ∙ xor-assoc (getD begun i 0) (sumTo (l .j) (term i)) (term i (l .j))
+          ∙ ap (bitXor (getD begun i 0)) (sumTo-more (l .j) (term i) (sumTo (l .j) (term i)) (term i (l .j)) refl refl),
+    )
+
+returns : tie.Need-returns Inv-loop μ-loop
+returns c i h =
+    let l = c .before .loop in
+    let args = c .before .before .before .args in
+    let term : ℕ → ℕ = λ m. bitOf (getD (args .t3) m 0) (args .b) * entry (args .t2) m i in
+    l .inv .1 i h ∙ ap₂ (λ (x n : ℕ). bitXor x (sumTo n term)) (c .before .before .doubled .ensures i h) (omega arith)
+
+pub bit-step-spec : {M : Type 1} → statement M
+bit-step-spec =
+    tie.close
+    (tie.spec
+    Inv-loop
+    μ-loop
+    doubled-requires
+    loop-holds
+    mul-added
+    array-copy-out-added
+    array-read-added
+    added-requires
+    add-j
+    loop-less
+    loop-again
+    returns)

@@ -1,0 +1,124 @@
+-- Lane after lane is written behind the last, and each place holds its sum.
+use mathlib.Core.Path.{_≡_, refl, sym, ap, ap₂, subst, _∙_}
+use mathlib.Core.Logic.{_≢_}
+use mathlib.Core.List.{List, [], _∷_, _++_, map}
+use Prim.Native.Nat.{ℕ, zero, suc, _+_, _-_, _*_, _/_, _%_, _^_, _<_, _≤_}
+use native.Mathlib.Numerals.{add-one}
+use native.Mathlib.Omega.{arith}
+use lib.Bits.{bitXor, bitAnd}
+use lib.ListN.{length, getD, set, take, drop, length-set}
+use lib.Seq.{getD-set-same, getD-set-other}
+use mir.Val.{Fits}
+use mir.Syntax.{w8}
+use Rattle.gf256.specs.Gf.{xtime, timesBits, times, power, inverse}
+use Rattle.gf256.proofs.Fill.{fill-more}
+use Rattle.erasure.specs.System.{width, entry, sumTo}
+use Rattle.erasure.specs.Lanes.{lane, Lane, sumAt, Written}
+use Rattle.erasure.proofs.Lists.{written-none, written-on, written-as}
+use Rattle.erasure.proofs.Sums.{sumTo-ext}
+use borrow.Author.Needs.{needs}
+use Rattle.erasure.proofs.lanes.combine.Statement.{statement}
+use Rattle.erasure.proofs.lanes.combine.Tie as tie
+use Rattle.erasure.proofs.lanes.combine.Reads as reads
+use Rattle.erasure.proofs.lanes.combine.Lts as lts
+use Rattle.erasure.proofs.lanes.at_most_lane.Reads as at-most-lane-reads
+use Rattle.erasure.proofs.lanes.gather.Reads as gather-reads
+use Rattle.erasure.proofs.lanes.lane_sum.Reads as lane-sum-reads
+use Rattle.erasure.proofs.lanes.store.Reads as store-reads
+
+abbrev Inv-loop : tie.InvT-loop
+Inv-loop weights src starts k out₀ at m q₀ out q = (q ≤ m) × Written out₀ out at q (sumAt k weights src starts)
+
+abbrev μ-loop : tie.MeasureT-loop
+μ-loop weights src starts k out₀ at m q₀ out q = m - q
+
+loop-holds : tie.Need-loop-holds Inv-loop μ-loop
+loop-holds c = (search needs, written-none _ _ _)
+
+sub-at-most-lane : tie.Need-sub-at-most-lane Inv-loop μ-loop
+sub-at-most-lane c = search needs
+
+at-most-lane-requires : tie.Need-at-most-lane-requires Inv-loop μ-loop
+at-most-lane-requires c κs = search needs
+
+gather-requires : tie.Need-gather-requires Inv-loop μ-loop
+gather-requires c κs =
+    let start = c .before .before .before .before .before in
+    (search needs, λ j h. omega (arith, start .pre .1 j h))
+
+lane-sum-requires : tie.Need-lane-sum-requires Inv-loop μ-loop
+lane-sum-requires c κs = search needs
+
+add-store : tie.Need-add-store Inv-loop μ-loop
+add-store c =
+    let start = c .before .before .before .before .before .before .before .before in
+    let l = c .before .before .before .before .before .loop in
+    omega (arith, l .inv .1 .long, start .pre .2)
+
+store-requires : tie.Need-store-requires Inv-loop μ-loop
+store-requires c κs =
+    let start = c .before .before .before .before .before .before .before .before in
+    let l = c .before .before .before .before .before .loop in
+    let n = c .before .before .before .at-most-lane in
+    (n .ensures .1, omega (arith, l .inv .1 .long, start .pre .2, n .ensures .0))
+
+add-q : tie.Need-add-q Inv-loop μ-loop
+add-q c =
+    let start = c .before .before .before .before .before .before .before .before .before .before .before in
+    let l = c .before .before .before .before .before .before .before .before .loop in
+    let n = c .before .before .before .before .before .before .at-most-lane in
+    omega (arith, n .ensures .0)
+
+loop-less : tie.Need-loop-less Inv-loop μ-loop
+loop-less c =
+    let n = c .before .before .before .before .before .before .at-most-lane in
+    let h : 0 < n .result = n .ensures .2 (omega arith) in
+    omega (arith, n .ensures .0, h)
+
+loop-again : tie.Need-loop-again Inv-loop μ-loop
+unfolding sumAt
+loop-again c =
+    let args = c .before .before .before .before .before .before .before .before .before .before .before .args in
+    let l = c .before .before .before .before .before .before .before .before .loop in
+    let n = c .before .before .before .before .before .before .at-most-lane in
+    let lanes = c .before .before .before .before .before .gather in
+    let sum = c .before .before .before .before .lane-sum in
+    let src = denote.Ref.now (args .src) in
+    let old = denote.Ref.now (args .out) in
+    let g : ℕ → ℕ = sumAt (args .k) (args .weights) src (args .starts) in
+    let piece = written-as (l .out) _ (args .at + l .q) (n .result) (λ i. getD (sum .result) i 0) (λ i. g (l .q + i))
+    (λ i h.
+    let b : i < lane = omega (arith, n .ensures .1) in
+    sum .ensures i b
+    ∙ sumTo-ext (args .k) (λ j. times (entry (lanes .result) j i) (getD (args .weights) j 0)) (λ j. times (getD src (getD (args .starts) j 0 + (l .q + i)) 0) (getD (args .weights) j 0))
+    (λ j hj. ap (λ (x : ℕ). times x (getD (args .weights) j 0)) (lanes .ensures j hj i b)))
+    (c .before .before .store .ensures) in
+    (omega (arith, n .ensures .0), written-on old (l .out) _ (args .at) (l .q) (n .result) g (l .inv .1) piece)
+
+same-length : tie.Need-same-length Inv-loop μ-loop
+same-length c = c .before .loop .inv .1 .long
+
+returns : tie.Need-returns Inv-loop μ-loop
+returns c =
+    let l = c .before .loop in
+    let args = c .before .before .before .before .args in
+    subst (λ (n : ℕ). Written (denote.Ref.now (args .out)) (l .out) (args .at) n (sumAt (args .k) (args .weights) (denote.Ref.now (args .src)) (args .starts))) (omega arith) (l .inv .1)
+
+pub combine-spec : {M : Type 1} → statement M
+combine-spec =
+    tie.close
+    (tie.spec
+    Inv-loop
+    μ-loop
+    loop-holds
+    sub-at-most-lane
+    at-most-lane-requires
+    gather-requires
+    lane-sum-requires
+    add-store
+    store-requires
+    add-q
+    loop-less
+    loop-again
+    same-length
+    returns)

@@ -1,0 +1,72 @@
+-- Each place is doubled.
+use mathlib.Core.Path.{_≡_, refl, sym, ap, ap₂, subst, _∙_}
+use mathlib.Core.Logic.{_≢_}
+use mathlib.Core.List.{List, [], _∷_, _++_, map}
+use Prim.Native.Nat.{ℕ, zero, suc, _+_, _-_, _*_, _/_, _%_, _^_, _<_, _≤_}
+use native.Mathlib.Numerals.{add-one}
+use native.Mathlib.Omega.{arith}
+use lib.Bits.{bitXor, bitAnd}
+use lib.ListN.{length, getD, set, take, drop, length-set}
+use lib.Seq.{getD-set-same, getD-set-other}
+use mir.Val.{Fits}
+use mir.Syntax.{w8}
+use Rattle.gf256.specs.Gf.{xtime, timesBits, times, power, inverse}
+use Rattle.gf256.proofs.Fill.{fill-more}
+use Rattle.erasure.specs.Lanes.{lane, bitOf, Lane}
+use borrow.Author.Needs.{needs}
+use Rattle.erasure.proofs.lanes.doubled.Statement.{statement}
+use Rattle.erasure.proofs.lanes.doubled.Tie as tie
+use Rattle.erasure.proofs.lanes.doubled.Reads as reads
+use Rattle.erasure.proofs.lanes.doubled.Lts as lts
+use Rattle.erasure.proofs.lanes.double.Reads as double-reads
+
+abbrev Inv-loop : tie.InvT-loop
+Inv-loop x out₀ i₀ out i = (i ≤ lane) × (length out ≡ lane) × ((j : ℕ) → j < i → getD out j 0 ≡ xtime (getD x j 0))
+
+abbrev μ-loop : tie.MeasureT-loop
+μ-loop x out₀ i₀ out i = lane - i
+
+loop-holds : tie.Need-loop-holds Inv-loop μ-loop
+loop-holds c = (search needs, refl, λ j h. absurd (omega arith))
+
+array-read-double : tie.Need-array-read-double Inv-loop μ-loop
+array-read-double c = search needs
+
+double-requires : tie.Need-double-requires Inv-loop μ-loop
+double-requires c κs = search needs
+
+array-write-out : tie.Need-array-write-out Inv-loop μ-loop
+array-write-out c = search needs
+
+add-i : tie.Need-add-i Inv-loop μ-loop
+add-i c = search needs
+
+loop-less : tie.Need-loop-less Inv-loop μ-loop
+loop-less c = search needs
+
+loop-again : tie.Need-loop-again Inv-loop μ-loop
+loop-again c =
+    let at = c .before .before .loop in
+    let x = c .before .before .before .args .t1 in (
+      search needs,
+      length-set (at .out) (at .i) (c .double .result) ∙ at .inv .1,
+      fill-more 0 (λ j v. v ≡ xtime (getD x j 0)) (at .out) (at .i) (c .double .result) (omega arith) (at .inv .2) (c .double .ensures),
+    )
+
+returns : tie.Need-returns Inv-loop μ-loop
+returns c i h = c .before .loop .inv .2 i (omega arith)
+
+pub doubled-spec : {M : Type 1} → statement M
+doubled-spec =
+    tie.close
+    (tie.spec
+    Inv-loop
+    μ-loop
+    loop-holds
+    array-read-double
+    double-requires
+    array-write-out
+    add-i
+    loop-less
+    loop-again
+    returns)

@@ -1,0 +1,91 @@
+-- After n turns the sum is that of the highest n bits of each weight.
+use mathlib.Core.Path.{_≡_, refl, sym, ap, ap₂, subst, _∙_}
+use mathlib.Core.Logic.{_≢_}
+use mathlib.Core.List.{List, [], _∷_, _++_, map}
+use Prim.Native.Nat.{ℕ, zero, suc, _+_, _-_, _*_, _/_, _%_, _^_, _<_, _≤_}
+use native.Mathlib.Numerals.{add-one}
+use native.Mathlib.Omega.{arith}
+use lib.Bits.{bitXor, bitAnd}
+use lib.ListN.{length, getD, set, take, drop, length-set}
+use lib.Seq.{getD-set-same, getD-set-other}
+use mir.Val.{Fits}
+use mir.Syntax.{w8}
+use Rattle.gf256.specs.Gf.{xtime, timesBits, times, power, inverse}
+use Rattle.gf256.proofs.Fill.{fill-more}
+use Rattle.erasure.specs.System.{width, entry, sumTo}
+use Rattle.erasure.specs.Lanes.{lane, bitOf, Lane}
+use native.Mathlib.Nat.{div-one}
+use lib.ListN.{getD-replicate}
+use Rattle.erasure.proofs.Entries.{entry-byte}
+use Rattle.erasure.proofs.Sums.{sumTo-ext}
+use Rattle.erasure.proofs.Horner.{sum-bit, sum-none}
+use borrow.Author.Needs.{needs}
+use Rattle.erasure.proofs.lanes.lane_sum.Statement.{statement}
+use Rattle.erasure.proofs.lanes.lane_sum.Tie as tie
+use Rattle.erasure.proofs.lanes.lane_sum.Reads as reads
+use Rattle.erasure.proofs.lanes.lane_sum.Lts as lts
+use Rattle.erasure.proofs.lanes.bit_step.Reads as bit-step-reads
+
+abbrev Inv-loop : tie.InvT-loop
+Inv-loop lanes weights k out₀ n₀ out n = (n ≤ 8) × Lane out (λ i. sumTo k (λ j. timesBits n (entry lanes j i) (getD weights j 0 / 2 ^ (8 - n))))
+
+abbrev μ-loop : tie.MeasureT-loop
+μ-loop lanes weights k out₀ n₀ out n = 8 - n
+
+loop-holds : tie.Need-loop-holds Inv-loop μ-loop
+loop-holds c = (search needs, λ i h. getD-replicate lane i 0 0 h ∙ sym (sum-none (c .args .k) (λ j. entry (c .args .lanes) j i) _))
+
+sub-bit-step : tie.Need-sub-bit-step Inv-loop μ-loop
+sub-bit-step c = search needs
+
+bit-step-requires : tie.Need-bit-step-requires Inv-loop μ-loop
+bit-step-requires c κs = search needs
+
+add-n : tie.Need-add-n Inv-loop μ-loop
+add-n c = search needs
+
+loop-less : tie.Need-loop-less Inv-loop μ-loop
+loop-less c = search needs
+
+loop-again : tie.Need-loop-again Inv-loop μ-loop
+loop-again c =
+    let l = c .before .before .loop in
+    let args = c .before .before .before .args in
+    let b : ℕ = 7 - l .n in
+    let up : b + 1 ≡ 8 - l .n = omega arith in
+    let down : b ≡ 8 - (l .n + 1) = omega arith in
+    let w : ℕ → ℕ = λ j. getD (args .weights) j 0 in (
+      search needs,
+      λ i h.
+          let x : ℕ → ℕ = λ j. entry (args .lanes) j i in
+          let small : (j : ℕ) → j < args .k → x j < 256 = λ j lt. entry-byte lane (args .lanes) (c .before .before .before .good .0 .0) j i (c .before .before .before .good .0 .1 .1) in
+          c .bit-step .ensures i h
+          ∙ ap (λ (s : ℕ). bitXor (xtime s) (sumTo (args .k) (λ j. bitOf (w j) b * x j)))
+          (l .inv .1 i h ∙ ap (λ (m : ℕ). sumTo (args .k) (λ j. timesBits (l .n) (x j) (w j / 2 ^ m))) (sym up))
+          ∙ sum-bit (args .k) (l .n) b x w small
+          ∙ ap (λ (m : ℕ). sumTo (args .k) (λ j. timesBits (l .n + 1) (x j) (w j / 2 ^ m))) down,
+    )
+
+returns : tie.Need-returns Inv-loop μ-loop
+unfolding times
+returns c i h =
+    let l = c .before .loop in
+    let args = c .before .before .args in
+    let e : l .n ≡ 8 = omega arith in
+    subst (λ (n : ℕ). getD (l .out) i 0 ≡ sumTo (args .k) (λ j. timesBits n (entry (args .lanes) j i) (getD (args .weights) j 0 / 2 ^ (8 - n)))) e (l .inv .1 i h)
+    ∙ sumTo-ext (args .k) (λ j. timesBits 8 (entry (args .lanes) j i) (getD (args .weights) j 0 / 1)) (λ j. times (entry (args .lanes) j i) (getD (args .weights) j 0))
+    (λ j b. ap (timesBits 8 (entry (args .lanes) j i)) (div-one (getD (args .weights) j 0)))
+
+pub lane-sum-spec : {M : Type 1} → statement M
+lane-sum-spec =
+    tie.close
+    (tie.spec
+    Inv-loop
+    μ-loop
+    loop-holds
+    sub-bit-step
+    bit-step-requires
+    add-n
+    loop-less
+    loop-again
+    returns)

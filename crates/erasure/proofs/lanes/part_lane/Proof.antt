@@ -1,0 +1,73 @@
+-- Each place is read.
+use mathlib.Core.Path.{_≡_, refl, sym, ap, ap₂, subst, _∙_}
+use mathlib.Core.Logic.{_≢_}
+use mathlib.Core.List.{List, [], _∷_, _++_, map}
+use Prim.Native.Nat.{ℕ, zero, suc, _+_, _-_, _*_, _/_, _%_, _^_, _<_, _≤_}
+use native.Mathlib.Numerals.{add-one}
+use native.Mathlib.Omega.{arith}
+use lib.Bits.{bitXor, bitAnd}
+use lib.ListN.{length, getD, set, take, drop, length-set}
+use lib.Seq.{getD-set-same, getD-set-other}
+use mir.Val.{Fits}
+use mir.Syntax.{w8}
+use Rattle.gf256.specs.Gf.{xtime, timesBits, times, power, inverse}
+use Rattle.gf256.proofs.Fill.{fill-more}
+use Rattle.erasure.specs.Lanes.{lane, bitOf, Lane}
+use borrow.Author.Needs.{needs}
+use Rattle.erasure.proofs.lanes.part_lane.Statement.{statement}
+use Rattle.erasure.proofs.lanes.part_lane.Tie as tie
+use Rattle.erasure.proofs.lanes.part_lane.Reads as reads
+use Rattle.erasure.proofs.lanes.part_lane.Lts as lts
+use Rattle.erasure.proofs.lanes.byte_at.Reads as byte-at-reads
+
+abbrev Inv-loop : tie.InvT-loop
+Inv-loop src at out₀ i₀ out i = (i ≤ lane) × (length out ≡ lane) × ((j : ℕ) → j < i → getD out j 0 ≡ getD src (at + j) 0)
+
+abbrev μ-loop : tie.MeasureT-loop
+μ-loop src at out₀ i₀ out i = lane - i
+
+loop-holds : tie.Need-loop-holds Inv-loop μ-loop
+loop-holds c = (search needs, refl, λ j h. absurd (omega arith))
+
+add-byte-at : tie.Need-add-byte-at Inv-loop μ-loop
+add-byte-at c = search needs
+
+byte-at-requires : tie.Need-byte-at-requires Inv-loop μ-loop
+byte-at-requires c κs = search needs
+
+array-write-out : tie.Need-array-write-out Inv-loop μ-loop
+array-write-out c = search needs
+
+add-i : tie.Need-add-i Inv-loop μ-loop
+add-i c = search needs
+
+loop-less : tie.Need-loop-less Inv-loop μ-loop
+loop-less c = search needs
+
+loop-again : tie.Need-loop-again Inv-loop μ-loop
+loop-again c =
+    let l = c .before .before .loop in
+    let args = c .before .before .before .before .args in
+    let src = denote.Ref.now (args .src) in (
+      search needs,
+      length-set (l .out) (l .i) (c .byte-at .result) ∙ l .inv .1,
+      fill-more 0 (λ j v. v ≡ getD src (args .at + j) 0) (l .out) (l .i) (c .byte-at .result) (omega arith) (l .inv .2) (c .byte-at .ensures),
+    )
+
+returns : tie.Need-returns Inv-loop μ-loop
+returns c i h = c .before .loop .inv .2 i (omega arith)
+
+pub part-lane-spec : {M : Type 1} → statement M
+part-lane-spec =
+    tie.close
+    (tie.spec
+    Inv-loop
+    μ-loop
+    loop-holds
+    add-byte-at
+    byte-at-requires
+    array-write-out
+    add-i
+    loop-less
+    loop-again
+    returns)

@@ -1,0 +1,77 @@
+-- What is written so far is written, and the rest is kept.
+use mathlib.Core.Path.{_≡_, refl, sym, ap, ap₂, subst, _∙_}
+use mathlib.Core.Logic.{_≢_}
+use mathlib.Core.List.{List, [], _∷_, _++_, map}
+use Prim.Native.Nat.{ℕ, zero, suc, _+_, _-_, _*_, _/_, _%_, _^_, _<_, _≤_}
+use native.Mathlib.Numerals.{add-one}
+use native.Mathlib.Omega.{arith}
+use lib.Bits.{bitXor, bitAnd}
+use lib.ListN.{length, getD, set, take, drop, length-set}
+use lib.Seq.{getD-set-same, getD-set-other}
+use mir.Val.{Fits}
+use mir.Syntax.{w8}
+use Rattle.gf256.specs.Gf.{xtime, timesBits, times, power, inverse}
+use Rattle.gf256.proofs.Fill.{fill-more}
+use Rattle.erasure.specs.Lanes.{lane, bitOf, Lane}
+use Rattle.erasure.specs.Lanes.{Written}
+use Rattle.erasure.proofs.Lists.{written-none, written-more}
+use borrow.Author.Needs.{needs}
+use Rattle.erasure.proofs.lanes.store.Statement.{statement}
+use Rattle.erasure.proofs.lanes.store.Tie as tie
+use Rattle.erasure.proofs.lanes.store.Reads as reads
+use Rattle.erasure.proofs.lanes.store.Lts as lts
+
+abbrev Inv-loop : tie.InvT-loop
+Inv-loop out₀ at m x i₀ out i = (i ≤ m) × Written out₀ out at i (λ j. getD x j 0)
+
+abbrev μ-loop : tie.MeasureT-loop
+μ-loop out₀ at m x i₀ out i = m - i
+
+loop-holds : tie.Need-loop-holds Inv-loop μ-loop
+loop-holds c = (search needs, written-none _ _ _)
+
+array-read-out : tie.Need-array-read-out Inv-loop μ-loop
+array-read-out c = search needs
+
+add-out : tie.Need-add-out Inv-loop μ-loop
+add-out c = search needs
+
+slice-write-out : tie.Need-slice-write-out Inv-loop μ-loop
+slice-write-out c = search needs
+
+add-i : tie.Need-add-i Inv-loop μ-loop
+add-i c = search needs
+
+loop-less : tie.Need-loop-less Inv-loop μ-loop
+loop-less c = search needs
+
+loop-again : tie.Need-loop-again Inv-loop μ-loop
+loop-again c =
+    let l = c .before .loop in
+    let args = c .before .before .args in
+    (search needs, written-more (denote.Ref.now (args .out)) (l .out) (args .at) (l .i) (λ j. getD (args .t4) j 0) (getD (args .t4) (l .i) 0) (omega (arith, l .inv .1 .long)) refl (l .inv .1))
+
+same-length : tie.Need-same-length Inv-loop μ-loop
+same-length c = search needs
+
+returns : tie.Need-returns Inv-loop μ-loop
+returns c =
+    let l = c .before .loop in
+    let args = c .before .before .args in
+    subst (λ (n : ℕ). Written (denote.Ref.now (args .out)) (l .out) (args .at) n (λ j. getD (args .t4) j 0)) (omega arith) (l .inv .1)
+
+pub store-spec : {M : Type 1} → statement M
+store-spec =
+    tie.close
+    (tie.spec
+    Inv-loop
+    μ-loop
+    loop-holds
+    array-read-out
+    add-out
+    slice-write-out
+    add-i
+    loop-less
+    loop-again
+    same-length
+    returns)

@@ -1,0 +1,72 @@
+-- Each place is copied.
+use mathlib.Core.Path.{_≡_, refl, sym, ap, ap₂, subst, _∙_}
+use mathlib.Core.Logic.{_≢_}
+use mathlib.Core.List.{List, [], _∷_, _++_, map}
+use Prim.Native.Nat.{ℕ, zero, suc, _+_, _-_, _*_, _/_, _%_, _^_, _<_, _≤_}
+use native.Mathlib.Numerals.{add-one}
+use native.Mathlib.Omega.{arith}
+use lib.Bits.{bitXor, bitAnd}
+use lib.ListN.{length, getD, set, take, drop, length-set}
+use lib.Seq.{getD-set-same, getD-set-other}
+use mir.Val.{Fits}
+use mir.Syntax.{w8}
+use Rattle.gf256.specs.Gf.{xtime, timesBits, times, power, inverse}
+use Rattle.gf256.proofs.Fill.{fill-more}
+use Rattle.erasure.specs.Lanes.{lane, bitOf, Lane}
+use borrow.Author.Needs.{needs}
+use Rattle.erasure.proofs.lanes.whole_lane.Statement.{statement}
+use Rattle.erasure.proofs.lanes.whole_lane.Tie as tie
+use Rattle.erasure.proofs.lanes.whole_lane.Reads as reads
+use Rattle.erasure.proofs.lanes.whole_lane.Lts as lts
+
+abbrev Inv-loop : tie.InvT-loop
+Inv-loop src at out₀ i₀ out i = (i ≤ lane) × (length out ≡ lane) × ((j : ℕ) → j < i → getD out j 0 ≡ getD src (at + j) 0)
+
+abbrev μ-loop : tie.MeasureT-loop
+μ-loop src at out₀ i₀ out i = lane - i
+
+loop-holds : tie.Need-loop-holds Inv-loop μ-loop
+loop-holds c = (search needs, refl, λ j h. absurd (omega arith))
+
+add-out : tie.Need-add-out Inv-loop μ-loop
+add-out c = search needs
+
+shared-slice-read-out : tie.Need-shared-slice-read-out Inv-loop μ-loop
+shared-slice-read-out c = search needs
+
+array-write-out : tie.Need-array-write-out Inv-loop μ-loop
+array-write-out c = search needs
+
+add-i : tie.Need-add-i Inv-loop μ-loop
+add-i c = search needs
+
+loop-less : tie.Need-loop-less Inv-loop μ-loop
+loop-less c = search needs
+
+loop-again : tie.Need-loop-again Inv-loop μ-loop
+loop-again c =
+    let l = c .before .before .loop in
+    let args = c .before .before .before .args in
+    let src = denote.Ref.now (args .src) in (
+      search needs,
+      length-set (l .out) (l .i) (getD src (args .at + l .i) 0) ∙ l .inv .1,
+      fill-more 0 (λ j v. v ≡ getD src (args .at + j) 0) (l .out) (l .i) (getD src (args .at + l .i) 0) (omega arith) (l .inv .2) refl,
+    )
+
+returns : tie.Need-returns Inv-loop μ-loop
+returns c i h = c .before .loop .inv .2 i (omega arith)
+
+pub whole-lane-spec : {M : Type 1} → statement M
+whole-lane-spec =
+    tie.close
+    (tie.spec
+    Inv-loop
+    μ-loop
+    loop-holds
+    add-out
+    shared-slice-read-out
+    array-write-out
+    add-i
+    loop-less
+    loop-again
+    returns)

@@ -1,0 +1,66 @@
+-- Each entry is its place.
+use mathlib.Core.Path.{_≡_, refl, sym, ap, ap₂, subst, _∙_}
+use mathlib.Core.Logic.{_≢_}
+use mathlib.Core.List.{List, [], _∷_, _++_, map}
+use Prim.Native.Nat.{ℕ, zero, suc, _+_, _-_, _*_, _/_, _%_, _^_, _<_, _≤_}
+use native.Mathlib.Numerals.{add-one}
+use native.Mathlib.Omega.{arith}
+use lib.Bits.{bitXor, bitAnd}
+use lib.ListN.{length, getD, set, take, drop, length-set}
+use lib.Seq.{getD-set-same, getD-set-other}
+use mir.Val.{Fits}
+use mir.Syntax.{w8}
+use Rattle.gf256.specs.Gf.{xtime, timesBits, times, power, inverse}
+use Rattle.gf256.proofs.Fill.{fill-more}
+use Rattle.erasure.specs.System.{width}
+use borrow.Author.Needs.{needs}
+use Rattle.erasure.proofs.runs.plain_places.Statement.{statement}
+use Rattle.erasure.proofs.runs.plain_places.Tie as tie
+use Rattle.erasure.proofs.runs.plain_places.Reads as reads
+use Rattle.erasure.proofs.runs.plain_places.Lts as lts
+
+abbrev Inv-loop : tie.InvT-loop
+Inv-loop out₀ j₀ out j = (j ≤ width) × (length out ≡ width) × ((i : ℕ) → i < j → getD out i 0 ≡ i)
+
+abbrev μ-loop : tie.MeasureT-loop
+μ-loop out₀ j₀ out j = width - j
+
+loop-holds : tie.Need-loop-holds Inv-loop μ-loop
+loop-holds c = (search needs, refl, λ i h. absurd (omega arith))
+
+mul-out : tie.Need-mul-out Inv-loop μ-loop
+mul-out c = search needs
+
+array-write-out : tie.Need-array-write-out Inv-loop μ-loop
+array-write-out c = search needs
+
+add-j : tie.Need-add-j Inv-loop μ-loop
+add-j c = search needs
+
+loop-less : tie.Need-loop-less Inv-loop μ-loop
+loop-less c = search needs
+
+loop-again : tie.Need-loop-again Inv-loop μ-loop
+loop-again c =
+    let l = c .before .loop in (
+      search needs,
+      length-set (l .out) (l .j) (l .j) ∙ l .inv .1,
+      fill-more 0 (λ i v. v ≡ i) (l .out) (l .j) (l .j) (omega arith) (l .inv .2) refl,
+    )
+
+returns : tie.Need-returns Inv-loop μ-loop
+returns c j h = c .before .loop .inv .2 j (omega arith)
+
+pub plain-places-spec : {M : Type 1} → statement M
+plain-places-spec =
+    tie.close
+    (tie.spec
+    Inv-loop
+    μ-loop
+    loop-holds
+    mul-out
+    array-write-out
+    add-j
+    loop-less
+    loop-again
+    returns)

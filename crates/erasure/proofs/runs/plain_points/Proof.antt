@@ -1,0 +1,58 @@
+-- Each entry is one more than its place.
+use mathlib.Core.Path.{_≡_, refl, sym, ap, ap₂, subst, _∙_}
+use mathlib.Core.Logic.{_≢_}
+use mathlib.Core.List.{List, [], _∷_, _++_, map}
+use Prim.Native.Nat.{ℕ, zero, suc, _+_, _-_, _*_, _/_, _%_, _^_, _<_, _≤_}
+use native.Mathlib.Numerals.{add-one}
+use native.Mathlib.Omega.{arith}
+use lib.Bits.{bitXor, bitAnd}
+use lib.ListN.{length, getD, set, take, drop, length-set}
+use lib.Seq.{getD-set-same, getD-set-other}
+use mir.Val.{Fits}
+use mir.Syntax.{w8}
+use Rattle.gf256.specs.Gf.{xtime, timesBits, times, power, inverse}
+use Rattle.gf256.proofs.Fill.{fill-more}
+use Rattle.erasure.specs.System.{width}
+use borrow.Author.Needs.{needs}
+use Rattle.erasure.proofs.runs.plain_points.Statement.{statement}
+use Rattle.erasure.proofs.runs.plain_points.Tie as tie
+use Rattle.erasure.proofs.runs.plain_points.Reads as reads
+use Rattle.erasure.proofs.runs.plain_points.Lts as lts
+
+abbrev Inv-loop : tie.InvT-loop
+Inv-loop out₀ z₀ j₀ out z j = (j ≤ width) × (z ≡ j + 1) × (length out ≡ width) × ((i : ℕ) → i < j → getD out i 0 ≡ i + 1)
+
+abbrev μ-loop : tie.MeasureT-loop
+μ-loop out₀ z₀ j₀ out z j = width - j
+
+loop-holds : tie.Need-loop-holds Inv-loop μ-loop
+loop-holds c = (search needs, refl, refl, λ i h. absurd (omega arith))
+
+array-write-out : tie.Need-array-write-out Inv-loop μ-loop
+array-write-out c = search needs
+
+add-z : tie.Need-add-z Inv-loop μ-loop
+add-z c = search needs
+
+add-j : tie.Need-add-j Inv-loop μ-loop
+add-j c = search needs
+
+loop-less : tie.Need-loop-less Inv-loop μ-loop
+loop-less c = search needs
+
+loop-again : tie.Need-loop-again Inv-loop μ-loop
+loop-again c =
+    let l = c .before .loop in (
+      search needs,
+      omega (arith, l .inv .1),
+      length-set (l .out) (l .j) (l .z) ∙ l .inv .2,
+      fill-more 0 (λ i v. v ≡ i + 1) (l .out) (l .j) (l .z) (omega arith) (l .inv .3) (l .inv .1),
+    )
+
+returns : tie.Need-returns Inv-loop μ-loop
+returns c j h = c .before .loop .inv .3 j (omega arith)
+
+pub plain-points-spec : {M : Type 1} → statement M
+plain-points-spec =
+    tie.close
+    (tie.spec Inv-loop μ-loop loop-holds array-write-out add-z add-j loop-less loop-again returns)

@@ -1,0 +1,82 @@
+-- Each entry is the place times the length of a run.
+use mathlib.Core.Path.{_≡_, refl, sym, ap, ap₂, subst, _∙_}
+use mathlib.Core.Logic.{_≢_}
+use mathlib.Core.List.{List, [], _∷_, _++_, map}
+use Prim.Native.Nat.{ℕ, zero, suc, _+_, _-_, _*_, _/_, _%_, _^_, _<_, _≤_}
+use native.Mathlib.Numerals.{add-one}
+use native.Mathlib.Omega.{arith}
+use lib.Bits.{bitXor, bitAnd}
+use lib.ListN.{length, getD, set, take, drop, length-set}
+use lib.Seq.{getD-set-same, getD-set-other}
+use mir.Val.{Fits}
+use mir.Syntax.{w8}
+use Rattle.gf256.specs.Gf.{xtime, timesBits, times, power, inverse}
+use Rattle.gf256.proofs.Fill.{fill-more}
+use Rattle.erasure.specs.System.{width}
+use borrow.Author.Needs.{needs}
+use Rattle.erasure.proofs.runs.starts_of.Statement.{statement}
+use Rattle.erasure.proofs.runs.starts_of.Tie as tie
+use Rattle.erasure.proofs.runs.starts_of.Reads as reads
+use Rattle.erasure.proofs.runs.starts_of.Lts as lts
+
+abbrev Inv-loop : tie.InvT-loop
+Inv-loop f k at out₀ j₀ out j = (j ≤ k) × (length out ≡ width) × ((i : ℕ) → i < j → getD out i 0 ≡ getD at i 0 * f)
+
+abbrev μ-loop : tie.MeasureT-loop
+μ-loop f k at out₀ j₀ out j = k - j
+
+loop-holds : tie.Need-loop-holds Inv-loop μ-loop
+loop-holds c = (search needs, refl, λ i h. absurd (omega arith))
+
+mul-out : tie.Need-mul-out Inv-loop μ-loop
+mul-out c = search needs
+
+array-read-out : tie.Need-array-read-out Inv-loop μ-loop
+array-read-out c = search needs
+
+mul-out-2 : tie.Need-mul-out-2 Inv-loop μ-loop
+mul-out-2 c =
+    let h : c .before .loop .j < c .before .before .args .k = search needs in
+    omega (arith, c .before .before .pre .1 (c .before .loop .j) h)
+
+mul-out-3 : tie.Need-mul-out-3 Inv-loop μ-loop
+mul-out-3 c = search needs
+
+array-write-out : tie.Need-array-write-out Inv-loop μ-loop
+array-write-out c = search needs
+
+add-j : tie.Need-add-j Inv-loop μ-loop
+add-j c = search needs
+
+loop-less : tie.Need-loop-less Inv-loop μ-loop
+loop-less c = search needs
+
+loop-again : tie.Need-loop-again Inv-loop μ-loop
+loop-again c =
+    let l = c .before .loop in
+    let args = c .before .before .args in
+    let v = getD (args .t1) (l .j) 0 * args .f in (
+      search needs,
+      length-set (l .out) (l .j) v ∙ l .inv .1,
+      fill-more 0 (λ i v. v ≡ getD (args .t1) i 0 * args .f) (l .out) (l .j) v (omega arith) (l .inv .2) refl,
+    )
+
+returns : tie.Need-returns Inv-loop μ-loop
+returns c j h = c .before .loop .inv .2 j (omega arith)
+
+pub starts-of-spec : {M : Type 1} → statement M
+starts-of-spec =
+    tie.close
+    (tie.spec
+    Inv-loop
+    μ-loop
+    loop-holds
+    mul-out
+    array-read-out
+    mul-out-2
+    mul-out-3
+    array-write-out
+    add-j
+    loop-less
+    loop-again
+    returns)

@@ -1,0 +1,90 @@
+-- The loop goes on only where each server so far is within.
+use mathlib.Core.Path.{_≡_, refl, sym, ap, ap₂, subst, _∙_}
+use mathlib.Core.Logic.{_≢_}
+use mathlib.Core.List.{List, [], _∷_, _++_, map}
+use Prim.Native.Nat.{ℕ, zero, suc, _+_, _-_, _*_, _/_, _%_, _^_, _<_, _≤_}
+use native.Mathlib.Numerals.{add-one}
+use native.Mathlib.Omega.{arith}
+use lib.Bits.{bitXor, bitAnd}
+use lib.ListN.{length, getD, set, take, drop, length-set}
+use lib.Seq.{getD-set-same, getD-set-other}
+use mir.Val.{Fits}
+use mir.Syntax.{w8}
+use Rattle.gf256.specs.Gf.{xtime, timesBits, times, power, inverse}
+use Rattle.gf256.proofs.Fill.{fill-more}
+use mathlib.Core.Bool.{Bool, true, false, not}
+use borrow.Author.Count.{below-more}
+use borrow.Author.Tests.{not-true, not-false}
+use Rattle.cluster.specs.Ranges.{within}
+use Rattle.erasure.proofs.Refused.{each-fails, each-holds}
+use borrow.Author.Needs.{needs}
+use Rattle.erasure.proofs.server_outside.Statement.{statement}
+use Rattle.erasure.proofs.server_outside.Tie as tie
+use Rattle.erasure.proofs.server_outside.Reads as reads
+use Rattle.erasure.proofs.server_outside.Lts as lts
+use Rattle.erasure.proofs.outside.Reads as outside-reads
+use Rattle.erasure.proofs.wide.Reads as wide-reads
+
+abbrev Inv-loop : tie.InvT-loop
+Inv-loop servers most i₀ i = (i ≤ length servers) × ((j : ℕ) → j < i → within 1 most (getD servers j 0) ≡ true)
+
+abbrev μ-loop : tie.MeasureT-loop
+μ-loop servers most i₀ i = length servers - i
+
+loop-holds : tie.Need-loop-holds Inv-loop μ-loop
+loop-holds c = (search needs, λ j h. absurd (omega arith))
+
+shared-slice-read-wide : tie.Need-shared-slice-read-wide Inv-loop μ-loop
+shared-slice-read-wide c = search needs
+
+wide-requires : tie.Need-wide-requires Inv-loop μ-loop
+wide-requires c κs = search needs
+
+outside-requires : tie.Need-outside-requires Inv-loop μ-loop
+outside-requires c κs = search needs
+
+returns : tie.Need-returns Inv-loop μ-loop
+returns c =
+    let args = c .before .before .before .before .before .before .before .args in
+    let i = c .before .before .before .before .before .loop .i in
+    let ss = denote.Ref.now (args .servers) in
+    let b : i < length ss = search needs in
+    let e : within 1 (args .most) (getD ss i 0) ≡ false =
+    ap (within 1 (args .most)) (sym (c .before .before .wide .ensures)) ∙ not-true _ (sym (c .before .outside .ensures) ∙ c .if1 .taken) in
+    sym (ap not (each-fails (within 1 (args .most)) ss i b e))
+
+add-i : tie.Need-add-i Inv-loop μ-loop
+add-i c = search needs
+
+loop-less : tie.Need-loop-less Inv-loop μ-loop
+loop-less c = search needs
+
+loop-again : tie.Need-loop-again Inv-loop μ-loop
+loop-again c =
+    let args = c .before .before .before .before .before .before .before .args in
+    let l = c .before .before .before .before .before .loop in
+    let ss = denote.Ref.now (args .servers) in
+    let e : within 1 (args .most) (getD ss (l .i) 0) ≡ true =
+    ap (within 1 (args .most)) (sym (c .before .before .wide .ensures)) ∙ not-false _ (sym (c .before .outside .ensures) ∙ c .if1 .left) in
+    (search needs, below-more (λ (j : ℕ). within 1 (args .most) (getD ss j 0) ≡ true) (l .i) (l .inv .1) e)
+
+returns-2 : tie.Need-returns-2 Inv-loop μ-loop
+returns-2 c =
+    let args = c .before .before .before .args in
+    sym (ap not (each-holds (within 1 (args .most)) (denote.Ref.now (args .servers)) (λ i h. c .before .loop .inv .1 i (omega arith))))
+
+pub server-outside-spec : {M : Type 1} → statement M
+server-outside-spec =
+    tie.close
+    (tie.spec
+    Inv-loop
+    μ-loop
+    loop-holds
+    shared-slice-read-wide
+    wide-requires
+    outside-requires
+    returns
+    add-i
+    loop-less
+    loop-again
+    returns-2)

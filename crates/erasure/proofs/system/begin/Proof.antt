@@ -1,0 +1,74 @@
+use mathlib.Core.Path.{_≡_, refl, sym, ap, ap₂, subst, _∙_}
+use mathlib.Core.Logic.{_≢_}
+use mathlib.Core.List.{List, [], _∷_}
+use Prim.Native.Nat.{ℕ, zero, suc, _+_, _-_, _<_, _≤_}
+use native.Mathlib.Numerals.{add-one}
+use native.Mathlib.Omega.{arith}
+use borrow.Author.Needs.{needs}
+use borrow.Author.Count.{below-none}
+use lib.Bits.{bitXor}
+use lib.ListN.{length, getD, set, length-set}
+use lib.Seq.{getD-set-same, getD-set-other}
+use Rattle.gf256.specs.Gf.{times, power}
+use Rattle.gf256.proofs.Fill.{fill-more}
+use Rattle.erasure.specs.System.{width, entry}
+use Rattle.erasure.proofs.system.begin.Statement.{statement}
+use Rattle.erasure.proofs.system.begin.Tie as tie
+use Rattle.erasure.proofs.system.begin.Reads as reads
+use Rattle.erasure.proofs.system.begin.Lts as lts
+use Rattle.erasure.proofs.system.powers_row.Reads as powers-row-reads
+
+abbrev Inv-loop : tie.InvT-loop
+Inv-loop xs a₀ r₀ a r = (r ≤ width) × (length a ≡ width) × ((i : ℕ) → i < r → (c : ℕ) → c < width → entry a i c ≡ power (getD xs i 0) c)
+
+abbrev μ-loop : tie.MeasureT-loop
+μ-loop xs a₀ r₀ a r = width - r
+
+loop-holds : tie.Need-loop-holds Inv-loop μ-loop
+loop-holds c = (search needs, refl, λ i h. absurd (omega arith))
+
+array-read-powers-row : tie.Need-array-read-powers-row Inv-loop μ-loop
+array-read-powers-row c = search needs
+
+powers-row-requires : tie.Need-powers-row-requires Inv-loop μ-loop
+powers-row-requires c κs = search needs
+
+mul-a : tie.Need-mul-a Inv-loop μ-loop
+mul-a c = search needs
+
+array-set-from-a : tie.Need-array-set-from-a Inv-loop μ-loop
+array-set-from-a c = search needs
+
+add-r : tie.Need-add-r Inv-loop μ-loop
+add-r c = search needs
+
+loop-less : tie.Need-loop-less Inv-loop μ-loop
+loop-less c = search needs
+
+loop-again : tie.Need-loop-again Inv-loop μ-loop
+loop-again c =
+    let at = c .before .before .loop in
+    let xs = c .before .before .before .args .t1 in (
+      search needs,
+      length-set (at .a) (at .r) (c .powers-row .result) ∙ at .inv .1,
+      fill-more [] (λ i row. (j : ℕ) → j < width → getD row j 0 ≡ power (getD xs i 0) j) (at .a) (at .r) (c .powers-row .result) (omega arith) (at .inv .2) (c .powers-row .ensures),
+    )
+
+returns : tie.Need-returns Inv-loop μ-loop
+returns c i j hi hj = c .before .loop .inv .2 i (omega arith) j hj
+
+pub begin-spec : {M : Type 1} → statement M
+begin-spec =
+    tie.close
+    (tie.spec
+    Inv-loop
+    μ-loop
+    loop-holds
+    array-read-powers-row
+    powers-row-requires
+    mul-a
+    array-set-from-a
+    add-r
+    loop-less
+    loop-again
+    returns)

@@ -1,0 +1,67 @@
+use Rattle.erasure.specs.System.{width}
+use mathlib.Core.List.{[], _∷_}
+use lib.ListN.{length-set}
+use mathlib.Core.Path.{_≡_, refl, sym, ap, subst, _∙_}
+use Prim.Native.Nat.{ℕ, suc, _+_, _-_, _<_, _≤_}
+use native.Mathlib.Numerals.{add-one}
+use native.Mathlib.Omega.{arith}
+use borrow.Author.Needs.{needs}
+use borrow.Author.Count.{below-none}
+use lib.ListN.{length, getD, set}
+use Rattle.gf256.specs.Gf.{times, power}
+use Rattle.gf256.proofs.Fill.{fill-more}
+use Rattle.erasure.proofs.system.powers_row.Statement.{statement}
+use Rattle.erasure.proofs.system.powers_row.Tie as tie
+use Rattle.erasure.proofs.system.powers_row.Reads as reads
+use Rattle.erasure.proofs.system.powers_row.Lts as lts
+use Rattle.gf256.proofs.mul.Reads as mul-reads
+
+abbrev Inv-loop : tie.InvT-loop
+Inv-loop x out₀ w₀ c₀ out w c = (c ≤ width) × (w ≡ power x c) × (length out ≡ width) × ((j : ℕ) → j < c → getD out j 0 ≡ power x j)
+
+abbrev μ-loop : tie.MeasureT-loop
+μ-loop x out₀ w₀ c₀ out w c = width - c
+
+loop-holds : tie.Need-loop-holds Inv-loop μ-loop
+unfolding power
+loop-holds c = (search needs, refl, refl, below-none (λ (j : ℕ). getD (0 ∷ 0 ∷ 0 ∷ 0 ∷ 0 ∷ []) j 0 ≡ power (c .args .x) j))
+
+array-write-out : tie.Need-array-write-out Inv-loop μ-loop
+array-write-out c = search needs
+
+mul-requires : tie.Need-mul-requires Inv-loop μ-loop
+mul-requires c κs = search needs
+
+add-c : tie.Need-add-c Inv-loop μ-loop
+add-c c = search needs
+
+loop-less : tie.Need-loop-less Inv-loop μ-loop
+loop-less c = search needs
+
+loop-again : tie.Need-loop-again Inv-loop μ-loop
+unfolding power
+loop-again c =
+    let at = c .before .before .loop in
+    let x = c .before .before .before .args .x in (
+      search needs,
+      c .mul .ensures ∙ ap (λ (w : ℕ). times w x) (at .inv .1) ∙ ap (power x) (sym (add-one (at .c))),
+      length-set (at .out) (at .c) (at .w) ∙ at .inv .2,
+      fill-more 0 (λ j v. v ≡ power x j) (at .out) (at .c) (at .w) (omega arith) (at .inv .3) (at .inv .1),
+    )
+
+returns : tie.Need-returns Inv-loop μ-loop
+returns c j h = c .before .loop .inv .3 j (omega arith)
+
+pub powers-row-spec : {M : Type 1} → statement M
+powers-row-spec =
+    tie.close
+    (tie.spec
+    Inv-loop
+    μ-loop
+    loop-holds
+    array-write-out
+    mul-requires
+    add-c
+    loop-less
+    loop-again
+    returns)

@@ -1,0 +1,102 @@
+use mir.Val.{Fits}
+use mir.Syntax.{w8}
+use Rattle.erasure.proofs.Solved.{begun, begun-small}
+use Rattle.gf256.specs.Gf.{inverse}
+use mathlib.Core.Path.{_≡_, refl, sym, ap, ap₂, subst, _∙_}
+use mathlib.Core.Logic.{_≢_}
+use mathlib.Core.List.{List, [], _∷_}
+use Prim.Native.Nat.{ℕ, zero, suc, _+_, _-_, _<_, _≤_}
+use native.Mathlib.Numerals.{add-one}
+use native.Mathlib.Omega.{arith}
+use borrow.Author.Needs.{needs}
+use borrow.Author.Count.{below-none}
+use lib.Bits.{bitXor}
+use lib.ListN.{length, getD, set, length-set}
+use lib.Seq.{getD-set-same, getD-set-other}
+use Rattle.gf256.specs.Gf.{times, power}
+use Rattle.gf256.proofs.Fill.{fill-more}
+use Rattle.gf256.proofs.Algebra.{Half, half-none, half-more, pow}
+use Rattle.gf256.proofs.Byte.{Byte, field, laws}
+use Rattle.gf256.proofs.Tables.{inverse-lt, power-lt}
+use Rattle.erasure.specs.System.{width, entry, SystemTurned, AllDifferent, Solves}
+use Rattle.erasure.proofs.Solved.{mat, Small, small-out, turned-mat, half-system, pow-number, point, pivot-pos, unit-law, solves, to-val, toByte}
+use Rattle.erasure.proofs.system.solve.Statement.{statement}
+use Rattle.erasure.proofs.system.solve.Tie as tie
+use Rattle.erasure.proofs.system.solve.Reads as reads
+use Rattle.erasure.proofs.system.solve.Lts as lts
+use Rattle.erasure.proofs.system.begin.Reads as begin-reads
+use Rattle.erasure.proofs.system.turn.Reads as turn-reads
+
+abbrev Inv-loop : tie.InvT-loop
+Inv-loop k a₀ p₀ a p = (p ≤ k) × Small a × Half field laws k (mat a₀) p (mat a)
+
+abbrev μ-loop : tie.MeasureT-loop
+μ-loop k a₀ p₀ a p = k - p
+
+begin-requires : tie.Need-begin-requires Inv-loop μ-loop
+begin-requires c κs = search needs
+
+loop-holds : tie.Need-loop-holds Inv-loop μ-loop
+loop-holds c =
+    let xs = c .before .args .xs in
+    let s : (i : ℕ) → getD xs i 0 < 256 = λ i. (let f : Fits w8 (getD xs i 0) = search needs in f .fits) in
+    (search needs, begun-small xs (c .begin .result) s (c .begin .ensures), half-none field laws (c .before .args .k) (mat (c .begin .result)))
+
+turn-requires : tie.Need-turn-requires Inv-loop μ-loop
+turn-requires c κs = search needs
+
+add-p : tie.Need-add-p Inv-loop μ-loop
+add-p c = search needs
+
+loop-less : tie.Need-loop-less Inv-loop μ-loop
+loop-less c = search needs
+
+loop-again : tie.Need-loop-again Inv-loop μ-loop
+loop-again c =
+    let at = c .before .before .loop in
+    let sys = c .before .before .before .begin in
+    let start = c .before .before .before .before in
+    let xs = start .args .xs in
+    let k = start .args .k in
+    let s : (i : ℕ) → getD xs i 0 < 256 = λ i. (let f : Fits w8 (getD xs i 0) = search needs in f .fits) in
+    let p5 : at .p < width = omega arith in
+    let pk : at .p < k = omega arith in
+    let e = entry (at .a) (at .p) (at .p) in
+    let small : e < 256 = at .inv .1 (at .p) (at .p) p5 p5 in
+    let pos : 0 < e =
+    pivot-pos k (at .p) xs (at .a) s (start .pre .1) pk
+    (half-system k (at .p) (mat (sys .result)) (λ r j. pow field laws (point xs r) j) (mat (at .a)) (begun k xs (sys .result) (search needs) s (sys .ensures)) (at .inv .2)) in (
+      search needs,
+      small-out (at .a) (c .turn .result) (at .p) (inverse e) (c .turn .ensures) (at .inv .1) (inverse-lt e small) p5,
+      subst (λ (n : ℕ). Half field laws k (mat (sys .result)) n (mat (c .turn .result))) (sym (add-one (at .p)))
+          (half-more field laws k (at .p) (mat (sys .result)) (mat (at .a)) (mat (c .turn .result)) (toByte (inverse e))
+          (turned-mat (at .a) (c .turn .result) (at .p) (inverse e) (c .turn .ensures) (at .inv .1) (inverse-lt e small) p5 k (search needs)) pk (unit-law (at .a) (at .p) small pos) (at .inv .2)),
+    )
+
+returns : tie.Need-returns Inv-loop μ-loop
+returns c =
+    let at = c .before .loop in
+    let sys = c .before .before .begin in
+    let start = c .before .before .before in
+    let xs = start .args .xs in
+    let k = start .args .k in
+    let s : (i : ℕ) → getD xs i 0 < 256 = λ i. (let f : Fits w8 (getD xs i 0) = search needs in f .fits) in
+    let five : length xs ≡ width = search needs in
+    let end : at .p ≡ k = omega arith in
+    solves k xs (at .a) (search needs) (omega arith) s (at .inv .1) (start .pre .1)
+    (half-system k k (mat (sys .result)) (λ r j. pow field laws (point xs r) j) (mat (at .a)) (begun k xs (sys .result) (search needs) s (sys .ensures))
+    (subst (λ (n : ℕ). Half field laws k (mat (sys .result)) n (mat (at .a))) end (at .inv .2)))
+
+pub solve-spec : {M : Type 1} → statement M
+solve-spec =
+    tie.close
+    (tie.spec
+    Inv-loop
+    μ-loop
+    begin-requires
+    loop-holds
+    turn-requires
+    add-p
+    loop-less
+    loop-again
+    returns)

@@ -1,0 +1,121 @@
+use Rattle.gf256.specs.Gf.{inverse}
+use Rattle.erasure.proofs.Rows.{system-turned}
+use mathlib.Core.Path.{_≡_, refl, sym, ap, ap₂, subst, _∙_}
+use mathlib.Core.Logic.{_≢_}
+use mathlib.Core.List.{List, [], _∷_}
+use Prim.Native.Nat.{ℕ, zero, suc, _+_, _-_, _<_, _≤_}
+use native.Mathlib.Numerals.{add-one}
+use native.Mathlib.Omega.{arith}
+use borrow.Author.Needs.{needs}
+use borrow.Author.Count.{below-none}
+use lib.Bits.{bitXor}
+use lib.ListN.{length, getD, set, length-set}
+use lib.Seq.{getD-set-same, getD-set-other}
+use Rattle.gf256.specs.Gf.{times, power}
+use Rattle.gf256.proofs.Fill.{fill-more}
+use Rattle.erasure.specs.System.{width, entry, RowTurned, SystemTurned}
+use Rattle.erasure.proofs.system.turn.Statement.{statement}
+use Rattle.erasure.proofs.system.turn.Tie as tie
+use Rattle.erasure.proofs.system.turn.Reads as reads
+use Rattle.erasure.proofs.system.turn.Lts as lts
+use Rattle.gf256.proofs.inverse.Reads as inverse-reads
+use Rattle.erasure.proofs.system.turn_row.Reads as turn-row-reads
+use Rattle.erasure.proofs.system.unit_row.Reads as unit-row-reads
+
+abbrev Inv-loop : tie.InvT-loop
+Inv-loop p pivot d out₀ r₀ out r = (r ≤ width) × (length out ≡ width) × ((j : ℕ) → j < r → RowTurned (getD out₀ j []) pivot d p (getD out j [])) × ((j : ℕ) → r ≤ j → getD out j [] ≡ getD out₀ j [])
+
+abbrev μ-loop : tie.MeasureT-loop
+μ-loop p pivot d out₀ r₀ out r = width - r
+
+mul-pivot : tie.Need-mul-pivot Inv-loop μ-loop
+mul-pivot c = search needs
+
+array-copy-out-pivot : tie.Need-array-copy-out-pivot Inv-loop μ-loop
+array-copy-out-pivot c = search needs
+
+array-read-inverse : tie.Need-array-read-inverse Inv-loop μ-loop
+array-read-inverse c = search needs
+
+inverse-requires : tie.Need-inverse-requires Inv-loop μ-loop
+inverse-requires c κs = search needs
+
+unit-row-requires : tie.Need-unit-row-requires Inv-loop μ-loop
+unit-row-requires c κs = search needs
+
+mul-out : tie.Need-mul-out Inv-loop μ-loop
+mul-out c = search needs
+
+array-set-from-out : tie.Need-array-set-from-out Inv-loop μ-loop
+array-set-from-out c = search needs
+
+loop-holds : tie.Need-loop-holds Inv-loop μ-loop
+loop-holds c = (search needs, search needs, λ j h. absurd (omega arith), λ j h. refl)
+
+mul-turn-row : tie.Need-mul-turn-row Inv-loop μ-loop
+mul-turn-row c = search needs
+
+array-copy-out-turn-row : tie.Need-array-copy-out-turn-row Inv-loop μ-loop
+array-copy-out-turn-row c = search needs
+
+turn-row-requires : tie.Need-turn-row-requires Inv-loop μ-loop
+turn-row-requires c κs = search needs
+
+mul-out-2 : tie.Need-mul-out-2 Inv-loop μ-loop
+mul-out-2 c = search needs
+
+array-set-from-out-2 : tie.Need-array-set-from-out-2 Inv-loop μ-loop
+array-set-from-out-2 c = search needs
+
+add-r : tie.Need-add-r Inv-loop μ-loop
+add-r c = search needs
+
+loop-less : tie.Need-loop-less Inv-loop μ-loop
+loop-less c = search needs
+
+loop-again : tie.Need-loop-again Inv-loop μ-loop
+loop-again c =
+    let at = c .before .before .before .loop in
+    let args = c .before .before .before .before .before .before .before .args in
+    let base = set (args .t1) (args .p) (c .before .before .before .before .unit-row .result) in
+    let pivot = getD (args .t1) (args .p) [] in
+    let d = c .before .before .before .before .before .inverse .result in (
+      search needs,
+      length-set (at .out) (at .r) (c .turn-row .result) ∙ at .inv .1,
+      fill-more [] (λ j row. RowTurned (getD base j []) pivot d (args .p) row) (at .out) (at .r) (c .turn-row .result) (omega arith) (at .inv .2)
+          (subst (λ (x : List ℕ). RowTurned x pivot d (args .p) (c .turn-row .result)) (at .inv .3 (at .r) (omega arith)) (c .turn-row .ensures)),
+      λ j h. getD-set-other (at .out) (at .r) j (c .turn-row .result) [] (λ e. omega arith) ∙ at .inv .3 j (omega arith),
+    )
+
+returns : tie.Need-returns Inv-loop μ-loop
+returns c =
+    let args = c .before .before .before .before .before .args in
+    let unit = c .before .before .unit-row in
+    let d = c .before .before .before .inverse in
+    subst (λ (x : ℕ). SystemTurned (args .t1) (args .p) x (c .before .loop .out)) (d .ensures)
+    (system-turned (args .t1) (c .before .loop .out) (args .p) (d .result) (unit .result) (search needs) (search needs) (unit .ensures .0) (unit .ensures .1) (search needs)
+    (λ j h. c .before .loop .inv .2 j (omega arith)))
+
+pub turn-spec : {M : Type 1} → statement M
+turn-spec =
+    tie.close
+    (tie.spec
+    Inv-loop
+    μ-loop
+    mul-pivot
+    array-copy-out-pivot
+    array-read-inverse
+    inverse-requires
+    unit-row-requires
+    mul-out
+    array-set-from-out
+    loop-holds
+    mul-turn-row
+    array-copy-out-turn-row
+    turn-row-requires
+    mul-out-2
+    array-set-from-out-2
+    add-r
+    loop-less
+    loop-again
+    returns)

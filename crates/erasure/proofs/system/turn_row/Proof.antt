@@ -1,0 +1,99 @@
+use Rattle.erasure.specs.System.{width}
+use mathlib.Core.List.{[], _∷_}
+use lib.ListN.{length-set}
+use mathlib.Core.Path.{_≡_, refl, sym, ap, subst, _∙_}
+use Prim.Native.Nat.{ℕ, suc, _+_, _-_, _<_, _≤_}
+use native.Mathlib.Numerals.{add-one}
+use native.Mathlib.Omega.{arith}
+use borrow.Author.Needs.{needs}
+use borrow.Author.Count.{below-none}
+use lib.Bits.{bitXor}
+use lib.ListN.{length, getD, set}
+use lib.Seq.{getD-set-same, getD-set-other}
+use Rattle.gf256.specs.Gf.{times, power}
+use Rattle.gf256.proofs.Fill.{fill-more}
+use Rattle.erasure.proofs.system.turn_row.Statement.{statement}
+use Rattle.erasure.proofs.system.turn_row.Tie as tie
+use Rattle.erasure.proofs.system.turn_row.Reads as reads
+use Rattle.erasure.proofs.system.turn_row.Lts as lts
+use Rattle.gf256.proofs.mul.Reads as mul-reads
+
+abbrev Inv-loop : tie.InvT-loop
+Inv-loop d p row pivot w out₀ c₀ out c = (c ≤ width) × (length out ≡ width) × ((j : ℕ) → j < c → getD out j 0 ≡ bitXor (getD row j 0) (times w (getD pivot j 0)))
+
+abbrev μ-loop : tie.MeasureT-loop
+μ-loop d p row pivot w out₀ c₀ out c = width - c
+
+array-read-mul : tie.Need-array-read-mul Inv-loop μ-loop
+array-read-mul c = search needs
+
+mul-requires : tie.Need-mul-requires Inv-loop μ-loop
+mul-requires c κs = search needs
+
+loop-holds : tie.Need-loop-holds Inv-loop μ-loop
+loop-holds c =
+    (search needs, refl, below-none (λ (j : ℕ). getD (0 ∷ 0 ∷ 0 ∷ 0 ∷ 0 ∷ []) j 0 ≡ bitXor (getD (c .before .args .t1) j 0) (times (c .mul .result) (getD (c .before .args .t2) j 0))))
+
+array-read-out : tie.Need-array-read-out Inv-loop μ-loop
+array-read-out c = search needs
+
+array-read-mul-2 : tie.Need-array-read-mul-2 Inv-loop μ-loop
+array-read-mul-2 c = search needs
+
+mul-requires-2 : tie.Need-mul-requires-2 Inv-loop μ-loop
+mul-requires-2 c κs = search needs
+
+array-write-out : tie.Need-array-write-out Inv-loop μ-loop
+array-write-out c = search needs
+
+add-c : tie.Need-add-c Inv-loop μ-loop
+add-c c = search needs
+
+loop-less : tie.Need-loop-less Inv-loop μ-loop
+loop-less c = search needs
+
+loop-again : tie.Need-loop-again Inv-loop μ-loop
+loop-again c =
+    let at = c .before .before .loop in
+    let args = c .before .before .before .before .args in
+    let w = c .before .before .before .mul .result in
+    let new = bitXor (getD (args .t1) (at .c) 0) (c .mul2 .result) in (
+      search needs,
+      length-set (at .out) (at .c) new ∙ at .inv .1,
+      fill-more 0 (λ j v. v ≡ bitXor (getD (args .t1) j 0) (times w (getD (args .t2) j 0))) (at .out) (at .c) new (omega arith) (at .inv .2)
+          (ap (bitXor (getD (args .t1) (at .c) 0)) (c .mul2 .ensures)),
+    )
+
+array-write-out-2 : tie.Need-array-write-out-2 Inv-loop μ-loop
+array-write-out-2 c = search needs
+
+returns : tie.Need-returns Inv-loop μ-loop
+returns c =
+    let at = c .before .loop in
+    let args = c .before .before .before .args in
+    let w = c .before .before .mul .result in
+    record {
+      here = getD-set-same (at .out) (args .p) w 0 (omega arith) ∙ c .before .before .mul .ensures;
+      there = λ j h ne.
+          getD-set-other (at .out) (args .p) j w 0 ne ∙ at .inv .2 j (omega arith)
+          ∙ ap (λ (u : ℕ). bitXor (getD (args .t1) j 0) (times u (getD (args .t2) j 0))) (c .before .before .mul .ensures);
+    }
+
+pub turn-row-spec : {M : Type 1} → statement M
+turn-row-spec =
+    tie.close
+    (tie.spec
+    Inv-loop
+    μ-loop
+    array-read-mul
+    mul-requires
+    loop-holds
+    array-read-out
+    array-read-mul-2
+    mul-requires-2
+    array-write-out
+    add-c
+    loop-less
+    loop-again
+    array-write-out-2
+    returns)

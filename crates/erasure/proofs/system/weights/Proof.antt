@@ -1,0 +1,79 @@
+-- Each entry is what `weight` gives there.
+use mathlib.Core.Path.{_≡_, refl, sym, ap, ap₂, subst, _∙_}
+use mathlib.Core.Logic.{_≢_}
+use mathlib.Core.List.{List, [], _∷_, _++_, map}
+use Prim.Native.Nat.{ℕ, zero, suc, _+_, _-_, _*_, _/_, _%_, _^_, _<_, _≤_}
+use native.Mathlib.Numerals.{add-one}
+use native.Mathlib.Omega.{arith}
+use lib.Bits.{bitXor, bitAnd}
+use lib.ListN.{length, getD, set, take, drop, length-set}
+use lib.Seq.{getD-set-same, getD-set-other}
+use mir.Val.{Fits}
+use mir.Syntax.{w8}
+use Rattle.gf256.specs.Gf.{xtime, timesBits, times, power, inverse}
+use Rattle.gf256.proofs.Fill.{fill-more}
+use Rattle.erasure.specs.System.{width, entry, sumTo, weightAt}
+use Rattle.erasure.proofs.Sums.{sumTo-ext}
+use borrow.Author.Needs.{needs}
+use Rattle.erasure.proofs.system.weights.Statement.{statement}
+use Rattle.erasure.proofs.system.weights.Tie as tie
+use Rattle.erasure.proofs.system.weights.Reads as reads
+use Rattle.erasure.proofs.system.weights.Lts as lts
+use Rattle.erasure.proofs.system.powers_row.Reads as powers-row-reads
+use Rattle.erasure.proofs.system.weight.Reads as weight-reads
+
+abbrev Inv-loop : tie.InvT-loop
+Inv-loop a k z powers out₀ j₀ out j = (j ≤ width) × (length out ≡ width) × ((i : ℕ) → i < j → getD out i 0 ≡ weightAt k a z i)
+
+abbrev μ-loop : tie.MeasureT-loop
+μ-loop a k z powers out₀ j₀ out j = width - j
+
+powers-row-requires : tie.Need-powers-row-requires Inv-loop μ-loop
+powers-row-requires c κs = search needs
+
+loop-holds : tie.Need-loop-holds Inv-loop μ-loop
+loop-holds c = (search needs, refl, λ i h. absurd (omega arith))
+
+weight-requires : tie.Need-weight-requires Inv-loop μ-loop
+weight-requires c κs = search needs
+
+array-write-out : tie.Need-array-write-out Inv-loop μ-loop
+array-write-out c = search needs
+
+add-j : tie.Need-add-j Inv-loop μ-loop
+add-j c = search needs
+
+loop-less : tie.Need-loop-less Inv-loop μ-loop
+loop-less c = search needs
+
+loop-again : tie.Need-loop-again Inv-loop μ-loop
+unfolding weightAt
+loop-again c =
+    let at = c .before .before .loop in
+    let args = c .before .before .before .before .args in
+    let powers = c .before .before .before .powers-row in (
+      search needs,
+      length-set (at .out) (at .j) (c .weight .result) ∙ at .inv .1,
+      fill-more 0 (λ i v. v ≡ weightAt (args .k) (args .a) (args .z) i) (at .out) (at .j) (c .weight .result) (omega arith) (at .inv .2)
+          (c .weight .ensures
+          ∙ sumTo-ext (args .k) (λ i. times (getD (powers .result) i 0) (entry (args .a) i (at .j))) (λ i. times (power (args .z) i) (entry (args .a) i (at .j)))
+          (λ i h. ap (λ (x : ℕ). times x (entry (args .a) i (at .j))) (powers .ensures i (omega arith)))),
+    )
+
+returns : tie.Need-returns Inv-loop μ-loop
+returns c j h = c .before .loop .inv .2 j (omega arith)
+
+pub weights-spec : {M : Type 1} → statement M
+weights-spec =
+    tie.close
+    (tie.spec
+    Inv-loop
+    μ-loop
+    powers-row-requires
+    loop-holds
+    weight-requires
+    array-write-out
+    add-j
+    loop-less
+    loop-again
+    returns)

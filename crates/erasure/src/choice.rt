@@ -1,0 +1,76 @@
+// Which fragments restoring uses: those of the first k different servers given.
+ghost use mathlib.Core.Path.{_≡_};
+ghost use Prim.Native.Nat.{ℕ, _≤_};
+ghost use lib.Dec.{ltb};
+ghost use lib.ListN.{take, length};
+ghost use Rattle.erasure.specs.System.{width};
+ghost use Rattle.erasure.specs.Choice.{among, more, firstDifferent};
+ghost use Rattle.erasure.specs.Chosen.{Holds};
+
+const WIDTH: usize = crate::system::WIDTH;
+
+// The servers chosen so far, and where each stands in the list given.
+pub(crate) struct Chosen {
+    pub(crate) servers: [u8; WIDTH],
+    pub(crate) at: [usize; WIDTH],
+    pub(crate) count: usize,
+}
+
+// Whether s is among the first count servers.
+fn holds(servers: [u8; WIDTH], count: usize, s: u8) -> bool
+    requires { ⌜ count ≤ width ⌝ }
+    ensures { λ r. ⌜ r ≡ among s (take count servers) ⌝ }
+{
+    let mut j: usize = 0;
+    while j < count {
+        if servers[j] == s {
+            return true;
+        }
+        j += 1;
+    }
+    false
+}
+
+// One server more, unless k are chosen or this one is.
+fn add_server(c: Chosen, k: usize, s: u8, i: usize) -> Chosen
+    requires { ⌜ (c .count ≤ k) × (k ≤ width) ⌝ }
+    ensures { λ r. ⌜ (r .count ≤ k) × (take (r .count) (r .at) ≡ more (ltb (c .count) k) (among s (take (c .count) (c .servers))) (take (c .count) (c .at)) i) × (take (r .count) (r .servers) ≡ more (ltb (c .count) k) (among s (take (c .count) (c .servers))) (take (c .count) (c .servers)) s) ⌝ }
+{
+    let servers = c.servers;
+    let at = c.at;
+    let count = c.count;
+    if k <= count {
+        return c;
+    }
+    if holds(servers, count, s) {
+        return c;
+    }
+    let mut p = servers;
+    p[count] = s;
+    let mut a = at;
+    a[count] = i;
+    Chosen {
+        servers: p,
+        at: a,
+        count: count + 1,
+    }
+}
+
+// The first k different servers, and where each stands.
+pub(crate) fn select(servers: &[u8], k: usize) -> Chosen
+    requires { ⌜ k ≤ width ⌝ }
+    ensures { λ r. ⌜ Holds k (now (servers .entry)) (firstDifferent k (now (servers .entry))) r ⌝ }
+{
+    let mut c = Chosen {
+        servers: [0; WIDTH],
+        at: [0; WIDTH],
+        count: 0,
+    };
+    let mut i: usize = 0;
+    while i < servers.len() {
+        let d = add_server(c, k, servers[i], i);
+        c = d;
+        i += 1;
+    }
+    c
+}

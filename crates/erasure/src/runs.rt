@@ -1,0 +1,106 @@
+// One fragment from the plain runs of a content, and the plain runs from fragments.
+ghost use mathlib.Core.Path.{_≡_};
+ghost use mathlib.Core.List.{_++_};
+ghost use Prim.Native.Nat.{ℕ, _+_, _-_, _*_, _<_, _≤_};
+ghost use lib.ListN.{getD, length, drop};
+ghost use Rattle.cluster.specs.Ranges.{topLength};
+ghost use Rattle.erasure.specs.Steps.{zeros, fragmentRoom};
+ghost use Rattle.erasure.specs.System.{width, AllDifferent};
+ghost use Rattle.erasure.specs.Lanes.{madeOf, rebuiltOf};
+
+const WIDTH: usize = crate::system::WIDTH;
+
+const ROOM: usize = crate::ROOM;
+
+// The points of the plain runs: 1, 2, ..
+fn plain_points() -> [u8; WIDTH]
+    ensures { λ r. ⌜ ((j : ℕ) → j < width → getD r j 0 ≡ j + 1) ⌝ }
+{
+    let mut out = [0u8; WIDTH];
+    let mut z = 1u8;
+    let mut j: usize = 0;
+    while j < WIDTH {
+        out[j] = z;
+        z += 1;
+        j += 1;
+    }
+    out
+}
+
+// Where the plain runs stand: 0, 1, ..
+fn plain_places() -> [usize; WIDTH]
+    ensures { λ r. ⌜ ((j : ℕ) → j < width → getD r j 0 ≡ j) ⌝ }
+{
+    let mut out = [0usize; WIDTH];
+    let mut j: usize = 0;
+    while j < WIDTH {
+        out[j] = j;
+        j += 1;
+    }
+    out
+}
+
+// Where the runs of f bytes at the first k places begin.
+fn starts_of(at: [usize; WIDTH], f: usize, k: usize) -> [usize; WIDTH]
+    requires { ⌜ (k ≤ width) × ((j : ℕ) → j < k → getD at j 0 * f < 9223372036854775808) ⌝ }
+    ensures { λ r. ⌜ ((j : ℕ) → j < k → getD r j 0 ≡ getD at j 0 * f) ⌝ }
+{
+    let mut out = [0usize; WIDTH];
+    let mut j: usize = 0;
+    while j < k {
+        out[j] = at[j] * f;
+        j += 1;
+    }
+    out
+}
+
+// All 00h.
+pub(crate) fn blank() -> [u8; ROOM]
+    ensures { λ r. ⌜ r ≡ zeros fragmentRoom ⌝ }
+{
+    [0u8; ROOM]
+}
+
+// The fragment at point z of the content whose k runs have f bytes, padded with 00h.
+pub(crate) fn make(k: usize, f: usize, z: u8, content: &[u8]) -> [u8; ROOM]
+    requires { ⌜ (k ≤ width) × (f ≤ fragmentRoom) ⌝ }
+    ensures { λ r. ⌜ r ≡ madeOf k f (now (content .entry)) z ++ zeros (fragmentRoom - f) ⌝ }
+{
+    let a = crate::system::solve(plain_points(), k);
+    let weights = crate::system::weights(a, k, z);
+    let starts = starts_of(plain_places(), f, k);
+    let mut bytes = blank();
+    crate::lanes::combine(weights, content, starts, k, &mut bytes, 0, f);
+    bytes
+}
+
+// What is left, but at most f.
+fn at_most(f: usize, left: usize) -> usize
+    ensures { λ r. ⌜ (r ≤ left) × (r ≤ f) × (0 < left → 0 < f → 0 < r) × (r < left → r ≡ f) ⌝ }
+{
+    if left < f { left } else { f }
+}
+
+// The content of n bytes that the fragments of k different servers give, at the start of out.
+pub(crate) fn rebuild(
+    servers: [u8; WIDTH],
+    at: [usize; WIDTH],
+    fragments: &[u8],
+    k: usize,
+    f: usize,
+    n: usize,
+    out: &mut [u8],
+)
+    requires { ⌜ (k ≤ width) × (0 < f) × (n ≤ k * f) × (n ≤ length (now out)) × AllDifferent k servers × ((j : ℕ) → j < k → getD at j 0 * f + f ≤ length (now fragments)) ⌝ }
+    ensures { λ _. ⌜ now (out .exit) ≡ rebuiltOf k f n servers at (now (fragments .entry)) ++ drop n (now (out .entry)) ⌝ }
+{
+    let a = crate::system::solve(servers, k);
+    let starts = starts_of(at, f, k);
+    let mut done: usize = 0;
+    while done < n {
+        let weights = crate::system::weights(a, k, (done / f + 1) as u8);
+        let m = at_most(f, n - done);
+        crate::lanes::combine(weights, fragments, starts, k, out, done, m);
+        done += m;
+    }
+}
