@@ -3,5 +3,7 @@ pub mod Begins
 pub mod StampBytes
 pub mod TakeRefusals
 pub mod RoundSteps
-pub mod ReplyBytes
+pub mod TakenReplies
+pub mod MadeBytes
+pub mod ShareBytes
 pub mod Printed

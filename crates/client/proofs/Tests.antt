@@ -6,6 +6,8 @@ use Prim.Native.Nat.{ℕ, zero, suc, _≤_, _<_}
 use lib.Dec.{leb}
 use borrow.Author.Tests.{leb-true, not-false}
 use native.Mathlib.Omega.{arith}
+use Rattle.protocol.specs.declared.Call.{Call}
+use Rattle.protocol.specs.ClientBytes.{inHand}
 use Rattle.cluster.specs.Ranges.{within}
 use Rattle.cluster.specs.Refusals.{onRefusal}
 
@@ -30,3 +32,10 @@ accepted (suc n) a b h = let z : ⊥ = omega arith in absurd z
 pub passes : (n : ℕ) (b : Bool) (x : ℕ) → cond b (suc n) x ≡ 0 → (b ≡ false) × (x ≡ 0)
 passes n true x e = let z : ⊥ = omega arith in absurd z
 passes n false x e = (refl, e)
+
+-- the round of a pending call
+pub hand-round : (c : Call) → inHand c ≡ true → (1 ≤ c .tally .round) × (c .tally .round ≤ 6)
+unfolding inHand
+hand-round c e =
+    let w = both (leb 1 (c .tally .round)) (leb (c .tally .round) 6) e in
+    (leb-true 1 (c .tally .round) (w .0), leb-true (c .tally .round) 6 (w .1))

@@ -10,6 +10,7 @@ pub mod answers; // what a reply leads to
 mod replies; // whether a packet is an awaited reply
 mod stamps; // stamps and tags
 mod make; // the packet of the round
+mod prepare; // the end of clock
 mod writes; // the rounds of a write
 mod reads; // the rounds of a read
 pub mod begin; // beginning a call and giving it up
