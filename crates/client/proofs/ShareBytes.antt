@@ -122,3 +122,11 @@ module _ (t : ℕ) (content : List ℕ) where
       → put (put d 0 (digestRun t content i)) (digestSize * i) (sha256 (fragment (shelf t .points) (shelf t .shares) content (suc i))) ≡ put d 0 (digestRun t content (i + 1))
   unfolding digestRun
   digest-more d i h = run-more digestSize (λ k. sha256 (fragment (shelf t .points) (shelf t .shares) content k)) digests d i h
+
+  -- what follows the digests
+  pub digests-then : (d x : List ℕ) (n : ℕ) → digestSize * n + length x ≤ length d → put (put d 0 (digestRun t content n)) (digestSize * n) x ≡ put d 0 (digestRun t content n ++ x)
+  unfolding digestRun
+  digests-then d x n h =
+      let o : digestSize * n ≡ 0 + digestSize * n = omega arith in
+      ap (λ (k : ℕ). put (put d 0 (digestRun t content n)) k x) o
+      ∙ put-put d 0 (digestSize * n) (digestRun t content n) x (run-length digestSize (λ k. sha256 (fragment (shelf t .points) (shelf t .shares) content k)) digests n) (omega arith)

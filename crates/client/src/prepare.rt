@@ -10,7 +10,7 @@ ghost use Rattle.hmac.specs.Hmac.{tagSize};
 ghost use Rattle.sha256.specs.Sha256.{sha256};
 ghost use Rattle.protocol.specs.Format.{print2};
 ghost use Rattle.protocol.specs.Values.{digestSize, stampSize, nonceSize};
-ghost use Rattle.protocol.specs.View.{repliesAt, replySlot, keptSize, chosenAt};
+ghost use Rattle.protocol.specs.View.{repliesAt, replySlot, keptSize, chosenAt, contentOf};
 ghost use Rattle.protocol.specs.ClientBytes.{put};
 ghost use Rattle.client.specs.Steps.{fragmentRun, digestRun, shareRun};
 use crate::kept;
@@ -110,4 +110,26 @@ fn size_bytes(n: usize) -> [u8; 2]
     ensures { λ r. ⌜ r ≡ print2 n ⌝ }
 {
     [(n / 256) as u8, (n % 256) as u8]
+}
+
+// The fragments of the content, and what is the same in all shares: the digests, the nonce's digest and the tags. Answers the content's length.
+fn put_parts(
+    fragments: &mut [u8],
+    common: &mut [u8],
+    kept: &[u8],
+    call: protocol::Call,
+    t: usize,
+    digest: [u8; 32],
+    tags: &[u8],
+) -> usize
+    requires { ⌜ (1 ≤ t) × ((t ≤ topFaults) × ((fragmentSize (shelf t .shares) (length (contentOf call (now kept))) * shelf t .servers ≤ length (now fragments))
+        × (digestSize * shelf t .servers + digestSize + length (now tags) ≤ length (now common)))) ⌝ }
+    ensures { λ r. ⌜ (r ≡ length (contentOf call (now (kept .entry))))
+        × ((now (fragments .exit) ≡ put (now (fragments .entry)) 0 (fragmentRun t (contentOf call (now (kept .entry))) (shelf t .servers)))
+        × (now (common .exit) ≡ put (now (common .entry)) 0 (digestRun t (contentOf call (now (kept .entry))) (shelf t .servers) ++ (digest ++ now (tags .entry))))) ⌝ }
+{
+    let content = kept::content(kept, call);
+    put_fragments(fragments, common, t, content);
+    put_common(common, cluster::KEY * refusals::servers(t), digest, tags);
+    content.len()
 }
