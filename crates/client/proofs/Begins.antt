@@ -1,0 +1,82 @@
+-- What a begin does in each of its cases: kept bytes of another length, a refusal, or a call that begins; and what an accepted begin tells of its arguments.
+-- Each is the definition with the case's tests put in. Assumes nothing.
+use mathlib.Core.Path.{_≡_, refl, sym, _∙_}
+use mathlib.Core.Bool.{Bool, true, false, cond, not}
+use mathlib.Core.List.{List}
+use Prim.Native.Nat.{ℕ, suc, _≤_, _<_, _+_, _*_}
+use lib.Dec.{leb}
+use lib.ListN.{length, replicate}
+use borrow.Author.Tests.{eq-eqb, ne-eqb, leb-false}
+use native.Mathlib.Omega.{arith}
+use Rattle.cluster.specs.Config.{shelf}
+use Rattle.cluster.specs.Ranges.{within, topWriter, topClient, mostServers, topNumber, topLength, leastLength}
+use Rattle.protocol.specs.declared.Call.{Call}
+use Rattle.protocol.specs.Client.{badFaults, writeRefusal, readRefusal}
+use Rattle.protocol.specs.View.{keptSize, nonceAt, candidatesAt, candidateSlot}
+use Rattle.protocol.specs.ClientBytes.{Begun, beginWrite, beginRead, inHand, put, fresh}
+use Rattle.client.specs.Core.{coreWrite, coreRead, notBegun}
+use Rattle.client.proofs.Tests.{refused, accepted, passes, inside}
+
+module _ (t client : ℕ) (c : Call) (kept : List ℕ) where
+  module _ (content nonce : List ℕ) where
+    abbrev no : ℕ
+    no = writeRefusal (shelf t) client (length content) (inHand c) (c .number)
+
+    pub write-short : (length kept ≡ keptSize → ⊥) → coreWrite t client c kept content nonce ≡ notBegun c kept
+    unfolding coreWrite
+    write-short h = rw (ne-eqb (length kept) keptSize h)
+
+    pub write-refused : length kept ≡ keptSize → (n : ℕ) → n ≡ no → (n ≡ 0 → ⊥)
+        → coreWrite t client c kept content nonce ≡ record { result = record { number = n; count = 0 }; call = c; kept = kept }
+    unfolding coreWrite beginWrite
+    write-refused h n e ne = rw (eq-eqb (length kept) keptSize h, refused no _ _ (λ z. ne (e ∙ z)), e)
+
+    pub write-begins : length kept ≡ keptSize → no ≡ 0
+        → coreWrite t client c kept content nonce
+        ≡ record { result = record { number = 0; count = 0 }; call = record { number = suc (c .number); last = c .last; high = c .last; length = length content; tally = fresh 1 }; kept = put (put kept 0 content) nonceAt nonce }
+    unfolding coreWrite beginWrite
+    write-begins h z = rw (eq-eqb (length kept) keptSize h, z)
+
+    pub write-fits : no ≡ 0 → (length content ≤ topLength) × (c .number < topNumber)
+    unfolding writeRefusal
+    write-fits e =
+        let p₁ = passes 2 (badFaults (shelf t)) _ e in
+        let p₂ = passes 4 (not (within 1 topWriter client)) _ (p₁ .1) in
+        let p₃ = passes 5 (not (within leastLength topLength (length content))) _ (p₂ .1) in
+        let p₄ = passes 12 (inHand c) _ (p₃ .1) in
+        let p₅ = passes 13 (leb topNumber (c .number)) _ (p₄ .1) in
+        (inside leastLength topLength (length content) (p₃ .0) .1, leb-false topNumber (c .number) (p₅ .0))
+
+  abbrev none : ℕ
+  none = readRefusal (shelf t) client (inHand c) (c .number)
+
+  pub read-short : (length kept ≡ keptSize → ⊥) → coreRead t client c kept ≡ notBegun c kept
+  unfolding coreRead
+  read-short h = rw (ne-eqb (length kept) keptSize h)
+
+  pub read-refused : length kept ≡ keptSize → (n : ℕ) → n ≡ none → (n ≡ 0 → ⊥)
+      → coreRead t client c kept ≡ record { result = record { number = n; count = 0 }; call = c; kept = kept }
+  unfolding coreRead beginRead
+  read-refused h n e ne = rw (eq-eqb (length kept) keptSize h, refused none _ _ (λ z. ne (e ∙ z)), e)
+
+  pub read-begins : length kept ≡ keptSize → none ≡ 0
+      → coreRead t client c kept
+      ≡ record { result = record { number = 0; count = 0 }; call = record { number = suc (c .number); last = c .last; high = c .high; length = c .length; tally = fresh 4 }; kept = put kept candidatesAt (replicate (candidateSlot * mostServers) 0) }
+  unfolding coreRead beginRead
+  read-begins h z = rw (eq-eqb (length kept) keptSize h, z)
+
+  pub read-fits : none ≡ 0 → c .number < topNumber
+  unfolding readRefusal
+  read-fits e =
+      let p₁ = passes 2 (badFaults (shelf t)) _ e in
+      let p₂ = passes 4 (not (within 1 topClient client)) _ (p₁ .1) in
+      let p₃ = passes 12 (inHand c) _ (p₂ .1) in
+      leb-false topNumber (c .number) (passes 13 (leb topNumber (c .number)) _ (p₃ .1) .0)
+
+  pub core-write : (content nonce : List ℕ) → length kept ≡ keptSize → coreWrite t client c kept content nonce ≡ beginWrite t client c kept content nonce
+  unfolding coreWrite
+  core-write content nonce h = rw (eq-eqb (length kept) keptSize h)
+
+  pub core-read : length kept ≡ keptSize → coreRead t client c kept ≡ beginRead t client c kept
+  unfolding coreRead
+  core-read h = rw (eq-eqb (length kept) keptSize h)

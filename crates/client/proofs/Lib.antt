@@ -1,0 +1,9 @@
+pub mod Tests
+pub mod Begins
+pub mod StampBytes
+pub mod TakeRefusals
+pub mod RoundSteps
+pub mod TakenReplies
+pub mod MadeBytes
+pub mod ShareBytes
+pub mod Printed

@@ -1,0 +1,104 @@
+-- What stands in a slot is printed back as it stands, garbage too: reading by place and printing gives the slot's own first bytes.
+-- A number's bytes print back as they were, and neighbouring parts join. Assumes nothing but that the slot holds bytes.
+use mathlib.Core.Path.{_≡_, refl, sym, ap, _∙_}
+use mathlib.Core.Bool.{Bool, true, false, cond, _||_}
+use mathlib.Core.List.{List, [], _∷_, _++_, append-assoc}
+use Prim.Native.Nat.{ℕ, zero, suc, _+_, _-_, _*_, _≤_, _<_}
+use native.Mathlib.Omega.{arith}
+use native.Mathlib.Nat.{div-le-self}
+use lib.Dec.{ltb}
+use lib.ListN.{length, take, drop, getD, List·getD-eq-default, length-take, length-drop, length-append}
+use lib.Seq.{take-add, drop-drop, getD-take, getD-drop, length-take-le}
+use borrow.Author.Tests.{le-ltb, ltb-true, ltb-false}
+use Rattle.cluster.specs.Config.{Config, shelf}
+use Rattle.cluster.specs.Ranges.{packetRoom}
+use Rattle.hmac.specs.Hmac.{tagSize}
+use Rattle.erasure.specs.Fragments.{fragmentSize}
+use Rattle.protocol.specs.declared.Head.{Head}
+use Rattle.protocol.specs.Format.{Bytes, via, seq, number2, number4, byte, run, print2, value2}
+use Rattle.protocol.specs.Values.{stampSize, nonceSize, digestSize, digestsSize, tagsSize, candidateSize}
+use Rattle.protocol.specs.Packet.{stampF, shareF, candidateF, headF, headSize}
+use Rattle.protocol.specs.Primitives.{stampMessage}
+use Rattle.protocol.specs.View.{part, stampAt, candidateAt, shareAt, shareOfSize}
+use Rattle.protocol.proofs.Formats.{print2-value}
+use Rattle.protocol.proofs.Packets.{head-length}
+use Rattle.wire.specs.Places.{shareSize, lengthAt}
+use Rattle.wire.specs.Make.{packetStep, writeStep}
+use Rattle.client.specs.Steps.{wholePacket}
+use Rattle.client.proofs.StampBytes.{message}
+
+pub part-join : (d : List ℕ) (a m n : ℕ) → part d a m ++ part d (a + m) n ≡ part d a (m + n)
+unfolding part
+part-join d a m n = sym (take-add m n (drop a d) ∙ ap (λ (x : List ℕ). take m (drop a d) ++ take n x) (drop-drop m a d))
+
+pub part-length : (d : List ℕ) (at n : ℕ) → at + n ≤ length d → length (part d at n) ≡ n
+unfolding part
+part-length d at n h = length-take-le n (drop at d) (omega (arith, length-drop at d))
+
+pub bytes-part : (d : List ℕ) (at n : ℕ) → Bytes d → Bytes (part d at n)
+unfolding part
+bytes-part d at n h i = go (ltb i n) refl
+  where
+    go : (b : Bool) → ltb i n ≡ b → getD (take n (drop at d)) i 0 < 256
+    go true e = rw (getD-take n (drop at d) i 0 (ltb-true i n e), getD-drop at d i 0) (h (at + i))
+    go false e = rw (List·getD-eq-default (take n (drop at d)) 0 {n = i} (omega (arith, ltb-false i n e, length-take n (drop at d)))) (omega arith)
+
+pub stamp-back : (d : List ℕ) → Bytes d → 5 ≤ length d → stampF .print (stampAt d) ≡ part d 0 stampSize
+unfolding stampF via seq number4 byte run stampMessage stampAt
+stamp-back d b h =
+    let m : stampMessage (stampAt d .number) (stampAt d .writer) ++ part d 5 tagSize ≡ part d 0 5 ++ part d 5 tagSize = ap (λ (x : List ℕ). x ++ part d 5 tagSize) (sym (message d b h)) in
+    m ∙ part-join d 0 5 tagSize
+
+module _ (s : Config) (d : List ℕ) (b : Bytes d) (h : 5 ≤ length d) where
+  pub candidate-back : candidateF s .print (candidateAt s d) ≡ part d 0 (candidateSize s)
+  unfolding candidateF via seq run candidateAt
+  candidate-back =
+      let j : part d stampSize nonceSize ++ part d (stampSize + nonceSize) (tagsSize s) ≡ part d stampSize (nonceSize + tagsSize s) = part-join d stampSize nonceSize (tagsSize s) in
+      let k : part d 0 stampSize ++ part d (0 + stampSize) (nonceSize + tagsSize s) ≡ part d 0 (stampSize + (nonceSize + tagsSize s)) = part-join d 0 stampSize (nonceSize + tagsSize s) in
+      let e : stampSize + (nonceSize + tagsSize s) ≡ candidateSize s = omega arith in
+      rw (stamp-back d b h, j) (k ∙ ap (part d 0) e)
+
+  length-back : print2 (lengthAt d) ≡ part d 0 2
+  unfolding lengthAt part
+  length-back = two d b h where
+    two : (d : List ℕ) → Bytes d → 5 ≤ length d → print2 (value2 (getD d 0 0) (getD d 1 0)) ≡ take 2 (drop 0 d)
+    two [] b h = let z : ⊥ = omega arith in absurd z
+    two (x ∷ []) b h = let z : ⊥ = omega arith in absurd z
+    two (x ∷ y ∷ d) b h = print2-value x y (b 1)
+
+  pub share-back : shareF s .print (shareAt s d) ≡ part d 0 (shareSize s (lengthAt d))
+  unfolding shareF via seq run number2 shareAt shareOfSize lengthAt shareSize
+  share-back =
+      let f : ℕ = fragmentSize (s .shares) (value2 (getD d 0 0) (getD d 1 0)) in
+      let D : ℕ = digestsSize s in
+      let T : ℕ = tagsSize s in
+      let j₁ = part-join d (2 + f + D) digestSize T in
+      let j₂ = part-join d (2 + f) D (digestSize + T) in
+      let j₃ = part-join d 2 f (D + (digestSize + T)) in
+      let j₄ = part-join d 0 2 (f + (D + (digestSize + T))) in
+      let e : 2 + (f + (D + (digestSize + T))) ≡ 2 + f + D + digestSize + T = omega arith in
+      let N : List ℕ = print2 (value2 (getD d 0 0) (getD d 1 0)) in
+      ap (λ (x : List ℕ). N ++ (part d 2 f ++ (part d (2 + f) D ++ x))) j₁ ∙ (ap (λ (x : List ℕ). N ++ (part d 2 f ++ x)) j₂ ∙ (ap (λ (x : List ℕ). N ++ x) j₃
+      ∙ (ap (λ (x : List ℕ). x ++ part d 2 (f + (D + (digestSize + T)))) length-back ∙ (j₄ ∙ ap (part d 0) e))))
+
+-- a packet whose body has no more bytes than a slot of each kind fits its buffer
+pub packet-fits : (h : Head) (a b output : List ℕ) → packetRoom ≤ length output → headSize + (length a + length b) ≤ packetRoom
+    → packetStep h a b output ≡ wholePacket (headF .print h ++ (a ++ b)) output
+unfolding packetStep writeStep wholePacket
+packet-fits h a b output r l =
+    let n : length (headF .print h ++ (a ++ b)) ≤ packetRoom = omega (arith, length-append (headF .print h) (a ++ b), length-append a b, head-length h, l) in
+    rw (le-ltb (length output) packetRoom r, le-ltb (length output) (length (headF .print h ++ (a ++ b))) (omega arith))
+
+-- no more bytes than there are
+pub part-short : (d : List ℕ) (n : ℕ) → length (part d 0 n) ≤ length d
+unfolding part
+part-short d n = short n d
+  where
+    short : (n : ℕ) (l : List ℕ) → length (take n l) ≤ length l
+    short zero l = omega arith
+    short (suc n) [] = omega arith
+    short (suc n) (x ∷ xs) = let h = short n xs in omega arith
+
+pub fragment-most : (t n r : ℕ) → r ≡ fragmentSize (shelf t .shares) n → r ≤ n + t
+unfolding fragmentSize shelf
+fragment-most t n r e = let d = div-le-self (n + (t + 1) - 1) (t + 1) in omega (arith, e, d)

@@ -1,0 +1,62 @@
+-- What each round does with a reply that is taken, as one record: the answer, the call, the kept bytes and the output.
+-- Each is by cases on the round's tests. Assumes nothing.
+use mathlib.Core.Path.{_≡_, refl}
+use mathlib.Core.Bool.{Bool, true, false, cond}
+use mathlib.Core.List.{List}
+use mathlib.Core.Option.{some}
+use Prim.Native.Nat.{ℕ, suc, _+_, _-_, _*_}
+use lib.Dec.{eqb}
+use lib.ListN.{length}
+use Rattle.cluster.specs.Config.{shelf}
+use Rattle.protocol.specs.declared.Call.{Call}
+use Rattle.protocol.specs.declared.Tally.{Tally}
+use Rattle.protocol.specs.declared.Head.{Head}
+use Rattle.protocol.specs.declared.Taken.{Taken}
+use Rattle.protocol.specs.declared.Taken.the-variants as taken
+use Rattle.protocol.specs.Packet.{Body, Packet, anyCandidateF, heldF, storeReply, collectReply}
+use Rattle.protocol.specs.Primitives.{real}
+use Rattle.protocol.specs.Rules.{ByServer}
+use Rattle.protocol.specs.Client.{candidateIn, codeIn, heldIn}
+use Rattle.protocol.specs.ServerBytes.{over}
+use Rattle.protocol.specs.View.{chosenOf, contentOf, candidatesAt, candidateSlot}
+use Rattle.protocol.specs.ClientBytes.{Took, took, takeOn, takeClock, takeStore, takeComplete, takeCollect, takeFilter, takeRepair, delivers, put, fresh, noted, ends, withTally}
+
+module _ (t client : ℕ) (writers : List ℕ) (keys : ByServer (List ℕ)) (c : Call) (kept output : List ℕ) (h : Head) (x : Body) where
+  abbrev on : ℕ → Took
+  on r = takeOn real (shelf t) client writers keys c kept output r (some (record { head = h; body = x }))
+
+  -- the call goes on; it ends
+  abbrev going : Call → List ℕ → Took
+  going c' k = record { answer = taken.More; call = c'; kept = k; output = output }
+
+  abbrev ending : Taken → List ℕ → Took
+  ending a o = record { answer = a; call = withTally c (fresh 0); kept = kept; output = o }
+
+  abbrev marks : Tally
+  marks = noted (c .tally) (h .server)
+
+  goes : (e : Bool) (y z : Tally) (k : List ℕ) → cond e (going (withTally c y) k) (going (withTally c z) k) ≡ going (withTally c (cond e y z)) k
+  goes true y z k = refl
+  goes false y z k = refl
+
+  stored : (b e : Bool) (y z : Tally) → cond b (going c kept) (cond e (going (withTally c y) kept) (going (withTally c z) kept)) ≡ going (cond b c (withTally c (cond e y z))) kept
+  stored true e y z = refl
+  stored false e y z = goes e y z kept
+
+  pub on-store : on 2 ≡ going (cond (eqb (codeIn x) 11) c (withTally c (cond (ends (shelf t) c) (fresh 3) marks))) kept
+  unfolding takeOn takeStore took
+  on-store = stored (eqb (codeIn x) 11) (ends (shelf t) c) (fresh 3) marks
+
+  pub on-complete : on 3 ≡ cond (ends (shelf t) c) (ending (taken.Written (chosenOf (shelf t) kept .stamp .number)) output) (going (withTally c marks) kept)
+  unfolding takeOn takeComplete took
+  on-complete = refl
+
+  pub on-collect : on 4
+      ≡ going (withTally c (cond (ends (shelf t) c) (fresh 5) marks)) (put kept (candidatesAt + candidateSlot * (h .server - 1)) (anyCandidateF (shelf t) .print (candidateIn (shelf t) x)))
+  unfolding takeOn takeCollect took
+  on-collect = goes (ends (shelf t) c) (fresh 5) marks (put kept (candidatesAt + candidateSlot * (h .server - 1)) (anyCandidateF (shelf t) .print (candidateIn (shelf t) x)))
+
+  pub on-repair : on 6
+      ≡ cond (ends (shelf t) c) (ending (taken.Read (chosenOf (shelf t) kept .stamp .number) (length (contentOf c kept))) (over (contentOf c kept) output)) (going (withTally c marks) kept)
+  unfolding takeOn takeRepair delivers took
+  on-repair = refl

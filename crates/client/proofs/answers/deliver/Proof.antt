@@ -1,0 +1,34 @@
+use mathlib.Core.Path.{_∙_}
+use Rattle.protocol.proofs.Puts.{put-over}
+use borrow.Author.Needs.{needs}
+use Rattle.client.proofs.answers.deliver.Statement.{statement}
+use Rattle.client.proofs.answers.deliver.Tie as tie
+use Rattle.client.proofs.answers.deliver.Reads as reads
+use Rattle.client.proofs.answers.deliver.Lts as lts
+use Rattle.client.proofs.answers.enter.Reads as enter-reads
+use Rattle.client.proofs.kept.write_at.Reads as write-at-reads
+
+-- src/answers.rt:66:5
+write-at-requires : tie.Need-write-at-requires
+write-at-requires c κs = search needs
+
+-- src/answers.rt:67:13
+cast-n : tie.Need-cast-n
+cast-n c = search needs
+
+-- src/answers.rt:68:63
+enter-requires : tie.Need-enter-requires
+enter-requires c κs = search needs
+
+-- src/answers.rt:61:1
+same-length : tie.Need-same-length
+same-length c = search needs
+
+-- src/answers.rt:61:1
+returns : tie.Need-returns
+returns c =
+    let a = c .before .before .before .before .before .before .before .args in
+    (rw (c .enter .ensures), c .before .before .before .write-at .ensures ∙ put-over (a .out .now) (a .content .now))
+
+pub deliver-spec : {M : Type 1} → statement M
+deliver-spec = tie.close (tie.spec write-at-requires cast-n enter-requires same-length returns)

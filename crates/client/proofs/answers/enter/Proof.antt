@@ -1,0 +1,22 @@
+use borrow.Author.Needs.{needs}
+use Rattle.client.proofs.answers.enter.Statement.{statement}
+use Rattle.client.proofs.answers.enter.Tie as tie
+use Rattle.client.proofs.answers.enter.Reads as reads
+use Rattle.client.proofs.answers.enter.Lts as lts
+use Rattle.client.proofs.rounds.fresh_tally.Reads as fresh-tally-reads
+use Rattle.client.proofs.rounds.with_tally.Reads as with-tally-reads
+
+-- src/answers.rt:46:30
+fresh-tally-requires : tie.Need-fresh-tally-requires
+fresh-tally-requires c κs = search needs
+
+-- src/answers.rt:46:5
+with-tally-requires : tie.Need-with-tally-requires
+with-tally-requires c κs = search needs
+
+-- src/answers.rt:43:1
+returns : tie.Need-returns
+returns c = rw (c .with-tally .ensures, c .before .fresh-tally .ensures)
+
+pub enter-spec : {M : Type 1} → statement M
+enter-spec = tie.close (tie.spec fresh-tally-requires with-tally-requires returns)

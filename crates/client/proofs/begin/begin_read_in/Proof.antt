@@ -1,0 +1,76 @@
+use mathlib.Core.Path.{sym, _∙_}
+use native.Mathlib.Omega.{arith}
+use Rattle.client.proofs.Begins.{read-short, read-refused, read-begins, read-fits}
+use borrow.Author.Needs.{needs}
+use Rattle.client.proofs.begin.begin_read_in.Statement.{statement}
+use Rattle.client.proofs.begin.begin_read_in.Tie as tie
+use Rattle.client.proofs.begin.begin_read_in.Reads as reads
+use Rattle.client.proofs.begin.begin_read_in.Lts as lts
+use Rattle.client.proofs.begin.clear_slots.Reads as clear-slots-reads
+use Rattle.client.proofs.begin.next_call.Reads as next-call-reads
+use Rattle.client.proofs.begin.not_begun.Reads as not-begun-reads
+use Rattle.client.proofs.refusals.read_refusal.Reads as read-refusal-reads
+
+-- src/begin.rt:133:9
+not-begun-requires : tie.Need-not-begun-requires
+not-begun-requires c κs = search needs
+
+-- src/begin.rt:133:9
+returns : tie.Need-returns
+returns c =
+    let a = c .before .before .before .args in
+    let e = read-short (a .t) (a .client) (a .call) (a .kept .now) (c .before .if1 .taken) in
+    (rw (e, c .not-begun .ensures), rw e)
+
+-- src/begin.rt:135:9
+read-refusal-requires : tie.Need-read-refusal-requires
+read-refusal-requires c κs = search needs
+
+-- src/begin.rt:137:9
+not-begun-requires-2 : tie.Need-not-begun-requires-2
+not-begun-requires-2 c κs = search needs
+
+-- src/begin.rt:137:9
+returns-2 : tie.Need-returns-2
+returns-2 c =
+    let a = c .before .before .before .before .before .args in
+    let e = read-refused (a .t) (a .client) (a .call) (a .kept .now) (c .before .before .before .if1 .left) _ (c .before .before .read-refusal .ensures) (c .before .if2 .taken) in
+    (rw (e, c .not-begun2 .ensures), rw e)
+
+-- src/begin.rt:139:5
+clear-slots-requires : tie.Need-clear-slots-requires
+clear-slots-requires c κs = search needs
+
+-- src/begin.rt:140:5
+next-call-requires : tie.Need-next-call-requires
+next-call-requires c κs =
+    let a = c .before .before .before .before .before .before .before .before .args in
+    let z = sym (c .before .before .before .before .before .read-refusal .ensures) ∙ c .before .before .before .before .if2 .left in
+    let f = read-fits (a .t) (a .client) (a .call) (a .kept .now) z in
+    omega arith
+
+-- src/begin.rt:129:1
+same-length : tie.Need-same-length
+same-length c = search needs
+
+-- src/begin.rt:129:1
+returns-3 : tie.Need-returns-3
+returns-3 c =
+    let a = c .before .before .before .before .before .before .before .before .before .args in
+    let z = sym (c .before .before .before .before .before .before .read-refusal .ensures) ∙ c .before .before .before .before .before .if2 .left in
+    let e = read-begins (a .t) (a .client) (a .call) (a .kept .now) (c .before .before .before .before .before .before .before .if1 .left) z in
+    (rw (e, c .next-call .ensures), rw e (c .before .before .before .clear-slots .ensures))
+
+pub begin-read-in-spec : {M : Type 1} → statement M
+begin-read-in-spec =
+    tie.close
+    (tie.spec
+    not-begun-requires
+    returns
+    read-refusal-requires
+    not-begun-requires-2
+    returns-2
+    clear-slots-requires
+    next-call-requires
+    same-length
+    returns-3)

@@ -1,0 +1,26 @@
+use mathlib.Core.Path.{_∙_}
+use borrow.Author.Needs.{needs}
+use Rattle.client.proofs.begin.keep_write.Statement.{statement}
+use Rattle.client.proofs.begin.keep_write.Tie as tie
+use Rattle.client.proofs.begin.keep_write.Reads as reads
+use Rattle.client.proofs.begin.keep_write.Lts as lts
+use Rattle.client.proofs.kept.write_at.Reads as write-at-reads
+
+-- src/begin.rt:77:5
+write-at-requires : tie.Need-write-at-requires
+write-at-requires c κs = search needs
+
+-- src/begin.rt:78:5
+write-at-requires-2 : tie.Need-write-at-requires-2
+write-at-requires-2 c κs = search needs
+
+-- src/begin.rt:73:1
+same-length : tie.Need-same-length
+same-length c = search needs
+
+-- src/begin.rt:73:1
+returns : tie.Need-returns
+returns c = c .before .before .write-at2 .ensures ∙ rw (c .before .before .before .before .before .before .write-at .ensures)
+
+pub keep-write-spec : {M : Type 1} → statement M
+keep-write-spec = tie.close (tie.spec write-at-requires write-at-requires-2 same-length returns)

@@ -1,0 +1,23 @@
+use mathlib.Core.Path.{_∙_}
+use Rattle.client.proofs.Begins.{core-read}
+use borrow.Author.Needs.{needs}
+use Rattle.client.proofs.begin.read_by_value.Statement.{statement}
+use Rattle.client.proofs.begin.read_by_value.Tie as tie
+use Rattle.client.proofs.begin.read_by_value.Reads as reads
+use Rattle.client.proofs.begin.read_by_value.Lts as lts
+use Rattle.client.proofs.begin.begin_read_in.Reads as begin-read-in-reads
+
+-- src/begin.rt:146:5
+begin-read-in-requires : tie.Need-begin-read-in-requires
+begin-read-in-requires c κs = search needs
+
+-- src/begin.rt:143:1
+returns : tie.Need-returns
+returns c =
+    let a = c .before .before .args in
+    let e = core-read (a .t) (a .client) (a .call) (a .kept .now) (search needs) in
+    let r = c .begin-read-in .ensures in
+    (r .0 ∙ rw e, r .1 ∙ rw e)
+
+pub read-by-value-spec : {M : Type 1} → statement M
+read-by-value-spec = tie.close (tie.spec begin-read-in-requires returns)

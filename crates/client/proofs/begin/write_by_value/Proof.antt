@@ -1,0 +1,23 @@
+use mathlib.Core.Path.{_∙_}
+use Rattle.client.proofs.Begins.{core-write}
+use borrow.Author.Needs.{needs}
+use Rattle.client.proofs.begin.write_by_value.Statement.{statement}
+use Rattle.client.proofs.begin.write_by_value.Tie as tie
+use Rattle.client.proofs.begin.write_by_value.Reads as reads
+use Rattle.client.proofs.begin.write_by_value.Lts as lts
+use Rattle.client.proofs.begin.begin_write_in.Reads as begin-write-in-reads
+
+-- src/begin.rt:116:5
+begin-write-in-requires : tie.Need-begin-write-in-requires
+begin-write-in-requires c κs = search needs
+
+-- src/begin.rt:105:1
+returns : tie.Need-returns
+returns c =
+    let a = c .before .before .before .args in
+    let e = core-write (a .t) (a .client) (a .call) (a .kept .now) (a .content .now) (a .nonce .now) (search needs) in
+    let r = c .begin-write-in .ensures in
+    (r .0 ∙ rw e, r .1 ∙ rw e)
+
+pub write-by-value-spec : {M : Type 1} → statement M
+write-by-value-spec = tie.close (tie.spec begin-write-in-requires returns)

@@ -1,0 +1,24 @@
+use Rattle.protocol.specs.View.{chosenOf, candidateAt, stampAt}
+use borrow.Author.Needs.{needs}
+use Rattle.client.proofs.kept.chosen_number.Statement.{statement}
+use Rattle.client.proofs.kept.chosen_number.Tie as tie
+use Rattle.client.proofs.kept.chosen_number.Reads as reads
+use Rattle.client.proofs.kept.chosen_number.Lts as lts
+use Rattle.wire.proofs.bytes.number4.Reads as number4-reads
+use Rattle.wire.proofs.bytes.part.Reads as part-reads
+
+-- src/kept.rt:34:26
+part-requires : tie.Need-part-requires
+part-requires c κs = search needs
+
+-- src/kept.rt:34:5
+number4-requires : tie.Need-number4-requires
+number4-requires c κs = search needs
+
+-- src/kept.rt:31:1
+returns : tie.Need-returns
+unfolding chosenOf candidateAt stampAt
+returns c = rw (c .number4 .ensures, c .before .part .ensures)
+
+pub chosen-number-spec : {M : Type 1} → statement M
+chosen-number-spec = tie.close (tie.spec part-requires number4-requires returns)

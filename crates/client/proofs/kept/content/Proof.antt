@@ -1,0 +1,29 @@
+use native.Mathlib.Nat.{le-trans}
+use Rattle.protocol.specs.View.{contentOf}
+use Rattle.wire.proofs.Runs.{part-most}
+use borrow.Author.Needs.{needs}
+use Rattle.client.proofs.kept.content.Statement.{statement}
+use Rattle.client.proofs.kept.content.Tie as tie
+use Rattle.client.proofs.kept.content.Reads as reads
+use Rattle.client.proofs.kept.content.Lts as lts
+use Rattle.client.proofs.kept.content_length.Reads as content-length-reads
+use Rattle.wire.proofs.bytes.part.Reads as part-reads
+
+-- src/kept.rt:52:32
+content-length-requires : tie.Need-content-length-requires
+content-length-requires c κs = search needs
+
+-- src/kept.rt:52:5
+part-requires : tie.Need-part-requires
+part-requires c κs = search needs
+
+-- src/kept.rt:49:1
+returns : tie.Need-returns
+unfolding contentOf
+returns c =
+    let e = c .part .ensures in
+    let n = c .before .content-length .ensures in
+    (rw (e, n .0), le-trans (rw e (part-most (c .before .before .before .args .kept .now) 0 (c .before .content-length .result))) (n .1))
+
+pub content-spec : {M : Type 1} → statement M
+content-spec = tie.close (tie.spec content-length-requires part-requires returns)

@@ -1,0 +1,32 @@
+use borrow.Author.Needs.{needs}
+use native.Mathlib.Omega.{arith}
+use mathlib.Core.Path.{_≡_, refl, sym, ap, _∙_}
+use lib.ListN.{length}
+use Rattle.protocol.specs.Values.{digestSize}
+use Rattle.protocol.proofs.Puts.{put-put}
+use Rattle.client.proofs.prepare.put_common.Statement.{statement}
+use Rattle.client.proofs.prepare.put_common.Tie as tie
+
+slice-aggregate-write-at : tie.Need-slice-aggregate-write-at
+slice-aggregate-write-at c = search needs
+
+write-at-requires : tie.Need-write-at-requires
+write-at-requires c κs = let z : length (c .before .before .before .before .args .t3) ≡ digestSize = search needs in omega (arith, z, c .before .before .before .before .pre)
+
+add-write-at : tie.Need-add-write-at
+add-write-at c = omega (arith, c .before .before .before .before .before .before .before .before .pre)
+
+write-at-requires-2 : tie.Need-write-at-requires-2
+write-at-requires-2 c κs = omega (arith, c .before .before .before .before .before .before .before .before .pre)
+
+same-length : tie.Need-same-length
+same-length c = search needs
+
+returns : tie.Need-returns
+returns c =
+    let a = c .before .before .before .before .before .before .before .before .before .before .before .args in
+    let z : length (a .t3) ≡ digestSize = search needs in
+    c .before .before .write-at2 .ensures ∙ rw (c .before .before .before .before .before .before .write-at .ensures) (put-put (a .common .now) (a .at) digestSize (a .t3) (a .tags .now) z (c .before .before .before .before .before .before .before .before .before .before .before .pre))
+
+pub put-common-spec : {M : Type 1} → statement M
+put-common-spec = tie.close (tie.spec slice-aggregate-write-at write-at-requires add-write-at write-at-requires-2 same-length returns)

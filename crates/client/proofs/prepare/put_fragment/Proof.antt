@@ -1,0 +1,98 @@
+use borrow.Author.Needs.{needs}
+use native.Mathlib.Omega.{arith}
+use mathlib.Core.Path.{_≡_, refl, sym, ap, _∙_}
+use Prim.Native.Nat.{ℕ, suc, _*_}
+use native.Mathlib.Numerals.{add-one}
+use lib.ListN.{length}
+use Rattle.cluster.specs.Config.{shelf}
+use Rattle.erasure.specs.declared.FragmentOutcome.{FragmentOutcome}
+use Rattle.erasure.specs.Fragments.{fragment, fragmentSize}
+use Rattle.erasure.specs.Steps.{fragmentStep}
+use Rattle.protocol.specs.Values.{digestSize}
+use Rattle.protocol.specs.Primitives.{real}
+use Rattle.protocol.specs.View.{part}
+use Rattle.client.proofs.ShareBytes.{fragment-cut, piece-length}
+use Rattle.client.proofs.prepare.put_fragment.Statement.{statement}
+use Rattle.client.proofs.prepare.put_fragment.Tie as tie
+
+add-fragment : tie.Need-add-fragment
+unfolding shelf
+add-fragment c = omega (arith, c .before .before .before .pre .1 .0, c .before .before .before .pre .1 .1 .0)
+
+fragment-requires : tie.Need-fragment-requires
+fragment-requires c κs = search needs
+
+slice-aggregate-part : tie.Need-slice-aggregate-part
+slice-aggregate-part c = search needs
+
+part-requires : tie.Need-part-requires
+part-requires c κs = search needs
+
+digest-requires : tie.Need-digest-requires
+digest-requires c κs = search needs
+
+mul-write-at : tie.Need-mul-write-at
+mul-write-at c =
+    let a = c .before .before .before .before .before .before .before .before .before .args in
+    let p = c .before .before .before .before .before .before .before .before .before .pre in
+    let cut = fragment-cut (a .t) (a .i) (a .content .now) (p .0) (p .1 .0) (p .1 .1 .0) (p .1 .1 .1 .0) in
+    let size : ℕ = fragmentSize (shelf (a .t) .shares) (length (a .content .now)) in
+    let e : c .before .before .before .before .before .fragment .result ≡ fragmentStep (a .t) (suc (a .i)) (a .content .now) = c .before .before .before .before .before .fragment .ensures ∙ ap (λ (k : ℕ). fragmentStep (a .t) k (a .content .now)) (add-one (a .i)) in
+    let n : c .before .before .before .before .before .fragment .result .count ≡ size = ap (λ (x : FragmentOutcome). x .count) e ∙ cut .0 in
+    let q : part (c .before .before .before .before .before .fragment .result .bytes) 0 (c .before .before .before .before .before .fragment .result .count) ≡ fragment (shelf (a .t) .points) (shelf (a .t) .shares) (a .content .now) (suc (a .i)) = ap (λ (x : FragmentOutcome). part (x .bytes) 0 (x .count)) e ∙ cut .1 in
+    let m : c .before .before .before .before .before .fragment .result .count * a .i ≡ size * a .i = ap (λ (k : ℕ). k * a .i) n in
+    let l = piece-length (a .t) (a .i) (a .content .now) (p .0) (p .1 .0) (p .1 .1 .0) (p .1 .1 .1 .0) in
+    omega (arith, m, p .1 .1 .1 .1 .0)
+
+slice-aggregate-part-2 : tie.Need-slice-aggregate-part-2
+slice-aggregate-part-2 c = search needs
+
+part-requires-2 : tie.Need-part-requires-2
+part-requires-2 c κs = search needs
+
+write-at-requires : tie.Need-write-at-requires
+write-at-requires c κs =
+    let a = c .before .before .before .before .before .before .before .before .before .before .before .args in
+    let p = c .before .before .before .before .before .before .before .before .before .before .before .pre in
+    let cut = fragment-cut (a .t) (a .i) (a .content .now) (p .0) (p .1 .0) (p .1 .1 .0) (p .1 .1 .1 .0) in
+    let size : ℕ = fragmentSize (shelf (a .t) .shares) (length (a .content .now)) in
+    let e : c .before .before .before .before .before .before .before .fragment .result ≡ fragmentStep (a .t) (suc (a .i)) (a .content .now) = c .before .before .before .before .before .before .before .fragment .ensures ∙ ap (λ (k : ℕ). fragmentStep (a .t) k (a .content .now)) (add-one (a .i)) in
+    let n : c .before .before .before .before .before .before .before .fragment .result .count ≡ size = ap (λ (x : FragmentOutcome). x .count) e ∙ cut .0 in
+    let q : part (c .before .before .before .before .before .before .before .fragment .result .bytes) 0 (c .before .before .before .before .before .before .before .fragment .result .count) ≡ fragment (shelf (a .t) .points) (shelf (a .t) .shares) (a .content .now) (suc (a .i)) = ap (λ (x : FragmentOutcome). part (x .bytes) 0 (x .count)) e ∙ cut .1 in
+    let m : c .before .before .before .before .before .before .before .fragment .result .count * a .i ≡ size * a .i = ap (λ (k : ℕ). k * a .i) n in
+    let l = piece-length (a .t) (a .i) (a .content .now) (p .0) (p .1 .0) (p .1 .1 .0) (p .1 .1 .1 .0) in
+    let k : length (part (c .before .before .before .before .before .before .before .fragment .result .bytes) 0 (c .before .before .before .before .before .before .before .fragment .result .count)) ≡ size = ap length q ∙ l in
+    rw (c .part2 .ensures) (omega (arith, m, k, p .1 .1 .1 .1 .0))
+
+mul-write-at-2 : tie.Need-mul-write-at-2
+unfolding shelf
+mul-write-at-2 c = omega (arith, c .before .before .before .before .before .before .before .before .before .before .before .before .before .before .before .pre .1 .0, c .before .before .before .before .before .before .before .before .before .before .before .before .before .before .before .pre .1 .1 .0)
+
+slice-aggregate-write-at : tie.Need-slice-aggregate-write-at
+slice-aggregate-write-at c = search needs
+
+write-at-requires-2 : tie.Need-write-at-requires-2
+write-at-requires-2 c κs = let d : length (c .before .before .before .before .before .before .before .before .digest .result) ≡ digestSize = search needs in omega (arith, d, c .before .before .before .before .before .before .before .before .before .before .before .before .before .before .before .before .pre .1 .1 .1 .1 .1)
+
+same-length : tie.Need-same-length
+same-length c = search needs
+
+same-length-2 : tie.Need-same-length-2
+same-length-2 c = search needs
+
+returns : tie.Need-returns
+unfolding real
+returns c =
+    let a = c .before .before .before .before .before .before .before .before .before .before .before .before .before .before .before .before .before .before .before .args in
+    let p = c .before .before .before .before .before .before .before .before .before .before .before .before .before .before .before .before .before .before .before .pre in
+    let cut = fragment-cut (a .t) (a .i) (a .content .now) (p .0) (p .1 .0) (p .1 .1 .0) (p .1 .1 .1 .0) in
+    let size : ℕ = fragmentSize (shelf (a .t) .shares) (length (a .content .now)) in
+    let e : c .before .before .before .before .before .before .before .before .before .before .before .before .before .before .before .fragment .result ≡ fragmentStep (a .t) (suc (a .i)) (a .content .now) = c .before .before .before .before .before .before .before .before .before .before .before .before .before .before .before .fragment .ensures ∙ ap (λ (k : ℕ). fragmentStep (a .t) k (a .content .now)) (add-one (a .i)) in
+    let n : c .before .before .before .before .before .before .before .before .before .before .before .before .before .before .before .fragment .result .count ≡ size = ap (λ (x : FragmentOutcome). x .count) e ∙ cut .0 in
+    let q : part (c .before .before .before .before .before .before .before .before .before .before .before .before .before .before .before .fragment .result .bytes) 0 (c .before .before .before .before .before .before .before .before .before .before .before .before .before .before .before .fragment .result .count) ≡ fragment (shelf (a .t) .points) (shelf (a .t) .shares) (a .content .now) (suc (a .i)) = ap (λ (x : FragmentOutcome). part (x .bytes) 0 (x .count)) e ∙ cut .1 in
+    let m : c .before .before .before .before .before .before .before .before .before .before .before .before .before .before .before .fragment .result .count * a .i ≡ size * a .i = ap (λ (k : ℕ). k * a .i) n in
+    let l = piece-length (a .t) (a .i) (a .content .now) (p .0) (p .1 .0) (p .1 .1 .0) (p .1 .1 .1 .0) in
+    (c .before .before .before .before .before .before .before .write-at .ensures ∙ rw (c .before .before .before .before .before .before .before .before .part2 .ensures, q, m), c .before .before .write-at2 .ensures ∙ rw (c .before .before .before .before .before .before .before .before .before .before .before .digest .ensures, c .before .before .before .before .before .before .before .before .before .before .before .before .part .ensures, q))
+
+pub put-fragment-spec : {M : Type 1} → statement M
+put-fragment-spec = tie.close (tie.spec add-fragment fragment-requires slice-aggregate-part part-requires digest-requires mul-write-at slice-aggregate-part-2 part-requires-2 write-at-requires mul-write-at-2 slice-aggregate-write-at write-at-requires-2 same-length same-length-2 returns)

@@ -1,0 +1,50 @@
+use borrow.Author.Needs.{needs}
+use native.Mathlib.Omega.{arith}
+use mathlib.Core.Path.{_≡_, ap, _∙_}
+use mathlib.Core.List.{_++_}
+use Prim.Native.Nat.{_+_, _*_}
+use lib.ListN.{length, length-append}
+use Rattle.cluster.specs.Config.{shelf}
+use Rattle.protocol.specs.Values.{digestSize}
+use Rattle.protocol.specs.View.{contentOf}
+use Rattle.client.proofs.ShareBytes.{digests-then}
+use Rattle.client.proofs.prepare.put_parts.Statement.{statement}
+use Rattle.client.proofs.prepare.put_parts.Tie as tie
+
+content-requires : tie.Need-content-requires
+content-requires c κs = search needs
+
+put-fragments-requires : tie.Need-put-fragments-requires
+put-fragments-requires c κs =
+    let p = c .before .before .before .before .before .before .before .pre in
+    let k = c .before .before .content .ensures in
+    (p .0, (p .1 .0, (k .1, (rw (k .0) (p .1 .1 .0), omega (arith, p .1 .1 .1)))))
+
+servers-requires : tie.Need-servers-requires
+servers-requires c κs = c .before .before .before .before .before .before .before .before .before .before .before .before .before .pre .1 .0
+
+mul-put-common : tie.Need-mul-put-common
+unfolding shelf
+mul-put-common c = let e : c .servers .result ≡ 3 * c .before .before .before .before .before .before .before .before .before .before .before .before .before .before .args .t + 1 = c .servers .ensures in omega (arith, c .before .before .before .before .before .before .before .before .before .before .before .before .before .before .pre .1 .0)
+
+put-common-requires : tie.Need-put-common-requires
+put-common-requires c κs = rw (c .servers .ensures) (omega (arith, c .before .before .before .before .before .before .before .before .before .before .before .before .before .before .pre .1 .1 .1))
+
+same-length : tie.Need-same-length
+same-length c = search needs
+
+same-length-2 : tie.Need-same-length-2
+same-length-2 c = search needs
+
+returns : tie.Need-returns
+returns c =
+    let a = c .before .before .before .before .before .before .before .before .before .before .before .before .before .before .before .before .before .args in
+    let p = c .before .before .before .before .before .before .before .before .before .before .before .before .before .before .before .before .before .pre in
+    let k = c .before .before .before .before .before .before .before .before .before .before .before .before .content .ensures .0 in
+    let f = c .before .before .before .before .before .before .before .before .before .put-fragments .ensures in
+    let z : length (a .digest) ≡ digestSize = c .before .before .before .before .before .before .before .before .before .before .before .before .before .before .before .before .before .good .1 .1 .1 .1 .1 .0 .1 .0 .1 in
+    let l = length-append (a .digest) (a .tags .now) in
+    (rw k, (rw k at (f .0), c .before .before .put-common .ensures ∙ rw (c .before .before .before .servers .ensures, f .1, k) (digests-then (a .t) (contentOf (a .call) (a .kept .now)) (a .common .now) (a .digest ++ a .tags .now) (shelf (a .t) .servers) (omega (arith, z, l, p .1 .1 .1)))))
+
+pub put-parts-spec : {M : Type 1} → statement M
+put-parts-spec = tie.close (tie.spec content-requires put-fragments-requires servers-requires mul-put-common put-common-requires same-length same-length-2 returns)

@@ -1,0 +1,49 @@
+use borrow.Author.Needs.{needs}
+use native.Mathlib.Omega.{arith}
+use mathlib.Core.Path.{_≡_, refl, sym, ap, _∙_}
+use Prim.Native.Nat.{_+_, _*_}
+use lib.ListN.{length}
+use Rattle.protocol.specs.View.{repliesAt, replySlot}
+use Rattle.client.proofs.ShareBytes.{three-puts}
+use Rattle.client.proofs.prepare.put_share.Statement.{statement}
+use Rattle.client.proofs.prepare.put_share.Tie as tie
+
+mul-at : tie.Need-mul-at
+mul-at c = omega (arith, c .before .before .before .pre .0)
+
+add-at : tie.Need-add-at
+add-at c = omega (arith, c .before .before .before .pre .0)
+
+slice-aggregate-write-at : tie.Need-slice-aggregate-write-at
+slice-aggregate-write-at c = search needs
+
+write-at-requires : tie.Need-write-at-requires
+write-at-requires c κs = let z : length (c .before .before .before .before .before .args .t3) ≡ 2 = search needs in let p = c .before .before .before .before .before .pre in omega (arith, z, p .0, p .1 .0)
+
+add-write-at : tie.Need-add-write-at
+add-write-at c = omega (arith, c .before .before .before .before .before .before .before .before .before .pre .0)
+
+write-at-requires-2 : tie.Need-write-at-requires-2
+write-at-requires-2 c κs = let p = c .before .before .before .before .before .before .before .before .before .pre in omega (arith, p .0, p .1 .0, p .1 .1)
+
+add-write-at-2 : tie.Need-add-write-at-2
+add-write-at-2 c = omega (arith, c .before .before .before .before .before .before .before .before .before .before .before .before .before .pre .0)
+
+add-write-at-3 : tie.Need-add-write-at-3
+add-write-at-3 c = omega (arith, c .before .before .before .before .before .before .before .before .before .before .before .before .before .pre .0, c .before .before .before .before .before .before .before .before .before .before .before .before .before .pre .1 .1)
+
+write-at-requires-3 : tie.Need-write-at-requires-3
+write-at-requires-3 c κs = let p = c .before .before .before .before .before .before .before .before .before .before .before .before .before .pre in omega (arith, p .0, p .1 .0, p .1 .1)
+
+same-length : tie.Need-same-length
+same-length c = search needs
+
+returns : tie.Need-returns
+returns c =
+    let a = c .before .before .before .before .before .before .before .before .before .before .before .before .before .before .before .before .args in
+    let p = c .before .before .before .before .before .before .before .before .before .before .before .before .before .before .before .before .pre in
+    let z : length (a .t3) ≡ 2 = search needs in
+    c .before .before .write-at3 .ensures ∙ rw (c .before .before .before .before .before .before .write-at2 .ensures, c .before .before .before .before .before .before .before .before .before .before .write-at .ensures) (three-puts (a .kept .now) (repliesAt + replySlot * a .i) 2 (length (a .fragment .now)) (a .t3) (a .fragment .now) (a .common .now) z refl (omega (arith, p .0, p .1 .0, p .1 .1)))
+
+pub put-share-spec : {M : Type 1} → statement M
+put-share-spec = tie.close (tie.spec mul-at add-at slice-aggregate-write-at write-at-requires add-write-at write-at-requires-2 add-write-at-2 add-write-at-3 write-at-requires-3 same-length returns)

@@ -1,0 +1,76 @@
+use borrow.Author.Needs.{needs}
+use native.Mathlib.Omega.{arith}
+use mathlib.Core.Path.{_≡_, refl, sym, ap, _∙_}
+use Prim.Native.Nat.{ℕ, _≤_, _-_, _+_, _*_}
+use native.Mathlib.Nat.{mul-le-mul}
+use native.Mathlib.Numerals.{add-one}
+use lib.ListN.{length}
+use Rattle.cluster.specs.Config.{shelf}
+use Rattle.protocol.specs.View.{keptSize}
+use Rattle.wire.proofs.Runs.{part-most}
+use Rattle.client.specs.Steps.{shareRun}
+use Rattle.client.proofs.prepare.put_shares.Statement.{statement}
+use Rattle.client.proofs.prepare.put_shares.Tie as tie
+
+abbrev Inv-loop : tie.InvT-loop
+Inv-loop kept₀ t size fragments f common s i₀ kept i = (i ≤ s) × ((kept ≡ shareRun kept₀ size fragments f common i) × (length kept ≡ keptSize))
+
+abbrev μ-loop : tie.MeasureT-loop
+μ-loop kept₀ t size fragments f common s i₀ kept i = s - i
+
+servers-requires : tie.Need-servers-requires Inv-loop μ-loop
+servers-requires c κs = search needs
+
+loop-holds : tie.Need-loop-holds Inv-loop μ-loop
+unfolding shareRun
+loop-holds c = (omega arith, (refl, c .before .before .before .before .pre .1 .0))
+
+mul-part : tie.Need-mul-part Inv-loop μ-loop
+unfolding shelf
+mul-part c =
+    let a = c .before .before .before .before .before .before .before .args in
+    let p = c .before .before .before .before .before .before .before .pre in
+    let e : c .before .before .before .servers .result ≡ 3 * a .t + 1 = c .before .before .before .servers .ensures in
+    let m = mul-le-mul {n₁ = a .f} {m₁ = c .before .before .loop .i} {n₂ = 1120} {m₂ = 13} (omega (arith, p .1 .1)) (omega (arith, p .0)) in
+    omega (arith, m)
+
+part-requires : tie.Need-part-requires Inv-loop μ-loop
+part-requires c κs = search needs
+
+put-share-requires : tie.Need-put-share-requires Inv-loop μ-loop
+unfolding shelf
+put-share-requires c κs =
+    let a = c .before .before .before .before .before .before .before .before .args in
+    let p = c .before .before .before .before .before .before .before .before .pre in
+    let e : c .before .before .before .before .servers .result ≡ 3 * a .t + 1 = c .before .before .before .before .servers .ensures in
+    let m = part-most (a .fragments .now) (a .f * c .before .before .before .loop .i) (a .f) in
+    (omega (arith, p .0), (c .before .before .before .loop .inv .1 .1, rw (c .part .ensures) (omega (arith, m, p .1 .1))))
+
+add-i : tie.Need-add-i Inv-loop μ-loop
+add-i c = search needs
+
+loop-less : tie.Need-loop-less Inv-loop μ-loop
+loop-less c = omega arith
+
+loop-again : tie.Need-loop-again Inv-loop μ-loop
+unfolding shareRun shelf
+loop-again c =
+    let a = c .before .before .before .before .before .before .before .before .before .before .before .args in
+    let p = c .before .before .before .before .before .before .before .before .before .before .before .pre in
+    let i = c .before .before .before .before .before .before .loop .i in
+    let v = c .before .before .before .before .before .before .loop .inv in
+    let e = c .before .before .put-share .ensures in
+    let g = c .before .before .before .part .ensures in
+    (omega arith, (e ∙ rw (g, v .1 .0) (ap (shareRun (a .kept .now) (a .size) (a .fragments .now) (a .f) (a .common .now)) (sym (add-one i))), (let z : length (c .before .before .put-share .last .0) ≡ length (c .before .before .before .before .before .before .loop .kept) = search needs in z ∙ v .1 .1)))
+
+same-length : tie.Need-same-length Inv-loop μ-loop
+same-length c = c .before .loop .inv .1 .1 ∙ sym (c .before .before .before .before .before .before .pre .1 .0)
+
+returns : tie.Need-returns Inv-loop μ-loop
+returns c =
+    let a = c .before .before .before .before .before .before .args in
+    let q : c .before .loop .i ≡ shelf (a .t) .servers = omega (arith, c .before .before .servers .ensures) in
+    rw q at (c .before .loop .inv .1 .0)
+
+pub put-shares-spec : {M : Type 1} → statement M
+put-shares-spec = tie.close (tie.spec Inv-loop μ-loop servers-requires loop-holds mul-part part-requires put-share-requires add-i loop-less loop-again same-length returns)

@@ -1,0 +1,68 @@
+use mathlib.Core.Path.{sym, _∙_}
+use borrow.Author.Needs.{needs}
+use Rattle.client.proofs.reads.take_repair.Statement.{statement}
+use Rattle.client.proofs.reads.take_repair.Tie as tie
+use Rattle.client.proofs.reads.take_repair.Reads as reads
+use Rattle.client.proofs.reads.take_repair.Lts as lts
+use Rattle.client.proofs.answers.deliver.Reads as deliver-reads
+use Rattle.client.proofs.answers.more.Reads as more-reads
+use Rattle.client.proofs.answers.note_reply.Reads as note-reply-reads
+use Rattle.client.proofs.kept.chosen_number.Reads as chosen-number-reads
+use Rattle.client.proofs.kept.content.Reads as content-reads
+use Rattle.client.proofs.rounds.is_last.Reads as is-last-reads
+
+-- src/reads.rt:35:8
+is-last-requires : tie.Need-is-last-requires
+is-last-requires c κs = search needs
+
+-- src/reads.rt:36:13
+chosen-number-requires : tie.Need-chosen-number-requires
+chosen-number-requires c κs = search needs
+
+-- src/reads.rt:37:47
+content-requires : tie.Need-content-requires
+content-requires c κs = search needs
+
+-- src/reads.rt:37:9
+deliver-requires : tie.Need-deliver-requires
+deliver-requires c κs = search needs
+
+-- src/reads.rt:37:9
+same-length : tie.Need-same-length
+same-length c = search needs
+
+-- src/reads.rt:37:9
+returns : tie.Need-returns
+returns c =
+    let e = sym (c .before .before .before .before .before .before .before .is-last .ensures) ∙ c .before .before .before .before .before .before .if1 .taken in
+    let d = c .before .before .deliver .ensures in
+    let k = c .before .before .before .before .content .ensures .0 in
+    (rw (e, d .0, k, c .before .before .before .before .before .chosen-number .ensures), rw e (rw k at (d .1)))
+
+-- src/reads.rt:39:19
+note-reply-requires : tie.Need-note-reply-requires
+note-reply-requires c κs = search needs
+
+-- src/reads.rt:39:5
+more-requires : tie.Need-more-requires
+more-requires c κs = search needs
+
+-- src/reads.rt:28:1
+returns-2 : tie.Need-returns-2
+returns-2 c =
+    let e = sym (c .before .before .before .is-last .ensures) ∙ c .before .before .if1 .left in
+    (rw (e, c .more .ensures, c .before .note-reply .ensures), rw e)
+
+pub take-repair-spec : {M : Type 1} → statement M
+take-repair-spec =
+    tie.close
+    (tie.spec
+    is-last-requires
+    chosen-number-requires
+    content-requires
+    deliver-requires
+    same-length
+    returns
+    note-reply-requires
+    more-requires
+    returns-2)

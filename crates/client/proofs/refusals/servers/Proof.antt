@@ -1,0 +1,22 @@
+use Rattle.cluster.specs.Config.{shelf}
+use borrow.Author.Needs.{needs}
+use Rattle.client.proofs.refusals.servers.Statement.{statement}
+use Rattle.client.proofs.refusals.servers.Tie as tie
+use Rattle.client.proofs.refusals.servers.Reads as reads
+use Rattle.client.proofs.refusals.servers.Lts as lts
+
+-- src/refusals.rt:72:5
+mul-result : tie.Need-mul-result
+mul-result c = search needs
+
+-- src/refusals.rt:72:5
+add-result : tie.Need-add-result
+add-result c = search needs
+
+-- src/refusals.rt:68:1
+returns : tie.Need-returns
+unfolding shelf
+returns c = search needs
+
+pub servers-spec : {M : Type 1} → statement M
+servers-spec = tie.close (tie.spec mul-result add-result returns)

@@ -1,0 +1,14 @@
+use Rattle.protocol.specs.ClientBytes.{fresh}
+use borrow.Author.Needs.{needs}
+use Rattle.client.proofs.rounds.fresh_tally.Statement.{statement}
+use Rattle.client.proofs.rounds.fresh_tally.Tie as tie
+use Rattle.client.proofs.rounds.fresh_tally.Reads as reads
+use Rattle.client.proofs.rounds.fresh_tally.Lts as lts
+
+-- src/rounds.rt:12:1
+returns : tie.Need-returns
+unfolding fresh
+returns c = search needs
+
+pub fresh-tally-spec : {M : Type 1} → statement M
+fresh-tally-spec = tie.close (tie.spec returns)

@@ -1,0 +1,22 @@
+use borrow.Author.Tests.{lt-ltb, le-ltb}
+use native.Mathlib.Omega.{arith}
+use borrow.Author.Needs.{needs}
+use Rattle.client.proofs.rounds.one_more.Statement.{statement}
+use Rattle.client.proofs.rounds.one_more.Tie as tie
+use Rattle.client.proofs.rounds.one_more.Reads as reads
+use Rattle.client.proofs.rounds.one_more.Lts as lts
+
+-- src/rounds.rt:31:16
+add-result : tie.Need-add-result
+add-result c = search needs
+
+-- src/rounds.rt:31:9
+returns : tie.Need-returns
+returns c = rw (lt-ltb (c .before .args .count) 13 (omega arith))
+
+-- src/rounds.rt:27:1
+returns-2 : tie.Need-returns-2
+returns-2 c = rw (le-ltb (c .before .args .count) 13 (omega arith))
+
+pub one-more-spec : {M : Type 1} → statement M
+one-more-spec = tie.close (tie.spec add-result returns returns-2)

@@ -1,0 +1,60 @@
+use borrow.Author.Needs.{needs}
+use mathlib.Core.Path.{_≡_, refl, ap, _∙_}
+use Prim.Native.Nat.{ℕ, _+_}
+use native.Mathlib.Omega.{arith}
+use lib.ListN.{length, replicate}
+use mathlib.Core.List.{List, _++_}
+use Rattle.hmac.specs.Hmac.{tagOf, tagSize}
+use Rattle.protocol.specs.ClientBytes.{put}
+use Rattle.protocol.specs.Primitives.{real, stampMessage}
+use Rattle.protocol.proofs.Primitive.{real-lengths}
+use Rattle.client.proofs.StampBytes.{two-puts}
+use Rattle.client.proofs.stamps.stamp_bytes.Statement.{statement}
+use Rattle.client.proofs.stamps.stamp_bytes.Tie as tie
+
+stamp-message-requires : tie.Need-stamp-message-requires
+stamp-message-requires c κs = search needs
+
+slice-aggregate-tag : tie.Need-slice-aggregate-tag
+slice-aggregate-tag c = search needs
+
+tag-requires : tie.Need-tag-requires
+tag-requires c κs = search needs
+
+slice-aggregate-write-at : tie.Need-slice-aggregate-write-at
+slice-aggregate-write-at c = search needs
+
+slice-aggregate-write-at-2 : tie.Need-slice-aggregate-write-at-2
+slice-aggregate-write-at-2 c = search needs
+
+write-at-requires : tie.Need-write-at-requires
+write-at-requires c κs = search needs
+
+slice-aggregate-write-at-3 : tie.Need-slice-aggregate-write-at-3
+slice-aggregate-write-at-3 c = search needs
+
+slice-aggregate-write-at-4 : tie.Need-slice-aggregate-write-at-4
+slice-aggregate-write-at-4 c = search needs
+
+write-at-requires-2 : tie.Need-write-at-requires-2
+write-at-requires-2 c κs = search needs
+
+returns : tie.Need-returns
+unfolding stampMessage real
+returns c =
+    let z = c .before .write-at2 .ensures in
+    let y = c .before .before .before .before .before .write-at .ensures in
+    let m = c .before .before .before .before .before .before .before .before .before .before .before .stamp-message .ensures in
+    let g = c .before .before .before .before .before .before .before .before .tag .ensures in
+    let lm : length (c .before .before .before .before .before .before .before .before .before .before .before .stamp-message .result) ≡ 5 = ap length m in
+    let lg : length (c .before .before .before .before .before .before .before .before .tag .result) ≡ tagSize = ap length g ∙ real-lengths .tag _ _ in
+    let lz : length {A = ℕ} (replicate (5 + tagSize) 0) ≡ 5 + tagSize = refl in
+    let a = c .before .before .before .before .before .before .before .before .before .before .before .before .args in
+    let M : List ℕ = c .before .before .before .before .before .before .before .before .before .before .before .stamp-message .result in
+    let G : List ℕ = c .before .before .before .before .before .before .before .before .tag .result in
+    let v : c .before .write-at2 .last .0 ≡ M ++ G = z ∙ (ap (λ (x : List ℕ). put x 5 G) y ∙ two-puts (replicate (5 + tagSize) 0) M G 5 lm (omega (arith, lm, lg, lz))) in
+    let q : M ++ G ≡ stampMessage (a .number) (a .writer) ++ tagOf (a .writers .now) (stampMessage (a .number) (a .writer)) = rw (g, m) in
+    v ∙ q
+
+pub stamp-bytes-spec : {M : Type 1} → statement M
+stamp-bytes-spec = tie.close (tie.spec stamp-message-requires slice-aggregate-tag tag-requires slice-aggregate-write-at slice-aggregate-write-at-2 write-at-requires slice-aggregate-write-at-3 slice-aggregate-write-at-4 write-at-requires-2 returns)

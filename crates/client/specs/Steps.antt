@@ -1,0 +1,65 @@
+-- Steps of the code on the way to the definitions of crate protocol.
+use mathlib.Core.Path.{_≡_}
+use mathlib.Core.Option.{some}
+use mathlib.Core.Bool.{Bool, false, not, _&&_, _||_}
+use mathlib.Core.List.{List, [], _∷_, _++_}
+use Prim.Native.Nat.{ℕ, zero, suc, _+_, _*_}
+use lib.Dec.{eqb}
+use lib.ListN.{length}
+use Rattle.cluster.specs.Config.{shelf}
+use Rattle.cluster.specs.Ranges.{within, topClient}
+use Rattle.cluster.specs.Refusals.{refuse, firstOf}
+use Rattle.hmac.specs.Hmac.{tagOf}
+use Rattle.sha256.specs.Sha256.{sha256}
+use Rattle.erasure.specs.Fragments.{fragment}
+use Rattle.protocol.specs.declared.Call.{Call}
+use Rattle.protocol.specs.declared.Head.{Head}
+use Rattle.protocol.specs.Values.{runOf}
+use Rattle.protocol.specs.Packet.{decode}
+use Rattle.protocol.specs.Client.{badFaults}
+use Rattle.wire.specs.Places.{packetAt}
+use Rattle.protocol.specs.ServerBytes.{over}
+use Rattle.protocol.specs.View.{marked, part, repliesAt, replySlot}
+use Rattle.protocol.specs.ClientBytes.{Written, awaited, keyOf, put}
+
+-- another shelf's packet, or another client's
+abbrev pub foreign : ℕ → ℕ → Head → Bool
+foreign t client h = not (eqb (h .t) t && eqb (h .client) client)
+
+-- no reply of that call and kind, or of a server that has replied
+abbrev pub other : Call → ℕ → Head → Bool
+other c kind h = not (eqb (h .call) (c .number) && eqb (h .kind) kind) || marked (c .tally .marks) (h .server)
+
+-- the refusals of a packet that hold whatever its body is: 8, 12, 13
+unfoldable pub replyRefusal : ℕ → ℕ → Call → Head → ℕ
+replyRefusal t client c h =
+    firstOf
+    (refuse 8 (foreign t client h) ∷ refuse 12 (not (eqb (awaited c) 0) && other c (awaited c) h) ∷ refuse 13 (eqb (awaited c) 0) ∷ [])
+
+-- the tags of servers 1 to n, of a stamp's bytes and a nonce's digest
+unfoldable pub tagRun : List (List ℕ) → List ℕ → List ℕ → ℕ → List ℕ
+tagRun keys stamp d n = runOf n (λ i. tagOf (keyOf keys i) (stamp ++ d))
+
+-- a packet's bytes over the start of a buffer that has room for them
+unfoldable pub wholePacket : List ℕ → List ℕ → Written
+wholePacket bytes output = record { result = record { number = 0; count = length bytes }; output = over bytes output }
+
+-- the fragments of servers 1 to n, and their digests
+unfoldable pub fragmentRun : ℕ → List ℕ → ℕ → List ℕ
+fragmentRun t content n = runOf n (fragment (shelf t .points) (shelf t .shares) content)
+
+unfoldable pub digestRun : ℕ → List ℕ → ℕ → List ℕ
+digestRun t content n = runOf n (λ i. sha256 (fragment (shelf t .points) (shelf t .shares) content i))
+
+-- the shares of servers 1 to n in their slots: the length, the fragment out of a run of fragments of f bytes, and what is the same for all
+unfoldable pub shareRun : List ℕ → List ℕ → List ℕ → ℕ → List ℕ → ℕ → List ℕ
+shareRun kept size fragments f common zero = kept
+shareRun kept size fragments f common (suc n) =
+    put (shareRun kept size fragments f common n) (repliesAt + replySlot * n) (size ++ (part fragments (f * n) f ++ common))
+
+-- all that is known of a reply of the pending round
+pub record Ready (t client : ℕ) (c : Call) (reply : List ℕ) (h : Head) : Type 0 where
+  pub decoded : decode reply ≡ some (packetAt h reply)
+  pub faults : badFaults (shelf t) ≡ false
+  pub reader : not (within 1 topClient client) ≡ false
+  pub awaited : replyRefusal t client c h ≡ 0

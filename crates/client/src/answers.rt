@@ -1,0 +1,78 @@
+// What a reply leads to.
+ghost use mathlib.Core.Path.{_≡_};
+ghost use mathlib.Core.Bool.{cond};
+ghost use Prim.Native.Nat.{_≤_};
+ghost use lib.ListN.{length};
+ghost use Rattle.cluster.specs.Config.{shelf};
+ghost use Rattle.cluster.specs.Ranges.{topFaults, topLength, contentRoom, mostServers};
+ghost use Rattle.protocol.specs.declared.Taken.the-variants as taken;
+ghost use Rattle.protocol.specs.ServerBytes.{over};
+ghost use Rattle.protocol.specs.ClientBytes.{fresh, noted, ends, withTally};
+use crate::kept;
+use crate::rounds;
+
+// The answer to a reply, and the call after it.
+pub struct Answered {
+    pub taken: protocol::Taken,
+    pub call: protocol::Call,
+}
+
+// A refusal changes nothing.
+pub(crate) fn refused(number: u8, call: protocol::Call) -> Answered
+    ensures { λ r. ⌜ r ≡ record { taken = taken.Refused number; call = call } ⌝ }
+{
+    Answered {
+        taken: protocol::Taken::Refused(number),
+        call: call,
+    }
+}
+
+// The call goes on.
+pub(crate) fn more(call: protocol::Call) -> Answered
+    ensures { λ r. ⌜ r ≡ record { taken = taken.More; call = call } ⌝ }
+{
+    Answered {
+        taken: protocol::Taken::More,
+        call: call,
+    }
+}
+
+// The server has replied, and the round goes on.
+pub(crate) fn note_reply(call: protocol::Call, server: usize) -> protocol::Call
+    requires { ⌜ (1 ≤ server) × (server ≤ mostServers) ⌝ }
+    ensures { λ r. ⌜ r ≡ withTally call (noted (call .tally) server) ⌝ }
+{
+    rounds::with_tally(call, rounds::note(call.tally, server))
+}
+
+// The next round, or the end of the call: 0.
+pub(crate) fn enter(call: protocol::Call, round: u8) -> protocol::Call
+    ensures { λ r. ⌜ r ≡ withTally call (fresh round) ⌝ }
+{
+    rounds::with_tally(call, rounds::fresh_tally(round))
+}
+
+// The reply is noted, or it ends its round and the next one begins.
+pub(crate) fn step(call: protocol::Call, t: usize, server: usize, next: u8) -> Answered
+    requires { ⌜ (t ≤ topFaults) × ((1 ≤ server) × (server ≤ mostServers)) ⌝ }
+    ensures { λ r. ⌜ r ≡ record { taken = taken.More; call = withTally call (cond (ends (shelf t) call) (fresh next) (noted (call .tally) server)) } ⌝ }
+{
+    if rounds::is_last(t, call) {
+        return more(enter(call, next));
+    }
+    more(note_reply(call, server))
+}
+
+// A content is delivered, and the call has ended.
+pub(crate) fn deliver(call: protocol::Call, number: u32, content: &[u8], out: &mut [u8]) -> Answered
+    requires { ⌜ (length (now content) ≤ topLength) × (contentRoom ≤ length (now out)) ⌝ }
+    ensures { λ r. ⌜ (r ≡ record { taken = taken.Read number (length (now (content .entry))); call = withTally call (fresh 0) })
+        × (now (out .exit) ≡ over (now (content .entry)) (now (out .entry))) ⌝ }
+{
+    kept::write_at(out, 0, content);
+    let n = content.len() as u16;
+    Answered {
+        taken: protocol::Taken::Read(number, n),
+        call: enter(call, 0),
+    }
+}

@@ -1,0 +1,60 @@
+// The bytes that a client keeps for its call: their places, and what is read and written there.
+ghost use mathlib.Core.Path.{_≡_};
+ghost use mathlib.Core.Bool.{cond};
+ghost use Prim.Native.Nat.{_≤_, _+_};
+ghost use lib.Dec.{leb};
+ghost use lib.ListN.{length};
+ghost use Rattle.cluster.specs.Config.{shelf};
+ghost use Rattle.cluster.specs.Ranges.{topLength};
+ghost use Rattle.protocol.specs.View.{chosenOf, contentOf};
+ghost use Rattle.protocol.specs.ClientBytes.{put};
+
+pub const KEPT: usize = 24576;
+
+// Content, nonce, candidate of the write or of repair, a slot for each server's candidate, a slot for each server's share or reply.
+pub const NONCE: usize = cluster::TOP_LENGTH;
+
+pub const CHOSEN: usize = NONCE + cluster::KEY;
+
+pub const CANDIDATE_SLOT: usize = wire::sizes::STAMP
+    + cluster::KEY
+    + hmac::TAG * cluster::MOST_SERVERS;
+
+pub const CANDIDATES: usize = CHOSEN + CANDIDATE_SLOT;
+
+pub const REPLIES: usize = CANDIDATES + CANDIDATE_SLOT * cluster::MOST_SERVERS;
+
+pub const REPLY_SLOT: usize = 1120;
+
+// The bytes at a place where there is room for them.
+pub(crate) fn write_at(kept: &mut [u8], at: usize, bytes: &[u8])
+    requires { ⌜ at + length (now bytes) ≤ length (now kept) ⌝ }
+    ensures { λ _. ⌜ now (kept .exit) ≡ put (now (kept .entry)) at (now (bytes .entry)) ⌝ }
+{
+    let _ = wire::make::put(kept, at, bytes);
+}
+
+// The number of the stamp of the write or of repair.
+pub(crate) fn chosen_number(kept: &[u8], t: usize) -> u32
+    ensures { λ r. ⌜ r ≡ chosenOf (shelf t) (now (kept .entry)) .stamp .number ⌝ }
+{
+    wire::bytes::number4(wire::bytes::part(kept, CHOSEN, CANDIDATE_SLOT))
+}
+
+// The bytes of the content: no more than a content has.
+fn content_length(call: protocol::Call) -> usize
+    ensures { λ r. ⌜ (r ≡ cond (leb (call .length) topLength) (call .length) topLength) × (r ≤ topLength) ⌝ }
+{
+    let n = call.length as usize;
+    if n <= cluster::TOP_LENGTH {
+        return n;
+    }
+    cluster::TOP_LENGTH
+}
+
+// The content of a write, or the one that repair will deliver.
+pub(crate) fn content(kept: &[u8], call: protocol::Call) -> &[u8]
+    ensures { λ r. ⌜ (now r ≡ contentOf call (now (kept .entry))) × (length (now r) ≤ topLength) ⌝ }
+{
+    wire::bytes::part(kept, 0, content_length(call))
+}

@@ -1,0 +1,72 @@
+// The client: a pending call, the packets of its rounds and what their replies do.
+// A call's small state is lent as `protocol::Call`, its bulk as the kept bytes; every value of both has a meaning.
+ghost use mathlib.Core.Path.{_≡_};
+ghost use Rattle.protocol.specs.ClientBytes.{beginWrite, beginRead, giveUp};
+
+mod refusals; // which number refuses a step
+mod rounds; // the tally of a round
+pub mod kept; // the kept bytes: their places, and what is read and written there
+pub mod answers; // what a reply leads to
+mod replies; // whether a packet is an awaited reply
+mod stamps; // stamps and tags
+mod make; // the packet of the round
+mod prepare; // the end of clock
+mod writes; // the rounds of a write
+mod reads; // the rounds of a read
+pub mod begin; // beginning a call and giving it up
+
+// The state of a client that has begun no call.
+pub const NEW: protocol::Call = protocol::Call {
+    number: 0,
+    last: 0,
+    high: 0,
+    length: 0,
+    tally: protocol::Tally {
+        round: 0,
+        count: 0,
+        marks: [0; cluster::MOST_SERVERS],
+    },
+};
+
+// A write begins.
+pub fn begin_write(
+    call: &mut protocol::Call,
+    kept: &mut [u8; 24576],
+    t: usize,
+    client: usize,
+    content: &[u8],
+    nonce: &[u8; 32],
+) -> cluster::Outcome
+    ensures { λ r. ⌜ (r ≡ beginWrite t client (now (call .entry)) (now (kept .entry)) (now (content .entry)) (now (nonce .entry)) .result)
+        × ((now (call .exit) ≡ beginWrite t client (now (call .entry)) (now (kept .entry)) (now (content .entry)) (now (nonce .entry)) .call)
+        × (now (kept .exit) ≡ beginWrite t client (now (call .entry)) (now (kept .entry)) (now (content .entry)) (now (nonce .entry)) .kept)) ⌝ }
+{
+    let s = begin::write_by_value(*call, kept, t, client, content, nonce);
+    *call = s.call;
+    s.taken
+}
+
+// A read begins.
+pub fn begin_read(
+    call: &mut protocol::Call,
+    kept: &mut [u8; 24576],
+    t: usize,
+    client: usize,
+) -> cluster::Outcome
+    ensures { λ r. ⌜ (r ≡ beginRead t client (now (call .entry)) (now (kept .entry)) .result)
+        × ((now (call .exit) ≡ beginRead t client (now (call .entry)) (now (kept .entry)) .call)
+        × (now (kept .exit) ≡ beginRead t client (now (call .entry)) (now (kept .entry)) .kept)) ⌝ }
+{
+    let s = begin::read_by_value(*call, kept, t, client);
+    *call = s.call;
+    s.taken
+}
+
+// The pending call is given up.
+pub fn give_up(call: &mut protocol::Call, t: usize, client: usize) -> protocol::Aborted
+    ensures { λ r. ⌜ (r ≡ giveUp t client (now (call .entry)) .answer) × (now (call .exit) ≡ giveUp t client (now (call .entry)) .call) ⌝ }
+{
+    let s = begin::give_up_in(*call, t, client);
+    *call = s.call;
+    s.taken
+}

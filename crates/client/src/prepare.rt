@@ -1,0 +1,135 @@
+// The end of clock: stamp, tags, fragments and digests of the write are made, each once, and kept.
+ghost use mathlib.Core.Path.{_≡_};
+ghost use mathlib.Core.List.{_++_};
+ghost use Prim.Native.Nat.{suc, _≤_, _+_, _*_};
+ghost use lib.ListN.{length};
+ghost use Rattle.cluster.specs.Config.{shelf};
+ghost use Rattle.cluster.specs.Ranges.{topFaults, topLength, mostServers};
+ghost use Rattle.erasure.specs.Fragments.{fragmentSize, fragment};
+ghost use Rattle.hmac.specs.Hmac.{tagSize};
+ghost use Rattle.sha256.specs.Sha256.{sha256};
+ghost use Rattle.protocol.specs.Format.{print2};
+ghost use Rattle.protocol.specs.Values.{digestSize, stampSize, nonceSize};
+ghost use Rattle.protocol.specs.View.{repliesAt, replySlot, keptSize, chosenAt, contentOf};
+ghost use Rattle.protocol.specs.ClientBytes.{put};
+ghost use Rattle.client.specs.Steps.{fragmentRun, digestRun, shareRun};
+use crate::kept;
+use crate::refusals;
+
+// The fragment of server i + 1 and its digest, each after those before it.
+fn put_fragment(fragments: &mut [u8], digests: &mut [u8], t: usize, i: usize, content: &[u8])
+    requires { ⌜ (1 ≤ t) × ((t ≤ topFaults) × ((suc i ≤ shelf t .servers) × ((length (now content) ≤ topLength)
+        × ((fragmentSize (shelf t .shares) (length (now content)) * i + fragmentSize (shelf t .shares) (length (now content)) ≤ length (now fragments))
+        × (digestSize * i + digestSize ≤ length (now digests)))))) ⌝ }
+    ensures { λ _. ⌜ (now (fragments .exit) ≡ put (now (fragments .entry)) (fragmentSize (shelf t .shares) (length (now (content .entry))) * i) (fragment (shelf t .points) (shelf t .shares) (now (content .entry)) (suc i)))
+        × (now (digests .exit) ≡ put (now (digests .entry)) (digestSize * i) (sha256 (fragment (shelf t .points) (shelf t .shares) (now (content .entry)) (suc i)))) ⌝ }
+{
+    let made = erasure::fragment(t, i + 1, content);
+    let bytes = made.bytes;
+    let f = made.count;
+    let digest = sha256::digest(wire::bytes::part(&bytes, 0, f));
+    kept::write_at(fragments, f * i, wire::bytes::part(&bytes, 0, f));
+    kept::write_at(digests, cluster::KEY * i, &digest);
+}
+
+// The fragments of all servers, and their digests.
+pub(crate) fn put_fragments(fragments: &mut [u8], digests: &mut [u8], t: usize, content: &[u8])
+    requires { ⌜ (1 ≤ t) × ((t ≤ topFaults) × ((length (now content) ≤ topLength)
+        × ((fragmentSize (shelf t .shares) (length (now content)) * shelf t .servers ≤ length (now fragments))
+        × (digestSize * shelf t .servers ≤ length (now digests))))) ⌝ }
+    ensures { λ _. ⌜ (now (fragments .exit) ≡ put (now (fragments .entry)) 0 (fragmentRun t (now (content .entry)) (shelf t .servers)))
+        × (now (digests .exit) ≡ put (now (digests .entry)) 0 (digestRun t (now (content .entry)) (shelf t .servers))) ⌝ }
+{
+    let s = refusals::servers(t);
+    let mut i = 0;
+    while i < s {
+        put_fragment(fragments, digests, t, i, content);
+        i += 1;
+    }
+}
+
+// A share at its slot: the length, the fragment, and what is the same for all servers.
+fn put_share(kept: &mut [u8], i: usize, size: [u8; 2], fragment: &[u8], common: &[u8])
+    requires { ⌜ (suc i ≤ 13) × ((length (now kept) ≡ keptSize) × (2 + (length (now fragment) + length (now common)) ≤ replySlot)) ⌝ }
+    ensures { λ _. ⌜ now (kept .exit) ≡ put (now (kept .entry)) (repliesAt + replySlot * i) (size ++ (now (fragment .entry) ++ now (common .entry))) ⌝ }
+{
+    let at = kept::REPLIES + kept::REPLY_SLOT * i;
+    kept::write_at(kept, at, &size);
+    kept::write_at(kept, at + 2, fragment);
+    kept::write_at(kept, at + 2 + fragment.len(), common);
+}
+
+// The shares of all servers at their slots.
+pub(crate) fn put_shares(
+    kept: &mut [u8],
+    t: usize,
+    size: [u8; 2],
+    fragments: &[u8],
+    f: usize,
+    common: &[u8],
+)
+    requires { ⌜ (t ≤ topFaults) × ((length (now kept) ≡ keptSize) × (2 + (f + length (now common)) ≤ replySlot)) ⌝ }
+    ensures { λ _. ⌜ now (kept .exit) ≡ shareRun (now (kept .entry)) size (now (fragments .entry)) f (now (common .entry)) (shelf t .servers) ⌝ }
+{
+    let s = refusals::servers(t);
+    let mut i = 0;
+    while i < s {
+        put_share(
+            kept,
+            i,
+            size,
+            wire::bytes::part(fragments, f * i, f),
+            common,
+        );
+        i += 1;
+    }
+}
+
+// Line 90: the candidate that complete will show.
+pub(crate) fn put_candidate(kept: &mut [u8], stamp: &[u8], nonce: &[u8], tags: &[u8])
+    requires { ⌜ (length (now kept) ≡ keptSize) × ((length (now stamp) ≡ stampSize) × ((length (now nonce) ≡ nonceSize) × (length (now tags) ≤ tagSize * mostServers))) ⌝ }
+    ensures { λ _. ⌜ now (kept .exit) ≡ put (now (kept .entry)) chosenAt (now (stamp .entry) ++ (now (nonce .entry) ++ now (tags .entry))) ⌝ }
+{
+    kept::write_at(kept, kept::CHOSEN, stamp);
+    kept::write_at(kept, kept::CHOSEN + wire::sizes::STAMP, nonce);
+    kept::write_at(kept, kept::CHOSEN + wire::sizes::STAMP + cluster::KEY, tags);
+}
+
+// What follows the digests in each share: the nonce's digest and the tags.
+fn put_common(common: &mut [u8], at: usize, digest: [u8; 32], tags: &[u8])
+    requires { ⌜ at + digestSize + length (now tags) ≤ length (now common) ⌝ }
+    ensures { λ _. ⌜ now (common .exit) ≡ put (now (common .entry)) at (digest ++ now (tags .entry)) ⌝ }
+{
+    kept::write_at(common, at, &digest);
+    kept::write_at(common, at + cluster::KEY, tags);
+}
+
+// A content's length in 2 bytes.
+fn size_bytes(n: usize) -> [u8; 2]
+    requires { ⌜ n ≤ topLength ⌝ }
+    ensures { λ r. ⌜ r ≡ print2 n ⌝ }
+{
+    [(n / 256) as u8, (n % 256) as u8]
+}
+
+// The fragments of the content, and what is the same in all shares: the digests, the nonce's digest and the tags. Answers the content's length.
+fn put_parts(
+    fragments: &mut [u8],
+    common: &mut [u8],
+    kept: &[u8],
+    call: protocol::Call,
+    t: usize,
+    digest: [u8; 32],
+    tags: &[u8],
+) -> usize
+    requires { ⌜ (1 ≤ t) × ((t ≤ topFaults) × ((fragmentSize (shelf t .shares) (length (contentOf call (now kept))) * shelf t .servers ≤ length (now fragments))
+        × (digestSize * shelf t .servers + digestSize + length (now tags) ≤ length (now common)))) ⌝ }
+    ensures { λ r. ⌜ (r ≡ length (contentOf call (now (kept .entry))))
+        × ((now (fragments .exit) ≡ put (now (fragments .entry)) 0 (fragmentRun t (contentOf call (now (kept .entry))) (shelf t .servers)))
+        × (now (common .exit) ≡ put (now (common .entry)) 0 (digestRun t (contentOf call (now (kept .entry))) (shelf t .servers) ++ (digest ++ now (tags .entry))))) ⌝ }
+{
+    let content = kept::content(kept, call);
+    put_fragments(fragments, common, t, content);
+    put_common(common, cluster::KEY * refusals::servers(t), digest, tags);
+    content.len()
+}

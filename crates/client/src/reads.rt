@@ -1,0 +1,56 @@
+// The rounds of a read: collect, filter and repair.
+ghost use mathlib.Core.Path.{_≡_};
+ghost use mathlib.Core.Bool.{cond};
+ghost use Prim.Native.Nat.{_≤_, _+_, _*_, _-_};
+ghost use lib.ListN.{length};
+ghost use Rattle.cluster.specs.Config.{shelf};
+ghost use Rattle.cluster.specs.Ranges.{topFaults, mostServers, contentRoom};
+ghost use Rattle.protocol.specs.declared.Taken.the-variants as taken;
+ghost use Rattle.protocol.specs.ServerBytes.{over};
+ghost use Rattle.protocol.specs.View.{keptSize, candidatesAt, candidateSlot, chosenOf, contentOf};
+ghost use Rattle.protocol.specs.ClientBytes.{put, fresh, noted, ends, withTally};
+use crate::answers;
+use crate::answers::Answered;
+use crate::kept;
+use crate::rounds;
+
+// Lines 148 to 150. Amended: filter is sent even when the list is empty.
+pub(crate) fn take_collect(
+    call: protocol::Call,
+    kept: &mut [u8],
+    t: usize,
+    server: usize,
+    body: &[u8],
+) -> Answered
+    requires { ⌜ (t ≤ topFaults) × ((1 ≤ server) × ((server ≤ mostServers) × ((length (now kept) ≡ keptSize) × (length (now body) ≤ candidateSlot)))) ⌝ }
+    ensures { λ r. ⌜ (r ≡ record { taken = taken.More; call = withTally call (cond (ends (shelf t) call) (fresh 5) (noted (call .tally) server)) })
+        × (now (kept .exit) ≡ put (now (kept .entry)) (candidatesAt + candidateSlot * (server - 1)) (now (body .entry))) ⌝ }
+{
+    kept::write_at(
+        kept,
+        kept::CANDIDATES + kept::CANDIDATE_SLOT * (server - 1),
+        body,
+    );
+    answers::step(call, t, server, 5)
+}
+
+// Line 159.
+pub(crate) fn take_repair(
+    call: protocol::Call,
+    kept: &[u8],
+    t: usize,
+    server: usize,
+    out: &mut [u8],
+) -> Answered
+    requires { ⌜ (t ≤ topFaults) × ((1 ≤ server) × ((server ≤ mostServers) × (contentRoom ≤ length (now out)))) ⌝ }
+    ensures { λ r. ⌜ (r ≡ cond (ends (shelf t) call)
+        (record { taken = taken.Read (chosenOf (shelf t) (now (kept .entry)) .stamp .number) (length (contentOf call (now (kept .entry)))); call = withTally call (fresh 0) })
+        (record { taken = taken.More; call = withTally call (noted (call .tally) server) }))
+        × (now (out .exit) ≡ cond (ends (shelf t) call) (over (contentOf call (now (kept .entry))) (now (out .entry))) (now (out .entry))) ⌝ }
+{
+    if rounds::is_last(t, call) {
+        let number = kept::chosen_number(kept, t);
+        return answers::deliver(call, number, kept::content(kept, call), out);
+    }
+    answers::more(answers::note_reply(call, server))
+}

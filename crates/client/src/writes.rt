@@ -1,0 +1,45 @@
+// The rounds of a write: clock, store and complete.
+ghost use mathlib.Core.Path.{_≡_};
+ghost use mathlib.Core.Bool.{cond};
+ghost use Prim.Native.Nat.{_≤_};
+ghost use lib.Dec.{eqb};
+ghost use Rattle.cluster.specs.Config.{shelf};
+ghost use Rattle.cluster.specs.Ranges.{topFaults, mostServers};
+ghost use Rattle.protocol.specs.declared.Taken.the-variants as taken;
+ghost use Rattle.protocol.specs.View.{chosenOf};
+ghost use Rattle.protocol.specs.ClientBytes.{fresh, noted, ends, withTally};
+use crate::answers;
+use crate::answers::Answered;
+use crate::kept;
+use crate::rounds;
+
+// Line 105. Amended: 11 changes nothing and isn't counted.
+pub(crate) fn take_store(call: protocol::Call, t: usize, server: usize, code: u8) -> Answered
+    requires { ⌜ (t ≤ topFaults) × ((1 ≤ server) × (server ≤ mostServers)) ⌝ }
+    ensures { λ r. ⌜ r ≡ record {
+      taken = taken.More;
+      call = cond (eqb code 11) call (withTally call (cond (ends (shelf t) call) (fresh 3) (noted (call .tally) server)));
+    } ⌝ }
+{
+    if code == 11 {
+        return answers::more(call);
+    }
+    answers::step(call, t, server, 3)
+}
+
+// Line 108.
+pub(crate) fn take_complete(call: protocol::Call, kept: &[u8], t: usize, server: usize) -> Answered
+    requires { ⌜ (t ≤ topFaults) × ((1 ≤ server) × (server ≤ mostServers)) ⌝ }
+    ensures { λ r. ⌜ r ≡ cond (ends (shelf t) call)
+        (record { taken = taken.Written (chosenOf (shelf t) (now (kept .entry)) .stamp .number); call = withTally call (fresh 0) })
+        (record { taken = taken.More; call = withTally call (noted (call .tally) server) }) ⌝ }
+{
+    if rounds::is_last(t, call) {
+        let number = kept::chosen_number(kept, t);
+        return Answered {
+            taken: protocol::Taken::Written(number),
+            call: answers::enter(call, 0),
+        };
+    }
+    answers::more(answers::note_reply(call, server))
+}
