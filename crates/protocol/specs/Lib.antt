@@ -9,4 +9,5 @@ pub mod Rules
 pub mod Client
 pub mod View
 pub mod ClientBytes
+pub mod Reading
 pub mod Runs

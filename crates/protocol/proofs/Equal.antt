@@ -1,0 +1,131 @@
+-- Tests of equality: they tell equality of lists, stamps and candidates, and comparing printed stamps is comparing stamps.
+-- The number of a stamp is read back off its four bytes. Nothing is assumed.
+use mathlib.Core.Path.{_≡_, refl, sym, ap, _∙_, subst}
+use mathlib.Core.Bool.{Bool, true, false, cond, not, _&&_}
+use mathlib.Core.List.{List, [], _∷_, _++_}
+use mathlib.Core.Option.{Option, none, some}
+use Prim.Native.Nat.{ℕ, suc, _+_, _/_, _%_, _≤_, _<_}
+use native.Mathlib.Numerals.{add-one}
+use lib.Dec.{T, eqb}
+use lib.ListN.{length, getD, drop, drop-of-length-le}
+use lib.Seq.{drop-cons}
+use borrow.Author.Tests.{eq-eqb, ne-eqb, eqb-true}
+use Rattle.protocol.specs.declared.Stamp.{Stamp}
+use Rattle.protocol.specs.Format.{value4, via, seq, number4, byte, run}
+use Rattle.protocol.specs.Values.{Candidate, Share, Write, sameList, sameStamp, sameCandidate, isSome}
+use Rattle.protocol.specs.Packet.{stampF}
+use Rattle.protocol.specs.Primitives.{stampMessage, candidateMessage}
+use Rattle.protocol.specs.Memory.{held}
+use Rattle.protocol.proofs.Answers.{and-on}
+use Rattle.protocol.proofs.Formats.{value4-print}
+
+-- two tests that imply each other are one
+pub test-ext : (a b : Bool) → (a ≡ true → b ≡ true) → (b ≡ true → a ≡ true) → a ≡ b
+test-ext true b f g = sym (f refl)
+test-ext false true f g = g refl
+test-ext false false f g = refl
+
+pub and-off : (p : Bool) → (p && false) ≡ false
+and-off true = refl
+and-off false = refl
+
+-- ---- lists
+
+pub same-true : (a b : List ℕ) → sameList a b ≡ true → a ≡ b
+same-true [] [] e = refl
+same-true [] (y ∷ ys) e = absurd (subst T (sym e) tt)
+same-true (x ∷ xs) [] e = absurd (subst T (sym e) tt)
+same-true (x ∷ xs) (y ∷ ys) e =
+    let (p, q) = and-on (eqb x y) (sameList xs ys) e in
+    let h : x ≡ y = eqb-true x y p in
+    let k : xs ≡ ys = same-true xs ys q in
+    λ i. h i ∷ k i
+
+pub same-refl : (a : List ℕ) → sameList a a ≡ true
+same-refl [] = refl
+same-refl (x ∷ xs) = rw (eq-eqb x x refl) (same-refl xs)
+
+pub same-length : (a b : List ℕ) → (length a ≡ length b → ⊥) → sameList a b ≡ false
+same-length [] [] h = absurd (h refl)
+same-length [] (y ∷ ys) h = refl
+same-length (x ∷ xs) [] h = refl
+same-length (x ∷ xs) (y ∷ ys) h = ap (λ (z : Bool). eqb x y && z) (same-length xs ys (λ e. h (ap suc e))) ∙ and-off (eqb x y)
+
+-- from a place on
+module _ (a b : List ℕ) (i : ℕ) (h : i < length a) (k : i < length b) where
+  pub same-here : getD a i 0 ≡ getD b i 0 → sameList (drop i a) (drop i b) ≡ sameList (drop (i + 1) a) (drop (i + 1) b)
+  same-here e = rw (add-one, drop-cons a i 0 h, drop-cons b i 0 k, eq-eqb _ _ e)
+
+  pub differs-here : (getD a i 0 ≡ getD b i 0 → ⊥) → sameList (drop i a) (drop i b) ≡ false
+  differs-here e = rw (drop-cons a i 0 h, drop-cons b i 0 k, ne-eqb _ _ e)
+
+pub same-end : (a b : List ℕ) (i : ℕ) → length a ≤ i → length b ≤ i → sameList (drop i a) (drop i b) ≡ true
+same-end a b i h k = rw (drop-of-length-le a h, drop-of-length-le b k)
+
+-- ---- stamps and candidates
+
+pub stamp-same : (a b : Stamp) → sameStamp a b ≡ true → a ≡ b
+unfolding sameStamp
+stamp-same a b e =
+    let (p, q) = and-on _ _ e in
+    let (r, s) = and-on _ _ q in
+    let h = eqb-true _ _ p in
+    let k = eqb-true _ _ r in
+    let l = same-true _ _ s in
+    λ i. record { number = h i; writer = k i; tag = l i }
+
+pub stamp-refl : (a : Stamp) → sameStamp a a ≡ true
+unfolding sameStamp
+stamp-refl a = rw (eq-eqb (a .number) (a .number) refl, eq-eqb (a .writer) (a .writer) refl) (same-refl (a .tag))
+
+pub candidate-same : (a b : Candidate) → sameCandidate a b ≡ true → a ≡ b
+unfolding sameCandidate
+candidate-same a b e =
+    let (p, q) = and-on _ _ e in
+    let (r, s) = and-on _ _ q in
+    let h = stamp-same _ _ p in
+    let k = same-true _ _ r in
+    let l = same-true _ _ s in
+    λ i. record { stamp = h i; nonce = k i; tags = l i }
+
+pub candidate-refl : (a : Candidate) → sameCandidate a a ≡ true
+unfolding sameCandidate
+candidate-refl a = rw (stamp-refl (a .stamp), same-refl (a .nonce)) (same-refl (a .tags))
+
+-- ---- printed stamps
+
+pub print-inj : (a b : Stamp) → stampF .print a ≡ stampF .print b → a ≡ b
+unfolding stampF via seq number4 byte run
+print-inj a b e =
+    let n : ℕ = a .number in
+    let m : ℕ = b .number in
+    let c : n / 16777216 ≡ m / 16777216 = ap (λ (z : List ℕ). getD z 0 0) e in
+    let d : n / 65536 % 256 ≡ m / 65536 % 256 = ap (λ (z : List ℕ). getD z 1 0) e in
+    let f : n / 256 % 256 ≡ m / 256 % 256 = ap (λ (z : List ℕ). getD z 2 0) e in
+    let g : n % 256 ≡ m % 256 = ap (λ (z : List ℕ). getD z 3 0) e in
+    let h : n ≡ m = sym (value4-print n) ∙ (λ i. value4 (c i) (d i) (f i) (g i)) ∙ value4-print m in
+    let k : a .writer ≡ b .writer = ap (λ (z : List ℕ). getD z 4 0) e in
+    let l : a .tag ≡ b .tag = ap (drop 5) e in
+    λ i. record { number = h i; writer = k i; tag = l i }
+
+pub same-printed : (a b : Stamp) → sameList (stampF .print a) (stampF .print b) ≡ sameStamp a b
+same-printed a b =
+    test-ext _ _
+    (λ e. let q : a ≡ b = print-inj a b (same-true _ _ e) in rw q (stamp-refl b))
+    (λ e. rw (stamp-same a b e) (same-refl (stampF .print b)))
+
+-- the first stored write whose stamp has the bytes key
+unfoldable pub foundBy : List ℕ → List Write → Option Share
+foundBy key [] = none
+foundBy key (w ∷ ws) = cond (sameList (stampF .print (w .stamp)) key) (some (w .share)) (foundBy key ws)
+
+-- what the history holds, by printed stamp and by value
+pub found-held : (a : Stamp) (ws : List Write) → foundBy (stampF .print a) ws ≡ held a ws
+unfolding foundBy held
+found-held a [] = refl
+found-held a (w ∷ ws) = rw (same-printed (w .stamp) a, found-held a ws)
+
+-- the tagged bytes are those of the packet
+pub message-printed : (a : Stamp) (d : List ℕ) → candidateMessage a d ≡ stampF .print a ++ d
+unfolding candidateMessage stampMessage stampF via seq number4 byte run
+message-printed a d = refl

@@ -1,0 +1,52 @@
+-- Room: at every t a held reply fits its slot, a stored write is shorter, and so 32 of them fit a memory.
+-- A shelf's numbers enter here alone, by the four cases of t; everything else rests on `Fitting`. Nothing is assumed.
+use mathlib.Core.Path.{_≡_, refl, sym, ap, _∙_}
+use mathlib.Core.List.{List, [], _∷_, _++_}
+use mathlib.Core.Option.{none, some}
+use Prim.Native.Nat.{ℕ, zero, suc, _+_, _*_, _/_, _≤_, _<_}
+use native.Mathlib.Omega.{arith}
+use lib.ListN.{length, length-append}
+use Rattle.cluster.specs.Config.{Config, shelf}
+use Rattle.cluster.specs.Ranges.{topFaults, mostServers, topLength}
+use Rattle.erasure.specs.Fragments.{fragmentSize}
+use Rattle.protocol.specs.Format.{All, printMany, via, seq, number2}
+use Rattle.protocol.specs.Values.{Share, Write, stampSize}
+use Rattle.protocol.specs.Packet.{shareF, writeF}
+use Rattle.protocol.specs.View.{replySlot}
+use Rattle.protocol.proofs.Packets.{shareSize, ShareLengths, share-lengths, share-length, write-length}
+
+-- the numbers of s fit the kept bytes: the slots are for the most servers, and a slot holds a stamp, a byte and a share
+pub record Fitting (s : Config) : Type 0 where
+  pub few : s .servers ≤ mostServers
+  pub room : (n : ℕ) → n ≤ topLength → stampSize + 1 + shareSize s n ≤ replySlot
+
+pub shelf-fits : (t : ℕ) → 1 ≤ t → t ≤ topFaults → Fitting (shelf t)
+unfolding shelf fragmentSize
+shelf-fits zero l h = absurd (omega arith)
+shelf-fits (suc zero) l h = record { few = omega arith; room = λ n k. omega arith }
+shelf-fits (suc (suc zero)) l h = record { few = omega arith; room = λ n k. omega arith }
+shelf-fits (suc (suc (suc zero))) l h = record { few = omega arith; room = λ n k. omega arith }
+shelf-fits (suc (suc (suc (suc zero)))) l h = record { few = omega arith; room = λ n k. omega arith }
+shelf-fits (suc (suc (suc (suc (suc t))))) l h = absurd (omega arith)
+
+module _ (s : Config) (f : Fitting s) where
+  pub share-size : (h : Share) → shareF s .Ok h → h .size ≤ topLength
+  unfolding shareF via seq number2
+  share-size h o = o .0 .1
+
+  pub share-fits : (h : Share) → ShareLengths s h → h .size ≤ topLength → stampSize + 1 + length (shareF s .print h) ≤ replySlot
+  share-fits h l o = omega (arith, share-length s h l, f .room (h .size) o)
+
+  pub share-room : (h : Share) → shareF s .Ok h → stampSize + 1 + length (shareF s .print h) ≤ replySlot
+  share-room h o = share-fits h (share-lengths s h o) (share-size h o)
+
+  pub write-room : (w : Write) → writeF s .Ok w → length (writeF s .print w) < replySlot
+  write-room w o = omega (arith, write-length s w o, share-room (w .share) (share-of w o))
+    where
+      share-of : (w : Write) → writeF s .Ok w → shareF s .Ok (w .share)
+      share-of w o = unfold writeF via seq in (o .1)
+
+  pub writes-room : (ws : List Write) → All (writeF s .Ok) ws → length (printMany (writeF s) ws) ≤ replySlot * length ws
+  writes-room [] o = omega arith
+  writes-room (w ∷ ws) o =
+      omega (arith, length-append (writeF s .print w) (printMany (writeF s) ws), write-room w (o .0), writes-room ws (o .1))

@@ -1,0 +1,4 @@
+pub mod Joined
+pub mod Runs
+pub mod Put
+pub mod Leaf
