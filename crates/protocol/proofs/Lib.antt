@@ -19,3 +19,15 @@ pub mod Slots
 pub mod Kept
 pub mod Acts
 pub mod ServerLift
+pub mod HandOk
+pub mod Prepared
+pub mod Updates
+pub mod ClientLift
+pub mod Turns
+pub mod Filtered
+pub mod TakeLift
+pub mod Fine
+pub mod MakeLift
+pub mod StepLift
+pub mod RunLift
+pub mod Accounts

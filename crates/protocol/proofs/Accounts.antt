@@ -1,0 +1,74 @@
+-- With typed steps the account of a run by bytes IS its account by values: one path, so that a claim goes over by one `subst`.
+-- Two functions are equal where they are at every argument, two records where their fields are. Nothing is assumed but the primitives' lengths.
+use mathlib.Core.Path.{_≡_, refl, sym, ap, _∙_, subst}
+use mathlib.Core.Bool.{Bool, true, false, cond, _&&_}
+use mathlib.Core.List.{List, [], _∷_}
+use mathlib.Core.Option.{Option, none, some}
+use Prim.Native.Nat.{ℕ, _≤_}
+use borrow.Author.Tests.{leb-true}
+use Rattle.cluster.specs.Config.{Config, shelf}
+use Rattle.cluster.specs.Ranges.{within, topFaults}
+use Rattle.protocol.specs.Memory.{decodeMemory}
+use Rattle.protocol.specs.Primitives.{Primitives, Lengths, real}
+use Rattle.protocol.specs.Server.{Server, blankServer}
+use Rattle.protocol.specs.ServerBytes.{serverIn, memoryOf}
+use Rattle.protocol.specs.ClientBytes.{keyOf}
+use Rattle.protocol.specs.Runs.{Shelf, configOf, Typed, steps, Account, serverOr, byBytes, byValues, Step, doBytes, nowBytes, doValues, nowValues}
+use Rattle.protocol.proofs.Answers.{and-on}
+use Rattle.protocol.proofs.Primitive.{real-lengths}
+use Rattle.protocol.proofs.ServerLift.{Holds, holds-decodes}
+use Rattle.protocol.proofs.RunLift.{Matches, Agrees, AllFed, run-matches, run-agrees}
+
+module _ (P : Primitives) (law : Lengths P) (sh : Shelf) (tr : (1 ≤ sh .t) × (sh .t ≤ topFaults)) where
+  abbrev s : Config
+  s = configOf sh
+
+  steps-fed : (l : List (Typed s)) → AllFed P law sh tr (steps l)
+  unfolding AllFed
+  steps-fed [] = tt
+  steps-fed (x ∷ xs) = (x .fed, steps-fed xs)
+
+  server-same : (b : ℕ) (v : Server) (memory : List ℕ) → Holds (sh .t) b v memory → serverOr s (decodeMemory memory) ≡ v
+  unfolding serverIn memoryOf
+  server-same b v memory h = ap (serverOr s) (unfold memoryOf in holds-decodes h)
+
+  match : (xs : List (Typed s)) → Matches P law sh tr (nowBytes P sh (steps xs)) (nowValues P s (sh .writers) (keyOf (sh .keys)) (steps xs))
+  match xs = run-matches P law sh tr (steps xs) (steps-fed xs)
+
+  agree : (x : Typed s) (xs : List (Typed s))
+      → Agrees P law sh tr (doValues P s (sh .writers) (keyOf (sh .keys)) (nowValues P s (sh .writers) (keyOf (sh .keys)) (steps xs)) (x .step))
+      (doBytes P sh (nowBytes P sh (steps xs)) (x .step))
+  agree x xs = run-agrees P law sh tr (x .step) (steps xs) (x .fed) (steps-fed xs)
+
+  server-at : (xs : List (Typed s)) (b : ℕ)
+      → cond (within 1 (s .servers) b) (serverOr s (decodeMemory (nowBytes P sh (steps xs) .memory b))) (blankServer s)
+      ≡ cond (within 1 (s .servers) b) (nowValues P s (sh .writers) (keyOf (sh .keys)) (steps xs) .server b) (blankServer s)
+  server-at xs b = go (within 1 (shelf (sh .t) .servers) b) refl
+    where
+      go : (q : Bool) → within 1 (shelf (sh .t) .servers) b ≡ q
+          → cond q (serverOr (shelf (sh .t)) (decodeMemory (nowBytes P sh (steps xs) .memory b))) (blankServer (shelf (sh .t)))
+          ≡ cond q (nowValues P (shelf (sh .t)) (sh .writers) (keyOf (sh .keys)) (steps xs) .server b) (blankServer (shelf (sh .t)))
+      go false e = refl
+      go true e =
+          let (lo, hi) = and-on _ _ e in
+          server-same b _ (nowBytes P sh (steps xs) .memory b) (match xs .memory b (leb-true 1 b lo) (leb-true b (shelf (sh .t) .servers) hi))
+
+  -- bytes and values give one account
+  pub accounts : byBytes P sh ≡ byValues P s (sh .writers) (keyOf (sh .keys))
+  unfolding byBytes byValues
+  accounts =
+      λ i.
+      record {
+        result = λ x xs. agree x xs .result i;
+        sent = λ x xs. agree x xs .sent i;
+        client = λ xs c. match xs .client c .seen i;
+        server = λ xs b. server-at xs b i;
+      }
+
+  -- whatever is claimed of the account by values holds of the account by bytes
+  pub claimed : (C : Account s → Type 0) → C (byValues P s (sh .writers) (keyOf (sh .keys))) → C (byBytes P sh)
+  claimed C h = subst C (sym accounts) h
+
+-- with the real digest, tag and fragments
+pub real-accounts : (sh : Shelf) → (1 ≤ sh .t) × (sh .t ≤ topFaults) → byBytes real sh ≡ byValues real (configOf sh) (sh .writers) (keyOf (sh .keys))
+real-accounts sh tr = accounts real real-lengths sh tr
