@@ -1,16 +1,15 @@
 -- Document 01's shelf is legal for every t from 1 to 4: 3t+1 servers, k = t+1, and server i has the point i.
 -- The table of points is 1, 2, .., S: at the place i stands i + 1, and past it 0. Nothing is assumed.
-use mathlib.Core.Path.{_≡_, refl, sym, ap, _∙_, subst}
-use mathlib.Core.Logic.{_≢_}
+use mathlib.Core.Path.{_≡_, refl, ap, _∙_}
 use mathlib.Core.Bool.{Bool, true, false}
-use mathlib.Core.List.{List, [], _∷_, _++_}
+use mathlib.Core.List.{[], _∷_, _++_}
 use Prim.Native.Nat.{ℕ, zero, suc, _+_, _*_, _≤_, _<_}
 use native.Mathlib.Omega.{arith}
 use lib.Dec.{ltb}
 use borrow.Author.Tests.{ltb-true, ltb-false}
 use lib.ListN.{length, getD, length-append, List·getD-append, List·getD-eq-default}
 use lib.Seq.{getD-at}
-use Rattle.cluster.specs.Config.{Config, upTo, shelf, Legal}
+use Rattle.cluster.specs.Config.{upTo, shelf, Legal}
 use Rattle.cluster.specs.Ranges.{topFaults}
 
 pub upTo-length : (n : ℕ) → length (upTo n) ≡ n

@@ -1,9 +1,8 @@
 -- With typed steps the account of a run by bytes IS its account by values: one path, so that a claim goes over by one `subst`.
 -- Two functions are equal where they are at every argument, two records where their fields are. Nothing is assumed but the primitives' lengths.
-use mathlib.Core.Path.{_≡_, refl, sym, ap, _∙_, subst}
-use mathlib.Core.Bool.{Bool, true, false, cond, _&&_}
+use mathlib.Core.Path.{_≡_, refl, sym, ap, subst}
+use mathlib.Core.Bool.{Bool, true, false, cond}
 use mathlib.Core.List.{List, [], _∷_}
-use mathlib.Core.Option.{Option, none, some}
 use Prim.Native.Nat.{ℕ, _≤_}
 use borrow.Author.Tests.{leb-true}
 use Rattle.cluster.specs.Config.{Config, shelf}
@@ -13,7 +12,7 @@ use Rattle.protocol.specs.Primitives.{Primitives, Lengths, real}
 use Rattle.protocol.specs.Server.{Server, blankServer}
 use Rattle.protocol.specs.ServerBytes.{serverIn, memoryOf}
 use Rattle.protocol.specs.ClientBytes.{keyOf}
-use Rattle.protocol.specs.Runs.{Shelf, configOf, Typed, steps, Account, serverOr, byBytes, byValues, Step, doBytes, nowBytes, doValues, nowValues}
+use Rattle.protocol.specs.Runs.{Shelf, configOf, Typed, steps, Account, serverOr, byBytes, byValues, doBytes, nowBytes, doValues, nowValues}
 use Rattle.protocol.proofs.Answers.{and-on}
 use Rattle.protocol.proofs.Primitive.{real-lengths}
 use Rattle.protocol.proofs.ServerLift.{Holds, holds-decodes}

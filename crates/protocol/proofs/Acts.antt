@@ -4,8 +4,8 @@ use mathlib.Core.Path.{_≡_, refl, sym, ap, _∙_, subst}
 use mathlib.Core.Bool.{Bool, true, false, cond, not, _&&_, _||_}
 use mathlib.Core.List.{List, [], _∷_, _++_, append-nil, append-assoc}
 use mathlib.Core.Option.{Option, none, some, Option·some-injective}
-use mathlib.Core.Logic.{_⊎_, inl, inr}
-use Prim.Native.Nat.{ℕ, zero, suc, _+_, _≤_, _<_}
+use mathlib.Core.Logic.{inl, inr}
+use Prim.Native.Nat.{ℕ, _≤_}
 use native.Mathlib.Omega.{arith}
 use lib.Dec.{leb, eqb, lit≤}
 use lib.ListN.{length, length-append}
@@ -14,7 +14,7 @@ use Rattle.cluster.specs.Config.{Config}
 use Rattle.cluster.specs.Ranges.{capacity}
 use Rattle.protocol.specs.declared.Stamp.{Stamp}
 use Rattle.protocol.specs.Format.{All, via, seq, keep, orBlank, many, optional, number4, byte}
-use Rattle.protocol.specs.Values.{Candidate, Share, Write, Held, below, sameStamp, isSome, blankCandidate}
+use Rattle.protocol.specs.Values.{Candidate, Share, Write, below, sameStamp, isSome, blankCandidate}
 use Rattle.protocol.specs.Packet.{Body, BodyOk, stampF, anyStampF, writeF, shareF, candidateF, anyCandidateF, candidatesF, heldF, heldMost, codeF}
 use Rattle.protocol.specs.Packet.{clock, clockReply, store, storeReply, complete, completeReply, collect, collectReply, filter, filterReply, repair, repairReply}
 use Rattle.protocol.specs.Memory.{held, freshAfter, distinct}
@@ -153,11 +153,11 @@ module _ (P : Primitives) (s : Config) (key : List ℕ) (b : ℕ) (v : Server) (
   act-ok clock h = record { server = ok; reply = any-stamp s (v .latest) (ok .latest) }
   act-ok (store w) h =
       at-cond (isSome (held (w .stamp) (v .history))) _ _ Right
-      (λ e. record { server = ok; reply = code-ok 10 refl (lit≤ tt) })
+      (λ e. record { server = ok; reply = code-ok _ refl (lit≤ tt) })
       (λ e.
       at-cond (leb capacity (length (v .history))) _ _ Right
-      (λ f. record { server = ok; reply = code-ok 11 refl (lit≤ tt) })
-      (λ f. record { server = store-ok w h e f; reply = code-ok 0 refl (lit≤ tt) }))
+      (λ f. record { server = ok; reply = code-ok _ refl (lit≤ tt) })
+      (λ f. record { server = store-ok w h e f; reply = code-ok _ refl (lit≤ tt) }))
   act-ok (complete c) h = record { server = raise-ok c (any-candidate s c h); reply = tt }
   act-ok collect h = record { server = ok; reply = ok .latest }
   act-ok (filter cs) h =

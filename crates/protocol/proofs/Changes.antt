@@ -2,16 +2,16 @@
 -- A memory's bytes are its printed fields and then zeros, so each change is one `put`. Nothing is assumed.
 use mathlib.Core.Path.{_≡_, refl, sym, ap, _∙_}
 use mathlib.Core.List.{List, [], _∷_, _++_, append-assoc, append-nil}
-use Prim.Native.Nat.{ℕ, zero, suc, _+_, _-_, _≤_, _<_}
+use Prim.Native.Nat.{ℕ, suc, _+_, _-_, _≤_, _<_}
 use native.Mathlib.Omega.{arith}
-use lib.ListN.{length, take, drop, set, replicate, length-append, length-replicate, replicate-append-replicate}
+use lib.ListN.{length, drop, set, replicate, length-append, length-replicate, replicate-append-replicate}
 use lib.Seq.{take-at, drop-at, drop-append-add}
 use Rattle.cluster.specs.Config.{Config, shelf}
 use Rattle.cluster.specs.Ranges.{memorySize}
 use Rattle.protocol.specs.Format.{Fmt, printMany, byte, number4, run, seq, via, keep, orBlank, many}
 use Rattle.protocol.specs.Values.{Candidate, Write, blankCandidate, stampSize, nonceSize, tagsSize, candidateSize}
 use Rattle.protocol.specs.Packet.{stampF, writeF, candidateF, anyCandidateF}
-use Rattle.protocol.specs.Memory.{Memory, memoryF, encodeMemory, MemoryOk, blankMemory}
+use Rattle.protocol.specs.Memory.{Memory, memoryF, encodeMemory, blankMemory}
 use Rattle.protocol.specs.ClientBytes.{put}
 
 -- n zeros

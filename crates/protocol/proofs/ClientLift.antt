@@ -1,20 +1,20 @@
 -- A client's bytes and the client that they stand for: which round is pending, the begins of a write and of a read, and giving up.
 -- What is put is read back by place, and a new round has no marks. Nothing is assumed.
-use mathlib.Core.Path.{_≡_, refl, sym, ap, _∙_, subst}
-use mathlib.Core.Bool.{Bool, true, false, cond, not, _&&_}
-use mathlib.Core.List.{List, [], _∷_, _++_}
+use mathlib.Core.Path.{_≡_, refl, sym, ap, _∙_}
+use mathlib.Core.Bool.{Bool, true, false, cond, not}
+use mathlib.Core.List.{List}
 use Prim.Native.Nat.{ℕ, zero, suc, _+_, _*_, _≤_, _<_}
 use native.Mathlib.Omega.{arith}
-use lib.Dec.{leb, eqb, lit<}
+use lib.Dec.{eqb, lit<}
 use lib.ListN.{length, replicate, length-replicate}
 use borrow.Author.Tests.{ne-eqb, le-leb, lt-leb, leb-true}
 use Rattle.cluster.specs.Config.{Config}
 use Rattle.cluster.specs.Ranges.{within, mostServers, topLength}
 use Rattle.protocol.specs.declared.Call.{Call}
 use Rattle.protocol.specs.declared.Tally.{Tally}
-use Rattle.protocol.specs.Values.{Candidate, blankCandidate, nonceSize}
-use Rattle.protocol.specs.Rules.{ByServer, nobody, countTo}
-use Rattle.protocol.specs.Client.{Client, Hand, idle, clocking, collecting, begun, onto, awaits, isIdle}
+use Rattle.protocol.specs.Values.{blankCandidate, nonceSize}
+use Rattle.protocol.specs.Rules.{nobody, countTo}
+use Rattle.protocol.specs.Client.{Client, idle, clocking, collecting, begun, onto, awaits, isIdle}
 use Rattle.protocol.specs.View.{part, marked, contentOf, nonceOf, handOf, view, keptSize, nonceAt, candidateSlot, candidatesAt}
 use Rattle.protocol.specs.ClientBytes.{put, fresh, withTally, inHand, awaited}
 use Rattle.protocol.proofs.Answers.{and-on}

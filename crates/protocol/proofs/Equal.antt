@@ -1,7 +1,7 @@
 -- Tests of equality: they tell equality of lists, stamps and candidates, and comparing printed stamps is comparing stamps.
 -- The number of a stamp is read back off its four bytes. Nothing is assumed.
 use mathlib.Core.Path.{_≡_, refl, sym, ap, _∙_, subst}
-use mathlib.Core.Bool.{Bool, true, false, cond, not, _&&_}
+use mathlib.Core.Bool.{Bool, true, false, cond, _&&_}
 use mathlib.Core.List.{List, [], _∷_, _++_}
 use mathlib.Core.Option.{Option, none, some}
 use Prim.Native.Nat.{ℕ, suc, _+_, _/_, _%_, _≤_, _<_}
@@ -12,7 +12,7 @@ use lib.Seq.{drop-cons}
 use borrow.Author.Tests.{eq-eqb, ne-eqb, eqb-true}
 use Rattle.protocol.specs.declared.Stamp.{Stamp}
 use Rattle.protocol.specs.Format.{value4, via, seq, number4, byte, run}
-use Rattle.protocol.specs.Values.{Candidate, Share, Write, sameList, sameStamp, sameCandidate, isSome}
+use Rattle.protocol.specs.Values.{Candidate, Share, Write, sameList, sameStamp, sameCandidate}
 use Rattle.protocol.specs.Packet.{stampF}
 use Rattle.protocol.specs.Primitives.{stampMessage, candidateMessage}
 use Rattle.protocol.specs.Memory.{held}

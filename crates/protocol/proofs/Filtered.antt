@@ -1,17 +1,15 @@
 -- A filter reply taken on bytes is the turn on values: the reply goes into its slot, and the same judgement is passed on what stands there.
 -- The rules are one set on values; the bytes give the same marks, list and replies. Nothing is assumed but the primitives' lengths.
 use mathlib.Core.Path.{_≡_, refl, sym, ap, _∙_, subst}
-use mathlib.Core.Bool.{Bool, true, false, cond}
-use mathlib.Core.List.{List, [], _∷_, _++_}
+use mathlib.Core.Bool.{Bool, true, false}
+use mathlib.Core.List.{List, [], _∷_}
 use mathlib.Core.Option.{Option, none, some}
-use Prim.Native.Nat.{ℕ, zero, suc, _+_, _-_, _*_, _≤_, _<_}
+use Prim.Native.Nat.{ℕ, suc, _+_, _-_, _*_, _≤_}
 use native.Mathlib.Omega.{arith}
 use lib.ListN.{length}
 use Rattle.cluster.specs.Config.{Config}
 use Rattle.cluster.specs.Ranges.{topLength}
 use Rattle.protocol.specs.declared.Call.{Call}
-use Rattle.protocol.specs.declared.Tally.{Tally}
-use Rattle.protocol.specs.declared.Taken.{Taken}
 use Rattle.protocol.specs.declared.Taken.the-variants as taken
 use Rattle.protocol.specs.Format.{All}
 use Rattle.protocol.specs.Values.{Candidate, Held, sameList}
@@ -20,7 +18,7 @@ use Rattle.protocol.specs.Primitives.{Primitives, Lengths}
 use Rattle.protocol.specs.Rules.{ByServer, upd, nobody, gather, live, choice, leader, restoredBy, tagsIn}
 use Rattle.protocol.specs.Client.{Client, Turn, more, gave, idle, filtering, repairing, onto, update, judge, found, heldIn}
 use Rattle.protocol.specs.View.{part, marked, contentOf, chosenOf, candidatesIn, repliesIn, handOf, view, keptSize, chosenAt, repliesAt, replySlot}
-use Rattle.protocol.specs.ClientBytes.{put, Took, fresh, noted, withTally, took, delivers, foundIn, judgeIn, takeFilter}
+use Rattle.protocol.specs.ClientBytes.{put, fresh, noted, withTally, took, delivers, foundIn, judgeIn, takeFilter}
 use Rattle.protocol.proofs.Packets.{CandidateLengths, candidate-lengths, candidate-length}
 use Rattle.protocol.proofs.Room.{Fitting}
 use Rattle.protocol.proofs.Puts.{put-length}
@@ -141,7 +139,8 @@ module _ (P : Primitives) (law : Lengths P) (s : Config) (f : Fitting s) (client
   marks-then = marks-now s f c kept h b lo hi new
 
   filter-more : c .tally .round ≡ 5
-      → Lifted s (onto (view s c kept) (M s f c kept h b lo hi new) (filtering (gather (candidatesIn s kept) (s .servers)) (upd old b y))) (withTally c (noted (c .tally) b)) K
+      → Lifted s (onto (view s c kept) (M s f c kept h b lo hi new) (filtering (gather (candidatesIn s kept) (s .servers)) (upd old b y)))
+      (withTally c (noted (c .tally) b)) K
   filter-more e =
       subst (λ (cl : Client). Lifted s cl (withTally c (noted (c .tally) b)) K)
       (λ i. onto (view s c kept) (marks-then i) (filtering (gather (slots-now i) (s .servers)) (replies-now i)))

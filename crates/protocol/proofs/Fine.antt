@@ -1,10 +1,10 @@
 -- What every correct client is at every moment of a run, on values: within the layout, with a call number in its range.
 -- Each step keeps it; a refused one changes nothing. Nothing is assumed but the primitives' lengths.
-use mathlib.Core.Path.{_≡_, refl, sym, ap, _∙_, subst}
-use mathlib.Core.Bool.{Bool, true, false, cond, not, _&&_}
+use mathlib.Core.Path.{_≡_, refl, sym, _∙_, subst}
+use mathlib.Core.Bool.{Bool, true, false, not}
 use mathlib.Core.List.{List, [], _∷_}
 use mathlib.Core.Option.{Option, none, some}
-use Prim.Native.Nat.{ℕ, zero, suc, _+_, _≤_, _<_}
+use Prim.Native.Nat.{ℕ, zero, suc, _≤_, _<_}
 use native.Mathlib.Omega.{arith}
 use lib.Dec.{T, leb, eqb, lit≤}
 use lib.ListN.{length}
@@ -12,12 +12,11 @@ use borrow.Author.Tests.{leb-true, leb-false, not-false}
 use Rattle.cluster.specs.Config.{Config, shelf}
 use Rattle.cluster.specs.Ranges.{within, topWriter, topClient, topNumber, leastLength, topLength}
 use Rattle.cluster.specs.Refusals.{onRefusal}
-use Rattle.protocol.specs.declared.Head.{Head}
 use Rattle.protocol.specs.Values.{Candidate, Held, blankCandidate, nonceSize, sameList}
 use Rattle.protocol.specs.Packet.{Body, BodyOk, Packet, PacketOk}
 use Rattle.protocol.specs.Primitives.{Primitives, Lengths}
 use Rattle.protocol.specs.Rules.{ByServer, upd, nobody, leader, tagsIn}
-use Rattle.protocol.specs.Client.{Client, Hand, Turn, Result, refused, onto, begun, idle, clocking, storing, completing, collecting, filtering, repairing, update, judge, found, codeIn, isFull, isIdle, awaits, newClient, badFaults, writeRefusal, readRefusal, abortRefusal, takeRefusal, writeStep, readStep, abortStep, turnOn, highAt, takeStep}
+use Rattle.protocol.specs.Client.{Client, Hand, Turn, onto, begun, idle, clocking, storing, completing, collecting, filtering, repairing, update, judge, found, codeIn, isFull, isIdle, awaits, newClient, badFaults, writeRefusal, readRefusal, abortRefusal, takeRefusal, writeStep, readStep, abortStep, turnOn, highAt, takeStep}
 use Rattle.protocol.proofs.Answers.{and-on, at-cond}
 use Rattle.protocol.proofs.Room.{Fitting}
 use Rattle.protocol.proofs.Acts.{blank-candidate}

@@ -1,8 +1,8 @@
 -- The shares of a write in their slots: each is read back, and what stands before the slots stays.
 -- By induction over the servers: the last share put touches its own slot alone. Nothing is assumed.
-use mathlib.Core.Path.{_≡_, refl, sym, ap, _∙_}
+use mathlib.Core.Path.{_≡_, refl, ap, _∙_}
 use mathlib.Core.Bool.{Bool, true, false, cond}
-use mathlib.Core.List.{List, _++_}
+use mathlib.Core.List.{List}
 use mathlib.Core.Logic.{_≢_}
 use Prim.Native.Nat.{ℕ, zero, suc, _+_, _-_, _*_, _≤_, _<_}
 use native.Mathlib.Omega.{arith}
@@ -10,7 +10,7 @@ use lib.Dec.{eqb}
 use lib.ListN.{length}
 use borrow.Author.Tests.{eqb-true, eqb-false, leb-true}
 use Rattle.cluster.specs.Config.{Config}
-use Rattle.cluster.specs.Ranges.{within, mostServers, topLength}
+use Rattle.cluster.specs.Ranges.{within, topLength}
 use Rattle.protocol.specs.Values.{Share, noShare}
 use Rattle.protocol.specs.Packet.{shareF}
 use Rattle.protocol.specs.Rules.{ByServer}

@@ -20,10 +20,12 @@ pub mod Kept
 pub mod Acts
 pub mod ServerLift
 pub mod HandOk
+pub mod PacketRoom
 pub mod Prepared
 pub mod Updates
 pub mod ClientLift
 pub mod Turns
+pub mod Collected
 pub mod Filtered
 pub mod TakeLift
 pub mod Fine
@@ -31,3 +33,4 @@ pub mod MakeLift
 pub mod StepLift
 pub mod RunLift
 pub mod Accounts
+mod Examples

@@ -1,14 +1,11 @@
 -- The packet that a client makes is within the layout, so its bytes are read back as that packet.
 -- By the round: what the client holds is within the layout. Nothing is assumed.
-use mathlib.Core.Path.{_≡_, refl, sym, ap, _∙_, subst}
-use mathlib.Core.Bool.{Bool, true, false, not}
-use mathlib.Core.List.{List, [], _∷_, _++_}
-use Prim.Native.Nat.{ℕ, _+_, _≤_}
+use mathlib.Core.Path.{refl}
+use Prim.Native.Nat.{ℕ, _≤_}
 use native.Mathlib.Omega.{arith}
 use borrow.Author.Tests.{le-leb}
 use Rattle.cluster.specs.Config.{Config, shelf}
 use Rattle.cluster.specs.Ranges.{topFaults, topClient, topNumber}
-use Rattle.protocol.specs.declared.Head.{Head}
 use Rattle.protocol.specs.Format.{via, seq, keep, byte, number4, many}
 use Rattle.protocol.specs.Packet.{Body, BodyOk, PacketOk, packetF, headF, bodyF, candidateF, candidatesF, writeF}
 use Rattle.protocol.specs.Client.{Client, Hand, idle, clocking, storing, completing, collecting, filtering, repairing, request, made}

@@ -1,18 +1,17 @@
 -- Memories: what a server holds and its 40,960 bytes fix each other; a memory in its ranges has room; where reading one stops.
 -- The law of the layout is a term of its shape; the bytes after it are zeros. Nothing is assumed.
 use mathlib.Core.Path.{_≡_, refl, sym, ap, _∙_}
-use mathlib.Core.Bool.{Bool, true, false}
+use mathlib.Core.Bool.{true, false}
 use mathlib.Core.Option.{Option, none, some, Option·some-injective}
-use mathlib.Core.List.{List, [], _∷_, _++_}
-use Prim.Native.Nat.{ℕ, zero, suc, _+_, _-_, _*_, _≤_, _<_}
+use mathlib.Core.List.{List, _++_}
+use Prim.Native.Nat.{ℕ, _+_, _-_, _≤_}
 use native.Mathlib.Omega.{arith}
 use lib.ListN.{length, drop, replicate, length-append, length-replicate}
 use lib.Dec.{eqb}
 use borrow.Author.Tests.{eq-eqb, ne-eqb, eqb-true}
 use Rattle.cluster.specs.Config.{Config, shelf}
 use Rattle.cluster.specs.Ranges.{topFaults, memorySize, capacity}
-use Rattle.protocol.specs.Format.{Lawful, Bytes, All, guard, zeros, printMany, byte, seq, via, keep, many}
-use Rattle.protocol.specs.Values.{Candidate, Write}
+use Rattle.protocol.specs.Format.{Lawful, Bytes, All, zeros, printMany, byte, seq, via, keep, many}
 use Rattle.protocol.specs.Packet.{writeF, anyCandidateF}
 use Rattle.protocol.specs.Memory.{Memory, distinct, memoryF, zeroTail, decodeMemory, encodeMemory, MemoryOk}
 use Rattle.protocol.specs.Reading.{Leaves, Stops}
@@ -27,9 +26,9 @@ unfolding memoryF seq many
 memory-law =
     keep-law _ _
     (via-law _ _ _ (λ b. refl) (λ a h. λ i. (a .0, (a .1 .0, (h .1 .1 .1 .1 .0 i, a .1 .1 .1))))
-    (seq-law _ _ (byte-law 1 topFaults)
-    (λ t. seq-law _ _ (byte-law 1 (shelf t .servers))
-    (λ b. seq-law _ _ (byte-law 0 capacity) (λ n. seq-law _ _ (any-candidate-law (shelf t)) (λ l. many-law (writeF (shelf t)) (write-law (shelf t)) n))))))
+    (seq-law _ _ (byte-law _ _)
+    (λ t. seq-law _ _ (byte-law _ _)
+    (λ b. seq-law _ _ (byte-law _ _) (λ n. seq-law _ _ (any-candidate-law (shelf t)) (λ l. many-law (writeF (shelf t)) (write-law (shelf t)) n))))))
 
 -- ---- the ranges of a memory, each by its name
 

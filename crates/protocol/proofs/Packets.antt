@@ -2,21 +2,19 @@
 -- Each law is a term of the layout's shape. Nothing is assumed.
 use mathlib.Core.Path.{_≡_, refl, sym, ap, _∙_, subst}
 use mathlib.Core.Bool.{Bool, true, false, cond}
-use mathlib.Core.Option.{none, some}
-use mathlib.Core.Logic.{_⊎_, inl, inr}
+use mathlib.Core.Logic.{inl, inr}
 use mathlib.Core.List.{List, _++_}
-use Prim.Native.Nat.{ℕ, _+_, _*_, _≤_}
+use Prim.Native.Nat.{ℕ, _+_, _≤_}
 use native.Mathlib.Omega.{arith}
-use lib.ListN.{length, replicate, replicate-append-replicate, length-append, length-replicate}
+use lib.ListN.{length, replicate-append-replicate, length-append, length-replicate}
 use lib.Dec.{eqb, lit≤}
 use Rattle.cluster.specs.Config.{Config}
-use Rattle.cluster.specs.Ranges.{topFaults, mostServers, topWriter, topClient, topNumber, leastLength, topLength}
 use Rattle.hmac.specs.Hmac.{tagSize}
 use Rattle.erasure.specs.Fragments.{fragmentSize}
 use Rattle.protocol.specs.declared.Stamp.{Stamp}
 use Rattle.protocol.specs.declared.Head.{Head}
-use Rattle.protocol.specs.Format.{Lawful, byte, number2, number4, run, seq, via, keep, orBlank, many, printMany}
-use Rattle.protocol.specs.Values.{Candidate, Share, Write, Held, blankStamp, blankCandidate, digestSize, nonceSize, stampSize, digestsSize, tagsSize, candidateSize}
+use Rattle.protocol.specs.Format.{Lawful, byte, number2, number4, run, seq, via, keep, orBlank, many}
+use Rattle.protocol.specs.Values.{Candidate, Share, Write, blankStamp, blankCandidate, digestSize, nonceSize, stampSize, digestsSize, tagsSize, candidateSize}
 use Rattle.protocol.specs.Packet.{stampF, anyStampF, shareF, writeF, candidateF, anyCandidateF, candidatesF, heldMost, heldF, codeF, headF, headSize}
 use Rattle.protocol.proofs.Formats.{byte-law, number2-law, number4-law, run-law, seq-law, via-law, keep-law}
 use Rattle.protocol.proofs.Repeats.{orBlank-law, many-law, optional-law}
@@ -27,7 +25,7 @@ pub stamp-law : Lawful stampF
 unfolding stampF
 stamp-law =
     via-law _ _ _ (λ b. refl) (λ a h. refl)
-    (seq-law _ _ (number4-law 1 topNumber) (λ n. seq-law _ _ (byte-law 1 topWriter) (λ w. run-law tagSize)))
+    (seq-law _ _ (number4-law _ _) (λ n. seq-law _ _ (byte-law _ _) (λ w. run-law _)))
 
 pub any-stamp-law : Lawful anyStampF
 unfolding anyStampF stampF via seq number4 byte run
@@ -39,9 +37,9 @@ pub share-law : (s : Config) → Lawful (shareF s)
 unfolding shareF
 share-law s =
     via-law _ _ _ (λ b. refl) (λ a h. refl)
-    (seq-law _ _ (number2-law leastLength topLength)
-    (λ n. seq-law _ _ (run-law (fragmentSize (s .shares) n))
-    (λ p. seq-law _ _ (run-law (digestsSize s)) (λ d. seq-law _ _ (run-law digestSize) (λ e. run-law (tagsSize s))))))
+    (seq-law _ _ (number2-law _ _)
+    (λ n. seq-law _ _ (run-law _)
+    (λ p. seq-law _ _ (run-law _) (λ d. seq-law _ _ (run-law _) (λ e. run-law _)))))
 
 pub write-law : (s : Config) → Lawful (writeF s)
 unfolding writeF
@@ -52,7 +50,7 @@ write-law s = via-law _ _ _ (λ b. refl) (λ a h. refl) (seq-law _ _ stamp-law (
 pub candidate-law : (s : Config) → Lawful (candidateF s)
 unfolding candidateF
 candidate-law s =
-    via-law _ _ _ (λ b. refl) (λ a h. refl) (seq-law _ _ stamp-law (λ a. seq-law _ _ (run-law nonceSize) (λ n. run-law (tagsSize s))))
+    via-law _ _ _ (λ b. refl) (λ a h. refl) (seq-law _ _ stamp-law (λ a. seq-law _ _ (run-law _) (λ n. run-law _)))
 
 pub any-candidate-law : (s : Config) → Lawful (anyCandidateF s)
 unfolding anyCandidateF candidateF stampF via seq number4 byte run
@@ -64,7 +62,7 @@ pub candidates-law : (s : Config) → Lawful (candidatesF s)
 unfolding candidatesF seq many
 candidates-law s =
     via-law _ _ _ (λ b. refl) (λ a h. λ i. (h .1 .0 i, a .1))
-    (seq-law _ _ (byte-law 0 (s .servers)) (λ n. many-law (candidateF s) (candidate-law s) n))
+    (seq-law _ _ (byte-law _ _) (λ n. many-law (candidateF s) (candidate-law s) n))
 
 -- ---- what a server holds for a stamp; the answer to store; the head
 
@@ -80,16 +78,16 @@ held-law s =
 
 pub code-law : Lawful codeF
 unfolding codeF
-code-law = keep-law _ _ (byte-law 0 11)
+code-law = keep-law _ _ (byte-law _ _)
 
 pub head-law : Lawful headF
 unfolding headF
 head-law =
     keep-law _ _
     (via-law _ _ _ (λ b. refl) (λ a h. refl)
-    (seq-law _ _ (byte-law 1 12)
-    (λ k. seq-law _ _ (byte-law 1 topClient)
-    (λ c. seq-law _ _ (byte-law 1 mostServers) (λ b. seq-law _ _ (byte-law 1 topFaults) (λ t. number4-law 1 topNumber))))))
+    (seq-law _ _ (byte-law _ _)
+    (λ k. seq-law _ _ (byte-law _ _)
+    (λ c. seq-law _ _ (byte-law _ _) (λ b. seq-law _ _ (byte-law _ _) (λ t. number4-law _ _))))))
 
 -- ---- how many bytes each takes
 

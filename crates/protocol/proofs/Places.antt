@@ -2,14 +2,14 @@
 -- The list is what stands before the place, the bytes put, and what stands after them. Nothing is assumed.
 use mathlib.Core.Path.{_≡_, refl, sym, ap, _∙_}
 use mathlib.Core.Bool.{Bool, true, false}
-use mathlib.Core.List.{List, [], _∷_, _++_, append-assoc, append-nil}
+use mathlib.Core.List.{List, _∷_, _++_, append-assoc, append-nil}
 use mathlib.Core.Logic.{_≢_, _⊎_, inl, inr}
 use Prim.Native.Nat.{ℕ, zero, suc, _+_, _-_, _*_, _≤_, _<_}
 use native.Mathlib.Omega.{arith}
 use native.Mathlib.Nat.{le-of-suc-le-suc, not-suc-le-zero, mul-suc, mul-le-mul-left}
 use lib.Dec.{ltb}
 use lib.ListN.{length, take, drop, replicate, take-append-drop, length-append, length-drop}
-use lib.Seq.{take-at, drop-at, length-take-le, drop-drop, drop-append-add, take-append-add, take-append-le, drop-append-le}
+use lib.Seq.{drop-at, length-take-le, drop-drop, drop-append-add, take-append-add, take-append-le, drop-append-le}
 use borrow.Author.Tests.{ltb-true, ltb-false}
 use Rattle.protocol.specs.View.{part}
 use Rattle.protocol.specs.ClientBytes.{put}

@@ -1,17 +1,16 @@
 -- What a write makes at the end of clock is within the layout: its stamp, its tags, its candidate and every server's share.
 -- Runs of digests and tags have their lengths because each entry has. Nothing is assumed but the primitives' lengths.
-use mathlib.Core.Path.{_≡_, refl, sym, ap, _∙_, subst}
-use mathlib.Core.Bool.{Bool, true, false, cond, _&&_}
+use mathlib.Core.Path.{_≡_, sym, subst}
 use mathlib.Core.List.{List}
-use Prim.Native.Nat.{ℕ, _+_, _≤_}
+use Prim.Native.Nat.{ℕ, _≤_}
 use lib.ListN.{length}
 use borrow.Author.Tests.{le-leb}
 use Rattle.cluster.specs.Config.{Config}
-use Rattle.cluster.specs.Ranges.{within, topWriter, topNumber, leastLength, topLength}
+use Rattle.cluster.specs.Ranges.{topNumber, topLength}
 use Rattle.hmac.specs.Hmac.{tagSize}
 use Rattle.protocol.specs.declared.Stamp.{Stamp}
 use Rattle.protocol.specs.Format.{via, seq, run, byte, number2, number4}
-use Rattle.protocol.specs.Values.{Candidate, Share, noShare, digestSize, tagsSize}
+use Rattle.protocol.specs.Values.{digestSize, tagsSize}
 use Rattle.protocol.specs.Packet.{stampF, candidateF, shareF}
 use Rattle.protocol.specs.Primitives.{Primitives, Lengths, stampMessage, candidateMessage}
 use Rattle.protocol.specs.Rules.{ByServer}

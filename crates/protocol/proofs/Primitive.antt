@@ -2,7 +2,7 @@
 -- The first byte of a printed number is not reduced, so the tagged bytes tell every number. Nothing is assumed.
 use mathlib.Core.Path.{_≡_, refl, sym, ap, _∙_}
 use mathlib.Core.Bool.{Bool, true, false}
-use mathlib.Core.List.{List, [], _∷_, _++_, map, append-nil}
+use mathlib.Core.List.{List, [], _++_, map, append-nil}
 use Prim.Native.Nat.{ℕ, zero, suc, _+_, _-_, _*_, _/_, _%_, _≤_, _<_}
 use native.Mathlib.Omega.{arith}
 use native.Mathlib.Nat.{mul-suc, mul-le-mul-left}
@@ -11,7 +11,6 @@ use borrow.Author.Tests.{leb-true, leb-false}
 use lib.ListN.{length, take, drop, getD, length-append, length-drop}
 use lib.Seq.{take-at, drop-at, take-append-le, drop-append-le}
 use Rattle.cluster.specs.Config.{Config, Legal}
-use Rattle.hmac.specs.Hmac.{tagSize}
 use Rattle.sha256.proofs.Laws.{sha-length}
 use Rattle.hmac.proofs.Laws.{tag-length}
 use Rattle.gf256.proofs.Byte.{Small, DistinctN}
@@ -21,7 +20,7 @@ use Rattle.erasure.proofs.Lists.{small-of}
 use Rattle.protocol.specs.declared.Stamp.{Stamp}
 use Rattle.protocol.specs.Format.{Bytes, value4, print4}
 use Rattle.protocol.specs.Values.{nth, runOf, digestSize}
-use Rattle.protocol.specs.Primitives.{Primitives, Lengths, real, stampMessage, candidateMessage}
+use Rattle.protocol.specs.Primitives.{Lengths, real, stampMessage, candidateMessage}
 use Rattle.protocol.proofs.Formats.{value4-print}
 
 -- ---- lengths

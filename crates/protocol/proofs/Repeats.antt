@@ -1,9 +1,8 @@
 -- The laws of the formats that choose or repeat: a blank or a value, n of a kind, a value that may be absent.
 -- A blank is told from a value because the value's own format takes no zeros there. Nothing is assumed.
 use mathlib.Core.Path.{_≡_, refl, sym, ap, _∙_, subst}
-use mathlib.Core.Bool.{Bool, true, false}
 use mathlib.Core.Option.{Option, none, some}
-use mathlib.Core.Logic.{_⊎_, inl, inr, ⊎-elim, _≢_}
+use mathlib.Core.Logic.{inl, inr, ⊎-elim, _≢_}
 use mathlib.Core.List.{List, [], _∷_, _++_, append-assoc}
 use Prim.Native.Nat.{ℕ, zero, suc, _≤_, zero-le}
 use native.Mathlib.Omega.{arith}
@@ -14,7 +13,7 @@ use lib.Dec.{leb, eqb}
 use borrow.Author.Tests.{le-leb, leb-true, eqb-true, eqb-false}
 use Rattle.protocol.specs.Format.{Fmt, Lawful, Bytes, guard, andThen, zeros, parseBlank, orBlank, All, parseMany, printMany, many}
 use Rattle.protocol.specs.Format.{parseByte, printOptional, OkOptional, parsePresent, optional}
-use Rattle.protocol.proofs.Answers.{guard-some, no-some, same-value, same-rest, andThen-some, orElse-some, cond-some, bytes-rest, zeros-replicate, zeros-only}
+use Rattle.protocol.proofs.Answers.{guard-some, same-value, same-rest, andThen-some, orElse-some, cond-some, bytes-rest, zeros-replicate, zeros-only}
 use Rattle.protocol.proofs.Formats.{byte-read}
 
 -- ---- n zeros for the blank value

@@ -1,9 +1,7 @@
 -- Room: at every t a held reply fits its slot, a stored write is shorter, and so 32 of them fit a memory.
 -- A shelf's numbers enter here alone, by the four cases of t; everything else rests on `Fitting`. Nothing is assumed.
-use mathlib.Core.Path.{_≡_, refl, sym, ap, _∙_}
-use mathlib.Core.List.{List, [], _∷_, _++_}
-use mathlib.Core.Option.{none, some}
-use Prim.Native.Nat.{ℕ, zero, suc, _+_, _*_, _/_, _≤_, _<_}
+use mathlib.Core.List.{List, [], _∷_}
+use Prim.Native.Nat.{ℕ, zero, suc, _+_, _*_, _≤_, _<_}
 use native.Mathlib.Omega.{arith}
 use lib.ListN.{length, length-append}
 use Rattle.cluster.specs.Config.{Config, shelf}

@@ -1,28 +1,25 @@
 -- Runs: for every list of steps, bytes and values agree at every moment in states, in each result and in what is sent.
 -- By induction over the steps; a step touches one party. Nothing is assumed but the primitives' lengths.
 use mathlib.Core.Path.{_≡_, refl, sym, ap, _∙_, subst}
-use mathlib.Core.Bool.{Bool, true, false, cond, _&&_}
+use mathlib.Core.Bool.{Bool, true, false, cond}
 use mathlib.Core.List.{List, [], _∷_}
-use mathlib.Core.Option.{Option, none, some, Option·some-injective}
-use Prim.Native.Nat.{ℕ, _+_, _≤_}
+use mathlib.Core.Option.{Option, none, some}
+use Prim.Native.Nat.{ℕ, _≤_}
 use lib.Dec.{eqb}
-use lib.ListN.{length, take, replicate, length-replicate}
+use lib.ListN.{length, take, length-replicate}
 use borrow.Author.Tests.{eqb-true, leb-true}
 use Rattle.cluster.specs.Config.{Config, shelf}
 use Rattle.cluster.specs.Ranges.{topFaults}
-use Rattle.protocol.specs.declared.Call.{Call}
-use Rattle.protocol.specs.declared.Tally.{Tally}
 use Rattle.protocol.specs.Format.{via, seq, keep, byte}
 use Rattle.protocol.specs.Packet.{Packet, PacketOk, packetF, headF, decode, encode}
-use Rattle.protocol.specs.Memory.{encodeMemory, blankMemory}
 use Rattle.protocol.specs.Primitives.{Primitives, Lengths}
 use Rattle.protocol.specs.Rules.{ByServer, upd}
-use Rattle.protocol.specs.Server.{Server, blankServer, serverStep}
-use Rattle.protocol.specs.ServerBytes.{serverTake}
+use Rattle.protocol.specs.Server.{Stepped, serverStep}
+use Rattle.protocol.specs.ServerBytes.{Served, serverTake}
 use Rattle.protocol.specs.Client.{Client, Turn, Result, idle, newClient, writeStep, readStep, abortStep, takeStep, makeStep}
 use Rattle.protocol.specs.View.{handOf, view, keptSize}
-use Rattle.protocol.specs.ClientBytes.{fresh, beginWrite, beginRead, giveUp, clientMake, clientTake, keyOf}
-use Rattle.protocol.specs.Runs.{Shelf, configOf, Step, write, read, make, take-reply, give-up, serve, resultOf, takenOut, abortedOut, sentOf, Machine, Machines, Done, newMachine, setMachine, doBytes, nowBytes, World, After, setClient, doValues, nowValues, Fed}
+use Rattle.protocol.specs.ClientBytes.{fresh, clientMake, keyOf}
+use Rattle.protocol.specs.Runs.{Shelf, configOf, Step, write, read, make, take-reply, give-up, serve, resultOf, sentOf, Machine, Machines, Done, newMachine, setMachine, doBytes, nowBytes, World, After, setClient, doValues, nowValues, Fed}
 use Rattle.protocol.proofs.Answers.{and-on, no-some}
 use Rattle.protocol.proofs.Bodies.{decode-encode}
 use Rattle.protocol.proofs.Room.{Fitting, shelf-fits}
@@ -31,7 +28,7 @@ use Rattle.protocol.proofs.ServerLift.{Holds, blank-holds, serve-lift}
 use Rattle.protocol.proofs.Marks.{marked-fresh}
 use Rattle.protocol.proofs.ClientLift.{Sound, Lifted, fresh-sound}
 use Rattle.protocol.proofs.Fine.{Fine, start-fine}
-use Rattle.protocol.proofs.StepLift.{Good, Sent, write-good, read-good, abort-good, take-good, make-good}
+use Rattle.protocol.proofs.StepLift.{Good, write-good, read-good, abort-good, take-good, make-good}
 
 pub decode-nothing : decode [] ≡ none
 unfolding decode packetF headF keep via seq byte
@@ -104,6 +101,13 @@ module _ (P : Primitives) (law : Lengths P) (sh : Shelf) (tr : (1 ≤ sh .t) × 
         (let (r, x) = make-good (sh .t) c (w .client c .call) (w .client c .kept) tr fits (sound c) (here c) b output in
         record { matches = m; result = r; sent = x .bytes; ok = x .ok })
 
+    -- server b takes a packet, on values and on bytes
+    abbrev stepped : ℕ → List ℕ → List ℕ → Stepped
+    stepped b packet output = serverStep P s (keys b) b (v .server b) (length output) (decode packet)
+
+    abbrev served : ℕ → List ℕ → List ℕ → Served
+    served b packet output = serverTake P (w .memory b) (keys b) packet output
+
     serve-agrees : (b : ℕ) (packet output : List ℕ) → 1 ≤ b → b ≤ s .servers
         → Agrees (doValues P s (sh .writers) keys v (serve b packet output)) (doBytes P sh w (serve b packet output))
     unfolding doValues doBytes upd
@@ -111,29 +115,21 @@ module _ (P : Primitives) (law : Lengths P) (sh : Shelf) (tr : (1 ≤ sh .t) × 
         record {
           matches = record { client = m .client; fine = m .fine; memory = λ i l k. go i l k (eqb i b) refl };
           result = ap resultOf (x .number);
-          sent = sent-as _ (x .sent) (x .silent);
+          sent = sent-as (stepped b packet output .reply) (x .sent) (x .silent);
           ok = x .ok;
         }
       where
-        x : server.Lifted (sh .t) b (serverStep P (shelf (sh .t)) (keyOf (sh .keys) b) b (v .server b) (length output) (decode packet))
-            (serverTake P (w .memory b) (keyOf (sh .keys) b) packet output)
-        x = serve-lift P (sh .t) b (v .server b) (w .memory b) (keyOf (sh .keys) b) packet output (m .memory b lo hi)
+        x : server.Lifted (sh .t) b (stepped b packet output) (served b packet output)
+        x = serve-lift P (sh .t) b (v .server b) (w .memory b) (keys b) packet output (m .memory b lo hi)
 
-        sent-as : (o : Option Packet)
-            → ((p : Packet) → o ≡ some p → take (serverTake P (w .memory b) (keyOf (sh .keys) b) packet output .result .count) (serverTake P (w .memory b) (keyOf (sh .keys) b) packet output .output) ≡ encode p)
-            → (o ≡ none → serverTake P (w .memory b) (keyOf (sh .keys) b) packet output .result .count ≡ 0)
-            → take (serverTake P (w .memory b) (keyOf (sh .keys) b) packet output .result .count) (serverTake P (w .memory b) (keyOf (sh .keys) b) packet output .output) ≡ sentOf o
-        sent-as none f g = ap (λ (n : ℕ). take n (serverTake P (w .memory b) (keyOf (sh .keys) b) packet output .output)) (g refl)
+        sent-as : (o : Option Packet) → ((p : Packet) → o ≡ some p → take (served b packet output .result .count) (served b packet output .output) ≡ encode p)
+            → (o ≡ none → served b packet output .result .count ≡ 0) → take (served b packet output .result .count) (served b packet output .output) ≡ sentOf o
+        sent-as none f g = ap (λ (n : ℕ). take n (served b packet output .output)) (g refl)
         sent-as (some p) f g = f p refl
 
-        go : (i : ℕ) → 1 ≤ i → i ≤ shelf (sh .t) .servers → (q : Bool) → eqb i b ≡ q
-            → Holds (sh .t) i (cond q (serverStep P (shelf (sh .t)) (keyOf (sh .keys) b) b (v .server b) (length output) (decode packet) .server) (v .server i))
-            (cond q (serverTake P (w .memory b) (keyOf (sh .keys) b) packet output .memory) (w .memory i))
-        go i l k true e =
-            subst
-            (λ (j : ℕ). Holds (sh .t) j (serverStep P (shelf (sh .t)) (keyOf (sh .keys) b) b (v .server b) (length output) (decode packet) .server)
-            (serverTake P (w .memory b) (keyOf (sh .keys) b) packet output .memory))
-            (sym (eqb-true i b e)) (x .memory)
+        go : (i : ℕ) → 1 ≤ i → i ≤ s .servers → (q : Bool) → eqb i b ≡ q
+            → Holds (sh .t) i (cond q (stepped b packet output .server) (v .server i)) (cond q (served b packet output .memory) (w .memory i))
+        go i l k true e = subst (λ (j : ℕ). Holds (sh .t) j (stepped b packet output .server) (served b packet output .memory)) (sym (eqb-true i b e)) (x .memory)
         go i l k false e = m .memory i l k
 
     step-agrees : (x : Step) → Fed s x → Agrees (doValues P s (sh .writers) keys v x) (doBytes P sh w x)

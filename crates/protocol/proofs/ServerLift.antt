@@ -2,18 +2,17 @@
 -- for the decoded packet, and holds the server after it. Bytes and values fix each other, and refusals are one list. Nothing is assumed.
 use mathlib.Core.Path.{_≡_, refl, sym, ap, _∙_, subst}
 use mathlib.Core.Bool.{Bool, true, false, cond, not, _&&_}
-use mathlib.Core.List.{List, [], _∷_, _++_}
+use mathlib.Core.List.{List}
 use mathlib.Core.Option.{Option, none, some, Option·some-injective}
-use Prim.Native.Nat.{ℕ, zero, suc, _+_, _≤_, _<_}
+use Prim.Native.Nat.{ℕ, zero, suc, _≤_}
 use native.Mathlib.Omega.{arith}
-use lib.Dec.{T, ltb, eqb, lit≤}
+use lib.Dec.{ltb, eqb, lit≤}
 use lib.ListN.{length, take, drop}
 use lib.Seq.{take-at}
 use borrow.Author.Tests.{eq-eqb, eqb-true}
 use Rattle.cluster.specs.Config.{Config, shelf}
 use Rattle.cluster.specs.Ranges.{topFaults, memorySize, packetRoom}
 use Rattle.cluster.specs.Refusals.{onRefusal}
-use Rattle.protocol.specs.declared.Head.{Head}
 use Rattle.protocol.specs.Format.{Bytes, via, seq, keep, byte}
 use Rattle.protocol.specs.Packet.{Packet, Body, BodyOk, PacketOk, packetF, headF, bodyF, kindOf, decode, encode}
 use Rattle.protocol.specs.Packet.{clock, clockReply, store, storeReply, complete, completeReply, collect, collectReply, filter, filterReply, repair, repairReply}
@@ -22,7 +21,7 @@ use Rattle.protocol.specs.Primitives.{Primitives}
 use Rattle.protocol.specs.Server.{Server, Acted, act, barred, Stepped, replyTo, serverRefusal, answered, serverStep, blankServer}
 use Rattle.protocol.specs.ServerBytes.{Served, serverIn, memoryOf, over, turnedDown, accepted, onMemory, serverTake}
 use Rattle.protocol.proofs.Answers.{no-some, and-on}
-use Rattle.protocol.proofs.Bodies.{decode-encode, decode-ok}
+use Rattle.protocol.proofs.Bodies.{decode-ok}
 use Rattle.protocol.proofs.Memories.{fields, of-fields, memory-length, decode-encode-memory, decode-memory-ok, encode-decode-memory}
 use Rattle.protocol.proofs.Acts.{ServerOk, Right, act-ok, blank-ok}
 

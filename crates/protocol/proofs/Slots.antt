@@ -1,6 +1,6 @@
 -- Slots: a candidate or a reply put into its slot is what its server is known by, and the other slots keep theirs.
 -- Slots of one width are apart, and a printed value is read back by its places. Nothing is assumed.
-use mathlib.Core.Path.{_≡_, refl, sym, ap, _∙_}
+use mathlib.Core.Path.{_≡_, refl, ap, _∙_}
 use mathlib.Core.Bool.{Bool, true, false, cond, not, _&&_}
 use mathlib.Core.List.{List, _++_}
 use mathlib.Core.Logic.{_≢_}
@@ -13,7 +13,7 @@ use borrow.Author.Tests.{ne-eqb, eqb-true, eqb-false, lt-ltb, ltb-true}
 use Rattle.cluster.specs.Config.{Config}
 use Rattle.cluster.specs.Ranges.{mostServers}
 use Rattle.protocol.specs.Values.{Candidate, Held, blankCandidate, noHeld}
-use Rattle.protocol.specs.Packet.{candidateF, anyCandidateF, heldF}
+use Rattle.protocol.specs.Packet.{anyCandidateF, heldF}
 use Rattle.protocol.specs.Rules.{ByServer, upd, nobody}
 use Rattle.protocol.specs.View.{part, marked, candidatesIn, repliesIn, replySlotOf, candidateAt, heldAt, keptSize, candidateSlot, candidatesAt, repliesAt, replySlot}
 use Rattle.protocol.specs.ClientBytes.{put}

@@ -2,36 +2,33 @@
 -- Both levels share the list of refusals; only the test of too high a number differs, and not where it is asked. Nothing is assumed but the primitives' lengths.
 use mathlib.Core.Path.{_≡_, refl, sym, ap, _∙_, subst}
 use mathlib.Core.Bool.{Bool, true, false, cond, not, _&&_, _||_}
-use mathlib.Core.List.{List, [], _∷_, _++_}
+use mathlib.Core.List.{List}
 use mathlib.Core.Option.{Option, none, some}
-use Prim.Native.Nat.{ℕ, zero, suc, _+_, _*_, _≤_, _<_}
+use Prim.Native.Nat.{ℕ, zero, suc, _≤_}
 use native.Mathlib.Omega.{arith}
 use lib.Dec.{T, leb, ltb, eqb, lit<, lit≤}
 use lib.ListN.{length}
 use borrow.Author.Tests.{eqb-true, leb-true, not-false}
 use Rattle.cluster.specs.Config.{Config, shelf}
-use Rattle.cluster.specs.Ranges.{within, topFaults, topClient, topNumber, contentRoom}
+use Rattle.cluster.specs.Ranges.{within, topClient, topNumber, contentRoom}
 use Rattle.cluster.specs.Refusals.{onRefusal}
-use Rattle.protocol.specs.declared.Head.{Head}
 use Rattle.protocol.specs.declared.Call.{Call}
-use Rattle.protocol.specs.declared.Tally.{Tally}
-use Rattle.protocol.specs.declared.Taken.{Taken}
 use Rattle.protocol.specs.declared.Taken.the-variants as taken
 use Rattle.protocol.specs.Format.{via, seq, keep, byte}
-use Rattle.protocol.specs.Packet.{Body, BodyOk, Packet, PacketOk, packetF, headF, bodyF, kindOf, decode, heldF}
+use Rattle.protocol.specs.Packet.{Body, BodyOk, Packet, PacketOk, packetF, headF, kindOf, heldF}
 use Rattle.protocol.specs.Primitives.{Primitives, Lengths}
-use Rattle.protocol.specs.Rules.{ByServer, upd, gather}
-use Rattle.protocol.specs.Client.{Client, Turn, refused, update, isFull, awaits, tooHigh, higher, stampIn, candidateIn, heldIn, badFaults, takeRefusal, turnOn, highAt, takeStep}
-use Rattle.protocol.specs.View.{marked, contentOf, nonceOf, candidatesIn, repliesIn, handOf, view}
-use Rattle.protocol.specs.ClientBytes.{Took, inHand, awaited, ends, took, takeClock, takeStore, takeComplete, takeCollect, takeFilter, takeRepair, takeOn, highIn, takeIn, keyOf, clientTake}
+use Rattle.protocol.specs.Rules.{ByServer, upd}
+use Rattle.protocol.specs.Client.{Client, refused, update, isFull, awaits, tooHigh, higher, stampIn, heldIn, badFaults, takeRefusal, turnOn, highAt, takeStep}
+use Rattle.protocol.specs.View.{marked, repliesIn, handOf, view}
+use Rattle.protocol.specs.ClientBytes.{awaited, ends, took, takeClock, takeStore, takeComplete, takeCollect, takeFilter, takeRepair, takeOn, highIn, takeIn}
 use Rattle.protocol.proofs.Answers.{and-on, or-off, cond-cong}
 use Rattle.protocol.proofs.Packets.{any-candidate-lengths}
 use Rattle.protocol.proofs.Room.{Fitting}
-use Rattle.protocol.proofs.Bodies.{decode-ok}
 use Rattle.protocol.proofs.ServerLift.{body-ok}
 use Rattle.protocol.proofs.HandOk.{HandOk, candidate-in, held-in, upd-ok}
-use Rattle.protocol.proofs.ClientLift.{Sound, Lifted, past, in-round, out-of-rounds, hand-past, awaits-is}
-use Rattle.protocol.proofs.Turns.{Turned, M, full-is, clock-turn, store-turn, complete-turn, repair-turn, collect-turn}
+use Rattle.protocol.proofs.ClientLift.{Sound, past, in-round, out-of-rounds, hand-past, awaits-is}
+use Rattle.protocol.proofs.Turns.{Turned, M, full-is, clock-turn, store-turn, complete-turn, repair-turn}
+use Rattle.protocol.proofs.Collected.{collect-turn}
 use Rattle.protocol.proofs.Filtered.{filter-turn}
 
 -- ---- refusals
@@ -136,7 +133,7 @@ module _ (P : Primitives) (law : Lengths P) (s : Config) (f : Fitting s) (client
   round-turn q (suc (suc zero)) e i k = store-turn s f c kept h b lo hi new P law client writers keys output q e x
   round-turn q (suc (suc (suc zero))) e i k = complete-turn s f c kept h b lo hi new P law client writers keys output q e x
   round-turn q (suc (suc (suc (suc zero)))) e i k =
-      collect-turn s f c kept h b lo hi new P law client writers keys output x (any-candidate-lengths s _ (candidate-in s x xok)) q e
+      collect-turn P s f client writers keys c kept output h b lo hi new q e x (any-candidate-lengths s _ (candidate-in s x xok))
   round-turn q (suc (suc (suc (suc (suc zero))))) e i k =
       filter-turn P law s f client writers keys c kept output h b lo hi new q e x (held-in s x xok) (k .0 .0)
       (upd-ok (heldF s .Ok) (repliesIn s (c .tally .marks) kept) b (heldIn x) (k .1) (held-in s x xok))
@@ -176,8 +173,8 @@ module _ (P : Primitives) (law : Lengths P) (t : ℕ) (f : Fitting (shelf t)) (c
   unfolding view
   code-is none ok = unfold takeRefusal in refl
   code-is (some p) ok =
-      high-only s client p (c .number) (awaited c) (marked (c .tally .marks)) (highIn P s client writers keys c kept output) (highAt P s client writers keys cl) (length output)
-      (high-same p (ok p refl))
+      high-only s client p (c .number) (awaited c) (marked (c .tally .marks)) (highIn P s client writers keys c kept output)
+      (highAt P s client writers keys cl) (length output) (high-same p (ok p refl))
       ∙ ap (λ (k : ℕ). takeRefusal s client (some p) (c .number) k (marked (c .tally .marks)) (highAt P s client writers keys cl) (length output))
       (sym (unfold view in awaits-is s c kept))
 
@@ -213,5 +210,6 @@ module _ (P : Primitives) (law : Lengths P) (t : ℕ) (f : Fitting (shelf t)) (c
   unfolding takeStep takeIn
   take-lift o ok =
       subst
-      (λ (n : ℕ). Turned s (onRefusal n (turnOn P s client writers keys cl o) (record { client = cl; result = refused n })) (takeIn P s client writers keys c kept output o))
+      (λ (n : ℕ). Turned s (onRefusal n (turnOn P s client writers keys cl o) (record { client = cl; result = refused n }))
+      (takeIn P s client writers keys c kept output o))
       (code-is o ok) (settle o ok (codeB o) refl)

@@ -1,34 +1,32 @@
--- A reply taken on bytes is the turn on values, in the rounds of a write, in collect and in repair.
+-- A reply taken on bytes is the turn on values, in the rounds of a write and in repair.
 -- The mark of the replying server raises the count by one, so both levels find the quorum at the same reply. Nothing is assumed but the primitives' lengths.
-use mathlib.Core.Path.{_≡_, refl, sym, ap, _∙_, subst}
+use mathlib.Core.Path.{_≡_, refl, sym, ap, _∙_}
 use mathlib.Core.Bool.{Bool, true, false, cond}
-use mathlib.Core.List.{List, [], _∷_, _++_}
-use Prim.Native.Nat.{ℕ, zero, suc, _+_, _-_, _*_, _≤_, _<_}
+use mathlib.Core.List.{List}
+use Prim.Native.Nat.{ℕ, suc, _+_, _-_, _≤_, _<_}
 use native.Mathlib.Omega.{arith}
 use lib.Dec.{leb, eqb}
-use lib.ListN.{length, set, length-set}
+use lib.ListN.{length, length-set}
 use borrow.Author.Tests.{lt-ltb}
 use Rattle.cluster.specs.Config.{Config, quorum}
 use Rattle.cluster.specs.Ranges.{within, mostServers}
 use Rattle.protocol.specs.declared.Call.{Call}
 use Rattle.protocol.specs.declared.Tally.{Tally}
-use Rattle.protocol.specs.declared.Taken.{Taken}
 use Rattle.protocol.specs.declared.Taken.the-variants as taken
 use Rattle.protocol.specs.Values.{Candidate, Share, noShare}
-use Rattle.protocol.specs.Packet.{Body, candidateF, anyCandidateF}
+use Rattle.protocol.specs.Packet.{Body, candidateF}
 use Rattle.protocol.specs.Primitives.{Primitives, Lengths}
-use Rattle.protocol.specs.Rules.{ByServer, upd, nobody, countTo, gather}
-use Rattle.protocol.specs.Client.{Client, Hand, Turn, more, gave, idle, clocking, storing, completing, collecting, filtering, repairing, onto, update, isFull, higher, stampIn, codeIn, candidateIn, candidateMade, shareMade, sharesMade, prepared}
-use Rattle.protocol.specs.View.{part, marked, contentOf, nonceOf, chosenOf, candidateAt, candidatesIn, sharesIn, handOf, view, keptSize, chosenAt, candidateSlot, candidatesAt, repliesAt}
-use Rattle.protocol.specs.ClientBytes.{put, putShares, Took, fresh, noted, withTally, ends, took, delivers, takeClock, takeStore, takeComplete, takeCollect, takeRepair}
+use Rattle.protocol.specs.Rules.{ByServer, upd, nobody, countTo}
+use Rattle.protocol.specs.Client.{Turn, more, gave, clocking, storing, completing, repairing, onto, update, isFull, higher, stampIn, codeIn, candidateMade, shareMade, sharesMade, prepared}
+use Rattle.protocol.specs.View.{part, marked, contentOf, nonceOf, chosenOf, candidateAt, sharesIn, handOf, view, keptSize, chosenAt, candidateSlot}
+use Rattle.protocol.specs.ClientBytes.{put, putShares, Took, fresh, noted, withTally, ends, took, delivers, takeClock, takeStore, takeComplete, takeRepair}
 use Rattle.protocol.specs.Runs.{takenOut}
-use Rattle.protocol.proofs.Packets.{CandidateLengths, candidate-length, any-print}
+use Rattle.protocol.proofs.Packets.{CandidateLengths, candidate-length}
 use Rattle.protocol.proofs.Room.{Fitting}
 use Rattle.protocol.proofs.Puts.{put-length}
 use Rattle.protocol.proofs.Places.{part-put}
 use Rattle.protocol.proofs.Readers.{candidate-read}
 use Rattle.protocol.proofs.Marks.{marked-fresh, marked-set, count-le, count-mark}
-use Rattle.protocol.proofs.Slots.{slots-put, replies-fresh}
 use Rattle.protocol.proofs.Kept.{puts-length, puts-below, shares-put}
 use Rattle.protocol.proofs.ServerLift.{over-start}
 use Rattle.protocol.proofs.HandOk.{WriteOk}
@@ -215,46 +213,3 @@ module _ (s : Config) (f : Fitting s) (c : Call) (kept : List ℕ) (h : Sound s 
     repair-turn true e x =
         record { result = ap (gave (chosenOf s kept .stamp .number)) (over-start (contentOf c kept) output); client = idled s c kept h }
     repair-turn false e x = record { result = refl; client = noted-lift 6 e }
-
-    -- ---- collect
-
-    module _ (x : Body) (z : CandidateLengths s (candidateIn s x)) where
-      -- the bytes with this server's candidate
-      abbrev K : List ℕ
-      K = put kept (candidatesAt + candidateSlot * (b - 1)) (anyCandidateF s .print (candidateIn s x))
-
-      collected-size : length K ≡ keptSize
-      collected-size =
-          put-length kept (candidatesAt + candidateSlot * (b - 1)) (anyCandidateF s .print (candidateIn s x))
-          (omega (arith, ap length (any-print s (candidateIn s x)), candidate-length s (candidateIn s x) z, h .size, f .few, hi))
-          ∙ h .size
-
-      collected : candidatesIn s K ≡ upd (candidatesIn s kept) b (candidateIn s x)
-      collected =
-          let u : suc (b - 1) ≡ b = omega arith in
-          slots-put s (f .few) kept (h .size) (b - 1) (candidateIn s x) (omega (arith, hi, f .few)) z
-          ∙ ap (λ (n : ℕ). upd (candidatesIn s kept) n (candidateIn s x)) u
-
-      pub collect-turn : (q : Bool) → c .tally .round ≡ 4
-          → Turned s (update P s client writers keys (view s c kept) b x M q (collecting (candidatesIn s kept))) (takeCollect P s client writers keys c kept output q b x)
-      unfolding update takeCollect took view handOf fresh onto
-      collect-turn true e =
-          record {
-            result = refl;
-            client = record {
-              seen = λ i.
-                  record { calls = c .number; last = c .last; marks = marked-fresh i; hand = filtering (gather (collected i) (s .servers)) (replies-fresh s K i) };
-              sound = fresh-sound s 5 _ K (unfold fresh in refl) collected-size;
-            };
-          }
-      collect-turn false e =
-          record {
-            result = refl;
-            client = record {
-              seen = λ i. record { calls = c .number; last = c .last; marks = marks-now i; hand = hand i };
-              sound = noted-sound _ K refl collected-size;
-            };
-          }
-        where
-          hand : handOf s (noted (c .tally) b .round) (withTally c (noted (c .tally) b)) K ≡ collecting (upd (candidatesIn s kept) b (candidateIn s x))
-          hand = (λ i. handOf s (round-same e i) (withTally c (noted (c .tally) b)) K) ∙ ap collecting collected

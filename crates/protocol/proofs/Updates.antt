@@ -1,19 +1,18 @@
 -- A client's turn keeps what it holds within the layout, in every round.
 -- By cases on the round and on whether the reply ends it. Nothing is assumed but the primitives' lengths.
-use mathlib.Core.Path.{_≡_, refl, sym, ap, _∙_, subst}
-use mathlib.Core.Bool.{Bool, true, false, cond, _&&_}
+use mathlib.Core.Path.{_≡_, refl, sym, subst}
+use mathlib.Core.Bool.{Bool, true, false, _&&_}
 use mathlib.Core.List.{List, [], _∷_}
 use mathlib.Core.Option.{Option, none, some}
-use mathlib.Core.Logic.{_⊎_, inl, inr}
-use Prim.Native.Nat.{ℕ, zero, suc, _+_, _≤_, _<_}
+use mathlib.Core.Logic.{inl, inr}
+use Prim.Native.Nat.{ℕ, _≤_}
 use native.Mathlib.Omega.{arith}
-use lib.Dec.{T, leb, ltb, eqb, lit≤}
-use lib.ListN.{length}
+use lib.Dec.{T, ltb, eqb, lit≤}
 use borrow.Author.Tests.{leb-false}
 use Rattle.cluster.specs.Config.{Config}
 use Rattle.cluster.specs.Ranges.{topNumber}
 use Rattle.protocol.specs.declared.Stamp.{Stamp}
-use Rattle.protocol.specs.Format.{All, via, seq, orBlank, number4}
+use Rattle.protocol.specs.Format.{via, seq, orBlank, number4}
 use Rattle.protocol.specs.Values.{Candidate, Held, sameList}
 use Rattle.protocol.specs.Packet.{Body, BodyOk, stampF, anyStampF, candidateF, anyCandidateF, heldF}
 use Rattle.protocol.specs.Primitives.{Primitives, Lengths}
@@ -21,7 +20,7 @@ use Rattle.protocol.specs.Rules.{ByServer, upd, nobody, restoredBy, tags
 use Rattle.protocol.specs.Client.{Client, Hand, Turn, onto, idle, clocking, storing, completing, collecting, filtering, repairing, update, judge, found, higher, checks, stampIn, codeIn, candidateIn, heldIn, tooHigh}
 use Rattle.protocol.proofs.Answers.{at-cond}
 use Rattle.protocol.proofs.Room.{Fitting}
-use Rattle.protocol.proofs.HandOk.{WriteOk, HandOk, stamp-in, candidate-in, held-in, no-held, gather-ok, upd-ok, choice-ok, with-tags, content-short}
+use Rattle.protocol.proofs.HandOk.{HandOk, stamp-in, candidate-in, held-in, no-held, gather-ok, upd-ok, choice-ok, with-tags, content-short}
 use Rattle.protocol.proofs.Prepared.{prepared-ok}
 
 -- a client within the layout

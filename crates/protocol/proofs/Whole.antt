@@ -1,15 +1,15 @@
 -- What the parts of a packet say of the whole, for every kind: its readers leave the packet, a part that stops refuses it, and so does a byte too many.
 -- By the kinds of Bodies and the composition of Leaves. Nothing is assumed.
 use mathlib.Core.Path.{_≡_, refl, sym, ap, _∙_, subst}
-use mathlib.Core.Option.{Option, none, some}
-use mathlib.Core.List.{List, [], _∷_, _++_}
+use mathlib.Core.Option.{none, some}
+use mathlib.Core.List.{List, []}
 use Prim.Native.Nat.{ℕ, _≤_, _<_}
 use lib.ListN.{length, drop, drop-of-length-le}
 use lib.Seq.{drop-cons}
 use Rattle.cluster.specs.Config.{Config, shelf}
 use Rattle.protocol.specs.declared.Head.{Head}
 use Rattle.protocol.specs.Format.{Fmt, andThen, seq, via}
-use Rattle.protocol.specs.Packet.{Body, Packet, kindOf, printBody, bodyF, headF, packetF, decode, encode, PacketOk}
+use Rattle.protocol.specs.Packet.{Body, Packet, kindOf, bodyF, headF, packetF, decode, PacketOk}
 use Rattle.protocol.specs.Reading.{Leaves, Stops}
 use Rattle.protocol.proofs.Answers.{same-value, andThen-some, whole-some}
 use Rattle.protocol.proofs.Leaves.{leaves-seq, stops-first, stops-second, leaves-via, stops-via}
@@ -69,7 +69,8 @@ head-decoded {s} {h} {k} {p} f e =
     andThen-some (seq headF G .parse s) (λ a r. some (record { head = a .0; body = a .1 }, r)) p [] (whole-some (packetF .parse s) p e) in
     let (a, r, ea, eb) = andThen-some (headF .parse s) (λ a q. andThen (G a .parse q) (λ c r. some ((a, c), r))) x q ex in
     let (c, u, ec, ed) = andThen-some (G a .parse r) (λ c r. some ((a, c), r)) x q eb in
-    sym (ap (λ (y : Packet). y .head) (same-value _ p q [] ey)) ∙ sym (ap (λ (y : Head × Body). y .0) (same-value (a, c) x u q ed)) ∙ same-value a h r (drop k s) (sym ea ∙ f .parsed)
+    sym (ap (λ (y : Packet). y .head) (same-value _ p q [] ey)) ∙ sym (ap (λ (y : Head × Body). y .0) (same-value (a, c) x u q ed))
+    ∙ same-value a h r (drop k s) (sym ea ∙ f .parsed)
 
 -- its kind is its body's
 pub kind-ok : (p : Packet) → PacketOk p → kindOf (p .body) ≡ p .head .kind

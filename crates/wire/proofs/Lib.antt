@@ -2,3 +2,9 @@ pub mod Joined
 pub mod Runs
 pub mod Put
 pub mod Leaf
+pub mod From
+pub mod Through
+pub mod Lists
+pub mod Optional
+pub mod Heads
+pub mod Whole

@@ -2,7 +2,7 @@
 -- every field of its body is read by place, in the words of crate protocol's View.
 use mathlib.Core.Bool.{cond}
 use mathlib.Core.List.{List, [], _∷_, _++_}
-use mathlib.Core.Option.{none}
+use mathlib.Core.Option.{Option, none, some}
 use Prim.Native.Nat.{ℕ, zero, suc, _+_, _*_}
 use lib.Dec.{eqb}
 use lib.ListN.{take, drop, getD, replicate}
@@ -10,7 +10,7 @@ use Rattle.cluster.specs.Config.{Config, shelf}
 use Rattle.erasure.specs.Fragments.{fragmentSize}
 use Rattle.protocol.specs.declared.Head.{Head}
 use Rattle.protocol.specs.Format.{value2}
-use Rattle.protocol.specs.Values.{Candidate, Write, blankStamp, nonceSize, stampSize, digestSize, digestsSize, tagsSize, candidateSize}
+use Rattle.protocol.specs.Values.{Candidate, Share, Write, blankStamp, nonceSize, stampSize, digestSize, digestsSize, tagsSize, candidateSize}
 use Rattle.protocol.specs.Packet.{Body, clock, clockReply, store, storeReply, complete, completeReply, collect, collectReply, filter, filterReply, repair, repairReply, Packet, headSize}
 use Rattle.protocol.specs.View.{part, stampAt, candidateAt, shareAt, heldAt}
 use Rattle.wire.specs.declared.values.CandidateHead.{CandidateHead}
@@ -59,10 +59,25 @@ bodyAt s k d =
 unfoldable pub packetAt : Head → List ℕ → Packet
 packetAt h b = record { head = h; body = bodyAt (shelf (h .t)) (h .kind) (drop headSize b) }
 
--- the fragment of a packet that is let through: in kind 3 after the stamp and the length, in kind 10 after the stamp, the byte 1 and the length
-unfoldable pub fragmentAt : Config → ℕ → List ℕ → List ℕ
-fragmentAt s k d =
-    cond (eqb k 3) (part d (stampSize + 2) (fragmentSize (s .shares) (lengthAt (drop stampSize d))))
-    (cond (eqb k 10)
-    (cond (eqb (getD d stampSize 0) 0) [] (part d (stampSize + 3) (fragmentSize (s .shares) (lengthAt (drop (stampSize + 1) d)))))
-    [])
+-- the fragment of a packet of kind 3 or 10; none in a broken packet and in any other
+unfoldable pub fragmentHeld : Option Share → List ℕ
+fragmentHeld none = []
+fragmentHeld (some h) = h .part
+
+unfoldable pub fragmentOf : Body → List ℕ
+fragmentOf clock = []
+fragmentOf (clockReply x) = []
+fragmentOf (store x) = x .share .part
+fragmentOf (storeReply x) = []
+fragmentOf (complete x) = []
+fragmentOf completeReply = []
+fragmentOf collect = []
+fragmentOf (collectReply x) = []
+fragmentOf (filter x) = []
+fragmentOf (filterReply x) = fragmentHeld (x .share)
+fragmentOf (repair x) = []
+fragmentOf repairReply = []
+
+unfoldable pub fragmentIn : Option Packet → List ℕ
+fragmentIn none = []
+fragmentIn (some p) = fragmentOf (p .body)

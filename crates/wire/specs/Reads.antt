@@ -137,9 +137,9 @@ abbrev pub HeadAs : List ℕ → HeadRead → Type 0
 HeadAs s (heads.Value h c) = Past headF s 0 h (c .at) headSize
 HeadAs s heads.Broken = Stops headF s 0
 
-abbrev pub BodyAs : Config → ℕ → List ℕ → ℕ → Run → Type 0
-BodyAs c k s at (runs.Past p) = Leaves (bodyF c k) s at (bodyAt c k (drop at s)) (p .at)
-BodyAs c k s at runs.Broken = Stops (bodyF c k) s at
+abbrev pub BodyAs : Config → ℕ → List ℕ → ℕ → Field → Type 0
+BodyAs c k s at (field.Value v p) = Leaves (bodyF c k) s at (bodyAt c k (drop at s)) (p .at)
+BodyAs c k s at field.Broken = Stops (bodyF c k) s at
 
 -- the packet's head, which with the bytes tells the whole packet; or refusal 7
 abbrev pub PacketAs : List ℕ → PacketRead → Type 0

@@ -120,3 +120,59 @@ pub fn any_candidate_field(s: &[u8], c: Cursor, t: u8) -> Field
         }
     }
 }
+
+// n candidates, one after the other.
+pub(crate) fn candidate_run(s: &[u8], c: Cursor, t: u8, n: u32) -> Run
+    requires { ⌜ c .at ≤ length (now s) ⌝ }
+    ensures { λ r. ⌜ ManyAs (shelf t) n (now (s .entry)) (c .at) r ⌝ }
+{
+    let mut at = c.at;
+    let mut i = 0;
+    while i < n {
+        let Field::Value(number, next) = candidate_field(s, Cursor { at }, t) else {
+            return Run::Broken;
+        };
+        at = next.at;
+        i += 1;
+    }
+    Run::Past(Cursor { at })
+}
+
+// A count from 0 to S and so many candidates.
+pub fn candidates_field(s: &[u8], c: Cursor, t: u8) -> Field
+    ensures { λ r. ⌜ FieldAs (candidatesL (shelf t)) (now (s .entry)) (c .at) r ⌝ }
+{
+    let Field::Value(n, c1) = byte_field(s, c, 0, crate::sizes::servers(t) as u32) else {
+        return Field::Broken;
+    };
+    let Run::Past(c2) = candidate_run(s, c1, t, n) else {
+        return Field::Broken;
+    };
+    Field::Value(n, c2)
+}
+
+// Byte 1 follows only a stamp that is not blank.
+fn held_most(number: u32) -> u32
+    ensures { λ r. ⌜ r ≡ cond (eqb number 0) 0 1 ⌝ }
+{
+    if number == 0 { 0 } else { 1 }
+}
+
+// What a server holds for a stamp: the stamp, a byte 0 or 1 and, after 1, a share.
+pub fn held_field(s: &[u8], c: Cursor, t: u8) -> Field
+    ensures { λ r. ⌜ FieldAs (heldL (shelf t)) (now (s .entry)) (c .at) r ⌝ }
+{
+    let Field::Value(number, c1) = any_stamp_field(s, c) else {
+        return Field::Broken;
+    };
+    let Field::Value(flag, c2) = byte_field(s, c1, 0, held_most(number)) else {
+        return Field::Broken;
+    };
+    if flag == 0 {
+        return Field::Value(flag, c2);
+    }
+    let Field::Value(n, c3) = share_field(s, c2, t) else {
+        return Field::Broken;
+    };
+    Field::Value(flag, c3)
+}
