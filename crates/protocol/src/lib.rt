@@ -10,7 +10,11 @@ pub struct Stamp {
 }
 
 impl Stamp {
-    pub const BLANK: Stamp = Stamp { number: 0, writer: 0, tag: [0; hmac::TAG] };
+    pub const BLANK: Stamp = Stamp {
+        number: 0,
+        writer: 0,
+        tag: [0; hmac::TAG],
+    };
 
     pub fn blank() -> Stamp
         ensures { λ r. ⌜ r ≡ blankStamp ⌝ }
@@ -21,7 +25,11 @@ impl Stamp {
     pub fn new(number: u32, writer: u8, tag: [u8; hmac::TAG]) -> Stamp
         ensures { λ r. ⌜ r ≡ record { number = number; writer = writer; tag = tag } ⌝ }
     {
-        Stamp { number, writer, tag }
+        Stamp {
+            number,
+            writer,
+            tag,
+        }
     }
 
     pub fn is_blank(self) -> bool

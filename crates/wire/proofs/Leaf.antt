@@ -34,7 +34,7 @@ module _ {F : Fmt ℕ} {lo hi w x : ℕ} {s : List ℕ} {at : ℕ} (r : Ranged F
   inside : (X : List ℕ → ℕ) → x ≡ X (drop at s) → {v : ℕ} → v ≡ x → at + w ≤ length s → lo ≤ v → v ≤ hi → Took (numberL F X w) s at v (at + w)
   inside X e {v} ev h l k =
       let g : Leaves F s at x (at + w) =
-          record { parsed = r .there ∙ simp (le-leb lo x (omega arith), le-leb x hi (omega arith)); within = h; ok = r .ok (omega arith) (omega arith) } in
+      record { parsed = r .there ∙ simp (le-leb lo x (omega arith), le-leb x hi (omega arith)); within = h; ok = r .ok (omega arith) (omega arith) } in
       record { leaves = subst (λ (z : ℕ). Leaves F s at z (at + w)) e g; number = ev ∙ e; place = refl }
 
 -- the bytes at a place, counted from it

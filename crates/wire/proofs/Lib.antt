@@ -8,3 +8,4 @@ pub mod Lists
 pub mod Optional
 pub mod Heads
 pub mod Whole
+pub mod Laws

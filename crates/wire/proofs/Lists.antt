@@ -58,7 +58,7 @@ module _ (c : Config) {s : List ℕ} {at : ℕ} where
       let r : drop k s ≡ drop (candidateSize c * i) (drop at s) = drop-from s at (candidateSize c * i) (m .place) in
       let xs : List Candidate = candidateList c i (drop at s) in
       let g : Leaves (many (i + 1) (candidateF c)) s at (xs ++ candidateAt c (drop (candidateSize c * i) (drop at s)) ∷ []) q =
-          subst (λ (d : List ℕ). Leaves (many (i + 1) (candidateF c)) s at (xs ++ candidateAt c d ∷ []) q) r (many-snoc (candidateF c) i (m .leaves) (t .leaves)) in
+      subst (λ (d : List ℕ). Leaves (many (i + 1) (candidateF c)) s at (xs ++ candidateAt c d ∷ []) q) r (many-snoc (candidateF c) i (m .leaves) (t .leaves)) in
       record { leaves = rw add-one (rw add-one at g); place = rw add-one (omega (arith, m .place, t .place, mul-suc (candidateSize c) i)) }
 
   pub list-took : (S : ℕ) → S ≡ c .servers → {n p e : ℕ} → Took (byteL 0 S) s at n p

@@ -87,9 +87,9 @@ module _ (c : Config) {s : List ℕ} {at : ℕ} where
       let w : q ≡ at + (stampSize + 1) = omega (arith, a .place, b .place) in
       let t : drop q s ≡ drop (stampSize + 1) d = drop-from s at (stampSize + 1) w in
       let l =
-          leaves-via _ _ _ refl
-          (leaves-seq _ _ (a .leaves)
-          (leaves-present _ _ (subst (λ (y : ℕ). Leaves (byte 0 (heldMost (stampAt d))) s p y q) (flag-one hi v e b x) (flag-at hi a e b)) (r .leaves))) in
+      leaves-via _ _ _ refl
+      (leaves-seq _ _ (a .leaves)
+      (leaves-present _ _ (subst (λ (y : ℕ). Leaves (byte 0 (heldMost (stampAt d))) s p y q) (flag-one hi v e b x) (flag-at hi a e b)) (r .leaves))) in
       let z : ℕ = shareSize c (lengthAt (drop (stampSize + 1) d)) in
       let k : u ≡ q + z = r .place ∙ ap (λ (y : List ℕ). q + shareSize c (lengthAt y)) t in
       let j : u ≡ at + (stampSize + 1 + z) = omega (arith, k, w) in

@@ -58,7 +58,7 @@ module _ (n : ℕ) (s : List ℕ) where
       let d : List ℕ = replicate n 0 in
       let z : 0 + i < length d = omega (arith, length-replicate {A = ℕ} n 0) in
       let g : set (paste d 0 s i) i (getD s i 0) ≡ paste d 0 s (suc i) =
-          subst (λ (j : ℕ). set (paste d 0 s i) j (getD s i 0) ≡ paste d 0 s (suc i)) (zero-add i) (paste-suc d 0 s i 0 z h) in
+      subst (λ (j : ℕ). set (paste d 0 s i) j (getD s i 0) ≡ paste d 0 s (suc i)) (zero-add i) (paste-suc d 0 s i 0 z h) in
       ap (λ (y : List ℕ). set y i (getD s i 0)) e ∙ g ∙ ap (paste d 0 s) (sym (add-one i))
 
   pub paste-padded : length s ≤ n → paste (replicate n 0) 0 s (length s) ≡ padded n s
@@ -67,7 +67,7 @@ module _ (n : ℕ) (s : List ℕ) where
       let z : List ℕ = replicate n 0 in
       let m : n ≡ length s + (n - length s) = omega arith in
       let p : take n (s ++ z) ≡ s ++ replicate (n - length s) 0 =
-          ap (λ (k : ℕ). take k (s ++ z)) m ∙ take-append-add s z (n - length s) ∙ ap (λ (y : List ℕ). s ++ y) (take-replicate (n - length s) n (omega arith)) in
+      ap (λ (k : ℕ). take k (s ++ z)) m ∙ take-append-add s z (n - length s) ∙ ap (λ (y : List ℕ). s ++ y) (take-replicate (n - length s) n (omega arith)) in
       rw (take-length s, zero-add (length s)) (ap (λ (y : List ℕ). s ++ y) (drop-replicate n (length s)) ∙ sym p)
 
 pub part-most : (s : List ℕ) (at n : ℕ) → length (part s at n) ≤ n

@@ -82,9 +82,9 @@ module _ (c : Config) {s : List ℕ} {at : ℕ} where
       let e1 : part s p f ≡ part (drop at s) 2 f = part-from s at 2 f (a .place) in
       let e2 : part s q (digestsSize c) ≡ part (drop at s) (2 + f) (digestsSize c) = part-from s at {k = q} (2 + f) (digestsSize c) (omega (arith, a .place, b .place)) in
       let e3 : part s d digestSize ≡ part (drop at s) (2 + f + digestsSize c) digestSize =
-          part-from s at {k = d} (2 + f + digestsSize c) digestSize (omega (arith, a .place, b .place, x .place)) in
+      part-from s at {k = d} (2 + f + digestsSize c) digestSize (omega (arith, a .place, b .place, x .place)) in
       let e4 : part s g (tagsSize c) ≡ part (drop at s) (2 + f + digestsSize c + digestSize) (tagsSize c) =
-          part-from s at {k = g} (2 + f + digestsSize c + digestSize) (tagsSize c) (omega (arith, a .place, b .place, x .place, y .place)) in
+      part-from s at {k = g} (2 + f + digestsSize c + digestSize) (tagsSize c) (omega (arith, a .place, b .place, x .place, y .place)) in
       let same = ap₂ (λ u v. share u v (part s d digestSize) (part s g (tagsSize c))) e1 e2 ∙ ap₂ (share (part (drop at s) 2 f) (part (drop at s) (2 + f) (digestsSize c))) e3 e4 in
       record {
         leaves =
@@ -139,8 +139,8 @@ module _ (c : Config) {s : List ℕ} {at : ℕ} where
   candidate-took {v} {p} {q} {e} a b r =
       let candidate : List ℕ → List ℕ → Candidate = λ n t. record { stamp = stampAt (drop at s); nonce = n; tags = t } in
       let same =
-          ap₂ candidate (part-from s at stampSize nonceSize (a .place))
-          (part-from s at {k = q} (stampSize + nonceSize) (tagsSize c) (omega (arith, a .place, b .place))) in
+      ap₂ candidate (part-from s at stampSize nonceSize (a .place))
+      (part-from s at {k = q} (stampSize + nonceSize) (tagsSize c) (omega (arith, a .place, b .place))) in
       record {
         leaves =
             subst (λ (x : Candidate). Leaves (candidateF c) s at x e) same

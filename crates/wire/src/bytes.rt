@@ -84,7 +84,10 @@ pub fn number2(s: &[u8]) -> u32
 pub fn number4(s: &[u8]) -> u32
     ensures { λ r. ⌜ r ≡ value4 (getD (now (s .entry)) 0 0) (getD (now (s .entry)) 1 0) (getD (now (s .entry)) 2 0) (getD (now (s .entry)) 3 0) ⌝ }
 {
-    16777216 * wide(byte_at(s, 0)) + 65536 * wide(byte_at(s, 1)) + 256 * wide(byte_at(s, 2)) + wide(byte_at(s, 3))
+    16777216 * wide(byte_at(s, 0))
+        + 65536 * wide(byte_at(s, 1))
+        + 256 * wide(byte_at(s, 2))
+        + wide(byte_at(s, 3))
 }
 
 // At most TAG bytes by value, followed by zeros.

@@ -77,7 +77,10 @@ pub fn number4_field(s: &[u8], c: Cursor, lo: u32, hi: u32) -> Field
     if s.len() - at < 4 {
         return Field::Broken;
     }
-    let v = 16777216 * wide(s[at]) + 65536 * wide(s[at + 1]) + 256 * wide(s[at + 2]) + wide(s[at + 3]);
+    let v = 16777216 * wide(s[at])
+        + 65536 * wide(s[at + 1])
+        + 256 * wide(s[at + 2])
+        + wide(s[at + 3]);
     if v < lo {
         return Field::Broken;
     }

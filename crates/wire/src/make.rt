@@ -51,7 +51,12 @@ pub fn put_number2(out: &mut [u8], at: usize, v: u16) -> usize
 pub fn put_number4(out: &mut [u8], at: usize, v: u32) -> usize
     ensures { λ r. ⌜ record { next = r; output = now (out .exit) } ≡ placed (now (out .entry)) at (print4 v) ⌝ }
 {
-    let bytes = [(v / 16777216) as u8, (v / 65536 % 256) as u8, (v / 256 % 256) as u8, (v % 256) as u8];
+    let bytes = [
+        (v / 16777216) as u8,
+        (v / 65536 % 256) as u8,
+        (v / 256 % 256) as u8,
+        (v % 256) as u8,
+    ];
     put(out, at, &bytes)
 }
 
@@ -88,20 +93,37 @@ pub fn put_head(out: &mut [u8], at: usize, head: protocol::Head) -> usize
 }
 
 // A packet of a head and of a body in two runs: refused with 15, or its bytes over the start of the buffer and their count.
-pub fn make_packet(head: protocol::Head, first: &[u8], second: &[u8], out: &mut [u8]) -> cluster::Outcome
+pub fn make_packet(
+    head: protocol::Head,
+    first: &[u8],
+    second: &[u8],
+    out: &mut [u8],
+) -> cluster::Outcome
     ensures { λ r. ⌜ record { result = r; output = now (out .exit) } ≡ packetStep head (now (first .entry)) (now (second .entry)) (now (out .entry)) ⌝ }
 {
     if out.len() < cluster::PACKET_ROOM {
-        return cluster::Outcome { number: 15, count: 0 };
+        return cluster::Outcome {
+            number: 15,
+            count: 0,
+        };
     }
     if out.len() - crate::sizes::HEAD < first.len() {
-        return cluster::Outcome { number: 15, count: 0 };
+        return cluster::Outcome {
+            number: 15,
+            count: 0,
+        };
     }
     if out.len() - crate::sizes::HEAD - first.len() < second.len() {
-        return cluster::Outcome { number: 15, count: 0 };
+        return cluster::Outcome {
+            number: 15,
+            count: 0,
+        };
     }
     let a = put_head(out, 0, head);
     let b = put(out, a, first);
     let n = put(out, b, second);
-    cluster::Outcome { number: 0, count: n }
+    cluster::Outcome {
+        number: 0,
+        count: n,
+    }
 }

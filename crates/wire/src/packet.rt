@@ -7,7 +7,6 @@ ghost use Rattle.protocol.specs.Packet.{decode};
 ghost use Rattle.protocol.specs.View.{shareAt};
 ghost use Rattle.wire.specs.Places.{fragmentIn};
 ghost use Rattle.wire.specs.Reads.{HeadAs, BodyAs, PacketAs};
-
 use crate::bytes::byte_at;
 use crate::bytes::number2;
 use crate::bytes::part;
@@ -58,7 +57,16 @@ pub fn head_field(s: &[u8]) -> HeadRead
     if 3 * t + 1 < server {
         return HeadRead::Broken;
     }
-    HeadRead::Value(protocol::Head { kind: kind as u8, client: client as u8, server: server as u8, t: t as u8, call }, c5)
+    HeadRead::Value(
+        protocol::Head {
+            kind: kind as u8,
+            client: client as u8,
+            server: server as u8,
+            t: t as u8,
+            call,
+        },
+        c5,
+    )
 }
 
 // The body of a packet of a kind from 1 to 12; kinds 1, 6, 7 and 12 have none.
@@ -137,5 +145,8 @@ pub fn fragment(packet: &[u8]) -> &[u8]
     if byte_at(packet, crate::sizes::HEAD + crate::sizes::STAMP) == 0 {
         return &packet[..0];
     }
-    share_fragment(rest(packet, crate::sizes::HEAD + crate::sizes::STAMP + 1), t)
+    share_fragment(
+        rest(packet, crate::sizes::HEAD + crate::sizes::STAMP + 1),
+        t,
+    )
 }

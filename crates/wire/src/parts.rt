@@ -6,7 +6,6 @@ ghost use lib.Dec.{eqb};
 ghost use lib.ListN.{length};
 ghost use Rattle.cluster.specs.Config.{shelf};
 ghost use Rattle.wire.specs.Reads.{FieldAs, stampL, anyStampL, shareL, writeL, candidateL, anyCandidateL, candidatesL, heldL, ManyAs};
-
 use crate::fields::Cursor;
 use crate::fields::Field;
 use crate::fields::Run;
@@ -55,7 +54,12 @@ pub fn any_stamp_field(s: &[u8], c: Cursor) -> Field
 pub fn share_field(s: &[u8], c: Cursor, t: u8) -> Field
     ensures { λ r. ⌜ FieldAs (shareL (shelf t)) (now (s .entry)) (c .at) r ⌝ }
 {
-    let Field::Value(n, c1) = number2_field(s, c, cluster::LEAST_LENGTH as u32, cluster::TOP_LENGTH as u32) else {
+    let Field::Value(n, c1) = number2_field(
+        s,
+        c,
+        cluster::LEAST_LENGTH as u32,
+        cluster::TOP_LENGTH as u32,
+    ) else {
         return Field::Broken;
     };
     let Run::Past(c2) = run_field(s, c1, crate::sizes::fragment_size(t, n)) else {

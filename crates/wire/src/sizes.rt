@@ -7,8 +7,11 @@ ghost use Rattle.wire.specs.Places.{shareSize};
 
 // Bytes of a digest, of a nonce, of a stamp and of a packet's head.
 pub const DIGEST: usize = cluster::KEY;
+
 pub const NONCE: usize = cluster::KEY;
+
 pub const STAMP: usize = 5 + hmac::TAG;
+
 pub const HEAD: usize = 8;
 
 // S.

@@ -26,7 +26,11 @@ pub fn stamp_at(s: &[u8]) -> protocol::Stamp
     let number = crate::bytes::number4(s);
     let writer = crate::bytes::byte_at(s, 4);
     let tag = crate::bytes::tag_of(crate::bytes::rest(s, 5));
-    protocol::Stamp { number, writer, tag }
+    protocol::Stamp {
+        number,
+        writer,
+        tag,
+    }
 }
 
 // A candidate without its tags.
@@ -36,7 +40,10 @@ pub struct CandidateHead {
 }
 
 impl CandidateHead {
-    pub const BLANK: CandidateHead = CandidateHead { stamp: protocol::Stamp::BLANK, nonce: [0; cluster::KEY] };
+    pub const BLANK: CandidateHead = CandidateHead {
+        stamp: protocol::Stamp::BLANK,
+        nonce: [0; cluster::KEY],
+    };
 
     pub fn blank() -> CandidateHead
         ensures { λ r. ⌜ r ≡ blankHead ⌝ }

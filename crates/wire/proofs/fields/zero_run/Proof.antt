@@ -31,14 +31,14 @@ all-zero-requires : tie.Need-all-zero-requires
 all-zero-requires c κs = search needs
 
 returns-2 : tie.Need-returns-2
-returns-2 c = 
+returns-2 c =
     let a = c .before .before .before .before .before .args in
     let e : a .c .at + a .n - a .c .at ≡ a .n = omega arith in
     let z = rw e at (c .before .all-zero .ensures) in
     record { zero = sym z ∙ c .if2 .taken; within = omega arith; place = refl }
 
 returns-3 : tie.Need-returns-3
-returns-3 c = 
+returns-3 c =
     let a = c .before .before .before .before .before .args in
     let e : a .c .at + a .n - a .c .at ≡ a .n = omega arith in
     let z = rw e at (c .before .all-zero .ensures) in
