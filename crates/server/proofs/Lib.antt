@@ -1,0 +1,4 @@
+pub mod Blanking
+pub mod Walk
+pub mod Once
+pub mod Open

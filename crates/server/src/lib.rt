@@ -1,0 +1,4 @@
+// A storage server over its lent memory. Definitions stand in crate protocol (ServerBytes) and in specs/.
+
+pub mod blank; // making a server blank
+pub mod memory; // reading a server's memory
