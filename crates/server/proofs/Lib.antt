@@ -2,3 +2,7 @@ pub mod Blanking
 pub mod Walk
 pub mod Once
 pub mod Open
+pub mod Standing
+pub mod Replies
+pub mod Raising
+pub mod Storing

@@ -57,7 +57,7 @@ pub fn find(memory: &[u8], t: u8, n: usize, stamp: &[u8]) -> Found
 }
 
 // A stamp's place in their order, as one number.
-fn key_at(stamp: &[u8]) -> u64
+pub(crate) fn key_at(stamp: &[u8]) -> u64
     ensures { λ r. ⌜ r ≡ keyOf (stampAt (now (stamp .entry))) ⌝ }
 {
     256 * (wire::bytes::number4(stamp) as u64) + (wire::bytes::byte_at(stamp, 4) as u64)
