@@ -6,3 +6,4 @@ pub mod Standing
 pub mod Replies
 pub mod Raising
 pub mod Storing
+pub mod Testing

@@ -17,6 +17,7 @@ use Rattle.protocol.specs.Reading.{Leaves, Stops}
 use Rattle.protocol.proofs.Answers.{bytes-drop}
 use Rattle.protocol.proofs.Packets.{write-law, stamp-length}
 use Rattle.protocol.proofs.Walks.{many-next, many-stops, many-none}
+use Rattle.wire.specs.Places.{writeAt}
 use Rattle.server.specs.declared.memory.Found.the-variants as found
 use Rattle.server.specs.Reads.{writesPlace, Stored, firstWith, FoundAt, FindAs}
 
@@ -54,8 +55,8 @@ module _ {s : Config} {n : ℕ} {d key : List ℕ} {at i : ℕ} (h : Walking s n
         let (ys, r, p) = h .rest ws e m in
         absurd (many-stops (writeF s) (n - i) (n - (i + 1)) (omega arith) r f)
 
-    module _ {w : Write} {q : ℕ} (f : Leaves (writeF s) d at w q) (bs : Bytes d) where
-      compared : {x : List ℕ} → x ≡ part d at stampSize → {b : Bool} → b ≡ sameList x key → sameList (stampF .print (w .stamp)) key ≡ b
+    module _ {q : ℕ} (f : Leaves (writeF s) d at (writeAt s (drop at d)) q) (bs : Bytes d) where
+      compared : {x : List ℕ} → x ≡ part d at stampSize → {b : Bool} → b ≡ sameList x key → sameList (stampF .print (writeAt s (drop at d) .stamp)) key ≡ b
       compared p c = ap (λ (z : List ℕ). sameList z key) (sym (p ∙ stamp-bytes s f bs)) ∙ sym c
 
       pub walk-found : {x : List ℕ} → x ≡ part d at stampSize → {b : Bool} → b ≡ sameList x key → b ≡ true → FindAs s n d key (found.At at)
@@ -63,7 +64,7 @@ module _ {s : Config} {n : ℕ} {d key : List ℕ} {at i : ℕ} (h : Walking s n
       walk-found p c t ws e m =
           let (ys, r, o) = h .rest ws e m in
           let (zs, u, _) = many-next (writeF s) (n - i) (n - (i + 1)) (omega arith) r f in
-          record { write = w; next = q; there = f; first = o ∙ ap (firstWith key) u ∙ rw (compared p c ∙ t) }
+          record { next = q; there = f; first = o ∙ ap (firstWith key) u ∙ rw (compared p c ∙ t) }
 
       pub walk-more : {x : List ℕ} → x ≡ part d at stampSize → {b : Bool} → b ≡ sameList x key → b ≡ false → Walking s n d key q (i + 1)
       unfolding firstWith

@@ -40,10 +40,9 @@ firstWith key [] = none
 firstWith key (w ∷ ws) = cond (sameList (stampF .print (w .stamp)) key) (some w) (firstWith key ws)
 
 pub record FoundAt (s : Config) (d : List ℕ) (at : ℕ) (o : Option Write) : Type 0 where
-  pub write : Write
   pub next : ℕ
-  pub there : Leaves (writeF s) d at write next
-  pub first : o ≡ some write
+  pub there : Leaves (writeF s) d at (writeAt s (drop at d)) next
+  pub first : o ≡ some (writeAt s (drop at d))
 
 abbrev pub FindIs : Config → List ℕ → Option Write → Found → Type 0
 FindIs s d o (found.At at) = FoundAt s d at o

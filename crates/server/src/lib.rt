@@ -4,3 +4,4 @@ pub mod blank; // making a server blank
 pub mod memory; // reading a server's memory
 pub mod answers; // the answers to requests
 pub mod store; // the answer to store
+pub mod valid; // the test of candidates
