@@ -1,0 +1,172 @@
+-- That no stamp is stored twice: the writes before a cursor have one each, none above top, and the others stand from the cursor on.
+-- A stamp above all before it is none of them, since equal stamps have equal keys. Assumes nothing.
+use mathlib.Core.Path.{_≡_, refl, sym, ap, _∙_, subst}
+use mathlib.Core.Bool.{Bool, true, false, cond, not, _&&_}
+use mathlib.Core.List.{List, [], _∷_, _++_}
+use mathlib.Core.Option.{Option, none, some}
+use Prim.Native.Nat.{ℕ, _+_, _-_, _≤_, _<_}
+use native.Mathlib.Omega.{arith}
+use native.Mathlib.Nat.{sub-zero}
+use lib.Dec.{T, ltb}
+use lib.ListN.{drop, length}
+use borrow.Author.Tests.{ltb-true, ltb-false, le-ltb, lt-ltb}
+use Rattle.cluster.specs.Config.{Config}
+use Rattle.protocol.specs.declared.Stamp.{Stamp}
+use Rattle.protocol.specs.Format.{Bytes, All, many}
+use Rattle.protocol.specs.Values.{Share, Write, sameStamp, isSome, stampSize}
+use Rattle.protocol.specs.Packet.{stampF, writeF}
+use Rattle.protocol.specs.Memory.{held, freshAfter, distinct}
+use Rattle.protocol.specs.View.{part, stampAt}
+use Rattle.protocol.specs.Reading.{Leaves, Stops}
+use Rattle.protocol.proofs.Answers.{at-cond}
+use Rattle.protocol.proofs.Equal.{stamp-same, same-printed}
+use Rattle.protocol.proofs.Leaves.{leaves-none}
+use Rattle.protocol.proofs.Walks.{many-next, many-stops, many-none, all-snoc, many-snoc}
+use Rattle.wire.specs.Places.{writeAt}
+use Rattle.server.specs.declared.memory.Found.{Found}
+use Rattle.server.specs.declared.memory.Found.the-variants as found
+use Rattle.server.specs.declared.memory.Writes.the-variants as writes
+use Rattle.server.specs.Reads.{writesPlace, Stored, firstWith, FindIs, FindAs, keyOf, maxOf, UpTo, RepeatsAs, Checked, WritesAs}
+use Rattle.server.proofs.Walk.{stamp-bytes}
+
+pub untrue : (b : Bool) → (b ≡ true → ⊥) → b ≡ false
+untrue true h = absurd (h refl)
+untrue false h = refl
+
+-- ---- keys
+
+pub max-left : (a b : ℕ) → a ≤ maxOf a b
+unfolding maxOf
+max-left a b = at-cond (ltb a b) b a (λ z. a ≤ z) (λ e. omega (arith, ltb-true a b e)) (λ e. omega arith)
+
+pub max-right : (a b : ℕ) → b ≤ maxOf a b
+unfolding maxOf
+max-right a b = at-cond (ltb a b) b a (λ z. b ≤ z) (λ e. omega arith) (λ e. omega (arith, ltb-false a b e))
+
+pub max-is-left : (a b : ℕ) → b ≤ a → maxOf a b ≡ a
+unfolding maxOf
+max-is-left a b h = rw (le-ltb a b h)
+
+pub max-is-right : (a b : ℕ) → a < b → maxOf a b ≡ b
+unfolding maxOf
+max-is-right a b h = rw (lt-ltb a b h)
+
+up-more : (top up : ℕ) (ws : List Write) → top ≤ up → UpTo top ws → UpTo up ws
+up-more top up [] l h = tt
+up-more top up (w ∷ ws) l h = (omega (arith, h .0), up-more top up ws l (h .1))
+
+-- a stamp above all is held by none
+pub held-above : (a : Stamp) (top : ℕ) (ws : List Write) → UpTo top ws → top < keyOf a → held a ws ≡ none
+unfolding held
+held-above a top [] h k = refl
+held-above a top (w ∷ ws) h k =
+    let f : sameStamp (w .stamp) a ≡ false =
+    untrue _ (λ e. let q : keyOf (w .stamp) ≡ keyOf a = ap keyOf (stamp-same (w .stamp) a e) in omega (arith, q, h .0, k)) in
+    rw f (held-above a top ws (h .1) k)
+
+-- ---- what is found by a stamp's bytes is what is held for it
+
+abbrev pub shareIn : Option Write → Option Share
+shareIn none = none
+shareIn (some w) = some (w .share)
+
+share-cond : (b : Bool) (w : Write) (o : Option Write) (p : Option Share) → shareIn o ≡ p → shareIn (cond b (some w) o) ≡ cond b (some (w .share)) p
+share-cond true w o p e = refl
+share-cond false w o p e = e
+
+pub first-held : (a : Stamp) (ws : List Write) → shareIn (firstWith (stampF .print a) ws) ≡ held a ws
+unfolding firstWith held
+first-held a [] = refl
+first-held a (w ∷ ws) = rw (same-printed (w .stamp) a) (share-cond (sameStamp (w .stamp) a) w _ _ (first-held a ws))
+
+-- ---- whether a stamp stands before
+
+module _ (s : Config) (n : ℕ) (d : List ℕ) (at top : ℕ) where
+  pub repeats-above : {x : List ℕ} → x ≡ drop at d → {k : ℕ} → k ≡ keyOf (stampAt x) → top < k → RepeatsAs s n d at top false
+  repeats-above {x} p {k} q l ws e next m u f =
+      let o : k ≡ keyOf (stampAt (drop at d)) = q ∙ ap (λ (y : List ℕ). keyOf (stampAt y)) p in
+      sym (ap isSome (held-above (stampAt (drop at d)) top ws u (omega (arith, o, l))))
+
+  module _ (bs : Bytes d) {x : List ℕ} (p : x ≡ part d at stampSize) where
+    found-held : {next : ℕ} → Leaves (writeF s) d at (writeAt s (drop at d)) next → (ws : List Write) → shareIn (firstWith x ws) ≡ held (stampAt (drop at d)) ws
+    unfolding writeAt
+    found-held f ws = ap (λ (k : List ℕ). shareIn (firstWith k ws)) (p ∙ stamp-bytes s f bs) ∙ first-held (stampAt (drop at d)) ws
+
+    pub repeats-none : {r : Found} → r ≡ found.Nothing → FindAs s n d x r → RepeatsAs s n d at top false
+    repeats-none t g ws e next m u f =
+        let o : firstWith x ws ≡ none = subst (λ (y : Found). FindIs s d (firstWith x ws) y) t (g ws e m) in
+        sym (ap isSome (sym (found-held f ws) ∙ ap shareIn o))
+
+    pub repeats-found : {r : Found} {k : ℕ} → r ≡ found.At k → FindAs s n d x r → RepeatsAs s n d at top true
+    repeats-found t g ws e next m u f =
+        let o = subst (λ (y : Found). FindIs s d (firstWith x ws) y) t (g ws e m) in
+        sym (ap isSome (sym (found-held f ws) ∙ ap shareIn (o .first)))
+
+-- ---- the walk
+
+pub record Checking (s : Config) (n : ℕ) (d : List ℕ) (at top i : ℕ) : Type 0 where
+  pub seen : List Write
+  pub there : Stored s i d seen at
+  pub up : UpTo top seen
+  pub rest : (ws : List Write) (e : ℕ) → Stored s n d ws e
+      → (ys : List Write) × Leaves (many (n - i) (writeF s)) d at ys e × (distinct ws ≡ freshAfter seen ys)
+
+pub check-none : (s : Config) (n : ℕ) (d : List ℕ) {at : ℕ} → at ≡ writesPlace s → writesPlace s ≤ length d → Checking s n d at 0 0
+check-none s n d {at} p h = subst (λ (j : ℕ). Checking s n d j 0 0) (sym p) start
+  where
+    start : Checking s n d (writesPlace s) 0 0
+    start =
+        record {
+          seen = [];
+          there = leaves-none (writeF s) 0 h;
+          up = tt;
+          rest = λ ws e m. (ws, subst (λ (j : ℕ). Leaves (many j (writeF s)) d (writesPlace s) ws e) (sym (sub-zero n)) m, refl);
+        }
+
+module _ {s : Config} {n : ℕ} {d : List ℕ} {at top i : ℕ} (h : Checking s n d at top i) where
+  pub check-end : i ≡ n → WritesAs s n d (writes.Past at)
+  check-end e =
+      let m = subst (λ (j : ℕ). Stored s j d (h .seen) at) e (h .there) in
+      let (ys, r, p) = h .rest (h .seen) at m in
+      record { writes = h .seen; there = m; once = p ∙ ap (freshAfter (h .seen)) (many-none (writeF s) (n - i) (omega arith) r) }
+
+  module _ (l : i < n) where
+    pub check-stop : Stops (writeF s) d at → WritesAs s n d writes.Broken
+    check-stop f ws e m o =
+        let (ys, r, p) = h .rest ws e m in
+        many-stops (writeF s) (n - i) (n - (i + 1)) (omega arith) r f
+
+    module _ {q : ℕ} (f : Leaves (writeF s) d at (writeAt s (drop at d)) q) where
+      last : {x : List ℕ} → x ≡ drop at d → {k : ℕ} → k ≡ keyOf (stampAt x) → {up : ℕ} → up ≡ maxOf top k → keyOf (writeAt s (drop at d) .stamp) ≤ up
+      unfolding writeAt
+      last {x} p {k} e {up} v =
+          let o : k ≡ keyOf (stampAt (drop at d)) = e ∙ ap (λ (y : List ℕ). keyOf (stampAt y)) p in
+          omega (arith, max-right top k, v, o)
+
+      -- the stamps seen and then the others, where the first of these is known to be fresh or not
+      fresh-next : (b : Bool) → RepeatsAs s i d at top b → (zs : List Write)
+          → freshAfter (h .seen) (writeAt s (drop at d) ∷ zs) ≡ (not b && freshAfter (h .seen ++ writeAt s (drop at d) ∷ []) zs)
+      unfolding writeAt
+      fresh-next b g zs = rw (sym (g (h .seen) at q (h .there) (h .up) (unfold writeAt in f)))
+
+      pub check-held : {b : Bool} → RepeatsAs s i d at top b → b ≡ true → WritesAs s n d writes.Broken
+      check-held {b} g t ws e m o =
+          let (ys, r, p) = h .rest ws e m in
+          let (zs, u, _) = many-next (writeF s) (n - i) (n - (i + 1)) (omega arith) r f in
+          let z : true ≡ false = sym o ∙ p ∙ ap (freshAfter (h .seen)) u ∙ fresh-next b g zs ∙ rw t in
+          subst T z tt
+
+      pub check-more : {x : List ℕ} → x ≡ drop at d → {k : ℕ} → k ≡ keyOf (stampAt x) → {up : ℕ} → up ≡ maxOf top k
+          → {b : Bool} → RepeatsAs s i d at top b → b ≡ false → Checking s n d q up (i + 1)
+      check-more {x} p₀ {k} q₀ {up} v {b} g t =
+          let w : Write = writeAt s (drop at d) in
+          let a : top ≤ up = omega (arith, max-left top k, v) in
+          record {
+            seen = h .seen ++ w ∷ [];
+            there = many-snoc (writeF s) i (h .there) f;
+            up = all-snoc (λ x. keyOf (x .stamp) ≤ up) (h .seen) w (up-more top up (h .seen) a (h .up)) (last p₀ q₀ v);
+            rest = λ ws e m.
+                let (ys, r, p) = h .rest ws e m in
+                let (zs, u, r′) = many-next (writeF s) (n - i) (n - (i + 1)) (omega arith) r f in
+                (zs, r′, p ∙ ap (freshAfter (h .seen)) u ∙ fresh-next b g zs ∙ rw t);
+          }

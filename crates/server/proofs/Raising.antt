@@ -1,0 +1,137 @@
+-- The latest candidate raised: the keys of stamps are in the order of the stamps, and a higher candidate's bytes over the latest ones
+-- are the memory of the raised server. Assumes nothing.
+use mathlib.Core.Path.{_≡_, refl, sym, ap, _∙_, subst}
+use mathlib.Core.Bool.{Bool, true, false, cond, _&&_, _||_}
+use mathlib.Core.List.{List, [], _++_}
+use mathlib.Core.Option.{some}
+use Prim.Native.Nat.{ℕ, _+_, _*_, _≤_, _<_}
+use native.Mathlib.Omega.{arith}
+use lib.Dec.{ltb, eqb}
+use lib.ListN.{length, drop}
+use borrow.Author.Tests.{ltb-true, ltb-false, eqb-true, eqb-false, lt-ltb, le-ltb, le-leb}
+use Rattle.cluster.specs.Config.{Config, shelf}
+use Rattle.cluster.specs.Ranges.{topFaults, memorySize}
+use Rattle.cluster.specs.declared.Outcome.{Outcome}
+use Rattle.protocol.specs.declared.Head.{Head}
+use Rattle.protocol.specs.declared.Stamp.{Stamp}
+use Rattle.protocol.specs.Format.{Bytes}
+use Rattle.protocol.specs.Values.{Candidate, below, candidateSize}
+use Rattle.protocol.specs.Packet.{Packet, BodyOk, candidateF, anyCandidateF, complete, printBody, headSize, decode}
+use Rattle.protocol.specs.Memory.{Memory, encodeMemory}
+use Rattle.protocol.specs.Server.{Server, raise, act}
+use Rattle.protocol.specs.View.{part, stampAt, candidateAt}
+use Rattle.protocol.specs.ClientBytes.{put}
+use Rattle.protocol.specs.ServerBytes.{serverIn, memoryOf}
+use Rattle.protocol.proofs.Acts.{any-candidate}
+use Rattle.protocol.proofs.Answers.{bytes-drop}
+use Rattle.protocol.proofs.Bodies.{decode-ok}
+use Rattle.protocol.proofs.Changes.{latest-bytes}
+use Rattle.protocol.proofs.Packets.{any-print, any-candidate-length}
+use Rattle.protocol.proofs.ServerLift.{body-ok}
+use Rattle.wire.specs.Places.{bodyAt, packetAt}
+use Rattle.wire.specs.Make.{Placed, placed, packetStep}
+use Rattle.wire.proofs.Laws.{body-bytes}
+use Rattle.server.specs.Reads.{latestPlace, Opened, keyOf}
+use Rattle.server.specs.Answers.{memoryIn, replyHead, raisedBytes, AnswersFor}
+use Rattle.server.proofs.Standing.{memory-bytes, memory-size-of, memory-fields}
+use Rattle.server.proofs.Replies.{body-of, replied, unchanged, part-none, alone, headed}
+
+pub below-key : (a b : Stamp) → a .writer < 256 → b .writer < 256 → below a b ≡ ltb (keyOf a) (keyOf b)
+unfolding below keyOf
+below-key a b ha hb = go (ltb (a .number) (b .number)) (eqb (a .number) (b .number)) (ltb (a .writer) (b .writer)) refl refl refl
+  where
+    j : ℕ
+    j = 256 * a .number + a .writer
+    k : ℕ
+    k = 256 * b .number + b .writer
+    go : (x y z : Bool) → ltb (a .number) (b .number) ≡ x → eqb (a .number) (b .number) ≡ y → ltb (a .writer) (b .writer) ≡ z → (x || (y && z)) ≡ ltb j k
+    go true y z p q r = sym (lt-ltb j k (omega (arith, ltb-true (a .number) (b .number) p)))
+    go false true true p q r = sym (lt-ltb j k (omega (arith, eqb-true (a .number) (b .number) q, ltb-true (a .writer) (b .writer) r)))
+    go false true false p q r = sym (le-ltb j k (omega (arith, eqb-true (a .number) (b .number) q, ltb-false (a .writer) (b .writer) r)))
+    go false false z p q r = sym (le-ltb j k (omega (arith, ltb-false (a .number) (b .number) p, eqb-false (a .number) (b .number) q)))
+
+-- ---- each way through the code
+
+module _ (d x : List ℕ) {y : List ℕ} (p : y ≡ drop latestPlace d) {j k : ℕ} (u : j ≡ keyOf (stampAt y)) (v : k ≡ keyOf (stampAt x)) where
+  keys : {b : Bool} → ltb j k ≡ b → ltb (keyOf (stampAt (drop latestPlace d))) (keyOf (stampAt x)) ≡ b
+  keys e = let w = u ∙ ap (λ (z : List ℕ). keyOf (stampAt z)) p in sym (λ i. ltb (w i) (v i)) ∙ e
+
+  pub raise-higher : j < k → {next : ℕ} {out : List ℕ} → record { next = next; output = out } ≡ placed d latestPlace x → out ≡ raisedBytes d x
+  unfolding raisedBytes
+  raise-higher h q = rw (keys (lt-ltb j k h)) (ap (λ (z : Placed). z .output) q)
+
+  pub raise-other : k ≤ j → d ≡ raisedBytes d x
+  unfolding raisedBytes
+  raise-other h = rw (keys (le-ltb j k h))
+
+-- ---- the bytes of the raised server
+
+cond-memory : (t b : ℕ) (g : Bool) (p q : Server) (x y : List ℕ) → x ≡ encodeMemory (memoryOf t b p) → y ≡ encodeMemory (memoryOf t b q)
+    → cond g x y ≡ encodeMemory (memoryOf t b (cond g p q))
+cond-memory t b true p q x y e f = e
+cond-memory t b false p q x y e f = f
+
+writer-byte : (x : List ℕ) → Bytes x → stampAt x .writer < 256
+unfolding stampAt
+writer-byte x bs = bs 4
+
+pub placed-put : (d : List ℕ) (at : ℕ) (x : List ℕ) → at + length x ≤ length d → placed d at x .output ≡ put d at x
+unfolding placed
+placed-put d at x h = rw (le-leb (at + length x) (length d) h)
+
+pub size-few : (t : ℕ) → t ≤ topFaults → latestPlace + candidateSize (shelf t) ≤ memorySize
+unfolding shelf
+size-few t h = omega arith
+
+module _ {d : List ℕ} {t b n e : ℕ} (o : Opened d t b n e) (bs : Bytes d) (x : List ℕ) (xs : Bytes x) where
+  module _ (p : x ≡ candidateF (shelf t) .print (candidateAt (shelf t) x)) (ok : candidateF (shelf t) .Ok (candidateAt (shelf t) x)) where
+    any-length : (c : Candidate) → anyCandidateF (shelf t) .Ok c → length (anyCandidateF (shelf t) .print c) ≡ candidateSize (shelf t)
+    any-length c h = any-candidate-length (shelf t) c h
+
+    x-any : x ≡ anyCandidateF (shelf t) .print (candidateAt (shelf t) x)
+    x-any = p ∙ sym (any-print (shelf t) (candidateAt (shelf t) x))
+
+    x-length : length x ≡ candidateSize (shelf t)
+    x-length = ap length x-any ∙ any-length (candidateAt (shelf t) x) (any-candidate (shelf t) (candidateAt (shelf t) x) ok)
+
+    placed-raised : placed d latestPlace x .output ≡ encodeMemory (memoryOf t b (record { latest = candidateAt (shelf t) x; history = o .writes }))
+    unfolding memoryOf
+    placed-raised =
+        let l : latestPlace + length x ≤ length d = omega (arith, x-length, memory-size-of o bs, size-few t (memory-fields o .t-range .1)) in
+        let c : Candidate = candidateAt (shelf t) x in
+        let same : length (anyCandidateF (shelf t) .print (memoryIn o .latest)) ≡ length (anyCandidateF (shelf t) .print c) =
+        any-length (memoryIn o .latest) (memory-fields o .latest) ∙ sym (any-length c (any-candidate (shelf t) c ok)) in
+        placed-put d latestPlace x l
+        ∙ ap (λ (z : List ℕ). put z latestPlace x) (sym (memory-bytes o bs))
+        ∙ ap (λ (z : List ℕ). put (encodeMemory (memoryIn o)) latestPlace z) x-any
+        ∙ latest-bytes (memoryIn o) c same
+
+    pub raised-memory : raisedBytes d x ≡ encodeMemory (memoryOf t b (raise (candidateAt (shelf t) x) (serverIn (memoryIn o))))
+    unfolding raisedBytes raise serverIn candidateAt
+    raised-memory =
+        let a : Stamp = stampAt (drop latestPlace d) in
+        let q : below a (stampAt x) ≡ ltb (keyOf a) (keyOf (stampAt x)) =
+        below-key a (stampAt x) (writer-byte (drop latestPlace d) (bytes-drop latestPlace d bs)) (writer-byte x xs) in
+        let v : Server = serverIn (memoryIn o) in
+        let w : Server = record { latest = candidateAt (shelf t) x; history = o .writes } in
+        cond-memory t b (ltb (keyOf a) (keyOf (stampAt x))) w v (placed d latestPlace x .output) d placed-raised (unchanged o bs)
+        ∙ ap (λ (g : Bool). encodeMemory (memoryOf t b (cond g w v))) (sym q)
+
+-- ---- complete
+
+module _ (d : List ℕ) (bs : Bytes d) (packet : List ℕ) (ps : Bytes packet) (output : List ℕ) (h : Head) where
+  pub complete-answers : {x m out first second : List ℕ} {g : Head} {r : Outcome} → x ≡ drop headSize packet → m ≡ raisedBytes d x
+      → first ≡ part packet 0 0 → second ≡ part packet 0 0 → g ≡ replyHead h 6 → record { result = r; output = out } ≡ packetStep g first second output
+      → AnswersFor 5 d packet output h (record { result = r; memory = m; output = out })
+  unfolding bodyAt act packetAt
+  complete-answers {x} {m} {out} {first} {second} c e f j q w key n z o dec k room =
+      let y : List ℕ = drop headSize packet in
+      let b = body-of h packet 5 k in
+      let ok : candidateF (shelf (h .t)) .Ok (candidateAt (shelf (h .t)) y) =
+      subst (BodyOk (shelf (h .t))) b (body-ok (packetAt h packet) (decode-ok packet (packetAt h packet) dec)) in
+      let p : y ≡ candidateF (shelf (h .t)) .print (candidateAt (shelf (h .t)) y) =
+      body-bytes packet (packetAt h packet) dec ps ∙ ap (printBody (shelf (h .t))) b in
+      replied key packet output h o dec room (complete (candidateAt (shelf (h .t)) y)) b first second
+      (e ∙ ap (raisedBytes d) c ∙ raised-memory o bs y (bytes-drop headSize packet ps) p ok)
+      (sym (f ∙ part-none packet 0) ∙ alone first (j ∙ part-none packet 0))
+      (headed h 6 output first second q w)

@@ -1,0 +1,125 @@
+-- The answers that leave the memory as it is, and the step that every answer ends with: a packet made of a head and a body's bytes
+-- is the reply of the server's step. By the laws of packets and of memories. Assumes nothing.
+use mathlib.Core.Path.{_≡_, refl, sym, ap, _∙_, subst}
+use mathlib.Core.List.{List, [], _∷_, _++_, append-nil}
+use mathlib.Core.Option.{Option, some}
+use Prim.Native.Nat.{ℕ, _≤_}
+use lib.ListN.{length, drop}
+use Rattle.cluster.specs.Config.{Config, shelf}
+use Rattle.cluster.specs.Ranges.{packetRoom}
+use Rattle.cluster.specs.declared.Outcome.{Outcome}
+use Rattle.protocol.specs.declared.Head.{Head}
+use Rattle.protocol.specs.Format.{Bytes, orBlank}
+use Rattle.protocol.specs.Values.{stampSize, candidateSize}
+use Rattle.protocol.specs.Packet.{Body, Packet, BodyOk, PacketOk, clock, collect, kindOf, printBody, anyStampF, headSize, decode, encode}
+use Rattle.protocol.specs.Memory.{encodeMemory}
+use Rattle.protocol.specs.Primitives.{real}
+use Rattle.protocol.specs.Server.{Acted, Server, act, replyTo}
+use Rattle.protocol.specs.View.{part, candidateAt}
+use Rattle.protocol.specs.ClientBytes.{Written}
+use Rattle.protocol.specs.ServerBytes.{Served, serverIn, memoryOf, over, accepted}
+use Rattle.protocol.proofs.Acts.{act-ok}
+use Rattle.protocol.proofs.Bodies.{decode-ok}
+use Rattle.protocol.proofs.ServerLift.{body-ok, reply-ok}
+use Rattle.wire.specs.Places.{bodyAt, packetAt}
+use Rattle.wire.specs.Make.{packetStep}
+use Rattle.wire.proofs.Laws.{made-accepted}
+use Rattle.server.specs.Reads.{latestPlace, Opened}
+use Rattle.server.specs.Answers.{memoryIn, replyHead, AnswersAll}
+use Rattle.server.proofs.Standing.{memory-bytes, server-ok, latest-part, latest-stamp}
+
+-- the body of a packet of kind k
+pub body-of : (h : Head) (packet : List ℕ) (k : ℕ) → h .kind ≡ k → packetAt h packet .body ≡ bodyAt (shelf (h .t)) k (drop headSize packet)
+unfolding packetAt
+body-of h packet k e = ap (λ (j : ℕ). bodyAt (shelf (h .t)) j (drop headSize packet)) e
+
+module _ {d : List ℕ} (key packet output : List ℕ) (h : Head) {n e : ℕ} (o : Opened d (h .t) (h .server) n e) where
+  -- the server's step
+  abbrev pub stepOf : Body → Acted
+  stepOf x = act real (shelf (h .t)) key (h .server) (serverIn (memoryIn o)) x
+
+  served : Packet → Body → Served
+  served p x =
+      let bytes = encode (replyTo p (stepOf x .reply)) in
+      record {
+        result = record { number = 0; count = length bytes };
+        memory = encodeMemory (memoryOf (h .t) (h .server) (stepOf x .server));
+        output = over bytes output;
+      }
+
+  module _ (dec : decode packet ≡ some (packetAt h packet)) (room : packetRoom ≤ length output) (x : Body) (body : packetAt h packet .body ≡ x) where
+    reply-packet-ok : PacketOk (replyTo (packetAt h packet) (stepOf x .reply))
+    unfolding packetAt
+    reply-packet-ok =
+        let p : Packet = packetAt h packet in
+        let ok : PacketOk p = decode-ok packet p dec in
+        let b : BodyOk (shelf (h .t)) x = subst (BodyOk (shelf (h .t))) body (body-ok p ok) in
+        reply-ok p (stepOf x .reply) ok (act-ok real (shelf (h .t)) key (h .server) (serverIn (memoryIn o)) (server-ok o) x b .reply)
+
+    made : (first second : List ℕ) → printBody (shelf (h .t)) (stepOf x .reply) ≡ first ++ second
+        → packetStep (replyHead h (kindOf (stepOf x .reply))) first second output
+        ≡ record { result = served (packetAt h packet) x .result; output = served (packetAt h packet) x .output }
+    unfolding packetAt replyTo served
+    made first second p = made-accepted (replyTo (packetAt h packet) (stepOf x .reply)) first second output p reply-packet-ok room
+
+    to-accepted : served (packetAt h packet) x ≡ accepted real d key packet output (memoryIn o) (decode packet)
+    unfolding accepted served packetAt
+    to-accepted = ap (served (packetAt h packet)) (sym body) ∙ ap (λ (q : Option Packet). accepted real d key packet output (memoryIn o) q) (sym dec)
+
+    pub replied : (first second : List ℕ) {r : Outcome} {m out : List ℕ} → m ≡ encodeMemory (memoryOf (h .t) (h .server) (stepOf x .server))
+        → printBody (shelf (h .t)) (stepOf x .reply) ≡ first ++ second
+        → record { result = r; output = out } ≡ packetStep (replyHead h (kindOf (stepOf x .reply))) first second output
+        → record { result = r; memory = m; output = out } ≡ accepted real d key packet output (memoryIn o) (decode packet)
+    unfolding served
+    replied first second {r} {m} {out} e p w =
+        let q : _≡_ {A = Written} (record { result = r; output = out }) (record { result = served (packetAt h packet) x .result; output = served (packetAt h packet) x .output }) =
+        w ∙ made first second p in
+        (λ i. record { result = q i .result; memory = e i; output = q i .output }) ∙ to-accepted
+
+    -- the same where the step is known
+    pub replied-as : (a : Acted) → stepOf x ≡ a → (first second : List ℕ) {r : Outcome} {m out : List ℕ} → m ≡ encodeMemory (memoryOf (h .t) (h .server) (a .server))
+        → printBody (shelf (h .t)) (a .reply) ≡ first ++ second
+        → record { result = r; output = out } ≡ packetStep (replyHead h (kindOf (a .reply))) first second output
+        → record { result = r; memory = m; output = out } ≡ accepted real d key packet output (memoryIn o) (decode packet)
+    replied-as a q first second e p w =
+        replied first second (e ∙ ap (λ (y : Acted). encodeMemory (memoryOf (h .t) (h .server) (y .server))) (sym q))
+        (ap (λ (y : Acted). printBody (shelf (h .t)) (y .reply)) q ∙ p)
+        (w ∙ ap (λ (y : Acted). packetStep (replyHead h (kindOf (y .reply))) first second output) (sym q))
+
+-- the memory as it is
+pub unchanged : {d : List ℕ} {t b n e : ℕ} (o : Opened d t b n e) → Bytes d → d ≡ encodeMemory (memoryOf t b (serverIn (memoryIn o)))
+unfolding memoryOf serverIn
+unchanged o bs = sym (memory-bytes o bs)
+
+-- no bytes of a run
+pub part-none : (d : List ℕ) (at : ℕ) → part d at 0 ≡ []
+unfolding part
+part-none d at = refl
+
+-- a run with nothing after it
+pub alone : (first : List ℕ) {second : List ℕ} → second ≡ [] → first ≡ first ++ second
+alone first n = sym (append-nil first) ∙ ap (λ (y : List ℕ). first ++ y) (sym n)
+
+-- the head made is the reply's
+pub headed : (h : Head) (k : ℕ) (output first second : List ℕ) {g : Head} {w : Written} → g ≡ replyHead h k → w ≡ packetStep g first second output
+    → w ≡ packetStep (replyHead h k) first second output
+headed h k output first second q w = w ∙ ap (λ (y : Head). packetStep y first second output) q
+
+-- ---- clock and collect
+
+module _ (d : List ℕ) (bs : Bytes d) (output : List ℕ) (h : Head) {first second : List ℕ} (nothing : second ≡ part d latestPlace 0) {g : Head} {r : Outcome} {out : List ℕ} where
+  pub clock-answers : first ≡ part d latestPlace stampSize → g ≡ replyHead h 2 → record { result = r; output = out } ≡ packetStep g first second output
+      → AnswersAll 1 d output h (record { result = r; memory = d; output = out })
+  unfolding bodyAt act serverIn anyStampF orBlank candidateAt
+  clock-answers f q w packet key n e o dec k room =
+      replied key packet output h o dec room clock (body-of h packet 1 k) first second (unchanged o bs)
+      (sym (f ∙ latest-stamp o bs) ∙ alone first (nothing ∙ part-none d latestPlace))
+      (headed h 2 output first second q w)
+
+  pub collect-answers : {z : ℕ} → z ≡ candidateSize (shelf (h .t)) → first ≡ part d latestPlace z → g ≡ replyHead h 8
+      → record { result = r; output = out } ≡ packetStep g first second output → AnswersAll 7 d output h (record { result = r; memory = d; output = out })
+  unfolding bodyAt act serverIn
+  collect-answers z f q w packet key n e o dec k room =
+      replied key packet output h o dec room collect (body-of h packet 7 k) first second (unchanged o bs)
+      (sym (f ∙ ap (part d latestPlace) z ∙ latest-part o bs) ∙ alone first (nothing ∙ part-none d latestPlace))
+      (headed h 8 output first second q w)

@@ -1,0 +1,108 @@
+-- The test of a candidate: a stored write of its stamp has the nonce digest at its place, the tag of this server is at its place,
+-- and the tagged bytes are those of the packet. Assumes nothing.
+use mathlib.Core.Path.{_≡_, refl, sym, ap, _∙_, subst}
+use mathlib.Core.Bool.{Bool, true, false, _||_}
+use mathlib.Core.List.{List, _++_, append-nil}
+use mathlib.Core.Option.{Option, none, some}
+use Prim.Native.Nat.{ℕ, _+_, _-_, _*_}
+use lib.ListN.{take, drop, getD}
+use lib.Seq.{drop-drop}
+use Rattle.cluster.specs.Config.{Config, shelf}
+use Rattle.sha256.specs.Sha256.{sha256}
+use Rattle.hmac.specs.Hmac.{tagSize, tagOf}
+use Rattle.protocol.specs.declared.Stamp.{Stamp}
+use Rattle.erasure.specs.Fragments.{fragmentSize}
+use Rattle.protocol.specs.Format.{value2}
+use Rattle.protocol.specs.Values.{Write, Share, sameList, nth, stampSize, nonceSize, digestSize, digestsSize, tagsSize}
+use Rattle.protocol.specs.Packet.{stampF, candidateF}
+use Rattle.protocol.specs.Memory.{held}
+use Rattle.protocol.specs.Primitives.{real, candidateMessage}
+use Rattle.protocol.specs.Server.{hasDigest, byHistory, byTag, valid}
+use Rattle.protocol.specs.View.{part, shareAt, shareOfSize, candidateAt}
+use Rattle.protocol.specs.ServerBytes.{serverIn}
+use Rattle.protocol.proofs.Equal.{message-printed}
+use Rattle.protocol.proofs.Packets.{candidate-lengths}
+use Rattle.wire.specs.Places.{writeAt}
+use Rattle.server.specs.declared.memory.Found.{Found}
+use Rattle.server.specs.declared.memory.Found.the-variants as found
+use Rattle.server.specs.Reads.{Stored, Opened, firstWith, FindIs, FindAs}
+use Rattle.server.specs.Answers.{memoryIn}
+use Rattle.server.specs.Valid.{HistoryAs, tagChecks, ValidAs}
+use Rattle.server.proofs.Once.{shareIn, first-held}
+use Rattle.server.proofs.Standing.{candidate-stamp}
+
+-- the nonce digest, past the length, the fragment and the digests
+pub digest-at : (s : Config) (d : List ℕ) {v f g : ℕ} {x y z : List ℕ} → v ≡ value2 (getD d 0 0) (getD d 1 0) → f ≡ fragmentSize (s .shares) v
+    → g ≡ digestsSize s → x ≡ drop 2 d → y ≡ drop f x → z ≡ part y g digestSize → z ≡ shareAt s d .nonceDigest
+unfolding part shareAt shareOfSize
+digest-at s d {v} {f} {g} {x} {y} {z} a b c p q r =
+    let u : f ≡ fragmentSize (s .shares) (value2 (getD d 0 0) (getD d 1 0)) = b ∙ ap (fragmentSize (s .shares)) a in
+    r ∙ (λ i. take digestSize (drop (c i) ((q ∙ ap (drop f) p) i)))
+    ∙ ap (λ (w : List ℕ). take digestSize (drop (digestsSize s) w)) (drop-drop f 2 d)
+    ∙ ap (take digestSize) (drop-drop (digestsSize s) (2 + f) d)
+    ∙ ap (λ (k : ℕ). take digestSize (drop (2 + k + digestsSize s) d)) u
+
+-- ---- by the history
+
+module _ (s : Config) (n : ℕ) (d x g : List ℕ) {y : List ℕ} (p : y ≡ part x 0 stampSize) where
+  found-for : (ws : List Write) (a : Stamp) → part x 0 stampSize ≡ stampF .print a → shareIn (firstWith y ws) ≡ held a ws
+  found-for ws a q = ap (λ (z : List ℕ). shareIn (firstWith z ws)) (p ∙ q) ∙ first-held a ws
+
+  pub history-none : {f : Found} → FindAs s n d y f → f ≡ found.Nothing → HistoryAs s n d x g false
+  history-none find t ws e m a q =
+      let i : firstWith y ws ≡ none = subst (λ (z : Found). FindIs s d (firstWith y ws) z) t (find ws e m) in
+      sym (ap (hasDigest g) (sym (found-for ws a q) ∙ ap shareIn i))
+
+  pub history-found : {f : Found} → FindAs s n d y f → {at : ℕ} → f ≡ found.At at → {b c z : List ℕ} {r : Bool} → b ≡ drop at d → c ≡ drop stampSize b → z ≡ shareAt s c .nonceDigest → r ≡ sameList z g
+      → HistoryAs s n d x g r
+  unfolding writeAt
+  history-found find {at} t {b} {c} {z} {r} u v w k ws e m a q =
+      let i = subst (λ (j : Found). FindIs s d (firstWith y ws) j) t (find ws e m) in
+      let l : held a ws ≡ some (shareAt s (drop stampSize (drop at d))) = sym (found-for ws a q) ∙ ap shareIn (i .first) in
+      k ∙ ap (λ (j : List ℕ). sameList j g) (w ∙ ap (λ (j : List ℕ). shareAt s j .nonceDigest) (v ∙ ap (drop stampSize) u)) ∙ sym (ap (hasDigest g) l)
+
+-- ---- by the tag
+
+pub tag-made : (s : Config) (key : List ℕ) (b : ℕ) (x g : List ℕ) {y u v z : List ℕ} {l : ℕ} {r : Bool} → y ≡ part x 0 stampSize → v ≡ tagOf key (y ++ g)
+    → l ≡ tagsSize s → u ≡ part x (stampSize + nonceSize) l → z ≡ part u (tagSize * (b - 1)) tagSize → r ≡ sameList z v → r ≡ tagChecks s key b x g
+unfolding tagChecks candidateAt nth part
+tag-made s key b x g p q k i j w =
+    let a = q ∙ ap (λ (o : List ℕ). tagOf key (o ++ g)) p in
+    let c = j ∙ ap (λ (o : List ℕ). take tagSize (drop (tagSize * (b - 1)) o)) (i ∙ ap (λ (o : ℕ). take o (drop (stampSize + nonceSize) x)) k) in
+    w ∙ (λ o. sameList (c o) (a o))
+
+-- ---- both
+
+module _ (d key : List ℕ) (t b n : ℕ) (x : List ℕ) {y g : List ℕ} (p : y ≡ part x stampSize nonceSize) (q : g ≡ sha256 y) where
+  module _ {e : ℕ} (o : Opened d t b n e) (made : x ≡ candidateF (shelf t) .print (candidateAt (shelf t) x)) (ok : candidateF (shelf t) .Ok (candidateAt (shelf t) x)) where
+    stamp-start : part x 0 stampSize ≡ stampF .print (candidateAt (shelf t) x .stamp)
+    unfolding part
+    stamp-start =
+        ap (take stampSize) (made ∙ sym (append-nil (candidateF (shelf t) .print (candidateAt (shelf t) x))))
+        ∙ candidate-stamp (shelf t) (candidateAt (shelf t) x) (candidate-lengths (shelf t) (candidateAt (shelf t) x) ok .tag) _
+
+    digest-is : g ≡ real .digest (candidateAt (shelf t) x .nonce)
+    unfolding real candidateAt
+    digest-is = q ∙ ap sha256 p
+
+    history-is : {r : Bool} → HistoryAs (shelf t) n d x g r → r ≡ byHistory real (shelf t) key b (serverIn (memoryIn o)) (candidateAt (shelf t) x)
+    unfolding byHistory serverIn
+    history-is h =
+        h (o .writes) e (o .there) (candidateAt (shelf t) x .stamp) stamp-start ∙ ap (λ (z : List ℕ). hasDigest z (held (candidateAt (shelf t) x .stamp) (o .writes))) digest-is
+
+    tag-is : tagChecks (shelf t) key b x g ≡ byTag real (shelf t) key b (candidateAt (shelf t) x)
+    unfolding tagChecks byTag real
+    tag-is =
+        let c = candidateAt (shelf t) x in
+        let v : g ≡ sha256 (c .nonce) = unfold real in digest-is in
+        let m : part x 0 stampSize ++ g ≡ candidateMessage (c .stamp) (sha256 (c .nonce)) =
+        (λ i. stamp-start i ++ v i) ∙ sym (message-printed (c .stamp) (sha256 (c .nonce))) in
+        ap (λ (z : List ℕ). sameList (nth tagSize (c .tags) b) (tagOf key z)) m
+
+  pub valid-history : {r : Bool} → HistoryAs (shelf t) n d x g r → r ≡ true → ValidAs d key t b n x true
+  unfolding valid
+  valid-history h i e o made ok = rw (sym (history-is o made ok h) ∙ i)
+
+  pub valid-tag : {r c : Bool} → HistoryAs (shelf t) n d x g r → r ≡ false → c ≡ tagChecks (shelf t) key b x g → ValidAs d key t b n x c
+  unfolding valid
+  valid-tag h i j e o made ok = rw (sym (history-is o made ok h) ∙ i) (j ∙ tag-is o made ok)

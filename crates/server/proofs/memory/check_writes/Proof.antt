@@ -1,0 +1,93 @@
+-- The walk over the stored writes breaks at a place where there is none and at a stamp that stands before it. Assumes nothing.
+use borrow.Author.Needs.{needs}
+use Prim.Native.Nat.{_≤_, _-_}
+use native.Mathlib.Omega.{arith}
+use Rattle.cluster.specs.Config.{shelf}
+use Rattle.server.proofs.Once.{Checking, check-none, check-end, check-stop, check-held, check-more}
+use Rattle.server.proofs.memory.check_writes.Statement.{statement}
+use Rattle.server.proofs.memory.check_writes.Tie as tie
+use Rattle.server.proofs.memory.check_writes.Reads as reads
+use Rattle.server.proofs.memory.check_writes.Lts as lts
+use Rattle.server.proofs.memory.writes_place.Reads as writes-place-reads
+use Rattle.server.proofs.memory.repeats.Reads as repeats-reads
+use Rattle.server.proofs.memory.key_at.Reads as key-at-reads
+use Rattle.server.proofs.memory.max_of.Reads as max-of-reads
+use Rattle.wire.proofs.bytes.rest.Reads as rest-reads
+use Rattle.wire.proofs.parts.write_field.Reads as write-field-reads
+
+abbrev Inv-loop : tie.InvT-loop
+Inv-loop memory t n at₀ top₀ i₀ at top i = (i ≤ n) × Checking (shelf t) n memory at top i
+
+abbrev μ-loop : tie.MeasureT-loop
+μ-loop memory t n at₀ top₀ i₀ at top i = n - i
+
+writes-place-requires : tie.Need-writes-place-requires Inv-loop μ-loop
+writes-place-requires c κs = search needs
+
+loop-holds : tie.Need-loop-holds Inv-loop μ-loop
+loop-holds c = (omega arith, check-none _ _ _ (c .writes-place .ensures) (omega arith))
+
+write-field-requires : tie.Need-write-field-requires Inv-loop μ-loop
+write-field-requires c κs = search needs
+
+enum-known-size : tie.Need-enum-known-size Inv-loop μ-loop
+enum-known-size c = search needs
+
+enum-told : tie.Need-enum-told Inv-loop μ-loop
+enum-told c = search needs
+
+returns : tie.Need-returns Inv-loop μ-loop
+returns c = check-stop (c .before .before .before .before .loop .inv .1) (omega arith) (rw (c .enum-told .given .1) at (c .before .before .write-field .ensures))
+
+repeats-requires : tie.Need-repeats-requires Inv-loop μ-loop
+repeats-requires c κs = search needs
+
+returns-2 : tie.Need-returns-2 Inv-loop μ-loop
+returns-2 c =
+    let w = rw (c .before .before .before .size .given .1) at (c .before .before .before .before .before .write-field .ensures) in
+    check-held (c .before .before .before .before .before .before .before .loop .inv .1) (omega arith) (w .leaves) (c .before .repeats .ensures) (c .if1 .taken)
+
+rest-requires : tie.Need-rest-requires Inv-loop μ-loop
+rest-requires c κs = search needs
+
+key-at-requires : tie.Need-key-at-requires Inv-loop μ-loop
+key-at-requires c κs = search needs
+
+max-of-requires : tie.Need-max-of-requires Inv-loop μ-loop
+max-of-requires c κs = search needs
+
+add-i : tie.Need-add-i Inv-loop μ-loop
+add-i c = omega arith
+
+loop-less : tie.Need-loop-less Inv-loop μ-loop
+loop-less c = omega arith
+
+loop-again : tie.Need-loop-again Inv-loop μ-loop
+loop-again c =
+    let w = rw (c .before .before .before .before .before .before .size .given .1) at (c .before .before .before .before .before .before .before .before .write-field .ensures) in
+    (omega arith, check-more (c .before .before .before .before .before .before .before .before .before .before .loop .inv .1) (omega arith) (w .leaves) (c .before .before .rest .ensures) (c .before .key-at .ensures) (c .max-of .ensures) (c .before .before .before .before .repeats .ensures) (c .before .before .before .if1 .left))
+
+returns-3 : tie.Need-returns-3 Inv-loop μ-loop
+returns-3 c = check-end (c .before .loop .inv .1) (omega arith)
+
+pub check-writes-spec : {M : Type 1} → statement M
+check-writes-spec =
+    tie.close
+    (tie.spec
+    Inv-loop
+    μ-loop
+    writes-place-requires
+    loop-holds
+    write-field-requires
+    enum-known-size
+    enum-told
+    returns
+    repeats-requires
+    returns-2
+    rest-requires
+    key-at-requires
+    max-of-requires
+    add-i
+    loop-less
+    loop-again
+    returns-3)

@@ -1,0 +1,56 @@
+-- What the answer to each kind of request leaves, where the memory opens, the packet was let through, and the buffer has room:
+-- the server's step on values, in the bytes of memory and output.
+use mathlib.Core.Path.{_≡_}
+use mathlib.Core.Bool.{cond}
+use mathlib.Core.List.{List, [], _∷_}
+use mathlib.Core.Option.{some}
+use Prim.Native.Nat.{ℕ, _+_, _≤_}
+use lib.Dec.{ltb}
+use lib.ListN.{length, drop}
+use Rattle.cluster.specs.Config.{shelf}
+use Rattle.cluster.specs.Ranges.{packetRoom}
+use Rattle.protocol.specs.declared.Head.{Head}
+use Rattle.protocol.specs.Packet.{decode}
+use Rattle.protocol.specs.Memory.{Memory}
+use Rattle.protocol.specs.Primitives.{real}
+use Rattle.protocol.specs.View.{stampAt, candidateAt}
+use Rattle.protocol.specs.ServerBytes.{Served, accepted}
+use Rattle.wire.specs.Places.{packetAt}
+use Rattle.wire.specs.Make.{placed}
+use Rattle.server.specs.Reads.{latestPlace, Opened, keyOf}
+
+-- the memory that opens
+abbrev pub memoryIn : {d : List ℕ} {t b n e : ℕ} → Opened d t b n e → Memory
+memoryIn {d} {t} {b} o = record { t = t; server = b; latest = candidateAt (shelf t) (drop latestPlace d); writes = o .writes }
+
+-- the head of a reply of kind k
+abbrev pub replyHead : Head → ℕ → Head
+replyHead h k = record { kind = k; client = h .client; server = h .server; t = h .t; call = h .call }
+
+-- r is the step of a packet of kind k with the head h; n writes are stored, up to the place e
+abbrev pub AnswersAs : ℕ → List ℕ → List ℕ → List ℕ → List ℕ → Head → ℕ → ℕ → Served → Type 0
+AnswersAs k d key packet output h n e r =
+    (o : Opened d (h .t) (h .server) n e) → decode packet ≡ some (packetAt h packet) → h .kind ≡ k → packetRoom ≤ length output
+    → r ≡ accepted real d key packet output (memoryIn o) (decode packet)
+
+-- the same for every key
+abbrev pub AnswersOf : ℕ → List ℕ → List ℕ → List ℕ → Head → ℕ → ℕ → Served → Type 0
+AnswersOf k d packet output h n e r = (key : List ℕ) → AnswersAs k d key packet output h n e r
+
+-- the same for every key and every number of stored writes; and for every packet
+abbrev pub AnswersFor : ℕ → List ℕ → List ℕ → List ℕ → Head → Served → Type 0
+AnswersFor k d packet output h r = (key : List ℕ) (n e : ℕ) → AnswersAs k d key packet output h n e r
+
+abbrev pub AnswersAll : ℕ → List ℕ → List ℕ → Head → Served → Type 0
+AnswersAll k d output h r = (packet : List ℕ) → AnswersFor k d packet output h r
+
+-- the candidate's bytes c over the latest ones, if its stamp is higher
+unfoldable pub raisedBytes : List ℕ → List ℕ → List ℕ
+raisedBytes d c = cond (ltb (keyOf (stampAt (drop latestPlace d))) (keyOf (stampAt c))) (placed d latestPlace c .output) d
+
+-- one more stored write after n, which reach up to the place e; the count stands before the latest candidate
+abbrev pub countPlace : ℕ
+countPlace = 2
+
+unfoldable pub keptBytes : List ℕ → ℕ → ℕ → List ℕ → List ℕ
+keptBytes d n e w = placed (placed d countPlace ((n + 1) ∷ []) .output) e w .output

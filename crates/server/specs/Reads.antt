@@ -1,0 +1,91 @@
+-- What each reader of a server's memory answers. The stored writes have no fixed length, so they are told by the places where they leave the bytes.
+use mathlib.Core.Path.{_≡_}
+use mathlib.Core.Bool.{Bool, true, cond}
+use mathlib.Core.List.{List, [], _∷_}
+use mathlib.Core.Option.{Option, none, some}
+use Prim.Native.Nat.{ℕ, _+_, _*_, _≤_}
+use lib.Dec.{ltb}
+use lib.ListN.{drop}
+use Rattle.cluster.specs.Config.{Config, shelf}
+use Rattle.protocol.specs.declared.Stamp.{Stamp}
+use Rattle.protocol.specs.Format.{All, many}
+use Rattle.protocol.specs.Values.{Write, sameList, isSome, candidateSize}
+use Rattle.protocol.specs.Packet.{stampF, writeF, anyCandidateF}
+use Rattle.protocol.specs.Memory.{Memory, held, distinct, decodeMemory}
+use Rattle.protocol.specs.View.{stampAt, candidateAt}
+use Rattle.protocol.specs.Reading.{Leaves}
+use Rattle.wire.specs.Places.{writeAt}
+use Rattle.server.specs.declared.memory.Found.{Found}
+use Rattle.server.specs.declared.memory.Found.the-variants as found
+use Rattle.server.specs.declared.memory.Writes.{Writes}
+use Rattle.server.specs.declared.memory.Writes.the-variants as writes
+use Rattle.server.specs.declared.memory.MemoryRead.{MemoryRead}
+use Rattle.server.specs.declared.memory.MemoryRead.the-variants as memories
+
+-- t, the server's number and the count of stored writes stand before the latest candidate
+abbrev pub latestPlace : ℕ
+latestPlace = 3
+
+abbrev pub writesPlace : Config → ℕ
+writesPlace s = latestPlace + candidateSize s
+
+-- n stored writes stand in the memory d, up to the place e
+abbrev pub Stored : Config → ℕ → List ℕ → List Write → ℕ → Type 0
+Stored s n d ws e = Leaves (many n (writeF s)) d (writesPlace s) ws e
+
+-- ---- the first write whose stamp has the bytes key
+
+unfoldable pub firstWith : List ℕ → List Write → Option Write
+firstWith key [] = none
+firstWith key (w ∷ ws) = cond (sameList (stampF .print (w .stamp)) key) (some w) (firstWith key ws)
+
+pub record FoundAt (s : Config) (d : List ℕ) (at : ℕ) (o : Option Write) : Type 0 where
+  pub next : ℕ
+  pub there : Leaves (writeF s) d at (writeAt s (drop at d)) next
+  pub first : o ≡ some (writeAt s (drop at d))
+
+abbrev pub FindIs : Config → List ℕ → Option Write → Found → Type 0
+FindIs s d o (found.At at) = FoundAt s d at o
+FindIs s d o found.Nothing = o ≡ none
+
+abbrev pub FindAs : Config → ℕ → List ℕ → List ℕ → Found → Type 0
+FindAs s n d key r = (ws : List Write) (e : ℕ) → Stored s n d ws e → FindIs s d (firstWith key ws) r
+
+-- ---- no stamp twice
+
+-- the order of stamps as one number; writers are bytes
+unfoldable pub keyOf : Stamp → ℕ
+keyOf a = 256 * a .number + a .writer
+
+unfoldable pub maxOf : ℕ → ℕ → ℕ
+maxOf a b = cond (ltb a b) b a
+
+abbrev pub UpTo : ℕ → List Write → Type 0
+UpTo top ws = All (λ w. keyOf (w .stamp) ≤ top) ws
+
+-- whether the stamp of the write at a place is that of one of n writes, none of them above top
+abbrev pub RepeatsAs : Config → ℕ → List ℕ → ℕ → ℕ → Bool → Type 0
+RepeatsAs s n d at top r =
+    (ws : List Write) (e next : ℕ) → Stored s n d ws e → UpTo top ws → Leaves (writeF s) d at (writeAt s (drop at d)) next
+    → r ≡ isSome (held (stampAt (drop at d)) ws)
+
+-- n writes of which no two have one stamp; where there are none, no such writes stand there
+pub record Checked (s : Config) (n : ℕ) (d : List ℕ) (e : ℕ) : Type 0 where
+  pub writes : List Write
+  pub there : Stored s n d writes e
+  pub once : distinct writes ≡ true
+
+abbrev pub WritesAs : Config → ℕ → List ℕ → Writes → Type 0
+WritesAs s n d (writes.Past e) = Checked s n d e
+WritesAs s n d writes.Broken = (ws : List Write) (e : ℕ) → Stored s n d ws e → distinct ws ≡ true → ⊥
+
+-- ---- the whole memory: what decodeMemory gives, by its numbers and the places of its parts; or refusal 2
+
+pub record Opened (d : List ℕ) (t b n e : ℕ) : Type 0 where
+  pub writes : List Write
+  pub there : Stored (shelf t) n d writes e
+  pub decoded : decodeMemory d ≡ some (record { t = t; server = b; latest = candidateAt (shelf t) (drop latestPlace d); writes = writes })
+
+abbrev pub MemoryAs : List ℕ → MemoryRead → Type 0
+MemoryAs d (memories.Value t b n e) = Opened d t b n e
+MemoryAs d memories.Broken = decodeMemory d ≡ none

@@ -1,0 +1,30 @@
+-- What the test of a candidate answers, where the memory opens and the candidate's bytes are those of a candidate.
+use mathlib.Core.Path.{_≡_}
+use mathlib.Core.Bool.{Bool}
+use mathlib.Core.List.{List, _++_}
+use Prim.Native.Nat.{ℕ}
+use Rattle.cluster.specs.Config.{Config, shelf}
+use Rattle.hmac.specs.Hmac.{tagSize, tagOf}
+use Rattle.protocol.specs.declared.Stamp.{Stamp}
+use Rattle.protocol.specs.Values.{Write, sameList, nth, stampSize}
+use Rattle.protocol.specs.Packet.{stampF, candidateF}
+use Rattle.protocol.specs.Memory.{held}
+use Rattle.protocol.specs.Primitives.{real}
+use Rattle.protocol.specs.Server.{hasDigest, valid}
+use Rattle.protocol.specs.View.{part, candidateAt}
+use Rattle.protocol.specs.ServerBytes.{serverIn}
+use Rattle.server.specs.Reads.{Stored, Opened}
+use Rattle.server.specs.Answers.{memoryIn}
+
+-- whether n stored writes hold the stamp at the start of x, with the nonce digest g
+abbrev pub HistoryAs : Config → ℕ → List ℕ → List ℕ → List ℕ → Bool → Type 0
+HistoryAs s n d x g r = (ws : List Write) (e : ℕ) → Stored s n d ws e → (a : Stamp) → part x 0 stampSize ≡ stampF .print a → r ≡ hasDigest g (held a ws)
+
+-- whether tag b of the candidate x is the key's tag of its stamp's bytes and the nonce digest g
+unfoldable pub tagChecks : Config → List ℕ → ℕ → List ℕ → List ℕ → Bool
+tagChecks s key b x g = sameList (nth tagSize (candidateAt s x .tags) b) (tagOf key (part x 0 stampSize ++ g))
+
+abbrev pub ValidAs : List ℕ → List ℕ → ℕ → ℕ → ℕ → List ℕ → Bool → Type 0
+ValidAs d key t b n x r =
+    (e : ℕ) (o : Opened d t b n e) → x ≡ candidateF (shelf t) .print (candidateAt (shelf t) x) → candidateF (shelf t) .Ok (candidateAt (shelf t) x)
+    → r ≡ valid real (shelf t) key b (serverIn (memoryIn o)) (candidateAt (shelf t) x)

@@ -1,0 +1,7 @@
+// A storage server over its lent memory. Definitions stand in crate protocol (ServerBytes) and in specs/.
+
+pub mod blank; // making a server blank
+pub mod memory; // reading a server's memory
+pub mod answers; // the answers to requests
+pub mod store; // the answer to store
+pub mod valid; // the test of candidates

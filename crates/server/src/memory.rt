@@ -1,0 +1,137 @@
+// Reading a server's memory: the whole check of refusal 2, and the search of the history.
+ghost use mathlib.Core.Path.{_≡_};
+ghost use Prim.Native.Nat.{_≤_};
+ghost use lib.ListN.{length};
+ghost use Rattle.cluster.specs.Config.{shelf};
+ghost use Rattle.protocol.specs.View.{stampAt};
+ghost use Rattle.server.specs.Reads.{FindAs, RepeatsAs, WritesAs, MemoryAs, keyOf, maxOf, writesPlace};
+
+use wire::fields::Cursor;
+use wire::fields::Field;
+
+// The place of the latest candidate.
+pub const LATEST: usize = 3;
+
+// The place where a stored write begins.
+pub enum Found {
+    At(usize),
+    Nothing,
+}
+
+// The place past the stored writes.
+pub enum Writes {
+    Past(usize),
+    Broken,
+}
+
+// t, the server's number, how many writes are stored, and the place past them; or refusal 2.
+pub enum MemoryRead {
+    Value(u8, u8, usize, usize),
+    Broken,
+}
+
+// The place of the stored writes.
+pub fn writes_place(t: u8) -> usize
+    ensures { λ r. ⌜ r ≡ writesPlace (shelf t) ⌝ }
+{
+    LATEST + wire::sizes::candidate_size(t)
+}
+
+// The first of n stored writes whose stamp has these bytes.
+pub fn find(memory: &[u8], t: u8, n: usize, stamp: &[u8]) -> Found
+    ensures { λ r. ⌜ FindAs (shelf t) n (now (memory .entry)) (now (stamp .entry)) r ⌝ }
+{
+    let mut at = writes_place(t);
+    let mut i = 0;
+    while i < n {
+        let Field::Value(size, next) = wire::parts::write_field(memory, Cursor { at }, t) else {
+            return Found::Nothing;
+        };
+        if wire::bytes::same(wire::bytes::part(memory, at, wire::sizes::STAMP), stamp) {
+            return Found::At(at);
+        }
+        at = next.at;
+        i += 1;
+    }
+    Found::Nothing
+}
+
+// A stamp's place in their order, as one number.
+pub(crate) fn key_at(stamp: &[u8]) -> u64
+    ensures { λ r. ⌜ r ≡ keyOf (stampAt (now (stamp .entry))) ⌝ }
+{
+    256 * (wire::bytes::number4(stamp) as u64) + (wire::bytes::byte_at(stamp, 4) as u64)
+}
+
+fn max_of(a: u64, b: u64) -> u64
+    ensures { λ r. ⌜ r ≡ maxOf a b ⌝ }
+{
+    if a < b {
+        return b;
+    }
+    a
+}
+
+// Whether one of the first n stored writes has the stamp at a place. None of them is above top, so that a stamp above it needs no search.
+fn repeats(memory: &[u8], t: u8, n: usize, at: usize, top: u64) -> bool
+    ensures { λ r. ⌜ RepeatsAs (shelf t) n (now (memory .entry)) at top r ⌝ }
+{
+    if top < key_at(wire::bytes::rest(memory, at)) {
+        return false;
+    }
+    let Found::Nothing = find(memory, t, n, wire::bytes::part(memory, at, wire::sizes::STAMP)) else {
+        return true;
+    };
+    false
+}
+
+// n stored writes, no two of one stamp.
+fn check_writes(memory: &[u8], t: u8, n: usize) -> Writes
+    requires { ⌜ writesPlace (shelf t) ≤ length (now memory) ⌝ }
+    ensures { λ r. ⌜ WritesAs (shelf t) n (now (memory .entry)) r ⌝ }
+{
+    let mut at = writes_place(t);
+    let mut top = 0;
+    let mut i = 0;
+    while i < n {
+        let Field::Value(size, next) = wire::parts::write_field(memory, Cursor { at }, t) else {
+            return Writes::Broken;
+        };
+        if repeats(memory, t, i, at, top) {
+            return Writes::Broken;
+        }
+        top = max_of(top, key_at(wire::bytes::rest(memory, at)));
+        at = next.at;
+        i += 1;
+    }
+    Writes::Past(at)
+}
+
+// The whole memory. All bytes after the last write are joined.
+pub fn open(memory: &[u8]) -> MemoryRead
+    ensures { λ r. ⌜ MemoryAs (now (memory .entry)) r ⌝ }
+{
+    if memory.len() != cluster::MEMORY {
+        return MemoryRead::Broken;
+    }
+    let Field::Value(t, c1) = wire::fields::byte_field(memory, Cursor { at: 0 }, 1, cluster::TOP_FAULTS as u32) else {
+        return MemoryRead::Broken;
+    };
+    let servers = wire::sizes::servers(t as u8);
+    let Field::Value(server, c2) = wire::fields::byte_field(memory, c1, 1, servers as u32) else {
+        return MemoryRead::Broken;
+    };
+    let Field::Value(n, c3) = wire::fields::byte_field(memory, c2, 0, cluster::CAPACITY as u32) else {
+        return MemoryRead::Broken;
+    };
+    let Field::Value(number, c4) = wire::parts::any_candidate_field(memory, c3, t as u8) else {
+        return MemoryRead::Broken;
+    };
+    let Writes::Past(end) = check_writes(memory, t as u8, n as usize) else {
+        return MemoryRead::Broken;
+    };
+    if wire::bytes::all_zero(wire::bytes::rest(memory, end)) {
+        return MemoryRead::Value(t as u8, server as u8, n as usize, end);
+    }
+    MemoryRead::Broken
+}

@@ -1,0 +1,53 @@
+// Whether a candidate is valid at a server: its stamp is held with the digest of its nonce, or its tag of this server checks.
+ghost use mathlib.Core.Path.{_≡_};
+ghost use mathlib.Core.List.{_++_};
+ghost use Prim.Native.Nat.{_≤_};
+ghost use Rattle.cluster.specs.Config.{shelf};
+ghost use Rattle.protocol.specs.View.{shareAt};
+ghost use Rattle.server.specs.Valid.{HistoryAs, tagChecks, ValidAs};
+
+use crate::memory::Found;
+use crate::memory::find;
+use wire::bytes::part;
+use wire::bytes::rest;
+
+// The nonce digest in a share.
+fn nonce_digest(share: &[u8], t: u8) -> &[u8]
+    ensures { λ r. ⌜ now r ≡ shareAt (shelf t) (now (share .entry)) .nonceDigest ⌝ }
+{
+    let size = wire::sizes::fragment_size(t, wire::bytes::number2(share));
+    part(rest(rest(share, 2), size), wire::sizes::digests_size(t), wire::sizes::DIGEST)
+}
+
+// One of n stored writes has the candidate's stamp and this nonce digest.
+fn by_history(memory: &[u8], t: u8, n: usize, candidate: &[u8], digest: [u8; 32]) -> bool
+    ensures { λ r. ⌜ HistoryAs (shelf t) n (now (memory .entry)) (now (candidate .entry)) digest r ⌝ }
+{
+    let Found::At(at) = find(memory, t, n, part(candidate, 0, wire::sizes::STAMP)) else {
+        return false;
+    };
+    let found = nonce_digest(rest(rest(memory, at), wire::sizes::STAMP), t);
+    wire::bytes::same(found, &digest)
+}
+
+// The candidate's tag of this server is that of its stamp and this nonce digest.
+fn by_tag(key: [u8; 32], t: u8, server: u8, candidate: &[u8], digest: [u8; 32]) -> bool
+    requires { ⌜ 1 ≤ server ⌝ }
+    ensures { λ r. ⌜ r ≡ tagChecks (shelf t) key server (now (candidate .entry)) digest ⌝ }
+{
+    let tag = hmac::tag_with(key, part(candidate, 0, wire::sizes::STAMP), digest);
+    let tags = part(candidate, wire::sizes::STAMP + wire::sizes::NONCE, wire::sizes::tags_size(t));
+    wire::bytes::same(part(tags, hmac::TAG * ((server as usize) - 1), hmac::TAG), &tag)
+}
+
+// The nonce's digest is taken once.
+pub(crate) fn valid(memory: &[u8], key: [u8; 32], t: u8, server: u8, n: usize, candidate: &[u8]) -> bool
+    requires { ⌜ 1 ≤ server ⌝ }
+    ensures { λ r. ⌜ ValidAs (now (memory .entry)) key t server n (now (candidate .entry)) r ⌝ }
+{
+    let digest = sha256::digest(part(candidate, wire::sizes::STAMP, wire::sizes::NONCE));
+    if by_history(memory, t, n, candidate, digest) {
+        return true;
+    }
+    by_tag(key, t, server, candidate, digest)
+}
