@@ -6,4 +6,5 @@ pub mod RoundSteps
 pub mod TakenReplies
 pub mod MadeBytes
 pub mod ShareBytes
+pub mod Prepared
 pub mod Printed
