@@ -8,22 +8,41 @@ use mathlib.Core.Option.{Option, none, some}
 use mathlib.Core.Logic.{_⊎_, inl, inr}
 use Prim.Native.Nat.{ℕ, zero, suc, _≤_, _<_}
 use native.Mathlib.Omega.{arith}
+use lib.Dec.{leb}
+use lib.ListN.{length}
+use Rattle.cluster.specs.Config.{Config}
+use Rattle.cluster.specs.Ranges.{within, topWriter, topNumber, leastLength, topLength}
+use Rattle.cluster.specs.Refusals.{refuse, firstOf, onRefusal}
 use Rattle.protocol.specs.declared.Stamp.{Stamp}
 use Rattle.protocol.specs.Format.{Bytes}
 use Rattle.protocol.specs.Values.{Candidate, Share}
 use Rattle.protocol.specs.Packet.{Packet, decode}
 use Rattle.protocol.specs.Rules.{ByServer}
-use Rattle.protocol.specs.Client.{Client, Hand, Result, more, idle, clocking, storing, completing, collecting, filtering, repairing, begun, onto, prepared, candidateMade, shareMade, sharesMade, stampOf, tagsOf}
-use Rattle.protocol.specs.Runs.{Step, write, read, make, take-reply, give-up, serve, Typed, World, Fed, nowValues}
+use Rattle.protocol.specs.Client.{Client, Hand, Result, Turn, refused, isIdle, badFaults, writeRefusal, writeStep, more, idle, clocking, storing, completing, collecting, filtering, repairing, begun, onto, prepared, candidateMade, shareMade, sharesMade, stampOf, tagsOf}
+use Rattle.protocol.specs.Runs.{Step, write, read, make, take-reply, give-up, serve, Typed, World, Fed, nowValues, doValues, setClient}
 use Rattle.atomicity.specs.Lists.{Ever, Always, In, flat}
 use Rattle.atomicity.specs.Steps.{System, Stamped, accepted, stampedFrom, stampedBy, stampedAt, digestsWith, digestedBy, digested, allDigested, inPacket, fragments}
 use Rattle.atomicity.specs.Premises.{Begins, FreshNonce}
-use Rattle.atomicity.proofs.Util.{left-in, right-in, split-in, flat-in, ever-map, ever-out}
+use Rattle.atomicity.proofs.Util.{clash, left-in, right-in, split-in, flat-in, ever-map, ever-out}
 use Rattle.atomicity.proofs.Model.{Run, perform, now, account, marks, stampFor, preparedFor, candidateFor, sharesFor}
 use Rattle.atomicity.proofs.Setup.{Setup, Steps, StepOf, Fair, Begin, hand}
 use Rattle.atomicity.proofs.Moves.{Moved, kept, wbegan, rbegan, quit, took, moved}
 use Rattle.atomicity.proofs.Rounds.{Next, stays, clock-on, clock-ends, store-ends, collect-on, collect-ends, filter-on, filter-ends, over, turn-turned}
 use Rattle.atomicity.proofs.Marks.{Marked, mark-source, mark-none, marks-up, mark-form}
+
+-- an accepted write's length is in its range
+in-range : (a b c d e : Bool) (y z : Client) →
+    let k = firstOf (refuse 3 a ∷ refuse 5 b ∷ refuse 6 (not c) ∷ refuse 13 d ∷ refuse 14 e ∷ []) in
+    accepted (onRefusal {A = Turn} k (record { client = y; result = more }) (record { client = z; result = refused k }) .result) ≡ true → c ≡ true
+in-range a b true d e y z h = refl
+in-range true b false d e y z h = clash h refl
+in-range false true false d e y z h = clash h refl
+in-range false false false d e y z h = clash h refl
+
+write-length : (s : Config) (c : ℕ) (cl : Client) (r n : List ℕ) → accepted (writeStep s c cl r n .result) ≡ true → within leastLength topLength (length r) ≡ true
+unfolding writeStep writeRefusal
+write-length s c cl r n h =
+    in-range (badFaults s) (not (within 1 topWriter c)) (within leastLength topLength (length r)) (not (isIdle (cl .hand))) (leb topNumber (cl .calls)) _ cl h
 
 module _ (s : System) where
   -- the write was begun
@@ -110,6 +129,13 @@ module _ (s : System) where
   pub mark-bytes : (xs : Run s) (m : Stamped) → In m (marks s xs) → Bytes (m .content)
   mark-bytes xs m i = ever-out (Opening (m .client) (m .content) (m .nonce)) xs
       (λ y ys o. subst (λ (st : Step). Fed (s .config) st → Bytes (m .content)) (sym (o .0)) (λ f. f .0) (y .fed)) (opened xs m i)
+
+  -- and its length is in its range: any other is refused
+  pub mark-length : (xs : Run s) (m : Stamped) → In m (marks s xs) → within leastLength topLength (length (m .content)) ≡ true
+  unfolding doValues setClient
+  mark-length xs m i = ever-out (Opening (m .client) (m .content) (m .nonce)) xs
+      (λ y ys o. write-length (s .config) (m .client) (now s ys .client (m .client)) (m .content) (m .nonce)
+      (subst (λ (st : Step). accepted (perform s (now s ys) st .result) ≡ true) (o .0) (o .1))) (opened xs m i)
 
   -- what a mark digests is among the inputs digested
   pub mark-digested : (xs : Run s) (m : Stamped) (u : List ℕ) → In m (marks s xs) → In u (digestsWith s m) → In u (allDigested s (account s) xs)

@@ -24,6 +24,7 @@ use Rattle.atomicity.proofs.Counting.{count-mono, found, share-k}
 use Rattle.atomicity.proofs.Model.{now, marks, shareFor, fragmentFor}
 use Rattle.atomicity.proofs.Setup.{Setup, Steps, Fair, hist}
 use Rattle.atomicity.proofs.Marks.{mark-num, marks-up, by-stamp}
+use Rattle.atomicity.proofs.Begun.{mark-length}
 use Rattle.atomicity.proofs.Servers.{is-some, best-max}
 use Rattle.atomicity.proofs.Genuine.{Genuine, genuine-up}
 use Rattle.atomicity.proofs.Heard.{held-up}
@@ -180,8 +181,9 @@ module _ (K : Setup) (xs : Steps K) (fair : Fair K xs) (cs : List Candidate) (g 
         and-intro _ _ (and-right (right K j) (m j) (r .tell))
         (and-intro _ _ (subst (λ (a : Stamp). sameStamp a (d .stamp) ≡ true) (sym (v .0)) (stamp-refl (d .stamp)))
         (subst (λ (o : Option Share). shareFits (K .s .P) (K .s .config) d j o ≡ true) (sym (v .1))
+        (and-intro _ _ (mark-length (K .s) xs (gen .write) (gen .made))
         (and-intro _ _ (same-is _ _ (ap (K .s .P .digest) (gen .nonce-is)))
-        (same-is _ _ (sym (K .laws .digest-at (fragmentFor (K .s) (gen .write .content)) j (r .low) (r .high)))))))
+        (same-is _ _ (sym (K .laws .digest-at (fragmentFor (K .s) (gen .write .content)) j (r .low) (r .high))))))))
 
     agrees-one : (i j : ℕ) → Reply i → Reply j → agrees (K .s .P) (K .s .config) m g d i j ≡ true
     unfolding agrees

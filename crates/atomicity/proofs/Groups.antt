@@ -15,6 +15,7 @@ use Rattle.hmac.specs.Hmac.{tagSize}
 use Rattle.protocol.specs.declared.Stamp.{Stamp}
 use Rattle.protocol.specs.Values.{Candidate, Share, Held, sameList, sameStamp, nth, digestSize}
 use Rattle.protocol.specs.Primitives.{candidateMessage}
+use Rattle.cluster.specs.Ranges.{within, leastLength, topLength}
 use Rattle.protocol.specs.Rules.{ByServer, shareFits, fits, sameShare, agrees, leads, leader, partOf, parts}
 use Rattle.protocol.specs.Server.{byTag}
 use Rattle.protocol.specs.Client.{tagsOf}
@@ -51,8 +52,8 @@ module _ (s : System) (m : ByServer Bool) (g : ByServer Held) (c : Candidate) wh
         share = h;
         share-is = q;
         stamp-is = same-stamp _ _ (and-left (sameStamp (g i .stamp) (c .stamp)) _ (and-right (m i) _ e));
-        nonce-is = same-eq _ _ (and-left (sameList (h .nonceDigest) (s .P .digest (c .nonce))) _ k);
-        digest-is = same-eq _ _ (and-right (sameList (h .nonceDigest) (s .P .digest (c .nonce))) _ k);
+        nonce-is = same-eq _ _ (and-left (sameList (h .nonceDigest) (s .P .digest (c .nonce))) _ (and-right (within leastLength topLength (h .size)) _ k));
+        digest-is = same-eq _ _ (and-right (sameList (h .nonceDigest) (s .P .digest (c .nonce))) _ (and-right (within leastLength topLength (h .size)) _ k));
       }
 
   -- two shares of one group
