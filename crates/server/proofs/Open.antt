@@ -110,6 +110,7 @@ module _ {d : List ℕ} (size : length d ≡ memorySize) where
             where
               w : WritesAs (shelf t) n d writes.Broken
               w = subst (λ (o : Writes). WritesAs (shelf t) n d o) broken w₀
+
               go : Reads (many n (writeF (shelf t))) d (writesPlace (shelf t)) ⊎ Stops (many n (writeF (shelf t))) d (writesPlace (shelf t)) → Stops memoryF d 0
               go (inl o) = memory-twice (o .there) (untrue _ (w (o .value) (o .next) (o .there)))
               go (inr f) = memory-short f

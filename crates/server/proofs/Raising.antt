@@ -42,8 +42,10 @@ below-key a b ha hb = go (ltb (a .number) (b .number)) (eqb (a .number) (b .numb
   where
     j : ℕ
     j = 256 * a .number + a .writer
+
     k : ℕ
     k = 256 * b .number + b .writer
+
     go : (x y z : Bool) → ltb (a .number) (b .number) ≡ x → eqb (a .number) (b .number) ≡ y → ltb (a .writer) (b .writer) ≡ z → (x || (y && z)) ≡ ltb j k
     go true y z p q r = sym (lt-ltb j k (omega (arith, ltb-true (a .number) (b .number) p)))
     go false true true p q r = sym (lt-ltb j k (omega (arith, eqb-true (a .number) (b .number) q, ltb-true (a .writer) (b .writer) r)))

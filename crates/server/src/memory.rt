@@ -5,7 +5,6 @@ ghost use lib.ListN.{length};
 ghost use Rattle.cluster.specs.Config.{shelf};
 ghost use Rattle.protocol.specs.View.{stampAt};
 ghost use Rattle.server.specs.Reads.{FindAs, RepeatsAs, WritesAs, MemoryAs, keyOf, maxOf, writesPlace};
-
 use wire::fields::Cursor;
 use wire::fields::Field;
 
@@ -79,7 +78,12 @@ fn repeats(memory: &[u8], t: u8, n: usize, at: usize, top: u64) -> bool
     if top < key_at(wire::bytes::rest(memory, at)) {
         return false;
     }
-    let Found::Nothing = find(memory, t, n, wire::bytes::part(memory, at, wire::sizes::STAMP)) else {
+    let Found::Nothing = find(
+        memory,
+        t,
+        n,
+        wire::bytes::part(memory, at, wire::sizes::STAMP),
+    ) else {
         return true;
     };
     false
@@ -114,14 +118,20 @@ pub fn open(memory: &[u8]) -> MemoryRead
     if memory.len() != cluster::MEMORY {
         return MemoryRead::Broken;
     }
-    let Field::Value(t, c1) = wire::fields::byte_field(memory, Cursor { at: 0 }, 1, cluster::TOP_FAULTS as u32) else {
+    let Field::Value(t, c1) = wire::fields::byte_field(
+        memory,
+        Cursor { at: 0 },
+        1,
+        cluster::TOP_FAULTS as u32,
+    ) else {
         return MemoryRead::Broken;
     };
     let servers = wire::sizes::servers(t as u8);
     let Field::Value(server, c2) = wire::fields::byte_field(memory, c1, 1, servers as u32) else {
         return MemoryRead::Broken;
     };
-    let Field::Value(n, c3) = wire::fields::byte_field(memory, c2, 0, cluster::CAPACITY as u32) else {
+    let Field::Value(n, c3) = wire::fields::byte_field(memory, c2, 0, cluster::CAPACITY as u32)
+    else {
         return MemoryRead::Broken;
     };
     let Field::Value(number, c4) = wire::parts::any_candidate_field(memory, c3, t as u8) else {

@@ -5,7 +5,6 @@ ghost use Prim.Native.Nat.{_<_};
 ghost use Rattle.cluster.specs.Ranges.{capacity};
 ghost use Rattle.wire.specs.Make.{packetStep};
 ghost use Rattle.server.specs.Answers.{replyHead, AnswersOf, keptBytes};
-
 use crate::memory::Found;
 use crate::memory::find;
 use wire::bytes::part;
@@ -18,7 +17,12 @@ fn store_reply(head: protocol::Head, code: u8, out: &mut [u8]) -> cluster::Outco
     ensures { λ r. ⌜ record { result = r; output = now (out .exit) } ≡ packetStep (replyHead head 4) (code ∷ []) [] (now (out .entry)) ⌝ }
 {
     let bytes = [code];
-    wire::make::make_packet(crate::answers::reply_head(head, 4), &bytes, part(&bytes, 0, 0), out)
+    wire::make::make_packet(
+        crate::answers::reply_head(head, 4),
+        &bytes,
+        part(&bytes, 0, 0),
+        out,
+    )
 }
 
 // One more stored write at the end of n, which reach up to the place end.
@@ -30,12 +34,22 @@ fn keep_write(memory: &mut [u8], n: usize, end: usize, write: &[u8])
     wire::make::put(memory, end, write);
 }
 
-pub(crate) fn store(memory: &mut [u8], head: protocol::Head, packet: &[u8], n: usize, end: usize, out: &mut [u8]) -> cluster::Outcome
-    ensures {
-        λ r. ⌜ AnswersOf 3 (now (memory .entry)) (now (packet .entry)) (now (out .entry)) head n end (record { result = r; memory = now (memory .exit); output = now (out .exit) }) ⌝
-    }
+pub(crate) fn store(
+    memory: &mut [u8],
+    head: protocol::Head,
+    packet: &[u8],
+    n: usize,
+    end: usize,
+    out: &mut [u8],
+) -> cluster::Outcome
+    ensures { λ r. ⌜ AnswersOf 3 (now (memory .entry)) (now (packet .entry)) (now (out .entry)) head n end (record { result = r; memory = now (memory .exit); output = now (out .exit) }) ⌝ }
 {
-    let Found::Nothing = find(memory, head.t, n, part(packet, wire::sizes::HEAD, wire::sizes::STAMP)) else {
+    let Found::Nothing = find(
+        memory,
+        head.t,
+        n,
+        part(packet, wire::sizes::HEAD, wire::sizes::STAMP),
+    ) else {
         return store_reply(head, 10, out);
     };
     if cluster::CAPACITY <= n {

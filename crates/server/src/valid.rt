@@ -5,7 +5,6 @@ ghost use Prim.Native.Nat.{_≤_};
 ghost use Rattle.cluster.specs.Config.{shelf};
 ghost use Rattle.protocol.specs.View.{shareAt};
 ghost use Rattle.server.specs.Valid.{HistoryAs, tagChecks, ValidAs};
-
 use crate::memory::Found;
 use crate::memory::find;
 use wire::bytes::part;
@@ -16,7 +15,11 @@ fn nonce_digest(share: &[u8], t: u8) -> &[u8]
     ensures { λ r. ⌜ now r ≡ shareAt (shelf t) (now (share .entry)) .nonceDigest ⌝ }
 {
     let size = wire::sizes::fragment_size(t, wire::bytes::number2(share));
-    part(rest(rest(share, 2), size), wire::sizes::digests_size(t), wire::sizes::DIGEST)
+    part(
+        rest(rest(share, 2), size),
+        wire::sizes::digests_size(t),
+        wire::sizes::DIGEST,
+    )
 }
 
 // One of n stored writes has the candidate's stamp and this nonce digest.
@@ -36,12 +39,26 @@ fn by_tag(key: [u8; 32], t: u8, server: u8, candidate: &[u8], digest: [u8; 32]) 
     ensures { λ r. ⌜ r ≡ tagChecks (shelf t) key server (now (candidate .entry)) digest ⌝ }
 {
     let tag = hmac::tag_with(key, part(candidate, 0, wire::sizes::STAMP), digest);
-    let tags = part(candidate, wire::sizes::STAMP + wire::sizes::NONCE, wire::sizes::tags_size(t));
-    wire::bytes::same(part(tags, hmac::TAG * ((server as usize) - 1), hmac::TAG), &tag)
+    let tags = part(
+        candidate,
+        wire::sizes::STAMP + wire::sizes::NONCE,
+        wire::sizes::tags_size(t),
+    );
+    wire::bytes::same(
+        part(tags, hmac::TAG * ((server as usize) - 1), hmac::TAG),
+        &tag,
+    )
 }
 
 // The nonce's digest is taken once.
-pub(crate) fn valid(memory: &[u8], key: [u8; 32], t: u8, server: u8, n: usize, candidate: &[u8]) -> bool
+pub(crate) fn valid(
+    memory: &[u8],
+    key: [u8; 32],
+    t: u8,
+    server: u8,
+    n: usize,
+    candidate: &[u8],
+) -> bool
     requires { ⌜ 1 ≤ server ⌝ }
     ensures { λ r. ⌜ ValidAs (now (memory .entry)) key t server n (now (candidate .entry)) r ⌝ }
 {

@@ -30,16 +30,17 @@ loop-less : tie.Need-loop-less Inv-loop μ-loop
 loop-less c = omega arith
 
 loop-again : tie.Need-loop-again Inv-loop μ-loop
-loop-again c = 
-    (omega arith,
-     simp length-set (c .before .loop .inv .1),
-     ap (λ (z : List ℕ). set z (c .before .loop .i) 0) (c .before .loop .inv .2) ∙ fill-more (c .before .loop .i) 0 (c .before .before .args .memory .now) (omega arith))
+loop-again c = (
+  omega arith,
+  simp length-set (c .before .loop .inv .1),
+  ap (λ (z : List ℕ). set z (c .before .loop .i) 0) (c .before .loop .inv .2) ∙ fill-more (c .before .loop .i) 0 (c .before .before .args .memory .now) (omega arith),
+)
 
 same-length : tie.Need-same-length Inv-loop μ-loop
 same-length c = c .before .loop .inv .1
 
 returns : tie.Need-returns Inv-loop μ-loop
-returns c = 
+returns c =
     let d = c .before .before .args .memory .now in
     let e : c .before .loop .i ≡ length d = omega arith in
     c .before .loop .inv .2 ∙ rw (e, drop-length) (append-nil (replicate (length d) 0))
