@@ -7,3 +7,4 @@ pub mod Replies
 pub mod Raising
 pub mod Storing
 pub mod Testing
+pub mod Repairing

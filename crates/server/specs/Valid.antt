@@ -1,20 +1,21 @@
 -- What the test of a candidate answers, where the memory opens and the candidate's bytes are those of a candidate.
 use mathlib.Core.Path.{_≡_}
-use mathlib.Core.Bool.{Bool}
+use mathlib.Core.Bool.{Bool, cond}
 use mathlib.Core.List.{List, _++_}
 use Prim.Native.Nat.{ℕ}
 use Rattle.cluster.specs.Config.{Config, shelf}
 use Rattle.hmac.specs.Hmac.{tagSize, tagOf}
+use Rattle.protocol.specs.declared.Head.{Head}
 use Rattle.protocol.specs.declared.Stamp.{Stamp}
-use Rattle.protocol.specs.Values.{Write, sameList, nth, stampSize}
+use Rattle.protocol.specs.Values.{Candidate, Write, sameList, nth, stampSize}
 use Rattle.protocol.specs.Packet.{stampF, candidateF}
-use Rattle.protocol.specs.Memory.{held}
+use Rattle.protocol.specs.Memory.{held, encodeMemory}
 use Rattle.protocol.specs.Primitives.{real}
-use Rattle.protocol.specs.Server.{hasDigest, valid}
+use Rattle.protocol.specs.Server.{Server, hasDigest, valid, raise}
 use Rattle.protocol.specs.View.{part, candidateAt}
-use Rattle.protocol.specs.ServerBytes.{serverIn}
+use Rattle.protocol.specs.ServerBytes.{Served, serverIn, memoryOf}
 use Rattle.server.specs.Reads.{Stored, Opened}
-use Rattle.server.specs.Answers.{memoryIn}
+use Rattle.server.specs.Answers.{memoryIn, AnswersAs}
 
 -- whether n stored writes hold the stamp at the start of x, with the nonce digest g
 abbrev pub HistoryAs : Config → ℕ → List ℕ → List ℕ → List ℕ → Bool → Type 0
@@ -28,3 +29,16 @@ abbrev pub ValidAs : List ℕ → List ℕ → ℕ → ℕ → ℕ → List ℕ 
 ValidAs d key t b n x r =
     (e : ℕ) (o : Opened d t b n e) → x ≡ candidateF (shelf t) .print (candidateAt (shelf t) x) → candidateF (shelf t) .Ok (candidateAt (shelf t) x)
     → r ≡ valid real (shelf t) key b (serverIn (memoryIn o)) (candidateAt (shelf t) x)
+
+abbrev pub repaired : List ℕ → ℕ → ℕ → Server → Candidate → Server
+repaired key t b v c = cond (valid real (shelf t) key b v c) (raise c v) v
+
+-- the memory m holds the server with the candidate x raised, where it is valid
+abbrev pub RaisedAs : List ℕ → List ℕ → ℕ → ℕ → ℕ → List ℕ → List ℕ → Type 0
+RaisedAs d key t b n x m =
+    (e : ℕ) (o : Opened d t b n e) → x ≡ candidateF (shelf t) .print (candidateAt (shelf t) x) → candidateF (shelf t) .Ok (candidateAt (shelf t) x)
+    → m ≡ encodeMemory (memoryOf t b (repaired key t b (serverIn (memoryIn o)) (candidateAt (shelf t) x)))
+
+-- an answer with a key, whatever the place past the stored writes
+abbrev pub AnswersWith : ℕ → List ℕ → List ℕ → List ℕ → List ℕ → Head → ℕ → Served → Type 0
+AnswersWith k d key packet output h n r = (e : ℕ) → AnswersAs k d key packet output h n e r

@@ -5,3 +5,4 @@ pub mod memory; // reading a server's memory
 pub mod answers; // the answers to requests
 pub mod store; // the answer to store
 pub mod valid; // the test of candidates
+pub mod repair; // the answer to repair

@@ -1,0 +1,55 @@
+-- Repair: a valid candidate is raised, any other leaves the memory as it is, and the reply has no body.
+-- By the laws of the raised memory and of replies. Assumes nothing.
+use mathlib.Core.Path.{_≡_, refl, sym, ap, _∙_, subst}
+use mathlib.Core.Bool.{Bool, true, false, cond}
+use mathlib.Core.List.{List}
+use Prim.Native.Nat.{ℕ}
+use lib.ListN.{drop}
+use Rattle.cluster.specs.Config.{shelf}
+use Rattle.cluster.specs.declared.Outcome.{Outcome}
+use Rattle.protocol.specs.declared.Head.{Head}
+use Rattle.protocol.specs.Format.{Bytes}
+use Rattle.protocol.specs.Packet.{BodyOk, candidateF, repair, printBody, headSize}
+use Rattle.protocol.specs.Memory.{encodeMemory}
+use Rattle.protocol.specs.Server.{Server, raise, act}
+use Rattle.protocol.specs.View.{part, candidateAt}
+use Rattle.protocol.specs.ServerBytes.{serverIn, memoryOf}
+use Rattle.protocol.proofs.Bodies.{decode-ok}
+use Rattle.protocol.proofs.ServerLift.{body-ok}
+use Rattle.wire.specs.Places.{bodyAt, packetAt}
+use Rattle.wire.specs.Make.{packetStep}
+use Rattle.wire.proofs.Laws.{body-bytes}
+use Rattle.server.specs.Answers.{memoryIn, replyHead, raisedBytes}
+use Rattle.server.specs.Valid.{ValidAs, RaisedAs, AnswersWith}
+use Rattle.server.proofs.Raising.{raised-memory}
+use Rattle.server.proofs.Replies.{body-of, replied, unchanged, part-none, alone, headed}
+
+module _ (d : List ℕ) (bs : Bytes d) (key : List ℕ) (t b n : ℕ) (x : List ℕ) (xs : Bytes x) {r : Bool} (test : ValidAs d key t b n x r) where
+  pub raised-valid : r ≡ true → {m : List ℕ} → m ≡ raisedBytes d x → RaisedAs d key t b n x m
+  raised-valid i p e o made ok =
+      let v : Server = serverIn (memoryIn o) in
+      let c = candidateAt (shelf t) x in
+      p ∙ raised-memory o bs x xs made ok ∙ ap (λ (g : Bool). encodeMemory (memoryOf t b (cond g (raise c v) v))) (sym i ∙ test e o made ok)
+
+  pub left-invalid : r ≡ false → RaisedAs d key t b n x d
+  left-invalid i e o made ok =
+      let v : Server = serverIn (memoryIn o) in
+      let c = candidateAt (shelf t) x in
+      unchanged o bs ∙ ap (λ (g : Bool). encodeMemory (memoryOf t b (cond g (raise c v) v))) (sym i ∙ test e o made ok)
+
+module _ (d key packet : List ℕ) (ps : Bytes packet) (output : List ℕ) (h : Head) (n : ℕ) where
+  pub repair-answers : {x m out first second : List ℕ} {g : Head} {r : Outcome} → x ≡ drop headSize packet → RaisedAs d key (h .t) (h .server) n x m
+      → first ≡ part packet 0 0 → second ≡ part packet 0 0 → g ≡ replyHead h 12 → record { result = r; output = out } ≡ packetStep g first second output
+      → AnswersWith 11 d key packet output h n (record { result = r; memory = m; output = out })
+  unfolding bodyAt act packetAt
+  repair-answers {x} {m} {out} {first} {second} c u f j q w e o dec k room =
+      let y : List ℕ = drop headSize packet in
+      let b = body-of h packet 11 k in
+      let ok : candidateF (shelf (h .t)) .Ok (candidateAt (shelf (h .t)) y) =
+      subst (BodyOk (shelf (h .t))) b (body-ok (packetAt h packet) (decode-ok packet (packetAt h packet) dec)) in
+      let p : y ≡ candidateF (shelf (h .t)) .print (candidateAt (shelf (h .t)) y) =
+      body-bytes packet (packetAt h packet) dec ps ∙ ap (printBody (shelf (h .t))) b in
+      replied key packet output h o dec room (repair (candidateAt (shelf (h .t)) y)) b first second
+      (subst (λ (z : List ℕ). RaisedAs d key (h .t) (h .server) n z m) c u e o p ok)
+      (sym (f ∙ part-none packet 0) ∙ alone first (j ∙ part-none packet 0))
+      (headed h 12 output first second q w)
