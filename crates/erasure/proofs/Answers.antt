@@ -24,10 +24,10 @@ use Rattle.erasure.specs.Choice.{serversAt, firstDifferent, partsAt}
 use Rattle.erasure.specs.Chosen.{Holds}
 use Rattle.erasure.specs.Steps.{zeros, fragmentRoom, fragmentRefusal, fragmentBytes, fragmentStep, argumentChecks, restoreRefusal, restoredBytes, restoreStep}
 use Rattle.erasure.specs.System.{width, AllDifferent}
-use Rattle.erasure.specs.Lanes.{madeOf, rebuiltOf}
+use Rattle.erasure.specs.Lanes.{madeOf, plainOf}
 use Rattle.erasure.proofs.Lists.{getD-map, table-is, take-is}
 use Rattle.erasure.proofs.Laws.{size-pos, run-lt}
-use Rattle.erasure.proofs.Placed.{table-ext, length-upTo, getD-upTo}
+use Rattle.erasure.proofs.Placed.{table-ext, length-upTo, getD-upTo, plain-made}
 use Rattle.erasure.proofs.Choosing.{chosen-different, chosen-lt}
 use Rattle.erasure.proofs.Refused.{first-of-first, first-of-second}
 
@@ -82,3 +82,10 @@ make-accepted t server content ht lo hi e =
     ∙ ap make
     (table-ext f (λ q. through bytes (take k (upTo s)) (column k content q) (pointOf (upTo s) server)) (λ q. through bytes (upTo k) (column k content q) server)
     (λ q h. ap₂ (λ (u : List ℕ) (z : ℕ). through bytes u (column k content q) z) (first-points s k (omega arith)) (point-is s server lo hi)))
+
+-- a plain run is the fragment of its server
+pub run-made : (k f server : ℕ) (content : List ℕ) → k ≤ width → 1 ≤ server → server ≤ k → ((i : ℕ) → getD content i 0 < 256)
+    → plainOf f (server - 1) content ≡ madeOf k f content server
+run-made k f server content kw lo hi small =
+    let e : server - 1 + 1 ≡ server = omega arith in
+    sym (plain-made k f (server - 1) content (omega arith) (omega arith) small) ∙ ap (madeOf k f content) e

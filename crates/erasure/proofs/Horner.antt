@@ -38,16 +38,8 @@ double-high a l h =
 
 -- ---- masks
 
-pub mask-none : (w b : ℕ) → bitAnd (w / 2 ^ b) 1 ≡ 0 → 0 ≡ bitOf w b * 255
-mask-none w b e = sym (ap (λ (x : ℕ). x * 255) (sym (and-mask (w / 2 ^ b) 1) ∙ e))
-
-pub mask-all : (w b : ℕ) → bitAnd (w / 2 ^ b) 1 ≢ 0 → 255 ≡ bitOf w b * 255
-mask-all w b ne = go (w / 2 ^ b % 2) (mod-lt (w / 2 ^ b) (zero-lt-suc 1)) (λ e. ne (and-mask (w / 2 ^ b) 1 ∙ e))
-  where
-    go : (x : ℕ) → x < 2 → x ≢ 0 → 255 ≡ x * 255
-    go zero h n = absurd (n refl)
-    go (suc zero) h n = refl
-    go (suc (suc x)) h n = absurd (omega arith)
+pub mask-is : (w b : ℕ) → bitAnd (w / 2 ^ b) 1 * 255 ≡ bitOf w b * 255
+mask-is w b = ap (λ (x : ℕ). x * 255) (and-mask (w / 2 ^ b) 1)
 
 pub masked : (e x : ℕ) → e < 2 → x < 256 → bitAnd x (e * 255) ≡ e * x
 masked zero x h l = and-zero-r x ∙ sym (zero-mul x)

@@ -106,6 +106,10 @@ written-on old mid new at n m g a b = record {
         let e : n + (i - n) ≡ i = omega arith in
         ap (λ (x : ℕ). getD new x 0) (omega arith) ∙ b .here (i - n) (omega arith) ∙ ap g e
 
+-- from the start on
+pub written-next : (old mid new : List ℕ) (n m : ℕ) (g : ℕ → ℕ) → Written old mid 0 n g → Written mid new n m (λ i. g (n + i)) → Written old new 0 (n + m) g
+written-next old mid new n m g a b = written-on old mid new 0 n m g a (subst (λ (x : ℕ). Written mid new x m (λ i. g (n + i))) (sym (zero-add n)) b)
+
 written-one : (old : List ℕ) (at v : ℕ) → at < length old → Written old (set old at v) at 1 (λ i. v)
 written-one old at v h = record {
   long = length-set old at v;

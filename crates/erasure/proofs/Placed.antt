@@ -11,12 +11,13 @@ use lib.Seq.{ext-getD, getD-drop, getD-append-seam}
 use Rattle.gf256.specs.Gf.{times}
 use Rattle.gf256.specs.Poly.{through}
 use Rattle.gf256.specs.Bytes.{bytes}
+use Rattle.gf256.proofs.Byte.{through-value}
 use Rattle.cluster.specs.Config.{upTo}
 use Rattle.erasure.specs.Fragments.{table}
 use Rattle.erasure.specs.Steps.{zeros, fragmentRoom}
 use Rattle.erasure.specs.System.{width, sumTo, weightAt, AllDifferent, Weighs, Solves}
-use Rattle.erasure.specs.Lanes.{sumAt, Written, madeOf, rebuiltOf}
-use Rattle.erasure.proofs.Lists.{length-table, getD-table, table-is, take-is, written-on, written-as, written-first}
+use Rattle.erasure.specs.Lanes.{sumAt, Written, madeOf, plainOf, rebuiltOf}
+use Rattle.erasure.proofs.Lists.{length-table, getD-table, table-is, small-of, distinct-of, take-is, written-on, written-as, written-first}
 use Rattle.erasure.proofs.Sums.{sumTo-ext}
 
 pub table-ext : (n : ℕ) (g h : ℕ → ℕ) → ((i : ℕ) → i < n → g i ≡ h i) → table n g ≡ table n h
@@ -87,6 +88,36 @@ made k f room z w content starts at xs old out v eo kw fr weighs ex ew es ea sma
     (table-ext k (λ j. getD content (getD at j 0 * f + i) 0) (λ j. getD content (j * f + i) 0)
     (λ j b. ap (λ (x : ℕ). getD content (x * f + i) 0) (ea j (omega arith))))) wr)
     ∙ ap (λ (u : List ℕ). madeOf k f content z ++ u) (ap (drop f) eo ∙ drop-zeros room f fr)
+
+-- a plain run, copied
+pub copied : (f j room : ℕ) (content old out : List ℕ) → old ≡ zeros room → f ≤ room → Written old out 0 f (λ i. getD content (j * f + i) 0)
+    → out ≡ plainOf f j content ++ zeros (room - f)
+unfolding plainOf
+copied f j room content old out eo fr wr =
+    let long : length old ≡ room = ap length eo ∙ length-zeros room in
+    written-first old out f (λ q. getD content (j * f + q) 0) (omega arith) wr
+    ∙ ap (λ (u : List ℕ). plainOf f j content ++ u) (ap (drop f) eo ∙ drop-zeros room f fr)
+
+-- is the fragment at its point
+pub plain-made : (k f j : ℕ) (content : List ℕ) → k < 256 → j < k → ((i : ℕ) → getD content i 0 < 256) → madeOf k f content (j + 1) ≡ plainOf f j content
+unfolding madeOf plainOf
+plain-made k f j content kb h small =
+    table-ext f (λ q. through bytes (upTo k) (table k (λ i. getD content (i * f + q) 0)) (j + 1)) (λ q. getD content (j * f + q) 0)
+    (λ q b.
+    let ys : List ℕ = table k (λ i. getD content (i * f + q) 0) in
+    ap (through bytes (upTo k) ys) (sym (getD-upTo k j h))
+    ∙ through-value (upTo k) ys
+    (small-of (upTo k) (λ i l. (let c : i < k = subst (λ (n : ℕ). i < n) (length-upTo k) l in omega (arith, getD-upTo k i c))))
+    (small-of ys (λ i l. subst (λ (x : ℕ). x < 256) (sym (getD-table k (λ i. getD content (i * f + q) 0) i 0 (subst (λ (n : ℕ). i < n) (length-table k _) l))) (small (i * f + q))))
+    (length-table k _ ∙ sym (length-upTo k))
+    (distinct-of (upTo k)
+    (λ i m l c e.
+    let hm : m < k = subst (λ (n : ℕ). m < n) (length-upTo k) c in
+    let hi : i < k = omega arith in
+    let p : i + 1 ≡ m + 1 = sym (getD-upTo k i hi) ∙ e ∙ getD-upTo k m hm in
+    omega arith))
+    j (subst (λ (n : ℕ). j < n) (sym (length-upTo k)) h)
+    ∙ getD-table k (λ i. getD content (i * f + q) 0) j 0 h)
 
 -- ---- a content, run after run
 

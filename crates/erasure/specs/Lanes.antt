@@ -37,6 +37,10 @@ pub record Written (old new : List ℕ) (at m : ℕ) (g : ℕ → ℕ) : Type 0 
 unfoldable pub madeOf : (k f : ℕ) (content : List ℕ) (z : ℕ) → List ℕ
 madeOf k f content z = table f (λ q. through bytes (upTo k) (table k (λ j. getD content (j * f + q) 0)) z)
 
+-- run j as it stands in the content
+unfoldable pub plainOf : (f j : ℕ) (content : List ℕ) → List ℕ
+plainOf f j content = table f (λ q. getD content (j * f + q) 0)
+
 unfoldable pub rebuiltOf : (k f n : ℕ) (servers at fragments : List ℕ) → List ℕ
 rebuiltOf k f n servers at fragments =
     table n (λ m. through bytes (take k servers) (table k (λ j. getD fragments (getD at j 0 * f + m % f) 0)) (m / f + 1))

@@ -16,7 +16,7 @@ pub(crate) fn mask(w: u8, b: u32) -> u8
     requires { ⌜ b < 8 ⌝ }
     ensures { λ r. ⌜ r ≡ bitOf w b * 255 ⌝ }
 {
-    if (w >> b) & 1 == 0 { 0 } else { 255 }
+    ((w >> b) & 1) * 255
 }
 
 // The product, from the highest bit of b down.

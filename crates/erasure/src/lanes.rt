@@ -45,13 +45,13 @@ fn added(sum: [u8; LANE], x: [u8; LANE], w: u8, b: u32) -> [u8; LANE]
 // One bit of every weight.
 fn bit_step(
     sum: [u8; LANE],
-    lanes: [[u8; LANE]; WIDTH],
+    lanes: &[[u8; LANE]; WIDTH],
     weights: [u8; WIDTH],
     b: u32,
     k: usize,
 ) -> [u8; LANE]
     requires { ⌜ (b < 8) × (k ≤ width) ⌝ }
-    ensures { λ r. ⌜ Lane r (λ i. bitXor (xtime (getD sum i 0)) (sumTo k (λ j. bitOf (getD weights j 0) b * entry lanes j i))) ⌝ }
+    ensures { λ r. ⌜ Lane r (λ i. bitXor (xtime (getD sum i 0)) (sumTo k (λ j. bitOf (getD weights j 0) b * entry (now (lanes .entry)) j i))) ⌝ }
 {
     let mut out = doubled(sum);
     let mut j: usize = 0;
@@ -71,7 +71,7 @@ fn lane_sum(lanes: [[u8; LANE]; WIDTH], weights: [u8; WIDTH], k: usize) -> [u8; 
     let mut out = [0u8; LANE];
     let mut n: u32 = 0;
     while n < 8 {
-        let more = bit_step(out, lanes, weights, 7 - n, k);
+        let more = bit_step(out, &lanes, weights, 7 - n, k);
         out = more;
         n += 1;
     }
@@ -175,6 +175,20 @@ pub(crate) fn combine(
         let lanes = gather(src, starts, q, k);
         let sum = lane_sum(lanes, weights, k);
         store(out, at + q, n, sum);
+        q += n;
+    }
+}
+
+// The m bytes of src from a place on, with 00h past its end, at the start of out.
+pub(crate) fn copy(src: &[u8], from: usize, out: &mut [u8], m: usize)
+    requires { ⌜ (from + m ≤ length (now src) + 4096) × (m ≤ length (now out)) ⌝ }
+    ensures { λ _. ⌜ Written (now (out .entry)) (now (out .exit)) 0 m (λ i. getD (now (src .entry)) (from + i) 0) ⌝ }
+{
+    let mut q: usize = 0;
+    while q < m {
+        let n = at_most_lane(m - q);
+        let x = lane_at(src, from + q);
+        store(out, q, n, x);
         q += n;
     }
 }

@@ -160,6 +160,14 @@ pub fn fragment(t: usize, server: usize, content: &[u8]) -> FragmentOutcome
     }
     let k = shares_of(t);
     let f = size(k, content.len());
+    if server <= k {
+        let run = runs::plain(f, server - 1, content);
+        return FragmentOutcome {
+            number: 0,
+            count: f,
+            bytes: run,
+        };
+    }
     let bytes = runs::make(k, f, server as u8, content);
     FragmentOutcome {
         number: 0,

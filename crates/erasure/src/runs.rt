@@ -6,7 +6,7 @@ ghost use lib.ListN.{getD, length, drop};
 ghost use Rattle.cluster.specs.Ranges.{topLength};
 ghost use Rattle.erasure.specs.Steps.{zeros, fragmentRoom};
 ghost use Rattle.erasure.specs.System.{width, AllDifferent};
-ghost use Rattle.erasure.specs.Lanes.{madeOf, rebuiltOf};
+ghost use Rattle.erasure.specs.Lanes.{madeOf, plainOf, rebuiltOf};
 
 const WIDTH: usize = crate::system::WIDTH;
 
@@ -70,6 +70,16 @@ pub(crate) fn make(k: usize, f: usize, z: u8, content: &[u8]) -> [u8; ROOM]
     let starts = starts_of(plain_places(), f, k);
     let mut bytes = blank();
     crate::lanes::combine(weights, content, starts, k, &mut bytes, 0, f);
+    bytes
+}
+
+// The plain run j of a content, padded with 00h.
+pub(crate) fn plain(f: usize, j: usize, content: &[u8]) -> [u8; ROOM]
+    requires { ⌜ (f ≤ fragmentRoom) × (j < width) ⌝ }
+    ensures { λ r. ⌜ r ≡ plainOf f j (now (content .entry)) ++ zeros (fragmentRoom - f) ⌝ }
+{
+    let mut bytes = blank();
+    crate::lanes::copy(content, j * f, &mut bytes, f);
     bytes
 }
 

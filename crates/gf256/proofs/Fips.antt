@@ -1,9 +1,10 @@
--- `times` is the product of FIPS 197, 4.2: what is left of the product of polynomials modulo 11Bh.
+-- `times` is THE product of FIPS 197, 4.2: what is left of the product of polynomials modulo 11Bh, and there is but one such remainder.
+-- Doubling takes off the modulus at most once, and a product without carries is linear. Nothing is assumed.
 use mathlib.Core.Path.{_≡_, refl, sym, ap, ap₂, _∙_, subst}
-use Prim.Native.Nat.{ℕ, zero, suc, _+_, _*_, _/_, _%_, _<_}
-use native.Mathlib.Nat.{zero-mul, one-mul, mod-lt, zero-lt-suc}
+use Prim.Native.Nat.{ℕ, zero, suc, _+_, _*_, _/_, _%_, _^_, _<_, _≤_, zero-le}
+use native.Mathlib.Nat.{zero-mul, one-mul, mul-one, mul-add, mul-comm, mul-assoc, mod-lt, zero-lt-suc, div-one, div-add-mod', div-div-eq-div-mul, pow-succ'}
 use native.Mathlib.Omega.{arith}
-use lib.Bits.{bitXor, xor-zero-r, xor-comm}
+use lib.Bits.{bitXor, xor-zero-r, xor-comm, xor-self, xor-shr, xor-lt, xor-add-and}
 use Rattle.gf256.specs.Gf.{xtime, timesBits, times, product, Remainder}
 use Rattle.gf256.proofs.Xor.{xor-assoc, xor-swap, xor-double, xor-left-comm, xor-cancel}
 use Rattle.gf256.proofs.Linear.{bit, bit-xor, bit-through, xtime-lt, times-lt}
@@ -77,3 +78,61 @@ unfolding times multipleOf
 times-remainder a b h =
     let l = left 8 a 0 b h in
     record { small = times-lt a b h; multiple = l .0; equal = ap (λ (x : ℕ). product 8 x b) (sym (ap (bitXor a) (product-nil 9 0x11b) ∙ xor-zero-r a)) ∙ l .1 }
+
+-- ---- and there is but one remainder: a multiple of 11Bh that is not 0 has degree 8 or more
+
+xor-le : (a b : ℕ) → bitXor a b ≤ a + b
+xor-le a b = omega (arith, xor-add-and a b)
+
+-- without carries a product is no larger
+product-le : (n a b : ℕ) → product n a b ≤ a * b
+unfolding product
+product-le zero a b = zero-le
+product-le (suc n) a b =
+    let e : a * b ≡ a * 2 * (b / 2) + b % 2 * a =
+          ap (λ (x : ℕ). a * x) (sym (div-add-mod' b 2)) ∙ mul-add a (b / 2 * 2) (b % 2)
+          ∙ ap₂ (λ (x y : ℕ). x + y) (ap (λ (x : ℕ). a * x) (mul-comm (b / 2) 2) ∙ sym (mul-assoc a 2 (b / 2))) (mul-comm a (b % 2)) in
+    omega (arith, e, xor-le (b % 2 * a) (product n (a * 2) (b / 2)), product-le n (a * 2) (b / 2))
+
+-- the highest bit apart
+product-last : (n a b : ℕ) → product (suc n) a b ≡ bitXor (product n a b) (b / 2 ^ n % 2 * (a * 2 ^ n))
+unfolding product
+product-last zero a b =
+    xor-zero-r (b % 2 * a) ∙ ap₂ (λ (x y : ℕ). x % 2 * y) (sym (div-one b)) (sym (mul-one a))
+product-last (suc n) a b =
+    ap (bitXor (b % 2 * a)) (product-last n (a * 2) (b / 2))
+    ∙ sym (xor-assoc (b % 2 * a) (product n (a * 2) (b / 2)) (b / 2 / 2 ^ n % 2 * (a * 2 * 2 ^ n)))
+    ∙ ap₂ (λ (x y : ℕ). bitXor (bitXor (b % 2 * a) (product n (a * 2) (b / 2))) (x % 2 * y)) (div-div-eq-div-mul b 2 (2 ^ n) ∙ ap (λ (x : ℕ). b / x) (sym (pow-succ' 2 n)))
+        (mul-assoc a 2 (2 ^ n) ∙ ap (λ (x : ℕ). a * x) (sym (pow-succ' 2 n)))
+
+xor-eq : (a b : ℕ) → bitXor a b ≡ 0 → a ≡ b
+xor-eq a b e = sym (xor-zero-r a) ∙ ap (bitXor a) (sym (xor-self b)) ∙ sym (xor-assoc a b b) ∙ ap (λ (x : ℕ). bitXor x b) e
+
+-- the eight low bits of 11Bh are 1Bh
+low-bits : (q : ℕ) → product 8 q 0x1b ≡ product 8 q 0x11b
+unfolding product
+low-bits q = refl
+
+low-le : (q : ℕ) → product 8 q 0x11b ≤ q * 0x1b
+low-le q = subst (λ (x : ℕ). x ≤ q * 0x1b) (low-bits q) (product-le 8 q 0x1b)
+
+high : (q : ℕ) → multipleOf q < 256 → q ≡ 0
+unfolding multipleOf
+high q h =
+    let low : ℕ = product 8 q 0x11b in
+    let split : product 9 q 0x11b ≡ bitXor low (1 * (q * 256)) = product-last 8 q 0x11b in
+    let top : bitXor (low / 256) (1 * (q * 256) / 256) ≡ 0 = sym (xor-shr low (1 * (q * 256)) 8) ∙ ap (λ (x : ℕ). x / 256) (sym split) ∙ omega arith in
+    let same : low / 256 ≡ 1 * (q * 256) / 256 = xor-eq (low / 256) (1 * (q * 256) / 256) top in
+    omega (arith, same, low-le q)
+
+pub remainder-unique : (a b c d : ℕ) → Remainder a b c → Remainder a b d → c ≡ d
+unfolding multipleOf
+remainder-unique a b c d r s =
+    let m : ℕ = product 9 (r .multiple) 0x11b in
+    let n : ℕ = product 9 (s .multiple) 0x11b in
+    let both : bitXor (bitXor c d) (bitXor m n) ≡ 0 =
+          xor-swap c d m n ∙ ap₂ bitXor (sym (r .equal)) (sym (s .equal)) ∙ xor-self (product 8 a b) in
+    let sum : bitXor c d ≡ multipleOf (bitXor (r .multiple) (s .multiple)) = xor-eq (bitXor c d) (bitXor m n) both ∙ sym (product-xor 9 (r .multiple) (s .multiple) 0x11b) in
+    let none : bitXor (r .multiple) (s .multiple) ≡ 0 =
+          high (bitXor (r .multiple) (s .multiple)) (subst (λ (x : ℕ). x < 256) sum (xor-lt 8 c d (r .small) (s .small))) in
+    xor-eq c d (sum ∙ ap (λ (q : ℕ). product 9 q 0x11b) none ∙ product-nil 9 0x11b)

@@ -1,4 +1,4 @@
--- A bit is 0 or 1, so the mask is the bit times 255.
+-- The lowest bit of the shifted weight is the bit, and the mask is that times 255.
 use mathlib.Core.Path.{_≡_, refl, sym, ap, ap₂, subst, _∙_}
 use mathlib.Core.Logic.{_≢_}
 use mathlib.Core.List.{List, [], _∷_, _++_, map}
@@ -12,24 +12,25 @@ use mir.Val.{Fits}
 use mir.Syntax.{w8}
 use Rattle.gf256.specs.Gf.{xtime, timesBits, times, power, inverse}
 use Rattle.gf256.proofs.Fill.{fill-more}
-use Rattle.erasure.proofs.Horner.{mask-none, mask-all}
+use lib.Bits.{and-le-r}
+use Rattle.erasure.proofs.Horner.{mask-is}
 use borrow.Author.Needs.{needs}
 use Rattle.erasure.proofs.bits.mask.Statement.{statement}
 use Rattle.erasure.proofs.bits.mask.Tie as tie
 use Rattle.erasure.proofs.bits.mask.Reads as reads
 use Rattle.erasure.proofs.bits.mask.Lts as lts
 
-cast-if1 : tie.Need-cast-if1
-cast-if1 c = search needs
+cast-result : tie.Need-cast-result
+cast-result c = search needs
 
-shr-if1 : tie.Need-shr-if1
-shr-if1 c = search needs
+shr-result : tie.Need-shr-result
+shr-result c = search needs
+
+mul-result : tie.Need-mul-result
+mul-result c = omega (arith, and-le-r (c .args .w / 2 ^ c .args .b) 1)
 
 returns : tie.Need-returns
-returns c = mask-none (c .before .args .w) (c .before .args .b) (c .if1 .taken)
-
-returns-2 : tie.Need-returns-2
-returns-2 c = mask-all (c .before .args .w) (c .before .args .b) (c .if1 .left)
+returns c = mask-is (c .args .w) (c .args .b)
 
 pub mask-spec : {M : Type 1} → statement M
-mask-spec = tie.close (tie.spec cast-if1 shr-if1 returns returns-2)
+mask-spec = tie.close (tie.spec cast-result shr-result mul-result returns)

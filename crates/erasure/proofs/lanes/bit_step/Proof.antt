@@ -26,10 +26,10 @@ use Rattle.erasure.proofs.lanes.added.Reads as added-reads
 use Rattle.erasure.proofs.lanes.doubled.Reads as doubled-reads
 
 abbrev Inv-loop : tie.InvT-loop
-Inv-loop b k lanes weights out₀ j₀ out j = (j ≤ k) × Lane out (λ i. bitXor (getD out₀ i 0) (sumTo j (λ m. bitOf (getD weights m 0) b * entry lanes m i)))
+Inv-loop lanes b k weights out₀ j₀ out j = (j ≤ k) × Lane out (λ i. bitXor (getD out₀ i 0) (sumTo j (λ m. bitOf (getD weights m 0) b * entry lanes m i)))
 
 abbrev μ-loop : tie.MeasureT-loop
-μ-loop b k lanes weights out₀ j₀ out j = k - j
+μ-loop lanes b k weights out₀ j₀ out j = k - j
 
 doubled-requires : tie.Need-doubled-requires Inv-loop μ-loop
 doubled-requires c κs = search needs
@@ -40,8 +40,8 @@ loop-holds c = (search needs, λ i h. sym (ap (bitXor (getD (c .doubled .result)
 mul-added : tie.Need-mul-added Inv-loop μ-loop
 mul-added c = search needs
 
-array-copy-out-added : tie.Need-array-copy-out-added Inv-loop μ-loop
-array-copy-out-added c = search needs
+element-copy-out-added : tie.Need-element-copy-out-added Inv-loop μ-loop
+element-copy-out-added c = search needs
 
 array-read-added : tie.Need-array-read-added Inv-loop μ-loop
 array-read-added c = search needs
@@ -60,7 +60,7 @@ loop-again c =
     let l = c .before .before .before .loop in
     let args = c .before .before .before .before .before .args in
     let begun = c .before .before .before .before .doubled .result in
-    let term : ℕ → ℕ → ℕ = λ i m. bitOf (getD (args .t3) m 0) (args .b) * entry (args .t2) m i in (
+    let term : ℕ → ℕ → ℕ = λ i m. bitOf (getD (args .t3) m 0) (args .b) * entry (denote.Ref.now (args .lanes)) m i in (
       search needs,
       λ i h.
           c .added .ensures i h
@@ -73,7 +73,7 @@ returns : tie.Need-returns Inv-loop μ-loop
 returns c i h =
     let l = c .before .loop in
     let args = c .before .before .before .args in
-    let term : ℕ → ℕ = λ m. bitOf (getD (args .t3) m 0) (args .b) * entry (args .t2) m i in
+    let term : ℕ → ℕ = λ m. bitOf (getD (args .t3) m 0) (args .b) * entry (denote.Ref.now (args .lanes)) m i in
     l .inv .1 i h ∙ ap₂ (λ (x n : ℕ). bitXor x (sumTo n term)) (c .before .before .doubled .ensures i h) (omega arith)
 
 pub bit-step-spec : {M : Type 1} → statement M
@@ -85,7 +85,7 @@ bit-step-spec =
     doubled-requires
     loop-holds
     mul-added
-    array-copy-out-added
+    element-copy-out-added
     array-read-added
     added-requires
     add-j

@@ -27,13 +27,13 @@ use Rattle.erasure.proofs.lanes.lane_sum.Lts as lts
 use Rattle.erasure.proofs.lanes.bit_step.Reads as bit-step-reads
 
 abbrev Inv-loop : tie.InvT-loop
-Inv-loop lanes weights k out₀ n₀ out n = (n ≤ 8) × Lane out (λ i. sumTo k (λ j. timesBits n (entry lanes j i) (getD weights j 0 / 2 ^ (8 - n))))
+Inv-loop weights k lanes out₀ n₀ out n = (n ≤ 8) × Lane out (λ i. sumTo k (λ j. timesBits n (entry lanes j i) (getD weights j 0 / 2 ^ (8 - n))))
 
 abbrev μ-loop : tie.MeasureT-loop
-μ-loop lanes weights k out₀ n₀ out n = 8 - n
+μ-loop weights k lanes out₀ n₀ out n = 8 - n
 
 loop-holds : tie.Need-loop-holds Inv-loop μ-loop
-loop-holds c = (search needs, λ i h. getD-replicate lane i 0 0 h ∙ sym (sum-none (c .args .k) (λ j. entry (c .args .lanes) j i) _))
+loop-holds c = (search needs, λ i h. getD-replicate lane i 0 0 h ∙ sym (sum-none (c .args .k) (λ j. entry (c .args .t1) j i) _))
 
 sub-bit-step : tie.Need-sub-bit-step Inv-loop μ-loop
 sub-bit-step c = search needs
@@ -49,16 +49,17 @@ loop-less c = search needs
 
 loop-again : tie.Need-loop-again Inv-loop μ-loop
 loop-again c =
-    let l = c .before .before .loop in
-    let args = c .before .before .before .args in
+    let l = c .before .before .before .loop in
+    let start = c .before .before .before .before in
+    let args = start .args in
     let b : ℕ = 7 - l .n in
     let up : b + 1 ≡ 8 - l .n = omega arith in
     let down : b ≡ 8 - (l .n + 1) = omega arith in
     let w : ℕ → ℕ = λ j. getD (args .weights) j 0 in (
       search needs,
       λ i h.
-          let x : ℕ → ℕ = λ j. entry (args .lanes) j i in
-          let small : (j : ℕ) → j < args .k → x j < 256 = λ j lt. entry-byte lane (args .lanes) (c .before .before .before .good .0 .0) j i (c .before .before .before .good .0 .1 .1) in
+          let x : ℕ → ℕ = λ j. entry (args .t1) j i in
+          let small : (j : ℕ) → j < args .k → x j < 256 = λ j lt. entry-byte lane (args .t1) (start .good .0 .0) j i (start .good .0 .1 .1) in
           c .bit-step .ensures i h
           ∙ ap (λ (s : ℕ). bitXor (xtime s) (sumTo (args .k) (λ j. bitOf (w j) b * x j)))
           (l .inv .1 i h ∙ ap (λ (m : ℕ). sumTo (args .k) (λ j. timesBits (l .n) (x j) (w j / 2 ^ m))) (sym up))
@@ -72,9 +73,9 @@ returns c i h =
     let l = c .before .loop in
     let args = c .before .before .args in
     let e : l .n ≡ 8 = omega arith in
-    subst (λ (n : ℕ). getD (l .out) i 0 ≡ sumTo (args .k) (λ j. timesBits n (entry (args .lanes) j i) (getD (args .weights) j 0 / 2 ^ (8 - n)))) e (l .inv .1 i h)
-    ∙ sumTo-ext (args .k) (λ j. timesBits 8 (entry (args .lanes) j i) (getD (args .weights) j 0 / 1)) (λ j. times (entry (args .lanes) j i) (getD (args .weights) j 0))
-    (λ j b. ap (timesBits 8 (entry (args .lanes) j i)) (div-one (getD (args .weights) j 0)))
+    subst (λ (n : ℕ). getD (l .out) i 0 ≡ sumTo (args .k) (λ j. timesBits n (entry (args .t1) j i) (getD (args .weights) j 0 / 2 ^ (8 - n)))) e (l .inv .1 i h)
+    ∙ sumTo-ext (args .k) (λ j. timesBits 8 (entry (args .t1) j i) (getD (args .weights) j 0 / 1)) (λ j. times (entry (args .t1) j i) (getD (args .weights) j 0))
+    (λ j b. ap (timesBits 8 (entry (args .t1) j i)) (div-one (getD (args .weights) j 0)))
 
 pub lane-sum-spec : {M : Type 1} → statement M
 lane-sum-spec =
