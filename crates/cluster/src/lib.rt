@@ -2,10 +2,12 @@
 
 // The largest t, and the most servers that a shelf can have.
 pub const TOP_FAULTS: usize = 4;
+
 pub const MOST_SERVERS: usize = 13;
 
 // Clients 1 to 8 may write, 1 to 16 may read.
 pub const TOP_WRITER: usize = 8;
+
 pub const TOP_CLIENT: usize = 16;
 
 // The largest call number and the largest stamp number.
@@ -13,6 +15,7 @@ pub const TOP_NUMBER: usize = 99999999;
 
 // Bytes of a content.
 pub const LEAST_LENGTH: usize = 1;
+
 pub const TOP_LENGTH: usize = 1024;
 
 // Bytes of a key, a nonce and a digest.
@@ -20,10 +23,12 @@ pub const KEY: usize = 32;
 
 // Least output buffers: for a packet, for a content.
 pub const PACKET_ROOM: usize = 6400;
+
 pub const CONTENT_ROOM: usize = 1024;
 
 // Bytes of a server's memory, and the stored writes that it can hold.
 pub const MEMORY: usize = 40960;
+
 pub const CAPACITY: usize = 32;
 
 // What an operation answers: 0 or a refusal's number, and the bytes written to the output buffer.

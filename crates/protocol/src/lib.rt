@@ -1,10 +1,55 @@
 // The protocol's definitions stand in specs/, their laws in proofs/. The structs here are the values that definitions and code share.
+ghost use mathlib.Core.Path.{_≡_};
+ghost use Rattle.protocol.specs.Values.{blankStamp, isBlank, below};
 
 // A stamp (timestamp): number, writer, and the writers'-key tag of both.
 pub struct Stamp {
     pub number: u32,
     pub writer: u8,
     pub tag: [u8; hmac::TAG],
+}
+
+impl Stamp {
+    pub const BLANK: Stamp = Stamp {
+        number: 0,
+        writer: 0,
+        tag: [0; hmac::TAG],
+    };
+
+    pub fn blank() -> Stamp
+        ensures { λ r. ⌜ r ≡ blankStamp ⌝ }
+    {
+        Stamp::BLANK
+    }
+
+    pub fn new(number: u32, writer: u8, tag: [u8; hmac::TAG]) -> Stamp
+        ensures { λ r. ⌜ r ≡ record { number = number; writer = writer; tag = tag } ⌝ }
+    {
+        Stamp {
+            number,
+            writer,
+            tag,
+        }
+    }
+
+    pub fn is_blank(self) -> bool
+        ensures { λ r. ⌜ r ≡ isBlank self ⌝ }
+    {
+        self.number == 0
+    }
+
+    // Order is by number, then writer.
+    pub fn below(self, other: Stamp) -> bool
+        ensures { λ r. ⌜ r ≡ below self other ⌝ }
+    {
+        if self.number < other.number {
+            return true;
+        }
+        if other.number < self.number {
+            return false;
+        }
+        self.writer < other.writer
+    }
 }
 
 // A packet's head. Document 01 says box for server.

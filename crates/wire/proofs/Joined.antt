@@ -1,0 +1,73 @@
+-- Tests of many bytes at once: joined by `or`, bytes are 0 when each of them is, and the `xor` of two bytes is 0 when they are the same.
+-- So a loop that joins all bytes, or all differences, ends with the answer of the definition that goes byte by byte.
+-- Assumes nothing.
+use mathlib.Core.Path.{_≡_, refl, sym, ap, _∙_}
+use mathlib.Core.Bool.{Bool, true, false, _&&_}
+use mathlib.Core.List.{List, [], _∷_}
+use Prim.Native.Nat.{ℕ, zero, suc, _+_, _≤_, _<_}
+use native.Mathlib.Omega.{arith}
+use native.Mathlib.Numerals.{add-one}
+use lib.Bits.{bitOr, bitXor, or-zero-l, or-add-and, and-le-l, and-le-r, xor-self, xor-add-and}
+use lib.Dec.{eqb}
+use lib.ListN.{length, getD, drop, drop-of-length-le}
+use lib.Seq.{drop-cons}
+use borrow.Author.Tests.{eq-eqb, ne-eqb, eqb-true, eqb-false}
+use Rattle.protocol.specs.Format.{zeros}
+use Rattle.protocol.specs.Values.{sameList}
+use Rattle.protocol.proofs.Equal.{same-true}
+
+and-true : (p : Bool) → p && true ≡ p
+and-true true = refl
+and-true false = refl
+
+and-false : (p : Bool) → p && false ≡ false
+and-false true = refl
+and-false false = refl
+
+and-assoc : (p q r : Bool) → (p && q) && r ≡ p && (q && r)
+and-assoc true q r = refl
+and-assoc false q r = refl
+
+or-eqb : (a b : ℕ) → eqb (bitOr a b) 0 ≡ eqb a 0 && eqb b 0
+or-eqb zero b = ap (λ (x : ℕ). eqb x 0) (or-zero-l b)
+or-eqb (suc a) b =
+    ne-eqb (bitOr (suc a) b) 0 (λ e. omega (arith, or-add-and (suc a) b, and-le-r (suc a) b))
+    ∙ sym (ap (λ (z : Bool). z && eqb b 0) (ne-eqb (suc a) 0 (λ e. omega arith)))
+
+xor-eqb : (a b : ℕ) → eqb (bitXor a b) 0 ≡ eqb a b
+xor-eqb a b = by (eqb a b) refl
+  where
+    by : (t : Bool) → eqb a b ≡ t → eqb (bitXor a b) 0 ≡ t
+    by true e = eq-eqb (bitXor a b) 0 (ap (bitXor a) (sym (eqb-true a b e)) ∙ xor-self a)
+    by false e = ne-eqb (bitXor a b) 0 (λ z. eqb-false a b e (omega (arith, xor-add-and a b, and-le-l a b, and-le-r a b)))
+
+module _ (s : List ℕ) (i : ℕ) where
+  pub zeros-more : (all : ℕ) → i < length s → eqb all 0 && zeros (drop i s) ≡ eqb (bitOr all (getD s i 0)) 0 && zeros (drop (i + 1) s)
+  zeros-more all h =
+      rw (add-one, drop-cons s i 0 h, or-eqb all (getD s i 0)) (sym (and-assoc (eqb all 0) (eqb (getD s i 0) 0) (zeros (drop (suc i) s))))
+
+  pub zeros-end : (all : ℕ) → length s ≤ i → eqb all 0 && zeros (drop i s) ≡ eqb all 0
+  zeros-end all h = rw (drop-of-length-le s h) (and-true (eqb all 0))
+
+pub lengths-differ : (a b : List ℕ) → (length a ≡ length b → ⊥) → sameList a b ≡ false
+lengths-differ [] [] h = absurd (h refl)
+lengths-differ [] (y ∷ ys) h = refl
+lengths-differ (x ∷ xs) [] h = refl
+lengths-differ (x ∷ xs) (y ∷ ys) h = ap (λ (z : Bool). eqb x y && z) (lengths-differ xs ys (λ e. h (ap suc e))) ∙ and-false (eqb x y)
+
+pub byte-differs : (a b : List ℕ) (i : ℕ) → (getD a i 0 ≡ getD b i 0 → ⊥) → sameList a b ≡ false
+byte-differs a b i h = by (sameList a b) refl
+  where
+    by : (t : Bool) → sameList a b ≡ t → t ≡ false
+    by true e = absurd (h (ap (λ (x : List ℕ). getD x i 0) (same-true a b e)))
+    by false e = refl
+
+module _ (a b : List ℕ) (i : ℕ) where
+  pub same-more : (all : ℕ) → i < length a → i < length b
+      → eqb all 0 && sameList (drop i a) (drop i b) ≡ eqb (bitOr all (bitXor (getD a i 0) (getD b i 0))) 0 && sameList (drop (i + 1) a) (drop (i + 1) b)
+  same-more all h k =
+      rw (add-one, drop-cons a i 0 h, drop-cons b i 0 k, or-eqb all (bitXor (getD a i 0) (getD b i 0)), xor-eqb (getD a i 0) (getD b i 0))
+      (sym (and-assoc (eqb all 0) (eqb (getD a i 0) (getD b i 0)) (sameList (drop (suc i) a) (drop (suc i) b))))
+
+  pub same-end : (all : ℕ) → length a ≤ i → length b ≤ i → eqb all 0 && sameList (drop i a) (drop i b) ≡ eqb all 0
+  same-end all h k = rw (drop-of-length-le a h, drop-of-length-le b k) (and-true (eqb all 0))

@@ -1,0 +1,11 @@
+pub mod Joined
+pub mod Runs
+pub mod Put
+pub mod Leaf
+pub mod From
+pub mod Through
+pub mod Lists
+pub mod Optional
+pub mod Heads
+pub mod Whole
+pub mod Laws

@@ -1,0 +1,138 @@
+-- Parts of a list of bytes: past the end there is nothing, and what is padded is the bytes themselves where there are enough.
+-- Assumes nothing.
+use mathlib.Core.Path.{_≡_, refl, sym, ap, _∙_, subst}
+use mathlib.Core.List.{List, [], _∷_, _++_}
+use Prim.Native.Nat.{ℕ, zero, suc, _+_, _-_, _≤_, _<_}
+use native.Mathlib.Omega.{arith}
+use native.Mathlib.Nat.{zero-add}
+use native.Mathlib.Numerals.{add-one}
+use lib.ListN.{length, getD, set, take, drop, replicate, length-append, length-drop, drop-of-length-le, length-replicate}
+use lib.Seq.{take-all, take-nil, take-append-le, take-append-add, length-take-le, paste, paste-suc, take-length, getD-take, getD-drop, ext-getD}
+use Rattle.hmac.specs.Hmac.{tagSize}
+use Rattle.protocol.specs.Format.{value4}
+use Rattle.protocol.specs.Values.{stampSize}
+use Rattle.protocol.specs.View.{part, stampAt}
+use Rattle.wire.specs.Places.{padded}
+
+-- past the end
+pub getD-past : (s : List ℕ) (i : ℕ) → length s ≤ i → getD s i 0 ≡ 0
+getD-past [] i h = refl
+getD-past (x ∷ xs) zero h = absurd (omega arith)
+getD-past (x ∷ xs) (suc i) h = getD-past xs i (omega arith)
+
+module _ (s : List ℕ) (at : ℕ) where
+  pub rest-past : length s ≤ at → [] ≡ drop at s
+  rest-past h = sym (drop-of-length-le s h)
+
+  pub rest-whole : (n : ℕ) → length s - at ≡ n → take n (drop at s) ≡ drop at s
+  rest-whole n e = take-all n (drop at s) (omega (arith, length-drop at s))
+
+  pub part-past : (n : ℕ) → length s ≤ at → [] ≡ part s at n
+  unfolding part
+  part-past n h = rw (drop-of-length-le s h, take-nil n)
+
+  pub part-short : (n m : ℕ) → length s - at ≤ n → length s - at ≤ m → take n (drop at s) ≡ part s at m
+  unfolding part
+  part-short n m h k =
+      take-all n (drop at s) (omega (arith, length-drop at s)) ∙ sym (take-all m (drop at s) (omega (arith, length-drop at s)))
+
+  pub part-whole : (m n : ℕ) → m ≡ n → take m (drop at s) ≡ part s at n
+  unfolding part
+  part-whole m n e = ap (λ (k : ℕ). take k (drop at s)) e
+
+drop-replicate : (n m : ℕ) → _≡_ {A = List ℕ} (drop m (replicate n 0)) (replicate (n - m) 0)
+drop-replicate n zero = let e : n ≡ n - 0 = omega arith in ap (λ (k : ℕ). replicate k 0) e
+drop-replicate zero (suc m) = let e : 0 ≡ 0 - suc m = omega arith in ap (λ (k : ℕ). replicate k 0) e
+drop-replicate (suc n) (suc m) = let e : n - m ≡ suc n - suc m = omega arith in drop-replicate n m ∙ ap (λ (k : ℕ). replicate k 0) e
+
+take-replicate : (m n : ℕ) → m ≤ n → _≡_ {A = List ℕ} (take m (replicate n 0)) (replicate m 0)
+take-replicate zero n h = refl
+take-replicate (suc m) zero h = absurd (omega arith)
+take-replicate (suc m) (suc n) h = ap (λ (y : List ℕ). 0 ∷ y) (take-replicate m n (omega arith))
+
+-- ---- an array filled from its start, which holds zeros at first
+
+module _ (n : ℕ) (s : List ℕ) where
+  pub paste-more : (i : ℕ) (a : List ℕ) → a ≡ paste (replicate n 0) 0 s i → i < length s → i < n → set a i (getD s i 0) ≡ paste (replicate n 0) 0 s (i + 1)
+  paste-more i a e h k =
+      let d : List ℕ = replicate n 0 in
+      let z : 0 + i < length d = omega (arith, length-replicate {A = ℕ} n 0) in
+      let g : set (paste d 0 s i) i (getD s i 0) ≡ paste d 0 s (suc i) =
+      subst (λ (j : ℕ). set (paste d 0 s i) j (getD s i 0) ≡ paste d 0 s (suc i)) (zero-add i) (paste-suc d 0 s i 0 z h) in
+      ap (λ (y : List ℕ). set y i (getD s i 0)) e ∙ g ∙ ap (paste d 0 s) (sym (add-one i))
+
+  pub paste-padded : length s ≤ n → paste (replicate n 0) 0 s (length s) ≡ padded n s
+  unfolding padded
+  paste-padded h =
+      let z : List ℕ = replicate n 0 in
+      let m : n ≡ length s + (n - length s) = omega arith in
+      let p : take n (s ++ z) ≡ s ++ replicate (n - length s) 0 =
+      ap (λ (k : ℕ). take k (s ++ z)) m ∙ take-append-add s z (n - length s) ∙ ap (λ (y : List ℕ). s ++ y) (take-replicate (n - length s) n (omega arith)) in
+      rw (take-length s, zero-add (length s)) (ap (λ (y : List ℕ). s ++ y) (drop-replicate n (length s)) ∙ sym p)
+
+pub part-most : (s : List ℕ) (at n : ℕ) → length (part s at n) ≤ n
+unfolding part
+part-most s at n = take-most n (drop at s)
+  where
+    take-most : (n : ℕ) (l : List ℕ) → length (take n l) ≤ n
+    take-most zero l = omega arith
+    take-most (suc n) [] = omega arith
+    take-most (suc n) (x ∷ xs) = let h = take-most n xs in omega arith
+
+-- ---- padding
+
+getD-noughts : (n i : ℕ) → getD (replicate {A = ℕ} n 0) i 0 ≡ 0
+getD-noughts zero i = refl
+getD-noughts (suc n) zero = refl
+getD-noughts (suc n) (suc i) = getD-noughts n i
+
+getD-more : (d : List ℕ) (n i : ℕ) → getD (d ++ replicate n 0) i 0 ≡ getD d i 0
+getD-more [] n i = getD-noughts n i
+getD-more (x ∷ xs) n zero = refl
+getD-more (x ∷ xs) n (suc i) = getD-more xs n i
+
+pub padded-get : (n : ℕ) (d : List ℕ) (i : ℕ) → i < n → getD (padded n d) i 0 ≡ getD d i 0
+unfolding padded
+padded-get n d i h = getD-take n (d ++ replicate n 0) i 0 h ∙ getD-more d n i
+
+pub padded-length : (n : ℕ) (d : List ℕ) → length (padded n d) ≡ n
+unfolding padded
+padded-length n d = length-take-le n (d ++ replicate n 0) (omega (arith, length-append d (replicate n 0), length-replicate {A = ℕ} n 0))
+
+-- of the padded bytes, a part is the padded part
+pub padded-part : (a n : ℕ) (d : List ℕ) → part (padded (a + n) d) a n ≡ padded n (drop a d)
+unfolding part
+padded-part a n d =
+    let m : List ℕ = padded (a + n) d in
+    let l : length (take n (drop a m)) ≡ n = length-take-le n (drop a m) (omega (arith, length-drop a m, padded-length (a + n) d)) in
+    ext-getD 0 (take n (drop a m)) (padded n (drop a d)) (l ∙ sym (padded-length n (drop a d)))
+    (λ i h.
+    let k : i < n = omega arith in
+    getD-take n (drop a m) i 0 k ∙ getD-drop a m i 0 ∙ padded-get (a + n) d (a + i) (omega arith) ∙ sym (getD-drop a d i 0) ∙ sym (padded-get n (drop a d) i k))
+
+-- no more than the part is needed
+pub padded-cut : (n : ℕ) (d : List ℕ) → padded n (part d 0 n) ≡ padded n d
+unfolding part
+padded-cut n d =
+    ext-getD 0 (padded n (take n d)) (padded n d) (padded-length n (take n d) ∙ sym (padded-length n d))
+    (λ i h.
+    let k : i < n = omega (arith, padded-length n (take n d)) in
+    padded-get n (take n d) i k ∙ getD-take n d i 0 k ∙ sym (padded-get n d i k))
+
+-- a stamp by its places
+pub stamp-padded : (s : List ℕ)
+    → record { number = value4 (getD s 0 0) (getD s 1 0) (getD s 2 0) (getD s 3 0); writer = getD s 4 0; tag = padded tagSize (drop 5 s) } ≡ stampAt (padded stampSize s)
+unfolding stampAt
+stamp-padded s =
+    rw (
+      padded-get stampSize s 0 (omega arith),
+      padded-get stampSize s 1 (omega arith),
+      padded-get stampSize s 2 (omega arith),
+      padded-get stampSize s 3 (omega arith),
+      padded-get stampSize s 4 (omega arith),
+      padded-part 5 tagSize s,
+    )
+
+pub padded-whole : (n : ℕ) (d : List ℕ) → n ≤ length d → padded n d ≡ take n d
+unfolding padded
+padded-whole n d h = take-append-le n d (replicate n 0) h

@@ -1,0 +1,169 @@
+-- The parts of packets, let through field by field: from what the fields' readers answer to what the part's reader answers.
+-- Each format is a sequence, so its value is the tuple of its fields' values, and these stand one after the other.
+-- Assumes nothing.
+use mathlib.Core.Path.{_≡_, refl, sym, ap, ap₂, _∙_, subst}
+use mathlib.Core.Bool.{true}
+use mathlib.Core.List.{List}
+use Prim.Native.Nat.{ℕ, _+_, _-_, _≤_}
+use native.Mathlib.Omega.{arith}
+use native.Mathlib.Nat.{add-assoc}
+use lib.ListN.{length, take, drop}
+use Rattle.cluster.specs.Config.{Config}
+use Rattle.cluster.specs.Ranges.{topNumber, topWriter, leastLength, topLength}
+use Rattle.hmac.specs.Hmac.{tagSize}
+use Rattle.erasure.specs.Fragments.{fragmentSize}
+use Rattle.protocol.specs.declared.Stamp.{Stamp}
+use Rattle.protocol.specs.Format.{zeros, run}
+use Rattle.protocol.specs.Values.{Candidate, Share, stampSize, nonceSize, digestSize, digestsSize, tagsSize, candidateSize, blankStamp, blankCandidate}
+use Rattle.protocol.specs.Packet.{stampF, anyStampF, shareF, writeF, candidateF, anyCandidateF}
+use Rattle.protocol.specs.View.{part, stampAt, candidateAt, shareAt, shareOfSize}
+use Rattle.protocol.specs.Reading.{Leaves, Stops}
+use Rattle.protocol.proofs.Leaves.{leaves-seq, leaves-via, stops-via, stops-first, stops-second, leaves-some, leaves-blank, stops-short}
+use Rattle.wire.specs.Places.{lengthAt, shareSize, writeAt}
+use Rattle.wire.specs.Reads.{Took, Past, four, byteL, number2L, number4L, stampL, anyStampL, shareL, writeL, candidateL, anyCandidateL}
+use Rattle.wire.proofs.Leaf.{number4-end}
+use Rattle.wire.proofs.From.{drop-from, part-from, first-from, blank-stamp, blank-candidate}
+
+module _ {s : List ℕ} {at : ℕ} where
+  pub stamp-took : {v p w q e : ℕ} → Took (number4L 1 topNumber) s at v p → Took (byteL 1 topWriter) s p w q → Past (run tagSize) s q (part s q tagSize) e tagSize
+      → Took stampL s at v e
+  unfolding stampF stampAt
+  stamp-took {v} {p} {w} {q} {e} a b r =
+      let stamp : ℕ → List ℕ → Stamp = λ w t. record { number = four (drop at s); writer = w; tag = t } in
+      let same = ap₂ stamp (first-from s at 4 (a .place)) (part-from s at {k = q} 5 tagSize (omega (arith, a .place, b .place))) in
+      record {
+        leaves = subst (λ (x : Stamp). Leaves stampF s at x e) same (leaves-via _ _ _ refl (leaves-seq _ _ (a .leaves) (leaves-seq _ _ (b .leaves) (r .leaves))));
+        number = a .number;
+        place = omega (arith, a .place, b .place, r .place);
+      }
+
+  pub any-stamp-took : {v e : ℕ} → Took stampL s at v e → Took anyStampL s at v e
+  unfolding anyStampF
+  any-stamp-took t = record { leaves = leaves-some _ _ _ (t .leaves); number = t .number; place = t .place }
+
+  -- past the end
+  pub past-stamp : length s ≤ at → Stops stampF s at
+  unfolding stampF
+  past-stamp h = stops-via _ _ _ (stops-first _ _ (number4-end 1 topNumber (omega arith)))
+
+  pub past-any-stamp : length s ≤ at → Stops anyStampF s at
+  unfolding anyStampF
+  past-any-stamp h = stops-short _ _ _ (past-stamp h) (omega arith)
+
+  pub blank-stamp-took : {e : ℕ} → Stops stampF s at → at + stampSize ≤ length s → zeros (take stampSize (drop at s)) ≡ true → e ≡ at + stampSize
+      → Took anyStampL s at 0 e
+  unfolding anyStampF
+  blank-stamp-took {e} n h z p =
+      let b : stampAt (drop at s) ≡ blankStamp = blank-stamp stampSize (drop at s) (omega (arith, lib.ListN.length-drop at s)) z (omega arith) in
+      record {
+        leaves = subst (λ (k : ℕ). Leaves anyStampF s at (stampAt (drop at s)) k) (sym p) (subst (λ (x : Stamp). Leaves anyStampF s at x (at + stampSize)) (sym b) (leaves-blank _ _ _ n h z));
+        number = sym (ap (λ (x : Stamp). x .number) b);
+        place = p;
+      }
+
+-- the fragment of a content of n bytes, as a run
+abbrev Fragment : Config → List ℕ → ℕ → ℕ → ℕ → Type 0
+Fragment c s n p q = Past (run (fragmentSize (c .shares) n)) s p (part s p (fragmentSize (c .shares) n)) q (fragmentSize (c .shares) n)
+
+module _ (c : Config) {s : List ℕ} {at : ℕ} where
+  pub share-took : {n p q d g e : ℕ} → Took (number2L leastLength topLength) s at n p
+      → Fragment c s n p q → Past (run (digestsSize c)) s q (part s q (digestsSize c)) d (digestsSize c) → Past (run digestSize) s d (part s d digestSize) g digestSize
+      → Past (run (tagsSize c)) s g (part s g (tagsSize c)) e (tagsSize c) → Took (shareL c) s at n e
+  unfolding shareF shareAt shareOfSize lengthAt shareSize
+  share-took {n} {p} {q} {d} {g} {e} a b₀ x y z =
+      let m : ℕ = lengthAt (drop at s) in
+      let f : ℕ = fragmentSize (c .shares) m in
+      let b = subst (λ (k : ℕ). Fragment c s k p q) (a .number) b₀ in
+      let share : List ℕ → List ℕ → List ℕ → List ℕ → Share = λ u v w z. record { size = m; part = u; digests = v; nonceDigest = w; tags = z } in
+      let e1 : part s p f ≡ part (drop at s) 2 f = part-from s at 2 f (a .place) in
+      let e2 : part s q (digestsSize c) ≡ part (drop at s) (2 + f) (digestsSize c) = part-from s at {k = q} (2 + f) (digestsSize c) (omega (arith, a .place, b .place)) in
+      let e3 : part s d digestSize ≡ part (drop at s) (2 + f + digestsSize c) digestSize =
+      part-from s at {k = d} (2 + f + digestsSize c) digestSize (omega (arith, a .place, b .place, x .place)) in
+      let e4 : part s g (tagsSize c) ≡ part (drop at s) (2 + f + digestsSize c + digestSize) (tagsSize c) =
+      part-from s at {k = g} (2 + f + digestsSize c + digestSize) (tagsSize c) (omega (arith, a .place, b .place, x .place, y .place)) in
+      let same = ap₂ (λ u v. share u v (part s d digestSize) (part s g (tagsSize c))) e1 e2 ∙ ap₂ (share (part (drop at s) 2 f) (part (drop at s) (2 + f) (digestsSize c))) e3 e4 in
+      record {
+        leaves =
+            subst (λ (h : Share). Leaves (shareF c) s at h e) same
+            (leaves-via _ _ _ refl
+            (leaves-seq _ _ (a .leaves) (leaves-seq _ _ (b .leaves) (leaves-seq _ _ (x .leaves) (leaves-seq _ _ (y .leaves) (z .leaves))))));
+        number = a .number;
+        place = omega (arith, a .place, b .place, x .place, y .place, z .place);
+      }
+
+  -- the fragment's length is told by the length that stands there
+  sized : {n p q : ℕ} → Took (number2L leastLength topLength) s at n p → Fragment c s n p q
+      → Leaves (run (fragmentSize (c .shares) (lengthAt (drop at s)))) s p (part s p (fragmentSize (c .shares) (lengthAt (drop at s)))) q
+  sized {n} {p} {q} a b = subst (λ (k : ℕ). Leaves (run (fragmentSize (c .shares) k)) s p (part s p (fragmentSize (c .shares) k)) q) (a .number) (b .leaves)
+
+  pub share-stops1 : {n p : ℕ} → Took (number2L leastLength topLength) s at n p → Stops (run (fragmentSize (c .shares) n)) s p → Stops (shareF c) s at
+  unfolding shareF
+  share-stops1 {n} {p} a z =
+      stops-via _ _ _ (stops-second _ _ (a .leaves) (stops-first _ _ (subst (λ (k : ℕ). Stops (run (fragmentSize (c .shares) k)) s p) (a .number) z)))
+
+  pub share-stops2 : {n p q : ℕ} → Took (number2L leastLength topLength) s at n p → Fragment c s n p q → Stops (run (digestsSize c)) s q → Stops (shareF c) s at
+  unfolding shareF
+  share-stops2 a b z = stops-via _ _ _ (stops-second _ _ (a .leaves) (stops-second _ _ (sized a b) (stops-first _ _ z)))
+
+  pub share-stops3 : {n p q d : ℕ} → Took (number2L leastLength topLength) s at n p → Fragment c s n p q
+      → Past (run (digestsSize c)) s q (part s q (digestsSize c)) d (digestsSize c) → Stops (run digestSize) s d → Stops (shareF c) s at
+  unfolding shareF
+  share-stops3 a b x z = stops-via _ _ _ (stops-second _ _ (a .leaves) (stops-second _ _ (sized a b) (stops-second _ _ (x .leaves) (stops-first _ _ z))))
+
+  pub share-stops4 : {n p q d g : ℕ} → Took (number2L leastLength topLength) s at n p → Fragment c s n p q
+      → Past (run (digestsSize c)) s q (part s q (digestsSize c)) d (digestsSize c) → Past (run digestSize) s d (part s d digestSize) g digestSize
+      → Stops (run (tagsSize c)) s g → Stops (shareF c) s at
+  unfolding shareF
+  share-stops4 a b x y z =
+      stops-via _ _ _ (stops-second _ _ (a .leaves) (stops-second _ _ (sized a b) (stops-second _ _ (x .leaves) (stops-second _ _ (y .leaves) z))))
+
+  pub write-took : {v p n e : ℕ} → Took stampL s at v p → Took (shareL c) s p n e → Took (writeL c) s at n e
+  unfolding writeF writeAt
+  write-took {v} {p} {n} {e} a b =
+      let r : drop p s ≡ drop stampSize (drop at s) = drop-from s at stampSize (a .place) in
+      record {
+        leaves =
+            subst (λ (h : List ℕ). Leaves (writeF c) s at (record { stamp = stampAt (drop at s); share = shareAt c h }) e) r
+            (leaves-via _ _ _ refl (leaves-seq _ _ (a .leaves) (b .leaves)));
+        number = b .number ∙ ap lengthAt r;
+        place = b .place ∙ ap₂ (λ (k : ℕ) (h : List ℕ). k + shareSize c (lengthAt h)) (a .place) r ∙ add-assoc at stampSize (shareSize c (lengthAt (drop stampSize (drop at s))));
+      }
+
+  pub candidate-took : {v p q e : ℕ} → Took stampL s at v p → Past (run nonceSize) s p (part s p nonceSize) q nonceSize
+      → Past (run (tagsSize c)) s q (part s q (tagsSize c)) e (tagsSize c) → Took (candidateL c) s at v e
+  unfolding candidateF candidateAt
+  candidate-took {v} {p} {q} {e} a b r =
+      let candidate : List ℕ → List ℕ → Candidate = λ n t. record { stamp = stampAt (drop at s); nonce = n; tags = t } in
+      let same =
+      ap₂ candidate (part-from s at stampSize nonceSize (a .place))
+      (part-from s at {k = q} (stampSize + nonceSize) (tagsSize c) (omega (arith, a .place, b .place))) in
+      record {
+        leaves =
+            subst (λ (x : Candidate). Leaves (candidateF c) s at x e) same
+            (leaves-via _ _ _ refl (leaves-seq _ _ (a .leaves) (leaves-seq _ _ (b .leaves) (r .leaves))));
+        number = a .number;
+        place = omega (arith, a .place, b .place, r .place);
+      }
+
+  pub any-candidate-took : {v e : ℕ} → Took (candidateL c) s at v e → Took (anyCandidateL c) s at v e
+  unfolding anyCandidateF
+  any-candidate-took t = record { leaves = leaves-some _ _ _ (t .leaves); number = t .number; place = t .place }
+
+  pub past-any-candidate : length s ≤ at → Stops (anyCandidateF c) s at
+  unfolding anyCandidateF candidateF
+  past-any-candidate h = stops-short _ _ _ (stops-via _ _ _ (stops-first _ _ (past-stamp h))) (omega arith)
+
+  pub blank-candidate-took : {e : ℕ} → Stops (candidateF c) s at → at + candidateSize c ≤ length s → zeros (take (candidateSize c) (drop at s)) ≡ true
+      → e ≡ at + candidateSize c → Took (anyCandidateL c) s at 0 e
+  unfolding anyCandidateF
+  blank-candidate-took {e} n h z p =
+      let l : candidateSize c ≤ length (drop at s) = omega (arith, lib.ListN.length-drop at s) in
+      let b : candidateAt c (drop at s) ≡ blankCandidate c = blank-candidate (candidateSize c) (drop at s) l z c (omega arith) in
+      let a : stampAt (drop at s) ≡ blankStamp = blank-stamp (candidateSize c) (drop at s) l z (omega arith) in
+      record {
+        leaves =
+            subst (λ (k : ℕ). Leaves (anyCandidateF c) s at (candidateAt c (drop at s)) k) (sym p)
+            (subst (λ (x : Candidate). Leaves (anyCandidateF c) s at x (at + candidateSize c)) (sym b) (leaves-blank _ _ _ n h z));
+        number = sym (ap (λ (x : Stamp). x .number) a);
+        place = p;
+      }

@@ -1,0 +1,157 @@
+-- From a body's fields to the body of its kind, and from head and body to the packet.
+-- Assumes nothing.
+use mathlib.Core.Path.{_≡_, refl, sym, subst}
+use mathlib.Core.Bool.{Bool, true, false, cond}
+use mathlib.Core.List.{List, []}
+use mathlib.Core.Option.{none, some}
+use Prim.Native.Nat.{ℕ, _+_, _≤_, _<_}
+use native.Mathlib.Omega.{arith}
+use lib.Dec.{eqb}
+use lib.ListN.{length, drop, getD}
+use borrow.Author.Tests.{ne-eqb, eqb-true, eqb-false}
+use Rattle.cluster.specs.Config.{Config, shelf}
+use Rattle.protocol.specs.declared.Head.{Head}
+use Rattle.protocol.specs.Format.{byte, empty, seq, via, keep}
+use Rattle.protocol.specs.Values.{stampSize}
+use Rattle.protocol.specs.Packet.{Body, headF, headSize, bodyF, packetF, decode}
+use Rattle.protocol.specs.View.{shareAt, heldAt}
+use Rattle.protocol.specs.Reading.{Leaves, Stops}
+use Rattle.protocol.proofs.Leaves.{leaves-seq, leaves-via, stops-via, stops-second}
+use Rattle.protocol.proofs.Bodies.{Kind, clock-kind, clock-reply-kind, store-kind, store-reply-kind, complete-kind, complete-reply-kind, collect-kind, collect-reply-kind, filter-kind, filter-reply-kind, repair-kind, repair-reply-kind}
+use Rattle.protocol.proofs.Whole.{body-leaves, body-stops, decoded, refused, trailing}
+use Rattle.wire.specs.Places.{bodyAt, packetAt, writeAt, fragmentHeld, fragmentOf, fragmentIn}
+use Rattle.wire.specs.Reads.{Layout, Past, FieldAs, BodyAs, anyStampL, writeL, codeL, candidateL, anyCandidateL, candidatesL, heldL}
+use Rattle.wire.specs.declared.fields.Field.{Field}
+use Rattle.wire.specs.declared.fields.Field.the-variants as field
+
+-- ---- bodies
+
+over : (n j : ℕ) → n ≤ j → (j ≡ n → ⊥) → n + 1 ≤ j
+over n j h e = omega arith
+
+twelve : (j : ℕ) → j ≤ 12 → 12 ≤ j → j ≡ 12
+twelve j h k = omega arith
+
+module _ (c : Config) (s : List ℕ) (at : ℕ) where
+  -- a body of one field: what the field's reader answers, the body's reader answers
+  of-field : {A : Type 0} (L : Layout A) {con : A → Body} (k : ℕ) → Kind c k (L .format) con → ((d : List ℕ) → con (L .value d) ≡ bodyAt c k d)
+      → (j : ℕ) → j ≡ k → (f : Field) → FieldAs L s at f → BodyAs c j s at f
+  of-field L k d e j ej (field.Value v p) t =
+      subst (λ (i : ℕ). BodyAs c i s at (field.Value v p)) (sym ej) (subst (λ (b : Body). Leaves (bodyF c k) s at b (p .at)) (e (drop at s)) (body-leaves d (t .leaves)))
+  of-field L k d e j ej field.Broken z = subst (λ (i : ℕ). Stops (bodyF c i) s at) (sym ej) (body-stops d z)
+
+  module _ (j : ℕ) (f : Field) where
+    pub clock-reply-as : j ≡ 2 → FieldAs anyStampL s at f → BodyAs c j s at f
+    unfolding bodyAt
+    clock-reply-as e t = of-field anyStampL 2 (clock-reply-kind c) (λ d. refl) j e f t
+
+    pub store-as : j ≡ 3 → FieldAs (writeL c) s at f → BodyAs c j s at f
+    unfolding bodyAt
+    store-as e t = of-field (writeL c) 3 (store-kind c) (λ d. refl) j e f t
+
+    pub store-reply-as : j ≡ 4 → FieldAs codeL s at f → BodyAs c j s at f
+    unfolding bodyAt
+    store-reply-as e t = of-field codeL 4 (store-reply-kind c) (λ d. refl) j e f t
+
+    pub complete-as : j ≡ 5 → FieldAs (candidateL c) s at f → BodyAs c j s at f
+    unfolding bodyAt
+    complete-as e t = of-field (candidateL c) 5 (complete-kind c) (λ d. refl) j e f t
+
+    pub collect-reply-as : j ≡ 8 → FieldAs (anyCandidateL c) s at f → BodyAs c j s at f
+    unfolding bodyAt
+    collect-reply-as e t = of-field (anyCandidateL c) 8 (collect-reply-kind c) (λ d. refl) j e f t
+
+    pub filter-as : j ≡ 9 → FieldAs (candidatesL c) s at f → BodyAs c j s at f
+    unfolding bodyAt
+    filter-as e t = of-field (candidatesL c) 9 (filter-kind c) (λ d. refl) j e f t
+
+    pub filter-reply-as : j ≡ 10 → FieldAs (heldL c) s at f → BodyAs c j s at f
+    unfolding bodyAt
+    filter-reply-as e t = of-field (heldL c) 10 (filter-reply-kind c) (λ d. refl) j e f t
+
+    pub repair-as : j ≡ 11 → FieldAs (candidateL c) s at f → BodyAs c j s at f
+    unfolding bodyAt
+    repair-as e t = of-field (candidateL c) 11 (repair-kind c) (λ d. refl) j e f t
+
+  -- a body of no field
+  nothing : at ≤ length s → Leaves empty s at tt at
+  unfolding empty
+  nothing h = record { parsed = refl; within = h; ok = tt }
+
+  bare : {con : Body} (k : ℕ) → Kind c k empty (λ x. con) → con ≡ bodyAt c k (drop at s) → at ≤ length s → (j : ℕ) → j ≡ k → Leaves (bodyF c j) s at (bodyAt c j (drop at s)) at
+  bare k d e h j ej =
+      subst (λ (i : ℕ). Leaves (bodyF c i) s at (bodyAt c i (drop at s)) at) (sym ej)
+      (subst (λ (b : Body). Leaves (bodyF c k) s at b at) e (body-leaves d (nothing h)))
+
+  pub bare-as : at ≤ length s → (j : ℕ) → 1 ≤ j → j ≤ 12 → (j ≡ 2 → ⊥) → (j ≡ 3 → ⊥) → (j ≡ 4 → ⊥) → (j ≡ 5 → ⊥) → (j ≡ 8 → ⊥) → (j ≡ 9 → ⊥) → (j ≡ 10 → ⊥)
+      → (j ≡ 11 → ⊥) → Leaves (bodyF c j) s at (bodyAt c j (drop at s)) at
+  unfolding bodyAt
+  bare-as h j l u n2 n3 n4 n5 n8 n9 n10 n11 = go (eqb j 1) (eqb j 6) (eqb j 7) refl refl refl
+    where
+      go : (x y z : Bool) → eqb j 1 ≡ x → eqb j 6 ≡ y → eqb j 7 ≡ z → Leaves (bodyF c j) s at (bodyAt c j (drop at s)) at
+      go true y z ex ey ez = bare 1 (clock-kind c) refl h j (eqb-true j 1 ex)
+      go false true z ex ey ez = bare 6 (complete-reply-kind c) refl h j (eqb-true j 6 ey)
+      go false false true ex ey ez = bare 7 (collect-kind c) refl h j (eqb-true j 7 ez)
+      go false false false ex ey ez = bare 12 (repair-reply-kind c) refl h j (twelve j u (over 11 j (over 10 j (over 9 j (over 8 j (over 7 j (over 6 j (over 5 j (over 4 j (over 3 j (over 2 j (over 1 j l (eqb-false j 1 ex)) n2) n3) n4) n5) (eqb-false j 6 ey)) (eqb-false j 7 ez)) n8) n9) n10) n11))
+
+-- ---- packets
+
+module _ {s : List ℕ} {h : Head} {p : ℕ} (f : Past headF s 0 h p headSize) where
+  pub kind-range : (1 ≤ h .kind) × (h .kind ≤ 12)
+  unfolding headF keep via seq byte
+  kind-range = f .leaves .ok .1 .0
+
+  took : {e : ℕ} → Leaves (bodyF (shelf (h .t)) (h .kind)) s p (bodyAt (shelf (h .t)) (h .kind) (drop p s)) e → Leaves packetF s 0 (packetAt h s) e
+  unfolding packetF packetAt
+  took {e} b =
+      let r : p ≡ headSize = omega (arith, f .place) in
+      subst (λ (k : ℕ). Leaves packetF s 0 (record { head = h; body = bodyAt (shelf (h .t)) (h .kind) (drop k s) }) e) r (leaves-via _ _ _ refl (leaves-seq _ _ (f .leaves) b))
+
+  pub packet-decoded : {e : ℕ} → Leaves (bodyF (shelf (h .t)) (h .kind)) s p (bodyAt (shelf (h .t)) (h .kind) (drop p s)) e → length s ≤ e → decode s ≡ some (packetAt h s)
+  packet-decoded b k = decoded (took b) k
+
+  pub packet-trailing : {e : ℕ} → Leaves (bodyF (shelf (h .t)) (h .kind)) s p (bodyAt (shelf (h .t)) (h .kind) (drop p s)) e → e < length s → decode s ≡ none
+  packet-trailing b k = trailing (took b) k
+
+  pub packet-broken : Stops (bodyF (shelf (h .t)) (h .kind)) s p → decode s ≡ none
+  unfolding packetF
+  packet-broken z = refused (stops-via _ _ _ (stops-second _ _ (f .leaves) z))
+
+-- ---- fragments
+
+module _ (c : Config) (d : List ℕ) where
+  neither : (t : Bool) (x y : Body) → fragmentOf x ≡ [] → fragmentOf y ≡ [] → fragmentOf (cond t x y) ≡ []
+  neither true x y e f = e
+  neither false x y e f = f
+
+  pub fragment-none : (k : ℕ) → (k ≡ 3 → ⊥) → (k ≡ 10 → ⊥) → fragmentOf (bodyAt c k d) ≡ []
+  unfolding bodyAt fragmentOf
+  fragment-none k n m =
+      neither (eqb k 1) _ _ refl
+      (neither (eqb k 2) _ _ refl
+      (rw (ne-eqb k 3 n)
+      (neither (eqb k 4) _ _ refl
+      (neither (eqb k 5) _ _ refl
+      (neither (eqb k 6) _ _ refl
+      (neither (eqb k 7) _ _ refl
+      (neither (eqb k 8) _ _ refl (neither (eqb k 9) _ _ refl (rw (ne-eqb k 10 m) (neither (eqb k 11) _ _ refl refl))))))))))
+
+  pub fragment-store : (k : ℕ) → k ≡ 3 → shareAt c (drop stampSize d) .part ≡ fragmentOf (bodyAt c k d)
+  unfolding bodyAt fragmentOf writeAt
+  fragment-store k e = rw e
+
+  pub fragment-absent : (k : ℕ) → k ≡ 10 → getD d stampSize 0 ≡ 0 → fragmentOf (bodyAt c k d) ≡ []
+  unfolding bodyAt fragmentOf heldAt fragmentHeld
+  fragment-absent k e z = rw (e, z)
+
+  pub fragment-present : (k : ℕ) → k ≡ 10 → (getD d stampSize 0 ≡ 0 → ⊥) → shareAt c (drop (stampSize + 1) d) .part ≡ fragmentOf (bodyAt c k d)
+  unfolding bodyAt fragmentOf heldAt fragmentHeld
+  fragment-present k e n = rw e (simp (ne-eqb (getD d stampSize 0) 0 n))
+
+pub fragment-broken : (s : List ℕ) → decode s ≡ none → [] ≡ fragmentIn (decode s)
+unfolding fragmentIn
+fragment-broken s e = rw e
+
+pub fragment-read : (s : List ℕ) (h : Head) {x : List ℕ} → decode s ≡ some (packetAt h s) → x ≡ fragmentOf (bodyAt (shelf (h .t)) (h .kind) (drop headSize s)) → x ≡ fragmentIn (decode s)
+unfolding fragmentIn packetAt
+fragment-read s h {x} e f = rw e f

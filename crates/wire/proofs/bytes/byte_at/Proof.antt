@@ -1,0 +1,22 @@
+-- A byte at a place, 0 past the end.
+-- Assumes nothing.
+use borrow.Author.Needs.{needs}
+use mathlib.Core.Path.{sym}
+use native.Mathlib.Omega.{arith}
+use Rattle.wire.proofs.Runs.{getD-past}
+use Rattle.wire.proofs.bytes.byte_at.Statement.{statement}
+use Rattle.wire.proofs.bytes.byte_at.Tie as tie
+use Rattle.wire.proofs.bytes.byte_at.Reads as reads
+use Rattle.wire.proofs.bytes.byte_at.Lts as lts
+
+shared-slice-read-result : tie.Need-shared-slice-read-result
+shared-slice-read-result c = search needs
+
+returns : tie.Need-returns
+returns c = search needs
+
+returns-2 : tie.Need-returns-2
+returns-2 c = sym (getD-past (c .before .args .s .now) (c .before .args .at) (omega arith))
+
+pub byte-at-spec : {M : Type 1} → statement M
+byte-at-spec = tie.close (tie.spec shared-slice-read-result returns returns-2)

@@ -1,0 +1,78 @@
+-- The loop joins the differences of all bytes: what is joined so far is 0 and the rests are the same exactly when the lists are.
+-- Assumes nothing.
+use borrow.Author.Needs.{needs}
+use mathlib.Core.Path.{_≡_, refl, sym, _∙_}
+use mathlib.Core.Bool.{_&&_}
+use Prim.Native.Nat.{_≤_, _-_}
+use native.Mathlib.Omega.{arith}
+use lib.Dec.{eqb}
+use lib.ListN.{length, drop}
+use Rattle.protocol.specs.Values.{sameList}
+use Rattle.wire.proofs.Joined.{lengths-differ, byte-differs, same-more, same-end}
+use Rattle.wire.proofs.bytes.same.Statement.{statement}
+use Rattle.wire.proofs.bytes.same.Tie as tie
+use Rattle.wire.proofs.bytes.same.Reads as reads
+use Rattle.wire.proofs.bytes.same.Lts as lts
+
+abbrev Inv-loop : tie.InvT-loop
+Inv-loop a b all₀ i₀ all i = (i ≤ length a) × (sameList a b ≡ eqb all 0 && sameList (drop i a) (drop i b))
+
+abbrev μ-loop : tie.MeasureT-loop
+μ-loop a b all₀ i₀ all i = length a - i
+
+returns : tie.Need-returns Inv-loop μ-loop
+returns c = let a = c .before .before .before .args in sym (lengths-differ (a .a .now) (a .b .now) (c .if1 .taken))
+
+byte-at-requires : tie.Need-byte-at-requires Inv-loop μ-loop
+byte-at-requires c κs = search needs
+
+byte-at-requires-2 : tie.Need-byte-at-requires-2 Inv-loop μ-loop
+byte-at-requires-2 c κs = search needs
+
+returns-2 : tie.Need-returns-2 Inv-loop μ-loop
+returns-2 c = let a = c .before .before .before .before .before .before .args in sym (byte-differs (a .a .now) (a .b .now) 3 (λ e. c .if2 .taken (c .before .before .byte-at .ensures ∙ e ∙ sym (c .before .byte-at2 .ensures))))
+
+loop-holds : tie.Need-loop-holds Inv-loop μ-loop
+loop-holds c = (omega arith, refl)
+
+shared-slice-read-all : tie.Need-shared-slice-read-all Inv-loop μ-loop
+shared-slice-read-all c = omega arith
+
+shared-slice-read-all-2 : tie.Need-shared-slice-read-all-2 Inv-loop μ-loop
+shared-slice-read-all-2 c = omega arith
+
+add-i : tie.Need-add-i Inv-loop μ-loop
+add-i c = omega arith
+
+loop-less : tie.Need-loop-less Inv-loop μ-loop
+loop-less c = omega arith
+
+loop-again : tie.Need-loop-again Inv-loop μ-loop
+loop-again c =
+    let a = c .before .before .before .before .before .before .before .before .before .before .args in
+    let l = c .before .before .before .loop in
+    (omega arith, l .inv .1 ∙ same-more (a .a .now) (a .b .now) (l .i) (l .all) (omega arith) (omega arith))
+
+returns-3 : tie.Need-returns-3 Inv-loop μ-loop
+returns-3 c =
+    let a = c .before .before .before .before .before .before .before .before .args in
+    let l = c .before .loop in
+    sym (l .inv .1 ∙ same-end (a .a .now) (a .b .now) (l .i) (l .all) (omega arith) (omega arith))
+
+pub same-spec : {M : Type 1} → statement M
+same-spec =
+    tie.close
+    (tie.spec
+    Inv-loop
+    μ-loop
+    returns
+    byte-at-requires
+    byte-at-requires-2
+    returns-2
+    loop-holds
+    shared-slice-read-all
+    shared-slice-read-all-2
+    add-i
+    loop-less
+    loop-again
+    returns-3)

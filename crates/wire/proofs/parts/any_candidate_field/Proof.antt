@@ -1,0 +1,66 @@
+-- A candidate that is not blank is let through as such; otherwise its bytes are all zero, or there is no candidate.
+-- Assumes nothing.
+use borrow.Author.Needs.{needs}
+use mathlib.Core.Logic.{⊎-elim}
+use Rattle.protocol.proofs.Leaves.{stops-short, stops-blank}
+use native.Mathlib.Omega.{arith}
+use Rattle.cluster.specs.Config.{shelf}
+use Rattle.protocol.specs.Packet.{anyCandidateF}
+use Rattle.wire.proofs.Through.{past-any-candidate, any-candidate-took, blank-candidate-took}
+use Rattle.wire.proofs.parts.any_candidate_field.Statement.{statement}
+use Rattle.wire.proofs.parts.any_candidate_field.Tie as tie
+use Rattle.wire.proofs.parts.any_candidate_field.Reads as reads
+use Rattle.wire.proofs.parts.any_candidate_field.Lts as lts
+use Rattle.wire.proofs.fields.zero_run.Reads as zero-run-reads
+use Rattle.wire.proofs.parts.candidate_field.Reads as candidate-field-reads
+use Rattle.wire.proofs.sizes.candidate_size.Reads as candidate-size-reads
+
+returns : tie.Need-returns
+returns c = past-any-candidate (shelf (c .before .before .args .t)) (omega arith)
+
+candidate-field-requires : tie.Need-candidate-field-requires
+candidate-field-requires c κs = search needs
+
+enum-known-number : tie.Need-enum-known-number
+enum-known-number c = search needs
+
+enum-told : tie.Need-enum-told
+enum-told c = search needs
+
+candidate-size-requires : tie.Need-candidate-size-requires
+candidate-size-requires c κs = search needs
+
+zero-run-requires : tie.Need-zero-run-requires
+zero-run-requires c κs = search needs
+
+enum-known-c1 : tie.Need-enum-known-c1
+enum-known-c1 c = search needs
+
+enum-told-2 : tie.Need-enum-told-2
+enum-told-2 c = search needs
+
+returns-2 : tie.Need-returns-2
+unfolding anyCandidateF
+returns-2 c = ⊎-elim (λ h. stops-short _ _ _ (rw (c .before .before .before .before .enum-told .given .1) at (c .before .before .before .before .before .before .candidate-field .ensures)) h) (λ h. stops-blank _ _ _ (rw (c .before .before .before .before .enum-told .given .1) at (c .before .before .before .before .before .before .candidate-field .ensures)) (h .0) (h .1)) (rw (c .before .before .before .candidate-size .ensures) at (rw (c .enum-told2 .given .1) at (c .before .before .zero-run .ensures)))
+
+returns-3 : tie.Need-returns-3
+returns-3 c = any-candidate-took (shelf (c .before .before .before .before .before .before .args .t)) (rw (c .before .number .given .1) at (c .before .before .before .candidate-field .ensures))
+
+returns-4 : tie.Need-returns-4
+returns-4 c = blank-candidate-took (shelf (c .before .before .before .before .before .before .before .before .before .before .args .t)) (rw (c .before .before .before .before .before .enum-told .given .1) at (c .before .before .before .before .before .before .before .candidate-field .ensures)) ((rw (c .before .before .before .before .candidate-size .ensures) at (rw (c .before .c1 .given .1) at (c .before .before .before .zero-run .ensures))) .within) ((rw (c .before .before .before .before .candidate-size .ensures) at (rw (c .before .c1 .given .1) at (c .before .before .before .zero-run .ensures))) .zero) ((rw (c .before .before .before .before .candidate-size .ensures) at (rw (c .before .c1 .given .1) at (c .before .before .before .zero-run .ensures))) .place)
+
+pub any-candidate-field-spec : {M : Type 1} → statement M
+any-candidate-field-spec =
+    tie.close
+    (tie.spec
+    returns
+    candidate-field-requires
+    enum-known-number
+    enum-told
+    candidate-size-requires
+    zero-run-requires
+    enum-known-c1
+    enum-told-2
+    returns-2
+    returns-3
+    returns-4)

@@ -1,0 +1,60 @@
+-- A stamp that is not blank is let through as such; otherwise its bytes are all zero, or there is no stamp.
+-- Assumes nothing.
+use borrow.Author.Needs.{needs}
+use mathlib.Core.Logic.{⊎-elim}
+use Rattle.protocol.proofs.Leaves.{stops-short, stops-blank}
+use native.Mathlib.Omega.{arith}
+use Rattle.protocol.specs.Packet.{anyStampF}
+use Rattle.wire.proofs.Through.{past-any-stamp, any-stamp-took, blank-stamp-took}
+use Rattle.wire.proofs.parts.any_stamp_field.Statement.{statement}
+use Rattle.wire.proofs.parts.any_stamp_field.Tie as tie
+use Rattle.wire.proofs.parts.any_stamp_field.Reads as reads
+use Rattle.wire.proofs.parts.any_stamp_field.Lts as lts
+use Rattle.wire.proofs.fields.zero_run.Reads as zero-run-reads
+use Rattle.wire.proofs.parts.stamp_field.Reads as stamp-field-reads
+
+returns : tie.Need-returns
+returns c = past-any-stamp (omega arith)
+
+stamp-field-requires : tie.Need-stamp-field-requires
+stamp-field-requires c κs = search needs
+
+enum-known-number : tie.Need-enum-known-number
+enum-known-number c = search needs
+
+enum-told : tie.Need-enum-told
+enum-told c = search needs
+
+zero-run-requires : tie.Need-zero-run-requires
+zero-run-requires c κs = search needs
+
+enum-known-c1 : tie.Need-enum-known-c1
+enum-known-c1 c = search needs
+
+enum-told-2 : tie.Need-enum-told-2
+enum-told-2 c = search needs
+
+returns-2 : tie.Need-returns-2
+unfolding anyStampF
+returns-2 c = ⊎-elim (λ h. stops-short _ _ _ (rw (c .before .before .before .enum-told .given .1) at (c .before .before .before .before .before .stamp-field .ensures)) h) (λ h. stops-blank _ _ _ (rw (c .before .before .before .enum-told .given .1) at (c .before .before .before .before .before .stamp-field .ensures)) (h .0) (h .1)) (rw (c .enum-told2 .given .1) at (c .before .before .zero-run .ensures))
+
+returns-3 : tie.Need-returns-3
+returns-3 c = any-stamp-took (rw (c .before .number .given .1) at (c .before .before .before .stamp-field .ensures))
+
+returns-4 : tie.Need-returns-4
+returns-4 c = blank-stamp-took (rw (c .before .before .before .before .enum-told .given .1) at (c .before .before .before .before .before .before .stamp-field .ensures)) ((rw (c .before .c1 .given .1) at (c .before .before .before .zero-run .ensures)) .within) ((rw (c .before .c1 .given .1) at (c .before .before .before .zero-run .ensures)) .zero) ((rw (c .before .c1 .given .1) at (c .before .before .before .zero-run .ensures)) .place)
+
+pub any-stamp-field-spec : {M : Type 1} → statement M
+any-stamp-field-spec =
+    tie.close
+    (tie.spec
+    returns
+    stamp-field-requires
+    enum-known-number
+    enum-told
+    zero-run-requires
+    enum-known-c1
+    enum-told-2
+    returns-2
+    returns-3
+    returns-4)

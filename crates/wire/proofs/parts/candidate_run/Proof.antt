@@ -1,0 +1,69 @@
+-- The run of candidates grows by one at each turn, and breaks at the first that is none.
+-- Assumes nothing.
+use borrow.Author.Needs.{needs}
+use mathlib.Core.Path.{_≡_, subst}
+use Prim.Native.Nat.{ℕ, _≤_, _-_, _*_}
+use native.Mathlib.Omega.{arith}
+use lib.ListN.{drop}
+use Rattle.cluster.specs.Config.{shelf}
+use Rattle.protocol.specs.Format.{many}
+use Rattle.protocol.specs.Values.{candidateSize}
+use Rattle.protocol.specs.Packet.{candidateF}
+use Rattle.wire.specs.Places.{candidateList}
+use Rattle.wire.specs.Reads.{Past}
+use Rattle.wire.proofs.Lists.{many-broken, run-none, run-more}
+use Rattle.wire.proofs.parts.candidate_run.Statement.{statement}
+use Rattle.wire.proofs.parts.candidate_run.Tie as tie
+use Rattle.wire.proofs.parts.candidate_run.Reads as reads
+use Rattle.wire.proofs.parts.candidate_run.Lts as lts
+use Rattle.wire.proofs.parts.candidate_field.Reads as candidate-field-reads
+
+abbrev Inv-loop : tie.InvT-loop
+Inv-loop s t n at₀ i₀ at i =
+    (i ≤ n) × Past (many i (candidateF (shelf t))) s at₀ (candidateList (shelf t) i (drop at₀ s)) at (candidateSize (shelf t) * i)
+
+abbrev μ-loop : tie.MeasureT-loop
+μ-loop s t n at₀ i₀ at i = n - i
+
+loop-holds : tie.Need-loop-holds Inv-loop μ-loop
+loop-holds c = (omega arith, run-none (shelf (c .before .args .t)) (omega arith))
+
+candidate-field-requires : tie.Need-candidate-field-requires Inv-loop μ-loop
+candidate-field-requires c κs = search needs
+
+enum-known-number : tie.Need-enum-known-number Inv-loop μ-loop
+enum-known-number c = search needs
+
+enum-told : tie.Need-enum-told Inv-loop μ-loop
+enum-told c = search needs
+
+returns : tie.Need-returns Inv-loop μ-loop
+returns c = many-broken (candidateF (shelf (c .before .before .before .before .before .before .args .t))) (c .before .before .before .before .loop .i) (c .before .before .before .before .before .before .args .n) (omega arith) (c .before .before .before .before .loop .inv .1 .leaves) (rw (c .enum-told .given .1) at (c .before .before .candidate-field .ensures))
+
+add-i : tie.Need-add-i Inv-loop μ-loop
+add-i c = omega arith
+
+loop-less : tie.Need-loop-less Inv-loop μ-loop
+loop-less c = omega arith
+
+loop-again : tie.Need-loop-again Inv-loop μ-loop
+loop-again c = (omega arith, run-more (shelf (c .before .before .before .before .before .before .before .args .t)) (c .before .before .before .before .before .loop .i) (c .before .before .before .before .before .loop .inv .1) (rw (c .before .number .given .1) at (c .before .before .before .candidate-field .ensures)))
+
+returns-2 : tie.Need-returns-2 Inv-loop μ-loop
+returns-2 c = let e : c .before .loop .i ≡ c .before .before .before .args .n = omega arith in subst (λ (k : ℕ). Past (many k (candidateF (shelf (c .before .before .before .args .t)))) (c .before .before .before .args .s .now) (c .before .before .before .args .c .at) (candidateList (shelf (c .before .before .before .args .t)) k (drop (c .before .before .before .args .c .at) (c .before .before .before .args .s .now))) (c .before .loop .at) (candidateSize (shelf (c .before .before .before .args .t)) * k)) e (c .before .loop .inv .1)
+
+pub candidate-run-spec : {M : Type 1} → statement M
+candidate-run-spec =
+    tie.close
+    (tie.spec
+    Inv-loop
+    μ-loop
+    loop-holds
+    candidate-field-requires
+    enum-known-number
+    enum-told
+    returns
+    add-i
+    loop-less
+    loop-again
+    returns-2)

@@ -1,0 +1,56 @@
+-- A stored write is a stamp and a share.
+-- Assumes nothing.
+use borrow.Author.Needs.{needs}
+use Rattle.protocol.proofs.Leaves.{stops-first, stops-second, stops-via}
+use Rattle.cluster.specs.Config.{shelf}
+use Rattle.protocol.specs.Packet.{writeF}
+use Rattle.wire.proofs.Through.{write-took}
+use Rattle.wire.proofs.parts.write_field.Statement.{statement}
+use Rattle.wire.proofs.parts.write_field.Tie as tie
+use Rattle.wire.proofs.parts.write_field.Reads as reads
+use Rattle.wire.proofs.parts.write_field.Lts as lts
+use Rattle.wire.proofs.parts.share_field.Reads as share-field-reads
+use Rattle.wire.proofs.parts.stamp_field.Reads as stamp-field-reads
+
+stamp-field-requires : tie.Need-stamp-field-requires
+stamp-field-requires c κs = search needs
+
+enum-known-number : tie.Need-enum-known-number
+enum-known-number c = search needs
+
+enum-told : tie.Need-enum-told
+enum-told c = search needs
+
+returns : tie.Need-returns
+unfolding writeF
+returns c = stops-via _ _ _ (stops-first _ _ (rw (c .enum-told .given .1) at (c .before .before .stamp-field .ensures)))
+
+share-field-requires : tie.Need-share-field-requires
+share-field-requires c κs = search needs
+
+enum-known-n : tie.Need-enum-known-n
+enum-known-n c = search needs
+
+enum-told-2 : tie.Need-enum-told-2
+enum-told-2 c = search needs
+
+returns-2 : tie.Need-returns-2
+unfolding writeF
+returns-2 c = stops-via _ _ _ (stops-second _ _ ((rw (c .before .before .before .before .number .given .1) at (c .before .before .before .before .before .before .stamp-field .ensures)) .leaves) (rw (c .enum-told2 .given .1) at (c .before .before .share-field .ensures)))
+
+returns-3 : tie.Need-returns-3
+returns-3 c = write-took (shelf (c .before .before .before .before .before .before .before .before .before .args .t)) (rw (c .before .before .before .before .before .number .given .1) at (c .before .before .before .before .before .before .before .stamp-field .ensures)) (rw (c .before .n .given .1) at (c .before .before .before .share-field .ensures))
+
+pub write-field-spec : {M : Type 1} → statement M
+write-field-spec =
+    tie.close
+    (tie.spec
+    stamp-field-requires
+    enum-known-number
+    enum-told
+    returns
+    share-field-requires
+    enum-known-n
+    enum-told-2
+    returns-2
+    returns-3)

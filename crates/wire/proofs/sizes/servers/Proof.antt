@@ -1,0 +1,21 @@
+-- A length, as the definitions give it for the shelf of t.
+-- Assumes nothing.
+use borrow.Author.Needs.{needs}
+use Rattle.cluster.specs.Config.{shelf}
+use Rattle.wire.proofs.sizes.servers.Statement.{statement}
+use Rattle.wire.proofs.sizes.servers.Tie as tie
+use Rattle.wire.proofs.sizes.servers.Reads as reads
+use Rattle.wire.proofs.sizes.servers.Lts as lts
+
+mul-result : tie.Need-mul-result
+mul-result c = search needs
+
+add-result : tie.Need-add-result
+add-result c = search needs
+
+returns : tie.Need-returns
+unfolding shelf
+returns c = search needs
+
+pub servers-spec : {M : Type 1} → statement M
+servers-spec = tie.close (tie.spec mul-result add-result returns)

@@ -1,0 +1,83 @@
+-- What stands at the places of a packet. A packet that is let through is told by its head and its bytes alone:
+-- every field of its body is read by place, in the words of crate protocol's View.
+use mathlib.Core.Bool.{cond}
+use mathlib.Core.List.{List, [], _∷_, _++_}
+use mathlib.Core.Option.{Option, none, some}
+use Prim.Native.Nat.{ℕ, zero, suc, _+_, _*_}
+use lib.Dec.{eqb}
+use lib.ListN.{take, drop, getD, replicate}
+use Rattle.cluster.specs.Config.{Config, shelf}
+use Rattle.erasure.specs.Fragments.{fragmentSize}
+use Rattle.protocol.specs.declared.Head.{Head}
+use Rattle.protocol.specs.Format.{value2}
+use Rattle.protocol.specs.Values.{Candidate, Share, Write, blankStamp, nonceSize, stampSize, digestSize, digestsSize, tagsSize, candidateSize}
+use Rattle.protocol.specs.Packet.{Body, clock, clockReply, store, storeReply, complete, completeReply, collect, collectReply, filter, filterReply, repair, repairReply, Packet, headSize}
+use Rattle.protocol.specs.View.{part, stampAt, candidateAt, shareAt, heldAt}
+use Rattle.wire.specs.declared.values.CandidateHead.{CandidateHead}
+
+abbrev pub blankHead : CandidateHead
+blankHead = record { stamp = blankStamp; nonce = replicate nonceSize 0 }
+
+-- the first n bytes, 0 past the end
+unfoldable pub padded : ℕ → List ℕ → List ℕ
+padded n d = take n (d ++ replicate n 0)
+
+-- the record length at the start of a share, and the bytes of a share of a content of n bytes
+unfoldable pub lengthAt : List ℕ → ℕ
+lengthAt d = value2 (getD d 0 0) (getD d 1 0)
+
+unfoldable pub shareSize : Config → ℕ → ℕ
+shareSize s n = 2 + fragmentSize (s .shares) n + digestsSize s + digestSize + tagsSize s
+
+unfoldable pub writeAt : Config → List ℕ → Write
+writeAt s d = record { stamp = stampAt d; share = shareAt s (drop stampSize d) }
+
+-- n candidates, one after the other
+unfoldable pub candidateList : Config → ℕ → List ℕ → List Candidate
+candidateList s zero d = []
+candidateList s (suc n) d = candidateList s n d ++ (candidateAt s (drop (candidateSize s * n) d) ∷ [])
+
+-- bytes of a stamp, a byte 0 or 1 and, after 1, a share
+unfoldable pub heldSize : Config → List ℕ → ℕ
+heldSize s d = stampSize + 1 + cond (eqb (getD d stampSize 0) 0) 0 (shareSize s (lengthAt (drop (stampSize + 1) d)))
+
+-- the body of kind k, by the places of its fields
+unfoldable pub bodyAt : Config → ℕ → List ℕ → Body
+bodyAt s k d =
+    cond (eqb k 1) clock
+    (cond (eqb k 2) (clockReply (stampAt d))
+    (cond (eqb k 3) (store (writeAt s d))
+    (cond (eqb k 4) (storeReply (getD d 0 0))
+    (cond (eqb k 5) (complete (candidateAt s d))
+    (cond (eqb k 6) completeReply
+    (cond (eqb k 7) collect
+    (cond (eqb k 8) (collectReply (candidateAt s d))
+    (cond (eqb k 9) (filter (candidateList s (getD d 0 0) (drop 1 d)))
+    (cond (eqb k 10) (filterReply (heldAt s d))
+    (cond (eqb k 11) (repair (candidateAt s d)) repairReply))))))))))
+
+unfoldable pub packetAt : Head → List ℕ → Packet
+packetAt h b = record { head = h; body = bodyAt (shelf (h .t)) (h .kind) (drop headSize b) }
+
+-- the fragment of a packet of kind 3 or 10; none in a broken packet and in any other
+unfoldable pub fragmentHeld : Option Share → List ℕ
+fragmentHeld none = []
+fragmentHeld (some h) = h .part
+
+unfoldable pub fragmentOf : Body → List ℕ
+fragmentOf clock = []
+fragmentOf (clockReply x) = []
+fragmentOf (store x) = x .share .part
+fragmentOf (storeReply x) = []
+fragmentOf (complete x) = []
+fragmentOf completeReply = []
+fragmentOf collect = []
+fragmentOf (collectReply x) = []
+fragmentOf (filter x) = []
+fragmentOf (filterReply x) = fragmentHeld (x .share)
+fragmentOf (repair x) = []
+fragmentOf repairReply = []
+
+unfoldable pub fragmentIn : Option Packet → List ℕ
+fragmentIn none = []
+fragmentIn (some p) = fragmentOf (p .body)

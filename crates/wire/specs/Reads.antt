@@ -1,0 +1,146 @@
+-- What each reader's answer says of the bytes from a place on. A reader answers `Broken` exactly where its format takes nothing;
+-- that is document 01's refusal 7. Otherwise it answers a number, and the cursor past the field: the field's value is known by its place.
+use mathlib.Core.Path.{_≡_}
+use mathlib.Core.List.{List}
+use mathlib.Core.Logic.{_⊎_}
+use mathlib.Core.Option.{none, some}
+use mathlib.Core.Bool.{true, false}
+use Prim.Native.Nat.{ℕ, _+_, _-_, _*_, _≤_, _<_}
+use lib.ListN.{length, take, drop, getD}
+use Rattle.cluster.specs.Config.{Config}
+use Rattle.protocol.specs.declared.Stamp.{Stamp}
+use Rattle.protocol.specs.Format.{Fmt, zeros, value4, byte, number2, number4, run, many}
+use Rattle.protocol.specs.Values.{Candidate, Share, Write, Held, stampSize, candidateSize}
+use Rattle.protocol.specs.Packet.{headF, headSize, stampF, anyStampF, shareF, writeF, candidateF, anyCandidateF, candidatesF, heldF, codeF, bodyF, decode}
+use Rattle.protocol.specs.View.{part, stampAt, candidateAt, shareAt, heldAt}
+use Rattle.protocol.specs.Reading.{Leaves, Stops}
+use Rattle.wire.specs.Places.{lengthAt, shareSize, writeAt, candidateList, heldSize, bodyAt, packetAt}
+use Rattle.wire.specs.declared.fields.Field.{Field}
+use Rattle.wire.specs.declared.fields.Field.the-variants as field
+use Rattle.wire.specs.declared.fields.Run.{Run}
+use Rattle.wire.specs.declared.fields.Run.the-variants as runs
+use Rattle.wire.specs.declared.packet.HeadRead.{HeadRead}
+use Rattle.wire.specs.declared.packet.HeadRead.the-variants as heads
+use Rattle.wire.specs.declared.packet.PacketRead.{PacketRead}
+use Rattle.wire.specs.declared.packet.PacketRead.the-variants as packets
+
+-- a field: its format; and, for bytes that begin with it, its value, the number that its reader answers, and its length
+pub record Layout (A : Type 0) : Type 1 where
+  pub format : Fmt A
+  pub value : List ℕ → A
+  pub number : List ℕ → ℕ
+  pub size : List ℕ → ℕ
+
+-- the field was let through: the number v, and the cursor at the place next
+pub record Took {A : Type 0} (L : Layout A) (s : List ℕ) (at v next : ℕ) : Type 0 where
+  pub leaves : Leaves (L .format) s at (L .value (drop at s)) next
+  pub number : v ≡ L .number (drop at s)
+  pub place : next ≡ at + L .size (drop at s)
+
+abbrev pub FieldAs : {A : Type 0} → Layout A → List ℕ → ℕ → Field → Type 0
+FieldAs L s at (field.Value v c) = Took L s at v (c .at)
+FieldAs L s at field.Broken = Stops (L .format) s at
+
+-- ---- the fields
+
+-- a number of w bytes
+abbrev pub numberL : Fmt ℕ → (List ℕ → ℕ) → ℕ → Layout ℕ
+numberL F x w = record { format = F; value = x; number = x; size = λ d. w }
+
+abbrev pub first : List ℕ → ℕ
+first d = getD d 0 0
+
+abbrev pub four : List ℕ → ℕ
+four d = value4 (getD d 0 0) (getD d 1 0) (getD d 2 0) (getD d 3 0)
+
+abbrev pub byteL : ℕ → ℕ → Layout ℕ
+byteL lo hi = numberL (byte lo hi) first 1
+
+abbrev pub number2L : ℕ → ℕ → Layout ℕ
+number2L lo hi = numberL (number2 lo hi) lengthAt 2
+
+abbrev pub number4L : ℕ → ℕ → Layout ℕ
+number4L lo hi = numberL (number4 lo hi) four 4
+
+-- an answer to store
+abbrev pub codeL : Layout ℕ
+codeL = numberL codeF first 1
+
+-- a stamp answers its number, which is 0 for the blank one
+abbrev pub stampL : Layout Stamp
+stampL = record { format = stampF; value = stampAt; number = λ d. stampAt d .number; size = λ d. stampSize }
+
+abbrev pub anyStampL : Layout Stamp
+anyStampL = record { format = anyStampF; value = stampAt; number = λ d. stampAt d .number; size = λ d. stampSize }
+
+-- a share answers the record length
+abbrev pub shareL : Config → Layout Share
+shareL s = record { format = shareF s; value = shareAt s; number = lengthAt; size = λ d. shareSize s (lengthAt d) }
+
+abbrev pub writeL : Config → Layout Write
+writeL s =
+    record {
+      format = writeF s;
+      value = writeAt s;
+      number = λ d. lengthAt (drop stampSize d);
+      size = λ d. stampSize + shareSize s (lengthAt (drop stampSize d));
+    }
+
+-- a candidate answers its stamp's number
+abbrev pub candidateL : Config → Layout Candidate
+candidateL s = record { format = candidateF s; value = candidateAt s; number = λ d. stampAt d .number; size = λ d. candidateSize s }
+
+abbrev pub anyCandidateL : Config → Layout Candidate
+anyCandidateL s = record { format = anyCandidateF s; value = candidateAt s; number = λ d. stampAt d .number; size = λ d. candidateSize s }
+
+-- a list answers its count
+abbrev pub candidatesL : Config → Layout (List Candidate)
+candidatesL s =
+    record {
+      format = candidatesF s;
+      value = λ d. candidateList s (getD d 0 0) (drop 1 d);
+      number = λ d. getD d 0 0;
+      size = λ d. 1 + candidateSize s * getD d 0 0;
+    }
+
+-- what a server holds for a stamp answers the byte after the stamp
+abbrev pub heldL : Config → Layout Held
+heldL s = record { format = heldF s; value = heldAt s; number = λ d. getD d stampSize 0; size = heldSize s }
+
+-- ---- runs of bytes, which have no number
+
+pub record Past {A : Type 0} (F : Fmt A) (s : List ℕ) (at : ℕ) (a : A) (next n : ℕ) : Type 0 where
+  pub leaves : Leaves F s at a next
+  pub place : next ≡ at + n
+
+abbrev pub RunAs : ℕ → List ℕ → ℕ → Run → Type 0
+RunAs n s at (runs.Past c) = Past (run n) s at (part s at n) (c .at) n
+RunAs n s at runs.Broken = Stops (run n) s at
+
+pub record Zeros (n : ℕ) (s : List ℕ) (at next : ℕ) : Type 0 where
+  pub zero : zeros (take n (drop at s)) ≡ true
+  pub within : at + n ≤ length s
+  pub place : next ≡ at + n
+
+abbrev pub ZeroAs : ℕ → List ℕ → ℕ → Run → Type 0
+ZeroAs n s at (runs.Past c) = Zeros n s at (c .at)
+ZeroAs n s at runs.Broken = (length s - at < n) ⊎ ((at + n ≤ length s) × (zeros (take n (drop at s)) ≡ false))
+
+abbrev pub ManyAs : Config → ℕ → List ℕ → ℕ → Run → Type 0
+ManyAs c n s at (runs.Past p) = Past (many n (candidateF c)) s at (candidateList c n (drop at s)) (p .at) (candidateSize c * n)
+ManyAs c n s at runs.Broken = Stops (many n (candidateF c)) s at
+
+-- ---- heads, bodies, packets
+
+abbrev pub HeadAs : List ℕ → HeadRead → Type 0
+HeadAs s (heads.Value h c) = Past headF s 0 h (c .at) headSize
+HeadAs s heads.Broken = Stops headF s 0
+
+abbrev pub BodyAs : Config → ℕ → List ℕ → ℕ → Field → Type 0
+BodyAs c k s at (field.Value v p) = Leaves (bodyF c k) s at (bodyAt c k (drop at s)) (p .at)
+BodyAs c k s at field.Broken = Stops (bodyF c k) s at
+
+-- the packet's head, which with the bytes tells the whole packet; or refusal 7
+abbrev pub PacketAs : List ℕ → PacketRead → Type 0
+PacketAs s (packets.Value h) = decode s ≡ some (packetAt h s)
+PacketAs s packets.Broken = decode s ≡ none

@@ -1,0 +1,136 @@
+// Runs of bytes. Every function takes every argument: past the end there is nothing, and a byte read there is 0.
+ghost use mathlib.Core.Path.{_≡_};
+ghost use Prim.Native.Nat.{_≤_, _<_};
+ghost use lib.ListN.{length, drop, getD};
+ghost use Rattle.hmac.specs.Hmac.{tagSize};
+ghost use Rattle.protocol.specs.Format.{zeros, value2, value4};
+ghost use Rattle.protocol.specs.Values.{sameList, nonceSize};
+ghost use Rattle.protocol.specs.View.{part};
+ghost use Rattle.wire.specs.Places.{padded};
+
+// No byte but 00h. All bytes are joined and none ends the loop, so that it runs on vectors.
+pub fn all_zero(s: &[u8]) -> bool
+    ensures { λ r. ⌜ r ≡ zeros (now (s .entry)) ⌝ }
+{
+    let mut all = 0u8;
+    let mut i = 0;
+    while i < s.len() {
+        all |= s[i];
+        i += 1;
+    }
+    all == 0
+}
+
+// The same bytes. Byte 3 is looked at first, where stamps differ most often: it is the last of their number. No difference ends the loop, as in all_zero.
+pub fn same(a: &[u8], b: &[u8]) -> bool
+    ensures { λ r. ⌜ r ≡ sameList (now (a .entry)) (now (b .entry)) ⌝ }
+{
+    if a.len() != b.len() {
+        return false;
+    }
+    if byte_at(a, 3) != byte_at(b, 3) {
+        return false;
+    }
+    let mut all = 0u8;
+    let mut i = 0;
+    while i < a.len() {
+        all |= a[i] ^ b[i];
+        i += 1;
+    }
+    all == 0
+}
+
+// The bytes from the place at on.
+pub fn rest(s: &[u8], at: usize) -> &[u8]
+    ensures { λ r. ⌜ now r ≡ drop at (now (s .entry)) ⌝ }
+{
+    if s.len() <= at {
+        return &s[..0];
+    }
+    &s[at..]
+}
+
+// At most n bytes from the place at on.
+pub fn part(s: &[u8], at: usize, n: usize) -> &[u8]
+    ensures { λ r. ⌜ now r ≡ part (now (s .entry)) at n ⌝ }
+{
+    if s.len() <= at {
+        return &s[..0];
+    }
+    if s.len() - at <= n {
+        return &s[at..];
+    }
+    let end = at + n;
+    &s[at..end]
+}
+
+pub fn byte_at(s: &[u8], at: usize) -> u8
+    ensures { λ r. ⌜ r ≡ getD (now (s .entry)) at 0 ⌝ }
+{
+    if at < s.len() { s[at] } else { 0 }
+}
+
+fn wide(b: u8) -> u32
+    ensures { λ r. ⌜ (r ≡ b) × (r < 256) ⌝ }
+{
+    b as u32
+}
+
+// The number of the first 2 bytes.
+pub fn number2(s: &[u8]) -> u32
+    ensures { λ r. ⌜ r ≡ value2 (getD (now (s .entry)) 0 0) (getD (now (s .entry)) 1 0) ⌝ }
+{
+    256 * wide(byte_at(s, 0)) + wide(byte_at(s, 1))
+}
+
+// The number of the first 4 bytes.
+pub fn number4(s: &[u8]) -> u32
+    ensures { λ r. ⌜ r ≡ value4 (getD (now (s .entry)) 0 0) (getD (now (s .entry)) 1 0) (getD (now (s .entry)) 2 0) (getD (now (s .entry)) 3 0) ⌝ }
+{
+    16777216 * wide(byte_at(s, 0))
+        + 65536 * wide(byte_at(s, 1))
+        + 256 * wide(byte_at(s, 2))
+        + wide(byte_at(s, 3))
+}
+
+// At most TAG bytes by value, followed by zeros.
+fn tag_from(s: &[u8]) -> [u8; hmac::TAG]
+    requires { ⌜ length (now s) ≤ tagSize ⌝ }
+    ensures { λ r. ⌜ r ≡ padded tagSize (now (s .entry)) ⌝ }
+{
+    let mut a = [0u8; hmac::TAG];
+    let mut i = 0;
+    while i < s.len() {
+        a[i] = s[i];
+        i += 1;
+    }
+    a
+}
+
+// The first bytes as a tag, by value.
+pub fn tag_of(s: &[u8]) -> [u8; hmac::TAG]
+    ensures { λ r. ⌜ r ≡ padded tagSize (now (s .entry)) ⌝ }
+{
+    tag_from(part(s, 0, hmac::TAG))
+}
+
+// At most 32 bytes by value, followed by zeros.
+fn nonce_from(s: &[u8]) -> [u8; cluster::KEY]
+    requires { ⌜ length (now s) ≤ nonceSize ⌝ }
+    ensures { λ r. ⌜ r ≡ padded nonceSize (now (s .entry)) ⌝ }
+{
+    let mut a = [0u8; cluster::KEY];
+    let mut i = 0;
+    while i < s.len() {
+        a[i] = s[i];
+        i += 1;
+    }
+    a
+}
+
+// The first bytes as a nonce or a digest, by value.
+pub fn nonce_of(s: &[u8]) -> [u8; cluster::KEY]
+    ensures { λ r. ⌜ r ≡ padded nonceSize (now (s .entry)) ⌝ }
+{
+    nonce_from(part(s, 0, cluster::KEY))
+}

@@ -1,0 +1,135 @@
+// Readers of single fields. Each answers a number and the cursor past the field, or that the bytes break the layout there.
+ghost use mathlib.Core.Path.{_≡_};
+ghost use Prim.Native.Nat.{_≤_, _<_};
+ghost use lib.ListN.{length};
+ghost use Rattle.wire.specs.Reads.{FieldAs, byteL, number2L, number4L, codeL, RunAs, ZeroAs};
+
+// A place in bytes.
+pub struct Cursor {
+    pub at: usize,
+}
+
+// A field that was let through: its number, and the cursor past it.
+pub enum Field {
+    Value(u32, Cursor),
+    Broken,
+}
+
+// A run of bytes that is there: the cursor past it.
+pub enum Run {
+    Past(Cursor),
+    Broken,
+}
+
+fn wide(b: u8) -> u32
+    ensures { λ r. ⌜ (r ≡ b) × (r < 256) ⌝ }
+{
+    b as u32
+}
+
+// A byte from lo to hi.
+pub fn byte_field(s: &[u8], c: Cursor, lo: u32, hi: u32) -> Field
+    ensures { λ r. ⌜ FieldAs (byteL lo hi) (now (s .entry)) (c .at) r ⌝ }
+{
+    let at = c.at;
+    if s.len() <= at {
+        return Field::Broken;
+    }
+    let v = wide(s[at]);
+    if v < lo {
+        return Field::Broken;
+    }
+    if hi < v {
+        return Field::Broken;
+    }
+    Field::Value(v, Cursor { at: at + 1 })
+}
+
+// A number of 2 bytes, from lo to hi.
+pub fn number2_field(s: &[u8], c: Cursor, lo: u32, hi: u32) -> Field
+    ensures { λ r. ⌜ FieldAs (number2L lo hi) (now (s .entry)) (c .at) r ⌝ }
+{
+    let at = c.at;
+    if s.len() <= at {
+        return Field::Broken;
+    }
+    if s.len() - at < 2 {
+        return Field::Broken;
+    }
+    let v = 256 * wide(s[at]) + wide(s[at + 1]);
+    if v < lo {
+        return Field::Broken;
+    }
+    if hi < v {
+        return Field::Broken;
+    }
+    Field::Value(v, Cursor { at: at + 2 })
+}
+
+// A number of 4 bytes, from lo to hi.
+pub fn number4_field(s: &[u8], c: Cursor, lo: u32, hi: u32) -> Field
+    ensures { λ r. ⌜ FieldAs (number4L lo hi) (now (s .entry)) (c .at) r ⌝ }
+{
+    let at = c.at;
+    if s.len() <= at {
+        return Field::Broken;
+    }
+    if s.len() - at < 4 {
+        return Field::Broken;
+    }
+    let v = 16777216 * wide(s[at])
+        + 65536 * wide(s[at + 1])
+        + 256 * wide(s[at + 2])
+        + wide(s[at + 3]);
+    if v < lo {
+        return Field::Broken;
+    }
+    if hi < v {
+        return Field::Broken;
+    }
+    Field::Value(v, Cursor { at: at + 4 })
+}
+
+// n bytes.
+pub(crate) fn run_field(s: &[u8], c: Cursor, n: usize) -> Run
+    requires { ⌜ c .at ≤ length (now s) ⌝ }
+    ensures { λ r. ⌜ RunAs n (now (s .entry)) (c .at) r ⌝ }
+{
+    let at = c.at;
+    if s.len() - at < n {
+        return Run::Broken;
+    }
+    Run::Past(Cursor { at: at + n })
+}
+
+// n bytes, all zero.
+pub(crate) fn zero_run(s: &[u8], c: Cursor, n: usize) -> Run
+    requires { ⌜ c .at ≤ length (now s) ⌝ }
+    ensures { λ r. ⌜ ZeroAs n (now (s .entry)) (c .at) r ⌝ }
+{
+    let at = c.at;
+    if s.len() - at < n {
+        return Run::Broken;
+    }
+    let end = at + n;
+    if crate::bytes::all_zero(&s[at..end]) {
+        return Run::Past(Cursor { at: end });
+    }
+    Run::Broken
+}
+
+// The answer to a store: 0, 10 or 11.
+pub fn code_field(s: &[u8], c: Cursor) -> Field
+    ensures { λ r. ⌜ FieldAs codeL (now (s .entry)) (c .at) r ⌝ }
+{
+    let Field::Value(v, c1) = byte_field(s, c, 0, 11) else {
+        return Field::Broken;
+    };
+    if v == 0 {
+        return Field::Value(v, c1);
+    }
+    if v < 10 {
+        return Field::Broken;
+    }
+    Field::Value(v, c1)
+}

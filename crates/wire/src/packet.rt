@@ -1,0 +1,152 @@
+// Readers of packets. A packet is let through by its fields, one after another, up to its last byte.
+ghost use mathlib.Core.Path.{_≡_};
+ghost use Prim.Native.Nat.{_≤_};
+ghost use lib.ListN.{length};
+ghost use Rattle.cluster.specs.Config.{shelf};
+ghost use Rattle.protocol.specs.Packet.{decode};
+ghost use Rattle.protocol.specs.View.{shareAt};
+ghost use Rattle.wire.specs.Places.{fragmentIn};
+ghost use Rattle.wire.specs.Reads.{HeadAs, BodyAs, PacketAs};
+use crate::bytes::byte_at;
+use crate::bytes::number2;
+use crate::bytes::part;
+use crate::bytes::rest;
+use crate::fields::Cursor;
+use crate::fields::Field;
+use crate::fields::byte_field;
+use crate::fields::code_field;
+use crate::fields::number4_field;
+use crate::parts::any_candidate_field;
+use crate::parts::any_stamp_field;
+use crate::parts::candidate_field;
+use crate::parts::candidates_field;
+use crate::parts::held_field;
+use crate::parts::write_field;
+
+// A packet's head, and the cursor past it.
+pub enum HeadRead {
+    Value(protocol::Head, Cursor),
+    Broken,
+}
+
+// A packet that was let through; or refusal 7.
+pub enum PacketRead {
+    Value(protocol::Head),
+    Broken,
+}
+
+// kind, client, server, t, call.
+pub fn head_field(s: &[u8]) -> HeadRead
+    ensures { λ r. ⌜ HeadAs (now (s .entry)) r ⌝ }
+{
+    let Field::Value(kind, c1) = byte_field(s, Cursor { at: 0 }, 1, 12) else {
+        return HeadRead::Broken;
+    };
+    let Field::Value(client, c2) = byte_field(s, c1, 1, cluster::TOP_CLIENT as u32) else {
+        return HeadRead::Broken;
+    };
+    let Field::Value(server, c3) = byte_field(s, c2, 1, cluster::MOST_SERVERS as u32) else {
+        return HeadRead::Broken;
+    };
+    let Field::Value(t, c4) = byte_field(s, c3, 1, cluster::TOP_FAULTS as u32) else {
+        return HeadRead::Broken;
+    };
+    let Field::Value(call, c5) = number4_field(s, c4, 1, cluster::TOP_NUMBER as u32) else {
+        return HeadRead::Broken;
+    };
+    if 3 * t + 1 < server {
+        return HeadRead::Broken;
+    }
+    HeadRead::Value(
+        protocol::Head {
+            kind: kind as u8,
+            client: client as u8,
+            server: server as u8,
+            t: t as u8,
+            call,
+        },
+        c5,
+    )
+}
+
+// The body of a packet of a kind from 1 to 12; kinds 1, 6, 7 and 12 have none.
+fn body_field(s: &[u8], c: Cursor, kind: u8, t: u8) -> Field
+    requires { ⌜ (1 ≤ kind) × (kind ≤ 12) × (c .at ≤ length (now s)) ⌝ }
+    ensures { λ r. ⌜ BodyAs (shelf t) kind (now (s .entry)) (c .at) r ⌝ }
+{
+    if kind == 2 {
+        return any_stamp_field(s, c); // clock reply: a stamp, or the blank
+    }
+    if kind == 3 {
+        return write_field(s, c, t); // store: a stored write
+    }
+    if kind == 4 {
+        return code_field(s, c); // store reply: 0, 10 or 11
+    }
+    if kind == 8 {
+        return any_candidate_field(s, c, t); // collect reply: a candidate, or the blank
+    }
+    if kind == 5 {
+        return candidate_field(s, c, t); // complete: a candidate
+    }
+    if kind == 9 {
+        return candidates_field(s, c, t); // filter: a list of candidates
+    }
+    if kind == 10 {
+        return held_field(s, c, t); // filter reply: what is held for a stamp, or the blank
+    }
+    if kind == 11 {
+        return candidate_field(s, c, t); // repair: a candidate
+    }
+    Field::Value(0, c)
+}
+
+// A whole packet of any kind.
+pub fn read_packet(packet: &[u8]) -> PacketRead
+    ensures { λ r. ⌜ PacketAs (now (packet .entry)) r ⌝ }
+{
+    let HeadRead::Value(head, c1) = head_field(packet) else {
+        return PacketRead::Broken;
+    };
+    let kind = head.kind;
+    let t = head.t;
+    let Field::Value(v, c2) = body_field(packet, c1, kind, t) else {
+        return PacketRead::Broken;
+    };
+    let end = c2.at;
+    if end < packet.len() {
+        return PacketRead::Broken;
+    }
+    PacketRead::Value(head)
+}
+
+// The fragment in a share.
+pub fn share_fragment(share: &[u8], t: u8) -> &[u8]
+    ensures { λ r. ⌜ now r ≡ shareAt (shelf t) (now (share .entry)) .part ⌝ }
+{
+    part(share, 2, crate::sizes::fragment_size(t, number2(share)))
+}
+
+// The fragment in a packet of kind 3 or 10, as that part of the packet; the empty part where the packet is broken or has none.
+pub fn fragment(packet: &[u8]) -> &[u8]
+    ensures { λ r. ⌜ now r ≡ fragmentIn (decode (now (packet .entry))) ⌝ }
+{
+    let PacketRead::Value(head) = read_packet(packet) else {
+        return &packet[..0];
+    };
+    let kind = head.kind;
+    let t = head.t;
+    if kind == 3 {
+        return share_fragment(rest(packet, crate::sizes::HEAD + crate::sizes::STAMP), t);
+    }
+    if kind != 10 {
+        return &packet[..0];
+    }
+    if byte_at(packet, crate::sizes::HEAD + crate::sizes::STAMP) == 0 {
+        return &packet[..0];
+    }
+    share_fragment(
+        rest(packet, crate::sizes::HEAD + crate::sizes::STAMP + 1),
+        t,
+    )
+}

@@ -1,0 +1,182 @@
+// Readers of the parts of packets: each lets its fields through one after another.
+ghost use mathlib.Core.Path.{_≡_};
+ghost use mathlib.Core.Bool.{cond};
+ghost use Prim.Native.Nat.{_≤_};
+ghost use lib.Dec.{eqb};
+ghost use lib.ListN.{length};
+ghost use Rattle.cluster.specs.Config.{shelf};
+ghost use Rattle.wire.specs.Reads.{FieldAs, stampL, anyStampL, shareL, writeL, candidateL, anyCandidateL, candidatesL, heldL, ManyAs};
+use crate::fields::Cursor;
+use crate::fields::Field;
+use crate::fields::Run;
+use crate::fields::byte_field;
+use crate::fields::number2_field;
+use crate::fields::number4_field;
+use crate::fields::run_field;
+use crate::fields::zero_run;
+
+// A stamp that is not blank: number, writer, tag.
+pub fn stamp_field(s: &[u8], c: Cursor) -> Field
+    ensures { λ r. ⌜ FieldAs stampL (now (s .entry)) (c .at) r ⌝ }
+{
+    let Field::Value(number, c1) = number4_field(s, c, 1, cluster::TOP_NUMBER as u32) else {
+        return Field::Broken;
+    };
+    let Field::Value(writer, c2) = byte_field(s, c1, 1, cluster::TOP_WRITER as u32) else {
+        return Field::Broken;
+    };
+    let Run::Past(c3) = run_field(s, c2, hmac::TAG) else {
+        return Field::Broken;
+    };
+    Field::Value(number, c3)
+}
+
+// A stamp that may be blank.
+pub fn any_stamp_field(s: &[u8], c: Cursor) -> Field
+    ensures { λ r. ⌜ FieldAs anyStampL (now (s .entry)) (c .at) r ⌝ }
+{
+    let at = c.at;
+    if s.len() < at {
+        return Field::Broken;
+    }
+    match stamp_field(s, c) {
+        Field::Value(number, c1) => Field::Value(number, c1),
+        Field::Broken => {
+            let Run::Past(c1) = zero_run(s, c, crate::sizes::STAMP) else {
+                return Field::Broken;
+            };
+            Field::Value(0, c1)
+        }
+    }
+}
+
+// A share: record length, fragment, S digests, nonce digest, S tags.
+pub fn share_field(s: &[u8], c: Cursor, t: u8) -> Field
+    ensures { λ r. ⌜ FieldAs (shareL (shelf t)) (now (s .entry)) (c .at) r ⌝ }
+{
+    let Field::Value(n, c1) = number2_field(
+        s,
+        c,
+        cluster::LEAST_LENGTH as u32,
+        cluster::TOP_LENGTH as u32,
+    ) else {
+        return Field::Broken;
+    };
+    let Run::Past(c2) = run_field(s, c1, crate::sizes::fragment_size(t, n)) else {
+        return Field::Broken;
+    };
+    let Run::Past(c3) = run_field(s, c2, crate::sizes::digests_size(t)) else {
+        return Field::Broken;
+    };
+    let Run::Past(c4) = run_field(s, c3, crate::sizes::DIGEST) else {
+        return Field::Broken;
+    };
+    let Run::Past(c5) = run_field(s, c4, crate::sizes::tags_size(t)) else {
+        return Field::Broken;
+    };
+    Field::Value(n, c5)
+}
+
+// A stored write: its stamp and its share.
+pub fn write_field(s: &[u8], c: Cursor, t: u8) -> Field
+    ensures { λ r. ⌜ FieldAs (writeL (shelf t)) (now (s .entry)) (c .at) r ⌝ }
+{
+    let Field::Value(number, c1) = stamp_field(s, c) else {
+        return Field::Broken;
+    };
+    let Field::Value(n, c2) = share_field(s, c1, t) else {
+        return Field::Broken;
+    };
+    Field::Value(n, c2)
+}
+
+// A candidate that is not blank: stamp, nonce, S tags.
+pub fn candidate_field(s: &[u8], c: Cursor, t: u8) -> Field
+    ensures { λ r. ⌜ FieldAs (candidateL (shelf t)) (now (s .entry)) (c .at) r ⌝ }
+{
+    let Field::Value(number, c1) = stamp_field(s, c) else {
+        return Field::Broken;
+    };
+    let Run::Past(c2) = run_field(s, c1, crate::sizes::NONCE) else {
+        return Field::Broken;
+    };
+    let Run::Past(c3) = run_field(s, c2, crate::sizes::tags_size(t)) else {
+        return Field::Broken;
+    };
+    Field::Value(number, c3)
+}
+
+// A candidate that may be blank, which is then all zero.
+pub fn any_candidate_field(s: &[u8], c: Cursor, t: u8) -> Field
+    ensures { λ r. ⌜ FieldAs (anyCandidateL (shelf t)) (now (s .entry)) (c .at) r ⌝ }
+{
+    let at = c.at;
+    if s.len() < at {
+        return Field::Broken;
+    }
+    match candidate_field(s, c, t) {
+        Field::Value(number, c1) => Field::Value(number, c1),
+        Field::Broken => {
+            let Run::Past(c1) = zero_run(s, c, crate::sizes::candidate_size(t)) else {
+                return Field::Broken;
+            };
+            Field::Value(0, c1)
+        }
+    }
+}
+
+// n candidates, one after the other.
+pub(crate) fn candidate_run(s: &[u8], c: Cursor, t: u8, n: u32) -> Run
+    requires { ⌜ c .at ≤ length (now s) ⌝ }
+    ensures { λ r. ⌜ ManyAs (shelf t) n (now (s .entry)) (c .at) r ⌝ }
+{
+    let mut at = c.at;
+    let mut i = 0;
+    while i < n {
+        let Field::Value(number, next) = candidate_field(s, Cursor { at }, t) else {
+            return Run::Broken;
+        };
+        at = next.at;
+        i += 1;
+    }
+    Run::Past(Cursor { at })
+}
+
+// A count from 0 to S and so many candidates.
+pub fn candidates_field(s: &[u8], c: Cursor, t: u8) -> Field
+    ensures { λ r. ⌜ FieldAs (candidatesL (shelf t)) (now (s .entry)) (c .at) r ⌝ }
+{
+    let Field::Value(n, c1) = byte_field(s, c, 0, crate::sizes::servers(t) as u32) else {
+        return Field::Broken;
+    };
+    let Run::Past(c2) = candidate_run(s, c1, t, n) else {
+        return Field::Broken;
+    };
+    Field::Value(n, c2)
+}
+
+// Byte 1 follows only a stamp that is not blank.
+fn held_most(number: u32) -> u32
+    ensures { λ r. ⌜ r ≡ cond (eqb number 0) 0 1 ⌝ }
+{
+    if number == 0 { 0 } else { 1 }
+}
+
+// What a server holds for a stamp: the stamp, a byte 0 or 1 and, after 1, a share.
+pub fn held_field(s: &[u8], c: Cursor, t: u8) -> Field
+    ensures { λ r. ⌜ FieldAs (heldL (shelf t)) (now (s .entry)) (c .at) r ⌝ }
+{
+    let Field::Value(number, c1) = any_stamp_field(s, c) else {
+        return Field::Broken;
+    };
+    let Field::Value(flag, c2) = byte_field(s, c1, 0, held_most(number)) else {
+        return Field::Broken;
+    };
+    if flag == 0 {
+        return Field::Value(flag, c2);
+    }
+    let Field::Value(n, c3) = share_field(s, c2, t) else {
+        return Field::Broken;
+    };
+    Field::Value(flag, c3)
+}

@@ -1,0 +1,47 @@
+// The lengths of packets' parts, as the definitions give them for a shelf's t.
+ghost use mathlib.Core.Path.{_≡_};
+ghost use Rattle.cluster.specs.Config.{shelf};
+ghost use Rattle.erasure.specs.Fragments.{fragmentSize};
+ghost use Rattle.protocol.specs.Values.{digestsSize, tagsSize, candidateSize};
+ghost use Rattle.wire.specs.Places.{shareSize};
+
+// Bytes of a digest, of a nonce, of a stamp and of a packet's head.
+pub const DIGEST: usize = cluster::KEY;
+
+pub const NONCE: usize = cluster::KEY;
+
+pub const STAMP: usize = 5 + hmac::TAG;
+
+pub const HEAD: usize = 8;
+
+// S.
+pub fn servers(t: u8) -> usize
+    ensures { λ r. ⌜ r ≡ shelf t .servers ⌝ }
+{
+    3 * (t as usize) + 1
+}
+
+pub fn digests_size(t: u8) -> usize
+    ensures { λ r. ⌜ r ≡ digestsSize (shelf t) ⌝ }
+{
+    DIGEST * (3 * (t as usize) + 1)
+}
+
+pub fn tags_size(t: u8) -> usize
+    ensures { λ r. ⌜ r ≡ tagsSize (shelf t) ⌝ }
+{
+    hmac::TAG * (3 * (t as usize) + 1)
+}
+
+pub fn candidate_size(t: u8) -> usize
+    ensures { λ r. ⌜ r ≡ candidateSize (shelf t) ⌝ }
+{
+    STAMP + NONCE + hmac::TAG * (3 * (t as usize) + 1)
+}
+
+// Bytes of a fragment of a content of n bytes.
+pub fn fragment_size(t: u8, n: u32) -> usize
+    ensures { λ r. ⌜ r ≡ fragmentSize (shelf t .shares) n ⌝ }
+{
+    ((n as usize) + (t as usize)) / ((t as usize) + 1)
+}
