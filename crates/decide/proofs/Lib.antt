@@ -12,3 +12,4 @@ pub mod Firsts
 pub mod Rises
 pub mod Restoring
 pub mod Outcomes
+pub mod Found

@@ -133,6 +133,13 @@ share-sized : (t : ℕ) (kept : List ℕ) (j : ℕ)
 unfolding shareOf shareAt shareOfSize
 share-sized t kept j = let z : suc j - 1 ≡ j = omega arith in rw z
 
+pub share-in : (t : ℕ) (kept : List ℕ) (j : ℕ)
+    → shareOf t kept (suc j) ≡ shareOfSize (shelf t) (sizeIn (replySlotOf kept j)) (drop (stampSize + 1) (replySlotOf kept j))
+unfolding shareOf shareAt
+share-in t kept j =
+    let z : suc j - 1 ≡ j = omega arith in
+    rw (z, getD-drop (stampSize + 1) (replySlotOf kept j) 0 0, getD-drop (stampSize + 1) (replySlotOf kept j) 1 0)
+
 -- the tags of a reply in the kept bytes
 pub reply-tags : (t : ℕ) (kept : List ℕ) (j n at : ℕ) → n ≡ shareOf t kept (suc j) .size
     → at ≡ repliesAt + replySlot * j + (stampSize + 3 + fragmentSize (shelf t .shares) n + digestsSize (shelf t) + digestSize)

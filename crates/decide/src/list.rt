@@ -11,8 +11,8 @@ use crate::CANDIDATE_SLOT;
 use crate::CANDIDATES;
 use crate::NAME;
 use crate::sizes::rank_at;
-use crate::sizes::same;
 use crate::sizes::servers;
+use wire::bytes::same;
 
 // Whether slots i and j hold the same candidate.
 pub(crate) fn twins(kept: &[u8], t: usize, i: usize, j: usize) -> bool

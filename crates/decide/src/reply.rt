@@ -16,9 +16,9 @@ use crate::REPLIES;
 use crate::REPLY_SLOT;
 use crate::STAMP;
 use crate::sizes::digests_at;
-use crate::sizes::same;
 use crate::sizes::servers;
 use crate::sizes::size_of;
+use wire::bytes::same;
 
 // Whether a reply names the candidate: its stamp, a share, a length in its range, and the nonce's digest d. No fragment is digested.
 pub(crate) fn names(reply: &[u8], candidate: &[u8], t: usize, d: &[u8]) -> bool

@@ -6,7 +6,7 @@ ghost use Rattle.cluster.specs.Config.{shelf};
 ghost use Rattle.cluster.specs.Ranges.{topLength};
 ghost use Rattle.erasure.specs.Fragments.{fragmentSize};
 ghost use Rattle.protocol.specs.Format.{value2};
-ghost use Rattle.protocol.specs.Values.{stampSize, sameList};
+ghost use Rattle.protocol.specs.Values.{stampSize};
 ghost use Rattle.protocol.specs.ClientBytes.{put};
 ghost use Rattle.protocol.specs.View.{replySlot};
 ghost use Rattle.decide.specs.Steps.{rankAt, DigestsAt};
@@ -72,23 +72,6 @@ pub(crate) fn rank_at(kept: &[u8], at: usize) -> u64
     let d = wide(kept[at + 3]);
     let e = wide(kept[at + 4]);
     256 * (16777216 * a + 65536 * b + 256 * c + d) + e
-}
-
-// Whether two runs of bytes are the same.
-pub(crate) fn same(a: &[u8], b: &[u8]) -> bool
-    ensures { λ r. ⌜ r ≡ sameList (now (a .entry)) (now (b .entry)) ⌝ }
-{
-    if a.len() != b.len() {
-        return false;
-    }
-    let mut i = 0;
-    while i < a.len() {
-        if a[i] != b[i] {
-            return false;
-        }
-        i += 1;
-    }
-    true
 }
 
 // Copies src to a place of out.
