@@ -48,6 +48,7 @@ keep-in p q (x ∷ xs) h = go (q x) h (keep-in p q xs)
     more : (b : Bool) → (any p (keep q xs) ≡ true → any p xs ≡ true) → (b || any p (keep q xs)) ≡ true → (b || any p xs) ≡ true
     more true f e = refl
     more false f e = f e
+
     go : (b : Bool) → any p (cond b (x ∷ keep q xs) (keep q xs)) ≡ true → (any p (keep q xs) ≡ true → any p xs ≡ true) → (p x || any p xs) ≡ true
     go true e f = more (p x) f e
     go false e f = rw (f e) (or-true (p x))
@@ -68,6 +69,7 @@ module _ (held : ByServer Candidate) (c : Candidate) where
               absurd (subst T (sym (candidate-refl c) ∙ subst (λ (x : Candidate). sameCandidate x c ≡ false) (sym s) q) tt)
           go true false w = any-append (sameCandidate c) (gather held n) (held (suc n) ∷ []) ∙ rw (e, w)
           go false z w = e
+
       by-here : (y : Bool) → sameCandidate (held (suc n)) c ≡ y → ltb (slotOf held c n) n ≡ false
           → (any (sameCandidate c) (gather held n) ≡ true → slotOf held c n < n) → cond y n (suc n) < suc n
       by-here true q e f = omega arith
@@ -76,6 +78,7 @@ module _ (held : ByServer Candidate) (c : Candidate) where
           out : (z : Bool) → any (sameCandidate c) (gather held n) ≡ z → suc n < suc n
           out true w = absurd (let l = f w in let k = ltb-false (slotOf held c n) n e in omega arith)
           out false w = absurd (subst T (sym h ∙ never q w) tt)
+
       by-before : (b : Bool) → ltb (slotOf held c n) n ≡ b → (any (sameCandidate c) (gather held n) ≡ true → slotOf held c n < n)
           → cond b (slotOf held c n) (cond (sameCandidate (held (suc n)) c) n (suc n)) < suc n
       by-before true e f = let l = ltb-true (slotOf held c n) n e in omega arith
@@ -89,6 +92,7 @@ module _ (held : ByServer Candidate) (c : Candidate) where
       by-here : (y : Bool) → sameCandidate (held (suc n)) c ≡ y → cond y n (suc n) < suc n → held (suc (cond y n (suc n))) ≡ c
       by-here true q k = candidate-same (held (suc n)) c q
       by-here false q k = absurd (omega arith)
+
       by-before : (b : Bool) → ltb (slotOf held c n) n ≡ b → cond b (slotOf held c n) (cond (sameCandidate (held (suc n)) c) n (suc n)) < suc n
           → (slotOf held c n < n → held (suc (slotOf held c n)) ≡ c) → held (suc (cond b (slotOf held c n) (cond (sameCandidate (held (suc n)) c) n (suc n)))) ≡ c
       by-before true e k f = f (ltb-true (slotOf held c n) n e)
@@ -102,8 +106,8 @@ unfolding choice highest live
 chosen-slot s m g held c h =
     let w = first-in (proven real s m g) (highest real s (live real s m g (gather held (s .servers)))) c h in
     let v = keep-in (sameCandidate c) (λ (x : Candidate). ltb (countTo (s .servers) (lower real s m g x)) (quorum s)) (gather held (s .servers))
-        (keep-in (sameCandidate c) (λ (x : Candidate). not (any (λ (d : Candidate). below (x .stamp) (d .stamp)) (live real s m g (gather held (s .servers)))))
-        (live real s m g (gather held (s .servers))) (w .0)) in
+    (keep-in (sameCandidate c) (λ (x : Candidate). not (any (λ (d : Candidate). below (x .stamp) (d .stamp)) (live real s m g (gather held (s .servers)))))
+    (live real s m g (gather held (s .servers))) (w .0)) in
     let l = slot-within held c (s .servers) v in
     (l, slot-holds held c (s .servers) l, w .1)
 
@@ -118,8 +122,16 @@ found-tags t ms kept i b u l h =
     let k : b < 13 = omega (arith, w .1, shelf-fits t (u .low) (u .high) .few) in
     let q = leader-full t ms kept i (sha256 (candidatesIn (shelf t) kept (suc i) .nonce)) refl b k (f .0) in
     let m = fits-named t ms kept i (sha256 (candidatesIn (shelf t) kept (suc i) .nonce)) refl b k (f .0) .0 in
-    rw (le-leb 1 t (u .low), le-leb t 4 (u .high), eq-eqb (length kept) keptSize (u .size), lt-ltb i (shelf t .servers) l, le-leb 1 (suc b) (omega arith), le-leb (suc b) (shelf t .servers) (w .1),
-    reply-in (shelf t) ms kept b k m, held-share (shelf t) (replySlotOf kept b) (q .flag))
+    rw (
+      le-leb 1 t (u .low),
+      le-leb t 4 (u .high),
+      eq-eqb (length kept) keptSize (u .size),
+      lt-ltb i (shelf t .servers) l,
+      le-leb 1 (suc b) (omega arith),
+      le-leb (suc b) (shelf t .servers) (w .1),
+      reply-in (shelf t) ms kept b k m,
+      held-share (shelf t) (replySlotOf kept b) (q .flag),
+    )
     (at-slot t kept i b q)
   where
     at-slot : (t : ℕ) (kept : List ℕ) (i b : ℕ) → Full (replySlotOf kept b)
