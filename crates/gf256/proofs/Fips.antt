@@ -90,8 +90,8 @@ unfolding product
 product-le zero a b = zero-le
 product-le (suc n) a b =
     let e : a * b ≡ a * 2 * (b / 2) + b % 2 * a =
-          ap (λ (x : ℕ). a * x) (sym (div-add-mod' b 2)) ∙ mul-add a (b / 2 * 2) (b % 2)
-          ∙ ap₂ (λ (x y : ℕ). x + y) (ap (λ (x : ℕ). a * x) (mul-comm (b / 2) 2) ∙ sym (mul-assoc a 2 (b / 2))) (mul-comm a (b % 2)) in
+    ap (λ (x : ℕ). a * x) (sym (div-add-mod' b 2)) ∙ mul-add a (b / 2 * 2) (b % 2)
+    ∙ ap₂ (λ (x y : ℕ). x + y) (ap (λ (x : ℕ). a * x) (mul-comm (b / 2) 2) ∙ sym (mul-assoc a 2 (b / 2))) (mul-comm a (b % 2)) in
     omega (arith, e, xor-le (b % 2 * a) (product n (a * 2) (b / 2)), product-le n (a * 2) (b / 2))
 
 -- the highest bit apart
@@ -103,7 +103,7 @@ product-last (suc n) a b =
     ap (bitXor (b % 2 * a)) (product-last n (a * 2) (b / 2))
     ∙ sym (xor-assoc (b % 2 * a) (product n (a * 2) (b / 2)) (b / 2 / 2 ^ n % 2 * (a * 2 * 2 ^ n)))
     ∙ ap₂ (λ (x y : ℕ). bitXor (bitXor (b % 2 * a) (product n (a * 2) (b / 2))) (x % 2 * y)) (div-div-eq-div-mul b 2 (2 ^ n) ∙ ap (λ (x : ℕ). b / x) (sym (pow-succ' 2 n)))
-        (mul-assoc a 2 (2 ^ n) ∙ ap (λ (x : ℕ). a * x) (sym (pow-succ' 2 n)))
+    (mul-assoc a 2 (2 ^ n) ∙ ap (λ (x : ℕ). a * x) (sym (pow-succ' 2 n)))
 
 xor-eq : (a b : ℕ) → bitXor a b ≡ 0 → a ≡ b
 xor-eq a b e = sym (xor-zero-r a) ∙ ap (bitXor a) (sym (xor-self b)) ∙ sym (xor-assoc a b b) ∙ ap (λ (x : ℕ). bitXor x b) e
@@ -131,8 +131,8 @@ remainder-unique a b c d r s =
     let m : ℕ = product 9 (r .multiple) 0x11b in
     let n : ℕ = product 9 (s .multiple) 0x11b in
     let both : bitXor (bitXor c d) (bitXor m n) ≡ 0 =
-          xor-swap c d m n ∙ ap₂ bitXor (sym (r .equal)) (sym (s .equal)) ∙ xor-self (product 8 a b) in
+    xor-swap c d m n ∙ ap₂ bitXor (sym (r .equal)) (sym (s .equal)) ∙ xor-self (product 8 a b) in
     let sum : bitXor c d ≡ multipleOf (bitXor (r .multiple) (s .multiple)) = xor-eq (bitXor c d) (bitXor m n) both ∙ sym (product-xor 9 (r .multiple) (s .multiple) 0x11b) in
     let none : bitXor (r .multiple) (s .multiple) ≡ 0 =
-          high (bitXor (r .multiple) (s .multiple)) (subst (λ (x : ℕ). x < 256) sum (xor-lt 8 c d (r .small) (s .small))) in
+    high (bitXor (r .multiple) (s .multiple)) (subst (λ (x : ℕ). x < 256) sum (xor-lt 8 c d (r .small) (s .small))) in
     xor-eq c d (sum ∙ ap (λ (q : ℕ). product 9 q 0x11b) none ∙ product-nil 9 0x11b)
