@@ -2,7 +2,7 @@
 ghost use mathlib.Core.Path.{_≡_};
 ghost use Prim.Native.Nat.{ℕ, _<_, _≤_};
 ghost use lib.ListN.{getD};
-ghost use Rattle.erasure.specs.System.{width, productTo, factorAt, directAt};
+ghost use Rattle.erasure.specs.System.{width, factorAt, directAt};
 
 const WIDTH: usize = crate::system::WIDTH;
 
@@ -14,18 +14,21 @@ fn factor(points: [u8; WIDTH], j: usize, z: u8, m: usize) -> u8
     if m == j { 1 } else { z ^ points[m] }
 }
 
-// The product of z less each of the other points.
-fn others(points: [u8; WIDTH], k: usize, j: usize, z: u8) -> u8
-    requires { ⌜ k ≤ width ⌝ }
-    ensures { λ r. ⌜ r ≡ productTo k (factorAt points j z) ⌝ }
+// What the j-th value counts for at z: the product of z less each other point, over that of point j less each.
+fn weight(points: [u8; WIDTH], k: usize, j: usize, z: u8) -> u8
+    requires { ⌜ (k ≤ width) × (j < width) ⌝ }
+    ensures { λ r. ⌜ r ≡ directAt k points z j ⌝ }
 {
-    let mut out = 1u8;
+    let x = points[j];
+    let mut top = 1u8;
+    let mut own = 1u8;
     let mut m: usize = 0;
     while m < k {
-        out = crate::bits::product(out, factor(points, j, z, m));
+        top = crate::bits::product(top, factor(points, j, z, m));
+        own = crate::bits::product(own, factor(points, j, x, m));
         m += 1;
     }
-    out
+    crate::bits::product(top, gf256::inverse(own))
 }
 
 // The weights of the k values at z.
@@ -36,8 +39,7 @@ pub(crate) fn weights(points: [u8; WIDTH], k: usize, z: u8) -> [u8; WIDTH]
     let mut out = [0u8; WIDTH];
     let mut j: usize = 0;
     while j < k {
-        let own = others(points, k, j, points[j]);
-        out[j] = crate::bits::product(others(points, k, j, z), gf256::inverse(own));
+        out[j] = weight(points, k, j, z);
         j += 1;
     }
     out

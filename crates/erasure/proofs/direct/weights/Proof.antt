@@ -1,4 +1,4 @@
--- Each entry is a product over the other points, times an inverse.
+-- Each entry is what `weight` gives there.
 use mathlib.Core.Path.{_≡_, refl, sym, ap, ap₂, subst, _∙_}
 use mathlib.Core.Logic.{_≢_}
 use mathlib.Core.List.{List, [], _∷_, _++_, map}
@@ -12,39 +12,25 @@ use mir.Val.{Fits}
 use mir.Syntax.{w8}
 use Rattle.gf256.specs.Gf.{xtime, timesBits, times, power, inverse}
 use Rattle.gf256.proofs.Fill.{fill-more}
-use Rattle.erasure.specs.System.{width, productTo, factorAt, directAt}
+use Rattle.erasure.specs.System.{width, directAt}
 use borrow.Author.Needs.{needs}
 use Rattle.erasure.proofs.direct.weights.Statement.{statement}
 use Rattle.erasure.proofs.direct.weights.Tie as tie
 use Rattle.erasure.proofs.direct.weights.Reads as reads
 use Rattle.erasure.proofs.direct.weights.Lts as lts
-use Rattle.erasure.proofs.bits.product.Reads as product-reads
-use Rattle.erasure.proofs.direct.others.Reads as others-reads
-use Rattle.gf256.proofs.inverse.Reads as inverse-reads
+use Rattle.erasure.proofs.direct.weight.Reads as weight-reads
 
 abbrev Inv-loop : tie.InvT-loop
-Inv-loop k z points out₀ j₀ out j = (j ≤ k) × (length out ≡ width) × ((i : ℕ) → i < j → getD out i 0 ≡ directAt k points z i)
+Inv-loop points k z out₀ j₀ out j = (j ≤ k) × (length out ≡ width) × ((i : ℕ) → i < j → getD out i 0 ≡ directAt k points z i)
 
 abbrev μ-loop : tie.MeasureT-loop
-μ-loop k z points out₀ j₀ out j = k - j
+μ-loop points k z out₀ j₀ out j = k - j
 
 loop-holds : tie.Need-loop-holds Inv-loop μ-loop
 loop-holds c = (search needs, refl, λ i h. absurd (omega arith))
 
-array-read-others : tie.Need-array-read-others Inv-loop μ-loop
-array-read-others c = search needs
-
-others-requires : tie.Need-others-requires Inv-loop μ-loop
-others-requires c κs = search needs
-
-others-requires-2 : tie.Need-others-requires-2 Inv-loop μ-loop
-others-requires-2 c κs = search needs
-
-inverse-requires : tie.Need-inverse-requires Inv-loop μ-loop
-inverse-requires c κs = search needs
-
-product-requires : tie.Need-product-requires Inv-loop μ-loop
-product-requires c κs = search needs
+weight-requires : tie.Need-weight-requires Inv-loop μ-loop
+weight-requires c κs = search needs
 
 array-write-out : tie.Need-array-write-out Inv-loop μ-loop
 array-write-out c = search needs
@@ -56,15 +42,12 @@ loop-less : tie.Need-loop-less Inv-loop μ-loop
 loop-less c = search needs
 
 loop-again : tie.Need-loop-again Inv-loop μ-loop
-unfolding directAt
 loop-again c =
-    let l = c .before .before .before .before .before .loop in
-    let args = c .before .before .before .before .before .before .args in
-    let v = c .product .result in (
+    let l = c .before .before .loop in
+    let args = c .before .before .before .args in (
       search needs,
-      length-set (l .out) (l .j) v ∙ l .inv .1,
-      fill-more 0 (λ i v. v ≡ directAt (args .k) (args .t1) (args .z) i) (l .out) (l .j) v (omega arith) (l .inv .2)
-          (c .product .ensures ∙ ap₂ times (c .before .before .others2 .ensures) (c .before .inverse .ensures ∙ ap inverse (c .before .before .before .others .ensures))),
+      length-set (l .out) (l .j) (c .weight .result) ∙ l .inv .1,
+      fill-more 0 (λ i v. v ≡ directAt (args .k) (args .points) (args .z) i) (l .out) (l .j) (c .weight .result) (omega arith) (l .inv .2) (c .weight .ensures),
     )
 
 returns : tie.Need-returns Inv-loop μ-loop
@@ -77,11 +60,7 @@ weights-spec =
     Inv-loop
     μ-loop
     loop-holds
-    array-read-others
-    others-requires
-    others-requires-2
-    inverse-requires
-    product-requires
+    weight-requires
     array-write-out
     add-j
     loop-less
