@@ -20,7 +20,9 @@ use Rattle.protocol.specs.Client.{badFaults}
 use Rattle.wire.specs.Places.{packetAt}
 use Rattle.protocol.specs.ServerBytes.{over}
 use Rattle.protocol.specs.View.{marked, part, repliesAt, replySlot}
-use Rattle.protocol.specs.ClientBytes.{Written, awaited, keyOf, put}
+use Rattle.protocol.specs.Primitives.{real}
+use Rattle.protocol.specs.ClientBytes.{Written, Took, awaited, keyOf, put, clientTake}
+use Rattle.client.specs.declared.answers.Answered.{Answered}
 
 -- another shelf's packet, or another client's
 abbrev pub foreign : ℕ → ℕ → Head → Bool
@@ -63,3 +65,8 @@ pub record Ready (t client : ℕ) (c : Call) (reply : List ℕ) (h : Head) : Typ
   pub faults : badFaults (shelf t) ≡ false
   pub reader : not (within 1 topClient client) ≡ false
   pub awaited : replyRefusal t client c h ≡ 0
+
+-- the answer a, kept bytes and output after it are those of the step that takes the reply
+abbrev pub TakesAs : ℕ → ℕ → List ℕ → List (List ℕ) → Call → List ℕ → List ℕ → List ℕ → Answered → List ℕ → List ℕ → Type 0
+TakesAs t client writers keys c kept reply output a kept' output' =
+    record { answer = a .taken; call = a .call; kept = kept'; output = output' } ≡ clientTake real t client writers keys c kept reply output
