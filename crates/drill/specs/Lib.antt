@@ -1,0 +1,4 @@
+pub mod Sheet
+pub mod Blanking
+pub mod Steps
+pub mod Listing

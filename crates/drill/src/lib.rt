@@ -1,0 +1,4 @@
+// The drill: one operation over a sheet, an output and a lent work area. Definitions stand in specs/.
+
+pub mod sheet; // the lines of a sheet
+pub mod steps; // one line's step
