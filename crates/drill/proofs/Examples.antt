@@ -6,7 +6,7 @@ use mathlib.Core.Option.{none, some}
 use Prim.Native.Nat.{ℕ, _+_}
 use lib.ListN.{length, replicate}
 use Rattle.protocol.specs.View.{part}
-use Rattle.drill.specs.Sheet.{lines, before, digits, number, column, columnAt, fields, readText, isStep, isFirst, noContent, firstLine, stepLine}
+use Rattle.drill.specs.Sheet.{lines, before, digits, number, column, columnAt, fields, readText, isStep, isFirst, isAlone, noContent, firstLine, stepLine}
 use Rattle.drill.specs.Listing.{justified, columns, row, lastRow, rows, listed, listing, rowsFor, drillRefusal, drillOf}
 
 spaces : ℕ → List ℕ
@@ -50,15 +50,15 @@ three-lines = refl
 
 -- a first line whose t alone is wrong; one with another fault; an unended one
 wrong-t : listing (line 0 5 0 0 0) ≡ lastRow 1 103
-unfolding listing listed lines before firstLine readText fields columnAt part column number digits isFirst noContent line columns justified
+unfolding listing listed lines before firstLine readText fields columnAt part column number digits isFirst isAlone noContent line columns justified
 wrong-t = refl
 
 wrong-first : listing (line 0 5 1 0 0) ≡ lastRow 1 117
-unfolding listing listed lines before firstLine readText fields columnAt part column number digits isFirst noContent line columns justified
+unfolding listing listed lines before firstLine readText fields columnAt part column number digits isFirst isAlone noContent line columns justified
 wrong-first = refl
 
 unended : listing (columns (0 ∷ 1 ∷ 0 ∷ 0 ∷ 0 ∷ [])) ≡ lastRow 1 117
-unfolding listing listed lines before firstLine readText fields columnAt part column number digits isFirst noContent columns justified
+unfolding listing listed lines before firstLine readText fields columnAt part column number digits isFirst isAlone noContent columns justified
 unended = refl
 
 nothing : listing [] ≡ []

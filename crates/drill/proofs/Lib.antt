@@ -1,1 +1,4 @@
+pub mod Numbers
+pub mod Parsed
+pub mod Split
 pub mod Examples

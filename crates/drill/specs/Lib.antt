@@ -1,4 +1,5 @@
 pub mod Sheet
+pub mod Reads
 pub mod Blanking
 pub mod Steps
 pub mod Listing

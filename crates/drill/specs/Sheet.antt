@@ -1,5 +1,5 @@
 -- A drill sheet (document 01, "Drill sheets"): its lines, the numbers in their columns, and which lines are steps.
-use mathlib.Core.Bool.{Bool, true, false, cond, _&&_, _||_}
+use mathlib.Core.Bool.{Bool, true, false, cond, _&&_}
 use mathlib.Core.List.{List, [], _∷_}
 use mathlib.Core.Option.{Option, none, some}
 use Prim.Native.Nat.{ℕ, _+_, _-_, _*_}
@@ -79,17 +79,28 @@ readText x = guard (x .ended) (fields (x .bytes))
 unfoldable pub noContent : Line → Bool
 noContent l = eqb (l .length) 0 && eqb (l .fill) 0
 
+-- a write names no server, and its fill is a byte; a read or a giving up names a client only; a blanking names a server only
+unfoldable pub isWrite : Line → Bool
+isWrite l = eqb (l .server) 0 && leb (l .fill) 255
+
+unfoldable pub isAlone : Line → Bool
+isAlone l = eqb (l .server) 0 && noContent l
+
+unfoldable pub isBlanking : Line → Bool
+isBlanking l = eqb (l .client) 0 && noContent l
+
 -- the first line: its client field holds t
 unfoldable pub isFirst : Line → Bool
-isFirst l = eqb (l .verb) 0 && (eqb (l .server) 0 && noContent l)
+isFirst l = eqb (l .verb) 0 && isAlone l
 
 -- 1 write, 2 read, 3 visit, 4 the server's latest becomes blank, 5 give up
 unfoldable pub isStep : Line → Bool
 isStep l =
-    cond (eqb (l .verb) 1) (eqb (l .server) 0 && leb (l .fill) 255)
-    (cond (eqb (l .verb) 2 || eqb (l .verb) 5) (eqb (l .server) 0 && noContent l)
+    cond (eqb (l .verb) 1) (isWrite l)
+    (cond (eqb (l .verb) 2) (isAlone l)
+    (cond (eqb (l .verb) 5) (isAlone l)
     (cond (eqb (l .verb) 3) (noContent l)
-    (eqb (l .verb) 4 && (eqb (l .client) 0 && noContent l))))
+    (cond (eqb (l .verb) 4) (isBlanking l) false))))
 
 unfoldable pub firstLine : Text → Option Line
 firstLine x = onSome (readText x) (λ l. guard (isFirst l) (some l))

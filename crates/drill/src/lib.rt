@@ -1,4 +1,5 @@
 // The drill: one operation over a sheet, an output and a lent work area. Definitions stand in specs/.
 
-pub mod sheet; // the lines of a sheet
+pub mod sheet; // the numbers in the columns of a line
+mod lines; // the lines of a sheet
 pub mod steps; // one line's step
