@@ -1,4 +1,5 @@
 pub mod Numbers
 pub mod Parsed
 pub mod Split
+pub mod Printed
 pub mod Examples

@@ -6,7 +6,7 @@ use mathlib.Core.List.{List, [], _∷_, _++_}
 use Prim.Native.Nat.{ℕ, zero, suc, _+_, _-_, _≤_, _<_}
 use native.Mathlib.Omega.{arith}
 use native.Mathlib.Numerals.{add-one}
-use lib.Dec.{ltb}
+use lib.Dec.{ltb, eqb}
 use lib.ListN.{length, getD, take, drop, drop-of-length-le, length-drop}
 use lib.Seq.{drop-cons, take-suc, getD-drop}
 use borrow.Author.Tests.{eq-eqb, ne-eqb, lt-ltb, le-ltb, ltb-true, ltb-false}
@@ -127,3 +127,42 @@ text-unended s at end h = rw (le-ltb end (length s) h)
 pub text-ended : (s : List ℕ) (at end : ℕ) → end < length s → readOf (fields (part s at (end - at))) ≡ readOf (readText (textAt s at end))
 unfolding readText textAt
 text-ended s at end h = rw (lt-ltb end (length s) h)
+
+-- ---- how many
+
+before-length : (x : ℕ) (ls : List Text) (n : ℕ) → length ls ≤ n → length (before x ls) ≤ suc n
+unfolding before
+before-length x [] n h = omega arith
+before-length x (l ∷ ls) n h = omega arith
+
+one-or : (b : Bool) (x : ℕ) (ls : List Text) (n : ℕ) → length ls ≤ n → length (cond b (record { bytes = []; ended = true } ∷ ls) (before x ls)) ≤ suc n
+one-or true x ls n h = omega arith
+one-or false x ls n h = before-length x ls n h
+
+-- no more lines than characters
+pub few-lines : (s : List ℕ) → length (lines s) ≤ length s
+unfolding lines
+few-lines [] = omega arith
+few-lines (x ∷ xs) = one-or (eqb x newline) x (lines xs) (length xs) (few-lines xs)
+
+-- the lines from a place on, and how many stood before it
+pub record Counted (s : List ℕ) (at n : ℕ) : Type 0 where
+  pub within : at ≤ length s
+  pub whole : n + length (lines (drop at s)) ≡ length (lines s)
+
+module _ (s : List ℕ) (at n : ℕ) where
+  pub counted-more : (end : ℕ) → at < length s → Counted s at n → EndsAt s at end → Counted s (nextAt s end) (n + 1)
+  counted-more end h p e =
+      let d = next-drop s end (e .within) in
+      let l : length (lines (drop at s)) ≡ suc (length (lines (drop (end + 1) s))) = ap length (e .first) in
+      record { within = next-later s end at (e .after) (e .within) h .1; whole = rw d (omega (arith, p .whole)) }
+
+  pub counted-room : (end : ℕ) → Counted s at n → EndsAt s at end → n + 1 ≤ length s
+  counted-room end p e =
+      let l : length (lines (drop at s)) ≡ suc (length (lines (drop (end + 1) s))) = ap length (e .first) in
+      let f = few-lines s in
+      omega (arith, p .whole)
+
+  pub counted-all : length s ≤ at → Counted s at n → n ≡ length (lines s)
+  unfolding lines
+  counted-all h p = let d = p .whole in let z : drop at s ≡ [] = drop-of-length-le s h in omega (arith, rw z at d)

@@ -2,4 +2,5 @@
 
 pub mod sheet; // the numbers in the columns of a line
 mod lines; // the lines of a sheet
+mod rows; // the rows of a listing
 pub mod steps; // one line's step
