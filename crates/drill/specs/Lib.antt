@@ -3,3 +3,4 @@ pub mod Reads
 pub mod Blanking
 pub mod Steps
 pub mod Listing
+pub mod Area

@@ -2,5 +2,6 @@
 
 pub mod sheet; // the numbers in the columns of a line
 mod lines; // the lines of a sheet
+mod area; // the parties in the work area
 mod rows; // the rows of a listing
 pub mod steps; // one line's step
