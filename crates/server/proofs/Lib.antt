@@ -15,3 +15,4 @@ pub mod Held
 pub mod Listing
 pub mod Filtering
 pub mod Taking
+pub mod Unraising

@@ -3,3 +3,4 @@ pub mod Answers
 pub mod Valid
 pub mod Ranks
 pub mod Filter
+pub mod Blank
