@@ -8,8 +8,8 @@ use Rattle.cluster.specs.Ranges.{mostServers}
 use Rattle.client.specs.Steps.{wholePacket}
 use Rattle.client.proofs.Tests.{hand-round}
 use Rattle.client.proofs.MadeBytes.{round-bytes, store-bytes, complete-bytes, repair-bytes, empty-bytes}
-use Rattle.client.proofs.make.make_plain.Statement.{statement}
-use Rattle.client.proofs.make.make_plain.Tie as tie
+use Rattle.client.proofs.packets.make_plain.Statement.{statement}
+use Rattle.client.proofs.packets.make_plain.Tie as tie
 
 mul-head-of : tie.Need-mul-head-of
 mul-head-of c =
