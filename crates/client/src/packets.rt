@@ -1,11 +1,11 @@
 // The packet of the round, made from the kept bytes as they are.
 ghost use mathlib.Core.Path.{_≡_};
+ghost use mathlib.Core.Bool.{true};
 ghost use mathlib.Core.List.{[], _++_};
-ghost use Prim.Native.Nat.{_≤_, _+_, _*_, _-_};
+ghost use Prim.Native.Nat.{_≤_, _-_};
 ghost use lib.ListN.{length};
 ghost use Rattle.cluster.specs.Config.{shelf};
 ghost use Rattle.cluster.specs.Ranges.{topFaults, topClient, mostServers, packetRoom};
-ghost use mathlib.Core.Bool.{true};
 ghost use Rattle.protocol.specs.Packet.{headF, stampF, shareF, candidateF, candidatesF, encode};
 ghost use Rattle.protocol.specs.Client.{made};
 ghost use Rattle.protocol.specs.ClientBytes.{inHand};

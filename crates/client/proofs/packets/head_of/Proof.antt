@@ -1,3 +1,4 @@
+-- The numbers fit their bytes, and the rest is the record itself. Assumes nothing.
 use borrow.Author.Needs.{needs}
 use native.Mathlib.Omega.{arith}
 use Rattle.client.proofs.packets.head_of.Statement.{statement}

@@ -1,3 +1,4 @@
+-- The candidate is printed as it stands in its slot. Assumes nothing.
 use borrow.Author.Needs.{needs}
 use native.Mathlib.Omega.{arith}
 use mathlib.Core.Path.{_≡_, sym, ap, _∙_}

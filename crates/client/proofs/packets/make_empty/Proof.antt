@@ -1,3 +1,4 @@
+-- The packet without a body fits its buffer. Assumes nothing.
 use borrow.Author.Needs.{needs}
 use native.Mathlib.Omega.{arith}
 use mathlib.Core.Path.{_∙_}

@@ -1,3 +1,4 @@
+-- Stamp and share are printed as they stand in their slots. Assumes nothing.
 use borrow.Author.Needs.{needs}
 use native.Mathlib.Omega.{arith}
 use mathlib.Core.Path.{_≡_, sym, ap, _∙_}

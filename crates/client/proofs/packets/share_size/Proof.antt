@@ -1,3 +1,4 @@
+-- The sum of the parts' sizes fits, since a fragment has no more bytes than the content and t. Assumes nothing.
 use borrow.Author.Needs.{needs}
 use native.Mathlib.Omega.{arith}
 use mathlib.Core.Path.{_≡_}
