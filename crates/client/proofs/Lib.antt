@@ -8,3 +8,5 @@ pub mod MadeBytes
 pub mod ShareBytes
 pub mod Prepared
 pub mod Printed
+pub mod TakeTests
+pub mod RoundsTaken
