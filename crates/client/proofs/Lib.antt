@@ -8,3 +8,5 @@ pub mod MadeBytes
 pub mod ShareBytes
 pub mod Prepared
 pub mod Printed
+pub mod Offered
+pub mod Clocked
