@@ -10,3 +10,5 @@ pub mod Prepared
 pub mod Printed
 pub mod TakeTests
 pub mod RoundsTaken
+pub mod Offered
+pub mod Clocked

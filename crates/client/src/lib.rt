@@ -11,6 +11,7 @@ mod replies; // whether a packet is an awaited reply
 mod stamps; // stamps and tags
 mod make; // the packet of the round
 mod prepare; // the end of clock
+mod clock; // the first round of a write
 mod writes; // the rounds of a write
 mod reads; // the rounds of a read
 pub mod begin; // beginning a call and giving it up
