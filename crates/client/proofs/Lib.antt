@@ -8,3 +8,6 @@ pub mod MadeBytes
 pub mod ShareBytes
 pub mod Prepared
 pub mod Printed
+pub mod Repairs
+pub mod Judged
+pub mod FilterReplies
