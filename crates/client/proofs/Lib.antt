@@ -12,3 +12,6 @@ pub mod TakeTests
 pub mod RoundsTaken
 pub mod Offered
 pub mod Clocked
+pub mod Repairs
+pub mod Judged
+pub mod FilterReplies

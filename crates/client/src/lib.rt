@@ -14,6 +14,7 @@ mod prepare; // the end of clock
 mod clock; // the first round of a write
 mod writes; // the rounds of a write
 mod reads; // the rounds of a read
+mod filter; // the filter round
 pub mod begin; // beginning a call and giving it up
 
 // The state of a client that has begun no call.
