@@ -15,3 +15,5 @@ pub mod Clocked
 pub mod Repairs
 pub mod Judged
 pub mod FilterReplies
+pub mod ListBytes
+pub mod Makes

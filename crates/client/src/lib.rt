@@ -2,7 +2,7 @@
 // A call's small state is lent as `protocol::Call`, its bulk as the kept bytes; every value of both has a meaning.
 ghost use mathlib.Core.Path.{_≡_};
 ghost use Rattle.protocol.specs.Primitives.{real};
-ghost use Rattle.protocol.specs.ClientBytes.{beginWrite, beginRead, clientTake, giveUp};
+ghost use Rattle.protocol.specs.ClientBytes.{beginWrite, beginRead, clientMake, clientTake, giveUp};
 
 mod refusals; // which number refuses a step
 mod rounds; // the tally of a round
@@ -10,7 +10,8 @@ pub mod kept; // the kept bytes: their places, and what is read and written ther
 pub mod answers; // what a reply leads to
 mod replies; // whether a packet is an awaited reply
 mod stamps; // stamps and tags
-mod make; // the packet of the round
+mod list; // the list of filter
+pub mod packets; // the packet of the round
 mod prepare; // the end of clock
 mod clock; // the first round of a write
 mod writes; // the rounds of a write
@@ -94,4 +95,18 @@ pub fn give_up(call: &mut protocol::Call, t: usize, client: usize) -> protocol::
     let s = begin::give_up_in(*call, t, client);
     *call = s.call;
     s.taken
+}
+
+// The packet of the pending round for a server.
+pub fn make(
+    call: protocol::Call,
+    kept: &[u8; 24576],
+    t: usize,
+    client: usize,
+    server: usize,
+    out: &mut [u8],
+) -> cluster::Outcome
+    ensures { λ r. ⌜ record { result = r; output = now (out .exit) } ≡ clientMake t client server call (now (kept .entry)) (now (out .entry)) ⌝ }
+{
+    packets::make_in(call, kept, t, client, server, out)
 }

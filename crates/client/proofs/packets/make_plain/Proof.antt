@@ -1,3 +1,4 @@
+-- Each round's packet is what the definition encodes for it. Assumes nothing.
 use borrow.Author.Needs.{needs}
 use native.Mathlib.Omega.{arith}
 use mathlib.Core.Path.{_≡_, refl, sym, ap, _∙_}
@@ -8,8 +9,8 @@ use Rattle.cluster.specs.Ranges.{mostServers}
 use Rattle.client.specs.Steps.{wholePacket}
 use Rattle.client.proofs.Tests.{hand-round}
 use Rattle.client.proofs.MadeBytes.{round-bytes, store-bytes, complete-bytes, repair-bytes, empty-bytes}
-use Rattle.client.proofs.make.make_plain.Statement.{statement}
-use Rattle.client.proofs.make.make_plain.Tie as tie
+use Rattle.client.proofs.packets.make_plain.Statement.{statement}
+use Rattle.client.proofs.packets.make_plain.Tie as tie
 
 mul-head-of : tie.Need-mul-head-of
 mul-head-of c =

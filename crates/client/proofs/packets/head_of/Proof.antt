@@ -1,7 +1,8 @@
+-- The numbers fit their bytes, and the rest is the record itself. Assumes nothing.
 use borrow.Author.Needs.{needs}
 use native.Mathlib.Omega.{arith}
-use Rattle.client.proofs.make.head_of.Statement.{statement}
-use Rattle.client.proofs.make.head_of.Tie as tie
+use Rattle.client.proofs.packets.head_of.Statement.{statement}
+use Rattle.client.proofs.packets.head_of.Tie as tie
 
 cast-t6 : tie.Need-cast-t6
 cast-t6 c = omega (arith, c .pre .0, c .pre .1 .0, c .pre .1 .1)

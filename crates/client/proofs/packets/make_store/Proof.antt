@@ -1,21 +1,21 @@
+-- Stamp and share are printed as they stand in their slots. Assumes nothing.
 use borrow.Author.Needs.{needs}
 use native.Mathlib.Omega.{arith}
 use mathlib.Core.Path.{_≡_, sym, ap, _∙_}
-use mathlib.Core.List.{List, [], _++_}
+use mathlib.Core.List.{List, _++_}
 use Prim.Native.Nat.{ℕ, _-_, _+_, _*_}
 use lib.ListN.{length}
 use Rattle.cluster.specs.Config.{shelf}
 use Rattle.protocol.specs.Format.{Bytes}
 use Rattle.protocol.specs.Values.{stampSize}
-use Rattle.protocol.specs.Packet.{headF, stampF, shareF}
-use Rattle.protocol.specs.View.{part, chosenOf, chosenAt, candidateSlot, candidateAt, stampAt, shareAt, replySlotOf, repliesAt, replySlot}
+use Rattle.protocol.specs.Packet.{headF, stampF}
+use Rattle.protocol.specs.View.{part, chosenOf, chosenAt, candidateSlot, candidateAt, stampAt, replySlotOf, repliesAt, replySlot}
 use Rattle.wire.specs.Places.{shareSize, lengthAt}
-use Rattle.wire.specs.Make.{packetStep}
 use Rattle.wire.proofs.Runs.{part-most}
 use Rattle.client.specs.Steps.{wholePacket}
 use Rattle.client.proofs.Printed.{packet-fits, stamp-back, share-back, bytes-part, part-length, part-short}
-use Rattle.client.proofs.make.make_store.Statement.{statement}
-use Rattle.client.proofs.make.make_store.Tie as tie
+use Rattle.client.proofs.packets.make_store.Statement.{statement}
+use Rattle.client.proofs.packets.make_store.Tie as tie
 
 part-requires : tie.Need-part-requires
 part-requires c κs = search needs

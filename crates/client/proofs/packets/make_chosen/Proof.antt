@@ -1,3 +1,4 @@
+-- The candidate is printed as it stands in its slot. Assumes nothing.
 use borrow.Author.Needs.{needs}
 use native.Mathlib.Omega.{arith}
 use mathlib.Core.Path.{_≡_, sym, ap, _∙_}
@@ -8,12 +9,11 @@ use Rattle.cluster.specs.Config.{shelf}
 use Rattle.protocol.specs.Values.{candidateSize}
 use Rattle.protocol.specs.Packet.{headF, candidateF}
 use Rattle.protocol.specs.View.{part, chosenOf, chosenAt, candidateSlot, candidateAt}
-use Rattle.wire.specs.Make.{packetStep}
 use Rattle.wire.proofs.Runs.{part-most}
 use Rattle.client.specs.Steps.{wholePacket}
 use Rattle.client.proofs.Printed.{packet-fits, candidate-back, bytes-part, part-length}
-use Rattle.client.proofs.make.make_chosen.Statement.{statement}
-use Rattle.client.proofs.make.make_chosen.Tie as tie
+use Rattle.client.proofs.packets.make_chosen.Statement.{statement}
+use Rattle.client.proofs.packets.make_chosen.Tie as tie
 
 part-requires : tie.Need-part-requires
 part-requires c κs = search needs

@@ -1,3 +1,4 @@
+-- The sum of the parts' sizes fits, since a fragment has no more bytes than the content and t. Assumes nothing.
 use borrow.Author.Needs.{needs}
 use native.Mathlib.Omega.{arith}
 use mathlib.Core.Path.{_≡_}
@@ -5,8 +6,8 @@ use Prim.Native.Nat.{_≤_, _+_, _*_}
 use Rattle.cluster.specs.Config.{shelf}
 use Rattle.wire.specs.Places.{shareSize}
 use Rattle.client.proofs.Printed.{fragment-most}
-use Rattle.client.proofs.make.share_size.Statement.{statement}
-use Rattle.client.proofs.make.share_size.Tie as tie
+use Rattle.client.proofs.packets.share_size.Statement.{statement}
+use Rattle.client.proofs.packets.share_size.Tie as tie
 
 cast-u : tie.Need-cast-u
 cast-u c = omega (arith, c .pre)

@@ -1,10 +1,11 @@
+-- The packet without a body fits its buffer. Assumes nothing.
 use borrow.Author.Needs.{needs}
 use native.Mathlib.Omega.{arith}
 use mathlib.Core.Path.{_∙_}
 use mathlib.Core.List.{[]}
 use Rattle.client.proofs.Printed.{packet-fits}
-use Rattle.client.proofs.make.make_empty.Statement.{statement}
-use Rattle.client.proofs.make.make_empty.Tie as tie
+use Rattle.client.proofs.packets.make_empty.Statement.{statement}
+use Rattle.client.proofs.packets.make_empty.Tie as tie
 
 slice-aggregate-make-packet : tie.Need-slice-aggregate-make-packet
 slice-aggregate-make-packet c = search needs
