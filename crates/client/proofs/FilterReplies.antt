@@ -1,33 +1,31 @@
 -- A reply of the filter round: its body's bytes go to the server's slot, which has room for them, and the round goes on or is judged.
 -- The head is in its ranges and the body in its layout, as in every packet that is let through. Assumes nothing but that the reply and the kept bytes are bytes.
 use mathlib.Core.Path.{_≡_, refl, sym, ap, _∙_, subst}
-use mathlib.Core.Bool.{Bool, true, false, cond, not}
+use mathlib.Core.Bool.{Bool, true, false, cond}
 use mathlib.Core.List.{List, []}
 use mathlib.Core.Option.{some}
-use Prim.Native.Nat.{ℕ, suc, _+_, _-_, _*_, _≤_}
+use Prim.Native.Nat.{ℕ, _+_, _-_, _*_, _≤_}
 use native.Mathlib.Omega.{arith}
 use lib.ListN.{length, drop, replicate, length-replicate}
 use Rattle.cluster.specs.Config.{shelf}
 use Rattle.cluster.specs.Ranges.{topFaults, mostServers, contentRoom}
 use Rattle.protocol.specs.declared.Call.{Call}
 use Rattle.protocol.specs.declared.Head.{Head}
-use Rattle.protocol.specs.declared.Tally.{Tally}
 use Rattle.protocol.specs.declared.Taken.the-variants as taken
 use Rattle.protocol.specs.Format.{Bytes, via, seq}
 use Rattle.protocol.specs.Values.{Candidate, Held}
-use Rattle.protocol.specs.Packet.{Body, BodyOk, Packet, PacketOk, packetF, bodyF, decode, headSize, printBody, heldF, filterReply}
+use Rattle.protocol.specs.Packet.{Body, BodyOk, Packet, PacketOk, packetF, bodyF, headSize, printBody, heldF, filterReply}
 use Rattle.protocol.specs.Primitives.{real}
 use Rattle.protocol.specs.Rules.{ByServer, gather, live, choice}
 use Rattle.protocol.specs.Client.{heldIn}
 use Rattle.protocol.specs.View.{heldAt, keptSize, marked, candidatesIn, repliesIn, repliesAt, replySlot}
-use Rattle.protocol.specs.ClientBytes.{Took, took, takeIn, takeOn, takeFilter, judgeIn, put, noted, ends, withTally, keyOf, clientTake}
+use Rattle.protocol.specs.ClientBytes.{Took, took, takeOn, takeFilter, judgeIn, put, noted, ends, withTally, keyOf, clientTake}
 use Rattle.protocol.proofs.Bodies.{decode-ok}
-use Rattle.protocol.proofs.HandOk.{held-in, held-room}
+use Rattle.protocol.proofs.HandOk.{held-room}
 use Rattle.protocol.proofs.Puts.{put-length}
 use Rattle.protocol.proofs.Room.{shelf-fits}
 use Rattle.wire.specs.Places.{bodyAt, packetAt}
-use Rattle.wire.proofs.Laws.{HeadRanges, head-ranges}
-use Rattle.decide.specs.Steps.{Usable}
+use Rattle.wire.proofs.Laws.{head-ranges}
 use Rattle.client.specs.Steps.{Ready}
 use Rattle.client.specs.Filter.{judgedIn}
 use Rattle.client.proofs.Tests.{inside}

@@ -1,13 +1,13 @@
 -- What a decision leads to is the definition's judgement. By its three cases: the slot told holds the chosen candidate, its leader's reply has the group's tags
 -- and the content's length, and the candidate for repair is that slot's name with those tags. Assumes nothing but that the kept bytes are bytes.
 use mathlib.Core.Path.{_≡_, refl, sym, ap, _∙_, subst}
-use mathlib.Core.Bool.{Bool, true, false, cond, not}
+use mathlib.Core.Bool.{Bool, true, not}
 use mathlib.Core.List.{List, [], _∷_, _++_, append-assoc}
 use mathlib.Core.Option.{Option, none, some}
 use Prim.Native.Nat.{ℕ, zero, suc, _+_, _-_, _*_, _≤_, _<_}
 use native.Mathlib.Omega.{arith}
-use lib.Dec.{T, leb, ltb, eqb}
-use lib.ListN.{length, take, drop}
+use lib.Dec.{T, eqb}
+use lib.ListN.{length, drop}
 use lib.Seq.{take-at}
 use borrow.Author.Tests.{le-leb, eq-eqb}
 use Rattle.cluster.specs.Config.{Config, shelf}
@@ -18,19 +18,19 @@ use Rattle.protocol.specs.declared.Call.{Call}
 use Rattle.protocol.specs.declared.Tally.{Tally}
 use Rattle.protocol.specs.declared.Taken.the-variants as taken
 use Rattle.protocol.specs.Format.{Bytes, via, seq, run}
-use Rattle.protocol.specs.Values.{Candidate, Share, Held, sameList, stampSize, nonceSize, digestSize, digestsSize, tagsSize}
-use Rattle.protocol.specs.Packet.{candidateF, stampF}
+use Rattle.protocol.specs.Values.{Candidate, Share, Held, stampSize, nonceSize, digestSize, digestsSize, tagsSize}
+use Rattle.protocol.specs.Packet.{candidateF}
 use Rattle.protocol.specs.Primitives.{real}
 use Rattle.protocol.specs.Rules.{ByServer, gather, live, choice, leader, proven, parts, restoredBy, tagsIn}
 use Rattle.protocol.specs.ServerBytes.{over}
-use Rattle.protocol.specs.View.{part, stampAt, candidateAt, shareOfSize, heldAt, keptSize, marked, candidatesIn, repliesIn, replySlotOf, candidatesAt, candidateSlot, repliesAt, replySlot, chosenAt}
-use Rattle.protocol.specs.ClientBytes.{Took, took, delivers, foundIn, judgeIn, put, fresh, withTally}
+use Rattle.protocol.specs.View.{part, candidateAt, shareOfSize, keptSize, marked, candidatesIn, repliesIn, replySlotOf, candidatesAt, candidateSlot, repliesAt, replySlot}
+use Rattle.protocol.specs.ClientBytes.{took, delivers, foundIn, judgeIn, fresh, withTally}
 use Rattle.protocol.proofs.Primitive.{real-lengths}
 use Rattle.protocol.proofs.Room.{shelf-fits}
 use Rattle.decide.specs.declared.Decision.{Decision}
 use Rattle.decide.specs.declared.Decision.the-variants as decisions
 use Rattle.decide.specs.Listing.{usable}
-use Rattle.decide.specs.Decided.{Decided, slotOf, decidedOn, decided, sameTags}
+use Rattle.decide.specs.Decided.{Decided, slotOf, decidedOn, decided}
 use Rattle.decide.specs.Steps.{Usable, Full, leaderAt, fitsAt, leadsAt}
 use Rattle.decide.proofs.Places.{part-part, candidate-in, reply-in}
 use Rattle.decide.proofs.Replies.{sizeIn, held-share, tags-in, slot-part}

@@ -1,8 +1,8 @@
 -- The candidate for repair, as the code writes it: the stamp and the nonce of a slot and after them the tags of a reply, each within the kept bytes.
 -- Its bytes are as many as a candidate's, whatever the slots hold. Assumes nothing.
 use mathlib.Core.Path.{_≡_, refl, sym, ap, _∙_}
-use mathlib.Core.List.{List, _++_}
-use Prim.Native.Nat.{ℕ, suc, _+_, _-_, _*_, _≤_, _<_}
+use mathlib.Core.List.{List}
+use Prim.Native.Nat.{ℕ, _+_, _-_, _*_, _≤_, _<_}
 use native.Mathlib.Omega.{arith}
 use lib.ListN.{length, length-append}
 use Rattle.cluster.specs.Config.{shelf}

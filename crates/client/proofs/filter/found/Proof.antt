@@ -1,5 +1,5 @@
 use borrow.Author.Needs.{needs}
-use mathlib.Core.Path.{_≡_, refl, sym, ap, _∙_}
+use mathlib.Core.Path.{sym, _∙_}
 use Rattle.client.specs.Filter.{foundAt}
 use Rattle.client.proofs.filter.found.Statement.{statement}
 use Rattle.client.proofs.filter.found.Tie as tie

@@ -1,15 +1,7 @@
 use borrow.Author.Needs.{needs}
 use native.Mathlib.Omega.{arith}
-use mathlib.Core.Path.{_≡_, refl, sym, ap, _∙_}
-use mathlib.Core.List.{List}
-use Prim.Native.Nat.{ℕ, _-_, _+_, _*_, _≤_}
-use lib.ListN.{length}
-use Rattle.cluster.specs.Config.{shelf}
-use Rattle.protocol.specs.Values.{stampSize, nonceSize, tagsSize}
-use Rattle.protocol.specs.View.{part, candidatesAt, candidateSlot, repliesAt, replySlot}
-use Rattle.protocol.specs.ClientBytes.{put}
-use Rattle.protocol.proofs.Puts.{put-length}
-use Rattle.client.specs.Filter.{tagsPlace}
+use mathlib.Core.Path.{_∙_}
+use Rattle.protocol.specs.View.{part}
 use Rattle.client.proofs.Repairs.{repair-put, name-fits, tags-fit}
 use Rattle.client.proofs.filter.put_repair.Statement.{statement}
 use Rattle.client.proofs.filter.put_repair.Tie as tie

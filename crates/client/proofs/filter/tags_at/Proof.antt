@@ -1,9 +1,8 @@
 use borrow.Author.Needs.{needs}
 use native.Mathlib.Omega.{arith}
-use mathlib.Core.Path.{_≡_, sym, _∙_}
+use mathlib.Core.Path.{_≡_}
 use Prim.Native.Nat.{_≤_, _+_, _*_}
 use Rattle.cluster.specs.Config.{shelf}
-use Rattle.protocol.specs.Values.{tagsSize}
 use Rattle.client.specs.Filter.{tagsPlace}
 use Rattle.client.proofs.Printed.{fragment-most}
 use Rattle.client.proofs.filter.tags_at.Statement.{statement}
