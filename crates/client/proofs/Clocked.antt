@@ -1,14 +1,15 @@
 -- A clock reply as the code takes it: its stamp stands whole past the head, and each way through the round is the definition's step.
 -- By cases on the round's tests, each a law of the replies that are taken. Assumes nothing.
 use mathlib.Core.Path.{_≡_, refl, sym, ap, _∙_, subst}
-use mathlib.Core.Bool.{Bool, true, false, cond}
-use mathlib.Core.List.{List, []}
+use mathlib.Core.Bool.{Bool, true, false, cond, _&&_}
+use mathlib.Core.List.{List, [], _∷_}
 use Prim.Native.Nat.{ℕ, suc, _≤_, _<_}
 use native.Mathlib.Omega.{arith}
 use lib.Dec.{leb, ltb}
 use lib.ListN.{length, drop}
-use borrow.Author.Tests.{lt-ltb, ltb-false}
+use borrow.Author.Tests.{ltb-false, leb-false}
 use Rattle.cluster.specs.Config.{shelf}
+use Rattle.cluster.specs.Refusals.{refuse, firstOf}
 use Rattle.cluster.specs.Ranges.{topFaults, topClient, topNumber, mostServers, contentRoom}
 use Rattle.protocol.specs.declared.Call.{Call}
 use Rattle.protocol.specs.declared.Head.{Head}
@@ -27,7 +28,7 @@ use Rattle.wire.specs.Places.{bodyAt, packetAt}
 use Rattle.wire.proofs.Laws.{head-ranges}
 use Rattle.client.specs.declared.answers.Answered.{Answered}
 use Rattle.client.specs.Steps.{Ready, TakesAs, writeMade}
-use Rattle.client.proofs.Tests.{inside}
+use Rattle.client.proofs.Tests.{both, inside, passes}
 use Rattle.client.proofs.TakenReplies.{body-at, printed, clock-too-high, clock-short, clock-goes, clock-ends}
 
 module _ (t client : ℕ) (c : Call) (reply : List ℕ) (h : Head) (y : Ready t client c reply h) where
@@ -62,34 +63,44 @@ module _ (t client : ℕ) (c : Call) (reply : List ℕ) (h : Head) (y : Ready t 
     abbrev top : ℕ
     top = higher real writers (c .high) (stampAt (drop headSize reply))
 
-    abbrev refusal : ℕ → Answered
-    refusal n = record { taken = taken.Refused n; call = c }
-
-    abbrev stored : ℕ → Answered
-    stored n = record { taken = taken.More; call = record { number = c .number; last = suc n; high = n; length = c .length; tally = fresh 2 } }
-
     abbrev Takes : Answered → List ℕ → Type 0
     Takes a k = TakesAs t client writers keys c kept reply output a k output
 
-    pub clock-refused : ends (shelf t) c ≡ false → length output < contentRoom → Takes (refusal 15) kept
-    unfolding clientTake
-    clock-refused e l = sym (clock-short t client writers (keyOf keys) c kept output reply h y clock (rw e) (lt-ltb (length output) contentRoom l))
+    abbrev over : Bool
+    over = ends (shelf t) c && leb topNumber top
 
-    pub clock-noted : ends (shelf t) c ≡ false → contentRoom ≤ length output
-        → Takes (record { taken = taken.More; call = record { number = c .number; last = c .last; high = top; length = c .length; tally = noted (c .tally) (h .server) } }) kept
+    refused-as : (p q : Bool) → over ≡ p → ltb (length output) contentRoom ≡ q → (n : ℕ) → n ≡ cond p 14 (cond q 15 0) → (n ≡ 0 → ⊥)
+        → Takes (record { taken = taken.Refused n; call = c }) kept
     unfolding clientTake
-    clock-noted e l = sym (clock-goes t client writers (keyOf keys) c kept output reply h y clock (rw e) l e)
+    refused-as true q f g n e ne =
+        let w = both (ends (shelf t) c) (leb topNumber top) f in
+        rw e (sym (clock-too-high t client writers (keyOf keys) c kept output reply h y clock (w .0) (w .1)))
+    refused-as false true f g n e ne = rw e (sym (clock-short t client writers (keyOf keys) c kept output reply h y clock f g))
+    refused-as false false f g n e ne = absurd (ne e)
 
-    ended-as : ends (shelf t) c ≡ true → (p q : Bool) → leb topNumber top ≡ p → ltb (length output) contentRoom ≡ q
-        → Takes (cond p (refusal 14) (cond q (refusal 15) (stored top))) (cond p kept (cond q kept (writeMade t client writers keys c kept (suc top))))
-    unfolding clientTake
-    ended-as e true q f g = sym (clock-too-high t client writers (keyOf keys) c kept output reply h y clock e f)
-    ended-as e false true f g = sym (clock-short t client writers (keyOf keys) c kept output reply h y clock (rw (e, f)) g)
-    ended-as e false false f g =
-        sym (clock-ends t client writers (keyOf keys) c kept output reply h y clock (rw (e, f)) (ltb-false (length output) contentRoom g) e)
+    pub clock-refused : (n room high : ℕ) → n ≡ firstOf (refuse 14 (ends (shelf t) c && leb topNumber high) ∷ refuse 15 (ltb room contentRoom) ∷ []) → (n ≡ 0 → ⊥)
+        → high ≡ top → length output ≡ room → Takes (record { taken = taken.Refused n; call = c }) kept
+    clock-refused n room high e ne m l = refused-as over (ltb (length output) contentRoom) refl refl n (rw (m, ← l) at e) ne
 
-    pub clock-ended : ends (shelf t) c ≡ true → (n room : ℕ) (a : Answered) (k : List ℕ) → n ≡ top → length output ≡ room
-        → a ≡ cond (leb topNumber n) (refusal 14) (cond (ltb room contentRoom) (refusal 15) (stored n))
-        → k ≡ cond (leb topNumber n) kept (cond (ltb room contentRoom) kept (writeMade t client writers keys c kept (suc n))) → Takes a k
-    clock-ended e n room a k m l f g =
-        rw (f, g, m, ← l) (ended-as e (leb topNumber top) (ltb (length output) contentRoom) refl refl)
+    module _ (n room high : ℕ) (e : n ≡ firstOf (refuse 14 (ends (shelf t) c && leb topNumber high) ∷ refuse 15 (ltb room contentRoom) ∷ [])) (z : n ≡ 0) (m : high ≡ top) where
+      fine : over ≡ false
+      fine = rw m at (passes 13 (ends (shelf t) c && leb topNumber high) (cond (ltb room contentRoom) 15 0) (sym e ∙ z) .0)
+
+      wide : length output ≡ room → contentRoom ≤ length output
+      wide l =
+          let p = passes 13 (ends (shelf t) c && leb topNumber high) (cond (ltb room contentRoom) 15 0) (sym e ∙ z) .1 in
+          rw l (ltb-false room contentRoom (passes 14 (ltb room contentRoom) 0 p .0))
+
+      pub clock-below : ends (shelf t) c ≡ true → high < topNumber
+      clock-below q = rw m (leb-false topNumber top (rw q at fine))
+
+      pub clock-noted : length output ≡ room → ends (shelf t) c ≡ false
+          → Takes (record { taken = taken.More; call = record { number = c .number; last = c .last; high = high; length = c .length; tally = noted (c .tally) (h .server) } }) kept
+      unfolding clientTake
+      clock-noted l q = rw m (sym (clock-goes t client writers (keyOf keys) c kept output reply h y clock fine (wide l) q))
+
+      pub clock-ended : length output ≡ room → ends (shelf t) c ≡ true
+          → Takes (record { taken = taken.More; call = record { number = c .number; last = suc high; high = high; length = c .length; tally = fresh 2 } })
+          (writeMade t client writers keys c kept (suc high))
+      unfolding clientTake
+      clock-ended l q = rw m (sym (clock-ends t client writers (keyOf keys) c kept output reply h y clock fine (wide l) q))

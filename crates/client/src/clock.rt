@@ -1,14 +1,16 @@
 // The clock round: the highest stamp number that a quorum knows, and the write under the next one.
 ghost use mathlib.Core.Path.{_≡_};
-ghost use mathlib.Core.List.{List};
-ghost use mathlib.Core.Bool.{cond};
+ghost use mathlib.Core.List.{List, [], _∷_};
+ghost use mathlib.Core.Bool.{_&&_};
 ghost use Prim.Native.Nat.{ℕ, suc, _≤_, _<_};
 ghost use lib.Dec.{leb, ltb};
 ghost use lib.ListN.{length};
+ghost use Rattle.cluster.specs.Config.{shelf};
+ghost use Rattle.cluster.specs.Refusals.{refuse, firstOf};
 ghost use Rattle.cluster.specs.Ranges.{topFaults, topClient, topNumber, contentRoom};
 ghost use Rattle.protocol.specs.declared.Taken.the-variants as taken;
 ghost use Rattle.protocol.specs.View.{keptSize};
-ghost use Rattle.protocol.specs.ClientBytes.{fresh};
+ghost use Rattle.protocol.specs.ClientBytes.{fresh, ends};
 ghost use Rattle.client.specs.Steps.{writeMade, Ready, TakesAs};
 use crate::answers;
 use crate::answers::Answered;
@@ -40,7 +42,32 @@ fn enter_store(call: protocol::Call, high: u32) -> protocol::Call
     }
 }
 
-// The reply that ends the round: 14, 15, or the write is made under the next number.
+// The stamp's number would pass its top at the reply that ends the round.
+fn is_over(t: usize, call: protocol::Call, high: u32) -> bool
+    requires { ⌜ t ≤ topFaults ⌝ }
+    ensures { λ r. ⌜ r ≡ (ends (shelf t) call && leb topNumber high) ⌝ }
+{
+    if rounds::is_last(t, call) {
+        return cluster::TOP_NUMBER <= high as usize;
+    }
+    false
+}
+
+// 14, 15.
+fn clock_refusal(t: usize, call: protocol::Call, high: u32, room: usize) -> u8
+    requires { ⌜ t ≤ topFaults ⌝ }
+    ensures { λ r. ⌜ r ≡ firstOf (refuse 14 (ends (shelf t) call && leb topNumber high) ∷ refuse 15 (ltb room contentRoom) ∷ []) ⌝ }
+{
+    if is_over(t, call, high) {
+        return 14;
+    }
+    if room < cluster::CONTENT_ROOM {
+        return 15;
+    }
+    0
+}
+
+// The reply that ends the round: the write is made under the next number.
 fn end_clock(
     call: protocol::Call,
     kept: &mut [u8],
@@ -49,20 +76,11 @@ fn end_clock(
     writers: &[u8; 32],
     keys: &[[u8; 32]; 13],
     high: u32,
-    room: usize,
 ) -> Answered
-    requires { ⌜ (1 ≤ t) × ((t ≤ topFaults) × ((client ≤ topClient) × (length (now kept) ≡ keptSize))) ⌝ }
-    ensures { λ r. ⌜ (r ≡ cond (leb topNumber high) (record { taken = taken.Refused 14; call = call }) (cond (ltb room contentRoom) (record { taken = taken.Refused 15; call = call })
-        (record { taken = taken.More; call = record { number = call .number; last = suc high; high = high; length = call .length; tally = fresh 2 } })))
-        × (now (kept .exit) ≡ cond (leb topNumber high) (now (kept .entry)) (cond (ltb room contentRoom) (now (kept .entry))
-        (writeMade t client (now (writers .entry)) (now (keys .entry)) call (now (kept .entry)) (suc high)))) ⌝ }
+    requires { ⌜ (1 ≤ t) × ((t ≤ topFaults) × ((client ≤ topClient) × ((length (now kept) ≡ keptSize) × (high < topNumber)))) ⌝ }
+    ensures { λ r. ⌜ (r ≡ record { taken = taken.More; call = record { number = call .number; last = suc high; high = high; length = call .length; tally = fresh 2 } })
+        × (now (kept .exit) ≡ writeMade t client (now (writers .entry)) (now (keys .entry)) call (now (kept .entry)) (suc high)) ⌝ }
 {
-    if cluster::TOP_NUMBER <= high as usize {
-        return answers::refused(14, call);
-    }
-    if room < cluster::CONTENT_ROOM {
-        return answers::refused(15, call);
-    }
     prepare::prepare(kept, call, t, client, writers, keys, high + 1);
     answers::more(enter_store(call, high))
 }
@@ -84,11 +102,13 @@ pub(crate) fn take_clock(
 {
     let body = wire::bytes::rest(reply, wire::sizes::HEAD);
     let high = stamps::higher(writers, call.high, body);
+    let noted = answers::note_reply(with_high(call, high), head.server as usize);
+    let n = clock_refusal(t, call, high, room);
+    if n != 0 {
+        return answers::refused(n, call);
+    }
     if rounds::is_last(t, call) {
-        return end_clock(call, kept, t, client, writers, keys, high, room);
+        return end_clock(call, kept, t, client, writers, keys, high);
     }
-    if room < cluster::CONTENT_ROOM {
-        return answers::refused(15, call);
-    }
-    answers::more(answers::note_reply(with_high(call, high), head.server as usize))
+    answers::more(noted)
 }
