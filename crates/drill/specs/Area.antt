@@ -7,14 +7,17 @@ use lib.ListN.{length}
 use Rattle.cluster.specs.Config.{shelf}
 use Rattle.cluster.specs.Ranges.{within, topClient, mostServers, memorySize}
 use Rattle.protocol.specs.declared.Call.{Call}
+use Rattle.cluster.specs.declared.Outcome.{Outcome}
 use Rattle.protocol.specs.declared.Aborted.{Aborted}
+use Rattle.protocol.specs.declared.Taken.{Taken}
+use Rattle.protocol.specs.ServerBytes.{Served, Blanked}
 use Rattle.protocol.specs.View.{part, keptSize}
-use Rattle.protocol.specs.ClientBytes.{Begun, GaveUp, put, beginWrite, beginRead, giveUp}
+use Rattle.protocol.specs.ClientBytes.{Begun, GaveUp, Took, put, beginWrite, beginRead, giveUp}
 use Rattle.protocol.specs.Runs.{Machines}
 use Rattle.state.specs.State.{stateSize, callAt, callBytes}
 use Rattle.drill.specs.Listing.{workSize}
 
-abbrev pub serverAt : ℕ → ℕ
+unfoldable pub serverAt : ℕ → ℕ
 serverAt b = memorySize * (b - 1)
 
 abbrev pub clientsAt : ℕ
@@ -72,6 +75,26 @@ pub record BeginsAs (b : Begun) (w : List ℕ) (c : ℕ) (after : List ℕ) (num
   pub area : after ≡ putClient w c (b .call) (b .kept)
   pub size : length (b .kept) ≡ keptSize
   pub marks : length (b .call .tally .marks) ≡ mostServers
+
+-- a packet taken by server b in the area w: its outcome, the area and the output after it
+pub record ServesAs (d : Served) (w : List ℕ) (b : ℕ) (after output : List ℕ) (outcome : Outcome) : Type 0 where
+  pub result : outcome ≡ d .result
+  pub area : after ≡ putMemory w b (d .memory)
+  pub written : output ≡ d .output
+  pub size : length (d .memory) ≡ memorySize
+
+-- a server's memory changed in the area w
+pub record BlanksAs (d : Blanked) (w : List ℕ) (b : ℕ) (after : List ℕ) : Type 0 where
+  pub area : after ≡ putMemory w b (d .memory)
+  pub size : length (d .memory) ≡ memorySize
+
+-- a reply taken in the area w: its answer, the area and the output after it
+pub record TakesAs (d : Took) (w : List ℕ) (c : ℕ) (after output : List ℕ) (answer : Taken) : Type 0 where
+  pub result : answer ≡ d .answer
+  pub area : after ≡ putClient w c (d .call) (d .kept)
+  pub written : output ≡ d .output
+  pub size : length (d .kept) ≡ keptSize
+  pub marks : length (d .call .tally .marks) ≡ mostServers
 
 -- giving up in the area w: its answer, and the area after it
 pub record StopsAs (g : GaveUp) (w : List ℕ) (c : ℕ) (after : List ℕ) (answer : Aborted) : Type 0 where

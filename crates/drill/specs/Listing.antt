@@ -11,7 +11,7 @@ use Rattle.cluster.specs.declared.Outcome.{Outcome}
 use Rattle.protocol.specs.ServerBytes.{over}
 use Rattle.protocol.specs.Runs.{Shelf}
 use Rattle.drill.specs.declared.sheet.Line.{Line}
-use Rattle.drill.specs.declared.steps.Shown.{Shown}
+use Rattle.drill.specs.declared.shown.Shown.{Shown}
 use Rattle.drill.specs.Sheet.{Text, lines, newline, columnSize, firstLine, stepLine}
 use Rattle.drill.specs.Steps.{State, Stepped, drillShelf, start, stepOf, shown, roundOf}
 

@@ -12,10 +12,10 @@ use Rattle.protocol.specs.Primitives.{real}
 use Rattle.protocol.specs.Rules.{upd}
 use Rattle.protocol.specs.Client.{Result, refused, more, written, gave, gaveBlank, aborted}
 use Rattle.protocol.specs.ClientBytes.{inHand}
+use Rattle.server.specs.Blank.{blankLatest}
 use Rattle.protocol.specs.Runs.{Shelf, configOf, Machines, Done, write, read, make, take-reply, give-up, serve, doBytes, nowBytes}
 use Rattle.drill.specs.declared.sheet.Line.{Line}
-use Rattle.drill.specs.declared.steps.Shown.{Shown}
-use Rattle.drill.specs.Blanking.{blanked}
+use Rattle.drill.specs.declared.shown.Shown.{Shown}
 
 -- ---- keys and nonces
 
@@ -89,7 +89,7 @@ module _ (s : Shelf) (w : Machines) where
   blankLine k server =
       let n = firstOf (refuse 4 (not (within 1 (configOf s .servers) server)) ∷ []) in
       onRefusal n
-      (record { state = record { machines = record { client = w .client; memory = upd (w .memory) server (blanked (w .memory server)) }; begun = k }; result = more })
+      (record { state = record { machines = record { client = w .client; memory = upd (w .memory) server (blankLatest (w .memory server) .memory) }; begun = k }; result = more })
       (keeping k (refused n))
 
   unfoldable pub stepOf : ℕ → Line → Stepped

@@ -34,6 +34,22 @@ pub(crate) fn call_of(work: &[u8], client: usize) -> protocol::Call
     state::read(wire::bytes::part(work, client_at(client), state::SIZE))
 }
 
+// The place of the bytes that a client keeps.
+pub(crate) fn kept_at(client: usize) -> usize
+    requires { ⌜ (1 ≤ client) × (client ≤ topClient) ⌝ }
+    ensures { λ r. ⌜ (r ≡ keptAt client) × (r + keptSize ≤ workSize) ⌝ }
+{
+    client_at(client) + KEPT
+}
+
+// The bytes that a client keeps.
+pub(crate) fn kept_of(work: &[u8], client: usize) -> &[u8]
+    requires { ⌜ (1 ≤ client) × (client ≤ topClient) ⌝ }
+    ensures { λ r. ⌜ now r ≡ keptIn (now (work .entry)) client ⌝ }
+{
+    wire::bytes::part(work, kept_at(client), client::kept::KEPT)
+}
+
 pub(crate) fn put_call(work: &mut [u8], client: usize, call: protocol::Call)
     requires { ⌜ ((1 ≤ client) × (client ≤ topClient)) × (length (now work) ≡ workSize) ⌝ }
     ensures { λ _. ⌜ (now (work .exit) ≡ putCall (now (work .entry)) client call) × (length (call .tally .marks) ≡ mostServers) ⌝ }
@@ -55,7 +71,7 @@ pub(crate) fn begin_write(
     ensures { λ r. ⌜ BeginsAs (writeIn t (now (work .entry)) client (now (content .entry)) (now (nonce .entry))) (now (work .entry)) client (now (work .exit)) r ⌝ }
 {
     let call = call_of(work, client);
-    let a = client_at(client) + KEPT;
+    let a = kept_at(client);
     let e = a + client::kept::KEPT;
     let s = client::begin::begin_write_in(call, &mut work[a..e], t, client, content, nonce);
     put_call(work, client, s.call);
@@ -69,7 +85,7 @@ pub(crate) fn begin_read(work: &mut [u8], t: usize, client: usize) -> u8
     ensures { λ r. ⌜ BeginsAs (readIn t (now (work .entry)) client) (now (work .entry)) client (now (work .exit)) r ⌝ }
 {
     let call = call_of(work, client);
-    let a = client_at(client) + KEPT;
+    let a = kept_at(client);
     let e = a + client::kept::KEPT;
     let s = client::begin::begin_read_in(call, &mut work[a..e], t, client);
     put_call(work, client, s.call);

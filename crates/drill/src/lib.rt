@@ -3,5 +3,7 @@
 pub mod sheet; // the numbers in the columns of a line
 mod lines; // the lines of a sheet
 mod area; // the parties in the work area
+mod servers; // the steps of servers in the work area
+mod visits; // a packet to a server, and its reply back
 mod rows; // the rows of a listing
-pub mod steps; // one line's step
+pub mod shown; // what a row shows of a step

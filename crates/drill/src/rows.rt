@@ -6,7 +6,7 @@ ghost use Rattle.protocol.specs.ClientBytes.{put};
 ghost use Rattle.drill.specs.Sheet.{columnSize};
 ghost use Rattle.drill.specs.Listing.{justified, columns, row, rowSize, stepRow, lastRow};
 use crate::sheet::Line;
-use crate::steps::Shown;
+use crate::shown::Shown;
 
 // Bytes of a row, and of its columns.
 pub(crate) const ROW: usize = 65;

@@ -1,5 +1,5 @@
 -- The client's step on its slot. Assumes nothing.
-use Rattle.drill.proofs.Lending.{kept-place, core-read, begins-as}
+use Rattle.drill.proofs.Lending.{core-read, begins-as}
 use Rattle.drill.specs.Area.{callIn, keptIn}
 use Rattle.client.specs.Core.{coreRead}
 use Rattle.protocol.specs.ClientBytes.{beginRead}
@@ -12,7 +12,7 @@ use Rattle.drill.proofs.area.begin_read.Reads as reads
 use Rattle.drill.proofs.area.begin_read.Lts as lts
 use Rattle.client.proofs.begin.begin_read_in.Reads as begin-read-in-reads
 use Rattle.drill.proofs.area.call_of.Reads as call-of-reads
-use Rattle.drill.proofs.area.client_at.Reads as client-at-reads
+use Rattle.drill.proofs.area.kept_at.Reads as kept-at-reads
 use Rattle.drill.proofs.area.put_call.Reads as put-call-reads
 
 -- src/area.rt:71:9
@@ -20,12 +20,8 @@ call-of-requires : tie.Need-call-of-requires
 call-of-requires c κs = search needs
 
 -- src/area.rt:72:13
-client-at-requires : tie.Need-client-at-requires
-client-at-requires c κs = search needs
-
--- src/area.rt:72:13
-add-a : tie.Need-add-a
-add-a c = search needs
+kept-at-requires : tie.Need-kept-at-requires
+kept-at-requires c κs = search needs
 
 -- src/area.rt:73:13
 add-e : tie.Need-add-e
@@ -60,16 +56,15 @@ returns : tie.Need-returns
 returns c =
     let a = c .before .before .before .before .before .before .before .before .before .before .before .before .before .args in
     let w = a .work .now in
-    begins-as w (a .client) (c .before .before .before .before .before .before .before .before .before .before .before .before .before .pre .0) (c .before .before .before .before .before .before .before .before .before .before .before .before .before .pre .1) (λ x y. coreRead (a .t) (a .client) x y) (beginRead (a .t) (a .client) (callIn w (a .client)) (keptIn w (a .client))) (c .before .before .before .before .before .before .before .before .before .client-at .result + 64 + 24576 - (c .before .before .before .before .before .before .before .before .before .client-at .result + 64)) (core-read w (a .client) (c .before .before .before .before .before .before .before .before .before .before .before .before .before .pre .0) (c .before .before .before .before .before .before .before .before .before .before .before .before .before .pre .1) (a .t))
-    (c .before .before .before .before .before .before .before .before .before .before .call-of .ensures) (kept-place (a .client) (c .before .before .before .before .before .before .before .before .before .client-at .ensures .0)) (omega arith) (c .before .before .before .before .before .before .before .begin-read-in .ensures .0) (c .before .before .before .before .before .before .before .begin-read-in .ensures .1) (c .before .before .before .before .before .before .work .given .0) (c .before .before .before .put-call .ensures .0) (c .before .before .before .put-call .ensures .1)
+    begins-as w (a .client) (c .before .before .before .before .before .before .before .before .before .before .before .before .before .pre .0) (c .before .before .before .before .before .before .before .before .before .before .before .before .before .pre .1) (λ x y. coreRead (a .t) (a .client) x y) (beginRead (a .t) (a .client) (callIn w (a .client)) (keptIn w (a .client))) (c .before .before .before .before .before .before .before .before .before .kept-at .result + 24576 - c .before .before .before .before .before .before .before .before .before .kept-at .result) (core-read w (a .client) (c .before .before .before .before .before .before .before .before .before .before .before .before .before .pre .0) (c .before .before .before .before .before .before .before .before .before .before .before .before .before .pre .1) (a .t))
+    (c .before .before .before .before .before .before .before .before .before .before .call-of .ensures) (c .before .before .before .before .before .before .before .before .before .kept-at .ensures .0) (omega arith) (c .before .before .before .before .before .before .before .begin-read-in .ensures .0) (c .before .before .before .before .before .before .before .begin-read-in .ensures .1) (c .before .before .before .before .before .before .work .given .0) (c .before .before .before .put-call .ensures .0) (c .before .before .before .put-call .ensures .1)
 
 pub begin-read-spec : {M : Type 1} → statement M
 begin-read-spec =
     tie.close
     (tie.spec
     call-of-requires
-    client-at-requires
-    add-a
+    kept-at-requires
     add-e
     sub-begin-read-in
     part-begin-read-in-start
