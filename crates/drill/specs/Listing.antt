@@ -1,4 +1,5 @@
 -- The listing of a drill sheet, and the drill as one operation over a sheet, an output and a lent work area (document 01, "Drill sheets").
+use mathlib.Core.Path.{_≡_}
 use mathlib.Core.Bool.{Bool, true, false, cond, not}
 use mathlib.Core.List.{List, [], _∷_, _++_}
 use mathlib.Core.Option.{Option, none, some}
@@ -66,6 +67,11 @@ listed (x ∷ xs) =
 unfoldable pub listing : List ℕ → List ℕ
 listing sheet = listed (lines sheet)
 
+-- the listing over the start of the output, and its bytes
+pub record ListsAs (sheet output after : List ℕ) (size : ℕ) : Type 0 where
+  pub bytes : after ≡ over (listing sheet) output
+  pub count : size ≡ length (listing sheet)
+
 -- ---- the operation: 1, 15
 
 abbrev pub workSize : ℕ
@@ -92,5 +98,5 @@ unfoldable pub drillOf : List ℕ → List ℕ → List ℕ → Drilled
 drillOf sheet output work =
     let n = drillRefusal sheet output work in
     onRefusal n
-    (record { result = record { number = n; count = length (listing sheet) }; output = over (listing sheet) output; work = replicate workSize 0 })
+    (record { result = record { number = n; count = length (listing sheet) }; output = over (listing sheet) output; work = replicate (length work) 0 })
     (record { result = record { number = n; count = 0 }; output = output; work = work })

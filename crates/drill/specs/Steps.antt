@@ -73,31 +73,33 @@ module _ (s : Shelf) (w : Machines) where
       let b = doBytes real s (a .machines) (serve server (a .sent) (replicate packetRoom 0)) in
       doBytes real s (b .machines) (take-reply client (b .sent) (replicate contentRoom 0))
 
-  abbrev pub keeping : ℕ → Result → Stepped
-  keeping k r = record { state = record { machines = w; begun = k }; result = r }
+  -- nothing changes
+  abbrev pub staying : Result → Done
+  staying r = record { machines = w; result = r; sent = [] }
 
-  abbrev pub after : ℕ → Done → Stepped
-  after k d = record { state = record { machines = d .machines; begun = k }; result = d .result }
-
-  unfoldable pub visitLine : ℕ → ℕ → ℕ → Stepped
-  visitLine k client server =
+  unfoldable pub visitLine : ℕ → ℕ → Done
+  visitLine client server =
       let n = visitRefusal client server in
-      onRefusal n (after k (visited client server)) (keeping k (refused n))
+      onRefusal n (visited client server) (staying (refused n))
 
   -- the server's latest becomes blank, and its history stays
-  unfoldable pub blankLine : ℕ → ℕ → Stepped
-  blankLine k server =
+  unfoldable pub blankLine : ℕ → Done
+  blankLine server =
       let n = firstOf (refuse 4 (not (within 1 (configOf s .servers) server)) ∷ []) in
       onRefusal n
-      (record { state = record { machines = record { client = w .client; memory = upd (w .memory) server (blankLatest (w .memory server) .memory) }; begun = k }; result = more })
-      (keeping k (refused n))
+      (record { machines = record { client = w .client; memory = upd (w .memory) server (blankLatest (w .memory server) .memory) }; result = more; sent = [] })
+      (staying (refused n))
+
+  -- as many writes have begun
+  abbrev pub after : ℕ → Done → Stepped
+  after k d = record { state = record { machines = d .machines; begun = k }; result = d .result }
 
   unfoldable pub stepOf : ℕ → Line → Stepped
   stepOf k l =
       cond (eqb (l .verb) 1) (writeLine k (l .client) (l .length) (l .fill))
       (cond (eqb (l .verb) 2) (after k (doBytes real s w (read (l .client))))
-      (cond (eqb (l .verb) 3) (visitLine k (l .client) (l .server))
-      (cond (eqb (l .verb) 4) (blankLine k (l .server))
+      (cond (eqb (l .verb) 3) (after k (visitLine (l .client) (l .server)))
+      (cond (eqb (l .verb) 4) (after k (blankLine (l .server)))
       (after k (doBytes real s w (give-up (l .client)))))))
 
 -- ---- what is shown

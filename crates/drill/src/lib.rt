@@ -6,4 +6,6 @@ mod area; // the parties in the work area
 mod servers; // the steps of servers in the work area
 mod visits; // a packet to a server, and its reply back
 mod rows; // the rows of a listing
+mod run; // a sheet is run
+mod steps; // one line's step
 pub mod shown; // what a row shows of a step

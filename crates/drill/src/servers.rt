@@ -7,7 +7,10 @@ ghost use Rattle.protocol.specs.Primitives.{real};
 ghost use Rattle.protocol.specs.ServerBytes.{serverTake, blankStep};
 ghost use Rattle.server.specs.Blank.{blankLatest};
 ghost use Rattle.drill.specs.Listing.{workSize};
+ghost use Rattle.drill.specs.Steps.{drillShelf, blankLine};
+ghost use Rattle.drill.specs.Moves.{DoneIn};
 ghost use Rattle.drill.specs.Area.{serverAt, clientsAt, memoryIn, ServesAs, BlanksAs};
+use crate::shown::Shown;
 
 // The place of a server's memory.
 fn server_at(server: usize) -> usize
@@ -51,4 +54,19 @@ pub(crate) fn blank(work: &mut [u8], t: usize, server: usize)
     let a = server_at(server);
     let e = a + cluster::MEMORY;
     let _ = server::blank::blank(&mut work[a..e], t, server);
+}
+
+// Verb 4.
+pub(crate) fn blank_line(work: &mut [u8], t: usize, server: usize) -> Shown
+    requires { ⌜ ((1 ≤ t) × (t ≤ 4)) × (length (now work) ≡ workSize) ⌝ }
+    ensures { λ r. ⌜ DoneIn t (λ m. blankLine (drillShelf t) m server) (now (work .entry)) (now (work .exit)) r ⌝ }
+{
+    if server < 1 {
+        return crate::shown::refused(4);
+    }
+    if wire::sizes::servers(t as u8) < server {
+        return crate::shown::refused(4);
+    }
+    blank_latest(work, server);
+    crate::shown::begun(0)
 }

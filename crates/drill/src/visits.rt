@@ -2,13 +2,14 @@
 ghost use mathlib.Core.Path.{_≡_};
 ghost use Prim.Native.Nat.{_≤_};
 ghost use lib.ListN.{length};
-ghost use Rattle.cluster.specs.Ranges.{topClient, mostServers};
+ghost use Rattle.cluster.specs.Config.{shelf};
+ghost use Rattle.cluster.specs.Ranges.{topClient};
 ghost use Rattle.protocol.specs.Primitives.{real};
-ghost use Rattle.protocol.specs.ClientBytes.{clientMake, clientTake};
+ghost use Rattle.protocol.specs.ClientBytes.{clientMake, clientTake, inHand};
 ghost use Rattle.drill.specs.Listing.{workSize};
-ghost use Rattle.drill.specs.Steps.{drillShelf, visited};
+ghost use Rattle.drill.specs.Steps.{drillShelf, visited, visitLine};
 ghost use Rattle.drill.specs.Area.{callIn, keptIn, TakesAs};
-ghost use Rattle.drill.specs.Moves.{DoneIn};
+ghost use Rattle.drill.specs.Moves.{DoneIn, RefusesAs};
 use crate::area;
 use crate::shown::Shown;
 use wire::bytes::part;
@@ -65,4 +66,64 @@ fn take(work: &mut [u8], t: usize, client: usize, reply: &[u8], out: &mut [u8]) 
     );
     area::put_call(work, client, s.call);
     s.taken
+}
+
+// The packet to the server, and its reply back. The server has acted even if the client refuses.
+pub(crate) fn visit(work: &mut [u8], t: usize, client: usize, server: usize) -> Shown
+    requires { ⌜ ((t ≤ 4) × (length (now work) ≡ workSize)) × (((1 ≤ client) × (client ≤ topClient)) × ((1 ≤ server) × (server ≤ shelf t .servers))) ⌝ }
+    ensures { λ r. ⌜ DoneIn t (λ m. visited (drillShelf t) m client server) (now (work .entry)) (now (work .exit)) r ⌝ }
+{
+    let mut packet = [0u8; 6400];
+    let made = make(work, t, client, server, &mut packet);
+    let mut reply = [0u8; 6400];
+    let sent = crate::servers::serve(work, server, part(&packet, 0, made.count), &mut reply);
+    let mut content = [0u8; 1024];
+    let taken = take(work, t, client, part(&reply, 0, sent.count), &mut content);
+    crate::shown::taken(taken, &content)
+}
+
+// Whether a call is in hand.
+fn is_pending(call: protocol::Call) -> bool
+    ensures { λ r. ⌜ r ≡ inHand call ⌝ }
+{
+    let tally = call.tally;
+    let round = tally.round;
+    if round < 1 {
+        return false;
+    }
+    round <= 6
+}
+
+// What refuses a visit before anything acts: 4, 5, 13, or 0.
+fn visit_refusal(work: &[u8], t: usize, client: usize, server: usize) -> u8
+    requires { ⌜ (1 ≤ t) × (t ≤ 4) ⌝ }
+    ensures { λ r. ⌜ RefusesAs t (now (work .entry)) client server r ⌝ }
+{
+    if server < 1 {
+        return 4;
+    }
+    if wire::sizes::servers(t as u8) < server {
+        return 4;
+    }
+    if client < 1 {
+        return 5;
+    }
+    if cluster::TOP_CLIENT < client {
+        return 5;
+    }
+    if is_pending(area::call_of(work, client)) {
+        return 0;
+    }
+    13
+}
+
+pub(crate) fn visit_line(work: &mut [u8], t: usize, client: usize, server: usize) -> Shown
+    requires { ⌜ ((1 ≤ t) × (t ≤ 4)) × (length (now work) ≡ workSize) ⌝ }
+    ensures { λ r. ⌜ DoneIn t (λ m. visitLine (drillShelf t) m client server) (now (work .entry)) (now (work .exit)) r ⌝ }
+{
+    let n = visit_refusal(work, t, client, server);
+    if n == 0 {
+        return visit(work, t, client, server);
+    }
+    crate::shown::refused(n)
 }
