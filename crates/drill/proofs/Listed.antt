@@ -6,6 +6,7 @@ use mathlib.Core.List.{List, [], _∷_}
 use mathlib.Core.Option.{none, some}
 use Prim.Native.Nat.{ℕ, zero, suc, _+_, _-_, _*_, _/_, _≤_, _<_}
 use native.Mathlib.Omega.{arith}
+use native.Mathlib.Nat.{div-lt-iff-lt-mul, div-add-mod'}
 use lib.Dec.{ltb}
 use lib.ListN.{length, drop, replicate}
 use borrow.Author.Tests.{eq-eqb, ne-eqb, lt-ltb, le-ltb, ltb-true, ltb-false}
@@ -100,3 +101,11 @@ module _ (s d w : List ℕ) where
         → record { result = record { number = 0; count = n }; output = f; work = v } ≡ drillOf s d w
     unfolding drillOf drillRefusal
     drill-0 {f} {v} {n} h l e = rw (eq-eqb (length w) workSize size, le-ltb (length d) (rowSize * rowsFor (length (lines s))) h, l .bytes, l .count, e)
+
+-- ---- by division
+
+pub room-short : (x m : ℕ) → x / 65 < m → x < rowSize * m
+room-short x m h = let k = div-lt-iff-lt-mul {k = 65} {x = x} {y = m} (omega arith) .0 h in omega arith
+
+pub room-fits : (x m : ℕ) → m ≤ x / 65 → rowSize * m ≤ x
+room-fits x m h = let k = div-add-mod' x 65 in omega arith

@@ -5,10 +5,11 @@ ghost use Prim.Native.Nat.{_+_, _*_, _≤_, _<_};
 ghost use lib.ListN.{length, drop, replicate};
 ghost use Rattle.cluster.specs.Ranges.{topNumber};
 ghost use Rattle.drill.specs.Sheet.{isStep, lines};
-ghost use Rattle.drill.specs.Listing.{workSize, rowSize};
+ghost use Rattle.drill.specs.Listing.{workSize, rowSize, rowsFor, ListsAs};
 ghost use Rattle.drill.specs.Steps.{drillShelf, start};
 ghost use Rattle.drill.specs.Area.{Stands};
 ghost use Rattle.drill.specs.Moves.{RowIn, RowsAs};
+use crate::lines::first_line;
 use crate::lines::line_end;
 use crate::lines::next_line;
 use crate::lines::step_line;
@@ -86,4 +87,30 @@ pub(crate) fn rows_from(
         done += crate::rows::ROW;
     }
     done
+}
+
+// The listing of a sheet in a cleared work area. Answers how many bytes it has.
+pub(crate) fn list(sheet: &[u8], out: &mut [u8], work: &mut [u8]) -> usize
+    requires { ⌜ ((length (now work) ≡ workSize) × (now work ≡ replicate (length (now work)) 0)) × (rowSize * rowsFor (length (lines (now sheet))) ≤ length (now out)) ⌝ }
+    ensures { λ r. ⌜ ListsAs (now (sheet .entry)) (now (out .entry)) (now (out .exit)) r ⌝ }
+{
+    if sheet.len() == 0 {
+        return 0;
+    }
+    let end = line_end(sheet, 0);
+    let Read::Line(l) = first_line(sheet, end) else {
+        crate::rows::put_last(out, 0, 1, 117);
+        return crate::rows::ROW;
+    };
+    let t = l.client as usize;
+    if t < 1 {
+        crate::rows::put_last(out, 0, 1, 103);
+        return crate::rows::ROW;
+    }
+    if cluster::TOP_FAULTS < t {
+        crate::rows::put_last(out, 0, 1, 103);
+        return crate::rows::ROW;
+    }
+    blank_servers(work, t);
+    rows_from(sheet, out, work, t, next_line(sheet, end))
 }
