@@ -1,3 +1,4 @@
 pub mod Laws
 pub mod Layouts
 pub mod Coded
+pub mod Sessions

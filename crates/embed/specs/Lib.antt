@@ -1,4 +1,5 @@
 pub mod Packing
 pub mod Digests
 pub mod Coding
+pub mod Clients
 pub mod Packets

@@ -1,4 +1,5 @@
 // The library's functions for C and Rust, on numbers and slices only; include/cendrulas.h declares them.
+mod clients;
 mod coding;
 mod digests;
 mod pack;
