@@ -6,3 +6,6 @@ pub mod answers; // the answers to requests
 pub mod store; // the answer to store
 pub mod valid; // the test of candidates
 pub mod repair; // the answer to repair
+pub mod rank; // the order in which candidates are tried
+pub mod filter; // the answer to filter
+pub mod take; // taking a packet
