@@ -5,7 +5,7 @@
 
 where G is covered (proved), takes S by value first and then the SAME parameters in the same order, and returns a struct
 R { taken: K, call: S } (field 0 the answer, field 1 the new state). Parameter kinds: u8 u16 u32 u64 usize,
-slice (&[u8]), mutslice (&mut [u8]), arr:N (&[u8; N]), mutarr:N (&mut [u8; N]). What G is lent by &mut it is given for good.
+slice (&[u8]), mutslice (&mut [u8]), arr:N (&[u8; N]), arr:N:M (&[[u8; N]; M]), mutarr:N (&mut [u8; N]). What G is lent by &mut it is given for good.
 
 usage: walkgen.py CRATE F G S R K enum|struct 'kinds,..' 'names,..' 'phi' ['use lines']
   phi: what G ensures, a type over r (G's result), h (the state at entry), NAME (a number) or NAME (a list at entry), NAME′ (a list at exit).
@@ -42,6 +42,12 @@ for i in range(n):
     if isref[i]: lf[i]=j; j+=1
 NL=j
 arrN=lambda k:k.split(':')[1]
+def arrOf(k):  # an array as a slot, and as a row; arr:N:M is an array of M arrays
+    s='(ArrayOf (plain (λ _. u8)) (λ _. tt) %s)'%arrN(k)
+    return '(ArrayOf %s (λ _. tt) %s)'%(s,k.split(':')[2]) if k.count(':')==2 else s
+def arrRow(k):
+    s='(Array u8 tt %s)'%arrN(k)
+    return '(Array %s tt %s)'%(s,k.split(':')[2]) if k.count(':')==2 else s
 sub=lambda i:'₀₁₂₃₄₅₆₇₈₉'[i]
 def tup(xs,end='tt'):
     s=end
@@ -55,7 +61,7 @@ def tupT(xs):
 qs=['q']+[f'q{sub(lf[i])}' for i in range(n) if isref[i]]
 x=[f'«{names[i]}»' for i in range(n)]
 nm=lambda i:names[i]
-dty=['ℕ' if not isref[i] else 'RefT (List ℕ)' for i in range(n)]
+dty=['ℕ' if not isref[i] else 'RefT (List (List ℕ))' if kinds[i].count(':')==2 else 'RefT (List ℕ)' for i in range(n)]
 def val(i):
     k=kinds[i]
     if k in W: return f'vint {W[k]} {nm(i)}'
@@ -66,7 +72,7 @@ def slot(i):
     if k in W: return f'(plain (λ _. {k}))'
     if k=='slice': return f'(shrSliceOf ({jj} ∷ []) tt (plain (λ _. u8)))'
     if k=='mutslice': return f'({jj} ∷ []) tt (plain (λ _. u8))'
-    if k.startswith('arr'): return f'(shrRefTo ({jj} ∷ []) tt (ArrayOf (plain (λ _. u8)) (λ _. tt) {arrN(k)}))'
+    if k.startswith('arr'): return f'(shrRefTo ({jj} ∷ []) tt {arrOf(k)})'
     return f'({jj} ∷ []) tt (ArrayOf (plain (λ _. u8)) (λ _. tt) {arrN(k)})'
 def stay(i):
     k=kinds[i]
@@ -82,7 +88,7 @@ def row(i):
     k=kinds[i]; jj=lf.get(i)
     if k in W: return k
     kap=f'κ{sub(jj)}'
-    return {'slice':f'ShrSlice (named {jj}) {kap} u8','mutslice':f'MutSlice (named {jj}) {kap} u8'}.get(k) or (f'{"MutRef" if mut[i] else "ShrRef"} (named {jj}) {kap} (Array u8 tt {arrN(k)})')
+    return {'slice':f'ShrSlice (named {jj}) {kap} u8','mutslice':f'MutSlice (named {jj}) {kap} u8'}.get(k) or (f'{"MutRef" if mut[i] else "ShrRef"} (named {jj}) {kap} {arrRow(k)}')
 def rowκ(i):
     return row(i).replace(f'κ{sub(lf[i])}',f'(κs'+' .1'*lf[i]+' .0)') if isref[i] else row(i)
 def spell(i):

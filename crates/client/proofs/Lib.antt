@@ -8,3 +8,12 @@ pub mod MadeBytes
 pub mod ShareBytes
 pub mod Prepared
 pub mod Printed
+pub mod TakeTests
+pub mod RoundsTaken
+pub mod Offered
+pub mod Clocked
+pub mod Repairs
+pub mod Judged
+pub mod FilterReplies
+pub mod ListBytes
+pub mod Makes

@@ -1,20 +1,18 @@
--- The bytes of the round's packet, for each round but filter: the head, and the kept bytes that its body is made of.
+-- The bytes of the round's packet: the head, and the kept bytes that its body is made of.
 -- The encoding of what the view of the kept bytes requests, with the round put in. Assumes nothing.
-use mathlib.Core.Path.{_≡_, refl, sym, ap, _∙_}
-use mathlib.Core.Bool.{Bool, true, false, cond, _&&_}
-use mathlib.Core.List.{List, [], _∷_, _++_, append-nil}
+use mathlib.Core.Path.{_≡_, refl, sym, ap}
+use mathlib.Core.List.{List, [], _++_, append-nil}
 use Prim.Native.Nat.{ℕ, zero, suc, _+_, _-_, _*_, _≤_}
 use native.Mathlib.Omega.{arith}
-use lib.Dec.{leb}
 use borrow.Author.Tests.{le-leb}
 use Rattle.cluster.specs.Config.{shelf}
-use Rattle.cluster.specs.Ranges.{within}
 use Rattle.protocol.specs.declared.Call.{Call}
 use Rattle.protocol.specs.declared.Head.{Head}
 use Rattle.protocol.specs.Format.{via, seq}
-use Rattle.protocol.specs.Packet.{encode, packetF, bodyF, headF, stampF, shareF, writeF, candidateF}
+use Rattle.protocol.specs.Packet.{encode, packetF, bodyF, headF, stampF, shareF, writeF, candidateF, candidatesF}
 use Rattle.protocol.specs.Client.{made}
-use Rattle.protocol.specs.View.{view, handOf, marked, chosenOf, sharesIn, shareAt, replySlotOf}
+use Rattle.protocol.specs.Rules.{gather}
+use Rattle.protocol.specs.View.{view, handOf, marked, chosenOf, sharesIn, shareAt, replySlotOf, candidatesIn}
 
 module _ (t client b : ℕ) (c : Call) (kept : List ℕ) where
   abbrev head : ℕ → Head
@@ -45,6 +43,10 @@ module _ (t client b : ℕ) (c : Call) (kept : List ℕ) where
   pub repair-bytes : bytes 6 ≡ headF .print (head 11) ++ (chosen ++ [])
   unfolding encode packetF via seq bodyF made handOf
   repair-bytes = ap (λ (x : List ℕ). headF .print (head 11) ++ x) (sym (append-nil chosen))
+
+  pub filter-bytes : bytes 5 ≡ headF .print (head 9) ++ candidatesF (shelf t) .print (gather (candidatesIn (shelf t) kept) (shelf t .servers))
+  unfolding encode packetF via seq bodyF made handOf
+  filter-bytes = refl
 
   pub store-bytes : 1 ≤ b → b ≤ shelf t .servers
       → bytes 2 ≡ headF .print (head 3) ++ (stampF .print (chosenOf (shelf t) kept .stamp) ++ shareF (shelf t) .print (shareAt (shelf t) (replySlotOf kept (b - 1))))

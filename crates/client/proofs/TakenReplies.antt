@@ -45,7 +45,7 @@ module _ (t client : ℕ) (writers : List ℕ) (keys : ByServer (List ℕ)) (c :
   unfolding packetAt
   sameKind = kind-decoded reply (packetAt h reply) (y .decoded)
 
-  on-round : contentRoom ≤ length output → (r : ℕ) → c .tally .round ≡ r → (r ≡ 1 → ⊥) → all ≡ takeOn real (shelf t) client writers keys c kept output r (some (record { head = h; body = body }))
+  pub on-round : contentRoom ≤ length output → (r : ℕ) → c .tally .round ≡ r → (r ≡ 1 → ⊥) → all ≡ takeOn real (shelf t) client writers keys c kept output r (some (record { head = h; body = body }))
   unfolding packetAt
   on-round room r e ne =
       ap (takeIn real (shelf t) client writers keys c kept output) (y .decoded)

@@ -1,3 +1,4 @@
 pub mod Core
 pub mod Answers
 pub mod Steps
+pub mod Filter

@@ -11,17 +11,18 @@ use Rattle.cluster.specs.Ranges.{within, topClient}
 use Rattle.cluster.specs.Refusals.{refuse, firstOf}
 use Rattle.hmac.specs.Hmac.{tagOf}
 use Rattle.sha256.specs.Sha256.{sha256}
-use Rattle.erasure.specs.Fragments.{fragment}
+use Rattle.erasure.specs.Fragments.{fragment, fragmentSize}
 use Rattle.protocol.specs.declared.Call.{Call}
 use Rattle.protocol.specs.declared.Head.{Head}
 use Rattle.protocol.specs.Values.{runOf}
-use Rattle.protocol.specs.Packet.{decode}
-use Rattle.protocol.specs.Client.{badFaults}
+use Rattle.protocol.specs.Format.{print2}
+use Rattle.protocol.specs.Packet.{decode, candidateF}
+use Rattle.protocol.specs.Client.{badFaults, candidateMade, sharesMade}
 use Rattle.wire.specs.Places.{packetAt}
 use Rattle.protocol.specs.ServerBytes.{over}
-use Rattle.protocol.specs.View.{marked, part, repliesAt, replySlot}
+use Rattle.protocol.specs.View.{marked, part, repliesAt, replySlot, chosenAt, contentOf, nonceOf}
 use Rattle.protocol.specs.Primitives.{real}
-use Rattle.protocol.specs.ClientBytes.{Written, Took, awaited, keyOf, put, clientTake}
+use Rattle.protocol.specs.ClientBytes.{Written, Took, awaited, keyOf, put, putShares, clientTake}
 use Rattle.client.specs.declared.answers.Answered.{Answered}
 
 -- another shelf's packet, or another client's
@@ -58,6 +59,18 @@ unfoldable pub shareRun : List ℕ → List ℕ → List ℕ → ℕ → List �
 shareRun kept size fragments f common zero = kept
 shareRun kept size fragments f common (suc n) =
     put (shareRun kept size fragments f common n) (repliesAt + replySlot * n) (size ++ (part fragments (f * n) f ++ common))
+
+-- the shares of a write of the content r in their slots, from the nonce's digest and the tags
+abbrev pub offered : ℕ → List ℕ → List ℕ → List ℕ → List ℕ → List ℕ
+offered t kept r digest tags =
+    shareRun kept (print2 (length r)) (fragmentRun t r (shelf t .servers)) (fragmentSize (shelf t .shares) (length r))
+    (digestRun t r (shelf t .servers) ++ (digest ++ tags)) (shelf t .servers)
+
+-- the kept bytes at the end of clock: the candidate and the shares of the write, under the number k
+abbrev pub writeMade : ℕ → ℕ → List ℕ → List (List ℕ) → Call → List ℕ → ℕ → List ℕ
+writeMade t client writers keys c kept k =
+    putShares (shelf t) (put kept chosenAt (candidateF (shelf t) .print (candidateMade real (shelf t) client writers (keyOf keys) (nonceOf kept) k)))
+    (sharesMade real (shelf t) client writers (keyOf keys) (contentOf c kept) (nonceOf kept) k) (shelf t .servers)
 
 -- all that is known of a reply of the pending round
 pub record Ready (t client : ℕ) (c : Call) (reply : List ℕ) (h : Head) : Type 0 where

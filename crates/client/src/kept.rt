@@ -6,7 +6,7 @@ ghost use lib.Dec.{leb};
 ghost use lib.ListN.{length};
 ghost use Rattle.cluster.specs.Config.{shelf};
 ghost use Rattle.cluster.specs.Ranges.{topLength};
-ghost use Rattle.protocol.specs.View.{chosenOf, contentOf};
+ghost use Rattle.protocol.specs.View.{keptSize, chosenOf, contentOf, nonceOf};
 ghost use Rattle.protocol.specs.ClientBytes.{put};
 
 pub const KEPT: usize = 24576;
@@ -57,4 +57,12 @@ pub(crate) fn content(kept: &[u8], call: protocol::Call) -> &[u8]
     ensures { λ r. ⌜ (now r ≡ contentOf call (now (kept .entry))) × (length (now r) ≤ topLength) ⌝ }
 {
     wire::bytes::part(kept, 0, content_length(call))
+}
+
+// The nonce of a write, by value.
+pub(crate) fn nonce(kept: &[u8]) -> [u8; 32]
+    requires { ⌜ length (now kept) ≡ keptSize ⌝ }
+    ensures { λ r. ⌜ r ≡ nonceOf (now (kept .entry)) ⌝ }
+{
+    wire::bytes::nonce_of(wire::bytes::part(kept, NONCE, cluster::KEY))
 }

@@ -1,7 +1,8 @@
 // The client: a pending call, the packets of its rounds and what their replies do.
 // A call's small state is lent as `protocol::Call`, its bulk as the kept bytes; every value of both has a meaning.
 ghost use mathlib.Core.Path.{_≡_};
-ghost use Rattle.protocol.specs.ClientBytes.{beginWrite, beginRead, giveUp};
+ghost use Rattle.protocol.specs.Primitives.{real};
+ghost use Rattle.protocol.specs.ClientBytes.{beginWrite, beginRead, clientMake, clientTake, giveUp};
 
 mod refusals; // which number refuses a step
 mod rounds; // the tally of a round
@@ -9,11 +10,15 @@ pub mod kept; // the kept bytes: their places, and what is read and written ther
 pub mod answers; // what a reply leads to
 mod replies; // whether a packet is an awaited reply
 mod stamps; // stamps and tags
-mod make; // the packet of the round
+mod list; // the list of filter
+pub mod packets; // the packet of the round
 mod prepare; // the end of clock
+mod clock; // the first round of a write
 mod writes; // the rounds of a write
 mod reads; // the rounds of a read
+mod filter; // the filter round
 pub mod begin; // beginning a call and giving it up
+pub mod taking; // a reply is taken
 
 // The state of a client that has begun no call.
 pub const NEW: protocol::Call = protocol::Call {
@@ -62,6 +67,27 @@ pub fn begin_read(
     s.taken
 }
 
+// A reply is taken.
+pub fn take(
+    call: &mut protocol::Call,
+    kept: &mut [u8; 24576],
+    t: usize,
+    client: usize,
+    writers: &[u8; 32],
+    keys: &[[u8; 32]; 13],
+    reply: &[u8],
+    out: &mut [u8],
+) -> protocol::Taken
+    ensures { λ r. ⌜ (r ≡ clientTake real t client (now (writers .entry)) (now (keys .entry)) (now (call .entry)) (now (kept .entry)) (now (reply .entry)) (now (out .entry)) .answer)
+        × ((now (call .exit) ≡ clientTake real t client (now (writers .entry)) (now (keys .entry)) (now (call .entry)) (now (kept .entry)) (now (reply .entry)) (now (out .entry)) .call)
+        × ((now (kept .exit) ≡ clientTake real t client (now (writers .entry)) (now (keys .entry)) (now (call .entry)) (now (kept .entry)) (now (reply .entry)) (now (out .entry)) .kept)
+        × (now (out .exit) ≡ clientTake real t client (now (writers .entry)) (now (keys .entry)) (now (call .entry)) (now (kept .entry)) (now (reply .entry)) (now (out .entry)) .output))) ⌝ }
+{
+    let s = taking::take_by_value(*call, kept, t, client, writers, keys, reply, out);
+    *call = s.call;
+    s.taken
+}
+
 // The pending call is given up.
 pub fn give_up(call: &mut protocol::Call, t: usize, client: usize) -> protocol::Aborted
     ensures { λ r. ⌜ (r ≡ giveUp t client (now (call .entry)) .answer) × (now (call .exit) ≡ giveUp t client (now (call .entry)) .call) ⌝ }
@@ -69,4 +95,18 @@ pub fn give_up(call: &mut protocol::Call, t: usize, client: usize) -> protocol::
     let s = begin::give_up_in(*call, t, client);
     *call = s.call;
     s.taken
+}
+
+// The packet of the pending round for a server.
+pub fn make(
+    call: protocol::Call,
+    kept: &[u8; 24576],
+    t: usize,
+    client: usize,
+    server: usize,
+    out: &mut [u8],
+) -> cluster::Outcome
+    ensures { λ r. ⌜ record { result = r; output = now (out .exit) } ≡ clientMake t client server call (now (kept .entry)) (now (out .entry)) ⌝ }
+{
+    packets::make_in(call, kept, t, client, server, out)
 }

@@ -4,7 +4,7 @@ ghost use mathlib.Core.List.{_++_};
 ghost use Prim.Native.Nat.{suc, _≤_, _+_, _*_};
 ghost use lib.ListN.{length};
 ghost use Rattle.cluster.specs.Config.{shelf};
-ghost use Rattle.cluster.specs.Ranges.{topFaults, topLength, mostServers};
+ghost use Rattle.cluster.specs.Ranges.{topFaults, topClient, topLength, mostServers};
 ghost use Rattle.erasure.specs.Fragments.{fragmentSize, fragment};
 ghost use Rattle.hmac.specs.Hmac.{tagSize};
 ghost use Rattle.sha256.specs.Sha256.{sha256};
@@ -12,9 +12,10 @@ ghost use Rattle.protocol.specs.Format.{print2};
 ghost use Rattle.protocol.specs.Values.{digestSize, stampSize, nonceSize};
 ghost use Rattle.protocol.specs.View.{repliesAt, replySlot, keptSize, chosenAt, contentOf};
 ghost use Rattle.protocol.specs.ClientBytes.{put};
-ghost use Rattle.client.specs.Steps.{fragmentRun, digestRun, shareRun};
+ghost use Rattle.client.specs.Steps.{tagRun, fragmentRun, digestRun, shareRun, offered, writeMade};
 use crate::kept;
 use crate::refusals;
+use crate::stamps;
 
 // The fragment of server i + 1 and its digest, each after those before it.
 fn put_fragment(fragments: &mut [u8], digests: &mut [u8], t: usize, i: usize, content: &[u8])
@@ -132,4 +133,90 @@ fn put_parts(
     put_fragments(fragments, common, t, content);
     put_common(common, cluster::KEY * refusals::servers(t), digest, tags);
     content.len()
+}
+
+// Bytes of all fragments of a content, and of what is the same in all shares, for every t.
+const FRAGMENTS: usize = 2665;
+
+const COMMON: usize = cluster::KEY * cluster::MOST_SERVERS
+    + cluster::KEY
+    + hmac::TAG * cluster::MOST_SERVERS;
+
+// The shares of a content of n bytes at their slots.
+fn put_sized(kept: &mut [u8], t: usize, n: usize, fragments: &[u8], common: &[u8])
+    requires { ⌜ (t ≤ topFaults) × ((n ≤ topLength) × ((length (now kept) ≡ keptSize) × (2 + (fragmentSize (shelf t .shares) n + length (now common)) ≤ replySlot))) ⌝ }
+    ensures { λ _. ⌜ now (kept .exit) ≡ shareRun (now (kept .entry)) (print2 n) (now (fragments .entry)) (fragmentSize (shelf t .shares) n) (now (common .entry)) (shelf t .servers) ⌝ }
+{
+    let f = wire::sizes::fragment_size(t as u8, n as u32);
+    put_shares(kept, t, size_bytes(n), fragments, f, common);
+}
+
+// Lines 102 to 104: the shares of the write. Fragments, digests and tags are made once for all servers.
+fn put_offer(kept: &mut [u8], call: protocol::Call, t: usize, digest: [u8; 32], tags: &[u8])
+    requires { ⌜ (1 ≤ t) × ((t ≤ topFaults) × ((length (now kept) ≡ keptSize) × (length (now tags) ≡ tagSize * shelf t .servers))) ⌝ }
+    ensures { λ _. ⌜ now (kept .exit) ≡ offered t (now (kept .entry)) (contentOf call (now (kept .entry))) digest (now (tags .entry)) ⌝ }
+{
+    let mut fragments = [0u8; FRAGMENTS];
+    let mut common = [0u8; COMMON];
+    let n = put_parts(&mut fragments, &mut common, kept, call, t, digest, tags);
+    let m = cluster::KEY * refusals::servers(t) + cluster::KEY + tags.len();
+    put_sized(kept, t, n, &fragments, wire::bytes::part(&common, 0, m));
+}
+
+// The candidate and the shares. The content stands below the candidate, which leaves it as it was.
+fn put_write(
+    kept: &mut [u8],
+    call: protocol::Call,
+    t: usize,
+    stamp: &[u8],
+    nonce: &[u8],
+    digest: [u8; 32],
+    tags: &[u8],
+)
+    requires { ⌜ (1 ≤ t) × ((t ≤ topFaults) × ((length (now kept) ≡ keptSize)
+        × ((length (now stamp) ≡ stampSize) × ((length (now nonce) ≡ nonceSize) × (length (now tags) ≡ tagSize * shelf t .servers))))) ⌝ }
+    ensures { λ _. ⌜ now (kept .exit) ≡ offered t (put (now (kept .entry)) chosenAt (now (stamp .entry) ++ (now (nonce .entry) ++ now (tags .entry))))
+        (contentOf call (now (kept .entry))) digest (now (tags .entry)) ⌝ }
+{
+    put_candidate(kept, stamp, nonce, tags);
+    put_offer(kept, call, t, digest, tags);
+}
+
+// The tags are made once, for the candidate and for all shares.
+fn put_tagged(
+    kept: &mut [u8],
+    call: protocol::Call,
+    t: usize,
+    keys: &[[u8; 32]; 13],
+    stamp: &[u8],
+    nonce: [u8; 32],
+)
+    requires { ⌜ (1 ≤ t) × ((t ≤ topFaults) × ((length (now kept) ≡ keptSize) × (length (now stamp) ≡ stampSize))) ⌝ }
+    ensures { λ _. ⌜ now (kept .exit) ≡ offered t
+        (put (now (kept .entry)) chosenAt (now (stamp .entry) ++ (nonce ++ tagRun (now (keys .entry)) (now (stamp .entry)) (sha256 nonce) (shelf t .servers))))
+        (contentOf call (now (kept .entry))) (sha256 nonce) (tagRun (now (keys .entry)) (now (stamp .entry)) (sha256 nonce) (shelf t .servers)) ⌝ }
+{
+    let digest = sha256::digest(&nonce);
+    let mut tags = [0u8; hmac::TAG * cluster::MOST_SERVERS];
+    stamps::put_tags(&mut tags, t, keys, stamp, digest);
+    let made = wire::bytes::part(&tags, 0, hmac::TAG * refusals::servers(t));
+    put_write(kept, call, t, stamp, &nonce, digest, made);
+}
+
+// The write under a number: its candidate and its shares, into the kept bytes.
+pub(crate) fn prepare(
+    kept: &mut [u8],
+    call: protocol::Call,
+    t: usize,
+    client: usize,
+    writers: &[u8; 32],
+    keys: &[[u8; 32]; 13],
+    number: u32,
+)
+    requires { ⌜ (1 ≤ t) × ((t ≤ topFaults) × ((client ≤ topClient) × (length (now kept) ≡ keptSize))) ⌝ }
+    ensures { λ _. ⌜ now (kept .exit) ≡ writeMade t client (now (writers .entry)) (now (keys .entry)) call (now (kept .entry)) number ⌝ }
+{
+    let nonce = kept::nonce(kept);
+    let stamp = stamps::stamp_bytes(writers, number, client as u8);
+    put_tagged(kept, call, t, keys, &stamp, nonce);
 }

@@ -8,3 +8,11 @@ pub mod Raising
 pub mod Storing
 pub mod Testing
 pub mod Repairing
+pub mod Ranking
+pub mod Choosing
+pub mod Trying
+pub mod Held
+pub mod Listing
+pub mod Filtering
+pub mod Taking
+pub mod Unraising

@@ -1,7 +1,7 @@
 -- What the answer to each kind of request leaves, where the memory opens, the packet was let through, and the buffer has room:
 -- the server's step on values, in the bytes of memory and output.
 use mathlib.Core.Path.{_≡_}
-use mathlib.Core.Bool.{cond}
+use mathlib.Core.Bool.{false, cond}
 use mathlib.Core.List.{List, [], _∷_}
 use mathlib.Core.Option.{some}
 use Prim.Native.Nat.{ℕ, _+_, _≤_}
@@ -13,6 +13,7 @@ use Rattle.protocol.specs.declared.Head.{Head}
 use Rattle.protocol.specs.Packet.{decode}
 use Rattle.protocol.specs.Memory.{Memory}
 use Rattle.protocol.specs.Primitives.{real}
+use Rattle.protocol.specs.Server.{barred}
 use Rattle.protocol.specs.View.{stampAt, candidateAt}
 use Rattle.protocol.specs.ServerBytes.{Served, accepted}
 use Rattle.wire.specs.Places.{packetAt}
@@ -43,6 +44,12 @@ AnswersFor k d packet output h r = (key : List ℕ) (n e : ℕ) → AnswersAs k 
 
 abbrev pub AnswersAll : ℕ → List ℕ → List ℕ → Head → Served → Type 0
 AnswersAll k d output h r = (packet : List ℕ) → AnswersFor k d packet output h r
+
+-- r is the step of a packet of any kind that is not refused with 9
+abbrev pub AnswersAny : List ℕ → List ℕ → List ℕ → List ℕ → Head → ℕ → ℕ → Served → Type 0
+AnswersAny d key packet output h n e r =
+    (o : Opened d (h .t) (h .server) n e) → decode packet ≡ some (packetAt h packet) → barred (h .client) (packetAt h packet .body) ≡ false → packetRoom ≤ length output
+    → r ≡ accepted real d key packet output (memoryIn o) (decode packet)
 
 -- the candidate's bytes c over the latest ones, if its stamp is higher
 unfoldable pub raisedBytes : List ℕ → List ℕ → List ℕ

@@ -1,7 +1,9 @@
-// Making a server blank.
+// Making a server blank, and its latest candidate only.
 ghost use mathlib.Core.Path.{_≡_};
 ghost use lib.ListN.{length, replicate};
 ghost use Rattle.protocol.specs.ServerBytes.{blankStep};
+ghost use Rattle.server.specs.Blank.{blankLatest};
+use crate::memory::MemoryRead;
 
 // No byte but 00h.
 fn clear(memory: &mut [u8])
@@ -51,6 +53,39 @@ pub fn blank(memory: &mut [u8], t: usize, server: usize) -> cluster::Outcome
     clear(memory);
     memory[0] = t as u8;
     memory[1] = server as u8;
+    cluster::Outcome {
+        number: 0,
+        count: 0,
+    }
+}
+
+// Bytes of the longest candidate.
+const CANDIDATE: usize = wire::sizes::STAMP
+    + wire::sizes::NONCE
+    + hmac::TAG * cluster::MOST_SERVERS;
+
+// The latest candidate becomes blank, and the history stays.
+pub fn blank_latest(memory: &mut [u8]) -> cluster::Outcome
+    ensures { λ r. ⌜ record { result = r; memory = now (memory .exit) } ≡ blankLatest (now (memory .entry)) ⌝ }
+{
+    if memory.len() != cluster::MEMORY {
+        return cluster::Outcome {
+            number: 1,
+            count: 0,
+        };
+    }
+    let MemoryRead::Value(t, server, n, end) = crate::memory::open(memory) else {
+        return cluster::Outcome {
+            number: 2,
+            count: 0,
+        };
+    };
+    let zeros = [0u8; CANDIDATE];
+    wire::make::put(
+        memory,
+        crate::memory::LATEST,
+        wire::bytes::part(&zeros, 0, wire::sizes::candidate_size(t)),
+    );
     cluster::Outcome {
         number: 0,
         count: 0,

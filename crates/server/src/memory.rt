@@ -62,7 +62,7 @@ pub(crate) fn key_at(stamp: &[u8]) -> u64
     256 * (wire::bytes::number4(stamp) as u64) + (wire::bytes::byte_at(stamp, 4) as u64)
 }
 
-fn max_of(a: u64, b: u64) -> u64
+pub(crate) fn max_of(a: u64, b: u64) -> u64
     ensures { λ r. ⌜ r ≡ maxOf a b ⌝ }
 {
     if a < b {

@@ -1,0 +1,82 @@
+use borrow.Author.Needs.{needs}
+use native.Mathlib.Omega.{arith}
+use mathlib.Core.Path.{_≡_, ap, _∙_}
+use mathlib.Core.List.{List}
+use Prim.Native.Nat.{ℕ, _+_, _*_, _≤_}
+use lib.ListN.{length, replicate, length-replicate}
+use Rattle.cluster.specs.Config.{shelf}
+use Rattle.protocol.specs.Values.{candidateSize}
+use Rattle.protocol.specs.View.{part, candidateSlot}
+use Rattle.protocol.specs.ClientBytes.{put}
+use Rattle.wire.proofs.Runs.{part-most}
+use Rattle.client.specs.Filter.{repairBytes}
+use Rattle.client.proofs.Repairs.{repair-cut}
+use Rattle.client.proofs.filter.repair_with.Statement.{statement}
+use Rattle.client.proofs.filter.repair_with.Tie as tie
+
+slice-aggregate-put-repair : tie.Need-slice-aggregate-put-repair
+slice-aggregate-put-repair c = search needs
+
+put-repair-requires : tie.Need-put-repair-requires
+put-repair-requires c κs = search needs
+
+write-at-requires : tie.Need-write-at-requires
+write-at-requires c κs = search needs
+
+cast-candidate-size : tie.Need-cast-candidate-size
+cast-candidate-size c = search needs
+
+candidate-size-requires : tie.Need-candidate-size-requires
+candidate-size-requires c κs = search needs
+
+slice-aggregate-part : tie.Need-slice-aggregate-part
+slice-aggregate-part c = search needs
+
+part-requires : tie.Need-part-requires
+part-requires c κs = search needs
+
+write-at-requires-2 : tie.Need-write-at-requires-2
+unfolding shelf
+write-at-requires-2 c κs =
+    let n = c .before .before .before .candidate-size .result in
+    let z : n ≡ 69 + 32 * (3 * c .before .before .before .before .before .before .before .before .before .before .before .before .before .before .args .t + 1) = c .before .before .before .candidate-size .ensures in
+    let q : length (c .part .result .now) ≤ n = rw (c .part .ensures) (part-most (c .before .before .before .before .before .before .before .before .before .put-repair .last .0) 0 n) in
+    omega (arith, c .before .before .before .before .before .before .before .before .before .before .before .before .before .before .pre .0, c .before .before .before .before .before .before .before .before .before .before .before .before .before .before .pre .1 .1 .1 .1 .0)
+
+cast-repairing : tie.Need-cast-repairing
+cast-repairing c = search needs
+
+repairing-requires : tie.Need-repairing-requires
+repairing-requires c κs = search needs
+
+same-length : tie.Need-same-length
+same-length c = search needs
+
+returns : tie.Need-returns
+returns c =
+    let a = c .before .before .before .before .before .before .before .before .before .before .before .before .before .before .before .before .before .before .args in
+    let p = c .before .before .before .before .before .before .before .before .before .before .before .before .before .before .before .before .before .before .pre in
+    let R : List ℕ = repairBytes (a .t) (a .kept .now) (a .i) (a .b) (length (a .content .now)) in
+    let e : c .before .before .before .before .before .before .before .before .before .before .before .before .before .put-repair .last .0 ≡ put (replicate candidateSlot 0) 0 R = c .before .before .before .before .before .before .before .before .before .before .before .before .before .put-repair .ensures in
+    let l : length {A = ℕ} (replicate candidateSlot 0) ≡ candidateSlot = length-replicate {A = ℕ} candidateSlot 0 in
+    let k : part (c .before .before .before .before .before .before .before .before .before .before .before .before .before .put-repair .last .0) 0 (candidateSize (shelf (a .t))) ≡ R =
+    ap (λ (x : List ℕ). part x 0 (candidateSize (shelf (a .t)))) e
+    ∙ repair-cut (a .t) (a .kept .now) (a .i) (a .b) (length (a .content .now)) (p .0) (p .1 .1 .1 .1 .0) (p .1 .0) (p .1 .1 .0) (p .1 .1 .1 .0) (p .1 .1 .1 .1 .1) (replicate candidateSlot 0) (omega (arith, l)) in
+    (c .repairing .ensures, c .before .before .before .write-at2 .ensures ∙ rw (c .before .before .before .before .part .ensures, c .before .before .before .before .before .before .before .candidate-size .ensures, c .before .before .before .before .before .before .before .before .before .before .write-at .ensures, k))
+
+pub repair-with-spec : {M : Type 1} → statement M
+repair-with-spec =
+    tie.close
+    (tie.spec
+    slice-aggregate-put-repair
+    put-repair-requires
+    write-at-requires
+    cast-candidate-size
+    candidate-size-requires
+    slice-aggregate-part
+    part-requires
+    write-at-requires-2
+    cast-repairing
+    repairing-requires
+    same-length
+    returns)

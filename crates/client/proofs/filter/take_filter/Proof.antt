@@ -1,0 +1,95 @@
+use borrow.Author.Needs.{needs}
+use native.Mathlib.Omega.{arith}
+use mathlib.Core.Path.{sym, ap, _∙_, subst}
+use Prim.Native.Nat.{ℕ, _+_, _-_, _*_}
+use lib.ListN.{drop}
+use Rattle.protocol.specs.Format.{Bytes}
+use Rattle.protocol.specs.Packet.{headSize}
+use Rattle.protocol.specs.View.{repliesAt, replySlot}
+use Rattle.protocol.specs.ClientBytes.{put}
+use Rattle.client.proofs.FilterReplies.{faults-range, server-range, body-fits, filter-more, filter-ends}
+use Rattle.client.proofs.filter.take_filter.Statement.{statement}
+use Rattle.client.proofs.filter.take_filter.Tie as tie
+
+cast-server : tie.Need-cast-server
+cast-server c = search needs
+
+rest-requires : tie.Need-rest-requires
+rest-requires c κs = search needs
+
+put-reply-requires : tie.Need-put-reply-requires
+put-reply-requires c κs =
+    let a = c .before .before .before .before .before .before .args in
+    let p = c .before .before .before .before .before .before .pre in
+    let Y : Bytes (a .reply .now) = λ k. c .before .before .before .before .shared-slice-known .given k .fits in
+    let v = server-range (a .t) (a .client) (a .call) (a .reply .now) (a .head) (p .0) in
+    (v .0, (v .1, (p .1 .1 .0, rw (c .rest .ensures) (body-fits (a .t) (a .client) (a .call) (a .reply .now) (a .head) (p .0) (p .1 .0) Y))))
+
+note-reply-requires : tie.Need-note-reply-requires
+note-reply-requires c κs =
+    let a = c .before .before .before .before .before .before .before .before .before .args in
+    server-range (a .t) (a .client) (a .call) (a .reply .now) (a .head) (c .before .before .before .before .before .before .before .before .before .pre .0)
+
+is-last-requires : tie.Need-is-last-requires
+is-last-requires c κs =
+    let a = c .before .before .before .before .before .before .before .before .before .before .args in
+    faults-range (a .t) (a .client) (a .call) (a .reply .now) (a .head) (c .before .before .before .before .before .before .before .before .before .before .pre .0) .1
+
+judge-requires : tie.Need-judge-requires
+judge-requires c κs =
+    let a = c .before .before .before .before .before .before .before .before .before .before .before .before .before .before .args in
+    let p = c .before .before .before .before .before .before .before .before .before .before .before .before .before .before .pre in
+    let r = faults-range (a .t) (a .client) (a .call) (a .reply .now) (a .head) (p .0) in
+    (r .0, (r .1, (omega (arith, p .1 .1 .0), p .1 .1 .1)))
+
+same-length : tie.Need-same-length
+same-length c = search needs
+
+same-length-2 : tie.Need-same-length-2
+same-length-2 c = search needs
+
+returns : tie.Need-returns
+returns c =
+    let a = c .before .before .before .before .before .before .before .before .before .before .before .before .before .before .before .before .before .before .before .args in
+    let p = c .before .before .before .before .before .before .before .before .before .before .before .before .before .before .before .before .before .before .before .pre in
+    let Y : Bytes (a .reply .now) = λ k. c .before .before .before .before .before .before .before .before .before .before .before .before .before .before .before .before .before .shared-slice-known .given k .fits in
+    let e = sym (c .before .before .before .before .before .before .before .before .is-last .ensures) ∙ c .before .before .before .before .before .before .before .if1 .taken in
+    let at : ℕ = repliesAt + replySlot * (a .head .server - 1) in
+    let N : Bytes (c .before .before .before .before .before .before .before .before .before .before .before .before .put-reply .last .0) = λ k. c .before .before .before .before .before .before .before .before .before .before .slice-known3 .given k .fits in
+    let K : Bytes (put (a .kept .now) at (drop headSize (a .reply .now))) = subst Bytes (c .before .before .before .before .before .before .before .before .before .before .before .before .put-reply .ensures ∙ ap (put (a .kept .now) at) (c .before .before .before .before .before .before .before .before .before .before .before .before .before .rest .ensures)) N in
+    λ writers keys.
+    c .before .before .before .before .judge .ensures ∙ rw (c .before .before .before .before .before .before .before .before .before .note-reply .ensures, c .before .before .before .before .before .before .before .before .before .before .before .before .put-reply .ensures, c .before .before .before .before .before .before .before .before .before .before .before .before .before .rest .ensures)
+    (filter-ends (a .t) (a .client) (a .call) (a .reply .now) (a .head) (p .0) (p .1 .0) Y writers keys (a .kept .now) (a .out .now) (p .1 .1 .1) (p .1 .1 .0) K e)
+
+more-requires : tie.Need-more-requires
+more-requires c κs = search needs
+
+same-length-3 : tie.Need-same-length-3
+same-length-3 c = search needs
+
+returns-2 : tie.Need-returns-2
+returns-2 c =
+    let a = c .before .before .before .before .before .before .before .before .before .before .before .before .before .args in
+    let p = c .before .before .before .before .before .before .before .before .before .before .before .before .before .pre in
+    let Y : Bytes (a .reply .now) = λ k. c .before .before .before .before .before .before .before .before .before .before .before .shared-slice-known .given k .fits in
+    let e = sym (c .before .before .is-last .ensures) ∙ c .before .if1 .left in
+    λ writers keys.
+    rw (c .more .ensures, c .before .before .before .note-reply .ensures, c .before .before .before .before .before .before .put-reply .ensures, c .before .before .before .before .before .before .before .rest .ensures)
+    (filter-more (a .t) (a .client) (a .call) (a .reply .now) (a .head) (p .0) (p .1 .0) Y writers keys (a .kept .now) (a .out .now) (p .1 .1 .1) e)
+
+pub take-filter-spec : {M : Type 1} → statement M
+take-filter-spec =
+    tie.close
+    (tie.spec
+    cast-server
+    rest-requires
+    put-reply-requires
+    note-reply-requires
+    is-last-requires
+    judge-requires
+    same-length
+    same-length-2
+    returns
+    more-requires
+    same-length-3
+    returns-2)

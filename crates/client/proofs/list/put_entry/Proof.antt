@@ -1,0 +1,81 @@
+-- A slot's candidate is written as it stands, or nothing is. Assumes nothing.
+use native.Mathlib.Omega.{arith}
+use mathlib.Core.Path.{_≡_, sym, _∙_}
+use mathlib.Core.Bool.{true, false}
+use mathlib.Core.List.{List}
+use Prim.Native.Nat.{ℕ, _≤_, _+_, _*_}
+use lib.ListN.{length}
+use borrow.Author.Tests.{not-true, not-false}
+use Rattle.cluster.specs.Config.{shelf}
+use Rattle.protocol.specs.Format.{Bytes}
+use Rattle.protocol.specs.Values.{candidateSize}
+use Rattle.protocol.specs.View.{part, candidatesAt, candidateSlot}
+use Rattle.wire.proofs.Put.{placed-wrote}
+use Rattle.wire.proofs.Runs.{part-most}
+use Rattle.decide.specs.Listing.{listedIn}
+use Rattle.client.proofs.ListBytes.{wrote-none, slot-back}
+use borrow.Author.Needs.{needs}
+use Rattle.client.proofs.list.put_entry.Statement.{statement}
+use Rattle.client.proofs.list.put_entry.Tie as tie
+
+listed-requires : tie.Need-listed-requires
+listed-requires c κs = search needs
+
+returns : tie.Need-returns
+returns c =
+    let a = c .before .before .before .before .args in
+    let e : listedIn (a .t) (a .kept .now) (a .i) ≡ false = sym (c .before .listed .ensures) ∙ not-true (c .before .listed .result) (c .if1 .taken) in
+    rw e (wrote-none (a .out .now) (a .at))
+
+mul-part : tie.Need-mul-part
+mul-part c = search needs
+
+add-part : tie.Need-add-part
+add-part c = search needs
+
+part-requires : tie.Need-part-requires
+part-requires c κs = search needs
+
+cast-candidate-size : tie.Need-cast-candidate-size
+cast-candidate-size c = search needs
+
+candidate-size-requires : tie.Need-candidate-size-requires
+candidate-size-requires c κs = search needs
+
+part-requires-2 : tie.Need-part-requires-2
+part-requires-2 c κs = search needs
+
+put-requires : tie.Need-put-requires
+put-requires c κs = search needs
+
+same-length : tie.Need-same-length
+same-length c = search needs
+
+returns-2 : tie.Need-returns-2
+unfolding shelf
+returns-2 c =
+    let a = c .before .before .before .before .before .before .before .before .before .before .before .args in
+    let p = c .before .before .before .before .before .before .before .before .before .before .before .pre in
+    let K : Bytes (a .kept .now) = λ k. c .before .before .before .before .before .before .before .before .before .shared-slice-known .given k .fits in
+    let e : listedIn (a .t) (a .kept .now) (a .i) ≡ true = sym (c .before .before .before .before .before .before .before .before .listed .ensures) ∙ not-false (c .before .before .before .before .before .before .before .before .listed .result) (c .before .before .before .before .before .before .before .if1 .left) in
+    let D : List ℕ = part (a .kept .now) (candidatesAt + candidateSlot * a .i) candidateSlot in
+    let x : List ℕ = part D 0 (candidateSize (shelf (a .t))) in
+    let l : length x ≤ candidateSlot = omega (arith, part-most D 0 (candidateSize (shelf (a .t))), p .0) in
+    let q = rw (c .before .before .before .part2 .ensures, c .before .before .before .before .before .before .part .ensures, c .before .before .before .before .before .candidate-size .ensures) at (c .before .before .put .ensures) in
+    rw (e, slot-back (shelf (a .t)) (a .kept .now) (a .i) (p .1 .0) (p .1 .1 .0) K) (placed-wrote {b = x} q (omega (arith, p .1 .1 .1)))
+
+pub put-entry-spec : {M : Type 1} → statement M
+put-entry-spec =
+    tie.close
+    (tie.spec
+    listed-requires
+    returns
+    mul-part
+    add-part
+    part-requires
+    cast-candidate-size
+    candidate-size-requires
+    part-requires-2
+    put-requires
+    same-length
+    returns-2)

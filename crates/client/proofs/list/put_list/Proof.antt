@@ -1,0 +1,87 @@
+-- The loop's invariant: the list of the slots passed is written. Assumes nothing.
+use native.Mathlib.Omega.{arith}
+use mathlib.Core.Path.{_≡_}
+use Prim.Native.Nat.{_≤_, _-_, _+_, _*_}
+use Rattle.cluster.specs.Config.{shelf}
+use Rattle.protocol.specs.Format.{printMany}
+use Rattle.protocol.specs.Packet.{candidateF}
+use Rattle.protocol.specs.Reading.{Wrote}
+use Rattle.protocol.specs.Rules.{gather}
+use Rattle.protocol.specs.View.{candidatesIn}
+use Rattle.protocol.proofs.Puts.{wrote-length}
+use Rattle.client.proofs.ListBytes.{wrote-none, list-room, list-entry}
+use borrow.Author.Needs.{needs}
+use Rattle.client.proofs.list.put_list.Statement.{statement}
+use Rattle.client.proofs.list.put_list.Tie as tie
+
+abbrev Inv-loop : tie.InvT-loop
+Inv-loop out₀ at kept t s next₀ i₀ out next i = (i ≤ s) × (Wrote out₀ at (printMany (candidateF (shelf t)) (gather (candidatesIn (shelf t) kept) i)) out next)
+
+abbrev μ-loop : tie.MeasureT-loop
+μ-loop out₀ at kept t s next₀ i₀ out next i = s - i
+
+servers-requires : tie.Need-servers-requires Inv-loop μ-loop
+servers-requires c κs = search needs
+
+loop-holds : tie.Need-loop-holds Inv-loop μ-loop
+unfolding gather
+loop-holds c = let a = c .before .before .before .args in (omega arith, wrote-none (a .out .now) (a .at))
+
+put-entry-requires : tie.Need-put-entry-requires Inv-loop μ-loop
+unfolding shelf
+put-entry-requires c κs =
+    let a = c .before .before .before .before .before .before .args in
+    let p = c .before .before .before .before .before .before .pre in
+    let i = c .before .before .loop .i in
+    let v = c .before .before .loop .inv in
+    let s : c .before .before .before .servers .result ≡ 3 * a .t + 1 = c .before .before .before .servers .ensures in
+    let m = list-room (a .t) (a .kept .now) (p .0) (p .1 .0) (p .1 .1 .0) i (omega (arith, v .0)) in
+    let l = wrote-length (v .1) (omega (arith, m, p .1 .0, p .1 .1 .1, v .0)) in
+    (p .1 .0, (omega (arith, p .1 .0), (p .1 .1 .0, omega (arith, m, l, v .1 .place, p .1 .0, p .1 .1 .1))))
+
+add-i : tie.Need-add-i Inv-loop μ-loop
+add-i c = search needs
+
+loop-less : tie.Need-loop-less Inv-loop μ-loop
+loop-less c = search needs
+
+loop-again : tie.Need-loop-again Inv-loop μ-loop
+loop-again c =
+    let a = c .before .before .before .before .before .before .before .before .before .args in
+    let p = c .before .before .before .before .before .before .before .before .before .pre in
+    let i = c .before .before .before .before .before .loop .i in
+    let v = c .before .before .before .before .before .loop .inv in
+    (omega arith, list-entry (a .t) (a .kept .now) (p .0) (p .1 .0) (p .1 .1 .0) i (omega (arith, c .before .before .before .before .before .before .servers .ensures)) (p .1 .1 .1) (v .1) (c .before .before .put-entry .ensures))
+
+same-length : tie.Need-same-length Inv-loop μ-loop
+unfolding shelf
+same-length c =
+    let a = c .before .before .before .before .before .args in
+    let p = c .before .before .before .before .before .pre in
+    let i = c .before .loop .i in
+    let v = c .before .loop .inv in
+    let s : c .before .before .servers .result ≡ 3 * a .t + 1 = c .before .before .servers .ensures in
+    let m = list-room (a .t) (a .kept .now) (p .0) (p .1 .0) (p .1 .1 .0) i (omega (arith, v .0)) in
+    let l = wrote-length (v .1) (omega (arith, m, p .1 .0, p .1 .1 .1, v .0)) in
+    l
+
+returns : tie.Need-returns Inv-loop μ-loop
+returns c =
+    let a = c .before .before .before .before .before .args in
+    let q : c .before .loop .i ≡ shelf (a .t) .servers = omega (arith, c .before .before .servers .ensures) in
+    rw q at (c .before .loop .inv .1)
+
+pub put-list-spec : {M : Type 1} → statement M
+put-list-spec =
+    tie.close
+    (tie.spec
+    Inv-loop
+    μ-loop
+    servers-requires
+    loop-holds
+    put-entry-requires
+    add-i
+    loop-less
+    loop-again
+    same-length
+    returns)

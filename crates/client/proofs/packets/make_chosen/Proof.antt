@@ -1,0 +1,53 @@
+-- The candidate is printed as it stands in its slot. Assumes nothing.
+use borrow.Author.Needs.{needs}
+use native.Mathlib.Omega.{arith}
+use mathlib.Core.Path.{_≡_, sym, ap, _∙_}
+use mathlib.Core.List.{List, [], _++_}
+use Prim.Native.Nat.{ℕ}
+use lib.ListN.{length}
+use Rattle.cluster.specs.Config.{shelf}
+use Rattle.protocol.specs.Values.{candidateSize}
+use Rattle.protocol.specs.Packet.{headF, candidateF}
+use Rattle.protocol.specs.View.{part, chosenOf, chosenAt, candidateSlot, candidateAt}
+use Rattle.wire.proofs.Runs.{part-most}
+use Rattle.client.specs.Steps.{wholePacket}
+use Rattle.client.proofs.Printed.{packet-fits, candidate-back, bytes-part, part-length}
+use Rattle.client.proofs.packets.make_chosen.Statement.{statement}
+use Rattle.client.proofs.packets.make_chosen.Tie as tie
+
+part-requires : tie.Need-part-requires
+part-requires c κs = search needs
+
+cast-candidate-size : tie.Need-cast-candidate-size
+cast-candidate-size c = omega (arith, c .before .before .before .pre .0)
+
+candidate-size-requires : tie.Need-candidate-size-requires
+candidate-size-requires c κs = search needs
+
+part-requires-2 : tie.Need-part-requires-2
+part-requires-2 c κs = search needs
+
+slice-aggregate-make-packet : tie.Need-slice-aggregate-make-packet
+slice-aggregate-make-packet c = search needs
+
+make-packet-requires : tie.Need-make-packet-requires
+make-packet-requires c κs = search needs
+
+same-length : tie.Need-same-length
+same-length c = search needs
+
+returns : tie.Need-returns
+unfolding chosenOf shelf
+returns c =
+    let a = c .before .before .before .before .before .before .before .before .before .before .args in
+    let p = c .before .before .before .before .before .before .before .before .before .before .pre in
+    let D : List ℕ = part (a .kept .now) chosenAt candidateSlot in
+    let y = bytes-part (a .kept .now) chosenAt candidateSlot (λ k. c .before .before .before .before .before .before .before .before .before .shared-slice-known .given k .fits) in
+    let l : length D ≡ candidateSlot = part-length (a .kept .now) chosenAt candidateSlot (omega (arith, p .1 .0)) in
+    let e : part D 0 (candidateSize (shelf (a .t))) ≡ candidateF (shelf (a .t)) .print (candidateAt (shelf (a .t)) D) = sym (candidate-back (shelf (a .t)) D y (omega (arith, l))) in
+    let m = part-most D 0 (candidateSize (shelf (a .t))) in
+    c .before .before .make-packet .ensures ∙ rw (c .before .before .before .before .before .part2 .ensures, c .before .before .before .before .before .before .before .part .ensures, c .before .before .before .before .before .before .candidate-size .ensures) (packet-fits (a .head) (part D 0 (candidateSize (shelf (a .t)))) [] (a .out .now) (p .1 .1) (omega (arith, m, p .0))
+    ∙ ap (λ (x : List ℕ). wholePacket (headF .print (a .head) ++ (x ++ [])) (a .out .now)) e)
+
+pub make-chosen-spec : {M : Type 1} → statement M
+make-chosen-spec = tie.close (tie.spec part-requires cast-candidate-size candidate-size-requires part-requires-2 slice-aggregate-make-packet make-packet-requires same-length returns)

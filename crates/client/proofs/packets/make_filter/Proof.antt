@@ -1,0 +1,56 @@
+-- Head, count and list are written one after another. Assumes nothing.
+use native.Mathlib.Omega.{arith}
+use mathlib.Core.Path.{_≡_, _∙_}
+use mathlib.Core.List.{List}
+use lib.ListN.{length}
+use Rattle.cluster.specs.Config.{shelf}
+use Rattle.protocol.specs.Format.{printMany, via, seq, byte, many}
+use Rattle.protocol.specs.Values.{Candidate}
+use Rattle.protocol.specs.Packet.{candidateF, candidatesF}
+use Rattle.protocol.specs.Rules.{gather}
+use Rattle.protocol.specs.View.{candidatesIn}
+use Rattle.client.proofs.ListBytes.{after-count, filter-made, count-is, list-room}
+use borrow.Author.Needs.{needs}
+use Rattle.client.proofs.packets.make_filter.Statement.{statement}
+use Rattle.client.proofs.packets.make_filter.Tie as tie
+
+put-head-requires : tie.Need-put-head-requires
+put-head-requires c κs = search needs
+
+count-listed-requires : tie.Need-count-listed-requires
+count-listed-requires c κs = search needs
+
+put-byte-requires : tie.Need-put-byte-requires
+put-byte-requires c κs = search needs
+
+put-list-requires : tie.Need-put-list-requires
+put-list-requires c κs =
+    let a = c .before .before .before .before .before .before .before .before .before .before .before .before .args in
+    let p = c .before .before .before .before .before .before .before .before .before .before .before .before .pre in
+    let k = after-count (a .head) (c .before .before .before .before .count-listed .result) (a .out .now) (p .1 .1 .1) (c .before .before .before .before .before .before .before .before .put-head .ensures) (c .before .before .before .put-byte .ensures) in
+    (p .0, (p .1 .0, (p .1 .1 .0, omega (arith, k .0, k .1, p .1 .1 .1))))
+
+same-length : tie.Need-same-length
+same-length c = search needs
+
+returns : tie.Need-returns
+unfolding candidatesF via seq byte many shelf
+returns c =
+    let a = c .before .before .before .before .before .before .before .before .before .before .before .before .before .before .before .args in
+    let p = c .before .before .before .before .before .before .before .before .before .before .before .before .before .before .before .pre in
+    let G : List Candidate = gather (candidatesIn (shelf (a .t)) (a .kept .now)) (shelf (a .t) .servers) in
+    let n : c .before .before .before .before .before .before .before .count-listed .result ≡ length G = c .before .before .before .before .before .before .before .count-listed .ensures ∙ count-is (a .t) (a .kept .now) (p .0) (p .1 .0) (p .1 .1 .0) in
+    let l = list-room (a .t) (a .kept .now) (p .0) (p .1 .0) (p .1 .1 .0) (shelf (a .t) .servers) (omega arith) in
+    filter-made (a .head) (length G) (a .out .now) (p .1 .1 .1) (c .before .before .before .before .before .before .before .before .before .before .before .put-head .ensures) (rw n at (c .before .before .before .before .before .before .put-byte .ensures))
+    (printMany (candidateF (shelf (a .t))) G) (omega (arith, l, p .1 .0)) (c .before .before .put-list .ensures)
+
+pub make-filter-spec : {M : Type 1} → statement M
+make-filter-spec =
+    tie.close
+    (tie.spec
+    put-head-requires
+    count-listed-requires
+    put-byte-requires
+    put-list-requires
+    same-length
+    returns)

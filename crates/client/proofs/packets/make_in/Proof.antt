@@ -1,0 +1,38 @@
+-- Each way to a return is one case of the definition. Assumes nothing.
+use mathlib.Core.Path.{sym, _∙_}
+use Rattle.client.proofs.Makes.{make-short, make-refused, make-goes, make-fits}
+use borrow.Author.Needs.{needs}
+use Rattle.client.proofs.packets.make_in.Statement.{statement}
+use Rattle.client.proofs.packets.make_in.Tie as tie
+
+returns : tie.Need-returns
+returns c =
+    let a = c .before .before .before .args in
+    sym (make-short (a .t) (a .client) (a .server) (a .call) (a .kept .now) (a .out .now) (c .if1 .taken))
+
+make-refusal-requires : tie.Need-make-refusal-requires
+make-refusal-requires c κs = search needs
+
+returns-2 : tie.Need-returns-2
+returns-2 c =
+    let a = c .before .before .before .before .before .args in
+    sym (make-refused (a .t) (a .client) (a .server) (a .call) (a .kept .now) (a .out .now) (c .before .before .if1 .left) (c .before .make-refusal .result) (c .before .make-refusal .ensures) (c .if2 .taken))
+
+make-round-requires : tie.Need-make-round-requires
+make-round-requires c κs =
+    let a = c .before .before .before .before .before .before .args in
+    let f = make-fits (a .t) (a .client) (a .server) (a .call) (a .kept .now) (a .out .now) (sym (c .before .before .make-refusal .ensures) ∙ c .before .if2 .left) in
+    (f .0, (f .1 .0, (f .1 .1 .0, (f .1 .1 .1 .0, (f .1 .1 .1 .1 .0, (c .before .before .before .if1 .left, (f .1 .1 .1 .1 .1 .0, f .1 .1 .1 .1 .1 .1)))))))
+
+same-length : tie.Need-same-length
+same-length c = search needs
+
+returns-3 : tie.Need-returns-3
+returns-3 c =
+    let a = c .before .before .before .before .before .before .before .before .before .args in
+    c .before .before .make-round .ensures ∙ sym (make-goes (a .t) (a .client) (a .server) (a .call) (a .kept .now) (a .out .now) (c .before .before .before .before .before .before .if1 .left) (sym (c .before .before .before .before .before .make-refusal .ensures) ∙ c .before .before .before .before .if2 .left))
+
+pub make-in-spec : {M : Type 1} → statement M
+make-in-spec =
+    tie.close
+    (tie.spec returns make-refusal-requires returns-2 make-round-requires same-length returns-3)

@@ -1,0 +1,114 @@
+-- Each round's packet is what the definition encodes for it. Assumes nothing.
+use borrow.Author.Needs.{needs}
+use native.Mathlib.Omega.{arith}
+use mathlib.Core.Path.{_≡_, refl, sym, ap, _∙_}
+use mathlib.Core.List.{List}
+use Prim.Native.Nat.{ℕ, _-_, _*_, _≤_}
+use Rattle.cluster.specs.Config.{shelf}
+use Rattle.cluster.specs.Ranges.{mostServers}
+use Rattle.client.specs.Steps.{wholePacket}
+use Rattle.client.proofs.Tests.{hand-round}
+use Rattle.client.proofs.MadeBytes.{round-bytes, store-bytes, complete-bytes, repair-bytes, empty-bytes}
+use Rattle.client.proofs.packets.make_plain.Statement.{statement}
+use Rattle.client.proofs.packets.make_plain.Tie as tie
+
+mul-head-of : tie.Need-mul-head-of
+mul-head-of c =
+    let a = c .before .before .before .args in
+    let p = c .before .before .before .pre in
+    let r = hand-round (a .call) (p .1 .1 .1 .1 .1 .1 .0) in
+    omega arith
+
+sub-head-of : tie.Need-sub-head-of
+sub-head-of c =
+    let a = c .before .before .before .args in
+    let p = c .before .before .before .pre in
+    let r = hand-round (a .call) (p .1 .1 .1 .1 .1 .1 .0) in
+    omega arith
+
+head-of-requires : tie.Need-head-of-requires
+unfolding shelf
+head-of-requires c κs =
+    let a = c .before .before .before .args in
+    let p = c .before .before .before .pre in
+    let r = hand-round (a .call) (p .1 .1 .1 .1 .1 .1 .0) in
+    let s : a .server ≤ mostServers = omega (arith, p .0, p .1 .1 .1 .0) in (p .0, (p .1 .0, s))
+
+make-store-requires : tie.Need-make-store-requires
+unfolding shelf
+make-store-requires c κs =
+    let a = c .before .before .before .before .before .before .args in
+    let p = c .before .before .before .before .before .before .pre in
+    let r = hand-round (a .call) (p .1 .1 .1 .1 .1 .1 .0) in
+    let s : a .server ≤ mostServers = omega (arith, p .0, p .1 .1 .1 .0) in (p .0, (p .1 .1 .0, (s, (p .1 .1 .1 .1 .0, p .1 .1 .1 .1 .1 .0))))
+
+same-length : tie.Need-same-length
+same-length c = search needs
+
+returns : tie.Need-returns
+returns c =
+    let a = c .before .before .before .before .before .before .before .before .before .args in
+    let p = c .before .before .before .before .before .before .before .before .before .pre in
+    let r = hand-round (a .call) (p .1 .1 .1 .1 .1 .1 .0) in
+    let hd : c .before .before .before .before .before .head-of .result ≡ record { kind = 3; client = a .client; server = a .server; t = a .t; call = a .call .number } = c .before .before .before .before .before .head-of .ensures ∙ ap (λ (k : ℕ). record { kind = k; client = a .client; server = a .server; t = a .t; call = a .call .number }) (let e : 2 * a .call .tally .round - 1 ≡ 3 = omega arith in e) in
+    let q = round-bytes (a .t) (a .client) (a .server) (a .call) (a .kept .now) 2 (c .before .before .before .before .if1 .taken) ∙ store-bytes (a .t) (a .client) (a .server) (a .call) (a .kept .now) (p .1 .1 .0) (p .1 .1 .1 .0) in
+    (rw hd at (c .before .before .make-store .ensures)) ∙ ap (λ (x : List ℕ). wholePacket x (a .out .now)) (sym q)
+
+make-chosen-requires : tie.Need-make-chosen-requires
+make-chosen-requires c κs =
+    let a = c .before .before .before .before .before .before .before .args in
+    let p = c .before .before .before .before .before .before .before .pre in
+    let r = hand-round (a .call) (p .1 .1 .1 .1 .1 .1 .0) in
+    (p .0, (p .1 .1 .1 .1 .0, p .1 .1 .1 .1 .1 .0))
+
+same-length-2 : tie.Need-same-length-2
+same-length-2 c = search needs
+
+returns-2 : tie.Need-returns-2
+returns-2 c =
+    let a = c .before .before .before .before .before .before .before .before .before .before .args in
+    let p = c .before .before .before .before .before .before .before .before .before .before .pre in
+    let r = hand-round (a .call) (p .1 .1 .1 .1 .1 .1 .0) in
+    let hd : c .before .before .before .before .before .before .head-of .result ≡ record { kind = 5; client = a .client; server = a .server; t = a .t; call = a .call .number } = c .before .before .before .before .before .before .head-of .ensures ∙ ap (λ (k : ℕ). record { kind = k; client = a .client; server = a .server; t = a .t; call = a .call .number }) (let e : 2 * a .call .tally .round - 1 ≡ 5 = omega arith in e) in
+    let q = round-bytes (a .t) (a .client) (a .server) (a .call) (a .kept .now) 3 (c .before .before .before .before .if2 .taken) ∙ complete-bytes (a .t) (a .client) (a .server) (a .call) (a .kept .now) in
+    (rw hd at (c .before .before .make-chosen .ensures)) ∙ ap (λ (x : List ℕ). wholePacket x (a .out .now)) (sym q)
+
+make-chosen-requires-2 : tie.Need-make-chosen-requires-2
+make-chosen-requires-2 c κs =
+    let a = c .before .before .before .before .before .before .before .before .args in
+    let p = c .before .before .before .before .before .before .before .before .pre in
+    let r = hand-round (a .call) (p .1 .1 .1 .1 .1 .1 .0) in
+    (p .0, (p .1 .1 .1 .1 .0, p .1 .1 .1 .1 .1 .0))
+
+same-length-3 : tie.Need-same-length-3
+same-length-3 c = search needs
+
+returns-3 : tie.Need-returns-3
+returns-3 c =
+    let a = c .before .before .before .before .before .before .before .before .before .before .before .args in
+    let p = c .before .before .before .before .before .before .before .before .before .before .before .pre in
+    let r = hand-round (a .call) (p .1 .1 .1 .1 .1 .1 .0) in
+    let hd : c .before .before .before .before .before .before .before .head-of .result ≡ record { kind = 11; client = a .client; server = a .server; t = a .t; call = a .call .number } = c .before .before .before .before .before .before .before .head-of .ensures ∙ ap (λ (k : ℕ). record { kind = k; client = a .client; server = a .server; t = a .t; call = a .call .number }) (let e : 2 * a .call .tally .round - 1 ≡ 11 = omega arith in e) in
+    let q = round-bytes (a .t) (a .client) (a .server) (a .call) (a .kept .now) 6 (c .before .before .before .before .if3 .taken) ∙ repair-bytes (a .t) (a .client) (a .server) (a .call) (a .kept .now) in
+    (rw hd at (c .before .before .make-chosen2 .ensures)) ∙ ap (λ (x : List ℕ). wholePacket x (a .out .now)) (sym q)
+
+make-empty-requires : tie.Need-make-empty-requires
+make-empty-requires c κs =
+    let a = c .before .before .before .before .before .before .before .before .args in
+    let p = c .before .before .before .before .before .before .before .before .pre in
+    let r = hand-round (a .call) (p .1 .1 .1 .1 .1 .1 .0) in
+    p .1 .1 .1 .1 .1 .0
+
+same-length-4 : tie.Need-same-length-4
+same-length-4 c = search needs
+
+returns-4 : tie.Need-returns-4
+returns-4 c =
+    let a = c .before .before .before .before .before .before .before .before .before .before .before .args in
+    let p = c .before .before .before .before .before .before .before .before .before .before .before .pre in
+    let r = hand-round (a .call) (p .1 .1 .1 .1 .1 .1 .0) in
+    let q = round-bytes (a .t) (a .client) (a .server) (a .call) (a .kept .now) (a .call .tally .round) refl ∙ empty-bytes (a .t) (a .client) (a .server) (a .call) (a .kept .now) (a .call .tally .round) (r .0) (r .1) (c .before .before .before .before .before .before .if1 .left) (c .before .before .before .before .before .if2 .left) (p .1 .1 .1 .1 .1 .1 .1) (c .before .before .before .before .if3 .left) in
+    (rw (c .before .before .before .before .before .before .before .head-of .ensures) at (c .before .before .make-empty .ensures)) ∙ ap (λ (x : List ℕ). wholePacket x (a .out .now)) (sym q)
+
+pub make-plain-spec : {M : Type 1} → statement M
+make-plain-spec = tie.close (tie.spec mul-head-of sub-head-of head-of-requires make-store-requires same-length returns make-chosen-requires same-length-2 returns-2 make-chosen-requires-2 same-length-3 returns-3 make-empty-requires same-length-4 returns-4)

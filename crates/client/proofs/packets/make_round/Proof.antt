@@ -1,0 +1,55 @@
+-- The packet of filter, or of any other round. Assumes nothing.
+use native.Mathlib.Omega.{arith}
+use mathlib.Core.Path.{sym, ap, _∙_}
+use mathlib.Core.List.{List}
+use Prim.Native.Nat.{ℕ, _≤_}
+use Rattle.cluster.specs.Config.{shelf}
+use Rattle.cluster.specs.Ranges.{mostServers}
+use Rattle.client.specs.Steps.{wholePacket}
+use Rattle.client.proofs.MadeBytes.{round-bytes, filter-bytes}
+use borrow.Author.Needs.{needs}
+use Rattle.client.proofs.packets.make_round.Statement.{statement}
+use Rattle.client.proofs.packets.make_round.Tie as tie
+
+head-of-requires : tie.Need-head-of-requires
+unfolding shelf
+head-of-requires c κs =
+    let a = c .before .before .before .before .args in
+    let p = c .before .before .before .before .pre in
+    let s : a .server ≤ mostServers = omega (arith, p .1 .0, p .1 .1 .1 .1 .0) in (p .1 .0, (p .1 .1 .0, s))
+
+make-filter-requires : tie.Need-make-filter-requires
+make-filter-requires c κs = search needs
+
+same-length : tie.Need-same-length
+same-length c = search needs
+
+returns : tie.Need-returns
+returns c =
+    let a = c .before .before .before .before .before .before .before .before .before .args in
+    let p = c .before .before .before .before .before .before .before .before .before .pre in
+    let q = round-bytes (a .t) (a .client) (a .server) (a .call) (a .kept .now) 5 (c .before .before .before .before .before .if1 .taken) ∙ filter-bytes (a .t) (a .client) (a .server) (a .call) (a .kept .now) in
+    (rw (c .before .before .before .before .head-of .ensures) at (c .before .before .make-filter .ensures)) ∙ ap (λ (x : List ℕ). wholePacket x (a .out .now)) (sym q)
+
+make-plain-requires : tie.Need-make-plain-requires
+make-plain-requires c κs =
+    let p = c .before .before .before .before .before .pre in
+    (p .1 .0, (p .1 .1 .0, (p .1 .1 .1 .0, (p .1 .1 .1 .1 .0, (p .1 .1 .1 .1 .1 .0, (p .1 .1 .1 .1 .1 .1 .0, (p .1 .1 .1 .1 .1 .1 .1, c .before .if1 .left)))))))
+
+same-length-2 : tie.Need-same-length-2
+same-length-2 c = search needs
+
+returns-2 : tie.Need-returns-2
+returns-2 c = search needs
+
+pub make-round-spec : {M : Type 1} → statement M
+make-round-spec =
+    tie.close
+    (tie.spec
+    head-of-requires
+    make-filter-requires
+    same-length
+    returns
+    make-plain-requires
+    same-length-2
+    returns-2)

@@ -1,0 +1,74 @@
+-- Stamp and share are printed as they stand in their slots. Assumes nothing.
+use borrow.Author.Needs.{needs}
+use native.Mathlib.Omega.{arith}
+use mathlib.Core.Path.{_≡_, sym, ap, _∙_}
+use mathlib.Core.List.{List, _++_}
+use Prim.Native.Nat.{ℕ, _-_, _+_, _*_}
+use lib.ListN.{length}
+use Rattle.cluster.specs.Config.{shelf}
+use Rattle.protocol.specs.Format.{Bytes}
+use Rattle.protocol.specs.Values.{stampSize}
+use Rattle.protocol.specs.Packet.{headF, stampF}
+use Rattle.protocol.specs.View.{part, chosenOf, chosenAt, candidateSlot, candidateAt, stampAt, replySlotOf, repliesAt, replySlot}
+use Rattle.wire.specs.Places.{shareSize, lengthAt}
+use Rattle.wire.proofs.Runs.{part-most}
+use Rattle.client.specs.Steps.{wholePacket}
+use Rattle.client.proofs.Printed.{packet-fits, stamp-back, share-back, bytes-part, part-length, part-short}
+use Rattle.client.proofs.packets.make_store.Statement.{statement}
+use Rattle.client.proofs.packets.make_store.Tie as tie
+
+part-requires : tie.Need-part-requires
+part-requires c κs = search needs
+
+sub-part : tie.Need-sub-part
+sub-part c = omega (arith, c .before .before .before .pre .1 .0)
+
+mul-part : tie.Need-mul-part
+mul-part c = omega (arith, c .before .before .before .pre .1 .0, c .before .before .before .pre .1 .1 .0)
+
+add-part : tie.Need-add-part
+add-part c = omega (arith, c .before .before .before .pre .1 .0, c .before .before .before .pre .1 .1 .0)
+
+part-requires-2 : tie.Need-part-requires-2
+part-requires-2 c κs = search needs
+
+number2-requires : tie.Need-number2-requires
+number2-requires c κs = search needs
+
+share-size-requires : tie.Need-share-size-requires
+share-size-requires c κs = c .before .before .before .before .before .pre .0
+
+part-requires-3 : tie.Need-part-requires-3
+part-requires-3 c κs = search needs
+
+part-requires-4 : tie.Need-part-requires-4
+part-requires-4 c κs = search needs
+
+make-packet-requires : tie.Need-make-packet-requires
+make-packet-requires c κs = search needs
+
+same-length : tie.Need-same-length
+same-length c = search needs
+
+returns : tie.Need-returns
+unfolding chosenOf replySlotOf lengthAt candidateAt stampAt
+returns c =
+    let a = c .before .before .before .before .before .before .before .before .before .before .before .before .args in
+    let p = c .before .before .before .before .before .before .before .before .before .before .before .before .pre in
+    let K : Bytes (a .kept .now) = λ k. c .before .before .before .before .before .before .before .before .before .before .before .shared-slice-known .given k .fits in
+    let i : ℕ = a .server - 1 in
+    let D : List ℕ = part (a .kept .now) chosenAt candidateSlot in
+    let E : List ℕ = part (a .kept .now) (repliesAt + replySlot * i) replySlot in
+    let ld : length D ≡ candidateSlot = part-length (a .kept .now) chosenAt candidateSlot (omega (arith, p .1 .1 .1 .0)) in
+    let le : length E ≡ replySlot = part-length (a .kept .now) (repliesAt + replySlot * i) replySlot (omega (arith, p .1 .1 .1 .0, p .1 .1 .0, p .1 .0)) in
+    let s = stamp-back D (bytes-part (a .kept .now) chosenAt candidateSlot K) (omega (arith, ld)) in
+    let h = share-back (shelf (a .t)) E (bytes-part (a .kept .now) (repliesAt + replySlot * i) replySlot K) (omega (arith, le)) in
+    let m = part-most D 0 stampSize in
+    let n = part-short E (shareSize (shelf (a .t)) (lengthAt E)) in
+    c .before .before .make-packet .ensures ∙ rw (c .before .before .before .before .before .part3 .ensures, c .before .before .before .before .part4 .ensures, c .before .before .before .before .before .before .share-size .ensures, c .before .before .before .before .before .before .before .number2 .ensures, c .before .before .before .before .before .before .before .before .part2 .ensures, c .before .before .before .before .before .before .before .before .before .part .ensures)
+    (packet-fits (a .head) (part D 0 stampSize) (part E 0 (shareSize (shelf (a .t)) (lengthAt E))) (a .out .now) (p .1 .1 .1 .1) (omega (arith, m, n, le))
+    ∙ (ap (λ (x : List ℕ). wholePacket (headF .print (a .head) ++ (x ++ part E 0 (shareSize (shelf (a .t)) (lengthAt E)))) (a .out .now)) (sym s)
+    ∙ ap (λ (x : List ℕ). wholePacket (headF .print (a .head) ++ (stampF .print (stampAt D) ++ x)) (a .out .now)) (sym h)))
+
+pub make-store-spec : {M : Type 1} → statement M
+make-store-spec = tie.close (tie.spec part-requires sub-part mul-part add-part part-requires-2 number2-requires share-size-requires part-requires-3 part-requires-4 make-packet-requires same-length returns)

@@ -1,0 +1,34 @@
+use mathlib.Core.Path.{_∙_}
+use native.Mathlib.Omega.{arith}
+use lib.ListN.{length-append}
+use Rattle.cluster.specs.Config.{shelf}
+use mathlib.Core.List.{_++_}
+use Rattle.client.proofs.Offered.{content-stays}
+use borrow.Author.Needs.{needs}
+use Rattle.client.proofs.prepare.put_write.Statement.{statement}
+use Rattle.client.proofs.prepare.put_write.Tie as tie
+
+put-candidate-requires : tie.Need-put-candidate-requires
+unfolding shelf
+put-candidate-requires c κs =
+    let a = c .before .before .before .before .before .args in
+    let p = c .before .before .before .before .before .pre in
+    (p .1 .1 .0, (p .1 .1 .1 .0, (p .1 .1 .1 .1 .0, omega (arith, p .1 .0, p .1 .1 .1 .1 .1))))
+
+put-offer-requires : tie.Need-put-offer-requires
+put-offer-requires c κs = search needs
+
+same-length : tie.Need-same-length
+same-length c = search needs
+
+returns : tie.Need-returns
+unfolding shelf
+returns c =
+    let a = c .before .before .before .before .before .before .before .before .before .before .before .before .args in
+    let p = c .before .before .before .before .before .before .before .before .before .before .before .before .pre in
+    let l = length-append (a .stamp .now) (a .nonce .now ++ a .tags .now) in
+    let k = length-append (a .nonce .now) (a .tags .now) in
+    c .before .before .put-offer .ensures ∙ rw (c .before .before .before .before .before .before .put-candidate .ensures, content-stays (a .call) (a .kept .now) (a .stamp .now ++ (a .nonce .now ++ a .tags .now)) (p .1 .1 .0) (omega (arith, l, k, p .1 .0, p .1 .1 .1 .0, p .1 .1 .1 .1 .0, p .1 .1 .1 .1 .1)))
+
+pub put-write-spec : {M : Type 1} → statement M
+put-write-spec = tie.close (tie.spec put-candidate-requires put-offer-requires same-length returns)

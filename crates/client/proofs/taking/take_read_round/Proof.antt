@@ -1,0 +1,91 @@
+use mathlib.Core.Path.{_≡_}
+use Prim.Native.Nat.{_≤_}
+use native.Mathlib.Omega.{arith}
+use lib.ListN.{length, drop}
+use Rattle.protocol.specs.Packet.{headSize}
+use Rattle.protocol.specs.View.{candidateSlot}
+use Rattle.client.proofs.TakeTests.{ready-ranges, ready-round, collect-length}
+use Rattle.client.proofs.RoundsTaken.{takes-collect, takes-repair}
+use borrow.Author.Needs.{needs}
+use Rattle.client.proofs.taking.take_read_round.Statement.{statement}
+use Rattle.client.proofs.taking.take_read_round.Tie as tie
+
+cast-server : tie.Need-cast-server
+cast-server c = search needs
+
+rest-requires : tie.Need-rest-requires
+rest-requires c κs = search needs
+
+take-collect-requires : tie.Need-take-collect-requires
+take-collect-requires c κs =
+    let z = c .before .before .before .before .before .before .before .before in
+    let a = z .args in
+    let p = z .pre in
+    let r = ready-ranges (a .t) (a .client) (a .call) (a .reply .now) (a .head) (p .0) in
+    let l : length (drop headSize (a .reply .now)) ≤ candidateSlot = collect-length (a .t) (a .client) (a .call) (a .reply .now) (a .head) (p .0) (λ k. c .before .before .before .before .before .before .shared-slice-known .given k .fits) (c .before .before .if1 .taken) in
+    (r .0, (r .1 .0, (r .1 .1, (p .1 .1 .0, rw (c .rest .ensures) l))))
+
+same-length : tie.Need-same-length
+same-length c = search needs
+
+returns : tie.Need-returns
+returns c =
+    let z = c .before .before .before .before .before .before .before .before .before .before .before in
+    let a = z .args in
+    let p = z .pre in
+    λ writers keys. takes-collect (a .t) (a .client) writers keys (a .call) (a .kept .now) (a .reply .now) (a .out .now) (a .head) (p .0) (p .1 .1 .1)
+    (c .before .before .before .before .before .if1 .taken) (λ k. c .before .before .before .before .before .before .before .before .before .shared-slice-known .given k .fits) _ (c .before .before .before .rest .ensures) (c .before .before .take-collect .result) (c .before .before .take-collect .ensures .0) _ (c .before .before .take-collect .ensures .1)
+
+take-filter-requires : tie.Need-take-filter-requires
+take-filter-requires c κs = search needs
+
+same-length-2 : tie.Need-same-length-2
+same-length-2 c = search needs
+
+same-length-3 : tie.Need-same-length-3
+same-length-3 c = search needs
+
+returns-2 : tie.Need-returns-2
+returns-2 c = search needs
+
+take-repair-requires : tie.Need-take-repair-requires
+take-repair-requires c κs =
+    let z = c .before .before .before .before .before .before .before .before .before in
+    let a = z .args in
+    let p = z .pre in
+    let r = ready-ranges (a .t) (a .client) (a .call) (a .reply .now) (a .head) (p .0) in
+    (r .0, (r .1 .0, (r .1 .1, p .1 .1 .1)))
+
+same-length-4 : tie.Need-same-length-4
+same-length-4 c = search needs
+
+same-length-5 : tie.Need-same-length-5
+same-length-5 c = search needs
+
+returns-3 : tie.Need-returns-3
+returns-3 c =
+    let z = c .before .before .before .before .before .before .before .before .before .before .before .before in
+    let a = z .args in
+    let p = z .pre in
+    let q = ready-round (a .t) (a .client) (a .call) (a .reply .now) (a .head) (p .0) in
+    let e : a .call .tally .round ≡ 6 = omega (arith, p .1 .0, c .before .before .before .before .before .before .if1 .left, c .before .before .before .before .before .if2 .left) in
+    λ writers keys. takes-repair (a .t) (a .client) writers keys (a .call) (a .kept .now) (a .reply .now) (a .out .now) (a .head) (p .0) (p .1 .1 .1) e
+    (c .before .before .take-repair .result) (c .before .before .take-repair .ensures .0) _ (c .before .before .take-repair .ensures .1)
+
+pub take-read-round-spec : {M : Type 1} → statement M
+take-read-round-spec =
+    tie.close
+    (tie.spec
+    cast-server
+    rest-requires
+    take-collect-requires
+    same-length
+    returns
+    take-filter-requires
+    same-length-2
+    same-length-3
+    returns-2
+    take-repair-requires
+    same-length-4
+    same-length-5
+    returns-3)

@@ -1,0 +1,61 @@
+-- The steps of the filter round, one for each function of the code. A slot is counted from 0, a server from 1.
+use mathlib.Core.Bool.{cond}
+use mathlib.Core.List.{List, _++_}
+use Prim.Native.Nat.{ℕ, suc, _+_, _-_, _*_}
+use lib.ListN.{length, replicate}
+use Rattle.cluster.specs.Config.{shelf}
+use Rattle.cluster.specs.Ranges.{contentRoom}
+use Rattle.erasure.specs.Fragments.{fragmentSize}
+use Rattle.protocol.specs.declared.Call.{Call}
+use Rattle.protocol.specs.declared.Taken.the-variants as taken
+use Rattle.protocol.specs.Values.{stampSize, nonceSize, digestSize, digestsSize, tagsSize}
+use Rattle.protocol.specs.ServerBytes.{over}
+use Rattle.protocol.specs.View.{part, chosenAt, candidatesAt, candidateSlot, candidatesIn, repliesAt, replySlot}
+use Rattle.protocol.specs.ClientBytes.{Took, put, fresh, withTally}
+use Rattle.decide.specs.declared.Decision.{Decision}
+use Rattle.decide.specs.declared.Decision.the-variants as decisions
+use Rattle.decide.specs.Decided.{Decided, sameTags, decided}
+
+-- where the tags stand in a reply of a content of n bytes: past stamp, byte, length, fragment, digests and nonce digest
+unfoldable pub tagsPlace : ℕ → ℕ → ℕ
+tagsPlace t n = stampSize + 3 + fragmentSize (shelf t .shares) n + digestsSize (shelf t) + digestSize
+
+-- the candidate of slot i with the tags in server b's reply, of a content of n bytes
+unfoldable pub repairBytes : ℕ → List ℕ → ℕ → ℕ → ℕ → List ℕ
+repairBytes t kept i b n =
+    part kept (candidatesAt + candidateSlot * i) (stampSize + nonceSize)
+    ++ part kept (repliesAt + replySlot * (b - 1) + tagsPlace t n) (tagsSize (shelf t))
+
+-- the call in its repair round, with a content of n bytes
+abbrev pub repairCall : Call → ℕ → Call
+repairCall c n = record { number = c .number; last = c .last; high = c .high; length = n; tally = fresh 6 }
+
+-- the candidate of slot i is chosen, and server b leads its group: its content is delivered, or with other tags than the group's it is repaired first
+unfoldable pub foundAt : ℕ → Call → List ℕ → List ℕ → ℕ → ℕ → List ℕ → Took
+foundAt t c kept output i b content =
+    cond (sameTags t kept i b)
+    (record {
+      answer = taken.Read (candidatesIn (shelf t) kept (suc i) .stamp .number) (length content);
+      call = withTally c (fresh 0);
+      kept = kept;
+      output = over content output;
+    })
+    (record {
+      answer = taken.More;
+      call = repairCall c (length content);
+      kept = put (put kept 0 content) chosenAt (repairBytes t kept i b (length content));
+      output = output;
+    })
+
+-- what a decision leads to; the content stands at the start of room
+unfoldable pub judgedBy : ℕ → Call → List ℕ → List ℕ → Decision → List ℕ → Took
+judgedBy t c kept output decisions.Wait room = record { answer = taken.More; call = c; kept = kept; output = output }
+judgedBy t c kept output decisions.Blank room = record { answer = taken.Blank; call = withTally c (fresh 0); kept = kept; output = output }
+judgedBy t c kept output (decisions.Found i b n) room = foundAt t c kept output i b (part room 0 n)
+
+-- the decision over the replies of the servers that the call marks, with room for a content
+abbrev pub decidedNow : ℕ → Call → List ℕ → Decided
+decidedNow t c kept = decided t (c .tally .marks) kept (replicate contentRoom 0)
+
+unfoldable pub judgedIn : ℕ → Call → List ℕ → List ℕ → Took
+judgedIn t c kept output = judgedBy t c kept output (decidedNow t c kept .answer) (decidedNow t c kept .output)

@@ -1,0 +1,114 @@
+// The clock round: the highest stamp number that a quorum knows, and the write under the next one.
+ghost use mathlib.Core.Path.{_≡_};
+ghost use mathlib.Core.List.{List, [], _∷_};
+ghost use mathlib.Core.Bool.{_&&_};
+ghost use Prim.Native.Nat.{ℕ, suc, _≤_, _<_};
+ghost use lib.Dec.{leb, ltb};
+ghost use lib.ListN.{length};
+ghost use Rattle.cluster.specs.Config.{shelf};
+ghost use Rattle.cluster.specs.Refusals.{refuse, firstOf};
+ghost use Rattle.cluster.specs.Ranges.{topFaults, topClient, topNumber, contentRoom};
+ghost use Rattle.protocol.specs.declared.Taken.the-variants as taken;
+ghost use Rattle.protocol.specs.View.{keptSize};
+ghost use Rattle.protocol.specs.ClientBytes.{fresh, ends};
+ghost use Rattle.client.specs.Steps.{writeMade, Ready, TakesAs};
+use crate::answers;
+use crate::answers::Answered;
+use crate::prepare;
+use crate::rounds;
+use crate::stamps;
+
+// The call with the highest number so far.
+fn with_high(call: protocol::Call, high: u32) -> protocol::Call
+    ensures { λ r. ⌜ r ≡ record { number = call .number; last = call .last; high = high; length = call .length; tally = call .tally } ⌝ }
+{
+    let mut c = call;
+    c.high = high;
+    c
+}
+
+// Store begins, with the number of the stamp made.
+fn enter_store(call: protocol::Call, high: u32) -> protocol::Call
+    requires { ⌜ high < topNumber ⌝ }
+    ensures { λ r. ⌜ r ≡ record { number = call .number; last = suc high; high = high; length = call .length; tally = fresh 2 } ⌝ }
+{
+    let tally = rounds::fresh_tally(2);
+    protocol::Call {
+        number: call.number,
+        last: high + 1,
+        high: high,
+        length: call.length,
+        tally: tally,
+    }
+}
+
+// The stamp's number would pass its top at the reply that ends the round.
+fn is_over(t: usize, call: protocol::Call, high: u32) -> bool
+    requires { ⌜ t ≤ topFaults ⌝ }
+    ensures { λ r. ⌜ r ≡ (ends (shelf t) call && leb topNumber high) ⌝ }
+{
+    if rounds::is_last(t, call) {
+        return cluster::TOP_NUMBER <= high as usize;
+    }
+    false
+}
+
+// 14, 15.
+fn clock_refusal(t: usize, call: protocol::Call, high: u32, room: usize) -> u8
+    requires { ⌜ t ≤ topFaults ⌝ }
+    ensures { λ r. ⌜ r ≡ firstOf (refuse 14 (ends (shelf t) call && leb topNumber high) ∷ refuse 15 (ltb room contentRoom) ∷ []) ⌝ }
+{
+    if is_over(t, call, high) {
+        return 14;
+    }
+    if room < cluster::CONTENT_ROOM {
+        return 15;
+    }
+    0
+}
+
+// The reply that ends the round: the write is made under the next number.
+fn end_clock(
+    call: protocol::Call,
+    kept: &mut [u8],
+    t: usize,
+    client: usize,
+    writers: &[u8; 32],
+    keys: &[[u8; 32]; 13],
+    high: u32,
+) -> Answered
+    requires { ⌜ (1 ≤ t) × ((t ≤ topFaults) × ((client ≤ topClient) × ((length (now kept) ≡ keptSize) × (high < topNumber)))) ⌝ }
+    ensures { λ r. ⌜ (r ≡ record { taken = taken.More; call = record { number = call .number; last = suc high; high = high; length = call .length; tally = fresh 2 } })
+        × (now (kept .exit) ≡ writeMade t client (now (writers .entry)) (now (keys .entry)) call (now (kept .entry)) (suc high)) ⌝ }
+{
+    prepare::prepare(kept, call, t, client, writers, keys, high + 1);
+    answers::more(enter_store(call, high))
+}
+
+// Lines 94 to 100.
+pub(crate) fn take_clock(
+    call: protocol::Call,
+    kept: &mut [u8],
+    t: usize,
+    client: usize,
+    writers: &[u8; 32],
+    keys: &[[u8; 32]; 13],
+    head: protocol::Head,
+    reply: &[u8],
+    room: usize,
+) -> Answered
+    requires { ⌜ Ready t client call (now reply) head × ((call .tally .round ≡ 1) × (length (now kept) ≡ keptSize)) ⌝ }
+    ensures { λ r. ⌜ ((output : List ℕ) → length output ≡ room → TakesAs t client (now (writers .entry)) (now (keys .entry)) call (now (kept .entry)) (now (reply .entry)) output r (now (kept .exit)) output) ⌝ }
+{
+    let body = wire::bytes::rest(reply, wire::sizes::HEAD);
+    let high = stamps::higher(writers, call.high, body);
+    let noted = answers::note_reply(with_high(call, high), head.server as usize);
+    let n = clock_refusal(t, call, high, room);
+    if n != 0 {
+        return answers::refused(n, call);
+    }
+    if rounds::is_last(t, call) {
+        return end_clock(call, kept, t, client, writers, keys, high);
+    }
+    answers::more(noted)
+}

@@ -1,0 +1,162 @@
+// The filter round: a reply is kept, and once a quorum has replied the round is decided.
+ghost use mathlib.Core.Path.{_≡_};
+ghost use mathlib.Core.List.{List};
+ghost use Prim.Native.Nat.{ℕ, suc, _≤_, _<_, _+_, _*_, _-_};
+ghost use lib.ListN.{length};
+ghost use Rattle.cluster.specs.Config.{shelf};
+ghost use Rattle.cluster.specs.Ranges.{topFaults, topLength, mostServers, contentRoom};
+ghost use Rattle.protocol.specs.declared.Taken.the-variants as taken;
+ghost use Rattle.protocol.specs.View.{keptSize, chosenAt, candidateSlot, candidatesIn, repliesAt, replySlot};
+ghost use Rattle.protocol.specs.ClientBytes.{put};
+ghost use Rattle.client.specs.Steps.{Ready, TakesAs};
+ghost use Rattle.client.specs.Filter.{tagsPlace, repairBytes, repairCall, foundAt, judgedIn};
+use crate::answers;
+use crate::answers::Answered;
+use crate::kept;
+use crate::rounds;
+
+// The reply's body at its server's slot.
+fn put_reply(kept: &mut [u8], server: usize, body: &[u8])
+    requires { ⌜ (1 ≤ server) × ((server ≤ mostServers) × ((length (now kept) ≡ keptSize) × (length (now body) ≤ replySlot))) ⌝ }
+    ensures { λ _. ⌜ now (kept .exit) ≡ put (now (kept .entry)) (repliesAt + replySlot * (server - 1)) (now (body .entry)) ⌝ }
+{
+    kept::write_at(kept, kept::REPLIES + kept::REPLY_SLOT * (server - 1), body);
+}
+
+// Where the tags stand in a reply of a content of n bytes.
+fn tags_at(t: usize, n: usize) -> usize
+    requires { ⌜ (t ≤ topFaults) × (n ≤ topLength) ⌝ }
+    ensures { λ r. ⌜ (r ≡ tagsPlace t n) × (r ≤ 2048) ⌝ }
+{
+    let u = t as u8;
+    wire::sizes::STAMP
+        + 3
+        + wire::sizes::fragment_size(u, n as u32)
+        + wire::sizes::digests_size(u)
+        + cluster::KEY
+}
+
+// The candidate of slot i with the tags in server b's reply.
+fn put_repair(bytes: &mut [u8], kept: &[u8], t: usize, i: usize, b: usize, n: usize)
+    requires { ⌜ (t ≤ topFaults) × ((i < mostServers) × ((1 ≤ b) × ((b ≤ mostServers) × ((n ≤ topLength) × ((length (now kept) ≡ keptSize) × (candidateSlot ≤ length (now bytes))))))) ⌝ }
+    ensures { λ _. ⌜ now (bytes .exit) ≡ put (now (bytes .entry)) 0 (repairBytes t (now (kept .entry)) i b n) ⌝ }
+{
+    let name = wire::bytes::part(
+        kept,
+        kept::CANDIDATES + kept::CANDIDATE_SLOT * i,
+        wire::sizes::STAMP + wire::sizes::NONCE,
+    );
+    let at = kept::REPLIES + kept::REPLY_SLOT * (b - 1) + tags_at(t, n);
+    let tags = wire::bytes::part(kept, at, wire::sizes::tags_size(t as u8));
+    kept::write_at(bytes, 0, name);
+    kept::write_at(bytes, wire::sizes::STAMP + wire::sizes::NONCE, tags);
+}
+
+// The repair round of a call, with a content of n bytes.
+fn repairing(call: protocol::Call, n: u16) -> Answered
+    ensures { λ r. ⌜ r ≡ record { taken = taken.More; call = repairCall call n } ⌝ }
+{
+    let mut c = call;
+    c.length = n;
+    answers::more(answers::enter(c, 6))
+}
+
+// Line 155. Amended: the content waits, and the candidate has the tags of the proven group.
+fn repair_with(
+    call: protocol::Call,
+    kept: &mut [u8],
+    t: usize,
+    i: usize,
+    b: usize,
+    content: &[u8],
+) -> Answered
+    requires { ⌜ (t ≤ topFaults) × ((i < mostServers) × ((1 ≤ b) × ((b ≤ mostServers) × ((length (now kept) ≡ keptSize) × (length (now content) ≤ topLength))))) ⌝ }
+    ensures { λ r. ⌜ (r ≡ record { taken = taken.More; call = repairCall call (length (now (content .entry))) })
+        × (now (kept .exit) ≡ put (put (now (kept .entry)) 0 (now (content .entry))) chosenAt (repairBytes t (now (kept .entry)) i b (length (now (content .entry))))) ⌝ }
+{
+    let mut bytes = [0u8; kept::CANDIDATE_SLOT];
+    put_repair(&mut bytes, kept, t, i, b, content.len());
+    kept::write_at(kept, 0, content);
+    let size = wire::sizes::candidate_size(t as u8);
+    kept::write_at(kept, kept::CHOSEN, wire::bytes::part(&bytes, 0, size));
+    repairing(call, content.len() as u16)
+}
+
+// The number of the stamp in slot i.
+fn number_in(kept: &[u8], t: usize, i: usize) -> u32
+    requires { ⌜ i < mostServers ⌝ }
+    ensures { λ r. ⌜ r ≡ candidatesIn (shelf t) (now (kept .entry)) (suc i) .stamp .number ⌝ }
+{
+    wire::bytes::number4(wire::bytes::part(
+        kept,
+        kept::CANDIDATES + kept::CANDIDATE_SLOT * i,
+        kept::CANDIDATE_SLOT,
+    ))
+}
+
+// Lines 143 to 145: the candidate of slot i is chosen, and server b leads its group.
+fn found(
+    call: protocol::Call,
+    kept: &mut [u8],
+    t: usize,
+    i: usize,
+    b: usize,
+    content: &[u8],
+    out: &mut [u8],
+) -> Answered
+    requires { ⌜ (t ≤ topFaults) × ((i < mostServers) × ((1 ≤ b) × ((b ≤ mostServers) × ((length (now kept) ≡ keptSize)
+        × ((length (now content) ≤ topLength) × (contentRoom ≤ length (now out))))))) ⌝ }
+    ensures { λ r. ⌜ record { answer = r .taken; call = r .call; kept = now (kept .exit); output = now (out .exit) }
+        ≡ foundAt t call (now (kept .entry)) (now (out .entry)) i b (now (content .entry)) ⌝ }
+{
+    if decide::same_tags(kept, t, i, b) {
+        let number = number_in(kept, t, i);
+        return answers::deliver(call, number, content, out);
+    }
+    repair_with(call, kept, t, i, b, content)
+}
+
+// Lines 142 to 146: what the round has decided. The content stands apart until it is delivered, so that repair leaves the output as it was.
+fn judge(call: protocol::Call, kept: &mut [u8], t: usize, out: &mut [u8]) -> Answered
+    requires { ⌜ (1 ≤ t) × ((t ≤ topFaults) × ((length (now kept) ≡ keptSize) × (contentRoom ≤ length (now out)))) ⌝ }
+    ensures { λ r. ⌜ record { answer = r .taken; call = r .call; kept = now (kept .exit); output = now (out .exit) }
+        ≡ judgedIn t call (now (kept .entry)) (now (out .entry)) ⌝ }
+{
+    let tally = call.tally;
+    let marks = tally.marks;
+    let mut room = [0u8; cluster::CONTENT_ROOM];
+    let decision = decide::decide(kept, marks, t, &mut room);
+    match decision {
+        decide::Decision::Wait => answers::more(call),
+        decide::Decision::Blank => Answered {
+            taken: protocol::Taken::Blank,
+            call: answers::enter(call, 0),
+        },
+        decide::Decision::Found(slot, server, n) => {
+            let content = wire::bytes::part(&room, 0, n);
+            found(call, kept, t, slot, server, content, out)
+        }
+    }
+}
+
+// Lines 151 to 153.
+pub(crate) fn take_filter(
+    call: protocol::Call,
+    kept: &mut [u8],
+    t: usize,
+    client: usize,
+    head: protocol::Head,
+    reply: &[u8],
+    out: &mut [u8],
+) -> Answered
+    requires { ⌜ Ready t client call (now reply) head × ((call .tally .round ≡ 5) × ((length (now kept) ≡ keptSize) × (contentRoom ≤ length (now out)))) ⌝ }
+    ensures { λ r. ⌜ ((writers : List ℕ) (keys : List (List ℕ)) → TakesAs t client writers keys call (now (kept .entry)) (now (reply .entry)) (now (out .entry)) r (now (kept .exit)) (now (out .exit))) ⌝ }
+{
+    let server = head.server as usize;
+    put_reply(kept, server, wire::bytes::rest(reply, wire::sizes::HEAD));
+    let noted = answers::note_reply(call, server);
+    if rounds::is_last(t, call) {
+        return judge(noted, kept, t, out);
+    }
+    answers::more(noted)
+}

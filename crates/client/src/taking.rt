@@ -1,0 +1,181 @@
+// A reply is taken: the tests that refuse it, and then its round's step.
+ghost use mathlib.Core.Path.{_≡_};
+ghost use mathlib.Core.Bool.{false, not};
+ghost use mathlib.Core.List.{List};
+ghost use Prim.Native.Nat.{ℕ, _≤_, _<_};
+ghost use lib.ListN.{length};
+ghost use Rattle.cluster.specs.Config.{shelf};
+ghost use Rattle.cluster.specs.Ranges.{within, topClient, contentRoom};
+ghost use Rattle.protocol.specs.Client.{badFaults};
+ghost use Rattle.protocol.specs.Primitives.{real};
+ghost use Rattle.protocol.specs.View.{keptSize};
+ghost use Rattle.protocol.specs.ClientBytes.{clientTake};
+ghost use Rattle.client.specs.Answers.{answered};
+ghost use Rattle.client.specs.Core.{coreTake};
+ghost use Rattle.client.specs.Steps.{Ready, TakesAs};
+use crate::answers;
+use crate::answers::Answered;
+use crate::clock;
+use crate::filter;
+use crate::kept;
+use crate::reads;
+use crate::refusals;
+use crate::replies;
+use crate::writes;
+
+// The rounds of a write past clock: store, and complete.
+fn take_write_round(
+    call: protocol::Call,
+    kept: &[u8],
+    t: usize,
+    client: usize,
+    head: protocol::Head,
+    reply: &[u8],
+) -> Answered
+    requires { ⌜ Ready t client call (now reply) head × ((1 < call .tally .round) × (call .tally .round < 4)) ⌝ }
+    ensures { λ r. ⌜ ((writers : List ℕ) (keys : List (List ℕ)) (output : List ℕ) → contentRoom ≤ length output
+        → TakesAs t client writers keys call (now (kept .entry)) (now (reply .entry)) output r (now (kept .entry)) output) ⌝ }
+{
+    let tally = call.tally;
+    let round = tally.round;
+    let server = head.server as usize;
+    if round == 2 {
+        return writes::take_store(
+            call,
+            t,
+            server,
+            wire::bytes::byte_at(reply, wire::sizes::HEAD),
+        );
+    }
+    writes::take_complete(call, kept, t, server)
+}
+
+// The rounds of a read: collect, filter and repair.
+fn take_read_round(
+    call: protocol::Call,
+    kept: &mut [u8],
+    t: usize,
+    client: usize,
+    head: protocol::Head,
+    reply: &[u8],
+    out: &mut [u8],
+) -> Answered
+    requires { ⌜ Ready t client call (now reply) head × ((4 ≤ call .tally .round) × ((length (now kept) ≡ keptSize) × (contentRoom ≤ length (now out)))) ⌝ }
+    ensures { λ r. ⌜ ((writers : List ℕ) (keys : List (List ℕ))
+        → TakesAs t client writers keys call (now (kept .entry)) (now (reply .entry)) (now (out .entry)) r (now (kept .exit)) (now (out .exit))) ⌝ }
+{
+    let tally = call.tally;
+    let round = tally.round;
+    let server = head.server as usize;
+    if round == 4 {
+        return reads::take_collect(
+            call,
+            kept,
+            t,
+            server,
+            wire::bytes::rest(reply, wire::sizes::HEAD),
+        );
+    }
+    if round == 5 {
+        return filter::take_filter(call, kept, t, client, head, reply, out);
+    }
+    reads::take_repair(call, kept, t, server, out)
+}
+
+// A reply that the pending round awaits. Clock tests the output's room itself, after the stamp's number.
+fn take_round(
+    call: protocol::Call,
+    kept: &mut [u8],
+    t: usize,
+    client: usize,
+    writers: &[u8; 32],
+    keys: &[[u8; 32]; 13],
+    head: protocol::Head,
+    reply: &[u8],
+    out: &mut [u8],
+) -> Answered
+    requires { ⌜ Ready t client call (now reply) head × (length (now kept) ≡ keptSize) ⌝ }
+    ensures { λ r. ⌜ TakesAs t client (now (writers .entry)) (now (keys .entry)) call (now (kept .entry)) (now (reply .entry)) (now (out .entry)) r (now (kept .exit)) (now (out .exit)) ⌝ }
+{
+    let tally = call.tally;
+    let round = tally.round;
+    if round == 1 {
+        return clock::take_clock(call, kept, t, client, writers, keys, head, reply, out.len());
+    }
+    if out.len() < cluster::CONTENT_ROOM {
+        return answers::refused(15, call);
+    }
+    if round < 4 {
+        return take_write_round(call, kept, t, client, head, reply);
+    }
+    take_read_round(call, kept, t, client, head, reply, out)
+}
+
+// 7, 8, 12, 13; then the round's step.
+fn take_reply(
+    call: protocol::Call,
+    kept: &mut [u8],
+    t: usize,
+    client: usize,
+    writers: &[u8; 32],
+    keys: &[[u8; 32]; 13],
+    reply: &[u8],
+    out: &mut [u8],
+) -> Answered
+    requires { ⌜ (badFaults (shelf t) ≡ false) × ((not (within 1 topClient client) ≡ false) × (length (now kept) ≡ keptSize)) ⌝ }
+    ensures { λ r. ⌜ TakesAs t client (now (writers .entry)) (now (keys .entry)) call (now (kept .entry)) (now (reply .entry)) (now (out .entry)) r (now (kept .exit)) (now (out .exit)) ⌝ }
+{
+    let wire::packet::PacketRead::Value(head) = wire::packet::read_packet(reply) else {
+        return answers::refused(7, call);
+    };
+    let n = replies::reply_refusal(head, call, t, client);
+    if n != 0 {
+        return answers::refused(n, call);
+    }
+    take_round(call, kept, t, client, writers, keys, head, reply, out)
+}
+
+// A reply is taken, or refused: then nothing changes.
+pub fn take_in(
+    call: protocol::Call,
+    kept: &mut [u8],
+    t: usize,
+    client: usize,
+    writers: &[u8; 32],
+    keys: &[[u8; 32]; 13],
+    reply: &[u8],
+    out: &mut [u8],
+) -> Answered
+    ensures { λ r. ⌜ (r ≡ answered (coreTake t client (now (writers .entry)) (now (keys .entry)) call (now (kept .entry)) (now (reply .entry)) (now (out .entry))))
+        × ((now (kept .exit) ≡ coreTake t client (now (writers .entry)) (now (keys .entry)) call (now (kept .entry)) (now (reply .entry)) (now (out .entry)) .kept)
+        × (now (out .exit) ≡ coreTake t client (now (writers .entry)) (now (keys .entry)) call (now (kept .entry)) (now (reply .entry)) (now (out .entry)) .output)) ⌝ }
+{
+    if kept.len() != kept::KEPT {
+        return answers::refused(1, call);
+    }
+    if refusals::is_outside(1, cluster::TOP_FAULTS, t) {
+        return answers::refused(3, call);
+    }
+    if refusals::is_outside(1, cluster::TOP_CLIENT, client) {
+        return answers::refused(5, call);
+    }
+    take_reply(call, kept, t, client, writers, keys, reply, out)
+}
+
+// The call goes on by value, the kept bytes by their array.
+pub(crate) fn take_by_value(
+    call: protocol::Call,
+    kept: &mut [u8; 24576],
+    t: usize,
+    client: usize,
+    writers: &[u8; 32],
+    keys: &[[u8; 32]; 13],
+    reply: &[u8],
+    out: &mut [u8],
+) -> Answered
+    ensures { λ r. ⌜ (r ≡ answered (clientTake real t client (now (writers .entry)) (now (keys .entry)) call (now (kept .entry)) (now (reply .entry)) (now (out .entry))))
+        × ((now (kept .exit) ≡ clientTake real t client (now (writers .entry)) (now (keys .entry)) call (now (kept .entry)) (now (reply .entry)) (now (out .entry)) .kept)
+        × (now (out .exit) ≡ clientTake real t client (now (writers .entry)) (now (keys .entry)) call (now (kept .entry)) (now (reply .entry)) (now (out .entry)) .output)) ⌝ }
+{
+    take_in(call, kept, t, client, writers, keys, reply, out)
+}

@@ -1,0 +1,208 @@
+-- Taking a packet: one equation for each way through the refusals, and the packets that none of them applies to.
+-- The refusals are an ordered list, so each test that was passed strikes its entry out. Assumes nothing.
+use mathlib.Core.Path.{_≡_, refl, sym, ap, _∙_, subst}
+use mathlib.Core.Bool.{Bool, true, false, cond, not, _&&_, _||_}
+use mathlib.Core.List.{List}
+use mathlib.Core.Option.{none, some}
+use Prim.Native.Nat.{ℕ, zero, suc, _≤_, _<_}
+use native.Mathlib.Omega.{arith}
+use lib.Dec.{T, ltb, eqb}
+use lib.ListN.{length, drop, getD}
+use borrow.Author.Tests.{eq-eqb, ne-eqb, eqb-true, lt-ltb, le-ltb, ltb-false}
+use Rattle.cluster.specs.Config.{shelf}
+use Rattle.cluster.specs.Ranges.{topWriter, memorySize, packetRoom}
+use Rattle.cluster.specs.Refusals.{onRefusal}
+use Rattle.cluster.specs.declared.Outcome.{Outcome}
+use Rattle.protocol.specs.declared.Head.{Head}
+use Rattle.protocol.specs.Packet.{Body, headSize, decode}
+use Rattle.protocol.specs.Memory.{decodeMemory}
+use Rattle.protocol.specs.Primitives.{real}
+use Rattle.protocol.specs.Server.{barred, serverRefusal}
+use Rattle.protocol.specs.View.{stampAt, candidateAt}
+use Rattle.protocol.specs.ServerBytes.{Served, turnedDown, accepted, onMemory, serverTake}
+use Rattle.protocol.proofs.Answers.{and-on, at-cond}
+use Rattle.wire.specs.Places.{writeAt, bodyAt, packetAt}
+use Rattle.wire.proofs.Laws.{head-ranges}
+use Rattle.server.specs.Reads.{Opened}
+use Rattle.server.specs.Answers.{memoryIn, AnswersAny}
+
+-- ---- refusal 9
+
+module _ (client : ℕ) (packet : List ℕ) where
+  pub foreign-reader : topWriter < client → true ≡ (ltb topWriter client || not (eqb (stampAt (drop headSize packet) .writer) client))
+  foreign-reader h = rw (lt-ltb topWriter client h)
+
+  module _ (h : client ≤ topWriter) {x : List ℕ} {w : ℕ} (p : x ≡ drop headSize packet) (q : w ≡ getD x 4 0) where
+    writer-is : stampAt (drop headSize packet) .writer ≡ w
+    unfolding stampAt
+    writer-is = sym (q ∙ ap (λ (y : List ℕ). getD y 4 0) p)
+
+    pub foreign-own : w ≡ client → false ≡ (ltb topWriter client || not (eqb (stampAt (drop headSize packet) .writer) client))
+    foreign-own e = rw (le-ltb topWriter client h, eq-eqb (stampAt (drop headSize packet) .writer) client (writer-is ∙ e))
+
+    pub foreign-other : (w ≡ client → ⊥) → true ≡ (ltb topWriter client || not (eqb (stampAt (drop headSize packet) .writer) client))
+    foreign-other e = rw (le-ltb topWriter client h, ne-eqb (stampAt (drop headSize packet) .writer) client (λ z. e (sym writer-is ∙ z)))
+
+module _ (h : Head) (packet : List ℕ) where
+  of-kind : (k : ℕ) → h .kind ≡ k → barred (h .client) (packetAt h packet .body) ≡ barred (h .client) (bodyAt (shelf (h .t)) k (drop headSize packet))
+  unfolding packetAt
+  of-kind k e = ap (λ (j : ℕ). barred (h .client) (bodyAt (shelf (h .t)) j (drop headSize packet))) e
+
+  pub barred-collect : h .kind ≡ 7 → false ≡ barred (h .client) (packetAt h packet .body)
+  unfolding bodyAt barred
+  barred-collect e = sym (of-kind 7 e)
+
+  pub barred-filter : h .kind ≡ 9 → false ≡ barred (h .client) (packetAt h packet .body)
+  unfolding bodyAt barred
+  barred-filter e = sym (of-kind 9 e)
+
+  pub barred-repair : h .kind ≡ 11 → false ≡ barred (h .client) (packetAt h packet .body)
+  unfolding bodyAt barred
+  barred-repair e = sym (of-kind 11 e)
+
+  pub barred-clock : h .kind ≡ 1 → ltb topWriter (h .client) ≡ barred (h .client) (packetAt h packet .body)
+  unfolding bodyAt barred
+  barred-clock e = sym (of-kind 1 e)
+
+  pub barred-store : h .kind ≡ 3 → {r : Bool} → r ≡ (ltb topWriter (h .client) || not (eqb (stampAt (drop headSize packet) .writer) (h .client)))
+      → r ≡ barred (h .client) (packetAt h packet .body)
+  unfolding bodyAt barred writeAt
+  barred-store e p = p ∙ sym (of-kind 3 e)
+
+  pub barred-complete : h .kind ≡ 5 → {r : Bool} → r ≡ (ltb topWriter (h .client) || not (eqb (stampAt (drop headSize packet) .writer) (h .client)))
+      → r ≡ barred (h .client) (packetAt h packet .body)
+  unfolding bodyAt barred candidateAt
+  barred-complete e p = p ∙ sym (of-kind 5 e)
+
+  module _ (not1 : h .kind ≡ 1 → ⊥) (not3 : h .kind ≡ 3 → ⊥) (not5 : h .kind ≡ 5 → ⊥) (not7 : h .kind ≡ 7 → ⊥) (not9 : h .kind ≡ 9 → ⊥) where
+    -- every other kind is a reply
+    pub barred-other : (h .kind ≡ 11 → ⊥) → true ≡ barred (h .client) (packetAt h packet .body)
+    unfolding packetAt bodyAt barred
+    barred-other not11 =
+        rw (ne-eqb (h .kind) 1 not1, ne-eqb (h .kind) 3 not3, ne-eqb (h .kind) 5 not5, ne-eqb (h .kind) 7 not7, ne-eqb (h .kind) 9 not9, ne-eqb (h .kind) 11 not11)
+        (at-cond (eqb (h .kind) 2) _ _ Q (λ e. refl)
+        (λ e. at-cond (eqb (h .kind) 4) _ _ Q (λ e. refl)
+        (λ e. at-cond (eqb (h .kind) 6) _ _ Q (λ e. refl)
+        (λ e. at-cond (eqb (h .kind) 8) _ _ Q (λ e. refl)
+        (λ e. at-cond (eqb (h .kind) 10) _ _ Q (λ e. refl) (λ e. refl))))))
+      where
+        Q : Body → Type 0
+        Q x = true ≡ barred (h .client) x
+
+    -- so what is left is repair
+    pub is-repair : barred (h .client) (packetAt h packet .body) ≡ false → h .kind ≡ 11
+    is-repair p = go (eqb (h .kind) 11) refl
+      where
+        go : (b : Bool) → eqb (h .kind) 11 ≡ b → h .kind ≡ 11
+        go true e = eqb-true (h .kind) 11 e
+        go false e = absurd (subst T (barred-other (λ z. subst T (sym (eq-eqb (h .kind) 11 z) ∙ e) tt) ∙ p) tt)
+
+-- ---- refusals 8, 9 and 15
+
+module _ (h : Head) (t b : ℕ) (packet : List ℕ) (room : ℕ) where
+  pub other-t : (h .t ≡ t → ⊥) → 8 ≡ serverRefusal t b (some (packetAt h packet)) room
+  unfolding serverRefusal packetAt
+  other-t e = rw (ne-eqb (h .t) t e)
+
+  module _ (p : h .t ≡ t) where
+    pub other-server : (h .server ≡ b → ⊥) → 8 ≡ serverRefusal t b (some (packetAt h packet)) room
+    unfolding serverRefusal packetAt
+    other-server e = rw (eq-eqb (h .t) t p, ne-eqb (h .server) b e)
+
+    module _ (q : h .server ≡ b) {r : Bool} (test : r ≡ barred (h .client) (packetAt h packet .body)) where
+      pub is-barred : r ≡ true → 9 ≡ serverRefusal t b (some (packetAt h packet)) room
+      unfolding serverRefusal
+      is-barred e = rw (heads, eq-eqb (h .t) t p, eq-eqb (h .server) b q, sym test ∙ e)
+        where
+          heads : packetAt h packet .head ≡ h
+          heads = unfold packetAt in refl
+
+      pub short : r ≡ false → room < packetRoom → 15 ≡ serverRefusal t b (some (packetAt h packet)) room
+      unfolding serverRefusal
+      short e l = rw (heads, eq-eqb (h .t) t p, eq-eqb (h .server) b q, sym test ∙ e, lt-ltb room packetRoom l)
+        where
+          heads : packetAt h packet .head ≡ h
+          heads = unfold packetAt in refl
+
+      pub let-in : r ≡ false → packetRoom ≤ room → 0 ≡ serverRefusal t b (some (packetAt h packet)) room
+      unfolding serverRefusal
+      let-in e l = rw (heads, eq-eqb (h .t) t p, eq-eqb (h .server) b q, sym test ∙ e, le-ltb room packetRoom l)
+        where
+          heads : packetAt h packet .head ≡ h
+          heads = unfold packetAt in refl
+
+-- what holds of a packet that is not refused
+pub record LetIn (h : Head) (t b : ℕ) (packet : List ℕ) (room : ℕ) : Type 0 where
+  pub t-own : h .t ≡ t
+  pub server-own : h .server ≡ b
+  pub sent : barred (h .client) (packetAt h packet .body) ≡ false
+  pub room-there : packetRoom ≤ room
+
+pub was-let-in : (h : Head) (t b : ℕ) (packet : List ℕ) (room : ℕ) → serverRefusal t b (some (packetAt h packet)) room ≡ 0 → LetIn h t b packet room
+unfolding serverRefusal packetAt
+was-let-in h t b packet room e =
+    go (eqb (h .t) t && eqb (h .server) b) refl (barred (h .client) (packetAt h packet .body)) refl (ltb room packetRoom) refl e
+  where
+    go : (x : Bool) → (eqb (h .t) t && eqb (h .server) b) ≡ x → (y : Bool) → barred (h .client) (packetAt h packet .body) ≡ y → (z : Bool) → ltb room packetRoom ≡ z
+        → _≡_ {A = ℕ} (cond (not x) 8 (cond y 9 (cond z 15 0))) 0 → LetIn h t b packet room
+    go true p false q false r k =
+        let (i, j) = and-on (eqb (h .t) t) (eqb (h .server) b) p in
+        record { t-own = eqb-true (h .t) t i; server-own = eqb-true (h .server) b j; sent = q; room-there = ltb-false room packetRoom r }
+    go false p y q z r k = absurd (let n : _≡_ {A = ℕ} 8 0 = k in omega arith)
+    go true p true q z r k = absurd (let n : _≡_ {A = ℕ} 9 0 = k in omega arith)
+    go true p false q true r k = absurd (let n : _≡_ {A = ℕ} 15 0 = k in omega arith)
+
+-- a packet names a server from 1 on
+pub server-least : (h : Head) (packet : List ℕ) → decode packet ≡ some (packetAt h packet) → 1 ≤ h .server
+unfolding packetAt
+server-least h packet dec = unfold packetAt in (head-ranges packet (packetAt h packet) dec .server .0)
+
+-- ---- the whole
+
+on-refused : (n : ℕ) → (n ≡ 0 → ⊥) → (x y : Served) → onRefusal n x y ≡ y
+on-refused zero h x y = absurd (h refl)
+on-refused (suc n) h x y = refl
+
+module _ (d key packet output : List ℕ) where
+  abbrev down : Outcome → Served
+  down z = record { result = z; memory = d; output = output }
+
+  abbrev number : ℕ → Outcome
+  number n = record { number = n; count = 0 }
+
+  pub take-size : (length d ≡ memorySize → ⊥) → {z : Outcome} → z ≡ number 1 → down z ≡ serverTake real d key packet output
+  unfolding serverTake turnedDown
+  take-size h p = rw (ne-eqb (length d) memorySize h) (ap down p)
+
+  module _ (size : length d ≡ memorySize) where
+    pub take-broken : decodeMemory d ≡ none → {z : Outcome} → z ≡ number 2 → down z ≡ serverTake real d key packet output
+    unfolding serverTake onMemory turnedDown
+    take-broken e p = rw (eq-eqb (length d) memorySize size, e) (ap down p)
+
+    module _ {t b n e : ℕ} (o : Opened d t b n e) where
+      pub take-unread : decode packet ≡ none → {z : Outcome} → z ≡ number 7 → down z ≡ serverTake real d key packet output
+      unfolding serverTake onMemory serverRefusal turnedDown
+      take-unread r p = rw (eq-eqb (length d) memorySize size, o .decoded, r) (ap down p)
+
+      module _ (h : Head) (dec : decode packet ≡ some (packetAt h packet)) {k : ℕ} (found : k ≡ serverRefusal t b (some (packetAt h packet)) (length output)) where
+        whole : serverTake real d key packet output ≡ onRefusal k (accepted real d key packet output (memoryIn o) (decode packet)) (down (number k))
+        unfolding serverTake onMemory turnedDown
+        whole =
+            rw (eq-eqb (length d) memorySize size, o .decoded)
+            (ap (λ (j : ℕ). onRefusal j (accepted real d key packet output (memoryIn o) (decode packet)) (down (number j)))
+            (ap (λ q. serverRefusal t b q (length output)) dec ∙ sym found))
+
+        pub take-refused : (k ≡ 0 → ⊥) → {z : Outcome} → z ≡ number k → down z ≡ serverTake real d key packet output
+        take-refused h p = ap down p ∙ sym (whole ∙ on-refused k h _ _)
+
+        pub take-answered : k ≡ 0 → {r : Served} → AnswersAny d key packet output h n e r → r ≡ serverTake real d key packet output
+        take-answered z {r} a =
+            let l = was-let-in h t b packet (length output) (sym found ∙ z) in
+            moved (l .t-own) (l .server-own) (λ o₁. a o₁ dec (l .sent) (l .room-there)) o
+            ∙ sym (whole ∙ ap (λ (j : ℕ). onRefusal j (accepted real d key packet output (memoryIn o) (decode packet)) (down (number j))) z)
+          where
+            Q : ℕ → ℕ → Type 0
+            Q i j = (o₁ : Opened d i j n e) → r ≡ accepted real d key packet output (memoryIn o₁) (decode packet)
+
+            moved : h .t ≡ t → h .server ≡ b → Q (h .t) (h .server) → Q t b
+            moved p q f = subst (λ (i : ℕ). Q i b) p (subst (λ (j : ℕ). Q (h .t) j) q f)

@@ -1,0 +1,17 @@
+-- Both ways of the test. Assumes nothing.
+use borrow.Author.Needs.{needs}
+use mathlib.Core.Path.{sym}
+use Rattle.server.proofs.Ranking.{under-is, under-not}
+use Rattle.server.proofs.rank.under.Statement.{statement}
+use Rattle.server.proofs.rank.under.Tie as tie
+use Rattle.server.proofs.rank.under.Reads as reads
+use Rattle.server.proofs.rank.under.Lts as lts
+
+returns : tie.Need-returns
+returns c = sym (under-is (c .before .args .rank) (c .before .args .top) (c .if1 .taken))
+
+returns-2 : tie.Need-returns-2
+returns-2 c = sym (under-not (c .before .args .rank) (c .before .args .top) (c .if1 .left))
+
+pub under-spec : {M : Type 1} → statement M
+under-spec = tie.close (tie.spec returns returns-2)

@@ -1,0 +1,59 @@
+-- What filter chooses from a list of candidates, and what it replies, where the memory opens.
+use mathlib.Core.Path.{_≡_}
+use mathlib.Core.List.{List, []}
+use Prim.Native.Nat.{ℕ, _*_, _<_}
+use lib.ListN.{length, take, drop}
+use Rattle.cluster.specs.Config.{Config, shelf}
+use Rattle.hmac.specs.Hmac.{tagSize}
+use Rattle.protocol.specs.declared.Head.{Head}
+use Rattle.protocol.specs.declared.Stamp.{Stamp}
+use Rattle.protocol.specs.Values.{Candidate, Write, stampSize, candidateSize, blankCandidate}
+use Rattle.protocol.specs.Packet.{candidateF, heldF}
+use Rattle.protocol.specs.Memory.{held}
+use Rattle.protocol.specs.Primitives.{real}
+use Rattle.protocol.specs.Server.{best}
+use Rattle.protocol.specs.View.{candidateAt}
+use Rattle.protocol.specs.ClientBytes.{Written}
+use Rattle.protocol.specs.ServerBytes.{serverIn}
+use Rattle.wire.specs.Places.{candidateList, lengthAt, shareSize}
+use Rattle.wire.specs.Make.{packetStep}
+use Rattle.server.specs.Reads.{Stored, Opened}
+use Rattle.server.specs.Answers.{memoryIn, replyHead}
+use Rattle.server.specs.Ranks.{slotOf}
+use Rattle.server.specs.declared.filter.Chosen.{Chosen}
+use Rattle.server.specs.declared.filter.Chosen.the-variants as chosen
+
+-- ---- the highest valid candidate
+
+-- m candidates stand one after the other in y
+pub record Listed (s : Config) (m : ℕ) (y : List ℕ) : Type 0 where
+  pub made : (j : ℕ) → j < m → slotOf s y j ≡ candidateF s .print (candidateAt s (slotOf s y j))
+  pub ok : (j : ℕ) → j < m → candidateF s .Ok (candidateAt s (slotOf s y j))
+  pub same : (j : ℕ) → j < m → candidateAt s (slotOf s y j) ≡ candidateAt s (drop (candidateSize s * j) y)
+
+-- c is the candidate in slot i
+pub record ChosenAt (s : Config) (y : List ℕ) (c : Candidate) (i : ℕ) : Type 0 where
+  pub made : slotOf s y i ≡ candidateF s .print (candidateAt s (slotOf s y i))
+  pub ok : candidateF s .Ok (candidateAt s (slotOf s y i))
+  pub best : c ≡ candidateAt s (slotOf s y i)
+
+abbrev pub ChosenIs : Config → List ℕ → Candidate → Chosen → Type 0
+ChosenIs s y c (chosen.At i) = ChosenAt s y c i
+ChosenIs s y c chosen.Nothing = c ≡ blankCandidate s
+
+abbrev pub ChosenAs : List ℕ → List ℕ → ℕ → ℕ → ℕ → List ℕ → ℕ → Chosen → Type 0
+ChosenAs d key t b n y m r =
+    (e : ℕ) (o : Opened d t b n e) → Listed (shelf t) m y
+    → ChosenIs (shelf t) y (best real (shelf t) key b (serverIn (memoryIn o)) (blankCandidate (shelf t)) (candidateList (shelf t) m y)) r
+
+-- ---- the reply
+
+-- the bytes of the share of the stored write at a place
+unfoldable pub shareBytes : Config → List ℕ → ℕ → List ℕ
+shareBytes s d at = let y = drop stampSize (drop at d) in take (shareSize s (lengthAt y)) y
+
+-- w is the reply with what n stored writes hold for the stamp a
+abbrev pub HeldAs : List ℕ → Head → ℕ → Stamp → List ℕ → Written → Type 0
+HeldAs d h n a output w =
+    (ws : List Write) (e : ℕ) → Stored (shelf (h .t)) n d ws e → length (a .tag) ≡ tagSize
+    → w ≡ packetStep (replyHead h 10) (heldF (shelf (h .t)) .print (record { stamp = a; share = held a ws })) [] output

@@ -1,0 +1,130 @@
+// Filter: the highest valid candidate of a list becomes the latest if it is higher, and what is held for its stamp is the reply.
+ghost use mathlib.Core.Path.{_≡_};
+ghost use mathlib.Core.List.{[], _∷_, _++_};
+ghost use Prim.Native.Nat.{_≤_};
+ghost use Rattle.cluster.specs.Config.{shelf};
+ghost use Rattle.protocol.specs.Packet.{stampF};
+ghost use Rattle.wire.specs.Places.{lengthAt, shareSize};
+ghost use Rattle.server.specs.Valid.{AnswersWith};
+ghost use Rattle.server.specs.Filter.{ChosenAs, shareBytes, HeldAs};
+use crate::memory::Found;
+use crate::memory::find;
+use crate::rank::next_rank;
+use crate::rank::slot;
+use crate::rank::slot_with;
+use wire::bytes::part;
+use wire::bytes::rest;
+
+// The slot of a list's highest valid candidate.
+pub enum Chosen {
+    At(u8),
+    Nothing,
+}
+
+// A stamp and the byte after it.
+const HELD: usize = wire::sizes::STAMP + 1;
+
+// Candidates are tested from the highest rank down, up to the first valid one: a test costs a digest and a tag.
+fn choose(
+    memory: &[u8],
+    key: [u8; 32],
+    t: u8,
+    server: u8,
+    n: usize,
+    list: &[u8],
+    count: u8,
+) -> Chosen
+    requires { ⌜ 1 ≤ server ⌝ }
+    ensures { λ r. ⌜ ChosenAs (now (memory .entry)) key t server n (now (list .entry)) count r ⌝ }
+{
+    let mut rank = next_rank(list, t, count, crate::rank::ABOVE);
+    while 0 < rank {
+        let i = slot_with(rank);
+        if crate::valid::valid(memory, key, t, server, n, slot(list, t, i)) {
+            return Chosen::At(i);
+        }
+        rank = next_rank(list, t, count, rank);
+    }
+    Chosen::Nothing
+}
+
+// A stamp and the byte that says whether a share follows.
+fn held_head(stamp: protocol::Stamp, flag: u8) -> [u8; HELD]
+    ensures { λ r. ⌜ r ≡ stampF .print stamp ++ flag ∷ [] ⌝ }
+{
+    let mut bytes = [0u8; HELD];
+    wire::make::put_stamp(&mut bytes, 0, stamp);
+    wire::make::put_byte(&mut bytes, wire::sizes::STAMP, flag);
+    bytes
+}
+
+// The length of a share, by its record length.
+fn share_size(share: &[u8], t: u8) -> usize
+    ensures { λ r. ⌜ r ≡ shareSize (shelf t) (lengthAt (now (share .entry))) ⌝ }
+{
+    2
+        + wire::sizes::fragment_size(t, wire::bytes::number2(share))
+        + wire::sizes::digests_size(t)
+        + wire::sizes::DIGEST
+        + wire::sizes::tags_size(t)
+}
+
+// The share of the stored write at a place.
+fn share_bytes(memory: &[u8], at: usize, t: u8) -> &[u8]
+    ensures { λ r. ⌜ now r ≡ shareBytes (shelf t) (now (memory .entry)) at ⌝ }
+{
+    let share = rest(rest(memory, at), wire::sizes::STAMP);
+    part(share, 0, share_size(share, t))
+}
+
+// The reply for a stamp: what n stored writes hold for it.
+fn reply_held(
+    memory: &[u8],
+    head: protocol::Head,
+    n: usize,
+    stamp: protocol::Stamp,
+    out: &mut [u8],
+) -> cluster::Outcome
+    ensures { λ r. ⌜ HeldAs (now (memory .entry)) head n stamp (now (out .entry)) (record { result = r; output = now (out .exit) }) ⌝ }
+{
+    let nothing = held_head(stamp, 0);
+    let Found::At(at) = find(memory, head.t, n, part(&nothing, 0, wire::sizes::STAMP)) else {
+        return wire::make::make_packet(
+            crate::answers::reply_head(head, 10),
+            &nothing,
+            part(memory, 0, 0),
+            out,
+        );
+    };
+    let bytes = held_head(stamp, 1);
+    wire::make::make_packet(
+        crate::answers::reply_head(head, 10),
+        &bytes,
+        share_bytes(memory, at, head.t),
+        out,
+    )
+}
+
+// The reply is made before the candidate is raised: the history is the same.
+pub(crate) fn filter(
+    memory: &mut [u8],
+    key: [u8; 32],
+    head: protocol::Head,
+    packet: &[u8],
+    n: usize,
+    out: &mut [u8],
+) -> cluster::Outcome
+    requires { ⌜ 1 ≤ head .server ⌝ }
+    ensures { λ r. ⌜ AnswersWith 9 (now (memory .entry)) key (now (packet .entry)) (now (out .entry)) head n (record { result = r; memory = now (memory .exit); output = now (out .exit) }) ⌝ }
+{
+    let body = rest(packet, wire::sizes::HEAD);
+    let list = rest(body, 1);
+    let count = wire::bytes::byte_at(body, 0);
+    let Chosen::At(i) = choose(memory, key, head.t, head.server, n, list, count) else {
+        return reply_held(memory, head, n, protocol::Stamp::blank(), out);
+    };
+    let chosen = slot(list, head.t, i);
+    let r = reply_held(memory, head, n, wire::values::stamp_at(chosen), out);
+    crate::answers::raise(memory, chosen);
+    r
+}

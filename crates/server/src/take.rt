@@ -1,0 +1,137 @@
+// Taking a packet: refused with the lowest number that applies, or answered.
+ghost use mathlib.Core.Path.{_≡_};
+ghost use mathlib.Core.Bool.{not, _||_};
+ghost use mathlib.Core.Option.{some};
+ghost use Prim.Native.Nat.{_≤_};
+ghost use lib.Dec.{ltb, eqb};
+ghost use lib.ListN.{drop};
+ghost use Rattle.cluster.specs.Ranges.{topWriter};
+ghost use Rattle.protocol.specs.Packet.{headSize};
+ghost use Rattle.protocol.specs.Server.{barred, serverRefusal};
+ghost use Rattle.protocol.specs.View.{stampAt};
+ghost use Rattle.protocol.specs.Primitives.{real};
+ghost use Rattle.protocol.specs.ServerBytes.{serverTake};
+ghost use Rattle.wire.specs.Places.{packetAt};
+ghost use Rattle.server.specs.Answers.{AnswersAny};
+use crate::memory::MemoryRead;
+use crate::memory::open;
+use wire::packet::PacketRead;
+use wire::packet::read_packet;
+
+// Nothing is written.
+fn refused(number: u8) -> cluster::Outcome
+    ensures { λ r. ⌜ r ≡ record { number = number; count = 0 } ⌝ }
+{
+    cluster::Outcome { number, count: 0 }
+}
+
+// Whether a client may not send this store or complete: only a writer may, and only with a stamp of its own.
+fn foreign(client: u8, packet: &[u8]) -> bool
+    ensures { λ r. ⌜ r ≡ (ltb topWriter client || not (eqb (stampAt (drop headSize (now (packet .entry))) .writer) client)) ⌝ }
+{
+    if cluster::TOP_WRITER < (client as usize) {
+        return true;
+    }
+    if wire::bytes::byte_at(wire::bytes::rest(packet, wire::sizes::HEAD), 4) == client {
+        return false;
+    }
+    true
+}
+
+// Refusal 9: replies, and requests that only a writer may send.
+fn barred(head: protocol::Head, packet: &[u8]) -> bool
+    ensures { λ r. ⌜ r ≡ barred (head .client) (packetAt head (now (packet .entry)) .body) ⌝ }
+{
+    let kind = head.kind;
+    let client = head.client;
+    if kind == 7 {
+        return false;
+    }
+    if kind == 9 {
+        return false;
+    }
+    if kind == 11 {
+        return false;
+    }
+    if kind == 1 {
+        return cluster::TOP_WRITER < (client as usize);
+    }
+    if kind == 3 {
+        return foreign(client, packet);
+    }
+    if kind == 5 {
+        return foreign(client, packet);
+    }
+    true
+}
+
+// Refusals 8, 9 and 15 of a packet that was let through; 0 where none applies.
+fn refusal(head: protocol::Head, t: u8, server: u8, packet: &[u8], room: usize) -> u8
+    ensures { λ r. ⌜ r ≡ serverRefusal t server (some (packetAt head (now (packet .entry)))) room ⌝ }
+{
+    if head.t != t {
+        return 8;
+    }
+    if head.server != server {
+        return 8;
+    }
+    if barred(head, packet) {
+        return 9;
+    }
+    if room < cluster::PACKET_ROOM {
+        return 15;
+    }
+    0
+}
+
+// The answer by kind. Of the kinds that are not refused with 9, repair is left at the end.
+fn answer(
+    memory: &mut [u8],
+    key: [u8; 32],
+    head: protocol::Head,
+    packet: &[u8],
+    n: usize,
+    end: usize,
+    out: &mut [u8],
+) -> cluster::Outcome
+    requires { ⌜ 1 ≤ head .server ⌝ }
+    ensures { λ r. ⌜ AnswersAny (now (memory .entry)) key (now (packet .entry)) (now (out .entry)) head n end (record { result = r; memory = now (memory .exit); output = now (out .exit) }) ⌝ }
+{
+    let kind = head.kind;
+    if kind == 1 {
+        return crate::answers::clock(memory, head, out);
+    }
+    if kind == 3 {
+        return crate::store::store(memory, head, packet, n, end, out);
+    }
+    if kind == 5 {
+        return crate::answers::complete(memory, head, packet, out);
+    }
+    if kind == 7 {
+        return crate::answers::collect(memory, head, out);
+    }
+    if kind == 9 {
+        return crate::filter::filter(memory, key, head, packet, n, out);
+    }
+    crate::repair::repair(memory, key, head, packet, n, out)
+}
+
+// A packet to this server, in its memory, with its key: 1, 2, 7, 8, 9, 15, or the reply.
+pub fn take(memory: &mut [u8], key: &[u8; 32], packet: &[u8], out: &mut [u8]) -> cluster::Outcome
+    ensures { λ r. ⌜ record { result = r; memory = now (memory .exit); output = now (out .exit) } ≡ serverTake real (now (memory .entry)) (now (key .entry)) (now (packet .entry)) (now (out .entry)) ⌝ }
+{
+    if memory.len() != cluster::MEMORY {
+        return refused(1);
+    }
+    let MemoryRead::Value(t, server, n, end) = open(memory) else {
+        return refused(2);
+    };
+    let PacketRead::Value(head) = read_packet(packet) else {
+        return refused(7);
+    };
+    let number = refusal(head, t, server, packet, out.len());
+    if number != 0 {
+        return refused(number);
+    }
+    answer(memory, *key, head, packet, n, end, out)
+}
