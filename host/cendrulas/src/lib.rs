@@ -4,6 +4,13 @@
 mod abi;
 mod answer;
 mod digest;
+
+/// Bytes of a server's memory.
+pub const SERVER_MEMORY: usize = 40_960;
+/// Bytes of output that a packet and a content ask for, however short they are.
+pub const PACKET_ROOM: usize = 6_400;
+pub const CONTENT_ROOM: usize = 1_024;
+
 pub use answer::Answer;
 pub use digest::{digest, tag};
 
