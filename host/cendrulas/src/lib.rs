@@ -32,7 +32,9 @@ pub use server::{server_blank, server_take};
 #[cfg(feature = "client")]
 mod client;
 #[cfg(feature = "client")]
-pub use client::{Client, Keys, CLIENT_STATE};
+pub use client::{
+    client_begin_read, client_begin_write, client_give_up, client_make, client_take, Client, Keys, CLIENT_STATE, SERVER_KEYS,
+};
 
 #[cfg(feature = "drill")]
 mod drill;
