@@ -2,3 +2,4 @@ pub mod Laws
 pub mod Layouts
 pub mod Coded
 pub mod Sessions
+pub mod Rooms

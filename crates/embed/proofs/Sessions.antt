@@ -14,16 +14,16 @@ use Rattle.cluster.specs.declared.Outcome.{Outcome}
 use Rattle.protocol.specs.declared.Call.{Call}
 use Rattle.protocol.specs.Values.{nonceSize}
 use Rattle.protocol.specs.View.{part, keptSize}
-use Rattle.protocol.specs.ClientBytes.{Begun, put, beginWrite, beginRead, giveUp}
+use Rattle.protocol.specs.ClientBytes.{Begun, put, beginWrite, beginRead, giveUp, clientMake}
 use Rattle.wire.specs.Make.{placed}
 use Rattle.state.specs.State.{stateSize, callAt, callBytes}
 use Rattle.state.proofs.Laws.{state-length}
 use Rattle.client.specs.declared.begin.Started.{Started}
 use Rattle.client.specs.declared.begin.Stopped.{Stopped}
 use Rattle.client.specs.Answers.{started, stopped}
-use Rattle.client.specs.Core.{coreWrite, coreRead}
+use Rattle.client.specs.Core.{coreWrite, coreRead, coreMake}
 use Rattle.embed.specs.Packing.{packed, wrongSize}
-use Rattle.embed.specs.Clients.{keptPlace, clientSize, keptOf, stateWith, sized, sizedWith, begunIn, stoppedIn, abortedOf, writeIn, readIn, giveUpIn}
+use Rattle.embed.specs.Clients.{keptPlace, clientSize, keptOf, stateWith, sized, sizedWith, begunIn, stoppedIn, abortedOf, writeIn, readIn, giveUpIn, Posted, madeOut, makeIn}
 
 module _ (d : List ℕ) (size : length d ≡ clientSize) where
   -- what is lent is the kept bytes
@@ -69,14 +69,29 @@ module _ (d : List ℕ) (size : length d ≡ clientSize) where
   unfolding coreRead
   core-read t client = rw lent (rw (eq-eqb (length (keptOf d)) keptSize kept-size))
 
+  pub core-made : (t client b : ℕ) (x : Call) (k o : List ℕ) → x ≡ callAt d → k ≡ drop keptPlace d → coreMake t client b x k o ≡ clientMake t client b (callAt d) (keptOf d) o
+  unfolding coreMake
+  core-made t client b x k o e f =
+      let g : k ≡ keptOf d = unfold keptOf in f in
+      rw (e, g) (rw (eq-eqb (length (keptOf d)) keptSize kept-size) refl)
+
   -- what the core answered and left, put back
   pub began : (b : Begun) (r : Started) (k after : List ℕ) → r ≡ started b → k ≡ b .kept → after ≡ callBytes (r .call) ++ drop stateSize (putMid keptPlace (length d - keptPlace) d k)
       → (r .taken ≡ b .result) × (after ≡ stateWith d (b .call) (b .kept))
-  began b r k after e f p =
-      (ap (λ (x : Started). x .taken) e,
-      p ∙ put-back k (r .call) ∙ ap (λ (x : Started). stateWith d (x .call) k) e ∙ ap (stateWith d (b .call)) f)
+  began b r k after e f p = (
+    ap (λ (x : Started). x .taken) e,
+    p ∙ put-back k (r .call) ∙ ap (λ (x : Started). stateWith d (x .call) k) e ∙ ap (stateWith d (b .call)) f,
+  )
 
 -- ---- the exports, test by test
+
+pub make-unsized : (d out : List ℕ) (t client b : ℕ) → length d ≢ clientSize → record { answer = packed wrongSize 0 0 0; output = out } ≡ makeIn d t client b out
+unfolding makeIn sized
+make-unsized d out t client b h = rw (ne-eqb (length d) clientSize h) refl
+
+pub make-done : (d out : List ℕ) (t client b : ℕ) → length d ≡ clientSize → (x : Posted) → x ≡ madeOut (clientMake t client b (callAt d) (keptOf d) out) → x ≡ makeIn d t client b out
+unfolding makeIn sized
+make-done d out t client b h x e = rw (eq-eqb (length d) clientSize h) e
 
 pub write-unsized : (d content nonce : List ℕ) (t client : ℕ) → length d ≢ clientSize → record { answer = packed wrongSize 0 0 0; state = d } ≡ writeIn d t client content nonce
 unfolding writeIn sizedWith

@@ -4,10 +4,10 @@ use super::pack::pack;
 ghost use mathlib.Core.Path.{_≡_};
 ghost use mathlib.Core.List.{_++_};
 ghost use lib.ListN.{length, drop};
-ghost use Rattle.protocol.specs.ClientBytes.{beginWrite, beginRead, giveUp};
+ghost use Rattle.protocol.specs.ClientBytes.{beginWrite, beginRead, clientMake};
 ghost use Rattle.state.specs.State.{stateSize, callAt, callBytes};
 ghost use Rattle.embed.specs.Packing.{packed};
-ghost use Rattle.embed.specs.Clients.{clientSize, keptOf, stateWith, writeIn, readIn, giveUpIn, abortedOf};
+ghost use Rattle.embed.specs.Clients.{clientSize, keptOf, stateWith, writeIn, readIn, giveUpIn, abortedOf, madeOut, makeIn, takenOf};
 
 // The place of the kept bytes, and the bytes of a whole state.
 const KEPT: usize = 64;
@@ -33,7 +33,7 @@ fn write_in(
     requires { ⌜ length (now state) ≡ clientSize ⌝ }
     ensures { λ r. ⌜ (r ≡ beginWrite t client (callAt (now (state .entry))) (keptOf (now (state .entry))) (now (content .entry)) nonce .result)
         × (now (state .exit) ≡ stateWith (now (state .entry)) (beginWrite t client (callAt (now (state .entry))) (keptOf (now (state .entry))) (now (content .entry)) nonce .call)
-            (beginWrite t client (callAt (now (state .entry))) (keptOf (now (state .entry))) (now (content .entry)) nonce .kept)) ⌝ }
+        (beginWrite t client (callAt (now (state .entry))) (keptOf (now (state .entry))) (now (content .entry)) nonce .kept)) ⌝ }
 {
     let call = state::read(state);
     let at = KEPT;
@@ -47,7 +47,7 @@ fn read_in(state: &mut [u8], t: usize, client: usize) -> cluster::Outcome
     requires { ⌜ length (now state) ≡ clientSize ⌝ }
     ensures { λ r. ⌜ (r ≡ beginRead t client (callAt (now (state .entry))) (keptOf (now (state .entry))) .result)
         × (now (state .exit) ≡ stateWith (now (state .entry)) (beginRead t client (callAt (now (state .entry))) (keptOf (now (state .entry))) .call)
-            (beginRead t client (callAt (now (state .entry))) (keptOf (now (state .entry))) .kept)) ⌝ }
+        (beginRead t client (callAt (now (state .entry))) (keptOf (now (state .entry))) .kept)) ⌝ }
 {
     let call = state::read(state);
     let at = KEPT;
@@ -117,4 +117,52 @@ pub extern "C" fn cendrulas_client_give_up(state: &mut [u8], t: usize, client: u
     put_call(state, stopped.call);
     let taken = stopped.taken;
     aborted(taken)
+}
+
+// The packet of the pending round, in a state of its size.
+fn make_packet(state: &[u8], t: usize, client: usize, server: usize, out: &mut [u8]) -> u64
+    requires { ⌜ length (now state) ≡ clientSize ⌝ }
+    ensures { λ r. ⌜ record { answer = r; output = now (out .exit) } ≡ madeOut (clientMake t client server (callAt (now (state .entry))) (keptOf (now (state .entry))) (now (out .entry))) ⌝ }
+{
+    let call = state::read(state);
+    let n = super::servers::lent(out.len());
+    let o = client::packets::make_in(
+        call,
+        wire::bytes::rest(state, KEPT),
+        t,
+        client,
+        server,
+        &mut out[..n],
+    );
+    let count = o.count;
+    pack(o.number, 0, 0, count as u16)
+}
+
+#[no_mangle]
+pub extern "C" fn cendrulas_client_make(
+    state: &[u8],
+    t: usize,
+    client: usize,
+    server: usize,
+    out: &mut [u8],
+) -> u64
+    ensures { λ r. ⌜ record { answer = r; output = now (out .exit) } ≡ makeIn (now (state .entry)) t client server (now (out .entry)) ⌝ }
+{
+    if state.len() != CLIENT {
+        return pack(255, 0, 0, 0);
+    }
+    make_packet(state, t, client, server, out)
+}
+
+// What a taken packet answers, in one number.
+fn taken(a: protocol::Taken) -> u64
+    ensures { λ r. ⌜ r ≡ takenOf a ⌝ }
+{
+    match a {
+        protocol::Taken::Refused(n) => pack(n, 0, 0, 0),
+        protocol::Taken::More => pack(0, 0, 0, 0),
+        protocol::Taken::Written(k) => pack(0, 1, k, 0),
+        protocol::Taken::Read(k, n) => pack(0, 2, k, n),
+        protocol::Taken::Blank => pack(0, 3, 0, 0),
+    }
 }

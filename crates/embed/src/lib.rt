@@ -4,3 +4,4 @@ mod coding;
 mod digests;
 mod pack;
 mod packets;
+mod servers;
