@@ -3,3 +3,4 @@ pub mod Layouts
 pub mod Coded
 pub mod Sessions
 pub mod Rooms
+pub mod KeyRuns

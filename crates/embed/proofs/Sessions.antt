@@ -9,21 +9,23 @@ use borrow.Rule.Slice.PartMut.{putMid, midOf}
 use borrow.Author.Tests.{eq-eqb, ne-eqb, le-leb}
 use lib.ListN.{length, take, drop, length-append, length-drop, drop-of-length-le, take-append-drop}
 use lib.Seq.{take-all, take-add, length-take-le, drop-at, drop-drop}
-use Rattle.cluster.specs.Ranges.{mostServers}
+use Rattle.cluster.specs.Ranges.{keySize, mostServers}
 use Rattle.cluster.specs.declared.Outcome.{Outcome}
 use Rattle.protocol.specs.declared.Call.{Call}
 use Rattle.protocol.specs.Values.{nonceSize}
+use Rattle.protocol.specs.Primitives.{real}
 use Rattle.protocol.specs.View.{part, keptSize}
-use Rattle.protocol.specs.ClientBytes.{Begun, put, beginWrite, beginRead, giveUp, clientMake}
+use Rattle.protocol.specs.ClientBytes.{Begun, put, beginWrite, beginRead, giveUp, Took, clientMake, clientTake}
 use Rattle.wire.specs.Make.{placed}
 use Rattle.state.specs.State.{stateSize, callAt, callBytes}
 use Rattle.state.proofs.Laws.{state-length}
 use Rattle.client.specs.declared.begin.Started.{Started}
 use Rattle.client.specs.declared.begin.Stopped.{Stopped}
-use Rattle.client.specs.Answers.{started, stopped}
-use Rattle.client.specs.Core.{coreWrite, coreRead, coreMake}
+use Rattle.client.specs.declared.answers.Answered.{Answered}
+use Rattle.client.specs.Answers.{started, stopped, answered}
+use Rattle.client.specs.Core.{coreWrite, coreRead, coreMake, coreTake}
 use Rattle.embed.specs.Packing.{packed, wrongSize}
-use Rattle.embed.specs.Clients.{keptPlace, clientSize, keptOf, stateWith, sized, sizedWith, begunIn, stoppedIn, abortedOf, writeIn, readIn, giveUpIn, Posted, madeOut, makeIn}
+use Rattle.embed.specs.Clients.{keptPlace, clientSize, keptOf, stateWith, sized, sizedWith, begunIn, stoppedIn, abortedOf, writeIn, readIn, giveUpIn, Posted, madeOut, makeIn, takenOf, Taking, keysSize, keysIn, sizedFor, tookIn, takeIn}
 
 module _ (d : List ℕ) (size : length d ≡ clientSize) where
   -- what is lent is the kept bytes
@@ -83,11 +85,45 @@ module _ (d : List ℕ) (size : length d ≡ clientSize) where
     p ∙ put-back k (r .call) ∙ ap (λ (x : Started). stateWith d (x .call) k) e ∙ ap (stateWith d (b .call)) f,
   )
 
+  -- ---- taking a packet
+
+  pub core-take : (t client : ℕ) (writers : List ℕ) (keys : List (List ℕ)) (packet out : List ℕ)
+      → coreTake t client writers keys (callAt d) (midOf keptPlace (length d - keptPlace) d) packet out ≡ clientTake real t client writers keys (callAt d) (keptOf d) packet out
+  unfolding coreTake
+  core-take t client writers keys packet out = rw lent (rw (eq-eqb (length (keptOf d)) keptSize kept-size))
+
+  pub taken-in : (b : Took) (r : Answered) (k after o : List ℕ) (x : ℕ) → r ≡ answered b → k ≡ b .kept → o ≡ b .output
+      → after ≡ callBytes (r .call) ++ drop stateSize (putMid keptPlace (length d - keptPlace) d k) → x ≡ takenOf (r .taken)
+      → record { answer = x; state = after; output = o } ≡ tookIn d b
+  unfolding tookIn
+  taken-in b r k after o x e f g p q = rw (q, p, put-back k (r .call), e, f, g) refl
+
 -- ---- the exports, test by test
 
 pub make-unsized : (d out : List ℕ) (t client b : ℕ) → length d ≢ clientSize → record { answer = packed wrongSize 0 0 0; output = out } ≡ makeIn d t client b out
 unfolding makeIn sized
 make-unsized d out t client b h = rw (ne-eqb (length d) clientSize h) refl
+
+module _ (d : List ℕ) (t client : ℕ) (writers keys packet out : List ℕ) where
+  abbrev unheard : Taking
+  unheard = record { answer = packed wrongSize 0 0 0; state = d; output = out }
+
+  pub take-unsized : length d ≢ clientSize → unheard ≡ takeIn d t client writers keys packet out
+  unfolding takeIn sizedFor
+  take-unsized h = rw (ne-eqb (length d) clientSize h) refl
+
+  pub take-other-key : length d ≡ clientSize → length writers ≢ keySize → unheard ≡ takeIn d t client writers keys packet out
+  unfolding takeIn sizedFor
+  take-other-key e h = rw (eq-eqb (length d) clientSize e, ne-eqb (length writers) keySize h) refl
+
+  pub take-other-keys : length d ≡ clientSize → length writers ≡ keySize → length keys ≢ keysSize → unheard ≡ takeIn d t client writers keys packet out
+  unfolding takeIn sizedFor
+  take-other-keys e f h = rw (eq-eqb (length d) clientSize e, eq-eqb (length writers) keySize f, ne-eqb (length keys) keysSize h) refl
+
+  pub take-done : length d ≡ clientSize → length writers ≡ keySize → length keys ≡ keysSize → (w : List ℕ) (k : List (List ℕ)) (x : Taking) → w ≡ writers → k ≡ keysIn keys
+      → x ≡ tookIn d (clientTake real t client w k (callAt d) (keptOf d) packet out) → x ≡ takeIn d t client writers keys packet out
+  unfolding takeIn sizedFor
+  take-done e f g w k x p q r = rw (eq-eqb (length d) clientSize e, eq-eqb (length writers) keySize f, eq-eqb (length keys) keysSize g) (r ∙ rw (p, q) refl)
 
 pub make-done : (d out : List ℕ) (t client b : ℕ) → length d ≡ clientSize → (x : Posted) → x ≡ madeOut (clientMake t client b (callAt d) (keptOf d) out) → x ≡ makeIn d t client b out
 unfolding makeIn sized

@@ -4,15 +4,19 @@ use super::pack::pack;
 ghost use mathlib.Core.Path.{_≡_};
 ghost use mathlib.Core.List.{_++_};
 ghost use lib.ListN.{length, drop};
-ghost use Rattle.protocol.specs.ClientBytes.{beginWrite, beginRead, clientMake};
+ghost use Rattle.protocol.specs.Primitives.{real};
+ghost use Rattle.protocol.specs.ClientBytes.{beginWrite, beginRead, clientMake, clientTake};
 ghost use Rattle.state.specs.State.{stateSize, callAt, callBytes};
 ghost use Rattle.embed.specs.Packing.{packed};
-ghost use Rattle.embed.specs.Clients.{clientSize, keptOf, stateWith, writeIn, readIn, giveUpIn, abortedOf, madeOut, makeIn, takenOf};
+ghost use Rattle.embed.specs.Clients.{clientSize, keptOf, stateWith, writeIn, readIn, giveUpIn, abortedOf, madeOut, makeIn, takenOf, tookIn, takeIn};
 
 // The place of the kept bytes, and the bytes of a whole state.
 const KEPT: usize = 64;
 
 const CLIENT: usize = KEPT + client::kept::KEPT;
+
+// Bytes of all servers' keys.
+const KEYS: usize = cluster::KEY * cluster::MOST_SERVERS;
 
 // Another call at the start of a state.
 fn put_call(state: &mut [u8], call: protocol::Call)
@@ -165,4 +169,62 @@ fn taken(a: protocol::Taken) -> u64
         protocol::Taken::Read(k, n) => pack(0, 2, k, n),
         protocol::Taken::Blank => pack(0, 3, 0, 0),
     }
+}
+
+// A packet is taken in a state of its size.
+fn take_packet(
+    state: &mut [u8],
+    t: usize,
+    client: usize,
+    writers: &[u8; 32],
+    keys: &[[u8; 32]; 13],
+    packet: &[u8],
+    out: &mut [u8],
+) -> u64
+    requires { ⌜ length (now state) ≡ clientSize ⌝ }
+    ensures { λ r. ⌜ record { answer = r; state = now (state .exit); output = now (out .exit) }
+        ≡ tookIn (now (state .entry)) (clientTake real t client (now (writers .entry)) (now (keys .entry)) (callAt (now (state .entry))) (keptOf (now (state .entry))) (now (packet .entry)) (now (out .entry))) ⌝ }
+{
+    let call = state::read(state);
+    let at = KEPT;
+    let s = client::taking::take_in(
+        call,
+        &mut state[at..],
+        t,
+        client,
+        writers,
+        keys,
+        packet,
+        out,
+    );
+    put_call(state, s.call);
+    let a = s.taken;
+    taken(a)
+}
+
+#[no_mangle]
+pub extern "C" fn cendrulas_client_take(
+    state: &mut [u8],
+    t: usize,
+    client: usize,
+    writers: &[u8],
+    keys: &[u8],
+    packet: &[u8],
+    out: &mut [u8],
+) -> u64
+    ensures { λ r. ⌜ record { answer = r; state = now (state .exit); output = now (out .exit) }
+        ≡ takeIn (now (state .entry)) t client (now (writers .entry)) (now (keys .entry)) (now (packet .entry)) (now (out .entry)) ⌝ }
+{
+    if state.len() != CLIENT {
+        return pack(255, 0, 0, 0);
+    }
+    if writers.len() != 32 {
+        return pack(255, 0, 0, 0);
+    }
+    if keys.len() != KEYS {
+        return pack(255, 0, 0, 0);
+    }
+    let w = array(writers);
+    let k = super::keys::keys_of(keys);
+    take_packet(state, t, client, &w, &k, packet, out)
 }

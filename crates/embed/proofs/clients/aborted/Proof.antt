@@ -1,3 +1,5 @@
+-- One case for each answer.
+-- Assumes nothing.
 use borrow.Author.Needs.{needs}
 use Rattle.embed.specs.Clients.{abortedOf}
 use Rattle.embed.proofs.clients.aborted.Statement.{statement}
@@ -6,41 +8,32 @@ use Rattle.embed.proofs.clients.aborted.Reads as reads
 use Rattle.embed.proofs.clients.aborted.Lts as lts
 use Rattle.embed.proofs.pack.pack.Reads as pack-reads
 
--- src/clients.rt:102:36
 enum-known-a : tie.Need-enum-known-a
 enum-known-a c = search needs
 
--- src/clients.rt:102:42
 pack-requires : tie.Need-pack-requires
 pack-requires c κs = search needs
 
--- src/clients.rt:103:38
 enum-told : tie.Need-enum-told
 enum-told c = search needs
 
--- src/clients.rt:103:38
 pack-requires-2 : tie.Need-pack-requires-2
 pack-requires-2 c κs = search needs
 
--- src/clients.rt:104:42
 enum-told-2 : tie.Need-enum-told-2
 enum-told-2 c = search needs
 
--- src/clients.rt:104:42
 pack-requires-3 : tie.Need-pack-requires-3
 pack-requires-3 c κs = search needs
 
--- src/clients.rt:98:1
 returns : tie.Need-returns
 unfolding abortedOf
 returns c = rw (c .before .before .a .given .1) (c .pack .ensures)
 
--- src/clients.rt:98:1
 returns-2 : tie.Need-returns-2
 unfolding abortedOf
 returns-2 c = rw (c .before .enum-told .given .1) (c .pack2 .ensures)
 
--- src/clients.rt:98:1
 returns-3 : tie.Need-returns-3
 unfolding abortedOf
 returns-3 c = rw (c .before .enum-told2 .given .1) (c .pack3 .ensures)

@@ -1,3 +1,5 @@
+-- The size is tested, then the read begins.
+-- Assumes nothing.
 use borrow.Author.Needs.{needs}
 use Rattle.embed.proofs.Sessions.{read-unsized, read-done}
 use Rattle.embed.proofs.clients.cendrulas_client_begin_read.Statement.{statement}
@@ -8,29 +10,23 @@ use Rattle.embed.proofs.clients.outcome.Reads as outcome-reads
 use Rattle.embed.proofs.clients.read_in.Reads as read-in-reads
 use Rattle.embed.proofs.pack.pack.Reads as pack-reads
 
--- src/clients.rt:91:9
 pack-requires : tie.Need-pack-requires
 pack-requires c κs = search needs
 
--- src/clients.rt:91:9
 returns : tie.Need-returns
 returns c =
     let a = c .before .before .before .args in
     rw (c .pack .ensures) (read-unsized (a .state .now) (a .t) (a .client) (c .before .if1 .taken))
 
--- src/clients.rt:93:9
 read-in-requires : tie.Need-read-in-requires
 read-in-requires c κs = search needs
 
--- src/clients.rt:94:5
 outcome-requires : tie.Need-outcome-requires
 outcome-requires c κs = search needs
 
--- src/clients.rt:86:1
 same-length : tie.Need-same-length
 same-length c = search needs
 
--- src/clients.rt:86:1
 returns-2 : tie.Need-returns-2
 returns-2 c =
     let a = c .before .before .before .before .before .before .before .args in

@@ -1,3 +1,5 @@
+-- The sizes are tested in the order of the arguments, then the write begins.
+-- Assumes nothing.
 use borrow.Author.Needs.{needs}
 use Rattle.embed.proofs.Sessions.{write-unsized, write-other-nonce, write-done}
 use Rattle.embed.proofs.clients.cendrulas_client_begin_write.Statement.{statement}
@@ -9,43 +11,34 @@ use Rattle.embed.proofs.clients.write_in.Reads as write-in-reads
 use Rattle.embed.proofs.pack.array.Reads as array-reads
 use Rattle.embed.proofs.pack.pack.Reads as pack-reads
 
--- src/clients.rt:77:9
 pack-requires : tie.Need-pack-requires
 pack-requires c κs = search needs
 
--- src/clients.rt:77:9
 returns : tie.Need-returns
 returns c =
     let a = c .before .before .before .before .before .args in
     rw (c .pack .ensures) (write-unsized (a .state .now) (a .content .now) (a .nonce .now) (a .t) (a .client) (c .before .if1 .taken))
 
--- src/clients.rt:80:9
 pack-requires-2 : tie.Need-pack-requires-2
 pack-requires-2 c κs = search needs
 
--- src/clients.rt:80:9
 returns-2 : tie.Need-returns-2
 returns-2 c =
     let a = c .before .before .before .before .before .before .args in
     rw (c .pack2 .ensures) (write-other-nonce (a .state .now) (a .t) (a .client) (c .before .before .if1 .left) (a .content .now) (a .nonce .now) (c .before .if2 .taken))
 
--- src/clients.rt:82:53
 array-requires : tie.Need-array-requires
 array-requires c κs = search needs
 
--- src/clients.rt:82:9
 write-in-requires : tie.Need-write-in-requires
 write-in-requires c κs = search needs
 
--- src/clients.rt:83:5
 outcome-requires : tie.Need-outcome-requires
 outcome-requires c κs = search needs
 
--- src/clients.rt:66:1
 same-length : tie.Need-same-length
 same-length c = search needs
 
--- src/clients.rt:66:1
 returns-3 : tie.Need-returns-3
 returns-3 c =
     let a = c .before .before .before .before .before .before .before .before .before .before .before .args in

@@ -1,3 +1,5 @@
+-- The size is tested, then the call is given up.
+-- Assumes nothing.
 use borrow.Author.Needs.{needs}
 use Rattle.embed.proofs.Sessions.{give-up-unsized, give-up-done}
 use Rattle.embed.proofs.clients.cendrulas_client_give_up.Statement.{statement}
@@ -10,37 +12,29 @@ use Rattle.embed.proofs.clients.put_call.Reads as put-call-reads
 use Rattle.embed.proofs.pack.pack.Reads as pack-reads
 use Rattle.state.proofs.read.Reads as read-reads
 
--- src/clients.rt:113:9
 pack-requires : tie.Need-pack-requires
 pack-requires c κs = search needs
 
--- src/clients.rt:113:9
 returns : tie.Need-returns
 returns c =
     let a = c .before .before .before .args in
     rw (c .pack .ensures) (give-up-unsized (a .state .now) (a .t) (a .client) (c .before .if1 .taken))
 
--- src/clients.rt:115:9
 read-requires : tie.Need-read-requires
 read-requires c κs = search needs
 
--- src/clients.rt:116:9
 give-up-in-requires : tie.Need-give-up-in-requires
 give-up-in-requires c κs = search needs
 
--- src/clients.rt:117:5
 put-call-requires : tie.Need-put-call-requires
 put-call-requires c κs = search needs
 
--- src/clients.rt:119:5
 aborted-requires : tie.Need-aborted-requires
 aborted-requires c κs = search needs
 
--- src/clients.rt:108:1
 same-length : tie.Need-same-length
 same-length c = search needs
 
--- src/clients.rt:108:1
 returns-2 : tie.Need-returns-2
 returns-2 c =
     let a = c .before .before .before .before .before .before .before .before .before .before .args in

@@ -1,3 +1,5 @@
+-- The size is tested, then the packet is made.
+-- Assumes nothing.
 use borrow.Author.Needs.{needs}
 use Rattle.embed.proofs.Sessions.{make-unsized, make-done}
 use Rattle.embed.proofs.clients.cendrulas_client_make.Statement.{statement}
@@ -7,25 +9,20 @@ use Rattle.embed.proofs.clients.cendrulas_client_make.Lts as lts
 use Rattle.embed.proofs.clients.make_packet.Reads as make-packet-reads
 use Rattle.embed.proofs.pack.pack.Reads as pack-reads
 
--- src/clients.rt:152:9
 pack-requires : tie.Need-pack-requires
 pack-requires c κs = search needs
 
--- src/clients.rt:152:9
 returns : tie.Need-returns
 returns c =
     let a = c .before .before .before .before .args in
     rw (c .pack .ensures) (make-unsized (a .state .now) (a .out .now) (a .t) (a .client) (a .server) (c .before .if1 .taken))
 
--- src/clients.rt:154:5
 make-packet-requires : tie.Need-make-packet-requires
 make-packet-requires c κs = search needs
 
--- src/clients.rt:141:1
 same-length : tie.Need-same-length
 same-length c = search needs
 
--- src/clients.rt:141:1
 returns-2 : tie.Need-returns-2
 returns-2 c =
     let a = c .before .before .before .before .before .before .before .args in

@@ -1,3 +1,5 @@
+-- The core makes the packet in what is lent of the output.
+-- Assumes nothing.
 use borrow.Author.Needs.{needs}
 use mathlib.Core.Path.{sym, _∙_}
 use Prim.Native.Nat.{_≤_}
@@ -19,31 +21,24 @@ use Rattle.embed.proofs.servers.lent.Reads as lent-reads
 use Rattle.state.proofs.read.Reads as read-reads
 use Rattle.wire.proofs.bytes.rest.Reads as rest-reads
 
--- src/clients.rt:127:9
 read-requires : tie.Need-read-requires
 read-requires c κs = search needs
 
--- src/clients.rt:128:9
 lent-requires : tie.Need-lent-requires
 lent-requires c κs = search needs
 
--- src/clients.rt:131:9
 rest-requires : tie.Need-rest-requires
 rest-requires c κs = search needs
 
--- src/clients.rt:135:9
 slice-relend-prefix-make-in : tie.Need-slice-relend-prefix-make-in
 slice-relend-prefix-make-in c = search needs
 
--- src/clients.rt:135:9
 slice-aggregate-make-in : tie.Need-slice-aggregate-make-in
 slice-aggregate-make-in c = let a = c .before .before .before .before .before .before .args in let l = c .before .before .lent in sym (length-take-le (l .result) (a .out .now) (l .ensures .0))
 
--- src/clients.rt:129:9
 make-in-requires : tie.Need-make-in-requires
 make-in-requires c κs = search needs
 
--- src/clients.rt:138:26
 cast-pack : tie.Need-cast-pack
 cast-pack c =
     let a = c .before .before .before .before .before .before .before .before .before .args in
@@ -53,15 +48,12 @@ cast-pack c =
     let e = m .ensures ∙ core-made d (c .before .before .before .before .before .before .before .before .before .pre) (a .t) (a .client) (a .server) (c .before .before .before .before .before .before .read .result) _ (take (l .result) (a .out .now)) (c .before .before .before .before .before .before .read .ensures) (c .before .before .before .before .rest .ensures) in
     let n : m .result .count ≤ packetRoom = made-count (a .out .now) (l .result) (l .ensures .0) (l .ensures .1 .0) (l .ensures .1 .1) (a .t) (a .client) (a .server) (callAt d) (keptOf d) (m .result) (m .last .1 .1 .1 .1 .1 .0) e (m .kept .1 .1 .1 .1 .1 .0) in omega (arith, n)
 
--- src/clients.rt:138:5
 pack-requires : tie.Need-pack-requires
 pack-requires c κs = search needs
 
--- src/clients.rt:123:1
 same-length : tie.Need-same-length
 same-length c = search needs
 
--- src/clients.rt:123:1
 returns : tie.Need-returns
 returns c =
     let a = c .before .before .before .before .before .before .before .before .before .before .args in

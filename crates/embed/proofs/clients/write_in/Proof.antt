@@ -1,3 +1,5 @@
+-- The core begins the write over the kept bytes; its call is put back.
+-- Assumes nothing.
 use borrow.Author.Needs.{needs}
 use mathlib.Core.Path.{ap, _∙_}
 use Rattle.protocol.specs.ClientBytes.{Begun, beginWrite}
@@ -13,35 +15,27 @@ use Rattle.client.proofs.begin.begin_write_in.Reads as begin-write-in-reads
 use Rattle.embed.proofs.clients.put_call.Reads as put-call-reads
 use Rattle.state.proofs.read.Reads as read-reads
 
--- src/clients.rt:28:9
 read-requires : tie.Need-read-requires
 read-requires c κs = search needs
 
--- src/clients.rt:30:53
 sub-begin-write-in : tie.Need-sub-begin-write-in
 sub-begin-write-in c = search needs
 
--- src/clients.rt:30:53
 part-begin-write-in-start : tie.Need-part-begin-write-in-start
 part-begin-write-in-start c = search needs
 
--- src/clients.rt:30:53
 part-begin-write-in-end : tie.Need-part-begin-write-in-end
 part-begin-write-in-end c = search needs
 
--- src/clients.rt:30:9
 begin-write-in-requires : tie.Need-begin-write-in-requires
 begin-write-in-requires c κs = search needs
 
--- src/clients.rt:31:5
 put-call-requires : tie.Need-put-call-requires
 put-call-requires c κs = search needs
 
--- src/clients.rt:16:1
 same-length : tie.Need-same-length
 same-length c = search needs
 
--- src/clients.rt:16:1
 returns : tie.Need-returns
 returns c =
     let begun = c .before .before .before .before .before .before .before in

@@ -1,3 +1,5 @@
+-- The server is made blank, and the refusal is packed.
+-- Assumes nothing.
 use borrow.Author.Needs.{needs}
 use mathlib.Core.Path.{ap, _∙_}
 use Rattle.protocol.specs.ServerBytes.{Blanked}
@@ -9,19 +11,15 @@ use Rattle.embed.proofs.servers.cendrulas_server_blank.Lts as lts
 use Rattle.embed.proofs.pack.pack.Reads as pack-reads
 use Rattle.server.proofs.blank.blank.Reads as blank-reads
 
--- src/servers.rt:18:9
 blank-requires : tie.Need-blank-requires
 blank-requires c κs = search needs
 
--- src/servers.rt:19:5
 pack-requires : tie.Need-pack-requires
 pack-requires c κs = search needs
 
--- src/servers.rt:13:1
 same-length : tie.Need-same-length
 same-length c = search needs
 
--- src/servers.rt:13:1
 returns : tie.Need-returns
 returns c = (c .pack .ensures ∙ ap (λ (b : Blanked). packed (b .result .number) 0 0 0) (c .before .before .before .blank .ensures), ap (λ (b : Blanked). b .memory) (c .before .before .before .blank .ensures))
 

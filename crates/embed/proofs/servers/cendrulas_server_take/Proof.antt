@@ -1,3 +1,5 @@
+-- The key's size is tested, then the packet is taken.
+-- Assumes nothing.
 use borrow.Author.Needs.{needs}
 use Rattle.embed.proofs.Rooms.{take-unsized, take-sized}
 use Rattle.embed.proofs.servers.cendrulas_server_take.Statement.{statement}
@@ -8,33 +10,26 @@ use Rattle.embed.proofs.pack.array.Reads as array-reads
 use Rattle.embed.proofs.pack.pack.Reads as pack-reads
 use Rattle.embed.proofs.servers.serve.Reads as serve-reads
 
--- src/servers.rt:51:9
 pack-requires : tie.Need-pack-requires
 pack-requires c κs = search needs
 
--- src/servers.rt:51:9
 returns : tie.Need-returns
 returns c =
     let a = c .before .before .before .before .before .before .args in
     rw (c .pack .ensures) (take-unsized (a .memory .now) (a .key .now) (a .packet .now) (a .out .now) (c .before .if1 .taken))
 
--- src/servers.rt:53:19
 array-requires : tie.Need-array-requires
 array-requires c κs = search needs
 
--- src/servers.rt:53:5
 serve-requires : tie.Need-serve-requires
 serve-requires c κs = search needs
 
--- src/servers.rt:41:1
 same-length : tie.Need-same-length
 same-length c = search needs
 
--- src/servers.rt:41:1
 same-length-2 : tie.Need-same-length-2
 same-length-2 c = search needs
 
--- src/servers.rt:41:1
 returns-2 : tie.Need-returns-2
 returns-2 c =
     let a = c .before .before .before .before .before .before .before .before .before .before .before .before .before .args in

@@ -1,3 +1,5 @@
+-- The shorter of the two.
+-- Assumes nothing.
 use borrow.Author.Needs.{needs}
 use native.Mathlib.Omega.{arith}
 use native.Mathlib.Nat.{le-refl}
@@ -7,11 +9,9 @@ use Rattle.embed.proofs.servers.lent.Tie as tie
 use Rattle.embed.proofs.servers.lent.Reads as reads
 use Rattle.embed.proofs.servers.lent.Lts as lts
 
--- src/servers.rt:27:9
 returns : tie.Need-returns
 returns c = search needs
 
--- src/servers.rt:23:1
 returns-2 : tie.Need-returns-2
 returns-2 c = (omega arith, (le-refl 6400, le-ltb (c .before .args .room) 6400 (omega arith)))
 

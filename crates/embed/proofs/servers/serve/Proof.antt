@@ -1,3 +1,5 @@
+-- The server takes the packet in what is lent of the output.
+-- Assumes nothing.
 use borrow.Author.Needs.{needs}
 use mathlib.Core.Path.{sym}
 use Prim.Native.Nat.{_≤_}
@@ -13,23 +15,18 @@ use Rattle.embed.proofs.pack.pack.Reads as pack-reads
 use Rattle.embed.proofs.servers.lent.Reads as lent-reads
 use Rattle.server.proofs.take.take.Reads as take-reads
 
--- src/servers.rt:35:9
 lent-requires : tie.Need-lent-requires
 lent-requires c κs = search needs
 
--- src/servers.rt:36:54
 slice-relend-prefix-take : tie.Need-slice-relend-prefix-take
 slice-relend-prefix-take c = search needs
 
--- src/servers.rt:36:54
 slice-aggregate-take : tie.Need-slice-aggregate-take
 slice-aggregate-take c = let a = c .before .before .before .before .before .before .before .args in let l = c .before .before .before .lent in sym (length-take-le (l .result) (a .out .now) (l .ensures .0))
 
--- src/servers.rt:36:9
 take-requires : tie.Need-take-requires
 take-requires c κs = search needs
 
--- src/servers.rt:38:26
 cast-pack : tie.Need-cast-pack
 cast-pack c =
     let a = c .before .before .before .before .before .before .before .before .before .before .before .before .args in
@@ -38,19 +35,15 @@ cast-pack c =
     let n : t .result .count ≤ packetRoom = served-count (a .memory .now) (a .t2) (a .packet .now) (a .out .now) (l .result) (l .ensures .0) (l .ensures .1 .0) (l .ensures .1 .1) (t .result) (t .last .0) (t .last .1 .1 .1 .0) (t .ensures) (t .kept .1 .1 .1 .0) in
     omega (arith, n)
 
--- src/servers.rt:38:5
 pack-requires : tie.Need-pack-requires
 pack-requires c κs = search needs
 
--- src/servers.rt:32:1
 same-length : tie.Need-same-length
 same-length c = search needs
 
--- src/servers.rt:32:1
 same-length-2 : tie.Need-same-length-2
 same-length-2 c = search needs
 
--- src/servers.rt:32:1
 returns : tie.Need-returns
 returns c =
     let a = c .before .before .before .before .before .before .before .before .before .before .before .before .before .args in
