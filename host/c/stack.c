@@ -188,6 +188,34 @@ static void coding(void) {
     }
 }
 
+/* Writes until the servers are full, the last one by a lying writer; a read with repair; one more write. */
+static void fill(void) {
+    for (int k = SERVERS; k < WRITES; k++) {
+        begin(WRITE, 8);
+        visit_until(0, k == WRITES - 1);
+    }
+    begin(READ, 16);
+    visit_until(0, 0);
+    if (memcmp(out, content, sizeof content) != 0) {
+        fail("another content");
+    }
+    begin(WRITE, 8);
+    visit_until(3, 0);
+    kind_of_packet();
+    deliver();
+}
+
+static void report(void) {
+    for (int k = 0; k < 6; k++) {
+        if (!seen_result[k] || !seen_kind[2 * k + 1] || !seen_full) {
+            fail("a step was not reached");
+        }
+    }
+    for (int k = 1; k < FUNCTIONS; k++) {
+        printf("stack of %-24s %6zu bytes\n", names[k], deepest[k] - deepest[NOTHING]);
+    }
+}
+
 int main(void) {
     static uint8_t list[SERVERS * CANDIDATE];
     for (size_t i = 0; i < sizeof content; i++) {
@@ -212,26 +240,7 @@ int main(void) {
     begin(READ, 9);
     visit_until(0, 0); /* of different candidates */
     filters(list);
-    for (int k = SERVERS; k < WRITES; k++) {
-        begin(WRITE, 8);
-        visit_until(0, k == WRITES - 1);
-    }
-    begin(READ, 16);
-    visit_until(0, 0); /* with repair */
-    if (memcmp(out, content, sizeof content) != 0) {
-        fail("another content");
-    }
-    begin(WRITE, 8);
-    visit_until(3, 0);
-    kind_of_packet();
-    deliver(); /* a full server */
-    for (int k = 0; k < 6; k++) {
-        if (!seen_result[k] || !seen_kind[2 * k + 1] || !seen_full) {
-            fail("a step was not reached");
-        }
-    }
-    for (int k = 1; k < FUNCTIONS; k++) {
-        printf("stack of %-24s %6zu bytes\n", names[k], deepest[k] - deepest[NOTHING]);
-    }
+    fill();
+    report();
     return 0;
 }

@@ -39,5 +39,5 @@ pub fn all(run: &mut Run) {
     #[cfg(feature = "client")]
     run.group("random client steps", |run| client::all(run, &mut Source::new(4), 200_000));
     #[cfg(feature = "drill")]
-    run.group("random sheets", |run| drill::all(run, &mut Source::new(5), 1_500));
+    run.group("random sheets", |run| drill::all(run, &mut Source::new(5), 3_000));
 }
