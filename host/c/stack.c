@@ -1,23 +1,16 @@
-/* Stack: every exported function runs in a thread whose stack ends at a page that may not be touched, 64 KiB for a server's functions and
- * 128 KiB for the others, with the longest inputs at t = 4. The stack is painted before each call, so that what a call needed is seen
- * afterwards and printed. Compiled and run by host/test. */
-#define _GNU_SOURCE
+/* Stack: the functions of servers and clients and the digest, tag and fragments run on painted stacks (painted.h), 64 KiB for a server's
+ * functions and 128 KiB for the others, with the longest inputs at t = 4. Compiled and run by host/test. */
+#include "painted.h"
+
 #include "cendrulas.h"
 
-#include <pthread.h>
-#include <stdio.h>
-#include <stdlib.h>
-#include <string.h>
-#include <sys/mman.h>
-
-enum { T = 4, SERVERS = 13, CANDIDATE = 485, WRITES = 32, PAGE = 4096, SMALL = 64 * 1024, LARGE = 128 * 1024, PAINT = 0xC5 };
+enum { T = 4, SERVERS = 13, CANDIDATE = 485, WRITES = 32 };
 enum { NOTHING, DIGEST, TAG, FRAGMENT, RESTORE, CHECK, BLANK, SERVE, WRITE, READ, MAKE, TAKE, GIVE_UP, FUNCTIONS };
 
 static const char *const names[FUNCTIONS] = {
     "a thread alone", "digest", "tag", "fragment", "restore", "packet_check", "server_blank", "server_take",
     "client_begin_write", "client_begin_read", "client_make", "client_take", "client_give_up"};
 static size_t deepest[FUNCTIONS];
-static uint8_t *caller; /* where the calling function's frame stands */
 static unsigned seen_result[6], seen_kind[13], seen_full;
 
 /* the arguments of the next call, and its answer */
@@ -59,31 +52,8 @@ static void *call(void *which) {
     return NULL;
 }
 
-/* One call in a thread on a painted stack; how far below the caller it was written. What the thread itself writes when it begins and ends
- * counts too, so that the number is never too small. */
 static void run(int which) {
-    static uint8_t *room;
-    if (room == NULL) {
-        room = mmap(NULL, LARGE, PROT_READ | PROT_WRITE, MAP_PRIVATE | MAP_ANONYMOUS, -1, 0);
-        if (room == MAP_FAILED) {
-            fail("no memory");
-        }
-    }
-    const size_t size = which == BLANK || which == SERVE ? SMALL : LARGE;
-    uint8_t *low = room + (LARGE - size), *end = low;
-    pthread_attr_t attributes;
-    pthread_t thread;
-    memset(low, PAINT, size);
-    if (mprotect(low, PAGE, PROT_NONE) != 0 || pthread_attr_init(&attributes) != 0 || pthread_attr_setstack(&attributes, low, size) != 0
-        || pthread_create(&thread, &attributes, call, &which) != 0 || pthread_join(thread, NULL) != 0) {
-        fail("no thread");
-    }
-    pthread_attr_destroy(&attributes);
-    mprotect(low, PAGE, PROT_READ | PROT_WRITE);
-    while (*end == PAINT) {
-        end++;
-    }
-    const size_t depth = end < caller ? (size_t)(caller - end) : 0;
+    const size_t depth = painted(call, &which, which == BLANK || which == SERVE ? SMALL : LARGE);
     deepest[which] = deepest[which] < depth ? depth : deepest[which];
 }
 
