@@ -1,8 +1,8 @@
 -- Lending the first bytes of a buffer in place of all of it: where as many are lent as a packet needs, or all there are, an operation answers the same
 -- and leaves the same bytes, and its count is at most what was lent. The bytes past them are never written. Assumes nothing.
 use mathlib.Core.Path.{_≡_, refl, sym, ap, _∙_}
-use mathlib.Core.Bool.{Bool, true, false, cond, not, _&&_}
-use mathlib.Core.List.{List, [], _∷_, _++_, append-assoc}
+use mathlib.Core.Bool.{Bool, true, false, cond}
+use mathlib.Core.List.{List, _++_, append-assoc}
 use mathlib.Core.Option.{Option, none, some}
 use Prim.Native.Nat.{ℕ, zero, suc, _+_, _-_, _≤_}
 use native.Mathlib.Omega.{arith}
@@ -17,10 +17,10 @@ use Rattle.cluster.specs.Refusals.{onRefusal}
 use Rattle.cluster.specs.declared.Outcome.{Outcome}
 use Rattle.protocol.specs.declared.Call.{Call}
 use Rattle.protocol.specs.Packet.{Packet, decode, encode}
-use Rattle.protocol.specs.Memory.{Memory, decodeMemory, encodeMemory}
+use Rattle.protocol.specs.Memory.{Memory, decodeMemory}
 use Rattle.protocol.specs.Primitives.{Primitives, real}
-use Rattle.protocol.specs.Server.{Acted, act, replyTo, serverRefusal}
-use Rattle.protocol.specs.ServerBytes.{Served, over, serverIn, memoryOf, turnedDown, accepted, onMemory, serverTake}
+use Rattle.protocol.specs.Server.{act, replyTo, serverRefusal}
+use Rattle.protocol.specs.ServerBytes.{Served, over, serverIn, turnedDown, accepted, onMemory, serverTake}
 use Rattle.protocol.specs.Client.{made, makeRefusal}
 use Rattle.protocol.specs.ClientBytes.{Written, inHand, clientMake}
 use Rattle.protocol.specs.View.{view}

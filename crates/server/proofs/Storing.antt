@@ -26,7 +26,7 @@ use Rattle.protocol.proofs.Acts.{ServerOk, act-ok}
 use Rattle.protocol.proofs.Answers.{bytes-drop}
 use Rattle.protocol.proofs.Bodies.{decode-ok}
 use Rattle.protocol.proofs.Changes.{added, print-snoc, append-bytes}
-use Rattle.protocol.proofs.Memories.{fields, of-fields, memory-room}
+use Rattle.protocol.proofs.Memories.{of-fields, memory-room}
 use Rattle.protocol.proofs.Packets.{write-law, stamp-length, any-candidate-length}
 use Rattle.protocol.proofs.Puts.{wrote-byte}
 use Rattle.protocol.proofs.Repeats.{many-law}
