@@ -1,21 +1,20 @@
 -- What a begin does in each of its cases: kept bytes of another length, a refusal, or a call that begins; and what an accepted begin tells of its arguments.
 -- Each is the definition with the case's tests put in. Assumes nothing.
-use mathlib.Core.Path.{_≡_, refl, sym, _∙_}
-use mathlib.Core.Bool.{Bool, true, false, cond, not}
+use mathlib.Core.Path.{_≡_, _∙_}
+use mathlib.Core.Bool.{not}
 use mathlib.Core.List.{List}
-use Prim.Native.Nat.{ℕ, suc, _≤_, _<_, _+_, _*_}
+use Prim.Native.Nat.{ℕ, suc, _≤_, _<_, _*_}
 use lib.Dec.{leb}
 use lib.ListN.{length, replicate}
 use borrow.Author.Tests.{eq-eqb, ne-eqb, leb-false}
-use native.Mathlib.Omega.{arith}
 use Rattle.cluster.specs.Config.{shelf}
 use Rattle.cluster.specs.Ranges.{within, topWriter, topClient, mostServers, topNumber, topLength, leastLength}
 use Rattle.protocol.specs.declared.Call.{Call}
 use Rattle.protocol.specs.Client.{badFaults, writeRefusal, readRefusal}
 use Rattle.protocol.specs.View.{keptSize, nonceAt, candidatesAt, candidateSlot}
-use Rattle.protocol.specs.ClientBytes.{Begun, beginWrite, beginRead, inHand, put, fresh}
+use Rattle.protocol.specs.ClientBytes.{beginWrite, beginRead, inHand, put, fresh}
 use Rattle.client.specs.Core.{coreWrite, coreRead, notBegun}
-use Rattle.client.proofs.Tests.{refused, accepted, passes, inside}
+use Rattle.client.proofs.Tests.{refused, passes, inside}
 
 module _ (t client : ℕ) (c : Call) (kept : List ℕ) where
   module _ (content nonce : List ℕ) where

@@ -4,13 +4,12 @@ use mathlib.Core.Path.{_≡_, refl, sym, ap, _∙_, subst}
 use mathlib.Core.Bool.{Bool, true, false, cond, _&&_}
 use mathlib.Core.List.{List, [], _∷_}
 use Prim.Native.Nat.{ℕ, suc, _≤_, _<_}
-use native.Mathlib.Omega.{arith}
 use lib.Dec.{leb, ltb}
 use lib.ListN.{length, drop}
 use borrow.Author.Tests.{ltb-false, leb-false}
 use Rattle.cluster.specs.Config.{shelf}
 use Rattle.cluster.specs.Refusals.{refuse, firstOf}
-use Rattle.cluster.specs.Ranges.{topFaults, topClient, topNumber, mostServers, contentRoom}
+use Rattle.cluster.specs.Ranges.{topNumber, contentRoom}
 use Rattle.protocol.specs.declared.Call.{Call}
 use Rattle.protocol.specs.declared.Head.{Head}
 use Rattle.protocol.specs.declared.Stamp.{Stamp}
@@ -25,27 +24,12 @@ use Rattle.protocol.specs.ClientBytes.{keyOf, clientTake, fresh, noted, ends}
 use Rattle.protocol.proofs.Bodies.{decode-ok}
 use Rattle.protocol.proofs.Packets.{stamp-length, any-stamp-tag}
 use Rattle.wire.specs.Places.{bodyAt, packetAt}
-use Rattle.wire.proofs.Laws.{head-ranges}
 use Rattle.client.specs.declared.answers.Answered.{Answered}
 use Rattle.client.specs.Steps.{Ready, TakesAs, writeMade}
-use Rattle.client.proofs.Tests.{both, inside, passes}
+use Rattle.client.proofs.Tests.{both, passes}
 use Rattle.client.proofs.TakenReplies.{body-at, printed, clock-too-high, clock-short, clock-goes, clock-ends}
 
 module _ (t client : ℕ) (c : Call) (reply : List ℕ) (h : Head) (y : Ready t client c reply h) where
-  pub ready-faults : (1 ≤ t) × (t ≤ topFaults)
-  unfolding shelf
-  ready-faults = inside 1 topFaults t (y .faults)
-
-  pub ready-client : (1 ≤ client) × (client ≤ topClient)
-  ready-client = inside 1 topClient client (y .reader)
-
-  pub ready-server : (1 ≤ h .server) × (h .server ≤ mostServers)
-  unfolding packetAt shelf
-  ready-server =
-      let r = head-ranges reply (packetAt h reply) (y .decoded) in
-      let s : h .server ≤ shelf (h .t) .servers = r .server .1 in
-      (r .server .0, omega (arith, s, r .t .1))
-
   stamp-ok : (z : Body) (a : Stamp) → z ≡ clockReply a → BodyOk (shelf (h .t)) z → anyStampF .Ok a
   stamp-ok z a e o = subst (BodyOk (shelf (h .t))) e o
 

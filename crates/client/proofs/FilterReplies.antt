@@ -8,13 +8,13 @@ use Prim.Native.Nat.{ℕ, _+_, _-_, _*_, _≤_}
 use native.Mathlib.Omega.{arith}
 use lib.ListN.{length, drop, replicate, length-replicate}
 use Rattle.cluster.specs.Config.{shelf}
-use Rattle.cluster.specs.Ranges.{topFaults, mostServers, contentRoom}
+use Rattle.cluster.specs.Ranges.{contentRoom}
 use Rattle.protocol.specs.declared.Call.{Call}
 use Rattle.protocol.specs.declared.Head.{Head}
 use Rattle.protocol.specs.declared.Taken.the-variants as taken
-use Rattle.protocol.specs.Format.{Bytes, via, seq}
+use Rattle.protocol.specs.Format.{Bytes}
 use Rattle.protocol.specs.Values.{Candidate, Held}
-use Rattle.protocol.specs.Packet.{Body, BodyOk, Packet, PacketOk, packetF, bodyF, headSize, printBody, heldF, filterReply}
+use Rattle.protocol.specs.Packet.{Body, BodyOk, headSize, printBody, heldF, filterReply}
 use Rattle.protocol.specs.Primitives.{real}
 use Rattle.protocol.specs.Rules.{ByServer, gather, live, choice}
 use Rattle.protocol.specs.Client.{heldIn}
@@ -24,12 +24,12 @@ use Rattle.protocol.proofs.Bodies.{decode-ok}
 use Rattle.protocol.proofs.HandOk.{held-room}
 use Rattle.protocol.proofs.Puts.{put-length}
 use Rattle.protocol.proofs.Room.{shelf-fits}
+use Rattle.protocol.proofs.ServerLift.{body-ok}
 use Rattle.wire.specs.Places.{bodyAt, packetAt}
-use Rattle.wire.proofs.Laws.{head-ranges}
 use Rattle.client.specs.Steps.{Ready}
 use Rattle.client.specs.Filter.{judgedIn}
-use Rattle.client.proofs.Tests.{inside}
 use Rattle.client.proofs.TakeRefusals.{awaited-reply}
+use Rattle.client.proofs.ReadyRanges.{ready-faults, ready-server}
 use Rattle.client.proofs.TakenReplies.{on-round, body-at, printed}
 use Rattle.client.proofs.Judged.{judged-by}
 
@@ -46,22 +46,7 @@ on-filter : (t client : ℕ) (writers : List ℕ) (keys : ByServer (List ℕ)) (
 unfolding takeOn takeFilter took
 on-filter t client writers keys c kept output h x d e = rw e
 
-body-of : (p : Packet) → PacketOk p → BodyOk (shelf (p .head .t)) (p .body)
-unfolding PacketOk packetF via seq bodyF
-body-of p h = h .1 .1
-
 module _ (t client : ℕ) (c : Call) (reply : List ℕ) (h : Head) (y : Ready t client c reply h) where
-  pub faults-range : (1 ≤ t) × (t ≤ topFaults)
-  unfolding shelf
-  faults-range = inside 1 topFaults t (y .faults)
-
-  pub server-range : (1 ≤ h .server) × (h .server ≤ mostServers)
-  unfolding packetAt
-  server-range =
-      let r = head-ranges reply (packetAt h reply) (y .decoded) in
-      let f = shelf-fits (h .t) (r .t .0) (r .t .1) in
-      (r .server .0, omega (arith, r .server .1, f .few))
-
   module _ (e : c .tally .round ≡ 5) (bytes : Bytes reply) where
     abbrev body : List ℕ
     body = drop headSize reply
@@ -79,12 +64,12 @@ module _ (t client : ℕ) (c : Call) (reply : List ℕ) (h : Head) (y : Ready t 
         subst (BodyOk (shelf t)) body-is (subst (λ (k : ℕ). BodyOk (shelf k) (packetAt h reply .body)) (awaited-reply t client c h (y .awaited) .ofShelf) o)
       where
         of-head : BodyOk (shelf (h .t)) (packetAt h reply .body)
-        of-head = unfold packetAt in body-of (packetAt h reply) (decode-ok reply (packetAt h reply) (y .decoded))
+        of-head = unfold packetAt in body-ok (packetAt h reply) (decode-ok reply (packetAt h reply) (y .decoded))
 
     -- the body fits its slot
     pub body-fits : length body ≤ replySlot
     body-fits =
-        let r = faults-range in
+        let r = ready-faults t client c reply h y in
         rw held-print at (held-room (shelf t) (shelf-fits t (r .0) (r .1)) (heldAt (shelf t) body) held-ok)
 
     module _ (writers : List ℕ) (keys : List (List ℕ)) (kept output : List ℕ) (room : contentRoom ≤ length output) where
@@ -122,8 +107,8 @@ module _ (t client : ℕ) (c : Call) (reply : List ℕ) (h : Head) (y : Ready t 
           → judgedIn t then after output ≡ clientTake real t client writers keys c kept reply output
       unfolding judgedIn
       filter-ends l bs f =
-          let r = faults-range in
-          let v = server-range in
+          let r = ready-faults t client c reply h y in
+          let v = ready-server t client c reply h y in
           let n : length after ≡ keptSize = put-length kept (repliesAt + replySlot * (h .server - 1)) body (omega (arith, l, body-fits, v .0, v .1)) ∙ l in
           let z : length {A = ℕ} (replicate contentRoom 0) ≡ contentRoom = length-replicate {A = ℕ} contentRoom 0 in
           judged-by t (then .tally .marks) after (record { low = r .0; high = r .1; size = n }) bs client writers (keyOf keys) c (noted (c .tally) (h .server)) kept output

@@ -8,6 +8,7 @@ pub mod MadeBytes
 pub mod ShareBytes
 pub mod Prepared
 pub mod Printed
+pub mod ReadyRanges
 pub mod TakeTests
 pub mod RoundsTaken
 pub mod Offered

@@ -4,7 +4,7 @@ use mathlib.Core.Path.{_≡_, refl}
 use mathlib.Core.Bool.{Bool, true, false, cond}
 use mathlib.Core.List.{List}
 use mathlib.Core.Option.{some}
-use Prim.Native.Nat.{ℕ, suc, _+_, _-_, _*_}
+use Prim.Native.Nat.{ℕ, _+_, _-_, _*_}
 use lib.Dec.{eqb}
 use lib.ListN.{length}
 use Rattle.cluster.specs.Config.{shelf}
@@ -13,13 +13,13 @@ use Rattle.protocol.specs.declared.Tally.{Tally}
 use Rattle.protocol.specs.declared.Head.{Head}
 use Rattle.protocol.specs.declared.Taken.{Taken}
 use Rattle.protocol.specs.declared.Taken.the-variants as taken
-use Rattle.protocol.specs.Packet.{Body, Packet, anyCandidateF, heldF, storeReply, collectReply}
+use Rattle.protocol.specs.Packet.{Body, anyCandidateF}
 use Rattle.protocol.specs.Primitives.{real}
 use Rattle.protocol.specs.Rules.{ByServer}
-use Rattle.protocol.specs.Client.{candidateIn, codeIn, heldIn}
+use Rattle.protocol.specs.Client.{candidateIn, codeIn}
 use Rattle.protocol.specs.ServerBytes.{over}
 use Rattle.protocol.specs.View.{chosenOf, contentOf, candidatesAt, candidateSlot}
-use Rattle.protocol.specs.ClientBytes.{Took, took, takeOn, takeClock, takeStore, takeComplete, takeCollect, takeFilter, takeRepair, delivers, put, fresh, noted, ends, withTally}
+use Rattle.protocol.specs.ClientBytes.{Took, took, takeOn, takeStore, takeComplete, takeCollect, takeRepair, delivers, put, fresh, noted, ends, withTally}
 
 module _ (t client : ℕ) (writers : List ℕ) (keys : ByServer (List ℕ)) (c : Call) (kept output : List ℕ) (h : Head) (x : Body) where
   abbrev on : ℕ → Took

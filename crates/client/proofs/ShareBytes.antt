@@ -1,9 +1,9 @@
 -- The fragments of a write, their digests and the shares, as the code writes them: one entry after another.
 -- An entry put after a run is the longer run put once, and runs that follow one another are their join. Assumes nothing.
 use mathlib.Core.Path.{_≡_, refl, sym, ap, _∙_}
-use mathlib.Core.Bool.{Bool, true, false, cond, not}
+use mathlib.Core.Bool.{Bool, true, false}
 use mathlib.Core.List.{List, [], _∷_, _++_, append-assoc}
-use Prim.Native.Nat.{ℕ, zero, suc, _+_, _-_, _*_, _/_, _≤_, _<_}
+use Prim.Native.Nat.{ℕ, suc, _+_, _-_, _*_, _≤_}
 use native.Mathlib.Omega.{arith}
 use native.Mathlib.Nat.{div-eq-of-lt, mul-le-mul-left, mul-suc}
 use native.Mathlib.Numerals.{add-one}
@@ -12,16 +12,16 @@ use lib.ListN.{length, take, drop, length-append}
 use lib.Seq.{take-at}
 use borrow.Author.Tests.{le-leb, leb-true, leb-false}
 use Rattle.cluster.specs.Config.{shelf}
-use Rattle.cluster.specs.Ranges.{within, topFaults, leastLength, topLength}
+use Rattle.cluster.specs.Ranges.{topFaults, leastLength, topLength}
 use Rattle.sha256.specs.Sha256.{sha256}
-use Rattle.erasure.specs.Fragments.{table, fragment, fragmentSize}
+use Rattle.erasure.specs.Fragments.{fragment, fragmentSize}
 use Rattle.erasure.specs.Steps.{fragmentStep, fragmentRefusal, fragmentBytes}
 use Rattle.protocol.specs.Values.{runOf, digestSize}
 use Rattle.protocol.specs.Primitives.{real}
 use Rattle.protocol.specs.View.{part}
 use Rattle.protocol.specs.ClientBytes.{put}
 use Rattle.protocol.proofs.Primitive.{real-lengths, run-length}
-use Rattle.protocol.proofs.Puts.{put-put, put-length}
+use Rattle.protocol.proofs.Puts.{put-put}
 use Rattle.client.specs.Steps.{fragmentRun, digestRun}
 
 -- one entry more

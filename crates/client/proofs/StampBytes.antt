@@ -1,17 +1,17 @@
 -- The bytes of stamps and of runs of tags: what a clock reply's stamp raises the number to, and how runs are written one entry after another.
 -- A number's four bytes print back as they were, and an entry put after a run is the longer run put once. Assumes nothing.
 use mathlib.Core.Path.{_≡_, refl, sym, ap, _∙_}
-use mathlib.Core.Bool.{Bool, true, false, cond, not, _&&_}
+use mathlib.Core.Bool.{true, false, not}
 use mathlib.Core.List.{List, [], _∷_, _++_, append-nil}
 use Prim.Native.Nat.{ℕ, zero, suc, _+_, _-_, _*_, _≤_, _<_}
 use native.Mathlib.Omega.{arith}
 use native.Mathlib.Numerals.{add-one}
-use lib.Dec.{ltb, eqb}
-use lib.ListN.{length, take, drop, getD, length-append}
+use lib.Dec.{eqb}
+use lib.ListN.{length, drop, getD, length-append}
 use lib.Seq.{drop-length}
 use borrow.Author.Tests.{lt-ltb, le-ltb, ne-eqb}
 use Rattle.hmac.specs.Hmac.{tagOf, tagSize}
-use Rattle.protocol.specs.Format.{Bytes, value4, print4}
+use Rattle.protocol.specs.Format.{Bytes}
 use Rattle.protocol.specs.Values.{sameList, isBlank, runOf}
 use Rattle.protocol.specs.Primitives.{real, stampMessage}
 use Rattle.protocol.specs.Client.{higher, checks}
@@ -21,7 +21,7 @@ use Rattle.protocol.specs.ClientBytes.{put, keyOf}
 use Rattle.protocol.proofs.Formats.{print4-value}
 use Rattle.protocol.proofs.Equal.{and-off}
 use Rattle.protocol.proofs.Primitive.{real-lengths, run-length}
-use Rattle.protocol.proofs.Puts.{put-put, put-over, put-length}
+use Rattle.protocol.proofs.Puts.{put-put, put-over}
 use Rattle.client.specs.Steps.{tagRun}
 
 pub marked-at : (ms : List ℕ) (b : ℕ) → 1 ≤ b → marked ms b ≡ not (eqb (getD ms (b - 1) 0) 0)

@@ -3,15 +3,14 @@
 use mathlib.Core.Path.{_≡_, refl, sym, ap, _∙_}
 use mathlib.Core.Bool.{Bool, true, false, cond, not, _&&_, _||_, true≢false}
 use mathlib.Core.List.{List}
-use mathlib.Core.Option.{Option, some}
-use Prim.Native.Nat.{ℕ, _+_, _*_}
+use mathlib.Core.Option.{some}
+use Prim.Native.Nat.{ℕ}
 use native.Mathlib.Omega.{arith}
 use lib.Dec.{leb, ltb, eqb}
 use lib.ListN.{length}
 use borrow.Author.Tests.{eqb-true, eq-eqb, ne-eqb, not-false}
 use Rattle.cluster.specs.Config.{shelf}
 use Rattle.cluster.specs.Ranges.{within, topClient, topNumber, contentRoom}
-use Rattle.cluster.specs.Refusals.{onRefusal}
 use Rattle.protocol.specs.declared.Call.{Call}
 use Rattle.protocol.specs.declared.Head.{Head}
 use Rattle.protocol.specs.declared.Taken.the-variants as taken
@@ -20,7 +19,7 @@ use Rattle.protocol.specs.Primitives.{real}
 use Rattle.protocol.specs.Rules.{ByServer}
 use Rattle.protocol.specs.Client.{badFaults, takeRefusal, higher, stampIn}
 use Rattle.protocol.specs.View.{marked}
-use Rattle.protocol.specs.ClientBytes.{Took, took, takeIn, takeOn, takeClock, highIn, awaited, inHand, ends}
+use Rattle.protocol.specs.ClientBytes.{Took, took, takeIn, takeOn, highIn, awaited, ends}
 use Rattle.client.specs.Steps.{foreign, other, replyRefusal}
 use Rattle.client.proofs.Tests.{both, passes, refused, accepted}
 

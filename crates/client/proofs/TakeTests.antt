@@ -10,12 +10,12 @@ use lib.Dec.{eqb}
 use lib.ListN.{length, drop}
 use borrow.Author.Tests.{eq-eqb, ne-eqb, lt-ltb}
 use Rattle.cluster.specs.Config.{shelf}
-use Rattle.cluster.specs.Ranges.{within, topFaults, topClient, mostServers, contentRoom}
+use Rattle.cluster.specs.Ranges.{within, topFaults, topClient, contentRoom}
 use Rattle.protocol.specs.declared.Call.{Call}
 use Rattle.protocol.specs.declared.Head.{Head}
 use Rattle.protocol.specs.declared.Taken.the-variants as taken
-use Rattle.protocol.specs.Format.{Bytes, via, seq}
-use Rattle.protocol.specs.Packet.{Packet, PacketOk, packetF, bodyF, Body, BodyOk, printBody, collectReply, anyCandidateF, decode, headSize}
+use Rattle.protocol.specs.Format.{Bytes}
+use Rattle.protocol.specs.Packet.{Packet, Body, BodyOk, printBody, collectReply, anyCandidateF, decode, headSize}
 use Rattle.protocol.specs.Primitives.{real}
 use Rattle.protocol.specs.Rules.{ByServer}
 use Rattle.protocol.specs.Client.{badFaults, takeRefusal}
@@ -25,8 +25,8 @@ use Rattle.protocol.proofs.Whole.{kind-decoded}
 use Rattle.protocol.proofs.Bodies.{decode-ok}
 use Rattle.protocol.proofs.Packets.{any-candidate-length}
 use Rattle.protocol.proofs.Room.{shelf-fits}
+use Rattle.protocol.proofs.ServerLift.{body-ok}
 use Rattle.wire.specs.Places.{packetAt, bodyAt}
-use Rattle.wire.proofs.Laws.{head-ranges}
 use Rattle.client.specs.declared.answers.Answered.{Answered}
 use Rattle.client.specs.Answers.{answered}
 use Rattle.client.specs.Core.{coreTake}
@@ -58,15 +58,6 @@ module _ (t client : ℕ) (calls kind : ℕ) (replied : ByServer Bool) (high : �
 in-hand : (b : Bool) (n : ℕ) → eqb (cond b n 0) 0 ≡ false → b ≡ true
 in-hand true n e = refl
 in-hand false n e = absurd (true≢false e)
-
-body-ok : (p : Packet) → PacketOk p → BodyOk (shelf (p .head .t)) (p .body)
-unfolding PacketOk packetF via seq bodyF
-body-ok p h = h .1 .1
-
--- the server of a packet that was let through
-pub server-ranges : (reply : List ℕ) (h : Head) → decode reply ≡ some (packetAt h reply) → (1 ≤ h .server) × (h .server ≤ mostServers)
-unfolding shelf packetAt
-server-ranges reply h e = let r = head-ranges reply (packetAt h reply) e in (r .server .0, omega (arith, r .server .1, r .t .1))
 
 module _ (t client : ℕ) (writers : List ℕ) (keys : List (List ℕ)) (c : Call) (kept reply output : List ℕ) where
   abbrev whole : Took
@@ -141,10 +132,6 @@ module _ (t client : ℕ) (writers : List ℕ) (keys : List (List ℕ)) (c : Cal
 -- ---- a reply that no test of its head refuses
 
 module _ (t client : ℕ) (c : Call) (reply : List ℕ) (h : Head) (y : Ready t client c reply h) where
-  pub ready-ranges : (t ≤ topFaults) × ((1 ≤ h .server) × (h .server ≤ mostServers))
-  unfolding shelf
-  ready-ranges = (inside 1 topFaults t (y .faults) .1, server-ranges reply h (y .decoded))
-
   pub ready-round : (1 ≤ c .tally .round) × (c .tally .round ≤ 6)
   unfolding awaited
   ready-round = hand-round c (in-hand (inHand c) (2 * c .tally .round) (awaited-reply t client c h (y .awaited) .pending))

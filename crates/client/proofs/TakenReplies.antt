@@ -1,33 +1,33 @@
 -- A packet that was let through and that no test refuses: its body is the one of its round, and what the client does with it is that round's step.
 -- The head's kind is twice the round's number, and the body's bytes are the packet's past its head. Assumes nothing.
 use mathlib.Core.Path.{_≡_, refl, sym, ap, _∙_}
-use mathlib.Core.Bool.{Bool, true, false, cond, not, _&&_}
+use mathlib.Core.Bool.{true, false, cond, _&&_}
 use mathlib.Core.List.{List}
-use mathlib.Core.Option.{Option, some}
+use mathlib.Core.Option.{some}
 use Prim.Native.Nat.{ℕ, suc, _+_, _-_, _*_, _≤_}
 use native.Mathlib.Omega.{arith}
 use lib.Dec.{leb, ltb, eqb}
 use lib.ListN.{length, drop, getD}
 use borrow.Author.Tests.{le-ltb}
-use Rattle.cluster.specs.Config.{Config, shelf}
-use Rattle.cluster.specs.Ranges.{within, topClient, topNumber, contentRoom}
+use Rattle.cluster.specs.Config.{shelf}
+use Rattle.cluster.specs.Ranges.{within, topNumber, contentRoom}
 use Rattle.protocol.specs.declared.Call.{Call}
 use Rattle.protocol.specs.declared.Head.{Head}
 use Rattle.protocol.specs.declared.Stamp.{Stamp}
 use Rattle.protocol.specs.declared.Taken.the-variants as taken
 use Rattle.protocol.specs.Format.{Bytes}
-use Rattle.protocol.specs.Packet.{Body, Packet, decode, kindOf, headSize, printBody, anyCandidateF, candidateF, clockReply, storeReply, collectReply, filterReply}
+use Rattle.protocol.specs.Packet.{Body, Packet, decode, kindOf, headSize, printBody, anyCandidateF, candidateF, clockReply, storeReply, collectReply}
 use Rattle.protocol.specs.Primitives.{real}
 use Rattle.protocol.specs.Rules.{ByServer}
-use Rattle.protocol.specs.Client.{badFaults, higher, candidateMade, sharesMade}
+use Rattle.protocol.specs.Client.{higher, candidateMade, sharesMade}
 use Rattle.protocol.specs.ServerBytes.{over}
-use Rattle.protocol.specs.View.{stampAt, candidateAt, heldAt, chosenOf, contentOf, nonceOf, chosenAt, candidatesAt, candidateSlot}
+use Rattle.protocol.specs.View.{stampAt, candidateAt, chosenOf, contentOf, nonceOf, chosenAt, candidatesAt, candidateSlot}
 use Rattle.protocol.specs.ClientBytes.{Took, highIn, takeIn, takeOn, takeClock, took, putShares, awaited, inHand, put, fresh, noted, ends, withTally}
 use Rattle.protocol.proofs.Whole.{kind-decoded}
 use Rattle.wire.specs.Places.{bodyAt, packetAt}
 use Rattle.wire.proofs.Laws.{body-bytes}
-use Rattle.client.specs.Steps.{replyRefusal, Ready}
-use Rattle.client.proofs.TakeRefusals.{Awaited, awaited-reply, taken-reply, never-high, high-refused, short-refused, clock-high}
+use Rattle.client.specs.Steps.{Ready}
+use Rattle.client.proofs.TakeRefusals.{awaited-reply, taken-reply, never-high, high-refused, short-refused, clock-high}
 use Rattle.client.proofs.RoundSteps.{on-store, on-complete, on-collect, on-repair}
 
 kind-at : (c : Call) (r : ℕ) → c .tally .round ≡ r → within 1 6 r ≡ true → awaited c ≡ 2 * r

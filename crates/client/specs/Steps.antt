@@ -22,7 +22,7 @@ use Rattle.wire.specs.Places.{packetAt}
 use Rattle.protocol.specs.ServerBytes.{over}
 use Rattle.protocol.specs.View.{marked, part, repliesAt, replySlot, chosenAt, contentOf, nonceOf}
 use Rattle.protocol.specs.Primitives.{real}
-use Rattle.protocol.specs.ClientBytes.{Written, Took, awaited, keyOf, put, putShares, clientTake}
+use Rattle.protocol.specs.ClientBytes.{Written, awaited, keyOf, put, putShares, clientTake}
 use Rattle.client.specs.declared.answers.Answered.{Answered}
 
 -- another shelf's packet, or another client's

@@ -1,6 +1,5 @@
 // Beginning a call, and giving it up.
 ghost use mathlib.Core.Path.{_≡_};
-ghost use mathlib.Core.List.{List};
 ghost use Prim.Native.Nat.{suc, _≤_, _+_, _*_};
 ghost use lib.ListN.{length, replicate};
 ghost use Rattle.cluster.specs.Ranges.{topLength, topNumber, mostServers};

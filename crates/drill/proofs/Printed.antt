@@ -32,9 +32,6 @@ pub printing-none : (v : ℕ) → Printing v 8 v (replicate 8 32)
 printing-none v = record { size = refl; left = omega arith; front = refl; back = sym (append-nil (justified 8 v)) }
 
 module _ (v j rest : ℕ) (a : List ℕ) (p : Printing v (suc j) rest a) where
-  digit : ℕ
-  digit = 48 + rest % 10
-
   room : j < length a
   room = omega (arith, p .size, p .left)
 

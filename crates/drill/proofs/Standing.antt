@@ -45,9 +45,6 @@ below-clients t b c h k = omega arith
 -- ---- a client's slot
 
 module _ (w : List ℕ) (c : ℕ) (hc : (1 ≤ c) × (c ≤ topClient)) (size : length w ≡ workSize) (x : Call) (l : length (x .tally .marks) ≡ mostServers) where
-  bytes : List ℕ
-  bytes = callBytes x
-
   state-fits : clientAt c + length (callBytes x) ≤ length w
   unfolding clientAt
   state-fits = omega (arith, state-length x l)

@@ -3,7 +3,7 @@
 use mathlib.Core.Path.{_≡_, refl, sym, ap, subst, _∙_}
 use mathlib.Core.Logic.{_≢_}
 use mathlib.Core.List.{List}
-use Prim.Native.Nat.{ℕ, zero, suc, _+_, _-_, _*_, _/_, _≤_, _<_}
+use Prim.Native.Nat.{ℕ, zero, suc, _+_, _-_, _/_, _≤_, _<_}
 use native.Mathlib.Nat.{div-lt-iff-lt-mul}
 use native.Mathlib.Decide.{ℕ-discrete}
 use native.Mathlib.Omega.{arith}
@@ -18,7 +18,7 @@ use Rattle.erasure.specs.declared.FragmentOutcome.{FragmentOutcome}
 use Rattle.erasure.specs.Fragments.{fragmentSize}
 use Rattle.erasure.specs.Steps.{zeros, fragmentRefusal, fragmentBytes, fragmentStep, restoreRefusal, argumentChecks, restoreStep}
 use Rattle.erasure.proofs.Laws.{fragment-length}
-use Rattle.erasure.proofs.Refused.{Makes, makes, Restores, accepted, first-of-first}
+use Rattle.erasure.proofs.Refused.{makes, accepted, first-of-first}
 use Rattle.embed.specs.Coding.{exportRefusal, outcomeOf}
 
 -- ---- a fragment

@@ -1,3 +1,6 @@
 pub mod Laws
 pub mod Layouts
 pub mod Coded
+pub mod Sessions
+pub mod Rooms
+pub mod KeyRuns

@@ -1,5 +1,8 @@
 // The library's functions for C and Rust, on numbers and slices only; include/cendrulas.h declares them.
+mod clients;
 mod coding;
 mod digests;
+mod keys;
 mod pack;
 mod packets;
+mod servers;

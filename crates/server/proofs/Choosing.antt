@@ -8,24 +8,21 @@ use Prim.Native.Nat.{ℕ, zero, suc, _≤_, _<_}
 use native.Mathlib.Omega.{arith}
 use lib.Dec.{T, ltb}
 use borrow.Author.Tests.{ltb-true, ltb-false, lt-ltb}
-use Rattle.cluster.specs.Config.{Config, shelf}
+use Rattle.cluster.specs.Config.{Config}
 use Rattle.protocol.specs.declared.Stamp.{Stamp}
-use Rattle.protocol.specs.Format.{Bytes, via, seq, number4, byte}
+use Rattle.protocol.specs.Format.{via, seq, number4, byte}
 use Rattle.protocol.specs.Values.{Candidate, below, blankStamp, blankCandidate}
 use Rattle.protocol.specs.Packet.{stampF, candidateF}
 use Rattle.protocol.specs.Primitives.{Primitives, real}
 use Rattle.protocol.specs.Server.{Server, valid, best}
 use Rattle.protocol.specs.View.{stampAt, candidateAt}
-use Rattle.protocol.specs.ServerBytes.{serverIn}
 use Rattle.wire.specs.Places.{candidateList}
-use Rattle.server.specs.Reads.{Opened, keyOf}
-use Rattle.server.specs.Answers.{memoryIn}
-use Rattle.server.specs.Valid.{ValidAs}
-use Rattle.server.specs.Ranks.{slotOf, rankOf, slotWith, nextRank}
-use Rattle.server.specs.Filter.{Listed, ChosenAs}
+use Rattle.server.specs.Reads.{keyOf}
+use Rattle.server.specs.Ranks.{slotOf, rankOf}
+use Rattle.server.specs.Filter.{Listed}
 use Rattle.server.specs.declared.filter.Chosen.the-variants as chosen
 use Rattle.server.proofs.Raising.{below-key}
-use Rattle.server.proofs.Ranking.{last-of, rank-top, rank-pos, rank-inj, rank-slot, rank-higher, rank-earlier, next-under, next-most}
+use Rattle.server.proofs.Ranking.{last-of, rank-inj, rank-higher, rank-earlier}
 
 clash : {b : Bool} → b ≡ true → b ≡ false → ⊥
 clash p q = subst T (sym p ∙ q) tt

@@ -1,10 +1,9 @@
 -- Filter: what was chosen is what the server's step keeps of the list, raised; the reply is what is held for its stamp.
 -- By the laws of the raised memory and of replies; the blank is lowest and held by none. Assumes nothing.
-use mathlib.Core.Path.{_≡_, refl, sym, ap, _∙_, subst}
-use mathlib.Core.Bool.{Bool, true, false, cond}
-use mathlib.Core.List.{List, [], _∷_, _++_, append-nil}
+use mathlib.Core.Path.{_≡_, sym, ap, _∙_, subst}
+use mathlib.Core.List.{List, [], append-nil}
 use mathlib.Core.Option.{some}
-use Prim.Native.Nat.{ℕ, _+_, _≤_}
+use Prim.Native.Nat.{ℕ, _≤_}
 use native.Mathlib.Omega.{arith}
 use lib.ListN.{length, drop, getD, length-drop, length-replicate}
 use borrow.Author.Tests.{le-ltb}
@@ -16,7 +15,7 @@ use Rattle.protocol.specs.declared.Head.{Head}
 use Rattle.protocol.specs.declared.Stamp.{Stamp}
 use Rattle.protocol.specs.Format.{Bytes}
 use Rattle.protocol.specs.Values.{Candidate, below, blankStamp, blankCandidate, stampSize, candidateSize}
-use Rattle.protocol.specs.Packet.{candidateF, heldF, filter, filterReply, headSize, decode}
+use Rattle.protocol.specs.Packet.{heldF, filter, filterReply, headSize, decode}
 use Rattle.protocol.specs.Memory.{held, encodeMemory}
 use Rattle.protocol.specs.Primitives.{real}
 use Rattle.protocol.specs.Server.{Acted, Server, raise, best, act}

@@ -14,7 +14,7 @@ use Rattle.hmac.specs.Hmac.{tagSize}
 use Rattle.protocol.specs.declared.Head.{Head}
 use Rattle.protocol.specs.declared.Stamp.{Stamp}
 use Rattle.protocol.specs.Format.{Bytes, value2, via, seq, orBlank, optional, run}
-use Rattle.protocol.specs.Values.{Write, Share, Held, stampSize, digestSize, digestsSize, tagsSize}
+use Rattle.protocol.specs.Values.{Write, Share, stampSize, digestSize, digestsSize, tagsSize}
 use Rattle.protocol.specs.Packet.{stampF, anyStampF, shareF, writeF, heldF, headF}
 use Rattle.protocol.specs.Memory.{held}
 use Rattle.protocol.specs.Reading.{Leaves, Wrote}
@@ -30,7 +30,7 @@ use Rattle.wire.specs.Make.{placed, writeStep, packetStep}
 use Rattle.wire.proofs.Put.{placed-wrote}
 use Rattle.server.specs.declared.memory.Found.{Found}
 use Rattle.server.specs.declared.memory.Found.the-variants as found
-use Rattle.server.specs.Reads.{Stored, firstWith, FindIs, FindAs}
+use Rattle.server.specs.Reads.{firstWith, FindIs, FindAs}
 use Rattle.server.specs.Answers.{replyHead}
 use Rattle.server.specs.Filter.{shareBytes, HeldAs}
 use Rattle.server.proofs.Once.{shareIn, first-held}

@@ -1,6 +1,6 @@
 -- The body of a filter packet is its count and its candidates, each in its slot.
 -- A candidate's bytes have one length, so the slots are found by their places; each is read back as printed. Assumes nothing.
-use mathlib.Core.Path.{_≡_, refl, sym, ap, _∙_, subst}
+use mathlib.Core.Path.{_≡_, sym, ap, _∙_, subst}
 use mathlib.Core.List.{List, [], _∷_, _++_, append-assoc, append-nil}
 use mathlib.Core.Logic.{_⊎_, inl, inr}
 use mathlib.Core.Option.{some}
@@ -11,7 +11,7 @@ use lib.ListN.{length, take, drop, getD, length-append}
 use lib.Seq.{take-at, drop-at}
 use Rattle.cluster.specs.Config.{Config, shelf}
 use Rattle.protocol.specs.declared.Head.{Head}
-use Rattle.protocol.specs.Format.{Bytes, All, Fmt, printMany, via, seq, byte, many}
+use Rattle.protocol.specs.Format.{Bytes, All, printMany, via, seq, byte, many}
 use Rattle.protocol.specs.Values.{Candidate, candidateSize}
 use Rattle.protocol.specs.Packet.{BodyOk, candidateF, candidatesF, filter, printBody, headSize, decode}
 use Rattle.protocol.specs.View.{part, candidateAt}

@@ -12,7 +12,7 @@ use lib.ListN.{drop, length}
 use borrow.Author.Tests.{ltb-true, ltb-false, le-ltb, lt-ltb}
 use Rattle.cluster.specs.Config.{Config}
 use Rattle.protocol.specs.declared.Stamp.{Stamp}
-use Rattle.protocol.specs.Format.{Bytes, All, many}
+use Rattle.protocol.specs.Format.{Bytes, many}
 use Rattle.protocol.specs.Values.{Share, Write, sameStamp, isSome, stampSize}
 use Rattle.protocol.specs.Packet.{stampF, writeF}
 use Rattle.protocol.specs.Memory.{held, freshAfter, distinct}
@@ -26,7 +26,7 @@ use Rattle.wire.specs.Places.{writeAt}
 use Rattle.server.specs.declared.memory.Found.{Found}
 use Rattle.server.specs.declared.memory.Found.the-variants as found
 use Rattle.server.specs.declared.memory.Writes.the-variants as writes
-use Rattle.server.specs.Reads.{writesPlace, Stored, firstWith, FindIs, FindAs, keyOf, maxOf, UpTo, RepeatsAs, Checked, WritesAs}
+use Rattle.server.specs.Reads.{writesPlace, Stored, firstWith, FindIs, FindAs, keyOf, maxOf, UpTo, RepeatsAs, WritesAs}
 use Rattle.server.proofs.Walk.{stamp-bytes}
 
 pub untrue : (b : Bool) → (b ≡ true → ⊥) → b ≡ false

@@ -5,15 +5,15 @@ use mathlib.Core.Bool.{Bool, true, false}
 use mathlib.Core.List.{List}
 use mathlib.Core.Logic.{_⊎_, inl, inr}
 use mathlib.Core.Option.{none, some}
-use Prim.Native.Nat.{ℕ, _+_, _≤_}
+use Prim.Native.Nat.{ℕ, _≤_}
 use native.Mathlib.Omega.{arith}
 use lib.ListN.{drop, length}
-use Rattle.cluster.specs.Config.{Config, shelf}
+use Rattle.cluster.specs.Config.{shelf}
 use Rattle.cluster.specs.Ranges.{topFaults, mostServers, memorySize, capacity}
 use Rattle.protocol.specs.Format.{Bytes, zeros, byte, many}
-use Rattle.protocol.specs.Values.{Write, candidateSize}
+use Rattle.protocol.specs.Values.{Write}
 use Rattle.protocol.specs.Packet.{writeF, anyCandidateF}
-use Rattle.protocol.specs.Memory.{Memory, distinct, memoryF, decodeMemory}
+use Rattle.protocol.specs.Memory.{distinct, memoryF, decodeMemory}
 use Rattle.protocol.specs.View.{candidateAt}
 use Rattle.protocol.specs.Reading.{Leaves, Stops}
 use Rattle.protocol.proofs.Leaves.{leaves-seq, leaves-via, leaves-keep, stops-first, stops-second, stops-via, stops-kept, stops-test}

@@ -2,22 +2,21 @@
 -- are the memory of the raised server. Assumes nothing.
 use mathlib.Core.Path.{_≡_, refl, sym, ap, _∙_, subst}
 use mathlib.Core.Bool.{Bool, true, false, cond, _&&_, _||_}
-use mathlib.Core.List.{List, [], _++_}
-use mathlib.Core.Option.{some}
+use mathlib.Core.List.{List}
 use Prim.Native.Nat.{ℕ, _+_, _*_, _≤_, _<_}
 use native.Mathlib.Omega.{arith}
 use lib.Dec.{ltb, eqb}
 use lib.ListN.{length, drop}
 use borrow.Author.Tests.{ltb-true, ltb-false, eqb-true, eqb-false, lt-ltb, le-ltb, le-leb}
-use Rattle.cluster.specs.Config.{Config, shelf}
+use Rattle.cluster.specs.Config.{shelf}
 use Rattle.cluster.specs.Ranges.{topFaults, memorySize}
 use Rattle.cluster.specs.declared.Outcome.{Outcome}
 use Rattle.protocol.specs.declared.Head.{Head}
 use Rattle.protocol.specs.declared.Stamp.{Stamp}
 use Rattle.protocol.specs.Format.{Bytes}
 use Rattle.protocol.specs.Values.{Candidate, below, candidateSize}
-use Rattle.protocol.specs.Packet.{Packet, BodyOk, candidateF, anyCandidateF, complete, printBody, headSize, decode}
-use Rattle.protocol.specs.Memory.{Memory, encodeMemory}
+use Rattle.protocol.specs.Packet.{BodyOk, candidateF, anyCandidateF, complete, printBody, headSize}
+use Rattle.protocol.specs.Memory.{encodeMemory}
 use Rattle.protocol.specs.Server.{Server, raise, act}
 use Rattle.protocol.specs.View.{part, stampAt, candidateAt}
 use Rattle.protocol.specs.ClientBytes.{put}

@@ -1,6 +1,6 @@
 -- Repair: a valid candidate is raised, any other leaves the memory as it is, and the reply has no body.
 -- By the laws of the raised memory and of replies. Assumes nothing.
-use mathlib.Core.Path.{_≡_, refl, sym, ap, _∙_, subst}
+use mathlib.Core.Path.{_≡_, sym, ap, _∙_, subst}
 use mathlib.Core.Bool.{Bool, true, false, cond}
 use mathlib.Core.List.{List}
 use Prim.Native.Nat.{ℕ}

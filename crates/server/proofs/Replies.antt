@@ -1,11 +1,11 @@
 -- The answers that leave the memory as it is, and the step that every answer ends with: a packet made of a head and a body's bytes
 -- is the reply of the server's step. By the laws of packets and of memories. Assumes nothing.
 use mathlib.Core.Path.{_≡_, refl, sym, ap, _∙_, subst}
-use mathlib.Core.List.{List, [], _∷_, _++_, append-nil}
+use mathlib.Core.List.{List, [], _++_, append-nil}
 use mathlib.Core.Option.{Option, some}
 use Prim.Native.Nat.{ℕ, _≤_}
 use lib.ListN.{length, drop}
-use Rattle.cluster.specs.Config.{Config, shelf}
+use Rattle.cluster.specs.Config.{shelf}
 use Rattle.cluster.specs.Ranges.{packetRoom}
 use Rattle.cluster.specs.declared.Outcome.{Outcome}
 use Rattle.protocol.specs.declared.Head.{Head}
@@ -14,7 +14,7 @@ use Rattle.protocol.specs.Values.{stampSize, candidateSize}
 use Rattle.protocol.specs.Packet.{Body, Packet, BodyOk, PacketOk, clock, collect, kindOf, printBody, anyStampF, headSize, decode, encode}
 use Rattle.protocol.specs.Memory.{encodeMemory}
 use Rattle.protocol.specs.Primitives.{real}
-use Rattle.protocol.specs.Server.{Acted, Server, act, replyTo}
+use Rattle.protocol.specs.Server.{Acted, act, replyTo}
 use Rattle.protocol.specs.View.{part, candidateAt}
 use Rattle.protocol.specs.ClientBytes.{Written}
 use Rattle.protocol.specs.ServerBytes.{Served, serverIn, memoryOf, over, accepted}

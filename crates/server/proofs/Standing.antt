@@ -1,7 +1,7 @@
 -- A memory that opens is its printed fields and zeros: its latest candidate and its stored writes stand at their places, and it holds a server.
 -- By the round-trip laws of memories. Assumes nothing.
-use mathlib.Core.Path.{_≡_, refl, sym, ap, _∙_}
-use mathlib.Core.List.{List, _∷_, _++_, append-assoc}
+use mathlib.Core.Path.{_≡_, sym, ap, _∙_}
+use mathlib.Core.List.{List, _++_, append-assoc}
 use Prim.Native.Nat.{ℕ, _-_}
 use lib.ListN.{length, take, drop, replicate}
 use lib.Seq.{take-at}
@@ -11,7 +11,7 @@ use Rattle.hmac.specs.Hmac.{tagSize}
 use Rattle.protocol.specs.Format.{Bytes, printMany, byte, keep, via, seq, run, many}
 use Rattle.protocol.specs.Values.{Candidate, stampSize, candidateSize}
 use Rattle.protocol.specs.Packet.{stampF, candidateF, writeF, anyCandidateF}
-use Rattle.protocol.specs.Memory.{Memory, MemoryOk, memoryF, encodeMemory}
+use Rattle.protocol.specs.Memory.{memoryF, encodeMemory}
 use Rattle.protocol.specs.View.{part}
 use Rattle.protocol.specs.ServerBytes.{serverIn}
 use Rattle.protocol.proofs.Acts.{ServerOk}

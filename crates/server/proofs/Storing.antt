@@ -1,12 +1,11 @@
 -- Store: what the history holds for the packet's stamp is found by the stamp's bytes, and a write kept at the end of the memory
 -- is the memory of the server with one more write. There is room, since every memory in its ranges fits. Assumes nothing.
 use mathlib.Core.Path.{_≡_, refl, sym, ap, _∙_, subst}
-use mathlib.Core.Bool.{Bool, true, false, cond}
+use mathlib.Core.Bool.{Bool, true, false}
 use mathlib.Core.List.{List, [], _∷_, _++_}
-use mathlib.Core.Option.{Option, none, some}
-use Prim.Native.Nat.{ℕ, _+_, _-_, _≤_, _<_}
+use mathlib.Core.Option.{none, some}
+use Prim.Native.Nat.{ℕ, _+_, _≤_, _<_}
 use native.Mathlib.Omega.{arith}
-use lib.Dec.{leb}
 use lib.ListN.{length, take, drop, set, length-append, length-drop, length-set}
 use lib.Seq.{take-at}
 use borrow.Author.Tests.{le-leb, lt-leb}
@@ -15,8 +14,8 @@ use Rattle.cluster.specs.Ranges.{memorySize, capacity, packetRoom}
 use Rattle.cluster.specs.declared.Outcome.{Outcome}
 use Rattle.protocol.specs.declared.Head.{Head}
 use Rattle.protocol.specs.Format.{Bytes, printMany, byte, keep, via, seq, run, many}
-use Rattle.protocol.specs.Values.{Write, Share, isSome, stampSize, candidateSize}
-use Rattle.protocol.specs.Packet.{Packet, BodyOk, stampF, shareF, writeF, anyCandidateF, codeF, store, storeReply, printBody, headSize, decode}
+use Rattle.protocol.specs.Values.{Write, isSome, stampSize}
+use Rattle.protocol.specs.Packet.{BodyOk, stampF, shareF, writeF, anyCandidateF, codeF, store, storeReply, printBody, headSize, decode}
 use Rattle.protocol.specs.Memory.{Memory, memoryF, encodeMemory, held}
 use Rattle.protocol.specs.Server.{Acted, Server, kept, act}
 use Rattle.protocol.specs.View.{part}
@@ -27,7 +26,7 @@ use Rattle.protocol.proofs.Acts.{ServerOk, act-ok}
 use Rattle.protocol.proofs.Answers.{bytes-drop}
 use Rattle.protocol.proofs.Bodies.{decode-ok}
 use Rattle.protocol.proofs.Changes.{added, print-snoc, append-bytes}
-use Rattle.protocol.proofs.Memories.{fields, of-fields, memory-room}
+use Rattle.protocol.proofs.Memories.{of-fields, memory-room}
 use Rattle.protocol.proofs.Packets.{write-law, stamp-length, any-candidate-length}
 use Rattle.protocol.proofs.Puts.{wrote-byte}
 use Rattle.protocol.proofs.Repeats.{many-law}

@@ -9,12 +9,12 @@ use native.Mathlib.Omega.{arith}
 use lib.Dec.{T, ltb, eqb}
 use lib.ListN.{length, drop, getD}
 use borrow.Author.Tests.{eq-eqb, ne-eqb, eqb-true, lt-ltb, le-ltb, ltb-false}
-use Rattle.cluster.specs.Config.{Config, shelf}
+use Rattle.cluster.specs.Config.{shelf}
 use Rattle.cluster.specs.Ranges.{topWriter, memorySize, packetRoom}
 use Rattle.cluster.specs.Refusals.{onRefusal}
 use Rattle.cluster.specs.declared.Outcome.{Outcome}
 use Rattle.protocol.specs.declared.Head.{Head}
-use Rattle.protocol.specs.Packet.{Packet, Body, headSize, decode}
+use Rattle.protocol.specs.Packet.{Body, headSize, decode}
 use Rattle.protocol.specs.Memory.{decodeMemory}
 use Rattle.protocol.specs.Primitives.{real}
 use Rattle.protocol.specs.Server.{barred, serverRefusal}
@@ -25,7 +25,6 @@ use Rattle.wire.specs.Places.{writeAt, bodyAt, packetAt}
 use Rattle.wire.proofs.Laws.{head-ranges}
 use Rattle.server.specs.Reads.{Opened}
 use Rattle.server.specs.Answers.{memoryIn, AnswersAny}
-use Rattle.server.proofs.Once.{untrue}
 
 -- ---- refusal 9
 

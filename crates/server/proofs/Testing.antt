@@ -1,9 +1,9 @@
 -- The test of a candidate: a stored write of its stamp has the nonce digest at its place, the tag of this server is at its place,
 -- and the tagged bytes are those of the packet. Assumes nothing.
-use mathlib.Core.Path.{_≡_, refl, sym, ap, _∙_, subst}
-use mathlib.Core.Bool.{Bool, true, false, _||_}
+use mathlib.Core.Path.{_≡_, sym, ap, _∙_, subst}
+use mathlib.Core.Bool.{Bool, true, false}
 use mathlib.Core.List.{List, _++_, append-nil}
-use mathlib.Core.Option.{Option, none, some}
+use mathlib.Core.Option.{none, some}
 use Prim.Native.Nat.{ℕ, _+_, _-_, _*_}
 use lib.ListN.{take, drop, getD}
 use lib.Seq.{drop-drop}
@@ -13,7 +13,7 @@ use Rattle.hmac.specs.Hmac.{tagSize, tagOf}
 use Rattle.protocol.specs.declared.Stamp.{Stamp}
 use Rattle.erasure.specs.Fragments.{fragmentSize}
 use Rattle.protocol.specs.Format.{value2}
-use Rattle.protocol.specs.Values.{Write, Share, sameList, nth, stampSize, nonceSize, digestSize, digestsSize, tagsSize}
+use Rattle.protocol.specs.Values.{Write, sameList, nth, stampSize, nonceSize, digestSize, digestsSize, tagsSize}
 use Rattle.protocol.specs.Packet.{stampF, candidateF}
 use Rattle.protocol.specs.Memory.{held}
 use Rattle.protocol.specs.Primitives.{real, candidateMessage}
@@ -25,7 +25,7 @@ use Rattle.protocol.proofs.Packets.{candidate-lengths}
 use Rattle.wire.specs.Places.{writeAt}
 use Rattle.server.specs.declared.memory.Found.{Found}
 use Rattle.server.specs.declared.memory.Found.the-variants as found
-use Rattle.server.specs.Reads.{Stored, Opened, firstWith, FindIs, FindAs}
+use Rattle.server.specs.Reads.{Opened, firstWith, FindIs, FindAs}
 use Rattle.server.specs.Answers.{memoryIn}
 use Rattle.server.specs.Valid.{HistoryAs, tagChecks, ValidAs}
 use Rattle.server.proofs.Once.{shareIn, first-held}

@@ -1,5 +1,5 @@
 -- The latest candidate made blank: one equation for each way, and the bytes. A blank candidate's bytes are zeros. Assumes nothing.
-use mathlib.Core.Path.{_≡_, refl, sym, ap, _∙_}
+use mathlib.Core.Path.{_≡_, sym, ap, _∙_}
 use mathlib.Core.List.{List}
 use mathlib.Core.Option.{none}
 use Prim.Native.Nat.{ℕ, _+_, _*_, _≤_}
@@ -10,7 +10,7 @@ use Rattle.cluster.specs.Config.{shelf}
 use Rattle.cluster.specs.Ranges.{topFaults, mostServers, memorySize}
 use Rattle.hmac.specs.Hmac.{tagSize}
 use Rattle.protocol.specs.Format.{Bytes}
-use Rattle.protocol.specs.Values.{Candidate, blankCandidate, stampSize, nonceSize, candidateSize}
+use Rattle.protocol.specs.Values.{blankCandidate, stampSize, nonceSize, candidateSize}
 use Rattle.protocol.specs.Packet.{anyCandidateF}
 use Rattle.protocol.specs.Memory.{decodeMemory, encodeMemory}
 use Rattle.protocol.specs.View.{part}

@@ -19,7 +19,7 @@ use Rattle.protocol.proofs.Packets.{write-law, stamp-length}
 use Rattle.protocol.proofs.Walks.{many-next, many-stops, many-none}
 use Rattle.wire.specs.Places.{writeAt}
 use Rattle.server.specs.declared.memory.Found.the-variants as found
-use Rattle.server.specs.Reads.{writesPlace, Stored, firstWith, FoundAt, FindAs}
+use Rattle.server.specs.Reads.{writesPlace, Stored, firstWith, FindAs}
 
 -- the bytes of a stored write's stamp
 pub stamp-bytes : (s : Config) {d : List ℕ} {at q : ℕ} {w : Write} → Leaves (writeF s) d at w q → Bytes d → part d at stampSize ≡ stampF .print (w .stamp)

@@ -1,7 +1,7 @@
 -- What filter chooses from a list of candidates, and what it replies, where the memory opens.
 use mathlib.Core.Path.{_≡_}
 use mathlib.Core.List.{List, []}
-use Prim.Native.Nat.{ℕ, _+_, _*_, _<_}
+use Prim.Native.Nat.{ℕ, _*_, _<_}
 use lib.ListN.{length, take, drop}
 use Rattle.cluster.specs.Config.{Config, shelf}
 use Rattle.hmac.specs.Hmac.{tagSize}

@@ -10,8 +10,8 @@ use Rattle.cluster.specs.Config.{Config, shelf}
 use Rattle.protocol.specs.declared.Stamp.{Stamp}
 use Rattle.protocol.specs.Format.{All, many}
 use Rattle.protocol.specs.Values.{Write, sameList, isSome, candidateSize}
-use Rattle.protocol.specs.Packet.{stampF, writeF, anyCandidateF}
-use Rattle.protocol.specs.Memory.{Memory, held, distinct, decodeMemory}
+use Rattle.protocol.specs.Packet.{stampF, writeF}
+use Rattle.protocol.specs.Memory.{held, distinct, decodeMemory}
 use Rattle.protocol.specs.View.{stampAt, candidateAt}
 use Rattle.protocol.specs.Reading.{Leaves}
 use Rattle.wire.specs.Places.{writeAt}

@@ -105,6 +105,7 @@ fn reply_held(
     )
 }
 
+// The reply is made before the candidate is raised: the history is the same.
 pub(crate) fn filter(
     memory: &mut [u8],
     key: [u8; 32],

@@ -1,5 +1,10 @@
 // A storage server over its lent memory. Definitions stand in crate protocol (ServerBytes) and in specs/.
+//
+// take    take: serverTake, a packet to the server and its reply
+// blank   blank: blankStep, a new server; blank_latest: specs/Blank's blankLatest
+// memory  open: MemoryAs, decodeMemory's answer; find: FindAs, the history searched by a whole stamp
 
+pub mod take; // taking a packet
 pub mod blank; // making a server blank
 pub mod memory; // reading a server's memory
 pub mod answers; // the answers to requests
@@ -8,4 +13,3 @@ pub mod valid; // the test of candidates
 pub mod repair; // the answer to repair
 pub mod rank; // the order in which candidates are tried
 pub mod filter; // the answer to filter
-pub mod take; // taking a packet

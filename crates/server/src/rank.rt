@@ -17,6 +17,7 @@ pub(crate) fn slot(list: &[u8], t: u8, i: u8) -> &[u8]
     wire::bytes::part(list, candidate_size(t) * (i as usize), candidate_size(t))
 }
 
+// The rank of slot i.
 fn rank_at(list: &[u8], t: u8, i: u8) -> u64
     ensures { λ r. ⌜ r ≡ rankOf (shelf t) (now (list .entry)) i ⌝ }
 {

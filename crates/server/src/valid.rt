@@ -1,6 +1,5 @@
 // Whether a candidate is valid at a server: its stamp is held with the digest of its nonce, or its tag of this server checks.
 ghost use mathlib.Core.Path.{_≡_};
-ghost use mathlib.Core.List.{_++_};
 ghost use Prim.Native.Nat.{_≤_};
 ghost use Rattle.cluster.specs.Config.{shelf};
 ghost use Rattle.protocol.specs.View.{shareAt};

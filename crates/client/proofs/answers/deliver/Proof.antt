@@ -1,3 +1,4 @@
+-- `client::answers::deliver` meets its contract, by those of the functions that it calls. Assumes nothing.
 use mathlib.Core.Path.{_∙_}
 use Rattle.protocol.proofs.Puts.{put-over}
 use borrow.Author.Needs.{needs}
@@ -8,23 +9,18 @@ use Rattle.client.proofs.answers.deliver.Lts as lts
 use Rattle.client.proofs.answers.enter.Reads as enter-reads
 use Rattle.client.proofs.kept.write_at.Reads as write-at-reads
 
--- src/answers.rt:66:5
 write-at-requires : tie.Need-write-at-requires
 write-at-requires c κs = search needs
 
--- src/answers.rt:67:13
 cast-n : tie.Need-cast-n
 cast-n c = search needs
 
--- src/answers.rt:68:63
 enter-requires : tie.Need-enter-requires
 enter-requires c κs = search needs
 
--- src/answers.rt:61:1
 same-length : tie.Need-same-length
 same-length c = search needs
 
--- src/answers.rt:61:1
 returns : tie.Need-returns
 returns c =
     let a = c .before .before .before .before .before .before .before .args in

@@ -1,3 +1,4 @@
+-- `client::answers::enter` meets its contract, by those of the functions that it calls. Assumes nothing.
 use borrow.Author.Needs.{needs}
 use Rattle.client.proofs.answers.enter.Statement.{statement}
 use Rattle.client.proofs.answers.enter.Tie as tie
@@ -6,15 +7,12 @@ use Rattle.client.proofs.answers.enter.Lts as lts
 use Rattle.client.proofs.rounds.fresh_tally.Reads as fresh-tally-reads
 use Rattle.client.proofs.rounds.with_tally.Reads as with-tally-reads
 
--- src/answers.rt:46:30
 fresh-tally-requires : tie.Need-fresh-tally-requires
 fresh-tally-requires c κs = search needs
 
--- src/answers.rt:46:5
 with-tally-requires : tie.Need-with-tally-requires
 with-tally-requires c κs = search needs
 
--- src/answers.rt:43:1
 returns : tie.Need-returns
 returns c = rw (c .with-tally .ensures, c .before .fresh-tally .ensures)
 

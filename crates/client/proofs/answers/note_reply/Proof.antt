@@ -1,3 +1,4 @@
+-- `client::answers::note_reply` meets its contract, by those of the functions that it calls. Assumes nothing.
 use borrow.Author.Needs.{needs}
 use Rattle.client.proofs.answers.note_reply.Statement.{statement}
 use Rattle.client.proofs.answers.note_reply.Tie as tie
@@ -6,15 +7,12 @@ use Rattle.client.proofs.answers.note_reply.Lts as lts
 use Rattle.client.proofs.rounds.note.Reads as note-reads
 use Rattle.client.proofs.rounds.with_tally.Reads as with-tally-reads
 
--- src/answers.rt:39:30
 note-requires : tie.Need-note-requires
 note-requires c κs = search needs
 
--- src/answers.rt:39:5
 with-tally-requires : tie.Need-with-tally-requires
 with-tally-requires c κs = search needs
 
--- src/answers.rt:35:1
 returns : tie.Need-returns
 returns c = rw (c .with-tally .ensures, c .before .note .ensures)
 

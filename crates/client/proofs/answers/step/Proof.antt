@@ -1,3 +1,4 @@
+-- `client::answers::step` meets its contract, by those of the functions that it calls. Assumes nothing.
 use mathlib.Core.Path.{sym, _∙_}
 use borrow.Author.Needs.{needs}
 use Rattle.client.proofs.answers.step.Statement.{statement}
@@ -9,31 +10,24 @@ use Rattle.client.proofs.answers.more.Reads as more-reads
 use Rattle.client.proofs.answers.note_reply.Reads as note-reply-reads
 use Rattle.client.proofs.rounds.is_last.Reads as is-last-reads
 
--- src/answers.rt:54:8
 is-last-requires : tie.Need-is-last-requires
 is-last-requires c κs = search needs
 
--- src/answers.rt:55:21
 enter-requires : tie.Need-enter-requires
 enter-requires c κs = search needs
 
--- src/answers.rt:55:9
 more-requires : tie.Need-more-requires
 more-requires c κs = search needs
 
--- src/answers.rt:55:9
 returns : tie.Need-returns
 returns c = let e = sym (c .before .before .before .is-last .ensures) ∙ c .before .before .if1 .taken in rw (c .more .ensures, c .before .enter .ensures, e)
 
--- src/answers.rt:57:10
 note-reply-requires : tie.Need-note-reply-requires
 note-reply-requires c κs = search needs
 
--- src/answers.rt:57:5
 more-requires-2 : tie.Need-more-requires-2
 more-requires-2 c κs = search needs
 
--- src/answers.rt:50:1
 returns-2 : tie.Need-returns-2
 returns-2 c = let e = sym (c .before .before .before .is-last .ensures) ∙ c .before .before .if1 .left in rw (c .more2 .ensures, c .before .note-reply .ensures, e)
 

@@ -1,3 +1,4 @@
+-- `client::begin::begin_write_in` meets its contract, by those of the functions that it calls. Assumes nothing.
 use mathlib.Core.Path.{sym, _∙_}
 use native.Mathlib.Omega.{arith}
 use Rattle.client.proofs.Begins.{write-short, write-refused, write-begins, write-fits}
@@ -11,33 +12,27 @@ use Rattle.client.proofs.begin.next_call.Reads as next-call-reads
 use Rattle.client.proofs.begin.not_begun.Reads as not-begun-reads
 use Rattle.client.proofs.refusals.write_refusal.Reads as write-refusal-reads
 
--- src/begin.rt:94:9
 not-begun-requires : tie.Need-not-begun-requires
 not-begun-requires c κs = search needs
 
--- src/begin.rt:94:9
 returns : tie.Need-returns
 returns c =
     let a = c .before .before .before .before .args in
     let e = write-short (a .t) (a .client) (a .call) (a .kept .now) (a .content .now) (a .nonce .now) (c .before .if1 .taken) in
     (rw (e, c .not-begun .ensures), rw e)
 
--- src/begin.rt:96:9
 write-refusal-requires : tie.Need-write-refusal-requires
 write-refusal-requires c κs = search needs
 
--- src/begin.rt:98:9
 not-begun-requires-2 : tie.Need-not-begun-requires-2
 not-begun-requires-2 c κs = search needs
 
--- src/begin.rt:98:9
 returns-2 : tie.Need-returns-2
 returns-2 c =
     let a = c .before .before .before .before .before .before .args in
     let e = write-refused (a .t) (a .client) (a .call) (a .kept .now) (a .content .now) (a .nonce .now) (c .before .before .before .if1 .left) _ (c .before .before .write-refusal .ensures) (c .before .if2 .taken) in
     (rw (e, c .not-begun2 .ensures), rw e)
 
--- src/begin.rt:100:5
 keep-write-requires : tie.Need-keep-write-requires
 keep-write-requires c κs =
     let a = c .before .before .before .before .before .before .before .args in
@@ -45,7 +40,6 @@ keep-write-requires c κs =
     let f = write-fits (a .t) (a .client) (a .call) (a .kept .now) (a .content .now) (a .nonce .now) z in
     (c .before .before .before .before .if1 .left, (f .0, search needs))
 
--- src/begin.rt:101:32
 cast-next-call : tie.Need-cast-next-call
 cast-next-call c =
     let a = c .before .before .before .before .before .before .before .before .before .before .args in
@@ -53,7 +47,6 @@ cast-next-call c =
     let f = write-fits (a .t) (a .client) (a .call) (a .kept .now) (a .content .now) (a .nonce .now) z in
     omega arith
 
--- src/begin.rt:101:5
 next-call-requires : tie.Need-next-call-requires
 next-call-requires c κs =
     let a = c .before .before .before .before .before .before .before .before .before .before .args in
@@ -61,11 +54,9 @@ next-call-requires c κs =
     let f = write-fits (a .t) (a .client) (a .call) (a .kept .now) (a .content .now) (a .nonce .now) z in
     omega arith
 
--- src/begin.rt:82:1
 same-length : tie.Need-same-length
 same-length c = search needs
 
--- src/begin.rt:82:1
 returns-3 : tie.Need-returns-3
 returns-3 c =
     let a = c .before .before .before .before .before .before .before .before .before .before .before .args in

@@ -1,3 +1,4 @@
+-- `client::begin::give_up_in` meets its contract, by those of the functions that it calls. Assumes nothing.
 use mathlib.Core.Path.{sym, _∙_}
 use borrow.Author.Tests.{eq-eqb, ne-eqb}
 use Rattle.cluster.specs.Config.{shelf}
@@ -13,11 +14,9 @@ use Rattle.client.proofs.refusals.abort_refusal.Reads as abort-refusal-
 use Rattle.client.proofs.rounds.fresh_tally.Reads as fresh-tally-reads
 use Rattle.client.proofs.rounds.with_tally.Reads as with-tally-reads
 
--- src/begin.rt:20:9
 abort-refusal-requires : tie.Need-abort-refusal-requires
 abort-refusal-requires c κs = search needs
 
--- src/begin.rt:22:9
 returns : tie.Need-returns
 unfolding giveUp
 returns c =
@@ -25,15 +24,12 @@ returns c =
     let e = c .before .abort-refusal .ensures in
     rw (e, refused (abortRefusal (shelf (a .t)) (a .client) (inHand (a .call))) _ _ (λ z. c .if1 .taken (e ∙ z)))
 
--- src/begin.rt:24:38
 fresh-tally-requires : tie.Need-fresh-tally-requires
 fresh-tally-requires c κs = search needs
 
--- src/begin.rt:24:9
 with-tally-requires : tie.Need-with-tally-requires
 with-tally-requires c κs = search needs
 
--- src/begin.rt:26:9
 returns-2 : tie.Need-returns-2
 unfolding giveUp
 returns-2 c =
@@ -42,7 +38,6 @@ returns-2 c =
     let z = sym e ∙ c .before .before .before .if1 .left in
     rw (accepted (abortRefusal (shelf (a .t)) (a .client) (inHand (a .call))) _ _ z, eq-eqb (a .call .tally .round) 3 (c .if2 .taken), c .before .with-tally .ensures, c .before .before .fresh-tally .ensures)
 
--- src/begin.rt:15:1
 returns-3 : tie.Need-returns-3
 unfolding giveUp
 returns-3 c =

@@ -1,3 +1,4 @@
+-- `client::begin::keep_write` meets its contract, by those of the functions that it calls. Assumes nothing.
 use mathlib.Core.Path.{_∙_}
 use borrow.Author.Needs.{needs}
 use Rattle.client.proofs.begin.keep_write.Statement.{statement}
@@ -6,19 +7,15 @@ use Rattle.client.proofs.begin.keep_write.Reads as reads
 use Rattle.client.proofs.begin.keep_write.Lts as lts
 use Rattle.client.proofs.kept.write_at.Reads as write-at-reads
 
--- src/begin.rt:77:5
 write-at-requires : tie.Need-write-at-requires
 write-at-requires c κs = search needs
 
--- src/begin.rt:78:5
 write-at-requires-2 : tie.Need-write-at-requires-2
 write-at-requires-2 c κs = search needs
 
--- src/begin.rt:73:1
 same-length : tie.Need-same-length
 same-length c = search needs
 
--- src/begin.rt:73:1
 returns : tie.Need-returns
 returns c = c .before .before .write-at2 .ensures ∙ rw (c .before .before .before .before .before .before .write-at .ensures)
 

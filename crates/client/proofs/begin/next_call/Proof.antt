@@ -1,3 +1,4 @@
+-- `client::begin::next_call` meets its contract, by those of the functions that it calls. Assumes nothing.
 use native.Mathlib.Numerals.{add-one}
 use borrow.Author.Needs.{needs}
 use Rattle.client.proofs.begin.next_call.Statement.{statement}
@@ -6,15 +7,12 @@ use Rattle.client.proofs.begin.next_call.Reads as reads
 use Rattle.client.proofs.begin.next_call.Lts as lts
 use Rattle.client.proofs.rounds.fresh_tally.Reads as fresh-tally-reads
 
--- src/begin.rt:67:9
 fresh-tally-requires : tie.Need-fresh-tally-requires
 fresh-tally-requires c κs = search needs
 
--- src/begin.rt:68:38
 add-t7 : tie.Need-add-t7
 add-t7 c = search needs
 
--- src/begin.rt:62:1
 returns : tie.Need-returns
 returns c = rw (c .before .fresh-tally .ensures, add-one (c .before .before .args .call .number))
 

@@ -1,3 +1,4 @@
+-- `client::begin::read_by_value` meets its contract, by those of the functions that it calls. Assumes nothing.
 use mathlib.Core.Path.{_∙_}
 use Rattle.client.proofs.Begins.{core-read}
 use borrow.Author.Needs.{needs}
@@ -7,11 +8,9 @@ use Rattle.client.proofs.begin.read_by_value.Reads as reads
 use Rattle.client.proofs.begin.read_by_value.Lts as lts
 use Rattle.client.proofs.begin.begin_read_in.Reads as begin-read-in-reads
 
--- src/begin.rt:146:5
 begin-read-in-requires : tie.Need-begin-read-in-requires
 begin-read-in-requires c κs = search needs
 
--- src/begin.rt:143:1
 returns : tie.Need-returns
 returns c =
     let a = c .before .before .args in

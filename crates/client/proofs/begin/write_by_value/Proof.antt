@@ -1,3 +1,4 @@
+-- `client::begin::write_by_value` meets its contract, by those of the functions that it calls. Assumes nothing.
 use mathlib.Core.Path.{_∙_}
 use Rattle.client.proofs.Begins.{core-write}
 use borrow.Author.Needs.{needs}
@@ -7,11 +8,9 @@ use Rattle.client.proofs.begin.write_by_value.Reads as reads
 use Rattle.client.proofs.begin.write_by_value.Lts as lts
 use Rattle.client.proofs.begin.begin_write_in.Reads as begin-write-in-reads
 
--- src/begin.rt:116:5
 begin-write-in-requires : tie.Need-begin-write-in-requires
 begin-write-in-requires c κs = search needs
 
--- src/begin.rt:105:1
 returns : tie.Need-returns
 returns c =
     let a = c .before .before .before .args in

@@ -1,3 +1,4 @@
+-- `client::clock::clock_refusal` meets its contract, by those of the functions that it calls. Assumes nothing.
 use mathlib.Core.Path.{sym, _∙_}
 use borrow.Author.Tests.{lt-ltb, le-ltb}
 use Rattle.cluster.specs.Ranges.{contentRoom}

@@ -1,3 +1,4 @@
+-- `client::clock::end_clock` meets its contract, by those of the functions that it calls. Assumes nothing.
 use mathlib.Core.Path.{_∙_}
 use native.Mathlib.Numerals.{add-one}
 use borrow.Author.Needs.{needs}

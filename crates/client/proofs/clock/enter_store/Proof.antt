@@ -1,3 +1,4 @@
+-- `client::clock::enter_store` meets its contract, by those of the functions that it calls. Assumes nothing.
 use native.Mathlib.Numerals.{add-one}
 use borrow.Author.Needs.{needs}
 use Rattle.client.proofs.clock.enter_store.Statement.{statement}

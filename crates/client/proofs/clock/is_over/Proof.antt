@@ -1,3 +1,4 @@
+-- `client::clock::is_over` meets its contract, by those of the functions that it calls. Assumes nothing.
 use mathlib.Core.Path.{sym, _∙_}
 use borrow.Author.Needs.{needs}
 use Rattle.client.proofs.clock.is_over.Statement.{statement}

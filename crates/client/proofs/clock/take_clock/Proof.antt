@@ -1,3 +1,4 @@
+-- `client::clock::take_clock` meets its contract, by those of the functions that it calls. Assumes nothing.
 use mathlib.Core.Path.{_≡_, sym, _∙_}
 use mathlib.Core.List.{[]}
 use native.Mathlib.Omega.{arith}
@@ -6,7 +7,8 @@ use Rattle.protocol.specs.Packet.{headSize}
 use Rattle.protocol.specs.Primitives.{real}
 use Rattle.protocol.specs.Client.{higher}
 use Rattle.protocol.specs.View.{stampAt}
-use Rattle.client.proofs.Clocked.{ready-faults, ready-client, ready-server, clock-long, clock-refused, clock-below, clock-noted, clock-ended}
+use Rattle.client.proofs.ReadyRanges.{ready-faults, ready-client, ready-server}
+use Rattle.client.proofs.Clocked.{clock-long, clock-refused, clock-below, clock-noted, clock-ended}
 use borrow.Author.Needs.{needs}
 use Rattle.client.proofs.clock.take_clock.Statement.{statement}
 use Rattle.client.proofs.clock.take_clock.Tie as tie

@@ -1,3 +1,4 @@
+-- `client::filter::found` meets its contract, by those of the functions that it calls. Assumes nothing.
 use borrow.Author.Needs.{needs}
 use mathlib.Core.Path.{sym, _∙_}
 use Rattle.client.specs.Filter.{foundAt}

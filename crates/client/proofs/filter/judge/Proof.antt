@@ -1,3 +1,4 @@
+-- `client::filter::judge` meets its contract, by those of the functions that it calls. Assumes nothing.
 use borrow.Author.Needs.{needs}
 use native.Mathlib.Omega.{arith}
 use mathlib.Core.Path.{_≡_, sym, ap, _∙_}

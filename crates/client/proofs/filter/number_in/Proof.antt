@@ -1,3 +1,4 @@
+-- `client::filter::number_in` meets its contract, by those of the functions that it calls. Assumes nothing.
 use borrow.Author.Needs.{needs}
 use borrow.Author.Tests.{lt-ltb}
 use Rattle.protocol.specs.View.{candidatesIn, candidateAt, stampAt}

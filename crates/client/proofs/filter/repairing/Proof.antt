@@ -1,3 +1,4 @@
+-- `client::filter::repairing` meets its contract, by those of the functions that it calls. Assumes nothing.
 use borrow.Author.Needs.{needs}
 use Rattle.client.proofs.filter.repairing.Statement.{statement}
 use Rattle.client.proofs.filter.repairing.Tie as tie

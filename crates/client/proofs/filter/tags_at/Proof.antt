@@ -1,3 +1,4 @@
+-- `client::filter::tags_at` meets its contract, by those of the functions that it calls. Assumes nothing.
 use borrow.Author.Needs.{needs}
 use native.Mathlib.Omega.{arith}
 use mathlib.Core.Path.{_≡_}

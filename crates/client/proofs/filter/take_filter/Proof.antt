@@ -1,3 +1,4 @@
+-- `client::filter::take_filter` meets its contract, by those of the functions that it calls. Assumes nothing.
 use borrow.Author.Needs.{needs}
 use native.Mathlib.Omega.{arith}
 use mathlib.Core.Path.{sym, ap, _∙_, subst}
@@ -7,7 +8,8 @@ use Rattle.protocol.specs.Format.{Bytes}
 use Rattle.protocol.specs.Packet.{headSize}
 use Rattle.protocol.specs.View.{repliesAt, replySlot}
 use Rattle.protocol.specs.ClientBytes.{put}
-use Rattle.client.proofs.FilterReplies.{faults-range, server-range, body-fits, filter-more, filter-ends}
+use Rattle.client.proofs.ReadyRanges.{ready-faults, ready-server}
+use Rattle.client.proofs.FilterReplies.{body-fits, filter-more, filter-ends}
 use Rattle.client.proofs.filter.take_filter.Statement.{statement}
 use Rattle.client.proofs.filter.take_filter.Tie as tie
 
@@ -22,24 +24,24 @@ put-reply-requires c κs =
     let a = c .before .before .before .before .before .before .args in
     let p = c .before .before .before .before .before .before .pre in
     let Y : Bytes (a .reply .now) = λ k. c .before .before .before .before .shared-slice-known .given k .fits in
-    let v = server-range (a .t) (a .client) (a .call) (a .reply .now) (a .head) (p .0) in
+    let v = ready-server (a .t) (a .client) (a .call) (a .reply .now) (a .head) (p .0) in
     (v .0, (v .1, (p .1 .1 .0, rw (c .rest .ensures) (body-fits (a .t) (a .client) (a .call) (a .reply .now) (a .head) (p .0) (p .1 .0) Y))))
 
 note-reply-requires : tie.Need-note-reply-requires
 note-reply-requires c κs =
     let a = c .before .before .before .before .before .before .before .before .before .args in
-    server-range (a .t) (a .client) (a .call) (a .reply .now) (a .head) (c .before .before .before .before .before .before .before .before .before .pre .0)
+    ready-server (a .t) (a .client) (a .call) (a .reply .now) (a .head) (c .before .before .before .before .before .before .before .before .before .pre .0)
 
 is-last-requires : tie.Need-is-last-requires
 is-last-requires c κs =
     let a = c .before .before .before .before .before .before .before .before .before .before .args in
-    faults-range (a .t) (a .client) (a .call) (a .reply .now) (a .head) (c .before .before .before .before .before .before .before .before .before .before .pre .0) .1
+    ready-faults (a .t) (a .client) (a .call) (a .reply .now) (a .head) (c .before .before .before .before .before .before .before .before .before .before .pre .0) .1
 
 judge-requires : tie.Need-judge-requires
 judge-requires c κs =
     let a = c .before .before .before .before .before .before .before .before .before .before .before .before .before .before .args in
     let p = c .before .before .before .before .before .before .before .before .before .before .before .before .before .before .pre in
-    let r = faults-range (a .t) (a .client) (a .call) (a .reply .now) (a .head) (p .0) in
+    let r = ready-faults (a .t) (a .client) (a .call) (a .reply .now) (a .head) (p .0) in
     (r .0, (r .1, (omega (arith, p .1 .1 .0), p .1 .1 .1)))
 
 same-length : tie.Need-same-length

@@ -1,3 +1,4 @@
+-- `client::kept::chosen_number` meets its contract, by those of the functions that it calls. Assumes nothing.
 use Rattle.protocol.specs.View.{chosenOf, candidateAt, stampAt}
 use borrow.Author.Needs.{needs}
 use Rattle.client.proofs.kept.chosen_number.Statement.{statement}
@@ -7,15 +8,12 @@ use Rattle.client.proofs.kept.chosen_number.Lts as lts
 use Rattle.wire.proofs.bytes.number4.Reads as number4-reads
 use Rattle.wire.proofs.bytes.part.Reads as part-reads
 
--- src/kept.rt:34:26
 part-requires : tie.Need-part-requires
 part-requires c κs = search needs
 
--- src/kept.rt:34:5
 number4-requires : tie.Need-number4-requires
 number4-requires c κs = search needs
 
--- src/kept.rt:31:1
 returns : tie.Need-returns
 unfolding chosenOf candidateAt stampAt
 returns c = rw (c .number4 .ensures, c .before .part .ensures)

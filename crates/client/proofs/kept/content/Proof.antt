@@ -1,3 +1,4 @@
+-- `client::kept::content` meets its contract, by those of the functions that it calls. Assumes nothing.
 use native.Mathlib.Nat.{le-trans}
 use Rattle.protocol.specs.View.{contentOf}
 use Rattle.wire.proofs.Runs.{part-most}
@@ -9,15 +10,12 @@ use Rattle.client.proofs.kept.content.Lts as lts
 use Rattle.client.proofs.kept.content_length.Reads as content-length-reads
 use Rattle.wire.proofs.bytes.part.Reads as part-reads
 
--- src/kept.rt:52:32
 content-length-requires : tie.Need-content-length-requires
 content-length-requires c κs = search needs
 
--- src/kept.rt:52:5
 part-requires : tie.Need-part-requires
 part-requires c κs = search needs
 
--- src/kept.rt:49:1
 returns : tie.Need-returns
 unfolding contentOf
 returns c =

@@ -1,3 +1,4 @@
+-- `client::kept::nonce` meets its contract, by those of the functions that it calls. Assumes nothing.
 use mathlib.Core.Path.{_∙_}
 use Rattle.client.proofs.Offered.{nonce-whole}
 use borrow.Author.Needs.{needs}

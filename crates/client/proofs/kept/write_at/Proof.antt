@@ -1,3 +1,4 @@
+-- `client::kept::write_at` meets its contract, by those of the functions that it calls. Assumes nothing.
 use Rattle.wire.proofs.Put.{placed-wrote}
 use borrow.Author.Needs.{needs}
 use Rattle.client.proofs.kept.write_at.Statement.{statement}
@@ -6,15 +7,12 @@ use Rattle.client.proofs.kept.write_at.Reads as reads
 use Rattle.client.proofs.kept.write_at.Lts as lts
 use Rattle.wire.proofs.make.put.Reads as put-reads
 
--- src/kept.rt:27:13
 put-requires : tie.Need-put-requires
 put-requires c κs = search needs
 
--- src/kept.rt:23:1
 same-length : tie.Need-same-length
 same-length c = search needs
 
--- src/kept.rt:23:1
 returns : tie.Need-returns
 returns c = placed-wrote (c .before .before .put .ensures) (c .before .before .before .before .before .before .pre) .bytes
 

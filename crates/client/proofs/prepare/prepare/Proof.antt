@@ -1,3 +1,4 @@
+-- `client::prepare::prepare` meets its contract, by those of the functions that it calls. Assumes nothing.
 use mathlib.Core.Path.{_∙_}
 use Rattle.client.proofs.Offered.{offered-made}
 use borrow.Author.Needs.{needs}

@@ -1,6 +1,7 @@
+-- `client::prepare::put_candidate` meets its contract, by those of the functions that it calls. Assumes nothing.
 use borrow.Author.Needs.{needs}
 use native.Mathlib.Omega.{arith}
-use mathlib.Core.Path.{_≡_, refl, sym, ap, _∙_}
+use mathlib.Core.Path.{_∙_}
 use Rattle.protocol.specs.Values.{stampSize, nonceSize}
 use Rattle.protocol.specs.View.{chosenAt}
 use Rattle.client.proofs.ShareBytes.{three-puts}

@@ -1,6 +1,7 @@
+-- `client::prepare::put_common` meets its contract, by those of the functions that it calls. Assumes nothing.
 use borrow.Author.Needs.{needs}
 use native.Mathlib.Omega.{arith}
-use mathlib.Core.Path.{_≡_, refl, sym, ap, _∙_}
+use mathlib.Core.Path.{_≡_, _∙_}
 use lib.ListN.{length}
 use Rattle.protocol.specs.Values.{digestSize}
 use Rattle.protocol.proofs.Puts.{put-put}

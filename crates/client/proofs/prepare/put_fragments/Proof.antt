@@ -1,6 +1,7 @@
+-- `client::prepare::put_fragments` meets its contract, by those of the functions that it calls. Assumes nothing.
 use borrow.Author.Needs.{needs}
 use native.Mathlib.Omega.{arith}
-use mathlib.Core.Path.{_≡_, refl, sym, ap, _∙_}
+use mathlib.Core.Path.{_≡_, ap, _∙_}
 use Prim.Native.Nat.{ℕ, suc, _≤_, _-_}
 use lib.ListN.{length}
 use Rattle.cluster.specs.Config.{shelf}

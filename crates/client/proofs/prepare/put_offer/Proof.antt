@@ -1,3 +1,4 @@
+-- `client::prepare::put_offer` meets its contract, by those of the functions that it calls. Assumes nothing.
 use mathlib.Core.Path.{_≡_, _∙_}
 use native.Mathlib.Omega.{arith}
 use lib.ListN.{length, replicate, length-replicate}

@@ -1,3 +1,4 @@
+-- `client::prepare::put_sized` meets its contract, by those of the functions that it calls. Assumes nothing.
 use mathlib.Core.Path.{_∙_}
 use borrow.Author.Needs.{needs}
 use Rattle.client.proofs.prepare.put_sized.Statement.{statement}

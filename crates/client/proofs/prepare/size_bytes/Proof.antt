@@ -1,3 +1,4 @@
+-- `client::prepare::size_bytes` meets its contract, by those of the functions that it calls. Assumes nothing.
 use borrow.Author.Needs.{needs}
 use native.Mathlib.Omega.{arith}
 use Rattle.client.proofs.prepare.size_bytes.Statement.{statement}

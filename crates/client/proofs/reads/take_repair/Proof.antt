@@ -1,3 +1,4 @@
+-- `client::reads::take_repair` meets its contract, by those of the functions that it calls. Assumes nothing.
 use mathlib.Core.Path.{sym, _∙_}
 use borrow.Author.Needs.{needs}
 use Rattle.client.proofs.reads.take_repair.Statement.{statement}
@@ -11,27 +12,21 @@ use Rattle.client.proofs.kept.chosen_number.Reads as chosen-number-read
 use Rattle.client.proofs.kept.content.Reads as content-reads
 use Rattle.client.proofs.rounds.is_last.Reads as is-last-reads
 
--- src/reads.rt:35:8
 is-last-requires : tie.Need-is-last-requires
 is-last-requires c κs = search needs
 
--- src/reads.rt:36:13
 chosen-number-requires : tie.Need-chosen-number-requires
 chosen-number-requires c κs = search needs
 
--- src/reads.rt:37:47
 content-requires : tie.Need-content-requires
 content-requires c κs = search needs
 
--- src/reads.rt:37:9
 deliver-requires : tie.Need-deliver-requires
 deliver-requires c κs = search needs
 
--- src/reads.rt:37:9
 same-length : tie.Need-same-length
 same-length c = search needs
 
--- src/reads.rt:37:9
 returns : tie.Need-returns
 returns c =
     let e = sym (c .before .before .before .before .before .before .before .is-last .ensures) ∙ c .before .before .before .before .before .before .if1 .taken in
@@ -39,15 +34,12 @@ returns c =
     let k = c .before .before .before .before .content .ensures .0 in
     (rw (e, d .0, k, c .before .before .before .before .before .chosen-number .ensures), rw e (rw k at (d .1)))
 
--- src/reads.rt:39:19
 note-reply-requires : tie.Need-note-reply-requires
 note-reply-requires c κs = search needs
 
--- src/reads.rt:39:5
 more-requires : tie.Need-more-requires
 more-requires c κs = search needs
 
--- src/reads.rt:28:1
 returns-2 : tie.Need-returns-2
 returns-2 c =
     let e = sym (c .before .before .before .is-last .ensures) ∙ c .before .before .if1 .left in

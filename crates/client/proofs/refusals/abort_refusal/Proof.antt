@@ -1,3 +1,4 @@
+-- `client::refusals::abort_refusal` meets its contract, by those of the functions that it calls. Assumes nothing.
 use mathlib.Core.Path.{_≡_, sym, _∙_}
 use mathlib.Core.Bool.{true, false, not}
 use Rattle.cluster.specs.Config.{shelf}
@@ -12,11 +13,9 @@ use Rattle.client.proofs.refusals.abort_refusal.Lts as lts
 use Rattle.client.proofs.refusals.is_outside.Reads as is-outside-reads
 use Rattle.client.proofs.refusals.is_pending.Reads as is-pending-reads
 
--- src/refusals.rt:106:8
 is-outside-requires : tie.Need-is-outside-requires
 is-outside-requires c κs = search needs
 
--- src/refusals.rt:107:9
 returns : tie.Need-returns
 unfolding abortRefusal shelf
 returns c =
@@ -24,11 +23,9 @@ returns c =
     let w₁ : badFaults (shelf (a .t)) ≡ true = sym (c .before .is-outside .ensures) ∙ c .if1 .taken in
     rw w₁
 
--- src/refusals.rt:109:8
 is-outside-requires-2 : tie.Need-is-outside-requires-2
 is-outside-requires-2 c κs = search needs
 
--- src/refusals.rt:110:9
 returns-2 : tie.Need-returns-2
 unfolding abortRefusal shelf
 returns-2 c =
@@ -37,11 +34,9 @@ returns-2 c =
     let w₂ : not (within 1 topClient (a .client)) ≡ true = sym (c .before .is-outside2 .ensures) ∙ c .if2 .taken in
     rw (w₁, w₂)
 
--- src/refusals.rt:112:9
 is-pending-requires : tie.Need-is-pending-requires
 is-pending-requires c κs = search needs
 
--- src/refusals.rt:113:9
 returns-3 : tie.Need-returns-3
 unfolding abortRefusal shelf
 returns-3 c =
@@ -51,7 +46,6 @@ returns-3 c =
     let w₃ : not (inHand (a .call)) ≡ true = rw (c .before .is-pending .ensures) at (c .if3 .taken) in
     rw (w₁, w₂, w₃)
 
--- src/refusals.rt:103:1
 returns-4 : tie.Need-returns-4
 unfolding abortRefusal shelf
 returns-4 c =

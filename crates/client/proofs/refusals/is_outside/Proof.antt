@@ -1,20 +1,17 @@
+-- `client::refusals::is_outside` meets its contract, by those of the functions that it calls. Assumes nothing.
 use borrow.Author.Tests.{lt-leb, le-leb}
 use native.Mathlib.Omega.{arith}
-use borrow.Author.Needs.{needs}
 use Rattle.client.proofs.refusals.is_outside.Statement.{statement}
 use Rattle.client.proofs.refusals.is_outside.Tie as tie
 use Rattle.client.proofs.refusals.is_outside.Reads as reads
 use Rattle.client.proofs.refusals.is_outside.Lts as lts
 
--- src/refusals.rt:15:9
 returns : tie.Need-returns
 returns c = let a = c .before .args in rw (lt-leb (a .lo) (a .x) (omega arith))
 
--- src/refusals.rt:18:9
 returns-2 : tie.Need-returns-2
 returns-2 c = let a = c .before .before .args in rw (le-leb (a .lo) (a .x) (omega arith), lt-leb (a .x) (a .hi) (omega arith))
 
--- src/refusals.rt:11:1
 returns-3 : tie.Need-returns-3
 returns-3 c = let a = c .before .before .args in rw (le-leb (a .lo) (a .x) (omega arith), le-leb (a .x) (a .hi) (omega arith))
 

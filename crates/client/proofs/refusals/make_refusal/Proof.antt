@@ -1,10 +1,11 @@
+-- `client::refusals::make_refusal` meets its contract, by those of the functions that it calls. Assumes nothing.
 use mathlib.Core.Path.{_≡_, sym, _∙_}
 use mathlib.Core.Bool.{true, false, not}
 use Rattle.cluster.specs.Config.{shelf}
 use Rattle.protocol.specs.ClientBytes.{inHand}
 use Rattle.cluster.specs.Ranges.{within, topClient, packetRoom, topFaults}
-use lib.Dec.{leb, ltb}
-use borrow.Author.Tests.{lt-leb, le-leb, lt-ltb, le-ltb}
+use lib.Dec.{ltb}
+use borrow.Author.Tests.{lt-ltb, le-ltb}
 use native.Mathlib.Omega.{arith}
 use Rattle.client.proofs.Tests.{inside}
 use Rattle.protocol.specs.Client.{makeRefusal, badFaults}
@@ -17,11 +18,9 @@ use Rattle.client.proofs.refusals.is_outside.Reads as is-outside-reads
 use Rattle.client.proofs.refusals.is_pending.Reads as is-pending-reads
 use Rattle.client.proofs.refusals.servers.Reads as servers-reads
 
--- src/refusals.rt:85:8
 is-outside-requires : tie.Need-is-outside-requires
 is-outside-requires c κs = search needs
 
--- src/refusals.rt:86:9
 returns : tie.Need-returns
 unfolding makeRefusal shelf
 returns c =
@@ -29,7 +28,6 @@ returns c =
     let w₁ : badFaults (shelf (a .t)) ≡ true = sym (c .before .is-outside .ensures) ∙ c .if1 .taken in
     rw w₁
 
--- src/refusals.rt:88:22
 servers-requires : tie.Need-servers-requires
 unfolding shelf
 servers-requires c κs =
@@ -37,11 +35,9 @@ servers-requires c κs =
     let w : badFaults (shelf (a .t)) ≡ false = sym (c .before .is-outside .ensures) ∙ c .if1 .left in
     inside 1 topFaults (a .t) w .1
 
--- src/refusals.rt:88:8
 is-outside-requires-2 : tie.Need-is-outside-requires-2
 is-outside-requires-2 c κs = search needs
 
--- src/refusals.rt:89:9
 returns-2 : tie.Need-returns-2
 unfolding makeRefusal shelf
 returns-2 c =
@@ -50,11 +46,9 @@ returns-2 c =
     let w₂ : not (within 1 (shelf (a .t) .servers) (a .server)) ≡ true = rw (c .before .before .servers .ensures) at (sym (c .before .is-outside2 .ensures) ∙ c .if2 .taken) in
     rw (w₁, w₂)
 
--- src/refusals.rt:91:8
 is-outside-requires-3 : tie.Need-is-outside-requires-3
 is-outside-requires-3 c κs = search needs
 
--- src/refusals.rt:92:9
 returns-3 : tie.Need-returns-3
 unfolding makeRefusal shelf
 returns-3 c =
@@ -64,11 +58,9 @@ returns-3 c =
     let w₃ : not (within 1 topClient (a .client)) ≡ true = sym (c .before .is-outside3 .ensures) ∙ c .if3 .taken in
     rw (w₁, w₂, w₃)
 
--- src/refusals.rt:94:9
 is-pending-requires : tie.Need-is-pending-requires
 is-pending-requires c κs = search needs
 
--- src/refusals.rt:95:9
 returns-4 : tie.Need-returns-4
 unfolding makeRefusal shelf
 returns-4 c =
@@ -79,7 +71,6 @@ returns-4 c =
     let w₄ : not (inHand (a .call)) ≡ true = rw (c .before .is-pending .ensures) at (c .if4 .taken) in
     rw (w₁, w₂, w₃, w₄)
 
--- src/refusals.rt:98:9
 returns-5 : tie.Need-returns-5
 unfolding makeRefusal shelf
 returns-5 c =
@@ -91,7 +82,6 @@ returns-5 c =
     let w₅ : ltb (a .room) packetRoom ≡ true = lt-ltb (a .room) packetRoom (omega arith) in
     rw (w₁, w₂, w₃, w₄, w₅)
 
--- src/refusals.rt:82:1
 returns-6 : tie.Need-returns-6
 unfolding makeRefusal shelf
 returns-6 c =

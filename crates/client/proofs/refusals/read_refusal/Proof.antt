@@ -1,10 +1,11 @@
+-- `client::refusals::read_refusal` meets its contract, by those of the functions that it calls. Assumes nothing.
 use mathlib.Core.Path.{_≡_, sym, _∙_}
 use mathlib.Core.Bool.{true, false, not}
 use Rattle.cluster.specs.Config.{shelf}
 use Rattle.protocol.specs.ClientBytes.{inHand}
 use Rattle.cluster.specs.Ranges.{within, topClient, topNumber}
-use lib.Dec.{leb, ltb}
-use borrow.Author.Tests.{lt-leb, le-leb, lt-ltb, le-ltb}
+use lib.Dec.{leb}
+use borrow.Author.Tests.{lt-leb, le-leb}
 use native.Mathlib.Omega.{arith}
 use Rattle.protocol.specs.Client.{readRefusal, badFaults}
 use borrow.Author.Needs.{needs}
@@ -15,11 +16,9 @@ use Rattle.client.proofs.refusals.read_refusal.Lts as lts
 use Rattle.client.proofs.refusals.is_outside.Reads as is-outside-reads
 use Rattle.client.proofs.refusals.is_pending.Reads as is-pending-reads
 
--- src/refusals.rt:59:8
 is-outside-requires : tie.Need-is-outside-requires
 is-outside-requires c κs = search needs
 
--- src/refusals.rt:60:9
 returns : tie.Need-returns
 unfolding readRefusal shelf
 returns c =
@@ -27,11 +26,9 @@ returns c =
     let w₁ : badFaults (shelf (a .t)) ≡ true = sym (c .before .is-outside .ensures) ∙ c .if1 .taken in
     rw w₁
 
--- src/refusals.rt:62:8
 is-outside-requires-2 : tie.Need-is-outside-requires-2
 is-outside-requires-2 c κs = search needs
 
--- src/refusals.rt:63:9
 returns-2 : tie.Need-returns-2
 unfolding readRefusal shelf
 returns-2 c =
@@ -40,11 +37,9 @@ returns-2 c =
     let w₂ : not (within 1 topClient (a .client)) ≡ true = sym (c .before .is-outside2 .ensures) ∙ c .if2 .taken in
     rw (w₁, w₂)
 
--- src/refusals.rt:65:8
 is-pending-requires : tie.Need-is-pending-requires
 is-pending-requires c κs = search needs
 
--- src/refusals.rt:66:9
 returns-3 : tie.Need-returns-3
 unfolding readRefusal shelf
 returns-3 c =
@@ -54,11 +49,9 @@ returns-3 c =
     let w₃ : inHand (a .call) ≡ true = sym (c .before .is-pending .ensures) ∙ c .if3 .taken in
     rw (w₁, w₂, w₃)
 
--- src/refusals.rt:68:31
 cast-if4 : tie.Need-cast-if4
 cast-if4 c = search needs
 
--- src/refusals.rt:69:9
 returns-4 : tie.Need-returns-4
 unfolding readRefusal shelf
 returns-4 c =
@@ -69,7 +62,6 @@ returns-4 c =
     let w₄ : leb topNumber (a .call .number) ≡ true = le-leb topNumber (a .call .number) (omega arith) in
     rw (w₁, w₂, w₃, w₄)
 
--- src/refusals.rt:56:1
 returns-5 : tie.Need-returns-5
 unfolding readRefusal shelf
 returns-5 c =

@@ -1,10 +1,11 @@
+-- `client::refusals::write_refusal` meets its contract, by those of the functions that it calls. Assumes nothing.
 use mathlib.Core.Path.{_≡_, sym, _∙_}
 use mathlib.Core.Bool.{true, false, not}
 use Rattle.cluster.specs.Config.{shelf}
 use Rattle.protocol.specs.ClientBytes.{inHand}
 use Rattle.cluster.specs.Ranges.{within, topWriter, leastLength, topLength, topNumber}
-use lib.Dec.{leb, ltb}
-use borrow.Author.Tests.{lt-leb, le-leb, lt-ltb, le-ltb}
+use lib.Dec.{leb}
+use borrow.Author.Tests.{lt-leb, le-leb}
 use native.Mathlib.Omega.{arith}
 use Rattle.protocol.specs.Client.{writeRefusal, badFaults}
 use borrow.Author.Needs.{needs}
@@ -15,11 +16,9 @@ use Rattle.client.proofs.refusals.write_refusal.Lts as lts
 use Rattle.client.proofs.refusals.is_outside.Reads as is-outside-reads
 use Rattle.client.proofs.refusals.is_pending.Reads as is-pending-reads
 
--- src/refusals.rt:38:8
 is-outside-requires : tie.Need-is-outside-requires
 is-outside-requires c κs = search needs
 
--- src/refusals.rt:39:9
 returns : tie.Need-returns
 unfolding writeRefusal shelf
 returns c =
@@ -27,11 +26,9 @@ returns c =
     let w₁ : badFaults (shelf (a .t)) ≡ true = sym (c .before .is-outside .ensures) ∙ c .if1 .taken in
     rw w₁
 
--- src/refusals.rt:41:8
 is-outside-requires-2 : tie.Need-is-outside-requires-2
 is-outside-requires-2 c κs = search needs
 
--- src/refusals.rt:42:9
 returns-2 : tie.Need-returns-2
 unfolding writeRefusal shelf
 returns-2 c =
@@ -40,11 +37,9 @@ returns-2 c =
     let w₂ : not (within 1 topWriter (a .client)) ≡ true = sym (c .before .is-outside2 .ensures) ∙ c .if2 .taken in
     rw (w₁, w₂)
 
--- src/refusals.rt:44:8
 is-outside-requires-3 : tie.Need-is-outside-requires-3
 is-outside-requires-3 c κs = search needs
 
--- src/refusals.rt:45:9
 returns-3 : tie.Need-returns-3
 unfolding writeRefusal shelf
 returns-3 c =
@@ -54,11 +49,9 @@ returns-3 c =
     let w₃ : not (within leastLength topLength (a .n)) ≡ true = sym (c .before .is-outside3 .ensures) ∙ c .if3 .taken in
     rw (w₁, w₂, w₃)
 
--- src/refusals.rt:47:8
 is-pending-requires : tie.Need-is-pending-requires
 is-pending-requires c κs = search needs
 
--- src/refusals.rt:48:9
 returns-4 : tie.Need-returns-4
 unfolding writeRefusal shelf
 returns-4 c =
@@ -69,11 +62,9 @@ returns-4 c =
     let w₄ : inHand (a .call) ≡ true = sym (c .before .is-pending .ensures) ∙ c .if4 .taken in
     rw (w₁, w₂, w₃, w₄)
 
--- src/refusals.rt:50:31
 cast-if5 : tie.Need-cast-if5
 cast-if5 c = search needs
 
--- src/refusals.rt:51:9
 returns-5 : tie.Need-returns-5
 unfolding writeRefusal shelf
 returns-5 c =
@@ -85,7 +76,6 @@ returns-5 c =
     let w₅ : leb topNumber (a .call .number) ≡ true = le-leb topNumber (a .call .number) (omega arith) in
     rw (w₁, w₂, w₃, w₄, w₅)
 
--- src/refusals.rt:35:1
 returns-6 : tie.Need-returns-6
 unfolding writeRefusal shelf
 returns-6 c =

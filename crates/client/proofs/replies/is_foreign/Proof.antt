@@ -1,3 +1,4 @@
+-- `client::replies::is_foreign` meets its contract, by those of the functions that it calls. Assumes nothing.
 use borrow.Author.Needs.{needs}
 use borrow.Author.Tests.{eq-eqb, ne-eqb}
 use Rattle.client.proofs.replies.is_foreign.Statement.{statement}

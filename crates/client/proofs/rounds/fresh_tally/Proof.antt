@@ -1,3 +1,4 @@
+-- `client::rounds::fresh_tally` meets its contract, by those of the functions that it calls. Assumes nothing.
 use Rattle.protocol.specs.ClientBytes.{fresh}
 use borrow.Author.Needs.{needs}
 use Rattle.client.proofs.rounds.fresh_tally.Statement.{statement}
@@ -5,7 +6,6 @@ use Rattle.client.proofs.rounds.fresh_tally.Tie as tie
 use Rattle.client.proofs.rounds.fresh_tally.Reads as reads
 use Rattle.client.proofs.rounds.fresh_tally.Lts as lts
 
--- src/rounds.rt:12:1
 returns : tie.Need-returns
 unfolding fresh
 returns c = search needs

@@ -1,3 +1,4 @@
+-- `client::rounds::is_last` meets its contract, by those of the functions that it calls. Assumes nothing.
 use Rattle.protocol.specs.ClientBytes.{ends}
 use borrow.Author.Needs.{needs}
 use Rattle.client.proofs.rounds.is_last.Statement.{statement}
@@ -6,19 +7,15 @@ use Rattle.client.proofs.rounds.is_last.Reads as reads
 use Rattle.client.proofs.rounds.is_last.Lts as lts
 use Rattle.client.proofs.rounds.quorum.Reads as quorum-reads
 
--- src/rounds.rt:54:5
 quorum-requires : tie.Need-quorum-requires
 quorum-requires c κs = search needs
 
--- src/rounds.rt:54:18
 cast-result : tie.Need-cast-result
 cast-result c = search needs
 
--- src/rounds.rt:54:18
 add-result : tie.Need-add-result
 add-result c = search needs
 
--- src/rounds.rt:48:1
 returns : tie.Need-returns
 unfolding ends
 returns c = rw (c .quorum .ensures)

@@ -1,3 +1,4 @@
+-- `client::rounds::note` meets its contract, by those of the functions that it calls. Assumes nothing.
 use Rattle.protocol.specs.ClientBytes.{noted}
 use borrow.Author.Needs.{needs}
 use Rattle.client.proofs.rounds.note.Statement.{statement}
@@ -6,19 +7,15 @@ use Rattle.client.proofs.rounds.note.Reads as reads
 use Rattle.client.proofs.rounds.note.Lts as lts
 use Rattle.client.proofs.rounds.one_more.Reads as one-more-reads
 
--- src/rounds.rt:42:15
 one-more-requires : tie.Need-one-more-requires
 one-more-requires c κs = search needs
 
--- src/rounds.rt:43:13
 sub-y : tie.Need-sub-y
 sub-y c = search needs
 
--- src/rounds.rt:43:5
 element-write-y : tie.Need-element-write-y
 element-write-y c = search needs
 
--- src/rounds.rt:37:1
 returns : tie.Need-returns
 unfolding noted
 returns c = rw (c .one-more .ensures)

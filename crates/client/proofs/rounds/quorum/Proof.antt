@@ -1,3 +1,4 @@
+-- `client::rounds::quorum` meets its contract, by those of the functions that it calls. Assumes nothing.
 use mathlib.Core.Path.{_≡_}
 use Prim.Native.Nat.{_*_, _+_}
 use native.Mathlib.Omega.{arith}
@@ -9,16 +10,13 @@ use Rattle.client.proofs.rounds.quorum.Reads as reads
 use Rattle.client.proofs.rounds.quorum.Lts as lts
 use Rattle.client.proofs.refusals.servers.Reads as servers-reads
 
--- src/rounds.rt:62:5
 servers-requires : tie.Need-servers-requires
 servers-requires c κs = search needs
 
--- src/rounds.rt:62:5
 sub-result : tie.Need-sub-result
 unfolding shelf
 sub-result c = let e : c .servers .result ≡ 3 * c .before .args .t + 1 = c .servers .ensures in omega arith
 
--- src/rounds.rt:58:1
 returns : tie.Need-returns
 unfolding shelf quorum
 returns c = rw (c .servers .ensures)

@@ -1,3 +1,4 @@
+-- `client::stamps::stamp_message` meets its contract, by those of the functions that it calls. Assumes nothing.
 use borrow.Author.Needs.{needs}
 use Rattle.protocol.specs.Primitives.{stampMessage}
 use Rattle.client.proofs.stamps.stamp_message.Statement.{statement}

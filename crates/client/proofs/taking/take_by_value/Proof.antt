@@ -1,3 +1,4 @@
+-- `client::taking::take_by_value` meets its contract, by those of the functions that it calls. Assumes nothing.
 use Rattle.client.proofs.TakeTests.{core-answers}
 use borrow.Author.Needs.{needs}
 use Rattle.client.proofs.taking.take_by_value.Statement.{statement}

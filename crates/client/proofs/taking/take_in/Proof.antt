@@ -1,3 +1,4 @@
+-- `client::taking::take_in` meets its contract, by those of the functions that it calls. Assumes nothing.
 use mathlib.Core.Path.{_≡_, sym, _∙_}
 use mathlib.Core.Bool.{true, false}
 use Rattle.cluster.specs.Config.{shelf}

@@ -1,10 +1,12 @@
+-- `client::taking::take_read_round` meets its contract, by those of the functions that it calls. Assumes nothing.
 use mathlib.Core.Path.{_≡_}
 use Prim.Native.Nat.{_≤_}
 use native.Mathlib.Omega.{arith}
 use lib.ListN.{length, drop}
 use Rattle.protocol.specs.Packet.{headSize}
 use Rattle.protocol.specs.View.{candidateSlot}
-use Rattle.client.proofs.TakeTests.{ready-ranges, ready-round, collect-length}
+use Rattle.client.proofs.TakeTests.{ready-round, collect-length}
+use Rattle.client.proofs.ReadyRanges.{ready-faults, ready-server}
 use Rattle.client.proofs.RoundsTaken.{takes-collect, takes-repair}
 use borrow.Author.Needs.{needs}
 use Rattle.client.proofs.taking.take_read_round.Statement.{statement}
@@ -21,9 +23,10 @@ take-collect-requires c κs =
     let z = c .before .before .before .before .before .before .before .before in
     let a = z .args in
     let p = z .pre in
-    let r = ready-ranges (a .t) (a .client) (a .call) (a .reply .now) (a .head) (p .0) in
+    let f = ready-faults (a .t) (a .client) (a .call) (a .reply .now) (a .head) (p .0) in
+    let r = ready-server (a .t) (a .client) (a .call) (a .reply .now) (a .head) (p .0) in
     let l : length (drop headSize (a .reply .now)) ≤ candidateSlot = collect-length (a .t) (a .client) (a .call) (a .reply .now) (a .head) (p .0) (λ k. c .before .before .before .before .before .before .shared-slice-known .given k .fits) (c .before .before .if1 .taken) in
-    (r .0, (r .1 .0, (r .1 .1, (p .1 .1 .0, rw (c .rest .ensures) l))))
+    (f .1, (r .0, (r .1, (p .1 .1 .0, rw (c .rest .ensures) l))))
 
 same-length : tie.Need-same-length
 same-length c = search needs
@@ -53,8 +56,9 @@ take-repair-requires c κs =
     let z = c .before .before .before .before .before .before .before .before .before in
     let a = z .args in
     let p = z .pre in
-    let r = ready-ranges (a .t) (a .client) (a .call) (a .reply .now) (a .head) (p .0) in
-    (r .0, (r .1 .0, (r .1 .1, p .1 .1 .1)))
+    let f = ready-faults (a .t) (a .client) (a .call) (a .reply .now) (a .head) (p .0) in
+    let r = ready-server (a .t) (a .client) (a .call) (a .reply .now) (a .head) (p .0) in
+    (f .1, (r .0, (r .1, p .1 .1 .1)))
 
 same-length-4 : tie.Need-same-length-4
 same-length-4 c = search needs

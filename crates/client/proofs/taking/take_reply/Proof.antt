@@ -1,5 +1,7 @@
+-- `client::taking::take_reply` meets its contract, by those of the functions that it calls. Assumes nothing.
 use mathlib.Core.Path.{sym, _∙_}
-use Rattle.client.proofs.TakeTests.{take-broken, take-head, takes-refused, server-ranges}
+use Rattle.client.proofs.TakeTests.{take-broken, take-head, takes-refused}
+use Rattle.client.proofs.ReadyRanges.{server-range}
 use borrow.Author.Needs.{needs}
 use Rattle.client.proofs.taking.take_reply.Statement.{statement}
 use Rattle.client.proofs.taking.take_reply.Tie as tie
@@ -27,7 +29,7 @@ returns c =
 reply-refusal-requires : tie.Need-reply-refusal-requires
 reply-refusal-requires c κs =
     let a = c .before .before .before .before .before .before .before .args in
-    server-ranges (a .reply .now) (c .before .head .given .0 .0) (rw (c .before .head .given .1) at (c .before .before .before .read-packet .ensures))
+    server-range (a .reply .now) (c .before .head .given .0 .0) (rw (c .before .head .given .1) at (c .before .before .before .read-packet .ensures))
 
 refused-requires-2 : tie.Need-refused-requires-2
 refused-requires-2 c κs = search needs

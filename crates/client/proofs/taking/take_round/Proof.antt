@@ -1,3 +1,4 @@
+-- `client::taking::take_round` meets its contract, by those of the functions that it calls. Assumes nothing.
 use mathlib.Core.Path.{refl}
 use native.Mathlib.Omega.{arith}
 use Rattle.client.proofs.TakeTests.{ready-round, round-short, takes-refused}

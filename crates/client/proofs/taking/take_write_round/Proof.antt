@@ -1,6 +1,7 @@
+-- `client::taking::take_write_round` meets its contract, by those of the functions that it calls. Assumes nothing.
 use mathlib.Core.Path.{_≡_}
 use native.Mathlib.Omega.{arith}
-use Rattle.client.proofs.TakeTests.{ready-ranges}
+use Rattle.client.proofs.ReadyRanges.{ready-faults, ready-server}
 use Rattle.client.proofs.RoundsTaken.{takes-store, takes-complete}
 use borrow.Author.Needs.{needs}
 use Rattle.client.proofs.taking.take_write_round.Statement.{statement}
@@ -17,7 +18,7 @@ take-store-requires c κs =
     let z = c .before .before .before .before .before .before in
     let a = z .args in
     let p = z .pre in
-    ready-ranges (a .t) (a .client) (a .call) (a .reply .now) (a .head) (p .0)
+    (ready-faults (a .t) (a .client) (a .call) (a .reply .now) (a .head) (p .0) .1, ready-server (a .t) (a .client) (a .call) (a .reply .now) (a .head) (p .0))
 
 returns : tie.Need-returns
 returns c =
@@ -32,7 +33,7 @@ take-complete-requires c κs =
     let z = c .before .before .before .before .before in
     let a = z .args in
     let p = z .pre in
-    ready-ranges (a .t) (a .client) (a .call) (a .reply .now) (a .head) (p .0)
+    (ready-faults (a .t) (a .client) (a .call) (a .reply .now) (a .head) (p .0) .1, ready-server (a .t) (a .client) (a .call) (a .reply .now) (a .head) (p .0))
 
 returns-2 : tie.Need-returns-2
 returns-2 c =

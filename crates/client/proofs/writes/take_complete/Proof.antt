@@ -1,3 +1,4 @@
+-- `client::writes::take_complete` meets its contract, by those of the functions that it calls. Assumes nothing.
 use mathlib.Core.Path.{sym, _∙_}
 use borrow.Author.Needs.{needs}
 use Rattle.client.proofs.writes.take_complete.Statement.{statement}
@@ -10,31 +11,24 @@ use Rattle.client.proofs.answers.note_reply.Reads as note-reply-reads
 use Rattle.client.proofs.kept.chosen_number.Reads as chosen-number-reads
 use Rattle.client.proofs.rounds.is_last.Reads as is-last-reads
 
--- src/writes.rt:35:8
 is-last-requires : tie.Need-is-last-requires
 is-last-requires c κs = search needs
 
--- src/writes.rt:36:13
 chosen-number-requires : tie.Need-chosen-number-requires
 chosen-number-requires c κs = search needs
 
--- src/writes.rt:37:74
 enter-requires : tie.Need-enter-requires
 enter-requires c κs = search needs
 
--- src/writes.rt:37:9
 returns : tie.Need-returns
 returns c = let e = sym (c .before .before .before .is-last .ensures) ∙ c .before .before .if1 .taken in rw (e, c .enter .ensures, c .before .chosen-number .ensures)
 
--- src/writes.rt:39:19
 note-reply-requires : tie.Need-note-reply-requires
 note-reply-requires c κs = search needs
 
--- src/writes.rt:39:5
 more-requires : tie.Need-more-requires
 more-requires c κs = search needs
 
--- src/writes.rt:29:1
 returns-2 : tie.Need-returns-2
 returns-2 c = let e = sym (c .before .before .before .is-last .ensures) ∙ c .before .before .if1 .left in rw (e, c .more .ensures, c .before .note-reply .ensures)
 

@@ -1,3 +1,4 @@
+-- `client::writes::take_store` meets its contract, by those of the functions that it calls. Assumes nothing.
 use borrow.Author.Tests.{eq-eqb, ne-eqb}
 use borrow.Author.Needs.{needs}
 use Rattle.client.proofs.writes.take_store.Statement.{statement}
@@ -7,19 +8,15 @@ use Rattle.client.proofs.writes.take_store.Lts as lts
 use Rattle.client.proofs.answers.more.Reads as more-reads
 use Rattle.client.proofs.answers.step.Reads as step-reads
 
--- src/writes.rt:23:9
 more-requires : tie.Need-more-requires
 more-requires c κs = search needs
 
--- src/writes.rt:23:9
 returns : tie.Need-returns
 returns c = rw (c .more .ensures, eq-eqb (c .before .before .args .code) 11 (c .before .if1 .taken))
 
--- src/writes.rt:25:5
 step-requires : tie.Need-step-requires
 step-requires c κs = search needs
 
--- src/writes.rt:17:1
 returns-2 : tie.Need-returns-2
 returns-2 c = rw (c .step .ensures, ne-eqb (c .before .before .args .code) 11 (c .before .if1 .left))
 

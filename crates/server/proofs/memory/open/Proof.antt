@@ -1,7 +1,7 @@
 -- Each field that breaks stops the memory there; zeros to the end open it. Assumes nothing.
 use borrow.Author.Needs.{needs}
 use native.Mathlib.Omega.{arith}
-use Rattle.cluster.specs.Ranges.{topFaults, capacity}
+use Rattle.cluster.specs.Ranges.{topFaults}
 use Rattle.protocol.proofs.Memories.{memory-size}
 use Rattle.wire.proofs.Heads.{byte-range}
 use Rattle.server.proofs.Open.{no-t, no-server, no-count, no-latest, writes-within, no-writes, opens, no-tail, servers-most}

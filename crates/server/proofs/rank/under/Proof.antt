@@ -1,5 +1,4 @@
 -- Both ways of the test. Assumes nothing.
-use borrow.Author.Needs.{needs}
 use mathlib.Core.Path.{sym}
 use Rattle.server.proofs.Ranking.{under-is, under-not}
 use Rattle.server.proofs.rank.under.Statement.{statement}

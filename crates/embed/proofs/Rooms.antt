@@ -1,0 +1,149 @@
+-- Lending the first bytes of a buffer in place of all of it: where as many are lent as a packet needs, or all there are, an operation answers the same
+-- and leaves the same bytes, and its count is at most what was lent. The bytes past them are never written. Assumes nothing.
+use mathlib.Core.Path.{_≡_, refl, sym, ap, _∙_}
+use mathlib.Core.Bool.{Bool, true, false, cond}
+use mathlib.Core.List.{List, _++_, append-assoc}
+use mathlib.Core.Option.{Option, none, some}
+use Prim.Native.Nat.{ℕ, zero, suc, _+_, _-_, _≤_}
+use native.Mathlib.Omega.{arith}
+use mathlib.Core.Logic.{_≢_}
+use borrow.Author.Tests.{eq-eqb, ne-eqb}
+use lib.Dec.{ltb, eqb}
+use lib.ListN.{length, take, drop, length-append, length-drop, take-append-drop}
+use lib.Seq.{length-take-le, drop-append-le}
+use Rattle.cluster.specs.Config.{shelf}
+use Rattle.cluster.specs.Ranges.{packetRoom, memorySize, keySize}
+use Rattle.cluster.specs.Refusals.{onRefusal}
+use Rattle.cluster.specs.declared.Outcome.{Outcome}
+use Rattle.protocol.specs.declared.Call.{Call}
+use Rattle.protocol.specs.Packet.{Packet, decode, encode}
+use Rattle.protocol.specs.Memory.{Memory, decodeMemory}
+use Rattle.protocol.specs.Primitives.{Primitives, real}
+use Rattle.protocol.specs.Server.{act, replyTo, serverRefusal}
+use Rattle.protocol.specs.ServerBytes.{Served, over, serverIn, turnedDown, accepted, onMemory, serverTake}
+use Rattle.protocol.specs.Client.{made, makeRefusal}
+use Rattle.protocol.specs.ClientBytes.{Written, inHand, clientMake}
+use Rattle.protocol.specs.View.{view}
+use Rattle.embed.specs.Packing.{packed, wrongSize}
+use Rattle.embed.specs.Clients.{madeOut}
+use Rattle.embed.specs.Servers.{Exchange, servedOut, keySized, takeBy}
+
+module _ (out : List ℕ) (n : ℕ) (in-out : n ≤ length out) where
+  -- bytes over the part, which keeps its length, and the rest after them
+  over-part : (b : List ℕ) → length (over b (take n out)) ≡ n → (over b (take n out) ++ drop n out ≡ over b out) × (length b ≤ n)
+  unfolding over
+  over-part b e =
+      let l : length (take n out) ≡ n = length-take-le n out in-out in
+      let k : length b ≤ n = omega (arith, e, l, length-append b (drop (length b) (take n out)), length-drop (length b) (take n out)) in (
+        append-assoc b (drop (length b) (take n out)) (drop n out)
+            ∙ ap (λ (z : List ℕ). b ++ z) (sym (drop-append-le (length b) (take n out) (drop n out) (omega (arith, k, l))) ∙ ap (drop (length b)) (take-append-drop n out)),
+        k,
+      )
+
+  whole : take n out ++ drop n out ≡ out
+  whole = take-append-drop n out
+
+  module _ (same : ltb (length out) packetRoom ≡ ltb (length (take n out)) packetRoom) where
+    -- ---- a server takes a packet
+
+    pub record Serves (part all : Served) : Type 0 where
+      pub result : all .result ≡ part .result
+      pub memory : all .memory ≡ part .memory
+      pub output : all .output ≡ part .output ++ drop n out
+      pub count : part .result .count ≤ n
+
+    module _ (P : Primitives) (memory key packet : List ℕ) where
+      down : (k : ℕ) → Serves (turnedDown P memory key packet (take n out) k) (turnedDown P memory key packet out k)
+      unfolding turnedDown
+      down k = record { result = refl; memory = refl; output = sym whole; count = omega arith }
+
+      done : (m : Memory) (o : Option Packet) → length (accepted P memory key packet (take n out) m o .output) ≡ n
+          → Serves (accepted P memory key packet (take n out) m o) (accepted P memory key packet out m o)
+      unfolding accepted
+      done m none e = down 0
+      done m (some p) e =
+          let x = over-part (encode (replyTo p (act P (shelf (m .t)) key (m .server) (serverIn m) (p .body) .reply))) e in
+          record { result = refl; memory = refl; output = sym (x .0); count = x .1 }
+
+      by-number : (m : Memory) (o : Option Packet) (k : ℕ) → length (onRefusal k (accepted P memory key packet (take n out) m o) (turnedDown P memory key packet (take n out) k) .output) ≡ n
+          → Serves (onRefusal k (accepted P memory key packet (take n out) m o) (turnedDown P memory key packet (take n out) k))
+          (onRefusal k (accepted P memory key packet out m o) (turnedDown P memory key packet out k))
+      by-number m o zero e = done m o e
+      by-number m o (suc k) e = down (suc k)
+
+      refusal-same : (t b : ℕ) (o : Option Packet) → serverRefusal t b o (length out) ≡ serverRefusal t b o (length (take n out))
+      unfolding serverRefusal
+      refusal-same t b none = refl
+      refusal-same t b (some p) = rw same refl
+
+      in-memory : (o : Option Memory) → length (onMemory P memory key packet (take n out) o .output) ≡ n → Serves (onMemory P memory key packet (take n out) o) (onMemory P memory key packet out o)
+      unfolding onMemory
+      in-memory none e = down 2
+      in-memory (some m) e = rw (refusal-same (m .t) (m .server) (decode packet)) (by-number m (decode packet) (serverRefusal (m .t) (m .server) (decode packet) (length (take n out))) e)
+
+      pub serves : length (serverTake P memory key packet (take n out) .output) ≡ n → Serves (serverTake P memory key packet (take n out)) (serverTake P memory key packet out)
+      unfolding serverTake
+      serves e = go (eqb (length memory) memorySize) e
+        where
+          go : (b : Bool) → length (cond b (onMemory P memory key packet (take n out) (decodeMemory memory)) (turnedDown P memory key packet (take n out) 1) .output) ≡ n
+              → Serves (cond b (onMemory P memory key packet (take n out) (decodeMemory memory)) (turnedDown P memory key packet (take n out) 1))
+              (cond b (onMemory P memory key packet out (decodeMemory memory)) (turnedDown P memory key packet out 1))
+          go true f = in-memory (decodeMemory memory) f
+          go false f = down 1
+
+-- ---- what the exports make of it, where what was lent is at most a packet's room
+
+module _ (memory key packet out : List ℕ) (n : ℕ) (in-out : n ≤ length out) (small : n ≤ packetRoom) (same : ltb (length out) packetRoom ≡ ltb n packetRoom)
+    (o : Outcome) (m x : List ℕ) (e : record { result = o; memory = m; output = x } ≡ serverTake real memory key packet (take n out)) (keeps : length x ≡ length (take n out)) where
+  through : Serves out n in-out (same ∙ ap (λ (k : ℕ). ltb k packetRoom) (sym (length-take-le n out in-out))) (record { result = o; memory = m; output = x }) (serverTake real memory key packet out)
+  through = rw e (serves out n in-out (same ∙ ap (λ (k : ℕ). ltb k packetRoom) (sym (length-take-le n out in-out))) real memory key packet
+      (sym (ap (λ (s : Served). length (s .output)) e) ∙ keeps ∙ length-take-le n out in-out))
+
+  pub served-count : o .count ≤ packetRoom
+  served-count = omega (arith, through .count, small)
+
+  pub served-out : (r : ℕ) → r ≡ packed (o .number) 0 0 (o .count) → record { answer = r; memory = m; output = x ++ drop n out } ≡ servedOut (serverTake real memory key packet out)
+  served-out r p = rw (p, through .result, through .memory, through .output) refl
+
+pub take-unsized : (memory key packet out : List ℕ) → length key ≢ keySize → record { answer = packed wrongSize 0 0 0; memory = memory; output = out } ≡ takeBy memory key packet out
+unfolding takeBy keySized
+take-unsized memory key packet out h = rw (ne-eqb (length key) keySize h) refl
+
+pub take-sized : (memory key packet out array : List ℕ) (x : Exchange) → length key ≡ keySize → array ≡ key → x ≡ servedOut (serverTake real memory array packet out) → x ≡ takeBy memory key packet out
+unfolding takeBy keySized
+take-sized memory key packet out array x h same e = rw (eq-eqb (length key) keySize h) (e ∙ ap (λ (k : List ℕ). servedOut (serverTake real memory k packet out)) same)
+
+-- ---- a client makes a packet
+
+module _ (out : List ℕ) (n : ℕ) (in-out : n ≤ length out) (small : n ≤ packetRoom) (same : ltb (length out) packetRoom ≡ ltb n packetRoom)
+    (t client b : ℕ) (c : Call) (kept : List ℕ) (o : Outcome) (x : List ℕ)
+    (e : record { result = o; output = x } ≡ clientMake t client b c kept (take n out)) (keeps : length x ≡ length (take n out)) where
+  pub record Makes (part all : Written) : Type 0 where
+    pub result : all .result ≡ part .result
+    pub output : all .output ≡ part .output ++ drop n out
+    pub count : part .result .count ≤ n
+
+  abbrev bytes : List ℕ
+  bytes = encode (made t client (view (shelf t) c kept) b)
+
+  by-refusal : (k : ℕ)
+      → length (onRefusal {A = Written} k (record { result = record { number = k; count = length bytes }; output = over bytes (take n out) })
+      (record { result = record { number = k; count = 0 }; output = take n out }) .output) ≡ n
+      → Makes (onRefusal k (record { result = record { number = k; count = length bytes }; output = over bytes (take n out) }) (record { result = record { number = k; count = 0 }; output = take n out }))
+      (onRefusal k (record { result = record { number = k; count = length bytes }; output = over bytes out }) (record { result = record { number = k; count = 0 }; output = out }))
+  by-refusal zero f = let z = over-part out n in-out bytes f in record { result = refl; output = sym (z .0); count = z .1 }
+  by-refusal (suc k) f = record { result = refl; output = sym (take-append-drop n out); count = omega arith }
+
+  refusal-is : makeRefusal (shelf t) client b (inHand c) (length out) ≡ makeRefusal (shelf t) client b (inHand c) (length (take n out))
+  unfolding makeRefusal
+  refusal-is = rw (same, length-take-le n out in-out) refl
+
+  made-part : Makes (record { result = o; output = x }) (clientMake t client b c kept out)
+  unfolding clientMake
+  made-part = rw (e, refusal-is) (by-refusal (makeRefusal (shelf t) client b (inHand c) (length (take n out))) (sym (ap (λ (w : Written). length (w .output)) e) ∙ keeps ∙ length-take-le n out in-out))
+
+  pub made-count : o .count ≤ packetRoom
+  made-count = omega (arith, made-part .count, small)
+
+  pub made-out : (r : ℕ) → r ≡ packed (o .number) 0 0 (o .count) → record { answer = r; output = x ++ drop n out } ≡ madeOut (clientMake t client b c kept out)
+  made-out r p = rw (p, made-part .result, made-part .output) refl

@@ -1,0 +1,38 @@
+-- The size is tested, then the read begins.
+-- Assumes nothing.
+use borrow.Author.Needs.{needs}
+use Rattle.embed.proofs.Sessions.{read-unsized, read-done}
+use Rattle.embed.proofs.clients.cendrulas_client_begin_read.Statement.{statement}
+use Rattle.embed.proofs.clients.cendrulas_client_begin_read.Tie as tie
+use Rattle.embed.proofs.clients.cendrulas_client_begin_read.Reads as reads
+use Rattle.embed.proofs.clients.cendrulas_client_begin_read.Lts as lts
+use Rattle.embed.proofs.clients.outcome.Reads as outcome-reads
+use Rattle.embed.proofs.clients.read_in.Reads as read-in-reads
+use Rattle.embed.proofs.pack.pack.Reads as pack-reads
+
+pack-requires : tie.Need-pack-requires
+pack-requires c κs = search needs
+
+returns : tie.Need-returns
+returns c =
+    let a = c .before .before .before .args in
+    rw (c .pack .ensures) (read-unsized (a .state .now) (a .t) (a .client) (c .before .if1 .taken))
+
+read-in-requires : tie.Need-read-in-requires
+read-in-requires c κs = search needs
+
+outcome-requires : tie.Need-outcome-requires
+outcome-requires c κs = search needs
+
+same-length : tie.Need-same-length
+same-length c = search needs
+
+returns-2 : tie.Need-returns-2
+returns-2 c =
+    let a = c .before .before .before .before .before .before .before .args in
+    read-done (a .state .now) (a .t) (a .client) (c .before .before .before .before .before .if1 .left) (c .before .before .before .read-in .result) _ _ (c .before .before .before .read-in .ensures) (c .outcome .ensures)
+
+pub cendrulas-client-begin-read-spec : {M : Type 1} → statement M
+cendrulas-client-begin-read-spec =
+    tie.close
+    (tie.spec pack-requires returns read-in-requires outcome-requires same-length returns-2)

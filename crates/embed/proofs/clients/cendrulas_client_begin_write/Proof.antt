@@ -1,0 +1,59 @@
+-- The sizes are tested in the order of the arguments, then the write begins.
+-- Assumes nothing.
+use borrow.Author.Needs.{needs}
+use Rattle.embed.proofs.Sessions.{write-unsized, write-other-nonce, write-done}
+use Rattle.embed.proofs.clients.cendrulas_client_begin_write.Statement.{statement}
+use Rattle.embed.proofs.clients.cendrulas_client_begin_write.Tie as tie
+use Rattle.embed.proofs.clients.cendrulas_client_begin_write.Reads as reads
+use Rattle.embed.proofs.clients.cendrulas_client_begin_write.Lts as lts
+use Rattle.embed.proofs.clients.outcome.Reads as outcome-reads
+use Rattle.embed.proofs.clients.write_in.Reads as write-in-reads
+use Rattle.embed.proofs.pack.array.Reads as array-reads
+use Rattle.embed.proofs.pack.pack.Reads as pack-reads
+
+pack-requires : tie.Need-pack-requires
+pack-requires c κs = search needs
+
+returns : tie.Need-returns
+returns c =
+    let a = c .before .before .before .before .before .args in
+    rw (c .pack .ensures) (write-unsized (a .state .now) (a .content .now) (a .nonce .now) (a .t) (a .client) (c .before .if1 .taken))
+
+pack-requires-2 : tie.Need-pack-requires-2
+pack-requires-2 c κs = search needs
+
+returns-2 : tie.Need-returns-2
+returns-2 c =
+    let a = c .before .before .before .before .before .before .args in
+    rw (c .pack2 .ensures) (write-other-nonce (a .state .now) (a .t) (a .client) (c .before .before .if1 .left) (a .content .now) (a .nonce .now) (c .before .if2 .taken))
+
+array-requires : tie.Need-array-requires
+array-requires c κs = search needs
+
+write-in-requires : tie.Need-write-in-requires
+write-in-requires c κs = search needs
+
+outcome-requires : tie.Need-outcome-requires
+outcome-requires c κs = search needs
+
+same-length : tie.Need-same-length
+same-length c = search needs
+
+returns-3 : tie.Need-returns-3
+returns-3 c =
+    let a = c .before .before .before .before .before .before .before .before .before .before .before .args in
+    write-done (a .state .now) (a .t) (a .client) (c .before .before .before .before .before .before .before .if1 .left) (a .content .now) (a .nonce .now) _ (c .before .before .before .write-in .result) _ _ (c .before .before .before .before .before .before .if2 .left) (c .before .before .before .before .array .ensures) (c .before .before .before .write-in .ensures) (c .outcome .ensures)
+
+pub cendrulas-client-begin-write-spec : {M : Type 1} → statement M
+cendrulas-client-begin-write-spec =
+    tie.close
+    (tie.spec
+    pack-requires
+    returns
+    pack-requires-2
+    returns-2
+    array-requires
+    write-in-requires
+    outcome-requires
+    same-length
+    returns-3)

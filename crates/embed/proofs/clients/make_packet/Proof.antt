@@ -1,0 +1,79 @@
+-- The core makes the packet in what is lent of the output.
+-- Assumes nothing.
+use borrow.Author.Needs.{needs}
+use mathlib.Core.Path.{sym, _∙_}
+use Prim.Native.Nat.{_≤_}
+use native.Mathlib.Omega.{arith}
+use lib.ListN.{take}
+use lib.Seq.{length-take-le}
+use Rattle.cluster.specs.Ranges.{packetRoom}
+use Rattle.state.specs.State.{callAt}
+use Rattle.embed.specs.Clients.{keptOf}
+use Rattle.embed.proofs.Sessions.{core-made}
+use Rattle.embed.proofs.Rooms.{made-count, made-out}
+use Rattle.embed.proofs.clients.make_packet.Statement.{statement}
+use Rattle.embed.proofs.clients.make_packet.Tie as tie
+use Rattle.embed.proofs.clients.make_packet.Reads as reads
+use Rattle.embed.proofs.clients.make_packet.Lts as lts
+use Rattle.client.proofs.packets.make_in.Reads as make-in-reads
+use Rattle.embed.proofs.pack.pack.Reads as pack-reads
+use Rattle.embed.proofs.servers.lent.Reads as lent-reads
+use Rattle.state.proofs.read.Reads as read-reads
+use Rattle.wire.proofs.bytes.rest.Reads as rest-reads
+
+read-requires : tie.Need-read-requires
+read-requires c κs = search needs
+
+lent-requires : tie.Need-lent-requires
+lent-requires c κs = search needs
+
+rest-requires : tie.Need-rest-requires
+rest-requires c κs = search needs
+
+slice-relend-prefix-make-in : tie.Need-slice-relend-prefix-make-in
+slice-relend-prefix-make-in c = search needs
+
+slice-aggregate-make-in : tie.Need-slice-aggregate-make-in
+slice-aggregate-make-in c = let a = c .before .before .before .before .before .before .args in let l = c .before .before .lent in sym (length-take-le (l .result) (a .out .now) (l .ensures .0))
+
+make-in-requires : tie.Need-make-in-requires
+make-in-requires c κs = search needs
+
+cast-pack : tie.Need-cast-pack
+cast-pack c =
+    let a = c .before .before .before .before .before .before .before .before .before .args in
+    let d = a .state .now in
+    let l = c .before .before .before .before .before .lent in
+    let m = c .before .before .make-in in
+    let e = m .ensures ∙ core-made d (c .before .before .before .before .before .before .before .before .before .pre) (a .t) (a .client) (a .server) (c .before .before .before .before .before .before .read .result) _ (take (l .result) (a .out .now)) (c .before .before .before .before .before .before .read .ensures) (c .before .before .before .before .rest .ensures) in
+    let n : m .result .count ≤ packetRoom = made-count (a .out .now) (l .result) (l .ensures .0) (l .ensures .1 .0) (l .ensures .1 .1) (a .t) (a .client) (a .server) (callAt d) (keptOf d) (m .result) (m .last .1 .1 .1 .1 .1 .0) e (m .kept .1 .1 .1 .1 .1 .0) in omega (arith, n)
+
+pack-requires : tie.Need-pack-requires
+pack-requires c κs = search needs
+
+same-length : tie.Need-same-length
+same-length c = search needs
+
+returns : tie.Need-returns
+returns c =
+    let a = c .before .before .before .before .before .before .before .before .before .before .args in
+    let d = a .state .now in
+    let l = c .before .before .before .before .before .before .lent in
+    let m = c .before .before .before .make-in in
+    let e = m .ensures ∙ core-made d (c .before .before .before .before .before .before .before .before .before .before .pre) (a .t) (a .client) (a .server) (c .before .before .before .before .before .before .before .read .result) _ (take (l .result) (a .out .now)) (c .before .before .before .before .before .before .before .read .ensures) (c .before .before .before .before .before .rest .ensures) in
+    made-out (a .out .now) (l .result) (l .ensures .0) (l .ensures .1 .0) (l .ensures .1 .1) (a .t) (a .client) (a .server) (callAt d) (keptOf d) (m .result) (m .last .1 .1 .1 .1 .1 .0) e (m .kept .1 .1 .1 .1 .1 .0) _ (c .pack .ensures)
+
+pub make-packet-spec : {M : Type 1} → statement M
+make-packet-spec =
+    tie.close
+    (tie.spec
+    read-requires
+    lent-requires
+    rest-requires
+    slice-relend-prefix-make-in
+    slice-aggregate-make-in
+    make-in-requires
+    cast-pack
+    pack-requires
+    same-length
+    returns)

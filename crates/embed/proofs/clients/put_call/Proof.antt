@@ -1,0 +1,24 @@
+-- Another call at the start of a state, which has room for it.
+-- Assumes nothing.
+use borrow.Author.Needs.{needs}
+use mathlib.Core.Path.{_≡_, _∙_}
+use lib.ListN.{length}
+use Rattle.cluster.specs.Ranges.{mostServers}
+use Rattle.embed.proofs.Sessions.{put-first}
+use Rattle.embed.proofs.clients.put_call.Statement.{statement}
+use Rattle.embed.proofs.clients.put_call.Tie as tie
+
+put-requires : tie.Need-put-requires
+put-requires c κs = search needs
+
+same-length : tie.Need-same-length
+same-length c = search needs
+
+returns : tie.Need-returns
+returns c =
+    let a = c .before .before .before .before .before .args in
+    let m : length (a .call .tally .marks) ≡ mostServers = search needs in
+    c .before .before .put .ensures ∙ put-first (a .state .now) (c .before .before .before .before .before .pre) (a .call) m
+
+pub put-call-spec : {M : Type 1} → statement M
+put-call-spec = tie.close (tie.spec put-requires same-length returns)

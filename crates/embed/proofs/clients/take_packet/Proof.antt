@@ -1,0 +1,70 @@
+-- The core takes the packet over the kept bytes; its call is put back.
+-- Assumes nothing.
+use borrow.Author.Needs.{needs}
+use mathlib.Core.Path.{ap, _∙_}
+use Rattle.protocol.specs.Primitives.{real}
+use Rattle.protocol.specs.ClientBytes.{Took, clientTake}
+use Rattle.client.specs.Answers.{answered}
+use Rattle.state.specs.State.{callAt}
+use Rattle.embed.specs.Clients.{keptOf}
+use Rattle.embed.proofs.Sessions.{core-take, taken-in}
+use Rattle.embed.proofs.clients.take_packet.Statement.{statement}
+use Rattle.embed.proofs.clients.take_packet.Tie as tie
+use Rattle.embed.proofs.clients.take_packet.Reads as reads
+use Rattle.embed.proofs.clients.take_packet.Lts as lts
+use Rattle.client.proofs.taking.take_in.Reads as take-in-reads
+use Rattle.embed.proofs.clients.put_call.Reads as put-call-reads
+use Rattle.embed.proofs.clients.taken.Reads as taken-reads
+use Rattle.state.proofs.read.Reads as read-reads
+
+read-requires : tie.Need-read-requires
+read-requires c κs = search needs
+
+sub-take-in : tie.Need-sub-take-in
+sub-take-in c = search needs
+
+part-take-in-start : tie.Need-part-take-in-start
+part-take-in-start c = search needs
+
+part-take-in-end : tie.Need-part-take-in-end
+part-take-in-end c = search needs
+
+take-in-requires : tie.Need-take-in-requires
+take-in-requires c κs = search needs
+
+put-call-requires : tie.Need-put-call-requires
+put-call-requires c κs = search needs
+
+taken-requires : tie.Need-taken-requires
+taken-requires c κs = search needs
+
+same-length : tie.Need-same-length
+same-length c = search needs
+
+same-length-2 : tie.Need-same-length-2
+same-length-2 c = search needs
+
+returns : tie.Need-returns
+returns c =
+    let a = c .before .before .before .before .before .before .before .before .before .before .before .before .before .before .before .before .before .args in
+    let d = a .state .now in
+    let m = c .before .before .before .before .before .before .before .before .before .take-in in
+    let x = c .before .before .before .before .before .before .before .before .before .before .before .before .read .ensures in
+    let e = core-take d (c .before .before .before .before .before .before .before .before .before .before .before .before .before .before .before .before .before .pre) (a .t) (a .client) (a .writers .now) (a .keys .now) (a .packet .now) (a .out .now) in
+    taken-in d (c .before .before .before .before .before .before .before .before .before .before .before .before .before .before .before .before .before .pre) (clientTake real (a .t) (a .client) (a .writers .now) (a .keys .now) (callAt d) (keptOf d) (a .packet .now) (a .out .now)) (m .result) (m .last .1 .0) (c .before .before .before .put-call .last .0) (m .last .1 .1 .1 .1 .1 .1 .1 .0) (c .taken .result)
+    (m .ensures .0 ∙ rw x (ap answered e)) (m .ensures .1 .0 ∙ rw x (ap (λ (b : Took). b .kept) e)) (m .ensures .1 .1 ∙ rw x (ap (λ (b : Took). b .output) e)) (c .before .before .before .put-call .ensures) (c .taken .ensures)
+
+pub take-packet-spec : {M : Type 1} → statement M
+take-packet-spec =
+    tie.close
+    (tie.spec
+    read-requires
+    sub-take-in
+    part-take-in-start
+    part-take-in-end
+    take-in-requires
+    put-call-requires
+    taken-requires
+    same-length
+    same-length-2
+    returns)

@@ -1,0 +1,59 @@
+-- The core begins the write over the kept bytes; its call is put back.
+-- Assumes nothing.
+use borrow.Author.Needs.{needs}
+use mathlib.Core.Path.{ap, _∙_}
+use Rattle.protocol.specs.ClientBytes.{Begun, beginWrite}
+use Rattle.client.specs.Answers.{started}
+use Rattle.state.specs.State.{callAt}
+use Rattle.embed.specs.Clients.{keptOf}
+use Rattle.embed.proofs.Sessions.{core-write, began}
+use Rattle.embed.proofs.clients.write_in.Statement.{statement}
+use Rattle.embed.proofs.clients.write_in.Tie as tie
+use Rattle.embed.proofs.clients.write_in.Reads as reads
+use Rattle.embed.proofs.clients.write_in.Lts as lts
+use Rattle.client.proofs.begin.begin_write_in.Reads as begin-write-in-reads
+use Rattle.embed.proofs.clients.put_call.Reads as put-call-reads
+use Rattle.state.proofs.read.Reads as read-reads
+
+read-requires : tie.Need-read-requires
+read-requires c κs = search needs
+
+sub-begin-write-in : tie.Need-sub-begin-write-in
+sub-begin-write-in c = search needs
+
+part-begin-write-in-start : tie.Need-part-begin-write-in-start
+part-begin-write-in-start c = search needs
+
+part-begin-write-in-end : tie.Need-part-begin-write-in-end
+part-begin-write-in-end c = search needs
+
+begin-write-in-requires : tie.Need-begin-write-in-requires
+begin-write-in-requires c κs = search needs
+
+put-call-requires : tie.Need-put-call-requires
+put-call-requires c κs = search needs
+
+same-length : tie.Need-same-length
+same-length c = search needs
+
+returns : tie.Need-returns
+returns c =
+    let begun = c .before .before .before .before .before .before .before in
+    let a = c .before .before .before .before .before .before .before .before .before .before .before .before .before .before .args in
+    let d = a .state .now in
+    let e = core-write d (c .before .before .before .before .before .before .before .before .before .before .before .before .before .before .pre) (a .t) (a .client) (a .content .now) (a .t5) in
+    began d (c .before .before .before .before .before .before .before .before .before .before .before .before .before .before .pre) (beginWrite (a .t) (a .client) (callAt d) (keptOf d) (a .content .now) (a .t5)) (begun .begin-write-in .result) (begun .begin-write-in .last .1 .0) (c .before .before .before .put-call .last .0)
+    (begun .begin-write-in .ensures .0 ∙ rw (c .before .before .before .before .before .before .before .before .before .before .read .ensures) (ap started e)) (begun .begin-write-in .ensures .1 ∙ rw (c .before .before .before .before .before .before .before .before .before .before .read .ensures) (ap (λ (b : Begun). b .kept) e)) (c .before .before .before .put-call .ensures)
+
+pub write-in-spec : {M : Type 1} → statement M
+write-in-spec =
+    tie.close
+    (tie.spec
+    read-requires
+    sub-begin-write-in
+    part-begin-write-in-start
+    part-begin-write-in-end
+    begin-write-in-requires
+    put-call-requires
+    same-length
+    returns)

@@ -1,0 +1,74 @@
+-- One more key at each turn.
+-- Assumes nothing.
+use mathlib.Core.Path.{_≡_, sym, ap, _∙_}
+use Prim.Native.Nat.{_≤_, _-_}
+use native.Mathlib.Omega.{arith}
+use lib.ListN.{length}
+use Rattle.cluster.specs.Ranges.{mostServers}
+use Rattle.embed.proofs.KeyRuns.{filled, filled-none, filled-more, filled-all, key-size}
+use Rattle.embed.proofs.keys.keys_of.Statement.{statement}
+use Rattle.embed.proofs.keys.keys_of.Tie as tie
+use Rattle.embed.proofs.keys.keys_of.Reads as reads
+use Rattle.embed.proofs.keys.keys_of.Lts as lts
+use Rattle.embed.proofs.pack.array.Reads as array-reads
+use Rattle.wire.proofs.bytes.part.Reads as part-reads
+
+abbrev Inv-loop : tie.InvT-loop
+Inv-loop flat keys₀ i₀ keys i = (i ≤ mostServers) × (keys ≡ filled flat i)
+
+abbrev μ-loop : tie.MeasureT-loop
+μ-loop flat keys₀ i₀ keys i = mostServers - i
+
+loop-holds : tie.Need-loop-holds Inv-loop μ-loop
+loop-holds c = (omega arith, sym (filled-none (c .before .args .flat .now)))
+
+mul-part : tie.Need-mul-part Inv-loop μ-loop
+mul-part c = omega arith
+
+part-requires : tie.Need-part-requires Inv-loop μ-loop
+part-requires c κs = tt
+
+array-requires : tie.Need-array-requires Inv-loop μ-loop
+array-requires c κs = ap length (c .part .ensures) ∙ key-size (c .before .before .before .before .args .flat .now) (c .before .before .loop .i) (c .before .before .before .before .pre) (omega arith)
+
+mul-keys : tie.Need-mul-keys Inv-loop μ-loop
+mul-keys c = omega arith
+
+array-set-from-keys : tie.Need-array-set-from-keys Inv-loop μ-loop
+array-set-from-keys c = omega arith
+
+add-i : tie.Need-add-i Inv-loop μ-loop
+add-i c = omega arith
+
+loop-less : tie.Need-loop-less Inv-loop μ-loop
+loop-less c = omega arith
+
+loop-again : tie.Need-loop-again Inv-loop μ-loop
+loop-again c =
+    let l = c .before .before .before .loop in
+    let d = c .before .before .before .before .before .args .flat .now in
+    (omega arith, rw (l .inv .1, c .array .ensures, c .before .part .ensures) (filled-more d (l .i) (omega arith)))
+
+returns : tie.Need-returns Inv-loop μ-loop
+returns c =
+    let l = c .before .loop in
+    let d = c .before .before .before .args .flat .now in
+    let e : l .i ≡ mostServers = omega arith in
+    l .inv .1 ∙ ap (filled d) e ∙ filled-all d
+
+pub keys-of-spec : {M : Type 1} → statement M
+keys-of-spec =
+    tie.close
+    (tie.spec
+    Inv-loop
+    μ-loop
+    loop-holds
+    mul-part
+    part-requires
+    array-requires
+    mul-keys
+    array-set-from-keys
+    add-i
+    loop-less
+    loop-again
+    returns)

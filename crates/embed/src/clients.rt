@@ -1,0 +1,230 @@
+// The client over one lent run of bytes: the small state, then the kept bytes.
+use super::pack::array;
+use super::pack::pack;
+ghost use mathlib.Core.Path.{_≡_};
+ghost use mathlib.Core.List.{_++_};
+ghost use lib.ListN.{length, drop};
+ghost use Rattle.protocol.specs.Primitives.{real};
+ghost use Rattle.protocol.specs.ClientBytes.{beginWrite, beginRead, clientMake, clientTake};
+ghost use Rattle.state.specs.State.{stateSize, callAt, callBytes};
+ghost use Rattle.embed.specs.Packing.{packed};
+ghost use Rattle.embed.specs.Clients.{clientSize, keptOf, stateWith, writeIn, readIn, giveUpIn, abortedOf, madeOut, makeIn, takenOf, tookIn, takeIn};
+
+// The place of the kept bytes, and the bytes of a whole state.
+const KEPT: usize = 64;
+
+const CLIENT: usize = KEPT + client::kept::KEPT;
+
+// Bytes of all servers' keys.
+const KEYS: usize = cluster::KEY * cluster::MOST_SERVERS;
+
+// Another call at the start of a state.
+fn put_call(state: &mut [u8], call: protocol::Call)
+    requires { ⌜ length (now state) ≡ clientSize ⌝ }
+    ensures { λ _. ⌜ now (state .exit) ≡ callBytes call ++ drop stateSize (now (state .entry)) ⌝ }
+{
+    state::put(state, call);
+}
+
+// A write begins in a state of its size.
+fn write_in(
+    state: &mut [u8],
+    t: usize,
+    client: usize,
+    content: &[u8],
+    nonce: [u8; 32],
+) -> cluster::Outcome
+    requires { ⌜ length (now state) ≡ clientSize ⌝ }
+    ensures { λ r. ⌜ (r ≡ beginWrite t client (callAt (now (state .entry))) (keptOf (now (state .entry))) (now (content .entry)) nonce .result)
+        × (now (state .exit) ≡ stateWith (now (state .entry)) (beginWrite t client (callAt (now (state .entry))) (keptOf (now (state .entry))) (now (content .entry)) nonce .call)
+        (beginWrite t client (callAt (now (state .entry))) (keptOf (now (state .entry))) (now (content .entry)) nonce .kept)) ⌝ }
+{
+    let call = state::read(state);
+    let at = KEPT;
+    let begun = client::begin::begin_write_in(call, &mut state[at..], t, client, content, &nonce);
+    put_call(state, begun.call);
+    begun.taken
+}
+
+// A read begins in a state of its size.
+fn read_in(state: &mut [u8], t: usize, client: usize) -> cluster::Outcome
+    requires { ⌜ length (now state) ≡ clientSize ⌝ }
+    ensures { λ r. ⌜ (r ≡ beginRead t client (callAt (now (state .entry))) (keptOf (now (state .entry))) .result)
+        × (now (state .exit) ≡ stateWith (now (state .entry)) (beginRead t client (callAt (now (state .entry))) (keptOf (now (state .entry))) .call)
+        (beginRead t client (callAt (now (state .entry))) (keptOf (now (state .entry))) .kept)) ⌝ }
+{
+    let call = state::read(state);
+    let at = KEPT;
+    let begun = client::begin::begin_read_in(call, &mut state[at..], t, client);
+    put_call(state, begun.call);
+    begun.taken
+}
+
+// An outcome in one number. A begin writes no output.
+fn outcome(o: cluster::Outcome) -> u64
+    ensures { λ r. ⌜ r ≡ packed (o .number) 0 0 0 ⌝ }
+{
+    pack(o.number, 0, 0, 0)
+}
+
+#[no_mangle]
+pub extern "C" fn cendrulas_client_begin_write(
+    state: &mut [u8],
+    t: usize,
+    client: usize,
+    content: &[u8],
+    nonce: &[u8],
+) -> u64
+    ensures { λ r. ⌜ record { answer = r; state = now (state .exit) } ≡ writeIn (now (state .entry)) t client (now (content .entry)) (now (nonce .entry)) ⌝ }
+{
+    if state.len() != CLIENT {
+        return pack(255, 0, 0, 0);
+    }
+    if nonce.len() != 32 {
+        return pack(255, 0, 0, 0);
+    }
+    let begun = write_in(state, t, client, content, array(nonce));
+    outcome(begun)
+}
+
+#[no_mangle]
+pub extern "C" fn cendrulas_client_begin_read(state: &mut [u8], t: usize, client: usize) -> u64
+    ensures { λ r. ⌜ record { answer = r; state = now (state .exit) } ≡ readIn (now (state .entry)) t client ⌝ }
+{
+    if state.len() != CLIENT {
+        return pack(255, 0, 0, 0);
+    }
+    let begun = read_in(state, t, client);
+    outcome(begun)
+}
+
+// What giving up answers, in one number.
+fn aborted(a: protocol::Aborted) -> u64
+    ensures { λ r. ⌜ r ≡ abortedOf a ⌝ }
+{
+    match a {
+        protocol::Aborted::Refused(n) => pack(n, 0, 0, 0),
+        protocol::Aborted::Before => pack(0, 4, 0, 0),
+        protocol::Aborted::InComplete => pack(0, 5, 0, 0),
+    }
+}
+
+#[no_mangle]
+pub extern "C" fn cendrulas_client_give_up(state: &mut [u8], t: usize, client: usize) -> u64
+    ensures { λ r. ⌜ record { answer = r; state = now (state .exit) } ≡ giveUpIn (now (state .entry)) t client ⌝ }
+{
+    if state.len() != CLIENT {
+        return pack(255, 0, 0, 0);
+    }
+    let call = state::read(state);
+    let stopped = client::begin::give_up_in(call, t, client);
+    put_call(state, stopped.call);
+    let taken = stopped.taken;
+    aborted(taken)
+}
+
+// The packet of the pending round, in a state of its size.
+fn make_packet(state: &[u8], t: usize, client: usize, server: usize, out: &mut [u8]) -> u64
+    requires { ⌜ length (now state) ≡ clientSize ⌝ }
+    ensures { λ r. ⌜ record { answer = r; output = now (out .exit) } ≡ madeOut (clientMake t client server (callAt (now (state .entry))) (keptOf (now (state .entry))) (now (out .entry))) ⌝ }
+{
+    let call = state::read(state);
+    let n = super::servers::lent(out.len());
+    let o = client::packets::make_in(
+        call,
+        wire::bytes::rest(state, KEPT),
+        t,
+        client,
+        server,
+        &mut out[..n],
+    );
+    let count = o.count;
+    pack(o.number, 0, 0, count as u16)
+}
+
+#[no_mangle]
+pub extern "C" fn cendrulas_client_make(
+    state: &[u8],
+    t: usize,
+    client: usize,
+    server: usize,
+    out: &mut [u8],
+) -> u64
+    ensures { λ r. ⌜ record { answer = r; output = now (out .exit) } ≡ makeIn (now (state .entry)) t client server (now (out .entry)) ⌝ }
+{
+    if state.len() != CLIENT {
+        return pack(255, 0, 0, 0);
+    }
+    make_packet(state, t, client, server, out)
+}
+
+// What a taken packet answers, in one number.
+fn taken(a: protocol::Taken) -> u64
+    ensures { λ r. ⌜ r ≡ takenOf a ⌝ }
+{
+    match a {
+        protocol::Taken::Refused(n) => pack(n, 0, 0, 0),
+        protocol::Taken::More => pack(0, 0, 0, 0),
+        protocol::Taken::Written(k) => pack(0, 1, k, 0),
+        protocol::Taken::Read(k, n) => pack(0, 2, k, n),
+        protocol::Taken::Blank => pack(0, 3, 0, 0),
+    }
+}
+
+// A packet is taken in a state of its size.
+fn take_packet(
+    state: &mut [u8],
+    t: usize,
+    client: usize,
+    writers: &[u8; 32],
+    keys: &[[u8; 32]; 13],
+    packet: &[u8],
+    out: &mut [u8],
+) -> u64
+    requires { ⌜ length (now state) ≡ clientSize ⌝ }
+    ensures { λ r. ⌜ record { answer = r; state = now (state .exit); output = now (out .exit) }
+        ≡ tookIn (now (state .entry)) (clientTake real t client (now (writers .entry)) (now (keys .entry)) (callAt (now (state .entry))) (keptOf (now (state .entry))) (now (packet .entry)) (now (out .entry))) ⌝ }
+{
+    let call = state::read(state);
+    let at = KEPT;
+    let s = client::taking::take_in(
+        call,
+        &mut state[at..],
+        t,
+        client,
+        writers,
+        keys,
+        packet,
+        out,
+    );
+    put_call(state, s.call);
+    let a = s.taken;
+    taken(a)
+}
+
+#[no_mangle]
+pub extern "C" fn cendrulas_client_take(
+    state: &mut [u8],
+    t: usize,
+    client: usize,
+    writers: &[u8],
+    keys: &[u8],
+    packet: &[u8],
+    out: &mut [u8],
+) -> u64
+    ensures { λ r. ⌜ record { answer = r; state = now (state .exit); output = now (out .exit) }
+        ≡ takeIn (now (state .entry)) t client (now (writers .entry)) (now (keys .entry)) (now (packet .entry)) (now (out .entry)) ⌝ }
+{
+    if state.len() != CLIENT {
+        return pack(255, 0, 0, 0);
+    }
+    if writers.len() != 32 {
+        return pack(255, 0, 0, 0);
+    }
+    if keys.len() != KEYS {
+        return pack(255, 0, 0, 0);
+    }
+    let w = array(writers);
+    let k = super::keys::keys_of(keys);
+    take_packet(state, t, client, &w, &k, packet, out)
+}

@@ -1,0 +1,54 @@
+// The server over its lent memory.
+use super::pack::array;
+use super::pack::pack;
+ghost use mathlib.Core.Path.{_≡_};
+ghost use Prim.Native.Nat.{_≤_};
+ghost use lib.Dec.{ltb};
+ghost use Rattle.cluster.specs.Ranges.{packetRoom};
+ghost use Rattle.protocol.specs.Primitives.{real};
+ghost use Rattle.protocol.specs.ServerBytes.{blankStep, serverTake};
+ghost use Rattle.embed.specs.Packing.{packed};
+ghost use Rattle.embed.specs.Servers.{servedOut, takeBy};
+
+#[no_mangle]
+pub extern "C" fn cendrulas_server_blank(memory: &mut [u8], t: usize, server: usize) -> u64
+    ensures { λ r. ⌜ r ≡ packed (blankStep (now (memory .entry)) t server .result .number) 0 0 0 ⌝ }
+    ensures { λ _. ⌜ now (memory .exit) ≡ blankStep (now (memory .entry)) t server .memory ⌝ }
+{
+    let o = server::blank::blank(memory, t, server);
+    pack(o.number, 0, 0, 0)
+}
+
+// No more than a packet needs is lent on, so that a count fits its 16 bits.
+pub(crate) fn lent(room: usize) -> usize
+    ensures { λ r. ⌜ (r ≤ room) × ((r ≤ packetRoom) × (ltb room packetRoom ≡ ltb r packetRoom)) ⌝ }
+{
+    if room < cluster::PACKET_ROOM {
+        return room;
+    }
+    cluster::PACKET_ROOM
+}
+
+fn serve(memory: &mut [u8], key: [u8; 32], packet: &[u8], out: &mut [u8]) -> u64
+    ensures { λ r. ⌜ record { answer = r; memory = now (memory .exit); output = now (out .exit) } ≡ servedOut (serverTake real (now (memory .entry)) key (now (packet .entry)) (now (out .entry))) ⌝ }
+{
+    let n = lent(out.len());
+    let o = server::take::take(memory, &key, packet, &mut out[..n]);
+    let count = o.count;
+    pack(o.number, 0, 0, count as u16)
+}
+
+#[no_mangle]
+pub extern "C" fn cendrulas_server_take(
+    memory: &mut [u8],
+    key: &[u8],
+    packet: &[u8],
+    out: &mut [u8],
+) -> u64
+    ensures { λ r. ⌜ record { answer = r; memory = now (memory .exit); output = now (out .exit) } ≡ takeBy (now (memory .entry)) (now (key .entry)) (now (packet .entry)) (now (out .entry)) ⌝ }
+{
+    if key.len() != 32 {
+        return pack(255, 0, 0, 0);
+    }
+    serve(memory, array(key), packet, out)
+}

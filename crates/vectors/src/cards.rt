@@ -1,0 +1,105 @@
+// The bench cards that are run: a history that is full, and the lengths of a content.
+use libc::STDOUT_FILENO;
+
+// Bytes of a fragment of the longest content at t = 1, and of its store: head, stamp, length, fragment, 4 digests, nonce digest, 4 tags.
+const FRAGMENT: usize = cluster::TOP_LENGTH / 2;
+
+const STORE: usize = wire::sizes::HEAD
+    + wire::sizes::STAMP
+    + 2
+    + FRAGMENT
+    + 4 * wire::sizes::DIGEST
+    + wire::sizes::DIGEST
+    + 4 * hmac::TAG;
+
+// A card's name, what was answered, and whether that is what the card says.
+fn show(name: &[u8], got: u64, card: u64) {
+    io::write_all(STDOUT_FILENO, name);
+    io::print_decimal(STDOUT_FILENO, got);
+    if got == card {
+        io::write_all(STDOUT_FILENO, b" right\n");
+    } else {
+        io::write_all(STDOUT_FILENO, b" wrong\n");
+    }
+}
+
+// A store by client 1 to server 1 at t = 1, with the stamp of a number. Store tests no tag and no digest, so that these are zeros.
+fn put_store(packet: &mut [u8], number: u32) {
+    let head = protocol::Head {
+        kind: 3,
+        client: 1,
+        server: 1,
+        t: 1,
+        call: 1,
+    };
+    let a = wire::make::put_head(packet, 0, head);
+    let stamp = protocol::Stamp::new(number, 1, [0; hmac::TAG]);
+    let b = wire::make::put_stamp(packet, a, stamp);
+    wire::make::put_number2(packet, b, cluster::TOP_LENGTH as u16);
+}
+
+// The byte with which the server replies to a store; for one that is refused 100 and the refusal.
+fn answer(memory: &mut [u8], number: u32) -> u64 {
+    let mut packet = [0u8; STORE];
+    put_store(&mut packet, number);
+    let mut out = [0u8; cluster::PACKET_ROOM];
+    let key = [1u8; 32];
+    let taken = server::take::take(memory, &key, &packet, &mut out);
+    if taken.number != 0 {
+        return 100 + (taken.number as u64);
+    }
+    wire::bytes::byte_at(&out, wire::sizes::HEAD) as u64
+}
+
+// Stores of the stamps 1 to 32: how many the server keeps.
+fn fill(memory: &mut [u8]) -> u64 {
+    let mut kept = 0;
+    let mut i = 0;
+    while i < 32 {
+        i += 1;
+        if answer(memory, i) == 0 {
+            kept += 1;
+        }
+    }
+    kept
+}
+
+// 32 stored: the next is answered 11, and a held stamp 10, be it the first or the last.
+fn history() {
+    let mut memory = [0u8; cluster::MEMORY];
+    server::blank::blank(&mut memory, 1, 1);
+    show(b"stored: ", fill(&mut memory), 32);
+    show(b"store 33: ", answer(&mut memory, 33), 11);
+    show(b"store 1 again: ", answer(&mut memory, 1), 10);
+    show(b"store 32 again: ", answer(&mut memory, 32), 10);
+}
+
+// What a new client, a writer, answers to the begin of a write of n bytes.
+fn begun(n: usize) -> u64 {
+    let content = [7u8; cluster::TOP_LENGTH];
+    let mut kept = [0u8; client::kept::KEPT];
+    let nonce = [5u8; 32];
+    let started = client::begin::begin_write_in(
+        client::NEW,
+        &mut kept,
+        1,
+        1,
+        wire::bytes::part(&content, 0, n),
+        &nonce,
+    );
+    let taken = started.taken;
+    taken.number as u64
+}
+
+// A content of no byte is refused with 6, the shortest and the longest are accepted.
+fn lengths() {
+    show(b"length 0: ", begun(0), 6);
+    show(b"length 1: ", begun(1), 0);
+    show(b"length 1024: ", begun(1024), 0);
+}
+
+// Each card as a line.
+pub(crate) fn run() {
+    history();
+    lengths();
+}
