@@ -4,8 +4,11 @@
  * definition (crates/embed/specs). A caller owes only what C itself asks: a pointer and a length name memory that is really there, and a
  * buffer that is written overlaps no other argument. Where a length is 0 the pointer may be anything but NULL.
  *
- * Words: t is the number of servers that may lie, 1 to 4; there are S = 3t+1 servers, numbered from 1; a content has 1 to 1,024 bytes.
- * Document 01 says box for server and record for content.
+ * Words: t is the number of servers that may lie, 1 to 4; there are S = 3t+1 servers, numbered from 1; clients are 1 to 16, and only 1 to 8 write;
+ * a content has 1 to 1,024 bytes. Document 01 says box for server and record for content.
+ *
+ * The library keeps nothing between calls and has no global state: a server is the bytes that it is lent, a client likewise. docs/EMBEDDING.md
+ * says how to use it, with a whole example in C.
  */
 #ifndef CENDRULAS_H
 #define CENDRULAS_H
@@ -17,6 +20,16 @@
 extern "C" {
 #endif
 
+/* Bytes of what is lent. A packet and a content need so much output, however short they are. */
+#define CENDRULAS_SERVER_MEMORY 40960u
+#define CENDRULAS_CLIENT_STATE 24640u
+#define CENDRULAS_PACKET_ROOM 6400u
+#define CENDRULAS_CONTENT_ROOM 1024u
+#define CENDRULAS_FRAGMENT_ROOM 512u
+#define CENDRULAS_KEY 32u
+#define CENDRULAS_KEYS 416u /* the keys of servers 1 to 13, one after the other, whatever t is */
+#define CENDRULAS_NONCE 32u
+
 /* An answer is one number:
  *
  *   bits 56 to 63   refusal: 0 where the call was accepted, else document 01's number, or 255 (below)
@@ -27,12 +40,20 @@ extern "C" {
  * A refused call answers its refusal with all other parts 0 and writes nothing. Bytes of `out` past the count are never written.
  * If several refusals apply, the one that stands first in the function's list is given.
  *
- * Refusal 255 stands in no document: an argument of fixed size (a key, for instance) was lent with another length.
+ * Refusal 255 stands in no document: a key, a nonce or a client's state was lent with another length than its size. It is tested before all others.
  */
 static inline unsigned cendrulas_refusal(uint64_t answer) { return (unsigned)(answer >> 56); }
 static inline unsigned cendrulas_result(uint64_t answer) { return (unsigned)(answer >> 48) & 0xFFu; }
 static inline uint32_t cendrulas_number(uint64_t answer) { return (uint32_t)(answer >> 16); }
 static inline size_t cendrulas_count(uint64_t answer) { return (size_t)(answer & 0xFFFFu); }
+
+/* Results: what a client's step led to, with refusal 0. The last two are of giving up. */
+#define CENDRULAS_GOES_ON 0u
+#define CENDRULAS_WRITTEN 1u
+#define CENDRULAS_READ 2u
+#define CENDRULAS_BLANK 3u
+#define CENDRULAS_ABORTED 4u
+#define CENDRULAS_ABORTED_IN_COMPLETE 5u
 
 /* SHA-256 (FIPS 180-4) of the message.
  * Refusals: 15 where out_len < 32. Writes the 32 bytes of the digest; count 32. */
@@ -59,6 +80,60 @@ uint64_t cendrulas_restore(size_t t, size_t length, const uint8_t *servers, size
 
 /* Whether bytes are a packet. 7 where they break the layout. Writes nothing; count 0. */
 uint64_t cendrulas_packet_check(const uint8_t *packet, size_t packet_len);
+
+/* ---- A server: 40,960 bytes that it is lent with every call, and its key. */
+
+/* Makes a blank server of any 40,960 bytes. What they held is gone.
+ * Refusals: 1 where memory_len is not 40,960; 3 where t is outside 1 to 4; 4 where server is outside 1 to 3t+1.
+ * Writes all of the memory; count 0. */
+uint64_t cendrulas_server_blank(uint8_t *memory, size_t memory_len, size_t t, size_t server);
+
+/* The server takes a client's packet and replies.
+ * Refusals: 255 where key_len is not 32; 1 where memory_len is not 40,960; 2 where the memory is no server's;
+ * 7 where the packet breaks the layout; 8 where its t or its server is not this one's; 9 where it is a reply, or the client may not send it;
+ * 15 where out_len < 6,400. Changes the memory as the protocol says and writes the reply; count its length. */
+uint64_t cendrulas_server_take(uint8_t *memory, size_t memory_len, const uint8_t *key, size_t key_len,
+                               const uint8_t *packet, size_t packet_len, uint8_t *out, size_t out_len);
+
+/* ---- A client: a state of 24,640 bytes that it is lent with every call. All 00h is a new client. One call is in hand at a time.
+ * t and client are those of this client in every call; every value of the bytes has a meaning, so no state is refused. */
+
+/* Begins a write. The nonce has 32 bytes that nobody can guess and that no other write of the shelf gets.
+ * Refusals: 255 where state_len is not 24,640 or nonce_len is not 32; 3 where t is outside 1 to 4; 5 where client is outside 1 to 8;
+ * 6 where content_len is outside 1 to 1,024; 13 where a call is in hand; 14 where the call numbers are used up.
+ * Changes the state; content and nonce are kept there. Count 0. */
+uint64_t cendrulas_client_begin_write(uint8_t *state, size_t state_len, size_t t, size_t client,
+                                      const uint8_t *content, size_t content_len,
+                                      const uint8_t *nonce, size_t nonce_len);
+
+/* Begins a read.
+ * Refusals: 255 where state_len is not 24,640; 3 where t is outside 1 to 4; 5 where client is outside 1 to 16; 13 where a call is in hand;
+ * 14 where the call numbers are used up. Changes the state; count 0. */
+uint64_t cendrulas_client_begin_read(uint8_t *state, size_t state_len, size_t t, size_t client);
+
+/* The packet of the current round for a server. It can be made again, for any server, as often as is useful.
+ * Refusals: 255 where state_len is not 24,640; 3 where t is outside 1 to 4; 4 where server is outside 1 to 3t+1; 5 where client is outside 1 to 16;
+ * 13 where no call is in hand; 15 where out_len < 6,400. Writes the packet; count its length. */
+uint64_t cendrulas_client_make(const uint8_t *state, size_t state_len, size_t t, size_t client, size_t server,
+                               uint8_t *out, size_t out_len);
+
+/* The client takes a server's reply. `writers` is the writers' key, `keys` the keys of servers 1 to 13 one after the other; they are used
+ * only by a write's first round, so a client that only reads lends any bytes.
+ * Refusals: 255 where state_len is not 24,640, writers_len is not 32 or keys_len is not 416; 3 where t is outside 1 to 4; 5 where client is outside
+ * 1 to 16; 7 where the packet breaks the layout; 8 where its t or its client is not this one's; 13 where no call is in hand; 12 where it is no
+ * reply of this call and round, or this server has replied in it; 14 where it would end the first round and the stamps' numbers are used up;
+ * 15 where out_len < 1,024, whatever the reply. Changes the state.
+ * Results: 0 the call goes on; 1 written, with the stamp's number; 2 read, with the stamp's number, the content at the front of `out` and its
+ * length as count; 3 read blank: no write stands before this read. With 1, 2 and 3 the call has ended. */
+uint64_t cendrulas_client_take(uint8_t *state, size_t state_len, size_t t, size_t client,
+                               const uint8_t *writers, size_t writers_len, const uint8_t *keys, size_t keys_len,
+                               const uint8_t *packet, size_t packet_len, uint8_t *out, size_t out_len);
+
+/* Gives up the call in hand.
+ * Refusals: 255 where state_len is not 24,640; 3 where t is outside 1 to 4; 5 where client is outside 1 to 16; 13 where no call is in hand.
+ * Changes the state; count 0. Results: 4 a read, or a write before its last round, whose content is then never read; 5 a write in its last
+ * round: a later read may give its content or not. */
+uint64_t cendrulas_client_give_up(uint8_t *state, size_t state_len, size_t t, size_t client);
 
 #ifdef __cplusplus
 }

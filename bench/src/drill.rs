@@ -14,7 +14,7 @@ pub fn rows(table: &mut Table) {
             &format!("drill, a line of {name}, t = 1"),
             lines,
             || timed(|| assert_eq!(cendrulas::drill(black_box(&sheet), &mut out, &mut work).count, (lines - 1) * LISTING_LINE)),
-            || timed(|| drop(shelf::drill::drill(black_box(&sheet), &mut plain_out, &mut plain_work))),
+            || timed(|| assert!(shelf::drill::drill(black_box(&sheet), &mut plain_out, &mut plain_work).is_ok())),
         );
         assert!(out == plain_out, "the listings of {name} lines differ");
     }

@@ -73,11 +73,19 @@ fn stores(table: &mut Table, writes: &Writes) {
         WRITES,
         || {
             let mut memory = blank.clone();
-            timed(|| writes.stores.iter().for_each(|packet| drop(cendrulas::server_take(&mut memory, &KEY, black_box(packet), &mut out))))
+            timed(|| {
+                for packet in &writes.stores {
+                    black_box(cendrulas::server_take(&mut memory, &KEY, black_box(packet), &mut out));
+                }
+            })
         },
         || {
             let mut memory = blank.clone();
-            timed(|| writes.stores.iter().for_each(|packet| drop(boxes::take(&mut memory, &KEY, black_box(packet), &mut plain_out))))
+            timed(|| {
+                for packet in &writes.stores {
+                    boxes::take(&mut memory, &KEY, black_box(packet), &mut plain_out).expect("a legal packet");
+                }
+            })
         },
     );
 }

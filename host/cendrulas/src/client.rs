@@ -1,15 +1,80 @@
-//! The client over its lent state.
+//! The client over its lent state, and a client that keeps its own.
 
 use crate::abi;
 use crate::Answer;
 
 /// Bytes of a client's state; all 00h is a new client.
 pub const CLIENT_STATE: usize = 24_640;
+/// Bytes of the keys of servers 1 to 13.
+pub const SERVER_KEYS: usize = 13 * 32;
+
+pub fn client_begin_write(state: &mut [u8], t: usize, client: usize, content: &[u8], nonce: &[u8]) -> Answer {
+    // SAFETY: pointers and lengths are those of live slices, and the state is lent alone.
+    Answer::unpack(unsafe {
+        abi::cendrulas_client_begin_write(
+            state.as_mut_ptr(),
+            state.len(),
+            t,
+            client,
+            content.as_ptr(),
+            content.len(),
+            nonce.as_ptr(),
+            nonce.len(),
+        )
+    })
+}
+
+pub fn client_begin_read(state: &mut [u8], t: usize, client: usize) -> Answer {
+    // SAFETY: as in `client_begin_write`.
+    Answer::unpack(unsafe { abi::cendrulas_client_begin_read(state.as_mut_ptr(), state.len(), t, client) })
+}
+
+/// The current round's packet for a server, to the front of `out`.
+pub fn client_make(state: &[u8], t: usize, client: usize, server: usize, out: &mut [u8]) -> Answer {
+    // SAFETY: as in `client_begin_write`; `out` is lent alone.
+    Answer::unpack(unsafe {
+        abi::cendrulas_client_make(state.as_ptr(), state.len(), t, client, server, out.as_mut_ptr(), out.len())
+    })
+}
+
+/// Takes a packet; a content that was read stands at the front of `out`.
+pub fn client_take(
+    state: &mut [u8],
+    t: usize,
+    client: usize,
+    writers: &[u8],
+    keys: &[u8],
+    packet: &[u8],
+    out: &mut [u8],
+) -> Answer {
+    // SAFETY: as in `client_make`.
+    Answer::unpack(unsafe {
+        abi::cendrulas_client_take(
+            state.as_mut_ptr(),
+            state.len(),
+            t,
+            client,
+            writers.as_ptr(),
+            writers.len(),
+            keys.as_ptr(),
+            keys.len(),
+            packet.as_ptr(),
+            packet.len(),
+            out.as_mut_ptr(),
+            out.len(),
+        )
+    })
+}
+
+pub fn client_give_up(state: &mut [u8], t: usize, client: usize) -> Answer {
+    // SAFETY: as in `client_begin_write`.
+    Answer::unpack(unsafe { abi::cendrulas_client_give_up(state.as_mut_ptr(), state.len(), t, client) })
+}
 
 /// The writers' key, and the keys of servers 1 to 13 one after the other.
 pub struct Keys {
     pub writers: [u8; 32],
-    pub servers: [u8; 13 * 32],
+    pub servers: [u8; SERVER_KEYS],
 }
 
 /// A client that keeps its own state.
@@ -26,69 +91,24 @@ impl Client {
     }
 
     pub fn begin_write(&mut self, content: &[u8], nonce: &[u8; 32]) -> Answer {
-        // SAFETY: pointers and lengths are those of live slices, and the state is lent alone.
-        Answer::unpack(unsafe {
-            abi::cendrulas_client_begin_write(
-                self.state.as_mut_ptr(),
-                self.state.len(),
-                self.t,
-                self.number,
-                content.as_ptr(),
-                content.len(),
-                nonce.as_ptr(),
-                nonce.len(),
-            )
-        })
+        client_begin_write(&mut self.state, self.t, self.number, content, nonce)
     }
 
     pub fn begin_read(&mut self) -> Answer {
-        // SAFETY: as in `begin_write`.
-        Answer::unpack(unsafe {
-            abi::cendrulas_client_begin_read(self.state.as_mut_ptr(), self.state.len(), self.t, self.number)
-        })
+        client_begin_read(&mut self.state, self.t, self.number)
     }
 
     /// The current round's packet for a server, to the front of `out`.
     pub fn make(&self, server: usize, out: &mut [u8]) -> Answer {
-        // SAFETY: as in `begin_write`; `out` is lent alone.
-        Answer::unpack(unsafe {
-            abi::cendrulas_client_make(
-                self.state.as_ptr(),
-                self.state.len(),
-                self.t,
-                self.number,
-                server,
-                out.as_mut_ptr(),
-                out.len(),
-            )
-        })
+        client_make(&self.state, self.t, self.number, server, out)
     }
 
     /// Takes a packet; a content that was read stands at the front of `out`.
     pub fn take(&mut self, keys: &Keys, packet: &[u8], out: &mut [u8]) -> Answer {
-        // SAFETY: as in `make`.
-        Answer::unpack(unsafe {
-            abi::cendrulas_client_take(
-                self.state.as_mut_ptr(),
-                self.state.len(),
-                self.t,
-                self.number,
-                keys.writers.as_ptr(),
-                keys.writers.len(),
-                keys.servers.as_ptr(),
-                keys.servers.len(),
-                packet.as_ptr(),
-                packet.len(),
-                out.as_mut_ptr(),
-                out.len(),
-            )
-        })
+        client_take(&mut self.state, self.t, self.number, &keys.writers, &keys.servers, packet, out)
     }
 
     pub fn give_up(&mut self) -> Answer {
-        // SAFETY: as in `begin_write`.
-        Answer::unpack(unsafe {
-            abi::cendrulas_client_give_up(self.state.as_mut_ptr(), self.state.len(), self.t, self.number)
-        })
+        client_give_up(&mut self.state, self.t, self.number)
     }
 }

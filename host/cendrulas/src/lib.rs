@@ -4,6 +4,13 @@
 mod abi;
 mod answer;
 mod digest;
+
+/// Bytes of a server's memory.
+pub const SERVER_MEMORY: usize = 40_960;
+/// Bytes of output that a packet and a content ask for, however short they are.
+pub const PACKET_ROOM: usize = 6_400;
+pub const CONTENT_ROOM: usize = 1_024;
+
 pub use answer::Answer;
 pub use digest::{digest, tag};
 
@@ -25,7 +32,9 @@ pub use server::{server_blank, server_take};
 #[cfg(feature = "client")]
 mod client;
 #[cfg(feature = "client")]
-pub use client::{Client, Keys, CLIENT_STATE};
+pub use client::{
+    client_begin_read, client_begin_write, client_give_up, client_make, client_take, Client, Keys, CLIENT_STATE, SERVER_KEYS,
+};
 
 #[cfg(feature = "drill")]
 mod drill;

@@ -1,5 +1,6 @@
 //! What was compared so far, and what a difference prints.
 
+use crate::kinds::Kinds;
 use std::fmt::Debug;
 use std::time::Instant;
 
@@ -9,6 +10,7 @@ pub const FILLER: u8 = 0xA5;
 pub struct Run {
     inputs: u64,
     begun: Instant,
+    pub kinds: Kinds,
 }
 
 /// A call as its caller sees it: the answer, and every lent buffer after the call.
@@ -19,7 +21,7 @@ pub struct Seen<'a, A> {
 
 impl Run {
     pub fn new() -> Self {
-        Run { inputs: 0, begun: Instant::now() }
+        Run { inputs: 0, begun: Instant::now(), kinds: Kinds::default() }
     }
 
     /// How many inputs were compared so far.
@@ -28,16 +30,24 @@ impl Run {
         self.inputs
     }
 
-    /// Runs one group of comparisons and says how many inputs it had.
+    /// Runs one group of comparisons and says how many inputs it had; a group of none compares nothing.
     pub fn group(&mut self, name: &str, compare: impl FnOnce(&mut Run)) {
         let before = self.inputs;
         compare(self);
+        if self.inputs == before {
+            fail(name, "no input");
+        }
         println!("{name:<24} {:>8} inputs agree", self.inputs - before);
     }
 
     /// Counts an input; ends the run if the two differ.
     pub fn same<A: PartialEq + Debug>(&mut self, input: impl Fn() -> String, got: Seen<A>, want: Seen<A>) {
         self.inputs += 1;
+        self.also(input, got, want);
+    }
+
+    /// A second comparison of the same input.
+    pub fn also<A: PartialEq + Debug>(&mut self, input: impl Fn() -> String, got: Seen<A>, want: Seen<A>) {
         if got.answer != want.answer {
             fail(&input(), &format!("got  {:?}\nwant {:?}", got.answer, want.answer));
         }
@@ -51,6 +61,9 @@ impl Run {
 
     pub fn end(self) {
         println!("{:<24} {:>8} inputs agree, {:.1} s", "all", self.inputs, self.begun.elapsed().as_secs_f64());
+        if let Err(missing) = self.kinds.end() {
+            fail("the kinds of answers", &missing);
+        }
     }
 }
 

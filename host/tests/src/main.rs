@@ -3,6 +3,9 @@
 //! with status 1.
 
 mod check;
+mod kinds;
+#[cfg(feature = "client")]
+mod model;
 mod plain;
 mod random;
 mod text;
@@ -16,6 +19,7 @@ fn main() {
     let mut run = Run::new();
     let parts = [
         ("coding", cfg!(feature = "coding")),
+        ("wire", cfg!(feature = "wire")),
         ("server", cfg!(feature = "server")),
         ("client", cfg!(feature = "client")),
         ("drill", cfg!(feature = "drill")),

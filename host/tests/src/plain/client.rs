@@ -7,10 +7,11 @@ use shelf::Refusal;
 pub struct Client(client::Client);
 
 impl Client {
-    pub fn new(t: usize, number: usize, keys: &Keys) -> Self {
+    /// It has begun as many calls, and has none in hand.
+    pub fn new(t: usize, number: usize, keys: &Keys, calls: u32) -> Self {
         let servers = std::array::from_fn(|i| keys.servers[32 * i..32 * (i + 1)].try_into().expect("32 bytes"));
         let keys = client::Keys::new(&keys.writers, &servers);
-        Client(client::Client::new(narrow(t), narrow(number), Some(keys)).expect("legal"))
+        Client(client::Client::new(narrow(t), narrow(number), Some(keys)).expect("legal").after(calls))
     }
 
     pub fn begin_write(&mut self, content: &[u8], nonce: &[u8; 32]) -> Answer {

@@ -2,6 +2,7 @@
 
 use super::source::Source;
 use crate::check::{Run, Seen, FILLER};
+use crate::kinds::plainly;
 use crate::plain;
 use crate::text::hex;
 use shelf::fragments;
@@ -37,6 +38,7 @@ fn fragment(run: &mut Run, t: usize, server: usize, content: &[u8], room: usize)
         Seen { answer: answers.0, buffers: &[&got] },
         Seen { answer: answers.1, buffers: &[&want] },
     );
+    run.kinds.saw("fragment", plainly(&answers.0));
 }
 
 fn restore(run: &mut Run, source: &mut Source, t: usize, content: &[u8], room: usize) {
@@ -52,6 +54,7 @@ fn restore(run: &mut Run, source: &mut Source, t: usize, content: &[u8], room: u
         Seen { answer: answers.0, buffers: &[&got] },
         Seen { answer: answers.1, buffers: &[&want] },
     );
+    run.kinds.saw("restore", plainly(&answers.0));
 }
 
 /// Servers drawn with repetitions, and a fragment for each: its own, or any bytes, at times one too few.

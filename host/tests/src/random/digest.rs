@@ -2,6 +2,7 @@
 
 use super::source::Source;
 use crate::check::{Run, Seen, FILLER};
+use crate::kinds::plainly;
 use crate::plain;
 use crate::text::hex;
 
@@ -30,6 +31,7 @@ fn digest(run: &mut Run, message: &[u8], room: usize) {
         Seen { answer: answers.0, buffers: &[&got] },
         Seen { answer: answers.1, buffers: &[&want] },
     );
+    run.kinds.saw("digest", plainly(&answers.0));
 }
 
 fn tag(run: &mut Run, key: &[u8], message: &[u8], room: usize) {
@@ -40,4 +42,5 @@ fn tag(run: &mut Run, key: &[u8], message: &[u8], room: usize) {
         Seen { answer: answers.0, buffers: &[&got] },
         Seen { answer: answers.1, buffers: &[&want] },
     );
+    run.kinds.saw("tag", plainly(&answers.0));
 }

@@ -3,6 +3,7 @@
 use super::source::Source;
 use crate::check::{Run, Seen, FILLER};
 use crate::plain;
+use shelf::drill::LISTING_LINE;
 use shelf::WORK_AREA;
 
 pub fn all(run: &mut Run, source: &mut Source, inputs: usize) {
@@ -21,24 +22,35 @@ pub fn all(run: &mut Run, source: &mut Source, inputs: usize) {
             Seen { answer, buffers: &[&got, ours] },
             Seen { answer: plain, buffers: &[&want, plains] },
         );
+        run.kinds.saw("drill", if answer.refusal == 0 { "accepted".into() } else { format!("refused {}", answer.refusal) });
+        for line in got[..answer.count].chunks_exact(LISTING_LINE) {
+            let result = std::str::from_utf8(&line[32..40]).expect("text").trim_start();
+            run.kinds.saw("line of a listing", result.into());
+        }
     }
 }
 
+/// Stretches of a step that begins, ends or blanks something and then visits, mostly by one client.
 fn sheet(source: &mut Source) -> Vec<u8> {
     let t = if source.once_in(20) { source.below(7) } else { source.within(1, 4) };
+    let servers = 3 * t.clamp(1, 4) + 1;
     let mut sheet = line(0, t, 0, 0, 0);
     let clients = [1, 2, source.within(3, 8), source.within(9, 16)];
-    for _ in 0..source.below(150) {
+    for _ in 0..source.below(12) {
         let client = if source.once_in(40) { source.below(20) } else { *source.pick(&clients) };
-        let server = if source.once_in(40) { source.below(16) } else { source.within(1, 3 * t.clamp(1, 4) + 1) };
-        sheet.extend(match source.below(40) {
+        let server = if source.once_in(20) { source.below(16) } else { source.within(1, servers) };
+        sheet.extend(match source.below(10) {
             0 => line(4, 0, server, 0, 0),
             1 => line(5, client, 0, 0, 0),
-            2..=4 => line(1, client, 0, length(source), source.below(256)),
-            5..=7 => line(2, client, 0, 0, 0),
-            8 if source.once_in(40) => odd_line(source),
-            _ => line(3, client, server, 0, 0),
+            2..=5 => line(1, client, 0, length(source), source.below(256)),
+            6 if source.once_in(40) => odd_line(source),
+            _ => line(2, client, 0, 0, 0),
         });
+        for k in 0..source.below(4 * servers) {
+            let client = if source.once_in(10) { *source.pick(&clients) } else { client };
+            let server = if source.once_in(40) { source.below(16) } else { 1 + (server + k) % servers };
+            sheet.extend(line(3, client, server, 0, 0));
+        }
     }
     if source.once_in(10) {
         spoil(source, &mut sheet);

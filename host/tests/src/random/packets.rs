@@ -39,17 +39,26 @@ impl World {
     /// A packet of any kind for a server; mostly well formed and allowed, at times with one byte changed.
     pub fn packet(&self, source: &mut Source, server: u8) -> Vec<u8> {
         let kind = if source.once_in(20) { source.below(14) as u8 } else { *source.pick(&[1, 3, 3, 3, 5, 7, 9, 9, 9, 11]) };
+        self.of_kind(source, server, kind)
+    }
+
+    /// A packet of a kind; the replies that may carry a blank do so at times.
+    pub fn of_kind(&self, source: &mut Source, server: u8, kind: u8) -> Vec<u8> {
         let write = source.pick(&self.writes);
         let client = if source.once_in(20) { source.below(18) as u8 } else { write.stamp[4] };
         let call = if source.once_in(20) { source.word() as u32 } else { source.within(1, 9) as u32 };
         let mut bytes = vec![kind, client, server, self.t];
         bytes.extend(call.to_be_bytes());
         match kind {
+            2 if source.once_in(4) => bytes.extend([0; 37]),
+            8 if source.once_in(4) => bytes.extend(vec![0; write.candidate.len()]),
+            10 if source.once_in(4) => bytes.extend([0; 38]),
             2 => bytes.extend(write.stamp),
             3 => bytes.extend([&write.stamp[..], &write.entry].concat()),
             4 => bytes.push(*source.pick(&[0, 10, 11, 12])),
             5 | 8 | 11 => bytes.extend(self.candidate(source, write)),
             9 => bytes.extend(self.list(source)),
+            10 if source.once_in(3) => bytes.extend([&write.stamp[..], &[0]].concat()),
             10 => bytes.extend([&write.stamp[..], &[1], &write.entry].concat()),
             _ => {}
         }

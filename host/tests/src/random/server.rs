@@ -4,6 +4,7 @@ use super::damage::{change, damage};
 use super::packets::World;
 use super::source::Source;
 use crate::check::{Run, Seen, FILLER};
+use crate::kinds::{plainly, reply};
 use crate::plain;
 use crate::text::hex;
 
@@ -31,12 +32,13 @@ fn one(run: &mut Run, source: &mut Source, world: &World, server: u8, memory: &m
         damage(source, &mut packet);
     }
     let room = if source.once_in(20) { *source.pick(&[0, 6_399, 7_000]) } else { 6_400 };
+    let key = &[server; 33][..if source.once_in(100) { *source.pick(&[0, 31, 33]) } else { 32 }];
     if source.once_in(8) {
         let mut injured = memory.clone();
         injure(source, &mut injured);
-        step(run, &mut injured, server, &packet, room);
+        step(run, &mut injured, key, &packet, room);
     } else {
-        step(run, memory, server, &packet, room);
+        step(run, memory, key, &packet, room);
     }
 }
 
@@ -58,18 +60,18 @@ fn injure(source: &mut Source, memory: &mut Vec<u8>) {
     }
 }
 
-fn step(run: &mut Run, memory: &mut Vec<u8>, server: u8, packet: &[u8], room: usize) {
+fn step(run: &mut Run, memory: &mut Vec<u8>, key: &[u8], packet: &[u8], room: usize) {
     let before = memory.clone();
     let mut plain_memory = before.clone();
     let (mut got, mut want) = (vec![FILLER; room], vec![FILLER; room]);
-    let key = [server; 32];
-    let answer = cendrulas::server_take(memory, &key, packet, &mut got);
-    let plain = plain::server_take(&mut plain_memory, &key, packet, &mut want);
+    let answer = cendrulas::server_take(memory, key, packet, &mut got);
+    let plain = plain::server_take(&mut plain_memory, key, packet, &mut want);
     run.same(
-        || format!("server {server} takes {}, room {room}, memory {}", hex(packet), hex(&before)),
+        || format!("server with key {} takes {}, room {room}, memory {}", hex(key), hex(packet), hex(&before)),
         Seen { answer, buffers: &[memory, &got] },
         Seen { answer: plain, buffers: &[&plain_memory, &want] },
     );
+    run.kinds.saw("server takes", reply(&answer, &got));
 }
 
 fn blank(run: &mut Run, memory: &mut [u8], t: usize, server: usize) {
@@ -81,6 +83,7 @@ fn blank(run: &mut Run, memory: &mut [u8], t: usize, server: usize) {
         Seen { answer, buffers: &[memory] },
         Seen { answer: plain, buffers: &[&plain_memory] },
     );
+    run.kinds.saw("server is made blank", plainly(&answer));
 }
 
 fn refused_blank(run: &mut Run, source: &mut Source, memory: &[u8]) {

@@ -1,0 +1,16 @@
+pub mod Numbers
+pub mod Parsed
+pub mod Split
+pub mod Printed
+pub mod Lending
+pub mod Slots
+pub mod Standing
+pub mod Memories
+pub mod Visiting
+pub mod Stepping
+pub mod Turning
+pub mod Beginning
+pub mod Running
+pub mod Listed
+pub mod Answers
+pub mod Examples

@@ -1,0 +1,24 @@
+-- A row of eight values. Assumes nothing.
+use Rattle.drill.specs.Listing.{stepRow}
+use borrow.Author.Needs.{needs}
+use Rattle.drill.proofs.rows.put_step.Statement.{statement}
+use Rattle.drill.proofs.rows.put_step.Tie as tie
+use Rattle.drill.proofs.rows.put_step.Reads as reads
+use Rattle.drill.proofs.rows.put_step.Lts as lts
+use Rattle.drill.proofs.rows.put_row.Reads as put-row-reads
+
+-- src/rows.rt:67:5
+put-row-requires : tie.Need-put-row-requires
+put-row-requires c κs = search needs
+
+-- src/rows.rt:63:1
+same-length : tie.Need-same-length
+same-length c = search needs
+
+-- src/rows.rt:63:1
+returns : tie.Need-returns
+unfolding stepRow
+returns c = c .before .before .put-row .ensures
+
+pub put-step-spec : {M : Type 1} → statement M
+put-step-spec = tie.close (tie.spec put-row-requires same-length returns)

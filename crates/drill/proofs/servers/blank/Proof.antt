@@ -1,0 +1,60 @@
+-- The server's step on its memory. Assumes nothing.
+use Rattle.drill.proofs.Slots.{blanks-as}
+use Rattle.protocol.specs.ServerBytes.{blankStep}
+use native.Mathlib.Omega.{arith}
+use Prim.Native.Nat.{_+_, _-_}
+use borrow.Author.Needs.{needs}
+use Rattle.drill.proofs.servers.blank.Statement.{statement}
+use Rattle.drill.proofs.servers.blank.Tie as tie
+use Rattle.drill.proofs.servers.blank.Reads as reads
+use Rattle.drill.proofs.servers.blank.Lts as lts
+use Rattle.drill.proofs.servers.server_at.Reads as server-at-reads
+use Rattle.server.proofs.blank.blank.Reads as blank-reads
+
+-- src/servers.rt:46:9
+server-at-requires : tie.Need-server-at-requires
+server-at-requires c κs = search needs
+
+-- src/servers.rt:47:13
+add-e : tie.Need-add-e
+add-e c = search needs
+
+-- src/servers.rt:48:34
+sub-blank : tie.Need-sub-blank
+sub-blank c = search needs
+
+-- src/servers.rt:48:34
+part-blank-start : tie.Need-part-blank-start
+part-blank-start c = search needs
+
+-- src/servers.rt:48:34
+part-blank-end : tie.Need-part-blank-end
+part-blank-end c = search needs
+
+-- src/servers.rt:48:13
+blank-requires : tie.Need-blank-requires
+blank-requires c κs = search needs
+
+-- src/servers.rt:42:1
+same-length : tie.Need-same-length
+same-length c = search needs
+
+-- src/servers.rt:42:1
+returns : tie.Need-returns
+returns c =
+    let a = c .before .before .before .before .before .before .args in
+    blanks-as (a .work .now) (a .server) (c .before .before .before .before .before .before .pre .0) (c .before .before .before .before .before .before .pre .1) (c .before .before .before .before .server-at .result + 40960 - c .before .before .before .before .server-at .result) (c .before .before .before .before .server-at .ensures .0) (omega arith)
+    (λ z. blankStep z (a .t) (a .server)) (c .before .work .given .0) (c .before .before .blank .ensures)
+
+pub blank-spec : {M : Type 1} → statement M
+blank-spec =
+    tie.close
+    (tie.spec
+    server-at-requires
+    add-e
+    sub-blank
+    part-blank-start
+    part-blank-end
+    blank-requires
+    same-length
+    returns)

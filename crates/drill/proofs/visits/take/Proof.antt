@@ -1,0 +1,95 @@
+-- The client's step on its slot. Assumes nothing.
+use Rattle.drill.specs.Area.{callIn, keptIn}
+use Rattle.protocol.specs.ClientBytes.{clientTake}
+use Rattle.protocol.specs.Primitives.{real}
+use lib.ListN.{replicate}
+use Prim.Native.Nat.{ℕ}
+use mathlib.Core.List.{List}
+use mathlib.Core.Path.{ap, _∙_}
+use Rattle.drill.proofs.Slots.{core-take, takes-as}
+use Rattle.drill.specs.Steps.{drillShelf}
+use Rattle.client.specs.Core.{coreTake}
+use native.Mathlib.Omega.{arith}
+use Prim.Native.Nat.{_+_, _-_}
+use borrow.Author.Needs.{needs}
+use Rattle.drill.proofs.visits.take.Statement.{statement}
+use Rattle.drill.proofs.visits.take.Tie as tie
+use Rattle.drill.proofs.visits.take.Reads as reads
+use Rattle.drill.proofs.visits.take.Lts as lts
+use Rattle.client.proofs.taking.take_in.Reads as take-in-reads
+use Rattle.drill.proofs.area.call_of.Reads as call-of-reads
+use Rattle.drill.proofs.area.kept_at.Reads as kept-at-reads
+use Rattle.drill.proofs.area.put_call.Reads as put-call-reads
+use Rattle.drill.proofs.visits.server_keys.Reads as server-keys-reads
+
+-- src/visits.rt:40:9
+call-of-requires : tie.Need-call-of-requires
+call-of-requires c κs = search needs
+
+-- src/visits.rt:41:9
+kept-at-requires : tie.Need-kept-at-requires
+kept-at-requires c κs = search needs
+
+-- src/visits.rt:42:13
+add-e : tie.Need-add-e
+add-e c = search needs
+
+-- src/visits.rt:44:16
+server-keys-requires : tie.Need-server-keys-requires
+server-keys-requires c κs = search needs
+
+-- src/visits.rt:45:43
+sub-take-in : tie.Need-sub-take-in
+sub-take-in c = search needs
+
+-- src/visits.rt:45:43
+part-take-in-start : tie.Need-part-take-in-start
+part-take-in-start c = search needs
+
+-- src/visits.rt:45:43
+part-take-in-end : tie.Need-part-take-in-end
+part-take-in-end c = search needs
+
+-- src/visits.rt:45:9
+take-in-requires : tie.Need-take-in-requires
+take-in-requires c κs = search needs
+
+-- src/visits.rt:46:5
+put-call-requires : tie.Need-put-call-requires
+put-call-requires c κs = (c .before .before .before .before .before .before .before .before .before .before .before .before .before .before .before .before .before .pre .0, c .before .before .before .before .work .given .1 ∙ c .before .before .before .before .before .before .before .before .before .before .before .before .before .before .before .before .before .pre .1)
+
+-- src/visits.rt:36:1
+same-length : tie.Need-same-length
+same-length c = search needs
+
+-- src/visits.rt:36:1
+same-length-2 : tie.Need-same-length-2
+same-length-2 c = search needs
+
+-- src/visits.rt:36:1
+returns : tie.Need-returns
+unfolding drillShelf
+returns c =
+    let a = c .before .before .before .before .before .before .before .before .before .before .before .before .before .before .before .before .before .before .before .before .args in
+    let w = a .work .now in
+    let K = c .before .before .before .before .before .before .before .before .before .before .before .before .before .server-keys .result in
+    takes-as w (a .client) (c .before .before .before .before .before .before .before .before .before .before .before .before .before .before .before .before .before .before .before .before .pre .0) (c .before .before .before .before .before .before .before .before .before .before .before .before .before .before .before .before .before .before .before .before .pre .1) (λ x y. coreTake (a .t) (a .client) (replicate 32 255) K x y (a .reply .now) (a .out .now)) (clientTake real (a .t) (a .client) (replicate 32 255) (drillShelf 0 .keys) (callIn w (a .client)) (keptIn w (a .client)) (a .reply .now) (a .out .now)) (c .before .before .before .before .before .before .before .before .before .before .before .before .before .before .kept-at .result + 24576 - c .before .before .before .before .before .before .before .before .before .before .before .before .before .before .kept-at .result)
+    (ap (λ (z : List (List ℕ)). coreTake (a .t) (a .client) (replicate 32 255) z (callIn w (a .client)) (keptIn w (a .client)) (a .reply .now) (a .out .now)) (c .before .before .before .before .before .before .before .before .before .before .before .before .before .server-keys .ensures) ∙ core-take w (a .client) (c .before .before .before .before .before .before .before .before .before .before .before .before .before .before .before .before .before .before .before .before .pre .0) (c .before .before .before .before .before .before .before .before .before .before .before .before .before .before .before .before .before .before .before .before .pre .1) (a .t) (replicate 32 255) (drillShelf 0 .keys) (a .reply .now) (a .out .now))
+    (c .before .before .before .before .before .before .before .before .before .before .before .before .before .before .before .call-of .ensures) (c .before .before .before .before .before .before .before .before .before .before .before .before .before .before .kept-at .ensures .0) (omega arith) (c .before .before .before .before .before .before .before .before .take-in .ensures .0) (c .before .before .before .before .before .before .before .before .take-in .ensures .1 .0) (c .before .before .before .before .before .before .before .before .take-in .ensures .1 .1) (c .before .before .before .before .before .before .before .work .given .0) (c .before .before .put-call .ensures .0) (c .before .before .put-call .ensures .1)
+
+pub take-spec : {M : Type 1} → statement M
+take-spec =
+    tie.close
+    (tie.spec
+    call-of-requires
+    kept-at-requires
+    add-e
+    server-keys-requires
+    sub-take-in
+    part-take-in-start
+    part-take-in-end
+    take-in-requires
+    put-call-requires
+    same-length
+    same-length-2
+    returns)

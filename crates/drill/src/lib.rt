@@ -1,0 +1,51 @@
+// The drill: one operation over a sheet, an output and a lent work area. Definitions stand in specs/.
+ghost use mathlib.Core.Path.{_≡_};
+ghost use Rattle.drill.specs.Listing.{rowsFor, drillOf};
+
+pub mod sheet; // the numbers in the columns of a line
+mod lines; // the lines of a sheet
+mod area; // the parties in the work area
+mod servers; // the steps of servers in the work area
+mod visits; // a packet to a server, and its reply back
+mod rows; // the rows of a listing
+mod run; // a sheet is run
+mod steps; // one line's step
+pub mod shown; // what a row shows of a step
+
+// Rows for which there must be room.
+fn rows_for(lines: usize) -> usize
+    ensures { λ r. ⌜ r ≡ rowsFor lines ⌝ }
+{
+    if lines < 2 {
+        return 1;
+    }
+    lines - 1
+}
+
+fn refused(number: u8) -> cluster::Outcome
+    ensures { λ r. ⌜ r ≡ record { number = number; count = 0 } ⌝ }
+{
+    cluster::Outcome {
+        number: number,
+        count: 0,
+    }
+}
+
+// Runs a sheet and prints its listing at the start of the output. The work area is cleared first, and left all 00h.
+pub fn drill(sheet: &[u8], out: &mut [u8], work: &mut [u8]) -> cluster::Outcome
+    ensures { λ r. ⌜ record { result = r; output = now (out .exit); work = now (work .exit) } ≡ drillOf (now (sheet .entry)) (now (out .entry)) (now (work .entry)) ⌝ }
+{
+    if work.len() != area::WORK {
+        return refused(1);
+    }
+    if out.len() / rows::ROW < rows_for(lines::count_lines(sheet)) {
+        return refused(15);
+    }
+    run::clear(work);
+    let n = run::list(sheet, out, work);
+    run::clear(work);
+    cluster::Outcome {
+        number: 0,
+        count: n,
+    }
+}

@@ -1,0 +1,119 @@
+//! Which kinds of answers came how often, so that a test which reaches nothing is seen: at the end of a run every kind of the
+//! table must have come, and no other.
+
+use cendrulas::Answer;
+use std::collections::BTreeMap;
+
+#[derive(Default)]
+pub struct Kinds(BTreeMap<&'static str, BTreeMap<String, u64>>);
+
+/// Operations with their kinds of answers, of the parts that the library has.
+const DUE: &[(bool, &str, &str)] = &[
+    (true, "digest", "accepted,refused 15"),
+    (true, "tag", "accepted,refused 15,refused 255"),
+    (cfg!(feature = "coding"), "fragment", "accepted,refused 3,refused 4,refused 6,refused 15"),
+    (cfg!(feature = "coding"), "restore", "accepted,refused 3,refused 4,refused 6,refused 15,refused 16"),
+    (cfg!(feature = "server"), "packet check", PACKETS),
+    (cfg!(feature = "server"), "server is made blank", "accepted,refused 1,refused 3,refused 4"),
+    (cfg!(feature = "server"), "server takes", SERVER),
+    (cfg!(feature = "client"), "client begins to write", BEGIN_WRITE),
+    (cfg!(feature = "client"), "client begins to read", BEGIN_READ),
+    (cfg!(feature = "client"), "client makes", MAKE),
+    (cfg!(feature = "client"), "client takes", TAKE),
+    (cfg!(feature = "client"), "client gives up", GIVE_UP),
+    (cfg!(feature = "client"), "any state begins to write", BEGIN_WRITE),
+    (cfg!(feature = "client"), "any state begins to read", BEGIN_READ),
+    (cfg!(feature = "client"), "any state makes", MAKE),
+    (cfg!(feature = "client"), "any state takes", TAKE),
+    (cfg!(feature = "client"), "any state gives up", GIVE_UP),
+    (cfg!(feature = "drill"), "drill", "accepted,refused 1,refused 15"),
+    (cfg!(feature = "drill"), "line of a listing", LISTING),
+];
+
+const PACKETS: &str = "kind 1,kind 2,kind 3,kind 4,kind 5,kind 6,kind 7,kind 8,kind 9,kind 10,kind 11,kind 12,refused 7";
+const SERVER: &str = "clock,store: kept,store: held,store: full,complete,collect,filter: blank,filter: not held,filter: held,repair,\
+    refused 1,refused 2,refused 7,refused 8,refused 9,refused 15,refused 255";
+const BEGIN_WRITE: &str = "accepted,refused 3,refused 5,refused 6,refused 13,refused 14,refused 255";
+const BEGIN_READ: &str = "accepted,refused 3,refused 5,refused 13,refused 14,refused 255";
+const MAKE: &str = "clock,store,complete,collect,filter,repair,refused 3,refused 4,refused 5,refused 13,refused 15,refused 255";
+const TAKE: &str = "clock goes on,store goes on,complete goes on,collect goes on,filter goes on,repair goes on,server is full,written,\
+    read by filter,read by repair,blank,refused 3,refused 5,refused 7,refused 8,refused 12,refused 13,refused 14,refused 15,refused 255";
+const GIVE_UP: &str = "before complete,in complete,refused 3,refused 5,refused 13,refused 255";
+const LISTING: &str = "0,1,2,3,4,5,103,104,105,106,112,113,117";
+
+const ROUNDS: [&str; 6] = ["clock", "store", "complete", "collect", "filter", "repair"];
+
+/// A refusal, or what the accepted call did.
+pub fn kind(answer: &Answer, accepted: impl FnOnce() -> String) -> String {
+    match answer.refusal {
+        0 => accepted(),
+        refusal => format!("refused {refusal}"),
+    }
+}
+
+pub fn plainly(answer: &Answer) -> String {
+    kind(answer, || "accepted".into())
+}
+
+/// The kind of a server's reply.
+#[cfg(feature = "server")]
+pub fn reply(answer: &Answer, reply: &[u8]) -> String {
+    kind(answer, || {
+        let round = ROUNDS[reply[0] as usize / 2 - 1];
+        match (reply[0], answer.count) {
+            (4, _) => format!("store: {}", ["kept", "held", "full"][reply[8].saturating_sub(9) as usize]),
+            (10, _) if reply[8..45] == [0; 37] => "filter: blank".into(),
+            (10, 46) => "filter: not held".into(),
+            (10, _) => "filter: held".into(),
+            _ => round.into(),
+        }
+    })
+}
+
+/// The round of the packet that a client made.
+#[cfg(feature = "client")]
+pub fn made(answer: &Answer, packet: &[u8]) -> String {
+    kind(answer, || ROUNDS[packet[0] as usize / 2].into())
+}
+
+/// What a taken reply led to.
+#[cfg(feature = "client")]
+pub fn taken(answer: &Answer, packet: &[u8]) -> String {
+    kind(answer, || match (answer.result, packet[0]) {
+        (0, 4) if packet[8] == 11 => "server is full".into(),
+        (0, kind) => format!("{} goes on", ROUNDS[kind as usize / 2 - 1]),
+        (1, _) => "written".into(),
+        (2, kind) => format!("read by {}", ROUNDS[kind as usize / 2 - 1]),
+        _ => "blank".into(),
+    })
+}
+
+#[cfg(feature = "client")]
+pub fn given_up(answer: &Answer) -> String {
+    kind(answer, || if answer.result == 5 { "in complete".into() } else { "before complete".into() })
+}
+
+impl Kinds {
+    pub fn saw(&mut self, operation: &'static str, kind: String) {
+        *self.0.entry(operation).or_default().entry(kind).or_default() += 1;
+    }
+
+    /// Prints what came; says what is missing and what has no place in the table.
+    pub fn end(&self) -> Result<(), String> {
+        for (operation, kinds) in &self.0 {
+            let each: Vec<String> = kinds.iter().map(|(kind, count)| format!("{kind} ({count})")).collect();
+            println!("{operation}: {}", each.join(", "));
+        }
+        let none = BTreeMap::new();
+        for (_, operation, due) in DUE.iter().filter(|(there, ..)| *there) {
+            let seen = self.0.get(operation).unwrap_or(&none);
+            if let Some(kind) = due.split(',').find(|&kind| !seen.contains_key(kind)) {
+                return Err(format!("{operation}: {kind} was never seen"));
+            }
+            if let Some(kind) = seen.keys().find(|&kind| !due.split(',').any(|d| d == kind)) {
+                return Err(format!("{operation}: {kind} was not expected"));
+            }
+        }
+        Ok(())
+    }
+}
