@@ -29,6 +29,8 @@ extern "C" {
 #define CENDRULAS_KEY 32u
 #define CENDRULAS_KEYS 416u /* the keys of servers 1 to 13, one after the other, whatever t is */
 #define CENDRULAS_NONCE 32u
+#define CENDRULAS_WORK_AREA 2097152u
+#define CENDRULAS_LISTING_LINE 65u
 
 /* An answer is one number:
  *
@@ -46,6 +48,9 @@ static inline unsigned cendrulas_refusal(uint64_t answer) { return (unsigned)(an
 static inline unsigned cendrulas_result(uint64_t answer) { return (unsigned)(answer >> 48) & 0xFFu; }
 static inline uint32_t cendrulas_number(uint64_t answer) { return (uint32_t)(answer >> 16); }
 static inline size_t cendrulas_count(uint64_t answer) { return (size_t)(answer & 0xFFFFu); }
+
+/* The drill's answer has the refusal in the same bits and the count in the 56 bits below: a listing can be long. */
+static inline size_t cendrulas_listing(uint64_t answer) { return (size_t)(answer & 0xFFFFFFFFFFFFFFu); }
 
 /* Results: what a client's step led to, with refusal 0. The last two are of giving up. */
 #define CENDRULAS_GOES_ON 0u
@@ -134,6 +139,15 @@ uint64_t cendrulas_client_take(uint8_t *state, size_t state_len, size_t t, size_
  * Changes the state; count 0. Results: 4 a read, or a write before its last round, whose content is then never read; 5 a write in its last
  * round: a later read may give its content or not. */
 uint64_t cendrulas_client_give_up(uint8_t *state, size_t state_len, size_t t, size_t client);
+
+/* ---- The drill: all servers and clients of a shelf in a work area, and a sheet of steps (document 01, "Drill sheets"). */
+
+/* Runs the sheet.
+ * Refusals: 1 where work_len is not 2,097,152; 15 where out_len < 65 for each line of the sheet after the first, and at least 65. Lines are
+ * counted by their ends, with an unended rest as one more.
+ * Writes the listing, whose length cendrulas_listing gives, and leaves the work area all 00h. A sheet that is not of the form is not refused:
+ * the listing's last line says so. */
+uint64_t cendrulas_drill(const uint8_t *sheet, size_t sheet_len, uint8_t *out, size_t out_len, uint8_t *work, size_t work_len);
 
 #ifdef __cplusplus
 }

@@ -3,4 +3,5 @@ pub mod Layouts
 pub mod Coded
 pub mod Sessions
 pub mod Rooms
+pub mod Listings
 pub mod KeyRuns

@@ -3,4 +3,5 @@ pub mod Digests
 pub mod Coding
 pub mod Clients
 pub mod Servers
+pub mod Drills
 pub mod Packets

@@ -2,6 +2,7 @@
 mod clients;
 mod coding;
 mod digests;
+mod drills;
 mod keys;
 mod pack;
 mod packets;

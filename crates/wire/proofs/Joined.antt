@@ -2,15 +2,15 @@
 -- So a loop that joins all bytes, or all differences, ends with the answer of the definition that goes byte by byte.
 -- Assumes nothing.
 use mathlib.Core.Path.{_≡_, refl, sym, ap, _∙_}
-use mathlib.Core.Bool.{Bool, true, false, _&&_}
-use mathlib.Core.List.{List, [], _∷_}
+use mathlib.Core.Bool.{Bool, true, false, not, _&&_}
+use mathlib.Core.List.{List, [], _∷_, _++_}
 use Prim.Native.Nat.{ℕ, zero, suc, _+_, _≤_, _<_}
 use native.Mathlib.Omega.{arith}
 use native.Mathlib.Numerals.{add-one}
 use lib.Bits.{bitOr, bitXor, or-zero-l, or-add-and, and-le-l, and-le-r, xor-self, xor-add-and}
 use lib.Dec.{eqb}
-use lib.ListN.{length, getD, drop, drop-of-length-le}
-use lib.Seq.{drop-cons}
+use lib.ListN.{length, getD, take, drop, drop-of-length-le, take-append-drop}
+use lib.Seq.{drop-cons, drop-drop}
 use borrow.Author.Tests.{eq-eqb, ne-eqb, eqb-true, eqb-false}
 use Rattle.protocol.specs.Format.{zeros}
 use Rattle.protocol.specs.Values.{sameList}
@@ -27,6 +27,14 @@ and-false false = refl
 and-assoc : (p q r : Bool) → (p && q) && r ≡ p && (q && r)
 and-assoc true q r = refl
 and-assoc false q r = refl
+
+pub not-true : (b : Bool) → not b ≡ true → b ≡ false
+not-true true e = sym e
+not-true false e = refl
+
+pub not-false : (b : Bool) → not b ≡ false → b ≡ true
+not-false true e = refl
+not-false false e = sym e
 
 or-eqb : (a b : ℕ) → eqb (bitOr a b) 0 ≡ eqb a 0 && eqb b 0
 or-eqb zero b = ap (λ (x : ℕ). eqb x 0) (or-zero-l b)
@@ -48,6 +56,24 @@ module _ (s : List ℕ) (i : ℕ) where
 
   pub zeros-end : (all : ℕ) → length s ≤ i → eqb all 0 && zeros (drop i s) ≡ eqb all 0
   zeros-end all h = rw (drop-of-length-le s h) (and-true (eqb all 0))
+
+-- ---- chunk by chunk
+
+zeros-append : (a b : List ℕ) → zeros (a ++ b) ≡ zeros a && zeros b
+zeros-append [] b = refl
+zeros-append (x ∷ xs) b = ap (λ (z : Bool). eqb x 0 && z) (zeros-append xs b) ∙ sym (and-assoc (eqb x 0) (zeros xs) (zeros b))
+
+module _ (s : List ℕ) (at n : ℕ) where
+  zeros-split : zeros (drop at s) ≡ zeros (take n (drop at s)) && zeros (drop (at + n) s)
+  zeros-split =
+      ap zeros (sym (take-append-drop n (drop at s))) ∙ (zeros-append (take n (drop at s)) (drop n (drop at s))
+      ∙ ap (λ (z : List ℕ). zeros (take n (drop at s)) && zeros z) (drop-drop n at s))
+
+  pub chunk-zero : zeros (take n (drop at s)) ≡ true → zeros (drop at s) ≡ zeros (drop (at + n) s)
+  chunk-zero e = zeros-split ∙ rw e refl
+
+  pub chunk-other : zeros (take n (drop at s)) ≡ false → zeros (drop at s) ≡ false
+  chunk-other e = zeros-split ∙ rw e refl
 
 pub lengths-differ : (a b : List ℕ) → (length a ≡ length b → ⊥) → sameList a b ≡ false
 lengths-differ [] [] h = absurd (h refl)

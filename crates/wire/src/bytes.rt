@@ -9,7 +9,7 @@ ghost use Rattle.protocol.specs.View.{part};
 ghost use Rattle.wire.specs.Places.{padded};
 
 // No byte but 00h. All bytes are joined and none ends the loop, so that it runs on vectors.
-pub fn all_zero(s: &[u8]) -> bool
+fn joined_zero(s: &[u8]) -> bool
     ensures { λ r. ⌜ r ≡ zeros (now (s .entry)) ⌝ }
 {
     let mut all = 0u8;
@@ -19,6 +19,24 @@ pub fn all_zero(s: &[u8]) -> bool
         i += 1;
     }
     all == 0
+}
+
+// Bytes that are joined at a time.
+const CHUNK: usize = 256;
+
+// No byte but 00h, by chunks whose length the compiler knows.
+pub fn all_zero(s: &[u8]) -> bool
+    ensures { λ r. ⌜ r ≡ zeros (now (s .entry)) ⌝ }
+{
+    let mut at = 0;
+    while CHUNK <= s.len() - at {
+        let end = at + CHUNK;
+        if !joined_zero(&s[at..end]) {
+            return false;
+        }
+        at = end;
+    }
+    joined_zero(&s[at..])
 }
 
 // The same bytes. Byte 3 is looked at first, where stamps differ most often: it is the last of their number. No difference ends the loop, as in all_zero.

@@ -39,9 +39,22 @@ pub fn candidate_size(t: u8) -> usize
     STAMP + NONCE + hmac::TAG * (3 * (t as usize) + 1)
 }
 
-// Bytes of a fragment of a content of n bytes.
+// Bytes of a fragment of a content of n bytes. Each t has its own divisor, which the compiler then knows.
 pub fn fragment_size(t: u8, n: u32) -> usize
     ensures { λ r. ⌜ r ≡ fragmentSize (shelf t .shares) n ⌝ }
 {
-    ((n as usize) + (t as usize)) / ((t as usize) + 1)
+    let size = n as usize;
+    if t == 1 {
+        return (size + 1) / 2;
+    }
+    if t == 2 {
+        return (size + 2) / 3;
+    }
+    if t == 3 {
+        return (size + 3) / 4;
+    }
+    if t == 4 {
+        return (size + 4) / 5;
+    }
+    (size + (t as usize)) / ((t as usize) + 1)
 }

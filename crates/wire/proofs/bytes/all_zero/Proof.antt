@@ -1,44 +1,97 @@
--- The loop joins all bytes: what is joined so far is 0 and the rest is all zero exactly when all bytes are.
+-- Before the place at all bytes are zero; a chunk after it is zero, or the whole is not.
 -- Assumes nothing.
-use mathlib.Core.Path.{_≡_, refl, sym, _∙_}
-use mathlib.Core.Bool.{_&&_}
-use Prim.Native.Nat.{_≤_, _-_}
+use mathlib.Core.Path.{_≡_, refl, sym, ap, _∙_}
+use Prim.Native.Nat.{ℕ, _≤_, _+_, _-_}
 use native.Mathlib.Omega.{arith}
-use lib.Dec.{eqb}
-use lib.ListN.{length, drop}
+use lib.ListN.{length, drop, length-drop}
+use lib.Seq.{take-all}
 use Rattle.protocol.specs.Format.{zeros}
-use Rattle.wire.proofs.Joined.{zeros-more, zeros-end}
+use Rattle.wire.proofs.Joined.{chunk-zero, chunk-other, not-true, not-false}
 use Rattle.wire.proofs.bytes.all_zero.Statement.{statement}
 use Rattle.wire.proofs.bytes.all_zero.Tie as tie
 use Rattle.wire.proofs.bytes.all_zero.Reads as reads
 use Rattle.wire.proofs.bytes.all_zero.Lts as lts
+use Rattle.wire.proofs.bytes.joined_zero.Reads as joined-zero-reads
 
 abbrev Inv-loop : tie.InvT-loop
-Inv-loop s all₀ i₀ all i = (i ≤ length s) × (zeros s ≡ eqb all 0 && zeros (drop i s))
+Inv-loop s at₀ at = (at ≤ length s) × (zeros s ≡ zeros (drop at s))
 
 abbrev μ-loop : tie.MeasureT-loop
-μ-loop s all₀ i₀ all i = length s - i
+μ-loop s at₀ at = length s - at
 
 loop-holds : tie.Need-loop-holds Inv-loop μ-loop
 loop-holds c = (omega arith, refl)
 
-shared-slice-read-all : tie.Need-shared-slice-read-all Inv-loop μ-loop
-shared-slice-read-all c = omega arith
+sub-loop : tie.Need-sub-loop Inv-loop μ-loop
+sub-loop c = omega arith
 
-add-i : tie.Need-add-i Inv-loop μ-loop
-add-i c = omega arith
+add-end : tie.Need-add-end Inv-loop μ-loop
+add-end c = omega arith
+
+sub-joined-zero : tie.Need-sub-joined-zero Inv-loop μ-loop
+sub-joined-zero c = omega arith
+
+part-joined-zero-start : tie.Need-part-joined-zero-start Inv-loop μ-loop
+part-joined-zero-start c = omega arith
+
+part-joined-zero-end : tie.Need-part-joined-zero-end Inv-loop μ-loop
+part-joined-zero-end c = omega arith
+
+joined-zero-requires : tie.Need-joined-zero-requires Inv-loop μ-loop
+joined-zero-requires c κs = tt
+
+returns : tie.Need-returns Inv-loop μ-loop
+returns c =
+    let s = c .before .before .before .before .before .before .args .s .now in
+    let l = c .before .before .before .before .loop in
+    sym (l .inv .1 ∙ chunk-other s (l .at) (l .at + 256 - l .at) (sym (c .before .joined-zero .ensures) ∙ not-true (c .before .joined-zero .result) (c .if1 .taken)))
 
 loop-less : tie.Need-loop-less Inv-loop μ-loop
 loop-less c = omega arith
 
 loop-again : tie.Need-loop-again Inv-loop μ-loop
 loop-again c =
-    (omega arith, c .before .before .loop .inv .1 ∙ zeros-more (c .before .before .before .args .s .now) (c .before .before .loop .i) (c .before .before .loop .all) (omega arith))
+    let s = c .before .before .before .before .before .before .args .s .now in
+    let l = c .before .before .before .before .loop in
+    let e : l .at + (l .at + 256 - l .at) ≡ l .at + 256 = omega arith in
+    (omega arith, l .inv .1 ∙ (chunk-zero s (l .at) (l .at + 256 - l .at) (sym (c .before .joined-zero .ensures) ∙ not-false (c .before .joined-zero .result) (c .if1 .left)) ∙ ap (λ (k : ℕ). zeros (drop k s)) e))
 
-returns : tie.Need-returns Inv-loop μ-loop
-returns c = sym (c .before .loop .inv .1 ∙ zeros-end (c .before .before .args .s .now) (c .before .loop .i) (c .before .loop .all) (omega arith))
+sub-joined-zero-2 : tie.Need-sub-joined-zero-2 Inv-loop μ-loop
+sub-joined-zero-2 c = omega arith
+
+part-joined-zero-start-2 : tie.Need-part-joined-zero-start-2 Inv-loop μ-loop
+part-joined-zero-start-2 c = omega arith
+
+part-joined-zero-end-2 : tie.Need-part-joined-zero-end-2 Inv-loop μ-loop
+part-joined-zero-end-2 c = omega arith
+
+joined-zero-requires-2 : tie.Need-joined-zero-requires-2 Inv-loop μ-loop
+joined-zero-requires-2 c κs = tt
+
+returns-2 : tie.Need-returns-2 Inv-loop μ-loop
+returns-2 c =
+    let s = c .before .before .before .before .before .args .s .now in
+    let l = c .before .before .before .loop in
+    c .joined-zero2 .ensures ∙ (ap zeros (take-all (length s - l .at) (drop (l .at) s) (omega (arith, length-drop (l .at) s))) ∙ sym (l .inv .1))
 
 pub all-zero-spec : {M : Type 1} → statement M
 all-zero-spec =
     tie.close
-    (tie.spec Inv-loop μ-loop loop-holds shared-slice-read-all add-i loop-less loop-again returns)
+    (tie.spec
+    Inv-loop
+    μ-loop
+    loop-holds
+    sub-loop
+    add-end
+    sub-joined-zero
+    part-joined-zero-start
+    part-joined-zero-end
+    joined-zero-requires
+    returns
+    loop-less
+    loop-again
+    sub-joined-zero-2
+    part-joined-zero-start-2
+    part-joined-zero-end-2
+    joined-zero-requires-2
+    returns-2)
