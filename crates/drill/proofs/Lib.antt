@@ -14,3 +14,4 @@ pub mod Running
 pub mod Listed
 pub mod Answers
 pub mod Examples
+pub mod Sheet01
