@@ -17,9 +17,9 @@ use Rattle.atomicity.specs.Premises.{Begins}
 use Rattle.atomicity.specs.Claim.{Call, given, log, begunWrites}
 use Rattle.atomicity.proofs.Util.{left-in, right-in, map-in, all-of}
 use Rattle.atomicity.proofs.Model.{perform, now, account, marks}
-use Rattle.atomicity.proofs.Setup.{Setup, Steps, StepOf, Fair, Begin, hand, calls}
+use Rattle.atomicity.proofs.Setup.{Setup, Steps, StepOf, Fair, Begin, calls}
 use Rattle.atomicity.proofs.Marks.{mark-source, above}
-use Rattle.atomicity.proofs.Begun.{begins, by-nonce}
+use Rattle.atomicity.proofs.Nonces.{begins, by-nonce}
 use Rattle.atomicity.proofs.Shape.{Log, result, touched, news, newCall, note-shape}
 use Rattle.atomicity.proofs.Logs.{Signed}
 use Rattle.atomicity.proofs.Story.{past, story, story-log, stepSigned, step-keeps}

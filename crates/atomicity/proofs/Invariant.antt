@@ -30,7 +30,8 @@ use Rattle.atomicity.proofs.Moves.{Fits, Moved, kept, wbegan, rbegan, q
 use Rattle.atomicity.proofs.Serving.{making}
 use Rattle.atomicity.proofs.Rounds.{Next, next-stage, turn-turned, stage, pos, since, from, since-same, from-same, from-new}
 use Rattle.atomicity.proofs.Marks.{marks-up}
-use Rattle.atomicity.proofs.Begun.{Known, known, by-nonce}
+use Rattle.atomicity.proofs.Begun.{Known, known}
+use Rattle.atomicity.proofs.Nonces.{by-nonce}
 use Rattle.atomicity.proofs.Sources.{complete-made, by-server}
 use Rattle.atomicity.proofs.Genuine.{Genuine}
 use Rattle.atomicity.proofs.Heard.{heard}

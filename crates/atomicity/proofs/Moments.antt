@@ -13,7 +13,6 @@ use borrow.Author.Tests.{leb-true, leb-false}
 use Rattle.protocol.specs.Values.{Candidate, Held, blankCandidate}
 use Rattle.protocol.specs.Packet.{Body, Packet}
 use Rattle.protocol.specs.Rules.{ByServer, countTo}
-use Rattle.protocol.specs.Runs.{write}
 use Rattle.atomicity.specs.Lists.{Ever, Always, In}
 use Rattle.atomicity.specs.Steps.{Stamped, serves, judged, shown, inPacket, noncesBy, noncesGot}
 use Rattle.atomicity.specs.Premises.{Begins, FreshNonce, NoEarlyNonce}
@@ -21,7 +20,7 @@ use Rattle.atomicity.proofs.Util.{bool-case, clash, and-left, and-right
 use Rattle.atomicity.proofs.Model.{now, account, marks, isValid}
 use Rattle.atomicity.proofs.Setup.{Setup, Steps, StepOf, Meets, Fair, Begin, Show}
 use Rattle.atomicity.proofs.Marks.{marks-up}
-use Rattle.atomicity.proofs.Begun.{begins, by-nonce}
+use Rattle.atomicity.proofs.Nonces.{begins, by-nonce}
 use Rattle.atomicity.proofs.Servers.{best-view}
 use Rattle.atomicity.proofs.Genuine.{at-serve, Genuine, genuine}
 use Rattle.atomicity.proofs.States.{right, FullAt}

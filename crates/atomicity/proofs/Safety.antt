@@ -25,7 +25,7 @@ use Rattle.atomicity.proofs.Model.{now}
 use Rattle.atomicity.proofs.Setup.{Setup, Steps, Fair}
 use Rattle.atomicity.proofs.Rounds.{since}
 use Rattle.atomicity.proofs.Marks.{mark-num, mark-who, mark-source, above}
-use Rattle.atomicity.proofs.Begun.{by-nonce}
+use Rattle.atomicity.proofs.Nonces.{by-nonce}
 use Rattle.atomicity.proofs.Calls.{MarkAt, mark-at, Given}
 use Rattle.atomicity.proofs.Shape.{Log}
 use Rattle.atomicity.proofs.Logs.{Signed}

@@ -4,7 +4,7 @@ use mathlib.Core.List.{List}
 use mathlib.Core.Option.{none, some}
 use Prim.Native.Nat.{ℕ, zero, suc, _+_, _-_, _*_}
 use lib.Dec.{leb, ltb, eqb}
-use lib.ListN.{length, take, drop, getD}
+use lib.ListN.{take, drop, getD}
 use Rattle.cluster.specs.Config.{Config}
 use Rattle.cluster.specs.Ranges.{within, mostServers, topLength}
 use Rattle.hmac.specs.Hmac.{tagSize}
