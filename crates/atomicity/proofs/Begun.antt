@@ -2,24 +2,20 @@
 -- nonce and the fragments of a mark are among the inputs digested so far.
 -- Assumes nothing.
 use mathlib.Core.Path.{_≡_, refl, sym, ap, _∙_, subst}
-use mathlib.Core.Bool.{Bool, true, false, cond, not, _&&_, _||_}
-use mathlib.Core.List.{List, [], _∷_, _++_, map}
-use mathlib.Core.Option.{Option, none, some}
+use mathlib.Core.Bool.{Bool, true, false, cond, not}
+use mathlib.Core.List.{List, [], _∷_, _++_}
 use mathlib.Core.Logic.{_⊎_, inl, inr}
-use Prim.Native.Nat.{ℕ, zero, suc, _≤_, _<_}
+use Prim.Native.Nat.{ℕ, suc}
 use native.Mathlib.Omega.{arith}
 use lib.Dec.{leb}
 use lib.ListN.{length}
 use Rattle.cluster.specs.Config.{Config}
 use Rattle.cluster.specs.Ranges.{within, topWriter, topNumber, leastLength, topLength}
 use Rattle.cluster.specs.Refusals.{refuse, firstOf, onRefusal}
-use Rattle.protocol.specs.declared.Stamp.{Stamp}
 use Rattle.protocol.specs.Format.{Bytes}
-use Rattle.protocol.specs.Values.{Candidate, Share}
-use Rattle.protocol.specs.Packet.{Packet, decode}
-use Rattle.protocol.specs.Rules.{ByServer}
-use Rattle.protocol.specs.Client.{Client, Hand, Result, Turn, refused, isIdle, badFaults, writeRefusal, writeStep, more, idle, clocking, storing, completing, collecting, filtering, repairing, begun, onto, prepared, candidateMade, shareMade, sharesMade, stampOf, tagsOf}
-use Rattle.protocol.specs.Runs.{Step, write, read, make, take-reply, give-up, serve, Typed, World, Fed, nowValues, doValues, setClient}
+use Rattle.protocol.specs.Packet.{decode}
+use Rattle.protocol.specs.Client.{Client, Hand, Result, Turn, refused, isIdle, badFaults, writeRefusal, writeStep, more, idle, clocking, storing, completing, collecting, filtering, repairing, begun, onto, prepared, candidateMade, shareMade, sharesMade, stampOf}
+use Rattle.protocol.specs.Runs.{Step, write, take-reply, Typed, World, Fed, nowValues, doValues, setClient}
 use Rattle.atomicity.specs.Lists.{Ever, Always, In, flat}
 use Rattle.atomicity.specs.Steps.{System, Stamped, accepted, stampedFrom, stampedBy, stampedAt, digestsWith, digestedBy, digested, allDigested, inPacket, fragments}
 use Rattle.atomicity.specs.Premises.{Begins, FreshNonce}
@@ -28,7 +24,7 @@ use Rattle.atomicity.proofs.Model.{Run, perform, now, account, marks, s
 use Rattle.atomicity.proofs.Setup.{Setup, Steps, StepOf, Fair, Begin, hand}
 use Rattle.atomicity.proofs.Moves.{Moved, kept, wbegan, rbegan, quit, took, moved}
 use Rattle.atomicity.proofs.Rounds.{Next, stays, clock-on, clock-ends, store-ends, collect-on, collect-ends, filter-on, filter-ends, over, turn-turned}
-use Rattle.atomicity.proofs.Marks.{Marked, mark-source, mark-none, marks-up, mark-form}
+use Rattle.atomicity.proofs.Marks.{Marked, mark-source, marks-up}
 
 -- an accepted write's length is in its range
 in-range : (a b c d e : Bool) (y z : Client) →

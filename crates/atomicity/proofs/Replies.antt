@@ -2,32 +2,31 @@
 -- reached its complete round when store ends, and is over when its result is given.
 -- Assumes nothing.
 use mathlib.Core.Path.{_≡_, refl, sym, ap, _∙_, subst}
-use mathlib.Core.Bool.{Bool, true, false, cond, not, _&&_, _||_}
-use mathlib.Core.List.{List, [], _∷_, _++_}
+use mathlib.Core.Bool.{Bool, true, false, _||_}
+use mathlib.Core.List.{List, [], _∷_}
 use mathlib.Core.Option.{Option, none, some}
 use mathlib.Core.Logic.{_⊎_, inl, inr}
-use Prim.Native.Nat.{ℕ, zero, suc, _+_, _*_, _≤_, _<_}
+use Prim.Native.Nat.{ℕ, suc, _<_}
 use native.Mathlib.Omega.{arith}
-use lib.Dec.{leb, ltb, eqb}
+use lib.Dec.{eqb}
 use lib.ListN.{length}
 use Rattle.protocol.specs.declared.Stamp.{Stamp}
 use Rattle.protocol.specs.Values.{Candidate, Share, Held, below, blankStamp, sameList}
-use Rattle.protocol.specs.Packet.{Body, Packet}
-use Rattle.protocol.specs.Rules.{ByServer, nobody, leader, tagsIn}
-use Rattle.protocol.specs.Client.{Client, Hand, Turn, Result, refused, more, written, gave, gaveBlank, aborted, idle, clocking, storing, completing, collecting, filtering, repairing, awaits, isIdle}
-use Rattle.protocol.specs.Client.{update, judge, found, onto, prepared, candidateMade, stampOf, higher, stampIn, codeIn}
-use Rattle.protocol.specs.Runs.{Typed}
-use Rattle.atomicity.specs.Lists.{Ever, Always, In}
-use Rattle.atomicity.specs.Steps.{System, Stamped, stampedFrom}
+use Rattle.protocol.specs.Packet.{Body}
+use Rattle.protocol.specs.Rules.{ByServer, leader, tagsIn}
+use Rattle.protocol.specs.Client.{Client, Hand, Turn, more, written, gave, gaveBlank, idle, clocking, storing, completing, collecting, filtering, repairing, awaits, isIdle}
+use Rattle.protocol.specs.Client.{update, judge, found, onto, prepared, candidateMade, higher, stampIn, codeIn}
+use Rattle.atomicity.specs.Lists.{Ever, In}
+use Rattle.atomicity.specs.Steps.{Stamped, stampedFrom}
 use Rattle.atomicity.specs.Claim.{Call, follow, close, reach}
 use Rattle.atomicity.proofs.Util.{cond-case, clash, no-some}
-use Rattle.atomicity.proofs.Model.{Run, now, marks, updated, stampFor, preparedFor}
+use Rattle.atomicity.proofs.Model.{marks, updated, stampFor, preparedFor}
 use Rattle.atomicity.proofs.Setup.{Setup, Steps, StepOf, Show, calls}
 use Rattle.atomicity.proofs.Rounds.{since}
-use Rattle.atomicity.proofs.States.{TopAt, WBeats, Beats, Proved, HandOk}
+use Rattle.atomicity.proofs.States.{TopAt, WBeats, Beats, HandOk}
 use Rattle.atomicity.proofs.Turns.{ResultOk}
 use Rattle.atomicity.proofs.Invariant.{Ends, ends-top, top-blank}
-use Rattle.atomicity.proofs.Calls.{MarkAt, mark-at, ends-since, ends-back, Written, Given, Read, Base, Open, Writing, Cur, base-up, open-up, writing-up, cur-up, Keeps, keeps-refl}
+use Rattle.atomicity.proofs.Calls.{MarkAt, ends-since, ends-back, Given, Base, Open, Cur, base-up, open-up, writing-up, cur-up, Keeps, keeps-refl}
 
 some-inj : {A : Type 0} {p q : A} → some p ≡ some q → p ≡ q
 some-inj e = cc

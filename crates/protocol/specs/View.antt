@@ -1,7 +1,7 @@
 -- A client's bytes, and the client that they stand for. Every value of the bytes stands for one: they are read by place, and no range is tested.
-use mathlib.Core.Bool.{Bool, true, false, cond, not, _&&_}
-use mathlib.Core.List.{List, [], _∷_, _++_}
-use mathlib.Core.Option.{Option, none, some}
+use mathlib.Core.Bool.{Bool, false, cond, not, _&&_}
+use mathlib.Core.List.{List}
+use mathlib.Core.Option.{none, some}
 use Prim.Native.Nat.{ℕ, zero, suc, _+_, _-_, _*_}
 use lib.Dec.{leb, ltb, eqb}
 use lib.ListN.{length, take, drop, getD}
@@ -11,7 +11,6 @@ use Rattle.hmac.specs.Hmac.{tagSize}
 use Rattle.erasure.specs.Fragments.{fragmentSize}
 use Rattle.protocol.specs.declared.Stamp.{Stamp}
 use Rattle.protocol.specs.declared.Call.{Call}
-use Rattle.protocol.specs.declared.Tally.{Tally}
 use Rattle.protocol.specs.Format.{value2, value4}
 use Rattle.protocol.specs.Values.{Candidate, Share, Held, blankCandidate, noHeld, noShare, digestSize, nonceSize, stampSize, digestsSize, tagsSize}
 use Rattle.protocol.specs.Rules.{ByServer, gather}
