@@ -13,7 +13,10 @@ use Rattle.gf256.specs.Poly.{through}
 use Rattle.gf256.specs.Bytes.{bytes}
 use Rattle.gf256.proofs.Linear.{times-lt, times-comm}
 use Rattle.gf256.proofs.Tables.{inverse-lt, power-lt}
-use Rattle.gf256.proofs.Algebra.{Turned, Half, half-none, half-more, pivot, all-turned, weights, Different, sum, sum-more, sum-ext, pow, tab, row, Laws}
+use Rattle.gf256.proofs.Field.{Laws}
+use Rattle.gf256.proofs.Sums.{sum, sum-more, sum-ext}
+use Rattle.gf256.proofs.Exchange.{Turned, Half, half-none, half-more, row}
+use Rattle.gf256.proofs.Powers.{pivot, all-turned, weights, Different, pow, tab}
 use Rattle.gf256.proofs.Byte.{Byte, field, laws, same, addB, mulB, invB, nilB, oneB, through-number}
 use Rattle.erasure.specs.Fragments.{table}
 use Rattle.erasure.proofs.Sums.{sumTo-ext}

@@ -11,7 +11,7 @@ use lib.ListN.{length, getD, take}
 use Rattle.gf256.specs.Gf.{times, inverse}
 use Rattle.gf256.specs.Poly.{through}
 use Rattle.gf256.specs.Bytes.{bytes}
-use Rattle.gf256.proofs.Algebra.{choose, tab}
+use Rattle.gf256.proofs.Powers.{tab}
 use Rattle.gf256.proofs.Byte.{Byte, field, laws, addB, mulB, invB, oneB, through-number}
 use Rattle.gf256.proofs.Lagrange.{prod, factor, weightOf, weighed}
 use Rattle.erasure.specs.Fragments.{table}
@@ -32,14 +32,14 @@ unfolding prod productTo
 prod-number zero g f e = refl
 prod-number (suc k) g f e = ap₂ times (prod-number k g f (λ i b. e i (le-trans b (le-suc k)))) (e k (le-refl (suc k)))
 
-choose-number : (b : Bool) (x : Byte) (y : ℕ) → x .0 ≡ y → choose b oneB x .0 ≡ cond b 1 y
-choose-number true x y e = refl
-choose-number false x y e = e
+cond-number : (b : Bool) (x : Byte) (y : ℕ) → x .0 ≡ y → cond b oneB x .0 ≡ cond b 1 y
+cond-number true x y e = refl
+cond-number false x y e = e
 
 module _ (k : ℕ) (xs : List ℕ) (small : (i : ℕ) → getD xs i 0 < 256) where
   factor-number : (j : ℕ) (z : Byte) (n : ℕ) → z .0 ≡ n → (m : ℕ) → factor field laws (point xs) j z m .0 ≡ factorAt xs j n m
   factor-number j z n e m =
-      choose-number (eqb m j) (addB z (point xs m)) (bitXor n (getD xs m 0)) (ap₂ bitXor e (to-val (getD xs m 0) (small m)))
+      cond-number (eqb m j) (addB z (point xs m)) (bitXor n (getD xs m 0)) (ap₂ bitXor e (to-val (getD xs m 0) (small m)))
 
   direct-number : (z : Byte) (n : ℕ) → z .0 ≡ n → (j : ℕ) → weightOf field laws k (point xs) z j .0 ≡ directAt k xs n j
   unfolding directAt

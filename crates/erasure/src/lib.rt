@@ -16,6 +16,7 @@ ghost use Rattle.erasure.specs.System.{width, AllDifferent};
 mod bits;
 mod choice;
 mod direct;
+mod given;
 mod lanes;
 mod runs;
 mod system;

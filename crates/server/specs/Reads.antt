@@ -7,14 +7,15 @@ use Prim.Native.Nat.{ℕ, _+_, _*_, _≤_}
 use lib.Dec.{ltb}
 use lib.ListN.{drop}
 use Rattle.cluster.specs.Config.{Config, shelf}
+use Rattle.erasure.specs.Fragments.{fragmentSize}
 use Rattle.protocol.specs.declared.Stamp.{Stamp}
 use Rattle.protocol.specs.Format.{All, many}
-use Rattle.protocol.specs.Values.{Write, sameList, isSome, candidateSize}
+use Rattle.protocol.specs.Values.{Write, sameList, isSome, stampSize, digestSize, digestsSize, tagsSize, candidateSize}
 use Rattle.protocol.specs.Packet.{stampF, writeF}
 use Rattle.protocol.specs.Memory.{held, distinct, decodeMemory}
 use Rattle.protocol.specs.View.{stampAt, candidateAt}
 use Rattle.protocol.specs.Reading.{Leaves}
-use Rattle.wire.specs.Places.{writeAt}
+use Rattle.wire.specs.Places.{lengthAt, writeAt}
 use Rattle.server.specs.declared.memory.Found.{Found}
 use Rattle.server.specs.declared.memory.Found.the-variants as found
 use Rattle.server.specs.declared.memory.Writes.{Writes}
@@ -32,6 +33,13 @@ writesPlace s = latestPlace + candidateSize s
 -- n stored writes stand in the memory d, up to the place e
 abbrev pub Stored : Config → ℕ → List ℕ → List Write → ℕ → Type 0
 Stored s n d ws e = Leaves (many n (writeF s)) d (writesPlace s) ws e
+
+-- bytes of a stored write without its fragment, and of the one that x begins with
+unfoldable pub frameSize : Config → ℕ
+frameSize s = stampSize + 2 + digestsSize s + digestSize + tagsSize s
+
+abbrev pub writeSize : Config → List ℕ → ℕ
+writeSize s x = frameSize s + fragmentSize (s .shares) (lengthAt (drop stampSize x))
 
 -- ---- the first write whose stamp has the bytes key
 

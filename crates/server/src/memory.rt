@@ -4,7 +4,9 @@ ghost use Prim.Native.Nat.{_≤_};
 ghost use lib.ListN.{length};
 ghost use Rattle.cluster.specs.Config.{shelf};
 ghost use Rattle.protocol.specs.View.{stampAt};
-ghost use Rattle.server.specs.Reads.{FindAs, RepeatsAs, WritesAs, MemoryAs, keyOf, maxOf, writesPlace};
+ghost use Rattle.server.specs.Reads.{frameSize, FindAs, RepeatsAs, WritesAs, MemoryAs, keyOf, maxOf, writesPlace};
+use wire::bytes::part;
+use wire::bytes::rest;
 use wire::fields::Cursor;
 use wire::fields::Field;
 
@@ -36,20 +38,35 @@ pub fn writes_place(t: u8) -> usize
     LATEST + wire::sizes::candidate_size(t)
 }
 
-// The first of n stored writes whose stamp has these bytes.
+// Bytes of a stored write without its fragment.
+fn frame_size(t: u8) -> usize
+    ensures { λ r. ⌜ r ≡ frameSize (shelf t) ⌝ }
+{
+    wire::sizes::STAMP
+        + 2
+        + wire::sizes::digests_size(t)
+        + wire::sizes::DIGEST
+        + wire::sizes::tags_size(t)
+}
+
+// The first of n stored writes whose stamp has these bytes. They were checked when the memory was opened, so each ends where its record length says.
 pub fn find(memory: &[u8], t: u8, n: usize, stamp: &[u8]) -> Found
     ensures { λ r. ⌜ FindAs (shelf t) n (now (memory .entry)) (now (stamp .entry)) r ⌝ }
 {
+    let frame = frame_size(t);
     let mut at = writes_place(t);
     let mut i = 0;
     while i < n {
-        let Field::Value(size, next) = wire::parts::write_field(memory, Cursor { at }, t) else {
-            return Found::Nothing;
-        };
-        if wire::bytes::same(wire::bytes::part(memory, at, wire::sizes::STAMP), stamp) {
+        let write = rest(memory, at);
+        if wire::bytes::same(part(write, 0, wire::sizes::STAMP), stamp) {
             return Found::At(at);
         }
-        at = next.at;
+        let length = wire::bytes::number2(rest(write, wire::sizes::STAMP));
+        let size = frame + wire::sizes::fragment_size(t, length);
+        if write.len() < size {
+            return Found::Nothing;
+        }
+        at += size;
         i += 1;
     }
     Found::Nothing
@@ -75,15 +92,10 @@ pub(crate) fn max_of(a: u64, b: u64) -> u64
 fn repeats(memory: &[u8], t: u8, n: usize, at: usize, top: u64) -> bool
     ensures { λ r. ⌜ RepeatsAs (shelf t) n (now (memory .entry)) at top r ⌝ }
 {
-    if top < key_at(wire::bytes::rest(memory, at)) {
+    if top < key_at(rest(memory, at)) {
         return false;
     }
-    let Found::Nothing = find(
-        memory,
-        t,
-        n,
-        wire::bytes::part(memory, at, wire::sizes::STAMP),
-    ) else {
+    let Found::Nothing = find(memory, t, n, part(memory, at, wire::sizes::STAMP)) else {
         return true;
     };
     false
@@ -104,7 +116,7 @@ fn check_writes(memory: &[u8], t: u8, n: usize) -> Writes
         if repeats(memory, t, i, at, top) {
             return Writes::Broken;
         }
-        top = max_of(top, key_at(wire::bytes::rest(memory, at)));
+        top = max_of(top, key_at(rest(memory, at)));
         at = next.at;
         i += 1;
     }
@@ -140,7 +152,7 @@ pub fn open(memory: &[u8]) -> MemoryRead
     let Writes::Past(end) = check_writes(memory, t as u8, n as usize) else {
         return MemoryRead::Broken;
     };
-    if wire::bytes::all_zero(wire::bytes::rest(memory, end)) {
+    if wire::bytes::all_zero(rest(memory, end)) {
         return MemoryRead::Value(t as u8, server as u8, n as usize, end);
     }
     MemoryRead::Broken

@@ -15,7 +15,8 @@ use lib.ListN.{length, getD, set, length-set}
 use lib.Seq.{getD-set-same, getD-set-other}
 use Rattle.gf256.specs.Gf.{times, power}
 use Rattle.gf256.proofs.Fill.{fill-more}
-use Rattle.gf256.proofs.Algebra.{Half, half-none, half-more, pow}
+use Rattle.gf256.proofs.Exchange.{Half, half-none, half-more}
+use Rattle.gf256.proofs.Powers.{pow}
 use Rattle.gf256.proofs.Byte.{Byte, field, laws}
 use Rattle.gf256.proofs.Tables.{inverse-lt, power-lt}
 use Rattle.erasure.specs.System.{width, entry, SystemTurned, AllDifferent, Solves}
