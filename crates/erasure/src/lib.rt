@@ -1,17 +1,14 @@
 // Fragments of a content, and the content from fragments.
 ghost use mathlib.Core.Bool.{not};
-ghost use mathlib.Core.List.{_++_};
 ghost use mathlib.Core.Path.{_≡_};
-ghost use Prim.Native.Nat.{ℕ, _+_, _*_, _<_, _≤_};
+ghost use Prim.Native.Nat.{_*_, _<_, _≤_};
 ghost use lib.Dec.{eqb};
-ghost use lib.ListN.{getD, length, take, drop};
 ghost use Rattle.cluster.specs.Config.{shelf};
 ghost use Rattle.cluster.specs.Ranges.{within, topFaults, topLength};
 ghost use Rattle.cluster.specs.Refusals.{firstOf};
-ghost use Rattle.erasure.specs.Fragments.{fragmentSize, restored};
-ghost use Rattle.erasure.specs.Choice.{partsAt};
+ghost use Rattle.erasure.specs.Fragments.{fragmentSize};
 ghost use Rattle.erasure.specs.Steps.{each, fragmentRefusal, argumentChecks, fragmentStep, restoreStep};
-ghost use Rattle.erasure.specs.System.{width, AllDifferent};
+ghost use Rattle.erasure.specs.System.{width};
 
 mod bits;
 mod choice;
