@@ -2,8 +2,8 @@
 -- byte: so a fragment is made, by weights that `Weighed` shows right, or by a copy. Nothing is assumed.
 use mathlib.Core.Path.{_≡_, refl, sym, ap, ap₂, subst, _∙_}
 use mathlib.Core.List.{List, [], _∷_, _++_}
-use Prim.Native.Nat.{ℕ, zero, suc, _+_, _-_, _*_, _/_, _%_, _<_, _≤_}
-use native.Mathlib.Nat.{zero-add, mul-le-mul, zero-lt-suc, le-of-suc-le-suc, not-suc-le-zero, lt-of-lt-of-le, div-lt-iff-lt-mul, div-add-mod', mul-add-div-right, mul-add-mod-self-right, add-mod-right, add-zero, mod-eq-of-lt, div-eq-of-lt}
+use Prim.Native.Nat.{ℕ, zero, suc, _+_, _-_, _*_, _<_, _≤_}
+use native.Mathlib.Nat.{zero-add, mul-le-mul, not-suc-le-zero}
 use native.Mathlib.Decide.{decLt}
 use native.Mathlib.Omega.{arith}
 use lib.ListN.{length, getD, take, drop, length-append, length-drop, List·getD-append, List·getD-eq-default}
@@ -15,9 +15,9 @@ use Rattle.gf256.proofs.Byte.{through-value}
 use Rattle.cluster.specs.Config.{upTo}
 use Rattle.erasure.specs.Fragments.{table}
 use Rattle.erasure.specs.Steps.{zeros, fragmentRoom}
-use Rattle.erasure.specs.System.{width, sumTo, weightAt, AllDifferent, Weighs, Solves}
-use Rattle.erasure.specs.Lanes.{sumAt, Written, madeOf, plainOf, rebuiltOf}
-use Rattle.erasure.proofs.Lists.{length-table, getD-table, table-is, small-of, distinct-of, take-is, written-on, written-as, written-first}
+use Rattle.erasure.specs.System.{width, AllDifferent, Weighs}
+use Rattle.erasure.specs.Lanes.{sumAt, Written, madeOf, plainOf}
+use Rattle.erasure.proofs.Lists.{length-table, getD-table, table-is, small-of, distinct-of, take-is, written-as, written-first}
 use Rattle.erasure.proofs.Sums.{sumTo-ext}
 
 pub table-ext : (n : ℕ) (g h : ℕ → ℕ) → ((i : ℕ) → i < n → g i ≡ h i) → table n g ≡ table n h

@@ -1,15 +1,14 @@
 -- A content, run after run: each byte that rebuilding writes is the value, at the run's point, of the polynomial through the fragments' bytes.
 -- A given run's point is that of its fragment, so the value is the fragment's byte; the others are sums whose weights a solved system gives.
 -- Nothing is assumed.
-use mathlib.Core.Path.{_≡_, refl, sym, ap, ap₂, subst, _∙_}
+use mathlib.Core.Path.{_≡_, sym, ap, ap₂, _∙_}
 use mathlib.Core.Bool.{Bool, cond}
 use mathlib.Core.List.{List, _++_}
-use Prim.Native.Nat.{ℕ, zero, suc, _+_, _*_, _/_, _%_, _<_, _≤_}
-use native.Mathlib.Nat.{zero-add, mod-lt, lt-of-lt-of-le, div-lt-iff-lt-mul, div-add-mod', mul-add-div-right, mul-add-mod-self-right, add-zero, mod-eq-of-lt, div-eq-of-lt}
+use Prim.Native.Nat.{ℕ, _+_, _*_, _/_, _%_, _<_, _≤_}
+use native.Mathlib.Nat.{lt-of-lt-of-le, div-lt-iff-lt-mul, div-add-mod', mul-add-div-right, mul-add-mod-self-right, add-zero, mod-eq-of-lt, div-eq-of-lt}
 use native.Mathlib.Decide.{decLt}
 use native.Mathlib.Omega.{arith}
 use borrow.Author.Tests.{lt-ltb, le-ltb}
-use lib.Dec.{ltb}
 use lib.ListN.{length, getD, take, drop}
 use Rattle.gf256.specs.Gf.{times}
 use Rattle.gf256.specs.Poly.{through}

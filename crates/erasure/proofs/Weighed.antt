@@ -1,5 +1,5 @@
 -- The closed form of the weights, of bytes: `Lagrange` at the field of FIPS 197, told in numbers. Nothing is assumed.
-use mathlib.Core.Path.{_≡_, refl, sym, ap, ap₂, subst, _∙_}
+use mathlib.Core.Path.{_≡_, refl, sym, ap, ap₂, _∙_}
 use mathlib.Core.Bool.{Bool, true, false, cond}
 use mathlib.Core.List.{List}
 use Prim.Native.Nat.{ℕ, zero, suc, _+_, _<_, _≤_}
@@ -7,15 +7,14 @@ use native.Mathlib.Nat.{le-refl, le-suc, le-trans}
 use native.Mathlib.Numerals.{add-one}
 use lib.Bits.{bitXor}
 use lib.Dec.{eqb}
-use lib.ListN.{length, getD, take}
+use lib.ListN.{length, getD}
 use Rattle.gf256.specs.Gf.{times, inverse}
 use Rattle.gf256.specs.Poly.{through}
 use Rattle.gf256.specs.Bytes.{bytes}
 use Rattle.gf256.proofs.Powers.{tab}
-use Rattle.gf256.proofs.Byte.{Byte, field, laws, addB, mulB, invB, oneB, through-number}
+use Rattle.gf256.proofs.Byte.{Byte, field, laws, addB, mulB, oneB, through-number}
 use Rattle.gf256.proofs.Lagrange.{prod, factor, weightOf, weighed}
-use Rattle.erasure.specs.Fragments.{table}
-use Rattle.erasure.specs.System.{sumTo, productTo, factorAt, directAt, AllDifferent, Weighs}
+use Rattle.erasure.specs.System.{productTo, factorAt, directAt, AllDifferent, Weighs}
 use Rattle.erasure.proofs.Sums.{sumTo-ext}
 use Rattle.erasure.proofs.Solved.{toByte, to-val, point, different, sum-number, tab-take, tab-table}
 

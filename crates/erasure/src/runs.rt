@@ -3,7 +3,6 @@ ghost use mathlib.Core.Path.{_≡_};
 ghost use mathlib.Core.List.{_++_};
 ghost use Prim.Native.Nat.{ℕ, _+_, _-_, _*_, _<_, _≤_};
 ghost use lib.ListN.{getD, length, drop};
-ghost use Rattle.cluster.specs.Ranges.{topLength};
 ghost use Rattle.erasure.specs.Steps.{zeros, fragmentRoom};
 ghost use Rattle.erasure.specs.System.{width, AllDifferent};
 ghost use Rattle.erasure.specs.Lanes.{madeOf, plainOf, rebuiltOf};

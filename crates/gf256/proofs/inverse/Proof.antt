@@ -1,6 +1,6 @@
 -- The inverse of 0 is 0; any other has 255 less the logarithm as its own.
 use native.Mathlib.Omega.{arith}
-use mathlib.Core.Path.{_≡_, sym, ap, _∙_}
+use mathlib.Core.Path.{sym, ap, _∙_}
 use Rattle.gf256.proofs.Tables.{inverse-of-log, inverse-zero}
 use Rattle.gf256.specs.Gf.{inverse}
 use borrow.Author.Needs.{needs}

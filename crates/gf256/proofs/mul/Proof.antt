@@ -1,6 +1,6 @@
 -- A product with 0 is 0; any other has the sum of the logarithms as its own.
 use Prim.Native.Nat.{ℕ}
-use mathlib.Core.Path.{_≡_, sym, ap, _∙_}
+use mathlib.Core.Path.{sym, ap, _∙_}
 use Rattle.gf256.specs.Gf.{times}
 use Rattle.gf256.proofs.Tables.{times-of-logs}
 use Rattle.gf256.proofs.Linear.{times-zero-l, times-zero-r}

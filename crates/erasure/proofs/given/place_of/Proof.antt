@@ -1,6 +1,5 @@
 -- The loop is left before its end only where the point stands.
-use mathlib.Core.Path.{_≡_}
-use Prim.Native.Nat.{_-_, _<_, _≤_}
+use Prim.Native.Nat.{_-_, _≤_}
 use native.Mathlib.Omega.{arith}
 use borrow.Author.Needs.{needs}
 use Rattle.erasure.proofs.given.place_of.Statement.{statement}

@@ -1,6 +1,6 @@
 -- A given run is copied from its own fragment; the weights at another run's point make the sums.
 use mathlib.Core.Path.{sym}
-use Prim.Native.Nat.{ℕ, _+_}
+use Prim.Native.Nat.{_+_}
 use native.Mathlib.Omega.{arith}
 use borrow.Author.Needs.{needs}
 use lib.ListN.{getD}

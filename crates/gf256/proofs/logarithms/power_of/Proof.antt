@@ -1,5 +1,4 @@
 -- The table is that of the powers, entry by entry.
-use lib.ListN.{getD}
 use Rattle.gf256.proofs.Tables.{powers, powers-at}
 use borrow.Author.Needs.{needs}
 use Rattle.gf256.proofs.logarithms.power_of.Statement.{statement}
