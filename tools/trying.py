@@ -117,12 +117,19 @@ def fact_of(text, most=400):
         re.search(r"expected type (`[^`]*`),? but this has type (`[^`]*`)", text),
         re.search(r"the two types are (`[^`]*`) \(expected\) and (`[^`]*`) \(found\)", text),
     ]
-    part = re.search(r"differ (?:only )?where one has (`[^`]*`) \(expected\).*? and the other has (`[^`]*`) \(found\)", text)
+    differ = r"differ (?:only )?where one has (`[^`]*`) \(expected\).*? and the other has (`[^`]*`) \(found\)"
+    part = re.search(r"computed as far as they go, the two types (?:first )?" + differ, text) or re.search(differ, text)
     said = [f"expected {m.group(1)}, found {m.group(2)}" for m in whole if m]
     if said:
         short = min(said, key=len)
         return f"expected there {part.group(1)}, found {part.group(2)}" if part and len(short) > most else short
-    return re.sub(r"\. It read .*", ".", text) if text.startswith("`omega`: the goal does not follow") else ""
+    if text.startswith("`omega`: the goal does not follow"):
+        return re.sub(r"\. It read .*", ".", text)
+    left = re.search(r"what it leaves must be a path whose two ends are equal, and (`[^`]*`) is none", text)
+    if left:
+        return f"no path between equal ends: {left.group(1)}"
+    sought = re.search(r"the first part of which no proof was found is `[^`]*`, (`[^`]*`)", text, re.I) or re.match(r"`search`: no proof of (`[^`]*`)", text)
+    return f"no proof of {sought.group(1)} was found" if sought else ""
 
 
 def refusals(said, folder):
@@ -144,3 +151,12 @@ def refusals(said, folder):
 
 def cut(text, most=400):
     return text if len(text) <= most else text[:most] + " .."
+
+
+def shortened(text, most):
+    """The text with long terms cut in the middle, and the way back to a fact's moment left out."""
+
+    def term(m):
+        return m.group() if len(m.group()) <= 150 else f"{m.group()[:70]} .. {m.group()[-70:]}"
+
+    return cut(re.sub(r"`[^`]*`", term, re.sub(r"(?: \.before)+", " ..", text)), most)
