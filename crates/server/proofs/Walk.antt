@@ -28,7 +28,7 @@ use Rattle.protocol.proofs.Walks.{Reads, decide, leaves-moved, many-next, many-
 use Rattle.wire.specs.Places.{lengthAt, writeAt}
 use Rattle.wire.proofs.Through.{past-stamp}
 use Rattle.server.specs.declared.memory.Found.the-variants as found
-use Rattle.server.specs.Reads.{writesPlace, frameSize, writeSize, Stored, firstWith, FindAs}
+use Rattle.server.specs.Reads.{writesPlace, frameSize, writeSize, Stored, firstWith, SearchAs}
 
 -- ---- the bytes of a stored write
 
@@ -123,7 +123,7 @@ walk-none s n d key {at} p =
     }
 
 module _ {s : Config} {n : ℕ} {d key : List ℕ} {at i : ℕ} (h : Walking s n d key at i) where
-  pub walk-end : n ≤ i → FindAs s n d key found.Nothing
+  pub walk-end : n ≤ i → SearchAs s n d key found.Nothing
   unfolding firstWith
   walk-end l ws e m =
       let (ys, r, p) = h .rest ws e m in
@@ -135,7 +135,7 @@ module _ {s : Config} {n : ℕ} {d key : List ℕ} {at i : ℕ} (h : Walking s n
 
     -- y is what stands from the cursor on, and z the size of its first write
     module _ {y : List ℕ} (u : y ≡ drop at d) where
-      pub walk-short : {z : ℕ} → z ≡ writeSize s (drop at d) → length y < z → FindAs s n d key found.Nothing
+      pub walk-short : {z : ℕ} → z ≡ writeSize s (drop at d) → length y < z → SearchAs s n d key found.Nothing
       walk-short v k ws e m = absurd (omega (arith, v, k, ap length u, length-drop at d, there m .within))
 
       module _ {x : List ℕ} (p : x ≡ part y 0 stampSize) {b : Bool} (c : b ≡ sameList x key) where
@@ -143,7 +143,7 @@ module _ {s : Config} {n : ℕ} {d key : List ℕ} {at i : ℕ} (h : Walking s n
         unfolding part
         compared m = ap (λ (z : List ℕ). sameList z key) (sym (p ∙ ap (take stampSize) u ∙ unfold part in (stamp-bytes s (there m) bs))) ∙ sym c
 
-        pub walk-found : b ≡ true → FindAs s n d key (found.At at)
+        pub walk-found : b ≡ true → SearchAs s n d key (found.At at)
         unfolding firstWith
         walk-found t ws e m =
             let f = there m in

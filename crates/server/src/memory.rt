@@ -4,7 +4,7 @@ ghost use Prim.Native.Nat.{_≤_};
 ghost use lib.ListN.{length};
 ghost use Rattle.cluster.specs.Config.{shelf};
 ghost use Rattle.protocol.specs.View.{stampAt};
-ghost use Rattle.server.specs.Reads.{frameSize, FindAs, RepeatsAs, WritesAs, MemoryAs, keyOf, maxOf, writesPlace};
+ghost use Rattle.server.specs.Reads.{frameSize, SearchAs, FindAs, RepeatsAs, WritesAs, MemoryAs, keyOf, maxOf, writesPlace};
 use wire::bytes::part;
 use wire::bytes::rest;
 use wire::fields::Cursor;
@@ -19,15 +19,15 @@ pub enum Found {
     Nothing,
 }
 
-// The place past the stored writes.
+// The place past the stored writes, and a bound of their stamps in their order.
 pub enum Writes {
-    Past(usize),
+    Past(usize, u64),
     Broken,
 }
 
-// t, the server's number, how many writes are stored, and the place past them; or refusal 2.
+// t, the server's number, how many writes are stored, the place past them, and a bound of their stamps; or refusal 2.
 pub enum MemoryRead {
-    Value(u8, u8, usize, usize),
+    Value(u8, u8, usize, usize, u64),
     Broken,
 }
 
@@ -49,9 +49,16 @@ fn frame_size(t: u8) -> usize
         + wire::sizes::tags_size(t)
 }
 
+// A stamp's place in their order, as one number.
+pub(crate) fn key_at(stamp: &[u8]) -> u64
+    ensures { λ r. ⌜ r ≡ keyOf (stampAt (now (stamp .entry))) ⌝ }
+{
+    256 * (wire::bytes::number4(stamp) as u64) + (wire::bytes::byte_at(stamp, 4) as u64)
+}
+
 // The first of n stored writes whose stamp has these bytes. They were checked when the memory was opened, so each ends where its record length says.
-pub fn find(memory: &[u8], t: u8, n: usize, stamp: &[u8]) -> Found
-    ensures { λ r. ⌜ FindAs (shelf t) n (now (memory .entry)) (now (stamp .entry)) r ⌝ }
+fn search(memory: &[u8], t: u8, n: usize, stamp: &[u8]) -> Found
+    ensures { λ r. ⌜ SearchAs (shelf t) n (now (memory .entry)) (now (stamp .entry)) r ⌝ }
 {
     let frame = frame_size(t);
     let mut at = writes_place(t);
@@ -72,11 +79,15 @@ pub fn find(memory: &[u8], t: u8, n: usize, stamp: &[u8]) -> Found
     Found::Nothing
 }
 
-// A stamp's place in their order, as one number.
-pub(crate) fn key_at(stamp: &[u8]) -> u64
-    ensures { λ r. ⌜ r ≡ keyOf (stampAt (now (stamp .entry))) ⌝ }
+// The first of n stored writes whose stamp has the bytes that some begin with. None of the writes is above top, so that a stamp above it needs no search.
+pub fn find(memory: &[u8], t: u8, n: usize, top: u64, bytes: &[u8]) -> Found
+    ensures { λ r. ⌜ FindAs (shelf t) n top (now (memory .entry)) (now (bytes .entry)) r ⌝ }
 {
-    256 * (wire::bytes::number4(stamp) as u64) + (wire::bytes::byte_at(stamp, 4) as u64)
+    let stamp = part(bytes, 0, wire::sizes::STAMP);
+    if top < key_at(stamp) {
+        return Found::Nothing;
+    }
+    search(memory, t, n, stamp)
 }
 
 pub(crate) fn max_of(a: u64, b: u64) -> u64
@@ -88,14 +99,11 @@ pub(crate) fn max_of(a: u64, b: u64) -> u64
     a
 }
 
-// Whether one of the first n stored writes has the stamp at a place. None of them is above top, so that a stamp above it needs no search.
-fn repeats(memory: &[u8], t: u8, n: usize, at: usize, top: u64) -> bool
-    ensures { λ r. ⌜ RepeatsAs (shelf t) n (now (memory .entry)) at top r ⌝ }
+// Whether one of the first n stored writes, none of them above top, has the stamp at a place.
+fn repeats(memory: &[u8], t: u8, n: usize, top: u64, at: usize) -> bool
+    ensures { λ r. ⌜ RepeatsAs (shelf t) n top (now (memory .entry)) at r ⌝ }
 {
-    if top < key_at(rest(memory, at)) {
-        return false;
-    }
-    let Found::Nothing = find(memory, t, n, part(memory, at, wire::sizes::STAMP)) else {
+    let Found::Nothing = find(memory, t, n, top, rest(memory, at)) else {
         return true;
     };
     false
@@ -113,14 +121,14 @@ fn check_writes(memory: &[u8], t: u8, n: usize) -> Writes
         let Field::Value(size, next) = wire::parts::write_field(memory, Cursor { at }, t) else {
             return Writes::Broken;
         };
-        if repeats(memory, t, i, at, top) {
+        if repeats(memory, t, i, top, at) {
             return Writes::Broken;
         }
         top = max_of(top, key_at(rest(memory, at)));
         at = next.at;
         i += 1;
     }
-    Writes::Past(at)
+    Writes::Past(at, top)
 }
 
 // The whole memory. All bytes after the last write are joined.
@@ -149,11 +157,11 @@ pub fn open(memory: &[u8]) -> MemoryRead
     let Field::Value(number, c4) = wire::parts::any_candidate_field(memory, c3, t as u8) else {
         return MemoryRead::Broken;
     };
-    let Writes::Past(end) = check_writes(memory, t as u8, n as usize) else {
+    let Writes::Past(end, top) = check_writes(memory, t as u8, n as usize) else {
         return MemoryRead::Broken;
     };
     if wire::bytes::all_zero(rest(memory, end)) {
-        return MemoryRead::Value(t as u8, server as u8, n as usize, end);
+        return MemoryRead::Value(t as u8, server as u8, n as usize, end, top);
     }
     MemoryRead::Broken
 }
