@@ -1,8 +1,8 @@
 """Edits of the crates, copies to try them in, and what the prover says of them: for tools/edits and tools/theorem-edits.
 
-An edit file: lines that start with '#' say what is wrong. Blocks 'file:', 'old:', 'new:' follow; a text goes on over the next lines up to the next
-key; 'file:' holds for the pairs after it, and an old text stands in its file exactly once. 'without:' leaves out a file of worked examples, which
-compute single runs of the right shelf, and its 'mod' line.
+An edit file begins with lines '# ..' that say what is wrong (rt needs none); later ones are remarks. Blocks 'file:', 'old:', 'new:' follow; a text goes
+on over the next lines up to the next key; 'file:' holds for the pairs after it, and an old text stands in its file exactly once. 'without:' leaves out a
+file of worked examples, which compute single runs of the right shelf, and its 'mod' line.
 """
 import itertools
 import os
@@ -60,13 +60,13 @@ def read_edit(path):
             if key == "without":
                 pairs.append((m.group(2), None, None))
         elif line.startswith("#"):
-            comment.append(line[1:].strip())
+            comment += [line[1:].strip()] if key is None else []
         elif key is not None:
             texts[key].append(line)
         elif line.strip():
             raise Wrong(f"a line before the first 'file:' is no comment: {line}")
     close()
-    if not pairs or not comment:
+    if not pairs or not (comment or path.parent.name == "must-fail"):
         raise Wrong("it needs a comment and a pair of 'old:' and 'new:'")
     return comment, pairs
 
