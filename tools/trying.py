@@ -1,8 +1,7 @@
 """Edits of the crates, copies to try them in, and what the prover says of them: for tools/edits and tools/theorem-edits.
 
 An edit file begins with lines '# ..' that say what is wrong (rt needs none); later ones are remarks. Blocks 'file:', 'old:', 'new:' follow; a text goes
-on over the next lines up to the next key; 'file:' holds for the pairs after it, and an old text stands in its file exactly once. 'without:' leaves out a
-file of worked examples, which compute single runs of the right shelf, and its 'mod' line.
+on over the next lines up to the next key; 'file:' holds for the pairs after it, and an old text stands in its file exactly once.
 """
 import itertools
 import os
@@ -13,7 +12,7 @@ import subprocess
 
 ROOT = pathlib.Path(__file__).resolve().parent.parent
 PARTS = ("src", "specs", "proofs")
-KEY = re.compile(r"(file|old|new|without):(?: (.*)|)$")
+KEY = re.compile(r"(file|old|new):(?: (.*)|)$")
 # an error, also of a proof that the prover made itself of a function that has no proof file
 ERROR = re.compile(r"(?:note: what antt said of a `search` in the proof that rattle made: )?(\S+?):(\d+):\d+: (error: )?(.*)")
 # an error that only passes an earlier one on
@@ -44,7 +43,7 @@ def needed(crate):
 
 
 def read_edit(path):
-    """What is wrong, and the replacements (file, old, new). A file that is left out: (file, None, None)."""
+    """What is wrong, and the replacements (file, old, new)."""
     pairs, key, texts, comment = [], None, {}, []
 
     def close():
@@ -57,8 +56,6 @@ def read_edit(path):
             close()
             key = m.group(1)
             texts[key] = [m.group(2)] if m.group(2) is not None else []
-            if key == "without":
-                pairs.append((m.group(2), None, None))
         elif line.startswith("#"):
             comment += [line[1:].strip()] if key is None else []
         elif key is not None:
@@ -96,11 +93,6 @@ def apply(pairs, folder):
         path = (folder / file).resolve()
         if folder.resolve() not in path.parents or not path.is_file():
             raise Wrong(f"no file that the edit may change: {file}")
-        if old is None:
-            path.unlink()
-            lib = path.parent / "Lib.antt"
-            lib.write_text(re.sub(rf"^(pub )?mod {path.stem}\n", "", lib.read_text(), flags=re.M))
-            continue
         text = path.read_text()
         if not old or text.count(old) != 1:
             raise Wrong(f"an old text stands {text.count(old) if old else 0} times in {file}: {old.splitlines()[:1]}")

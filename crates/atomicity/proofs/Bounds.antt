@@ -1,35 +1,25 @@
 -- Marks are no more than the writes begun: their nonces differ, and each is the nonce of a write that began.
 -- Assumes nothing.
 use mathlib.Core.Path.{_≡_, refl, sym, ap, ap₂, _∙_, subst}
-use mathlib.Core.Bool.{Bool, true, false, cond, not, _&&_, _||_}
+use mathlib.Core.Bool.{Bool, true, false, cond}
 use mathlib.Core.List.{List, [], _∷_, _++_, map}
 use mathlib.Core.Option.{Option, none, some}
 use mathlib.Core.Logic.{_⊎_, inl, inr}
-use Prim.Native.Nat.{ℕ, zero, suc, _+_, _*_, _≤_, _<_}
+use Prim.Native.Nat.{ℕ, suc, _+_, _≤_}
 use native.Mathlib.Omega.{arith}
-use lib.Dec.{leb, ltb, eqb}
 use lib.ListN.{length, length-append}
-use Rattle.cluster.specs.Config.{upTo}
-use Rattle.protocol.specs.declared.Stamp.{Stamp}
-use Rattle.protocol.specs.Values.{Candidate, Held, sameList}
-use Rattle.protocol.specs.Packet.{Body, Packet, kindOf, decode}
-use Rattle.protocol.specs.Packet.{clock, clockReply, store, storeReply, complete, completeReply, collect, collectReply, filter, filterReply, repair, repairReply}
-use Rattle.protocol.specs.Primitives.{stampMessage, candidateMessage}
-use Rattle.protocol.specs.Rules.{ByServer, keep, leader, tagsIn}
-use Rattle.protocol.specs.Client.{Client, Hand, Turn, Result, idle, clocking, storing, completing, collecting, filtering, repairing, awaits}
-use Rattle.protocol.specs.Client.{update, judge, found, onto, begun, prepared, candidateMade, stampOf, higher, checks, stampIn, codeIn}
-use Rattle.protocol.specs.Runs.{Step, write, read, make, take-reply, give-up, serve, Typed, World, nowValues}
-use Rattle.atomicity.specs.Lists.{Ever, Always, All, In, AllPairs, flat}
-use Rattle.atomicity.specs.Steps.{System, Stamped, accepted, inPacket, clockStamps, stampedFrom, stampedBy, stampedAt, tagsWith, tagsMade, clockChecks, checkedBy, tagsChecked}
-use Rattle.atomicity.specs.Premises.{Begins, NoForgery}
+use Rattle.protocol.specs.Rules.{keep}
+use Rattle.protocol.specs.Client.{Client, Hand, idle, clocking, storing, completing, collecting, filtering, repairing}
+use Rattle.protocol.specs.Runs.{Step, write, read, make, take-reply, give-up, serve, nowValues}
+use Rattle.atomicity.specs.Lists.{Ever, In, AllPairs}
+use Rattle.atomicity.specs.Steps.{Stamped, accepted, stampedFrom, stampedBy, stampedAt}
+use Rattle.atomicity.specs.Premises.{Begins}
 use Rattle.atomicity.specs.Claim.{Call, given, log, begunWrites}
-use Rattle.atomicity.proofs.Util.{cond-case, cond-both, clash, and-left, left-in, right-in, split-in, in-flat, map-in, all-in, all-of, ever-map}
-use Rattle.atomicity.proofs.Model.{Run, perform, now, account, marks, updated, turn}
-use Rattle.atomicity.proofs.Setup.{Setup, Steps, StepOf, Fair, Begin, hand, calls}
-use Rattle.atomicity.proofs.Moves.{Moved, kept, wbegan, rbegan, quit, took, moved}
-use Rattle.atomicity.proofs.Rounds.{turn-turned}
-use Rattle.atomicity.proofs.Marks.{mark-source, capped, above}
-use Rattle.atomicity.proofs.Begun.{begins, by-nonce}
+use Rattle.atomicity.proofs.Util.{left-in, right-in, map-in, all-of}
+use Rattle.atomicity.proofs.Model.{perform, now, account, marks}
+use Rattle.atomicity.proofs.Setup.{Setup, Steps, StepOf, Fair, Begin, calls}
+use Rattle.atomicity.proofs.Marks.{mark-source, above}
+use Rattle.atomicity.proofs.Nonces.{begins, by-nonce}
 use Rattle.atomicity.proofs.Shape.{Log, result, touched, news, newCall, note-shape}
 use Rattle.atomicity.proofs.Logs.{Signed}
 use Rattle.atomicity.proofs.Story.{past, story, story-log, stepSigned, step-keeps}

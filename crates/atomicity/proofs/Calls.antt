@@ -2,26 +2,26 @@
 -- stamp is above all that had ended when it began, a read's is at least as high and is that of the write whose content it gave.
 -- Assumes nothing.
 use mathlib.Core.Path.{_≡_, refl, sym, ap, _∙_, subst}
-use mathlib.Core.Bool.{Bool, true, false, cond, not, _&&_, _||_}
-use mathlib.Core.List.{List, [], _∷_, _++_}
-use mathlib.Core.Option.{Option, none, some}
+use mathlib.Core.Bool.{Bool, true, false, cond}
+use mathlib.Core.List.{List, [], _∷_}
+use mathlib.Core.Option.{none, some}
 use mathlib.Core.Logic.{_⊎_, inl, inr}
-use Prim.Native.Nat.{ℕ, zero, suc, _+_, _*_, _≤_, _<_}
+use Prim.Native.Nat.{ℕ, suc, _≤_, _<_}
 use native.Mathlib.Omega.{arith}
-use lib.Dec.{leb, ltb, eqb}
+use lib.Dec.{eqb}
 use lib.ListN.{length}
 use Rattle.protocol.specs.declared.Stamp.{Stamp}
-use Rattle.protocol.specs.Values.{Candidate, Share, below, blankStamp}
+use Rattle.protocol.specs.Values.{Candidate, below, blankStamp}
 use Rattle.protocol.specs.Packet.{Packet, decode}
 use Rattle.protocol.specs.Client.{Client, Hand, Result, idle, clocking, storing, completing, collecting, filtering, repairing, begun, onto}
-use Rattle.protocol.specs.Runs.{Step, take-reply, Typed, World, nowValues}
-use Rattle.atomicity.specs.Lists.{Ever, Always, In}
-use Rattle.atomicity.specs.Steps.{System, Stamped, accepted, stampedAt}
+use Rattle.protocol.specs.Runs.{take-reply, nowValues}
+use Rattle.atomicity.specs.Lists.{Ever, In}
+use Rattle.atomicity.specs.Steps.{Stamped, accepted, stampedAt}
 use Rattle.atomicity.specs.Claim.{Call}
 use Rattle.atomicity.proofs.Util.{cond-case, left-in, right-in}
-use Rattle.atomicity.proofs.Model.{Run, perform, now, account, marks}
-use Rattle.atomicity.proofs.Setup.{Setup, Steps, StepOf, Fair, Show, hand, calls}
-use Rattle.atomicity.proofs.Moves.{Fits, Moved, kept, wbegan, rbegan, quit, took, moved}
+use Rattle.atomicity.proofs.Model.{perform, now, account, marks}
+use Rattle.atomicity.proofs.Setup.{Setup, Steps, StepOf, Show, hand, calls}
+use Rattle.atomicity.proofs.Moves.{Moved, kept, wbegan, rbegan, quit, took, moved}
 use Rattle.atomicity.proofs.Rounds.{turn-turned, since, since-same}
 use Rattle.atomicity.proofs.Marks.{marks-up}
 use Rattle.atomicity.proofs.Invariant.{Ends}

@@ -2,33 +2,33 @@
 -- had ended when the call began; and a proven candidate is that of a write, whose content its group gives back.
 -- Assumes nothing.
 use mathlib.Core.Path.{_≡_, refl, sym, ap, ap₂, _∙_, subst}
-use mathlib.Core.Bool.{Bool, true, false, cond, not, _&&_, _||_}
-use mathlib.Core.List.{List, [], _∷_, _++_, map}
-use mathlib.Core.Option.{Option, none, some}
+use mathlib.Core.Bool.{Bool, true, false, cond, not}
+use mathlib.Core.List.{List, [], _∷_}
+use mathlib.Core.Option.{some}
 use mathlib.Core.Logic.{_⊎_, inl, inr}
-use Prim.Native.Nat.{ℕ, zero, suc, _+_, _*_, _≤_, _<_}
+use Prim.Native.Nat.{ℕ, _≤_, _<_}
 use native.Mathlib.Omega.{arith}
-use lib.Dec.{leb, ltb, eqb}
+use lib.Dec.{ltb, eqb}
 use lib.ListN.{length}
-use borrow.Author.Tests.{ltb-false, leb-true, eqb-true, eqb-false}
-use Rattle.cluster.specs.Config.{quorum, upTo}
+use borrow.Author.Tests.{ltb-false, leb-true, eqb-false}
+use Rattle.cluster.specs.Config.{upTo}
 use Rattle.erasure.specs.Fragments.{Part}
 use Rattle.protocol.specs.declared.Stamp.{Stamp}
 use Rattle.protocol.specs.Values.{Candidate, Share, Held, below, blankStamp, blankCandidate, isSome, nth, digestSize, runOf}
 use Rattle.protocol.specs.Memory.{held}
-use Rattle.protocol.specs.Rules.{ByServer, any, keep, first, countTo, lower, live, fits, agrees, leads, leader, proven, highest, choice, parts, restoredBy, tagsIn}
+use Rattle.protocol.specs.Rules.{ByServer, any, first, countTo, lower, live, fits, agrees, leads, leader, proven, highest, choice, restoredBy, tagsIn}
 use Rattle.atomicity.specs.Lists.{Ever, In}
-use Rattle.atomicity.specs.Steps.{System, Stamped, digestsWith}
-use Rattle.atomicity.proofs.Util.{bool-case, clash, not-t, not-f, and-left, and-right, in-keep, keep-in, none-in, in-map}
+use Rattle.atomicity.specs.Steps.{Stamped, digestsWith}
+use Rattle.atomicity.proofs.Util.{bool-case, clash, not-t, and-left, and-right, in-keep, keep-in, none-in, in-map}
 use Rattle.atomicity.proofs.Stamps.{le-trans, le-blank}
 use Rattle.atomicity.proofs.Counting.{quorum-sum}
-use Rattle.atomicity.proofs.Model.{Run, marks, fragmentFor, tagsFor}
+use Rattle.atomicity.proofs.Model.{marks, fragmentFor, tagsFor}
 use Rattle.atomicity.proofs.Setup.{Setup, Steps, Fair, Show, lat, hist}
 use Rattle.atomicity.proofs.Begun.{mark-bytes, mark-digested}
 use Rattle.atomicity.proofs.Genuine.{Genuine}
-use Rattle.atomicity.proofs.States.{S, Q, right, FullAt, TopAt, Beats, meets-marks, correct-in, Filters}
+use Rattle.atomicity.proofs.States.{S, Q, FullAt, TopAt, Beats, meets-marks, correct-in, Filters}
 use Rattle.atomicity.proofs.Gathered.{members, members-length, members-range, members-apart, upTo-in}
-use Rattle.atomicity.proofs.Groups.{Fit, fit-view, Alike, member, leader-view, parts-are, no-two}
+use Rattle.atomicity.proofs.Groups.{fit-view, member, leader-view, parts-are, no-two}
 
 pub first-view : {A : Type 0} (p : A → Bool) (l : List A) (c : A) → first p l ≡ some c → In c l × (p c ≡ true)
 unfolding first In

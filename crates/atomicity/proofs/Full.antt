@@ -3,12 +3,11 @@
 -- Assumes nothing.
 use mathlib.Core.Path.{_≡_, refl, sym, ap, _∙_, subst}
 use mathlib.Core.Bool.{Bool, true, false, cond}
-use mathlib.Core.List.{List, [], _∷_, _++_, map}
-use mathlib.Core.Option.{Option, none, some}
+use mathlib.Core.List.{[], _∷_, _++_, map}
 use mathlib.Core.Logic.{_⊎_, inl, inr}
-use Prim.Native.Nat.{ℕ, zero, suc, _+_, _≤_, _<_}
+use Prim.Native.Nat.{ℕ, _≤_, _<_}
 use native.Mathlib.Omega.{arith}
-use lib.Dec.{leb, eqb}
+use lib.Dec.{leb}
 use lib.ListN.{length}
 use borrow.Author.Tests.{leb-true}
 use Rattle.cluster.specs.Ranges.{capacity}
@@ -19,13 +18,13 @@ use Rattle.protocol.specs.Packet.{clock, clockReply, store, storeReply, complet
 use Rattle.protocol.specs.Memory.{held}
 use Rattle.protocol.specs.Rules.{ByServer}
 use Rattle.protocol.specs.Server.{Server, Acted, raise, kept, act}
-use Rattle.protocol.specs.Client.{Hand, storing, codeIn, request}
-use Rattle.protocol.specs.Runs.{Typed, nowValues}
-use Rattle.atomicity.specs.Lists.{Ever, All, In, AllPairs}
+use Rattle.protocol.specs.Client.{storing, codeIn}
+use Rattle.protocol.specs.Runs.{nowValues}
+use Rattle.atomicity.specs.Lists.{Ever, In, AllPairs}
 use Rattle.atomicity.specs.Steps.{System, Stamped}
 use Rattle.atomicity.proofs.Util.{cond-both, cond-case, clash, rise, ever-map, all-of, in-map, map-in}
-use Rattle.atomicity.proofs.Model.{Run, perform, now, acts, marks, isValid, bestOf}
-use Rattle.atomicity.proofs.Setup.{Setup, Steps, StepOf, Fair, hand, hist}
+use Rattle.atomicity.proofs.Model.{perform, now, acts, marks, isValid, bestOf}
+use Rattle.atomicity.proofs.Setup.{Setup, Steps, Fair, hand, hist}
 use Rattle.atomicity.proofs.Serving.{Served, same, acted, served}
 use Rattle.atomicity.proofs.Marks.{marks-up}
 use Rattle.atomicity.proofs.Begun.{Known, known}

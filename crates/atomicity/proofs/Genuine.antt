@@ -22,7 +22,8 @@ use Rattle.atomicity.proofs.Model.{perform, now, account, marks, vouche
 use Rattle.atomicity.proofs.Setup.{Setup, Steps, StepOf, Meets, Fair, Begin, Show}
 use Rattle.atomicity.proofs.Serving.{Served, same, acted, served, making}
 use Rattle.atomicity.proofs.Marks.{marks-up}
-use Rattle.atomicity.proofs.Begun.{Known, known, begins, mark-digested}
+use Rattle.atomicity.proofs.Begun.{Known, known, mark-digested}
+use Rattle.atomicity.proofs.Nonces.{begins}
 use Rattle.atomicity.proofs.Servers.{Origin, act-grows}
 use Rattle.atomicity.proofs.Sources.{serve-shape, complete-writer, complete-made, MadeBy, server-correct, in-range, writer-made}
 use Rattle.atomicity.proofs.Histories.{Vouched, by-history, made-mark}

@@ -20,10 +20,8 @@ use Rattle.protocol.specs.Client.{update, judge, found, onto, prepared, codeIn,
 use Rattle.protocol.specs.Runs.{take-reply, World, doValues, setClient}
 use Rattle.atomicity.specs.Steps.{System}
 use Rattle.atomicity.proofs.Util.{cond-case, cond-both, bool-case, clash, upd-here, upd-else}
-use Rattle.atomicity.proofs.Model.{perform, marks, updated, turn}
-use Rattle.atomicity.proofs.Setup.{hand, calls}
+use Rattle.atomicity.proofs.Model.{perform, updated, turn}
 use Rattle.atomicity.proofs.Rounds.{stage}
-use Rattle.atomicity.proofs.Shape.{result}
 
 pub reply-t : (p ask : Packet) (y : Body) → p ≡ replyTo ask y → p .head .t ≡ ask .head .t
 unfolding replyTo

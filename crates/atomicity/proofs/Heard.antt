@@ -2,31 +2,30 @@
 -- hand. So what such a reply says was true of that server after the call and the round began: late replies, replays and disorder do no harm.
 -- Assumes nothing.
 use mathlib.Core.Path.{_≡_, refl, sym, ap, _∙_, subst}
-use mathlib.Core.Bool.{Bool, true, false, cond, not, _&&_, _||_}
-use mathlib.Core.List.{List, [], _∷_, _++_}
-use mathlib.Core.Option.{Option, none, some}
-use mathlib.Core.Logic.{_⊎_, inl, inr}
-use Prim.Native.Nat.{ℕ, zero, suc, _+_, _*_, _≤_, _<_}
+use mathlib.Core.Bool.{Bool, true, false, cond}
+use mathlib.Core.List.{[], _∷_}
+use mathlib.Core.Option.{some}
+use Prim.Native.Nat.{ℕ, suc, _+_, _*_}
 use native.Mathlib.Omega.{arith}
-use lib.Dec.{leb, ltb, eqb}
+use lib.Dec.{leb, eqb}
 use lib.ListN.{length}
 use Rattle.cluster.specs.Ranges.{capacity}
 use Rattle.protocol.specs.declared.Stamp.{Stamp}
-use Rattle.protocol.specs.Values.{Candidate, Share, Write, Held, below, isSome}
-use Rattle.protocol.specs.Packet.{Body, Packet, kindOf, decode}
+use Rattle.protocol.specs.Values.{below, isSome}
+use Rattle.protocol.specs.Packet.{Body, Packet, kindOf}
 use Rattle.protocol.specs.Packet.{clock, clockReply, store, storeReply, complete, completeReply, collect, collectReply, filter, filterReply, repair, repairReply}
 use Rattle.protocol.specs.Memory.{held}
 use Rattle.protocol.specs.Server.{Server, Acted, barred, replyTo, act, kept}
-use Rattle.protocol.specs.Client.{Client, Hand, idle, clocking, storing, completing, collecting, filtering, repairing, awaits, isIdle, request, made}
-use Rattle.protocol.specs.Runs.{Step, Typed, World, nowValues}
-use Rattle.atomicity.specs.Lists.{Ever, Always, In}
+use Rattle.protocol.specs.Client.{Hand, idle, clocking, storing, completing, collecting, filtering, repairing, awaits, isIdle, request, made}
+use Rattle.protocol.specs.Runs.{nowValues}
+use Rattle.atomicity.specs.Lists.{Ever, In}
 use Rattle.atomicity.specs.Steps.{System, Stamped, accepted, makes, serves, packetIn}
 use Rattle.atomicity.proofs.Util.{clash, cond-both, ever-map, ever-with, ever-out}
 use Rattle.atomicity.proofs.Stamps.{le-trans, below-irrefl}
-use Rattle.atomicity.proofs.Model.{Run, perform, now, account, acts, marks}
+use Rattle.atomicity.proofs.Model.{perform, now, acts, marks}
 use Rattle.atomicity.proofs.Setup.{Setup, Steps, StepOf, Meets, Fair, lat, hist, hand, calls}
-use Rattle.atomicity.proofs.Serving.{Asked, Making, making}
-use Rattle.atomicity.proofs.Rounds.{stage, pos, stage-awaits, since, from, Before, ever-before, before-one, before-trans}
+use Rattle.atomicity.proofs.Serving.{making}
+use Rattle.atomicity.proofs.Rounds.{pos, stage-awaits, since, from, Before, ever-before}
 use Rattle.atomicity.proofs.Marks.{marks-up}
 use Rattle.atomicity.proofs.Servers.{held-some, is-some, in-held, latest-rises, history-keeps}
 use Rattle.atomicity.proofs.Sources.{MadeBy, Told, reply-source}

@@ -3,36 +3,30 @@
 -- correct replies.
 -- Assumes nothing.
 use mathlib.Core.Path.{_≡_, refl, sym, ap, _∙_, subst}
-use mathlib.Core.Bool.{Bool, true, false, cond, _||_}
+use mathlib.Core.Bool.{true, false, cond}
 use mathlib.Core.List.{List, [], _∷_}
 use mathlib.Core.Option.{Option, none, some}
 use mathlib.Core.Logic.{_⊎_, inl, inr}
-use Prim.Native.Nat.{ℕ, zero, suc, _+_, _≤_, _<_}
-use native.Mathlib.Nat.{le-refl}
+use Prim.Native.Nat.{ℕ, zero, suc, _+_, _≤_}
 use native.Mathlib.Omega.{arith}
-use lib.Dec.{eqb}
-use lib.ListN.{length}
 use borrow.Author.Tests.{eq-eqb}
 use Rattle.cluster.specs.Config.{Legal}
-use Rattle.cluster.specs.Ranges.{capacity}
 use Rattle.cluster.proofs.Legal.{legal-shelf}
 use Rattle.protocol.specs.Primitives.{real}
 use Rattle.protocol.specs.Client.{Hand, awaits, isIdle}
-use Rattle.protocol.specs.Runs.{Typed, Account, byValues}
+use Rattle.protocol.specs.Runs.{Typed, byValues}
 use Rattle.protocol.proofs.Primitive.{real-lengths}
 use Rattle.protocol.proofs.Accounts.{claimed}
 use Rattle.atomicity.specs.Lists.{Always, Once, All, In, AllPairs}
 use Rattle.atomicity.specs.Steps.{System}
 use Rattle.atomicity.specs.Premises.{Correct, Parties, Premise}
-use Rattle.atomicity.specs.Claim.{Call, given, log, before, holds, shows, Replay, OneOrder, begunWrites, CameTo, Progress, systemOf}
-use Rattle.atomicity.specs.Page41.{Version, versions, NeverOlder, Answered, Ended, Page41}
+use Rattle.atomicity.specs.Claim.{Call, given, log, before, holds, shows, Replay, CameTo, Progress, systemOf}
+use Rattle.atomicity.specs.Page41.{Version, versions, NeverOlder, Ended, Page41}
 use Rattle.atomicity.proofs.Util.{unfalse, clash, or-cases, all-in}
 use Rattle.atomicity.proofs.Model.{Laws, account}
 use Rattle.atomicity.proofs.Setup.{Setup, Steps, Fair, hand, calls}
 use Rattle.atomicity.proofs.Shape.{Log}
-use Rattle.atomicity.proofs.Logs.{Signed}
-use Rattle.atomicity.proofs.Story.{story}
-use Rattle.atomicity.proofs.Settled.{Out, Settled, all-settled}
+use Rattle.atomicity.proofs.Settled.{Settled, all-settled}
 use Rattle.atomicity.proofs.OneServer.{known-call, progress}
 use Rattle.atomicity.proofs.Real.{real-laws}
 

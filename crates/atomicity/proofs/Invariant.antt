@@ -2,41 +2,42 @@
 -- held by a quorum, since it was shown in its complete round. And what has ended stays on top.
 -- Assumes nothing.
 use mathlib.Core.Path.{_≡_, refl, sym, ap, _∙_, subst}
-use mathlib.Core.Bool.{Bool, true, false, cond, not, _&&_, _||_}
-use mathlib.Core.List.{List, [], _∷_, _++_}
-use mathlib.Core.Option.{Option, none, some}
-use mathlib.Core.Logic.{_⊎_, inl, inr}
-use Prim.Native.Nat.{ℕ, zero, suc, _+_, _*_, _≤_, _<_}
+use mathlib.Core.Bool.{Bool, true, false, cond, not, _&&_}
+use mathlib.Core.List.{List, [], _∷_}
+use mathlib.Core.Option.{Option, some}
+use mathlib.Core.Logic.{inl}
+use Prim.Native.Nat.{ℕ, _≤_, _<_}
 use native.Mathlib.Omega.{arith}
 use lib.Dec.{leb, ltb, eqb}
 use lib.ListN.{length}
 use borrow.Author.Tests.{ltb-true, ltb-false, leb-true, leb-false, eqb-true, eqb-false}
 use Rattle.protocol.specs.declared.Stamp.{Stamp}
-use Rattle.protocol.specs.Values.{Candidate, Share, Held, below, blankStamp}
-use Rattle.protocol.specs.Packet.{Body, Packet, kindOf, decode, complete}
+use Rattle.protocol.specs.Values.{Candidate, Share, below, blankStamp}
+use Rattle.protocol.specs.Packet.{Body, Packet, decode, complete}
 use Rattle.protocol.specs.Packet.{clock, clockReply, store, storeReply, completeReply, collect, collectReply, filter, filterReply, repair, repairReply}
-use Rattle.protocol.specs.Rules.{ByServer, upd, countTo}
-use Rattle.protocol.specs.Client.{Client, Hand, Turn, Result, idle, clocking, storing, completing, collecting, filtering, repairing, isFull, awaits, isIdle, begun, onto, request, made, heldIn}
-use Rattle.protocol.specs.Runs.{Step, write, read, make, take-reply, give-up, serve, Typed, World, nowValues}
+use Rattle.protocol.specs.Rules.{upd, countTo}
+use Rattle.protocol.specs.Client.{Client, Hand, Result, idle, clocking, storing, completing, collecting, filtering, repairing, isFull, awaits, begun, onto, made, heldIn}
+use Rattle.protocol.specs.Runs.{Step, write, read, make, take-reply, give-up, serve, World, nowValues}
 use Rattle.atomicity.specs.Lists.{Ever, Always, In, flat}
-use Rattle.atomicity.specs.Steps.{System, Stamped, accepted, packetIn, makes, stampedAt, partIn, fragments, inPacket, digestsWith, digested, digestedBy, allDigested}
+use Rattle.atomicity.specs.Steps.{Stamped, accepted, packetIn, makes, stampedAt, partIn, fragments, inPacket, digestsWith, digested, digestedBy, allDigested}
 use Rattle.atomicity.specs.Premises.{Shows, PartyOf, odd}
 use Rattle.atomicity.proofs.Util.{cond-case, bool-case, clash, left-in, right-in, ever-map, ever-with, rise, not-f, and-intro}
 use Rattle.atomicity.proofs.Stamps.{below-blank}
 use Rattle.atomicity.proofs.Counting.{split-count, quorum-sum, count-mono}
-use Rattle.atomicity.proofs.Model.{Run, perform, now, account, marks, turn, candidateFor}
+use Rattle.atomicity.proofs.Model.{perform, now, account, marks, turn}
 use Rattle.atomicity.proofs.Setup.{Setup, Steps, StepOf, Meets, Fair, Show, hand, calls, lat}
 use Rattle.atomicity.proofs.Moves.{Fits, Moved, kept, wbegan, rbegan, quit, took, moved}
-use Rattle.atomicity.proofs.Serving.{Making, making}
+use Rattle.atomicity.proofs.Serving.{making}
 use Rattle.atomicity.proofs.Rounds.{Next, next-stage, turn-turned, stage, pos, since, from, since-same, from-same, from-new}
 use Rattle.atomicity.proofs.Marks.{marks-up}
-use Rattle.atomicity.proofs.Begun.{Known, known, by-nonce}
-use Rattle.atomicity.proofs.Sources.{complete-made, by-server, read-back}
+use Rattle.atomicity.proofs.Begun.{Known, known}
+use Rattle.atomicity.proofs.Nonces.{by-nonce}
+use Rattle.atomicity.proofs.Sources.{complete-made, by-server}
 use Rattle.atomicity.proofs.Genuine.{Genuine}
 use Rattle.atomicity.proofs.Heard.{heard}
 use Rattle.atomicity.proofs.States.{S, Q, right, Many, FullAt, TopAt, full-up, top-up, HandOk, ok-up, says-up}
 use Rattle.atomicity.proofs.Telling.{says}
-use Rattle.atomicity.proofs.Turns.{ResultOk, Outcome, turn-ok, none-short, unmarked}
+use Rattle.atomicity.proofs.Turns.{Outcome, turn-ok, none-short, unmarked}
 
 module _ (K : Setup) where
   unfoldable pub Hands : Steps K → Type 0

@@ -8,6 +8,7 @@ pub mod Rounds
 pub mod Setup
 pub mod Marks
 pub mod Begun
+pub mod Nonces
 pub mod Servers
 pub mod Sources
 pub mod Histories
@@ -21,6 +22,9 @@ pub mod Choosing
 pub mod Turns
 pub mod Invariant
 pub mod Calls
+pub mod Following
+pub mod ReadEnds
+pub mod WriteEnds
 pub mod Replies
 pub mod Shape
 pub mod Logs
@@ -49,4 +53,5 @@ pub mod Exchanges
 pub mod Scene
 pub mod WriteFacts
 pub mod ReadFacts
+pub mod WriteGood
 pub mod Example

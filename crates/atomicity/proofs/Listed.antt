@@ -1,17 +1,17 @@
 -- Lists of different elements: no longer than any list that has them all, and no longer than a count of servers that marks them.
 -- Assumes nothing.
 use mathlib.Core.Path.{_≡_, refl, sym, ap, _∙_, subst}
-use mathlib.Core.Bool.{Bool, true, false, cond}
-use mathlib.Core.List.{List, [], _∷_, _++_, map}
+use mathlib.Core.Bool.{Bool, true, false}
+use mathlib.Core.List.{List, [], _∷_, map}
 use mathlib.Core.Logic.{_⊎_, inl, inr}
-use Prim.Native.Nat.{ℕ, zero, suc, _+_, _≤_, _<_}
+use Prim.Native.Nat.{ℕ, suc, _≤_}
 use native.Mathlib.Omega.{arith}
 use lib.Dec.{eqb}
 use lib.ListN.{length}
-use borrow.Author.Tests.{eqb-true, eqb-false, eq-eqb, ne-eqb}
+use borrow.Author.Tests.{eqb-true, eqb-false, ne-eqb}
 use Rattle.protocol.specs.Rules.{countTo, upd}
 use Rattle.atomicity.specs.Lists.{All, In, AllPairs}
-use Rattle.atomicity.proofs.Util.{bool-case, clash, all-in, all-of, map-in, upd-here, upd-else}
+use Rattle.atomicity.proofs.Util.{bool-case, all-in, all-of, map-in, upd-here, upd-else}
 use Rattle.atomicity.proofs.Counting.{count-mono, count-upd}
 
 module _ {A : Type 0} where

@@ -13,7 +13,7 @@ use borrow.Author.Tests.{eqb-true, eq-eqb}
 use Rattle.protocol.specs.declared.Stamp.{Stamp}
 use Rattle.protocol.specs.Values.{blankStamp}
 use Rattle.protocol.specs.Packet.{Packet, decode}
-use Rattle.protocol.specs.Client.{Client, Hand, Result, idle, clocking, storing, completing, collecting, filtering, repairing, begun, onto, awaits, isIdle}
+use Rattle.protocol.specs.Client.{Client, Hand, Result, idle, clocking, storing, completing, collecting, filtering, repairing, onto, awaits, isIdle}
 use Rattle.protocol.specs.Runs.{Step, write, read, make, take-reply, give-up, serve, nowValues}
 use Rattle.atomicity.specs.Lists.{Ever, Always, In}
 use Rattle.atomicity.specs.Steps.{Stamped, accepted, stampedFrom, stampedBy, stampedAt}
@@ -27,7 +27,8 @@ use Rattle.atomicity.proofs.Rounds.{since, from, turn-turned}
 use Rattle.atomicity.proofs.Invariant.{Hands, hands-all, outcome}
 use Rattle.atomicity.proofs.Turns.{Outcome}
 use Rattle.atomicity.proofs.Calls.{Cur, CallOk, Keeps, keeps-refl, carry}
-use Rattle.atomicity.proofs.Replies.{Follows, call-follows}
+use Rattle.atomicity.proofs.Replies.{call-follows}
+use Rattle.atomicity.proofs.Following.{Follows}
 use Rattle.atomicity.proofs.Shape.{begun-at, effect, newCall, news, refused-view, result, touch, touched}
 
 module _ (K : Setup) where

@@ -3,28 +3,24 @@
 -- digested.
 -- Assumes nothing.
 use mathlib.Core.Path.{_≡_, refl, sym, ap, _∙_, subst}
-use mathlib.Core.Bool.{Bool, true, false, cond, not, _&&_, _||_}
-use mathlib.Core.List.{List, [], _∷_, _++_, map}
-use mathlib.Core.Option.{Option, none, some}
+use mathlib.Core.Bool.{true, not, _&&_}
+use mathlib.Core.List.{List, [], _∷_}
 use mathlib.Core.Logic.{_⊎_, inl, inr}
-use Prim.Native.Nat.{ℕ, zero, suc, _+_, _*_, _≤_, _<_}
+use Prim.Native.Nat.{ℕ, suc, _≤_, _<_}
 use native.Mathlib.Nat.{le-refl}
 use native.Mathlib.Omega.{arith}
 use lib.Dec.{eqb}
 use borrow.Author.Tests.{ne-eqb}
 use Rattle.protocol.specs.declared.Stamp.{Stamp}
-use Rattle.protocol.specs.Format.{Bytes}
-use Rattle.protocol.specs.Values.{Candidate, Share, sameList, isBlank}
-use Rattle.protocol.specs.Packet.{Packet}
+use Rattle.protocol.specs.Values.{sameList, isBlank}
 use Rattle.protocol.specs.Primitives.{stampMessage}
-use Rattle.protocol.specs.Rules.{ByServer}
-use Rattle.protocol.specs.Client.{Client, Hand, Result, more, idle, clocking, storing, completing, collecting, filtering, repairing, begun, onto, prepared, candidateMade, shareMade, sharesMade, stampOf, tagsOf, checks}
-use Rattle.protocol.specs.Runs.{Step, write, read, make, take-reply, give-up, serve, Typed, World, Fed, nowValues}
-use Rattle.atomicity.specs.Lists.{Ever, In, flat}
-use Rattle.atomicity.specs.Steps.{System, Stamped, accepted, stampedFrom, stampedBy, stampedAt, digestsWith, digestedBy, allDigested, ok}
-use Rattle.atomicity.proofs.Util.{clash, and-intro, not-f, left-in, right-in, split-in, flat-in}
+use Rattle.protocol.specs.Client.{Client, Hand, Result, idle, clocking, storing, completing, collecting, filtering, repairing, begun, onto, prepared, candidateMade, stampOf, checks}
+use Rattle.protocol.specs.Runs.{Step, write, read, make, take-reply, give-up, serve, Typed, World, nowValues}
+use Rattle.atomicity.specs.Lists.{In}
+use Rattle.atomicity.specs.Steps.{System, Stamped, accepted, stampedFrom, stampedBy, stampedAt}
+use Rattle.atomicity.proofs.Util.{and-intro, not-f, right-in, split-in}
 use Rattle.atomicity.proofs.Stamps.{same-refl}
-use Rattle.atomicity.proofs.Model.{Run, perform, now, account, marks, stampFor, preparedFor, candidateFor, sharesFor}
+use Rattle.atomicity.proofs.Model.{Run, perform, now, account, marks, stampFor, preparedFor}
 use Rattle.atomicity.proofs.Moves.{Moved, kept, wbegan, rbegan, quit, took, moved}
 use Rattle.atomicity.proofs.Rounds.{Next, stays, clock-on, clock-ends, store-ends, collect-on, collect-ends, filter-on, filter-ends, over, turn-turned}
 

@@ -2,21 +2,19 @@
 -- the laws of digest, tag, fragments and packets that the proof rests on. The laws are proved for the real functions in the module Real.
 -- Assumes nothing.
 use mathlib.Core.Path.{_≡_}
-use mathlib.Core.Bool.{Bool, true, false, cond, not, _&&_}
+use mathlib.Core.Bool.{Bool, true, false, cond}
 use mathlib.Core.List.{List, [], _∷_, _++_, map}
-use mathlib.Core.Option.{Option, none, some}
-use Prim.Native.Nat.{ℕ, zero, suc, _≤_}
+use mathlib.Core.Option.{some}
+use Prim.Native.Nat.{ℕ, _≤_}
 use lib.Dec.{eqb}
 use lib.ListN.{length}
-use Rattle.cluster.specs.Config.{Config}
 use Rattle.cluster.specs.Ranges.{within, topClient}
 use Rattle.hmac.specs.Hmac.{tagSize}
-use Rattle.erasure.specs.Fragments.{Part}
 use Rattle.protocol.specs.declared.Stamp.{Stamp}
 use Rattle.protocol.specs.Format.{Bytes}
-use Rattle.protocol.specs.Values.{Candidate, Share, Write, Held, nth, runOf, digestSize, noShare}
+use Rattle.protocol.specs.Values.{Candidate, Share, Write, nth, runOf, digestSize, noShare}
 use Rattle.protocol.specs.Packet.{Body, Packet, decode}
-use Rattle.protocol.specs.Primitives.{Primitives, stampMessage, candidateMessage}
+use Rattle.protocol.specs.Primitives.{stampMessage, candidateMessage}
 use Rattle.protocol.specs.Rules.{ByServer, upd}
 use Rattle.protocol.specs.Server.{Server, Acted, blankServer, byHistory, byTag, valid, best, act}
 use Rattle.protocol.specs.Client.{Client, Hand, Turn, isFull, update, stampOf, tagsOf, prepared}

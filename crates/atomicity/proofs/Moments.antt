@@ -2,31 +2,28 @@
 -- before each of them. Here the premise enters that no nonce is seen before its write begins. And the earliest of the moments.
 -- Assumes nothing.
 use mathlib.Core.Path.{_≡_, refl, sym, ap, _∙_, subst}
-use mathlib.Core.Bool.{Bool, true, false, cond, not, _&&_, _||_}
-use mathlib.Core.List.{List, [], _∷_, _++_, map}
-use mathlib.Core.Option.{Option, none, some}
+use mathlib.Core.Bool.{Bool, true, false, cond, _&&_}
+use mathlib.Core.List.{List, [], _∷_, map}
+use mathlib.Core.Option.{Option}
 use mathlib.Core.Logic.{_⊎_, inl, inr}
-use Prim.Native.Nat.{ℕ, zero, suc, _+_, _≤_, _<_}
+use Prim.Native.Nat.{ℕ, zero, suc, _+_, _≤_}
 use native.Mathlib.Omega.{arith}
-use lib.Dec.{leb, ltb, eqb}
+use lib.Dec.{leb}
 use borrow.Author.Tests.{leb-true, leb-false}
-use Rattle.protocol.specs.declared.Stamp.{Stamp}
-use Rattle.protocol.specs.Values.{Candidate, Share, Held, blankCandidate}
-use Rattle.protocol.specs.Packet.{Body, Packet, decode, filter}
+use Rattle.protocol.specs.Values.{Candidate, Held, blankCandidate}
+use Rattle.protocol.specs.Packet.{Body, Packet}
 use Rattle.protocol.specs.Rules.{ByServer, countTo}
-use Rattle.protocol.specs.Runs.{Step, write, serve, Typed}
 use Rattle.atomicity.specs.Lists.{Ever, Always, In}
-use Rattle.atomicity.specs.Steps.{System, Stamped, serves, packetIn, judged, shown, inPacket, noncesBy, noncesGot}
+use Rattle.atomicity.specs.Steps.{Stamped, serves, judged, shown, inPacket, noncesBy, noncesGot}
 use Rattle.atomicity.specs.Premises.{Begins, FreshNonce, NoEarlyNonce}
 use Rattle.atomicity.proofs.Util.{bool-case, clash, and-left, and-right, in-map, all-in, rise, ever-map, ever-with}
-use Rattle.atomicity.proofs.Model.{Run, now, account, marks, isValid}
+use Rattle.atomicity.proofs.Model.{now, account, marks, isValid}
 use Rattle.atomicity.proofs.Setup.{Setup, Steps, StepOf, Meets, Fair, Begin, Show}
 use Rattle.atomicity.proofs.Marks.{marks-up}
-use Rattle.atomicity.proofs.Begun.{begins, by-nonce}
+use Rattle.atomicity.proofs.Nonces.{begins, by-nonce}
 use Rattle.atomicity.proofs.Servers.{best-view}
-use Rattle.atomicity.proofs.Sources.{serve-shape}
-use Rattle.atomicity.proofs.Genuine.{Judging, at-serve, Genuine, genuine}
-use Rattle.atomicity.proofs.States.{S, Q, right, FullAt}
+use Rattle.atomicity.proofs.Genuine.{at-serve, Genuine, genuine}
+use Rattle.atomicity.proofs.States.{right, FullAt}
 use Rattle.atomicity.proofs.Invariant.{Hands, hands-all, Shown, shown-at, shown-up, zip}
 use Rattle.atomicity.proofs.Listed.{counted-one}
 use Rattle.atomicity.proofs.Suffixes.{Suf, suf-refl, suf-total, suf-up, suf-trans, suf-tail, ever-suf, suf-ever}

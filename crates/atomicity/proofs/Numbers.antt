@@ -1,39 +1,35 @@
 -- Numbers stay small: a stamp's number is at most the number of marks, since each new one is one above a number that a mark has.
 -- Assumes nothing.
-use mathlib.Core.Path.{_≡_, refl, sym, ap, ap₂, _∙_, subst}
-use mathlib.Core.Bool.{Bool, true, false, cond, not, _&&_, _||_}
-use mathlib.Core.List.{List, [], _∷_, _++_, map}
+use mathlib.Core.Path.{_≡_, refl, sym, ap, _∙_, subst}
+use mathlib.Core.Bool.{Bool, true, false, cond, _&&_}
+use mathlib.Core.List.{List, [], _∷_, _++_}
 use mathlib.Core.Option.{Option, none, some}
-use mathlib.Core.Logic.{_⊎_, inl, inr}
-use Prim.Native.Nat.{ℕ, zero, suc, _+_, _*_, _≤_, _<_}
+use mathlib.Core.Logic.{inl, inr}
+use Prim.Native.Nat.{ℕ, _+_, _≤_}
 use native.Mathlib.Omega.{arith}
-use lib.Dec.{leb, ltb, eqb}
+use lib.Dec.{ltb, eqb}
 use lib.ListN.{length, length-append}
 use Rattle.cluster.specs.Config.{upTo}
 use Rattle.protocol.specs.declared.Stamp.{Stamp}
 use Rattle.protocol.specs.Values.{Candidate, Held, sameList}
-use Rattle.protocol.specs.Packet.{Body, Packet, kindOf, decode}
+use Rattle.protocol.specs.Packet.{Body, Packet, kindOf}
 use Rattle.protocol.specs.Packet.{clock, clockReply, store, storeReply, complete, completeReply, collect, collectReply, filter, filterReply, repair, repairReply}
 use Rattle.protocol.specs.Primitives.{stampMessage, candidateMessage}
-use Rattle.protocol.specs.Rules.{ByServer, keep, leader, tagsIn}
+use Rattle.protocol.specs.Rules.{ByServer, leader, tagsIn}
 use Rattle.protocol.specs.Client.{Client, Hand, Turn, Result, idle, clocking, storing, completing, collecting, filtering, repairing, awaits}
-use Rattle.protocol.specs.Client.{update, judge, found, onto, begun, prepared, candidateMade, stampOf, higher, checks, stampIn, codeIn}
-use Rattle.protocol.specs.Runs.{Step, write, read, make, take-reply, give-up, serve, Typed, World, nowValues}
-use Rattle.atomicity.specs.Lists.{Ever, Always, All, In, AllPairs, flat}
-use Rattle.atomicity.specs.Steps.{System, Stamped, accepted, inPacket, clockStamps, stampedFrom, stampedBy, stampedAt, tagsWith, tagsMade, clockChecks, checkedBy, tagsChecked}
-use Rattle.atomicity.specs.Premises.{Begins, NoForgery}
-use Rattle.atomicity.specs.Claim.{Call, given, log, begunWrites}
-use Rattle.atomicity.proofs.Util.{cond-case, cond-both, clash, and-left, left-in, right-in, split-in, in-flat, map-in, all-in, all-of, ever-map}
-use Rattle.atomicity.proofs.Model.{Run, perform, now, account, marks, updated, turn}
-use Rattle.atomicity.proofs.Setup.{Setup, Steps, StepOf, Fair, Begin, hand, calls}
+use Rattle.protocol.specs.Client.{update, judge, found, onto, begun, prepared, candidateMade, higher, checks, stampIn, codeIn}
+use Rattle.protocol.specs.Runs.{Step, World, nowValues}
+use Rattle.atomicity.specs.Lists.{Ever, Always, In, flat}
+use Rattle.atomicity.specs.Steps.{Stamped, accepted, inPacket, clockStamps, stampedFrom, stampedBy, stampedAt, tagsWith, tagsMade, clockChecks, checkedBy, tagsChecked}
+use Rattle.atomicity.specs.Premises.{NoForgery}
+use Rattle.atomicity.proofs.Util.{cond-case, cond-both, and-left, left-in, right-in, in-flat, map-in, all-in}
+use Rattle.atomicity.proofs.Model.{perform, now, account, marks, updated}
+use Rattle.atomicity.proofs.Setup.{Setup, Steps, StepOf, Fair, hand}
 use Rattle.atomicity.proofs.Moves.{Moved, kept, wbegan, rbegan, quit, took, moved}
 use Rattle.atomicity.proofs.Rounds.{turn-turned}
-use Rattle.atomicity.proofs.Marks.{mark-source, capped, above}
-use Rattle.atomicity.proofs.Begun.{begins, by-nonce}
-use Rattle.atomicity.proofs.Shape.{Log, result, touched, news, newCall, note-shape}
-use Rattle.atomicity.proofs.Logs.{Signed}
-use Rattle.atomicity.proofs.Story.{past, story, story-log, stepSigned, step-keeps}
-use Rattle.atomicity.proofs.Listed.{pigeon, map-size, map-apart}
+use Rattle.atomicity.proofs.Marks.{capped}
+use Rattle.atomicity.proofs.Shape.{result}
+use Rattle.atomicity.proofs.Story.{past}
 
 module _ (K : Setup) where
   unfoldable pub Low : ℕ → Hand → Type 0

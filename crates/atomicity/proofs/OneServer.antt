@@ -1,14 +1,14 @@
 -- The claim on values: for every system with its laws and every run that meets the premises there is one order of the calls, a write given up
 -- before its complete round is in none, and a round in hand lacks a quorum of correct replies.
 -- Assumes nothing.
-use mathlib.Core.Path.{_≡_, refl, sym, ap, _∙_, subst}
-use mathlib.Core.Bool.{Bool, true, false, cond, not, _&&_, _||_}
-use mathlib.Core.List.{List, [], _∷_, map}
-use mathlib.Core.Option.{Option, none, some}
+use mathlib.Core.Path.{_≡_, refl, sym, ap, subst}
+use mathlib.Core.Bool.{Bool, true, false, _&&_}
+use mathlib.Core.List.{List}
+use mathlib.Core.Option.{none}
 use mathlib.Core.Logic.{_⊎_, inl, inr}
 use Prim.Native.Nat.{ℕ, _≤_, _<_}
 use native.Mathlib.Omega.{arith}
-use lib.Dec.{leb, ltb, eqb}
+use lib.Dec.{leb, ltb}
 use lib.ListN.{length}
 use borrow.Author.Tests.{leb-true, ltb-true, ltb-false}
 use Rattle.cluster.specs.Config.{Legal}
@@ -16,7 +16,7 @@ use Rattle.cluster.specs.Ranges.{capacity}
 use Rattle.protocol.specs.Rules.{ByServer, countTo}
 use Rattle.protocol.specs.Client.{Hand, idle, clocking, storing, completing, collecting, filtering, repairing, awaits, isIdle}
 use Rattle.protocol.specs.Runs.{byValues}
-use Rattle.atomicity.specs.Lists.{All, In, AllPairs}
+use Rattle.atomicity.specs.Lists.{In}
 use Rattle.atomicity.specs.Steps.{System}
 use Rattle.atomicity.specs.Claim.{Call, given, counted, begunWrites, NeverRead, CameTo, CameIn, Progress, OneServer}
 use Rattle.atomicity.proofs.Util.{bool-case, clash, and-right, and-intro, or-cases, keep-in, all-in, map-in}
@@ -25,7 +25,6 @@ use Rattle.atomicity.proofs.Setup.{Setup, Steps, Fair, hand, calls}
 use Rattle.atomicity.proofs.Rounds.{since, from}
 use Rattle.atomicity.proofs.States.{S, Q, right, HandOk}
 use Rattle.atomicity.proofs.Invariant.{Hands, hands-all}
-use Rattle.atomicity.proofs.Calls.{CallOk}
 use Rattle.atomicity.proofs.Shape.{Log}
 use Rattle.atomicity.proofs.Logs.{Signed}
 use Rattle.atomicity.proofs.Story.{story, story-log}

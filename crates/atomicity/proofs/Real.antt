@@ -1,14 +1,13 @@
 -- The laws that the proof rests on, of the real digest, tag and fragments and the real packets, on document 01's shelf; and with them the
 -- claim of the operations on bytes, which give the same account of every run as the steps on values.
 -- Assumes nothing.
-use mathlib.Core.Path.{_≡_, refl, sym, ap, _∙_, subst}
-use mathlib.Core.Bool.{Bool, true, false}
-use mathlib.Core.Logic.{_≢_}
+use mathlib.Core.Path.{_≡_, sym, _∙_, subst}
+use mathlib.Core.Bool.{false}
 use mathlib.Core.List.{List, [], _∷_, map}
-use mathlib.Core.Option.{Option, none, some}
+use mathlib.Core.Option.{some}
 use Prim.Native.Nat.{ℕ, zero, suc, _≤_, _<_}
 use native.Mathlib.Omega.{arith}
-use lib.Dec.{leb, eqb}
+use lib.Dec.{eqb}
 use lib.ListN.{length, getD}
 use borrow.Author.Tests.{leb-true, eqb-false}
 use Rattle.cluster.specs.Config.{Config, shelf}
@@ -18,15 +17,15 @@ use Rattle.hmac.specs.Hmac.{tagSize}
 use Rattle.gf256.proofs.Byte.{DistinctN, ApartN}
 use Rattle.protocol.specs.Format.{Bytes, byte, number4, seq, via, keep}
 use Rattle.protocol.specs.Values.{digestSize}
-use Rattle.protocol.specs.Packet.{Packet, PacketOk, packetF, headF, bodyF, decode}
+use Rattle.protocol.specs.Packet.{Packet, PacketOk, packetF, headF, decode}
 use Rattle.protocol.specs.Primitives.{Primitives, Lengths, real}
 use Rattle.protocol.specs.ClientBytes.{keyOf}
-use Rattle.protocol.specs.Runs.{Shelf, configOf, Typed, steps, sentOf, byBytes}
+use Rattle.protocol.specs.Runs.{Shelf, configOf, steps, sentOf}
 use Rattle.protocol.proofs.Bodies.{decode-ok}
 use Rattle.protocol.proofs.Primitive.{real-lengths, stamp-inj, cand-inj, apart, nth-run, restores-parts}
 use Rattle.protocol.proofs.RunLift.{AllFed, run-agrees, sent-value}
 use Rattle.protocol.proofs.Accounts.{claimed}
-use Rattle.atomicity.specs.Lists.{All, In, AllPairs}
+use Rattle.atomicity.specs.Lists.{All, AllPairs}
 use Rattle.atomicity.specs.Steps.{System}
 use Rattle.atomicity.specs.Claim.{OneServer, systemOf, Demand3}
 use Rattle.atomicity.proofs.Model.{Run, Laws, perform, now}

@@ -2,23 +2,23 @@
 -- leaves the round as it is or ends it, so a position never falls, and within one position the request is the same.
 -- Assumes nothing.
 use mathlib.Core.Path.{_≡_, refl, sym, ap, _∙_, subst}
-use mathlib.Core.Bool.{Bool, true, false, cond, not, _&&_, _||_}
-use mathlib.Core.List.{List, [], _∷_, _++_}
+use mathlib.Core.Bool.{Bool, true, false, cond, _&&_}
+use mathlib.Core.List.{List, [], _∷_}
 use mathlib.Core.Option.{Option, none, some}
-use mathlib.Core.Logic.{_⊎_, inl, inr}
-use Prim.Native.Nat.{ℕ, zero, suc, _+_, _*_, _≤_, _<_}
+use mathlib.Core.Logic.{inl, inr}
+use Prim.Native.Nat.{ℕ, suc, _+_, _*_, _≤_, _<_}
 use native.Mathlib.Nat.{le-refl}
 use native.Mathlib.Omega.{arith}
-use lib.Dec.{leb, ltb, eqb}
+use lib.Dec.{ltb, eqb}
 use borrow.Author.Tests.{ltb-true, eq-eqb, ne-eqb}
 use Rattle.protocol.specs.declared.Stamp.{Stamp}
 use Rattle.protocol.specs.Values.{Candidate, Share, Held, sameList, noHeld}
 use Rattle.protocol.specs.Packet.{Body, Packet}
-use Rattle.protocol.specs.Rules.{ByServer, nobody, gather, live, choice, leader, tagsIn, restoredBy}
-use Rattle.protocol.specs.Client.{Client, Hand, Turn, Result, idle, clocking, storing, completing, collecting, filtering, repairing, awaits, isIdle, request}
-use Rattle.protocol.specs.Client.{update, judge, found, onto, begun, prepared, higher, checks, stampIn, codeIn, candidateIn, heldIn}
+use Rattle.protocol.specs.Rules.{ByServer, nobody, leader, tagsIn}
+use Rattle.protocol.specs.Client.{Client, Hand, Turn, idle, clocking, storing, completing, collecting, filtering, repairing, awaits, isIdle, request}
+use Rattle.protocol.specs.Client.{update, judge, found, onto, begun, prepared, higher, checks, stampIn, codeIn}
 use Rattle.protocol.specs.Runs.{Step, World, Typed, nowValues}
-use Rattle.atomicity.specs.Lists.{Ever, Always}
+use Rattle.atomicity.specs.Lists.{Ever}
 use Rattle.atomicity.specs.Steps.{System, accepted}
 use Rattle.atomicity.proofs.Util.{cond-both, and-right, clash, ever-map}
 use Rattle.atomicity.proofs.Model.{Run, perform, now, updated, turn, preparedFor}

@@ -3,35 +3,35 @@
 -- no other write has its stamp.
 -- Assumes nothing.
 use mathlib.Core.Path.{_≡_, refl, sym, ap, _∙_, subst}
-use mathlib.Core.Bool.{Bool, true, false, cond, not, _&&_, _||_}
-use mathlib.Core.List.{List, [], _∷_, _++_, map}
+use mathlib.Core.Bool.{Bool, true, cond, _&&_}
+use mathlib.Core.List.{List, [], _∷_}
 use mathlib.Core.Option.{Option, none, some}
 use mathlib.Core.Logic.{_⊎_, inl, inr}
-use Prim.Native.Nat.{ℕ, zero, suc, _+_, _≤_, _<_}
+use Prim.Native.Nat.{ℕ, _≤_, _<_}
 use native.Mathlib.Omega.{arith}
-use lib.Dec.{leb, ltb, eqb}
+use lib.Dec.{ltb}
 use lib.ListN.{length}
 use borrow.Author.Tests.{ltb-true, ltb-false, lt-ltb}
 use Rattle.protocol.specs.declared.Stamp.{Stamp}
-use Rattle.protocol.specs.Values.{below, blankStamp}
+use Rattle.protocol.specs.Values.{blankStamp}
 use Rattle.protocol.specs.Rules.{keep}
-use Rattle.protocol.specs.Runs.{Typed, nowValues}
-use Rattle.atomicity.specs.Lists.{Ever, All, In, AllPairs}
-use Rattle.atomicity.specs.Steps.{System, Stamped, stampedAt}
-use Rattle.atomicity.specs.Claim.{Call, given, endedBy, before, counted, OneOrder, NeverRead}
+use Rattle.protocol.specs.Runs.{nowValues}
+use Rattle.atomicity.specs.Lists.{Ever, In, AllPairs}
+use Rattle.atomicity.specs.Steps.{Stamped}
+use Rattle.atomicity.specs.Claim.{Call, given, endedBy, before, counted, OneOrder}
 use Rattle.atomicity.proofs.Util.{bool-case, cond-case, clash, and-left, and-right, and-intro, or-cases, or-right, keep-in, in-keep, all-of, all-in, all-map}
 use Rattle.atomicity.proofs.Stamps.{le-view}
-use Rattle.atomicity.proofs.Model.{Run, now, account, marks}
-use Rattle.atomicity.proofs.Setup.{Setup, Steps, StepOf, Fair}
+use Rattle.atomicity.proofs.Model.{now}
+use Rattle.atomicity.proofs.Setup.{Setup, Steps, Fair}
 use Rattle.atomicity.proofs.Rounds.{since}
-use Rattle.atomicity.proofs.Marks.{mark-num, mark-who, by-stamp, mark-source, above}
-use Rattle.atomicity.proofs.Begun.{by-nonce}
-use Rattle.atomicity.proofs.Calls.{MarkAt, mark-at, Given, Base}
+use Rattle.atomicity.proofs.Marks.{mark-num, mark-who, mark-source, above}
+use Rattle.atomicity.proofs.Nonces.{by-nonce}
+use Rattle.atomicity.proofs.Calls.{MarkAt, mark-at, Given}
 use Rattle.atomicity.proofs.Shape.{Log}
 use Rattle.atomicity.proofs.Logs.{Signed}
 use Rattle.atomicity.proofs.Story.{story, story-log, story-pairs, Counts, shown-call}
 use Rattle.atomicity.proofs.Keys.{lex-lt, lex-eq, lex-view, part, lesser, less, less-chain, less-asym, less-total, Rest, less-rest, between}
-use Rattle.atomicity.proofs.Ordering.{Clear, Last, Explained, Reads, one-order, in-perm, perm-sym}
+use Rattle.atomicity.proofs.Ordering.{Clear, Last, Explained, Reads, one-order}
 
 keep-pairs : {A : Type 0} (R : A → A → Type 0) (p : A → Bool) (l : List A) → AllPairs R l → AllPairs R (keep p l)
 unfolding keep AllPairs

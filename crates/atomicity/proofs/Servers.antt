@@ -2,28 +2,28 @@
 -- the blank, a valid candidate of the request, or the one of a complete. And lookups in a history.
 -- Assumes nothing.
 use mathlib.Core.Path.{_≡_, refl, sym, ap, _∙_, subst}
-use mathlib.Core.Bool.{Bool, true, false, cond, not, _&&_, _||_}
+use mathlib.Core.Bool.{Bool, true, false, cond, _&&_}
 use mathlib.Core.List.{List, [], _∷_, _++_}
 use mathlib.Core.Option.{Option, none, some}
 use mathlib.Core.Logic.{_⊎_, inl, inr}
-use Prim.Native.Nat.{ℕ, zero, suc, _≤_}
+use Prim.Native.Nat.{ℕ}
 use native.Mathlib.Omega.{arith}
-use lib.Dec.{leb, ltb, eqb}
+use lib.Dec.{leb, eqb}
 use lib.ListN.{length}
 use Rattle.cluster.specs.Ranges.{capacity}
 use Rattle.protocol.specs.declared.Stamp.{Stamp}
-use Rattle.protocol.specs.Values.{Candidate, Share, Write, Held, below, sameStamp, sameList, blankCandidate, isSome}
-use Rattle.protocol.specs.Packet.{Body, Packet}
+use Rattle.protocol.specs.Values.{Candidate, Share, Write, below, sameStamp, blankCandidate, isSome}
+use Rattle.protocol.specs.Packet.{Body}
 use Rattle.protocol.specs.Packet.{clock, clockReply, store, storeReply, complete, completeReply, collect, collectReply, filter, filterReply, repair, repairReply}
 use Rattle.protocol.specs.Memory.{held}
-use Rattle.protocol.specs.Server.{Server, Acted, hasDigest, raise, kept, best, valid, act}
+use Rattle.protocol.specs.Server.{Server, Acted, hasDigest, raise, kept, best, act}
 use Rattle.protocol.specs.Client.{codeIn}
-use Rattle.protocol.specs.Runs.{Step, World, Typed, nowValues}
+use Rattle.protocol.specs.Runs.{Step, World}
 use Rattle.atomicity.specs.Lists.{In}
 use Rattle.atomicity.specs.Steps.{System, judged}
 use Rattle.atomicity.proofs.Util.{cond-both, cond-case, clash, untrue, and-left, and-right, and-intro, left-in, right-in, split-in}
 use Rattle.atomicity.proofs.Stamps.{below-irrefl, below-asym, le-trans, same-eq, same-stamp, stamp-refl}
-use Rattle.atomicity.proofs.Model.{Run, perform, now, acts, isValid, bestOf}
+use Rattle.atomicity.proofs.Model.{perform, acts, isValid, bestOf}
 use Rattle.atomicity.proofs.Serving.{Served, same, acted, served}
 
 -- ---- lookups in a history

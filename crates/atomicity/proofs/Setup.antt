@@ -1,12 +1,10 @@
 -- The setting of the whole proof: a system with its laws, who is correct, and runs that meet the premises.
 -- Assumes nothing.
-use mathlib.Core.Path.{_≡_}
 use mathlib.Core.List.{List}
 use Prim.Native.Nat.{ℕ}
 use Rattle.cluster.specs.Config.{Legal}
 use Rattle.protocol.specs.declared.Stamp.{Stamp}
 use Rattle.protocol.specs.Values.{Write}
-use Rattle.protocol.specs.Server.{Server}
 use Rattle.protocol.specs.Client.{Hand}
 use Rattle.protocol.specs.Runs.{Typed}
 use Rattle.atomicity.specs.Lists.{Always}

@@ -1,10 +1,10 @@
 -- A strict insertion sort: a permutation, and in order.
 -- Assumes nothing.
-use mathlib.Core.Path.{_≡_, refl, sym, ap, _∙_, subst}
+use mathlib.Core.Path.{_≡_, refl, sym, _∙_}
 use mathlib.Core.Bool.{Bool, true, false, cond, true≢false}
 use mathlib.Core.List.{List, [], _∷_}
 use mathlib.Core.Logic.{_⊎_, inl, inr}
-use Rattle.atomicity.specs.Lists.{All, In, AllPairs, Perm, nil, skip, swap, trans}
+use Rattle.atomicity.specs.Lists.{All, AllPairs, Perm, nil, skip, swap, trans}
 use Rattle.atomicity.proofs.Util.{all-map}
 
 module _ {A : Type 0} where

@@ -2,29 +2,28 @@
 -- client had made. It holds by the premise on channels and because bytes that were sent are read back as they were sent.
 -- Assumes nothing.
 use mathlib.Core.Path.{_≡_, refl, sym, ap, _∙_, subst}
-use mathlib.Core.Bool.{Bool, true, false, cond, not, _&&_, _||_}
-use mathlib.Core.List.{List, [], _∷_, _++_}
-use mathlib.Core.Option.{Option, none, some}
-use mathlib.Core.Logic.{_⊎_, inl, inr}
-use Prim.Native.Nat.{ℕ, zero, suc, _≤_, _<_}
+use mathlib.Core.Bool.{Bool, true, false, not}
+use mathlib.Core.List.{List}
+use mathlib.Core.Option.{some}
+use Prim.Native.Nat.{ℕ, _≤_}
 use native.Mathlib.Omega.{arith}
-use lib.Dec.{leb, ltb, eqb}
+use lib.Dec.{ltb, eqb}
 use borrow.Author.Tests.{eqb-true, ltb-false, le-leb}
 use Rattle.cluster.specs.Ranges.{within, topWriter}
 use Rattle.protocol.specs.Values.{Candidate, Share, Write}
 use Rattle.protocol.specs.Packet.{Body, Packet, kindOf, decode}
 use Rattle.protocol.specs.Packet.{clock, clockReply, store, storeReply, complete, completeReply, collect, collectReply, filter, filterReply, repair, repairReply}
 use Rattle.protocol.specs.Rules.{ByServer}
-use Rattle.protocol.specs.Server.{Server, barred, replyTo}
-use Rattle.protocol.specs.Client.{Hand, idle, clocking, storing, completing, collecting, filtering, repairing, request, made}
-use Rattle.protocol.specs.Runs.{Step, write, read, make, take-reply, give-up, serve, Typed, World, sentOf}
-use Rattle.atomicity.specs.Lists.{Ever, Always}
-use Rattle.atomicity.specs.Steps.{System, accepted, bytesIn, packetIn, makes, serves}
+use Rattle.protocol.specs.Server.{barred, replyTo}
+use Rattle.protocol.specs.Client.{Hand, idle, clocking, storing, completing, collecting, filtering, repairing, request}
+use Rattle.protocol.specs.Runs.{Step, write, read, make, take-reply, give-up, serve, sentOf}
+use Rattle.atomicity.specs.Lists.{Ever}
+use Rattle.atomicity.specs.Steps.{accepted, bytesIn, packetIn, makes, serves}
 use Rattle.atomicity.specs.Premises.{Authentic, PartyOf, odd}
-use Rattle.atomicity.proofs.Util.{clash, no-some, and-intro, or-none, ever-map, ever-with, not-false}
-use Rattle.atomicity.proofs.Model.{Run, perform, now, account, acts}
+use Rattle.atomicity.proofs.Util.{clash, no-some, and-intro, or-none, ever-map, ever-with}
+use Rattle.atomicity.proofs.Model.{perform, now, account}
 use Rattle.atomicity.proofs.Setup.{Setup, Steps, StepOf, Meets, Fair}
-use Rattle.atomicity.proofs.Serving.{Asked, Answered, answer, Making, making}
+use Rattle.atomicity.proofs.Serving.{Asked, Answered, answer}
 
 -- ---- shapes of steps
 

@@ -1,27 +1,26 @@
 -- What is known of a client's hand with the marks of who replied, and of a correct server's reply to it; and that all of it lasts while others
 -- step. Quorums are counts at a moment: so many correct servers that with all liars they are S - t.
 -- Assumes nothing.
-use mathlib.Core.Path.{_≡_, refl, sym, ap, _∙_, subst}
-use mathlib.Core.Bool.{Bool, true, false, cond, not, _&&_, _||_}
-use mathlib.Core.List.{List, [], _∷_, _++_}
-use mathlib.Core.Option.{Option, none, some}
+use mathlib.Core.Path.{_≡_}
+use mathlib.Core.Bool.{Bool, true, false, not, _&&_}
+use mathlib.Core.List.{List, _∷_}
+use mathlib.Core.Option.{some}
 use mathlib.Core.Logic.{_⊎_, inl, inr}
-use Prim.Native.Nat.{ℕ, zero, suc, _+_, _*_, _≤_, _<_}
+use Prim.Native.Nat.{ℕ, _+_, _≤_, _<_}
 use native.Mathlib.Omega.{arith}
-use lib.Dec.{leb, ltb, eqb}
-use Rattle.cluster.specs.Config.{Config, quorum}
+use lib.Dec.{eqb}
+use Rattle.cluster.specs.Config.{quorum}
 use Rattle.protocol.specs.declared.Stamp.{Stamp}
-use Rattle.protocol.specs.Values.{Candidate, Share, Write, Held, below, blankCandidate, isSome}
-use Rattle.protocol.specs.Packet.{Body, Packet}
+use Rattle.protocol.specs.Values.{Candidate, Share, Held, below, blankCandidate, isSome}
+use Rattle.protocol.specs.Packet.{Body}
 use Rattle.protocol.specs.Memory.{held}
 use Rattle.protocol.specs.Rules.{ByServer, countTo}
 use Rattle.protocol.specs.Client.{Hand, idle, clocking, storing, completing, collecting, filtering, repairing, stampIn, codeIn, candidateIn, heldIn, higher}
-use Rattle.protocol.specs.Runs.{Typed}
 use Rattle.atomicity.specs.Lists.{Ever, In}
-use Rattle.atomicity.specs.Steps.{System, Stamped, digested, allDigested}
+use Rattle.atomicity.specs.Steps.{Stamped, digested, allDigested}
 use Rattle.atomicity.proofs.Util.{not-f, not-t, and-left, and-right, and-intro, right-in}
 use Rattle.atomicity.proofs.Counting.{count-mono, share, correct-part, correct-one}
-use Rattle.atomicity.proofs.Model.{Run, now, account, marks, tagged, shareFor}
+use Rattle.atomicity.proofs.Model.{account, marks, tagged, shareFor}
 use Rattle.atomicity.proofs.Setup.{Setup, Steps, StepOf, Show, lat, hist}
 use Rattle.atomicity.proofs.Marks.{marks-up}
 use Rattle.atomicity.proofs.Genuine.{Genuine, genuine-up}

@@ -2,32 +2,30 @@
 -- nonce was shown has its call in it, which has reached its complete round.
 -- Assumes nothing.
 use mathlib.Core.Path.{_≡_, refl, sym, ap, ap₂, _∙_, subst}
-use mathlib.Core.Bool.{Bool, true, false, cond, not, _&&_, _||_}
+use mathlib.Core.Bool.{Bool, true, false}
 use mathlib.Core.List.{List, [], _∷_, _++_, map}
-use mathlib.Core.Option.{Option, none, some}
+use mathlib.Core.Option.{some}
 use mathlib.Core.Logic.{_⊎_, inl, inr}
-use Prim.Native.Nat.{ℕ, zero, suc, _+_, _≤_, _<_}
+use Prim.Native.Nat.{ℕ, suc, _<_}
 use native.Mathlib.Omega.{arith}
-use lib.Dec.{eqb}
 use lib.ListN.{length}
-use borrow.Author.Tests.{eq-eqb}
 use Rattle.protocol.specs.declared.Stamp.{Stamp}
 use Rattle.protocol.specs.Values.{Candidate, blankStamp}
-use Rattle.protocol.specs.Client.{Client, Hand, Result, idle, completing, begun, onto, awaits, isIdle}
-use Rattle.protocol.specs.Runs.{Step, write, read, make, take-reply, give-up, serve, Typed, World, nowValues}
+use Rattle.protocol.specs.Client.{Client, Hand, Result, begun, onto, awaits, isIdle}
+use Rattle.protocol.specs.Runs.{Step, write, read, make, take-reply, give-up, serve, World, nowValues}
 use Rattle.atomicity.specs.Lists.{Ever, Always, All, In, AllPairs}
-use Rattle.atomicity.specs.Steps.{System, Stamped, accepted}
+use Rattle.atomicity.specs.Steps.{Stamped, accepted}
 use Rattle.atomicity.specs.Claim.{Call, log}
-use Rattle.atomicity.proofs.Util.{cond-case, clash, left-in, right-in, in-map, map-in, all-of}
-use Rattle.atomicity.proofs.Model.{Run, perform, now, account, marks}
+use Rattle.atomicity.proofs.Util.{clash, right-in, in-map, map-in, all-of}
+use Rattle.atomicity.proofs.Model.{perform, now, marks}
 use Rattle.atomicity.proofs.Setup.{Setup, Steps, StepOf, Meets, Fair, Show, hand, calls}
-use Rattle.atomicity.proofs.Moves.{Moved, kept, wbegan, rbegan, quit, took, moved, acting}
+use Rattle.atomicity.proofs.Moves.{Moved, kept, wbegan, rbegan, quit, took, moved}
 use Rattle.atomicity.proofs.Rounds.{turn-turned}
 use Rattle.atomicity.proofs.Marks.{by-stamp, marks-up}
 use Rattle.atomicity.proofs.Begun.{Known, known}
 use Rattle.atomicity.proofs.Invariant.{show-hand}
-use Rattle.atomicity.proofs.Calls.{mark-at, Writing, Cur, CallOk, Keeps}
-use Rattle.atomicity.proofs.Shape.{Log, result, touched, news, newCall, note-shape}
+use Rattle.atomicity.proofs.Calls.{mark-at, Cur, CallOk, Keeps}
+use Rattle.atomicity.proofs.Shape.{Log, result, touched, newCall, note-shape}
 use Rattle.atomicity.proofs.Logs.{Signed, beginSigned, newSigned, new-calls, new-write, new-read, step-call}
 
 module _ (K : Setup) where

@@ -1,28 +1,27 @@
 -- What a correct server's reply means for the hand that it is for: by the server's rule on the request of that hand, and by what it holds.
 -- Assumes nothing.
-use mathlib.Core.Path.{_≡_, refl, sym, ap, _∙_, subst}
-use mathlib.Core.Bool.{Bool, true, false, cond, not, _&&_, _||_}
-use mathlib.Core.List.{List, [], _∷_, _++_}
-use mathlib.Core.Option.{Option, none, some}
+use mathlib.Core.Path.{_≡_, sym, ap, _∙_, subst}
+use mathlib.Core.Bool.{Bool, true, false, cond, _&&_}
+use mathlib.Core.List.{List, _∷_}
+use mathlib.Core.Option.{Option, some}
 use mathlib.Core.Logic.{_⊎_, inl, inr}
-use Prim.Native.Nat.{ℕ, zero, suc, _≤_, _<_}
+use Prim.Native.Nat.{ℕ, _≤_}
 use native.Mathlib.Nat.{le-refl}
 use native.Mathlib.Omega.{arith}
-use lib.Dec.{leb, ltb, eqb}
+use lib.Dec.{ltb, eqb}
 use borrow.Author.Tests.{ltb-false}
 use Rattle.protocol.specs.declared.Stamp.{Stamp}
-use Rattle.protocol.specs.Values.{Candidate, Share, Write, Held, below, blankCandidate, blankStamp, sameList, isSome}
+use Rattle.protocol.specs.Values.{Candidate, Share, Write, Held, below, blankCandidate, blankStamp, isSome}
 use Rattle.protocol.specs.Packet.{Body, Packet}
-use Rattle.protocol.specs.Packet.{clock, store, complete, collect, filter, filterReply, repair}
+use Rattle.protocol.specs.Packet.{clock, store, complete, collect, filter, repair}
 use Rattle.protocol.specs.Memory.{held}
-use Rattle.protocol.specs.Server.{Server, Acted, hasDigest, raise, valid, byHistory, act}
+use Rattle.protocol.specs.Server.{Server, hasDigest, raise, valid, byHistory, act}
 use Rattle.protocol.specs.Client.{Hand, idle, clocking, storing, completing, collecting, filtering, repairing, stampIn, codeIn, candidateIn, heldIn, higher, checks, request}
-use Rattle.protocol.specs.Runs.{Typed, nowValues}
 use Rattle.atomicity.specs.Lists.{Ever, In}
 use Rattle.atomicity.specs.Steps.{System, Stamped, judged}
 use Rattle.atomicity.proofs.Util.{cond-case, clash, untrue, and-intro, or-left, or-right, ever-map, rise}
 use Rattle.atomicity.proofs.Stamps.{le-trans, num-le, same-is}
-use Rattle.atomicity.proofs.Model.{Run, now, acts, marks, vouched, tagged, isValid, bestOf, shareFor}
+use Rattle.atomicity.proofs.Model.{now, acts, marks, vouched, tagged, isValid, bestOf, shareFor}
 use Rattle.atomicity.proofs.Setup.{Setup, Steps, StepOf, Fair, lat, hist, hand}
 use Rattle.atomicity.proofs.Rounds.{since, from}
 use Rattle.atomicity.proofs.Marks.{mark-num, mark-checks, by-stamp}

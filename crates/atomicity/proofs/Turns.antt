@@ -2,27 +2,27 @@
 -- what is known after it; a quorum of replies, less the liars, is so many correct servers.
 -- Assumes nothing.
 use mathlib.Core.Path.{_≡_, refl, sym, ap, _∙_, subst}
-use mathlib.Core.Bool.{Bool, true, false, cond, not, _&&_, _||_}
-use mathlib.Core.List.{List, [], _∷_, _++_}
+use mathlib.Core.Bool.{Bool, true, false, cond, not}
+use mathlib.Core.List.{List, [], _∷_}
 use mathlib.Core.Option.{Option, none, some}
 use mathlib.Core.Logic.{_⊎_, inl, inr}
-use Prim.Native.Nat.{ℕ, zero, suc, _+_, _*_, _≤_, _<_}
+use Prim.Native.Nat.{ℕ, suc, _≤_, _<_}
 use native.Mathlib.Omega.{arith}
-use lib.Dec.{leb, ltb, eqb}
+use lib.Dec.{eqb}
 use borrow.Author.Tests.{eq-eqb, ne-eqb, eqb-true}
 use Rattle.protocol.specs.declared.Stamp.{Stamp}
-use Rattle.protocol.specs.Values.{Candidate, Share, Held, below, blankStamp, blankCandidate, sameList, isSome, isBlank, noHeld}
+use Rattle.protocol.specs.Values.{Candidate, Share, Held, below, blankStamp, blankCandidate, sameList, isSome, isBlank}
 use Rattle.protocol.specs.Packet.{Body}
 use Rattle.protocol.specs.Memory.{held}
-use Rattle.protocol.specs.Rules.{ByServer, upd, nobody, countTo, gather, live, choice, leader, tagsIn, restoredBy}
+use Rattle.protocol.specs.Rules.{ByServer, upd, nobody, countTo, gather, choice, leader, tagsIn}
 use Rattle.protocol.specs.Client.{Client, Hand, Turn, Result, refused, more, written, gave, gaveBlank, aborted, idle, clocking, storing, completing, collecting, filtering, repairing}
 use Rattle.protocol.specs.Client.{update, judge, found, onto, prepared, candidateMade, stampOf, higher, stampIn, codeIn, candidateIn, heldIn}
-use Rattle.atomicity.specs.Lists.{Ever, In}
-use Rattle.atomicity.specs.Steps.{System, Stamped, allDigested}
+use Rattle.atomicity.specs.Lists.{In}
+use Rattle.atomicity.specs.Steps.{allDigested}
 use Rattle.atomicity.proofs.Util.{cond-case, bool-case, clash, not-t, not-f, upd-here, upd-else}
 use Rattle.atomicity.proofs.Stamps.{num-le, same-eq}
 use Rattle.atomicity.proofs.Counting.{count-none}
-use Rattle.atomicity.proofs.Model.{Run, account, updated}
+use Rattle.atomicity.proofs.Model.{account, updated}
 use Rattle.atomicity.proofs.Setup.{Setup, Steps, StepOf, Fair, lat, hist}
 use Rattle.atomicity.proofs.Rounds.{stage, higher-le}
 use Rattle.atomicity.proofs.Marks.{mark-num}
@@ -31,7 +31,7 @@ use Rattle.atomicity.proofs.Heard.{lat-up, held-up}
 use Rattle.atomicity.proofs.States.{S, Q, right, FullAt, TopAt, WBeats, Beats, many-marks, meets-marks, Coll, coll-up, Sift, sift-up, Proved, proved-up, Filters, HandOk, Says, ok-up, full-up, dig-up}
 use Rattle.atomicity.proofs.Gathered.{in-gather}
 use Rattle.atomicity.proofs.Groups.{tagged-of}
-use Rattle.atomicity.proofs.Choosing.{q-pos, floor, Live, Chosen, chosen}
+use Rattle.atomicity.proofs.Choosing.{q-pos, floor, Live, chosen}
 
 module _ (K : Setup) where
   -- what a call that ends gives; h was the hand

@@ -1,28 +1,27 @@
 -- A filter round that has not ended: what each correct server did when it replied, and that the round is undecided.
 -- Assumes nothing.
 use mathlib.Core.Path.{_≡_, refl, sym, ap, _∙_, subst}
-use mathlib.Core.Bool.{Bool, true, false, cond}
-use mathlib.Core.List.{List, [], _∷_, _++_}
+use mathlib.Core.Bool.{Bool, true, false}
+use mathlib.Core.List.{List, [], _∷_}
 use mathlib.Core.Option.{Option, none, some}
-use mathlib.Core.Logic.{_⊎_, inl, inr}
-use Prim.Native.Nat.{ℕ, zero, suc, _≤_, _<_}
+use mathlib.Core.Logic.{inr}
+use Prim.Native.Nat.{ℕ, _≤_, _<_}
 use native.Mathlib.Omega.{arith}
-use lib.Dec.{leb, eqb}
-use borrow.Author.Tests.{leb-true, leb-false, eqb-true}
-use Rattle.protocol.specs.declared.Stamp.{Stamp}
-use Rattle.protocol.specs.Values.{Candidate, Share, Held, isBlank, sameList, blankCandidate, noHeld}
-use Rattle.protocol.specs.Packet.{Body, Packet, kindOf, filter}
+use lib.Dec.{eqb}
+use borrow.Author.Tests.{leb-false, eqb-true}
+use Rattle.protocol.specs.Values.{Candidate, Held, isBlank, sameList, blankCandidate}
+use Rattle.protocol.specs.Packet.{Body, Packet, filter}
 use Rattle.protocol.specs.Memory.{held}
-use Rattle.protocol.specs.Rules.{ByServer, upd, nobody, countTo, gather, live, choice, leader, tagsIn}
+use Rattle.protocol.specs.Rules.{ByServer, upd, countTo, choice, leader, tagsIn}
 use Rattle.protocol.specs.Server.{act}
-use Rattle.protocol.specs.Client.{Client, Hand, Turn, Result, idle, clocking, storing, completing, collecting, filtering, repairing, awaits, isFull}
+use Rattle.protocol.specs.Client.{Client, Hand, Turn, Result, idle, clocking, storing, completing, collecting, filtering, repairing, isFull}
 use Rattle.protocol.specs.Client.{update, judge, found, onto, begun, prepared, codeIn, candidateIn, heldIn}
-use Rattle.protocol.specs.Runs.{Step, Typed, World, nowValues}
+use Rattle.protocol.specs.Runs.{World, nowValues}
 use Rattle.atomicity.specs.Lists.{Ever, In}
-use Rattle.atomicity.specs.Steps.{System, accepted, packetIn}
+use Rattle.atomicity.specs.Steps.{accepted, packetIn}
 use Rattle.atomicity.specs.Premises.{odd}
-use Rattle.atomicity.proofs.Util.{cond-case, cond-both, bool-case, clash, upd-here, upd-else, ever-map}
-use Rattle.atomicity.proofs.Model.{Run, perform, now, account, bestOf, updated, turn}
+use Rattle.atomicity.proofs.Util.{cond-both, bool-case, upd-here, upd-else, ever-map}
+use Rattle.atomicity.proofs.Model.{perform, now, bestOf, updated}
 use Rattle.atomicity.proofs.Setup.{Setup, Steps, StepOf, Fair, hand, hist}
 use Rattle.atomicity.proofs.Moves.{Moved, kept, wbegan, rbegan, quit, took, moved}
 use Rattle.atomicity.proofs.Rounds.{turn-turned}

@@ -1,6 +1,5 @@
 -- Lists of steps, newest first: a moment is a tail of the list. And lists of calls.
 use mathlib.Core.Path.{_≡_}
-use mathlib.Core.Bool.{Bool, cond}
 use mathlib.Core.List.{List, [], _∷_, _++_}
 use mathlib.Core.Logic.{_⊎_}
 

@@ -1,10 +1,9 @@
 -- What a step gets, makes, checks, digests and shows (document 01, "What the contracts owe", 5). All of it is read off an account of runs:
 -- the step, its result, the bytes sent, and the clients and servers before and after it.
-use mathlib.Core.Path.{_≡_}
 use mathlib.Core.Bool.{Bool, true, false, cond, not, _&&_}
 use mathlib.Core.List.{List, [], _∷_, _++_, map}
 use mathlib.Core.Option.{Option, none, some}
-use Prim.Native.Nat.{ℕ, zero, suc}
+use Prim.Native.Nat.{ℕ}
 use lib.Dec.{eqb}
 use Rattle.cluster.specs.Config.{Config, upTo}
 use Rattle.protocol.specs.declared.Stamp.{Stamp}

@@ -1,6 +1,6 @@
 -- Document 01's bench cards marked P, as one table: what the definitions give, beside what the card says.
 use mathlib.Core.Path.{_≡_}
-use mathlib.Core.Bool.{Bool, true, false, _&&_}
+use mathlib.Core.Bool.{Bool, true, _&&_}
 use mathlib.Core.List.{List, [], _∷_, map}
 use Prim.Native.Nat.{ℕ}
 use lib.ListN.{replicate}
@@ -10,7 +10,6 @@ use Rattle.gf256.specs.Gf.{times}
 use Rattle.erasure.specs.Fragments.{fragment, fragmentSize}
 use Rattle.protocol.specs.declared.Stamp.{Stamp}
 use Rattle.protocol.specs.Values.{below}
-use Rattle.protocol.specs.Format.{All}
 
 pub data Value : Type 0 where
   number : ℕ → Value

@@ -1,35 +1,24 @@
 -- What the two public operations answer, refused and accepted, in terms of what the code made: the shelf's table is 1 to S, so the point of
 -- a server is its number. Nothing is assumed.
-use mathlib.Core.Path.{_≡_, refl, sym, ap, ap₂, subst, _∙_}
+use mathlib.Core.Path.{_≡_, refl, sym, ap, ap₂, _∙_}
 use mathlib.Core.Logic.{_≢_}
-use mathlib.Core.Bool.{Bool, true, false, cond}
-use mathlib.Core.List.{List, [], _∷_, _++_, map}
-use Prim.Native.Nat.{ℕ, zero, suc, _+_, _-_, _*_, _/_, _%_, _<_, _≤_}
-use native.Mathlib.Nat.{mod-lt, suc-ne-zero, div-lt-iff-lt-mul, mul-le-mul-right, suc-mul}
+use mathlib.Core.List.{List, _++_}
+use Prim.Native.Nat.{ℕ, zero, suc, _+_, _-_, _*_, _/_, _<_, _≤_}
+use native.Mathlib.Nat.{div-lt-iff-lt-mul}
 use native.Mathlib.Omega.{arith}
-use borrow.Author.Tests.{lt-ltb, le-ltb}
-use lib.Dec.{ltb}
-use lib.ListN.{length, getD, take, drop, length-map}
-use lib.Seq.{length-take-le, getD-take, getD-drop}
+use lib.ListN.{length, getD, take}
 use Rattle.gf256.specs.Poly.{through}
 use Rattle.gf256.specs.Bytes.{bytes}
-use Rattle.cluster.specs.Config.{Config, shelf, upTo, pointOf}
+use Rattle.cluster.specs.Config.{shelf, upTo, pointOf}
 use Rattle.cluster.specs.Ranges.{topFaults, topLength}
-use Rattle.cluster.specs.Refusals.{firstOf, onRefusal}
-use Rattle.cluster.specs.declared.Outcome.{Outcome}
-use Rattle.erasure.specs.declared.choice.Chosen.{Chosen}
+use Rattle.cluster.specs.Refusals.{onRefusal}
 use Rattle.erasure.specs.declared.FragmentOutcome.{FragmentOutcome}
-use Rattle.erasure.specs.Fragments.{table, fragmentSize, column, fragment, Part, restored}
-use Rattle.erasure.specs.Choice.{serversAt, firstDifferent, partsAt}
-use Rattle.erasure.specs.Chosen.{Holds}
-use Rattle.erasure.specs.Steps.{zeros, fragmentRoom, fragmentRefusal, fragmentBytes, fragmentStep, argumentChecks, restoreRefusal, restoredBytes, restoreStep}
-use Rattle.erasure.specs.System.{width, AllDifferent}
+use Rattle.erasure.specs.Fragments.{fragmentSize, column, fragment}
+use Rattle.erasure.specs.Steps.{zeros, fragmentRoom, fragmentRefusal, fragmentBytes, fragmentStep}
+use Rattle.erasure.specs.System.{width}
 use Rattle.erasure.specs.Lanes.{madeOf, plainOf}
-use Rattle.erasure.proofs.Lists.{getD-map, table-is, take-is}
-use Rattle.erasure.proofs.Laws.{size-pos, run-lt}
+use Rattle.erasure.proofs.Lists.{take-is}
 use Rattle.erasure.proofs.Placed.{table-ext, length-upTo, getD-upTo, plain-made}
-use Rattle.erasure.proofs.Choosing.{chosen-different, chosen-lt}
-use Rattle.erasure.proofs.Refused.{first-of-first, first-of-second}
 
 pub refused-is : {A : Type 0} (x : ℕ) (a b : A) → x ≢ 0 → onRefusal x a b ≡ b
 refused-is zero a b h = absurd (h refl)

@@ -2,9 +2,9 @@
 -- the code adds up are the parts that the definition takes. Nothing is assumed.
 use mathlib.Core.Path.{_≡_, refl, sym, ap, ap₂, subst, _∙_}
 use mathlib.Core.Logic.{_≢_}
-use mathlib.Core.Bool.{Bool, true, false, cond}
+use mathlib.Core.Bool.{Bool, cond}
 use mathlib.Core.List.{List, [], _∷_, _++_, map}
-use Prim.Native.Nat.{ℕ, zero, suc, _+_, _-_, _*_, _/_, _%_, _<_, _≤_, suc-le-suc}
+use Prim.Native.Nat.{ℕ, suc, _+_, _*_, _/_, _%_, _<_, _≤_, suc-le-suc}
 use native.Mathlib.Nat.{zero-lt-suc, mod-lt, suc-ne-zero, mul-le-mul-right, suc-mul}
 use native.Mathlib.Omega.{arith}
 use borrow.Author.Tests.{lt-ltb, le-ltb}
@@ -13,8 +13,8 @@ use lib.ListN.{length, getD, take, drop, length-map}
 use lib.Seq.{length-take-le, getD-take, getD-drop}
 use Rattle.gf256.specs.Poly.{through}
 use Rattle.gf256.specs.Bytes.{bytes}
-use Rattle.cluster.specs.Config.{Config, shelf, upTo, pointOf}
-use Rattle.cluster.specs.Refusals.{Check, refuse, firstOf, onRefusal}
+use Rattle.cluster.specs.Config.{shelf, upTo, pointOf}
+use Rattle.cluster.specs.Refusals.{refuse, firstOf, onRefusal}
 use Rattle.cluster.specs.declared.Outcome.{Outcome}
 use Rattle.erasure.specs.declared.choice.Chosen.{Chosen}
 use Rattle.erasure.specs.Fragments.{table, fragmentSize, Part, restored}

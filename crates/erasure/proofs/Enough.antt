@@ -1,19 +1,19 @@
 -- Where k different servers are among those given, k are chosen: while there is room, each server given is among the chosen ones, and
 -- different servers that are all among fewer than k cannot be k. Nothing is assumed.
-use mathlib.Core.Path.{_≡_, refl, sym, ap, ap₂, subst, _∙_}
+use mathlib.Core.Path.{_≡_, refl, sym, ap, subst, _∙_}
 use mathlib.Core.Logic.{_≢_}
 use mathlib.Core.Bool.{Bool, true, false, cond, _||_, true≢false}
-use mathlib.Core.List.{List, [], _∷_, _++_, map}
-use Prim.Native.Nat.{ℕ, zero, suc, _+_, _<_, _≤_, suc-le-suc, zero-le}
-use native.Mathlib.Nat.{zero-lt-suc, le-of-suc-le-suc, not-suc-le-zero, suc-inj}
+use mathlib.Core.List.{List, [], _∷_, _++_}
+use Prim.Native.Nat.{ℕ, zero, suc, _<_, _≤_, suc-le-suc, zero-le}
+use native.Mathlib.Nat.{zero-lt-suc, le-of-suc-le-suc, not-suc-le-zero}
 use native.Mathlib.Decide.{ℕ-discrete, decLt}
 use native.Mathlib.Omega.{arith}
-use borrow.Author.Tests.{eqb-true, eqb-false, ltb-false, ltb-true}
+use borrow.Author.Tests.{eqb-true, ltb-false}
 use lib.Arith.{lt-of-le-ne}
 use lib.Dec.{eqb, ltb}
 use lib.ListN.{length, getD, length-append, length-map}
 use lib.Seq.{getD-append-seam}
-use Rattle.gf256.proofs.Byte.{DistinctN, ApartN}
+use Rattle.gf256.proofs.Byte.{DistinctN}
 use Rattle.erasure.specs.Choice.{among, more, chosenOf, serversAt, firstDifferent}
 use Rattle.erasure.proofs.Lists.{apart-at}
 use Rattle.erasure.proofs.Choosing.{among-found, map-snoc}

@@ -7,7 +7,7 @@ use borrow.Kind.Array.{eArr, eInt}
 use denote.Array.{each}
 use denote.Shadow.{shadow}
 use mir.Syntax.{w8}
-use mir.Val.{Val, Fits}
+use mir.Val.{Val}
 use lib.ListN.{getD}
 
 pub entry-byte : (n : ℕ) (rows : List (List ℕ)) (us : List Val) (r c : ℕ) → shadow (each (List ℕ) (eArr (eInt w8) n .ty .own) rows us)

@@ -1,17 +1,16 @@
 -- What the sums of lanes rest on: a product goes through the bits of one factor, the highest first, by doubling; doubling is linear.
 -- The double of a byte is shown by a test that goes through all bytes. Nothing is assumed.
-use mathlib.Core.Path.{_≡_, refl, sym, ap, ap₂, subst, _∙_}
-use mathlib.Core.Logic.{_≢_}
+use mathlib.Core.Path.{_≡_, refl, sym, ap, _∙_}
 use mathlib.Core.Bool.{Bool}
-use Prim.Native.Nat.{ℕ, zero, suc, _+_, _-_, _*_, _/_, _%_, _^_, _<_, _≤_}
+use Prim.Native.Nat.{ℕ, zero, suc, _+_, _*_, _/_, _%_, _^_, _<_, _≤_}
 use native.Mathlib.Nat.{zero-lt-suc, zero-mul, one-mul, mod-lt, mod-eq-of-lt, le-refl, le-suc, le-trans}
 use native.Mathlib.Numerals.{add-one}
 use native.Mathlib.Omega.{arith}
 use lib.Bits.{bitXor, bitAnd, xor-comm, xor-zero-r, and-zero-r, and-mask}
 use lib.Pow.{shr-shr}
 use lib.Dec.{eqb, eqb→eq}
-use Rattle.gf256.specs.Gf.{xtime, timesBits, times}
-use Rattle.gf256.proofs.Test.{each, each-at}
+use Rattle.gf256.specs.Gf.{xtime, timesBits}
+use Rattle.gf256.proofs.Test.{each-at}
 use Rattle.gf256.proofs.Linear.{xtime-xor, xtime-zero, timesBits-lt, timesBits-xtime}
 use Rattle.erasure.specs.System.{sumTo}
 use Rattle.erasure.specs.Lanes.{bitOf}

@@ -4,7 +4,7 @@ use mathlib.Core.Path.{_≡_, refl, sym, ap, ap₂, subst, _∙_}
 use mathlib.Core.Logic.{_≢_}
 use mathlib.Core.List.{List, [], _∷_, map}
 use Prim.Native.Nat.{ℕ, zero, suc, _+_, _-_, _*_, _/_, _%_, _<_, _≤_}
-use native.Mathlib.Nat.{mod-lt, le-trans, lt-of-lt-of-le, div-add-mod', div-lt-iff-lt-mul, le-div-iff-mul-le, lt-mul-div-succ, mul-suc, div-le-self}
+use native.Mathlib.Nat.{mod-lt, lt-of-lt-of-le, div-add-mod', div-lt-iff-lt-mul, le-div-iff-mul-le, lt-mul-div-succ, mul-suc}
 use native.Mathlib.Numerals.{add-one}
 use native.Mathlib.Omega.{arith}
 use lib.ListN.{length, getD, take, length-map}
@@ -21,10 +21,6 @@ use Rattle.erasure.proofs.Lists.{length-table, getD-table, getD-map, sm
 pub size-pos : (k n : ℕ) → 0 < n → 0 < k → 0 < fragmentSize k n
 unfolding fragmentSize
 size-pos k n hn hk = le-div-iff-mul-le hk .1 (omega arith)
-
-pub size-le : (k n : ℕ) → fragmentSize k n ≤ n + k
-unfolding fragmentSize
-size-le k n = le-trans (div-le-self (n + k - 1) k) (omega arith)
 
 pub runs-cover : (k n : ℕ) → 0 < k → n ≤ k * fragmentSize k n
 unfolding fragmentSize

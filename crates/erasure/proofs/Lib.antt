@@ -9,6 +9,7 @@ pub mod Weighed
 pub mod Choosing
 pub mod Refused
 pub mod Placed
+pub mod Rebuilt
 pub mod Answers
 pub mod Chosen
 pub mod Enough

@@ -1,6 +1,6 @@
 -- Refusals, test by test: what a range and a count amount to, and that the first test that applies gives the number.
 -- Each law goes through the cases of its tests. Nothing is assumed.
-use mathlib.Core.Path.{_≡_, refl, sym, ap, ap₂, subst, _∙_}
+use mathlib.Core.Path.{_≡_, refl, sym, ap, ap₂, _∙_}
 use mathlib.Core.Logic.{_≢_}
 use mathlib.Core.Bool.{Bool, true, false, not, cond, _&&_, true≢false}
 use mathlib.Core.List.{List, [], _∷_, _++_}
@@ -11,12 +11,11 @@ use native.Mathlib.Omega.{arith}
 use lib.Dec.{eqb, leb, ltb}
 use lib.ListN.{length, getD}
 use borrow.Author.Tests.{eq-eqb, ne-eqb, le-leb, lt-leb, lt-ltb, le-ltb, leb-true, ltb-false, eqb-true, not-false}
-use Rattle.cluster.specs.Config.{Config, shelf}
+use Rattle.cluster.specs.Config.{shelf}
 use Rattle.cluster.specs.Ranges.{within, leastLength, topLength, topFaults, contentRoom}
-use Rattle.cluster.specs.Refusals.{Check, firstOf, onRefusal}
+use Rattle.cluster.specs.Refusals.{Check, firstOf}
 use Rattle.erasure.specs.Fragments.{fragmentSize}
-use Rattle.erasure.specs.Choice.{firstDifferent}
-use Rattle.erasure.specs.Steps.{each, fragmentRefusal, argumentChecks, restoreRefusal}
+use Rattle.erasure.specs.Steps.{each, fragmentRefusal, argumentChecks}
 
 -- ---- ranges and counts
 

@@ -3,25 +3,23 @@
 -- of k different servers, and k fragments of different servers determine the content. Nothing is assumed.
 use mathlib.Core.Path.{_≡_, refl, sym, ap, ap₂, subst, _∙_}
 use mathlib.Core.Logic.{_≢_}
-use mathlib.Core.Bool.{Bool, true, false, not, true≢false}
+use mathlib.Core.Bool.{false, not}
 use mathlib.Core.List.{List, [], _∷_, _++_, map}
 use Prim.Native.Nat.{ℕ, zero, suc, _+_, _-_, _*_, _<_, _≤_, suc-le-suc}
-use native.Mathlib.Nat.{zero-lt-suc, le-of-suc-le-suc, not-suc-le-zero, suc-mul, zero-mul, le-refl}
-use native.Mathlib.Decide.{ℕ-discrete, decLt}
+use native.Mathlib.Nat.{zero-lt-suc, le-of-suc-le-suc, not-suc-le-zero, suc-mul, zero-mul}
+use native.Mathlib.Decide.{decLt}
 use native.Mathlib.Omega.{arith}
 use borrow.Author.Tests.{le-ltb, eq-eqb}
-use lib.Dec.{eqb, ltb}
 use lib.ListN.{length, getD, take, drop, length-append, length-map, List·getD-eq-default}
 use lib.Seq.{take-at, drop-at, drop-drop}
-use Rattle.gf256.proofs.Byte.{Small, DistinctN, ApartN}
-use Rattle.cluster.specs.Config.{Config, shelf, upTo}
+use Rattle.gf256.proofs.Byte.{Small, DistinctN}
+use Rattle.cluster.specs.Config.{shelf, upTo}
 use Rattle.cluster.specs.Ranges.{within, leastLength, topLength, topFaults, contentRoom}
 use Rattle.cluster.specs.Refusals.{firstOf, onRefusal}
-use Rattle.cluster.specs.declared.Outcome.{Outcome}
 use Rattle.erasure.specs.declared.FragmentOutcome.{FragmentOutcome}
-use Rattle.erasure.specs.Fragments.{fragmentSize, fragment, Part, restored, PointTable}
-use Rattle.erasure.specs.Choice.{among, more, chosenOf, serversAt, firstDifferent, partsAt}
-use Rattle.erasure.specs.Steps.{each, fragmentRefusal, fragmentBytes, fragmentStep, zeros, fragmentRoom, argumentChecks, restoredBytes, restoreStep}
+use Rattle.erasure.specs.Fragments.{fragmentSize, Part, restored, PointTable}
+use Rattle.erasure.specs.Choice.{serversAt, firstDifferent, partsAt}
+use Rattle.erasure.specs.Steps.{fragmentRefusal, fragmentBytes, fragmentStep, zeros, fragmentRoom, argumentChecks, restoredBytes, restoreStep}
 use Rattle.erasure.proofs.Lists.{getD-map, distinct-of}
 use Rattle.erasure.proofs.Laws.{partOf, Servers, fragment-length, restores}
 use Rattle.erasure.proofs.Choosing.{chosen-lt, chosen-ordered}

@@ -1,13 +1,12 @@
 -- From rows to the system: all rows turned, with the pivot's row begun as a unit row, make the system turned at p.
-use mathlib.Core.Path.{_≡_, refl, sym, ap, ap₂, subst, _∙_}
+use mathlib.Core.Path.{_≡_, ap, ap₂, subst, _∙_}
 use mathlib.Core.Logic.{_≢_}
-use mathlib.Core.List.{List, [], _∷_}
-use Prim.Native.Nat.{ℕ, zero, suc, _+_, _-_, _<_, _≤_}
-use native.Mathlib.Omega.{arith}
+use mathlib.Core.List.{List, []}
+use Prim.Native.Nat.{ℕ, _<_}
 use lib.Bits.{bitXor}
-use lib.ListN.{length, getD, set, length-set}
+use lib.ListN.{length, getD, set}
 use lib.Seq.{getD-set-same, getD-set-other}
-use Rattle.gf256.specs.Gf.{times, power}
+use Rattle.gf256.specs.Gf.{times}
 use Rattle.gf256.proofs.Linear.{one-times}
 use Rattle.erasure.specs.System.{width, entry, RowTurned, SystemTurned}
 

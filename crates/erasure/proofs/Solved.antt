@@ -1,9 +1,8 @@
 -- The system as bytes: each turn keeps it half solved, no pivot is zero, and the last turn leaves it solved.
 use mathlib.Core.Path.{_≡_, refl, sym, ap, ap₂, subst, _∙_}
-use mathlib.Core.Logic.{_≢_}
 use mathlib.Core.List.{List, [], _∷_, map}
-use Prim.Native.Nat.{ℕ, zero, suc, _+_, _-_, _%_, _<_, _≤_, suc-le-suc}
-use native.Mathlib.Nat.{mod-lt, mod-eq-of-lt, zero-lt-suc, le-of-suc-le-suc, not-suc-le-zero, le-refl, le-suc, le-trans}
+use Prim.Native.Nat.{ℕ, zero, suc, _%_, _<_, _≤_}
+use native.Mathlib.Nat.{mod-lt, mod-eq-of-lt, zero-lt-suc, le-of-suc-le-suc, not-suc-le-zero, le-trans}
 use native.Mathlib.Decide.{ℕ-discrete}
 use native.Mathlib.Omega.{arith}
 use lib.Bits.{bitXor, xor-lt}
@@ -13,7 +12,9 @@ use Rattle.gf256.specs.Poly.{through}
 use Rattle.gf256.specs.Bytes.{bytes}
 use Rattle.gf256.proofs.Linear.{times-lt, times-comm}
 use Rattle.gf256.proofs.Tables.{inverse-lt, power-lt}
-use Rattle.gf256.proofs.Algebra.{Turned, Half, half-none, half-more, pivot, all-turned, weights, Different, sum, sum-more, sum-ext, pow, tab, row, Laws}
+use Rattle.gf256.proofs.Sums.{sum, sum-more, sum-ext}
+use Rattle.gf256.proofs.Exchange.{Turned, Half}
+use Rattle.gf256.proofs.Powers.{pivot, all-turned, weights, Different, pow, tab}
 use Rattle.gf256.proofs.Byte.{Byte, field, laws, same, addB, mulB, invB, nilB, oneB, through-number}
 use Rattle.erasure.specs.Fragments.{table}
 use Rattle.erasure.proofs.Sums.{sumTo-ext}

@@ -1,5 +1,5 @@
 -- The closed form of the weights, of bytes: `Lagrange` at the field of FIPS 197, told in numbers. Nothing is assumed.
-use mathlib.Core.Path.{_≡_, refl, sym, ap, ap₂, subst, _∙_}
+use mathlib.Core.Path.{_≡_, refl, sym, ap, ap₂, _∙_}
 use mathlib.Core.Bool.{Bool, true, false, cond}
 use mathlib.Core.List.{List}
 use Prim.Native.Nat.{ℕ, zero, suc, _+_, _<_, _≤_}
@@ -7,15 +7,14 @@ use native.Mathlib.Nat.{le-refl, le-suc, le-trans}
 use native.Mathlib.Numerals.{add-one}
 use lib.Bits.{bitXor}
 use lib.Dec.{eqb}
-use lib.ListN.{length, getD, take}
+use lib.ListN.{length, getD}
 use Rattle.gf256.specs.Gf.{times, inverse}
 use Rattle.gf256.specs.Poly.{through}
 use Rattle.gf256.specs.Bytes.{bytes}
-use Rattle.gf256.proofs.Algebra.{choose, tab}
-use Rattle.gf256.proofs.Byte.{Byte, field, laws, addB, mulB, invB, oneB, through-number}
+use Rattle.gf256.proofs.Powers.{tab}
+use Rattle.gf256.proofs.Byte.{Byte, field, laws, addB, mulB, oneB, through-number}
 use Rattle.gf256.proofs.Lagrange.{prod, factor, weightOf, weighed}
-use Rattle.erasure.specs.Fragments.{table}
-use Rattle.erasure.specs.System.{sumTo, productTo, factorAt, directAt, AllDifferent, Weighs}
+use Rattle.erasure.specs.System.{productTo, factorAt, directAt, AllDifferent, Weighs}
 use Rattle.erasure.proofs.Sums.{sumTo-ext}
 use Rattle.erasure.proofs.Solved.{toByte, to-val, point, different, sum-number, tab-take, tab-table}
 
@@ -32,14 +31,14 @@ unfolding prod productTo
 prod-number zero g f e = refl
 prod-number (suc k) g f e = ap₂ times (prod-number k g f (λ i b. e i (le-trans b (le-suc k)))) (e k (le-refl (suc k)))
 
-choose-number : (b : Bool) (x : Byte) (y : ℕ) → x .0 ≡ y → choose b oneB x .0 ≡ cond b 1 y
-choose-number true x y e = refl
-choose-number false x y e = e
+cond-number : (b : Bool) (x : Byte) (y : ℕ) → x .0 ≡ y → cond b oneB x .0 ≡ cond b 1 y
+cond-number true x y e = refl
+cond-number false x y e = e
 
 module _ (k : ℕ) (xs : List ℕ) (small : (i : ℕ) → getD xs i 0 < 256) where
   factor-number : (j : ℕ) (z : Byte) (n : ℕ) → z .0 ≡ n → (m : ℕ) → factor field laws (point xs) j z m .0 ≡ factorAt xs j n m
   factor-number j z n e m =
-      choose-number (eqb m j) (addB z (point xs m)) (bitXor n (getD xs m 0)) (ap₂ bitXor e (to-val (getD xs m 0) (small m)))
+      cond-number (eqb m j) (addB z (point xs m)) (bitXor n (getD xs m 0)) (ap₂ bitXor e (to-val (getD xs m 0) (small m)))
 
   direct-number : (z : Byte) (n : ℕ) → z .0 ≡ n → (j : ℕ) → weightOf field laws k (point xs) z j .0 ≡ directAt k xs n j
   unfolding directAt

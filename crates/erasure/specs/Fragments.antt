@@ -1,7 +1,6 @@
 -- Fragments of a content and how they give it back (document 01, "Digest, tag, fragment").
 -- The points of the servers are a table and k is a number; document 01 has the points 1 to S and k = t+1.
 -- A content is padded with 00h by reading 0 past its end.
-use mathlib.Core.Path.{_≡_}
 use mathlib.Core.Logic.{_≢_}
 use mathlib.Core.List.{List, [], _∷_, map}
 use Prim.Native.Nat.{ℕ, zero, suc, _+_, _-_, _*_, _/_, _%_, _<_}

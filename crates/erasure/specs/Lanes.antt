@@ -1,15 +1,17 @@
 -- What the private functions on lanes promise each other; no public contract names these.
 -- A lane is a run of places that are worked on together.
+use mathlib.Core.Bool.{cond}
 use mathlib.Core.Path.{_≡_}
-use mathlib.Core.List.{List, []}
+use mathlib.Core.List.{List}
 use Prim.Native.Nat.{ℕ, _+_, _*_, _/_, _%_, _^_, _≤_, _<_}
+use lib.Dec.{ltb}
 use lib.ListN.{getD, length, take}
 use Rattle.gf256.specs.Gf.{times}
 use Rattle.gf256.specs.Poly.{through}
 use Rattle.gf256.specs.Bytes.{bytes}
 use Rattle.cluster.specs.Config.{upTo}
 use Rattle.erasure.specs.Fragments.{table}
-use Rattle.erasure.specs.System.{sumTo}
+use Rattle.erasure.specs.System.{sumTo, weightAt}
 
 abbrev pub lane : ℕ
 lane = 64
@@ -40,6 +42,13 @@ madeOf k f content z = table f (λ q. through bytes (upTo k) (table k (λ j. get
 -- run j as it stands in the content
 unfoldable pub plainOf : (f j : ℕ) (content : List ℕ) → List ℕ
 plainOf f j content = table f (λ q. getD content (j * f + q) 0)
+
+-- byte q of run i, as rebuilding writes it: the byte of the run's own fragment where its place is below k, and otherwise the sum that the
+-- solved system a weighs
+unfoldable pub runAt : (k : ℕ) (a : List (List ℕ)) (places starts fragments : List ℕ) (i q : ℕ) → ℕ
+runAt k a places starts fragments i q =
+    cond (ltb (getD places i 0) k) (getD fragments (getD starts (getD places i 0) 0 + q) 0)
+    (sumTo k (λ j. times (getD fragments (getD starts j 0 + q) 0) (weightAt k a (i + 1) j)))
 
 unfoldable pub rebuiltOf : (k f n : ℕ) (servers at fragments : List ℕ) → List ℕ
 rebuiltOf k f n servers at fragments =

@@ -1,8 +1,8 @@
 // Which fragments restoring uses: those of the first k different servers given.
 ghost use mathlib.Core.Path.{_≡_};
-ghost use Prim.Native.Nat.{ℕ, _≤_};
+ghost use Prim.Native.Nat.{_≤_};
 ghost use lib.Dec.{ltb};
-ghost use lib.ListN.{take, length};
+ghost use lib.ListN.{take};
 ghost use Rattle.erasure.specs.System.{width};
 ghost use Rattle.erasure.specs.Choice.{among, more, firstDifferent};
 ghost use Rattle.erasure.specs.Chosen.{Holds};

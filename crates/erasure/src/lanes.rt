@@ -179,16 +179,14 @@ pub(crate) fn combine(
     }
 }
 
-// The m bytes of src from a place on, with 00h past its end, at the start of out.
-pub(crate) fn copy(src: &[u8], from: usize, out: &mut [u8], m: usize)
-    requires { ⌜ (from + m ≤ length (now src) + 4096) × (m ≤ length (now out)) ⌝ }
-    ensures { λ _. ⌜ Written (now (out .entry)) (now (out .exit)) 0 m (λ i. getD (now (src .entry)) (from + i) 0) ⌝ }
+// The m bytes of src from place `from` on, written from place at on.
+pub(crate) fn copy(src: &[u8], from: usize, out: &mut [u8], at: usize, m: usize)
+    requires { ⌜ (from + m ≤ length (now src)) × (at + m ≤ length (now out)) ⌝ }
+    ensures { λ _. ⌜ Written (now (out .entry)) (now (out .exit)) at m (λ i. getD (now (src .entry)) (from + i) 0) ⌝ }
 {
-    let mut q: usize = 0;
-    while q < m {
-        let n = at_most_lane(m - q);
-        let x = lane_at(src, from + q);
-        store(out, q, n, x);
-        q += n;
+    let mut i: usize = 0;
+    while i < m {
+        out[at + i] = src[from + i];
+        i += 1;
     }
 }

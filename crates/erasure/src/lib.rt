@@ -1,37 +1,27 @@
 // Fragments of a content, and the content from fragments.
 ghost use mathlib.Core.Bool.{not};
-ghost use mathlib.Core.List.{_++_};
 ghost use mathlib.Core.Path.{_≡_};
-ghost use Prim.Native.Nat.{ℕ, _+_, _*_, _<_, _≤_};
+ghost use Prim.Native.Nat.{_*_, _<_, _≤_};
 ghost use lib.Dec.{eqb};
-ghost use lib.ListN.{getD, length, take, drop};
 ghost use Rattle.cluster.specs.Config.{shelf};
 ghost use Rattle.cluster.specs.Ranges.{within, topFaults, topLength};
 ghost use Rattle.cluster.specs.Refusals.{firstOf};
-ghost use Rattle.erasure.specs.Fragments.{fragmentSize, restored};
-ghost use Rattle.erasure.specs.Choice.{partsAt};
+ghost use Rattle.erasure.specs.Fragments.{fragmentSize};
 ghost use Rattle.erasure.specs.Steps.{each, fragmentRefusal, argumentChecks, fragmentStep, restoreStep};
-ghost use Rattle.erasure.specs.System.{width, AllDifferent};
+ghost use Rattle.erasure.specs.System.{width};
 
 mod bits;
 mod choice;
 mod direct;
+mod given;
 mod lanes;
 mod runs;
 mod system;
 
 const WIDTH: usize = system::WIDTH;
 
-// Room for the longest fragment, and the ranges of t and of a content's length.
+// Room for the longest fragment.
 const ROOM: usize = 512;
-
-const TOP_FAULTS: usize = 4;
-
-const LEAST_LENGTH: usize = 1;
-
-const TOP_LENGTH: usize = 1024;
-
-const CONTENT_ROOM: usize = 1024;
 
 // A fragment and its length, padded with 00h; or a refusal.
 pub struct FragmentOutcome {
@@ -110,13 +100,13 @@ fn miscounted(given: usize, count: usize, f: usize) -> bool
 fn fragment_refusal(t: usize, server: usize, n: usize) -> u8
     ensures { λ r. ⌜ r ≡ fragmentRefusal t server n ⌝ }
 {
-    if outside(1, TOP_FAULTS, t) {
+    if outside(1, cluster::TOP_FAULTS, t) {
         return 3;
     }
     if outside(1, servers_of(t), server) {
         return 4;
     }
-    if outside(LEAST_LENGTH, TOP_LENGTH, n) {
+    if outside(cluster::LEAST_LENGTH, cluster::TOP_LENGTH, n) {
         return 6;
     }
     0
@@ -126,16 +116,16 @@ fn fragment_refusal(t: usize, server: usize, n: usize) -> u8
 fn restore_refusal(t: usize, n: usize, servers: &[u8], given: usize, room: usize) -> u8
     ensures { λ r. ⌜ r ≡ firstOf (argumentChecks t n (now (servers .entry)) given room) ⌝ }
 {
-    if outside(1, TOP_FAULTS, t) {
+    if outside(1, cluster::TOP_FAULTS, t) {
         return 3;
     }
     if server_outside(servers, servers_of(t)) {
         return 4;
     }
-    if outside(LEAST_LENGTH, TOP_LENGTH, n) {
+    if outside(cluster::LEAST_LENGTH, cluster::TOP_LENGTH, n) {
         return 6;
     }
-    if room < CONTENT_ROOM {
+    if room < cluster::CONTENT_ROOM {
         return 15;
     }
     if miscounted(given, servers.len(), size(shares_of(t), n)) {

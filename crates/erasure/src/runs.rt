@@ -3,7 +3,6 @@ ghost use mathlib.Core.Path.{_≡_};
 ghost use mathlib.Core.List.{_++_};
 ghost use Prim.Native.Nat.{ℕ, _+_, _-_, _*_, _<_, _≤_};
 ghost use lib.ListN.{getD, length, drop};
-ghost use Rattle.cluster.specs.Ranges.{topLength};
 ghost use Rattle.erasure.specs.Steps.{zeros, fragmentRoom};
 ghost use Rattle.erasure.specs.System.{width, AllDifferent};
 ghost use Rattle.erasure.specs.Lanes.{madeOf, plainOf, rebuiltOf};
@@ -73,21 +72,26 @@ pub(crate) fn make(k: usize, f: usize, z: u8, content: &[u8]) -> [u8; ROOM]
     bytes
 }
 
-// The plain run j of a content, padded with 00h.
-pub(crate) fn plain(f: usize, j: usize, content: &[u8]) -> [u8; ROOM]
-    requires { ⌜ (f ≤ fragmentRoom) × (j < width) ⌝ }
-    ensures { λ r. ⌜ r ≡ plainOf f j (now (content .entry)) ++ zeros (fragmentRoom - f) ⌝ }
-{
-    let mut bytes = blank();
-    crate::lanes::copy(content, j * f, &mut bytes, f);
-    bytes
-}
-
 // What is left, but at most f.
 fn at_most(f: usize, left: usize) -> usize
     ensures { λ r. ⌜ (r ≤ left) × (r ≤ f) × (0 < left → 0 < f → 0 < r) × (r < left → r ≡ f) ⌝ }
 {
     if left < f { left } else { f }
+}
+
+// The plain run j of a content, padded with 00h.
+pub(crate) fn plain(f: usize, j: usize, content: &[u8]) -> [u8; ROOM]
+    requires { ⌜ (f ≤ fragmentRoom) × (j < width) ⌝ }
+    ensures { λ r. ⌜ r ≡ plainOf f j (now (content .entry)) ++ zeros (fragmentRoom - f) ⌝ }
+{
+    let from = j * f;
+    let mut bytes = blank();
+    if content.len() <= from {
+        return bytes;
+    }
+    let m = at_most(f, content.len() - from);
+    crate::lanes::copy(content, from, &mut bytes, 0, m);
+    bytes
 }
 
 // The content of n bytes that the fragments of k different servers give, at the start of out.
@@ -103,13 +107,13 @@ pub(crate) fn rebuild(
     requires { ⌜ (k ≤ width) × (0 < f) × (n ≤ k * f) × (n ≤ length (now out)) × AllDifferent k servers × ((j : ℕ) → j < k → getD at j 0 * f + f ≤ length (now fragments)) ⌝ }
     ensures { λ _. ⌜ now (out .exit) ≡ rebuiltOf k f n servers at (now (fragments .entry)) ++ drop n (now (out .entry)) ⌝ }
 {
-    let a = crate::system::solve(servers, k);
+    let places = crate::given::places_of(servers, k);
+    let a = crate::given::system_of(servers, places, k);
     let starts = starts_of(at, f, k);
     let mut done: usize = 0;
     while done < n {
-        let weights = crate::system::weights(a, k, (done / f + 1) as u8);
         let m = at_most(f, n - done);
-        crate::lanes::combine(weights, fragments, starts, k, out, done, m);
+        crate::given::run(a, places, starts, fragments, k, done / f, out, done, m);
         done += m;
     }
 }

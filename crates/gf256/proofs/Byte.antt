@@ -1,10 +1,10 @@
--- The bytes are a field: the laws of `Algebra` at the numbers below 256, and what they say of lists of such numbers.
+-- The bytes are a field: the laws of `Field` at the numbers below 256, and what they say of lists of such numbers.
 use mathlib.Core.Path.{_≡_, refl, sym, ap, ap₂, _∙_, subst}
 use mathlib.Core.Logic.{_≢_}
 use mathlib.Core.HLevel.{Σ-prop-path}
 use mathlib.Core.List.{List, [], _∷_, map}
-use Prim.Native.Nat.{ℕ, zero, suc, _+_, _%_, _≤_, _<_}
-use native.Mathlib.Nat.{suc-inj, suc-ne-zero, le-of-suc-le-suc, not-suc-le-zero, zero-lt-suc, mod-lt, mod-eq-of-lt}
+use Prim.Native.Nat.{ℕ, zero, suc, _<_}
+use native.Mathlib.Nat.{suc-ne-zero, le-of-suc-le-suc, zero-lt-suc}
 use native.Mathlib.Bridge.{le-prop}
 use native.Mathlib.Omega.{arith}
 use lib.ListN.{length, getD, length-map}
@@ -15,7 +15,10 @@ use Rattle.gf256.specs.Bytes.{bytes}
 use Rattle.gf256.proofs.Xor.{xor-assoc}
 use Rattle.gf256.proofs.Linear.{times-lt, times-comm, times-assoc, one-times, times-xor-r}
 use Rattle.gf256.proofs.Tables.{inverse-lt, times-inverse-suc}
-use Rattle.gf256.proofs.Algebra.{Laws, Distinct, Apart, restored, through-at, through-is, throughC, length-throughC, throughC-eval}
+use Rattle.gf256.proofs.Field.{Laws}
+use Rattle.gf256.proofs.Roots.{Distinct, Apart}
+use Rattle.gf256.proofs.Coefficients.{throughC, length-throughC, throughC-eval}
+use Rattle.gf256.proofs.Through.{restored, through-at, through-is}
 
 abbrev pub Byte : Type 0
 Byte = (n : ℕ) × (n < 256)

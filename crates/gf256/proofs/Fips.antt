@@ -2,11 +2,11 @@
 -- Doubling takes off the modulus at most once, and a product without carries is linear. Nothing is assumed.
 use mathlib.Core.Path.{_≡_, refl, sym, ap, ap₂, _∙_, subst}
 use Prim.Native.Nat.{ℕ, zero, suc, _+_, _*_, _/_, _%_, _^_, _<_, _≤_, zero-le}
-use native.Mathlib.Nat.{zero-mul, one-mul, mul-one, mul-add, mul-comm, mul-assoc, mod-lt, zero-lt-suc, div-one, div-add-mod', div-div-eq-div-mul, pow-succ'}
+use native.Mathlib.Nat.{mul-one, mul-add, mul-comm, mul-assoc, div-one, div-add-mod', div-div-eq-div-mul, pow-succ'}
 use native.Mathlib.Omega.{arith}
-use lib.Bits.{bitXor, xor-zero-r, xor-comm, xor-self, xor-shr, xor-lt, xor-add-and}
+use lib.Bits.{bitXor, xor-zero-r, xor-self, xor-shr, xor-lt, xor-add-and}
 use Rattle.gf256.specs.Gf.{xtime, timesBits, times, product, Remainder}
-use Rattle.gf256.proofs.Xor.{xor-assoc, xor-swap, xor-double, xor-left-comm, xor-cancel}
+use Rattle.gf256.proofs.Xor.{xor-assoc, xor-swap, xor-double}
 use Rattle.gf256.proofs.Linear.{bit, bit-xor, bit-through, xtime-lt, times-lt}
 
 -- a product by fixed bits is linear

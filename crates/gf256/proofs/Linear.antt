@@ -1,14 +1,14 @@
 -- The product of FIPS 197 is linear in each factor, commutes and associates, and 01h is its unit.
 use mathlib.Core.Path.{_≡_, refl, sym, ap, ap₂, _∙_, subst}
 use mathlib.Core.Bool.{Bool}
-use Prim.Native.Nat.{ℕ, zero, suc, _+_, _*_, _/_, _%_, _^_, _≤_, _<_}
-use native.Mathlib.Nat.{add-zero, mod-lt, zero-lt-suc, zero-mul, mul-zero, one-mul, div-lt-iff-lt-mul, le-of-suc-le-suc, not-suc-le-zero}
+use Prim.Native.Nat.{ℕ, zero, suc, _*_, _/_, _%_, _<_}
+use native.Mathlib.Nat.{mod-lt, zero-lt-suc, zero-mul, mul-zero, one-mul}
 use native.Mathlib.Omega.{arith}
-use lib.Dec.{T, eqb, eqb→eq, ltb, ltb→lt}
-use lib.Bits.{bitXor, differ, xor-step, xor-comm, xor-shr, xor-lt, xor-self, xor-zero-r}
+use lib.Dec.{eqb, eqb→eq, ltb, ltb→lt}
+use lib.Bits.{bitXor, differ, xor-shr, xor-lt, xor-self, xor-zero-r}
 use Rattle.gf256.specs.Gf.{xtime, timesBits, times}
-use Rattle.gf256.proofs.Xor.{xor-assoc, xor-swap, xor-half, xor-odd, xor-double}
-use Rattle.gf256.proofs.Test.{each, each-at}
+use Rattle.gf256.proofs.Xor.{xor-swap, xor-half, xor-odd, xor-double}
+use Rattle.gf256.proofs.Test.{each-at}
 
 pub bit : (a : ℕ) → a % 2 < 2
 bit a = mod-lt a (zero-lt-suc 1)
@@ -112,10 +112,6 @@ timesBits-swap n (suc m) a b c h =
 pub times-lt : (a b : ℕ) → a < 256 → times a b < 256
 unfolding times
 times-lt a b h = timesBits-lt 8 a b h
-
-pub times-xor-l : (a c b : ℕ) → a < 256 → c < 256 → times (bitXor a c) b ≡ bitXor (times a b) (times c b)
-unfolding times
-times-xor-l a c b = timesBits-xor-l 8 a c b
 
 pub times-xor-r : (a b c : ℕ) → times a (bitXor b c) ≡ bitXor (times a b) (times a c)
 unfolding times

@@ -2,16 +2,15 @@
 -- One computed test goes through each table.
 use mathlib.Core.Path.{_≡_, refl, sym, ap, ap₂, _∙_, subst}
 use mathlib.Core.Bool.{Bool}
-use mathlib.Core.Logic.{_≢_}
 use mathlib.Core.List.{List, [], _∷_}
-use Prim.Native.Nat.{ℕ, zero, suc, _+_, _-_, _*_, _/_, _%_, _≤_, _<_}
-use native.Mathlib.Nat.{le-of-lt, le-trans, zero-lt-suc, div-add-mod', mod-lt, add-zero, add-suc, mul-zero, mul-suc, zero-mul, suc-mul}
+use Prim.Native.Nat.{ℕ, zero, suc, _+_, _-_, _*_, _/_, _%_, _<_}
+use native.Mathlib.Nat.{add-zero, add-suc, mul-zero, mul-suc}
 use native.Mathlib.Omega.{arith}
 use lib.Dec.{T, eqb, eqb→eq, ltb, ltb→lt}
-use lib.ListN.{length, getD}
+use lib.ListN.{getD}
 use Rattle.gf256.specs.Gf.{xtime, timesBits, times, power, inverse}
 use Rattle.gf256.proofs.Test.{both, both-left, both-right, each, each-at}
-use Rattle.gf256.proofs.Linear.{times-lt, times-comm, times-assoc, one-times, times-zero-l, times-zero-r}
+use Rattle.gf256.proofs.Linear.{times-lt, times-comm, times-assoc, one-times, times-zero-r}
 
 unfoldable pub powers : List ℕ
 powers =

@@ -1,6 +1,7 @@
--- Laws of HMAC that the proofs of this crate and of others cite: the length of a tag, the key of 32 bytes, and its block.
+-- Laws of HMAC that the proofs of this crate and of others cite: the length of a tag, the key of 32 bytes, its block, and a prepared key.
 -- A digest has 32 bytes, so a tag has as many as it takes of them; a key that fits a block is used as it is; the block of the key's
--- first i bytes becomes that of i + 1 bytes by one store, since nothing xor x is x. Assumes nothing.
+-- first i bytes becomes that of i + 1 bytes by one store, since nothing xor x is x;
+-- a block of the key has 64 bytes, so its hash value stands for it. Assumes nothing.
 use mathlib.Core.Path.{_≡_, refl, sym, ap, _∙_}
 use mathlib.Core.Logic.{_≢_}
 use mathlib.Core.List.{List, [], _∷_, _++_}
@@ -12,9 +13,11 @@ use lib.Bits.{bitXor, xor-zero-l}
 use lib.ListN.{length, getD, set, take, replicate, length-set, length-take, List·getD-eq-default}
 use lib.Seq.{length-take-le, take-suc, take-suc-set, take-all, getD-take, getD-set-same, getD-set-other, ext-getD}
 use borrow.Author.Tests.{le-leb}
-use Rattle.sha256.specs.Sha256.{tab}
+use Rattle.sha256.specs.Sha256.{tab, sha256}
 use Rattle.sha256.proofs.Laws.{sha-length, tab-length, tab-at, tab-ext}
+use Rattle.sha256.proofs.Hashed.{digest-after}
 use Rattle.hmac.specs.Hmac.{hmacSha256, keyOf, maskedOf, tagOf, tagSize}
+use Rattle.hmac.specs.PreparedKey.{preparedOf, preparedHmac, preparedTag}
 
 pub hmac-length : (k m : List ℕ) → length (hmacSha256 k m) ≡ 32
 unfolding hmacSha256
@@ -80,3 +83,21 @@ masked-more key out x i h e =
 
 pub masked-all : (key : List ℕ) (x : ℕ) → length key ≡ 32 → maskedOf (take 32 key) x ≡ maskedOf key x
 masked-all key x e = ap (λ (k : List ℕ). maskedOf k x) (take-all 32 key (omega arith))
+
+-- ---- a prepared key
+
+masked-length : (k : List ℕ) (x : ℕ) → length (maskedOf k x) ≡ 64
+unfolding maskedOf
+masked-length k x = tab-length 64 _
+
+pub prepared-hmac : (k m : List ℕ) → preparedHmac (preparedOf k) m ≡ hmacSha256 k m
+unfolding preparedHmac preparedOf hmacSha256
+prepared-hmac k m =
+    let outer : List ℕ = maskedOf (keyOf k) 0x5c in
+    let inner : List ℕ = maskedOf (keyOf k) 0x36 in
+    digest-after outer _ (masked-length (keyOf k) 0x5c)
+    ∙ ap (λ (x : List ℕ). sha256 (outer ++ x)) (digest-after inner m (masked-length (keyOf k) 0x36))
+
+pub prepared-tag : (k m : List ℕ) → preparedTag (preparedOf k) m ≡ tagOf k m
+unfolding preparedTag tagOf
+prepared-tag k m = ap (take tagSize) (prepared-hmac k m)

@@ -8,13 +8,12 @@ use borrow.Author.Tests.{leb-true}
 use Rattle.cluster.specs.Config.{Config, shelf}
 use Rattle.cluster.specs.Ranges.{within, topFaults}
 use Rattle.protocol.specs.Memory.{decodeMemory}
-use Rattle.protocol.specs.Primitives.{Primitives, Lengths, real}
+use Rattle.protocol.specs.Primitives.{Primitives, Lengths}
 use Rattle.protocol.specs.Server.{Server, blankServer}
 use Rattle.protocol.specs.ServerBytes.{serverIn, memoryOf}
 use Rattle.protocol.specs.ClientBytes.{keyOf}
 use Rattle.protocol.specs.Runs.{Shelf, configOf, Typed, steps, Account, serverOr, byBytes, byValues, doBytes, nowBytes, doValues, nowValues}
 use Rattle.protocol.proofs.Answers.{and-on}
-use Rattle.protocol.proofs.Primitive.{real-lengths}
 use Rattle.protocol.proofs.ServerLift.{Holds, holds-decodes}
 use Rattle.protocol.proofs.RunLift.{Matches, Agrees, AllFed, run-matches, run-agrees}
 
@@ -67,7 +66,3 @@ module _ (P : Primitives) (law : Lengths P) (sh : Shelf) (tr : (1 ≤ sh .t) × 
   -- whatever is claimed of the account by values holds of the account by bytes
   pub claimed : (C : Account s → Type 0) → C (byValues P s (sh .writers) (keyOf (sh .keys))) → C (byBytes P sh)
   claimed C h = subst C (sym accounts) h
-
--- with the real digest, tag and fragments
-pub real-accounts : (sh : Shelf) → (1 ≤ sh .t) × (sh .t ≤ topFaults) → byBytes real sh ≡ byValues real (configOf sh) (sh .writers) (keyOf (sh .keys))
-real-accounts sh tr = accounts real real-lengths sh tr

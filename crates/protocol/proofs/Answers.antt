@@ -6,11 +6,10 @@ use mathlib.Core.Option.{Option, none, some, Option·some-injective, Option·non
 use mathlib.Core.Logic.{_⊎_, inl, inr}
 use mathlib.Core.List.{List, [], _∷_, _++_}
 use Prim.Native.Nat.{ℕ, zero, suc, _+_, _≤_, _<_}
-use native.Mathlib.Numerals.{add-one}
-use lib.ListN.{length, drop, getD, replicate, drop-of-length-le}
-use lib.Seq.{drop-at, getD-drop, drop-cons}
+use lib.ListN.{length, drop, replicate}
+use lib.Seq.{drop-at, getD-drop}
 use lib.Dec.{T, leb, eqb}
-use borrow.Author.Tests.{ne-eqb, leb-true, eqb-true}
+use borrow.Author.Tests.{leb-true, eqb-true}
 use Rattle.protocol.specs.Format.{Bytes, guard, andThen, orElse, zeros, whole, atEnd}
 
 -- ---- tests
@@ -100,13 +99,3 @@ zeros-only (x ∷ xs) e =
     let l : x ≡ 0 = eqb-true x 0 p in
     let m : xs ≡ replicate (length xs) 0 = zeros-only xs q in
     λ i. l i ∷ m i
-
--- zeros from a place on
-pub zeros-here : (b : List ℕ) (i : ℕ) → i < length b → getD b i 0 ≡ 0 → zeros (drop i b) ≡ zeros (drop (i + 1) b)
-zeros-here b i h e = rw (add-one, drop-cons b i 0 h, e)
-
-pub zeros-not : (b : List ℕ) (i : ℕ) → i < length b → (getD b i 0 ≡ 0 → ⊥) → zeros (drop i b) ≡ false
-zeros-not b i h e = rw (drop-cons b i 0 h, ne-eqb _ _ e)
-
-pub zeros-end : (b : List ℕ) (i : ℕ) → length b ≤ i → zeros (drop i b) ≡ true
-zeros-end b i h = rw (drop-of-length-le b h)

@@ -4,12 +4,10 @@ use mathlib.Core.Path.{_≡_, refl, sym, ap, _∙_, subst}
 use mathlib.Core.Bool.{Bool, true, false, cond, _&&_}
 use mathlib.Core.List.{List, [], _∷_, _++_}
 use mathlib.Core.Option.{Option, none, some}
-use Prim.Native.Nat.{ℕ, suc, _+_, _/_, _%_, _≤_, _<_}
-use native.Mathlib.Numerals.{add-one}
+use Prim.Native.Nat.{ℕ, _/_, _%_}
 use lib.Dec.{T, eqb}
-use lib.ListN.{length, getD, drop, drop-of-length-le}
-use lib.Seq.{drop-cons}
-use borrow.Author.Tests.{eq-eqb, ne-eqb, eqb-true}
+use lib.ListN.{getD, drop}
+use borrow.Author.Tests.{eq-eqb, eqb-true}
 use Rattle.protocol.specs.declared.Stamp.{Stamp}
 use Rattle.protocol.specs.Format.{value4, via, seq, number4, byte, run}
 use Rattle.protocol.specs.Values.{Candidate, Share, Write, sameList, sameStamp, sameCandidate}
@@ -44,23 +42,6 @@ same-true (x ∷ xs) (y ∷ ys) e =
 pub same-refl : (a : List ℕ) → sameList a a ≡ true
 same-refl [] = refl
 same-refl (x ∷ xs) = rw (eq-eqb x x refl) (same-refl xs)
-
-pub same-length : (a b : List ℕ) → (length a ≡ length b → ⊥) → sameList a b ≡ false
-same-length [] [] h = absurd (h refl)
-same-length [] (y ∷ ys) h = refl
-same-length (x ∷ xs) [] h = refl
-same-length (x ∷ xs) (y ∷ ys) h = ap (λ (z : Bool). eqb x y && z) (same-length xs ys (λ e. h (ap suc e))) ∙ and-off (eqb x y)
-
--- from a place on
-module _ (a b : List ℕ) (i : ℕ) (h : i < length a) (k : i < length b) where
-  pub same-here : getD a i 0 ≡ getD b i 0 → sameList (drop i a) (drop i b) ≡ sameList (drop (i + 1) a) (drop (i + 1) b)
-  same-here e = rw (add-one, drop-cons a i 0 h, drop-cons b i 0 k, eq-eqb _ _ e)
-
-  pub differs-here : (getD a i 0 ≡ getD b i 0 → ⊥) → sameList (drop i a) (drop i b) ≡ false
-  differs-here e = rw (drop-cons a i 0 h, drop-cons b i 0 k, ne-eqb _ _ e)
-
-pub same-end : (a b : List ℕ) (i : ℕ) → length a ≤ i → length b ≤ i → sameList (drop i a) (drop i b) ≡ true
-same-end a b i h k = rw (drop-of-length-le a h, drop-of-length-le b k)
 
 -- ---- stamps and candidates
 

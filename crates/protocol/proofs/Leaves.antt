@@ -1,11 +1,11 @@
 -- Formats at a place of a list: what the readers of the parts leave is what the reader of the whole leaves, and where a part stops, the whole stops.
 -- Each unfolds one combinator once, so that a composite reader's proof is a term. Nothing is assumed.
-use mathlib.Core.Path.{_≡_, refl, sym, ap, subst}
+use mathlib.Core.Path.{_≡_, refl, sym, subst}
 use mathlib.Core.Bool.{Bool, true, false}
 use mathlib.Core.Option.{none, some}
 use mathlib.Core.Logic.{inl, inr}
-use mathlib.Core.List.{List, [], _∷_}
-use Prim.Native.Nat.{ℕ, suc, _+_, _-_, _≤_, _<_}
+use mathlib.Core.List.{List, []}
+use Prim.Native.Nat.{ℕ, _+_, _-_, _≤_, _<_}
 use native.Mathlib.Omega.{arith}
 use lib.ListN.{length, take, drop, length-drop}
 use lib.Seq.{drop-drop}
@@ -70,23 +70,11 @@ module _ {A : Type 0} (n : ℕ) (blank : A) (F : Fmt A) {s : List ℕ} {at : ℕ
   unfolding orBlank
   stops-blank f h z = record { stopped = rw (f .stopped, le-leb n (length (drop at s)) (omega (arith, length-drop at s)), z) }
 
--- n of a kind: one more in front
+-- n of a kind, where n is 0
 module _ {A : Type 0} (F : Fmt A) (n : ℕ) {s : List ℕ} {at : ℕ} where
   pub leaves-none : at ≤ length s → Leaves (many 0 F) s at [] at
   unfolding many
   leaves-none h = record { parsed = refl; within = h; ok = (refl, tt) }
-
-  pub leaves-more : {a : A} {xs : List A} {k l : ℕ} → Leaves F s at a k → Leaves (many n F) s k xs l → Leaves (many (suc n) F) s at (a ∷ xs) l
-  unfolding many
-  leaves-more f g = record { parsed = rw (f .parsed, g .parsed); within = g .within; ok = (ap suc (g .ok .0), (f .ok, g .ok .1)) }
-
-  pub stops-here : Stops F s at → Stops (many (suc n) F) s at
-  unfolding many
-  stops-here f = record { stopped = rw (f .stopped) }
-
-  pub stops-later : {a : A} {k : ℕ} → Leaves F s at a k → Stops (many n F) s k → Stops (many (suc n) F) s at
-  unfolding many
-  stops-later f g = record { stopped = rw (f .parsed, g .stopped) }
 
 -- a value that may be absent: the byte alone, or the byte and the value
 module _ {A : Type 0} (hi : ℕ) (F : Fmt A) {s : List ℕ} {at : ℕ} where

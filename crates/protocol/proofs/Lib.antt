@@ -33,4 +33,3 @@ pub mod MakeLift
 pub mod StepLift
 pub mod RunLift
 pub mod Accounts
-mod Examples

@@ -13,16 +13,16 @@ use borrow.Author.Tests.{eq-eqb, eqb-true}
 use Rattle.cluster.specs.Config.{Config, shelf}
 use Rattle.cluster.specs.Ranges.{topFaults, memorySize, packetRoom}
 use Rattle.cluster.specs.Refusals.{onRefusal}
-use Rattle.protocol.specs.Format.{Bytes, via, seq, keep, byte}
+use Rattle.protocol.specs.Format.{via, seq, keep, byte}
 use Rattle.protocol.specs.Packet.{Packet, Body, BodyOk, PacketOk, packetF, headF, bodyF, kindOf, decode, encode}
 use Rattle.protocol.specs.Packet.{clock, clockReply, store, storeReply, complete, completeReply, collect, collectReply, filter, filterReply, repair, repairReply}
-use Rattle.protocol.specs.Memory.{Memory, MemoryOk, decodeMemory, encodeMemory, blankMemory}
+use Rattle.protocol.specs.Memory.{MemoryOk, decodeMemory, encodeMemory, blankMemory}
 use Rattle.protocol.specs.Primitives.{Primitives}
 use Rattle.protocol.specs.Server.{Server, Acted, act, barred, Stepped, replyTo, serverRefusal, answered, serverStep, blankServer}
 use Rattle.protocol.specs.ServerBytes.{Served, serverIn, memoryOf, over, turnedDown, accepted, onMemory, serverTake}
 use Rattle.protocol.proofs.Answers.{no-some, and-on}
 use Rattle.protocol.proofs.Bodies.{decode-ok}
-use Rattle.protocol.proofs.Memories.{fields, of-fields, memory-length, decode-encode-memory, decode-memory-ok, encode-decode-memory}
+use Rattle.protocol.proofs.Memories.{of-fields, memory-length, decode-encode-memory}
 use Rattle.protocol.proofs.Acts.{ServerOk, Right, act-ok, blank-ok}
 
 -- bytes at the start of the output are there
@@ -50,18 +50,6 @@ module _ {t b : ℕ} {v : Server} {memory : List ℕ} (h : Holds t b v memory) w
 
   pub holds-length : length memory ≡ memorySize
   holds-length = ap length (h .bytes) ∙ memory-length (memoryOf t b v) memory-ok
-
--- any bytes that are a memory hold the server in it
-pub decoded-holds : (memory : List ℕ) (m : Memory) → Bytes memory → decodeMemory memory ≡ some m → Holds (m .t) (m .server) (serverIn m) memory
-unfolding serverIn memoryOf
-decoded-holds memory m bs e =
-    let f = fields m (decode-memory-ok memory m e) in
-    record {
-      t-range = f .t-range;
-      b-range = f .server-range;
-      ok = record { few = f .few; latest = f .latest; writes = f .writes; once = f .once };
-      bytes = sym (encode-decode-memory memory m bs e);
-    }
 
 pub blank-holds : (t b : ℕ) → (1 ≤ t) × (t ≤ topFaults) → (1 ≤ b) × (b ≤ shelf t .servers) → Holds t b (blankServer (shelf t)) (encodeMemory (blankMemory t b))
 unfolding memoryOf

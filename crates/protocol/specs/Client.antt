@@ -1,17 +1,16 @@
 -- The client (Algorithms 4 and 6 as document 01, "The client", amends them): a pending call, its packets, and what a reply does, on values.
 -- Document 01 says call in hand for pending call and giving up for abort.
 use mathlib.Core.Bool.{Bool, true, false, cond, not, _&&_, _||_}
-use mathlib.Core.List.{List, [], _∷_, _++_}
+use mathlib.Core.List.{List, [], _∷_}
 use mathlib.Core.Option.{Option, none, some}
-use Prim.Native.Nat.{ℕ, zero, suc, _+_, _*_}
+use Prim.Native.Nat.{ℕ, suc}
 use lib.Dec.{leb, ltb, eqb}
 use lib.ListN.{length}
-use Rattle.cluster.specs.Config.{Config, quorum, shelf}
+use Rattle.cluster.specs.Config.{Config, quorum}
 use Rattle.cluster.specs.Ranges.{within, topFaults, topWriter, topClient, topNumber, leastLength, topLength, packetRoom, contentRoom}
-use Rattle.cluster.specs.Refusals.{Check, refuse, firstOf, onRefusal}
+use Rattle.cluster.specs.Refusals.{refuse, firstOf, onRefusal}
 use Rattle.protocol.specs.declared.Stamp.{Stamp}
-use Rattle.protocol.specs.declared.Head.{Head}
-use Rattle.protocol.specs.Values.{Candidate, Share, Write, Held, sameList, runOf, isBlank, blankStamp, blankCandidate, noHeld, noShare}
+use Rattle.protocol.specs.Values.{Candidate, Share, Held, sameList, runOf, isBlank, blankStamp, blankCandidate, noHeld, noShare}
 use Rattle.protocol.specs.Packet.{Body, Packet, kindOf}
 use Rattle.protocol.specs.Packet.{clock, clockReply, store, storeReply, complete, completeReply, collect, collectReply, filter, filterReply, repair, repairReply}
 use Rattle.protocol.specs.Primitives.{Primitives, stampMessage, candidateMessage}

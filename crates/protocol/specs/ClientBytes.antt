@@ -1,6 +1,6 @@
 -- The client's operations on bytes: what the contracts of the code cite. A call, the kept bytes, arguments and an output buffer go in;
 -- the answer, the call, the kept bytes and the output buffer come out. Refusals and rules are those of Client and Rules, on the view of the bytes.
-use mathlib.Core.Bool.{Bool, true, false, cond, not, _&&_, _||_}
+use mathlib.Core.Bool.{Bool, cond, _&&_}
 use mathlib.Core.List.{List, [], _∷_, _++_}
 use mathlib.Core.Option.{Option, none, some}
 use Prim.Native.Nat.{ℕ, zero, suc, _+_, _-_, _*_}
@@ -17,7 +17,7 @@ use Rattle.protocol.specs.declared.Taken.the-variants as taken
 use Rattle.protocol.specs.declared.Aborted.{Aborted}
 use Rattle.protocol.specs.declared.Aborted.the-variants as aborts
 use Rattle.protocol.specs.Values.{Candidate, Share, Held, sameList}
-use Rattle.protocol.specs.Packet.{Body, Packet, kindOf, decode, encode, anyCandidateF, candidateF, shareF, heldF}
+use Rattle.protocol.specs.Packet.{Body, Packet, decode, encode, anyCandidateF, candidateF, shareF, heldF}
 use Rattle.protocol.specs.Primitives.{Primitives}
 use Rattle.protocol.specs.Rules.{ByServer, gather, live, choice, leader, restoredBy, tagsIn}
 use Rattle.protocol.specs.Client.{higher, stampIn, codeIn, candidateIn, heldIn, made, candidateMade, sharesMade, writeRefusal, readRefusal, makeRefusal, abortRefusal, takeRefusal}

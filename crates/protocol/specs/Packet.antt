@@ -1,10 +1,10 @@
 -- Packets: a value for each kind, and the bytes that it fixes (document 01, "Packets").
 -- The layout goes by the packet's own t. A field out of its range breaks the layout, and so does a byte too many or too few: refusal 7.
 use mathlib.Core.Path.{_≡_}
-use mathlib.Core.Bool.{Bool, true, false, cond, _||_}
+use mathlib.Core.Bool.{cond, _||_}
 use mathlib.Core.Option.{Option, none, some}
-use mathlib.Core.List.{List, [], _∷_}
-use Prim.Native.Nat.{ℕ, _*_}
+use mathlib.Core.List.{List, []}
+use Prim.Native.Nat.{ℕ}
 use lib.ListN.{length}
 use lib.Dec.{leb, eqb}
 use Rattle.cluster.specs.Config.{Config, shelf}

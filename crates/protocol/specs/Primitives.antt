@@ -3,7 +3,6 @@ use mathlib.Core.Path.{_≡_}
 use mathlib.Core.List.{List, [], _∷_, _++_}
 use Prim.Native.Nat.{ℕ}
 use lib.ListN.{length}
-use Rattle.cluster.specs.Config.{Config}
 use Rattle.sha256.specs.Sha256.{sha256}
 use Rattle.hmac.specs.Hmac.{tagOf, tagSize}
 use Rattle.erasure.specs.Fragments.{Part, fragment, fragmentSize, restored}

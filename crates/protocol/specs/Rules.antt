@@ -1,6 +1,6 @@
 -- The rules of collect and filter (Algorithm 6, with Algorithm 3 for COLLECT, FILTER and RESTORE, as document 01, "The client", amends them).
 -- Who left the list, who is proven and what is chosen are functions of the list and of the replies; nothing of it is kept.
-use mathlib.Core.Bool.{Bool, true, false, cond, not, _&&_, _||_}
+use mathlib.Core.Bool.{Bool, false, cond, not, _&&_, _||_}
 use mathlib.Core.List.{List, [], _∷_, _++_}
 use mathlib.Core.Option.{Option, none, some}
 use Prim.Native.Nat.{ℕ, zero, suc, _+_}
@@ -8,7 +8,6 @@ use lib.Dec.{leb, ltb, eqb}
 use Rattle.cluster.specs.Config.{Config, quorum}
 use Rattle.cluster.specs.Ranges.{within, leastLength, topLength}
 use Rattle.erasure.specs.Fragments.{Part}
-use Rattle.protocol.specs.declared.Stamp.{Stamp}
 use Rattle.protocol.specs.Values.{Candidate, Share, Held, sameList, nth, digestSize, below, sameStamp, sameCandidate, isBlank}
 use Rattle.protocol.specs.Primitives.{Primitives}
 

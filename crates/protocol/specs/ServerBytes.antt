@@ -1,11 +1,11 @@
 -- The server's operations on bytes: what the contracts of the code cite.
-use mathlib.Core.Bool.{Bool, true, false, cond, not}
+use mathlib.Core.Bool.{cond, not}
 use mathlib.Core.List.{List, [], _∷_, _++_}
 use mathlib.Core.Option.{Option, none, some}
 use Prim.Native.Nat.{ℕ}
 use lib.Dec.{eqb}
 use lib.ListN.{length, drop}
-use Rattle.cluster.specs.Config.{Config, shelf}
+use Rattle.cluster.specs.Config.{shelf}
 use Rattle.cluster.specs.Ranges.{within, topFaults, memorySize}
 use Rattle.cluster.specs.Refusals.{refuse, firstOf, onRefusal}
 use Rattle.cluster.specs.declared.Outcome.{Outcome}

@@ -1,10 +1,10 @@
 -- Stamps, candidates and stored writes (document 01, "Stamps and candidates"), their blanks, their order and their equality.
-use mathlib.Core.Bool.{Bool, true, false, cond, _&&_, _||_}
+use mathlib.Core.Bool.{Bool, true, false, _&&_, _||_}
 use mathlib.Core.List.{List, [], _∷_, _++_}
 use mathlib.Core.Option.{Option, none, some}
 use Prim.Native.Nat.{ℕ, zero, suc, _+_, _-_, _*_}
 use lib.Dec.{ltb, eqb}
-use lib.ListN.{length, take, drop, replicate}
+use lib.ListN.{take, drop, replicate}
 use Rattle.cluster.specs.Config.{Config}
 use Rattle.cluster.specs.Ranges.{keySize}
 use Rattle.hmac.specs.Hmac.{tagSize}

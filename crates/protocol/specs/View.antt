@@ -1,17 +1,16 @@
 -- A client's bytes, and the client that they stand for. Every value of the bytes stands for one: they are read by place, and no range is tested.
-use mathlib.Core.Bool.{Bool, true, false, cond, not, _&&_}
-use mathlib.Core.List.{List, [], _∷_, _++_}
-use mathlib.Core.Option.{Option, none, some}
+use mathlib.Core.Bool.{Bool, false, cond, not, _&&_}
+use mathlib.Core.List.{List}
+use mathlib.Core.Option.{none, some}
 use Prim.Native.Nat.{ℕ, zero, suc, _+_, _-_, _*_}
 use lib.Dec.{leb, ltb, eqb}
-use lib.ListN.{length, take, drop, getD}
+use lib.ListN.{take, drop, getD}
 use Rattle.cluster.specs.Config.{Config}
 use Rattle.cluster.specs.Ranges.{within, mostServers, topLength}
 use Rattle.hmac.specs.Hmac.{tagSize}
 use Rattle.erasure.specs.Fragments.{fragmentSize}
 use Rattle.protocol.specs.declared.Stamp.{Stamp}
 use Rattle.protocol.specs.declared.Call.{Call}
-use Rattle.protocol.specs.declared.Tally.{Tally}
 use Rattle.protocol.specs.Format.{value2, value4}
 use Rattle.protocol.specs.Values.{Candidate, Share, Held, blankCandidate, noHeld, noShare, digestSize, nonceSize, stampSize, digestsSize, tagsSize}
 use Rattle.protocol.specs.Rules.{ByServer, gather}

@@ -105,12 +105,11 @@ held-some : (s : Config) (a : Stamp) (x : Share) → heldF s .print (record { st
 unfolding heldF anyStampF via seq orBlank optional
 held-some s a x = sym (append-assoc (stampF .print a) (1 ∷ []) (shareF s .print x))
 
-module _ (d : List ℕ) (bs : Bytes d) (h : Head) (n : ℕ) (a : Stamp) (output : List ℕ) {z x : List ℕ} (p : z ≡ stampF .print a ++ 0 ∷ [])
-    (q : x ≡ part z 0 stampSize) where
-  found-for : (ws : List Write) → length (a .tag) ≡ tagSize → shareIn (firstWith x ws) ≡ held a ws
+module _ (d : List ℕ) (bs : Bytes d) (h : Head) (n top : ℕ) (a : Stamp) (output : List ℕ) {z : List ℕ} (p : z ≡ stampF .print a ++ 0 ∷ []) where
+  found-for : (ws : List Write) → length (a .tag) ≡ tagSize → shareIn (firstWith (part z 0 stampSize) ws) ≡ held a ws
   unfolding part
   found-for ws l =
-      let searched : x ≡ stampF .print a = q ∙ ap (take stampSize) p ∙ take-at (stampF .print a) (0 ∷ []) stampSize (stamp-length a l) in
+      let searched : take stampSize z ≡ stampF .print a = ap (take stampSize) p ∙ take-at (stampF .print a) (0 ∷ []) stampSize (stamp-length a l) in
       ap (λ (y : List ℕ). shareIn (firstWith y ws)) searched ∙ first-held a ws
 
   replies : (ws : List Write) {w : Written} (o : Option Share) → held a ws ≡ o → (first second : List ℕ) {g : Head} → g ≡ replyHead h 10 → w ≡ packetStep g first second output
@@ -120,17 +119,17 @@ module _ (d : List ℕ) (bs : Bytes d) (h : Head) (n : ℕ) (a : Stamp) (output 
       headed h 10 output first second i u ∙ joined (replyHead h 10) first second output
       ∙ ap (λ (y : List ℕ). packetStep (replyHead h 10) y [] output) (v ∙ ap (λ (y : Option Share). heldF (shelf (h .t)) .print (record { stamp = a; share = y })) (sym e))
 
-  pub held-nothing : (f : Found) → FindAs (shelf (h .t)) n d x f → f ≡ found.Nothing → {second : List ℕ} → second ≡ part d 0 0
-      → {g : Head} {w : Written} → g ≡ replyHead h 10 → w ≡ packetStep g z second output → HeldAs d h n a output w
-  held-nothing f find t {second} v i u ws e m l =
-      let k : firstWith x ws ≡ none = subst (λ (y : Found). FindIs (shelf (h .t)) d (firstWith x ws) y) t (find ws e m) in
+  pub held-nothing : (f : Found) → FindAs (shelf (h .t)) n top d z f → f ≡ found.Nothing → {second : List ℕ} → second ≡ part d 0 0
+      → {g : Head} {w : Written} → g ≡ replyHead h 10 → w ≡ packetStep g z second output → HeldAs d h n top a output w
+  held-nothing f find t {second} v i u ws e m up l =
+      let k : firstWith (part z 0 stampSize) ws ≡ none = subst (λ (y : Found). FindIs (shelf (h .t)) d (firstWith (part z 0 stampSize) ws) y) t (find ws e m up) in
       replies ws none (sym (found-for ws l) ∙ ap shareIn k) z second i u
       (ap (λ (y : List ℕ). z ++ y) (v ∙ part-none d 0) ∙ append-nil z ∙ p ∙ sym (held-none (shelf (h .t)) a))
 
-  pub held-share : (f : Found) → FindAs (shelf (h .t)) n d x f → {at : ℕ} → f ≡ found.At at → {first second : List ℕ} → first ≡ stampF .print a ++ 1 ∷ []
-      → second ≡ shareBytes (shelf (h .t)) d at → {g : Head} {w : Written} → g ≡ replyHead h 10 → w ≡ packetStep g first second output → HeldAs d h n a output w
-  held-share f find {at} t {first} {second} y v i u ws e m l =
-      let k = subst (λ (y : Found). FindIs (shelf (h .t)) d (firstWith x ws) y) t (find ws e m) in
+  pub held-share : (f : Found) → FindAs (shelf (h .t)) n top d z f → {at : ℕ} → f ≡ found.At at → {first second : List ℕ} → first ≡ stampF .print a ++ 1 ∷ []
+      → second ≡ shareBytes (shelf (h .t)) d at → {g : Head} {w : Written} → g ≡ replyHead h 10 → w ≡ packetStep g first second output → HeldAs d h n top a output w
+  held-share f find {at} t {first} {second} y v i u ws e m up l =
+      let k = subst (λ (y : Found). FindIs (shelf (h .t)) d (firstWith (part z 0 stampSize) ws) y) t (find ws e m up) in
       let x : Share = writeAt (shelf (h .t)) (drop at d) .share in
       let b : second ≡ shareF (shelf (h .t)) .print x = v ∙ share-there (shelf (h .t)) (k .there) bs in
       replies ws (some x) (sym (found-for ws l) ∙ ap shareIn (k .first)) first second i u

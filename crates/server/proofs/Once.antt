@@ -1,32 +1,33 @@
 -- That no stamp is stored twice: the writes before a cursor have one each, none above top, and the others stand from the cursor on.
--- A stamp above all before it is none of them, since equal stamps have equal keys. Assumes nothing.
+-- A stamp above all before it is none of them, since equal bytes have equal keys. Assumes nothing.
 use mathlib.Core.Path.{_≡_, refl, sym, ap, _∙_, subst}
 use mathlib.Core.Bool.{Bool, true, false, cond, not, _&&_}
 use mathlib.Core.List.{List, [], _∷_, _++_}
 use mathlib.Core.Option.{Option, none, some}
-use Prim.Native.Nat.{ℕ, _+_, _-_, _≤_, _<_}
+use Prim.Native.Nat.{ℕ, _+_, _-_, _*_, _≤_, _<_}
 use native.Mathlib.Omega.{arith}
 use native.Mathlib.Nat.{sub-zero}
 use lib.Dec.{T, ltb}
-use lib.ListN.{drop, length}
+use lib.ListN.{drop, take, length}
 use borrow.Author.Tests.{ltb-true, ltb-false, le-ltb, lt-ltb}
 use Rattle.cluster.specs.Config.{Config}
 use Rattle.protocol.specs.declared.Stamp.{Stamp}
-use Rattle.protocol.specs.Format.{Bytes, many}
-use Rattle.protocol.specs.Values.{Share, Write, sameStamp, isSome, stampSize}
+use Rattle.protocol.specs.Format.{Bytes, many, via, seq, number4, byte, run}
+use Rattle.protocol.specs.Values.{Share, Write, sameList, sameStamp, isSome, stampSize}
 use Rattle.protocol.specs.Packet.{stampF, writeF}
 use Rattle.protocol.specs.Memory.{held, freshAfter, distinct}
 use Rattle.protocol.specs.View.{part, stampAt}
 use Rattle.protocol.specs.Reading.{Leaves, Stops}
 use Rattle.protocol.proofs.Answers.{at-cond}
-use Rattle.protocol.proofs.Equal.{stamp-same, same-printed}
+use Rattle.protocol.proofs.Equal.{same-true, same-printed}
+use Rattle.protocol.proofs.Formats.{value4-print}
 use Rattle.protocol.proofs.Leaves.{leaves-none}
 use Rattle.protocol.proofs.Walks.{many-next, many-stops, many-none, all-snoc, many-snoc}
 use Rattle.wire.specs.Places.{writeAt}
 use Rattle.server.specs.declared.memory.Found.{Found}
 use Rattle.server.specs.declared.memory.Found.the-variants as found
 use Rattle.server.specs.declared.memory.Writes.the-variants as writes
-use Rattle.server.specs.Reads.{writesPlace, Stored, firstWith, FindIs, FindAs, keyOf, maxOf, UpTo, RepeatsAs, WritesAs}
+use Rattle.server.specs.Reads.{writesPlace, Stored, firstWith, FindIs, SearchAs, FindAs, keyOf, maxOf, UpTo, RepeatsAs, WritesAs}
 use Rattle.server.proofs.Walk.{stamp-bytes}
 
 pub untrue : (b : Bool) → (b ≡ true → ⊥) → b ≡ false
@@ -55,14 +56,32 @@ up-more : (top up : ℕ) (ws : List Write) → top ≤ up → UpTo top ws → Up
 up-more top up [] l h = tt
 up-more top up (w ∷ ws) l h = (omega (arith, h .0), up-more top up ws l (h .1))
 
--- a stamp above all is held by none
-pub held-above : (a : Stamp) (top : ℕ) (ws : List Write) → UpTo top ws → top < keyOf a → held a ws ≡ none
-unfolding held
-held-above a top [] h k = refl
-held-above a top (w ∷ ws) h k =
-    let f : sameStamp (w .stamp) a ≡ false =
-    untrue _ (λ e. let q : keyOf (w .stamp) ≡ keyOf a = ap keyOf (stamp-same (w .stamp) a e) in omega (arith, q, h .0, k)) in
-    rw f (held-above a top ws (h .1) k)
+-- the key of a printed stamp
+key-printed : (a : Stamp) → keyOf (stampAt (stampF .print a)) ≡ keyOf a
+unfolding keyOf stampAt stampF via seq number4 byte run
+key-printed a = ap (λ (n : ℕ). 256 * n + a .writer) (value4-print (a .number))
+
+-- ---- what is found: nothing above all stamps, and below them what a walk finds
+
+first-above : (key : List ℕ) (top : ℕ) (ws : List Write) → UpTo top ws → top < keyOf (stampAt key) → firstWith key ws ≡ none
+unfolding firstWith
+first-above key top [] h k = refl
+first-above key top (w ∷ ws) h k =
+    let f : sameList (stampF .print (w .stamp)) key ≡ false =
+    untrue _ (λ e.
+    let q : keyOf (w .stamp) ≡ keyOf (stampAt key) = sym (key-printed (w .stamp)) ∙ ap (λ (x : List ℕ). keyOf (stampAt x)) (same-true (stampF .print (w .stamp)) key e) in
+    omega (arith, q, h .0, k)) in
+    rw f (first-above key top ws (h .1) k)
+
+module _ (s : Config) (n top : ℕ) (d y : List ℕ) {x : List ℕ} (p : x ≡ part y 0 stampSize) where
+  found-as : (r : Found) → ((ws : List Write) (e : ℕ) → Stored s n d ws e → UpTo top ws → FindIs s d (firstWith x ws) r) → FindAs s n top d y r
+  found-as r f ws e m u = subst (λ (z : List ℕ). FindIs s d (firstWith z ws) r) p (f ws e m u)
+
+  pub find-above : {k : ℕ} → k ≡ keyOf (stampAt x) → top < k → FindAs s n top d y found.Nothing
+  find-above q l = found-as found.Nothing (λ ws e m u. first-above x top ws u (omega (arith, q, l)))
+
+  pub find-searched : (r : Found) → SearchAs s n d x r → FindAs s n top d y r
+  find-searched r f = found-as r (λ ws e m u. f ws e m)
 
 -- ---- what is found by a stamp's bytes is what is held for it
 
@@ -81,26 +100,21 @@ first-held a (w ∷ ws) = rw (same-printed (w .stamp) a) (share-cond (sameStamp 
 
 -- ---- whether a stamp stands before
 
-module _ (s : Config) (n : ℕ) (d : List ℕ) (at top : ℕ) where
-  pub repeats-above : {x : List ℕ} → x ≡ drop at d → {k : ℕ} → k ≡ keyOf (stampAt x) → top < k → RepeatsAs s n d at top false
-  repeats-above {x} p {k} q l ws e next m u f =
-      let o : k ≡ keyOf (stampAt (drop at d)) = q ∙ ap (λ (y : List ℕ). keyOf (stampAt y)) p in
-      sym (ap isSome (held-above (stampAt (drop at d)) top ws u (omega (arith, o, l))))
+module _ (s : Config) (n top : ℕ) (d : List ℕ) (at : ℕ) (bs : Bytes d) {x : List ℕ} (p : x ≡ drop at d) where
+  found-held : {next : ℕ} → Leaves (writeF s) d at (writeAt s (drop at d)) next → (ws : List Write) → shareIn (firstWith (part x 0 stampSize) ws) ≡ held (stampAt (drop at d)) ws
+  unfolding writeAt part
+  found-held f ws =
+      ap (λ (k : List ℕ). shareIn (firstWith k ws)) (ap (take stampSize) p ∙ unfold part in (stamp-bytes s f bs)) ∙ first-held (stampAt (drop at d)) ws
 
-  module _ (bs : Bytes d) {x : List ℕ} (p : x ≡ part d at stampSize) where
-    found-held : {next : ℕ} → Leaves (writeF s) d at (writeAt s (drop at d)) next → (ws : List Write) → shareIn (firstWith x ws) ≡ held (stampAt (drop at d)) ws
-    unfolding writeAt
-    found-held f ws = ap (λ (k : List ℕ). shareIn (firstWith k ws)) (p ∙ stamp-bytes s f bs) ∙ first-held (stampAt (drop at d)) ws
+  pub repeats-none : {r : Found} → r ≡ found.Nothing → FindAs s n top d x r → RepeatsAs s n top d at false
+  repeats-none t g ws e next m u f =
+      let o : firstWith (part x 0 stampSize) ws ≡ none = subst (λ (y : Found). FindIs s d (firstWith (part x 0 stampSize) ws) y) t (g ws e m u) in
+      sym (ap isSome (sym (found-held f ws) ∙ ap shareIn o))
 
-    pub repeats-none : {r : Found} → r ≡ found.Nothing → FindAs s n d x r → RepeatsAs s n d at top false
-    repeats-none t g ws e next m u f =
-        let o : firstWith x ws ≡ none = subst (λ (y : Found). FindIs s d (firstWith x ws) y) t (g ws e m) in
-        sym (ap isSome (sym (found-held f ws) ∙ ap shareIn o))
-
-    pub repeats-found : {r : Found} {k : ℕ} → r ≡ found.At k → FindAs s n d x r → RepeatsAs s n d at top true
-    repeats-found t g ws e next m u f =
-        let o = subst (λ (y : Found). FindIs s d (firstWith x ws) y) t (g ws e m) in
-        sym (ap isSome (sym (found-held f ws) ∙ ap shareIn (o .first)))
+  pub repeats-found : {r : Found} {k : ℕ} → r ≡ found.At k → FindAs s n top d x r → RepeatsAs s n top d at true
+  repeats-found t g ws e next m u f =
+      let o = subst (λ (y : Found). FindIs s d (firstWith (part x 0 stampSize) ws) y) t (g ws e m u) in
+      sym (ap isSome (sym (found-held f ws) ∙ ap shareIn (o .first)))
 
 -- ---- the walk
 
@@ -124,11 +138,11 @@ check-none s n d {at} p h = subst (λ (j : ℕ). Checking s n d j 0 0) (sym p) s
         }
 
 module _ {s : Config} {n : ℕ} {d : List ℕ} {at top i : ℕ} (h : Checking s n d at top i) where
-  pub check-end : i ≡ n → WritesAs s n d (writes.Past at)
+  pub check-end : i ≡ n → WritesAs s n d (writes.Past at top)
   check-end e =
       let m = subst (λ (j : ℕ). Stored s j d (h .seen) at) e (h .there) in
       let (ys, r, p) = h .rest (h .seen) at m in
-      record { writes = h .seen; there = m; once = p ∙ ap (freshAfter (h .seen)) (many-none (writeF s) (n - i) (omega arith) r) }
+      record { writes = h .seen; there = m; up = h .up; once = p ∙ ap (freshAfter (h .seen)) (many-none (writeF s) (n - i) (omega arith) r) }
 
   module _ (l : i < n) where
     pub check-stop : Stops (writeF s) d at → WritesAs s n d writes.Broken
@@ -144,12 +158,12 @@ module _ {s : Config} {n : ℕ} {d : List ℕ} {at top i : ℕ} (h : Checking s 
           omega (arith, max-right top k, v, o)
 
       -- the stamps seen and then the others, where the first of these is known to be fresh or not
-      fresh-next : (b : Bool) → RepeatsAs s i d at top b → (zs : List Write)
+      fresh-next : (b : Bool) → RepeatsAs s i top d at b → (zs : List Write)
           → freshAfter (h .seen) (writeAt s (drop at d) ∷ zs) ≡ (not b && freshAfter (h .seen ++ writeAt s (drop at d) ∷ []) zs)
       unfolding writeAt
       fresh-next b g zs = rw (sym (g (h .seen) at q (h .there) (h .up) (unfold writeAt in f)))
 
-      pub check-held : {b : Bool} → RepeatsAs s i d at top b → b ≡ true → WritesAs s n d writes.Broken
+      pub check-held : {b : Bool} → RepeatsAs s i top d at b → b ≡ true → WritesAs s n d writes.Broken
       check-held {b} g t ws e m o =
           let (ys, r, p) = h .rest ws e m in
           let (zs, u, _) = many-next (writeF s) (n - i) (n - (i + 1)) (omega arith) r f in
@@ -157,7 +171,7 @@ module _ {s : Config} {n : ℕ} {d : List ℕ} {at top i : ℕ} (h : Checking s 
           subst T z tt
 
       pub check-more : {x : List ℕ} → x ≡ drop at d → {k : ℕ} → k ≡ keyOf (stampAt x) → {up : ℕ} → up ≡ maxOf top k
-          → {b : Bool} → RepeatsAs s i d at top b → b ≡ false → Checking s n d q up (i + 1)
+          → {b : Bool} → RepeatsAs s i top d at b → b ≡ false → Checking s n d q up (i + 1)
       check-more {x} p₀ {k} q₀ {up} v {b} g t =
           let w : Write = writeAt s (drop at d) in
           let a : top ≤ up = omega (arith, max-left top k, v) in

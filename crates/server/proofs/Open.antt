@@ -115,12 +115,13 @@ module _ {d : List ℕ} (size : length d ≡ memorySize) where
               go (inl o) = memory-twice (o .there) (untrue _ (w (o .value) (o .next) (o .there)))
               go (inr f) = memory-short f
 
-          module _ {e : ℕ} (w : Checked (shelf t) n d e) where
-            pub opens : {o : List ℕ} → o ≡ drop e d → {c : Bool} → c ≡ zeros o → c ≡ true → Opened d t b n e
+          module _ {e top : ℕ} (w : Checked (shelf t) n d e top) where
+            pub opens : {o : List ℕ} → o ≡ drop e d → {c : Bool} → c ≡ zeros o → c ≡ true → Opened d t b n e top
             opens f g i =
                 record {
                   writes = w .writes;
                   there = w .there;
+                  up = w .up;
                   decoded = subst (λ (j : ℕ). decodeMemory d ≡ some (record { t = t; server = b; latest = candidateAt (shelf t) (drop j d); writes = w .writes }))
                       at-latest (memory-opens d size (memory-there (w .there) (w .once)) (tail d e f g i));
                 }

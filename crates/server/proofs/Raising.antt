@@ -84,7 +84,7 @@ pub size-few : (t : ℕ) → t ≤ topFaults → latestPlace + candidateSize (sh
 unfolding shelf
 size-few t h = omega arith
 
-module _ {d : List ℕ} {t b n e : ℕ} (o : Opened d t b n e) (bs : Bytes d) (x : List ℕ) (xs : Bytes x) where
+module _ {d : List ℕ} {t b n e top : ℕ} (o : Opened d t b n e top) (bs : Bytes d) (x : List ℕ) (xs : Bytes x) where
   module _ (p : x ≡ candidateF (shelf t) .print (candidateAt (shelf t) x)) (ok : candidateF (shelf t) .Ok (candidateAt (shelf t) x)) where
     any-length : (c : Candidate) → anyCandidateF (shelf t) .Ok c → length (anyCandidateF (shelf t) .print c) ≡ candidateSize (shelf t)
     any-length c h = any-candidate-length (shelf t) c h
@@ -125,7 +125,7 @@ module _ (d : List ℕ) (bs : Bytes d) (packet : List ℕ) (ps : Bytes packet) (
       → first ≡ part packet 0 0 → second ≡ part packet 0 0 → g ≡ replyHead h 6 → record { result = r; output = out } ≡ packetStep g first second output
       → AnswersFor 5 d packet output h (record { result = r; memory = m; output = out })
   unfolding bodyAt act packetAt
-  complete-answers {x} {m} {out} {first} {second} c e f j q w key n z o dec k room =
+  complete-answers {x} {m} {out} {first} {second} c e f j q w key n z top o dec k room =
       let y : List ℕ = drop headSize packet in
       let b = body-of h packet 5 k in
       let ok : candidateF (shelf (h .t)) .Ok (candidateAt (shelf (h .t)) y) =

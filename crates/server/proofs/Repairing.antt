@@ -24,23 +24,23 @@ use Rattle.server.specs.Valid.{ValidAs, RaisedAs, AnswersWith}
 use Rattle.server.proofs.Raising.{raised-memory}
 use Rattle.server.proofs.Replies.{body-of, replied, unchanged, part-none, alone, headed}
 
-module _ (d : List ℕ) (bs : Bytes d) (key : List ℕ) (t b n : ℕ) (x : List ℕ) (xs : Bytes x) {r : Bool} (test : ValidAs d key t b n x r) where
-  pub raised-valid : r ≡ true → {m : List ℕ} → m ≡ raisedBytes d x → RaisedAs d key t b n x m
+module _ (d : List ℕ) (bs : Bytes d) (key : List ℕ) (t b n top : ℕ) (x : List ℕ) (xs : Bytes x) {r : Bool} (test : ValidAs d key t b n top x r) where
+  pub raised-valid : r ≡ true → {m : List ℕ} → m ≡ raisedBytes d x → RaisedAs d key t b n top x m
   raised-valid i p e o made ok =
       let v : Server = serverIn (memoryIn o) in
       let c = candidateAt (shelf t) x in
       p ∙ raised-memory o bs x xs made ok ∙ ap (λ (g : Bool). encodeMemory (memoryOf t b (cond g (raise c v) v))) (sym i ∙ test e o made ok)
 
-  pub left-invalid : r ≡ false → RaisedAs d key t b n x d
+  pub left-invalid : r ≡ false → RaisedAs d key t b n top x d
   left-invalid i e o made ok =
       let v : Server = serverIn (memoryIn o) in
       let c = candidateAt (shelf t) x in
       unchanged o bs ∙ ap (λ (g : Bool). encodeMemory (memoryOf t b (cond g (raise c v) v))) (sym i ∙ test e o made ok)
 
-module _ (d key packet : List ℕ) (ps : Bytes packet) (output : List ℕ) (h : Head) (n : ℕ) where
-  pub repair-answers : {x m out first second : List ℕ} {g : Head} {r : Outcome} → x ≡ drop headSize packet → RaisedAs d key (h .t) (h .server) n x m
+module _ (d key packet : List ℕ) (ps : Bytes packet) (output : List ℕ) (h : Head) (n top : ℕ) where
+  pub repair-answers : {x m out first second : List ℕ} {g : Head} {r : Outcome} → x ≡ drop headSize packet → RaisedAs d key (h .t) (h .server) n top x m
       → first ≡ part packet 0 0 → second ≡ part packet 0 0 → g ≡ replyHead h 12 → record { result = r; output = out } ≡ packetStep g first second output
-      → AnswersWith 11 d key packet output h n (record { result = r; memory = m; output = out })
+      → AnswersWith 11 d key packet output h n top (record { result = r; memory = m; output = out })
   unfolding bodyAt act packetAt
   repair-answers {x} {m} {out} {first} {second} c u f j q w e o dec k room =
       let y : List ℕ = drop headSize packet in
@@ -50,6 +50,6 @@ module _ (d key packet : List ℕ) (ps : Bytes packet) (output : List ℕ) (h : 
       let p : y ≡ candidateF (shelf (h .t)) .print (candidateAt (shelf (h .t)) y) =
       body-bytes packet (packetAt h packet) dec ps ∙ ap (printBody (shelf (h .t))) b in
       replied key packet output h o dec room (repair (candidateAt (shelf (h .t)) y)) b first second
-      (subst (λ (z : List ℕ). RaisedAs d key (h .t) (h .server) n z m) c u e o p ok)
+      (subst (λ (z : List ℕ). RaisedAs d key (h .t) (h .server) n top z m) c u e o p ok)
       (sym (f ∙ part-none packet 0) ∙ alone first (j ∙ part-none packet 0))
       (headed h 12 output first second q w)

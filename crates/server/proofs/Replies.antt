@@ -33,7 +33,7 @@ pub body-of : (h : Head) (packet : List ℕ) (k : ℕ) → h .kind ≡ k → pac
 unfolding packetAt
 body-of h packet k e = ap (λ (j : ℕ). bodyAt (shelf (h .t)) j (drop headSize packet)) e
 
-module _ {d : List ℕ} (key packet output : List ℕ) (h : Head) {n e : ℕ} (o : Opened d (h .t) (h .server) n e) where
+module _ {d : List ℕ} (key packet output : List ℕ) (h : Head) {n e top : ℕ} (o : Opened d (h .t) (h .server) n e top) where
   -- the server's step
   abbrev pub stepOf : Body → Acted
   stepOf x = act real (shelf (h .t)) key (h .server) (serverIn (memoryIn o)) x
@@ -87,7 +87,7 @@ module _ {d : List ℕ} (key packet output : List ℕ) (h : Head) {n e : ℕ} (o
         (w ∙ ap (λ (y : Acted). packetStep (replyHead h (kindOf (y .reply))) first second output) (sym q))
 
 -- the memory as it is
-pub unchanged : {d : List ℕ} {t b n e : ℕ} (o : Opened d t b n e) → Bytes d → d ≡ encodeMemory (memoryOf t b (serverIn (memoryIn o)))
+pub unchanged : {d : List ℕ} {t b n e top : ℕ} (o : Opened d t b n e top) → Bytes d → d ≡ encodeMemory (memoryOf t b (serverIn (memoryIn o)))
 unfolding memoryOf serverIn
 unchanged o bs = sym (memory-bytes o bs)
 
@@ -111,7 +111,7 @@ module _ (d : List ℕ) (bs : Bytes d) (output : List ℕ) (h : Head) {first sec
   pub clock-answers : first ≡ part d latestPlace stampSize → g ≡ replyHead h 2 → record { result = r; output = out } ≡ packetStep g first second output
       → AnswersAll 1 d output h (record { result = r; memory = d; output = out })
   unfolding bodyAt act serverIn anyStampF orBlank candidateAt
-  clock-answers f q w packet key n e o dec k room =
+  clock-answers f q w packet key n e top o dec k room =
       replied key packet output h o dec room clock (body-of h packet 1 k) first second (unchanged o bs)
       (sym (f ∙ latest-stamp o bs) ∙ alone first (nothing ∙ part-none d latestPlace))
       (headed h 2 output first second q w)
@@ -119,7 +119,7 @@ module _ (d : List ℕ) (bs : Bytes d) (output : List ℕ) (h : Head) {first sec
   pub collect-answers : {z : ℕ} → z ≡ candidateSize (shelf (h .t)) → first ≡ part d latestPlace z → g ≡ replyHead h 8
       → record { result = r; output = out } ≡ packetStep g first second output → AnswersAll 7 d output h (record { result = r; memory = d; output = out })
   unfolding bodyAt act serverIn
-  collect-answers z f q w packet key n e o dec k room =
+  collect-answers z f q w packet key n e top o dec k room =
       replied key packet output h o dec room collect (body-of h packet 7 k) first second (unchanged o bs)
       (sym (f ∙ ap (part d latestPlace) z ∙ latest-part o bs) ∙ alone first (nothing ∙ part-none d latestPlace))
       (headed h 8 output first second q w)

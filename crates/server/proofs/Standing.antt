@@ -27,7 +27,7 @@ candidate-stamp s c l r =
     ap (take stampSize) (append-assoc (stampF .print (c .stamp)) (c .nonce ++ c .tags) r)
     ∙ take-at (stampF .print (c .stamp)) (c .nonce ++ c .tags ++ r) stampSize (stamp-length (c .stamp) l)
 
-module _ {d : List ℕ} {t b n e : ℕ} (o : Opened d t b n e) where
+module _ {d : List ℕ} {t b n e top : ℕ} (o : Opened d t b n e top) where
   pub memory-fields : Fields (memoryIn o)
   memory-fields = fields (memoryIn o) (decode-memory-ok d (memoryIn o) (o .decoded))
 

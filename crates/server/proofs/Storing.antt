@@ -51,7 +51,7 @@ write-stamp s w ok =
     take-at (stampF .print (w .stamp)) (shareF s .print (w .share)) stampSize (stamp-length (w .stamp) (unfold stampF via seq run in (ok .0 .1 .1)))
 
 -- the length of a memory's fields
-printed : {d : List ℕ} {t b n e : ℕ} (o : Opened d t b n e)
+printed : {d : List ℕ} {t b n e top : ℕ} (o : Opened d t b n e top)
     → length (memoryF .print (memoryIn o)) ≡ writesPlace (shelf t) + length (printMany (writeF (shelf t)) (o .writes))
 unfolding memoryF keep via seq byte many
 printed {d} {t} o =
@@ -59,7 +59,7 @@ printed {d} {t} o =
     let W : List ℕ = printMany (writeF (shelf t)) (o .writes) in
     omega (arith, length-append L W, any-candidate-length (shelf t) (memoryIn o .latest) (memory-fields o .latest))
 
-module _ {d : List ℕ} {t b n e : ℕ} (o : Opened d t b n e) (bs : Bytes d) where
+module _ {d : List ℕ} {t b n e top : ℕ} (o : Opened d t b n e top) (bs : Bytes d) where
   -- the place past the stored writes
   writes-end : e ≡ length (memoryF .print (memoryIn o))
   unfolding many
@@ -115,7 +115,7 @@ kept-made d n e w p q = ap (λ (z : Placed). z .output) q ∙ ap (λ (y : List �
 
 -- ---- the answers
 
-module _ {d : List ℕ} (bs : Bytes d) (packet : List ℕ) (ps : Bytes packet) (output : List ℕ) (h : Head) {n e : ℕ} (key : List ℕ) (o : Opened d (h .t) (h .server) n e)
+module _ {d : List ℕ} (bs : Bytes d) (packet : List ℕ) (ps : Bytes packet) (output : List ℕ) (h : Head) {n e top : ℕ} (key : List ℕ) (o : Opened d (h .t) (h .server) n e top)
     (dec : decode packet ≡ some (packetAt h packet)) (k : h .kind ≡ 3) (room : packetRoom ≤ length output) where
   abbrev written : Write
   written = writeAt (shelf (h .t)) (drop headSize packet)
@@ -135,10 +135,10 @@ module _ {d : List ℕ} (bs : Bytes d) (packet : List ℕ) (ps : Bytes packet) (
   unfolding packetAt
   write-bytes = body-bytes packet (packetAt h packet) dec ps ∙ ap (printBody (shelf (h .t))) the-body
 
-  found-held : {x : List ℕ} → x ≡ part packet headSize stampSize → shareIn (firstWith x (o .writes)) ≡ held (written .stamp) (o .writes)
+  found-held : {x : List ℕ} → x ≡ drop headSize packet → shareIn (firstWith (part x 0 stampSize) (o .writes)) ≡ held (written .stamp) (o .writes)
   unfolding part
   found-held p =
-      ap (λ (z : List ℕ). shareIn (firstWith z (o .writes))) (p ∙ ap (take stampSize) write-bytes ∙ write-stamp (shelf (h .t)) written write-ok)
+      ap (λ (z : List ℕ). shareIn (firstWith z (o .writes))) (ap (take stampSize) (p ∙ write-bytes) ∙ write-stamp (shelf (h .t)) written write-ok)
       ∙ first-held (written .stamp) (o .writes)
 
   count : length (o .writes) ≡ n
@@ -164,15 +164,15 @@ module _ {d : List ℕ} (bs : Bytes d) (packet : List ℕ) (ps : Bytes packet) (
   unfolding codeF keep byte
   code-alone c = refl
 
-  module _ {x : List ℕ} (p : x ≡ part packet headSize stampSize) {f : Found} (g : FindAs (shelf (h .t)) n d x f) where
+  module _ {x : List ℕ} (p : x ≡ drop headSize packet) {f : Found} (g : FindAs (shelf (h .t)) n top d x f) where
     is-held : {at : ℕ} → f ≡ found.At at → isSome (held (written .stamp) (o .writes)) ≡ true
     is-held t =
-        let i = subst (λ (y : Found). FindIs (shelf (h .t)) d (firstWith x (o .writes)) y) t (g (o .writes) e (o .there)) in
+        let i = subst (λ (y : Found). FindIs (shelf (h .t)) d (firstWith (part x 0 stampSize) (o .writes)) y) t (g (o .writes) e (o .there) (o .up)) in
         ap isSome (sym (found-held p) ∙ ap shareIn (i .first))
 
     is-new : f ≡ found.Nothing → isSome (held (written .stamp) (o .writes)) ≡ false
     is-new t =
-        let i : firstWith x (o .writes) ≡ none = subst (λ (y : Found). FindIs (shelf (h .t)) d (firstWith x (o .writes)) y) t (g (o .writes) e (o .there)) in
+        let i : firstWith (part x 0 stampSize) (o .writes) ≡ none = subst (λ (y : Found). FindIs (shelf (h .t)) d (firstWith (part x 0 stampSize) (o .writes)) y) t (g (o .writes) e (o .there) (o .up)) in
         ap isSome (sym (found-held p) ∙ ap shareIn i)
 
     pub answer-held : {r : Outcome} {out : List ℕ} {at : ℕ} → f ≡ found.At at → record { result = r; output = out } ≡ packetStep (replyHead h 4) (10 ∷ []) [] output
@@ -185,14 +185,14 @@ module _ {d : List ℕ} (bs : Bytes d) (packet : List ℕ) (ps : Bytes packet) (
     answer-full t l w =
         replied-as key packet output h o dec room (store written) the-body _ (step-full false (is-new t) refl l) (11 ∷ []) [] (unchanged o bs) (code-alone 11) w
 
-    pub answer-kept : {r : Outcome} {out : List ℕ} → f ≡ found.Nothing → n < capacity → {y m : List ℕ} → y ≡ drop headSize packet → m ≡ keptBytes d n e y
+    pub answer-kept : {r : Outcome} {out : List ℕ} → f ≡ found.Nothing → n < capacity → {m : List ℕ} → m ≡ keptBytes d n e x
         → record { result = r; output = out } ≡ packetStep (replyHead h 4) (0 ∷ []) [] output
         → record { result = r; memory = m; output = out } ≡ accepted real d key packet output (memoryIn o) (decode packet)
-    answer-kept t l {y} c u w =
+    answer-kept t l u w =
         let a = step-kept false (is-new t) refl l in
         let ok = subst (λ (z : Acted). ServerOk (shelf (h .t)) (z .server)) a (act-ok real (shelf (h .t)) key (h .server) server (server-ok o) (store written) write-ok .server) in
         replied-as key packet output h o dec room (store written) the-body _ a (0 ∷ []) []
-        (u ∙ as-memory ok l y (c ∙ write-bytes)) (code-alone 0) w
+        (u ∙ as-memory ok l x (p ∙ write-bytes)) (code-alone 0) w
       where
         as-memory : ServerOk (shelf (h .t)) (record { latest = memoryIn o .latest; history = o .writes ++ written ∷ [] }) → n < capacity → (y : List ℕ)
             → y ≡ writeF (shelf (h .t)) .print written

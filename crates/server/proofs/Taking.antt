@@ -179,7 +179,7 @@ module _ (d key packet output : List ℕ) where
     unfolding serverTake onMemory turnedDown
     take-broken e p = rw (eq-eqb (length d) memorySize size, e) (ap down p)
 
-    module _ {t b n e : ℕ} (o : Opened d t b n e) where
+    module _ {t b n e top : ℕ} (o : Opened d t b n e top) where
       pub take-unread : decode packet ≡ none → {z : Outcome} → z ≡ number 7 → down z ≡ serverTake real d key packet output
       unfolding serverTake onMemory serverRefusal turnedDown
       take-unread r p = rw (eq-eqb (length d) memorySize size, o .decoded, r) (ap down p)
@@ -195,14 +195,14 @@ module _ (d key packet output : List ℕ) where
         pub take-refused : (k ≡ 0 → ⊥) → {z : Outcome} → z ≡ number k → down z ≡ serverTake real d key packet output
         take-refused h p = ap down p ∙ sym (whole ∙ on-refused k h _ _)
 
-        pub take-answered : k ≡ 0 → {r : Served} → AnswersAny d key packet output h n e r → r ≡ serverTake real d key packet output
+        pub take-answered : k ≡ 0 → {r : Served} → AnswersAny d key packet output h n e top r → r ≡ serverTake real d key packet output
         take-answered z {r} a =
             let l = was-let-in h t b packet (length output) (sym found ∙ z) in
             moved (l .t-own) (l .server-own) (λ o₁. a o₁ dec (l .sent) (l .room-there)) o
             ∙ sym (whole ∙ ap (λ (j : ℕ). onRefusal j (accepted real d key packet output (memoryIn o) (decode packet)) (down (number j))) z)
           where
             Q : ℕ → ℕ → Type 0
-            Q i j = (o₁ : Opened d i j n e) → r ≡ accepted real d key packet output (memoryIn o₁) (decode packet)
+            Q i j = (o₁ : Opened d i j n e top) → r ≡ accepted real d key packet output (memoryIn o₁) (decode packet)
 
             moved : h .t ≡ t → h .server ≡ b → Q (h .t) (h .server) → Q t b
             moved p q f = subst (λ (i : ℕ). Q i b) p (subst (λ (j : ℕ). Q (h .t) j) q f)

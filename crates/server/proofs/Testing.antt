@@ -44,20 +44,20 @@ digest-at s d {v} {f} {g} {x} {y} {z} a b c p q r =
 
 -- ---- by the history
 
-module _ (s : Config) (n : ℕ) (d x g : List ℕ) {y : List ℕ} (p : y ≡ part x 0 stampSize) where
-  found-for : (ws : List Write) (a : Stamp) → part x 0 stampSize ≡ stampF .print a → shareIn (firstWith y ws) ≡ held a ws
-  found-for ws a q = ap (λ (z : List ℕ). shareIn (firstWith z ws)) (p ∙ q) ∙ first-held a ws
+module _ (s : Config) (n top : ℕ) (d x g : List ℕ) where
+  found-for : (ws : List Write) (a : Stamp) → part x 0 stampSize ≡ stampF .print a → shareIn (firstWith (part x 0 stampSize) ws) ≡ held a ws
+  found-for ws a q = ap (λ (z : List ℕ). shareIn (firstWith z ws)) q ∙ first-held a ws
 
-  pub history-none : {f : Found} → FindAs s n d y f → f ≡ found.Nothing → HistoryAs s n d x g false
-  history-none find t ws e m a q =
-      let i : firstWith y ws ≡ none = subst (λ (z : Found). FindIs s d (firstWith y ws) z) t (find ws e m) in
+  pub history-none : {f : Found} → FindAs s n top d x f → f ≡ found.Nothing → HistoryAs s n top d x g false
+  history-none find t ws e m u a q =
+      let i : firstWith (part x 0 stampSize) ws ≡ none = subst (λ (z : Found). FindIs s d (firstWith (part x 0 stampSize) ws) z) t (find ws e m u) in
       sym (ap (hasDigest g) (sym (found-for ws a q) ∙ ap shareIn i))
 
-  pub history-found : {f : Found} → FindAs s n d y f → {at : ℕ} → f ≡ found.At at → {b c z : List ℕ} {r : Bool} → b ≡ drop at d → c ≡ drop stampSize b → z ≡ shareAt s c .nonceDigest → r ≡ sameList z g
-      → HistoryAs s n d x g r
+  pub history-found : {f : Found} → FindAs s n top d x f → {at : ℕ} → f ≡ found.At at → {b c z : List ℕ} {r : Bool} → b ≡ drop at d → c ≡ drop stampSize b → z ≡ shareAt s c .nonceDigest → r ≡ sameList z g
+      → HistoryAs s n top d x g r
   unfolding writeAt
-  history-found find {at} t {b} {c} {z} {r} u v w k ws e m a q =
-      let i = subst (λ (j : Found). FindIs s d (firstWith y ws) j) t (find ws e m) in
+  history-found find {at} t {b} {c} {z} {r} u v w k ws e m up a q =
+      let i = subst (λ (j : Found). FindIs s d (firstWith (part x 0 stampSize) ws) j) t (find ws e m up) in
       let l : held a ws ≡ some (shareAt s (drop stampSize (drop at d))) = sym (found-for ws a q) ∙ ap shareIn (i .first) in
       k ∙ ap (λ (j : List ℕ). sameList j g) (w ∙ ap (λ (j : List ℕ). shareAt s j .nonceDigest) (v ∙ ap (drop stampSize) u)) ∙ sym (ap (hasDigest g) l)
 
@@ -73,8 +73,8 @@ tag-made s key b x g p q k i j w =
 
 -- ---- both
 
-module _ (d key : List ℕ) (t b n : ℕ) (x : List ℕ) {y g : List ℕ} (p : y ≡ part x stampSize nonceSize) (q : g ≡ sha256 y) where
-  module _ {e : ℕ} (o : Opened d t b n e) (made : x ≡ candidateF (shelf t) .print (candidateAt (shelf t) x)) (ok : candidateF (shelf t) .Ok (candidateAt (shelf t) x)) where
+module _ (d key : List ℕ) (t b n top : ℕ) (x : List ℕ) {y g : List ℕ} (p : y ≡ part x stampSize nonceSize) (q : g ≡ sha256 y) where
+  module _ {e : ℕ} (o : Opened d t b n e top) (made : x ≡ candidateF (shelf t) .print (candidateAt (shelf t) x)) (ok : candidateF (shelf t) .Ok (candidateAt (shelf t) x)) where
     stamp-start : part x 0 stampSize ≡ stampF .print (candidateAt (shelf t) x .stamp)
     unfolding part
     stamp-start =
@@ -85,10 +85,10 @@ module _ (d key : List ℕ) (t b n : ℕ) (x : List ℕ) {y g : List ℕ} (p : y
     unfolding real candidateAt
     digest-is = q ∙ ap sha256 p
 
-    history-is : {r : Bool} → HistoryAs (shelf t) n d x g r → r ≡ byHistory real (shelf t) key b (serverIn (memoryIn o)) (candidateAt (shelf t) x)
+    history-is : {r : Bool} → HistoryAs (shelf t) n top d x g r → r ≡ byHistory real (shelf t) key b (serverIn (memoryIn o)) (candidateAt (shelf t) x)
     unfolding byHistory serverIn
     history-is h =
-        h (o .writes) e (o .there) (candidateAt (shelf t) x .stamp) stamp-start ∙ ap (λ (z : List ℕ). hasDigest z (held (candidateAt (shelf t) x .stamp) (o .writes))) digest-is
+        h (o .writes) e (o .there) (o .up) (candidateAt (shelf t) x .stamp) stamp-start ∙ ap (λ (z : List ℕ). hasDigest z (held (candidateAt (shelf t) x .stamp) (o .writes))) digest-is
 
     tag-is : tagChecks (shelf t) key b x g ≡ byTag real (shelf t) key b (candidateAt (shelf t) x)
     unfolding tagChecks byTag real
@@ -99,10 +99,10 @@ module _ (d key : List ℕ) (t b n : ℕ) (x : List ℕ) {y g : List ℕ} (p : y
         (λ i. stamp-start i ++ v i) ∙ sym (message-printed (c .stamp) (sha256 (c .nonce))) in
         ap (λ (z : List ℕ). sameList (nth tagSize (c .tags) b) (tagOf key z)) m
 
-  pub valid-history : {r : Bool} → HistoryAs (shelf t) n d x g r → r ≡ true → ValidAs d key t b n x true
+  pub valid-history : {r : Bool} → HistoryAs (shelf t) n top d x g r → r ≡ true → ValidAs d key t b n top x true
   unfolding valid
   valid-history h i e o made ok = rw (sym (history-is o made ok h) ∙ i)
 
-  pub valid-tag : {r c : Bool} → HistoryAs (shelf t) n d x g r → r ≡ false → c ≡ tagChecks (shelf t) key b x g → ValidAs d key t b n x c
+  pub valid-tag : {r c : Bool} → HistoryAs (shelf t) n top d x g r → r ≡ false → c ≡ tagChecks (shelf t) key b x g → ValidAs d key t b n top x c
   unfolding valid
   valid-tag h i j e o made ok = rw (sym (history-is o made ok h) ∙ i) (j ∙ tag-is o made ok)

@@ -22,10 +22,10 @@ use Rattle.server.specs.declared.filter.Chosen.the-variants as chosen
 use Rattle.server.proofs.Ranking.{rank-top, rank-pos, rank-inj, rank-slot, next-under, next-most}
 use Rattle.server.proofs.Choosing.{best-is, best-none}
 
-module _ (d key : List ℕ) (t b n : ℕ) (y : List ℕ) (m : ℕ) where
+module _ (d key : List ℕ) (t b n top : ℕ) (y : List ℕ) (m : ℕ) where
   pub record Trying (rank : ℕ) : Type 0 where
     pub slot : 0 < rank → (i : ℕ) × (i < m) × (rank ≡ rankOf (shelf t) y i)
-    pub above : (e : ℕ) (o : Opened d t b n e) → Listed (shelf t) m y → (j : ℕ) → j < m → rank < rankOf (shelf t) y j
+    pub above : (e : ℕ) (o : Opened d t b n e top) → Listed (shelf t) m y → (j : ℕ) → j < m → rank < rankOf (shelf t) y j
         → valid real (shelf t) key b (serverIn (memoryIn o)) (candidateAt (shelf t) (slotOf (shelf t) y j)) ≡ false
 
   module _ (few : m ≤ 255) where
@@ -36,23 +36,23 @@ module _ (d key : List ℕ) (t b n : ℕ) (y : List ℕ) (m : ℕ) where
           above = λ e o l j k h. absurd (omega (arith, p, h, next-most (shelf t) y m 281474976710656 j k (rank-top (shelf t) y j bs)));
         }
 
-    pub try-none : {rank : ℕ} → Trying rank → rank ≤ 0 → ChosenAs d key t b n y m chosen.Nothing
+    pub try-none : {rank : ℕ} → Trying rank → rank ≤ 0 → ChosenAs d key t b n top y m chosen.Nothing
     try-none w h e o l =
         best-none (shelf t) key b (serverIn (memoryIn o)) y m few l
         (λ j k. w .above e o l j k (omega (arith, h, rank-pos (shelf t) y j (omega arith))))
 
-    module _ {rank : ℕ} (w : Trying rank) (pos : 0 < rank) {i : ℕ} (p : i ≡ slotWith rank) {x : List ℕ} (q : x ≡ slotOf (shelf t) y i) {r : Bool} (test : ValidAs d key t b n x r) where
+    module _ {rank : ℕ} (w : Trying rank) (pos : 0 < rank) {i : ℕ} (p : i ≡ slotWith rank) {x : List ℕ} (q : x ≡ slotOf (shelf t) y i) {r : Bool} (test : ValidAs d key t b n top x r) where
       in-hand : (i < m) × (rank ≡ rankOf (shelf t) y i)
       in-hand =
           let (k, h, u) = w .slot pos in
           let v : k ≡ i = sym (p ∙ ap slotWith u ∙ rank-slot (shelf t) y k (omega (arith, h, few))) in
           (omega (arith, h, v), u ∙ ap (rankOf (shelf t) y) v)
 
-      tested : (e : ℕ) (o : Opened d t b n e) → Listed (shelf t) m y
+      tested : (e : ℕ) (o : Opened d t b n e top) → Listed (shelf t) m y
           → r ≡ valid real (shelf t) key b (serverIn (memoryIn o)) (candidateAt (shelf t) (slotOf (shelf t) y i))
-      tested e o l = subst (λ (z : List ℕ). ValidAs d key t b n z r) q test e o (l .made i (in-hand .0)) (l .ok i (in-hand .0))
+      tested e o l = subst (λ (z : List ℕ). ValidAs d key t b n top z r) q test e o (l .made i (in-hand .0)) (l .ok i (in-hand .0))
 
-      pub try-found : r ≡ true → ChosenAs d key t b n y m (chosen.At i)
+      pub try-found : r ≡ true → ChosenAs d key t b n top y m (chosen.At i)
       try-found g e o l =
           record {
             made = l .made i (in-hand .0);
@@ -76,7 +76,7 @@ module _ (d key : List ℕ) (t b n : ℕ) (y : List ℕ) (m : ℕ) where
             above = λ e o l j k h. go e o l j k h (ltb (rankOf (shelf t) y j) rank) refl (ltb rank (rankOf (shelf t) y j)) refl;
           }
         where
-          go : (e : ℕ) (o : Opened d t b n e) → Listed (shelf t) m y → (j : ℕ) → j < m → next < rankOf (shelf t) y j
+          go : (e : ℕ) (o : Opened d t b n e top) → Listed (shelf t) m y → (j : ℕ) → j < m → next < rankOf (shelf t) y j
               → (c : Bool) → ltb (rankOf (shelf t) y j) rank ≡ c → (a : Bool) → ltb rank (rankOf (shelf t) y j) ≡ a
               → valid real (shelf t) key b (serverIn (memoryIn o)) (candidateAt (shelf t) (slotOf (shelf t) y j)) ≡ false
           go e o l j k h true f a z = absurd (omega (arith, u, h, next-most (shelf t) y m rank j k (ltb-true (rankOf (shelf t) y j) rank f)))

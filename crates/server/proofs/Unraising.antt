@@ -40,7 +40,7 @@ module _ (d : List ℕ) where
     unfolding blankLatest latestBlanked
     latest-broken e = rw (eq-eqb (length d) memorySize size, e)
 
-    module _ (bs : Bytes d) {t b n e : ℕ} (o : Opened d t b n e) where
+    module _ (bs : Bytes d) {t b n e top : ℕ} (o : Opened d t b n e top) where
       abbrev zeros : ℕ → List ℕ
       zeros k = replicate k 0
 

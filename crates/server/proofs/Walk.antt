@@ -1,34 +1,114 @@
 -- A walk over the stored writes of a memory, in search of a stamp's bytes: passed writes have other bytes, and the others stand from the cursor on.
--- A parser gives one answer, so the walk and the writes that stand there agree at every turn. Assumes nothing.
+-- Where writes are stored, the next of them stands at the cursor: its bytes tell it, and its record length tells where it ends. Assumes nothing.
 use mathlib.Core.Path.{_≡_, refl, sym, ap, _∙_, subst}
 use mathlib.Core.Bool.{Bool, true, false}
 use mathlib.Core.List.{List, _++_, append-assoc}
-use Prim.Native.Nat.{ℕ, _+_, _-_, _≤_, _<_}
+use mathlib.Core.Logic.{_⊎_, inl, inr}
+use Prim.Native.Nat.{ℕ, suc, _+_, _-_, _≤_, _<_}
 use native.Mathlib.Omega.{arith}
 use native.Mathlib.Nat.{sub-zero}
-use lib.ListN.{drop, take, length}
-use lib.Seq.{take-at}
+use lib.Dec.{ltb}
+use lib.ListN.{drop, take, getD, length, length-append, length-drop}
+use lib.Seq.{take-at, drop-at}
+use borrow.Author.Tests.{ltb-true, ltb-false}
 use Rattle.cluster.specs.Config.{Config}
-use Rattle.protocol.specs.Format.{Bytes, many, via, seq, run}
+use Rattle.erasure.specs.Fragments.{fragmentSize}
+use Rattle.hmac.specs.Hmac.{tagSize}
+use Rattle.protocol.specs.Format.{Bytes, value2, many, via, seq, run}
 use Rattle.protocol.specs.Values.{Write, sameList, stampSize}
 use Rattle.protocol.specs.Packet.{stampF, shareF, writeF}
-use Rattle.protocol.specs.View.{part}
+use Rattle.protocol.specs.View.{part, stampAt, shareAt, shareOfSize}
 use Rattle.protocol.specs.Reading.{Leaves, Stops}
 use Rattle.protocol.proofs.Answers.{bytes-drop}
-use Rattle.protocol.proofs.Packets.{write-law, stamp-length}
-use Rattle.protocol.proofs.Walks.{many-next, many-stops, many-none}
-use Rattle.wire.specs.Places.{writeAt}
+use Rattle.protocol.proofs.Leaves.{stops-via, stops-first}
+use Rattle.protocol.proofs.Packets.{write-law, stamp-length, ShareLengths, share-lengths, share-length}
+use Rattle.protocol.proofs.Packets as packets
+use Rattle.protocol.proofs.Readers.{stamp-read, share-read}
+use Rattle.protocol.proofs.Walks.{Reads, decide, leaves-moved, many-next, many-stops, many-none}
+use Rattle.wire.specs.Places.{lengthAt, writeAt}
+use Rattle.wire.proofs.Through.{past-stamp}
 use Rattle.server.specs.declared.memory.Found.the-variants as found
-use Rattle.server.specs.Reads.{writesPlace, Stored, firstWith, FindAs}
+use Rattle.server.specs.Reads.{writesPlace, frameSize, writeSize, Stored, firstWith, SearchAs}
 
--- the bytes of a stored write's stamp
-pub stamp-bytes : (s : Config) {d : List ℕ} {at q : ℕ} {w : Write} → Leaves (writeF s) d at w q → Bytes d → part d at stampSize ≡ stampF .print (w .stamp)
-unfolding part writeF via seq
-stamp-bytes s {d} {at} {q} {w} f bs =
-    let u : drop at d ≡ writeF s .print w ++ drop q d = unfold writeF via seq in (write-law s .read (drop at d) w (drop q d) (bytes-drop at d bs) (f .parsed)) in
-    let l : length (stampF .print (w .stamp)) ≡ stampSize = stamp-length (w .stamp) (unfold stampF seq via run in (f .ok .0 .1 .1)) in
-    ap (take stampSize) (u ∙ append-assoc (stampF .print (w .stamp)) (shareF s .print (w .share)) (drop q d))
-    ∙ take-at (stampF .print (w .stamp)) (shareF s .print (w .share) ++ drop q d) stampSize l
+-- ---- the bytes of a stored write
+
+module _ (s : Config) {d : List ℕ} {at q : ℕ} {w : Write} (f : Leaves (writeF s) d at w q) (bs : Bytes d) where
+  tag-there : length (w .stamp .tag) ≡ tagSize
+  unfolding writeF stampF via seq run
+  tag-there = f .ok .0 .1 .1
+
+  stamp-there : length (stampF .print (w .stamp)) ≡ stampSize
+  stamp-there = stamp-length (w .stamp) tag-there
+
+  share-ok : ShareLengths s (w .share)
+  unfolding writeF via seq
+  share-ok = share-lengths s (w .share) (f .ok .1)
+
+  write-bytes : drop at d ≡ stampF .print (w .stamp) ++ (shareF s .print (w .share) ++ drop q d)
+  unfolding writeF via seq
+  write-bytes =
+      let u : drop at d ≡ writeF s .print w ++ drop q d = unfold writeF via seq in (write-law s .read (drop at d) w (drop q d) (bytes-drop at d bs) (f .parsed)) in
+      u ∙ append-assoc (stampF .print (w .stamp)) (shareF s .print (w .share)) (drop q d)
+
+  share-bytes : drop stampSize (drop at d) ≡ shareF s .print (w .share) ++ drop q d
+  share-bytes = ap (drop stampSize) write-bytes ∙ drop-at (stampF .print (w .stamp)) (shareF s .print (w .share) ++ drop q d) stampSize stamp-there
+
+  -- its stamp's
+  pub stamp-bytes : part d at stampSize ≡ stampF .print (w .stamp)
+  unfolding part
+  stamp-bytes = ap (take stampSize) write-bytes ∙ take-at (stampF .print (w .stamp)) (shareF s .print (w .share) ++ drop q d) stampSize stamp-there
+
+  -- they tell it
+  write-is : w ≡ writeAt s (drop at d)
+  unfolding writeAt
+  write-is =
+      let a : stampAt (drop at d) ≡ w .stamp = ap stampAt write-bytes ∙ stamp-read (w .stamp) (shareF s .print (w .share) ++ drop q d) tag-there in
+      let b : shareAt s (drop stampSize (drop at d)) ≡ w .share = ap (shareAt s) share-bytes ∙ share-read s (w .share) (drop q d) share-ok in
+      λ i. record { stamp = sym a i; share = sym b i }
+
+  size-is : w .share .size ≡ lengthAt (drop stampSize (drop at d))
+  unfolding writeAt shareAt shareOfSize lengthAt
+  size-is = ap (λ (x : Write). x .share .size) write-is
+
+  -- and where it ends
+  write-ends : at ≤ length d → q ≡ at + writeSize s (drop at d)
+  unfolding frameSize
+  write-ends h =
+      let A : List ℕ = stampF .print (w .stamp) in
+      let B : List ℕ = shareF s .print (w .share) in
+      let l : length (drop at d) ≡ length A + length (B ++ drop q d) = ap length write-bytes ∙ length-append A (B ++ drop q d) in
+      let m : fragmentSize (s .shares) (w .share .size) ≡ fragmentSize (s .shares) (lengthAt (drop stampSize (drop at d))) = ap (fragmentSize (s .shares)) size-is in
+      omega (arith, l, m, length-append B (drop q d), stamp-there, share-length s (w .share) share-ok, length-drop at d, length-drop q d, f .within, h)
+
+-- the same by the lengths that the code adds up
+pub size-told : (s : Config) (d : List ℕ) (at : ℕ) {y x : List ℕ} {v f g : ℕ} → y ≡ drop at d → x ≡ drop stampSize y → v ≡ value2 (getD x 0 0) (getD x 1 0)
+    → f ≡ frameSize s → g ≡ fragmentSize (s .shares) v → f + g ≡ writeSize s (drop at d)
+unfolding lengthAt
+size-told s d at {y} {x} p q r a b =
+    let e : x ≡ drop stampSize (drop at d) = q ∙ ap (drop stampSize) p in
+    λ i. a i + (b ∙ ap (fragmentSize (s .shares)) (r ∙ ap (λ (z : List ℕ). value2 (getD z 0 0) (getD z 1 0)) e)) i
+
+-- the next of the stored writes
+next-write : (s : Config) {d : List ℕ} {at : ℕ} → Bytes d → (k j : ℕ) {e : ℕ} {ys : List Write} → k ≡ suc j → Leaves (many k (writeF s)) d at ys e
+    → Leaves (writeF s) d at (writeAt s (drop at d)) (at + writeSize s (drop at d))
+next-write s {d} {at} bs k j {e} {ys} p m = go (ltb (length d) at) refl
+  where
+    G : Type 0
+    G = Leaves (writeF s) d at (writeAt s (drop at d)) (at + writeSize s (drop at d))
+
+    none-past : length d ≤ at → Stops (writeF s) d at
+    none-past h = unfold writeF in (stops-via _ _ _ (stops-first _ _ (past-stamp h)))
+
+    here : at ≤ length d → Reads (writeF s) d at ⊎ Stops (writeF s) d at → G
+    here h (inl r) =
+        leaves-moved refl (write-ends s (r .there) bs h) (subst (λ (x : Write). Leaves (writeF s) d at x (r .next)) (write-is s (r .there) bs) (r .there))
+    here h (inr f) = absurd (many-stops (writeF s) k j p m f)
+
+    go : (b : Bool) → ltb (length d) at ≡ b → G
+    go true t = absurd (many-stops (writeF s) k j p m (none-past (omega (arith, ltb-true (length d) at t))))
+    go false t = let h : at ≤ length d = ltb-false (length d) at t in here h (decide (writeF s) (write-law s) d at bs h)
+
+-- ---- the walk
 
 -- i of the n writes were passed, none with the bytes key, and the others stand from at on
 pub record Walking (s : Config) (n : ℕ) (d key : List ℕ) (at i : ℕ) : Type 0 where
@@ -43,35 +123,41 @@ walk-none s n d key {at} p =
     }
 
 module _ {s : Config} {n : ℕ} {d key : List ℕ} {at i : ℕ} (h : Walking s n d key at i) where
-  pub walk-end : n ≤ i → FindAs s n d key found.Nothing
+  pub walk-end : n ≤ i → SearchAs s n d key found.Nothing
   unfolding firstWith
   walk-end l ws e m =
       let (ys, r, p) = h .rest ws e m in
       p ∙ ap (firstWith key) (many-none (writeF s) (n - i) (omega arith) r)
 
-  module _ (l : i < n) where
-    pub walk-stop : Stops (writeF s) d at → FindAs s n d key found.Nothing
-    walk-stop f ws e m =
-        let (ys, r, p) = h .rest ws e m in
-        absurd (many-stops (writeF s) (n - i) (n - (i + 1)) (omega arith) r f)
+  module _ (bs : Bytes d) (l : i < n) where
+    there : {ws : List Write} {e : ℕ} → Stored s n d ws e → Leaves (writeF s) d at (writeAt s (drop at d)) (at + writeSize s (drop at d))
+    there {ws} {e} m = let (ys, r, p) = h .rest ws e m in next-write s bs (n - i) (n - (i + 1)) (omega arith) r
 
-    module _ {q : ℕ} (f : Leaves (writeF s) d at (writeAt s (drop at d)) q) (bs : Bytes d) where
-      compared : {x : List ℕ} → x ≡ part d at stampSize → {b : Bool} → b ≡ sameList x key → sameList (stampF .print (writeAt s (drop at d) .stamp)) key ≡ b
-      compared p c = ap (λ (z : List ℕ). sameList z key) (sym (p ∙ stamp-bytes s f bs)) ∙ sym c
+    -- y is what stands from the cursor on, and z the size of its first write
+    module _ {y : List ℕ} (u : y ≡ drop at d) where
+      pub walk-short : {z : ℕ} → z ≡ writeSize s (drop at d) → length y < z → SearchAs s n d key found.Nothing
+      walk-short v k ws e m = absurd (omega (arith, v, k, ap length u, length-drop at d, there m .within))
 
-      pub walk-found : {x : List ℕ} → x ≡ part d at stampSize → {b : Bool} → b ≡ sameList x key → b ≡ true → FindAs s n d key (found.At at)
-      unfolding firstWith
-      walk-found p c t ws e m =
-          let (ys, r, o) = h .rest ws e m in
-          let (zs, u, _) = many-next (writeF s) (n - i) (n - (i + 1)) (omega arith) r f in
-          record { next = q; there = f; first = o ∙ ap (firstWith key) u ∙ rw (compared p c ∙ t) }
+      module _ {x : List ℕ} (p : x ≡ part y 0 stampSize) {b : Bool} (c : b ≡ sameList x key) where
+        compared : {ws : List Write} {e : ℕ} → Stored s n d ws e → sameList (stampF .print (writeAt s (drop at d) .stamp)) key ≡ b
+        unfolding part
+        compared m = ap (λ (z : List ℕ). sameList z key) (sym (p ∙ ap (take stampSize) u ∙ unfold part in (stamp-bytes s (there m) bs))) ∙ sym c
 
-      pub walk-more : {x : List ℕ} → x ≡ part d at stampSize → {b : Bool} → b ≡ sameList x key → b ≡ false → Walking s n d key q (i + 1)
-      unfolding firstWith
-      walk-more p c t =
-          record {
-            rest = λ ws e m.
-                let (ys, r, o) = h .rest ws e m in
-                let (zs, u, r′) = many-next (writeF s) (n - i) (n - (i + 1)) (omega arith) r f in
-                (zs, r′, o ∙ ap (firstWith key) u ∙ rw (compared p c ∙ t));
-          }
+        pub walk-found : b ≡ true → SearchAs s n d key (found.At at)
+        unfolding firstWith
+        walk-found t ws e m =
+            let f = there m in
+            let (ys, r, o) = h .rest ws e m in
+            let (zs, q, _) = many-next (writeF s) (n - i) (n - (i + 1)) (omega arith) r f in
+            record { next = at + writeSize s (drop at d); there = f; first = o ∙ ap (firstWith key) q ∙ rw (compared m ∙ t) }
+
+        pub walk-more : b ≡ false → {z : ℕ} → z ≡ writeSize s (drop at d) → Walking s n d key (at + z) (i + 1)
+        unfolding firstWith
+        walk-more t {z} v =
+            record {
+              rest = λ ws e m.
+                  let f = leaves-moved refl (ap (λ (j : ℕ). at + j) (sym v)) (there m) in
+                  let (ys, r, o) = h .rest ws e m in
+                  let (zs, q, r′) = many-next (writeF s) (n - i) (n - (i + 1)) (omega arith) r f in
+                  (zs, r′, o ∙ ap (firstWith key) q ∙ rw (compared m ∙ t));
+            }

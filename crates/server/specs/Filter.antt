@@ -17,7 +17,7 @@ use Rattle.protocol.specs.ClientBytes.{Written}
 use Rattle.protocol.specs.ServerBytes.{serverIn}
 use Rattle.wire.specs.Places.{candidateList, lengthAt, shareSize}
 use Rattle.wire.specs.Make.{packetStep}
-use Rattle.server.specs.Reads.{Stored, Opened}
+use Rattle.server.specs.Reads.{Stored, UpTo, Opened}
 use Rattle.server.specs.Answers.{memoryIn, replyHead}
 use Rattle.server.specs.Ranks.{slotOf}
 use Rattle.server.specs.declared.filter.Chosen.{Chosen}
@@ -41,9 +41,9 @@ abbrev pub ChosenIs : Config → List ℕ → Candidate → Chosen → Type 0
 ChosenIs s y c (chosen.At i) = ChosenAt s y c i
 ChosenIs s y c chosen.Nothing = c ≡ blankCandidate s
 
-abbrev pub ChosenAs : List ℕ → List ℕ → ℕ → ℕ → ℕ → List ℕ → ℕ → Chosen → Type 0
-ChosenAs d key t b n y m r =
-    (e : ℕ) (o : Opened d t b n e) → Listed (shelf t) m y
+abbrev pub ChosenAs : List ℕ → List ℕ → ℕ → ℕ → ℕ → ℕ → List ℕ → ℕ → Chosen → Type 0
+ChosenAs d key t b n top y m r =
+    (e : ℕ) (o : Opened d t b n e top) → Listed (shelf t) m y
     → ChosenIs (shelf t) y (best real (shelf t) key b (serverIn (memoryIn o)) (blankCandidate (shelf t)) (candidateList (shelf t) m y)) r
 
 -- ---- the reply
@@ -52,8 +52,8 @@ ChosenAs d key t b n y m r =
 unfoldable pub shareBytes : Config → List ℕ → ℕ → List ℕ
 shareBytes s d at = let y = drop stampSize (drop at d) in take (shareSize s (lengthAt y)) y
 
--- w is the reply with what n stored writes hold for the stamp a
-abbrev pub HeldAs : List ℕ → Head → ℕ → Stamp → List ℕ → Written → Type 0
-HeldAs d h n a output w =
-    (ws : List Write) (e : ℕ) → Stored (shelf (h .t)) n d ws e → length (a .tag) ≡ tagSize
+-- w is the reply with what n stored writes, none of them above top, hold for the stamp a
+abbrev pub HeldAs : List ℕ → Head → ℕ → ℕ → Stamp → List ℕ → Written → Type 0
+HeldAs d h n top a output w =
+    (ws : List Write) (e : ℕ) → Stored (shelf (h .t)) n d ws e → UpTo top ws → length (a .tag) ≡ tagSize
     → w ≡ packetStep (replyHead h 10) (heldF (shelf (h .t)) .print (record { stamp = a; share = held a ws })) [] output

@@ -7,14 +7,15 @@ use Prim.Native.Nat.{ℕ, _+_, _*_, _≤_}
 use lib.Dec.{ltb}
 use lib.ListN.{drop}
 use Rattle.cluster.specs.Config.{Config, shelf}
+use Rattle.erasure.specs.Fragments.{fragmentSize}
 use Rattle.protocol.specs.declared.Stamp.{Stamp}
 use Rattle.protocol.specs.Format.{All, many}
-use Rattle.protocol.specs.Values.{Write, sameList, isSome, candidateSize}
+use Rattle.protocol.specs.Values.{Write, sameList, isSome, stampSize, digestSize, digestsSize, tagsSize, candidateSize}
 use Rattle.protocol.specs.Packet.{stampF, writeF}
 use Rattle.protocol.specs.Memory.{held, distinct, decodeMemory}
-use Rattle.protocol.specs.View.{stampAt, candidateAt}
+use Rattle.protocol.specs.View.{part, stampAt, candidateAt}
 use Rattle.protocol.specs.Reading.{Leaves}
-use Rattle.wire.specs.Places.{writeAt}
+use Rattle.wire.specs.Places.{lengthAt, writeAt}
 use Rattle.server.specs.declared.memory.Found.{Found}
 use Rattle.server.specs.declared.memory.Found.the-variants as found
 use Rattle.server.specs.declared.memory.Writes.{Writes}
@@ -33,6 +34,13 @@ writesPlace s = latestPlace + candidateSize s
 abbrev pub Stored : Config → ℕ → List ℕ → List Write → ℕ → Type 0
 Stored s n d ws e = Leaves (many n (writeF s)) d (writesPlace s) ws e
 
+-- bytes of a stored write without its fragment, and of the one that x begins with
+unfoldable pub frameSize : Config → ℕ
+frameSize s = stampSize + 2 + digestsSize s + digestSize + tagsSize s
+
+abbrev pub writeSize : Config → List ℕ → ℕ
+writeSize s x = frameSize s + fragmentSize (s .shares) (lengthAt (drop stampSize x))
+
 -- ---- the first write whose stamp has the bytes key
 
 unfoldable pub firstWith : List ℕ → List Write → Option Write
@@ -48,44 +56,50 @@ abbrev pub FindIs : Config → List ℕ → Option Write → Found → Type 0
 FindIs s d o (found.At at) = FoundAt s d at o
 FindIs s d o found.Nothing = o ≡ none
 
-abbrev pub FindAs : Config → ℕ → List ℕ → List ℕ → Found → Type 0
-FindAs s n d key r = (ws : List Write) (e : ℕ) → Stored s n d ws e → FindIs s d (firstWith key ws) r
-
--- ---- no stamp twice
+abbrev pub SearchAs : Config → ℕ → List ℕ → List ℕ → Found → Type 0
+SearchAs s n d key r = (ws : List Write) (e : ℕ) → Stored s n d ws e → FindIs s d (firstWith key ws) r
 
 -- the order of stamps as one number; writers are bytes
 unfoldable pub keyOf : Stamp → ℕ
 keyOf a = 256 * a .number + a .writer
 
-unfoldable pub maxOf : ℕ → ℕ → ℕ
-maxOf a b = cond (ltb a b) b a
-
 abbrev pub UpTo : ℕ → List Write → Type 0
 UpTo top ws = All (λ w. keyOf (w .stamp) ≤ top) ws
 
+-- the first of n writes, none of them above top, whose stamp has the bytes that x begins with
+abbrev pub FindAs : Config → ℕ → ℕ → List ℕ → List ℕ → Found → Type 0
+FindAs s n top d x r = (ws : List Write) (e : ℕ) → Stored s n d ws e → UpTo top ws → FindIs s d (firstWith (part x 0 stampSize) ws) r
+
+-- ---- no stamp twice
+
+unfoldable pub maxOf : ℕ → ℕ → ℕ
+maxOf a b = cond (ltb a b) b a
+
 -- whether the stamp of the write at a place is that of one of n writes, none of them above top
-abbrev pub RepeatsAs : Config → ℕ → List ℕ → ℕ → ℕ → Bool → Type 0
-RepeatsAs s n d at top r =
+abbrev pub RepeatsAs : Config → ℕ → ℕ → List ℕ → ℕ → Bool → Type 0
+RepeatsAs s n top d at r =
     (ws : List Write) (e next : ℕ) → Stored s n d ws e → UpTo top ws → Leaves (writeF s) d at (writeAt s (drop at d)) next
     → r ≡ isSome (held (stampAt (drop at d)) ws)
 
--- n writes of which no two have one stamp; where there are none, no such writes stand there
-pub record Checked (s : Config) (n : ℕ) (d : List ℕ) (e : ℕ) : Type 0 where
+-- n writes of which no two have one stamp and none is above top; where there are none, no such writes stand there
+pub record Checked (s : Config) (n : ℕ) (d : List ℕ) (e top : ℕ) : Type 0 where
   pub writes : List Write
   pub there : Stored s n d writes e
+  pub up : UpTo top writes
   pub once : distinct writes ≡ true
 
 abbrev pub WritesAs : Config → ℕ → List ℕ → Writes → Type 0
-WritesAs s n d (writes.Past e) = Checked s n d e
+WritesAs s n d (writes.Past e top) = Checked s n d e top
 WritesAs s n d writes.Broken = (ws : List Write) (e : ℕ) → Stored s n d ws e → distinct ws ≡ true → ⊥
 
--- ---- the whole memory: what decodeMemory gives, by its numbers and the places of its parts; or refusal 2
+-- ---- the whole memory: what decodeMemory gives, by its numbers, the places of its parts, and a bound of its stamps; or refusal 2
 
-pub record Opened (d : List ℕ) (t b n e : ℕ) : Type 0 where
+pub record Opened (d : List ℕ) (t b n e top : ℕ) : Type 0 where
   pub writes : List Write
   pub there : Stored (shelf t) n d writes e
+  pub up : UpTo top writes
   pub decoded : decodeMemory d ≡ some (record { t = t; server = b; latest = candidateAt (shelf t) (drop latestPlace d); writes = writes })
 
 abbrev pub MemoryAs : List ℕ → MemoryRead → Type 0
-MemoryAs d (memories.Value t b n e) = Opened d t b n e
+MemoryAs d (memories.Value t b n e top) = Opened d t b n e top
 MemoryAs d memories.Broken = decodeMemory d ≡ none

@@ -14,31 +14,31 @@ use Rattle.protocol.specs.Primitives.{real}
 use Rattle.protocol.specs.Server.{Server, hasDigest, valid, raise}
 use Rattle.protocol.specs.View.{part, candidateAt}
 use Rattle.protocol.specs.ServerBytes.{Served, serverIn, memoryOf}
-use Rattle.server.specs.Reads.{Stored, Opened}
+use Rattle.server.specs.Reads.{Stored, UpTo, Opened}
 use Rattle.server.specs.Answers.{memoryIn, AnswersAs}
 
--- whether n stored writes hold the stamp at the start of x, with the nonce digest g
-abbrev pub HistoryAs : Config → ℕ → List ℕ → List ℕ → List ℕ → Bool → Type 0
-HistoryAs s n d x g r = (ws : List Write) (e : ℕ) → Stored s n d ws e → (a : Stamp) → part x 0 stampSize ≡ stampF .print a → r ≡ hasDigest g (held a ws)
+-- whether n stored writes, none of them above top, hold the stamp at the start of x, with the nonce digest g
+abbrev pub HistoryAs : Config → ℕ → ℕ → List ℕ → List ℕ → List ℕ → Bool → Type 0
+HistoryAs s n top d x g r = (ws : List Write) (e : ℕ) → Stored s n d ws e → UpTo top ws → (a : Stamp) → part x 0 stampSize ≡ stampF .print a → r ≡ hasDigest g (held a ws)
 
 -- whether tag b of the candidate x is the key's tag of its stamp's bytes and the nonce digest g
 unfoldable pub tagChecks : Config → List ℕ → ℕ → List ℕ → List ℕ → Bool
 tagChecks s key b x g = sameList (nth tagSize (candidateAt s x .tags) b) (tagOf key (part x 0 stampSize ++ g))
 
-abbrev pub ValidAs : List ℕ → List ℕ → ℕ → ℕ → ℕ → List ℕ → Bool → Type 0
-ValidAs d key t b n x r =
-    (e : ℕ) (o : Opened d t b n e) → x ≡ candidateF (shelf t) .print (candidateAt (shelf t) x) → candidateF (shelf t) .Ok (candidateAt (shelf t) x)
+abbrev pub ValidAs : List ℕ → List ℕ → ℕ → ℕ → ℕ → ℕ → List ℕ → Bool → Type 0
+ValidAs d key t b n top x r =
+    (e : ℕ) (o : Opened d t b n e top) → x ≡ candidateF (shelf t) .print (candidateAt (shelf t) x) → candidateF (shelf t) .Ok (candidateAt (shelf t) x)
     → r ≡ valid real (shelf t) key b (serverIn (memoryIn o)) (candidateAt (shelf t) x)
 
 abbrev pub repaired : List ℕ → ℕ → ℕ → Server → Candidate → Server
 repaired key t b v c = cond (valid real (shelf t) key b v c) (raise c v) v
 
 -- the memory m holds the server with the candidate x raised, where it is valid
-abbrev pub RaisedAs : List ℕ → List ℕ → ℕ → ℕ → ℕ → List ℕ → List ℕ → Type 0
-RaisedAs d key t b n x m =
-    (e : ℕ) (o : Opened d t b n e) → x ≡ candidateF (shelf t) .print (candidateAt (shelf t) x) → candidateF (shelf t) .Ok (candidateAt (shelf t) x)
+abbrev pub RaisedAs : List ℕ → List ℕ → ℕ → ℕ → ℕ → ℕ → List ℕ → List ℕ → Type 0
+RaisedAs d key t b n top x m =
+    (e : ℕ) (o : Opened d t b n e top) → x ≡ candidateF (shelf t) .print (candidateAt (shelf t) x) → candidateF (shelf t) .Ok (candidateAt (shelf t) x)
     → m ≡ encodeMemory (memoryOf t b (repaired key t b (serverIn (memoryIn o)) (candidateAt (shelf t) x)))
 
 -- an answer with a key, whatever the place past the stored writes
-abbrev pub AnswersWith : ℕ → List ℕ → List ℕ → List ℕ → List ℕ → Head → ℕ → Served → Type 0
-AnswersWith k d key packet output h n r = (e : ℕ) → AnswersAs k d key packet output h n e r
+abbrev pub AnswersWith : ℕ → List ℕ → List ℕ → List ℕ → List ℕ → Head → ℕ → ℕ → Served → Type 0
+AnswersWith k d key packet output h n top r = (e : ℕ) → AnswersAs k d key packet output h n e top r

@@ -74,7 +74,7 @@ pub fn blank_latest(memory: &mut [u8]) -> cluster::Outcome
             count: 0,
         };
     }
-    let MemoryRead::Value(t, server, n, end) = crate::memory::open(memory) else {
+    let MemoryRead::Value(t, server, n, end, top) = crate::memory::open(memory) else {
         return cluster::Outcome {
             number: 2,
             count: 0,

@@ -31,16 +31,17 @@ fn choose(
     t: u8,
     server: u8,
     n: usize,
+    top: u64,
     list: &[u8],
     count: u8,
 ) -> Chosen
     requires { ⌜ 1 ≤ server ⌝ }
-    ensures { λ r. ⌜ ChosenAs (now (memory .entry)) key t server n (now (list .entry)) count r ⌝ }
+    ensures { λ r. ⌜ ChosenAs (now (memory .entry)) key t server n top (now (list .entry)) count r ⌝ }
 {
     let mut rank = next_rank(list, t, count, crate::rank::ABOVE);
     while 0 < rank {
         let i = slot_with(rank);
-        if crate::valid::valid(memory, key, t, server, n, slot(list, t, i)) {
+        if crate::valid::valid(memory, key, t, server, n, top, slot(list, t, i)) {
             return Chosen::At(i);
         }
         rank = next_rank(list, t, count, rank);
@@ -82,13 +83,14 @@ fn reply_held(
     memory: &[u8],
     head: protocol::Head,
     n: usize,
+    top: u64,
     stamp: protocol::Stamp,
     out: &mut [u8],
 ) -> cluster::Outcome
-    ensures { λ r. ⌜ HeldAs (now (memory .entry)) head n stamp (now (out .entry)) (record { result = r; output = now (out .exit) }) ⌝ }
+    ensures { λ r. ⌜ HeldAs (now (memory .entry)) head n top stamp (now (out .entry)) (record { result = r; output = now (out .exit) }) ⌝ }
 {
     let nothing = held_head(stamp, 0);
-    let Found::At(at) = find(memory, head.t, n, part(&nothing, 0, wire::sizes::STAMP)) else {
+    let Found::At(at) = find(memory, head.t, n, top, &nothing) else {
         return wire::make::make_packet(
             crate::answers::reply_head(head, 10),
             &nothing,
@@ -112,19 +114,20 @@ pub(crate) fn filter(
     head: protocol::Head,
     packet: &[u8],
     n: usize,
+    top: u64,
     out: &mut [u8],
 ) -> cluster::Outcome
     requires { ⌜ 1 ≤ head .server ⌝ }
-    ensures { λ r. ⌜ AnswersWith 9 (now (memory .entry)) key (now (packet .entry)) (now (out .entry)) head n (record { result = r; memory = now (memory .exit); output = now (out .exit) }) ⌝ }
+    ensures { λ r. ⌜ AnswersWith 9 (now (memory .entry)) key (now (packet .entry)) (now (out .entry)) head n top (record { result = r; memory = now (memory .exit); output = now (out .exit) }) ⌝ }
 {
     let body = rest(packet, wire::sizes::HEAD);
     let list = rest(body, 1);
     let count = wire::bytes::byte_at(body, 0);
-    let Chosen::At(i) = choose(memory, key, head.t, head.server, n, list, count) else {
-        return reply_held(memory, head, n, protocol::Stamp::blank(), out);
+    let Chosen::At(i) = choose(memory, key, head.t, head.server, n, top, list, count) else {
+        return reply_held(memory, head, n, top, protocol::Stamp::blank(), out);
     };
     let chosen = slot(list, head.t, i);
-    let r = reply_held(memory, head, n, wire::values::stamp_at(chosen), out);
+    let r = reply_held(memory, head, n, top, wire::values::stamp_at(chosen), out);
     crate::answers::raise(memory, chosen);
     r
 }

@@ -4,7 +4,9 @@ ghost use Prim.Native.Nat.{_≤_};
 ghost use lib.ListN.{length};
 ghost use Rattle.cluster.specs.Config.{shelf};
 ghost use Rattle.protocol.specs.View.{stampAt};
-ghost use Rattle.server.specs.Reads.{FindAs, RepeatsAs, WritesAs, MemoryAs, keyOf, maxOf, writesPlace};
+ghost use Rattle.server.specs.Reads.{frameSize, SearchAs, FindAs, RepeatsAs, WritesAs, MemoryAs, keyOf, maxOf, writesPlace};
+use wire::bytes::part;
+use wire::bytes::rest;
 use wire::fields::Cursor;
 use wire::fields::Field;
 
@@ -17,15 +19,15 @@ pub enum Found {
     Nothing,
 }
 
-// The place past the stored writes.
+// The place past the stored writes, and a bound of their stamps in their order.
 pub enum Writes {
-    Past(usize),
+    Past(usize, u64),
     Broken,
 }
 
-// t, the server's number, how many writes are stored, and the place past them; or refusal 2.
+// t, the server's number, how many writes are stored, the place past them, and a bound of their stamps; or refusal 2.
 pub enum MemoryRead {
-    Value(u8, u8, usize, usize),
+    Value(u8, u8, usize, usize, u64),
     Broken,
 }
 
@@ -36,23 +38,15 @@ pub fn writes_place(t: u8) -> usize
     LATEST + wire::sizes::candidate_size(t)
 }
 
-// The first of n stored writes whose stamp has these bytes.
-pub fn find(memory: &[u8], t: u8, n: usize, stamp: &[u8]) -> Found
-    ensures { λ r. ⌜ FindAs (shelf t) n (now (memory .entry)) (now (stamp .entry)) r ⌝ }
+// Bytes of a stored write without its fragment.
+fn frame_size(t: u8) -> usize
+    ensures { λ r. ⌜ r ≡ frameSize (shelf t) ⌝ }
 {
-    let mut at = writes_place(t);
-    let mut i = 0;
-    while i < n {
-        let Field::Value(size, next) = wire::parts::write_field(memory, Cursor { at }, t) else {
-            return Found::Nothing;
-        };
-        if wire::bytes::same(wire::bytes::part(memory, at, wire::sizes::STAMP), stamp) {
-            return Found::At(at);
-        }
-        at = next.at;
-        i += 1;
-    }
-    Found::Nothing
+    wire::sizes::STAMP
+        + 2
+        + wire::sizes::digests_size(t)
+        + wire::sizes::DIGEST
+        + wire::sizes::tags_size(t)
 }
 
 // A stamp's place in their order, as one number.
@@ -60,6 +54,40 @@ pub(crate) fn key_at(stamp: &[u8]) -> u64
     ensures { λ r. ⌜ r ≡ keyOf (stampAt (now (stamp .entry))) ⌝ }
 {
     256 * (wire::bytes::number4(stamp) as u64) + (wire::bytes::byte_at(stamp, 4) as u64)
+}
+
+// The first of n stored writes whose stamp has these bytes. They were checked when the memory was opened, so each ends where its record length says.
+fn search(memory: &[u8], t: u8, n: usize, stamp: &[u8]) -> Found
+    ensures { λ r. ⌜ SearchAs (shelf t) n (now (memory .entry)) (now (stamp .entry)) r ⌝ }
+{
+    let frame = frame_size(t);
+    let mut at = writes_place(t);
+    let mut i = 0;
+    while i < n {
+        let write = rest(memory, at);
+        if wire::bytes::same(part(write, 0, wire::sizes::STAMP), stamp) {
+            return Found::At(at);
+        }
+        let length = wire::bytes::number2(rest(write, wire::sizes::STAMP));
+        let size = frame + wire::sizes::fragment_size(t, length);
+        if write.len() < size {
+            return Found::Nothing;
+        }
+        at += size;
+        i += 1;
+    }
+    Found::Nothing
+}
+
+// The first of n stored writes whose stamp has the bytes that some begin with. None of the writes is above top, so that a stamp above it needs no search.
+pub fn find(memory: &[u8], t: u8, n: usize, top: u64, bytes: &[u8]) -> Found
+    ensures { λ r. ⌜ FindAs (shelf t) n top (now (memory .entry)) (now (bytes .entry)) r ⌝ }
+{
+    let stamp = part(bytes, 0, wire::sizes::STAMP);
+    if top < key_at(stamp) {
+        return Found::Nothing;
+    }
+    search(memory, t, n, stamp)
 }
 
 pub(crate) fn max_of(a: u64, b: u64) -> u64
@@ -71,19 +99,11 @@ pub(crate) fn max_of(a: u64, b: u64) -> u64
     a
 }
 
-// Whether one of the first n stored writes has the stamp at a place. None of them is above top, so that a stamp above it needs no search.
-fn repeats(memory: &[u8], t: u8, n: usize, at: usize, top: u64) -> bool
-    ensures { λ r. ⌜ RepeatsAs (shelf t) n (now (memory .entry)) at top r ⌝ }
+// Whether one of the first n stored writes, none of them above top, has the stamp at a place.
+fn repeats(memory: &[u8], t: u8, n: usize, top: u64, at: usize) -> bool
+    ensures { λ r. ⌜ RepeatsAs (shelf t) n top (now (memory .entry)) at r ⌝ }
 {
-    if top < key_at(wire::bytes::rest(memory, at)) {
-        return false;
-    }
-    let Found::Nothing = find(
-        memory,
-        t,
-        n,
-        wire::bytes::part(memory, at, wire::sizes::STAMP),
-    ) else {
+    let Found::Nothing = find(memory, t, n, top, rest(memory, at)) else {
         return true;
     };
     false
@@ -101,14 +121,14 @@ fn check_writes(memory: &[u8], t: u8, n: usize) -> Writes
         let Field::Value(size, next) = wire::parts::write_field(memory, Cursor { at }, t) else {
             return Writes::Broken;
         };
-        if repeats(memory, t, i, at, top) {
+        if repeats(memory, t, i, top, at) {
             return Writes::Broken;
         }
-        top = max_of(top, key_at(wire::bytes::rest(memory, at)));
+        top = max_of(top, key_at(rest(memory, at)));
         at = next.at;
         i += 1;
     }
-    Writes::Past(at)
+    Writes::Past(at, top)
 }
 
 // The whole memory. All bytes after the last write are joined.
@@ -137,11 +157,11 @@ pub fn open(memory: &[u8]) -> MemoryRead
     let Field::Value(number, c4) = wire::parts::any_candidate_field(memory, c3, t as u8) else {
         return MemoryRead::Broken;
     };
-    let Writes::Past(end) = check_writes(memory, t as u8, n as usize) else {
+    let Writes::Past(end, top) = check_writes(memory, t as u8, n as usize) else {
         return MemoryRead::Broken;
     };
-    if wire::bytes::all_zero(wire::bytes::rest(memory, end)) {
-        return MemoryRead::Value(t as u8, server as u8, n as usize, end);
+    if wire::bytes::all_zero(rest(memory, end)) {
+        return MemoryRead::Value(t as u8, server as u8, n as usize, end, top);
     }
     MemoryRead::Broken
 }

@@ -5,11 +5,19 @@ use wire::bytes::part;
 use wire::bytes::rest;
 
 // A valid candidate is raised.
-fn raise_valid(memory: &mut [u8], key: [u8; 32], t: u8, server: u8, n: usize, candidate: &[u8])
+fn raise_valid(
+    memory: &mut [u8],
+    key: [u8; 32],
+    t: u8,
+    server: u8,
+    n: usize,
+    top: u64,
+    candidate: &[u8],
+)
     requires { ⌜ 1 ≤ server ⌝ }
-    ensures { λ r. ⌜ RaisedAs (now (memory .entry)) key t server n (now (candidate .entry)) (now (memory .exit)) ⌝ }
+    ensures { λ r. ⌜ RaisedAs (now (memory .entry)) key t server n top (now (candidate .entry)) (now (memory .exit)) ⌝ }
 {
-    if crate::valid::valid(memory, key, t, server, n, candidate) {
+    if crate::valid::valid(memory, key, t, server, n, top, candidate) {
         crate::answers::raise(memory, candidate);
     }
 }
@@ -20,10 +28,11 @@ pub(crate) fn repair(
     head: protocol::Head,
     packet: &[u8],
     n: usize,
+    top: u64,
     out: &mut [u8],
 ) -> cluster::Outcome
     requires { ⌜ 1 ≤ head .server ⌝ }
-    ensures { λ r. ⌜ AnswersWith 11 (now (memory .entry)) key (now (packet .entry)) (now (out .entry)) head n (record { result = r; memory = now (memory .exit); output = now (out .exit) }) ⌝ }
+    ensures { λ r. ⌜ AnswersWith 11 (now (memory .entry)) key (now (packet .entry)) (now (out .entry)) head n top (record { result = r; memory = now (memory .exit); output = now (out .exit) }) ⌝ }
 {
     raise_valid(
         memory,
@@ -31,6 +40,7 @@ pub(crate) fn repair(
         head.t,
         head.server,
         n,
+        top,
         rest(packet, wire::sizes::HEAD),
     );
     wire::make::make_packet(

@@ -8,6 +8,7 @@ ghost use Rattle.server.specs.Answers.{replyHead, AnswersOf, keptBytes};
 use crate::memory::Found;
 use crate::memory::find;
 use wire::bytes::part;
+use wire::bytes::rest;
 
 // The place of the count of stored writes.
 pub const COUNT: usize = 2;
@@ -40,21 +41,18 @@ pub(crate) fn store(
     packet: &[u8],
     n: usize,
     end: usize,
+    top: u64,
     out: &mut [u8],
 ) -> cluster::Outcome
-    ensures { λ r. ⌜ AnswersOf 3 (now (memory .entry)) (now (packet .entry)) (now (out .entry)) head n end (record { result = r; memory = now (memory .exit); output = now (out .exit) }) ⌝ }
+    ensures { λ r. ⌜ AnswersOf 3 (now (memory .entry)) (now (packet .entry)) (now (out .entry)) head n end top (record { result = r; memory = now (memory .exit); output = now (out .exit) }) ⌝ }
 {
-    let Found::Nothing = find(
-        memory,
-        head.t,
-        n,
-        part(packet, wire::sizes::HEAD, wire::sizes::STAMP),
-    ) else {
+    let write = rest(packet, wire::sizes::HEAD);
+    let Found::Nothing = find(memory, head.t, n, top, write) else {
         return store_reply(head, 10, out);
     };
     if cluster::CAPACITY <= n {
         return store_reply(head, 11, out);
     }
-    keep_write(memory, n, end, wire::bytes::rest(packet, wire::sizes::HEAD));
+    keep_write(memory, n, end, write);
     store_reply(head, 0, out)
 }

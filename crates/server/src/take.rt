@@ -92,17 +92,18 @@ fn answer(
     packet: &[u8],
     n: usize,
     end: usize,
+    top: u64,
     out: &mut [u8],
 ) -> cluster::Outcome
     requires { ⌜ 1 ≤ head .server ⌝ }
-    ensures { λ r. ⌜ AnswersAny (now (memory .entry)) key (now (packet .entry)) (now (out .entry)) head n end (record { result = r; memory = now (memory .exit); output = now (out .exit) }) ⌝ }
+    ensures { λ r. ⌜ AnswersAny (now (memory .entry)) key (now (packet .entry)) (now (out .entry)) head n end top (record { result = r; memory = now (memory .exit); output = now (out .exit) }) ⌝ }
 {
     let kind = head.kind;
     if kind == 1 {
         return crate::answers::clock(memory, head, out);
     }
     if kind == 3 {
-        return crate::store::store(memory, head, packet, n, end, out);
+        return crate::store::store(memory, head, packet, n, end, top, out);
     }
     if kind == 5 {
         return crate::answers::complete(memory, head, packet, out);
@@ -111,9 +112,9 @@ fn answer(
         return crate::answers::collect(memory, head, out);
     }
     if kind == 9 {
-        return crate::filter::filter(memory, key, head, packet, n, out);
+        return crate::filter::filter(memory, key, head, packet, n, top, out);
     }
-    crate::repair::repair(memory, key, head, packet, n, out)
+    crate::repair::repair(memory, key, head, packet, n, top, out)
 }
 
 // A packet to this server, in its memory, with its key: 1, 2, 7, 8, 9, 15, or the reply.
@@ -123,7 +124,7 @@ pub fn take(memory: &mut [u8], key: &[u8; 32], packet: &[u8], out: &mut [u8]) ->
     if memory.len() != cluster::MEMORY {
         return refused(1);
     }
-    let MemoryRead::Value(t, server, n, end) = open(memory) else {
+    let MemoryRead::Value(t, server, n, end, top) = open(memory) else {
         return refused(2);
     };
     let PacketRead::Value(head) = read_packet(packet) else {
@@ -133,5 +134,5 @@ pub fn take(memory: &mut [u8], key: &[u8; 32], packet: &[u8], out: &mut [u8]) ->
     if number != 0 {
         return refused(number);
     }
-    answer(memory, *key, head, packet, n, end, out)
+    answer(memory, *key, head, packet, n, end, top, out)
 }

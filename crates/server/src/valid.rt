@@ -21,11 +21,11 @@ fn nonce_digest(share: &[u8], t: u8) -> &[u8]
     )
 }
 
-// One of n stored writes has the candidate's stamp and this nonce digest.
-fn by_history(memory: &[u8], t: u8, n: usize, candidate: &[u8], digest: [u8; 32]) -> bool
-    ensures { λ r. ⌜ HistoryAs (shelf t) n (now (memory .entry)) (now (candidate .entry)) digest r ⌝ }
+// One of n stored writes, none of them above top, has the candidate's stamp and this nonce digest.
+fn by_history(memory: &[u8], t: u8, n: usize, top: u64, candidate: &[u8], digest: [u8; 32]) -> bool
+    ensures { λ r. ⌜ HistoryAs (shelf t) n top (now (memory .entry)) (now (candidate .entry)) digest r ⌝ }
 {
-    let Found::At(at) = find(memory, t, n, part(candidate, 0, wire::sizes::STAMP)) else {
+    let Found::At(at) = find(memory, t, n, top, candidate) else {
         return false;
     };
     let found = nonce_digest(rest(rest(memory, at), wire::sizes::STAMP), t);
@@ -56,13 +56,14 @@ pub(crate) fn valid(
     t: u8,
     server: u8,
     n: usize,
+    top: u64,
     candidate: &[u8],
 ) -> bool
     requires { ⌜ 1 ≤ server ⌝ }
-    ensures { λ r. ⌜ ValidAs (now (memory .entry)) key t server n (now (candidate .entry)) r ⌝ }
+    ensures { λ r. ⌜ ValidAs (now (memory .entry)) key t server n top (now (candidate .entry)) r ⌝ }
 {
     let digest = sha256::digest(part(candidate, wire::sizes::STAMP, wire::sizes::NONCE));
-    if by_history(memory, t, n, candidate, digest) {
+    if by_history(memory, t, n, top, candidate, digest) {
         return true;
     }
     by_tag(key, t, server, candidate, digest)

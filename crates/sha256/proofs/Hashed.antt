@@ -8,6 +8,7 @@ use native.Mathlib.Omega.{arith}
 use lib.ListN.{length, getD, take, drop, length-append, List·getD-append, take-append-drop}
 use lib.Seq.{getD-append-add, length-take-le, getD-take}
 use Rattle.sha256.specs.Sha256.{tab, wordAt, block, grow, compressOf, hashed, initial, padding, pad, bytesOf, digestFrom, sha256}
+use Rattle.sha256.specs.FirstBlock.{digestAfter}
 use Rattle.sha256.proofs.Laws.{tab-ext}
 
 word-same : (p q : List ℕ) (i j : ℕ) → ((k : ℕ) → k < 4 → getD p (i + k) 0 ≡ getD q (j + k) 0) → wordAt p i ≡ wordAt q j
@@ -70,14 +71,15 @@ whole-then-rest h m s w e =
     (hashed-same h a m (length m / 64) (λ i k. getD-take w m i 0 (omega arith)))
 
 -- a first block, then the rest
-pub sha-after : (b x : List ℕ) (n : ℕ) → length b ≡ 64 → n ≡ 64 + length x → digestFrom (hashed initial (length b / 64) b) (x ++ padding n) ≡ sha256 (b ++ x)
-unfolding sha256 pad digestFrom
-sha-after b x n l e =
+pub digest-after : (b x : List ℕ) → length b ≡ 64 → digestAfter (hashed initial 1 b) x ≡ sha256 (b ++ x)
+unfolding digestAfter sha256 pad digestFrom
+digest-after b x l =
+    let n : ℕ = 64 + length x in
     let s : List ℕ = x ++ padding n in
     let k : length (b ++ x) ≡ n = omega (arith, length-append b x) in
     let p : b ++ x ++ padding (length (b ++ x)) ≡ b ++ s = ap (λ (i : ℕ). b ++ x ++ padding i) k ∙ append-assoc b x (padding n) in
-    let j : length b / 64 + length s / 64 ≡ length (b ++ s) / 64 = omega (arith, length-append b s) in
+    let j : 1 + length s / 64 ≡ length (b ++ s) / 64 = omega (arith, length-append b s) in
     ap bytesOf
-    (sym (hashed-split initial b s (length b / 64) (length s / 64) (omega arith))
+    (sym (hashed-split initial b s 1 (length s / 64) (omega arith))
     ∙ ap₂ (λ (i : ℕ) (y : List ℕ). hashed initial i y) j refl
     ∙ ap (λ (y : List ℕ). hashed initial (length y / 64) y) (sym p))

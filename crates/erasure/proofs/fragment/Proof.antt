@@ -1,36 +1,19 @@
 -- Refused: the number alone. Accepted: the arguments are in range, and the run or the sums are the fragment.
-use mathlib.Core.Path.{_≡_, refl, sym, ap, ap₂, subst, _∙_}
-use mathlib.Core.Logic.{_≢_}
-use mathlib.Core.List.{List, [], _∷_, _++_, map}
-use Prim.Native.Nat.{ℕ, zero, suc, _+_, _-_, _*_, _/_, _%_, _^_, _<_, _≤_}
-use native.Mathlib.Numerals.{add-one}
+use mathlib.Core.Path.{_≡_, sym, ap, ap₂, subst, _∙_}
+use mathlib.Core.List.{List, _++_}
+use Prim.Native.Nat.{ℕ, _+_, _-_, _*_, _<_, _≤_}
 use native.Mathlib.Omega.{arith}
-use lib.Bits.{bitXor, bitAnd}
-use lib.ListN.{length, getD, set, take, drop, length-set}
-use lib.Seq.{getD-set-same, getD-set-other}
-use mir.Val.{Fits}
-use mir.Syntax.{w8}
-use Rattle.gf256.specs.Gf.{xtime, timesBits, times, power, inverse}
-use Rattle.gf256.proofs.Fill.{fill-more}
-use Rattle.cluster.specs.Config.{Config, shelf}
+use lib.ListN.{length, getD}
+use Rattle.cluster.specs.Config.{shelf}
 use Rattle.erasure.specs.Fragments.{fragmentSize}
-use Rattle.erasure.specs.Steps.{zeros, fragmentRoom, fragmentStep}
-use Rattle.erasure.specs.System.{width}
-use Rattle.erasure.specs.Lanes.{madeOf, plainOf}
+use Rattle.erasure.specs.Steps.{zeros, fragmentRoom}
+use Rattle.erasure.specs.Lanes.{madeOf}
 use Rattle.erasure.specs.declared.FragmentOutcome.{FragmentOutcome}
 use Rattle.erasure.proofs.Answers.{size-fits, make-refused, make-accepted, run-made}
 use Rattle.erasure.proofs.Refused.{Makes, makes}
 use borrow.Author.Needs.{needs}
 use Rattle.erasure.proofs.fragment.Statement.{statement}
 use Rattle.erasure.proofs.fragment.Tie as tie
-use Rattle.erasure.proofs.fragment.Reads as reads
-use Rattle.erasure.proofs.fragment.Lts as lts
-use Rattle.erasure.proofs.fragment_refusal.Reads as fragment-refusal-reads
-use Rattle.erasure.proofs.runs.blank.Reads as blank-reads
-use Rattle.erasure.proofs.runs.make.Reads as make-reads
-use Rattle.erasure.proofs.runs.plain.Reads as plain-reads
-use Rattle.erasure.proofs.shares_of.Reads as shares-of-reads
-use Rattle.erasure.proofs.size.Reads as size-reads
 
 fragment-refusal-requires : tie.Need-fragment-refusal-requires
 fragment-refusal-requires c κs = search needs

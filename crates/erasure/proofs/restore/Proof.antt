@@ -1,24 +1,14 @@
 -- Refused: nothing is written. Accepted: the runs that are added up are those of the first k different servers.
-use mathlib.Core.Path.{_≡_, refl, sym, ap, ap₂, subst, _∙_}
-use mathlib.Core.Logic.{_≢_}
-use mathlib.Core.List.{List, [], _∷_, _++_, map}
-use Prim.Native.Nat.{ℕ, zero, suc, _+_, _-_, _*_, _/_, _%_, _^_, _<_, _≤_}
-use native.Mathlib.Numerals.{add-one}
+use mathlib.Core.Path.{_≡_, sym, ap, subst, _∙_}
+use mathlib.Core.List.{List, _++_}
+use Prim.Native.Nat.{ℕ, _+_, _*_, _<_, _≤_}
 use native.Mathlib.Omega.{arith}
-use lib.Bits.{bitXor, bitAnd}
-use lib.ListN.{length, getD, set, take, drop, length-set}
-use lib.Seq.{getD-set-same, getD-set-other}
-use mir.Val.{Fits}
-use mir.Syntax.{w8}
-use Rattle.gf256.specs.Gf.{xtime, timesBits, times, power, inverse}
-use Rattle.gf256.proofs.Fill.{fill-more}
+use lib.ListN.{length, drop}
 use native.Mathlib.Nat.{suc-ne-zero}
-use Rattle.cluster.specs.Config.{Config, shelf, upTo}
-use Rattle.cluster.specs.declared.Outcome.{Outcome}
+use Rattle.cluster.specs.Config.{shelf, upTo}
 use Rattle.erasure.specs.Fragments.{fragmentSize, restored}
 use Rattle.erasure.specs.Choice.{firstDifferent, partsAt}
-use Rattle.erasure.specs.Steps.{restoredBytes, restoreStep}
-use Rattle.erasure.specs.Chosen.{Holds}
+use Rattle.erasure.specs.Steps.{restoredBytes}
 use Rattle.erasure.specs.System.{width}
 use Rattle.erasure.specs.Lanes.{rebuiltOf}
 use Rattle.erasure.proofs.Laws.{size-pos, runs-cover}
@@ -27,13 +17,6 @@ use Rattle.erasure.proofs.Chosen.{restore-refused, restore-accepted, re
 use borrow.Author.Needs.{needs}
 use Rattle.erasure.proofs.restore.Statement.{statement}
 use Rattle.erasure.proofs.restore.Tie as tie
-use Rattle.erasure.proofs.restore.Reads as reads
-use Rattle.erasure.proofs.restore.Lts as lts
-use Rattle.erasure.proofs.choice.select.Reads as select-reads
-use Rattle.erasure.proofs.restore_refusal.Reads as restore-refusal-reads
-use Rattle.erasure.proofs.runs.rebuild.Reads as rebuild-reads
-use Rattle.erasure.proofs.shares_of.Reads as shares-of-reads
-use Rattle.erasure.proofs.size.Reads as size-reads
 
 restore-refusal-requires : tie.Need-restore-refusal-requires
 restore-refusal-requires c κs = search needs

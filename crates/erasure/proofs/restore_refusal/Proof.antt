@@ -1,21 +1,12 @@
 -- Each way out is the first test that applies.
-use mathlib.Core.Path.{_≡_, refl, sym, ap, ap₂, subst, _∙_}
-use mathlib.Core.Logic.{_≢_}
-use mathlib.Core.List.{List, [], _∷_, _++_, map}
-use Prim.Native.Nat.{ℕ, zero, suc, _+_, _-_, _*_, _/_, _%_, _^_, _<_, _≤_}
-use native.Mathlib.Numerals.{add-one}
+use mathlib.Core.Path.{_≡_, refl, sym, ap, subst, _∙_}
+use Prim.Native.Nat.{ℕ, _+_, _*_, _<_}
 use native.Mathlib.Omega.{arith}
-use lib.Bits.{bitXor, bitAnd}
-use lib.ListN.{length, getD, set, take, drop, length-set}
-use lib.Seq.{getD-set-same, getD-set-other}
-use mir.Val.{Fits}
-use mir.Syntax.{w8}
-use Rattle.gf256.specs.Gf.{xtime, timesBits, times, power, inverse}
-use Rattle.gf256.proofs.Fill.{fill-more}
-use mathlib.Core.Bool.{Bool, true, false, not}
+use lib.ListN.{length}
+use mathlib.Core.Bool.{true, false, not}
 use borrow.Author.Tests.{not-false, lt-ltb, le-ltb}
-use lib.Dec.{eqb, ltb}
-use Rattle.cluster.specs.Config.{Config, shelf}
+use lib.Dec.{eqb}
+use Rattle.cluster.specs.Config.{shelf}
 use Rattle.cluster.specs.Ranges.{within, topFaults, leastLength, topLength, contentRoom}
 use Rattle.erasure.specs.Fragments.{fragmentSize}
 use Rattle.erasure.specs.Steps.{each}
@@ -24,14 +15,6 @@ use Rattle.erasure.proofs.Refused.{within-bounds, argument-tests}
 use borrow.Author.Needs.{needs}
 use Rattle.erasure.proofs.restore_refusal.Statement.{statement}
 use Rattle.erasure.proofs.restore_refusal.Tie as tie
-use Rattle.erasure.proofs.restore_refusal.Reads as reads
-use Rattle.erasure.proofs.restore_refusal.Lts as lts
-use Rattle.erasure.proofs.miscounted.Reads as miscounted-reads
-use Rattle.erasure.proofs.outside.Reads as outside-reads
-use Rattle.erasure.proofs.server_outside.Reads as server-outside-reads
-use Rattle.erasure.proofs.servers_of.Reads as servers-of-reads
-use Rattle.erasure.proofs.shares_of.Reads as shares-of-reads
-use Rattle.erasure.proofs.size.Reads as size-reads
 
 outside-requires : tie.Need-outside-requires
 outside-requires c κs = search needs

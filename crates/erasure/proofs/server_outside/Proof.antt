@@ -1,18 +1,9 @@
 -- The loop goes on only where each server so far is within.
-use mathlib.Core.Path.{_≡_, refl, sym, ap, ap₂, subst, _∙_}
-use mathlib.Core.Logic.{_≢_}
-use mathlib.Core.List.{List, [], _∷_, _++_, map}
-use Prim.Native.Nat.{ℕ, zero, suc, _+_, _-_, _*_, _/_, _%_, _^_, _<_, _≤_}
-use native.Mathlib.Numerals.{add-one}
+use mathlib.Core.Path.{_≡_, sym, ap, _∙_}
+use Prim.Native.Nat.{ℕ, _-_, _<_, _≤_}
 use native.Mathlib.Omega.{arith}
-use lib.Bits.{bitXor, bitAnd}
-use lib.ListN.{length, getD, set, take, drop, length-set}
-use lib.Seq.{getD-set-same, getD-set-other}
-use mir.Val.{Fits}
-use mir.Syntax.{w8}
-use Rattle.gf256.specs.Gf.{xtime, timesBits, times, power, inverse}
-use Rattle.gf256.proofs.Fill.{fill-more}
-use mathlib.Core.Bool.{Bool, true, false, not}
+use lib.ListN.{length, getD}
+use mathlib.Core.Bool.{true, false, not}
 use borrow.Author.Count.{below-more}
 use borrow.Author.Tests.{not-true, not-false}
 use Rattle.cluster.specs.Ranges.{within}
@@ -20,10 +11,6 @@ use Rattle.erasure.proofs.Refused.{each-fails, each-holds}
 use borrow.Author.Needs.{needs}
 use Rattle.erasure.proofs.server_outside.Statement.{statement}
 use Rattle.erasure.proofs.server_outside.Tie as tie
-use Rattle.erasure.proofs.server_outside.Reads as reads
-use Rattle.erasure.proofs.server_outside.Lts as lts
-use Rattle.erasure.proofs.outside.Reads as outside-reads
-use Rattle.erasure.proofs.wide.Reads as wide-reads
 
 abbrev Inv-loop : tie.InvT-loop
 Inv-loop servers most i₀ i = (i ≤ length servers) × ((j : ℕ) → j < i → within 1 most (getD servers j 0) ≡ true)

@@ -1,23 +1,9 @@
 -- By definition.
-use mathlib.Core.Path.{_≡_, refl, sym, ap, ap₂, subst, _∙_}
-use mathlib.Core.Logic.{_≢_}
-use mathlib.Core.List.{List, [], _∷_, _++_, map}
-use Prim.Native.Nat.{ℕ, zero, suc, _+_, _-_, _*_, _/_, _%_, _^_, _<_, _≤_}
-use native.Mathlib.Numerals.{add-one}
-use native.Mathlib.Omega.{arith}
-use lib.Bits.{bitXor, bitAnd}
-use lib.ListN.{length, getD, set, take, drop, length-set}
-use lib.Seq.{getD-set-same, getD-set-other}
-use mir.Val.{Fits}
-use mir.Syntax.{w8}
-use Rattle.gf256.specs.Gf.{xtime, timesBits, times, power, inverse}
-use Rattle.gf256.proofs.Fill.{fill-more}
+use mathlib.Core.Path.{refl}
 use Rattle.erasure.specs.Fragments.{fragmentSize}
 use borrow.Author.Needs.{needs}
 use Rattle.erasure.proofs.size.Statement.{statement}
 use Rattle.erasure.proofs.size.Tie as tie
-use Rattle.erasure.proofs.size.Reads as reads
-use Rattle.erasure.proofs.size.Lts as lts
 
 add-result : tie.Need-add-result
 add-result c = search needs

@@ -1,14 +1,11 @@
+-- The inverse of 0 is 0; any other has 255 less the logarithm as its own.
 use native.Mathlib.Omega.{arith}
-use mathlib.Core.Path.{_≡_, sym, ap, _∙_}
+use mathlib.Core.Path.{sym, ap, _∙_}
 use Rattle.gf256.proofs.Tables.{inverse-of-log, inverse-zero}
 use Rattle.gf256.specs.Gf.{inverse}
 use borrow.Author.Needs.{needs}
 use Rattle.gf256.proofs.inverse.Statement.{statement}
 use Rattle.gf256.proofs.inverse.Tie as tie
-use Rattle.gf256.proofs.inverse.Reads as reads
-use Rattle.gf256.proofs.inverse.Lts as lts
-use Rattle.gf256.proofs.log_of.Reads as log-of-reads
-use Rattle.gf256.proofs.power_of.Reads as power-of-reads
 
 returns : tie.Need-returns
 returns c = sym (ap inverse (c .if1 .taken) ∙ inverse-zero)

@@ -1,15 +1,12 @@
+-- A product with 0 is 0; any other has the sum of the logarithms as its own.
 use Prim.Native.Nat.{ℕ}
-use mathlib.Core.Path.{_≡_, sym, ap, _∙_}
+use mathlib.Core.Path.{sym, ap, _∙_}
 use Rattle.gf256.specs.Gf.{times}
 use Rattle.gf256.proofs.Tables.{times-of-logs}
 use Rattle.gf256.proofs.Linear.{times-zero-l, times-zero-r}
 use borrow.Author.Needs.{needs}
 use Rattle.gf256.proofs.mul.Statement.{statement}
 use Rattle.gf256.proofs.mul.Tie as tie
-use Rattle.gf256.proofs.mul.Reads as reads
-use Rattle.gf256.proofs.mul.Lts as lts
-use Rattle.gf256.proofs.log_of.Reads as log-of-reads
-use Rattle.gf256.proofs.power_of.Reads as power-of-reads
 
 returns : tie.Need-returns
 returns c = sym (ap (λ (x : ℕ). times x (c .before .args .b)) (c .if1 .taken) ∙ times-zero-l (c .before .args .b))

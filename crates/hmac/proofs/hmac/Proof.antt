@@ -1,40 +1,17 @@
--- `hmac::hmac` meets its contract: a digest of the message, then one of that digest, each behind the key's block. Assumes nothing.
-use mathlib.Core.Path.{_≡_}
-use Rattle.hmac.specs.Hmac.{hmacSha256, keyOf}
-use Rattle.hmac.proofs.Laws.{short-key}
+-- `hmac::hmac` meets its contract: the key is prepared, and serves once. Assumes nothing.
+use Rattle.hmac.proofs.Laws.{prepared-hmac}
 use borrow.Author.Needs.{needs}
 use Rattle.hmac.proofs.hmac.Statement.{statement}
 use Rattle.hmac.proofs.hmac.Tie as tie
 
-masked-requires : tie.Need-masked-requires
-masked-requires c κs = search needs
+prepare-requires : tie.Need-prepare-requires
+prepare-requires c κs = search needs
 
-digest-after-requires : tie.Need-digest-after-requires
-digest-after-requires c κs = search needs
-
-masked-requires-2 : tie.Need-masked-requires-2
-masked-requires-2 c κs = search needs
-
-slice-aggregate-digest-after : tie.Need-slice-aggregate-digest-after
-slice-aggregate-digest-after c = search needs
-
-digest-after-requires-2 : tie.Need-digest-after-requires-2
-digest-after-requires-2 c κs = search needs
+prepared-hmac-requires : tie.Need-prepared-hmac-requires
+prepared-hmac-requires c κs = search needs
 
 returns : tie.Need-returns
-unfolding hmacSha256
-returns c =
-    let key = c .before .before .before .before .before .before .args .key in
-    let e : keyOf key ≡ key = short-key key (search needs) in
-    cc
+returns c = cc (prepared-hmac (c .before .before .before .args .key) (c .before .before .before .args .m .now))
 
 pub hmac-spec : {M : Type 1} → statement M
-hmac-spec =
-    tie.close
-    (tie.spec
-    masked-requires
-    digest-after-requires
-    masked-requires-2
-    slice-aggregate-digest-after
-    digest-after-requires-2
-    returns)
+hmac-spec = tie.close (tie.spec prepare-requires prepared-hmac-requires returns)

@@ -1,18 +1,8 @@
--- `sha256::digest_after` meets its contract: the first block is taken in beforehand. Assumes nothing.
-use mathlib.Core.Path.{refl}
-use Rattle.sha256.proofs.Hashed.{sha-after}
+-- `sha256::digest_after` meets its contract: a block came before the message, and nothing follows it. Assumes nothing.
+use Rattle.sha256.specs.FirstBlock.{digestAfter}
 use borrow.Author.Needs.{needs}
 use Rattle.sha256.proofs.digest_after.Statement.{statement}
 use Rattle.sha256.proofs.digest_after.Tie as tie
-
-first-requires : tie.Need-first-requires
-first-requires c κs = search needs
-
-slice-aggregate-absorb : tie.Need-slice-aggregate-absorb
-slice-aggregate-absorb c = search needs
-
-absorb-requires : tie.Need-absorb-requires
-absorb-requires c κs = search needs
 
 slice-aggregate-finish : tie.Need-slice-aggregate-finish
 slice-aggregate-finish c = search needs
@@ -24,16 +14,8 @@ finish-requires : tie.Need-finish-requires
 finish-requires c κs = search needs
 
 returns : tie.Need-returns
-returns c = cc (sha-after _ (c .before .before .before .before .before .before .args .m .now) _ (c .before .before .before .before .before .before .good .0 .1 .0 .1) refl)
+unfolding digestAfter
+returns c = cc
 
 pub digest-after-spec : {M : Type 1} → statement M
-digest-after-spec =
-    tie.close
-    (tie.spec
-    first-requires
-    slice-aggregate-absorb
-    absorb-requires
-    slice-aggregate-finish
-    add-finish
-    finish-requires
-    returns)
+digest-after-spec = tie.close (tie.spec slice-aggregate-finish add-finish finish-requires returns)

@@ -1,23 +1,14 @@
--- `sha256::digest_after_with` meets its contract: the first block is taken in beforehand. Assumes nothing.
+-- `sha256::digest_after_with` meets its contract: a block came before the message, and the digest ends it. Assumes nothing.
 use native.Mathlib.Omega.{arith}
 use mathlib.Core.Path.{_≡_}
 use mathlib.Core.List.{List, _++_, append-assoc}
 use Prim.Native.Nat.{ℕ, _+_}
 use lib.ListN.{length, length-append}
 use Rattle.sha256.specs.Sha256.{padding}
-use Rattle.sha256.proofs.Hashed.{sha-after}
+use Rattle.sha256.specs.FirstBlock.{digestAfter}
 use borrow.Author.Needs.{needs}
 use Rattle.sha256.proofs.digest_after_with.Statement.{statement}
 use Rattle.sha256.proofs.digest_after_with.Tie as tie
-
-first-requires : tie.Need-first-requires
-first-requires c κs = search needs
-
-slice-aggregate-absorb : tie.Need-slice-aggregate-absorb
-slice-aggregate-absorb c = search needs
-
-absorb-requires : tie.Need-absorb-requires
-absorb-requires c κs = search needs
 
 slice-aggregate-finish : tie.Need-slice-aggregate-finish
 slice-aggregate-finish c = search needs
@@ -32,22 +23,14 @@ finish-requires : tie.Need-finish-requires
 finish-requires c κs = search needs
 
 returns : tie.Need-returns
+unfolding digestAfter
 returns c =
-    let a = c .before .before .before .before .before .before .args in
+    let a = c .before .before .before .args in
     let m : List ℕ = a .m .now in
     let n : ℕ = 64 + length m + 32 in
     let d : length (a .t3) ≡ 32 = search needs in
-    cc (sha-after (a .t1) (m ++ a .t3) n (search needs) (omega (arith, length-append m (a .t3))), append-assoc m (a .t3) (padding n))
+    let e : 64 + length (m ++ a .t3) ≡ n = omega (arith, length-append m (a .t3)) in
+    cc (append-assoc m (a .t3) (padding n))
 
 pub digest-after-with-spec : {M : Type 1} → statement M
-digest-after-with-spec =
-    tie.close
-    (tie.spec
-    first-requires
-    slice-aggregate-absorb
-    absorb-requires
-    slice-aggregate-finish
-    add-finish
-    add-finish-2
-    finish-requires
-    returns)
+digest-after-with-spec = tie.close (tie.spec slice-aggregate-finish add-finish add-finish-2 finish-requires returns)

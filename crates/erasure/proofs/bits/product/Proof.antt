@@ -1,27 +1,15 @@
 -- After n turns the product with the highest n bits of b stands there.
 use mathlib.Core.Path.{_≡_, refl, sym, ap, ap₂, subst, _∙_}
-use mathlib.Core.Logic.{_≢_}
-use mathlib.Core.List.{List, [], _∷_, _++_, map}
-use Prim.Native.Nat.{ℕ, zero, suc, _+_, _-_, _*_, _/_, _%_, _^_, _<_, _≤_}
-use native.Mathlib.Numerals.{add-one}
+use Prim.Native.Nat.{ℕ, _+_, _-_, _/_, _^_, _≤_}
 use native.Mathlib.Omega.{arith}
 use lib.Bits.{bitXor, bitAnd}
-use lib.ListN.{length, getD, set, take, drop, length-set}
-use lib.Seq.{getD-set-same, getD-set-other}
-use mir.Val.{Fits}
-use mir.Syntax.{w8}
-use Rattle.gf256.specs.Gf.{xtime, timesBits, times, power, inverse}
-use Rattle.gf256.proofs.Fill.{fill-more}
+use Rattle.gf256.specs.Gf.{xtime, timesBits, times}
 use native.Mathlib.Nat.{div-one}
 use Rattle.erasure.specs.Lanes.{bitOf}
 use Rattle.erasure.proofs.Horner.{masked, bit-lt, bit-more}
 use borrow.Author.Needs.{needs}
 use Rattle.erasure.proofs.bits.product.Statement.{statement}
 use Rattle.erasure.proofs.bits.product.Tie as tie
-use Rattle.erasure.proofs.bits.product.Reads as reads
-use Rattle.erasure.proofs.bits.product.Lts as lts
-use Rattle.erasure.proofs.bits.double.Reads as double-reads
-use Rattle.erasure.proofs.bits.mask.Reads as mask-reads
 
 abbrev Inv-loop : tie.InvT-loop
 Inv-loop a b out₀ n₀ out n = (n ≤ 8) × (out ≡ timesBits n a (b / 2 ^ (8 - n)))

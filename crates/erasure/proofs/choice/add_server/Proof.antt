@@ -1,26 +1,18 @@
 -- The three ways out are the three cases of `more`.
-use mathlib.Core.Path.{_≡_, refl, sym, ap, ap₂, subst, _∙_}
-use mathlib.Core.Bool.{Bool, true, false}
-use mathlib.Core.List.{List, map}
-use Prim.Native.Nat.{ℕ, _+_, _-_, _<_, _≤_}
+use mathlib.Core.Path.{_≡_, sym, ap, ap₂, _∙_}
+use mathlib.Core.Bool.{true, false}
+use Prim.Native.Nat.{ℕ}
 use native.Mathlib.Numerals.{add-one}
 use native.Mathlib.Omega.{arith}
-use borrow.Author.Count.{below-more}
 use borrow.Author.Needs.{needs}
 use borrow.Author.Tests.{lt-ltb, le-ltb}
 use lib.Dec.{ltb}
-use lib.ListN.{length, getD, set, take}
-use lib.Seq.{getD-take, length-take-le, take-suc-set}
+use lib.ListN.{length, set, take}
+use lib.Seq.{take-suc-set}
 use Rattle.erasure.specs.System.{width}
-use Rattle.erasure.specs.Choice.{among, more, chosenOf, firstDifferent, serversAt}
-use Rattle.erasure.specs.Chosen.{Holds}
-use Rattle.erasure.specs.declared.choice.Chosen.{Chosen}
-use Rattle.erasure.proofs.Choosing.{among-found, among-none, more-map}
+use Rattle.erasure.specs.Choice.{among, more}
 use Rattle.erasure.proofs.choice.add_server.Statement.{statement}
 use Rattle.erasure.proofs.choice.add_server.Tie as tie
-use Rattle.erasure.proofs.choice.add_server.Reads as reads
-use Rattle.erasure.proofs.choice.add_server.Lts as lts
-use Rattle.erasure.proofs.choice.holds.Reads as holds-reads
 
 returns : tie.Need-returns
 returns c =

@@ -1,25 +1,15 @@
 -- The loop goes on only where the server is not found.
-use mathlib.Core.Path.{_≡_, refl, sym, ap, ap₂, subst, _∙_}
-use mathlib.Core.Bool.{Bool, true, false}
-use mathlib.Core.List.{List, map}
-use Prim.Native.Nat.{ℕ, _+_, _-_, _<_, _≤_}
-use native.Mathlib.Numerals.{add-one}
+use mathlib.Core.Path.{_≡_, sym, _∙_}
+use Prim.Native.Nat.{ℕ, _-_, _<_, _≤_}
 use native.Mathlib.Omega.{arith}
 use borrow.Author.Count.{below-more}
 use borrow.Author.Needs.{needs}
-use borrow.Author.Tests.{lt-ltb, le-ltb}
-use lib.Dec.{ltb}
-use lib.ListN.{length, getD, set, take}
-use lib.Seq.{getD-take, length-take-le, take-suc-set}
+use lib.ListN.{length, getD, take}
+use lib.Seq.{getD-take, length-take-le}
 use Rattle.erasure.specs.System.{width}
-use Rattle.erasure.specs.Choice.{among, more, chosenOf, firstDifferent, serversAt}
-use Rattle.erasure.specs.Chosen.{Holds}
-use Rattle.erasure.specs.declared.choice.Chosen.{Chosen}
-use Rattle.erasure.proofs.Choosing.{among-found, among-none, more-map}
+use Rattle.erasure.proofs.Choosing.{among-found, among-none}
 use Rattle.erasure.proofs.choice.holds.Statement.{statement}
 use Rattle.erasure.proofs.choice.holds.Tie as tie
-use Rattle.erasure.proofs.choice.holds.Reads as reads
-use Rattle.erasure.proofs.choice.holds.Lts as lts
 
 abbrev Inv-loop : tie.InvT-loop
 Inv-loop count s servers j₀ j = (j ≤ count) × ((i : ℕ) → i < j → getD servers i 0 ≡ s → ⊥)

@@ -1,26 +1,19 @@
 -- After i turns the choice among the first i servers is held.
 use mathlib.Core.Path.{_≡_, refl, sym, ap, ap₂, subst, _∙_}
-use mathlib.Core.Bool.{Bool, true, false}
-use mathlib.Core.List.{List, map}
-use Prim.Native.Nat.{ℕ, _+_, _-_, _<_, _≤_}
+use mathlib.Core.List.{map}
+use Prim.Native.Nat.{ℕ, _-_, _≤_}
 use native.Mathlib.Numerals.{add-one}
 use native.Mathlib.Omega.{arith}
-use borrow.Author.Count.{below-more}
 use borrow.Author.Needs.{needs}
-use borrow.Author.Tests.{lt-ltb, le-ltb}
 use lib.Dec.{ltb}
-use lib.ListN.{length, getD, set, take}
-use lib.Seq.{getD-take, length-take-le, take-suc-set}
+use lib.ListN.{length, getD, take}
+use lib.Seq.{length-take-le}
 use Rattle.erasure.specs.System.{width}
-use Rattle.erasure.specs.Choice.{among, more, chosenOf, firstDifferent, serversAt}
+use Rattle.erasure.specs.Choice.{among, more, chosenOf, firstDifferent}
 use Rattle.erasure.specs.Chosen.{Holds}
-use Rattle.erasure.specs.declared.choice.Chosen.{Chosen}
-use Rattle.erasure.proofs.Choosing.{among-found, among-none, more-map}
+use Rattle.erasure.proofs.Choosing.{more-map}
 use Rattle.erasure.proofs.choice.select.Statement.{statement}
 use Rattle.erasure.proofs.choice.select.Tie as tie
-use Rattle.erasure.proofs.choice.select.Reads as reads
-use Rattle.erasure.proofs.choice.select.Lts as lts
-use Rattle.erasure.proofs.choice.add_server.Reads as add-server-reads
 
 abbrev Inv-loop : tie.InvT-loop
 Inv-loop servers k c₀ i₀ c i = (i ≤ length servers) × (length (chosenOf k servers i) ≡ c .count) × Holds k servers (chosenOf k servers i) c

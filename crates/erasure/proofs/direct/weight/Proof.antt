@@ -1,27 +1,14 @@
 -- The loop multiplies by one factor after the other, in both products.
-use mathlib.Core.Path.{_≡_, refl, sym, ap, ap₂, subst, _∙_}
-use mathlib.Core.Logic.{_≢_}
-use mathlib.Core.List.{List, [], _∷_, _++_, map}
-use Prim.Native.Nat.{ℕ, zero, suc, _+_, _-_, _*_, _/_, _%_, _^_, _<_, _≤_}
-use native.Mathlib.Numerals.{add-one}
+use mathlib.Core.Path.{_≡_, sym, ap, ap₂, _∙_}
+use Prim.Native.Nat.{ℕ, _-_, _≤_}
 use native.Mathlib.Omega.{arith}
-use lib.Bits.{bitXor, bitAnd}
-use lib.ListN.{length, getD, set, take, drop, length-set}
-use lib.Seq.{getD-set-same, getD-set-other}
-use mir.Val.{Fits}
-use mir.Syntax.{w8}
-use Rattle.gf256.specs.Gf.{xtime, timesBits, times, power, inverse}
-use Rattle.gf256.proofs.Fill.{fill-more}
-use Rattle.erasure.specs.System.{width, productTo, factorAt, directAt}
+use lib.ListN.{getD}
+use Rattle.gf256.specs.Gf.{times, inverse}
+use Rattle.erasure.specs.System.{productTo, factorAt, directAt}
 use Rattle.erasure.proofs.Weighed.{productTo-none, productTo-more}
 use borrow.Author.Needs.{needs}
 use Rattle.erasure.proofs.direct.weight.Statement.{statement}
 use Rattle.erasure.proofs.direct.weight.Tie as tie
-use Rattle.erasure.proofs.direct.weight.Reads as reads
-use Rattle.erasure.proofs.direct.weight.Lts as lts
-use Rattle.erasure.proofs.bits.product.Reads as product-reads
-use Rattle.erasure.proofs.direct.factor.Reads as factor-reads
-use Rattle.gf256.proofs.inverse.Reads as inverse-reads
 
 abbrev Inv-loop : tie.InvT-loop
 Inv-loop k j z points x top₀ own₀ m₀ top own m = (m ≤ k) × (top ≡ productTo m (factorAt points j z)) × (own ≡ productTo m (factorAt points j x))

@@ -1,24 +1,13 @@
 -- Each entry is what `weight` gives there.
-use mathlib.Core.Path.{_≡_, refl, sym, ap, ap₂, subst, _∙_}
-use mathlib.Core.Logic.{_≢_}
-use mathlib.Core.List.{List, [], _∷_, _++_, map}
-use Prim.Native.Nat.{ℕ, zero, suc, _+_, _-_, _*_, _/_, _%_, _^_, _<_, _≤_}
-use native.Mathlib.Numerals.{add-one}
+use mathlib.Core.Path.{_≡_, refl, _∙_}
+use Prim.Native.Nat.{ℕ, _-_, _<_, _≤_}
 use native.Mathlib.Omega.{arith}
-use lib.Bits.{bitXor, bitAnd}
-use lib.ListN.{length, getD, set, take, drop, length-set}
-use lib.Seq.{getD-set-same, getD-set-other}
-use mir.Val.{Fits}
-use mir.Syntax.{w8}
-use Rattle.gf256.specs.Gf.{xtime, timesBits, times, power, inverse}
+use lib.ListN.{length, getD, length-set}
 use Rattle.gf256.proofs.Fill.{fill-more}
 use Rattle.erasure.specs.System.{width, directAt}
 use borrow.Author.Needs.{needs}
 use Rattle.erasure.proofs.direct.weights.Statement.{statement}
 use Rattle.erasure.proofs.direct.weights.Tie as tie
-use Rattle.erasure.proofs.direct.weights.Reads as reads
-use Rattle.erasure.proofs.direct.weights.Lts as lts
-use Rattle.erasure.proofs.direct.weight.Reads as weight-reads
 
 abbrev Inv-loop : tie.InvT-loop
 Inv-loop points k z out₀ j₀ out j = (j ≤ k) × (length out ≡ width) × ((i : ℕ) → i < j → getD out i 0 ≡ directAt k points z i)

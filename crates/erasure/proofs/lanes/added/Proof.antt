@@ -1,25 +1,17 @@
 -- At each place the mask lets x through, or 0.
-use mathlib.Core.Path.{_≡_, refl, sym, ap, ap₂, subst, _∙_}
-use mathlib.Core.Logic.{_≢_}
-use mathlib.Core.List.{List, [], _∷_, _++_, map}
-use Prim.Native.Nat.{ℕ, zero, suc, _+_, _-_, _*_, _/_, _%_, _^_, _<_, _≤_}
-use native.Mathlib.Numerals.{add-one}
+use mathlib.Core.Path.{_≡_, refl, ap, _∙_}
+use Prim.Native.Nat.{ℕ, _-_, _<_, _≤_}
 use native.Mathlib.Omega.{arith}
 use lib.Bits.{bitXor, bitAnd}
-use lib.ListN.{length, getD, set, take, drop, length-set}
-use lib.Seq.{getD-set-same, getD-set-other}
+use lib.ListN.{length, getD, length-set}
 use mir.Val.{Fits}
 use mir.Syntax.{w8}
-use Rattle.gf256.specs.Gf.{xtime, timesBits, times, power, inverse}
 use Rattle.gf256.proofs.Fill.{fill-more}
-use Rattle.erasure.specs.Lanes.{lane, bitOf, Lane}
+use Rattle.erasure.specs.Lanes.{lane, bitOf}
 use Rattle.erasure.proofs.Horner.{masked, bit-lt}
 use borrow.Author.Needs.{needs}
 use Rattle.erasure.proofs.lanes.added.Statement.{statement}
 use Rattle.erasure.proofs.lanes.added.Tie as tie
-use Rattle.erasure.proofs.lanes.added.Reads as reads
-use Rattle.erasure.proofs.lanes.added.Lts as lts
-use Rattle.erasure.proofs.bits.mask.Reads as mask-reads
 
 abbrev Inv-loop : tie.InvT-loop
 Inv-loop w b sum x m out₀ i₀ out i = (i ≤ lane) × (length out ≡ lane) × ((j : ℕ) → j < i → getD out j 0 ≡ bitXor (getD sum j 0) (bitAnd (getD x j 0) m))

@@ -1,29 +1,16 @@
 -- The doubled sum, and one run after the other where its weight has the bit.
-use mathlib.Core.Path.{_≡_, refl, sym, ap, ap₂, subst, _∙_}
-use mathlib.Core.Logic.{_≢_}
-use mathlib.Core.List.{List, [], _∷_, _++_, map}
-use Prim.Native.Nat.{ℕ, zero, suc, _+_, _-_, _*_, _/_, _%_, _^_, _<_, _≤_}
-use native.Mathlib.Numerals.{add-one}
+use mathlib.Core.Path.{refl, sym, ap, ap₂, _∙_}
+use Prim.Native.Nat.{ℕ, _-_, _*_, _≤_}
 use native.Mathlib.Omega.{arith}
-use lib.Bits.{bitXor, bitAnd}
-use lib.ListN.{length, getD, set, take, drop, length-set}
-use lib.Seq.{getD-set-same, getD-set-other}
-use mir.Val.{Fits}
-use mir.Syntax.{w8}
-use Rattle.gf256.specs.Gf.{xtime, timesBits, times, power, inverse}
-use Rattle.gf256.proofs.Fill.{fill-more}
-use Rattle.erasure.specs.System.{width, entry, sumTo}
-use Rattle.erasure.specs.Lanes.{lane, bitOf, Lane}
-use lib.Bits.{xor-zero-r}
+use lib.Bits.{bitXor, xor-zero-r}
+use lib.ListN.{getD}
+use Rattle.erasure.specs.System.{entry, sumTo}
+use Rattle.erasure.specs.Lanes.{bitOf, Lane}
 use Rattle.gf256.proofs.Xor.{xor-assoc}
 use Rattle.erasure.proofs.Sums.{sumTo-none, sumTo-more}
 use borrow.Author.Needs.{needs}
 use Rattle.erasure.proofs.lanes.bit_step.Statement.{statement}
 use Rattle.erasure.proofs.lanes.bit_step.Tie as tie
-use Rattle.erasure.proofs.lanes.bit_step.Reads as reads
-use Rattle.erasure.proofs.lanes.bit_step.Lts as lts
-use Rattle.erasure.proofs.lanes.added.Reads as added-reads
-use Rattle.erasure.proofs.lanes.doubled.Reads as doubled-reads
 
 abbrev Inv-loop : tie.InvT-loop
 Inv-loop lanes b k weights out₀ j₀ out j = (j ≤ k) × Lane out (λ i. bitXor (getD out₀ i 0) (sumTo j (λ m. bitOf (getD weights m 0) b * entry lanes m i)))

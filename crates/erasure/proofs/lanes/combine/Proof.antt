@@ -1,30 +1,16 @@
 -- Lane after lane is written behind the last, and each place holds its sum.
-use mathlib.Core.Path.{_≡_, refl, sym, ap, ap₂, subst, _∙_}
-use mathlib.Core.Logic.{_≢_}
-use mathlib.Core.List.{List, [], _∷_, _++_, map}
-use Prim.Native.Nat.{ℕ, zero, suc, _+_, _-_, _*_, _/_, _%_, _^_, _<_, _≤_}
-use native.Mathlib.Numerals.{add-one}
+use mathlib.Core.Path.{ap, subst, _∙_}
+use Prim.Native.Nat.{ℕ, _+_, _-_, _<_, _≤_}
 use native.Mathlib.Omega.{arith}
-use lib.Bits.{bitXor, bitAnd}
-use lib.ListN.{length, getD, set, take, drop, length-set}
-use lib.Seq.{getD-set-same, getD-set-other}
-use mir.Val.{Fits}
-use mir.Syntax.{w8}
-use Rattle.gf256.specs.Gf.{xtime, timesBits, times, power, inverse}
-use Rattle.gf256.proofs.Fill.{fill-more}
-use Rattle.erasure.specs.System.{width, entry, sumTo}
-use Rattle.erasure.specs.Lanes.{lane, Lane, sumAt, Written}
+use lib.ListN.{getD}
+use Rattle.gf256.specs.Gf.{times}
+use Rattle.erasure.specs.System.{entry}
+use Rattle.erasure.specs.Lanes.{lane, sumAt, Written}
 use Rattle.erasure.proofs.Lists.{written-none, written-on, written-as}
 use Rattle.erasure.proofs.Sums.{sumTo-ext}
 use borrow.Author.Needs.{needs}
 use Rattle.erasure.proofs.lanes.combine.Statement.{statement}
 use Rattle.erasure.proofs.lanes.combine.Tie as tie
-use Rattle.erasure.proofs.lanes.combine.Reads as reads
-use Rattle.erasure.proofs.lanes.combine.Lts as lts
-use Rattle.erasure.proofs.lanes.at_most_lane.Reads as at-most-lane-reads
-use Rattle.erasure.proofs.lanes.gather.Reads as gather-reads
-use Rattle.erasure.proofs.lanes.lane_sum.Reads as lane-sum-reads
-use Rattle.erasure.proofs.lanes.store.Reads as store-reads
 
 abbrev Inv-loop : tie.InvT-loop
 Inv-loop weights src starts k out₀ at m q₀ out q = (q ≤ m) × Written out₀ out at q (sumAt k weights src starts)

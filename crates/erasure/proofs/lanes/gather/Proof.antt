@@ -1,26 +1,16 @@
 -- Each lane is read at its run.
-use mathlib.Core.Path.{_≡_, refl, sym, ap, ap₂, subst, _∙_}
-use mathlib.Core.Logic.{_≢_}
-use mathlib.Core.List.{List, [], _∷_, _++_, map}
-use Prim.Native.Nat.{ℕ, zero, suc, _+_, _-_, _*_, _/_, _%_, _^_, _<_, _≤_}
-use native.Mathlib.Numerals.{add-one}
+use mathlib.Core.Path.{_≡_, refl, ap, _∙_}
+use mathlib.Core.List.{[]}
+use Prim.Native.Nat.{ℕ, _+_, _-_, _<_, _≤_}
 use native.Mathlib.Omega.{arith}
-use lib.Bits.{bitXor, bitAnd}
-use lib.ListN.{length, getD, set, take, drop, length-set}
-use lib.Seq.{getD-set-same, getD-set-other}
-use mir.Val.{Fits}
-use mir.Syntax.{w8}
-use Rattle.gf256.specs.Gf.{xtime, timesBits, times, power, inverse}
+use lib.ListN.{length, getD, length-set}
 use Rattle.gf256.proofs.Fill.{fill-more}
-use Rattle.erasure.specs.System.{width, entry, sumTo}
-use Rattle.erasure.specs.Lanes.{lane, bitOf, Lane}
+use Rattle.erasure.specs.System.{width}
+use Rattle.erasure.specs.Lanes.{Lane}
 use native.Mathlib.Nat.{add-assoc}
 use borrow.Author.Needs.{needs}
 use Rattle.erasure.proofs.lanes.gather.Statement.{statement}
 use Rattle.erasure.proofs.lanes.gather.Tie as tie
-use Rattle.erasure.proofs.lanes.gather.Reads as reads
-use Rattle.erasure.proofs.lanes.gather.Lts as lts
-use Rattle.erasure.proofs.lanes.lane_at.Reads as lane-at-reads
 
 abbrev Inv-loop : tie.InvT-loop
 Inv-loop src q k starts out₀ j₀ out j = (j ≤ k) × (length out ≡ width) × ((m : ℕ) → m < j → Lane (getD out m []) (λ i. getD src (getD starts m 0 + (q + i)) 0))

@@ -1,30 +1,19 @@
 -- After n turns the sum is that of the highest n bits of each weight.
-use mathlib.Core.Path.{_≡_, refl, sym, ap, ap₂, subst, _∙_}
-use mathlib.Core.Logic.{_≢_}
-use mathlib.Core.List.{List, [], _∷_, _++_, map}
-use Prim.Native.Nat.{ℕ, zero, suc, _+_, _-_, _*_, _/_, _%_, _^_, _<_, _≤_}
-use native.Mathlib.Numerals.{add-one}
+use mathlib.Core.Path.{_≡_, sym, ap, subst, _∙_}
+use Prim.Native.Nat.{ℕ, _+_, _-_, _*_, _/_, _^_, _<_, _≤_}
 use native.Mathlib.Omega.{arith}
-use lib.Bits.{bitXor, bitAnd}
-use lib.ListN.{length, getD, set, take, drop, length-set}
-use lib.Seq.{getD-set-same, getD-set-other}
-use mir.Val.{Fits}
-use mir.Syntax.{w8}
-use Rattle.gf256.specs.Gf.{xtime, timesBits, times, power, inverse}
-use Rattle.gf256.proofs.Fill.{fill-more}
-use Rattle.erasure.specs.System.{width, entry, sumTo}
+use lib.Bits.{bitXor}
+use lib.ListN.{getD, getD-replicate}
+use Rattle.gf256.specs.Gf.{xtime, timesBits, times}
+use Rattle.erasure.specs.System.{entry, sumTo}
 use Rattle.erasure.specs.Lanes.{lane, bitOf, Lane}
 use native.Mathlib.Nat.{div-one}
-use lib.ListN.{getD-replicate}
 use Rattle.erasure.proofs.Entries.{entry-byte}
 use Rattle.erasure.proofs.Sums.{sumTo-ext}
 use Rattle.erasure.proofs.Horner.{sum-bit, sum-none}
 use borrow.Author.Needs.{needs}
 use Rattle.erasure.proofs.lanes.lane_sum.Statement.{statement}
 use Rattle.erasure.proofs.lanes.lane_sum.Tie as tie
-use Rattle.erasure.proofs.lanes.lane_sum.Reads as reads
-use Rattle.erasure.proofs.lanes.lane_sum.Lts as lts
-use Rattle.erasure.proofs.lanes.bit_step.Reads as bit-step-reads
 
 abbrev Inv-loop : tie.InvT-loop
 Inv-loop weights k lanes out₀ n₀ out n = (n ≤ 8) × Lane out (λ i. sumTo k (λ j. timesBits n (entry lanes j i) (getD weights j 0 / 2 ^ (8 - n))))

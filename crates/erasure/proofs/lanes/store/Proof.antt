@@ -1,25 +1,13 @@
 -- What is written so far is written, and the rest is kept.
-use mathlib.Core.Path.{_≡_, refl, sym, ap, ap₂, subst, _∙_}
-use mathlib.Core.Logic.{_≢_}
-use mathlib.Core.List.{List, [], _∷_, _++_, map}
-use Prim.Native.Nat.{ℕ, zero, suc, _+_, _-_, _*_, _/_, _%_, _^_, _<_, _≤_}
-use native.Mathlib.Numerals.{add-one}
+use mathlib.Core.Path.{refl, subst}
+use Prim.Native.Nat.{ℕ, _-_, _≤_}
 use native.Mathlib.Omega.{arith}
-use lib.Bits.{bitXor, bitAnd}
-use lib.ListN.{length, getD, set, take, drop, length-set}
-use lib.Seq.{getD-set-same, getD-set-other}
-use mir.Val.{Fits}
-use mir.Syntax.{w8}
-use Rattle.gf256.specs.Gf.{xtime, timesBits, times, power, inverse}
-use Rattle.gf256.proofs.Fill.{fill-more}
-use Rattle.erasure.specs.Lanes.{lane, bitOf, Lane}
+use lib.ListN.{getD}
 use Rattle.erasure.specs.Lanes.{Written}
 use Rattle.erasure.proofs.Lists.{written-none, written-more}
 use borrow.Author.Needs.{needs}
 use Rattle.erasure.proofs.lanes.store.Statement.{statement}
 use Rattle.erasure.proofs.lanes.store.Tie as tie
-use Rattle.erasure.proofs.lanes.store.Reads as reads
-use Rattle.erasure.proofs.lanes.store.Lts as lts
 
 abbrev Inv-loop : tie.InvT-loop
 Inv-loop out₀ at m x i₀ out i = (i ≤ m) × Written out₀ out at i (λ j. getD x j 0)

@@ -1,23 +1,13 @@
 -- Each place is copied.
-use mathlib.Core.Path.{_≡_, refl, sym, ap, ap₂, subst, _∙_}
-use mathlib.Core.Logic.{_≢_}
-use mathlib.Core.List.{List, [], _∷_, _++_, map}
-use Prim.Native.Nat.{ℕ, zero, suc, _+_, _-_, _*_, _/_, _%_, _^_, _<_, _≤_}
-use native.Mathlib.Numerals.{add-one}
+use mathlib.Core.Path.{_≡_, refl, _∙_}
+use Prim.Native.Nat.{ℕ, _+_, _-_, _<_, _≤_}
 use native.Mathlib.Omega.{arith}
-use lib.Bits.{bitXor, bitAnd}
-use lib.ListN.{length, getD, set, take, drop, length-set}
-use lib.Seq.{getD-set-same, getD-set-other}
-use mir.Val.{Fits}
-use mir.Syntax.{w8}
-use Rattle.gf256.specs.Gf.{xtime, timesBits, times, power, inverse}
+use lib.ListN.{length, getD, length-set}
 use Rattle.gf256.proofs.Fill.{fill-more}
-use Rattle.erasure.specs.Lanes.{lane, bitOf, Lane}
+use Rattle.erasure.specs.Lanes.{lane}
 use borrow.Author.Needs.{needs}
 use Rattle.erasure.proofs.lanes.whole_lane.Statement.{statement}
 use Rattle.erasure.proofs.lanes.whole_lane.Tie as tie
-use Rattle.erasure.proofs.lanes.whole_lane.Reads as reads
-use Rattle.erasure.proofs.lanes.whole_lane.Lts as lts
 
 abbrev Inv-loop : tie.InvT-loop
 Inv-loop src at out₀ i₀ out i = (i ≤ lane) × (length out ≡ lane) × ((j : ℕ) → j < i → getD out j 0 ≡ getD src (at + j) 0)

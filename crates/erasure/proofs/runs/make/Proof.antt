@@ -1,33 +1,17 @@
 -- The weights at z make the sum at each place a value of the polynomial.
-use mathlib.Core.Path.{_≡_, refl, sym, ap, ap₂, subst, _∙_}
-use mathlib.Core.Logic.{_≢_}
-use mathlib.Core.List.{List, [], _∷_, _++_, map}
-use Prim.Native.Nat.{ℕ, zero, suc, _+_, _-_, _*_, _/_, _%_, _^_, _<_, _≤_}
-use native.Mathlib.Numerals.{add-one}
+use mathlib.Core.Path.{_≡_}
+use Prim.Native.Nat.{ℕ, _<_}
 use native.Mathlib.Omega.{arith}
-use lib.Bits.{bitXor, bitAnd}
-use lib.ListN.{length, getD, set, take, drop, length-set}
-use lib.Seq.{getD-set-same, getD-set-other}
+use lib.ListN.{length, getD}
 use mir.Val.{Fits}
 use mir.Syntax.{w8}
-use Rattle.gf256.specs.Gf.{xtime, timesBits, times, power, inverse}
-use Rattle.gf256.proofs.Fill.{fill-more}
-use Rattle.erasure.specs.Steps.{zeros, fragmentRoom}
+use Rattle.erasure.specs.Steps.{fragmentRoom}
 use Rattle.erasure.specs.System.{width, directAt}
-use Rattle.erasure.specs.Lanes.{Written}
 use Rattle.erasure.proofs.Placed.{plain-different, plain-start, plain-is, made}
 use Rattle.erasure.proofs.Weighed.{direct}
 use borrow.Author.Needs.{needs}
 use Rattle.erasure.proofs.runs.make.Statement.{statement}
 use Rattle.erasure.proofs.runs.make.Tie as tie
-use Rattle.erasure.proofs.runs.make.Reads as reads
-use Rattle.erasure.proofs.runs.make.Lts as lts
-use Rattle.erasure.proofs.direct.weights.Reads as weights-reads
-use Rattle.erasure.proofs.lanes.combine.Reads as combine-reads
-use Rattle.erasure.proofs.runs.blank.Reads as blank-reads
-use Rattle.erasure.proofs.runs.plain_places.Reads as plain-places-reads
-use Rattle.erasure.proofs.runs.plain_points.Reads as plain-points-reads
-use Rattle.erasure.proofs.runs.starts_of.Reads as starts-of-reads
 
 plain-points-requires : tie.Need-plain-points-requires
 plain-points-requires c κs = search needs

@@ -1,53 +1,60 @@
--- The run is copied behind nothing, and the rest is 00h.
-use mathlib.Core.Path.{_≡_, refl, sym, ap, ap₂, subst, _∙_}
-use mathlib.Core.Logic.{_≢_}
-use mathlib.Core.List.{List, [], _∷_, _++_, map}
-use Prim.Native.Nat.{ℕ, zero, suc, _+_, _-_, _*_, _/_, _%_, _^_, _<_, _≤_}
-use native.Mathlib.Numerals.{add-one}
+-- What the content has of the run is copied behind nothing, and the rest is 00h.
+use mathlib.Core.Path.{refl}
+use Prim.Native.Nat.{_*_, _≤_}
 use native.Mathlib.Omega.{arith}
-use lib.Bits.{bitXor, bitAnd}
-use lib.ListN.{length, getD, set, take, drop, length-set}
-use lib.Seq.{getD-set-same, getD-set-other}
-use mir.Val.{Fits}
-use mir.Syntax.{w8}
-use Rattle.gf256.specs.Gf.{xtime, timesBits, times, power, inverse}
-use Rattle.gf256.proofs.Fill.{fill-more}
-use native.Mathlib.Nat.{mul-le-mul}
+use borrow.Author.Needs.{needs}
 use Rattle.erasure.specs.Steps.{fragmentRoom}
 use Rattle.erasure.specs.System.{width}
+use Rattle.erasure.proofs.Lists.{written-none}
 use Rattle.erasure.proofs.Placed.{plain-start, copied}
-use borrow.Author.Needs.{needs}
 use Rattle.erasure.proofs.runs.plain.Statement.{statement}
 use Rattle.erasure.proofs.runs.plain.Tie as tie
-use Rattle.erasure.proofs.runs.plain.Reads as reads
-use Rattle.erasure.proofs.runs.plain.Lts as lts
-use Rattle.erasure.proofs.lanes.copy.Reads as copy-reads
-use Rattle.erasure.proofs.runs.blank.Reads as blank-reads
+
+mul-from : tie.Need-mul-from
+mul-from c =
+    let args = c .before .args in
+    let b : args .j * args .f ≤ width * fragmentRoom = plain-start width (args .f) (args .j) (args .j) (omega arith) (c .before .pre .0) (c .before .pre .1) refl in
+    omega (arith, b)
 
 blank-requires : tie.Need-blank-requires
 blank-requires c κs = search needs
 
-mul-copy : tie.Need-mul-copy
-mul-copy c =
-    let args = c .before .before .args in
-    let b : args .j * args .f ≤ width * fragmentRoom = plain-start width (args .f) (args .j) (args .j) (omega arith) (c .before .before .pre .0) (c .before .before .pre .1) refl in
-    omega (arith, b)
+returns : tie.Need-returns
+returns c =
+    let start = c .before .before .before in
+    let args = start .args in
+    copied (args .f) (args .j) 0 fragmentRoom (denote.Ref.now (args .content)) _ _ (c .before .blank .ensures) (start .pre .0) (omega arith) (λ h. absurd (omega (arith, c .if1 .taken)))
+    (written-none _ _ _)
+
+sub-at-most : tie.Need-sub-at-most
+sub-at-most c = search needs
+
+at-most-requires : tie.Need-at-most-requires
+at-most-requires c κs = search needs
 
 slice-aggregate-copy : tie.Need-slice-aggregate-copy
 slice-aggregate-copy c = search needs
 
 copy-requires : tie.Need-copy-requires
-copy-requires c κs =
-    let args = c .before .before .before .args in
-    let b : args .j * args .f ≤ width * fragmentRoom = plain-start width (args .f) (args .j) (args .j) (omega arith) (c .before .before .before .pre .0) (c .before .before .before .pre .1) refl in
-    let l : length (c .before .blank .result) ≡ fragmentRoom = search needs in
-    (omega (arith, b, c .before .before .before .pre .0), omega (arith, l, c .before .before .before .pre .0))
+copy-requires c κs = search needs
 
-returns : tie.Need-returns
-returns c =
-    let args = c .before .before .before .before .before .args in
-    copied (args .f) (args .j) fragmentRoom (denote.Ref.now (args .content)) _ _ (c .before .before .before .blank .ensures) (c .before .before .before .before .before .pre .0) (c .before .copy .ensures)
+returns-2 : tie.Need-returns-2
+returns-2 c =
+    let start = c .before .before .before .before .before .before .before in
+    let args = start .args in
+    let m = c .before .before .before .at-most in
+    copied (args .f) (args .j) (m .result) fragmentRoom (denote.Ref.now (args .content)) _ _ (c .before .before .before .before .before .blank .ensures) (start .pre .0) (m .ensures .1)
+    (m .ensures .3) (c .before .copy .ensures)
 
 pub plain-spec : {M : Type 1} → statement M
 plain-spec =
-    tie.close (tie.spec blank-requires mul-copy slice-aggregate-copy copy-requires returns)
+    tie.close
+    (tie.spec
+    mul-from
+    blank-requires
+    returns
+    sub-at-most
+    at-most-requires
+    slice-aggregate-copy
+    copy-requires
+    returns-2)

@@ -1,23 +1,13 @@
 -- Each entry is its place.
-use mathlib.Core.Path.{_≡_, refl, sym, ap, ap₂, subst, _∙_}
-use mathlib.Core.Logic.{_≢_}
-use mathlib.Core.List.{List, [], _∷_, _++_, map}
-use Prim.Native.Nat.{ℕ, zero, suc, _+_, _-_, _*_, _/_, _%_, _^_, _<_, _≤_}
-use native.Mathlib.Numerals.{add-one}
+use mathlib.Core.Path.{_≡_, refl, _∙_}
+use Prim.Native.Nat.{ℕ, _-_, _<_, _≤_}
 use native.Mathlib.Omega.{arith}
-use lib.Bits.{bitXor, bitAnd}
-use lib.ListN.{length, getD, set, take, drop, length-set}
-use lib.Seq.{getD-set-same, getD-set-other}
-use mir.Val.{Fits}
-use mir.Syntax.{w8}
-use Rattle.gf256.specs.Gf.{xtime, timesBits, times, power, inverse}
+use lib.ListN.{length, getD, length-set}
 use Rattle.gf256.proofs.Fill.{fill-more}
 use Rattle.erasure.specs.System.{width}
 use borrow.Author.Needs.{needs}
 use Rattle.erasure.proofs.runs.plain_places.Statement.{statement}
 use Rattle.erasure.proofs.runs.plain_places.Tie as tie
-use Rattle.erasure.proofs.runs.plain_places.Reads as reads
-use Rattle.erasure.proofs.runs.plain_places.Lts as lts
 
 abbrev Inv-loop : tie.InvT-loop
 Inv-loop out₀ j₀ out j = (j ≤ width) × (length out ≡ width) × ((i : ℕ) → i < j → getD out i 0 ≡ i)

@@ -1,63 +1,36 @@
 -- Run after run is written behind the last; a run begins at a multiple of its length.
-use mathlib.Core.Path.{_≡_, refl, sym, ap, ap₂, subst, _∙_}
-use mathlib.Core.Logic.{_≢_}
-use mathlib.Core.List.{List, [], _∷_, _++_, map}
-use Prim.Native.Nat.{ℕ, zero, suc, _+_, _-_, _*_, _/_, _%_, _^_, _<_, _≤_}
-use native.Mathlib.Numerals.{add-one}
+use mathlib.Core.Path.{_≡_, ap, subst, _∙_}
+use Prim.Native.Nat.{ℕ, _+_, _-_, _%_, _<_, _≤_}
+use native.Mathlib.Nat.{add-mod-right, zero-mod}
 use native.Mathlib.Omega.{arith}
-use lib.Bits.{bitXor, bitAnd}
-use lib.ListN.{length, getD, set, take, drop, length-set}
-use lib.Seq.{getD-set-same, getD-set-other}
+use borrow.Author.Needs.{needs}
+use lib.ListN.{length, getD}
 use mir.Val.{Fits}
 use mir.Syntax.{w8}
-use Rattle.gf256.specs.Gf.{xtime, timesBits, times, power, inverse}
-use Rattle.gf256.proofs.Fill.{fill-more}
-use native.Mathlib.Nat.{add-mod-right, mul-suc, zero-mod}
 use Rattle.erasure.specs.System.{width}
 use Rattle.erasure.specs.Lanes.{Written}
 use Rattle.erasure.proofs.Lists.{written-none}
-use Rattle.erasure.proofs.Placed.{rawOf, run-point, run-more, rebuilt}
-use borrow.Author.Needs.{needs}
+use Rattle.erasure.proofs.Rebuilt.{byteOf, run-point, run-more, rebuilt}
 use Rattle.erasure.proofs.runs.rebuild.Statement.{statement}
 use Rattle.erasure.proofs.runs.rebuild.Tie as tie
-use Rattle.erasure.proofs.runs.rebuild.Reads as reads
-use Rattle.erasure.proofs.runs.rebuild.Lts as lts
-use Rattle.erasure.proofs.lanes.combine.Reads as combine-reads
-use Rattle.erasure.proofs.runs.at_most.Reads as at-most-reads
-use Rattle.erasure.proofs.runs.starts_of.Reads as starts-of-reads
-use Rattle.erasure.proofs.system.solve.Reads as solve-reads
-use Rattle.erasure.proofs.system.weights.Reads as weights-reads
 
 abbrev Inv-loop : tie.InvT-loop
-Inv-loop fragments k f n out₀ a starts done₀ out done = (done ≤ n) × (done < n → done % f ≡ 0) × Written out₀ out 0 done (rawOf k f a fragments starts)
+Inv-loop fragments k f n out₀ places a starts done₀ out done = (done ≤ n) × (done < n → done % f ≡ 0) × Written out₀ out 0 done (byteOf k f a places starts fragments)
 
 abbrev μ-loop : tie.MeasureT-loop
-μ-loop fragments k f n out₀ a starts done₀ out done = n - done
+μ-loop fragments k f n out₀ places a starts done₀ out done = n - done
 
-solve-requires : tie.Need-solve-requires Inv-loop μ-loop
-solve-requires c κs = (c .before .before .pre .0, c .before .before .pre .4)
+places-of-requires : tie.Need-places-of-requires Inv-loop μ-loop
+places-of-requires c κs = c .before .before .pre .0
+
+system-of-requires : tie.Need-system-of-requires Inv-loop μ-loop
+system-of-requires c κs = (c .before .before .before .pre .0, c .before .before .before .pre .4)
 
 starts-of-requires : tie.Need-starts-of-requires Inv-loop μ-loop
-starts-of-requires c κs = (c .before .before .before .pre .0, λ j h. omega (arith, c .before .before .before .pre .5 j h))
+starts-of-requires c κs = (c .before .before .before .before .pre .0, λ j h. omega (arith, c .before .before .before .before .pre .5 j h))
 
 loop-holds : tie.Need-loop-holds Inv-loop μ-loop
 loop-holds c = (search needs, λ h. zero-mod _, written-none _ _ _)
-
-div-weights : tie.Need-div-weights Inv-loop μ-loop
-div-weights c = c .before .before .before .before .before .before .pre .1
-
-add-weights : tie.Need-add-weights Inv-loop μ-loop
-add-weights c =
-    let args = c .before .before .before .before .before .before .args in
-    omega (arith, c .before .before .before .before .before .before .pre .0, run-point (args .k) (args .f) (args .n) (c .before .loop .done) (c .before .before .before .before .before .before .pre .1) (c .before .before .before .before .before .before .pre .2) (search needs))
-
-cast-weights : tie.Need-cast-weights Inv-loop μ-loop
-cast-weights c =
-    let args = c .before .before .before .before .before .before .args in
-    omega (arith, c .before .before .before .before .before .before .pre .0, run-point (args .k) (args .f) (args .n) (c .before .loop .done) (c .before .before .before .before .before .before .pre .1) (c .before .before .before .before .before .before .pre .2) (search needs))
-
-weights-requires : tie.Need-weights-requires Inv-loop μ-loop
-weights-requires c κs = search needs
 
 sub-at-most : tie.Need-sub-at-most Inv-loop μ-loop
 sub-at-most c = search needs
@@ -65,13 +38,18 @@ sub-at-most c = search needs
 at-most-requires : tie.Need-at-most-requires Inv-loop μ-loop
 at-most-requires c κs = search needs
 
-combine-requires : tie.Need-combine-requires Inv-loop μ-loop
-combine-requires c κs =
+div-run : tie.Need-div-run Inv-loop μ-loop
+div-run c = c .before .before .before .before .before .before .before .before .pre .1
+
+run-requires : tie.Need-run-requires Inv-loop μ-loop
+run-requires c κs =
     let start = c .before .before .before .before .before .before .before .before .before in
-    let l = c .before .before .before .before .loop in
+    let args = start .args in
+    let l = c .before .before .before .loop in
     let m = c .before .at-most in (
       start .pre .0,
-      λ j h. omega (arith, c .before .before .before .before .before .starts-of .ensures j h, start .pre .5 j h, m .ensures .1),
+      run-point (args .k) (args .f) (args .n) (l .done) (start .pre .1) (start .pre .2) (omega arith),
+      λ j h. omega (arith, c .before .before .before .before .starts-of .ensures j h, start .pre .5 j h, m .ensures .1),
       omega (arith, m .ensures .0, l .inv .2 .long, start .pre .3),
     )
 
@@ -91,17 +69,16 @@ loop-again : tie.Need-loop-again Inv-loop μ-loop
 loop-again c =
     let start = c .before .before .before .before .before .before .before .before .before .before .before .before in
     let args = start .args in
-    let l = c .before .before .before .before .before .before .before .loop in
+    let l = c .before .before .before .before .before .before .loop in
     let m = c .before .before .before .before .at-most in
-    let w = c .before .before .before .before .before .weights in
-    let starts = c .before .before .before .before .before .before .before .before .starts-of in
-    let a = c .before .before .before .before .before .before .before .before .before .solve in
-    let fragments = denote.Ref.now (args .fragments) in
+    let starts = c .before .before .before .before .before .before .before .starts-of in
+    let a = c .before .before .before .before .before .before .before .before .system-of in
+    let places = c .before .before .before .before .before .before .before .before .before .places-of in
     let e : l .done % args .f ≡ 0 = l .inv .1 (omega arith) in (
       omega (arith, m .ensures .0),
       λ h. (let q : m .result ≡ args .f = m .ensures .3 (omega arith) in ap (λ (x : ℕ). (l .done + x) % args .f) q ∙ add-mod-right (l .done) (args .f) ∙ e),
-      run-more (args .k) (args .f) (l .done) (m .result) (w .result) fragments (starts .result) (denote.Ref.now (args .out)) (l .out) _ (a .result) (start .pre .0) (start .pre .1)
-          e (m .ensures .1) (w .ensures) (l .inv .2) (c .before .before .combine .ensures),
+      run-more (args .k) (args .f) (l .done) (m .result) (a .result) (places .result) (starts .result) (denote.Ref.now (args .fragments)) (denote.Ref.now (args .out)) (l .out) _ (start .pre .1) e
+          (m .ensures .1) (l .inv .2) (c .before .before .run .ensures),
     )
 
 same-length : tie.Need-same-length Inv-loop μ-loop
@@ -109,17 +86,20 @@ same-length c = c .before .loop .inv .2 .long
 
 returns : tie.Need-returns Inv-loop μ-loop
 returns c =
-    let start = c .before .before .before .before .before .before in
+    let start = c .before .before .before .before .before .before .before in
     let args = start .args in
     let l = c .before .loop in
     let starts = c .before .before .starts-of in
-    let a = c .before .before .before .solve in
+    let a = c .before .before .before .system-of in
+    let places = c .before .before .before .before .places-of in
     let fragments = denote.Ref.now (args .fragments) in
     let old = denote.Ref.now (args .out) in
-    let small : (j : ℕ) → getD fragments j 0 < 256 = λ j. (c .before .before .before .before .before .shared-slice-known .given j .fits) in
-    rebuilt (args .k) (args .f) (args .n) fragments (starts .result) (args .at) (args .servers) old (l .out) (a .result) (start .pre .0) (start .pre .1) (start .pre .2) (start .pre .3)
-    (a .ensures) (starts .ensures) small
-    (subst (λ (n : ℕ). Written old (l .out) 0 n (rawOf (args .k) (args .f) (a .result) fragments (starts .result))) (omega arith) (l .inv .2))
+    let small : (j : ℕ) → getD fragments j 0 < 256 = λ j. (c .before .before .before .before .before .before .shared-slice-known .given j .fits) in
+    let points : (j : ℕ) → j < args .k → getD (args .servers) j 0 < 256 = λ j h. (let f : Fits w8 (getD (args .servers) j 0) = search needs in f .fits) in
+    let long : length (args .servers) ≡ width = search needs in
+    rebuilt (args .k) (args .f) (args .n) (a .result) (places .result) (starts .result) fragments (args .at) (args .servers) old (l .out) (start .pre .0) (start .pre .1) (start .pre .2)
+    (start .pre .3) (omega (arith, long, start .pre .0)) (start .pre .4) points small (starts .ensures) (places .ensures) (a .ensures)
+    (subst (λ (n : ℕ). Written old (l .out) 0 n (byteOf (args .k) (args .f) (a .result) (places .result) (starts .result) fragments)) (omega arith) (l .inv .2))
 
 pub rebuild-spec : {M : Type 1} → statement M
 rebuild-spec =
@@ -127,16 +107,14 @@ rebuild-spec =
     (tie.spec
     Inv-loop
     μ-loop
-    solve-requires
+    places-of-requires
+    system-of-requires
     starts-of-requires
     loop-holds
-    div-weights
-    add-weights
-    cast-weights
-    weights-requires
     sub-at-most
     at-most-requires
-    combine-requires
+    div-run
+    run-requires
     add-done
     loop-less
     loop-again

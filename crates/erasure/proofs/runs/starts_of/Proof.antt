@@ -1,23 +1,13 @@
 -- Each entry is the place times the length of a run.
-use mathlib.Core.Path.{_≡_, refl, sym, ap, ap₂, subst, _∙_}
-use mathlib.Core.Logic.{_≢_}
-use mathlib.Core.List.{List, [], _∷_, _++_, map}
-use Prim.Native.Nat.{ℕ, zero, suc, _+_, _-_, _*_, _/_, _%_, _^_, _<_, _≤_}
-use native.Mathlib.Numerals.{add-one}
+use mathlib.Core.Path.{_≡_, refl, _∙_}
+use Prim.Native.Nat.{ℕ, _-_, _*_, _<_, _≤_}
 use native.Mathlib.Omega.{arith}
-use lib.Bits.{bitXor, bitAnd}
-use lib.ListN.{length, getD, set, take, drop, length-set}
-use lib.Seq.{getD-set-same, getD-set-other}
-use mir.Val.{Fits}
-use mir.Syntax.{w8}
-use Rattle.gf256.specs.Gf.{xtime, timesBits, times, power, inverse}
+use lib.ListN.{length, getD, length-set}
 use Rattle.gf256.proofs.Fill.{fill-more}
 use Rattle.erasure.specs.System.{width}
 use borrow.Author.Needs.{needs}
 use Rattle.erasure.proofs.runs.starts_of.Statement.{statement}
 use Rattle.erasure.proofs.runs.starts_of.Tie as tie
-use Rattle.erasure.proofs.runs.starts_of.Reads as reads
-use Rattle.erasure.proofs.runs.starts_of.Lts as lts
 
 abbrev Inv-loop : tie.InvT-loop
 Inv-loop f k at out₀ j₀ out j = (j ≤ k) × (length out ≡ width) × ((i : ℕ) → i < j → getD out i 0 ≡ getD at i 0 * f)

@@ -1,22 +1,14 @@
-use mathlib.Core.Path.{_≡_, refl, sym, ap, ap₂, subst, _∙_}
-use mathlib.Core.Logic.{_≢_}
-use mathlib.Core.List.{List, [], _∷_}
-use Prim.Native.Nat.{ℕ, zero, suc, _+_, _-_, _<_, _≤_}
-use native.Mathlib.Numerals.{add-one}
+use mathlib.Core.Path.{_≡_, refl, _∙_}
+use mathlib.Core.List.{[]}
+use Prim.Native.Nat.{ℕ, _-_, _<_, _≤_}
 use native.Mathlib.Omega.{arith}
 use borrow.Author.Needs.{needs}
-use borrow.Author.Count.{below-none}
-use lib.Bits.{bitXor}
-use lib.ListN.{length, getD, set, length-set}
-use lib.Seq.{getD-set-same, getD-set-other}
-use Rattle.gf256.specs.Gf.{times, power}
+use lib.ListN.{length, getD, length-set}
+use Rattle.gf256.specs.Gf.{power}
 use Rattle.gf256.proofs.Fill.{fill-more}
 use Rattle.erasure.specs.System.{width, entry}
 use Rattle.erasure.proofs.system.begin.Statement.{statement}
 use Rattle.erasure.proofs.system.begin.Tie as tie
-use Rattle.erasure.proofs.system.begin.Reads as reads
-use Rattle.erasure.proofs.system.begin.Lts as lts
-use Rattle.erasure.proofs.system.powers_row.Reads as powers-row-reads
 
 abbrev Inv-loop : tie.InvT-loop
 Inv-loop xs a₀ r₀ a r = (r ≤ width) × (length a ≡ width) × ((i : ℕ) → i < r → (c : ℕ) → c < width → entry a i c ≡ power (getD xs i 0) c)

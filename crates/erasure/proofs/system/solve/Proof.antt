@@ -1,31 +1,20 @@
 use mir.Val.{Fits}
 use mir.Syntax.{w8}
-use Rattle.erasure.proofs.Solved.{begun, begun-small}
+use Rattle.erasure.proofs.Solved.{begun, begun-small, mat, Small, small-out, turned-mat, half-system, point, pivot-pos, unit-law, solves, toByte}
 use Rattle.gf256.specs.Gf.{inverse}
-use mathlib.Core.Path.{_≡_, refl, sym, ap, ap₂, subst, _∙_}
-use mathlib.Core.Logic.{_≢_}
-use mathlib.Core.List.{List, [], _∷_}
-use Prim.Native.Nat.{ℕ, zero, suc, _+_, _-_, _<_, _≤_}
+use mathlib.Core.Path.{_≡_, sym, subst}
+use Prim.Native.Nat.{ℕ, _-_, _<_, _≤_}
 use native.Mathlib.Numerals.{add-one}
 use native.Mathlib.Omega.{arith}
 use borrow.Author.Needs.{needs}
-use borrow.Author.Count.{below-none}
-use lib.Bits.{bitXor}
-use lib.ListN.{length, getD, set, length-set}
-use lib.Seq.{getD-set-same, getD-set-other}
-use Rattle.gf256.specs.Gf.{times, power}
-use Rattle.gf256.proofs.Fill.{fill-more}
-use Rattle.gf256.proofs.Algebra.{Half, half-none, half-more, pow}
-use Rattle.gf256.proofs.Byte.{Byte, field, laws}
-use Rattle.gf256.proofs.Tables.{inverse-lt, power-lt}
-use Rattle.erasure.specs.System.{width, entry, SystemTurned, AllDifferent, Solves}
-use Rattle.erasure.proofs.Solved.{mat, Small, small-out, turned-mat, half-system, pow-number, point, pivot-pos, unit-law, solves, to-val, toByte}
+use lib.ListN.{length, getD}
+use Rattle.gf256.proofs.Exchange.{Half, half-none, half-more}
+use Rattle.gf256.proofs.Powers.{pow}
+use Rattle.gf256.proofs.Byte.{field, laws}
+use Rattle.gf256.proofs.Tables.{inverse-lt}
+use Rattle.erasure.specs.System.{width, entry}
 use Rattle.erasure.proofs.system.solve.Statement.{statement}
 use Rattle.erasure.proofs.system.solve.Tie as tie
-use Rattle.erasure.proofs.system.solve.Reads as reads
-use Rattle.erasure.proofs.system.solve.Lts as lts
-use Rattle.erasure.proofs.system.begin.Reads as begin-reads
-use Rattle.erasure.proofs.system.turn.Reads as turn-reads
 
 abbrev Inv-loop : tie.InvT-loop
 Inv-loop k a₀ p₀ a p = (p ≤ k) × Small a × Half field laws k (mat a₀) p (mat a)

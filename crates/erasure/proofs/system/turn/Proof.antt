@@ -1,26 +1,16 @@
 use Rattle.gf256.specs.Gf.{inverse}
 use Rattle.erasure.proofs.Rows.{system-turned}
-use mathlib.Core.Path.{_≡_, refl, sym, ap, ap₂, subst, _∙_}
-use mathlib.Core.Logic.{_≢_}
-use mathlib.Core.List.{List, [], _∷_}
-use Prim.Native.Nat.{ℕ, zero, suc, _+_, _-_, _<_, _≤_}
-use native.Mathlib.Numerals.{add-one}
+use mathlib.Core.Path.{_≡_, refl, subst, _∙_}
+use mathlib.Core.List.{List, []}
+use Prim.Native.Nat.{ℕ, _-_, _<_, _≤_}
 use native.Mathlib.Omega.{arith}
 use borrow.Author.Needs.{needs}
-use borrow.Author.Count.{below-none}
-use lib.Bits.{bitXor}
 use lib.ListN.{length, getD, set, length-set}
-use lib.Seq.{getD-set-same, getD-set-other}
-use Rattle.gf256.specs.Gf.{times, power}
+use lib.Seq.{getD-set-other}
 use Rattle.gf256.proofs.Fill.{fill-more}
-use Rattle.erasure.specs.System.{width, entry, RowTurned, SystemTurned}
+use Rattle.erasure.specs.System.{width, RowTurned, SystemTurned}
 use Rattle.erasure.proofs.system.turn.Statement.{statement}
 use Rattle.erasure.proofs.system.turn.Tie as tie
-use Rattle.erasure.proofs.system.turn.Reads as reads
-use Rattle.erasure.proofs.system.turn.Lts as lts
-use Rattle.gf256.proofs.inverse.Reads as inverse-reads
-use Rattle.erasure.proofs.system.turn_row.Reads as turn-row-reads
-use Rattle.erasure.proofs.system.unit_row.Reads as unit-row-reads
 
 abbrev Inv-loop : tie.InvT-loop
 Inv-loop p pivot d out₀ r₀ out r = (r ≤ width) × (length out ≡ width) × ((j : ℕ) → j < r → RowTurned (getD out₀ j []) pivot d p (getD out j [])) × ((j : ℕ) → r ≤ j → getD out j [] ≡ getD out₀ j [])

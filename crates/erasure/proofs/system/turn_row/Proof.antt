@@ -1,22 +1,17 @@
 use Rattle.erasure.specs.System.{width}
 use mathlib.Core.List.{[], _∷_}
-use lib.ListN.{length-set}
-use mathlib.Core.Path.{_≡_, refl, sym, ap, subst, _∙_}
-use Prim.Native.Nat.{ℕ, suc, _+_, _-_, _<_, _≤_}
-use native.Mathlib.Numerals.{add-one}
+use lib.ListN.{length-set, length, getD}
+use mathlib.Core.Path.{_≡_, refl, ap, _∙_}
+use Prim.Native.Nat.{ℕ, _-_, _<_, _≤_}
 use native.Mathlib.Omega.{arith}
 use borrow.Author.Needs.{needs}
 use borrow.Author.Count.{below-none}
 use lib.Bits.{bitXor}
-use lib.ListN.{length, getD, set}
 use lib.Seq.{getD-set-same, getD-set-other}
-use Rattle.gf256.specs.Gf.{times, power}
+use Rattle.gf256.specs.Gf.{times}
 use Rattle.gf256.proofs.Fill.{fill-more}
 use Rattle.erasure.proofs.system.turn_row.Statement.{statement}
 use Rattle.erasure.proofs.system.turn_row.Tie as tie
-use Rattle.erasure.proofs.system.turn_row.Reads as reads
-use Rattle.erasure.proofs.system.turn_row.Lts as lts
-use Rattle.erasure.proofs.bits.product.Reads as product-reads
 
 abbrev Inv-loop : tie.InvT-loop
 Inv-loop d p row pivot w out₀ c₀ out c = (c ≤ width) × (length out ≡ width) × ((j : ℕ) → j < c → getD out j 0 ≡ bitXor (getD row j 0) (times w (getD pivot j 0)))

@@ -1,6 +1,6 @@
 -- The loop adds one product after the other.
-use mathlib.Core.Path.{_≡_, refl, sym, ap, _∙_}
-use Prim.Native.Nat.{ℕ, _+_, _-_, _<_, _≤_}
+use mathlib.Core.Path.{_≡_, sym, ap, _∙_}
+use Prim.Native.Nat.{ℕ, _-_, _≤_}
 use native.Mathlib.Omega.{arith}
 use lib.ListN.{getD}
 use Rattle.gf256.specs.Gf.{times}
@@ -9,9 +9,6 @@ use Rattle.erasure.proofs.Sums.{sumTo-none, sumTo-more}
 use borrow.Author.Needs.{needs}
 use Rattle.erasure.proofs.system.weight.Statement.{statement}
 use Rattle.erasure.proofs.system.weight.Tie as tie
-use Rattle.erasure.proofs.system.weight.Reads as reads
-use Rattle.erasure.proofs.system.weight.Lts as lts
-use Rattle.erasure.proofs.bits.product.Reads as product-reads
 
 abbrev Inv-loop : tie.InvT-loop
 Inv-loop k j a powers acc₀ c₀ acc c = (c ≤ k) × (acc ≡ sumTo c (λ i. times (getD powers i 0) (entry a i j)))

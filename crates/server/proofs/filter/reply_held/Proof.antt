@@ -15,11 +15,8 @@ use Rattle.wire.proofs.make.make_packet.Reads as make-packet-reads
 held-head-requires : tie.Need-held-head-requires
 held-head-requires c κs = search needs
 
-slice-aggregate-part : tie.Need-slice-aggregate-part
-slice-aggregate-part c = search needs
-
-part-requires : tie.Need-part-requires
-part-requires c κs = search needs
+slice-aggregate-find : tie.Need-slice-aggregate-find
+slice-aggregate-find c = search needs
 
 find-requires : tie.Need-find-requires
 find-requires c κs = search needs
@@ -36,8 +33,8 @@ reply-head-requires c κs = search needs
 slice-aggregate-make-packet : tie.Need-slice-aggregate-make-packet
 slice-aggregate-make-packet c = search needs
 
-part-requires-2 : tie.Need-part-requires-2
-part-requires-2 c κs = search needs
+part-requires : tie.Need-part-requires
+part-requires c κs = search needs
 
 make-packet-requires : tie.Need-make-packet-requires
 make-packet-requires c κs = search needs
@@ -47,8 +44,8 @@ same-length c = search needs
 
 returns : tie.Need-returns
 returns c =
-    let a = c .before .before .before .before .before .before .before .before .before .before .before .before .before .before .before .args in
-    held-nothing (a .memory .now) (λ i. c .before .before .before .before .before .before .before .before .before .before .before .before .before .before .shared-slice-known .given i .fits) (a .head) (a .n) (a .stamp) (a .out .now) (c .before .before .before .before .before .before .before .before .before .before .before .before .held-head .ensures) (c .before .before .before .before .before .before .before .before .before .before .part .ensures) (c .before .before .before .before .before .before .before .before .before .find .result) (c .before .before .before .before .before .before .before .before .before .find .ensures) (c .before .before .before .before .before .before .before .enum-told .given .1) (c .before .before .before .before .part2 .ensures) (c .before .before .before .before .before .before .reply-head .ensures) (c .before .before .make-packet .ensures)
+    let a = c .before .before .before .before .before .before .before .before .before .before .before .before .before .before .args in
+    held-nothing (a .memory .now) (λ i. c .before .before .before .before .before .before .before .before .before .before .before .before .before .shared-slice-known .given i .fits) (a .head) (a .n) (a .top) (a .stamp) (a .out .now) (c .before .before .before .before .before .before .before .before .before .before .before .held-head .ensures) (c .before .before .before .before .before .before .before .before .before .find .result) (c .before .before .before .before .before .before .before .before .before .find .ensures) (c .before .before .before .before .before .before .before .enum-told .given .1) (c .before .before .before .before .part .ensures) (c .before .before .before .before .before .before .reply-head .ensures) (c .before .before .make-packet .ensures)
 
 held-head-requires-2 : tie.Need-held-head-requires-2
 held-head-requires-2 c κs = search needs
@@ -70,22 +67,21 @@ same-length-2 c = search needs
 
 returns-2 : tie.Need-returns-2
 returns-2 c =
-    let a = c .before .before .before .before .before .before .before .before .before .before .before .before .before .before .before .before .before .args in
-    held-share (a .memory .now) (λ i. c .before .before .before .before .before .before .before .before .before .before .before .before .before .before .before .before .shared-slice-known .given i .fits) (a .head) (a .n) (a .stamp) (a .out .now) (c .before .before .before .before .before .before .before .before .before .before .before .before .before .before .held-head .ensures) (c .before .before .before .before .before .before .before .before .before .before .before .before .part .ensures) (c .before .before .before .before .before .before .before .before .before .before .before .find .result) (c .before .before .before .before .before .before .before .before .before .before .before .find .ensures) (c .before .before .before .before .before .before .before .before .before .at .given .1) (c .before .before .before .before .before .before .before .held-head2 .ensures) (c .before .before .before .before .share-bytes .ensures) (c .before .before .before .before .before .before .reply-head2 .ensures) (c .before .before .make-packet2 .ensures)
+    let a = c .before .before .before .before .before .before .before .before .before .before .before .before .before .before .before .before .args in
+    held-share (a .memory .now) (λ i. c .before .before .before .before .before .before .before .before .before .before .before .before .before .before .before .shared-slice-known .given i .fits) (a .head) (a .n) (a .top) (a .stamp) (a .out .now) (c .before .before .before .before .before .before .before .before .before .before .before .before .before .held-head .ensures) (c .before .before .before .before .before .before .before .before .before .before .before .find .result) (c .before .before .before .before .before .before .before .before .before .before .before .find .ensures) (c .before .before .before .before .before .before .before .before .before .at .given .1) (c .before .before .before .before .before .before .before .held-head2 .ensures) (c .before .before .before .before .share-bytes .ensures) (c .before .before .before .before .before .before .reply-head2 .ensures) (c .before .before .make-packet2 .ensures)
 
 pub reply-held-spec : {M : Type 1} → statement M
 reply-held-spec =
     tie.close
     (tie.spec
     held-head-requires
-    slice-aggregate-part
-    part-requires
+    slice-aggregate-find
     find-requires
     enum-known-at
     enum-told
     reply-head-requires
     slice-aggregate-make-packet
-    part-requires-2
+    part-requires
     make-packet-requires
     same-length
     returns

@@ -136,19 +136,19 @@ rest-requires c κs = search needs
 all-zero-requires : tie.Need-all-zero-requires
 all-zero-requires c κs = search needs
 
-cast-t24 : tie.Need-cast-t24
-cast-t24 c =
+cast-t25 : tie.Need-cast-t25
+cast-t25 c =
     let x = rw (c .before .before .before .before .before .before .before .before .before .before .before .before .before .before .before .before .before .before .before .before .before .t .given .1) at (c .before .before .before .before .before .before .before .before .before .before .before .before .before .before .before .before .before .before .before .before .before .before .before .byte-field .ensures) in
     omega (arith, byte-range 1 topFaults x .1)
 
-cast-t25 : tie.Need-cast-t25
-cast-t25 c =
+cast-t26 : tie.Need-cast-t26
+cast-t26 c =
     let x = rw (c .before .before .before .before .before .before .before .before .before .before .before .before .before .before .before .before .before .before .before .before .before .t .given .1) at (c .before .before .before .before .before .before .before .before .before .before .before .before .before .before .before .before .before .before .before .before .before .before .before .byte-field .ensures) in
     let y = rw (c .before .before .before .before .before .before .before .before .before .before .before .before .before .before .before .before .server .given .1) at (c .before .before .before .before .before .before .before .before .before .before .before .before .before .before .before .before .before .before .byte-field2 .ensures) in
     omega (arith, servers-most (byte-range 1 topFaults x .1) (c .before .before .before .before .before .before .before .before .before .before .before .before .before .before .before .before .before .before .before .servers .ensures), byte-range 1 _ y .1)
 
-cast-t26 : tie.Need-cast-t26
-cast-t26 c = search needs
+cast-t27 : tie.Need-cast-t27
+cast-t27 c = search needs
 
 returns-7 : tie.Need-returns-7
 returns-7 c =
@@ -203,8 +203,8 @@ open-spec =
     returns-6
     rest-requires
     all-zero-requires
-    cast-t24
     cast-t25
     cast-t26
+    cast-t27
     returns-7
     returns-8)

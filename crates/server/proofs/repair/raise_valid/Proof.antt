@@ -18,13 +18,13 @@ same-length : tie.Need-same-length
 same-length c = search needs
 
 returns : tie.Need-returns
-returns c = raised-valid (c .before .before .before .before .before .before .before .before .before .args .memory .now) (λ i. c .before .before .before .before .before .before .before .before .slice-known .given i .fits) (c .before .before .before .before .before .before .before .before .before .args .key) (c .before .before .before .before .before .before .before .before .before .args .t) (c .before .before .before .before .before .before .before .before .before .args .server) (c .before .before .before .before .before .before .before .before .before .args .n) (c .before .before .before .before .before .before .before .before .before .args .candidate .now) (λ i. c .before .before .before .before .before .before .before .shared-slice-known .given i .fits) (c .before .before .before .before .before .valid .ensures) (c .before .before .before .before .if1 .taken) (c .before .before .raise .ensures)
+returns c = raised-valid (c .before .before .before .before .before .before .before .before .before .args .memory .now) (λ i. c .before .before .before .before .before .before .before .before .slice-known .given i .fits) (c .before .before .before .before .before .before .before .before .before .args .key) (c .before .before .before .before .before .before .before .before .before .args .t) (c .before .before .before .before .before .before .before .before .before .args .server) (c .before .before .before .before .before .before .before .before .before .args .n) (c .before .before .before .before .before .before .before .before .before .args .top) (c .before .before .before .before .before .before .before .before .before .args .candidate .now) (λ i. c .before .before .before .before .before .before .before .shared-slice-known .given i .fits) (c .before .before .before .before .before .valid .ensures) (c .before .before .before .before .if1 .taken) (c .before .before .raise .ensures)
 
 same-length-2 : tie.Need-same-length-2
 same-length-2 c = search needs
 
 returns-2 : tie.Need-returns-2
-returns-2 c = left-invalid (c .before .before .before .before .before .args .memory .now) (λ i. c .before .before .before .before .slice-known .given i .fits) (c .before .before .before .before .before .args .key) (c .before .before .before .before .before .args .t) (c .before .before .before .before .before .args .server) (c .before .before .before .before .before .args .n) (c .before .before .before .before .before .args .candidate .now) (λ i. c .before .before .before .shared-slice-known .given i .fits) (c .before .valid .ensures) (c .if1 .left)
+returns-2 c = left-invalid (c .before .before .before .before .before .args .memory .now) (λ i. c .before .before .before .before .slice-known .given i .fits) (c .before .before .before .before .before .args .key) (c .before .before .before .before .before .args .t) (c .before .before .before .before .before .args .server) (c .before .before .before .before .before .args .n) (c .before .before .before .before .before .args .top) (c .before .before .before .before .before .args .candidate .now) (λ i. c .before .before .before .shared-slice-known .given i .fits) (c .before .valid .ensures) (c .if1 .left)
 
 pub raise-valid-spec : {M : Type 1} → statement M
 raise-valid-spec =

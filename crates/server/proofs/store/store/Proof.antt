@@ -9,11 +9,10 @@ use Rattle.server.proofs.store.store.Lts as lts
 use Rattle.server.proofs.memory.find.Reads as find-reads
 use Rattle.server.proofs.store.store_reply.Reads as store-reply-reads
 use Rattle.server.proofs.store.keep_write.Reads as keep-write-reads
-use Rattle.wire.proofs.bytes.part.Reads as part-reads
 use Rattle.wire.proofs.bytes.rest.Reads as rest-reads
 
-part-requires : tie.Need-part-requires
-part-requires c κs = search needs
+rest-requires : tie.Need-rest-requires
+rest-requires c κs = search needs
 
 find-requires : tie.Need-find-requires
 find-requires c κs = search needs
@@ -36,8 +35,8 @@ same-length-2 c = search needs
 returns : tie.Need-returns
 returns c =
     λ key o dec k room.
-    answer-held (λ i. c .before .before .before .before .before .before .before .before .before .before .before .slice-known .given i .fits) (c .before .before .before .before .before .before .before .before .before .before .before .before .args .packet .now) (λ i. c .before .before .before .before .before .before .before .before .before .before .shared-slice-known .given i .fits) (c .before .before .before .before .before .before .before .before .before .before .before .before .args .out .now) (c .before .before .before .before .before .before .before .before .before .before .before .before .args .head) key o dec k room (c .before .before .before .before .before .before .before .part .ensures) (c .before .before .before .before .before .before .find .ensures)
-    (c .before .before .before .before .enum-told2 .given .1) (c .before .before .store-reply .ensures)
+    let a = c .before .before .before .before .before .before .before .before .before .before .before .before .args in
+    answer-held (λ i. c .before .before .before .before .before .before .before .before .before .before .before .slice-known .given i .fits) (a .packet .now) (λ i. c .before .before .before .before .before .before .before .before .before .before .shared-slice-known .given i .fits) (a .out .now) (a .head) key o dec k room (c .before .before .before .before .before .before .before .before .rest .ensures) (c .before .before .before .before .before .before .find .ensures) (c .before .before .before .before .enum-told2 .given .1) (c .before .before .store-reply .ensures)
 
 store-reply-requires-2 : tie.Need-store-reply-requires-2
 store-reply-requires-2 c κs = search needs
@@ -51,11 +50,8 @@ same-length-4 c = search needs
 returns-2 : tie.Need-returns-2
 returns-2 c =
     λ key o dec k room.
-    answer-full (λ i. c .before .before .before .before .before .before .before .before .before .before .before .before .slice-known .given i .fits) (c .before .before .before .before .before .before .before .before .before .before .before .before .before .args .packet .now) (λ i. c .before .before .before .before .before .before .before .before .before .before .before .shared-slice-known .given i .fits) (c .before .before .before .before .before .before .before .before .before .before .before .before .before .args .out .now) (c .before .before .before .before .before .before .before .before .before .before .before .before .before .args .head) key o dec k room (c .before .before .before .before .before .before .before .before .part .ensures) (c .before .before .before .before .before .before .before .find .ensures)
-    (c .before .before .before .before .before .enum-told .given .1) (omega arith) (c .before .before .store-reply2 .ensures)
-
-rest-requires : tie.Need-rest-requires
-rest-requires c κs = search needs
+    let a = c .before .before .before .before .before .before .before .before .before .before .before .before .before .args in
+    answer-full (λ i. c .before .before .before .before .before .before .before .before .before .before .before .before .slice-known .given i .fits) (a .packet .now) (λ i. c .before .before .before .before .before .before .before .before .before .before .before .shared-slice-known .given i .fits) (a .out .now) (a .head) key o dec k room (c .before .before .before .before .before .before .before .before .before .rest .ensures) (c .before .before .before .before .before .before .before .find .ensures) (c .before .before .before .before .before .enum-told .given .1) (omega arith) (c .before .before .store-reply2 .ensures)
 
 keep-write-requires : tie.Need-keep-write-requires
 keep-write-requires c κs = search needs
@@ -72,14 +68,14 @@ same-length-6 c = search needs
 returns-3 : tie.Need-returns-3
 returns-3 c =
     λ key o dec k room.
-    answer-kept (λ i. c .before .before .before .before .before .before .before .before .before .before .before .before .before .before .before .before .before .slice-known .given i .fits) (c .before .before .before .before .before .before .before .before .before .before .before .before .before .before .before .before .before .before .args .packet .now) (λ i. c .before .before .before .before .before .before .before .before .before .before .before .before .before .before .before .before .shared-slice-known .given i .fits) (c .before .before .before .before .before .before .before .before .before .before .before .before .before .before .before .before .before .before .args .out .now) (c .before .before .before .before .before .before .before .before .before .before .before .before .before .before .before .before .before .before .args .head) key o dec k room (c .before .before .before .before .before .before .before .before .before .before .before .before .before .part .ensures) (c .before .before .before .before .before .before .before .before .before .before .before .before .find .ensures)
-    (c .before .before .before .before .before .before .before .before .before .before .enum-told .given .1) (omega arith) (c .before .before .before .before .before .before .before .rest .ensures) (c .before .before .before .before .before .before .keep-write .ensures) (c .before .before .store-reply3 .ensures)
+    let a = c .before .before .before .before .before .before .before .before .before .before .before .before .before .before .before .before .before .args in
+    answer-kept (λ i. c .before .before .before .before .before .before .before .before .before .before .before .before .before .before .before .before .slice-known .given i .fits) (a .packet .now) (λ i. c .before .before .before .before .before .before .before .before .before .before .before .before .before .before .before .shared-slice-known .given i .fits) (a .out .now) (a .head) key o dec k room (c .before .before .before .before .before .before .before .before .before .before .before .before .before .rest .ensures) (c .before .before .before .before .before .before .before .before .before .before .before .find .ensures) (c .before .before .before .before .before .before .before .before .before .enum-told .given .1) (omega arith) (c .before .before .before .before .before .before .keep-write .ensures) (c .before .before .store-reply3 .ensures)
 
 pub store-spec : {M : Type 1} → statement M
 store-spec =
     tie.close
     (tie.spec
-    part-requires
+    rest-requires
     find-requires
     enum-told
     enum-told-2
@@ -91,7 +87,6 @@ store-spec =
     same-length-3
     same-length-4
     returns-2
-    rest-requires
     keep-write-requires
     store-reply-requires-3
     same-length-5

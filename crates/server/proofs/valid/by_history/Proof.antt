@@ -8,12 +8,8 @@ use Rattle.server.proofs.valid.by_history.Reads as reads
 use Rattle.server.proofs.valid.by_history.Lts as lts
 use Rattle.server.proofs.memory.find.Reads as find-reads
 use Rattle.server.proofs.valid.nonce_digest.Reads as nonce-digest-reads
-use Rattle.wire.proofs.bytes.part.Reads as part-reads
 use Rattle.wire.proofs.bytes.rest.Reads as rest-reads
 use Rattle.wire.proofs.bytes.same.Reads as same-reads
-
-part-requires : tie.Need-part-requires
-part-requires c κs = search needs
 
 find-requires : tie.Need-find-requires
 find-requires c κs = search needs
@@ -25,7 +21,7 @@ enum-told : tie.Need-enum-told
 enum-told c = search needs
 
 returns : tie.Need-returns
-returns c = history-none (shelf (c .before .before .before .before .before .before .args .t)) (c .before .before .before .before .before .before .args .n) (c .before .before .before .before .before .before .args .memory .now) (c .before .before .before .before .before .before .args .candidate .now) (c .before .before .before .before .before .before .args .t5) (c .before .before .before .part .ensures) (c .before .before .find .ensures) (c .enum-told .given .1)
+returns c = let a = c .before .before .before .before .before .args in history-none (shelf (a .t)) (a .n) (a .top) (a .memory .now) (a .candidate .now) (a .t6) (c .before .before .find .ensures) (c .enum-told .given .1)
 
 rest-requires : tie.Need-rest-requires
 rest-requires c κs = search needs
@@ -43,13 +39,12 @@ same-requires : tie.Need-same-requires
 same-requires c κs = search needs
 
 returns-2 : tie.Need-returns-2
-returns-2 c = history-found (shelf (c .before .before .before .before .before .before .before .before .before .before .before .before .args .t)) (c .before .before .before .before .before .before .before .before .before .before .before .before .args .n) (c .before .before .before .before .before .before .before .before .before .before .before .before .args .memory .now) (c .before .before .before .before .before .before .before .before .before .before .before .before .args .candidate .now) (c .before .before .before .before .before .before .before .before .before .before .before .before .args .t5) (c .before .before .before .before .before .before .before .before .before .part .ensures) (c .before .before .before .before .before .before .before .before .find .ensures) (c .before .before .before .before .before .before .at .given .1) (c .before .before .before .before .rest .ensures) (c .before .before .before .rest2 .ensures) (c .before .before .nonce-digest .ensures) (c .same .ensures)
+returns-2 c = let a = c .before .before .before .before .before .before .before .before .before .before .before .args in history-found (shelf (a .t)) (a .n) (a .top) (a .memory .now) (a .candidate .now) (a .t6) (c .before .before .before .before .before .before .before .before .find .ensures) (c .before .before .before .before .before .before .at .given .1) (c .before .before .before .before .rest .ensures) (c .before .before .before .rest2 .ensures) (c .before .before .nonce-digest .ensures) (c .same .ensures)
 
 pub by-history-spec : {M : Type 1} → statement M
 by-history-spec =
     tie.close
     (tie.spec
-    part-requires
     find-requires
     enum-known-at
     enum-told

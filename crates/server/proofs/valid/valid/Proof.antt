@@ -20,13 +20,13 @@ by-history-requires : tie.Need-by-history-requires
 by-history-requires c κs = search needs
 
 returns : tie.Need-returns
-returns c = valid-history (c .before .before .before .before .before .before .args .memory .now) (c .before .before .before .before .before .before .args .key) (c .before .before .before .before .before .before .args .t) (c .before .before .before .before .before .before .args .server) (c .before .before .before .before .before .before .args .n) (c .before .before .before .before .before .before .args .candidate .now) (c .before .before .before .part .ensures) (c .before .before .digest .ensures) (c .before .by-history .ensures) (c .if1 .taken)
+returns c = valid-history (c .before .before .before .before .before .before .args .memory .now) (c .before .before .before .before .before .before .args .key) (c .before .before .before .before .before .before .args .t) (c .before .before .before .before .before .before .args .server) (c .before .before .before .before .before .before .args .n) (c .before .before .before .before .before .before .args .top) (c .before .before .before .before .before .before .args .candidate .now) (c .before .before .before .part .ensures) (c .before .before .digest .ensures) (c .before .by-history .ensures) (c .if1 .taken)
 
 by-tag-requires : tie.Need-by-tag-requires
 by-tag-requires c κs = search needs
 
 returns-2 : tie.Need-returns-2
-returns-2 c = valid-tag (c .before .before .before .before .before .before .before .args .memory .now) (c .before .before .before .before .before .before .before .args .key) (c .before .before .before .before .before .before .before .args .t) (c .before .before .before .before .before .before .before .args .server) (c .before .before .before .before .before .before .before .args .n) (c .before .before .before .before .before .before .before .args .candidate .now) (c .before .before .before .before .part .ensures) (c .before .before .before .digest .ensures) (c .before .before .by-history .ensures) (c .before .if1 .left) (c .by-tag .ensures)
+returns-2 c = valid-tag (c .before .before .before .before .before .before .before .args .memory .now) (c .before .before .before .before .before .before .before .args .key) (c .before .before .before .before .before .before .before .args .t) (c .before .before .before .before .before .before .before .args .server) (c .before .before .before .before .before .before .before .args .n) (c .before .before .before .before .before .before .before .args .top) (c .before .before .before .before .before .before .before .args .candidate .now) (c .before .before .before .before .part .ensures) (c .before .before .before .digest .ensures) (c .before .before .by-history .ensures) (c .before .if1 .left) (c .by-tag .ensures)
 
 pub valid-spec : {M : Type 1} → statement M
 valid-spec =

@@ -1,10 +1,8 @@
-use lib.ListN.{getD}
+-- The table is that of the powers, entry by entry.
 use Rattle.gf256.proofs.Tables.{powers, powers-at}
 use borrow.Author.Needs.{needs}
-use Rattle.gf256.proofs.power_of.Statement.{statement}
-use Rattle.gf256.proofs.power_of.Tie as tie
-use Rattle.gf256.proofs.power_of.Reads as reads
-use Rattle.gf256.proofs.power_of.Lts as lts
+use Rattle.gf256.proofs.logarithms.power_of.Statement.{statement}
+use Rattle.gf256.proofs.logarithms.power_of.Tie as tie
 
 array-read-result : tie.Need-array-read-result
 array-read-result c = search needs

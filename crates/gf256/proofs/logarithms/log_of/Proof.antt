@@ -1,3 +1,4 @@
+-- The table is that of the logarithms, entry by entry; entry a - 1 is that of a.
 use mathlib.Core.Path.{_≡_, sym, ap, subst, _∙_}
 use Prim.Native.Nat.{ℕ, _-_, _<_}
 use native.Mathlib.Omega.{arith}
@@ -5,11 +6,8 @@ use Rattle.gf256.specs.Gf.{power}
 use lib.ListN.{getD}
 use Rattle.gf256.proofs.Tables.{logs, logs-at, logs-lt}
 use borrow.Author.Needs.{needs}
-use Rattle.gf256.proofs.log_of.Statement.{statement}
-use Rattle.gf256.proofs.log_of.Tie as tie
-use Rattle.gf256.proofs.log_of.Reads as reads
-use Rattle.gf256.proofs.log_of.Lts as lts
-use Rattle.gf256.proofs.wide.Reads as wide-reads
+use Rattle.gf256.proofs.logarithms.log_of.Statement.{statement}
+use Rattle.gf256.proofs.logarithms.log_of.Tie as tie
 
 wide-requires : tie.Need-wide-requires
 wide-requires c κs = search needs

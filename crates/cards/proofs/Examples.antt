@@ -1,5 +1,5 @@
--- Runs computed from the definitions, on values, with toy primitives that can be followed by eye: t = 1, four servers, quorum 3, k = 2.
--- Each holds by computation alone. Nothing is assumed.
+-- Runs computed from protocol's definitions, on values, with toy primitives that can be followed by eye: t = 1, four servers, quorum 3, k = 2.
+-- Each holds by computation alone. They stand in no crate below the theorem, so that a wrong shelf that they refuse reaches the theorem. Assumes nothing.
 use mathlib.Core.Path.{_≡_, refl}
 use mathlib.Core.Bool.{true}
 use mathlib.Core.List.{List, [], _∷_, _++_}

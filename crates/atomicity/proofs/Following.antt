@@ -1,0 +1,76 @@
+-- What is known of the call that takes a reply, after the reply: stated for every hand and result, and shown where the hand moves on and the call
+-- stays as it was.
+-- Assumes nothing.
+use mathlib.Core.Path.{_≡_, refl, sym, ap, _∙_, subst}
+use mathlib.Core.Bool.{Bool, true, false, _||_}
+use mathlib.Core.List.{_∷_}
+use Prim.Native.Nat.{ℕ, _<_}
+use native.Mathlib.Omega.{arith}
+use lib.Dec.{eqb}
+use lib.ListN.{length}
+use Rattle.protocol.specs.declared.Stamp.{Stamp}
+use Rattle.protocol.specs.Client.{Client, Hand, Turn, more, awaits}
+use Rattle.atomicity.specs.Lists.{In}
+use Rattle.atomicity.specs.Steps.{Stamped, stampedFrom}
+use Rattle.atomicity.specs.Claim.{Call, follow, reach}
+use Rattle.atomicity.proofs.Util.{clash}
+use Rattle.atomicity.proofs.Setup.{Setup, Steps, StepOf, calls}
+use Rattle.atomicity.proofs.Rounds.{since}
+use Rattle.atomicity.proofs.States.{TopAt}
+use Rattle.atomicity.proofs.Turns.{ResultOk}
+use Rattle.atomicity.proofs.Invariant.{Ends, ends-top}
+use Rattle.atomicity.proofs.Calls.{MarkAt, ends-since, ends-back, Base, Cur, base-up, cur-up, Keeps, keeps-refl}
+
+-- reached stays as it is
+pub unreach : (r b : Bool) → b ≡ false → (r || b) ≡ r
+unreach true b e = refl
+unreach false b e = e
+
+pub is-reached : (r b : Bool) → r ≡ true → (r || b) ≡ r
+is-reached true b e = refl
+is-reached false b e = clash e refl
+
+module _ (K : Setup) where
+  -- what is known at the step
+  pub record Known (x : StepOf K) (xs : Steps K) (a : Call) (h : Hand) (u : Turn) : Type 0 where
+    pub result : ResultOk K (x ∷ xs) (since (K .s) (a .client) xs) h (u .result)
+    pub marked : (m : Stamped) → m .client ≡ a .client → In m (stampedFrom (a .client) h (u .client .hand)) →
+        MarkAt K m (length (since (K .s) (a .client) xs)) (x ∷ xs)
+
+  abbrev pub after : Steps K → Call → Turn → Call
+  after xs a u = follow (u .result) (eqb (awaits (u .client .hand)) 6) (length xs) a
+
+  -- the call after the reply, with a stamp
+  unfoldable pub Follows : StepOf K → Steps K → Call → Stamp → Hand → Turn → Type 0
+  Follows x xs a σ h u = Known x xs a h u →
+      (τ : Stamp) × Base K (x ∷ xs) (after xs a u) τ × Cur K (x ∷ xs) (after xs a u) τ (u .client .hand) × Keeps K a σ (after xs a u) τ
+
+  module _ (x : StepOf K) (xs : Steps K) (a : Call) (σ : Stamp) (same : calls K xs (a .client) ≡ calls K (x ∷ xs) (a .client))
+      (base : Base K xs a σ) where
+    -- the hand moved on, the call is as it was
+    pub stays : (h h' : Hand) (cl : Client) → Cur K xs a σ h → cl .hand ≡ h' → (a .reached || eqb (awaits h') 6) ≡ a .reached →
+        (Cur K (x ∷ xs) a σ h → Cur K (x ∷ xs) a σ h') → Follows x xs a σ h (record { client = cl; result = more })
+    unfolding Follows
+    stays h h' cl c e r f k =
+        let q : reach (eqb (awaits (cl .hand)) 6) a ≡ a = ap (λ (z : Hand). reach (eqb (awaits z) 6) a) e
+        ∙ ap (λ (z : Bool). record {
+          client = a .client;
+          number = a .number;
+          wrote = a .wrote;
+          begun = a .begun;
+          reached = z;
+          over = a .over;
+          answer = a .answer;
+          gaveUp = a .gaveUp;
+        }) r in (
+          σ,
+          subst (λ (b : Call). Base K (x ∷ xs) b σ) (sym q) (base-up K x xs a σ (omega (arith, same)) base),
+          subst (λ (b : Call). Cur K (x ∷ xs) b σ (cl .hand)) (sym q) (subst (Cur K (x ∷ xs) a σ) (sym e) (f (cur-up K x xs a σ h same c))),
+          subst (λ (b : Call). Keeps K a σ b σ) (sym q) (keeps-refl K a σ),
+        )
+
+    -- what had ended when the call began was on top then
+    pub low : (b : Stamp) (e : ℕ) → Ends K b e (x ∷ xs) → a .begun ≡ length (since (K .s) (a .client) xs) → e < a .begun →
+        TopAt K (since (K .s) (a .client) xs) b
+    low b e h q l = ends-top K (since (K .s) (a .client) xs) b e
+        (ends-since K (a .client) xs b e (ends-back K x xs b e h (omega (arith, l, base .begun-lt))) (omega (arith, l, q)))

@@ -1,0 +1,151 @@
+-- The call that takes a reply is a write: it gets its stamp when clock ends, has reached its complete round when store ends, and is over when
+-- complete ends.
+-- Assumes nothing.
+use mathlib.Core.Path.{_≡_, refl, sym, ap, _∙_, subst}
+use mathlib.Core.Bool.{Bool, true, false, _||_}
+use mathlib.Core.List.{List, _∷_}
+use mathlib.Core.Option.{none, some}
+use mathlib.Core.Logic.{inl, inr}
+use Prim.Native.Nat.{ℕ, suc, _<_}
+use native.Mathlib.Omega.{arith}
+use lib.Dec.{eqb}
+use lib.ListN.{length}
+use Rattle.protocol.specs.declared.Stamp.{Stamp}
+use Rattle.protocol.specs.Values.{Candidate, Share}
+use Rattle.protocol.specs.Rules.{ByServer}
+use Rattle.protocol.specs.Client.{Client, Hand, more, written, idle, clocking, storing, completing, awaits}
+use Rattle.protocol.specs.Client.{prepared, candidateMade}
+use Rattle.atomicity.specs.Lists.{Ever, In}
+use Rattle.atomicity.specs.Steps.{Stamped, stampedFrom}
+use Rattle.atomicity.specs.Claim.{Call, close, reach}
+use Rattle.atomicity.proofs.Util.{clash, no-some}
+use Rattle.atomicity.proofs.Model.{stampFor, preparedFor}
+use Rattle.atomicity.proofs.Setup.{Setup, Steps, StepOf, calls}
+use Rattle.atomicity.proofs.Rounds.{since}
+use Rattle.atomicity.proofs.States.{TopAt, WBeats}
+use Rattle.atomicity.proofs.Turns.{ResultOk}
+use Rattle.atomicity.proofs.Invariant.{Ends}
+use Rattle.atomicity.proofs.Calls.{MarkAt, ends-back, Base, Open, Cur, open-up, writing-up, Keeps}
+use Rattle.atomicity.proofs.Following.{Follows, unreach, low}
+
+some-inj : {A : Type 0} {p q : A} → some p ≡ some q → p ≡ q
+some-inj e = cc
+
+module _ (K : Setup) (x : StepOf K) (xs : Steps K) (a : Call) (σ : Stamp) (same : calls K xs (a .client) ≡ calls K (x ∷ xs) (a .client))
+    (base : Base K xs a σ) where
+  pub clock-ends : (r n : List ℕ) (k k' : ℕ) (cl : Client) → cl .hand ≡ preparedFor (K .s) (a .client) r n (suc k') → Open K xs a
+      × (a .wrote ≡ some r) → Follows K x xs a σ (clocking r n k) (record { client = cl; result = more })
+  unfolding Follows Cur stampedFrom In prepared candidateMade awaits
+  clock-ends r n k k' cl e c kn =
+      let τ = stampFor (K .s) (a .client) (suc k') in
+      let m : Stamped = record { client = a .client; content = r; nonce = n; stamp = τ } in
+      let at : MarkAt K m (length (since (K .s) (a .client) xs)) (x ∷ xs) =
+      kn .marked m refl (subst (λ (h : Hand). In m (stampedFrom (a .client) (clocking r n k) h)) (sym e) (inl refl)) in
+      subst (λ (h : Hand). (τ : Stamp) × Base K (x ∷ xs) (reach (eqb (awaits h) 6) a) τ × Cur K (x ∷ xs) (reach (eqb (awaits h) 6) a) τ h
+      × Keeps K a σ (reach (eqb (awaits h) 6) a) τ) (sym e) (
+        τ,
+        record {
+          begun-lt = omega (arith, base .begun-lt);
+          number-le = omega (arith, base .number-le, same);
+          ended = λ t q. absurd (no-some (sym (c .0 .going) ∙ q));
+          write = λ v p q. clash q (unreach (a .reached) _ refl ∙ c .0 .unreached);
+          read = λ t p q. absurd (no-some (sym p ∙ c .1));
+          reaches = λ v t p q. absurd (no-some (sym (c .0 .going) ∙ q));
+          leaves = λ q. c .0 .going;
+        },
+        (
+          record {
+            going = c .0 .going;
+            staying = c .0 .staying;
+            began = open-up K x xs a same (c .0) .began;
+            unreached = unreach (a .reached) _ refl ∙ c .0 .unreached;
+          },
+          record {
+            write = m;
+            mine = refl;
+            content-is = c .1;
+            stamp-is = refl;
+            hand-is = refl;
+            since-when = subst (λ (t : ℕ). MarkAt K m t (x ∷ xs)) (sym (c .0 .began)) at;
+          },
+        ),
+        record { client = refl; number = refl; begun = refl; wrote = refl; reached = λ e. clash e (c .0 .unreached) },
+      )
+
+  pub store-ends : (d : Candidate) (g : ByServer Share) (cl : Client) → cl .hand ≡ completing d → WBeats K (since (K .s) (a .client) xs) (d .stamp) →
+      Cur K xs a σ (storing d g) → Follows K x xs a σ (storing d g) (record { client = cl; result = more })
+  unfolding Follows Cur WBeats Ever awaits
+  store-ends d g cl e beats c kn =
+      let w = writing-up K x xs a σ d (c .1) in
+      let won : (a .reached || true) ≡ true = now-reached (a .reached) in
+      subst (λ (h : Hand). (τ : Stamp) × Base K (x ∷ xs) (reach (eqb (awaits h) 6) a) τ × Cur K (x ∷ xs) (reach (eqb (awaits h) 6) a) τ h
+      × Keeps K a σ (reach (eqb (awaits h) 6) a) τ) (sym e) (
+        σ,
+        record {
+          begun-lt = omega (arith, base .begun-lt);
+          number-le = omega (arith, base .number-le, same);
+          ended = λ t q. absurd (no-some (sym (c .0 .going) ∙ q));
+          write = λ v p q. record {
+            floor = λ b i h l. subst (λ (z : Stamp). b .number < z .number) (w .hand-is) (beats b (low K x xs a σ same base b i h (c .0 .began) l));
+            write = w .write;
+            mine = w .mine;
+            content-is = some-inj (sym (w .content-is) ∙ p);
+            stamp-is = w .stamp-is;
+            since-when = w .since-when;
+          };
+          read = λ t p q. absurd (no-some (sym p ∙ w .content-is));
+          reaches = λ v t p q. won;
+          leaves = λ q. c .0 .going;
+        },
+        (
+          record {
+            write = w .write;
+            mine = w .mine;
+            content-is = w .content-is;
+            stamp-is = w .stamp-is;
+            hand-is = w .hand-is;
+            since-when = w .since-when;
+          },
+          c .0 .going,
+          c .0 .staying,
+          won,
+        ),
+        record { client = refl; number = refl; begun = refl; wrote = refl; reached = λ e. clash e (c .0 .unreached) },
+      )
+    where
+      now-reached : (r : Bool) → (r || true) ≡ true
+      now-reached true = refl
+      now-reached false = refl
+
+  pub write-ends : (d : Candidate) (cl : Client) (n : ℕ) → cl .hand ≡ idle → Cur K xs a σ (completing d) →
+      Follows K x xs a σ (completing d) (record { client = cl; result = written n })
+  unfolding Follows Cur ResultOk Ever
+  write-ends d cl n e c kn =
+      let R = kn .result in
+      let same-d : d ≡ R .0 = hand-inj (R .1) in
+      let top : TopAt K (x ∷ xs) σ = subst (TopAt K (x ∷ xs)) (sym (ap (λ (z : Candidate). z .stamp) same-d) ∙ c .0 .hand-is) (R .2) in (
+        σ,
+        record {
+          begun-lt = omega (arith, base .begun-lt);
+          number-le = omega (arith, base .number-le, same);
+          ended = λ t q. let z : length xs ≡ t = cc in
+              (omega (arith, base .begun-lt, z), omega (arith, z), subst (λ (i : ℕ). Ends K σ i (x ∷ xs)) z (inl (refl, top)));
+          write = λ v p q. let r = base .write v p q in
+              record {
+                floor = λ b i h l. r .floor b i (ends-back K x xs b i h (omega (arith, l, base .begun-lt))) l;
+                write = r .write;
+                mine = r .mine;
+                content-is = r .content-is;
+                stamp-is = r .stamp-is;
+                since-when = inr (r .since-when);
+              };
+          read = λ t p q. absurd (no-some (sym p ∙ c .0 .content-is));
+          reaches = λ v t p q. c .3;
+          leaves = λ q. clash q (c .2);
+        },
+        subst (Cur K (x ∷ xs) (close (length xs) none a) σ) (sym e) tt,
+        record { client = refl; number = refl; begun = refl; wrote = refl; reached = λ e. (e, refl) },
+      )
+    where
+      hand-inj : {p q : Candidate} → completing p ≡ completing q → p ≡ q
+      hand-inj e = cc
