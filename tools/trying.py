@@ -1,7 +1,7 @@
 """Edits of the crates, copies to try them in, and what the prover says of them: for tools/edits and tools/theorem-edits.
 
-An edit file: lines that start with '#' say what is wrong. Blocks 'file:', 'old:', 'new:' follow; a text goes on over the next lines up to the next
-key; 'file:' holds for the pairs after it, and an old text stands in its file exactly once.
+An edit file begins with what is wrong, in lines '# ..' (rt needs none). Blocks 'file:', 'old:', 'new:' follow; a text goes on over the next lines up to
+the next key; 'file:' holds for the pairs after it, and an old text stands in its file exactly once. Later lines '# ..' are remarks.
 """
 import itertools
 import os
@@ -56,14 +56,12 @@ def read_edit(path):
             close()
             key = m.group(1)
             texts[key] = [m.group(2)] if m.group(2) is not None else []
-        elif line.startswith("#"):
-            comment.append(line[1:].strip())
-        elif key is not None:
+        elif key is None:
+            comment.append(line.lstrip("#").strip())
+        elif not line.startswith("#"):
             texts[key].append(line)
-        elif line.strip():
-            raise Wrong(f"a line before the first 'file:' is no comment: {line}")
     close()
-    if not pairs or not comment:
+    if not pairs or not (comment or path.parent.name == "must-fail"):
         raise Wrong("it needs a comment and a pair of 'old:' and 'new:'")
     return comment, pairs
 
