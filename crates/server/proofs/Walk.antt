@@ -22,7 +22,6 @@ use Rattle.protocol.specs.Reading.{Leaves, Stops}
 use Rattle.protocol.proofs.Answers.{bytes-drop}
 use Rattle.protocol.proofs.Leaves.{stops-via, stops-first}
 use Rattle.protocol.proofs.Packets.{write-law, stamp-length, ShareLengths, share-lengths, share-length}
-use Rattle.protocol.proofs.Packets as packets
 use Rattle.protocol.proofs.Readers.{stamp-read, share-read}
 use Rattle.protocol.proofs.Walks.{Reads, decide, leaves-moved, many-next, many-stops, many-none}
 use Rattle.wire.specs.Places.{lengthAt, writeAt}

@@ -56,7 +56,7 @@ pub(crate) fn key_at(stamp: &[u8]) -> u64
     256 * (wire::bytes::number4(stamp) as u64) + (wire::bytes::byte_at(stamp, 4) as u64)
 }
 
-// The first of n stored writes whose stamp has these bytes. They were checked when the memory was opened, so each ends where its record length says.
+// The first of n stored writes whose stamp has these bytes. The writes were checked before, so each ends where its record length says.
 fn search(memory: &[u8], t: u8, n: usize, stamp: &[u8]) -> Found
     ensures { λ r. ⌜ SearchAs (shelf t) n (now (memory .entry)) (now (stamp .entry)) r ⌝ }
 {
