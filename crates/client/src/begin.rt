@@ -94,7 +94,7 @@ fn keep_write(kept: &mut [u8], content: &[u8], nonce: &[u8])
     ensures { λ _. ⌜ now (kept .exit) ≡ put (put (now (kept .entry)) 0 (now (content .entry))) nonceAt (now (nonce .entry)) ⌝ }
 {
     kept::write_at(kept, 0, content);
-    kept::write_at(kept, kept::NONCE, nonce);
+    kept::write_at(kept, wire::kept::NONCE, nonce);
 }
 
 // Lines 83, 84 and 93.
@@ -104,12 +104,12 @@ pub fn begin_write_in(
     t: usize,
     client: usize,
     content: &[u8],
-    nonce: &[u8; 32],
+    nonce: &[u8; cluster::KEY],
 ) -> Started
     ensures { λ r. ⌜ (r ≡ started (coreWrite t client call (now (kept .entry)) (now (content .entry)) (now (nonce .entry))))
         × (now (kept .exit) ≡ coreWrite t client call (now (kept .entry)) (now (content .entry)) (now (nonce .entry)) .kept) ⌝ }
 {
-    if kept.len() != kept::KEPT {
+    if kept.len() != wire::kept::KEPT {
         return not_begun(1, call);
     }
     let n = refusals::write_refusal(t, client, content.len(), call);
@@ -123,11 +123,11 @@ pub fn begin_write_in(
 // The call goes on by value, the kept bytes by their array.
 pub(crate) fn write_by_value(
     call: protocol::Call,
-    kept: &mut [u8; 24576],
+    kept: &mut [u8; wire::kept::KEPT],
     t: usize,
     client: usize,
     content: &[u8],
-    nonce: &[u8; 32],
+    nonce: &[u8; cluster::KEY],
 ) -> Started
     ensures { λ r. ⌜ (r ≡ started (beginWrite t client call (now (kept .entry)) (now (content .entry)) (now (nonce .entry))))
         × (now (kept .exit) ≡ beginWrite t client call (now (kept .entry)) (now (content .entry)) (now (nonce .entry)) .kept) ⌝ }
@@ -140,15 +140,15 @@ fn clear_slots(kept: &mut [u8])
     requires { ⌜ length (now kept) ≡ keptSize ⌝ }
     ensures { λ _. ⌜ now (kept .exit) ≡ put (now (kept .entry)) candidatesAt (replicate (candidateSlot * mostServers) 0) ⌝ }
 {
-    let zeros = [0u8; kept::CANDIDATE_SLOT * cluster::MOST_SERVERS];
-    kept::write_at(kept, kept::CANDIDATES, &zeros);
+    let zeros = [0u8; wire::kept::CANDIDATE_SLOT * cluster::MOST_SERVERS];
+    kept::write_at(kept, wire::kept::CANDIDATES, &zeros);
 }
 
 // Lines 137 to 140.
 pub fn begin_read_in(call: protocol::Call, kept: &mut [u8], t: usize, client: usize) -> Started
     ensures { λ r. ⌜ (r ≡ started (coreRead t client call (now (kept .entry)))) × (now (kept .exit) ≡ coreRead t client call (now (kept .entry)) .kept) ⌝ }
 {
-    if kept.len() != kept::KEPT {
+    if kept.len() != wire::kept::KEPT {
         return not_begun(1, call);
     }
     let n = refusals::read_refusal(t, client, call);
@@ -161,7 +161,7 @@ pub fn begin_read_in(call: protocol::Call, kept: &mut [u8], t: usize, client: us
 
 pub(crate) fn read_by_value(
     call: protocol::Call,
-    kept: &mut [u8; 24576],
+    kept: &mut [u8; wire::kept::KEPT],
     t: usize,
     client: usize,
 ) -> Started

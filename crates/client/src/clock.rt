@@ -73,8 +73,8 @@ fn end_clock(
     kept: &mut [u8],
     t: usize,
     client: usize,
-    writers: &[u8; 32],
-    keys: &[[u8; 32]; 13],
+    writers: &[u8; cluster::KEY],
+    keys: &[[u8; cluster::KEY]; cluster::MOST_SERVERS],
     high: u32,
 ) -> Answered
     requires { ⌜ (1 ≤ t) × ((t ≤ topFaults) × ((client ≤ topClient) × ((length (now kept) ≡ keptSize) × (high < topNumber)))) ⌝ }
@@ -91,8 +91,8 @@ pub(crate) fn take_clock(
     kept: &mut [u8],
     t: usize,
     client: usize,
-    writers: &[u8; 32],
-    keys: &[[u8; 32]; 13],
+    writers: &[u8; cluster::KEY],
+    keys: &[[u8; cluster::KEY]; cluster::MOST_SERVERS],
     head: protocol::Head,
     reply: &[u8],
     room: usize,

@@ -20,7 +20,11 @@ fn put_reply(kept: &mut [u8], server: usize, body: &[u8])
     requires { ⌜ (1 ≤ server) × ((server ≤ mostServers) × ((length (now kept) ≡ keptSize) × (length (now body) ≤ replySlot))) ⌝ }
     ensures { λ _. ⌜ now (kept .exit) ≡ put (now (kept .entry)) (repliesAt + replySlot * (server - 1)) (now (body .entry)) ⌝ }
 {
-    kept::write_at(kept, kept::REPLIES + kept::REPLY_SLOT * (server - 1), body);
+    kept::write_at(
+        kept,
+        wire::kept::REPLIES + wire::kept::REPLY_SLOT * (server - 1),
+        body,
+    );
 }
 
 // Where the tags stand in a reply of a content of n bytes.
@@ -43,10 +47,10 @@ fn put_repair(bytes: &mut [u8], kept: &[u8], t: usize, i: usize, b: usize, n: us
 {
     let name = wire::bytes::part(
         kept,
-        kept::CANDIDATES + kept::CANDIDATE_SLOT * i,
+        wire::kept::CANDIDATES + wire::kept::CANDIDATE_SLOT * i,
         wire::sizes::STAMP + wire::sizes::NONCE,
     );
-    let at = kept::REPLIES + kept::REPLY_SLOT * (b - 1) + tags_at(t, n);
+    let at = wire::kept::REPLIES + wire::kept::REPLY_SLOT * (b - 1) + tags_at(t, n);
     let tags = wire::bytes::part(kept, at, wire::sizes::tags_size(t as u8));
     kept::write_at(bytes, 0, name);
     kept::write_at(bytes, wire::sizes::STAMP + wire::sizes::NONCE, tags);
@@ -74,11 +78,11 @@ fn repair_with(
     ensures { λ r. ⌜ (r ≡ record { taken = taken.More; call = repairCall call (length (now (content .entry))) })
         × (now (kept .exit) ≡ put (put (now (kept .entry)) 0 (now (content .entry))) chosenAt (repairBytes t (now (kept .entry)) i b (length (now (content .entry))))) ⌝ }
 {
-    let mut bytes = [0u8; kept::CANDIDATE_SLOT];
+    let mut bytes = [0u8; wire::kept::CANDIDATE_SLOT];
     put_repair(&mut bytes, kept, t, i, b, content.len());
     kept::write_at(kept, 0, content);
     let size = wire::sizes::candidate_size(t as u8);
-    kept::write_at(kept, kept::CHOSEN, wire::bytes::part(&bytes, 0, size));
+    kept::write_at(kept, wire::kept::CHOSEN, wire::bytes::part(&bytes, 0, size));
     repairing(call, content.len() as u16)
 }
 
@@ -89,8 +93,8 @@ fn number_in(kept: &[u8], t: usize, i: usize) -> u32
 {
     wire::bytes::number4(wire::bytes::part(
         kept,
-        kept::CANDIDATES + kept::CANDIDATE_SLOT * i,
-        kept::CANDIDATE_SLOT,
+        wire::kept::CANDIDATES + wire::kept::CANDIDATE_SLOT * i,
+        wire::kept::CANDIDATE_SLOT,
     ))
 }
 

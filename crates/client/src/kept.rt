@@ -1,4 +1,4 @@
-// The bytes that a client keeps for its call: their places, and what is read and written there.
+// The bytes that a client keeps for its call: what is read and written there. Their places are crate wire's.
 ghost use mathlib.Core.Path.{_≡_};
 ghost use mathlib.Core.Bool.{cond};
 ghost use Prim.Native.Nat.{_≤_, _+_};
@@ -8,23 +8,6 @@ ghost use Rattle.cluster.specs.Config.{shelf};
 ghost use Rattle.cluster.specs.Ranges.{topLength};
 ghost use Rattle.protocol.specs.View.{keptSize, chosenOf, contentOf, nonceOf};
 ghost use Rattle.protocol.specs.ClientBytes.{put};
-
-pub const KEPT: usize = 24576;
-
-// Content, nonce, candidate of the write or of repair, a slot for each server's candidate, a slot for each server's share or reply.
-pub const NONCE: usize = cluster::TOP_LENGTH;
-
-pub const CHOSEN: usize = NONCE + cluster::KEY;
-
-pub const CANDIDATE_SLOT: usize = wire::sizes::STAMP
-    + cluster::KEY
-    + hmac::TAG * cluster::MOST_SERVERS;
-
-pub const CANDIDATES: usize = CHOSEN + CANDIDATE_SLOT;
-
-pub const REPLIES: usize = CANDIDATES + CANDIDATE_SLOT * cluster::MOST_SERVERS;
-
-pub const REPLY_SLOT: usize = 1120;
 
 // The bytes at a place where there is room for them.
 pub(crate) fn write_at(kept: &mut [u8], at: usize, bytes: &[u8])
@@ -38,7 +21,7 @@ pub(crate) fn write_at(kept: &mut [u8], at: usize, bytes: &[u8])
 pub(crate) fn chosen_number(kept: &[u8], t: usize) -> u32
     ensures { λ r. ⌜ r ≡ chosenOf (shelf t) (now (kept .entry)) .stamp .number ⌝ }
 {
-    wire::bytes::number4(wire::bytes::part(kept, CHOSEN, CANDIDATE_SLOT))
+    wire::bytes::number4(wire::bytes::part(kept, wire::kept::CHOSEN, wire::kept::CANDIDATE_SLOT))
 }
 
 // The bytes of the content: no more than a content has.
@@ -60,9 +43,9 @@ pub(crate) fn content(kept: &[u8], call: protocol::Call) -> &[u8]
 }
 
 // The nonce of a write, by value.
-pub(crate) fn nonce(kept: &[u8]) -> [u8; 32]
+pub(crate) fn nonce(kept: &[u8]) -> [u8; cluster::KEY]
     requires { ⌜ length (now kept) ≡ keptSize ⌝ }
     ensures { λ r. ⌜ r ≡ nonceOf (now (kept .entry)) ⌝ }
 {
-    wire::bytes::nonce_of(wire::bytes::part(kept, NONCE, cluster::KEY))
+    wire::bytes::nonce_of(wire::bytes::part(kept, wire::kept::NONCE, cluster::KEY))
 }

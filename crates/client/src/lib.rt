@@ -4,9 +4,9 @@ ghost use mathlib.Core.Path.{_≡_};
 ghost use Rattle.protocol.specs.Primitives.{real};
 ghost use Rattle.protocol.specs.ClientBytes.{beginWrite, beginRead, clientMake, clientTake, giveUp};
 
-mod refusals; // which number refuses a step
+pub mod refusals; // which number refuses a step
 mod rounds; // the tally of a round
-pub mod kept; // the kept bytes: their places, and what is read and written there
+mod kept; // the kept bytes: what is read and written there
 pub mod answers; // what a reply leads to
 mod replies; // whether a packet is an awaited reply
 mod stamps; // stamps and tags
@@ -36,11 +36,11 @@ pub const NEW: protocol::Call = protocol::Call {
 // A write begins.
 pub fn begin_write(
     call: &mut protocol::Call,
-    kept: &mut [u8; 24576],
+    kept: &mut [u8; wire::kept::KEPT],
     t: usize,
     client: usize,
     content: &[u8],
-    nonce: &[u8; 32],
+    nonce: &[u8; cluster::KEY],
 ) -> cluster::Outcome
     ensures { λ r. ⌜ (r ≡ beginWrite t client (now (call .entry)) (now (kept .entry)) (now (content .entry)) (now (nonce .entry)) .result)
         × ((now (call .exit) ≡ beginWrite t client (now (call .entry)) (now (kept .entry)) (now (content .entry)) (now (nonce .entry)) .call)
@@ -54,7 +54,7 @@ pub fn begin_write(
 // A read begins.
 pub fn begin_read(
     call: &mut protocol::Call,
-    kept: &mut [u8; 24576],
+    kept: &mut [u8; wire::kept::KEPT],
     t: usize,
     client: usize,
 ) -> cluster::Outcome
@@ -70,11 +70,11 @@ pub fn begin_read(
 // A reply is taken.
 pub fn take(
     call: &mut protocol::Call,
-    kept: &mut [u8; 24576],
+    kept: &mut [u8; wire::kept::KEPT],
     t: usize,
     client: usize,
-    writers: &[u8; 32],
-    keys: &[[u8; 32]; 13],
+    writers: &[u8; cluster::KEY],
+    keys: &[[u8; cluster::KEY]; cluster::MOST_SERVERS],
     reply: &[u8],
     out: &mut [u8],
 ) -> protocol::Taken
@@ -100,7 +100,7 @@ pub fn give_up(call: &mut protocol::Call, t: usize, client: usize) -> protocol::
 // The packet of the pending round for a server.
 pub fn make(
     call: protocol::Call,
-    kept: &[u8; 24576],
+    kept: &[u8; wire::kept::KEPT],
     t: usize,
     client: usize,
     server: usize,

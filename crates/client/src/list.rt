@@ -26,8 +26,8 @@ fn put_entry(out: &mut [u8], at: usize, kept: &[u8], t: usize, i: usize) -> usiz
     }
     let slot = wire::bytes::part(
         kept,
-        kept::CANDIDATES + kept::CANDIDATE_SLOT * i,
-        kept::CANDIDATE_SLOT,
+        wire::kept::CANDIDATES + wire::kept::CANDIDATE_SLOT * i,
+        wire::kept::CANDIDATE_SLOT,
     );
     let size = wire::sizes::candidate_size(t as u8);
     wire::make::put(out, at, wire::bytes::part(slot, 0, size))

@@ -60,7 +60,7 @@ fn make_chosen(head: protocol::Head, kept: &[u8], t: usize, out: &mut [u8]) -> c
     ensures { λ r. ⌜ record { result = r; output = now (out .exit) }
         ≡ wholePacket (headF .print head ++ (candidateF (shelf t) .print (chosenOf (shelf t) (now (kept .entry))) ++ [])) (now (out .entry)) ⌝ }
 {
-    let chosen = wire::bytes::part(kept, kept::CHOSEN, kept::CANDIDATE_SLOT);
+    let chosen = wire::bytes::part(kept, wire::kept::CHOSEN, wire::kept::CANDIDATE_SLOT);
     let none: [u8; 0] = [];
     wire::make::make_packet(
         head,
@@ -83,11 +83,11 @@ fn make_store(
         ≡ wholePacket (headF .print head ++ (stampF .print (chosenOf (shelf t) (now (kept .entry)) .stamp)
         ++ shareF (shelf t) .print (shareAt (shelf t) (replySlotOf (now (kept .entry)) (server - 1))))) (now (out .entry)) ⌝ }
 {
-    let chosen = wire::bytes::part(kept, kept::CHOSEN, kept::CANDIDATE_SLOT);
+    let chosen = wire::bytes::part(kept, wire::kept::CHOSEN, wire::kept::CANDIDATE_SLOT);
     let slot = wire::bytes::part(
         kept,
-        kept::REPLIES + kept::REPLY_SLOT * (server - 1),
-        kept::REPLY_SLOT,
+        wire::kept::REPLIES + wire::kept::REPLY_SLOT * (server - 1),
+        wire::kept::REPLY_SLOT,
     );
     let size = share_size(t, wire::bytes::number2(slot));
     let stamp = wire::bytes::part(chosen, 0, wire::sizes::STAMP);
@@ -169,7 +169,7 @@ pub fn make_in(
 ) -> cluster::Outcome
     ensures { λ r. ⌜ record { result = r; output = now (out .exit) } ≡ coreMake t client server call (now (kept .entry)) (now (out .entry)) ⌝ }
 {
-    if kept.len() != kept::KEPT {
+    if kept.len() != wire::kept::KEPT {
         return cluster::Outcome {
             number: 1,
             count: 0,

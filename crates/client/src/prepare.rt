@@ -51,10 +51,10 @@ pub(crate) fn put_fragments(fragments: &mut [u8], digests: &mut [u8], t: usize, 
 
 // A share at its slot: the length, the fragment, and what is the same for all servers.
 fn put_share(kept: &mut [u8], i: usize, size: [u8; 2], fragment: &[u8], common: &[u8])
-    requires { ⌜ (suc i ≤ 13) × ((length (now kept) ≡ keptSize) × (2 + (length (now fragment) + length (now common)) ≤ replySlot)) ⌝ }
+    requires { ⌜ (suc i ≤ mostServers) × ((length (now kept) ≡ keptSize) × (2 + (length (now fragment) + length (now common)) ≤ replySlot)) ⌝ }
     ensures { λ _. ⌜ now (kept .exit) ≡ put (now (kept .entry)) (repliesAt + replySlot * i) (size ++ (now (fragment .entry) ++ now (common .entry))) ⌝ }
 {
-    let at = kept::REPLIES + kept::REPLY_SLOT * i;
+    let at = wire::kept::REPLIES + wire::kept::REPLY_SLOT * i;
     kept::write_at(kept, at, &size);
     kept::write_at(kept, at + 2, fragment);
     kept::write_at(kept, at + 2 + fragment.len(), common);
@@ -91,13 +91,17 @@ pub(crate) fn put_candidate(kept: &mut [u8], stamp: &[u8], nonce: &[u8], tags: &
     requires { ⌜ (length (now kept) ≡ keptSize) × ((length (now stamp) ≡ stampSize) × ((length (now nonce) ≡ nonceSize) × (length (now tags) ≤ tagSize * mostServers))) ⌝ }
     ensures { λ _. ⌜ now (kept .exit) ≡ put (now (kept .entry)) chosenAt (now (stamp .entry) ++ (now (nonce .entry) ++ now (tags .entry))) ⌝ }
 {
-    kept::write_at(kept, kept::CHOSEN, stamp);
-    kept::write_at(kept, kept::CHOSEN + wire::sizes::STAMP, nonce);
-    kept::write_at(kept, kept::CHOSEN + wire::sizes::STAMP + cluster::KEY, tags);
+    kept::write_at(kept, wire::kept::CHOSEN, stamp);
+    kept::write_at(kept, wire::kept::CHOSEN + wire::sizes::STAMP, nonce);
+    kept::write_at(
+        kept,
+        wire::kept::CHOSEN + wire::sizes::STAMP + cluster::KEY,
+        tags,
+    );
 }
 
 // What follows the digests in each share: the nonce's digest and the tags.
-fn put_common(common: &mut [u8], at: usize, digest: [u8; 32], tags: &[u8])
+fn put_common(common: &mut [u8], at: usize, digest: [u8; cluster::KEY], tags: &[u8])
     requires { ⌜ at + digestSize + length (now tags) ≤ length (now common) ⌝ }
     ensures { λ _. ⌜ now (common .exit) ≡ put (now (common .entry)) at (digest ++ now (tags .entry)) ⌝ }
 {
@@ -120,7 +124,7 @@ fn put_parts(
     kept: &[u8],
     call: protocol::Call,
     t: usize,
-    digest: [u8; 32],
+    digest: [u8; cluster::KEY],
     tags: &[u8],
 ) -> usize
     requires { ⌜ (1 ≤ t) × ((t ≤ topFaults) × ((fragmentSize (shelf t .shares) (length (contentOf call (now kept))) * shelf t .servers ≤ length (now fragments))
@@ -152,7 +156,13 @@ fn put_sized(kept: &mut [u8], t: usize, n: usize, fragments: &[u8], common: &[u8
 }
 
 // Lines 102 to 104: the shares of the write. Fragments, digests and tags are made once for all servers.
-fn put_offer(kept: &mut [u8], call: protocol::Call, t: usize, digest: [u8; 32], tags: &[u8])
+fn put_offer(
+    kept: &mut [u8],
+    call: protocol::Call,
+    t: usize,
+    digest: [u8; cluster::KEY],
+    tags: &[u8],
+)
     requires { ⌜ (1 ≤ t) × ((t ≤ topFaults) × ((length (now kept) ≡ keptSize) × (length (now tags) ≡ tagSize * shelf t .servers))) ⌝ }
     ensures { λ _. ⌜ now (kept .exit) ≡ offered t (now (kept .entry)) (contentOf call (now (kept .entry))) digest (now (tags .entry)) ⌝ }
 {
@@ -170,7 +180,7 @@ fn put_write(
     t: usize,
     stamp: &[u8],
     nonce: &[u8],
-    digest: [u8; 32],
+    digest: [u8; cluster::KEY],
     tags: &[u8],
 )
     requires { ⌜ (1 ≤ t) × ((t ≤ topFaults) × ((length (now kept) ≡ keptSize)
@@ -187,9 +197,9 @@ fn put_tagged(
     kept: &mut [u8],
     call: protocol::Call,
     t: usize,
-    keys: &[[u8; 32]; 13],
+    keys: &[[u8; cluster::KEY]; cluster::MOST_SERVERS],
     stamp: &[u8],
-    nonce: [u8; 32],
+    nonce: [u8; cluster::KEY],
 )
     requires { ⌜ (1 ≤ t) × ((t ≤ topFaults) × ((length (now kept) ≡ keptSize) × (length (now stamp) ≡ stampSize))) ⌝ }
     ensures { λ _. ⌜ now (kept .exit) ≡ offered t
@@ -209,8 +219,8 @@ pub(crate) fn prepare(
     call: protocol::Call,
     t: usize,
     client: usize,
-    writers: &[u8; 32],
-    keys: &[[u8; 32]; 13],
+    writers: &[u8; cluster::KEY],
+    keys: &[[u8; cluster::KEY]; cluster::MOST_SERVERS],
     number: u32,
 )
     requires { ⌜ (1 ≤ t) × ((t ≤ topFaults) × ((client ≤ topClient) × (length (now kept) ≡ keptSize))) ⌝ }

@@ -28,7 +28,7 @@ pub(crate) fn take_collect(
 {
     kept::write_at(
         kept,
-        kept::CANDIDATES + kept::CANDIDATE_SLOT * (server - 1),
+        wire::kept::CANDIDATES + wire::kept::CANDIDATE_SLOT * (server - 1),
         body,
     );
     answers::step(call, t, server, 5)

@@ -21,7 +21,7 @@ pub(crate) fn is_outside(lo: usize, hi: usize, x: usize) -> bool
 }
 
 // A call is in hand.
-pub(crate) fn is_pending(call: protocol::Call) -> bool
+pub fn is_pending(call: protocol::Call) -> bool
     ensures { λ r. ⌜ r ≡ inHand call ⌝ }
 {
     let tally = call.tally;
@@ -76,7 +76,7 @@ pub(crate) fn servers(t: usize) -> usize
     requires { ⌜ t ≤ topFaults ⌝ }
     ensures { λ r. ⌜ r ≡ shelf t .servers ⌝ }
 {
-    3 * t + 1
+    wire::sizes::servers(t as u8)
 }
 
 pub(crate) fn make_refusal(

@@ -15,7 +15,7 @@ pub(crate) fn fresh_tally(round: u8) -> protocol::Tally
     protocol::Tally {
         round: round,
         count: 0,
-        marks: [0; 13],
+        marks: [0; cluster::MOST_SERVERS],
     }
 }
 

@@ -1,7 +1,7 @@
 // Stamps and tags: what a clock reply is checked against, and what a write makes at the end of clock.
 ghost use mathlib.Core.Path.{_≡_};
 ghost use mathlib.Core.List.{_++_};
-ghost use Prim.Native.Nat.{_≤_, _+_, _*_};
+ghost use Prim.Native.Nat.{_≤_, _*_};
 ghost use lib.ListN.{length};
 ghost use Rattle.cluster.specs.Config.{shelf};
 ghost use Rattle.cluster.specs.Ranges.{topFaults};
@@ -16,7 +16,7 @@ use crate::kept;
 use crate::refusals;
 
 // Line 100: the higher of a number and a stamp's, if its tag checks. The tag is made only for a higher number.
-pub(crate) fn higher(writers: &[u8; 32], high: u32, body: &[u8]) -> u32
+pub(crate) fn higher(writers: &[u8; cluster::KEY], high: u32, body: &[u8]) -> u32
     requires { ⌜ stampSize ≤ length (now body) ⌝ }
     ensures { λ r. ⌜ r ≡ higher real (now (writers .entry)) high (stampAt (now (body .entry))) ⌝ }
 {
@@ -45,7 +45,11 @@ fn stamp_message(number: u32, writer: u8) -> [u8; 5]
 }
 
 // Line 96: a stamp's bytes.
-pub(crate) fn stamp_bytes(writers: &[u8; 32], number: u32, writer: u8) -> [u8; wire::sizes::STAMP]
+pub(crate) fn stamp_bytes(
+    writers: &[u8; cluster::KEY],
+    number: u32,
+    writer: u8,
+) -> [u8; wire::sizes::STAMP]
     ensures { λ r. ⌜ r ≡ stampMessage number writer ++ tagOf (now (writers .entry)) (stampMessage number writer) ⌝ }
 {
     let message = stamp_message(number, writer);
@@ -60,9 +64,9 @@ pub(crate) fn stamp_bytes(writers: &[u8; 32], number: u32, writer: u8) -> [u8; w
 pub(crate) fn put_tags(
     tags: &mut [u8],
     t: usize,
-    keys: &[[u8; 32]; 13],
+    keys: &[[u8; cluster::KEY]; cluster::MOST_SERVERS],
     stamp: &[u8],
-    digest: [u8; 32],
+    digest: [u8; cluster::KEY],
 )
     requires { ⌜ (t ≤ topFaults) × (tagSize * shelf t .servers ≤ length (now tags)) ⌝ }
     ensures { λ _. ⌜ now (tags .exit) ≡ put (now (tags .entry)) 0 (tagRun (now (keys .entry)) (now (stamp .entry)) digest (shelf t .servers)) ⌝ }

@@ -88,8 +88,8 @@ fn take_round(
     kept: &mut [u8],
     t: usize,
     client: usize,
-    writers: &[u8; 32],
-    keys: &[[u8; 32]; 13],
+    writers: &[u8; cluster::KEY],
+    keys: &[[u8; cluster::KEY]; cluster::MOST_SERVERS],
     head: protocol::Head,
     reply: &[u8],
     out: &mut [u8],
@@ -117,8 +117,8 @@ fn take_reply(
     kept: &mut [u8],
     t: usize,
     client: usize,
-    writers: &[u8; 32],
-    keys: &[[u8; 32]; 13],
+    writers: &[u8; cluster::KEY],
+    keys: &[[u8; cluster::KEY]; cluster::MOST_SERVERS],
     reply: &[u8],
     out: &mut [u8],
 ) -> Answered
@@ -141,8 +141,8 @@ pub fn take_in(
     kept: &mut [u8],
     t: usize,
     client: usize,
-    writers: &[u8; 32],
-    keys: &[[u8; 32]; 13],
+    writers: &[u8; cluster::KEY],
+    keys: &[[u8; cluster::KEY]; cluster::MOST_SERVERS],
     reply: &[u8],
     out: &mut [u8],
 ) -> Answered
@@ -150,7 +150,7 @@ pub fn take_in(
         × ((now (kept .exit) ≡ coreTake t client (now (writers .entry)) (now (keys .entry)) call (now (kept .entry)) (now (reply .entry)) (now (out .entry)) .kept)
         × (now (out .exit) ≡ coreTake t client (now (writers .entry)) (now (keys .entry)) call (now (kept .entry)) (now (reply .entry)) (now (out .entry)) .output)) ⌝ }
 {
-    if kept.len() != kept::KEPT {
+    if kept.len() != wire::kept::KEPT {
         return answers::refused(1, call);
     }
     if refusals::is_outside(1, cluster::TOP_FAULTS, t) {
@@ -165,11 +165,11 @@ pub fn take_in(
 // The call goes on by value, the kept bytes by their array.
 pub(crate) fn take_by_value(
     call: protocol::Call,
-    kept: &mut [u8; 24576],
+    kept: &mut [u8; wire::kept::KEPT],
     t: usize,
     client: usize,
-    writers: &[u8; 32],
-    keys: &[[u8; 32]; 13],
+    writers: &[u8; cluster::KEY],
+    keys: &[[u8; cluster::KEY]; cluster::MOST_SERVERS],
     reply: &[u8],
     out: &mut [u8],
 ) -> Answered

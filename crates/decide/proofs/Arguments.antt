@@ -1,6 +1,6 @@
 -- The test of the arguments: which of them are refused, and what is known of the others. Nothing is assumed.
-use mathlib.Core.Path.{_≡_, refl, sym, ap, _∙_, subst}
-use mathlib.Core.Bool.{Bool, true, false, cond, _&&_}
+use mathlib.Core.Path.{_≡_, sym, ap, subst}
+use mathlib.Core.Bool.{Bool, false, _&&_}
 use mathlib.Core.List.{List}
 use Prim.Native.Nat.{ℕ, _≤_, _<_}
 use lib.Dec.{T, leb, eqb}
@@ -9,7 +9,7 @@ use borrow.Author.Tests.{le-leb, lt-leb, eqb-true}
 use Rattle.protocol.specs.View.{keptSize}
 use Rattle.protocol.proofs.Equal.{and-off}
 use Rattle.decide.specs.Listing.{usable}
-use Rattle.decide.specs.Steps.{Usable, UsableAs}
+use Rattle.decide.specs.Steps.{UsableAs}
 
 module _ (t : ℕ) (kept : List ℕ) where
   refused : usable t kept ≡ false → UsableAs t kept false

@@ -62,10 +62,6 @@ quorum-of t s e = omega arith
 
 -- ---- the list of them
 
-pub servers-none : (m : ByServer Bool) → serversOf 0 m ≡ []
-unfolding serversOf
-servers-none m = refl
-
 pub servers-length : (n : ℕ) (m : ByServer Bool) → length (serversOf n m) ≡ countTo n m
 unfolding serversOf countTo
 servers-length zero m = refl

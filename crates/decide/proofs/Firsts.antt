@@ -3,7 +3,7 @@
 use mathlib.Core.Path.{_≡_, refl, sym, ap, _∙_, subst}
 use mathlib.Core.Bool.{Bool, true, false, cond, not, _&&_}
 use mathlib.Core.List.{List, [], _∷_, _++_}
-use mathlib.Core.Option.{Option, none, some, Option·none-ne-some}
+use mathlib.Core.Option.{none, some, Option·none-ne-some}
 use Prim.Native.Nat.{ℕ, zero, suc, _+_, _-_, _≤_, _<_}
 use native.Mathlib.Numerals.{add-one}
 use native.Mathlib.Omega.{arith}
@@ -19,7 +19,6 @@ use Rattle.protocol.proofs.Equal.{candidate-same, candidate-refl}
 use Rattle.decide.specs.Decided.{slotOf}
 use Rattle.decide.specs.Listing.{enters}
 use Rattle.decide.specs.declared.leading.Group.{Group}
-use Rattle.decide.specs.declared.leading.Choice.{Choice}
 use Rattle.decide.specs.Steps.{rank, leaderAt, GroupAs, triedAt, chosenAt, Hit, ChoiceAs}
 use Rattle.decide.proofs.Tops.{keep-append}
 use Rattle.decide.proofs.Gathered.{gather-more, enters-twin, entered}

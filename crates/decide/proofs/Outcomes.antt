@@ -1,7 +1,7 @@
 -- What is decided, by the highest rank that stays and by what was found: nothing with other arguments, blank where the rank is the blank one, nothing yet
 -- where no slot was found, and else the slot, the leader and the content that its members' fragments give. Nothing is assumed.
 use mathlib.Core.Path.{_≡_, refl, sym, ap, _∙_, subst}
-use mathlib.Core.Bool.{Bool, true, false}
+use mathlib.Core.Bool.{true, false}
 use mathlib.Core.List.{List, [], _∷_}
 use mathlib.Core.Option.{Option, none, some}
 use Prim.Native.Nat.{ℕ, suc, _+_, _-_, _≤_, _<_}
@@ -15,7 +15,7 @@ use Rattle.sha256.specs.Sha256.{sha256}
 use Rattle.protocol.specs.Format.{Bytes}
 use Rattle.protocol.specs.Values.{Candidate}
 use Rattle.protocol.specs.Primitives.{real}
-use Rattle.protocol.specs.Rules.{ByServer, any, first, gather, live, leader, proven, choice, restoredBy}
+use Rattle.protocol.specs.Rules.{any, first, gather, live, leader, proven, choice, restoredBy}
 use Rattle.protocol.specs.ServerBytes.{over}
 use Rattle.protocol.specs.View.{marked, candidatesIn, repliesIn, replySlotOf}
 use Rattle.protocol.proofs.Room.{shelf-fits}

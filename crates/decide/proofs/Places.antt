@@ -1,7 +1,7 @@
 -- The slots of the kept bytes: a part of a part is a part, comparing slots is comparing the stamps and candidates in them, and a stamp's rank is read off
 -- its first five bytes. Comparing needs bytes: numbers of four bytes tell them only then. Nothing else is assumed.
-use mathlib.Core.Path.{_≡_, refl, sym, ap, _∙_, subst}
-use mathlib.Core.Bool.{Bool, true, false, cond, not, _&&_}
+use mathlib.Core.Path.{_≡_, refl, sym, ap, _∙_}
+use mathlib.Core.Bool.{Bool, true, false, _&&_}
 use mathlib.Core.List.{List, [], _∷_, _++_}
 use Prim.Native.Nat.{ℕ, zero, suc, _+_, _-_, _*_, _≤_, _<_}
 use native.Mathlib.Omega.{arith}
@@ -10,11 +10,10 @@ use lib.ListN.{length, take, drop, getD, List·getD-eq-default, length-take, len
 use lib.Seq.{take-nil, take-take, drop-drop, take-add, getD-take, getD-drop, length-take-le}
 use borrow.Author.Tests.{lt-ltb, ltb-true, ltb-false}
 use Rattle.cluster.specs.Config.{Config}
-use Rattle.protocol.specs.declared.Stamp.{Stamp}
-use Rattle.protocol.specs.Format.{Bytes, value4, via, seq, number4, byte, run}
-use Rattle.protocol.specs.Values.{Candidate, Held, sameList, sameStamp, sameCandidate, stampSize, nonceSize, tagsSize, candidateSize}
+use Rattle.protocol.specs.Format.{Bytes, via, seq, number4, byte, run}
+use Rattle.protocol.specs.Values.{Candidate, sameList, sameStamp, sameCandidate, stampSize, nonceSize, tagsSize, candidateSize}
 use Rattle.protocol.specs.Packet.{stampF}
-use Rattle.protocol.specs.View.{keptSize, part, stampAt, candidateAt, heldAt, candidatesIn, repliesIn, replySlotOf, marked, candidatesAt, candidateSlot, repliesAt, replySlot}
+use Rattle.protocol.specs.View.{keptSize, part, stampAt, candidateAt, heldAt, candidatesIn, repliesIn, replySlotOf, marked, candidatesAt, candidateSlot}
 use Rattle.protocol.proofs.Formats.{print4-value}
 use Rattle.protocol.proofs.Equal.{same-printed}
 use Rattle.decide.specs.Steps.{rank, rankAt}

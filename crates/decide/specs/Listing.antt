@@ -1,10 +1,10 @@
 -- The list of candidates, slot by slot. A slot is counted from 0: slot i is that of server i + 1.
-use mathlib.Core.Bool.{Bool, true, false, cond, not, _&&_, _||_}
+use mathlib.Core.Bool.{Bool, false, cond, not, _&&_, _||_}
 use mathlib.Core.List.{List}
 use Prim.Native.Nat.{ℕ, zero, suc}
 use lib.Dec.{ltb, eqb}
 use lib.ListN.{length}
-use Rattle.cluster.specs.Config.{Config, shelf}
+use Rattle.cluster.specs.Config.{shelf}
 use Rattle.cluster.specs.Ranges.{within, topFaults}
 use Rattle.protocol.specs.Values.{Candidate, sameCandidate, isBlank}
 use Rattle.protocol.specs.Rules.{ByServer, any, gather}

@@ -3,22 +3,27 @@ ghost use mathlib.Core.Path.{_≡_};
 ghost use Prim.Native.Nat.{_<_, _≤_};
 ghost use lib.ListN.{length, take};
 ghost use Rattle.cluster.specs.Config.{shelf};
-ghost use Rattle.cluster.specs.Ranges.{topLength, contentRoom};
+ghost use Rattle.cluster.specs.Ranges.{topLength, contentRoom, mostServers};
 ghost use Rattle.erasure.specs.Fragments.{fragmentSize};
 ghost use Rattle.protocol.specs.ServerBytes.{over};
 ghost use Rattle.protocol.specs.View.{replySlotOf};
 ghost use Rattle.decide.specs.Steps.{Usable, Full, Rising, FragmentsAs, contentOf};
 use crate::FRAGMENTS;
-use crate::REPLIES;
-use crate::REPLY_SLOT;
-use crate::STAMP;
 use crate::sizes::copy;
 use crate::sizes::fragment_size;
 use crate::sizes::shares;
 use crate::sizes::size_of;
+use wire::kept::REPLIES;
+use wire::kept::REPLY_SLOT;
+use wire::sizes::STAMP;
 
 // The fragments of the first servers of the array, one after the other, of a content of n bytes.
-pub(crate) fn fragments_of(kept: &[u8], t: usize, n: usize, servers: [u8; 13]) -> [u8; FRAGMENTS]
+pub(crate) fn fragments_of(
+    kept: &[u8],
+    t: usize,
+    n: usize,
+    servers: [u8; cluster::MOST_SERVERS],
+) -> [u8; FRAGMENTS]
     requires { ⌜ (Usable t (now kept)) × (n ≤ topLength) × (Rising t servers) ⌝ }
     ensures { λ r. ⌜ FragmentsAs t (now (kept .entry)) (fragmentSize (shelf t .shares) n) servers r ⌝ }
 {
@@ -35,8 +40,14 @@ pub(crate) fn fragments_of(kept: &[u8], t: usize, n: usize, servers: [u8; 13]) -
 }
 
 // The content that the first servers of the array give, of the length in slot b, at the start of out; its length.
-pub(crate) fn rebuild(kept: &[u8], t: usize, b: usize, servers: [u8; 13], out: &mut [u8]) -> usize
-    requires { ⌜ (Usable t (now kept)) × (b < 13) × (Full (replySlotOf (now kept) b)) × (Rising t servers) × (contentRoom ≤ length (now out)) ⌝ }
+pub(crate) fn rebuild(
+    kept: &[u8],
+    t: usize,
+    b: usize,
+    servers: [u8; cluster::MOST_SERVERS],
+    out: &mut [u8],
+) -> usize
+    requires { ⌜ (Usable t (now kept)) × (b < mostServers) × (Full (replySlotOf (now kept) b)) × (Rising t servers) × (contentRoom ≤ length (now out)) ⌝ }
     ensures { λ r. ⌜ (r ≡ length (contentOf t (now (kept .entry)) b (take (shelf t .shares) servers)))
         × (now (out .exit) ≡ over (contentOf t (now (kept .entry)) b (take (shelf t .shares) servers)) (now (out .entry))) ⌝ }
 {

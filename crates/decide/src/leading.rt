@@ -3,13 +3,10 @@ ghost use mathlib.Core.Path.{_≡_};
 ghost use mathlib.Core.Bool.{true, cond};
 ghost use Prim.Native.Nat.{suc, _<_};
 ghost use Rattle.cluster.specs.Config.{shelf};
+ghost use Rattle.cluster.specs.Ranges.{mostServers};
 ghost use Rattle.sha256.specs.Sha256.{sha256};
 ghost use Rattle.protocol.specs.View.{candidatesIn};
 ghost use Rattle.decide.specs.Steps.{Usable, bit, fitsAt, agreesAt, MembersAs, GroupAs, leadsAt, leaderAt, triedAt, ChoiceAs};
-use crate::CANDIDATE_SLOT;
-use crate::CANDIDATES;
-use crate::DIGEST;
-use crate::STAMP;
 use crate::list::entry;
 use crate::reply::alike_at;
 use crate::reply::intact_at;
@@ -17,29 +14,40 @@ use crate::reply::names_at;
 use crate::sizes::rank_at;
 use crate::sizes::servers;
 use crate::sizes::shares;
+use wire::kept::CANDIDATE_SLOT;
+use wire::kept::CANDIDATES;
+use wire::sizes::DIGEST;
+use wire::sizes::STAMP;
 
 // A group's servers: how many, and which.
 pub(crate) struct Members {
     pub(crate) count: usize,
-    pub(crate) servers: [u8; 13],
+    pub(crate) servers: [u8; cluster::MOST_SERVERS],
 }
 
 // The server that leads a group, or 0, and the servers of its group.
 pub(crate) struct Group {
     pub(crate) server: usize,
-    pub(crate) servers: [u8; 13],
+    pub(crate) servers: [u8; cluster::MOST_SERVERS],
 }
 
 // A slot, the server that leads a group of its candidate, or 0, and the servers of the group.
 pub(crate) struct Choice {
     pub(crate) slot: usize,
     pub(crate) server: usize,
-    pub(crate) servers: [u8; 13],
+    pub(crate) servers: [u8; cluster::MOST_SERVERS],
 }
 
 // The reply of slot j fits the candidate of slot i, whose nonce has the digest d.
-pub(crate) fn fits(kept: &[u8], marks: [u8; 13], t: usize, i: usize, d: &[u8], j: usize) -> bool
-    requires { ⌜ (Usable t (now kept)) × (i < 13) × (j < shelf t .servers) × (now d ≡ sha256 (candidatesIn (shelf t) (now kept) (suc i) .nonce)) ⌝ }
+pub(crate) fn fits(
+    kept: &[u8],
+    marks: [u8; cluster::MOST_SERVERS],
+    t: usize,
+    i: usize,
+    d: &[u8],
+    j: usize,
+) -> bool
+    requires { ⌜ (Usable t (now kept)) × (i < mostServers) × (j < shelf t .servers) × (now d ≡ sha256 (candidatesIn (shelf t) (now kept) (suc i) .nonce)) ⌝ }
     ensures { λ r. ⌜ r ≡ fitsAt t marks (now (kept .entry)) i j ⌝ }
 {
     if marks[j] == 0 {
@@ -54,14 +62,14 @@ pub(crate) fn fits(kept: &[u8], marks: [u8; 13], t: usize, i: usize, d: &[u8], j
 // 1 where the reply of slot j is of the group of slot b's, which fits; else 0. The fragment is digested last.
 pub(crate) fn agrees(
     kept: &[u8],
-    marks: [u8; 13],
+    marks: [u8; cluster::MOST_SERVERS],
     t: usize,
     i: usize,
     d: &[u8],
     b: usize,
     j: usize,
 ) -> usize
-    requires { ⌜ (Usable t (now kept)) × (i < 13) × (b < shelf t .servers) × (j < shelf t .servers)
+    requires { ⌜ (Usable t (now kept)) × (i < mostServers) × (b < shelf t .servers) × (j < shelf t .servers)
         × (now d ≡ sha256 (candidatesIn (shelf t) (now kept) (suc i) .nonce)) × (fitsAt t marks (now kept) i b ≡ true) ⌝ }
     ensures { λ r. ⌜ r ≡ bit (agreesAt t marks (now (kept .entry)) i b (suc j)) ⌝ }
 {
@@ -86,19 +94,19 @@ pub(crate) fn agrees(
 // The members of the group of slot b's reply, until there are enough.
 pub(crate) fn members_of(
     kept: &[u8],
-    marks: [u8; 13],
+    marks: [u8; cluster::MOST_SERVERS],
     t: usize,
     i: usize,
     d: &[u8],
     b: usize,
 ) -> Members
-    requires { ⌜ (Usable t (now kept)) × (i < 13) × (b < shelf t .servers)
+    requires { ⌜ (Usable t (now kept)) × (i < mostServers) × (b < shelf t .servers)
         × (now d ≡ sha256 (candidatesIn (shelf t) (now kept) (suc i) .nonce)) × (fitsAt t marks (now kept) i b ≡ true) ⌝ }
     ensures { λ r. ⌜ MembersAs t marks (now (kept .entry)) i b r ⌝ }
 {
     let s = servers(t);
     let k = shares(t);
-    let mut out = [0u8; 13];
+    let mut out = [0u8; cluster::MOST_SERVERS];
     let mut n = 0;
     let mut j = 0;
     while j < s {
@@ -121,26 +129,26 @@ pub(crate) fn members_of(
 // Slot b's group, where it leads one.
 pub(crate) fn group_of(
     kept: &[u8],
-    marks: [u8; 13],
+    marks: [u8; cluster::MOST_SERVERS],
     t: usize,
     i: usize,
     d: &[u8],
     b: usize,
 ) -> Group
-    requires { ⌜ (Usable t (now kept)) × (i < 13) × (b < shelf t .servers) × (now d ≡ sha256 (candidatesIn (shelf t) (now kept) (suc i) .nonce)) ⌝ }
+    requires { ⌜ (Usable t (now kept)) × (i < mostServers) × (b < shelf t .servers) × (now d ≡ sha256 (candidatesIn (shelf t) (now kept) (suc i) .nonce)) ⌝ }
     ensures { λ r. ⌜ GroupAs t marks (now (kept .entry)) i (cond (leadsAt t marks (now (kept .entry)) i b) (suc b) 0) r ⌝ }
 {
     if !fits(kept, marks, t, i, d, b) {
         return Group {
             server: 0,
-            servers: [0; 13],
+            servers: [0; cluster::MOST_SERVERS],
         };
     }
     let m = members_of(kept, marks, t, i, d, b);
     if m.count < shares(t) {
         return Group {
             server: 0,
-            servers: [0; 13],
+            servers: [0; cluster::MOST_SERVERS],
         };
     }
     let servers = m.servers;
@@ -151,8 +159,8 @@ pub(crate) fn group_of(
 }
 
 // The lowest server that leads a group of slot i's candidate.
-pub(crate) fn leader(kept: &[u8], marks: [u8; 13], t: usize, i: usize) -> Group
-    requires { ⌜ (Usable t (now kept)) × (i < 13) ⌝ }
+pub(crate) fn leader(kept: &[u8], marks: [u8; cluster::MOST_SERVERS], t: usize, i: usize) -> Group
+    requires { ⌜ (Usable t (now kept)) × (i < mostServers) ⌝ }
     ensures { λ r. ⌜ GroupAs t marks (now (kept .entry)) i (leaderAt t marks (now (kept .entry)) i (shelf t .servers)) r ⌝ }
 {
     let at = CANDIDATES + CANDIDATE_SLOT * i + STAMP;
@@ -168,32 +176,38 @@ pub(crate) fn leader(kept: &[u8], marks: [u8; 13], t: usize, i: usize) -> Group
     }
     Group {
         server: 0,
-        servers: [0; 13],
+        servers: [0; cluster::MOST_SERVERS],
     }
 }
 
 // The same, where slot i is listed and has this rank; else none.
-pub(crate) fn tried(kept: &[u8], marks: [u8; 13], t: usize, key: u64, i: usize) -> Group
-    requires { ⌜ (Usable t (now kept)) × (i < 13) ⌝ }
+pub(crate) fn tried(
+    kept: &[u8],
+    marks: [u8; cluster::MOST_SERVERS],
+    t: usize,
+    key: u64,
+    i: usize,
+) -> Group
+    requires { ⌜ (Usable t (now kept)) × (i < mostServers) ⌝ }
     ensures { λ r. ⌜ GroupAs t marks (now (kept .entry)) i (cond (triedAt t (now (kept .entry)) key i) (leaderAt t marks (now (kept .entry)) i (shelf t .servers)) 0) r ⌝ }
 {
     if rank_at(kept, CANDIDATES + CANDIDATE_SLOT * i) != key {
         return Group {
             server: 0,
-            servers: [0; 13],
+            servers: [0; cluster::MOST_SERVERS],
         };
     }
     if entry(kept, t, i) == 0 {
         return Group {
             server: 0,
-            servers: [0; 13],
+            servers: [0; cluster::MOST_SERVERS],
         };
     }
     leader(kept, marks, t, i)
 }
 
 // The first slot that is listed, has this rank, and has a leader.
-pub(crate) fn find(kept: &[u8], marks: [u8; 13], t: usize, key: u64) -> Choice
+pub(crate) fn find(kept: &[u8], marks: [u8; cluster::MOST_SERVERS], t: usize, key: u64) -> Choice
     requires { ⌜ Usable t (now kept) ⌝ }
     ensures { λ r. ⌜ ChoiceAs t marks (now (kept .entry)) key r ⌝ }
 {
@@ -214,6 +228,6 @@ pub(crate) fn find(kept: &[u8], marks: [u8; 13], t: usize, key: u64) -> Choice
     Choice {
         slot: 0,
         server: 0,
-        servers: [0; 13],
+        servers: [0; cluster::MOST_SERVERS],
     }
 }

@@ -18,26 +18,11 @@ mod rank;
 mod reply;
 mod sizes;
 
-// The kept bytes, and where the slots of candidates and of replies stand in them.
-pub const KEPT: usize = 24576;
-
-pub const CANDIDATES: usize = 1541;
-
-pub const CANDIDATE_SLOT: usize = 485;
-
-pub const REPLIES: usize = 7846;
-
-pub const REPLY_SLOT: usize = 1120;
-
-// Bytes of a stamp, of a digest, of a candidate's stamp and nonce.
-pub(crate) const STAMP: usize = 37;
-
-pub(crate) const DIGEST: usize = 32;
-
-pub(crate) const NAME: usize = 69;
+// Bytes of a candidate's stamp and nonce.
+pub(crate) const NAME: usize = wire::sizes::STAMP + wire::sizes::NONCE;
 
 // The bytes of k fragments are at most k - 1 more than a content's.
-pub(crate) const FRAGMENTS: usize = 1028;
+pub(crate) const FRAGMENTS: usize = cluster::TOP_LENGTH + cluster::TOP_FAULTS;
 
 // The ranks of blank stamps go up to this one.
 pub(crate) const BLANK_RANK: u64 = 255;
@@ -52,7 +37,7 @@ fn is_usable(kept: &[u8], t: usize) -> bool
     if t > cluster::TOP_FAULTS {
         return false;
     }
-    kept.len() == KEPT
+    kept.len() == wire::kept::KEPT
 }
 
 // Whether slot i is listed.
@@ -113,7 +98,7 @@ pub enum Decision {
 }
 
 // What the filter round has decided; where a candidate is found, its content at the start of out.
-pub fn decide(kept: &[u8], marks: [u8; 13], t: usize, out: &mut [u8]) -> Decision
+pub fn decide(kept: &[u8], marks: [u8; cluster::MOST_SERVERS], t: usize, out: &mut [u8]) -> Decision
     ensures { λ r. ⌜ (r ≡ decided t marks (now (kept .entry)) (now (out .entry)) .answer)
         × (now (out .exit) ≡ decided t marks (now (kept .entry)) (now (out .entry)) .output) ⌝ }
 {

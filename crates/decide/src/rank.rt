@@ -5,19 +5,20 @@ ghost use Prim.Native.Nat.{suc, _+_, _*_, _<_};
 ghost use lib.Dec.{ltb, eqb};
 ghost use lib.ListN.{length};
 ghost use Rattle.cluster.specs.Config.{shelf};
+ghost use Rattle.cluster.specs.Ranges.{mostServers};
 ghost use Rattle.protocol.specs.View.{keptSize, repliesAt, replySlot, candidatesIn, repliesIn, marked};
 ghost use Rattle.decide.specs.Steps.{Usable, rankAt, bit, stays, raised, topAt};
 use crate::BLANK_RANK;
-use crate::CANDIDATE_SLOT;
-use crate::CANDIDATES;
-use crate::REPLIES;
-use crate::REPLY_SLOT;
 use crate::sizes::rank_at;
 use crate::sizes::servers;
+use wire::kept::CANDIDATE_SLOT;
+use wire::kept::CANDIDATES;
+use wire::kept::REPLIES;
+use wire::kept::REPLY_SLOT;
 
 // 1 where the server of slot j replied with a stamp of a lower rank, else 0.
 pub(crate) fn is_lower(kept: &[u8], mark: u8, j: usize, key: u64) -> usize
-    requires { ⌜ (length (now kept) ≡ keptSize) × (j < 13) ⌝ }
+    requires { ⌜ (length (now kept) ≡ keptSize) × (j < mostServers) ⌝ }
     ensures { λ r. ⌜ r ≡ bit (not (eqb mark 0) && ltb (rankAt (now (kept .entry)) (repliesAt + replySlot * j)) key) ⌝ }
 {
     if mark == 0 {
@@ -30,7 +31,7 @@ pub(crate) fn is_lower(kept: &[u8], mark: u8, j: usize, key: u64) -> usize
 }
 
 // Whether a candidate of this rank is still in the list: fewer than a quorum replied with a lower stamp.
-pub(crate) fn stays(kept: &[u8], marks: [u8; 13], t: usize, key: u64) -> bool
+pub(crate) fn stays(kept: &[u8], marks: [u8; cluster::MOST_SERVERS], t: usize, key: u64) -> bool
     requires { ⌜ Usable t (now kept) ⌝ }
     ensures { λ r. ⌜ r ≡ stays (shelf t) (marked marks) (repliesIn (shelf t) marks (now (kept .entry))) key ⌝ }
 {
@@ -45,8 +46,14 @@ pub(crate) fn stays(kept: &[u8], marks: [u8; 13], t: usize, key: u64) -> bool
 }
 
 // The higher of a rank and that of slot i's candidate, where it stays. A rank that is not higher is not looked for among the replies.
-pub(crate) fn raised(kept: &[u8], marks: [u8; 13], t: usize, i: usize, top: u64) -> u64
-    requires { ⌜ (Usable t (now kept)) × (i < 13) ⌝ }
+pub(crate) fn raised(
+    kept: &[u8],
+    marks: [u8; cluster::MOST_SERVERS],
+    t: usize,
+    i: usize,
+    top: u64,
+) -> u64
+    requires { ⌜ (Usable t (now kept)) × (i < mostServers) ⌝ }
     ensures { λ r. ⌜ r ≡ raised (shelf t) (marked marks) (repliesIn (shelf t) marks (now (kept .entry))) (candidatesIn (shelf t) (now (kept .entry)) (suc i)) top ⌝ }
 {
     let key = rank_at(kept, CANDIDATES + CANDIDATE_SLOT * i);
@@ -60,7 +67,7 @@ pub(crate) fn raised(kept: &[u8], marks: [u8; 13], t: usize, i: usize, top: u64)
 }
 
 // The highest rank that stays in the list, or the blank one.
-pub(crate) fn top(kept: &[u8], marks: [u8; 13], t: usize) -> u64
+pub(crate) fn top(kept: &[u8], marks: [u8; cluster::MOST_SERVERS], t: usize) -> u64
     requires { ⌜ Usable t (now kept) ⌝ }
     ensures { λ r. ⌜ r ≡ topAt t marks (now (kept .entry)) (shelf t .servers) ⌝ }
 {

@@ -3,26 +3,27 @@ ghost use mathlib.Core.Path.{_≡_};
 ghost use Prim.Native.Nat.{suc, _<_, _≤_};
 ghost use lib.ListN.{length};
 ghost use Rattle.cluster.specs.Config.{shelf};
+ghost use Rattle.cluster.specs.Ranges.{topFaults, mostServers};
 ghost use Rattle.protocol.specs.Primitives.{real};
 ghost use Rattle.protocol.specs.Rules.{sameShare};
 ghost use Rattle.protocol.specs.View.{replySlot, candidateSlot, candidatesIn, replySlotOf, candidateAt, heldAt};
 ghost use Rattle.decide.specs.Steps.{Usable, Full, names, intact, slotHeld};
 ghost use Rattle.decide.specs.Decided.{sameTagsAt};
-use crate::CANDIDATE_SLOT;
-use crate::CANDIDATES;
-use crate::DIGEST;
 use crate::NAME;
-use crate::REPLIES;
-use crate::REPLY_SLOT;
-use crate::STAMP;
 use crate::sizes::digests_at;
 use crate::sizes::servers;
 use crate::sizes::size_of;
 use wire::bytes::same;
+use wire::kept::CANDIDATE_SLOT;
+use wire::kept::CANDIDATES;
+use wire::kept::REPLIES;
+use wire::kept::REPLY_SLOT;
+use wire::sizes::DIGEST;
+use wire::sizes::STAMP;
 
 // Whether a reply names the candidate: its stamp, a share, a length in its range, and the nonce's digest d. No fragment is digested.
 pub(crate) fn names(reply: &[u8], candidate: &[u8], t: usize, d: &[u8]) -> bool
-    requires { ⌜ (1 ≤ t) × (t ≤ 4) × (length (now reply) ≡ replySlot) × (length (now candidate) ≡ candidateSlot) ⌝ }
+    requires { ⌜ (1 ≤ t) × (t ≤ topFaults) × (length (now reply) ≡ replySlot) × (length (now candidate) ≡ candidateSlot) ⌝ }
     ensures { λ r. ⌜ r ≡ names (candidateAt (shelf t) (now (candidate .entry))) (now (d .entry)) (heldAt (shelf t) (now (reply .entry))) ⌝ }
 {
     if reply[STAMP] == 0 {
@@ -44,7 +45,7 @@ pub(crate) fn names(reply: &[u8], candidate: &[u8], t: usize, d: &[u8]) -> bool
 
 // Whether the fragment in server j + 1's reply has its own digest.
 pub(crate) fn intact(reply: &[u8], t: usize, j: usize) -> bool
-    requires { ⌜ (1 ≤ t) × (t ≤ 4) × (length (now reply) ≡ replySlot) × (Full (now reply)) × (j < shelf t .servers) ⌝ }
+    requires { ⌜ (1 ≤ t) × (t ≤ topFaults) × (length (now reply) ≡ replySlot) × (Full (now reply)) × (j < shelf t .servers) ⌝ }
     ensures { λ r. ⌜ r ≡ intact (suc j) (heldAt (shelf t) (now (reply .entry)) .share) ⌝ }
 {
     let e = digests_at(t, size_of(reply));
@@ -55,7 +56,7 @@ pub(crate) fn intact(reply: &[u8], t: usize, j: usize) -> bool
 
 // Whether two replies agree: length, digests, nonce digest and tags, the last three one after the other.
 pub(crate) fn alike(a: &[u8], b: &[u8], t: usize) -> bool
-    requires { ⌜ (1 ≤ t) × (t ≤ 4) × (length (now a) ≡ replySlot) × (length (now b) ≡ replySlot) × (Full (now a)) × (Full (now b)) ⌝ }
+    requires { ⌜ (1 ≤ t) × (t ≤ topFaults) × (length (now a) ≡ replySlot) × (length (now b) ≡ replySlot) × (Full (now a)) × (Full (now b)) ⌝ }
     ensures { λ r. ⌜ r ≡ sameShare real (shelf t) (heldAt (shelf t) (now (a .entry)) .share) (heldAt (shelf t) (now (b .entry)) .share) ⌝ }
 {
     let n = size_of(a);
@@ -69,7 +70,7 @@ pub(crate) fn alike(a: &[u8], b: &[u8], t: usize) -> bool
 
 // The candidate of slot i is named in slot j.
 pub(crate) fn names_at(kept: &[u8], t: usize, i: usize, d: &[u8], j: usize) -> bool
-    requires { ⌜ (Usable t (now kept)) × (i < 13) × (j < 13) ⌝ }
+    requires { ⌜ (Usable t (now kept)) × (i < mostServers) × (j < mostServers) ⌝ }
     ensures { λ r. ⌜ r ≡ names (candidatesIn (shelf t) (now (kept .entry)) (suc i)) (now (d .entry)) (slotHeld t (now (kept .entry)) j) ⌝ }
 {
     let a = CANDIDATES + CANDIDATE_SLOT * i;
@@ -88,7 +89,7 @@ pub(crate) fn intact_at(kept: &[u8], t: usize, j: usize) -> bool
 
 // The replies in slots b and j agree.
 pub(crate) fn alike_at(kept: &[u8], t: usize, b: usize, j: usize) -> bool
-    requires { ⌜ (Usable t (now kept)) × (b < 13) × (j < 13) × (Full (replySlotOf (now kept) b)) × (Full (replySlotOf (now kept) j)) ⌝ }
+    requires { ⌜ (Usable t (now kept)) × (b < mostServers) × (j < mostServers) × (Full (replySlotOf (now kept) b)) × (Full (replySlotOf (now kept) j)) ⌝ }
     ensures { λ r. ⌜ r ≡ sameShare real (shelf t) (slotHeld t (now (kept .entry)) b .share) (slotHeld t (now (kept .entry)) j .share) ⌝ }
 {
     let x = REPLIES + REPLY_SLOT * b;
@@ -98,7 +99,7 @@ pub(crate) fn alike_at(kept: &[u8], t: usize, b: usize, j: usize) -> bool
 
 // Whether the reply in slot j has a length in its range and the tags of the candidate in slot i.
 pub(crate) fn tags_alike(kept: &[u8], t: usize, i: usize, j: usize) -> bool
-    requires { ⌜ (Usable t (now kept)) × (i < 13) × (j < 13) ⌝ }
+    requires { ⌜ (Usable t (now kept)) × (i < mostServers) × (j < mostServers) ⌝ }
     ensures { λ r. ⌜ r ≡ sameTagsAt t (now (kept .entry)) i (suc j) ⌝ }
 {
     let a = CANDIDATES + CANDIDATE_SLOT * i + NAME;

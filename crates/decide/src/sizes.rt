@@ -3,26 +3,26 @@ ghost use mathlib.Core.Path.{_≡_};
 ghost use Prim.Native.Nat.{_+_, _*_, _<_, _≤_};
 ghost use lib.ListN.{length, getD};
 ghost use Rattle.cluster.specs.Config.{shelf};
-ghost use Rattle.cluster.specs.Ranges.{topLength};
+ghost use Rattle.cluster.specs.Ranges.{topLength, topFaults};
 ghost use Rattle.erasure.specs.Fragments.{fragmentSize};
 ghost use Rattle.protocol.specs.Format.{value2};
 ghost use Rattle.protocol.specs.Values.{stampSize};
 ghost use Rattle.protocol.specs.ClientBytes.{put};
 ghost use Rattle.protocol.specs.View.{replySlot};
 ghost use Rattle.decide.specs.Steps.{rankAt, DigestsAt};
-use crate::STAMP;
+use wire::sizes::STAMP;
 
 // How many servers there are.
 pub(crate) fn servers(t: usize) -> usize
-    requires { ⌜ t ≤ 4 ⌝ }
+    requires { ⌜ t ≤ topFaults ⌝ }
     ensures { λ r. ⌜ (r ≡ shelf t .servers) × (r ≡ 3 * t + 1) ⌝ }
 {
-    3 * t + 1
+    wire::sizes::servers(t as u8)
 }
 
 // How many fragments give a content back.
 pub(crate) fn shares(t: usize) -> usize
-    requires { ⌜ t ≤ 4 ⌝ }
+    requires { ⌜ t ≤ topFaults ⌝ }
     ensures { λ r. ⌜ (r ≡ shelf t .shares) × (r ≡ t + 1) ⌝ }
 {
     t + 1
@@ -30,16 +30,15 @@ pub(crate) fn shares(t: usize) -> usize
 
 // The length of a fragment of a content of n bytes.
 pub(crate) fn fragment_size(t: usize, n: usize) -> usize
-    requires { ⌜ (1 ≤ t) × (t ≤ 4) × (n ≤ topLength) ⌝ }
+    requires { ⌜ (1 ≤ t) × (t ≤ topFaults) × (n ≤ topLength) ⌝ }
     ensures { λ r. ⌜ r ≡ fragmentSize (shelf t .shares) n ⌝ }
 {
-    let k = shares(t);
-    (n + k - 1) / k
+    wire::sizes::fragment_size(t as u8, n as u32)
 }
 
 // Where the digests stand in a reply: past the stamp, the byte, the length and the fragment.
 pub(crate) fn digests_at(t: usize, n: usize) -> usize
-    requires { ⌜ (1 ≤ t) × (t ≤ 4) × (n ≤ topLength) ⌝ }
+    requires { ⌜ (1 ≤ t) × (t ≤ topFaults) × (n ≤ topLength) ⌝ }
     ensures { λ r. ⌜ DigestsAt t n r ⌝ }
 {
     STAMP + 3 + fragment_size(t, n)
@@ -79,9 +78,5 @@ pub(crate) fn copy(out: &mut [u8], to: usize, src: &[u8])
     requires { ⌜ to + length (now src) ≤ length (now out) ⌝ }
     ensures { λ _. ⌜ now (out .exit) ≡ put (now (out .entry)) to (now (src .entry)) ⌝ }
 {
-    let mut i = 0;
-    while i < src.len() {
-        out[to + i] = src[i];
-        i += 1;
-    }
+    let _ = wire::make::put(out, to, src);
 }

@@ -1,23 +1,20 @@
 -- A cleared work area in which every server is made blank holds the start of a drill: zeros are a client that has begun no call.
 -- By the places, which are apart, and by computation on zeros. Assumes nothing.
-use mathlib.Core.Path.{_≡_, refl, ap, sym, _∙_}
+use mathlib.Core.Path.{_≡_, refl, ap, _∙_}
 use mathlib.Core.Bool.{Bool, true, false}
 use mathlib.Core.List.{List}
-use mathlib.Core.Logic.{_≢_}
-use Prim.Native.Nat.{ℕ, _+_, _-_, _*_, _≤_, _<_}
+use Prim.Native.Nat.{ℕ, _+_, _≤_, _<_}
 use native.Mathlib.Omega.{arith}
 use lib.Dec.{eqb}
 use lib.ListN.{length, replicate}
 use borrow.Author.Tests.{eq-eqb, eqb-true, eqb-false}
 use Rattle.cluster.specs.Config.{shelf}
-use Rattle.cluster.specs.Ranges.{within, topFaults, topClient, mostServers, memorySize}
-use Rattle.protocol.specs.View.{part, keptSize}
+use Rattle.cluster.specs.Ranges.{within, topFaults, topClient, memorySize}
+use Rattle.protocol.specs.View.{keptSize}
 use Rattle.protocol.specs.Memory.{encodeMemory, blankMemory}
-use Rattle.protocol.specs.Primitives.{real}
 use Rattle.protocol.specs.ServerBytes.{blankRefusal, blankStep}
 use Rattle.protocol.specs.ClientBytes.{fresh}
 use Rattle.protocol.specs.Runs.{newMachine, nowBytes}
-use Rattle.protocol.proofs.Answers.{at-cond}
 use Rattle.protocol.proofs.Places.{part-zeros}
 use Rattle.wire.specs.Places.{padded}
 use Rattle.state.specs.State.{callAt, tallyAt, marksAt, lengthAt}

@@ -1,13 +1,12 @@
 -- Document 01's examples of lines, rows and refusals, by computation. Assumes nothing.
 use mathlib.Core.Path.{_≡_, refl}
-use mathlib.Core.Bool.{true, false}
 use mathlib.Core.List.{List, [], _∷_, _++_}
 use mathlib.Core.Option.{none, some}
-use Prim.Native.Nat.{ℕ, _+_}
+use Prim.Native.Nat.{ℕ}
 use lib.ListN.{length, replicate}
 use Rattle.protocol.specs.View.{part}
-use Rattle.drill.specs.Sheet.{lines, before, digits, number, column, columnAt, fields, readText, isStep, isFirst, isAlone, noContent, firstLine, stepLine}
-use Rattle.drill.specs.Listing.{justified, columns, row, lastRow, rows, listed, listing, rowsFor, drillRefusal, drillOf}
+use Rattle.drill.specs.Sheet.{lines, before, digits, number, column, columnAt, fields, readText, isFirst, isAlone, noContent, firstLine}
+use Rattle.drill.specs.Listing.{justified, columns, lastRow, listed, listing}
 
 spaces : ℕ → List ℕ
 spaces n = replicate n 32

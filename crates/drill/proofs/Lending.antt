@@ -1,8 +1,8 @@
 -- A part of the work area is lent and comes back: the whole then has the new bytes at the part's place. So a client's step on its slot is a put there.
 -- The list is what stands before the part, the part, and what stands after it. Assumes nothing.
-use mathlib.Core.Path.{_≡_, refl, ap, sym, _∙_, subst}
-use mathlib.Core.List.{List, [], _∷_, _++_, append-assoc}
-use Prim.Native.Nat.{ℕ, _+_, _-_, _*_, _≤_, _<_}
+use mathlib.Core.Path.{_≡_, refl, ap, sym, _∙_}
+use mathlib.Core.List.{List, _++_, append-assoc}
+use Prim.Native.Nat.{ℕ, _+_, _≤_}
 use native.Mathlib.Omega.{arith}
 use lib.ListN.{length, take, drop, length-drop, take-append-drop}
 use lib.Seq.{length-take-le, drop-drop, drop-append-le}
@@ -10,9 +10,7 @@ use borrow.Author.Tests.{eq-eqb}
 use Rattle.cluster.specs.Ranges.{topClient, mostServers}
 use Rattle.protocol.specs.declared.Call.{Call}
 use Rattle.protocol.specs.View.{part, keptSize}
-use Rattle.protocol.specs.ServerBytes.{over}
 use Rattle.protocol.specs.ClientBytes.{Begun, put, beginWrite, beginRead, giveUp}
-use Rattle.protocol.proofs.Puts.{put-over, put-length}
 use Rattle.wire.specs.Make.{placed}
 use Rattle.wire.proofs.Put.{placed-wrote}
 use Rattle.state.specs.State.{stateSize, callBytes}

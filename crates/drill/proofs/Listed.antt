@@ -4,21 +4,20 @@ use mathlib.Core.Path.{_≡_, refl, ap, sym, _∙_}
 use mathlib.Core.Bool.{Bool, true, false, cond}
 use mathlib.Core.List.{List, [], _∷_}
 use mathlib.Core.Option.{none, some}
-use Prim.Native.Nat.{ℕ, zero, suc, _+_, _-_, _*_, _/_, _≤_, _<_}
+use Prim.Native.Nat.{ℕ, suc, _+_, _-_, _*_, _/_, _≤_, _<_}
 use native.Mathlib.Omega.{arith}
 use native.Mathlib.Nat.{div-lt-iff-lt-mul, div-add-mod'}
 use lib.Dec.{ltb}
 use lib.ListN.{length, drop, replicate}
 use borrow.Author.Tests.{eq-eqb, ne-eqb, lt-ltb, le-ltb, ltb-true, ltb-false}
 use Rattle.cluster.specs.Ranges.{within, topFaults}
-use Rattle.cluster.specs.declared.Outcome.{Outcome}
 use Rattle.protocol.specs.ServerBytes.{over}
 use Rattle.protocol.specs.ClientBytes.{put}
 use Rattle.protocol.proofs.Puts.{put-over}
 use Rattle.drill.specs.declared.sheet.Line.{Line}
-use Rattle.drill.specs.Sheet.{Text, lines, firstLine}
+use Rattle.drill.specs.Sheet.{lines, firstLine}
 use Rattle.drill.specs.Reads.{textAt, EndsAt, nextAt}
-use Rattle.drill.specs.Listing.{rowSize, row, lastRow, listed, listing, workSize, rowsFor, drillRefusal, drillOf, ListsAs}
+use Rattle.drill.specs.Listing.{rowSize, lastRow, listed, listing, workSize, rowsFor, drillRefusal, drillOf, ListsAs}
 use Rattle.drill.specs.Moves.{RowsAs}
 use Rattle.drill.proofs.Split.{next-drop}
 use Rattle.drill.proofs.Printed.{row-length}

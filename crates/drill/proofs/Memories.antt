@@ -1,16 +1,16 @@
 -- A server's memory put at its place stands there, every other server's memory and every client's slot is untouched.
 -- The places are apart by their ranges. Assumes nothing.
-use mathlib.Core.Path.{_≡_, refl, ap, sym, _∙_}
+use mathlib.Core.Path.{_≡_, ap, sym, _∙_}
 use mathlib.Core.Bool.{true}
 use mathlib.Core.List.{List}
 use mathlib.Core.Logic.{_≢_, _⊎_, inl, inr, ⊎-elim}
-use Prim.Native.Nat.{ℕ, _+_, _-_, _*_, _≤_}
+use Prim.Native.Nat.{ℕ, _+_, _-_, _≤_}
 use native.Mathlib.Omega.{arith}
 use lib.Dec.{eqb}
 use lib.ListN.{length}
 use borrow.Author.Tests.{eqb-true, eqb-false}
 use Rattle.cluster.specs.Config.{shelf}
-use Rattle.cluster.specs.Ranges.{within, topClient, mostServers, memorySize}
+use Rattle.cluster.specs.Ranges.{within, mostServers, memorySize}
 use Rattle.protocol.specs.View.{part, keptSize}
 use Rattle.protocol.specs.ClientBytes.{put}
 use Rattle.protocol.specs.Rules.{upd}

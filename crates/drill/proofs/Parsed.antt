@@ -1,6 +1,6 @@
 -- A line is read column by column: what each column's answer says of the line. An answer of the code tells the definition's.
 -- By cases. Assumes nothing.
-use mathlib.Core.Path.{_≡_, refl, ap, sym, _∙_}
+use mathlib.Core.Path.{_≡_, refl}
 use mathlib.Core.Bool.{true, false}
 use mathlib.Core.List.{List}
 use mathlib.Core.Option.{Option, none, some}
@@ -10,9 +10,7 @@ use lib.ListN.{length}
 use borrow.Author.Tests.{eq-eqb, ne-eqb, lt-ltb, le-ltb}
 use Rattle.cluster.specs.Ranges.{topNumber}
 use Rattle.drill.specs.declared.sheet.Line.{Line}
-use Rattle.drill.specs.declared.sheet.Number.{Number}
 use Rattle.drill.specs.declared.sheet.Number.the-variants as numbers
-use Rattle.drill.specs.declared.sheet.Read.{Read}
 use Rattle.drill.specs.declared.sheet.Read.the-variants as reads
 use Rattle.drill.specs.Sheet.{Text, lineSize, columnAt, fields, readText, isFirst, isStep, firstLine, stepLine}
 use Rattle.drill.specs.Reads.{numberOf, readOf}

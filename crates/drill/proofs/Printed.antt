@@ -3,12 +3,12 @@
 use mathlib.Core.Path.{_≡_, refl, ap, sym, _∙_}
 use mathlib.Core.Bool.{Bool, true, false, cond}
 use mathlib.Core.List.{List, [], _∷_, _++_, append-assoc, append-nil}
-use Prim.Native.Nat.{ℕ, zero, suc, _+_, _-_, _*_, _/_, _%_, _≤_, _<_}
+use Prim.Native.Nat.{ℕ, zero, suc, _+_, _*_, _/_, _%_, _≤_, _<_}
 use native.Mathlib.Omega.{arith}
 use native.Mathlib.Numerals.{add-one}
 use lib.Dec.{eqb}
 use lib.ListN.{length, getD, take, drop, set, replicate, length-append, length-replicate, length-set, take-append-drop}
-use lib.Seq.{take-suc, take-take, take-all, set-split, take-at, drop-at, length-take-le, take-set-le, drop-set-lt, drop-cons, getD-set-same, take-length}
+use lib.Seq.{take-suc, take-take, take-all, length-take-le, take-set-le, drop-set-lt, drop-cons, getD-set-same}
 use borrow.Author.Tests.{eq-eqb, ne-eqb}
 use Rattle.protocol.specs.ClientBytes.{put}
 use Rattle.protocol.proofs.Puts.{put-put, put-length}

@@ -1,10 +1,10 @@
 -- What is put at one party's place of the work area stands there, and every other party's place is untouched: the area goes on holding what the parties hold.
 -- The places are apart by their ranges. Assumes nothing.
-use mathlib.Core.Path.{_≡_, refl, ap, sym, _∙_, subst}
-use mathlib.Core.Bool.{Bool, true, false}
-use mathlib.Core.List.{List, [], _++_, append-nil}
+use mathlib.Core.Path.{_≡_, refl, ap, sym, _∙_}
+use mathlib.Core.Bool.{true}
+use mathlib.Core.List.{List, [], append-nil}
 use mathlib.Core.Logic.{_≢_, _⊎_, inl, inr, ⊎-elim}
-use Prim.Native.Nat.{ℕ, _+_, _-_, _*_, _≤_, _<_}
+use Prim.Native.Nat.{ℕ, _+_, _-_, _≤_}
 use native.Mathlib.Omega.{arith}
 use lib.Dec.{leb, eqb}
 use lib.ListN.{length}
@@ -22,7 +22,7 @@ use Rattle.protocol.proofs.Places.{part-same, part-below, part-other, slots-apa
 use Rattle.state.specs.State.{stateSize, callAt, callBytes}
 use Rattle.state.proofs.Laws.{state-length, state-back}
 use Rattle.drill.specs.Listing.{workSize}
-use Rattle.drill.specs.Area.{serverAt, clientsAt, clientSlot, clientAt, keptAt, callIn, keptIn, memoryIn, putCall, putClient, putMemory, Stands}
+use Rattle.drill.specs.Area.{serverAt, clientsAt, clientSlot, clientAt, keptAt, callIn, keptIn, memoryIn, putCall, putClient, Stands}
 
 pub range : (lo hi x : ℕ) → within lo hi x ≡ true → (lo ≤ x) × (x ≤ hi)
 range lo hi x e = let (a, b) = and-on (leb lo x) (leb x hi) e in (leb-true lo x a, leb-true x hi b)

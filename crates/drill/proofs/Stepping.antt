@@ -1,6 +1,6 @@
 -- The steps of writes, reads and givings up in the work area: refused ones change nothing, the others put the client's new state at its place.
 -- By the order of the refusals. Assumes nothing.
-use mathlib.Core.Path.{_≡_, refl, ap, sym, _∙_, subst}
+use mathlib.Core.Path.{_≡_, refl, ap, _∙_, subst}
 use mathlib.Core.Bool.{true, false, cond}
 use mathlib.Core.List.{List, _∷_}
 use Prim.Native.Nat.{ℕ, zero, suc, _+_, _≤_, _<_}
@@ -16,11 +16,11 @@ use Rattle.protocol.specs.declared.Aborted.the-variants as aborts
 use Rattle.protocol.specs.Primitives.{real}
 use Rattle.protocol.specs.View.{part}
 use Rattle.protocol.specs.Client.{refused, writeRefusal, readRefusal, abortRefusal}
-use Rattle.protocol.specs.ClientBytes.{Begun, GaveUp, beginWrite, beginRead, giveUp}
-use Rattle.protocol.specs.Runs.{Machine, Machines, write, read, give-up, resultOf, abortedOut, doBytes, setMachine}
+use Rattle.protocol.specs.ClientBytes.{Begun, beginWrite, beginRead, giveUp}
+use Rattle.protocol.specs.Runs.{Machines, read, give-up, resultOf, abortedOut, doBytes, setMachine}
 use Rattle.drill.specs.declared.shown.Shown.{Shown}
 use Rattle.drill.specs.Steps.{drillShelf, nonceFor, isRefused, writeLine, shown}
-use Rattle.drill.specs.Area.{callIn, keptIn, putCall, putClient, writeIn, readIn, giveUpIn, Stands, BeginsAs, StopsAs}
+use Rattle.drill.specs.Area.{writeIn, readIn, giveUpIn, Stands, BeginsAs, StopsAs}
 use Rattle.drill.specs.Moves.{DoneIn, StepsIn}
 use Rattle.drill.proofs.Standing.{client-put, call-put, nothing-put}
 use Rattle.drill.proofs.Visiting.{inside}

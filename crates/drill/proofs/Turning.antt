@@ -1,19 +1,17 @@
 -- What refuses a visit or a blanking, what a row's round is, and a line's step by its verb.
 -- By the order of the refusals, and by cases on the verb. Assumes nothing.
 use mathlib.Core.Path.{_≡_, refl, ap, sym, _∙_, subst}
-use mathlib.Core.Bool.{true, false, cond, not}
+use mathlib.Core.Bool.{true, false}
 use mathlib.Core.List.{List}
-use Prim.Native.Nat.{ℕ, zero, suc, _≤_, _<_}
+use Prim.Native.Nat.{ℕ, zero, suc, _≤_}
 use native.Mathlib.Omega.{arith}
 use lib.Dec.{eqb}
 use lib.ListN.{length}
 use borrow.Author.Tests.{eq-eqb, ne-eqb, leb-true}
 use Rattle.cluster.specs.Config.{shelf}
 use Rattle.cluster.specs.Ranges.{within, topClient}
-use Rattle.cluster.specs.Refusals.{onRefusal}
 use Rattle.protocol.specs.Primitives.{real}
 use Rattle.protocol.specs.Client.{refused}
-use Rattle.protocol.specs.ServerBytes.{Blanked}
 use Rattle.protocol.specs.ClientBytes.{inHand}
 use Rattle.protocol.specs.Runs.{Machines, Done, read, give-up, resultOf, doBytes}
 use Rattle.protocol.proofs.Answers.{and-on}
@@ -21,10 +19,9 @@ use Rattle.server.specs.Blank.{blankLatest}
 use Rattle.drill.specs.declared.sheet.Line.{Line}
 use Rattle.drill.specs.declared.shown.Shown.{Shown}
 use Rattle.drill.specs.Sheet.{isStep, isWrite}
-use Rattle.drill.specs.Steps.{Stepped, drillShelf, writeLine, visitRefusal, visited, visitLine, blankLine, after, stepOf, shown, roundOf}
+use Rattle.drill.specs.Steps.{drillShelf, writeLine, visitRefusal, visited, visitLine, blankLine, after, stepOf, shown, roundOf}
 use Rattle.drill.specs.Area.{callIn, memoryIn, Stands, BlanksAs}
 use Rattle.drill.specs.Moves.{DoneIn, StepsIn, RefusesAs, RoundIn}
-use Rattle.drill.proofs.Standing.{range}
 use Rattle.drill.proofs.Memories.{server-put}
 use Rattle.drill.proofs.Visiting.{inside}
 

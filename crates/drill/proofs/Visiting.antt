@@ -1,11 +1,11 @@
 -- A visit in the work area: the packet made of the client's slot, the server's step on its memory and the client's on its slot, one after the other.
 -- Each is the definition's step, since the area holds what the parties hold. Assumes nothing.
-use mathlib.Core.Path.{_≡_, refl, ap, sym, _∙_, subst}
+use mathlib.Core.Path.{_≡_, refl, ap, _∙_, subst}
 use mathlib.Core.Bool.{true}
 use mathlib.Core.List.{List}
 use Prim.Native.Nat.{ℕ, zero, suc, _≤_, _<_}
 use native.Mathlib.Omega.{arith}
-use lib.ListN.{length, take, replicate}
+use lib.ListN.{take, replicate}
 use borrow.Author.Tests.{le-leb}
 use Rattle.cluster.specs.Config.{upTo, shelf}
 use Rattle.cluster.specs.Ranges.{within, topClient, mostServers, keySize, packetRoom, contentRoom}
@@ -15,12 +15,10 @@ use Rattle.protocol.specs.Primitives.{real}
 use Rattle.protocol.specs.View.{part}
 use Rattle.protocol.specs.ServerBytes.{Served, serverTake}
 use Rattle.protocol.specs.ClientBytes.{Written, Took, clientMake, clientTake, keyOf}
-use Rattle.protocol.specs.Rules.{upd}
 use Rattle.protocol.specs.Runs.{Shelf, Machines, Done, make, serve, take-reply, takenOut, doBytes, setMachine}
 use Rattle.drill.specs.declared.shown.Shown.{Shown}
-use Rattle.drill.specs.Listing.{workSize}
 use Rattle.drill.specs.Steps.{drillShelf, visited, shown}
-use Rattle.drill.specs.Area.{callIn, keptIn, memoryIn, putMemory, putClient, Stands, ServesAs, TakesAs}
+use Rattle.drill.specs.Area.{callIn, keptIn, memoryIn, Stands, ServesAs, TakesAs}
 use Rattle.drill.specs.Moves.{DoneIn}
 use Rattle.drill.proofs.Standing.{client-put}
 use Rattle.drill.proofs.Memories.{server-put, few-servers}

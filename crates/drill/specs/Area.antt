@@ -14,7 +14,7 @@ use Rattle.protocol.specs.ServerBytes.{Served, Blanked}
 use Rattle.protocol.specs.View.{part, keptSize}
 use Rattle.protocol.specs.ClientBytes.{Begun, GaveUp, Took, put, beginWrite, beginRead, giveUp}
 use Rattle.protocol.specs.Runs.{Machines}
-use Rattle.state.specs.State.{stateSize, callAt, callBytes}
+use Rattle.state.specs.State.{stateSize, keptPlace, callAt, callBytes}
 use Rattle.drill.specs.Listing.{workSize}
 
 unfoldable pub serverAt : ℕ → ℕ
@@ -31,7 +31,7 @@ unfoldable pub clientAt : ℕ → ℕ
 clientAt c = clientsAt + clientSlot * (c - 1)
 
 unfoldable pub keptAt : ℕ → ℕ
-keptAt c = clientAt c + 64
+keptAt c = clientAt c + keptPlace
 
 unfoldable pub callIn : List ℕ → ℕ → Call
 callIn w c = callAt (part w (clientAt c) stateSize)

@@ -1,6 +1,6 @@
 -- The listing of a drill sheet, and the drill as one operation over a sheet, an output and a lent work area (document 01, "Drill sheets").
 use mathlib.Core.Path.{_≡_}
-use mathlib.Core.Bool.{Bool, true, false, cond, not}
+use mathlib.Core.Bool.{cond, not}
 use mathlib.Core.List.{List, [], _∷_, _++_}
 use mathlib.Core.Option.{Option, none, some}
 use Prim.Native.Nat.{ℕ, zero, suc, _+_, _-_, _*_, _/_, _%_}
@@ -14,7 +14,7 @@ use Rattle.protocol.specs.Runs.{Shelf}
 use Rattle.drill.specs.declared.sheet.Line.{Line}
 use Rattle.drill.specs.declared.shown.Shown.{Shown}
 use Rattle.drill.specs.Sheet.{Text, lines, newline, columnSize, firstLine, stepLine}
-use Rattle.drill.specs.Steps.{State, Stepped, drillShelf, start, stepOf, shown, roundOf}
+use Rattle.drill.specs.Steps.{State, drillShelf, start, stepOf, shown, roundOf}
 
 -- ---- rows
 

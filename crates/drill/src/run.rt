@@ -3,7 +3,7 @@ ghost use mathlib.Core.Path.{_≡_};
 ghost use mathlib.Core.Bool.{true};
 ghost use Prim.Native.Nat.{_+_, _*_, _≤_, _<_};
 ghost use lib.ListN.{length, drop, replicate};
-ghost use Rattle.cluster.specs.Ranges.{topNumber};
+ghost use Rattle.cluster.specs.Ranges.{topNumber, topFaults};
 ghost use Rattle.drill.specs.Sheet.{isStep, lines};
 ghost use Rattle.drill.specs.Listing.{workSize, rowSize, rowsFor, ListsAs};
 ghost use Rattle.drill.specs.Steps.{drillShelf, start};
@@ -29,7 +29,7 @@ pub(crate) fn clear(work: &mut [u8])
 
 // Every server of the shelf is made blank.
 pub(crate) fn blank_servers(work: &mut [u8], t: usize)
-    requires { ⌜ ((1 ≤ t) × (t ≤ 4)) × ((length (now work) ≡ workSize) × (now work ≡ replicate (length (now work)) 0)) ⌝ }
+    requires { ⌜ ((1 ≤ t) × (t ≤ topFaults)) × ((length (now work) ≡ workSize) × (now work ≡ replicate (length (now work)) 0)) ⌝ }
     ensures { λ _. ⌜ Stands t (now (work .exit)) (start (drillShelf t) .machines) ⌝ }
 {
     let n = wire::sizes::servers(t as u8);
@@ -50,7 +50,7 @@ fn one_line(
     begun: u32,
     l: Line,
 ) -> u32
-    requires { ⌜ ((((1 ≤ t) × (t ≤ 4)) × (length (now work) ≡ workSize)) × (begun < topNumber)) × ((isStep l ≡ true) × (at + rowSize ≤ length (now out))) ⌝ }
+    requires { ⌜ ((((1 ≤ t) × (t ≤ topFaults)) × (length (now work) ≡ workSize)) × (begun < topNumber)) × ((isStep l ≡ true) × (at + rowSize ≤ length (now out))) ⌝ }
     ensures { λ r. ⌜ RowIn t begun n l (now (work .entry)) (now (work .exit)) (now (out .entry)) at (now (out .exit)) r ⌝ }
 {
     let s = crate::steps::step(work, t, begun, l);
@@ -67,7 +67,7 @@ pub(crate) fn rows_from(
     t: usize,
     from: usize,
 ) -> usize
-    requires { ⌜ (((1 ≤ t) × (t ≤ 4)) × Stands t (now work) (start (drillShelf t) .machines))
+    requires { ⌜ (((1 ≤ t) × (t ≤ topFaults)) × Stands t (now work) (start (drillShelf t) .machines))
         × ((from ≤ length (now sheet)) × (rowSize * length (lines (drop from (now sheet))) ≤ length (now out))) ⌝ }
     ensures { λ r. ⌜ RowsAs t (lines (drop from (now (sheet .entry)))) (now (out .entry)) (now (out .exit)) r ⌝ }
 {

@@ -2,7 +2,7 @@
 ghost use mathlib.Core.Path.{_≡_};
 ghost use Prim.Native.Nat.{_+_, _≤_};
 ghost use lib.ListN.{length, replicate};
-ghost use Rattle.cluster.specs.Ranges.{mostServers, memorySize, keySize};
+ghost use Rattle.cluster.specs.Ranges.{mostServers, memorySize, keySize, topFaults};
 ghost use Rattle.protocol.specs.Primitives.{real};
 ghost use Rattle.protocol.specs.ServerBytes.{serverTake, blankStep};
 ghost use Rattle.server.specs.Blank.{blankLatest};
@@ -32,7 +32,7 @@ pub(crate) fn serve(
 {
     let a = server_at(server);
     let e = a + cluster::MEMORY;
-    let key = [server as u8; 32];
+    let key = [server as u8; cluster::KEY];
     server::take::take(&mut work[a..e], &key, packet, out)
 }
 
@@ -58,7 +58,7 @@ pub(crate) fn blank(work: &mut [u8], t: usize, server: usize)
 
 // Verb 4.
 pub(crate) fn blank_line(work: &mut [u8], t: usize, server: usize) -> Shown
-    requires { ⌜ ((1 ≤ t) × (t ≤ 4)) × (length (now work) ≡ workSize) ⌝ }
+    requires { ⌜ ((1 ≤ t) × (t ≤ topFaults)) × (length (now work) ≡ workSize) ⌝ }
     ensures { λ r. ⌜ DoneIn t (λ m. blankLine (drillShelf t) m server) (now (work .entry)) (now (work .exit)) r ⌝ }
 {
     if server < 1 {

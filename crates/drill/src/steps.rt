@@ -3,7 +3,7 @@ ghost use mathlib.Core.Path.{_≡_};
 ghost use mathlib.Core.Bool.{true};
 ghost use Prim.Native.Nat.{_≤_, _<_};
 ghost use lib.ListN.{length};
-ghost use Rattle.cluster.specs.Ranges.{topNumber};
+ghost use Rattle.cluster.specs.Ranges.{topNumber, topFaults};
 ghost use Rattle.protocol.specs.Primitives.{real};
 ghost use Rattle.protocol.specs.Runs.{doBytes, read, give-up};
 ghost use Rattle.drill.specs.Sheet.{isStep};
@@ -22,48 +22,17 @@ pub struct Moved {
 }
 
 // k as a 32-byte number.
-fn nonce_for(k: u32) -> [u8; 32]
+fn nonce_for(k: u32) -> [u8; cluster::KEY]
     ensures { λ r. ⌜ r ≡ nonceFor k ⌝ }
 {
-    [
-        0,
-        0,
-        0,
-        0,
-        0,
-        0,
-        0,
-        0,
-        0,
-        0,
-        0,
-        0,
-        0,
-        0,
-        0,
-        0,
-        0,
-        0,
-        0,
-        0,
-        0,
-        0,
-        0,
-        0,
-        0,
-        0,
-        0,
-        0,
-        (k / 16777216) as u8,
-        (k / 65536 % 256) as u8,
-        (k / 256 % 256) as u8,
-        (k % 256) as u8,
-    ]
+    let mut nonce = [0u8; cluster::KEY];
+    let _ = wire::make::put_number4(&mut nonce, 28, k);
+    nonce
 }
 
 // A write of length copies of a byte; it uses a nonce only if it begins.
 fn write(work: &mut [u8], t: usize, begun: u32, client: usize, size: usize, fill: u8) -> Moved
-    requires { ⌜ (((1 ≤ t) × (t ≤ 4)) × (length (now work) ≡ workSize)) × (begun < topNumber) ⌝ }
+    requires { ⌜ (((1 ≤ t) × (t ≤ topFaults)) × (length (now work) ≡ workSize)) × (begun < topNumber) ⌝ }
     ensures { λ r. ⌜ StepsIn t (λ m. writeLine (drillShelf t) m begun client size fill) (now (work .entry)) (now (work .exit)) (r .shown) (r .begun) ⌝ }
 {
     if client < 1 {
@@ -84,15 +53,10 @@ fn write(work: &mut [u8], t: usize, begun: u32, client: usize, size: usize, fill
             begun,
         };
     }
-    let content = [fill; 1024];
+    let content = [fill; cluster::TOP_LENGTH];
     let nonce = nonce_for(begun + 1);
-    let n = area::begin_write(
-        work,
-        t,
-        client,
-        wire::bytes::part(&content, 0, size),
-        &nonce,
-    );
+    let bytes = wire::bytes::part(&content, 0, size);
+    let n = area::begin_write(work, t, client, bytes, &nonce);
     if n == 0 {
         return Moved {
             shown: shown::begun(n),
@@ -106,7 +70,7 @@ fn write(work: &mut [u8], t: usize, begun: u32, client: usize, size: usize, fill
 }
 
 fn read(work: &mut [u8], t: usize, client: usize) -> Shown
-    requires { ⌜ ((1 ≤ t) × (t ≤ 4)) × (length (now work) ≡ workSize) ⌝ }
+    requires { ⌜ ((1 ≤ t) × (t ≤ topFaults)) × (length (now work) ≡ workSize) ⌝ }
     ensures { λ r. ⌜ DoneIn t (λ m. doBytes real (drillShelf t) m (read client)) (now (work .entry)) (now (work .exit)) r ⌝ }
 {
     if client < 1 {
@@ -119,7 +83,7 @@ fn read(work: &mut [u8], t: usize, client: usize) -> Shown
 }
 
 fn stop(work: &mut [u8], t: usize, client: usize) -> Shown
-    requires { ⌜ ((1 ≤ t) × (t ≤ 4)) × (length (now work) ≡ workSize) ⌝ }
+    requires { ⌜ ((1 ≤ t) × (t ≤ topFaults)) × (length (now work) ≡ workSize) ⌝ }
     ensures { λ r. ⌜ DoneIn t (λ m. doBytes real (drillShelf t) m (give-up client)) (now (work .entry)) (now (work .exit)) r ⌝ }
 {
     if client < 1 {
@@ -133,7 +97,7 @@ fn stop(work: &mut [u8], t: usize, client: usize) -> Shown
 
 // The line's step, by its verb.
 pub(crate) fn step(work: &mut [u8], t: usize, begun: u32, l: Line) -> Moved
-    requires { ⌜ ((((1 ≤ t) × (t ≤ 4)) × (length (now work) ≡ workSize)) × (begun < topNumber)) × (isStep l ≡ true) ⌝ }
+    requires { ⌜ ((((1 ≤ t) × (t ≤ topFaults)) × (length (now work) ≡ workSize)) × (begun < topNumber)) × (isStep l ≡ true) ⌝ }
     ensures { λ r. ⌜ StepsIn t (λ m. stepOf (drillShelf t) m begun l) (now (work .entry)) (now (work .exit)) (r .shown) (r .begun) ⌝ }
 {
     let verb = l.verb;

@@ -3,9 +3,9 @@ ghost use mathlib.Core.Path.{_≡_};
 ghost use Prim.Native.Nat.{_≤_};
 ghost use lib.ListN.{length};
 ghost use Rattle.cluster.specs.Config.{shelf};
-ghost use Rattle.cluster.specs.Ranges.{topClient};
+ghost use Rattle.cluster.specs.Ranges.{topClient, topFaults};
 ghost use Rattle.protocol.specs.Primitives.{real};
-ghost use Rattle.protocol.specs.ClientBytes.{clientMake, clientTake, inHand};
+ghost use Rattle.protocol.specs.ClientBytes.{clientMake, clientTake};
 ghost use Rattle.drill.specs.Listing.{workSize};
 ghost use Rattle.drill.specs.Steps.{drillShelf, visited, visitLine};
 ghost use Rattle.drill.specs.Area.{callIn, keptIn, TakesAs};
@@ -15,23 +15,23 @@ use crate::shown::Shown;
 use wire::bytes::part;
 
 // Server i's key is 32 bytes of i.
-fn server_keys() -> [[u8; 32]; 13]
+fn server_keys() -> [[u8; cluster::KEY]; cluster::MOST_SERVERS]
     ensures { λ r. ⌜ r ≡ drillShelf 0 .keys ⌝ }
 {
     [
-        [1u8; 32],
-        [2u8; 32],
-        [3u8; 32],
-        [4u8; 32],
-        [5u8; 32],
-        [6u8; 32],
-        [7u8; 32],
-        [8u8; 32],
-        [9u8; 32],
-        [10u8; 32],
-        [11u8; 32],
-        [12u8; 32],
-        [13u8; 32],
+        [1u8; cluster::KEY],
+        [2u8; cluster::KEY],
+        [3u8; cluster::KEY],
+        [4u8; cluster::KEY],
+        [5u8; cluster::KEY],
+        [6u8; cluster::KEY],
+        [7u8; cluster::KEY],
+        [8u8; cluster::KEY],
+        [9u8; cluster::KEY],
+        [10u8; cluster::KEY],
+        [11u8; cluster::KEY],
+        [12u8; cluster::KEY],
+        [13u8; cluster::KEY],
     ]
 }
 
@@ -51,8 +51,8 @@ fn take(work: &mut [u8], t: usize, client: usize, reply: &[u8], out: &mut [u8]) 
 {
     let call = area::call_of(work, client);
     let a = area::kept_at(client);
-    let e = a + client::kept::KEPT;
-    let writers = [255u8; 32];
+    let e = a + wire::kept::KEPT;
+    let writers = [255u8; cluster::KEY];
     let keys = server_keys();
     let s = client::taking::take_in(
         call,
@@ -70,33 +70,21 @@ fn take(work: &mut [u8], t: usize, client: usize, reply: &[u8], out: &mut [u8]) 
 
 // The packet to the server, and its reply back. The server has acted even if the client refuses.
 pub(crate) fn visit(work: &mut [u8], t: usize, client: usize, server: usize) -> Shown
-    requires { ⌜ ((t ≤ 4) × (length (now work) ≡ workSize)) × (((1 ≤ client) × (client ≤ topClient)) × ((1 ≤ server) × (server ≤ shelf t .servers))) ⌝ }
+    requires { ⌜ ((t ≤ topFaults) × (length (now work) ≡ workSize)) × (((1 ≤ client) × (client ≤ topClient)) × ((1 ≤ server) × (server ≤ shelf t .servers))) ⌝ }
     ensures { λ r. ⌜ DoneIn t (λ m. visited (drillShelf t) m client server) (now (work .entry)) (now (work .exit)) r ⌝ }
 {
-    let mut packet = [0u8; 6400];
+    let mut packet = [0u8; cluster::PACKET_ROOM];
     let made = make(work, t, client, server, &mut packet);
-    let mut reply = [0u8; 6400];
+    let mut reply = [0u8; cluster::PACKET_ROOM];
     let sent = crate::servers::serve(work, server, part(&packet, 0, made.count), &mut reply);
-    let mut content = [0u8; 1024];
+    let mut content = [0u8; cluster::CONTENT_ROOM];
     let taken = take(work, t, client, part(&reply, 0, sent.count), &mut content);
     crate::shown::taken(taken, &content)
 }
 
-// Whether a call is in hand.
-fn is_pending(call: protocol::Call) -> bool
-    ensures { λ r. ⌜ r ≡ inHand call ⌝ }
-{
-    let tally = call.tally;
-    let round = tally.round;
-    if round < 1 {
-        return false;
-    }
-    round <= 6
-}
-
 // What refuses a visit before anything acts: 4, 5, 13, or 0.
 fn visit_refusal(work: &[u8], t: usize, client: usize, server: usize) -> u8
-    requires { ⌜ (1 ≤ t) × (t ≤ 4) ⌝ }
+    requires { ⌜ (1 ≤ t) × (t ≤ topFaults) ⌝ }
     ensures { λ r. ⌜ RefusesAs t (now (work .entry)) client server r ⌝ }
 {
     if server < 1 {
@@ -111,14 +99,14 @@ fn visit_refusal(work: &[u8], t: usize, client: usize, server: usize) -> u8
     if cluster::TOP_CLIENT < client {
         return 5;
     }
-    if is_pending(area::call_of(work, client)) {
+    if client::refusals::is_pending(area::call_of(work, client)) {
         return 0;
     }
     13
 }
 
 pub(crate) fn visit_line(work: &mut [u8], t: usize, client: usize, server: usize) -> Shown
-    requires { ⌜ ((1 ≤ t) × (t ≤ 4)) × (length (now work) ≡ workSize) ⌝ }
+    requires { ⌜ ((1 ≤ t) × (t ≤ topFaults)) × (length (now work) ≡ workSize) ⌝ }
     ensures { λ r. ⌜ DoneIn t (λ m. visitLine (drillShelf t) m client server) (now (work .entry)) (now (work .exit)) r ⌝ }
 {
     let n = visit_refusal(work, t, client, server);

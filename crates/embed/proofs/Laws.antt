@@ -1,33 +1,32 @@
--- What the exported functions share: a copy to the front of a buffer, byte by byte, and what a refused and an accepted call answer and leave.
+-- What the exported functions share: a copy to the front of a buffer, and what a refused and an accepted call answer and leave.
 -- Assumes nothing.
 use mathlib.Core.Path.{_≡_, refl, sym, ap, _∙_}
 use mathlib.Core.Logic.{_≢_}
 use mathlib.Core.List.{List, _++_}
 use Prim.Native.Nat.{ℕ, zero, suc, _≤_, _<_}
-use native.Mathlib.Nat.{le-of-lt, le-of-eq}
-use lib.ListN.{length, getD, take, drop, set, drop-of-length-le}
+use native.Mathlib.Nat.{le-of-eq}
+use native.Mathlib.Omega.{arith}
+use lib.ListN.{length, take, drop}
 use borrow.Author.Tests.{eq-eqb, ne-eqb, lt-ltb, le-ltb}
-use lib.Seq.{length-take-le, take-suc, take-all, drop-cons, append-snoc, set-at}
-use mathlib.Core.List.{append-nil}
+use lib.Seq.{length-take-le, take-all}
 use Rattle.hmac.specs.Hmac.{tagOf}
 use Rattle.hmac.proofs.Laws.{tag-length}
+use Rattle.protocol.specs.ServerBytes.{over}
+use Rattle.protocol.specs.View.{part}
+use Rattle.protocol.proofs.Puts.{put-over}
+use Rattle.wire.specs.Make.{placed}
+use Rattle.wire.proofs.Put.{placed-wrote}
 use Rattle.embed.specs.Packing.{packed, answer, written}
 use Rattle.embed.specs.Digests.{digestRefusal, tagRefusal}
 
--- a turn of the loop that copies
-pub copied-more : (s d : List ℕ) (j : ℕ) → j < length s → j < length d
-    → set (take j s ++ drop j d) j (getD s j 0) ≡ take (suc j) s ++ drop (suc j) d
-copied-more s d j in-s in-d =
-    let rest : List ℕ = drop (suc j) d in
-    ap (λ (r : List ℕ). set (take j s ++ r) j (getD s j 0)) (drop-cons d j 0 in-d)
-    ∙ set-at (take j s) (getD d j 0) rest (getD s j 0) j (length-take-le j s (le-of-lt in-s))
-    ∙ sym (append-snoc (take j s) (getD s j 0) rest)
-    ∙ ap (λ (r : List ℕ). r ++ rest) (sym (take-suc s j 0 in-s))
-
--- a whole copy over a buffer of the same length is the source
-pub copied-whole : (s d : List ℕ) (n : ℕ) → length s ≤ n → length d ≤ n → take n s ++ drop n d ≡ s
-copied-whole s d n all over =
-    ap (λ (r : List ℕ). r ++ drop n d) (take-all n s all) ∙ ap (λ (r : List ℕ). s ++ r) (drop-of-length-le d over) ∙ append-nil s
+-- the first n bytes over the front of a buffer
+pub copied-front : (s d : List ℕ) (n : ℕ) {b e : List ℕ} {k : ℕ} → n ≤ length s → n ≤ length d → b ≡ part s 0 n → record { next = k; output = e } ≡ placed d 0 b
+    → e ≡ take n s ++ drop n d
+unfolding part over
+copied-front s d n {b} {e} in-s in-d q p =
+    let l : length b ≡ n = ap length q ∙ length-take-le n s in-s in
+    placed-wrote p (omega arith) .bytes ∙ put-over d b
+    ∙ ap (λ (z : List ℕ). z ++ drop (length b) d) q ∙ ap (λ (j : ℕ). take n s ++ drop j d) l
 
 -- an array that is as long as what is taken of it
 pub all-of : (n : ℕ) (made bytes : List ℕ) → made ≡ bytes → length bytes ≡ n → take n made ≡ bytes

@@ -17,7 +17,7 @@ use Rattle.protocol.specs.Primitives.{real}
 use Rattle.protocol.specs.View.{part, keptSize}
 use Rattle.protocol.specs.ClientBytes.{Begun, put, beginWrite, beginRead, giveUp, Took, clientMake, clientTake}
 use Rattle.wire.specs.Make.{placed}
-use Rattle.state.specs.State.{stateSize, callAt, callBytes}
+use Rattle.state.specs.State.{keptPlace, stateSize, callAt, callBytes}
 use Rattle.state.proofs.Laws.{state-length}
 use Rattle.client.specs.declared.begin.Started.{Started}
 use Rattle.client.specs.declared.begin.Stopped.{Stopped}
@@ -25,7 +25,7 @@ use Rattle.client.specs.declared.answers.Answered.{Answered}
 use Rattle.client.specs.Answers.{started, stopped, answered}
 use Rattle.client.specs.Core.{coreWrite, coreRead, coreMake, coreTake}
 use Rattle.embed.specs.Packing.{packed, wrongSize}
-use Rattle.embed.specs.Clients.{keptPlace, clientSize, keptOf, stateWith, sized, sizedWith, begunIn, stoppedIn, abortedOf, writeIn, readIn, giveUpIn, Posted, madeOut, makeIn, takenOf, Taking, keysSize, keysIn, sizedFor, tookIn, takeIn}
+use Rattle.embed.specs.Clients.{clientSize, keptOf, stateWith, sized, sizedWith, begunIn, stoppedIn, abortedOf, writeIn, readIn, giveUpIn, Posted, madeOut, makeIn, takenOf, Taking, keysSize, keysIn, sizedFor, tookIn, takeIn}
 
 module _ (d : List ℕ) (size : length d ≡ clientSize) where
   -- what is lent is the kept bytes

@@ -17,14 +17,11 @@ use Rattle.protocol.specs.declared.Taken.{Taken}
 use Rattle.protocol.specs.declared.Taken.the-variants as taken
 use Rattle.protocol.specs.Primitives.{real}
 use Rattle.protocol.specs.ClientBytes.{Begun, GaveUp, Written, Took, beginWrite, beginRead, giveUp, clientMake, clientTake}
-use Rattle.state.specs.State.{stateSize, callAt, callBytes}
+use Rattle.state.specs.State.{stateSize, keptPlace, callAt, callBytes}
 use Rattle.embed.specs.Packing.{packed, wrongSize}
 use Rattle.embed.specs.Coding.{outcomeOf}
 
--- the place of the kept bytes; those between them and the small state are not looked at
-abbrev pub keptPlace : ℕ
-keptPlace = 64
-
+-- the bytes between the small state and the kept bytes are not looked at
 abbrev pub clientSize : ℕ
 clientSize = keptPlace + keptSize
 

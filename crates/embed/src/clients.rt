@@ -10,10 +10,8 @@ ghost use Rattle.state.specs.State.{stateSize, callAt, callBytes};
 ghost use Rattle.embed.specs.Packing.{packed};
 ghost use Rattle.embed.specs.Clients.{clientSize, keptOf, stateWith, writeIn, readIn, giveUpIn, abortedOf, madeOut, makeIn, takenOf, tookIn, takeIn};
 
-// The place of the kept bytes, and the bytes of a whole state.
-const KEPT: usize = 64;
-
-const CLIENT: usize = KEPT + client::kept::KEPT;
+// The bytes of a whole state.
+const CLIENT: usize = state::KEPT_PLACE + wire::kept::KEPT;
 
 // Bytes of all servers' keys.
 const KEYS: usize = cluster::KEY * cluster::MOST_SERVERS;
@@ -32,7 +30,7 @@ fn write_in(
     t: usize,
     client: usize,
     content: &[u8],
-    nonce: [u8; 32],
+    nonce: [u8; cluster::KEY],
 ) -> cluster::Outcome
     requires { ⌜ length (now state) ≡ clientSize ⌝ }
     ensures { λ r. ⌜ (r ≡ beginWrite t client (callAt (now (state .entry))) (keptOf (now (state .entry))) (now (content .entry)) nonce .result)
@@ -40,7 +38,7 @@ fn write_in(
         (beginWrite t client (callAt (now (state .entry))) (keptOf (now (state .entry))) (now (content .entry)) nonce .kept)) ⌝ }
 {
     let call = state::read(state);
-    let at = KEPT;
+    let at = state::KEPT_PLACE;
     let begun = client::begin::begin_write_in(call, &mut state[at..], t, client, content, &nonce);
     put_call(state, begun.call);
     begun.taken
@@ -54,7 +52,7 @@ fn read_in(state: &mut [u8], t: usize, client: usize) -> cluster::Outcome
         (beginRead t client (callAt (now (state .entry))) (keptOf (now (state .entry))) .kept)) ⌝ }
 {
     let call = state::read(state);
-    let at = KEPT;
+    let at = state::KEPT_PLACE;
     let begun = client::begin::begin_read_in(call, &mut state[at..], t, client);
     put_call(state, begun.call);
     begun.taken
@@ -80,7 +78,7 @@ pub extern "C" fn cendrulas_client_begin_write(
     if state.len() != CLIENT {
         return pack(255, 0, 0, 0);
     }
-    if nonce.len() != 32 {
+    if nonce.len() != cluster::KEY {
         return pack(255, 0, 0, 0);
     }
     let begun = write_in(state, t, client, content, array(nonce));
@@ -132,7 +130,7 @@ fn make_packet(state: &[u8], t: usize, client: usize, server: usize, out: &mut [
     let n = super::servers::lent(out.len());
     let o = client::packets::make_in(
         call,
-        wire::bytes::rest(state, KEPT),
+        wire::bytes::rest(state, state::KEPT_PLACE),
         t,
         client,
         server,
@@ -176,8 +174,8 @@ fn take_packet(
     state: &mut [u8],
     t: usize,
     client: usize,
-    writers: &[u8; 32],
-    keys: &[[u8; 32]; 13],
+    writers: &[u8; cluster::KEY],
+    keys: &[[u8; cluster::KEY]; cluster::MOST_SERVERS],
     packet: &[u8],
     out: &mut [u8],
 ) -> u64
@@ -186,7 +184,7 @@ fn take_packet(
         ≡ tookIn (now (state .entry)) (clientTake real t client (now (writers .entry)) (now (keys .entry)) (callAt (now (state .entry))) (keptOf (now (state .entry))) (now (packet .entry)) (now (out .entry))) ⌝ }
 {
     let call = state::read(state);
-    let at = KEPT;
+    let at = state::KEPT_PLACE;
     let s = client::taking::take_in(
         call,
         &mut state[at..],
@@ -218,7 +216,7 @@ pub extern "C" fn cendrulas_client_take(
     if state.len() != CLIENT {
         return pack(255, 0, 0, 0);
     }
-    if writers.len() != 32 {
+    if writers.len() != cluster::KEY {
         return pack(255, 0, 0, 0);
     }
     if keys.len() != KEYS {

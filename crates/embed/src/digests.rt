@@ -26,7 +26,7 @@ pub extern "C" fn cendrulas_tag(key: &[u8], message: &[u8], out: &mut [u8]) -> u
     ensures { λ r. ⌜ r ≡ answer (tagRefusal (now (key .entry)) (now (out .entry))) (tagOf (now (key .entry)) (now (message .entry))) ⌝ }
     ensures { λ _. ⌜ now (out .exit) ≡ written (tagRefusal (now (key .entry)) (now (out .entry))) (tagOf (now (key .entry)) (now (message .entry))) (now (out .entry)) ⌝ }
 {
-    if key.len() != 32 {
+    if key.len() != cluster::KEY {
         return pack(255, 0, 0, 0);
     }
     if out.len() < hmac::TAG {

@@ -5,13 +5,13 @@ ghost use lib.ListN.{length};
 ghost use Rattle.embed.specs.Clients.{keysSize, keysIn};
 
 // Each key by value.
-pub(crate) fn keys_of(flat: &[u8]) -> [[u8; 32]; 13]
+pub(crate) fn keys_of(flat: &[u8]) -> [[u8; cluster::KEY]; cluster::MOST_SERVERS]
     requires { ⌜ length (now flat) ≡ keysSize ⌝ }
     ensures { λ r. ⌜ r ≡ keysIn (now (flat .entry)) ⌝ }
 {
-    let mut keys = [[0u8; 32]; 13];
+    let mut keys = [[0u8; cluster::KEY]; cluster::MOST_SERVERS];
     let mut i = 0;
-    while i < 13 {
+    while i < cluster::MOST_SERVERS {
         keys[i] = array(wire::bytes::part(flat, cluster::KEY * i, cluster::KEY));
         i += 1;
     }

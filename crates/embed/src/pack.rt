@@ -3,6 +3,7 @@ ghost use mathlib.Core.Path.{_≡_};
 ghost use mathlib.Core.List.{_++_};
 ghost use Prim.Native.Nat.{_≤_};
 ghost use lib.ListN.{length, take, drop};
+ghost use Rattle.cluster.specs.Ranges.{keySize};
 ghost use Rattle.embed.specs.Packing.{packed};
 
 // The four parts of an answer in one number.
@@ -20,19 +21,13 @@ pub(crate) fn put(dst: &mut [u8], src: &[u8], n: usize)
     requires { ⌜ (n ≤ length (now src)) × (n ≤ length (now dst)) ⌝ }
     ensures { λ _. ⌜ now (dst .exit) ≡ take n (now (src .entry)) ++ drop n (now (dst .entry)) ⌝ }
 {
-    let mut i = 0;
-    while i < n {
-        dst[i] = src[i];
-        i += 1;
-    }
+    let _ = wire::make::put(dst, 0, wire::bytes::part(src, 0, n));
 }
 
 // A slice of 32 bytes as an array.
-pub(crate) fn array(src: &[u8]) -> [u8; 32]
-    requires { ⌜ length (now src) ≡ 32 ⌝ }
+pub(crate) fn array(src: &[u8]) -> [u8; cluster::KEY]
+    requires { ⌜ length (now src) ≡ keySize ⌝ }
     ensures { λ r. ⌜ r ≡ now (src .entry) ⌝ }
 {
-    let mut r = [0u8; 32];
-    put(&mut r, src, 32);
-    r
+    wire::bytes::nonce_of(src)
 }

@@ -29,7 +29,7 @@ pub(crate) fn lent(room: usize) -> usize
     cluster::PACKET_ROOM
 }
 
-fn serve(memory: &mut [u8], key: [u8; 32], packet: &[u8], out: &mut [u8]) -> u64
+fn serve(memory: &mut [u8], key: [u8; cluster::KEY], packet: &[u8], out: &mut [u8]) -> u64
     ensures { λ r. ⌜ record { answer = r; memory = now (memory .exit); output = now (out .exit) } ≡ servedOut (serverTake real (now (memory .entry)) key (now (packet .entry)) (now (out .entry))) ⌝ }
 {
     let n = lent(out.len());
@@ -47,7 +47,7 @@ pub extern "C" fn cendrulas_server_take(
 ) -> u64
     ensures { λ r. ⌜ record { answer = r; memory = now (memory .exit); output = now (out .exit) } ≡ takeBy (now (memory .entry)) (now (key .entry)) (now (packet .entry)) (now (out .entry)) ⌝ }
 {
-    if key.len() != 32 {
+    if key.len() != cluster::KEY {
         return pack(255, 0, 0, 0);
     }
     serve(memory, array(key), packet, out)

@@ -15,6 +15,10 @@ numbersSize = 16
 abbrev pub stateSize : ℕ
 stateSize = numbersSize + mostServers
 
+-- the place of the kept bytes where they follow the state in one run
+abbrev pub keptPlace : ℕ
+keptPlace = 64
+
 unfoldable pub numbers : Call → List ℕ
 numbers c =
     print4 (c .number) ++ (print4 (c .last) ++ (print4 (c .high) ++ (print2 (c .length) ++ (c .tally .round ∷ c .tally .count ∷ []))))

@@ -1,37 +1,29 @@
 // A client's small state as bytes, for callers that keep it in lent memory. Every run of bytes has a meaning.
 ghost use mathlib.Core.Path.{_≡_};
-ghost use Prim.Native.Nat.{_≤_, _<_};
+ghost use Prim.Native.Nat.{_<_};
 ghost use lib.ListN.{length};
-ghost use Rattle.cluster.specs.Ranges.{mostServers};
-ghost use Rattle.wire.specs.Places.{padded};
 ghost use Rattle.wire.specs.Make.{placed};
 ghost use Rattle.state.specs.State.{marksAt, lengthAt, tallyAt, numbers, callAt, callBytes};
 
-// Bytes of a state.
+// Bytes of a state, and the place of the kept bytes where they follow it in one run.
 pub const SIZE: usize = NUMBERS + cluster::MOST_SERVERS;
+
+pub const KEPT_PLACE: usize = 64;
 
 // Bytes before the marks: three numbers of 4 bytes, the length in 2, round and count.
 const NUMBERS: usize = 16;
 
-// At most 13 bytes by value, followed by zeros.
-fn marks_from(s: &[u8]) -> [u8; 13]
-    requires { ⌜ length (now s) ≤ mostServers ⌝ }
-    ensures { λ r. ⌜ r ≡ padded mostServers (now (s .entry)) ⌝ }
-{
-    let mut a = [0u8; 13];
-    let mut i = 0;
-    while i < s.len() {
-        a[i] = s[i];
-        i += 1;
-    }
-    a
-}
-
 // Which servers have replied.
-fn marks_at(bytes: &[u8]) -> [u8; 13]
+fn marks_at(bytes: &[u8]) -> [u8; cluster::MOST_SERVERS]
     ensures { λ r. ⌜ r ≡ marksAt (now (bytes .entry)) ⌝ }
 {
-    marks_from(wire::bytes::part(bytes, NUMBERS, cluster::MOST_SERVERS))
+    let mut a = [0u8; cluster::MOST_SERVERS];
+    let _ = wire::make::put(
+        &mut a,
+        0,
+        wire::bytes::part(bytes, NUMBERS, cluster::MOST_SERVERS),
+    );
+    a
 }
 
 fn wide(b: u8) -> u16

@@ -77,7 +77,7 @@ fn history() {
 // What a new client, a writer, answers to the begin of a write of n bytes.
 fn begun(n: usize) -> u64 {
     let content = [7u8; cluster::TOP_LENGTH];
-    let mut kept = [0u8; client::kept::KEPT];
+    let mut kept = [0u8; wire::kept::KEPT];
     let nonce = [5u8; 32];
     let started = client::begin::begin_write_in(
         client::NEW,

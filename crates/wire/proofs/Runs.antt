@@ -1,18 +1,20 @@
 -- Parts of a list of bytes: past the end there is nothing, and what is padded is the bytes themselves where there are enough.
 -- Assumes nothing.
-use mathlib.Core.Path.{_≡_, refl, sym, ap, _∙_, subst}
+use mathlib.Core.Path.{_≡_, refl, sym, ap, _∙_}
 use mathlib.Core.List.{List, [], _∷_, _++_}
 use Prim.Native.Nat.{ℕ, zero, suc, _+_, _-_, _≤_, _<_}
 use native.Mathlib.Omega.{arith}
 use native.Mathlib.Nat.{zero-add}
-use native.Mathlib.Numerals.{add-one}
-use lib.ListN.{length, getD, set, take, drop, replicate, length-append, length-drop, drop-of-length-le, length-replicate}
-use lib.Seq.{take-all, take-nil, take-append-le, take-append-add, length-take-le, paste, paste-suc, take-length, getD-take, getD-drop, ext-getD}
+use lib.ListN.{length, getD, take, drop, replicate, length-append, length-drop, drop-of-length-le, length-replicate}
+use lib.Seq.{take-all, take-nil, take-append-le, take-append-add, length-take-le, getD-take, getD-drop, ext-getD}
 use Rattle.hmac.specs.Hmac.{tagSize}
 use Rattle.protocol.specs.Format.{value4}
 use Rattle.protocol.specs.Values.{stampSize}
 use Rattle.protocol.specs.View.{part, stampAt}
+use Rattle.protocol.specs.ClientBytes.{put}
 use Rattle.wire.specs.Places.{padded}
+use Rattle.wire.specs.Make.{placed}
+use Rattle.wire.proofs.Put.{placed-wrote}
 
 -- past the end
 pub getD-past : (s : List ℕ) (i : ℕ) → length s ≤ i → getD s i 0 ≡ 0
@@ -49,26 +51,6 @@ take-replicate : (m n : ℕ) → m ≤ n → _≡_ {A = List ℕ} (take m (repli
 take-replicate zero n h = refl
 take-replicate (suc m) zero h = absurd (omega arith)
 take-replicate (suc m) (suc n) h = ap (λ (y : List ℕ). 0 ∷ y) (take-replicate m n (omega arith))
-
--- ---- an array filled from its start, which holds zeros at first
-
-module _ (n : ℕ) (s : List ℕ) where
-  pub paste-more : (i : ℕ) (a : List ℕ) → a ≡ paste (replicate n 0) 0 s i → i < length s → i < n → set a i (getD s i 0) ≡ paste (replicate n 0) 0 s (i + 1)
-  paste-more i a e h k =
-      let d : List ℕ = replicate n 0 in
-      let z : 0 + i < length d = omega (arith, length-replicate {A = ℕ} n 0) in
-      let g : set (paste d 0 s i) i (getD s i 0) ≡ paste d 0 s (suc i) =
-      subst (λ (j : ℕ). set (paste d 0 s i) j (getD s i 0) ≡ paste d 0 s (suc i)) (zero-add i) (paste-suc d 0 s i 0 z h) in
-      ap (λ (y : List ℕ). set y i (getD s i 0)) e ∙ g ∙ ap (paste d 0 s) (sym (add-one i))
-
-  pub paste-padded : length s ≤ n → paste (replicate n 0) 0 s (length s) ≡ padded n s
-  unfolding padded
-  paste-padded h =
-      let z : List ℕ = replicate n 0 in
-      let m : n ≡ length s + (n - length s) = omega arith in
-      let p : take n (s ++ z) ≡ s ++ replicate (n - length s) 0 =
-      ap (λ (k : ℕ). take k (s ++ z)) m ∙ take-append-add s z (n - length s) ∙ ap (λ (y : List ℕ). s ++ y) (take-replicate (n - length s) n (omega arith)) in
-      rw (take-length s, zero-add (length s)) (ap (λ (y : List ℕ). s ++ y) (drop-replicate n (length s)) ∙ sym p)
 
 pub part-most : (s : List ℕ) (at n : ℕ) → length (part s at n) ≤ n
 unfolding part
@@ -118,6 +100,24 @@ padded-cut n d =
     (λ i h.
     let k : i < n = omega (arith, padded-length n (take n d)) in
     padded-get n (take n d) i k ∙ getD-take n d i 0 k ∙ sym (padded-get n d i k))
+
+-- ---- an array that holds zeros, and then bytes from its start on
+
+put-padded : (n : ℕ) (s : List ℕ) → length s ≤ n → put (replicate n 0) 0 s ≡ padded n s
+unfolding put padded
+put-padded n s h =
+    let z : List ℕ = replicate n 0 in
+    let m : n ≡ length s + (n - length s) = omega arith in
+    let p : take n (s ++ z) ≡ s ++ replicate (n - length s) 0 =
+    ap (λ (k : ℕ). take k (s ++ z)) m ∙ take-append-add s z (n - length s) ∙ ap (λ (y : List ℕ). s ++ y) (take-replicate (n - length s) n (omega arith)) in
+    rw (zero-add (length s)) (ap (λ (y : List ℕ). s ++ y) (drop-replicate n (length s)) ∙ sym p)
+
+pub placed-padded : (n : ℕ) (d : List ℕ) (at : ℕ) {b e : List ℕ} {k : ℕ} → b ≡ part d at n → record { next = k; output = e } ≡ placed (replicate n 0) 0 b
+    → e ≡ padded n (drop at d)
+unfolding part
+placed-padded n d at {b} q p =
+    let l : length b ≤ n = rw q (part-most d at n) in
+    placed-wrote p (omega (arith, length-replicate {A = ℕ} n 0)) .bytes ∙ put-padded n b l ∙ ap (padded n) q ∙ padded-cut n (drop at d)
 
 -- a stamp by its places
 pub stamp-padded : (s : List ℕ)

@@ -1,7 +1,7 @@
 // Runs of bytes. Every function takes every argument: past the end there is nothing, and a byte read there is 0.
 ghost use mathlib.Core.Path.{_≡_};
-ghost use Prim.Native.Nat.{_≤_, _<_};
-ghost use lib.ListN.{length, drop, getD};
+ghost use Prim.Native.Nat.{_<_};
+ghost use lib.ListN.{drop, getD};
 ghost use Rattle.hmac.specs.Hmac.{tagSize};
 ghost use Rattle.protocol.specs.Format.{zeros, value2, value4};
 ghost use Rattle.protocol.specs.Values.{sameList, nonceSize};
@@ -88,7 +88,7 @@ pub fn byte_at(s: &[u8], at: usize) -> u8
     if at < s.len() { s[at] } else { 0 }
 }
 
-fn wide(b: u8) -> u32
+pub(crate) fn wide(b: u8) -> u32
     ensures { λ r. ⌜ (r ≡ b) × (r < 256) ⌝ }
 {
     b as u32
@@ -111,44 +111,20 @@ pub fn number4(s: &[u8]) -> u32
         + wide(byte_at(s, 3))
 }
 
-// At most TAG bytes by value, followed by zeros.
-fn tag_from(s: &[u8]) -> [u8; hmac::TAG]
-    requires { ⌜ length (now s) ≤ tagSize ⌝ }
-    ensures { λ r. ⌜ r ≡ padded tagSize (now (s .entry)) ⌝ }
-{
-    let mut a = [0u8; hmac::TAG];
-    let mut i = 0;
-    while i < s.len() {
-        a[i] = s[i];
-        i += 1;
-    }
-    a
-}
-
-// The first bytes as a tag, by value.
+// The first bytes as a tag, by value, followed by zeros where they are fewer.
 pub fn tag_of(s: &[u8]) -> [u8; hmac::TAG]
     ensures { λ r. ⌜ r ≡ padded tagSize (now (s .entry)) ⌝ }
 {
-    tag_from(part(s, 0, hmac::TAG))
-}
-
-// At most 32 bytes by value, followed by zeros.
-fn nonce_from(s: &[u8]) -> [u8; cluster::KEY]
-    requires { ⌜ length (now s) ≤ nonceSize ⌝ }
-    ensures { λ r. ⌜ r ≡ padded nonceSize (now (s .entry)) ⌝ }
-{
-    let mut a = [0u8; cluster::KEY];
-    let mut i = 0;
-    while i < s.len() {
-        a[i] = s[i];
-        i += 1;
-    }
+    let mut a = [0u8; hmac::TAG];
+    let _ = crate::make::put(&mut a, 0, part(s, 0, hmac::TAG));
     a
 }
 
-// The first bytes as a nonce or a digest, by value.
+// The first bytes as a nonce or a digest, by value, followed by zeros where they are fewer.
 pub fn nonce_of(s: &[u8]) -> [u8; cluster::KEY]
     ensures { λ r. ⌜ r ≡ padded nonceSize (now (s .entry)) ⌝ }
 {
-    nonce_from(part(s, 0, cluster::KEY))
+    let mut a = [0u8; cluster::KEY];
+    let _ = crate::make::put(&mut a, 0, part(s, 0, cluster::KEY));
+    a
 }

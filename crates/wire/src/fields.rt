@@ -1,8 +1,9 @@
 // Readers of single fields. Each answers a number and the cursor past the field, or that the bytes break the layout there.
-ghost use mathlib.Core.Path.{_≡_};
-ghost use Prim.Native.Nat.{_≤_, _<_};
+ghost use Prim.Native.Nat.{_≤_};
 ghost use lib.ListN.{length};
 ghost use Rattle.wire.specs.Reads.{FieldAs, byteL, number2L, number4L, codeL, RunAs, ZeroAs};
+use crate::bytes::all_zero;
+use crate::bytes::wide;
 
 // A place in bytes.
 pub struct Cursor {
@@ -19,12 +20,6 @@ pub enum Field {
 pub enum Run {
     Past(Cursor),
     Broken,
-}
-
-fn wide(b: u8) -> u32
-    ensures { λ r. ⌜ (r ≡ b) × (r < 256) ⌝ }
-{
-    b as u32
 }
 
 // A byte from lo to hi.
@@ -112,7 +107,7 @@ pub(crate) fn zero_run(s: &[u8], c: Cursor, n: usize) -> Run
         return Run::Broken;
     }
     let end = at + n;
-    if crate::bytes::all_zero(&s[at..end]) {
+    if all_zero(&s[at..end]) {
         return Run::Past(Cursor { at: end });
     }
     Run::Broken

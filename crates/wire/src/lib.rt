@@ -1,6 +1,7 @@
 // Packets in code. Every public function takes every argument, and its contract says by a definition what it answers and writes.
 //
 // sizes   servers, digests_size, tags_size, candidate_size, fragment_size: lengths for a shelf's t (protocol's Values, erasure's Fragments)
+// kept    the places in the bytes that a client keeps (protocol's View)
 // bytes   all_zero: zeros; same: sameList; rest: drop; part: View's part; byte_at: getD; number2, number4: value2, value4; tag_of, nonce_of: padded
 // values  same_stamp: sameStamp; stamp_at: stampAt, padded; CandidateHead::{BLANK, blank, new, is_blank, below}. Stamp's own functions stand in crate protocol
 // fields  byte_field, number2_field, number4_field, code_field: Reads' FieldAs, a number and the cursor past it, or Broken where the format takes nothing
@@ -10,6 +11,7 @@
 
 pub mod bytes;
 pub mod fields;
+pub mod kept;
 pub mod make;
 pub mod packet;
 pub mod parts;

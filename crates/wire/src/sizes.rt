@@ -3,7 +3,6 @@ ghost use mathlib.Core.Path.{_≡_};
 ghost use Rattle.cluster.specs.Config.{shelf};
 ghost use Rattle.erasure.specs.Fragments.{fragmentSize};
 ghost use Rattle.protocol.specs.Values.{digestsSize, tagsSize, candidateSize};
-ghost use Rattle.wire.specs.Places.{shareSize};
 
 // Bytes of a digest, of a nonce, of a stamp and of a packet's head.
 pub const DIGEST: usize = cluster::KEY;
@@ -24,19 +23,19 @@ pub fn servers(t: u8) -> usize
 pub fn digests_size(t: u8) -> usize
     ensures { λ r. ⌜ r ≡ digestsSize (shelf t) ⌝ }
 {
-    DIGEST * (3 * (t as usize) + 1)
+    DIGEST * servers(t)
 }
 
 pub fn tags_size(t: u8) -> usize
     ensures { λ r. ⌜ r ≡ tagsSize (shelf t) ⌝ }
 {
-    hmac::TAG * (3 * (t as usize) + 1)
+    hmac::TAG * servers(t)
 }
 
 pub fn candidate_size(t: u8) -> usize
     ensures { λ r. ⌜ r ≡ candidateSize (shelf t) ⌝ }
 {
-    STAMP + NONCE + hmac::TAG * (3 * (t as usize) + 1)
+    STAMP + NONCE + hmac::TAG * servers(t)
 }
 
 // Bytes of a fragment of a content of n bytes. Each t has its own divisor, which the compiler then knows.

@@ -1,6 +1,6 @@
 // Stamps and candidates' heads by value. The type Stamp, its blank, its order and its blank test stand in crate protocol.
 ghost use mathlib.Core.Path.{_≡_};
-ghost use Rattle.protocol.specs.Values.{isBlank, below, sameStamp, stampSize, nonceSize};
+ghost use Rattle.protocol.specs.Values.{isBlank, below, sameStamp, stampSize};
 ghost use Rattle.protocol.specs.View.{stampAt};
 ghost use Rattle.wire.specs.Places.{padded, blankHead};
 

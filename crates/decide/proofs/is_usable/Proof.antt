@@ -1,6 +1,5 @@
 -- `decide::is_usable` meets its contract: each test refuses, and the last one decides. Nothing is assumed.
 use native.Mathlib.Omega.{arith}
-use borrow.Author.Needs.{needs}
 use Rattle.decide.proofs.Arguments.{few-faults, many-faults, by-size}
 use Rattle.decide.proofs.is_usable.Statement.{statement}
 use Rattle.decide.proofs.is_usable.Tie as tie

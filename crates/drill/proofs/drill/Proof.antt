@@ -8,65 +8,46 @@ use mathlib.Core.Path.{_≡_, ap, sym, _∙_}
 use borrow.Author.Needs.{needs}
 use Rattle.drill.proofs.drill.Statement.{statement}
 use Rattle.drill.proofs.drill.Tie as tie
-use Rattle.drill.proofs.drill.Reads as reads
-use Rattle.drill.proofs.drill.Lts as lts
-use Rattle.drill.proofs.lines.count_lines.Reads as count-lines-reads
-use Rattle.drill.proofs.refused.Reads as refused-reads
-use Rattle.drill.proofs.rows_for.Reads as rows-for-reads
-use Rattle.drill.proofs.run.clear.Reads as clear-reads
-use Rattle.drill.proofs.run.list.Reads as list-reads
 
--- src/lib.rt:39:9
 refused-requires : tie.Need-refused-requires
 refused-requires c κs = search needs
 
--- src/lib.rt:39:9
 returns : tie.Need-returns
 returns c = let a = c .before .before .before .before .before .args in rw (c .refused .ensures) (drill-1 (a .sheet .now) (a .out .now) (a .work .now) (c .before .if1 .taken))
 
--- src/lib.rt:41:41
 count-lines-requires : tie.Need-count-lines-requires
 count-lines-requires c κs = search needs
 
--- src/lib.rt:41:32
 rows-for-requires : tie.Need-rows-for-requires
 rows-for-requires c κs = search needs
 
--- src/lib.rt:42:9
 refused-requires-2 : tie.Need-refused-requires-2
 refused-requires-2 c κs = search needs
 
--- src/lib.rt:42:9
 returns-2 : tie.Need-returns-2
 returns-2 c =
     let a = c .before .before .before .before .before .before .before .before .args in
     let m : c .before .before .rows-for .result ≡ rowsFor (length (lines (a .sheet .now))) = c .before .before .rows-for .ensures ∙ ap rowsFor (c .before .before .before .count-lines .ensures) in
     rw (c .refused2 .ensures) (drill-15 (a .sheet .now) (a .out .now) (a .work .now) (c .before .before .before .before .if1 .left) (room-short (length (a .out .now)) _ (rw m at (c .before .if2 .taken))))
 
--- src/lib.rt:44:5
 clear-requires : tie.Need-clear-requires
 clear-requires c κs = search needs
 
--- src/lib.rt:45:9
 list-requires : tie.Need-list-requires
 list-requires c κs =
     let a = c .before .before .before .before .before .before .before .before .before .before .before .before .before .args in
     let m : c .before .before .before .before .before .before .before .rows-for .result ≡ rowsFor (length (lines (a .sheet .now))) = c .before .before .before .before .before .before .before .rows-for .ensures ∙ ap rowsFor (c .before .before .before .before .before .before .before .before .count-lines .ensures) in
     ((c .before .before .before .work .given ∙ c .before .before .before .before .before .before .before .before .before .if1 .left, c .before .before .before .before .clear .ensures ∙ ap (λ (n : ℕ). replicate n 0) (sym (c .before .before .before .work .given))), room-fits (length (a .out .now)) _ (rw m at (c .before .before .before .before .before .before .if2 .left)))
 
--- src/lib.rt:46:5
 clear-requires-2 : tie.Need-clear-requires-2
 clear-requires-2 c κs = search needs
 
--- src/lib.rt:35:1
 same-length : tie.Need-same-length
 same-length c = search needs
 
--- src/lib.rt:35:1
 same-length-2 : tie.Need-same-length-2
 same-length-2 c = search needs
 
--- src/lib.rt:35:1
 returns-3 : tie.Need-returns-3
 returns-3 c =
     let a = c .before .before .before .before .before .before .before .before .before .before .before .before .before .before .before .before .before .before .before .before .before .before .args in

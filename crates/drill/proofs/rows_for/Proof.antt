@@ -3,18 +3,13 @@ use Rattle.drill.proofs.Listed.{rows-one, rows-more}
 use borrow.Author.Needs.{needs}
 use Rattle.drill.proofs.rows_for.Statement.{statement}
 use Rattle.drill.proofs.rows_for.Tie as tie
-use Rattle.drill.proofs.rows_for.Reads as reads
-use Rattle.drill.proofs.rows_for.Lts as lts
 
--- src/lib.rt:20:9
 returns : tie.Need-returns
 returns c = rows-one (c .before .args .lines) (c .if1 .taken)
 
--- src/lib.rt:22:5
 sub-result : tie.Need-sub-result
 sub-result c = search needs
 
--- src/lib.rt:16:1
 returns-2 : tie.Need-returns-2
 returns-2 c = rows-more (c .before .args .lines) (c .if1 .left)
 

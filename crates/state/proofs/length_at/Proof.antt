@@ -4,10 +4,6 @@ use borrow.Author.Needs.{needs}
 use Rattle.state.specs.State.{lengthAt}
 use Rattle.state.proofs.length_at.Statement.{statement}
 use Rattle.state.proofs.length_at.Tie as tie
-use Rattle.state.proofs.length_at.Reads as reads
-use Rattle.state.proofs.length_at.Lts as lts
-use Rattle.state.proofs.wide.Reads as wide-reads
-use Rattle.wire.proofs.bytes.byte_at.Reads as byte-at-reads
 
 byte-at-requires : tie.Need-byte-at-requires
 byte-at-requires c κs = search needs

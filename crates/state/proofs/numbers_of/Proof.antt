@@ -4,8 +4,6 @@ use borrow.Author.Needs.{needs}
 use Rattle.state.specs.State.{numbers}
 use Rattle.state.proofs.numbers_of.Statement.{statement}
 use Rattle.state.proofs.numbers_of.Tie as tie
-use Rattle.state.proofs.numbers_of.Reads as reads
-use Rattle.state.proofs.numbers_of.Lts as lts
 
 cast-t8 : tie.Need-cast-t8
 cast-t8 c = search needs

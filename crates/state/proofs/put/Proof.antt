@@ -8,10 +8,6 @@ use Rattle.cluster.specs.Ranges.{mostServers}
 use Rattle.state.proofs.Laws.{no-state, state-put}
 use Rattle.state.proofs.put.Statement.{statement}
 use Rattle.state.proofs.put.Tie as tie
-use Rattle.state.proofs.put.Reads as reads
-use Rattle.state.proofs.put.Lts as lts
-use Rattle.state.proofs.numbers_of.Reads as numbers-of-reads
-use Rattle.wire.proofs.make.put.Reads as put-reads
 
 returns : tie.Need-returns
 returns c =

@@ -4,12 +4,6 @@ use borrow.Author.Needs.{needs}
 use Rattle.state.specs.State.{callAt}
 use Rattle.state.proofs.read.Statement.{statement}
 use Rattle.state.proofs.read.Tie as tie
-use Rattle.state.proofs.read.Reads as reads
-use Rattle.state.proofs.read.Lts as lts
-use Rattle.state.proofs.length_at.Reads as length-at-reads
-use Rattle.state.proofs.tally_at.Reads as tally-at-reads
-use Rattle.wire.proofs.bytes.number4.Reads as number4-reads
-use Rattle.wire.proofs.bytes.rest.Reads as rest-reads
 
 number4-requires : tie.Need-number4-requires
 number4-requires c κs = search needs

@@ -4,10 +4,6 @@ use Rattle.protocol.proofs.Puts.{put-over}
 use borrow.Author.Needs.{needs}
 use Rattle.client.proofs.answers.deliver.Statement.{statement}
 use Rattle.client.proofs.answers.deliver.Tie as tie
-use Rattle.client.proofs.answers.deliver.Reads as reads
-use Rattle.client.proofs.answers.deliver.Lts as lts
-use Rattle.client.proofs.answers.enter.Reads as enter-reads
-use Rattle.client.proofs.kept.write_at.Reads as write-at-reads
 
 write-at-requires : tie.Need-write-at-requires
 write-at-requires c κs = search needs

@@ -2,10 +2,6 @@
 use borrow.Author.Needs.{needs}
 use Rattle.client.proofs.answers.enter.Statement.{statement}
 use Rattle.client.proofs.answers.enter.Tie as tie
-use Rattle.client.proofs.answers.enter.Reads as reads
-use Rattle.client.proofs.answers.enter.Lts as lts
-use Rattle.client.proofs.rounds.fresh_tally.Reads as fresh-tally-reads
-use Rattle.client.proofs.rounds.with_tally.Reads as with-tally-reads
 
 fresh-tally-requires : tie.Need-fresh-tally-requires
 fresh-tally-requires c κs = search needs

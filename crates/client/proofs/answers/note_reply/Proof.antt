@@ -2,10 +2,6 @@
 use borrow.Author.Needs.{needs}
 use Rattle.client.proofs.answers.note_reply.Statement.{statement}
 use Rattle.client.proofs.answers.note_reply.Tie as tie
-use Rattle.client.proofs.answers.note_reply.Reads as reads
-use Rattle.client.proofs.answers.note_reply.Lts as lts
-use Rattle.client.proofs.rounds.note.Reads as note-reads
-use Rattle.client.proofs.rounds.with_tally.Reads as with-tally-reads
 
 note-requires : tie.Need-note-requires
 note-requires c κs = search needs

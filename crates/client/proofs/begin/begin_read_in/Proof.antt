@@ -5,12 +5,6 @@ use Rattle.client.proofs.Begins.{read-short, read-refused, read-begins,
 use borrow.Author.Needs.{needs}
 use Rattle.client.proofs.begin.begin_read_in.Statement.{statement}
 use Rattle.client.proofs.begin.begin_read_in.Tie as tie
-use Rattle.client.proofs.begin.begin_read_in.Reads as reads
-use Rattle.client.proofs.begin.begin_read_in.Lts as lts
-use Rattle.client.proofs.begin.clear_slots.Reads as clear-slots-reads
-use Rattle.client.proofs.begin.next_call.Reads as next-call-reads
-use Rattle.client.proofs.begin.not_begun.Reads as not-begun-reads
-use Rattle.client.proofs.refusals.read_refusal.Reads as read-refusal-reads
 
 not-begun-requires : tie.Need-not-begun-requires
 not-begun-requires c κs = search needs

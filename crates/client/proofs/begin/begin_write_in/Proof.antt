@@ -5,12 +5,6 @@ use Rattle.client.proofs.Begins.{write-short, write-refused, write-begi
 use borrow.Author.Needs.{needs}
 use Rattle.client.proofs.begin.begin_write_in.Statement.{statement}
 use Rattle.client.proofs.begin.begin_write_in.Tie as tie
-use Rattle.client.proofs.begin.begin_write_in.Reads as reads
-use Rattle.client.proofs.begin.begin_write_in.Lts as lts
-use Rattle.client.proofs.begin.keep_write.Reads as keep-write-reads
-use Rattle.client.proofs.begin.next_call.Reads as next-call-reads
-use Rattle.client.proofs.begin.not_begun.Reads as not-begun-reads
-use Rattle.client.proofs.refusals.write_refusal.Reads as write-refusal-reads
 
 not-begun-requires : tie.Need-not-begun-requires
 not-begun-requires c κs = search needs

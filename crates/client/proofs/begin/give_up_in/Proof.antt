@@ -8,11 +8,6 @@ use Rattle.client.proofs.Tests.{refused, accepted}
 use borrow.Author.Needs.{needs}
 use Rattle.client.proofs.begin.give_up_in.Statement.{statement}
 use Rattle.client.proofs.begin.give_up_in.Tie as tie
-use Rattle.client.proofs.begin.give_up_in.Reads as reads
-use Rattle.client.proofs.begin.give_up_in.Lts as lts
-use Rattle.client.proofs.refusals.abort_refusal.Reads as abort-refusal-reads
-use Rattle.client.proofs.rounds.fresh_tally.Reads as fresh-tally-reads
-use Rattle.client.proofs.rounds.with_tally.Reads as with-tally-reads
 
 abort-refusal-requires : tie.Need-abort-refusal-requires
 abort-refusal-requires c κs = search needs

@@ -3,9 +3,6 @@ use mathlib.Core.Path.{_∙_}
 use borrow.Author.Needs.{needs}
 use Rattle.client.proofs.begin.keep_write.Statement.{statement}
 use Rattle.client.proofs.begin.keep_write.Tie as tie
-use Rattle.client.proofs.begin.keep_write.Reads as reads
-use Rattle.client.proofs.begin.keep_write.Lts as lts
-use Rattle.client.proofs.kept.write_at.Reads as write-at-reads
 
 write-at-requires : tie.Need-write-at-requires
 write-at-requires c κs = search needs

@@ -3,9 +3,6 @@ use native.Mathlib.Numerals.{add-one}
 use borrow.Author.Needs.{needs}
 use Rattle.client.proofs.begin.next_call.Statement.{statement}
 use Rattle.client.proofs.begin.next_call.Tie as tie
-use Rattle.client.proofs.begin.next_call.Reads as reads
-use Rattle.client.proofs.begin.next_call.Lts as lts
-use Rattle.client.proofs.rounds.fresh_tally.Reads as fresh-tally-reads
 
 fresh-tally-requires : tie.Need-fresh-tally-requires
 fresh-tally-requires c κs = search needs

@@ -4,9 +4,6 @@ use Rattle.client.proofs.Begins.{core-read}
 use borrow.Author.Needs.{needs}
 use Rattle.client.proofs.begin.read_by_value.Statement.{statement}
 use Rattle.client.proofs.begin.read_by_value.Tie as tie
-use Rattle.client.proofs.begin.read_by_value.Reads as reads
-use Rattle.client.proofs.begin.read_by_value.Lts as lts
-use Rattle.client.proofs.begin.begin_read_in.Reads as begin-read-in-reads
 
 begin-read-in-requires : tie.Need-begin-read-in-requires
 begin-read-in-requires c κs = search needs

@@ -4,9 +4,6 @@ use Rattle.client.proofs.Begins.{core-write}
 use borrow.Author.Needs.{needs}
 use Rattle.client.proofs.begin.write_by_value.Statement.{statement}
 use Rattle.client.proofs.begin.write_by_value.Tie as tie
-use Rattle.client.proofs.begin.write_by_value.Reads as reads
-use Rattle.client.proofs.begin.write_by_value.Lts as lts
-use Rattle.client.proofs.begin.begin_write_in.Reads as begin-write-in-reads
 
 begin-write-in-requires : tie.Need-begin-write-in-requires
 begin-write-in-requires c κs = search needs

@@ -3,10 +3,6 @@ use Rattle.protocol.specs.View.{chosenOf, candidateAt, stampAt}
 use borrow.Author.Needs.{needs}
 use Rattle.client.proofs.kept.chosen_number.Statement.{statement}
 use Rattle.client.proofs.kept.chosen_number.Tie as tie
-use Rattle.client.proofs.kept.chosen_number.Reads as reads
-use Rattle.client.proofs.kept.chosen_number.Lts as lts
-use Rattle.wire.proofs.bytes.number4.Reads as number4-reads
-use Rattle.wire.proofs.bytes.part.Reads as part-reads
 
 part-requires : tie.Need-part-requires
 part-requires c κs = search needs

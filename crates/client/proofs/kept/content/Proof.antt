@@ -5,10 +5,6 @@ use Rattle.wire.proofs.Runs.{part-most}
 use borrow.Author.Needs.{needs}
 use Rattle.client.proofs.kept.content.Statement.{statement}
 use Rattle.client.proofs.kept.content.Tie as tie
-use Rattle.client.proofs.kept.content.Reads as reads
-use Rattle.client.proofs.kept.content.Lts as lts
-use Rattle.client.proofs.kept.content_length.Reads as content-length-reads
-use Rattle.wire.proofs.bytes.part.Reads as part-reads
 
 content-length-requires : tie.Need-content-length-requires
 content-length-requires c κs = search needs

@@ -5,8 +5,6 @@ use native.Mathlib.Omega.{arith}
 use borrow.Author.Needs.{needs}
 use Rattle.client.proofs.kept.content_length.Statement.{statement}
 use Rattle.client.proofs.kept.content_length.Tie as tie
-use Rattle.client.proofs.kept.content_length.Reads as reads
-use Rattle.client.proofs.kept.content_length.Lts as lts
 
 cast-n : tie.Need-cast-n
 cast-n c = search needs

@@ -3,9 +3,6 @@ use Rattle.wire.proofs.Put.{placed-wrote}
 use borrow.Author.Needs.{needs}
 use Rattle.client.proofs.kept.write_at.Statement.{statement}
 use Rattle.client.proofs.kept.write_at.Tie as tie
-use Rattle.client.proofs.kept.write_at.Reads as reads
-use Rattle.client.proofs.kept.write_at.Lts as lts
-use Rattle.wire.proofs.make.put.Reads as put-reads
 
 put-requires : tie.Need-put-requires
 put-requires c κs = search needs

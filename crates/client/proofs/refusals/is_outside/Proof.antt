@@ -3,8 +3,6 @@ use borrow.Author.Tests.{lt-leb, le-leb}
 use native.Mathlib.Omega.{arith}
 use Rattle.client.proofs.refusals.is_outside.Statement.{statement}
 use Rattle.client.proofs.refusals.is_outside.Tie as tie
-use Rattle.client.proofs.refusals.is_outside.Reads as reads
-use Rattle.client.proofs.refusals.is_outside.Lts as lts
 
 returns : tie.Need-returns
 returns c = let a = c .before .args in rw (lt-leb (a .lo) (a .x) (omega arith))

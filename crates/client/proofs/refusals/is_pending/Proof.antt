@@ -5,9 +5,6 @@ use Rattle.protocol.specs.ClientBytes.{inHand}
 use borrow.Author.Needs.{needs}
 use Rattle.client.proofs.refusals.is_pending.Statement.{statement}
 use Rattle.client.proofs.refusals.is_pending.Tie as tie
-use Rattle.client.proofs.refusals.is_pending.Reads as reads
-use Rattle.client.proofs.refusals.is_pending.Lts as lts
-use Rattle.client.proofs.refusals.is_outside.Reads as is-outside-reads
 
 cast-round : tie.Need-cast-round
 cast-round c = search needs

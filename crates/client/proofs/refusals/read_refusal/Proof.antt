@@ -11,10 +11,6 @@ use Rattle.protocol.specs.Client.{readRefusal, badFaults}
 use borrow.Author.Needs.{needs}
 use Rattle.client.proofs.refusals.read_refusal.Statement.{statement}
 use Rattle.client.proofs.refusals.read_refusal.Tie as tie
-use Rattle.client.proofs.refusals.read_refusal.Reads as reads
-use Rattle.client.proofs.refusals.read_refusal.Lts as lts
-use Rattle.client.proofs.refusals.is_outside.Reads as is-outside-reads
-use Rattle.client.proofs.refusals.is_pending.Reads as is-pending-reads
 
 is-outside-requires : tie.Need-is-outside-requires
 is-outside-requires c κs = search needs

@@ -3,8 +3,6 @@ use Rattle.protocol.specs.ClientBytes.{fresh}
 use borrow.Author.Needs.{needs}
 use Rattle.client.proofs.rounds.fresh_tally.Statement.{statement}
 use Rattle.client.proofs.rounds.fresh_tally.Tie as tie
-use Rattle.client.proofs.rounds.fresh_tally.Reads as reads
-use Rattle.client.proofs.rounds.fresh_tally.Lts as lts
 
 returns : tie.Need-returns
 unfolding fresh

@@ -3,9 +3,6 @@ use Rattle.protocol.specs.ClientBytes.{ends}
 use borrow.Author.Needs.{needs}
 use Rattle.client.proofs.rounds.is_last.Statement.{statement}
 use Rattle.client.proofs.rounds.is_last.Tie as tie
-use Rattle.client.proofs.rounds.is_last.Reads as reads
-use Rattle.client.proofs.rounds.is_last.Lts as lts
-use Rattle.client.proofs.rounds.quorum.Reads as quorum-reads
 
 quorum-requires : tie.Need-quorum-requires
 quorum-requires c κs = search needs

@@ -3,9 +3,6 @@ use Rattle.protocol.specs.ClientBytes.{noted}
 use borrow.Author.Needs.{needs}
 use Rattle.client.proofs.rounds.note.Statement.{statement}
 use Rattle.client.proofs.rounds.note.Tie as tie
-use Rattle.client.proofs.rounds.note.Reads as reads
-use Rattle.client.proofs.rounds.note.Lts as lts
-use Rattle.client.proofs.rounds.one_more.Reads as one-more-reads
 
 one-more-requires : tie.Need-one-more-requires
 one-more-requires c κs = search needs

@@ -4,8 +4,6 @@ use native.Mathlib.Omega.{arith}
 use borrow.Author.Needs.{needs}
 use Rattle.client.proofs.rounds.one_more.Statement.{statement}
 use Rattle.client.proofs.rounds.one_more.Tie as tie
-use Rattle.client.proofs.rounds.one_more.Reads as reads
-use Rattle.client.proofs.rounds.one_more.Lts as lts
 
 add-result : tie.Need-add-result
 add-result c = search needs

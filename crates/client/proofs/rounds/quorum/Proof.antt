@@ -6,9 +6,6 @@ use Rattle.cluster.specs.Config.{shelf, quorum}
 use borrow.Author.Needs.{needs}
 use Rattle.client.proofs.rounds.quorum.Statement.{statement}
 use Rattle.client.proofs.rounds.quorum.Tie as tie
-use Rattle.client.proofs.rounds.quorum.Reads as reads
-use Rattle.client.proofs.rounds.quorum.Lts as lts
-use Rattle.client.proofs.refusals.servers.Reads as servers-reads
 
 servers-requires : tie.Need-servers-requires
 servers-requires c κs = search needs

@@ -3,13 +3,6 @@ use mathlib.Core.Path.{sym, _∙_}
 use borrow.Author.Needs.{needs}
 use Rattle.client.proofs.writes.take_complete.Statement.{statement}
 use Rattle.client.proofs.writes.take_complete.Tie as tie
-use Rattle.client.proofs.writes.take_complete.Reads as reads
-use Rattle.client.proofs.writes.take_complete.Lts as lts
-use Rattle.client.proofs.answers.enter.Reads as enter-reads
-use Rattle.client.proofs.answers.more.Reads as more-reads
-use Rattle.client.proofs.answers.note_reply.Reads as note-reply-reads
-use Rattle.client.proofs.kept.chosen_number.Reads as chosen-number-reads
-use Rattle.client.proofs.rounds.is_last.Reads as is-last-reads
 
 is-last-requires : tie.Need-is-last-requires
 is-last-requires c κs = search needs

@@ -3,10 +3,6 @@ use borrow.Author.Tests.{eq-eqb, ne-eqb}
 use borrow.Author.Needs.{needs}
 use Rattle.client.proofs.writes.take_store.Statement.{statement}
 use Rattle.client.proofs.writes.take_store.Tie as tie
-use Rattle.client.proofs.writes.take_store.Reads as reads
-use Rattle.client.proofs.writes.take_store.Lts as lts
-use Rattle.client.proofs.answers.more.Reads as more-reads
-use Rattle.client.proofs.answers.step.Reads as step-reads
 
 more-requires : tie.Need-more-requires
 more-requires c κs = search needs

@@ -1,32 +1,19 @@
--- `decide::fragment_size` meets its contract: the quotient, rounded up. Nothing is assumed.
-use native.Mathlib.Omega.{arith}
+-- `decide::sizes::fragment_size` meets its contract, by that of crate wire's. Nothing is assumed.
 use borrow.Author.Needs.{needs}
-use Rattle.erasure.specs.Fragments.{fragmentSize}
 use Rattle.decide.proofs.sizes.fragment_size.Statement.{statement}
 use Rattle.decide.proofs.sizes.fragment_size.Tie as tie
 
-shares-requires : tie.Need-shares-requires
-shares-requires c κs = search needs
+cast-fragment-size : tie.Need-cast-fragment-size
+cast-fragment-size c = search needs
 
-add-result : tie.Need-add-result
-add-result c = omega (arith, c .shares .ensures .1)
+cast-fragment-size-2 : tie.Need-cast-fragment-size-2
+cast-fragment-size-2 c = search needs
 
-sub-result : tie.Need-sub-result
-sub-result c = omega (arith, c .shares .ensures .1)
-
-div-result : tie.Need-div-result
-div-result c = omega (arith, c .shares .ensures .1)
+fragment-size-requires : tie.Need-fragment-size-requires
+fragment-size-requires c κs = search needs
 
 returns : tie.Need-returns
-unfolding fragmentSize
-returns c = rw (c .shares .ensures .0)
+returns c = c .fragment-size .ensures
 
 pub fragment-size-spec : {M : Type 1} → statement M
-fragment-size-spec =
-    tie.close
-    (tie.spec
-    shares-requires
-    add-result
-    sub-result
-    div-result
-    returns)
+fragment-size-spec = tie.close (tie.spec cast-fragment-size cast-fragment-size-2 fragment-size-requires returns)

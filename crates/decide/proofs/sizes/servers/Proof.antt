@@ -1,18 +1,19 @@
--- `decide::servers` meets its contract: document 01's number of servers. Nothing is assumed.
+-- `decide::sizes::servers` meets its contract: document 01's number of servers. Nothing is assumed.
+use native.Mathlib.Omega.{arith}
 use Rattle.cluster.specs.Config.{shelf}
 use borrow.Author.Needs.{needs}
 use Rattle.decide.proofs.sizes.servers.Statement.{statement}
 use Rattle.decide.proofs.sizes.servers.Tie as tie
 
-mul-result : tie.Need-mul-result
-mul-result c = search needs
+cast-servers : tie.Need-cast-servers
+cast-servers c = search needs
 
-add-result : tie.Need-add-result
-add-result c = search needs
+servers-requires : tie.Need-servers-requires
+servers-requires c κs = search needs
 
 returns : tie.Need-returns
 unfolding shelf
-returns c = search needs
+returns c = (c .servers .ensures, omega (arith, c .servers .ensures))
 
 pub servers-spec : {M : Type 1} → statement M
-servers-spec = tie.close (tie.spec mul-result add-result returns)
+servers-spec = tie.close (tie.spec cast-servers servers-requires returns)

@@ -8,50 +8,34 @@ use Prim.Native.Nat.{_+_, _-_}
 use borrow.Author.Needs.{needs}
 use Rattle.drill.proofs.area.begin_read.Statement.{statement}
 use Rattle.drill.proofs.area.begin_read.Tie as tie
-use Rattle.drill.proofs.area.begin_read.Reads as reads
-use Rattle.drill.proofs.area.begin_read.Lts as lts
-use Rattle.client.proofs.begin.begin_read_in.Reads as begin-read-in-reads
-use Rattle.drill.proofs.area.call_of.Reads as call-of-reads
-use Rattle.drill.proofs.area.kept_at.Reads as kept-at-reads
-use Rattle.drill.proofs.area.put_call.Reads as put-call-reads
 
--- src/area.rt:71:9
 call-of-requires : tie.Need-call-of-requires
 call-of-requires c κs = search needs
 
--- src/area.rt:72:13
 kept-at-requires : tie.Need-kept-at-requires
 kept-at-requires c κs = search needs
 
--- src/area.rt:73:13
 add-e : tie.Need-add-e
 add-e c = search needs
 
--- src/area.rt:74:48
 sub-begin-read-in : tie.Need-sub-begin-read-in
 sub-begin-read-in c = search needs
 
--- src/area.rt:74:48
 part-begin-read-in-start : tie.Need-part-begin-read-in-start
 part-begin-read-in-start c = search needs
 
--- src/area.rt:74:48
 part-begin-read-in-end : tie.Need-part-begin-read-in-end
 part-begin-read-in-end c = search needs
 
--- src/area.rt:74:9
 begin-read-in-requires : tie.Need-begin-read-in-requires
 begin-read-in-requires c κs = search needs
 
--- src/area.rt:75:5
 put-call-requires : tie.Need-put-call-requires
 put-call-requires c κs = search needs
 
--- src/area.rt:67:1
 same-length : tie.Need-same-length
 same-length c = search needs
 
--- src/area.rt:67:1
 returns : tie.Need-returns
 returns c =
     let a = c .before .before .before .before .before .before .before .before .before .before .before .before .before .args in

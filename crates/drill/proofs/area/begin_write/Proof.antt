@@ -8,50 +8,34 @@ use Prim.Native.Nat.{_+_, _-_}
 use borrow.Author.Needs.{needs}
 use Rattle.drill.proofs.area.begin_write.Statement.{statement}
 use Rattle.drill.proofs.area.begin_write.Tie as tie
-use Rattle.drill.proofs.area.begin_write.Reads as reads
-use Rattle.drill.proofs.area.begin_write.Lts as lts
-use Rattle.client.proofs.begin.begin_write_in.Reads as begin-write-in-reads
-use Rattle.drill.proofs.area.call_of.Reads as call-of-reads
-use Rattle.drill.proofs.area.kept_at.Reads as kept-at-reads
-use Rattle.drill.proofs.area.put_call.Reads as put-call-reads
 
--- src/area.rt:57:9
 call-of-requires : tie.Need-call-of-requires
 call-of-requires c κs = search needs
 
--- src/area.rt:58:13
 kept-at-requires : tie.Need-kept-at-requires
 kept-at-requires c κs = search needs
 
--- src/area.rt:59:13
 add-e : tie.Need-add-e
 add-e c = search needs
 
--- src/area.rt:60:49
 sub-begin-write-in : tie.Need-sub-begin-write-in
 sub-begin-write-in c = search needs
 
--- src/area.rt:60:49
 part-begin-write-in-start : tie.Need-part-begin-write-in-start
 part-begin-write-in-start c = search needs
 
--- src/area.rt:60:49
 part-begin-write-in-end : tie.Need-part-begin-write-in-end
 part-begin-write-in-end c = search needs
 
--- src/area.rt:60:9
 begin-write-in-requires : tie.Need-begin-write-in-requires
 begin-write-in-requires c κs = search needs
 
--- src/area.rt:61:5
 put-call-requires : tie.Need-put-call-requires
 put-call-requires c κs = search needs
 
--- src/area.rt:47:1
 same-length : tie.Need-same-length
 same-length c = search needs
 
--- src/area.rt:47:1
 returns : tie.Need-returns
 returns c =
     let a = c .before .before .before .before .before .before .before .before .before .before .before .before .before .before .args in

@@ -6,20 +6,13 @@ use mathlib.Core.Path.{ap, _∙_}
 use borrow.Author.Needs.{needs}
 use Rattle.drill.proofs.area.kept_of.Statement.{statement}
 use Rattle.drill.proofs.area.kept_of.Tie as tie
-use Rattle.drill.proofs.area.kept_of.Reads as reads
-use Rattle.drill.proofs.area.kept_of.Lts as lts
-use Rattle.drill.proofs.area.kept_at.Reads as kept-at-reads
-use Rattle.wire.proofs.bytes.part.Reads as part-reads
 
--- src/area.rt:50:29
 kept-at-requires : tie.Need-kept-at-requires
 kept-at-requires c κs = search needs
 
--- src/area.rt:50:5
 part-requires : tie.Need-part-requires
 part-requires c κs = search needs
 
--- src/area.rt:46:1
 returns : tie.Need-returns
 unfolding keptIn
 returns c = c .part .ensures ∙ ap (λ (a : ℕ). part (c .before .before .before .args .work .now) a 24576) (c .before .kept-at .ensures .0)

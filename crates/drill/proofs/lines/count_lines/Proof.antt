@@ -6,10 +6,6 @@ use Prim.Native.Nat.{_-_}
 use borrow.Author.Needs.{needs}
 use Rattle.drill.proofs.lines.count_lines.Statement.{statement}
 use Rattle.drill.proofs.lines.count_lines.Tie as tie
-use Rattle.drill.proofs.lines.count_lines.Reads as reads
-use Rattle.drill.proofs.lines.count_lines.Lts as lts
-use Rattle.drill.proofs.lines.line_end.Reads as line-end-reads
-use Rattle.drill.proofs.lines.next_line.Reads as next-line-reads
 
 abbrev Inv-loop : tie.InvT-loop
 Inv-loop sheet n₀ at₀ n at = Counted sheet at n
@@ -17,23 +13,18 @@ Inv-loop sheet n₀ at₀ n at = Counted sheet at n
 abbrev μ-loop : tie.MeasureT-loop
 μ-loop sheet n₀ at₀ n at = length sheet - at
 
--- src/lines.rt:42:5
 loop-holds : tie.Need-loop-holds Inv-loop μ-loop
 loop-holds c = record { within = omega arith; whole = omega arith }
 
--- src/lines.rt:43:31
 line-end-requires : tie.Need-line-end-requires Inv-loop μ-loop
 line-end-requires c κs = search needs
 
--- src/lines.rt:43:9
 next-line-requires : tie.Need-next-line-requires Inv-loop μ-loop
 next-line-requires c κs = search needs
 
--- src/lines.rt:44:9
 add-n : tie.Need-add-n Inv-loop μ-loop
 add-n c = let h = counted-room (c .before .before .before .before .before .args .sheet .now) (c .before .before .before .loop .at) (c .before .before .before .loop .n) (c .before .line-end .result) (c .before .before .before .loop .inv) (c .before .line-end .ensures) in omega arith
 
--- src/lines.rt:42:5
 loop-less : tie.Need-loop-less Inv-loop μ-loop
 loop-less c =
     let e = c .before .line-end .ensures in
@@ -41,12 +32,10 @@ loop-less c =
     let r = c .next-line .ensures in
     omega arith
 
--- src/lines.rt:42:5
 loop-again : tie.Need-loop-again Inv-loop μ-loop
 loop-again c =
     rw (c .next-line .ensures) (counted-more (c .before .before .before .before .before .args .sheet .now) (c .before .before .before .loop .at) (c .before .before .before .loop .n) (c .before .line-end .result) (omega arith) (c .before .before .before .loop .inv) (c .before .line-end .ensures))
 
--- src/lines.rt:37:1
 returns : tie.Need-returns Inv-loop μ-loop
 returns c = counted-all (c .before .before .before .args .sheet .now) (c .before .loop .at) (c .before .loop .n) (omega arith) (c .before .loop .inv)
 

@@ -4,36 +4,25 @@ use mathlib.Core.Path.{sym, _∙_}
 use borrow.Author.Needs.{needs}
 use Rattle.drill.proofs.lines.first_line.Statement.{statement}
 use Rattle.drill.proofs.lines.first_line.Tie as tie
-use Rattle.drill.proofs.lines.first_line.Reads as reads
-use Rattle.drill.proofs.lines.first_line.Lts as lts
-use Rattle.drill.proofs.lines.is_first.Reads as is-first-reads
-use Rattle.drill.proofs.lines.text_at.Reads as text-at-reads
 
--- src/lines.rt:134:25
 text-at-requires : tie.Need-text-at-requires
 text-at-requires c κs = search needs
 
--- src/lines.rt:134:20
 enum-known-l : tie.Need-enum-known-l
 enum-known-l c = search needs
 
--- src/lines.rt:135:9
 enum-told : tie.Need-enum-told
 enum-told c = search needs
 
--- src/lines.rt:135:9
 returns : tie.Need-returns
 returns c = no-text _ (read-broken _ (sym (c .before .before .text-at .ensures) ∙ c .enum-told .given .1))
 
--- src/lines.rt:137:8
 is-first-requires : tie.Need-is-first-requires
 is-first-requires c κs = search needs
 
--- src/lines.rt:138:9
 returns-2 : tie.Need-returns-2
 returns-2 c = is-first-line _ _ (read-line _ _ (sym (c .before .before .before .before .before .text-at .ensures) ∙ c .before .before .before .l .given .1)) (sym (c .before .is-first .ensures) ∙ c .if1 .taken)
 
--- src/lines.rt:131:1
 returns-3 : tie.Need-returns-3
 returns-3 c = no-first-line _ _ (read-line _ _ (sym (c .before .before .before .before .before .text-at .ensures) ∙ c .before .before .before .l .given .1)) (sym (c .before .is-first .ensures) ∙ c .if1 .left)
 

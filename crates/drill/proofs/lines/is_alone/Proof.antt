@@ -4,20 +4,14 @@ use borrow.Author.Tests.{eq-eqb, ne-eqb}
 use borrow.Author.Needs.{needs}
 use Rattle.drill.proofs.lines.is_alone.Statement.{statement}
 use Rattle.drill.proofs.lines.is_alone.Tie as tie
-use Rattle.drill.proofs.lines.is_alone.Reads as reads
-use Rattle.drill.proofs.lines.is_alone.Lts as lts
-use Rattle.drill.proofs.lines.no_content.Reads as no-content-reads
 
--- src/lines.rt:74:9
 returns : tie.Need-returns
 unfolding isAlone
 returns c = rw (ne-eqb _ _ (c .if1 .taken))
 
--- src/lines.rt:76:5
 no-content-requires : tie.Need-no-content-requires
 no-content-requires c κs = search needs
 
--- src/lines.rt:70:1
 returns-2 : tie.Need-returns-2
 unfolding isAlone
 returns-2 c = rw (eq-eqb _ _ (c .before .if1 .left)) (c .no-content .ensures)

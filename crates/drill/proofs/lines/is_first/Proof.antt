@@ -4,20 +4,14 @@ use borrow.Author.Tests.{eq-eqb, ne-eqb}
 use borrow.Author.Needs.{needs}
 use Rattle.drill.proofs.lines.is_first.Statement.{statement}
 use Rattle.drill.proofs.lines.is_first.Tie as tie
-use Rattle.drill.proofs.lines.is_first.Reads as reads
-use Rattle.drill.proofs.lines.is_first.Lts as lts
-use Rattle.drill.proofs.lines.is_alone.Reads as is-alone-reads
 
--- src/lines.rt:93:9
 returns : tie.Need-returns
 unfolding isFirst
 returns c = rw (ne-eqb _ _ (c .if1 .taken))
 
--- src/lines.rt:95:5
 is-alone-requires : tie.Need-is-alone-requires
 is-alone-requires c κs = search needs
 
--- src/lines.rt:89:1
 returns-2 : tie.Need-returns-2
 unfolding isFirst
 returns-2 c = rw (eq-eqb _ _ (c .before .if1 .left)) (c .is-alone .ensures)

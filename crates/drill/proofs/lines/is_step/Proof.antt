@@ -4,61 +4,44 @@ use borrow.Author.Tests.{eq-eqb, ne-eqb}
 use borrow.Author.Needs.{needs}
 use Rattle.drill.proofs.lines.is_step.Statement.{statement}
 use Rattle.drill.proofs.lines.is_step.Tie as tie
-use Rattle.drill.proofs.lines.is_step.Reads as reads
-use Rattle.drill.proofs.lines.is_step.Lts as lts
-use Rattle.drill.proofs.lines.is_alone.Reads as is-alone-reads
-use Rattle.drill.proofs.lines.is_blanking.Reads as is-blanking-reads
-use Rattle.drill.proofs.lines.is_write.Reads as is-write-reads
-use Rattle.drill.proofs.lines.no_content.Reads as no-content-reads
 
--- src/lines.rt:103:9
 is-write-requires : tie.Need-is-write-requires
 is-write-requires c κs = search needs
 
--- src/lines.rt:103:9
 returns : tie.Need-returns
 unfolding isStep
 returns c = rw (eq-eqb _ _ (c .before .if1 .taken)) (c .is-write .ensures)
 
--- src/lines.rt:106:9
 is-alone-requires : tie.Need-is-alone-requires
 is-alone-requires c κs = search needs
 
--- src/lines.rt:106:9
 returns-2 : tie.Need-returns-2
 unfolding isStep
 returns-2 c = rw (ne-eqb _ _ (c .before .before .if1 .left), eq-eqb _ _ (c .before .if2 .taken)) (c .is-alone .ensures)
 
--- src/lines.rt:109:9
 is-alone-requires-2 : tie.Need-is-alone-requires-2
 is-alone-requires-2 c κs = search needs
 
--- src/lines.rt:109:9
 returns-3 : tie.Need-returns-3
 unfolding isStep
 returns-3 c = rw (ne-eqb _ _ (c .before .before .before .if1 .left), ne-eqb _ _ (c .before .before .if2 .left), eq-eqb _ _ (c .before .if3 .taken)) (c .is-alone2 .ensures)
 
--- src/lines.rt:112:9
 no-content-requires : tie.Need-no-content-requires
 no-content-requires c κs = search needs
 
--- src/lines.rt:112:9
 returns-4 : tie.Need-returns-4
 unfolding isStep
 returns-4 c = rw (ne-eqb _ _ (c .before .before .before .before .if1 .left), ne-eqb _ _ (c .before .before .before .if2 .left), ne-eqb _ _ (c .before .before .if3 .left), eq-eqb _ _ (c .before .if4 .taken)) (c .no-content .ensures)
 
--- src/lines.rt:115:9
 is-blanking-requires : tie.Need-is-blanking-requires
 is-blanking-requires c κs = search needs
 
--- src/lines.rt:115:9
 returns-5 : tie.Need-returns-5
 unfolding isStep
 returns-5 c =
     rw (ne-eqb _ _ (c .before .before .before .before .before .if1 .left), ne-eqb _ _ (c .before .before .before .before .if2 .left), ne-eqb _ _ (c .before .before .before .if3 .left), ne-eqb _ _ (c .before .before .if4 .left), eq-eqb _ _ (c .before .if5 .taken))
     (c .is-blanking .ensures)
 
--- src/lines.rt:98:1
 returns-6 : tie.Need-returns-6
 unfolding isStep
 returns-6 c =

@@ -1,18 +1,13 @@
 -- By the tests. Assumes nothing.
 use Rattle.drill.specs.Sheet.{isWrite}
 use borrow.Author.Tests.{eq-eqb, ne-eqb}
-use borrow.Author.Needs.{needs}
 use Rattle.drill.proofs.lines.is_write.Statement.{statement}
 use Rattle.drill.proofs.lines.is_write.Tie as tie
-use Rattle.drill.proofs.lines.is_write.Reads as reads
-use Rattle.drill.proofs.lines.is_write.Lts as lts
 
--- src/lines.rt:64:9
 returns : tie.Need-returns
 unfolding isWrite
 returns c = rw (ne-eqb _ _ (c .if1 .taken))
 
--- src/lines.rt:60:1
 returns-2 : tie.Need-returns-2
 unfolding isWrite
 returns-2 c = rw (eq-eqb _ _ (c .before .if1 .left))

@@ -6,8 +6,6 @@ use Prim.Native.Nat.{_-_}
 use borrow.Author.Needs.{needs}
 use Rattle.drill.proofs.lines.line_end.Statement.{statement}
 use Rattle.drill.proofs.lines.line_end.Tie as tie
-use Rattle.drill.proofs.lines.line_end.Reads as reads
-use Rattle.drill.proofs.lines.line_end.Lts as lts
 
 abbrev Inv-loop : tie.InvT-loop
 Inv-loop sheet at i₀ i = Passed sheet at i
@@ -15,31 +13,24 @@ Inv-loop sheet at i₀ i = Passed sheet at i
 abbrev μ-loop : tie.MeasureT-loop
 μ-loop sheet at i₀ i = length sheet - i
 
--- src/lines.rt:18:5
 loop-holds : tie.Need-loop-holds Inv-loop μ-loop
 loop-holds c = passed-none (c .args .sheet .now) (c .args .at) (c .pre)
 
--- src/lines.rt:19:12
 shared-slice-read-if1 : tie.Need-shared-slice-read-if1 Inv-loop μ-loop
 shared-slice-read-if1 c = search needs
 
--- src/lines.rt:20:13
 returns : tie.Need-returns Inv-loop μ-loop
 returns c = ends-here (c .before .before .before .before .args .sheet .now) (c .before .before .before .before .args .at) (c .before .before .before .before .pre) (c .before .before .before .loop .i) (c .before .before .before .loop .inv) (omega arith) (c .if1 .taken)
 
--- src/lines.rt:22:9
 add-i : tie.Need-add-i Inv-loop μ-loop
 add-i c = search needs
 
--- src/lines.rt:18:5
 loop-less : tie.Need-loop-less Inv-loop μ-loop
 loop-less c = search needs
 
--- src/lines.rt:18:5
 loop-again : tie.Need-loop-again Inv-loop μ-loop
 loop-again c = passed-more (c .before .before .before .before .args .sheet .now) (c .before .before .before .before .args .at) (c .before .before .before .before .pre) (c .before .before .before .loop .i) (c .before .before .before .loop .inv) (omega arith) (c .if1 .left)
 
--- src/lines.rt:13:1
 returns-2 : tie.Need-returns-2 Inv-loop μ-loop
 returns-2 c = ends-last (c .before .before .args .sheet .now) (c .before .before .args .at) (c .before .before .pre) (c .before .loop .i) (c .before .loop .inv) (omega arith)
 

@@ -1,18 +1,13 @@
 -- By the tests. Assumes nothing.
 use Rattle.drill.specs.Sheet.{noContent}
 use borrow.Author.Tests.{eq-eqb, ne-eqb}
-use borrow.Author.Needs.{needs}
 use Rattle.drill.proofs.lines.no_content.Statement.{statement}
 use Rattle.drill.proofs.lines.no_content.Tie as tie
-use Rattle.drill.proofs.lines.no_content.Reads as reads
-use Rattle.drill.proofs.lines.no_content.Lts as lts
 
--- src/lines.rt:54:9
 returns : tie.Need-returns
 unfolding noContent
 returns c = rw (ne-eqb _ _ (c .if1 .taken))
 
--- src/lines.rt:50:1
 returns-2 : tie.Need-returns-2
 unfolding noContent
 returns-2 c = rw (eq-eqb _ _ (c .before .if1 .left))

@@ -5,40 +5,28 @@ use mathlib.Core.Path.{sym, _∙_}
 use borrow.Author.Needs.{needs}
 use Rattle.drill.proofs.lines.step_line.Statement.{statement}
 use Rattle.drill.proofs.lines.step_line.Tie as tie
-use Rattle.drill.proofs.lines.step_line.Reads as reads
-use Rattle.drill.proofs.lines.step_line.Lts as lts
-use Rattle.drill.proofs.lines.is_step.Reads as is-step-reads
-use Rattle.drill.proofs.lines.text_at.Reads as text-at-reads
 
--- src/lines.rt:149:9
 returns : tie.Need-returns
 returns c = last-number (textAt (c .before .before .args .sheet .now) (c .before .before .args .at) (c .before .before .args .end)) (c .before .before .args .n) (c .if1 .taken)
 
--- src/lines.rt:151:25
 text-at-requires : tie.Need-text-at-requires
 text-at-requires c κs = search needs
 
--- src/lines.rt:151:20
 enum-known-l : tie.Need-enum-known-l
 enum-known-l c = search needs
 
--- src/lines.rt:152:9
 enum-told : tie.Need-enum-told
 enum-told c = search needs
 
--- src/lines.rt:152:9
 returns-2 : tie.Need-returns-2
 returns-2 c = no-step-text _ (c .before .before .before .before .before .args .n) (c .before .before .before .if1 .left) (read-broken _ (sym (c .before .before .text-at .ensures) ∙ c .enum-told .given .1))
 
--- src/lines.rt:154:8
 is-step-requires : tie.Need-is-step-requires
 is-step-requires c κs = search needs
 
--- src/lines.rt:155:9
 returns-3 : tie.Need-returns-3
 returns-3 c = is-step-line _ (c .before .before .before .before .before .before .before .before .args .n) (c .before .before .before .before .before .before .if1 .left) _ (read-line _ _ (sym (c .before .before .before .before .before .text-at .ensures) ∙ c .before .before .before .l .given .1)) (sym (c .before .is-step .ensures) ∙ c .if2 .taken)
 
--- src/lines.rt:144:1
 returns-4 : tie.Need-returns-4
 returns-4 c = no-step-line _ (c .before .before .before .before .before .before .before .before .args .n) (c .before .before .before .before .before .before .if1 .left) _ (read-line _ _ (sym (c .before .before .before .before .before .text-at .ensures) ∙ c .before .before .before .l .given .1)) (sym (c .before .is-step .ensures) ∙ c .if2 .left)
 

@@ -8,28 +8,19 @@ use mathlib.Core.Path.{ap, _∙_}
 use borrow.Author.Needs.{needs}
 use Rattle.drill.proofs.lines.text_at.Statement.{statement}
 use Rattle.drill.proofs.lines.text_at.Tie as tie
-use Rattle.drill.proofs.lines.text_at.Reads as reads
-use Rattle.drill.proofs.lines.text_at.Lts as lts
-use Rattle.drill.proofs.sheet.fields_of.Reads as fields-of-reads
-use Rattle.wire.proofs.bytes.part.Reads as part-reads
 
--- src/lines.rt:126:9
 returns : tie.Need-returns
 returns c = text-unended (c .before .before .args .sheet .now) (c .before .before .args .at) (c .before .before .args .end) (c .if1 .taken)
 
--- src/lines.rt:128:58
 sub-part : tie.Need-sub-part
 sub-part c = search needs
 
--- src/lines.rt:128:29
 part-requires : tie.Need-part-requires
 part-requires c κs = search needs
 
--- src/lines.rt:128:5
 fields-of-requires : tie.Need-fields-of-requires
 fields-of-requires c κs = search needs
 
--- src/lines.rt:121:1
 returns-2 : tie.Need-returns-2
 returns-2 c = c .fields-of .ensures ∙ ap (λ (z : List ℕ). readOf (fields z)) (c .before .part .ensures) ∙ text-ended (c .before .before .before .before .args .sheet .now) (c .before .before .before .before .args .at) (c .before .before .before .before .args .end) (c .before .before .if1 .left)
 

@@ -6,9 +6,6 @@ use native.Mathlib.Omega.{arith}
 use borrow.Author.Needs.{needs}
 use Rattle.drill.proofs.rows.column_of.Statement.{statement}
 use Rattle.drill.proofs.rows.column_of.Tie as tie
-use Rattle.drill.proofs.rows.column_of.Reads as reads
-use Rattle.drill.proofs.rows.column_of.Lts as lts
-use Rattle.drill.proofs.rows.digit_of.Reads as digit-of-reads
 
 abbrev Inv-loop : tie.InvT-loop
 Inv-loop v a₀ rest₀ i₀ a rest i = Printing v i rest a
@@ -16,23 +13,18 @@ Inv-loop v a₀ rest₀ i₀ a rest i = Printing v i rest a
 abbrev μ-loop : tie.MeasureT-loop
 μ-loop v a₀ rest₀ i₀ a rest i = i
 
--- src/rows.rt:31:5
 loop-holds : tie.Need-loop-holds Inv-loop μ-loop
 loop-holds c = printing-none (c .args .v)
 
--- src/rows.rt:32:9
 sub-i : tie.Need-sub-i Inv-loop μ-loop
 sub-i c = search needs
 
--- src/rows.rt:33:16
 digit-of-requires : tie.Need-digit-of-requires Inv-loop μ-loop
 digit-of-requires c κs = search needs
 
--- src/rows.rt:33:9
 array-write-a : tie.Need-array-write-a Inv-loop μ-loop
 array-write-a c = search needs
 
--- src/rows.rt:36:13
 returns : tie.Need-returns Inv-loop μ-loop
 returns c =
     let i = c .before .before .before .loop .i in
@@ -40,11 +32,9 @@ returns c =
     let p = subst (λ (k : ℕ). Printing (c .before .before .before .before .args .v) k (c .before .before .before .loop .rest) (c .before .before .before .loop .a)) e (c .before .before .before .loop .inv) in
     rw (c .before .digit-of .ensures) (printing-last (c .before .before .before .before .args .v) (i - 1) (c .before .before .before .loop .rest) (c .before .before .before .loop .a) p (c .if1 .taken))
 
--- src/rows.rt:31:5
 loop-less : tie.Need-loop-less Inv-loop μ-loop
 loop-less c = search needs
 
--- src/rows.rt:31:5
 loop-again : tie.Need-loop-again Inv-loop μ-loop
 loop-again c =
     let i = c .before .before .before .loop .i in
@@ -52,7 +42,6 @@ loop-again c =
     let p = subst (λ (k : ℕ). Printing (c .before .before .before .before .args .v) k (c .before .before .before .loop .rest) (c .before .before .before .loop .a)) e (c .before .before .before .loop .inv) in
     rw (c .before .digit-of .ensures) (printing-more (c .before .before .before .before .args .v) (i - 1) (c .before .before .before .loop .rest) (c .before .before .before .loop .a) p (c .if1 .left))
 
--- src/rows.rt:25:1
 returns-2 : tie.Need-returns-2 Inv-loop μ-loop
 returns-2 c =
     let e : c .before .loop .i ≡ 0 = omega arith in

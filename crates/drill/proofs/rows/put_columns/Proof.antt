@@ -6,10 +6,6 @@ use Prim.Native.Nat.{_-_}
 use borrow.Author.Needs.{needs}
 use Rattle.drill.proofs.rows.put_columns.Statement.{statement}
 use Rattle.drill.proofs.rows.put_columns.Tie as tie
-use Rattle.drill.proofs.rows.put_columns.Reads as reads
-use Rattle.drill.proofs.rows.put_columns.Lts as lts
-use Rattle.drill.proofs.rows.column_of.Reads as column-of-reads
-use Rattle.wire.proofs.make.put.Reads as put-reads
 
 abbrev Inv-loop : tie.InvT-loop
 Inv-loop out₀ at values j₀ out j = PutTo out₀ at values out j
@@ -17,55 +13,42 @@ Inv-loop out₀ at values j₀ out j = PutTo out₀ at values out j
 abbrev μ-loop : tie.MeasureT-loop
 μ-loop out₀ at values j₀ out j = 8 - j
 
--- src/rows.rt:47:5
 loop-holds : tie.Need-loop-holds Inv-loop μ-loop
 loop-holds c = put-none (c .before .args .out .now) (c .before .args .at) (c .before .args .t3) (search needs) (c .before .pre)
 
--- src/rows.rt:48:31
 mul-column-of : tie.Need-mul-column-of Inv-loop μ-loop
 mul-column-of c = search needs
 
--- src/rows.rt:48:31
 array-read-column-of : tie.Need-array-read-column-of Inv-loop μ-loop
 array-read-column-of c = search needs
 
--- src/rows.rt:48:21
 column-of-requires : tie.Need-column-of-requires Inv-loop μ-loop
 column-of-requires c κs = search needs
 
--- src/rows.rt:49:43
 mul-put : tie.Need-mul-put Inv-loop μ-loop
 mul-put c = search needs
 
--- src/rows.rt:49:38
 add-put : tie.Need-add-put Inv-loop μ-loop
 add-put c = search needs
 
--- src/rows.rt:49:50
 slice-aggregate-put : tie.Need-slice-aggregate-put Inv-loop μ-loop
 slice-aggregate-put c = search needs
 
--- src/rows.rt:49:17
 put-requires : tie.Need-put-requires Inv-loop μ-loop
 put-requires c κs = search needs
 
--- src/rows.rt:50:9
 add-j : tie.Need-add-j Inv-loop μ-loop
 add-j c = search needs
 
--- src/rows.rt:47:5
 loop-less : tie.Need-loop-less Inv-loop μ-loop
 loop-less c = search needs
 
--- src/rows.rt:47:5
 loop-again : tie.Need-loop-again Inv-loop μ-loop
 loop-again c = put-one-more (c .before .before .before .before .before .before .before .before .before .args .out .now) (c .before .before .before .before .before .before .before .before .before .args .at) (c .before .before .before .before .before .before .before .before .before .args .t3) (search needs) (c .before .before .before .before .before .before .before .before .before .pre) (c .before .before .before .before .before .before .before .loop .out) (c .before .before .before .before .before .before .before .loop .j) (c .before .before .before .before .before .before .before .loop .inv) (omega arith) (c .before .before .before .before .before .column-of .ensures) (c .before .before .put .ensures)
 
--- src/rows.rt:42:1
 same-length : tie.Need-same-length Inv-loop μ-loop
 same-length c = same-size (c .before .before .before .args .out .now) (c .before .before .before .args .at) (c .before .before .before .args .t3) (search needs) (c .before .before .before .pre) (c .before .loop .out) (c .before .loop .j) (c .before .loop .inv)
 
--- src/rows.rt:42:1
 returns : tie.Need-returns Inv-loop μ-loop
 returns c =
     let z = c .before .loop .inv .within in

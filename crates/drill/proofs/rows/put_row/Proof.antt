@@ -3,28 +3,19 @@ use Rattle.drill.proofs.Printed.{put-newline}
 use borrow.Author.Needs.{needs}
 use Rattle.drill.proofs.rows.put_row.Statement.{statement}
 use Rattle.drill.proofs.rows.put_row.Tie as tie
-use Rattle.drill.proofs.rows.put_row.Reads as reads
-use Rattle.drill.proofs.rows.put_row.Lts as lts
-use Rattle.drill.proofs.rows.put_columns.Reads as put-columns-reads
-use Rattle.wire.proofs.make.put_byte.Reads as put-byte-reads
 
--- src/rows.rt:58:5
 put-columns-requires : tie.Need-put-columns-requires
 put-columns-requires c κs = search needs
 
--- src/rows.rt:59:39
 add-put-byte : tie.Need-add-put-byte
 add-put-byte c = search needs
 
--- src/rows.rt:59:13
 put-byte-requires : tie.Need-put-byte-requires
 put-byte-requires c κs = search needs
 
--- src/rows.rt:54:1
 same-length : tie.Need-same-length
 same-length c = search needs
 
--- src/rows.rt:54:1
 returns : tie.Need-returns
 returns c = put-newline (c .before .before .before .before .before .before .before .before .before .args .out .now) (c .before .before .before .before .before .before .before .before .before .args .at) (c .before .before .before .before .before .before .before .before .before .args .values) (search needs) (c .before .before .before .before .before .before .before .before .before .pre) (c .before .before .before .before .before .before .put-columns .ensures) (c .before .before .put-byte .ensures)
 

@@ -7,10 +7,6 @@ use mathlib.Core.Path.{sym, _∙_}
 use borrow.Author.Needs.{needs}
 use Rattle.drill.proofs.run.blank_servers.Statement.{statement}
 use Rattle.drill.proofs.run.blank_servers.Tie as tie
-use Rattle.drill.proofs.run.blank_servers.Reads as reads
-use Rattle.drill.proofs.run.blank_servers.Lts as lts
-use Rattle.drill.proofs.servers.blank.Reads as blank-reads
-use Rattle.wire.proofs.sizes.servers.Reads as servers-reads
 
 abbrev Inv-loop : tie.InvT-loop
 Inv-loop work₀ t n b₀ work b = Ready t b work
@@ -18,43 +14,34 @@ Inv-loop work₀ t n b₀ work b = Ready t b work
 abbrev μ-loop : tie.MeasureT-loop
 μ-loop work₀ t n b₀ work b = n + 1 - b
 
--- src/run.rt:25:34
 cast-servers : tie.Need-cast-servers Inv-loop μ-loop
 cast-servers c = search needs
 
--- src/run.rt:25:9
 servers-requires : tie.Need-servers-requires Inv-loop μ-loop
 servers-requires c κs = search needs
 
--- src/run.rt:27:5
 loop-holds : tie.Need-loop-holds Inv-loop μ-loop
 loop-holds c = ready-none (c .before .before .args .t) (c .before .before .args .work .now) (c .before .before .pre .1 .0) (c .before .before .pre .1 .1)
 
--- src/run.rt:28:9
 blank-requires : tie.Need-blank-requires Inv-loop μ-loop
 blank-requires c κs =
     let e = c .before .before .before .servers .ensures in
     (few-servers (c .before .before .before .before .before .args .t) (c .before .before .loop .b) (c .before .before .before .before .before .pre .0 .1) (c .before .before .loop .inv .low, omega arith), c .before .before .loop .inv .size)
 
--- src/run.rt:29:9
 add-b : tie.Need-add-b Inv-loop μ-loop
 add-b c = let e = c .before .before .before .before .before .before .servers .ensures in let h = few-servers (c .before .before .before .before .before .before .before .before .args .t) (c .before .before .before .before .before .loop .b) (c .before .before .before .before .before .before .before .before .pre .0 .1) (c .before .before .before .before .before .loop .inv .low, omega arith) in omega arith
 
--- src/run.rt:27:5
 loop-less : tie.Need-loop-less Inv-loop μ-loop
 loop-less c = search needs
 
--- src/run.rt:27:5
 loop-again : tie.Need-loop-again Inv-loop μ-loop
 loop-again c =
     let e = c .before .before .before .before .before .before .servers .ensures in
     ready-more (c .before .before .before .before .before .before .before .before .args .t) (c .before .before .before .before .before .loop .b) (c .before .before .before .before .before .loop .work) _ (c .before .before .before .before .before .before .before .before .pre .0) (omega arith) (c .before .before .before .before .before .loop .inv) (c .before .before .blank .ensures)
 
--- src/run.rt:21:1
 same-length : tie.Need-same-length Inv-loop μ-loop
 same-length c = c .before .loop .inv .size ∙ sym (c .before .before .before .before .pre .1 .0)
 
--- src/run.rt:21:1
 returns : tie.Need-returns Inv-loop μ-loop
 returns c = let e = c .before .before .servers .ensures in ready-all (c .before .before .before .before .args .t) (c .before .loop .b) (c .before .loop .work) (omega arith) (c .before .loop .inv)
 

@@ -8,8 +8,6 @@ use lib.Seq.{drop-length}
 use borrow.Author.Fill.{fill-more}
 use Rattle.drill.proofs.run.clear.Statement.{statement}
 use Rattle.drill.proofs.run.clear.Tie as tie
-use Rattle.drill.proofs.run.clear.Reads as reads
-use Rattle.drill.proofs.run.clear.Lts as lts
 
 abbrev Inv-loop : tie.InvT-loop
 Inv-loop work₀ i₀ work i = (i ≤ length work₀) × (length work ≡ length work₀) × (work ≡ replicate i 0 ++ drop i work₀)

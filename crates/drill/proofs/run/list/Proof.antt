@@ -8,88 +8,62 @@ use mathlib.Core.Path.{sym, _∙_}
 use borrow.Author.Needs.{needs}
 use Rattle.drill.proofs.run.list.Statement.{statement}
 use Rattle.drill.proofs.run.list.Tie as tie
-use Rattle.drill.proofs.run.list.Reads as reads
-use Rattle.drill.proofs.run.list.Lts as lts
-use Rattle.drill.proofs.lines.first_line.Reads as first-line-reads
-use Rattle.drill.proofs.lines.line_end.Reads as line-end-reads
-use Rattle.drill.proofs.lines.next_line.Reads as next-line-reads
-use Rattle.drill.proofs.rows.put_last.Reads as put-last-reads
-use Rattle.drill.proofs.run.blank_servers.Reads as blank-servers-reads
-use Rattle.drill.proofs.run.rows_from.Reads as rows-from-reads
 
--- src/run.rt:98:9
 returns : tie.Need-returns
 returns c = lists-none (c .before .before .before .before .args .sheet .now) (c .before .before .before .before .args .out .now) (c .if1 .taken)
 
--- src/run.rt:100:9
 line-end-requires : tie.Need-line-end-requires
 line-end-requires c κs = search needs
 
--- src/run.rt:101:25
 first-line-requires : tie.Need-first-line-requires
 first-line-requires c κs = search needs
 
--- src/run.rt:101:20
 enum-known-l : tie.Need-enum-known-l
 enum-known-l c = search needs
 
--- src/run.rt:102:31
 enum-told : tie.Need-enum-told
 enum-told c = search needs
 
--- src/run.rt:102:9
 put-last-requires : tie.Need-put-last-requires
 put-last-requires c κs = first-room (c .before .before .before .before .before .before .before .before .before .args .sheet .now) (c .before .before .before .before .before .before .before .before .before .args .out .now) (c .before .before .before .before .before .before .before .before .before .pre .1)
 
--- src/run.rt:103:9
 same-length : tie.Need-same-length
 same-length c = search needs
 
--- src/run.rt:103:9
 returns-2 : tie.Need-returns-2
 returns-2 c = lists-117 (c .before .before .before .before .before .before .before .before .before .before .before .before .args .sheet .now) (c .before .before .before .before .before .before .before .before .before .before .before .before .args .out .now) (c .before .before .before .before .before .before .before .line-end .result) (c .before .before .before .before .before .before .before .line-end .ensures) (read-broken _ (sym (c .before .before .before .before .before .before .first-line .ensures) ∙ c .before .before .before .before .enum-told .given .1)) (c .before .before .put-last .ensures)
 
--- src/run.rt:105:13
 cast-t : tie.Need-cast-t
 cast-t c = search needs
 
--- src/run.rt:107:9
 put-last-requires-2 : tie.Need-put-last-requires-2
 put-last-requires-2 c κs = first-room (c .before .before .before .before .before .before .before .before .before .before .before .before .args .sheet .now) (c .before .before .before .before .before .before .before .before .before .before .before .before .args .out .now) (c .before .before .before .before .before .before .before .before .before .before .before .before .pre .1)
 
--- src/run.rt:108:9
 same-length-2 : tie.Need-same-length-2
 same-length-2 c = search needs
 
--- src/run.rt:108:9
 returns-3 : tie.Need-returns-3
 returns-3 c =
     let o = read-line _ _ (sym (c .before .before .before .before .before .before .before .before .before .first-line .ensures) ∙ c .before .before .before .before .before .before .before .l .given .1) in
     lists-103 (c .before .before .before .before .before .before .before .before .before .before .before .before .before .before .before .args .sheet .now) (c .before .before .before .before .before .before .before .before .before .before .before .before .before .before .before .args .out .now) (c .before .before .before .before .before .before .before .before .before .before .line-end .result) (c .before .before .before .before .before .before .before .before .before .before .line-end .ensures) _ o (too-low 1 4 _ (c .before .before .before .before .if2 .taken)) (c .before .before .put-last2 .ensures)
 
--- src/run.rt:111:9
 put-last-requires-3 : tie.Need-put-last-requires-3
 put-last-requires-3 c κs = first-room (c .before .before .before .before .before .before .before .before .before .before .before .before .before .args .sheet .now) (c .before .before .before .before .before .before .before .before .before .before .before .before .before .args .out .now) (c .before .before .before .before .before .before .before .before .before .before .before .before .before .pre .1)
 
--- src/run.rt:112:9
 same-length-3 : tie.Need-same-length-3
 same-length-3 c = search needs
 
--- src/run.rt:112:9
 returns-4 : tie.Need-returns-4
 returns-4 c =
     let o = read-line _ _ (sym (c .before .before .before .before .before .before .before .before .before .before .first-line .ensures) ∙ c .before .before .before .before .before .before .before .before .l .given .1) in
     lists-103 (c .before .before .before .before .before .before .before .before .before .before .before .before .before .before .before .before .args .sheet .now) (c .before .before .before .before .before .before .before .before .before .before .before .before .before .before .before .before .args .out .now) (c .before .before .before .before .before .before .before .before .before .before .before .line-end .result) (c .before .before .before .before .before .before .before .before .before .before .before .line-end .ensures) _ o (too-high 1 4 _ (c .before .before .before .before .before .if2 .left) (c .before .before .before .before .if3 .taken)) (c .before .before .put-last3 .ensures)
 
--- src/run.rt:114:5
 blank-servers-requires : tie.Need-blank-servers-requires
 blank-servers-requires c κs = ((c .before .before .if2 .left, c .before .if3 .left), c .before .before .before .before .before .before .before .before .before .before .before .before .before .pre .0)
 
--- src/run.rt:115:36
 next-line-requires : tie.Need-next-line-requires
 next-line-requires c κs = search needs
 
--- src/run.rt:115:5
 rows-from-requires : tie.Need-rows-from-requires
 rows-from-requires c κs =
     let s = c .before .before .before .before .before .before .before .before .before .before .before .before .before .before .before .before .before .before .before .args .sheet .now in
@@ -97,15 +71,12 @@ rows-from-requires c κs =
     let n = next-later s (c .before .before .before .before .before .before .before .before .before .before .before .before .before .before .line-end .result) 0 (omega arith) (e .within) (omega arith) .1 in
     (((c .before .before .before .before .before .before .before .before .if2 .left, c .before .before .before .before .before .before .before .if3 .left), c .before .before .before .before .before .blank-servers .ensures), (rw (c .next-line .ensures) n, rw (c .next-line .ensures) (rows-room s (c .before .before .before .before .before .before .before .before .before .before .before .before .before .before .before .before .before .before .before .args .out .now) (c .before .before .before .before .before .before .before .before .before .before .before .before .before .before .before .before .before .before .before .pre .1) (c .before .before .before .before .before .before .before .before .before .before .before .before .before .before .line-end .result) e)))
 
--- src/run.rt:93:1
 same-length-4 : tie.Need-same-length-4
 same-length-4 c = search needs
 
--- src/run.rt:93:1
 same-length-5 : tie.Need-same-length-5
 same-length-5 c = search needs
 
--- src/run.rt:93:1
 returns-5 : tie.Need-returns-5
 returns-5 c =
     let s = c .before .before .before .before .before .before .before .before .before .before .before .before .before .before .before .before .before .before .before .before .before .before .before .before .args .sheet .now in

@@ -9,13 +9,6 @@ use mathlib.Core.Path.{sym, _∙_}
 use borrow.Author.Needs.{needs}
 use Rattle.drill.proofs.run.rows_from.Statement.{statement}
 use Rattle.drill.proofs.run.rows_from.Tie as tie
-use Rattle.drill.proofs.run.rows_from.Reads as reads
-use Rattle.drill.proofs.run.rows_from.Lts as lts
-use Rattle.drill.proofs.lines.line_end.Reads as line-end-reads
-use Rattle.drill.proofs.lines.next_line.Reads as next-line-reads
-use Rattle.drill.proofs.lines.step_line.Reads as step-line-reads
-use Rattle.drill.proofs.rows.put_last.Reads as put-last-reads
-use Rattle.drill.proofs.run.one_line.Reads as one-line-reads
 
 abbrev Inv-loop : tie.InvT-loop
 Inv-loop sheet out₀ work₀ t from at₀ n₀ begun₀ done₀ out work at n begun done = Going t sheet out₀ from out work at n begun done
@@ -23,47 +16,36 @@ Inv-loop sheet out₀ work₀ t from at₀ n₀ begun₀ done₀ out work at n b
 abbrev μ-loop : tie.MeasureT-loop
 μ-loop sheet out₀ work₀ t from at₀ n₀ begun₀ done₀ out work at n begun done = length sheet - at
 
--- src/run.rt:63:5
 loop-holds : tie.Need-loop-holds Inv-loop μ-loop
 loop-holds c = let a = c .before .before .before .args in going-none (a .t) (a .sheet .now) (a .out .now) (a .from) (a .work .now) (c .before .before .before .pre .0 .1) (c .before .before .before .pre .1 .0) (c .before .before .before .pre .1 .1)
 
--- src/run.rt:64:13
 line-end-requires : tie.Need-line-end-requires Inv-loop μ-loop
 line-end-requires c κs = search needs
 
--- src/run.rt:65:29
 step-line-requires : tie.Need-step-line-requires Inv-loop μ-loop
 step-line-requires c κs = c .line-end .ensures .after
 
--- src/run.rt:65:24
 enum-known-l : tie.Need-enum-known-l Inv-loop μ-loop
 enum-known-l c = search needs
 
--- src/run.rt:66:35
 enum-told : tie.Need-enum-told Inv-loop μ-loop
 enum-told c = search needs
 
--- src/run.rt:66:13
 put-last-requires : tie.Need-put-last-requires Inv-loop μ-loop
 put-last-requires c κs = row-room (c .before .before .before .before .before .before .before .before .before .before .args .t) (c .before .before .before .before .before .before .before .before .before .before .args .sheet .now) (c .before .before .before .before .before .before .before .before .before .before .args .out .now) (c .before .before .before .before .before .before .before .before .before .before .args .from) (c .before .before .before .before .before .before .loop .out) (c .before .before .before .before .before .before .loop .work) (c .before .before .before .before .before .before .loop .at) (c .before .before .before .before .before .before .loop .n) (c .before .before .before .before .before .before .loop .begun) (c .before .before .before .before .before .before .loop .done) (c .before .before .before .before .before .before .loop .inv) (c .before .before .before .before .line-end .result) (c .before .before .before .before .line-end .ensures)
 
--- src/run.rt:67:20
 add-result : tie.Need-add-result Inv-loop μ-loop
 add-result c = let h = row-room (c .before .before .before .before .before .before .before .before .before .before .before .before .before .args .t) (c .before .before .before .before .before .before .before .before .before .before .before .before .before .args .sheet .now) (c .before .before .before .before .before .before .before .before .before .before .before .before .before .args .out .now) (c .before .before .before .before .before .before .before .before .before .before .before .before .before .args .from) (c .before .before .before .before .before .before .before .before .before .loop .out) (c .before .before .before .before .before .before .before .before .before .loop .work) (c .before .before .before .before .before .before .before .before .before .loop .at) (c .before .before .before .before .before .before .before .before .before .loop .n) (c .before .before .before .before .before .before .before .before .before .loop .begun) (c .before .before .before .before .before .before .before .before .before .loop .done) (c .before .before .before .before .before .before .before .before .before .loop .inv) (c .before .before .before .before .before .before .before .line-end .result) (c .before .before .before .before .before .before .before .line-end .ensures) in omega arith
 
--- src/run.rt:67:13
 same-length : tie.Need-same-length Inv-loop μ-loop
 same-length c = c .before .out .given ∙ going-size (c .before .before .before .before .before .before .before .before .before .before .before .before .before .args .t) (c .before .before .before .before .before .before .before .before .before .before .before .before .before .args .sheet .now) (c .before .before .before .before .before .before .before .before .before .before .before .before .before .args .out .now) (c .before .before .before .before .before .before .before .before .before .before .before .before .before .args .from) (c .before .before .before .before .before .before .before .before .before .loop .out) (c .before .before .before .before .before .before .before .before .before .loop .work) (c .before .before .before .before .before .before .before .before .before .loop .at) (c .before .before .before .before .before .before .before .before .before .loop .n) (c .before .before .before .before .before .before .before .before .before .loop .begun) (c .before .before .before .before .before .before .before .before .before .loop .done) (c .before .before .before .before .before .before .before .before .before .loop .inv)
 
--- src/run.rt:67:13
 same-length-2 : tie.Need-same-length-2 Inv-loop μ-loop
 same-length-2 c = c .before .before .before .before .before .before .before .before .before .loop .inv .stands .size ∙ sym (c .before .before .before .before .before .before .before .before .before .before .before .before .before .pre .0 .1 .size)
 
--- src/run.rt:67:13
 returns : tie.Need-returns Inv-loop μ-loop
 returns c = going-last (c .before .before .before .before .before .before .before .before .before .before .before .before .before .args .t) (c .before .before .before .before .before .before .before .before .before .before .before .before .before .args .sheet .now) (c .before .before .before .before .before .before .before .before .before .before .before .before .before .args .out .now) (c .before .before .before .before .before .before .before .before .before .before .before .before .before .args .from) (c .before .before .before .before .before .before .before .before .before .loop .out) (c .before .before .before .before .before .before .before .before .before .loop .work) (c .before .before .before .before .before .before .before .before .before .loop .at) (c .before .before .before .before .before .before .before .before .before .loop .n) (c .before .before .before .before .before .before .before .before .before .loop .begun) (c .before .before .before .before .before .before .before .before .before .loop .done) (c .before .before .before .before .before .before .before .before .before .loop .inv) (c .before .before .before .before .before .before .before .line-end .result) (c .before .before .before .before .before .before .before .line-end .ensures) (read-broken _ (sym (c .before .before .before .before .before .before .step-line .ensures) ∙ c .before .before .before .before .enum-told .given .1)) (c .before .before .put-last .ensures)
 
--- src/run.rt:69:9
 one-line-requires : tie.Need-one-line-requires Inv-loop μ-loop
 one-line-requires c κs =
     let o = read-line _ _ (sym (c .before .before .before .before .before .step-line .ensures) ∙ c .before .before .before .l .given .1) in
@@ -71,19 +53,15 @@ one-line-requires c κs =
     let h = line-number _ _ _ o in
     ((((c .before .before .before .before .before .before .before .before .before .before .before .before .pre .0 .0), g .stands .size), omega (arith, g .few)), (line-form _ _ _ o, row-room (c .before .before .before .before .before .before .before .before .before .before .before .before .args .t) (c .before .before .before .before .before .before .before .before .before .before .before .before .args .sheet .now) (c .before .before .before .before .before .before .before .before .before .before .before .before .args .out .now) (c .before .before .before .before .before .before .before .before .before .before .before .before .args .from) (c .before .before .before .before .before .before .before .before .loop .out) (c .before .before .before .before .before .before .before .before .loop .work) (c .before .before .before .before .before .before .before .before .loop .at) (c .before .before .before .before .before .before .before .before .loop .n) (c .before .before .before .before .before .before .before .before .loop .begun) (c .before .before .before .before .before .before .before .before .loop .done) (c .before .before .before .before .before .before .before .before .loop .inv) (c .before .before .before .before .before .before .line-end .result) (c .before .before .before .before .before .before .line-end .ensures)))
 
--- src/run.rt:70:9
 next-line-requires : tie.Need-next-line-requires Inv-loop μ-loop
 next-line-requires c κs = search needs
 
--- src/run.rt:71:9
 add-n : tie.Need-add-n Inv-loop μ-loop
 add-n c = let h = line-number _ _ _ (read-line _ _ (sym (c .before .before .before .before .before .before .before .before .before .before .before .step-line .ensures) ∙ c .before .before .before .before .before .before .before .before .before .l .given .1)) in omega arith
 
--- src/run.rt:72:9
 add-done : tie.Need-add-done Inv-loop μ-loop
 add-done c = let h = row-room (c .before .before .before .before .before .before .before .before .before .before .before .before .before .before .before .before .before .before .args .t) (c .before .before .before .before .before .before .before .before .before .before .before .before .before .before .before .before .before .before .args .sheet .now) (c .before .before .before .before .before .before .before .before .before .before .before .before .before .before .before .before .before .before .args .out .now) (c .before .before .before .before .before .before .before .before .before .before .before .before .before .before .before .before .before .before .args .from) (c .before .before .before .before .before .before .before .before .before .before .before .before .before .before .loop .out) (c .before .before .before .before .before .before .before .before .before .before .before .before .before .before .loop .work) (c .before .before .before .before .before .before .before .before .before .before .before .before .before .before .loop .at) (c .before .before .before .before .before .before .before .before .before .before .before .before .before .before .loop .n) (c .before .before .before .before .before .before .before .before .before .before .before .before .before .before .loop .begun) (c .before .before .before .before .before .before .before .before .before .before .before .before .before .before .loop .done) (c .before .before .before .before .before .before .before .before .before .before .before .before .before .before .loop .inv) (c .before .before .before .before .before .before .before .before .before .before .before .before .line-end .result) (c .before .before .before .before .before .before .before .before .before .before .before .before .line-end .ensures) in omega arith
 
--- src/run.rt:63:5
 loop-less : tie.Need-loop-less Inv-loop μ-loop
 loop-less c =
     let e = c .before .before .before .before .before .before .before .before .before .before .before .before .line-end .ensures in
@@ -91,20 +69,16 @@ loop-less c =
     let r = c .next-line .ensures in
     omega arith
 
--- src/run.rt:63:5
 loop-again : tie.Need-loop-again Inv-loop μ-loop
 loop-again c =
     rw (c .next-line .ensures) (going-more (c .before .before .before .before .before .before .before .before .before .before .before .before .before .before .before .before .before .before .args .t) (c .before .before .before .before .before .before .before .before .before .before .before .before .before .before .before .before .before .before .args .sheet .now) (c .before .before .before .before .before .before .before .before .before .before .before .before .before .before .before .before .before .before .args .out .now) (c .before .before .before .before .before .before .before .before .before .before .before .before .before .before .before .before .before .before .args .from) (c .before .before .before .before .before .before .before .before .before .before .before .before .before .before .loop .out) (c .before .before .before .before .before .before .before .before .before .before .before .before .before .before .loop .work) (c .before .before .before .before .before .before .before .before .before .before .before .before .before .before .loop .at) (c .before .before .before .before .before .before .before .before .before .before .before .before .before .before .loop .n) (c .before .before .before .before .before .before .before .before .before .before .before .before .before .before .loop .begun) (c .before .before .before .before .before .before .before .before .before .before .before .before .before .before .loop .done) (c .before .before .before .before .before .before .before .before .before .before .before .before .before .before .loop .inv) (c .before .before .before .before .before .before .before .before .before .before .before .before .line-end .result) (c .before .before .before .before .before .before .before .before .before .before .before .before .line-end .ensures) (read-line _ _ (sym (c .before .before .before .before .before .before .before .before .before .before .before .step-line .ensures) ∙ c .before .before .before .before .before .before .before .before .before .l .given .1)) (c .before .before .before .before .before .one-line .ensures) (omega arith))
 
--- src/run.rt:54:1
 same-length-3 : tie.Need-same-length-3 Inv-loop μ-loop
 same-length-3 c = going-size (c .before .before .before .before .before .args .t) (c .before .before .before .before .before .args .sheet .now) (c .before .before .before .before .before .args .out .now) (c .before .before .before .before .before .args .from) (c .before .loop .out) (c .before .loop .work) (c .before .loop .at) (c .before .loop .n) (c .before .loop .begun) (c .before .loop .done) (c .before .loop .inv)
 
--- src/run.rt:54:1
 same-length-4 : tie.Need-same-length-4 Inv-loop μ-loop
 same-length-4 c = c .before .loop .inv .stands .size ∙ sym (c .before .before .before .before .before .pre .0 .1 .size)
 
--- src/run.rt:54:1
 returns-2 : tie.Need-returns-2 Inv-loop μ-loop
 returns-2 c = going-all (c .before .before .before .before .before .args .t) (c .before .before .before .before .before .args .sheet .now) (c .before .before .before .before .before .args .out .now) (c .before .before .before .before .before .args .from) (c .before .loop .out) (c .before .loop .work) (c .before .loop .at) (c .before .loop .n) (c .before .loop .begun) (c .before .loop .done) (c .before .loop .inv) (omega arith)
 

@@ -6,40 +6,28 @@ use Prim.Native.Nat.{_+_, _-_}
 use borrow.Author.Needs.{needs}
 use Rattle.drill.proofs.servers.blank_latest.Statement.{statement}
 use Rattle.drill.proofs.servers.blank_latest.Tie as tie
-use Rattle.drill.proofs.servers.blank_latest.Reads as reads
-use Rattle.drill.proofs.servers.blank_latest.Lts as lts
-use Rattle.drill.proofs.servers.server_at.Reads as server-at-reads
-use Rattle.server.proofs.blank.blank_latest.Reads as blank-latest-reads
 
--- src/servers.rt:36:9
 server-at-requires : tie.Need-server-at-requires
 server-at-requires c κs = search needs
 
--- src/servers.rt:37:13
 add-e : tie.Need-add-e
 add-e c = search needs
 
--- src/servers.rt:38:41
 sub-blank-latest : tie.Need-sub-blank-latest
 sub-blank-latest c = search needs
 
--- src/servers.rt:38:41
 part-blank-latest-start : tie.Need-part-blank-latest-start
 part-blank-latest-start c = search needs
 
--- src/servers.rt:38:41
 part-blank-latest-end : tie.Need-part-blank-latest-end
 part-blank-latest-end c = search needs
 
--- src/servers.rt:38:13
 blank-latest-requires : tie.Need-blank-latest-requires
 blank-latest-requires c κs = search needs
 
--- src/servers.rt:32:1
 same-length : tie.Need-same-length
 same-length c = search needs
 
--- src/servers.rt:32:1
 returns : tie.Need-returns
 returns c =
     let a = c .before .before .before .before .before .before .args in

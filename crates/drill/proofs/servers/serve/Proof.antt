@@ -8,48 +8,34 @@ use Prim.Native.Nat.{_+_, _-_}
 use borrow.Author.Needs.{needs}
 use Rattle.drill.proofs.servers.serve.Statement.{statement}
 use Rattle.drill.proofs.servers.serve.Tie as tie
-use Rattle.drill.proofs.servers.serve.Reads as reads
-use Rattle.drill.proofs.servers.serve.Lts as lts
-use Rattle.drill.proofs.servers.server_at.Reads as server-at-reads
-use Rattle.server.proofs.take.take.Reads as take-reads
 
--- src/servers.rt:25:9
 server-at-requires : tie.Need-server-at-requires
 server-at-requires c κs = search needs
 
--- src/servers.rt:26:13
 add-e : tie.Need-add-e
 add-e c = search needs
 
--- src/servers.rt:27:16
 cast-key : tie.Need-cast-key
 cast-key c = search needs
 
--- src/servers.rt:28:24
 sub-take : tie.Need-sub-take
 sub-take c = search needs
 
--- src/servers.rt:28:24
 part-take-start : tie.Need-part-take-start
 part-take-start c = search needs
 
--- src/servers.rt:28:24
 part-take-end : tie.Need-part-take-end
 part-take-end c = search needs
 
--- src/servers.rt:28:5
 take-requires : tie.Need-take-requires
 take-requires c κs = search needs
 
--- src/servers.rt:21:1
 same-length : tie.Need-same-length
 same-length c = search needs
 
--- src/servers.rt:21:1
 same-length-2 : tie.Need-same-length-2
 same-length-2 c = search needs
 
--- src/servers.rt:21:1
 returns : tie.Need-returns
 returns c =
     let a = c .before .before .before .before .before .before .before .before .before .before .before .before .args in

@@ -12,9 +12,6 @@ use Rattle.drill.proofs.Numbers.{tens, tens-pos, tens-more, tens-fits, 
 use borrow.Author.Needs.{needs}
 use Rattle.drill.proofs.sheet.digits_from.Statement.{statement}
 use Rattle.drill.proofs.sheet.digits_from.Tie as tie
-use Rattle.drill.proofs.sheet.digits_from.Reads as reads
-use Rattle.drill.proofs.sheet.digits_from.Lts as lts
-use Rattle.drill.proofs.sheet.wide.Reads as wide-reads
 
 abbrev Inv-loop : tie.InvT-loop
 Inv-loop s from v₀ i₀ v i = (digits 0 (drop from s) ≡ digits v (drop i s)) × (v < tens i)
@@ -22,50 +19,40 @@ Inv-loop s from v₀ i₀ v i = (digits 0 (drop from s) ≡ digits v (drop i s))
 abbrev μ-loop : tie.MeasureT-loop
 μ-loop s from v₀ i₀ v i = length s - i
 
--- src/sheet.rt:69:5
 loop-holds : tie.Need-loop-holds Inv-loop μ-loop
 loop-holds c = (refl, tens-pos (c .before .args .from))
 
--- src/sheet.rt:70:17
 shared-slice-read-x : tie.Need-shared-slice-read-x Inv-loop μ-loop
 shared-slice-read-x c = search needs
 
--- src/sheet.rt:72:13
 returns : tie.Need-returns Inv-loop μ-loop
 unfolding numberOf
 returns c =
     let s = c .before .before .before .before .before .args .s .now in
     ap numberOf (sym (c .before .before .before .loop .inv .0 ∙ digits-low s (c .before .before .before .loop .i) (omega arith) (c .before .before .before .loop .v) (c .if1 .taken)))
 
--- src/sheet.rt:75:13
 returns-2 : tie.Need-returns-2 Inv-loop μ-loop
 unfolding numberOf
 returns-2 c =
     let s = c .before .before .before .before .before .before .args .s .now in
     ap numberOf (sym (c .before .before .before .before .loop .inv .0 ∙ digits-high s (c .before .before .before .before .loop .i) (omega arith) (c .before .before .before .before .loop .v) (c .before .if1 .left) (c .if2 .taken)))
 
--- src/sheet.rt:77:13
 mul-v : tie.Need-mul-v Inv-loop μ-loop
 mul-v c = let f = tens-fits (c .before .before .before .before .loop .i) (omega arith) in omega arith
 
--- src/sheet.rt:77:22
 wide-requires : tie.Need-wide-requires Inv-loop μ-loop
 wide-requires c κs = search needs
 
--- src/sheet.rt:77:13
 add-v : tie.Need-add-v Inv-loop μ-loop
 add-v c = let f = tens-fits (c .before .before .before .before .before .loop .i + 1) (omega arith) in
     let g = tens-more (c .before .before .before .before .before .loop .v) (c .before .before .before .before .before .loop .i) (getD (c .before .before .before .before .before .before .before .args .s .now) (c .before .before .before .before .before .loop .i) 0 - 48) (c .before .before .before .before .before .loop .inv .1) (omega arith) in omega arith
 
--- src/sheet.rt:78:9
 add-i : tie.Need-add-i Inv-loop μ-loop
 add-i c = search needs
 
--- src/sheet.rt:69:5
 loop-less : tie.Need-loop-less Inv-loop μ-loop
 loop-less c = search needs
 
--- src/sheet.rt:69:5
 loop-again : tie.Need-loop-again Inv-loop μ-loop
 loop-again c =
     let s = c .before .before .before .before .before .before .before .args .s .now in
@@ -74,7 +61,6 @@ loop-again c =
     let e : c .wide .result ≡ getD s i 0 - 48 = c .wide .ensures in
     (c .before .before .before .before .before .loop .inv .0 ∙ digits-more s i (omega arith) (c .before .before .before .before .before .loop .v) (c .before .before .if1 .left) (c .before .if2 .left) ∙ rw e, rw e g)
 
--- src/sheet.rt:63:1
 returns-3 : tie.Need-returns-3 Inv-loop μ-loop
 unfolding numberOf
 returns-3 c =

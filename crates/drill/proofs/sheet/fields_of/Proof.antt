@@ -4,81 +4,61 @@ use mathlib.Core.Path.{sym, _∙_}
 use borrow.Author.Needs.{needs}
 use Rattle.drill.proofs.sheet.fields_of.Statement.{statement}
 use Rattle.drill.proofs.sheet.fields_of.Tie as tie
-use Rattle.drill.proofs.sheet.fields_of.Reads as reads
-use Rattle.drill.proofs.sheet.fields_of.Lts as lts
-use Rattle.drill.proofs.sheet.column_at.Reads as column-at-reads
 
--- src/sheet.rt:111:9
 returns : tie.Need-returns
 returns c = no-line (c .before .before .args .text .now) (c .if1 .taken)
 
--- src/sheet.rt:113:31
 column-at-requires : tie.Need-column-at-requires
 column-at-requires c κs = search needs
 
--- src/sheet.rt:113:23
 enum-known-verb : tie.Need-enum-known-verb
 enum-known-verb c = search needs
 
--- src/sheet.rt:114:9
 enum-told : tie.Need-enum-told
 enum-told c = search needs
 
--- src/sheet.rt:114:9
 returns-2 : tie.Need-returns-2
 returns-2 c =
     no-verb (c .before .before .before .before .before .args .text .now) (c .before .before .before .if1 .left) (number-broken _ (sym (c .before .before .column-at .ensures) ∙ c .enum-told .given .1))
 
--- src/sheet.rt:116:33
 column-at-requires-2 : tie.Need-column-at-requires-2
 column-at-requires-2 c κs = search needs
 
--- src/sheet.rt:116:23
 enum-known-client : tie.Need-enum-known-client
 enum-known-client c = search needs
 
--- src/sheet.rt:117:9
 enum-told-2 : tie.Need-enum-told-2
 enum-told-2 c = search needs
 
--- src/sheet.rt:117:9
 returns-3 : tie.Need-returns-3
 returns-3 c =
     let p0 = number-value _ _ (sym (c .before .before .before .before .before .before .column-at .ensures) ∙ c .before .before .before .before .verb .given .1) in
     no-client (c .before .before .before .before .before .before .before .before .before .args .text .now) (c .before .before .before .before .before .before .before .if1 .left) p0 (number-broken _ (sym (c .before .before .column-at2 .ensures) ∙ c .enum-told2 .given .1))
 
--- src/sheet.rt:119:33
 column-at-requires-3 : tie.Need-column-at-requires-3
 column-at-requires-3 c κs = search needs
 
--- src/sheet.rt:119:23
 enum-known-server : tie.Need-enum-known-server
 enum-known-server c = search needs
 
--- src/sheet.rt:120:9
 enum-told-3 : tie.Need-enum-told-3
 enum-told-3 c = search needs
 
--- src/sheet.rt:120:9
 returns-4 : tie.Need-returns-4
 returns-4 c =
     let p0 = number-value _ _ (sym (c .before .before .before .before .before .before .before .before .before .before .column-at .ensures) ∙ c .before .before .before .before .before .before .before .before .verb .given .1) in
     let p1 = number-value _ _ (sym (c .before .before .before .before .before .before .column-at2 .ensures) ∙ c .before .before .before .before .client .given .1) in
     no-server (c .before .before .before .before .before .before .before .before .before .before .before .before .before .args .text .now) (c .before .before .before .before .before .before .before .before .before .before .before .if1 .left) p0 p1 (number-broken _ (sym (c .before .before .column-at3 .ensures) ∙ c .enum-told3 .given .1))
 
--- src/sheet.rt:122:33
 column-at-requires-4 : tie.Need-column-at-requires-4
 column-at-requires-4 c κs = search needs
 
--- src/sheet.rt:122:23
 enum-known-length : tie.Need-enum-known-length
 enum-known-length c = search needs
 
--- src/sheet.rt:123:9
 enum-told-4 : tie.Need-enum-told-4
 enum-told-4 c = search needs
 
--- src/sheet.rt:123:9
 returns-5 : tie.Need-returns-5
 returns-5 c =
     let p0 = number-value _ _ (sym (c .before .before .before .before .before .before .before .before .before .before .before .before .before .before .column-at .ensures) ∙ c .before .before .before .before .before .before .before .before .before .before .before .before .verb .given .1) in
@@ -86,19 +66,15 @@ returns-5 c =
     let p2 = number-value _ _ (sym (c .before .before .before .before .before .before .column-at3 .ensures) ∙ c .before .before .before .before .server .given .1) in
     no-length (c .before .before .before .before .before .before .before .before .before .before .before .before .before .before .before .before .before .args .text .now) (c .before .before .before .before .before .before .before .before .before .before .before .before .before .before .before .if1 .left) p0 p1 p2 (number-broken _ (sym (c .before .before .column-at4 .ensures) ∙ c .enum-told4 .given .1))
 
--- src/sheet.rt:125:31
 column-at-requires-5 : tie.Need-column-at-requires-5
 column-at-requires-5 c κs = search needs
 
--- src/sheet.rt:125:23
 enum-known-fill : tie.Need-enum-known-fill
 enum-known-fill c = search needs
 
--- src/sheet.rt:126:9
 enum-told-5 : tie.Need-enum-told-5
 enum-told-5 c = search needs
 
--- src/sheet.rt:126:9
 returns-6 : tie.Need-returns-6
 returns-6 c =
     let p0 = number-value _ _ (sym (c .before .before .before .before .before .before .before .before .before .before .before .before .before .before .before .before .before .before .column-at .ensures) ∙ c .before .before .before .before .before .before .before .before .before .before .before .before .before .before .before .before .verb .given .1) in
@@ -107,7 +83,6 @@ returns-6 c =
     let p3 = number-value _ _ (sym (c .before .before .before .before .before .before .column-at4 .ensures) ∙ c .before .before .before .before .length .given .1) in
     no-fill (c .before .before .before .before .before .before .before .before .before .before .before .before .before .before .before .before .before .before .before .before .before .args .text .now) (c .before .before .before .before .before .before .before .before .before .before .before .before .before .before .before .before .before .before .before .if1 .left) p0 p1 p2 p3 (number-broken _ (sym (c .before .before .column-at5 .ensures) ∙ c .enum-told5 .given .1))
 
--- src/sheet.rt:107:1
 returns-7 : tie.Need-returns-7
 returns-7 c =
     let p0 = number-value _ _ (sym (c .before .before .before .before .before .before .before .before .before .before .before .before .before .before .before .before .before .before .before .column-at .ensures) ∙ c .before .before .before .before .before .before .before .before .before .before .before .before .before .before .before .before .before .verb .given .1) in

@@ -6,41 +6,30 @@ use mathlib.Core.Path.{sym, ap, _∙_}
 use borrow.Author.Needs.{needs}
 use Rattle.drill.proofs.sheet.number_from.Statement.{statement}
 use Rattle.drill.proofs.sheet.number_from.Tie as tie
-use Rattle.drill.proofs.sheet.number_from.Reads as reads
-use Rattle.drill.proofs.sheet.number_from.Lts as lts
-use Rattle.drill.proofs.sheet.digits_from.Reads as digits-from-reads
 
--- src/sheet.rt:87:9
 returns : tie.Need-returns
 unfolding numberOf
 returns c = ap numberOf (sym (number-end (c .before .before .args .s .now) (c .before .before .args .at) (c .if1 .taken)))
 
--- src/sheet.rt:89:12
 sub-if2 : tie.Need-sub-if2
 sub-if2 c = search needs
 
--- src/sheet.rt:90:12
 shared-slice-read-if3 : tie.Need-shared-slice-read-if3
 shared-slice-read-if3 c = search needs
 
--- src/sheet.rt:91:13
 returns-2 : tie.Need-returns-2
 unfolding numberOf
 returns-2 c = ap numberOf (sym (number-zero (c .before .before .before .before .before .args .s .now) (c .before .before .before .before .before .args .at) (omega arith) (c .if3 .taken)))
 
--- src/sheet.rt:93:9
 digits-from-requires : tie.Need-digits-from-requires
 digits-from-requires c κs = search needs
 
--- src/sheet.rt:93:9
 returns-3 : tie.Need-returns-3
 returns-3 c = c .digits-from .ensures ∙ ap numberOf (sym (number-more (c .before .before .before .before .before .before .args .s .now) (c .before .before .before .before .before .before .args .at) (omega arith) (c .before .if3 .left)))
 
--- src/sheet.rt:95:5
 digits-from-requires-2 : tie.Need-digits-from-requires-2
 digits-from-requires-2 c κs = search needs
 
--- src/sheet.rt:82:1
 returns-4 : tie.Need-returns-4
 returns-4 c = c .digits-from2 .ensures ∙ ap numberOf (sym (number-one (c .before .before .before .before .args .s .now) (c .before .before .before .before .args .at) (omega arith) (omega arith)))
 

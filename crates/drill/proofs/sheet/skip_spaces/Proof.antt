@@ -8,8 +8,6 @@ use Rattle.drill.proofs.Numbers.{column-space, column-number, column-en
 use borrow.Author.Needs.{needs}
 use Rattle.drill.proofs.sheet.skip_spaces.Statement.{statement}
 use Rattle.drill.proofs.sheet.skip_spaces.Tie as tie
-use Rattle.drill.proofs.sheet.skip_spaces.Reads as reads
-use Rattle.drill.proofs.sheet.skip_spaces.Lts as lts
 
 abbrev Inv-loop : tie.InvT-loop
 Inv-loop s i₀ i = (i ≤ length s) × (column s ≡ column (drop i s))
@@ -17,37 +15,30 @@ Inv-loop s i₀ i = (i ≤ length s) × (column s ≡ column (drop i s))
 abbrev μ-loop : tie.MeasureT-loop
 μ-loop s i₀ i = length s - i
 
--- src/sheet.rt:47:5
 loop-holds : tie.Need-loop-holds Inv-loop μ-loop
 loop-holds c = (omega arith, refl)
 
--- src/sheet.rt:48:12
 shared-slice-read-if1 : tie.Need-shared-slice-read-if1 Inv-loop μ-loop
 shared-slice-read-if1 c = search needs
 
--- src/sheet.rt:49:13
 returns : tie.Need-returns Inv-loop μ-loop
 returns c =
     let s = c .before .before .before .before .args .s .now in
     let i = c .before .before .before .loop .i in
     (omega arith, c .before .before .before .loop .inv .1 ∙ column-number s i (omega arith) (c .if1 .taken))
 
--- src/sheet.rt:51:9
 add-i : tie.Need-add-i Inv-loop μ-loop
 add-i c = search needs
 
--- src/sheet.rt:47:5
 loop-less : tie.Need-loop-less Inv-loop μ-loop
 loop-less c = search needs
 
--- src/sheet.rt:47:5
 loop-again : tie.Need-loop-again Inv-loop μ-loop
 loop-again c =
     let s = c .before .before .before .before .args .s .now in
     let i = c .before .before .before .loop .i in
     (omega arith, c .before .before .before .loop .inv .1 ∙ column-space s i (omega arith) (c .if1 .left))
 
--- src/sheet.rt:43:1
 returns-2 : tie.Need-returns-2 Inv-loop μ-loop
 returns-2 c =
     let s = c .before .before .args .s .now in

@@ -3,45 +3,32 @@ use Rattle.drill.specs.Steps.{shown}
 use borrow.Author.Needs.{needs}
 use Rattle.drill.proofs.shown.given_up.Statement.{statement}
 use Rattle.drill.proofs.shown.given_up.Tie as tie
-use Rattle.drill.proofs.shown.given_up.Reads as reads
-use Rattle.drill.proofs.shown.given_up.Lts as lts
-use Rattle.drill.proofs.shown.only.Reads as only-reads
-use Rattle.drill.proofs.shown.refused.Reads as refused-reads
 
--- src/shown.rt:49:36
 enum-known-a : tie.Need-enum-known-a
 enum-known-a c = search needs
 
--- src/shown.rt:49:42
 refused-requires : tie.Need-refused-requires
 refused-requires c κs = search needs
 
--- src/shown.rt:50:38
 enum-told : tie.Need-enum-told
 enum-told c = search needs
 
--- src/shown.rt:50:38
 only-requires : tie.Need-only-requires
 only-requires c κs = search needs
 
--- src/shown.rt:51:42
 enum-told-2 : tie.Need-enum-told-2
 enum-told-2 c = search needs
 
--- src/shown.rt:51:42
 only-requires-2 : tie.Need-only-requires-2
 only-requires-2 c κs = search needs
 
--- src/shown.rt:45:1
 returns : tie.Need-returns
 returns c = rw (c .before .before .a .given .1) (c .refused .ensures)
 
--- src/shown.rt:45:1
 returns-2 : tie.Need-returns-2
 unfolding shown
 returns-2 c = rw (c .before .enum-told .given .1) (c .only .ensures)
 
--- src/shown.rt:45:1
 returns-3 : tie.Need-returns-3
 unfolding shown
 returns-3 c = rw (c .before .enum-told2 .given .1) (c .only2 .ensures)

@@ -1,32 +1,29 @@
--- Byte by byte. Assumes nothing.
-use Rattle.drill.specs.Steps.{nonceFor}
-use mathlib.Core.Path.{refl}
+-- The number's four bytes over the end of zeros, by computation. Assumes nothing.
+use mathlib.Core.Path.{_≡_, refl, _∙_}
+use Prim.Native.Nat.{ℕ}
+use native.Mathlib.Omega.{arith}
+use lib.ListN.{replicate}
 use borrow.Author.Needs.{needs}
+use Rattle.cluster.specs.Ranges.{keySize}
+use Rattle.protocol.specs.Format.{print4}
+use Rattle.protocol.specs.ClientBytes.{put}
+use Rattle.wire.proofs.Put.{placed-wrote}
+use Rattle.drill.specs.Steps.{nonceFor}
 use Rattle.drill.proofs.steps.nonce_for.Statement.{statement}
 use Rattle.drill.proofs.steps.nonce_for.Tie as tie
-use Rattle.drill.proofs.steps.nonce_for.Reads as reads
-use Rattle.drill.proofs.steps.nonce_for.Lts as lts
 
--- src/steps.rt:32:9
-cast-t3 : tie.Need-cast-t3
-cast-t3 c = search needs
+slice-aggregate-put-number4 : tie.Need-slice-aggregate-put-number4
+slice-aggregate-put-number4 c = search needs
 
--- src/steps.rt:33:9
-cast-t6 : tie.Need-cast-t6
-cast-t6 c = search needs
+put-number4-requires : tie.Need-put-number4-requires
+put-number4-requires c κs = search needs
 
--- src/steps.rt:34:9
-cast-t9 : tie.Need-cast-t9
-cast-t9 c = search needs
+number-last : (k : ℕ) → put (replicate keySize 0) 28 (print4 k) ≡ nonceFor k
+unfolding put nonceFor
+number-last k = refl
 
--- src/steps.rt:35:9
-cast-t11 : tie.Need-cast-t11
-cast-t11 c = search needs
-
--- src/steps.rt:27:1
 returns : tie.Need-returns
-unfolding nonceFor
-returns c = refl
+returns c = placed-wrote (c .before .put-number4 .ensures) (omega arith) .bytes ∙ number-last _
 
 pub nonce-for-spec : {M : Type 1} → statement M
-nonce-for-spec = tie.close (tie.spec cast-t3 cast-t6 cast-t9 cast-t11 returns)
+nonce-for-spec = tie.close (tie.spec slice-aggregate-put-number4 put-number4-requires returns)

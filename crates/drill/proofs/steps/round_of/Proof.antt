@@ -7,27 +7,19 @@ use mathlib.Core.Path.{ap}
 use borrow.Author.Needs.{needs}
 use Rattle.drill.proofs.steps.round_of.Statement.{statement}
 use Rattle.drill.proofs.steps.round_of.Tie as tie
-use Rattle.drill.proofs.steps.round_of.Reads as reads
-use Rattle.drill.proofs.steps.round_of.Lts as lts
-use Rattle.drill.proofs.area.call_of.Reads as call-of-reads
 
--- src/steps.rt:166:9
 returns : tie.Need-returns
 returns c = round-none (c .before .before .args .work .now) (c .before .before .args .client) (too-low 1 16 (c .before .before .args .client) (omega arith))
 
--- src/steps.rt:169:9
 returns-2 : tie.Need-returns-2
 returns-2 c = round-none (c .before .before .before .args .work .now) (c .before .before .before .args .client) (too-high 1 16 (c .before .before .before .args .client) (omega arith) (omega arith))
 
--- src/steps.rt:171:9
 call-of-requires : tie.Need-call-of-requires
 call-of-requires c κs = search needs
 
--- src/steps.rt:173:5
 cast-result : tie.Need-cast-result
 cast-result c = search needs
 
--- src/steps.rt:162:1
 returns-3 : tie.Need-returns-3
 returns-3 c = round-some (c .before .before .before .before .before .before .args .work .now) (c .before .before .before .before .before .before .args .client) (omega arith, omega arith) (ap (λ (z : Call). z .tally .round) (c .before .before .call-of .ensures))
 

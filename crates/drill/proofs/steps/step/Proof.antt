@@ -4,87 +4,61 @@ use native.Mathlib.Omega.{arith}
 use borrow.Author.Needs.{needs}
 use Rattle.drill.proofs.steps.step.Statement.{statement}
 use Rattle.drill.proofs.steps.step.Tie as tie
-use Rattle.drill.proofs.steps.step.Reads as reads
-use Rattle.drill.proofs.steps.step.Lts as lts
-use Rattle.drill.proofs.servers.blank_line.Reads as blank-line-reads
-use Rattle.drill.proofs.steps.read.Reads as read-reads
-use Rattle.drill.proofs.steps.stop.Reads as stop-reads
-use Rattle.drill.proofs.steps.write.Reads as write-reads
-use Rattle.drill.proofs.visits.visit_line.Reads as visit-line-reads
 
--- src/steps.rt:140:18
 cast-client : tie.Need-cast-client
 cast-client c = search needs
 
--- src/steps.rt:141:18
 cast-server : tie.Need-cast-server
 cast-server c = search needs
 
--- src/steps.rt:143:46
 cast-write : tie.Need-cast-write
 cast-write c = search needs
 
--- src/steps.rt:143:65
 cast-write-2 : tie.Need-cast-write-2
 cast-write-2 c = let h = write-fill (c .before .before .before .before .before .before .before .args .l) (c .before .before .before .if1 .taken) (c .before .before .before .before .before .before .before .pre .1) in omega arith
 
--- src/steps.rt:143:9
 write-requires : tie.Need-write-requires
 write-requires c κs = search needs
 
--- src/steps.rt:143:9
 same-length : tie.Need-same-length
 same-length c = search needs
 
--- src/steps.rt:143:9
 returns : tie.Need-returns
 returns c = let a = c .before .before .before .before .before .before .before .before .before .before .args in step-write (a .t) (a .begun) (a .l) (a .work .now) _ (c .before .before .before .before .before .before .if1 .taken) (c .before .before .write .ensures)
 
--- src/steps.rt:146:13
 read-requires : tie.Need-read-requires
 read-requires c κs = search needs
 
--- src/steps.rt:147:9
 same-length-2 : tie.Need-same-length-2
 same-length-2 c = search needs
 
--- src/steps.rt:147:9
 returns-2 : tie.Need-returns-2
 returns-2 c = let a = c .before .before .before .before .before .before .before .before .before .args in step-read (a .t) (a .begun) (a .l) (a .work .now) _ (c .before .before .before .before .before .if1 .left) (c .before .before .before .before .if2 .taken) (c .before .before .read .ensures)
 
--- src/steps.rt:150:13
 visit-line-requires : tie.Need-visit-line-requires
 visit-line-requires c κs = search needs
 
--- src/steps.rt:151:9
 same-length-3 : tie.Need-same-length-3
 same-length-3 c = search needs
 
--- src/steps.rt:151:9
 returns-3 : tie.Need-returns-3
 returns-3 c = let a = c .before .before .before .before .before .before .before .before .before .before .args in step-visit (a .t) (a .begun) (a .l) (a .work .now) _ (c .before .before .before .before .before .before .if1 .left) (c .before .before .before .before .before .if2 .left) (c .before .before .before .before .if3 .taken) (c .before .before .visit-line .ensures)
 
--- src/steps.rt:154:13
 blank-line-requires : tie.Need-blank-line-requires
 blank-line-requires c κs = search needs
 
--- src/steps.rt:155:9
 same-length-4 : tie.Need-same-length-4
 same-length-4 c = search needs
 
--- src/steps.rt:155:9
 returns-4 : tie.Need-returns-4
 returns-4 c = let a = c .before .before .before .before .before .before .before .before .before .before .before .args in step-blank (a .t) (a .begun) (a .l) (a .work .now) _ (c .before .before .before .before .before .before .before .if1 .left) (c .before .before .before .before .before .before .if2 .left) (c .before .before .before .before .before .if3 .left) (c .before .before .before .before .if4 .taken) (c .before .before .blank-line .ensures)
 
--- src/steps.rt:157:9
 stop-requires : tie.Need-stop-requires
 stop-requires c κs = search needs
 
--- src/steps.rt:135:1
 same-length-5 : tie.Need-same-length-5
 same-length-5 c = search needs
 
--- src/steps.rt:135:1
 returns-5 : tie.Need-returns-5
 returns-5 c = let a = c .before .before .before .before .before .before .before .before .before .before .before .args in step-stop (a .t) (a .begun) (a .l) (a .work .now) _ (c .before .before .before .before .before .before .before .if1 .left) (c .before .before .before .before .before .before .if2 .left) (c .before .before .before .before .before .if3 .left) (c .before .before .before .before .if4 .left) (c .before .before .stop .ensures)
 

@@ -9,96 +9,71 @@ use mathlib.Core.Path.{_∙_}
 use borrow.Author.Needs.{needs}
 use Rattle.drill.proofs.steps.write.Statement.{statement}
 use Rattle.drill.proofs.steps.write.Tie as tie
-use Rattle.drill.proofs.steps.write.Reads as reads
-use Rattle.drill.proofs.steps.write.Lts as lts
-use Rattle.drill.proofs.area.begin_write.Reads as begin-write-reads
-use Rattle.drill.proofs.shown.begun.Reads as begun-reads
-use Rattle.drill.proofs.shown.refused.Reads as refused-reads
-use Rattle.drill.proofs.steps.nonce_for.Reads as nonce-for-reads
-use Rattle.wire.proofs.bytes.part.Reads as part-reads
 
--- src/steps.rt:45:31
 refused-requires : tie.Need-refused-requires
 refused-requires c κs = search needs
 
--- src/steps.rt:45:9
 returns : tie.Need-returns
 returns c =
     let a = c .before .before .before .args in
     write-stays (a .t) (a .begun) (a .client) (a .size) (a .fill) (c .before .before .before .pre .0 .0 .1) (a .work .now) 4 (λ y z. no-writer (a .t) (a .client) (c .before .before .before .pre .0 .0) y z _ _ (too-low 1 8 (a .client) (omega arith))) (c .refused .ensures)
 
--- src/steps.rt:48:31
 refused-requires-2 : tie.Need-refused-requires-2
 refused-requires-2 c κs = search needs
 
--- src/steps.rt:48:9
 returns-2 : tie.Need-returns-2
 returns-2 c =
     let a = c .before .before .before .before .args in
     write-stays (a .t) (a .begun) (a .client) (a .size) (a .fill) (c .before .before .before .before .pre .0 .0 .1) (a .work .now) 4 (λ y z. no-writer (a .t) (a .client) (c .before .before .before .before .pre .0 .0) y z _ _ (too-high 1 8 (a .client) (omega arith) (omega arith))) (c .refused2 .ensures)
 
--- src/steps.rt:51:31
 refused-requires-3 : tie.Need-refused-requires-3
 refused-requires-3 c κs = search needs
 
--- src/steps.rt:51:9
 returns-3 : tie.Need-returns-3
 returns-3 c =
     let a = c .before .before .before .before .before .args in
     write-stays (a .t) (a .begun) (a .client) (a .size) (a .fill) (c .before .before .before .before .before .pre .0 .0 .1) (a .work .now) 5
     (λ y z. no-size (a .t) (a .client) (c .before .before .before .before .before .pre .0 .0) y z _ _ (inside 1 8 (a .client) (omega arith, omega arith)) (rw length-replicate (too-high 1 1024 (a .size) (omega arith) (omega arith)))) (c .refused3 .ensures)
 
--- src/steps.rt:54:27
 add-nonce-for : tie.Need-add-nonce-for
 add-nonce-for c = search needs
 
--- src/steps.rt:54:17
 nonce-for-requires : tie.Need-nonce-for-requires
 nonce-for-requires c κs = search needs
 
--- src/steps.rt:55:66
 slice-aggregate-part : tie.Need-slice-aggregate-part
 slice-aggregate-part c = search needs
 
--- src/steps.rt:55:48
 part-requires : tie.Need-part-requires
 part-requires c κs = search needs
 
--- src/steps.rt:55:9
 begin-write-requires : tie.Need-begin-write-requires
 begin-write-requires c κs = search needs
 
--- src/steps.rt:57:31
 begun-requires : tie.Need-begun-requires
 begun-requires c κs = search needs
 
--- src/steps.rt:57:55
 add-t23 : tie.Need-add-t23
 add-t23 c = search needs
 
--- src/steps.rt:57:9
 same-length : tie.Need-same-length
 same-length c = search needs
 
--- src/steps.rt:57:9
 returns-4 : tie.Need-returns-4
 returns-4 c =
     let a = c .before .before .before .before .before .before .before .before .before .before .before .before .before .before .args in
-    write-moves (a .t) (a .begun) (a .client) (a .size) (a .fill) (c .before .before .before .before .before .before .before .before .before .before .before .before .before .before .pre .0 .0 .1) (a .work .now) (omega arith, omega arith) (c .before .before .before .before .before .before .part .ensures ∙ part-copies (a .size) 1024 (a .fill) (omega arith)) (c .before .before .before .before .before .before .before .before .before .nonce-for .ensures ∙ rw add-one) (c .before .before .before .before .begin-write .ensures) (c .begun .ensures) (a .begun + 1) (counts-begun (a .begun) (c .before .before .before .before .begin-write .result) (c .before .if4 .taken))
+    write-moves (a .t) (a .begun) (a .client) (a .size) (a .fill) (c .before .before .before .before .before .before .before .before .before .before .before .before .before .before .pre .0 .0 .1) (a .work .now) (omega arith, omega arith) (c .before .before .before .before .before .before .before .part .ensures ∙ part-copies (a .size) 1024 (a .fill) (omega arith)) (c .before .before .before .before .before .before .before .before .before .nonce-for .ensures ∙ rw add-one) (c .before .before .before .before .begin-write .ensures) (c .begun .ensures) (a .begun + 1) (counts-begun (a .begun) (c .before .before .before .before .begin-write .result) (c .before .if4 .taken))
 
--- src/steps.rt:59:20
 begun-requires-2 : tie.Need-begun-requires-2
 begun-requires-2 c κs = search needs
 
--- src/steps.rt:40:1
 same-length-2 : tie.Need-same-length-2
 same-length-2 c = search needs
 
--- src/steps.rt:40:1
 returns-5 : tie.Need-returns-5
 returns-5 c =
     let a = c .before .before .before .before .before .before .before .before .before .before .before .before .before .before .args in
-    write-moves (a .t) (a .begun) (a .client) (a .size) (a .fill) (c .before .before .before .before .before .before .before .before .before .before .before .before .before .before .pre .0 .0 .1) (a .work .now) (omega arith, omega arith) (c .before .before .before .before .before .before .part .ensures ∙ part-copies (a .size) 1024 (a .fill) (omega arith)) (c .before .before .before .before .before .before .before .before .before .nonce-for .ensures ∙ rw add-one) (c .before .before .before .before .begin-write .ensures) (c .begun2 .ensures) (a .begun) (counts-refused (a .begun) (c .before .before .before .before .begin-write .result) (c .before .if4 .left))
+    write-moves (a .t) (a .begun) (a .client) (a .size) (a .fill) (c .before .before .before .before .before .before .before .before .before .before .before .before .before .before .pre .0 .0 .1) (a .work .now) (omega arith, omega arith) (c .before .before .before .before .before .before .before .part .ensures ∙ part-copies (a .size) 1024 (a .fill) (omega arith)) (c .before .before .before .before .before .before .before .before .before .nonce-for .ensures ∙ rw add-one) (c .before .before .before .before .begin-write .ensures) (c .begun2 .ensures) (a .begun) (counts-refused (a .begun) (c .before .before .before .before .begin-write .result) (c .before .if4 .left))
 
 pub write-spec : {M : Type 1} → statement M
 write-spec =

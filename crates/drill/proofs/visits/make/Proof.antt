@@ -5,29 +5,19 @@ use mathlib.Core.Path.{_∙_}
 use borrow.Author.Needs.{needs}
 use Rattle.drill.proofs.visits.make.Statement.{statement}
 use Rattle.drill.proofs.visits.make.Tie as tie
-use Rattle.drill.proofs.visits.make.Reads as reads
-use Rattle.drill.proofs.visits.make.Lts as lts
-use Rattle.client.proofs.packets.make_in.Reads as make-in-reads
-use Rattle.drill.proofs.area.call_of.Reads as call-of-reads
-use Rattle.drill.proofs.area.kept_of.Reads as kept-of-reads
 
--- src/visits.rt:31:9
 call-of-requires : tie.Need-call-of-requires
 call-of-requires c κs = search needs
 
--- src/visits.rt:32:36
 kept-of-requires : tie.Need-kept-of-requires
 kept-of-requires c κs = search needs
 
--- src/visits.rt:32:5
 make-in-requires : tie.Need-make-in-requires
 make-in-requires c κs = search needs
 
--- src/visits.rt:27:1
 same-length : tie.Need-same-length
 same-length c = search needs
 
--- src/visits.rt:27:1
 returns : tie.Need-returns
 returns c =
     let a = c .before .before .before .before .before .before .before .before .args in

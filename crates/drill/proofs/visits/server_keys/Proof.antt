@@ -2,13 +2,9 @@
 use Rattle.drill.specs.Steps.{drillShelf}
 use Rattle.cluster.specs.Config.{upTo}
 use mathlib.Core.Path.{refl}
-use borrow.Author.Needs.{needs}
 use Rattle.drill.proofs.visits.server_keys.Statement.{statement}
 use Rattle.drill.proofs.visits.server_keys.Tie as tie
-use Rattle.drill.proofs.visits.server_keys.Reads as reads
-use Rattle.drill.proofs.visits.server_keys.Lts as lts
 
--- src/visits.rt:17:1
 returns : tie.Need-returns
 unfolding drillShelf upTo
 returns c = refl

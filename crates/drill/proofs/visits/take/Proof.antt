@@ -14,59 +14,40 @@ use Prim.Native.Nat.{_+_, _-_}
 use borrow.Author.Needs.{needs}
 use Rattle.drill.proofs.visits.take.Statement.{statement}
 use Rattle.drill.proofs.visits.take.Tie as tie
-use Rattle.drill.proofs.visits.take.Reads as reads
-use Rattle.drill.proofs.visits.take.Lts as lts
-use Rattle.client.proofs.taking.take_in.Reads as take-in-reads
-use Rattle.drill.proofs.area.call_of.Reads as call-of-reads
-use Rattle.drill.proofs.area.kept_at.Reads as kept-at-reads
-use Rattle.drill.proofs.area.put_call.Reads as put-call-reads
-use Rattle.drill.proofs.visits.server_keys.Reads as server-keys-reads
 
--- src/visits.rt:40:9
 call-of-requires : tie.Need-call-of-requires
 call-of-requires c κs = search needs
 
--- src/visits.rt:41:9
 kept-at-requires : tie.Need-kept-at-requires
 kept-at-requires c κs = search needs
 
--- src/visits.rt:42:13
 add-e : tie.Need-add-e
 add-e c = search needs
 
--- src/visits.rt:44:16
 server-keys-requires : tie.Need-server-keys-requires
 server-keys-requires c κs = search needs
 
--- src/visits.rt:45:43
 sub-take-in : tie.Need-sub-take-in
 sub-take-in c = search needs
 
--- src/visits.rt:45:43
 part-take-in-start : tie.Need-part-take-in-start
 part-take-in-start c = search needs
 
--- src/visits.rt:45:43
 part-take-in-end : tie.Need-part-take-in-end
 part-take-in-end c = search needs
 
--- src/visits.rt:45:9
 take-in-requires : tie.Need-take-in-requires
 take-in-requires c κs = search needs
 
--- src/visits.rt:46:5
 put-call-requires : tie.Need-put-call-requires
 put-call-requires c κs = (c .before .before .before .before .before .before .before .before .before .before .before .before .before .before .before .before .before .pre .0, c .before .before .before .before .work .given .1 ∙ c .before .before .before .before .before .before .before .before .before .before .before .before .before .before .before .before .before .pre .1)
 
--- src/visits.rt:36:1
 same-length : tie.Need-same-length
 same-length c = search needs
 
--- src/visits.rt:36:1
 same-length-2 : tie.Need-same-length-2
 same-length-2 c = search needs
 
--- src/visits.rt:36:1
 returns : tie.Need-returns
 unfolding drillShelf
 returns c =

@@ -3,37 +3,25 @@ use Rattle.drill.proofs.Turning.{visit-passes, visit-refused}
 use borrow.Author.Needs.{needs}
 use Rattle.drill.proofs.visits.visit_line.Statement.{statement}
 use Rattle.drill.proofs.visits.visit_line.Tie as tie
-use Rattle.drill.proofs.visits.visit_line.Reads as reads
-use Rattle.drill.proofs.visits.visit_line.Lts as lts
-use Rattle.drill.proofs.shown.refused.Reads as refused-reads
-use Rattle.drill.proofs.visits.visit.Reads as visit-reads
-use Rattle.drill.proofs.visits.visit_refusal.Reads as visit-refusal-reads
 
--- src/visits.rt:124:9
 visit-refusal-requires : tie.Need-visit-refusal-requires
 visit-refusal-requires c κs = search needs
 
--- src/visits.rt:126:9
 visit-requires : tie.Need-visit-requires
 visit-requires c κs = let r = c .before .before .visit-refusal .ensures in ((c .before .before .before .before .before .pre .0 .1, c .before .before .before .before .before .pre .1), (r .readers (c .before .if1 .taken), r .servers (c .before .if1 .taken)))
 
--- src/visits.rt:126:9
 same-length : tie.Need-same-length
 same-length c = search needs
 
--- src/visits.rt:126:9
 returns : tie.Need-returns
 returns c = let a = c .before .before .before .before .before .before .before .before .args in visit-passes (a .t) (a .work .now) (a .client) (a .server) (c .before .before .before .before .before .visit-refusal .ensures) (c .before .before .before .before .if1 .taken) (c .before .before .visit .ensures)
 
--- src/visits.rt:128:5
 refused-requires : tie.Need-refused-requires
 refused-requires c κs = search needs
 
--- src/visits.rt:120:1
 same-length-2 : tie.Need-same-length-2
 same-length-2 c = search needs
 
--- src/visits.rt:120:1
 returns-2 : tie.Need-returns-2
 returns-2 c = let a = c .before .before .before .before .before .args in visit-refused (a .t) (a .work .now) (a .client) (a .server) (c .before .before .visit-refusal .result) (c .before .before .visit-refusal .ensures) (c .before .if1 .left) (c .refused .ensures)
 

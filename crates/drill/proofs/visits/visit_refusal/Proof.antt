@@ -8,61 +8,46 @@ use mathlib.Core.Path.{ap, sym, _∙_}
 use borrow.Author.Needs.{needs}
 use Rattle.drill.proofs.visits.visit_refusal.Statement.{statement}
 use Rattle.drill.proofs.visits.visit_refusal.Tie as tie
-use Rattle.drill.proofs.visits.visit_refusal.Reads as reads
-use Rattle.drill.proofs.visits.visit_refusal.Lts as lts
-use Rattle.drill.proofs.area.call_of.Reads as call-of-reads
-use Rattle.drill.proofs.visits.is_pending.Reads as is-pending-reads
-use Rattle.wire.proofs.sizes.servers.Reads as servers-reads
 
--- src/visits.rt:103:9
 returns : tie.Need-returns
 returns c = let a = c .before .before .args in refuses-4 (a .t) (a .work .now) (a .client) (a .server) (too-low 1 (shelf (a .t) .servers) (a .server) (omega arith))
 
--- src/visits.rt:105:29
 cast-servers : tie.Need-cast-servers
 cast-servers c = search needs
 
--- src/visits.rt:105:8
 servers-requires : tie.Need-servers-requires
 servers-requires c κs = search needs
 
--- src/visits.rt:106:9
 returns-2 : tie.Need-returns-2
 returns-2 c =
     let a = c .before .before .before .before .args in
     let e = c .before .servers .ensures in
     refuses-4 (a .t) (a .work .now) (a .client) (a .server) (too-high 1 (shelf (a .t) .servers) (a .server) (omega arith) (omega arith))
 
--- src/visits.rt:109:9
 returns-3 : tie.Need-returns-3
 returns-3 c =
     let a = c .before .before .before .before .before .args in
     let e = c .before .before .servers .ensures in
     refuses-5 (a .t) (a .work .now) (a .client) (a .server) (omega arith, omega arith) (too-low 1 16 (a .client) (omega arith))
 
--- src/visits.rt:112:9
 returns-4 : tie.Need-returns-4
 returns-4 c =
     let a = c .before .before .before .before .before .before .args in
     let e = c .before .before .before .servers .ensures in
     refuses-5 (a .t) (a .work .now) (a .client) (a .server) (omega arith, omega arith) (too-high 1 16 (a .client) (omega arith) (omega arith))
 
--- src/visits.rt:114:19
 call-of-requires : tie.Need-call-of-requires
 call-of-requires c κs = search needs
 
--- src/visits.rt:114:8
 is-pending-requires : tie.Need-is-pending-requires
 is-pending-requires c κs = search needs
 
--- src/visits.rt:115:9
 returns-5 : tie.Need-returns-5
 returns-5 c =
     let a = c .before .before .before .before .before .before .before .before .before .args in
     let e = c .before .before .before .before .before .before .servers .ensures in
     passes (a .t) (a .work .now) (a .client) (a .server) (omega arith, omega arith) (omega arith, omega arith) (ap inHand (sym (c .before .before .call-of .ensures)) ∙ sym (c .before .is-pending .ensures) ∙ c .if5 .taken)
 
--- src/visits.rt:98:1
 returns-6 : tie.Need-returns-6
 returns-6 c =
     let a = c .before .before .before .before .before .before .before .before .before .args in

@@ -4,9 +4,6 @@ use borrow.Author.Needs.{needs}
 use Rattle.embed.specs.Clients.{abortedOf}
 use Rattle.embed.proofs.clients.aborted.Statement.{statement}
 use Rattle.embed.proofs.clients.aborted.Tie as tie
-use Rattle.embed.proofs.clients.aborted.Reads as reads
-use Rattle.embed.proofs.clients.aborted.Lts as lts
-use Rattle.embed.proofs.pack.pack.Reads as pack-reads
 
 enum-known-a : tie.Need-enum-known-a
 enum-known-a c = search needs

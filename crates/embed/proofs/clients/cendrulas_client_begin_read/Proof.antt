@@ -4,11 +4,6 @@ use borrow.Author.Needs.{needs}
 use Rattle.embed.proofs.Sessions.{read-unsized, read-done}
 use Rattle.embed.proofs.clients.cendrulas_client_begin_read.Statement.{statement}
 use Rattle.embed.proofs.clients.cendrulas_client_begin_read.Tie as tie
-use Rattle.embed.proofs.clients.cendrulas_client_begin_read.Reads as reads
-use Rattle.embed.proofs.clients.cendrulas_client_begin_read.Lts as lts
-use Rattle.embed.proofs.clients.outcome.Reads as outcome-reads
-use Rattle.embed.proofs.clients.read_in.Reads as read-in-reads
-use Rattle.embed.proofs.pack.pack.Reads as pack-reads
 
 pack-requires : tie.Need-pack-requires
 pack-requires c κs = search needs

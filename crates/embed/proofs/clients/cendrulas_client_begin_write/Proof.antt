@@ -4,12 +4,6 @@ use borrow.Author.Needs.{needs}
 use Rattle.embed.proofs.Sessions.{write-unsized, write-other-nonce, write-done}
 use Rattle.embed.proofs.clients.cendrulas_client_begin_write.Statement.{statement}
 use Rattle.embed.proofs.clients.cendrulas_client_begin_write.Tie as tie
-use Rattle.embed.proofs.clients.cendrulas_client_begin_write.Reads as reads
-use Rattle.embed.proofs.clients.cendrulas_client_begin_write.Lts as lts
-use Rattle.embed.proofs.clients.outcome.Reads as outcome-reads
-use Rattle.embed.proofs.clients.write_in.Reads as write-in-reads
-use Rattle.embed.proofs.pack.array.Reads as array-reads
-use Rattle.embed.proofs.pack.pack.Reads as pack-reads
 
 pack-requires : tie.Need-pack-requires
 pack-requires c κs = search needs

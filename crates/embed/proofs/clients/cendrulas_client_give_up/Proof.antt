@@ -4,13 +4,6 @@ use borrow.Author.Needs.{needs}
 use Rattle.embed.proofs.Sessions.{give-up-unsized, give-up-done}
 use Rattle.embed.proofs.clients.cendrulas_client_give_up.Statement.{statement}
 use Rattle.embed.proofs.clients.cendrulas_client_give_up.Tie as tie
-use Rattle.embed.proofs.clients.cendrulas_client_give_up.Reads as reads
-use Rattle.embed.proofs.clients.cendrulas_client_give_up.Lts as lts
-use Rattle.client.proofs.begin.give_up_in.Reads as give-up-in-reads
-use Rattle.embed.proofs.clients.aborted.Reads as aborted-reads
-use Rattle.embed.proofs.clients.put_call.Reads as put-call-reads
-use Rattle.embed.proofs.pack.pack.Reads as pack-reads
-use Rattle.state.proofs.read.Reads as read-reads
 
 pack-requires : tie.Need-pack-requires
 pack-requires c κs = search needs

@@ -4,10 +4,6 @@ use borrow.Author.Needs.{needs}
 use Rattle.embed.proofs.Sessions.{make-unsized, make-done}
 use Rattle.embed.proofs.clients.cendrulas_client_make.Statement.{statement}
 use Rattle.embed.proofs.clients.cendrulas_client_make.Tie as tie
-use Rattle.embed.proofs.clients.cendrulas_client_make.Reads as reads
-use Rattle.embed.proofs.clients.cendrulas_client_make.Lts as lts
-use Rattle.embed.proofs.clients.make_packet.Reads as make-packet-reads
-use Rattle.embed.proofs.pack.pack.Reads as pack-reads
 
 pack-requires : tie.Need-pack-requires
 pack-requires c κs = search needs

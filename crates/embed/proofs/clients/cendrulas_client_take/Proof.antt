@@ -4,12 +4,6 @@ use borrow.Author.Needs.{needs}
 use Rattle.embed.proofs.Sessions.{take-unsized, take-other-key, take-other-keys, take-done}
 use Rattle.embed.proofs.clients.cendrulas_client_take.Statement.{statement}
 use Rattle.embed.proofs.clients.cendrulas_client_take.Tie as tie
-use Rattle.embed.proofs.clients.cendrulas_client_take.Reads as reads
-use Rattle.embed.proofs.clients.cendrulas_client_take.Lts as lts
-use Rattle.embed.proofs.clients.take_packet.Reads as take-packet-reads
-use Rattle.embed.proofs.keys.keys_of.Reads as keys-of-reads
-use Rattle.embed.proofs.pack.array.Reads as array-reads
-use Rattle.embed.proofs.pack.pack.Reads as pack-reads
 
 pack-requires : tie.Need-pack-requires
 pack-requires c κs = search needs

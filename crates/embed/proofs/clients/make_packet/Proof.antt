@@ -13,13 +13,6 @@ use Rattle.embed.proofs.Sessions.{core-made}
 use Rattle.embed.proofs.Rooms.{made-count, made-out}
 use Rattle.embed.proofs.clients.make_packet.Statement.{statement}
 use Rattle.embed.proofs.clients.make_packet.Tie as tie
-use Rattle.embed.proofs.clients.make_packet.Reads as reads
-use Rattle.embed.proofs.clients.make_packet.Lts as lts
-use Rattle.client.proofs.packets.make_in.Reads as make-in-reads
-use Rattle.embed.proofs.pack.pack.Reads as pack-reads
-use Rattle.embed.proofs.servers.lent.Reads as lent-reads
-use Rattle.state.proofs.read.Reads as read-reads
-use Rattle.wire.proofs.bytes.rest.Reads as rest-reads
 
 read-requires : tie.Need-read-requires
 read-requires c κs = search needs

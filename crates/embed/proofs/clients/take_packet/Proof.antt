@@ -10,12 +10,6 @@ use Rattle.embed.specs.Clients.{keptOf}
 use Rattle.embed.proofs.Sessions.{core-take, taken-in}
 use Rattle.embed.proofs.clients.take_packet.Statement.{statement}
 use Rattle.embed.proofs.clients.take_packet.Tie as tie
-use Rattle.embed.proofs.clients.take_packet.Reads as reads
-use Rattle.embed.proofs.clients.take_packet.Lts as lts
-use Rattle.client.proofs.taking.take_in.Reads as take-in-reads
-use Rattle.embed.proofs.clients.put_call.Reads as put-call-reads
-use Rattle.embed.proofs.clients.taken.Reads as taken-reads
-use Rattle.state.proofs.read.Reads as read-reads
 
 read-requires : tie.Need-read-requires
 read-requires c κs = search needs

@@ -4,9 +4,6 @@ use borrow.Author.Needs.{needs}
 use Rattle.embed.specs.Clients.{takenOf}
 use Rattle.embed.proofs.clients.taken.Statement.{statement}
 use Rattle.embed.proofs.clients.taken.Tie as tie
-use Rattle.embed.proofs.clients.taken.Reads as reads
-use Rattle.embed.proofs.clients.taken.Lts as lts
-use Rattle.embed.proofs.pack.pack.Reads as pack-reads
 
 enum-known-a : tie.Need-enum-known-a
 enum-known-a c = search needs

@@ -9,11 +9,6 @@ use Rattle.embed.specs.Clients.{keptOf}
 use Rattle.embed.proofs.Sessions.{core-write, began}
 use Rattle.embed.proofs.clients.write_in.Statement.{statement}
 use Rattle.embed.proofs.clients.write_in.Tie as tie
-use Rattle.embed.proofs.clients.write_in.Reads as reads
-use Rattle.embed.proofs.clients.write_in.Lts as lts
-use Rattle.client.proofs.begin.begin_write_in.Reads as begin-write-in-reads
-use Rattle.embed.proofs.clients.put_call.Reads as put-call-reads
-use Rattle.state.proofs.read.Reads as read-reads
 
 read-requires : tie.Need-read-requires
 read-requires c κs = search needs

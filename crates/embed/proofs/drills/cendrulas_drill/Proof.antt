@@ -4,10 +4,6 @@ use borrow.Author.Needs.{needs}
 use Rattle.embed.proofs.Listings.{drill-refused, drill-listed}
 use Rattle.embed.proofs.drills.cendrulas_drill.Statement.{statement}
 use Rattle.embed.proofs.drills.cendrulas_drill.Tie as tie
-use Rattle.embed.proofs.drills.cendrulas_drill.Reads as reads
-use Rattle.embed.proofs.drills.cendrulas_drill.Lts as lts
-use Rattle.drill.proofs.drill.Reads as drill-reads
-use Rattle.embed.proofs.pack.pack.Reads as pack-reads
 
 drill-requires : tie.Need-drill-requires
 drill-requires c κs = search needs

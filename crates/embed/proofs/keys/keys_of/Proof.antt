@@ -8,10 +8,6 @@ use Rattle.cluster.specs.Ranges.{mostServers}
 use Rattle.embed.proofs.KeyRuns.{filled, filled-none, filled-more, filled-all, key-size}
 use Rattle.embed.proofs.keys.keys_of.Statement.{statement}
 use Rattle.embed.proofs.keys.keys_of.Tie as tie
-use Rattle.embed.proofs.keys.keys_of.Reads as reads
-use Rattle.embed.proofs.keys.keys_of.Lts as lts
-use Rattle.embed.proofs.pack.array.Reads as array-reads
-use Rattle.wire.proofs.bytes.part.Reads as part-reads
 
 abbrev Inv-loop : tie.InvT-loop
 Inv-loop flat keys₀ i₀ keys i = (i ≤ mostServers) × (keys ≡ filled flat i)

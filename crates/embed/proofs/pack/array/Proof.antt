@@ -1,20 +1,20 @@
--- `embed::array` gives the slice's own bytes: the copy is as long as the array. Assumes nothing.
+-- `embed::pack::array` gives the slice's own bytes: they are as many as the array has. Assumes nothing.
 use mathlib.Core.Path.{_∙_}
 use native.Mathlib.Omega.{arith}
-use lib.ListN.{replicate}
+use lib.Seq.{take-all}
 use borrow.Author.Needs.{needs}
-use Rattle.embed.proofs.Laws.{copied-whole}
+use Rattle.protocol.specs.Values.{nonceSize}
+use Rattle.wire.proofs.Runs.{padded-whole}
 use Rattle.embed.proofs.pack.array.Statement.{statement}
 use Rattle.embed.proofs.pack.array.Tie as tie
 
-slice-aggregate-put : tie.Need-slice-aggregate-put
-slice-aggregate-put c = search needs
-
-put-requires : tie.Need-put-requires
-put-requires c κs = search needs
+nonce-of-requires : tie.Need-nonce-of-requires
+nonce-of-requires c κs = search needs
 
 returns : tie.Need-returns
-returns c = c .before .put .ensures ∙ copied-whole (c .before .before .before .before .args .src .now) (replicate 32 0) 32 (omega arith) (omega arith)
+returns c =
+    let s = c .before .before .args .src .now in
+    c .nonce-of .ensures ∙ padded-whole nonceSize s (omega arith) ∙ take-all nonceSize s (omega arith)
 
 pub array-spec : {M : Type 1} → statement M
-array-spec = tie.close (tie.spec slice-aggregate-put put-requires returns)
+array-spec = tie.close (tie.spec nonce-of-requires returns)

@@ -6,10 +6,6 @@ use Rattle.protocol.specs.ServerBytes.{Blanked}
 use Rattle.embed.specs.Packing.{packed}
 use Rattle.embed.proofs.servers.cendrulas_server_blank.Statement.{statement}
 use Rattle.embed.proofs.servers.cendrulas_server_blank.Tie as tie
-use Rattle.embed.proofs.servers.cendrulas_server_blank.Reads as reads
-use Rattle.embed.proofs.servers.cendrulas_server_blank.Lts as lts
-use Rattle.embed.proofs.pack.pack.Reads as pack-reads
-use Rattle.server.proofs.blank.blank.Reads as blank-reads
 
 blank-requires : tie.Need-blank-requires
 blank-requires c κs = search needs

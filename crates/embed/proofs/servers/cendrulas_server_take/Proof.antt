@@ -4,11 +4,6 @@ use borrow.Author.Needs.{needs}
 use Rattle.embed.proofs.Rooms.{take-unsized, take-sized}
 use Rattle.embed.proofs.servers.cendrulas_server_take.Statement.{statement}
 use Rattle.embed.proofs.servers.cendrulas_server_take.Tie as tie
-use Rattle.embed.proofs.servers.cendrulas_server_take.Reads as reads
-use Rattle.embed.proofs.servers.cendrulas_server_take.Lts as lts
-use Rattle.embed.proofs.pack.array.Reads as array-reads
-use Rattle.embed.proofs.pack.pack.Reads as pack-reads
-use Rattle.embed.proofs.servers.serve.Reads as serve-reads
 
 pack-requires : tie.Need-pack-requires
 pack-requires c κs = search needs

@@ -6,8 +6,6 @@ use native.Mathlib.Nat.{le-refl}
 use borrow.Author.Tests.{le-ltb}
 use Rattle.embed.proofs.servers.lent.Statement.{statement}
 use Rattle.embed.proofs.servers.lent.Tie as tie
-use Rattle.embed.proofs.servers.lent.Reads as reads
-use Rattle.embed.proofs.servers.lent.Lts as lts
 
 returns : tie.Need-returns
 returns c = search needs

@@ -9,11 +9,6 @@ use Rattle.cluster.specs.Ranges.{packetRoom}
 use Rattle.embed.proofs.Rooms.{served-count, served-out}
 use Rattle.embed.proofs.servers.serve.Statement.{statement}
 use Rattle.embed.proofs.servers.serve.Tie as tie
-use Rattle.embed.proofs.servers.serve.Reads as reads
-use Rattle.embed.proofs.servers.serve.Lts as lts
-use Rattle.embed.proofs.pack.pack.Reads as pack-reads
-use Rattle.embed.proofs.servers.lent.Reads as lent-reads
-use Rattle.server.proofs.take.take.Reads as take-reads
 
 lent-requires : tie.Need-lent-requires
 lent-requires c κs = search needs

@@ -9,9 +9,6 @@ use Rattle.protocol.specs.Format.{zeros}
 use Rattle.wire.proofs.Joined.{chunk-zero, chunk-other, not-true, not-false}
 use Rattle.wire.proofs.bytes.all_zero.Statement.{statement}
 use Rattle.wire.proofs.bytes.all_zero.Tie as tie
-use Rattle.wire.proofs.bytes.all_zero.Reads as reads
-use Rattle.wire.proofs.bytes.all_zero.Lts as lts
-use Rattle.wire.proofs.bytes.joined_zero.Reads as joined-zero-reads
 
 abbrev Inv-loop : tie.InvT-loop
 Inv-loop s at₀ at = (at ≤ length s) × (zeros s ≡ zeros (drop at s))

@@ -6,8 +6,6 @@ use native.Mathlib.Omega.{arith}
 use Rattle.wire.proofs.Runs.{getD-past}
 use Rattle.wire.proofs.bytes.byte_at.Statement.{statement}
 use Rattle.wire.proofs.bytes.byte_at.Tie as tie
-use Rattle.wire.proofs.bytes.byte_at.Reads as reads
-use Rattle.wire.proofs.bytes.byte_at.Lts as lts
 
 shared-slice-read-result : tie.Need-shared-slice-read-result
 shared-slice-read-result c = search needs

@@ -10,8 +10,6 @@ use Rattle.protocol.specs.Format.{zeros}
 use Rattle.wire.proofs.Joined.{zeros-more, zeros-end}
 use Rattle.wire.proofs.bytes.joined_zero.Statement.{statement}
 use Rattle.wire.proofs.bytes.joined_zero.Tie as tie
-use Rattle.wire.proofs.bytes.joined_zero.Reads as reads
-use Rattle.wire.proofs.bytes.joined_zero.Lts as lts
 
 abbrev Inv-loop : tie.InvT-loop
 Inv-loop s all₀ i₀ all i = (i ≤ length s) × (zeros s ≡ eqb all 0 && zeros (drop i s))

@@ -1,25 +1,22 @@
--- The first bytes by value: no more than the part is needed.
+-- The first bytes by value: the part is put over zeros.
 -- Assumes nothing.
 use borrow.Author.Needs.{needs}
-use mathlib.Core.Path.{ap, _∙_}
 use Rattle.protocol.specs.Values.{nonceSize}
-use Rattle.wire.specs.Places.{padded}
-use Rattle.wire.proofs.Runs.{part-most, padded-cut}
+use Rattle.wire.proofs.Runs.{placed-padded}
 use Rattle.wire.proofs.bytes.nonce_of.Statement.{statement}
 use Rattle.wire.proofs.bytes.nonce_of.Tie as tie
-use Rattle.wire.proofs.bytes.nonce_of.Reads as reads
-use Rattle.wire.proofs.bytes.nonce_of.Lts as lts
-use Rattle.wire.proofs.bytes.nonce_from.Reads as nonce-from-reads
-use Rattle.wire.proofs.bytes.part.Reads as part-reads
+
+slice-aggregate-put : tie.Need-slice-aggregate-put
+slice-aggregate-put c = search needs
 
 part-requires : tie.Need-part-requires
 part-requires c κs = search needs
 
-nonce-from-requires : tie.Need-nonce-from-requires
-nonce-from-requires c κs = rw (c .part .ensures) (part-most (c .before .before .args .s .now) 0 nonceSize)
+put-requires : tie.Need-put-requires
+put-requires c κs = search needs
 
 returns : tie.Need-returns
-returns c = c .nonce-from .ensures ∙ ap (padded nonceSize) (c .before .part .ensures) ∙ padded-cut nonceSize (c .before .before .before .args .s .now)
+returns c = placed-padded nonceSize (c .before .before .before .before .before .args .s .now) 0 (c .before .before .part .ensures) (c .before .put .ensures)
 
 pub nonce-of-spec : {M : Type 1} → statement M
-nonce-of-spec = tie.close (tie.spec part-requires nonce-from-requires returns)
+nonce-of-spec = tie.close (tie.spec slice-aggregate-put part-requires put-requires returns)

@@ -7,8 +7,6 @@ use lib.ListN.{length}
 use Rattle.wire.proofs.Runs.{part-past, part-short, part-whole}
 use Rattle.wire.proofs.bytes.part.Statement.{statement}
 use Rattle.wire.proofs.bytes.part.Tie as tie
-use Rattle.wire.proofs.bytes.part.Reads as reads
-use Rattle.wire.proofs.bytes.part.Lts as lts
 
 slice-aggregate-result : tie.Need-slice-aggregate-result
 slice-aggregate-result c = search needs

@@ -6,8 +6,6 @@ use native.Mathlib.Omega.{arith}
 use Rattle.wire.proofs.Runs.{rest-past, rest-whole}
 use Rattle.wire.proofs.bytes.rest.Statement.{statement}
 use Rattle.wire.proofs.bytes.rest.Tie as tie
-use Rattle.wire.proofs.bytes.rest.Reads as reads
-use Rattle.wire.proofs.bytes.rest.Lts as lts
 
 slice-aggregate-result : tie.Need-slice-aggregate-result
 slice-aggregate-result c = search needs

@@ -11,8 +11,6 @@ use Rattle.protocol.specs.Values.{sameList}
 use Rattle.wire.proofs.Joined.{lengths-differ, byte-differs, same-more, same-end}
 use Rattle.wire.proofs.bytes.same.Statement.{statement}
 use Rattle.wire.proofs.bytes.same.Tie as tie
-use Rattle.wire.proofs.bytes.same.Reads as reads
-use Rattle.wire.proofs.bytes.same.Lts as lts
 
 abbrev Inv-loop : tie.InvT-loop
 Inv-loop a b all₀ i₀ all i = (i ≤ length a) × (sameList a b ≡ eqb all 0 && sameList (drop i a) (drop i b))

@@ -5,9 +5,6 @@ use native.Mathlib.Omega.{arith}
 use Rattle.wire.proofs.Leaf.{byte-end, byte-low, byte-high, byte-in}
 use Rattle.wire.proofs.fields.byte_field.Statement.{statement}
 use Rattle.wire.proofs.fields.byte_field.Tie as tie
-use Rattle.wire.proofs.fields.byte_field.Reads as reads
-use Rattle.wire.proofs.fields.byte_field.Lts as lts
-use Rattle.wire.proofs.fields.wide.Reads as wide-reads
 
 returns : tie.Need-returns
 returns c = byte-end _ _ (omega arith)

@@ -7,9 +7,6 @@ use Rattle.protocol.specs.Packet.{codeF}
 use Rattle.wire.proofs.Optional.{code-zero, code-high, code-stops}
 use Rattle.wire.proofs.fields.code_field.Statement.{statement}
 use Rattle.wire.proofs.fields.code_field.Tie as tie
-use Rattle.wire.proofs.fields.code_field.Reads as reads
-use Rattle.wire.proofs.fields.code_field.Lts as lts
-use Rattle.wire.proofs.fields.byte_field.Reads as byte-field-reads
 
 byte-field-requires : tie.Need-byte-field-requires
 byte-field-requires c κs = search needs

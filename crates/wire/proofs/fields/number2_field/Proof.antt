@@ -5,9 +5,6 @@ use native.Mathlib.Omega.{arith}
 use Rattle.wire.proofs.Leaf.{number2-end, number2-low, number2-high, number2-in}
 use Rattle.wire.proofs.fields.number2_field.Statement.{statement}
 use Rattle.wire.proofs.fields.number2_field.Tie as tie
-use Rattle.wire.proofs.fields.number2_field.Reads as reads
-use Rattle.wire.proofs.fields.number2_field.Lts as lts
-use Rattle.wire.proofs.fields.wide.Reads as wide-reads
 
 returns : tie.Need-returns
 returns c = number2-end _ _ (omega arith)

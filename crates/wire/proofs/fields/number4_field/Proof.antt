@@ -5,9 +5,6 @@ use native.Mathlib.Omega.{arith}
 use Rattle.wire.proofs.Leaf.{number4-end, number4-low, number4-high, number4-in}
 use Rattle.wire.proofs.fields.number4_field.Statement.{statement}
 use Rattle.wire.proofs.fields.number4_field.Tie as tie
-use Rattle.wire.proofs.fields.number4_field.Reads as reads
-use Rattle.wire.proofs.fields.number4_field.Lts as lts
-use Rattle.wire.proofs.fields.wide.Reads as wide-reads
 
 returns : tie.Need-returns
 returns c = number4-end _ _ (omega arith)

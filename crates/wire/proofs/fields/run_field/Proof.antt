@@ -5,8 +5,6 @@ use native.Mathlib.Omega.{arith}
 use Rattle.wire.proofs.Leaf.{run-past, run-in}
 use Rattle.wire.proofs.fields.run_field.Statement.{statement}
 use Rattle.wire.proofs.fields.run_field.Tie as tie
-use Rattle.wire.proofs.fields.run_field.Reads as reads
-use Rattle.wire.proofs.fields.run_field.Lts as lts
 
 sub-if1 : tie.Need-sub-if1
 sub-if1 c = search needs

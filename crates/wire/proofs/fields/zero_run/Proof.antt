@@ -7,9 +7,6 @@ use mathlib.Core.Logic.{inl, inr}
 use Prim.Native.Nat.{_+_, _-_}
 use Rattle.wire.proofs.fields.zero_run.Statement.{statement}
 use Rattle.wire.proofs.fields.zero_run.Tie as tie
-use Rattle.wire.proofs.fields.zero_run.Reads as reads
-use Rattle.wire.proofs.fields.zero_run.Lts as lts
-use Rattle.wire.proofs.bytes.all_zero.Reads as all-zero-reads
 
 sub-if1 : tie.Need-sub-if1
 sub-if1 c = search needs

@@ -10,8 +10,6 @@ use mathlib.Core.List.{List}
 use Rattle.protocol.proofs.Puts.{wrote-copy}
 use Rattle.wire.proofs.make.copy.Statement.{statement}
 use Rattle.wire.proofs.make.copy.Tie as tie
-use Rattle.wire.proofs.make.copy.Reads as reads
-use Rattle.wire.proofs.make.copy.Lts as lts
 
 abbrev Inv-loop : tie.InvT-loop
 Inv-loop out₀ at bytes i₀ out i = (i ≤ length bytes) × (out ≡ paste out₀ at bytes i)

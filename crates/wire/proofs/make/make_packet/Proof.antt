@@ -5,10 +5,6 @@ use native.Mathlib.Omega.{arith}
 use Rattle.wire.proofs.Put.{short-buffer, short-room, packet-made}
 use Rattle.wire.proofs.make.make_packet.Statement.{statement}
 use Rattle.wire.proofs.make.make_packet.Tie as tie
-use Rattle.wire.proofs.make.make_packet.Reads as reads
-use Rattle.wire.proofs.make.make_packet.Lts as lts
-use Rattle.wire.proofs.make.put.Reads as put-reads
-use Rattle.wire.proofs.make.put_head.Reads as put-head-reads
 
 returns : tie.Need-returns
 returns c = let a = c .before .before .before .before .args in short-buffer (a .head) (a .first .now) (a .second .now) (a .out .now) (omega arith)

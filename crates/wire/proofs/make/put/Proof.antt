@@ -5,9 +5,6 @@ use native.Mathlib.Omega.{arith}
 use Rattle.wire.proofs.Put.{wrote-placed, none-placed}
 use Rattle.wire.proofs.make.put.Statement.{statement}
 use Rattle.wire.proofs.make.put.Tie as tie
-use Rattle.wire.proofs.make.put.Reads as reads
-use Rattle.wire.proofs.make.put.Lts as lts
-use Rattle.wire.proofs.make.copy.Reads as copy-reads
 
 returns : tie.Need-returns
 returns c = let a = c .before .before .before .args in none-placed (a .out .now) (a .at) (a .bytes .now) (omega arith)

@@ -5,9 +5,6 @@ use Rattle.protocol.specs.Format.{keep, via, seq, byte, number4}
 use Rattle.protocol.specs.Packet.{headF}
 use Rattle.wire.proofs.make.put_head.Statement.{statement}
 use Rattle.wire.proofs.make.put_head.Tie as tie
-use Rattle.wire.proofs.make.put_head.Reads as reads
-use Rattle.wire.proofs.make.put_head.Lts as lts
-use Rattle.wire.proofs.make.put.Reads as put-reads
 
 cast-t7 : tie.Need-cast-t7
 cast-t7 c = search needs

@@ -8,11 +8,6 @@ use Rattle.hmac.specs.Hmac.{tagSize}
 use Rattle.wire.proofs.Put.{no-stamp, stamp-placed}
 use Rattle.wire.proofs.make.put_stamp.Statement.{statement}
 use Rattle.wire.proofs.make.put_stamp.Tie as tie
-use Rattle.wire.proofs.make.put_stamp.Reads as reads
-use Rattle.wire.proofs.make.put_stamp.Lts as lts
-use Rattle.wire.proofs.make.put.Reads as put-reads
-use Rattle.wire.proofs.make.put_byte.Reads as put-byte-reads
-use Rattle.wire.proofs.make.put_number4.Reads as put-number4-reads
 
 returns : tie.Need-returns
 returns c = let a = c .before .before .args in let l : length (a .stamp .tag) ≡ tagSize = search needs in no-stamp (a .stamp) (a .out .now) (a .at) l (omega arith)

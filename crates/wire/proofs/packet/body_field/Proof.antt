@@ -6,15 +6,6 @@ use Rattle.cluster.specs.Config.{shelf}
 use Rattle.wire.proofs.Whole.{bare-as, clock-reply-as, store-as, store-reply-as, complete-as, collect-reply-as, filter-as, filter-reply-as, repair-as}
 use Rattle.wire.proofs.packet.body_field.Statement.{statement}
 use Rattle.wire.proofs.packet.body_field.Tie as tie
-use Rattle.wire.proofs.packet.body_field.Reads as reads
-use Rattle.wire.proofs.packet.body_field.Lts as lts
-use Rattle.wire.proofs.fields.code_field.Reads as code-field-reads
-use Rattle.wire.proofs.parts.any_candidate_field.Reads as any-candidate-field-reads
-use Rattle.wire.proofs.parts.any_stamp_field.Reads as any-stamp-field-reads
-use Rattle.wire.proofs.parts.candidate_field.Reads as candidate-field-reads
-use Rattle.wire.proofs.parts.candidates_field.Reads as candidates-field-reads
-use Rattle.wire.proofs.parts.held_field.Reads as held-field-reads
-use Rattle.wire.proofs.parts.write_field.Reads as write-field-reads
 
 any-stamp-field-requires : tie.Need-any-stamp-field-requires
 any-stamp-field-requires c κs = search needs

@@ -14,12 +14,6 @@ use Rattle.protocol.specs.View.{shareAt}
 use Rattle.wire.proofs.Whole.{fragment-broken, fragment-read, fragment-none, fragment-store, fragment-absent, fragment-present}
 use Rattle.wire.proofs.packet.fragment.Statement.{statement}
 use Rattle.wire.proofs.packet.fragment.Tie as tie
-use Rattle.wire.proofs.packet.fragment.Reads as reads
-use Rattle.wire.proofs.packet.fragment.Lts as lts
-use Rattle.wire.proofs.bytes.byte_at.Reads as byte-at-reads
-use Rattle.wire.proofs.bytes.rest.Reads as rest-reads
-use Rattle.wire.proofs.packet.read_packet.Reads as read-packet-reads
-use Rattle.wire.proofs.packet.share_fragment.Reads as share-fragment-reads
 
 read-packet-requires : tie.Need-read-packet-requires
 read-packet-requires c κs = search needs

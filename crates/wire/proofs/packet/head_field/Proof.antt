@@ -8,10 +8,6 @@ use Rattle.protocol.specs.Packet.{headF}
 use Rattle.wire.proofs.Heads.{head-took, head-outside, byte-range}
 use Rattle.wire.proofs.packet.head_field.Statement.{statement}
 use Rattle.wire.proofs.packet.head_field.Tie as tie
-use Rattle.wire.proofs.packet.head_field.Reads as reads
-use Rattle.wire.proofs.packet.head_field.Lts as lts
-use Rattle.wire.proofs.fields.byte_field.Reads as byte-field-reads
-use Rattle.wire.proofs.fields.number4_field.Reads as number4-field-reads
 
 byte-field-requires : tie.Need-byte-field-requires
 byte-field-requires c κs = search needs

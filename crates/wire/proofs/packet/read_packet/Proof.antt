@@ -6,10 +6,6 @@ use Rattle.protocol.proofs.Whole.{refused, head-stops}
 use Rattle.wire.proofs.Whole.{kind-range, packet-decoded, packet-trailing, packet-broken}
 use Rattle.wire.proofs.packet.read_packet.Statement.{statement}
 use Rattle.wire.proofs.packet.read_packet.Tie as tie
-use Rattle.wire.proofs.packet.read_packet.Reads as reads
-use Rattle.wire.proofs.packet.read_packet.Lts as lts
-use Rattle.wire.proofs.packet.body_field.Reads as body-field-reads
-use Rattle.wire.proofs.packet.head_field.Reads as head-field-reads
 
 head-field-requires : tie.Need-head-field-requires
 head-field-requires c κs = search needs

@@ -4,11 +4,6 @@ use borrow.Author.Needs.{needs}
 use Rattle.protocol.specs.View.{part, shareAt, shareOfSize}
 use Rattle.wire.proofs.packet.share_fragment.Statement.{statement}
 use Rattle.wire.proofs.packet.share_fragment.Tie as tie
-use Rattle.wire.proofs.packet.share_fragment.Reads as reads
-use Rattle.wire.proofs.packet.share_fragment.Lts as lts
-use Rattle.wire.proofs.bytes.number2.Reads as number2-reads
-use Rattle.wire.proofs.bytes.part.Reads as part-reads
-use Rattle.wire.proofs.sizes.fragment_size.Reads as fragment-size-reads
 
 number2-requires : tie.Need-number2-requires
 number2-requires c κs = search needs

@@ -9,11 +9,6 @@ use Rattle.protocol.specs.Packet.{anyCandidateF}
 use Rattle.wire.proofs.Through.{past-any-candidate, any-candidate-took, blank-candidate-took}
 use Rattle.wire.proofs.parts.any_candidate_field.Statement.{statement}
 use Rattle.wire.proofs.parts.any_candidate_field.Tie as tie
-use Rattle.wire.proofs.parts.any_candidate_field.Reads as reads
-use Rattle.wire.proofs.parts.any_candidate_field.Lts as lts
-use Rattle.wire.proofs.fields.zero_run.Reads as zero-run-reads
-use Rattle.wire.proofs.parts.candidate_field.Reads as candidate-field-reads
-use Rattle.wire.proofs.sizes.candidate_size.Reads as candidate-size-reads
 
 returns : tie.Need-returns
 returns c = past-any-candidate (shelf (c .before .before .args .t)) (omega arith)

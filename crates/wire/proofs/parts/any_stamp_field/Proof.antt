@@ -8,10 +8,6 @@ use Rattle.protocol.specs.Packet.{anyStampF}
 use Rattle.wire.proofs.Through.{past-any-stamp, any-stamp-took, blank-stamp-took}
 use Rattle.wire.proofs.parts.any_stamp_field.Statement.{statement}
 use Rattle.wire.proofs.parts.any_stamp_field.Tie as tie
-use Rattle.wire.proofs.parts.any_stamp_field.Reads as reads
-use Rattle.wire.proofs.parts.any_stamp_field.Lts as lts
-use Rattle.wire.proofs.fields.zero_run.Reads as zero-run-reads
-use Rattle.wire.proofs.parts.stamp_field.Reads as stamp-field-reads
 
 returns : tie.Need-returns
 returns c = past-any-stamp (omega arith)

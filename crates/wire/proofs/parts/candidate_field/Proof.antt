@@ -7,11 +7,6 @@ use Rattle.protocol.specs.Packet.{candidateF}
 use Rattle.wire.proofs.Through.{candidate-took}
 use Rattle.wire.proofs.parts.candidate_field.Statement.{statement}
 use Rattle.wire.proofs.parts.candidate_field.Tie as tie
-use Rattle.wire.proofs.parts.candidate_field.Reads as reads
-use Rattle.wire.proofs.parts.candidate_field.Lts as lts
-use Rattle.wire.proofs.fields.run_field.Reads as run-field-reads
-use Rattle.wire.proofs.parts.stamp_field.Reads as stamp-field-reads
-use Rattle.wire.proofs.sizes.tags_size.Reads as tags-size-reads
 
 stamp-field-requires : tie.Need-stamp-field-requires
 stamp-field-requires c κs = search needs

@@ -14,9 +14,6 @@ use Rattle.wire.specs.Reads.{Past}
 use Rattle.wire.proofs.Lists.{many-broken, run-none, run-more}
 use Rattle.wire.proofs.parts.candidate_run.Statement.{statement}
 use Rattle.wire.proofs.parts.candidate_run.Tie as tie
-use Rattle.wire.proofs.parts.candidate_run.Reads as reads
-use Rattle.wire.proofs.parts.candidate_run.Lts as lts
-use Rattle.wire.proofs.parts.candidate_field.Reads as candidate-field-reads
 
 abbrev Inv-loop : tie.InvT-loop
 Inv-loop s t n at₀ i₀ at i =

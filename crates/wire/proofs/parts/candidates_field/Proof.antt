@@ -6,11 +6,6 @@ use Rattle.cluster.specs.Config.{shelf}
 use Rattle.wire.proofs.Lists.{list-took, list-stops, list-breaks}
 use Rattle.wire.proofs.parts.candidates_field.Statement.{statement}
 use Rattle.wire.proofs.parts.candidates_field.Tie as tie
-use Rattle.wire.proofs.parts.candidates_field.Reads as reads
-use Rattle.wire.proofs.parts.candidates_field.Lts as lts
-use Rattle.wire.proofs.fields.byte_field.Reads as byte-field-reads
-use Rattle.wire.proofs.parts.candidate_run.Reads as candidate-run-reads
-use Rattle.wire.proofs.sizes.servers.Reads as servers-reads
 
 servers-requires : tie.Need-servers-requires
 servers-requires c κs = search needs

@@ -8,12 +8,6 @@ use Rattle.protocol.specs.Packet.{heldF}
 use Rattle.wire.proofs.Optional.{held-absent, held-present, held-flag-stops, held-share-stops}
 use Rattle.wire.proofs.parts.held_field.Statement.{statement}
 use Rattle.wire.proofs.parts.held_field.Tie as tie
-use Rattle.wire.proofs.parts.held_field.Reads as reads
-use Rattle.wire.proofs.parts.held_field.Lts as lts
-use Rattle.wire.proofs.fields.byte_field.Reads as byte-field-reads
-use Rattle.wire.proofs.parts.any_stamp_field.Reads as any-stamp-field-reads
-use Rattle.wire.proofs.parts.held_most.Reads as held-most-reads
-use Rattle.wire.proofs.parts.share_field.Reads as share-field-reads
 
 any-stamp-field-requires : tie.Need-any-stamp-field-requires
 any-stamp-field-requires c κs = search needs

@@ -4,8 +4,6 @@ use native.Mathlib.Omega.{arith}
 use borrow.Author.Tests.{eq-eqb, ne-eqb}
 use Rattle.wire.proofs.parts.held_most.Statement.{statement}
 use Rattle.wire.proofs.parts.held_most.Tie as tie
-use Rattle.wire.proofs.parts.held_most.Reads as reads
-use Rattle.wire.proofs.parts.held_most.Lts as lts
 
 returns : tie.Need-returns
 returns c = simp (eq-eqb (c .before .args .number) 0 (omega arith))

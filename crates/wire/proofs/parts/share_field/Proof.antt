@@ -7,13 +7,6 @@ use Rattle.protocol.specs.Packet.{shareF}
 use Rattle.wire.proofs.Through.{share-took, share-stops1, share-stops2, share-stops3, share-stops4}
 use Rattle.wire.proofs.parts.share_field.Statement.{statement}
 use Rattle.wire.proofs.parts.share_field.Tie as tie
-use Rattle.wire.proofs.parts.share_field.Reads as reads
-use Rattle.wire.proofs.parts.share_field.Lts as lts
-use Rattle.wire.proofs.fields.number2_field.Reads as number2-field-reads
-use Rattle.wire.proofs.fields.run_field.Reads as run-field-reads
-use Rattle.wire.proofs.sizes.digests_size.Reads as digests-size-reads
-use Rattle.wire.proofs.sizes.fragment_size.Reads as fragment-size-reads
-use Rattle.wire.proofs.sizes.tags_size.Reads as tags-size-reads
 
 cast-number2-field : tie.Need-cast-number2-field
 cast-number2-field c = search needs

@@ -6,11 +6,6 @@ use Rattle.protocol.specs.Packet.{stampF}
 use Rattle.wire.proofs.Through.{stamp-took}
 use Rattle.wire.proofs.parts.stamp_field.Statement.{statement}
 use Rattle.wire.proofs.parts.stamp_field.Tie as tie
-use Rattle.wire.proofs.parts.stamp_field.Reads as reads
-use Rattle.wire.proofs.parts.stamp_field.Lts as lts
-use Rattle.wire.proofs.fields.byte_field.Reads as byte-field-reads
-use Rattle.wire.proofs.fields.number4_field.Reads as number4-field-reads
-use Rattle.wire.proofs.fields.run_field.Reads as run-field-reads
 
 cast-number4-field : tie.Need-cast-number4-field
 cast-number4-field c = search needs

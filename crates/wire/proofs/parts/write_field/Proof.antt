@@ -7,10 +7,6 @@ use Rattle.protocol.specs.Packet.{writeF}
 use Rattle.wire.proofs.Through.{write-took}
 use Rattle.wire.proofs.parts.write_field.Statement.{statement}
 use Rattle.wire.proofs.parts.write_field.Tie as tie
-use Rattle.wire.proofs.parts.write_field.Reads as reads
-use Rattle.wire.proofs.parts.write_field.Lts as lts
-use Rattle.wire.proofs.parts.share_field.Reads as share-field-reads
-use Rattle.wire.proofs.parts.stamp_field.Reads as stamp-field-reads
 
 stamp-field-requires : tie.Need-stamp-field-requires
 stamp-field-requires c κs = search needs

@@ -4,21 +4,17 @@ use borrow.Author.Needs.{needs}
 use Rattle.cluster.specs.Config.{shelf}
 use Rattle.wire.proofs.sizes.digests_size.Statement.{statement}
 use Rattle.wire.proofs.sizes.digests_size.Tie as tie
-use Rattle.wire.proofs.sizes.digests_size.Reads as reads
-use Rattle.wire.proofs.sizes.digests_size.Lts as lts
+
+servers-requires : tie.Need-servers-requires
+servers-requires c κs = search needs
 
 mul-result : tie.Need-mul-result
+unfolding shelf
 mul-result c = search needs
-
-add-result : tie.Need-add-result
-add-result c = search needs
-
-mul-result-2 : tie.Need-mul-result-2
-mul-result-2 c = search needs
 
 returns : tie.Need-returns
 unfolding shelf
 returns c = search needs
 
 pub digests-size-spec : {M : Type 1} → statement M
-digests-size-spec = tie.close (tie.spec mul-result add-result mul-result-2 returns)
+digests-size-spec = tie.close (tie.spec servers-requires mul-result returns)

@@ -8,8 +8,6 @@ use Rattle.cluster.specs.Config.{shelf}
 use borrow.Author.Needs.{needs}
 use Rattle.wire.proofs.sizes.fragment_size.Statement.{statement}
 use Rattle.wire.proofs.sizes.fragment_size.Tie as tie
-use Rattle.wire.proofs.sizes.fragment_size.Reads as reads
-use Rattle.wire.proofs.sizes.fragment_size.Lts as lts
 
 add-result : tie.Need-add-result
 add-result c = search needs

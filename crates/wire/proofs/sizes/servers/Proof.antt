@@ -4,8 +4,6 @@ use borrow.Author.Needs.{needs}
 use Rattle.cluster.specs.Config.{shelf}
 use Rattle.wire.proofs.sizes.servers.Statement.{statement}
 use Rattle.wire.proofs.sizes.servers.Tie as tie
-use Rattle.wire.proofs.sizes.servers.Reads as reads
-use Rattle.wire.proofs.sizes.servers.Lts as lts
 
 mul-result : tie.Need-mul-result
 mul-result c = search needs

@@ -9,9 +9,6 @@ use Rattle.protocol.specs.declared.Stamp.{Stamp}
 use Rattle.protocol.specs.Values.{sameList, sameStamp}
 use Rattle.wire.proofs.values.same_stamp.Statement.{statement}
 use Rattle.wire.proofs.values.same_stamp.Tie as tie
-use Rattle.wire.proofs.values.same_stamp.Reads as reads
-use Rattle.wire.proofs.values.same_stamp.Lts as lts
-use Rattle.wire.proofs.bytes.same.Reads as same-reads
 
 module _ (a b : Stamp) where
   other-number : (a .number ≡ b .number → ⊥) → false ≡ sameStamp a b

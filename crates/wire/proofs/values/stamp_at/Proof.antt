@@ -4,12 +4,6 @@ use borrow.Author.Needs.{needs}
 use Rattle.wire.proofs.Runs.{stamp-padded}
 use Rattle.wire.proofs.values.stamp_at.Statement.{statement}
 use Rattle.wire.proofs.values.stamp_at.Tie as tie
-use Rattle.wire.proofs.values.stamp_at.Reads as reads
-use Rattle.wire.proofs.values.stamp_at.Lts as lts
-use Rattle.wire.proofs.bytes.byte_at.Reads as byte-at-reads
-use Rattle.wire.proofs.bytes.number4.Reads as number4-reads
-use Rattle.wire.proofs.bytes.rest.Reads as rest-reads
-use Rattle.wire.proofs.bytes.tag_of.Reads as tag-of-reads
 
 number4-requires : tie.Need-number4-requires
 number4-requires c κs = search needs
