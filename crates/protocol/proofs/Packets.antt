@@ -16,6 +16,7 @@ use Rattle.protocol.specs.declared.Head.{Head}
 use Rattle.protocol.specs.Format.{Lawful, byte, number2, number4, run, seq, via, keep, orBlank, many}
 use Rattle.protocol.specs.Values.{Candidate, Share, Write, blankStamp, blankCandidate, digestSize, nonceSize, stampSize, digestsSize, tagsSize, candidateSize}
 use Rattle.protocol.specs.Packet.{stampF, anyStampF, shareF, writeF, candidateF, anyCandidateF, candidatesF, heldMost, heldF, codeF, headF, headSize}
+unfoldable pub use Rattle.protocol.specs.Packet.{shareSize}
 use Rattle.protocol.proofs.Formats.{byte-law, number2-law, number4-law, run-law, seq-law, via-law, keep-law}
 use Rattle.protocol.proofs.Repeats.{orBlank-law, many-law, optional-law}
 
@@ -99,10 +100,6 @@ pub stamp-length : (a : Stamp) → length (a .tag) ≡ tagSize → length (stamp
 unfolding stampF via seq number4 byte run
 stamp-length a e = rw e
 
--- bytes of a share of a content of n bytes
-abbrev pub shareSize : Config → ℕ → ℕ
-shareSize s n = 2 + fragmentSize (s .shares) n + digestsSize s + digestSize + tagsSize s
-
 module _ (s : Config) where
   -- the lengths within a share, and within a candidate, that the layout takes
   pub record ShareLengths (h : Share) : Type 0 where
@@ -121,7 +118,7 @@ module _ (s : Config) where
   share-lengths h (o, (p, (d, (e, g)))) = record { part = p; digests = d; nonceDigest = e; tags = g }
 
   pub share-length : (h : Share) → ShareLengths h → length (shareF s .print h) ≡ shareSize s (h .size)
-  unfolding shareF via seq number2 run
+  unfolding shareF via seq number2 run shareSize
   share-length h l =
       omega (
         arith,

@@ -9,9 +9,9 @@ use Rattle.cluster.specs.Ranges.{topFaults, mostServers, topLength}
 use Rattle.erasure.specs.Fragments.{fragmentSize}
 use Rattle.protocol.specs.Format.{All, printMany, via, seq, number2}
 use Rattle.protocol.specs.Values.{Share, Write, stampSize}
-use Rattle.protocol.specs.Packet.{shareF, writeF}
+use Rattle.protocol.specs.Packet.{shareF, shareSize, writeF}
 use Rattle.protocol.specs.View.{replySlot}
-use Rattle.protocol.proofs.Packets.{shareSize, ShareLengths, share-lengths, share-length, write-length}
+use Rattle.protocol.proofs.Packets.{ShareLengths, share-lengths, share-length, write-length}
 
 -- the numbers of s fit the kept bytes: the slots are for the most servers, and a slot holds a stamp, a byte and a share
 pub record Fitting (s : Config) : Type 0 where
@@ -19,7 +19,7 @@ pub record Fitting (s : Config) : Type 0 where
   pub room : (n : ℕ) → n ≤ topLength → stampSize + 1 + shareSize s n ≤ replySlot
 
 pub shelf-fits : (t : ℕ) → 1 ≤ t → t ≤ topFaults → Fitting (shelf t)
-unfolding shelf fragmentSize
+unfolding shelf fragmentSize shareSize
 shelf-fits zero l h = absurd (omega arith)
 shelf-fits (suc zero) l h = record { few = omega arith; room = λ n k. omega arith }
 shelf-fits (suc (suc zero)) l h = record { few = omega arith; room = λ n k. omega arith }

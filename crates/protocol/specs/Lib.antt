@@ -6,6 +6,7 @@ pub mod Primitives
 pub mod Server
 pub mod ServerBytes
 pub mod Rules
+pub mod Pending
 pub mod Client
 pub mod View
 pub mod ClientBytes

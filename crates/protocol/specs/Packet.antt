@@ -4,7 +4,7 @@ use mathlib.Core.Path.{_≡_}
 use mathlib.Core.Bool.{cond, _||_}
 use mathlib.Core.Option.{Option, none, some}
 use mathlib.Core.List.{List, []}
-use Prim.Native.Nat.{ℕ}
+use Prim.Native.Nat.{ℕ, _+_}
 use lib.ListN.{length}
 use lib.Dec.{leb, eqb}
 use Rattle.cluster.specs.Config.{Config, shelf}
@@ -35,6 +35,10 @@ shareF s =
     (λ h. (h .size, (h .part, (h .digests, (h .nonceDigest, h .tags)))))
     (seq (number2 leastLength topLength)
     (λ n. seq (run (fragmentSize (s .shares) n)) (λ p. seq (run (digestsSize s)) (λ d. seq (run digestSize) (λ e. run (tagsSize s))))))
+
+-- the bytes of a share of a content of n bytes
+unfoldable pub shareSize : Config → ℕ → ℕ
+shareSize s n = 2 + fragmentSize (s .shares) n + digestsSize s + digestSize + tagsSize s
 
 -- a stored write: its stamp and its share
 unfoldable pub writeF : Config → Fmt Write

@@ -7,11 +7,11 @@ use Prim.Native.Nat.{ℕ, zero, suc, _+_, _*_}
 use lib.Dec.{eqb}
 use lib.ListN.{take, drop, getD, replicate}
 use Rattle.cluster.specs.Config.{Config, shelf}
-use Rattle.erasure.specs.Fragments.{fragmentSize}
 use Rattle.protocol.specs.declared.Head.{Head}
 use Rattle.protocol.specs.Format.{value2}
-use Rattle.protocol.specs.Values.{Candidate, Share, Write, blankStamp, nonceSize, stampSize, digestSize, digestsSize, tagsSize, candidateSize}
+use Rattle.protocol.specs.Values.{Candidate, Share, Write, blankStamp, nonceSize, stampSize, candidateSize}
 use Rattle.protocol.specs.Packet.{Body, clock, clockReply, store, storeReply, complete, completeReply, collect, collectReply, filter, filterReply, repair, repairReply, Packet, headSize}
+unfoldable pub use Rattle.protocol.specs.Packet.{shareSize}
 use Rattle.protocol.specs.View.{part, stampAt, candidateAt, shareAt, heldAt}
 use Rattle.wire.specs.declared.values.CandidateHead.{CandidateHead}
 
@@ -22,12 +22,9 @@ blankHead = record { stamp = blankStamp; nonce = replicate nonceSize 0 }
 unfoldable pub padded : ℕ → List ℕ → List ℕ
 padded n d = take n (d ++ replicate n 0)
 
--- the record length at the start of a share, and the bytes of a share of a content of n bytes
+-- the record length at the start of a share
 unfoldable pub lengthAt : List ℕ → ℕ
 lengthAt d = value2 (getD d 0 0) (getD d 1 0)
-
-unfoldable pub shareSize : Config → ℕ → ℕ
-shareSize s n = 2 + fragmentSize (s .shares) n + digestsSize s + digestSize + tagsSize s
 
 unfoldable pub writeAt : Config → List ℕ → Write
 writeAt s d = record { stamp = stampAt d; share = shareAt s (drop stampSize d) }

@@ -1,0 +1,179 @@
+-- A pending call (Algorithms 4 and 6 as document 01, "The client", amends them): its rounds, what a write makes, its packets, and what a reply holds,
+-- on values. Document 01 says call in hand for pending call and giving up for abort.
+use mathlib.Core.Bool.{Bool, cond}
+use mathlib.Core.List.{List}
+use Prim.Native.Nat.{ℕ}
+use lib.Dec.{eqb}
+use lib.ListN.{length}
+use Rattle.cluster.specs.Config.{Config}
+use Rattle.cluster.specs.Ranges.{within}
+use Rattle.protocol.specs.declared.Stamp.{Stamp}
+use Rattle.protocol.specs.Values.{Candidate, Share, Held, runOf, blankStamp, blankCandidate, noHeld, noShare}
+use Rattle.protocol.specs.Packet.{Body, Packet, kindOf}
+use Rattle.protocol.specs.Packet.{clock, clockReply, store, storeReply, complete, completeReply, collect, collectReply, filter, filterReply, repair, repairReply}
+use Rattle.protocol.specs.Primitives.{Primitives, stampMessage, candidateMessage}
+use Rattle.protocol.specs.Rules.{ByServer, nobody}
+
+-- ---- the state
+
+-- a pending call by its round
+pub data Hand : Type 0 where
+  idle : Hand
+  -- content, nonce, highest number so far
+  clocking : List ℕ → List ℕ → ℕ → Hand
+  -- the candidate that the write will show, and each server's share
+  storing : Candidate → ByServer Share → Hand
+  completing : Candidate → Hand
+  -- what each server sent
+  collecting : ByServer Candidate → Hand
+  -- the list as collect left it, and what each server replied
+  filtering : List Candidate → ByServer Held → Hand
+  -- the candidate with the proven tags, and the content read
+  repairing : Candidate → List ℕ → Hand
+
+pub record Client : Type 0 where
+  -- the number of the last call. Amended: one counter for writes and reads takes the place of ts and tsr in every packet
+  pub calls : ℕ
+  -- the number of the last stamp made
+  pub last : ℕ
+  -- who replied in this round
+  pub marks : ByServer Bool
+  pub hand : Hand
+
+abbrev pub newClient : Client
+newClient = record { calls = 0; last = 0; marks = nobody; hand = idle }
+
+-- the kind of the replies that a round awaits: twice the round's number
+unfoldable pub awaits : Hand → ℕ
+awaits idle = 0
+awaits (clocking r n m) = 2
+awaits (storing c h) = 4
+awaits (completing c) = 6
+awaits (collecting g) = 8
+awaits (filtering cs g) = 10
+awaits (repairing c r) = 12
+
+unfoldable pub isIdle : Hand → Bool
+isIdle h = eqb (awaits h) 0
+
+pub data Result : Type 0 where
+  refused : ℕ → Result
+  more : Result
+  -- the stamp's number
+  written : ℕ → Result
+  -- the stamp's number, and the content
+  gave : ℕ → List ℕ → Result
+  gaveBlank : Result
+  -- given up, and whether in the complete round
+  aborted : Bool → Result
+
+pub record Turn : Type 0 where
+  pub client : Client
+  pub result : Result
+
+-- ---- what a write makes at the end of clock
+
+module _ (P : Primitives) (s : Config) (client : ℕ) (writers : List ℕ) (keys : ByServer (List ℕ)) where
+  -- line 96
+  unfoldable pub stampOf : ℕ → Stamp
+  stampOf k = record { number = k; writer = client; tag = P .tag writers (stampMessage k client) }
+
+  -- line 88
+  unfoldable pub tagsOf : Stamp → List ℕ → List ℕ
+  tagsOf a nonce = runOf (s .servers) (λ i. P .tag (keys i) (candidateMessage a (P .digest nonce)))
+
+  -- what complete will show (line 90)
+  unfoldable pub candidateMade : List ℕ → ℕ → Candidate
+  candidateMade nonce k = record { stamp = stampOf k; nonce = nonce; tags = tagsOf (stampOf k) nonce }
+
+  -- what store sends to server b (lines 102 to 104)
+  unfoldable pub shareMade : List ℕ → List ℕ → ℕ → ℕ → Share
+  shareMade r nonce k b =
+      record {
+        size = length r;
+        part = P .fragment (s .points) (s .shares) r b;
+        digests = runOf (s .servers) (λ i. P .digest (P .fragment (s .points) (s .shares) r i));
+        nonceDigest = P .digest nonce;
+        tags = tagsOf (stampOf k) nonce;
+      }
+
+  unfoldable pub sharesMade : List ℕ → List ℕ → ℕ → ByServer Share
+  sharesMade r nonce k b = cond (within 1 (s .servers) b) (shareMade r nonce k b) noShare
+
+  unfoldable pub prepared : List ℕ → List ℕ → ℕ → Hand
+  prepared r nonce k = storing (candidateMade nonce k) (sharesMade r nonce k)
+
+-- ---- the packet of the round
+
+abbrev pub request : Hand → ℕ → Body
+request idle b = collect
+request (clocking r n h) b = clock
+request (storing c h) b = store (record { stamp = c .stamp; share = h b })
+request (completing c) b = complete c
+request (collecting g) b = collect
+-- the list as collect left it, whoever has left it since
+request (filtering cs g) b = filter cs
+request (repairing c r) b = repair c
+
+unfoldable pub made : ℕ → ℕ → Client → ℕ → Packet
+made t client cl b =
+    let x = request (cl .hand) b in
+    record { head = record { kind = kindOf x; client = client; server = b; t = t; call = cl .calls }; body = x }
+
+-- ---- what a reply of the awaited kind holds
+
+abbrev pub stampIn : Body → Stamp
+stampIn (clockReply x) = x
+stampIn clock = blankStamp
+stampIn (store x) = blankStamp
+stampIn (storeReply x) = blankStamp
+stampIn (complete x) = blankStamp
+stampIn completeReply = blankStamp
+stampIn collect = blankStamp
+stampIn (collectReply x) = blankStamp
+stampIn (filter x) = blankStamp
+stampIn (filterReply x) = blankStamp
+stampIn (repair x) = blankStamp
+stampIn repairReply = blankStamp
+
+abbrev pub codeIn : Body → ℕ
+codeIn (storeReply x) = x
+codeIn clock = 0
+codeIn (clockReply x) = 0
+codeIn (store x) = 0
+codeIn (complete x) = 0
+codeIn completeReply = 0
+codeIn collect = 0
+codeIn (collectReply x) = 0
+codeIn (filter x) = 0
+codeIn (filterReply x) = 0
+codeIn (repair x) = 0
+codeIn repairReply = 0
+
+abbrev pub candidateIn : Config → Body → Candidate
+candidateIn s (collectReply x) = x
+candidateIn s clock = blankCandidate s
+candidateIn s (clockReply x) = blankCandidate s
+candidateIn s (store x) = blankCandidate s
+candidateIn s (storeReply x) = blankCandidate s
+candidateIn s (complete x) = blankCandidate s
+candidateIn s completeReply = blankCandidate s
+candidateIn s collect = blankCandidate s
+candidateIn s (filter x) = blankCandidate s
+candidateIn s (filterReply x) = blankCandidate s
+candidateIn s (repair x) = blankCandidate s
+candidateIn s repairReply = blankCandidate s
+
+abbrev pub heldIn : Body → Held
+heldIn (filterReply x) = x
+heldIn clock = noHeld
+heldIn (clockReply x) = noHeld
+heldIn (store x) = noHeld
+heldIn (storeReply x) = noHeld
+heldIn (complete x) = noHeld
+heldIn completeReply = noHeld
+heldIn collect = noHeld
+heldIn (collectReply x) = noHeld
+heldIn (filter x) = noHeld
+heldIn (repair x) = noHeld
+heldIn repairReply = noHeld
