@@ -24,7 +24,7 @@ use Rattle.protocol.proofs.Leaves.{stops-via, stops-first}
 use Rattle.protocol.proofs.Packets.{write-law, stamp-length, ShareLengths, share-lengths, share-length}
 use Rattle.protocol.proofs.Readers.{stamp-read, share-read}
 use Rattle.protocol.proofs.Walks.{Reads, decide, leaves-moved, many-next, many-stops, many-none}
-use Rattle.wire.specs.Places.{lengthAt, writeAt}
+use Rattle.wire.specs.Places.{lengthAt, shareSize, writeAt}
 use Rattle.wire.proofs.Through.{past-stamp}
 use Rattle.server.specs.declared.memory.Found.the-variants as found
 use Rattle.server.specs.Reads.{writesPlace, frameSize, writeSize, Stored, firstWith, SearchAs}
@@ -71,7 +71,7 @@ module _ (s : Config) {d : List ℕ} {at q : ℕ} {w : Write} (f : Leaves (write
 
   -- and where it ends
   write-ends : at ≤ length d → q ≡ at + writeSize s (drop at d)
-  unfolding frameSize
+  unfolding frameSize shareSize
   write-ends h =
       let A : List ℕ = stampF .print (w .stamp) in
       let B : List ℕ = shareF s .print (w .share) in
