@@ -1,4 +1,4 @@
--- From rows to the system: all rows turned, with the pivot's row begun as a unit row, make the system turned at p.
+-- From rows to the system: all rows turned, with the pivot's row begun as a unit row, make the system turned at p. Nothing is assumed.
 use mathlib.Core.Path.{_≡_, ap, ap₂, subst, _∙_}
 use mathlib.Core.Logic.{_≢_}
 use mathlib.Core.List.{List, []}

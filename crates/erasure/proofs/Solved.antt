@@ -1,4 +1,4 @@
--- The system as bytes: each turn keeps it half solved, no pivot is zero, and the last turn leaves it solved.
+-- The system as bytes: each turn keeps it half solved, no pivot is zero, and the last turn leaves it solved. Nothing is assumed.
 use mathlib.Core.Path.{_≡_, refl, sym, ap, ap₂, subst, _∙_}
 use mathlib.Core.List.{List, [], _∷_, map}
 use Prim.Native.Nat.{ℕ, zero, suc, _%_, _<_, _≤_}

@@ -1,4 +1,4 @@
--- The bytes are a field: the laws of `Field` at the numbers below 256, and what they say of lists of such numbers.
+-- The bytes are a field: the laws of `Field` at the numbers below 256, and what they say of lists of such numbers. Nothing is assumed.
 use mathlib.Core.Path.{_≡_, refl, sym, ap, ap₂, _∙_, subst}
 use mathlib.Core.Logic.{_≢_}
 use mathlib.Core.HLevel.{Σ-prop-path}

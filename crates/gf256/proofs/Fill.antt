@@ -1,4 +1,4 @@
--- A loop that stores at one index after the other: what holds of each element stored so far holds of one more.
+-- A loop that stores at one index after the other: what holds of each element stored so far holds of one more. Nothing is assumed.
 use mathlib.Core.Path.{sym, subst}
 use mathlib.Core.List.{List}
 use Prim.Native.Nat.{ℕ, _+_, _<_}

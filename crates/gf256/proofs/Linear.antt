@@ -1,4 +1,4 @@
--- The product of FIPS 197 is linear in each factor, commutes and associates, and 01h is its unit.
+-- The product of FIPS 197 is linear in each factor, commutes and associates, and 01h is its unit. Nothing is assumed.
 use mathlib.Core.Path.{_≡_, refl, sym, ap, ap₂, _∙_, subst}
 use mathlib.Core.Bool.{Bool}
 use Prim.Native.Nat.{ℕ, zero, suc, _*_, _/_, _%_, _<_}

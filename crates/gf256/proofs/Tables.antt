@@ -1,5 +1,5 @@
 -- The tables of the source, and their rule: entry i of `powers` is 03h to the power i, and entry a - 1 of `logs` is the logarithm of a.
--- One computed test goes through each table.
+-- One computed test goes through each table. Nothing is assumed.
 use mathlib.Core.Path.{_≡_, refl, sym, ap, ap₂, _∙_, subst}
 use mathlib.Core.Bool.{Bool}
 use mathlib.Core.List.{List, [], _∷_}

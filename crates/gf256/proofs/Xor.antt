@@ -1,4 +1,4 @@
--- Laws of the exclusive or that the library lacks: it associates, and it passes through a doubling.
+-- Laws of the exclusive or that the library lacks: it associates, and it passes through a doubling. Nothing is assumed.
 use mathlib.Core.Path.{_≡_, refl, sym, ap, ap₂, _∙_, subst}
 use Prim.Native.Nat.{ℕ, zero, suc, _+_, _*_, _/_, _%_, _<_}
 use native.Mathlib.Nat.{add-zero, mod-lt, zero-lt-suc, le-of-suc-le-suc, not-suc-le-zero}

@@ -9,7 +9,10 @@ use lib.ListN.{take, drop, getD}
 use lib.Seq.{drop-drop}
 use Rattle.cluster.specs.Config.{Config, shelf}
 use Rattle.sha256.specs.Sha256.{sha256}
+use Rattle.hmac.specs.declared.Prepared.{Prepared}
 use Rattle.hmac.specs.Hmac.{tagSize, tagOf}
+use Rattle.hmac.specs.PreparedKey.{preparedOf, preparedTag}
+use Rattle.hmac.proofs.Laws.{prepared-tag}
 use Rattle.protocol.specs.declared.Stamp.{Stamp}
 use Rattle.erasure.specs.Fragments.{fragmentSize}
 use Rattle.protocol.specs.Format.{value2}
@@ -27,7 +30,7 @@ use Rattle.server.specs.declared.memory.Found.{Found}
 use Rattle.server.specs.declared.memory.Found.the-variants as found
 use Rattle.server.specs.Reads.{Opened, firstWith, FindIs, FindAs}
 use Rattle.server.specs.Answers.{memoryIn}
-use Rattle.server.specs.Valid.{HistoryAs, tagChecks, ValidAs}
+use Rattle.server.specs.Valid.{nonceHash, HistoryAs, tagChecks, ValidAs}
 use Rattle.server.proofs.Once.{shareIn, first-held}
 use Rattle.server.proofs.Standing.{candidate-stamp}
 
@@ -63,17 +66,17 @@ module _ (s : Config) (n top : ℕ) (d x g : List ℕ) where
 
 -- ---- by the tag
 
-pub tag-made : (s : Config) (key : List ℕ) (b : ℕ) (x g : List ℕ) {y u v z : List ℕ} {l : ℕ} {r : Bool} → y ≡ part x 0 stampSize → v ≡ tagOf key (y ++ g)
-    → l ≡ tagsSize s → u ≡ part x (stampSize + nonceSize) l → z ≡ part u (tagSize * (b - 1)) tagSize → r ≡ sameList z v → r ≡ tagChecks s key b x g
+pub tag-made : (s : Config) (prepared : Prepared) (b : ℕ) (x g : List ℕ) {y u v z : List ℕ} {l : ℕ} {r : Bool} → y ≡ part x 0 stampSize → v ≡ preparedTag prepared (y ++ g)
+    → l ≡ tagsSize s → u ≡ part x (stampSize + nonceSize) l → z ≡ part u (tagSize * (b - 1)) tagSize → r ≡ sameList z v → r ≡ tagChecks s prepared b x g
 unfolding tagChecks candidateAt nth part
-tag-made s key b x g p q k i j w =
-    let a = q ∙ ap (λ (o : List ℕ). tagOf key (o ++ g)) p in
+tag-made s prepared b x g p q k i j w =
+    let a = q ∙ ap (λ (o : List ℕ). preparedTag prepared (o ++ g)) p in
     let c = j ∙ ap (λ (o : List ℕ). take tagSize (drop (tagSize * (b - 1)) o)) (i ∙ ap (λ (o : ℕ). take o (drop (stampSize + nonceSize) x)) k) in
     w ∙ (λ o. sameList (c o) (a o))
 
 -- ---- both
 
-module _ (d key : List ℕ) (t b n top : ℕ) (x : List ℕ) {y g : List ℕ} (p : y ≡ part x stampSize nonceSize) (q : g ≡ sha256 y) where
+module _ (d key : List ℕ) (t b n top : ℕ) (x : List ℕ) {g : List ℕ} (q : g ≡ nonceHash x) where
   module _ {e : ℕ} (o : Opened d t b n e top) (made : x ≡ candidateF (shelf t) .print (candidateAt (shelf t) x)) (ok : candidateF (shelf t) .Ok (candidateAt (shelf t) x)) where
     stamp-start : part x 0 stampSize ≡ stampF .print (candidateAt (shelf t) x .stamp)
     unfolding part
@@ -83,26 +86,27 @@ module _ (d key : List ℕ) (t b n top : ℕ) (x : List ℕ) {y g : List ℕ} (p
 
     digest-is : g ≡ real .digest (candidateAt (shelf t) x .nonce)
     unfolding real candidateAt
-    digest-is = q ∙ ap sha256 p
+    digest-is = q
 
     history-is : {r : Bool} → HistoryAs (shelf t) n top d x g r → r ≡ byHistory real (shelf t) key b (serverIn (memoryIn o)) (candidateAt (shelf t) x)
     unfolding byHistory serverIn
     history-is h =
         h (o .writes) e (o .there) (o .up) (candidateAt (shelf t) x .stamp) stamp-start ∙ ap (λ (z : List ℕ). hasDigest z (held (candidateAt (shelf t) x .stamp) (o .writes))) digest-is
 
-    tag-is : tagChecks (shelf t) key b x g ≡ byTag real (shelf t) key b (candidateAt (shelf t) x)
+    tag-is : tagChecks (shelf t) (preparedOf key) b x g ≡ byTag real (shelf t) key b (candidateAt (shelf t) x)
     unfolding tagChecks byTag real
     tag-is =
         let c = candidateAt (shelf t) x in
         let v : g ≡ sha256 (c .nonce) = unfold real in digest-is in
         let m : part x 0 stampSize ++ g ≡ candidateMessage (c .stamp) (sha256 (c .nonce)) =
         (λ i. stamp-start i ++ v i) ∙ sym (message-printed (c .stamp) (sha256 (c .nonce))) in
-        ap (λ (z : List ℕ). sameList (nth tagSize (c .tags) b) (tagOf key z)) m
+        ap (sameList (nth tagSize (c .tags) b)) (prepared-tag key (part x 0 stampSize ++ g) ∙ ap (tagOf key) m)
 
   pub valid-history : {r : Bool} → HistoryAs (shelf t) n top d x g r → r ≡ true → ValidAs d key t b n top x true
   unfolding valid
   valid-history h i e o made ok = rw (sym (history-is o made ok h) ∙ i)
 
-  pub valid-tag : {r c : Bool} → HistoryAs (shelf t) n top d x g r → r ≡ false → c ≡ tagChecks (shelf t) key b x g → ValidAs d key t b n top x c
+  pub valid-tag : {r c : Bool} → HistoryAs (shelf t) n top d x g r → r ≡ false → {prepared : Prepared} → prepared ≡ preparedOf key → c ≡ tagChecks (shelf t) prepared b x g
+      → ValidAs d key t b n top x c
   unfolding valid
-  valid-tag h i j e o made ok = rw (sym (history-is o made ok h) ∙ i) (j ∙ tag-is o made ok)
+  valid-tag h i k j e o made ok = rw (sym (history-is o made ok h) ∙ i) (j ∙ ap (λ (z : Prepared). tagChecks (shelf t) z b x g) k ∙ tag-is o made ok)

@@ -1,17 +1,20 @@
 -- What filter chooses from a list of candidates, and what it replies, where the memory opens.
 use mathlib.Core.Path.{_≡_}
+use mathlib.Core.Bool.{false}
 use mathlib.Core.List.{List, []}
-use Prim.Native.Nat.{ℕ, _*_, _<_}
+use Prim.Native.Nat.{ℕ, _*_, _≤_, _<_}
 use lib.ListN.{length, take, drop}
 use Rattle.cluster.specs.Config.{Config, shelf}
+use Rattle.hmac.specs.declared.Prepared.{Prepared}
 use Rattle.hmac.specs.Hmac.{tagSize}
+use Rattle.hmac.specs.PreparedKey.{preparedOf}
 use Rattle.protocol.specs.declared.Head.{Head}
 use Rattle.protocol.specs.declared.Stamp.{Stamp}
 use Rattle.protocol.specs.Values.{Candidate, Write, stampSize, candidateSize, blankCandidate}
 use Rattle.protocol.specs.Packet.{candidateF, heldF}
 use Rattle.protocol.specs.Memory.{held}
 use Rattle.protocol.specs.Primitives.{real}
-use Rattle.protocol.specs.Server.{best}
+use Rattle.protocol.specs.Server.{valid, best}
 use Rattle.protocol.specs.View.{candidateAt}
 use Rattle.protocol.specs.ClientBytes.{Written}
 use Rattle.protocol.specs.ServerBytes.{serverIn}
@@ -19,7 +22,7 @@ use Rattle.wire.specs.Places.{candidateList, lengthAt, shareSize}
 use Rattle.wire.specs.Make.{packetStep}
 use Rattle.server.specs.Reads.{Stored, UpTo, Opened}
 use Rattle.server.specs.Answers.{memoryIn, replyHead}
-use Rattle.server.specs.Ranks.{slotOf}
+use Rattle.server.specs.Ranks.{slotOf, rankOf}
 use Rattle.server.specs.declared.filter.Chosen.{Chosen}
 use Rattle.server.specs.declared.filter.Chosen.the-variants as chosen
 
@@ -45,6 +48,17 @@ abbrev pub ChosenAs : List ℕ → List ℕ → ℕ → ℕ → ℕ → ℕ → 
 ChosenAs d key t b n top y m r =
     (e : ℕ) (o : Opened d t b n e top) → Listed (shelf t) m y
     → ChosenIs (shelf t) y (best real (shelf t) key b (serverIn (memoryIn o)) (blankCandidate (shelf t)) (candidateList (shelf t) m y)) r
+
+-- of m candidates in y, none of rank bound or higher is valid
+abbrev pub NoneFrom : List ℕ → List ℕ → ℕ → ℕ → ℕ → ℕ → List ℕ → ℕ → ℕ → Type 0
+NoneFrom d key t b n top y m bound =
+    (e : ℕ) (o : Opened d t b n e top) → Listed (shelf t) m y → (j : ℕ) → j < m → bound ≤ rankOf (shelf t) y j
+    → valid real (shelf t) key b (serverIn (memoryIn o)) (candidateAt (shelf t) (slotOf (shelf t) y j)) ≡ false
+
+-- the choice where none of rank bound or higher is valid, for every key that is prepared so
+abbrev pub ChosenUnder : List ℕ → Prepared → ℕ → ℕ → ℕ → ℕ → List ℕ → ℕ → ℕ → Chosen → Type 0
+ChosenUnder d prepared t b n top y m bound r =
+    (key : List ℕ) → prepared ≡ preparedOf key → NoneFrom d key t b n top y m bound → ChosenAs d key t b n top y m r
 
 -- ---- the reply
 

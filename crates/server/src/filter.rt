@@ -6,12 +6,15 @@ ghost use Rattle.cluster.specs.Config.{shelf};
 ghost use Rattle.protocol.specs.Packet.{stampF};
 ghost use Rattle.wire.specs.Places.{lengthAt, shareSize};
 ghost use Rattle.server.specs.Valid.{AnswersWith};
-ghost use Rattle.server.specs.Filter.{ChosenAs, shareBytes, HeldAs};
+ghost use Rattle.server.specs.Filter.{ChosenAs, ChosenUnder, shareBytes, HeldAs};
 use crate::memory::Found;
 use crate::memory::find;
 use crate::rank::next_rank;
 use crate::rank::slot;
 use crate::rank::slot_with;
+use crate::valid::by_history;
+use crate::valid::by_tag;
+use crate::valid::digest_nonce;
 use wire::bytes::part;
 use wire::bytes::rest;
 
@@ -24,7 +27,34 @@ pub enum Chosen {
 // A stamp and the byte after it.
 const HELD: usize = wire::sizes::STAMP + 1;
 
-// Candidates are tested from the highest rank down, up to the first valid one: a test costs a digest and a tag.
+// The rest of the walk: the ranks below a bound, with a key that is prepared.
+fn choose_under(
+    memory: &[u8],
+    prepared: hmac::Prepared,
+    t: u8,
+    server: u8,
+    n: usize,
+    top: u64,
+    list: &[u8],
+    count: u8,
+    bound: u64,
+) -> Chosen
+    requires { ⌜ 1 ≤ server ⌝ }
+    ensures { λ r. ⌜ ChosenUnder (now (memory .entry)) prepared t server n top (now (list .entry)) count bound r ⌝ }
+{
+    let mut rank = next_rank(list, t, count, bound);
+    while 0 < rank {
+        let i = slot_with(rank);
+        if crate::valid::valid_prepared(memory, prepared, t, server, n, top, slot(list, t, i)) {
+            return Chosen::At(i);
+        }
+        rank = next_rank(list, t, count, rank);
+    }
+    Chosen::Nothing
+}
+
+// Candidates are tested from the highest rank down, up to the first valid one: a test costs a digest and a tag. Where the highest is
+// held, no tag is needed; else the key is prepared, once for all of them.
 fn choose(
     memory: &[u8],
     key: [u8; 32],
@@ -38,15 +68,21 @@ fn choose(
     requires { ⌜ 1 ≤ server ⌝ }
     ensures { λ r. ⌜ ChosenAs (now (memory .entry)) key t server n top (now (list .entry)) count r ⌝ }
 {
-    let mut rank = next_rank(list, t, count, crate::rank::ABOVE);
-    while 0 < rank {
-        let i = slot_with(rank);
-        if crate::valid::valid(memory, key, t, server, n, top, slot(list, t, i)) {
-            return Chosen::At(i);
-        }
-        rank = next_rank(list, t, count, rank);
+    let rank = next_rank(list, t, count, crate::rank::ABOVE);
+    if rank == 0 {
+        return Chosen::Nothing;
     }
-    Chosen::Nothing
+    let i = slot_with(rank);
+    let candidate = slot(list, t, i);
+    let digest = digest_nonce(candidate);
+    if by_history(memory, t, n, top, candidate, digest) {
+        return Chosen::At(i);
+    }
+    let prepared = hmac::prepare(key);
+    if by_tag(prepared, t, server, candidate, digest) {
+        return Chosen::At(i);
+    }
+    choose_under(memory, prepared, t, server, n, top, list, count, rank)
 }
 
 // A stamp and the byte that says whether a share follows.

@@ -3,7 +3,7 @@ ghost use mathlib.Core.Path.{_≡_};
 ghost use Prim.Native.Nat.{_≤_};
 ghost use Rattle.cluster.specs.Config.{shelf};
 ghost use Rattle.protocol.specs.View.{shareAt};
-ghost use Rattle.server.specs.Valid.{HistoryAs, tagChecks, ValidAs};
+ghost use Rattle.server.specs.Valid.{nonceHash, HistoryAs, tagChecks, ValidAs, ValidPrepared};
 use crate::memory::Found;
 use crate::memory::find;
 use wire::bytes::part;
@@ -21,8 +21,22 @@ fn nonce_digest(share: &[u8], t: u8) -> &[u8]
     )
 }
 
+// The digest of a candidate's nonce.
+pub(crate) fn digest_nonce(candidate: &[u8]) -> [u8; 32]
+    ensures { λ r. ⌜ r ≡ nonceHash (now (candidate .entry)) ⌝ }
+{
+    sha256::digest(part(candidate, wire::sizes::STAMP, wire::sizes::NONCE))
+}
+
 // One of n stored writes, none of them above top, has the candidate's stamp and this nonce digest.
-fn by_history(memory: &[u8], t: u8, n: usize, top: u64, candidate: &[u8], digest: [u8; 32]) -> bool
+pub(crate) fn by_history(
+    memory: &[u8],
+    t: u8,
+    n: usize,
+    top: u64,
+    candidate: &[u8],
+    digest: [u8; 32],
+) -> bool
     ensures { λ r. ⌜ HistoryAs (shelf t) n top (now (memory .entry)) (now (candidate .entry)) digest r ⌝ }
 {
     let Found::At(at) = find(memory, t, n, top, candidate) else {
@@ -33,11 +47,18 @@ fn by_history(memory: &[u8], t: u8, n: usize, top: u64, candidate: &[u8], digest
 }
 
 // The candidate's tag of this server is that of its stamp and this nonce digest.
-fn by_tag(key: [u8; 32], t: u8, server: u8, candidate: &[u8], digest: [u8; 32]) -> bool
+pub(crate) fn by_tag(
+    prepared: hmac::Prepared,
+    t: u8,
+    server: u8,
+    candidate: &[u8],
+    digest: [u8; 32],
+) -> bool
     requires { ⌜ 1 ≤ server ⌝ }
-    ensures { λ r. ⌜ r ≡ tagChecks (shelf t) key server (now (candidate .entry)) digest ⌝ }
+    ensures { λ r. ⌜ r ≡ tagChecks (shelf t) prepared server (now (candidate .entry)) digest ⌝ }
 {
-    let tag = hmac::tag_with(key, part(candidate, 0, wire::sizes::STAMP), digest);
+    let stamp = part(candidate, 0, wire::sizes::STAMP);
+    let tag = hmac::prepared_tag_with(prepared, stamp, digest);
     let tags = part(
         candidate,
         wire::sizes::STAMP + wire::sizes::NONCE,
@@ -49,7 +70,27 @@ fn by_tag(key: [u8; 32], t: u8, server: u8, candidate: &[u8], digest: [u8; 32]) 
     )
 }
 
-// The nonce's digest is taken once.
+// With a key that is prepared for many candidates.
+pub(crate) fn valid_prepared(
+    memory: &[u8],
+    prepared: hmac::Prepared,
+    t: u8,
+    server: u8,
+    n: usize,
+    top: u64,
+    candidate: &[u8],
+) -> bool
+    requires { ⌜ 1 ≤ server ⌝ }
+    ensures { λ r. ⌜ ValidPrepared (now (memory .entry)) prepared t server n top (now (candidate .entry)) r ⌝ }
+{
+    let digest = digest_nonce(candidate);
+    if by_history(memory, t, n, top, candidate, digest) {
+        return true;
+    }
+    by_tag(prepared, t, server, candidate, digest)
+}
+
+// A candidate that is held costs no preparation of the key.
 pub(crate) fn valid(
     memory: &[u8],
     key: [u8; 32],
@@ -62,9 +103,9 @@ pub(crate) fn valid(
     requires { ⌜ 1 ≤ server ⌝ }
     ensures { λ r. ⌜ ValidAs (now (memory .entry)) key t server n top (now (candidate .entry)) r ⌝ }
 {
-    let digest = sha256::digest(part(candidate, wire::sizes::STAMP, wire::sizes::NONCE));
+    let digest = digest_nonce(candidate);
     if by_history(memory, t, n, top, candidate, digest) {
         return true;
     }
-    by_tag(key, t, server, candidate, digest)
+    by_tag(hmac::prepare(key), t, server, candidate, digest)
 }

@@ -1,3 +1,4 @@
+-- Row after row is that of its point.
 use mathlib.Core.Path.{_≡_, refl, _∙_}
 use mathlib.Core.List.{[]}
 use Prim.Native.Nat.{ℕ, _-_, _<_, _≤_}

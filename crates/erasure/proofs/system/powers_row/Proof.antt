@@ -1,3 +1,4 @@
+-- Each power is the last one times x.
 use Rattle.erasure.specs.System.{width}
 use mathlib.Core.List.{[], _∷_}
 use lib.ListN.{length-set, length, getD}

@@ -1,3 +1,4 @@
+-- Each entry is less w times the pivot's, and the store at p comes last.
 use Rattle.erasure.specs.System.{width}
 use mathlib.Core.List.{[], _∷_}
 use lib.ListN.{length-set, length, getD}

@@ -1,3 +1,4 @@
+-- The one store is at p; all else is still 0.
 use Rattle.erasure.specs.System.{width}
 use lib.ListN.{getD-replicate}
 use mathlib.Core.Path.{_∙_}

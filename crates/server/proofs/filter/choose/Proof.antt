@@ -1,75 +1,67 @@
--- The walk over the ranks, from the highest down. Assumes nothing.
+-- The highest candidate by the history, then by its tag, then the walk over those below it. Assumes nothing.
 use borrow.Author.Needs.{needs}
 use native.Mathlib.Omega.{arith}
-use Rattle.server.proofs.Trying.{Trying, try-first, try-none, try-found, try-next, next-less}
+use Rattle.server.proofs.Trying.{highest-none, highest-held, highest-tagged, then-under}
 use Rattle.server.proofs.filter.choose.Statement.{statement}
 use Rattle.server.proofs.filter.choose.Tie as tie
-use Rattle.server.proofs.filter.choose.Reads as reads
-use Rattle.server.proofs.filter.choose.Lts as lts
-use Rattle.server.proofs.rank.next_rank.Reads as next-rank-reads
-use Rattle.server.proofs.rank.slot.Reads as slot-reads
-use Rattle.server.proofs.rank.slot_with.Reads as slot-with-reads
-use Rattle.server.proofs.valid.valid.Reads as valid-reads
 
-abbrev Inv-loop : tie.InvT-loop
-Inv-loop memory key t server n top list count rank₀ rank = Trying memory key t server n top list count rank
-
-abbrev μ-loop : tie.MeasureT-loop
-μ-loop memory key t server n top list count rank₀ rank = rank
-
-next-rank-requires : tie.Need-next-rank-requires Inv-loop μ-loop
+next-rank-requires : tie.Need-next-rank-requires
 next-rank-requires c κs = search needs
 
-loop-holds : tie.Need-loop-holds Inv-loop μ-loop
-loop-holds c =
-    let a = c .before .before .before .args in
-    try-first (a .memory .now) (a .key) (a .t) (a .server) (a .n) (a .top) (a .list .now) (a .count) (omega arith) (λ i. c .before .shared-slice-known2 .given i .fits) (c .next-rank .ensures)
+returns : tie.Need-returns
+returns c =
+    let a = c .before .before .before .before .args in
+    highest-none (a .memory .now) (a .key) (a .t) (a .server) (a .n) (a .top) (a .list .now) (a .count) (omega arith) (λ i. c .before .before .shared-slice-known2 .given i .fits) (c .before .next-rank .ensures) (omega arith)
 
-slot-with-requires : tie.Need-slot-with-requires Inv-loop μ-loop
+slot-with-requires : tie.Need-slot-with-requires
 slot-with-requires c κs = search needs
 
-slot-requires : tie.Need-slot-requires Inv-loop μ-loop
+slot-requires : tie.Need-slot-requires
 slot-requires c κs = search needs
 
-valid-requires : tie.Need-valid-requires Inv-loop μ-loop
-valid-requires c κs = search needs
+digest-nonce-requires : tie.Need-digest-nonce-requires
+digest-nonce-requires c κs = search needs
 
-returns : tie.Need-returns Inv-loop μ-loop
-returns c =
-    let a = c .before .before .before .before .before .before .before .before .before .args in
-    try-found (a .memory .now) (a .key) (a .t) (a .server) (a .n) (a .top) (a .list .now) (a .count) (omega arith) (c .before .before .before .before .before .loop .inv) (omega arith) (c .before .before .before .slot-with .ensures) (c .before .before .slot .ensures) (c .before .valid .ensures) (c .if1 .taken)
+by-history-requires : tie.Need-by-history-requires
+by-history-requires c κs = search needs
 
-next-rank-requires-2 : tie.Need-next-rank-requires-2 Inv-loop μ-loop
-next-rank-requires-2 c κs = search needs
-
-loop-less : tie.Need-loop-less Inv-loop μ-loop
-loop-less c =
-    let a = c .before .before .before .before .before .before .before .before .before .before .args in
-    next-less (a .memory .now) (a .key) (a .t) (a .server) (a .n) (a .top) (a .list .now) (a .count) (omega arith) (c .before .before .before .before .before .before .loop .inv) (omega arith) (c .before .before .before .before .slot-with .ensures) (c .before .before .before .slot .ensures) (c .before .before .valid .ensures) (c .next-rank2 .ensures)
-
-loop-again : tie.Need-loop-again Inv-loop μ-loop
-loop-again c =
-    let a = c .before .before .before .before .before .before .before .before .before .before .args in
-    try-next (a .memory .now) (a .key) (a .t) (a .server) (a .n) (a .top) (a .list .now) (a .count) (omega arith) (c .before .before .before .before .before .before .loop .inv) (omega arith) (c .before .before .before .before .slot-with .ensures) (c .before .before .before .slot .ensures) (c .before .before .valid .ensures) (c .before .if1 .left) (c .next-rank2 .ensures)
-
-returns-2 : tie.Need-returns-2 Inv-loop μ-loop
+returns-2 : tie.Need-returns-2
 returns-2 c =
-    let a = c .before .before .before .before .before .args in
-    try-none (a .memory .now) (a .key) (a .t) (a .server) (a .n) (a .top) (a .list .now) (a .count) (omega arith) (c .before .loop .inv) (omega arith)
+    let a = c .before .before .before .before .before .before .before .before .before .args in
+    highest-held (a .memory .now) (a .key) (a .t) (a .server) (a .n) (a .top) (a .list .now) (a .count) (omega arith) (λ i. c .before .before .before .before .before .before .before .shared-slice-known2 .given i .fits) (c .before .before .before .before .before .before .next-rank .ensures) (omega (arith, c .before .before .before .before .before .if1 .left)) (c .before .before .before .before .slot-with .ensures) (c .before .before .before .slot .ensures) (c .before .before .digest-nonce .ensures) (c .before .by-history .ensures) (c .if2 .taken)
+
+prepare-requires : tie.Need-prepare-requires
+prepare-requires c κs = search needs
+
+by-tag-requires : tie.Need-by-tag-requires
+by-tag-requires c κs = search needs
+
+returns-3 : tie.Need-returns-3
+returns-3 c =
+    let a = c .before .before .before .before .before .before .before .before .before .before .before .before .args in
+    highest-tagged (a .memory .now) (a .key) (a .t) (a .server) (a .n) (a .top) (a .list .now) (a .count) (omega arith) (λ i. c .before .before .before .before .before .before .before .before .before .before .shared-slice-known2 .given i .fits) (c .before .before .before .before .before .before .before .before .before .next-rank .ensures) (omega (arith, c .before .before .before .before .before .before .before .before .if1 .left)) (c .before .before .before .before .before .before .before .slot-with .ensures) (c .before .before .before .before .before .before .slot .ensures) (c .before .before .before .before .before .digest-nonce .ensures) (c .before .before .before .before .by-history .ensures) (c .before .before .before .if2 .left) (c .before .before .prepare .ensures) (c .before .by-tag .ensures) (c .if3 .taken)
+
+choose-under-requires : tie.Need-choose-under-requires
+choose-under-requires c κs = search needs
+
+returns-4 : tie.Need-returns-4
+returns-4 c =
+    let a = c .before .before .before .before .before .before .before .before .before .before .before .before .before .args in
+    then-under (a .memory .now) (a .key) (a .t) (a .server) (a .n) (a .top) (a .list .now) (a .count) (omega (arith, c .before .before .before .before .before .before .before .before .before .before .before .before .before .fits .count .fits)) (λ i. c .before .before .before .before .before .before .before .before .before .before .before .shared-slice-known2 .given i .fits) (c .before .before .before .before .before .before .before .before .before .before .next-rank .ensures) (omega (arith, c .before .before .before .before .before .before .before .before .before .if1 .left)) (c .before .before .before .before .before .before .before .before .slot-with .ensures) (c .before .before .before .before .before .before .before .slot .ensures) (c .before .before .before .before .before .before .digest-nonce .ensures) (c .before .before .before .before .before .by-history .ensures) (c .before .before .before .before .if2 .left) (c .before .before .before .prepare .ensures) (c .before .before .by-tag .ensures) (c .before .if3 .left) (c .choose-under .result) (c .choose-under .ensures)
 
 pub choose-spec : {M : Type 1} → statement M
 choose-spec =
     tie.close
     (tie.spec
-    Inv-loop
-    μ-loop
     next-rank-requires
-    loop-holds
+    returns
     slot-with-requires
     slot-requires
-    valid-requires
-    returns
-    next-rank-requires-2
-    loop-less
-    loop-again
-    returns-2)
+    digest-nonce-requires
+    by-history-requires
+    returns-2
+    prepare-requires
+    by-tag-requires
+    returns-3
+    choose-under-requires
+    returns-4)
