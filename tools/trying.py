@@ -126,6 +126,10 @@ def fact_of(text, most=400):
     left = re.search(r"what it leaves must be a path whose two ends are equal, and (`[^`]*`) is none", text)
     if left:
         return f"no path between equal ends: {left.group(1)}"
+    sides = re.search(r"the two sides (?:first )?differ (?:only )?where one has (`[^`]*`) \(left\).*? and the other has (`[^`]*`) \(right\)", text)
+    sides = sides or re.search(r"before the equations had joined (`[^`]*`) to (`[^`]*`)", text)
+    if sides:
+        return f"not joined: {sides.group(1)} and {sides.group(2)}"
     sought = re.search(r"the first part of which no proof was found is `[^`]*`, (`[^`]*`)", text, re.I) or re.match(r"`search`: no proof of (`[^`]*`)", text)
     return f"no proof of {sought.group(1)} was found" if sought else ""
 
