@@ -26,6 +26,7 @@ use Rattle.protocol.specs.ServerBytes.{over}
 use Rattle.protocol.specs.View.{part, candidateAt, shareOfSize, keptSize, marked, candidatesIn, repliesIn, replySlotOf, candidatesAt, candidateSlot, repliesAt, replySlot}
 use Rattle.protocol.specs.ClientBytes.{took, delivers, foundIn, judgeIn, fresh, withTally}
 use Rattle.protocol.proofs.Primitive.{real-lengths}
+use Rattle.protocol.specs.Packet.{shareSize}
 use Rattle.protocol.proofs.Room.{shelf-fits}
 use Rattle.decide.specs.declared.Decision.{Decision}
 use Rattle.decide.specs.declared.Decision.the-variants as decisions
@@ -137,7 +138,7 @@ module _ (t : ℕ) (marks kept : List ℕ) (u : Usable t kept) (bytes : Bytes ke
         place n = unfold tagsPlace in refl
 
         room : (n : ℕ) → n ≤ 1024 → tagsPlace t n + tagsSize (shelf t) ≤ replySlot
-        room n h = unfold tagsPlace in omega (arith, shelf-fits t (u .low) (u .high) .room n h)
+        room n h = unfold tagsPlace shareSize in omega (arith, shelf-fits t (u .low) (u .high) .room n h)
 
     -- a candidate with the slot's stamp and nonce is printed with the slot's first bytes
     named : (tags : List ℕ) → candidateF (shelf t) .print (record { stamp = held (suc i) .stamp; nonce = held (suc i) .nonce; tags = tags }) ≡ name ++ tags

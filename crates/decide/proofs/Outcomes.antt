@@ -18,6 +18,7 @@ use Rattle.protocol.specs.Primitives.{real}
 use Rattle.protocol.specs.Rules.{any, first, gather, live, leader, proven, choice, restoredBy}
 use Rattle.protocol.specs.ServerBytes.{over}
 use Rattle.protocol.specs.View.{marked, candidatesIn, repliesIn, replySlotOf}
+use Rattle.protocol.specs.Packet.{shareSize}
 use Rattle.protocol.proofs.Room.{shelf-fits}
 use Rattle.decide.specs.declared.leading.Choice.{Choice}
 use Rattle.decide.specs.Decided.{slotOf, decidedOn, decided}
@@ -112,6 +113,7 @@ module _ (t : ℕ) (marks kept output : List ℕ) where
 
       content : restoredBy real (shelf t) (marked marks) (repliesIn (shelf t) marks kept) (candidatesIn (shelf t) kept (suc (r .slot))) (suc b) (repliesIn (shelf t) marks kept (suc b) .share)
           ≡ contentOf t kept b (take (shelf t .shares) (r .servers))
+      unfolding shareSize
       content =
           let f = shelf-fits t (u .low) (u .high) in
           restored-members t marks kept (r .slot) (sha256 (candidatesIn (shelf t) kept (suc (r .slot)) .nonce)) refl b hit-small (hit-fits .0) (f .few)

@@ -21,6 +21,7 @@ use Rattle.protocol.specs.Primitives.{real}
 use Rattle.protocol.specs.Rules.{fits, agrees, highest, partOf, parts, restoredBy}
 use Rattle.protocol.specs.ServerBytes.{over}
 use Rattle.protocol.specs.View.{part, shareOfSize, shareAt, repliesAt, replySlot, marked, candidatesIn, repliesIn, replySlotOf}
+use Rattle.protocol.specs.Packet.{shareSize}
 use Rattle.protocol.proofs.Room.{shelf-fits}
 use native.Mathlib.Nat.{mul-le-mul-right, suc-mul}
 use Rattle.erasure.specs.Choice.{firstDifferent, partsAt}
@@ -118,6 +119,7 @@ module _ (t : ℕ) (kept servers : List ℕ) (n : ℕ) (u : Usable t kept) (most
   -- a server's fragment lies within the kept bytes
   pub source-length : (f p at : ℕ) → f ≡ fragmentSize (shelf t .shares) n → p < shelf t .shares → at ≡ repliesAt + replySlot * (getD servers p 0 - 1) + (stampSize + 3)
       → length (take (at + f - at) (drop at kept)) ≡ f
+  unfolding shareSize
   source-length f p at e l q =
       let w = shelf-fits t (u .low) (u .high) in
       ap length (part-of kept at f) ∙ part-length kept at f (omega (arith, u .size, w .few, w .room n most, r .lowest p l, r .highest p l))
