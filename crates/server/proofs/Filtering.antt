@@ -27,6 +27,7 @@ use Rattle.protocol.proofs.Packets.{candidate-lengths, candidate-length}
 use Rattle.wire.specs.Places.{candidateList, packetAt, padded}
 use Rattle.wire.specs.Make.{packetStep}
 use Rattle.wire.proofs.Runs.{stamp-padded, padded-whole}
+use Rattle.server.specs.declared.memory.Top.{Top}
 use Rattle.server.specs.declared.filter.Chosen.{Chosen}
 use Rattle.server.specs.declared.filter.Chosen.the-variants as chosen
 use Rattle.server.specs.Reads.{Opened}
@@ -51,7 +52,7 @@ unfolding raise below
 blank-raises s v =
     rw (le-ltb (v .latest .stamp .number) 0 (omega arith), le-ltb (v .latest .stamp .writer) 0 (omega arith), and-off)
 
-module _ {d : List ℕ} (bs : Bytes d) (key packet : List ℕ) (ps : Bytes packet) (output : List ℕ) (h : Head) {n e top : ℕ} (o : Opened d (h .t) (h .server) n e top)
+module _ {d : List ℕ} (bs : Bytes d) (key packet : List ℕ) (ps : Bytes packet) (output : List ℕ) (h : Head) {n e : ℕ} {top : Top} (o : Opened d (h .t) (h .server) n e top)
     (dec : decode packet ≡ some (packetAt h packet)) (k : h .kind ≡ 9) (room : packetRoom ≤ length output) where
   abbrev s : Config
   s = shelf (h .t)

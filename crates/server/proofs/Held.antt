@@ -28,6 +28,7 @@ use Rattle.protocol.proofs.Puts.{put-over, wrote-then, wrote-length}
 use Rattle.wire.specs.Places.{lengthAt, shareSize, writeAt}
 use Rattle.wire.specs.Make.{placed, writeStep, packetStep}
 use Rattle.wire.proofs.Put.{placed-wrote}
+use Rattle.server.specs.declared.memory.Top.{Top}
 use Rattle.server.specs.declared.memory.Found.{Found}
 use Rattle.server.specs.declared.memory.Found.the-variants as found
 use Rattle.server.specs.Reads.{firstWith, FindIs, FindAs}
@@ -105,7 +106,7 @@ held-some : (s : Config) (a : Stamp) (x : Share) → heldF s .print (record { st
 unfolding heldF anyStampF via seq orBlank optional
 held-some s a x = sym (append-assoc (stampF .print a) (1 ∷ []) (shareF s .print x))
 
-module _ (d : List ℕ) (bs : Bytes d) (h : Head) (n top : ℕ) (a : Stamp) (output : List ℕ) {z : List ℕ} (p : z ≡ stampF .print a ++ 0 ∷ []) where
+module _ (d : List ℕ) (bs : Bytes d) (h : Head) (n : ℕ) (top : Top) (a : Stamp) (output : List ℕ) {z : List ℕ} (p : z ≡ stampF .print a ++ 0 ∷ []) where
   found-for : (ws : List Write) → length (a .tag) ≡ tagSize → shareIn (firstWith (part z 0 stampSize) ws) ≡ held a ws
   unfolding part
   found-for ws l =

@@ -22,6 +22,7 @@ use Rattle.protocol.proofs.Packets.{write-law}
 use Rattle.protocol.proofs.Repeats.{many-law}
 use Rattle.protocol.proofs.Walks.{Reads, decide, leaves-moved, many-count}
 use Rattle.wire.specs.Reads.{Took, byteL, anyCandidateL}
+use Rattle.server.specs.declared.memory.Top.{Top}
 use Rattle.server.specs.declared.memory.Writes.{Writes}
 use Rattle.server.specs.declared.memory.Writes.the-variants as writes
 use Rattle.server.specs.Reads.{latestPlace, writesPlace, Stored, Checked, WritesAs, Opened}
@@ -115,7 +116,7 @@ module _ {d : List ℕ} (size : length d ≡ memorySize) where
               go (inl o) = memory-twice (o .there) (untrue _ (w (o .value) (o .next) (o .there)))
               go (inr f) = memory-short f
 
-          module _ {e top : ℕ} (w : Checked (shelf t) n d e top) where
+          module _ {e : ℕ} {top : Top} (w : Checked (shelf t) n d e top) where
             pub opens : {o : List ℕ} → o ≡ drop e d → {c : Bool} → c ≡ zeros o → c ≡ true → Opened d t b n e top
             opens f g i =
                 record {

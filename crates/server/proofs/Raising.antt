@@ -30,6 +30,7 @@ use Rattle.protocol.proofs.ServerLift.{body-ok}
 use Rattle.wire.specs.Places.{bodyAt, packetAt}
 use Rattle.wire.specs.Make.{Placed, placed, packetStep}
 use Rattle.wire.proofs.Laws.{body-bytes}
+use Rattle.server.specs.declared.memory.Top.{Top}
 use Rattle.server.specs.Reads.{latestPlace, Opened, keyOf}
 use Rattle.server.specs.Answers.{memoryIn, replyHead, raisedBytes, AnswersFor}
 use Rattle.server.proofs.Standing.{memory-bytes, memory-size-of, memory-fields}
@@ -84,7 +85,7 @@ pub size-few : (t : ℕ) → t ≤ topFaults → latestPlace + candidateSize (sh
 unfolding shelf
 size-few t h = omega arith
 
-module _ {d : List ℕ} {t b n e top : ℕ} (o : Opened d t b n e top) (bs : Bytes d) (x : List ℕ) (xs : Bytes x) where
+module _ {d : List ℕ} {t b n e : ℕ} {top : Top} (o : Opened d t b n e top) (bs : Bytes d) (x : List ℕ) (xs : Bytes x) where
   module _ (p : x ≡ candidateF (shelf t) .print (candidateAt (shelf t) x)) (ok : candidateF (shelf t) .Ok (candidateAt (shelf t) x)) where
     any-length : (c : Candidate) → anyCandidateF (shelf t) .Ok c → length (anyCandidateF (shelf t) .print c) ≡ candidateSize (shelf t)
     any-length c h = any-candidate-length (shelf t) c h

@@ -19,12 +19,13 @@ use Rattle.protocol.proofs.ServerLift.{body-ok}
 use Rattle.wire.specs.Places.{bodyAt, packetAt}
 use Rattle.wire.specs.Make.{packetStep}
 use Rattle.wire.proofs.Laws.{body-bytes}
+use Rattle.server.specs.declared.memory.Top.{Top}
 use Rattle.server.specs.Answers.{memoryIn, replyHead, raisedBytes}
 use Rattle.server.specs.Valid.{ValidAs, RaisedAs, AnswersWith}
 use Rattle.server.proofs.Raising.{raised-memory}
 use Rattle.server.proofs.Replies.{body-of, replied, unchanged, part-none, alone, headed}
 
-module _ (d : List ℕ) (bs : Bytes d) (key : List ℕ) (t b n top : ℕ) (x : List ℕ) (xs : Bytes x) {r : Bool} (test : ValidAs d key t b n top x r) where
+module _ (d : List ℕ) (bs : Bytes d) (key : List ℕ) (t b n : ℕ) (top : Top) (x : List ℕ) (xs : Bytes x) {r : Bool} (test : ValidAs d key t b n top x r) where
   pub raised-valid : r ≡ true → {m : List ℕ} → m ≡ raisedBytes d x → RaisedAs d key t b n top x m
   raised-valid i p e o made ok =
       let v : Server = serverIn (memoryIn o) in
@@ -37,7 +38,7 @@ module _ (d : List ℕ) (bs : Bytes d) (key : List ℕ) (t b n top : ℕ) (x : L
       let c = candidateAt (shelf t) x in
       unchanged o bs ∙ ap (λ (g : Bool). encodeMemory (memoryOf t b (cond g (raise c v) v))) (sym i ∙ test e o made ok)
 
-module _ (d key packet : List ℕ) (ps : Bytes packet) (output : List ℕ) (h : Head) (n top : ℕ) where
+module _ (d key packet : List ℕ) (ps : Bytes packet) (output : List ℕ) (h : Head) (n : ℕ) (top : Top) where
   pub repair-answers : {x m out first second : List ℕ} {g : Head} {r : Outcome} → x ≡ drop headSize packet → RaisedAs d key (h .t) (h .server) n top x m
       → first ≡ part packet 0 0 → second ≡ part packet 0 0 → g ≡ replyHead h 12 → record { result = r; output = out } ≡ packetStep g first second output
       → AnswersWith 11 d key packet output h n top (record { result = r; memory = m; output = out })

@@ -24,6 +24,7 @@ use Rattle.protocol.proofs.ServerLift.{body-ok, reply-ok}
 use Rattle.wire.specs.Places.{bodyAt, packetAt}
 use Rattle.wire.specs.Make.{packetStep}
 use Rattle.wire.proofs.Laws.{made-accepted}
+use Rattle.server.specs.declared.memory.Top.{Top}
 use Rattle.server.specs.Reads.{latestPlace, Opened}
 use Rattle.server.specs.Answers.{memoryIn, replyHead, AnswersAll}
 use Rattle.server.proofs.Standing.{memory-bytes, server-ok, latest-part, latest-stamp}
@@ -33,7 +34,7 @@ pub body-of : (h : Head) (packet : List ℕ) (k : ℕ) → h .kind ≡ k → pac
 unfolding packetAt
 body-of h packet k e = ap (λ (j : ℕ). bodyAt (shelf (h .t)) j (drop headSize packet)) e
 
-module _ {d : List ℕ} (key packet output : List ℕ) (h : Head) {n e top : ℕ} (o : Opened d (h .t) (h .server) n e top) where
+module _ {d : List ℕ} (key packet output : List ℕ) (h : Head) {n e : ℕ} {top : Top} (o : Opened d (h .t) (h .server) n e top) where
   -- the server's step
   abbrev pub stepOf : Body → Acted
   stepOf x = act real (shelf (h .t)) key (h .server) (serverIn (memoryIn o)) x
@@ -87,7 +88,7 @@ module _ {d : List ℕ} (key packet output : List ℕ) (h : Head) {n e top : ℕ
         (w ∙ ap (λ (y : Acted). packetStep (replyHead h (kindOf (y .reply))) first second output) (sym q))
 
 -- the memory as it is
-pub unchanged : {d : List ℕ} {t b n e top : ℕ} (o : Opened d t b n e top) → Bytes d → d ≡ encodeMemory (memoryOf t b (serverIn (memoryIn o)))
+pub unchanged : {d : List ℕ} {t b n e : ℕ} {top : Top} (o : Opened d t b n e top) → Bytes d → d ≡ encodeMemory (memoryOf t b (serverIn (memoryIn o)))
 unfolding memoryOf serverIn
 unchanged o bs = sym (memory-bytes o bs)
 

@@ -17,6 +17,7 @@ use Rattle.protocol.specs.ServerBytes.{serverIn}
 use Rattle.protocol.proofs.Acts.{ServerOk}
 use Rattle.protocol.proofs.Memories.{Fields, fields, memory-length, decode-memory-ok, encode-decode-memory}
 use Rattle.protocol.proofs.Packets.{stamp-length, any-print, any-candidate-length, any-candidate-lengths}
+use Rattle.server.specs.declared.memory.Top.{Top}
 use Rattle.server.specs.Reads.{latestPlace, Opened}
 use Rattle.server.specs.Answers.{memoryIn}
 
@@ -27,7 +28,7 @@ candidate-stamp s c l r =
     ap (take stampSize) (append-assoc (stampF .print (c .stamp)) (c .nonce ++ c .tags) r)
     ∙ take-at (stampF .print (c .stamp)) (c .nonce ++ c .tags ++ r) stampSize (stamp-length (c .stamp) l)
 
-module _ {d : List ℕ} {t b n e top : ℕ} (o : Opened d t b n e top) where
+module _ {d : List ℕ} {t b n e : ℕ} {top : Top} (o : Opened d t b n e top) where
   pub memory-fields : Fields (memoryIn o)
   memory-fields = fields (memoryIn o) (decode-memory-ok d (memoryIn o) (o .decoded))
 

@@ -35,6 +35,7 @@ use Rattle.protocol.proofs.Walks.{many-count}
 use Rattle.wire.specs.Places.{bodyAt, packetAt, writeAt}
 use Rattle.wire.specs.Make.{Placed, placed, packetStep}
 use Rattle.wire.proofs.Laws.{body-bytes}
+use Rattle.server.specs.declared.memory.Top.{Top}
 use Rattle.server.specs.declared.memory.Found.{Found}
 use Rattle.server.specs.declared.memory.Found.the-variants as found
 use Rattle.server.specs.Reads.{writesPlace, Opened, firstWith, FindIs, FindAs}
@@ -51,7 +52,7 @@ write-stamp s w ok =
     take-at (stampF .print (w .stamp)) (shareF s .print (w .share)) stampSize (stamp-length (w .stamp) (unfold stampF via seq run in (ok .0 .1 .1)))
 
 -- the length of a memory's fields
-printed : {d : List ℕ} {t b n e top : ℕ} (o : Opened d t b n e top)
+printed : {d : List ℕ} {t b n e : ℕ} {top : Top} (o : Opened d t b n e top)
     → length (memoryF .print (memoryIn o)) ≡ writesPlace (shelf t) + length (printMany (writeF (shelf t)) (o .writes))
 unfolding memoryF keep via seq byte many
 printed {d} {t} o =
@@ -59,7 +60,7 @@ printed {d} {t} o =
     let W : List ℕ = printMany (writeF (shelf t)) (o .writes) in
     omega (arith, length-append L W, any-candidate-length (shelf t) (memoryIn o .latest) (memory-fields o .latest))
 
-module _ {d : List ℕ} {t b n e top : ℕ} (o : Opened d t b n e top) (bs : Bytes d) where
+module _ {d : List ℕ} {t b n e : ℕ} {top : Top} (o : Opened d t b n e top) (bs : Bytes d) where
   -- the place past the stored writes
   writes-end : e ≡ length (memoryF .print (memoryIn o))
   unfolding many
@@ -115,7 +116,7 @@ kept-made d n e w p q = ap (λ (z : Placed). z .output) q ∙ ap (λ (y : List �
 
 -- ---- the answers
 
-module _ {d : List ℕ} (bs : Bytes d) (packet : List ℕ) (ps : Bytes packet) (output : List ℕ) (h : Head) {n e top : ℕ} (key : List ℕ) (o : Opened d (h .t) (h .server) n e top)
+module _ {d : List ℕ} (bs : Bytes d) (packet : List ℕ) (ps : Bytes packet) (output : List ℕ) (h : Head) {n e : ℕ} {top : Top} (key : List ℕ) (o : Opened d (h .t) (h .server) n e top)
     (dec : decode packet ≡ some (packetAt h packet)) (k : h .kind ≡ 3) (room : packetRoom ≤ length output) where
   abbrev written : Write
   written = writeAt (shelf (h .t)) (drop headSize packet)

@@ -23,6 +23,7 @@ use Rattle.protocol.specs.ServerBytes.{Served, turnedDown, accepted, onMemory, 
 use Rattle.protocol.proofs.Answers.{and-on, at-cond}
 use Rattle.wire.specs.Places.{writeAt, bodyAt, packetAt}
 use Rattle.wire.proofs.Laws.{head-ranges}
+use Rattle.server.specs.declared.memory.Top.{Top}
 use Rattle.server.specs.Reads.{Opened}
 use Rattle.server.specs.Answers.{memoryIn, AnswersAny}
 
@@ -179,7 +180,7 @@ module _ (d key packet output : List ℕ) where
     unfolding serverTake onMemory turnedDown
     take-broken e p = rw (eq-eqb (length d) memorySize size, e) (ap down p)
 
-    module _ {t b n e top : ℕ} (o : Opened d t b n e top) where
+    module _ {t b n e : ℕ} {top : Top} (o : Opened d t b n e top) where
       pub take-unread : decode packet ≡ none → {z : Outcome} → z ≡ number 7 → down z ≡ serverTake real d key packet output
       unfolding serverTake onMemory serverRefusal turnedDown
       take-unread r p = rw (eq-eqb (length d) memorySize size, o .decoded, r) (ap down p)

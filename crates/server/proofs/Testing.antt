@@ -26,6 +26,7 @@ use Rattle.protocol.specs.ServerBytes.{serverIn}
 use Rattle.protocol.proofs.Equal.{message-printed}
 use Rattle.protocol.proofs.Packets.{candidate-lengths}
 use Rattle.wire.specs.Places.{writeAt}
+use Rattle.server.specs.declared.memory.Top.{Top}
 use Rattle.server.specs.declared.memory.Found.{Found}
 use Rattle.server.specs.declared.memory.Found.the-variants as found
 use Rattle.server.specs.Reads.{Opened, firstWith, FindIs, FindAs}
@@ -47,7 +48,7 @@ digest-at s d {v} {f} {g} {x} {y} {z} a b c p q r =
 
 -- ---- by the history
 
-module _ (s : Config) (n top : ℕ) (d x g : List ℕ) where
+module _ (s : Config) (n : ℕ) (top : Top) (d x g : List ℕ) where
   found-for : (ws : List Write) (a : Stamp) → part x 0 stampSize ≡ stampF .print a → shareIn (firstWith (part x 0 stampSize) ws) ≡ held a ws
   found-for ws a q = ap (λ (z : List ℕ). shareIn (firstWith z ws)) q ∙ first-held a ws
 
@@ -76,7 +77,7 @@ tag-made s prepared b x g p q k i j w =
 
 -- ---- both
 
-module _ (d key : List ℕ) (t b n top : ℕ) (x : List ℕ) {g : List ℕ} (q : g ≡ nonceHash x) where
+module _ (d key : List ℕ) (t b n : ℕ) (top : Top) (x : List ℕ) {g : List ℕ} (q : g ≡ nonceHash x) where
   module _ {e : ℕ} (o : Opened d t b n e top) (made : x ≡ candidateF (shelf t) .print (candidateAt (shelf t) x)) (ok : candidateF (shelf t) .Ok (candidateAt (shelf t) x)) where
     stamp-start : part x 0 stampSize ≡ stampF .print (candidateAt (shelf t) x .stamp)
     unfolding part

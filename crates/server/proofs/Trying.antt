@@ -16,6 +16,7 @@ use Rattle.protocol.specs.Primitives.{real}
 use Rattle.protocol.specs.Server.{valid}
 use Rattle.protocol.specs.View.{candidateAt}
 use Rattle.protocol.specs.ServerBytes.{serverIn}
+use Rattle.server.specs.declared.memory.Top.{Top}
 use Rattle.server.specs.Reads.{Opened}
 use Rattle.server.specs.Answers.{memoryIn}
 use Rattle.server.specs.Valid.{nonceHash, HistoryAs, tagChecks, ValidAs}
@@ -27,7 +28,7 @@ use Rattle.server.proofs.Ranking.{rank-top, rank-pos, rank-inj, rank-sl
 use Rattle.server.proofs.Choosing.{best-is, best-none}
 use Rattle.server.proofs.Testing.{valid-history, valid-tag}
 
-module _ (d key : List ℕ) (t b n top : ℕ) (y : List ℕ) (m : ℕ) where
+module _ (d key : List ℕ) (t b n : ℕ) (top : Top) (y : List ℕ) (m : ℕ) where
   pub record Trying (rank : ℕ) : Type 0 where
     pub slot : 0 < rank → (i : ℕ) × (i < m) × (rank ≡ rankOf (shelf t) y i)
     pub above : (e : ℕ) (o : Opened d t b n e top) → Listed (shelf t) m y → (j : ℕ) → j < m → rank < rankOf (shelf t) y j
@@ -95,7 +96,7 @@ next-less t y m {rank} {next} pos u = go (ltb 0 (nextRank (shelf t) y m rank)) r
 
 -- ---- the highest of all
 
-module _ (d key : List ℕ) (t b n top : ℕ) (y : List ℕ) (m : ℕ) (few : m ≤ 255) (bs : Bytes y) {rank : ℕ} (u : rank ≡ nextRank (shelf t) y m 281474976710656) where
+module _ (d key : List ℕ) (t b n : ℕ) (top : Top) (y : List ℕ) (m : ℕ) (few : m ≤ 255) (bs : Bytes y) {rank : ℕ} (u : rank ≡ nextRank (shelf t) y m 281474976710656) where
   highest : Trying d key t b n top y m rank
   highest = try-under d key t b n top y m (none-above d key t b n top y m bs) u
 

@@ -19,6 +19,7 @@ use Rattle.protocol.proofs.Changes.{raised, latest-bytes, blank-print}
 use Rattle.protocol.proofs.Packets.{any-candidate-length}
 use Rattle.protocol.proofs.Places.{part-zeros}
 use Rattle.wire.specs.Make.{Placed, placed}
+use Rattle.server.specs.declared.memory.Top.{Top}
 use Rattle.server.specs.Reads.{latestPlace, Opened}
 use Rattle.server.specs.Answers.{memoryIn}
 use Rattle.server.specs.Blank.{blanked, latestBlanked, blankLatest}
@@ -40,7 +41,7 @@ module _ (d : List ℕ) where
     unfolding blankLatest latestBlanked
     latest-broken e = rw (eq-eqb (length d) memorySize size, e)
 
-    module _ (bs : Bytes d) {t b n e top : ℕ} (o : Opened d t b n e top) where
+    module _ (bs : Bytes d) {t b n e : ℕ} {top : Top} (o : Opened d t b n e top) where
       abbrev zeros : ℕ → List ℕ
       zeros k = replicate k 0
 

@@ -18,10 +18,11 @@ use Rattle.protocol.specs.View.{stampAt, candidateAt}
 use Rattle.protocol.specs.ServerBytes.{Served, accepted}
 use Rattle.wire.specs.Places.{packetAt}
 use Rattle.wire.specs.Make.{placed}
+use Rattle.server.specs.declared.memory.Top.{Top}
 use Rattle.server.specs.Reads.{latestPlace, Opened, keyOf}
 
 -- the memory that opens
-abbrev pub memoryIn : {d : List ℕ} {t b n e top : ℕ} → Opened d t b n e top → Memory
+abbrev pub memoryIn : {d : List ℕ} {t b n e : ℕ} {top : Top} → Opened d t b n e top → Memory
 memoryIn {d} {t} {b} o = record { t = t; server = b; latest = candidateAt (shelf t) (drop latestPlace d); writes = o .writes }
 
 -- the head of a reply of kind k
@@ -29,24 +30,24 @@ abbrev pub replyHead : Head → ℕ → Head
 replyHead h k = record { kind = k; client = h .client; server = h .server; t = h .t; call = h .call }
 
 -- r is the step of a packet of kind k with the head h; n writes are stored, up to the place e and up to top in their order
-abbrev pub AnswersAs : ℕ → List ℕ → List ℕ → List ℕ → List ℕ → Head → ℕ → ℕ → ℕ → Served → Type 0
+abbrev pub AnswersAs : ℕ → List ℕ → List ℕ → List ℕ → List ℕ → Head → ℕ → ℕ → Top → Served → Type 0
 AnswersAs k d key packet output h n e top r =
     (o : Opened d (h .t) (h .server) n e top) → decode packet ≡ some (packetAt h packet) → h .kind ≡ k → packetRoom ≤ length output
     → r ≡ accepted real d key packet output (memoryIn o) (decode packet)
 
 -- the same for every key
-abbrev pub AnswersOf : ℕ → List ℕ → List ℕ → List ℕ → Head → ℕ → ℕ → ℕ → Served → Type 0
+abbrev pub AnswersOf : ℕ → List ℕ → List ℕ → List ℕ → Head → ℕ → ℕ → Top → Served → Type 0
 AnswersOf k d packet output h n e top r = (key : List ℕ) → AnswersAs k d key packet output h n e top r
 
 -- the same for every key and every number of stored writes; and for every packet
 abbrev pub AnswersFor : ℕ → List ℕ → List ℕ → List ℕ → Head → Served → Type 0
-AnswersFor k d packet output h r = (key : List ℕ) (n e top : ℕ) → AnswersAs k d key packet output h n e top r
+AnswersFor k d packet output h r = (key : List ℕ) (n e : ℕ) (top : Top) → AnswersAs k d key packet output h n e top r
 
 abbrev pub AnswersAll : ℕ → List ℕ → List ℕ → Head → Served → Type 0
 AnswersAll k d output h r = (packet : List ℕ) → AnswersFor k d packet output h r
 
 -- r is the step of a packet of any kind that is not refused with 9
-abbrev pub AnswersAny : List ℕ → List ℕ → List ℕ → List ℕ → Head → ℕ → ℕ → ℕ → Served → Type 0
+abbrev pub AnswersAny : List ℕ → List ℕ → List ℕ → List ℕ → Head → ℕ → ℕ → Top → Served → Type 0
 AnswersAny d key packet output h n e top r =
     (o : Opened d (h .t) (h .server) n e top) → decode packet ≡ some (packetAt h packet) → barred (h .client) (packetAt h packet .body) ≡ false → packetRoom ≤ length output
     → r ≡ accepted real d key packet output (memoryIn o) (decode packet)

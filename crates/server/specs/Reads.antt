@@ -3,7 +3,7 @@ use mathlib.Core.Path.{_≡_}
 use mathlib.Core.Bool.{Bool, true, cond}
 use mathlib.Core.List.{List, [], _∷_}
 use mathlib.Core.Option.{Option, none, some}
-use Prim.Native.Nat.{ℕ, _+_, _*_, _≤_}
+use Prim.Native.Nat.{ℕ, _+_, _*_, _≤_, _<_}
 use lib.Dec.{ltb}
 use lib.ListN.{drop}
 use Rattle.cluster.specs.Config.{Config, shelf}
@@ -16,6 +16,7 @@ use Rattle.protocol.specs.Memory.{held, distinct, decodeMemory}
 use Rattle.protocol.specs.View.{part, stampAt, candidateAt}
 use Rattle.protocol.specs.Reading.{Leaves}
 use Rattle.wire.specs.Places.{lengthAt, writeAt}
+use Rattle.server.specs.declared.memory.Top.{Top}
 use Rattle.server.specs.declared.memory.Found.{Found}
 use Rattle.server.specs.declared.memory.Found.the-variants as found
 use Rattle.server.specs.declared.memory.Writes.{Writes}
@@ -64,28 +65,37 @@ unfoldable pub keyOf : Stamp → ℕ
 keyOf a = 256 * a .number + a .writer
 
 abbrev pub UpTo : ℕ → List Write → Type 0
-UpTo top ws = All (λ w. keyOf (w .stamp) ≤ top) ws
+UpTo k ws = All (λ w. keyOf (w .stamp) ≤ k) ws
+
+-- none of the writes is above top, and a stamp whose bytes stand at top's place is found there; place 0 is none
+pub record TopOf (s : Config) (d : List ℕ) (top : Top) (ws : List Write) : Type 0 where
+  pub up : UpTo (top .key) ws
+  pub first : 0 < top .at → (key : List ℕ) → sameList (part (drop (top .at) d) 0 stampSize) key ≡ true → FoundAt s d (top .at) (firstWith key ws)
 
 -- the first of n writes, none of them above top, whose stamp has the bytes that x begins with
-abbrev pub FindAs : Config → ℕ → ℕ → List ℕ → List ℕ → Found → Type 0
-FindAs s n top d x r = (ws : List Write) (e : ℕ) → Stored s n d ws e → UpTo top ws → FindIs s d (firstWith (part x 0 stampSize) ws) r
+abbrev pub FindAs : Config → ℕ → Top → List ℕ → List ℕ → Found → Type 0
+FindAs s n top d x r = (ws : List Write) (e : ℕ) → Stored s n d ws e → TopOf s d top ws → FindIs s d (firstWith (part x 0 stampSize) ws) r
 
 -- ---- no stamp twice
 
 unfoldable pub maxOf : ℕ → ℕ → ℕ
 maxOf a b = cond (ltb a b) b a
 
+-- the higher of top and the write of key k at a place
+unfoldable pub raisedTop : Top → ℕ → ℕ → Top
+raisedTop top k at = cond (ltb (top .key) k) (record { key = k; at = at }) top
+
 -- whether the stamp of the write at a place is that of one of n writes, none of them above top
-abbrev pub RepeatsAs : Config → ℕ → ℕ → List ℕ → ℕ → Bool → Type 0
+abbrev pub RepeatsAs : Config → ℕ → Top → List ℕ → ℕ → Bool → Type 0
 RepeatsAs s n top d at r =
-    (ws : List Write) (e next : ℕ) → Stored s n d ws e → UpTo top ws → Leaves (writeF s) d at (writeAt s (drop at d)) next
+    (ws : List Write) (e next : ℕ) → Stored s n d ws e → TopOf s d top ws → Leaves (writeF s) d at (writeAt s (drop at d)) next
     → r ≡ isSome (held (stampAt (drop at d)) ws)
 
 -- n writes of which no two have one stamp and none is above top; where there are none, no such writes stand there
-pub record Checked (s : Config) (n : ℕ) (d : List ℕ) (e top : ℕ) : Type 0 where
+pub record Checked (s : Config) (n : ℕ) (d : List ℕ) (e : ℕ) (top : Top) : Type 0 where
   pub writes : List Write
   pub there : Stored s n d writes e
-  pub up : UpTo top writes
+  pub up : TopOf s d top writes
   pub once : distinct writes ≡ true
 
 abbrev pub WritesAs : Config → ℕ → List ℕ → Writes → Type 0
@@ -94,10 +104,10 @@ WritesAs s n d writes.Broken = (ws : List Write) (e : ℕ) → Stored s n d ws e
 
 -- ---- the whole memory: what decodeMemory gives, by its numbers, the places of its parts, and a bound of its stamps; or refusal 2
 
-pub record Opened (d : List ℕ) (t b n e top : ℕ) : Type 0 where
+pub record Opened (d : List ℕ) (t b n e : ℕ) (top : Top) : Type 0 where
   pub writes : List Write
   pub there : Stored (shelf t) n d writes e
-  pub up : UpTo top writes
+  pub up : TopOf (shelf t) d top writes
   pub decoded : decodeMemory d ≡ some (record { t = t; server = b; latest = candidateAt (shelf t) (drop latestPlace d); writes = writes })
 
 abbrev pub MemoryAs : List ℕ → MemoryRead → Type 0

@@ -8,6 +8,7 @@ ghost use Rattle.wire.specs.Places.{lengthAt, shareSize};
 ghost use Rattle.server.specs.Valid.{AnswersWith};
 ghost use Rattle.server.specs.Filter.{ChosenAs, ChosenUnder, shareBytes, HeldAs};
 use crate::memory::Found;
+use crate::memory::Top;
 use crate::memory::find;
 use crate::rank::next_rank;
 use crate::rank::slot;
@@ -34,7 +35,7 @@ fn choose_under(
     t: u8,
     server: u8,
     n: usize,
-    top: u64,
+    top: Top,
     list: &[u8],
     count: u8,
     bound: u64,
@@ -61,7 +62,7 @@ fn choose(
     t: u8,
     server: u8,
     n: usize,
-    top: u64,
+    top: Top,
     list: &[u8],
     count: u8,
 ) -> Chosen
@@ -119,7 +120,7 @@ fn reply_held(
     memory: &[u8],
     head: protocol::Head,
     n: usize,
-    top: u64,
+    top: Top,
     stamp: protocol::Stamp,
     out: &mut [u8],
 ) -> cluster::Outcome
@@ -150,7 +151,7 @@ pub(crate) fn filter(
     head: protocol::Head,
     packet: &[u8],
     n: usize,
-    top: u64,
+    top: Top,
     out: &mut [u8],
 ) -> cluster::Outcome
     requires { ⌜ 1 ≤ head .server ⌝ }

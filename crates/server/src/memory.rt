@@ -1,10 +1,12 @@
 // Reading a server's memory: the whole check of refusal 2, and the search of the history.
 ghost use mathlib.Core.Path.{_≡_};
-ghost use Prim.Native.Nat.{_≤_};
-ghost use lib.ListN.{length};
+ghost use mathlib.Core.Bool.{true};
+ghost use Prim.Native.Nat.{_≤_, _<_};
+ghost use lib.ListN.{length, drop};
 ghost use Rattle.cluster.specs.Config.{shelf};
-ghost use Rattle.protocol.specs.View.{stampAt};
-ghost use Rattle.server.specs.Reads.{frameSize, SearchAs, FindAs, RepeatsAs, WritesAs, MemoryAs, keyOf, maxOf, writesPlace};
+ghost use Rattle.protocol.specs.Values.{sameList, stampSize};
+ghost use Rattle.protocol.specs.View.{part, stampAt};
+ghost use Rattle.server.specs.Reads.{frameSize, SearchAs, FindAs, RepeatsAs, WritesAs, MemoryAs, keyOf, maxOf, raisedTop, writesPlace};
 use wire::bytes::part;
 use wire::bytes::rest;
 use wire::fields::Cursor;
@@ -19,15 +21,21 @@ pub enum Found {
     Nothing,
 }
 
-// The place past the stored writes, and a bound of their stamps in their order.
+// The highest of the stored writes: its stamp in their order, and its place; 0 and 0 where none is stored.
+pub struct Top {
+    pub key: u64,
+    pub at: usize,
+}
+
+// The place past the stored writes, and the highest of them.
 pub enum Writes {
-    Past(usize, u64),
+    Past(usize, Top),
     Broken,
 }
 
-// t, the server's number, how many writes are stored, the place past them, and a bound of their stamps; or refusal 2.
+// t, the server's number, how many writes are stored, the place past them, and the highest of them; or refusal 2.
 pub enum MemoryRead {
-    Value(u8, u8, usize, usize, u64),
+    Value(u8, u8, usize, usize, Top),
     Broken,
 }
 
@@ -79,13 +87,26 @@ fn search(memory: &[u8], t: u8, n: usize, stamp: &[u8]) -> Found
     Found::Nothing
 }
 
-// The first of n stored writes whose stamp has the bytes that some begin with. None of the writes is above top, so that a stamp above it needs no search.
-pub fn find(memory: &[u8], t: u8, n: usize, top: u64, bytes: &[u8]) -> Found
+// Whether a stamp's bytes stand at a place; at place 0 none do.
+fn stands_at(memory: &[u8], at: usize, stamp: &[u8]) -> bool
+    ensures { λ r. ⌜ (r ≡ true → (0 < at) × (sameList (part (drop at (now (memory .entry))) 0 stampSize) (now (stamp .entry)) ≡ true)) ⌝ }
+{
+    if at == 0 {
+        return false;
+    }
+    wire::bytes::same(part(rest(memory, at), 0, wire::sizes::STAMP), stamp)
+}
+
+// The first of n stored writes whose stamp has the bytes that some begin with. A stamp above the highest of them needs no search, nor does that one's own, which is asked for most often.
+pub fn find(memory: &[u8], t: u8, n: usize, top: Top, bytes: &[u8]) -> Found
     ensures { λ r. ⌜ FindAs (shelf t) n top (now (memory .entry)) (now (bytes .entry)) r ⌝ }
 {
     let stamp = part(bytes, 0, wire::sizes::STAMP);
-    if top < key_at(stamp) {
+    if top.key < key_at(stamp) {
         return Found::Nothing;
+    }
+    if stands_at(memory, top.at, stamp) {
+        return Found::At(top.at);
     }
     search(memory, t, n, stamp)
 }
@@ -99,8 +120,18 @@ pub(crate) fn max_of(a: u64, b: u64) -> u64
     a
 }
 
-// Whether one of the first n stored writes, none of them above top, has the stamp at a place.
-fn repeats(memory: &[u8], t: u8, n: usize, top: u64, at: usize) -> bool
+// The higher of top and the write of a key at a place.
+fn raised(top: Top, key: u64, at: usize) -> Top
+    ensures { λ r. ⌜ r ≡ raisedTop top key at ⌝ }
+{
+    if top.key < key {
+        return Top { key, at };
+    }
+    top
+}
+
+// Whether one of the first n stored writes, of which top is the highest, has the stamp at a place.
+fn repeats(memory: &[u8], t: u8, n: usize, top: Top, at: usize) -> bool
     ensures { λ r. ⌜ RepeatsAs (shelf t) n top (now (memory .entry)) at r ⌝ }
 {
     let Found::Nothing = find(memory, t, n, top, rest(memory, at)) else {
@@ -115,7 +146,7 @@ fn check_writes(memory: &[u8], t: u8, n: usize) -> Writes
     ensures { λ r. ⌜ WritesAs (shelf t) n (now (memory .entry)) r ⌝ }
 {
     let mut at = writes_place(t);
-    let mut top = 0;
+    let mut top = Top { key: 0, at: 0 };
     let mut i = 0;
     while i < n {
         let Field::Value(size, next) = wire::parts::write_field(memory, Cursor { at }, t) else {
@@ -124,7 +155,7 @@ fn check_writes(memory: &[u8], t: u8, n: usize) -> Writes
         if repeats(memory, t, i, top, at) {
             return Writes::Broken;
         }
-        top = max_of(top, key_at(rest(memory, at)));
+        top = raised(top, key_at(rest(memory, at)), at);
         at = next.at;
         i += 1;
     }

@@ -1,6 +1,7 @@
 // Repair: the candidate becomes the latest if it is valid and higher.
 ghost use Prim.Native.Nat.{_≤_};
 ghost use Rattle.server.specs.Valid.{RaisedAs, AnswersWith};
+use crate::memory::Top;
 use wire::bytes::part;
 use wire::bytes::rest;
 
@@ -11,7 +12,7 @@ fn raise_valid(
     t: u8,
     server: u8,
     n: usize,
-    top: u64,
+    top: Top,
     candidate: &[u8],
 )
     requires { ⌜ 1 ≤ server ⌝ }
@@ -28,7 +29,7 @@ pub(crate) fn repair(
     head: protocol::Head,
     packet: &[u8],
     n: usize,
-    top: u64,
+    top: Top,
     out: &mut [u8],
 ) -> cluster::Outcome
     requires { ⌜ 1 ≤ head .server ⌝ }

@@ -6,6 +6,7 @@ ghost use Rattle.cluster.specs.Ranges.{capacity};
 ghost use Rattle.wire.specs.Make.{packetStep};
 ghost use Rattle.server.specs.Answers.{replyHead, AnswersOf, keptBytes};
 use crate::memory::Found;
+use crate::memory::Top;
 use crate::memory::find;
 use wire::bytes::part;
 use wire::bytes::rest;
@@ -41,7 +42,7 @@ pub(crate) fn store(
     packet: &[u8],
     n: usize,
     end: usize,
-    top: u64,
+    top: Top,
     out: &mut [u8],
 ) -> cluster::Outcome
     ensures { λ r. ⌜ AnswersOf 3 (now (memory .entry)) (now (packet .entry)) (now (out .entry)) head n end top (record { result = r; memory = now (memory .exit); output = now (out .exit) }) ⌝ }

@@ -14,6 +14,7 @@ ghost use Rattle.protocol.specs.ServerBytes.{serverTake};
 ghost use Rattle.wire.specs.Places.{packetAt};
 ghost use Rattle.server.specs.Answers.{AnswersAny};
 use crate::memory::MemoryRead;
+use crate::memory::Top;
 use crate::memory::open;
 use wire::packet::PacketRead;
 use wire::packet::read_packet;
@@ -92,7 +93,7 @@ fn answer(
     packet: &[u8],
     n: usize,
     end: usize,
-    top: u64,
+    top: Top,
     out: &mut [u8],
 ) -> cluster::Outcome
     requires { ⌜ 1 ≤ head .server ⌝ }

@@ -5,6 +5,7 @@ ghost use Rattle.cluster.specs.Config.{shelf};
 ghost use Rattle.protocol.specs.View.{shareAt};
 ghost use Rattle.server.specs.Valid.{nonceHash, HistoryAs, tagChecks, ValidAs, ValidPrepared};
 use crate::memory::Found;
+use crate::memory::Top;
 use crate::memory::find;
 use wire::bytes::part;
 use wire::bytes::rest;
@@ -33,7 +34,7 @@ pub(crate) fn by_history(
     memory: &[u8],
     t: u8,
     n: usize,
-    top: u64,
+    top: Top,
     candidate: &[u8],
     digest: [u8; 32],
 ) -> bool
@@ -77,7 +78,7 @@ pub(crate) fn valid_prepared(
     t: u8,
     server: u8,
     n: usize,
-    top: u64,
+    top: Top,
     candidate: &[u8],
 ) -> bool
     requires { ⌜ 1 ≤ server ⌝ }
@@ -97,7 +98,7 @@ pub(crate) fn valid(
     t: u8,
     server: u8,
     n: usize,
-    top: u64,
+    top: Top,
     candidate: &[u8],
 ) -> bool
     requires { ⌜ 1 ≤ server ⌝ }

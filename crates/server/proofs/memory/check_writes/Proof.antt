@@ -11,7 +11,7 @@ use Rattle.server.proofs.memory.check_writes.Lts as lts
 use Rattle.server.proofs.memory.writes_place.Reads as writes-place-reads
 use Rattle.server.proofs.memory.repeats.Reads as repeats-reads
 use Rattle.server.proofs.memory.key_at.Reads as key-at-reads
-use Rattle.server.proofs.memory.max_of.Reads as max-of-reads
+use Rattle.server.proofs.memory.raised.Reads as raised-reads
 use Rattle.wire.proofs.bytes.rest.Reads as rest-reads
 use Rattle.wire.proofs.parts.write_field.Reads as write-field-reads
 
@@ -53,8 +53,8 @@ rest-requires c κs = search needs
 key-at-requires : tie.Need-key-at-requires Inv-loop μ-loop
 key-at-requires c κs = search needs
 
-max-of-requires : tie.Need-max-of-requires Inv-loop μ-loop
-max-of-requires c κs = search needs
+raised-requires : tie.Need-raised-requires Inv-loop μ-loop
+raised-requires c κs = search needs
 
 add-i : tie.Need-add-i Inv-loop μ-loop
 add-i c = omega arith
@@ -65,7 +65,7 @@ loop-less c = omega arith
 loop-again : tie.Need-loop-again Inv-loop μ-loop
 loop-again c =
     let w = rw (c .before .before .before .before .before .before .size .given .1) at (c .before .before .before .before .before .before .before .before .write-field .ensures) in
-    (omega arith, check-more (c .before .before .before .before .before .before .before .before .before .before .loop .inv .1) (omega arith) (w .leaves) (c .before .before .rest .ensures) (c .before .key-at .ensures) (c .max-of .ensures) (c .before .before .before .before .repeats .ensures) (c .before .before .before .if1 .left))
+    (omega arith, check-more (c .before .before .before .before .before .before .before .before .before .before .loop .inv .1) (omega arith) (w .leaves) (λ i. c .before .before .before .before .before .before .before .before .before .before .before .before .shared-slice-known .given i .fits) (c .before .before .rest .ensures) (c .before .key-at .ensures) (c .raised .ensures) (c .before .before .before .before .repeats .ensures) (c .before .before .before .if1 .left))
 
 returns-3 : tie.Need-returns-3 Inv-loop μ-loop
 returns-3 c = check-end (c .before .loop .inv .1) (omega arith)
@@ -86,7 +86,7 @@ check-writes-spec =
     returns-2
     rest-requires
     key-at-requires
-    max-of-requires
+    raised-requires
     add-i
     loop-less
     loop-again

@@ -1,7 +1,7 @@
--- Above all stamps, or searched for by its bytes. Assumes nothing.
+-- Above all stamps, the highest of them, or searched for by its bytes. Assumes nothing.
 use borrow.Author.Needs.{needs}
 use Rattle.cluster.specs.Config.{shelf}
-use Rattle.server.proofs.Once.{find-above, find-searched}
+use Rattle.server.proofs.Once.{find-above, find-highest, find-searched}
 use Rattle.server.proofs.memory.find.Statement.{statement}
 use Rattle.server.proofs.memory.find.Tie as tie
 use Rattle.server.proofs.memory.find.Reads as reads
@@ -17,13 +17,19 @@ key-at-requires : tie.Need-key-at-requires
 key-at-requires c κs = search needs
 
 returns : tie.Need-returns
-returns c = let a = c .before .before .before .before .before .args in find-above (shelf (a .t)) (a .n) (a .top) (a .memory .now) (a .bytes .now) (c .before .before .part .ensures) (c .before .key-at .ensures) (c .if1 .taken)
+returns c = let a = c .before .before .before .before .before .before .args in find-above (shelf (a .t)) (a .n) (a .top) (a .memory .now) (a .bytes .now) (c .before .before .before .part .ensures) (c .before .before .key-at .ensures) (c .if1 .taken)
+
+stands-at-requires : tie.Need-stands-at-requires
+stands-at-requires c κs = search needs
+
+returns-2 : tie.Need-returns-2
+returns-2 c = let a = c .before .before .before .before .before .before .before .before .args in find-highest (shelf (a .t)) (a .n) (a .top) (a .memory .now) (a .bytes .now) (c .before .before .before .before .before .part .ensures) (c .before .stands-at .ensures (c .if2 .taken))
 
 search-requires : tie.Need-search-requires
 search-requires c κs = search needs
 
-returns-2 : tie.Need-returns-2
-returns-2 c = let a = c .before .before .before .before .before .before .args in find-searched (shelf (a .t)) (a .n) (a .top) (a .memory .now) (a .bytes .now) (c .before .before .before .part .ensures) (c .search .result) (c .search .ensures)
+returns-3 : tie.Need-returns-3
+returns-3 c = let a = c .before .before .before .before .before .before .before .before .before .args in find-searched (shelf (a .t)) (a .n) (a .top) (a .memory .now) (a .bytes .now) (c .before .before .before .before .before .before .part .ensures) (c .search .result) (c .search .ensures)
 
 pub find-spec : {M : Type 1} → statement M
-find-spec = tie.close (tie.spec part-requires key-at-requires returns search-requires returns-2)
+find-spec = tie.close (tie.spec part-requires key-at-requires returns stands-at-requires returns-2 search-requires returns-3)

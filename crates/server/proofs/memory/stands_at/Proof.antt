@@ -1,0 +1,28 @@
+-- The bytes from the place on are compared with the stamp's. Assumes nothing.
+use mathlib.Core.Path.{sym, subst}
+use native.Mathlib.Omega.{arith}
+use borrow.Author.Needs.{needs}
+use lib.Dec.{T}
+use Rattle.server.proofs.Once.{stands}
+use Rattle.server.proofs.memory.stands_at.Statement.{statement}
+use Rattle.server.proofs.memory.stands_at.Tie as tie
+
+returns : tie.Need-returns
+returns c = λ e. absurd (subst T (sym e) tt)
+
+rest-requires : tie.Need-rest-requires
+rest-requires c κs = search needs
+
+part-requires : tie.Need-part-requires
+part-requires c κs = search needs
+
+same-requires : tie.Need-same-requires
+same-requires c κs = search needs
+
+returns-2 : tie.Need-returns-2
+returns-2 c =
+    let a = c .before .before .before .before .before .before .args in
+    λ e. (omega (arith, c .before .before .before .if1 .left), stands (a .memory .now) (a .stamp .now) (a .at) (c .before .before .rest .ensures) (c .before .part .ensures) (c .same .ensures) e)
+
+pub stands-at-spec : {M : Type 1} → statement M
+stands-at-spec = tie.close (tie.spec returns rest-requires part-requires same-requires returns-2)
