@@ -5,7 +5,6 @@ use mathlib.Core.Bool.{Bool, true, false}
 use mathlib.Core.List.{List, [], _∷_, _++_}
 use Prim.Native.Nat.{ℕ, zero, suc, _+_, _-_, _≤_, _<_}
 use native.Mathlib.Omega.{arith}
-use native.Mathlib.Nat.{div-le-self}
 use lib.Dec.{ltb}
 use lib.ListN.{length, take, drop, getD, List·getD-eq-default, length-take, length-drop, length-append}
 use lib.Seq.{take-add, drop-drop, getD-take, getD-drop, length-take-le}
@@ -22,6 +21,7 @@ use Rattle.protocol.specs.Primitives.{stampMessage}
 use Rattle.protocol.specs.View.{part, stampAt, candidateAt, shareAt, shareOfSize}
 use Rattle.protocol.proofs.Formats.{print2-value}
 use Rattle.protocol.proofs.Packets.{head-length}
+use Rattle.wire.proofs.Lengths.{fragment-few}
 use Rattle.wire.specs.Places.{shareSize, lengthAt}
 use Rattle.wire.specs.Make.{packetStep, writeStep}
 use Rattle.client.specs.Steps.{wholePacket}
@@ -100,5 +100,4 @@ part-short d n = short n d
     short (suc n) (x ∷ xs) = let h = short n xs in omega arith
 
 pub fragment-most : (t n r : ℕ) → r ≡ fragmentSize (shelf t .shares) n → r ≤ n + t
-unfolding fragmentSize shelf
-fragment-most t n r e = let d = div-le-self (n + (t + 1) - 1) (t + 1) in omega (arith, e, d)
+fragment-most t n r e = omega (arith, e, fragment-few t n)

@@ -38,11 +38,7 @@ fn share_size(t: usize, n: u32) -> usize
     ensures { λ r. ⌜ r ≡ shareSize (shelf t) n ⌝ }
 {
     let u = t as u8;
-    2
-        + wire::sizes::fragment_size(u, n)
-        + wire::sizes::digests_size(u)
-        + cluster::KEY
-        + wire::sizes::tags_size(u)
+    wire::sizes::share_size(u, n)
 }
 
 // A packet without a body.

@@ -41,9 +41,9 @@ pub fn drill(sheet: &[u8], out: &mut [u8], work: &mut [u8]) -> cluster::Outcome
     if out.len() / rows::ROW < rows_for(lines::count_lines(sheet)) {
         return refused(15);
     }
-    run::clear(work);
+    server::blank::clear(work);
     let n = run::list(sheet, out, work);
-    run::clear(work);
+    server::blank::clear(work);
     cluster::Outcome {
         number: 0,
         count: n,

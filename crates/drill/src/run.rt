@@ -16,17 +16,6 @@ use crate::lines::step_line;
 use crate::sheet::Line;
 use crate::sheet::Read;
 
-// No byte but 00h.
-pub(crate) fn clear(work: &mut [u8])
-    ensures { λ r. ⌜ now (work .exit) ≡ replicate (length (now (work .entry))) 0 ⌝ }
-{
-    let mut i = 0;
-    while i < work.len() {
-        work[i] = 0;
-        i += 1;
-    }
-}
-
 // Every server of the shelf is made blank.
 pub(crate) fn blank_servers(work: &mut [u8], t: usize)
     requires { ⌜ ((1 ≤ t) × (t ≤ topFaults)) × ((length (now work) ≡ workSize) × (now work ≡ replicate (length (now work)) 0)) ⌝ }

@@ -5,16 +5,14 @@ use mathlib.Core.List.{List, [], _∷_, _++_, append-assoc, append-nil}
 use mathlib.Core.Option.{Option, none, some}
 use Prim.Native.Nat.{ℕ, _+_, _-_, _≤_}
 use native.Mathlib.Omega.{arith}
-use native.Mathlib.Nat.{div-le-self}
 use lib.ListN.{length, take, drop, getD, replicate, length-append, length-replicate, drop-of-length-le}
 use lib.Seq.{take-at, drop-at}
 use Rattle.cluster.specs.Config.{Config, shelf}
-use Rattle.erasure.specs.Fragments.{fragmentSize}
 use Rattle.hmac.specs.Hmac.{tagSize}
 use Rattle.protocol.specs.declared.Head.{Head}
 use Rattle.protocol.specs.declared.Stamp.{Stamp}
 use Rattle.protocol.specs.Format.{Bytes, value2, via, seq, orBlank, optional, run}
-use Rattle.protocol.specs.Values.{Write, Share, stampSize, digestSize, digestsSize, tagsSize}
+use Rattle.protocol.specs.Values.{Write, Share, stampSize}
 use Rattle.protocol.specs.Packet.{stampF, anyStampF, shareF, writeF, heldF, headF}
 use Rattle.protocol.specs.Memory.{held}
 use Rattle.protocol.specs.Reading.{Leaves, Wrote}
@@ -23,7 +21,6 @@ use Rattle.protocol.specs.ClientBytes.{Written}
 use Rattle.protocol.specs.ServerBytes.{over}
 use Rattle.protocol.proofs.Answers.{bytes-drop}
 use Rattle.protocol.proofs.Packets.{write-law, stamp-length, share-lengths, share-length}
-use Rattle.protocol.proofs.Packets as packets
 use Rattle.protocol.proofs.Puts.{put-over, wrote-then, wrote-length}
 use Rattle.wire.specs.Places.{lengthAt, shareSize, writeAt}
 use Rattle.wire.specs.Make.{placed, writeStep, packetStep}
@@ -57,14 +54,9 @@ head-made a flag l {j} {k} {e} {f} p q =
     over-all : (d x : List ℕ) → length d ≤ length x → over x d ≡ x
     over-all d x h = unfold over in (ap (λ (y : List ℕ). x ++ y) (drop-of-length-le d h) ∙ append-nil x)
 
-pub fragment-few : (t v : ℕ) → fragmentSize (shelf t .shares) v ≤ v + t
-unfolding fragmentSize shelf
-fragment-few t v = omega (arith, div-le-self (v + (t + 1) - 1) (t + 1))
-
-pub size-made : (s : Config) (d : List ℕ) {v f g k : ℕ} → v ≡ value2 (getD d 0 0) (getD d 1 0) → f ≡ fragmentSize (s .shares) v → g ≡ digestsSize s → k ≡ tagsSize s
-    → 2 + f + g + digestSize + k ≡ shareSize s (lengthAt d)
-unfolding shareSize lengthAt
-size-made s d p q r u = λ i. 2 + (q ∙ ap (fragmentSize (s .shares)) p) i + r i + digestSize + u i
+pub size-made : (t : ℕ) (d : List ℕ) {v k : ℕ} → v ≡ value2 (getD d 0 0) (getD d 1 0) → k ≡ shareSize (shelf t) v → k ≡ shareSize (shelf t) (lengthAt d)
+unfolding lengthAt
+size-made t d p q = q ∙ ap (shareSize (shelf t)) p
 
 pub bytes-made : (s : Config) (d : List ℕ) (at : ℕ) {b x z : List ℕ} {k : ℕ} → b ≡ drop at d → x ≡ drop stampSize b → k ≡ shareSize s (lengthAt x) → z ≡ part x 0 k
     → z ≡ shareBytes s d at
@@ -89,7 +81,7 @@ share-there s {d} {at} {q} f bs =
     let k : length B ≡ shareSize s (lengthAt y) = share-length s (w .share) (share-lengths s (w .share) (f .ok .1)) ∙ size-at s (drop at d) in
     ap (take (shareSize s (lengthAt y))) v ∙ take-at B (drop q d) (shareSize s (lengthAt y)) k
   where
-    size-at : (s : Config) (x : List ℕ) → packets.shareSize s (writeAt s x .share .size) ≡ shareSize s (lengthAt (drop stampSize x))
+    size-at : (s : Config) (x : List ℕ) → shareSize s (writeAt s x .share .size) ≡ shareSize s (lengthAt (drop stampSize x))
     size-at s x = unfold writeAt shareAt shareOfSize shareSize lengthAt in refl
 
 -- ---- the reply

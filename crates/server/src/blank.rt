@@ -6,7 +6,7 @@ ghost use Rattle.server.specs.Blank.{blankLatest};
 use crate::memory::MemoryRead;
 
 // No byte but 00h.
-fn clear(memory: &mut [u8])
+pub fn clear(memory: &mut [u8])
     ensures { λ r. ⌜ now (memory .exit) ≡ replicate (length (now (memory .entry))) 0 ⌝ }
 {
     let mut i = 0;

@@ -100,11 +100,7 @@ fn held_head(stamp: protocol::Stamp, flag: u8) -> [u8; HELD]
 fn share_size(share: &[u8], t: u8) -> usize
     ensures { λ r. ⌜ r ≡ shareSize (shelf t) (lengthAt (now (share .entry))) ⌝ }
 {
-    2
-        + wire::sizes::fragment_size(t, wire::bytes::number2(share))
-        + wire::sizes::digests_size(t)
-        + wire::sizes::DIGEST
-        + wire::sizes::tags_size(t)
+    wire::sizes::share_size(t, wire::bytes::number2(share))
 }
 
 // The share of the stored write at a place.

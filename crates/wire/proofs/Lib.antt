@@ -1,3 +1,4 @@
+pub mod Lengths
 pub mod Joined
 pub mod Runs
 pub mod Put

@@ -2,6 +2,7 @@
 ghost use mathlib.Core.Path.{_≡_};
 ghost use Rattle.cluster.specs.Config.{shelf};
 ghost use Rattle.erasure.specs.Fragments.{fragmentSize};
+ghost use Rattle.protocol.specs.Packet.{shareSize};
 ghost use Rattle.protocol.specs.Values.{digestsSize, tagsSize, candidateSize};
 
 // Bytes of a digest, of a nonce, of a stamp and of a packet's head.
@@ -56,4 +57,11 @@ pub fn fragment_size(t: u8, n: u32) -> usize
         return (size + 4) / 5;
     }
     (size + (t as usize)) / ((t as usize) + 1)
+}
+
+// Bytes of a share of a content of n bytes.
+pub fn share_size(t: u8, n: u32) -> usize
+    ensures { λ r. ⌜ r ≡ shareSize (shelf t) n ⌝ }
+{
+    2 + fragment_size(t, n) + digests_size(t) + DIGEST + tags_size(t)
 }

@@ -6,7 +6,7 @@ use mathlib.Core.Path.{ap}
 use lib.ListN.{length, length-drop}
 use Rattle.cluster.specs.Config.{shelf}
 use Rattle.server.specs.Reads.{frameSize}
-use Rattle.server.proofs.Held.{fragment-few}
+use Rattle.wire.proofs.Lengths.{fragment-few}
 use Rattle.server.proofs.Walk.{Walking, walk-none, walk-end, walk-short, walk-found, walk-more, size-told}
 use Rattle.server.proofs.memory.search.Statement.{statement}
 use Rattle.server.proofs.memory.search.Tie as tie
