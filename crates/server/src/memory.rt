@@ -40,7 +40,7 @@ pub enum MemoryRead {
 }
 
 // The place of the stored writes.
-pub fn writes_place(t: u8) -> usize
+pub(crate) fn writes_place(t: u8) -> usize
     ensures { λ r. ⌜ r ≡ writesPlace (shelf t) ⌝ }
 {
     LATEST + wire::sizes::candidate_size(t)
@@ -98,7 +98,7 @@ fn stands_at(memory: &[u8], at: usize, stamp: &[u8]) -> bool
 }
 
 // The first of n stored writes whose stamp has the bytes that some begin with. A stamp above the highest of them needs no search, nor does that one's own, which is asked for most often.
-pub fn find(memory: &[u8], t: u8, n: usize, top: Top, bytes: &[u8]) -> Found
+pub(crate) fn find(memory: &[u8], t: u8, n: usize, top: Top, bytes: &[u8]) -> Found
     ensures { λ r. ⌜ FindAs (shelf t) n top (now (memory .entry)) (now (bytes .entry)) r ⌝ }
 {
     let stamp = part(bytes, 0, wire::sizes::STAMP);
@@ -163,7 +163,7 @@ fn check_writes(memory: &[u8], t: u8, n: usize) -> Writes
 }
 
 // The whole memory. All bytes after the last write are joined.
-pub fn open(memory: &[u8]) -> MemoryRead
+pub(crate) fn open(memory: &[u8]) -> MemoryRead
     ensures { λ r. ⌜ MemoryAs (now (memory .entry)) r ⌝ }
 {
     if memory.len() != cluster::MEMORY {
