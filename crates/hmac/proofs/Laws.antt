@@ -2,10 +2,10 @@
 -- A digest has 32 bytes, so a tag has as many as it takes of them; a key that fits a block is used as it is; the block of the key's
 -- first i bytes becomes that of i + 1 bytes by one store, since nothing xor x is x;
 -- a block of the key has 64 bytes, so its hash value stands for it. Assumes nothing.
-use mathlib.Core.Path.{_≡_, refl, sym, ap, _∙_}
+use mathlib.Core.Path.{_≡_, sym, ap, _∙_}
 use mathlib.Core.Logic.{_≢_}
 use mathlib.Core.List.{List, [], _∷_, _++_}
-use Prim.Native.Nat.{ℕ, _+_, _≤_, _<_}
+use Prim.Native.Nat.{ℕ, _+_, _<_}
 use native.Mathlib.Omega.{arith}
 use native.Mathlib.Decide.{decLt, ℕ-discrete}
 use native.Mathlib.Numerals.{add-one}

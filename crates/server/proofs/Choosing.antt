@@ -20,7 +20,6 @@ use Rattle.wire.specs.Places.{candidateList}
 use Rattle.server.specs.Reads.{keyOf}
 use Rattle.server.specs.Ranks.{slotOf, rankOf}
 use Rattle.server.specs.Filter.{Listed}
-use Rattle.server.specs.declared.filter.Chosen.the-variants as chosen
 use Rattle.server.proofs.Raising.{below-key}
 use Rattle.server.proofs.Ranking.{last-of, rank-inj, rank-higher, rank-earlier}
 

@@ -2,12 +2,12 @@
 -- other. So a message's whole blocks can be read where they lie, the rest from a copy, and a first block can be taken in beforehand.
 -- Assumes nothing.
 use mathlib.Core.Path.{_≡_, refl, sym, ap, ap₂, _∙_}
-use mathlib.Core.List.{List, [], _∷_, _++_, append-assoc}
-use Prim.Native.Nat.{ℕ, zero, suc, _+_, _-_, _*_, _/_, _%_, _≤_, _<_}
+use mathlib.Core.List.{List, _++_, append-assoc}
+use Prim.Native.Nat.{ℕ, zero, suc, _+_, _-_, _*_, _/_, _<_}
 use native.Mathlib.Omega.{arith}
 use lib.ListN.{length, getD, take, drop, length-append, List·getD-append, take-append-drop}
 use lib.Seq.{getD-append-add, length-take-le, getD-take}
-use Rattle.sha256.specs.Sha256.{tab, wordAt, block, grow, compressOf, hashed, initial, padding, pad, bytesOf, digestFrom, sha256}
+use Rattle.sha256.specs.Sha256.{wordAt, block, grow, compressOf, hashed, initial, padding, pad, bytesOf, digestFrom, sha256}
 use Rattle.sha256.specs.FirstBlock.{digestAfter}
 use Rattle.sha256.proofs.Laws.{tab-ext}
 

@@ -6,7 +6,7 @@ use Prim.Native.Nat.{ℕ, _+_, _-_, _*_, _/_, _%_, _^_, _≤_}
 use native.Mathlib.Omega.{arith}
 use lib.ListN.{length, take, drop, replicate, length-append, length-drop, length-replicate, replicate-append-replicate}
 use lib.Seq.{paste, take-at, take-all, drop-at, drop-append-add}
-use Rattle.sha256.specs.Sha256.{tab, bigEndian, padding, hashed, bytesOf, digestFrom}
+use Rattle.sha256.specs.Sha256.{bigEndian, padding, hashed, bytesOf, digestFrom}
 use Rattle.sha256.specs.Steps.{filled}
 use Rattle.sha256.proofs.Laws.{tab-length}
 use Rattle.sha256.proofs.Hashed.{whole-then-rest}

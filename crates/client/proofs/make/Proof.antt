@@ -5,16 +5,10 @@ use borrow.Author.Needs.{needs}
 use Rattle.client.proofs.make.Statement.{statement}
 use Rattle.client.proofs.make.Tie as tie
 
-make-in-requires : tie.Need-make-in-requires
-make-in-requires c κs = search needs
-
-same-length : tie.Need-same-length
-same-length c = search needs
-
 returns : tie.Need-returns
 returns c =
     let a = c .before .before .before .before .before .before .args in
     c .before .before .make-in .ensures ∙ core-make (a .t) (a .client) (a .server) (a .call) (a .kept .now) (a .out .now) (search needs)
 
 pub make-spec : {M : Type 1} → statement M
-make-spec = tie.close (tie.spec make-in-requires same-length returns)
+make-spec = tie.close (tie.spec (λ c κs. search needs) (λ c. search needs) returns)

@@ -20,9 +20,6 @@ Inv-loop kept t s n₀ i₀ n i = (i ≤ s) × (n ≡ countTo i (enters (candida
 abbrev μ-loop : tie.MeasureT-loop
 μ-loop kept t s n₀ i₀ n i = s - i
 
-is-usable-requires : tie.Need-is-usable-requires Inv-loop μ-loop
-is-usable-requires c κs = search needs
-
 returns : tie.Need-returns Inv-loop μ-loop
 unfolding listedCount
 returns c = rw (sym (c .before .is-usable .ensures .same) ∙ not-true (c .before .is-usable .result) (c .if1 .taken))
@@ -48,9 +45,6 @@ add-n c =
 add-i : tie.Need-add-i Inv-loop μ-loop
 add-i c = let u = c .before .before .before .before .before .is-usable .ensures .told (not-false (c .before .before .before .before .before .is-usable .result) (c .before .before .before .before .if1 .left)) in omega (arith, c .before .before .before .servers .ensures .1, u .high)
 
-loop-less : tie.Need-loop-less Inv-loop μ-loop
-loop-less c = omega arith
-
 loop-again : tie.Need-loop-again Inv-loop μ-loop
 loop-again c =
     let a = c .before .before .before .before .before .before .before .args in
@@ -67,18 +61,5 @@ returns-2 c =
     ∙ sym (gather-count (candidatesIn (shelf (a .t)) (a .kept .now)) (shelf (a .t) .servers)))
 
 pub count-listed-spec : {M : Type 1} → statement M
-count-listed-spec =
-    tie.close
-    (tie.spec
-    Inv-loop
-    μ-loop
-    is-usable-requires
-    returns
-    servers-requires
-    loop-holds
-    entry-requires
-    add-n
-    add-i
-    loop-less
-    loop-again
-    returns-2)
+count-listed-spec = tie.close (tie.spec Inv-loop μ-loop (λ c κs. search needs) returns servers-requires loop-holds entry-requires add-n add-i
+    (λ c. omega arith) loop-again returns-2)

@@ -19,9 +19,6 @@ use Rattle.decide.proofs.Outcomes.{decided-unusable, decided-roomless, 
 use Rattle.decide.proofs.decide.Statement.{statement}
 use Rattle.decide.proofs.decide.Tie as tie
 
-is-usable-requires : tie.Need-is-usable-requires
-is-usable-requires c κs = search needs
-
 returns : tie.Need-returns
 returns c =
     let a = c .before .before .before .before .args in
@@ -85,9 +82,6 @@ rebuild-requires c κs =
       l,
     )
 
-same-length : tie.Need-same-length
-same-length c = search needs
-
 returns-5 : tie.Need-returns-5
 returns-5 c =
     let a = c .before .before .before .before .before .before .before .before .before .before .before .before .before .before .args in
@@ -104,17 +98,5 @@ returns-5 c =
     ((λ i. decisions.Found (c .before .before .before .before .before .before .find .result .slot) (e i) (w .0 i)) ∙ sym (ap (λ (x : Decided). x .answer) d), w .1 ∙ sym (ap (λ (x : Decided). x .output) d))
 
 pub decide-spec : {M : Type 1} → statement M
-decide-spec =
-    tie.close
-    (tie.spec
-    is-usable-requires
-    returns
-    returns-2
-    top-requires
-    returns-3
-    find-requires
-    returns-4
-    sub-rebuild
-    rebuild-requires
-    same-length
-    returns-5)
+decide-spec = tie.close (tie.spec (λ c κs. search needs) returns returns-2 top-requires returns-3 find-requires returns-4 sub-rebuild rebuild-requires
+    (λ c. search needs) returns-5)

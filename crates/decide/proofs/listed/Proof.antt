@@ -11,9 +11,6 @@ use Rattle.decide.proofs.Counted.{bit-one}
 use Rattle.decide.proofs.listed.Statement.{statement}
 use Rattle.decide.proofs.listed.Tie as tie
 
-is-usable-requires : tie.Need-is-usable-requires
-is-usable-requires c κs = search needs
-
 returns : tie.Need-returns
 unfolding listedIn
 returns c = rw (sym (c .before .is-usable .ensures .same) ∙ not-true (c .before .is-usable .result) (c .if1 .taken))
@@ -40,12 +37,4 @@ returns-3 c =
     (bit-one (enters (candidatesIn (shelf (a .t)) (a .kept .now)) (suc (a .i))))
 
 pub listed-spec : {M : Type 1} → statement M
-listed-spec =
-    tie.close
-    (tie.spec
-    is-usable-requires
-    returns
-    servers-requires
-    returns-2
-    entry-requires
-    returns-3)
+listed-spec = tie.close (tie.spec (λ c κs. search needs) returns servers-requires returns-2 entry-requires returns-3)

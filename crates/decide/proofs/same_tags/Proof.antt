@@ -11,9 +11,6 @@ use Rattle.decide.specs.Decided.{sameTagsAt, sameTags}
 use Rattle.decide.proofs.same_tags.Statement.{statement}
 use Rattle.decide.proofs.same_tags.Tie as tie
 
-is-usable-requires : tie.Need-is-usable-requires
-is-usable-requires c κs = search needs
-
 returns : tie.Need-returns
 unfolding sameTags
 returns c = rw (sym (c .before .is-usable .ensures .same) ∙ not-true (c .before .is-usable .result) (c .if1 .taken))
@@ -56,15 +53,5 @@ returns-5 c =
     (c .tags-alike .ensures ∙ ap (sameTagsAt (a .t) (a .kept .now) (a .i)) e)
 
 pub same-tags-spec : {M : Type 1} → statement M
-same-tags-spec =
-    tie.close
-    (tie.spec
-    is-usable-requires
-    returns
-    servers-requires
-    returns-2
-    returns-3
-    servers-requires-2
-    returns-4
-    tags-alike-requires
-    returns-5)
+same-tags-spec = tie.close (tie.spec (λ c κs. search needs) returns servers-requires returns-2 returns-3 servers-requires-2 returns-4
+    tags-alike-requires returns-5)

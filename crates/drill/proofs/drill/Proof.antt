@@ -9,20 +9,8 @@ use borrow.Author.Needs.{needs}
 use Rattle.drill.proofs.drill.Statement.{statement}
 use Rattle.drill.proofs.drill.Tie as tie
 
-refused-requires : tie.Need-refused-requires
-refused-requires c κs = search needs
-
 returns : tie.Need-returns
 returns c = let a = c .before .before .before .before .before .args in rw (c .refused .ensures) (drill-1 (a .sheet .now) (a .out .now) (a .work .now) (c .before .if1 .taken))
-
-count-lines-requires : tie.Need-count-lines-requires
-count-lines-requires c κs = search needs
-
-rows-for-requires : tie.Need-rows-for-requires
-rows-for-requires c κs = search needs
-
-refused-requires-2 : tie.Need-refused-requires-2
-refused-requires-2 c κs = search needs
 
 returns-2 : tie.Need-returns-2
 returns-2 c =
@@ -30,23 +18,11 @@ returns-2 c =
     let m : c .before .before .rows-for .result ≡ rowsFor (length (lines (a .sheet .now))) = c .before .before .rows-for .ensures ∙ ap rowsFor (c .before .before .before .count-lines .ensures) in
     rw (c .refused2 .ensures) (drill-15 (a .sheet .now) (a .out .now) (a .work .now) (c .before .before .before .before .if1 .left) (room-short (length (a .out .now)) _ (rw m at (c .before .if2 .taken))))
 
-clear-requires : tie.Need-clear-requires
-clear-requires c κs = search needs
-
 list-requires : tie.Need-list-requires
 list-requires c κs =
     let a = c .before .before .before .before .before .before .before .before .before .before .before .before .before .args in
     let m : c .before .before .before .before .before .before .before .rows-for .result ≡ rowsFor (length (lines (a .sheet .now))) = c .before .before .before .before .before .before .before .rows-for .ensures ∙ ap rowsFor (c .before .before .before .before .before .before .before .before .count-lines .ensures) in
     ((c .before .before .before .work .given ∙ c .before .before .before .before .before .before .before .before .before .if1 .left, c .before .before .before .before .clear .ensures ∙ ap (λ (n : ℕ). replicate n 0) (sym (c .before .before .before .work .given))), room-fits (length (a .out .now)) _ (rw m at (c .before .before .before .before .before .before .if2 .left)))
-
-clear-requires-2 : tie.Need-clear-requires-2
-clear-requires-2 c κs = search needs
-
-same-length : tie.Need-same-length
-same-length c = search needs
-
-same-length-2 : tie.Need-same-length-2
-same-length-2 c = search needs
 
 returns-3 : tie.Need-returns-3
 returns-3 c =
@@ -56,18 +32,5 @@ returns-3 c =
     (c .before .before .clear2 .ensures ∙ ap (λ (n : ℕ). replicate n 0) (c .before .before .before .before .before .work2 .given ∙ c .before .before .before .before .before .before .before .before .before .before .before .before .work .given))
 
 pub drill-spec : {M : Type 1} → statement M
-drill-spec =
-    tie.close
-    (tie.spec
-    refused-requires
-    returns
-    count-lines-requires
-    rows-for-requires
-    refused-requires-2
-    returns-2
-    clear-requires
-    list-requires
-    clear-requires-2
-    same-length
-    same-length-2
-    returns-3)
+drill-spec = tie.close (tie.spec (λ c κs. search needs) returns (λ c κs. search needs) (λ c κs. search needs) (λ c κs. search needs) returns-2
+    (λ c κs. search needs) list-requires (λ c κs. search needs) (λ c. search needs) (λ c. search needs) returns-3)

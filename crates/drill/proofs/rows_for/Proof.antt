@@ -7,11 +7,8 @@ use Rattle.drill.proofs.rows_for.Tie as tie
 returns : tie.Need-returns
 returns c = rows-one (c .before .args .lines) (c .if1 .taken)
 
-sub-result : tie.Need-sub-result
-sub-result c = search needs
-
 returns-2 : tie.Need-returns-2
 returns-2 c = rows-more (c .before .args .lines) (c .if1 .left)
 
 pub rows-for-spec : {M : Type 1} → statement M
-rows-for-spec = tie.close (tie.spec returns sub-result returns-2)
+rows-for-spec = tie.close (tie.spec returns (λ c. search needs) returns-2)

@@ -15,12 +15,6 @@ use borrow.Author.Needs.{needs}
 use Rattle.erasure.proofs.fragment.Statement.{statement}
 use Rattle.erasure.proofs.fragment.Tie as tie
 
-fragment-refusal-requires : tie.Need-fragment-refusal-requires
-fragment-refusal-requires c κs = search needs
-
-blank-requires : tie.Need-blank-requires
-blank-requires c κs = search needs
-
 returns : tie.Need-returns
 returns c =
     let args = c .before .before .before .before .args in
@@ -131,17 +125,5 @@ returns-3 c =
     ∙ sym (make-accepted (args .t) (args .server) content (ok .faults .1) (ok .number .0) (ok .number .1) e)
 
 pub fragment-spec : {M : Type 1} → statement M
-fragment-spec =
-    tie.close
-    (tie.spec
-    fragment-refusal-requires
-    blank-requires
-    returns
-    shares-of-requires
-    size-requires
-    sub-plain
-    plain-requires
-    returns-2
-    cast-make
-    make-requires
-    returns-3)
+fragment-spec = tie.close (tie.spec (λ c κs. search needs) (λ c κs. search needs) returns shares-of-requires size-requires sub-plain plain-requires
+    returns-2 cast-make make-requires returns-3)

@@ -9,9 +9,6 @@ use borrow.Author.Needs.{needs}
 use Rattle.erasure.proofs.fragment_refusal.Statement.{statement}
 use Rattle.erasure.proofs.fragment_refusal.Tie as tie
 
-outside-requires : tie.Need-outside-requires
-outside-requires c κs = search needs
-
 returns : tie.Need-returns
 returns c =
     let args = c .before .before .args in
@@ -20,18 +17,12 @@ returns c =
 servers-of-requires : tie.Need-servers-of-requires
 servers-of-requires c κs = within-bounds 1 topFaults (c .before .before .args .t) (not-false _ (sym (c .before .outside .ensures) ∙ c .if1 .left)) .1
 
-outside-requires-2 : tie.Need-outside-requires-2
-outside-requires-2 c κs = search needs
-
 returns-2 : tie.Need-returns-2
 returns-2 c =
     let args = c .before .before .before .before .before .args in
     let a = sym (c .before .before .before .before .outside .ensures) ∙ c .before .before .before .if1 .left in
     let b = ap (λ (s : ℕ). not (within 1 s (args .server))) (sym (c .before .before .servers-of .ensures)) ∙ sym (c .before .outside2 .ensures) ∙ c .if2 .taken in
     sym (fragment-tests (args .t) (args .server) (args .n) false true _ a b refl)
-
-outside-requires-3 : tie.Need-outside-requires-3
-outside-requires-3 c κs = search needs
 
 returns-3 : tie.Need-returns-3
 returns-3 c =
@@ -48,14 +39,5 @@ returns-4 c =
     sym (fragment-tests (args .t) (args .server) (args .n) false false false a b (sym (c .before .outside3 .ensures) ∙ c .if3 .left))
 
 pub fragment-refusal-spec : {M : Type 1} → statement M
-fragment-refusal-spec =
-    tie.close
-    (tie.spec
-    outside-requires
-    returns
-    servers-of-requires
-    outside-requires-2
-    returns-2
-    outside-requires-3
-    returns-3
-    returns-4)
+fragment-refusal-spec = tie.close (tie.spec (λ c κs. search needs) returns servers-of-requires (λ c κs. search needs) returns-2 (λ c κs. search needs)
+    returns-3 returns-4)

@@ -6,17 +6,11 @@ use borrow.Author.Needs.{needs}
 use Rattle.erasure.proofs.miscounted.Statement.{statement}
 use Rattle.erasure.proofs.miscounted.Tie as tie
 
-rem-if1 : tie.Need-rem-if1
-rem-if1 c = search needs
-
 returns : tie.Need-returns
 returns c = sym (ap not (not-whole (c .before .args .given) (c .before .args .f) (c .before .args .count) (c .if1 .taken)))
-
-div-result : tie.Need-div-result
-div-result c = search needs
 
 returns-2 : tie.Need-returns-2
 returns-2 c = quotient (c .before .args .given) (c .before .args .f) (c .before .args .count) (search needs) (c .if1 .left)
 
 pub miscounted-spec : {M : Type 1} → statement M
-miscounted-spec = tie.close (tie.spec rem-if1 returns div-result returns-2)
+miscounted-spec = tie.close (tie.spec (λ c. search needs) returns (λ c. search needs) returns-2)

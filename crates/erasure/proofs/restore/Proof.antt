@@ -18,9 +18,6 @@ use borrow.Author.Needs.{needs}
 use Rattle.erasure.proofs.restore.Statement.{statement}
 use Rattle.erasure.proofs.restore.Tie as tie
 
-restore-refusal-requires : tie.Need-restore-refusal-requires
-restore-refusal-requires c κs = search needs
-
 returns : tie.Need-returns
 returns c =
     let args = c .before .before .before .before .before .args in
@@ -114,9 +111,6 @@ rebuild-requires c κs =
           (ok .whole ∙ ap (λ (x : ℕ). length servers * x) (sym f)),
     )
 
-same-length : tie.Need-same-length
-same-length c = search needs
-
 returns-3 : tie.Need-returns-3
 unfolding shelf restoredBytes
 returns-3 c =
@@ -144,15 +138,5 @@ returns-3 c =
     ∙ sym (restore-accepted (args .t) (args .length) servers fragments out (refused-none (args .t) (args .length) servers fragments out e enough))
 
 pub restore-spec : {M : Type 1} → statement M
-restore-spec =
-    tie.close
-    (tie.spec
-    restore-refusal-requires
-    returns
-    shares-of-requires
-    select-requires
-    returns-2
-    size-requires
-    rebuild-requires
-    same-length
-    returns-3)
+restore-spec = tie.close (tie.spec (λ c κs. search needs) returns shares-of-requires select-requires returns-2 size-requires rebuild-requires
+    (λ c. search needs) returns-3)

@@ -16,9 +16,6 @@ use borrow.Author.Needs.{needs}
 use Rattle.erasure.proofs.restore_refusal.Statement.{statement}
 use Rattle.erasure.proofs.restore_refusal.Tie as tie
 
-outside-requires : tie.Need-outside-requires
-outside-requires c κs = search needs
-
 returns : tie.Need-returns
 returns c =
     let args = c .before .before .before .args in
@@ -28,9 +25,6 @@ returns c =
 servers-of-requires : tie.Need-servers-of-requires
 servers-of-requires c κs = within-bounds 1 topFaults (c .before .before .before .args .t) (not-false _ (sym (c .before .outside .ensures) ∙ c .if1 .left)) .1
 
-server-outside-requires : tie.Need-server-outside-requires
-server-outside-requires c κs = search needs
-
 returns-2 : tie.Need-returns-2
 returns-2 c =
     let args = c .before .before .before .before .before .before .args in
@@ -38,9 +32,6 @@ returns-2 c =
     let a = sym (c .before .before .before .before .outside .ensures) ∙ c .before .before .before .if1 .left in
     let b = ap (λ (s : ℕ). not (each (within 1 s) ss)) (sym (c .before .before .servers-of .ensures)) ∙ sym (c .before .server-outside .ensures) ∙ c .if2 .taken in
     sym (argument-tests (args .t) (args .n) ss (args .given) (args .room) false true _ _ _ a b refl refl refl)
-
-outside-requires-2 : tie.Need-outside-requires-2
-outside-requires-2 c κs = search needs
 
 returns-3 : tie.Need-returns-3
 returns-3 c =
@@ -104,19 +95,5 @@ returns-6 c =
     sym (argument-tests (args .t) (args .n) ss (args .given) (args .room) false false false false false a b d (le-ltb (args .room) contentRoom (c .before .before .before .before .if4 .left)) e)
 
 pub restore-refusal-spec : {M : Type 1} → statement M
-restore-refusal-spec =
-    tie.close
-    (tie.spec
-    outside-requires
-    returns
-    servers-of-requires
-    server-outside-requires
-    returns-2
-    outside-requires-2
-    returns-3
-    returns-4
-    shares-of-requires
-    size-requires
-    miscounted-requires
-    returns-5
-    returns-6)
+restore-refusal-spec = tie.close (tie.spec (λ c κs. search needs) returns servers-of-requires (λ c κs. search needs) returns-2 (λ c κs. search needs)
+    returns-3 returns-4 shares-of-requires size-requires miscounted-requires returns-5 returns-6)

@@ -21,15 +21,6 @@ abbrev μ-loop : tie.MeasureT-loop
 loop-holds : tie.Need-loop-holds Inv-loop μ-loop
 loop-holds c = (search needs, λ j h. absurd (omega arith))
 
-shared-slice-read-wide : tie.Need-shared-slice-read-wide Inv-loop μ-loop
-shared-slice-read-wide c = search needs
-
-wide-requires : tie.Need-wide-requires Inv-loop μ-loop
-wide-requires c κs = search needs
-
-outside-requires : tie.Need-outside-requires Inv-loop μ-loop
-outside-requires c κs = search needs
-
 returns : tie.Need-returns Inv-loop μ-loop
 returns c =
     let args = c .before .before .before .before .before .before .before .args in
@@ -39,12 +30,6 @@ returns c =
     let e : within 1 (args .most) (getD ss i 0) ≡ false =
     ap (within 1 (args .most)) (sym (c .before .before .wide .ensures)) ∙ not-true _ (sym (c .before .outside .ensures) ∙ c .if1 .taken) in
     sym (ap not (each-fails (within 1 (args .most)) ss i b e))
-
-add-i : tie.Need-add-i Inv-loop μ-loop
-add-i c = search needs
-
-loop-less : tie.Need-loop-less Inv-loop μ-loop
-loop-less c = search needs
 
 loop-again : tie.Need-loop-again Inv-loop μ-loop
 loop-again c =
@@ -61,17 +46,5 @@ returns-2 c =
     sym (ap not (each-holds (within 1 (args .most)) (denote.Ref.now (args .servers)) (λ i h. c .before .loop .inv .1 i (omega arith))))
 
 pub server-outside-spec : {M : Type 1} → statement M
-server-outside-spec =
-    tie.close
-    (tie.spec
-    Inv-loop
-    μ-loop
-    loop-holds
-    shared-slice-read-wide
-    wide-requires
-    outside-requires
-    returns
-    add-i
-    loop-less
-    loop-again
-    returns-2)
+server-outside-spec = tie.close (tie.spec Inv-loop μ-loop loop-holds (λ c. search needs) (λ c κs. search needs) (λ c κs. search needs) returns
+    (λ c. search needs) (λ c. search needs) loop-again returns-2)

@@ -5,15 +5,9 @@ use borrow.Author.Needs.{needs}
 use Rattle.erasure.proofs.servers_of.Statement.{statement}
 use Rattle.erasure.proofs.servers_of.Tie as tie
 
-mul-result : tie.Need-mul-result
-mul-result c = search needs
-
-add-result : tie.Need-add-result
-add-result c = search needs
-
 returns : tie.Need-returns
 unfolding shelf
 returns c = refl
 
 pub servers-of-spec : {M : Type 1} → statement M
-servers-of-spec = tie.close (tie.spec mul-result add-result returns)
+servers-of-spec = tie.close (tie.spec (λ c. search needs) (λ c. search needs) returns)

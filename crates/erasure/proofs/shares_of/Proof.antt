@@ -5,12 +5,9 @@ use borrow.Author.Needs.{needs}
 use Rattle.erasure.proofs.shares_of.Statement.{statement}
 use Rattle.erasure.proofs.shares_of.Tie as tie
 
-add-result : tie.Need-add-result
-add-result c = search needs
-
 returns : tie.Need-returns
 unfolding shelf
 returns c = refl
 
 pub shares-of-spec : {M : Type 1} → statement M
-shares-of-spec = tie.close (tie.spec add-result returns)
+shares-of-spec = tie.close (tie.spec (λ c. search needs) returns)

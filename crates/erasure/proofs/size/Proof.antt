@@ -5,18 +5,9 @@ use borrow.Author.Needs.{needs}
 use Rattle.erasure.proofs.size.Statement.{statement}
 use Rattle.erasure.proofs.size.Tie as tie
 
-add-result : tie.Need-add-result
-add-result c = search needs
-
-sub-result : tie.Need-sub-result
-sub-result c = search needs
-
-div-result : tie.Need-div-result
-div-result c = search needs
-
 returns : tie.Need-returns
 unfolding fragmentSize
 returns c = refl
 
 pub size-spec : {M : Type 1} → statement M
-size-spec = tie.close (tie.spec add-result sub-result div-result returns)
+size-spec = tie.close (tie.spec (λ c. search needs) (λ c. search needs) (λ c. search needs) returns)

@@ -10,19 +10,10 @@ use Rattle.gf256.proofs.inverse.Tie as tie
 returns : tie.Need-returns
 returns c = sym (ap inverse (c .if1 .taken) ∙ inverse-zero)
 
-log-of-requires : tie.Need-log-of-requires
-log-of-requires c κs = search needs
-
-sub-power-of : tie.Need-sub-power-of
-sub-power-of c = search needs
-
-power-of-requires : tie.Need-power-of-requires
-power-of-requires c κs = search needs
-
 returns-2 : tie.Need-returns-2
 returns-2 c =
     c .power-of .ensures
     ∙ inverse-of-log (c .before .before .before .args .a) (c .before .log-of .result) (omega arith) (omega arith) (c .before .log-of .ensures .0) (c .before .log-of .ensures .1)
 
 pub inverse-spec : {M : Type 1} → statement M
-inverse-spec = tie.close (tie.spec returns log-of-requires sub-power-of power-of-requires returns-2)
+inverse-spec = tie.close (tie.spec returns (λ c κs. search needs) (λ c. search needs) (λ c κs. search needs) returns-2)

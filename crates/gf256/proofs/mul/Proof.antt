@@ -14,18 +14,6 @@ returns c = sym (ap (λ (x : ℕ). times x (c .before .args .b)) (c .if1 .taken)
 returns-2 : tie.Need-returns-2
 returns-2 c = sym (ap (times (c .before .before .args .a)) (c .if2 .taken) ∙ times-zero-r (c .before .before .args .a))
 
-log-of-requires : tie.Need-log-of-requires
-log-of-requires c κs = search needs
-
-log-of-requires-2 : tie.Need-log-of-requires-2
-log-of-requires-2 c κs = search needs
-
-add-power-of : tie.Need-add-power-of
-add-power-of c = search needs
-
-power-of-requires : tie.Need-power-of-requires
-power-of-requires c κs = search needs
-
 returns-3 : tie.Need-returns-3
 returns-3 c =
     c .power-of .ensures
@@ -33,13 +21,4 @@ returns-3 c =
     (c .before .before .log-of .result) (c .before .log-of2 .result) (c .before .before .log-of .ensures .1) (c .before .log-of2 .ensures .1)
 
 pub mul-spec : {M : Type 1} → statement M
-mul-spec =
-    tie.close
-    (tie.spec
-    returns
-    returns-2
-    log-of-requires
-    log-of-requires-2
-    add-power-of
-    power-of-requires
-    returns-3)
+mul-spec = tie.close (tie.spec returns returns-2 (λ c κs. search needs) (λ c κs. search needs) (λ c. search needs) (λ c κs. search needs) returns-3)

@@ -4,14 +4,8 @@ use borrow.Author.Needs.{needs}
 use Rattle.hmac.proofs.hmac.Statement.{statement}
 use Rattle.hmac.proofs.hmac.Tie as tie
 
-prepare-requires : tie.Need-prepare-requires
-prepare-requires c κs = search needs
-
-prepared-hmac-requires : tie.Need-prepared-hmac-requires
-prepared-hmac-requires c κs = search needs
-
 returns : tie.Need-returns
 returns c = cc (prepared-hmac (c .before .before .before .args .key) (c .before .before .before .args .m .now))
 
 pub hmac-spec : {M : Type 1} → statement M
-hmac-spec = tie.close (tie.spec prepare-requires prepared-hmac-requires returns)
+hmac-spec = tie.close (tie.spec (λ c κs. search needs) (λ c κs. search needs) returns)

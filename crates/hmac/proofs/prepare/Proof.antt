@@ -7,18 +7,6 @@ use borrow.Author.Needs.{needs}
 use Rattle.hmac.proofs.prepare.Statement.{statement}
 use Rattle.hmac.proofs.prepare.Tie as tie
 
-masked-requires : tie.Need-masked-requires
-masked-requires c κs = search needs
-
-after-requires : tie.Need-after-requires
-after-requires c κs = search needs
-
-masked-requires-2 : tie.Need-masked-requires-2
-masked-requires-2 c κs = search needs
-
-after-requires-2 : tie.Need-after-requires-2
-after-requires-2 c κs = search needs
-
 returns : tie.Need-returns
 unfolding preparedOf
 returns c =
@@ -27,4 +15,4 @@ returns c =
     cc
 
 pub prepare-spec : {M : Type 1} → statement M
-prepare-spec = tie.close (tie.spec masked-requires after-requires masked-requires-2 after-requires-2 returns)
+prepare-spec = tie.close (tie.spec (λ c κs. search needs) (λ c κs. search needs) (λ c κs. search needs) (λ c κs. search needs) returns)

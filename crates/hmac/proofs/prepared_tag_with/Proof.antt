@@ -7,15 +7,9 @@ use borrow.Author.Needs.{needs}
 use Rattle.hmac.proofs.prepared_tag_with.Statement.{statement}
 use Rattle.hmac.proofs.prepared_tag_with.Tie as tie
 
-prepared-hmac-with-requires : tie.Need-prepared-hmac-with-requires
-prepared-hmac-with-requires c κs = search needs
-
-cut-requires : tie.Need-cut-requires
-cut-requires c κs = search needs
-
 returns : tie.Need-returns
 unfolding preparedTag
 returns c = c .cut .ensures ∙ ap (take tagSize) (c .before .prepared-hmac-with .ensures)
 
 pub prepared-tag-with-spec : {M : Type 1} → statement M
-prepared-tag-with-spec = tie.close (tie.spec prepared-hmac-with-requires cut-requires returns)
+prepared-tag-with-spec = tie.close (tie.spec (λ c κs. search needs) (λ c κs. search needs) returns)

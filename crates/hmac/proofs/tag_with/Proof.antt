@@ -5,14 +5,8 @@ use borrow.Author.Needs.{needs}
 use Rattle.hmac.proofs.tag_with.Statement.{statement}
 use Rattle.hmac.proofs.tag_with.Tie as tie
 
-prepare-requires : tie.Need-prepare-requires
-prepare-requires c κs = search needs
-
-prepared-tag-with-requires : tie.Need-prepared-tag-with-requires
-prepared-tag-with-requires c κs = search needs
-
 returns : tie.Need-returns
 returns c = let a = c .before .before .before .args in cc (prepared-tag (a .key) (a .m .now ++ a .d))
 
 pub tag-with-spec : {M : Type 1} → statement M
-tag-with-spec = tie.close (tie.spec prepare-requires prepared-tag-with-requires returns)
+tag-with-spec = tie.close (tie.spec (λ c κs. search needs) (λ c κs. search needs) returns)

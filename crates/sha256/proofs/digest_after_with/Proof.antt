@@ -10,18 +10,6 @@ use borrow.Author.Needs.{needs}
 use Rattle.sha256.proofs.digest_after_with.Statement.{statement}
 use Rattle.sha256.proofs.digest_after_with.Tie as tie
 
-slice-aggregate-finish : tie.Need-slice-aggregate-finish
-slice-aggregate-finish c = search needs
-
-add-finish : tie.Need-add-finish
-add-finish c = search needs
-
-add-finish-2 : tie.Need-add-finish-2
-add-finish-2 c = search needs
-
-finish-requires : tie.Need-finish-requires
-finish-requires c κs = search needs
-
 returns : tie.Need-returns
 unfolding digestAfter
 returns c =
@@ -33,4 +21,4 @@ returns c =
     cc (append-assoc m (a .t3) (padding n))
 
 pub digest-after-with-spec : {M : Type 1} → statement M
-digest-after-with-spec = tie.close (tie.spec slice-aggregate-finish add-finish add-finish-2 finish-requires returns)
+digest-after-with-spec = tie.close (tie.spec (λ c. search needs) (λ c. search needs) (λ c. search needs) (λ c κs. search needs) returns)

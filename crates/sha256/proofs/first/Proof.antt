@@ -1,7 +1,6 @@
 -- `sha256::first` meets its contract. Assumes nothing.
 use mathlib.Core.Path.{refl}
 use Rattle.sha256.specs.Sha256.{initial}
-use borrow.Author.Needs.{needs}
 use Rattle.sha256.proofs.first.Statement.{statement}
 use Rattle.sha256.proofs.first.Tie as tie
 

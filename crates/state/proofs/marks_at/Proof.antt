@@ -7,18 +7,9 @@ use Rattle.state.specs.State.{marksAt, numbersSize}
 use Rattle.state.proofs.marks_at.Statement.{statement}
 use Rattle.state.proofs.marks_at.Tie as tie
 
-slice-aggregate-put : tie.Need-slice-aggregate-put
-slice-aggregate-put c = search needs
-
-part-requires : tie.Need-part-requires
-part-requires c κs = search needs
-
-put-requires : tie.Need-put-requires
-put-requires c κs = search needs
-
 returns : tie.Need-returns
 unfolding marksAt
 returns c = placed-padded mostServers (c .before .before .before .before .before .args .bytes .now) numbersSize (c .before .before .part .ensures) (c .before .put .ensures)
 
 pub marks-at-spec : {M : Type 1} → statement M
-marks-at-spec = tie.close (tie.spec slice-aggregate-put part-requires put-requires returns)
+marks-at-spec = tie.close (tie.spec (λ c. search needs) (λ c κs. search needs) (λ c κs. search needs) returns)

@@ -11,15 +11,6 @@ slice-aggregate-tag-with c = simp length-take (omega arith)
 slice-aggregate-digest : tie.Need-slice-aggregate-digest
 slice-aggregate-digest c = simp length-take (omega arith)
 
-digest-requires : tie.Need-digest-requires
-digest-requires c κs = search needs
-
-tag-with-requires : tie.Need-tag-with-requires
-tag-with-requires c κs = search needs
-
-tagged-requires : tie.Need-tagged-requires
-tagged-requires c κs = search needs
-
 returns : tie.Need-returns
 returns c = search needs
 
@@ -27,13 +18,5 @@ returns-2 : tie.Need-returns-2
 returns-2 c = search needs
 
 pub stamped-spec : {M : Type 1} → statement M
-stamped-spec =
-    tie.close
-    (tie.spec
-    slice-aggregate-tag-with
-    slice-aggregate-digest
-    digest-requires
-    tag-with-requires
-    tagged-requires
-    returns
-    returns-2)
+stamped-spec = tie.close (tie.spec slice-aggregate-tag-with slice-aggregate-digest (λ c κs. search needs) (λ c κs. search needs)
+    (λ c κs. search needs) returns returns-2)

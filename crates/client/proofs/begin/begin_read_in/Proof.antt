@@ -6,20 +6,11 @@ use borrow.Author.Needs.{needs}
 use Rattle.client.proofs.begin.begin_read_in.Statement.{statement}
 use Rattle.client.proofs.begin.begin_read_in.Tie as tie
 
-not-begun-requires : tie.Need-not-begun-requires
-not-begun-requires c κs = search needs
-
 returns : tie.Need-returns
 returns c =
     let a = c .before .before .before .args in
     let e = read-short (a .t) (a .client) (a .call) (a .kept .now) (c .before .if1 .taken) in
     (rw (e, c .not-begun .ensures), rw e)
-
-read-refusal-requires : tie.Need-read-refusal-requires
-read-refusal-requires c κs = search needs
-
-not-begun-requires-2 : tie.Need-not-begun-requires-2
-not-begun-requires-2 c κs = search needs
 
 returns-2 : tie.Need-returns-2
 returns-2 c =
@@ -27,18 +18,12 @@ returns-2 c =
     let e = read-refused (a .t) (a .client) (a .call) (a .kept .now) (c .before .before .before .if1 .left) _ (c .before .before .read-refusal .ensures) (c .before .if2 .taken) in
     (rw (e, c .not-begun2 .ensures), rw e)
 
-clear-slots-requires : tie.Need-clear-slots-requires
-clear-slots-requires c κs = search needs
-
 next-call-requires : tie.Need-next-call-requires
 next-call-requires c κs =
     let a = c .before .before .before .before .before .before .before .before .args in
     let z = sym (c .before .before .before .before .before .read-refusal .ensures) ∙ c .before .before .before .before .if2 .left in
     let f = read-fits (a .t) (a .client) (a .call) (a .kept .now) z in
     omega arith
-
-same-length : tie.Need-same-length
-same-length c = search needs
 
 returns-3 : tie.Need-returns-3
 returns-3 c =
@@ -48,15 +33,5 @@ returns-3 c =
     (rw (e, c .next-call .ensures), rw e (c .before .before .before .clear-slots .ensures))
 
 pub begin-read-in-spec : {M : Type 1} → statement M
-begin-read-in-spec =
-    tie.close
-    (tie.spec
-    not-begun-requires
-    returns
-    read-refusal-requires
-    not-begun-requires-2
-    returns-2
-    clear-slots-requires
-    next-call-requires
-    same-length
-    returns-3)
+begin-read-in-spec = tie.close (tie.spec (λ c κs. search needs) returns (λ c κs. search needs) (λ c κs. search needs) returns-2 (λ c κs. search needs)
+    next-call-requires (λ c. search needs) returns-3)

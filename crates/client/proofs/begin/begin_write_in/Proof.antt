@@ -6,20 +6,11 @@ use borrow.Author.Needs.{needs}
 use Rattle.client.proofs.begin.begin_write_in.Statement.{statement}
 use Rattle.client.proofs.begin.begin_write_in.Tie as tie
 
-not-begun-requires : tie.Need-not-begun-requires
-not-begun-requires c κs = search needs
-
 returns : tie.Need-returns
 returns c =
     let a = c .before .before .before .before .args in
     let e = write-short (a .t) (a .client) (a .call) (a .kept .now) (a .content .now) (a .nonce .now) (c .before .if1 .taken) in
     (rw (e, c .not-begun .ensures), rw e)
-
-write-refusal-requires : tie.Need-write-refusal-requires
-write-refusal-requires c κs = search needs
-
-not-begun-requires-2 : tie.Need-not-begun-requires-2
-not-begun-requires-2 c κs = search needs
 
 returns-2 : tie.Need-returns-2
 returns-2 c =
@@ -48,9 +39,6 @@ next-call-requires c κs =
     let f = write-fits (a .t) (a .client) (a .call) (a .kept .now) (a .content .now) (a .nonce .now) z in
     omega arith
 
-same-length : tie.Need-same-length
-same-length c = search needs
-
 returns-3 : tie.Need-returns-3
 returns-3 c =
     let a = c .before .before .before .before .before .before .before .before .before .before .before .args in
@@ -59,16 +47,5 @@ returns-3 c =
     (rw (e, c .next-call .ensures), rw e (c .before .before .before .keep-write .ensures))
 
 pub begin-write-in-spec : {M : Type 1} → statement M
-begin-write-in-spec =
-    tie.close
-    (tie.spec
-    not-begun-requires
-    returns
-    write-refusal-requires
-    not-begun-requires-2
-    returns-2
-    keep-write-requires
-    cast-next-call
-    next-call-requires
-    same-length
-    returns-3)
+begin-write-in-spec = tie.close (tie.spec (λ c κs. search needs) returns (λ c κs. search needs) (λ c κs. search needs) returns-2 keep-write-requires
+    cast-next-call next-call-requires (λ c. search needs) returns-3)

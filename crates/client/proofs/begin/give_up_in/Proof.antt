@@ -9,21 +9,12 @@ use borrow.Author.Needs.{needs}
 use Rattle.client.proofs.begin.give_up_in.Statement.{statement}
 use Rattle.client.proofs.begin.give_up_in.Tie as tie
 
-abort-refusal-requires : tie.Need-abort-refusal-requires
-abort-refusal-requires c κs = search needs
-
 returns : tie.Need-returns
 unfolding giveUp
 returns c =
     let a = c .before .before .before .args in
     let e = c .before .abort-refusal .ensures in
     rw (e, refused (abortRefusal (shelf (a .t)) (a .client) (inHand (a .call))) _ _ (λ z. c .if1 .taken (e ∙ z)))
-
-fresh-tally-requires : tie.Need-fresh-tally-requires
-fresh-tally-requires c κs = search needs
-
-with-tally-requires : tie.Need-with-tally-requires
-with-tally-requires c κs = search needs
 
 returns-2 : tie.Need-returns-2
 unfolding giveUp
@@ -42,12 +33,4 @@ returns-3 c =
     rw (accepted (abortRefusal (shelf (a .t)) (a .client) (inHand (a .call))) _ _ z, ne-eqb (a .call .tally .round) 3 (c .if2 .left), c .before .with-tally .ensures, c .before .before .fresh-tally .ensures)
 
 pub give-up-in-spec : {M : Type 1} → statement M
-give-up-in-spec =
-    tie.close
-    (tie.spec
-    abort-refusal-requires
-    returns
-    fresh-tally-requires
-    with-tally-requires
-    returns-2
-    returns-3)
+give-up-in-spec = tie.close (tie.spec (λ c κs. search needs) returns (λ c κs. search needs) (λ c κs. search needs) returns-2 returns-3)

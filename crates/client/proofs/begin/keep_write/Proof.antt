@@ -4,17 +4,8 @@ use borrow.Author.Needs.{needs}
 use Rattle.client.proofs.begin.keep_write.Statement.{statement}
 use Rattle.client.proofs.begin.keep_write.Tie as tie
 
-write-at-requires : tie.Need-write-at-requires
-write-at-requires c κs = search needs
-
-write-at-requires-2 : tie.Need-write-at-requires-2
-write-at-requires-2 c κs = search needs
-
-same-length : tie.Need-same-length
-same-length c = search needs
-
 returns : tie.Need-returns
 returns c = c .before .before .write-at2 .ensures ∙ rw (c .before .before .before .before .before .before .write-at .ensures)
 
 pub keep-write-spec : {M : Type 1} → statement M
-keep-write-spec = tie.close (tie.spec write-at-requires write-at-requires-2 same-length returns)
+keep-write-spec = tie.close (tie.spec (λ c κs. search needs) (λ c κs. search needs) (λ c. search needs) returns)

@@ -4,14 +4,8 @@ use borrow.Author.Needs.{needs}
 use Rattle.client.proofs.begin.next_call.Statement.{statement}
 use Rattle.client.proofs.begin.next_call.Tie as tie
 
-fresh-tally-requires : tie.Need-fresh-tally-requires
-fresh-tally-requires c κs = search needs
-
-add-t7 : tie.Need-add-t7
-add-t7 c = search needs
-
 returns : tie.Need-returns
 returns c = rw (c .before .fresh-tally .ensures, add-one (c .before .before .args .call .number))
 
 pub next-call-spec : {M : Type 1} → statement M
-next-call-spec = tie.close (tie.spec fresh-tally-requires add-t7 returns)
+next-call-spec = tie.close (tie.spec (λ c κs. search needs) (λ c. search needs) returns)

@@ -5,9 +5,6 @@ use borrow.Author.Needs.{needs}
 use Rattle.client.proofs.begin.read_by_value.Statement.{statement}
 use Rattle.client.proofs.begin.read_by_value.Tie as tie
 
-begin-read-in-requires : tie.Need-begin-read-in-requires
-begin-read-in-requires c κs = search needs
-
 returns : tie.Need-returns
 returns c =
     let a = c .before .before .args in
@@ -16,4 +13,4 @@ returns c =
     (r .0 ∙ rw e, r .1 ∙ rw e)
 
 pub read-by-value-spec : {M : Type 1} → statement M
-read-by-value-spec = tie.close (tie.spec begin-read-in-requires returns)
+read-by-value-spec = tie.close (tie.spec (λ c κs. search needs) returns)

@@ -5,9 +5,6 @@ use borrow.Author.Needs.{needs}
 use Rattle.client.proofs.begin.write_by_value.Statement.{statement}
 use Rattle.client.proofs.begin.write_by_value.Tie as tie
 
-begin-write-in-requires : tie.Need-begin-write-in-requires
-begin-write-in-requires c κs = search needs
-
 returns : tie.Need-returns
 returns c =
     let a = c .before .before .before .args in
@@ -16,4 +13,4 @@ returns c =
     (r .0 ∙ rw e, r .1 ∙ rw e)
 
 pub write-by-value-spec : {M : Type 1} → statement M
-write-by-value-spec = tie.close (tie.spec begin-write-in-requires returns)
+write-by-value-spec = tie.close (tie.spec (λ c κs. search needs) returns)

@@ -6,9 +6,6 @@ use borrow.Author.Needs.{needs}
 use Rattle.client.proofs.clock.clock_refusal.Statement.{statement}
 use Rattle.client.proofs.clock.clock_refusal.Tie as tie
 
-is-over-requires : tie.Need-is-over-requires
-is-over-requires c κs = search needs
-
 returns : tie.Need-returns
 returns c = rw (sym (c .before .is-over .ensures) ∙ c .if1 .taken)
 
@@ -19,4 +16,4 @@ returns-3 : tie.Need-returns-3
 returns-3 c = rw (sym (c .before .before .is-over .ensures) ∙ c .before .if1 .left, le-ltb (c .before .before .before .args .room) contentRoom (c .if2 .left))
 
 pub clock-refusal-spec : {M : Type 1} → statement M
-clock-refusal-spec = tie.close (tie.spec is-over-requires returns returns-2 returns-3)
+clock-refusal-spec = tie.close (tie.spec (λ c κs. search needs) returns returns-2 returns-3)

@@ -4,9 +4,6 @@ use borrow.Author.Needs.{needs}
 use Rattle.client.proofs.clock.is_over.Statement.{statement}
 use Rattle.client.proofs.clock.is_over.Tie as tie
 
-is-last-requires : tie.Need-is-last-requires
-is-last-requires c κs = search needs
-
 returns : tie.Need-returns
 returns c = rw (sym (c .before .is-last .ensures) ∙ c .if1 .taken)
 
@@ -14,4 +11,4 @@ returns-2 : tie.Need-returns-2
 returns-2 c = rw (sym (c .before .is-last .ensures) ∙ c .if1 .left)
 
 pub is-over-spec : {M : Type 1} → statement M
-is-over-spec = tie.close (tie.spec is-last-requires returns returns-2)
+is-over-spec = tie.close (tie.spec (λ c κs. search needs) returns returns-2)

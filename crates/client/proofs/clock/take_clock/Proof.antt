@@ -13,20 +13,11 @@ use borrow.Author.Needs.{needs}
 use Rattle.client.proofs.clock.take_clock.Statement.{statement}
 use Rattle.client.proofs.clock.take_clock.Tie as tie
 
-rest-requires : tie.Need-rest-requires
-rest-requires c κs = search needs
-
 higher-requires : tie.Need-higher-requires
 higher-requires c κs =
     let a = c .before .before .before .args in
     let p = c .before .before .before .pre in
     rw (c .rest .ensures) (omega (arith, clock-long (a .t) (a .client) (a .call) (a .reply .now) (a .head) (p .0) (λ k. c .before .shared-slice-known .given k .fits) (p .1 .0)))
-
-with-high-requires : tie.Need-with-high-requires
-with-high-requires c κs = search needs
-
-cast-note-reply : tie.Need-cast-note-reply
-cast-note-reply c = search needs
 
 note-reply-requires : tie.Need-note-reply-requires
 note-reply-requires c κs =
@@ -39,9 +30,6 @@ clock-refusal-requires c κs =
     let a = c .before .before .before .before .before .before .before .args in
     let p = c .before .before .before .before .before .before .before .pre in
     ready-faults (a .t) (a .client) (a .call) (a .reply .now) (a .head) (p .0) .1
-
-refused-requires : tie.Need-refused-requires
-refused-requires c κs = search needs
 
 returns : tie.Need-returns
 returns c =
@@ -66,9 +54,6 @@ end-clock-requires c κs =
     let b = clock-below (a .t) (a .client) (a .call) (a .reply .now) (a .head) (p .0) (a .writers .now) (a .keys .now) (a .kept .now) [] (p .1 .0) (c .before .before .before .before .clock-refusal .result) (a .room) (c .before .before .before .before .before .before .before .before .higher .result) (c .before .before .before .before .clock-refusal .ensures) (c .before .before .before .if1 .left) e n in
     (f .0, (f .1, (ready-client (a .t) (a .client) (a .call) (a .reply .now) (a .head) (p .0) .1, (p .1 .1, b))))
 
-same-length : tie.Need-same-length
-same-length c = search needs
-
 returns-2 : tie.Need-returns-2
 returns-2 c =
     let a = c .before .before .before .before .before .before .before .before .before .before .before .before .before .before .before .args in
@@ -76,9 +61,6 @@ returns-2 c =
     let e : c .before .before .before .before .before .before .before .before .before .before .before .higher .result ≡ higher real (a .writers .now) (a .call .high) (stampAt (drop headSize (a .reply .now))) = c .before .before .before .before .before .before .before .before .before .before .before .higher .ensures ∙ rw (c .before .before .before .before .before .before .before .before .before .before .before .before .rest .ensures) in
     let n = sym (c .before .before .before .before .before .is-last .ensures) ∙ c .before .before .before .before .if2 .taken in
     λ output l. rw (c .before .before .end-clock .ensures .0, c .before .before .end-clock .ensures .1) (clock-ended (a .t) (a .client) (a .call) (a .reply .now) (a .head) (p .0) (a .writers .now) (a .keys .now) (a .kept .now) output (p .1 .0) (c .before .before .before .before .before .before .before .clock-refusal .result) (a .room) (c .before .before .before .before .before .before .before .before .before .before .before .higher .result) (c .before .before .before .before .before .before .before .clock-refusal .ensures) (c .before .before .before .before .before .before .if1 .left) e l n)
-
-more-requires : tie.Need-more-requires
-more-requires c κs = search needs
 
 returns-3 : tie.Need-returns-3
 returns-3 c =
@@ -89,20 +71,6 @@ returns-3 c =
     λ output l. rw (c .more .ensures, c .before .before .before .before .before .note-reply .ensures, c .before .before .before .before .before .before .before .with-high .ensures) (clock-noted (a .t) (a .client) (a .call) (a .reply .now) (a .head) (p .0) (a .writers .now) (a .keys .now) (a .kept .now) output (p .1 .0) (c .before .before .before .before .clock-refusal .result) (a .room) (c .before .before .before .before .before .before .before .before .higher .result) (c .before .before .before .before .clock-refusal .ensures) (c .before .before .before .if1 .left) e l n)
 
 pub take-clock-spec : {M : Type 1} → statement M
-take-clock-spec =
-    tie.close
-    (tie.spec
-    rest-requires
-    higher-requires
-    with-high-requires
-    cast-note-reply
-    note-reply-requires
-    clock-refusal-requires
-    refused-requires
-    returns
-    is-last-requires
-    end-clock-requires
-    same-length
-    returns-2
-    more-requires
+take-clock-spec = tie.close (tie.spec (λ c κs. search needs) higher-requires (λ c κs. search needs) (λ c. search needs) note-reply-requires
+    clock-refusal-requires (λ c κs. search needs) returns is-last-requires end-clock-requires (λ c. search needs) returns-2 (λ c κs. search needs)
     returns-3)

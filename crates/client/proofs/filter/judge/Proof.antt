@@ -15,33 +15,6 @@ use Rattle.client.proofs.Judged.{judged-wait, judged-blank, judged-foun
 use Rattle.client.proofs.filter.judge.Statement.{statement}
 use Rattle.client.proofs.filter.judge.Tie as tie
 
-slice-aggregate-decide : tie.Need-slice-aggregate-decide
-slice-aggregate-decide c = search needs
-
-decide-requires : tie.Need-decide-requires
-decide-requires c κs = search needs
-
-enum-told : tie.Need-enum-told
-enum-told c = search needs
-
-more-requires : tie.Need-more-requires
-more-requires c κs = search needs
-
-enum-told-2 : tie.Need-enum-told-2
-enum-told-2 c = search needs
-
-enter-requires : tie.Need-enter-requires
-enter-requires c κs = search needs
-
-enum-known-decision : tie.Need-enum-known-decision
-enum-known-decision c = search needs
-
-slice-aggregate-part : tie.Need-slice-aggregate-part
-slice-aggregate-part c = search needs
-
-part-requires : tie.Need-part-requires
-part-requires c κs = search needs
-
 found-requires : tie.Need-found-requires
 found-requires c κs =
     let a = c .before .before .before .before .before .before .before .before .before .before .before .before .before .before .before .args in
@@ -55,27 +28,15 @@ found-requires c κs =
     let q : length (c .before .before .part .result .now) ≤ length (c .before .before .before .before .before .before .before .before .decide .last .1 .1 .1 .0) = rw (c .before .before .part .ensures) (part-short (c .before .before .before .before .before .before .before .before .decide .last .1 .1 .1 .0) (d .0 .1 .1 .0)) in
     (p .1 .0, (omega (arith, r .0), (r .1 .0, (omega (arith, r .1 .1), (p .1 .1 .0, (omega (arith, q, z), p .1 .1 .1))))))
 
-same-length : tie.Need-same-length
-same-length c = search needs
-
 returns : tie.Need-returns
 returns c =
     let a = c .before .before .before .before .before .before .before .before .before .before .before .args in
     rw (c .more .ensures) (judged-wait (a .t) (a .call) (a .kept .now) (a .out .now) (sym (c .before .before .before .before .decide .ensures .0) ∙ c .before .enum-told .given .1))
 
-same-length-2 : tie.Need-same-length-2
-same-length-2 c = search needs
-
 returns-2 : tie.Need-returns-2
 returns-2 c =
     let a = c .before .before .before .before .before .before .before .before .before .before .before .args in
     rw (c .enter .ensures) (judged-blank (a .t) (a .call) (a .kept .now) (a .out .now) (sym (c .before .before .before .before .decide .ensures .0) ∙ c .before .enum-told2 .given .1))
-
-same-length-3 : tie.Need-same-length-3
-same-length-3 c = search needs
-
-same-length-4 : tie.Need-same-length-4
-same-length-4 c = search needs
 
 returns-3 : tie.Need-returns-3
 returns-3 c =
@@ -86,23 +47,6 @@ returns-3 c =
     (c .before .before .before .before .before .before .before .part .ensures ∙ ap (λ (x : List ℕ). part x 0 (d .0 .1 .1 .0)) (c .before .before .before .before .before .before .before .before .before .before .before .before .before .decide .ensures .1))
 
 pub judge-spec : {M : Type 1} → statement M
-judge-spec =
-    tie.close
-    (tie.spec
-    slice-aggregate-decide
-    decide-requires
-    enum-told
-    more-requires
-    enum-told-2
-    enter-requires
-    enum-known-decision
-    slice-aggregate-part
-    part-requires
-    found-requires
-    same-length
-    returns
-    same-length-2
-    returns-2
-    same-length-3
-    same-length-4
-    returns-3)
+judge-spec = tie.close (tie.spec (λ c. search needs) (λ c κs. search needs) (λ c. search needs) (λ c κs. search needs) (λ c. search needs)
+    (λ c κs. search needs) (λ c. search needs) (λ c. search needs) (λ c κs. search needs) found-requires (λ c. search needs) returns
+    (λ c. search needs) returns-2 (λ c. search needs) (λ c. search needs) returns-3)

@@ -5,21 +5,9 @@ use Rattle.protocol.specs.View.{candidatesIn, candidateAt, stampAt}
 use Rattle.client.proofs.filter.number_in.Statement.{statement}
 use Rattle.client.proofs.filter.number_in.Tie as tie
 
-mul-part : tie.Need-mul-part
-mul-part c = search needs
-
-add-part : tie.Need-add-part
-add-part c = search needs
-
-part-requires : tie.Need-part-requires
-part-requires c κs = search needs
-
-number4-requires : tie.Need-number4-requires
-number4-requires c κs = search needs
-
 returns : tie.Need-returns
 unfolding candidatesIn candidateAt stampAt
 returns c = rw (c .number4 .ensures, c .before .part .ensures, lt-ltb (c .before .before .before .args .i) 13 (c .before .before .before .pre))
 
 pub number-in-spec : {M : Type 1} → statement M
-number-in-spec = tie.close (tie.spec mul-part add-part part-requires number4-requires returns)
+number-in-spec = tie.close (tie.spec (λ c. search needs) (λ c. search needs) (λ c κs. search needs) (λ c κs. search needs) returns)

@@ -15,27 +15,6 @@ use Rattle.client.proofs.Repairs.{repair-cut}
 use Rattle.client.proofs.filter.repair_with.Statement.{statement}
 use Rattle.client.proofs.filter.repair_with.Tie as tie
 
-slice-aggregate-put-repair : tie.Need-slice-aggregate-put-repair
-slice-aggregate-put-repair c = search needs
-
-put-repair-requires : tie.Need-put-repair-requires
-put-repair-requires c κs = search needs
-
-write-at-requires : tie.Need-write-at-requires
-write-at-requires c κs = search needs
-
-cast-candidate-size : tie.Need-cast-candidate-size
-cast-candidate-size c = search needs
-
-candidate-size-requires : tie.Need-candidate-size-requires
-candidate-size-requires c κs = search needs
-
-slice-aggregate-part : tie.Need-slice-aggregate-part
-slice-aggregate-part c = search needs
-
-part-requires : tie.Need-part-requires
-part-requires c κs = search needs
-
 write-at-requires-2 : tie.Need-write-at-requires-2
 unfolding shelf
 write-at-requires-2 c κs =
@@ -43,15 +22,6 @@ write-at-requires-2 c κs =
     let z : n ≡ 69 + 32 * (3 * c .before .before .before .before .before .before .before .before .before .before .before .before .before .before .args .t + 1) = c .before .before .before .candidate-size .ensures in
     let q : length (c .part .result .now) ≤ n = rw (c .part .ensures) (part-most (c .before .before .before .before .before .before .before .before .before .put-repair .last .0) 0 n) in
     omega (arith, c .before .before .before .before .before .before .before .before .before .before .before .before .before .before .pre .0, c .before .before .before .before .before .before .before .before .before .before .before .before .before .before .pre .1 .1 .1 .1 .0)
-
-cast-repairing : tie.Need-cast-repairing
-cast-repairing c = search needs
-
-repairing-requires : tie.Need-repairing-requires
-repairing-requires c κs = search needs
-
-same-length : tie.Need-same-length
-same-length c = search needs
 
 returns : tie.Need-returns
 returns c =
@@ -66,18 +36,5 @@ returns c =
     (c .repairing .ensures, c .before .before .before .write-at2 .ensures ∙ rw (c .before .before .before .before .part .ensures, c .before .before .before .before .before .before .before .candidate-size .ensures, c .before .before .before .before .before .before .before .before .before .before .write-at .ensures, k))
 
 pub repair-with-spec : {M : Type 1} → statement M
-repair-with-spec =
-    tie.close
-    (tie.spec
-    slice-aggregate-put-repair
-    put-repair-requires
-    write-at-requires
-    cast-candidate-size
-    candidate-size-requires
-    slice-aggregate-part
-    part-requires
-    write-at-requires-2
-    cast-repairing
-    repairing-requires
-    same-length
-    returns)
+repair-with-spec = tie.close (tie.spec (λ c. search needs) (λ c κs. search needs) (λ c κs. search needs) (λ c. search needs) (λ c κs. search needs)
+    (λ c. search needs) (λ c κs. search needs) write-at-requires-2 (λ c. search needs) (λ c κs. search needs) (λ c. search needs) returns)

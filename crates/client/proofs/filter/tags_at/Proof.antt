@@ -9,26 +9,11 @@ use Rattle.client.proofs.Printed.{fragment-most}
 use Rattle.client.proofs.filter.tags_at.Statement.{statement}
 use Rattle.client.proofs.filter.tags_at.Tie as tie
 
-cast-u : tie.Need-cast-u
-cast-u c = search needs
-
-add-result : tie.Need-add-result
-add-result c = search needs
-
-cast-fragment-size : tie.Need-cast-fragment-size
-cast-fragment-size c = search needs
-
-fragment-size-requires : tie.Need-fragment-size-requires
-fragment-size-requires c κs = search needs
-
 add-result-2 : tie.Need-add-result-2
 add-result-2 c =
     let a = c .before .args in
     let f : c .fragment-size .result ≤ a .n + a .t = fragment-most (a .t) (a .n) (c .fragment-size .result) (c .fragment-size .ensures) in
     omega (arith, c .before .pre .0, c .before .pre .1)
-
-digests-size-requires : tie.Need-digests-size-requires
-digests-size-requires c κs = search needs
 
 add-result-3 : tie.Need-add-result-3
 unfolding shelf
@@ -55,4 +40,5 @@ returns c =
     (rw (c .digests-size .ensures, c .before .fragment-size .ensures), omega (arith, c .before .before .pre .0, c .before .before .pre .1))
 
 pub tags-at-spec : {M : Type 1} → statement M
-tags-at-spec = tie.close (tie.spec cast-u add-result cast-fragment-size fragment-size-requires add-result-2 digests-size-requires add-result-3 add-result-4 returns)
+tags-at-spec = tie.close (tie.spec (λ c. search needs) (λ c. search needs) (λ c. search needs) (λ c κs. search needs) add-result-2
+    (λ c κs. search needs) add-result-3 add-result-4 returns)

@@ -13,12 +13,6 @@ use Rattle.client.proofs.FilterReplies.{body-fits, filter-more, filter-
 use Rattle.client.proofs.filter.take_filter.Statement.{statement}
 use Rattle.client.proofs.filter.take_filter.Tie as tie
 
-cast-server : tie.Need-cast-server
-cast-server c = search needs
-
-rest-requires : tie.Need-rest-requires
-rest-requires c κs = search needs
-
 put-reply-requires : tie.Need-put-reply-requires
 put-reply-requires c κs =
     let a = c .before .before .before .before .before .before .args in
@@ -44,12 +38,6 @@ judge-requires c κs =
     let r = ready-faults (a .t) (a .client) (a .call) (a .reply .now) (a .head) (p .0) in
     (r .0, (r .1, (omega (arith, p .1 .1 .0), p .1 .1 .1)))
 
-same-length : tie.Need-same-length
-same-length c = search needs
-
-same-length-2 : tie.Need-same-length-2
-same-length-2 c = search needs
-
 returns : tie.Need-returns
 returns c =
     let a = c .before .before .before .before .before .before .before .before .before .before .before .before .before .before .before .before .before .before .before .args in
@@ -63,12 +51,6 @@ returns c =
     c .before .before .before .before .judge .ensures ∙ rw (c .before .before .before .before .before .before .before .before .before .note-reply .ensures, c .before .before .before .before .before .before .before .before .before .before .before .before .put-reply .ensures, c .before .before .before .before .before .before .before .before .before .before .before .before .before .rest .ensures)
     (filter-ends (a .t) (a .client) (a .call) (a .reply .now) (a .head) (p .0) (p .1 .0) Y writers keys (a .kept .now) (a .out .now) (p .1 .1 .1) (p .1 .1 .0) K e)
 
-more-requires : tie.Need-more-requires
-more-requires c κs = search needs
-
-same-length-3 : tie.Need-same-length-3
-same-length-3 c = search needs
-
 returns-2 : tie.Need-returns-2
 returns-2 c =
     let a = c .before .before .before .before .before .before .before .before .before .before .before .before .before .args in
@@ -80,18 +62,5 @@ returns-2 c =
     (filter-more (a .t) (a .client) (a .call) (a .reply .now) (a .head) (p .0) (p .1 .0) Y writers keys (a .kept .now) (a .out .now) (p .1 .1 .1) e)
 
 pub take-filter-spec : {M : Type 1} → statement M
-take-filter-spec =
-    tie.close
-    (tie.spec
-    cast-server
-    rest-requires
-    put-reply-requires
-    note-reply-requires
-    is-last-requires
-    judge-requires
-    same-length
-    same-length-2
-    returns
-    more-requires
-    same-length-3
-    returns-2)
+take-filter-spec = tie.close (tie.spec (λ c. search needs) (λ c κs. search needs) put-reply-requires note-reply-requires is-last-requires
+    judge-requires (λ c. search needs) (λ c. search needs) returns (λ c κs. search needs) (λ c. search needs) returns-2)

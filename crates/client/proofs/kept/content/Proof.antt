@@ -6,12 +6,6 @@ use borrow.Author.Needs.{needs}
 use Rattle.client.proofs.kept.content.Statement.{statement}
 use Rattle.client.proofs.kept.content.Tie as tie
 
-content-length-requires : tie.Need-content-length-requires
-content-length-requires c κs = search needs
-
-part-requires : tie.Need-part-requires
-part-requires c κs = search needs
-
 returns : tie.Need-returns
 unfolding contentOf
 returns c =
@@ -20,4 +14,4 @@ returns c =
     (rw (e, n .0), le-trans (rw e (part-most (c .before .before .before .args .kept .now) 0 (c .before .content-length .result))) (n .1))
 
 pub content-spec : {M : Type 1} → statement M
-content-spec = tie.close (tie.spec content-length-requires part-requires returns)
+content-spec = tie.close (tie.spec (λ c κs. search needs) (λ c κs. search needs) returns)

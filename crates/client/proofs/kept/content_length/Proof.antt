@@ -6,9 +6,6 @@ use borrow.Author.Needs.{needs}
 use Rattle.client.proofs.kept.content_length.Statement.{statement}
 use Rattle.client.proofs.kept.content_length.Tie as tie
 
-cast-n : tie.Need-cast-n
-cast-n c = search needs
-
 returns : tie.Need-returns
 returns c = (sym (rw (le-leb (c .before .before .args .call .length) 1024 (omega arith))), omega arith)
 
@@ -16,4 +13,4 @@ returns-2 : tie.Need-returns-2
 returns-2 c = (sym (rw (lt-leb (c .before .before .args .call .length) 1024 (omega arith))), omega arith)
 
 pub content-length-spec : {M : Type 1} → statement M
-content-length-spec = tie.close (tie.spec cast-n returns returns-2)
+content-length-spec = tie.close (tie.spec (λ c. search needs) returns returns-2)

@@ -5,14 +5,8 @@ use borrow.Author.Needs.{needs}
 use Rattle.client.proofs.kept.nonce.Statement.{statement}
 use Rattle.client.proofs.kept.nonce.Tie as tie
 
-part-requires : tie.Need-part-requires
-part-requires c κs = search needs
-
-nonce-of-requires : tie.Need-nonce-of-requires
-nonce-of-requires c κs = search needs
-
 returns : tie.Need-returns
 returns c = c .nonce-of .ensures ∙ rw (c .before .part .ensures) (nonce-whole (c .before .before .before .args .kept .now) (c .before .before .before .pre))
 
 pub nonce-spec : {M : Type 1} → statement M
-nonce-spec = tie.close (tie.spec part-requires nonce-of-requires returns)
+nonce-spec = tie.close (tie.spec (λ c κs. search needs) (λ c κs. search needs) returns)

@@ -4,14 +4,8 @@ use borrow.Author.Needs.{needs}
 use Rattle.client.proofs.kept.write_at.Statement.{statement}
 use Rattle.client.proofs.kept.write_at.Tie as tie
 
-put-requires : tie.Need-put-requires
-put-requires c κs = search needs
-
-same-length : tie.Need-same-length
-same-length c = search needs
-
 returns : tie.Need-returns
 returns c = placed-wrote (c .before .before .put .ensures) (c .before .before .before .before .before .before .pre) .bytes
 
 pub write-at-spec : {M : Type 1} → statement M
-write-at-spec = tie.close (tie.spec put-requires same-length returns)
+write-at-spec = tie.close (tie.spec (λ c κs. search needs) (λ c. search needs) returns)

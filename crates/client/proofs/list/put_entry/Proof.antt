@@ -18,38 +18,11 @@ use borrow.Author.Needs.{needs}
 use Rattle.client.proofs.list.put_entry.Statement.{statement}
 use Rattle.client.proofs.list.put_entry.Tie as tie
 
-listed-requires : tie.Need-listed-requires
-listed-requires c κs = search needs
-
 returns : tie.Need-returns
 returns c =
     let a = c .before .before .before .before .args in
     let e : listedIn (a .t) (a .kept .now) (a .i) ≡ false = sym (c .before .listed .ensures) ∙ not-true (c .before .listed .result) (c .if1 .taken) in
     rw e (wrote-none (a .out .now) (a .at))
-
-mul-part : tie.Need-mul-part
-mul-part c = search needs
-
-add-part : tie.Need-add-part
-add-part c = search needs
-
-part-requires : tie.Need-part-requires
-part-requires c κs = search needs
-
-cast-candidate-size : tie.Need-cast-candidate-size
-cast-candidate-size c = search needs
-
-candidate-size-requires : tie.Need-candidate-size-requires
-candidate-size-requires c κs = search needs
-
-part-requires-2 : tie.Need-part-requires-2
-part-requires-2 c κs = search needs
-
-put-requires : tie.Need-put-requires
-put-requires c κs = search needs
-
-same-length : tie.Need-same-length
-same-length c = search needs
 
 returns-2 : tie.Need-returns-2
 unfolding shelf
@@ -65,17 +38,5 @@ returns-2 c =
     rw (e, slot-back (shelf (a .t)) (a .kept .now) (a .i) (p .1 .0) (p .1 .1 .0) K) (placed-wrote {b = x} q (omega (arith, p .1 .1 .1)))
 
 pub put-entry-spec : {M : Type 1} → statement M
-put-entry-spec =
-    tie.close
-    (tie.spec
-    listed-requires
-    returns
-    mul-part
-    add-part
-    part-requires
-    cast-candidate-size
-    candidate-size-requires
-    part-requires-2
-    put-requires
-    same-length
-    returns-2)
+put-entry-spec = tie.close (tie.spec (λ c κs. search needs) returns (λ c. search needs) (λ c. search needs) (λ c κs. search needs) (λ c. search needs)
+    (λ c κs. search needs) (λ c κs. search needs) (λ c κs. search needs) (λ c. search needs) returns-2)

@@ -20,9 +20,6 @@ Inv-loop out₀ at kept t s next₀ i₀ out next i = (i ≤ s) × (Wrote out₀
 abbrev μ-loop : tie.MeasureT-loop
 μ-loop out₀ at kept t s next₀ i₀ out next i = s - i
 
-servers-requires : tie.Need-servers-requires Inv-loop μ-loop
-servers-requires c κs = search needs
-
 loop-holds : tie.Need-loop-holds Inv-loop μ-loop
 unfolding gather
 loop-holds c = let a = c .before .before .before .args in (omega arith, wrote-none (a .out .now) (a .at))
@@ -38,12 +35,6 @@ put-entry-requires c κs =
     let m = list-room (a .t) (a .kept .now) (p .0) (p .1 .0) (p .1 .1 .0) i (omega (arith, v .0)) in
     let l = wrote-length (v .1) (omega (arith, m, p .1 .0, p .1 .1 .1, v .0)) in
     (p .1 .0, (omega (arith, p .1 .0), (p .1 .1 .0, omega (arith, m, l, v .1 .place, p .1 .0, p .1 .1 .1))))
-
-add-i : tie.Need-add-i Inv-loop μ-loop
-add-i c = search needs
-
-loop-less : tie.Need-loop-less Inv-loop μ-loop
-loop-less c = search needs
 
 loop-again : tie.Need-loop-again Inv-loop μ-loop
 loop-again c =
@@ -72,16 +63,5 @@ returns c =
     rw q at (c .before .loop .inv .1)
 
 pub put-list-spec : {M : Type 1} → statement M
-put-list-spec =
-    tie.close
-    (tie.spec
-    Inv-loop
-    μ-loop
-    servers-requires
-    loop-holds
-    put-entry-requires
-    add-i
-    loop-less
-    loop-again
-    same-length
-    returns)
+put-list-spec = tie.close (tie.spec Inv-loop μ-loop (λ c κs. search needs) loop-holds put-entry-requires (λ c. search needs) (λ c. search needs)
+    loop-again same-length returns)

@@ -15,26 +15,8 @@ use Rattle.client.proofs.Printed.{packet-fits, candidate-back, bytes-pa
 use Rattle.client.proofs.packets.make_chosen.Statement.{statement}
 use Rattle.client.proofs.packets.make_chosen.Tie as tie
 
-part-requires : tie.Need-part-requires
-part-requires c κs = search needs
-
 cast-candidate-size : tie.Need-cast-candidate-size
 cast-candidate-size c = omega (arith, c .before .before .before .pre .0)
-
-candidate-size-requires : tie.Need-candidate-size-requires
-candidate-size-requires c κs = search needs
-
-part-requires-2 : tie.Need-part-requires-2
-part-requires-2 c κs = search needs
-
-slice-aggregate-make-packet : tie.Need-slice-aggregate-make-packet
-slice-aggregate-make-packet c = search needs
-
-make-packet-requires : tie.Need-make-packet-requires
-make-packet-requires c κs = search needs
-
-same-length : tie.Need-same-length
-same-length c = search needs
 
 returns : tie.Need-returns
 unfolding chosenOf shelf
@@ -50,4 +32,5 @@ returns c =
     ∙ ap (λ (x : List ℕ). wholePacket (headF .print (a .head) ++ (x ++ [])) (a .out .now)) e)
 
 pub make-chosen-spec : {M : Type 1} → statement M
-make-chosen-spec = tie.close (tie.spec part-requires cast-candidate-size candidate-size-requires part-requires-2 slice-aggregate-make-packet make-packet-requires same-length returns)
+make-chosen-spec = tie.close (tie.spec (λ c κs. search needs) cast-candidate-size (λ c κs. search needs) (λ c κs. search needs) (λ c. search needs)
+    (λ c κs. search needs) (λ c. search needs) returns)

@@ -14,24 +14,12 @@ use borrow.Author.Needs.{needs}
 use Rattle.client.proofs.packets.make_filter.Statement.{statement}
 use Rattle.client.proofs.packets.make_filter.Tie as tie
 
-put-head-requires : tie.Need-put-head-requires
-put-head-requires c κs = search needs
-
-count-listed-requires : tie.Need-count-listed-requires
-count-listed-requires c κs = search needs
-
-put-byte-requires : tie.Need-put-byte-requires
-put-byte-requires c κs = search needs
-
 put-list-requires : tie.Need-put-list-requires
 put-list-requires c κs =
     let a = c .before .before .before .before .before .before .before .before .before .before .before .before .args in
     let p = c .before .before .before .before .before .before .before .before .before .before .before .before .pre in
     let k = after-count (a .head) (c .before .before .before .before .count-listed .result) (a .out .now) (p .1 .1 .1) (c .before .before .before .before .before .before .before .before .put-head .ensures) (c .before .before .before .put-byte .ensures) in
     (p .0, (p .1 .0, (p .1 .1 .0, omega (arith, k .0, k .1, p .1 .1 .1))))
-
-same-length : tie.Need-same-length
-same-length c = search needs
 
 returns : tie.Need-returns
 unfolding candidatesF via seq byte many shelf
@@ -45,12 +33,5 @@ returns c =
     (printMany (candidateF (shelf (a .t))) G) (omega (arith, l, p .1 .0)) (c .before .before .put-list .ensures)
 
 pub make-filter-spec : {M : Type 1} → statement M
-make-filter-spec =
-    tie.close
-    (tie.spec
-    put-head-requires
-    count-listed-requires
-    put-byte-requires
-    put-list-requires
-    same-length
+make-filter-spec = tie.close (tie.spec (λ c κs. search needs) (λ c κs. search needs) (λ c κs. search needs) put-list-requires (λ c. search needs)
     returns)

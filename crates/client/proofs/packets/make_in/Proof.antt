@@ -10,9 +10,6 @@ returns c =
     let a = c .before .before .before .args in
     sym (make-short (a .t) (a .client) (a .server) (a .call) (a .kept .now) (a .out .now) (c .if1 .taken))
 
-make-refusal-requires : tie.Need-make-refusal-requires
-make-refusal-requires c κs = search needs
-
 returns-2 : tie.Need-returns-2
 returns-2 c =
     let a = c .before .before .before .before .before .args in
@@ -24,15 +21,10 @@ make-round-requires c κs =
     let f = make-fits (a .t) (a .client) (a .server) (a .call) (a .kept .now) (a .out .now) (sym (c .before .before .make-refusal .ensures) ∙ c .before .if2 .left) in
     (f .0, (f .1 .0, (f .1 .1 .0, (f .1 .1 .1 .0, (f .1 .1 .1 .1 .0, (c .before .before .before .if1 .left, (f .1 .1 .1 .1 .1 .0, f .1 .1 .1 .1 .1 .1)))))))
 
-same-length : tie.Need-same-length
-same-length c = search needs
-
 returns-3 : tie.Need-returns-3
 returns-3 c =
     let a = c .before .before .before .before .before .before .before .before .before .args in
     c .before .before .make-round .ensures ∙ sym (make-goes (a .t) (a .client) (a .server) (a .call) (a .kept .now) (a .out .now) (c .before .before .before .before .before .before .if1 .left) (sym (c .before .before .before .before .before .make-refusal .ensures) ∙ c .before .before .before .before .if2 .left))
 
 pub make-in-spec : {M : Type 1} → statement M
-make-in-spec =
-    tie.close
-    (tie.spec returns make-refusal-requires returns-2 make-round-requires same-length returns-3)
+make-in-spec = tie.close (tie.spec returns (λ c κs. search needs) returns-2 make-round-requires (λ c. search needs) returns-3)

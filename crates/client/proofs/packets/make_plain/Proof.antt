@@ -42,9 +42,6 @@ make-store-requires c κs =
     let r = hand-round (a .call) (p .1 .1 .1 .1 .1 .1 .0) in
     let s : a .server ≤ mostServers = omega (arith, p .0, p .1 .1 .1 .0) in (p .0, (p .1 .1 .0, (s, (p .1 .1 .1 .1 .0, p .1 .1 .1 .1 .1 .0))))
 
-same-length : tie.Need-same-length
-same-length c = search needs
-
 returns : tie.Need-returns
 returns c =
     let a = c .before .before .before .before .before .before .before .before .before .args in
@@ -60,9 +57,6 @@ make-chosen-requires c κs =
     let p = c .before .before .before .before .before .before .before .pre in
     let r = hand-round (a .call) (p .1 .1 .1 .1 .1 .1 .0) in
     (p .0, (p .1 .1 .1 .1 .0, p .1 .1 .1 .1 .1 .0))
-
-same-length-2 : tie.Need-same-length-2
-same-length-2 c = search needs
 
 returns-2 : tie.Need-returns-2
 returns-2 c =
@@ -80,9 +74,6 @@ make-chosen-requires-2 c κs =
     let r = hand-round (a .call) (p .1 .1 .1 .1 .1 .1 .0) in
     (p .0, (p .1 .1 .1 .1 .0, p .1 .1 .1 .1 .1 .0))
 
-same-length-3 : tie.Need-same-length-3
-same-length-3 c = search needs
-
 returns-3 : tie.Need-returns-3
 returns-3 c =
     let a = c .before .before .before .before .before .before .before .before .before .before .before .args in
@@ -99,9 +90,6 @@ make-empty-requires c κs =
     let r = hand-round (a .call) (p .1 .1 .1 .1 .1 .1 .0) in
     p .1 .1 .1 .1 .1 .0
 
-same-length-4 : tie.Need-same-length-4
-same-length-4 c = search needs
-
 returns-4 : tie.Need-returns-4
 returns-4 c =
     let a = c .before .before .before .before .before .before .before .before .before .before .before .args in
@@ -111,4 +99,5 @@ returns-4 c =
     (rw (c .before .before .before .before .before .before .before .head-of .ensures) at (c .before .before .make-empty .ensures)) ∙ ap (λ (x : List ℕ). wholePacket x (a .out .now)) (sym q)
 
 pub make-plain-spec : {M : Type 1} → statement M
-make-plain-spec = tie.close (tie.spec mul-head-of sub-head-of head-of-requires make-store-requires same-length returns make-chosen-requires same-length-2 returns-2 make-chosen-requires-2 same-length-3 returns-3 make-empty-requires same-length-4 returns-4)
+make-plain-spec = tie.close (tie.spec mul-head-of sub-head-of head-of-requires make-store-requires (λ c. search needs) returns make-chosen-requires
+    (λ c. search needs) returns-2 make-chosen-requires-2 (λ c. search needs) returns-3 make-empty-requires (λ c. search needs) returns-4)

@@ -18,12 +18,6 @@ head-of-requires c κs =
     let p = c .before .before .before .before .pre in
     let s : a .server ≤ mostServers = omega (arith, p .1 .0, p .1 .1 .1 .1 .0) in (p .1 .0, (p .1 .1 .0, s))
 
-make-filter-requires : tie.Need-make-filter-requires
-make-filter-requires c κs = search needs
-
-same-length : tie.Need-same-length
-same-length c = search needs
-
 returns : tie.Need-returns
 returns c =
     let a = c .before .before .before .before .before .before .before .before .before .args in
@@ -36,20 +30,9 @@ make-plain-requires c κs =
     let p = c .before .before .before .before .before .pre in
     (p .1 .0, (p .1 .1 .0, (p .1 .1 .1 .0, (p .1 .1 .1 .1 .0, (p .1 .1 .1 .1 .1 .0, (p .1 .1 .1 .1 .1 .1 .0, (p .1 .1 .1 .1 .1 .1 .1, c .before .if1 .left)))))))
 
-same-length-2 : tie.Need-same-length-2
-same-length-2 c = search needs
-
 returns-2 : tie.Need-returns-2
 returns-2 c = search needs
 
 pub make-round-spec : {M : Type 1} → statement M
-make-round-spec =
-    tie.close
-    (tie.spec
-    head-of-requires
-    make-filter-requires
-    same-length
-    returns
-    make-plain-requires
-    same-length-2
+make-round-spec = tie.close (tie.spec head-of-requires (λ c κs. search needs) (λ c. search needs) returns make-plain-requires (λ c. search needs)
     returns-2)

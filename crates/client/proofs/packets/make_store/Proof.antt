@@ -17,9 +17,6 @@ use Rattle.client.proofs.Printed.{packet-fits, stamp-back, share-back, 
 use Rattle.client.proofs.packets.make_store.Statement.{statement}
 use Rattle.client.proofs.packets.make_store.Tie as tie
 
-part-requires : tie.Need-part-requires
-part-requires c κs = search needs
-
 sub-part : tie.Need-sub-part
 sub-part c = omega (arith, c .before .before .before .pre .1 .0)
 
@@ -29,26 +26,8 @@ mul-part c = omega (arith, c .before .before .before .pre .1 .0, c .before .befo
 add-part : tie.Need-add-part
 add-part c = omega (arith, c .before .before .before .pre .1 .0, c .before .before .before .pre .1 .1 .0)
 
-part-requires-2 : tie.Need-part-requires-2
-part-requires-2 c κs = search needs
-
-number2-requires : tie.Need-number2-requires
-number2-requires c κs = search needs
-
 share-size-requires : tie.Need-share-size-requires
 share-size-requires c κs = c .before .before .before .before .before .pre .0
-
-part-requires-3 : tie.Need-part-requires-3
-part-requires-3 c κs = search needs
-
-part-requires-4 : tie.Need-part-requires-4
-part-requires-4 c κs = search needs
-
-make-packet-requires : tie.Need-make-packet-requires
-make-packet-requires c κs = search needs
-
-same-length : tie.Need-same-length
-same-length c = search needs
 
 returns : tie.Need-returns
 unfolding chosenOf replySlotOf lengthAt candidateAt stampAt
@@ -71,4 +50,5 @@ returns c =
     ∙ ap (λ (x : List ℕ). wholePacket (headF .print (a .head) ++ (stampF .print (stampAt D) ++ x)) (a .out .now)) (sym h)))
 
 pub make-store-spec : {M : Type 1} → statement M
-make-store-spec = tie.close (tie.spec part-requires sub-part mul-part add-part part-requires-2 number2-requires share-size-requires part-requires-3 part-requires-4 make-packet-requires same-length returns)
+make-store-spec = tie.close (tie.spec (λ c κs. search needs) sub-part mul-part add-part (λ c κs. search needs) (λ c κs. search needs)
+    share-size-requires (λ c κs. search needs) (λ c κs. search needs) (λ c κs. search needs) (λ c. search needs) returns)

@@ -7,11 +7,8 @@ use Rattle.client.proofs.packets.share_size.Tie as tie
 cast-u : tie.Need-cast-u
 cast-u c = omega (arith, c .pre)
 
-share-size-requires : tie.Need-share-size-requires
-share-size-requires c κs = search needs
-
 returns : tie.Need-returns
 returns c = c .share-size .ensures
 
 pub share-size-spec : {M : Type 1} → statement M
-share-size-spec = tie.close (tie.spec cast-u share-size-requires returns)
+share-size-spec = tie.close (tie.spec cast-u (λ c κs. search needs) returns)

@@ -11,23 +11,11 @@ use Rattle.client.proofs.prepare.put_candidate.Tie as tie
 write-at-requires : tie.Need-write-at-requires
 write-at-requires c κs = let p = c .before .before .before .before .before .pre in omega (arith, p .0, p .1 .0)
 
-add-write-at : tie.Need-add-write-at
-add-write-at c = search needs
-
 write-at-requires-2 : tie.Need-write-at-requires-2
 write-at-requires-2 c κs = let p = c .before .before .before .before .before .before .before .before .before .pre in omega (arith, p .0, p .1 .1 .0)
 
-add-write-at-2 : tie.Need-add-write-at-2
-add-write-at-2 c = search needs
-
-add-write-at-3 : tie.Need-add-write-at-3
-add-write-at-3 c = search needs
-
 write-at-requires-3 : tie.Need-write-at-requires-3
 write-at-requires-3 c κs = let p = c .before .before .before .before .before .before .before .before .before .before .before .before .before .pre in omega (arith, p .0, p .1 .1 .1)
-
-same-length : tie.Need-same-length
-same-length c = search needs
 
 returns : tie.Need-returns
 returns c =
@@ -36,4 +24,5 @@ returns c =
     c .before .before .write-at3 .ensures ∙ rw (c .before .before .before .before .before .before .write-at2 .ensures, c .before .before .before .before .before .before .before .before .before .before .write-at .ensures) (three-puts (a .kept .now) chosenAt stampSize nonceSize (a .stamp .now) (a .nonce .now) (a .tags .now) (p .1 .0) (p .1 .1 .0) (omega (arith, p .0, p .1 .1 .1)))
 
 pub put-candidate-spec : {M : Type 1} → statement M
-put-candidate-spec = tie.close (tie.spec write-at-requires add-write-at write-at-requires-2 add-write-at-2 add-write-at-3 write-at-requires-3 same-length returns)
+put-candidate-spec = tie.close (tie.spec write-at-requires (λ c. search needs) write-at-requires-2 (λ c. search needs) (λ c. search needs)
+    write-at-requires-3 (λ c. search needs) returns)

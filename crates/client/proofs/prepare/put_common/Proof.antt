@@ -8,9 +8,6 @@ use Rattle.protocol.proofs.Puts.{put-put}
 use Rattle.client.proofs.prepare.put_common.Statement.{statement}
 use Rattle.client.proofs.prepare.put_common.Tie as tie
 
-slice-aggregate-write-at : tie.Need-slice-aggregate-write-at
-slice-aggregate-write-at c = search needs
-
 write-at-requires : tie.Need-write-at-requires
 write-at-requires c κs = let z : length (c .before .before .before .before .args .t3) ≡ digestSize = search needs in omega (arith, z, c .before .before .before .before .pre)
 
@@ -20,9 +17,6 @@ add-write-at c = omega (arith, c .before .before .before .before .before .before
 write-at-requires-2 : tie.Need-write-at-requires-2
 write-at-requires-2 c κs = omega (arith, c .before .before .before .before .before .before .before .before .pre)
 
-same-length : tie.Need-same-length
-same-length c = search needs
-
 returns : tie.Need-returns
 returns c =
     let a = c .before .before .before .before .before .before .before .before .before .before .before .args in
@@ -30,4 +24,4 @@ returns c =
     c .before .before .write-at2 .ensures ∙ rw (c .before .before .before .before .before .before .write-at .ensures) (put-put (a .common .now) (a .at) digestSize (a .t3) (a .tags .now) z (c .before .before .before .before .before .before .before .before .before .before .before .pre))
 
 pub put-common-spec : {M : Type 1} → statement M
-put-common-spec = tie.close (tie.spec slice-aggregate-write-at write-at-requires add-write-at write-at-requires-2 same-length returns)
+put-common-spec = tie.close (tie.spec (λ c. search needs) write-at-requires add-write-at write-at-requires-2 (λ c. search needs) returns)

@@ -20,18 +20,6 @@ add-fragment : tie.Need-add-fragment
 unfolding shelf
 add-fragment c = omega (arith, c .before .before .before .pre .1 .0, c .before .before .before .pre .1 .1 .0)
 
-fragment-requires : tie.Need-fragment-requires
-fragment-requires c κs = search needs
-
-slice-aggregate-part : tie.Need-slice-aggregate-part
-slice-aggregate-part c = search needs
-
-part-requires : tie.Need-part-requires
-part-requires c κs = search needs
-
-digest-requires : tie.Need-digest-requires
-digest-requires c κs = search needs
-
 mul-write-at : tie.Need-mul-write-at
 mul-write-at c =
     let a = c .before .before .before .before .before .before .before .before .before .args in
@@ -44,12 +32,6 @@ mul-write-at c =
     let m : c .before .before .before .before .before .fragment .result .count * a .i ≡ size * a .i = ap (λ (k : ℕ). k * a .i) n in
     let l = piece-length (a .t) (a .i) (a .content .now) (p .0) (p .1 .0) (p .1 .1 .0) (p .1 .1 .1 .0) in
     omega (arith, m, p .1 .1 .1 .1 .0)
-
-slice-aggregate-part-2 : tie.Need-slice-aggregate-part-2
-slice-aggregate-part-2 c = search needs
-
-part-requires-2 : tie.Need-part-requires-2
-part-requires-2 c κs = search needs
 
 write-at-requires : tie.Need-write-at-requires
 write-at-requires c κs =
@@ -69,17 +51,8 @@ mul-write-at-2 : tie.Need-mul-write-at-2
 unfolding shelf
 mul-write-at-2 c = omega (arith, c .before .before .before .before .before .before .before .before .before .before .before .before .before .before .before .pre .1 .0, c .before .before .before .before .before .before .before .before .before .before .before .before .before .before .before .pre .1 .1 .0)
 
-slice-aggregate-write-at : tie.Need-slice-aggregate-write-at
-slice-aggregate-write-at c = search needs
-
 write-at-requires-2 : tie.Need-write-at-requires-2
 write-at-requires-2 c κs = let d : length (c .before .before .before .before .before .before .before .before .digest .result) ≡ digestSize = search needs in omega (arith, d, c .before .before .before .before .before .before .before .before .before .before .before .before .before .before .before .before .pre .1 .1 .1 .1 .1)
-
-same-length : tie.Need-same-length
-same-length c = search needs
-
-same-length-2 : tie.Need-same-length-2
-same-length-2 c = search needs
 
 returns : tie.Need-returns
 unfolding real
@@ -96,4 +69,6 @@ returns c =
     (c .before .before .before .before .before .before .before .write-at .ensures ∙ rw (c .before .before .before .before .before .before .before .before .part2 .ensures, q, m), c .before .before .write-at2 .ensures ∙ rw (c .before .before .before .before .before .before .before .before .before .before .before .digest .ensures, c .before .before .before .before .before .before .before .before .before .before .before .before .part .ensures, q))
 
 pub put-fragment-spec : {M : Type 1} → statement M
-put-fragment-spec = tie.close (tie.spec add-fragment fragment-requires slice-aggregate-part part-requires digest-requires mul-write-at slice-aggregate-part-2 part-requires-2 write-at-requires mul-write-at-2 slice-aggregate-write-at write-at-requires-2 same-length same-length-2 returns)
+put-fragment-spec = tie.close (tie.spec add-fragment (λ c κs. search needs) (λ c. search needs) (λ c κs. search needs) (λ c κs. search needs)
+    mul-write-at (λ c. search needs) (λ c κs. search needs) write-at-requires mul-write-at-2 (λ c. search needs) write-at-requires-2
+    (λ c. search needs) (λ c. search needs) returns)

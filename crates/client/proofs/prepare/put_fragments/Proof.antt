@@ -21,9 +21,6 @@ Inv-loop fragments₀ digests₀ t content s i₀ fragments digests i = (i ≤ s
 abbrev μ-loop : tie.MeasureT-loop
 μ-loop fragments₀ digests₀ t content s i₀ fragments digests i = s - i
 
-servers-requires : tie.Need-servers-requires Inv-loop μ-loop
-servers-requires c κs = search needs
-
 loop-holds : tie.Need-loop-holds Inv-loop μ-loop
 unfolding fragmentRun digestRun runOf
 loop-holds c = (omega arith, (put-none (c .before .before .before .before .args .fragments .now), put-none (c .before .before .before .before .args .digests .now)))
@@ -42,12 +39,6 @@ put-fragment-requires c κs =
     let f = times-more size i (shelf (a .t) .servers) s in
     let d = times-more digestSize i (shelf (a .t) .servers) s in
     (p .0, (p .1 .0, (s, (p .1 .1 .0, (omega (arith, f, lf, p .1 .1 .1 .0), omega (arith, d, ld, p .1 .1 .1 .1))))))
-
-add-i : tie.Need-add-i Inv-loop μ-loop
-add-i c = search needs
-
-loop-less : tie.Need-loop-less Inv-loop μ-loop
-loop-less c = omega arith
 
 loop-again : tie.Need-loop-again Inv-loop μ-loop
 loop-again c =
@@ -96,4 +87,5 @@ returns c =
     (rw q at (c .before .loop .inv .1 .0), rw q at (c .before .loop .inv .1 .1))
 
 pub put-fragments-spec : {M : Type 1} → statement M
-put-fragments-spec = tie.close (tie.spec Inv-loop μ-loop servers-requires loop-holds put-fragment-requires add-i loop-less loop-again same-length same-length-2 returns)
+put-fragments-spec = tie.close (tie.spec Inv-loop μ-loop (λ c κs. search needs) loop-holds put-fragment-requires (λ c. search needs)
+    (λ c. omega arith) loop-again same-length same-length-2 returns)

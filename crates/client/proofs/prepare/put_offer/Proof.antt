@@ -12,12 +12,6 @@ use borrow.Author.Needs.{needs}
 use Rattle.client.proofs.prepare.put_offer.Statement.{statement}
 use Rattle.client.proofs.prepare.put_offer.Tie as tie
 
-slice-aggregate-put-parts : tie.Need-slice-aggregate-put-parts
-slice-aggregate-put-parts c = search needs
-
-slice-aggregate-put-parts-2 : tie.Need-slice-aggregate-put-parts-2
-slice-aggregate-put-parts-2 c = search needs
-
 put-parts-requires : tie.Need-put-parts-requires
 unfolding shelf
 put-parts-requires c κs =
@@ -25,9 +19,6 @@ put-parts-requires c κs =
     let p = c .before .before .before .before .before .pre in
     let r = rooms (a .t) (length (contentOf (a .call) (a .kept .now))) (p .0) (p .1 .0) (content-short (a .call) (a .kept .now)) in
     (p .0, (p .1 .0, (r .0, omega (arith, p .1 .0, p .1 .1 .1))))
-
-servers-requires : tie.Need-servers-requires
-servers-requires c κs = search needs
 
 mul-m : tie.Need-mul-m
 unfolding shelf
@@ -53,15 +44,6 @@ add-m-2 c =
     let e : c .servers .result ≡ 3 * a .t + 1 = c .servers .ensures in
     omega (arith, e, p .1 .0, p .1 .1 .1)
 
-slice-aggregate-put-sized : tie.Need-slice-aggregate-put-sized
-slice-aggregate-put-sized c = search needs
-
-slice-aggregate-part : tie.Need-slice-aggregate-part
-slice-aggregate-part c = search needs
-
-part-requires : tie.Need-part-requires
-part-requires c κs = search needs
-
 put-sized-requires : tie.Need-put-sized-requires
 put-sized-requires c κs =
     let a = c .before .before .before .before .before .before .before .before .before .before .before .before .before .args in
@@ -71,9 +53,6 @@ put-sized-requires c κs =
     let n : c .before .before .before .before .before .before .before .put-parts .result ≤ 1024 = rw e (content-short (a .call) (a .kept .now)) in
     let k : length (c .part .result .now) ≤ 32 * c .before .before .before .before .servers .result + 32 + length (a .tags .now) = rw (c .part .ensures) (part-most _ 0 _) in
     (p .1 .0, (n, (p .1 .1 .0, share-room (a .t) (c .before .before .before .before .before .before .before .put-parts .result) (32 * c .before .before .before .before .servers .result + 32 + length (a .tags .now)) (length (c .part .result .now)) (p .0) (p .1 .0) n (omega (arith, s, p .1 .1 .1)) k)))
-
-same-length : tie.Need-same-length
-same-length c = search needs
 
 returns : tie.Need-returns
 returns c =
@@ -86,19 +65,5 @@ returns c =
     c .before .before .put-sized .ensures ∙ rw (c .before .before .before .part .ensures, e .1 .0, e .1 .1) (offered-run (a .t) (a .kept .now) (contentOf (a .call) (a .kept .now)) (a .digest) (a .tags .now) (replicate 2665 0) (replicate 864 0) (c .before .before .before .before .before .before .before .before .before .before .put-parts .result) (32 * c .before .before .before .before .before .before .before .servers .result + 32 + length (a .tags .now)) (e .0) (rw s) z (omega (arith, r .0, length-replicate {A = ℕ} 2665 0)) (omega (arith, servers-few (a .t) (p .1 .0), s, p .1 .1 .1, length-replicate {A = ℕ} 864 0)))
 
 pub put-offer-spec : {M : Type 1} → statement M
-put-offer-spec =
-    tie.close
-    (tie.spec
-    slice-aggregate-put-parts
-    slice-aggregate-put-parts-2
-    put-parts-requires
-    servers-requires
-    mul-m
-    add-m
-    add-m-2
-    slice-aggregate-put-sized
-    slice-aggregate-part
-    part-requires
-    put-sized-requires
-    same-length
-    returns)
+put-offer-spec = tie.close (tie.spec (λ c. search needs) (λ c. search needs) put-parts-requires (λ c κs. search needs) mul-m add-m add-m-2
+    (λ c. search needs) (λ c. search needs) (λ c κs. search needs) put-sized-requires (λ c. search needs) returns)

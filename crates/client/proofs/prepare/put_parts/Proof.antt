@@ -12,9 +12,6 @@ use Rattle.client.proofs.ShareBytes.{digests-then}
 use Rattle.client.proofs.prepare.put_parts.Statement.{statement}
 use Rattle.client.proofs.prepare.put_parts.Tie as tie
 
-content-requires : tie.Need-content-requires
-content-requires c κs = search needs
-
 put-fragments-requires : tie.Need-put-fragments-requires
 put-fragments-requires c κs =
     let p = c .before .before .before .before .before .before .before .pre in
@@ -31,12 +28,6 @@ mul-put-common c = let e : c .servers .result ≡ 3 * c .before .before .before 
 put-common-requires : tie.Need-put-common-requires
 put-common-requires c κs = rw (c .servers .ensures) (omega (arith, c .before .before .before .before .before .before .before .before .before .before .before .before .before .before .pre .1 .1 .1))
 
-same-length : tie.Need-same-length
-same-length c = search needs
-
-same-length-2 : tie.Need-same-length-2
-same-length-2 c = search needs
-
 returns : tie.Need-returns
 returns c =
     let a = c .before .before .before .before .before .before .before .before .before .before .before .before .before .before .before .before .before .args in
@@ -48,4 +39,5 @@ returns c =
     (rw k, (rw k at (f .0), c .before .before .put-common .ensures ∙ rw (c .before .before .before .servers .ensures, f .1, k) (digests-then (a .t) (contentOf (a .call) (a .kept .now)) (a .common .now) (a .digest ++ a .tags .now) (shelf (a .t) .servers) (omega (arith, z, l, p .1 .1 .1)))))
 
 pub put-parts-spec : {M : Type 1} → statement M
-put-parts-spec = tie.close (tie.spec content-requires put-fragments-requires servers-requires mul-put-common put-common-requires same-length same-length-2 returns)
+put-parts-spec = tie.close (tie.spec (λ c κs. search needs) put-fragments-requires servers-requires mul-put-common put-common-requires
+    (λ c. search needs) (λ c. search needs) returns)

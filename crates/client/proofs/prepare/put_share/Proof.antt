@@ -15,9 +15,6 @@ mul-at c = omega (arith, c .before .before .before .pre .0)
 add-at : tie.Need-add-at
 add-at c = omega (arith, c .before .before .before .pre .0)
 
-slice-aggregate-write-at : tie.Need-slice-aggregate-write-at
-slice-aggregate-write-at c = search needs
-
 write-at-requires : tie.Need-write-at-requires
 write-at-requires c κs = let z : length (c .before .before .before .before .before .args .t3) ≡ 2 = search needs in let p = c .before .before .before .before .before .pre in omega (arith, z, p .0, p .1 .0)
 
@@ -36,9 +33,6 @@ add-write-at-3 c = omega (arith, c .before .before .before .before .before .befo
 write-at-requires-3 : tie.Need-write-at-requires-3
 write-at-requires-3 c κs = let p = c .before .before .before .before .before .before .before .before .before .before .before .before .before .pre in omega (arith, p .0, p .1 .0, p .1 .1)
 
-same-length : tie.Need-same-length
-same-length c = search needs
-
 returns : tie.Need-returns
 returns c =
     let a = c .before .before .before .before .before .before .before .before .before .before .before .before .before .before .before .before .args in
@@ -47,4 +41,5 @@ returns c =
     c .before .before .write-at3 .ensures ∙ rw (c .before .before .before .before .before .before .write-at2 .ensures, c .before .before .before .before .before .before .before .before .before .before .write-at .ensures) (three-puts (a .kept .now) (repliesAt + replySlot * a .i) 2 (length (a .fragment .now)) (a .t3) (a .fragment .now) (a .common .now) z refl (omega (arith, p .0, p .1 .0, p .1 .1)))
 
 pub put-share-spec : {M : Type 1} → statement M
-put-share-spec = tie.close (tie.spec mul-at add-at slice-aggregate-write-at write-at-requires add-write-at write-at-requires-2 add-write-at-2 add-write-at-3 write-at-requires-3 same-length returns)
+put-share-spec = tie.close (tie.spec mul-at add-at (λ c. search needs) write-at-requires add-write-at write-at-requires-2 add-write-at-2
+    add-write-at-3 write-at-requires-3 (λ c. search needs) returns)

@@ -19,9 +19,6 @@ Inv-loop kept₀ t size fragments f common s i₀ kept i = (i ≤ s) × ((kept �
 abbrev μ-loop : tie.MeasureT-loop
 μ-loop kept₀ t size fragments f common s i₀ kept i = s - i
 
-servers-requires : tie.Need-servers-requires Inv-loop μ-loop
-servers-requires c κs = search needs
-
 loop-holds : tie.Need-loop-holds Inv-loop μ-loop
 unfolding shareRun
 loop-holds c = (omega arith, (refl, c .before .before .before .before .pre .1 .0))
@@ -35,9 +32,6 @@ mul-part c =
     let m = mul-le-mul {n₁ = a .f} {m₁ = c .before .before .loop .i} {n₂ = 1120} {m₂ = 13} (omega (arith, p .1 .1)) (omega (arith, p .0)) in
     omega (arith, m)
 
-part-requires : tie.Need-part-requires Inv-loop μ-loop
-part-requires c κs = search needs
-
 put-share-requires : tie.Need-put-share-requires Inv-loop μ-loop
 unfolding shelf
 put-share-requires c κs =
@@ -46,12 +40,6 @@ put-share-requires c κs =
     let e : c .before .before .before .before .servers .result ≡ 3 * a .t + 1 = c .before .before .before .before .servers .ensures in
     let m = part-most (a .fragments .now) (a .f * c .before .before .before .loop .i) (a .f) in
     (omega (arith, p .0), (c .before .before .before .loop .inv .1 .1, rw (c .part .ensures) (omega (arith, m, p .1 .1))))
-
-add-i : tie.Need-add-i Inv-loop μ-loop
-add-i c = search needs
-
-loop-less : tie.Need-loop-less Inv-loop μ-loop
-loop-less c = omega arith
 
 loop-again : tie.Need-loop-again Inv-loop μ-loop
 unfolding shareRun shelf
@@ -74,4 +62,5 @@ returns c =
     rw q at (c .before .loop .inv .1 .0)
 
 pub put-shares-spec : {M : Type 1} → statement M
-put-shares-spec = tie.close (tie.spec Inv-loop μ-loop servers-requires loop-holds mul-part part-requires put-share-requires add-i loop-less loop-again same-length returns)
+put-shares-spec = tie.close (tie.spec Inv-loop μ-loop (λ c κs. search needs) loop-holds mul-part (λ c κs. search needs) put-share-requires
+    (λ c. search needs) (λ c. omega arith) loop-again same-length returns)

@@ -16,12 +16,6 @@ put-candidate-requires c κs =
     let p = c .before .before .before .before .before .pre in
     (p .1 .1 .0, (p .1 .1 .1 .0, (p .1 .1 .1 .1 .0, omega (arith, p .1 .0, p .1 .1 .1 .1 .1))))
 
-put-offer-requires : tie.Need-put-offer-requires
-put-offer-requires c κs = search needs
-
-same-length : tie.Need-same-length
-same-length c = search needs
-
 returns : tie.Need-returns
 unfolding shelf
 returns c =
@@ -32,4 +26,4 @@ returns c =
     c .before .before .put-offer .ensures ∙ rw (c .before .before .before .before .before .before .put-candidate .ensures, content-stays (a .call) (a .kept .now) (a .stamp .now ++ (a .nonce .now ++ a .tags .now)) (p .1 .1 .0) (omega (arith, l, k, p .1 .0, p .1 .1 .1 .0, p .1 .1 .1 .1 .0, p .1 .1 .1 .1 .1)))
 
 pub put-write-spec : {M : Type 1} → statement M
-put-write-spec = tie.close (tie.spec put-candidate-requires put-offer-requires same-length returns)
+put-write-spec = tie.close (tie.spec put-candidate-requires (λ c κs. search needs) (λ c. search needs) returns)

@@ -9,18 +9,12 @@ use borrow.Author.Needs.{needs}
 use Rattle.client.proofs.refusals.abort_refusal.Statement.{statement}
 use Rattle.client.proofs.refusals.abort_refusal.Tie as tie
 
-is-outside-requires : tie.Need-is-outside-requires
-is-outside-requires c κs = search needs
-
 returns : tie.Need-returns
 unfolding abortRefusal shelf
 returns c =
     let a = c .before .before .args in
     let w₁ : badFaults (shelf (a .t)) ≡ true = sym (c .before .is-outside .ensures) ∙ c .if1 .taken in
     rw w₁
-
-is-outside-requires-2 : tie.Need-is-outside-requires-2
-is-outside-requires-2 c κs = search needs
 
 returns-2 : tie.Need-returns-2
 unfolding abortRefusal shelf
@@ -29,9 +23,6 @@ returns-2 c =
     let w₁ : badFaults (shelf (a .t)) ≡ false = sym (c .before .before .before .is-outside .ensures) ∙ c .before .before .if1 .left in
     let w₂ : not (within 1 topClient (a .client)) ≡ true = sym (c .before .is-outside2 .ensures) ∙ c .if2 .taken in
     rw (w₁, w₂)
-
-is-pending-requires : tie.Need-is-pending-requires
-is-pending-requires c κs = search needs
 
 returns-3 : tie.Need-returns-3
 unfolding abortRefusal shelf
@@ -52,13 +43,4 @@ returns-4 c =
     rw (w₁, w₂, w₃)
 
 pub abort-refusal-spec : {M : Type 1} → statement M
-abort-refusal-spec =
-    tie.close
-    (tie.spec
-    is-outside-requires
-    returns
-    is-outside-requires-2
-    returns-2
-    is-pending-requires
-    returns-3
-    returns-4)
+abort-refusal-spec = tie.close (tie.spec (λ c κs. search needs) returns (λ c κs. search needs) returns-2 (λ c κs. search needs) returns-3 returns-4)

@@ -6,12 +6,6 @@ use borrow.Author.Needs.{needs}
 use Rattle.client.proofs.refusals.is_pending.Statement.{statement}
 use Rattle.client.proofs.refusals.is_pending.Tie as tie
 
-cast-round : tie.Need-cast-round
-cast-round c = search needs
-
-is-outside-requires : tie.Need-is-outside-requires
-is-outside-requires c κs = search needs
-
 returns : tie.Need-returns
 unfolding inHand
 returns c = sym (not-true _ (sym (c .before .is-outside .ensures) ∙ c .if1 .taken))
@@ -21,4 +15,4 @@ unfolding inHand
 returns-2 c = sym (not-false _ (sym (c .before .is-outside .ensures) ∙ c .if1 .left))
 
 pub is-pending-spec : {M : Type 1} → statement M
-is-pending-spec = tie.close (tie.spec cast-round is-outside-requires returns returns-2)
+is-pending-spec = tie.close (tie.spec (λ c. search needs) (λ c κs. search needs) returns returns-2)

@@ -13,9 +13,6 @@ use borrow.Author.Needs.{needs}
 use Rattle.client.proofs.refusals.make_refusal.Statement.{statement}
 use Rattle.client.proofs.refusals.make_refusal.Tie as tie
 
-is-outside-requires : tie.Need-is-outside-requires
-is-outside-requires c κs = search needs
-
 returns : tie.Need-returns
 unfolding makeRefusal shelf
 returns c =
@@ -30,9 +27,6 @@ servers-requires c κs =
     let w : badFaults (shelf (a .t)) ≡ false = sym (c .before .is-outside .ensures) ∙ c .if1 .left in
     inside 1 topFaults (a .t) w .1
 
-is-outside-requires-2 : tie.Need-is-outside-requires-2
-is-outside-requires-2 c κs = search needs
-
 returns-2 : tie.Need-returns-2
 unfolding makeRefusal shelf
 returns-2 c =
@@ -40,9 +34,6 @@ returns-2 c =
     let w₁ : badFaults (shelf (a .t)) ≡ false = sym (c .before .before .before .before .is-outside .ensures) ∙ c .before .before .before .if1 .left in
     let w₂ : not (within 1 (shelf (a .t) .servers) (a .server)) ≡ true = rw (c .before .before .servers .ensures) at (sym (c .before .is-outside2 .ensures) ∙ c .if2 .taken) in
     rw (w₁, w₂)
-
-is-outside-requires-3 : tie.Need-is-outside-requires-3
-is-outside-requires-3 c κs = search needs
 
 returns-3 : tie.Need-returns-3
 unfolding makeRefusal shelf
@@ -52,9 +43,6 @@ returns-3 c =
     let w₂ : not (within 1 (shelf (a .t) .servers) (a .server)) ≡ false = rw (c .before .before .before .before .servers .ensures) at (sym (c .before .before .before .is-outside2 .ensures) ∙ c .before .before .if2 .left) in
     let w₃ : not (within 1 topClient (a .client)) ≡ true = sym (c .before .is-outside3 .ensures) ∙ c .if3 .taken in
     rw (w₁, w₂, w₃)
-
-is-pending-requires : tie.Need-is-pending-requires
-is-pending-requires c κs = search needs
 
 returns-4 : tie.Need-returns-4
 unfolding makeRefusal shelf
@@ -89,17 +77,5 @@ returns-6 c =
     rw (w₁, w₂, w₃, w₄, w₅)
 
 pub make-refusal-spec : {M : Type 1} → statement M
-make-refusal-spec =
-    tie.close
-    (tie.spec
-    is-outside-requires
-    returns
-    servers-requires
-    is-outside-requires-2
-    returns-2
-    is-outside-requires-3
-    returns-3
-    is-pending-requires
-    returns-4
-    returns-5
-    returns-6)
+make-refusal-spec = tie.close (tie.spec (λ c κs. search needs) returns servers-requires (λ c κs. search needs) returns-2 (λ c κs. search needs)
+    returns-3 (λ c κs. search needs) returns-4 returns-5 returns-6)

@@ -12,18 +12,12 @@ use borrow.Author.Needs.{needs}
 use Rattle.client.proofs.refusals.read_refusal.Statement.{statement}
 use Rattle.client.proofs.refusals.read_refusal.Tie as tie
 
-is-outside-requires : tie.Need-is-outside-requires
-is-outside-requires c κs = search needs
-
 returns : tie.Need-returns
 unfolding readRefusal shelf
 returns c =
     let a = c .before .before .args in
     let w₁ : badFaults (shelf (a .t)) ≡ true = sym (c .before .is-outside .ensures) ∙ c .if1 .taken in
     rw w₁
-
-is-outside-requires-2 : tie.Need-is-outside-requires-2
-is-outside-requires-2 c κs = search needs
 
 returns-2 : tie.Need-returns-2
 unfolding readRefusal shelf
@@ -33,9 +27,6 @@ returns-2 c =
     let w₂ : not (within 1 topClient (a .client)) ≡ true = sym (c .before .is-outside2 .ensures) ∙ c .if2 .taken in
     rw (w₁, w₂)
 
-is-pending-requires : tie.Need-is-pending-requires
-is-pending-requires c κs = search needs
-
 returns-3 : tie.Need-returns-3
 unfolding readRefusal shelf
 returns-3 c =
@@ -44,9 +35,6 @@ returns-3 c =
     let w₂ : not (within 1 topClient (a .client)) ≡ false = sym (c .before .before .before .is-outside2 .ensures) ∙ c .before .before .if2 .left in
     let w₃ : inHand (a .call) ≡ true = sym (c .before .is-pending .ensures) ∙ c .if3 .taken in
     rw (w₁, w₂, w₃)
-
-cast-if4 : tie.Need-cast-if4
-cast-if4 c = search needs
 
 returns-4 : tie.Need-returns-4
 unfolding readRefusal shelf
@@ -69,15 +57,5 @@ returns-5 c =
     rw (w₁, w₂, w₃, w₄)
 
 pub read-refusal-spec : {M : Type 1} → statement M
-read-refusal-spec =
-    tie.close
-    (tie.spec
-    is-outside-requires
-    returns
-    is-outside-requires-2
-    returns-2
-    is-pending-requires
-    returns-3
-    cast-if4
-    returns-4
-    returns-5)
+read-refusal-spec = tie.close (tie.spec (λ c κs. search needs) returns (λ c κs. search needs) returns-2 (λ c κs. search needs) returns-3
+    (λ c. search needs) returns-4 returns-5)

@@ -3,14 +3,8 @@ use borrow.Author.Needs.{needs}
 use Rattle.client.proofs.refusals.servers.Statement.{statement}
 use Rattle.client.proofs.refusals.servers.Tie as tie
 
-cast-servers : tie.Need-cast-servers
-cast-servers c = search needs
-
-servers-requires : tie.Need-servers-requires
-servers-requires c κs = search needs
-
 returns : tie.Need-returns
 returns c = c .servers .ensures
 
 pub servers-spec : {M : Type 1} → statement M
-servers-spec = tie.close (tie.spec cast-servers servers-requires returns)
+servers-spec = tie.close (tie.spec (λ c. search needs) (λ c κs. search needs) returns)

@@ -12,18 +12,12 @@ use borrow.Author.Needs.{needs}
 use Rattle.client.proofs.refusals.write_refusal.Statement.{statement}
 use Rattle.client.proofs.refusals.write_refusal.Tie as tie
 
-is-outside-requires : tie.Need-is-outside-requires
-is-outside-requires c κs = search needs
-
 returns : tie.Need-returns
 unfolding writeRefusal shelf
 returns c =
     let a = c .before .before .args in
     let w₁ : badFaults (shelf (a .t)) ≡ true = sym (c .before .is-outside .ensures) ∙ c .if1 .taken in
     rw w₁
-
-is-outside-requires-2 : tie.Need-is-outside-requires-2
-is-outside-requires-2 c κs = search needs
 
 returns-2 : tie.Need-returns-2
 unfolding writeRefusal shelf
@@ -32,9 +26,6 @@ returns-2 c =
     let w₁ : badFaults (shelf (a .t)) ≡ false = sym (c .before .before .before .is-outside .ensures) ∙ c .before .before .if1 .left in
     let w₂ : not (within 1 topWriter (a .client)) ≡ true = sym (c .before .is-outside2 .ensures) ∙ c .if2 .taken in
     rw (w₁, w₂)
-
-is-outside-requires-3 : tie.Need-is-outside-requires-3
-is-outside-requires-3 c κs = search needs
 
 returns-3 : tie.Need-returns-3
 unfolding writeRefusal shelf
@@ -45,9 +36,6 @@ returns-3 c =
     let w₃ : not (within leastLength topLength (a .n)) ≡ true = sym (c .before .is-outside3 .ensures) ∙ c .if3 .taken in
     rw (w₁, w₂, w₃)
 
-is-pending-requires : tie.Need-is-pending-requires
-is-pending-requires c κs = search needs
-
 returns-4 : tie.Need-returns-4
 unfolding writeRefusal shelf
 returns-4 c =
@@ -57,9 +45,6 @@ returns-4 c =
     let w₃ : not (within leastLength topLength (a .n)) ≡ false = sym (c .before .before .before .is-outside3 .ensures) ∙ c .before .before .if3 .left in
     let w₄ : inHand (a .call) ≡ true = sym (c .before .is-pending .ensures) ∙ c .if4 .taken in
     rw (w₁, w₂, w₃, w₄)
-
-cast-if5 : tie.Need-cast-if5
-cast-if5 c = search needs
 
 returns-5 : tie.Need-returns-5
 unfolding writeRefusal shelf
@@ -84,17 +69,5 @@ returns-6 c =
     rw (w₁, w₂, w₃, w₄, w₅)
 
 pub write-refusal-spec : {M : Type 1} → statement M
-write-refusal-spec =
-    tie.close
-    (tie.spec
-    is-outside-requires
-    returns
-    is-outside-requires-2
-    returns-2
-    is-outside-requires-3
-    returns-3
-    is-pending-requires
-    returns-4
-    cast-if5
-    returns-5
-    returns-6)
+write-refusal-spec = tie.close (tie.spec (λ c κs. search needs) returns (λ c κs. search needs) returns-2 (λ c κs. search needs) returns-3
+    (λ c κs. search needs) returns-4 (λ c. search needs) returns-5 returns-6)

@@ -10,9 +10,6 @@ use Rattle.client.proofs.Tests.{both}
 use Rattle.client.proofs.replies.awaited_kind.Statement.{statement}
 use Rattle.client.proofs.replies.awaited_kind.Tie as tie
 
-is-pending-requires : tie.Need-is-pending-requires
-is-pending-requires c κs = search needs
-
 mul-result : tie.Need-mul-result
 unfolding inHand
 mul-result c =
@@ -34,4 +31,4 @@ returns-2 c =
     rw w
 
 pub awaited-kind-spec : {M : Type 1} → statement M
-awaited-kind-spec = tie.close (tie.spec is-pending-requires mul-result returns returns-2)
+awaited-kind-spec = tie.close (tie.spec (λ c κs. search needs) mul-result returns returns-2)

@@ -4,14 +4,8 @@ use borrow.Author.Tests.{eq-eqb, ne-eqb}
 use Rattle.client.proofs.replies.is_foreign.Statement.{statement}
 use Rattle.client.proofs.replies.is_foreign.Tie as tie
 
-cast-if1 : tie.Need-cast-if1
-cast-if1 c = search needs
-
 returns : tie.Need-returns
 returns c = let a = c .before .before .args in rw (ne-eqb (a .head .t) (a .t) (c .if1 .taken))
-
-cast-if2 : tie.Need-cast-if2
-cast-if2 c = search needs
 
 returns-2 : tie.Need-returns-2
 returns-2 c = let a = c .before .before .before .before .args in rw (eq-eqb (a .head .t) (a .t) (c .before .before .if1 .left), ne-eqb (a .head .client) (a .client) (c .if2 .taken))
@@ -20,4 +14,4 @@ returns-3 : tie.Need-returns-3
 returns-3 c = let a = c .before .before .before .before .args in rw (eq-eqb (a .head .t) (a .t) (c .before .before .if1 .left), eq-eqb (a .head .client) (a .client) (c .if2 .left))
 
 pub is-foreign-spec : {M : Type 1} → statement M
-is-foreign-spec = tie.close (tie.spec cast-if1 returns cast-if2 returns-2 returns-3)
+is-foreign-spec = tie.close (tie.spec (λ c. search needs) returns (λ c. search needs) returns-2 returns-3)

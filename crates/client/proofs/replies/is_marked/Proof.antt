@@ -10,12 +10,6 @@ use Rattle.client.proofs.StampBytes.{marked-at}
 use Rattle.client.proofs.replies.is_marked.Statement.{statement}
 use Rattle.client.proofs.replies.is_marked.Tie as tie
 
-sub-if1 : tie.Need-sub-if1
-sub-if1 c = search needs
-
-element-copy-out-if1 : tie.Need-element-copy-out-if1
-element-copy-out-if1 c = search needs
-
 returns : tie.Need-returns
 returns c =
     let a = c .before .before .args in
@@ -29,4 +23,4 @@ returns-2 c =
     rw (marked-at (a .t1 .marks) (a .server) (c .before .before .pre .0), e)
 
 pub is-marked-spec : {M : Type 1} → statement M
-is-marked-spec = tie.close (tie.spec sub-if1 element-copy-out-if1 returns returns-2)
+is-marked-spec = tie.close (tie.spec (λ c. search needs) (λ c. search needs) returns returns-2)

@@ -9,17 +9,11 @@ use Rattle.client.specs.Steps.{replyRefusal, other}
 use Rattle.client.proofs.replies.reply_refusal.Statement.{statement}
 use Rattle.client.proofs.replies.reply_refusal.Tie as tie
 
-is-foreign-requires : tie.Need-is-foreign-requires
-is-foreign-requires c κs = search needs
-
 returns : tie.Need-returns
 unfolding replyRefusal
 returns c =
     let w = sym (c .before .is-foreign .ensures) ∙ c .if1 .taken in
     rw w
-
-awaited-kind-requires : tie.Need-awaited-kind-requires
-awaited-kind-requires c κs = search needs
 
 returns-2 : tie.Need-returns-2
 unfolding replyRefusal
@@ -27,9 +21,6 @@ returns-2 c =
     let w = sym (c .before .before .before .is-foreign .ensures) ∙ c .before .before .if1 .left in
     let z = sym (c .before .awaited-kind .ensures) ∙ c .if2 .taken in
     rw (w, z)
-
-is-other-requires : tie.Need-is-other-requires
-is-other-requires c κs = search needs
 
 returns-3 : tie.Need-returns-3
 unfolding replyRefusal
@@ -52,4 +43,4 @@ returns-4 c =
     rw (w, z, o)
 
 pub reply-refusal-spec : {M : Type 1} → statement M
-reply-refusal-spec = tie.close (tie.spec is-foreign-requires returns awaited-kind-requires returns-2 is-other-requires returns-3 returns-4)
+reply-refusal-spec = tie.close (tie.spec (λ c κs. search needs) returns (λ c κs. search needs) returns-2 (λ c κs. search needs) returns-3 returns-4)

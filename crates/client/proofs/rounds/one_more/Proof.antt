@@ -5,9 +5,6 @@ use borrow.Author.Needs.{needs}
 use Rattle.client.proofs.rounds.one_more.Statement.{statement}
 use Rattle.client.proofs.rounds.one_more.Tie as tie
 
-add-result : tie.Need-add-result
-add-result c = search needs
-
 returns : tie.Need-returns
 returns c = rw (lt-ltb (c .before .args .count) 13 (omega arith))
 
@@ -15,4 +12,4 @@ returns-2 : tie.Need-returns-2
 returns-2 c = rw (le-ltb (c .before .args .count) 13 (omega arith))
 
 pub one-more-spec : {M : Type 1} → statement M
-one-more-spec = tie.close (tie.spec add-result returns returns-2)
+one-more-spec = tie.close (tie.spec (λ c. search needs) returns returns-2)

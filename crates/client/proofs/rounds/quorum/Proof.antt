@@ -7,9 +7,6 @@ use borrow.Author.Needs.{needs}
 use Rattle.client.proofs.rounds.quorum.Statement.{statement}
 use Rattle.client.proofs.rounds.quorum.Tie as tie
 
-servers-requires : tie.Need-servers-requires
-servers-requires c κs = search needs
-
 sub-result : tie.Need-sub-result
 unfolding shelf
 sub-result c = let e : c .servers .result ≡ 3 * c .before .args .t + 1 = c .servers .ensures in omega arith
@@ -19,4 +16,4 @@ unfolding shelf quorum
 returns c = rw (c .servers .ensures)
 
 pub quorum-spec : {M : Type 1} → statement M
-quorum-spec = tie.close (tie.spec servers-requires sub-result returns)
+quorum-spec = tie.close (tie.spec (λ c κs. search needs) sub-result returns)

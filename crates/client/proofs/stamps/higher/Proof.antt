@@ -11,30 +11,12 @@ use Rattle.client.proofs.StampBytes.{stays-low, raised, not-raised}
 use Rattle.client.proofs.stamps.higher.Statement.{statement}
 use Rattle.client.proofs.stamps.higher.Tie as tie
 
-number4-requires : tie.Need-number4-requires
-number4-requires c κs = search needs
-
 returns : tie.Need-returns
 unfolding stampAt
 returns c =
     let a = c .before .before .before .args in
     let e = c .before .number4 .ensures in
     sym (stays-low (a .writers .now) (a .body .now) (a .high) (rw e at (c .if1 .taken)))
-
-part-requires : tie.Need-part-requires
-part-requires c κs = search needs
-
-tag-requires : tie.Need-tag-requires
-tag-requires c κs = search needs
-
-part-requires-2 : tie.Need-part-requires-2
-part-requires-2 c κs = search needs
-
-slice-aggregate-same : tie.Need-slice-aggregate-same
-slice-aggregate-same c = search needs
-
-same-requires : tie.Need-same-requires
-same-requires c κs = search needs
 
 returns-2 : tie.Need-returns-2
 unfolding stampAt
@@ -55,4 +37,5 @@ returns-3 c =
     sym (not-raised (a .writers .now) (a .body .now) (a .high) (λ k. c .before .before .before .before .before .before .before .before .before .shared-slice-known .given k .fits) (omega (arith, c .before .before .before .before .before .before .before .before .before .before .pre)) up s)
 
 pub higher-spec : {M : Type 1} → statement M
-higher-spec = tie.close (tie.spec number4-requires returns part-requires tag-requires part-requires-2 slice-aggregate-same same-requires returns-2 returns-3)
+higher-spec = tie.close (tie.spec (λ c κs. search needs) returns (λ c κs. search needs) (λ c κs. search needs) (λ c κs. search needs)
+    (λ c. search needs) (λ c κs. search needs) returns-2 returns-3)

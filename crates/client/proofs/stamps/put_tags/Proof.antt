@@ -20,9 +20,6 @@ Inv-loop tags₀ t keys stamp digest s i₀ tags i = (i ≤ s) × (tags ≡ put 
 abbrev μ-loop : tie.MeasureT-loop
 μ-loop tags₀ t keys stamp digest s i₀ tags i = s - i
 
-servers-requires : tie.Need-servers-requires Inv-loop μ-loop
-servers-requires c κs = search needs
-
 loop-holds : tie.Need-loop-holds Inv-loop μ-loop
 unfolding tagRun runOf
 loop-holds c = (omega arith, put-none (c .before .before .before .args .tags .now))
@@ -35,15 +32,9 @@ element-copy-out-tag-with : tie.Need-element-copy-out-tag-with Inv-loop μ-loop
 unfolding shelf
 element-copy-out-tag-with c = let e : c .before .before .servers .result ≡ 3 * c .before .before .before .before .before .args .t + 1 = c .before .before .servers .ensures in omega arith
 
-tag-with-requires : tie.Need-tag-with-requires Inv-loop μ-loop
-tag-with-requires c κs = search needs
-
 mul-write-at : tie.Need-mul-write-at Inv-loop μ-loop
 unfolding shelf
 mul-write-at c = let e : c .before .before .before .before .before .servers .result ≡ 3 * c .before .before .before .before .before .before .before .before .args .t + 1 = c .before .before .before .before .before .servers .ensures in omega arith
-
-slice-aggregate-write-at : tie.Need-slice-aggregate-write-at Inv-loop μ-loop
-slice-aggregate-write-at c = search needs
 
 write-at-requires : tie.Need-write-at-requires Inv-loop μ-loop
 unfolding shelf
@@ -56,12 +47,6 @@ write-at-requires c κs =
     let l : length (c .before .before .before .before .before .loop .tags) ≡ length (a .tags .now) = ap length (c .before .before .before .before .before .loop .inv .1) ∙ put-length (a .tags .now) 0 (tagRun (a .keys .now) (a .stamp .now) (a .digest) i) (omega (arith, r)) in
     let g : length (c .before .before .tag-with .result) ≡ tagSize = search needs in
     omega (arith, l, g)
-
-add-i : tie.Need-add-i Inv-loop μ-loop
-add-i c = search needs
-
-loop-less : tie.Need-loop-less Inv-loop μ-loop
-loop-less c = omega arith
 
 loop-again : tie.Need-loop-again Inv-loop μ-loop
 unfolding shelf
@@ -95,4 +80,5 @@ returns c =
     rw q at (c .before .loop .inv .1)
 
 pub put-tags-spec : {M : Type 1} → statement M
-put-tags-spec = tie.close (tie.spec Inv-loop μ-loop servers-requires loop-holds mul-tag-with element-copy-out-tag-with tag-with-requires mul-write-at slice-aggregate-write-at write-at-requires add-i loop-less loop-again same-length returns)
+put-tags-spec = tie.close (tie.spec Inv-loop μ-loop (λ c κs. search needs) loop-holds mul-tag-with element-copy-out-tag-with (λ c κs. search needs)
+    mul-write-at (λ c. search needs) write-at-requires (λ c. search needs) (λ c. omega arith) loop-again same-length returns)

@@ -13,33 +13,6 @@ use Rattle.client.proofs.StampBytes.{two-puts}
 use Rattle.client.proofs.stamps.stamp_bytes.Statement.{statement}
 use Rattle.client.proofs.stamps.stamp_bytes.Tie as tie
 
-stamp-message-requires : tie.Need-stamp-message-requires
-stamp-message-requires c κs = search needs
-
-slice-aggregate-tag : tie.Need-slice-aggregate-tag
-slice-aggregate-tag c = search needs
-
-tag-requires : tie.Need-tag-requires
-tag-requires c κs = search needs
-
-slice-aggregate-write-at : tie.Need-slice-aggregate-write-at
-slice-aggregate-write-at c = search needs
-
-slice-aggregate-write-at-2 : tie.Need-slice-aggregate-write-at-2
-slice-aggregate-write-at-2 c = search needs
-
-write-at-requires : tie.Need-write-at-requires
-write-at-requires c κs = search needs
-
-slice-aggregate-write-at-3 : tie.Need-slice-aggregate-write-at-3
-slice-aggregate-write-at-3 c = search needs
-
-slice-aggregate-write-at-4 : tie.Need-slice-aggregate-write-at-4
-slice-aggregate-write-at-4 c = search needs
-
-write-at-requires-2 : tie.Need-write-at-requires-2
-write-at-requires-2 c κs = search needs
-
 returns : tie.Need-returns
 unfolding stampMessage real
 returns c =
@@ -58,4 +31,5 @@ returns c =
     v ∙ q
 
 pub stamp-bytes-spec : {M : Type 1} → statement M
-stamp-bytes-spec = tie.close (tie.spec stamp-message-requires slice-aggregate-tag tag-requires slice-aggregate-write-at slice-aggregate-write-at-2 write-at-requires slice-aggregate-write-at-3 slice-aggregate-write-at-4 write-at-requires-2 returns)
+stamp-bytes-spec = tie.close (tie.spec (λ c κs. search needs) (λ c. search needs) (λ c κs. search needs) (λ c. search needs) (λ c. search needs)
+    (λ c κs. search needs) (λ c. search needs) (λ c. search needs) (λ c κs. search needs) returns)

@@ -4,16 +4,10 @@ use borrow.Author.Needs.{needs}
 use Rattle.client.proofs.taking.take_by_value.Statement.{statement}
 use Rattle.client.proofs.taking.take_by_value.Tie as tie
 
-take-in-requires : tie.Need-take-in-requires
-take-in-requires c κs = search needs
-
-same-length : tie.Need-same-length
-same-length c = search needs
-
 returns : tie.Need-returns
 returns c =
     let a = c .before .before .before .before .before .before .before .args in
     core-answers (a .t) (a .client) (a .writers .now) (a .keys .now) (a .call) (a .kept .now) (a .reply .now) (a .out .now) (search needs) _ _ _ (c .before .before .take-in .ensures)
 
 pub take-by-value-spec : {M : Type 1} → statement M
-take-by-value-spec = tie.close (tie.spec take-in-requires same-length returns)
+take-by-value-spec = tie.close (tie.spec (λ c κs. search needs) (λ c. search needs) returns)

@@ -8,20 +8,11 @@ use borrow.Author.Needs.{needs}
 use Rattle.client.proofs.taking.take_in.Statement.{statement}
 use Rattle.client.proofs.taking.take_in.Tie as tie
 
-refused-requires : tie.Need-refused-requires
-refused-requires c κs = search needs
-
 returns : tie.Need-returns
 returns c =
     let a = c .before .before .before .before .before .args in
     let e = take-length (a .t) (a .client) (a .writers .now) (a .keys .now) (a .call) (a .kept .now) (a .reply .now) (a .out .now) (c .before .if1 .taken) in
     (rw (e, c .refused .ensures), (rw e, rw e))
-
-is-outside-requires : tie.Need-is-outside-requires
-is-outside-requires c κs = search needs
-
-refused-requires-2 : tie.Need-refused-requires-2
-refused-requires-2 c κs = search needs
 
 returns-2 : tie.Need-returns-2
 unfolding shelf
@@ -30,12 +21,6 @@ returns-2 c =
     let w : badFaults (shelf (a .t)) ≡ true = sym (c .before .before .is-outside .ensures) ∙ c .before .if2 .taken in
     taken-in (a .t) (a .client) (a .writers .now) (a .keys .now) (a .call) (a .kept .now) (a .reply .now) (a .out .now) (c .refused2 .result) (a .kept .now) (a .out .now) (c .before .before .before .if1 .left)
     (takes-refused (a .t) (a .client) (a .writers .now) (a .keys .now) (a .call) (a .kept .now) (a .reply .now) (a .out .now) (c .refused2 .result) 3 (c .refused2 .ensures) (take-faults (a .t) (a .client) (a .writers .now) (a .keys .now) (a .call) (a .kept .now) (a .reply .now) (a .out .now) w))
-
-is-outside-requires-2 : tie.Need-is-outside-requires-2
-is-outside-requires-2 c κs = search needs
-
-refused-requires-3 : tie.Need-refused-requires-3
-refused-requires-3 c κs = search needs
 
 returns-3 : tie.Need-returns-3
 unfolding shelf
@@ -51,30 +36,11 @@ unfolding shelf
 take-reply-requires c κs =
     (sym (c .before .before .before .before .before .is-outside .ensures) ∙ c .before .before .before .before .if2 .left, (sym (c .before .before .before .is-outside2 .ensures) ∙ c .before .before .if3 .left, c .before .before .before .before .before .before .if1 .left))
 
-same-length : tie.Need-same-length
-same-length c = search needs
-
-same-length-2 : tie.Need-same-length-2
-same-length-2 c = search needs
-
 returns-4 : tie.Need-returns-4
 returns-4 c =
     let a = c .before .before .before .before .before .before .before .before .before .before .before .before .before .before .before .args in
     taken-in (a .t) (a .client) (a .writers .now) (a .keys .now) (a .call) (a .kept .now) (a .reply .now) (a .out .now) (c .before .before .before .before .take-reply .result) _ _ (c .before .before .before .before .before .before .before .before .before .before .before .if1 .left) (c .before .before .before .before .take-reply .ensures)
 
 pub take-in-spec : {M : Type 1} → statement M
-take-in-spec =
-    tie.close
-    (tie.spec
-    refused-requires
-    returns
-    is-outside-requires
-    refused-requires-2
-    returns-2
-    is-outside-requires-2
-    refused-requires-3
-    returns-3
-    take-reply-requires
-    same-length
-    same-length-2
-    returns-4)
+take-in-spec = tie.close (tie.spec (λ c κs. search needs) returns (λ c κs. search needs) (λ c κs. search needs) returns-2 (λ c κs. search needs)
+    (λ c κs. search needs) returns-3 take-reply-requires (λ c. search needs) (λ c. search needs) returns-4)

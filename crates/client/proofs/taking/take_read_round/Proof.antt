@@ -12,12 +12,6 @@ use borrow.Author.Needs.{needs}
 use Rattle.client.proofs.taking.take_read_round.Statement.{statement}
 use Rattle.client.proofs.taking.take_read_round.Tie as tie
 
-cast-server : tie.Need-cast-server
-cast-server c = search needs
-
-rest-requires : tie.Need-rest-requires
-rest-requires c κs = search needs
-
 take-collect-requires : tie.Need-take-collect-requires
 take-collect-requires c κs =
     let z = c .before .before .before .before .before .before .before .before in
@@ -28,9 +22,6 @@ take-collect-requires c κs =
     let l : length (drop headSize (a .reply .now)) ≤ candidateSlot = collect-length (a .t) (a .client) (a .call) (a .reply .now) (a .head) (p .0) (λ k. c .before .before .before .before .before .before .shared-slice-known .given k .fits) (c .before .before .if1 .taken) in
     (f .1, (r .0, (r .1, (p .1 .1 .0, rw (c .rest .ensures) l))))
 
-same-length : tie.Need-same-length
-same-length c = search needs
-
 returns : tie.Need-returns
 returns c =
     let z = c .before .before .before .before .before .before .before .before .before .before .before in
@@ -38,15 +29,6 @@ returns c =
     let p = z .pre in
     λ writers keys. takes-collect (a .t) (a .client) writers keys (a .call) (a .kept .now) (a .reply .now) (a .out .now) (a .head) (p .0) (p .1 .1 .1)
     (c .before .before .before .before .before .if1 .taken) (λ k. c .before .before .before .before .before .before .before .before .before .shared-slice-known .given k .fits) _ (c .before .before .before .rest .ensures) (c .before .before .take-collect .result) (c .before .before .take-collect .ensures .0) _ (c .before .before .take-collect .ensures .1)
-
-take-filter-requires : tie.Need-take-filter-requires
-take-filter-requires c κs = search needs
-
-same-length-2 : tie.Need-same-length-2
-same-length-2 c = search needs
-
-same-length-3 : tie.Need-same-length-3
-same-length-3 c = search needs
 
 returns-2 : tie.Need-returns-2
 returns-2 c = search needs
@@ -60,12 +42,6 @@ take-repair-requires c κs =
     let r = ready-server (a .t) (a .client) (a .call) (a .reply .now) (a .head) (p .0) in
     (f .1, (r .0, (r .1, p .1 .1 .1)))
 
-same-length-4 : tie.Need-same-length-4
-same-length-4 c = search needs
-
-same-length-5 : tie.Need-same-length-5
-same-length-5 c = search needs
-
 returns-3 : tie.Need-returns-3
 returns-3 c =
     let z = c .before .before .before .before .before .before .before .before .before .before .before .before in
@@ -77,19 +53,5 @@ returns-3 c =
     (c .before .before .take-repair .result) (c .before .before .take-repair .ensures .0) _ (c .before .before .take-repair .ensures .1)
 
 pub take-read-round-spec : {M : Type 1} → statement M
-take-read-round-spec =
-    tie.close
-    (tie.spec
-    cast-server
-    rest-requires
-    take-collect-requires
-    same-length
-    returns
-    take-filter-requires
-    same-length-2
-    same-length-3
-    returns-2
-    take-repair-requires
-    same-length-4
-    same-length-5
-    returns-3)
+take-read-round-spec = tie.close (tie.spec (λ c. search needs) (λ c κs. search needs) take-collect-requires (λ c. search needs) returns
+    (λ c κs. search needs) (λ c. search needs) (λ c. search needs) returns-2 take-repair-requires (λ c. search needs) (λ c. search needs) returns-3)

@@ -6,18 +6,6 @@ use borrow.Author.Needs.{needs}
 use Rattle.client.proofs.taking.take_reply.Statement.{statement}
 use Rattle.client.proofs.taking.take_reply.Tie as tie
 
-read-packet-requires : tie.Need-read-packet-requires
-read-packet-requires c κs = search needs
-
-enum-known-head : tie.Need-enum-known-head
-enum-known-head c = search needs
-
-enum-told : tie.Need-enum-told
-enum-told c = search needs
-
-refused-requires : tie.Need-refused-requires
-refused-requires c κs = search needs
-
 returns : tie.Need-returns
 returns c =
     let z = c .before .before .before .before .before .before .before in
@@ -30,9 +18,6 @@ reply-refusal-requires : tie.Need-reply-refusal-requires
 reply-refusal-requires c κs =
     let a = c .before .before .before .before .before .before .before .args in
     server-range (a .reply .now) (c .before .head .given .0 .0) (rw (c .before .head .given .1) at (c .before .before .before .read-packet .ensures))
-
-refused-requires-2 : tie.Need-refused-requires-2
-refused-requires-2 c κs = search needs
 
 returns-2 : tie.Need-returns-2
 returns-2 c =
@@ -49,28 +34,9 @@ take-round-requires c κs =
     let p = z .pre in
     (record { decoded = (rw (c .before .before .before .before .before .head .given .1) at (c .before .before .before .before .before .before .before .read-packet .ensures)); faults = p .0; reader = p .1 .0; awaited = sym (c .before .before .before .reply-refusal .ensures) ∙ c .before .before .if1 .left }, p .1 .1)
 
-same-length : tie.Need-same-length
-same-length c = search needs
-
-same-length-2 : tie.Need-same-length-2
-same-length-2 c = search needs
-
 returns-3 : tie.Need-returns-3
 returns-3 c = search needs
 
 pub take-reply-spec : {M : Type 1} → statement M
-take-reply-spec =
-    tie.close
-    (tie.spec
-    read-packet-requires
-    enum-known-head
-    enum-told
-    refused-requires
-    returns
-    reply-refusal-requires
-    refused-requires-2
-    returns-2
-    take-round-requires
-    same-length
-    same-length-2
-    returns-3)
+take-reply-spec = tie.close (tie.spec (λ c κs. search needs) (λ c. search needs) (λ c. search needs) (λ c κs. search needs) returns
+    reply-refusal-requires (λ c κs. search needs) returns-2 take-round-requires (λ c. search needs) (λ c. search needs) returns-3)

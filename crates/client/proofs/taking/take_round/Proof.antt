@@ -6,19 +6,10 @@ use borrow.Author.Needs.{needs}
 use Rattle.client.proofs.taking.take_round.Statement.{statement}
 use Rattle.client.proofs.taking.take_round.Tie as tie
 
-take-clock-requires : tie.Need-take-clock-requires
-take-clock-requires c κs = search needs
-
-same-length : tie.Need-same-length
-same-length c = search needs
-
 returns : tie.Need-returns
 returns c =
     let a = c .before .before .before .before .before .before .before .before .before .args in
     c .before .before .take-clock .ensures (a .out .now) refl
-
-refused-requires : tie.Need-refused-requires
-refused-requires c κs = search needs
 
 returns-2 : tie.Need-returns-2
 returns-2 c =
@@ -36,22 +27,10 @@ take-write-round-requires c κs =
     let q = ready-round (a .t) (a .client) (a .call) (a .reply .now) (a .head) (p .0) in
     (p .0, (omega (arith, c .before .before .before .if1 .left), c .before .if3 .taken))
 
-same-length-2 : tie.Need-same-length-2
-same-length-2 c = search needs
-
 returns-3 : tie.Need-returns-3
 returns-3 c =
     let a = c .before .before .before .before .before .before .before .before .before .args in
     c .take-write-round .ensures (a .writers .now) (a .keys .now) (a .out .now) (omega (arith, c .before .before .before .if2 .left))
-
-take-read-round-requires : tie.Need-take-read-round-requires
-take-read-round-requires c κs = search needs
-
-same-length-3 : tie.Need-same-length-3
-same-length-3 c = search needs
-
-same-length-4 : tie.Need-same-length-4
-same-length-4 c = search needs
 
 returns-4 : tie.Need-returns-4
 returns-4 c =
@@ -59,18 +38,5 @@ returns-4 c =
     c .before .before .before .before .take-read-round .ensures (a .writers .now) (a .keys .now)
 
 pub take-round-spec : {M : Type 1} → statement M
-take-round-spec =
-    tie.close
-    (tie.spec
-    take-clock-requires
-    same-length
-    returns
-    refused-requires
-    returns-2
-    take-write-round-requires
-    same-length-2
-    returns-3
-    take-read-round-requires
-    same-length-3
-    same-length-4
-    returns-4)
+take-round-spec = tie.close (tie.spec (λ c κs. search needs) (λ c. search needs) returns (λ c κs. search needs) returns-2 take-write-round-requires
+    (λ c. search needs) returns-3 (λ c κs. search needs) (λ c. search needs) (λ c. search needs) returns-4)

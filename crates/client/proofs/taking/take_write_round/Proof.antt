@@ -7,12 +7,6 @@ use borrow.Author.Needs.{needs}
 use Rattle.client.proofs.taking.take_write_round.Statement.{statement}
 use Rattle.client.proofs.taking.take_write_round.Tie as tie
 
-cast-server : tie.Need-cast-server
-cast-server c = search needs
-
-byte-at-requires : tie.Need-byte-at-requires
-byte-at-requires c κs = search needs
-
 take-store-requires : tie.Need-take-store-requires
 take-store-requires c κs =
     let z = c .before .before .before .before .before .before in
@@ -45,12 +39,4 @@ returns-2 c =
     (c .take-complete .result) (c .take-complete .ensures)
 
 pub take-write-round-spec : {M : Type 1} → statement M
-take-write-round-spec =
-    tie.close
-    (tie.spec
-    cast-server
-    byte-at-requires
-    take-store-requires
-    returns
-    take-complete-requires
-    returns-2)
+take-write-round-spec = tie.close (tie.spec (λ c. search needs) (λ c κs. search needs) take-store-requires returns take-complete-requires returns-2)

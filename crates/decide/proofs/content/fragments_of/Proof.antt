@@ -35,9 +35,6 @@ loop-holds c = (omega arith, refl, λ q l. absurd (omega arith))
 array-read-at : tie.Need-array-read-at Inv-loop μ-loop
 array-read-at c = omega (arith, c .before .before .shares .ensures .1, c .before .before .before .before .before .pre .0 .high)
 
-cast-at : tie.Need-cast-at Inv-loop μ-loop
-cast-at c = search needs
-
 sub-at : tie.Need-sub-at Inv-loop μ-loop
 sub-at c =
     let a = c .before .before .before .before .before .args in
@@ -77,9 +74,6 @@ add-at-3 c =
     let l : c .before .loop .p < shelf (a .t) .shares = omega (arith, c .before .before .shares .ensures .0) in
     let f = shelf-fits (a .t) (p .0 .low) (p .0 .high) in
     omega (arith, p .2 .lowest (c .before .loop .p) l, p .2 .highest (c .before .loop .p) l, f .few, f .room (a .n) (p .1), p .0 .size, c .before .before .before .fragment-size .ensures, place-room (c .before .loop .p) (shelf (a .t) .shares) (fragmentSize (shelf (a .t) .shares) (a .n)) l, fragments-room (a .t) (a .n) (p .0 .low) (p .0 .high) (p .1), ap (λ (z : ℕ). c .before .loop .p * z) (c .before .before .before .fragment-size .ensures))
-
-slice-aggregate-copy : tie.Need-slice-aggregate-copy Inv-loop μ-loop
-slice-aggregate-copy c = search needs
 
 mul-copy : tie.Need-mul-copy Inv-loop μ-loop
 mul-copy c =
@@ -145,9 +139,6 @@ add-p c =
     let f = shelf-fits (a .t) (p .0 .low) (p .0 .high) in
     omega (arith, p .2 .lowest (c .before .before .before .before .before .loop .p) l, p .2 .highest (c .before .before .before .before .before .loop .p) l, f .few, f .room (a .n) (p .1), p .0 .size, c .before .before .before .before .before .before .before .fragment-size .ensures, place-room (c .before .before .before .before .before .loop .p) (shelf (a .t) .shares) (fragmentSize (shelf (a .t) .shares) (a .n)) l, fragments-room (a .t) (a .n) (p .0 .low) (p .0 .high) (p .1), ap (λ (z : ℕ). c .before .before .before .before .before .loop .p * z) (c .before .before .before .before .before .before .before .fragment-size .ensures))
 
-loop-less : tie.Need-loop-less Inv-loop μ-loop
-loop-less c = omega arith
-
 loop-again : tie.Need-loop-again Inv-loop μ-loop
 loop-again c =
     let a = c .before .before .before .before .before .before .before .before .before .args in
@@ -168,29 +159,6 @@ returns c =
     record { long = omega (arith, fragments-room (a .t) (a .n) (p .0 .low) (p .0 .high) (p .1), c .before .loop .inv .1); each = λ q l. subst (λ (f : ℕ). part (c .before .loop .out) (q * f) f ≡ fragmentOf (a .kept .now) f (getD (a .t4) q 0) .bytes) e (c .before .loop .inv .2 q (omega (arith, c .before .before .shares .ensures .0))) }
 
 pub fragments-of-spec : {M : Type 1} → statement M
-fragments-of-spec =
-    tie.close
-    (tie.spec
-    Inv-loop
-    μ-loop
-    fragment-size-requires
-    shares-requires
-    loop-holds
-    array-read-at
-    cast-at
-    sub-at
-    mul-at
-    add-at
-    add-at-2
-    add-at-3
-    slice-aggregate-copy
-    mul-copy
-    add-copy
-    sub-copy
-    part-copy-start
-    part-copy-end
-    copy-requires
-    add-p
-    loop-less
-    loop-again
-    returns)
+fragments-of-spec = tie.close (tie.spec Inv-loop μ-loop fragment-size-requires shares-requires loop-holds array-read-at (λ c. search needs) sub-at
+    mul-at add-at add-at-2 add-at-3 (λ c. search needs) mul-copy add-copy sub-copy part-copy-start part-copy-end copy-requires add-p
+    (λ c. omega arith) loop-again returns)

@@ -75,20 +75,8 @@ fragments-of-requires c κs =
     let p = c .before .before .before .before .before .before .pre in
     (p .0, omega (arith, p .2 .top, size (a .kept .now) (a .b) (c .before .before .size-of .result) (c .before .before .size-of .ensures)), p .3)
 
-sub-restore : tie.Need-sub-restore
-sub-restore c = omega arith
-
-part-restore-start : tie.Need-part-restore-start
-part-restore-start c = omega arith
-
 part-restore-end : tie.Need-part-restore-end
 part-restore-end c = omega (arith, c .before .before .before .shares .ensures .1, c .before .before .before .before .before .before .before .before .pre .0 .high, c .before .before .before .before .before .before .before .before .good .1 .1 .1 .0 .1 .0 .1)
-
-sub-restore-2 : tie.Need-sub-restore-2
-sub-restore-2 c = omega arith
-
-part-restore-start-2 : tie.Need-part-restore-start-2
-part-restore-start-2 c = omega arith
 
 products : (k l f g : ℕ) → k ≡ l → f ≡ g → k * f ≡ l * g
 products k l f g e q = rw (e, q)
@@ -96,12 +84,6 @@ products k l f g e q = rw (e, q)
 part-restore-end-2 : tie.Need-part-restore-end-2
 part-restore-end-2 c =
     omega (arith, c .before .before .before .fragments-of .ensures .long, products (c .before .before .before .before .before .shares .result) (shelf (c .before .before .before .before .before .before .before .before .before .before .args .t) .shares) (c .before .before .before .before .fragment-size .result) (fragmentSize (shelf (c .before .before .before .before .before .before .before .before .before .before .args .t) .shares) (c .before .before .before .before .before .before .size-of .result)) (c .before .before .before .before .before .shares .ensures .0) (c .before .before .before .before .fragment-size .ensures))
-
-restore-requires : tie.Need-restore-requires
-restore-requires c κs = search needs
-
-same-length : tie.Need-same-length
-same-length c = search needs
 
 -- what is lent to restoring
 lent : (t n k l f g : ℕ) (servers frs out : List ℕ) → k ≡ l → f ≡ g
@@ -124,26 +106,6 @@ returns c =
     ∙ lent (a .t) (c .before .before .before .before .before .before .before .before .before .before .before .size-of .result) (c .before .before .before .before .before .before .before .before .before .before .shares .result) (shelf (a .t) .shares) (c .before .before .before .before .before .before .before .before .before .fragment-size .result) (fragmentSize (shelf (a .t) .shares) (c .before .before .before .before .before .before .before .before .before .before .before .size-of .result)) (a .t4) (c .before .before .before .before .before .before .before .before .fragments-of .result) (a .out .now) k f)
 
 pub rebuild-spec : {M : Type 1} → statement M
-rebuild-spec =
-    tie.close
-    (tie.spec
-    mul-y
-    add-y
-    add-size-of
-    sub-size-of
-    part-size-of-start
-    part-size-of-end
-    size-of-requires
-    shares-requires
-    fragment-size-requires
-    mul-end
-    fragments-of-requires
-    sub-restore
-    part-restore-start
-    part-restore-end
-    sub-restore-2
-    part-restore-start-2
-    part-restore-end-2
-    restore-requires
-    same-length
-    returns)
+rebuild-spec = tie.close (tie.spec mul-y add-y add-size-of sub-size-of part-size-of-start part-size-of-end size-of-requires shares-requires
+    fragment-size-requires mul-end fragments-of-requires (λ c. omega arith) (λ c. omega arith) part-restore-end (λ c. omega arith) (λ c. omega arith)
+    part-restore-end-2 (λ c κs. search needs) (λ c. search needs) returns)

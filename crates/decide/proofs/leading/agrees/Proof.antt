@@ -102,16 +102,5 @@ returns-6 c =
     )
 
 pub agrees-spec : {M : Type 1} → statement M
-agrees-spec =
-    tie.close
-    (tie.spec
-    returns
-    array-read-if2
-    returns-2
-    names-at-requires
-    returns-3
-    alike-at-requires
-    returns-4
-    intact-at-requires
-    returns-5
-    returns-6)
+agrees-spec = tie.close (tie.spec returns array-read-if2 returns-2 names-at-requires returns-3 alike-at-requires returns-4 intact-at-requires
+    returns-5 returns-6)

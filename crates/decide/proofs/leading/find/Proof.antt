@@ -33,9 +33,6 @@ returns c =
 add-i : tie.Need-add-i Inv-loop μ-loop
 add-i c = omega (arith, c .before .before .before .before .before .servers .ensures .1, c .before .before .before .before .before .before .before .pre .high)
 
-loop-less : tie.Need-loop-less Inv-loop μ-loop
-loop-less c = omega arith
-
 loop-again : tie.Need-loop-again Inv-loop μ-loop
 loop-again c =
     let a = c .before .before .before .before .before .before .before .args in
@@ -48,16 +45,4 @@ returns-2 c =
     record { nothing = λ z. sym (ap (chosenAt (a .t) (a .marks) (a .kept .now) (a .key)) e) ∙ c .before .loop .inv .1; hit = λ b z. absurd (omega (arith, z)) }
 
 pub find-spec : {M : Type 1} → statement M
-find-spec =
-    tie.close
-    (tie.spec
-    Inv-loop
-    μ-loop
-    servers-requires
-    loop-holds
-    tried-requires
-    returns
-    add-i
-    loop-less
-    loop-again
-    returns-2)
+find-spec = tie.close (tie.spec Inv-loop μ-loop servers-requires loop-holds tried-requires returns add-i (λ c. omega arith) loop-again returns-2)

@@ -50,12 +50,4 @@ returns-3 c =
     ∙ rw (sym (c .before .before .names-at .ensures) ∙ not-false (c .before .before .names-at .result) (c .before .if2 .left)))
 
 pub fits-spec : {M : Type 1} → statement M
-fits-spec =
-    tie.close
-    (tie.spec
-    array-read-if1
-    returns
-    names-at-requires
-    returns-2
-    intact-at-requires
-    returns-3)
+fits-spec = tie.close (tie.spec array-read-if1 returns names-at-requires returns-2 intact-at-requires returns-3)

@@ -48,13 +48,4 @@ returns-3 c =
     (ap (λ (x : ℕ). take x (c .before .before .before .before .members-of .result .servers)) k ∙ m .these)
 
 pub group-of-spec : {M : Type 1} → statement M
-group-of-spec =
-    tie.close
-    (tie.spec
-    fits-requires
-    returns
-    members-of-requires
-    shares-requires
-    returns-2
-    add-t12
-    returns-3)
+group-of-spec = tie.close (tie.spec fits-requires returns members-of-requires shares-requires returns-2 add-t12 returns-3)

@@ -42,17 +42,11 @@ part-digest-start c = let p = c .before .pre in omega (arith, p .0 .size)
 part-digest-end : tie.Need-part-digest-end Inv-loop μ-loop
 part-digest-end c = let p = c .before .pre in omega (arith, p .0 .size)
 
-digest-requires : tie.Need-digest-requires Inv-loop μ-loop
-digest-requires c κs = search needs
-
 servers-requires : tie.Need-servers-requires Inv-loop μ-loop
 servers-requires c κs = c .before .before .before .pre .0 .high
 
 loop-holds : tie.Need-loop-holds Inv-loop μ-loop
 loop-holds c = let a = c .before .before .before .before .args in (omega arith, leader-none (a .t) (a .marks) (a .kept .now) (a .i))
-
-slice-aggregate-group-of : tie.Need-slice-aggregate-group-of Inv-loop μ-loop
-slice-aggregate-group-of c = search needs
 
 group-of-requires : tie.Need-group-of-requires Inv-loop μ-loop
 group-of-requires c κs =
@@ -71,9 +65,6 @@ returns c =
 add-b : tie.Need-add-b Inv-loop μ-loop
 add-b c = omega (arith, c .before .before .before .before .before .before .servers .ensures .1, c .before .before .before .before .before .before .before .before .before .before .pre .0 .high)
 
-loop-less : tie.Need-loop-less Inv-loop μ-loop
-loop-less c = omega arith
-
 loop-again : tie.Need-loop-again Inv-loop μ-loop
 loop-again c =
     let a = c .before .before .before .before .before .before .before .before .before .before .args in
@@ -88,25 +79,5 @@ returns-2 c =
     (sym (ap (leaderAt (a .t) (a .marks) (a .kept .now) (a .i)) e) ∙ c .before .loop .inv .1)
 
 pub leader-spec : {M : Type 1} → statement M
-leader-spec =
-    tie.close
-    (tie.spec
-    Inv-loop
-    μ-loop
-    mul-at
-    add-at
-    add-at-2
-    add-digest
-    sub-digest
-    part-digest-start
-    part-digest-end
-    digest-requires
-    servers-requires
-    loop-holds
-    slice-aggregate-group-of
-    group-of-requires
-    returns
-    add-b
-    loop-less
-    loop-again
-    returns-2)
+leader-spec = tie.close (tie.spec Inv-loop μ-loop mul-at add-at add-at-2 add-digest sub-digest part-digest-start part-digest-end
+    (λ c κs. search needs) servers-requires loop-holds (λ c. search needs) group-of-requires returns add-b (λ c. omega arith) loop-again returns-2)

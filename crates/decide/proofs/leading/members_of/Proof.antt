@@ -58,12 +58,6 @@ returns c =
     enough (a .t) (a .marks) (a .kept .now) (a .i) (a .b) (record { count = c .before .before .loop .n; servers = c .before .before .loop .out }) (c .before .before .loop .j)
     (omega (arith, c .before .before .before .before .servers .ensures .0)) (omega (arith, c .before .before .before .shares .ensures .0, c .if1 .taken)) (v .3) (v .4)
 
-add-out : tie.Need-add-out Inv-loop μ-loop
-add-out c = search needs
-
-cast-out : tie.Need-cast-out Inv-loop μ-loop
-cast-out c = search needs
-
 array-write-out : tie.Need-array-write-out Inv-loop μ-loop
 array-write-out c = let v = c .before .before .loop .inv in omega (arith, v .1, v .2, c .before .before .before .shares .ensures .1, c .before .before .before .before .before .before .before .pre .0 .high)
 
@@ -77,9 +71,6 @@ add-n c =
 
 add-j : tie.Need-add-j Inv-loop μ-loop
 add-j c = omega (arith, c .before .before .before .before .before .servers .ensures .1, c .before .before .before .before .before .before .before .before .pre .0 .high)
-
-loop-less : tie.Need-loop-less Inv-loop μ-loop
-loop-less c = omega arith
 
 loop-again : tie.Need-loop-again Inv-loop μ-loop
 loop-again c =
@@ -103,21 +94,5 @@ returns-2 c =
     (omega (arith, c .before .before .before .servers .ensures .0)) (omega (arith, v .1, c .before .before .shares .ensures .0)) (v .3) (v .4)
 
 pub members-of-spec : {M : Type 1} → statement M
-members-of-spec =
-    tie.close
-    (tie.spec
-    Inv-loop
-    μ-loop
-    servers-requires
-    shares-requires
-    loop-holds
-    returns
-    add-out
-    cast-out
-    array-write-out
-    agrees-requires
-    add-n
-    add-j
-    loop-less
-    loop-again
-    returns-2)
+members-of-spec = tie.close (tie.spec Inv-loop μ-loop servers-requires shares-requires loop-holds returns (λ c. search needs) (λ c. search needs)
+    array-write-out agrees-requires add-n add-j (λ c. omega arith) loop-again returns-2)

@@ -14,15 +14,6 @@ use Rattle.decide.proofs.Led.{no-group, other-rank, not-listed, is-trie
 use Rattle.decide.proofs.leading.tried.Statement.{statement}
 use Rattle.decide.proofs.leading.tried.Tie as tie
 
-mul-rank-at : tie.Need-mul-rank-at
-mul-rank-at c = search needs
-
-add-rank-at : tie.Need-add-rank-at
-add-rank-at c = search needs
-
-rank-at-requires : tie.Need-rank-at-requires
-rank-at-requires c κs = search needs
-
 returns : tie.Need-returns
 returns c =
     let a = c .before .before .before .args in
@@ -30,18 +21,12 @@ returns c =
     no-group (a .t) (a .marks) (a .kept .now) (a .i) (cond (triedAt (a .t) (a .kept .now) (a .key) (a .i)) n 0) _ refl
     (rw (other-rank (a .t) (a .kept .now) (a .key) (a .i) (λ e. c .if1 .taken (c .before .rank-at .ensures ∙ sym (candidate-rank (shelf (a .t)) (a .kept .now) (a .i) (c .before .before .before .pre .1)) ∙ e))))
 
-entry-requires : tie.Need-entry-requires
-entry-requires c κs = search needs
-
 returns-2 : tie.Need-returns-2
 returns-2 c =
     let a = c .before .before .before .before .before .args in
     let n = leaderAt (a .t) (a .marks) (a .kept .now) (a .i) (shelf (a .t) .servers) in
     no-group (a .t) (a .marks) (a .kept .now) (a .i) (cond (triedAt (a .t) (a .kept .now) (a .key) (a .i)) n 0) _ refl
     (rw (not-listed (a .t) (a .kept .now) (a .key) (a .i) (bit-some (enters (candidatesIn (shelf (a .t)) (a .kept .now)) (suc (a .i))) (sym (c .before .entry .ensures) ∙ c .if2 .taken))))
-
-leader-requires : tie.Need-leader-requires
-leader-requires c κs = search needs
 
 returns-3 : tie.Need-returns-3
 returns-3 c =
@@ -51,14 +36,5 @@ returns-3 c =
     (c .leader .ensures)
 
 pub tried-spec : {M : Type 1} → statement M
-tried-spec =
-    tie.close
-    (tie.spec
-    mul-rank-at
-    add-rank-at
-    rank-at-requires
-    returns
-    entry-requires
-    returns-2
-    leader-requires
-    returns-3)
+tried-spec = tie.close (tie.spec (λ c. search needs) (λ c. search needs) (λ c κs. search needs) returns (λ c κs. search needs) returns-2
+    (λ c κs. search needs) returns-3)

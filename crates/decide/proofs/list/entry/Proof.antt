@@ -39,15 +39,6 @@ one-more p j h e k l = go (eqb k j) refl
     go true q = ap p (eqb-true k j q) ∙ e
     go false q = let d = eqb-false k j q in h k (omega arith)
 
-mul-rank-at : tie.Need-mul-rank-at Inv-loop μ-loop
-mul-rank-at c = search needs
-
-add-rank-at : tie.Need-add-rank-at Inv-loop μ-loop
-add-rank-at c = search needs
-
-rank-at-requires : tie.Need-rank-at-requires Inv-loop μ-loop
-rank-at-requires c κs = search needs
-
 returns : tie.Need-returns Inv-loop μ-loop
 returns c =
     let a = c .before .before .before .args in
@@ -59,9 +50,6 @@ returns c =
 loop-holds : tie.Need-loop-holds Inv-loop μ-loop
 loop-holds c = (search needs, λ k l. absurd (omega arith))
 
-twins-requires : tie.Need-twins-requires Inv-loop μ-loop
-twins-requires c κs = search needs
-
 returns-2 : tie.Need-returns-2 Inv-loop μ-loop
 returns-2 c =
     let z = c .before .before .before .before .before in
@@ -70,12 +58,6 @@ returns-2 c =
     rw (enters-twin (candidatesIn (shelf (a .t)) (a .kept .now)) (a .i) (c .before .before .before .loop .j)
     (stamp (a .t) (a .kept .now) (a .i) (z .rank-at .result) (λ k. z .before .shared-slice-known .given k .fits) (p .1) (z .rank-at .ensures) (omega arith))
     (omega arith) (sym (c .before .twins .ensures) ∙ c .if2 .taken))
-
-add-j : tie.Need-add-j Inv-loop μ-loop
-add-j c = search needs
-
-loop-less : tie.Need-loop-less Inv-loop μ-loop
-loop-less c = search needs
 
 loop-again : tie.Need-loop-again Inv-loop μ-loop
 loop-again c =
@@ -96,19 +78,5 @@ returns-3 c =
     (λ j l. c .before .loop .inv .1 j (omega arith)))
 
 pub entry-spec : {M : Type 1} → statement M
-entry-spec =
-    tie.close
-    (tie.spec
-    Inv-loop
-    μ-loop
-    mul-rank-at
-    add-rank-at
-    rank-at-requires
-    returns
-    loop-holds
-    twins-requires
-    returns-2
-    add-j
-    loop-less
-    loop-again
-    returns-3)
+entry-spec = tie.close (tie.spec Inv-loop μ-loop (λ c. search needs) (λ c. search needs) (λ c κs. search needs) returns loop-holds
+    (λ c κs. search needs) returns-2 (λ c. search needs) (λ c. search needs) loop-again returns-3)

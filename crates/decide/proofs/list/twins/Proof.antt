@@ -8,53 +8,11 @@ use Rattle.decide.proofs.Places.{part-of, same-slots}
 use Rattle.decide.proofs.list.twins.Statement.{statement}
 use Rattle.decide.proofs.list.twins.Tie as tie
 
-servers-requires : tie.Need-servers-requires
-servers-requires c κs = search needs
-
 mul-n : tie.Need-mul-n
 mul-n c = omega (arith, c .servers .ensures .1)
 
 add-n : tie.Need-add-n
 add-n c = omega (arith, c .servers .ensures .1)
-
-mul-a : tie.Need-mul-a
-mul-a c = search needs
-
-add-a : tie.Need-add-a
-add-a c = search needs
-
-mul-b : tie.Need-mul-b
-mul-b c = search needs
-
-add-b : tie.Need-add-b
-add-b c = search needs
-
-add-same : tie.Need-add-same
-add-same c = search needs
-
-sub-same : tie.Need-sub-same
-sub-same c = search needs
-
-part-same-start : tie.Need-part-same-start
-part-same-start c = search needs
-
-part-same-end : tie.Need-part-same-end
-part-same-end c = search needs
-
-add-same-2 : tie.Need-add-same-2
-add-same-2 c = search needs
-
-sub-same-2 : tie.Need-sub-same-2
-sub-same-2 c = search needs
-
-part-same-start-2 : tie.Need-part-same-start-2
-part-same-start-2 c = search needs
-
-part-same-end-2 : tie.Need-part-same-end-2
-part-same-end-2 c = search needs
-
-same-requires : tie.Need-same-requires
-same-requires c κs = search needs
 
 returns : tie.Need-returns
 returns c =
@@ -66,23 +24,6 @@ returns c =
     (p .0 .size) (p .1) (p .2))
 
 pub twins-spec : {M : Type 1} → statement M
-twins-spec =
-    tie.close
-    (tie.spec
-    servers-requires
-    mul-n
-    add-n
-    mul-a
-    add-a
-    mul-b
-    add-b
-    add-same
-    sub-same
-    part-same-start
-    part-same-end
-    add-same-2
-    sub-same-2
-    part-same-start-2
-    part-same-end-2
-    same-requires
-    returns)
+twins-spec = tie.close (tie.spec (λ c κs. search needs) mul-n add-n (λ c. search needs) (λ c. search needs) (λ c. search needs) (λ c. search needs)
+    (λ c. search needs) (λ c. search needs) (λ c. search needs) (λ c. search needs) (λ c. search needs) (λ c. search needs) (λ c. search needs)
+    (λ c. search needs) (λ c κs. search needs) returns)

@@ -11,15 +11,6 @@ use Rattle.decide.proofs.rank.is_lower.Tie as tie
 returns : tie.Need-returns
 returns c = rw (eq-eqb (c .before .before .args .mark) 0 (c .if1 .taken))
 
-mul-rank-at : tie.Need-mul-rank-at
-mul-rank-at c = search needs
-
-add-rank-at : tie.Need-add-rank-at
-add-rank-at c = search needs
-
-rank-at-requires : tie.Need-rank-at-requires
-rank-at-requires c κs = search needs
-
 returns-2 : tie.Need-returns-2
 returns-2 c =
     let a = c .before .before .before .before .args in
@@ -31,12 +22,4 @@ returns-3 c =
     rw (ne-eqb (a .mark) 0 (c .before .before .if1 .left), le-ltb (rankAt (a .kept .now) (repliesAt + replySlot * a .j)) (a .key) (omega (arith, c .before .rank-at .ensures)))
 
 pub is-lower-spec : {M : Type 1} → statement M
-is-lower-spec =
-    tie.close
-    (tie.spec
-    returns
-    mul-rank-at
-    add-rank-at
-    rank-at-requires
-    returns-2
-    returns-3)
+is-lower-spec = tie.close (tie.spec returns (λ c. search needs) (λ c. search needs) (λ c κs. search needs) returns-2 returns-3)

@@ -8,23 +8,11 @@ use Rattle.decide.proofs.Ranks.{candidate-rank}
 use Rattle.decide.proofs.rank.raised.Statement.{statement}
 use Rattle.decide.proofs.rank.raised.Tie as tie
 
-mul-rank-at : tie.Need-mul-rank-at
-mul-rank-at c = search needs
-
-add-rank-at : tie.Need-add-rank-at
-add-rank-at c = search needs
-
-rank-at-requires : tie.Need-rank-at-requires
-rank-at-requires c κs = search needs
-
 returns : tie.Need-returns
 unfolding raised
 returns c =
     let a = c .before .before .before .args in
     rw (candidate-rank (shelf (a .t)) (a .kept .now) (a .i) (c .before .before .before .pre .1), ← c .before .rank-at .ensures, le-ltb (a .top) (c .before .rank-at .result) (omega arith))
-
-stays-requires : tie.Need-stays-requires
-stays-requires c κs = search needs
 
 returns-2 : tie.Need-returns-2
 unfolding raised
@@ -39,13 +27,4 @@ returns-3 c =
     rw (candidate-rank (shelf (a .t)) (a .kept .now) (a .i) (c .before .before .before .before .before .pre .1), ← c .before .before .before .rank-at .ensures, lt-ltb (a .top) (c .before .before .before .rank-at .result) (omega arith), ← c .before .stays .ensures, c .if2 .left)
 
 pub raised-spec : {M : Type 1} → statement M
-raised-spec =
-    tie.close
-    (tie.spec
-    mul-rank-at
-    add-rank-at
-    rank-at-requires
-    returns
-    stays-requires
-    returns-2
-    returns-3)
+raised-spec = tie.close (tie.spec (λ c. search needs) (λ c. search needs) (λ c κs. search needs) returns (λ c κs. search needs) returns-2 returns-3)

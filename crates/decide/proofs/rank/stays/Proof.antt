@@ -22,9 +22,6 @@ Inv-loop kept t key marks s n₀ j₀ n j = (j ≤ s) × (n ≡ countTo j (ranks
 abbrev μ-loop : tie.MeasureT-loop
 μ-loop kept t key marks s n₀ j₀ n j = s - j
 
-servers-requires : tie.Need-servers-requires Inv-loop μ-loop
-servers-requires c κs = search needs
-
 loop-holds : tie.Need-loop-holds Inv-loop μ-loop
 loop-holds c =
     let a = c .before .before .args in
@@ -54,9 +51,6 @@ add-n c =
 add-j : tie.Need-add-j Inv-loop μ-loop
 add-j c = omega (arith, c .before .before .before .servers .ensures .1, c .before .before .before .before .before .pre .high)
 
-loop-less : tie.Need-loop-less Inv-loop μ-loop
-loop-less c = omega arith
-
 loop-again : tie.Need-loop-again Inv-loop μ-loop
 loop-again c =
     let a = c .before .before .before .before .before .args in
@@ -79,18 +73,5 @@ returns c =
     ∙ ap (λ (x : ℕ). ltb (countTo (shelf (a .t) .servers) p) x) (quorum-of (a .t) (c .before .before .servers .result) (c .before .before .servers .ensures .1))
 
 pub stays-spec : {M : Type 1} → statement M
-stays-spec =
-    tie.close
-    (tie.spec
-    Inv-loop
-    μ-loop
-    servers-requires
-    loop-holds
-    array-read-is-lower
-    is-lower-requires
-    add-n
-    add-j
-    loop-less
-    loop-again
-    sub-result
-    returns)
+stays-spec = tie.close (tie.spec Inv-loop μ-loop (λ c κs. search needs) loop-holds array-read-is-lower is-lower-requires add-n add-j
+    (λ c. omega arith) loop-again sub-result returns)

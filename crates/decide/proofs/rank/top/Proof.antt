@@ -16,9 +16,6 @@ Inv-loop kept marks t s key₀ i₀ key i = (i ≤ s) × (key ≡ topAt t marks 
 abbrev μ-loop : tie.MeasureT-loop
 μ-loop kept marks t s key₀ i₀ key i = s - i
 
-servers-requires : tie.Need-servers-requires Inv-loop μ-loop
-servers-requires c κs = search needs
-
 loop-holds : tie.Need-loop-holds Inv-loop μ-loop
 unfolding topAt topRank
 loop-holds c = (omega arith, refl)
@@ -29,9 +26,6 @@ raised-requires c κs = (c .before .before .before .before .pre, omega (arith, c
 add-i : tie.Need-add-i Inv-loop μ-loop
 add-i c = omega (arith, c .before .before .before .servers .ensures .1, c .before .before .before .before .before .pre .high)
 
-loop-less : tie.Need-loop-less Inv-loop μ-loop
-loop-less c = omega arith
-
 loop-again : tie.Need-loop-again Inv-loop μ-loop
 unfolding topAt topRank
 loop-again c = (omega arith, rw (add-one, ← c .before .before .loop .inv .1) (c .raised .ensures))
@@ -40,15 +34,4 @@ returns : tie.Need-returns Inv-loop μ-loop
 returns c = let e : c .before .loop .i ≡ shelf (c .before .before .before .before .args .t) .servers = omega (arith, c .before .before .servers .ensures .0) in c .before .loop .inv .1 ∙ ap (λ (k : ℕ). topAt (c .before .before .before .before .args .t) (c .before .before .before .before .args .marks) (c .before .before .before .before .args .kept .now) k) e
 
 pub top-spec : {M : Type 1} → statement M
-top-spec =
-    tie.close
-    (tie.spec
-    Inv-loop
-    μ-loop
-    servers-requires
-    loop-holds
-    raised-requires
-    add-i
-    loop-less
-    loop-again
-    returns)
+top-spec = tie.close (tie.spec Inv-loop μ-loop (λ c κs. search needs) loop-holds raised-requires add-i (λ c. omega arith) loop-again returns)

@@ -13,12 +13,6 @@ use Rattle.decide.proofs.Replies.{digestsIn, alike-not, alike-in}
 use Rattle.decide.proofs.reply.alike.Statement.{statement}
 use Rattle.decide.proofs.reply.alike.Tie as tie
 
-size-of-requires : tie.Need-size-of-requires
-size-of-requires c κs = search needs
-
-size-of-requires-2 : tie.Need-size-of-requires-2
-size-of-requires-2 c κs = search needs
-
 returns : tie.Need-returns
 returns c =
     let a = c .before .before .before .before .before .args in
@@ -67,9 +61,6 @@ part-same-start-2 c = let r = c .before .before .before .digests-at .ensures .ro
 part-same-end-2 : tie.Need-part-same-end-2
 part-same-end-2 c = let r = c .before .before .before .digests-at .ensures .room in let p = c .before .before .before .before .before .before .before .before .before .pre in omega (arith, r, c .before .before .servers .ensures .0, c .before .servers2 .ensures .0, p .3)
 
-same-requires : tie.Need-same-requires
-same-requires c κs = search needs
-
 returns-2 : tie.Need-returns-2
 returns-2 c =
     let a = c .before .before .before .before .before .before .before .before .before .before .before .args in
@@ -94,25 +85,6 @@ returns-2 c =
     same-number x y e = e
 
 pub alike-spec : {M : Type 1} → statement M
-alike-spec =
-    tie.close
-    (tie.spec
-    size-of-requires
-    size-of-requires-2
-    returns
-    digests-at-requires
-    servers-requires
-    mul-e
-    add-e
-    add-e-2
-    servers-requires-2
-    mul-e-2
-    add-e-3
-    sub-same
-    part-same-start
-    part-same-end
-    sub-same-2
-    part-same-start-2
-    part-same-end-2
-    same-requires
+alike-spec = tie.close (tie.spec (λ c κs. search needs) (λ c κs. search needs) returns digests-at-requires servers-requires mul-e add-e add-e-2
+    servers-requires-2 mul-e-2 add-e-3 sub-same part-same-start part-same-end sub-same-2 part-same-start-2 part-same-end-2 (λ c κs. search needs)
     returns-2)

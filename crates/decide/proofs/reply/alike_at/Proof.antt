@@ -65,20 +65,5 @@ unfolding slotHeld replySlotOf
 returns c = c .alike .ensures ∙ rw (part-of, part-of)
 
 pub alike-at-spec : {M : Type 1} → statement M
-alike-at-spec =
-    tie.close
-    (tie.spec
-    mul-x
-    add-x
-    mul-y
-    add-y
-    add-alike
-    sub-alike
-    part-alike-start
-    part-alike-end
-    add-alike-2
-    sub-alike-2
-    part-alike-start-2
-    part-alike-end-2
-    alike-requires
-    returns)
+alike-at-spec = tie.close (tie.spec mul-x add-x mul-y add-y add-alike sub-alike part-alike-start part-alike-end add-alike-2 sub-alike-2
+    part-alike-start-2 part-alike-end-2 alike-requires returns)

@@ -15,14 +15,8 @@ use Rattle.decide.proofs.Replies.{sizeIn, digestsIn, intact-in}
 use Rattle.decide.proofs.reply.intact.Statement.{statement}
 use Rattle.decide.proofs.reply.intact.Tie as tie
 
-size-of-requires : tie.Need-size-of-requires
-size-of-requires c κs = search needs
-
 digests-at-requires : tie.Need-digests-at-requires
 digests-at-requires c κs = let p = c .before .before .pre in (p .0, p .1, omega (arith, c .size-of .ensures, p .3 .top))
-
-add-digest : tie.Need-add-digest
-add-digest c = search needs
 
 sub-digest : tie.Need-sub-digest
 sub-digest c = let r = c .digests-at .ensures in omega (arith, r .room, r .place, c .before .before .before .pre .2)
@@ -33,17 +27,11 @@ part-digest-start c = let r = c .digests-at .ensures in omega (arith, r .room, r
 part-digest-end : tie.Need-part-digest-end
 part-digest-end c = let r = c .digests-at .ensures in omega (arith, r .room, r .place, c .before .before .before .pre .2)
 
-digest-requires : tie.Need-digest-requires
-digest-requires c κs = search needs
-
 mul-at : tie.Need-mul-at
 mul-at c = let r = c .before .before .digests-at .ensures in let p = c .before .before .before .before .before .pre in omega (arith, r .room, p .4)
 
 add-at : tie.Need-add-at
 add-at c = let r = c .before .before .digests-at .ensures in let p = c .before .before .before .before .before .pre in omega (arith, r .room, p .4)
-
-slice-aggregate-same : tie.Need-slice-aggregate-same
-slice-aggregate-same c = search needs
 
 add-same : tie.Need-add-same
 add-same c = let r = c .before .before .before .digests-at .ensures in let p = c .before .before .before .before .before .before .pre in omega (arith, r .room, p .4, p .2)
@@ -56,9 +44,6 @@ part-same-start c = let r = c .before .before .before .digests-at .ensures in le
 
 part-same-end : tie.Need-part-same-end
 part-same-end c = let r = c .before .before .before .digests-at .ensures in let p = c .before .before .before .before .before .before .pre in omega (arith, r .room, p .4, p .2)
-
-same-requires : tie.Need-same-requires
-same-requires c κs = search needs
 
 returns : tie.Need-returns
 returns c =
@@ -80,22 +65,5 @@ returns c =
     cut d at n m e = unfold part in ap (λ (k : ℕ). take k (drop at d)) e
 
 pub intact-spec : {M : Type 1} → statement M
-intact-spec =
-    tie.close
-    (tie.spec
-    size-of-requires
-    digests-at-requires
-    add-digest
-    sub-digest
-    part-digest-start
-    part-digest-end
-    digest-requires
-    mul-at
-    add-at
-    slice-aggregate-same
-    add-same
-    sub-same
-    part-same-start
-    part-same-end
-    same-requires
-    returns)
+intact-spec = tie.close (tie.spec (λ c κs. search needs) digests-at-requires (λ c. search needs) sub-digest part-digest-start part-digest-end
+    (λ c κs. search needs) mul-at add-at (λ c. search needs) add-same sub-same part-same-start part-same-end (λ c κs. search needs) returns)

@@ -46,14 +46,4 @@ unfolding slotHeld replySlotOf
 returns c = c .intact .ensures ∙ rw part-of
 
 pub intact-at-spec : {M : Type 1} → statement M
-intact-at-spec =
-    tie.close
-    (tie.spec
-    mul-b
-    add-b
-    add-intact
-    sub-intact
-    part-intact-start
-    part-intact-end
-    intact-requires
-    returns)
+intact-at-spec = tie.close (tie.spec mul-b add-b add-intact sub-intact part-intact-start part-intact-end intact-requires returns)

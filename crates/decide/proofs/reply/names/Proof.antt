@@ -18,16 +18,10 @@ use Rattle.decide.proofs.Replies.{digestsIn, names-none, names-short, n
 use Rattle.decide.proofs.reply.names.Statement.{statement}
 use Rattle.decide.proofs.reply.names.Tie as tie
 
-shared-slice-read-if1 : tie.Need-shared-slice-read-if1
-shared-slice-read-if1 c = search needs
-
 returns : tie.Need-returns
 returns c =
     let a = c .before .before .before .before .before .args in
     sym (names-none (shelf (a .t)) (a .reply .now) (candidateAt (shelf (a .t)) (a .candidate .now)) (a .d .now) (eq-eqb (getD (a .reply .now) stampSize 0) 0 (c .if1 .taken)))
-
-size-of-requires : tie.Need-size-of-requires
-size-of-requires c κs = search needs
 
 returns-2 : tie.Need-returns-2
 returns-2 c =
@@ -38,27 +32,6 @@ returns-3 : tie.Need-returns-3
 returns-3 c =
     let a = c .before .before .before .before .before .before .before .before .args in
     sym (names-long (shelf (a .t)) (a .reply .now) (a .candidate .now) (a .d .now) (ne-eqb (getD (a .reply .now) stampSize 0) 0 (c .before .before .before .if1 .left)) (omega (arith, c .before .before .size-of .ensures)))
-
-sub-same : tie.Need-sub-same
-sub-same c = search needs
-
-part-same-start : tie.Need-part-same-start
-part-same-start c = search needs
-
-part-same-end : tie.Need-part-same-end
-part-same-end c = search needs
-
-sub-same-2 : tie.Need-sub-same-2
-sub-same-2 c = search needs
-
-part-same-start-2 : tie.Need-part-same-start-2
-part-same-start-2 c = search needs
-
-part-same-end-2 : tie.Need-part-same-end-2
-part-same-end-2 c = search needs
-
-same-requires : tie.Need-same-requires
-same-requires c κs = search needs
 
 returns-4 : tie.Need-returns-4
 returns-4 c =
@@ -92,9 +65,6 @@ part-same-start-3 c = let r = c .before .digests-at .ensures .room in omega (ari
 part-same-end-3 : tie.Need-part-same-end-3
 part-same-end-3 c = let r = c .before .digests-at .ensures .room in omega (arith, r, c .servers .ensures .0, c .before .before .before .before .before .before .before .before .before .before .before .before .before .before .pre .2)
 
-same-requires-2 : tie.Need-same-requires-2
-same-requires-2 c κs = search needs
-
 returns-5 : tie.Need-returns-5
 returns-5 c =
     let a = c .before .before .before .before .before .before .before .before .before .before .before .before .before .before .before .before .args in
@@ -111,29 +81,6 @@ returns-5 c =
     ∙ sym (names-last (shelf (a .t)) (a .reply .now) (a .candidate .now) (a .d .now) f q)
 
 pub names-spec : {M : Type 1} → statement M
-names-spec =
-    tie.close
-    (tie.spec
-    shared-slice-read-if1
-    returns
-    size-of-requires
-    returns-2
-    returns-3
-    sub-same
-    part-same-start
-    part-same-end
-    sub-same-2
-    part-same-start-2
-    part-same-end-2
-    same-requires
-    returns-4
-    digests-at-requires
-    servers-requires
-    mul-at
-    add-at
-    add-same
-    sub-same-3
-    part-same-start-3
-    part-same-end-3
-    same-requires-2
-    returns-5)
+names-spec = tie.close (tie.spec (λ c. search needs) returns (λ c κs. search needs) returns-2 returns-3 (λ c. search needs) (λ c. search needs)
+    (λ c. search needs) (λ c. search needs) (λ c. search needs) (λ c. search needs) (λ c κs. search needs) returns-4 digests-at-requires
+    servers-requires mul-at add-at add-same sub-same-3 part-same-start-3 part-same-end-3 (λ c κs. search needs) returns-5)

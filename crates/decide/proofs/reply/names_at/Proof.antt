@@ -64,20 +64,5 @@ returns c =
     c .names .ensures ∙ rw (part-of, part-of, candidate-in (shelf (a .t)) (a .kept .now) (a .i) (p .1))
 
 pub names-at-spec : {M : Type 1} → statement M
-names-at-spec =
-    tie.close
-    (tie.spec
-    mul-a
-    add-a
-    mul-b
-    add-b
-    add-names
-    sub-names
-    part-names-start
-    part-names-end
-    add-names-2
-    sub-names-2
-    part-names-start-2
-    part-names-end-2
-    names-requires
-    returns)
+names-at-spec = tie.close (tie.spec mul-a add-a mul-b add-b add-names sub-names part-names-start part-names-end add-names-2 sub-names-2
+    part-names-start-2 part-names-end-2 names-requires returns)

@@ -127,9 +127,6 @@ part-same-start-2 c = let p = c .before .before .before .before .before .before 
 part-same-end-2 : tie.Need-part-same-end-2
 part-same-end-2 c = let p = c .before .before .before .before .before .before .before .before .pre in omega (arith, p .0 .size, p .0 .high, c .before .before .servers .ensures .1)
 
-same-requires : tie.Need-same-requires
-same-requires c κs = search needs
-
 returns-3 : tie.Need-returns-3
 unfolding sameTagsAt
 returns-3 c =
@@ -147,36 +144,6 @@ returns-3 c =
     ∙ ap (sameList (shareOf (a .t) (a .kept .now) (suc (a .j)) .tags)) (sym (candidate-tags (shelf (a .t)) (a .kept .now) (a .i) (p .1) (shelf-fits (a .t) (p .0 .low) (p .0 .high) .few))))
 
 pub tags-alike-spec : {M : Type 1} → statement M
-tags-alike-spec =
-    tie.close
-    (tie.spec
-    mul-a
-    add-a
-    add-a-2
-    mul-y
-    add-y
-    add-size-of
-    sub-size-of
-    part-size-of-start
-    part-size-of-end
-    size-of-requires
-    returns
-    returns-2
-    servers-requires
-    digests-at-requires
-    add-at
-    mul-at
-    add-at-2
-    add-at-3
-    mul-same
-    add-same
-    sub-same
-    part-same-start
-    part-same-end
-    mul-same-2
-    add-same-2
-    sub-same-2
-    part-same-start-2
-    part-same-end-2
-    same-requires
-    returns-3)
+tags-alike-spec = tie.close (tie.spec mul-a add-a add-a-2 mul-y add-y add-size-of sub-size-of part-size-of-start part-size-of-end size-of-requires
+    returns returns-2 servers-requires digests-at-requires add-at mul-at add-at-2 add-at-3 mul-same add-same sub-same part-same-start part-same-end
+    mul-same-2 add-same-2 sub-same-2 part-same-start-2 part-same-end-2 (λ c κs. search needs) returns-3)

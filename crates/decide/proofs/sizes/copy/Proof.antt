@@ -4,14 +4,8 @@ use Rattle.wire.proofs.Put.{placed-wrote}
 use Rattle.decide.proofs.sizes.copy.Statement.{statement}
 use Rattle.decide.proofs.sizes.copy.Tie as tie
 
-put-requires : tie.Need-put-requires
-put-requires c κs = search needs
-
-same-length : tie.Need-same-length
-same-length c = search needs
-
 returns : tie.Need-returns
 returns c = placed-wrote (c .before .before .put .ensures) (c .before .before .before .before .before .before .pre) .bytes
 
 pub copy-spec : {M : Type 1} → statement M
-copy-spec = tie.close (tie.spec put-requires same-length returns)
+copy-spec = tie.close (tie.spec (λ c κs. search needs) (λ c. search needs) returns)

@@ -5,15 +5,9 @@ use borrow.Author.Needs.{needs}
 use Rattle.decide.proofs.sizes.servers.Statement.{statement}
 use Rattle.decide.proofs.sizes.servers.Tie as tie
 
-cast-servers : tie.Need-cast-servers
-cast-servers c = search needs
-
-servers-requires : tie.Need-servers-requires
-servers-requires c κs = search needs
-
 returns : tie.Need-returns
 unfolding shelf
 returns c = (c .servers .ensures, omega (arith, c .servers .ensures))
 
 pub servers-spec : {M : Type 1} → statement M
-servers-spec = tie.close (tie.spec cast-servers servers-requires returns)
+servers-spec = tie.close (tie.spec (λ c. search needs) (λ c κs. search needs) returns)

@@ -4,16 +4,9 @@ use Rattle.cluster.specs.Config.{shelf}
 use Rattle.decide.proofs.sizes.shares.Statement.{statement}
 use Rattle.decide.proofs.sizes.shares.Tie as tie
 
-add-result : tie.Need-add-result
-add-result c = search needs
-
 returns : tie.Need-returns
 unfolding shelf
 returns c = search needs
 
 pub shares-spec : {M : Type 1} → statement M
-shares-spec =
-    tie.close
-    (tie.spec
-    add-result
-    returns)
+shares-spec = tie.close (tie.spec (λ c. search needs) returns)

@@ -9,33 +9,6 @@ use borrow.Author.Needs.{needs}
 use Rattle.drill.proofs.area.begin_write.Statement.{statement}
 use Rattle.drill.proofs.area.begin_write.Tie as tie
 
-call-of-requires : tie.Need-call-of-requires
-call-of-requires c κs = search needs
-
-kept-at-requires : tie.Need-kept-at-requires
-kept-at-requires c κs = search needs
-
-add-e : tie.Need-add-e
-add-e c = search needs
-
-sub-begin-write-in : tie.Need-sub-begin-write-in
-sub-begin-write-in c = search needs
-
-part-begin-write-in-start : tie.Need-part-begin-write-in-start
-part-begin-write-in-start c = search needs
-
-part-begin-write-in-end : tie.Need-part-begin-write-in-end
-part-begin-write-in-end c = search needs
-
-begin-write-in-requires : tie.Need-begin-write-in-requires
-begin-write-in-requires c κs = search needs
-
-put-call-requires : tie.Need-put-call-requires
-put-call-requires c κs = search needs
-
-same-length : tie.Need-same-length
-same-length c = search needs
-
 returns : tie.Need-returns
 returns c =
     let a = c .before .before .before .before .before .before .before .before .before .before .before .before .before .before .args in
@@ -44,16 +17,5 @@ returns c =
     (c .before .before .before .before .before .before .before .before .before .before .call-of .ensures) (c .before .before .before .before .before .before .before .before .before .kept-at .ensures .0) (omega arith) (c .before .before .before .before .before .before .before .begin-write-in .ensures .0) (c .before .before .before .before .before .before .before .begin-write-in .ensures .1) (c .before .before .before .before .before .before .work .given .0) (c .before .before .before .put-call .ensures .0) (c .before .before .before .put-call .ensures .1)
 
 pub begin-write-spec : {M : Type 1} → statement M
-begin-write-spec =
-    tie.close
-    (tie.spec
-    call-of-requires
-    kept-at-requires
-    add-e
-    sub-begin-write-in
-    part-begin-write-in-start
-    part-begin-write-in-end
-    begin-write-in-requires
-    put-call-requires
-    same-length
-    returns)
+begin-write-spec = tie.close (tie.spec (λ c κs. search needs) (λ c κs. search needs) (λ c. search needs) (λ c. search needs) (λ c. search needs)
+    (λ c. search needs) (λ c κs. search needs) (λ c κs. search needs) (λ c. search needs) returns)

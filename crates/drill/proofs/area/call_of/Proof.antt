@@ -8,18 +8,9 @@ use borrow.Author.Needs.{needs}
 use Rattle.drill.proofs.area.call_of.Statement.{statement}
 use Rattle.drill.proofs.area.call_of.Tie as tie
 
-client-at-requires : tie.Need-client-at-requires
-client-at-requires c κs = search needs
-
-part-requires : tie.Need-part-requires
-part-requires c κs = search needs
-
-read-requires : tie.Need-read-requires
-read-requires c κs = search needs
-
 returns : tie.Need-returns
 unfolding callIn
 returns c = c .read .ensures ∙ ap callAt (c .before .part .ensures ∙ ap (λ (a : ℕ). part (c .before .before .before .before .args .work .now) a 29) (c .before .before .client-at .ensures .0))
 
 pub call-of-spec : {M : Type 1} → statement M
-call-of-spec = tie.close (tie.spec client-at-requires part-requires read-requires returns)
+call-of-spec = tie.close (tie.spec (λ c κs. search needs) (λ c κs. search needs) (λ c κs. search needs) returns)

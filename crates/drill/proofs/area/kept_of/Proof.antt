@@ -7,15 +7,9 @@ use borrow.Author.Needs.{needs}
 use Rattle.drill.proofs.area.kept_of.Statement.{statement}
 use Rattle.drill.proofs.area.kept_of.Tie as tie
 
-kept-at-requires : tie.Need-kept-at-requires
-kept-at-requires c κs = search needs
-
-part-requires : tie.Need-part-requires
-part-requires c κs = search needs
-
 returns : tie.Need-returns
 unfolding keptIn
 returns c = c .part .ensures ∙ ap (λ (a : ℕ). part (c .before .before .before .args .work .now) a 24576) (c .before .kept-at .ensures .0)
 
 pub kept-of-spec : {M : Type 1} → statement M
-kept-of-spec = tie.close (tie.spec kept-at-requires part-requires returns)
+kept-of-spec = tie.close (tie.spec (λ c κs. search needs) (λ c κs. search needs) returns)

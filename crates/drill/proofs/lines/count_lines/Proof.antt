@@ -16,12 +16,6 @@ abbrev μ-loop : tie.MeasureT-loop
 loop-holds : tie.Need-loop-holds Inv-loop μ-loop
 loop-holds c = record { within = omega arith; whole = omega arith }
 
-line-end-requires : tie.Need-line-end-requires Inv-loop μ-loop
-line-end-requires c κs = search needs
-
-next-line-requires : tie.Need-next-line-requires Inv-loop μ-loop
-next-line-requires c κs = search needs
-
 add-n : tie.Need-add-n Inv-loop μ-loop
 add-n c = let h = counted-room (c .before .before .before .before .before .args .sheet .now) (c .before .before .before .loop .at) (c .before .before .before .loop .n) (c .before .line-end .result) (c .before .before .before .loop .inv) (c .before .line-end .ensures) in omega arith
 
@@ -40,15 +34,4 @@ returns : tie.Need-returns Inv-loop μ-loop
 returns c = counted-all (c .before .before .before .args .sheet .now) (c .before .loop .at) (c .before .loop .n) (omega arith) (c .before .loop .inv)
 
 pub count-lines-spec : {M : Type 1} → statement M
-count-lines-spec =
-    tie.close
-    (tie.spec
-    Inv-loop
-    μ-loop
-    loop-holds
-    line-end-requires
-    next-line-requires
-    add-n
-    loop-less
-    loop-again
-    returns)
+count-lines-spec = tie.close (tie.spec Inv-loop μ-loop loop-holds (λ c κs. search needs) (λ c κs. search needs) add-n loop-less loop-again returns)

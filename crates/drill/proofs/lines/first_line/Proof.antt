@@ -5,20 +5,8 @@ use borrow.Author.Needs.{needs}
 use Rattle.drill.proofs.lines.first_line.Statement.{statement}
 use Rattle.drill.proofs.lines.first_line.Tie as tie
 
-text-at-requires : tie.Need-text-at-requires
-text-at-requires c κs = search needs
-
-enum-known-l : tie.Need-enum-known-l
-enum-known-l c = search needs
-
-enum-told : tie.Need-enum-told
-enum-told c = search needs
-
 returns : tie.Need-returns
 returns c = no-text _ (read-broken _ (sym (c .before .before .text-at .ensures) ∙ c .enum-told .given .1))
-
-is-first-requires : tie.Need-is-first-requires
-is-first-requires c κs = search needs
 
 returns-2 : tie.Need-returns-2
 returns-2 c = is-first-line _ _ (read-line _ _ (sym (c .before .before .before .before .before .text-at .ensures) ∙ c .before .before .before .l .given .1)) (sym (c .before .is-first .ensures) ∙ c .if1 .taken)
@@ -27,13 +15,5 @@ returns-3 : tie.Need-returns-3
 returns-3 c = no-first-line _ _ (read-line _ _ (sym (c .before .before .before .before .before .text-at .ensures) ∙ c .before .before .before .l .given .1)) (sym (c .before .is-first .ensures) ∙ c .if1 .left)
 
 pub first-line-spec : {M : Type 1} → statement M
-first-line-spec =
-    tie.close
-    (tie.spec
-    text-at-requires
-    enum-known-l
-    enum-told
-    returns
-    is-first-requires
-    returns-2
+first-line-spec = tie.close (tie.spec (λ c κs. search needs) (λ c. search needs) (λ c. search needs) returns (λ c κs. search needs) returns-2
     returns-3)

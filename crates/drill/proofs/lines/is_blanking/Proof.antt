@@ -9,12 +9,9 @@ returns : tie.Need-returns
 unfolding isBlanking
 returns c = rw (ne-eqb _ _ (c .if1 .taken))
 
-no-content-requires : tie.Need-no-content-requires
-no-content-requires c κs = search needs
-
 returns-2 : tie.Need-returns-2
 unfolding isBlanking
 returns-2 c = rw (eq-eqb _ _ (c .before .if1 .left)) (c .no-content .ensures)
 
 pub is-blanking-spec : {M : Type 1} → statement M
-is-blanking-spec = tie.close (tie.spec returns no-content-requires returns-2)
+is-blanking-spec = tie.close (tie.spec returns (λ c κs. search needs) returns-2)

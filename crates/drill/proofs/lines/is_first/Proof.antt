@@ -9,12 +9,9 @@ returns : tie.Need-returns
 unfolding isFirst
 returns c = rw (ne-eqb _ _ (c .if1 .taken))
 
-is-alone-requires : tie.Need-is-alone-requires
-is-alone-requires c κs = search needs
-
 returns-2 : tie.Need-returns-2
 unfolding isFirst
 returns-2 c = rw (eq-eqb _ _ (c .before .if1 .left)) (c .is-alone .ensures)
 
 pub is-first-spec : {M : Type 1} → statement M
-is-first-spec = tie.close (tie.spec returns is-alone-requires returns-2)
+is-first-spec = tie.close (tie.spec returns (λ c κs. search needs) returns-2)

@@ -5,36 +5,21 @@ use borrow.Author.Needs.{needs}
 use Rattle.drill.proofs.lines.is_step.Statement.{statement}
 use Rattle.drill.proofs.lines.is_step.Tie as tie
 
-is-write-requires : tie.Need-is-write-requires
-is-write-requires c κs = search needs
-
 returns : tie.Need-returns
 unfolding isStep
 returns c = rw (eq-eqb _ _ (c .before .if1 .taken)) (c .is-write .ensures)
-
-is-alone-requires : tie.Need-is-alone-requires
-is-alone-requires c κs = search needs
 
 returns-2 : tie.Need-returns-2
 unfolding isStep
 returns-2 c = rw (ne-eqb _ _ (c .before .before .if1 .left), eq-eqb _ _ (c .before .if2 .taken)) (c .is-alone .ensures)
 
-is-alone-requires-2 : tie.Need-is-alone-requires-2
-is-alone-requires-2 c κs = search needs
-
 returns-3 : tie.Need-returns-3
 unfolding isStep
 returns-3 c = rw (ne-eqb _ _ (c .before .before .before .if1 .left), ne-eqb _ _ (c .before .before .if2 .left), eq-eqb _ _ (c .before .if3 .taken)) (c .is-alone2 .ensures)
 
-no-content-requires : tie.Need-no-content-requires
-no-content-requires c κs = search needs
-
 returns-4 : tie.Need-returns-4
 unfolding isStep
 returns-4 c = rw (ne-eqb _ _ (c .before .before .before .before .if1 .left), ne-eqb _ _ (c .before .before .before .if2 .left), ne-eqb _ _ (c .before .before .if3 .left), eq-eqb _ _ (c .before .if4 .taken)) (c .no-content .ensures)
-
-is-blanking-requires : tie.Need-is-blanking-requires
-is-blanking-requires c κs = search needs
 
 returns-5 : tie.Need-returns-5
 unfolding isStep
@@ -48,17 +33,5 @@ returns-6 c =
     rw (ne-eqb _ _ (c .before .before .before .before .if1 .left), ne-eqb _ _ (c .before .before .before .if2 .left), ne-eqb _ _ (c .before .before .if3 .left), ne-eqb _ _ (c .before .if4 .left), ne-eqb _ _ (c .if5 .left))
 
 pub is-step-spec : {M : Type 1} → statement M
-is-step-spec =
-    tie.close
-    (tie.spec
-    is-write-requires
-    returns
-    is-alone-requires
-    returns-2
-    is-alone-requires-2
-    returns-3
-    no-content-requires
-    returns-4
-    is-blanking-requires
-    returns-5
-    returns-6)
+is-step-spec = tie.close (tie.spec (λ c κs. search needs) returns (λ c κs. search needs) returns-2 (λ c κs. search needs) returns-3
+    (λ c κs. search needs) returns-4 (λ c κs. search needs) returns-5 returns-6)

@@ -4,9 +4,6 @@ use borrow.Author.Needs.{needs}
 use Rattle.drill.proofs.lines.next_line.Statement.{statement}
 use Rattle.drill.proofs.lines.next_line.Tie as tie
 
-add-result : tie.Need-add-result
-add-result c = search needs
-
 returns : tie.Need-returns
 returns c = next-here (c .before .args .sheet .now) (c .before .args .end) (c .if1 .taken)
 
@@ -14,4 +11,4 @@ returns-2 : tie.Need-returns-2
 returns-2 c = next-none (c .before .args .sheet .now) (c .before .args .end) (c .if1 .left)
 
 pub next-line-spec : {M : Type 1} → statement M
-next-line-spec = tie.close (tie.spec add-result returns returns-2)
+next-line-spec = tie.close (tie.spec (λ c. search needs) returns returns-2)

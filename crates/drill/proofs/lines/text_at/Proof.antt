@@ -12,17 +12,8 @@ use Rattle.drill.proofs.lines.text_at.Tie as tie
 returns : tie.Need-returns
 returns c = text-unended (c .before .before .args .sheet .now) (c .before .before .args .at) (c .before .before .args .end) (c .if1 .taken)
 
-sub-part : tie.Need-sub-part
-sub-part c = search needs
-
-part-requires : tie.Need-part-requires
-part-requires c κs = search needs
-
-fields-of-requires : tie.Need-fields-of-requires
-fields-of-requires c κs = search needs
-
 returns-2 : tie.Need-returns-2
 returns-2 c = c .fields-of .ensures ∙ ap (λ (z : List ℕ). readOf (fields z)) (c .before .part .ensures) ∙ text-ended (c .before .before .before .before .args .sheet .now) (c .before .before .before .before .args .at) (c .before .before .before .before .args .end) (c .before .before .if1 .left)
 
 pub text-at-spec : {M : Type 1} → statement M
-text-at-spec = tie.close (tie.spec returns sub-part part-requires fields-of-requires returns-2)
+text-at-spec = tie.close (tie.spec returns (λ c. search needs) (λ c κs. search needs) (λ c κs. search needs) returns-2)

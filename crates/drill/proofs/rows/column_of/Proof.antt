@@ -16,24 +16,12 @@ abbrev μ-loop : tie.MeasureT-loop
 loop-holds : tie.Need-loop-holds Inv-loop μ-loop
 loop-holds c = printing-none (c .args .v)
 
-sub-i : tie.Need-sub-i Inv-loop μ-loop
-sub-i c = search needs
-
-digit-of-requires : tie.Need-digit-of-requires Inv-loop μ-loop
-digit-of-requires c κs = search needs
-
-array-write-a : tie.Need-array-write-a Inv-loop μ-loop
-array-write-a c = search needs
-
 returns : tie.Need-returns Inv-loop μ-loop
 returns c =
     let i = c .before .before .before .loop .i in
     let e : i ≡ suc (i - 1) = omega arith in
     let p = subst (λ (k : ℕ). Printing (c .before .before .before .before .args .v) k (c .before .before .before .loop .rest) (c .before .before .before .loop .a)) e (c .before .before .before .loop .inv) in
     rw (c .before .digit-of .ensures) (printing-last (c .before .before .before .before .args .v) (i - 1) (c .before .before .before .loop .rest) (c .before .before .before .loop .a) p (c .if1 .taken))
-
-loop-less : tie.Need-loop-less Inv-loop μ-loop
-loop-less c = search needs
 
 loop-again : tie.Need-loop-again Inv-loop μ-loop
 loop-again c =
@@ -48,16 +36,5 @@ returns-2 c =
     printing-full (c .before .before .args .v) (c .before .loop .rest) (c .before .loop .a) (rw e at (c .before .loop .inv))
 
 pub column-of-spec : {M : Type 1} → statement M
-column-of-spec =
-    tie.close
-    (tie.spec
-    Inv-loop
-    μ-loop
-    loop-holds
-    sub-i
-    digit-of-requires
-    array-write-a
-    returns
-    loop-less
-    loop-again
-    returns-2)
+column-of-spec = tie.close (tie.spec Inv-loop μ-loop loop-holds (λ c. search needs) (λ c κs. search needs) (λ c. search needs) returns
+    (λ c. search needs) loop-again returns-2)

@@ -16,33 +16,6 @@ abbrev μ-loop : tie.MeasureT-loop
 loop-holds : tie.Need-loop-holds Inv-loop μ-loop
 loop-holds c = put-none (c .before .args .out .now) (c .before .args .at) (c .before .args .t3) (search needs) (c .before .pre)
 
-mul-column-of : tie.Need-mul-column-of Inv-loop μ-loop
-mul-column-of c = search needs
-
-array-read-column-of : tie.Need-array-read-column-of Inv-loop μ-loop
-array-read-column-of c = search needs
-
-column-of-requires : tie.Need-column-of-requires Inv-loop μ-loop
-column-of-requires c κs = search needs
-
-mul-put : tie.Need-mul-put Inv-loop μ-loop
-mul-put c = search needs
-
-add-put : tie.Need-add-put Inv-loop μ-loop
-add-put c = search needs
-
-slice-aggregate-put : tie.Need-slice-aggregate-put Inv-loop μ-loop
-slice-aggregate-put c = search needs
-
-put-requires : tie.Need-put-requires Inv-loop μ-loop
-put-requires c κs = search needs
-
-add-j : tie.Need-add-j Inv-loop μ-loop
-add-j c = search needs
-
-loop-less : tie.Need-loop-less Inv-loop μ-loop
-loop-less c = search needs
-
 loop-again : tie.Need-loop-again Inv-loop μ-loop
 loop-again c = put-one-more (c .before .before .before .before .before .before .before .before .before .args .out .now) (c .before .before .before .before .before .before .before .before .before .args .at) (c .before .before .before .before .before .before .before .before .before .args .t3) (search needs) (c .before .before .before .before .before .before .before .before .before .pre) (c .before .before .before .before .before .before .before .loop .out) (c .before .before .before .before .before .before .before .loop .j) (c .before .before .before .before .before .before .before .loop .inv) (omega arith) (c .before .before .before .before .before .column-of .ensures) (c .before .before .put .ensures)
 
@@ -56,21 +29,5 @@ returns c =
     put-all (c .before .before .before .args .out .now) (c .before .before .before .args .at) (c .before .before .before .args .t3) (search needs) (c .before .before .before .pre) (c .before .loop .out) (rw e at (c .before .loop .inv))
 
 pub put-columns-spec : {M : Type 1} → statement M
-put-columns-spec =
-    tie.close
-    (tie.spec
-    Inv-loop
-    μ-loop
-    loop-holds
-    mul-column-of
-    array-read-column-of
-    column-of-requires
-    mul-put
-    add-put
-    slice-aggregate-put
-    put-requires
-    add-j
-    loop-less
-    loop-again
-    same-length
-    returns)
+put-columns-spec = tie.close (tie.spec Inv-loop μ-loop loop-holds (λ c. search needs) (λ c. search needs) (λ c κs. search needs) (λ c. search needs)
+    (λ c. search needs) (λ c. search needs) (λ c κs. search needs) (λ c. search needs) (λ c. search needs) loop-again same-length returns)

@@ -4,15 +4,9 @@ use borrow.Author.Needs.{needs}
 use Rattle.drill.proofs.rows.put_step.Statement.{statement}
 use Rattle.drill.proofs.rows.put_step.Tie as tie
 
-put-row-requires : tie.Need-put-row-requires
-put-row-requires c κs = search needs
-
-same-length : tie.Need-same-length
-same-length c = search needs
-
 returns : tie.Need-returns
 unfolding stepRow
 returns c = c .before .before .put-row .ensures
 
 pub put-step-spec : {M : Type 1} → statement M
-put-step-spec = tie.close (tie.spec put-row-requires same-length returns)
+put-step-spec = tie.close (tie.spec (λ c κs. search needs) (λ c. search needs) returns)

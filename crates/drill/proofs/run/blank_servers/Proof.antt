@@ -14,12 +14,6 @@ Inv-loop work₀ t n b₀ work b = Ready t b work
 abbrev μ-loop : tie.MeasureT-loop
 μ-loop work₀ t n b₀ work b = n + 1 - b
 
-cast-servers : tie.Need-cast-servers Inv-loop μ-loop
-cast-servers c = search needs
-
-servers-requires : tie.Need-servers-requires Inv-loop μ-loop
-servers-requires c κs = search needs
-
 loop-holds : tie.Need-loop-holds Inv-loop μ-loop
 loop-holds c = ready-none (c .before .before .args .t) (c .before .before .args .work .now) (c .before .before .pre .1 .0) (c .before .before .pre .1 .1)
 
@@ -30,9 +24,6 @@ blank-requires c κs =
 
 add-b : tie.Need-add-b Inv-loop μ-loop
 add-b c = let e = c .before .before .before .before .before .before .servers .ensures in let h = few-servers (c .before .before .before .before .before .before .before .before .args .t) (c .before .before .before .before .before .loop .b) (c .before .before .before .before .before .before .before .before .pre .0 .1) (c .before .before .before .before .before .loop .inv .low, omega arith) in omega arith
-
-loop-less : tie.Need-loop-less Inv-loop μ-loop
-loop-less c = search needs
 
 loop-again : tie.Need-loop-again Inv-loop μ-loop
 loop-again c =
@@ -46,17 +37,5 @@ returns : tie.Need-returns Inv-loop μ-loop
 returns c = let e = c .before .before .servers .ensures in ready-all (c .before .before .before .before .args .t) (c .before .loop .b) (c .before .loop .work) (omega arith) (c .before .loop .inv)
 
 pub blank-servers-spec : {M : Type 1} → statement M
-blank-servers-spec =
-    tie.close
-    (tie.spec
-    Inv-loop
-    μ-loop
-    cast-servers
-    servers-requires
-    loop-holds
-    blank-requires
-    add-b
-    loop-less
-    loop-again
-    same-length
-    returns)
+blank-servers-spec = tie.close (tie.spec Inv-loop μ-loop (λ c. search needs) (λ c κs. search needs) loop-holds blank-requires add-b
+    (λ c. search needs) loop-again same-length returns)

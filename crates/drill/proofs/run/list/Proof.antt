@@ -12,35 +12,14 @@ use Rattle.drill.proofs.run.list.Tie as tie
 returns : tie.Need-returns
 returns c = lists-none (c .before .before .before .before .args .sheet .now) (c .before .before .before .before .args .out .now) (c .if1 .taken)
 
-line-end-requires : tie.Need-line-end-requires
-line-end-requires c κs = search needs
-
-first-line-requires : tie.Need-first-line-requires
-first-line-requires c κs = search needs
-
-enum-known-l : tie.Need-enum-known-l
-enum-known-l c = search needs
-
-enum-told : tie.Need-enum-told
-enum-told c = search needs
-
 put-last-requires : tie.Need-put-last-requires
 put-last-requires c κs = first-room (c .before .before .before .before .before .before .before .before .before .args .sheet .now) (c .before .before .before .before .before .before .before .before .before .args .out .now) (c .before .before .before .before .before .before .before .before .before .pre .1)
-
-same-length : tie.Need-same-length
-same-length c = search needs
 
 returns-2 : tie.Need-returns-2
 returns-2 c = lists-117 (c .before .before .before .before .before .before .before .before .before .before .before .before .args .sheet .now) (c .before .before .before .before .before .before .before .before .before .before .before .before .args .out .now) (c .before .before .before .before .before .before .before .line-end .result) (c .before .before .before .before .before .before .before .line-end .ensures) (read-broken _ (sym (c .before .before .before .before .before .before .first-line .ensures) ∙ c .before .before .before .before .enum-told .given .1)) (c .before .before .put-last .ensures)
 
-cast-t : tie.Need-cast-t
-cast-t c = search needs
-
 put-last-requires-2 : tie.Need-put-last-requires-2
 put-last-requires-2 c κs = first-room (c .before .before .before .before .before .before .before .before .before .before .before .before .args .sheet .now) (c .before .before .before .before .before .before .before .before .before .before .before .before .args .out .now) (c .before .before .before .before .before .before .before .before .before .before .before .before .pre .1)
-
-same-length-2 : tie.Need-same-length-2
-same-length-2 c = search needs
 
 returns-3 : tie.Need-returns-3
 returns-3 c =
@@ -50,9 +29,6 @@ returns-3 c =
 put-last-requires-3 : tie.Need-put-last-requires-3
 put-last-requires-3 c κs = first-room (c .before .before .before .before .before .before .before .before .before .before .before .before .before .args .sheet .now) (c .before .before .before .before .before .before .before .before .before .before .before .before .before .args .out .now) (c .before .before .before .before .before .before .before .before .before .before .before .before .before .pre .1)
 
-same-length-3 : tie.Need-same-length-3
-same-length-3 c = search needs
-
 returns-4 : tie.Need-returns-4
 returns-4 c =
     let o = read-line _ _ (sym (c .before .before .before .before .before .before .before .before .before .before .first-line .ensures) ∙ c .before .before .before .before .before .before .before .before .l .given .1) in
@@ -61,21 +37,12 @@ returns-4 c =
 blank-servers-requires : tie.Need-blank-servers-requires
 blank-servers-requires c κs = ((c .before .before .if2 .left, c .before .if3 .left), c .before .before .before .before .before .before .before .before .before .before .before .before .before .pre .0)
 
-next-line-requires : tie.Need-next-line-requires
-next-line-requires c κs = search needs
-
 rows-from-requires : tie.Need-rows-from-requires
 rows-from-requires c κs =
     let s = c .before .before .before .before .before .before .before .before .before .before .before .before .before .before .before .before .before .before .before .args .sheet .now in
     let e = c .before .before .before .before .before .before .before .before .before .before .before .before .before .before .line-end .ensures in
     let n = next-later s (c .before .before .before .before .before .before .before .before .before .before .before .before .before .before .line-end .result) 0 (omega arith) (e .within) (omega arith) .1 in
     (((c .before .before .before .before .before .before .before .before .if2 .left, c .before .before .before .before .before .before .before .if3 .left), c .before .before .before .before .before .blank-servers .ensures), (rw (c .next-line .ensures) n, rw (c .next-line .ensures) (rows-room s (c .before .before .before .before .before .before .before .before .before .before .before .before .before .before .before .before .before .before .before .args .out .now) (c .before .before .before .before .before .before .before .before .before .before .before .before .before .before .before .before .before .before .before .pre .1) (c .before .before .before .before .before .before .before .before .before .before .before .before .before .before .line-end .result) e)))
-
-same-length-4 : tie.Need-same-length-4
-same-length-4 c = search needs
-
-same-length-5 : tie.Need-same-length-5
-same-length-5 c = search needs
 
 returns-5 : tie.Need-returns-5
 returns-5 c =
@@ -84,27 +51,6 @@ returns-5 c =
     lists-rows s (c .before .before .before .before .before .before .before .before .before .before .before .before .before .before .before .before .before .before .before .before .before .before .before .before .args .out .now) (c .before .before .before .before .before .before .before .before .before .before .before .before .before .before .before .before .before .before .before .line-end .result) (c .before .before .before .before .before .before .before .before .before .before .before .before .before .before .before .before .before .before .before .line-end .ensures) _ o (c .before .before .before .before .before .before .before .before .before .before .before .before .before .if2 .left, c .before .before .before .before .before .before .before .before .before .before .before .before .if3 .left) (rw (c .before .before .before .before .before .next-line .ensures) at (c .before .before .before .before .rows-from .ensures))
 
 pub list-spec : {M : Type 1} → statement M
-list-spec =
-    tie.close
-    (tie.spec
-    returns
-    line-end-requires
-    first-line-requires
-    enum-known-l
-    enum-told
-    put-last-requires
-    same-length
-    returns-2
-    cast-t
-    put-last-requires-2
-    same-length-2
-    returns-3
-    put-last-requires-3
-    same-length-3
-    returns-4
-    blank-servers-requires
-    next-line-requires
-    rows-from-requires
-    same-length-4
-    same-length-5
-    returns-5)
+list-spec = tie.close (tie.spec returns (λ c κs. search needs) (λ c κs. search needs) (λ c. search needs) (λ c. search needs) put-last-requires
+    (λ c. search needs) returns-2 (λ c. search needs) put-last-requires-2 (λ c. search needs) returns-3 put-last-requires-3 (λ c. search needs)
+    returns-4 blank-servers-requires (λ c κs. search needs) rows-from-requires (λ c. search needs) (λ c. search needs) returns-5)

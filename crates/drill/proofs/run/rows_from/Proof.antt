@@ -19,17 +19,8 @@ abbrev μ-loop : tie.MeasureT-loop
 loop-holds : tie.Need-loop-holds Inv-loop μ-loop
 loop-holds c = let a = c .before .before .before .args in going-none (a .t) (a .sheet .now) (a .out .now) (a .from) (a .work .now) (c .before .before .before .pre .0 .1) (c .before .before .before .pre .1 .0) (c .before .before .before .pre .1 .1)
 
-line-end-requires : tie.Need-line-end-requires Inv-loop μ-loop
-line-end-requires c κs = search needs
-
 step-line-requires : tie.Need-step-line-requires Inv-loop μ-loop
 step-line-requires c κs = c .line-end .ensures .after
-
-enum-known-l : tie.Need-enum-known-l Inv-loop μ-loop
-enum-known-l c = search needs
-
-enum-told : tie.Need-enum-told Inv-loop μ-loop
-enum-told c = search needs
 
 put-last-requires : tie.Need-put-last-requires Inv-loop μ-loop
 put-last-requires c κs = row-room (c .before .before .before .before .before .before .before .before .before .before .args .t) (c .before .before .before .before .before .before .before .before .before .before .args .sheet .now) (c .before .before .before .before .before .before .before .before .before .before .args .out .now) (c .before .before .before .before .before .before .before .before .before .before .args .from) (c .before .before .before .before .before .before .loop .out) (c .before .before .before .before .before .before .loop .work) (c .before .before .before .before .before .before .loop .at) (c .before .before .before .before .before .before .loop .n) (c .before .before .before .before .before .before .loop .begun) (c .before .before .before .before .before .before .loop .done) (c .before .before .before .before .before .before .loop .inv) (c .before .before .before .before .line-end .result) (c .before .before .before .before .line-end .ensures)
@@ -52,9 +43,6 @@ one-line-requires c κs =
     let g = c .before .before .before .before .before .before .before .before .loop .inv in
     let h = line-number _ _ _ o in
     ((((c .before .before .before .before .before .before .before .before .before .before .before .before .pre .0 .0), g .stands .size), omega (arith, g .few)), (line-form _ _ _ o, row-room (c .before .before .before .before .before .before .before .before .before .before .before .before .args .t) (c .before .before .before .before .before .before .before .before .before .before .before .before .args .sheet .now) (c .before .before .before .before .before .before .before .before .before .before .before .before .args .out .now) (c .before .before .before .before .before .before .before .before .before .before .before .before .args .from) (c .before .before .before .before .before .before .before .before .loop .out) (c .before .before .before .before .before .before .before .before .loop .work) (c .before .before .before .before .before .before .before .before .loop .at) (c .before .before .before .before .before .before .before .before .loop .n) (c .before .before .before .before .before .before .before .before .loop .begun) (c .before .before .before .before .before .before .before .before .loop .done) (c .before .before .before .before .before .before .before .before .loop .inv) (c .before .before .before .before .before .before .line-end .result) (c .before .before .before .before .before .before .line-end .ensures)))
-
-next-line-requires : tie.Need-next-line-requires Inv-loop μ-loop
-next-line-requires c κs = search needs
 
 add-n : tie.Need-add-n Inv-loop μ-loop
 add-n c = let h = line-number _ _ _ (read-line _ _ (sym (c .before .before .before .before .before .before .before .before .before .before .before .step-line .ensures) ∙ c .before .before .before .before .before .before .before .before .before .l .given .1)) in omega arith
@@ -83,27 +71,6 @@ returns-2 : tie.Need-returns-2 Inv-loop μ-loop
 returns-2 c = going-all (c .before .before .before .before .before .args .t) (c .before .before .before .before .before .args .sheet .now) (c .before .before .before .before .before .args .out .now) (c .before .before .before .before .before .args .from) (c .before .loop .out) (c .before .loop .work) (c .before .loop .at) (c .before .loop .n) (c .before .loop .begun) (c .before .loop .done) (c .before .loop .inv) (omega arith)
 
 pub rows-from-spec : {M : Type 1} → statement M
-rows-from-spec =
-    tie.close
-    (tie.spec
-    Inv-loop
-    μ-loop
-    loop-holds
-    line-end-requires
-    step-line-requires
-    enum-known-l
-    enum-told
-    put-last-requires
-    add-result
-    same-length
-    same-length-2
-    returns
-    one-line-requires
-    next-line-requires
-    add-n
-    add-done
-    loop-less
-    loop-again
-    same-length-3
-    same-length-4
-    returns-2)
+rows-from-spec = tie.close (tie.spec Inv-loop μ-loop loop-holds (λ c κs. search needs) step-line-requires (λ c. search needs) (λ c. search needs)
+    put-last-requires add-result same-length same-length-2 returns one-line-requires (λ c κs. search needs) add-n add-done loop-less loop-again
+    same-length-3 same-length-4 returns-2)

@@ -7,27 +7,6 @@ use borrow.Author.Needs.{needs}
 use Rattle.drill.proofs.servers.blank.Statement.{statement}
 use Rattle.drill.proofs.servers.blank.Tie as tie
 
-server-at-requires : tie.Need-server-at-requires
-server-at-requires c κs = search needs
-
-add-e : tie.Need-add-e
-add-e c = search needs
-
-sub-blank : tie.Need-sub-blank
-sub-blank c = search needs
-
-part-blank-start : tie.Need-part-blank-start
-part-blank-start c = search needs
-
-part-blank-end : tie.Need-part-blank-end
-part-blank-end c = search needs
-
-blank-requires : tie.Need-blank-requires
-blank-requires c κs = search needs
-
-same-length : tie.Need-same-length
-same-length c = search needs
-
 returns : tie.Need-returns
 returns c =
     let a = c .before .before .before .before .before .before .args in
@@ -35,14 +14,5 @@ returns c =
     (λ z. blankStep z (a .t) (a .server)) (c .before .work .given .0) (c .before .before .blank .ensures)
 
 pub blank-spec : {M : Type 1} → statement M
-blank-spec =
-    tie.close
-    (tie.spec
-    server-at-requires
-    add-e
-    sub-blank
-    part-blank-start
-    part-blank-end
-    blank-requires
-    same-length
-    returns)
+blank-spec = tie.close (tie.spec (λ c κs. search needs) (λ c. search needs) (λ c. search needs) (λ c. search needs) (λ c. search needs)
+    (λ c κs. search needs) (λ c. search needs) returns)

@@ -7,27 +7,6 @@ use borrow.Author.Needs.{needs}
 use Rattle.drill.proofs.servers.blank_latest.Statement.{statement}
 use Rattle.drill.proofs.servers.blank_latest.Tie as tie
 
-server-at-requires : tie.Need-server-at-requires
-server-at-requires c κs = search needs
-
-add-e : tie.Need-add-e
-add-e c = search needs
-
-sub-blank-latest : tie.Need-sub-blank-latest
-sub-blank-latest c = search needs
-
-part-blank-latest-start : tie.Need-part-blank-latest-start
-part-blank-latest-start c = search needs
-
-part-blank-latest-end : tie.Need-part-blank-latest-end
-part-blank-latest-end c = search needs
-
-blank-latest-requires : tie.Need-blank-latest-requires
-blank-latest-requires c κs = search needs
-
-same-length : tie.Need-same-length
-same-length c = search needs
-
 returns : tie.Need-returns
 returns c =
     let a = c .before .before .before .before .before .before .args in
@@ -35,14 +14,5 @@ returns c =
     blankLatest (c .before .work .given .0) (c .before .before .blank-latest .ensures)
 
 pub blank-latest-spec : {M : Type 1} → statement M
-blank-latest-spec =
-    tie.close
-    (tie.spec
-    server-at-requires
-    add-e
-    sub-blank-latest
-    part-blank-latest-start
-    part-blank-latest-end
-    blank-latest-requires
-    same-length
-    returns)
+blank-latest-spec = tie.close (tie.spec (λ c κs. search needs) (λ c. search needs) (λ c. search needs) (λ c. search needs) (λ c. search needs)
+    (λ c κs. search needs) (λ c. search needs) returns)

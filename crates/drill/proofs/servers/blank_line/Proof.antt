@@ -8,20 +8,8 @@ use borrow.Author.Needs.{needs}
 use Rattle.drill.proofs.servers.blank_line.Statement.{statement}
 use Rattle.drill.proofs.servers.blank_line.Tie as tie
 
-refused-requires : tie.Need-refused-requires
-refused-requires c κs = search needs
-
 returns : tie.Need-returns
 returns c = let a = c .before .before .before .args in blank-refused (a .t) (a .work .now) (a .server) (too-low 1 (shelf (a .t) .servers) (a .server) (omega arith)) (c .refused .ensures)
-
-cast-servers : tie.Need-cast-servers
-cast-servers c = search needs
-
-servers-requires : tie.Need-servers-requires
-servers-requires c κs = search needs
-
-refused-requires-2 : tie.Need-refused-requires-2
-refused-requires-2 c κs = search needs
 
 returns-2 : tie.Need-returns-2
 returns-2 c =
@@ -35,12 +23,6 @@ blank-latest-requires c κs =
     let e = c .before .before .servers .ensures in
     (few-servers (a .t) (a .server) (c .before .before .before .before .before .pre .0 .1) (omega arith, omega arith), c .before .before .before .before .before .pre .1)
 
-begun-requires : tie.Need-begun-requires
-begun-requires c κs = search needs
-
-same-length : tie.Need-same-length
-same-length c = search needs
-
 returns-3 : tie.Need-returns-3
 returns-3 c =
     let a = c .before .before .before .before .before .before .before .before .before .args in
@@ -48,16 +30,5 @@ returns-3 c =
     blank-moves (a .t) (a .work .now) (a .server) (c .before .before .before .before .before .before .before .before .before .pre .0 .1) (omega arith, omega arith) (c .before .before .before .blank-latest .ensures) (c .begun .ensures)
 
 pub blank-line-spec : {M : Type 1} → statement M
-blank-line-spec =
-    tie.close
-    (tie.spec
-    refused-requires
-    returns
-    cast-servers
-    servers-requires
-    refused-requires-2
-    returns-2
-    blank-latest-requires
-    begun-requires
-    same-length
-    returns-3)
+blank-line-spec = tie.close (tie.spec (λ c κs. search needs) returns (λ c. search needs) (λ c κs. search needs) (λ c κs. search needs) returns-2
+    blank-latest-requires (λ c κs. search needs) (λ c. search needs) returns-3)

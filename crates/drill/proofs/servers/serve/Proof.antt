@@ -9,33 +9,6 @@ use borrow.Author.Needs.{needs}
 use Rattle.drill.proofs.servers.serve.Statement.{statement}
 use Rattle.drill.proofs.servers.serve.Tie as tie
 
-server-at-requires : tie.Need-server-at-requires
-server-at-requires c κs = search needs
-
-add-e : tie.Need-add-e
-add-e c = search needs
-
-cast-key : tie.Need-cast-key
-cast-key c = search needs
-
-sub-take : tie.Need-sub-take
-sub-take c = search needs
-
-part-take-start : tie.Need-part-take-start
-part-take-start c = search needs
-
-part-take-end : tie.Need-part-take-end
-part-take-end c = search needs
-
-take-requires : tie.Need-take-requires
-take-requires c κs = search needs
-
-same-length : tie.Need-same-length
-same-length c = search needs
-
-same-length-2 : tie.Need-same-length-2
-same-length-2 c = search needs
-
 returns : tie.Need-returns
 returns c =
     let a = c .before .before .before .before .before .before .before .before .before .before .before .before .args in
@@ -43,16 +16,5 @@ returns c =
     (λ z. serverTake real z (replicate 32 (a .server)) (a .packet .now) (a .out .now)) (c .before .before .before .work .given .0) (c .before .before .before .before .take .ensures)
 
 pub serve-spec : {M : Type 1} → statement M
-serve-spec =
-    tie.close
-    (tie.spec
-    server-at-requires
-    add-e
-    cast-key
-    sub-take
-    part-take-start
-    part-take-end
-    take-requires
-    same-length
-    same-length-2
-    returns)
+serve-spec = tie.close (tie.spec (λ c κs. search needs) (λ c. search needs) (λ c. search needs) (λ c. search needs) (λ c. search needs)
+    (λ c. search needs) (λ c κs. search needs) (λ c. search needs) (λ c. search needs) returns)

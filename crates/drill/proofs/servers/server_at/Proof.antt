@@ -6,15 +6,9 @@ use borrow.Author.Needs.{needs}
 use Rattle.drill.proofs.servers.server_at.Statement.{statement}
 use Rattle.drill.proofs.servers.server_at.Tie as tie
 
-sub-result : tie.Need-sub-result
-sub-result c = search needs
-
-mul-result : tie.Need-mul-result
-mul-result c = search needs
-
 returns : tie.Need-returns
 unfolding serverAt
 returns c = (refl, omega arith)
 
 pub server-at-spec : {M : Type 1} → statement M
-server-at-spec = tie.close (tie.spec sub-result mul-result returns)
+server-at-spec = tie.close (tie.spec (λ c. search needs) (λ c. search needs) returns)

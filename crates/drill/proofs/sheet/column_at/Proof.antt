@@ -7,12 +7,6 @@ use borrow.Author.Needs.{needs}
 use Rattle.drill.proofs.sheet.column_at.Statement.{statement}
 use Rattle.drill.proofs.sheet.column_at.Tie as tie
 
-part-requires : tie.Need-part-requires
-part-requires c κs = search needs
-
-skip-spaces-requires : tie.Need-skip-spaces-requires
-skip-spaces-requires c κs = search needs
-
 number-from-requires : tie.Need-number-from-requires
 number-from-requires c κs = let z = part-most (c .before .before .before .args .text .now) (c .before .before .before .args .at) 8 in rw (c .before .part .ensures) z
 
@@ -21,5 +15,4 @@ unfolding columnAt
 returns c = c .number-from .ensures ∙ ap numberOf (sym (c .before .skip-spaces .ensures .1) ∙ ap column (c .before .before .part .ensures))
 
 pub column-at-spec : {M : Type 1} → statement M
-column-at-spec =
-    tie.close (tie.spec part-requires skip-spaces-requires number-from-requires returns)
+column-at-spec = tie.close (tie.spec (λ c κs. search needs) (λ c κs. search needs) number-from-requires returns)

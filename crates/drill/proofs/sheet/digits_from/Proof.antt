@@ -22,9 +22,6 @@ abbrev μ-loop : tie.MeasureT-loop
 loop-holds : tie.Need-loop-holds Inv-loop μ-loop
 loop-holds c = (refl, tens-pos (c .before .args .from))
 
-shared-slice-read-x : tie.Need-shared-slice-read-x Inv-loop μ-loop
-shared-slice-read-x c = search needs
-
 returns : tie.Need-returns Inv-loop μ-loop
 unfolding numberOf
 returns c =
@@ -40,18 +37,9 @@ returns-2 c =
 mul-v : tie.Need-mul-v Inv-loop μ-loop
 mul-v c = let f = tens-fits (c .before .before .before .before .loop .i) (omega arith) in omega arith
 
-wide-requires : tie.Need-wide-requires Inv-loop μ-loop
-wide-requires c κs = search needs
-
 add-v : tie.Need-add-v Inv-loop μ-loop
 add-v c = let f = tens-fits (c .before .before .before .before .before .loop .i + 1) (omega arith) in
     let g = tens-more (c .before .before .before .before .before .loop .v) (c .before .before .before .before .before .loop .i) (getD (c .before .before .before .before .before .before .before .args .s .now) (c .before .before .before .before .before .loop .i) 0 - 48) (c .before .before .before .before .before .loop .inv .1) (omega arith) in omega arith
-
-add-i : tie.Need-add-i Inv-loop μ-loop
-add-i c = search needs
-
-loop-less : tie.Need-loop-less Inv-loop μ-loop
-loop-less c = search needs
 
 loop-again : tie.Need-loop-again Inv-loop μ-loop
 loop-again c =
@@ -68,19 +56,5 @@ returns-3 c =
     ap numberOf (sym (c .before .loop .inv .0 ∙ digits-end s (c .before .loop .i) (c .before .loop .v) (omega arith)))
 
 pub digits-from-spec : {M : Type 1} → statement M
-digits-from-spec =
-    tie.close
-    (tie.spec
-    Inv-loop
-    μ-loop
-    loop-holds
-    shared-slice-read-x
-    returns
-    returns-2
-    mul-v
-    wide-requires
-    add-v
-    add-i
-    loop-less
-    loop-again
-    returns-3)
+digits-from-spec = tie.close (tie.spec Inv-loop μ-loop loop-holds (λ c. search needs) returns returns-2 mul-v (λ c κs. search needs) add-v
+    (λ c. search needs) (λ c. search needs) loop-again returns-3)

@@ -8,41 +8,14 @@ use Rattle.drill.proofs.sheet.fields_of.Tie as tie
 returns : tie.Need-returns
 returns c = no-line (c .before .before .args .text .now) (c .if1 .taken)
 
-column-at-requires : tie.Need-column-at-requires
-column-at-requires c κs = search needs
-
-enum-known-verb : tie.Need-enum-known-verb
-enum-known-verb c = search needs
-
-enum-told : tie.Need-enum-told
-enum-told c = search needs
-
 returns-2 : tie.Need-returns-2
 returns-2 c =
     no-verb (c .before .before .before .before .before .args .text .now) (c .before .before .before .if1 .left) (number-broken _ (sym (c .before .before .column-at .ensures) ∙ c .enum-told .given .1))
-
-column-at-requires-2 : tie.Need-column-at-requires-2
-column-at-requires-2 c κs = search needs
-
-enum-known-client : tie.Need-enum-known-client
-enum-known-client c = search needs
-
-enum-told-2 : tie.Need-enum-told-2
-enum-told-2 c = search needs
 
 returns-3 : tie.Need-returns-3
 returns-3 c =
     let p0 = number-value _ _ (sym (c .before .before .before .before .before .before .column-at .ensures) ∙ c .before .before .before .before .verb .given .1) in
     no-client (c .before .before .before .before .before .before .before .before .before .args .text .now) (c .before .before .before .before .before .before .before .if1 .left) p0 (number-broken _ (sym (c .before .before .column-at2 .ensures) ∙ c .enum-told2 .given .1))
-
-column-at-requires-3 : tie.Need-column-at-requires-3
-column-at-requires-3 c κs = search needs
-
-enum-known-server : tie.Need-enum-known-server
-enum-known-server c = search needs
-
-enum-told-3 : tie.Need-enum-told-3
-enum-told-3 c = search needs
 
 returns-4 : tie.Need-returns-4
 returns-4 c =
@@ -50,30 +23,12 @@ returns-4 c =
     let p1 = number-value _ _ (sym (c .before .before .before .before .before .before .column-at2 .ensures) ∙ c .before .before .before .before .client .given .1) in
     no-server (c .before .before .before .before .before .before .before .before .before .before .before .before .before .args .text .now) (c .before .before .before .before .before .before .before .before .before .before .before .if1 .left) p0 p1 (number-broken _ (sym (c .before .before .column-at3 .ensures) ∙ c .enum-told3 .given .1))
 
-column-at-requires-4 : tie.Need-column-at-requires-4
-column-at-requires-4 c κs = search needs
-
-enum-known-length : tie.Need-enum-known-length
-enum-known-length c = search needs
-
-enum-told-4 : tie.Need-enum-told-4
-enum-told-4 c = search needs
-
 returns-5 : tie.Need-returns-5
 returns-5 c =
     let p0 = number-value _ _ (sym (c .before .before .before .before .before .before .before .before .before .before .before .before .before .before .column-at .ensures) ∙ c .before .before .before .before .before .before .before .before .before .before .before .before .verb .given .1) in
     let p1 = number-value _ _ (sym (c .before .before .before .before .before .before .before .before .before .before .column-at2 .ensures) ∙ c .before .before .before .before .before .before .before .before .client .given .1) in
     let p2 = number-value _ _ (sym (c .before .before .before .before .before .before .column-at3 .ensures) ∙ c .before .before .before .before .server .given .1) in
     no-length (c .before .before .before .before .before .before .before .before .before .before .before .before .before .before .before .before .before .args .text .now) (c .before .before .before .before .before .before .before .before .before .before .before .before .before .before .before .if1 .left) p0 p1 p2 (number-broken _ (sym (c .before .before .column-at4 .ensures) ∙ c .enum-told4 .given .1))
-
-column-at-requires-5 : tie.Need-column-at-requires-5
-column-at-requires-5 c κs = search needs
-
-enum-known-fill : tie.Need-enum-known-fill
-enum-known-fill c = search needs
-
-enum-told-5 : tie.Need-enum-told-5
-enum-told-5 c = search needs
 
 returns-6 : tie.Need-returns-6
 returns-6 c =
@@ -93,28 +48,6 @@ returns-7 c =
     all-fields (c .before .before .before .before .before .before .before .before .before .before .before .before .before .before .before .before .before .before .before .before .before .before .args .text .now) (c .before .before .before .before .before .before .before .before .before .before .before .before .before .before .before .before .before .before .before .before .if1 .left) p0 p1 p2 p3 p4
 
 pub fields-of-spec : {M : Type 1} → statement M
-fields-of-spec =
-    tie.close
-    (tie.spec
-    returns
-    column-at-requires
-    enum-known-verb
-    enum-told
-    returns-2
-    column-at-requires-2
-    enum-known-client
-    enum-told-2
-    returns-3
-    column-at-requires-3
-    enum-known-server
-    enum-told-3
-    returns-4
-    column-at-requires-4
-    enum-known-length
-    enum-told-4
-    returns-5
-    column-at-requires-5
-    enum-known-fill
-    enum-told-5
-    returns-6
-    returns-7)
+fields-of-spec = tie.close (tie.spec returns (λ c κs. search needs) (λ c. search needs) (λ c. search needs) returns-2 (λ c κs. search needs)
+    (λ c. search needs) (λ c. search needs) returns-3 (λ c κs. search needs) (λ c. search needs) (λ c. search needs) returns-4 (λ c κs. search needs)
+    (λ c. search needs) (λ c. search needs) returns-5 (λ c κs. search needs) (λ c. search needs) (λ c. search needs) returns-6 returns-7)

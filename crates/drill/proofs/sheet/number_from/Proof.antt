@@ -11,37 +11,16 @@ returns : tie.Need-returns
 unfolding numberOf
 returns c = ap numberOf (sym (number-end (c .before .before .args .s .now) (c .before .before .args .at) (c .if1 .taken)))
 
-sub-if2 : tie.Need-sub-if2
-sub-if2 c = search needs
-
-shared-slice-read-if3 : tie.Need-shared-slice-read-if3
-shared-slice-read-if3 c = search needs
-
 returns-2 : tie.Need-returns-2
 unfolding numberOf
 returns-2 c = ap numberOf (sym (number-zero (c .before .before .before .before .before .args .s .now) (c .before .before .before .before .before .args .at) (omega arith) (c .if3 .taken)))
 
-digits-from-requires : tie.Need-digits-from-requires
-digits-from-requires c κs = search needs
-
 returns-3 : tie.Need-returns-3
 returns-3 c = c .digits-from .ensures ∙ ap numberOf (sym (number-more (c .before .before .before .before .before .before .args .s .now) (c .before .before .before .before .before .before .args .at) (omega arith) (c .before .if3 .left)))
-
-digits-from-requires-2 : tie.Need-digits-from-requires-2
-digits-from-requires-2 c κs = search needs
 
 returns-4 : tie.Need-returns-4
 returns-4 c = c .digits-from2 .ensures ∙ ap numberOf (sym (number-one (c .before .before .before .before .args .s .now) (c .before .before .before .before .args .at) (omega arith) (omega arith)))
 
 pub number-from-spec : {M : Type 1} → statement M
-number-from-spec =
-    tie.close
-    (tie.spec
-    returns
-    sub-if2
-    shared-slice-read-if3
-    returns-2
-    digits-from-requires
-    returns-3
-    digits-from-requires-2
-    returns-4)
+number-from-spec = tie.close (tie.spec returns (λ c. search needs) (λ c. search needs) returns-2 (λ c κs. search needs) returns-3
+    (λ c κs. search needs) returns-4)

@@ -5,20 +5,11 @@ use borrow.Author.Needs.{needs}
 use Rattle.drill.proofs.shown.begun.Statement.{statement}
 use Rattle.drill.proofs.shown.begun.Tie as tie
 
-only-requires : tie.Need-only-requires
-only-requires c κs = search needs
-
 returns : tie.Need-returns
 returns c = c .only .ensures ∙ sym (shown-begun (c .before .before .args .number) (c .before .if1 .taken))
-
-add-only : tie.Need-add-only
-add-only c = search needs
-
-only-requires-2 : tie.Need-only-requires-2
-only-requires-2 c κs = search needs
 
 returns-2 : tie.Need-returns-2
 returns-2 c = c .only2 .ensures ∙ sym (shown-refused (c .before .before .args .number) (c .before .if1 .left))
 
 pub begun-spec : {M : Type 1} → statement M
-begun-spec = tie.close (tie.spec only-requires returns add-only only-requires-2 returns-2)
+begun-spec = tie.close (tie.spec (λ c κs. search needs) returns (λ c. search needs) (λ c κs. search needs) returns-2)

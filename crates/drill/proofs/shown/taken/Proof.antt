@@ -12,41 +12,11 @@ use borrow.Author.Needs.{needs}
 use Rattle.drill.proofs.shown.taken.Statement.{statement}
 use Rattle.drill.proofs.shown.taken.Tie as tie
 
-enum-known-a : tie.Need-enum-known-a
-enum-known-a c = search needs
-
-refused-requires : tie.Need-refused-requires
-refused-requires c κs = search needs
-
-enum-told : tie.Need-enum-told
-enum-told c = search needs
-
-only-requires : tie.Need-only-requires
-only-requires c κs = search needs
-
-enum-known-a-2 : tie.Need-enum-known-a-2
-enum-known-a-2 c = search needs
-
-enum-known-a-3 : tie.Need-enum-known-a-3
-enum-known-a-3 c = search needs
-
-cast-part : tie.Need-cast-part
-cast-part c = search needs
-
-part-requires : tie.Need-part-requires
-part-requires c κs = search needs
-
 content-read-requires : tie.Need-content-read-requires
 content-read-requires c κs =
     let h = part-less (c .before .before .before .before .before .args .out .now) 0 (c .before .before .a3 .given .0 .1 .0) in
     let l = ap length (c .part .ensures) in
     omega arith
-
-enum-told-2 : tie.Need-enum-told-2
-enum-told-2 c = search needs
-
-only-requires-2 : tie.Need-only-requires-2
-only-requires-2 c κs = search needs
 
 returns : tie.Need-returns
 returns c = rw (c .before .before .a .given .1) (c .refused .ensures)
@@ -68,22 +38,6 @@ unfolding shown
 returns-5 c = rw (c .before .enum-told2 .given .1) (c .only2 .ensures)
 
 pub taken-spec : {M : Type 1} → statement M
-taken-spec =
-    tie.close
-    (tie.spec
-    enum-known-a
-    refused-requires
-    enum-told
-    only-requires
-    enum-known-a-2
-    enum-known-a-3
-    cast-part
-    part-requires
-    content-read-requires
-    enum-told-2
-    only-requires-2
-    returns
-    returns-2
-    returns-3
-    returns-4
-    returns-5)
+taken-spec = tie.close (tie.spec (λ c. search needs) (λ c κs. search needs) (λ c. search needs) (λ c κs. search needs) (λ c. search needs)
+    (λ c. search needs) (λ c. search needs) (λ c κs. search needs) content-read-requires (λ c. search needs) (λ c κs. search needs) returns returns-2
+    returns-3 returns-4 returns-5)

@@ -12,12 +12,6 @@ use Rattle.drill.specs.Steps.{nonceFor}
 use Rattle.drill.proofs.steps.nonce_for.Statement.{statement}
 use Rattle.drill.proofs.steps.nonce_for.Tie as tie
 
-slice-aggregate-put-number4 : tie.Need-slice-aggregate-put-number4
-slice-aggregate-put-number4 c = search needs
-
-put-number4-requires : tie.Need-put-number4-requires
-put-number4-requires c κs = search needs
-
 number-last : (k : ℕ) → put (replicate keySize 0) 28 (print4 k) ≡ nonceFor k
 unfolding put nonceFor
 number-last k = refl
@@ -26,4 +20,4 @@ returns : tie.Need-returns
 returns c = placed-wrote (c .before .put-number4 .ensures) (omega arith) .bytes ∙ number-last _
 
 pub nonce-for-spec : {M : Type 1} → statement M
-nonce-for-spec = tie.close (tie.spec slice-aggregate-put-number4 put-number4-requires returns)
+nonce-for-spec = tie.close (tie.spec (λ c. search needs) (λ c κs. search needs) returns)

@@ -5,39 +5,15 @@ use borrow.Author.Needs.{needs}
 use Rattle.drill.proofs.steps.read.Statement.{statement}
 use Rattle.drill.proofs.steps.read.Tie as tie
 
-refused-requires : tie.Need-refused-requires
-refused-requires c κs = search needs
-
 returns : tie.Need-returns
 returns c = let a = c .before .before .before .args in read-stays (a .t) (a .client) (c .before .before .before .pre .0) (a .work .now) (too-low 1 16 (a .client) (omega arith)) (c .refused .ensures)
 
-refused-requires-2 : tie.Need-refused-requires-2
-refused-requires-2 c κs = search needs
-
 returns-2 : tie.Need-returns-2
 returns-2 c = let a = c .before .before .before .before .args in read-stays (a .t) (a .client) (c .before .before .before .before .pre .0) (a .work .now) (too-high 1 16 (a .client) (omega arith) (omega arith)) (c .refused2 .ensures)
-
-begin-read-requires : tie.Need-begin-read-requires
-begin-read-requires c κs = search needs
-
-begun-requires : tie.Need-begun-requires
-begun-requires c κs = search needs
-
-same-length : tie.Need-same-length
-same-length c = search needs
 
 returns-3 : tie.Need-returns-3
 returns-3 c = let a = c .before .before .before .before .before .before .before .before .args in read-moves (a .t) (a .client) (c .before .before .before .before .before .before .before .before .pre .0) (a .work .now) (omega arith, omega arith) (c .before .before .before .begin-read .ensures) (c .begun .ensures)
 
 pub read-spec : {M : Type 1} → statement M
-read-spec =
-    tie.close
-    (tie.spec
-    refused-requires
-    returns
-    refused-requires-2
-    returns-2
-    begin-read-requires
-    begun-requires
-    same-length
-    returns-3)
+read-spec = tie.close (tie.spec (λ c κs. search needs) returns (λ c κs. search needs) returns-2 (λ c κs. search needs) (λ c κs. search needs)
+    (λ c. search needs) returns-3)

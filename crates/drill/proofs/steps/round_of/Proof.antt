@@ -14,14 +14,8 @@ returns c = round-none (c .before .before .args .work .now) (c .before .before .
 returns-2 : tie.Need-returns-2
 returns-2 c = round-none (c .before .before .before .args .work .now) (c .before .before .before .args .client) (too-high 1 16 (c .before .before .before .args .client) (omega arith) (omega arith))
 
-call-of-requires : tie.Need-call-of-requires
-call-of-requires c κs = search needs
-
-cast-result : tie.Need-cast-result
-cast-result c = search needs
-
 returns-3 : tie.Need-returns-3
 returns-3 c = round-some (c .before .before .before .before .before .before .args .work .now) (c .before .before .before .before .before .before .args .client) (omega arith, omega arith) (ap (λ (z : Call). z .tally .round) (c .before .before .call-of .ensures))
 
 pub round-of-spec : {M : Type 1} → statement M
-round-of-spec = tie.close (tie.spec returns returns-2 call-of-requires cast-result returns-3)
+round-of-spec = tie.close (tie.spec returns returns-2 (λ c κs. search needs) (λ c. search needs) returns-3)

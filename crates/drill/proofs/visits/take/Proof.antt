@@ -15,38 +15,8 @@ use borrow.Author.Needs.{needs}
 use Rattle.drill.proofs.visits.take.Statement.{statement}
 use Rattle.drill.proofs.visits.take.Tie as tie
 
-call-of-requires : tie.Need-call-of-requires
-call-of-requires c κs = search needs
-
-kept-at-requires : tie.Need-kept-at-requires
-kept-at-requires c κs = search needs
-
-add-e : tie.Need-add-e
-add-e c = search needs
-
-server-keys-requires : tie.Need-server-keys-requires
-server-keys-requires c κs = search needs
-
-sub-take-in : tie.Need-sub-take-in
-sub-take-in c = search needs
-
-part-take-in-start : tie.Need-part-take-in-start
-part-take-in-start c = search needs
-
-part-take-in-end : tie.Need-part-take-in-end
-part-take-in-end c = search needs
-
-take-in-requires : tie.Need-take-in-requires
-take-in-requires c κs = search needs
-
 put-call-requires : tie.Need-put-call-requires
 put-call-requires c κs = (c .before .before .before .before .before .before .before .before .before .before .before .before .before .before .before .before .before .pre .0, c .before .before .before .before .work .given .1 ∙ c .before .before .before .before .before .before .before .before .before .before .before .before .before .before .before .before .before .pre .1)
-
-same-length : tie.Need-same-length
-same-length c = search needs
-
-same-length-2 : tie.Need-same-length-2
-same-length-2 c = search needs
 
 returns : tie.Need-returns
 unfolding drillShelf
@@ -59,18 +29,5 @@ returns c =
     (c .before .before .before .before .before .before .before .before .before .before .before .before .before .before .before .call-of .ensures) (c .before .before .before .before .before .before .before .before .before .before .before .before .before .before .kept-at .ensures .0) (omega arith) (c .before .before .before .before .before .before .before .before .take-in .ensures .0) (c .before .before .before .before .before .before .before .before .take-in .ensures .1 .0) (c .before .before .before .before .before .before .before .before .take-in .ensures .1 .1) (c .before .before .before .before .before .before .before .work .given .0) (c .before .before .put-call .ensures .0) (c .before .before .put-call .ensures .1)
 
 pub take-spec : {M : Type 1} → statement M
-take-spec =
-    tie.close
-    (tie.spec
-    call-of-requires
-    kept-at-requires
-    add-e
-    server-keys-requires
-    sub-take-in
-    part-take-in-start
-    part-take-in-end
-    take-in-requires
-    put-call-requires
-    same-length
-    same-length-2
-    returns)
+take-spec = tie.close (tie.spec (λ c κs. search needs) (λ c κs. search needs) (λ c. search needs) (λ c κs. search needs) (λ c. search needs)
+    (λ c. search needs) (λ c. search needs) (λ c κs. search needs) put-call-requires (λ c. search needs) (λ c. search needs) returns)

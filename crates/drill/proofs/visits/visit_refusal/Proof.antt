@@ -12,12 +12,6 @@ use Rattle.drill.proofs.visits.visit_refusal.Tie as tie
 returns : tie.Need-returns
 returns c = let a = c .before .before .args in refuses-4 (a .t) (a .work .now) (a .client) (a .server) (too-low 1 (shelf (a .t) .servers) (a .server) (omega arith))
 
-cast-servers : tie.Need-cast-servers
-cast-servers c = search needs
-
-servers-requires : tie.Need-servers-requires
-servers-requires c κs = search needs
-
 returns-2 : tie.Need-returns-2
 returns-2 c =
     let a = c .before .before .before .before .args in
@@ -36,12 +30,6 @@ returns-4 c =
     let e = c .before .before .before .servers .ensures in
     refuses-5 (a .t) (a .work .now) (a .client) (a .server) (omega arith, omega arith) (too-high 1 16 (a .client) (omega arith) (omega arith))
 
-call-of-requires : tie.Need-call-of-requires
-call-of-requires c κs = search needs
-
-is-pending-requires : tie.Need-is-pending-requires
-is-pending-requires c κs = search needs
-
 returns-5 : tie.Need-returns-5
 returns-5 c =
     let a = c .before .before .before .before .before .before .before .before .before .args in
@@ -55,16 +43,5 @@ returns-6 c =
     refuses-13 (a .t) (a .work .now) (a .client) (a .server) (omega arith, omega arith) (omega arith, omega arith) (ap inHand (sym (c .before .before .call-of .ensures)) ∙ sym (c .before .is-pending .ensures) ∙ c .if5 .left)
 
 pub visit-refusal-spec : {M : Type 1} → statement M
-visit-refusal-spec =
-    tie.close
-    (tie.spec
-    returns
-    cast-servers
-    servers-requires
-    returns-2
-    returns-3
-    returns-4
-    call-of-requires
-    is-pending-requires
-    returns-5
-    returns-6)
+visit-refusal-spec = tie.close (tie.spec returns (λ c. search needs) (λ c κs. search needs) returns-2 returns-3 returns-4 (λ c κs. search needs)
+    (λ c κs. search needs) returns-5 returns-6)

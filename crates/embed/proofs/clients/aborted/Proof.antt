@@ -5,24 +5,6 @@ use Rattle.embed.specs.Clients.{abortedOf}
 use Rattle.embed.proofs.clients.aborted.Statement.{statement}
 use Rattle.embed.proofs.clients.aborted.Tie as tie
 
-enum-known-a : tie.Need-enum-known-a
-enum-known-a c = search needs
-
-pack-requires : tie.Need-pack-requires
-pack-requires c κs = search needs
-
-enum-told : tie.Need-enum-told
-enum-told c = search needs
-
-pack-requires-2 : tie.Need-pack-requires-2
-pack-requires-2 c κs = search needs
-
-enum-told-2 : tie.Need-enum-told-2
-enum-told-2 c = search needs
-
-pack-requires-3 : tie.Need-pack-requires-3
-pack-requires-3 c κs = search needs
-
 returns : tie.Need-returns
 unfolding abortedOf
 returns c = rw (c .before .before .a .given .1) (c .pack .ensures)
@@ -36,15 +18,5 @@ unfolding abortedOf
 returns-3 c = rw (c .before .enum-told2 .given .1) (c .pack3 .ensures)
 
 pub aborted-spec : {M : Type 1} → statement M
-aborted-spec =
-    tie.close
-    (tie.spec
-    enum-known-a
-    pack-requires
-    enum-told
-    pack-requires-2
-    enum-told-2
-    pack-requires-3
-    returns
-    returns-2
-    returns-3)
+aborted-spec = tie.close (tie.spec (λ c. search needs) (λ c κs. search needs) (λ c. search needs) (λ c κs. search needs) (λ c. search needs)
+    (λ c κs. search needs) returns returns-2 returns-3)

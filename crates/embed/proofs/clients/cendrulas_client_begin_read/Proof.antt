@@ -5,22 +5,10 @@ use Rattle.embed.proofs.Sessions.{read-unsized, read-done}
 use Rattle.embed.proofs.clients.cendrulas_client_begin_read.Statement.{statement}
 use Rattle.embed.proofs.clients.cendrulas_client_begin_read.Tie as tie
 
-pack-requires : tie.Need-pack-requires
-pack-requires c κs = search needs
-
 returns : tie.Need-returns
 returns c =
     let a = c .before .before .before .args in
     rw (c .pack .ensures) (read-unsized (a .state .now) (a .t) (a .client) (c .before .if1 .taken))
-
-read-in-requires : tie.Need-read-in-requires
-read-in-requires c κs = search needs
-
-outcome-requires : tie.Need-outcome-requires
-outcome-requires c κs = search needs
-
-same-length : tie.Need-same-length
-same-length c = search needs
 
 returns-2 : tie.Need-returns-2
 returns-2 c =
@@ -28,6 +16,5 @@ returns-2 c =
     read-done (a .state .now) (a .t) (a .client) (c .before .before .before .before .before .if1 .left) (c .before .before .before .read-in .result) _ _ (c .before .before .before .read-in .ensures) (c .outcome .ensures)
 
 pub cendrulas-client-begin-read-spec : {M : Type 1} → statement M
-cendrulas-client-begin-read-spec =
-    tie.close
-    (tie.spec pack-requires returns read-in-requires outcome-requires same-length returns-2)
+cendrulas-client-begin-read-spec = tie.close (tie.spec (λ c κs. search needs) returns (λ c κs. search needs) (λ c κs. search needs)
+    (λ c. search needs) returns-2)

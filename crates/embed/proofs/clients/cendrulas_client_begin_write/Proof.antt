@@ -5,33 +5,15 @@ use Rattle.embed.proofs.Sessions.{write-unsized, write-other-nonce, wri
 use Rattle.embed.proofs.clients.cendrulas_client_begin_write.Statement.{statement}
 use Rattle.embed.proofs.clients.cendrulas_client_begin_write.Tie as tie
 
-pack-requires : tie.Need-pack-requires
-pack-requires c κs = search needs
-
 returns : tie.Need-returns
 returns c =
     let a = c .before .before .before .before .before .args in
     rw (c .pack .ensures) (write-unsized (a .state .now) (a .content .now) (a .nonce .now) (a .t) (a .client) (c .before .if1 .taken))
 
-pack-requires-2 : tie.Need-pack-requires-2
-pack-requires-2 c κs = search needs
-
 returns-2 : tie.Need-returns-2
 returns-2 c =
     let a = c .before .before .before .before .before .before .args in
     rw (c .pack2 .ensures) (write-other-nonce (a .state .now) (a .t) (a .client) (c .before .before .if1 .left) (a .content .now) (a .nonce .now) (c .before .if2 .taken))
-
-array-requires : tie.Need-array-requires
-array-requires c κs = search needs
-
-write-in-requires : tie.Need-write-in-requires
-write-in-requires c κs = search needs
-
-outcome-requires : tie.Need-outcome-requires
-outcome-requires c κs = search needs
-
-same-length : tie.Need-same-length
-same-length c = search needs
 
 returns-3 : tie.Need-returns-3
 returns-3 c =
@@ -39,15 +21,5 @@ returns-3 c =
     write-done (a .state .now) (a .t) (a .client) (c .before .before .before .before .before .before .before .if1 .left) (a .content .now) (a .nonce .now) _ (c .before .before .before .write-in .result) _ _ (c .before .before .before .before .before .before .if2 .left) (c .before .before .before .before .array .ensures) (c .before .before .before .write-in .ensures) (c .outcome .ensures)
 
 pub cendrulas-client-begin-write-spec : {M : Type 1} → statement M
-cendrulas-client-begin-write-spec =
-    tie.close
-    (tie.spec
-    pack-requires
-    returns
-    pack-requires-2
-    returns-2
-    array-requires
-    write-in-requires
-    outcome-requires
-    same-length
-    returns-3)
+cendrulas-client-begin-write-spec = tie.close (tie.spec (λ c κs. search needs) returns (λ c κs. search needs) returns-2 (λ c κs. search needs)
+    (λ c κs. search needs) (λ c κs. search needs) (λ c. search needs) returns-3)

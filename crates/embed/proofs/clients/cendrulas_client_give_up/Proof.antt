@@ -5,28 +5,10 @@ use Rattle.embed.proofs.Sessions.{give-up-unsized, give-up-done}
 use Rattle.embed.proofs.clients.cendrulas_client_give_up.Statement.{statement}
 use Rattle.embed.proofs.clients.cendrulas_client_give_up.Tie as tie
 
-pack-requires : tie.Need-pack-requires
-pack-requires c κs = search needs
-
 returns : tie.Need-returns
 returns c =
     let a = c .before .before .before .args in
     rw (c .pack .ensures) (give-up-unsized (a .state .now) (a .t) (a .client) (c .before .if1 .taken))
-
-read-requires : tie.Need-read-requires
-read-requires c κs = search needs
-
-give-up-in-requires : tie.Need-give-up-in-requires
-give-up-in-requires c κs = search needs
-
-put-call-requires : tie.Need-put-call-requires
-put-call-requires c κs = search needs
-
-aborted-requires : tie.Need-aborted-requires
-aborted-requires c κs = search needs
-
-same-length : tie.Need-same-length
-same-length c = search needs
 
 returns-2 : tie.Need-returns-2
 returns-2 c =
@@ -34,14 +16,5 @@ returns-2 c =
     give-up-done (a .state .now) (a .t) (a .client) (c .before .before .before .before .before .before .before .before .if1 .left) (c .before .before .before .before .before .before .read .result) (c .before .before .before .before .before .give-up-in .result) _ _ (c .before .before .before .before .before .before .read .ensures) (c .before .before .before .before .before .give-up-in .ensures) (c .before .before .before .put-call .ensures) (c .aborted .ensures)
 
 pub cendrulas-client-give-up-spec : {M : Type 1} → statement M
-cendrulas-client-give-up-spec =
-    tie.close
-    (tie.spec
-    pack-requires
-    returns
-    read-requires
-    give-up-in-requires
-    put-call-requires
-    aborted-requires
-    same-length
-    returns-2)
+cendrulas-client-give-up-spec = tie.close (tie.spec (λ c κs. search needs) returns (λ c κs. search needs) (λ c κs. search needs)
+    (λ c κs. search needs) (λ c κs. search needs) (λ c. search needs) returns-2)

@@ -5,19 +5,10 @@ use Rattle.embed.proofs.Sessions.{make-unsized, make-done}
 use Rattle.embed.proofs.clients.cendrulas_client_make.Statement.{statement}
 use Rattle.embed.proofs.clients.cendrulas_client_make.Tie as tie
 
-pack-requires : tie.Need-pack-requires
-pack-requires c κs = search needs
-
 returns : tie.Need-returns
 returns c =
     let a = c .before .before .before .before .args in
     rw (c .pack .ensures) (make-unsized (a .state .now) (a .out .now) (a .t) (a .client) (a .server) (c .before .if1 .taken))
-
-make-packet-requires : tie.Need-make-packet-requires
-make-packet-requires c κs = search needs
-
-same-length : tie.Need-same-length
-same-length c = search needs
 
 returns-2 : tie.Need-returns-2
 returns-2 c =
@@ -25,5 +16,4 @@ returns-2 c =
     make-done (a .state .now) (a .out .now) (a .t) (a .client) (a .server) (c .before .before .before .before .if1 .left) _ (c .before .before .make-packet .ensures)
 
 pub cendrulas-client-make-spec : {M : Type 1} → statement M
-cendrulas-client-make-spec =
-    tie.close (tie.spec pack-requires returns make-packet-requires same-length returns-2)
+cendrulas-client-make-spec = tie.close (tie.spec (λ c κs. search needs) returns (λ c κs. search needs) (λ c. search needs) returns-2)

@@ -5,44 +5,20 @@ use Rattle.embed.proofs.Sessions.{take-unsized, take-other-key, take-ot
 use Rattle.embed.proofs.clients.cendrulas_client_take.Statement.{statement}
 use Rattle.embed.proofs.clients.cendrulas_client_take.Tie as tie
 
-pack-requires : tie.Need-pack-requires
-pack-requires c κs = search needs
-
 returns : tie.Need-returns
 returns c =
     let a = c .before .before .before .before .before .before .before .args in
     rw (c .pack .ensures) (take-unsized (a .state .now) (a .t) (a .client) (a .writers .now) (a .keys .now) (a .packet .now) (a .out .now) (c .before .if1 .taken))
-
-pack-requires-2 : tie.Need-pack-requires-2
-pack-requires-2 c κs = search needs
 
 returns-2 : tie.Need-returns-2
 returns-2 c =
     let a = c .before .before .before .before .before .before .before .before .args in
     rw (c .pack2 .ensures) (take-other-key (a .state .now) (a .t) (a .client) (a .writers .now) (a .keys .now) (a .packet .now) (a .out .now) (c .before .before .if1 .left) (c .before .if2 .taken))
 
-pack-requires-3 : tie.Need-pack-requires-3
-pack-requires-3 c κs = search needs
-
 returns-3 : tie.Need-returns-3
 returns-3 c =
     let a = c .before .before .before .before .before .before .before .before .before .args in
     rw (c .pack3 .ensures) (take-other-keys (a .state .now) (a .t) (a .client) (a .writers .now) (a .keys .now) (a .packet .now) (a .out .now) (c .before .before .before .if1 .left) (c .before .before .if2 .left) (c .before .if3 .taken))
-
-array-requires : tie.Need-array-requires
-array-requires c κs = search needs
-
-keys-of-requires : tie.Need-keys-of-requires
-keys-of-requires c κs = search needs
-
-take-packet-requires : tie.Need-take-packet-requires
-take-packet-requires c κs = search needs
-
-same-length : tie.Need-same-length
-same-length c = search needs
-
-same-length-2 : tie.Need-same-length-2
-same-length-2 c = search needs
 
 returns-4 : tie.Need-returns-4
 returns-4 c =
@@ -50,18 +26,5 @@ returns-4 c =
     take-done (a .state .now) (a .t) (a .client) (a .writers .now) (a .keys .now) (a .packet .now) (a .out .now) (c .before .before .before .before .before .before .before .before .before .before .before .before .before .if1 .left) (c .before .before .before .before .before .before .before .before .before .before .before .before .if2 .left) (c .before .before .before .before .before .before .before .before .before .before .before .if3 .left) _ _ _ (c .before .before .before .before .before .before .before .before .before .before .array .ensures) (c .before .before .before .before .before .before .before .before .before .keys-of .ensures) (c .before .before .before .before .take-packet .ensures)
 
 pub cendrulas-client-take-spec : {M : Type 1} → statement M
-cendrulas-client-take-spec =
-    tie.close
-    (tie.spec
-    pack-requires
-    returns
-    pack-requires-2
-    returns-2
-    pack-requires-3
-    returns-3
-    array-requires
-    keys-of-requires
-    take-packet-requires
-    same-length
-    same-length-2
-    returns-4)
+cendrulas-client-take-spec = tie.close (tie.spec (λ c κs. search needs) returns (λ c κs. search needs) returns-2 (λ c κs. search needs) returns-3
+    (λ c κs. search needs) (λ c κs. search needs) (λ c κs. search needs) (λ c. search needs) (λ c. search needs) returns-4)

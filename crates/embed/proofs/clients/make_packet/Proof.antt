@@ -14,23 +14,8 @@ use Rattle.embed.proofs.Rooms.{made-count, made-out}
 use Rattle.embed.proofs.clients.make_packet.Statement.{statement}
 use Rattle.embed.proofs.clients.make_packet.Tie as tie
 
-read-requires : tie.Need-read-requires
-read-requires c κs = search needs
-
-lent-requires : tie.Need-lent-requires
-lent-requires c κs = search needs
-
-rest-requires : tie.Need-rest-requires
-rest-requires c κs = search needs
-
-slice-relend-prefix-make-in : tie.Need-slice-relend-prefix-make-in
-slice-relend-prefix-make-in c = search needs
-
 slice-aggregate-make-in : tie.Need-slice-aggregate-make-in
 slice-aggregate-make-in c = let a = c .before .before .before .before .before .before .args in let l = c .before .before .lent in sym (length-take-le (l .result) (a .out .now) (l .ensures .0))
-
-make-in-requires : tie.Need-make-in-requires
-make-in-requires c κs = search needs
 
 cast-pack : tie.Need-cast-pack
 cast-pack c =
@@ -40,12 +25,6 @@ cast-pack c =
     let m = c .before .before .make-in in
     let e = m .ensures ∙ core-made d (c .before .before .before .before .before .before .before .before .before .pre) (a .t) (a .client) (a .server) (c .before .before .before .before .before .before .read .result) _ (take (l .result) (a .out .now)) (c .before .before .before .before .before .before .read .ensures) (c .before .before .before .before .rest .ensures) in
     let n : m .result .count ≤ packetRoom = made-count (a .out .now) (l .result) (l .ensures .0) (l .ensures .1 .0) (l .ensures .1 .1) (a .t) (a .client) (a .server) (callAt d) (keptOf d) (m .result) (m .last .1 .1 .1 .1 .1 .0) e (m .kept .1 .1 .1 .1 .1 .0) in omega (arith, n)
-
-pack-requires : tie.Need-pack-requires
-pack-requires c κs = search needs
-
-same-length : tie.Need-same-length
-same-length c = search needs
 
 returns : tie.Need-returns
 returns c =
@@ -57,16 +36,5 @@ returns c =
     made-out (a .out .now) (l .result) (l .ensures .0) (l .ensures .1 .0) (l .ensures .1 .1) (a .t) (a .client) (a .server) (callAt d) (keptOf d) (m .result) (m .last .1 .1 .1 .1 .1 .0) e (m .kept .1 .1 .1 .1 .1 .0) _ (c .pack .ensures)
 
 pub make-packet-spec : {M : Type 1} → statement M
-make-packet-spec =
-    tie.close
-    (tie.spec
-    read-requires
-    lent-requires
-    rest-requires
-    slice-relend-prefix-make-in
-    slice-aggregate-make-in
-    make-in-requires
-    cast-pack
-    pack-requires
-    same-length
-    returns)
+make-packet-spec = tie.close (tie.spec (λ c κs. search needs) (λ c κs. search needs) (λ c κs. search needs) (λ c. search needs)
+    slice-aggregate-make-in (λ c κs. search needs) cast-pack (λ c κs. search needs) (λ c. search needs) returns)

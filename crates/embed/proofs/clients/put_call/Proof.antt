@@ -8,12 +8,6 @@ use Rattle.embed.proofs.Sessions.{put-first}
 use Rattle.embed.proofs.clients.put_call.Statement.{statement}
 use Rattle.embed.proofs.clients.put_call.Tie as tie
 
-put-requires : tie.Need-put-requires
-put-requires c κs = search needs
-
-same-length : tie.Need-same-length
-same-length c = search needs
-
 returns : tie.Need-returns
 returns c =
     let a = c .before .before .before .before .before .args in
@@ -21,4 +15,4 @@ returns c =
     c .before .before .put .ensures ∙ put-first (a .state .now) (c .before .before .before .before .before .pre) (a .call) m
 
 pub put-call-spec : {M : Type 1} → statement M
-put-call-spec = tie.close (tie.spec put-requires same-length returns)
+put-call-spec = tie.close (tie.spec (λ c κs. search needs) (λ c. search needs) returns)

@@ -11,33 +11,6 @@ use Rattle.embed.proofs.Sessions.{core-take, taken-in}
 use Rattle.embed.proofs.clients.take_packet.Statement.{statement}
 use Rattle.embed.proofs.clients.take_packet.Tie as tie
 
-read-requires : tie.Need-read-requires
-read-requires c κs = search needs
-
-sub-take-in : tie.Need-sub-take-in
-sub-take-in c = search needs
-
-part-take-in-start : tie.Need-part-take-in-start
-part-take-in-start c = search needs
-
-part-take-in-end : tie.Need-part-take-in-end
-part-take-in-end c = search needs
-
-take-in-requires : tie.Need-take-in-requires
-take-in-requires c κs = search needs
-
-put-call-requires : tie.Need-put-call-requires
-put-call-requires c κs = search needs
-
-taken-requires : tie.Need-taken-requires
-taken-requires c κs = search needs
-
-same-length : tie.Need-same-length
-same-length c = search needs
-
-same-length-2 : tie.Need-same-length-2
-same-length-2 c = search needs
-
 returns : tie.Need-returns
 returns c =
     let a = c .before .before .before .before .before .before .before .before .before .before .before .before .before .before .before .before .before .args in
@@ -49,16 +22,5 @@ returns c =
     (m .ensures .0 ∙ rw x (ap answered e)) (m .ensures .1 .0 ∙ rw x (ap (λ (b : Took). b .kept) e)) (m .ensures .1 .1 ∙ rw x (ap (λ (b : Took). b .output) e)) (c .before .before .before .put-call .ensures) (c .taken .ensures)
 
 pub take-packet-spec : {M : Type 1} → statement M
-take-packet-spec =
-    tie.close
-    (tie.spec
-    read-requires
-    sub-take-in
-    part-take-in-start
-    part-take-in-end
-    take-in-requires
-    put-call-requires
-    taken-requires
-    same-length
-    same-length-2
-    returns)
+take-packet-spec = tie.close (tie.spec (λ c κs. search needs) (λ c. search needs) (λ c. search needs) (λ c. search needs) (λ c κs. search needs)
+    (λ c κs. search needs) (λ c κs. search needs) (λ c. search needs) (λ c. search needs) returns)

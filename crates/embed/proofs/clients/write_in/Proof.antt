@@ -10,27 +10,6 @@ use Rattle.embed.proofs.Sessions.{core-write, began}
 use Rattle.embed.proofs.clients.write_in.Statement.{statement}
 use Rattle.embed.proofs.clients.write_in.Tie as tie
 
-read-requires : tie.Need-read-requires
-read-requires c κs = search needs
-
-sub-begin-write-in : tie.Need-sub-begin-write-in
-sub-begin-write-in c = search needs
-
-part-begin-write-in-start : tie.Need-part-begin-write-in-start
-part-begin-write-in-start c = search needs
-
-part-begin-write-in-end : tie.Need-part-begin-write-in-end
-part-begin-write-in-end c = search needs
-
-begin-write-in-requires : tie.Need-begin-write-in-requires
-begin-write-in-requires c κs = search needs
-
-put-call-requires : tie.Need-put-call-requires
-put-call-requires c κs = search needs
-
-same-length : tie.Need-same-length
-same-length c = search needs
-
 returns : tie.Need-returns
 returns c =
     let begun = c .before .before .before .before .before .before .before in
@@ -41,14 +20,5 @@ returns c =
     (begun .begin-write-in .ensures .0 ∙ rw (c .before .before .before .before .before .before .before .before .before .before .read .ensures) (ap started e)) (begun .begin-write-in .ensures .1 ∙ rw (c .before .before .before .before .before .before .before .before .before .before .read .ensures) (ap (λ (b : Begun). b .kept) e)) (c .before .before .before .put-call .ensures)
 
 pub write-in-spec : {M : Type 1} → statement M
-write-in-spec =
-    tie.close
-    (tie.spec
-    read-requires
-    sub-begin-write-in
-    part-begin-write-in-start
-    part-begin-write-in-end
-    begin-write-in-requires
-    put-call-requires
-    same-length
-    returns)
+write-in-spec = tie.close (tie.spec (λ c κs. search needs) (λ c. search needs) (λ c. search needs) (λ c. search needs) (λ c κs. search needs)
+    (λ c κs. search needs) (λ c. search needs) returns)

@@ -8,12 +8,6 @@ use Rattle.embed.proofs.Coded.{made-count, made-bytes, made-room, made-
 use Rattle.embed.proofs.coding.cendrulas_fragment.Statement.{statement}
 use Rattle.embed.proofs.coding.cendrulas_fragment.Tie as tie
 
-fragment-requires : tie.Need-fragment-requires
-fragment-requires c κs = search needs
-
-pack-requires : tie.Need-pack-requires
-pack-requires c κs = search needs
-
 returns : tie.Need-returns
 returns c =
     let past = c .before .before in
@@ -25,9 +19,6 @@ returns c =
     (c .before .if1 .taken)
     (c .pack .ensures)
 
-pack-requires-2 : tie.Need-pack-requires-2
-pack-requires-2 c κs = search needs
-
 returns-2 : tie.Need-returns-2
 returns-2 c =
     let past = c .before .before .before in
@@ -36,9 +27,6 @@ returns-2 c =
     refused 14 _ _ (fragmentBytes (a .t) (a .server) content) (a .out .now)
     (no-room (a .t) (a .server) content (past .fragment .result) (past .fragment .ensures) (a .out .now) (c .before .before .if1 .left) (c .before .if2 .taken))
     (c .pack2 .ensures)
-
-slice-aggregate-put : tie.Need-slice-aggregate-put
-slice-aggregate-put c = search needs
 
 put-requires : tie.Need-put-requires
 put-requires c κs =
@@ -55,12 +43,6 @@ cast-pack c =
     let a = past .before .before .before .args in
     let short = made-room (a .t) (a .server) (a .content .now) (past .fragment .result) (past .fragment .ensures) (c .before .before .before .before .before .before .before .if1 .left) in
     omega (arith, short)
-
-pack-requires-3 : tie.Need-pack-requires-3
-pack-requires-3 c κs = search needs
-
-same-length : tie.Need-same-length
-same-length c = search needs
 
 returns-3 : tie.Need-returns-3
 returns-3 c =
@@ -80,17 +62,5 @@ returns-3 c =
     (past-put .put .ensures)
 
 pub cendrulas-fragment-spec : {M : Type 1} → statement M
-cendrulas-fragment-spec =
-    tie.close
-    (tie.spec
-    fragment-requires
-    pack-requires
-    returns
-    pack-requires-2
-    returns-2
-    slice-aggregate-put
-    put-requires
-    cast-pack
-    pack-requires-3
-    same-length
-    returns-3)
+cendrulas-fragment-spec = tie.close (tie.spec (λ c κs. search needs) (λ c κs. search needs) returns (λ c κs. search needs) returns-2
+    (λ c. search needs) put-requires cast-pack (λ c κs. search needs) (λ c. search needs) returns-3)

@@ -5,20 +5,11 @@ use Rattle.embed.proofs.Coded.{restored-count, restored-answer}
 use Rattle.embed.proofs.coding.cendrulas_restore.Statement.{statement}
 use Rattle.embed.proofs.coding.cendrulas_restore.Tie as tie
 
-restore-requires : tie.Need-restore-requires
-restore-requires c κs = search needs
-
 cast-pack : tie.Need-cast-pack
 cast-pack c =
     let past = c .before .before in
     let a = past .before .before .before .before .before .args in
     omega (arith, restored-count (a .t) (a .length) (a .servers .now) (a .fragments .now) (a .out .now) (past .restore .result) _ (past .restore .ensures))
-
-pack-requires : tie.Need-pack-requires
-pack-requires c κs = search needs
-
-same-length : tie.Need-same-length
-same-length c = search needs
 
 returns : tie.Need-returns
 returns c =
@@ -27,4 +18,4 @@ returns c =
     restored-answer (a .t) (a .length) (a .servers .now) (a .fragments .now) (a .out .now) (past .restore .result) _ _ (past .restore .ensures) (c .pack .ensures)
 
 pub cendrulas-restore-spec : {M : Type 1} → statement M
-cendrulas-restore-spec = tie.close (tie.spec restore-requires cast-pack pack-requires same-length returns)
+cendrulas-restore-spec = tie.close (tie.spec (λ c κs. search needs) cast-pack (λ c κs. search needs) (λ c. search needs) returns)

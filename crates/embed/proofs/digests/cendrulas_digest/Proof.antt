@@ -8,28 +8,10 @@ use Rattle.embed.proofs.Laws.{refused, accepted, all-of, digest-short, 
 use Rattle.embed.proofs.digests.cendrulas_digest.Statement.{statement}
 use Rattle.embed.proofs.digests.cendrulas_digest.Tie as tie
 
-pack-requires : tie.Need-pack-requires
-pack-requires c κs = search needs
-
 returns : tie.Need-returns
 returns c =
     let a = c .before .before .before .before .args in
     refused 14 _ _ (sha256 (a .message .now)) (a .out .now) (digest-short (a .out .now) (c .before .if1 .taken)) (c .pack .ensures)
-
-digest-requires : tie.Need-digest-requires
-digest-requires c κs = search needs
-
-slice-aggregate-put : tie.Need-slice-aggregate-put
-slice-aggregate-put c = search needs
-
-put-requires : tie.Need-put-requires
-put-requires c κs = search needs
-
-pack-requires-2 : tie.Need-pack-requires-2
-pack-requires-2 c κs = search needs
-
-same-length : tie.Need-same-length
-same-length c = search needs
 
 returns-2 : tie.Need-returns-2
 returns-2 c =
@@ -43,5 +25,5 @@ returns-2 c =
     (past-put .put .ensures)
 
 pub cendrulas-digest-spec : {M : Type 1} → statement M
-cendrulas-digest-spec =
-    tie.close (tie.spec pack-requires returns digest-requires slice-aggregate-put put-requires pack-requires-2 same-length returns-2)
+cendrulas-digest-spec = tie.close (tie.spec (λ c κs. search needs) returns (λ c κs. search needs) (λ c. search needs) (λ c κs. search needs)
+    (λ c κs. search needs) (λ c. search needs) returns-2)

@@ -10,9 +10,6 @@ use Rattle.embed.proofs.Laws.{refused, accepted, all-of, tag-key, tag-s
 use Rattle.embed.proofs.digests.cendrulas_tag.Statement.{statement}
 use Rattle.embed.proofs.digests.cendrulas_tag.Tie as tie
 
-pack-requires : tie.Need-pack-requires
-pack-requires c κs = search needs
-
 returns : tie.Need-returns
 returns c =
     let a = c .before .before .before .before .before .args in
@@ -20,36 +17,12 @@ returns c =
     (tag-key (a .key .now) (a .out .now) (c .before .if1 .taken))
     (c .pack .ensures)
 
-pack-requires-2 : tie.Need-pack-requires-2
-pack-requires-2 c κs = search needs
-
 returns-2 : tie.Need-returns-2
 returns-2 c =
     let a = c .before .before .before .before .before .before .args in
     refused 14 _ _ (tagOf (a .key .now) (a .message .now)) (a .out .now)
     (tag-short (a .key .now) (a .out .now) (c .before .before .if1 .left) (c .before .if2 .taken))
     (c .pack2 .ensures)
-
-array-requires : tie.Need-array-requires
-array-requires c κs = search needs
-
-tag-requires : tie.Need-tag-requires
-tag-requires c κs = search needs
-
-slice-aggregate-put : tie.Need-slice-aggregate-put
-slice-aggregate-put c = search needs
-
-put-requires : tie.Need-put-requires
-put-requires c κs = search needs
-
-cast-pack : tie.Need-cast-pack
-cast-pack c = search needs
-
-pack-requires-3 : tie.Need-pack-requires-3
-pack-requires-3 c κs = search needs
-
-same-length : tie.Need-same-length
-same-length c = search needs
 
 returns-3 : tie.Need-returns-3
 returns-3 c =
@@ -69,18 +42,5 @@ returns-3 c =
     (past-put .put .ensures)
 
 pub cendrulas-tag-spec : {M : Type 1} → statement M
-cendrulas-tag-spec =
-    tie.close
-    (tie.spec
-    pack-requires
-    returns
-    pack-requires-2
-    returns-2
-    array-requires
-    tag-requires
-    slice-aggregate-put
-    put-requires
-    cast-pack
-    pack-requires-3
-    same-length
-    returns-3)
+cendrulas-tag-spec = tie.close (tie.spec (λ c κs. search needs) returns (λ c κs. search needs) returns-2 (λ c κs. search needs) (λ c κs. search needs)
+    (λ c. search needs) (λ c κs. search needs) (λ c. search needs) (λ c κs. search needs) (λ c. search needs) returns-3)

@@ -18,26 +18,11 @@ abbrev μ-loop : tie.MeasureT-loop
 loop-holds : tie.Need-loop-holds Inv-loop μ-loop
 loop-holds c = (omega arith, sym (filled-none (c .before .args .flat .now)))
 
-mul-part : tie.Need-mul-part Inv-loop μ-loop
-mul-part c = omega arith
-
 part-requires : tie.Need-part-requires Inv-loop μ-loop
 part-requires c κs = tt
 
 array-requires : tie.Need-array-requires Inv-loop μ-loop
 array-requires c κs = ap length (c .part .ensures) ∙ key-size (c .before .before .before .before .args .flat .now) (c .before .before .loop .i) (c .before .before .before .before .pre) (omega arith)
-
-mul-keys : tie.Need-mul-keys Inv-loop μ-loop
-mul-keys c = omega arith
-
-array-set-from-keys : tie.Need-array-set-from-keys Inv-loop μ-loop
-array-set-from-keys c = omega arith
-
-add-i : tie.Need-add-i Inv-loop μ-loop
-add-i c = omega arith
-
-loop-less : tie.Need-loop-less Inv-loop μ-loop
-loop-less c = omega arith
 
 loop-again : tie.Need-loop-again Inv-loop μ-loop
 loop-again c =
@@ -53,18 +38,5 @@ returns c =
     l .inv .1 ∙ ap (filled d) e ∙ filled-all d
 
 pub keys-of-spec : {M : Type 1} → statement M
-keys-of-spec =
-    tie.close
-    (tie.spec
-    Inv-loop
-    μ-loop
-    loop-holds
-    mul-part
-    part-requires
-    array-requires
-    mul-keys
-    array-set-from-keys
-    add-i
-    loop-less
-    loop-again
-    returns)
+keys-of-spec = tie.close (tie.spec Inv-loop μ-loop loop-holds (λ c. omega arith) part-requires array-requires (λ c. omega arith) (λ c. omega arith)
+    (λ c. omega arith) (λ c. omega arith) loop-again returns)

@@ -8,13 +8,10 @@ use Rattle.wire.proofs.Runs.{padded-whole}
 use Rattle.embed.proofs.pack.array.Statement.{statement}
 use Rattle.embed.proofs.pack.array.Tie as tie
 
-nonce-of-requires : tie.Need-nonce-of-requires
-nonce-of-requires c κs = search needs
-
 returns : tie.Need-returns
 returns c =
     let s = c .before .before .args .src .now in
     c .nonce-of .ensures ∙ padded-whole nonceSize s (omega arith) ∙ take-all nonceSize s (omega arith)
 
 pub array-spec : {M : Type 1} → statement M
-array-spec = tie.close (tie.spec nonce-of-requires returns)
+array-spec = tie.close (tie.spec (λ c κs. search needs) returns)

@@ -4,15 +4,6 @@ use Rattle.embed.proofs.Laws.{copied-front}
 use Rattle.embed.proofs.pack.put.Statement.{statement}
 use Rattle.embed.proofs.pack.put.Tie as tie
 
-part-requires : tie.Need-part-requires
-part-requires c κs = search needs
-
-put-requires : tie.Need-put-requires
-put-requires c κs = search needs
-
-same-length : tie.Need-same-length
-same-length c = search needs
-
 returns : tie.Need-returns
 returns c =
     let a = c .before .before .before .before .before .before .before .args in
@@ -20,4 +11,4 @@ returns c =
     copied-front (a .src .now) (a .dst .now) (a .n) (p .0) (p .1) (c .before .before .before .part .ensures) (c .before .before .put .ensures)
 
 pub put-spec : {M : Type 1} → statement M
-put-spec = tie.close (tie.spec part-requires put-requires same-length returns)
+put-spec = tie.close (tie.spec (λ c κs. search needs) (λ c κs. search needs) (λ c. search needs) returns)

@@ -7,25 +7,10 @@ use Rattle.embed.proofs.Layouts.{layout-broken, layout-kept}
 use Rattle.embed.proofs.packets.cendrulas_packet_check.Statement.{statement}
 use Rattle.embed.proofs.packets.cendrulas_packet_check.Tie as tie
 
-read-packet-requires : tie.Need-read-packet-requires
-read-packet-requires c κs = search needs
-
-enum-known-head : tie.Need-enum-known-head
-enum-known-head c = search needs
-
-enum-told : tie.Need-enum-told
-enum-told c = search needs
-
-pack-requires : tie.Need-pack-requires
-pack-requires c κs = search needs
-
 returns : tie.Need-returns
 returns c =
     let s = c .before .before .before .before .before .args .packet .now in
     c .pack .ensures ∙ ap (λ (n : ℕ). packed n 0 0 0) (sym (layout-broken s (rw (c .before .enum-told .given .1) at (c .before .before .before .read-packet .ensures))))
-
-pack-requires-2 : tie.Need-pack-requires-2
-pack-requires-2 c κs = search needs
 
 returns-2 : tie.Need-returns-2
 returns-2 c =
@@ -33,5 +18,5 @@ returns-2 c =
     c .pack2 .ensures ∙ ap (λ (n : ℕ). packed n 0 0 0) (sym (layout-kept s _ (rw (c .before .before .head .given .1) at (c .before .before .before .before .read-packet .ensures))))
 
 pub cendrulas-packet-check-spec : {M : Type 1} → statement M
-cendrulas-packet-check-spec =
-    tie.close (tie.spec read-packet-requires enum-known-head enum-told pack-requires returns pack-requires-2 returns-2)
+cendrulas-packet-check-spec = tie.close (tie.spec (λ c κs. search needs) (λ c. search needs) (λ c. search needs) (λ c κs. search needs) returns
+    (λ c κs. search needs) returns-2)

@@ -7,17 +7,8 @@ use Rattle.embed.specs.Packing.{packed}
 use Rattle.embed.proofs.servers.cendrulas_server_blank.Statement.{statement}
 use Rattle.embed.proofs.servers.cendrulas_server_blank.Tie as tie
 
-blank-requires : tie.Need-blank-requires
-blank-requires c κs = search needs
-
-pack-requires : tie.Need-pack-requires
-pack-requires c κs = search needs
-
-same-length : tie.Need-same-length
-same-length c = search needs
-
 returns : tie.Need-returns
 returns c = (c .pack .ensures ∙ ap (λ (b : Blanked). packed (b .result .number) 0 0 0) (c .before .before .before .blank .ensures), ap (λ (b : Blanked). b .memory) (c .before .before .before .blank .ensures))
 
 pub cendrulas-server-blank-spec : {M : Type 1} → statement M
-cendrulas-server-blank-spec = tie.close (tie.spec blank-requires pack-requires same-length returns)
+cendrulas-server-blank-spec = tie.close (tie.spec (λ c κs. search needs) (λ c κs. search needs) (λ c. search needs) returns)

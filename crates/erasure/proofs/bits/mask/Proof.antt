@@ -7,12 +7,6 @@ use borrow.Author.Needs.{needs}
 use Rattle.erasure.proofs.bits.mask.Statement.{statement}
 use Rattle.erasure.proofs.bits.mask.Tie as tie
 
-cast-result : tie.Need-cast-result
-cast-result c = search needs
-
-shr-result : tie.Need-shr-result
-shr-result c = search needs
-
 mul-result : tie.Need-mul-result
 mul-result c = omega (arith, and-le-r (c .args .w / 2 ^ c .args .b) 1)
 
@@ -20,4 +14,4 @@ returns : tie.Need-returns
 returns c = mask-is (c .args .w) (c .args .b)
 
 pub mask-spec : {M : Type 1} → statement M
-mask-spec = tie.close (tie.spec cast-result shr-result mul-result returns)
+mask-spec = tie.close (tie.spec (λ c. search needs) (λ c. search needs) mul-result returns)

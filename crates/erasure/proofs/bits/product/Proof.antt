@@ -21,21 +21,6 @@ loop-holds : tie.Need-loop-holds Inv-loop μ-loop
 unfolding timesBits
 loop-holds c = (search needs, refl)
 
-double-requires : tie.Need-double-requires Inv-loop μ-loop
-double-requires c κs = search needs
-
-sub-mask : tie.Need-sub-mask Inv-loop μ-loop
-sub-mask c = search needs
-
-mask-requires : tie.Need-mask-requires Inv-loop μ-loop
-mask-requires c κs = search needs
-
-add-n : tie.Need-add-n Inv-loop μ-loop
-add-n c = search needs
-
-loop-less : tie.Need-loop-less Inv-loop μ-loop
-loop-less c = search needs
-
 loop-again : tie.Need-loop-again Inv-loop μ-loop
 loop-again c =
     let l = c .before .before .before .loop in
@@ -61,16 +46,5 @@ returns c =
     subst (λ (n : ℕ). l .out ≡ timesBits n (args .a) (args .b / 2 ^ (8 - n))) e (l .inv .1) ∙ ap (timesBits 8 (args .a)) (div-one (args .b))
 
 pub product-spec : {M : Type 1} → statement M
-product-spec =
-    tie.close
-    (tie.spec
-    Inv-loop
-    μ-loop
-    loop-holds
-    double-requires
-    sub-mask
-    mask-requires
-    add-n
-    loop-less
-    loop-again
-    returns)
+product-spec = tie.close (tie.spec Inv-loop μ-loop loop-holds (λ c κs. search needs) (λ c. search needs) (λ c κs. search needs) (λ c. search needs)
+    (λ c. search needs) loop-again returns)

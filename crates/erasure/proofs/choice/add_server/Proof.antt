@@ -23,9 +23,6 @@ returns c =
       sym (ap (λ t. more t (among (args .s) (take (args .c .count) (args .c .servers))) (take (args .c .count) (args .c .servers)) (args .s)) e),
     )
 
-holds-requires : tie.Need-holds-requires
-holds-requires c κs = search needs
-
 returns-2 : tie.Need-returns-2
 returns-2 c =
     let args = c .before .before .before .before .before .args in
@@ -35,18 +32,6 @@ returns-2 c =
       sym (ap₂ (λ t s. more t s (take (args .c .count) (args .c .at)) (args .i)) e f),
       sym (ap₂ (λ t s. more t s (take (args .c .count) (args .c .servers)) (args .s)) e f),
     )
-
-array-write-p : tie.Need-array-write-p
-array-write-p c = search needs
-
-mul-a : tie.Need-mul-a
-mul-a c = search needs
-
-array-write-a : tie.Need-array-write-a
-array-write-a c = search needs
-
-add-t14 : tie.Need-add-t14
-add-t14 c = search needs
 
 returns-3 : tie.Need-returns-3
 returns-3 c =
@@ -63,6 +48,5 @@ returns-3 c =
     )
 
 pub add-server-spec : {M : Type 1} → statement M
-add-server-spec =
-    tie.close
-    (tie.spec returns holds-requires returns-2 array-write-p mul-a array-write-a add-t14 returns-3)
+add-server-spec = tie.close (tie.spec returns (λ c κs. search needs) returns-2 (λ c. search needs) (λ c. search needs) (λ c. search needs)
+    (λ c. search needs) returns-3)

@@ -20,9 +20,6 @@ abbrev μ-loop : tie.MeasureT-loop
 loop-holds : tie.Need-loop-holds Inv-loop μ-loop
 loop-holds c = (search needs, λ i h. absurd (omega arith))
 
-array-read-if1 : tie.Need-array-read-if1 Inv-loop μ-loop
-array-read-if1 c = search needs
-
 returns : tie.Need-returns Inv-loop μ-loop
 returns c =
     let args = c .before .before .before .args in
@@ -31,12 +28,6 @@ returns c =
     let l : length (args .t1) ≡ width = search needs in
     let full : length (take (args .count) (args .t1)) ≡ args .count = length-take-le (args .count) (args .t1) (omega arith) in
     sym (among-found (args .s) (take (args .count) (args .t1)) j (omega arith) (getD-take (args .count) (args .t1) j 0 h ∙ c .if1 .taken))
-
-add-j : tie.Need-add-j Inv-loop μ-loop
-add-j c = search needs
-
-loop-less : tie.Need-loop-less Inv-loop μ-loop
-loop-less c = search needs
 
 loop-again : tie.Need-loop-again Inv-loop μ-loop
 loop-again c = (search needs, below-more _ _ (c .before .before .loop .inv .1) (c .if1 .left))
@@ -50,15 +41,4 @@ returns-2 c =
     (λ i h e. let b : i < args .count = omega arith in c .before .loop .inv .1 i (omega arith) (sym (getD-take (args .count) (args .t1) i 0 b) ∙ e)))
 
 pub holds-spec : {M : Type 1} → statement M
-holds-spec =
-    tie.close
-    (tie.spec
-    Inv-loop
-    μ-loop
-    loop-holds
-    array-read-if1
-    returns
-    add-j
-    loop-less
-    loop-again
-    returns-2)
+holds-spec = tie.close (tie.spec Inv-loop μ-loop loop-holds (λ c. search needs) returns (λ c. search needs) (λ c. search needs) loop-again returns-2)

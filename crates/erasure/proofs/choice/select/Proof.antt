@@ -25,17 +25,8 @@ loop-holds : tie.Need-loop-holds Inv-loop μ-loop
 unfolding chosenOf
 loop-holds c = (search needs, refl, record { room = search needs; places-is = refl; servers-is = refl })
 
-shared-slice-read-add-server : tie.Need-shared-slice-read-add-server Inv-loop μ-loop
-shared-slice-read-add-server c = search needs
-
 add-server-requires : tie.Need-add-server-requires Inv-loop μ-loop
 add-server-requires c κs = (c .before .before .loop .inv .2 .room, search needs)
-
-add-i : tie.Need-add-i Inv-loop μ-loop
-add-i c = search needs
-
-loop-less : tie.Need-loop-less Inv-loop μ-loop
-loop-less c = search needs
 
 loop-again : tie.Need-loop-again Inv-loop μ-loop
 unfolding chosenOf
@@ -74,15 +65,5 @@ returns c =
     subst (λ (n : ℕ). Holds (start .args .k) bs (chosenOf (start .args .k) bs n) (at .c)) (omega arith) (at .inv .2)
 
 pub select-spec : {M : Type 1} → statement M
-select-spec =
-    tie.close
-    (tie.spec
-    Inv-loop
-    μ-loop
-    loop-holds
-    shared-slice-read-add-server
-    add-server-requires
-    add-i
-    loop-less
-    loop-again
-    returns)
+select-spec = tie.close (tie.spec Inv-loop μ-loop loop-holds (λ c. search needs) add-server-requires (λ c. search needs) (λ c. search needs)
+    loop-again returns)

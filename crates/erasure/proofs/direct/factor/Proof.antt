@@ -8,9 +8,6 @@ use borrow.Author.Needs.{needs}
 use Rattle.erasure.proofs.direct.factor.Statement.{statement}
 use Rattle.erasure.proofs.direct.factor.Tie as tie
 
-array-read-result : tie.Need-array-read-result
-array-read-result c = search needs
-
 returns : tie.Need-returns
 returns c = sym (ap (λ (b : Bool). cond b 1 (bitXor (c .before .args .z) (getD (c .before .args .t1) (c .before .args .m) 0))) (eq-eqb (c .before .args .m) (c .before .args .j) (c .if1 .taken)))
 
@@ -18,4 +15,4 @@ returns-2 : tie.Need-returns-2
 returns-2 c = sym (ap (λ (b : Bool). cond b 1 (bitXor (c .before .args .z) (getD (c .before .args .t1) (c .before .args .m) 0))) (ne-eqb (c .before .args .m) (c .before .args .j) (c .if1 .left)))
 
 pub factor-spec : {M : Type 1} → statement M
-factor-spec = tie.close (tie.spec array-read-result returns returns-2)
+factor-spec = tie.close (tie.spec (λ c. search needs) returns returns-2)

@@ -16,29 +16,8 @@ Inv-loop k j z points x top₀ own₀ m₀ top own m = (m ≤ k) × (top ≡ pro
 abbrev μ-loop : tie.MeasureT-loop
 μ-loop k j z points x top₀ own₀ m₀ top own m = k - m
 
-array-read-x : tie.Need-array-read-x Inv-loop μ-loop
-array-read-x c = search needs
-
 loop-holds : tie.Need-loop-holds Inv-loop μ-loop
 loop-holds c = (search needs, sym (productTo-none _), sym (productTo-none _))
-
-factor-requires : tie.Need-factor-requires Inv-loop μ-loop
-factor-requires c κs = search needs
-
-product-requires : tie.Need-product-requires Inv-loop μ-loop
-product-requires c κs = search needs
-
-factor-requires-2 : tie.Need-factor-requires-2 Inv-loop μ-loop
-factor-requires-2 c κs = search needs
-
-product-requires-2 : tie.Need-product-requires-2 Inv-loop μ-loop
-product-requires-2 c κs = search needs
-
-add-m : tie.Need-add-m Inv-loop μ-loop
-add-m c = search needs
-
-loop-less : tie.Need-loop-less Inv-loop μ-loop
-loop-less c = search needs
 
 loop-again : tie.Need-loop-again Inv-loop μ-loop
 loop-again c =
@@ -49,12 +28,6 @@ loop-again c =
       c .before .before .product .ensures ∙ productTo-more (l .m) (factorAt (args .t1) (args .j) (args .z)) (l .top) (c .before .before .before .factor .result) (l .inv .1) (c .before .before .before .factor .ensures),
       c .product2 .ensures ∙ productTo-more (l .m) (factorAt (args .t1) (args .j) x) (l .own) (c .before .factor2 .result) (l .inv .2) (c .before .factor2 .ensures),
     )
-
-inverse-requires : tie.Need-inverse-requires Inv-loop μ-loop
-inverse-requires c κs = search needs
-
-product-requires-3 : tie.Need-product-requires-3 Inv-loop μ-loop
-product-requires-3 c κs = search needs
 
 returns : tie.Need-returns Inv-loop μ-loop
 unfolding directAt
@@ -67,20 +40,5 @@ returns c =
     (c .before .inverse .ensures ∙ ap inverse (l .inv .2 ∙ ap (λ (n : ℕ). productTo n (factorAt (args .t1) (args .j) (getD (args .t1) (args .j) 0))) e))
 
 pub weight-spec : {M : Type 1} → statement M
-weight-spec =
-    tie.close
-    (tie.spec
-    Inv-loop
-    μ-loop
-    array-read-x
-    loop-holds
-    factor-requires
-    product-requires
-    factor-requires-2
-    product-requires-2
-    add-m
-    loop-less
-    loop-again
-    inverse-requires
-    product-requires-3
-    returns)
+weight-spec = tie.close (tie.spec Inv-loop μ-loop (λ c. search needs) loop-holds (λ c κs. search needs) (λ c κs. search needs) (λ c κs. search needs)
+    (λ c κs. search needs) (λ c. search needs) (λ c. search needs) loop-again (λ c κs. search needs) (λ c κs. search needs) returns)

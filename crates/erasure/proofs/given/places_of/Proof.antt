@@ -18,27 +18,6 @@ abbrev μ-loop : tie.MeasureT-loop
 loop-holds : tie.Need-loop-holds Inv-loop μ-loop
 loop-holds c = (search needs, refl, λ j h. absurd (omega arith))
 
-add-place-of : tie.Need-add-place-of Inv-loop μ-loop
-add-place-of c = search needs
-
-cast-place-of : tie.Need-cast-place-of Inv-loop μ-loop
-cast-place-of c = search needs
-
-place-of-requires : tie.Need-place-of-requires Inv-loop μ-loop
-place-of-requires c κs = search needs
-
-mul-out : tie.Need-mul-out Inv-loop μ-loop
-mul-out c = search needs
-
-array-write-out : tie.Need-array-write-out Inv-loop μ-loop
-array-write-out c = search needs
-
-add-i : tie.Need-add-i Inv-loop μ-loop
-add-i c = search needs
-
-loop-less : tie.Need-loop-less Inv-loop μ-loop
-loop-less c = search needs
-
 loop-again : tie.Need-loop-again Inv-loop μ-loop
 loop-again c =
     let l = c .before .before .loop in
@@ -53,18 +32,5 @@ returns : tie.Need-returns Inv-loop μ-loop
 returns c j h = c .before .loop .inv .2 j (omega arith)
 
 pub places-of-spec : {M : Type 1} → statement M
-places-of-spec =
-    tie.close
-    (tie.spec
-    Inv-loop
-    μ-loop
-    loop-holds
-    add-place-of
-    cast-place-of
-    place-of-requires
-    mul-out
-    array-write-out
-    add-i
-    loop-less
-    loop-again
-    returns)
+places-of-spec = tie.close (tie.spec Inv-loop μ-loop loop-holds (λ c. search needs) (λ c. search needs) (λ c κs. search needs) (λ c. search needs)
+    (λ c. search needs) (λ c. search needs) (λ c. search needs) loop-again returns)

@@ -10,25 +10,10 @@ use Rattle.erasure.proofs.Rebuilt.{run-copied, summed-as}
 use Rattle.erasure.proofs.given.run.Statement.{statement}
 use Rattle.erasure.proofs.given.run.Tie as tie
 
-mul-j : tie.Need-mul-j
-mul-j c = search needs
-
-array-read-j : tie.Need-array-read-j
-array-read-j c = search needs
-
-mul-copy : tie.Need-mul-copy
-mul-copy c = search needs
-
-array-read-copy : tie.Need-array-read-copy
-array-read-copy c = search needs
-
 copy-requires : tie.Need-copy-requires
 copy-requires c κs =
     let start = c .before .before .before .before in
     (start .pre .2 (getD (start .args .t2) (start .args .i) 0) (c .before .if1 .taken), start .pre .3)
-
-same-length : tie.Need-same-length
-same-length c = search needs
 
 returns : tie.Need-returns
 returns c =
@@ -39,22 +24,10 @@ returns c =
     (λ q h. sym (run-copied (args .k) (args .a) (args .t2) (args .t3) fragments (args .i) q (c .before .before .before .before .if1 .taken)))
     (c .before .before .copy .ensures)
 
-add-weights : tie.Need-add-weights
-add-weights c = search needs
-
-cast-weights : tie.Need-cast-weights
-cast-weights c = search needs
-
-weights-requires : tie.Need-weights-requires
-weights-requires c κs = search needs
-
 combine-requires : tie.Need-combine-requires
 combine-requires c κs =
     let start = c .before .before .before .before .before in
     (start .pre .0, λ j h. omega (arith, start .pre .2 j h), start .pre .3)
-
-same-length-2 : tie.Need-same-length-2
-same-length-2 c = search needs
 
 returns-2 : tie.Need-returns-2
 returns-2 c =
@@ -67,19 +40,5 @@ returns-2 c =
     (c .before .before .combine .ensures)
 
 pub run-spec : {M : Type 1} → statement M
-run-spec =
-    tie.close
-    (tie.spec
-    mul-j
-    array-read-j
-    mul-copy
-    array-read-copy
-    copy-requires
-    same-length
-    returns
-    add-weights
-    cast-weights
-    weights-requires
-    combine-requires
-    same-length-2
-    returns-2)
+run-spec = tie.close (tie.spec (λ c. search needs) (λ c. search needs) (λ c. search needs) (λ c. search needs) copy-requires (λ c. search needs)
+    returns (λ c. search needs) (λ c. search needs) (λ c κs. search needs) combine-requires (λ c. search needs) returns-2)

@@ -19,26 +19,8 @@ Inv-loop w b sum x m out₀ i₀ out i = (i ≤ lane) × (length out ≡ lane) �
 abbrev μ-loop : tie.MeasureT-loop
 μ-loop w b sum x m out₀ i₀ out i = lane - i
 
-mask-requires : tie.Need-mask-requires Inv-loop μ-loop
-mask-requires c κs = search needs
-
 loop-holds : tie.Need-loop-holds Inv-loop μ-loop
 loop-holds c = (search needs, refl, λ j h. absurd (omega arith))
-
-array-read-out : tie.Need-array-read-out Inv-loop μ-loop
-array-read-out c = search needs
-
-array-read-out-2 : tie.Need-array-read-out-2 Inv-loop μ-loop
-array-read-out-2 c = search needs
-
-array-write-out : tie.Need-array-write-out Inv-loop μ-loop
-array-write-out c = search needs
-
-add-i : tie.Need-add-i Inv-loop μ-loop
-add-i c = search needs
-
-loop-less : tie.Need-loop-less Inv-loop μ-loop
-loop-less c = search needs
 
 loop-again : tie.Need-loop-again Inv-loop μ-loop
 loop-again c =
@@ -60,17 +42,5 @@ returns c i h =
     ∙ ap (bitXor (getD (args .t1) i 0)) (ap (bitAnd x) (c .before .before .mask .ensures) ∙ masked (bitOf (args .w) (args .b)) x (bit-lt (args .w) (args .b)) (f .fits))
 
 pub added-spec : {M : Type 1} → statement M
-added-spec =
-    tie.close
-    (tie.spec
-    Inv-loop
-    μ-loop
-    mask-requires
-    loop-holds
-    array-read-out
-    array-read-out-2
-    array-write-out
-    add-i
-    loop-less
-    loop-again
-    returns)
+added-spec = tie.close (tie.spec Inv-loop μ-loop (λ c κs. search needs) loop-holds (λ c. search needs) (λ c. search needs) (λ c. search needs)
+    (λ c. search needs) (λ c. search needs) loop-again returns)

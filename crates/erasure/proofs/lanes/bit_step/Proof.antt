@@ -18,29 +18,8 @@ Inv-loop lanes b k weights out₀ j₀ out j = (j ≤ k) × Lane out (λ i. bitX
 abbrev μ-loop : tie.MeasureT-loop
 μ-loop lanes b k weights out₀ j₀ out j = k - j
 
-doubled-requires : tie.Need-doubled-requires Inv-loop μ-loop
-doubled-requires c κs = search needs
-
 loop-holds : tie.Need-loop-holds Inv-loop μ-loop
 loop-holds c = (search needs, λ i h. sym (ap (bitXor (getD (c .doubled .result) i 0)) (sumTo-none _) ∙ xor-zero-r (getD (c .doubled .result) i 0)))
-
-mul-added : tie.Need-mul-added Inv-loop μ-loop
-mul-added c = search needs
-
-element-copy-out-added : tie.Need-element-copy-out-added Inv-loop μ-loop
-element-copy-out-added c = search needs
-
-array-read-added : tie.Need-array-read-added Inv-loop μ-loop
-array-read-added c = search needs
-
-added-requires : tie.Need-added-requires Inv-loop μ-loop
-added-requires c κs = search needs
-
-add-j : tie.Need-add-j Inv-loop μ-loop
-add-j c = search needs
-
-loop-less : tie.Need-loop-less Inv-loop μ-loop
-loop-less c = search needs
 
 loop-again : tie.Need-loop-again Inv-loop μ-loop
 loop-again c =
@@ -64,18 +43,5 @@ returns c i h =
     l .inv .1 i h ∙ ap₂ (λ (x n : ℕ). bitXor x (sumTo n term)) (c .before .before .doubled .ensures i h) (omega arith)
 
 pub bit-step-spec : {M : Type 1} → statement M
-bit-step-spec =
-    tie.close
-    (tie.spec
-    Inv-loop
-    μ-loop
-    doubled-requires
-    loop-holds
-    mul-added
-    element-copy-out-added
-    array-read-added
-    added-requires
-    add-j
-    loop-less
-    loop-again
-    returns)
+bit-step-spec = tie.close (tie.spec Inv-loop μ-loop (λ c κs. search needs) loop-holds (λ c. search needs) (λ c. search needs) (λ c. search needs)
+    (λ c κs. search needs) (λ c. search needs) (λ c. search needs) loop-again returns)

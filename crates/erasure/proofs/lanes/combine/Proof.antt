@@ -21,19 +21,10 @@ abbrev μ-loop : tie.MeasureT-loop
 loop-holds : tie.Need-loop-holds Inv-loop μ-loop
 loop-holds c = (search needs, written-none _ _ _)
 
-sub-at-most-lane : tie.Need-sub-at-most-lane Inv-loop μ-loop
-sub-at-most-lane c = search needs
-
-at-most-lane-requires : tie.Need-at-most-lane-requires Inv-loop μ-loop
-at-most-lane-requires c κs = search needs
-
 gather-requires : tie.Need-gather-requires Inv-loop μ-loop
 gather-requires c κs =
     let start = c .before .before .before .before .before in
     (search needs, λ j h. omega (arith, start .pre .1 j h))
-
-lane-sum-requires : tie.Need-lane-sum-requires Inv-loop μ-loop
-lane-sum-requires c κs = search needs
 
 add-store : tie.Need-add-store Inv-loop μ-loop
 add-store c =
@@ -91,20 +82,5 @@ returns c =
     subst (λ (n : ℕ). Written (denote.Ref.now (args .out)) (l .out) (args .at) n (sumAt (args .k) (args .weights) (denote.Ref.now (args .src)) (args .starts))) (omega arith) (l .inv .1)
 
 pub combine-spec : {M : Type 1} → statement M
-combine-spec =
-    tie.close
-    (tie.spec
-    Inv-loop
-    μ-loop
-    loop-holds
-    sub-at-most-lane
-    at-most-lane-requires
-    gather-requires
-    lane-sum-requires
-    add-store
-    store-requires
-    add-q
-    loop-less
-    loop-again
-    same-length
-    returns)
+combine-spec = tie.close (tie.spec Inv-loop μ-loop loop-holds (λ c. search needs) (λ c κs. search needs) gather-requires (λ c κs. search needs)
+    add-store store-requires add-q loop-less loop-again same-length returns)

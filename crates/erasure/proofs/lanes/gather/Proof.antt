@@ -21,29 +21,11 @@ abbrev μ-loop : tie.MeasureT-loop
 loop-holds : tie.Need-loop-holds Inv-loop μ-loop
 loop-holds c = (search needs, refl, λ m h. absurd (omega arith))
 
-mul-lane-at : tie.Need-mul-lane-at Inv-loop μ-loop
-mul-lane-at c = search needs
-
-array-read-lane-at : tie.Need-array-read-lane-at Inv-loop μ-loop
-array-read-lane-at c = search needs
-
 add-lane-at : tie.Need-add-lane-at Inv-loop μ-loop
 add-lane-at c = let h : c .before .loop .j < c .before .before .before .args .k = search needs in omega (arith, c .before .before .before .pre .1 (c .before .loop .j) h)
 
 lane-at-requires : tie.Need-lane-at-requires Inv-loop μ-loop
 lane-at-requires c κs = c .before .before .before .pre .1 (c .before .loop .j) (omega arith)
-
-mul-out : tie.Need-mul-out Inv-loop μ-loop
-mul-out c = search needs
-
-array-set-from-out : tie.Need-array-set-from-out Inv-loop μ-loop
-array-set-from-out c = search needs
-
-add-j : tie.Need-add-j Inv-loop μ-loop
-add-j c = search needs
-
-loop-less : tie.Need-loop-less Inv-loop μ-loop
-loop-less c = search needs
 
 loop-again : tie.Need-loop-again Inv-loop μ-loop
 loop-again c =
@@ -61,19 +43,5 @@ returns : tie.Need-returns Inv-loop μ-loop
 returns c j h = c .before .loop .inv .2 j (omega arith)
 
 pub gather-spec : {M : Type 1} → statement M
-gather-spec =
-    tie.close
-    (tie.spec
-    Inv-loop
-    μ-loop
-    loop-holds
-    mul-lane-at
-    array-read-lane-at
-    add-lane-at
-    lane-at-requires
-    mul-out
-    array-set-from-out
-    add-j
-    loop-less
-    loop-again
-    returns)
+gather-spec = tie.close (tie.spec Inv-loop μ-loop loop-holds (λ c. search needs) (λ c. search needs) add-lane-at lane-at-requires (λ c. search needs)
+    (λ c. search needs) (λ c. search needs) (λ c. search needs) loop-again returns)

@@ -24,18 +24,6 @@ abbrev μ-loop : tie.MeasureT-loop
 loop-holds : tie.Need-loop-holds Inv-loop μ-loop
 loop-holds c = (search needs, λ i h. getD-replicate lane i 0 0 h ∙ sym (sum-none (c .args .k) (λ j. entry (c .args .t1) j i) _))
 
-sub-bit-step : tie.Need-sub-bit-step Inv-loop μ-loop
-sub-bit-step c = search needs
-
-bit-step-requires : tie.Need-bit-step-requires Inv-loop μ-loop
-bit-step-requires c κs = search needs
-
-add-n : tie.Need-add-n Inv-loop μ-loop
-add-n c = search needs
-
-loop-less : tie.Need-loop-less Inv-loop μ-loop
-loop-less c = search needs
-
 loop-again : tie.Need-loop-again Inv-loop μ-loop
 loop-again c =
     let l = c .before .before .before .loop in
@@ -67,15 +55,5 @@ returns c i h =
     (λ j b. ap (timesBits 8 (entry (args .t1) j i)) (div-one (getD (args .weights) j 0)))
 
 pub lane-sum-spec : {M : Type 1} → statement M
-lane-sum-spec =
-    tie.close
-    (tie.spec
-    Inv-loop
-    μ-loop
-    loop-holds
-    sub-bit-step
-    bit-step-requires
-    add-n
-    loop-less
-    loop-again
-    returns)
+lane-sum-spec = tie.close (tie.spec Inv-loop μ-loop loop-holds (λ c. search needs) (λ c κs. search needs) (λ c. search needs) (λ c. search needs)
+    loop-again returns)

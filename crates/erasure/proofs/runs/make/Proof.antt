@@ -13,26 +13,11 @@ use borrow.Author.Needs.{needs}
 use Rattle.erasure.proofs.runs.make.Statement.{statement}
 use Rattle.erasure.proofs.runs.make.Tie as tie
 
-plain-points-requires : tie.Need-plain-points-requires
-plain-points-requires c κs = search needs
-
-weights-requires : tie.Need-weights-requires
-weights-requires c κs = search needs
-
-plain-places-requires : tie.Need-plain-places-requires
-plain-places-requires c κs = search needs
-
 starts-of-requires : tie.Need-starts-of-requires
 starts-of-requires c κs =
     let args = c .before .before .before .before .args in
     let pre = c .before .before .before .before .pre in
     (search needs, λ j h. omega (arith, plain-start (args .k) (args .f) j (getD (c .plain-places .result) j 0) (pre .0) (pre .1) h (c .plain-places .ensures j (omega arith))))
-
-blank-requires : tie.Need-blank-requires
-blank-requires c κs = search needs
-
-slice-aggregate-combine : tie.Need-slice-aggregate-combine
-slice-aggregate-combine c = search needs
 
 combine-requires : tie.Need-combine-requires
 combine-requires c κs =
@@ -63,14 +48,5 @@ returns c =
     (plain-is (args .k) (xs .result) (pre .0) long (xs .ensures)) (w .ensures) (starts .ensures) (at .ensures) small (c .before .combine .ensures)
 
 pub make-spec : {M : Type 1} → statement M
-make-spec =
-    tie.close
-    (tie.spec
-    plain-points-requires
-    weights-requires
-    plain-places-requires
-    starts-of-requires
-    blank-requires
-    slice-aggregate-combine
-    combine-requires
-    returns)
+make-spec = tie.close (tie.spec (λ c κs. search needs) (λ c κs. search needs) (λ c κs. search needs) starts-of-requires (λ c κs. search needs)
+    (λ c. search needs) combine-requires returns)

@@ -16,27 +16,12 @@ mul-from c =
     let b : args .j * args .f ≤ width * fragmentRoom = plain-start width (args .f) (args .j) (args .j) (omega arith) (c .before .pre .0) (c .before .pre .1) refl in
     omega (arith, b)
 
-blank-requires : tie.Need-blank-requires
-blank-requires c κs = search needs
-
 returns : tie.Need-returns
 returns c =
     let start = c .before .before .before in
     let args = start .args in
     copied (args .f) (args .j) 0 fragmentRoom (denote.Ref.now (args .content)) _ _ (c .before .blank .ensures) (start .pre .0) (omega arith) (λ h. absurd (omega (arith, c .if1 .taken)))
     (written-none _ _ _)
-
-sub-at-most : tie.Need-sub-at-most
-sub-at-most c = search needs
-
-at-most-requires : tie.Need-at-most-requires
-at-most-requires c κs = search needs
-
-slice-aggregate-copy : tie.Need-slice-aggregate-copy
-slice-aggregate-copy c = search needs
-
-copy-requires : tie.Need-copy-requires
-copy-requires c κs = search needs
 
 returns-2 : tie.Need-returns-2
 returns-2 c =
@@ -47,14 +32,5 @@ returns-2 c =
     (m .ensures .3) (c .before .copy .ensures)
 
 pub plain-spec : {M : Type 1} → statement M
-plain-spec =
-    tie.close
-    (tie.spec
-    mul-from
-    blank-requires
-    returns
-    sub-at-most
-    at-most-requires
-    slice-aggregate-copy
-    copy-requires
-    returns-2)
+plain-spec = tie.close (tie.spec mul-from (λ c κs. search needs) returns (λ c. search needs) (λ c κs. search needs) (λ c. search needs)
+    (λ c κs. search needs) returns-2)

@@ -32,12 +32,6 @@ starts-of-requires c κs = (c .before .before .before .before .pre .0, λ j h. o
 loop-holds : tie.Need-loop-holds Inv-loop μ-loop
 loop-holds c = (search needs, λ h. zero-mod _, written-none _ _ _)
 
-sub-at-most : tie.Need-sub-at-most Inv-loop μ-loop
-sub-at-most c = search needs
-
-at-most-requires : tie.Need-at-most-requires Inv-loop μ-loop
-at-most-requires c κs = search needs
-
 div-run : tie.Need-div-run Inv-loop μ-loop
 div-run c = c .before .before .before .before .before .before .before .before .pre .1
 
@@ -102,21 +96,5 @@ returns c =
     (subst (λ (n : ℕ). Written old (l .out) 0 n (byteOf (args .k) (args .f) (a .result) (places .result) (starts .result) fragments)) (omega arith) (l .inv .2))
 
 pub rebuild-spec : {M : Type 1} → statement M
-rebuild-spec =
-    tie.close
-    (tie.spec
-    Inv-loop
-    μ-loop
-    places-of-requires
-    system-of-requires
-    starts-of-requires
-    loop-holds
-    sub-at-most
-    at-most-requires
-    div-run
-    run-requires
-    add-done
-    loop-less
-    loop-again
-    same-length
-    returns)
+rebuild-spec = tie.close (tie.spec Inv-loop μ-loop places-of-requires system-of-requires starts-of-requires loop-holds (λ c. search needs)
+    (λ c κs. search needs) div-run run-requires add-done loop-less loop-again same-length returns)

@@ -20,24 +20,6 @@ abbrev μ-loop : tie.MeasureT-loop
 loop-holds : tie.Need-loop-holds Inv-loop μ-loop
 loop-holds c = (search needs, refl, λ i h. absurd (omega arith))
 
-array-read-powers-row : tie.Need-array-read-powers-row Inv-loop μ-loop
-array-read-powers-row c = search needs
-
-powers-row-requires : tie.Need-powers-row-requires Inv-loop μ-loop
-powers-row-requires c κs = search needs
-
-mul-a : tie.Need-mul-a Inv-loop μ-loop
-mul-a c = search needs
-
-array-set-from-a : tie.Need-array-set-from-a Inv-loop μ-loop
-array-set-from-a c = search needs
-
-add-r : tie.Need-add-r Inv-loop μ-loop
-add-r c = search needs
-
-loop-less : tie.Need-loop-less Inv-loop μ-loop
-loop-less c = search needs
-
 loop-again : tie.Need-loop-again Inv-loop μ-loop
 loop-again c =
     let at = c .before .before .loop in
@@ -51,17 +33,5 @@ returns : tie.Need-returns Inv-loop μ-loop
 returns c i j hi hj = c .before .loop .inv .2 i (omega arith) j hj
 
 pub begin-spec : {M : Type 1} → statement M
-begin-spec =
-    tie.close
-    (tie.spec
-    Inv-loop
-    μ-loop
-    loop-holds
-    array-read-powers-row
-    powers-row-requires
-    mul-a
-    array-set-from-a
-    add-r
-    loop-less
-    loop-again
-    returns)
+begin-spec = tie.close (tie.spec Inv-loop μ-loop loop-holds (λ c. search needs) (λ c κs. search needs) (λ c. search needs) (λ c. search needs)
+    (λ c. search needs) (λ c. search needs) loop-again returns)

@@ -23,18 +23,6 @@ loop-holds : tie.Need-loop-holds Inv-loop μ-loop
 unfolding power
 loop-holds c = (search needs, refl, refl, below-none (λ (j : ℕ). getD (0 ∷ 0 ∷ 0 ∷ 0 ∷ 0 ∷ []) j 0 ≡ power (c .args .x) j))
 
-array-write-out : tie.Need-array-write-out Inv-loop μ-loop
-array-write-out c = search needs
-
-product-requires : tie.Need-product-requires Inv-loop μ-loop
-product-requires c κs = search needs
-
-add-c : tie.Need-add-c Inv-loop μ-loop
-add-c c = search needs
-
-loop-less : tie.Need-loop-less Inv-loop μ-loop
-loop-less c = search needs
-
 loop-again : tie.Need-loop-again Inv-loop μ-loop
 unfolding power
 loop-again c =
@@ -50,15 +38,5 @@ returns : tie.Need-returns Inv-loop μ-loop
 returns c j h = c .before .loop .inv .3 j (omega arith)
 
 pub powers-row-spec : {M : Type 1} → statement M
-powers-row-spec =
-    tie.close
-    (tie.spec
-    Inv-loop
-    μ-loop
-    loop-holds
-    array-write-out
-    product-requires
-    add-c
-    loop-less
-    loop-again
-    returns)
+powers-row-spec = tie.close (tie.spec Inv-loop μ-loop loop-holds (λ c. search needs) (λ c κs. search needs) (λ c. search needs) (λ c. search needs)
+    loop-again returns)

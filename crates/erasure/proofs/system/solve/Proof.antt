@@ -23,23 +23,11 @@ Inv-loop k a₀ p₀ a p = (p ≤ k) × Small a × Half field laws k (mat a₀) 
 abbrev μ-loop : tie.MeasureT-loop
 μ-loop k a₀ p₀ a p = k - p
 
-begin-requires : tie.Need-begin-requires Inv-loop μ-loop
-begin-requires c κs = search needs
-
 loop-holds : tie.Need-loop-holds Inv-loop μ-loop
 loop-holds c =
     let xs = c .before .args .xs in
     let s : (i : ℕ) → getD xs i 0 < 256 = λ i. (let f : Fits w8 (getD xs i 0) = search needs in f .fits) in
     (search needs, begun-small xs (c .begin .result) s (c .begin .ensures), half-none field laws (c .before .args .k) (mat (c .begin .result)))
-
-turn-requires : tie.Need-turn-requires Inv-loop μ-loop
-turn-requires c κs = search needs
-
-add-p : tie.Need-add-p Inv-loop μ-loop
-add-p c = search needs
-
-loop-less : tie.Need-loop-less Inv-loop μ-loop
-loop-less c = search needs
 
 loop-again : tie.Need-loop-again Inv-loop μ-loop
 loop-again c =
@@ -78,15 +66,5 @@ returns c =
     (subst (λ (n : ℕ). Half field laws k (mat (sys .result)) n (mat (at .a))) end (at .inv .2)))
 
 pub solve-spec : {M : Type 1} → statement M
-solve-spec =
-    tie.close
-    (tie.spec
-    Inv-loop
-    μ-loop
-    begin-requires
-    loop-holds
-    turn-requires
-    add-p
-    loop-less
-    loop-again
-    returns)
+solve-spec = tie.close (tie.spec Inv-loop μ-loop (λ c κs. search needs) loop-holds (λ c κs. search needs) (λ c. search needs) (λ c. search needs)
+    loop-again returns)

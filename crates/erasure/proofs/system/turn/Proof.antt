@@ -19,50 +19,8 @@ Inv-loop p pivot d out₀ r₀ out r = (r ≤ width) × (length out ≡ width) �
 abbrev μ-loop : tie.MeasureT-loop
 μ-loop p pivot d out₀ r₀ out r = width - r
 
-mul-pivot : tie.Need-mul-pivot Inv-loop μ-loop
-mul-pivot c = search needs
-
-array-copy-out-pivot : tie.Need-array-copy-out-pivot Inv-loop μ-loop
-array-copy-out-pivot c = search needs
-
-array-read-inverse : tie.Need-array-read-inverse Inv-loop μ-loop
-array-read-inverse c = search needs
-
-inverse-requires : tie.Need-inverse-requires Inv-loop μ-loop
-inverse-requires c κs = search needs
-
-unit-row-requires : tie.Need-unit-row-requires Inv-loop μ-loop
-unit-row-requires c κs = search needs
-
-mul-out : tie.Need-mul-out Inv-loop μ-loop
-mul-out c = search needs
-
-array-set-from-out : tie.Need-array-set-from-out Inv-loop μ-loop
-array-set-from-out c = search needs
-
 loop-holds : tie.Need-loop-holds Inv-loop μ-loop
 loop-holds c = (search needs, search needs, λ j h. absurd (omega arith), λ j h. refl)
-
-mul-turn-row : tie.Need-mul-turn-row Inv-loop μ-loop
-mul-turn-row c = search needs
-
-array-copy-out-turn-row : tie.Need-array-copy-out-turn-row Inv-loop μ-loop
-array-copy-out-turn-row c = search needs
-
-turn-row-requires : tie.Need-turn-row-requires Inv-loop μ-loop
-turn-row-requires c κs = search needs
-
-mul-out-2 : tie.Need-mul-out-2 Inv-loop μ-loop
-mul-out-2 c = search needs
-
-array-set-from-out-2 : tie.Need-array-set-from-out-2 Inv-loop μ-loop
-array-set-from-out-2 c = search needs
-
-add-r : tie.Need-add-r Inv-loop μ-loop
-add-r c = search needs
-
-loop-less : tie.Need-loop-less Inv-loop μ-loop
-loop-less c = search needs
 
 loop-again : tie.Need-loop-again Inv-loop μ-loop
 loop-again c =
@@ -88,25 +46,6 @@ returns c =
     (λ j h. c .before .loop .inv .2 j (omega arith)))
 
 pub turn-spec : {M : Type 1} → statement M
-turn-spec =
-    tie.close
-    (tie.spec
-    Inv-loop
-    μ-loop
-    mul-pivot
-    array-copy-out-pivot
-    array-read-inverse
-    inverse-requires
-    unit-row-requires
-    mul-out
-    array-set-from-out
-    loop-holds
-    mul-turn-row
-    array-copy-out-turn-row
-    turn-row-requires
-    mul-out-2
-    array-set-from-out-2
-    add-r
-    loop-less
-    loop-again
-    returns)
+turn-spec = tie.close (tie.spec Inv-loop μ-loop (λ c. search needs) (λ c. search needs) (λ c. search needs) (λ c κs. search needs)
+    (λ c κs. search needs) (λ c. search needs) (λ c. search needs) loop-holds (λ c. search needs) (λ c. search needs) (λ c κs. search needs)
+    (λ c. search needs) (λ c. search needs) (λ c. search needs) (λ c. search needs) loop-again returns)

@@ -20,33 +20,9 @@ Inv-loop d p row pivot w out₀ c₀ out c = (c ≤ width) × (length out ≡ wi
 abbrev μ-loop : tie.MeasureT-loop
 μ-loop d p row pivot w out₀ c₀ out c = width - c
 
-array-read-product : tie.Need-array-read-product Inv-loop μ-loop
-array-read-product c = search needs
-
-product-requires : tie.Need-product-requires Inv-loop μ-loop
-product-requires c κs = search needs
-
 loop-holds : tie.Need-loop-holds Inv-loop μ-loop
 loop-holds c =
     (search needs, refl, below-none (λ (j : ℕ). getD (0 ∷ 0 ∷ 0 ∷ 0 ∷ 0 ∷ []) j 0 ≡ bitXor (getD (c .before .args .t1) j 0) (times (c .product .result) (getD (c .before .args .t2) j 0))))
-
-array-read-out : tie.Need-array-read-out Inv-loop μ-loop
-array-read-out c = search needs
-
-array-read-product-2 : tie.Need-array-read-product-2 Inv-loop μ-loop
-array-read-product-2 c = search needs
-
-product-requires-2 : tie.Need-product-requires-2 Inv-loop μ-loop
-product-requires-2 c κs = search needs
-
-array-write-out : tie.Need-array-write-out Inv-loop μ-loop
-array-write-out c = search needs
-
-add-c : tie.Need-add-c Inv-loop μ-loop
-add-c c = search needs
-
-loop-less : tie.Need-loop-less Inv-loop μ-loop
-loop-less c = search needs
 
 loop-again : tie.Need-loop-again Inv-loop μ-loop
 loop-again c =
@@ -59,9 +35,6 @@ loop-again c =
       fill-more 0 (λ j v. v ≡ bitXor (getD (args .t1) j 0) (times w (getD (args .t2) j 0))) (at .out) (at .c) new (omega arith) (at .inv .2)
           (ap (bitXor (getD (args .t1) (at .c) 0)) (c .product2 .ensures)),
     )
-
-array-write-out-2 : tie.Need-array-write-out-2 Inv-loop μ-loop
-array-write-out-2 c = search needs
 
 returns : tie.Need-returns Inv-loop μ-loop
 returns c =
@@ -76,20 +49,5 @@ returns c =
     }
 
 pub turn-row-spec : {M : Type 1} → statement M
-turn-row-spec =
-    tie.close
-    (tie.spec
-    Inv-loop
-    μ-loop
-    array-read-product
-    product-requires
-    loop-holds
-    array-read-out
-    array-read-product-2
-    product-requires-2
-    array-write-out
-    add-c
-    loop-less
-    loop-again
-    array-write-out-2
-    returns)
+turn-row-spec = tie.close (tie.spec Inv-loop μ-loop (λ c. search needs) (λ c κs. search needs) loop-holds (λ c. search needs) (λ c. search needs)
+    (λ c κs. search needs) (λ c. search needs) (λ c. search needs) (λ c. search needs) loop-again (λ c. search needs) returns)

@@ -8,9 +8,6 @@ use lib.Seq.{getD-set-same, getD-set-other}
 use Rattle.erasure.proofs.system.unit_row.Statement.{statement}
 use Rattle.erasure.proofs.system.unit_row.Tie as tie
 
-array-write-out : tie.Need-array-write-out
-array-write-out c = search needs
-
 returns : tie.Need-returns
 returns c = (
   getD-set-same (0 ∷ 0 ∷ 0 ∷ 0 ∷ 0 ∷ []) (c .args .p) 1 0 (search needs),
@@ -18,4 +15,4 @@ returns c = (
 )
 
 pub unit-row-spec : {M : Type 1} → statement M
-unit-row-spec = tie.close (tie.spec array-write-out returns)
+unit-row-spec = tie.close (tie.spec (λ c. search needs) returns)

@@ -9,18 +9,6 @@ use borrow.Author.Needs.{needs}
 use Rattle.gf256.proofs.logarithms.log_of.Statement.{statement}
 use Rattle.gf256.proofs.logarithms.log_of.Tie as tie
 
-wide-requires : tie.Need-wide-requires
-wide-requires c κs = search needs
-
-sub-wide : tie.Need-sub-wide
-sub-wide c = search needs
-
-array-read-wide : tie.Need-array-read-wide
-array-read-wide c = search needs
-
-wide-requires-2 : tie.Need-wide-requires-2
-wide-requires-2 c κs = search needs
-
 returns : tie.Need-returns
 unfolding logs
 returns c =
@@ -30,4 +18,4 @@ returns c =
     (subst (λ (x : ℕ). x < 255) (sym e) (logs-lt k small), ap (power 3) e ∙ logs-at k small ∙ omega arith)
 
 pub log-of-spec : {M : Type 1} → statement M
-log-of-spec = tie.close (tie.spec wide-requires sub-wide array-read-wide wide-requires-2 returns)
+log-of-spec = tie.close (tie.spec (λ c κs. search needs) (λ c. search needs) (λ c. search needs) (λ c κs. search needs) returns)

@@ -4,12 +4,9 @@ use borrow.Author.Needs.{needs}
 use Rattle.gf256.proofs.logarithms.power_of.Statement.{statement}
 use Rattle.gf256.proofs.logarithms.power_of.Tie as tie
 
-array-read-result : tie.Need-array-read-result
-array-read-result c = search needs
-
 returns : tie.Need-returns
 unfolding powers
 returns c = powers-at (c .args .i) (search needs)
 
 pub power-of-spec : {M : Type 1} → statement M
-power-of-spec = tie.close (tie.spec array-read-result returns)
+power-of-spec = tie.close (tie.spec (λ c. search needs) returns)

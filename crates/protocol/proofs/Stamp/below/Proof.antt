@@ -10,8 +10,6 @@ use Rattle.protocol.specs.declared.Stamp.{Stamp}
 use Rattle.protocol.specs.Values.{below}
 use Rattle.protocol.proofs.Stamp.below.Statement.{statement}
 use Rattle.protocol.proofs.Stamp.below.Tie as tie
-use Rattle.protocol.proofs.Stamp.below.Reads as reads
-use Rattle.protocol.proofs.Stamp.below.Lts as lts
 
 module _ (a b : Stamp) where
   lower : a .number < b .number → true ≡ below a b

@@ -4,8 +4,6 @@ use borrow.Author.Needs.{needs}
 use Rattle.protocol.specs.Values.{isBlank}
 use Rattle.protocol.proofs.Stamp.is_blank.Statement.{statement}
 use Rattle.protocol.proofs.Stamp.is_blank.Tie as tie
-use Rattle.protocol.proofs.Stamp.is_blank.Reads as reads
-use Rattle.protocol.proofs.Stamp.is_blank.Lts as lts
 
 returns : tie.Need-returns
 unfolding isBlank

@@ -3,51 +3,10 @@ use borrow.Author.Needs.{needs}
 use Rattle.server.proofs.Raising.{complete-answers}
 use Rattle.server.proofs.answers.complete.Statement.{statement}
 use Rattle.server.proofs.answers.complete.Tie as tie
-use Rattle.server.proofs.answers.complete.Reads as reads
-use Rattle.server.proofs.answers.complete.Lts as lts
-use Rattle.server.proofs.answers.raise.Reads as raise-reads
-use Rattle.server.proofs.answers.reply_head.Reads as reply-head-reads
-use Rattle.wire.proofs.bytes.rest.Reads as rest-reads
-use Rattle.wire.proofs.bytes.part.Reads as part-reads
-use Rattle.wire.proofs.make.make_packet.Reads as make-packet-reads
-
-rest-requires : tie.Need-rest-requires
-rest-requires c κs = search needs
-
-raise-requires : tie.Need-raise-requires
-raise-requires c κs = search needs
-
-reply-head-requires : tie.Need-reply-head-requires
-reply-head-requires c κs = search needs
-
-part-requires : tie.Need-part-requires
-part-requires c κs = search needs
-
-part-requires-2 : tie.Need-part-requires-2
-part-requires-2 c κs = search needs
-
-make-packet-requires : tie.Need-make-packet-requires
-make-packet-requires c κs = search needs
-
-same-length : tie.Need-same-length
-same-length c = search needs
-
-same-length-2 : tie.Need-same-length-2
-same-length-2 c = search needs
 
 returns : tie.Need-returns
 returns c = complete-answers (c .before .before .before .before .before .before .before .before .before .before .before .before .before .before .before .args .memory .now) (λ i. c .before .before .before .before .before .before .before .before .before .before .before .before .before .before .slice-known .given i .fits) (c .before .before .before .before .before .before .before .before .before .before .before .before .before .before .before .args .packet .now) (λ i. c .before .before .before .before .before .before .before .before .before .before .before .before .before .shared-slice-known .given i .fits) (c .before .before .before .before .before .before .before .before .before .before .before .before .before .before .before .args .out .now) (c .before .before .before .before .before .before .before .before .before .before .before .before .before .before .before .args .head) (c .before .before .before .before .before .before .before .before .before .before .rest .ensures) (c .before .before .before .before .before .before .before .before .before .raise .ensures) (c .before .before .before .before .before .part .ensures) (c .before .before .before .before .part2 .ensures) (c .before .before .before .before .before .before .reply-head .ensures) (c .before .before .make-packet .ensures)
 
 pub complete-spec : {M : Type 1} → statement M
-complete-spec =
-    tie.close
-    (tie.spec
-    rest-requires
-    raise-requires
-    reply-head-requires
-    part-requires
-    part-requires-2
-    make-packet-requires
-    same-length
-    same-length-2
-    returns)
+complete-spec = tie.close (tie.spec (λ c κs. search needs) (λ c κs. search needs) (λ c κs. search needs) (λ c κs. search needs) (λ c κs. search needs)
+    (λ c κs. search needs) (λ c. search needs) (λ c. search needs) returns)

@@ -4,10 +4,6 @@ use native.Mathlib.Omega.{arith}
 use Rattle.server.proofs.Blanking.{blank-size, blank-t-low, blank-t-high, blank-server-low, blank-server-high, server-byte, blank-made}
 use Rattle.server.proofs.blank.blank.Statement.{statement}
 use Rattle.server.proofs.blank.blank.Tie as tie
-use Rattle.server.proofs.blank.blank.Reads as reads
-use Rattle.server.proofs.blank.blank.Lts as lts
-use Rattle.server.proofs.blank.clear.Reads as clear-reads
-use Rattle.wire.proofs.sizes.servers.Reads as servers-reads
 
 returns : tie.Need-returns
 returns c = blank-size (c .before .before .args .memory .now) (c .before .before .args .t) (c .before .before .args .server) (c .if1 .taken)
@@ -21,51 +17,15 @@ returns-3 c = blank-t-high (c .before .before .before .before .args .memory .now
 returns-4 : tie.Need-returns-4
 returns-4 c = blank-server-low (c .before .before .before .before .before .args .memory .now) (c .before .before .before .before .before .args .t) (c .before .before .before .before .before .args .server) (c .before .before .before .if1 .left) (omega arith) (omega arith) (omega arith)
 
-cast-servers : tie.Need-cast-servers
-cast-servers c = search needs
-
-servers-requires : tie.Need-servers-requires
-servers-requires c κs = search needs
-
 returns-5 : tie.Need-returns-5
 returns-5 c = blank-server-high (c .before .before .before .before .before .before .before .args .memory .now) (c .before .before .before .before .before .before .before .args .t) (c .before .before .before .before .before .before .before .args .server) (c .before .before .before .before .before .if1 .left) (omega arith) (omega arith) (omega arith) (omega (arith, c .before .servers .ensures))
 
-clear-requires : tie.Need-clear-requires
-clear-requires c κs = search needs
-
-cast-memory : tie.Need-cast-memory
-cast-memory c = search needs
-
-slice-write-memory : tie.Need-slice-write-memory
-slice-write-memory c = search needs
-
 cast-memory-2 : tie.Need-cast-memory-2
 cast-memory-2 c = omega (arith, server-byte (c .before .before .before .before .before .before .before .before .before .before .before .args .t) (c .before .before .before .before .before .before .before .before .before .before .before .args .server) (omega arith) (omega (arith, c .before .before .before .before .before .servers .ensures)))
-
-slice-write-memory-2 : tie.Need-slice-write-memory-2
-slice-write-memory-2 c = search needs
-
-same-length : tie.Need-same-length
-same-length c = search needs
 
 returns-6 : tie.Need-returns-6
 returns-6 c = blank-made (c .before .before .before .before .before .before .before .before .before .before .before .args .memory .now) (c .before .before .before .before .before .before .before .before .before .before .before .args .t) (c .before .before .before .before .before .before .before .before .before .before .before .args .server) (c .before .before .before .before .before .before .before .before .before .if1 .left) (omega arith) (omega arith) (omega arith) (omega (arith, c .before .before .before .before .before .servers .ensures)) (c .before .before .clear .ensures)
 
 pub blank-spec : {M : Type 1} → statement M
-blank-spec =
-    tie.close
-    (tie.spec
-    returns
-    returns-2
-    returns-3
-    returns-4
-    cast-servers
-    servers-requires
-    returns-5
-    clear-requires
-    cast-memory
-    slice-write-memory
-    cast-memory-2
-    slice-write-memory-2
-    same-length
-    returns-6)
+blank-spec = tie.close (tie.spec returns returns-2 returns-3 returns-4 (λ c. search needs) (λ c κs. search needs) returns-5 (λ c κs. search needs)
+    (λ c. search needs) (λ c. search needs) cast-memory-2 (λ c. search needs) (λ c. search needs) returns-6)

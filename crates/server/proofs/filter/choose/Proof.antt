@@ -5,44 +5,20 @@ use Rattle.server.proofs.Trying.{highest-none, highest-held, highest-ta
 use Rattle.server.proofs.filter.choose.Statement.{statement}
 use Rattle.server.proofs.filter.choose.Tie as tie
 
-next-rank-requires : tie.Need-next-rank-requires
-next-rank-requires c κs = search needs
-
 returns : tie.Need-returns
 returns c =
     let a = c .before .before .before .before .args in
     highest-none (a .memory .now) (a .key) (a .t) (a .server) (a .n) (a .top) (a .list .now) (a .count) (omega arith) (λ i. c .before .before .shared-slice-known2 .given i .fits) (c .before .next-rank .ensures) (omega arith)
-
-slot-with-requires : tie.Need-slot-with-requires
-slot-with-requires c κs = search needs
-
-slot-requires : tie.Need-slot-requires
-slot-requires c κs = search needs
-
-digest-nonce-requires : tie.Need-digest-nonce-requires
-digest-nonce-requires c κs = search needs
-
-by-history-requires : tie.Need-by-history-requires
-by-history-requires c κs = search needs
 
 returns-2 : tie.Need-returns-2
 returns-2 c =
     let a = c .before .before .before .before .before .before .before .before .before .args in
     highest-held (a .memory .now) (a .key) (a .t) (a .server) (a .n) (a .top) (a .list .now) (a .count) (omega arith) (λ i. c .before .before .before .before .before .before .before .shared-slice-known2 .given i .fits) (c .before .before .before .before .before .before .next-rank .ensures) (omega (arith, c .before .before .before .before .before .if1 .left)) (c .before .before .before .before .slot-with .ensures) (c .before .before .before .slot .ensures) (c .before .before .digest-nonce .ensures) (c .before .by-history .ensures) (c .if2 .taken)
 
-prepare-requires : tie.Need-prepare-requires
-prepare-requires c κs = search needs
-
-by-tag-requires : tie.Need-by-tag-requires
-by-tag-requires c κs = search needs
-
 returns-3 : tie.Need-returns-3
 returns-3 c =
     let a = c .before .before .before .before .before .before .before .before .before .before .before .before .args in
     highest-tagged (a .memory .now) (a .key) (a .t) (a .server) (a .n) (a .top) (a .list .now) (a .count) (omega arith) (λ i. c .before .before .before .before .before .before .before .before .before .before .shared-slice-known2 .given i .fits) (c .before .before .before .before .before .before .before .before .before .next-rank .ensures) (omega (arith, c .before .before .before .before .before .before .before .before .if1 .left)) (c .before .before .before .before .before .before .before .slot-with .ensures) (c .before .before .before .before .before .before .slot .ensures) (c .before .before .before .before .before .digest-nonce .ensures) (c .before .before .before .before .by-history .ensures) (c .before .before .before .if2 .left) (c .before .before .prepare .ensures) (c .before .by-tag .ensures) (c .if3 .taken)
-
-choose-under-requires : tie.Need-choose-under-requires
-choose-under-requires c κs = search needs
 
 returns-4 : tie.Need-returns-4
 returns-4 c =
@@ -50,18 +26,5 @@ returns-4 c =
     then-under (a .memory .now) (a .key) (a .t) (a .server) (a .n) (a .top) (a .list .now) (a .count) (omega (arith, c .before .before .before .before .before .before .before .before .before .before .before .before .before .fits .count .fits)) (λ i. c .before .before .before .before .before .before .before .before .before .before .before .shared-slice-known2 .given i .fits) (c .before .before .before .before .before .before .before .before .before .before .next-rank .ensures) (omega (arith, c .before .before .before .before .before .before .before .before .before .if1 .left)) (c .before .before .before .before .before .before .before .before .slot-with .ensures) (c .before .before .before .before .before .before .before .slot .ensures) (c .before .before .before .before .before .before .digest-nonce .ensures) (c .before .before .before .before .before .by-history .ensures) (c .before .before .before .before .if2 .left) (c .before .before .before .prepare .ensures) (c .before .before .by-tag .ensures) (c .before .if3 .left) (c .choose-under .result) (c .choose-under .ensures)
 
 pub choose-spec : {M : Type 1} → statement M
-choose-spec =
-    tie.close
-    (tie.spec
-    next-rank-requires
-    returns
-    slot-with-requires
-    slot-requires
-    digest-nonce-requires
-    by-history-requires
-    returns-2
-    prepare-requires
-    by-tag-requires
-    returns-3
-    choose-under-requires
-    returns-4)
+choose-spec = tie.close (tie.spec (λ c κs. search needs) returns (λ c κs. search needs) (λ c κs. search needs) (λ c κs. search needs)
+    (λ c κs. search needs) returns-2 (λ c κs. search needs) (λ c κs. search needs) returns-3 (λ c κs. search needs) returns-4)

@@ -17,30 +17,15 @@ Inv-loop memory prepared t server n top list count bound rank₀ rank =
 abbrev μ-loop : tie.MeasureT-loop
 μ-loop memory prepared t server n top list count bound rank₀ rank = rank
 
-next-rank-requires : tie.Need-next-rank-requires Inv-loop μ-loop
-next-rank-requires c κs = search needs
-
 loop-holds : tie.Need-loop-holds Inv-loop μ-loop
 loop-holds c =
     let a = c .before .before .before .args in
     λ key made none. try-under (a .memory .now) key (a .t) (a .server) (a .n) (a .top) (a .list .now) (a .count) none (c .next-rank .ensures)
 
-slot-with-requires : tie.Need-slot-with-requires Inv-loop μ-loop
-slot-with-requires c κs = search needs
-
-slot-requires : tie.Need-slot-requires Inv-loop μ-loop
-slot-requires c κs = search needs
-
-valid-prepared-requires : tie.Need-valid-prepared-requires Inv-loop μ-loop
-valid-prepared-requires c κs = search needs
-
 returns : tie.Need-returns Inv-loop μ-loop
 returns c =
     let a = c .before .before .before .before .before .before .before .before .before .args in
     λ key made none. try-found (a .memory .now) key (a .t) (a .server) (a .n) (a .top) (a .list .now) (a .count) (omega arith) (c .before .before .before .before .before .loop .inv key made none) (omega arith) (c .before .before .before .slot-with .ensures) (c .before .before .slot .ensures) (c .before .valid-prepared .ensures key made) (c .if1 .taken)
-
-next-rank-requires-2 : tie.Need-next-rank-requires-2 Inv-loop μ-loop
-next-rank-requires-2 c κs = search needs
 
 loop-less : tie.Need-loop-less Inv-loop μ-loop
 loop-less c =
@@ -58,18 +43,5 @@ returns-2 c =
     λ key made none. try-none (a .memory .now) key (a .t) (a .server) (a .n) (a .top) (a .list .now) (a .count) (omega arith) (c .before .loop .inv key made none) (omega arith)
 
 pub choose-under-spec : {M : Type 1} → statement M
-choose-under-spec =
-    tie.close
-    (tie.spec
-    Inv-loop
-    μ-loop
-    next-rank-requires
-    loop-holds
-    slot-with-requires
-    slot-requires
-    valid-prepared-requires
-    returns
-    next-rank-requires-2
-    loop-less
-    loop-again
-    returns-2)
+choose-under-spec = tie.close (tie.spec Inv-loop μ-loop (λ c κs. search needs) loop-holds (λ c κs. search needs) (λ c κs. search needs)
+    (λ c κs. search needs) returns (λ c κs. search needs) loop-less loop-again returns-2)

@@ -4,14 +4,8 @@ use Rattle.server.proofs.Held.{size-made}
 use Rattle.server.proofs.filter.share_size.Statement.{statement}
 use Rattle.server.proofs.filter.share_size.Tie as tie
 
-number2-requires : tie.Need-number2-requires
-number2-requires c κs = search needs
-
-share-size-requires : tie.Need-share-size-requires
-share-size-requires c κs = search needs
-
 returns : tie.Need-returns
 returns c = size-made (c .before .before .before .args .t) (c .before .before .before .args .share .now) (c .before .number2 .ensures) (c .share-size .ensures)
 
 pub share-size-spec : {M : Type 1} → statement M
-share-size-spec = tie.close (tie.spec number2-requires share-size-requires returns)
+share-size-spec = tie.close (tie.spec (λ c κs. search needs) (λ c κs. search needs) returns)

@@ -6,14 +6,6 @@ use Rattle.cluster.specs.Config.{shelf}
 use Rattle.server.proofs.Once.{Checking, check-none, check-end, check-stop, check-held, check-more}
 use Rattle.server.proofs.memory.check_writes.Statement.{statement}
 use Rattle.server.proofs.memory.check_writes.Tie as tie
-use Rattle.server.proofs.memory.check_writes.Reads as reads
-use Rattle.server.proofs.memory.check_writes.Lts as lts
-use Rattle.server.proofs.memory.writes_place.Reads as writes-place-reads
-use Rattle.server.proofs.memory.repeats.Reads as repeats-reads
-use Rattle.server.proofs.memory.key_at.Reads as key-at-reads
-use Rattle.server.proofs.memory.raised.Reads as raised-reads
-use Rattle.wire.proofs.bytes.rest.Reads as rest-reads
-use Rattle.wire.proofs.parts.write_field.Reads as write-field-reads
 
 abbrev Inv-loop : tie.InvT-loop
 Inv-loop memory t n at₀ top₀ i₀ at top i = (i ≤ n) × Checking (shelf t) n memory at top i
@@ -21,46 +13,16 @@ Inv-loop memory t n at₀ top₀ i₀ at top i = (i ≤ n) × Checking (shelf t)
 abbrev μ-loop : tie.MeasureT-loop
 μ-loop memory t n at₀ top₀ i₀ at top i = n - i
 
-writes-place-requires : tie.Need-writes-place-requires Inv-loop μ-loop
-writes-place-requires c κs = search needs
-
 loop-holds : tie.Need-loop-holds Inv-loop μ-loop
 loop-holds c = (omega arith, check-none _ _ _ (c .writes-place .ensures) (omega arith))
 
-write-field-requires : tie.Need-write-field-requires Inv-loop μ-loop
-write-field-requires c κs = search needs
-
-enum-known-size : tie.Need-enum-known-size Inv-loop μ-loop
-enum-known-size c = search needs
-
-enum-told : tie.Need-enum-told Inv-loop μ-loop
-enum-told c = search needs
-
 returns : tie.Need-returns Inv-loop μ-loop
 returns c = check-stop (c .before .before .before .before .loop .inv .1) (omega arith) (rw (c .enum-told .given .1) at (c .before .before .write-field .ensures))
-
-repeats-requires : tie.Need-repeats-requires Inv-loop μ-loop
-repeats-requires c κs = search needs
 
 returns-2 : tie.Need-returns-2 Inv-loop μ-loop
 returns-2 c =
     let w = rw (c .before .before .before .size .given .1) at (c .before .before .before .before .before .write-field .ensures) in
     check-held (c .before .before .before .before .before .before .before .loop .inv .1) (omega arith) (w .leaves) (c .before .repeats .ensures) (c .if1 .taken)
-
-rest-requires : tie.Need-rest-requires Inv-loop μ-loop
-rest-requires c κs = search needs
-
-key-at-requires : tie.Need-key-at-requires Inv-loop μ-loop
-key-at-requires c κs = search needs
-
-raised-requires : tie.Need-raised-requires Inv-loop μ-loop
-raised-requires c κs = search needs
-
-add-i : tie.Need-add-i Inv-loop μ-loop
-add-i c = omega arith
-
-loop-less : tie.Need-loop-less Inv-loop μ-loop
-loop-less c = omega arith
 
 loop-again : tie.Need-loop-again Inv-loop μ-loop
 loop-again c =
@@ -71,23 +33,6 @@ returns-3 : tie.Need-returns-3 Inv-loop μ-loop
 returns-3 c = check-end (c .before .loop .inv .1) (omega arith)
 
 pub check-writes-spec : {M : Type 1} → statement M
-check-writes-spec =
-    tie.close
-    (tie.spec
-    Inv-loop
-    μ-loop
-    writes-place-requires
-    loop-holds
-    write-field-requires
-    enum-known-size
-    enum-told
-    returns
-    repeats-requires
-    returns-2
-    rest-requires
-    key-at-requires
-    raised-requires
-    add-i
-    loop-less
-    loop-again
-    returns-3)
+check-writes-spec = tie.close (tie.spec Inv-loop μ-loop (λ c κs. search needs) loop-holds (λ c κs. search needs) (λ c. search needs)
+    (λ c. search needs) returns (λ c κs. search needs) returns-2 (λ c κs. search needs) (λ c κs. search needs) (λ c κs. search needs)
+    (λ c. omega arith) (λ c. omega arith) loop-again returns-3)

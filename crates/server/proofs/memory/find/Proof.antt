@@ -4,32 +4,16 @@ use Rattle.cluster.specs.Config.{shelf}
 use Rattle.server.proofs.Once.{find-above, find-highest, find-searched}
 use Rattle.server.proofs.memory.find.Statement.{statement}
 use Rattle.server.proofs.memory.find.Tie as tie
-use Rattle.server.proofs.memory.find.Reads as reads
-use Rattle.server.proofs.memory.find.Lts as lts
-use Rattle.server.proofs.memory.key_at.Reads as key-at-reads
-use Rattle.server.proofs.memory.search.Reads as search-reads
-use Rattle.wire.proofs.bytes.part.Reads as part-reads
-
-part-requires : tie.Need-part-requires
-part-requires c κs = search needs
-
-key-at-requires : tie.Need-key-at-requires
-key-at-requires c κs = search needs
 
 returns : tie.Need-returns
 returns c = let a = c .before .before .before .before .before .before .args in find-above (shelf (a .t)) (a .n) (a .top) (a .memory .now) (a .bytes .now) (c .before .before .before .part .ensures) (c .before .before .key-at .ensures) (c .if1 .taken)
 
-stands-at-requires : tie.Need-stands-at-requires
-stands-at-requires c κs = search needs
-
 returns-2 : tie.Need-returns-2
 returns-2 c = let a = c .before .before .before .before .before .before .before .before .args in find-highest (shelf (a .t)) (a .n) (a .top) (a .memory .now) (a .bytes .now) (c .before .before .before .before .before .part .ensures) (c .before .stands-at .ensures (c .if2 .taken))
-
-search-requires : tie.Need-search-requires
-search-requires c κs = search needs
 
 returns-3 : tie.Need-returns-3
 returns-3 c = let a = c .before .before .before .before .before .before .before .before .before .args in find-searched (shelf (a .t)) (a .n) (a .top) (a .memory .now) (a .bytes .now) (c .before .before .before .before .before .before .part .ensures) (c .search .result) (c .search .ensures)
 
 pub find-spec : {M : Type 1} → statement M
-find-spec = tie.close (tie.spec part-requires key-at-requires returns stands-at-requires returns-2 search-requires returns-3)
+find-spec = tie.close (tie.spec (λ c κs. search needs) (λ c κs. search needs) returns (λ c κs. search needs) returns-2 (λ c κs. search needs)
+    returns-3)

@@ -4,8 +4,6 @@ use native.Mathlib.Omega.{arith}
 use Rattle.server.proofs.Once.{max-is-left, max-is-right}
 use Rattle.server.proofs.memory.max_of.Statement.{statement}
 use Rattle.server.proofs.memory.max_of.Tie as tie
-use Rattle.server.proofs.memory.max_of.Reads as reads
-use Rattle.server.proofs.memory.max_of.Lts as lts
 
 returns : tie.Need-returns
 returns c = sym (max-is-right _ _ (omega arith))

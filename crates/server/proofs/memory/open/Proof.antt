@@ -7,29 +7,9 @@ use Rattle.wire.proofs.Heads.{byte-range}
 use Rattle.server.proofs.Open.{no-t, no-server, no-count, no-latest, writes-within, no-writes, opens, no-tail, servers-most}
 use Rattle.server.proofs.memory.open.Statement.{statement}
 use Rattle.server.proofs.memory.open.Tie as tie
-use Rattle.server.proofs.memory.open.Reads as reads
-use Rattle.server.proofs.memory.open.Lts as lts
-use Rattle.server.proofs.memory.check_writes.Reads as check-writes-reads
-use Rattle.wire.proofs.sizes.servers.Reads as servers-reads
-use Rattle.wire.proofs.fields.byte_field.Reads as byte-field-reads
-use Rattle.wire.proofs.parts.any_candidate_field.Reads as any-candidate-field-reads
-use Rattle.wire.proofs.bytes.rest.Reads as rest-reads
-use Rattle.wire.proofs.bytes.all_zero.Reads as all-zero-reads
 
 returns : tie.Need-returns
 returns c = memory-size (c .before .before .args .memory .now) (c .if1 .taken)
-
-cast-byte-field : tie.Need-cast-byte-field
-cast-byte-field c = search needs
-
-byte-field-requires : tie.Need-byte-field-requires
-byte-field-requires c κs = search needs
-
-enum-known-t : tie.Need-enum-known-t
-enum-known-t c = search needs
-
-enum-told : tie.Need-enum-told
-enum-told c = search needs
 
 returns-2 : tie.Need-returns-2
 returns-2 c = no-t (c .before .before .before .if1 .left) (rw (c .enum-told .given .1) at (c .before .before .byte-field .ensures))
@@ -39,39 +19,15 @@ cast-servers c =
     let x = rw (c .before .t .given .1) at (c .before .before .before .byte-field .ensures) in
     omega (arith, byte-range 1 topFaults x .1)
 
-servers-requires : tie.Need-servers-requires
-servers-requires c κs = search needs
-
 cast-byte-field-2 : tie.Need-cast-byte-field-2
 cast-byte-field-2 c =
     let x = rw (c .before .before .t .given .1) at (c .before .before .before .before .byte-field .ensures) in
     omega (arith, servers-most (byte-range 1 topFaults x .1) (c .servers .ensures))
 
-byte-field-requires-2 : tie.Need-byte-field-requires-2
-byte-field-requires-2 c κs = search needs
-
-enum-known-server : tie.Need-enum-known-server
-enum-known-server c = search needs
-
-enum-told-2 : tie.Need-enum-told-2
-enum-told-2 c = search needs
-
 returns-3 : tie.Need-returns-3
 returns-3 c =
     let x = rw (c .before .before .before .before .before .t .given .1) at (c .before .before .before .before .before .before .before .byte-field .ensures) in
     no-server (c .before .before .before .before .before .before .before .before .if1 .left) x (c .before .before .before .servers .ensures) (rw (c .enum-told2 .given .1) at (c .before .before .byte-field2 .ensures))
-
-cast-byte-field-3 : tie.Need-cast-byte-field-3
-cast-byte-field-3 c = search needs
-
-byte-field-requires-3 : tie.Need-byte-field-requires-3
-byte-field-requires-3 c κs = search needs
-
-enum-known-n : tie.Need-enum-known-n
-enum-known-n c = search needs
-
-enum-told-3 : tie.Need-enum-told-3
-enum-told-3 c = search needs
 
 returns-4 : tie.Need-returns-4
 returns-4 c =
@@ -83,15 +39,6 @@ cast-any-candidate-field : tie.Need-cast-any-candidate-field
 cast-any-candidate-field c =
     let x = rw (c .before .before .before .before .before .before .before .before .before .before .t .given .1) at (c .before .before .before .before .before .before .before .before .before .before .before .before .byte-field .ensures) in
     omega (arith, byte-range 1 topFaults x .1)
-
-any-candidate-field-requires : tie.Need-any-candidate-field-requires
-any-candidate-field-requires c κs = search needs
-
-enum-known-number : tie.Need-enum-known-number
-enum-known-number c = search needs
-
-enum-told-4 : tie.Need-enum-told-4
-enum-told-4 c = search needs
 
 returns-5 : tie.Need-returns-5
 returns-5 c =
@@ -105,9 +52,6 @@ cast-check-writes c =
     let x = rw (c .before .before .before .before .before .before .before .before .before .before .before .before .before .before .t .given .1) at (c .before .before .before .before .before .before .before .before .before .before .before .before .before .before .before .before .byte-field .ensures) in
     omega (arith, byte-range 1 topFaults x .1)
 
-cast-check-writes-2 : tie.Need-cast-check-writes-2
-cast-check-writes-2 c = search needs
-
 check-writes-requires : tie.Need-check-writes-requires
 check-writes-requires c κs =
     let x = rw (c .before .before .before .before .before .before .before .before .before .before .before .before .before .before .t .given .1) at (c .before .before .before .before .before .before .before .before .before .before .before .before .before .before .before .before .byte-field .ensures) in
@@ -116,12 +60,6 @@ check-writes-requires c κs =
     let l = rw (c .before .number .given .1) at (c .before .before .before .any-candidate-field .ensures) in
     writes-within (c .before .before .before .before .before .before .before .before .before .before .before .before .before .before .before .before .before .if1 .left) x (c .before .before .before .before .before .before .before .before .before .before .before .before .servers .ensures) y z l
 
-enum-known-end : tie.Need-enum-known-end
-enum-known-end c = search needs
-
-enum-told-5 : tie.Need-enum-told-5
-enum-told-5 c = search needs
-
 returns-6 : tie.Need-returns-6
 returns-6 c =
     let x = rw (c .before .before .before .before .before .before .before .before .before .before .before .before .before .before .before .before .before .t .given .1) at (c .before .before .before .before .before .before .before .before .before .before .before .before .before .before .before .before .before .before .before .byte-field .ensures) in
@@ -129,12 +67,6 @@ returns-6 c =
     let z = rw (c .before .before .before .before .before .before .before .before .n .given .1) at (c .before .before .before .before .before .before .before .before .before .before .byte-field3 .ensures) in
     let l = rw (c .before .before .before .before .number .given .1) at (c .before .before .before .before .before .before .any-candidate-field .ensures) in
     no-writes (c .before .before .before .before .before .before .before .before .before .before .before .before .before .before .before .before .before .before .before .before .if1 .left) x (c .before .before .before .before .before .before .before .before .before .before .before .before .before .before .before .servers .ensures) y z l (λ i. c .before .before .before .before .before .before .before .before .before .before .before .before .before .before .before .before .before .before .before .before .before .shared-slice-known .given i .fits) (c .enum-told5 .given .1) (c .before .before .check-writes .ensures)
-
-rest-requires : tie.Need-rest-requires
-rest-requires c κs = search needs
-
-all-zero-requires : tie.Need-all-zero-requires
-all-zero-requires c κs = search needs
 
 cast-t25 : tie.Need-cast-t25
 cast-t25 c =
@@ -146,9 +78,6 @@ cast-t26 c =
     let x = rw (c .before .before .before .before .before .before .before .before .before .before .before .before .before .before .before .before .before .before .before .before .before .t .given .1) at (c .before .before .before .before .before .before .before .before .before .before .before .before .before .before .before .before .before .before .before .before .before .before .before .byte-field .ensures) in
     let y = rw (c .before .before .before .before .before .before .before .before .before .before .before .before .before .before .before .before .server .given .1) at (c .before .before .before .before .before .before .before .before .before .before .before .before .before .before .before .before .before .before .byte-field2 .ensures) in
     omega (arith, servers-most (byte-range 1 topFaults x .1) (c .before .before .before .before .before .before .before .before .before .before .before .before .before .before .before .before .before .before .before .servers .ensures), byte-range 1 _ y .1)
-
-cast-t27 : tie.Need-cast-t27
-cast-t27 c = search needs
 
 returns-7 : tie.Need-returns-7
 returns-7 c =
@@ -169,42 +98,8 @@ returns-8 c =
     no-tail (c .before .before .before .before .before .before .before .before .before .before .before .before .before .before .before .before .before .before .before .before .before .before .before .before .if1 .left) x (c .before .before .before .before .before .before .before .before .before .before .before .before .before .before .before .before .before .before .before .servers .ensures) y z l w (c .before .before .rest .ensures) (c .before .all-zero .ensures) (c .if2 .left)
 
 pub open-spec : {M : Type 1} → statement M
-open-spec =
-    tie.close
-    (tie.spec
-    returns
-    cast-byte-field
-    byte-field-requires
-    enum-known-t
-    enum-told
-    returns-2
-    cast-servers
-    servers-requires
-    cast-byte-field-2
-    byte-field-requires-2
-    enum-known-server
-    enum-told-2
-    returns-3
-    cast-byte-field-3
-    byte-field-requires-3
-    enum-known-n
-    enum-told-3
-    returns-4
-    cast-any-candidate-field
-    any-candidate-field-requires
-    enum-known-number
-    enum-told-4
-    returns-5
-    cast-check-writes
-    cast-check-writes-2
-    check-writes-requires
-    enum-known-end
-    enum-told-5
-    returns-6
-    rest-requires
-    all-zero-requires
-    cast-t25
-    cast-t26
-    cast-t27
-    returns-7
-    returns-8)
+open-spec = tie.close (tie.spec returns (λ c. search needs) (λ c κs. search needs) (λ c. search needs) (λ c. search needs) returns-2 cast-servers
+    (λ c κs. search needs) cast-byte-field-2 (λ c κs. search needs) (λ c. search needs) (λ c. search needs) returns-3 (λ c. search needs)
+    (λ c κs. search needs) (λ c. search needs) (λ c. search needs) returns-4 cast-any-candidate-field (λ c κs. search needs) (λ c. search needs)
+    (λ c. search needs) returns-5 cast-check-writes (λ c. search needs) check-writes-requires (λ c. search needs) (λ c. search needs) returns-6
+    (λ c κs. search needs) (λ c κs. search needs) cast-t25 cast-t26 (λ c. search needs) returns-7 returns-8)

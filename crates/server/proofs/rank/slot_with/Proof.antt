@@ -4,18 +4,10 @@ use mathlib.Core.Path.{refl}
 use Rattle.server.specs.Ranks.{slotWith}
 use Rattle.server.proofs.rank.slot_with.Statement.{statement}
 use Rattle.server.proofs.rank.slot_with.Tie as tie
-use Rattle.server.proofs.rank.slot_with.Reads as reads
-use Rattle.server.proofs.rank.slot_with.Lts as lts
-
-sub-result : tie.Need-sub-result
-sub-result c = search needs
-
-cast-result : tie.Need-cast-result
-cast-result c = search needs
 
 returns : tie.Need-returns
 unfolding slotWith
 returns c = refl
 
 pub slot-with-spec : {M : Type 1} → statement M
-slot-with-spec = tie.close (tie.spec sub-result cast-result returns)
+slot-with-spec = tie.close (tie.spec (λ c. search needs) (λ c. search needs) returns)

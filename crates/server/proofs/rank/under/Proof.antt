@@ -3,8 +3,6 @@ use mathlib.Core.Path.{sym}
 use Rattle.server.proofs.Ranking.{under-is, under-not}
 use Rattle.server.proofs.rank.under.Statement.{statement}
 use Rattle.server.proofs.rank.under.Tie as tie
-use Rattle.server.proofs.rank.under.Reads as reads
-use Rattle.server.proofs.rank.under.Lts as lts
 
 returns : tie.Need-returns
 returns c = sym (under-is (c .before .args .rank) (c .before .args .top) (c .if1 .taken))

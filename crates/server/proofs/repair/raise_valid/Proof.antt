@@ -3,36 +3,12 @@ use borrow.Author.Needs.{needs}
 use Rattle.server.proofs.Repairing.{raised-valid, left-invalid}
 use Rattle.server.proofs.repair.raise_valid.Statement.{statement}
 use Rattle.server.proofs.repair.raise_valid.Tie as tie
-use Rattle.server.proofs.repair.raise_valid.Reads as reads
-use Rattle.server.proofs.repair.raise_valid.Lts as lts
-use Rattle.server.proofs.valid.valid.Reads as valid-reads
-use Rattle.server.proofs.answers.raise.Reads as raise-reads
-
-valid-requires : tie.Need-valid-requires
-valid-requires c κs = search needs
-
-raise-requires : tie.Need-raise-requires
-raise-requires c κs = search needs
-
-same-length : tie.Need-same-length
-same-length c = search needs
 
 returns : tie.Need-returns
 returns c = raised-valid (c .before .before .before .before .before .before .before .before .before .args .memory .now) (λ i. c .before .before .before .before .before .before .before .before .slice-known .given i .fits) (c .before .before .before .before .before .before .before .before .before .args .key) (c .before .before .before .before .before .before .before .before .before .args .t) (c .before .before .before .before .before .before .before .before .before .args .server) (c .before .before .before .before .before .before .before .before .before .args .n) (c .before .before .before .before .before .before .before .before .before .args .top) (c .before .before .before .before .before .before .before .before .before .args .candidate .now) (λ i. c .before .before .before .before .before .before .before .shared-slice-known .given i .fits) (c .before .before .before .before .before .valid .ensures) (c .before .before .before .before .if1 .taken) (c .before .before .raise .ensures)
-
-same-length-2 : tie.Need-same-length-2
-same-length-2 c = search needs
 
 returns-2 : tie.Need-returns-2
 returns-2 c = left-invalid (c .before .before .before .before .before .args .memory .now) (λ i. c .before .before .before .before .slice-known .given i .fits) (c .before .before .before .before .before .args .key) (c .before .before .before .before .before .args .t) (c .before .before .before .before .before .args .server) (c .before .before .before .before .before .args .n) (c .before .before .before .before .before .args .top) (c .before .before .before .before .before .args .candidate .now) (λ i. c .before .before .before .shared-slice-known .given i .fits) (c .before .valid .ensures) (c .if1 .left)
 
 pub raise-valid-spec : {M : Type 1} → statement M
-raise-valid-spec =
-    tie.close
-    (tie.spec
-    valid-requires
-    raise-requires
-    same-length
-    returns
-    same-length-2
-    returns-2)
+raise-valid-spec = tie.close (tie.spec (λ c κs. search needs) (λ c κs. search needs) (λ c. search needs) returns (λ c. search needs) returns-2)

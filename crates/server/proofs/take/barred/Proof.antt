@@ -3,9 +3,6 @@ use borrow.Author.Needs.{needs}
 use Rattle.server.proofs.Taking.{barred-collect, barred-filter, barred-repair, barred-clock, barred-store, barred-complete, barred-other}
 use Rattle.server.proofs.take.barred.Statement.{statement}
 use Rattle.server.proofs.take.barred.Tie as tie
-use Rattle.server.proofs.take.barred.Reads as reads
-use Rattle.server.proofs.take.barred.Lts as lts
-use Rattle.server.proofs.take.foreign.Reads as foreign-reads
 
 returns : tie.Need-returns
 returns c = barred-collect (c .before .before .args .head) (c .before .before .args .packet .now) (c .if1 .taken)
@@ -16,20 +13,11 @@ returns-2 c = barred-filter (c .before .before .before .args .head) (c .before .
 returns-3 : tie.Need-returns-3
 returns-3 c = barred-repair (c .before .before .before .before .args .head) (c .before .before .before .before .args .packet .now) (c .if3 .taken)
 
-cast-result : tie.Need-cast-result
-cast-result c = search needs
-
 returns-4 : tie.Need-returns-4
 returns-4 c = barred-clock (c .before .before .before .before .before .args .head) (c .before .before .before .before .before .args .packet .now) (c .if4 .taken)
 
-foreign-requires : tie.Need-foreign-requires
-foreign-requires c κs = search needs
-
 returns-5 : tie.Need-returns-5
 returns-5 c = barred-store (c .before .before .before .before .before .before .before .args .head) (c .before .before .before .before .before .before .before .args .packet .now) (c .before .if5 .taken) (c .foreign .ensures)
-
-foreign-requires-2 : tie.Need-foreign-requires-2
-foreign-requires-2 c κs = search needs
 
 returns-6 : tie.Need-returns-6
 returns-6 c = barred-complete (c .before .before .before .before .before .before .before .before .args .head) (c .before .before .before .before .before .before .before .before .args .packet .now) (c .before .if6 .taken) (c .foreign2 .ensures)
@@ -38,16 +26,5 @@ returns-7 : tie.Need-returns-7
 returns-7 c = barred-other (c .before .before .before .before .before .before .before .args .head) (c .before .before .before .before .before .before .before .args .packet .now) (c .before .before .if4 .left) (c .before .if5 .left) (c .if6 .left) (c .before .before .before .before .before .if1 .left) (c .before .before .before .before .if2 .left) (c .before .before .before .if3 .left)
 
 pub barred-spec : {M : Type 1} → statement M
-barred-spec =
-    tie.close
-    (tie.spec
-    returns
-    returns-2
-    returns-3
-    cast-result
-    returns-4
-    foreign-requires
-    returns-5
-    foreign-requires-2
-    returns-6
-    returns-7)
+barred-spec = tie.close (tie.spec returns returns-2 returns-3 (λ c. search needs) returns-4 (λ c κs. search needs) returns-5 (λ c κs. search needs)
+    returns-6 returns-7)

@@ -4,18 +4,12 @@ use native.Mathlib.Omega.{arith}
 use Rattle.server.proofs.Taking.{other-t, other-server, is-barred, short, let-in}
 use Rattle.server.proofs.take.refusal.Statement.{statement}
 use Rattle.server.proofs.take.refusal.Tie as tie
-use Rattle.server.proofs.take.refusal.Reads as reads
-use Rattle.server.proofs.take.refusal.Lts as lts
-use Rattle.server.proofs.take.barred.Reads as barred-reads
 
 returns : tie.Need-returns
 returns c = let a = c .before .before .before .args in other-t (a .head) (a .t) (a .server) (a .packet .now) (a .room) (c .if1 .taken)
 
 returns-2 : tie.Need-returns-2
 returns-2 c = let a = c .before .before .before .before .before .args in other-server (a .head) (a .t) (a .server) (a .packet .now) (a .room) (c .before .before .if1 .left) (c .if2 .taken)
-
-barred-requires : tie.Need-barred-requires
-barred-requires c κs = search needs
 
 returns-3 : tie.Need-returns-3
 returns-3 c = let a = c .before .before .before .before .before .before .before .args in is-barred (a .head) (a .t) (a .server) (a .packet .now) (a .room) (c .before .before .before .before .if1 .left) (c .before .before .if2 .left) (c .before .barred .ensures) (c .if3 .taken)
@@ -27,4 +21,4 @@ returns-5 : tie.Need-returns-5
 returns-5 c = let a = c .before .before .before .before .before .before .before .before .args in let-in (a .head) (a .t) (a .server) (a .packet .now) (a .room) (c .before .before .before .before .before .if1 .left) (c .before .before .before .if2 .left) (c .before .before .barred .ensures) (c .before .if3 .left) (omega arith)
 
 pub refusal-spec : {M : Type 1} → statement M
-refusal-spec = tie.close (tie.spec returns returns-2 barred-requires returns-3 returns-4 returns-5)
+refusal-spec = tie.close (tie.spec returns returns-2 (λ c κs. search needs) returns-3 returns-4 returns-5)

@@ -5,14 +5,8 @@ use Rattle.sha256.specs.Sha256.{sha256}
 use Rattle.server.proofs.valid.digest_nonce.Statement.{statement}
 use Rattle.server.proofs.valid.digest_nonce.Tie as tie
 
-part-requires : tie.Need-part-requires
-part-requires c κs = search needs
-
-digest-requires : tie.Need-digest-requires
-digest-requires c κs = search needs
-
 returns : tie.Need-returns
 returns c = c .digest .ensures ∙ ap sha256 (c .before .part .ensures)
 
 pub digest-nonce-spec : {M : Type 1} → statement M
-digest-nonce-spec = tie.close (tie.spec part-requires digest-requires returns)
+digest-nonce-spec = tie.close (tie.spec (λ c κs. search needs) (λ c κs. search needs) returns)

@@ -4,19 +4,10 @@ use Rattle.server.proofs.Testing.{valid-history, valid-tag}
 use Rattle.server.proofs.valid.valid_prepared.Statement.{statement}
 use Rattle.server.proofs.valid.valid_prepared.Tie as tie
 
-digest-nonce-requires : tie.Need-digest-nonce-requires
-digest-nonce-requires c κs = search needs
-
-by-history-requires : tie.Need-by-history-requires
-by-history-requires c κs = search needs
-
 returns : tie.Need-returns
 returns c =
     let a = c .before .before .before .before .before .args in
     λ key made. valid-history (a .memory .now) key (a .t) (a .server) (a .n) (a .top) (a .candidate .now) (c .before .before .digest-nonce .ensures) (c .before .by-history .ensures) (c .if1 .taken)
-
-by-tag-requires : tie.Need-by-tag-requires
-by-tag-requires c κs = search needs
 
 returns-2 : tie.Need-returns-2
 returns-2 c =
@@ -24,6 +15,4 @@ returns-2 c =
     λ key made. valid-tag (a .memory .now) key (a .t) (a .server) (a .n) (a .top) (a .candidate .now) (c .before .before .before .digest-nonce .ensures) (c .before .before .by-history .ensures) (c .before .if1 .left) made (c .by-tag .ensures)
 
 pub valid-prepared-spec : {M : Type 1} → statement M
-valid-prepared-spec =
-    tie.close
-    (tie.spec digest-nonce-requires by-history-requires returns by-tag-requires returns-2)
+valid-prepared-spec = tie.close (tie.spec (λ c κs. search needs) (λ c κs. search needs) returns (λ c κs. search needs) returns-2)

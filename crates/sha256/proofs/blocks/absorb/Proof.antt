@@ -19,15 +19,6 @@ loop-holds : tie.Need-loop-holds Inv-loop μ-loop
 unfolding hashed
 loop-holds c = (omega arith, refl)
 
-step-requires : tie.Need-step-requires Inv-loop μ-loop
-step-requires c κs = search needs
-
-add-j : tie.Need-add-j Inv-loop μ-loop
-add-j c = search needs
-
-loop-less : tie.Need-loop-less Inv-loop μ-loop
-loop-less c = search needs
-
 loop-again : tie.Need-loop-again Inv-loop μ-loop
 unfolding hashed
 loop-again c = (omega arith, rw add-one (cc))
@@ -36,6 +27,4 @@ returns : tie.Need-returns Inv-loop μ-loop
 returns c = let e : c .before .loop .j ≡ length (c .before .before .before .args .m .now) / 64 = omega arith in rw e at (c .before .loop .inv .1)
 
 pub absorb-spec : {M : Type 1} → statement M
-absorb-spec =
-    tie.close
-    (tie.spec Inv-loop μ-loop loop-holds step-requires add-j loop-less loop-again returns)
+absorb-spec = tie.close (tie.spec Inv-loop μ-loop loop-holds (λ c κs. search needs) (λ c. search needs) (λ c. search needs) loop-again returns)

@@ -20,66 +20,6 @@ loop-holds : tie.Need-loop-holds Inv-loop μ-loop
 unfolding grow
 loop-holds c = (omega arith, omega arith, refl, search needs, refl)
 
-next-requires : tie.Need-next-requires Inv-loop μ-loop
-next-requires c κs = search needs
-
-mul-w : tie.Need-mul-w Inv-loop μ-loop
-mul-w c = search needs
-
-element-write-w : tie.Need-element-write-w Inv-loop μ-loop
-element-write-w c = search needs
-
-add-next : tie.Need-add-next Inv-loop μ-loop
-add-next c = search needs
-
-next-requires-2 : tie.Need-next-requires-2 Inv-loop μ-loop
-next-requires-2 c κs = search needs
-
-add-w : tie.Need-add-w Inv-loop μ-loop
-add-w c = search needs
-
-mul-w-2 : tie.Need-mul-w-2 Inv-loop μ-loop
-mul-w-2 c = search needs
-
-element-write-w-2 : tie.Need-element-write-w-2 Inv-loop μ-loop
-element-write-w-2 c = search needs
-
-add-next-2 : tie.Need-add-next-2 Inv-loop μ-loop
-add-next-2 c = search needs
-
-next-requires-3 : tie.Need-next-requires-3 Inv-loop μ-loop
-next-requires-3 c κs = search needs
-
-add-w-2 : tie.Need-add-w-2 Inv-loop μ-loop
-add-w-2 c = search needs
-
-mul-w-3 : tie.Need-mul-w-3 Inv-loop μ-loop
-mul-w-3 c = search needs
-
-element-write-w-3 : tie.Need-element-write-w-3 Inv-loop μ-loop
-element-write-w-3 c = search needs
-
-add-next-3 : tie.Need-add-next-3 Inv-loop μ-loop
-add-next-3 c = search needs
-
-next-requires-4 : tie.Need-next-requires-4 Inv-loop μ-loop
-next-requires-4 c κs = search needs
-
-add-w-3 : tie.Need-add-w-3 Inv-loop μ-loop
-add-w-3 c = search needs
-
-mul-w-4 : tie.Need-mul-w-4 Inv-loop μ-loop
-mul-w-4 c = search needs
-
-element-write-w-4 : tie.Need-element-write-w-4 Inv-loop μ-loop
-element-write-w-4 c = search needs
-
-add-t : tie.Need-add-t Inv-loop μ-loop
-add-t c = search needs
-
-loop-less : tie.Need-loop-less Inv-loop μ-loop
-loop-less c = search needs
-
 loop-again : tie.Need-loop-again Inv-loop μ-loop
 loop-again c =
     let at = c .before .before .before .before .before .before .before .before .before .loop in
@@ -98,31 +38,7 @@ returns c =
     sym (take-all 64 (at .w) (omega arith)) ∙ rw e at (at .inv .4)
 
 pub extend-spec : {M : Type 1} → statement M
-extend-spec =
-    tie.close
-    (tie.spec
-    Inv-loop
-    μ-loop
-    loop-holds
-    next-requires
-    mul-w
-    element-write-w
-    add-next
-    next-requires-2
-    add-w
-    mul-w-2
-    element-write-w-2
-    add-next-2
-    next-requires-3
-    add-w-2
-    mul-w-3
-    element-write-w-3
-    add-next-3
-    next-requires-4
-    add-w-3
-    mul-w-4
-    element-write-w-4
-    add-t
-    loop-less
-    loop-again
-    returns)
+extend-spec = tie.close (tie.spec Inv-loop μ-loop loop-holds (λ c κs. search needs) (λ c. search needs) (λ c. search needs) (λ c. search needs)
+    (λ c κs. search needs) (λ c. search needs) (λ c. search needs) (λ c. search needs) (λ c. search needs) (λ c κs. search needs) (λ c. search needs)
+    (λ c. search needs) (λ c. search needs) (λ c. search needs) (λ c κs. search needs) (λ c. search needs) (λ c. search needs) (λ c. search needs)
+    (λ c. search needs) (λ c. search needs) loop-again returns)

@@ -7,19 +7,10 @@ use borrow.Author.Needs.{needs}
 use Rattle.sha256.proofs.blocks.step.Statement.{statement}
 use Rattle.sha256.proofs.blocks.step.Tie as tie
 
-words-requires : tie.Need-words-requires
-words-requires c κs = search needs
-
-extend-requires : tie.Need-extend-requires
-extend-requires c κs = search needs
-
-compress-requires : tie.Need-compress-requires
-compress-requires c κs = search needs
-
 returns : tie.Need-returns
 returns c =
     c .compress .ensures
     ∙ ap (compressOf _) (c .before .before .extend .ensures ∙ ap (λ (b : List ℕ). grow 48 b) (c .before .before .before .before .words .ensures .1))
 
 pub step-spec : {M : Type 1} → statement M
-step-spec = tie.close (tie.spec words-requires extend-requires compress-requires returns)
+step-spec = tie.close (tie.spec (λ c κs. search needs) (λ c κs. search needs) (λ c κs. search needs) returns)

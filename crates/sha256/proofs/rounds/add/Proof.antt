@@ -4,15 +4,9 @@ use Rattle.sha256.specs.Sha256.{_⊞_}
 use Rattle.sha256.proofs.rounds.add.Statement.{statement}
 use Rattle.sha256.proofs.rounds.add.Tie as tie
 
-add-result : tie.Need-add-result
-add-result c = search needs
-
-cast-result : tie.Need-cast-result
-cast-result c = search needs
-
 returns : tie.Need-returns
 unfolding _⊞_
 returns c = search needs
 
 pub add-spec : {M : Type 1} → statement M
-add-spec = tie.close (tie.spec add-result cast-result returns)
+add-spec = tie.close (tie.spec (λ c. search needs) (λ c. search needs) returns)

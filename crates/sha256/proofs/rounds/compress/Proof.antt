@@ -22,117 +22,9 @@ Inv-loop w h v₀ k t₀ v t = (t ≤ 64) × (t % 4 ≡ 0) × (k ≡ kTable) × 
 abbrev μ-loop : tie.MeasureT-loop
 μ-loop w h v₀ k t₀ v t = 64 - t
 
-array-read-t9 : tie.Need-array-read-t9 Inv-loop μ-loop
-array-read-t9 c = search needs
-
-array-read-t12 : tie.Need-array-read-t12 Inv-loop μ-loop
-array-read-t12 c = search needs
-
-array-read-t15 : tie.Need-array-read-t15 Inv-loop μ-loop
-array-read-t15 c = search needs
-
-array-read-t18 : tie.Need-array-read-t18 Inv-loop μ-loop
-array-read-t18 c = search needs
-
-array-read-t21 : tie.Need-array-read-t21 Inv-loop μ-loop
-array-read-t21 c = search needs
-
-array-read-t24 : tie.Need-array-read-t24 Inv-loop μ-loop
-array-read-t24 c = search needs
-
-array-read-t27 : tie.Need-array-read-t27 Inv-loop μ-loop
-array-read-t27 c = search needs
-
-array-read-t30 : tie.Need-array-read-t30 Inv-loop μ-loop
-array-read-t30 c = search needs
-
 loop-holds : tie.Need-loop-holds Inv-loop μ-loop
 unfolding rounds start kTable
 loop-holds c = (omega arith, refl, refl, refl, refl)
-
-mul-round : tie.Need-mul-round Inv-loop μ-loop
-mul-round c = search needs
-
-array-read-round : tie.Need-array-read-round Inv-loop μ-loop
-array-read-round c = search needs
-
-mul-round-2 : tie.Need-mul-round-2 Inv-loop μ-loop
-mul-round-2 c = search needs
-
-element-copy-out-round : tie.Need-element-copy-out-round Inv-loop μ-loop
-element-copy-out-round c = search needs
-
-round-requires : tie.Need-round-requires Inv-loop μ-loop
-round-requires c κs = search needs
-
-add-round : tie.Need-add-round Inv-loop μ-loop
-add-round c = search needs
-
-mul-round-3 : tie.Need-mul-round-3 Inv-loop μ-loop
-mul-round-3 c = search needs
-
-array-read-round-2 : tie.Need-array-read-round-2 Inv-loop μ-loop
-array-read-round-2 c = search needs
-
-add-round-2 : tie.Need-add-round-2 Inv-loop μ-loop
-add-round-2 c = search needs
-
-mul-round-4 : tie.Need-mul-round-4 Inv-loop μ-loop
-mul-round-4 c = search needs
-
-element-copy-out-round-2 : tie.Need-element-copy-out-round-2 Inv-loop μ-loop
-element-copy-out-round-2 c = search needs
-
-round-requires-2 : tie.Need-round-requires-2 Inv-loop μ-loop
-round-requires-2 c κs = search needs
-
-add-round-3 : tie.Need-add-round-3 Inv-loop μ-loop
-add-round-3 c = search needs
-
-mul-round-5 : tie.Need-mul-round-5 Inv-loop μ-loop
-mul-round-5 c = search needs
-
-array-read-round-3 : tie.Need-array-read-round-3 Inv-loop μ-loop
-array-read-round-3 c = search needs
-
-add-round-4 : tie.Need-add-round-4 Inv-loop μ-loop
-add-round-4 c = search needs
-
-mul-round-6 : tie.Need-mul-round-6 Inv-loop μ-loop
-mul-round-6 c = search needs
-
-element-copy-out-round-3 : tie.Need-element-copy-out-round-3 Inv-loop μ-loop
-element-copy-out-round-3 c = search needs
-
-round-requires-3 : tie.Need-round-requires-3 Inv-loop μ-loop
-round-requires-3 c κs = search needs
-
-add-round-5 : tie.Need-add-round-5 Inv-loop μ-loop
-add-round-5 c = search needs
-
-mul-round-7 : tie.Need-mul-round-7 Inv-loop μ-loop
-mul-round-7 c = search needs
-
-array-read-round-4 : tie.Need-array-read-round-4 Inv-loop μ-loop
-array-read-round-4 c = search needs
-
-add-round-6 : tie.Need-add-round-6 Inv-loop μ-loop
-add-round-6 c = search needs
-
-mul-round-8 : tie.Need-mul-round-8 Inv-loop μ-loop
-mul-round-8 c = search needs
-
-element-copy-out-round-4 : tie.Need-element-copy-out-round-4 Inv-loop μ-loop
-element-copy-out-round-4 c = search needs
-
-round-requires-4 : tie.Need-round-requires-4 Inv-loop μ-loop
-round-requires-4 c κs = search needs
-
-add-t : tie.Need-add-t Inv-loop μ-loop
-add-t c = search needs
-
-loop-less : tie.Need-loop-less Inv-loop μ-loop
-loop-less c = search needs
 
 loop-again : tie.Need-loop-again Inv-loop μ-loop
 loop-again c =
@@ -147,9 +39,6 @@ loop-again c =
     let v4 = rounds-next (t + 4) (t + 3) _ w s _ _ k (omega arith) v3 (c .round4 .ensures) in
     (omega arith, omega arith, k, at .inv .3, v4)
 
-added-requires : tie.Need-added-requires Inv-loop μ-loop
-added-requires c κs = search needs
-
 returns : tie.Need-returns Inv-loop μ-loop
 unfolding compressOf
 returns c =
@@ -157,48 +46,9 @@ returns c =
     c .added .ensures ∙ ap (addWork _) (rw e at (c .before .before .loop .inv .4))
 
 pub compress-spec : {M : Type 1} → statement M
-compress-spec =
-    tie.close
-    (tie.spec
-    Inv-loop
-    μ-loop
-    array-read-t9
-    array-read-t12
-    array-read-t15
-    array-read-t18
-    array-read-t21
-    array-read-t24
-    array-read-t27
-    array-read-t30
-    loop-holds
-    mul-round
-    array-read-round
-    mul-round-2
-    element-copy-out-round
-    round-requires
-    add-round
-    mul-round-3
-    array-read-round-2
-    add-round-2
-    mul-round-4
-    element-copy-out-round-2
-    round-requires-2
-    add-round-3
-    mul-round-5
-    array-read-round-3
-    add-round-4
-    mul-round-6
-    element-copy-out-round-3
-    round-requires-3
-    add-round-5
-    mul-round-7
-    array-read-round-4
-    add-round-6
-    mul-round-8
-    element-copy-out-round-4
-    round-requires-4
-    add-t
-    loop-less
-    loop-again
-    added-requires
-    returns)
+compress-spec = tie.close (tie.spec Inv-loop μ-loop (λ c. search needs) (λ c. search needs) (λ c. search needs) (λ c. search needs)
+    (λ c. search needs) (λ c. search needs) (λ c. search needs) (λ c. search needs) loop-holds (λ c. search needs) (λ c. search needs)
+    (λ c. search needs) (λ c. search needs) (λ c κs. search needs) (λ c. search needs) (λ c. search needs) (λ c. search needs) (λ c. search needs)
+    (λ c. search needs) (λ c. search needs) (λ c κs. search needs) (λ c. search needs) (λ c. search needs) (λ c. search needs) (λ c. search needs)
+    (λ c. search needs) (λ c. search needs) (λ c κs. search needs) (λ c. search needs) (λ c. search needs) (λ c. search needs) (λ c. search needs)
+    (λ c. search needs) (λ c. search needs) (λ c κs. search needs) (λ c. search needs) (λ c. search needs) loop-again (λ c κs. search needs) returns)

@@ -19,21 +19,6 @@ abbrev μ-loop : tie.MeasureT-loop
 loop-holds : tie.Need-loop-holds Inv-loop μ-loop
 loop-holds c = (omega arith, refl)
 
-sub-loop : tie.Need-sub-loop Inv-loop μ-loop
-sub-loop c = omega arith
-
-add-end : tie.Need-add-end Inv-loop μ-loop
-add-end c = omega arith
-
-sub-joined-zero : tie.Need-sub-joined-zero Inv-loop μ-loop
-sub-joined-zero c = omega arith
-
-part-joined-zero-start : tie.Need-part-joined-zero-start Inv-loop μ-loop
-part-joined-zero-start c = omega arith
-
-part-joined-zero-end : tie.Need-part-joined-zero-end Inv-loop μ-loop
-part-joined-zero-end c = omega arith
-
 joined-zero-requires : tie.Need-joined-zero-requires Inv-loop μ-loop
 joined-zero-requires c κs = tt
 
@@ -43,24 +28,12 @@ returns c =
     let l = c .before .before .before .before .loop in
     sym (l .inv .1 ∙ chunk-other s (l .at) (l .at + 256 - l .at) (sym (c .before .joined-zero .ensures) ∙ not-true (c .before .joined-zero .result) (c .if1 .taken)))
 
-loop-less : tie.Need-loop-less Inv-loop μ-loop
-loop-less c = omega arith
-
 loop-again : tie.Need-loop-again Inv-loop μ-loop
 loop-again c =
     let s = c .before .before .before .before .before .before .args .s .now in
     let l = c .before .before .before .before .loop in
     let e : l .at + (l .at + 256 - l .at) ≡ l .at + 256 = omega arith in
     (omega arith, l .inv .1 ∙ (chunk-zero s (l .at) (l .at + 256 - l .at) (sym (c .before .joined-zero .ensures) ∙ not-false (c .before .joined-zero .result) (c .if1 .left)) ∙ ap (λ (k : ℕ). zeros (drop k s)) e))
-
-sub-joined-zero-2 : tie.Need-sub-joined-zero-2 Inv-loop μ-loop
-sub-joined-zero-2 c = omega arith
-
-part-joined-zero-start-2 : tie.Need-part-joined-zero-start-2 Inv-loop μ-loop
-part-joined-zero-start-2 c = omega arith
-
-part-joined-zero-end-2 : tie.Need-part-joined-zero-end-2 Inv-loop μ-loop
-part-joined-zero-end-2 c = omega arith
 
 joined-zero-requires-2 : tie.Need-joined-zero-requires-2 Inv-loop μ-loop
 joined-zero-requires-2 c κs = tt
@@ -72,23 +45,6 @@ returns-2 c =
     c .joined-zero2 .ensures ∙ (ap zeros (take-all (length s - l .at) (drop (l .at) s) (omega (arith, length-drop (l .at) s))) ∙ sym (l .inv .1))
 
 pub all-zero-spec : {M : Type 1} → statement M
-all-zero-spec =
-    tie.close
-    (tie.spec
-    Inv-loop
-    μ-loop
-    loop-holds
-    sub-loop
-    add-end
-    sub-joined-zero
-    part-joined-zero-start
-    part-joined-zero-end
-    joined-zero-requires
-    returns
-    loop-less
-    loop-again
-    sub-joined-zero-2
-    part-joined-zero-start-2
-    part-joined-zero-end-2
-    joined-zero-requires-2
-    returns-2)
+all-zero-spec = tie.close (tie.spec Inv-loop μ-loop loop-holds (λ c. omega arith) (λ c. omega arith) (λ c. omega arith) (λ c. omega arith)
+    (λ c. omega arith) joined-zero-requires returns (λ c. omega arith) loop-again (λ c. omega arith) (λ c. omega arith) (λ c. omega arith)
+    joined-zero-requires-2 returns-2)

@@ -6,17 +6,8 @@ use Rattle.wire.proofs.Runs.{placed-padded}
 use Rattle.wire.proofs.bytes.nonce_of.Statement.{statement}
 use Rattle.wire.proofs.bytes.nonce_of.Tie as tie
 
-slice-aggregate-put : tie.Need-slice-aggregate-put
-slice-aggregate-put c = search needs
-
-part-requires : tie.Need-part-requires
-part-requires c κs = search needs
-
-put-requires : tie.Need-put-requires
-put-requires c κs = search needs
-
 returns : tie.Need-returns
 returns c = placed-padded nonceSize (c .before .before .before .before .before .args .s .now) 0 (c .before .before .part .ensures) (c .before .put .ensures)
 
 pub nonce-of-spec : {M : Type 1} → statement M
-nonce-of-spec = tie.close (tie.spec slice-aggregate-put part-requires put-requires returns)
+nonce-of-spec = tie.close (tie.spec (λ c. search needs) (λ c κs. search needs) (λ c κs. search needs) returns)

@@ -21,29 +21,11 @@ abbrev μ-loop : tie.MeasureT-loop
 returns : tie.Need-returns Inv-loop μ-loop
 returns c = let a = c .before .before .before .args in sym (lengths-differ (a .a .now) (a .b .now) (c .if1 .taken))
 
-byte-at-requires : tie.Need-byte-at-requires Inv-loop μ-loop
-byte-at-requires c κs = search needs
-
-byte-at-requires-2 : tie.Need-byte-at-requires-2 Inv-loop μ-loop
-byte-at-requires-2 c κs = search needs
-
 returns-2 : tie.Need-returns-2 Inv-loop μ-loop
 returns-2 c = let a = c .before .before .before .before .before .before .args in sym (byte-differs (a .a .now) (a .b .now) 3 (λ e. c .if2 .taken (c .before .before .byte-at .ensures ∙ e ∙ sym (c .before .byte-at2 .ensures))))
 
 loop-holds : tie.Need-loop-holds Inv-loop μ-loop
 loop-holds c = (omega arith, refl)
-
-shared-slice-read-all : tie.Need-shared-slice-read-all Inv-loop μ-loop
-shared-slice-read-all c = omega arith
-
-shared-slice-read-all-2 : tie.Need-shared-slice-read-all-2 Inv-loop μ-loop
-shared-slice-read-all-2 c = omega arith
-
-add-i : tie.Need-add-i Inv-loop μ-loop
-add-i c = omega arith
-
-loop-less : tie.Need-loop-less Inv-loop μ-loop
-loop-less c = omega arith
 
 loop-again : tie.Need-loop-again Inv-loop μ-loop
 loop-again c =
@@ -58,19 +40,5 @@ returns-3 c =
     sym (l .inv .1 ∙ same-end (a .a .now) (a .b .now) (l .i) (l .all) (omega arith) (omega arith))
 
 pub same-spec : {M : Type 1} → statement M
-same-spec =
-    tie.close
-    (tie.spec
-    Inv-loop
-    μ-loop
-    returns
-    byte-at-requires
-    byte-at-requires-2
-    returns-2
-    loop-holds
-    shared-slice-read-all
-    shared-slice-read-all-2
-    add-i
-    loop-less
-    loop-again
-    returns-3)
+same-spec = tie.close (tie.spec Inv-loop μ-loop returns (λ c κs. search needs) (λ c κs. search needs) returns-2 loop-holds (λ c. omega arith)
+    (λ c. omega arith) (λ c. omega arith) (λ c. omega arith) loop-again returns-3)

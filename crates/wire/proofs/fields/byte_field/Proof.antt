@@ -9,25 +9,14 @@ use Rattle.wire.proofs.fields.byte_field.Tie as tie
 returns : tie.Need-returns
 returns c = byte-end _ _ (omega arith)
 
-shared-slice-read-wide : tie.Need-shared-slice-read-wide
-shared-slice-read-wide c = search needs
-
-wide-requires : tie.Need-wide-requires
-wide-requires c κs = search needs
-
 returns-2 : tie.Need-returns-2
 returns-2 c = byte-low _ _ (omega arith) (omega arith)
 
 returns-3 : tie.Need-returns-3
 returns-3 c = byte-high _ _ (omega arith) (omega arith) (omega arith)
 
-add-t7 : tie.Need-add-t7
-add-t7 c = search needs
-
 returns-4 : tie.Need-returns-4
 returns-4 c = byte-in _ _ (omega arith) (omega arith) (omega arith) (omega arith)
 
 pub byte-field-spec : {M : Type 1} → statement M
-byte-field-spec =
-    tie.close
-    (tie.spec returns shared-slice-read-wide wide-requires returns-2 returns-3 add-t7 returns-4)
+byte-field-spec = tie.close (tie.spec returns (λ c. search needs) (λ c κs. search needs) returns-2 returns-3 (λ c. search needs) returns-4)

@@ -8,15 +8,6 @@ use Rattle.wire.proofs.Optional.{code-zero, code-high, code-stops}
 use Rattle.wire.proofs.fields.code_field.Statement.{statement}
 use Rattle.wire.proofs.fields.code_field.Tie as tie
 
-byte-field-requires : tie.Need-byte-field-requires
-byte-field-requires c κs = search needs
-
-enum-known-v : tie.Need-enum-known-v
-enum-known-v c = search needs
-
-enum-told : tie.Need-enum-told
-enum-told c = search needs
-
 returns : tie.Need-returns
 unfolding codeF
 returns c = stops-kept _ _ (rw (c .enum-told .given .1) at (c .before .before .byte-field .ensures))
@@ -31,6 +22,4 @@ returns-4 : tie.Need-returns-4
 returns-4 c = code-high (rw (c .before .before .before .v .given .1) at (c .before .before .before .before .before .byte-field .ensures)) (c .before .if1 .left) (omega arith)
 
 pub code-field-spec : {M : Type 1} → statement M
-code-field-spec =
-    tie.close
-    (tie.spec byte-field-requires enum-known-v enum-told returns returns-2 returns-3 returns-4)
+code-field-spec = tie.close (tie.spec (λ c κs. search needs) (λ c. search needs) (λ c. search needs) returns returns-2 returns-3 returns-4)

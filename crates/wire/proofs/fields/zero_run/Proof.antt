@@ -8,26 +8,8 @@ use Prim.Native.Nat.{_+_, _-_}
 use Rattle.wire.proofs.fields.zero_run.Statement.{statement}
 use Rattle.wire.proofs.fields.zero_run.Tie as tie
 
-sub-if1 : tie.Need-sub-if1
-sub-if1 c = search needs
-
 returns : tie.Need-returns
 returns c = inl (c .if1 .taken)
-
-add-end : tie.Need-add-end
-add-end c = search needs
-
-sub-all-zero : tie.Need-sub-all-zero
-sub-all-zero c = search needs
-
-part-all-zero-start : tie.Need-part-all-zero-start
-part-all-zero-start c = search needs
-
-part-all-zero-end : tie.Need-part-all-zero-end
-part-all-zero-end c = search needs
-
-all-zero-requires : tie.Need-all-zero-requires
-all-zero-requires c κs = search needs
 
 returns-2 : tie.Need-returns-2
 returns-2 c =
@@ -44,15 +26,5 @@ returns-3 c =
     inr (omega arith, sym z ∙ c .if2 .left)
 
 pub zero-run-spec : {M : Type 1} → statement M
-zero-run-spec =
-    tie.close
-    (tie.spec
-    sub-if1
-    returns
-    add-end
-    sub-all-zero
-    part-all-zero-start
-    part-all-zero-end
-    all-zero-requires
-    returns-2
-    returns-3)
+zero-run-spec = tie.close (tie.spec (λ c. search needs) returns (λ c. search needs) (λ c. search needs) (λ c. search needs) (λ c. search needs)
+    (λ c κs. search needs) returns-2 returns-3)

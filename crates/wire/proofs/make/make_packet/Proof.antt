@@ -9,48 +9,15 @@ use Rattle.wire.proofs.make.make_packet.Tie as tie
 returns : tie.Need-returns
 returns c = let a = c .before .before .before .before .args in short-buffer (a .head) (a .first .now) (a .second .now) (a .out .now) (omega arith)
 
-sub-if2 : tie.Need-sub-if2
-sub-if2 c = search needs
-
 returns-2 : tie.Need-returns-2
 returns-2 c = let a = c .before .before .before .before .before .args in short-room (a .head) (a .first .now) (a .second .now) (a .out .now) (omega arith) (omega arith)
 
-sub-if3 : tie.Need-sub-if3
-sub-if3 c = search needs
-
-sub-if3-2 : tie.Need-sub-if3-2
-sub-if3-2 c = search needs
-
 returns-3 : tie.Need-returns-3
 returns-3 c = let a = c .before .before .before .before .before .before .args in short-room (a .head) (a .first .now) (a .second .now) (a .out .now) (omega arith) (omega arith)
-
-put-head-requires : tie.Need-put-head-requires
-put-head-requires c κs = search needs
-
-put-requires : tie.Need-put-requires
-put-requires c κs = search needs
-
-put-requires-2 : tie.Need-put-requires-2
-put-requires-2 c κs = search needs
-
-same-length : tie.Need-same-length
-same-length c = search needs
 
 returns-4 : tie.Need-returns-4
 returns-4 c = let a = c .before .before .before .before .before .before .before .before .before .before .before .before .before .before .before .before .before .before .args in packet-made (a .head) (a .first .now) (a .second .now) (a .out .now) (omega arith) (omega arith) (c .before .before .before .before .before .before .before .before .before .before .put-head .ensures) (c .before .before .before .before .before .before .put .ensures) (c .before .before .put2 .ensures)
 
 pub make-packet-spec : {M : Type 1} → statement M
-make-packet-spec =
-    tie.close
-    (tie.spec
-    returns
-    sub-if2
-    returns-2
-    sub-if3
-    sub-if3-2
-    returns-3
-    put-head-requires
-    put-requires
-    put-requires-2
-    same-length
-    returns-4)
+make-packet-spec = tie.close (tie.spec returns (λ c. search needs) returns-2 (λ c. search needs) (λ c. search needs) returns-3 (λ c κs. search needs)
+    (λ c κs. search needs) (λ c κs. search needs) (λ c. search needs) returns-4)

@@ -7,54 +7,30 @@ use Rattle.wire.proofs.Whole.{bare-as, clock-reply-as, store-as, store-
 use Rattle.wire.proofs.packet.body_field.Statement.{statement}
 use Rattle.wire.proofs.packet.body_field.Tie as tie
 
-any-stamp-field-requires : tie.Need-any-stamp-field-requires
-any-stamp-field-requires c κs = search needs
-
 returns : tie.Need-returns
 returns c = let a = c .before .before .before .args in clock-reply-as (shelf (a .t)) (a .s .now) (a .c .at) (a .kind) (c .any-stamp-field .result) (omega arith) (c .any-stamp-field .ensures)
-
-write-field-requires : tie.Need-write-field-requires
-write-field-requires c κs = search needs
 
 returns-2 : tie.Need-returns-2
 returns-2 c = let a = c .before .before .before .before .args in store-as (shelf (a .t)) (a .s .now) (a .c .at) (a .kind) (c .write-field .result) (omega arith) (c .write-field .ensures)
 
-code-field-requires : tie.Need-code-field-requires
-code-field-requires c κs = search needs
-
 returns-3 : tie.Need-returns-3
 returns-3 c = let a = c .before .before .before .before .before .args in store-reply-as (shelf (a .t)) (a .s .now) (a .c .at) (a .kind) (c .code-field .result) (omega arith) (c .code-field .ensures)
-
-any-candidate-field-requires : tie.Need-any-candidate-field-requires
-any-candidate-field-requires c κs = search needs
 
 returns-4 : tie.Need-returns-4
 returns-4 c =
     let a = c .before .before .before .before .before .before .args in
     collect-reply-as (shelf (a .t)) (a .s .now) (a .c .at) (a .kind) (c .any-candidate-field .result) (omega arith) (c .any-candidate-field .ensures)
 
-candidate-field-requires : tie.Need-candidate-field-requires
-candidate-field-requires c κs = search needs
-
 returns-5 : tie.Need-returns-5
 returns-5 c =
     let a = c .before .before .before .before .before .before .before .args in
     complete-as (shelf (a .t)) (a .s .now) (a .c .at) (a .kind) (c .candidate-field .result) (omega arith) (c .candidate-field .ensures)
 
-candidates-field-requires : tie.Need-candidates-field-requires
-candidates-field-requires c κs = search needs
-
 returns-6 : tie.Need-returns-6
 returns-6 c = let a = c .before .before .before .before .before .before .before .before .args in filter-as (shelf (a .t)) (a .s .now) (a .c .at) (a .kind) (c .candidates-field .result) (omega arith) (c .candidates-field .ensures)
 
-held-field-requires : tie.Need-held-field-requires
-held-field-requires c κs = search needs
-
 returns-7 : tie.Need-returns-7
 returns-7 c = let a = c .before .before .before .before .before .before .before .before .before .args in filter-reply-as (shelf (a .t)) (a .s .now) (a .c .at) (a .kind) (c .held-field .result) (omega arith) (c .held-field .ensures)
-
-candidate-field-requires-2 : tie.Need-candidate-field-requires-2
-candidate-field-requires-2 c κs = search needs
 
 returns-8 : tie.Need-returns-8
 returns-8 c = let a = c .before .before .before .before .before .before .before .before .before .before .args in repair-as (shelf (a .t)) (a .s .now) (a .c .at) (a .kind) (c .candidate-field2 .result) (omega arith) (c .candidate-field2 .ensures)
@@ -63,23 +39,6 @@ returns-9 : tie.Need-returns-9
 returns-9 c = let p = c .before .before .before .before .before .before .before .before .before .pre in let a = c .before .before .before .before .before .before .before .before .before .args in bare-as (shelf (a .t)) (a .s .now) (a .c .at) (p .2) (a .kind) (p .0) (p .1) (c .before .before .before .before .before .before .before .if1 .left) (c .before .before .before .before .before .before .if2 .left) (c .before .before .before .before .before .if3 .left) (c .before .before .before .if5 .left) (c .before .before .before .before .if4 .left) (c .before .before .if6 .left) (c .before .if7 .left) (c .if8 .left)
 
 pub body-field-spec : {M : Type 1} → statement M
-body-field-spec =
-    tie.close
-    (tie.spec
-    any-stamp-field-requires
-    returns
-    write-field-requires
-    returns-2
-    code-field-requires
-    returns-3
-    any-candidate-field-requires
-    returns-4
-    candidate-field-requires
-    returns-5
-    candidates-field-requires
-    returns-6
-    held-field-requires
-    returns-7
-    candidate-field-requires-2
-    returns-8
-    returns-9)
+body-field-spec = tie.close (tie.spec (λ c κs. search needs) returns (λ c κs. search needs) returns-2 (λ c κs. search needs) returns-3
+    (λ c κs. search needs) returns-4 (λ c κs. search needs) returns-5 (λ c κs. search needs) returns-6 (λ c κs. search needs) returns-7
+    (λ c κs. search needs) returns-8 returns-9)

@@ -15,87 +15,22 @@ use Rattle.wire.proofs.Whole.{fragment-broken, fragment-read, fragment-
 use Rattle.wire.proofs.packet.fragment.Statement.{statement}
 use Rattle.wire.proofs.packet.fragment.Tie as tie
 
-read-packet-requires : tie.Need-read-packet-requires
-read-packet-requires c κs = search needs
-
-enum-known-head : tie.Need-enum-known-head
-enum-known-head c = search needs
-
-enum-told : tie.Need-enum-told
-enum-told c = search needs
-
-slice-aggregate-result : tie.Need-slice-aggregate-result
-slice-aggregate-result c = search needs
-
 returns : tie.Need-returns
 returns c = fragment-broken (c .before .before .before .before .before .args .packet .now) (rw (c .before .enum-told .given .1) at (c .before .before .before .read-packet .ensures))
-
-add-rest : tie.Need-add-rest
-add-rest c = search needs
-
-rest-requires : tie.Need-rest-requires
-rest-requires c κs = search needs
-
-share-fragment-requires : tie.Need-share-fragment-requires
-share-fragment-requires c κs = search needs
 
 returns-2 : tie.Need-returns-2
 returns-2 c = let s = c .before .before .before .before .before .before .before .before .args .packet .now in let h = c .before .before .before .before .head .given .0 .0 in fragment-read s h (rw (c .before .before .before .before .head .given .1) at (c .before .before .before .before .before .before .read-packet .ensures)) (c .share-fragment .ensures ∙ ap (λ (d : List ℕ). shareAt (shelf (h .t)) d .part) (c .before .rest .ensures ∙ sym (drop-drop stampSize headSize s)) ∙ fragment-store (shelf (h .t)) (drop headSize s) (h .kind) (omega arith))
 
-slice-aggregate-result-2 : tie.Need-slice-aggregate-result-2
-slice-aggregate-result-2 c = search needs
-
 returns-3 : tie.Need-returns-3
 returns-3 c = let s = c .before .before .before .before .before .before .before .before .args .packet .now in let h = c .before .before .before .before .head .given .0 .0 in fragment-read s h (rw (c .before .before .before .before .head .given .1) at (c .before .before .before .before .before .before .read-packet .ensures)) (sym (fragment-none (shelf (h .t)) (drop headSize s) (h .kind) (c .before .before .if1 .left) (c .before .if2 .taken)))
 
-add-byte-at : tie.Need-add-byte-at
-add-byte-at c = search needs
-
-byte-at-requires : tie.Need-byte-at-requires
-byte-at-requires c κs = search needs
-
-slice-aggregate-result-3 : tie.Need-slice-aggregate-result-3
-slice-aggregate-result-3 c = search needs
-
 returns-4 : tie.Need-returns-4
 returns-4 c = let s = c .before .before .before .before .before .before .before .before .before .before .args .packet .now in let h = c .before .before .before .before .before .before .head .given .0 .0 in fragment-read s h (rw (c .before .before .before .before .before .before .head .given .1) at (c .before .before .before .before .before .before .before .before .read-packet .ensures)) (sym (fragment-absent (shelf (h .t)) (drop headSize s) (h .kind) (omega arith) (getD-drop headSize s stampSize 0 ∙ sym (c .before .before .byte-at .ensures) ∙ omega arith)))
-
-add-rest-2 : tie.Need-add-rest-2
-add-rest-2 c = search needs
-
-add-rest-3 : tie.Need-add-rest-3
-add-rest-3 c = search needs
-
-rest-requires-2 : tie.Need-rest-requires-2
-rest-requires-2 c κs = search needs
-
-share-fragment-requires-2 : tie.Need-share-fragment-requires-2
-share-fragment-requires-2 c κs = search needs
 
 returns-5 : tie.Need-returns-5
 returns-5 c = let s = c .before .before .before .before .before .before .before .before .before .before .before .args .packet .now in let h = c .before .before .before .before .before .before .before .head .given .0 .0 in fragment-read s h (rw (c .before .before .before .before .before .before .before .head .given .1) at (c .before .before .before .before .before .before .before .before .before .read-packet .ensures)) (c .share-fragment2 .ensures ∙ ap (λ (d : List ℕ). shareAt (shelf (h .t)) d .part) (c .before .rest2 .ensures ∙ sym (drop-drop (stampSize + 1) headSize s)) ∙ fragment-present (shelf (h .t)) (drop headSize s) (h .kind) (omega arith) (λ e. c .before .before .if3 .left (c .before .before .before .byte-at .ensures ∙ sym (getD-drop headSize s stampSize 0) ∙ e)))
 
 pub fragment-spec : {M : Type 1} → statement M
-fragment-spec =
-    tie.close
-    (tie.spec
-    read-packet-requires
-    enum-known-head
-    enum-told
-    slice-aggregate-result
-    returns
-    add-rest
-    rest-requires
-    share-fragment-requires
-    returns-2
-    slice-aggregate-result-2
-    returns-3
-    add-byte-at
-    byte-at-requires
-    slice-aggregate-result-3
-    returns-4
-    add-rest-2
-    add-rest-3
-    rest-requires-2
-    share-fragment-requires-2
-    returns-5)
+fragment-spec = tie.close (tie.spec (λ c κs. search needs) (λ c. search needs) (λ c. search needs) (λ c. search needs) returns (λ c. search needs)
+    (λ c κs. search needs) (λ c κs. search needs) returns-2 (λ c. search needs) returns-3 (λ c. search needs) (λ c κs. search needs)
+    (λ c. search needs) returns-4 (λ c. search needs) (λ c. search needs) (λ c κs. search needs) (λ c κs. search needs) returns-5)

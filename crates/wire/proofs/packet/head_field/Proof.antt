@@ -9,78 +9,21 @@ use Rattle.wire.proofs.Heads.{head-took, head-outside, byte-range}
 use Rattle.wire.proofs.packet.head_field.Statement.{statement}
 use Rattle.wire.proofs.packet.head_field.Tie as tie
 
-byte-field-requires : tie.Need-byte-field-requires
-byte-field-requires c κs = search needs
-
-enum-known-kind : tie.Need-enum-known-kind
-enum-known-kind c = search needs
-
-enum-told : tie.Need-enum-told
-enum-told c = search needs
-
 returns : tie.Need-returns
 unfolding headF
 returns c = stops-kept _ _ (stops-via _ _ _ (stops-first _ _ (rw (c .enum-told .given .1) at (c .before .before .byte-field .ensures))))
-
-cast-byte-field : tie.Need-cast-byte-field
-cast-byte-field c = search needs
-
-byte-field-requires-2 : tie.Need-byte-field-requires-2
-byte-field-requires-2 c κs = search needs
-
-enum-known-client : tie.Need-enum-known-client
-enum-known-client c = search needs
-
-enum-told-2 : tie.Need-enum-told-2
-enum-told-2 c = search needs
 
 returns-2 : tie.Need-returns-2
 unfolding headF
 returns-2 c = stops-kept _ _ (stops-via _ _ _ (stops-second _ _ ((rw (c .before .before .before .before .kind .given .1) at (c .before .before .before .before .before .before .byte-field .ensures)) .leaves) (stops-first _ _ (rw (c .enum-told2 .given .1) at (c .before .before .byte-field2 .ensures)))))
 
-cast-byte-field-2 : tie.Need-cast-byte-field-2
-cast-byte-field-2 c = search needs
-
-byte-field-requires-3 : tie.Need-byte-field-requires-3
-byte-field-requires-3 c κs = search needs
-
-enum-known-server : tie.Need-enum-known-server
-enum-known-server c = search needs
-
-enum-told-3 : tie.Need-enum-told-3
-enum-told-3 c = search needs
-
 returns-3 : tie.Need-returns-3
 unfolding headF
 returns-3 c = stops-kept _ _ (stops-via _ _ _ (stops-second _ _ ((rw (c .before .before .before .before .before .before .before .before .kind .given .1) at (c .before .before .before .before .before .before .before .before .before .before .byte-field .ensures)) .leaves) (stops-second _ _ ((rw (c .before .before .before .before .client .given .1) at (c .before .before .before .before .before .before .byte-field2 .ensures)) .leaves) (stops-first _ _ (rw (c .enum-told3 .given .1) at (c .before .before .byte-field3 .ensures))))))
 
-cast-byte-field-3 : tie.Need-cast-byte-field-3
-cast-byte-field-3 c = search needs
-
-byte-field-requires-4 : tie.Need-byte-field-requires-4
-byte-field-requires-4 c κs = search needs
-
-enum-known-t : tie.Need-enum-known-t
-enum-known-t c = search needs
-
-enum-told-4 : tie.Need-enum-told-4
-enum-told-4 c = search needs
-
 returns-4 : tie.Need-returns-4
 unfolding headF
 returns-4 c = stops-kept _ _ (stops-via _ _ _ (stops-second _ _ ((rw (c .before .before .before .before .before .before .before .before .before .before .before .before .kind .given .1) at (c .before .before .before .before .before .before .before .before .before .before .before .before .before .before .byte-field .ensures)) .leaves) (stops-second _ _ ((rw (c .before .before .before .before .before .before .before .before .client .given .1) at (c .before .before .before .before .before .before .before .before .before .before .byte-field2 .ensures)) .leaves) (stops-second _ _ ((rw (c .before .before .before .before .server .given .1) at (c .before .before .before .before .before .before .byte-field3 .ensures)) .leaves) (stops-first _ _ (rw (c .enum-told4 .given .1) at (c .before .before .byte-field4 .ensures)))))))
-
-cast-number4-field : tie.Need-cast-number4-field
-cast-number4-field c = search needs
-
-number4-field-requires : tie.Need-number4-field-requires
-number4-field-requires c κs = search needs
-
-enum-known-call : tie.Need-enum-known-call
-enum-known-call c = search needs
-
-enum-told-5 : tie.Need-enum-told-5
-enum-told-5 c = search needs
 
 returns-5 : tie.Need-returns-5
 unfolding headF
@@ -111,38 +54,7 @@ returns-7 : tie.Need-returns-7
 returns-7 c = head-took (rw (c .before .before .before .before .before .before .before .before .before .before .before .before .before .before .before .before .before .before .kind .given .1) at (c .before .before .before .before .before .before .before .before .before .before .before .before .before .before .before .before .before .before .before .before .byte-field .ensures)) (rw (c .before .before .before .before .before .before .before .before .before .before .before .before .before .before .client .given .1) at (c .before .before .before .before .before .before .before .before .before .before .before .before .before .before .before .before .byte-field2 .ensures)) (rw (c .before .before .before .before .before .before .before .before .before .before .server .given .1) at (c .before .before .before .before .before .before .before .before .before .before .before .before .byte-field3 .ensures)) (rw (c .before .before .before .before .before .before .t .given .1) at (c .before .before .before .before .before .before .before .before .byte-field4 .ensures)) (rw (c .before .before .call .given .1) at (c .before .before .before .before .number4-field .ensures)) (omega arith)
 
 pub head-field-spec : {M : Type 1} → statement M
-head-field-spec =
-    tie.close
-    (tie.spec
-    byte-field-requires
-    enum-known-kind
-    enum-told
-    returns
-    cast-byte-field
-    byte-field-requires-2
-    enum-known-client
-    enum-told-2
-    returns-2
-    cast-byte-field-2
-    byte-field-requires-3
-    enum-known-server
-    enum-told-3
-    returns-3
-    cast-byte-field-3
-    byte-field-requires-4
-    enum-known-t
-    enum-told-4
-    returns-4
-    cast-number4-field
-    number4-field-requires
-    enum-known-call
-    enum-told-5
-    returns-5
-    mul-if1
-    add-if1
-    returns-6
-    cast-t21
-    cast-t22
-    cast-t23
-    cast-t24
-    returns-7)
+head-field-spec = tie.close (tie.spec (λ c κs. search needs) (λ c. search needs) (λ c. search needs) returns (λ c. search needs)
+    (λ c κs. search needs) (λ c. search needs) (λ c. search needs) returns-2 (λ c. search needs) (λ c κs. search needs) (λ c. search needs)
+    (λ c. search needs) returns-3 (λ c. search needs) (λ c κs. search needs) (λ c. search needs) (λ c. search needs) returns-4 (λ c. search needs)
+    (λ c κs. search needs) (λ c. search needs) (λ c. search needs) returns-5 mul-if1 add-if1 returns-6 cast-t21 cast-t22 cast-t23 cast-t24 returns-7)

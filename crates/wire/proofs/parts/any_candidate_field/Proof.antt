@@ -13,27 +13,6 @@ use Rattle.wire.proofs.parts.any_candidate_field.Tie as tie
 returns : tie.Need-returns
 returns c = past-any-candidate (shelf (c .before .before .args .t)) (omega arith)
 
-candidate-field-requires : tie.Need-candidate-field-requires
-candidate-field-requires c κs = search needs
-
-enum-known-number : tie.Need-enum-known-number
-enum-known-number c = search needs
-
-enum-told : tie.Need-enum-told
-enum-told c = search needs
-
-candidate-size-requires : tie.Need-candidate-size-requires
-candidate-size-requires c κs = search needs
-
-zero-run-requires : tie.Need-zero-run-requires
-zero-run-requires c κs = search needs
-
-enum-known-c1 : tie.Need-enum-known-c1
-enum-known-c1 c = search needs
-
-enum-told-2 : tie.Need-enum-told-2
-enum-told-2 c = search needs
-
 returns-2 : tie.Need-returns-2
 unfolding anyCandidateF
 returns-2 c = ⊎-elim (λ h. stops-short _ _ _ (rw (c .before .before .before .before .enum-told .given .1) at (c .before .before .before .before .before .before .candidate-field .ensures)) h) (λ h. stops-blank _ _ _ (rw (c .before .before .before .before .enum-told .given .1) at (c .before .before .before .before .before .before .candidate-field .ensures)) (h .0) (h .1)) (rw (c .before .before .before .candidate-size .ensures) at (rw (c .enum-told2 .given .1) at (c .before .before .zero-run .ensures)))
@@ -45,17 +24,5 @@ returns-4 : tie.Need-returns-4
 returns-4 c = blank-candidate-took (shelf (c .before .before .before .before .before .before .before .before .before .before .args .t)) (rw (c .before .before .before .before .before .enum-told .given .1) at (c .before .before .before .before .before .before .before .candidate-field .ensures)) ((rw (c .before .before .before .before .candidate-size .ensures) at (rw (c .before .c1 .given .1) at (c .before .before .before .zero-run .ensures))) .within) ((rw (c .before .before .before .before .candidate-size .ensures) at (rw (c .before .c1 .given .1) at (c .before .before .before .zero-run .ensures))) .zero) ((rw (c .before .before .before .before .candidate-size .ensures) at (rw (c .before .c1 .given .1) at (c .before .before .before .zero-run .ensures))) .place)
 
 pub any-candidate-field-spec : {M : Type 1} → statement M
-any-candidate-field-spec =
-    tie.close
-    (tie.spec
-    returns
-    candidate-field-requires
-    enum-known-number
-    enum-told
-    candidate-size-requires
-    zero-run-requires
-    enum-known-c1
-    enum-told-2
-    returns-2
-    returns-3
-    returns-4)
+any-candidate-field-spec = tie.close (tie.spec returns (λ c κs. search needs) (λ c. search needs) (λ c. search needs) (λ c κs. search needs)
+    (λ c κs. search needs) (λ c. search needs) (λ c. search needs) returns-2 returns-3 returns-4)

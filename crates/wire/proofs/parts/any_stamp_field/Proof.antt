@@ -12,24 +12,6 @@ use Rattle.wire.proofs.parts.any_stamp_field.Tie as tie
 returns : tie.Need-returns
 returns c = past-any-stamp (omega arith)
 
-stamp-field-requires : tie.Need-stamp-field-requires
-stamp-field-requires c κs = search needs
-
-enum-known-number : tie.Need-enum-known-number
-enum-known-number c = search needs
-
-enum-told : tie.Need-enum-told
-enum-told c = search needs
-
-zero-run-requires : tie.Need-zero-run-requires
-zero-run-requires c κs = search needs
-
-enum-known-c1 : tie.Need-enum-known-c1
-enum-known-c1 c = search needs
-
-enum-told-2 : tie.Need-enum-told-2
-enum-told-2 c = search needs
-
 returns-2 : tie.Need-returns-2
 unfolding anyStampF
 returns-2 c = ⊎-elim (λ h. stops-short _ _ _ (rw (c .before .before .before .enum-told .given .1) at (c .before .before .before .before .before .stamp-field .ensures)) h) (λ h. stops-blank _ _ _ (rw (c .before .before .before .enum-told .given .1) at (c .before .before .before .before .before .stamp-field .ensures)) (h .0) (h .1)) (rw (c .enum-told2 .given .1) at (c .before .before .zero-run .ensures))
@@ -41,16 +23,5 @@ returns-4 : tie.Need-returns-4
 returns-4 c = blank-stamp-took (rw (c .before .before .before .before .enum-told .given .1) at (c .before .before .before .before .before .before .stamp-field .ensures)) ((rw (c .before .c1 .given .1) at (c .before .before .before .zero-run .ensures)) .within) ((rw (c .before .c1 .given .1) at (c .before .before .before .zero-run .ensures)) .zero) ((rw (c .before .c1 .given .1) at (c .before .before .before .zero-run .ensures)) .place)
 
 pub any-stamp-field-spec : {M : Type 1} → statement M
-any-stamp-field-spec =
-    tie.close
-    (tie.spec
-    returns
-    stamp-field-requires
-    enum-known-number
-    enum-told
-    zero-run-requires
-    enum-known-c1
-    enum-told-2
-    returns-2
-    returns-3
-    returns-4)
+any-stamp-field-spec = tie.close (tie.spec returns (λ c κs. search needs) (λ c. search needs) (λ c. search needs) (λ c κs. search needs)
+    (λ c. search needs) (λ c. search needs) returns-2 returns-3 returns-4)

@@ -9,45 +9,15 @@ use Rattle.wire.proofs.Optional.{held-absent, held-present, held-flag-s
 use Rattle.wire.proofs.parts.held_field.Statement.{statement}
 use Rattle.wire.proofs.parts.held_field.Tie as tie
 
-any-stamp-field-requires : tie.Need-any-stamp-field-requires
-any-stamp-field-requires c κs = search needs
-
-enum-known-number : tie.Need-enum-known-number
-enum-known-number c = search needs
-
-enum-told : tie.Need-enum-told
-enum-told c = search needs
-
 returns : tie.Need-returns
 unfolding heldF
 returns c = stops-via _ _ _ (stops-first _ _ (rw (c .enum-told .given .1) at (c .before .before .any-stamp-field .ensures)))
-
-held-most-requires : tie.Need-held-most-requires
-held-most-requires c κs = search needs
-
-byte-field-requires : tie.Need-byte-field-requires
-byte-field-requires c κs = search needs
-
-enum-known-flag : tie.Need-enum-known-flag
-enum-known-flag c = search needs
-
-enum-told-2 : tie.Need-enum-told-2
-enum-told-2 c = search needs
 
 returns-2 : tie.Need-returns-2
 returns-2 c = held-flag-stops (shelf (c .before .before .before .before .before .before .before .before .before .args .t)) (c .before .before .before .held-most .result) (rw (c .before .before .before .before .before .number .given .1) at (c .before .before .before .before .before .before .before .any-stamp-field .ensures)) (c .before .before .before .held-most .ensures) (rw (c .enum-told2 .given .1) at (c .before .before .byte-field .ensures))
 
 returns-3 : tie.Need-returns-3
 returns-3 c = held-absent (shelf (c .before .before .before .before .before .before .before .before .before .before .before .args .t)) (c .before .before .before .before .before .held-most .result) (rw (c .before .before .before .before .before .before .before .number .given .1) at (c .before .before .before .before .before .before .before .before .before .any-stamp-field .ensures)) (c .before .before .before .before .before .held-most .ensures) (rw (c .before .before .flag .given .1) at (c .before .before .before .before .byte-field .ensures)) (omega arith)
-
-share-field-requires : tie.Need-share-field-requires
-share-field-requires c κs = search needs
-
-enum-known-n : tie.Need-enum-known-n
-enum-known-n c = search needs
-
-enum-told-3 : tie.Need-enum-told-3
-enum-told-3 c = search needs
 
 returns-4 : tie.Need-returns-4
 returns-4 c = held-share-stops (shelf (c .before .before .before .before .before .before .before .before .before .before .before .before .before .before .args .t)) (c .before .before .before .before .before .before .before .before .held-most .result) (rw (c .before .before .before .before .before .before .before .before .before .before .number .given .1) at (c .before .before .before .before .before .before .before .before .before .before .before .before .any-stamp-field .ensures)) (c .before .before .before .before .before .before .before .before .held-most .ensures) (rw (c .before .before .before .before .before .flag .given .1) at (c .before .before .before .before .before .before .before .byte-field .ensures)) (c .before .before .before .if1 .left) (rw (c .enum-told3 .given .1) at (c .before .before .share-field .ensures))
@@ -56,21 +26,6 @@ returns-5 : tie.Need-returns-5
 returns-5 c = held-present (shelf (c .before .before .before .before .before .before .before .before .before .before .before .before .before .before .before .args .t)) (c .before .before .before .before .before .before .before .before .before .held-most .result) (rw (c .before .before .before .before .before .before .before .before .before .before .before .number .given .1) at (c .before .before .before .before .before .before .before .before .before .before .before .before .before .any-stamp-field .ensures)) (c .before .before .before .before .before .before .before .before .before .held-most .ensures) (rw (c .before .before .before .before .before .before .flag .given .1) at (c .before .before .before .before .before .before .before .before .byte-field .ensures)) (c .before .before .before .before .if1 .left) (rw (c .before .n .given .1) at (c .before .before .before .share-field .ensures))
 
 pub held-field-spec : {M : Type 1} → statement M
-held-field-spec =
-    tie.close
-    (tie.spec
-    any-stamp-field-requires
-    enum-known-number
-    enum-told
-    returns
-    held-most-requires
-    byte-field-requires
-    enum-known-flag
-    enum-told-2
-    returns-2
-    returns-3
-    share-field-requires
-    enum-known-n
-    enum-told-3
-    returns-4
-    returns-5)
+held-field-spec = tie.close (tie.spec (λ c κs. search needs) (λ c. search needs) (λ c. search needs) returns (λ c κs. search needs)
+    (λ c κs. search needs) (λ c. search needs) (λ c. search needs) returns-2 returns-3 (λ c κs. search needs) (λ c. search needs) (λ c. search needs)
+    returns-4 returns-5)

@@ -7,33 +7,9 @@ use Rattle.wire.proofs.Through.{stamp-took}
 use Rattle.wire.proofs.parts.stamp_field.Statement.{statement}
 use Rattle.wire.proofs.parts.stamp_field.Tie as tie
 
-cast-number4-field : tie.Need-cast-number4-field
-cast-number4-field c = search needs
-
-number4-field-requires : tie.Need-number4-field-requires
-number4-field-requires c κs = search needs
-
-enum-known-number : tie.Need-enum-known-number
-enum-known-number c = search needs
-
-enum-told : tie.Need-enum-told
-enum-told c = search needs
-
 returns : tie.Need-returns
 unfolding stampF
 returns c = stops-via _ _ _ (stops-first _ _ (rw (c .enum-told .given .1) at (c .before .before .number4-field .ensures)))
-
-cast-byte-field : tie.Need-cast-byte-field
-cast-byte-field c = search needs
-
-byte-field-requires : tie.Need-byte-field-requires
-byte-field-requires c κs = search needs
-
-enum-known-writer : tie.Need-enum-known-writer
-enum-known-writer c = search needs
-
-enum-told-2 : tie.Need-enum-told-2
-enum-told-2 c = search needs
 
 returns-2 : tie.Need-returns-2
 unfolding stampF
@@ -41,12 +17,6 @@ returns-2 c = stops-via _ _ _ (stops-second _ _ ((rw (c .before .before .before 
 
 run-field-requires : tie.Need-run-field-requires
 run-field-requires c κs = (rw (c .before .writer .given .1) at (c .before .before .before .byte-field .ensures)) .leaves .within
-
-enum-known-c3 : tie.Need-enum-known-c3
-enum-known-c3 c = search needs
-
-enum-told-3 : tie.Need-enum-told-3
-enum-told-3 c = search needs
 
 returns-3 : tie.Need-returns-3
 unfolding stampF
@@ -56,21 +26,6 @@ returns-4 : tie.Need-returns-4
 returns-4 c = stamp-took (rw (c .before .before .before .before .before .before .before .before .before .number .given .1) at (c .before .before .before .before .before .before .before .before .before .before .before .number4-field .ensures)) (rw (c .before .before .before .before .before .writer .given .1) at (c .before .before .before .before .before .before .before .byte-field .ensures)) (rw (c .before .c3 .given .1) at (c .before .before .before .run-field .ensures))
 
 pub stamp-field-spec : {M : Type 1} → statement M
-stamp-field-spec =
-    tie.close
-    (tie.spec
-    cast-number4-field
-    number4-field-requires
-    enum-known-number
-    enum-told
-    returns
-    cast-byte-field
-    byte-field-requires
-    enum-known-writer
-    enum-told-2
-    returns-2
-    run-field-requires
-    enum-known-c3
-    enum-told-3
-    returns-3
+stamp-field-spec = tie.close (tie.spec (λ c. search needs) (λ c κs. search needs) (λ c. search needs) (λ c. search needs) returns (λ c. search needs)
+    (λ c κs. search needs) (λ c. search needs) (λ c. search needs) returns-2 run-field-requires (λ c. search needs) (λ c. search needs) returns-3
     returns-4)

@@ -8,27 +8,9 @@ use Rattle.wire.proofs.Through.{write-took}
 use Rattle.wire.proofs.parts.write_field.Statement.{statement}
 use Rattle.wire.proofs.parts.write_field.Tie as tie
 
-stamp-field-requires : tie.Need-stamp-field-requires
-stamp-field-requires c κs = search needs
-
-enum-known-number : tie.Need-enum-known-number
-enum-known-number c = search needs
-
-enum-told : tie.Need-enum-told
-enum-told c = search needs
-
 returns : tie.Need-returns
 unfolding writeF
 returns c = stops-via _ _ _ (stops-first _ _ (rw (c .enum-told .given .1) at (c .before .before .stamp-field .ensures)))
-
-share-field-requires : tie.Need-share-field-requires
-share-field-requires c κs = search needs
-
-enum-known-n : tie.Need-enum-known-n
-enum-known-n c = search needs
-
-enum-told-2 : tie.Need-enum-told-2
-enum-told-2 c = search needs
 
 returns-2 : tie.Need-returns-2
 unfolding writeF
@@ -38,15 +20,5 @@ returns-3 : tie.Need-returns-3
 returns-3 c = write-took (shelf (c .before .before .before .before .before .before .before .before .before .args .t)) (rw (c .before .before .before .before .before .number .given .1) at (c .before .before .before .before .before .before .before .stamp-field .ensures)) (rw (c .before .n .given .1) at (c .before .before .before .share-field .ensures))
 
 pub write-field-spec : {M : Type 1} → statement M
-write-field-spec =
-    tie.close
-    (tie.spec
-    stamp-field-requires
-    enum-known-number
-    enum-told
-    returns
-    share-field-requires
-    enum-known-n
-    enum-told-2
-    returns-2
-    returns-3)
+write-field-spec = tie.close (tie.spec (λ c κs. search needs) (λ c. search needs) (λ c. search needs) returns (λ c κs. search needs)
+    (λ c. search needs) (λ c. search needs) returns-2 returns-3)

@@ -5,12 +5,6 @@ use Rattle.cluster.specs.Config.{shelf}
 use Rattle.wire.proofs.sizes.candidate_size.Statement.{statement}
 use Rattle.wire.proofs.sizes.candidate_size.Tie as tie
 
-add-result : tie.Need-add-result
-add-result c = search needs
-
-servers-requires : tie.Need-servers-requires
-servers-requires c κs = search needs
-
 mul-result : tie.Need-mul-result
 unfolding shelf
 mul-result c = search needs
@@ -24,4 +18,4 @@ unfolding shelf
 returns c = search needs
 
 pub candidate-size-spec : {M : Type 1} → statement M
-candidate-size-spec = tie.close (tie.spec add-result servers-requires mul-result add-result-2 returns)
+candidate-size-spec = tie.close (tie.spec (λ c. search needs) (λ c κs. search needs) mul-result add-result-2 returns)

@@ -9,60 +9,26 @@ use borrow.Author.Needs.{needs}
 use Rattle.wire.proofs.sizes.fragment_size.Statement.{statement}
 use Rattle.wire.proofs.sizes.fragment_size.Tie as tie
 
-add-result : tie.Need-add-result
-add-result c = search needs
-
 returns : tie.Need-returns
 unfolding shelf fragmentSize
 returns c = rw (c .if1 .taken) (ap (λ (z : ℕ). z / 2) (let e : c .before .args .n + 1 ≡ c .before .args .n + 2 - 1 = omega arith in e))
-
-add-result-2 : tie.Need-add-result-2
-add-result-2 c = search needs
 
 returns-2 : tie.Need-returns-2
 unfolding shelf fragmentSize
 returns-2 c = rw (c .if2 .taken) (ap (λ (z : ℕ). z / 3) (let e : c .before .before .args .n + 2 ≡ c .before .before .args .n + 3 - 1 = omega arith in e))
 
-add-result-3 : tie.Need-add-result-3
-add-result-3 c = search needs
-
 returns-3 : tie.Need-returns-3
 unfolding shelf fragmentSize
 returns-3 c = rw (c .if3 .taken) (ap (λ (z : ℕ). z / 4) (let e : c .before .before .before .args .n + 3 ≡ c .before .before .before .args .n + 4 - 1 = omega arith in e))
 
-add-result-4 : tie.Need-add-result-4
-add-result-4 c = search needs
-
 returns-4 : tie.Need-returns-4
 unfolding shelf fragmentSize
 returns-4 c = rw (c .if4 .taken) (ap (λ (z : ℕ). z / 5) (let e : c .before .before .before .before .args .n + 4 ≡ c .before .before .before .before .args .n + 5 - 1 = omega arith in e))
-
-add-result-5 : tie.Need-add-result-5
-add-result-5 c = search needs
-
-add-result-6 : tie.Need-add-result-6
-add-result-6 c = search needs
-
-div-result : tie.Need-div-result
-div-result c = search needs
 
 returns-5 : tie.Need-returns-5
 unfolding shelf fragmentSize
 returns-5 c = ap (λ (z : ℕ). z / (c .before .before .before .before .args .t + 1)) (omega arith)
 
 pub fragment-size-spec : {M : Type 1} → statement M
-fragment-size-spec =
-    tie.close
-    (tie.spec
-    add-result
-    returns
-    add-result-2
-    returns-2
-    add-result-3
-    returns-3
-    add-result-4
-    returns-4
-    add-result-5
-    add-result-6
-    div-result
-    returns-5)
+fragment-size-spec = tie.close (tie.spec (λ c. search needs) returns (λ c. search needs) returns-2 (λ c. search needs) returns-3 (λ c. search needs)
+    returns-4 (λ c. search needs) (λ c. search needs) (λ c. search needs) returns-5)

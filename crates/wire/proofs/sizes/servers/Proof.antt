@@ -5,15 +5,9 @@ use Rattle.cluster.specs.Config.{shelf}
 use Rattle.wire.proofs.sizes.servers.Statement.{statement}
 use Rattle.wire.proofs.sizes.servers.Tie as tie
 
-mul-result : tie.Need-mul-result
-mul-result c = search needs
-
-add-result : tie.Need-add-result
-add-result c = search needs
-
 returns : tie.Need-returns
 unfolding shelf
 returns c = search needs
 
 pub servers-spec : {M : Type 1} → statement M
-servers-spec = tie.close (tie.spec mul-result add-result returns)
+servers-spec = tie.close (tie.spec (λ c. search needs) (λ c. search needs) returns)

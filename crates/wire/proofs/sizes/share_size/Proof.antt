@@ -7,14 +7,8 @@ use Rattle.wire.proofs.Lengths.{fragment-few}
 use Rattle.wire.proofs.sizes.share_size.Statement.{statement}
 use Rattle.wire.proofs.sizes.share_size.Tie as tie
 
-fragment-size-requires : tie.Need-fragment-size-requires
-fragment-size-requires c κs = search needs
-
 add-result : tie.Need-add-result
 add-result c = omega (arith, c .fragment-size .ensures, fragment-few (c .before .args .t) (c .before .args .n))
-
-digests-size-requires : tie.Need-digests-size-requires
-digests-size-requires c κs = search needs
 
 add-result-2 : tie.Need-add-result-2
 unfolding shelf
@@ -23,9 +17,6 @@ add-result-2 c = omega (arith, c .before .fragment-size .ensures, fragment-few (
 add-result-3 : tie.Need-add-result-3
 unfolding shelf
 add-result-3 c = omega (arith, c .before .fragment-size .ensures, fragment-few (c .before .before .args .t) (c .before .before .args .n), c .digests-size .ensures)
-
-tags-size-requires : tie.Need-tags-size-requires
-tags-size-requires c κs = search needs
 
 add-result-4 : tie.Need-add-result-4
 unfolding shelf
@@ -36,14 +27,5 @@ unfolding shareSize
 returns c = rw (c .tags-size .ensures, c .before .digests-size .ensures, c .before .before .fragment-size .ensures)
 
 pub share-size-spec : {M : Type 1} → statement M
-share-size-spec =
-    tie.close
-    (tie.spec
-    fragment-size-requires
-    add-result
-    digests-size-requires
-    add-result-2
-    add-result-3
-    tags-size-requires
-    add-result-4
-    returns)
+share-size-spec = tie.close (tie.spec (λ c κs. search needs) add-result (λ c κs. search needs) add-result-2 add-result-3 (λ c κs. search needs)
+    add-result-4 returns)

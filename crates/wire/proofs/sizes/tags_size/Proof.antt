@@ -5,9 +5,6 @@ use Rattle.cluster.specs.Config.{shelf}
 use Rattle.wire.proofs.sizes.tags_size.Statement.{statement}
 use Rattle.wire.proofs.sizes.tags_size.Tie as tie
 
-servers-requires : tie.Need-servers-requires
-servers-requires c κs = search needs
-
 mul-result : tie.Need-mul-result
 unfolding shelf
 mul-result c = search needs
@@ -17,4 +14,4 @@ unfolding shelf
 returns c = search needs
 
 pub tags-size-spec : {M : Type 1} → statement M
-tags-size-spec = tie.close (tie.spec servers-requires mul-result returns)
+tags-size-spec = tie.close (tie.spec (λ c κs. search needs) mul-result returns)

@@ -29,25 +29,8 @@ returns c = other-number _ _ (c .if1 .taken)
 returns-2 : tie.Need-returns-2
 returns-2 c = other-writer _ _ (omega arith) (c .if2 .taken)
 
-slice-aggregate-same : tie.Need-slice-aggregate-same
-slice-aggregate-same c = search needs
-
-slice-aggregate-same-2 : tie.Need-slice-aggregate-same-2
-slice-aggregate-same-2 c = search needs
-
-same-requires : tie.Need-same-requires
-same-requires c κs = search needs
-
 returns-3 : tie.Need-returns-3
 returns-3 c = c .same .ensures ∙ by-tag _ _ (omega arith) (omega arith)
 
 pub same-stamp-spec : {M : Type 1} → statement M
-same-stamp-spec =
-    tie.close
-    (tie.spec
-    returns
-    returns-2
-    slice-aggregate-same
-    slice-aggregate-same-2
-    same-requires
-    returns-3)
+same-stamp-spec = tie.close (tie.spec returns returns-2 (λ c. search needs) (λ c. search needs) (λ c κs. search needs) returns-3)
