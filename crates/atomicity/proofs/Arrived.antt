@@ -10,32 +10,34 @@ use Prim.Native.Nat.{ℕ, _+_, _*_, _≤_}
 use native.Mathlib.Omega.{arith}
 use lib.Dec.{ltb}
 use lib.ListN.{length, length-append}
-use borrow.Author.Tests.{leb-true, le-leb, eq-eqb}
-use Rattle.cluster.specs.Ranges.{within, topFaults, topClient, topNumber, capacity, contentRoom}
+use borrow.Author.Tests.{leb-true, eq-eqb}
+use Rattle.cluster.specs.Ranges.{topFaults, topClient, topNumber, capacity, contentRoom}
 use Rattle.cluster.specs.Refusals.{onRefusal}
 use Rattle.protocol.specs.declared.Stamp.{Stamp}
 use Rattle.protocol.specs.Values.{Candidate, blankCandidate}
 use Rattle.protocol.specs.Packet.{Body, Packet, kindOf, decode}
 use Rattle.protocol.specs.Rules.{upd}
 use Rattle.protocol.specs.Server.{act}
-use Rattle.protocol.specs.Client.{Client, Hand, Turn, refused, idle, clocking, storing, completing, collecting, filtering, repairing, awaits, isIdle, isFull, tooHigh, highAt, badFaults}
+use Rattle.protocol.specs.Client.{Client, Hand, Turn, refused, idle, clocking, storing, completing, collecting, filtering, repairing, awaits, isIdle, isFull, tooHigh, highAt, badFaults, accepted}
 use Rattle.protocol.specs.Client.{onto, begun, higher, stampIn, codeIn}
 use Rattle.protocol.specs.Runs.{Step, take-reply, World, nowValues}
 use Rattle.atomicity.specs.Lists.{Ever}
-use Rattle.atomicity.specs.Steps.{accepted, serves, stampedAt}
+use Rattle.atomicity.specs.Steps.{serves, stampedAt}
 use Rattle.atomicity.specs.Premises.{Sent}
 use Rattle.atomicity.specs.Claim.{cameIn}
-use Rattle.atomicity.proofs.Util.{clash, and-right, and-intro, ever-map, ever-with, ever-out, rise}
+use Rattle.atomicity.proofs.Util.{clash, and-right, ever-map, ever-with, ever-out, rise, within-in}
 use Rattle.atomicity.proofs.Model.{perform, now, account, marks, turn}
 use Rattle.atomicity.proofs.Setup.{Setup, Steps, StepOf, Meets, Fair, hand, calls, lat}
 use Rattle.atomicity.proofs.Moves.{Fits, Moved, kept, wbegan, rbegan, quit, took, moved, acting}
-use Rattle.atomicity.proofs.Rounds.{Next, next-stage, turn-turned, stage, stage-awaits, stage-bound, pos, ever-before}
+use Rattle.atomicity.proofs.Rounds.{Next, turn-turned}
+use Rattle.atomicity.proofs.Positions.{next-stage, stage, stage-awaits, stage-bound, pos, ever-before}
 use Rattle.atomicity.proofs.Sources.{MadeBy, Told, reply-source, sent-made}
 use Rattle.atomicity.proofs.Genuine.{Genuine, latest-known}
 use Rattle.atomicity.proofs.Heard.{Heard, heard, asked-at}
 use Rattle.atomicity.proofs.Telling.{at-step}
 use Rattle.atomicity.proofs.Shape.{result}
 use Rattle.atomicity.proofs.Story.{past}
+use Rattle.atomicity.proofs.Rising.{Clocked}
 use Rattle.atomicity.proofs.Numbers.{Low, Small, small, mark-small, higher-low}
 use Rattle.atomicity.proofs.Full.{eleven}
 use Rattle.atomicity.proofs.Grown.{code, code-cases, code-is, reply-t, result-is, update-grown}
@@ -98,19 +100,19 @@ module _ (K : Setup) (c : ℕ) where
       go z zs q f (inr g) = omega (
         arith,
         q,
-        ap (λ (σ : Stamp). σ .number) (g .stamp-is),
-        mark-small K zs (small K zs f) (g .write) (g .made),
+        ap (λ (σ : Stamp). σ .number) (g .origin .stamp-is),
+        mark-small K zs (small K zs f) (g .origin .write) (g .origin .made),
         length-append (stampedAt (K .s) (account (K .s)) z zs) (marks (K .s) zs),
       )
 
   not-high : (xs : Steps K) → Fair K xs → (j : ℕ) (y : Body) (full : Bool) (h : Hand) → hand K xs c ≡ h → Roomy (awaits h) xs →
       Ever (Heard K c j xs y) xs → tooHigh (K .s .P) (K .s .writers) y full h ≡ true → ⊥
-  unfolding tooHigh awaits Roomy Small Low
+  unfolding tooHigh awaits Roomy Small Clocked
   not-high xs fair j y full idle e room ev t = clash t refl
   not-high xs fair j y full (clocking r n m) e (inl h) ev t = omega (arith, h)
   not-high xs fair j y full (clocking r n m) e (inr h) ev t =
       let top = leb-true topNumber (higher (K .s .P) (K .s .writers) m (stampIn y)) (and-right full _ t) in
-      let low = subst (Low K (length (marks (K .s) xs))) e (small K xs fair c .1) in
+      let low = subst (Low (length (marks (K .s) xs))) e (small K xs fair c .1) in
       omega (arith, top, h, higher-low K (length (marks (K .s) xs)) m (stampIn y) low (λ z. clock-low xs j y r n m e ev))
   not-high xs fair j y full (storing d g) e room ev t = clash t refl
   not-high xs fair j y full (completing d) e room ev t = clash t refl
@@ -119,11 +121,7 @@ module _ (K : Setup) (c : ℕ) where
   not-high xs fair j y full (repairing d r) e room ev t = clash t refl
 
   good-faults : badFaults (K .s .config) ≡ false
-  good-faults = ap not (and-intro _ _ (le-leb 1 (K .s .config .t) (K .legal .faulty))
-      (le-leb (K .s .config .t) topFaults (omega (arith, K .legal .most, K .legal .few))))
-
-  good-client : K .correct .client c ≡ true → within 1 topClient c ≡ true
-  good-client good = let r = K .parties .clients c good in and-intro _ _ (le-leb 1 c (r .0)) (le-leb c topClient (r .1))
+  good-faults = ap not (within-in 1 topFaults (K .s .config .t) (K .legal .faulty) (omega (arith, K .legal .most, K .legal .few)))
 
   pub arrived : (xs : Steps K) → Fair K xs → K .correct .client c ≡ true → (b : ℕ) → (n k : ℕ) → n ≡ calls K xs c → k ≡ awaits (hand K xs c) →
       isIdle (hand K xs c) ≡ false → Roomy k xs → Ever (Arr n k b) xs →
@@ -159,7 +157,7 @@ module _ (K : Setup) (c : ℕ) where
           let sq : stage (hand K xs c) ≡ stage (cl' .hand) =
           omega (arith, st .0, low, nq, cq, kq, stage-awaits (cl' .hand) busy, stage-awaits (hand K xs c) (fit .busy)) in
           subst (λ (y : Client). y .marks b ≡ true) (sym e)
-          (update-grown (K .s) c (w .client c) (p .head .server) (p .body) _ (hand K xs c) refl (fit .busy)
+          (update-grown (K .s) c (w .client c) (p .head .server) (p .body) _ (hand K xs c) (fit .busy)
           (sq ∙ ap (λ (y : Client). stage (y .hand)) e) .0 b
           (f (nq ∙ cq) (omega (arith, kq, sq, stage-awaits (cl' .hand) busy, stage-awaits (hand K xs c) (fit .busy))) (fit .busy)))
   arrived (x ∷ xs) fair good b n k nq kq busy room (inl a) = go (moved (K .s) c w (x .step))
@@ -190,7 +188,7 @@ module _ (K : Setup) (c : ℕ) where
           omega (arith, kk, kq, stage-awaits (cl' .hand) busy, stage-awaits (hand K xs c) (fit .busy)) in
           subst (λ (y : Client). y .marks b ≡ true) (sym e)
           (subst (λ (i : ℕ). turn (K .s) c (w .client c) q .client .marks i ≡ true) (ap (λ (z : Packet). z .head .server) pq ∙ a .7)
-          (update-grown (K .s) c (w .client c) (q .head .server) (q .body) _ (hand K xs c) refl (fit .busy)
+          (update-grown (K .s) c (w .client c) (q .head .server) (q .body) _ (hand K xs c) (fit .busy)
           (sq ∙ ap (λ (y : Client). stage (y .hand)) e) .1
           (not-eleven xs (q .head .server) (q .body) (hand K xs c) refl (subst (λ (i : ℕ). Roomy i xs) kk (roomy-down k x xs room)) ev)))
         where
@@ -206,14 +204,14 @@ module _ (K : Setup) (c : ℕ) where
           let kind : kindOf (p .body) ≡ awaits (hand K xs c) = a .9 ∙ kq ∙ ap awaits hq in
           let ev = heard K c xs (past K x xs fair) p good (a .6) call busy' kind made-by in
           let room' : Roomy (awaits (hand K xs c)) xs = subst (λ (i : ℕ). Roomy i xs) (kq ∙ ap awaits hq) (roomy-down k x xs room) in
-          let same-t : p .head .t ≡ K .s .config .t = told-t in
+          let same-t : p .head .t ≡ K .s .config .t = told-t in let rg = K .parties .clients c good in
           let res : result K x xs ≡ onRefusal (code (K .s) c (w .client c) p (length (a .1))) (turn (K .s) c (w .client c) p)
           (record { client = w .client c; result = refused (code (K .s) c (w .client c) p (length (a .1))) }) .result =
           ap (λ (y : Step). perform (K .s) w y .result) (a .3) ∙ result-is (K .s) c w (a .0) (a .1) p (a .5) in
           code-cases (code (K .s) c (w .client c) p (length (a .1))) (w .client c .marks (p .head .server))
           (highAt (K .s .P) (K .s .config) c (K .s .writers) (K .s .keys) (w .client c) (p .head .server) (p .body))
           (ltb (length (a .1)) contentRoom)
-          (code-is (K .s) c (w .client c) p (length (a .1)) good-faults (good-client good) same-t (a .6) busy' call kind)
+          (code-is (K .s) c (w .client c) p (length (a .1)) good-faults (within-in 1 topClient c (rg .0) (rg .1)) same-t (a .6) busy' call kind)
           (λ u. subst (λ (z : Client). z .marks b ≡ true) (sym e) (subst (λ (i : ℕ). w .client c .marks i ≡ true) (a .7) u))
           (λ u. absurd (not-high xs (past K x xs fair) (p .head .server) (p .body)
           (isFull (K .s .config) (upd (w .client c .marks) (p .head .server) true)) (hand K xs c) refl room' ev u))

@@ -2,40 +2,32 @@
 -- among the inputs digested so far.
 -- Assumes nothing.
 use mathlib.Core.Path.{_≡_, refl, sym, subst}
-use mathlib.Core.Bool.{Bool, true, false, cond, not}
+use mathlib.Core.Bool.{Bool, true, cond, not}
 use mathlib.Core.List.{List, [], _∷_, _++_}
 use mathlib.Core.Logic.{_⊎_, inl, inr}
 use Prim.Native.Nat.{ℕ, suc}
-use lib.Dec.{leb}
 use lib.ListN.{length}
 use Rattle.cluster.specs.Config.{Config}
-use Rattle.cluster.specs.Ranges.{within, topWriter, topNumber, leastLength, topLength}
-use Rattle.cluster.specs.Refusals.{refuse, firstOf, onRefusal}
+use Rattle.cluster.specs.Ranges.{within, leastLength, topLength}
 use Rattle.protocol.specs.Format.{Bytes}
 use Rattle.protocol.specs.Packet.{decode}
-use Rattle.protocol.specs.Client.{Client, Hand, Result, Turn, refused, isIdle, badFaults, writeRefusal, writeStep, more, idle, clocking, storing, completing, collecting, filtering, repairing, begun, onto, prepared, candidateMade, shareMade, sharesMade, stampOf}
+use Rattle.protocol.specs.Client.{Client, Hand, Result, Turn, isIdle, writeRefusal, writeStep, idle, clocking, storing, completing, collecting, filtering, repairing, begun, onto, prepared, candidateMade, shareMade, sharesMade, stampOf, accepted}
 use Rattle.protocol.specs.Runs.{Step, write, take-reply, Typed, World, Fed, nowValues, doValues, setClient}
+use Rattle.protocol.proofs.Fine.{at-refusal}
 use Rattle.atomicity.specs.Lists.{Ever, In, flat}
-use Rattle.atomicity.specs.Steps.{System, Stamped, accepted, stampedFrom, stampedBy, stampedAt, digestsWith, digestedBy, digested, allDigested, inPacket, fragments}
+use Rattle.atomicity.specs.Steps.{System, Stamped, stampedFrom, stampedBy, stampedAt, digestsWith, digestedBy, digested, allDigested, inPacket, fragments}
 use Rattle.atomicity.proofs.Util.{clash, left-in, right-in, split-in, flat-in, ever-out}
 use Rattle.atomicity.proofs.Model.{Run, perform, now, account, marks, stampFor, candidateFor, sharesFor}
-use Rattle.atomicity.proofs.Moves.{Moved, kept, wbegan, rbegan, quit, took, moved}
+use Rattle.atomicity.proofs.Moves.{write-passed, Moved, kept, wbegan, rbegan, quit, took, moved}
 use Rattle.atomicity.proofs.Rounds.{Next, stays, clock-on, clock-ends, store-ends, collect-on, collect-ends, filter-on, filter-ends, over, turn-turned}
 use Rattle.atomicity.proofs.Marks.{Marked, mark-source, marks-up}
 
 -- an accepted write's length is in its range
-in-range : (a b c d e : Bool) (y z : Client) →
-    let k = firstOf (refuse 3 a ∷ refuse 5 b ∷ refuse 6 (not c) ∷ refuse 13 d ∷ refuse 14 e ∷ []) in
-    accepted (onRefusal {A = Turn} k (record { client = y; result = more }) (record { client = z; result = refused k }) .result) ≡ true → c ≡ true
-in-range a b true d e y z h = refl
-in-range true b false d e y z h = clash h refl
-in-range false true false d e y z h = clash h refl
-in-range false false false d e y z h = clash h refl
-
-write-length : (s : Config) (c : ℕ) (cl : Client) (r n : List ℕ) → accepted (writeStep s c cl r n .result) ≡ true → within leastLength topLength (length r) ≡ true
-unfolding writeStep writeRefusal
-write-length s c cl r n h =
-    in-range (badFaults s) (not (within 1 topWriter c)) (within leastLength topLength (length r)) (not (isIdle (cl .hand))) (leb topNumber (cl .calls)) _ cl h
+write-length : (s : Config) (c : ℕ) (cl : Client) (r n : List ℕ) → accepted (writeStep s c cl r n .result) ≡ true →
+    within leastLength topLength (length r) ≡ true
+unfolding writeStep
+write-length s c cl r n = at-refusal (λ (u : Turn). accepted (u .result) ≡ true → within leastLength topLength (length r) ≡ true)
+    (writeRefusal s c (length r) (not (isIdle (cl .hand))) (cl .calls)) _ _ (λ e q. write-passed s c cl r e .1) (λ q. clash q refl)
 
 module _ (s : System) where
   -- the write was begun

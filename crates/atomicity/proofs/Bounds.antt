@@ -7,50 +7,40 @@ use mathlib.Core.Option.{Option, none, some}
 use mathlib.Core.Logic.{_⊎_, inl, inr}
 use Prim.Native.Nat.{ℕ, suc, _+_, _≤_}
 use native.Mathlib.Omega.{arith}
-use lib.ListN.{length, length-append}
+use lib.ListN.{length, length-append, length-map}
 use Rattle.protocol.specs.Rules.{keep}
-use Rattle.protocol.specs.Client.{Client, Hand, idle, clocking, storing, completing, collecting, filtering, repairing}
+use Rattle.protocol.specs.Client.{Client, accepted}
 use Rattle.protocol.specs.Runs.{Step, write, read, make, take-reply, give-up, serve, nowValues}
 use Rattle.atomicity.specs.Lists.{Ever, In, AllPairs}
-use Rattle.atomicity.specs.Steps.{Stamped, accepted, stampedFrom, stampedBy, stampedAt}
+use Rattle.atomicity.specs.Steps.{Stamped, stampedFrom, stampedBy, stampedAt}
 use Rattle.atomicity.specs.Premises.{Begins}
 use Rattle.atomicity.specs.Claim.{Call, given, log, begunWrites}
 use Rattle.atomicity.proofs.Util.{left-in, right-in, map-in, all-of}
 use Rattle.atomicity.proofs.Model.{perform, now, account, marks}
 use Rattle.atomicity.proofs.Setup.{Setup, Steps, StepOf, Fair, Begin, calls}
-use Rattle.atomicity.proofs.Marks.{mark-source, above}
+use Rattle.atomicity.proofs.Marks.{From, from-one, mark-source}
+use Rattle.atomicity.proofs.Rising.{above}
 use Rattle.atomicity.proofs.Nonces.{begins, by-nonce}
 use Rattle.atomicity.proofs.Shape.{Log, result, touched, news, newCall, note-shape}
 use Rattle.atomicity.proofs.Logs.{Signed}
 use Rattle.atomicity.proofs.Story.{past, story, story-log, stepSigned, step-keeps}
-use Rattle.atomicity.proofs.Listed.{pigeon, map-size, map-apart}
+use Rattle.atomicity.proofs.Listed.{pigeon, map-apart}
 
 -- ---- a step gives one mark at most
-
-from-one : (c : ℕ) (h h' : Hand) → (stampedFrom c h h' ≡ []) ⊎ ((m : Stamped) × (stampedFrom c h h' ≡ m ∷ []))
-unfolding stampedFrom
-from-one c idle h' = inl refl
-from-one c (clocking r n k) idle = inl refl
-from-one c (clocking r n k) (clocking r' n' k') = inl refl
-from-one c (clocking r n k) (storing d g) = inr (_, refl)
-from-one c (clocking r n k) (completing d) = inl refl
-from-one c (clocking r n k) (collecting g) = inl refl
-from-one c (clocking r n k) (filtering cs g) = inl refl
-from-one c (clocking r n k) (repairing d r') = inl refl
-from-one c (storing d g) h' = inl refl
-from-one c (completing d) h' = inl refl
-from-one c (collecting g) h' = inl refl
-from-one c (filtering cs g) h' = inl refl
-from-one c (repairing d r) h' = inl refl
 
 by-one : (was is : ℕ → Client) (x : Step) → (stampedBy was is x ≡ []) ⊎ ((m : Stamped) × (stampedBy was is x ≡ m ∷ []))
 unfolding stampedBy
 by-one was is (write c r n) = inl refl
 by-one was is (read c) = inl refl
 by-one was is (make c b o) = inl refl
-by-one was is (take-reply c b o) = from-one c (was c .hand) (is c .hand)
 by-one was is (give-up c) = inl refl
 by-one was is (serve b p o) = inl refl
+by-one was is (take-reply c b o) = go (from-one c (was c .hand) (is c .hand))
+  where
+    go : From c (was c .hand) (is c .hand) → (stampedFrom c (was c .hand) (is c .hand) ≡ [])
+        ⊎ ((m : Stamped) × (stampedFrom c (was c .hand) (is c .hand) ≡ m ∷ []))
+    go (inl e) = inl e
+    go (inr r) = inr (r .0, r .1)
 
 module _ (K : Setup) where
   -- ---- marks are no more than the writes begun
@@ -172,7 +162,7 @@ module _ (K : Setup) where
   few-marks xs fair = omega (
     arith,
     nonces-writes xs fair,
-    map-size (λ (m : Stamped). m .nonce) (marks (K .s) xs),
+    length-map (marks (K .s) xs) (λ (m : Stamped). m .nonce),
     pigeon (map (λ (m : Stamped). m .nonce) (marks (K .s) xs)) (nonces xs)
         (map-apart (λ (m : Stamped). m .nonce) (λ (a b : Stamped). a .nonce ≡ b .nonce → ⊥) (marks (K .s) xs) (λ a b i j r e. r e)
         (marks-apart xs fair))

@@ -4,7 +4,7 @@
 use mathlib.Core.Path.{_≡_, refl, sym, ap, _∙_, subst}
 use mathlib.Core.Bool.{Bool, true, false, cond}
 use mathlib.Core.List.{List, [], _∷_}
-use mathlib.Core.Option.{none, some}
+use mathlib.Core.Option.{Option, none, some}
 use mathlib.Core.Logic.{_⊎_, inl, inr}
 use Prim.Native.Nat.{ℕ, suc, _≤_, _<_}
 use native.Mathlib.Omega.{arith}
@@ -13,17 +13,19 @@ use lib.ListN.{length}
 use Rattle.protocol.specs.declared.Stamp.{Stamp}
 use Rattle.protocol.specs.Values.{Candidate, below, blankStamp}
 use Rattle.protocol.specs.Packet.{Packet, decode}
-use Rattle.protocol.specs.Client.{Client, Hand, Result, idle, clocking, storing, completing, collecting, filtering, repairing, begun, onto}
+use Rattle.protocol.specs.Client.{Client, Hand, Result, idle, clocking, storing, completing, collecting, filtering, repairing, begun, onto, accepted}
 use Rattle.protocol.specs.Runs.{take-reply, nowValues}
+use Rattle.protocol.proofs.Answers.{at-cond}
 use Rattle.atomicity.specs.Lists.{Ever, In}
-use Rattle.atomicity.specs.Steps.{Stamped, accepted, stampedAt}
+use Rattle.atomicity.specs.Steps.{Stamped, stampedAt}
 use Rattle.atomicity.specs.Claim.{Call}
-use Rattle.atomicity.proofs.Util.{cond-case, left-in, right-in}
+use Rattle.atomicity.proofs.Util.{left-in, right-in}
 use Rattle.atomicity.proofs.Model.{perform, now, account, marks}
-use Rattle.atomicity.proofs.Setup.{Setup, Steps, StepOf, Show, hand, calls}
+use Rattle.atomicity.proofs.Setup.{Setup, Steps, StepOf, hand, calls}
 use Rattle.atomicity.proofs.Moves.{Moved, kept, wbegan, rbegan, quit, took, moved}
-use Rattle.atomicity.proofs.Rounds.{turn-turned, since, since-same}
-use Rattle.atomicity.proofs.Marks.{marks-up}
+use Rattle.atomicity.proofs.Rounds.{turn-turned}
+use Rattle.atomicity.proofs.Positions.{since, since-same}
+use Rattle.atomicity.proofs.Genuine.{Revealed, revealed-up}
 use Rattle.atomicity.proofs.Invariant.{Ends}
 
 module _ (K : Setup) where
@@ -40,7 +42,7 @@ module _ (K : Setup) where
   pub since-length : (c : ℕ) (xs : Steps K) → length (since (K .s) c xs) ≤ length xs
   unfolding since
   since-length c [] = omega arith
-  since-length c (x ∷ xs) = cond-case (λ (z : Steps K). length z ≤ length (x ∷ xs)) (eqb (calls K xs c) (calls K (x ∷ xs) c)) _ xs
+  since-length c (x ∷ xs) = at-cond (eqb (calls K xs c) (calls K (x ∷ xs) c)) _ xs (λ (z : Steps K). length z ≤ length (x ∷ xs))
       (λ e. omega (arith, since-length c xs)) (λ e. omega arith)
 
   -- an end before the begin of the call lies before it
@@ -64,29 +66,30 @@ module _ (K : Setup) where
 
   -- ---- a call of the log, with its stamp
 
-  pub record Written (xs : Steps K) (a : Call) (σ : Stamp) (v : List ℕ) : Type 0 where
-    pub floor : (b : Stamp) (e : ℕ) → Ends K b e xs → e < a .begun → b .number < σ .number
+  -- the mark of a write that began after t steps, with content v and stamp σ
+  pub record Own (xs : Steps K) (t : ℕ) (v : List ℕ) (σ : Stamp) : Type 0 where
     pub write : Stamped
-    pub mine : write .client ≡ a .client
     pub content-is : write .content ≡ v
     pub stamp-is : write .stamp ≡ σ
-    pub since-when : MarkAt write (a .begun) xs
+    pub since-when : MarkAt write t xs
 
-  pub record Given (xs : Steps K) (a : Call) (σ : Stamp) (m : Stamped) : Type 0 where
-    pub made : In m (marks (K .s) xs)
-    pub shown : Ever (Show K (m .client) (m .nonce)) xs
-    pub stamp-is : m .stamp ≡ σ
-    pub answer-is : a .answer ≡ some (m .content)
+  pub record Written (xs : Steps K) (t : ℕ) (v : List ℕ) (σ : Stamp) : Type 0 where
+    pub floor : (b : Stamp) (e : ℕ) → Ends K b e xs → e < t → b .number < σ .number
+    pub own : Own xs t v σ
+
+  -- the answer is blank, or the content of a write that has shown its nonce
+  abbrev pub Grounded : Steps K → Option (List ℕ) → Stamp → Type 0
+  Grounded xs v σ = ((v ≡ none) × (σ ≡ blankStamp)) ⊎ ((r : Revealed K xs σ) × (v ≡ some (r .write .content)))
 
   pub record Read (xs : Steps K) (a : Call) (σ : Stamp) : Type 0 where
     pub floor : (b : Stamp) (e : ℕ) → Ends K b e xs → e < a .begun → below σ b ≡ false
-    pub value : ((a .answer ≡ none) × (σ ≡ blankStamp)) ⊎ ((m : Stamped) × Given xs a σ m)
+    pub value : Grounded xs (a .answer) σ
 
   pub record Base (xs : Steps K) (a : Call) (σ : Stamp) : Type 0 where
     pub begun-lt : a .begun < length xs
     pub number-le : a .number ≤ calls K xs (a .client)
     pub ended : (e : ℕ) → a .over ≡ some e → (a .begun < e) × (e < length xs) × Ends K σ e xs
-    pub write : (v : List ℕ) → a .wrote ≡ some v → a .reached ≡ true → Written xs a σ v
+    pub write : (v : List ℕ) → a .wrote ≡ some v → a .reached ≡ true → Written xs (a .begun) v σ
     pub read : (e : ℕ) → a .wrote ≡ none → a .over ≡ some e → Read xs a σ
     pub reaches : (v : List ℕ) (e : ℕ) → a .wrote ≡ some v → a .over ≡ some e → a .reached ≡ true
     pub leaves : a .gaveUp ≡ true → a .over ≡ none
@@ -100,12 +103,10 @@ module _ (K : Setup) where
 
   -- a write in hand that has its stamp
   pub record Writing (xs : Steps K) (a : Call) (σ : Stamp) (d : Candidate) : Type 0 where
-    pub write : Stamped
-    pub mine : write .client ≡ a .client
-    pub content-is : a .wrote ≡ some (write .content)
-    pub stamp-is : write .stamp ≡ σ
+    pub content : List ℕ
+    pub content-is : a .wrote ≡ some content
+    pub own : Own xs (a .begun) content σ
     pub hand-is : d .stamp ≡ σ
-    pub since-when : MarkAt write (a .begun) xs
 
   unfoldable pub Cur : Steps K → Call → Stamp → Hand → Type 0
   Cur xs a σ idle = Unit {0}
@@ -122,40 +123,32 @@ module _ (K : Setup) where
 
   -- ---- what lasts
 
+  own-up : (x : StepOf K) (xs : Steps K) (t : ℕ) (v : List ℕ) (σ : Stamp) → Own xs t v σ → Own (x ∷ xs) t v σ
+  unfolding Ever
+  own-up x xs t v σ o =
+      record { write = o .write; content-is = o .content-is; stamp-is = o .stamp-is; since-when = inr (o .since-when) }
+
+  pub written-up : (x : StepOf K) (xs : Steps K) (t : ℕ) (v : List ℕ) (σ : Stamp) → t < length xs → Written xs t v σ → Written (x ∷ xs) t v σ
+  written-up x xs t v σ l w =
+      record { floor = λ b e k m. w .floor b e (ends-back x xs b e k (omega (arith, l, m))) m; own = own-up x xs t v σ (w .own) }
+
   pub base-up : (x : StepOf K) (xs : Steps K) (a : Call) (σ : Stamp) → calls K xs (a .client) ≤ calls K (x ∷ xs) (a .client) → Base xs a σ →
       Base (x ∷ xs) a σ
-  unfolding Ever
+  unfolding Ever revealed-up
   base-up x xs a σ l h = record {
     begun-lt = omega (arith, h .begun-lt);
     number-le = omega (arith, h .number-le, l);
     ended = λ e q. let r = h .ended e q in (r .0, omega (arith, r .1), inr (r .2));
-    write = λ v p q. let r = h .write v p q in
-        record {
-          floor = λ b e k m. r .floor b e (ends-back x xs b e k (omega (arith, m, h .begun-lt))) m;
-          write = r .write;
-          mine = r .mine;
-          content-is = r .content-is;
-          stamp-is = r .stamp-is;
-          since-when = inr (r .since-when);
-        };
+    write = λ v p q. written-up x xs (a .begun) v σ (h .begun-lt) (h .write v p q);
     read = λ e p q. let r = h .read e p q in
         record { floor = λ b e k m. r .floor b e (ends-back x xs b e k (omega (arith, m, h .begun-lt))) m; value = go (r .value) };
     reaches = h .reaches;
     leaves = h .leaves;
   }
     where
-      go : ((a .answer ≡ none) × (σ ≡ blankStamp)) ⊎ ((m : Stamped) × Given xs a σ m) → ((a .answer ≡ none) × (σ ≡ blankStamp))
-          ⊎ ((m : Stamped) × Given (x ∷ xs) a σ m)
+      go : Grounded xs (a .answer) σ → Grounded (x ∷ xs) (a .answer) σ
       go (inl p) = inl p
-      go (inr g) = inr (
-        g .0,
-        record {
-          made = marks-up (K .s) (g .0) x xs (g .1 .made);
-          shown = inr (g .1 .shown);
-          stamp-is = g .1 .stamp-is;
-          answer-is = g .1 .answer-is;
-        },
-      )
+      go (inr g) = inr (revealed-up K σ x xs (g .0), g .1)
 
   pub open-up : (x : StepOf K) (xs : Steps K) (a : Call) → calls K xs (a .client) ≡ calls K (x ∷ xs) (a .client) → Open xs a → Open (x ∷ xs) a
   open-up x xs a e h = record {
@@ -166,14 +159,11 @@ module _ (K : Setup) where
   }
 
   pub writing-up : (x : StepOf K) (xs : Steps K) (a : Call) (σ : Stamp) (d : Candidate) → Writing xs a σ d → Writing (x ∷ xs) a σ d
-  unfolding Ever
   writing-up x xs a σ d h = record {
-    write = h .write;
-    mine = h .mine;
+    content = h .content;
     content-is = h .content-is;
-    stamp-is = h .stamp-is;
+    own = own-up x xs (a .begun) (h .content) σ (h .own);
     hand-is = h .hand-is;
-    since-when = inr (h .since-when);
   }
 
   pub cur-up : (x : StepOf K) (xs : Steps K) (a : Call) (σ : Stamp) (h : Hand) → calls K xs (a .client) ≡ calls K (x ∷ xs) (a .client) →

@@ -10,23 +10,24 @@ use Prim.Native.Nat.{ℕ, _≤_, _<_}
 use native.Mathlib.Omega.{arith}
 use lib.Dec.{ltb, eqb}
 use lib.ListN.{length}
-use borrow.Author.Tests.{ltb-false, leb-true, eqb-false}
+use borrow.Author.Tests.{ltb-false, leb-true, eqb-false, not-true}
 use Rattle.cluster.specs.Config.{upTo}
 use Rattle.erasure.specs.Fragments.{Part}
 use Rattle.protocol.specs.declared.Stamp.{Stamp}
 use Rattle.protocol.specs.Values.{Candidate, Share, Held, below, blankStamp, blankCandidate, isSome, nth, digestSize, runOf}
 use Rattle.protocol.specs.Memory.{held}
 use Rattle.protocol.specs.Rules.{ByServer, any, first, countTo, lower, live, fits, agrees, leads, leader, proven, highest, choice, restoredBy, tagsIn}
-use Rattle.atomicity.specs.Lists.{Ever, In}
-use Rattle.atomicity.specs.Steps.{Stamped, digestsWith}
-use Rattle.atomicity.proofs.Util.{bool-case, clash, not-t, and-left, and-right, in-keep, keep-in, none-in, in-map}
+use Rattle.atomicity.specs.Lists.{In}
+use Rattle.atomicity.specs.Steps.{digestsWith}
+use Rattle.atomicity.proofs.Util.{bool-case, clash, and-left, and-right, in-keep, keep-in, none-in, in-map}
 use Rattle.atomicity.proofs.Stamps.{le-trans, le-blank}
 use Rattle.atomicity.proofs.Counting.{quorum-sum}
-use Rattle.atomicity.proofs.Model.{marks, fragmentFor, tagsFor}
-use Rattle.atomicity.proofs.Setup.{Setup, Steps, Fair, Show, lat, hist}
+use Rattle.atomicity.proofs.Model.{fragmentFor, tagsFor}
+use Rattle.atomicity.proofs.Setup.{Setup, Steps, Fair, lat, hist}
 use Rattle.atomicity.proofs.Begun.{mark-bytes, mark-digested}
-use Rattle.atomicity.proofs.Genuine.{Genuine}
-use Rattle.atomicity.proofs.States.{S, Q, FullAt, TopAt, Beats, meets-marks, correct-in, Filters}
+use Rattle.atomicity.proofs.Genuine.{Revealed, Genuine}
+use Rattle.atomicity.proofs.States.{Filters}
+use Rattle.atomicity.proofs.Quorums.{S, Q, FullAt, TopAt, Beats, meets-marks, correct-in, right, Many}
 use Rattle.atomicity.proofs.Gathered.{members, members-length, members-range, members-apart, upTo-in}
 use Rattle.atomicity.proofs.Groups.{fit-view, member, leader-view, parts-are, no-two}
 
@@ -46,19 +47,25 @@ module _ (K : Setup) where
   abbrev pub Live : ByServer Bool → ByServer Held → List Candidate → List Candidate
   Live m g cs = live (K .s .P) (K .s .config) m g cs
 
-  -- what is held by a quorum since the round began is never excluded
-  pub live-in : (ys z0 z1 : Steps K) (cs : List Candidate) (g : ByServer Held) (m : ByServer Bool) → Filters K ys z0 z1 cs g m → (d : Candidate) →
-      In d cs → Genuine K z1 d → FullAt K z1 (d .stamp) → In d (Live m g cs)
+  -- what no correct reply of many servers is below is never excluded
+  pub live-by : (g : ByServer Held) (m : ByServer Bool) (cs : List Candidate) (d : Candidate) (P : ℕ → Bool) → In d cs → Many K P →
+      ((j : ℕ) → right K j ≡ true → P j ≡ true → m j ≡ true → below (g j .stamp) (d .stamp) ≡ false) → In d (Live m g cs)
   unfolding live lower
-  live-in ys z0 z1 cs g m F d i gen full = in-keep (λ c. ltb (countTo (S K) (lower (K .s .P) (K .s .config) m g c)) (Q K)) cs d i
+  live-by g m cs d P i many f = in-keep (λ c. ltb (countTo (S K) (lower (K .s .P) (K .s .config) m g c)) (Q K)) cs d i
       (bool-case (ltb (countTo (S K) (lower (K .s .P) (K .s .config) m g d)) (Q K)) (λ e. e) (λ e. absurd (bad (ltb-false _ _ e))))
     where
       bad : Q K ≤ countTo (S K) (lower (K .s .P) (K .s .config) m g d) → ⊥
       bad h =
-          let r = meets-marks K (λ j. isSome (held (d .stamp) (hist K z1 j))) (lower (K .s .P) (K .s .config) m g d) full h in
+          let r = meets-marks K P (lower (K .s .P) (K .s .config) m g d) many h in
           let j = r .0 in
-          clash (and-right (m j) _ (r .3))
-          (F .sift j (r .1) (and-left (m j) _ (r .3)) .stands d i (r .2) (gen .write) (gen .made) (gen .stamp-is) (gen .nonce-is))
+          clash (and-right (m j) _ (r .3)) (f j (r .1) (r .2) (and-left (m j) _ (r .3)))
+
+  -- so is what is held by a quorum since the round began
+  pub live-in : (ys z0 z1 : Steps K) (cs : List Candidate) (g : ByServer Held) (m : ByServer Bool) → Filters K ys z0 z1 cs g m → (d : Candidate) →
+      In d cs → Genuine K z1 d → FullAt K z1 (d .stamp) → In d (Live m g cs)
+  live-in ys z0 z1 cs g m F d i gen full = let o = gen .origin in
+      live-by g m cs d (λ j. isSome (held (d .stamp) (hist K z1 j))) i full
+      (λ j h p k. F .sift j h k .stands d i p (o .write) (o .made) (o .stamp-is) (gen .nonce-is))
 
   -- what had ended when the call began is no higher than a candidate that is live
   pub floor : (ys z0 z1 : Steps K) (cs : List Candidate) (g : ByServer Held) (m : ByServer Bool) → Filters K ys z0 z1 cs g m → (b : Stamp) →
@@ -68,7 +75,7 @@ module _ (K : Setup) where
       let C = F .first in
       let r = meets-marks K (λ j. not (below (lat K z0 j) b)) (C .whom) top (C .enough) in
       let e = C .each (r .0) (r .1) (r .3) in
-      go (C .what (r .0)) (le-trans b (lat K z0 (r .0)) (C .what (r .0) .stamp) (not-t _ (r .2)) (e .0)) (e .1)
+      go (C .what (r .0)) (le-trans b (lat K z0 (r .0)) (C .what (r .0) .stamp) (not-true _ (r .2)) (e .0)) (e .1)
     where
       go : (d : Candidate) → below (d .stamp) b ≡ false → (d ≡ blankCandidate (K .s .config)) ⊎ (In d cs × Genuine K z1 d × FullAt K z1 (d .stamp)) →
           (below blankStamp b ≡ false) ⊎ ((d : Candidate) × In d (Live m g cs) × (below (d .stamp) b ≡ false))
@@ -78,13 +85,10 @@ module _ (K : Setup) where
   -- ---- a proven candidate is a write's, and its group gives the content back
 
   pub record Real (ys : Steps K) (c : Candidate) (g : ByServer Held) (m : ByServer Bool) (b : ℕ) : Type 0 where
-    pub write : Stamped
-    pub made : In write (marks (K .s) ys)
-    pub shown : Ever (Show K (write .client) (write .nonce)) ys
-    pub stamp-is : write .stamp ≡ c .stamp
-    pub digest-is : K .s .P .digest (write .nonce) ≡ K .s .P .digest (c .nonce)
-    pub tags-is : tagsIn (K .s .P) (K .s .config) c (g b .share) ≡ tagsFor (K .s) write
-    pub gives : restoredBy (K .s .P) (K .s .config) m g c b (g b .share) ≡ write .content
+    pub origin : Revealed K ys (c .stamp)
+    pub digest-is : K .s .P .digest (origin .write .nonce) ≡ K .s .P .digest (c .nonce)
+    pub tags-is : tagsIn (K .s .P) (K .s .config) c (g b .share) ≡ tagsFor (K .s) (origin .write)
+    pub gives : restoredBy (K .s .P) (K .s .config) m g c b (g b .share) ≡ origin .write .content
 
   pub real : (ys z0 z1 : Steps K) (cs : List Candidate) (g : ByServer Held) (m : ByServer Bool) → Fair K ys → Filters K ys z0 z1 cs g m →
       (c : Candidate) (b : ℕ) →
@@ -98,7 +102,7 @@ module _ (K : Setup) where
       let j = h .0 in
       let f = member (K .s) m g c b j (own .share) (own .share-is) (h .4) in
       let P = F .sift j (h .3) (f .0 .marked) .piece (f .0 .share) (f .0 .share-is) in
-      let w = P .write in
+      let w = P .origin .write in
       let size : own .share .size ≡ length (w .content) = f .1 .size ∙ ap (λ (z : Share). z .size) (P .share-is) in
       let tags : own .share .tags ≡ tagsFor (K .s) w = f .1 .tags ∙ ap (λ (z : Share). z .tags) (P .share-is) in
       let digests : own .share .digests ≡ runOf (S K) (λ i. K .s .P .digest (fragmentFor (K .s) (w .content) i)) = f .1 .digests
@@ -109,23 +113,20 @@ module _ (K : Setup) where
         t .0 .share,
         t .0 .share-is,
         no-two K ys fair (t .0 .share .part) (fragmentFor (K .s) (w .content) i) (F .digs i (t .0 .share) (t .0 .marked) (t .0 .share-is))
-            (mark-digested (K .s) ys w (fragmentFor (K .s) (w .content) i) (P .made)
+            (mark-digested (K .s) ys w (fragmentFor (K .s) (w .content) i) (P .origin .made)
             (inr (in-map (λ (i : ℕ). fragmentFor (K .s) (w .content) i) (upTo (S K)) i (upTo-in (S K) i lo hi))))
             (t .0 .digest-is ∙ ap (λ (z : List ℕ). nth digestSize z i) (sym (t .1 .digests) ∙ digests)
             ∙ K .laws .digest-at (fragmentFor (K .s) (w .content)) i lo hi),
       ) in
       record {
-        write = w;
-        made = P .made;
-        shown = P .shown;
-        stamp-is = P .stamp-is ∙ f .0 .stamp-is;
+        origin = record { write = w; made = P .origin .made; stamp-is = P .origin .stamp-is ∙ f .0 .stamp-is; shown = P .origin .shown };
         digest-is = sym (ap (λ (z : Share). z .nonceDigest) (P .share-is)) ∙ f .0 .nonce-is;
         tags-is = ap (tagsIn (K .s .P) (K .s .config) c) (own .share-is) ∙ tags;
         gives = ap (restoredBy (K .s .P) (K .s .config) m g c b) (own .share-is)
             ∙ ap₂ (λ (n : ℕ) (l : List Part). K .s .P .restored (K .s .config .points) (K .s .config .shares) n l) size
             (parts-are (K .s) m g c (fragmentFor (K .s) (w .content)) b (S K) each)
-            ∙ K .laws .restores (w .content) (mark-bytes (K .s) ys w (P .made)) (members A (S K)) (members-apart A (S K)) (members-range A (S K))
-            (omega (arith, many, members-length A (S K)));
+            ∙ K .laws .restores (w .content) (mark-bytes (K .s) ys w (P .origin .made)) (members A (S K)) (members-apart A (S K))
+            (members-range A (S K)) (omega (arith, many, members-length A (S K)));
       }
 
   -- ---- the choice
@@ -144,8 +145,8 @@ module _ (K : Setup) where
       let hi = keep-in (λ c. not (any (λ d. below (c .stamp) (d .stamp)) (Live m g cs))) (Live m g cs) c (v .0) in
       record {
         among = keep-in (λ c. ltb (countTo (S K) (lower (K .s .P) (K .s .config) m g c)) (Q K)) cs c (hi .0) .0;
-        beats = over (not-t _ (hi .1));
-        real = led (leader-view (K .s) m g c (S K)) (not-t _ (v .1));
+        beats = over (not-true _ (hi .1));
+        real = led (leader-view (K .s) m g c (S K)) (not-true _ (v .1));
       }
     where
       led : (leader (K .s .P) (K .s .config) m g c (S K) ≡ 0)

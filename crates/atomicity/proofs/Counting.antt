@@ -1,13 +1,11 @@
 -- Counting servers: how quorums meet. A count is of a test over servers 1 to n, and only the laws of Legal are used of the numbers.
 -- Assumes nothing.
-use mathlib.Core.Path.{_≡_, refl, ap, _∙_}
+use mathlib.Core.Path.{_≡_, refl, ap}
 use mathlib.Core.Bool.{Bool, true, false, cond, not, _&&_}
-use Prim.Native.Nat.{ℕ, zero, suc, _+_, _≤_, _<_}
+use Prim.Native.Nat.{ℕ, zero, suc, _+_, _≤_}
 use native.Mathlib.Omega.{arith}
-use lib.Dec.{eqb}
-use borrow.Author.Tests.{eqb-true, eqb-false, ne-eqb}
 use Rattle.cluster.specs.Config.{Config, Legal, quorum}
-use Rattle.protocol.specs.Rules.{countTo, upd}
+use Rattle.protocol.specs.Rules.{countTo}
 
 -- two tests inside a third
 meet-one : (h a b : Bool) → cond (h && a) 1 0 + cond (h && b) 1 0 ≤ cond h 1 0 + cond (h && (a && b)) 1 0
@@ -64,36 +62,6 @@ unfolding countTo
 count-mono p r zero h = omega arith
 count-mono p r (suc n) h =
     omega (arith, count-mono p r n (λ x a b. h x a (omega arith)), mono-one (p (suc n)) (r (suc n)) (h (suc n) (omega arith) (omega arith)))
-
--- nobody is marked
-pub count-none : (p : ℕ → Bool) (n : ℕ) → ((x : ℕ) → p x ≡ false) → countTo n p ≡ 0
-unfolding countTo
-count-none p zero h = refl
-count-none p (suc n) h = omega (arith, count-none p n h, ap {B = ℕ} (λ (b : Bool). cond b 1 0) (h (suc n)))
-
--- one more is marked
-upd-out : (m : ℕ → Bool) (b n : ℕ) → n < b → countTo n (upd m b true) ≡ countTo n m
-unfolding countTo upd
-upd-out m b zero l = refl
-upd-out m b (suc n) l = omega (
-  arith,
-  upd-out m b n (omega arith),
-  ap {B = ℕ} (λ (t : Bool). cond (cond t true (m (suc n))) 1 0) (ne-eqb (suc n) b (λ e. omega (arith, e))),
-)
-
-pub count-upd : (m : ℕ → Bool) (b n : ℕ) → 1 ≤ b → b ≤ n → m b ≡ false → countTo n (upd m b true) ≡ suc (countTo n m)
-unfolding countTo upd
-count-upd m b zero lo hi e = absurd (omega arith)
-count-upd m b (suc n) lo hi e = go (eqb (suc n) b) refl (λ k. count-upd m b n lo k e)
-  where
-    go : (t : Bool) → eqb (suc n) b ≡ t → (b ≤ n → countTo n (upd m b true) ≡ suc (countTo n m)) →
-        cond (cond t true (m (suc n))) 1 0 + countTo n (upd m b true) ≡ suc (cond (m (suc n)) 1 0 + countTo n m)
-    go true q f = let z : suc n ≡ b = eqb-true (suc n) b q in
-        omega (arith, upd-out m b n (omega (arith, z)), ap {B = ℕ} (λ (t : Bool). cond t 1 0) (ap m z ∙ e))
-    go false q f = omega (arith, f (below-b (eqb-false (suc n) b q)))
-      where
-        below-b : (suc n ≡ b → ⊥) → b ≤ n
-        below-b z = omega arith
 
 -- ---- quorums
 

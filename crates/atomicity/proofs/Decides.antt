@@ -11,31 +11,34 @@ use Prim.Native.Nat.{ℕ, _≤_}
 use native.Mathlib.Omega.{arith}
 use lib.Dec.{leb, ltb, eqb}
 use lib.ListN.{length}
-use borrow.Author.Tests.{ltb-false, le-ltb, leb-true, leb-false, le-leb, eqb-false, eq-eqb, ne-eqb}
+use borrow.Author.Tests.{le-ltb, leb-true, leb-false, le-leb, eqb-false, eq-eqb, ne-eqb}
 use Rattle.protocol.specs.declared.Stamp.{Stamp}
 use Rattle.protocol.specs.Values.{Candidate, Share, Held, below, blankStamp, blankCandidate, isBlank, isSome, sameStamp}
 use Rattle.protocol.specs.Memory.{held}
 use Rattle.protocol.specs.Rules.{ByServer, any, countTo, lower, live, shareFits, fits, sameShare, agrees, leads, leader, proven, highest, choice}
+use Rattle.protocol.proofs.Equal.{same-refl, stamp-refl}
 use Rattle.atomicity.specs.Lists.{In}
 use Rattle.atomicity.specs.Steps.{Stamped}
-use Rattle.atomicity.proofs.Util.{bool-case, clash, untrue, not-f, and-left, and-right, and-intro, in-keep, keep-in, any-in}
-use Rattle.atomicity.proofs.Stamps.{below-num, num-le, le-view, same-is, same-refl, stamp-refl}
+use Rattle.atomicity.proofs.Util.{bool-case, clash, not-f, and-left, and-right, and-intro, in-keep, keep-in, any-in}
+use Rattle.atomicity.proofs.Stamps.{below-num, num-le, le-view, same-is}
 use Rattle.atomicity.proofs.Counting.{count-mono, found, share-k}
 use Rattle.atomicity.proofs.Model.{now, marks, shareFor, fragmentFor}
 use Rattle.atomicity.proofs.Setup.{Setup, Steps, Fair, hist}
-use Rattle.atomicity.proofs.Marks.{mark-num, marks-up, by-stamp}
+use Rattle.atomicity.proofs.Marks.{mark-num, marks-up}
+use Rattle.atomicity.proofs.Rising.{by-parts, by-stamp}
 use Rattle.atomicity.proofs.Begun.{mark-length}
 use Rattle.atomicity.proofs.Servers.{is-some, best-max}
 use Rattle.atomicity.proofs.Genuine.{Genuine, genuine-up}
 use Rattle.atomicity.proofs.Heard.{held-up}
-use Rattle.atomicity.proofs.States.{S, Q, right, Many, FullAt, meets-marks}
+use Rattle.atomicity.proofs.Quorums.{S, Q, right, Many, FullAt}
 use Rattle.atomicity.proofs.Telling.{vouches, piece-of}
 use Rattle.atomicity.proofs.Groups.{leader-some}
-use Rattle.atomicity.proofs.Choosing.{q-pos, Live}
+use Rattle.atomicity.proofs.Choosing.{q-pos, Live, live-by}
 use Rattle.atomicity.proofs.Suffixes.{Suf, suf-up}
 use Rattle.atomicity.proofs.Waiting.{best, Waits}
 use Rattle.atomicity.proofs.Moments.{told, Moment, before-now, earliest, best-real, then-genuine}
 use Rattle.atomicity.proofs.Highest.{Most, both-le, first-some, keep-none, le-lt, most}
+use Rattle.cluster.proofs.Tests.{untrue}
 
 module _ (K : Setup) (xs : Steps K) (fair : Fair K xs) (cs : List Candidate) (g : ByServer Held) (m : ByServer Bool) (W : Waits K xs cs g m)
     (enough : Q K ≤ countTo (S K) (λ j. right K j && m j)) where
@@ -106,19 +109,11 @@ module _ (K : Setup) (xs : Steps K) (fair : Fair K xs) (cs : List Candidate) (g 
     high-then j r = let N = at-of j r in let T = N .sat in let G = then-genuine K xs fair cs g m W j N d ind gen .0 in
         subst (λ (a : Stamp). below a (d .stamp) ≡ false) (sym (T .stamp-is))
         (best-max (K .s) j (now (K .s) (N .ys) .server j) (blankCandidate (K .s .config)) cs d ind
-        (vouches K (N .ys) (T .old) j d (G .write) (G .made) (G .stamp-is) (G .nonce-is) (held-then j r)))
+        (vouches K (N .ys) (T .old) j d (G .origin .write) (G .origin .made) (G .origin .stamp-is) (G .nonce-is) (held-then j r)))
 
     is-live : In d (Live K m g cs)
-    unfolding live lower
-    is-live = in-keep (λ c. ltb (countTo (S K) (lower (K .s .P) (K .s .config) m g c)) (Q K)) cs d ind
-        (bool-case (ltb (countTo (S K) (lower (K .s .P) (K .s .config) m g d)) (Q K)) (λ e. e) (λ e. absurd (bad (ltb-false _ _ e))))
-      where
-        bad : Q K ≤ countTo (S K) (lower (K .s .P) (K .s .config) m g d) → ⊥
-        bad h =
-            let r = meets-marks K holds (lower (K .s .P) (K .s .config) m g d) full0 h in
-            let j = r .0 in let rg = K .parties .servers j (r .1) in
-            clash (and-right (m j) _ (r .3))
-            (high-then j (record { low = rg .0; high = rg .1; tell = and-intro _ _ (r .1) (and-left (m j) _ (r .3)); hold = r .2 }))
+    is-live = live-by K g m cs d holds ind full0 (λ j h p k. let rg = K .parties .servers j h in
+        high-then j (record { low = rg .0; high = rg .1; tell = and-intro _ _ h k; hold = p }))
 
     is-highest : In d (highest (K .s .P) (K .s .config) (Live K m g cs))
     unfolding highest live
@@ -134,7 +129,7 @@ module _ (K : Setup) (xs : Steps K) (fair : Fair K xs) (cs : List Candidate) (g 
     -- ---- a holder among the repliers gave the write's share
 
     abbrev share : ℕ → Share
-    share j = shareFor (K .s) (gen .write) j
+    share j = shareFor (K .s) (gen .origin .write) j
 
     same-stamp : (j : ℕ) (N : Moment K xs fair cs g m W j) → g j .stamp ≡ best K cs j (N .ys) .stamp → below (g j .stamp) (d .stamp) ≡ false →
         below (d .stamp) (g j .stamp) ≡ false → Genuine K (N .ys) d →
@@ -146,17 +141,17 @@ module _ (K : Setup) (xs : Steps K) (fair : Fair K xs) (cs : List Candidate) (g 
           num-le (d .stamp) (g j .stamp) hi,
           ap (λ (a : Stamp). a .number) q,
           ap (λ (c : Candidate). c .stamp .number) z,
-          mark-num (K .s) (N .ys) (G .write) (G .made),
-          ap (λ (a : Stamp). a .number) (G .stamp-is),
+          mark-num (K .s) (N .ys) (G .origin .write) (G .origin .made),
+          ap (λ (a : Stamp). a .number) (G .origin .stamp-is),
         ))
     same-stamp j N q hi lo G (inr z) =
-        let B = z .1 in
+        let B = z .1 .origin in let O = G .origin in
         let r = both-le (d .stamp) (g j .stamp) (le-view (d .stamp) (g j .stamp) hi) (le-view (g j .stamp) (d .stamp) lo) in
         let k : B .write .stamp ≡ g j .stamp = B .stamp-is ∙ sym q in
-        let eq : B .write ≡ G .write = by-stamp (K .s) (N .ys) (B .write) (G .write) (B .made) (G .made)
-        (ap (λ (a : Stamp). a .number) k ∙ sym (r .0) ∙ sym (ap (λ (a : Stamp). a .number) (G .stamp-is)))
-        (ap (λ (a : Stamp). a .writer) k ∙ sym (r .1) ∙ sym (ap (λ (a : Stamp). a .writer) (G .stamp-is))) in
-        sym k ∙ ap (λ (w : Stamped). w .stamp) eq ∙ G .stamp-is
+        let eq : B .write ≡ O .write = by-parts (K .s) (N .ys) (B .write) (O .write) (B .made) (O .made)
+        (ap (λ (a : Stamp). a .number) k ∙ sym (r .0) ∙ sym (ap (λ (a : Stamp). a .number) (O .stamp-is)))
+        (ap (λ (a : Stamp). a .writer) k ∙ sym (r .1) ∙ sym (ap (λ (a : Stamp). a .writer) (O .stamp-is))) in
+        sym k ∙ ap (λ (w : Stamped). w .stamp) eq ∙ O .stamp-is
 
     votes : (j : ℕ) → Reply j → (g j .stamp ≡ d .stamp) × (g j .share ≡ some (share j))
     votes j r =
@@ -167,12 +162,10 @@ module _ (K : Setup) (xs : Steps K) (fair : Fair K xs) (cs : List Candidate) (g 
         let sq : g j .stamp ≡ d .stamp = same-stamp j N (T .stamp-is) (high-then j r) low G (best-real K xs fair cs g m W j N) in
         let hs = is-some (held (d .stamp) (hist K (N .ys) j)) (held-then j r) in
         let fq : g j .share ≡ some (hs .0) = T .share-is ∙ ap (λ (a : Stamp). held a (hist K (N .ys) j)) (sym (T .stamp-is) ∙ sq) ∙ hs .1 in
-        let P = piece-of K (N .ys) (T .old) j d G (hs .0) (hs .1) in
-        let pw : P .write ≡ gen .write =
-        by-stamp (K .s) xs (P .write) (gen .write)
-        (suf-up (λ (zs : Steps K). In (P .write) (marks (K .s) zs)) (marks-up (K .s) (P .write)) (N .ys) xs (before-now K xs fair cs g m W j N)
-        (P .made)) (gen .made)
-        (ap (λ (a : Stamp). a .number) (P .stamp-is ∙ sym (gen .stamp-is))) (ap (λ (a : Stamp). a .writer) (P .stamp-is ∙ sym (gen .stamp-is))) in
+        let P = piece-of K (N .ys) (T .old) j d G (hs .0) (hs .1) in let O = P .origin in
+        let pw : O .write ≡ gen .origin .write = by-stamp (K .s) xs (O .write) (gen .origin .write)
+        (suf-up (λ (zs : Steps K). In (O .write) (marks (K .s) zs)) (marks-up (K .s) (O .write)) (N .ys) xs (before-now K xs fair cs g m W j N) (O .made))
+        (gen .origin .made) (O .stamp-is ∙ sym (gen .origin .stamp-is)) in
         (sq, fq ∙ ap some (P .share-is ∙ ap (λ (w : Stamped). shareFor (K .s) w j) pw))
 
     fits-one : (j : ℕ) → Reply j → fits (K .s .P) (K .s .config) m g d j ≡ true
@@ -181,16 +174,16 @@ module _ (K : Setup) (xs : Steps K) (fair : Fair K xs) (cs : List Candidate) (g 
         and-intro _ _ (and-right (right K j) (m j) (r .tell))
         (and-intro _ _ (subst (λ (a : Stamp). sameStamp a (d .stamp) ≡ true) (sym (v .0)) (stamp-refl (d .stamp)))
         (subst (λ (o : Option Share). shareFits (K .s .P) (K .s .config) d j o ≡ true) (sym (v .1))
-        (and-intro _ _ (mark-length (K .s) xs (gen .write) (gen .made))
+        (and-intro _ _ (mark-length (K .s) xs (gen .origin .write) (gen .origin .made))
         (and-intro _ _ (same-is _ _ (ap (K .s .P .digest) (gen .nonce-is)))
-        (same-is _ _ (sym (K .laws .digest-at (fragmentFor (K .s) (gen .write .content)) j (r .low) (r .high))))))))
+        (same-is _ _ (sym (K .laws .digest-at (fragmentFor (K .s) (gen .origin .write .content)) j (r .low) (r .high))))))))
 
     agrees-one : (i j : ℕ) → Reply i → Reply j → agrees (K .s .P) (K .s .config) m g d i j ≡ true
     unfolding agrees
     agrees-one i j r t = and-intro _ _ (fits-one j t)
         (subst (λ (o : Option Share). sameShare (K .s .P) (K .s .config) o (g j .share) ≡ true) (sym (votes i r .1))
         (subst (λ (o : Option Share). sameShare (K .s .P) (K .s .config) (some (share i)) o ≡ true) (sym (votes j t .1))
-        (and-intro _ _ (eq-eqb (length (gen .write .content)) (length (gen .write .content)) refl)
+        (and-intro _ _ (eq-eqb (length (gen .origin .write .content)) (length (gen .origin .write .content)) refl)
         (and-intro _ _ (same-refl (share i .digests)) (and-intro _ _ (same-refl (share i .nonceDigest)) (same-refl (share i .tags)))))))
 
     -- the correct servers that held it and replied

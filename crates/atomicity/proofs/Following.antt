@@ -15,8 +15,8 @@ use Rattle.atomicity.specs.Steps.{Stamped, stampedFrom}
 use Rattle.atomicity.specs.Claim.{Call, follow, reach}
 use Rattle.atomicity.proofs.Util.{clash}
 use Rattle.atomicity.proofs.Setup.{Setup, Steps, StepOf, calls}
-use Rattle.atomicity.proofs.Rounds.{since}
-use Rattle.atomicity.proofs.States.{TopAt}
+use Rattle.atomicity.proofs.Positions.{since}
+use Rattle.atomicity.proofs.Quorums.{TopAt}
 use Rattle.atomicity.proofs.Turns.{ResultOk}
 use Rattle.atomicity.proofs.Invariant.{Ends, ends-top}
 use Rattle.atomicity.proofs.Calls.{MarkAt, ends-since, ends-back, Base, Cur, base-up, cur-up, Keeps, keeps-refl}
@@ -40,10 +40,12 @@ module _ (K : Setup) where
   abbrev pub after : Steps K → Call → Turn → Call
   after xs a u = follow (u .result) (eqb (awaits (u .client .hand)) 6) (length xs) a
 
-  -- the call after the reply, with a stamp
+  -- with some stamp, the call a is b after the step, and the hand h
+  abbrev pub Stands : StepOf K → Steps K → Call → Stamp → Call → Hand → Type 0
+  Stands x xs a σ b h = (τ : Stamp) × Base K (x ∷ xs) b τ × Cur K (x ∷ xs) b τ h × Keeps K a σ b τ
+
   unfoldable pub Follows : StepOf K → Steps K → Call → Stamp → Hand → Turn → Type 0
-  Follows x xs a σ h u = Known x xs a h u →
-      (τ : Stamp) × Base K (x ∷ xs) (after xs a u) τ × Cur K (x ∷ xs) (after xs a u) τ (u .client .hand) × Keeps K a σ (after xs a u) τ
+  Follows x xs a σ h u = Known x xs a h u → Stands x xs a σ (after xs a u) (u .client .hand)
 
   module _ (x : StepOf K) (xs : Steps K) (a : Call) (σ : Stamp) (same : calls K xs (a .client) ≡ calls K (x ∷ xs) (a .client))
       (base : Base K xs a σ) where

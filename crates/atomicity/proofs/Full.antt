@@ -8,7 +8,7 @@ use mathlib.Core.Logic.{_⊎_, inl, inr}
 use Prim.Native.Nat.{ℕ, _≤_, _<_}
 use native.Mathlib.Omega.{arith}
 use lib.Dec.{leb}
-use lib.ListN.{length}
+use lib.ListN.{length, length-map}
 use borrow.Author.Tests.{leb-true}
 use Rattle.cluster.specs.Ranges.{capacity}
 use Rattle.protocol.specs.declared.Stamp.{Stamp}
@@ -20,9 +20,10 @@ use Rattle.protocol.specs.Rules.{ByServer}
 use Rattle.protocol.specs.Server.{Server, Acted, raise, kept, act}
 use Rattle.protocol.specs.Client.{storing, codeIn}
 use Rattle.protocol.specs.Runs.{nowValues}
+use Rattle.protocol.proofs.Answers.{at-cond}
 use Rattle.atomicity.specs.Lists.{Ever, In, AllPairs}
 use Rattle.atomicity.specs.Steps.{System, Stamped}
-use Rattle.atomicity.proofs.Util.{cond-both, cond-case, clash, rise, ever-map, all-of, in-map, map-in}
+use Rattle.atomicity.proofs.Util.{cond-both, clash, rise, ever-map, all-of, in-map, map-in}
 use Rattle.atomicity.proofs.Model.{perform, now, acts, marks, isValid, bestOf}
 use Rattle.atomicity.proofs.Setup.{Setup, Steps, Fair, hand, hist}
 use Rattle.atomicity.proofs.Serving.{Served, same, acted, served}
@@ -33,7 +34,7 @@ use Rattle.atomicity.proofs.Histories.{history}
 use Rattle.atomicity.proofs.Heard.{Heard}
 use Rattle.atomicity.proofs.Telling.{at-step}
 use Rattle.atomicity.proofs.Gathered.{pairs-snoc}
-use Rattle.atomicity.proofs.Listed.{pigeon, map-size, map-apart}
+use Rattle.atomicity.proofs.Listed.{pigeon, map-apart}
 
 -- ---- a history's stamps differ
 
@@ -47,7 +48,7 @@ raise-apart c v h = cond-both Apart (below (v .latest .stamp) (c .stamp)) _ v h 
 act-apart : (s : System) (j : ℕ) (v : Server) (x : Body) → Apart v → Apart (acts s j v x .server)
 unfolding act kept Apart
 act-apart s j v clock h = h
-act-apart s j v (store w) h = cond-case (λ (a : Acted). Apart (a .server)) (isSome (held (w .stamp) (v .history))) _ _ (λ e. h)
+act-apart s j v (store w) h = at-cond (isSome (held (w .stamp) (v .history))) _ _ (λ (a : Acted). Apart (a .server)) (λ e. h)
     (λ e. cond-both (λ (a : Acted). Apart (a .server)) (leb capacity (length (v .history))) _ _ h
     (pairs-snoc (λ (a b : Write). a .stamp ≡ b .stamp → ⊥) (v .history) w h
     (all-of (λ (a : Write). a .stamp ≡ w .stamp → ⊥) (v .history) (λ a i q. clash (in-held (w .stamp) (v .history) a i q) e))))
@@ -115,8 +116,8 @@ module _ (K : Setup) where
       omega (
         arith,
         v .is-full,
-        map-size (λ (e : Write). e .stamp) (hist K (v .ys) j),
-        map-size (λ (m : Stamped). m .stamp) (marks (K .s) xs),
+        length-map (hist K (v .ys) j) (λ (e : Write). e .stamp),
+        length-map (marks (K .s) xs) (λ (m : Stamped). m .stamp),
         pigeon (d .stamp ∷ es) (map (λ (m : Stamped). m .stamp) (marks (K .s) xs)) (
           all-of (λ z. d .stamp ≡ z → ⊥) es
               (λ z i q. let w = map-in (λ (e : Write). e .stamp) (hist K (v .ys) j) z i in

@@ -1,8 +1,8 @@
 -- Lists by server number: the servers that a test picks, and the list that collect leaves, with every candidate that is not blank in it.
 -- Assumes nothing.
-use mathlib.Core.Path.{_≡_, refl, sym, ap, _∙_, subst}
+use mathlib.Core.Path.{_≡_, refl, sym, _∙_, subst}
 use mathlib.Core.Bool.{Bool, true, false, cond, _||_}
-use mathlib.Core.List.{List, [], _∷_, _++_}
+use mathlib.Core.List.{List, [], _∷_, _++_, append-nil}
 use mathlib.Core.Logic.{_⊎_, inl, inr}
 use Prim.Native.Nat.{ℕ, zero, suc, _+_, _≤_}
 use native.Mathlib.Omega.{arith}
@@ -10,11 +10,12 @@ use lib.Dec.{leb, eqb}
 use lib.ListN.{length, length-append}
 use borrow.Author.Tests.{leb-true, leb-false, ne-eqb}
 use Rattle.cluster.specs.Config.{upTo}
-use Rattle.protocol.specs.Values.{Candidate, sameList, sameStamp, sameCandidate, isBlank}
+use Rattle.protocol.specs.Values.{Candidate, sameCandidate, isBlank}
 use Rattle.protocol.specs.Rules.{ByServer, any, countTo, gather}
+use Rattle.protocol.proofs.Equal.{candidate-same}
+use Rattle.protocol.proofs.Answers.{at-cond}
 use Rattle.atomicity.specs.Lists.{All, In, AllPairs}
-use Rattle.atomicity.proofs.Util.{bool-case, cond-both, cond-case, clash, and-left, and-right, or-cases, any-in, left-in, right-in, split-in, all-map}
-use Rattle.atomicity.proofs.Stamps.{same-eq, same-stamp}
+use Rattle.atomicity.proofs.Util.{bool-case, cond-both, clash, or-cases, any-in, left-in, right-in, split-in, all-map}
 
 -- ---- lists by server number
 
@@ -43,10 +44,6 @@ module _ {A : Type 0} where
   pairs-snoc R [] y h k = (tt, tt)
   pairs-snoc R (x ∷ xs) y h k = (all-append (R x) xs (y ∷ []) (h .0) (k .0, tt), pairs-snoc R xs y (h .1) (k .1))
 
-  nil-append : (xs : List A) → xs ++ [] ≡ xs
-  nil-append [] = refl
-  nil-append (x ∷ xs) = ap (λ (l : List A). x ∷ l) (nil-append xs)
-
 pub members-range : (p : ℕ → Bool) (n : ℕ) → All (λ i. (1 ≤ i) × (i ≤ n)) (members p n)
 unfolding members All
 members-range p zero = tt
@@ -60,7 +57,7 @@ members-apart p zero = tt
 members-apart p (suc n) = go (p (suc n)) (members-apart p n)
   where
     go : (b : Bool) → AllPairs (λ a b. eqb a b ≡ false) (members p n) → AllPairs (λ a b. eqb a b ≡ false) (members p n ++ cond b (suc n ∷ []) [])
-    go false h = subst (AllPairs (λ a b. eqb a b ≡ false)) (sym (nil-append (members p n))) h
+    go false h = subst (AllPairs (λ a b. eqb a b ≡ false)) (sym (append-nil (members p n))) h
     go true h = pairs-snoc (λ a b. eqb a b ≡ false) (members p n) (suc n) h
         (all-map (λ i. (1 ≤ i) × (i ≤ n)) (λ i. eqb i (suc n) ≡ false) (λ i k. ne-eqb i (suc n) (λ e. omega (arith, e, k .1))) (members p n)
         (members-range p n))
@@ -72,15 +69,6 @@ upTo-in (suc n) i l h = bool-case (leb i n) (λ e. left-in i (upTo n) (suc n ∷
     (λ e. right-in i (upTo n) (suc n ∷ []) (inl (let r : i ≡ suc n = omega (arith, leb-false i n e) in r)))
 
 -- ---- the list that collect leaves
-
-pub candidate-eq : (a b : Candidate) → sameCandidate a b ≡ true → a ≡ b
-unfolding sameCandidate
-candidate-eq a b e =
-    let p = same-stamp (a .stamp) (b .stamp) (and-left (sameStamp (a .stamp) (b .stamp)) _ e) in
-    let f = and-right (sameStamp (a .stamp) (b .stamp)) _ e in
-    let q = same-eq (a .nonce) (b .nonce) (and-left (sameList (a .nonce) (b .nonce)) _ f) in
-    let r = same-eq (a .tags) (b .tags) (and-right (sameList (a .nonce) (b .nonce)) _ f) in
-    λ i. record { stamp = p i; nonce = q i; tags = r i }
 
 pub in-gather : (g : ByServer Candidate) (n i : ℕ) → 1 ≤ i → i ≤ n → isBlank (g i .stamp) ≡ false → In (g i) (gather g n)
 unfolding gather In
@@ -97,13 +85,13 @@ in-gather g (suc n) i lo hi e =
         (gather g n ++ (g (suc n) ∷ [])))
     new q = subst (λ (z : ℕ). In (g z)
         (cond (isBlank (g (suc n) .stamp) || any (sameCandidate (g (suc n))) (gather g n)) (gather g n) (gather g n ++ (g (suc n) ∷ [])))) (sym q)
-        (cond-case (In (g (suc n))) (isBlank (g (suc n) .stamp) || any (sameCandidate (g (suc n))) (gather g n)) _ _
+        (at-cond (isBlank (g (suc n) .stamp) || any (sameCandidate (g (suc n))) (gather g n)) _ _ (In (g (suc n)))
         (λ t. there (or-cases (isBlank (g (suc n) .stamp)) _ t)) (λ t. right-in (g (suc n)) (gather g n) _ (inl refl)))
       where
         there : (isBlank (g (suc n) .stamp) ≡ true) ⊎ (any (sameCandidate (g (suc n))) (gather g n) ≡ true) → In (g (suc n)) (gather g n)
         there (inl b) = clash b (subst (λ (z : ℕ). isBlank (g z .stamp) ≡ false) q e)
         there (inr a) = let r = any-in (sameCandidate (g (suc n))) (gather g n) a in
-            subst (λ (z : Candidate). In z (gather g n)) (sym (candidate-eq (g (suc n)) (r .0) (r .2))) (r .1)
+            subst (λ (z : Candidate). In z (gather g n)) (sym (candidate-same (g (suc n)) (r .0) (r .2))) (r .1)
 
 pub gather-blank : (g : ByServer Candidate) (n : ℕ) (d : Candidate) → In d (gather g n) → isBlank (d .stamp) ≡ false
 unfolding gather In

@@ -7,17 +7,18 @@ use mathlib.Core.List.{List, [], _∷_, _++_}
 use mathlib.Core.Option.{Option, some}
 use mathlib.Core.Logic.{_⊎_, inl, inr}
 use Prim.Native.Nat.{ℕ, _≤_}
+use Rattle.protocol.specs.declared.Stamp.{Stamp}
 use Rattle.protocol.specs.Values.{Candidate, blankCandidate}
 use Rattle.protocol.specs.Packet.{Body, Packet, decode}
 use Rattle.protocol.specs.Packet.{clock, clockReply, store, storeReply, complete, completeReply, collect, collectReply, filter, filterReply, repair, repairReply}
 use Rattle.protocol.specs.Primitives.{candidateMessage}
 use Rattle.protocol.specs.Server.{Server, blankServer, valid, barred}
-use Rattle.protocol.specs.Client.{made}
+use Rattle.protocol.specs.Client.{made, accepted}
 use Rattle.protocol.specs.Runs.{Step, serve, World, nowValues}
 use Rattle.atomicity.specs.Lists.{Ever, Always, All, In, flat}
-use Rattle.atomicity.specs.Steps.{Stamped, accepted, packetIn, makes, serves, shown, judged, inPacket, stampedAt, digestsWith, tagsMade, tagsChecked, checkedBy, serverChecks, digested, digestedBy, allDigested, noncesGot, noncesBy}
+use Rattle.atomicity.specs.Steps.{Stamped, packetIn, makes, serves, shown, judged, inPacket, stampedAt, digestsWith, tagsMade, tagsChecked, checkedBy, serverChecks, digested, digestedBy, allDigested, noncesGot, noncesBy}
 use Rattle.atomicity.specs.Premises.{NoForgery, NoCollision, NoEarlyNonce, Shows}
-use Rattle.atomicity.proofs.Util.{right-in, flat-in, in-map, all-in, ever-map}
+use Rattle.atomicity.proofs.Util.{right-in, flat-in, in-map, all-in, ever-map, within-in}
 use Rattle.atomicity.proofs.Model.{perform, now, account, marks, vouched, tagged, isValid}
 use Rattle.atomicity.proofs.Setup.{Setup, Steps, StepOf, Meets, Fair, Begin, Show}
 use Rattle.atomicity.proofs.Serving.{Served, same, acted, served, making}
@@ -25,7 +26,7 @@ use Rattle.atomicity.proofs.Marks.{marks-up}
 use Rattle.atomicity.proofs.Begun.{Known, known, mark-digested}
 use Rattle.atomicity.proofs.Nonces.{begins}
 use Rattle.atomicity.proofs.Servers.{Origin, act-grows}
-use Rattle.atomicity.proofs.Sources.{serve-shape, complete-writer, complete-made, MadeBy, server-correct, in-range, writer-made}
+use Rattle.atomicity.proofs.Sources.{serve-shape, complete-writer, complete-made, MadeBy, server-correct, writer-made}
 use Rattle.atomicity.proofs.Histories.{Vouched, by-history, made-mark}
 
 module _ (K : Setup) where
@@ -60,7 +61,7 @@ module _ (K : Setup) where
       r = K .parties .servers j (server-correct K x xs (t .prem) j (t .by))
 
       mine : account (K .s) .server xs j ≡ now (K .s) xs .server j
-      mine = ap (λ (b : Bool). cond b (now (K .s) xs .server j) (blankServer (K .s .config))) (in-range K j (r .0) (r .1))
+      mine = ap (λ (b : Bool). cond b (now (K .s) xs .server j) (blankServer (K .s .config))) (within-in 1 (K .s .config .servers) j (r .0) (r .1))
 
       one : In kb (serverChecks (K .s) j (account (K .s) .server xs j) c)
       one = subst (λ (v : Server). In kb (serverChecks (K .s) j v c)) (sym mine)
@@ -80,13 +81,22 @@ module _ (K : Setup) where
       go true e k = by-history K xs h j c e
       go false e k = made-mark K (K .s .keys j) (c .stamp) (c .nonce) xs (forged x xs j p t c i e k)
 
-  -- its stamp and nonce are those of a write that has shown them
-  pub record Genuine (xs : Steps K) (c : Candidate) : Type 0 where
+  -- a write with this stamp has shown its nonce
+  pub record Revealed (xs : Steps K) (a : Stamp) : Type 0 where
     pub write : Stamped
     pub made : In write (marks (K .s) xs)
-    pub stamp-is : write .stamp ≡ c .stamp
-    pub nonce-is : write .nonce ≡ c .nonce
+    pub stamp-is : write .stamp ≡ a
     pub shown : Ever (Show K (write .client) (write .nonce)) xs
+
+  unfoldable pub revealed-up : (a : Stamp) (x : StepOf K) (xs : Steps K) → Revealed xs a → Revealed (x ∷ xs) a
+  unfolding Ever
+  revealed-up a x xs r =
+      record { write = r .write; made = marks-up (K .s) (r .write) x xs (r .made); stamp-is = r .stamp-is; shown = inr (r .shown) }
+
+  -- its stamp and nonce are those of such a write
+  pub record Genuine (xs : Steps K) (c : Candidate) : Type 0 where
+    pub origin : Revealed xs (c .stamp)
+    pub nonce-is : origin .write .nonce ≡ c .nonce
 
   judged-shown : (x : Body) (c : Candidate) → In c (judged x) → In c (shown x)
   unfolding In
@@ -124,23 +134,19 @@ module _ (K : Setup) where
       (λ b o d. in-map nonceOf (inPacket shown (decode b)) c
       (subst (λ (q : Option Packet). In c (inPacket shown q)) (sym d) (judged-shown (p .body) c i)))) in
       record {
-        write = m;
-        made = r .1;
-        stamp-is = r .2;
+        origin = record {
+          write = m;
+          made = r .1;
+          stamp-is = r .2;
+          shown = all-in (λ n. (d : ℕ) → Ever (Begin K d n) xs → Ever (Show K d n) xs) (noncesGot (K .s) (account (K .s)) x xs) (t .prem .unshown)
+              (m .nonce) seen (m .client) (begins K xs m (r .1));
+        };
         nonce-is = sym equal;
-        shown = all-in (λ n. (d : ℕ) → Ever (Begin K d n) xs → Ever (Show K d n) xs) (noncesGot (K .s) (account (K .s)) x xs) (t .prem .unshown)
-            (m .nonce) seen (m .client) (begins K xs m (r .1));
       }
 
   pub genuine-up : (c : Candidate) (x : StepOf K) (xs : Steps K) → Genuine xs c → Genuine (x ∷ xs) c
-  unfolding Ever
-  genuine-up c x xs g = record {
-    write = g .write;
-    made = marks-up (K .s) (g .write) x xs (g .made);
-    stamp-is = g .stamp-is;
-    nonce-is = g .nonce-is;
-    shown = inr (g .shown);
-  }
+  unfolding revealed-up
+  genuine-up c x xs g = record { origin = revealed-up (c .stamp) x xs (g .origin); nonce-is = g .nonce-is }
 
   -- ---- the latest
 
@@ -159,11 +165,13 @@ module _ (K : Setup) where
       let w = complete-made (now (K .s) ys .client d .hand) (t .to) c (sym (ap (λ (q : Packet). q .body) (t .is)) ∙ is) in
       let k = subst (Known (K .s) ys d) w (known (K .s) ys d) in
       record {
-        write = k .0;
-        made = marks-up (K .s) (k .0) y ys (k .1);
-        stamp-is = sym (ap (λ (z : Candidate). z .stamp) (k .3));
+        origin = record {
+          write = k .0;
+          made = marks-up (K .s) (k .0) y ys (k .1);
+          stamp-is = sym (ap (λ (z : Candidate). z .stamp) (k .3));
+          shown = inl (c, p, subst (λ (i : ℕ). makes i (y .step) ≡ true) (sym (k .2)) (h .0), h .1, is, ap (λ (z : Candidate). z .nonce) (k .3));
+        };
         nonce-is = sym (ap (λ (z : Candidate). z .nonce) (k .3));
-        shown = inl (c, p, subst (λ (i : ℕ). makes i (y .step) ≡ true) (sym (k .2)) (h .0), h .1, is, ap (λ (z : Candidate). z .nonce) (k .3));
       }
 
   pub latest-known : (xs : Steps K) → Fair K xs → (j : ℕ) → (now (K .s) xs .server j .latest ≡ blankCandidate (K .s .config))

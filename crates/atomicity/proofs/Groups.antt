@@ -3,7 +3,7 @@
 -- Assumes nothing.
 use mathlib.Core.Path.{_≡_, refl, sym, ap, ap₂, _∙_, subst}
 use mathlib.Core.Bool.{Bool, true, false, cond, _&&_}
-use mathlib.Core.List.{List, [], _∷_, _++_, map}
+use mathlib.Core.List.{List, [], _∷_, _++_, map, map-append}
 use mathlib.Core.Option.{Option, none, some}
 use mathlib.Core.Logic.{_⊎_, inl, inr}
 use Prim.Native.Nat.{ℕ, zero, suc, _≤_}
@@ -19,11 +19,13 @@ use Rattle.cluster.specs.Ranges.{within, leastLength, topLength}
 use Rattle.protocol.specs.Rules.{ByServer, shareFits, fits, sameShare, agrees, leads, leader, partOf, parts}
 use Rattle.protocol.specs.Server.{byTag}
 use Rattle.protocol.specs.Client.{tagsOf}
+use Rattle.protocol.proofs.Equal.{same-true, stamp-same}
+use Rattle.protocol.proofs.Answers.{at-cond}
 use Rattle.atomicity.specs.Lists.{Always, All, In}
 use Rattle.atomicity.specs.Steps.{System, Stamped, digested, allDigested}
 use Rattle.atomicity.specs.Premises.{NoCollision}
-use Rattle.atomicity.proofs.Util.{bool-case, cond-case, clash, and-left, and-right, split-in, all-in}
-use Rattle.atomicity.proofs.Stamps.{same-eq, same-is, same-stamp}
+use Rattle.atomicity.proofs.Util.{bool-case, clash, and-left, and-right, split-in, all-in}
+use Rattle.atomicity.proofs.Stamps.{same-is}
 use Rattle.atomicity.proofs.Model.{account, tagsFor}
 use Rattle.atomicity.proofs.Setup.{Setup, Steps, Fair}
 use Rattle.atomicity.proofs.States.{Tagged}
@@ -51,16 +53,15 @@ module _ (s : System) (m : ByServer Bool) (g : ByServer Held) (c : Candidate) wh
         marked = and-left (m i) _ e;
         share = h;
         share-is = q;
-        stamp-is = same-stamp _ _ (and-left (sameStamp (g i .stamp) (c .stamp)) _ (and-right (m i) _ e));
-        nonce-is = same-eq _ _ (and-left (sameList (h .nonceDigest) (s .P .digest (c .nonce))) _ (and-right (within leastLength topLength (h .size)) _ k));
-        digest-is = same-eq _ _ (and-right (sameList (h .nonceDigest) (s .P .digest (c .nonce))) _ (and-right (within leastLength topLength (h .size)) _ k));
+        stamp-is = stamp-same _ _ (and-left (sameStamp (g i .stamp) (c .stamp)) _ (and-right (m i) _ e));
+        nonce-is = same-true _ _ (and-left (sameList (h .nonceDigest) (s .P .digest (c .nonce))) _ (and-right (within leastLength topLength (h .size)) _ k));
+        digest-is = same-true _ _ (and-right (sameList (h .nonceDigest) (s .P .digest (c .nonce))) _ (and-right (within leastLength topLength (h .size)) _ k));
       }
 
   -- two shares of one group
   pub record Alike (a b : Share) : Type 0 where
     pub size : a .size ≡ b .size
     pub digests : a .digests ≡ b .digests
-    pub nonceDigest : a .nonceDigest ≡ b .nonceDigest
     pub tags : a .tags ≡ b .tags
 
   pub alike-view : (a b : Share) → sameShare (s .P) (s .config) (some a) (some b) ≡ true → Alike a b
@@ -69,9 +70,8 @@ module _ (s : System) (m : ByServer Bool) (g : ByServer Held) (c : Candidate) wh
       let e2 = and-right (sameList (a .digests) (b .digests)) _ e1 in
       record {
         size = eqb-true _ _ (and-left (eqb (a .size) (b .size)) _ e);
-        digests = same-eq _ _ (and-left (sameList (a .digests) (b .digests)) _ e1);
-        nonceDigest = same-eq _ _ (and-left (sameList (a .nonceDigest) (b .nonceDigest)) _ e2);
-        tags = same-eq _ _ (and-right (sameList (a .nonceDigest) (b .nonceDigest)) _ e2);
+        digests = same-true _ _ (and-left (sameList (a .digests) (b .digests)) _ e1);
+        tags = same-true _ _ (and-right (sameList (a .nonceDigest) (b .nonceDigest)) _ e2);
       }
 
   -- server i's reply is of the group of server b's, which fits too
@@ -95,8 +95,8 @@ module _ (s : System) (m : ByServer Bool) (g : ByServer Held) (c : Candidate) wh
       go : (l : ℕ) → (l ≡ 0) ⊎ ((1 ≤ l) × (l ≤ n) × (leads (s .P) (s .config) m g c l ≡ true)) →
           let k = cond (eqb l 0 && leads (s .P) (s .config) m g c (suc n)) (suc n) l in
           (k ≡ 0) ⊎ ((1 ≤ k) × (k ≤ suc n) × (leads (s .P) (s .config) m g c k ≡ true))
-      go l h = cond-case (λ (k : ℕ). (k ≡ 0) ⊎ ((1 ≤ k) × (k ≤ suc n) × (leads (s .P) (s .config) m g c k ≡ true)))
-          (eqb l 0 && leads (s .P) (s .config) m g c (suc n)) (suc n) l
+      go l h = at-cond (eqb l 0 && leads (s .P) (s .config) m g c (suc n)) (suc n) l
+          (λ (k : ℕ). (k ≡ 0) ⊎ ((1 ≤ k) × (k ≤ suc n) × (leads (s .P) (s .config) m g c k ≡ true)))
           (λ e. inr (omega arith, omega arith, and-right (eqb l 0) _ e)) (λ e. low h)
         where
           low : (l ≡ 0) ⊎ ((1 ≤ l) × (l ≤ n) × (leads (s .P) (s .config) m g c l ≡ true)) → (l ≡ 0)
@@ -126,14 +126,10 @@ module _ (s : System) (m : ByServer Bool) (g : ByServer Held) (c : Candidate) wh
   parts-are f b zero h = refl
   parts-are f b (suc n) h = ap₂ (λ (x y : List Part). x ++ y) (parts-are f b n (λ i lo hi e. h i lo (omega (arith, hi)) e))
       (go (agrees (s .P) (s .config) m g c b (suc n)) refl)
-      ∙ sym (map-append (members (agrees (s .P) (s .config) m g c b) n) (cond (agrees (s .P) (s .config) m g c b (suc n)) (suc n ∷ []) []))
+      ∙ sym (map-append part-at (members (agrees (s .P) (s .config) m g c b) n) (cond (agrees (s .P) (s .config) m g c b (suc n)) (suc n ∷ []) []))
     where
       part-at : ℕ → Part
       part-at i = record { server = i; bytes = f i }
-
-      map-append : (xs ys : List ℕ) → map part-at (xs ++ ys) ≡ map part-at xs ++ map part-at ys
-      map-append [] ys = refl
-      map-append (x ∷ xs) ys = ap (λ (l : List Part). part-at x ∷ l) (map-append xs ys)
 
       go : (t : Bool) → agrees (s .P) (s .config) m g c b (suc n) ≡ t →
           cond t (partOf (s .P) (s .config) (suc n) (g (suc n) .share)) [] ≡ map part-at (cond t (suc n ∷ []) [])

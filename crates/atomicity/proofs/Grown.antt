@@ -18,10 +18,11 @@ use Rattle.protocol.specs.Server.{replyTo}
 use Rattle.protocol.specs.Client.{Client, Hand, Turn, refused, idle, clocking, storing, completing, collecting, filtering, repairing, awaits, isIdle, highAt, badFaults}
 use Rattle.protocol.specs.Client.{update, judge, found, onto, prepared, codeIn, takeRefusal, takeStep, turnOn}
 use Rattle.protocol.specs.Runs.{take-reply, World, doValues, setClient}
+use Rattle.protocol.proofs.Answers.{at-cond}
 use Rattle.atomicity.specs.Steps.{System}
-use Rattle.atomicity.proofs.Util.{cond-case, cond-both, bool-case, clash, upd-here, upd-else}
+use Rattle.atomicity.proofs.Util.{cond-both, bool-case, clash, upd-here, upd-else}
 use Rattle.atomicity.proofs.Model.{perform, updated, turn}
-use Rattle.atomicity.proofs.Rounds.{stage}
+use Rattle.atomicity.proofs.Positions.{stage}
 
 pub reply-t : (p ask : Packet) (y : Body) → p ≡ replyTo ask y → p .head .t ≡ ask .head .t
 unfolding replyTo
@@ -56,24 +57,24 @@ module _ (s : System) (c : ℕ) where
   judge-grown m b y cs g g' cl (x ∷ ls) (some d) =
       found-grown m b y cs g g' (upd m b true) cl d (leader (s .P) (s .config) (upd m b true) g' d (s .config .servers))
 
-  pub update-grown : (cl : Client) (b : ℕ) (y : Body) (full : Bool) (h : Hand) → cl .hand ≡ h → isIdle h ≡ false →
+  pub update-grown : (cl : Client) (b : ℕ) (y : Body) (full : Bool) (h : Hand) → isIdle h ≡ false →
       Grown (cl .marks) b y h (updated s c cl b y (upd (cl .marks) b true) full h)
   unfolding update onto stage awaits isIdle prepared
-  update-grown cl b y full idle e busy = clash refl busy
-  update-grown cl b y true (clocking r n k) e busy = λ z. absurd (omega (arith, z))
-  update-grown cl b y false (clocking r n k) e busy = λ z. (marked (cl .marks) b .0, λ n. marked (cl .marks) b .1)
-  update-grown cl b y full (storing d g) e busy = cond-case (Grown (cl .marks) b y (storing d g)) (eqb (codeIn y) 11) _ _
+  update-grown cl b y full idle busy = clash refl busy
+  update-grown cl b y true (clocking r n k) busy = λ z. absurd (omega (arith, z))
+  update-grown cl b y false (clocking r n k) busy = λ z. (marked (cl .marks) b .0, λ n. marked (cl .marks) b .1)
+  update-grown cl b y full (storing d g) busy = at-cond (eqb (codeIn y) 11) _ _ (Grown (cl .marks) b y (storing d g))
       (λ q z. (λ j i. i, λ n. absurd (n (eqb-true (codeIn y) 11 q) refl)))
       (λ k. cond-both (Grown (cl .marks) b y (storing d g)) full _ _ (λ z. absurd (omega (arith, z)))
       (λ z. (marked (cl .marks) b .0, λ n. marked (cl .marks) b .1)))
-  update-grown cl b y true (completing d) e busy = λ z. absurd (omega (arith, z))
-  update-grown cl b y false (completing d) e busy = λ z. (marked (cl .marks) b .0, λ n. marked (cl .marks) b .1)
-  update-grown cl b y true (collecting g) e busy = λ z. absurd (omega (arith, z))
-  update-grown cl b y false (collecting g) e busy = λ z. (marked (cl .marks) b .0, λ n. marked (cl .marks) b .1)
-  update-grown cl b y true (filtering cs g) e busy = judge-grown (cl .marks) b y cs g _ cl _ _
-  update-grown cl b y false (filtering cs g) e busy = λ z. (marked (cl .marks) b .0, λ n. marked (cl .marks) b .1)
-  update-grown cl b y true (repairing d r) e busy = λ z. absurd (omega (arith, z))
-  update-grown cl b y false (repairing d r) e busy = λ z. (marked (cl .marks) b .0, λ n. marked (cl .marks) b .1)
+  update-grown cl b y true (completing d) busy = λ z. absurd (omega (arith, z))
+  update-grown cl b y false (completing d) busy = λ z. (marked (cl .marks) b .0, λ n. marked (cl .marks) b .1)
+  update-grown cl b y true (collecting g) busy = λ z. absurd (omega (arith, z))
+  update-grown cl b y false (collecting g) busy = λ z. (marked (cl .marks) b .0, λ n. marked (cl .marks) b .1)
+  update-grown cl b y true (filtering cs g) busy = judge-grown (cl .marks) b y cs g _ cl _ _
+  update-grown cl b y false (filtering cs g) busy = λ z. (marked (cl .marks) b .0, λ n. marked (cl .marks) b .1)
+  update-grown cl b y true (repairing d r) busy = λ z. absurd (omega (arith, z))
+  update-grown cl b y false (repairing d r) busy = λ z. (marked (cl .marks) b .0, λ n. marked (cl .marks) b .1)
 
   -- ---- the code of a reply that fits
 

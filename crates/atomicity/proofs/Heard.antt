@@ -16,16 +16,16 @@ use Rattle.protocol.specs.Packet.{Body, Packet, kindOf}
 use Rattle.protocol.specs.Packet.{clock, clockReply, store, storeReply, complete, completeReply, collect, collectReply, filter, filterReply, repair, repairReply}
 use Rattle.protocol.specs.Memory.{held}
 use Rattle.protocol.specs.Server.{Server, Acted, barred, replyTo, act, kept}
-use Rattle.protocol.specs.Client.{Hand, idle, clocking, storing, completing, collecting, filtering, repairing, awaits, isIdle, request, made}
+use Rattle.protocol.specs.Client.{Hand, idle, clocking, storing, completing, collecting, filtering, repairing, awaits, isIdle, request, made, accepted}
 use Rattle.protocol.specs.Runs.{nowValues}
 use Rattle.atomicity.specs.Lists.{Ever, In}
-use Rattle.atomicity.specs.Steps.{System, Stamped, accepted, makes, serves, packetIn}
+use Rattle.atomicity.specs.Steps.{System, Stamped, makes, serves, packetIn}
 use Rattle.atomicity.proofs.Util.{clash, cond-both, ever-map, ever-with, ever-out}
 use Rattle.atomicity.proofs.Stamps.{le-trans, below-irrefl}
 use Rattle.atomicity.proofs.Model.{perform, now, acts, marks}
 use Rattle.atomicity.proofs.Setup.{Setup, Steps, StepOf, Meets, Fair, lat, hist, hand, calls}
 use Rattle.atomicity.proofs.Serving.{making}
-use Rattle.atomicity.proofs.Rounds.{pos, stage-awaits, since, from, Before, ever-before}
+use Rattle.atomicity.proofs.Positions.{pos, stage-awaits, since, from, Before, ever-before}
 use Rattle.atomicity.proofs.Marks.{marks-up}
 use Rattle.atomicity.proofs.Servers.{held-some, is-some, in-held, latest-rises, history-keeps}
 use Rattle.atomicity.proofs.Sources.{MadeBy, Told, reply-source}

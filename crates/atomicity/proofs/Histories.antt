@@ -17,14 +17,14 @@ use Rattle.protocol.specs.Client.{made}
 use Rattle.protocol.specs.Runs.{World, nowValues}
 use Rattle.atomicity.specs.Lists.{Ever, Always, In}
 use Rattle.atomicity.specs.Steps.{Stamped, makes, stampedAt, tagsWith, tagsMade}
-use Rattle.atomicity.proofs.Util.{left-in, right-in, in-flat, map-in, ever-map}
+use Rattle.atomicity.proofs.Util.{left-in, right-in, in-flat, map-in, ever-map, within-in}
 use Rattle.atomicity.proofs.Model.{perform, now, account, marks, vouched, writeFor}
 use Rattle.atomicity.proofs.Setup.{Setup, Steps, StepOf, Fair, hist}
 use Rattle.atomicity.proofs.Serving.{Served, same, acted, served, making}
 use Rattle.atomicity.proofs.Marks.{marks-up}
 use Rattle.atomicity.proofs.Begun.{Known, known}
 use Rattle.atomicity.proofs.Servers.{held-digest, act-grows}
-use Rattle.atomicity.proofs.Sources.{store-writer, store-made, MadeBy, in-range, writer-made}
+use Rattle.atomicity.proofs.Sources.{store-writer, store-made, MadeBy, writer-made}
 
 module _ (K : Setup) where
   -- ---- histories
@@ -54,7 +54,7 @@ module _ (K : Setup) where
         k .1,
         w .3 ∙ (λ i. record { stamp = k .3 i .stamp; share = k .4 i (t .to) })
             ∙ ap (λ (b : Bool). record { stamp = k .0 .stamp; share = cond b (writeFor (K .s) (k .0) (t .to) .share) noShare })
-            (in-range K (t .to) (t .low) (t .high))
+            (within-in 1 (K .s .config .servers) (t .to) (t .low) (t .high))
             ∙ ap (writeFor (K .s) (k .0)) to-j,
       )
 

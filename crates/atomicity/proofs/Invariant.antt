@@ -16,26 +16,29 @@ use Rattle.protocol.specs.Values.{Candidate, Share, below, blankStamp}
 use Rattle.protocol.specs.Packet.{Body, Packet, decode, complete}
 use Rattle.protocol.specs.Packet.{clock, clockReply, store, storeReply, completeReply, collect, collectReply, filter, filterReply, repair, repairReply}
 use Rattle.protocol.specs.Rules.{upd, countTo}
-use Rattle.protocol.specs.Client.{Client, Hand, Result, idle, clocking, storing, completing, collecting, filtering, repairing, isFull, awaits, begun, onto, made, heldIn}
+use Rattle.protocol.specs.Client.{Client, Hand, Result, idle, clocking, storing, completing, collecting, filtering, repairing, isFull, awaits, begun, onto, made, heldIn, accepted}
 use Rattle.protocol.specs.Runs.{Step, write, read, make, take-reply, give-up, serve, World, nowValues}
+use Rattle.protocol.proofs.Answers.{at-cond}
 use Rattle.atomicity.specs.Lists.{Ever, Always, In, flat}
-use Rattle.atomicity.specs.Steps.{Stamped, accepted, packetIn, makes, stampedAt, partIn, fragments, inPacket, digestsWith, digested, digestedBy, allDigested}
+use Rattle.atomicity.specs.Steps.{Stamped, packetIn, makes, stampedAt, partIn, fragments, inPacket, digestsWith, digested, digestedBy, allDigested}
 use Rattle.atomicity.specs.Premises.{Shows, PartyOf, odd}
-use Rattle.atomicity.proofs.Util.{cond-case, bool-case, clash, left-in, right-in, ever-map, ever-with, rise, not-f, and-intro}
+use Rattle.atomicity.proofs.Util.{bool-case, clash, left-in, right-in, ever-map, ever-with, rise, not-f, and-intro}
 use Rattle.atomicity.proofs.Stamps.{below-blank}
 use Rattle.atomicity.proofs.Counting.{split-count, quorum-sum, count-mono}
 use Rattle.atomicity.proofs.Model.{perform, now, account, marks, turn}
 use Rattle.atomicity.proofs.Setup.{Setup, Steps, StepOf, Meets, Fair, Show, hand, calls, lat}
 use Rattle.atomicity.proofs.Moves.{Fits, Moved, kept, wbegan, rbegan, quit, took, moved}
 use Rattle.atomicity.proofs.Serving.{making}
-use Rattle.atomicity.proofs.Rounds.{Next, next-stage, turn-turned, stage, pos, since, from, since-same, from-same, from-new}
+use Rattle.atomicity.proofs.Rounds.{Next, turn-turned}
+use Rattle.atomicity.proofs.Positions.{next-stage, stage, pos, since, from, since-same, from-same, from-new}
 use Rattle.atomicity.proofs.Marks.{marks-up}
 use Rattle.atomicity.proofs.Begun.{Known, known}
 use Rattle.atomicity.proofs.Nonces.{by-nonce}
-use Rattle.atomicity.proofs.Sources.{complete-made, by-server}
+use Rattle.atomicity.proofs.Sources.{complete-made, made-by}
 use Rattle.atomicity.proofs.Genuine.{Genuine}
 use Rattle.atomicity.proofs.Heard.{heard}
-use Rattle.atomicity.proofs.States.{S, Q, right, Many, FullAt, TopAt, full-up, top-up, HandOk, ok-up, says-up}
+use Rattle.atomicity.proofs.States.{HandOk, ok-up, says-up}
+use Rattle.atomicity.proofs.Quorums.{S, Q, right, Many, FullAt, TopAt, full-up, top-up}
 use Rattle.atomicity.proofs.Telling.{says}
 use Rattle.atomicity.proofs.Turns.{Outcome, turn-ok, none-short, unmarked}
 
@@ -62,13 +65,13 @@ module _ (K : Setup) where
       let t = making (K .s) (now (K .s) ys) c (y .step) (h .1) (h .2) (K .laws .reads y ys (h .1) (h .3)) in
       (h .0, complete-made (hand K ys c) (t .to) (h .0) (sym (ap (λ (q : Packet). q .body) (t .is)) ∙ h .4), h .5)
 
-  pub record Shown (zs : Steps K) (c : ℕ) (n : List ℕ) : Type 0 where
+  pub record Shown (zs : Steps K) (n : List ℕ) : Type 0 where
     pub write : Stamped
     pub made : In write (marks (K .s) zs)
     pub nonce-is : write .nonce ≡ n
     pub full : FullAt K zs (write .stamp)
 
-  pub shown-at : (c : ℕ) (n : List ℕ) (y : StepOf K) (ys : Steps K) → Meets K y ys → Hands ys → Show K c n y ys → Shown (y ∷ ys) c n
+  shown-at : (c : ℕ) (n : List ℕ) (y : StepOf K) (ys : Steps K) → Meets K y ys → Hands ys → Show K c n y ys → Shown (y ∷ ys) n
   unfolding Hands HandOk Known Shows
   shown-at c n y ys prem hands h =
       let v = show-hand c n y ys h in
@@ -82,8 +85,8 @@ module _ (K : Setup) where
         full = full-up K (f .0 .stamp) y ys (subst (λ (z : Candidate). FullAt K ys (z .stamp)) (f .3) (k .full));
       }
 
-  pub shown-up : (c : ℕ) (n : List ℕ) (x : StepOf K) (xs : Steps K) → Shown xs c n → Shown (x ∷ xs) c n
-  shown-up c n x xs h = record {
+  shown-up : (n : List ℕ) (x : StepOf K) (xs : Steps K) → Shown xs n → Shown (x ∷ xs) n
+  shown-up n x xs h = record {
     write = h .write;
     made = marks-up (K .s) (h .write) x xs (h .made);
     nonce-is = h .nonce-is;
@@ -95,14 +98,16 @@ module _ (K : Setup) where
   zip P R [] a b = tt
   zip P R (x ∷ xs) a b = ((a .0, b .0), zip P R xs (a .1) (b .1))
 
+  pub shown-since : (xs : Steps K) → Fair K xs → Always (λ y ys. Hands ys) xs → (c : ℕ) (n : List ℕ) → Ever (Show K c n) xs → Shown xs n
+  shown-since xs fair hands c n ev = rise (λ (zs : Steps K). Shown zs n) (shown-up n) xs
+      (ever-map _ _ (λ y ys h. shown-at c n y ys (h .0 .0) (h .0 .1) (h .2)) xs
+      (ever-with _ (Show K c n) xs (zip (Meets K) (λ y ys. Hands ys) xs fair hands) ev))
+
   pub shown-full : (xs : Steps K) → Fair K xs → Always (λ y ys. Hands ys) xs → (d : Candidate) → Genuine K xs d → FullAt K xs (d .stamp)
   shown-full xs fair hands d g =
-      let c = g .write .client in let n = g .write .nonce in
-      let T : Shown xs c n = rise (λ (zs : Steps K). Shown zs c n) (shown-up c n) xs
-      (ever-map _ _ (λ y ys h. shown-at c n y ys (h .0 .0) (h .0 .1) (h .2)) xs
-      (ever-with _ (Show K c n) xs (zip (Meets K) (λ y ys. Hands ys) xs fair hands) (g .shown))) in
-      let e : T .write ≡ g .write = by-nonce K xs fair (T .write) (g .write) (T .made) (g .made) (T .nonce-is) in
-      subst (FullAt K xs) (ap (λ (z : Stamped). z .stamp) e ∙ g .stamp-is) (T .full)
+      let T = shown-since xs fair hands (g .origin .write .client) (g .origin .write .nonce) (g .origin .shown) in
+      let e : T .write ≡ g .origin .write = by-nonce K xs fair (T .write) (g .origin .write) (T .made) (g .origin .made) (T .nonce-is) in
+      subst (FullAt K xs) (ap (λ (z : Stamped). z .stamp) e ∙ g .origin .stamp-is) (T .full)
 
   -- ---- a reply that is let in
 
@@ -154,13 +159,13 @@ module _ (K : Setup) where
       (λ h. says-up K (since (K .s) c xs) (from (K .s) c xs) (p .head .server) (p .body) (hand K xs c) x xs
       (says K c xs (p .head .server) (p .body) (hand K xs c) refl
       (heard K c xs (fair .1) p good (fit .mine) (fit .call) (fit .busy) (fit .kind)
-      (by-server K x xs (fair .0) p got fine (ap odd (fit .kind) ∙ awaits-even (hand K xs c)) h))))
+      (made-by K x xs (fair .0) p got fine .1 (ap odd (fit .kind) ∙ awaits-even (hand K xs c)) h))))
 
   -- the moment when the round began, after a reply
   from-cond : (x : StepOf K) (xs : Steps K) (c : ℕ) → calls K (x ∷ xs) c ≡ calls K xs c → stage (hand K xs c) ≤ stage (hand K (x ∷ xs) c) →
       cond (eqb (stage (hand K xs c)) (stage (hand K (x ∷ xs) c))) (from (K .s) c xs) (x ∷ xs) ≡ from (K .s) c (x ∷ xs)
   unfolding pos
-  from-cond x xs c e l = cond-case (λ (z : Steps K). z ≡ from (K .s) c (x ∷ xs)) (eqb (stage (hand K xs c)) (stage (hand K (x ∷ xs) c))) _ _
+  from-cond x xs c e l = at-cond (eqb (stage (hand K xs c)) (stage (hand K (x ∷ xs) c))) _ _ (λ (z : Steps K). z ≡ from (K .s) c (x ∷ xs))
       (λ q. sym (from-same (K .s) c x xs (omega (arith, e, eqb-true (stage (hand K xs c)) (stage (hand K (x ∷ xs) c)) q))))
       (λ q. sym (from-new (K .s) c x xs (omega (arith, e, l, ne (eqb-false (stage (hand K xs c)) (stage (hand K (x ∷ xs) c)) q)))))
     where

@@ -5,8 +5,10 @@ pub mod Model
 pub mod Moves
 pub mod Serving
 pub mod Rounds
+pub mod Positions
 pub mod Setup
 pub mod Marks
+pub mod Rising
 pub mod Begun
 pub mod Nonces
 pub mod Servers
@@ -14,6 +16,7 @@ pub mod Sources
 pub mod Histories
 pub mod Genuine
 pub mod Heard
+pub mod Quorums
 pub mod States
 pub mod Telling
 pub mod Gathered
@@ -50,8 +53,7 @@ pub mod Settled
 pub mod InWords
 pub mod Playing
 pub mod Exchanges
+pub mod Talks
 pub mod Scene
-pub mod WriteFacts
-pub mod ReadFacts
-pub mod WriteGood
+pub mod SceneFacts
 pub mod Example

@@ -10,9 +10,10 @@ use lib.Dec.{eqb}
 use lib.ListN.{length}
 use borrow.Author.Tests.{eqb-true, eqb-false, ne-eqb}
 use Rattle.protocol.specs.Rules.{countTo, upd}
+use Rattle.protocol.proofs.Marks.{count-mark}
 use Rattle.atomicity.specs.Lists.{All, In, AllPairs}
 use Rattle.atomicity.proofs.Util.{bool-case, all-in, all-of, map-in, upd-here, upd-else}
-use Rattle.atomicity.proofs.Counting.{count-mono, count-upd}
+use Rattle.atomicity.proofs.Counting.{count-mono}
 
 module _ {A : Type 0} where
   without : (b : A) (l : List A) → In b l → (r : List A) × (length l ≡ suc (length r)) × ((y : A) → In y l → (y ≡ b → ⊥) → In y r)
@@ -34,10 +35,6 @@ module _ {A : Type 0} where
   pigeon [] l d f = omega arith
   pigeon (b ∷ bs) l d f = let r = without b l (f b (inl refl)) in
       omega (arith, r .1, pigeon bs (r .0) (d .1) (λ y i. r .2 y (f y (inr i)) (λ e. all-in (λ z. b ≡ z → ⊥) bs (d .0) y i (sym e))))
-
-pub map-size : {A B : Type 0} (g : A → B) (xs : List A) → length (map g xs) ≡ length xs
-map-size g [] = refl
-map-size g (x ∷ xs) = ap suc (map-size g xs)
 
 pub map-apart : {A B : Type 0} (g : A → B) (R : A → A → Type 0) (l : List A) → ((a b : A) → In a l → In b l → R a b → g a ≡ g b → ⊥) → AllPairs R l →
     AllPairs (λ a b. a ≡ b → ⊥) (map g l)
@@ -61,7 +58,7 @@ marked-count n (b ∷ bs) p d f =
       arith,
       marked-count n bs q (d .1) (λ c i. let k = f c (inr i) in
           (k .0, k .1, upd-else p b false c (ne-eqb c b (λ e. eqb-false b c (all-in (λ z. eqb b z ≡ false) bs (d .0) c i) (sym e))) ∙ k .2)),
-      count-upd q b n (h .0) (h .1) (upd-here p b false),
+      count-mark n b q (h .0) (h .1) (upd-here p b false),
       count-mono (upd q b true) p n (λ x lo hi e. bool-case (eqb x b) (λ t. subst (λ (i : ℕ). p i ≡ true) (sym (eqb-true x b t)) (h .2))
           (λ t. sym (upd-else p b false x t) ∙ sym (upd-else q b true x t) ∙ e)),
     )

@@ -1,35 +1,36 @@
 -- The log with stamps: a step begins a known call or carries every known call on, by what its result does to the call of its client.
 -- Assumes nothing.
 use mathlib.Core.Path.{_≡_, refl, sym, ap, _∙_, subst}
-use mathlib.Core.Bool.{Bool, true, false, cond, _&&_}
+use mathlib.Core.Bool.{Bool, true, false, cond}
 use mathlib.Core.List.{List, [], _∷_, map}
 use mathlib.Core.Option.{none, some}
-use mathlib.Core.Logic.{_⊎_, inl, inr}
+use mathlib.Core.Logic.{inl}
 use Prim.Native.Nat.{ℕ, suc}
 use native.Mathlib.Omega.{arith}
 use lib.Dec.{eqb}
 use lib.ListN.{length}
-use borrow.Author.Tests.{eqb-true, eq-eqb}
+use borrow.Author.Tests.{eq-eqb}
 use Rattle.protocol.specs.declared.Stamp.{Stamp}
 use Rattle.protocol.specs.Values.{blankStamp}
 use Rattle.protocol.specs.Packet.{Packet, decode}
-use Rattle.protocol.specs.Client.{Client, Hand, Result, idle, clocking, storing, completing, collecting, filtering, repairing, onto, awaits, isIdle}
+use Rattle.protocol.specs.Client.{Client, Hand, Result, idle, clocking, storing, completing, collecting, filtering, repairing, onto, awaits, isIdle, accepted}
 use Rattle.protocol.specs.Runs.{Step, write, read, make, take-reply, give-up, serve, nowValues}
 use Rattle.atomicity.specs.Lists.{Ever, Always, In}
-use Rattle.atomicity.specs.Steps.{Stamped, accepted, stampedFrom, stampedBy, stampedAt}
+use Rattle.atomicity.specs.Steps.{Stamped, stampedFrom, stampedBy, stampedAt}
 use Rattle.atomicity.specs.Premises.{PartyOf}
 use Rattle.atomicity.specs.Claim.{Call, follow, leave}
-use Rattle.atomicity.proofs.Util.{cond-case, clash, no-some, and-left, and-right, and-intro}
+use Rattle.atomicity.proofs.Util.{clash, no-some}
 use Rattle.atomicity.proofs.Model.{perform, now, account, turn}
 use Rattle.atomicity.proofs.Setup.{Setup, Steps, StepOf, Fair, hand, calls}
 use Rattle.atomicity.proofs.Moves.{Fits, Moved, kept, wbegan, rbegan, quit, took, moved, acting}
-use Rattle.atomicity.proofs.Rounds.{since, from, turn-turned}
+use Rattle.atomicity.proofs.Rounds.{turn-turned}
+use Rattle.atomicity.proofs.Positions.{since, from}
 use Rattle.atomicity.proofs.Invariant.{Hands, hands-all, outcome}
 use Rattle.atomicity.proofs.Turns.{Outcome}
 use Rattle.atomicity.proofs.Calls.{Cur, CallOk, Keeps, keeps-refl, carry}
 use Rattle.atomicity.proofs.Replies.{call-follows}
 use Rattle.atomicity.proofs.Following.{Follows}
-use Rattle.atomicity.proofs.Shape.{begun-at, effect, newCall, news, refused-view, result, touch, touched}
+use Rattle.atomicity.proofs.Shape.{begun-at, effect, newCall, news, refused-view, result, touched, mover, touched-case}
 
 module _ (K : Setup) where
   -- a known call
@@ -115,15 +116,7 @@ module _ (K : Setup) where
       begun-lt = h .base .begun-lt;
       number-le = h .base .number-le;
       ended = h .base .ended;
-      write = λ v p q. let r = h .base .write v p q in
-          record {
-            floor = r .floor;
-            write = r .write;
-            mine = r .mine;
-            content-is = r .content-is;
-            stamp-is = r .stamp-is;
-            since-when = r .since-when;
-          };
+      write = h .base .write;
       read = λ e p q. absurd (no-some (sym o ∙ q));
       reaches = h .base .reaches;
       leaves = λ q. o;
@@ -178,29 +171,20 @@ module _ (K : Setup) where
 
   -- the client's own call, at its own take or give-up
   own-call : (x : StepOf K) (xs : Steps K) → Fair K (x ∷ xs) → (a : Call) (σ : Stamp) → CallOk K xs a σ → a .number ≡ calls K xs (a .client) →
-      ((b o : List ℕ) × (x .step ≡ take-reply (a .client) b o)) ⊎ (x .step ≡ give-up (a .client)) → acting (a .client) (x .step) ≡ true →
+      mover (x .step) ≡ some (a .client) → acting (a .client) (x .step) ≡ true →
       Goal x xs a σ (effect K x xs (a .client) a)
   unfolding nowValues onto
-  own-call x xs fair a σ h n shape act = go (moved (K .s) (a .client) (now (K .s) xs) (x .step))
+  own-call x xs fair a σ h n m act = go (moved (K .s) (a .client) (now (K .s) xs) (x .step))
     where
       cl' : Client
       cl' = perform (K .s) (now (K .s) xs) (x .step) .world .client (a .client)
-
-      no-begin : {y : Step} → x .step ≡ y → ((b o : List ℕ) → y ≡ take-reply (a .client) b o → ⊥) → (y ≡ give-up (a .client) → ⊥) → ⊥
-      no-begin {y} s f g = pick shape
-        where
-          pick : ((b o : List ℕ) × (x .step ≡ take-reply (a .client) b o)) ⊎ (x .step ≡ give-up (a .client)) → ⊥
-          pick (inl z) = f (z .0) (z .1) (sym s ∙ z .2)
-          pick (inr z) = g (sym s ∙ z)
 
       go : Moved (K .s) (a .client) (now (K .s) xs) (x .step) cl' (result K x xs) → Goal x xs a σ (effect K x xs (a .client) a)
       go (kept e f) = let no = f act in let r = refused-view (result K x xs) no in
           subst (λ (y : Result). Goal x xs a σ (follow y (eqb (awaits (hand K (x ∷ xs) (a .client))) 6) (length xs) a)) (sym (r .1))
           (σ, carry K x xs a σ h (λ p b o s rd acc q. clash acc no), keeps-refl K a σ)
-      go (wbegan r n' s b d l e) = absurd
-          (no-begin s (λ b o q. (let z : _≡_ {A = ℕ} 0 1 = cc in omega arith)) (λ q. (let z : _≡_ {A = ℕ} 0 1 = cc in omega arith)))
-      go (rbegan s b d e) = absurd (no-begin s (λ b o q. (let z : _≡_ {A = ℕ} 0 1 = cc in omega arith))
-          (λ q. (let z : _≡_ {A = ℕ} 0 1 = cc in omega arith)))
+      go (wbegan r n' s b d l e) = absurd (no-some (sym (ap mover s) ∙ m))
+      go (rbegan s b d e) = absurd (no-some (sym (ap mover s) ∙ m))
       go (quit s v d e) =
           let k = carry K x xs a σ h (λ p b o s' rd acc q. (let z : _≡_ {A = ℕ} 0 1 = cc in omega arith)) in
           subst (λ (y : Result). Goal x xs a σ (follow y (eqb (awaits (hand K (x ∷ xs) (a .client))) 6) (length xs) a)) (sym v) (
@@ -212,28 +196,5 @@ module _ (K : Setup) where
 
   pub step-call : (x : StepOf K) (xs : Steps K) → Fair K (x ∷ xs) → (a : Call) (σ : Stamp) → CallOk K xs a σ → (st : Step) → x .step ≡ st →
       Goal x xs a σ (touched K x xs st a)
-  unfolding touched touch
-  step-call x xs fair a σ h (write c r n) e =
-      (σ, carry K x xs a σ h (λ p b o s rd acc q. (let z : _≡_ {A = ℕ} 0 1 = cc in omega arith)), keeps-refl K a σ)
-  step-call x xs fair a σ h (read c) e = (σ, carry K x xs a σ h (λ p b o s rd acc q. (let z : _≡_ {A = ℕ} 0 1 = cc in omega arith)), keeps-refl K a σ)
-  step-call x xs fair a σ h (make c d o') e =
-      (σ, carry K x xs a σ h (λ p b o s rd acc q. (let z : _≡_ {A = ℕ} 0 1 = cc in omega arith)), keeps-refl K a σ)
-  step-call x xs fair a σ h (serve d p' o') e =
-      (σ, carry K x xs a σ h (λ p b o s rd acc q. (let z : _≡_ {A = ℕ} 0 1 = cc in omega arith)), keeps-refl K a σ)
-  step-call x xs fair a σ h (take-reply c b o) e = cond-case (Goal x xs a σ) (eqb (a .client) c && eqb (a .number) (calls K xs c)) _ a
-      (λ t. let q : a .client ≡ c = eqb-true _ _ (and-left (eqb (a .client) c) _ t) in
-      subst (λ (i : ℕ). Goal x xs a σ (effect K x xs i a)) q
-      (own-call x xs fair a σ h (eqb-true _ _ (and-right (eqb (a .client) c) _ t) ∙ ap (calls K xs) (sym q))
-      (inl (b, o, e ∙ ap (λ (i : ℕ). take-reply i b o) (sym q))) (ap (acting (a .client)) e ∙ eq-eqb _ _ q)))
-      (λ t. (
-        σ,
-        carry K x xs a σ h (λ p b' o' s rd acc n. let q : a .client ≡ c = (let y : c ≡ a .client = cc in sym y) in
-            clash (and-intro _ _ (eq-eqb _ _ q) (eq-eqb (a .number) (calls K xs c) (n ∙ ap (calls K xs) q))) t),
-        keeps-refl K a σ,
-      ))
-  step-call x xs fair a σ h (give-up c) e = cond-case (Goal x xs a σ) (eqb (a .client) c && eqb (a .number) (calls K xs c)) _ a
-      (λ t. let q : a .client ≡ c = eqb-true _ _ (and-left (eqb (a .client) c) _ t) in
-      subst (λ (i : ℕ). Goal x xs a σ (effect K x xs i a)) q
-      (own-call x xs fair a σ h (eqb-true _ _ (and-right (eqb (a .client) c) _ t) ∙ ap (calls K xs) (sym q)) (inr (e ∙ ap give-up (sym q)))
-      (ap (acting (a .client)) e ∙ eq-eqb _ _ q)))
-      (λ t. (σ, carry K x xs a σ h (λ p b o s rd acc n. (let z : _≡_ {A = ℕ} 0 1 = cc in omega arith)), keeps-refl K a σ))
+  step-call x xs fair a σ h = touched-case K (Goal x xs a σ) x xs a (λ k act n. own-call x xs fair a σ h n k act)
+      (λ f. (σ, carry K x xs a σ h (λ p b o s rd acc n. f (ap mover s) n), keeps-refl K a σ))

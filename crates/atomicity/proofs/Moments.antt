@@ -16,15 +16,15 @@ use Rattle.protocol.specs.Rules.{ByServer, countTo}
 use Rattle.atomicity.specs.Lists.{Ever, Always, In}
 use Rattle.atomicity.specs.Steps.{Stamped, serves, judged, shown, inPacket, noncesBy, noncesGot}
 use Rattle.atomicity.specs.Premises.{Begins, FreshNonce, NoEarlyNonce}
-use Rattle.atomicity.proofs.Util.{bool-case, clash, and-left, and-right, in-map, all-in, rise, ever-map, ever-with}
+use Rattle.atomicity.proofs.Util.{bool-case, clash, and-left, and-right, in-map, all-in}
 use Rattle.atomicity.proofs.Model.{now, account, marks, isValid}
-use Rattle.atomicity.proofs.Setup.{Setup, Steps, StepOf, Meets, Fair, Begin, Show}
+use Rattle.atomicity.proofs.Setup.{Setup, Steps, StepOf, Fair, Begin, Show}
 use Rattle.atomicity.proofs.Marks.{marks-up}
 use Rattle.atomicity.proofs.Nonces.{begins, by-nonce}
 use Rattle.atomicity.proofs.Servers.{best-view}
 use Rattle.atomicity.proofs.Genuine.{at-serve, Genuine, genuine}
-use Rattle.atomicity.proofs.States.{right, FullAt}
-use Rattle.atomicity.proofs.Invariant.{Hands, hands-all, Shown, shown-at, shown-up, zip}
+use Rattle.atomicity.proofs.Quorums.{right, FullAt}
+use Rattle.atomicity.proofs.Invariant.{hands-all, shown-since}
 use Rattle.atomicity.proofs.Listed.{counted-one}
 use Rattle.atomicity.proofs.Suffixes.{Suf, suf-refl, suf-total, suf-up, suf-trans, suf-tail, ever-suf, suf-ever}
 use Rattle.atomicity.proofs.Waiting.{best, Sat, Waits}
@@ -128,30 +128,28 @@ module _ (K : Setup) (xs : Steps K) (fair : Fair K xs) (cs : List Candidate) (g 
   pub then-genuine : (j : ℕ) (M : Moment j) (d : Candidate) → In d cs → Genuine K xs d → Genuine K (M .ys) d × FullAt K (M .ys) (d .stamp)
   unfolding NoEarlyNonce noncesBy
   then-genuine j M d i gen =
-      let T = M .sat in let w = gen .write in let y = M .y in let ys = M .ys in
+      let T = M .sat in let w = gen .origin .write in let y = M .y in let ys = M .ys in
       let seen : In (w .nonce) (noncesGot (K .s) (account (K .s)) y ys) = at-serve K (w .nonce) y ys j (T .ask) (T .judging) (noncesBy (K .s))
       (λ b o e. subst (λ (q : Option Packet). In (w .nonce) (map (λ (c : Candidate). c .nonce) (inPacket shown q))) (sym e)
       (subst (λ (z : Body). In (w .nonce) (map (λ (c : Candidate). c .nonce) (shown z))) (sym (T .asked))
       (subst (λ (z : List ℕ). In z (map (λ (c : Candidate). c .nonce) cs)) (sym (gen .nonce-is))
       (in-map (λ (c : Candidate). c .nonce) cs d i)))) in
-      let beg = born (w .nonce) (w .client) j y ys xs (T .judging .by) seen fair (M .suf) (begins K xs w (gen .made)) in
+      let beg = born (w .nonce) (w .client) j y ys xs (T .judging .by) seen fair (M .suf) (begins K xs w (gen .origin .made)) in
       let showed : Ever (Show K (w .client) (w .nonce)) ys =
       all-in (λ n. (c : ℕ) → Ever (Begin K c n) ys → Ever (Show K c n) ys) (noncesGot (K .s) (account (K .s)) y ys) (T .judging .prem .unshown)
       (w .nonce) seen (w .client) beg in
-      let hs = hands-all K ys (T .old) in
-      let Sh : Shown K ys (w .client) (w .nonce) =
-      rise (λ (zs : Steps K). Shown K zs (w .client) (w .nonce)) (shown-up K (w .client) (w .nonce)) ys
-      (ever-map _ _ (λ z zs h. shown-at K (w .client) (w .nonce) z zs (h .0 .0) (h .0 .1) (h .2)) ys
-      (ever-with _ (Show K (w .client) (w .nonce)) ys (zip K (Meets K) (λ z zs. Hands K zs) ys (T .old) (hs .1)) showed)) in
+      let Sh = shown-since K ys (T .old) (hands-all K ys (T .old) .1) (w .client) (w .nonce) showed in
       let eq : Sh .write ≡ w = by-nonce K xs fair (Sh .write) w
-      (suf-up (λ (zs : Steps K). In (Sh .write) (marks (K .s) zs)) (marks-up (K .s) (Sh .write)) ys xs (before-now j M) (Sh .made)) (gen .made)
-      (Sh .nonce-is) in (
+      (suf-up (λ (zs : Steps K). In (Sh .write) (marks (K .s) zs)) (marks-up (K .s) (Sh .write)) ys xs (before-now j M) (Sh .made))
+      (gen .origin .made) (Sh .nonce-is) in (
         record {
-          write = w;
-          made = subst (λ (z : Stamped). In z (marks (K .s) ys)) eq (Sh .made);
-          stamp-is = gen .stamp-is;
+          origin = record {
+            write = w;
+            made = subst (λ (z : Stamped). In z (marks (K .s) ys)) eq (Sh .made);
+            stamp-is = gen .origin .stamp-is;
+            shown = showed;
+          };
           nonce-is = gen .nonce-is;
-          shown = showed;
         },
-        subst (FullAt K ys) (ap (λ (z : Stamped). z .stamp) eq ∙ gen .stamp-is) (Sh .full),
+        subst (FullAt K ys) (ap (λ (z : Stamped). z .stamp) eq ∙ gen .origin .stamp-is) (Sh .full),
       )

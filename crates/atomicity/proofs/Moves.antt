@@ -5,28 +5,36 @@ use mathlib.Core.Path.{_≡_, refl, subst}
 use mathlib.Core.Bool.{Bool, true, false, not, _&&_, _||_}
 use mathlib.Core.List.{List}
 use mathlib.Core.Option.{Option, none, some}
-use Prim.Native.Nat.{ℕ, zero, suc, _≤_}
+use Prim.Native.Nat.{ℕ, _≤_}
 use native.Mathlib.Omega.{arith}
 use lib.ListN.{length}
-use lib.Dec.{leb, eqb}
-use borrow.Author.Tests.{leb-true, eqb-true}
+use lib.Dec.{eqb}
+use borrow.Author.Tests.{eqb-true, not-false, not-true}
+use Rattle.cluster.specs.Config.{Config}
 use Rattle.cluster.specs.Ranges.{within, topWriter, topClient, leastLength, topLength}
-use Rattle.cluster.specs.Refusals.{onRefusal}
+use Rattle.cluster.proofs.Tests.{or-none, inside, passes}
 use Rattle.protocol.specs.Values.{blankCandidate}
 use Rattle.protocol.specs.Packet.{Packet, kindOf, decode}
-use Rattle.protocol.specs.Rules.{upd, nobody}
-use Rattle.protocol.specs.Client.{Client, Turn, Result, more, aborted, idle, clocking, collecting, awaits, isIdle, isFull, tooHigh, highAt, onto, begun, badFaults}
+use Rattle.protocol.specs.Rules.{nobody}
+use Rattle.protocol.specs.Client.{Client, Turn, Result, more, aborted, idle, clocking, collecting, awaits, isIdle, highAt, onto, begun, badFaults, accepted}
 use Rattle.protocol.specs.Client.{writeRefusal, readRefusal, abortRefusal, takeRefusal, writeStep, readStep, abortStep, takeStep, turnOn}
 use Rattle.protocol.specs.Runs.{Step, write, read, make, take-reply, give-up, serve, World, After, doValues, setClient}
-use Rattle.atomicity.specs.Steps.{System, accepted}
-use Rattle.atomicity.proofs.Util.{cond-zero, not-false, not-t, and-left, and-right, or-none, upd-case, clash}
+use Rattle.protocol.proofs.Fine.{at-refusal}
+use Rattle.atomicity.specs.Steps.{System}
+use Rattle.atomicity.proofs.Util.{and-left, and-right, upd-case, clash}
 use Rattle.atomicity.proofs.Model.{perform, turn}
 
-pub refusal-case : {A : Type 0} (P : A → Type 0) (k : ℕ) (a b : A) → (k ≡ 0 → P a) → ((n : ℕ) → k ≡ suc n → P b) → P (onRefusal k a b)
-refusal-case P zero a b f g = f refl
-refusal-case P (suc n) a b f g = g n refl
-
 -- ---- a client
+
+pub write-passed : (s : Config) (c : ℕ) (cl : Client) (r : List ℕ) → writeRefusal s c (length r) (not (isIdle (cl .hand))) (cl .calls) ≡ 0 →
+    (c ≤ topWriter) × (within leastLength topLength (length r) ≡ true) × (isIdle (cl .hand) ≡ true)
+unfolding writeRefusal
+write-passed s c cl r e =
+    let z1 = passes (badFaults s) 2 _ e in
+    let z2 = passes (not (within 1 topWriter c)) 4 _ (z1 .1) in
+    let z3 = passes (not (within leastLength topLength (length r))) 5 _ (z2 .1) in
+    let z4 = passes (not (isIdle (cl .hand))) 12 _ (z3 .1) in
+    (inside 1 topWriter c (z2 .0) .1, not-false _ (z3 .0), not-false _ (z4 .0))
 
 -- what is known of a reply that is let in
 pub record Fits (s : System) (c : ℕ) (cl : Client) (p : Packet) : Type 0 where
@@ -35,8 +43,6 @@ pub record Fits (s : System) (c : ℕ) (cl : Client) (p : Packet) : Type 0 where
   pub busy : isIdle (cl .hand) ≡ false
   pub call : p .head .call ≡ cl .calls
   pub kind : kindOf (p .body) ≡ awaits (cl .hand)
-  pub new : cl .marks (p .head .server) ≡ false
-  pub small : tooHigh (s .P) (s .writers) (p .body) (isFull (s .config) (upd (cl .marks) (p .head .server) true)) (cl .hand) ≡ false
 
 -- client c begins, takes or gives up
 abbrev pub acting : ℕ → Step → Bool
@@ -63,13 +69,12 @@ pub take-fits : (s : System) (c : ℕ) (cl : Client) (p : Packet) (room : ℕ) �
     Fits s c cl p
 unfolding takeRefusal highAt isIdle
 take-fits s c cl p room e =
-    let z1 = cond-zero (badFaults (s .config)) 2 _ e in
-    let z2 = cond-zero (not (within 1 topClient c)) 4 _ (z1 .1) in
-    let z3 = cond-zero (not (eqb (p .head .t) (s .config .t) && eqb (p .head .client) c)) 7 _ (z2 .1) in
-    let z4 = cond-zero (not (eqb (awaits (cl .hand)) 0) &&
+    let z1 = passes (badFaults (s .config)) 2 _ e in
+    let z2 = passes (not (within 1 topClient c)) 4 _ (z1 .1) in
+    let z3 = passes (not (eqb (p .head .t) (s .config .t) && eqb (p .head .client) c)) 7 _ (z2 .1) in
+    let z4 = passes (not (eqb (awaits (cl .hand)) 0) &&
     (not (eqb (p .head .call) (cl .calls) && eqb (kindOf (p .body)) (awaits (cl .hand))) || cl .marks (p .head .server))) 11 _ (z3 .1) in
-    let z5 = cond-zero (eqb (awaits (cl .hand)) 0) 12 _ (z4 .1) in
-    let z6 = cond-zero (highAt (s .P) (s .config) c (s .writers) (s .keys) cl (p .head .server) (p .body)) 13 _ (z5 .1) in
+    let z5 = passes (eqb (awaits (cl .hand)) 0) 12 _ (z4 .1) in
     let a = not-false (eqb (p .head .t) (s .config .t) && eqb (p .head .client) c) (z3 .0) in
     let o = or-none (not (eqb (p .head .call) (cl .calls) && eqb (kindOf (p .body)) (awaits (cl .hand)))) (cl .marks (p .head .server))
     (second (eqb (awaits (cl .hand)) 0) _ (z5 .0) (z4 .0)) in
@@ -80,8 +85,6 @@ take-fits s c cl p room e =
       busy = z5 .0;
       call = eqb-true _ _ (and-left _ _ k);
       kind = eqb-true _ _ (and-right (eqb (p .head .call) (cl .calls)) _ k);
-      new = o .1;
-      small = z6 .0;
     }
   where
     second : (i u : Bool) → i ≡ false → (not i && u) ≡ false → u ≡ false
@@ -100,51 +103,46 @@ module _ (s : System) (c : ℕ) (w : World) where
 
   write-moved : (r n : List ℕ) → Moved s c w (write c r n) (writeStep (s .config) c (w .client c) r n .client)
       (writeStep (s .config) c (w .client c) r n .result)
-  unfolding writeStep writeRefusal
-  write-moved r n = refusal-case (λ (u : Turn). Moved s c w (write c r n) (u .client) (u .result))
+  unfolding writeStep
+  write-moved r n = at-refusal (λ (u : Turn). Moved s c w (write c r n) (u .client) (u .result))
       (writeRefusal (s .config) c (length r) (not (isIdle (w .client c .hand))) (w .client c .calls)) _ _
-      (λ e. let z1 = cond-zero (badFaults (s .config)) 2 _ e in
-      let z2 = cond-zero (not (within 1 topWriter c)) 4 _ (z1 .1) in
-      let z3 = cond-zero (not (within leastLength topLength (length r))) 5 _ (z2 .1) in
-      let z4 = cond-zero (not (isIdle (w .client c .hand))) 12 _ (z3 .1) in
-      wbegan r n refl refl (not-false _ (z4 .0)) (leb-true c topWriter (and-right (leb 1 c) (leb c topWriter) (not-false _ (z2 .0)))) refl)
-      (λ k e. kept refl (λ q. refl))
+      (λ e. let z = write-passed (s .config) c (w .client c) r e in wbegan r n refl refl (z .2) (z .0) refl) (kept refl (λ q. refl))
 
   read-moved : Moved s c w (read c) (readStep (s .config) c (w .client c) .client) (readStep (s .config) c (w .client c) .result)
   unfolding readStep readRefusal
-  read-moved = refusal-case (λ (u : Turn). Moved s c w (read c) (u .client) (u .result))
+  read-moved = at-refusal (λ (u : Turn). Moved s c w (read c) (u .client) (u .result))
       (readRefusal (s .config) c (not (isIdle (w .client c .hand))) (w .client c .calls)) _ _
-      (λ e. let z1 = cond-zero (badFaults (s .config)) 2 _ e in
-      let z2 = cond-zero (not (within 1 topClient c)) 4 _ (z1 .1) in
-      let z3 = cond-zero (not (isIdle (w .client c .hand))) 12 _ (z2 .1) in
+      (λ e. let z1 = passes (badFaults (s .config)) 2 _ e in
+      let z2 = passes (not (within 1 topClient c)) 4 _ (z1 .1) in
+      let z3 = passes (not (isIdle (w .client c .hand))) 12 _ (z2 .1) in
       rbegan refl refl (not-false _ (z3 .0)) refl)
-      (λ k e. kept refl (λ q. refl))
+      (kept refl (λ q. refl))
 
   quit-moved : Moved s c w (give-up c) (abortStep (s .config) c (w .client c) .client) (abortStep (s .config) c (w .client c) .result)
   unfolding abortStep abortRefusal
-  quit-moved = refusal-case (λ (u : Turn). Moved s c w (give-up c) (u .client) (u .result))
+  quit-moved = at-refusal (λ (u : Turn). Moved s c w (give-up c) (u .client) (u .result))
       (abortRefusal (s .config) c (not (isIdle (w .client c .hand)))) _ _
-      (λ e. let z1 = cond-zero (badFaults (s .config)) 2 _ e in
-      let z2 = cond-zero (not (within 1 topClient c)) 4 _ (z1 .1) in
-      let z3 = cond-zero (not (not (isIdle (w .client c .hand)))) 12 _ (z2 .1) in
-      quit refl refl (not-t _ (not-false _ (z3 .0))) refl)
-      (λ k e. kept refl (λ q. refl))
+      (λ e. let z1 = passes (badFaults (s .config)) 2 _ e in
+      let z2 = passes (not (within 1 topClient c)) 4 _ (z1 .1) in
+      let z3 = passes (not (not (isIdle (w .client c .hand)))) 12 _ (z2 .1) in
+      quit refl refl (not-true _ (not-false _ (z3 .0))) refl)
+      (kept refl (λ q. refl))
 
   take-moved : (b o : List ℕ) (q : Option Packet) → decode b ≡ q →
       Moved s c w (take-reply c b o) (takeStep (s .P) (s .config) c (s .writers) (s .keys) (w .client c) q (length o) .client)
       (takeStep (s .P) (s .config) c (s .writers) (s .keys) (w .client c) q (length o) .result)
   unfolding takeStep turnOn takeRefusal
-  take-moved b o none d = refusal-case (λ (u : Turn). Moved s c w (take-reply c b o) (u .client) (u .result))
+  take-moved b o none d = at-refusal (λ (u : Turn). Moved s c w (take-reply c b o) (u .client) (u .result))
       (takeRefusal (s .config) c none (w .client c .calls) (awaits (w .client c .hand)) (w .client c .marks)
       (highAt (s .P) (s .config) c (s .writers) (s .keys) (w .client c)) (length o)) _ _
-      (λ e. let z1 = cond-zero (badFaults (s .config)) 2 _ e in let z2 = cond-zero (not (within 1 topClient c)) 4 _ (z1 .1) in
+      (λ e. let z1 = passes (badFaults (s .config)) 2 _ e in let z2 = passes (not (within 1 topClient c)) 4 _ (z1 .1) in
       absurd (omega (arith, z2 .1)))
-      (λ k e. kept refl (λ q. refl))
-  take-moved b o (some p) d = refusal-case (λ (u : Turn). Moved s c w (take-reply c b o) (u .client) (u .result))
+      (kept refl (λ q. refl))
+  take-moved b o (some p) d = at-refusal (λ (u : Turn). Moved s c w (take-reply c b o) (u .client) (u .result))
       (takeRefusal (s .config) c (some p) (w .client c .calls) (awaits (w .client c .hand)) (w .client c .marks)
       (highAt (s .P) (s .config) c (s .writers) (s .keys) (w .client c)) (length o)) _ _
       (λ e. took p b o refl d (take-fits s c (w .client c) p (length o) e) refl refl)
-      (λ k e. kept refl (λ q. refl))
+      (kept refl (λ q. refl))
 
   pub moved : (x : Step) → Moved s c w x (perform s w x .world .client c) (perform s w x .result)
   unfolding doValues setClient

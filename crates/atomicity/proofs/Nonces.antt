@@ -6,10 +6,10 @@ use mathlib.Core.List.{List, [], _∷_}
 use mathlib.Core.Logic.{_⊎_, inl, inr}
 use Prim.Native.Nat.{ℕ, suc}
 use native.Mathlib.Omega.{arith}
-use Rattle.protocol.specs.Client.{Client, Hand, Result, idle, clocking, storing, completing, collecting, filtering, repairing, begun, onto, prepared}
+use Rattle.protocol.specs.Client.{Client, Hand, Result, idle, clocking, storing, completing, collecting, filtering, repairing, begun, onto, prepared, accepted}
 use Rattle.protocol.specs.Runs.{write, World, nowValues}
 use Rattle.atomicity.specs.Lists.{Ever, Always, In}
-use Rattle.atomicity.specs.Steps.{Stamped, accepted, stampedAt}
+use Rattle.atomicity.specs.Steps.{Stamped, stampedAt}
 use Rattle.atomicity.specs.Premises.{Begins, FreshNonce}
 use Rattle.atomicity.proofs.Util.{split-in, ever-map}
 use Rattle.atomicity.proofs.Model.{perform, now, account, marks, stampFor, preparedFor}
@@ -88,7 +88,7 @@ module _ (K : Setup) where
       go : Moved (K .s) c w (x .step) cl' (perform (K .s) w (x .step) .result) → Unmarked xs (w .client c .hand) → Unmarked (x ∷ xs) (cl' .hand)
       go (kept e _) u = on (cl' .hand) refl (λ r n k q. subst (Unmarked xs) (sym (ap (λ (y : Client). y .hand) e) ∙ q) u)
       go (wbegan r n a b d l e) u = on (cl' .hand) refl
-          (λ r' n' k q m i z. let q' : clocking r n (w .client c .last) ≡ clocking r' n' k = sym (ap (λ (y : Client). y .hand) e) ∙ q in
+          (λ r' n' k q m i z. let q' : clocking r n _ ≡ clocking r' n' k = sym (ap (λ (y : Client). y .hand) e) ∙ q in
           let nn : n ≡ n' = cc in
           fair .0 .fresh c n (r, a, subst (λ (z : Result). accepted z ≡ true) (sym b) refl) .0 (m .client)
           (subst (λ (y : List ℕ). Ever (Begin K (m .client) y) xs) (z ∙ sym nn) (begins xs m i)))

@@ -16,45 +16,30 @@ use Rattle.protocol.specs.Packet.{Body, Packet, kindOf}
 use Rattle.protocol.specs.Packet.{clock, clockReply, store, storeReply, complete, completeReply, collect, collectReply, filter, filterReply, repair, repairReply}
 use Rattle.protocol.specs.Primitives.{stampMessage, candidateMessage}
 use Rattle.protocol.specs.Rules.{ByServer, leader, tagsIn}
-use Rattle.protocol.specs.Client.{Client, Hand, Turn, Result, idle, clocking, storing, completing, collecting, filtering, repairing, awaits}
+use Rattle.protocol.specs.Client.{Client, Hand, Turn, Result, idle, clocking, storing, completing, collecting, filtering, repairing, awaits, accepted}
 use Rattle.protocol.specs.Client.{update, judge, found, onto, begun, prepared, candidateMade, higher, checks, stampIn, codeIn}
 use Rattle.protocol.specs.Runs.{Step, World, nowValues}
+use Rattle.protocol.proofs.Answers.{at-cond}
 use Rattle.atomicity.specs.Lists.{Ever, Always, In, flat}
-use Rattle.atomicity.specs.Steps.{Stamped, accepted, inPacket, clockStamps, stampedFrom, stampedBy, stampedAt, tagsWith, tagsMade, clockChecks, checkedBy, tagsChecked}
+use Rattle.atomicity.specs.Steps.{Stamped, inPacket, clockStamps, stampedFrom, stampedBy, stampedAt, tagsWith, tagsMade, clockChecks, checkedBy, tagsChecked}
 use Rattle.atomicity.specs.Premises.{NoForgery}
-use Rattle.atomicity.proofs.Util.{cond-case, cond-both, and-left, left-in, right-in, in-flat, map-in, all-in}
+use Rattle.atomicity.proofs.Util.{cond-both, and-left, left-in, right-in, in-flat, map-in, all-in}
 use Rattle.atomicity.proofs.Model.{perform, now, account, marks, updated}
 use Rattle.atomicity.proofs.Setup.{Setup, Steps, StepOf, Fair, hand}
 use Rattle.atomicity.proofs.Moves.{Moved, kept, wbegan, rbegan, quit, took, moved}
 use Rattle.atomicity.proofs.Rounds.{turn-turned}
-use Rattle.atomicity.proofs.Marks.{capped}
+use Rattle.atomicity.proofs.Rising.{Clocked, clocked-map, capped}
 use Rattle.atomicity.proofs.Shape.{result}
 use Rattle.atomicity.proofs.Story.{past}
 
+abbrev pub Low : ℕ → Hand → Type 0
+Low n = Clocked (λ k. k ≤ n)
+
 module _ (K : Setup) where
-  unfoldable pub Low : ℕ → Hand → Type 0
-  Low n idle = Unit {0}
-  Low n (clocking r k m) = m ≤ n
-  Low n (storing d g) = Unit {0}
-  Low n (completing d) = Unit {0}
-  Low n (collecting g) = Unit {0}
-  Low n (filtering cs g) = Unit {0}
-  Low n (repairing d r) = Unit {0}
-
-  low-up : (n m : ℕ) (h : Hand) → n ≤ m → Low n h → Low m h
-  unfolding Low
-  low-up n m idle l h = tt
-  low-up n m (clocking r k t) l h = omega arith
-  low-up n m (storing d g) l h = tt
-  low-up n m (completing d) l h = tt
-  low-up n m (collecting g) l h = tt
-  low-up n m (filtering cs g) l h = tt
-  low-up n m (repairing d r) l h = tt
-
   pub higher-low : (N m : ℕ) (a : Stamp) → m ≤ N → (checks (K .s .P) (K .s .writers) a ≡ true → a .number ≤ N) →
       higher (K .s .P) (K .s .writers) m a ≤ N
   unfolding higher
-  higher-low N m a l f = cond-case (λ (v : ℕ). v ≤ N) (checks (K .s .P) (K .s .writers) a && ltb m (a .number)) (a .number) m
+  higher-low N m a l f = at-cond (checks (K .s .P) (K .s .writers) a && ltb m (a .number)) (a .number) m (λ (v : ℕ). v ≤ N)
       (λ e. f (and-left (checks (K .s .P) (K .s .writers) a) _ e)) (λ e. l)
 
   -- the client after a reply, with M marks then
@@ -64,7 +49,7 @@ module _ (K : Setup) where
 
   found-low : (c N : ℕ) (cs : List Candidate) (g g' : ByServer Held) (m : ByServer Bool) (cl : Client) (d : Candidate) (b : ℕ) → cl .last ≤ N →
       LowTurn c N (filtering cs g) (found (K .s .P) (K .s .config) c (K .s .writers) (K .s .keys) cl m g' d b)
-  unfolding found onto Low stampedFrom
+  unfolding found onto Clocked stampedFrom
   found-low c N cs g g' m cl d b l =
       cond-both (LowTurn c N (filtering cs g)) (sameList (tagsIn (K .s .P) (K .s .config) d (g' b .share)) (d .tags)) _ _ (omega arith, tt)
       (omega arith, tt)
@@ -72,7 +57,7 @@ module _ (K : Setup) where
   judge-low : (c N : ℕ) (cs : List Candidate) (g g' : ByServer Held) (m : ByServer Bool) (cl : Client) (ls : List Candidate) (o : Option Candidate) →
       cl .last ≤ N →
       LowTurn c N (filtering cs g) (judge (K .s .P) (K .s .config) c (K .s .writers) (K .s .keys) cl m cs g' ls o)
-  unfolding judge onto Low stampedFrom
+  unfolding judge onto Clocked stampedFrom
   judge-low c N cs g g' m cl [] o l = (omega arith, tt)
   judge-low c N cs g g' m cl (x ∷ ls) none l = (omega arith, tt)
   judge-low c N cs g g' m cl (x ∷ ls) (some d) l = found-low c N cs g g' m cl d (leader (K .s .P) (K .s .config) m g' d (K .s .config .servers)) l
@@ -80,7 +65,7 @@ module _ (K : Setup) where
   update-low : (c N : ℕ) (cl : Client) (b : ℕ) (y : Body) (m : ByServer Bool) (full : Bool) (h : Hand) → cl .hand ≡ h → cl .last ≤ N → Low N h →
       (awaits h ≡ 2 → checks (K .s .P) (K .s .writers) (stampIn y) ≡ true → stampIn y .number ≤ N) →
       LowTurn c N h (updated (K .s) c cl b y m full h)
-  unfolding update onto Low stampedFrom awaits prepared candidateMade
+  unfolding update onto Clocked stampedFrom awaits prepared candidateMade
   update-low c N cl b y m full idle e l lo f = (omega arith, subst (Low (N + 0)) (sym e) tt)
   update-low c N cl b y m true (clocking r n k) e l lo f = (omega (arith, higher-low N k (stampIn y) lo (f refl)), tt)
   update-low c N cl b y m false (clocking r n k) e l lo f = (omega arith, omega (arith, higher-low N k (stampIn y) lo (f refl)))
@@ -141,7 +126,7 @@ module _ (K : Setup) where
   mark-small xs h m i = omega (arith, h (m .client) .0, capped (K .s) xs m i)
 
   small-step : (x : StepOf K) (xs : Steps K) → Fair K (x ∷ xs) → Small xs → Small (x ∷ xs)
-  unfolding Small nowValues marks begun onto Low Always NoForgery checkedBy stampedBy
+  unfolding Small nowValues marks begun onto Clocked Always NoForgery checkedBy stampedBy
   small-step x xs fair h c = go (moved (K .s) c w (x .step))
     where
       w : World
@@ -163,7 +148,7 @@ module _ (K : Setup) where
       up = omega (arith, length-append (stampedAt (K .s) (account (K .s)) x xs) (marks (K .s) xs))
 
       go : Moved (K .s) c w (x .step) cl' (result K x xs) → Goal M cl'
-      go (kept e _) = subst (Goal M) (sym e) (omega (arith, up, h c .0), low-up N M (hand K xs c) up (h c .1))
+      go (kept e _) = subst (Goal M) (sym e) (omega (arith, up, h c .0), clocked-map _ _ (λ k l. omega (arith, up, l)) (hand K xs c) (h c .1))
       go (wbegan r n s a i l e) = subst (Goal M) (sym e) (omega (arith, up, h c .0), omega (arith, up, h c .0))
       go (rbegan s a i e) = subst (Goal M) (sym e) (omega (arith, up, h c .0), tt)
       go (quit s a i e) = subst (Goal M) (sym e) (omega (arith, up, h c .0), tt)
@@ -193,6 +178,6 @@ module _ (K : Setup) where
               omega (arith, m .2, mark-small xs h (m .0) (m .1))
 
   pub small : (xs : Steps K) → Fair K xs → Small xs
-  unfolding Small nowValues marks Low
+  unfolding Small nowValues marks Clocked
   small [] fair = λ c. (omega arith, tt)
   small (x ∷ xs) fair = small-step x xs fair (small xs (past K x xs fair))

@@ -22,8 +22,9 @@ use Rattle.atomicity.specs.Claim.{Call, given, counted, begunWrites, Nev
 use Rattle.atomicity.proofs.Util.{bool-case, clash, and-right, and-intro, or-cases, keep-in, all-in, map-in}
 use Rattle.atomicity.proofs.Model.{Laws, account, marks, now}
 use Rattle.atomicity.proofs.Setup.{Setup, Steps, Fair, hand, calls}
-use Rattle.atomicity.proofs.Rounds.{since, from}
-use Rattle.atomicity.proofs.States.{S, Q, right, HandOk}
+use Rattle.atomicity.proofs.Positions.{since, from}
+use Rattle.atomicity.proofs.States.{HandOk}
+use Rattle.atomicity.proofs.Quorums.{S, Q, right}
 use Rattle.atomicity.proofs.Invariant.{Hands, hands-all}
 use Rattle.atomicity.proofs.Shape.{Log}
 use Rattle.atomicity.proofs.Logs.{Signed}

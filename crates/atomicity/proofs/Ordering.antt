@@ -10,8 +10,9 @@ use Prim.Native.Nat.{ℕ}
 use Rattle.protocol.specs.Rules.{keep}
 use Rattle.atomicity.specs.Lists.{All, In, AllPairs, Perm, nil, skip, swap, trans}
 use Rattle.atomicity.specs.Claim.{Call, before, counted, shows, holds, Replay, OneOrder}
-use Rattle.atomicity.proofs.Util.{untrue, no-some, all-in, all-map}
+use Rattle.atomicity.proofs.Util.{no-some, all-in, all-map}
 use Rattle.atomicity.proofs.Sorting.{sort, perm-sort, all-sort, sort-sorted}
+use Rattle.cluster.proofs.Tests.{untrue}
 
 pub in-perm : {A : Type 0} {xs ys : List A} → Perm xs ys → (x : A) → In x ys → In x xs
 unfolding In

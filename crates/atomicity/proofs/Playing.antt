@@ -1,34 +1,36 @@
 -- Tools to show that a given run meets the premises: a toy shelf of t = 1 whose digest and tag can be followed by eye, servers 1 to 3 and
 -- clients 1 to 15 correct, so that server 4 may lie and client 16 is wild; and that a step keeps the premises, from facts that are computed.
 -- Assumes nothing.
-use mathlib.Core.Path.{_≡_, refl, sym, subst}
+use mathlib.Core.Path.{_≡_, refl, sym, ap, subst}
 use mathlib.Core.Bool.{Bool, true, false, cond, not, _&&_, _||_}
 use mathlib.Core.List.{List, [], _∷_, _++_}
-use mathlib.Core.Option.{some}
 use mathlib.Core.Logic.{_⊎_, inl, inr}
-use Prim.Native.Nat.{ℕ, zero, suc, _≤_}
+use Prim.Native.Nat.{ℕ, zero, suc}
 use native.Mathlib.Omega.{arith}
-use lib.Dec.{leb, ltb}
+use lib.Dec.{ltb}
 use lib.ListN.{take, replicate, length-append, length-replicate}
 use lib.Seq.{length-take-le}
-use borrow.Author.Tests.{leb-true, le-leb, ltb-true}
+use borrow.Author.Tests.{ltb-true, not-true}
 use Rattle.cluster.specs.Config.{shelf}
 use Rattle.cluster.specs.Ranges.{within, packetRoom, contentRoom}
 use Rattle.cluster.proofs.Legal.{legal-shelf}
+use Rattle.cluster.proofs.Tests.{inside}
 use Rattle.hmac.specs.Hmac.{tagSize}
 use Rattle.erasure.specs.Fragments.{fragment, restored}
 use Rattle.protocol.specs.Format.{Bytes}
 use Rattle.protocol.specs.Values.{digestSize, sameList}
-use Rattle.protocol.specs.Packet.{Body, kindOf, decode, encode}
+use Rattle.protocol.specs.Packet.{Body, Packet, kindOf, encode}
 use Rattle.protocol.specs.Primitives.{Primitives, Lengths, real}
 use Rattle.protocol.specs.Rules.{countTo}
 use Rattle.protocol.specs.Runs.{write, make, take-reply, serve, Shelf, Account}
 use Rattle.protocol.proofs.Primitive.{real-lengths}
+use Rattle.protocol.proofs.Equal.{same-true}
+use Rattle.protocol.specs.Client.{accepted}
 use Rattle.atomicity.specs.Lists.{Ever, Always, All, In}
-use Rattle.atomicity.specs.Steps.{accepted, tagsMade, tagsChecked, digested, allDigested, noncesGot, checkedBy, digestedBy, noncesBy}
+use Rattle.atomicity.specs.Steps.{tagsMade, tagsChecked, digested, allDigested, noncesGot, checkedBy, digestedBy, noncesBy}
 use Rattle.atomicity.specs.Premises.{Correct, Parties, PartyOf, Authentic, Begins, FreshNonce, NoEarlyNonce, NoForgery, NoCollision}
-use Rattle.atomicity.proofs.Util.{clash, no-some, and-left, and-right, and-intro, or-cases, all-of, not-t}
-use Rattle.atomicity.proofs.Stamps.{same-eq, same-is}
+use Rattle.atomicity.proofs.Util.{clash, no-some, and-left, and-right, or-cases, all-of, within-in}
+use Rattle.atomicity.proofs.Stamps.{same-is}
 use Rattle.atomicity.proofs.Model.{account}
 use Rattle.atomicity.proofs.Setup.{Setup, Steps, StepOf, Fair, Begin, Show}
 use Rattle.atomicity.proofs.Real.{Restores, real-restores, systemWith, laws-of}
@@ -61,22 +63,16 @@ toy-lengths =
 abbrev pub desk : Shelf
 desk = record { t = 1; writers = 99 ∷ []; keys = (1 ∷ []) ∷ (2 ∷ []) ∷ (3 ∷ []) ∷ (4 ∷ []) ∷ [] }
 
-abbrev pub upto : ℕ → ℕ → Bool
-upto n i = leb 1 i && leb i n
-
 abbrev pub who : Correct
-who = record { client = upto 15; server = upto 3 }
-
-ranged : (n i : ℕ) → upto n i ≡ true → (1 ≤ i) × (i ≤ n)
-ranged n i e = (leb-true 1 i (and-left (leb 1 i) (leb i n) e), leb-true i n (and-right (leb 1 i) (leb i n) e))
+who = record { client = within 1 15; server = within 1 3 }
 
 pub toy-parties : Parties (shelf 1) who
 unfolding shelf countTo
 toy-parties =
     record {
-      writers = λ c lo hi. and-intro (leb 1 c) (leb c 15) (le-leb 1 c lo) (le-leb c 15 (omega (arith, hi)));
-      clients = λ c e. let r = ranged 15 c e in (r .0, omega (arith, r .1));
-      servers = λ b e. let r = ranged 3 b e in (r .0, omega (arith, r .1));
+      writers = λ c lo hi. within-in 1 15 c lo (omega (arith, hi));
+      clients = λ c e. let r = inside 1 15 c (ap not e) in (r .0, omega (arith, r .1));
+      servers = λ b e. let r = inside 1 3 b (ap not e) in (r .0, omega (arith, r .1));
       liars = omega arith;
     }
 
@@ -108,9 +104,12 @@ bytes-ok [] e i = omega arith
 bytes-ok (x ∷ xs) e zero = ltb-true x 256 (and-left (ltb x 256) _ e)
 bytes-ok (x ∷ xs) e (suc i) = bytes-ok xs (and-right (ltb x 256) _ e) i
 
--- the packet of call n between client c and server b
-unfoldable pub packet : ℕ → ℕ → ℕ → Body → List ℕ
-packet c b n x = encode (record { head = record { kind = kindOf x; client = c; server = b; t = 1; call = n }; body = x })
+-- the packet of client c's first call, to or from server b
+abbrev pub packetOf : ℕ → ℕ → Body → Packet
+packetOf c b x = record { head = record { kind = kindOf x; client = c; server = b; t = 1; call = 1 }; body = x }
+
+unfoldable pub packet : ℕ → ℕ → Body → List ℕ
+packet c b x = encode (packetOf c b x)
 
 abbrev pub makes-it : ℕ → ℕ → StepOf K
 makes-it c b = record { step = make c b (replicate packetRoom 0); fed = tt }
@@ -142,8 +141,8 @@ alone-ok u (v ∷ vs) e = (
 )
   where
     one : toy .digest u ≡ toy .digest v → (not (sameList (toy .digest u) (toy .digest v)) ≡ true) ⊎ (sameList u v ≡ true) → u ≡ v
-    one q (inl k) = clash (same-is (toy .digest u) (toy .digest v) q) (not-t _ k)
-    one q (inr k) = same-eq u v k
+    one q (inl k) = clash (same-is (toy .digest u) (toy .digest v) q) (not-true _ k)
+    one q (inr k) = same-true u v k
 
 pub clear-ok : (us vs : List (List ℕ)) → clear us vs ≡ true → All (λ u. All (λ v. toy .digest u ≡ toy .digest v → u ≡ v) vs) us
 unfolding All
@@ -196,11 +195,7 @@ pub cond-nil : {B : Type 0} (b : Bool) → _≡_ {A = List B} (cond b [] []) []
 cond-nil true = refl
 cond-nil false = refl
 
-pub good-make : (D : List (List ℕ)) (c b : ℕ) (xs : Steps K) → upto 15 c ≡ true → Good D xs → Good D (makes-it c b ∷ xs)
+pub good-make : (D : List (List ℕ)) (c b : ℕ) (xs : Steps K) → who .client c ≡ true → Good D xs → Good D (makes-it c b ∷ xs)
 unfolding Authentic checkedBy digestedBy noncesBy
 good-make D c b xs w g = good-step D [] (makes-it c b) xs g w (λ p e o. absurd (no-some e)) (λ d r n e. (let z : _≡_ {A = ℕ} 0 1 = cc in omega arith))
     (cond-nil (fine (makes-it c b) xs)) (cond-nil (fine (makes-it c b) xs)) refl (inl (cond-nil (fine (makes-it c b) xs)))
-
--- a packet reads back as it was made
-abbrev pub Reads : ℕ → ℕ → ℕ → Body → Type 0
-Reads c b n x = decode (packet c b n x) ≡ some (record { head = record { kind = kindOf x; client = c; server = b; t = 1; call = n }; body = x })

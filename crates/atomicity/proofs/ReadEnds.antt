@@ -4,7 +4,7 @@ use mathlib.Core.Path.{_≡_, refl, sym, ap, _∙_, subst}
 use mathlib.Core.Bool.{Bool, false}
 use mathlib.Core.List.{List, [], _∷_}
 use mathlib.Core.Option.{Option, none, some}
-use mathlib.Core.Logic.{_⊎_, inl, inr}
+use mathlib.Core.Logic.{inl, inr}
 use Prim.Native.Nat.{ℕ}
 use native.Mathlib.Omega.{arith}
 use lib.ListN.{length}
@@ -13,29 +13,24 @@ use Rattle.protocol.specs.Values.{Candidate, Held, below, blankStamp, sameList}
 use Rattle.protocol.specs.Rules.{ByServer, leader, tagsIn}
 use Rattle.protocol.specs.Client.{Client, Hand, gave, gaveBlank, idle, filtering, repairing, awaits}
 use Rattle.protocol.specs.Client.{judge, found, onto}
-use Rattle.atomicity.specs.Lists.{Ever, In}
-use Rattle.atomicity.specs.Steps.{Stamped}
+use Rattle.protocol.proofs.Answers.{at-cond}
+use Rattle.atomicity.specs.Lists.{Ever}
 use Rattle.atomicity.specs.Claim.{Call, close}
-use Rattle.atomicity.proofs.Util.{cond-case, clash, no-some}
-use Rattle.atomicity.proofs.Model.{marks}
-use Rattle.atomicity.proofs.Setup.{Setup, Steps, StepOf, Show, calls}
-use Rattle.atomicity.proofs.Rounds.{since}
-use Rattle.atomicity.proofs.States.{TopAt, Beats}
+use Rattle.atomicity.proofs.Util.{clash, no-some}
+use Rattle.atomicity.proofs.Setup.{Setup, Steps, StepOf, calls}
+use Rattle.atomicity.proofs.Positions.{since}
+use Rattle.atomicity.proofs.Quorums.{TopAt, Beats}
 use Rattle.atomicity.proofs.Turns.{ResultOk}
 use Rattle.atomicity.proofs.Invariant.{Ends, top-blank}
-use Rattle.atomicity.proofs.Calls.{Given, Base, Open, Cur, Keeps}
+use Rattle.atomicity.proofs.Calls.{Grounded, Base, Open, Cur, Keeps}
 use Rattle.atomicity.proofs.Following.{Follows, unreach, stays, low}
 
 module _ (K : Setup) (x : StepOf K) (xs : Steps K) (a : Call) (σ : Stamp) (same : calls K xs (a .client) ≡ calls K (x ∷ xs) (a .client))
     (base : Base K xs a σ) where
-  Value : Option (List ℕ) → Stamp → Type 0
-  Value v τ = ((v ≡ none) × (τ ≡ blankStamp))
-      ⊎ ((m : Stamped) × In m (marks (K .s) (x ∷ xs)) × Ever (Show K (m .client) (m .nonce)) (x ∷ xs) × (m .stamp ≡ τ) × (v ≡ some (m .content)))
-
   read-ends : (τ : Stamp) (v : Option (List ℕ)) → Open K xs a → a .wrote ≡ none → TopAt K (x ∷ xs) τ →
-      ((b : Stamp) → TopAt K (since (K .s) (a .client) xs) b → below τ b ≡ false) → Value v τ →
+      ((b : Stamp) → TopAt K (since (K .s) (a .client) xs) b → below τ b ≡ false) → Grounded K (x ∷ xs) v τ →
       Base K (x ∷ xs) (close (length xs) v a) τ × Keeps K a σ (close (length xs) v a) τ
-  unfolding Value Ever
+  unfolding Ever
   read-ends τ v o w top f val = (
     record {
       begun-lt = omega (arith, base .begun-lt);
@@ -43,28 +38,24 @@ module _ (K : Setup) (x : StepOf K) (xs : Steps K) (a : Call) (σ : Stamp) (same
       ended = λ t q. let z : length xs ≡ t = cc in
           (omega (arith, base .begun-lt, z), omega (arith, z), subst (λ (i : ℕ). Ends K τ i (x ∷ xs)) z (inl (refl, top)));
       write = λ b p q. absurd (no-some (sym w ∙ p));
-      read = λ t p q. record { floor = λ b i k l. f b (low K x xs a σ same base b i k (o .began) l); value = go val };
+      read = λ t p q. record { floor = λ b i k l. f b (low K x xs a σ same base b i k (o .began) l); value = val };
       reaches = λ b t p q. absurd (no-some (sym w ∙ p));
       leaves = λ q. clash q (o .staying);
     },
     record { client = refl; number = refl; begun = refl; wrote = refl; reached = λ e. clash e (o .unreached) },
   )
-    where
-      go : Value v τ → ((v ≡ none) × (τ ≡ blankStamp)) ⊎ ((m : Stamped) × Given K (x ∷ xs) (close (length xs) v a) τ m)
-      go (inl p) = inl p
-      go (inr p) = inr (p .0, record { made = p .1; shown = p .2; stamp-is = p .3; answer-is = p .4 })
 
   pub gave-ends : (h : Hand) (cl : Client) (n : ℕ) (v : List ℕ) → cl .hand ≡ idle → Open K xs a → a .wrote ≡ none →
       Follows K x xs a σ h (record { client = cl; result = gave n v })
-  unfolding Follows ResultOk Beats Cur Value
+  unfolding Follows ResultOk Beats Cur
   gave-ends h cl n v e o w k =
       let R = k .result in let d = R .0 in let P = R .2 in
-      let r = read-ends (d .stamp) (some v) o w (R .1) (P .beats) (inr (P .write, P .made, P .shown, P .stamp-is, ap some (P .content-is))) in
+      let r = read-ends (d .stamp) (some v) o w (R .1) (P .beats) (inr (P .origin, ap some (P .content-is))) in
       (d .stamp, r .0, subst (Cur K (x ∷ xs) (close (length xs) (some v) a) (d .stamp)) (sym e) tt, r .1)
 
   blank-ends : (h : Hand) (cl : Client) → cl .hand ≡ idle → Open K xs a → a .wrote ≡ none →
       Follows K x xs a σ h (record { client = cl; result = gaveBlank })
-  unfolding Follows ResultOk Beats Cur Value
+  unfolding Follows ResultOk Beats Cur
   blank-ends h cl e o w k =
       let r = read-ends blankStamp none o w (top-blank K (x ∷ xs)) (k .result) (inl (refl, refl)) in
       (blankStamp, r .0, subst (Cur K (x ∷ xs) (close (length xs) none a) blankStamp) (sym e) tt, r .1)
@@ -74,7 +65,7 @@ module _ (K : Setup) (x : StepOf K) (xs : Steps K) (a : Call) (σ : Stamp) (same
       Follows K x xs a σ (filtering cs g) (found (K .s .P) (K .s .config) (a .client) (K .s .writers) (K .s .keys) cl m g' d b)
   unfolding found onto Cur awaits
   found-follows cs g g' m cl d b c =
-      cond-case (Follows K x xs a σ (filtering cs g)) (sameList (tagsIn (K .s .P) (K .s .config) d (g' b .share)) (d .tags)) _ _
+      at-cond (sameList (tagsIn (K .s .P) (K .s .config) d (g' b .share)) (d .tags)) _ _ (Follows K x xs a σ (filtering cs g))
       (λ q. gave-ends (filtering cs g) _ _ _ refl (c .0) (c .1))
       (λ q. stays K x xs a σ same base (filtering cs g) (repairing _ _) _ c refl (unreach (a .reached) _ refl) (λ z. z))
 

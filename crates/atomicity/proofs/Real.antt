@@ -14,7 +14,7 @@ use Rattle.cluster.specs.Config.{Config, shelf}
 use Rattle.cluster.specs.Ranges.{topFaults, topClient}
 use Rattle.cluster.proofs.Legal.{legal-shelf}
 use Rattle.hmac.specs.Hmac.{tagSize}
-use Rattle.gf256.proofs.Byte.{DistinctN, ApartN}
+use Rattle.gf256.proofs.Apart.{Distinct, Apart}
 use Rattle.protocol.specs.Format.{Bytes, byte, number4, seq, via, keep}
 use Rattle.protocol.specs.Values.{digestSize}
 use Rattle.protocol.specs.Packet.{Packet, PacketOk, packetF, headF, decode}
@@ -39,12 +39,12 @@ all-at P [] h i l = absurd (omega arith)
 all-at P (x ∷ is) h zero l = h .0
 all-at P (x ∷ is) h (suc i) l = all-at P is (h .1) i (omega arith)
 
-apart-from : (x : ℕ) (is : List ℕ) → All (λ y. eqb x y ≡ false) is → ApartN x is
+apart-from : (x : ℕ) (is : List ℕ) → All (λ y. eqb x y ≡ false) is → Apart x is
 unfolding All
 apart-from x [] h = tt
 apart-from x (y ∷ is) h = (eqb-false x y (h .0), apart-from x is (h .1))
 
-different : (is : List ℕ) → AllPairs (λ a b. eqb a b ≡ false) is → DistinctN is
+different : (is : List ℕ) → AllPairs (λ a b. eqb a b ≡ false) is → Distinct is
 unfolding AllPairs
 different [] h = tt
 different (x ∷ is) h = (apart-from x is (h .0), different is (h .1))

@@ -10,11 +10,12 @@ use Rattle.protocol.specs.Packet.{Body}
 use Rattle.protocol.specs.Rules.{ByServer}
 use Rattle.protocol.specs.Client.{Client, Hand, idle, clocking, storing, completing, collecting, filtering, repairing, awaits, isIdle}
 use Rattle.protocol.specs.Client.{update, onto, higher, stampIn, codeIn}
+use Rattle.protocol.proofs.Answers.{at-cond}
 use Rattle.atomicity.specs.Claim.{Call}
-use Rattle.atomicity.proofs.Util.{cond-case, clash}
+use Rattle.atomicity.proofs.Util.{clash}
 use Rattle.atomicity.proofs.Model.{updated}
 use Rattle.atomicity.proofs.Setup.{Setup, Steps, StepOf, calls}
-use Rattle.atomicity.proofs.Rounds.{since}
+use Rattle.atomicity.proofs.Positions.{since}
 use Rattle.atomicity.proofs.States.{HandOk}
 use Rattle.atomicity.proofs.Calls.{Base, Cur}
 use Rattle.atomicity.proofs.Following.{Follows, unreach, is-reached, stays}
@@ -31,9 +32,9 @@ module _ (K : Setup) (x : StepOf K) (xs : Steps K) (a : Call) (σ : Stamp) (same
   call-follows z1 cl b y m true (clocking r n k) e busy ok c = clock-ends K x xs a σ same base r n k (higher (K .s .P) (K .s .writers) k (stampIn y)) _ refl c
   call-follows z1 cl b y m false (clocking r n k) e busy ok c =
       stays K x xs a σ same base (clocking r n k) (clocking r n _) _ c refl (unreach (a .reached) _ refl) (λ z. z)
-  call-follows z1 cl b y m full (storing d g) e busy ok c = cond-case (Follows K x xs a σ (storing d g)) (eqb (codeIn y) 11) _ _
+  call-follows z1 cl b y m full (storing d g) e busy ok c = at-cond (eqb (codeIn y) 11) _ _ (Follows K x xs a σ (storing d g))
       (λ q. stays K x xs a σ same base (storing d g) (storing d g) cl c e (unreach (a .reached) _ refl) (λ z. z))
-      (λ k. cond-case (Follows K x xs a σ (storing d g)) full _ _
+      (λ k. at-cond full _ _ (Follows K x xs a σ (storing d g))
       (λ q. store-ends K x xs a σ same base d g _ refl (ok .beats) c) (λ q. stays K x xs a σ same base (storing d g) (storing d g) _ c refl (unreach (a .reached) _ refl) (λ z. z)))
   call-follows z1 cl b y m true (completing d) e busy ok c = write-ends K x xs a σ same base d _ _ refl c
   call-follows z1 cl b y m false (completing d) e busy ok c =

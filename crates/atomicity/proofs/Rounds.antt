@@ -1,28 +1,23 @@
--- How a reply may move a hand, a client's position (call and round), and the moments when its call and its round began. A reply that is let in
--- leaves the round as it is or ends it, so a position never falls, and within one position the request is the same.
+-- How a reply may move a hand: one that is let in leaves the round as it is or ends it.
 -- Assumes nothing.
-use mathlib.Core.Path.{_≡_, refl, sym, ap, _∙_, subst}
+use mathlib.Core.Path.{_≡_, refl, sym, subst}
 use mathlib.Core.Bool.{Bool, true, false, cond, _&&_}
 use mathlib.Core.List.{List, [], _∷_}
 use mathlib.Core.Option.{Option, none, some}
-use mathlib.Core.Logic.{inl, inr}
-use Prim.Native.Nat.{ℕ, suc, _+_, _*_, _≤_, _<_}
+use Prim.Native.Nat.{ℕ, suc, _≤_}
 use native.Mathlib.Nat.{le-refl}
 use native.Mathlib.Omega.{arith}
 use lib.Dec.{ltb, eqb}
-use borrow.Author.Tests.{ltb-true, eq-eqb, ne-eqb}
+use borrow.Author.Tests.{ltb-true}
 use Rattle.protocol.specs.declared.Stamp.{Stamp}
 use Rattle.protocol.specs.Values.{Candidate, Share, Held, sameList, noHeld}
 use Rattle.protocol.specs.Packet.{Body, Packet}
-use Rattle.protocol.specs.Rules.{ByServer, nobody, leader, tagsIn}
-use Rattle.protocol.specs.Client.{Client, Hand, Turn, idle, clocking, storing, completing, collecting, filtering, repairing, awaits, isIdle, request}
-use Rattle.protocol.specs.Client.{update, judge, found, onto, begun, prepared, higher, checks, stampIn, codeIn}
-use Rattle.protocol.specs.Runs.{Step, World, Typed, nowValues}
-use Rattle.atomicity.specs.Lists.{Ever}
-use Rattle.atomicity.specs.Steps.{System, accepted}
-use Rattle.atomicity.proofs.Util.{cond-both, and-right, clash, ever-map}
-use Rattle.atomicity.proofs.Model.{Run, perform, now, updated, turn, preparedFor}
-use Rattle.atomicity.proofs.Moves.{Moved, kept, wbegan, rbegan, quit, took, moved}
+use Rattle.protocol.specs.Rules.{ByServer, leader, tagsIn}
+use Rattle.protocol.specs.Client.{Client, Hand, Turn, idle, clocking, storing, completing, collecting, filtering, repairing, accepted}
+use Rattle.protocol.specs.Client.{update, judge, found, onto, higher, checks, stampIn, codeIn}
+use Rattle.atomicity.specs.Steps.{System}
+use Rattle.atomicity.proofs.Util.{cond-both, and-right}
+use Rattle.atomicity.proofs.Model.{updated, turn, preparedFor}
 
 -- hand and last stamp's number before, and after
 pub data Next (s : System) (c : ℕ) : Hand → ℕ → Hand → ℕ → Type 0 where
@@ -96,160 +91,3 @@ module _ (s : System) (c : ℕ) where
 
   pub turn-turned : (cl : Client) (p : Packet) → Turned cl (cl .hand) (turn s c cl p)
   turn-turned cl p = turned cl _ _ _ _ (cl .hand) refl
-
--- ---- position
-
-unfoldable pub stage : Hand → ℕ
-stage idle = 15
-stage (clocking r n k) = 2
-stage (storing d h) = 4
-stage (completing d) = 6
-stage (collecting g) = 8
-stage (filtering cs g) = 10
-stage (repairing d r) = 12
-
-pub stage-awaits : (h : Hand) → isIdle h ≡ false → stage h ≡ awaits h
-unfolding stage awaits isIdle
-stage-awaits idle e = clash refl e
-stage-awaits (clocking r n k) e = refl
-stage-awaits (storing d h) e = refl
-stage-awaits (completing d) e = refl
-stage-awaits (collecting g) e = refl
-stage-awaits (filtering cs g) e = refl
-stage-awaits (repairing d r) e = refl
-
-pub stage-bound : (h : Hand) → (2 ≤ stage h) × (stage h ≤ 15)
-unfolding stage
-stage-bound idle = (omega arith, omega arith)
-stage-bound (clocking r n k) = (omega arith, omega arith)
-stage-bound (storing d h) = (omega arith, omega arith)
-stage-bound (completing d) = (omega arith, omega arith)
-stage-bound (collecting g) = (omega arith, omega arith)
-stage-bound (filtering cs g) = (omega arith, omega arith)
-stage-bound (repairing d r) = (omega arith, omega arith)
-
--- a reply leaves the hand's round and request as they are, or ends the round
-pub next-stage : (s : System) (c : ℕ) (h : Hand) (l : ℕ) (h' : Hand) (l' : ℕ) → Next s c h l h' l' → (stage h ≤ stage h')
-    × (stage h ≡ stage h' → (b : ℕ) → request h b ≡ request h' b)
-unfolding stage prepared
-next-stage s c h a h' b (stays _ _) = (le-refl _, λ e b. refl)
-next-stage s c h a h' b (clock-on r n k k' _ l) = (le-refl _, λ e b. refl)
-next-stage s c h a h' b (clock-ends r n k k' _ l) = (omega arith, λ e. absurd (omega (arith, e)))
-next-stage s c h a h' b (store-ends d g _) = (omega arith, λ e. absurd (omega (arith, e)))
-next-stage s c h a h' b (collect-on g g' _) = (le-refl _, λ e b. refl)
-next-stage s c h a h' b (collect-ends g cs _) = (omega arith, λ e. absurd (omega (arith, e)))
-next-stage s c h a h' b (filter-on cs g g' _) = (le-refl _, λ e b. refl)
-next-stage s c h a h' b (filter-ends cs g d r _) = (omega arith, λ e. absurd (omega (arith, e)))
-next-stage s c h a h' b (over _ _) = last h
-  where
-    last : (g : Hand) → (stage g ≤ 15) × (stage g ≡ 15 → (b : ℕ) → request g b ≡ request idle b)
-    last idle = (omega arith, λ e b. refl)
-    last (clocking r n k) = (omega arith, λ e. absurd (omega (arith, e)))
-    last (storing d g) = (omega arith, λ e. absurd (omega (arith, e)))
-    last (completing d) = (omega arith, λ e. absurd (omega (arith, e)))
-    last (collecting g) = (omega arith, λ e. absurd (omega (arith, e)))
-    last (filtering cs g) = (omega arith, λ e. absurd (omega (arith, e)))
-    last (repairing d r) = (omega arith, λ e. absurd (omega (arith, e)))
-
-unfoldable pub pos : Client → ℕ
-pos cl = 16 * cl .calls + stage (cl .hand)
-
-module _ (s : System) where
-  pub record Later (cl cl' : Client) : Type 0 where
-    pub mono : pos cl ≤ pos cl'
-    pub same-ask : pos cl ≡ pos cl' → (b : ℕ) → request (cl .hand) b ≡ request (cl' .hand) b
-    pub same-calls : pos cl ≡ pos cl' → cl .calls ≡ cl' .calls
-    pub calls-mono : cl .calls ≤ cl' .calls
-
-  later-refl : (cl : Client) → Later cl cl
-  later-refl cl = record { mono = le-refl _; same-ask = λ e b. refl; same-calls = λ e. refl; calls-mono = le-refl _ }
-
-  later-next : (c : ℕ) (cl cl' : Client) → cl' .calls ≡ cl .calls → Next s c (cl .hand) (cl .last) (cl' .hand) (cl' .last) → Later cl cl'
-  unfolding pos
-  later-next c cl cl' e n = let k = next-stage s c (cl .hand) (cl .last) (cl' .hand) (cl' .last) n in
-      record { mono = omega (arith, k .0, e); same-ask = λ q. k .1 (omega (arith, q, e)); same-calls = λ q. sym e; calls-mono = omega (arith, e) }
-
-  later-fresh : (cl : Client) (h : Hand) → Later cl (begun cl h)
-  unfolding pos begun
-  later-fresh cl h = let a = stage-bound (cl .hand) in let b = stage-bound h in
-      record {
-        mono = omega (arith, a .1, b .0);
-        same-ask = λ q. absurd (omega (arith, q, a .1, b .0));
-        same-calls = λ q. absurd (omega (arith, q, a .1, b .0));
-        calls-mono = omega arith;
-      }
-
-  quitted : (c : ℕ) (cl : Client) → Later cl (onto cl nobody idle)
-  unfolding onto
-  quitted c cl = later-next c cl _ refl (over (cl .hand) _)
-
-  pub later : (w : World) (c : ℕ) (x : Step) → Later (w .client c) (perform s w x .world .client c)
-  later w c x = go (moved s c w x)
-    where
-      cl' : Client
-      cl' = perform s w x .world .client c
-
-      go : Moved s c w x cl' (perform s w x .result) → Later (w .client c) cl'
-      go (kept e _) = subst (Later (w .client c)) (sym e) (later-refl (w .client c))
-      go (wbegan r n a b d l e) = subst (Later (w .client c)) (sym e) (later-fresh (w .client c) _)
-      go (rbegan a b d e) = subst (Later (w .client c)) (sym e) (later-fresh (w .client c) _)
-      go (quit a b d e) = subst (Later (w .client c)) (sym e) (quitted c (w .client c))
-      go (took p b o a d f e r) = let t = turn-turned s c (w .client c) p in
-          subst (Later (w .client c)) (sym e) (later-next c (w .client c) _ (t .calls) (t .next))
-
-  -- ---- the moments when the call and the round of client c began
-  -- the steps before the begin of c's present call
-  unfoldable pub since : ℕ → Run s → Run s
-  since c [] = []
-  since c (x ∷ xs) = cond (eqb (now s xs .client c .calls) (now s (x ∷ xs) .client c .calls)) (since c xs) xs
-
-  -- the steps up to and with the one that began c's present round
-  unfoldable pub from : ℕ → Run s → Run s
-  from c [] = []
-  from c (x ∷ xs) = cond (eqb (pos (now s xs .client c)) (pos (now s (x ∷ xs) .client c))) (from c xs) (x ∷ xs)
-
-  pub since-same : (c : ℕ) (x : Typed (s .config)) (xs : Run s) → now s xs .client c .calls ≡ now s (x ∷ xs) .client c .calls →
-      since c (x ∷ xs) ≡ since c xs
-  unfolding since
-  since-same c x xs e = ap (λ (b : Bool). cond b (since c xs) xs) (eq-eqb _ _ e)
-
-  pub since-new : (c : ℕ) (x : Typed (s .config)) (xs : Run s) → now s xs .client c .calls < now s (x ∷ xs) .client c .calls → since c (x ∷ xs) ≡ xs
-  unfolding since
-  since-new c x xs l = ap (λ (b : Bool). cond b (since c xs) xs)
-      (ne-eqb (now s xs .client c .calls) (now s (x ∷ xs) .client c .calls) (λ q. omega (arith, q)))
-
-  pub from-same : (c : ℕ) (x : Typed (s .config)) (xs : Run s) → pos (now s xs .client c) ≡ pos (now s (x ∷ xs) .client c) →
-      from c (x ∷ xs) ≡ from c xs
-  unfolding from
-  from-same c x xs e = ap (λ (b : Bool). cond b (from c xs) (x ∷ xs)) (eq-eqb _ _ e)
-
-  pub from-new : (c : ℕ) (x : Typed (s .config)) (xs : Run s) → pos (now s xs .client c) < pos (now s (x ∷ xs) .client c) → from c (x ∷ xs) ≡ x ∷ xs
-  unfolding from
-  from-new c x xs l = ap (λ (b : Bool). cond b (from c xs) (x ∷ xs))
-      (ne-eqb (pos (now s xs .client c)) (pos (now s (x ∷ xs) .client c)) (λ q. omega (arith, q)))
-
-  -- an earlier moment, seen from now
-  pub record Before (c : ℕ) (ys xs : Run s) : Type 0 where
-    pub low : pos (now s ys .client c) ≤ pos (now s xs .client c)
-    pub round : pos (now s ys .client c) ≡ pos (now s xs .client c) →
-        (from c ys ≡ from c xs) × (since c ys ≡ since c xs) × ((b : ℕ) → request (now s ys .client c .hand) b ≡ request (now s xs .client c .hand) b)
-        × (now s ys .client c .calls ≡ now s xs .client c .calls)
-
-  pub before-one : (c : ℕ) (x : Typed (s .config)) (xs : Run s) → Before c xs (x ∷ xs)
-  unfolding nowValues
-  before-one c x xs = let l = later (now s xs) c (x .step) in
-      record { low = l .mono; round = λ e. (sym (from-same c x xs e), sym (since-same c x xs (l .same-calls e)), l .same-ask e, l .same-calls e) }
-
-  pub before-trans : (c : ℕ) (zs ys xs : Run s) → Before c zs ys → Before c ys xs → Before c zs xs
-  before-trans c zs ys xs a b = record {
-    low = omega (arith, a .low, b .low);
-    round = λ e. let f = a .round (omega (arith, a .low, b .low, e)) in let g = b .round (omega (arith, a .low, b .low, e)) in
-        (f .0 ∙ g .0, f .1 ∙ g .1, λ b. f .2 b ∙ g .2 b, f .3 ∙ g .3);
-  }
-
-  pub ever-before : (c : ℕ) (P : Typed (s .config) → Run s → Type 0) (xs : Run s) → Ever P xs → Ever (λ y ys. P y ys × Before c ys xs) xs
-  unfolding Ever
-  ever-before c P [] e = absurd e
-  ever-before c P (x ∷ xs) (inl p) = inl (p, before-one c x xs)
-  ever-before c P (x ∷ xs) (inr e) = inr (ever-map (λ y ys. P y ys × Before c ys xs) (λ y ys. P y ys × Before c ys (x ∷ xs))
-      (λ y ys h. (h .0, before-trans c ys xs (x ∷ xs) (h .1) (before-one c x xs))) xs (ever-before c P xs e))

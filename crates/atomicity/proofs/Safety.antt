@@ -13,20 +13,21 @@ use lib.Dec.{ltb}
 use lib.ListN.{length}
 use borrow.Author.Tests.{ltb-true, ltb-false, lt-ltb}
 use Rattle.protocol.specs.declared.Stamp.{Stamp}
-use Rattle.protocol.specs.Values.{blankStamp}
 use Rattle.protocol.specs.Rules.{keep}
 use Rattle.protocol.specs.Runs.{nowValues}
+use Rattle.protocol.proofs.Answers.{at-cond}
 use Rattle.atomicity.specs.Lists.{Ever, In, AllPairs}
 use Rattle.atomicity.specs.Steps.{Stamped}
 use Rattle.atomicity.specs.Claim.{Call, given, endedBy, before, counted, OneOrder}
-use Rattle.atomicity.proofs.Util.{bool-case, cond-case, clash, and-left, and-right, and-intro, or-cases, or-right, keep-in, in-keep, all-of, all-in, all-map}
+use Rattle.atomicity.proofs.Util.{bool-case, clash, and-left, and-right, and-intro, or-cases, or-right, keep-in, in-keep, all-of, all-in, all-map}
 use Rattle.atomicity.proofs.Stamps.{le-view}
 use Rattle.atomicity.proofs.Model.{now}
 use Rattle.atomicity.proofs.Setup.{Setup, Steps, Fair}
-use Rattle.atomicity.proofs.Rounds.{since}
-use Rattle.atomicity.proofs.Marks.{mark-num, mark-who, mark-source, above}
+use Rattle.atomicity.proofs.Positions.{since}
+use Rattle.atomicity.proofs.Marks.{mark-num, mark-who, mark-source}
+use Rattle.atomicity.proofs.Rising.{above}
 use Rattle.atomicity.proofs.Nonces.{by-nonce}
-use Rattle.atomicity.proofs.Calls.{MarkAt, mark-at, Given}
+use Rattle.atomicity.proofs.Calls.{MarkAt, mark-at, Grounded}
 use Rattle.atomicity.proofs.Shape.{Log}
 use Rattle.atomicity.proofs.Logs.{Signed}
 use Rattle.atomicity.proofs.Story.{story, story-log, story-pairs, Counts, shown-call}
@@ -36,7 +37,7 @@ use Rattle.atomicity.proofs.Ordering.{Clear, Last, Explained, Reads, on
 keep-pairs : {A : Type 0} (R : A → A → Type 0) (p : A → Bool) (l : List A) → AllPairs R l → AllPairs R (keep p l)
 unfolding keep AllPairs
 keep-pairs R p [] h = tt
-keep-pairs {A} R p (x ∷ l) h = cond-case (AllPairs R) (p x) (x ∷ keep p l) (keep p l)
+keep-pairs {A} R p (x ∷ l) h = at-cond (p x) (x ∷ keep p l) (keep p l) (AllPairs R)
     (λ e. (all-of (R x) (keep p l) (λ y i. all-in (R x) l (h .0) y (keep-in p l y i .0)), keep-pairs R p l (h .1))) (λ e. keep-pairs R p l (h .1))
 
 pub given-some : {A : Type 0} (o : Option A) → given o ≡ true → (a : A) × (o ≡ some a)
@@ -144,13 +145,13 @@ module _ (K : Setup) where
     unfolding Reads Explained Clear Last counted less lesser
     reads r i w = let o = read-over r i w in go (r .ok .base .read (o .0) w (o .1) .value)
       where
-        go : ((r .call .answer ≡ none) × (r .stamp ≡ blankStamp)) ⊎ ((m : Stamped) × Given K xs (r .call) (r .stamp) m) →
+        go : Grounded K xs (r .call .answer) (r .stamp) →
             Explained callOf keyless chain asym none gs r
         go (inl p) = inl (p .0, λ u v j q l. clear u v j q (less-rest (u .stamp) (u .call) (r .stamp) (r .call) l))
           where
             clear : (u : Signed K xs) (v : List ℕ) → In u gs → u .call .wrote ≡ some v → Rest (u .stamp) (u .call) (r .stamp) (r .call) → ⊥
             clear u v j q (inl k) = omega (arith, k, ap (λ (a : Stamp). a .number) (p .1))
-            clear u v j q (inr k) = let W = u .ok .base .write v q (write-reached u j v q) in
+            clear u v j q (inr k) = let W = u .ok .base .write v q (write-reached u j v q) .own in
                 omega (
                   arith,
                   k .0,
@@ -161,7 +162,7 @@ module _ (K : Setup) where
         go (inr g) = inr (
           C .known,
           m .content,
-          g .1 .answer-is,
+          g .1,
           (
             among,
             C .wrote ∙ ap (λ (z : Stamped). some (z .content)) eq,
@@ -173,16 +174,16 @@ module _ (K : Setup) where
         )
           where
             m : Stamped
-            m = g .0
+            m = g .0 .write
 
             C : Counts K xs fair (m .nonce)
-            C = shown-call K xs fair (m .client) (m .nonce) (g .1 .shown)
+            C = shown-call K xs fair (m .client) (m .nonce) (g .0 .shown)
 
             eq : C .write ≡ m
-            eq = by-nonce K xs fair (C .write) m (C .made) (g .1 .made) (C .nonce-is)
+            eq = by-nonce K xs fair (C .write) m (C .made) (g .0 .made) (C .nonce-is)
 
             stamps : C .known .stamp ≡ r .stamp
-            stamps = sym (C .stamp-is) ∙ ap (λ (z : Stamped). z .stamp) eq ∙ g .1 .stamp-is
+            stamps = sym (C .stamp-is) ∙ ap (λ (z : Stamped). z .stamp) eq ∙ g .0 .stamp-is
 
             among : In (C .known) gs
             among = in-keep (λ (g : Signed K xs). counted (g .call)) (story K xs fair) (C .known) (C .among)
@@ -196,8 +197,8 @@ module _ (K : Setup) where
             last : (u : Signed K xs) (v : List ℕ) → In u gs → u .call .wrote ≡ some v → (C .known .stamp .number ≡ u .stamp .number)
                 × (C .known .stamp .writer ≡ u .stamp .writer) × (lesser (C .known .call) (u .call) ≡ true) → ⊥
             last u v j q b =
-                let W = u .ok .base .write v q (write-reached u j v q) in
-                let X = C .known .ok .base .write (C .write .content) (C .wrote) (C .reached) in
+                let W = u .ok .base .write v q (write-reached u j v q) .own in
+                let X = C .known .ok .base .write (C .write .content) (C .wrote) (C .reached) .own in
                 let wm = mark-at K (W .write) (u .call .begun) xs (W .since-when) in
                 let xm = mark-at K (X .write) (C .known .call .begun) xs (X .since-when) in
                 let sn : X .write .stamp .number ≡ W .write .stamp .number = ap (λ (a : Stamp). a .number) (X .stamp-is) ∙ b .0

@@ -11,6 +11,7 @@ use native.Mathlib.Omega.{arith}
 use lib.Dec.{leb, eqb}
 use lib.ListN.{length}
 use Rattle.cluster.specs.Ranges.{capacity}
+use Rattle.cluster.proofs.Tests.{untrue}
 use Rattle.protocol.specs.declared.Stamp.{Stamp}
 use Rattle.protocol.specs.Values.{Candidate, Share, Write, below, sameStamp, blankCandidate, isSome}
 use Rattle.protocol.specs.Packet.{Body}
@@ -19,10 +20,12 @@ use Rattle.protocol.specs.Memory.{held}
 use Rattle.protocol.specs.Server.{Server, Acted, hasDigest, raise, kept, best, act}
 use Rattle.protocol.specs.Client.{codeIn}
 use Rattle.protocol.specs.Runs.{Step, World}
+use Rattle.protocol.proofs.Equal.{same-true, stamp-same, stamp-refl}
+use Rattle.protocol.proofs.Answers.{at-cond}
 use Rattle.atomicity.specs.Lists.{In}
 use Rattle.atomicity.specs.Steps.{System, judged}
-use Rattle.atomicity.proofs.Util.{cond-both, cond-case, clash, untrue, and-left, and-right, and-intro, left-in, right-in, split-in}
-use Rattle.atomicity.proofs.Stamps.{below-irrefl, below-asym, le-trans, same-eq, same-stamp, stamp-refl}
+use Rattle.atomicity.proofs.Util.{cond-both, clash, and-left, and-right, and-intro, left-in, right-in, split-in}
+use Rattle.atomicity.proofs.Stamps.{below-irrefl, below-asym, le-trans}
 use Rattle.atomicity.proofs.Model.{perform, acts, isValid, bestOf}
 use Rattle.atomicity.proofs.Serving.{Served, same, acted, served}
 
@@ -36,7 +39,7 @@ held-some a f (e ∷ es) h = go (sameStamp (e .stamp) a) refl h (λ k. held-some
     go : (b : Bool) → sameStamp (e .stamp) a ≡ b → cond b (some (e .share)) (held a es) ≡ some f →
         (held a es ≡ some f → (x : Write) × In x es × (x .stamp ≡ a) × (x .share ≡ f)) →
         (x : Write) × In x (e ∷ es) × (x .stamp ≡ a) × (x .share ≡ f)
-    go true q k r = (e, inl refl, same-stamp (e .stamp) a q, let z : e .share ≡ f = cc in z)
+    go true q k r = (e, inl refl, stamp-same (e .stamp) a q, let z : e .share ≡ f = cc in z)
     go false q k r = let y = r k in (y .0, inr (y .1), y .2, y .3)
 
 pub is-some : {A : Type 0} (o : Option A) → isSome o ≡ true → (a : A) × (o ≡ some a)
@@ -61,18 +64,18 @@ held-digest a d es h = go (held a es) refl h
   where
     go : (o : Option Share) → held a es ≡ o → hasDigest d o ≡ true → (e : Write) × In e es × (e .stamp ≡ a) × (e .share .nonceDigest ≡ d)
     go none q k = clash k refl
-    go (some f) q k = let r = held-some a f es q in (r .0, r .1, r .2, ap (λ (z : Share). z .nonceDigest) (r .3) ∙ same-eq (f .nonceDigest) d k)
+    go (some f) q k = let r = held-some a f es q in (r .0, r .1, r .2, ap (λ (z : Share). z .nonceDigest) (r .3) ∙ same-true (f .nonceDigest) d k)
 
 -- ---- raise
 
 pub raise-ge : (c : Candidate) (v : Server) → below (raise c v .latest .stamp) (c .stamp) ≡ false
 unfolding raise
-raise-ge c v = cond-case (λ (y : Server). below (y .latest .stamp) (c .stamp) ≡ false) (below (v .latest .stamp) (c .stamp)) _ v
+raise-ge c v = at-cond (below (v .latest .stamp) (c .stamp)) _ v (λ (y : Server). below (y .latest .stamp) (c .stamp) ≡ false)
     (λ e. below-irrefl (c .stamp)) (λ e. e)
 
 raise-rises : (c : Candidate) (v : Server) → below (raise c v .latest .stamp) (v .latest .stamp) ≡ false
 unfolding raise
-raise-rises c v = cond-case (λ (y : Server). below (y .latest .stamp) (v .latest .stamp) ≡ false) (below (v .latest .stamp) (c .stamp)) _ v
+raise-rises c v = at-cond (below (v .latest .stamp) (c .stamp)) _ v (λ (y : Server). below (y .latest .stamp) (v .latest .stamp) ≡ false)
     (λ e. below-asym (v .latest .stamp) (c .stamp) e) (λ e. below-irrefl (v .latest .stamp))
 
 raise-history : (c : Candidate) (v : Server) → raise c v .history ≡ v .history
@@ -188,7 +191,7 @@ module _ (s : System) (j : ℕ) where
           → Origin v (filter cs) (bestOf s j v (blankCandidate (s .config)) cs)
       go (inl e) = inl e
       go (inr p) = inr (inl p)
-  act-grows v (repair c) = cond-case (λ (y : Server). Grows v (repair c) y) (isValid s j v c) _ v
+  act-grows v (repair c) = at-cond (isValid s j v c) _ v (λ (y : Server). Grows v (repair c) y)
       (λ e. raised v (repair c) c (inr (inl (inl refl, e)))) (λ e. unmoved v (repair c))
   act-grows v (clockReply x) = unmoved v (clockReply x)
   act-grows v (storeReply x) = unmoved v (storeReply x)

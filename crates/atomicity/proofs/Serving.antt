@@ -8,18 +8,19 @@ use mathlib.Core.Option.{Option, none, some, Option·some-injective}
 use mathlib.Core.Logic.{_⊎_, inl, inr}
 use Prim.Native.Nat.{ℕ, zero, suc, _≤_}
 use lib.ListN.{length}
-use lib.Dec.{leb, eqb}
-use borrow.Author.Tests.{leb-true, eqb-true, eq-eqb}
+use lib.Dec.{eqb}
+use borrow.Author.Tests.{eqb-true, eq-eqb, not-false, not-true}
 use Rattle.cluster.specs.Ranges.{within, topClient}
 use Rattle.cluster.specs.Refusals.{onRefusal}
+use Rattle.cluster.proofs.Tests.{inside, passes}
 use Rattle.protocol.specs.Packet.{Packet, decode}
 use Rattle.protocol.specs.Rules.{upd}
 use Rattle.protocol.specs.Server.{Server, Stepped, barred, replyTo, serverRefusal, serverStep, answered}
-use Rattle.protocol.specs.Client.{Made, isIdle, made, badFaults}
+use Rattle.protocol.specs.Client.{Made, isIdle, made, badFaults, accepted}
 use Rattle.protocol.specs.Client.{makeRefusal, makeStep}
 use Rattle.protocol.specs.Runs.{Step, write, read, make, take-reply, give-up, serve, World, doValues, setClient, resultOf}
-use Rattle.atomicity.specs.Steps.{System, accepted, makes, serves, packetIn}
-use Rattle.atomicity.proofs.Util.{cond-zero, not-false, not-t, no-some, and-left, and-right, upd-case, upd-here, clash}
+use Rattle.atomicity.specs.Steps.{System, makes, serves, packetIn}
+use Rattle.atomicity.proofs.Util.{no-some, and-left, and-right, upd-case, upd-here, clash}
 use Rattle.atomicity.proofs.Model.{perform, acts}
 
 -- ---- a server
@@ -33,8 +34,8 @@ pub record Asked (s : System) (j : ℕ) (p : Packet) : Type 0 where
 pub serve-asked : (s : System) (j : ℕ) (p : Packet) (room : ℕ) → serverRefusal (s .config .t) j (some p) room ≡ 0 → Asked s j p
 unfolding serverRefusal
 serve-asked s j p room e =
-    let z1 = cond-zero (not (eqb (p .head .t) (s .config .t) && eqb (p .head .server) j)) 7 _ e in
-    let z2 = cond-zero (barred (p .head .client) (p .body)) 8 _ (z1 .1) in
+    let z1 = passes (not (eqb (p .head .t) (s .config .t) && eqb (p .head .server) j)) 7 _ e in
+    let z2 = passes (barred (p .head .client) (p .body)) 8 _ (z1 .1) in
     let a = not-false (eqb (p .head .t) (s .config .t) && eqb (p .head .server) j) (z1 .0) in
     record { same-t = eqb-true _ _ (and-left _ _ a); mine = eqb-true _ _ (and-right (eqb (p .head .t) (s .config .t)) _ a); allowed = z2 .0 }
 
@@ -53,21 +54,21 @@ pub record Answered (s : System) (w : World) (j : ℕ) (x : Step) (p : Packet) :
   pub reply : p ≡ replyTo ask (acts s j (w .server j) (ask .body) .reply)
 
 module _ (s : System) (w : World) where
-  serve-view : (b : ℕ) (p o : List ℕ) (q : Option Packet) → decode p ≡ q →
-      let d = serverStep (s .P) (s .config) (s .keys b) b (w .server b) (length o) q in
-      ((d .server ≡ w .server b) × ((r : Packet) → d .reply ≡ some r → ⊥))
+  -- server b turned q down and d changes nothing, or let it in and d is what it does
+  abbrev Handled : ℕ → Option Packet → Stepped → Type 0
+  Handled b q d = ((d .server ≡ w .server b) × ((r : Packet) → d .reply ≡ some r → ⊥))
       ⊎ ((a : Packet) × (q ≡ some a) × Asked s b a × (d .number ≡ 0) × (d .server ≡ acts s b (w .server b) (a .body) .server)
       × (d .reply ≡ some (replyTo a (acts s b (w .server b) (a .body) .reply))))
+
+  serve-view : (b : ℕ) (o : List ℕ) (q : Option Packet) →
+      Handled b q (serverStep (s .P) (s .config) (s .keys b) b (w .server b) (length o) q)
   unfolding serverStep answered serverRefusal
-  serve-view b p o none e = inl (refl, λ r k. no-some k)
-  serve-view b p o (some a) e = go (serverRefusal (s .config .t) b (some a) (length o)) refl
+  serve-view b o none = inl (refl, λ r k. no-some k)
+  serve-view b o (some a) = go (serverRefusal (s .config .t) b (some a) (length o)) refl
     where
       go : (k : ℕ) → serverRefusal (s .config .t) b (some a) (length o) ≡ k →
-          let d = onRefusal k (answered (s .P) (s .config) (s .keys b) b (w .server b) (length o) (some a))
-          (record { number = k; server = w .server b; reply = none }) in
-          ((d .server ≡ w .server b) × ((r : Packet) → d .reply ≡ some r → ⊥))
-          ⊎ ((a' : Packet) × (some a ≡ some a') × Asked s b a' × (d .number ≡ 0) × (d .server ≡ acts s b (w .server b) (a' .body) .server)
-          × (d .reply ≡ some (replyTo a' (acts s b (w .server b) (a' .body) .reply))))
+          Handled b (some a) (onRefusal k (answered (s .P) (s .config) (s .keys b) b (w .server b) (length o) (some a))
+          (record { number = k; server = w .server b; reply = none }))
       go zero z = inr (a, refl, serve-asked s b a (length o) z, refl, refl, refl)
       go (suc n) z = inl (refl, λ r k. no-some k)
 
@@ -79,15 +80,13 @@ module _ (s : System) (w : World) where
   served j (make c b o) = same refl
   served j (take-reply c b o) = same refl
   served j (give-up c) = same refl
-  served j (serve b p o) = upd-case (λ (v : Server). Served s j w (serve b p o) v) (w .server) b _ j (λ e. here e (serve-view b p o (decode p) refl))
+  served j (serve b p o) = upd-case (λ (v : Server). Served s j w (serve b p o) v) (w .server) b _ j (λ e. here e (serve-view b o (decode p)))
       (λ e. same refl)
     where
       d : Stepped
       d = serverStep (s .P) (s .config) (s .keys b) b (w .server b) (length o) (decode p)
 
-      here : j ≡ b → ((d .server ≡ w .server b) × ((r : Packet) → d .reply ≡ some r → ⊥))
-          ⊎ ((a : Packet) × (decode p ≡ some a) × Asked s b a × (d .number ≡ 0) × (d .server ≡ acts s b (w .server b) (a .body) .server)
-          × (d .reply ≡ some (replyTo a (acts s b (w .server b) (a .body) .reply))))
+      here : j ≡ b → Handled b (decode p) d
           → Served s j w (serve b p o) (d .server)
       here e (inl q) = same (q .0 ∙ ap (w .server) (sym e))
       here e (inr q) = acted (q .0) (eq-eqb j b e) (q .1) (subst (λ (i : ℕ). Asked s i (q .0)) (sym e) (q .2))
@@ -103,7 +102,7 @@ module _ (s : System) (w : World) where
   answer j (make c b o) p e f = clash e refl
   answer j (take-reply c b o) p e f = clash e refl
   answer j (give-up c) p e f = clash e refl
-  answer j (serve b q o) p e f = go (serve-view b q o (decode q) refl)
+  answer j (serve b q o) p e f = go (serve-view b o (decode q))
     where
       d : Stepped
       d = serverStep (s .P) (s .config) (s .keys b) b (w .server b) (length o) (decode q)
@@ -111,10 +110,7 @@ module _ (s : System) (w : World) where
       same-server : b ≡ j
       same-server = sym (eqb-true j b e)
 
-      go : ((d .server ≡ w .server b) × ((r : Packet) → d .reply ≡ some r → ⊥))
-          ⊎ ((a : Packet) × (decode q ≡ some a) × Asked s b a × (d .number ≡ 0) × (d .server ≡ acts s b (w .server b) (a .body) .server)
-          × (d .reply ≡ some (replyTo a (acts s b (w .server b) (a .body) .reply))))
-          → Answered s w j (serve b q o) p
+      go : Handled b (decode q) d → Answered s w j (serve b q o) p
       go (inl z) = absurd (z .1 p f)
       go (inr z) = record {
         ask = z .0;
@@ -127,14 +123,14 @@ module _ (s : System) (w : World) where
       }
 
   -- a packet made by client c
-  pub record Making (c : ℕ) (x : Step) (p : Packet) : Type 0 where
+  pub record Making (c : ℕ) (p : Packet) : Type 0 where
     pub to : ℕ
     pub low : 1 ≤ to
     pub high : to ≤ s .config .servers
     pub busy : isIdle (w .client c .hand) ≡ false
     pub is : p ≡ made (s .config .t) c (w .client c) to
 
-  pub making : (c : ℕ) (x : Step) (p : Packet) → makes c x ≡ true → perform s w x .sent ≡ some p → Making c x p
+  pub making : (c : ℕ) (x : Step) (p : Packet) → makes c x ≡ true → perform s w x .sent ≡ some p → Making c p
   unfolding doValues setClient makeStep makeRefusal
   making c (write d r n) p e f = clash e refl
   making c (read d) p e f = clash e refl
@@ -148,18 +144,18 @@ module _ (s : System) (w : World) where
 
       go : (k : ℕ) → makeRefusal (s .config) d b (not (isIdle (w .client d .hand))) (length o) ≡ k →
           (onRefusal {A = Made} k (record { number = 0; packet = some (made (s .config .t) d (w .client d) b) })
-          (record { number = k; packet = none })) .packet ≡ some p → Making c (make d b o) p
+          (record { number = k; packet = none })) .packet ≡ some p → Making c p
       go (suc n) z q = absurd (no-some q)
       go zero z q =
-          let z1 = cond-zero (badFaults (s .config)) 2 _ z in
-          let z2 = cond-zero (not (within 1 (s .config .servers) b)) 3 _ (z1 .1) in
-          let z3 = cond-zero (not (within 1 topClient d)) 4 _ (z2 .1) in
-          let z4 = cond-zero (not (not (isIdle (w .client d .hand)))) 12 _ (z3 .1) in
-          let i = not-false (within 1 (s .config .servers) b) (z2 .0) in
+          let z1 = passes (badFaults (s .config)) 2 _ z in
+          let z2 = passes (not (within 1 (s .config .servers) b)) 3 _ (z1 .1) in
+          let z3 = passes (not (within 1 topClient d)) 4 _ (z2 .1) in
+          let z4 = passes (not (not (isIdle (w .client d .hand)))) 12 _ (z3 .1) in
+          let i = inside 1 (s .config .servers) b (z2 .0) in
           record {
             to = b;
-            low = leb-true 1 b (and-left _ _ i);
-            high = leb-true b (s .config .servers) (and-right (leb 1 b) _ i);
-            busy = subst (λ (i : ℕ). isIdle (w .client i .hand) ≡ false) same-client (not-t _ (not-false _ (z4 .0)));
+            low = i .0;
+            high = i .1;
+            busy = subst (λ (i : ℕ). isIdle (w .client i .hand) ≡ false) same-client (not-true _ (not-false _ (z4 .0)));
             is = sym (Option·some-injective _ _ q) ∙ ap (λ (i : ℕ). made (s .config .t) i (w .client i) b) same-client;
           }

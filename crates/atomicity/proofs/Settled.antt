@@ -1,31 +1,30 @@
 -- A call that is not in hand is over or was given up: a hand goes idle only by a result that ends the call, or by giving up.
 -- Assumes nothing.
 use mathlib.Core.Path.{_≡_, refl, sym, ap, _∙_, subst}
-use mathlib.Core.Bool.{Bool, true, false, _&&_, _||_}
+use mathlib.Core.Bool.{Bool, true, false, _||_}
 use mathlib.Core.List.{List, [], _∷_, map}
 use mathlib.Core.Option.{Option, none, some}
 use mathlib.Core.Logic.{_⊎_, inl, inr}
 use Prim.Native.Nat.{ℕ, suc}
-use native.Mathlib.Omega.{arith}
 use lib.Dec.{eqb}
 use lib.ListN.{length}
-use borrow.Author.Tests.{eqb-true, eq-eqb}
+use borrow.Author.Tests.{eq-eqb}
 use Rattle.protocol.specs.Values.{Candidate, Held, sameList, blankStamp}
 use Rattle.protocol.specs.Packet.{Body}
 use Rattle.protocol.specs.Rules.{ByServer, leader, tagsIn}
-use Rattle.protocol.specs.Client.{Client, Hand, Turn, Result, refused, more, written, gave, gaveBlank, aborted, idle, clocking, storing, completing, collecting, filtering, repairing, awaits, isIdle}
+use Rattle.protocol.specs.Client.{Client, Hand, Turn, Result, refused, more, written, gave, gaveBlank, aborted, idle, clocking, storing, completing, collecting, filtering, repairing, awaits, isIdle, accepted}
 use Rattle.protocol.specs.Client.{update, judge, found, onto, begun, prepared, codeIn}
 use Rattle.protocol.specs.Runs.{Step, write, read, make, take-reply, give-up, serve, World, nowValues}
 use Rattle.atomicity.specs.Lists.{In}
-use Rattle.atomicity.specs.Steps.{System, accepted}
+use Rattle.atomicity.specs.Steps.{System}
 use Rattle.atomicity.specs.Claim.{Call, given, follow}
-use Rattle.atomicity.proofs.Util.{cond-case, cond-both, clash, and-left, and-right, and-intro, or-right, split-in, map-in}
+use Rattle.atomicity.proofs.Util.{cond-both, clash, no-some, or-right, split-in, map-in}
 use Rattle.atomicity.proofs.Model.{perform, now, updated}
 use Rattle.atomicity.proofs.Setup.{Setup, Steps, StepOf, Fair, hand, calls}
 use Rattle.atomicity.proofs.Moves.{Moved, kept, wbegan, rbegan, quit, took, moved, acting}
 use Rattle.atomicity.proofs.Rounds.{turn-turned}
 use Rattle.atomicity.proofs.Calls.{CallOk}
-use Rattle.atomicity.proofs.Shape.{result, touch, touched, newCall, refused-view}
+use Rattle.atomicity.proofs.Shape.{result, effect, touched, mover, touched-case, newCall, refused-view}
 use Rattle.atomicity.proofs.Logs.{Signed, beginSigned, newSigned, new-write, new-read}
 use Rattle.atomicity.proofs.Story.{past, stepSigned, story}
 
@@ -81,8 +80,7 @@ module _ (K : Setup) where
 
   -- a call that the step leaves as it is
   same-call : (x : StepOf K) (xs : Steps K) (a : Call) → Settled xs a →
-      (((b o : List ℕ) × (x .step ≡ take-reply (a .client) b o)) ⊎ (x .step ≡ give-up (a .client)) → a .number ≡ calls K xs (a .client) → ⊥) →
-      Settled (x ∷ xs) a
+      (mover (x .step) ≡ some (a .client) → a .number ≡ calls K xs (a .client) → ⊥) → Settled (x ∷ xs) a
   unfolding Settled nowValues
   same-call x xs a h f hyp = go (moved (K .s) (a .client) (now (K .s) xs) (x .step))
     where
@@ -91,18 +89,14 @@ module _ (K : Setup) where
       go (kept e _) = h (λ n. subst (λ (z : Client). isIdle (z .hand) ≡ true) e (hyp (n ∙ sym (ap (λ (z : Client). z .calls) e))))
       go (wbegan r n s b i m e) = h (λ n. i)
       go (rbegan s b i e) = h (λ n. i)
-      go (quit s b i e) = h (λ n. absurd (f (inr s) n))
-      go (took p b o s rd fit e v) = h (λ n. absurd (f (inl (b, o, s)) n))
-
-  abbrev effect : StepOf K → Steps K → ℕ → Call → Call
-  effect x xs c = follow (result K x xs) (eqb (awaits (hand K (x ∷ xs) c)) 6) (length xs)
+      go (quit s b i e) = h (λ n. absurd (f (ap mover s) n))
+      go (took p b o s rd fit e v) = h (λ n. absurd (f (ap mover s) n))
 
   -- the client's own call, at its own take or give-up
   own-settled : (x : StepOf K) (xs : Steps K) (a : Call) → Settled xs a → a .number ≡ calls K xs (a .client) →
-      ((b o : List ℕ) × (x .step ≡ take-reply (a .client) b o)) ⊎ (x .step ≡ give-up (a .client)) → acting (a .client) (x .step) ≡ true →
-      Settled (x ∷ xs) (effect x xs (a .client) a)
+      mover (x .step) ≡ some (a .client) → acting (a .client) (x .step) ≡ true → Settled (x ∷ xs) (effect K x xs (a .client) a)
   unfolding Settled nowValues
-  own-settled x xs a h n shape act hyp = go (moved (K .s) (a .client) w (x .step)) (back (follow-keeps (result K x xs) _ (length xs) a) hyp)
+  own-settled x xs a h n m act hyp = go (moved (K .s) (a .client) w (x .step)) (back (follow-keeps (result K x xs) _ (length xs) a) hyp)
     where
       w : World
       w = now (K .s) xs
@@ -111,7 +105,7 @@ module _ (K : Setup) where
       cl' = perform (K .s) w (x .step) .world .client (a .client)
 
       T : Call
-      T = effect x xs (a .client) a
+      T = effect K x xs (a .client) a
 
       back : (T .client ≡ a .client) × (T .number ≡ a .number) →
           (T .number ≡ perform (K .s) w (x .step) .world .client (T .client) .calls →
@@ -120,21 +114,12 @@ module _ (K : Setup) where
       back k f q = subst (λ (i : ℕ). isIdle (perform (K .s) w (x .step) .world .client i .hand) ≡ true) (k .0)
           (f (k .1 ∙ q ∙ ap (λ (i : ℕ). perform (K .s) w (x .step) .world .client i .calls) (sym (k .0))))
 
-      nope : {y : Step} → x .step ≡ y → ((b o : List ℕ) → y ≡ take-reply (a .client) b o → ⊥) → (y ≡ give-up (a .client) → ⊥) → ⊥
-      nope {y} e f g = pick shape
-        where
-          pick : ((b o : List ℕ) × (x .step ≡ take-reply (a .client) b o)) ⊎ (x .step ≡ give-up (a .client)) → ⊥
-          pick (inl z) = f (z .0) (z .1) (sym e ∙ z .2)
-          pick (inr z) = g (sym e ∙ z)
-
       go : Moved (K .s) (a .client) w (x .step) cl' (result K x xs) → (a .number ≡ cl' .calls → isIdle (cl' .hand) ≡ true) → Out T
       go (kept e f) i = let r = refused-view (result K x xs) (f act) in
           subst (λ (y : Result). Out (follow y (eqb (awaits (cl' .hand)) 6) (length xs) a)) (sym (r .1))
-          (h (λ m. subst (λ (z : Client). isIdle (z .hand) ≡ true) e (i (m ∙ sym (ap (λ (z : Client). z .calls) e)))))
-      go (wbegan r n' s b d l e) i = absurd
-          (nope s (λ b o q. (let z : _≡_ {A = ℕ} 0 1 = cc in omega arith)) (λ q. (let z : _≡_ {A = ℕ} 0 1 = cc in omega arith)))
-      go (rbegan s b d e) i = absurd (nope s (λ b o q. (let z : _≡_ {A = ℕ} 0 1 = cc in omega arith))
-          (λ q. (let z : _≡_ {A = ℕ} 0 1 = cc in omega arith)))
+          (h (λ k. subst (λ (z : Client). isIdle (z .hand) ≡ true) e (i (k ∙ sym (ap (λ (z : Client). z .calls) e)))))
+      go (wbegan r n' s b d l e) i = absurd (no-some (sym (ap mover s) ∙ m))
+      go (rbegan s b d e) i = absurd (no-some (sym (ap mover s) ∙ m))
       go (quit s v d e) i = subst (λ (y : Result). Out (follow y (eqb (awaits (cl' .hand)) 6) (length xs) a)) (sym v)
           (or-right (given (a .over)) true refl)
       go (took p b o s rd fit e v) i =
@@ -145,51 +130,7 @@ module _ (K : Setup) where
           (hand K xs (a .client)) (fit .busy) (fit .busy) (subst (λ (z : Client). isIdle (z .hand) ≡ true) e idle-now))
 
   step-settled : (x : StepOf K) (xs : Steps K) (a : Call) → Settled xs a → (st : Step) → x .step ≡ st → Settled (x ∷ xs) (touched K x xs st a)
-  unfolding touched touch
-  step-settled x xs a h (write c r n) e = same-call x xs a h (λ s m. other s)
-    where
-      other : ((b o : List ℕ) × (x .step ≡ take-reply (a .client) b o)) ⊎ (x .step ≡ give-up (a .client)) → ⊥
-      other (inl z) = let q = sym e ∙ z .2 in (let y : _≡_ {A = ℕ} 0 1 = cc in omega arith)
-      other (inr z) = let q = sym e ∙ z in (let y : _≡_ {A = ℕ} 0 1 = cc in omega arith)
-  step-settled x xs a h (read c) e = same-call x xs a h (λ s m. other s)
-    where
-      other : ((b o : List ℕ) × (x .step ≡ take-reply (a .client) b o)) ⊎ (x .step ≡ give-up (a .client)) → ⊥
-      other (inl z) = let q = sym e ∙ z .2 in (let y : _≡_ {A = ℕ} 0 1 = cc in omega arith)
-      other (inr z) = let q = sym e ∙ z in (let y : _≡_ {A = ℕ} 0 1 = cc in omega arith)
-  step-settled x xs a h (make c b o) e = same-call x xs a h (λ s m. other s)
-    where
-      other : ((b o : List ℕ) × (x .step ≡ take-reply (a .client) b o)) ⊎ (x .step ≡ give-up (a .client)) → ⊥
-      other (inl z) = let q = sym e ∙ z .2 in (let y : _≡_ {A = ℕ} 0 1 = cc in omega arith)
-      other (inr z) = let q = sym e ∙ z in (let y : _≡_ {A = ℕ} 0 1 = cc in omega arith)
-  step-settled x xs a h (serve d p o) e = same-call x xs a h (λ s m. other s)
-    where
-      other : ((b o : List ℕ) × (x .step ≡ take-reply (a .client) b o)) ⊎ (x .step ≡ give-up (a .client)) → ⊥
-      other (inl z) = let q = sym e ∙ z .2 in (let y : _≡_ {A = ℕ} 0 1 = cc in omega arith)
-      other (inr z) = let q = sym e ∙ z in (let y : _≡_ {A = ℕ} 0 1 = cc in omega arith)
-  step-settled x xs a h (take-reply c b o) e = cond-case (Settled (x ∷ xs)) (eqb (a .client) c && eqb (a .number) (calls K xs c)) _ a
-      (λ t. let q : a .client ≡ c = eqb-true _ _ (and-left (eqb (a .client) c) _ t) in
-      subst (λ (i : ℕ). Settled (x ∷ xs) (effect x xs i a)) q
-      (own-settled x xs a h (eqb-true _ _ (and-right (eqb (a .client) c) _ t) ∙ ap (calls K xs) (sym q))
-      (inl (b, o, e ∙ ap (λ (i : ℕ). take-reply i b o) (sym q))) (ap (acting (a .client)) e ∙ eq-eqb _ _ q)))
-      (λ t. same-call x xs a h (λ s m. other t m s))
-    where
-      other : (eqb (a .client) c && eqb (a .number) (calls K xs c)) ≡ false → a .number ≡ calls K xs (a .client) →
-          ((b' o' : List ℕ) × (x .step ≡ take-reply (a .client) b' o')) ⊎ (x .step ≡ give-up (a .client)) → ⊥
-      other t m (inl z) = let w = sym e ∙ z .2 in let q : c ≡ a .client = cc in
-          clash (and-intro _ _ (eq-eqb (a .client) c (sym q)) (eq-eqb (a .number) (calls K xs c) (m ∙ ap (calls K xs) (sym q)))) t
-      other t m (inr z) = let w = sym e ∙ z in (let y : _≡_ {A = ℕ} 0 1 = cc in omega arith)
-  step-settled x xs a h (give-up c) e = cond-case (Settled (x ∷ xs)) (eqb (a .client) c && eqb (a .number) (calls K xs c)) _ a
-      (λ t. let q : a .client ≡ c = eqb-true _ _ (and-left (eqb (a .client) c) _ t) in
-      subst (λ (i : ℕ). Settled (x ∷ xs) (effect x xs i a)) q
-      (own-settled x xs a h (eqb-true _ _ (and-right (eqb (a .client) c) _ t) ∙ ap (calls K xs) (sym q)) (inr (e ∙ ap give-up (sym q)))
-      (ap (acting (a .client)) e ∙ eq-eqb _ _ q)))
-      (λ t. same-call x xs a h (λ s m. other t m s))
-    where
-      other : (eqb (a .client) c && eqb (a .number) (calls K xs c)) ≡ false → a .number ≡ calls K xs (a .client) →
-          ((b' o' : List ℕ) × (x .step ≡ take-reply (a .client) b' o')) ⊎ (x .step ≡ give-up (a .client)) → ⊥
-      other t m (inl z) = let w = sym e ∙ z .2 in (let y : _≡_ {A = ℕ} 0 1 = cc in omega arith)
-      other t m (inr z) = let w = sym e ∙ z in let q : c ≡ a .client = cc in
-          clash (and-intro _ _ (eq-eqb (a .client) c (sym q)) (eq-eqb (a .number) (calls K xs c) (m ∙ ap (calls K xs) (sym q)))) t
+  step-settled x xs a h = touched-case K (Settled (x ∷ xs)) x xs a (λ k act n. own-settled x xs a h n k act) (λ f. same-call x xs a h f)
 
   -- ---- a new call
 
@@ -202,10 +143,10 @@ module _ (K : Setup) where
 
   -- the hand of a client that has just begun is not idle
   begun-settled : (x : StepOf K) (xs : Steps K) (c : ℕ) (w : Option (List ℕ)) → acting c (x .step) ≡ true → accepted (result K x xs) ≡ true →
-      ((b o : List ℕ) → x .step ≡ take-reply c b o → ⊥) → (x .step ≡ give-up c → ⊥) →
+      (mover (x .step) ≡ some c → ⊥) →
       Settled (x ∷ xs) (newCall c (suc (calls K xs c)) w (length xs))
   unfolding Settled nowValues newCall begun isIdle awaits
-  begun-settled x xs c w act acc f g hyp = go (moved (K .s) c (now (K .s) xs) (x .step))
+  begun-settled x xs c w act acc f hyp = go (moved (K .s) c (now (K .s) xs) (x .step))
     where
       cl' : Client
       cl' = perform (K .s) (now (K .s) xs) (x .step) .world .client c
@@ -214,20 +155,18 @@ module _ (K : Setup) where
       go (kept e k) = clash acc (k act)
       go (wbegan r n s b i m e) = clash (subst (λ (z : Client). isIdle (z .hand) ≡ true) e (hyp (sym (ap (λ (z : Client). z .calls) e)))) refl
       go (rbegan s b i e) = clash (subst (λ (z : Client). isIdle (z .hand) ≡ true) e (hyp (sym (ap (λ (z : Client). z .calls) e)))) refl
-      go (quit s b i e) = absurd (g s)
-      go (took p b o s rd fit e v) = absurd (f b o s)
+      go (quit s b i e) = absurd (f (ap mover s))
+      go (took p b o s rd fit e v) = absurd (f (ap mover s))
 
   new-settled : (x : StepOf K) (xs : Steps K) (st : Step) (e : x .step ≡ st) (g : Signed K (x ∷ xs)) → In g (newSigned K x xs st e) →
       Settled (x ∷ xs) (g .call)
   unfolding newSigned In
   new-settled x xs (write c r n) e g i = begin-settled _ (accepted (result K x xs)) (new-write K x xs c r n e)
       (λ acc. begun-settled x xs c (some r) (ap (acting c) e ∙ eq-eqb c c refl) acc
-      (λ b o s. (let q = sym e ∙ s in let y : _≡_ {A = ℕ} 0 1 = cc in omega arith))
-      (λ s. (let q = sym e ∙ s in let y : _≡_ {A = ℕ} 0 1 = cc in omega arith))) g i
+      (λ k. no-some (sym (ap mover e) ∙ k))) g i
   new-settled x xs (read c) e g i = begin-settled _ (accepted (result K x xs)) (new-read K x xs c e)
       (λ acc. begun-settled x xs c none (ap (acting c) e ∙ eq-eqb c c refl) acc
-      (λ b o s. (let q = sym e ∙ s in let y : _≡_ {A = ℕ} 0 1 = cc in omega arith))
-      (λ s. (let q = sym e ∙ s in let y : _≡_ {A = ℕ} 0 1 = cc in omega arith))) g i
+      (λ k. no-some (sym (ap mover e) ∙ k))) g i
   new-settled x xs (make c b o) e g i = absurd i
   new-settled x xs (take-reply c b o) e g i = absurd i
   new-settled x xs (give-up c) e g i = absurd i

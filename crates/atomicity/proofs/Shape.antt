@@ -1,22 +1,24 @@
 -- The shape of the log: a step changes the calls of its client that it touches and adds the one that it begins.
 -- Assumes nothing.
 use mathlib.Core.Path.{_≡_, refl, sym, ap, _∙_, subst}
-use mathlib.Core.Bool.{Bool, false, cond, _&&_}
+use mathlib.Core.Bool.{Bool, true, false, cond, _&&_}
 use mathlib.Core.List.{List, [], _∷_, _++_, map}
-use mathlib.Core.Option.{Option, none, some}
+use mathlib.Core.Option.{Option, none, some, Option·some-injective}
 use Prim.Native.Nat.{ℕ, suc}
 use native.Mathlib.Omega.{arith}
 use lib.Dec.{eqb}
 use lib.ListN.{length}
+use borrow.Author.Tests.{eqb-true, eq-eqb}
 use Rattle.protocol.specs.Values.{blankStamp}
-use Rattle.protocol.specs.Client.{Client, Hand, Result, refused, more, written, gave, gaveBlank, aborted, begun, awaits}
+use Rattle.protocol.specs.Client.{Client, Hand, Result, refused, more, written, gave, gaveBlank, aborted, begun, awaits, accepted}
 use Rattle.protocol.specs.Runs.{Step, write, read, make, take-reply, give-up, serve, nowValues}
-use Rattle.atomicity.specs.Steps.{accepted}
+use Rattle.protocol.proofs.Answers.{at-cond}
 use Rattle.atomicity.specs.Claim.{Call, change, follow, note, log}
-use Rattle.atomicity.proofs.Util.{cond-case, clash, no-some}
+use Rattle.atomicity.proofs.Util.{clash, no-some, and-left, and-right, and-intro}
 use Rattle.atomicity.proofs.Model.{perform, now, account}
 use Rattle.atomicity.proofs.Setup.{Setup, Steps, StepOf, hand, calls}
-use Rattle.atomicity.proofs.Rounds.{since-new}
+use Rattle.atomicity.proofs.Positions.{since-new}
+use Rattle.atomicity.proofs.Moves.{acting}
 use Rattle.atomicity.proofs.Calls.{Open, Cur, CallOk}
 
 -- ---- the shape of the log
@@ -33,6 +35,10 @@ map-id : (cs : List Call) → cs ≡ map (λ a. a) cs
 map-id [] = refl
 map-id (a ∷ cs) = ap (λ (l : List Call). a ∷ l) (map-id cs)
 
+begin-shape : (b : Bool) (a : Call) (cs : List Call) → _≡_ {A = List Call} (cond b (a ∷ cs) cs) (cond b (a ∷ []) [] ++ map (λ z. z) cs)
+begin-shape true a cs = ap (λ (l : List Call). a ∷ l) (map-id cs)
+begin-shape false a cs = map-id cs
+
 unfoldable pub newCall : ℕ → ℕ → Option (List ℕ) → ℕ → Call
 newCall c n w t = record { client = c; number = n; wrote = w; begun = t; reached = false; over = none; answer = none; gaveUp = false }
 
@@ -43,6 +49,15 @@ refused-view (written n) e = clash refl e
 refused-view (gave n r) e = clash refl e
 refused-view gaveBlank e = clash refl e
 refused-view (aborted b) e = clash refl e
+
+-- the client that takes a reply or gives up
+abbrev pub mover : Step → Option ℕ
+mover (write c r n) = none
+mover (read c) = none
+mover (make c b o) = none
+mover (take-reply c b o) = some c
+mover (give-up c) = some c
+mover (serve b p o) = none
 
 module _ (K : Setup) where
   abbrev pub Log : Steps K → List Call
@@ -63,6 +78,29 @@ module _ (K : Setup) where
   touched x xs (give-up c) a = touch c (calls K xs c) (effect x xs c) a
   touched x xs (serve b p o) a = a
 
+  -- a step changes its mover's present call, and leaves any other as it is
+  module _ (P : Call → Type 0) (x : StepOf K) (xs : Steps K) (a : Call)
+      (own : mover (x .step) ≡ some (a .client) → acting (a .client) (x .step) ≡ true → a .number ≡ calls K xs (a .client) →
+      P (effect x xs (a .client) a))
+      (other : (mover (x .step) ≡ some (a .client) → a .number ≡ calls K xs (a .client) → ⊥) → P a) where
+    touch-case : (c : ℕ) → mover (x .step) ≡ some c → (a .client ≡ c → acting (a .client) (x .step) ≡ true) → P (touch c (calls K xs c) (effect x xs c) a)
+    unfolding touch
+    touch-case c m act = at-cond (eqb (a .client) c && eqb (a .number) (calls K xs c)) _ a P
+        (λ t. let q : a .client ≡ c = eqb-true _ _ (and-left (eqb (a .client) c) _ t) in
+        subst (λ (i : ℕ). P (effect x xs i a)) q
+        (own (m ∙ ap some (sym q)) (act q) (eqb-true _ _ (and-right (eqb (a .client) c) _ t) ∙ ap (calls K xs) (sym q))))
+        (λ t. other (λ k n. let q : a .client ≡ c = Option·some-injective _ _ (sym k ∙ m) in
+        clash (and-intro _ _ (eq-eqb (a .client) c q) (eq-eqb (a .number) (calls K xs c) (n ∙ ap (calls K xs) q))) t))
+
+    pub touched-case : (st : Step) → x .step ≡ st → P (touched x xs st a)
+    unfolding touched
+    touched-case (write c r n) e = other (λ k n. no-some (sym (ap mover e) ∙ k))
+    touched-case (read c) e = other (λ k n. no-some (sym (ap mover e) ∙ k))
+    touched-case (make c b o) e = other (λ k n. no-some (sym (ap mover e) ∙ k))
+    touched-case (take-reply c b o) e = touch-case c (ap mover e) (λ q. ap (acting (a .client)) e ∙ eq-eqb _ _ q)
+    touched-case (give-up c) e = touch-case c (ap mover e) (λ q. ap (acting (a .client)) e ∙ eq-eqb _ _ q)
+    touched-case (serve b p o) e = other (λ k n. no-some (sym (ap mover e) ∙ k))
+
   unfoldable pub news : StepOf K → Steps K → Step → List Call
   news x xs (write c r n) = cond (accepted (result x xs)) (newCall c (suc (calls K xs c)) (some r) (length xs) ∷ []) []
   news x xs (read c) = cond (accepted (result x xs)) (newCall c (suc (calls K xs c)) none (length xs) ∷ []) []
@@ -74,18 +112,8 @@ module _ (K : Setup) where
   pub note-shape : (x : StepOf K) (xs : Steps K) (cs : List Call) (st : Step) →
       note (account (K .s)) x xs cs st ≡ news x xs st ++ map (touched x xs st) cs
   unfolding note news touched newCall
-  note-shape x xs cs (write c r n) =
-      cond-case (λ (z : List Call). _≡_ {A = List Call} (cond (accepted (result x xs)) (newCall c (suc (calls K xs c)) (some r) (length xs) ∷ cs) cs)
-      (z ++ map (λ a. a) cs)) (accepted (result x xs)) _ []
-      (λ e. ap (λ (b : Bool). cond b (newCall c (suc (calls K xs c)) (some r) (length xs) ∷ cs) cs) e
-      ∙ ap (λ (l : List Call). newCall c (suc (calls K xs c)) (some r) (length xs) ∷ l) (map-id cs))
-      (λ e. ap (λ (b : Bool). cond b (newCall c (suc (calls K xs c)) (some r) (length xs) ∷ cs) cs) e ∙ map-id cs)
-  note-shape x xs cs (read c) = cond-case
-      (λ (z : List Call). _≡_ {A = List Call} (cond (accepted (result x xs)) (newCall c (suc (calls K xs c)) none (length xs) ∷ cs) cs)
-      (z ++ map (λ a. a) cs)) (accepted (result x xs)) _ []
-      (λ e. ap (λ (b : Bool). cond b (newCall c (suc (calls K xs c)) none (length xs) ∷ cs) cs) e
-      ∙ ap (λ (l : List Call). newCall c (suc (calls K xs c)) none (length xs) ∷ l) (map-id cs))
-      (λ e. ap (λ (b : Bool). cond b (newCall c (suc (calls K xs c)) none (length xs) ∷ cs) cs) e ∙ map-id cs)
+  note-shape x xs cs (write c r n) = begin-shape (accepted (result x xs)) _ cs
+  note-shape x xs cs (read c) = begin-shape (accepted (result x xs)) _ cs
   note-shape x xs cs (make c b o) = map-id cs
   note-shape x xs cs (take-reply c b o) = change-map c (calls K xs c) (effect x xs c) cs
   note-shape x xs cs (give-up c) = change-map c (calls K xs c) (effect x xs c) cs

@@ -8,19 +8,20 @@ use mathlib.Core.Option.{some}
 use Prim.Native.Nat.{ℕ, _≤_}
 use native.Mathlib.Omega.{arith}
 use lib.Dec.{ltb, eqb}
-use borrow.Author.Tests.{eqb-true, ltb-false, le-leb}
-use Rattle.cluster.specs.Ranges.{within, topWriter}
+use borrow.Author.Tests.{eqb-true, ltb-false}
+use Rattle.cluster.specs.Ranges.{topWriter}
+use Rattle.cluster.proofs.Tests.{or-none}
 use Rattle.protocol.specs.Values.{Candidate, Share, Write}
 use Rattle.protocol.specs.Packet.{Body, Packet, kindOf, decode}
 use Rattle.protocol.specs.Packet.{clock, clockReply, store, storeReply, complete, completeReply, collect, collectReply, filter, filterReply, repair, repairReply}
 use Rattle.protocol.specs.Rules.{ByServer}
 use Rattle.protocol.specs.Server.{barred, replyTo}
-use Rattle.protocol.specs.Client.{Hand, idle, clocking, storing, completing, collecting, filtering, repairing, request}
+use Rattle.protocol.specs.Client.{Hand, idle, clocking, storing, completing, collecting, filtering, repairing, request, accepted}
 use Rattle.protocol.specs.Runs.{Step, write, read, make, take-reply, give-up, serve, sentOf}
 use Rattle.atomicity.specs.Lists.{Ever}
-use Rattle.atomicity.specs.Steps.{accepted, bytesIn, packetIn, makes, serves}
+use Rattle.atomicity.specs.Steps.{bytesIn, packetIn, makes, serves}
 use Rattle.atomicity.specs.Premises.{Authentic, PartyOf, odd}
-use Rattle.atomicity.proofs.Util.{clash, no-some, and-intro, or-none, ever-map, ever-with}
+use Rattle.atomicity.proofs.Util.{clash, no-some, ever-map, ever-with}
 use Rattle.atomicity.proofs.Model.{perform, now, account}
 use Rattle.atomicity.proofs.Setup.{Setup, Steps, StepOf, Meets, Fair}
 use Rattle.atomicity.proofs.Serving.{Asked, Answered, answer}
@@ -99,33 +100,25 @@ module _ (K : Setup) where
       Ever (λ (y : StepOf K) ys. (who (y .step) ≡ true) × (account (K .s) .sent y ys ≡ b)) xs → Ever (MadeBy who p) xs
   sent-made who b p d xs e = ever-map _ (MadeBy who p) (λ y ys h. let q = ap decode (h .1) ∙ d in (h .0, q, K .laws .reads y ys p q)) xs e
 
-  pub by-client : (x : StepOf K) (xs : Steps K) → Meets K x xs → (p : Packet) → packetIn (x .step) ≡ some p →
+  -- a correct party's packet was made by it: a request by its client, a reply by its server
+  pub made-by : (x : StepOf K) (xs : Steps K) → Meets K x xs → (p : Packet) → packetIn (x .step) ≡ some p →
       accepted (perform (K .s) (now (K .s) xs) (x .step) .result) ≡ true →
-      odd (kindOf (p .body)) ≡ true → K .correct .client (p .head .client) ≡ true → Ever (MadeBy (makes (p .head .client)) p) xs
+      (odd (kindOf (p .body)) ≡ true → K .correct .client (p .head .client) ≡ true → Ever (MadeBy (makes (p .head .client)) p) xs)
+      × (odd (kindOf (p .body)) ≡ false → K .correct .server (p .head .server) ≡ true → Ever (MadeBy (serves (p .head .server)) p) xs)
   unfolding Authentic
-  by-client x xs prem p e f o c =
-      sent-made (makes (p .head .client)) (bytesIn (x .step)) p (read-back (x .step) p e) xs (prem .authentic p e f .0 o c)
-
-  pub by-server : (x : StepOf K) (xs : Steps K) → Meets K x xs → (p : Packet) → packetIn (x .step) ≡ some p →
-      accepted (perform (K .s) (now (K .s) xs) (x .step) .result) ≡ true →
-      odd (kindOf (p .body)) ≡ false → K .correct .server (p .head .server) ≡ true → Ever (MadeBy (serves (p .head .server)) p) xs
-  unfolding Authentic
-  by-server x xs prem p e f o c =
-      sent-made (serves (p .head .server)) (bytesIn (x .step)) p (read-back (x .step) p e) xs (prem .authentic p e f .1 o c)
+  made-by x xs prem p e f = let a = prem .authentic p e f in let b = bytesIn (x .step) in let r = read-back (x .step) p e in
+      (λ o c. sent-made (makes (p .head .client)) b p r xs (a .0 o c), λ o c. sent-made (serves (p .head .server)) b p r xs (a .1 o c))
 
   -- a server that steps is correct, and one of the shelf
   pub server-correct : (x : StepOf K) (xs : Steps K) → Meets K x xs → (j : ℕ) → serves j (x .step) ≡ true → K .correct .server j ≡ true
   server-correct x xs prem j e = let h = serve-shape j (x .step) e in
       subst (λ (y : Step). PartyOf (K .s) (account (K .s)) (K .correct) xs y) (h .2) (prem .party)
 
-  pub in-range : (b : ℕ) → 1 ≤ b → b ≤ K .s .config .servers → within 1 (K .s .config .servers) b ≡ true
-  in-range b lo hi = and-intro _ _ (le-leb 1 b lo) (le-leb b (K .s .config .servers) hi)
-
   -- a writer's packet was made by it
   pub writer-made : (x : StepOf K) (xs : Steps K) → Meets K x xs → (j : ℕ) (p : Packet) → packetIn (x .step) ≡ some p → Asked (K .s) j p →
       accepted (perform (K .s) (now (K .s) xs) (x .step) .result) ≡ true →
       p .head .client ≤ topWriter → Ever (MadeBy (makes (p .head .client)) p) xs
-  writer-made x xs prem j p e a f l = by-client x xs prem p e f (asked-odd (p .head .client) (p .body) (a .allowed))
+  writer-made x xs prem j p e a f l = made-by x xs prem p e f .0 (asked-odd (p .head .client) (p .body) (a .allowed))
       (K .parties .writers (p .head .client) (K .laws .heads (bytesIn (x .step)) p (read-back (x .step) p e) (a .same-t) .0) l)
 
   -- ---- replies
@@ -134,7 +127,6 @@ module _ (K : Setup) where
   pub record Told (p : Packet) (y : StepOf K) (ys : Steps K) : Type 0 where
     pub by : serves (p .head .server) (y .step) ≡ true
     pub behind : Answered (K .s) (now (K .s) ys) (p .head .server) (y .step) p
-    pub same-client : behind .ask .head .client ≡ p .head .client
     pub same-call : behind .ask .head .call ≡ p .head .call
     pub source : Ever (MadeBy (makes (p .head .client)) (behind .ask)) ys
 
@@ -147,10 +139,9 @@ module _ (K : Setup) where
       record {
         by = m .0;
         behind = a;
-        same-client = mine;
         same-call = sym (ap (λ (q : Packet). q .head .call) (a .reply));
         source = subst (λ (i : ℕ). Ever (MadeBy (makes i) (a .ask)) ys) mine
-            (by-client y ys prem (a .ask) (a .got) (a .fine) (asked-odd (a .ask .head .client) (a .ask .body) (a .asked .allowed))
+            (made-by y ys prem (a .ask) (a .got) (a .fine) .0 (asked-odd (a .ask .head .client) (a .ask .body) (a .asked .allowed))
             (subst (λ (i : ℕ). K .correct .client i ≡ true) (sym mine) c));
       }
 

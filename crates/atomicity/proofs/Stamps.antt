@@ -1,16 +1,18 @@
--- The order of stamps (by number, then writer) and the equality of bytes and of stamps.
+-- The order of stamps, by number, then writer; and that lists that are equal pass the test for it.
 -- Assumes nothing.
-use mathlib.Core.Path.{_≡_, refl, sym, ap, _∙_, subst}
+use mathlib.Core.Path.{_≡_, sym, subst}
 use mathlib.Core.Bool.{true, false, _&&_}
-use mathlib.Core.List.{List, [], _∷_}
+use mathlib.Core.List.{List}
 use mathlib.Core.Logic.{_⊎_, inl, inr}
 use Prim.Native.Nat.{ℕ, _≤_, _<_}
 use native.Mathlib.Omega.{arith}
 use lib.Dec.{ltb, eqb}
 use borrow.Author.Tests.{ltb-true, ltb-false, eqb-true, lt-ltb, eq-eqb}
 use Rattle.protocol.specs.declared.Stamp.{Stamp}
-use Rattle.protocol.specs.Values.{below, blankStamp, sameList, sameStamp}
-use Rattle.atomicity.proofs.Util.{bool-case, clash, untrue, and-left, and-right, and-intro, or-cases, or-left, or-right}
+use Rattle.protocol.specs.Values.{below, blankStamp, sameList}
+use Rattle.protocol.proofs.Equal.{same-refl}
+use Rattle.atomicity.proofs.Util.{bool-case, clash, and-left, and-right, and-intro, or-cases, or-left, or-right}
+use Rattle.cluster.proofs.Tests.{untrue}
 
 pub below-view : (a b : Stamp) → below a b ≡ true → (a .number < b .number) ⊎ ((a .number ≡ b .number) × (a .writer < b .writer))
 unfolding below
@@ -93,30 +95,5 @@ below-asym a b p = untrue (below b a) (λ q. go (below-view a b p) (below-view b
 
 -- ---- equality
 
-pub same-eq : (xs ys : List ℕ) → sameList xs ys ≡ true → xs ≡ ys
-same-eq [] [] e = refl
-same-eq [] (y ∷ ys) e = clash e refl
-same-eq (x ∷ xs) [] e = clash e refl
-same-eq (x ∷ xs) (y ∷ ys) e =
-    ap (λ (z : ℕ). z ∷ xs) (eqb-true x y (and-left (eqb x y) (sameList xs ys) e))
-    ∙ ap (λ (zs : List ℕ). y ∷ zs) (same-eq xs ys (and-right (eqb x y) (sameList xs ys) e))
-
-pub same-refl : (b : List ℕ) → sameList b b ≡ true
-same-refl [] = refl
-same-refl (x ∷ xs) = and-intro _ _ (eq-eqb x x refl) (same-refl xs)
-
 pub same-is : (xs ys : List ℕ) → xs ≡ ys → sameList xs ys ≡ true
 same-is xs ys e = subst (λ (z : List ℕ). sameList xs z ≡ true) e (same-refl xs)
-
-pub same-stamp : (a b : Stamp) → sameStamp a b ≡ true → a ≡ b
-unfolding sameStamp
-same-stamp a b e =
-    let p = eqb-true (a .number) (b .number) (and-left (eqb (a .number) (b .number)) (eqb (a .writer) (b .writer) && sameList (a .tag) (b .tag)) e) in
-    let r = and-right (eqb (a .number) (b .number)) (eqb (a .writer) (b .writer) && sameList (a .tag) (b .tag)) e in
-    let q = eqb-true (a .writer) (b .writer) (and-left (eqb (a .writer) (b .writer)) (sameList (a .tag) (b .tag)) r) in
-    let t = same-eq (a .tag) (b .tag) (and-right (eqb (a .writer) (b .writer)) (sameList (a .tag) (b .tag)) r) in
-    λ i. record { number = p i; writer = q i; tag = t i }
-
-pub stamp-refl : (a : Stamp) → sameStamp a a ≡ true
-unfolding sameStamp
-stamp-refl a = and-intro _ _ (eq-eqb (a .number) (a .number) refl) (and-intro _ _ (eq-eqb (a .writer) (a .writer) refl) (same-refl (a .tag)))

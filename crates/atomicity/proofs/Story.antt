@@ -3,25 +3,25 @@
 -- Assumes nothing.
 use mathlib.Core.Path.{_≡_, refl, sym, ap, ap₂, _∙_, subst}
 use mathlib.Core.Bool.{Bool, true, false}
-use mathlib.Core.List.{List, [], _∷_, _++_, map}
+use mathlib.Core.List.{List, [], _∷_, _++_, map, map-append}
 use mathlib.Core.Option.{some}
 use mathlib.Core.Logic.{_⊎_, inl, inr}
 use Prim.Native.Nat.{ℕ, suc, _<_}
 use native.Mathlib.Omega.{arith}
 use lib.ListN.{length}
-use Rattle.protocol.specs.declared.Stamp.{Stamp}
 use Rattle.protocol.specs.Values.{Candidate, blankStamp}
-use Rattle.protocol.specs.Client.{Client, Hand, Result, begun, onto, awaits, isIdle}
+use Rattle.protocol.specs.Client.{Client, Hand, Result, begun, onto, awaits, isIdle, accepted}
 use Rattle.protocol.specs.Runs.{Step, write, read, make, take-reply, give-up, serve, World, nowValues}
 use Rattle.atomicity.specs.Lists.{Ever, Always, All, In, AllPairs}
-use Rattle.atomicity.specs.Steps.{Stamped, accepted}
+use Rattle.atomicity.specs.Steps.{Stamped}
 use Rattle.atomicity.specs.Claim.{Call, log}
 use Rattle.atomicity.proofs.Util.{clash, right-in, in-map, map-in, all-of}
 use Rattle.atomicity.proofs.Model.{perform, now, marks}
 use Rattle.atomicity.proofs.Setup.{Setup, Steps, StepOf, Meets, Fair, Show, hand, calls}
 use Rattle.atomicity.proofs.Moves.{Moved, kept, wbegan, rbegan, quit, took, moved}
 use Rattle.atomicity.proofs.Rounds.{turn-turned}
-use Rattle.atomicity.proofs.Marks.{by-stamp, marks-up}
+use Rattle.atomicity.proofs.Marks.{marks-up}
+use Rattle.atomicity.proofs.Rising.{by-stamp}
 use Rattle.atomicity.proofs.Begun.{Known, known}
 use Rattle.atomicity.proofs.Invariant.{show-hand}
 use Rattle.atomicity.proofs.Calls.{mark-at, Cur, CallOk, Keeps}
@@ -52,10 +52,6 @@ module _ (K : Setup) where
   story (x ∷ xs) fair = newSigned K x xs (x .step) refl ++ map (stepSigned x xs fair) (story xs (past x xs fair))
 
   -- ---- it is the log
-
-  map-append : {A B : Type 0} (f : A → B) (us vs : List A) → map f (us ++ vs) ≡ map f us ++ map f vs
-  map-append f [] vs = refl
-  map-append {B = B} f (u ∷ us) vs = ap (λ (l : List B). f u ∷ l) (map-append f us vs)
 
   map-map : {A B C : Type 0} (g : B → C) (f : A → B) (us : List A) → map g (map f us) ≡ map (λ u. g (f u)) us
   map-map g f [] = refl
@@ -229,12 +225,11 @@ module _ (K : Setup) where
       let g = a .known in
       let cur = subst (Cur K xs (g .call) (g .stamp)) (ap (λ (i : ℕ). hand K xs i) (a .client) ∙ v .1)
       (g .ok .current (a .number ∙ ap (calls K xs) (sym (a .client)))) in
-      let W = cur .0 in
+      let W = cur .0 .own in
       let f = subst (Known (K .s) xs c) (v .1) (known (K .s) xs c) in
       let made = mark-at K (W .write) (g .call .begun) xs (W .since-when) in
-      let q : W .write .stamp ≡ f .0 .stamp = W .stamp-is ∙ sym (W .hand-is) ∙ ap (λ (z : Candidate). z .stamp) (f .3) in
-      let e : W .write ≡ f .0 = by-stamp (K .s) xs (W .write) (f .0) made (f .1) (ap (λ (z : Stamp). z .number) q)
-      (ap (λ (z : Stamp). z .writer) q) in
+      let q : W .write .stamp ≡ f .0 .stamp = W .stamp-is ∙ sym (cur .0 .hand-is) ∙ ap (λ (z : Candidate). z .stamp) (f .3) in
+      let e : W .write ≡ f .0 = by-stamp (K .s) xs (W .write) (f .0) made (f .1) q in
       record {
         known = g;
         among = a .among;
@@ -243,6 +238,6 @@ module _ (K : Setup) where
         made = made;
         nonce-is = ap (λ (m : Stamped). m .nonce) e ∙ sym (ap (λ (z : Candidate). z .nonce) (f .3)) ∙ v .2;
         stamp-is = W .stamp-is;
-        wrote = W .content-is;
+        wrote = cur .0 .content-is ∙ ap some (sym (W .content-is));
       })
   shown-call (x ∷ xs) fair c n (inr h) = counts-up x xs fair n (shown-call xs (past x xs fair) c n h)

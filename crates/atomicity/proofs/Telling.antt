@@ -17,23 +17,26 @@ use Rattle.protocol.specs.Packet.{clock, store, complete, collect, filter, repa
 use Rattle.protocol.specs.Memory.{held}
 use Rattle.protocol.specs.Server.{Server, hasDigest, raise, valid, byHistory, act}
 use Rattle.protocol.specs.Client.{Hand, idle, clocking, storing, completing, collecting, filtering, repairing, stampIn, codeIn, candidateIn, heldIn, higher, checks, request}
+use Rattle.protocol.proofs.Answers.{at-cond}
 use Rattle.atomicity.specs.Lists.{Ever, In}
 use Rattle.atomicity.specs.Steps.{System, Stamped, judged}
-use Rattle.atomicity.proofs.Util.{cond-case, clash, untrue, and-intro, or-left, or-right, ever-map, rise}
+use Rattle.atomicity.proofs.Util.{clash, and-intro, or-left, or-right, ever-map, rise}
 use Rattle.atomicity.proofs.Stamps.{le-trans, num-le, same-is}
 use Rattle.atomicity.proofs.Model.{now, acts, marks, vouched, tagged, isValid, bestOf, shareFor}
 use Rattle.atomicity.proofs.Setup.{Setup, Steps, StepOf, Fair, lat, hist, hand}
-use Rattle.atomicity.proofs.Rounds.{since, from}
-use Rattle.atomicity.proofs.Marks.{mark-num, mark-checks, by-stamp}
+use Rattle.atomicity.proofs.Positions.{since, from}
+use Rattle.atomicity.proofs.Marks.{mark-num, mark-checks}
+use Rattle.atomicity.proofs.Rising.{by-stamp}
 use Rattle.atomicity.proofs.Servers.{held-some, is-some, raise-ge, best-view, best-max, store-held}
 use Rattle.atomicity.proofs.Histories.{history}
 use Rattle.atomicity.proofs.Genuine.{Judging, Genuine, genuine, genuine-up, latest-known}
 use Rattle.atomicity.proofs.Heard.{lat-since, held-from, marks-from, Heard}
 use Rattle.atomicity.proofs.States.{Piece, piece-up, Sift, Coll, Says, says-up}
+use Rattle.cluster.proofs.Tests.{untrue}
 
 pub higher-checked : (s : System) (k : ℕ) (a : Stamp) → checks (s .P) (s .writers) a ≡ true → a .number ≤ higher (s .P) (s .writers) k a
 unfolding higher
-higher-checked s k a h = cond-case (λ (v : ℕ). a .number ≤ v) (checks (s .P) (s .writers) a && ltb k (a .number)) _ k (λ e. le-refl _)
+higher-checked s k a h = at-cond (checks (s .P) (s .writers) a && ltb k (a .number)) _ k (λ (v : ℕ). a .number ≤ v) (λ e. le-refl _)
     (λ e. ltb-false k (a .number) (untrue _ (λ z. clash (and-intro _ _ h z) e)))
 
 module _ (K : Setup) where
@@ -74,7 +77,7 @@ module _ (K : Setup) where
       let e = held-some (d .stamp) (f .0) (hist K ys j) (f .1) in
       let o = history K ys fair j (e .0) (e .1) in
       let k : o .0 .stamp ≡ m .stamp = sym (ap (λ (z : Write). z .stamp) (o .2)) ∙ e .2 ∙ sym a in
-      let eq : o .0 ≡ m = by-stamp (K .s) ys (o .0) m (o .1) i (ap (λ (z : Stamp). z .number) k) (ap (λ (z : Stamp). z .writer) k) in
+      let eq : o .0 ≡ m = by-stamp (K .s) ys (o .0) m (o .1) i k in
       let nd : f .0 .nonceDigest ≡ K .s .P .digest (d .nonce) = sym (ap (λ (z : Share). z .nonceDigest) (e .3))
       ∙ ap (λ (z : Write). z .share .nonceDigest) (o .2) ∙ ap (λ (z : Stamped). K .s .P .digest (z .nonce)) eq ∙ ap (K .s .P .digest) n in
       or-left _ _ (subst (λ (z : Option Share). hasDigest (K .s .P .digest (d .nonce)) z ≡ true) (sym (f .1))
@@ -86,14 +89,10 @@ module _ (K : Setup) where
   piece-of ys fair j d g f h =
       let e = held-some (d .stamp) f (hist K ys j) h in
       let o = history K ys fair j (e .0) (e .1) in
-      let k : o .0 .stamp ≡ g .write .stamp = sym (ap (λ (z : Write). z .stamp) (o .2)) ∙ e .2 ∙ sym (g .stamp-is) in
-      let eq : o .0 ≡ g .write = by-stamp (K .s) ys (o .0) (g .write) (o .1) (g .made) (ap (λ (z : Stamp). z .number) k)
-      (ap (λ (z : Stamp). z .writer) k) in
+      let k : o .0 .stamp ≡ g .origin .write .stamp = sym (ap (λ (z : Write). z .stamp) (o .2)) ∙ e .2 ∙ sym (g .origin .stamp-is) in
+      let eq : o .0 ≡ g .origin .write = by-stamp (K .s) ys (o .0) (g .origin .write) (o .1) (g .origin .made) k in
       record {
-        write = g .write;
-        made = g .made;
-        shown = g .shown;
-        stamp-is = g .stamp-is;
+        origin = g .origin;
         share-is = sym (e .3) ∙ ap (λ (z : Write). z .share) (o .2) ∙ ap (λ (z : Stamped). shareFor (K .s) z j) eq;
       }
 
@@ -154,7 +153,8 @@ module _ (K : Setup) where
         arith,
         low,
         higher-checked (K .s) k (lat K ys j)
-            (subst (λ (a : Stamp). checks (K .s .P) (K .s .writers) a ≡ true) (g .stamp-is) (mark-checks (K .s) ys (g .write) (g .made))),
+            (subst (λ (a : Stamp). checks (K .s .P) (K .s .writers) a ≡ true) (g .origin .stamp-is)
+            (mark-checks (K .s) ys (g .origin .write) (g .origin .made))),
       )
 
   stored : (c j : ℕ) (xs : Steps K) (w : Write) (x : Body) (y : StepOf K) (ys : Steps K) → At c j xs (store w) x y ys → eqb (codeIn x) 11 ≡ false →

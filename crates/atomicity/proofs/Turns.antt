@@ -9,7 +9,7 @@ use mathlib.Core.Logic.{_⊎_, inl, inr}
 use Prim.Native.Nat.{ℕ, suc, _≤_, _<_}
 use native.Mathlib.Omega.{arith}
 use lib.Dec.{eqb}
-use borrow.Author.Tests.{eq-eqb, ne-eqb, eqb-true}
+use borrow.Author.Tests.{eq-eqb, ne-eqb, eqb-true, not-true}
 use Rattle.protocol.specs.declared.Stamp.{Stamp}
 use Rattle.protocol.specs.Values.{Candidate, Share, Held, below, blankStamp, blankCandidate, sameList, isSome, isBlank}
 use Rattle.protocol.specs.Packet.{Body}
@@ -17,18 +17,22 @@ use Rattle.protocol.specs.Memory.{held}
 use Rattle.protocol.specs.Rules.{ByServer, upd, nobody, countTo, gather, choice, leader, tagsIn}
 use Rattle.protocol.specs.Client.{Client, Hand, Turn, Result, refused, more, written, gave, gaveBlank, aborted, idle, clocking, storing, completing, collecting, filtering, repairing}
 use Rattle.protocol.specs.Client.{update, judge, found, onto, prepared, candidateMade, stampOf, higher, stampIn, codeIn, candidateIn, heldIn}
+use Rattle.protocol.proofs.Marks.{count-nobody}
+use Rattle.protocol.proofs.Equal.{same-true}
+use Rattle.protocol.proofs.Answers.{at-cond}
 use Rattle.atomicity.specs.Lists.{In}
 use Rattle.atomicity.specs.Steps.{allDigested}
-use Rattle.atomicity.proofs.Util.{cond-case, bool-case, clash, not-t, not-f, upd-here, upd-else}
-use Rattle.atomicity.proofs.Stamps.{num-le, same-eq}
-use Rattle.atomicity.proofs.Counting.{count-none}
+use Rattle.atomicity.proofs.Util.{bool-case, clash, not-f, upd-here, upd-else}
+use Rattle.atomicity.proofs.Stamps.{num-le}
 use Rattle.atomicity.proofs.Model.{account, updated}
 use Rattle.atomicity.proofs.Setup.{Setup, Steps, StepOf, Fair, lat, hist}
-use Rattle.atomicity.proofs.Rounds.{stage, higher-le}
+use Rattle.atomicity.proofs.Rounds.{higher-le}
+use Rattle.atomicity.proofs.Positions.{stage}
 use Rattle.atomicity.proofs.Marks.{mark-num}
 use Rattle.atomicity.proofs.Genuine.{Genuine}
 use Rattle.atomicity.proofs.Heard.{lat-up, held-up}
-use Rattle.atomicity.proofs.States.{S, Q, right, FullAt, TopAt, WBeats, Beats, many-marks, meets-marks, Coll, coll-up, Sift, sift-up, Proved, proved-up, Filters, HandOk, Says, ok-up, full-up, dig-up}
+use Rattle.atomicity.proofs.States.{Coll, coll-up, Sift, sift-up, Proved, proved-up, Filters, HandOk, Says, ok-up, dig-up}
+use Rattle.atomicity.proofs.Quorums.{S, Q, right, FullAt, TopAt, WBeats, Beats, many-marks, meets-marks, full-up}
 use Rattle.atomicity.proofs.Gathered.{in-gather}
 use Rattle.atomicity.proofs.Groups.{tagged-of}
 use Rattle.atomicity.proofs.Choosing.{q-pos, floor, Live, chosen}
@@ -61,17 +65,23 @@ module _ (K : Setup) where
   -- ---- marks
 
   pub none-short : countTo (S K) nobody < Q K
-  unfolding nobody
-  none-short = omega (arith, q-pos K, count-none (λ i. false) (S K) (λ i. refl))
+  none-short = omega (arith, q-pos K, count-nobody (S K))
 
   pub unmarked : {P : Type 0} (j : ℕ) → nobody j ≡ true → P
   unfolding nobody
   unmarked j e = clash e refl
 
+  -- b replied v: what holds of v, and held of the replies g before, holds of all
+  on-replies : {A : Type 0} (P : ℕ → A → Type 0) (m : ByServer Bool) (g : ByServer A) (b : ℕ) (v : A) → (right K b ≡ true → P b v) →
+      ((j : ℕ) → right K j ≡ true → m j ≡ true → P j (g j)) → (j : ℕ) → right K j ≡ true → upd m b true j ≡ true → P j (upd g b v j)
+  on-replies P m g b v f k j r e = bool-case (eqb j b)
+      (λ q. let z = eqb-true j b q in
+      subst (λ (i : ℕ). right K i ≡ true → P i (upd g b v i)) (sym z) (λ h. subst (P b) (sym (upd-here g b v)) (f h)) r)
+      (λ q. subst (P j) (sym (upd-else g b v j q)) (k j r (sym (upd-else m b true j q) ∙ e)))
+
   on-marks : (P : ℕ → Type 0) (m : ByServer Bool) (b : ℕ) → (right K b ≡ true → P b) → ((j : ℕ) → right K j ≡ true → m j ≡ true → P j) → (j : ℕ) →
       right K j ≡ true → upd m b true j ≡ true → P j
-  on-marks P m b f g j r e = bool-case (eqb j b) (λ q. let z = eqb-true j b q in subst P (sym z) (f (subst (λ (i : ℕ). right K i ≡ true) z r)))
-      (λ q. g j r (sym (upd-else m b true j q) ∙ e))
+  on-marks P m b = on-replies (λ j u. P j) m m b true
 
   -- ---- the ends of a filter round
 
@@ -85,7 +95,7 @@ module _ (K : Setup) where
       let C = chosen K (x ∷ xs) z0 z1 cs g m fair F d ch in
       let R = C .real in
       let b = leader (K .s .P) (K .s .config) m g d (S K) in
-      cond-case (Outcome x xs z0 z1 (filtering cs old)) (sameList (tagsIn (K .s .P) (K .s .config) d (g b .share)) (d .tags)) _ _
+      at-cond (sameList (tagsIn (K .s .P) (K .s .config) d (g b .share)) (d .tags)) _ _ (Outcome x xs z0 z1 (filtering cs old))
       (λ q. (
         tt,
         (
@@ -93,15 +103,15 @@ module _ (K : Setup) where
           many-marks K _ m l
               (λ j h i. let rg = K .parties .servers j h in
               not-f _ (F .sift j h i .tags d (C .among)
-              (tagged-of K d (R .write) (sym (same-eq _ _ q) ∙ R .tags-is) (R .stamp-is) (R .digest-is) j (rg .0) (rg .1)))),
-          record { write = R .write; made = R .made; shown = R .shown; stamp-is = R .stamp-is; content-is = R .gives; beats = C .beats },
+              (tagged-of K d (R .origin .write) (sym (same-true _ _ q) ∙ R .tags-is) (R .origin .stamp-is) (R .digest-is) j (rg .0) (rg .1)))),
+          record { origin = R .origin; content-is = R .gives; beats = C .beats },
         ),
       ))
       (λ q. (
         record {
           short = none-short;
-          proved = record { write = R .write; made = R .made; shown = R .shown; stamp-is = R .stamp-is; content-is = R .gives; beats = C .beats };
-          tagged = tagged-of K _ (R .write) (R .tags-is) (R .stamp-is) (R .digest-is);
+          proved = record { origin = R .origin; content-is = R .gives; beats = C .beats };
+          tagged = tagged-of K _ (R .origin .write) (R .tags-is) (R .origin .stamp-is) (R .digest-is);
           high = λ j h i. unmarked j i;
         },
         tt,
@@ -144,7 +154,7 @@ module _ (K : Setup) where
         (a : Stamp) → a .number ≡ suc (higher (K .s .P) (K .s .writers) k (stampIn y)) → WBeats K z0 a
     unfolding WBeats
     clock-beats r n k ok say l a e τ top = let v = meets-marks K (λ j. not (below (lat K z0 j) τ)) m' top l in
-        omega (arith, e, clock-on r n k ok say (v .0) (v .1) (v .3), num-le τ (lat K z0 (v .0)) (not-t _ (v .2)))
+        omega (arith, e, clock-on r n k ok say (v .0) (v .1) (v .3), num-le τ (lat K z0 (v .0)) (not-true _ (v .2)))
 
     store-on : (d : Candidate) (g : ByServer Share) → HandOk K xs z0 z1 m (storing d g) →
         (right K b ≡ true → Says K (x ∷ xs) z0 z1 b y (storing d g)) → eqb (codeIn y) 11 ≡ false →
@@ -171,11 +181,7 @@ module _ (K : Setup) where
     collect-on : (g : ByServer Candidate) → HandOk K xs z0 z1 m (collecting g) → (right K b ≡ true → Says K (x ∷ xs) z0 z1 b y (collecting g)) →
         (j : ℕ) → right K j ≡ true → m' j ≡ true → Coll K (x ∷ xs) z0 j (upd g b sent j)
     unfolding HandOk Says
-    collect-on g ok say j h e = bool-case (eqb j b)
-        (λ q. let z = eqb-true j b q in
-        subst (λ (i : ℕ). right K i ≡ true → Coll K (x ∷ xs) z0 i (upd g b sent i)) (sym z)
-        (λ k. subst (Coll K (x ∷ xs) z0 b) (sym (upd-here g b sent)) (say k)) h)
-        (λ q. subst (Coll K (x ∷ xs) z0 j) (sym (upd-else g b sent j q)) (coll-up K z0 j (g j) x xs (ok .coll j h (sym (upd-else m b true j q) ∙ e))))
+    collect-on g ok say = on-replies (Coll K (x ∷ xs) z0) m g b sent say (λ j h i. coll-up K z0 j (g j) x xs (ok .coll j h i))
 
     -- a genuine candidate is in the list that collect leaves
     listed : (g : ByServer Candidate) (j : ℕ) → right K j ≡ true → (g j ≡ blankCandidate (K .s .config)) ⊎ Genuine K (x ∷ xs) (g j) →
@@ -186,7 +192,7 @@ module _ (K : Setup) where
         inr (
           in-gather g (S K) j (rg .0) (rg .1)
               (ne-eqb (g j .stamp .number) 0 (λ z. omega
-              (arith, z, mark-num (K .s) (x ∷ xs) (gd .write) (gd .made), ap (λ (a : Stamp). a .number) (gd .stamp-is)))),
+              (arith, z, mark-num (K .s) (x ∷ xs) (gd .origin .write) (gd .origin .made), ap (λ (a : Stamp). a .number) (gd .origin .stamp-is)))),
           gd,
           held-by (g j) gd,
         )
@@ -196,12 +202,7 @@ module _ (K : Setup) where
     unfolding HandOk Says
     filter-on cs g ok say = record {
       first = ok .first;
-      sift = λ j h e. bool-case (eqb j b)
-          (λ q. let z = eqb-true j b q in
-          subst (λ (i : ℕ). right K i ≡ true → Sift K (x ∷ xs) z1 i cs (upd g b (heldIn y) i)) (sym z)
-          (λ k. subst (Sift K (x ∷ xs) z1 b cs) (sym (upd-here g b (heldIn y))) (say k)) h)
-          (λ q. subst (Sift K (x ∷ xs) z1 j cs) (sym (upd-else g b (heldIn y) j q))
-          (sift-up K z1 j cs (g j) x xs (ok .sift j h (sym (upd-else m b true j q) ∙ e))));
+      sift = on-replies (λ j v. Sift K (x ∷ xs) z1 j cs v) m g b (heldIn y) say (λ j h i. sift-up K z1 j cs (g j) x xs (ok .sift j h i));
       digs = λ j f i e. bool-case (eqb j b)
           (λ q. dig f (sym (ap (λ (h : Held). h .share) (ap (upd g b (heldIn y)) (eqb-true j b q) ∙ upd-here g b (heldIn y))) ∙ e))
           (λ q. dig-up K (f .part) x xs (ok .digs j f (sym (upd-else m b true j q) ∙ i)
@@ -216,9 +217,9 @@ module _ (K : Setup) where
     turn-ok lo hi true yes-full no-full (clocking r n k) e ok say =
         (record { short = none-short; beats = clock-beats r n k ok say (yes-full refl) _ refl; holds = λ j h i. unmarked j i }, tt)
     turn-ok lo hi false yes-full no-full (clocking r n k) e ok say = (record { short = no-full refl; low = clock-on r n k ok say }, tt)
-    turn-ok lo hi full yes-full no-full (storing d g) e ok say = cond-case (Outcome x xs z0 z1 (storing d g)) (eqb (codeIn y) 11) _ _
+    turn-ok lo hi full yes-full no-full (storing d g) e ok say = at-cond (eqb (codeIn y) 11) _ _ (Outcome x xs z0 z1 (storing d g))
         (λ q. same-outcome x xs z0 z1 (storing d g) cl e ok)
-        (λ k. cond-case (Outcome x xs z0 z1 (storing d g)) full _ _
+        (λ k. at-cond full _ _ (Outcome x xs z0 z1 (storing d g))
         (λ q. (record { short = none-short; full = many-marks K _ m' (yes-full q) (store-on d g ok say k); high = λ j h i. unmarked j i }, tt))
         (λ q. (record { short = no-full q; beats = ok .beats; holds = store-on d g ok say k }, tt)))
     turn-ok lo hi true yes-full no-full (completing d) e ok say =

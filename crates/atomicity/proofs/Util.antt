@@ -1,24 +1,22 @@
--- Small tools: tests, case splits, membership, what lasts along a run, the order and the equality of stamps.
+-- Small tools: tests, case splits, membership, and what lasts along a run.
 -- Assumes nothing.
 use mathlib.Core.Path.{_≡_, refl, sym, ap, _∙_, subst}
 use mathlib.Core.Bool.{Bool, true, false, cond, not, _&&_, _||_, true≢false}
 use mathlib.Core.List.{List, [], _∷_, _++_, map}
 use mathlib.Core.Option.{none, some}
 use mathlib.Core.Logic.{_⊎_, inl, inr}
-use Prim.Native.Nat.{ℕ, suc}
+use Prim.Native.Nat.{ℕ, _≤_}
 use native.Mathlib.Omega.{arith}
-use lib.Dec.{eqb}
-use borrow.Author.Tests.{eqb-true, eq-eqb}
+use lib.Dec.{eqb, leb}
+use borrow.Author.Tests.{eqb-true, eq-eqb, le-leb}
+use Rattle.cluster.specs.Ranges.{within}
+use Rattle.cluster.proofs.Tests.{untrue}
 use Rattle.atomicity.specs.Lists.{Ever, Always, All, In, flat}
 use Rattle.protocol.specs.Rules.{any, keep, upd}
 
 pub cond-both : {A : Type 0} (P : A → Type 0) (b : Bool) (x y : A) → P x → P y → P (cond b x y)
 cond-both P true x y f g = f
 cond-both P false x y f g = g
-
-pub cond-case : {A : Type 0} (P : A → Type 0) (b : Bool) (x y : A) → (b ≡ true → P x) → (b ≡ false → P y) → P (cond b x y)
-cond-case P true x y f g = f refl
-cond-case P false x y f g = g refl
 
 pub bool-case : {A : Type 0} (b : Bool) → (b ≡ true → A) → (b ≡ false → A) → A
 bool-case true f g = f refl
@@ -27,10 +25,6 @@ bool-case false f g = g refl
 pub clash : {A : Type 0} {b : Bool} → b ≡ true → b ≡ false → A
 clash p q = absurd (true≢false (sym p ∙ q))
 
-pub untrue : (b : Bool) → (b ≡ true → ⊥) → b ≡ false
-untrue true h = absurd (h refl)
-untrue false h = refl
-
 pub unfalse : (b : Bool) → (b ≡ false → ⊥) → b ≡ true
 unfalse true h = refl
 unfalse false h = absurd (h refl)
@@ -38,10 +32,6 @@ unfalse false h = absurd (h refl)
 pub not-f : (b : Bool) → b ≡ false → not b ≡ true
 not-f true e = sym e
 not-f false e = refl
-
-pub not-t : (b : Bool) → not b ≡ true → b ≡ false
-not-t true e = sym e
-not-t false e = refl
 
 pub and-left : (a b : Bool) → (a && b) ≡ true → a ≡ true
 and-left true b e = refl
@@ -55,6 +45,9 @@ pub and-intro : (a b : Bool) → a ≡ true → b ≡ true → (a && b) ≡ true
 and-intro true b p q = q
 and-intro false b p q = p
 
+pub within-in : (lo hi x : ℕ) → lo ≤ x → x ≤ hi → within lo hi x ≡ true
+within-in lo hi x a b = and-intro (leb lo x) (leb x hi) (le-leb lo x a) (le-leb x hi b)
+
 pub or-cases : (a b : Bool) → (a || b) ≡ true → (a ≡ true) ⊎ (b ≡ true)
 or-cases true b e = inl refl
 or-cases false b e = inr e
@@ -66,19 +59,6 @@ or-left false b e = clash e refl
 pub or-right : (a b : Bool) → b ≡ true → (a || b) ≡ true
 or-right true b e = refl
 or-right false b e = e
-
-pub or-none : (a b : Bool) → (a || b) ≡ false → (a ≡ false) × (b ≡ false)
-or-none true b e = clash refl e
-or-none false b e = (refl, e)
-
--- a code of 0 passed every test
-pub cond-zero : (b : Bool) (n m : ℕ) → cond b (suc n) m ≡ 0 → (b ≡ false) × (m ≡ 0)
-cond-zero true n m e = absurd (omega (arith, e))
-cond-zero false n m e = (refl, e)
-
-pub not-false : (b : Bool) → not b ≡ false → b ≡ true
-not-false true e = refl
-not-false false e = absurd (true≢false e)
 
 pub no-some : {A : Type 0} {a : A} → none ≡ some a → ⊥
 no-some e = absurd (let z : _≡_ {A = ℕ} 0 1 = cc in omega arith)

@@ -14,21 +14,21 @@ use Rattle.protocol.specs.Packet.{Body, Packet, filter}
 use Rattle.protocol.specs.Memory.{held}
 use Rattle.protocol.specs.Rules.{ByServer, upd, countTo, choice, leader, tagsIn}
 use Rattle.protocol.specs.Server.{act}
-use Rattle.protocol.specs.Client.{Client, Hand, Turn, Result, idle, clocking, storing, completing, collecting, filtering, repairing, isFull}
+use Rattle.protocol.specs.Client.{Client, Hand, Turn, Result, idle, clocking, storing, completing, collecting, filtering, repairing, isFull, accepted}
 use Rattle.protocol.specs.Client.{update, judge, found, onto, begun, prepared, codeIn, candidateIn, heldIn}
 use Rattle.protocol.specs.Runs.{World, nowValues}
 use Rattle.atomicity.specs.Lists.{Ever, In}
-use Rattle.atomicity.specs.Steps.{accepted, packetIn}
+use Rattle.atomicity.specs.Steps.{packetIn}
 use Rattle.atomicity.specs.Premises.{odd}
 use Rattle.atomicity.proofs.Util.{cond-both, bool-case, upd-here, upd-else, ever-map}
 use Rattle.atomicity.proofs.Model.{perform, now, bestOf, updated}
 use Rattle.atomicity.proofs.Setup.{Setup, Steps, StepOf, Fair, hand, hist}
 use Rattle.atomicity.proofs.Moves.{Moved, kept, wbegan, rbegan, quit, took, moved}
 use Rattle.atomicity.proofs.Rounds.{turn-turned}
-use Rattle.atomicity.proofs.Sources.{by-server}
+use Rattle.atomicity.proofs.Sources.{made-by}
 use Rattle.atomicity.proofs.Genuine.{Judging}
 use Rattle.atomicity.proofs.Heard.{Heard, heard}
-use Rattle.atomicity.proofs.States.{S, Q, right}
+use Rattle.atomicity.proofs.Quorums.{S, Q, right}
 use Rattle.atomicity.proofs.Telling.{at-step}
 use Rattle.atomicity.proofs.Gathered.{gather-blank}
 use Rattle.atomicity.proofs.Choosing.{Live}
@@ -175,6 +175,6 @@ module _ (K : Setup) where
           subst At (sym e) (update-wait x xs c (w .client c) (p .head .server) (p .body) _
           (λ q. leb-false (Q K) (countTo (S K) (upd (w .client c .marks) (p .head .server) true)) q) (hand K xs c) refl refl h
           (λ k. heard K c xs (past K x xs fair) p good (fit .mine) (fit .call) (fit .busy) (fit .kind)
-          (by-server K x xs (meets K x xs fair) p (ap packetIn s ∙ rd)
-          (subst (λ (z : Result). accepted z ≡ true) (sym v) (turn-turned (K .s) c (w .client c) p .fine))
+          (made-by K x xs (meets K x xs fair) p (ap packetIn s ∙ rd)
+          (subst (λ (z : Result). accepted z ≡ true) (sym v) (turn-turned (K .s) c (w .client c) p .fine)) .1
           (ap odd (fit .kind) ∙ awaits-even K (hand K xs c)) k)))

@@ -2,10 +2,10 @@
 -- complete ends.
 -- Assumes nothing.
 use mathlib.Core.Path.{_≡_, refl, sym, ap, _∙_, subst}
-use mathlib.Core.Bool.{Bool, true, false, _||_}
+use mathlib.Core.Bool.{true, _||_, or-true}
 use mathlib.Core.List.{List, _∷_}
-use mathlib.Core.Option.{none, some}
-use mathlib.Core.Logic.{inl, inr}
+use mathlib.Core.Option.{none, some, Option·some-injective}
+use mathlib.Core.Logic.{inl}
 use Prim.Native.Nat.{ℕ, suc, _<_}
 use native.Mathlib.Omega.{arith}
 use lib.Dec.{eqb}
@@ -21,15 +21,12 @@ use Rattle.atomicity.specs.Claim.{Call, close, reach}
 use Rattle.atomicity.proofs.Util.{clash, no-some}
 use Rattle.atomicity.proofs.Model.{stampFor, preparedFor}
 use Rattle.atomicity.proofs.Setup.{Setup, Steps, StepOf, calls}
-use Rattle.atomicity.proofs.Rounds.{since}
-use Rattle.atomicity.proofs.States.{TopAt, WBeats}
+use Rattle.atomicity.proofs.Positions.{since}
+use Rattle.atomicity.proofs.Quorums.{TopAt, WBeats}
 use Rattle.atomicity.proofs.Turns.{ResultOk}
 use Rattle.atomicity.proofs.Invariant.{Ends}
-use Rattle.atomicity.proofs.Calls.{MarkAt, ends-back, Base, Open, Cur, open-up, writing-up, Keeps}
-use Rattle.atomicity.proofs.Following.{Follows, unreach, low}
-
-some-inj : {A : Type 0} {p q : A} → some p ≡ some q → p ≡ q
-some-inj e = cc
+use Rattle.atomicity.proofs.Calls.{MarkAt, Own, Base, Open, Cur, open-up, written-up, writing-up}
+use Rattle.atomicity.proofs.Following.{Stands, Follows, unreach, low}
 
 module _ (K : Setup) (x : StepOf K) (xs : Steps K) (a : Call) (σ : Stamp) (same : calls K xs (a .client) ≡ calls K (x ∷ xs) (a .client))
     (base : Base K xs a σ) where
@@ -41,8 +38,7 @@ module _ (K : Setup) (x : StepOf K) (xs : Steps K) (a : Call) (σ : Stamp) (same
       let m : Stamped = record { client = a .client; content = r; nonce = n; stamp = τ } in
       let at : MarkAt K m (length (since (K .s) (a .client) xs)) (x ∷ xs) =
       kn .marked m refl (subst (λ (h : Hand). In m (stampedFrom (a .client) (clocking r n k) h)) (sym e) (inl refl)) in
-      subst (λ (h : Hand). (τ : Stamp) × Base K (x ∷ xs) (reach (eqb (awaits h) 6) a) τ × Cur K (x ∷ xs) (reach (eqb (awaits h) 6) a) τ h
-      × Keeps K a σ (reach (eqb (awaits h) 6) a) τ) (sym e) (
+      subst (λ (h : Hand). Stands K x xs a σ (reach (eqb (awaits h) 6) a) h) (sym e) (
         τ,
         record {
           begun-lt = omega (arith, base .begun-lt);
@@ -61,12 +57,15 @@ module _ (K : Setup) (x : StepOf K) (xs : Steps K) (a : Call) (σ : Stamp) (same
             unreached = unreach (a .reached) _ refl ∙ c .0 .unreached;
           },
           record {
-            write = m;
-            mine = refl;
+            content = r;
             content-is = c .1;
-            stamp-is = refl;
+            own = record {
+              write = m;
+              content-is = refl;
+              stamp-is = refl;
+              since-when = subst (λ (t : ℕ). MarkAt K m t (x ∷ xs)) (sym (c .0 .began)) at;
+            };
             hand-is = refl;
-            since-when = subst (λ (t : ℕ). MarkAt K m t (x ∷ xs)) (sym (c .0 .began)) at;
           },
         ),
         record { client = refl; number = refl; begun = refl; wrote = refl; reached = λ e. clash e (c .0 .unreached) },
@@ -77,9 +76,8 @@ module _ (K : Setup) (x : StepOf K) (xs : Steps K) (a : Call) (σ : Stamp) (same
   unfolding Follows Cur WBeats Ever awaits
   store-ends d g cl e beats c kn =
       let w = writing-up K x xs a σ d (c .1) in
-      let won : (a .reached || true) ≡ true = now-reached (a .reached) in
-      subst (λ (h : Hand). (τ : Stamp) × Base K (x ∷ xs) (reach (eqb (awaits h) 6) a) τ × Cur K (x ∷ xs) (reach (eqb (awaits h) 6) a) τ h
-      × Keeps K a σ (reach (eqb (awaits h) 6) a) τ) (sym e) (
+      let won : (a .reached || true) ≡ true = or-true (a .reached) in
+      subst (λ (h : Hand). Stands K x xs a σ (reach (eqb (awaits h) 6) a) h) (sym e) (
         σ,
         record {
           begun-lt = omega (arith, base .begun-lt);
@@ -87,35 +85,20 @@ module _ (K : Setup) (x : StepOf K) (xs : Steps K) (a : Call) (σ : Stamp) (same
           ended = λ t q. absurd (no-some (sym (c .0 .going) ∙ q));
           write = λ v p q. record {
             floor = λ b i h l. subst (λ (z : Stamp). b .number < z .number) (w .hand-is) (beats b (low K x xs a σ same base b i h (c .0 .began) l));
-            write = w .write;
-            mine = w .mine;
-            content-is = some-inj (sym (w .content-is) ∙ p);
-            stamp-is = w .stamp-is;
-            since-when = w .since-when;
+            own = subst (λ (u : List ℕ). Own K (x ∷ xs) (a .begun) u σ) (Option·some-injective _ _ (sym (w .content-is) ∙ p)) (w .own);
           };
           read = λ t p q. absurd (no-some (sym p ∙ w .content-is));
           reaches = λ v t p q. won;
           leaves = λ q. c .0 .going;
         },
         (
-          record {
-            write = w .write;
-            mine = w .mine;
-            content-is = w .content-is;
-            stamp-is = w .stamp-is;
-            hand-is = w .hand-is;
-            since-when = w .since-when;
-          },
+          record { content = w .content; content-is = w .content-is; own = w .own; hand-is = w .hand-is },
           c .0 .going,
           c .0 .staying,
           won,
         ),
         record { client = refl; number = refl; begun = refl; wrote = refl; reached = λ e. clash e (c .0 .unreached) },
       )
-    where
-      now-reached : (r : Bool) → (r || true) ≡ true
-      now-reached true = refl
-      now-reached false = refl
 
   pub write-ends : (d : Candidate) (cl : Client) (n : ℕ) → cl .hand ≡ idle → Cur K xs a σ (completing d) →
       Follows K x xs a σ (completing d) (record { client = cl; result = written n })
@@ -130,15 +113,7 @@ module _ (K : Setup) (x : StepOf K) (xs : Steps K) (a : Call) (σ : Stamp) (same
           number-le = omega (arith, base .number-le, same);
           ended = λ t q. let z : length xs ≡ t = cc in
               (omega (arith, base .begun-lt, z), omega (arith, z), subst (λ (i : ℕ). Ends K σ i (x ∷ xs)) z (inl (refl, top)));
-          write = λ v p q. let r = base .write v p q in
-              record {
-                floor = λ b i h l. r .floor b i (ends-back K x xs b i h (omega (arith, l, base .begun-lt))) l;
-                write = r .write;
-                mine = r .mine;
-                content-is = r .content-is;
-                stamp-is = r .stamp-is;
-                since-when = inr (r .since-when);
-              };
+          write = λ v p q. written-up K x xs (a .begun) v σ (base .begun-lt) (base .write v p q);
           read = λ t p q. absurd (no-some (sym p ∙ c .0 .content-is));
           reaches = λ v t p q. c .3;
           leaves = λ q. clash q (c .2);

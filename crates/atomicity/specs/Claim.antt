@@ -13,11 +13,11 @@ use Rattle.cluster.specs.Ranges.{topFaults, capacity}
 use Rattle.protocol.specs.Packet.{Packet, kindOf, decode}
 use Rattle.protocol.specs.Primitives.{real}
 use Rattle.protocol.specs.Rules.{keep}
-use Rattle.protocol.specs.Client.{Hand, Result, refused, more, written, gave, gaveBlank, aborted, awaits, isIdle}
+use Rattle.protocol.specs.Client.{Hand, Result, refused, more, written, gave, gaveBlank, aborted, awaits, isIdle, accepted}
 use Rattle.protocol.specs.ClientBytes.{keyOf}
 use Rattle.protocol.specs.Runs.{Shelf, configOf, Step, write, read, make, take-reply, give-up, serve, Typed, Account, byBytes}
 use Rattle.atomicity.specs.Lists.{Ever, Always, All, In, AllPairs, Perm}
-use Rattle.atomicity.specs.Steps.{System, accepted, serves}
+use Rattle.atomicity.specs.Steps.{System, serves}
 use Rattle.atomicity.specs.Premises.{Correct, Parties, correctAt, Sent, Premise}
 
 -- ---- calls

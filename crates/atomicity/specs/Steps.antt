@@ -1,6 +1,6 @@
 -- What a step gets, makes, checks, digests and shows (document 01, "What the contracts owe", 5). All of it is read off an account of runs:
 -- the step, its result, the bytes sent, and the clients and servers before and after it.
-use mathlib.Core.Bool.{Bool, true, false, cond, not, _&&_}
+use mathlib.Core.Bool.{Bool, false, cond, not, _&&_}
 use mathlib.Core.List.{List, [], _∷_, _++_, map}
 use mathlib.Core.Option.{Option, none, some}
 use Prim.Native.Nat.{ℕ}
@@ -13,7 +13,7 @@ use Rattle.protocol.specs.Packet.{clock, clockReply, store, storeReply, complet
 use Rattle.protocol.specs.Primitives.{Primitives, stampMessage, candidateMessage}
 use Rattle.protocol.specs.Rules.{ByServer}
 use Rattle.protocol.specs.Server.{Server, byHistory, byTag}
-use Rattle.protocol.specs.Client.{Client, Hand, Result, refused, more, written, gave, gaveBlank, aborted, idle, clocking, storing, completing, collecting, filtering, repairing, checks}
+use Rattle.protocol.specs.Client.{Client, Hand, idle, clocking, storing, completing, collecting, filtering, repairing, checks, accepted}
 use Rattle.protocol.specs.Runs.{Step, write, read, make, take-reply, give-up, serve, Typed, Account}
 use Rattle.atomicity.specs.Lists.{flat}
 
@@ -23,14 +23,6 @@ pub record System : Type 0 where
   pub config : Config
   pub writers : List ℕ
   pub keys : ByServer (List ℕ)
-
-abbrev pub accepted : Result → Bool
-accepted (refused n) = false
-accepted more = true
-accepted (written n) = true
-accepted (gave n r) = true
-accepted gaveBlank = true
-accepted (aborted b) = true
 
 -- ---- the packet that a step gets, and its party
 

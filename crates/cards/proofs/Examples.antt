@@ -7,7 +7,7 @@ use mathlib.Core.Option.{Option, none, some}
 use Prim.Native.Nat.{ℕ, zero, suc, _+_, _-_, _*_}
 use lib.ListN.{length, replicate}
 use Rattle.cluster.specs.Config.{shelf, upTo, quorum}
-use Rattle.cluster.specs.Ranges.{packetRoom, contentRoom}
+use Rattle.cluster.specs.Ranges.{packetRoom, contentRoom, capacity}
 use Rattle.hmac.specs.Hmac.{tagSize}
 use Rattle.erasure.specs.Fragments.{Part}
 use Rattle.protocol.specs.Values.{Candidate, Write, digestSize, nth, runOf, isBlank, below, sameStamp, sameCandidate, noShare}
@@ -88,25 +88,9 @@ stored = asksAll 1 (1 ∷ 2 ∷ 3 ∷ []) (asksAll 1 (1 ∷ 2 ∷ 3 ∷ []) (wri
 unfoldable completed : Scene
 completed = asksAll 1 (1 ∷ 2 ∷ 3 ∷ []) stored
 
-write-ends : completed .result ≡ written 1
-unfolding completed stored asksAll asks hears writes reads new toy mix writers keys shelf upTo quorum nth runOf isBlank below sameStamp
-    sameCandidate held stampMessage candidateMessage upd nobody countTo any keep first gather lower live fits agrees leads leader highest choice
-    parts restoredBy kept raise byHistory byTag valid best act barred replyTo serverRefusal answered serverStep awaits isIdle stampOf tagsOf
-    candidateMade shareMade sharesMade prepared made onto checks higher isFull found judge update tooHigh writeRefusal readRefusal makeRefusal
-    takeRefusal begun writeStep readStep makeStep turnOn highAt takeStep
-write-ends = refl
-
 -- client 9 reads: collect and filter at servers 2, 3, 4, of which 4 missed the write
 unfoldable readAfter : Scene
 readAfter = asksAll 9 (2 ∷ 3 ∷ 4 ∷ []) (asksAll 9 (2 ∷ 3 ∷ 4 ∷ []) (reads 9 completed))
-
-read-gives : readAfter .result ≡ gave 1 (65 ∷ 66 ∷ [])
-unfolding readAfter completed stored asksAll asks hears writes reads new toy mix writers keys shelf upTo quorum nth runOf isBlank below sameStamp
-    sameCandidate held stampMessage candidateMessage upd nobody countTo any keep first gather lower live fits agrees leads leader highest choice
-    parts restoredBy kept raise byHistory byTag valid best act barred replyTo serverRefusal answered serverStep awaits isIdle stampOf tagsOf
-    candidateMade shareMade sharesMade prepared made onto checks higher isFull found judge update tooHigh writeRefusal readRefusal makeRefusal
-    takeRefusal begun writeStep readStep makeStep turnOn highAt takeStep
-read-gives = refl
 
 -- ---- a write whose tags a liar spoiled, read through repair
 
@@ -122,24 +106,8 @@ spoilt = record { stamp = stampOf toy (shelf 1) 1 writers keys 1; nonce = 42 ∷
 unfoldable filtered : Scene
 filtered = asksAll 9 (2 ∷ 3 ∷ 4 ∷ []) (asksAll 9 (2 ∷ 3 ∷ []) (hears (reads 9 stored) 9 (lie (collectReply spoilt))))
 
--- the content waits for the repair
-awaits-repair : awaits (filtered .client 9 .hand) ≡ 12
-unfolding filtered spoilt completed stored asksAll asks hears writes reads new toy mix writers keys shelf upTo quorum nth runOf isBlank below
-    sameStamp sameCandidate held stampMessage candidateMessage upd nobody countTo any keep first gather lower live fits agrees leads leader
-    highest choice parts restoredBy kept raise byHistory byTag valid best act barred replyTo serverRefusal answered serverStep awaits isIdle
-    stampOf tagsOf candidateMade shareMade sharesMade prepared made onto checks higher isFull found judge update tooHigh writeRefusal readRefusal
-    makeRefusal takeRefusal begun writeStep readStep makeStep turnOn highAt takeStep
-awaits-repair = refl
-
--- after it the content is given, and server 4, which has no share of it, shows the candidate with tags that every server can check
-read-repaired : let w = asksAll 9 (2 ∷ 3 ∷ 4 ∷ []) filtered in
-    (w .result ≡ gave 1 (65 ∷ 66 ∷ [])) × (sameCandidate (w .server 4 .latest) (candidateMade toy (shelf 1) 1 writers keys (42 ∷ []) 1) ≡ true)
-unfolding filtered spoilt completed stored asksAll asks hears writes reads new toy mix writers keys shelf upTo quorum nth runOf isBlank below
-    sameStamp sameCandidate held stampMessage candidateMessage upd nobody countTo any keep first gather lower live fits agrees leads leader
-    highest choice parts restoredBy kept raise byHistory byTag valid best act barred replyTo serverRefusal answered serverStep awaits isIdle
-    stampOf tagsOf candidateMade shareMade sharesMade prepared made onto checks higher isFull found judge update tooHigh writeRefusal readRefusal
-    makeRefusal takeRefusal begun writeStep readStep makeStep turnOn highAt takeStep
-read-repaired = (refl, refl)
+unfoldable repaired : Scene
+repaired = asksAll 9 (2 ∷ 3 ∷ 4 ∷ []) filtered
 
 -- ---- a candidate that leaves the list
 
@@ -153,16 +121,38 @@ misled =
     hears (asksAll 9 (2 ∷ 3 ∷ []) (hears (reads 9 completed) 9 (lie (collectReply invented)))) 9
     (lie (filterReply (record { stamp = invented .stamp; share = none })))
 
--- with two lower replies the round has its quorum and the invented one is still in the list; the third lower one is the S - t th: it leaves, and the write is read
-leaves-list : (asksAll 9 (2 ∷ 3 ∷ []) misled .result ≡ more) × (asksAll 9 (2 ∷ 3 ∷ 4 ∷ []) misled .result ≡ gave 1 (65 ∷ 66 ∷ []))
-unfolding misled invented completed stored asksAll asks hears writes reads new toy mix writers keys shelf upTo quorum nth runOf isBlank below
-    sameStamp sameCandidate held stampMessage candidateMessage upd nobody countTo any keep first gather lower live fits agrees leads leader
-    highest choice parts restoredBy kept raise byHistory byTag valid best act barred replyTo serverRefusal answered serverStep awaits isIdle
-    stampOf tagsOf candidateMade shareMade sharesMade prepared made onto checks higher isFull found judge update tooHigh writeRefusal readRefusal
-    makeRefusal takeRefusal begun writeStep readStep makeStep turnOn highAt takeStep
-leaves-list = (refl, refl)
+-- ---- what they give
 
--- ---- 32 held, then 11 and 10
+record Shown : Type 0 where
+  write-ends : completed .result ≡ written 1
+  read-gives : readAfter .result ≡ gave 1 (65 ∷ 66 ∷ [])
+  -- the content waits for the repair; after it the content is given, and server 4, which has no share of it, shows the candidate with tags that every
+  -- server can check
+  awaits-repair : awaits (filtered .client 9 .hand) ≡ 12
+  read-repaired : repaired .result ≡ gave 1 (65 ∷ 66 ∷ [])
+  tags-repaired : sameCandidate (repaired .server 4 .latest) (candidateMade toy (shelf 1) 1 writers keys (42 ∷ []) 1) ≡ true
+  -- with two lower replies the round has its quorum and the invented one is still in the list; the third lower one is the S - t th: it leaves, and the
+  -- write is read
+  still-listed : asksAll 9 (2 ∷ 3 ∷ []) misled .result ≡ more
+  leaves-list : asksAll 9 (2 ∷ 3 ∷ 4 ∷ []) misled .result ≡ gave 1 (65 ∷ 66 ∷ [])
+
+shown : Shown
+unfolding completed stored readAfter spoilt filtered repaired invented misled asksAll asks hears writes reads new toy mix writers keys shelf upTo quorum
+    nth runOf isBlank below sameStamp sameCandidate held stampMessage candidateMessage upd nobody countTo any keep first gather lower live fits agrees
+    leads leader highest choice parts restoredBy kept raise byHistory byTag valid best act barred replyTo serverRefusal answered serverStep awaits
+    isIdle stampOf tagsOf candidateMade shareMade sharesMade prepared made onto checks higher isFull found judge update tooHigh writeRefusal
+    readRefusal makeRefusal takeRefusal begun writeStep readStep makeStep turnOn highAt takeStep
+shown = record {
+  write-ends = refl;
+  read-gives = refl;
+  awaits-repair = refl;
+  read-repaired = refl;
+  tags-repaired = refl;
+  still-listed = refl;
+  leaves-list = refl;
+}
+
+-- ---- a full history: 11, and 10 for what is held
 
 unfoldable writeOf : ℕ → Write
 writeOf n = record { stamp = record { number = n; writer = 1; tag = [] }; share = noShare }
@@ -172,15 +162,9 @@ unfoldable filled : ℕ → Server
 filled zero = blankServer (shelf 1)
 filled (suc n) = act toy (shelf 1) (keys 1) 1 (filled n) (store (writeOf (suc n))) .server
 
-all-held : length (filled 32 .history) ≡ 32
-unfolding filled writeOf act kept held sameStamp
-all-held = refl
-
 -- a new one is answered 11, and a held one 10 though the history is full
-one-more : act toy (shelf 1) (keys 1) 1 (filled 32) (store (writeOf 33)) .reply ≡ storeReply 11
+full-history : (length (filled capacity .history) ≡ capacity)
+    × (act toy (shelf 1) (keys 1) 1 (filled capacity) (store (writeOf (suc capacity))) .reply ≡ storeReply 11)
+    × (act toy (shelf 1) (keys 1) 1 (filled capacity) (store (writeOf 5)) .reply ≡ storeReply 10)
 unfolding filled writeOf act kept held sameStamp
-one-more = refl
-
-held-again : act toy (shelf 1) (keys 1) 1 (filled 32) (store (writeOf 5)) .reply ≡ storeReply 10
-unfolding filled writeOf act kept held sameStamp
-held-again = refl
+full-history = (refl, refl, refl)

@@ -9,12 +9,12 @@ use lib.ListN.{length, replicate}
 use borrow.Author.Tests.{eq-eqb, ne-eqb, leb-false}
 use Rattle.cluster.specs.Config.{shelf}
 use Rattle.cluster.specs.Ranges.{within, topWriter, topClient, mostServers, topNumber, topLength, leastLength}
+use Rattle.cluster.proofs.Tests.{inside, passes, refused-is}
 use Rattle.protocol.specs.declared.Call.{Call}
 use Rattle.protocol.specs.Client.{badFaults, writeRefusal, readRefusal}
 use Rattle.protocol.specs.View.{keptSize, nonceAt, candidatesAt, candidateSlot}
 use Rattle.protocol.specs.ClientBytes.{beginWrite, beginRead, inHand, put, fresh}
 use Rattle.client.specs.Core.{coreWrite, coreRead, notBegun}
-use Rattle.client.proofs.Tests.{refused, passes, inside}
 
 module _ (t client : ℕ) (c : Call) (kept : List ℕ) where
   module _ (content nonce : List ℕ) where
@@ -28,7 +28,7 @@ module _ (t client : ℕ) (c : Call) (kept : List ℕ) where
     pub write-refused : length kept ≡ keptSize → (n : ℕ) → n ≡ no → (n ≡ 0 → ⊥)
         → coreWrite t client c kept content nonce ≡ record { result = record { number = n; count = 0 }; call = c; kept = kept }
     unfolding coreWrite beginWrite
-    write-refused h n e ne = rw (eq-eqb (length kept) keptSize h, refused no _ _ (λ z. ne (e ∙ z)), e)
+    write-refused h n e ne = rw (eq-eqb (length kept) keptSize h, refused-is no _ _ (λ z. ne (e ∙ z)), e)
 
     pub write-begins : length kept ≡ keptSize → no ≡ 0
         → coreWrite t client c kept content nonce
@@ -39,11 +39,11 @@ module _ (t client : ℕ) (c : Call) (kept : List ℕ) where
     pub write-fits : no ≡ 0 → (length content ≤ topLength) × (c .number < topNumber)
     unfolding writeRefusal
     write-fits e =
-        let p₁ = passes 2 (badFaults (shelf t)) _ e in
-        let p₂ = passes 4 (not (within 1 topWriter client)) _ (p₁ .1) in
-        let p₃ = passes 5 (not (within leastLength topLength (length content))) _ (p₂ .1) in
-        let p₄ = passes 12 (inHand c) _ (p₃ .1) in
-        let p₅ = passes 13 (leb topNumber (c .number)) _ (p₄ .1) in
+        let p₁ = passes (badFaults (shelf t)) 2 _ e in
+        let p₂ = passes (not (within 1 topWriter client)) 4 _ (p₁ .1) in
+        let p₃ = passes (not (within leastLength topLength (length content))) 5 _ (p₂ .1) in
+        let p₄ = passes (inHand c) 12 _ (p₃ .1) in
+        let p₅ = passes (leb topNumber (c .number)) 13 _ (p₄ .1) in
         (inside leastLength topLength (length content) (p₃ .0) .1, leb-false topNumber (c .number) (p₅ .0))
 
   abbrev none : ℕ
@@ -56,7 +56,7 @@ module _ (t client : ℕ) (c : Call) (kept : List ℕ) where
   pub read-refused : length kept ≡ keptSize → (n : ℕ) → n ≡ none → (n ≡ 0 → ⊥)
       → coreRead t client c kept ≡ record { result = record { number = n; count = 0 }; call = c; kept = kept }
   unfolding coreRead beginRead
-  read-refused h n e ne = rw (eq-eqb (length kept) keptSize h, refused none _ _ (λ z. ne (e ∙ z)), e)
+  read-refused h n e ne = rw (eq-eqb (length kept) keptSize h, refused-is none _ _ (λ z. ne (e ∙ z)), e)
 
   pub read-begins : length kept ≡ keptSize → none ≡ 0
       → coreRead t client c kept
@@ -67,10 +67,10 @@ module _ (t client : ℕ) (c : Call) (kept : List ℕ) where
   pub read-fits : none ≡ 0 → c .number < topNumber
   unfolding readRefusal
   read-fits e =
-      let p₁ = passes 2 (badFaults (shelf t)) _ e in
-      let p₂ = passes 4 (not (within 1 topClient client)) _ (p₁ .1) in
-      let p₃ = passes 12 (inHand c) _ (p₂ .1) in
-      leb-false topNumber (c .number) (passes 13 (leb topNumber (c .number)) _ (p₃ .1) .0)
+      let p₁ = passes (badFaults (shelf t)) 2 _ e in
+      let p₂ = passes (not (within 1 topClient client)) 4 _ (p₁ .1) in
+      let p₃ = passes (inHand c) 12 _ (p₂ .1) in
+      leb-false topNumber (c .number) (passes (leb topNumber (c .number)) 13 _ (p₃ .1) .0)
 
   pub core-write : (content nonce : List ℕ) → length kept ≡ keptSize → coreWrite t client c kept content nonce ≡ beginWrite t client c kept content nonce
   unfolding coreWrite

@@ -10,6 +10,7 @@ use borrow.Author.Tests.{ltb-false, leb-false}
 use Rattle.cluster.specs.Config.{shelf}
 use Rattle.cluster.specs.Refusals.{refuse, firstOf}
 use Rattle.cluster.specs.Ranges.{topNumber, contentRoom}
+use Rattle.cluster.proofs.Tests.{and-both, passes}
 use Rattle.protocol.specs.declared.Call.{Call}
 use Rattle.protocol.specs.declared.Head.{Head}
 use Rattle.protocol.specs.declared.Stamp.{Stamp}
@@ -26,7 +27,6 @@ use Rattle.protocol.proofs.Packets.{stamp-length, any-stamp-tag}
 use Rattle.wire.specs.Places.{bodyAt, packetAt}
 use Rattle.client.specs.declared.answers.Answered.{Answered}
 use Rattle.client.specs.Steps.{Ready, TakesAs, writeMade}
-use Rattle.client.proofs.Tests.{both, passes}
 use Rattle.client.proofs.TakenReplies.{body-at, printed, clock-too-high, clock-short, clock-goes, clock-ends}
 
 module _ (t client : ℕ) (c : Call) (reply : List ℕ) (h : Head) (y : Ready t client c reply h) where
@@ -57,7 +57,7 @@ module _ (t client : ℕ) (c : Call) (reply : List ℕ) (h : Head) (y : Ready t 
         → Takes (record { taken = taken.Refused n; call = c }) kept
     unfolding clientTake
     refused-as true q f g n e ne =
-        let w = both (ends (shelf t) c) (leb topNumber top) f in
+        let w = and-both (ends (shelf t) c) (leb topNumber top) f in
         rw e (sym (clock-too-high t client writers (keyOf keys) c kept output reply h y clock (w .0) (w .1)))
     refused-as false true f g n e ne = rw e (sym (clock-short t client writers (keyOf keys) c kept output reply h y clock f g))
     refused-as false false f g n e ne = absurd (ne e)
@@ -68,12 +68,12 @@ module _ (t client : ℕ) (c : Call) (reply : List ℕ) (h : Head) (y : Ready t 
 
     module _ (n room high : ℕ) (e : n ≡ firstOf (refuse 14 (ends (shelf t) c && leb topNumber high) ∷ refuse 15 (ltb room contentRoom) ∷ [])) (z : n ≡ 0) (m : high ≡ top) where
       fine : over ≡ false
-      fine = rw m at (passes 13 (ends (shelf t) c && leb topNumber high) (cond (ltb room contentRoom) 15 0) (sym e ∙ z) .0)
+      fine = rw m at (passes (ends (shelf t) c && leb topNumber high) 13 (cond (ltb room contentRoom) 15 0) (sym e ∙ z) .0)
 
       wide : length output ≡ room → contentRoom ≤ length output
       wide l =
-          let p = passes 13 (ends (shelf t) c && leb topNumber high) (cond (ltb room contentRoom) 15 0) (sym e ∙ z) .1 in
-          rw l (ltb-false room contentRoom (passes 14 (ltb room contentRoom) 0 p .0))
+          let p = passes (ends (shelf t) c && leb topNumber high) 13 (cond (ltb room contentRoom) 15 0) (sym e ∙ z) .1 in
+          rw l (ltb-false room contentRoom (passes (ltb room contentRoom) 14 0 p .0))
 
       pub clock-below : ends (shelf t) c ≡ true → high < topNumber
       clock-below q = rw m (leb-false topNumber top (rw q at fine))

@@ -11,7 +11,7 @@ use lib.ListN.{length, drop}
 use lib.Seq.{take-at}
 use borrow.Author.Tests.{le-leb, eq-eqb}
 use Rattle.cluster.specs.Config.{Config, shelf}
-use Rattle.cluster.specs.Ranges.{topFaults, contentRoom}
+use Rattle.cluster.specs.Ranges.{topFaults, contentRoom, mostServers, topLength}
 use Rattle.sha256.specs.Sha256.{sha256}
 use Rattle.erasure.specs.Fragments.{fragmentSize}
 use Rattle.protocol.specs.declared.Call.{Call}
@@ -33,12 +33,11 @@ use Rattle.decide.specs.declared.Decision.the-variants as decisions
 use Rattle.decide.specs.Listing.{usable}
 use Rattle.decide.specs.Decided.{Decided, slotOf, decidedOn, decided}
 use Rattle.decide.specs.Steps.{Usable, Full, leaderAt, fitsAt, leadsAt}
-use Rattle.decide.proofs.Places.{part-part, candidate-in, reply-in}
+use Rattle.decide.proofs.Places.{part-part, candidate-in, reply-in, part-length, part-split, bytes-part, stamp-bytes}
 use Rattle.decide.proofs.Replies.{sizeIn, held-share, tags-in, slot-part}
 use Rattle.decide.proofs.Groups.{leader-leads, leads-fits, leader-full, fits-named}
 use Rattle.decide.proofs.Found.{chosen-slot, found-tags}
 use Rattle.client.specs.Filter.{tagsPlace, repairBytes, foundAt, judgedBy, judgedIn, decidedNow}
-use Rattle.client.proofs.Printed.{stamp-back, bytes-part, part-length, part-join}
 
 -- ---- by the decision's answer
 
@@ -67,8 +66,8 @@ name-printed : (s : Config) (d tags : List ℕ) → Bytes d → 5 ≤ length d
     → candidateF s .print (record { stamp = candidateAt s d .stamp; nonce = candidateAt s d .nonce; tags = tags }) ≡ part d 0 (stampSize + nonceSize) ++ tags
 unfolding candidateF via seq run candidateAt
 name-printed s d tags b h =
-    let j : part d 0 stampSize ++ part d (0 + stampSize) nonceSize ≡ part d 0 (stampSize + nonceSize) = part-join d 0 stampSize nonceSize in
-    ap (λ (x : List ℕ). x ++ (part d stampSize nonceSize ++ tags)) (stamp-back d b h)
+    let j : part d 0 stampSize ++ part d (0 + stampSize) nonceSize ≡ part d 0 (stampSize + nonceSize) = sym (part-split d 0 stampSize nonceSize) in
+    ap (λ (x : List ℕ). x ++ (part d stampSize nonceSize ++ tags)) (stamp-bytes d b h)
     ∙ (sym (append-assoc (part d 0 stampSize) (part d stampSize nonceSize) tags) ∙ ap (λ (x : List ℕ). x ++ tags) j)
 
 module _ (t : ℕ) (marks kept : List ℕ) (u : Usable t kept) (bytes : Bytes kept) where
@@ -104,7 +103,7 @@ module _ (t : ℕ) (marks kept : List ℕ) (u : Usable t kept) (bytes : Bytes ke
     leads : (leadsAt t marks kept i b ≡ true) × (b < shelf t .servers)
     leads = leader-leads t marks kept i (shelf t .servers) b led
 
-    small : b < 13
+    small : b < mostServers
     small = omega (arith, leads .1, shelf-fits t (u .low) (u .high) .few)
 
     fit : fitsAt t marks kept i b ≡ true
@@ -137,7 +136,7 @@ module _ (t : ℕ) (marks kept : List ℕ) (u : Usable t kept) (bytes : Bytes ke
             ≡ part (replySlotOf kept b) (tagsPlace t n) (tagsSize (shelf t))
         place n = unfold tagsPlace in refl
 
-        room : (n : ℕ) → n ≤ 1024 → tagsPlace t n + tagsSize (shelf t) ≤ replySlot
+        room : (n : ℕ) → n ≤ topLength → tagsPlace t n + tagsSize (shelf t) ≤ replySlot
         room n h = unfold tagsPlace shareSize in omega (arith, shelf-fits t (u .low) (u .high) .room n h)
 
     -- a candidate with the slot's stamp and nonce is printed with the slot's first bytes

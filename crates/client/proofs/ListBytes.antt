@@ -26,7 +26,8 @@ use Rattle.wire.proofs.Put.{placed-then}
 use Rattle.decide.specs.Listing.{usable, enters, listedIn, listedCount}
 use Rattle.decide.proofs.Gathered.{gather-more}
 use Rattle.client.specs.Steps.{wholePacket}
-use Rattle.client.proofs.Printed.{candidate-back, bytes-part, part-length}
+use Rattle.client.proofs.Printed.{candidate-back}
+use Rattle.decide.proofs.Places.{bytes-part, part-length}
 
 -- nothing was written
 pub wrote-none : (d : List ℕ) (at : ℕ) → Wrote d at [] d at

@@ -9,6 +9,7 @@ use lib.ListN.{length}
 use borrow.Author.Tests.{eq-eqb, ne-eqb, ltb-false, not-false}
 use Rattle.cluster.specs.Config.{shelf}
 use Rattle.cluster.specs.Ranges.{within, topFaults, topClient, packetRoom}
+use Rattle.cluster.proofs.Tests.{inside, passes, refused-is}
 use Rattle.protocol.specs.declared.Call.{Call}
 use Rattle.protocol.specs.Packet.{encode}
 use Rattle.protocol.specs.Client.{badFaults, makeRefusal, made}
@@ -16,7 +17,6 @@ use Rattle.protocol.specs.ClientBytes.{clientMake, inHand}
 use Rattle.protocol.specs.View.{keptSize, view}
 use Rattle.client.specs.Core.{coreMake}
 use Rattle.client.specs.Steps.{wholePacket}
-use Rattle.client.proofs.Tests.{refused, passes, inside}
 
 module _ (t client b : ℕ) (c : Call) (kept output : List ℕ) where
   abbrev no : ℕ
@@ -33,7 +33,7 @@ module _ (t client b : ℕ) (c : Call) (kept output : List ℕ) where
   pub make-refused : length kept ≡ keptSize → (n : ℕ) → n ≡ no → (n ≡ 0 → ⊥)
       → coreMake t client b c kept output ≡ record { result = record { number = n; count = 0 }; output = output }
   unfolding clientMake
-  make-refused h n e ne = core-make h ∙ rw (refused no _ _ (λ z. ne (e ∙ z)), e)
+  make-refused h n e ne = core-make h ∙ rw (refused-is no _ _ (λ z. ne (e ∙ z)), e)
 
   pub make-goes : length kept ≡ keptSize → no ≡ 0 → coreMake t client b c kept output ≡ wholePacket (encode (made t client (view (shelf t) c kept) b)) output
   unfolding clientMake wholePacket
@@ -42,11 +42,11 @@ module _ (t client b : ℕ) (c : Call) (kept output : List ℕ) where
   pub make-fits : no ≡ 0 → (1 ≤ t) × ((t ≤ topFaults) × ((client ≤ topClient) × ((1 ≤ b) × ((b ≤ shelf t .servers) × ((packetRoom ≤ length output) × (inHand c ≡ true))))))
   unfolding makeRefusal shelf
   make-fits e =
-      let p₁ = passes 2 (badFaults (shelf t)) _ e in
-      let p₂ = passes 3 (not (within 1 (shelf t .servers) b)) _ (p₁ .1) in
-      let p₃ = passes 4 (not (within 1 topClient client)) _ (p₂ .1) in
-      let p₄ = passes 12 (not (inHand c)) _ (p₃ .1) in
-      let p₅ = passes 14 (ltb (length output) packetRoom) _ (p₄ .1) in
+      let p₁ = passes (badFaults (shelf t)) 2 _ e in
+      let p₂ = passes (not (within 1 (shelf t .servers) b)) 3 _ (p₁ .1) in
+      let p₃ = passes (not (within 1 topClient client)) 4 _ (p₂ .1) in
+      let p₄ = passes (not (inHand c)) 12 _ (p₃ .1) in
+      let p₅ = passes (ltb (length output) packetRoom) 14 _ (p₄ .1) in
       let i₁ = inside 1 topFaults t (p₁ .0) in
       let i₂ = inside 1 (shelf t .servers) b (p₂ .0) in
       (i₁ .0, (i₁ .1, (inside 1 topClient client (p₃ .0) .1, (i₂ .0, (i₂ .1, (ltb-false (length output) packetRoom (p₅ .0), not-false (inHand c) (p₄ .0)))))))

@@ -10,7 +10,7 @@ use lib.ListN.{length, take, length-append}
 use lib.Seq.{take-length}
 use borrow.Author.Tests.{leb-true}
 use Rattle.cluster.specs.Config.{shelf}
-use Rattle.cluster.specs.Ranges.{topFaults, topLength}
+use Rattle.cluster.specs.Ranges.{topFaults, topLength, mostServers}
 use Rattle.hmac.specs.Hmac.{tagOf, tagSize}
 use Rattle.sha256.specs.Sha256.{sha256}
 use Rattle.erasure.specs.Fragments.{fragment, fragmentSize}
@@ -27,17 +27,25 @@ use Rattle.wire.specs.Places.{padded}
 use Rattle.wire.proofs.Runs.{part-most, padded-whole}
 use Rattle.client.specs.Steps.{tagRun, fragmentRun, digestRun, shareRun, offered, writeMade}
 use Rattle.client.proofs.StampBytes.{put-all}
-use Rattle.client.proofs.Printed.{part-length}
 use Rattle.client.proofs.Prepared.{candidate-made, shares-run, piece-at}
+use Rattle.decide.proofs.Places.{part-length}
 
 -- ---- room, for every t
 
-pub servers-few : (t : ℕ) → t ≤ topFaults → shelf t .servers ≤ 13
+pub servers-few : (t : ℕ) → t ≤ topFaults → shelf t .servers ≤ mostServers
 unfolding shelf
 servers-few t h = omega arith
 
+-- bytes of the array of all fragments: the most are those of the longest content on the largest shelf
+abbrev pub fragmentsRoom : ℕ
+fragmentsRoom = 2665
+
+-- bytes of the array of what is the same in all shares: digests, nonce digest and tags
+abbrev pub commonRoom : ℕ
+commonRoom = digestSize * mostServers + digestSize + tagSize * mostServers
+
 pub rooms : (t n : ℕ) → 1 ≤ t → t ≤ topFaults → n ≤ topLength
-    → (fragmentSize (shelf t .shares) n * shelf t .servers ≤ 2665)
+    → (fragmentSize (shelf t .shares) n * shelf t .servers ≤ fragmentsRoom)
     × (2 + (fragmentSize (shelf t .shares) n + (digestSize * shelf t .servers + digestSize + tagSize * shelf t .servers)) ≤ replySlot)
 unfolding fragmentSize shelf
 rooms zero n lo hi l = let z : ⊥ = omega arith in absurd z

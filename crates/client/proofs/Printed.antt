@@ -1,62 +1,35 @@
 -- What stands in a slot is printed back as it stands, garbage too: reading by place and printing gives the slot's own first bytes.
 -- A number's bytes print back as they were, and neighbouring parts join. Assumes nothing but that the slot holds bytes.
-use mathlib.Core.Path.{_≡_, refl, sym, ap, _∙_}
-use mathlib.Core.Bool.{Bool, true, false}
+use mathlib.Core.Path.{_≡_, sym, ap, _∙_}
 use mathlib.Core.List.{List, [], _∷_, _++_}
-use Prim.Native.Nat.{ℕ, zero, suc, _+_, _-_, _≤_, _<_}
+use Prim.Native.Nat.{ℕ, _+_, _-_, _≤_}
 use native.Mathlib.Omega.{arith}
-use lib.Dec.{ltb}
-use lib.ListN.{length, take, drop, getD, List·getD-eq-default, length-take, length-drop, length-append}
-use lib.Seq.{take-add, drop-drop, getD-take, getD-drop, length-take-le}
-use borrow.Author.Tests.{le-ltb, ltb-true, ltb-false}
+use lib.ListN.{length, take, drop, getD, length-take, length-append}
+use borrow.Author.Tests.{le-ltb}
 use Rattle.cluster.specs.Config.{Config, shelf}
 use Rattle.cluster.specs.Ranges.{packetRoom}
-use Rattle.hmac.specs.Hmac.{tagSize}
 use Rattle.erasure.specs.Fragments.{fragmentSize}
 use Rattle.protocol.specs.declared.Head.{Head}
-use Rattle.protocol.specs.Format.{Bytes, via, seq, number2, number4, byte, run, print2, value2}
+use Rattle.protocol.specs.Format.{Bytes, via, seq, number2, run, print2, value2}
 use Rattle.protocol.specs.Values.{stampSize, nonceSize, digestSize, digestsSize, tagsSize, candidateSize}
-use Rattle.protocol.specs.Packet.{stampF, shareF, candidateF, headF, headSize}
-use Rattle.protocol.specs.Primitives.{stampMessage}
-use Rattle.protocol.specs.View.{part, stampAt, candidateAt, shareAt, shareOfSize}
+use Rattle.protocol.specs.Packet.{shareF, candidateF, headF, headSize}
+use Rattle.protocol.specs.View.{part, candidateAt, shareAt, shareOfSize}
 use Rattle.protocol.proofs.Formats.{print2-value}
 use Rattle.protocol.proofs.Packets.{head-length}
 use Rattle.wire.proofs.Lengths.{fragment-few}
 use Rattle.wire.specs.Places.{shareSize, lengthAt}
 use Rattle.wire.specs.Make.{packetStep, writeStep}
 use Rattle.client.specs.Steps.{wholePacket}
-use Rattle.client.proofs.StampBytes.{message}
-
-pub part-join : (d : List ℕ) (a m n : ℕ) → part d a m ++ part d (a + m) n ≡ part d a (m + n)
-unfolding part
-part-join d a m n = sym (take-add m n (drop a d) ∙ ap (λ (x : List ℕ). take m (drop a d) ++ take n x) (drop-drop m a d))
-
-pub part-length : (d : List ℕ) (at n : ℕ) → at + n ≤ length d → length (part d at n) ≡ n
-unfolding part
-part-length d at n h = length-take-le n (drop at d) (omega (arith, length-drop at d))
-
-pub bytes-part : (d : List ℕ) (at n : ℕ) → Bytes d → Bytes (part d at n)
-unfolding part
-bytes-part d at n h i = go (ltb i n) refl
-  where
-    go : (b : Bool) → ltb i n ≡ b → getD (take n (drop at d)) i 0 < 256
-    go true e = rw (getD-take n (drop at d) i 0 (ltb-true i n e), getD-drop at d i 0) (h (at + i))
-    go false e = rw (List·getD-eq-default (take n (drop at d)) 0 {n = i} (omega (arith, ltb-false i n e, length-take n (drop at d)))) (omega arith)
-
-pub stamp-back : (d : List ℕ) → Bytes d → 5 ≤ length d → stampF .print (stampAt d) ≡ part d 0 stampSize
-unfolding stampF via seq number4 byte run stampMessage stampAt
-stamp-back d b h =
-    let m : stampMessage (stampAt d .number) (stampAt d .writer) ++ part d 5 tagSize ≡ part d 0 5 ++ part d 5 tagSize = ap (λ (x : List ℕ). x ++ part d 5 tagSize) (sym (message d b h)) in
-    m ∙ part-join d 0 5 tagSize
+use Rattle.decide.proofs.Places.{part-split, stamp-bytes}
 
 module _ (s : Config) (d : List ℕ) (b : Bytes d) (h : 5 ≤ length d) where
   pub candidate-back : candidateF s .print (candidateAt s d) ≡ part d 0 (candidateSize s)
   unfolding candidateF via seq run candidateAt
   candidate-back =
-      let j : part d stampSize nonceSize ++ part d (stampSize + nonceSize) (tagsSize s) ≡ part d stampSize (nonceSize + tagsSize s) = part-join d stampSize nonceSize (tagsSize s) in
-      let k : part d 0 stampSize ++ part d (0 + stampSize) (nonceSize + tagsSize s) ≡ part d 0 (stampSize + (nonceSize + tagsSize s)) = part-join d 0 stampSize (nonceSize + tagsSize s) in
+      let j : part d stampSize nonceSize ++ part d (stampSize + nonceSize) (tagsSize s) ≡ part d stampSize (nonceSize + tagsSize s) = sym (part-split d stampSize nonceSize (tagsSize s)) in
+      let k : part d 0 stampSize ++ part d (0 + stampSize) (nonceSize + tagsSize s) ≡ part d 0 (stampSize + (nonceSize + tagsSize s)) = sym (part-split d 0 stampSize (nonceSize + tagsSize s)) in
       let e : stampSize + (nonceSize + tagsSize s) ≡ candidateSize s = omega arith in
-      rw (stamp-back d b h, j) (k ∙ ap (part d 0) e)
+      rw (stamp-bytes d b h, j) (k ∙ ap (part d 0) e)
 
   length-back : print2 (lengthAt d) ≡ part d 0 2
   unfolding lengthAt part
@@ -72,10 +45,10 @@ module _ (s : Config) (d : List ℕ) (b : Bytes d) (h : 5 ≤ length d) where
       let f : ℕ = fragmentSize (s .shares) (value2 (getD d 0 0) (getD d 1 0)) in
       let D : ℕ = digestsSize s in
       let T : ℕ = tagsSize s in
-      let j₁ = part-join d (2 + f + D) digestSize T in
-      let j₂ = part-join d (2 + f) D (digestSize + T) in
-      let j₃ = part-join d 2 f (D + (digestSize + T)) in
-      let j₄ = part-join d 0 2 (f + (D + (digestSize + T))) in
+      let j₁ = sym (part-split d (2 + f + D) digestSize T) in
+      let j₂ = sym (part-split d (2 + f) D (digestSize + T)) in
+      let j₃ = sym (part-split d 2 f (D + (digestSize + T))) in
+      let j₄ = sym (part-split d 0 2 (f + (D + (digestSize + T)))) in
       let e : 2 + (f + (D + (digestSize + T))) ≡ 2 + f + D + digestSize + T = omega arith in
       let N : List ℕ = print2 (value2 (getD d 0 0) (getD d 1 0)) in
       ap (λ (x : List ℕ). N ++ (part d 2 f ++ (part d (2 + f) D ++ x))) j₁ ∙ (ap (λ (x : List ℕ). N ++ (part d 2 f ++ x)) j₂ ∙ (ap (λ (x : List ℕ). N ++ x) j₃
@@ -92,12 +65,7 @@ packet-fits h a b output r l =
 -- no more bytes than there are
 pub part-short : (d : List ℕ) (n : ℕ) → length (part d 0 n) ≤ length d
 unfolding part
-part-short d n = short n d
-  where
-    short : (n : ℕ) (l : List ℕ) → length (take n l) ≤ length l
-    short zero l = omega arith
-    short (suc n) [] = omega arith
-    short (suc n) (x ∷ xs) = let h = short n xs in omega arith
+part-short d n = omega (arith, length-take n d)
 
 pub fragment-most : (t n r : ℕ) → r ≡ fragmentSize (shelf t .shares) n → r ≤ n + t
 fragment-most t n r e = omega (arith, e, fragment-few t n)

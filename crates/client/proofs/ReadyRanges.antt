@@ -7,13 +7,13 @@ use Prim.Native.Nat.{ℕ, _≤_}
 use native.Mathlib.Omega.{arith}
 use Rattle.cluster.specs.Config.{shelf}
 use Rattle.cluster.specs.Ranges.{topFaults, topClient, mostServers}
+use Rattle.cluster.proofs.Tests.{inside}
 use Rattle.protocol.specs.declared.Call.{Call}
 use Rattle.protocol.specs.declared.Head.{Head}
 use Rattle.protocol.specs.Packet.{decode}
 use Rattle.wire.specs.Places.{packetAt}
 use Rattle.wire.proofs.Laws.{head-ranges}
 use Rattle.client.specs.Steps.{Ready}
-use Rattle.client.proofs.Tests.{inside}
 
 -- the server of a packet that was let through
 pub server-range : (reply : List ℕ) (h : Head) → decode reply ≡ some (packetAt h reply) → (1 ≤ h .server) × (h .server ≤ mostServers)

@@ -14,7 +14,9 @@ use Rattle.protocol.specs.ClientBytes.{put}
 use Rattle.protocol.proofs.Puts.{put-put}
 use Rattle.protocol.proofs.Places.{part-same}
 use Rattle.client.specs.Filter.{tagsPlace, repairBytes}
-use Rattle.client.proofs.Printed.{part-length, fragment-most}
+use Rattle.decide.proofs.Places.{part-length}
+use Rattle.client.proofs.Printed.{fragment-most}
+use Rattle.hmac.specs.Hmac.{tagSize}
 
 pub tags-room : (t n : ℕ) → t ≤ topFaults → n ≤ topLength → tagsPlace t n + tagsSize (shelf t) ≤ 2048
 unfolding tagsPlace shelf
@@ -37,7 +39,7 @@ module _ (t : ℕ) (kept : List ℕ) (i b n : ℕ) (top : t ≤ topFaults) (size
   unfolding repairBytes
   repair-length = omega (arith, length-append name tags, name-length, tags-length)
 
-  few : tagsSize (shelf t) ≤ 416
+  few : tagsSize (shelf t) ≤ tagSize * mostServers
   unfolding shelf
   few = omega arith
 

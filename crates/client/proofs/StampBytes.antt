@@ -1,7 +1,7 @@
 -- The bytes of stamps and of runs of tags: what a clock reply's stamp raises the number to, and how runs are written one entry after another.
 -- A number's four bytes print back as they were, and an entry put after a run is the longer run put once. Assumes nothing.
 use mathlib.Core.Path.{_≡_, refl, sym, ap, _∙_}
-use mathlib.Core.Bool.{true, false, not}
+use mathlib.Core.Bool.{true, false, not, and-false}
 use mathlib.Core.List.{List, [], _∷_, _++_, append-nil}
 use Prim.Native.Nat.{ℕ, zero, suc, _+_, _-_, _*_, _≤_, _<_}
 use native.Mathlib.Omega.{arith}
@@ -19,7 +19,6 @@ use Rattle.protocol.specs.View.{part, stampAt, marked}
 use Rattle.protocol.specs.ServerBytes.{over}
 use Rattle.protocol.specs.ClientBytes.{put, keyOf}
 use Rattle.protocol.proofs.Formats.{print4-value}
-use Rattle.protocol.proofs.Equal.{and-off}
 use Rattle.protocol.proofs.Primitive.{real-lengths, run-length}
 use Rattle.protocol.proofs.Puts.{put-put, put-over}
 use Rattle.client.specs.Steps.{tagRun}
@@ -45,7 +44,7 @@ message (p ∷ q ∷ r ∷ s ∷ w ∷ d) b h = sym (ap (λ (x : List ℕ). x ++
 module _ (writers d : List ℕ) (high : ℕ) where
   pub stays-low : stampAt d .number ≤ high → higher real writers high (stampAt d) ≡ high
   unfolding higher
-  stays-low h = rw (le-ltb high (stampAt d .number) h, and-off (checks real writers (stampAt d)))
+  stays-low h = rw (le-ltb high (stampAt d .number) h, and-false (checks real writers (stampAt d)))
 
   module _ (bytes : Bytes d) (long : 5 ≤ length d) (up : high < stampAt d .number) where
     same-checks : checks real writers (stampAt d) ≡ sameList (part d 5 tagSize) (tagOf writers (part d 0 5))

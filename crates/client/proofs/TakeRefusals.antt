@@ -11,6 +11,7 @@ use lib.ListN.{length}
 use borrow.Author.Tests.{eqb-true, eq-eqb, ne-eqb, not-false}
 use Rattle.cluster.specs.Config.{shelf}
 use Rattle.cluster.specs.Ranges.{within, topClient, topNumber, contentRoom}
+use Rattle.cluster.proofs.Tests.{and-both, passes, refused-is, accepted-is}
 use Rattle.protocol.specs.declared.Call.{Call}
 use Rattle.protocol.specs.declared.Head.{Head}
 use Rattle.protocol.specs.declared.Taken.the-variants as taken
@@ -21,7 +22,6 @@ use Rattle.protocol.specs.Client.{badFaults, takeRefusal, higher, stampIn}
 use Rattle.protocol.specs.View.{marked}
 use Rattle.protocol.specs.ClientBytes.{Took, took, takeIn, takeOn, highIn, awaited, ends}
 use Rattle.client.specs.Steps.{foreign, other, replyRefusal}
-use Rattle.client.proofs.Tests.{both, passes, refused, accepted}
 
 -- a number that the first three tests give is the whole list's, and with 0 the rest of the list decides
 early : (a b c : Bool) (x m : ℕ) → m ≡ cond a 8 (cond b 12 (cond c 13 0)) → (m ≡ 0 → ⊥) → cond a 8 (cond b 12 (cond c 13 x)) ≡ m
@@ -49,12 +49,12 @@ pub record Awaited (t client : ℕ) (c : Call) (h : Head) : Type 0 where
 pub awaited-reply : (t client : ℕ) (c : Call) (h : Head) → replyRefusal t client c h ≡ 0 → Awaited t client c h
 unfolding replyRefusal
 awaited-reply t client c h e =
-    let p₁ = passes 7 (foreign t client h) _ e in
-    let p₂ = passes 11 (not (eqb (awaited c) 0) && other c (awaited c) h) _ (p₁ .1) in
-    let p₃ = passes 12 (eqb (awaited c) 0) _ (p₂ .1) in
-    let f = both (eqb (h .t) t) (eqb (h .client) client) (not-false (eqb (h .t) t && eqb (h .client) client) (p₁ .0)) in
+    let p₁ = passes (foreign t client h) 7 _ e in
+    let p₂ = passes (not (eqb (awaited c) 0) && other c (awaited c) h) 11 _ (p₁ .1) in
+    let p₃ = passes (eqb (awaited c) 0) 12 _ (p₂ .1) in
+    let f = and-both (eqb (h .t) t) (eqb (h .client) client) (not-false (eqb (h .t) t && eqb (h .client) client) (p₁ .0)) in
     let o : other c (awaited c) h ≡ false = rw (p₃ .0) at (p₂ .0) in
-    let k = both (eqb (h .call) (c .number)) (eqb (h .kind) (awaited c)) (left-off (eqb (h .call) (c .number) && eqb (h .kind) (awaited c)) (marked (c .tally .marks) (h .server)) o) in
+    let k = and-both (eqb (h .call) (c .number)) (eqb (h .kind) (awaited c)) (left-off (eqb (h .call) (c .number) && eqb (h .kind) (awaited c)) (marked (c .tally .marks) (h .server)) o) in
     record { ofShelf = eqb-true (h .t) t (f .0); ofKind = eqb-true (h .kind) (awaited c) (k .1); pending = p₃ .0 }
 
 module _ (t client : ℕ) (writers : List ℕ) (keys : ByServer (List ℕ)) (c : Call) (kept output : List ℕ) (h : Head) (x : Body) where
@@ -84,7 +84,7 @@ module _ (t client : ℕ) (writers : List ℕ) (keys : ByServer (List ℕ)) (c :
     unfolding takeIn took replyRefusal
     head-refused m e ne =
         let q : number ≡ m = list ∙ early (foreign t client h) (not (eqb (awaited c) 0) && other c (awaited c) h) (eqb (awaited c) 0) _ m e ne in
-        refused number _ _ (λ z. ne (sym q ∙ z)) ∙ ap refusedWith q
+        refused-is number _ _ (λ z. ne (sym q ∙ z)) ∙ ap refusedWith q
 
     module _ (ready : replyRefusal t client c h ≡ 0) where
       rest-number : number ≡ cond (high (h .server) x) 14 (cond (ltb (length output) contentRoom) 15 0)
@@ -93,16 +93,16 @@ module _ (t client : ℕ) (writers : List ℕ) (keys : ByServer (List ℕ)) (c :
 
       pub high-refused : high (h .server) x ≡ true → outcome ≡ refusedWith 14
       unfolding takeIn took
-      high-refused e = let q : number ≡ 14 = rest-number ∙ rw e in refused number _ _ (λ z. (let y : ⊥ = omega (arith, q, z) in y)) ∙ ap refusedWith q
+      high-refused e = let q : number ≡ 14 = rest-number ∙ rw e in refused-is number _ _ (λ z. (let y : ⊥ = omega (arith, q, z) in y)) ∙ ap refusedWith q
 
       pub short-refused : high (h .server) x ≡ false → ltb (length output) contentRoom ≡ true → outcome ≡ refusedWith 15
       unfolding takeIn took
-      short-refused e l = let q : number ≡ 15 = rest-number ∙ rw (e, l) in refused number _ _ (λ z. (let y : ⊥ = omega (arith, q, z) in y)) ∙ ap refusedWith q
+      short-refused e l = let q : number ≡ 15 = rest-number ∙ rw (e, l) in refused-is number _ _ (λ z. (let y : ⊥ = omega (arith, q, z) in y)) ∙ ap refusedWith q
 
       pub taken-reply : high (h .server) x ≡ false → ltb (length output) contentRoom ≡ false
           → outcome ≡ takeOn real (shelf t) client writers keys c kept output (c .tally .round) (some packet)
       unfolding takeIn
-      taken-reply e l = let q : number ≡ 0 = rest-number ∙ rw (e, l) in accepted number _ _ q
+      taken-reply e l = let q : number ≡ 0 = rest-number ∙ rw (e, l) in accepted-is number _ _ q
 
   -- only clock has a number that can be too high
   pub never-high : (c .tally .round ≡ 1 → ⊥) → high (h .server) x ≡ false

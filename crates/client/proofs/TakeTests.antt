@@ -11,6 +11,7 @@ use lib.ListN.{length, drop}
 use borrow.Author.Tests.{eq-eqb, ne-eqb, lt-ltb}
 use Rattle.cluster.specs.Config.{shelf}
 use Rattle.cluster.specs.Ranges.{within, topFaults, topClient, contentRoom}
+use Rattle.cluster.proofs.Tests.{inside, refused-is}
 use Rattle.protocol.specs.declared.Call.{Call}
 use Rattle.protocol.specs.declared.Head.{Head}
 use Rattle.protocol.specs.declared.Taken.the-variants as taken
@@ -31,7 +32,7 @@ use Rattle.client.specs.declared.answers.Answered.{Answered}
 use Rattle.client.specs.Answers.{answered}
 use Rattle.client.specs.Core.{coreTake}
 use Rattle.client.specs.Steps.{replyRefusal, Ready, TakesAs}
-use Rattle.client.proofs.Tests.{inside, refused, hand-round}
+use Rattle.client.proofs.Tests.{hand-round}
 use Rattle.client.proofs.TakeRefusals.{awaited-reply, head-refused, short-refused, never-high}
 use Rattle.client.proofs.TakenReplies.{body-at, printed}
 
@@ -69,7 +70,7 @@ module _ (t client : ℕ) (writers : List ℕ) (keys : List (List ℕ)) (c : Cal
   -- a number of the list refuses
   refuses : (o : Option Packet) (n : ℕ) → number o ≡ n → (n ≡ 0 → ⊥) → takeIn real (shelf t) client writers (keyOf keys) c kept output o ≡ refusedWith c kept output n
   unfolding takeIn took
-  refuses o n q ne = refused (number o) _ _ (λ z. ne (sym q ∙ z)) ∙ ap (refusedWith c kept output) q
+  refuses o n q ne = refused-is (number o) _ _ (λ z. ne (sym q ∙ z)) ∙ ap (refusedWith c kept output) q
 
   pub take-faults : badFaults (shelf t) ≡ true → whole ≡ refusedWith c kept output 3
   unfolding clientTake

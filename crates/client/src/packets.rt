@@ -166,17 +166,11 @@ pub fn make_in(
     ensures { λ r. ⌜ record { result = r; output = now (out .exit) } ≡ coreMake t client server call (now (kept .entry)) (now (out .entry)) ⌝ }
 {
     if kept.len() != wire::kept::KEPT {
-        return cluster::Outcome {
-            number: 1,
-            count: 0,
-        };
+        return cluster::refused(1);
     }
     let n = refusals::make_refusal(t, client, server, call, out.len());
     if n != 0 {
-        return cluster::Outcome {
-            number: n,
-            count: 0,
-        };
+        return cluster::refused(n);
     }
     make_round(call, kept, t, client, server, out)
 }

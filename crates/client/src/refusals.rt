@@ -1,24 +1,10 @@
 // Which number refuses a step, 0 for none. Each is a function of numbers; the tests stand in document 01's order.
 ghost use mathlib.Core.Path.{_≡_};
-ghost use mathlib.Core.Bool.{not};
 ghost use Prim.Native.Nat.{_≤_};
 ghost use Rattle.cluster.specs.Config.{shelf};
-ghost use Rattle.cluster.specs.Ranges.{within, topFaults};
+ghost use Rattle.cluster.specs.Ranges.{topFaults};
 ghost use Rattle.protocol.specs.Client.{writeRefusal, readRefusal, makeRefusal, abortRefusal};
 ghost use Rattle.protocol.specs.ClientBytes.{inHand};
-
-// Not lo to hi.
-pub(crate) fn is_outside(lo: usize, hi: usize, x: usize) -> bool
-    ensures { λ r. ⌜ r ≡ not (within lo hi x) ⌝ }
-{
-    if x < lo {
-        return true;
-    }
-    if hi < x {
-        return true;
-    }
-    false
-}
 
 // A call is in hand.
 pub fn is_pending(call: protocol::Call) -> bool
@@ -26,7 +12,7 @@ pub fn is_pending(call: protocol::Call) -> bool
 {
     let tally = call.tally;
     let round = tally.round as usize;
-    if is_outside(1, 6, round) {
+    if cluster::outside(1, 6, round) {
         return false;
     }
     true
@@ -35,13 +21,13 @@ pub fn is_pending(call: protocol::Call) -> bool
 pub(crate) fn write_refusal(t: usize, client: usize, n: usize, call: protocol::Call) -> u8
     ensures { λ r. ⌜ r ≡ writeRefusal (shelf t) client n (inHand call) (call .number) ⌝ }
 {
-    if is_outside(1, cluster::TOP_FAULTS, t) {
+    if cluster::outside(1, cluster::TOP_FAULTS, t) {
         return 3;
     }
-    if is_outside(1, cluster::TOP_WRITER, client) {
+    if cluster::outside(1, cluster::TOP_WRITER, client) {
         return 5;
     }
-    if is_outside(cluster::LEAST_LENGTH, cluster::TOP_LENGTH, n) {
+    if cluster::outside(cluster::LEAST_LENGTH, cluster::TOP_LENGTH, n) {
         return 6;
     }
     if is_pending(call) {
@@ -56,10 +42,10 @@ pub(crate) fn write_refusal(t: usize, client: usize, n: usize, call: protocol::C
 pub(crate) fn read_refusal(t: usize, client: usize, call: protocol::Call) -> u8
     ensures { λ r. ⌜ r ≡ readRefusal (shelf t) client (inHand call) (call .number) ⌝ }
 {
-    if is_outside(1, cluster::TOP_FAULTS, t) {
+    if cluster::outside(1, cluster::TOP_FAULTS, t) {
         return 3;
     }
-    if is_outside(1, cluster::TOP_CLIENT, client) {
+    if cluster::outside(1, cluster::TOP_CLIENT, client) {
         return 5;
     }
     if is_pending(call) {
@@ -76,7 +62,7 @@ pub(crate) fn servers(t: usize) -> usize
     requires { ⌜ t ≤ topFaults ⌝ }
     ensures { λ r. ⌜ r ≡ shelf t .servers ⌝ }
 {
-    wire::sizes::servers(t as u8)
+    cluster::servers(t as u8)
 }
 
 pub(crate) fn make_refusal(
@@ -88,13 +74,13 @@ pub(crate) fn make_refusal(
 ) -> u8
     ensures { λ r. ⌜ r ≡ makeRefusal (shelf t) client server (inHand call) room ⌝ }
 {
-    if is_outside(1, cluster::TOP_FAULTS, t) {
+    if cluster::outside(1, cluster::TOP_FAULTS, t) {
         return 3;
     }
-    if is_outside(1, servers(t), server) {
+    if cluster::outside(1, servers(t), server) {
         return 4;
     }
-    if is_outside(1, cluster::TOP_CLIENT, client) {
+    if cluster::outside(1, cluster::TOP_CLIENT, client) {
         return 5;
     }
     if !is_pending(call) {
@@ -109,10 +95,10 @@ pub(crate) fn make_refusal(
 pub(crate) fn abort_refusal(t: usize, client: usize, call: protocol::Call) -> u8
     ensures { λ r. ⌜ r ≡ abortRefusal (shelf t) client (inHand call) ⌝ }
 {
-    if is_outside(1, cluster::TOP_FAULTS, t) {
+    if cluster::outside(1, cluster::TOP_FAULTS, t) {
         return 3;
     }
-    if is_outside(1, cluster::TOP_CLIENT, client) {
+    if cluster::outside(1, cluster::TOP_CLIENT, client) {
         return 5;
     }
     if !is_pending(call) {

@@ -19,7 +19,6 @@ use crate::clock;
 use crate::filter;
 use crate::kept;
 use crate::reads;
-use crate::refusals;
 use crate::replies;
 use crate::writes;
 
@@ -153,10 +152,10 @@ pub fn take_in(
     if kept.len() != wire::kept::KEPT {
         return answers::refused(1, call);
     }
-    if refusals::is_outside(1, cluster::TOP_FAULTS, t) {
+    if cluster::outside(1, cluster::TOP_FAULTS, t) {
         return answers::refused(3, call);
     }
-    if refusals::is_outside(1, cluster::TOP_CLIENT, client) {
+    if cluster::outside(1, cluster::TOP_CLIENT, client) {
         return answers::refused(5, call);
     }
     take_reply(call, kept, t, client, writers, keys, reply, out)

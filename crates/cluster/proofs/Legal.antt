@@ -1,6 +1,6 @@
 -- Document 01's shelf is legal for every t from 1 to 4: 3t+1 servers, k = t+1, and server i has the point i.
 -- The table of points is 1, 2, .., S: at the place i stands i + 1, and past it 0. Nothing is assumed.
-use mathlib.Core.Path.{_≡_, refl, ap, _∙_}
+use mathlib.Core.Path.{_≡_, refl, _∙_}
 use mathlib.Core.Bool.{Bool, true, false}
 use mathlib.Core.List.{[], _∷_, _++_}
 use Prim.Native.Nat.{ℕ, zero, suc, _+_, _*_, _≤_, _<_}
@@ -17,19 +17,19 @@ unfolding upTo
 upTo-length zero = refl
 upTo-length (suc n) = omega (arith, length-append (upTo n) (suc n ∷ []), upTo-length n)
 
-pub upTo-at : (n i : ℕ) → i < n → getD (upTo n) i 0 ≡ suc i
+pub upTo-at : (n i : ℕ) → i < n → getD (upTo n) i 0 ≡ i + 1
 unfolding upTo
 upTo-at zero i h = absurd (omega arith)
 upTo-at (suc n) i h = go (ltb i n) refl (λ k. upTo-at n i k)
   where
-    go : (b : Bool) → ltb i n ≡ b → (i < n → getD (upTo n) i 0 ≡ suc i) → getD (upTo n ++ (suc n ∷ [])) i 0 ≡ suc i
+    go : (b : Bool) → ltb i n ≡ b → (i < n → getD (upTo n) i 0 ≡ i + 1) → getD (upTo n ++ (suc n ∷ [])) i 0 ≡ i + 1
     go true e before =
         let k : i < n = ltb-true i n e in
         let l : i < length (upTo n) = omega (arith, upTo-length n) in
         List·getD-append (upTo n) (suc n ∷ []) 0 i l ∙ before k
     go false e before =
         let k : n ≡ i = omega (arith, ltb-false i n e) in
-        getD-at (upTo n) (suc n) [] 0 i (upTo-length n ∙ k) ∙ ap suc k
+        getD-at (upTo n) (suc n) [] 0 i (upTo-length n ∙ k) ∙ omega arith
 
 -- a point is at most S
 point-le : (n i : ℕ) → getD (upTo n) i 0 ≤ n

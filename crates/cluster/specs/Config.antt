@@ -5,6 +5,7 @@ use mathlib.Core.Logic.{_≢_}
 use mathlib.Core.List.{List, [], _∷_, _++_}
 use Prim.Native.Nat.{ℕ, zero, suc, _+_, _-_, _*_, _≤_, _<_}
 use lib.ListN.{length, getD}
+use Rattle.cluster.specs.Ranges.{mostServers}
 
 pub record Config : Type 0 where
   -- how many servers may lie
@@ -39,7 +40,7 @@ pub record Legal (s : Config) : Type 0 where
   pub most : 3 * s .t + 1 ≤ s .servers
   pub restores : s .t + 1 ≤ s .shares
   pub covered : s .shares + 2 * s .t ≤ s .servers
-  pub few : s .servers ≤ 13
+  pub few : s .servers ≤ mostServers
   pub table : length (s .points) ≡ s .servers
   pub bytes : (i : ℕ) → getD (s .points) i 0 < 256
   pub different : (i j : ℕ) → i < s .servers → j < s .servers → i ≢ j → getD (s .points) i 0 ≢ getD (s .points) j 0

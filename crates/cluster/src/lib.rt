@@ -1,4 +1,8 @@
 // The parameters and ranges of a shelf stand in specs/. The struct is what definitions and code share; the constants are those of specs/Ranges.
+ghost use mathlib.Core.Path.{_≡_};
+ghost use mathlib.Core.Bool.{not};
+ghost use Rattle.cluster.specs.Config.{shelf};
+ghost use Rattle.cluster.specs.Ranges.{within};
 
 // The largest t, and the most servers that a shelf can have.
 pub const TOP_FAULTS: usize = 4;
@@ -35,4 +39,38 @@ pub const CAPACITY: usize = 32;
 pub struct Outcome {
     pub number: u8,
     pub count: usize,
+}
+
+// Nothing is written.
+pub fn refused(number: u8) -> Outcome
+    ensures { λ r. ⌜ r ≡ record { number = number; count = 0 } ⌝ }
+{
+    Outcome { number, count: 0 }
+}
+
+// S: how many servers there are.
+pub fn servers(t: u8) -> usize
+    ensures { λ r. ⌜ r ≡ shelf t .servers ⌝ }
+{
+    3 * (t as usize) + 1
+}
+
+// k: how many fragments give a content back.
+pub fn shares(t: u8) -> usize
+    ensures { λ r. ⌜ r ≡ shelf t .shares ⌝ }
+{
+    (t as usize) + 1
+}
+
+// Not lo to hi.
+pub fn outside(lo: usize, hi: usize, x: usize) -> bool
+    ensures { λ r. ⌜ r ≡ not (within lo hi x) ⌝ }
+{
+    if x < lo {
+        return true;
+    }
+    if hi < x {
+        return true;
+    }
+    false
 }

@@ -1,15 +1,33 @@
 -- The test of the arguments: which of them are refused, and what is known of the others. Nothing is assumed.
-use mathlib.Core.Path.{_≡_, sym, ap, subst}
-use mathlib.Core.Bool.{Bool, false, _&&_}
+use mathlib.Core.Path.{_≡_, sym, ap, subst, _∙_}
+use mathlib.Core.Bool.{Bool, false, _&&_, and-false, not, true}
 use mathlib.Core.List.{List}
 use Prim.Native.Nat.{ℕ, _≤_, _<_}
 use lib.Dec.{T, leb, eqb}
 use lib.ListN.{length}
-use borrow.Author.Tests.{le-leb, lt-leb, eqb-true}
+use borrow.Author.Tests.{le-leb, lt-leb, eqb-true, not-false, not-true}
 use Rattle.protocol.specs.View.{keptSize}
-use Rattle.protocol.proofs.Equal.{and-off}
 use Rattle.decide.specs.Listing.{usable}
-use Rattle.decide.specs.Steps.{UsableAs}
+use Rattle.decide.specs.Steps.{Usable, UsableAs}
+use Rattle.cluster.specs.Ranges.{topFaults, mostServers}
+use Rattle.cluster.specs.Config.{shelf}
+use native.Mathlib.Omega.{arith}
+
+-- the shelf has no more servers than there are slots
+pub few : {t : ℕ} {kept : List ℕ} → Usable t kept → shelf t .servers ≤ mostServers
+unfolding shelf
+few u = omega (arith, u .high)
+
+-- what the code's test of the arguments leaves
+module _ {t : ℕ} {kept : List ℕ} {r : Bool} (u : UsableAs t kept r) where
+  pub unusable : not r ≡ true → usable t kept ≡ false
+  unusable e = sym (u .same) ∙ not-true r e
+
+  pub is-usable : not r ≡ false → usable t kept ≡ true
+  is-usable e = sym (u .same) ∙ not-false r e
+
+  pub known : not r ≡ false → Usable t kept
+  known e = u .told (not-false r e)
 
 module _ (t : ℕ) (kept : List ℕ) where
   refused : usable t kept ≡ false → UsableAs t kept false
@@ -19,11 +37,11 @@ module _ (t : ℕ) (kept : List ℕ) where
   unfolding usable
   few-faults h = refused (rw (lt-leb 1 t h))
 
-  pub many-faults : 4 < t → UsableAs t kept false
+  pub many-faults : topFaults < t → UsableAs t kept false
   unfolding usable
-  many-faults h = refused (rw (lt-leb t 4 h) (ap (λ (b : Bool). b && eqb (length kept) keptSize) (and-off (leb 1 t))))
+  many-faults h = refused (rw (lt-leb t topFaults h) (ap (λ (b : Bool). b && eqb (length kept) keptSize) (and-false (leb 1 t))))
 
-  pub by-size : 1 ≤ t → t ≤ 4 → UsableAs t kept (eqb (length kept) keptSize)
+  pub by-size : 1 ≤ t → t ≤ topFaults → UsableAs t kept (eqb (length kept) keptSize)
   unfolding usable
   by-size l h =
-      record { same = rw (le-leb 1 t l, le-leb t 4 h); told = λ k. record { low = l; high = h; size = eqb-true (length kept) keptSize k } }
+      record { same = rw (le-leb 1 t l, le-leb t topFaults h); told = λ k. record { low = l; high = h; size = eqb-true (length kept) keptSize k } }

@@ -1,6 +1,6 @@
 -- The choice, as the code finds it: the first slot that is listed, has the highest rank that stays, and has a leader. Nothing is assumed.
 use mathlib.Core.Path.{_≡_, refl, sym, ap, _∙_, subst}
-use mathlib.Core.Bool.{Bool, true, false, cond, not, _&&_, _||_}
+use mathlib.Core.Bool.{Bool, true, false, cond, not, _&&_, _||_, or-false}
 use mathlib.Core.List.{List, [], _∷_, _++_}
 use Prim.Native.Nat.{ℕ, zero, suc, _≤_, _<_}
 use native.Mathlib.Omega.{arith}
@@ -15,7 +15,7 @@ use Rattle.decide.specs.Listing.{enters}
 use Rattle.decide.specs.Steps.{rank, blankRank, stays, raised, topRank}
 use Rattle.decide.proofs.Ranks.{below-rank, blank-low, not-blank-high}
 use Rattle.decide.proofs.Tops.{keep-append, keep-keep, any-member, any-true, raise-law, isLive, live-stays, keep-gather, any-gather, top-least, top-most, top-stays}
-use Rattle.decide.proofs.Gathered.{any-append, or-false, gather-more, kept-out}
+use Rattle.decide.proofs.Gathered.{any-append, gather-more, kept-out}
 
 module _ (s : Config) (m : ByServer Bool) (g : ByServer Held) (held : ByServer Candidate)
     (W : (i : ℕ) → held i .stamp .writer < 256) (U : (i : ℕ) → g i .stamp .writer < 256) where

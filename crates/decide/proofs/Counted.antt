@@ -37,15 +37,6 @@ count-more n m = rw add-one (go (m (suc n)))
     go true = omega arith
     go false = omega arith
 
-pub count-le : (n : ℕ) (m : ByServer Bool) → countTo n m ≤ n
-unfolding countTo
-count-le zero m = omega arith
-count-le (suc n) m = go (m (suc n)) (count-le n m)
-  where
-    go : (b : Bool) → countTo n m ≤ n → cond b 1 0 + countTo n m ≤ suc n
-    go true h = omega arith
-    go false h = omega arith
-
 pub count-none : (m : ByServer Bool) → countTo 0 m ≡ 0
 unfolding countTo
 count-none m = refl

@@ -10,11 +10,11 @@ use native.Mathlib.Omega.{arith}
 use lib.Dec.{T, eqb}
 use borrow.Author.Tests.{lt-ltb, le-ltb, eq-eqb, ne-eqb}
 use Rattle.cluster.specs.Config.{shelf}
+use Rattle.cluster.proofs.Tests.{and-both}
 use Rattle.protocol.specs.Values.{Candidate, sameCandidate}
 use Rattle.protocol.specs.Primitives.{real}
 use Rattle.protocol.specs.Rules.{ByServer, keep, first, gather, leader, proven}
 use Rattle.protocol.specs.View.{marked, candidatesIn, repliesIn}
-use Rattle.protocol.proofs.Answers.{and-on}
 use Rattle.protocol.proofs.Equal.{candidate-same, candidate-refl}
 use Rattle.decide.specs.Decided.{slotOf}
 use Rattle.decide.specs.Listing.{enters}
@@ -98,7 +98,7 @@ module _ (t : ℕ) (marks kept : List ℕ) (key : ℕ) where
   chosen-here n r l h g k = record { nothing = λ e. absurd (k e); hit = λ b e. go b e (triedAt t kept key n) refl }
     where
       entering : triedAt t kept key n ≡ true → enters (candidatesIn (shelf t) kept) (suc n) ≡ true
-      entering q = unfold triedAt in and-on (eqb (rank (candidatesIn (shelf t) kept (suc n) .stamp)) key) (enters (candidatesIn (shelf t) kept) (suc n)) q .1
+      entering q = unfold triedAt in and-both (eqb (rank (candidatesIn (shelf t) kept (suc n) .stamp)) key) (enters (candidatesIn (shelf t) kept) (suc n)) q .1
 
       later : (c : Candidate) → chosenAt t marks kept key (suc n) ≡ some c → chosenAt t marks kept key (shelf t .servers) ≡ some c
       later c q =

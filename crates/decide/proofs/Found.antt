@@ -1,7 +1,7 @@
 -- What a caller learns of a found slot: the choice stands in the slot told, it has a leader, and comparing tags as the code does is the rule's comparison.
 -- Nothing is assumed.
 use mathlib.Core.Path.{_≡_, refl, sym, ap, _∙_, subst}
-use mathlib.Core.Bool.{Bool, true, false, cond, not, _||_}
+use mathlib.Core.Bool.{Bool, true, false, cond, not, _||_, or-true}
 use mathlib.Core.List.{List, [], _∷_, _++_}
 use mathlib.Core.Option.{some, Option·none-ne-some, Option·some-injective}
 use Prim.Native.Nat.{ℕ, zero, suc, _+_, _<_}
@@ -10,21 +10,21 @@ use lib.Dec.{T, ltb}
 use lib.ListN.{length, drop}
 use borrow.Author.Tests.{ltb-true, ltb-false, lt-ltb, le-leb, eq-eqb}
 use Rattle.cluster.specs.Config.{Config, shelf, quorum}
-use Rattle.cluster.specs.Ranges.{leastLength, topLength}
+use Rattle.cluster.specs.Ranges.{leastLength, topLength, mostServers, topFaults}
 use Rattle.sha256.specs.Sha256.{sha256}
 use Rattle.protocol.specs.Values.{Candidate, Held, sameList, sameCandidate, below, stampSize}
 use Rattle.protocol.specs.Primitives.{real}
 use Rattle.protocol.specs.Rules.{ByServer, countTo, any, keep, first, gather, lower, live, proven, highest, choice, tagsIn}
 use Rattle.protocol.specs.View.{shareOfSize, keptSize, candidatesIn, repliesIn, replySlotOf}
 use Rattle.protocol.proofs.Equal.{candidate-same, candidate-refl}
-use Rattle.protocol.proofs.Room.{shelf-fits}
 use Rattle.decide.specs.Decided.{slotOf, sameTagsAt, sameTags}
 use Rattle.decide.specs.Listing.{usable, enters}
 use Rattle.decide.specs.Steps.{Usable, leaderAt, Full}
 use Rattle.decide.proofs.Groups.{fits-named, leader-full, leads-fits, leader-leads}
 use Rattle.decide.proofs.Places.{reply-in}
 use Rattle.decide.proofs.Replies.{sizeIn, held-share, share-in}
-use Rattle.decide.proofs.Gathered.{any-append, or-true, gather-more}
+use Rattle.decide.proofs.Gathered.{any-append, gather-more}
+use Rattle.decide.proofs.Arguments.{few}
 
 -- ---- the choice is one of the list, and proven
 
@@ -119,12 +119,12 @@ unfolding sameTags usable
 found-tags t ms kept i b u l h =
     let w = leader-leads t ms kept i (shelf t .servers) b h in
     let f = leads-fits t ms kept i b (w .0) in
-    let k : b < 13 = omega (arith, w .1, shelf-fits t (u .low) (u .high) .few) in
+    let k : b < mostServers = omega (arith, w .1, few u) in
     let q = leader-full t ms kept i (sha256 (candidatesIn (shelf t) kept (suc i) .nonce)) refl b k (f .0) in
     let m = fits-named t ms kept i (sha256 (candidatesIn (shelf t) kept (suc i) .nonce)) refl b k (f .0) .0 in
     rw (
       le-leb 1 t (u .low),
-      le-leb t 4 (u .high),
+      le-leb t topFaults (u .high),
       eq-eqb (length kept) keptSize (u .size),
       lt-ltb i (shelf t .servers) l,
       le-leb 1 (suc b) (omega arith),

@@ -22,14 +22,6 @@ any-append p (x ∷ xs) ys = go (p x) (any-append p xs ys)
     go true e = refl
     go false e = e
 
-pub or-true : (a : Bool) → (a || true) ≡ true
-or-true true = refl
-or-true false = refl
-
-pub or-false : (a : Bool) → (a || false) ≡ a
-or-false true = refl
-or-false false = refl
-
 module _ (g : ByServer Candidate) where
   -- one server more
   pub gather-more : (n : ℕ) → gather g (suc n) ≡ cond (enters g (suc n)) (gather g n ++ (g (suc n) ∷ [])) (gather g n)

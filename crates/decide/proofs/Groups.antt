@@ -1,7 +1,7 @@
 -- Groups, as the code finds them: a reply fits where it names the candidate and its fragment has its own digest, cheap tests first; it agrees where it also
 -- agrees with the leader's; and a leader that fits agrees with itself. Nothing is assumed.
 use mathlib.Core.Path.{_≡_, refl, sym, ap, _∙_, subst}
-use mathlib.Core.Bool.{Bool, true, false, cond, _&&_}
+use mathlib.Core.Bool.{Bool, true, false, cond, _&&_, and-assoc, and-false, and-true}
 use mathlib.Core.List.{List}
 use mathlib.Core.Option.{Option, none, some}
 use Prim.Native.Nat.{ℕ, zero, suc, _+_, _≤_, _<_}
@@ -12,17 +12,17 @@ use Prim.Native.Nat.{min}
 use lib.ListN.{length, drop, getD, length-take}
 use borrow.Author.Tests.{leb-true, eqb-true, eqb-false, le-leb, lt-leb, eq-eqb, ne-eqb}
 use Rattle.cluster.specs.Config.{Config, shelf}
-use Rattle.cluster.specs.Ranges.{within, leastLength, topLength}
+use Rattle.cluster.specs.Ranges.{within, leastLength, topLength, mostServers}
+use Rattle.cluster.proofs.Tests.{and-both}
 use Rattle.sha256.specs.Sha256.{sha256}
 use Rattle.protocol.specs.Values.{Candidate, Share, Held, sameList, sameStamp, nth, stampSize, digestSize}
 use Rattle.protocol.specs.Primitives.{real}
 use Rattle.protocol.specs.Rules.{countTo, shareFits, fits, sameShare, agrees, leads, leader}
 use Rattle.protocol.specs.View.{part, shareOfSize, heldAt, marked, candidatesIn, repliesIn, replySlotOf}
-use Rattle.protocol.proofs.Answers.{and-on}
-use Rattle.protocol.proofs.Equal.{and-off, same-refl}
+use Rattle.protocol.proofs.Equal.{same-refl}
 use Rattle.decide.specs.Steps.{namesShare, names, intact, serversOf, fitsAt, agreesAt, leadsAt, leaderAt, slotHeld, Full, membersAt}
 use Rattle.decide.proofs.Counted.{servers-length}
-use Rattle.decide.proofs.Places.{and-assoc, reply-in}
+use Rattle.decide.proofs.Places.{reply-in}
 use Rattle.decide.proofs.Replies.{sizeIn, held-share, names-full, alike-not}
 
 same-share-self : (h : Share) → sameShare real (shelf 0) (some h) (some h) ≡ true
@@ -44,33 +44,33 @@ module _ (s : Config) (c : Candidate) (d : List ℕ) (e : d ≡ sha256 (c .nonce
 
 -- ---- at slots
 
+pub unmarked : (ms : List ℕ) (j : ℕ) → getD ms j 0 ≡ 0 → marked ms (suc j) ≡ false
+unfolding marked
+unmarked ms j h = rw (eq-eqb (getD ms j 0) 0 h)
+
+pub is-marked : (ms : List ℕ) (j : ℕ) → (getD ms j 0 ≡ 0 → ⊥) → marked ms (suc j) ≡ true
+unfolding marked
+is-marked ms j h = rw (ne-eqb (getD ms j 0) 0 h)
+
 module _ (t : ℕ) (ms kept : List ℕ) (i : ℕ) where
-  pub unmarked : (j : ℕ) → getD ms j 0 ≡ 0 → marked ms (suc j) ≡ false
-  unfolding marked
-  unmarked j h = rw (eq-eqb (getD ms j 0) 0 h)
-
-  pub is-marked : (j : ℕ) → (getD ms j 0 ≡ 0 → ⊥) → marked ms (suc j) ≡ true
-  unfolding marked
-  is-marked j h = rw (ne-eqb (getD ms j 0) 0 h)
-
   pub fits-unmarked : (j : ℕ) → getD ms j 0 ≡ 0 → fitsAt t ms kept i j ≡ false
   unfolding fitsAt fits
-  fits-unmarked j h = rw (unmarked j h)
+  fits-unmarked j h = rw (unmarked ms j h)
 
   module _ (d : List ℕ) (e : d ≡ sha256 (candidatesIn (shelf t) kept (suc i) .nonce)) where
-    pub fits-marked : (j : ℕ) → j < 13 → marked ms (suc j) ≡ true
+    pub fits-marked : (j : ℕ) → j < mostServers → marked ms (suc j) ≡ true
         → fitsAt t ms kept i j ≡ (names (candidatesIn (shelf t) kept (suc i)) d (slotHeld t kept j) && intact (suc j) (slotHeld t kept j .share))
     unfolding fitsAt fits slotHeld
     fits-marked j l h =
         rw (h, reply-in (shelf t) ms kept j l h) (fits-in (shelf t) (candidatesIn (shelf t) kept (suc i)) d e (suc j) (heldAt (shelf t) (replySlotOf kept j)))
 
     -- what fitting tells: a mark, and a reply that names
-    pub fits-named : (j : ℕ) → j < 13 → fitsAt t ms kept i j ≡ true
+    pub fits-named : (j : ℕ) → j < mostServers → fitsAt t ms kept i j ≡ true
         → (marked ms (suc j) ≡ true) × (names (candidatesIn (shelf t) kept (suc i)) d (slotHeld t kept j) ≡ true)
     fits-named j l h = go (marked ms (suc j)) refl
       where
         go : (b : Bool) → marked ms (suc j) ≡ b → (marked ms (suc j) ≡ true) × (names (candidatesIn (shelf t) kept (suc i)) d (slotHeld t kept j) ≡ true)
-        go true q = (q, and-on _ _ (sym (fits-marked j l q) ∙ h) .0)
+        go true q = (q, and-both _ _ (sym (fits-marked j l q) ∙ h) .0)
         go false q = absurd (subst T (sym h ∙ never q) tt)
           where
             never : marked ms (suc j) ≡ false → fitsAt t ms kept i j ≡ false
@@ -78,7 +78,7 @@ module _ (t : ℕ) (ms kept : List ℕ) (i : ℕ) where
 
   pub agrees-unmarked : (b j : ℕ) → getD ms j 0 ≡ 0 → agreesAt t ms kept i b (suc j) ≡ false
   unfolding agreesAt agrees fits
-  agrees-unmarked b j h = rw (unmarked j h)
+  agrees-unmarked b j h = rw (unmarked ms j h)
 
   -- agreeing is fitting, and the same share as the leader's
   agrees-fits : (b j : ℕ)
@@ -86,14 +86,14 @@ module _ (t : ℕ) (ms kept : List ℕ) (i : ℕ) where
   unfolding agreesAt agrees fitsAt
   agrees-fits b j = refl
 
-  module _ (d : List ℕ) (e : d ≡ sha256 (candidatesIn (shelf t) kept (suc i) .nonce)) (b : ℕ) (small : b < 13) (fit : fitsAt t ms kept i b ≡ true) where
+  module _ (d : List ℕ) (e : d ≡ sha256 (candidatesIn (shelf t) kept (suc i) .nonce)) (b : ℕ) (small : b < mostServers) (fit : fitsAt t ms kept i b ≡ true) where
     leads-marked : marked ms (suc b) ≡ true
     leads-marked = fits-named d e b small fit .0
 
     pub leader-full : Full (replySlotOf kept b)
     leader-full = names-full (shelf t) (replySlotOf kept b) (candidatesIn (shelf t) kept (suc i)) d (unfold slotHeld in fits-named d e b small fit .1)
 
-    module _ (j : ℕ) (l : j < 13) (m : marked ms (suc j) ≡ true) where
+    module _ (j : ℕ) (l : j < mostServers) (m : marked ms (suc j) ≡ true) where
       -- the order of the code: names, then the same share, then its own digest
       agrees-in : agreesAt t ms kept i b (suc j)
           ≡ ((names (candidatesIn (shelf t) kept (suc i)) d (slotHeld t kept j) && intact (suc j) (slotHeld t kept j .share))
@@ -107,16 +107,12 @@ module _ (t : ℕ) (ms kept : List ℕ) (i : ℕ) where
 
       pub agrees-unlike : sameShare real (shelf t) (slotHeld t kept b .share) (slotHeld t kept j .share) ≡ false → agreesAt t ms kept i b (suc j) ≡ false
       agrees-unlike q =
-          agrees-in ∙ rw q (and-off (names (candidatesIn (shelf t) kept (suc i)) d (slotHeld t kept j) && intact (suc j) (slotHeld t kept j .share)))
+          agrees-in ∙ rw q (and-false (names (candidatesIn (shelf t) kept (suc i)) d (slotHeld t kept j) && intact (suc j) (slotHeld t kept j .share)))
 
       pub agrees-last : names (candidatesIn (shelf t) kept (suc i)) d (slotHeld t kept j) ≡ true
           → sameShare real (shelf t) (slotHeld t kept b .share) (slotHeld t kept j .share) ≡ true
           → agreesAt t ms kept i b (suc j) ≡ intact (suc j) (slotHeld t kept j .share)
-      agrees-last q r = agrees-in ∙ rw (q, r) (and-on-right (intact (suc j) (slotHeld t kept j .share)))
-        where
-          and-on-right : (x : Bool) → (x && true) ≡ x
-          and-on-right true = refl
-          and-on-right false = refl
+      agrees-last q r = agrees-in ∙ rw (q, r) (and-true (intact (suc j) (slotHeld t kept j .share)))
 
     pub agrees-self : agreesAt t ms kept i b (suc b) ≡ true
     agrees-self =
@@ -124,12 +120,12 @@ module _ (t : ℕ) (ms kept : List ℕ) (i : ℕ) where
         (same-share-self (shareOfSize (shelf t) (sizeIn (replySlotOf kept b)) (drop (stampSize + 1) (replySlotOf kept b))))
 
   -- what agreeing tells: a mark, a share, and the leader's length
-  pub member-shares : (d : List ℕ) (e : d ≡ sha256 (candidatesIn (shelf t) kept (suc i) .nonce)) (b : ℕ) (small : b < 13) (fit : fitsAt t ms kept i b ≡ true) (j : ℕ) → j < 13
+  pub member-shares : (d : List ℕ) (e : d ≡ sha256 (candidatesIn (shelf t) kept (suc i) .nonce)) (b : ℕ) (small : b < mostServers) (fit : fitsAt t ms kept i b ≡ true) (j : ℕ) → j < mostServers
       → agreesAt t ms kept i b (suc j) ≡ true
       → (marked ms (suc j) ≡ true) × (eqb (getD (replySlotOf kept j) stampSize 0) 0 ≡ false) × (sizeIn (replySlotOf kept j) ≡ sizeIn (replySlotOf kept b))
   unfolding slotHeld
   member-shares d e b small fit j l h =
-      let k = and-on (fitsAt t ms kept i j) (sameShare real (shelf t) (repliesIn (shelf t) ms kept (suc b) .share) (repliesIn (shelf t) ms kept (suc j) .share)) (sym (agrees-fits b j) ∙ h) in
+      let k = and-both (fitsAt t ms kept i j) (sameShare real (shelf t) (repliesIn (shelf t) ms kept (suc b) .share) (repliesIn (shelf t) ms kept (suc j) .share)) (sym (agrees-fits b j) ∙ h) in
       let w = fits-named d e j l (k .0) in
       let f = names-full (shelf t) (replySlotOf kept j) (candidatesIn (shelf t) kept (suc i)) d (w .1) in
       let g = leader-full d e b small fit in
@@ -178,7 +174,7 @@ module _ (t : ℕ) (ms kept : List ℕ) (i : ℕ) where
   pub leads-fits : (b : ℕ) → leadsAt t ms kept i b ≡ true → (fitsAt t ms kept i b ≡ true) × (shelf t .shares ≤ length (serversOf (shelf t .servers) (agreesAt t ms kept i b)))
   unfolding leadsAt leads fitsAt agreesAt
   leads-fits b h =
-      let k = and-on (fits real (shelf t) (marked ms) (repliesIn (shelf t) ms kept) (candidatesIn (shelf t) kept (suc i)) (suc b))
+      let k = and-both (fits real (shelf t) (marked ms) (repliesIn (shelf t) ms kept) (candidatesIn (shelf t) kept (suc i)) (suc b))
       (leb (shelf t .shares) (countTo (shelf t .servers) (agrees real (shelf t) (marked ms) (repliesIn (shelf t) ms kept) (candidatesIn (shelf t) kept (suc i)) (suc b)))) h in (
         k .0,
         omega (

@@ -1,6 +1,6 @@
 -- What is told of a group: none leads, one slot leads, or the first that leads is the leader. Nothing is assumed.
 use mathlib.Core.Path.{_≡_, refl, sym, ap, _∙_}
-use mathlib.Core.Bool.{Bool, true, false, cond}
+use mathlib.Core.Bool.{Bool, true, false, cond, and-false}
 use mathlib.Core.List.{List}
 use Prim.Native.Nat.{ℕ, suc, _+_, _-_, _<_}
 use native.Mathlib.Omega.{arith}
@@ -9,7 +9,6 @@ use lib.ListN.{take}
 use borrow.Author.Tests.{eq-eqb, ne-eqb}
 use Rattle.cluster.specs.Config.{shelf}
 use Rattle.protocol.specs.View.{candidatesIn}
-use Rattle.protocol.proofs.Equal.{and-off}
 use Rattle.decide.specs.Listing.{enters}
 use Rattle.decide.specs.declared.leading.Group.{Group}
 use Rattle.decide.specs.Steps.{rank, leadsAt, leaderAt, membersAt, GroupAs, triedAt}
@@ -49,7 +48,7 @@ module _ (t : ℕ) (kept : List ℕ) (key i : ℕ) where
 
   pub not-listed : enters (candidatesIn (shelf t) kept) (suc i) ≡ false → triedAt t kept key i ≡ false
   unfolding triedAt
-  not-listed h = rw h (and-off (eqb (rank (candidatesIn (shelf t) kept (suc i) .stamp)) key))
+  not-listed h = rw h (and-false (eqb (rank (candidatesIn (shelf t) kept (suc i) .stamp)) key))
 
   pub is-tried : rank (candidatesIn (shelf t) kept (suc i) .stamp) ≡ key → enters (candidatesIn (shelf t) kept) (suc i) ≡ true → triedAt t kept key i ≡ true
   unfolding triedAt

@@ -11,5 +11,6 @@ pub mod Chosen
 pub mod Firsts
 pub mod Rises
 pub mod Restoring
+pub mod Contents
 pub mod Outcomes
 pub mod Found

@@ -10,7 +10,7 @@ use lib.Dec.{T}
 use lib.ListN.{length, take}
 use borrow.Author.Tests.{le-leb, lt-leb}
 use Rattle.cluster.specs.Config.{shelf}
-use Rattle.cluster.specs.Ranges.{contentRoom}
+use Rattle.cluster.specs.Ranges.{mostServers, contentRoom}
 use Rattle.sha256.specs.Sha256.{sha256}
 use Rattle.protocol.specs.Format.{Bytes}
 use Rattle.protocol.specs.Values.{Candidate}
@@ -25,13 +25,50 @@ use Rattle.decide.specs.Decided.{slotOf, decidedOn, decided}
 use Rattle.decide.specs.Listing.{usable}
 use Rattle.decide.specs.declared.Decision.the-variants as decisions
 use Rattle.decide.specs.Steps.{Usable, blankRank, serversOf, fitsAt, agreesAt, leadsAt, leaderAt, topAt, Full, membersAt, chosenAt, Hit, contentOf, Rising}
-use Rattle.decide.proofs.Restoring.{restored-members}
+use Rattle.decide.proofs.Contents.{restored-members}
 use Rattle.decide.proofs.Ranks.{candidate-writer, reply-writer}
 use Rattle.decide.proofs.Groups.{leader-full, leads-fits, leader-leads}
 use Rattle.decide.proofs.Firsts.{slot-of}
 use Rattle.decide.proofs.Rises.{members-rise}
 use Rattle.decide.proofs.Chosen.{live-none, live-some, highest-top}
 use Rattle.decide.proofs.Replies.{sizeIn}
+use Rattle.decide.proofs.Arguments.{few}
+
+-- ---- the slot that was found
+
+module _ (t : ℕ) (marks kept : List ℕ) (u : Usable t kept) (key : ℕ) (r : Choice) (b : ℕ) (k : Hit t marks kept key r b) where
+  led : (leadsAt t marks kept (r .slot) b ≡ true) × (b < shelf t .servers)
+  led = leader-leads t marks kept (r .slot) (shelf t .servers) b (k .leader)
+
+  -- the leader's reply fits
+  hit-fits : (fitsAt t marks kept (r .slot) b ≡ true) × (shelf t .shares ≤ length (serversOf (shelf t .servers) (agreesAt t marks kept (r .slot) b)))
+  hit-fits = leads-fits t marks kept (r .slot) b (led .0)
+
+  pub hit-small : b < mostServers
+  hit-small = omega (arith, led .1, few u)
+
+  pub hit-full : Full (replySlotOf kept b)
+  hit-full = leader-full t marks kept (r .slot) (sha256 (candidatesIn (shelf t) kept (suc (r .slot)) .nonce)) refl b hit-small (hit-fits .0)
+
+  pub hit-rises : Rising t (r .servers)
+  hit-rises = members-rise t (agreesAt t marks kept (r .slot) b) (r .servers) (unfold membersAt in k .members) (hit-fits .1)
+
+  hit-content : restoredBy real (shelf t) (marked marks) (repliesIn (shelf t) marks kept) (candidatesIn (shelf t) kept (suc (r .slot))) (suc b) (repliesIn (shelf t) marks kept (suc b) .share)
+      ≡ contentOf t kept b (take (shelf t .shares) (r .servers))
+  unfolding shareSize
+  hit-content =
+      let f = shelf-fits t (u .low) (u .high) in
+      restored-members t marks kept (r .slot) (sha256 (candidatesIn (shelf t) kept (suc (r .slot)) .nonce)) refl b hit-small (hit-fits .0) (f .few)
+      (omega (arith, f .room (sizeIn (replySlotOf kept b)) (hit-full .top)))
+      ∙ ap (contentOf t kept b) (sym (k .members))
+
+  hit-slot : slotOf (candidatesIn (shelf t) kept) (candidatesIn (shelf t) kept (suc (r .slot))) (shelf t .servers) ≡ r .slot
+  hit-slot =
+      let z : suc (r .slot) + (shelf t .servers - suc (r .slot)) ≡ shelf t .servers = omega (arith, k .slot) in
+      sym (ap (slotOf (candidatesIn (shelf t) kept) (candidatesIn (shelf t) kept (suc (r .slot)))) z)
+      ∙ slot-of (candidatesIn (shelf t) kept) (r .slot) (k .listed) (shelf t .servers - suc (r .slot))
+
+-- ---- what is decided
 
 module _ (t : ℕ) (marks kept output : List ℕ) where
   pub decided-unusable : usable t kept ≡ false → decided t marks kept output ≡ record { answer = decisions.Wait; output = output }
@@ -93,44 +130,15 @@ module _ (t : ℕ) (marks kept output : List ℕ) where
     unfolding decidedOn
     decided-none h q = chosen-on h none q
 
-    module _ (u : Usable t kept) (r : Choice) (b : ℕ) (h : blankRank < topAt t marks kept (shelf t .servers))
-        (k : Hit t marks kept (topAt t marks kept (shelf t .servers)) r b) where
-      -- the leader's reply fits
-      led : (leadsAt t marks kept (r .slot) b ≡ true) × (b < shelf t .servers)
-      led = leader-leads t marks kept (r .slot) (shelf t .servers) b (k .leader)
-
-      pub hit-fits : (fitsAt t marks kept (r .slot) b ≡ true) × (shelf t .shares ≤ length (serversOf (shelf t .servers) (agreesAt t marks kept (r .slot) b)))
-      hit-fits = leads-fits t marks kept (r .slot) b (led .0)
-
-      pub hit-small : b < 13
-      hit-small = omega (arith, led .1, shelf-fits t (u .low) (u .high) .few)
-
-      pub hit-full : Full (replySlotOf kept b)
-      hit-full = leader-full t marks kept (r .slot) (sha256 (candidatesIn (shelf t) kept (suc (r .slot)) .nonce)) refl b hit-small (hit-fits .0)
-
-      pub hit-rises : Rising t (r .servers)
-      hit-rises = members-rise t (agreesAt t marks kept (r .slot) b) (r .servers) (unfold membersAt in k .members) (hit-fits .1)
-
-      content : restoredBy real (shelf t) (marked marks) (repliesIn (shelf t) marks kept) (candidatesIn (shelf t) kept (suc (r .slot))) (suc b) (repliesIn (shelf t) marks kept (suc b) .share)
-          ≡ contentOf t kept b (take (shelf t .shares) (r .servers))
-      unfolding shareSize
-      content =
-          let f = shelf-fits t (u .low) (u .high) in
-          restored-members t marks kept (r .slot) (sha256 (candidatesIn (shelf t) kept (suc (r .slot)) .nonce)) refl b hit-small (hit-fits .0) (f .few)
-          (omega (arith, f .room (sizeIn (replySlotOf kept b)) (hit-full .top)))
-          ∙ ap (contentOf t kept b) (sym (k .members))
-
-      slot : slotOf (candidatesIn (shelf t) kept) (candidatesIn (shelf t) kept (suc (r .slot))) (shelf t .servers) ≡ r .slot
-      slot =
-          let z : suc (r .slot) + (shelf t .servers - suc (r .slot)) ≡ shelf t .servers = omega (arith, k .slot) in
-          sym (ap (slotOf (candidatesIn (shelf t) kept) (candidatesIn (shelf t) kept (suc (r .slot)))) z)
-          ∙ slot-of (candidatesIn (shelf t) kept) (r .slot) (k .listed) (shelf t .servers - suc (r .slot))
-
-      pub decided-found : decided t marks kept output
-          ≡ record {
-            answer = decisions.Found (r .slot) (suc b) (length (contentOf t kept b (take (shelf t .shares) (r .servers))));
-            output = over (contentOf t kept b (take (shelf t .shares) (r .servers))) output;
-          }
-      unfolding decidedOn leaderAt
-      decided-found =
-          chosen-on h (some (candidatesIn (shelf t) kept (suc (r .slot)))) (k .chosen) ∙ rw (k .leader, content, slot)
+    pub decided-found : (u : Usable t kept) (r : Choice) (b : ℕ) → blankRank < topAt t marks kept (shelf t .servers)
+        → Hit t marks kept (topAt t marks kept (shelf t .servers)) r b
+        → decided t marks kept output
+        ≡ record {
+          answer = decisions.Found (r .slot) (suc b) (length (contentOf t kept b (take (shelf t .shares) (r .servers))));
+          output = over (contentOf t kept b (take (shelf t .shares) (r .servers))) output;
+        }
+    unfolding decidedOn leaderAt
+    decided-found u r b h k =
+        let key : ℕ = topAt t marks kept (shelf t .servers) in
+        chosen-on h (some (candidatesIn (shelf t) kept (suc (r .slot)))) (k .chosen)
+        ∙ rw (k .leader, hit-content t marks kept u key r b k, hit-slot t marks kept u key r b k)

@@ -1,7 +1,7 @@
 -- The slots of the kept bytes: a part of a part is a part, comparing slots is comparing the stamps and candidates in them, and a stamp's rank is read off
 -- its first five bytes. Comparing needs bytes: numbers of four bytes tell them only then. Nothing else is assumed.
 use mathlib.Core.Path.{_≡_, refl, sym, ap, _∙_}
-use mathlib.Core.Bool.{Bool, true, false, _&&_}
+use mathlib.Core.Bool.{Bool, true, false, _&&_, and-assoc}
 use mathlib.Core.List.{List, [], _∷_, _++_}
 use Prim.Native.Nat.{ℕ, zero, suc, _+_, _-_, _*_, _≤_, _<_}
 use native.Mathlib.Omega.{arith}
@@ -17,6 +17,8 @@ use Rattle.protocol.specs.View.{keptSize, part, stampAt, candidateAt, heldAt, c
 use Rattle.protocol.proofs.Formats.{print4-value}
 use Rattle.protocol.proofs.Equal.{same-printed}
 use Rattle.decide.specs.Steps.{rank, rankAt}
+use Rattle.hmac.specs.Hmac.{tagSize}
+use Rattle.cluster.specs.Ranges.{mostServers}
 
 -- ---- parts
 
@@ -58,10 +60,6 @@ bytes-part d at n h i = go (ltb i n) refl
 
 -- ---- comparing
 
-pub and-assoc : (p q r : Bool) → ((p && q) && r) ≡ (p && (q && r))
-and-assoc true q r = refl
-and-assoc false q r = refl
-
 pub same-append : (a b c d : List ℕ) → length a ≡ length c → sameList (a ++ b) (c ++ d) ≡ (sameList a c && sameList b d)
 same-append [] b [] d h = refl
 same-append [] b (y ∷ ys) d h = absurd (omega arith)
@@ -77,18 +75,18 @@ same-parts a b p q n m h k =
     ∙ same-append (part a p n) (part a (p + n) m) (part b q n) (part b (q + n) m) (part-length a p n h ∙ sym (part-length b q n k))
 
 -- a stamp of bytes is printed as it was read
-stamp-bytes : (d : List ℕ) → Bytes d → stampSize ≤ length d → stampF .print (stampAt d) ≡ part d 0 stampSize
+pub stamp-bytes : (d : List ℕ) → Bytes d → 5 ≤ length d → stampF .print (stampAt d) ≡ part d 0 stampSize
 unfolding stampAt part stampF via seq number4 byte run
 stamp-bytes [] b h = absurd (omega arith)
 stamp-bytes (x ∷ []) b h = absurd (omega arith)
 stamp-bytes (x ∷ y ∷ []) b h = absurd (omega arith)
 stamp-bytes (x ∷ y ∷ z ∷ []) b h = absurd (omega arith)
 stamp-bytes (x ∷ y ∷ z ∷ u ∷ []) b h = absurd (omega arith)
-stamp-bytes (x ∷ y ∷ z ∷ u ∷ w ∷ r) b h = ap (λ (l : List ℕ). l ++ (w ∷ take 32 r)) (print4-value x y z u (b 1) (b 2) (b 3))
+stamp-bytes (x ∷ y ∷ z ∷ u ∷ w ∷ r) b h = ap (λ (l : List ℕ). l ++ (w ∷ take tagSize r)) (print4-value x y z u (b 1) (b 2) (b 3))
 
 pub same-stamps : (a b : List ℕ) → Bytes a → Bytes b → stampSize ≤ length a → stampSize ≤ length b
     → sameList (part a 0 stampSize) (part b 0 stampSize) ≡ sameStamp (stampAt a) (stampAt b)
-same-stamps a b p q h k = rw (← stamp-bytes a p h, ← stamp-bytes b q k) (same-printed (stampAt a) (stampAt b))
+same-stamps a b p q h k = rw (← stamp-bytes a p (omega arith), ← stamp-bytes b q (omega arith)) (same-printed (stampAt a) (stampAt b))
 
 -- the same, of the first bytes as the code takes them
 pub same-heads : (a b : List ℕ) → Bytes a → Bytes b → stampSize ≤ length a → stampSize ≤ length b
@@ -109,14 +107,14 @@ same-candidates s a b p q h k =
 
 -- ---- slots
 
-pub candidate-in : (s : Config) (kept : List ℕ) (i : ℕ) → i < 13
+pub candidate-in : (s : Config) (kept : List ℕ) (i : ℕ) → i < mostServers
     → candidatesIn s kept (suc i) ≡ candidateAt s (part kept (candidatesAt + candidateSlot * i) candidateSlot)
 unfolding candidatesIn
-candidate-in s kept i h = rw (lt-ltb i 13 h)
+candidate-in s kept i h = rw (lt-ltb i mostServers h)
 
-pub reply-in : (s : Config) (ms kept : List ℕ) (i : ℕ) → i < 13 → marked ms (suc i) ≡ true → repliesIn s ms kept (suc i) ≡ heldAt s (replySlotOf kept i)
+pub reply-in : (s : Config) (ms kept : List ℕ) (i : ℕ) → i < mostServers → marked ms (suc i) ≡ true → repliesIn s ms kept (suc i) ≡ heldAt s (replySlotOf kept i)
 unfolding repliesIn
-reply-in s ms kept i h e = rw (lt-ltb i 13 h, e)
+reply-in s ms kept i h e = rw (lt-ltb i mostServers h, e)
 
 -- the rank of a stamp in a slot
 pub stamp-rank : (d : List ℕ) (at n : ℕ) → 5 ≤ n → rank (stampAt (part d at n)) ≡ rankAt d at
@@ -126,7 +124,7 @@ stamp-rank d at n h =
     (let e : at + 0 ≡ at = omega arith in rw e)
 
 -- two slots of candidates, compared by as many bytes as a candidate has
-pub same-slots : (s : Config) (kept : List ℕ) (i j : ℕ) → s .servers ≤ 13 → Bytes kept → length kept ≡ keptSize → i < 13 → j < 13
+pub same-slots : (s : Config) (kept : List ℕ) (i j : ℕ) → s .servers ≤ mostServers → Bytes kept → length kept ≡ keptSize → i < mostServers → j < mostServers
     → sameList (part kept (candidatesAt + candidateSlot * i) (candidateSize s)) (part kept (candidatesAt + candidateSlot * j) (candidateSize s))
     ≡ sameCandidate (candidatesIn s kept (suc i)) (candidatesIn s kept (suc j))
 same-slots s kept i j few b l h k =
@@ -140,13 +138,13 @@ same-slots s kept i j few b l h k =
     (same-candidates s (part kept n candidateSlot) (part kept m candidateSlot) (bytes-part kept n candidateSlot b) (bytes-part kept m candidateSlot b)
     (omega (arith, part-length kept n candidateSlot (omega arith))) (omega (arith, part-length kept m candidateSlot (omega arith))))
 
-pub nonce-in : (s : Config) (kept : List ℕ) (i : ℕ) → i < 13
+pub nonce-in : (s : Config) (kept : List ℕ) (i : ℕ) → i < mostServers
     → candidatesIn s kept (suc i) .nonce ≡ part kept (candidatesAt + candidateSlot * i + stampSize) nonceSize
 unfolding candidateAt
 nonce-in s kept i h =
     ap (λ (c : Candidate). c .nonce) (candidate-in s kept i h) ∙ part-part kept (candidatesAt + candidateSlot * i) candidateSlot stampSize nonceSize (omega arith)
 
-pub candidate-tags : (s : Config) (kept : List ℕ) (i : ℕ) → i < 13 → s .servers ≤ 13
+pub candidate-tags : (s : Config) (kept : List ℕ) (i : ℕ) → i < mostServers → s .servers ≤ mostServers
     → candidatesIn s kept (suc i) .tags ≡ part kept (candidatesAt + candidateSlot * i + (stampSize + nonceSize)) (tagsSize s)
 unfolding candidateAt
 candidate-tags s kept i h few =

@@ -66,7 +66,7 @@ unfolding stampAt
 stamp-writer d at n b = bytes-part d at n b 4
 
 module _ (s : Config) (kept : List ℕ) where
-  pub candidate-rank : (i : ℕ) → i < 13 → rank (candidatesIn s kept (suc i) .stamp) ≡ rankAt kept (candidatesAt + candidateSlot * i)
+  pub candidate-rank : (i : ℕ) → i < mostServers → rank (candidatesIn s kept (suc i) .stamp) ≡ rankAt kept (candidatesAt + candidateSlot * i)
   unfolding candidateAt
   candidate-rank i h = ap (λ (c : Candidate). rank (c .stamp)) (candidate-in s kept i h) ∙ stamp-rank kept (candidatesAt + candidateSlot * i) candidateSlot (omega arith)
 
@@ -80,7 +80,7 @@ module _ (s : Config) (kept : List ℕ) where
       go false = omega arith
 
   module _ (ms : List ℕ) where
-    pub reply-rank : (i : ℕ) → i < 13 → marked ms (suc i) ≡ true → rank (repliesIn s ms kept (suc i) .stamp) ≡ rankAt kept (repliesAt + replySlot * i)
+    pub reply-rank : (i : ℕ) → i < mostServers → marked ms (suc i) ≡ true → rank (repliesIn s ms kept (suc i) .stamp) ≡ rankAt kept (repliesAt + replySlot * i)
     unfolding heldAt replySlotOf
     reply-rank i h e = ap (λ (x : Held). rank (x .stamp)) (reply-in s ms kept i h e) ∙ stamp-rank kept (repliesAt + replySlot * i) replySlot (omega arith)
 
@@ -94,7 +94,7 @@ module _ (s : Config) (kept : List ℕ) where
         go false = omega arith
 
     -- a lower reply, as it is read
-    pub below-slot : (key i : ℕ) → i < 13
+    pub below-slot : (key i : ℕ) → i < mostServers
         → ranksBelow (marked ms) (repliesIn s ms kept) key (suc i) ≡ (not (eqb (getD ms i 0) 0) && ltb (rankAt kept (repliesAt + replySlot * i)) key)
     unfolding marked
     below-slot key i h = go (not (eqb (getD ms i 0) 0)) refl

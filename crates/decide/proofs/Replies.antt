@@ -1,7 +1,7 @@
 -- A reply's slot read by place: its share's fields stand one after the other past the stamp and the byte, so that naming a candidate, having its own digest
 -- and agreeing with another reply are comparisons of parts of slots. Stamps are compared by their bytes. Nothing is assumed.
 use mathlib.Core.Path.{_≡_, refl, sym, ap, _∙_, subst}
-use mathlib.Core.Bool.{Bool, true, false, _&&_}
+use mathlib.Core.Bool.{Bool, true, false, _&&_, and-assoc, and-false}
 use mathlib.Core.List.{List}
 use mathlib.Core.Option.{Option, some}
 use Prim.Native.Nat.{ℕ, suc, _+_, _-_, _*_, _≤_, _<_}
@@ -11,19 +11,18 @@ use lib.ListN.{length, take, drop, getD}
 use lib.Seq.{drop-drop, getD-drop}
 use borrow.Author.Tests.{leb-true, le-leb, lt-leb, eq-eqb, ne-eqb}
 use Rattle.cluster.specs.Config.{Config, shelf}
-use Rattle.cluster.specs.Ranges.{within, leastLength, topLength}
+use Rattle.cluster.specs.Ranges.{within, leastLength, topLength, mostServers}
+use Rattle.cluster.proofs.Tests.{and-both}
 use Rattle.sha256.specs.Sha256.{sha256}
 use Rattle.erasure.specs.Fragments.{fragmentSize}
 use Rattle.protocol.specs.Format.{value2}
 use Rattle.protocol.specs.Values.{Candidate, Share, sameList, sameStamp, nth, stampSize, digestSize, digestsSize, tagsSize}
 use Rattle.protocol.specs.Primitives.{real}
 use Rattle.protocol.specs.Rules.{sameShare}
-use Rattle.protocol.specs.View.{part, stampAt, candidateAt, shareOfSize, shareAt, heldAt, repliesAt, replySlot, replySlotOf}
-use Rattle.protocol.proofs.Answers.{and-on}
-use Rattle.protocol.proofs.Equal.{and-off}
+use Rattle.protocol.specs.View.{part, stampAt, candidateAt, shareOfSize, shareAt, heldAt, repliesAt, replySlot, replySlotOf, keptSize}
 use Rattle.decide.specs.Decided.{shareOf}
 use Rattle.decide.specs.Steps.{namesShare, names, intact, Full}
-use Rattle.decide.proofs.Places.{part-part, and-assoc, same-parts}
+use Rattle.decide.proofs.Places.{part-part, same-parts, part-of, part-length}
 
 -- the length in a reply
 abbrev pub sizeIn : List ℕ → ℕ
@@ -35,7 +34,7 @@ digestsIn s d = stampSize + 3 + fragmentSize (s .shares) (sizeIn d)
 
 named-range : (x : List ℕ) (h : Share) → namesShare x (some h) ≡ true → (leastLength ≤ h .size) × (h .size ≤ topLength)
 named-range x h e =
-    let w = and-on (leb leastLength (h .size)) (leb (h .size) topLength) (and-on (within leastLength topLength (h .size)) (sameList (h .nonceDigest) x) e .0) in
+    let w = and-both (leb leastLength (h .size)) (leb (h .size) topLength) (and-both (within leastLength topLength (h .size)) (sameList (h .nonceDigest) x) e .0) in
     (leb-true leastLength (h .size) (w .0), leb-true (h .size) topLength (w .1))
 
 -- an entry of a run within the slot
@@ -77,7 +76,7 @@ module _ (s : Config) (d : List ℕ) where
 
   pub names-none : (c : Candidate) (x : List ℕ) → eqb (getD d stampSize 0) 0 ≡ true → names c x (heldAt s d) ≡ false
   unfolding names heldAt
-  names-none c x h = rw h (and-off (sameStamp (stampAt d) (c .stamp)))
+  names-none c x h = rw h (and-false (sameStamp (stampAt d) (c .stamp)))
 
   module _ (e x : List ℕ) where
     names-some : eqb (getD d stampSize 0) 0 ≡ false
@@ -90,12 +89,12 @@ module _ (s : Config) (d : List ℕ) where
 
     -- by the tests that fail, or by the last one
     pub names-short : eqb (getD d stampSize 0) 0 ≡ false → sizeIn d < leastLength → names (candidateAt s e) x (heldAt s d) ≡ false
-    names-short h l = names-some h ∙ rw (lt-leb leastLength (sizeIn d) l) (and-off (sameStamp (stampAt d) (stampAt e)))
+    names-short h l = names-some h ∙ rw (lt-leb leastLength (sizeIn d) l) (and-false (sameStamp (stampAt d) (stampAt e)))
 
     pub names-long : eqb (getD d stampSize 0) 0 ≡ false → topLength < sizeIn d → names (candidateAt s e) x (heldAt s d) ≡ false
     names-long h l =
         names-some h
-        ∙ rw (lt-leb (sizeIn d) topLength l, and-off (leb leastLength (sizeIn d))) (and-off (sameStamp (stampAt d) (stampAt e)))
+        ∙ rw (lt-leb (sizeIn d) topLength l, and-false (leb leastLength (sizeIn d))) (and-false (sameStamp (stampAt d) (stampAt e)))
 
     pub names-other : eqb (getD d stampSize 0) 0 ≡ false → sameStamp (stampAt d) (stampAt e) ≡ false → names (candidateAt s e) x (heldAt s d) ≡ false
     names-other h q = names-some h ∙ rw q
@@ -112,7 +111,7 @@ module _ (s : Config) (d : List ℕ) where
       go : (y : Bool) → eqb (getD d stampSize 0) 0 ≡ y → Full d
       go true e = absurd (subst T (sym h ∙ names-none c x e) tt)
       go false e =
-          let k = and-on (sameStamp (stampAt d) (c .stamp)) (namesShare x (heldAt s d .share)) h in
+          let k = and-both (sameStamp (stampAt d) (c .stamp)) (namesShare x (heldAt s d .share)) h in
           let w = named-range x (shareOfSize s (sizeIn d) (drop (stampSize + 1) d)) (subst (λ (z : Option Share). namesShare x z ≡ true) (held-share e) (k .1)) in
           record { flag = e; least = w .0; top = w .1 }
 
@@ -123,15 +122,23 @@ module _ (s : Config) (d : List ℕ) where
   intact-in f j h =
       rw (held-share (f .flag), fragment-in (sizeIn d), digests-in (sizeIn d), nth-part d (digestsIn s d) (digestsSize s) digestSize j (omega arith))
 
+-- ---- a slot in the kept bytes
+
+-- as the code lends it
+abbrev pub lentSlot : List ℕ → ℕ → List ℕ
+lentSlot kept j = take (repliesAt + replySlot * j + replySlot - (repliesAt + replySlot * j)) (drop (repliesAt + replySlot * j) kept)
+
+pub slot-lent : (kept : List ℕ) (j : ℕ) → lentSlot kept j ≡ replySlotOf kept j
+unfolding replySlotOf
+slot-lent kept j = part-of kept (repliesAt + replySlot * j) replySlot
+
+pub lent-length : (kept : List ℕ) (j : ℕ) → length kept ≡ keptSize → j < mostServers → length (lentSlot kept j) ≡ replySlot
+lent-length kept j l h = ap length (part-of kept (repliesAt + replySlot * j) replySlot) ∙ part-length kept (repliesAt + replySlot * j) replySlot (omega arith)
+
 -- a part of a slot, and the share in a slot
 pub slot-part : (kept : List ℕ) (j p n : ℕ) → p + n ≤ replySlot → part (replySlotOf kept j) p n ≡ part kept (repliesAt + replySlot * j + p) n
 unfolding replySlotOf
 slot-part kept j p n h = part-part kept (repliesAt + replySlot * j) replySlot p n h
-
-share-sized : (t : ℕ) (kept : List ℕ) (j : ℕ)
-    → shareOf t kept (suc j) ≡ shareOfSize (shelf t) (shareOf t kept (suc j) .size) (drop (stampSize + 1) (replySlotOf kept j))
-unfolding shareOf shareAt shareOfSize
-share-sized t kept j = let z : suc j - 1 ≡ j = omega arith in rw z
 
 pub share-in : (t : ℕ) (kept : List ℕ) (j : ℕ)
     → shareOf t kept (suc j) ≡ shareOfSize (shelf t) (sizeIn (replySlotOf kept j)) (drop (stampSize + 1) (replySlotOf kept j))
@@ -140,6 +147,10 @@ share-in t kept j =
     let z : suc j - 1 ≡ j = omega arith in
     rw (z, getD-drop (stampSize + 1) (replySlotOf kept j) 0 0, getD-drop (stampSize + 1) (replySlotOf kept j) 1 0)
 
+pub share-size : (t : ℕ) (kept : List ℕ) (j : ℕ) → shareOf t kept (suc j) .size ≡ sizeIn (replySlotOf kept j)
+unfolding shareOfSize
+share-size t kept j = ap (λ (h : Share). h .size) (share-in t kept j)
+
 -- the tags of a reply in the kept bytes
 pub reply-tags : (t : ℕ) (kept : List ℕ) (j n at : ℕ) → n ≡ shareOf t kept (suc j) .size
     → at ≡ repliesAt + replySlot * j + (stampSize + 3 + fragmentSize (shelf t .shares) n + digestsSize (shelf t) + digestSize)
@@ -147,7 +158,7 @@ pub reply-tags : (t : ℕ) (kept : List ℕ) (j n at : ℕ) → n ≡ shareOf t 
     → shareOf t kept (suc j) .tags ≡ part kept at (tagsSize (shelf t))
 reply-tags t kept j n at e q l =
     let w : shareOf t kept (suc j) ≡ shareOfSize (shelf t) n (drop (stampSize + 1) (replySlotOf kept j)) =
-    share-sized t kept j ∙ ap (λ (x : ℕ). shareOfSize (shelf t) x (drop (stampSize + 1) (replySlotOf kept j))) (sym e) in
+    share-in t kept j ∙ ap (λ (x : ℕ). shareOfSize (shelf t) x (drop (stampSize + 1) (replySlotOf kept j))) (sym (e ∙ share-size t kept j)) in
     let p : part (replySlotOf kept j) (stampSize + 3 + fragmentSize (shelf t .shares) n + digestsSize (shelf t) + digestSize) (tagsSize (shelf t)) ≡ part kept (repliesAt + replySlot * j + (stampSize + 3 + fragmentSize (shelf t .shares) n + digestsSize (shelf t) + digestSize)) (tagsSize (shelf t)) =
     slot-part kept j (stampSize + 3 + fragmentSize (shelf t .shares) n + digestsSize (shelf t) + digestSize) (tagsSize (shelf t)) l in
     ap (λ (h : Share). h .tags) w ∙ tags-in (shelf t) (replySlotOf kept j) n

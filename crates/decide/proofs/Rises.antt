@@ -2,7 +2,7 @@
 -- Nothing is assumed.
 use mathlib.Core.Path.{_≡_, refl, sym, ap, _∙_}
 use mathlib.Core.Bool.{Bool, true, false, cond, _||_}
-use mathlib.Core.List.{List, [], _∷_, _++_, map, append-nil}
+use mathlib.Core.List.{List, [], _∷_, _++_, map, append-nil, map-append}
 use Prim.Native.Nat.{ℕ, zero, suc, _*_, _≤_, _<_}
 use native.Mathlib.Omega.{arith}
 use lib.Dec.{ltb, eqb}
@@ -83,10 +83,6 @@ places-length : (n : ℕ) → length (places n) ≡ n
 unfolding places
 places-length zero = refl
 places-length (suc n) = omega (arith, length-append (places n) (n ∷ []), places-length n)
-
-map-append : {A B : Type 0} (f : A → B) (xs ys : List A) → map f (xs ++ ys) ≡ map f xs ++ map f ys
-map-append f [] ys = refl
-map-append f (x ∷ xs) ys = ap (λ z. f x ∷ z) (map-append f xs ys)
 
 among-append : (s : ℕ) (xs ys : List ℕ) → among s (xs ++ ys) ≡ (among s xs || among s ys)
 unfolding among

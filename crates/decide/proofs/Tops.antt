@@ -1,7 +1,7 @@
 -- The highest rank that stays decides: no live candidate is left where it is the blank one, and the highest live candidates are those of that rank.
 -- A rank is below it where some live candidate's is higher: by induction on the servers; a twin raises nothing, since its rank was passed. Nothing is assumed.
 use mathlib.Core.Path.{_≡_, refl, sym, ap, _∙_, subst}
-use mathlib.Core.Bool.{Bool, true, false, cond, _&&_, _||_}
+use mathlib.Core.Bool.{Bool, true, false, cond, _&&_, _||_, or-true, and-false, or-false}
 use mathlib.Core.List.{List, [], _∷_, _++_}
 use Prim.Native.Nat.{ℕ, zero, suc, _≤_, _<_}
 use native.Mathlib.Omega.{arith}
@@ -11,12 +11,12 @@ use Rattle.cluster.specs.Config.{Config, quorum}
 use Rattle.protocol.specs.Values.{Candidate, Held, sameCandidate, isBlank, below}
 use Rattle.protocol.specs.Primitives.{real}
 use Rattle.protocol.specs.Rules.{ByServer, countTo, any, keep, gather, lower}
-use Rattle.protocol.proofs.Equal.{test-ext, and-off, candidate-same}
+use Rattle.protocol.proofs.Equal.{test-ext, candidate-same}
 use Rattle.decide.specs.Listing.{enters}
 use Rattle.decide.specs.Steps.{rank, blankRank, ranksBelow, stays, raised, topRank}
 use Rattle.decide.proofs.Ranks.{below-rank}
 use Rattle.decide.proofs.Counted.{count-ext}
-use Rattle.decide.proofs.Gathered.{any-append, or-true, or-false, gather-more, entered}
+use Rattle.decide.proofs.Gathered.{any-append, gather-more, entered}
 
 pub keep-append : {A : Type 0} (p : A → Bool) (xs ys : List A) → keep p (xs ++ ys) ≡ keep p xs ++ keep p ys
 unfolding keep
@@ -58,7 +58,7 @@ any-true [] e = refl
 any-true (x ∷ xs) e = absurd (subst T e tt)
 
 pub raise-law : (x top key : ℕ) (b : Bool) → ltb x (cond (ltb top key && b) key top) ≡ (ltb x top || (b && ltb x key))
-raise-law x top key false = rw (and-off (ltb top key)) (sym (or-false (ltb x top)))
+raise-law x top key false = rw (and-false (ltb top key)) (sym (or-false (ltb x top)))
 raise-law x top key true = go (ltb top key) refl
   where
     go : (y : Bool) → ltb top key ≡ y → ltb x (cond (y && true) key top) ≡ (ltb x top || ltb x key)

@@ -127,7 +127,7 @@ pub record MembersAs (t : ℕ) (marks kept : List ℕ) (i b : ℕ) (r : Members)
   pub count : r .count ≡ length (membersAt t marks kept i b)
   pub these : take (r .count) (r .servers) ≡ membersAt t marks kept i b
 
--- the server is that of slot b, with its members, where `led` holds; else 0
+-- the server n, or 0; where it is that of slot b, the members of its group
 pub record GroupAs (t : ℕ) (marks kept : List ℕ) (i n : ℕ) (r : Group) : Type 0 where
   pub server : r .server ≡ n
   pub these : (b : ℕ) → n ≡ suc b → take (shelf t .shares) (r .servers) ≡ membersAt t marks kept i b

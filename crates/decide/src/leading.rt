@@ -126,6 +126,16 @@ pub(crate) fn members_of(
     }
 }
 
+// No server leads.
+fn no_group() -> Group
+    ensures { λ r. ⌜ r .server ≡ 0 ⌝ }
+{
+    Group {
+        server: 0,
+        servers: [0; cluster::MOST_SERVERS],
+    }
+}
+
 // Slot b's group, where it leads one.
 pub(crate) fn group_of(
     kept: &[u8],
@@ -139,17 +149,11 @@ pub(crate) fn group_of(
     ensures { λ r. ⌜ GroupAs t marks (now (kept .entry)) i (cond (leadsAt t marks (now (kept .entry)) i b) (suc b) 0) r ⌝ }
 {
     if !fits(kept, marks, t, i, d, b) {
-        return Group {
-            server: 0,
-            servers: [0; cluster::MOST_SERVERS],
-        };
+        return no_group();
     }
     let m = members_of(kept, marks, t, i, d, b);
     if m.count < shares(t) {
-        return Group {
-            server: 0,
-            servers: [0; cluster::MOST_SERVERS],
-        };
+        return no_group();
     }
     let servers = m.servers;
     Group {
@@ -174,10 +178,7 @@ pub(crate) fn leader(kept: &[u8], marks: [u8; cluster::MOST_SERVERS], t: usize, 
         }
         b += 1;
     }
-    Group {
-        server: 0,
-        servers: [0; cluster::MOST_SERVERS],
-    }
+    no_group()
 }
 
 // The same, where slot i is listed and has this rank; else none.
@@ -192,16 +193,10 @@ pub(crate) fn tried(
     ensures { λ r. ⌜ GroupAs t marks (now (kept .entry)) i (cond (triedAt t (now (kept .entry)) key i) (leaderAt t marks (now (kept .entry)) i (shelf t .servers)) 0) r ⌝ }
 {
     if rank_at(kept, CANDIDATES + CANDIDATE_SLOT * i) != key {
-        return Group {
-            server: 0,
-            servers: [0; cluster::MOST_SERVERS],
-        };
+        return no_group();
     }
     if entry(kept, t, i) == 0 {
-        return Group {
-            server: 0,
-            servers: [0; cluster::MOST_SERVERS],
-        };
+        return no_group();
     }
     leader(kept, marks, t, i)
 }

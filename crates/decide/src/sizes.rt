@@ -17,7 +17,7 @@ pub(crate) fn servers(t: usize) -> usize
     requires { ⌜ t ≤ topFaults ⌝ }
     ensures { λ r. ⌜ (r ≡ shelf t .servers) × (r ≡ 3 * t + 1) ⌝ }
 {
-    wire::sizes::servers(t as u8)
+    cluster::servers(t as u8)
 }
 
 // How many fragments give a content back.
@@ -25,7 +25,7 @@ pub(crate) fn shares(t: usize) -> usize
     requires { ⌜ t ≤ topFaults ⌝ }
     ensures { λ r. ⌜ (r ≡ shelf t .shares) × (r ≡ t + 1) ⌝ }
 {
-    t + 1
+    cluster::shares(t as u8)
 }
 
 // The length of a fragment of a content of n bytes.

@@ -1,9 +1,9 @@
--- What a row shows of a beginning, and that a part is no longer than the whole. By cases. Assumes nothing.
-use mathlib.Core.Path.{_≡_, refl}
-use mathlib.Core.List.{List, [], _∷_}
+-- What a row shows of a beginning, and that the first of many copies are copies. By cases. Assumes nothing.
+use mathlib.Core.Path.{_≡_, refl, ap}
+use mathlib.Core.List.{List, _∷_}
 use Prim.Native.Nat.{ℕ, zero, suc, _+_, _≤_}
 use native.Mathlib.Omega.{arith}
-use lib.ListN.{length, take, drop, length-drop}
+use lib.ListN.{take, replicate}
 use Rattle.protocol.specs.View.{part}
 use Rattle.protocol.specs.Runs.{resultOf}
 use Rattle.drill.specs.Steps.{shown}
@@ -17,11 +17,13 @@ unfolding shown
 shown-refused zero h = absurd (h refl)
 shown-refused (suc n) h = refl
 
-take-less : (n : ℕ) (s : List ℕ) → length (take n s) ≤ length s
-take-less zero s = omega arith
-take-less (suc n) [] = omega arith
-take-less (suc n) (x ∷ xs) = let h = take-less n xs in omega arith
+-- ---- copies of a byte
 
-pub part-less : (s : List ℕ) (at n : ℕ) → length (part s at n) ≤ length s
+pub take-copies : (m n x : ℕ) → m ≤ n → take m (replicate n x) ≡ replicate m x
+take-copies zero n x h = refl
+take-copies (suc m) zero x h = absurd (omega arith)
+take-copies (suc m) (suc n) x h = ap (λ (z : List ℕ). x ∷ z) (take-copies m n x (omega arith))
+
+pub part-copies : (m n x : ℕ) → m ≤ n → part (replicate n x) 0 m ≡ replicate m x
 unfolding part
-part-less s at n = let h = take-less n (drop at s) in omega (arith, length-drop at s)
+part-copies m n x h = take-copies m n x h

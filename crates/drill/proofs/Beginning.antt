@@ -10,6 +10,7 @@ use lib.ListN.{length, replicate}
 use borrow.Author.Tests.{eq-eqb, eqb-true, eqb-false}
 use Rattle.cluster.specs.Config.{shelf}
 use Rattle.cluster.specs.Ranges.{within, topFaults, topClient, memorySize}
+use Rattle.cluster.proofs.Tests.{within-bounds}
 use Rattle.protocol.specs.View.{keptSize}
 use Rattle.protocol.specs.Memory.{encodeMemory, blankMemory}
 use Rattle.protocol.specs.ServerBytes.{blankRefusal, blankStep}
@@ -21,7 +22,6 @@ use Rattle.state.specs.State.{callAt, tallyAt, marksAt, lengthAt}
 use Rattle.drill.specs.Listing.{workSize}
 use Rattle.drill.specs.Steps.{drillShelf, start}
 use Rattle.drill.specs.Area.{clientAt, keptAt, callIn, keptIn, memoryIn, putMemory, Stands, BlanksAs}
-use Rattle.drill.proofs.Standing.{range}
 use Rattle.drill.proofs.Slots.{memory-size}
 use Rattle.drill.proofs.Memories.{few-servers, memory-here, memory-other, call-other, kept-other, put-memory-size}
 use Rattle.drill.proofs.Visiting.{inside}
@@ -50,17 +50,17 @@ ready-none t w s e =
       size = s;
       low = omega arith;
       high = omega arith;
-      calls = λ c h. ap (λ (z : List ℕ). callIn z c) e ∙ zero-call (length w) s c (range 1 topClient c h);
-      kept = λ c h. ap (λ (z : List ℕ). keptIn z c) e ∙ zero-kept (length w) s c (range 1 topClient c h);
+      calls = λ c h. ap (λ (z : List ℕ). callIn z c) e ∙ zero-call (length w) s c (within-bounds 1 topClient c h);
+      kept = λ c h. ap (λ (z : List ℕ). keptIn z c) e ∙ zero-kept (length w) s c (within-bounds 1 topClient c h);
       memory = λ i h k. absurd (omega arith);
     }
 
-blank-made : (t b : ℕ) (d : List ℕ) → (1 ≤ t) × (t ≤ 4) → (1 ≤ b) × (b ≤ shelf t .servers) → length d ≡ memorySize
+blank-made : (t b : ℕ) (d : List ℕ) → (1 ≤ t) × (t ≤ topFaults) → (1 ≤ b) × (b ≤ shelf t .servers) → length d ≡ memorySize
     → blankStep d t b .memory ≡ encodeMemory (blankMemory t b)
 unfolding blankStep blankRefusal
 blank-made t b d ht hb l = rw (eq-eqb (length d) memorySize l, inside 1 topFaults t ht, inside 1 (shelf t .servers) b hb)
 
-pub ready-more : (t b : ℕ) (w v : List ℕ) → (1 ≤ t) × (t ≤ 4) → b ≤ shelf t .servers → Ready t b w → BlanksAs (blankStep (memoryIn w b) t b) w b v → Ready t (b + 1) v
+pub ready-more : (t b : ℕ) (w v : List ℕ) → (1 ≤ t) × (t ≤ topFaults) → b ≤ shelf t .servers → Ready t b w → BlanksAs (blankStep (memoryIn w b) t b) w b v → Ready t (b + 1) v
 ready-more t b w v ht hb r e =
     let h = few-servers t b (ht .1) (r .low, hb) in
     let m = blankStep (memoryIn w b) t b .memory in
@@ -91,5 +91,5 @@ ready-all t b w h r =
       size = r .size;
       calls = r .calls;
       kept = r .kept;
-      memory = λ i k. let (a, z) = range 1 (shelf t .servers) i k in r .memory i a (omega arith);
+      memory = λ i k. let (a, z) = within-bounds 1 (shelf t .servers) i k in r .memory i a (omega arith);
     }

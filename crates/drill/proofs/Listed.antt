@@ -48,7 +48,7 @@ module _ (s d : List ℕ) (end : ℕ) (e : EndsAt s 0 end) where
     unfolding listing listed
     lists-103 {f} h p = one-row 1 103 (rw (e .first, o, h)) p
 
-    pub lists-rows : {f : List ℕ} {n : ℕ} → (1 ≤ l .client) × (l .client ≤ 4) → RowsAs (l .client) (lines (drop (nextAt s end) s)) d f n → ListsAs s d f n
+    pub lists-rows : {f : List ℕ} {n : ℕ} → (1 ≤ l .client) × (l .client ≤ topFaults) → RowsAs (l .client) (lines (drop (nextAt s end) s)) d f n → ListsAs s d f n
     unfolding listing listed
     lists-rows {f} {n} h r =
         let k = inside 1 topFaults (l .client) h in

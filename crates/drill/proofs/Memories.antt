@@ -10,7 +10,8 @@ use lib.Dec.{eqb}
 use lib.ListN.{length}
 use borrow.Author.Tests.{eqb-true, eqb-false}
 use Rattle.cluster.specs.Config.{shelf}
-use Rattle.cluster.specs.Ranges.{within, mostServers, memorySize}
+use Rattle.cluster.specs.Ranges.{within, mostServers, memorySize, topFaults}
+use Rattle.cluster.proofs.Tests.{within-bounds}
 use Rattle.protocol.specs.View.{part, keptSize}
 use Rattle.protocol.specs.ClientBytes.{put}
 use Rattle.protocol.specs.Rules.{upd}
@@ -21,7 +22,6 @@ use Rattle.protocol.proofs.Places.{part-same, part-above, part-other, slots-apa
 use Rattle.state.specs.State.{stateSize, callAt}
 use Rattle.drill.specs.Listing.{workSize}
 use Rattle.drill.specs.Area.{serverAt, clientAt, keptAt, callIn, keptIn, memoryIn, putMemory, Stands}
-use Rattle.drill.proofs.Standing.{range}
 
 other-server : (i b : ℕ) → 1 ≤ i → 1 ≤ b → i ≢ b → (serverAt i + memorySize ≤ serverAt b) ⊎ (serverAt b + memorySize ≤ serverAt i)
 unfolding serverAt
@@ -58,15 +58,15 @@ module _ (w : List ℕ) (b : ℕ) (h : (1 ≤ b) × (b ≤ mostServers)) (size :
   unfolding keptIn putMemory keptAt
   kept-other c = let z = before-clients c in part-above w (serverAt b) x memory-room (clientAt c + 64) keptSize (omega arith)
 
-pub few-servers : (t b : ℕ) → t ≤ 4 → (1 ≤ b) × (b ≤ shelf t .servers) → (1 ≤ b) × (b ≤ mostServers)
+pub few-servers : (t b : ℕ) → t ≤ topFaults → (1 ≤ b) × (b ≤ shelf t .servers) → (1 ≤ b) × (b ≤ mostServers)
 unfolding shelf
 few-servers t b h k = (k .0, omega arith)
 
-pub server-put : (t : ℕ) (w : List ℕ) (m : Machines) → t ≤ 4 → Stands t w m → (b : ℕ) → within 1 (shelf t .servers) b ≡ true → (x : List ℕ) → length x ≡ memorySize
+pub server-put : (t : ℕ) (w : List ℕ) (m : Machines) → t ≤ topFaults → Stands t w m → (b : ℕ) → within 1 (shelf t .servers) b ≡ true → (x : List ℕ) → length x ≡ memorySize
     → Stands t (putMemory w b x) (record { client = m .client; memory = upd (m .memory) b x })
 unfolding upd
 server-put t w m ht st b hb x l =
-    let h = few-servers t b ht (range 1 (shelf t .servers) b hb) in
+    let h = few-servers t b ht (within-bounds 1 (shelf t .servers) b hb) in
     record {
       size = put-memory-size w b h (st .size) x l;
       calls = λ c hc. call-other w b h (st .size) x l c ∙ st .calls c hc;
@@ -74,5 +74,5 @@ server-put t w m ht st b hb x l =
       memory = λ i hi.
           at-cond (eqb i b) x (m .memory i) (λ z. memoryIn (putMemory w b x) i ≡ z)
           (λ e. let q = eqb-true i b e in rw q (memory-here w b h (st .size) x l))
-          (λ e. memory-other w b h (st .size) x l i (range 1 (shelf t .servers) i hi .0) (eqb-false i b e) ∙ st .memory i hi);
+          (λ e. memory-other w b h (st .size) x l i (within-bounds 1 (shelf t .servers) i hi .0) (eqb-false i b e) ∙ st .memory i hi);
     }

@@ -16,10 +16,7 @@ use Rattle.wire.specs.Make.{placed}
 use Rattle.wire.proofs.Put.{placed-wrote}
 use Rattle.drill.specs.Sheet.{columnSize}
 use Rattle.drill.specs.Listing.{justified, columns, row, rowSize}
-
-take-spaces : (n : ℕ) → _≡_ {A = List ℕ} (take n (replicate (suc n) 32)) (replicate n 32)
-take-spaces zero = refl
-take-spaces (suc n) = ap (λ (z : List ℕ). 32 ∷ z) (take-spaces n)
+use Rattle.drill.proofs.Answers.{take-copies}
 
 -- i columns are left for the rest of the number v
 pub record Printing (v i rest : ℕ) (a : List ℕ) : Type 0 where
@@ -36,7 +33,7 @@ module _ (v j rest : ℕ) (a : List ℕ) (p : Printing v (suc j) rest a) where
   room = omega (arith, p .size, p .left)
 
   spaces-left : take j (set a j (48 + rest % 10)) ≡ replicate j 32
-  spaces-left = take-set-le j a j (48 + rest % 10) (omega arith) ∙ cut ∙ ap (take j) (p .front) ∙ take-spaces j
+  spaces-left = take-set-le j a j (48 + rest % 10) (omega arith) ∙ cut ∙ ap (take j) (p .front) ∙ take-copies j (suc j) 32 (omega arith)
     where
       cut : take j a ≡ take j (take (suc j) a)
       cut = sym (take-take j (suc j) a (omega arith))

@@ -20,10 +20,11 @@ use Rattle.protocol.proofs.Puts.{put-put, put-over, put-length}
 use Rattle.drill.specs.declared.sheet.Line.{Line}
 use Rattle.drill.specs.declared.shown.Shown.{Shown}
 use Rattle.protocol.specs.Format.{guard}
+use Rattle.protocol.specs.Client.{accepted}
 use Rattle.drill.specs.Sheet.{onSome, Text, lines, isStep, readText, stepLine}
 use Rattle.drill.specs.Reads.{textAt, EndsAt, nextAt}
 use Rattle.drill.specs.Listing.{rowSize, row, stepRow, lastRow, rows}
-use Rattle.drill.specs.Steps.{State, Stepped, drillShelf, nonceFor, start, isRefused, writeLine, stepOf, shown, roundOf}
+use Rattle.drill.specs.Steps.{State, Stepped, drillShelf, nonceFor, start, writeLine, stepOf, shown, roundOf}
 use Rattle.drill.specs.Area.{Stands}
 use Rattle.drill.specs.Moves.{StepsIn, RoundIn, RowIn, RowsAs}
 use Rattle.drill.proofs.Split.{next-drop, next-later}
@@ -42,7 +43,7 @@ row-in t k n l w v output at {printed} {k'} {round} {x} s r e =
     }
 
 -- a step begins one write at most
-one-more : (b : Bool) (k : ℕ) → cond b k (suc k) ≤ suc k
+one-more : (b : Bool) (k : ℕ) → cond b (suc k) k ≤ suc k
 one-more true k = omega arith
 one-more false k = omega arith
 
@@ -50,7 +51,7 @@ pub step-begun : (s : Shelf) (m : Machines) (k : ℕ) (l : Line) → stepOf s m 
 unfolding stepOf writeLine
 step-begun s m k l =
     at-cond (eqb (l .verb) 1) _ _ (λ (z : Stepped). z .state .begun ≤ suc k)
-    (λ e. one-more (isRefused (doBytes real s m (write (l .client) (replicate (l .length) (l .fill)) (nonceFor (suc k))) .result)) k)
+    (λ e. one-more (accepted (doBytes real s m (write (l .client) (replicate (l .length) (l .fill)) (nonceFor (suc k))) .result)) k)
     (λ e. at-cond (eqb (l .verb) 2) _ _ (λ (z : Stepped). z .state .begun ≤ suc k) (λ q. omega arith)
     (λ q. at-cond (eqb (l .verb) 3) _ _ (λ (z : Stepped). z .state .begun ≤ suc k) (λ q. omega arith)
     (λ q. at-cond (eqb (l .verb) 4) _ _ (λ (z : Stepped). z .state .begun ≤ suc k) (λ q. omega arith) (λ q. omega arith))))

@@ -6,17 +6,18 @@ use mathlib.Core.List.{List, [], append-nil}
 use mathlib.Core.Logic.{_≢_, _⊎_, inl, inr, ⊎-elim}
 use Prim.Native.Nat.{ℕ, _+_, _-_, _≤_}
 use native.Mathlib.Omega.{arith}
-use lib.Dec.{leb, eqb}
+use lib.Dec.{eqb}
 use lib.ListN.{length}
-use borrow.Author.Tests.{leb-true, eqb-true, eqb-false}
+use borrow.Author.Tests.{eqb-true, eqb-false}
 use Rattle.cluster.specs.Config.{shelf}
-use Rattle.cluster.specs.Ranges.{within, topClient, mostServers, memorySize}
+use Rattle.cluster.specs.Ranges.{within, topClient, mostServers, memorySize, topFaults}
+use Rattle.cluster.proofs.Tests.{within-bounds}
 use Rattle.protocol.specs.declared.Call.{Call}
 use Rattle.protocol.specs.View.{part, keptSize}
 use Rattle.protocol.specs.ClientBytes.{put}
 use Rattle.protocol.specs.Rules.{upd}
 use Rattle.protocol.specs.Runs.{Machine, Machines}
-use Rattle.protocol.proofs.Answers.{and-on, at-cond}
+use Rattle.protocol.proofs.Answers.{at-cond}
 use Rattle.protocol.proofs.Puts.{put-length}
 use Rattle.protocol.proofs.Places.{part-same, part-below, part-other, slots-apart}
 use Rattle.state.specs.State.{stateSize, callAt, callBytes}
@@ -24,21 +25,18 @@ use Rattle.state.proofs.Laws.{state-length, state-back}
 use Rattle.drill.specs.Listing.{workSize}
 use Rattle.drill.specs.Area.{serverAt, clientsAt, clientSlot, clientAt, keptAt, callIn, keptIn, memoryIn, putCall, putClient, Stands}
 
-pub range : (lo hi x : ℕ) → within lo hi x ≡ true → (lo ≤ x) × (x ≤ hi)
-range lo hi x e = let (a, b) = and-on (leb lo x) (leb x hi) e in (leb-true lo x a, leb-true x hi b)
-
 -- ---- places apart
 
 -- two clients' slots, from a place in each
 module _ (i c : ℕ) (hi : (1 ≤ i) × (i ≤ topClient)) (hc : (1 ≤ c) × (c ≤ topClient)) (d : i ≢ c) where
-  other-slot : (p n q m : ℕ) → p + n ≤ 65536 → q + m ≤ 65536 → (clientAt i + p + n ≤ clientAt c + q) ⊎ (clientAt c + q + m ≤ clientAt i + p)
+  other-slot : (p n q m : ℕ) → p + n ≤ clientSlot → q + m ≤ clientSlot → (clientAt i + p + n ≤ clientAt c + q) ⊎ (clientAt c + q + m ≤ clientAt i + p)
   unfolding clientAt
   other-slot p n q m h k =
       let e : i - 1 ≢ c - 1 = λ z. d (omega arith) in
-      ⊎-elim (λ x. inl (omega arith)) (λ x. inr (omega arith)) (slots-apart clientsAt clientSlot (c - 1) (i - 1) 65536 (omega arith) e)
+      ⊎-elim (λ x. inl (omega arith)) (λ x. inr (omega arith)) (slots-apart clientsAt clientSlot (c - 1) (i - 1) clientSlot (omega arith) e)
 
 -- a server's memory stands before every client
-below-clients : (t b c : ℕ) → t ≤ 4 → (1 ≤ b) × (b ≤ shelf t .servers) → serverAt b + memorySize ≤ clientAt c
+below-clients : (t b c : ℕ) → t ≤ topFaults → (1 ≤ b) × (b ≤ shelf t .servers) → serverAt b + memorySize ≤ clientAt c
 unfolding serverAt clientAt shelf
 below-clients t b c h k = omega arith
 
@@ -79,7 +77,7 @@ module _ (w : List ℕ) (c : ℕ) (hc : (1 ≤ c) × (c ≤ topClient)) (size : 
       let o = other-slot i c hi hc d 64 keptSize 0 (length (callBytes x)) (omega arith) (omega (arith, state-length x l)) in
       part-other w (clientAt c) (callBytes x) state-fits (clientAt i + 64) keptSize (rw y at o)
 
-  pub memory-there : (t b : ℕ) → t ≤ 4 → (1 ≤ b) × (b ≤ shelf t .servers) → memoryIn (putCall w c x) b ≡ memoryIn w b
+  pub memory-there : (t b : ℕ) → t ≤ topFaults → (1 ≤ b) × (b ≤ shelf t .servers) → memoryIn (putCall w c x) b ≡ memoryIn w b
   unfolding memoryIn putCall
   memory-there t b ht hb = part-below w (clientAt c) (callBytes x) state-fits (serverAt b) memorySize (below-clients t b c ht hb)
 
@@ -107,13 +105,13 @@ module _ (w : List ℕ) (c : ℕ) (hc : (1 ≤ c) × (c ≤ topClient)) (size : 
   unfolding keptIn keptAt
   kept-kept-there i hi d = part-other w (clientAt c + 64) k kept-room (clientAt i + 64) keptSize (other-slot i c hi hc d 64 keptSize 64 (length k) (omega arith) (omega arith))
 
-  pub memory-kept-there : (t b : ℕ) → t ≤ 4 → (1 ≤ b) × (b ≤ shelf t .servers) → memoryIn (put w (keptAt c) k) b ≡ memoryIn w b
+  pub memory-kept-there : (t b : ℕ) → t ≤ topFaults → (1 ≤ b) × (b ≤ shelf t .servers) → memoryIn (put w (keptAt c) k) b ≡ memoryIn w b
   unfolding memoryIn keptAt
   memory-kept-there t b ht hb = let z = below-clients t b c ht hb in part-below w (clientAt c + 64) k kept-room (serverAt b) memorySize (omega arith)
 
 -- ---- a party's place taken by what it holds after a step
 
-module _ (t : ℕ) (w : List ℕ) (m : Machines) (ht : t ≤ 4) (st : Stands t w m) where
+module _ (t : ℕ) (w : List ℕ) (m : Machines) (ht : t ≤ topFaults) (st : Stands t w m) where
   pub client-put : (c : ℕ) → (1 ≤ c) × (c ≤ topClient) → (x : Call) (k : List ℕ) → length (x .tally .marks) ≡ mostServers → length k ≡ keptSize
       → Stands t (putClient w c x k) (record { client = upd (m .client) c (record { call = x; kept = k }); memory = m .memory })
   unfolding putClient upd
@@ -127,18 +125,18 @@ module _ (t : ℕ) (w : List ℕ) (m : Machines) (ht : t ≤ 4) (st : Stands t w
             at-cond (eqb i c) n (m .client i) (λ z. callIn (putCall v c x) i ≡ z .call)
             (λ e. let q = eqb-true i c e in rw q (call-here v c hc sv x lx))
             (λ e.
-            let r = range 1 topClient i hi in
+            let r = within-bounds 1 topClient i hi in
             let d = eqb-false i c e in
             call-there v c hc sv x lx i r d ∙ call-kept-there w c hc (st .size) k lk i r d ∙ st .calls i hi);
         kept = λ i hi.
             at-cond (eqb i c) n (m .client i) (λ z. keptIn (putCall v c x) i ≡ z .kept)
             (λ e. let q = eqb-true i c e in rw q (kept-past v c hc sv x lx ∙ kept-here w c hc (st .size) k lk))
             (λ e.
-            let r = range 1 topClient i hi in
+            let r = within-bounds 1 topClient i hi in
             let d = eqb-false i c e in
             kept-there v c hc sv x lx i r d ∙ kept-kept-there w c hc (st .size) k lk i r d ∙ st .kept i hi);
         memory = λ b hb.
-            let r = range 1 (shelf t .servers) b hb in
+            let r = within-bounds 1 (shelf t .servers) b hb in
             memory-there v c hc sv x lx t b ht r ∙ memory-kept-there w c hc (st .size) k lk t b ht r ∙ st .memory b hb;
       }
 
@@ -147,19 +145,19 @@ module _ (t : ℕ) (w : List ℕ) (m : Machines) (ht : t ≤ 4) (st : Stands t w
       → Stands t (putCall w c x) (record { client = upd (m .client) c (record { call = x; kept = m .client c .kept }); memory = m .memory })
   unfolding upd
   call-put c hw x lx =
-      let hc = range 1 topClient c hw in
+      let hc = within-bounds 1 topClient c hw in
       let n : Machine = record { call = x; kept = m .client c .kept } in
       record {
         size = put-call-size w c hc (st .size) x lx;
         calls = λ i hi.
             at-cond (eqb i c) n (m .client i) (λ z. callIn (putCall w c x) i ≡ z .call)
             (λ e. let q = eqb-true i c e in rw q (call-here w c hc (st .size) x lx))
-            (λ e. call-there w c hc (st .size) x lx i (range 1 topClient i hi) (eqb-false i c e) ∙ st .calls i hi);
+            (λ e. call-there w c hc (st .size) x lx i (within-bounds 1 topClient i hi) (eqb-false i c e) ∙ st .calls i hi);
         kept = λ i hi.
             at-cond (eqb i c) n (m .client i) (λ z. keptIn (putCall w c x) i ≡ z .kept)
             (λ e. let q = eqb-true i c e in rw q (kept-past w c hc (st .size) x lx ∙ st .kept c hw))
-            (λ e. kept-there w c hc (st .size) x lx i (range 1 topClient i hi) (eqb-false i c e) ∙ st .kept i hi);
-        memory = λ b hb. memory-there w c hc (st .size) x lx t b ht (range 1 (shelf t .servers) b hb) ∙ st .memory b hb;
+            (λ e. kept-there w c hc (st .size) x lx i (within-bounds 1 topClient i hi) (eqb-false i c e) ∙ st .kept i hi);
+        memory = λ b hb. memory-there w c hc (st .size) x lx t b ht (within-bounds 1 (shelf t .servers) b hb) ∙ st .memory b hb;
       }
 
   -- nothing changes

@@ -1,25 +1,24 @@
 -- The steps of writes, reads and givings up in the work area: refused ones change nothing, the others put the client's new state at its place.
 -- By the order of the refusals. Assumes nothing.
-use mathlib.Core.Path.{_≡_, refl, ap, _∙_, subst}
-use mathlib.Core.Bool.{true, false, cond}
-use mathlib.Core.List.{List, _∷_}
-use Prim.Native.Nat.{ℕ, zero, suc, _+_, _≤_, _<_}
-use native.Mathlib.Omega.{arith}
+use mathlib.Core.Path.{_≡_, refl, sym, ap, _∙_, subst}
+use mathlib.Core.Bool.{Bool, true, false, not, cond}
+use mathlib.Core.List.{List}
+use Prim.Native.Nat.{ℕ, zero, suc, _+_, _≤_}
 use native.Mathlib.Numerals.{add-one}
-use lib.ListN.{length, replicate, take}
-use borrow.Author.Tests.{le-leb, lt-leb}
+use lib.ListN.{length, replicate}
+use borrow.Author.Tests.{not-true, not-false}
 use Rattle.cluster.specs.Config.{shelf}
 use Rattle.cluster.specs.Ranges.{within, topFaults, topWriter, topClient, leastLength, topLength}
+use Rattle.cluster.proofs.Tests.{within-bounds}
 use Rattle.protocol.specs.declared.Call.{Call}
 use Rattle.protocol.specs.declared.Aborted.{Aborted}
 use Rattle.protocol.specs.declared.Aborted.the-variants as aborts
 use Rattle.protocol.specs.Primitives.{real}
-use Rattle.protocol.specs.View.{part}
-use Rattle.protocol.specs.Client.{refused, writeRefusal, readRefusal, abortRefusal}
+use Rattle.protocol.specs.Client.{refused, writeRefusal, readRefusal, abortRefusal, accepted}
 use Rattle.protocol.specs.ClientBytes.{Begun, beginWrite, beginRead, giveUp}
 use Rattle.protocol.specs.Runs.{Machines, read, give-up, resultOf, abortedOut, doBytes, setMachine}
 use Rattle.drill.specs.declared.shown.Shown.{Shown}
-use Rattle.drill.specs.Steps.{drillShelf, nonceFor, isRefused, writeLine, shown}
+use Rattle.drill.specs.Steps.{drillShelf, nonceFor, writeLine, shown}
 use Rattle.drill.specs.Area.{writeIn, readIn, giveUpIn, Stands, BeginsAs, StopsAs}
 use Rattle.drill.specs.Moves.{DoneIn, StepsIn}
 use Rattle.drill.proofs.Standing.{client-put, call-put, nothing-put}
@@ -27,15 +26,17 @@ use Rattle.drill.proofs.Visiting.{inside}
 
 -- ---- out of a range
 
-pub too-low : (lo hi x : ℕ) → x < lo → within lo hi x ≡ false
-too-low lo hi x h = rw (lt-leb lo x h)
+-- what the code's test tells
+module _ (lo hi x : ℕ) {r : Bool} (e : r ≡ not (within lo hi x)) where
+  pub is-out : r ≡ true → within lo hi x ≡ false
+  is-out h = not-true _ (sym e ∙ h)
 
-pub too-high : (lo hi x : ℕ) → lo ≤ x → hi < x → within lo hi x ≡ false
-too-high lo hi x h k = rw (le-leb lo x h, lt-leb x hi k)
+  pub is-in : r ≡ false → (lo ≤ x) × (x ≤ hi)
+  is-in h = within-bounds lo hi x (not-false _ (sym e ∙ h))
 
 -- ---- refused beginnings
 
-module _ (t c : ℕ) (ht : (1 ≤ t) × (t ≤ 4)) where
+module _ (t c : ℕ) (ht : (1 ≤ t) × (t ≤ topFaults)) where
   pub no-writer : (x : Call) (k content nonce : List ℕ) → within 1 topWriter c ≡ false
       → beginWrite t c x k content nonce ≡ record { result = record { number = 5; count = 0 }; call = x; kept = k }
   unfolding beginWrite writeRefusal shelf
@@ -56,7 +57,7 @@ module _ (t c : ℕ) (ht : (1 ≤ t) × (t ≤ 4)) where
 
 -- ---- a write
 
-module _ (t k c n fill : ℕ) (ht : t ≤ 4) (w : List ℕ) where
+module _ (t k c n fill : ℕ) (ht : t ≤ topFaults) (w : List ℕ) where
   pub write-stays : (j : ℕ) {x : Shown} → ((y : Call) (z : List ℕ) → beginWrite t c y z (replicate n fill) (nonceFor (suc k)) ≡ record { result = record { number = suc j; count = 0 }; call = y; kept = z })
       → x ≡ shown (refused (suc j)) → StepsIn t (λ m. writeLine (drillShelf t) m k c n fill) w w x k
   unfolding writeLine doBytes setMachine drillShelf
@@ -75,35 +76,25 @@ module _ (t k c n fill : ℕ) (ht : t ≤ 4) (w : List ℕ) where
         rw (ec, en, st .calls c (inside 1 topClient c hc), st .kept c (inside 1 topClient c hc)) in
         subst (λ (z : Begun). BeginsAs z w c after number) r e
 
-    pub write-moves : (k' : ℕ) → k' ≡ cond (isRefused (resultOf number)) k (suc k) → StepsIn t (λ m. writeLine (drillShelf t) m k c n fill) w after x k'
+    pub write-moves : (k' : ℕ) → k' ≡ cond (accepted (resultOf number)) (suc k) k → StepsIn t (λ m. writeLine (drillShelf t) m k c n fill) w after x k'
     unfolding writeLine doBytes setMachine drillShelf
     write-moves k' ek =
         record {
           stands = λ m st. let f = begins m st in rw (f .area) (client-put t w m ht st c hc _ _ (f .marks) (f .size));
           shows = λ m st. ex ∙ ap (λ (z : ℕ). shown (resultOf z)) (begins m st .result);
-          counts = λ m st. ek ∙ ap (λ (z : ℕ). cond (isRefused (resultOf z)) k (suc k)) (begins m st .result);
+          counts = λ m st. ek ∙ ap (λ (z : ℕ). cond (accepted (resultOf z)) (suc k) k) (begins m st .result);
         }
 
-pub counts-begun : (k n : ℕ) → n ≡ 0 → k + 1 ≡ cond (isRefused (resultOf n)) k (suc k)
+pub counts-begun : (k n : ℕ) → n ≡ 0 → k + 1 ≡ cond (accepted (resultOf n)) (suc k) k
 counts-begun k n e = rw (e, add-one)
 
-pub counts-refused : (k n : ℕ) → (n ≡ 0 → ⊥) → k ≡ cond (isRefused (resultOf n)) k (suc k)
+pub counts-refused : (k n : ℕ) → (n ≡ 0 → ⊥) → k ≡ cond (accepted (resultOf n)) (suc k) k
 counts-refused k zero h = absurd (h refl)
 counts-refused k (suc n) h = refl
 
--- the content: copies of a byte
-take-copies : (m n x : ℕ) → m ≤ n → take m (replicate n x) ≡ replicate m x
-take-copies zero n x h = refl
-take-copies (suc m) zero x h = absurd (omega arith)
-take-copies (suc m) (suc n) x h = ap (λ (z : List ℕ). x ∷ z) (take-copies m n x (omega arith))
-
-pub part-copies : (m n x : ℕ) → m ≤ n → part (replicate n x) 0 m ≡ replicate m x
-unfolding part
-part-copies m n x h = take-copies m n x h
-
 -- ---- a read
 
-module _ (t c : ℕ) (ht : (1 ≤ t) × (t ≤ 4)) (w : List ℕ) where
+module _ (t c : ℕ) (ht : (1 ≤ t) × (t ≤ topFaults)) (w : List ℕ) where
   pub read-stays : {x : Shown} → within 1 topClient c ≡ false → x ≡ shown (refused 5) → DoneIn t (λ m. doBytes real (drillShelf t) m (read c)) w w x
   unfolding doBytes setMachine drillShelf
   read-stays {x} h ex =

@@ -9,16 +9,16 @@ use lib.Dec.{eqb}
 use lib.ListN.{length}
 use borrow.Author.Tests.{eq-eqb, ne-eqb, leb-true}
 use Rattle.cluster.specs.Config.{shelf}
-use Rattle.cluster.specs.Ranges.{within, topClient}
+use Rattle.cluster.specs.Ranges.{within, topClient, topFaults}
+use Rattle.cluster.proofs.Tests.{and-both}
 use Rattle.protocol.specs.Primitives.{real}
 use Rattle.protocol.specs.Client.{refused}
 use Rattle.protocol.specs.ClientBytes.{inHand}
 use Rattle.protocol.specs.Runs.{Machines, Done, read, give-up, resultOf, doBytes}
-use Rattle.protocol.proofs.Answers.{and-on}
 use Rattle.server.specs.Blank.{blankLatest}
 use Rattle.drill.specs.declared.sheet.Line.{Line}
 use Rattle.drill.specs.declared.shown.Shown.{Shown}
-use Rattle.drill.specs.Sheet.{isStep, isWrite}
+use Rattle.drill.specs.Sheet.{isStep}
 use Rattle.drill.specs.Steps.{drillShelf, writeLine, visitRefusal, visited, visitLine, blankLine, after, stepOf, shown, roundOf}
 use Rattle.drill.specs.Area.{callIn, memoryIn, Stands, BlanksAs}
 use Rattle.drill.specs.Moves.{DoneIn, StepsIn, RefusesAs, RoundIn}
@@ -81,7 +81,7 @@ module _ (t : ℕ) (w : List ℕ) (b : ℕ) where
   unfolding blankLine drillShelf
   blank-refused h ex = record { stands = λ m st. rw h st; shows = λ m st. rw h ex }
 
-  pub blank-moves : {x : Shown} {v : List ℕ} → t ≤ 4 → (1 ≤ b) × (b ≤ shelf t .servers) → BlanksAs (blankLatest (memoryIn w b)) w b v → x ≡ shown (resultOf 0)
+  pub blank-moves : {x : Shown} {v : List ℕ} → t ≤ topFaults → (1 ≤ b) × (b ≤ shelf t .servers) → BlanksAs (blankLatest (memoryIn w b)) w b v → x ≡ shown (resultOf 0)
       → DoneIn t (λ m. blankLine (drillShelf t) m b) w v x
   unfolding blankLine drillShelf
   blank-moves {x} {v} ht hb e ex =
@@ -107,8 +107,8 @@ module _ (w : List ℕ) (c : ℕ) where
 
 -- a write's fill is a byte
 pub write-fill : (l : Line) → l .verb ≡ 1 → isStep l ≡ true → l .fill ≤ 255
-unfolding isStep isWrite
-write-fill l e h = leb-true (l .fill) 255 (and-on (eqb (l .server) 0) _ (rw (eq-eqb (l .verb) 1 e) at h) .1)
+unfolding isStep
+write-fill l e h = leb-true (l .fill) 255 (and-both (eqb (l .server) 0) _ (rw (eq-eqb (l .verb) 1 e) at h) .1)
 
 module _ (t k : ℕ) (l : Line) (w v : List ℕ) {x : Shown} where
   pub step-write : {k' : ℕ} → l .verb ≡ 1 → StepsIn t (λ m. writeLine (drillShelf t) m k (l .client) (l .length) (l .fill)) w v x k'

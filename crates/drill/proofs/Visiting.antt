@@ -2,20 +2,24 @@
 -- Each is the definition's step, since the area holds what the parties hold. Assumes nothing.
 use mathlib.Core.Path.{_≡_, refl, ap, _∙_, subst}
 use mathlib.Core.Bool.{true}
-use mathlib.Core.List.{List}
-use Prim.Native.Nat.{ℕ, zero, suc, _≤_, _<_}
+use mathlib.Core.List.{List, []}
+use Prim.Native.Nat.{ℕ, zero, suc, _≤_}
 use native.Mathlib.Omega.{arith}
+use native.Mathlib.Numerals.{add-one}
 use lib.ListN.{take, replicate}
-use borrow.Author.Tests.{le-leb}
 use Rattle.cluster.specs.Config.{upTo, shelf}
-use Rattle.cluster.specs.Ranges.{within, topClient, mostServers, keySize, packetRoom, contentRoom}
+use Rattle.cluster.specs.Ranges.{within, topClient, mostServers, keySize, packetRoom, contentRoom, topFaults}
 use Rattle.cluster.specs.declared.Outcome.{Outcome}
+use Rattle.cluster.proofs.Legal.{upTo-length, upTo-at}
+use Rattle.cluster.proofs.Tests.{within-in}
+use Rattle.erasure.proofs.Lists.{getD-map}
 use Rattle.protocol.specs.declared.Taken.{Taken}
 use Rattle.protocol.specs.Primitives.{real}
 use Rattle.protocol.specs.View.{part}
 use Rattle.protocol.specs.ServerBytes.{Served, serverTake}
 use Rattle.protocol.specs.ClientBytes.{Written, Took, clientMake, clientTake, keyOf}
 use Rattle.protocol.specs.Runs.{Shelf, Machines, Done, make, serve, take-reply, takenOut, doBytes, setMachine}
+use Rattle.client.proofs.StampBytes.{key-at}
 use Rattle.drill.specs.declared.shown.Shown.{Shown}
 use Rattle.drill.specs.Steps.{drillShelf, visited, shown}
 use Rattle.drill.specs.Area.{callIn, keptIn, memoryIn, Stands, ServesAs, TakesAs}
@@ -23,32 +27,17 @@ use Rattle.drill.specs.Moves.{DoneIn}
 use Rattle.drill.proofs.Standing.{client-put}
 use Rattle.drill.proofs.Memories.{server-put, few-servers}
 
--- ---- server i's key is 32 bytes of i
-
-nth-key : (i : ℕ) → i < 13 → keyOf (drillShelf 0 .keys) (suc i) ≡ replicate keySize (suc i)
-unfolding keyOf drillShelf upTo
-nth-key zero h = refl
-nth-key (suc zero) h = refl
-nth-key (suc (suc zero)) h = refl
-nth-key (suc (suc (suc zero))) h = refl
-nth-key (suc (suc (suc (suc zero)))) h = refl
-nth-key (suc (suc (suc (suc (suc zero))))) h = refl
-nth-key (suc (suc (suc (suc (suc (suc zero)))))) h = refl
-nth-key (suc (suc (suc (suc (suc (suc (suc zero))))))) h = refl
-nth-key (suc (suc (suc (suc (suc (suc (suc (suc zero)))))))) h = refl
-nth-key (suc (suc (suc (suc (suc (suc (suc (suc (suc zero))))))))) h = refl
-nth-key (suc (suc (suc (suc (suc (suc (suc (suc (suc (suc zero)))))))))) h = refl
-nth-key (suc (suc (suc (suc (suc (suc (suc (suc (suc (suc (suc zero))))))))))) h = refl
-nth-key (suc (suc (suc (suc (suc (suc (suc (suc (suc (suc (suc (suc zero)))))))))))) h = refl
-nth-key (suc (suc (suc (suc (suc (suc (suc (suc (suc (suc (suc (suc (suc n))))))))))))) h = absurd (omega arith)
+-- ---- server b's key is bytes of b
 
 pub key-of : (t b : ℕ) → (1 ≤ b) × (b ≤ mostServers) → keyOf (drillShelf t .keys) b ≡ replicate keySize b
 unfolding drillShelf
 key-of t zero h = absurd (omega arith)
-key-of t (suc i) h = nth-key i (omega arith)
+key-of t (suc i) h =
+    key-at _ i ∙ getD-map (replicate keySize) (upTo mostServers) i 0 [] (omega (arith, upTo-length mostServers))
+    ∙ ap (replicate keySize) (upTo-at mostServers i (omega arith) ∙ add-one i)
 
 pub inside : (lo hi x : ℕ) → (lo ≤ x) × (x ≤ hi) → within lo hi x ≡ true
-inside lo hi x h = rw (le-leb lo x (h .0), le-leb x hi (h .1))
+inside lo hi x h = within-in lo hi x (h .0) (h .1)
 
 -- ---- the visit
 
@@ -60,7 +49,7 @@ part-take : (d : List ℕ) (n : ℕ) → part d 0 n ≡ take n d
 unfolding part
 part-take d n = refl
 
-module _ (t c b : ℕ) (w : List ℕ) (ht : t ≤ 4) (hc : (1 ≤ c) × (c ≤ topClient)) (hb : (1 ≤ b) × (b ≤ shelf t .servers)) where
+module _ (t c b : ℕ) (w : List ℕ) (ht : t ≤ topFaults) (hc : (1 ≤ c) × (c ≤ topClient)) (hb : (1 ≤ b) × (b ≤ shelf t .servers)) where
   module _ (m : Machines) (st : Stands t w m) where
     own : within 1 topClient c ≡ true
     own = inside 1 topClient c hc
@@ -115,7 +104,7 @@ module _ (t c b : ℕ) (w : List ℕ) (ht : t ≤ 4) (hc : (1 ≤ c) × (c ≤ t
           let f : TakesAs took w c w₁ o a = subst (λ (z : Took). TakesAs z w c w₁ o a) same-took e in
           rw (f .result, f .written)
 
-module _ (t c b : ℕ) (w : List ℕ) (ht : t ≤ 4) (hc : (1 ≤ c) × (c ≤ topClient)) (hb : (1 ≤ b) × (b ≤ shelf t .servers)) where
+module _ (t c b : ℕ) (w : List ℕ) (ht : t ≤ topFaults) (hc : (1 ≤ c) × (c ≤ topClient)) (hb : (1 ≤ b) × (b ≤ shelf t .servers)) where
   visit-goes : {r₁ r₂ : Outcome} {p q o w₁ w₂ p' q' : List ℕ} {a : Taken} → record { result = r₁; output = p } ≡ clientMake t c b (callIn w c) (keptIn w c) (replicate packetRoom 0)
       → p' ≡ part p 0 (r₁ .count)
       → ServesAs (serverTake real (memoryIn w b) (replicate keySize b) p' (replicate packetRoom 0)) w b w₁ q r₂

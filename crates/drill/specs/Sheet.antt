@@ -76,21 +76,21 @@ readText x = guard (x .ended) (fields (x .bytes))
 
 -- ---- which lines have the form of their verb: unused fields are 0
 
-unfoldable pub noContent : Line → Bool
+abbrev pub noContent : Line → Bool
 noContent l = eqb (l .length) 0 && eqb (l .fill) 0
 
 -- a write names no server, and its fill is a byte; a read or a giving up names a client only; a blanking names a server only
-unfoldable pub isWrite : Line → Bool
+abbrev pub isWrite : Line → Bool
 isWrite l = eqb (l .server) 0 && leb (l .fill) 255
 
-unfoldable pub isAlone : Line → Bool
+abbrev pub isAlone : Line → Bool
 isAlone l = eqb (l .server) 0 && noContent l
 
-unfoldable pub isBlanking : Line → Bool
+abbrev pub isBlanking : Line → Bool
 isBlanking l = eqb (l .client) 0 && noContent l
 
 -- the first line: its client field holds t
-unfoldable pub isFirst : Line → Bool
+abbrev pub isFirst : Line → Bool
 isFirst l = eqb (l .verb) 0 && isAlone l
 
 -- 1 write, 2 read, 3 visit, 4 the server's latest becomes blank, 5 give up

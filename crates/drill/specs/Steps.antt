@@ -1,5 +1,5 @@
 -- The steps of a drill: protocol's own steps on bytes, on document 01's keys and nonces, and what a listing shows of each.
-use mathlib.Core.Bool.{Bool, true, false, cond, not}
+use mathlib.Core.Bool.{true, false, cond, not}
 use mathlib.Core.List.{List, [], _∷_, _++_, map}
 use Prim.Native.Nat.{ℕ, suc, _+_}
 use lib.Dec.{eqb}
@@ -10,7 +10,7 @@ use Rattle.cluster.specs.Refusals.{refuse, firstOf, onRefusal}
 use Rattle.protocol.specs.Format.{print4}
 use Rattle.protocol.specs.Primitives.{real}
 use Rattle.protocol.specs.Rules.{upd}
-use Rattle.protocol.specs.Client.{Result, refused, more, written, gave, gaveBlank, aborted}
+use Rattle.protocol.specs.Client.{Result, refused, more, written, gave, gaveBlank, aborted, accepted}
 use Rattle.protocol.specs.ClientBytes.{inHand}
 use Rattle.server.specs.Blank.{blankLatest}
 use Rattle.protocol.specs.Runs.{Shelf, configOf, Machines, Done, write, read, make, take-reply, give-up, serve, doBytes, nowBytes}
@@ -43,20 +43,12 @@ start s = record { machines = nowBytes real s []; begun = 0 }
 
 -- ---- one line's step. The buffers lent hold 00h
 
-abbrev pub isRefused : Result → Bool
-isRefused (refused n) = true
-isRefused more = false
-isRefused (written k) = false
-isRefused (gave k c) = false
-isRefused gaveBlank = false
-isRefused (aborted b) = false
-
 module _ (s : Shelf) (w : Machines) where
   -- a refused begin uses no nonce
   unfoldable pub writeLine : ℕ → ℕ → ℕ → ℕ → Stepped
   writeLine k client n fill =
       let d = doBytes real s w (write client (replicate n fill) (nonceFor (suc k))) in
-      record { state = record { machines = d .machines; begun = cond (isRefused (d .result)) k (suc k) }; result = d .result }
+      record { state = record { machines = d .machines; begun = cond (accepted (d .result)) (suc k) k }; result = d .result }
 
   unfoldable pub visitRefusal : ℕ → ℕ → ℕ
   visitRefusal client server =

@@ -22,24 +22,15 @@ fn rows_for(lines: usize) -> usize
     lines - 1
 }
 
-fn refused(number: u8) -> cluster::Outcome
-    ensures { λ r. ⌜ r ≡ record { number = number; count = 0 } ⌝ }
-{
-    cluster::Outcome {
-        number: number,
-        count: 0,
-    }
-}
-
 // Runs a sheet and prints its listing at the start of the output. The work area is cleared first, and left all 00h.
 pub fn drill(sheet: &[u8], out: &mut [u8], work: &mut [u8]) -> cluster::Outcome
     ensures { λ r. ⌜ record { result = r; output = now (out .exit); work = now (work .exit) } ≡ drillOf (now (sheet .entry)) (now (out .entry)) (now (work .entry)) ⌝ }
 {
     if work.len() != area::WORK {
-        return refused(1);
+        return cluster::refused(1);
     }
     if out.len() / rows::ROW < rows_for(lines::count_lines(sheet)) {
-        return refused(15);
+        return cluster::refused(15);
     }
     server::blank::clear(work);
     let n = run::list(sheet, out, work);

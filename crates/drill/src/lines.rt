@@ -50,49 +50,34 @@ pub(crate) fn count_lines(sheet: &[u8]) -> usize
 fn no_content(l: Line) -> bool
     ensures { λ r. ⌜ r ≡ noContent l ⌝ }
 {
-    if l.length != 0 {
-        return false;
-    }
-    l.fill == 0
+    (l.length == 0) & (l.fill == 0)
 }
 
 // A write names no server, and its fill is a byte.
 fn is_write(l: Line) -> bool
     ensures { λ r. ⌜ r ≡ isWrite l ⌝ }
 {
-    if l.server != 0 {
-        return false;
-    }
-    l.fill <= 255
+    (l.server == 0) & (l.fill <= 255)
 }
 
 // A read or a giving up names a client only.
 fn is_alone(l: Line) -> bool
     ensures { λ r. ⌜ r ≡ isAlone l ⌝ }
 {
-    if l.server != 0 {
-        return false;
-    }
-    no_content(l)
+    (l.server == 0) & no_content(l)
 }
 
 // A blanking names a server only.
 fn is_blanking(l: Line) -> bool
     ensures { λ r. ⌜ r ≡ isBlanking l ⌝ }
 {
-    if l.client != 0 {
-        return false;
-    }
-    no_content(l)
+    (l.client == 0) & no_content(l)
 }
 
 fn is_first(l: Line) -> bool
     ensures { λ r. ⌜ r ≡ isFirst l ⌝ }
 {
-    if l.verb != 0 {
-        return false;
-    }
-    is_alone(l)
+    (l.verb == 0) & is_alone(l)
 }
 
 fn is_step(l: Line) -> bool

@@ -21,7 +21,7 @@ pub(crate) fn blank_servers(work: &mut [u8], t: usize)
     requires { ⌜ ((1 ≤ t) × (t ≤ topFaults)) × ((length (now work) ≡ workSize) × (now work ≡ replicate (length (now work)) 0)) ⌝ }
     ensures { λ _. ⌜ Stands t (now (work .exit)) (start (drillShelf t) .machines) ⌝ }
 {
-    let n = wire::sizes::servers(t as u8);
+    let n = cluster::servers(t as u8);
     let mut b = 1;
     while b <= n {
         crate::servers::blank(work, t, b);
@@ -92,11 +92,7 @@ pub(crate) fn list(sheet: &[u8], out: &mut [u8], work: &mut [u8]) -> usize
         return crate::rows::ROW;
     };
     let t = l.client as usize;
-    if t < 1 {
-        crate::rows::put_last(out, 0, 1, 103);
-        return crate::rows::ROW;
-    }
-    if cluster::TOP_FAULTS < t {
+    if cluster::outside(1, cluster::TOP_FAULTS, t) {
         crate::rows::put_last(out, 0, 1, 103);
         return crate::rows::ROW;
     }

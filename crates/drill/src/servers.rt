@@ -61,10 +61,7 @@ pub(crate) fn blank_line(work: &mut [u8], t: usize, server: usize) -> Shown
     requires { ⌜ ((1 ≤ t) × (t ≤ topFaults)) × (length (now work) ≡ workSize) ⌝ }
     ensures { λ r. ⌜ DoneIn t (λ m. blankLine (drillShelf t) m server) (now (work .entry)) (now (work .exit)) r ⌝ }
 {
-    if server < 1 {
-        return crate::shown::refused(4);
-    }
-    if wire::sizes::servers(t as u8) < server {
+    if cluster::outside(1, cluster::servers(t as u8), server) {
         return crate::shown::refused(4);
     }
     blank_latest(work, server);

@@ -19,7 +19,7 @@ fn only(result: u32) -> Shown
     ensures { λ r. ⌜ r ≡ record { result = result; stamp = 0; length = 0; first = 0 } ⌝ }
 {
     Shown {
-        result: result,
+        result,
         stamp: 0,
         length: 0,
         first: 0,

@@ -35,13 +35,7 @@ fn write(work: &mut [u8], t: usize, begun: u32, client: usize, size: usize, fill
     requires { ⌜ (((1 ≤ t) × (t ≤ topFaults)) × (length (now work) ≡ workSize)) × (begun < topNumber) ⌝ }
     ensures { λ r. ⌜ StepsIn t (λ m. writeLine (drillShelf t) m begun client size fill) (now (work .entry)) (now (work .exit)) (r .shown) (r .begun) ⌝ }
 {
-    if client < 1 {
-        return Moved {
-            shown: shown::refused(5),
-            begun,
-        };
-    }
-    if cluster::TOP_WRITER < client {
+    if cluster::outside(1, cluster::TOP_WRITER, client) {
         return Moved {
             shown: shown::refused(5),
             begun,
@@ -73,10 +67,7 @@ fn read(work: &mut [u8], t: usize, client: usize) -> Shown
     requires { ⌜ ((1 ≤ t) × (t ≤ topFaults)) × (length (now work) ≡ workSize) ⌝ }
     ensures { λ r. ⌜ DoneIn t (λ m. doBytes real (drillShelf t) m (read client)) (now (work .entry)) (now (work .exit)) r ⌝ }
 {
-    if client < 1 {
-        return shown::refused(5);
-    }
-    if cluster::TOP_CLIENT < client {
+    if cluster::outside(1, cluster::TOP_CLIENT, client) {
         return shown::refused(5);
     }
     shown::begun(area::begin_read(work, t, client))
@@ -86,10 +77,7 @@ fn stop(work: &mut [u8], t: usize, client: usize) -> Shown
     requires { ⌜ ((1 ≤ t) × (t ≤ topFaults)) × (length (now work) ≡ workSize) ⌝ }
     ensures { λ r. ⌜ DoneIn t (λ m. doBytes real (drillShelf t) m (give-up client)) (now (work .entry)) (now (work .exit)) r ⌝ }
 {
-    if client < 1 {
-        return shown::refused(5);
-    }
-    if cluster::TOP_CLIENT < client {
+    if cluster::outside(1, cluster::TOP_CLIENT, client) {
         return shown::refused(5);
     }
     shown::given_up(area::give_up(work, t, client))
@@ -126,10 +114,7 @@ pub(crate) fn step(work: &mut [u8], t: usize, begun: u32, l: Line) -> Moved
 pub(crate) fn round_of(work: &[u8], client: usize) -> u32
     ensures { λ r. ⌜ RoundIn (now (work .entry)) client r ⌝ }
 {
-    if client < 1 {
-        return 0;
-    }
-    if cluster::TOP_CLIENT < client {
+    if cluster::outside(1, cluster::TOP_CLIENT, client) {
         return 0;
     }
     let call = area::call_of(work, client);

@@ -87,16 +87,10 @@ fn visit_refusal(work: &[u8], t: usize, client: usize, server: usize) -> u8
     requires { ⌜ (1 ≤ t) × (t ≤ topFaults) ⌝ }
     ensures { λ r. ⌜ RefusesAs t (now (work .entry)) client server r ⌝ }
 {
-    if server < 1 {
+    if cluster::outside(1, cluster::servers(t as u8), server) {
         return 4;
     }
-    if wire::sizes::servers(t as u8) < server {
-        return 4;
-    }
-    if client < 1 {
-        return 5;
-    }
-    if cluster::TOP_CLIENT < client {
+    if cluster::outside(1, cluster::TOP_CLIENT, client) {
         return 5;
     }
     if client::refusals::is_pending(area::call_of(work, client)) {

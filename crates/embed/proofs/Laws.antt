@@ -9,14 +9,15 @@ use native.Mathlib.Omega.{arith}
 use lib.ListN.{length, take, drop}
 use borrow.Author.Tests.{eq-eqb, ne-eqb, lt-ltb, le-ltb}
 use lib.Seq.{length-take-le, take-all}
-use Rattle.hmac.specs.Hmac.{tagOf}
-use Rattle.hmac.proofs.Laws.{tag-length}
+use Rattle.cluster.specs.Ranges.{keySize}
+use Rattle.hmac.specs.Hmac.{tagSize}
 use Rattle.protocol.specs.ServerBytes.{over}
+use Rattle.protocol.specs.Values.{digestSize}
 use Rattle.protocol.specs.View.{part}
 use Rattle.protocol.proofs.Puts.{put-over}
 use Rattle.wire.specs.Make.{placed}
 use Rattle.wire.proofs.Put.{placed-wrote}
-use Rattle.embed.specs.Packing.{packed, answer, written}
+use Rattle.embed.specs.Packing.{packed, answer, written, wrongSize}
 use Rattle.embed.specs.Digests.{digestRefusal, tagRefusal}
 
 -- the first n bytes over the front of a buffer
@@ -51,28 +52,24 @@ accepted n q r bytes made out after e gives same long puts =
       puts ∙ ap (λ (b : List ℕ). b ++ drop n out) same ∙ ap (λ (k : ℕ). bytes ++ drop k out) (sym long),
     )
 
--- the tag's length as the number that the code has
-pub tag-bytes : (key message : List ℕ) → length (tagOf key message) ≡ 32
-tag-bytes key message = tag-length key message
-
 -- ---- the refusals, test by test
 
-pub digest-short : (out : List ℕ) → length out < 32 → digestRefusal out ≡ 15
+pub digest-short : (out : List ℕ) → length out < digestSize → digestRefusal out ≡ 15
 unfolding digestRefusal
 digest-short out h = rw (lt-ltb _ _ h) refl
 
-pub digest-room : (out : List ℕ) → 32 ≤ length out → digestRefusal out ≡ 0
+pub digest-room : (out : List ℕ) → digestSize ≤ length out → digestRefusal out ≡ 0
 unfolding digestRefusal
 digest-room out h = rw (le-ltb _ _ h) refl
 
-pub tag-key : (key out : List ℕ) → (length key ≡ 32 → ⊥) → tagRefusal key out ≡ 255
+pub tag-key : (key out : List ℕ) → (length key ≡ keySize → ⊥) → tagRefusal key out ≡ wrongSize
 unfolding tagRefusal
 tag-key key out h = rw (ne-eqb _ _ h) refl
 
-pub tag-short : (key out : List ℕ) → length key ≡ 32 → length out < 32 → tagRefusal key out ≡ 15
+pub tag-short : (key out : List ℕ) → length key ≡ keySize → length out < tagSize → tagRefusal key out ≡ 15
 unfolding tagRefusal
 tag-short key out k h = rw (eq-eqb _ _ k) (rw (lt-ltb _ _ h) refl)
 
-pub tag-room : (key out : List ℕ) → length key ≡ 32 → 32 ≤ length out → tagRefusal key out ≡ 0
+pub tag-room : (key out : List ℕ) → length key ≡ keySize → tagSize ≤ length out → tagRefusal key out ≡ 0
 unfolding tagRefusal
 tag-room key out k h = rw (eq-eqb _ _ k) (rw (le-ltb _ _ h) refl)

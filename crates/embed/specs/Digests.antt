@@ -7,11 +7,8 @@ use lib.ListN.{length}
 use Rattle.hmac.specs.Hmac.{tagSize}
 use Rattle.cluster.specs.Ranges.{keySize}
 use Rattle.cluster.specs.Refusals.{refuse, firstOf}
+use Rattle.protocol.specs.Values.{digestSize}
 use Rattle.embed.specs.Packing.{wrongSize}
-
--- bytes of a digest
-abbrev pub digestSize : ℕ
-digestSize = 32
 
 unfoldable pub digestRefusal : List ℕ → ℕ
 digestRefusal out = firstOf (refuse 15 (ltb (length out) digestSize) ∷ [])

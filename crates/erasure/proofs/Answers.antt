@@ -1,38 +1,36 @@
 -- What the two public operations answer, refused and accepted, in terms of what the code made: the shelf's table is 1 to S, so the point of
 -- a server is its number. Nothing is assumed.
-use mathlib.Core.Path.{_≡_, refl, sym, ap, ap₂, _∙_}
+use mathlib.Core.Path.{_≡_, sym, ap, ap₂, _∙_}
 use mathlib.Core.Logic.{_≢_}
 use mathlib.Core.List.{List, _++_}
-use Prim.Native.Nat.{ℕ, zero, suc, _+_, _-_, _*_, _/_, _<_, _≤_}
+use Prim.Native.Nat.{ℕ, _+_, _-_, _*_, _/_, _<_, _≤_}
 use native.Mathlib.Nat.{div-lt-iff-lt-mul}
 use native.Mathlib.Omega.{arith}
 use lib.ListN.{length, getD, take}
 use Rattle.gf256.specs.Poly.{through}
 use Rattle.gf256.specs.Bytes.{bytes}
 use Rattle.cluster.specs.Config.{shelf, upTo, pointOf}
+use Rattle.cluster.proofs.Legal.{upTo-length, upTo-at}
 use Rattle.cluster.specs.Ranges.{topFaults, topLength}
 use Rattle.cluster.specs.Refusals.{onRefusal}
+use Rattle.cluster.proofs.Tests.{refused-is}
 use Rattle.erasure.specs.declared.FragmentOutcome.{FragmentOutcome}
 use Rattle.erasure.specs.Fragments.{fragmentSize, column, fragment}
 use Rattle.erasure.specs.Steps.{zeros, fragmentRoom, fragmentRefusal, fragmentBytes, fragmentStep}
 use Rattle.erasure.specs.System.{width}
 use Rattle.erasure.specs.Lanes.{madeOf, plainOf}
 use Rattle.erasure.proofs.Lists.{take-is}
-use Rattle.erasure.proofs.Placed.{table-ext, length-upTo, getD-upTo, plain-made}
-
-pub refused-is : {A : Type 0} (x : ℕ) (a b : A) → x ≢ 0 → onRefusal x a b ≡ b
-refused-is zero a b h = absurd (h refl)
-refused-is (suc x) a b h = refl
+use Rattle.erasure.proofs.Placed.{table-ext, plain-made}
 
 -- ---- the shelf's points
 
 pub point-is : (s i : ℕ) → 1 ≤ i → i ≤ s → pointOf (upTo s) i ≡ i
 unfolding pointOf
-point-is s i lo hi = getD-upTo s (i - 1) (omega arith) ∙ omega arith
+point-is s i lo hi = upTo-at s (i - 1) (omega arith) ∙ omega arith
 
 pub first-points : (s k : ℕ) → k ≤ s → take k (upTo s) ≡ upTo k
 first-points s k h =
-    take-is k (upTo s) (upTo k) (omega (arith, length-upTo s)) (length-upTo k) (λ i b. getD-upTo s i (omega arith) ∙ sym (getD-upTo k i b))
+    take-is k (upTo s) (upTo k) (omega (arith, upTo-length s)) (upTo-length k) (λ i b. upTo-at s i (omega arith) ∙ sym (upTo-at k i b))
 
 -- a fragment fits its room
 pub size-fits : (k n : ℕ) → 2 ≤ k → n ≤ topLength → fragmentSize k n ≤ fragmentRoom

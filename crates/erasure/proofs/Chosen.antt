@@ -10,12 +10,13 @@ use native.Mathlib.Omega.{arith}
 use borrow.Author.Tests.{lt-ltb, le-ltb}
 use lib.Dec.{ltb}
 use lib.ListN.{length, getD, take, drop, length-map}
-use lib.Seq.{length-take-le, getD-take, getD-drop}
+use lib.Seq.{length-take-le, getD-take, getD-drop, take-length}
 use Rattle.gf256.specs.Poly.{through}
 use Rattle.gf256.specs.Bytes.{bytes}
 use Rattle.cluster.specs.Config.{shelf, upTo, pointOf}
 use Rattle.cluster.specs.Refusals.{refuse, firstOf, onRefusal}
 use Rattle.cluster.specs.declared.Outcome.{Outcome}
+use Rattle.cluster.proofs.Tests.{refused-is}
 use Rattle.erasure.specs.declared.choice.Chosen.{Chosen}
 use Rattle.erasure.specs.Fragments.{table, fragmentSize, Part, restored}
 use Rattle.erasure.specs.Choice.{serversAt, firstDifferent, partsAt}
@@ -28,7 +29,7 @@ use Rattle.erasure.proofs.Laws.{run-lt, size-pos}
 use Rattle.erasure.proofs.Placed.{table-ext}
 use Rattle.erasure.proofs.Choosing.{chosen-different, chosen-lt}
 use Rattle.erasure.proofs.Refused.{first-of-first, first-of-second}
-use Rattle.erasure.proofs.Answers.{refused-is, point-is}
+use Rattle.erasure.proofs.Answers.{point-is}
 
 -- ---- the answer by its refusal
 
@@ -74,10 +75,6 @@ module _ (t n : ℕ) (servers fragments output : List ℕ) where
   refused-none e h = accepted-arguments e ∙ ap (λ (b : Bool). cond b 16 0) (le-ltb (length (firstDifferent (shelf t .shares) servers)) (shelf t .shares) h)
 
 -- ---- what was chosen
-
-take-full : {A : Type 0} (xs : List A) → take (length xs) xs ≡ xs
-take-full [] = refl
-take-full {A} (x ∷ xs) = ap (λ (z : List A). x ∷ z) (take-full xs)
 
 module _ (k : ℕ) (servers : List ℕ) (c : Chosen) (h : Holds k servers (firstDifferent k servers) c) (kw : k ≤ width) (la : length (c .at) ≡ width)
     (ls : length (c .servers) ≡ width) where
@@ -144,7 +141,7 @@ module _ (k : ℕ) (servers : List ℕ) (c : Chosen) (h : Holds k servers (first
           ap₂ (λ (x : ℕ) (xs : List ℕ). x ∷ xs) (point p (b 0 (zero-lt-suc (length ps)))) (points-are ps (λ j l. b (suc j) (suc-le-suc l)))
 
       parts-at : take k (map part places) ≡ map part places
-      parts-at = ap (λ (n : ℕ). take n (map part places)) (sym (length-map places part ∙ long)) ∙ take-full (map part places)
+      parts-at = ap (λ (n : ℕ). take n (map part places)) (sym (length-map places part ∙ long)) ∙ take-length (map part places)
 
       byte-at : (q : ℕ) → q < f → map (λ p. getD (p .bytes) q 0) (map part places) ≡ table k (λ j. getD fragments (getD (c .at) j 0 * f + q) 0)
       unfolding part

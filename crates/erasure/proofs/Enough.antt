@@ -13,9 +13,8 @@ use lib.Arith.{lt-of-le-ne}
 use lib.Dec.{eqb, ltb}
 use lib.ListN.{length, getD, length-append, length-map}
 use lib.Seq.{getD-append-seam}
-use Rattle.gf256.proofs.Byte.{DistinctN}
+use Rattle.gf256.proofs.Apart.{Distinct, apart-at}
 use Rattle.erasure.specs.Choice.{among, more, chosenOf, serversAt, firstDifferent}
-use Rattle.erasure.proofs.Lists.{apart-at}
 use Rattle.erasure.proofs.Choosing.{among-found, map-snoc}
 
 -- ---- a list without the first d
@@ -47,12 +46,12 @@ among-without d s (x ∷ xs) ne e = go (eqb x d) (eqb x s) refl refl e (among-wi
     go false false p q h k = ap (λ t. t || among s (without d xs)) q ∙ k h
 
 -- different numbers that are all among xs are not more than xs
-few : (ds xs : List ℕ) → DistinctN ds → ((i : ℕ) → i < length ds → among (getD ds i 0) xs ≡ true) → length ds ≤ length xs
+few : (ds xs : List ℕ) → Distinct ds → ((i : ℕ) → i < length ds → among (getD ds i 0) xs ≡ true) → length ds ≤ length xs
 few [] xs d h = zero-le
 few (x ∷ ds) xs d h =
     let e : suc (length (without x xs)) ≡ length xs = length-without x xs (h 0 (zero-lt-suc (length ds))) in
     let k : length ds ≤ length (without x xs) =
-    few ds (without x xs) (d .1) (λ i b. among-without x (getD ds i 0) xs (λ q. apart-at x ds (d .0) i b (sym q)) (h (suc i) (suc-le-suc b))) in
+    few ds (without x xs) (d .1) (λ i b. among-without x (getD ds i 0) xs (λ q. apart-at 0 x ds (d .0) i b (sym q)) (h (suc i) (suc-le-suc b))) in
     omega (arith, e, k)
 
 -- ---- while there is room, all are among the chosen
@@ -95,7 +94,7 @@ all-among k ss (suc i) l j h =
 abbrev pub Stands : ℕ → List ℕ → Type 0
 Stands d ss = (i : ℕ) × (i < length ss) × (getD ss i 0 ≡ d)
 
-pub enough : (k : ℕ) (ss ds : List ℕ) → DistinctN ds → k ≤ length ds → ((i : ℕ) → i < length ds → Stands (getD ds i 0) ss)
+pub enough : (k : ℕ) (ss ds : List ℕ) → Distinct ds → k ≤ length ds → ((i : ℕ) → i < length ds → Stands (getD ds i 0) ss)
     → k ≤ length (firstDifferent k ss)
 unfolding firstDifferent
 enough k ss ds d l at = go (decLt (length ps) k)

@@ -11,8 +11,9 @@ use lib.ListN.{length, getD, take, length-map}
 use lib.Seq.{ext-getD, length-take-le, getD-take}
 use Rattle.gf256.specs.Poly.{eval, through}
 use Rattle.gf256.specs.Bytes.{bytes}
-use Rattle.gf256.proofs.Byte.{Small, DistinctN, restored-bytes, getD-small, through-value, the-one as one-through, there-is as one-exists}
-use Rattle.cluster.specs.Config.{pointOf}
+use Rattle.gf256.proofs.Apart.{Distinct}
+use Rattle.gf256.proofs.Byte.{Small, restored-bytes, getD-small, through-value, the-one as one-through, there-is as one-exists}
+use Rattle.cluster.specs.Config.{Config, Legal, pointOf}
 use Rattle.erasure.specs.Fragments.{table, fragmentSize, column, fragment, Part, restored, PointTable}
 use Rattle.erasure.proofs.Lists.{length-table, getD-table, getD-map, small-of, distinct-of, distinct-at}
 
@@ -46,17 +47,23 @@ restored-length points k n parts = length-table n _
 abbrev pub partOf : List ℕ → ℕ → List ℕ → ℕ → Part
 partOf points k content server = record { server = server; bytes = fragment points k content server }
 
-take-map : {A B : Type 0} (f : A → B) (k : ℕ) (xs : List A) → take k (map f xs) ≡ map f (take k xs)
+pub take-map : {A B : Type 0} (f : A → B) (k : ℕ) (xs : List A) → take k (map f xs) ≡ map f (take k xs)
 take-map f zero xs = refl
 take-map f (suc k) [] = refl
 take-map {A} {B} f (suc k) (x ∷ xs) = ap (λ (z : List B). f x ∷ z) (take-map f k xs)
+
+-- the points of a legal shelf are bytes and all different
+pub legal-table : {s : Config} → Legal s → PointTable (s .points)
+legal-table {s} l =
+    let e : length (s .points) ≡ s .servers = l .table in
+    record { bytes = l .bytes; different = λ i j x y. l .different i j (omega arith) (omega arith) }
 
 -- these servers stand in the table
 abbrev pub Servers : List ℕ → List ℕ → Type 0
 Servers points servers = (i : ℕ) → i < length servers → (1 ≤ getD servers i 0) × (getD servers i 0 ≤ length points)
 
 -- different servers have different points
-pub points-of : (points servers : List ℕ) → PointTable points → Servers points servers → DistinctN servers → DistinctN (map (pointOf points) servers)
+pub points-of : (points servers : List ℕ) → PointTable points → Servers points servers → Distinct servers → Distinct (map (pointOf points) servers)
 unfolding pointOf
 points-of points servers pt at d =
     distinct-of (map (pointOf points) servers)
@@ -99,7 +106,7 @@ module _ (points : List ℕ) (k : ℕ) (content : List ℕ) (pt : PointTable poi
   small-lead =
       small-of (take k points) (λ i h. subst (λ (x : ℕ). x < 256) (sym (getD-take k points i 0 (subst (λ (n : ℕ). i < n) lead h))) (pt .bytes i))
 
-  distinct-lead : DistinctN (take k points)
+  distinct-lead : Distinct (take k points)
   distinct-lead =
       distinct-of (take k points)
       (λ i j l h e.
@@ -127,7 +134,7 @@ module _ (points : List ℕ) (k : ℕ) (content : List ℕ) (pt : PointTable poi
   places (x ∷ xs) = ap (λ (v : List ℕ). pointOf points x ∷ v) (places xs)
 
   -- the fragments of any k different servers, in any order; more than k of them do no harm
-  pub restores : (servers : List ℕ) → Servers points servers → DistinctN servers → k ≤ length servers
+  pub restores : (servers : List ℕ) → Servers points servers → Distinct servers → k ≤ length servers
       → restored points k (length content) (map (partOf points k content) servers) ≡ content
   unfolding restored column
   restores servers at d l = ext-getD 0 (restored points k n (map part servers)) content (restored-length points k n (map part servers))
@@ -167,7 +174,7 @@ module _ (points : List ℕ) (k : ℕ) (content : List ℕ) (pt : PointTable poi
           let b : i < k = subst (λ (x : ℕ). i < x) long h in
           subst (λ (s : ℕ). (1 ≤ s) × (s ≤ length points)) (sym (getD-take k servers i 0 b)) (at i (omega arith))
 
-      firstDistinct : DistinctN first
+      firstDistinct : Distinct first
       firstDistinct =
           distinct-of first
           (λ i j lt h e.

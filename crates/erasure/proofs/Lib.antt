@@ -1,3 +1,4 @@
+pub mod Fill
 pub mod Lists
 pub mod Laws
 pub mod Sums

@@ -9,7 +9,8 @@ use native.Mathlib.Decide.{decLt}
 use native.Mathlib.Omega.{arith}
 use lib.ListN.{length, getD, set, take, drop, length-append, length-drop, length-set, List·getD-append}
 use lib.Seq.{ext-getD, length-take-le, getD-take, getD-drop, getD-append-add, getD-set-same, getD-set-other}
-use Rattle.gf256.proofs.Byte.{Small, DistinctN, ApartN}
+use Rattle.gf256.proofs.Byte.{Small}
+use Rattle.gf256.proofs.Apart.{Apart, Distinct, apart-at}
 use Rattle.erasure.specs.Fragments.{table}
 use Rattle.erasure.specs.Lanes.{Written}
 
@@ -63,27 +64,22 @@ pub small-of : (xs : List ℕ) → ((i : ℕ) → i < length xs → getD xs i 0 
 small-of [] h = tt
 small-of (x ∷ xs) h = (h 0 (zero-lt-suc (length xs)), small-of xs (λ i b. h (suc i) (suc-le-suc b)))
 
-apart-of : (y : ℕ) (xs : List ℕ) → ((i : ℕ) → i < length xs → y ≢ getD xs i 0) → ApartN y xs
+apart-of : (y : ℕ) (xs : List ℕ) → ((i : ℕ) → i < length xs → y ≢ getD xs i 0) → Apart y xs
 apart-of y [] h = tt
 apart-of y (x ∷ xs) h = (h 0 (zero-lt-suc (length xs)), apart-of y xs (λ i b. h (suc i) (suc-le-suc b)))
 
-pub distinct-of : (xs : List ℕ) → ((i j : ℕ) → i < j → j < length xs → getD xs i 0 ≢ getD xs j 0) → DistinctN xs
+pub distinct-of : (xs : List ℕ) → ((i j : ℕ) → i < j → j < length xs → getD xs i 0 ≢ getD xs j 0) → Distinct xs
 distinct-of [] h = tt
 distinct-of (x ∷ xs) h = (
   apart-of x xs (λ i b. h 0 (suc i) (zero-lt-suc i) (suc-le-suc b)),
   distinct-of xs (λ i j l b. h (suc i) (suc j) (suc-le-suc l) (suc-le-suc b)),
 )
 
-pub apart-at : (y : ℕ) (xs : List ℕ) → ApartN y xs → (j : ℕ) → j < length xs → y ≢ getD xs j 0
-apart-at y [] d j h = absurd (not-suc-le-zero h)
-apart-at y (x ∷ xs) d zero h = d .0
-apart-at y (x ∷ xs) d (suc j) h = apart-at y xs (d .1) j (le-of-suc-le-suc h)
-
-pub distinct-at : (xs : List ℕ) → DistinctN xs → (i j : ℕ) → i < j → j < length xs → getD xs i 0 ≢ getD xs j 0
+pub distinct-at : (xs : List ℕ) → Distinct xs → (i j : ℕ) → i < j → j < length xs → getD xs i 0 ≢ getD xs j 0
 distinct-at [] d i j l h = absurd (not-suc-le-zero h)
 distinct-at (x ∷ xs) d zero zero l h = absurd (not-suc-le-zero l)
 distinct-at (x ∷ xs) d (suc i) zero l h = absurd (not-suc-le-zero l)
-distinct-at (x ∷ xs) d zero (suc j) l h = apart-at x xs (d .0) j (le-of-suc-le-suc h)
+distinct-at (x ∷ xs) d zero (suc j) l h = apart-at 0 x xs (d .0) j (le-of-suc-le-suc h)
 distinct-at (x ∷ xs) d (suc i) (suc j) l h = distinct-at xs (d .1) i j (le-of-suc-le-suc l) (le-of-suc-le-suc h)
 
 -- ---- writing from a place on

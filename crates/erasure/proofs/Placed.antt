@@ -1,18 +1,19 @@
 -- At each place a sum of weights times bytes is the value of the polynomial through the runs' bytes, and at a run's own point it is the run's
 -- byte: so a fragment is made, by weights that `Weighed` shows right, or by a copy. Nothing is assumed.
 use mathlib.Core.Path.{_≡_, refl, sym, ap, ap₂, subst, _∙_}
-use mathlib.Core.List.{List, [], _∷_, _++_}
-use Prim.Native.Nat.{ℕ, zero, suc, _+_, _-_, _*_, _<_, _≤_}
-use native.Mathlib.Nat.{zero-add, mul-le-mul, not-suc-le-zero}
+use mathlib.Core.List.{List, _++_}
+use Prim.Native.Nat.{ℕ, _+_, _-_, _*_, _<_, _≤_}
+use native.Mathlib.Nat.{zero-add, mul-le-mul}
 use native.Mathlib.Decide.{decLt}
 use native.Mathlib.Omega.{arith}
-use lib.ListN.{length, getD, take, drop, length-append, length-drop, List·getD-append, List·getD-eq-default}
-use lib.Seq.{length-take-le, getD-take, getD-drop, getD-append-seam}
+use lib.ListN.{length, getD, take, drop, length-drop, List·getD-eq-default}
+use lib.Seq.{length-take-le, getD-take, getD-drop}
 use Rattle.gf256.specs.Gf.{times}
 use Rattle.gf256.specs.Poly.{through}
 use Rattle.gf256.specs.Bytes.{bytes}
 use Rattle.gf256.proofs.Byte.{through-value}
 use Rattle.cluster.specs.Config.{upTo}
+use Rattle.cluster.proofs.Legal.{upTo-length, upTo-at}
 use Rattle.erasure.specs.Fragments.{table}
 use Rattle.erasure.specs.Steps.{zeros, fragmentRoom}
 use Rattle.erasure.specs.System.{width, AllDifferent, Weighs}
@@ -25,24 +26,8 @@ table-ext n g h e = table-is n (table n g) h (length-table n g) (λ i b. getD-ta
 
 -- ---- the points 1, 2, ..
 
-pub length-upTo : (n : ℕ) → length (upTo n) ≡ n
-unfolding upTo
-length-upTo zero = refl
-length-upTo (suc n) = length-append (upTo n) (suc n ∷ []) ∙ omega (arith, length-upTo n)
-
-pub getD-upTo : (n i : ℕ) → i < n → getD (upTo n) i 0 ≡ i + 1
-unfolding upTo
-getD-upTo zero i h = absurd (not-suc-le-zero h)
-getD-upTo (suc n) i h = go (decLt i n) (getD-upTo n i)
-  where
-    go : Dec (i < n) → (i < n → getD (upTo n) i 0 ≡ i + 1) → getD (upTo n ++ (suc n ∷ [])) i 0 ≡ i + 1
-    go (yes b) k = List·getD-append (upTo n) (suc n ∷ []) 0 i (subst (λ (x : ℕ). i < x) (sym (length-upTo n)) b) ∙ k b
-    go (no nb) k =
-        let e : i ≡ length (upTo n) = omega (arith, length-upTo n) in
-        ap (λ (x : ℕ). getD (upTo n ++ (suc n ∷ [])) x 0) e ∙ getD-append-seam (upTo n) (suc n) [] 0 ∙ omega (arith, length-upTo n)
-
 pub plain-is : (k : ℕ) (xs : List ℕ) → k ≤ width → length xs ≡ width → ((j : ℕ) → j < width → getD xs j 0 ≡ j + 1) → take k xs ≡ upTo k
-plain-is k xs h l e = take-is k xs (upTo k) (omega arith) (length-upTo k) (λ i b. e i (omega arith) ∙ sym (getD-upTo k i b))
+plain-is k xs h l e = take-is k xs (upTo k) (omega arith) (upTo-length k) (λ i b. e i (omega arith) ∙ sym (upTo-at k i b))
 
 pub plain-different : (k : ℕ) (xs : List ℕ) → k ≤ width → ((j : ℕ) → j < width → getD xs j 0 ≡ j + 1) → AllDifferent k xs
 plain-different k xs h e i j hi hj ne q = ne (let p : i + 1 ≡ j + 1 = sym (e i (omega arith)) ∙ q ∙ e j (omega arith) in omega arith)
@@ -144,6 +129,6 @@ plain-made k f j content kb h small =
     table-ext f (λ q. through bytes (upTo k) (table k (λ i. getD content (i * f + q) 0)) (j + 1)) (λ q. getD content (j * f + q) 0)
     (λ q b.
     ap₂ (λ (u : List ℕ) (z : ℕ). through bytes u (table k (λ i. getD content (i * f + q) 0)) z)
-    (sym (take-is k (upTo k) (upTo k) (omega (arith, length-upTo k)) (length-upTo k) (λ i _. refl))) (sym (getD-upTo k j h))
-    ∙ value-at k (upTo k) (λ i. getD content (i * f + q) 0) (omega (arith, length-upTo k)) (λ i l. omega (arith, getD-upTo k i l)) (λ i. small (i * f + q))
-    (λ i m hi hm ne e. ne (let p : i + 1 ≡ m + 1 = sym (getD-upTo k i hi) ∙ e ∙ getD-upTo k m hm in omega arith)) j h)
+    (sym (take-is k (upTo k) (upTo k) (omega (arith, upTo-length k)) (upTo-length k) (λ i _. refl))) (sym (upTo-at k j h))
+    ∙ value-at k (upTo k) (λ i. getD content (i * f + q) 0) (omega (arith, upTo-length k)) (λ i l. omega (arith, upTo-at k i l)) (λ i. small (i * f + q))
+    (λ i m hi hm ne e. ne (let p : i + 1 ≡ m + 1 = sym (upTo-at k i hi) ∙ e ∙ upTo-at k m hm in omega arith)) j h)

@@ -2,46 +2,22 @@
 -- Each law goes through the cases of its tests. Nothing is assumed.
 use mathlib.Core.Path.{_≡_, refl, sym, ap, ap₂, _∙_}
 use mathlib.Core.Logic.{_≢_}
-use mathlib.Core.Bool.{Bool, true, false, not, cond, _&&_, true≢false}
+use mathlib.Core.Bool.{Bool, true, false, not, cond, _&&_}
 use mathlib.Core.List.{List, [], _∷_, _++_}
 use Prim.Native.Nat.{ℕ, zero, suc, _+_, _*_, _/_, _%_, _<_, _≤_, suc-le-suc}
 use native.Mathlib.Nat.{zero-lt-suc, le-of-suc-le-suc, not-suc-le-zero, suc-ne-zero, mul-mod-left, mul-div-cancel, div-add-mod', add-zero}
-use native.Mathlib.Decide.{ℕ-discrete, decLt}
-use native.Mathlib.Omega.{arith}
-use lib.Dec.{eqb, leb, ltb}
+use native.Mathlib.Decide.{ℕ-discrete}
+use lib.Dec.{eqb, ltb}
 use lib.ListN.{length, getD}
-use borrow.Author.Tests.{eq-eqb, ne-eqb, le-leb, lt-leb, lt-ltb, le-ltb, leb-true, ltb-false, eqb-true, not-false}
+use borrow.Author.Tests.{eq-eqb, ne-eqb, ltb-false, eqb-true, not-false}
 use Rattle.cluster.specs.Config.{shelf}
 use Rattle.cluster.specs.Ranges.{within, leastLength, topLength, topFaults, contentRoom}
 use Rattle.cluster.specs.Refusals.{Check, firstOf}
+use Rattle.cluster.proofs.Tests.{and-both, within-bounds}
 use Rattle.erasure.specs.Fragments.{fragmentSize}
 use Rattle.erasure.specs.Steps.{each, fragmentRefusal, argumentChecks}
 
 -- ---- ranges and counts
-
-pub within-in : (lo hi x : ℕ) → lo ≤ x → x ≤ hi → within lo hi x ≡ true
-within-in lo hi x a b = ap₂ (λ s t. s && t) (le-leb lo x a) (le-leb x hi b)
-
-pub within-low : (lo hi x : ℕ) → x < lo → within lo hi x ≡ false
-within-low lo hi x a = ap (λ t. t && leb x hi) (lt-leb lo x a)
-
-pub within-high : (lo hi x : ℕ) → lo ≤ x → hi < x → within lo hi x ≡ false
-within-high lo hi x a b = ap₂ (λ s t. s && t) (le-leb lo x a) (lt-leb x hi b)
-
--- past the lower end only the upper one counts
-pub outside-high : (lo hi x : ℕ) → lo ≤ x → ltb hi x ≡ not (within lo hi x)
-outside-high lo hi x l = go (decLt hi x)
-  where
-    go : Dec (hi < x) → ltb hi x ≡ not (within lo hi x)
-    go (yes h) = lt-ltb hi x h ∙ sym (ap not (within-high lo hi x l h))
-    go (no h) = let u : x ≤ hi = omega arith in le-ltb hi x u ∙ sym (ap not (within-in lo hi x l u))
-
-and-both : (a b : Bool) → (a && b) ≡ true → (a ≡ true) × (b ≡ true)
-and-both true b e = (refl, e)
-and-both false b e = absurd (true≢false (sym e))
-
-pub within-bounds : (lo hi x : ℕ) → within lo hi x ≡ true → (lo ≤ x) × (x ≤ hi)
-within-bounds lo hi x e = let (a, b) = and-both (leb lo x) (leb x hi) e in (leb-true lo x a, leb-true x hi b)
 
 pub each-fails : (f : ℕ → Bool) (xs : List ℕ) (i : ℕ) → i < length xs → f (getD xs i 0) ≡ false → each f xs ≡ false
 unfolding each

@@ -2,30 +2,30 @@
 -- servers in between, are restored to that content. A server's fragment is found again at its place among those given, the places chosen are
 -- of k different servers, and k fragments of different servers determine the content. Nothing is assumed.
 use mathlib.Core.Path.{_≡_, refl, sym, ap, ap₂, subst, _∙_}
-use mathlib.Core.Logic.{_≢_}
 use mathlib.Core.Bool.{false, not}
 use mathlib.Core.List.{List, [], _∷_, _++_, map}
 use Prim.Native.Nat.{ℕ, zero, suc, _+_, _-_, _*_, _<_, _≤_, suc-le-suc}
 use native.Mathlib.Nat.{zero-lt-suc, le-of-suc-le-suc, not-suc-le-zero, suc-mul, zero-mul}
-use native.Mathlib.Decide.{decLt}
 use native.Mathlib.Omega.{arith}
 use borrow.Author.Tests.{le-ltb, eq-eqb}
-use lib.ListN.{length, getD, take, drop, length-append, length-map, List·getD-eq-default}
+use lib.ListN.{length, getD, take, drop, length-append, length-map}
 use lib.Seq.{take-at, drop-at, drop-drop}
-use Rattle.gf256.proofs.Byte.{Small, DistinctN}
+use Rattle.gf256.proofs.Byte.{Small}
+use Rattle.gf256.proofs.Apart.{Distinct}
 use Rattle.cluster.specs.Config.{shelf, upTo}
+use Rattle.cluster.proofs.Legal.{upTo-length, legal-shelf}
 use Rattle.cluster.specs.Ranges.{within, leastLength, topLength, topFaults, contentRoom}
 use Rattle.cluster.specs.Refusals.{firstOf, onRefusal}
+use Rattle.cluster.proofs.Tests.{within-in}
 use Rattle.erasure.specs.declared.FragmentOutcome.{FragmentOutcome}
-use Rattle.erasure.specs.Fragments.{fragmentSize, Part, restored, PointTable}
+use Rattle.erasure.specs.Fragments.{fragmentSize, Part, restored}
 use Rattle.erasure.specs.Choice.{serversAt, firstDifferent, partsAt}
 use Rattle.erasure.specs.Steps.{fragmentRefusal, fragmentBytes, fragmentStep, zeros, fragmentRoom, argumentChecks, restoredBytes, restoreStep}
 use Rattle.erasure.proofs.Lists.{getD-map, distinct-of}
-use Rattle.erasure.proofs.Laws.{partOf, Servers, fragment-length, restores}
+use Rattle.erasure.proofs.Laws.{legal-table, partOf, Servers, fragment-length, restores}
 use Rattle.erasure.proofs.Choosing.{chosen-lt, chosen-ordered}
 use Rattle.erasure.proofs.Enough.{Stands, enough}
-use Rattle.erasure.proofs.Refused.{within-in, each-holds, fragment-tests, argument-tests}
-use Rattle.erasure.proofs.Placed.{length-upTo, getD-upTo}
+use Rattle.erasure.proofs.Refused.{each-holds, fragment-tests, argument-tests}
 use Rattle.erasure.proofs.Chosen.{restore-accepted, refused-none}
 
 -- ---- lists, one after the other
@@ -55,26 +55,6 @@ module _ (f : ℕ) (g : ℕ → List ℕ) (long : (s : ℕ) → length (g s) ≡
 map-at : (g h : ℕ → List ℕ) (ss : List ℕ) → ((i : ℕ) → i < length ss → g (getD ss i 0) ≡ h (getD ss i 0)) → map g ss ≡ map h ss
 map-at g h [] e = refl
 map-at g h (s ∷ ss) e = ap₂ (λ (x : List ℕ) (xs : List (List ℕ)). x ∷ xs) (e 0 (zero-lt-suc (length ss))) (map-at g h ss (λ i b. e (suc i) (suc-le-suc b)))
-
--- ---- the shelf's table
-
-shelf-table : (t : ℕ) → t ≤ topFaults → PointTable (upTo (3 * t + 1))
-shelf-table t h = record { bytes = byte; different = differ }
-  where
-    byte : (i : ℕ) → getD (upTo (3 * t + 1)) i 0 < 256
-    byte i = go (decLt i (3 * t + 1))
-      where
-        go : Dec (i < 3 * t + 1) → getD (upTo (3 * t + 1)) i 0 < 256
-        go (yes b) = omega (arith, getD-upTo (3 * t + 1) i b)
-        go (no n) =
-            let past : length (upTo (3 * t + 1)) ≤ i = omega (arith, length-upTo (3 * t + 1)) in
-            omega (arith, List·getD-eq-default (upTo (3 * t + 1)) 0 past)
-
-    differ : (i j : ℕ) → i < length (upTo (3 * t + 1)) → j < length (upTo (3 * t + 1)) → i ≢ j → getD (upTo (3 * t + 1)) i 0 ≢ getD (upTo (3 * t + 1)) j 0
-    differ i j hi hj ne e =
-        let bi : i < 3 * t + 1 = subst (λ (n : ℕ). i < n) (length-upTo (3 * t + 1)) hi in
-        let bj : j < 3 * t + 1 = subst (λ (n : ℕ). j < n) (length-upTo (3 * t + 1)) hj in
-        ne (omega (arith, getD-upTo (3 * t + 1) i bi, getD-upTo (3 * t + 1) j bj, e))
 
 -- ---- what the operation that makes a fragment gives: its first bytes, as many as it counts
 
@@ -107,7 +87,7 @@ module _ (t : ℕ) (content : List ℕ) (faults : (1 ≤ t) × (t ≤ topFaults)
       ∙ take-at (fragmentBytes t server content) (zeros (fragmentRoom - f)) f (made-length server)
 
   module _ (servers ds output : List ℕ) (numbers : (i : ℕ) → i < length servers → (1 ≤ getD servers i 0) × (getD servers i 0 ≤ s))
-      (different : DistinctN ds) (many : k ≤ length ds) (stand : (i : ℕ) → i < length ds → Stands (getD ds i 0) servers)
+      (different : Distinct ds) (many : k ≤ length ds) (stand : (i : ℕ) → i < length ds → Stands (getD ds i 0) servers)
       (room : contentRoom ≤ length output) (small : Small content) where
     given : List ℕ
     given = joined (map (λ i. fragmentBytes t i content) servers)
@@ -143,13 +123,13 @@ module _ (t : ℕ) (content : List ℕ) (faults : (1 ≤ t) × (t ≤ topFaults)
         let b : i < length places = subst (λ (x : ℕ). i < x) (length-map places (λ p. getD servers p 0)) h in
         let e : getD (serversAt servers places) i 0 ≡ getD servers (getD places i 0) 0 = getD-map (λ p. getD servers p 0) places i 0 0 b in
         let r = numbers (getD places i 0) (place-lt i b) in
-        subst (λ (x : ℕ). (1 ≤ x) × (x ≤ length (upTo (3 * t + 1)))) (sym e) (r .0, omega (arith, r .1, length-upTo (3 * t + 1)))
+        subst (λ (x : ℕ). (1 ≤ x) × (x ≤ length (upTo (3 * t + 1)))) (sym e) (r .0, omega (arith, r .1, upTo-length (3 * t + 1)))
 
     restored-is : restoredBytes t (length content) servers given ≡ content
     unfolding restoredBytes shelf places firstDifferent
     restored-is =
         ap (restored (shelf t .points) k (length content)) (parts-are places place-lt)
-        ∙ restores (shelf t .points) k content (shelf-table t (faults .1)) (omega arith) (omega (arith, length-upTo (3 * t + 1))) small (serversAt servers places) chosen-in
+        ∙ restores (shelf t .points) k content (legal-table (legal-shelf t (faults .0) (faults .1))) (omega arith) (omega (arith, upTo-length (3 * t + 1))) small (serversAt servers places) chosen-in
         (distinct-of (serversAt servers places) (chosen-ordered k servers (length servers)))
         (omega (arith, enough-chosen, length-map places (λ p. getD servers p 0)))
 

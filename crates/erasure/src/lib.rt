@@ -35,7 +35,7 @@ fn servers_of(t: usize) -> usize
     requires { ⌜ t ≤ topFaults ⌝ }
     ensures { λ r. ⌜ r ≡ shelf t .servers ⌝ }
 {
-    3 * t + 1
+    cluster::servers(t as u8)
 }
 
 // k: how many fragments give a content back.
@@ -43,7 +43,7 @@ fn shares_of(t: usize) -> usize
     requires { ⌜ t ≤ topFaults ⌝ }
     ensures { λ r. ⌜ r ≡ shelf t .shares ⌝ }
 {
-    t + 1
+    cluster::shares(t as u8)
 }
 
 // The length of each fragment of a content of n bytes.
@@ -54,23 +54,7 @@ fn size(k: usize, n: usize) -> usize
     (n + k - 1) / k
 }
 
-fn wide(x: u8) -> usize
-    ensures { λ r. ⌜ r ≡ x ⌝ }
-{
-    x as usize
-}
-
 // ---- refusals
-
-// Whether x is not from lo to hi.
-fn outside(lo: usize, hi: usize, x: usize) -> bool
-    ensures { λ r. ⌜ r ≡ not (within lo hi x) ⌝ }
-{
-    if x < lo {
-        return true;
-    }
-    hi < x
-}
 
 // Whether a server is not from 1 to most.
 fn server_outside(servers: &[u8], most: usize) -> bool
@@ -78,7 +62,7 @@ fn server_outside(servers: &[u8], most: usize) -> bool
 {
     let mut i: usize = 0;
     while i < servers.len() {
-        if outside(1, most, wide(servers[i])) {
+        if cluster::outside(1, most, servers[i] as usize) {
             return true;
         }
         i += 1;
@@ -100,13 +84,13 @@ fn miscounted(given: usize, count: usize, f: usize) -> bool
 fn fragment_refusal(t: usize, server: usize, n: usize) -> u8
     ensures { λ r. ⌜ r ≡ fragmentRefusal t server n ⌝ }
 {
-    if outside(1, cluster::TOP_FAULTS, t) {
+    if cluster::outside(1, cluster::TOP_FAULTS, t) {
         return 3;
     }
-    if outside(1, servers_of(t), server) {
+    if cluster::outside(1, servers_of(t), server) {
         return 4;
     }
-    if outside(cluster::LEAST_LENGTH, cluster::TOP_LENGTH, n) {
+    if cluster::outside(cluster::LEAST_LENGTH, cluster::TOP_LENGTH, n) {
         return 6;
     }
     0
@@ -116,13 +100,13 @@ fn fragment_refusal(t: usize, server: usize, n: usize) -> u8
 fn restore_refusal(t: usize, n: usize, servers: &[u8], given: usize, room: usize) -> u8
     ensures { λ r. ⌜ r ≡ firstOf (argumentChecks t n (now (servers .entry)) given room) ⌝ }
 {
-    if outside(1, cluster::TOP_FAULTS, t) {
+    if cluster::outside(1, cluster::TOP_FAULTS, t) {
         return 3;
     }
     if server_outside(servers, servers_of(t)) {
         return 4;
     }
-    if outside(cluster::LEAST_LENGTH, cluster::TOP_LENGTH, n) {
+    if cluster::outside(cluster::LEAST_LENGTH, cluster::TOP_LENGTH, n) {
         return 6;
     }
     if room < cluster::CONTENT_ROOM {
@@ -178,10 +162,7 @@ pub fn restore(
 {
     let number = restore_refusal(t, length, servers, fragments.len(), out.len());
     if number != 0 {
-        return cluster::Outcome {
-            number: number,
-            count: 0,
-        };
+        return cluster::refused(number);
     }
     let k = shares_of(t);
     let c = choice::select(servers, k);
@@ -189,10 +170,7 @@ pub fn restore(
     let at = c.at;
     let count = c.count;
     if count < k {
-        return cluster::Outcome {
-            number: 16,
-            count: 0,
-        };
+        return cluster::refused(16);
     }
     runs::rebuild(chosen, at, fragments, k, size(k, length), length, out);
     cluster::Outcome {

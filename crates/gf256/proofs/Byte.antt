@@ -16,7 +16,7 @@ use Rattle.gf256.proofs.Xor.{xor-assoc}
 use Rattle.gf256.proofs.Linear.{times-lt, times-comm, times-assoc, one-times, times-xor-r}
 use Rattle.gf256.proofs.Tables.{inverse-lt, times-inverse-suc}
 use Rattle.gf256.proofs.Field.{Laws}
-use Rattle.gf256.proofs.Roots.{Distinct, Apart}
+use Rattle.gf256.proofs.Apart.{Apart, Distinct}
 use Rattle.gf256.proofs.Coefficients.{throughC, length-throughC, throughC-eval}
 use Rattle.gf256.proofs.Through.{restored, through-at, through-is}
 
@@ -107,20 +107,11 @@ pub lift-length : (xs : List ℕ) (s : Small xs) → length (lift xs s) ≡ leng
 lift-length [] s = refl
 lift-length (x ∷ xs) s = ap suc (lift-length xs (s .1))
 
--- x is none of the points; the points are all different
-abbrev pub ApartN : ℕ → List ℕ → Type 0
-ApartN x [] = Unit {0}
-ApartN x (y ∷ ys) = (x ≢ y) × ApartN x ys
-
-abbrev pub DistinctN : List ℕ → Type 0
-DistinctN [] = Unit {0}
-DistinctN (x ∷ xs) = ApartN x xs × DistinctN xs
-
-lift-apart : (x : ℕ) (h : x < 256) (xs : List ℕ) (s : Small xs) → ApartN x xs → Apart field laws (x, h) (lift xs s)
+lift-apart : (x : ℕ) (h : x < 256) (xs : List ℕ) (s : Small xs) → Apart x xs → Apart (x, h) (lift xs s)
 lift-apart x h [] s d = tt
 lift-apart x h (y ∷ ys) s d = (λ e. d .0 (ap (λ (b : Byte). b .0) e), lift-apart x h ys (s .1) (d .1))
 
-pub lift-distinct : (xs : List ℕ) (s : Small xs) → DistinctN xs → Distinct field laws (lift xs s)
+pub lift-distinct : (xs : List ℕ) (s : Small xs) → Distinct xs → Distinct (lift xs s)
 lift-distinct [] s d = tt
 lift-distinct (x ∷ xs) s d = (lift-apart x (s .0) xs (s .1) (d .0), lift-distinct xs (s .1) (d .1))
 
@@ -148,7 +139,7 @@ lift-getD (x ∷ xs) s zero = refl
 lift-getD (x ∷ xs) s (suc i) = lift-getD xs (s .1) i
 
 -- at the i-th point the polynomial has the i-th value
-pub through-value : (xs ys : List ℕ) → Small xs → Small ys → length ys ≡ length xs → DistinctN xs → (i : ℕ) → i < length xs
+pub through-value : (xs ys : List ℕ) → Small xs → Small ys → length ys ≡ length xs → Distinct xs → (i : ℕ) → i < length xs
     → through bytes xs ys (getD xs i 0) ≡ getD ys i 0
 through-value xs ys sx sy l d i b =
     let z : Byte = getD (lift xs sx) i nilB in
@@ -160,7 +151,7 @@ through-value xs ys sx sy l d i b =
     ∙ lift-getD ys sy i
 
 -- fragments of as many different points as there are runs give each run back
-pub restored-bytes : (ps rs xs : List ℕ) → Small ps → Small rs → Small xs → length rs ≡ length ps → DistinctN ps → length xs ≡ length ps → DistinctN xs
+pub restored-bytes : (ps rs xs : List ℕ) → Small ps → Small rs → Small xs → length rs ≡ length ps → Distinct ps → length xs ≡ length ps → Distinct xs
     → (i : ℕ) → i < length ps → through bytes xs (map (through bytes ps rs) xs) (getD ps i 0) ≡ getD rs i 0
 restored-bytes ps rs xs sp sr sx lr dp lx dx i b =
     let f : Byte → Byte = through field (lift ps sp) (lift rs sr) in
@@ -179,7 +170,7 @@ eval-lift : (p : List ℕ) (s : Small p) (z : ℕ) (h : z < 256) → eval field 
 eval-lift p s z h = eval-number (lift p s) (z, h) ∙ ap (λ (u : List ℕ). eval bytes u z) (lift-map p s)
 
 -- any such polynomial has the value `through` at every byte
-pub the-one : (xs ys p : List ℕ) → Small xs → Small ys → Small p → length p ≡ length xs → length ys ≡ length xs → DistinctN xs
+pub the-one : (xs ys p : List ℕ) → Small xs → Small ys → Small p → length p ≡ length xs → length ys ≡ length xs → Distinct xs
     → ((i : ℕ) → i < length xs → eval bytes p (getD xs i 0) ≡ getD ys i 0) → (z : ℕ) → z < 256 → eval bytes p z ≡ through bytes xs ys z
 the-one xs ys p sx sy sp lp ly d e z h =
     sym (eval-lift p sp z h)

@@ -6,6 +6,7 @@ use mathlib.Core.Bool.{cond}
 use Prim.Native.Nat.{ℕ, suc, _≤_, _<_, zero-le}
 use native.Mathlib.Decide.{ℕ-discrete}
 use native.Mathlib.Omega.{arith}
+use native.Mathlib.Nat.{ne-of-lt}
 use borrow.Author.Tests.{eq-eqb, ne-eqb}
 use lib.Arith.{lt-of-le-ne}
 use lib.Dec.{eqb}
@@ -100,17 +101,11 @@ module _ (O : Ops) (L : Laws O) where
   half-none k a v u y u0 u1 y0 y1 r b =
       y1 r zero-le b ∙ sum-ext O L k (λ c. a r c ⊗ v c) (λ c. a r c ⊗ u c) (λ c bc. ap (λ s. a r c ⊗ s) (sym (u1 c zero-le bc)))
 
-  lt-ne : {c p : ℕ} → c < p → c ≢ p
-  lt-ne h = λ e. omega arith
-
-  pub gt-ne : {c p : ℕ} → p < c → c ≢ p
-  gt-ne h = λ e. omega arith
-
   pub half-more : (k p : ℕ) (a m m′ : ℕ → ℕ → F) (d : F) → Turned k p d m m′ → p < k → m p p ⊗ d ≡ 1# → Half k a p m → Half k a (suc p) m′
   half-more k p a m m′ d t small unit half v′ u y u0 u1 y0 y1 =
-      half v u y (λ c b. u0 c (omega arith) ∙ sym (turned-r k p d m m′ t small unit v′ c (omega arith) (lt-ne b)))
+      half v u y (λ c b. u0 c (omega arith) ∙ sym (turned-r k p d m m′ t small unit v′ c (omega arith) (ne-of-lt b)))
       (λ c h b. late c h b (ℕ-discrete c p))
-      (λ r b. y0 r (omega arith) ∙ sym (put-there p w v′ r (lt-ne b)))
+      (λ r b. y0 r (omega arith) ∙ sym (put-there p w v′ r (ne-of-lt b)))
       (λ r h b. late-y r h b (ℕ-discrete r p))
     where
       w : F

@@ -6,8 +6,8 @@ use native.Mathlib.Nat.{mul-one, mul-add, mul-comm, mul-assoc, div-one, div-add-
 use native.Mathlib.Omega.{arith}
 use lib.Bits.{bitXor, xor-zero-r, xor-self, xor-shr, xor-lt, xor-add-and}
 use Rattle.gf256.specs.Gf.{xtime, timesBits, times, product, Remainder}
-use Rattle.gf256.proofs.Xor.{xor-assoc, xor-swap, xor-double}
-use Rattle.gf256.proofs.Linear.{bit, bit-xor, bit-through, xtime-lt, times-lt}
+use Rattle.gf256.proofs.Xor.{bit, xor-assoc, xor-swap, xor-double}
+use Rattle.gf256.proofs.Linear.{bit-xor, bit-through, xtime-lt, times-lt}
 
 -- a product by fixed bits is linear
 product-xor : (n a c b : ℕ) → product n (bitXor a c) b ≡ bitXor (product n a b) (product n c b)

@@ -17,6 +17,7 @@ use Rattle.gf256.proofs.Coefficients
 use Rattle.gf256.proofs.Through
 use Rattle.gf256.proofs.Sums
 use Rattle.gf256.proofs.Powers
+use Rattle.gf256.proofs.Apart.{Distinct, apart-at}
 use Rattle.gf256.proofs.Roots.{plus}
 use Rattle.gf256.proofs.Powers.{tab}
 
@@ -25,9 +26,6 @@ module _ (O : Ops) (L : Field.Laws O) where
   infixl 70 _⊗_
   open Ops O using (F, nil as 0#, one as 1#, add as _⊕_, mul as _⊗_, inv)
   open Field.Laws L using (add-self, mul-comm, mul-assoc, one-mul, mul-inv)
-
-  abbrev Distinct : List F → Type 0
-  Distinct = Roots.Distinct O L
 
   -- all points but the j-th
   omit : ℕ → List F → List F
@@ -54,18 +52,13 @@ module _ (O : Ops) (L : Field.Laws O) where
   others-nil (x ∷ xs) (suc i) (suc j) h ne =
       ap (λ t. (getD xs i 0# ⊕ x) ⊗ t) (others-nil xs i j (le-of-suc-le-suc h) (λ e. ne (ap suc e))) ∙ Field.mul-nil O L _
 
-  apart-at : (x : F) (xs : List F) (j : ℕ) → Roots.Apart O L x xs → j < length xs → x ≢ getD xs j 0#
-  apart-at x [] j a h = absurd (not-suc-le-zero h)
-  apart-at x (y ∷ ys) zero a h = a .0
-  apart-at x (y ∷ ys) (suc j) a h = apart-at x ys j (a .1) (le-of-suc-le-suc h)
-
   others-ne : (xs : List F) (j : ℕ) → Distinct xs → j < length xs → others xs j (getD xs j 0#) ≢ 0#
   unfolding others omit vanish
   others-ne [] j d h = absurd (not-suc-le-zero h)
   others-ne (x ∷ xs) zero d h = Through.vanish-ne O L x xs (d .0)
   others-ne (x ∷ xs) (suc j) d h = λ e.
       others-ne xs j (d .1) (le-of-suc-le-suc h)
-      (Field.factor-nil O L (getD xs j 0# ⊕ x) _ (λ q. apart-at x xs j (d .0) (le-of-suc-le-suc h) (sym (Field.eq-of-sum O L (getD xs j 0#) x q))) e)
+      (Field.factor-nil O L (getD xs j 0# ⊕ x) _ (λ q. apart-at 0# x xs (d .0) j (le-of-suc-le-suc h) (sym (Field.eq-of-sum O L (getD xs j 0#) x q))) e)
 
   -- what the value at the j-th point counts for at z
   weight : List F → ℕ → F → F

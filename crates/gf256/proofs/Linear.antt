@@ -2,16 +2,13 @@
 use mathlib.Core.Path.{_≡_, refl, sym, ap, ap₂, _∙_, subst}
 use mathlib.Core.Bool.{Bool}
 use Prim.Native.Nat.{ℕ, zero, suc, _*_, _/_, _%_, _<_}
-use native.Mathlib.Nat.{mod-lt, zero-lt-suc, zero-mul, mul-zero, one-mul}
+use native.Mathlib.Nat.{zero-lt-suc, zero-mul, mul-zero, one-mul}
 use native.Mathlib.Omega.{arith}
 use lib.Dec.{eqb, eqb→eq, ltb, ltb→lt}
-use lib.Bits.{bitXor, differ, xor-shr, xor-lt, xor-self, xor-zero-r}
+use lib.Bits.{xor-mod, bitXor, xor-shr, xor-lt, xor-self, xor-zero-r}
 use Rattle.gf256.specs.Gf.{xtime, timesBits, times}
-use Rattle.gf256.proofs.Xor.{xor-swap, xor-half, xor-odd, xor-double}
+use Rattle.gf256.proofs.Xor.{bit, xor-swap, xor-half, xor-double}
 use Rattle.gf256.proofs.Test.{each-at}
-
-pub bit : (a : ℕ) → a % 2 < 2
-bit a = mod-lt a (zero-lt-suc 1)
 
 -- a bit times a sum, and a sum of bits times a number
 pub bit-xor : (x a b : ℕ) → x < 2 → x * bitXor a b ≡ bitXor (x * a) (x * b)
@@ -19,7 +16,7 @@ bit-xor zero a b h = zero-mul (bitXor a b) ∙ sym (ap₂ bitXor (zero-mul a) (z
 bit-xor (suc zero) a b h = one-mul (bitXor a b) ∙ sym (ap₂ bitXor (one-mul a) (one-mul b))
 bit-xor (suc (suc x)) a b h = absurd (omega arith)
 
-xor-bit : (x y a : ℕ) → x < 2 → y < 2 → differ x y * a ≡ bitXor (x * a) (y * a)
+xor-bit : (x y a : ℕ) → x < 2 → y < 2 → bitXor x y * a ≡ bitXor (x * a) (y * a)
 xor-bit zero y a hx hy = sym (ap (λ (z : ℕ). bitXor z (y * a)) (zero-mul a))
 xor-bit (suc zero) zero a hx hy = sym (ap (λ (z : ℕ). bitXor (1 * a) z) (zero-mul a) ∙ xor-zero-r (1 * a))
 xor-bit (suc zero) (suc zero) a hx hy = zero-mul a ∙ sym (xor-self (1 * a))
@@ -31,19 +28,11 @@ bit-lt zero a h k = subst (λ (z : ℕ). z < 256) (sym (zero-mul a)) (zero-lt-su
 bit-lt (suc zero) a h k = subst (λ (z : ℕ). z < 256) (sym (one-mul a)) k
 bit-lt (suc (suc x)) a h k = absurd (omega arith)
 
--- the top bit of a byte
-top-xor : (x y m : ℕ) → x < 2 → y < 2 → bitXor x y * m ≡ bitXor (x * m) (y * m)
-top-xor zero y m hx hy = sym (ap (λ (z : ℕ). bitXor z (y * m)) (zero-mul m))
-top-xor (suc zero) zero m hx hy = sym (ap (λ (z : ℕ). bitXor (1 * m) z) (zero-mul m) ∙ xor-zero-r (1 * m))
-top-xor (suc zero) (suc zero) m hx hy = zero-mul m ∙ sym (xor-self (1 * m))
-top-xor (suc zero) (suc (suc y)) m hx hy = absurd (omega arith)
-top-xor (suc (suc x)) y m hx hy = absurd (omega arith)
-
 pub xtime-xor : (a b : ℕ) → a < 256 → b < 256 → xtime (bitXor a b) ≡ bitXor (xtime a) (xtime b)
 unfolding xtime
 xtime-xor a b ha hb =
     ap₂ bitXor (xor-double a b)
-    (ap (λ (x : ℕ). x * 0x11b) (xor-shr a b 7) ∙ top-xor (a / 128) (b / 128) 0x11b (omega arith) (omega arith))
+    (ap (λ (x : ℕ). x * 0x11b) (xor-shr a b 7) ∙ xor-bit (a / 128) (b / 128) 0x11b (omega arith) (omega arith))
     ∙ xor-swap (a * 2) (b * 2) (a / 128 * 0x11b) (b / 128 * 0x11b)
 
 xtimeSmall : ℕ → Bool
@@ -75,7 +64,7 @@ timesBits-xor-r : (n a b c : ℕ) → timesBits n a (bitXor b c) ≡ bitXor (tim
 unfolding timesBits
 timesBits-xor-r zero a b c = refl
 timesBits-xor-r (suc n) a b c =
-    ap₂ bitXor (ap (λ (x : ℕ). x * a) (xor-odd b c) ∙ xor-bit (b % 2) (c % 2) a (bit b) (bit c))
+    ap₂ bitXor (ap (λ (x : ℕ). x * a) (xor-mod b c 1) ∙ xor-bit (b % 2) (c % 2) a (bit b) (bit c))
     (ap (timesBits n (xtime a)) (xor-half b c) ∙ timesBits-xor-r n (xtime a) (b / 2) (c / 2))
     ∙ xor-swap (b % 2 * a) (c % 2 * a) (timesBits n (xtime a) (b / 2)) (timesBits n (xtime a) (c / 2))
 

@@ -5,7 +5,7 @@ use mathlib.Core.Logic.{_≢_}
 use mathlib.Core.Bool.{cond}
 use mathlib.Core.List.{List, [], _∷_}
 use Prim.Native.Nat.{ℕ, zero, suc, _≤_, _<_, suc-le-suc}
-use native.Mathlib.Nat.{suc-inj, suc-ne-zero, le-of-suc-le-suc, not-suc-le-zero, zero-lt-suc}
+use native.Mathlib.Nat.{suc-inj, suc-ne-zero, le-of-suc-le-suc, not-suc-le-zero, zero-lt-suc, ne-of-gt}
 use native.Mathlib.Decide.{ℕ-discrete}
 use native.Mathlib.Omega.{arith}
 use borrow.Author.Tests.{lt-ltb, le-ltb}
@@ -14,10 +14,11 @@ use lib.Dec.{ltb}
 use lib.ListN.{length, getD}
 use Rattle.gf256.specs.Poly.{Ops, eval, through}
 use Rattle.gf256.proofs.Field.{Laws, add-nil, mul-nil, mul-one}
-use Rattle.gf256.proofs.Roots.{Roots, Apart, Distinct, lead, lead-nil}
+use Rattle.gf256.proofs.Apart.{Apart, Distinct}
+use Rattle.gf256.proofs.Roots.{Roots, lead, lead-nil}
 use Rattle.gf256.proofs.Through.{through-is}
 use Rattle.gf256.proofs.Sums.{sum, sum-ext, sum-mul, sum-swap, sum-short, sum-pick, rest-nil}
-use Rattle.gf256.proofs.Exchange.{row, put, put-here, put-there, Half, gt-ne}
+use Rattle.gf256.proofs.Exchange.{row, put, put-here, put-there, Half}
 
 module _ (O : Ops) (L : Laws O) where
   infixl 65 _⊕_
@@ -63,12 +64,12 @@ module _ (O : Ops) (L : Laws O) where
   abbrev pub Different : ℕ → (ℕ → F) → Type 0
   Different n x = (i j : ℕ) → i < n → j < n → i ≢ j → x i ≢ x j
 
-  apart-tab : (y : F) (n : ℕ) (x : ℕ → F) → ((i : ℕ) → i < n → y ≢ x i) → Apart O L y (tab n x)
+  apart-tab : (y : F) (n : ℕ) (x : ℕ → F) → ((i : ℕ) → i < n → y ≢ x i) → Apart y (tab n x)
   unfolding tab
   apart-tab y zero x h = tt
   apart-tab y (suc n) x h = (h 0 (zero-lt-suc n), apart-tab y n (λ i. x (suc i)) (λ i b. h (suc i) (suc-le-suc b)))
 
-  pub distinct-tab : (n : ℕ) (x : ℕ → F) → Different n x → Distinct O L (tab n x)
+  pub distinct-tab : (n : ℕ) (x : ℕ → F) → Different n x → Distinct (tab n x)
   unfolding tab
   distinct-tab zero x h = tt
   distinct-tab (suc n) x h = (
@@ -120,7 +121,7 @@ module _ (O : Ops) (L : Laws O) where
 
     known-late : (c : ℕ) → suc p ≤ c → known c ≡ 0#
     unfolding known unitV
-    known-late c h = before-ge p (row O L k m unitV) unitV c (omega arith) ∙ put-there O L p 1# (λ c. 0#) c (gt-ne O L h)
+    known-late c h = before-ge p (row O L k m unitV) unitV c (omega arith) ∙ put-there O L p 1# (λ c. 0#) c (ne-of-gt h)
 
     known-p : known p ≡ 1#
     unfolding known unitV

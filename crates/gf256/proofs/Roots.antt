@@ -7,6 +7,7 @@ use Prim.Native.Nat.{ℕ, zero, suc}
 use native.Mathlib.Nat.{suc-inj, suc-ne-zero}
 use lib.ListN.{length}
 use Rattle.gf256.specs.Poly.{Ops, eval}
+use Rattle.gf256.proofs.Apart.{Apart, Distinct}
 use Rattle.gf256.proofs.Field.{Laws, add-nil, add-left-comm, add-cancel, swap4, mul-left-comm, add-mul, mul-nil, eq-of-sum, sum-of-eq, factor-nil}
 
 module _ (O : Ops) (L : Laws O) where
@@ -41,16 +42,6 @@ module _ (O : Ops) (L : Laws O) where
   abbrev pub Roots : List F → List F → Type 0
   Roots p [] = Unit {0}
   Roots p (x ∷ xs) = (eval O p x ≡ 0#) × Roots p xs
-
-  -- x is none of the points
-  abbrev pub Apart : F → List F → Type 0
-  Apart x [] = Unit {0}
-  Apart x (y ∷ ys) = (x ≢ y) × Apart x ys
-
-  -- the points are all different
-  abbrev pub Distinct : List F → Type 0
-  Distinct [] = Unit {0}
-  Distinct (x ∷ xs) = Apart x xs × Distinct xs
 
   -- the other roots are roots of the quotient
   quot-root : (x : F) (c : F) (cs : List F) → eval O (c ∷ cs) x ≡ 0# → (y : F) → x ≢ y → eval O (c ∷ cs) y ≡ 0# → eval O (quot x cs) y ≡ 0#

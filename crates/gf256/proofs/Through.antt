@@ -8,7 +8,8 @@ use native.Mathlib.Nat.{suc-inj, suc-ne-zero, le-of-suc-le-suc, not-suc-le-zero,
 use lib.ListN.{length, getD}
 use Rattle.gf256.specs.Poly.{Ops, eval, vanish, through}
 use Rattle.gf256.proofs.Field.{Laws, add-nil, add-cancel, mul-nil, nil-mul, mul-one, eq-of-sum, factor-nil}
-use Rattle.gf256.proofs.Roots.{Apart, Distinct, Agree, agree-everywhere}
+use Rattle.gf256.proofs.Apart.{Apart, Distinct}
+use Rattle.gf256.proofs.Roots.{Agree, agree-everywhere}
 use Rattle.gf256.proofs.Coefficients.{throughC, length-throughC, throughC-eval}
 
 module _ (O : Ops) (L : Laws O) where
@@ -17,13 +18,13 @@ module _ (O : Ops) (L : Laws O) where
   open Ops O using (F, nil as 0#, add as _⊕_, mul as _⊗_, inv)
   open Laws L using (add-comm, add-self, mul-comm, mul-assoc, mul-inv, one-ne-nil)
 
-  pub vanish-ne : (x : F) (xs : List F) → Apart O L x xs → vanish O xs x ≢ 0#
+  pub vanish-ne : (x : F) (xs : List F) → Apart x xs → vanish O xs x ≢ 0#
   unfolding vanish
   vanish-ne x [] a = one-ne-nil
   vanish-ne x (y ∷ ys) a = λ e. vanish-ne x ys (a .1) (factor-nil O L (x ⊕ y) (vanish O ys x) (λ h. a .0 (eq-of-sum O L x y h)) e)
 
   -- at its own point
-  pub through-here : (x : F) (xs : List F) (y : F) (ys : List F) → Apart O L x xs → through O (x ∷ xs) (y ∷ ys) x ≡ y
+  pub through-here : (x : F) (xs : List F) (y : F) (ys : List F) → Apart x xs → through O (x ∷ xs) (y ∷ ys) x ≡ y
   unfolding through
   through-here x xs y ys a =
       ap (λ t. through O xs ys x ⊕ t)
@@ -80,7 +81,7 @@ module _ (O : Ops) (L : Laws O) where
   pub vanish-at : (xs : List F) (e : F) (i : ℕ) → i < length xs → vanish O xs (getD xs i e) ≡ 0#
   vanish-at xs e i b = each-at (λ z. vanish O xs z ≡ 0#) xs e (vanish-each xs) i b
 
-  pub through-each : (f : F → F) (xs : List F) → Distinct O L xs → Each (λ z. through O xs (map f xs) z ≡ f z) xs
+  pub through-each : (f : F → F) (xs : List F) → Distinct xs → Each (λ z. through O xs (map f xs) z ≡ f z) xs
   through-each f [] d = tt
   through-each f (x ∷ xs) d = (
     through-here x xs (f x) (map f xs) (d .0),
@@ -91,7 +92,7 @@ module _ (O : Ops) (L : Laws O) where
   -- ---- the only one
 
   -- the one polynomial: whatever has as many coefficients as there are points, and takes f's values there
-  pub through-unique : (f : F → F) (xs p : List F) → length p ≡ length xs → Distinct O L xs → Each (λ z. eval O p z ≡ f z) xs → (z : F) → eval O p z ≡ through O xs (map f xs) z
+  pub through-unique : (f : F → F) (xs p : List F) → length p ≡ length xs → Distinct xs → Each (λ z. eval O p z ≡ f z) xs → (z : F) → eval O p z ≡ through O xs (map f xs) z
   through-unique f xs p l d e z =
       agree-everywhere O L xs p (throughC O L xs (map f xs)) l (length-throughC O L xs (map f xs)) d
       (each-agree p (throughC O L xs (map f xs)) xs
@@ -100,14 +101,14 @@ module _ (O : Ops) (L : Laws O) where
       ∙ throughC-eval O L xs (map f xs) z
 
   -- values of one polynomial at as many other points give it back: what restoring rests on
-  pub through-again : (ps rs xs : List F) → length xs ≡ length ps → Distinct O L xs → (z : F) → through O xs (map (through O ps rs) xs) z ≡ through O ps rs z
+  pub through-again : (ps rs xs : List F) → length xs ≡ length ps → Distinct xs → (z : F) → through O xs (map (through O ps rs) xs) z ≡ through O ps rs z
   through-again ps rs xs l d z =
       sym (through-unique (through O ps rs) xs (throughC O L ps rs) (length-throughC O L ps rs ∙ sym l) d
       (each-all (λ y. eval O (throughC O L ps rs) y ≡ through O ps rs y) (throughC-eval O L ps rs) xs) z)
       ∙ throughC-eval O L ps rs z
 
   -- at the i-th point it has the i-th value
-  pub through-at : (xs ys : List F) (e : F) → length ys ≡ length xs → Distinct O L xs → (i : ℕ) → i < length xs → through O xs ys (getD xs i e) ≡ getD ys i e
+  pub through-at : (xs ys : List F) (e : F) → length ys ≡ length xs → Distinct xs → (i : ℕ) → i < length xs → through O xs ys (getD xs i e) ≡ getD ys i e
   through-at [] ys e l d i b = absurd (not-suc-le-zero b)
   through-at (x ∷ xs) [] e l d i b = absurd (suc-ne-zero (length xs) (sym l))
   through-at (x ∷ xs) (y ∷ ys) e l d zero b = through-here x xs y ys (d .0)
@@ -116,12 +117,12 @@ module _ (O : Ops) (L : Laws O) where
       ∙ through-at xs ys e (suc-inj l) (d .1) i (le-of-suc-le-suc b)
 
   -- fragments from as many different points as there are runs give each run back
-  pub restored : (ps rs xs : List F) (e : F) → length rs ≡ length ps → Distinct O L ps → length xs ≡ length ps → Distinct O L xs
+  pub restored : (ps rs xs : List F) (e : F) → length rs ≡ length ps → Distinct ps → length xs ≡ length ps → Distinct xs
       → (i : ℕ) → i < length ps → through O xs (map (through O ps rs) xs) (getD ps i e) ≡ getD rs i e
   restored ps rs xs e lr dp lx dx i b = through-again ps rs xs lx dx (getD ps i e) ∙ through-at ps rs e lr dp i b
 
   -- the same, of values in a list: what takes the i-th value at the i-th point is the polynomial through them
-  pub through-is : (xs ys p : List F) (e : F) → length p ≡ length xs → length ys ≡ length xs → Distinct O L xs
+  pub through-is : (xs ys p : List F) (e : F) → length p ≡ length xs → length ys ≡ length xs → Distinct xs
       → ((i : ℕ) → i < length xs → eval O p (getD xs i e) ≡ getD ys i e) → (z : F) → eval O p z ≡ through O xs ys z
   through-is xs ys p e lp ly d h z =
       agree-everywhere O L xs p (throughC O L xs ys) lp (length-throughC O L xs ys) d

@@ -15,13 +15,13 @@ differ-assoc (suc zero) (suc zero) (suc (suc z)) hx hy hz = absurd (not-suc-le-z
 differ-assoc (suc zero) (suc (suc y)) z hx hy hz = absurd (not-suc-le-zero (le-of-suc-le-suc (le-of-suc-le-suc hy)))
 differ-assoc (suc (suc x)) y z hx hy hz = absurd (not-suc-le-zero (le-of-suc-le-suc (le-of-suc-le-suc hx)))
 
-bit : (a : ℕ) → a % 2 < 2
+pub bit : (a : ℕ) → a % 2 < 2
 bit a = mod-lt a (zero-lt-suc 1)
 
 pub xor-half : (a b : ℕ) → bitXor a b / 2 ≡ bitXor (a / 2) (b / 2)
 xor-half a b = xor-shr a b 1
 
-pub xor-odd : (a b : ℕ) → bitXor a b % 2 ≡ differ (a % 2) (b % 2)
+xor-odd : (a b : ℕ) → bitXor a b % 2 ≡ differ (a % 2) (b % 2)
 xor-odd a b = ap (λ (x : ℕ). x % 2) (xor-step a b) ∙ digits (bitXor (a / 2) (b / 2)) (a % 2) (b % 2) (bit a) (bit b)
   where
     digits : (q x y : ℕ) → x < 2 → y < 2 → (q * 2 + differ x y) % 2 ≡ differ x y

@@ -522,12 +522,6 @@ const LOG: [u8; 255] = [
     7,
 ];
 
-fn wide(x: u8) -> usize
-    ensures { λ r. ⌜ r ≡ x ⌝ }
-{
-    x as usize
-}
-
 // 03h to the power i.
 pub(crate) fn power_of(i: usize) -> u8
     requires { ⌜ i < 256 ⌝ }
@@ -541,5 +535,5 @@ pub(crate) fn log_of(a: u8) -> usize
     requires { ⌜ 0 < a ⌝ }
     ensures { λ r. ⌜ (r < 255) × (power 3 r ≡ a) ⌝ }
 {
-    wide(LOG[wide(a) - 1])
+    LOG[(a as usize) - 1] as usize
 }

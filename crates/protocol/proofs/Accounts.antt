@@ -7,13 +7,13 @@ use Prim.Native.Nat.{ℕ, _≤_}
 use borrow.Author.Tests.{leb-true}
 use Rattle.cluster.specs.Config.{Config, shelf}
 use Rattle.cluster.specs.Ranges.{within, topFaults}
+use Rattle.cluster.proofs.Tests.{and-both}
 use Rattle.protocol.specs.Memory.{decodeMemory}
 use Rattle.protocol.specs.Primitives.{Primitives, Lengths}
 use Rattle.protocol.specs.Server.{Server, blankServer}
 use Rattle.protocol.specs.ServerBytes.{serverIn, memoryOf}
 use Rattle.protocol.specs.ClientBytes.{keyOf}
 use Rattle.protocol.specs.Runs.{Shelf, configOf, Typed, steps, Account, serverOr, byBytes, byValues, doBytes, nowBytes, doValues, nowValues}
-use Rattle.protocol.proofs.Answers.{and-on}
 use Rattle.protocol.proofs.ServerLift.{Holds, holds-decodes}
 use Rattle.protocol.proofs.RunLift.{Matches, Agrees, AllFed, run-matches, run-agrees}
 
@@ -48,7 +48,7 @@ module _ (P : Primitives) (law : Lengths P) (sh : Shelf) (tr : (1 ≤ sh .t) × 
           ≡ cond q (nowValues P (shelf (sh .t)) (sh .writers) (keyOf (sh .keys)) (steps xs) .server b) (blankServer (shelf (sh .t)))
       go false e = refl
       go true e =
-          let (lo, hi) = and-on _ _ e in
+          let (lo, hi) = and-both _ _ e in
           server-same b _ (nowBytes P sh (steps xs) .memory b) (match xs .memory b (leb-true 1 b lo) (leb-true b (shelf (sh .t) .servers) hi))
 
   -- bytes and values give one account

@@ -1,7 +1,7 @@
 -- What a server does and answers stays within the layout, for each of the twelve kinds.
 -- A stored write is new by the whole stamp, the latest candidate is one that the layout holds. Nothing is assumed.
 use mathlib.Core.Path.{_≡_, refl, sym, ap, _∙_, subst}
-use mathlib.Core.Bool.{Bool, true, false, cond, not, _&&_, _||_}
+use mathlib.Core.Bool.{Bool, true, false, cond, not, _&&_, _||_, and-true, and-assoc}
 use mathlib.Core.List.{List, [], _∷_, _++_, append-nil, append-assoc}
 use mathlib.Core.Option.{Option, none, some, Option·some-injective}
 use mathlib.Core.Logic.{inl, inr}
@@ -33,24 +33,16 @@ pub record ServerOk (s : Config) (v : Server) : Type 0 where
 
 -- ---- one more write, whose stamp is new
 
-and-assoc : (a b c : Bool) → (a && (b && c)) ≡ (a && b && c)
-and-assoc true b c = refl
-and-assoc false b c = refl
-
-and-on-right : (a : Bool) → (a && true) ≡ a
-and-on-right true = refl
-and-on-right false = refl
-
 -- the write w is new among ws
 abbrev isNew : Write → List Write → Bool
 isNew w ws = not (isSome (held (w .stamp) ws))
 
 fresh-snoc : (seen ws : List Write) (w : Write) → freshAfter seen (ws ++ w ∷ []) ≡ (freshAfter seen ws && isNew w (seen ++ ws))
-fresh-snoc seen [] w = and-on-right _ ∙ ap (isNew w) (sym (append-nil seen))
+fresh-snoc seen [] w = and-true _ ∙ ap (isNew w) (sym (append-nil seen))
 fresh-snoc seen (x ∷ ws) w =
     let A : Bool = isNew x seen in
     ap (λ (z : Bool). A && z) (fresh-snoc (seen ++ x ∷ []) ws w)
-    ∙ and-assoc A _ _
+    ∙ sym (and-assoc A _ _)
     ∙ ap (λ (z : List Write). A && freshAfter (seen ++ x ∷ []) ws && isNew w z) (append-assoc seen (x ∷ []) ws)
 
 -- ---- parts of what the layout holds

@@ -1,30 +1,23 @@
 -- The answers of parsers: what a guard, a sequel or an alternative that gave a value tells of its parts; and lists of bytes, runs of zeros.
 -- Each by cases on the answer. Nothing is assumed.
 use mathlib.Core.Path.{_≡_, refl, sym, ap, _∙_, subst}
-use mathlib.Core.Bool.{Bool, true, false, cond, _&&_, _||_}
+use mathlib.Core.Bool.{Bool, true, false, cond}
 use mathlib.Core.Option.{Option, none, some, Option·some-injective, Option·none-ne-some}
 use mathlib.Core.Logic.{_⊎_, inl, inr}
 use mathlib.Core.List.{List, [], _∷_, _++_}
 use Prim.Native.Nat.{ℕ, zero, suc, _+_, _≤_, _<_}
 use lib.ListN.{length, drop, replicate}
 use lib.Seq.{drop-at, getD-drop}
-use lib.Dec.{T, leb, eqb}
+use lib.Dec.{leb, eqb}
 use borrow.Author.Tests.{leb-true, eqb-true}
-use Rattle.protocol.specs.Format.{Bytes, guard, andThen, orElse, zeros, whole, atEnd}
+use Rattle.protocol.specs.Format.{Bytes, guard, ranged, andThen, orElse, zeros, whole, atEnd}
+use Rattle.cluster.proofs.Tests.{and-both}
 
 -- ---- tests
 
 pub guard-some : {A : Type 0} (t : Bool) (o : Option A) (a : A) → guard t o ≡ some a → (t ≡ true) × (o ≡ some a)
 guard-some true o a e = (refl, e)
 guard-some false o a e = absurd (Option·none-ne-some a e)
-
-pub and-on : (a b : Bool) → (a && b) ≡ true → (a ≡ true) × (b ≡ true)
-and-on true b e = (refl, e)
-and-on false b e = absurd (subst T (sym e) tt)
-
-pub or-off : (a b : Bool) → (a || b) ≡ false → (a ≡ false) × (b ≡ false)
-or-off true b e = absurd (subst T e tt)
-or-off false b e = (refl, e)
 
 -- one eliminator for a test
 pub at-cond : {A : Type 0} (b : Bool) (x y : A) (Q : A → Type 0) → (b ≡ true → Q x) → (b ≡ false → Q y) → Q (cond b x y)
@@ -35,14 +28,6 @@ at-cond false x y Q f g = g refl
 pub cond-cong : {A : Type 0} (b : Bool) (x y z : A) → (b ≡ false → y ≡ z) → cond b x y ≡ cond b x z
 cond-cong true x y z f = refl
 cond-cong false x y z f = f refl
-
--- a value within its range
-pub in-range : {A : Type 0} (lo hi x : ℕ) (o : Option A) (a : A) → guard (leb lo x) (guard (leb x hi) o) ≡ some a
-    → (lo ≤ x) × (x ≤ hi) × (o ≡ some a)
-in-range lo hi x o a e =
-    let g = guard-some (leb lo x) (guard (leb x hi) o) a e in
-    let h = guard-some (leb x hi) o a (g .1) in
-    (leb-true lo x (g .0), leb-true x hi (h .0), h .1)
 
 -- ---- a value and the bytes after it
 
@@ -55,6 +40,14 @@ module _ {A : Type 0} where
 
   pub same-rest : (x a : A) (q r : List ℕ) → _≡_ {A = Option (A × List ℕ)} (some (x, q)) (some (a, r)) → q ≡ r
   same-rest x a q r e = ap (λ (y : A × List ℕ). y .1) (Option·some-injective (x, q) (a, r) e)
+
+-- a number that was let through is in its range
+pub ranged-some : (lo hi x a : ℕ) (q r : List ℕ) → ranged lo hi x q ≡ some (a, r) → ((lo ≤ a) × (a ≤ hi)) × ((x ≡ a) × (q ≡ r))
+ranged-some lo hi x a q r e =
+    let (l, f) = guard-some (leb lo x) (guard (leb x hi) (some (x, q))) (a, r) e in
+    let (h, g) = guard-some (leb x hi) (some (x, q)) (a, r) f in
+    let k : x ≡ a = same-value x a q r g in
+    ((rw k at (leb-true lo x l), rw k at (leb-true x hi h)), (k, same-rest x a q r g))
 
 pub andThen-some : {A B : Type 0} (o : Option (A × List ℕ)) (k : A → List ℕ → Option (B × List ℕ)) (b : B) (r : List ℕ)
     → andThen o k ≡ some (b, r) → (a : A) × (q : List ℕ) × (o ≡ some (a, q)) × (k a q ≡ some (b, r))
@@ -95,7 +88,7 @@ zeros-replicate (suc n) = zeros-replicate n
 pub zeros-only : (b : List ℕ) → zeros b ≡ true → b ≡ replicate (length b) 0
 zeros-only [] e = refl
 zeros-only (x ∷ xs) e =
-    let (p, q) = and-on (eqb x 0) (zeros xs) e in
+    let (p, q) = and-both (eqb x 0) (zeros xs) e in
     let l : x ≡ 0 = eqb-true x 0 p in
     let m : xs ≡ replicate (length xs) 0 = zeros-only xs q in
     λ i. l i ∷ m i

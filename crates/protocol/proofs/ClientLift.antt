@@ -10,6 +10,7 @@ use lib.ListN.{length, replicate, length-replicate}
 use borrow.Author.Tests.{ne-eqb, le-leb, lt-leb, leb-true}
 use Rattle.cluster.specs.Config.{Config}
 use Rattle.cluster.specs.Ranges.{within, mostServers, topLength}
+use Rattle.cluster.proofs.Tests.{and-both}
 use Rattle.protocol.specs.declared.Call.{Call}
 use Rattle.protocol.specs.declared.Tally.{Tally}
 use Rattle.protocol.specs.Values.{blankCandidate, nonceSize}
@@ -17,7 +18,6 @@ use Rattle.protocol.specs.Rules.{nobody, countTo}
 use Rattle.protocol.specs.Client.{Client, idle, clocking, collecting, begun, onto, awaits, isIdle}
 use Rattle.protocol.specs.View.{part, marked, contentOf, nonceOf, handOf, view, keptSize, nonceAt, candidateSlot, candidatesAt}
 use Rattle.protocol.specs.ClientBytes.{put, fresh, withTally, inHand, awaited}
-use Rattle.protocol.proofs.Answers.{and-on}
 use Rattle.protocol.proofs.Puts.{put-length}
 use Rattle.protocol.proofs.Places.{part-same, part-below}
 use Rattle.protocol.proofs.Marks.{marked-fresh, count-fresh}
@@ -55,7 +55,7 @@ busy-is c = go (within 1 6 (c .tally .round)) refl
     go : (b : Bool) → within 1 6 (c .tally .round) ≡ b → not (eqb (cond b (2 * c .tally .round) 0) 0) ≡ b
     go false e = refl
     go true e =
-        let l : 1 ≤ c .tally .round = leb-true _ _ (and-on _ _ e .0) in
+        let l : 1 ≤ c .tally .round = leb-true _ _ (and-both _ _ e .0) in
         rw (ne-eqb (2 * c .tally .round) 0 (λ z. omega arith))
 
 pub in-round : (c : Call) → eqb (awaited c) 0 ≡ false → within 1 6 (c .tally .round) ≡ true

@@ -14,8 +14,8 @@ use Rattle.protocol.specs.Values.{Candidate, Share, Write, sameList, sam
 use Rattle.protocol.specs.Packet.{stampF}
 use Rattle.protocol.specs.Primitives.{stampMessage, candidateMessage}
 use Rattle.protocol.specs.Memory.{held}
-use Rattle.protocol.proofs.Answers.{and-on}
 use Rattle.protocol.proofs.Formats.{value4-print}
+use Rattle.cluster.proofs.Tests.{and-both}
 
 -- two tests that imply each other are one
 pub test-ext : (a b : Bool) → (a ≡ true → b ≡ true) → (b ≡ true → a ≡ true) → a ≡ b
@@ -23,9 +23,11 @@ test-ext true b f g = sym (f refl)
 test-ext false true f g = g refl
 test-ext false false f g = refl
 
-pub and-off : (p : Bool) → (p && false) ≡ false
-and-off true = refl
-and-off false = refl
+and-on3 : (p q r : Bool) → (p && (q && r)) ≡ true → (p ≡ true) × (q ≡ true) × (r ≡ true)
+and-on3 p q r e =
+    let (h, k) = and-both p (q && r) e in
+    let (l, m) = and-both q r k in
+    (h, l, m)
 
 -- ---- lists
 
@@ -34,7 +36,7 @@ same-true [] [] e = refl
 same-true [] (y ∷ ys) e = absurd (subst T (sym e) tt)
 same-true (x ∷ xs) [] e = absurd (subst T (sym e) tt)
 same-true (x ∷ xs) (y ∷ ys) e =
-    let (p, q) = and-on (eqb x y) (sameList xs ys) e in
+    let (p, q) = and-both (eqb x y) (sameList xs ys) e in
     let h : x ≡ y = eqb-true x y p in
     let k : xs ≡ ys = same-true xs ys q in
     λ i. h i ∷ k i
@@ -48,12 +50,8 @@ same-refl (x ∷ xs) = rw (eq-eqb x x refl) (same-refl xs)
 pub stamp-same : (a b : Stamp) → sameStamp a b ≡ true → a ≡ b
 unfolding sameStamp
 stamp-same a b e =
-    let (p, q) = and-on _ _ e in
-    let (r, s) = and-on _ _ q in
-    let h = eqb-true _ _ p in
-    let k = eqb-true _ _ r in
-    let l = same-true _ _ s in
-    λ i. record { number = h i; writer = k i; tag = l i }
+    let (n, w, t) = and-on3 _ _ _ e in
+    λ i. record { number = eqb-true (a .number) (b .number) n i; writer = eqb-true (a .writer) (b .writer) w i; tag = same-true (a .tag) (b .tag) t i }
 
 pub stamp-refl : (a : Stamp) → sameStamp a a ≡ true
 unfolding sameStamp
@@ -62,12 +60,8 @@ stamp-refl a = rw (eq-eqb (a .number) (a .number) refl, eq-eqb (a .writer) (a .w
 pub candidate-same : (a b : Candidate) → sameCandidate a b ≡ true → a ≡ b
 unfolding sameCandidate
 candidate-same a b e =
-    let (p, q) = and-on _ _ e in
-    let (r, s) = and-on _ _ q in
-    let h = stamp-same _ _ p in
-    let k = same-true _ _ r in
-    let l = same-true _ _ s in
-    λ i. record { stamp = h i; nonce = k i; tags = l i }
+    let (s, n, t) = and-on3 _ _ _ e in
+    λ i. record { stamp = stamp-same (a .stamp) (b .stamp) s i; nonce = same-true (a .nonce) (b .nonce) n i; tags = same-true (a .tags) (b .tags) t i }
 
 pub candidate-refl : (a : Candidate) → sameCandidate a a ≡ true
 unfolding sameCandidate

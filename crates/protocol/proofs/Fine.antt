@@ -8,22 +8,23 @@ use Prim.Native.Nat.{ℕ, zero, suc, _≤_, _<_}
 use native.Mathlib.Omega.{arith}
 use lib.Dec.{T, leb, eqb, lit≤}
 use lib.ListN.{length}
-use borrow.Author.Tests.{leb-true, leb-false, not-false}
+use borrow.Author.Tests.{leb-false}
 use Rattle.cluster.specs.Config.{Config, shelf}
 use Rattle.cluster.specs.Ranges.{within, topWriter, topClient, topNumber, leastLength, topLength}
 use Rattle.cluster.specs.Refusals.{onRefusal}
+use Rattle.cluster.proofs.Tests.{inside, passes}
 use Rattle.protocol.specs.Values.{Candidate, Held, blankCandidate, nonceSize, sameList}
 use Rattle.protocol.specs.Packet.{Body, BodyOk, Packet, PacketOk}
 use Rattle.protocol.specs.Primitives.{Primitives, Lengths}
 use Rattle.protocol.specs.Rules.{ByServer, upd, nobody, leader, tagsIn}
 use Rattle.protocol.specs.Client.{Client, Hand, Turn, onto, begun, idle, clocking, storing, completing, collecting, filtering, repairing, update, judge, found, codeIn, isFull, isIdle, awaits, newClient, badFaults, writeRefusal, readRefusal, abortRefusal, takeRefusal, writeStep, readStep, abortStep, turnOn, highAt, takeStep}
-use Rattle.protocol.proofs.Answers.{and-on, at-cond}
+use Rattle.protocol.proofs.Answers.{at-cond}
 use Rattle.protocol.proofs.Room.{Fitting}
 use Rattle.protocol.proofs.Acts.{blank-candidate}
 use Rattle.protocol.proofs.ServerLift.{body-ok}
 use Rattle.protocol.proofs.HandOk.{WriteOk, HandOk}
 use Rattle.protocol.proofs.Updates.{ClientOk, update-ok}
-use Rattle.protocol.proofs.TakeLift.{pass, accepted, not-none, shelf-t}
+use Rattle.protocol.proofs.TakeLift.{accepted, not-none, shelf-t}
 
 pub record Fine (s : Config) (c : ℕ) (cl : Client) : Type 0 where
   pub ok : ClientOk s c cl
@@ -69,19 +70,16 @@ pub at-refusal : {A : Type 0} (Q : A → Type 0) (n : ℕ) (x y : A) → (n ≡ 
 at-refusal Q zero x y f g = f refl
 at-refusal Q (suc n) x y f g = g
 
-pub inside : (lo hi x : ℕ) → not (within lo hi x) ≡ false → (lo ≤ x) × (x ≤ hi)
-inside lo hi x e = let (a, b) = and-on _ _ (not-false (within lo hi x) e) in (leb-true lo x a, leb-true x hi b)
-
 module _ (s : Config) (c : ℕ) (cl : Client) (fine : Fine s c cl) where
   pub write-accepted : (r n : List ℕ) → length n ≡ nonceSize → (pending : Bool) → writeRefusal s c (length r) pending (cl .calls) ≡ 0
       → WriteOk c r n × (cl .calls < topNumber)
   unfolding writeRefusal
   write-accepted r n l pending e =
-      let (a, e5) = pass (badFaults s) 3 _ (lit≤ tt) e in
-      let (w, e6) = pass (not (within 1 topWriter c)) 5 _ (lit≤ tt) e5 in
-      let (z, e13) = pass (not (within leastLength topLength (length r))) 6 _ (lit≤ tt) e6 in
-      let (p, e14) = pass pending 13 _ (lit≤ tt) e13 in
-      let (k, _) = pass (leb topNumber (cl .calls)) 14 _ (lit≤ tt) e14 in
+      let (a, e5) = passes (badFaults s) 2 _ e in
+      let (w, e6) = passes (not (within 1 topWriter c)) 4 _ e5 in
+      let (z, e13) = passes (not (within leastLength topLength (length r))) 5 _ e6 in
+      let (p, e14) = passes pending 12 _ e13 in
+      let (k, _) = passes (leb topNumber (cl .calls)) 13 _ e14 in
       let size = inside leastLength topLength (length r) z in
       (record { writer = inside 1 topWriter c w; low = size .0; high = size .1; nonce = l }, leb-false topNumber (cl .calls) k)
 
@@ -99,10 +97,10 @@ module _ (s : Config) (c : ℕ) (cl : Client) (fine : Fine s c cl) where
   read-accepted : (pending : Bool) → readRefusal s c pending (cl .calls) ≡ 0 → cl .calls < topNumber
   unfolding readRefusal
   read-accepted pending e =
-      let (a, e5) = pass (badFaults s) 3 _ (lit≤ tt) e in
-      let (w, e13) = pass (not (within 1 topClient c)) 5 _ (lit≤ tt) e5 in
-      let (p, e14) = pass pending 13 _ (lit≤ tt) e13 in
-      let (k, _) = pass (leb topNumber (cl .calls)) 14 _ (lit≤ tt) e14 in
+      let (a, e5) = passes (badFaults s) 2 _ e in
+      let (w, e13) = passes (not (within 1 topClient c)) 4 _ e5 in
+      let (p, e14) = passes pending 12 _ e13 in
+      let (k, _) = passes (leb topNumber (cl .calls)) 13 _ e14 in
       leb-false topNumber (cl .calls) k
 
   pub read-fine : Fine s c (readStep s c cl .client)

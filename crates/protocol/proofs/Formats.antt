@@ -12,17 +12,15 @@ use lib.Dec.{leb}
 use borrow.Author.Tests.{le-leb, leb-true}
 use Rattle.protocol.specs.Format.{Fmt, Lawful, Bytes, guard, andThen, parseByte, parse2, parse4, value2, value4, print2, print4}
 use Rattle.protocol.specs.Format.{empty, byte, number2, number4, run, seq, via, keep}
-use Rattle.protocol.proofs.Answers.{guard-some, in-range, no-some, same-value, same-rest, andThen-some, bytes-rest}
+use Rattle.protocol.proofs.Answers.{guard-some, ranged-some, no-some, same-value, same-rest, andThen-some, bytes-rest}
 
 -- ---- one byte from lo to hi
 
 pub byte-read : (lo hi : ℕ) (b : List ℕ) (a : ℕ) (r : List ℕ) → parseByte lo hi b ≡ some (a, r) → ((lo ≤ a) × (a ≤ hi)) × (b ≡ a ∷ r)
 byte-read lo hi [] a r e = no-some (a, r) e
 byte-read lo hi (x ∷ q) a r e =
-    let g = in-range lo hi x (some (x, q)) (a, r) e in
-    let k : x ≡ a = same-value x a q r (g .2) in
-    let l : q ≡ r = same-rest x a q r (g .2) in
-    ((rw k at (g .0), rw k at (g .1)), cc)
+    let (g, (k, l)) = ranged-some lo hi x a q r e in
+    (g, cc)
 
 pub byte-law : (lo hi : ℕ) → Lawful (byte lo hi)
 unfolding byte
@@ -64,18 +62,13 @@ print4-value a b c d k l m =
 fits2 : (lo hi : ℕ) (b : List ℕ) (a : ℕ) (r : List ℕ) → parse2 lo hi b ≡ some (a, r) → (lo ≤ a) × (a ≤ hi)
 fits2 lo hi [] a r e = no-some (a, r) e
 fits2 lo hi (x ∷ []) a r e = no-some (a, r) e
-fits2 lo hi (x ∷ y ∷ q) a r e =
-    let g = in-range lo hi (value2 x y) (some (value2 x y, q)) (a, r) e in
-    let k : value2 x y ≡ a = same-value (value2 x y) a q r (g .2) in
-    (rw k at (g .0), rw k at (g .1))
+fits2 lo hi (x ∷ y ∷ q) a r e = ranged-some lo hi (value2 x y) a q r e .0
 
 read2 : (lo hi : ℕ) (b : List ℕ) (a : ℕ) (r : List ℕ) → Bytes b → parse2 lo hi b ≡ some (a, r) → b ≡ print2 a ++ r
 read2 lo hi [] a r bs e = no-some (a, r) e
 read2 lo hi (x ∷ []) a r bs e = no-some (a, r) e
 read2 lo hi (x ∷ y ∷ q) a r bs e =
-    let g = in-range lo hi (value2 x y) (some (value2 x y, q)) (a, r) e in
-    let k : value2 x y ≡ a = same-value (value2 x y) a q r (g .2) in
-    let l : q ≡ r = same-rest (value2 x y) a q r (g .2) in
+    let (g, (k, l)) = ranged-some lo hi (value2 x y) a q r e in
     let m : print2 (value2 x y) ++ q ≡ print2 a ++ r = cc in
     sym (ap (λ (s : List ℕ). s ++ q) (print2-value x y (bs 1))) ∙ m
 
@@ -84,11 +77,7 @@ fits4 lo hi [] a r e = no-some (a, r) e
 fits4 lo hi (x ∷ []) a r e = no-some (a, r) e
 fits4 lo hi (x ∷ y ∷ []) a r e = no-some (a, r) e
 fits4 lo hi (x ∷ y ∷ z ∷ []) a r e = no-some (a, r) e
-fits4 lo hi (x ∷ y ∷ z ∷ w ∷ q) a r e =
-    let v : ℕ = value4 x y z w in
-    let g = in-range lo hi v (some (v, q)) (a, r) e in
-    let k : v ≡ a = same-value v a q r (g .2) in
-    (rw k at (g .0), rw k at (g .1))
+fits4 lo hi (x ∷ y ∷ z ∷ w ∷ q) a r e = ranged-some lo hi (value4 x y z w) a q r e .0
 
 read4 : (lo hi : ℕ) (b : List ℕ) (a : ℕ) (r : List ℕ) → Bytes b → parse4 lo hi b ≡ some (a, r) → b ≡ print4 a ++ r
 read4 lo hi [] a r bs e = no-some (a, r) e
@@ -97,9 +86,7 @@ read4 lo hi (x ∷ y ∷ []) a r bs e = no-some (a, r) e
 read4 lo hi (x ∷ y ∷ z ∷ []) a r bs e = no-some (a, r) e
 read4 lo hi (x ∷ y ∷ z ∷ w ∷ q) a r bs e =
     let v : ℕ = value4 x y z w in
-    let g = in-range lo hi v (some (v, q)) (a, r) e in
-    let k : v ≡ a = same-value v a q r (g .2) in
-    let l : q ≡ r = same-rest v a q r (g .2) in
+    let (g, (k, l)) = ranged-some lo hi v a q r e in
     let m : print4 v ++ q ≡ print4 a ++ r = cc in
     sym (ap (λ (s : List ℕ). s ++ q) (print4-value x y z w (bs 1) (bs 2) (bs 3))) ∙ m
 

@@ -11,6 +11,7 @@ use lib.Dec.{T, eqb, lit≤}
 use lib.ListN.{length, length-append}
 use Rattle.cluster.specs.Config.{Config}
 use Rattle.cluster.specs.Ranges.{topWriter, topNumber, leastLength, topLength}
+use Rattle.cluster.proofs.Tests.{or-none}
 use Rattle.protocol.specs.Format.{All, via, seq, run, orBlank, optional}
 use Rattle.protocol.specs.Values.{Candidate, Share, Held, noHeld, isBlank, sameCandidate, nonceSize, tagsSize}
 use Rattle.protocol.specs.Packet.{Body, BodyOk, stampF, anyStampF, candidateF, anyCandidateF, shareF, heldF, heldMost}
@@ -19,7 +20,7 @@ use Rattle.protocol.specs.Primitives.{Primitives, Lengths}
 use Rattle.protocol.specs.Rules.{ByServer, upd, any, keep, first, gather, live, highest, choice, proven, parts, restoredBy, tagsIn}
 use Rattle.protocol.specs.Client.{Hand, idle, clocking, storing, completing, collecting, filtering, repairing, stampIn, candidateIn, heldIn}
 use Rattle.protocol.specs.View.{replySlot}
-use Rattle.protocol.proofs.Answers.{no-some, at-cond, or-off}
+use Rattle.protocol.proofs.Answers.{no-some, at-cond}
 use Rattle.protocol.proofs.Packets.{stamp-length, candidate-lengths, share-lengths}
 use Rattle.protocol.proofs.Room.{Fitting, share-room, share-size}
 use Rattle.protocol.proofs.Readers.{held-lengths, share-held}
@@ -144,7 +145,7 @@ module _ (s : Config) where
       (λ l. All (candidateF s .Ok) l × (length l ≤ suc n))
       (λ e. (k .0, omega (arith, k .1)))
       (λ e. (
-        all-snoc _ (gather g n) (g (suc n)) (k .0) (not-blank (g (suc n)) (h (suc n)) (or-off _ _ e .0)),
+        all-snoc _ (gather g n) (g (suc n)) (k .0) (not-blank (g (suc n)) (h (suc n)) (or-none _ _ e .0)),
         omega (arith, k .1, length-append (gather g n) (g (suc n) ∷ [])),
       ))
 

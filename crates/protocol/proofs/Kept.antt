@@ -11,12 +11,12 @@ use lib.ListN.{length}
 use borrow.Author.Tests.{eqb-true, eqb-false, leb-true}
 use Rattle.cluster.specs.Config.{Config}
 use Rattle.cluster.specs.Ranges.{within, topLength}
+use Rattle.cluster.proofs.Tests.{and-both}
 use Rattle.protocol.specs.Values.{Share, noShare}
 use Rattle.protocol.specs.Packet.{shareF}
 use Rattle.protocol.specs.Rules.{ByServer}
 use Rattle.protocol.specs.View.{part, sharesIn, replySlotOf, shareAt, keptSize, repliesAt, replySlot}
 use Rattle.protocol.specs.ClientBytes.{put, putShares}
-use Rattle.protocol.proofs.Answers.{and-on}
 use Rattle.protocol.proofs.Packets.{ShareLengths}
 use Rattle.protocol.proofs.Room.{Fitting, share-fits}
 use Rattle.protocol.proofs.Puts.{put-length}
@@ -91,7 +91,7 @@ module _ (s : Config) (f : Fitting s) (kept : List ℕ) (size : length kept ≡ 
               → cond x (shareAt s (part (putShares s kept h (s .servers)) (repliesAt + replySlot * (b - 1)) replySlot)) noShare ≡ cond x (h b) noShare
           go false e = refl
           go true e =
-              let (lo, hi) = and-on _ _ e in
+              let (lo, hi) = and-both _ _ e in
               let p : 1 ≤ b = leb-true 1 b lo in
               let q : b ≤ s .servers = leb-true b (s .servers) hi in
               let r : suc (b - 1) ≡ b = omega arith in

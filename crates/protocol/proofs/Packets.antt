@@ -15,8 +15,7 @@ use Rattle.protocol.specs.declared.Stamp.{Stamp}
 use Rattle.protocol.specs.declared.Head.{Head}
 use Rattle.protocol.specs.Format.{Lawful, byte, number2, number4, run, seq, via, keep, orBlank, many}
 use Rattle.protocol.specs.Values.{Candidate, Share, Write, blankStamp, blankCandidate, digestSize, nonceSize, stampSize, digestsSize, tagsSize, candidateSize}
-use Rattle.protocol.specs.Packet.{stampF, anyStampF, shareF, writeF, candidateF, anyCandidateF, candidatesF, heldMost, heldF, codeF, headF, headSize}
-unfoldable pub use Rattle.protocol.specs.Packet.{shareSize}
+use Rattle.protocol.specs.Packet.{stampF, anyStampF, shareF, writeF, candidateF, anyCandidateF, candidatesF, heldMost, heldF, codeF, headF, headSize, shareSize}
 use Rattle.protocol.proofs.Formats.{byte-law, number2-law, number4-law, run-law, seq-law, via-law, keep-law}
 use Rattle.protocol.proofs.Repeats.{orBlank-law, many-law, optional-law}
 
@@ -67,7 +66,7 @@ candidates-law s =
 
 -- ---- what a server holds for a stamp; the answer to store; the head
 
-held-most : (b : Bool) → cond b 0 1 ≤ 1
+pub held-most : (b : Bool) → cond b 0 1 ≤ 1
 held-most true = lit≤ tt
 held-most false = lit≤ tt
 

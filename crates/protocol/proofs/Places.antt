@@ -72,12 +72,12 @@ module _ (d : List ℕ) (at : ℕ) (b : List ℕ) (fits : at + length b ≤ leng
 
 -- ---- zeros
 
-take-zeros : (m n : ℕ) → m ≤ n → _≡_ {A = List ℕ} (take m (replicate n 0)) (replicate m 0)
+pub take-zeros : (m n : ℕ) → m ≤ n → _≡_ {A = List ℕ} (take m (replicate n 0)) (replicate m 0)
 take-zeros zero n h = refl
 take-zeros (suc m) zero h = absurd (not-suc-le-zero h)
 take-zeros (suc m) (suc n) h = ap (λ (z : List ℕ). 0 ∷ z) (take-zeros m n (le-of-suc-le-suc h))
 
-drop-zeros : (p n : ℕ) → _≡_ {A = List ℕ} (drop p (replicate n 0)) (replicate (n - p) 0)
+pub drop-zeros : (p n : ℕ) → _≡_ {A = List ℕ} (drop p (replicate n 0)) (replicate (n - p) 0)
 drop-zeros zero n = let e : n ≡ n - 0 = omega arith in ap (λ (k : ℕ). replicate k 0) e
 drop-zeros (suc p) zero = let e : 0 ≡ 0 - suc p = omega arith in ap (λ (k : ℕ). replicate k 0) e
 drop-zeros (suc p) (suc n) = let e : n - p ≡ suc n - suc p = omega arith in drop-zeros p n ∙ ap (λ (k : ℕ). replicate k 0) e

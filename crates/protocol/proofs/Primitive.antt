@@ -13,9 +13,9 @@ use lib.Seq.{take-at, drop-at, take-append-le, drop-append-le}
 use Rattle.cluster.specs.Config.{Config, Legal}
 use Rattle.sha256.proofs.Laws.{sha-length}
 use Rattle.hmac.proofs.Laws.{tag-length}
-use Rattle.gf256.proofs.Byte.{Small, DistinctN}
-use Rattle.erasure.specs.Fragments.{PointTable}
-use Rattle.erasure.proofs.Laws.{fragment-length, restored-length, Servers, restores}
+use Rattle.gf256.proofs.Byte.{Small}
+use Rattle.gf256.proofs.Apart.{Distinct}
+use Rattle.erasure.proofs.Laws.{legal-table, fragment-length, restored-length, Servers, restores}
 use Rattle.erasure.proofs.Lists.{small-of}
 use Rattle.protocol.specs.declared.Stamp.{Stamp}
 use Rattle.protocol.specs.Format.{Bytes, value4, print4}
@@ -102,11 +102,10 @@ bytes-small r b = small-of r (λ i h. b i)
 
 -- fragments of k or more different servers give back a content of bytes
 pub restores-parts : (s : Config) → Legal s → (r : List ℕ) → Bytes r → (is : List ℕ)
-    → ((i : ℕ) → i < length is → (1 ≤ getD is i 0) × (getD is i 0 ≤ s .servers)) → DistinctN is → s .shares ≤ length is
+    → ((i : ℕ) → i < length is → (1 ≤ getD is i 0) × (getD is i 0 ≤ s .servers)) → Distinct is → s .shares ≤ length is
     → real .restored (s .points) (s .shares) (length r) (map (λ i. record { server = i; bytes = real .fragment (s .points) (s .shares) r i }) is) ≡ r
 unfolding real
 restores-parts s l r b is at d k =
     let e : length (s .points) ≡ s .servers = l .table in
-    let pt : PointTable (s .points) = record { bytes = l .bytes; different = λ i j x y. l .different i j (omega arith) (omega arith) } in
     let servers : Servers (s .points) is = λ i h. (at i h .0, omega (arith, at i h .1)) in
-    restores (s .points) (s .shares) r pt (omega (arith, l .restores)) (omega (arith, l .covered)) (bytes-small r b) is servers d k
+    restores (s .points) (s .shares) r (legal-table l) (omega (arith, l .restores)) (omega (arith, l .covered)) (bytes-small r b) is servers d k

@@ -10,6 +10,7 @@ use lib.ListN.{length, take, length-replicate}
 use borrow.Author.Tests.{eqb-true, leb-true}
 use Rattle.cluster.specs.Config.{Config, shelf}
 use Rattle.cluster.specs.Ranges.{topFaults}
+use Rattle.cluster.proofs.Tests.{and-both}
 use Rattle.protocol.specs.Format.{via, seq, keep, byte}
 use Rattle.protocol.specs.Packet.{Packet, PacketOk, packetF, headF, decode, encode}
 use Rattle.protocol.specs.Primitives.{Primitives, Lengths}
@@ -20,7 +21,7 @@ use Rattle.protocol.specs.Client.{Client, Turn, Result, idle, newClient,
 use Rattle.protocol.specs.View.{handOf, view, keptSize}
 use Rattle.protocol.specs.ClientBytes.{fresh, clientMake, keyOf}
 use Rattle.protocol.specs.Runs.{Shelf, configOf, Step, write, read, make, take-reply, give-up, serve, resultOf, sentOf, Machine, Machines, Done, newMachine, setMachine, doBytes, nowBytes, World, After, setClient, doValues, nowValues, Fed}
-use Rattle.protocol.proofs.Answers.{and-on, no-some}
+use Rattle.protocol.proofs.Answers.{no-some}
 use Rattle.protocol.proofs.Bodies.{decode-encode}
 use Rattle.protocol.proofs.Room.{Fitting, shelf-fits}
 use Rattle.protocol.proofs.ServerLift as server
@@ -143,7 +144,7 @@ module _ (P : Primitives) (law : Lengths P) (sh : Shelf) (tr : (1 ≤ sh .t) × 
         (take-good (sh .t) c (w .client c .call) (w .client c .kept) tr fits (sound c) (here c) P law (sh .writers) (sh .keys) reply output)
     step-agrees (give-up c) f = at-client c (abortStep s c) _ _ (abort-good (sh .t) c (w .client c .call) (w .client c .kept) tr fits (sound c) (here c))
     step-agrees (serve b packet output) f =
-        let (lo, hi) = and-on _ _ (f .0) in unfold doValues doBytes in serve-agrees b packet output (leb-true 1 b lo) (leb-true b (s .servers) hi)
+        let (lo, hi) = and-both _ _ (f .0) in unfold doValues doBytes in serve-agrees b packet output (leb-true 1 b lo) (leb-true b (s .servers) hi)
 
   -- ---- runs
 

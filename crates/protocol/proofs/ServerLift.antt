@@ -13,6 +13,7 @@ use borrow.Author.Tests.{eq-eqb, eqb-true}
 use Rattle.cluster.specs.Config.{Config, shelf}
 use Rattle.cluster.specs.Ranges.{topFaults, memorySize, packetRoom}
 use Rattle.cluster.specs.Refusals.{onRefusal}
+use Rattle.cluster.proofs.Tests.{and-both}
 use Rattle.protocol.specs.Format.{via, seq, keep, byte}
 use Rattle.protocol.specs.Packet.{Packet, Body, BodyOk, PacketOk, packetF, headF, bodyF, kindOf, decode, encode}
 use Rattle.protocol.specs.Packet.{clock, clockReply, store, storeReply, complete, completeReply, collect, collectReply, filter, filterReply, repair, repairReply}
@@ -20,7 +21,7 @@ use Rattle.protocol.specs.Memory.{MemoryOk, decodeMemory, encodeMemory, 
 use Rattle.protocol.specs.Primitives.{Primitives}
 use Rattle.protocol.specs.Server.{Server, Acted, act, barred, Stepped, replyTo, serverRefusal, answered, serverStep, blankServer}
 use Rattle.protocol.specs.ServerBytes.{Served, serverIn, memoryOf, over, turnedDown, accepted, onMemory, serverTake}
-use Rattle.protocol.proofs.Answers.{no-some, and-on}
+use Rattle.protocol.proofs.Answers.{no-some}
 use Rattle.protocol.proofs.Bodies.{decode-ok}
 use Rattle.protocol.proofs.Memories.{of-fields, memory-length, decode-encode-memory}
 use Rattle.protocol.proofs.Acts.{ServerOk, Right, act-ok, blank-ok}
@@ -96,7 +97,7 @@ accepted-t t b p room e = go (eqb (p .head .t) t && eqb (p .head .server) b) ref
   where
     go : (c : Bool) → (eqb (p .head .t) t && eqb (p .head .server) b) ≡ c
         → _≡_ {A = ℕ} (cond (not c) 8 (cond (barred (p .head .client) (p .body)) 9 (cond (ltb room packetRoom) 15 0))) 0 → p .head .t ≡ t
-    go true h k = eqb-true _ _ (and-on _ _ h .0)
+    go true h k = eqb-true _ _ (and-both _ _ h .0)
     go false h k = absurd (let z : _≡_ {A = ℕ} 8 0 = k in omega arith)
 
 module _ (P : Primitives) (t b : ℕ) (v : Server) (memory key packet output : List ℕ) (h : Holds t b v memory) where

@@ -6,12 +6,13 @@ use mathlib.Core.List.{List}
 use mathlib.Core.Option.{Option, some, Option·some-injective}
 use Prim.Native.Nat.{ℕ, zero, suc, _*_, _≤_}
 use native.Mathlib.Omega.{arith}
-use lib.Dec.{eqb, lit≤}
+use lib.Dec.{eqb}
 use lib.ListN.{length, take}
 use borrow.Author.Tests.{eq-eqb, eqb-true, not-true, not-false}
 use Rattle.cluster.specs.Config.{Config, shelf}
 use Rattle.cluster.specs.Ranges.{within, topFaults, topClient}
 use Rattle.cluster.specs.Refusals.{onRefusal}
+use Rattle.cluster.proofs.Tests.{inside, passes}
 use Rattle.protocol.specs.declared.Call.{Call}
 use Rattle.protocol.specs.declared.Aborted.the-variants as aborts
 use Rattle.protocol.specs.Values.{nonceSize}
@@ -27,8 +28,8 @@ use Rattle.protocol.proofs.Equal.{test-ext}
 use Rattle.protocol.proofs.Room.{Fitting}
 use Rattle.protocol.proofs.ServerLift.{over-start}
 use Rattle.protocol.proofs.ClientLift.{Sound, Lifted, pending-is, awaits-is, write-begun, read-begun, idled}
-use Rattle.protocol.proofs.TakeLift.{pass, take-lift}
-use Rattle.protocol.proofs.Fine.{Fine, write-accepted, write-fine, read-fine, abort-fine, take-fine, inside}
+use Rattle.protocol.proofs.TakeLift.{take-lift}
+use Rattle.protocol.proofs.Fine.{Fine, write-accepted, write-fine, read-fine, abort-fine, take-fine}
 use Rattle.protocol.proofs.MakeLift.{made-ok}
 
 -- what a step on bytes leaves and answers, by the turn on values
@@ -104,9 +105,9 @@ module _ (t c : ℕ) (call : Call) (kept : List ℕ) (tr : (1 ≤ t) × (t ≤ t
   pending : abortRefusal s c (inHand call) ≡ 0 → inHand call ≡ true
   unfolding abortRefusal
   pending e =
-      let (a, e5) = pass (badFaults s) 3 _ (lit≤ tt) e in
-      let (b, e13) = pass (not (within 1 topClient c)) 5 _ (lit≤ tt) e5 in
-      not-false (inHand call) (pass (not (inHand call)) 13 _ (lit≤ tt) e13 .0)
+      let (a, e5) = passes (badFaults s) 2 _ e in
+      let (b, e13) = passes (not (within 1 topClient c)) 4 _ e5 in
+      not-false (inHand call) (passes (not (inHand call)) 12 _ e13 .0)
 
   pub abort-good : let d = giveUp t c call in Good s c (abortStep s c cl) (record { call = d .call; kept = kept }) (abortedOut (d .answer))
   unfolding abortStep giveUp
@@ -148,10 +149,10 @@ module _ (t c : ℕ) (call : Call) (kept : List ℕ) (tr : (1 ≤ t) × (t ≤ t
       → ((1 ≤ b) × (b ≤ s .servers)) × (((1 ≤ c) × (c ≤ topClient)) × (inHand call ≡ true))
   unfolding makeRefusal
   make-ranges b room e =
-      let (a, e4) = pass (badFaults s) 3 _ (lit≤ tt) e in
-      let (x, e5) = pass (not (within 1 (s .servers) b)) 4 _ (lit≤ tt) e4 in
-      let (y, e13) = pass (not (within 1 topClient c)) 5 _ (lit≤ tt) e5 in
-      let (z, e15) = pass (not (inHand call)) 13 _ (lit≤ tt) e13 in
+      let (a, e4) = passes (badFaults s) 2 _ e in
+      let (x, e5) = passes (not (within 1 (s .servers) b)) 3 _ e4 in
+      let (y, e13) = passes (not (within 1 topClient c)) 4 _ e5 in
+      let (z, e15) = passes (not (inHand call)) 12 _ e13 in
       (inside 1 (s .servers) b x, (inside 1 topClient c y, not-false (inHand call) z))
 
   pub make-good : (b : ℕ) (output : List ℕ)

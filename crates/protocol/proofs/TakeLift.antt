@@ -6,12 +6,13 @@ use mathlib.Core.List.{List}
 use mathlib.Core.Option.{Option, none, some}
 use Prim.Native.Nat.{ℕ, zero, suc, _≤_}
 use native.Mathlib.Omega.{arith}
-use lib.Dec.{T, leb, ltb, eqb, lit<, lit≤}
+use lib.Dec.{T, leb, ltb, eqb, lit<}
 use lib.ListN.{length}
 use borrow.Author.Tests.{eqb-true, leb-true, not-false}
 use Rattle.cluster.specs.Config.{Config, shelf}
 use Rattle.cluster.specs.Ranges.{within, topClient, topNumber, contentRoom}
 use Rattle.cluster.specs.Refusals.{onRefusal}
+use Rattle.cluster.proofs.Tests.{and-both, or-none, and-rest, passes}
 use Rattle.protocol.specs.declared.Call.{Call}
 use Rattle.protocol.specs.declared.Taken.the-variants as taken
 use Rattle.protocol.specs.Format.{via, seq, keep, byte}
@@ -21,7 +22,7 @@ use Rattle.protocol.specs.Rules.{ByServer, upd}
 use Rattle.protocol.specs.Client.{Client, refused, update, isFull, awaits, tooHigh, higher, stampIn, heldIn, badFaults, takeRefusal, turnOn, highAt, takeStep}
 use Rattle.protocol.specs.View.{marked, repliesIn, handOf, view}
 use Rattle.protocol.specs.ClientBytes.{awaited, ends, took, takeClock, takeStore, takeComplete, takeCollect, takeFilter, takeRepair, takeOn, highIn, takeIn}
-use Rattle.protocol.proofs.Answers.{and-on, or-off, cond-cong}
+use Rattle.protocol.proofs.Answers.{cond-cong}
 use Rattle.protocol.proofs.Packets.{any-candidate-lengths}
 use Rattle.protocol.proofs.Room.{Fitting}
 use Rattle.protocol.proofs.ServerLift.{body-ok}
@@ -33,15 +34,6 @@ use Rattle.protocol.proofs.Filtered.{filter-turn}
 
 -- ---- refusals
 
--- a test that did not refuse
-pub pass : (b : Bool) (n m : ℕ) → 1 ≤ n → cond b n m ≡ 0 → (b ≡ false) × (m ≡ 0)
-pass true n m h e = absurd (omega arith)
-pass false n m h e = (refl, e)
-
-and-off : (a b : Bool) → a ≡ true → (a && b) ≡ false → b ≡ false
-and-off true b e f = f
-and-off false b e f = absurd (subst T (sym e) tt)
-
 module _ (s : Config) (client : ℕ) (p : Packet) (calls kind : ℕ) (replied : ByServer Bool) where
   -- the tests of 8 and of 12
   abbrev foreign : Bool
@@ -51,11 +43,11 @@ module _ (s : Config) (client : ℕ) (p : Packet) (calls kind : ℕ) (replied : 
   late = not (eqb kind 0) && (not (eqb (p .head .call) calls && eqb (kindOf (p .body)) kind) || replied (p .head .server))
 
   own-t : foreign ≡ false → p .head .t ≡ s .t
-  own-t e = eqb-true (p .head .t) (s .t) (and-on _ _ (not-false (eqb (p .head .t) (s .t) && eqb (p .head .client) client) e) .0)
+  own-t e = eqb-true (p .head .t) (s .t) (and-both _ _ (not-false (eqb (p .head .t) (s .t) && eqb (p .head .client) client) e) .0)
 
   new-server : late ≡ false → eqb kind 0 ≡ false → replied (p .head .server) ≡ false
   new-server e i =
-      or-off (not (eqb (p .head .call) calls && eqb (kindOf (p .body)) kind)) (replied (p .head .server)) (and-off (not (eqb kind 0)) _ (ap not i) e) .1
+      or-none (not (eqb (p .head .call) calls && eqb (kindOf (p .body)) kind)) (replied (p .head .server)) (and-rest (not (eqb kind 0)) _ (ap not i) e) .1
 
   -- what an accepted packet is known by
   pub record Accepted (high : ℕ → Body → Bool) : Type 0 where
@@ -67,12 +59,12 @@ module _ (s : Config) (client : ℕ) (p : Packet) (calls kind : ℕ) (replied : 
   pub accepted : (high : ℕ → Body → Bool) (room : ℕ) → takeRefusal s client (some p) calls kind replied high room ≡ 0 → Accepted high
   unfolding takeRefusal
   accepted high room e =
-      let (a, e5) = pass (badFaults s) 3 _ (lit≤ tt) e in
-      let (b, e8) = pass (not (within 1 topClient client)) 5 _ (lit≤ tt) e5 in
-      let (own, e12) = pass foreign 8 _ (lit≤ tt) e8 in
-      let (l, e13) = pass late 12 _ (lit≤ tt) e12 in
-      let (i, e14) = pass (eqb kind 0) 13 _ (lit≤ tt) e13 in
-      let (g, e15) = pass (high (p .head .server) (p .body)) 14 _ (lit≤ tt) e14 in
+      let (a, e5) = passes (badFaults s) 2 _ e in
+      let (b, e8) = passes (not (within 1 topClient client)) 4 _ e5 in
+      let (own, e12) = passes foreign 7 _ e8 in
+      let (l, e13) = passes late 11 _ e12 in
+      let (i, e14) = passes (eqb kind 0) 12 _ e13 in
+      let (g, e15) = passes (high (p .head .server) (p .body)) 13 _ e14 in
       record { same-t = own-t own; pending = i; new = new-server l i; low = g }
 
   -- the test of 14 may differ where it is not asked
@@ -90,8 +82,8 @@ pub not-none : (s : Config) (client calls kind : ℕ) (replied : ByServer Bool) 
     → takeRefusal s client none calls kind replied high room ≡ 0 → ⊥
 unfolding takeRefusal
 not-none s client calls kind replied high room e =
-    let (a, e5) = pass (badFaults s) 3 _ (lit≤ tt) e in
-    let (b, e7) = pass (not (within 1 topClient client)) 5 _ (lit≤ tt) e5 in
+    let (a, e5) = passes (badFaults s) 2 _ e in
+    let (b, e7) = passes (not (within 1 topClient client)) 4 _ e5 in
     let z : _≡_ {A = ℕ} 7 0 = e7 in
     omega arith
 

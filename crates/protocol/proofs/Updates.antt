@@ -1,16 +1,17 @@
 -- A client's turn keeps what it holds within the layout, in every round.
 -- By cases on the round and on whether the reply ends it. Nothing is assumed but the primitives' lengths.
 use mathlib.Core.Path.{_≡_, refl, sym, subst}
-use mathlib.Core.Bool.{Bool, true, false, _&&_}
+use mathlib.Core.Bool.{Bool, false, _&&_}
 use mathlib.Core.List.{List, [], _∷_}
 use mathlib.Core.Option.{Option, none, some}
 use mathlib.Core.Logic.{inl, inr}
 use Prim.Native.Nat.{ℕ, _≤_}
 use native.Mathlib.Omega.{arith}
-use lib.Dec.{T, ltb, eqb, lit≤}
+use lib.Dec.{ltb, eqb, lit≤}
 use borrow.Author.Tests.{leb-false}
 use Rattle.cluster.specs.Config.{Config}
 use Rattle.cluster.specs.Ranges.{topNumber}
+use Rattle.cluster.proofs.Tests.{and-rest}
 use Rattle.protocol.specs.declared.Stamp.{Stamp}
 use Rattle.protocol.specs.Format.{via, seq, orBlank, number4}
 use Rattle.protocol.specs.Values.{Candidate, Held, sameList}
@@ -32,10 +33,6 @@ number-most : (a : Stamp) → anyStampF .Ok a → a .number ≤ topNumber
 unfolding anyStampF orBlank stampF via seq number4
 number-most a (inl e) = subst (λ (x : Stamp). x .number ≤ topNumber) (sym e) (lit≤ tt)
 number-most a (inr h) = h .0 .1
-
-and-right : (a b : Bool) → a ≡ true → (a && b) ≡ false → b ≡ false
-and-right true b e f = f
-and-right false b e f = absurd (subst T (sym e) tt)
 
 module _ (P : Primitives) (law : Lengths P) (s : Config) (f : Fitting s) (client : ℕ) (writers : List ℕ) (keys : ByServer (List ℕ))
     (cl : Client) (last : cl .last ≤ topNumber) where
@@ -74,7 +71,7 @@ module _ (P : Primitives) (law : Lengths P) (s : Config) (f : Fitting s) (client
   update-ok b x m full (clocking r n a) e h k z =
       at-cond full _ _ Good
       (λ q.
-      let l = leb-false topNumber (higher P writers a (stampIn x)) (and-right full _ q z) in
+      let l = leb-false topNumber (higher P writers a (stampIn x)) (and-rest full _ q z) in
       record { hand = prepared-ok P law s client writers keys r n _ (h .0) (omega arith, omega arith); last = omega arith })
       (λ q. into m _ (h .0, higher-most a (stampIn x) (h .1) (stamp-in s x k)))
   update-ok b x m full (storing d g) e h k z =

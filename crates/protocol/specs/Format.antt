@@ -38,11 +38,15 @@ abbrev pub orElse : {A : Type 0} → Option A → Option A → Option A
 orElse none o = o
 orElse (some a) o = some a
 
+-- a number from lo to hi, and the bytes after it
+abbrev pub ranged : ℕ → ℕ → ℕ → List ℕ → Option (ℕ × List ℕ)
+ranged lo hi x r = guard (leb lo x) (guard (leb x hi) (some (x, r)))
+
 -- ---- one byte from lo to hi
 
 abbrev pub parseByte : ℕ → ℕ → List ℕ → Option (ℕ × List ℕ)
 parseByte lo hi [] = none
-parseByte lo hi (x ∷ r) = guard (leb lo x) (guard (leb x hi) (some (x, r)))
+parseByte lo hi (x ∷ r) = ranged lo hi x r
 
 unfoldable pub byte : ℕ → ℕ → Fmt ℕ
 byte lo hi = record { Ok = λ x. (lo ≤ x) × (x ≤ hi); print = λ x. x ∷ []; parse = parseByte lo hi }
@@ -59,7 +63,7 @@ print2 n = n / 256 ∷ n % 256 ∷ []
 abbrev pub parse2 : ℕ → ℕ → List ℕ → Option (ℕ × List ℕ)
 parse2 lo hi [] = none
 parse2 lo hi (a ∷ []) = none
-parse2 lo hi (a ∷ b ∷ r) = guard (leb lo (value2 a b)) (guard (leb (value2 a b) hi) (some (value2 a b, r)))
+parse2 lo hi (a ∷ b ∷ r) = ranged lo hi (value2 a b) r
 
 unfoldable pub number2 : ℕ → ℕ → Fmt ℕ
 number2 lo hi = record { Ok = λ x. (lo ≤ x) × (x ≤ hi); print = print2; parse = parse2 lo hi }
@@ -75,8 +79,7 @@ parse4 lo hi [] = none
 parse4 lo hi (a ∷ []) = none
 parse4 lo hi (a ∷ b ∷ []) = none
 parse4 lo hi (a ∷ b ∷ c ∷ []) = none
-parse4 lo hi (a ∷ b ∷ c ∷ d ∷ r) =
-    guard (leb lo (value4 a b c d)) (guard (leb (value4 a b c d) hi) (some (value4 a b c d, r)))
+parse4 lo hi (a ∷ b ∷ c ∷ d ∷ r) = ranged lo hi (value4 a b c d) r
 
 unfoldable pub number4 : ℕ → ℕ → Fmt ℕ
 number4 lo hi = record { Ok = λ x. (lo ≤ x) × (x ≤ hi); print = print4; parse = parse4 lo hi }

@@ -1,6 +1,6 @@
 -- A pending call (Algorithms 4 and 6 as document 01, "The client", amends them): its rounds, what a write makes, its packets, and what a reply holds,
 -- on values. Document 01 says call in hand for pending call and giving up for abort.
-use mathlib.Core.Bool.{Bool, cond}
+use mathlib.Core.Bool.{Bool, true, false, cond}
 use mathlib.Core.List.{List}
 use Prim.Native.Nat.{ℕ}
 use lib.Dec.{eqb}
@@ -66,6 +66,15 @@ pub data Result : Type 0 where
   gaveBlank : Result
   -- given up, and whether in the complete round
   aborted : Bool → Result
+
+-- the step was done
+abbrev pub accepted : Result → Bool
+accepted (refused n) = false
+accepted more = true
+accepted (written n) = true
+accepted (gave n c) = true
+accepted gaveBlank = true
+accepted (aborted b) = true
 
 pub record Turn : Type 0 where
   pub client : Client

@@ -3,6 +3,7 @@
 use mathlib.Core.Path.{_≡_, sym, ap, _∙_, subst}
 use mathlib.Core.List.{List, [], append-nil}
 use mathlib.Core.Option.{some}
+use mathlib.Core.Bool.{and-false}
 use Prim.Native.Nat.{ℕ, _≤_}
 use native.Mathlib.Omega.{arith}
 use lib.ListN.{length, drop, getD, length-drop, length-replicate}
@@ -22,7 +23,6 @@ use Rattle.protocol.specs.Server.{Acted, Server, raise, best, act}
 use Rattle.protocol.specs.View.{part, stampAt, candidateAt}
 use Rattle.protocol.specs.ServerBytes.{serverIn, memoryOf, accepted}
 use Rattle.protocol.proofs.Answers.{bytes-drop}
-use Rattle.protocol.proofs.Equal.{and-off}
 use Rattle.protocol.proofs.Packets.{candidate-lengths, candidate-length}
 use Rattle.wire.specs.Places.{candidateList, packetAt, padded}
 use Rattle.wire.specs.Make.{packetStep}
@@ -50,7 +50,7 @@ stamp-value x h =
 blank-raises : (s : Config) (v : Server) → raise (blankCandidate s) v ≡ v
 unfolding raise below
 blank-raises s v =
-    rw (le-ltb (v .latest .stamp .number) 0 (omega arith), le-ltb (v .latest .stamp .writer) 0 (omega arith), and-off)
+    rw (le-ltb (v .latest .stamp .number) 0 (omega arith), le-ltb (v .latest .stamp .writer) 0 (omega arith), and-false)
 
 module _ {d : List ℕ} (bs : Bytes d) (key packet : List ℕ) (ps : Bytes packet) (output : List ℕ) (h : Head) {n e : ℕ} {top : Top} (o : Opened d (h .t) (h .server) n e top)
     (dec : decode packet ≡ some (packetAt h packet)) (k : h .kind ≡ 9) (room : packetRoom ≤ length output) where
@@ -61,10 +61,10 @@ module _ {d : List ℕ} (bs : Bytes d) (key packet : List ℕ) (ps : Bytes packe
   server = serverIn (memoryIn o)
 
   abbrev Y : List ℕ
-  Y = listIn h packet dec k
+  Y = listIn packet
 
   abbrev M : ℕ
-  M = countIn h packet dec k
+  M = countIn packet
 
   abbrev kept : Candidate
   kept = best real s key (h .server) server (blankCandidate s) (candidateList s M Y)

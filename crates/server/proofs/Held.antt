@@ -31,7 +31,7 @@ use Rattle.server.specs.declared.memory.Found.the-variants as found
 use Rattle.server.specs.Reads.{firstWith, FindIs, FindAs}
 use Rattle.server.specs.Answers.{replyHead}
 use Rattle.server.specs.Filter.{shareBytes, HeldAs}
-use Rattle.server.proofs.Once.{shareIn, first-held}
+use Rattle.server.proofs.Finding.{shareIn, first-held}
 use Rattle.server.proofs.Replies.{part-none, headed}
 
 -- ---- what the code makes

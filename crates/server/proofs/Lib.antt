@@ -1,5 +1,6 @@
 pub mod Blanking
 pub mod Walk
+pub mod Finding
 pub mod Once
 pub mod Open
 pub mod Standing

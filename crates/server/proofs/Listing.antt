@@ -13,19 +13,16 @@ use Rattle.cluster.specs.Config.{Config, shelf}
 use Rattle.protocol.specs.declared.Head.{Head}
 use Rattle.protocol.specs.Format.{Bytes, All, printMany, via, seq, byte, many}
 use Rattle.protocol.specs.Values.{Candidate, candidateSize}
-use Rattle.protocol.specs.Packet.{BodyOk, candidateF, candidatesF, filter, printBody, headSize, decode}
+use Rattle.protocol.specs.Packet.{candidateF, candidatesF, filter, headSize, decode}
 use Rattle.protocol.specs.View.{part, candidateAt}
-use Rattle.protocol.proofs.Bodies.{decode-ok}
 use Rattle.protocol.proofs.Changes.{print-snoc}
 use Rattle.protocol.proofs.Packets.{candidate-lengths, candidate-length}
 use Rattle.protocol.proofs.Readers.{candidate-read}
-use Rattle.protocol.proofs.ServerLift.{body-ok}
 use Rattle.wire.specs.Places.{candidateList, bodyAt, packetAt}
-use Rattle.wire.proofs.Laws.{body-bytes}
 use Rattle.server.specs.Ranks.{slotOf}
 use Rattle.server.specs.Filter.{Listed}
 use Rattle.server.proofs.Ranking.{last-of}
-use Rattle.server.proofs.Replies.{body-of}
+use Rattle.server.proofs.Replies.{body-of, sent-ok, sent-bytes}
 
 all-init : {A : Type 0} (P : A → Type 0) (xs : List A) (w : A) → All P (xs ++ w ∷ []) → All P xs × P w
 all-init P [] w h = (tt, h .0)
@@ -106,24 +103,18 @@ module _ (s : Config) (y : List ℕ) where
 
 -- ---- the packet
 
+abbrev pub countIn : List ℕ → ℕ
+countIn packet = getD (drop headSize packet) 0 0
+
+abbrev pub listIn : List ℕ → List ℕ
+listIn packet = drop 1 (drop headSize packet)
+
 module _ (h : Head) (packet : List ℕ) (dec : decode packet ≡ some (packetAt h packet)) (k : h .kind ≡ 9) where
-  abbrev pub countIn : ℕ
-  countIn = getD (drop headSize packet) 0 0
-
-  abbrev pub listIn : List ℕ
-  listIn = drop 1 (drop headSize packet)
-
-  pub filter-body : packetAt h packet .body ≡ filter (candidateList (shelf (h .t)) countIn listIn)
+  pub filter-body : packetAt h packet .body ≡ filter (candidateList (shelf (h .t)) (countIn packet) (listIn packet))
   unfolding bodyAt
   filter-body = body-of h packet 9 k
 
-  candidates-ok : candidatesF (shelf (h .t)) .Ok (candidateList (shelf (h .t)) countIn listIn)
-  unfolding packetAt
-  candidates-ok = subst (BodyOk (shelf (h .t))) filter-body (body-ok (packetAt h packet) (decode-ok packet (packetAt h packet) dec))
-
-  pub listed : Bytes packet → Listed (shelf (h .t)) countIn listIn
-  unfolding packetAt candidatesF via seq many byte
+  pub listed : Bytes packet → Listed (shelf (h .t)) (countIn packet) (listIn packet)
+  unfolding candidatesF via seq many byte
   listed ps =
-      let b : drop headSize packet ≡ printBody (shelf (h .t)) (filter (candidateList (shelf (h .t)) countIn listIn)) =
-      unfold packetAt in (body-bytes packet (packetAt h packet) dec ps ∙ ap (printBody (shelf (h .t))) filter-body) in
-      listed-from (shelf (h .t)) listIn countIn (unfold candidatesF via seq many byte in (candidates-ok .1 .1)) (ap (drop 1) b)
+      listed-from (shelf (h .t)) (listIn packet) (countIn packet) (unfold candidatesF via seq many byte in (sent-ok h packet dec filter-body .1 .1)) (ap (drop 1) (sent-bytes h packet dec filter-body ps))

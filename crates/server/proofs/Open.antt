@@ -10,6 +10,7 @@ use native.Mathlib.Omega.{arith}
 use lib.ListN.{drop, length}
 use Rattle.cluster.specs.Config.{shelf}
 use Rattle.cluster.specs.Ranges.{topFaults, mostServers, memorySize, capacity}
+use Rattle.cluster.proofs.Tests.{untrue}
 use Rattle.protocol.specs.Format.{Bytes, zeros, byte, many}
 use Rattle.protocol.specs.Values.{Write}
 use Rattle.protocol.specs.Packet.{writeF, anyCandidateF}
@@ -26,7 +27,6 @@ use Rattle.server.specs.declared.memory.Top.{Top}
 use Rattle.server.specs.declared.memory.Writes.{Writes}
 use Rattle.server.specs.declared.memory.Writes.the-variants as writes
 use Rattle.server.specs.Reads.{latestPlace, writesPlace, Stored, Checked, WritesAs, Opened}
-use Rattle.server.proofs.Once.{untrue}
 
 -- the zeros after a place, as the code tells them
 tail : (d : List ℕ) (e : ℕ) {o : List ℕ} → o ≡ drop e d → {c : Bool} → c ≡ zeros o → {a : Bool} → c ≡ a → zeros (drop e d) ≡ a

@@ -1,6 +1,6 @@
 -- The latest candidate raised: the keys of stamps are in the order of the stamps, and a higher candidate's bytes over the latest ones
 -- are the memory of the raised server. Assumes nothing.
-use mathlib.Core.Path.{_≡_, refl, sym, ap, _∙_, subst}
+use mathlib.Core.Path.{_≡_, refl, sym, ap, _∙_}
 use mathlib.Core.Bool.{Bool, true, false, cond, _&&_, _||_}
 use mathlib.Core.List.{List}
 use Prim.Native.Nat.{ℕ, _+_, _*_, _≤_, _<_}
@@ -15,7 +15,7 @@ use Rattle.protocol.specs.declared.Head.{Head}
 use Rattle.protocol.specs.declared.Stamp.{Stamp}
 use Rattle.protocol.specs.Format.{Bytes}
 use Rattle.protocol.specs.Values.{Candidate, below, candidateSize}
-use Rattle.protocol.specs.Packet.{BodyOk, candidateF, anyCandidateF, complete, printBody, headSize}
+use Rattle.protocol.specs.Packet.{candidateF, anyCandidateF, complete, headSize}
 use Rattle.protocol.specs.Memory.{encodeMemory}
 use Rattle.protocol.specs.Server.{Server, raise, act}
 use Rattle.protocol.specs.View.{part, stampAt, candidateAt}
@@ -23,18 +23,15 @@ use Rattle.protocol.specs.ClientBytes.{put}
 use Rattle.protocol.specs.ServerBytes.{serverIn, memoryOf}
 use Rattle.protocol.proofs.Acts.{any-candidate}
 use Rattle.protocol.proofs.Answers.{bytes-drop}
-use Rattle.protocol.proofs.Bodies.{decode-ok}
 use Rattle.protocol.proofs.Changes.{latest-bytes}
 use Rattle.protocol.proofs.Packets.{any-print, any-candidate-length}
-use Rattle.protocol.proofs.ServerLift.{body-ok}
 use Rattle.wire.specs.Places.{bodyAt, packetAt}
 use Rattle.wire.specs.Make.{Placed, placed, packetStep}
-use Rattle.wire.proofs.Laws.{body-bytes}
 use Rattle.server.specs.declared.memory.Top.{Top}
 use Rattle.server.specs.Reads.{latestPlace, Opened, keyOf}
 use Rattle.server.specs.Answers.{memoryIn, replyHead, raisedBytes, AnswersFor}
 use Rattle.server.proofs.Standing.{memory-bytes, memory-size-of, memory-fields}
-use Rattle.server.proofs.Replies.{body-of, replied, unchanged, part-none, alone, headed}
+use Rattle.server.proofs.Replies.{body-of, replied, unchanged, part-none, alone, headed, sent-ok, sent-bytes}
 
 pub below-key : (a b : Stamp) → a .writer < 256 → b .writer < 256 → below a b ≡ ltb (keyOf a) (keyOf b)
 unfolding below keyOf
@@ -129,11 +126,7 @@ module _ (d : List ℕ) (bs : Bytes d) (packet : List ℕ) (ps : Bytes packet) (
   complete-answers {x} {m} {out} {first} {second} c e f j q w key n z top o dec k room =
       let y : List ℕ = drop headSize packet in
       let b = body-of h packet 5 k in
-      let ok : candidateF (shelf (h .t)) .Ok (candidateAt (shelf (h .t)) y) =
-      subst (BodyOk (shelf (h .t))) b (body-ok (packetAt h packet) (decode-ok packet (packetAt h packet) dec)) in
-      let p : y ≡ candidateF (shelf (h .t)) .print (candidateAt (shelf (h .t)) y) =
-      body-bytes packet (packetAt h packet) dec ps ∙ ap (printBody (shelf (h .t))) b in
       replied key packet output h o dec room (complete (candidateAt (shelf (h .t)) y)) b first second
-      (e ∙ ap (raisedBytes d) c ∙ raised-memory o bs y (bytes-drop headSize packet ps) p ok)
+      (e ∙ ap (raisedBytes d) c ∙ raised-memory o bs y (bytes-drop headSize packet ps) (sent-bytes h packet dec b ps) (sent-ok h packet dec b))
       (sym (f ∙ part-none packet 0) ∙ alone first (j ∙ part-none packet 0))
       (headed h 6 output first second q w)

@@ -18,7 +18,7 @@ use Rattle.protocol.specs.View.{part, stampAt}
 use Rattle.protocol.proofs.Answers.{at-cond, bytes-drop}
 use Rattle.server.specs.Reads.{keyOf, maxOf}
 use Rattle.server.specs.Ranks.{slotOf, rankOf, slotWith, under, nextRank}
-use Rattle.server.proofs.Once.{max-left, max-right}
+use Rattle.server.proofs.Finding.{max-left, max-right}
 
 -- the last of suc m, or one before it
 pub last-of : (j m : ℕ) → j < suc m → (j < m) ⊎ (j ≡ m)
@@ -57,13 +57,13 @@ rank-top s y i h = omega (arith, key-top (slotOf s y i) (slot-bytes s y i h))
 
 -- ---- the tests of the code
 
-pub under-is : (rank top : ℕ) → rank < top → under rank top ≡ rank
+pub under-is : (rank bound : ℕ) → rank < bound → under rank bound ≡ rank
 unfolding under
-under-is rank top h = rw (lt-ltb rank top h)
+under-is rank bound h = rw (lt-ltb rank bound h)
 
-pub under-not : (rank top : ℕ) → top ≤ rank → under rank top ≡ 0
+pub under-not : (rank bound : ℕ) → bound ≤ rank → under rank bound ≡ 0
 unfolding under
-under-not rank top h = rw (le-ltb rank top h)
+under-not rank bound h = rw (le-ltb rank bound h)
 
 -- the place of a slot is a number of the code
 pub place-fits : (t i : ℕ) → t < 256 → i < 256 → {z : ℕ} → z ≡ candidateSize (shelf t) → z * i < 18446744073709551616
@@ -106,30 +106,30 @@ module _ (s : Config) (y : List ℕ) where
 
   -- ---- the next rank
 
-  pub next-under : (n top : ℕ) → 0 < nextRank s y n top → (i : ℕ) × (i < n) × (nextRank s y n top ≡ rankOf s y i) × (nextRank s y n top < top)
+  pub next-under : (n bound : ℕ) → 0 < nextRank s y n bound → (i : ℕ) × (i < n) × (nextRank s y n bound ≡ rankOf s y i) × (nextRank s y n bound < bound)
   unfolding nextRank maxOf under
-  next-under zero top h = absurd (omega arith)
-  next-under (suc n) top h =
-      at-cond (ltb (nextRank s y n top) (cond (ltb (rankOf s y n) top) (rankOf s y n) 0)) (cond (ltb (rankOf s y n) top) (rankOf s y n) 0) (nextRank s y n top) Q
-      (λ e. at-cond (ltb (rankOf s y n) top) (rankOf s y n) 0 Q (λ f l. (n, omega arith, refl, ltb-true _ _ f)) (λ f l. absurd (omega arith)))
-      (λ e l. let (i, k, p, q) = next-under n top l in (i, omega arith, p, q)) h
+  next-under zero bound h = absurd (omega arith)
+  next-under (suc n) bound h =
+      at-cond (ltb (nextRank s y n bound) (cond (ltb (rankOf s y n) bound) (rankOf s y n) 0)) (cond (ltb (rankOf s y n) bound) (rankOf s y n) 0) (nextRank s y n bound) Q
+      (λ e. at-cond (ltb (rankOf s y n) bound) (rankOf s y n) 0 Q (λ f l. (n, omega arith, refl, ltb-true _ _ f)) (λ f l. absurd (omega arith)))
+      (λ e l. let (i, k, p, q) = next-under n bound l in (i, omega arith, p, q)) h
     where
       Q : ℕ → Type 0
-      Q z = 0 < z → (i : ℕ) × (i < suc n) × (z ≡ rankOf s y i) × (z < top)
+      Q z = 0 < z → (i : ℕ) × (i < suc n) × (z ≡ rankOf s y i) × (z < bound)
 
-  pub next-most : (n top j : ℕ) → j < n → rankOf s y j < top → rankOf s y j ≤ nextRank s y n top
+  pub next-most : (n bound j : ℕ) → j < n → rankOf s y j < bound → rankOf s y j ≤ nextRank s y n bound
   unfolding nextRank
-  next-most zero top j h l = absurd (omega arith)
-  next-most (suc n) top j h l = go (last-of j n h) (λ k. next-most n top j k l)
+  next-most zero bound j h l = absurd (omega arith)
+  next-most (suc n) bound j h l = go (last-of j n h) (λ k. next-most n bound j k l)
     where
-      here : rankOf s y n < top → rankOf s y n ≤ maxOf (nextRank s y n top) (under (rankOf s y n) top)
-      here k = omega (arith, under-is (rankOf s y n) top k, max-right (nextRank s y n top) (under (rankOf s y n) top))
+      here : rankOf s y n < bound → rankOf s y n ≤ maxOf (nextRank s y n bound) (under (rankOf s y n) bound)
+      here k = omega (arith, under-is (rankOf s y n) bound k, max-right (nextRank s y n bound) (under (rankOf s y n) bound))
 
-      go : (j < n) ⊎ (j ≡ n) → (j < n → rankOf s y j ≤ nextRank s y n top) → rankOf s y j ≤ maxOf (nextRank s y n top) (under (rankOf s y n) top)
-      go (inl k) f = omega (arith, f k, max-left (nextRank s y n top) (under (rankOf s y n) top))
-      go (inr e) f = subst (λ (z : ℕ). rankOf s y z ≤ maxOf (nextRank s y n top) (under (rankOf s y n) top)) (sym e) (here (subst (λ (z : ℕ). rankOf s y z < top) e l))
+      go : (j < n) ⊎ (j ≡ n) → (j < n → rankOf s y j ≤ nextRank s y n bound) → rankOf s y j ≤ maxOf (nextRank s y n bound) (under (rankOf s y n) bound)
+      go (inl k) f = omega (arith, f k, max-left (nextRank s y n bound) (under (rankOf s y n) bound))
+      go (inr e) f = subst (λ (z : ℕ). rankOf s y z ≤ maxOf (nextRank s y n bound) (under (rankOf s y n) bound)) (sym e) (here (subst (λ (z : ℕ). rankOf s y z < bound) e l))
 
   -- one more slot
-  pub next-more : (n top : ℕ) {a r u z : ℕ} → a ≡ nextRank s y n top → r ≡ rankOf s y n → u ≡ under r top → z ≡ maxOf a u → z ≡ nextRank s y (n + 1) top
+  pub next-more : (n bound : ℕ) {a r u z : ℕ} → a ≡ nextRank s y n bound → r ≡ rankOf s y n → u ≡ under r bound → z ≡ maxOf a u → z ≡ nextRank s y (n + 1) bound
   unfolding nextRank
-  next-more n top p q v w = rw add-one (w ∙ (λ i. maxOf (p i) ((v ∙ ap (λ (x : ℕ). under x top) q) i)))
+  next-more n bound p q v w = rw add-one (w ∙ (λ i. maxOf (p i) ((v ∙ ap (λ (x : ℕ). under x bound) q) i)))

@@ -9,21 +9,18 @@ use Rattle.cluster.specs.Config.{shelf}
 use Rattle.cluster.specs.declared.Outcome.{Outcome}
 use Rattle.protocol.specs.declared.Head.{Head}
 use Rattle.protocol.specs.Format.{Bytes}
-use Rattle.protocol.specs.Packet.{BodyOk, candidateF, repair, printBody, headSize}
+use Rattle.protocol.specs.Packet.{repair, headSize}
 use Rattle.protocol.specs.Memory.{encodeMemory}
 use Rattle.protocol.specs.Server.{Server, raise, act}
 use Rattle.protocol.specs.View.{part, candidateAt}
 use Rattle.protocol.specs.ServerBytes.{serverIn, memoryOf}
-use Rattle.protocol.proofs.Bodies.{decode-ok}
-use Rattle.protocol.proofs.ServerLift.{body-ok}
 use Rattle.wire.specs.Places.{bodyAt, packetAt}
 use Rattle.wire.specs.Make.{packetStep}
-use Rattle.wire.proofs.Laws.{body-bytes}
 use Rattle.server.specs.declared.memory.Top.{Top}
 use Rattle.server.specs.Answers.{memoryIn, replyHead, raisedBytes}
 use Rattle.server.specs.Valid.{ValidAs, RaisedAs, AnswersWith}
 use Rattle.server.proofs.Raising.{raised-memory}
-use Rattle.server.proofs.Replies.{body-of, replied, unchanged, part-none, alone, headed}
+use Rattle.server.proofs.Replies.{body-of, replied, unchanged, part-none, alone, headed, sent-ok, sent-bytes}
 
 module _ (d : List ℕ) (bs : Bytes d) (key : List ℕ) (t b n : ℕ) (top : Top) (x : List ℕ) (xs : Bytes x) {r : Bool} (test : ValidAs d key t b n top x r) where
   pub raised-valid : r ≡ true → {m : List ℕ} → m ≡ raisedBytes d x → RaisedAs d key t b n top x m
@@ -46,11 +43,7 @@ module _ (d key packet : List ℕ) (ps : Bytes packet) (output : List ℕ) (h : 
   repair-answers {x} {m} {out} {first} {second} c u f j q w e o dec k room =
       let y : List ℕ = drop headSize packet in
       let b = body-of h packet 11 k in
-      let ok : candidateF (shelf (h .t)) .Ok (candidateAt (shelf (h .t)) y) =
-      subst (BodyOk (shelf (h .t))) b (body-ok (packetAt h packet) (decode-ok packet (packetAt h packet) dec)) in
-      let p : y ≡ candidateF (shelf (h .t)) .print (candidateAt (shelf (h .t)) y) =
-      body-bytes packet (packetAt h packet) dec ps ∙ ap (printBody (shelf (h .t))) b in
       replied key packet output h o dec room (repair (candidateAt (shelf (h .t)) y)) b first second
-      (subst (λ (z : List ℕ). RaisedAs d key (h .t) (h .server) n top z m) c u e o p ok)
+      (subst (λ (z : List ℕ). RaisedAs d key (h .t) (h .server) n top z m) c u e o (sent-bytes h packet dec b ps) (sent-ok h packet dec b))
       (sym (f ∙ part-none packet 0) ∙ alone first (j ∙ part-none packet 0))
       (headed h 12 output first second q w)

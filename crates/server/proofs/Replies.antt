@@ -23,7 +23,7 @@ use Rattle.protocol.proofs.Bodies.{decode-ok}
 use Rattle.protocol.proofs.ServerLift.{body-ok, reply-ok}
 use Rattle.wire.specs.Places.{bodyAt, packetAt}
 use Rattle.wire.specs.Make.{packetStep}
-use Rattle.wire.proofs.Laws.{made-accepted}
+use Rattle.wire.proofs.Laws.{made-accepted, body-bytes}
 use Rattle.server.specs.declared.memory.Top.{Top}
 use Rattle.server.specs.Reads.{latestPlace, Opened}
 use Rattle.server.specs.Answers.{memoryIn, replyHead, AnswersAll}
@@ -33,6 +33,16 @@ use Rattle.server.proofs.Standing.{memory-bytes, server-ok, latest-part
 pub body-of : (h : Head) (packet : List ℕ) (k : ℕ) → h .kind ≡ k → packetAt h packet .body ≡ bodyAt (shelf (h .t)) k (drop headSize packet)
 unfolding packetAt
 body-of h packet k e = ap (λ (j : ℕ). bodyAt (shelf (h .t)) j (drop headSize packet)) e
+
+-- the body of a packet that was let through has fields in their ranges, and is the bytes after the head
+module _ (h : Head) (packet : List ℕ) (dec : decode packet ≡ some (packetAt h packet)) {x : Body} (body : packetAt h packet .body ≡ x) where
+  pub sent-ok : BodyOk (shelf (h .t)) x
+  unfolding packetAt
+  sent-ok = subst (BodyOk (shelf (h .t))) body (body-ok (packetAt h packet) (decode-ok packet (packetAt h packet) dec))
+
+  pub sent-bytes : Bytes packet → drop headSize packet ≡ printBody (shelf (h .t)) x
+  unfolding packetAt
+  sent-bytes ps = body-bytes packet (packetAt h packet) dec ps ∙ ap (printBody (shelf (h .t))) body
 
 module _ {d : List ℕ} (key packet output : List ℕ) (h : Head) {n e : ℕ} {top : Top} (o : Opened d (h .t) (h .server) n e top) where
   -- the server's step
@@ -53,9 +63,7 @@ module _ {d : List ℕ} (key packet output : List ℕ) (h : Head) {n e : ℕ} {t
     unfolding packetAt
     reply-packet-ok =
         let p : Packet = packetAt h packet in
-        let ok : PacketOk p = decode-ok packet p dec in
-        let b : BodyOk (shelf (h .t)) x = subst (BodyOk (shelf (h .t))) body (body-ok p ok) in
-        reply-ok p (stepOf x .reply) ok (act-ok real (shelf (h .t)) key (h .server) (serverIn (memoryIn o)) (server-ok o) x b .reply)
+        reply-ok p (stepOf x .reply) (decode-ok packet p dec) (act-ok real (shelf (h .t)) key (h .server) (serverIn (memoryIn o)) (server-ok o) x (sent-ok h packet dec body) .reply)
 
     made : (first second : List ℕ) → printBody (shelf (h .t)) (stepOf x .reply) ≡ first ++ second
         → packetStep (replyHead h (kindOf (stepOf x .reply))) first second output

@@ -15,7 +15,7 @@ use Rattle.cluster.specs.declared.Outcome.{Outcome}
 use Rattle.protocol.specs.declared.Head.{Head}
 use Rattle.protocol.specs.Format.{Bytes, printMany, byte, keep, via, seq, run, many}
 use Rattle.protocol.specs.Values.{Write, isSome, stampSize}
-use Rattle.protocol.specs.Packet.{BodyOk, stampF, shareF, writeF, anyCandidateF, codeF, store, storeReply, printBody, headSize, decode}
+use Rattle.protocol.specs.Packet.{stampF, shareF, writeF, anyCandidateF, codeF, store, storeReply, printBody, headSize, decode}
 use Rattle.protocol.specs.Memory.{Memory, memoryF, encodeMemory, held}
 use Rattle.protocol.specs.Server.{Acted, Server, kept, act}
 use Rattle.protocol.specs.View.{part}
@@ -24,25 +24,22 @@ use Rattle.protocol.specs.Primitives.{real}
 use Rattle.protocol.specs.ServerBytes.{serverIn, memoryOf, accepted}
 use Rattle.protocol.proofs.Acts.{ServerOk, act-ok}
 use Rattle.protocol.proofs.Answers.{bytes-drop}
-use Rattle.protocol.proofs.Bodies.{decode-ok}
 use Rattle.protocol.proofs.Changes.{added, print-snoc, append-bytes}
 use Rattle.protocol.proofs.Memories.{of-fields, memory-room}
 use Rattle.protocol.proofs.Packets.{write-law, stamp-length, any-candidate-length}
 use Rattle.protocol.proofs.Puts.{wrote-byte}
 use Rattle.protocol.proofs.Repeats.{many-law}
-use Rattle.protocol.proofs.ServerLift.{body-ok}
 use Rattle.protocol.proofs.Walks.{many-count}
 use Rattle.wire.specs.Places.{bodyAt, packetAt, writeAt}
 use Rattle.wire.specs.Make.{Placed, placed, packetStep}
-use Rattle.wire.proofs.Laws.{body-bytes}
 use Rattle.server.specs.declared.memory.Top.{Top}
 use Rattle.server.specs.declared.memory.Found.{Found}
 use Rattle.server.specs.declared.memory.Found.the-variants as found
 use Rattle.server.specs.Reads.{writesPlace, Opened, firstWith, FindIs, FindAs}
 use Rattle.server.specs.Answers.{memoryIn, replyHead, countPlace, keptBytes}
-use Rattle.server.proofs.Once.{shareIn, first-held}
+use Rattle.server.proofs.Finding.{shareIn, first-held}
 use Rattle.server.proofs.Raising.{size-few, placed-put}
-use Rattle.server.proofs.Replies.{body-of, replied-as, unchanged, part-none, headed}
+use Rattle.server.proofs.Replies.{body-of, replied-as, unchanged, part-none, headed, sent-ok, sent-bytes}
 use Rattle.server.proofs.Standing.{memory-bytes, memory-size-of, memory-fields, server-ok}
 
 -- a write's bytes begin with its stamp's
@@ -129,12 +126,10 @@ module _ {d : List ℕ} (bs : Bytes d) (packet : List ℕ) (ps : Bytes packet) (
   the-body = body-of h packet 3 k
 
   write-ok : writeF (shelf (h .t)) .Ok written
-  unfolding packetAt
-  write-ok = subst (BodyOk (shelf (h .t))) the-body (body-ok (packetAt h packet) (decode-ok packet (packetAt h packet) dec))
+  write-ok = sent-ok h packet dec the-body
 
   write-bytes : drop headSize packet ≡ writeF (shelf (h .t)) .print written
-  unfolding packetAt
-  write-bytes = body-bytes packet (packetAt h packet) dec ps ∙ ap (printBody (shelf (h .t))) the-body
+  write-bytes = sent-bytes h packet dec the-body ps
 
   found-held : {x : List ℕ} → x ≡ drop headSize packet → shareIn (firstWith (part x 0 stampSize) (o .writes)) ≡ held (written .stamp) (o .writes)
   unfolding part

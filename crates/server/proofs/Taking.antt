@@ -4,7 +4,7 @@ use mathlib.Core.Path.{_≡_, refl, sym, ap, _∙_, subst}
 use mathlib.Core.Bool.{Bool, true, false, cond, not, _&&_, _||_}
 use mathlib.Core.List.{List}
 use mathlib.Core.Option.{none, some}
-use Prim.Native.Nat.{ℕ, zero, suc, _≤_, _<_}
+use Prim.Native.Nat.{ℕ, _≤_, _<_}
 use native.Mathlib.Omega.{arith}
 use lib.Dec.{T, ltb, eqb}
 use lib.ListN.{length, drop, getD}
@@ -13,6 +13,7 @@ use Rattle.cluster.specs.Config.{shelf}
 use Rattle.cluster.specs.Ranges.{topWriter, memorySize, packetRoom}
 use Rattle.cluster.specs.Refusals.{onRefusal}
 use Rattle.cluster.specs.declared.Outcome.{Outcome}
+use Rattle.cluster.proofs.Tests.{and-both, refused-is}
 use Rattle.protocol.specs.declared.Head.{Head}
 use Rattle.protocol.specs.Packet.{Body, headSize, decode}
 use Rattle.protocol.specs.Memory.{decodeMemory}
@@ -20,7 +21,7 @@ use Rattle.protocol.specs.Primitives.{real}
 use Rattle.protocol.specs.Server.{barred, serverRefusal}
 use Rattle.protocol.specs.View.{stampAt, candidateAt}
 use Rattle.protocol.specs.ServerBytes.{Served, turnedDown, accepted, onMemory, serverTake}
-use Rattle.protocol.proofs.Answers.{and-on, at-cond}
+use Rattle.protocol.proofs.Answers.{at-cond}
 use Rattle.wire.specs.Places.{writeAt, bodyAt, packetAt}
 use Rattle.wire.proofs.Laws.{head-ranges}
 use Rattle.server.specs.declared.memory.Top.{Top}
@@ -147,7 +148,7 @@ was-let-in h t b packet room e =
     go : (x : Bool) → (eqb (h .t) t && eqb (h .server) b) ≡ x → (y : Bool) → barred (h .client) (packetAt h packet .body) ≡ y → (z : Bool) → ltb room packetRoom ≡ z
         → _≡_ {A = ℕ} (cond (not x) 8 (cond y 9 (cond z 15 0))) 0 → LetIn h t b packet room
     go true p false q false r k =
-        let (i, j) = and-on (eqb (h .t) t) (eqb (h .server) b) p in
+        let (i, j) = and-both (eqb (h .t) t) (eqb (h .server) b) p in
         record { t-own = eqb-true (h .t) t i; server-own = eqb-true (h .server) b j; sent = q; room-there = ltb-false room packetRoom r }
     go false p y q z r k = absurd (let n : _≡_ {A = ℕ} 8 0 = k in omega arith)
     go true p true q z r k = absurd (let n : _≡_ {A = ℕ} 9 0 = k in omega arith)
@@ -159,10 +160,6 @@ unfolding packetAt
 server-least h packet dec = unfold packetAt in (head-ranges packet (packetAt h packet) dec .server .0)
 
 -- ---- the whole
-
-on-refused : (n : ℕ) → (n ≡ 0 → ⊥) → (x y : Served) → onRefusal n x y ≡ y
-on-refused zero h x y = absurd (h refl)
-on-refused (suc n) h x y = refl
 
 module _ (d key packet output : List ℕ) where
   abbrev down : Outcome → Served
@@ -194,7 +191,7 @@ module _ (d key packet output : List ℕ) where
             (ap (λ q. serverRefusal t b q (length output)) dec ∙ sym found))
 
         pub take-refused : (k ≡ 0 → ⊥) → {z : Outcome} → z ≡ number k → down z ≡ serverTake real d key packet output
-        take-refused h p = ap down p ∙ sym (whole ∙ on-refused k h _ _)
+        take-refused h p = ap down p ∙ sym (whole ∙ refused-is k _ _ h)
 
         pub take-answered : k ≡ 0 → {r : Served} → AnswersAny d key packet output h n e top r → r ≡ serverTake real d key packet output
         take-answered z {r} a =

@@ -32,7 +32,7 @@ use Rattle.server.specs.declared.memory.Found.the-variants as found
 use Rattle.server.specs.Reads.{Opened, firstWith, FindIs, FindAs}
 use Rattle.server.specs.Answers.{memoryIn}
 use Rattle.server.specs.Valid.{nonceHash, HistoryAs, tagChecks, ValidAs}
-use Rattle.server.proofs.Once.{shareIn, first-held}
+use Rattle.server.proofs.Finding.{shareIn, first-held}
 use Rattle.server.proofs.Standing.{candidate-stamp}
 
 -- the nonce digest, past the length, the fragment and the digests

@@ -6,12 +6,12 @@ use mathlib.Core.List.{List, _++_, append-assoc}
 use mathlib.Core.Logic.{_⊎_, inl, inr}
 use Prim.Native.Nat.{ℕ, suc, _+_, _-_, _≤_, _<_}
 use native.Mathlib.Omega.{arith}
-use native.Mathlib.Nat.{sub-zero}
+use native.Mathlib.Nat.{sub-zero, div-eq-of-lt}
 use lib.Dec.{ltb}
 use lib.ListN.{drop, take, getD, length, length-append, length-drop}
 use lib.Seq.{take-at, drop-at}
 use borrow.Author.Tests.{ltb-true, ltb-false}
-use Rattle.cluster.specs.Config.{Config}
+use Rattle.cluster.specs.Config.{Config, shelf}
 use Rattle.erasure.specs.Fragments.{fragmentSize}
 use Rattle.hmac.specs.Hmac.{tagSize}
 use Rattle.protocol.specs.Format.{Bytes, value2, many, via, seq, run}
@@ -27,7 +27,7 @@ use Rattle.protocol.proofs.Walks.{Reads, decide, leaves-moved, many-next, many-
 use Rattle.wire.specs.Places.{lengthAt, shareSize, writeAt}
 use Rattle.wire.proofs.Through.{past-stamp}
 use Rattle.server.specs.declared.memory.Found.the-variants as found
-use Rattle.server.specs.Reads.{writesPlace, frameSize, writeSize, Stored, firstWith, SearchAs}
+use Rattle.server.specs.Reads.{writesPlace, writeSize, Stored, firstWith, SearchAs}
 
 -- ---- the bytes of a stored write
 
@@ -71,7 +71,7 @@ module _ (s : Config) {d : List ℕ} {at q : ℕ} {w : Write} (f : Leaves (write
 
   -- and where it ends
   write-ends : at ≤ length d → q ≡ at + writeSize s (drop at d)
-  unfolding frameSize shareSize
+  unfolding shareSize
   write-ends h =
       let A : List ℕ = stampF .print (w .stamp) in
       let B : List ℕ = shareF s .print (w .share) in
@@ -79,13 +79,19 @@ module _ (s : Config) {d : List ℕ} {at q : ℕ} {w : Write} (f : Leaves (write
       let m : fragmentSize (s .shares) (w .share .size) ≡ fragmentSize (s .shares) (lengthAt (drop stampSize (drop at d))) = ap (fragmentSize (s .shares)) size-is in
       omega (arith, l, m, length-append B (drop q d), stamp-there, share-length s (w .share) share-ok, length-drop at d, length-drop q d, f .within, h)
 
--- the same by the lengths that the code adds up
-pub size-told : (s : Config) (d : List ℕ) (at : ℕ) {y x : List ℕ} {v f g : ℕ} → y ≡ drop at d → x ≡ drop stampSize y → v ≡ value2 (getD x 0 0) (getD x 1 0)
-    → f ≡ frameSize s → g ≡ fragmentSize (s .shares) v → f + g ≡ writeSize s (drop at d)
-unfolding lengthAt
-size-told s d at {y} {x} p q r a b =
+-- no content, no fragment
+pub no-fragment : (t : ℕ) → fragmentSize (shelf t .shares) 0 ≡ 0
+unfolding fragmentSize shelf
+no-fragment t = div-eq-of-lt (omega arith)
+
+-- where the next write ends, by the lengths that the code adds up
+pub size-told : (t : ℕ) (d : List ℕ) (at : ℕ) {y x : List ℕ} {v f g : ℕ} → y ≡ drop at d → x ≡ drop stampSize y → v ≡ value2 (getD x 0 0) (getD x 1 0)
+    → f ≡ shareSize (shelf t) 0 → g ≡ fragmentSize (shelf t .shares) v → stampSize + f + g ≡ writeSize (shelf t) (drop at d)
+unfolding lengthAt shareSize
+size-told t d at {y} {x} p q r a b =
     let e : x ≡ drop stampSize (drop at d) = q ∙ ap (drop stampSize) p in
-    λ i. a i + (b ∙ ap (fragmentSize (s .shares)) (r ∙ ap (λ (z : List ℕ). value2 (getD z 0 0) (getD z 1 0)) e)) i
+    let l : fragmentSize (shelf t .shares) _ ≡ fragmentSize (shelf t .shares) _ = ap (fragmentSize (shelf t .shares)) (r ∙ ap (λ (z : List ℕ). value2 (getD z 0 0) (getD z 1 0)) e) in
+    omega (arith, no-fragment t)
 
 -- the next of the stored writes
 next-write : (s : Config) {d : List ℕ} {at : ℕ} → Bytes d → (k j : ℕ) {e : ℕ} {ys : List Write} → k ≡ suc j → Leaves (many k (writeF s)) d at ys e

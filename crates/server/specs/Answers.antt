@@ -29,7 +29,7 @@ memoryIn {d} {t} {b} o = record { t = t; server = b; latest = candidateAt (shelf
 abbrev pub replyHead : Head → ℕ → Head
 replyHead h k = record { kind = k; client = h .client; server = h .server; t = h .t; call = h .call }
 
--- r is the step of a packet of kind k with the head h; n writes are stored, up to the place e and up to top in their order
+-- r is the step of a packet of kind k with the head h; n writes are stored, up to the place e, and top is the highest
 abbrev pub AnswersAs : ℕ → List ℕ → List ℕ → List ℕ → List ℕ → Head → ℕ → ℕ → Top → Served → Type 0
 AnswersAs k d key packet output h n e top r =
     (o : Opened d (h .t) (h .server) n e top) → decode packet ≡ some (packetAt h packet) → h .kind ≡ k → packetRoom ≤ length output

@@ -67,7 +67,7 @@ ChosenUnder d prepared t b n top y m bound r =
 unfoldable pub shareBytes : Config → List ℕ → ℕ → List ℕ
 shareBytes s d at = let y = drop stampSize (drop at d) in take (shareSize s (lengthAt y)) y
 
--- w is the reply with what n stored writes, none of them above top, hold for the stamp a
+-- w is the reply with what n stored writes, of which top is the highest, hold for the stamp a
 abbrev pub HeldAs : List ℕ → Head → ℕ → Top → Stamp → List ℕ → Written → Type 0
 HeldAs d h n top a output w =
     (ws : List Write) (e : ℕ) → Stored (shelf (h .t)) n d ws e → TopOf (shelf (h .t)) d top ws → length (a .tag) ≡ tagSize

@@ -19,11 +19,11 @@ rankOf s y i = 256 * keyOf (stampAt (slotOf s y i)) + (255 - i)
 unfoldable pub slotWith : ℕ → ℕ
 slotWith rank = 255 - rank % 256
 
--- a rank below top, else 0
+-- a rank below bound, else 0
 unfoldable pub under : ℕ → ℕ → ℕ
-under rank top = cond (ltb rank top) rank 0
+under rank bound = cond (ltb rank bound) rank 0
 
--- the highest rank below top among the first n slots, or 0
+-- the highest rank below bound among the first n slots, or 0
 unfoldable pub nextRank : Config → List ℕ → ℕ → ℕ → ℕ
-nextRank s y zero top = 0
-nextRank s y (suc n) top = maxOf (nextRank s y n top) (under (rankOf s y n) top)
+nextRank s y zero bound = 0
+nextRank s y (suc n) bound = maxOf (nextRank s y n bound) (under (rankOf s y n) bound)

@@ -7,15 +7,14 @@ use Prim.Native.Nat.{ℕ, _+_, _*_, _≤_, _<_}
 use lib.Dec.{ltb}
 use lib.ListN.{drop}
 use Rattle.cluster.specs.Config.{Config, shelf}
-use Rattle.erasure.specs.Fragments.{fragmentSize}
 use Rattle.protocol.specs.declared.Stamp.{Stamp}
 use Rattle.protocol.specs.Format.{All, many}
-use Rattle.protocol.specs.Values.{Write, sameList, isSome, stampSize, digestSize, digestsSize, tagsSize, candidateSize}
+use Rattle.protocol.specs.Values.{Write, sameList, isSome, stampSize, candidateSize}
 use Rattle.protocol.specs.Packet.{stampF, writeF}
 use Rattle.protocol.specs.Memory.{held, distinct, decodeMemory}
 use Rattle.protocol.specs.View.{part, stampAt, candidateAt}
 use Rattle.protocol.specs.Reading.{Leaves}
-use Rattle.wire.specs.Places.{lengthAt, writeAt}
+use Rattle.wire.specs.Places.{lengthAt, shareSize, writeAt}
 use Rattle.server.specs.declared.memory.Top.{Top}
 use Rattle.server.specs.declared.memory.Found.{Found}
 use Rattle.server.specs.declared.memory.Found.the-variants as found
@@ -35,12 +34,9 @@ writesPlace s = latestPlace + candidateSize s
 abbrev pub Stored : Config → ℕ → List ℕ → List Write → ℕ → Type 0
 Stored s n d ws e = Leaves (many n (writeF s)) d (writesPlace s) ws e
 
--- bytes of a stored write without its fragment, and of the one that x begins with
-unfoldable pub frameSize : Config → ℕ
-frameSize s = stampSize + 2 + digestsSize s + digestSize + tagsSize s
-
+-- bytes of the stored write that x begins with
 abbrev pub writeSize : Config → List ℕ → ℕ
-writeSize s x = frameSize s + fragmentSize (s .shares) (lengthAt (drop stampSize x))
+writeSize s x = stampSize + shareSize s (lengthAt (drop stampSize x))
 
 -- ---- the first write whose stamp has the bytes key
 
@@ -67,12 +63,12 @@ keyOf a = 256 * a .number + a .writer
 abbrev pub UpTo : ℕ → List Write → Type 0
 UpTo k ws = All (λ w. keyOf (w .stamp) ≤ k) ws
 
--- none of the writes is above top, and a stamp whose bytes stand at top's place is found there; place 0 is none
+-- top is the highest of the writes: none is above its key, and a stamp whose bytes stand at its place is found there; place 0 is none
 pub record TopOf (s : Config) (d : List ℕ) (top : Top) (ws : List Write) : Type 0 where
   pub up : UpTo (top .key) ws
   pub first : 0 < top .at → (key : List ℕ) → sameList (part (drop (top .at) d) 0 stampSize) key ≡ true → FoundAt s d (top .at) (firstWith key ws)
 
--- the first of n writes, none of them above top, whose stamp has the bytes that x begins with
+-- the first of n writes, of which top is the highest, whose stamp has the bytes that x begins with
 abbrev pub FindAs : Config → ℕ → Top → List ℕ → List ℕ → Found → Type 0
 FindAs s n top d x r = (ws : List Write) (e : ℕ) → Stored s n d ws e → TopOf s d top ws → FindIs s d (firstWith (part x 0 stampSize) ws) r
 
@@ -85,13 +81,13 @@ maxOf a b = cond (ltb a b) b a
 unfoldable pub raisedTop : Top → ℕ → ℕ → Top
 raisedTop top k at = cond (ltb (top .key) k) (record { key = k; at = at }) top
 
--- whether the stamp of the write at a place is that of one of n writes, none of them above top
+-- whether the stamp of the write at a place is that of one of n writes, of which top is the highest
 abbrev pub RepeatsAs : Config → ℕ → Top → List ℕ → ℕ → Bool → Type 0
 RepeatsAs s n top d at r =
     (ws : List Write) (e next : ℕ) → Stored s n d ws e → TopOf s d top ws → Leaves (writeF s) d at (writeAt s (drop at d)) next
     → r ≡ isSome (held (stampAt (drop at d)) ws)
 
--- n writes of which no two have one stamp and none is above top; where there are none, no such writes stand there
+-- n writes, top the highest, of which no two have one stamp; where there are none, no such writes stand there
 pub record Checked (s : Config) (n : ℕ) (d : List ℕ) (e : ℕ) (top : Top) : Type 0 where
   pub writes : List Write
   pub there : Stored s n d writes e
@@ -102,7 +98,7 @@ abbrev pub WritesAs : Config → ℕ → List ℕ → Writes → Type 0
 WritesAs s n d (writes.Past e top) = Checked s n d e top
 WritesAs s n d writes.Broken = (ws : List Write) (e : ℕ) → Stored s n d ws e → distinct ws ≡ true → ⊥
 
--- ---- the whole memory: what decodeMemory gives, by its numbers, the places of its parts, and a bound of its stamps; or refusal 2
+-- ---- the whole memory: what decodeMemory gives, by its numbers, the places of its parts, and the highest stored write; or refusal 2
 
 pub record Opened (d : List ℕ) (t b n e : ℕ) (top : Top) : Type 0 where
   pub writes : List Write

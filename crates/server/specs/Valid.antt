@@ -25,7 +25,7 @@ use Rattle.server.specs.Answers.{memoryIn, AnswersAs}
 abbrev pub nonceHash : List ℕ → List ℕ
 nonceHash x = sha256 (part x stampSize nonceSize)
 
--- whether n stored writes, none of them above top, hold the stamp at the start of x, with the nonce digest g
+-- whether n stored writes, of which top is the highest, hold the stamp at the start of x, with the nonce digest g
 abbrev pub HistoryAs : Config → ℕ → Top → List ℕ → List ℕ → List ℕ → Bool → Type 0
 HistoryAs s n top d x g r = (ws : List Write) (e : ℕ) → Stored s n d ws e → TopOf s d top ws → (a : Stamp) → part x 0 stampSize ≡ stampF .print a → r ≡ hasDigest g (held a ws)
 

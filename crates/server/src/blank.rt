@@ -21,34 +21,13 @@ pub fn blank(memory: &mut [u8], t: usize, server: usize) -> cluster::Outcome
     ensures { λ r. ⌜ record { result = r; memory = now (memory .exit) } ≡ blankStep (now (memory .entry)) t server ⌝ }
 {
     if memory.len() != cluster::MEMORY {
-        return cluster::Outcome {
-            number: 1,
-            count: 0,
-        };
+        return cluster::refused(1);
     }
-    if t < 1 {
-        return cluster::Outcome {
-            number: 3,
-            count: 0,
-        };
+    if cluster::outside(1, cluster::TOP_FAULTS, t) {
+        return cluster::refused(3);
     }
-    if cluster::TOP_FAULTS < t {
-        return cluster::Outcome {
-            number: 3,
-            count: 0,
-        };
-    }
-    if server < 1 {
-        return cluster::Outcome {
-            number: 4,
-            count: 0,
-        };
-    }
-    if wire::sizes::servers(t as u8) < server {
-        return cluster::Outcome {
-            number: 4,
-            count: 0,
-        };
+    if cluster::outside(1, cluster::servers(t as u8), server) {
+        return cluster::refused(4);
     }
     clear(memory);
     memory[0] = t as u8;
@@ -69,16 +48,10 @@ pub fn blank_latest(memory: &mut [u8]) -> cluster::Outcome
     ensures { λ r. ⌜ record { result = r; memory = now (memory .exit) } ≡ blankLatest (now (memory .entry)) ⌝ }
 {
     if memory.len() != cluster::MEMORY {
-        return cluster::Outcome {
-            number: 1,
-            count: 0,
-        };
+        return cluster::refused(1);
     }
     let MemoryRead::Value(t, server, n, end, top) = crate::memory::open(memory) else {
-        return cluster::Outcome {
-            number: 2,
-            count: 0,
-        };
+        return cluster::refused(2);
     };
     let zeros = [0u8; CANDIDATE];
     wire::make::put(

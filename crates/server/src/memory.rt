@@ -6,7 +6,7 @@ ghost use lib.ListN.{length, drop};
 ghost use Rattle.cluster.specs.Config.{shelf};
 ghost use Rattle.protocol.specs.Values.{sameList, stampSize};
 ghost use Rattle.protocol.specs.View.{part, stampAt};
-ghost use Rattle.server.specs.Reads.{frameSize, SearchAs, FindAs, RepeatsAs, WritesAs, MemoryAs, keyOf, maxOf, raisedTop, writesPlace};
+ghost use Rattle.server.specs.Reads.{SearchAs, FindAs, RepeatsAs, WritesAs, MemoryAs, keyOf, maxOf, raisedTop, writesPlace};
 use wire::bytes::part;
 use wire::bytes::rest;
 use wire::fields::Cursor;
@@ -46,17 +46,6 @@ pub(crate) fn writes_place(t: u8) -> usize
     LATEST + wire::sizes::candidate_size(t)
 }
 
-// Bytes of a stored write without its fragment.
-fn frame_size(t: u8) -> usize
-    ensures { λ r. ⌜ r ≡ frameSize (shelf t) ⌝ }
-{
-    wire::sizes::STAMP
-        + 2
-        + wire::sizes::digests_size(t)
-        + wire::sizes::DIGEST
-        + wire::sizes::tags_size(t)
-}
-
 // A stamp's place in their order, as one number.
 pub(crate) fn key_at(stamp: &[u8]) -> u64
     ensures { λ r. ⌜ r ≡ keyOf (stampAt (now (stamp .entry))) ⌝ }
@@ -64,11 +53,12 @@ pub(crate) fn key_at(stamp: &[u8]) -> u64
     256 * (wire::bytes::number4(stamp) as u64) + (wire::bytes::byte_at(stamp, 4) as u64)
 }
 
-// The first of n stored writes whose stamp has these bytes. The writes were checked before, so each ends where its record length says.
+// The first of n stored writes whose stamp has these bytes. The writes were checked before, so each ends where its record length says:
+// it has the bytes of one without a fragment, and its fragment's.
 fn search(memory: &[u8], t: u8, n: usize, stamp: &[u8]) -> Found
     ensures { λ r. ⌜ SearchAs (shelf t) n (now (memory .entry)) (now (stamp .entry)) r ⌝ }
 {
-    let frame = frame_size(t);
+    let frame = wire::sizes::STAMP + wire::sizes::share_size(t, 0);
     let mut at = writes_place(t);
     let mut i = 0;
     while i < n {
@@ -177,7 +167,7 @@ pub(crate) fn open(memory: &[u8]) -> MemoryRead
     ) else {
         return MemoryRead::Broken;
     };
-    let servers = wire::sizes::servers(t as u8);
+    let servers = cluster::servers(t as u8);
     let Field::Value(server, c2) = wire::fields::byte_field(memory, c1, 1, servers as u32) else {
         return MemoryRead::Broken;
     };

@@ -31,24 +31,24 @@ pub(crate) fn slot_with(rank: u64) -> u8
     (255 - rank % 256) as u8
 }
 
-// A rank below top, else 0.
-fn under(rank: u64, top: u64) -> u64
-    ensures { λ r. ⌜ r ≡ under rank top ⌝ }
+// A rank below bound, else 0.
+fn under(rank: u64, bound: u64) -> u64
+    ensures { λ r. ⌜ r ≡ under rank bound ⌝ }
 {
-    if rank < top {
+    if rank < bound {
         return rank;
     }
     0
 }
 
-// The highest rank below top among the first n slots; 0 where there is none.
-pub(crate) fn next_rank(list: &[u8], t: u8, n: u8, top: u64) -> u64
-    ensures { λ r. ⌜ r ≡ nextRank (shelf t) (now (list .entry)) n top ⌝ }
+// The highest rank below bound among the first n slots; 0 where there is none.
+pub(crate) fn next_rank(list: &[u8], t: u8, n: u8, bound: u64) -> u64
+    ensures { λ r. ⌜ r ≡ nextRank (shelf t) (now (list .entry)) n bound ⌝ }
 {
     let mut best = 0;
     let mut i = 0;
     while i < n {
-        best = max_of(best, under(rank_at(list, t, i), top));
+        best = max_of(best, under(rank_at(list, t, i), bound));
         i += 1;
     }
     best

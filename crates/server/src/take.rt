@@ -19,13 +19,6 @@ use crate::memory::open;
 use wire::packet::PacketRead;
 use wire::packet::read_packet;
 
-// Nothing is written.
-fn refused(number: u8) -> cluster::Outcome
-    ensures { λ r. ⌜ r ≡ record { number = number; count = 0 } ⌝ }
-{
-    cluster::Outcome { number, count: 0 }
-}
-
 // Whether a client may not send this store or complete: only a writer may, and only with a stamp of its own.
 fn foreign(client: u8, packet: &[u8]) -> bool
     ensures { λ r. ⌜ r ≡ (ltb topWriter client || not (eqb (stampAt (drop headSize (now (packet .entry))) .writer) client)) ⌝ }
@@ -123,17 +116,17 @@ pub fn take(memory: &mut [u8], key: &[u8; 32], packet: &[u8], out: &mut [u8]) ->
     ensures { λ r. ⌜ record { result = r; memory = now (memory .exit); output = now (out .exit) } ≡ serverTake real (now (memory .entry)) (now (key .entry)) (now (packet .entry)) (now (out .entry)) ⌝ }
 {
     if memory.len() != cluster::MEMORY {
-        return refused(1);
+        return cluster::refused(1);
     }
     let MemoryRead::Value(t, server, n, end, top) = open(memory) else {
-        return refused(2);
+        return cluster::refused(2);
     };
     let PacketRead::Value(head) = read_packet(packet) else {
-        return refused(7);
+        return cluster::refused(7);
     };
     let number = refusal(head, t, server, packet, out.len());
     if number != 0 {
-        return refused(number);
+        return cluster::refused(number);
     }
     answer(memory, *key, head, packet, n, end, top, out)
 }

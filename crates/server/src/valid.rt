@@ -29,7 +29,7 @@ pub(crate) fn digest_nonce(candidate: &[u8]) -> [u8; 32]
     sha256::digest(part(candidate, wire::sizes::STAMP, wire::sizes::NONCE))
 }
 
-// One of n stored writes, none of them above top, has the candidate's stamp and this nonce digest.
+// One of n stored writes, of which top is the highest, has the candidate's stamp and this nonce digest.
 pub(crate) fn by_history(
     memory: &[u8],
     t: u8,

@@ -1,9 +1,8 @@
 // FIPS 180-4, 4.1.2 and 6.2.2: the functions on words, and the rounds over a schedule.
 ghost use mathlib.Core.Path.{_≡_};
 ghost use Prim.Native.Nat.{_<_};
-ghost use lib.ListN.{getD};
-ghost use Rattle.sha256.specs.Sha256.{_⊞_, choose, majority, sum0, sum1, sigma0, sigma1, kTable};
-ghost use Rattle.sha256.specs.Sha256.{roundOf, rounds, start, addWork, compressOf};
+ghost use Rattle.sha256.specs.Sha256.{_⊞_, choose, majority, sum0, sum1, sigma0, sigma1};
+ghost use Rattle.sha256.specs.Sha256.{roundOf, addWork, compressOf};
 
 // FIPS 180-4, 4.2.2: the round constants.
 const K: [u32; 64] = [

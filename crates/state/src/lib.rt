@@ -26,17 +26,11 @@ fn marks_at(bytes: &[u8]) -> [u8; cluster::MOST_SERVERS]
     a
 }
 
-fn wide(b: u8) -> u16
-    ensures { λ r. ⌜ (r ≡ b) × (r < 256) ⌝ }
-{
-    b as u16
-}
-
 // The length of the content.
 fn length_at(bytes: &[u8]) -> u16
     ensures { λ r. ⌜ r ≡ lengthAt (now (bytes .entry)) ⌝ }
 {
-    256 * wide(wire::bytes::byte_at(bytes, 12)) + wide(wire::bytes::byte_at(bytes, 13))
+    256 * (wire::bytes::byte_at(bytes, 12) as u16) + (wire::bytes::byte_at(bytes, 13) as u16)
 }
 
 fn tally_at(bytes: &[u8]) -> protocol::Tally

@@ -2,7 +2,7 @@
 -- So a loop that joins all bytes, or all differences, ends with the answer of the definition that goes byte by byte.
 -- Assumes nothing.
 use mathlib.Core.Path.{_≡_, refl, sym, ap, _∙_}
-use mathlib.Core.Bool.{Bool, true, false, not, _&&_}
+use mathlib.Core.Bool.{Bool, true, false, _&&_, and-false, and-assoc}
 use mathlib.Core.List.{List, [], _∷_, _++_}
 use Prim.Native.Nat.{ℕ, zero, suc, _+_, _≤_, _<_}
 use native.Mathlib.Omega.{arith}
@@ -19,22 +19,6 @@ use Rattle.protocol.proofs.Equal.{same-true}
 and-true : (p : Bool) → p && true ≡ p
 and-true true = refl
 and-true false = refl
-
-and-false : (p : Bool) → p && false ≡ false
-and-false true = refl
-and-false false = refl
-
-and-assoc : (p q r : Bool) → (p && q) && r ≡ p && (q && r)
-and-assoc true q r = refl
-and-assoc false q r = refl
-
-pub not-true : (b : Bool) → not b ≡ true → b ≡ false
-not-true true e = sym e
-not-true false e = refl
-
-pub not-false : (b : Bool) → not b ≡ false → b ≡ true
-not-false true e = refl
-not-false false e = sym e
 
 or-eqb : (a b : ℕ) → eqb (bitOr a b) 0 ≡ eqb a 0 && eqb b 0
 or-eqb zero b = ap (λ (x : ℕ). eqb x 0) (or-zero-l b)

@@ -2,138 +2,103 @@
 -- Each parser looks at the bytes that stand there, so one look at the front of the list tells its answer.
 -- Assumes nothing.
 use mathlib.Core.Path.{_≡_, refl, sym, ap, _∙_, subst}
-use mathlib.Core.Option.{none, some}
+use mathlib.Core.Bool.{Bool, true, false}
+use mathlib.Core.Logic.{inl, inr}
+use mathlib.Core.Option.{none}
 use mathlib.Core.List.{List, [], _∷_}
-use Prim.Native.Nat.{ℕ, suc, _+_, _-_, _≤_, _<_}
+use Prim.Native.Nat.{ℕ, _+_, _-_, _≤_, _<_}
 use native.Mathlib.Omega.{arith}
-use native.Mathlib.Numerals.{add-one, add-two, add-three, add-four}
-use lib.ListN.{length, getD, drop, drop-of-length-le, length-drop}
-use lib.Seq.{drop-cons, drop-drop, length-take-le, getD-drop}
+use lib.ListN.{length, getD, drop, length-drop}
+use lib.Seq.{drop-drop, length-take-le, getD-drop}
 use lib.Dec.{leb}
 use borrow.Author.Tests.{le-leb, lt-leb}
-use Rattle.protocol.specs.Format.{Fmt, guard, parse2, parse4, value2, value4, run, byte, number2, number4}
+use Rattle.protocol.specs.Format.{Fmt, guard, ranged, parseByte, parse2, parse4, value2, run, byte, number2, number4}
 use Rattle.protocol.specs.View.{part}
 use Rattle.protocol.specs.Reading.{Leaves, Stops}
 use Rattle.wire.specs.Places.{lengthAt}
-use Rattle.wire.specs.Reads.{Took, Past, numberL, first, four, byteL, number2L, number4L}
+use Rattle.wire.specs.Reads.{Past, FieldAs, RangedAs, numberL, first, four}
+use Rattle.wire.specs.declared.fields.Field.{Field}
+use Rattle.wire.specs.declared.fields.Field.the-variants as field
 
 -- ---- numbers
 
--- F takes w bytes at the place, and the number x of them if it is from lo to hi
-record Ranged (F : Fmt ℕ) (lo hi w x : ℕ) (s : List ℕ) (at : ℕ) : Type 0 where
-  there : F .parse (drop at s) ≡ guard (leb lo x) (guard (leb x hi) (some (x, drop (at + w) s)))
-  ok : lo ≤ x → x ≤ hi → F .Ok x
+-- F reads w bytes, and takes their number X if it is from lo to hi
+pub record Numbered (F : Fmt ℕ) (lo hi w : ℕ) (X : List ℕ → ℕ) : Type 0 where
+  some-bytes : 0 < w
+  short : (d : List ℕ) → length d < w → F .parse d ≡ none
+  long : (d : List ℕ) → w ≤ length d → F .parse d ≡ ranged lo hi (X d) (drop w d)
+  ok : (x : ℕ) → lo ≤ x → x ≤ hi → F .Ok x
 
-module _ {F : Fmt ℕ} {lo hi w x : ℕ} {s : List ℕ} {at : ℕ} (r : Ranged F lo hi w x s at) where
-  low : x < lo → Stops F s at
-  low l = record { stopped = r .there ∙ simp (lt-leb lo x l) }
+guard-none : {A : Type 0} (b : Bool) → guard {A = A} b none ≡ none
+guard-none true = refl
+guard-none false = refl
 
-  high : lo ≤ x → hi < x → Stops F s at
-  high l k = record { stopped = r .there ∙ simp (le-leb lo x l, lt-leb x hi k) }
+module _ {F : Fmt ℕ} {lo hi w : ℕ} {X : List ℕ → ℕ} (r : Numbered F lo hi w X) (s : List ℕ) (at : ℕ) where
+  pub ends : length (drop at s) < w → Stops F s at
+  ends h = record { stopped = r .short (drop at s) h }
 
-  inside : (X : List ℕ → ℕ) → x ≡ X (drop at s) → {v : ℕ} → v ≡ x → at + w ≤ length s → lo ≤ v → v ≤ hi → Took (numberL F X w) s at v (at + w)
-  inside X e {v} ev h l k =
-      let g : Leaves F s at x (at + w) =
-      record { parsed = r .there ∙ simp (le-leb lo x (omega arith), le-leb x hi (omega arith)); within = h; ok = r .ok (omega arith) (omega arith) } in
-      record { leaves = subst (λ (z : ℕ). Leaves F s at z (at + w)) e g; number = ev ∙ e; place = refl }
+  pub answers : w ≤ length (drop at s) → (f : Field) {v : ℕ} → v ≡ X (drop at s) → RangedAs lo hi v (at + w) f → FieldAs (numberL F X w) s at f
+  answers h (field.Value x c) {v} e (q, l, k, p) =
+      let n : ℕ = X (drop at s) in
+      let a : lo ≤ n = omega arith in
+      let b : n ≤ hi = omega arith in
+      let g : Leaves F s at n (at + w) = record {
+        parsed = r .long (drop at s) h ∙ simp (le-leb lo n a, le-leb n hi b, drop-drop);
+        within = omega (arith, length-drop at s, r .some-bytes);
+        ok = r .ok n a b;
+      } in
+      record { leaves = subst (λ (z : ℕ). Leaves F s at n z) (sym p) g; number = q ∙ e; place = p }
+  answers h field.Broken {v} e (inl l) = record { stopped = r .long (drop at s) h ∙ simp (lt-leb lo (X (drop at s)) (omega arith)) }
+  answers h field.Broken {v} e (inr k) = record { stopped = r .long (drop at s) h ∙ simp (lt-leb (X (drop at s)) hi (omega arith)) (guard-none (leb lo (X (drop at s)))) }
 
--- the bytes at a place, counted from it
-module _ (s : List ℕ) (at : ℕ) where
-  here : getD s at 0 ≡ getD (drop at s) 0 0
-  here = let e : at ≡ at + 0 = omega arith in ap (λ (k : ℕ). getD s k 0) e ∙ sym (getD-drop at s 0 0)
+-- the byte at a place, counted from it
+pub here : (s : List ℕ) (at : ℕ) → getD s at 0 ≡ first (drop at s)
+here s at = let e : at ≡ at + 0 = omega arith in ap (λ (k : ℕ). getD s k 0) e ∙ sym (getD-drop at s 0 0)
 
-  there : (i : ℕ) → getD s (at + i) 0 ≡ getD (drop at s) i 0
-  there i = sym (getD-drop at s i 0)
-
-module _ (lo hi : ℕ) (s : List ℕ) (at : ℕ) where
-  byte-ranged : at < length s → Ranged (byte lo hi) lo hi 1 (getD s at 0) s at
+module _ (lo hi : ℕ) where
+  pub byte-numbered : Numbered (byte lo hi) lo hi 1 first
   unfolding byte
-  byte-ranged h = record { there = rw (add-one, drop-cons s at 0 h); ok = λ l k. (l, k) }
-
-  number2-ranged : at + 2 ≤ length s → Ranged (number2 lo hi) lo hi 2 (value2 (getD s at 0) (getD s (at + 1) 0)) s at
-  unfolding number2
-  number2-ranged h =
-      record { there = rw (add-two, add-one, drop-cons s at 0 (omega arith), drop-cons s (suc at) 0 (omega arith)); ok = λ l k. (l, k) }
-
-  number4-ranged : at + 4 ≤ length s
-      → Ranged (number4 lo hi) lo hi 4 (value4 (getD s at 0) (getD s (at + 1) 0) (getD s (at + 2) 0) (getD s (at + 3) 0)) s at
-  unfolding number4
-  number4-ranged h =
-      record {
-        there =
-            rw (
-              add-four,
-              add-three,
-              add-two,
-              add-one,
-              drop-cons s at 0 (omega arith),
-              drop-cons s (suc at) 0 (omega arith),
-              drop-cons s (suc (suc at)) 0 (omega arith),
-              drop-cons s (suc (suc (suc at))) 0 (omega arith),
-            );
-        ok = λ l k. (l, k);
-      }
-
--- a byte
-module _ (lo hi : ℕ) {s : List ℕ} {at : ℕ} where
-  pub byte-end : length s ≤ at → Stops (byte lo hi) s at
-  unfolding byte
-  byte-end h = record { stopped = rw (drop-of-length-le s h) }
-
-  pub byte-low : at < length s → getD s at 0 < lo → Stops (byte lo hi) s at
-  byte-low h l = low (byte-ranged lo hi s at h) l
-
-  pub byte-high : at < length s → lo ≤ getD s at 0 → hi < getD s at 0 → Stops (byte lo hi) s at
-  byte-high h l k = high (byte-ranged lo hi s at h) l k
-
-  pub byte-in : {v : ℕ} → v ≡ getD s at 0 → at < length s → lo ≤ v → v ≤ hi → Took (byteL lo hi) s at v (at + 1)
-  byte-in e h l k = inside (byte-ranged lo hi s at h) first (here s at) e (omega arith) l k
-
--- two bytes
-module _ (lo hi : ℕ) {s : List ℕ} {at : ℕ} where
-  pub number2-end : length s - at < 2 → Stops (number2 lo hi) s at
-  unfolding number2
-  number2-end h = record { stopped = go (drop at s) (omega (arith, length-drop at s)) }
+  byte-numbered = record { some-bytes = omega arith; short = short; long = long; ok = λ x l k. (l, k) }
     where
-      go : (b : List ℕ) → length b < 2 → parse2 lo hi b ≡ none
-      go [] h = refl
-      go (x0 ∷ []) h = refl
-      go (x0 ∷ x1 ∷ b) h = absurd (omega arith)
+      short : (d : List ℕ) → length d < 1 → parseByte lo hi d ≡ none
+      short [] h = refl
+      short (x ∷ d) h = absurd (omega arith)
 
-  pub number2-low : at + 2 ≤ length s → value2 (getD s at 0) (getD s (at + 1) 0) < lo → Stops (number2 lo hi) s at
-  number2-low h l = low (number2-ranged lo hi s at h) l
+      long : (d : List ℕ) → 1 ≤ length d → parseByte lo hi d ≡ ranged lo hi (first d) (drop 1 d)
+      long [] h = absurd (omega arith)
+      long (x ∷ d) h = refl
 
-  pub number2-high : at + 2 ≤ length s → lo ≤ value2 (getD s at 0) (getD s (at + 1) 0) → hi < value2 (getD s at 0) (getD s (at + 1) 0) → Stops (number2 lo hi) s at
-  number2-high h l k = high (number2-ranged lo hi s at h) l k
-
-  pub number2-in : {v : ℕ} → v ≡ value2 (getD s at 0) (getD s (at + 1) 0) → at + 2 ≤ length s → lo ≤ v → v ≤ hi → Took (number2L lo hi) s at v (at + 2)
-  unfolding lengthAt
-  number2-in e h l k = inside (number2-ranged lo hi s at h) lengthAt (rw (here s at, there s at 1)) e h l k
-
--- four bytes
-abbrev at4 : List ℕ → ℕ → ℕ
-at4 s at = value4 (getD s at 0) (getD s (at + 1) 0) (getD s (at + 2) 0) (getD s (at + 3) 0)
-
-module _ (lo hi : ℕ) {s : List ℕ} {at : ℕ} where
-  pub number4-end : length s - at < 4 → Stops (number4 lo hi) s at
-  unfolding number4
-  number4-end h = record { stopped = go (drop at s) (omega (arith, length-drop at s)) }
+  pub number2-numbered : Numbered (number2 lo hi) lo hi 2 lengthAt
+  unfolding number2 lengthAt
+  number2-numbered = record { some-bytes = omega arith; short = short; long = long; ok = λ x l k. (l, k) }
     where
-      go : (b : List ℕ) → length b < 4 → parse4 lo hi b ≡ none
-      go [] h = refl
-      go (x0 ∷ []) h = refl
-      go (x0 ∷ x1 ∷ []) h = refl
-      go (x0 ∷ x1 ∷ x2 ∷ []) h = refl
-      go (x0 ∷ x1 ∷ x2 ∷ x3 ∷ b) h = absurd (omega arith)
+      short : (d : List ℕ) → length d < 2 → parse2 lo hi d ≡ none
+      short [] h = refl
+      short (x ∷ []) h = refl
+      short (x ∷ y ∷ d) h = absurd (omega arith)
 
-  pub number4-low : at + 4 ≤ length s → at4 s at < lo → Stops (number4 lo hi) s at
-  number4-low h l = low (number4-ranged lo hi s at h) l
+      long : (d : List ℕ) → 2 ≤ length d → parse2 lo hi d ≡ ranged lo hi (value2 (getD d 0 0) (getD d 1 0)) (drop 2 d)
+      long [] h = absurd (omega arith)
+      long (x ∷ []) h = absurd (omega arith)
+      long (x ∷ y ∷ d) h = refl
 
-  pub number4-high : at + 4 ≤ length s → lo ≤ at4 s at → hi < at4 s at → Stops (number4 lo hi) s at
-  number4-high h l k = high (number4-ranged lo hi s at h) l k
+  pub number4-numbered : Numbered (number4 lo hi) lo hi 4 four
+  unfolding number4
+  number4-numbered = record { some-bytes = omega arith; short = short; long = long; ok = λ x l k. (l, k) }
+    where
+      short : (d : List ℕ) → length d < 4 → parse4 lo hi d ≡ none
+      short [] h = refl
+      short (x ∷ []) h = refl
+      short (x ∷ y ∷ []) h = refl
+      short (x ∷ y ∷ z ∷ []) h = refl
+      short (x ∷ y ∷ z ∷ w ∷ d) h = absurd (omega arith)
 
-  pub number4-in : {v : ℕ} → v ≡ at4 s at → at + 4 ≤ length s → lo ≤ v → v ≤ hi → Took (number4L lo hi) s at v (at + 4)
-  number4-in e h l k = inside (number4-ranged lo hi s at h) four (rw (here s at, there s at 1, there s at 2, there s at 3)) e h l k
+      long : (d : List ℕ) → 4 ≤ length d → parse4 lo hi d ≡ ranged lo hi (four d) (drop 4 d)
+      long [] h = absurd (omega arith)
+      long (x ∷ []) h = absurd (omega arith)
+      long (x ∷ y ∷ []) h = absurd (omega arith)
+      long (x ∷ y ∷ z ∷ []) h = absurd (omega arith)
+      long (x ∷ y ∷ z ∷ w ∷ d) h = refl
 
 -- ---- runs
 

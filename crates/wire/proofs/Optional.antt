@@ -16,15 +16,12 @@ use Rattle.protocol.specs.Packet.{shareF, heldF, heldMost, codeF}
 use Rattle.protocol.specs.View.{stampAt, shareAt, heldAt}
 use Rattle.protocol.specs.Reading.{Leaves, Stops}
 use Rattle.protocol.proofs.Leaves.{leaves-seq, leaves-via, stops-via, stops-second, leaves-keep, stops-test, leaves-absent, leaves-present, stops-flag, stops-present}
+use Rattle.protocol.proofs.Packets.{held-most}
 use Rattle.wire.specs.Places.{lengthAt, shareSize, heldSize}
 use Rattle.wire.specs.Reads.{Took, byteL, anyStampL, shareL, heldL, codeL}
 use Rattle.wire.proofs.From.{drop-from, first-from}
 
 -- ---- a byte that is at most 1
-
-at-most : (t : Bool) → cond t 0 1 ≤ 1
-at-most true = omega arith
-at-most false = omega arith
 
 one : (x : ℕ) → x ≤ 1 → (x ≡ 0 → ⊥) → x ≡ 1
 one zero h n = absurd (n refl)
@@ -38,7 +35,7 @@ flag-one : (hi v : ℕ) {s : List ℕ} {p f q : ℕ} → hi ≡ cond (eqb v 0) 0
 unfolding byte
 flag-one hi v {s} {p} {f} {q} e b n =
     let o = b .leaves .ok in
-    one f (omega (arith, b .number, o .1, e, at-most (eqb v 0))) n
+    one f (omega (arith, b .number, o .1, e, held-most (eqb v 0))) n
 
 module _ (c : Config) {s : List ℕ} {at : ℕ} where
   -- the byte after the stamp, with the limit that the stamp sets

@@ -12,6 +12,7 @@ use Rattle.protocol.specs.Format.{value4}
 use Rattle.protocol.specs.Values.{stampSize}
 use Rattle.protocol.specs.View.{part, stampAt}
 use Rattle.protocol.specs.ClientBytes.{put}
+use Rattle.protocol.proofs.Places.{take-zeros, drop-zeros}
 use Rattle.wire.specs.Places.{padded}
 use Rattle.wire.specs.Make.{placed}
 use Rattle.wire.proofs.Put.{placed-wrote}
@@ -41,16 +42,6 @@ module _ (s : List ℕ) (at : ℕ) where
   pub part-whole : (m n : ℕ) → m ≡ n → take m (drop at s) ≡ part s at n
   unfolding part
   part-whole m n e = ap (λ (k : ℕ). take k (drop at s)) e
-
-drop-replicate : (n m : ℕ) → _≡_ {A = List ℕ} (drop m (replicate n 0)) (replicate (n - m) 0)
-drop-replicate n zero = let e : n ≡ n - 0 = omega arith in ap (λ (k : ℕ). replicate k 0) e
-drop-replicate zero (suc m) = let e : 0 ≡ 0 - suc m = omega arith in ap (λ (k : ℕ). replicate k 0) e
-drop-replicate (suc n) (suc m) = let e : n - m ≡ suc n - suc m = omega arith in drop-replicate n m ∙ ap (λ (k : ℕ). replicate k 0) e
-
-take-replicate : (m n : ℕ) → m ≤ n → _≡_ {A = List ℕ} (take m (replicate n 0)) (replicate m 0)
-take-replicate zero n h = refl
-take-replicate (suc m) zero h = absurd (omega arith)
-take-replicate (suc m) (suc n) h = ap (λ (y : List ℕ). 0 ∷ y) (take-replicate m n (omega arith))
 
 pub part-most : (s : List ℕ) (at n : ℕ) → length (part s at n) ≤ n
 unfolding part
@@ -109,8 +100,8 @@ put-padded n s h =
     let z : List ℕ = replicate n 0 in
     let m : n ≡ length s + (n - length s) = omega arith in
     let p : take n (s ++ z) ≡ s ++ replicate (n - length s) 0 =
-    ap (λ (k : ℕ). take k (s ++ z)) m ∙ take-append-add s z (n - length s) ∙ ap (λ (y : List ℕ). s ++ y) (take-replicate (n - length s) n (omega arith)) in
-    rw (zero-add (length s)) (ap (λ (y : List ℕ). s ++ y) (drop-replicate n (length s)) ∙ sym p)
+    ap (λ (k : ℕ). take k (s ++ z)) m ∙ take-append-add s z (n - length s) ∙ ap (λ (y : List ℕ). s ++ y) (take-zeros (n - length s) n (omega arith)) in
+    rw (zero-add (length s)) (ap (λ (y : List ℕ). s ++ y) (drop-zeros (length s) n) ∙ sym p)
 
 pub placed-padded : (n : ℕ) (d : List ℕ) (at : ℕ) {b e : List ℕ} {k : ℕ} → b ≡ part d at n → record { next = k; output = e } ≡ placed (replicate n 0) 0 b
     → e ≡ padded n (drop at d)

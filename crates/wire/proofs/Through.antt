@@ -7,7 +7,7 @@ use mathlib.Core.List.{List}
 use Prim.Native.Nat.{ℕ, _+_, _≤_}
 use native.Mathlib.Omega.{arith}
 use native.Mathlib.Nat.{add-assoc}
-use lib.ListN.{length, take, drop}
+use lib.ListN.{length, take, drop, length-drop}
 use Rattle.cluster.specs.Config.{Config}
 use Rattle.cluster.specs.Ranges.{topNumber, topWriter, leastLength, topLength}
 use Rattle.hmac.specs.Hmac.{tagSize}
@@ -21,11 +21,15 @@ use Rattle.protocol.specs.Reading.{Leaves, Stops}
 use Rattle.protocol.proofs.Leaves.{leaves-seq, leaves-via, stops-via, stops-first, stops-second, leaves-some, leaves-blank, stops-short}
 use Rattle.wire.specs.Places.{lengthAt, shareSize, writeAt}
 use Rattle.wire.specs.Reads.{Took, Past, four, byteL, number2L, number4L, stampL, anyStampL, shareL, writeL, candidateL, anyCandidateL}
-use Rattle.wire.proofs.Leaf.{number4-end}
+use Rattle.wire.proofs.Leaf.{ends, number4-numbered}
 use Rattle.wire.proofs.From.{drop-from, part-from, first-from, blank-stamp, blank-candidate}
 
+-- m bytes, from the place p to q
+abbrev pub Ran : ℕ → List ℕ → ℕ → ℕ → Type 0
+Ran m s p q = Past (run m) s p (part s p m) q m
+
 module _ {s : List ℕ} {at : ℕ} where
-  pub stamp-took : {v p w q e : ℕ} → Took (number4L 1 topNumber) s at v p → Took (byteL 1 topWriter) s p w q → Past (run tagSize) s q (part s q tagSize) e tagSize
+  pub stamp-took : {v p w q e : ℕ} → Took (number4L 1 topNumber) s at v p → Took (byteL 1 topWriter) s p w q → Ran tagSize s q e
       → Took stampL s at v e
   unfolding stampF stampAt
   stamp-took {v} {p} {w} {q} {e} a b r =
@@ -44,7 +48,7 @@ module _ {s : List ℕ} {at : ℕ} where
   -- past the end
   pub past-stamp : length s ≤ at → Stops stampF s at
   unfolding stampF
-  past-stamp h = stops-via _ _ _ (stops-first _ _ (number4-end 1 topNumber (omega arith)))
+  past-stamp h = stops-via _ _ _ (stops-first _ _ (ends (number4-numbered 1 topNumber) _ _ (simp length-drop (omega arith))))
 
   pub past-any-stamp : length s ≤ at → Stops anyStampF s at
   unfolding anyStampF
@@ -54,21 +58,21 @@ module _ {s : List ℕ} {at : ℕ} where
       → Took anyStampL s at 0 e
   unfolding anyStampF
   blank-stamp-took {e} n h z p =
-      let b : stampAt (drop at s) ≡ blankStamp = blank-stamp stampSize (drop at s) (omega (arith, lib.ListN.length-drop at s)) z (omega arith) in
+      let b : stampAt (drop at s) ≡ blankStamp = blank-stamp stampSize (drop at s) (omega (arith, length-drop at s)) z (omega arith) in
       record {
         leaves = subst (λ (k : ℕ). Leaves anyStampF s at (stampAt (drop at s)) k) (sym p) (subst (λ (x : Stamp). Leaves anyStampF s at x (at + stampSize)) (sym b) (leaves-blank _ _ _ n h z));
         number = sym (ap (λ (x : Stamp). x .number) b);
         place = p;
       }
 
--- the fragment of a content of n bytes, as a run
-abbrev Fragment : Config → List ℕ → ℕ → ℕ → ℕ → Type 0
-Fragment c s n p q = Past (run (fragmentSize (c .shares) n)) s p (part s p (fragmentSize (c .shares) n)) q (fragmentSize (c .shares) n)
+-- the fragment of a content of n bytes
+abbrev pub Fragment : Config → List ℕ → ℕ → ℕ → ℕ → Type 0
+Fragment c s n p q = Ran (fragmentSize (c .shares) n) s p q
 
 module _ (c : Config) {s : List ℕ} {at : ℕ} where
   pub share-took : {n p q d g e : ℕ} → Took (number2L leastLength topLength) s at n p
-      → Fragment c s n p q → Past (run (digestsSize c)) s q (part s q (digestsSize c)) d (digestsSize c) → Past (run digestSize) s d (part s d digestSize) g digestSize
-      → Past (run (tagsSize c)) s g (part s g (tagsSize c)) e (tagsSize c) → Took (shareL c) s at n e
+      → Fragment c s n p q → Ran (digestsSize c) s q d → Ran digestSize s d g
+      → Ran (tagsSize c) s g e → Took (shareL c) s at n e
   unfolding shareF shareAt shareOfSize lengthAt shareSize
   share-took {n} {p} {q} {d} {g} {e} a b₀ x y z =
       let m : ℕ = lengthAt (drop at s) in
@@ -106,12 +110,12 @@ module _ (c : Config) {s : List ℕ} {at : ℕ} where
   share-stops2 a b z = stops-via _ _ _ (stops-second _ _ (a .leaves) (stops-second _ _ (sized a b) (stops-first _ _ z)))
 
   pub share-stops3 : {n p q d : ℕ} → Took (number2L leastLength topLength) s at n p → Fragment c s n p q
-      → Past (run (digestsSize c)) s q (part s q (digestsSize c)) d (digestsSize c) → Stops (run digestSize) s d → Stops (shareF c) s at
+      → Ran (digestsSize c) s q d → Stops (run digestSize) s d → Stops (shareF c) s at
   unfolding shareF
   share-stops3 a b x z = stops-via _ _ _ (stops-second _ _ (a .leaves) (stops-second _ _ (sized a b) (stops-second _ _ (x .leaves) (stops-first _ _ z))))
 
   pub share-stops4 : {n p q d g : ℕ} → Took (number2L leastLength topLength) s at n p → Fragment c s n p q
-      → Past (run (digestsSize c)) s q (part s q (digestsSize c)) d (digestsSize c) → Past (run digestSize) s d (part s d digestSize) g digestSize
+      → Ran (digestsSize c) s q d → Ran digestSize s d g
       → Stops (run (tagsSize c)) s g → Stops (shareF c) s at
   unfolding shareF
   share-stops4 a b x y z =
@@ -129,8 +133,8 @@ module _ (c : Config) {s : List ℕ} {at : ℕ} where
         place = b .place ∙ ap₂ (λ (k : ℕ) (h : List ℕ). k + shareSize c (lengthAt h)) (a .place) r ∙ add-assoc at stampSize (shareSize c (lengthAt (drop stampSize (drop at s))));
       }
 
-  pub candidate-took : {v p q e : ℕ} → Took stampL s at v p → Past (run nonceSize) s p (part s p nonceSize) q nonceSize
-      → Past (run (tagsSize c)) s q (part s q (tagsSize c)) e (tagsSize c) → Took (candidateL c) s at v e
+  pub candidate-took : {v p q e : ℕ} → Took stampL s at v p → Ran nonceSize s p q
+      → Ran (tagsSize c) s q e → Took (candidateL c) s at v e
   unfolding candidateF candidateAt
   candidate-took {v} {p} {q} {e} a b r =
       let candidate : List ℕ → List ℕ → Candidate = λ n t. record { stamp = stampAt (drop at s); nonce = n; tags = t } in
@@ -157,7 +161,7 @@ module _ (c : Config) {s : List ℕ} {at : ℕ} where
       → e ≡ at + candidateSize c → Took (anyCandidateL c) s at 0 e
   unfolding anyCandidateF
   blank-candidate-took {e} n h z p =
-      let l : candidateSize c ≤ length (drop at s) = omega (arith, lib.ListN.length-drop at s) in
+      let l : candidateSize c ≤ length (drop at s) = omega (arith, length-drop at s) in
       let b : candidateAt c (drop at s) ≡ blankCandidate c = blank-candidate (candidateSize c) (drop at s) l z c (omega arith) in
       let a : stampAt (drop at s) ≡ blankStamp = blank-stamp (candidateSize c) (drop at s) l z (omega arith) in
       record {

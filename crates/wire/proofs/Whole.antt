@@ -17,10 +17,10 @@ use Rattle.protocol.specs.Packet.{Body, headF, headSize, bodyF, packetF, decode
 use Rattle.protocol.specs.View.{shareAt, heldAt}
 use Rattle.protocol.specs.Reading.{Leaves, Stops}
 use Rattle.protocol.proofs.Leaves.{leaves-seq, leaves-via, stops-via, stops-second}
-use Rattle.protocol.proofs.Bodies.{Kind, clock-kind, clock-reply-kind, store-kind, store-reply-kind, complete-kind, complete-reply-kind, collect-kind, collect-reply-kind, filter-kind, filter-reply-kind, repair-kind, repair-reply-kind}
+use Rattle.protocol.proofs.Bodies.{Kind, clock-kind, complete-reply-kind, collect-kind, repair-reply-kind}
 use Rattle.protocol.proofs.Whole.{body-leaves, body-stops, decoded, refused, trailing}
 use Rattle.wire.specs.Places.{bodyAt, packetAt, writeAt, fragmentHeld, fragmentOf, fragmentIn}
-use Rattle.wire.specs.Reads.{Layout, Past, FieldAs, BodyAs, anyStampL, writeL, codeL, candidateL, anyCandidateL, candidatesL, heldL}
+use Rattle.wire.specs.Reads.{Layout, Past, FieldAs, BodyAs}
 use Rattle.wire.specs.declared.fields.Field.{Field}
 use Rattle.wire.specs.declared.fields.Field.the-variants as field
 
@@ -34,44 +34,11 @@ twelve j h k = omega arith
 
 module _ (c : Config) (s : List ℕ) (at : ℕ) where
   -- a body of one field: what the field's reader answers, the body's reader answers
-  of-field : {A : Type 0} (L : Layout A) {con : A → Body} (k : ℕ) → Kind c k (L .format) con → ((d : List ℕ) → con (L .value d) ≡ bodyAt c k d)
-      → (j : ℕ) → j ≡ k → (f : Field) → FieldAs L s at f → BodyAs c j s at f
-  of-field L k d e j ej (field.Value v p) t =
+  pub of-field : {A : Type 0} (L : Layout A) {con : A → Body} {k : ℕ} → Kind c k (L .format) con → ((d : List ℕ) → con (L .value d) ≡ bodyAt c k d)
+      → {j : ℕ} → j ≡ k → (f : Field) → FieldAs L s at f → BodyAs c j s at f
+  of-field L {con} {k} d e {j} ej (field.Value v p) t =
       subst (λ (i : ℕ). BodyAs c i s at (field.Value v p)) (sym ej) (subst (λ (b : Body). Leaves (bodyF c k) s at b (p .at)) (e (drop at s)) (body-leaves d (t .leaves)))
-  of-field L k d e j ej field.Broken z = subst (λ (i : ℕ). Stops (bodyF c i) s at) (sym ej) (body-stops d z)
-
-  module _ (j : ℕ) (f : Field) where
-    pub clock-reply-as : j ≡ 2 → FieldAs anyStampL s at f → BodyAs c j s at f
-    unfolding bodyAt
-    clock-reply-as e t = of-field anyStampL 2 (clock-reply-kind c) (λ d. refl) j e f t
-
-    pub store-as : j ≡ 3 → FieldAs (writeL c) s at f → BodyAs c j s at f
-    unfolding bodyAt
-    store-as e t = of-field (writeL c) 3 (store-kind c) (λ d. refl) j e f t
-
-    pub store-reply-as : j ≡ 4 → FieldAs codeL s at f → BodyAs c j s at f
-    unfolding bodyAt
-    store-reply-as e t = of-field codeL 4 (store-reply-kind c) (λ d. refl) j e f t
-
-    pub complete-as : j ≡ 5 → FieldAs (candidateL c) s at f → BodyAs c j s at f
-    unfolding bodyAt
-    complete-as e t = of-field (candidateL c) 5 (complete-kind c) (λ d. refl) j e f t
-
-    pub collect-reply-as : j ≡ 8 → FieldAs (anyCandidateL c) s at f → BodyAs c j s at f
-    unfolding bodyAt
-    collect-reply-as e t = of-field (anyCandidateL c) 8 (collect-reply-kind c) (λ d. refl) j e f t
-
-    pub filter-as : j ≡ 9 → FieldAs (candidatesL c) s at f → BodyAs c j s at f
-    unfolding bodyAt
-    filter-as e t = of-field (candidatesL c) 9 (filter-kind c) (λ d. refl) j e f t
-
-    pub filter-reply-as : j ≡ 10 → FieldAs (heldL c) s at f → BodyAs c j s at f
-    unfolding bodyAt
-    filter-reply-as e t = of-field (heldL c) 10 (filter-reply-kind c) (λ d. refl) j e f t
-
-    pub repair-as : j ≡ 11 → FieldAs (candidateL c) s at f → BodyAs c j s at f
-    unfolding bodyAt
-    repair-as e t = of-field (candidateL c) 11 (repair-kind c) (λ d. refl) j e f t
+  of-field L d e ej field.Broken z = subst (λ (i : ℕ). Stops (bodyF c i) s at) (sym ej) (body-stops d z)
 
   -- a body of no field
   nothing : at ≤ length s → Leaves empty s at tt at

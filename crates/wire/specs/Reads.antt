@@ -43,6 +43,11 @@ FieldAs L s at field.Broken = Stops (L .format) s at
 
 -- ---- the fields
 
+-- a number from lo to hi
+abbrev pub RangedAs : ℕ → ℕ → ℕ → ℕ → Field → Type 0
+RangedAs lo hi v next (field.Value x c) = (x ≡ v) × (lo ≤ v) × (v ≤ hi) × (c .at ≡ next)
+RangedAs lo hi v next field.Broken = (v < lo) ⊎ (hi < v)
+
 -- a number of w bytes
 abbrev pub numberL : Fmt ℕ → (List ℕ → ℕ) → ℕ → Layout ℕ
 numberL F x w = record { format = F; value = x; number = x; size = λ d. w }

@@ -1,6 +1,5 @@
 // Runs of bytes. Every function takes every argument: past the end there is nothing, and a byte read there is 0.
 ghost use mathlib.Core.Path.{_≡_};
-ghost use Prim.Native.Nat.{_<_};
 ghost use lib.ListN.{drop, getD};
 ghost use Rattle.hmac.specs.Hmac.{tagSize};
 ghost use Rattle.protocol.specs.Format.{zeros, value2, value4};
@@ -88,27 +87,21 @@ pub fn byte_at(s: &[u8], at: usize) -> u8
     if at < s.len() { s[at] } else { 0 }
 }
 
-pub(crate) fn wide(b: u8) -> u32
-    ensures { λ r. ⌜ (r ≡ b) × (r < 256) ⌝ }
-{
-    b as u32
-}
-
 // The number of the first 2 bytes.
 pub fn number2(s: &[u8]) -> u32
     ensures { λ r. ⌜ r ≡ value2 (getD (now (s .entry)) 0 0) (getD (now (s .entry)) 1 0) ⌝ }
 {
-    256 * wide(byte_at(s, 0)) + wide(byte_at(s, 1))
+    256 * (byte_at(s, 0) as u32) + (byte_at(s, 1) as u32)
 }
 
 // The number of the first 4 bytes.
 pub fn number4(s: &[u8]) -> u32
     ensures { λ r. ⌜ r ≡ value4 (getD (now (s .entry)) 0 0) (getD (now (s .entry)) 1 0) (getD (now (s .entry)) 2 0) (getD (now (s .entry)) 3 0) ⌝ }
 {
-    16777216 * wide(byte_at(s, 0))
-        + 65536 * wide(byte_at(s, 1))
-        + 256 * wide(byte_at(s, 2))
-        + wide(byte_at(s, 3))
+    16777216 * (byte_at(s, 0) as u32)
+        + 65536 * (byte_at(s, 1) as u32)
+        + 256 * (byte_at(s, 2) as u32)
+        + (byte_at(s, 3) as u32)
 }
 
 // The first bytes as a tag, by value, followed by zeros where they are fewer.

@@ -1,9 +1,11 @@
 // Readers of single fields. Each answers a number and the cursor past the field, or that the bytes break the layout there.
 ghost use Prim.Native.Nat.{_≤_};
 ghost use lib.ListN.{length};
-ghost use Rattle.wire.specs.Reads.{FieldAs, byteL, number2L, number4L, codeL, RunAs, ZeroAs};
+ghost use Rattle.wire.specs.Reads.{FieldAs, RangedAs, byteL, number2L, number4L, codeL, RunAs, ZeroAs};
 use crate::bytes::all_zero;
-use crate::bytes::wide;
+use crate::bytes::number2;
+use crate::bytes::number4;
+use crate::bytes::rest;
 
 // A place in bytes.
 pub struct Cursor {
@@ -22,6 +24,19 @@ pub enum Run {
     Broken,
 }
 
+// The number v, where it is from lo to hi, and the place past its bytes.
+fn ranged(v: u32, lo: u32, hi: u32, next: usize) -> Field
+    ensures { λ r. ⌜ RangedAs lo hi v next r ⌝ }
+{
+    if v < lo {
+        return Field::Broken;
+    }
+    if hi < v {
+        return Field::Broken;
+    }
+    Field::Value(v, Cursor { at: next })
+}
+
 // A byte from lo to hi.
 pub fn byte_field(s: &[u8], c: Cursor, lo: u32, hi: u32) -> Field
     ensures { λ r. ⌜ FieldAs (byteL lo hi) (now (s .entry)) (c .at) r ⌝ }
@@ -30,14 +45,7 @@ pub fn byte_field(s: &[u8], c: Cursor, lo: u32, hi: u32) -> Field
     if s.len() <= at {
         return Field::Broken;
     }
-    let v = wide(s[at]);
-    if v < lo {
-        return Field::Broken;
-    }
-    if hi < v {
-        return Field::Broken;
-    }
-    Field::Value(v, Cursor { at: at + 1 })
+    ranged(s[at] as u32, lo, hi, at + 1)
 }
 
 // A number of 2 bytes, from lo to hi.
@@ -45,20 +53,11 @@ pub fn number2_field(s: &[u8], c: Cursor, lo: u32, hi: u32) -> Field
     ensures { λ r. ⌜ FieldAs (number2L lo hi) (now (s .entry)) (c .at) r ⌝ }
 {
     let at = c.at;
-    if s.len() <= at {
+    let b = rest(s, at);
+    if b.len() < 2 {
         return Field::Broken;
     }
-    if s.len() - at < 2 {
-        return Field::Broken;
-    }
-    let v = 256 * wide(s[at]) + wide(s[at + 1]);
-    if v < lo {
-        return Field::Broken;
-    }
-    if hi < v {
-        return Field::Broken;
-    }
-    Field::Value(v, Cursor { at: at + 2 })
+    ranged(number2(b), lo, hi, at + 2)
 }
 
 // A number of 4 bytes, from lo to hi.
@@ -66,23 +65,11 @@ pub fn number4_field(s: &[u8], c: Cursor, lo: u32, hi: u32) -> Field
     ensures { λ r. ⌜ FieldAs (number4L lo hi) (now (s .entry)) (c .at) r ⌝ }
 {
     let at = c.at;
-    if s.len() <= at {
+    let b = rest(s, at);
+    if b.len() < 4 {
         return Field::Broken;
     }
-    if s.len() - at < 4 {
-        return Field::Broken;
-    }
-    let v = 16777216 * wide(s[at])
-        + 65536 * wide(s[at + 1])
-        + 256 * wide(s[at + 2])
-        + wide(s[at + 3]);
-    if v < lo {
-        return Field::Broken;
-    }
-    if hi < v {
-        return Field::Broken;
-    }
-    Field::Value(v, Cursor { at: at + 4 })
+    ranged(number4(b), lo, hi, at + 4)
 }
 
 // n bytes.

@@ -102,22 +102,13 @@ pub fn make_packet(
     ensures { λ r. ⌜ record { result = r; output = now (out .exit) } ≡ packetStep head (now (first .entry)) (now (second .entry)) (now (out .entry)) ⌝ }
 {
     if out.len() < cluster::PACKET_ROOM {
-        return cluster::Outcome {
-            number: 15,
-            count: 0,
-        };
+        return cluster::refused(15);
     }
     if out.len() - crate::sizes::HEAD < first.len() {
-        return cluster::Outcome {
-            number: 15,
-            count: 0,
-        };
+        return cluster::refused(15);
     }
     if out.len() - crate::sizes::HEAD - first.len() < second.len() {
-        return cluster::Outcome {
-            number: 15,
-            count: 0,
-        };
+        return cluster::refused(15);
     }
     let a = put_head(out, 0, head);
     let b = put(out, a, first);

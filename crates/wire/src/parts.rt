@@ -146,7 +146,7 @@ pub(crate) fn candidate_run(s: &[u8], c: Cursor, t: u8, n: u32) -> Run
 pub fn candidates_field(s: &[u8], c: Cursor, t: u8) -> Field
     ensures { λ r. ⌜ FieldAs (candidatesL (shelf t)) (now (s .entry)) (c .at) r ⌝ }
 {
-    let Field::Value(n, c1) = byte_field(s, c, 0, crate::sizes::servers(t) as u32) else {
+    let Field::Value(n, c1) = byte_field(s, c, 0, cluster::servers(t) as u32) else {
         return Field::Broken;
     };
     let Run::Past(c2) = candidate_run(s, c1, t, n) else {

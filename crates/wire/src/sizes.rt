@@ -14,29 +14,22 @@ pub const STAMP: usize = 5 + hmac::TAG;
 
 pub const HEAD: usize = 8;
 
-// S.
-pub fn servers(t: u8) -> usize
-    ensures { λ r. ⌜ r ≡ shelf t .servers ⌝ }
-{
-    3 * (t as usize) + 1
-}
-
 pub fn digests_size(t: u8) -> usize
     ensures { λ r. ⌜ r ≡ digestsSize (shelf t) ⌝ }
 {
-    DIGEST * servers(t)
+    DIGEST * cluster::servers(t)
 }
 
 pub fn tags_size(t: u8) -> usize
     ensures { λ r. ⌜ r ≡ tagsSize (shelf t) ⌝ }
 {
-    hmac::TAG * servers(t)
+    hmac::TAG * cluster::servers(t)
 }
 
 pub fn candidate_size(t: u8) -> usize
     ensures { λ r. ⌜ r ≡ candidateSize (shelf t) ⌝ }
 {
-    STAMP + NONCE + hmac::TAG * servers(t)
+    STAMP + NONCE + hmac::TAG * cluster::servers(t)
 }
 
 // Bytes of a fragment of a content of n bytes. Each t has its own divisor, which the compiler then knows.

@@ -4,13 +4,14 @@ use mathlib.Core.Path.{_≡_, sym, ap, _∙_}
 use Prim.Native.Nat.{ℕ, suc, _-_, _≤_}
 use native.Mathlib.Omega.{arith}
 use borrow.Author.Needs.{needs}
-use borrow.Author.Tests.{not-true, not-false}
 use Rattle.cluster.specs.Config.{shelf}
 use Rattle.protocol.specs.Rules.{countTo}
 use Rattle.protocol.specs.View.{candidatesIn}
 use Rattle.decide.specs.Listing.{enters, listedCount}
-use Rattle.decide.proofs.Counted.{bit-le, count-more, count-le, count-none}
+use Rattle.protocol.proofs.Marks.{count-le}
+use Rattle.decide.proofs.Counted.{bit-le, count-more, count-none}
 use Rattle.decide.proofs.Gathered.{gather-count}
+use Rattle.decide.proofs.Arguments.{unusable, known, is-usable}
 use Rattle.decide.proofs.count_listed.Statement.{statement}
 use Rattle.decide.proofs.count_listed.Tie as tie
 
@@ -22,28 +23,28 @@ abbrev μ-loop : tie.MeasureT-loop
 
 returns : tie.Need-returns Inv-loop μ-loop
 unfolding listedCount
-returns c = rw (sym (c .before .is-usable .ensures .same) ∙ not-true (c .before .is-usable .result) (c .if1 .taken))
+returns c = rw (unusable (c .before .is-usable .ensures) (c .if1 .taken))
 
 servers-requires : tie.Need-servers-requires Inv-loop μ-loop
-servers-requires c κs = c .before .is-usable .ensures .told (not-false (c .before .is-usable .result) (c .if1 .left)) .high
+servers-requires c κs = known (c .before .is-usable .ensures) (c .if1 .left) .high
 
 loop-holds : tie.Need-loop-holds Inv-loop μ-loop
 loop-holds c = (omega arith, sym (count-none (enters (candidatesIn (shelf (c .before .before .before .before .args .t)) (c .before .before .before .before .args .kept .now)))))
 
 entry-requires : tie.Need-entry-requires Inv-loop μ-loop
 entry-requires c κs =
-    let u = c .before .before .before .before .is-usable .ensures .told (not-false (c .before .before .before .before .is-usable .result) (c .before .before .before .if1 .left)) in
+    let u = known (c .before .before .before .before .is-usable .ensures) (c .before .before .before .if1 .left) in
     (u, omega (arith, c .before .before .servers .ensures .1, u .high, c .before .loop .inv .0))
 
 add-n : tie.Need-add-n Inv-loop μ-loop
 add-n c =
     let a = c .before .before .before .before .before .before .before .args in
     let p = enters (candidatesIn (shelf (a .t)) (a .kept .now)) in
-    let u = c .before .before .before .before .before .is-usable .ensures .told (not-false (c .before .before .before .before .before .is-usable .result) (c .before .before .before .before .if1 .left)) in
+    let u = known (c .before .before .before .before .before .is-usable .ensures) (c .before .before .before .before .if1 .left) in
     omega (arith, c .before .before .loop .inv .1, c .before .before .loop .inv .0, count-le (c .before .before .loop .i) p, c .entry .ensures, bit-le (p (suc (c .before .before .loop .i))), c .before .before .before .servers .ensures .1, u .high)
 
 add-i : tie.Need-add-i Inv-loop μ-loop
-add-i c = let u = c .before .before .before .before .before .is-usable .ensures .told (not-false (c .before .before .before .before .before .is-usable .result) (c .before .before .before .before .if1 .left)) in omega (arith, c .before .before .before .servers .ensures .1, u .high)
+add-i c = let u = known (c .before .before .before .before .before .is-usable .ensures) (c .before .before .before .before .if1 .left) in omega (arith, c .before .before .before .servers .ensures .1, u .high)
 
 loop-again : tie.Need-loop-again Inv-loop μ-loop
 loop-again c =
@@ -56,7 +57,7 @@ unfolding listedCount
 returns-2 c =
     let a = c .before .before .before .before .before .before .args in
     let e : c .before .loop .i ≡ shelf (a .t) .servers = omega (arith, c .before .before .servers .ensures .0) in
-    rw (sym (c .before .before .before .before .is-usable .ensures .same) ∙ not-false (c .before .before .before .before .is-usable .result) (c .before .before .before .if1 .left))
+    rw (is-usable (c .before .before .before .before .is-usable .ensures) (c .before .before .before .if1 .left))
     (c .before .loop .inv .1 ∙ ap (λ (k : ℕ). countTo k (enters (candidatesIn (shelf (a .t)) (a .kept .now)))) e
     ∙ sym (gather-count (candidatesIn (shelf (a .t)) (a .kept .now)) (shelf (a .t) .servers)))
 

@@ -1,39 +1,39 @@
 -- `decide::listed` meets its contract: the arguments are tested, then the slot. Nothing is assumed.
-use mathlib.Core.Path.{sym, _∙_}
 use Prim.Native.Nat.{suc}
 use native.Mathlib.Omega.{arith}
 use borrow.Author.Needs.{needs}
-use borrow.Author.Tests.{not-true, not-false, lt-ltb, le-ltb}
+use borrow.Author.Tests.{lt-ltb, le-ltb}
 use Rattle.cluster.specs.Config.{shelf}
 use Rattle.protocol.specs.View.{candidatesIn}
 use Rattle.decide.specs.Listing.{enters, listedIn}
 use Rattle.decide.proofs.Counted.{bit-one}
+use Rattle.decide.proofs.Arguments.{is-usable, unusable, known}
 use Rattle.decide.proofs.listed.Statement.{statement}
 use Rattle.decide.proofs.listed.Tie as tie
 
 returns : tie.Need-returns
 unfolding listedIn
-returns c = rw (sym (c .before .is-usable .ensures .same) ∙ not-true (c .before .is-usable .result) (c .if1 .taken))
+returns c = rw (unusable (c .before .is-usable .ensures) (c .if1 .taken))
 
 servers-requires : tie.Need-servers-requires
-servers-requires c κs = c .before .is-usable .ensures .told (not-false (c .before .is-usable .result) (c .if1 .left)) .high
+servers-requires c κs = known (c .before .is-usable .ensures) (c .if1 .left) .high
 
 returns-2 : tie.Need-returns-2
 unfolding listedIn
 returns-2 c =
     let a = c .before .before .before .before .before .args in
-    rw (sym (c .before .before .before .is-usable .ensures .same) ∙ not-false (c .before .before .before .is-usable .result) (c .before .before .if1 .left), le-ltb (a .i) (shelf (a .t) .servers) (omega (arith, c .before .servers .ensures .0)))
+    rw (is-usable (c .before .before .before .is-usable .ensures) (c .before .before .if1 .left), le-ltb (a .i) (shelf (a .t) .servers) (omega (arith, c .before .servers .ensures .0)))
 
 entry-requires : tie.Need-entry-requires
 entry-requires c κs =
-    let u = c .before .before .before .is-usable .ensures .told (not-false (c .before .before .before .is-usable .result) (c .before .before .if1 .left)) in
+    let u = known (c .before .before .before .is-usable .ensures) (c .before .before .if1 .left) in
     (u, omega (arith, c .before .servers .ensures .1, u .high))
 
 returns-3 : tie.Need-returns-3
 unfolding listedIn
 returns-3 c =
     let a = c .before .before .before .before .before .before .args in
-    rw (sym (c .before .before .before .before .is-usable .ensures .same) ∙ not-false (c .before .before .before .before .is-usable .result) (c .before .before .before .if1 .left), lt-ltb (a .i) (shelf (a .t) .servers) (omega (arith, c .before .before .servers .ensures .0)), c .entry .ensures)
+    rw (is-usable (c .before .before .before .before .is-usable .ensures) (c .before .before .before .if1 .left), lt-ltb (a .i) (shelf (a .t) .servers) (omega (arith, c .before .before .servers .ensures .0)), c .entry .ensures)
     (bit-one (enters (candidatesIn (shelf (a .t)) (a .kept .now)) (suc (a .i))))
 
 pub listed-spec : {M : Type 1} → statement M

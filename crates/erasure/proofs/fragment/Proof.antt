@@ -1,4 +1,4 @@
--- Refused: the number alone. Accepted: the arguments are in range, and the run or the sums are the fragment.
+-- Refused: the number alone. Accepted: the arguments are in range, and the run or the sums are the fragment. Assumes nothing.
 use mathlib.Core.Path.{_≡_, sym, ap, ap₂, subst, _∙_}
 use mathlib.Core.List.{List, _++_}
 use Prim.Native.Nat.{ℕ, _+_, _-_, _*_, _<_, _≤_}
@@ -6,7 +6,7 @@ use native.Mathlib.Omega.{arith}
 use lib.ListN.{length, getD}
 use Rattle.cluster.specs.Config.{shelf}
 use Rattle.erasure.specs.Fragments.{fragmentSize}
-use Rattle.erasure.specs.Steps.{zeros, fragmentRoom}
+use Rattle.erasure.specs.Steps.{zeros, fragmentRoom, fragmentRefusal, fragmentStep}
 use Rattle.erasure.specs.Lanes.{madeOf}
 use Rattle.erasure.specs.declared.FragmentOutcome.{FragmentOutcome}
 use Rattle.erasure.proofs.Answers.{size-fits, make-refused, make-accepted, run-made}
@@ -14,6 +14,50 @@ use Rattle.erasure.proofs.Refused.{Makes, makes}
 use borrow.Author.Needs.{needs}
 use Rattle.erasure.proofs.fragment.Statement.{statement}
 use Rattle.erasure.proofs.fragment.Tie as tie
+
+-- ---- past the refusal
+
+module _ (c : tie.Else1) where
+  abbrev t : ℕ
+  t = c .before .before .before .args .t
+
+  abbrev server : ℕ
+  server = c .before .before .before .args .server
+
+  abbrev content : List ℕ
+  content = denote.Ref.now (c .before .before .before .args .content)
+
+  accepted : fragmentRefusal t server (length content) ≡ 0
+  accepted = sym (c .before .fragment-refusal .ensures) ∙ c .if1 .left
+
+  ok : Makes t server (length content)
+  ok = makes t server (length content) accepted
+
+shares-are : (c : tie.After-shares-of) → c .shares-of .result ≡ t (c .before) + 1
+unfolding shelf
+shares-are c = c .shares-of .ensures
+
+module _ (c : tie.After-size) where
+  abbrev past : tie.Else1
+  past = c .before .before
+
+  size-most : c .size .result ≤ fragmentRoom
+  size-most =
+      subst (λ (x : ℕ). x ≤ fragmentRoom) (sym (c .size .ensures))
+      (size-fits (c .before .shares-of .result) (length (content past)) (omega (arith, shares-are (c .before), ok past .faults .0)) (ok past .bytes .1))
+
+  -- bytes that are the sums, or a run, are the fragment
+  done : (b : List ℕ) → b ≡ madeOf (c .before .shares-of .result) (c .size .result) (content past) (server past) ++ zeros (fragmentRoom - c .size .result)
+      → record { number = 0; count = c .size .result; bytes = b } ≡ fragmentStep (t past) (server past) (content past)
+  done b e =
+      let shares = c .before .shares-of in
+      let f = c .size .ensures ∙ ap (λ (k : ℕ). fragmentSize k (length (content past))) (shares .ensures) in
+      let outcome : ℕ → ℕ → FragmentOutcome = λ k x. record { number = 0; count = x; bytes = madeOf k x (content past) (server past) ++ zeros (fragmentRoom - x) } in
+      ap (λ (b : List ℕ). record { number = 0; count = c .size .result; bytes = b }) e
+      ∙ ap₂ outcome (shares .ensures) f
+      ∙ sym (make-accepted (t past) (server past) (content past) (ok past .faults .1) (ok past .number .0) (ok past .number .1) (accepted past))
+
+-- ---- the needs
 
 returns : tie.Need-returns
 returns c =
@@ -23,106 +67,42 @@ returns c =
     ∙ ap (λ (b : List ℕ). record { number = r .result; count = 0; bytes = b }) (sym (c .blank .ensures)))
 
 shares-of-requires : tie.Need-shares-of-requires
-shares-of-requires c κs =
-    let start = c .before .before .before in
-    let args = start .args in
-    let content = denote.Ref.now (args .content) in
-    let e = sym (c .before .fragment-refusal .ensures) ∙ c .if1 .left in
-    let ok : Makes (args .t) (args .server) (length content) = makes (args .t) (args .server) (length content) e in
-    ok .faults .1
+shares-of-requires c κs = ok c .faults .1
 
 size-requires : tie.Need-size-requires
-unfolding shelf
-size-requires c κs =
-    let start = c .before .before .before .before in
-    let args = start .args in
-    let content = denote.Ref.now (args .content) in
-    let e = sym (c .before .before .fragment-refusal .ensures) ∙ c .before .if1 .left in
-    let ok : Makes (args .t) (args .server) (length content) = makes (args .t) (args .server) (length content) e in
-    let k : c .shares-of .result ≡ args .t + 1 = c .shares-of .ensures in
-    (omega (arith, k), omega (arith, k, ok .faults .1), ok .bytes .1)
+size-requires c κs = (omega (arith, shares-are c), omega (arith, shares-are c, ok (c .before) .faults .1), ok (c .before) .bytes .1)
 
 sub-plain : tie.Need-sub-plain
-sub-plain c =
-    let start = c .before .before .before .before .before .before in
-    let args = start .args in
-    let content = denote.Ref.now (args .content) in
-    let e = sym (c .before .before .before .before .fragment-refusal .ensures) ∙ c .before .before .before .if1 .left in
-    let ok : Makes (args .t) (args .server) (length content) = makes (args .t) (args .server) (length content) e in
-    omega (arith, ok .number .0)
+sub-plain c = omega (arith, ok (c .before .before .before) .number .0)
 
 plain-requires : tie.Need-plain-requires
-unfolding shelf
 plain-requires c κs =
-    let start = c .before .before .before .before .before .before in
-    let args = start .args in
-    let content = denote.Ref.now (args .content) in
-    let e = sym (c .before .before .before .before .fragment-refusal .ensures) ∙ c .before .before .before .if1 .left in
-    let ok : Makes (args .t) (args .server) (length content) = makes (args .t) (args .server) (length content) e in
-    let k : c .before .before .shares-of .result ≡ args .t + 1 = c .before .before .shares-of .ensures in
-    let fits : c .before .size .result ≤ fragmentRoom =
-    subst (λ (x : ℕ). x ≤ fragmentRoom) (sym (c .before .size .ensures)) (size-fits (c .before .before .shares-of .result) (length content) (omega (arith, k, ok .faults .0)) (ok .bytes .1)) in
-    (fits, omega (arith, k, ok .faults .1, ok .number .0, c .if2 .taken))
+    let r = ok (c .before .before .before) in
+    (size-most (c .before), omega (arith, shares-are (c .before .before), r .faults .1, r .number .0, c .if2 .taken))
 
 returns-2 : tie.Need-returns-2
-unfolding shelf
 returns-2 c =
-    let start = c .before .before .before .before .before .before .before in
-    let args = start .args in
-    let content = denote.Ref.now (args .content) in
-    let e = sym (c .before .before .before .before .before .fragment-refusal .ensures) ∙ c .before .before .before .before .if1 .left in
-    let ok : Makes (args .t) (args .server) (length content) = makes (args .t) (args .server) (length content) e in
-    let k : c .before .before .before .shares-of .result ≡ args .t + 1 = c .before .before .before .shares-of .ensures in
-    let size = c .before .before .size in
-    let shares = c .before .before .before .shares-of in
-    let f : size .result ≡ fragmentSize (shelf (args .t) .shares) (length content) = size .ensures ∙ ap (λ (k : ℕ). fragmentSize k (length content)) (shares .ensures) in
-    let outcome : ℕ → ℕ → FragmentOutcome = λ k x. record { number = 0; count = x; bytes = madeOf k x content (args .server) ++ zeros (fragmentRoom - x) } in
-    let small : (j : ℕ) → getD content j 0 < 256 = λ j. (c .before .before .before .before .before .before .shared-slice-known .given j .fits) in
-    ap (λ (b : List ℕ). record { number = 0; count = size .result; bytes = b })
+    let size = c .before .before .size .result in
+    let past = c .before .before .before .before in
+    let r = ok past in
+    let small : (j : ℕ) → getD (content past) j 0 < 256 = λ j. (c .before .before .before .before .before .before .shared-slice-known .given j .fits) in
+    done (c .before .before) _
     (c .plain .ensures
-    ∙ ap (λ (l : List ℕ). l ++ zeros (fragmentRoom - size .result))
-    (run-made (shares .result) (size .result) (args .server) content (omega (arith, k, ok .faults .1)) (ok .number .0) (c .before .if2 .taken) small))
-    ∙ ap₂ outcome (shares .ensures) f
-    ∙ sym (make-accepted (args .t) (args .server) content (ok .faults .1) (ok .number .0) (ok .number .1) e)
+    ∙ ap (λ (l : List ℕ). l ++ zeros (fragmentRoom - size))
+    (run-made (c .before .before .before .shares-of .result) size (server past) (content past) (omega (arith, shares-are (c .before .before .before), r .faults .1)) (r .number .0) (c .before .if2 .taken) small))
 
 cast-make : tie.Need-cast-make
 unfolding shelf
 cast-make c =
-    let start = c .before .before .before .before .before .before in
-    let args = start .args in
-    let content = denote.Ref.now (args .content) in
-    let e = sym (c .before .before .before .before .fragment-refusal .ensures) ∙ c .before .before .before .if1 .left in
-    let ok : Makes (args .t) (args .server) (length content) = makes (args .t) (args .server) (length content) e in
-    let s : args .server ≤ 3 * args .t + 1 = ok .number .1 in
-    omega (arith, s, ok .faults .1)
+    let r = ok (c .before .before .before) in
+    let s : server (c .before .before .before) ≤ 3 * t (c .before .before .before) + 1 = r .number .1 in
+    omega (arith, s, r .faults .1)
 
 make-requires : tie.Need-make-requires
-unfolding shelf
-make-requires c κs =
-    let start = c .before .before .before .before .before .before in
-    let args = start .args in
-    let content = denote.Ref.now (args .content) in
-    let e = sym (c .before .before .before .before .fragment-refusal .ensures) ∙ c .before .before .before .if1 .left in
-    let ok : Makes (args .t) (args .server) (length content) = makes (args .t) (args .server) (length content) e in
-    let k : c .before .before .shares-of .result ≡ args .t + 1 = c .before .before .shares-of .ensures in
-    let fits : c .before .size .result ≤ fragmentRoom =
-    subst (λ (x : ℕ). x ≤ fragmentRoom) (sym (c .before .size .ensures)) (size-fits (c .before .before .shares-of .result) (length content) (omega (arith, k, ok .faults .0)) (ok .bytes .1)) in
-    (omega (arith, k, ok .faults .1), fits)
+make-requires c κs = (omega (arith, shares-are (c .before .before), ok (c .before .before .before) .faults .1), size-most (c .before))
 
 returns-3 : tie.Need-returns-3
-returns-3 c =
-    let start = c .before .before .before .before .before .before .before in
-    let args = start .args in
-    let content = denote.Ref.now (args .content) in
-    let e = sym (c .before .before .before .before .before .fragment-refusal .ensures) ∙ c .before .before .before .before .if1 .left in
-    let ok : Makes (args .t) (args .server) (length content) = makes (args .t) (args .server) (length content) e in
-    let size = c .before .before .size in
-    let shares = c .before .before .before .shares-of in
-    let f : size .result ≡ fragmentSize (shelf (args .t) .shares) (length content) = size .ensures ∙ ap (λ (k : ℕ). fragmentSize k (length content)) (shares .ensures) in
-    let outcome : ℕ → ℕ → FragmentOutcome = λ k x. record { number = 0; count = x; bytes = madeOf k x content (args .server) ++ zeros (fragmentRoom - x) } in
-    ap (λ (b : List ℕ). record { number = 0; count = size .result; bytes = b }) (c .make .ensures)
-    ∙ ap₂ outcome (shares .ensures) f
-    ∙ sym (make-accepted (args .t) (args .server) content (ok .faults .1) (ok .number .0) (ok .number .1) e)
+returns-3 c = done (c .before .before) _ (c .make .ensures)
 
 pub fragment-spec : {M : Type 1} → statement M
 fragment-spec = tie.close (tie.spec (λ c κs. search needs) (λ c κs. search needs) returns shares-of-requires size-requires sub-plain plain-requires

@@ -1,4 +1,4 @@
--- Refused: nothing is written. Accepted: the runs that are added up are those of the first k different servers.
+-- Refused: nothing is written. Accepted: the runs that are added up are those of the first k different servers. Assumes nothing.
 use mathlib.Core.Path.{_≡_, sym, ap, subst, _∙_}
 use mathlib.Core.List.{List, _++_}
 use Prim.Native.Nat.{ℕ, _+_, _*_, _<_, _≤_}
@@ -6,11 +6,13 @@ use native.Mathlib.Omega.{arith}
 use lib.ListN.{length, drop}
 use native.Mathlib.Nat.{suc-ne-zero}
 use Rattle.cluster.specs.Config.{shelf, upTo}
+use Rattle.cluster.specs.Refusals.{firstOf}
 use Rattle.erasure.specs.Fragments.{fragmentSize, restored}
 use Rattle.erasure.specs.Choice.{firstDifferent, partsAt}
-use Rattle.erasure.specs.Steps.{restoredBytes}
+use Rattle.erasure.specs.Steps.{argumentChecks, restoredBytes}
 use Rattle.erasure.specs.System.{width}
 use Rattle.erasure.specs.Lanes.{rebuiltOf}
+use Rattle.erasure.specs.declared.choice.Chosen.{Chosen}
 use Rattle.erasure.proofs.Laws.{size-pos, runs-cover}
 use Rattle.erasure.proofs.Refused.{Restores, accepted}
 use Rattle.erasure.proofs.Chosen.{restore-refused, restore-accepted, refused-arguments, refused-few, refused-none, counted, differ, fit, rebuilt-is}
@@ -18,125 +20,124 @@ use borrow.Author.Needs.{needs}
 use Rattle.erasure.proofs.restore.Statement.{statement}
 use Rattle.erasure.proofs.restore.Tie as tie
 
+-- ---- past the refusal
+
+module _ (c : tie.Else1) where
+  abbrev t : ℕ
+  t = c .before .before .before .before .before .args .t
+
+  abbrev n : ℕ
+  n = c .before .before .before .before .before .args .length
+
+  abbrev servers : List ℕ
+  servers = denote.Ref.now (c .before .before .before .before .before .args .servers)
+
+  abbrev fragments : List ℕ
+  fragments = denote.Ref.now (c .before .before .before .before .before .args .fragments)
+
+  abbrev out : List ℕ
+  out = denote.Ref.now (c .before .before .before .before .before .args .out)
+
+  none-applies : firstOf (argumentChecks t n servers (length fragments) (length out)) ≡ 0
+  none-applies = sym (c .before .restore-refusal .ensures) ∙ c .if1 .left
+
+  ok : Restores t n servers (length fragments) (length out)
+  ok = accepted t n servers (length fragments) (length out) none-applies
+
+shares-are : (c : tie.After-shares-of) → c .shares-of .result ≡ t (c .before) + 1
+unfolding shelf
+shares-are c = c .shares-of .ensures
+
+-- ---- k servers are chosen, or fewer
+
+module _ (c : tie.After-at) where
+  abbrev past : tie.Else1
+  past = c .before .before .before .before
+
+  abbrev k : ℕ
+  k = c .before .before .before .shares-of .result
+
+  abbrev chosen : Chosen
+  chosen = c .before .before .select .result
+
+  k-is : k ≡ t past + 1
+  k-is = shares-are (c .before .before .before)
+
+  k-most : k ≤ width
+  k-most = omega (arith, k-is, ok past .faults .1)
+
+  at-length : length (chosen .at) ≡ width
+  at-length = search needs
+
+  servers-length : length (chosen .servers) ≡ width
+  servers-length = search needs
+
+  counted-is : length (firstDifferent k (servers past)) ≡ chosen .count
+  counted-is = counted k (servers past) chosen (c .before .before .select .ensures) k-most at-length servers-length
+
+-- ---- the needs
+
 returns : tie.Need-returns
 returns c =
-    let args = c .before .before .before .before .before .args in
-    let r = c .before .restore-refusal in
+    let args = c .before .before .before .before .before .before .args in
+    let r = c .before .before .restore-refusal in
     let servers = denote.Ref.now (args .servers) in
     let fragments = denote.Ref.now (args .fragments) in
     let out = denote.Ref.now (args .out) in
-    sym (restore-refused (args .t) (args .length) servers fragments out (r .result)
-    (refused-arguments (args .t) (args .length) servers fragments out (r .result) (r .ensures) (c .if1 .taken)) (c .if1 .taken))
+    let taken = c .before .if1 .taken in
+    rw (c .refused .ensures) (sym (restore-refused (args .t) (args .length) servers fragments out (r .result)
+    (refused-arguments (args .t) (args .length) servers fragments out (r .result) (r .ensures) taken) taken))
 
 shares-of-requires : tie.Need-shares-of-requires
-shares-of-requires c κs =
-    let start = c .before .before .before .before .before in
-    let args = start .args in
-    let servers = denote.Ref.now (args .servers) in
-    let fragments = denote.Ref.now (args .fragments) in
-    let out = denote.Ref.now (args .out) in
-    let e = sym (c .before .restore-refusal .ensures) ∙ c .if1 .left in
-    let ok : Restores (args .t) (args .length) servers (length fragments) (length out) = accepted (args .t) (args .length) servers (length fragments) (length out) e in
-    ok .faults .1
+shares-of-requires c κs = ok c .faults .1
 
 select-requires : tie.Need-select-requires
-unfolding shelf
-select-requires c κs =
-    let start = c .before .before .before .before .before .before in
-    let args = start .args in
-    let servers = denote.Ref.now (args .servers) in
-    let fragments = denote.Ref.now (args .fragments) in
-    let out = denote.Ref.now (args .out) in
-    let e = sym (c .before .before .restore-refusal .ensures) ∙ c .before .if1 .left in
-    let ok : Restores (args .t) (args .length) servers (length fragments) (length out) = accepted (args .t) (args .length) servers (length fragments) (length out) e in
-    let shares = c .shares-of in
-    let k : shares .result ≡ args .t + 1 = shares .ensures in
-    omega (arith, k, ok .faults .1)
+select-requires c κs = omega (arith, shares-are c, ok (c .before) .faults .1)
 
 returns-2 : tie.Need-returns-2
-unfolding shelf
 returns-2 c =
-    let start = c .before .before .before .before .before .before .before .before .before .before in
-    let args = start .args in
-    let servers = denote.Ref.now (args .servers) in
-    let fragments = denote.Ref.now (args .fragments) in
-    let out = denote.Ref.now (args .out) in
-    let e = sym (c .before .before .before .before .before .before .restore-refusal .ensures) ∙ c .before .before .before .before .before .if1 .left in
-    let ok : Restores (args .t) (args .length) servers (length fragments) (length out) = accepted (args .t) (args .length) servers (length fragments) (length out) e in
-    let shares = c .before .before .before .before .shares-of in
-    let k : shares .result ≡ args .t + 1 = shares .ensures in
-    let chosen = c .before .before .before .select in
-    let few : length (firstDifferent (shelf (args .t) .shares) servers) < shelf (args .t) .shares =
-    subst (λ (x : ℕ). length (firstDifferent x servers) < x) (shares .ensures)
-    (omega (arith, counted (shares .result) servers (chosen .result) (chosen .ensures) (omega (arith, k, ok .faults .1)) (search needs) (search needs), c .if2 .taken)) in
-    sym (restore-refused (args .t) (args .length) servers fragments out 16 (refused-few (args .t) (args .length) servers fragments out e few) (suc-ne-zero 15))
+    let p = past (c .before .before) in
+    let few : length (firstDifferent (shelf (t p) .shares) (servers p)) < shelf (t p) .shares =
+    subst (λ (x : ℕ). length (firstDifferent x (servers p)) < x) (c .before .before .before .before .before .shares-of .ensures) (omega (arith, counted-is (c .before .before), c .before .if2 .taken)) in
+    rw (c .refused2 .ensures) (sym (restore-refused (t p) (n p) (servers p) (fragments p) (out p) 16 (refused-few (t p) (n p) (servers p) (fragments p) (out p) (none-applies p) few) (suc-ne-zero 15)))
 
 size-requires : tie.Need-size-requires
-unfolding shelf
-size-requires c κs =
-    let start = c .before .before .before .before .before .before .before .before .before .before in
-    let args = start .args in
-    let servers = denote.Ref.now (args .servers) in
-    let fragments = denote.Ref.now (args .fragments) in
-    let out = denote.Ref.now (args .out) in
-    let e = sym (c .before .before .before .before .before .before .restore-refusal .ensures) ∙ c .before .before .before .before .before .if1 .left in
-    let ok : Restores (args .t) (args .length) servers (length fragments) (length out) = accepted (args .t) (args .length) servers (length fragments) (length out) e in
-    let shares = c .before .before .before .before .shares-of in
-    let k : shares .result ≡ args .t + 1 = shares .ensures in
-    (omega (arith, k), omega (arith, k, ok .faults .1), ok .bytes .1)
+size-requires c κs = (omega (arith, k-is (c .before)), k-most (c .before), ok (past (c .before)) .bytes .1)
 
 rebuild-requires : tie.Need-rebuild-requires
-unfolding shelf
 rebuild-requires c κs =
-    let start = c .before .before .before .before .before .before .before .before .before .before .before .before in
-    let args = start .args in
-    let servers = denote.Ref.now (args .servers) in
-    let fragments = denote.Ref.now (args .fragments) in
-    let out = denote.Ref.now (args .out) in
-    let e = sym (c .before .before .before .before .before .before .before .before .restore-refusal .ensures) ∙ c .before .before .before .before .before .before .before .if1 .left in
-    let ok : Restores (args .t) (args .length) servers (length fragments) (length out) = accepted (args .t) (args .length) servers (length fragments) (length out) e in
-    let shares = c .before .before .before .before .before .before .shares-of in
-    let k : shares .result ≡ args .t + 1 = shares .ensures in
-    let chosen = c .before .before .before .before .before .select in
+    let a = c .before .before .before in
+    let p = past a in
+    let chosen-as = a .before .before .select .ensures in
     let size = c .before .size in
-    let kw : shares .result ≤ width = omega (arith, k, ok .faults .1) in
-    let full : shares .result ≤ chosen .result .count = search needs in
-    let f : size .result ≡ fragmentSize (shelf (args .t) .shares) (args .length) = size .ensures ∙ ap (λ (x : ℕ). fragmentSize x (args .length)) (shares .ensures) in (
-      kw,
-      subst (λ (x : ℕ). 0 < x) (sym (size .ensures)) (size-pos (shares .result) (args .length) (ok .bytes .0) (omega (arith, k))),
-      subst (λ (x : ℕ). args .length ≤ shares .result * x) (sym (size .ensures)) (runs-cover (shares .result) (args .length) (omega (arith, k))),
-      omega (arith, ok .bytes .1, ok .fits),
-      differ (shares .result) servers (chosen .result) (chosen .ensures) kw (search needs) (search needs) full,
-      fit (shares .result) servers (chosen .result) (chosen .ensures) kw (search needs) (search needs) full (size .result) (length fragments)
-          (ok .whole ∙ ap (λ (x : ℕ). length servers * x) (sym f)),
+    let full : k a ≤ chosen a .count = search needs in
+    let f : size .result ≡ fragmentSize (shelf (t p) .shares) (n p) = size .ensures ∙ ap (λ (x : ℕ). fragmentSize x (n p)) (a .before .before .before .shares-of .ensures) in (
+      k-most a,
+      subst (λ (x : ℕ). 0 < x) (sym (size .ensures)) (size-pos (k a) (n p) (ok p .bytes .0) (omega (arith, k-is a))),
+      subst (λ (x : ℕ). n p ≤ k a * x) (sym (size .ensures)) (runs-cover (k a) (n p) (omega (arith, k-is a))),
+      omega (arith, ok p .bytes .1, ok p .fits),
+      differ (k a) (servers p) (chosen a) chosen-as (k-most a) (at-length a) (servers-length a) full,
+      fit (k a) (servers p) (chosen a) chosen-as (k-most a) (at-length a) (servers-length a) full (size .result) (length (fragments p))
+          (ok p .whole ∙ ap (λ (x : ℕ). length (servers p) * x) (sym f)),
     )
 
 returns-3 : tie.Need-returns-3
 unfolding shelf restoredBytes
 returns-3 c =
-    let start = c .before .before .before .before .before .before .before .before .before .before .before .before .before .before .before in
-    let args = start .args in
-    let servers = denote.Ref.now (args .servers) in
-    let fragments = denote.Ref.now (args .fragments) in
-    let out = denote.Ref.now (args .out) in
-    let e = sym (c .before .before .before .before .before .before .before .before .before .before .before .restore-refusal .ensures) ∙ c .before .before .before .before .before .before .before .before .before .before .if1 .left in
-    let ok : Restores (args .t) (args .length) servers (length fragments) (length out) = accepted (args .t) (args .length) servers (length fragments) (length out) e in
-    let shares = c .before .before .before .before .before .before .before .before .before .shares-of in
-    let k : shares .result ≡ args .t + 1 = shares .ensures in
-    let chosen = c .before .before .before .before .before .before .before .before .select in
+    let a = c .before .before .before .before .before .before in
+    let p = past a in
+    let s = 3 * t p + 1 in
     let size = c .before .before .before .before .size in
-    let kw : shares .result ≤ width = omega (arith, k, ok .faults .1) in
-    let full : shares .result ≤ chosen .result .count = search needs in
-    let enough : shelf (args .t) .shares ≤ length (firstDifferent (shelf (args .t) .shares) servers) =
-    subst (λ (x : ℕ). x ≤ length (firstDifferent x servers)) (shares .ensures)
-    (omega (arith, counted (shares .result) servers (chosen .result) (chosen .ensures) kw (search needs) (search needs), full)) in
-    let bytes : rebuiltOf (shares .result) (size .result) (args .length) (chosen .result .servers) (chosen .result .at) fragments ≡ restoredBytes (args .t) (args .length) servers fragments =
-    ap (λ (x : ℕ). rebuiltOf (shares .result) x (args .length) (chosen .result .servers) (chosen .result .at) fragments) (size .ensures)
-    ∙ rebuilt-is (shares .result) servers (chosen .result) (chosen .ensures) kw (search needs) (search needs) full (3 * args .t + 1) (args .length) fragments (omega (arith, k)) (omega (arith, k)) (ok .numbers)
-    ∙ ap (λ (x : ℕ). restored (upTo (3 * args .t + 1)) x (args .length) (partsAt (fragmentSize x (args .length)) servers fragments (firstDifferent x servers))) k in
-    ap (λ (l : List ℕ). (record { number = 0; count = args .length }, l)) (c .before .before .rebuild .ensures ∙ ap (λ (l : List ℕ). l ++ drop (args .length) out) bytes)
-    ∙ sym (restore-accepted (args .t) (args .length) servers fragments out (refused-none (args .t) (args .length) servers fragments out e enough))
+    let full : k a ≤ chosen a .count = search needs in
+    let enough : shelf (t p) .shares ≤ length (firstDifferent (shelf (t p) .shares) (servers p)) =
+    subst (λ (x : ℕ). x ≤ length (firstDifferent x (servers p))) (k-is a) (omega (arith, counted-is a, full)) in
+    let bytes : rebuiltOf (k a) (size .result) (n p) (chosen a .servers) (chosen a .at) (fragments p) ≡ restoredBytes (t p) (n p) (servers p) (fragments p) =
+    ap (λ (x : ℕ). rebuiltOf (k a) x (n p) (chosen a .servers) (chosen a .at) (fragments p)) (size .ensures)
+    ∙ rebuilt-is (k a) (servers p) (chosen a) (a .before .before .select .ensures) (k-most a) (at-length a) (servers-length a) full s (n p) (fragments p) (omega (arith, k-is a)) (omega (arith, k-is a)) (ok p .numbers)
+    ∙ ap (λ (x : ℕ). restored (upTo s) x (n p) (partsAt (fragmentSize x (n p)) (servers p) (fragments p) (firstDifferent x (servers p)))) (k-is a) in
+    ap (λ (l : List ℕ). (record { number = 0; count = n p }, l)) (c .before .before .rebuild .ensures ∙ ap (λ (l : List ℕ). l ++ drop (n p) (out p)) bytes)
+    ∙ sym (restore-accepted (t p) (n p) (servers p) (fragments p) (out p) (refused-none (t p) (n p) (servers p) (fragments p) (out p) (none-applies p) enough))
 
 pub restore-spec : {M : Type 1} → statement M
-restore-spec = tie.close (tie.spec (λ c κs. search needs) returns shares-of-requires select-requires returns-2 size-requires rebuild-requires
+restore-spec = tie.close (tie.spec (λ c κs. search needs) (λ c κs. search needs) returns shares-of-requires select-requires (λ c κs. search needs) returns-2 size-requires rebuild-requires
     (λ c. search needs) returns-3)

@@ -1,20 +1,89 @@
--- Each way out is the first test that applies.
+-- Each way out is the first test that applies. Assumes nothing.
 use mathlib.Core.Path.{_≡_, refl, sym, ap, subst, _∙_}
-use Prim.Native.Nat.{ℕ, _+_, _*_, _<_}
+use Prim.Native.Nat.{ℕ, _+_, _*_, _<_, _≤_}
 use native.Mathlib.Omega.{arith}
 use lib.ListN.{length}
-use mathlib.Core.Bool.{true, false, not}
+use mathlib.Core.Bool.{Bool, true, false, not, cond}
+use mathlib.Core.List.{List}
 use borrow.Author.Tests.{not-false, lt-ltb, le-ltb}
-use lib.Dec.{eqb}
+use lib.Dec.{eqb, ltb}
 use Rattle.cluster.specs.Config.{shelf}
 use Rattle.cluster.specs.Ranges.{within, topFaults, leastLength, topLength, contentRoom}
+use Rattle.cluster.specs.Refusals.{firstOf}
+use Rattle.cluster.proofs.Tests.{within-bounds}
 use Rattle.erasure.specs.Fragments.{fragmentSize}
-use Rattle.erasure.specs.Steps.{each}
+use Rattle.erasure.specs.Steps.{each, argumentChecks}
 use Rattle.erasure.proofs.Laws.{size-pos}
-use Rattle.erasure.proofs.Refused.{within-bounds, argument-tests}
+use Rattle.erasure.proofs.Refused.{argument-tests}
 use borrow.Author.Needs.{needs}
 use Rattle.erasure.proofs.restore_refusal.Statement.{statement}
 use Rattle.erasure.proofs.restore_refusal.Tie as tie
+
+-- ---- what the tests that were passed say
+
+module _ (c : tie.Else1) where
+  abbrev t : ℕ
+  t = c .before .before .before .args .t
+
+  abbrev n : ℕ
+  n = c .before .before .before .args .n
+
+  abbrev servers : List ℕ
+  servers = denote.Ref.now (c .before .before .before .args .servers)
+
+  abbrev given : ℕ
+  given = c .before .before .before .args .given
+
+  abbrev room : ℕ
+  room = c .before .before .before .args .room
+
+  faults-in : not (within 1 topFaults t) ≡ false
+  faults-in = sym (c .before .outside .ensures) ∙ c .if1 .left
+
+  faults : (1 ≤ t) × (t ≤ topFaults)
+  faults = within-bounds 1 topFaults t (not-false _ faults-in)
+
+servers-tested : (c : tie.After-server-outside) → let p = c .before .before in not (each (within 1 (shelf (t p) .servers)) (servers p)) ≡ c .server-outside .result
+servers-tested c =
+    ap (λ (s : ℕ). not (each (within 1 s) (servers (c .before .before)))) (sym (c .before .servers-of .ensures)) ∙ sym (c .server-outside .ensures)
+
+-- past two tests, the number is that of the other three
+module _ (c : tie.Else2) where
+  abbrev past : tie.Else1
+  past = c .before .before .before
+
+  other-tests : (d e f : Bool) → not (within leastLength topLength (n past)) ≡ d → ltb (room past) contentRoom ≡ e
+      → not (eqb (given past) (length (servers past) * fragmentSize (shelf (t past) .shares) (n past))) ≡ f
+      → firstOf (argumentChecks (t past) (n past) (servers past) (given past) (room past)) ≡ cond d 6 (cond e 15 (cond f 16 0))
+  other-tests d e f =
+      argument-tests (t past) (n past) (servers past) (given past) (room past) false false d e f (faults-in past) (servers-tested (c .before) ∙ c .if2 .left)
+
+module _ (c : tie.Else3) where
+  length-in : not (within leastLength topLength (n (past (c .before .before)))) ≡ false
+  length-in = sym (c .before .outside2 .ensures) ∙ c .if3 .left
+
+  lengths : (leastLength ≤ n (past (c .before .before))) × (n (past (c .before .before)) ≤ topLength)
+  lengths = within-bounds leastLength topLength _ (not-false _ length-in)
+
+module _ (c : tie.After-shares-of) where
+  abbrev second : tie.Else2
+  second = c .before .before .before .before
+
+  shares-are : c .shares-of .result ≡ t (past second) + 1
+  unfolding shelf
+  shares-are = c .shares-of .ensures
+
+last-test : (c : tie.After-miscounted) (b : Bool) → c .miscounted .result ≡ b
+    → let p = past (second (c .before .before)) in firstOf (argumentChecks (t p) (n p) (servers p) (given p) (room p)) ≡ cond b 16 0
+last-test c b e =
+    let s = second (c .before .before) in
+    let p = past s in
+    let f : c .before .size .result ≡ fragmentSize (shelf (t p) .shares) (n p) =
+    c .before .size .ensures ∙ ap (λ (k : ℕ). fragmentSize k (n p)) (c .before .before .shares-of .ensures) in
+    other-tests s false false b (length-in (c .before .before .before .before)) (le-ltb (room p) contentRoom (c .before .before .before .if4 .left))
+    (ap (λ (x : ℕ). not (eqb (given p) (length (servers p) * x))) (sym f) ∙ sym (c .miscounted .ensures) ∙ e)
+
+-- ---- the needs
 
 returns : tie.Need-returns
 returns c =
@@ -23,76 +92,37 @@ returns c =
     sym (argument-tests (args .t) (args .n) ss (args .given) (args .room) true _ _ _ _ (sym (c .before .outside .ensures) ∙ c .if1 .taken) refl refl refl refl)
 
 servers-of-requires : tie.Need-servers-of-requires
-servers-of-requires c κs = within-bounds 1 topFaults (c .before .before .before .args .t) (not-false _ (sym (c .before .outside .ensures) ∙ c .if1 .left)) .1
+servers-of-requires c κs = faults c .1
 
 returns-2 : tie.Need-returns-2
 returns-2 c =
-    let args = c .before .before .before .before .before .before .args in
-    let ss = denote.Ref.now (args .servers) in
-    let a = sym (c .before .before .before .before .outside .ensures) ∙ c .before .before .before .if1 .left in
-    let b = ap (λ (s : ℕ). not (each (within 1 s) ss)) (sym (c .before .before .servers-of .ensures)) ∙ sym (c .before .server-outside .ensures) ∙ c .if2 .taken in
-    sym (argument-tests (args .t) (args .n) ss (args .given) (args .room) false true _ _ _ a b refl refl refl)
+    let p = c .before .before .before in
+    sym (argument-tests (t p) (n p) (servers p) (given p) (room p) false true _ _ _ (faults-in p) (servers-tested (c .before) ∙ c .if2 .taken) refl refl refl)
 
 returns-3 : tie.Need-returns-3
-returns-3 c =
-    let args = c .before .before .before .before .before .before .before .before .args in
-    let ss = denote.Ref.now (args .servers) in
-    let a = sym (c .before .before .before .before .before .before .outside .ensures) ∙ c .before .before .before .before .before .if1 .left in
-    let b = ap (λ (s : ℕ). not (each (within 1 s) ss)) (sym (c .before .before .before .before .servers-of .ensures)) ∙ sym (c .before .before .before .server-outside .ensures) ∙ c .before .before .if2 .left in
-    let d = sym (c .before .outside2 .ensures) ∙ c .if3 .taken in
-    sym (argument-tests (args .t) (args .n) ss (args .given) (args .room) false false true _ _ a b d refl refl)
+returns-3 c = sym (other-tests (c .before .before) true _ _ (sym (c .before .outside2 .ensures) ∙ c .if3 .taken) refl refl)
 
 returns-4 : tie.Need-returns-4
 returns-4 c =
-    let args = c .before .before .before .before .before .before .before .before .before .args in
-    let ss = denote.Ref.now (args .servers) in
-    let a = sym (c .before .before .before .before .before .before .before .outside .ensures) ∙ c .before .before .before .before .before .before .if1 .left in
-    let b = ap (λ (s : ℕ). not (each (within 1 s) ss)) (sym (c .before .before .before .before .before .servers-of .ensures)) ∙ sym (c .before .before .before .before .server-outside .ensures) ∙ c .before .before .before .if2 .left in
-    let d = sym (c .before .before .outside2 .ensures) ∙ c .before .if3 .left in
-    sym (argument-tests (args .t) (args .n) ss (args .given) (args .room) false false false true _ a b d (lt-ltb (args .room) contentRoom (c .if4 .taken)) refl)
+    let s = c .before .before .before in
+    sym (other-tests s false true _ (length-in (c .before)) (lt-ltb (room (past s)) contentRoom (c .if4 .taken)) refl)
 
 shares-of-requires : tie.Need-shares-of-requires
-shares-of-requires c κs = within-bounds 1 topFaults (c .before .before .before .before .before .before .before .before .before .args .t) (not-false _ (sym (c .before .before .before .before .before .before .before .outside .ensures) ∙ c .before .before .before .before .before .before .if1 .left)) .1
+shares-of-requires c κs = faults (past (c .before .before .before)) .1
 
 size-requires : tie.Need-size-requires
-unfolding shelf
-size-requires c κs =
-    let t = within-bounds 1 topFaults (c .before .before .before .before .before .before .before .before .before .before .args .t) (not-false _ (sym (c .before .before .before .before .before .before .before .before .outside .ensures) ∙ c .before .before .before .before .before .before .before .if1 .left)) in
-    let n = within-bounds leastLength topLength (c .before .before .before .before .before .before .before .before .before .before .args .n) (not-false _ (sym (c .before .before .before .outside2 .ensures) ∙ c .before .before .if3 .left)) in
-    let k : c .shares-of .result ≡ c .before .before .before .before .before .before .before .before .before .before .args .t + 1 = c .shares-of .ensures in
-    (omega (arith, t .0, t .1, k), omega (arith, t .1, k), n .1)
+size-requires c κs = (omega (arith, shares-are c), omega (arith, shares-are c, faults (past (second c)) .1), lengths (c .before .before) .1)
 
 miscounted-requires : tie.Need-miscounted-requires
-unfolding shelf
 miscounted-requires c κs =
-    let t = within-bounds 1 topFaults (c .before .before .before .before .before .before .before .before .before .before .before .args .t) (not-false _ (sym (c .before .before .before .before .before .before .before .before .before .outside .ensures) ∙ c .before .before .before .before .before .before .before .before .if1 .left)) in
-    let n = within-bounds leastLength topLength (c .before .before .before .before .before .before .before .before .before .before .before .args .n) (not-false _ (sym (c .before .before .before .before .outside2 .ensures) ∙ c .before .before .before .if3 .left)) in
-    let k : c .before .shares-of .result ≡ c .before .before .before .before .before .before .before .before .before .before .before .args .t + 1 = c .before .shares-of .ensures in
-    subst (λ (x : ℕ). 0 < x) (sym (c .size .ensures)) (size-pos (c .before .shares-of .result) (c .before .before .before .before .before .before .before .before .before .before .before .args .n) (n .0) (omega (arith, k)))
+    subst (λ (x : ℕ). 0 < x) (sym (c .size .ensures))
+    (size-pos (c .before .shares-of .result) (n (past (second (c .before)))) (lengths (c .before .before .before) .0) (omega (arith, shares-are (c .before))))
 
 returns-5 : tie.Need-returns-5
-returns-5 c =
-    let args = c .before .before .before .before .before .before .before .before .before .before .before .before .before .args in
-    let ss = denote.Ref.now (args .servers) in
-    let a = sym (c .before .before .before .before .before .before .before .before .before .before .before .outside .ensures) ∙ c .before .before .before .before .before .before .before .before .before .before .if1 .left in
-    let b = ap (λ (s : ℕ). not (each (within 1 s) ss)) (sym (c .before .before .before .before .before .before .before .before .before .servers-of .ensures)) ∙ sym (c .before .before .before .before .before .before .before .before .server-outside .ensures) ∙ c .before .before .before .before .before .before .before .if2 .left in
-    let d = sym (c .before .before .before .before .before .before .outside2 .ensures) ∙ c .before .before .before .before .before .if3 .left in
-    let f : c .before .before .size .result ≡ fragmentSize (shelf (args .t) .shares) (args .n) =
-    c .before .before .size .ensures ∙ ap (λ (k : ℕ). fragmentSize k (args .n)) (c .before .before .before .shares-of .ensures) in
-    let e = ap (λ (x : ℕ). not (eqb (args .given) (length ss * x))) (sym f) ∙ sym (c .before .miscounted .ensures) ∙ c .if5 .taken in
-    sym (argument-tests (args .t) (args .n) ss (args .given) (args .room) false false false false true a b d (le-ltb (args .room) contentRoom (c .before .before .before .before .if4 .left)) e)
+returns-5 c = sym (last-test (c .before) true (c .if5 .taken))
 
 returns-6 : tie.Need-returns-6
-returns-6 c =
-    let args = c .before .before .before .before .before .before .before .before .before .before .before .before .before .args in
-    let ss = denote.Ref.now (args .servers) in
-    let a = sym (c .before .before .before .before .before .before .before .before .before .before .before .outside .ensures) ∙ c .before .before .before .before .before .before .before .before .before .before .if1 .left in
-    let b = ap (λ (s : ℕ). not (each (within 1 s) ss)) (sym (c .before .before .before .before .before .before .before .before .before .servers-of .ensures)) ∙ sym (c .before .before .before .before .before .before .before .before .server-outside .ensures) ∙ c .before .before .before .before .before .before .before .if2 .left in
-    let d = sym (c .before .before .before .before .before .before .outside2 .ensures) ∙ c .before .before .before .before .before .if3 .left in
-    let f : c .before .before .size .result ≡ fragmentSize (shelf (args .t) .shares) (args .n) =
-    c .before .before .size .ensures ∙ ap (λ (k : ℕ). fragmentSize k (args .n)) (c .before .before .before .shares-of .ensures) in
-    let e = ap (λ (x : ℕ). not (eqb (args .given) (length ss * x))) (sym f) ∙ sym (c .before .miscounted .ensures) ∙ c .if5 .left in
-    sym (argument-tests (args .t) (args .n) ss (args .given) (args .room) false false false false false a b d (le-ltb (args .room) contentRoom (c .before .before .before .before .if4 .left)) e)
+returns-6 c = sym (last-test (c .before) false (c .if5 .left))
 
 pub restore-refusal-spec : {M : Type 1} → statement M
 restore-refusal-spec = tie.close (tie.spec (λ c κs. search needs) returns servers-of-requires (λ c κs. search needs) returns-2 (λ c κs. search needs)

@@ -3,7 +3,7 @@ use mathlib.Core.Path.{_≡_, sym, ap, _∙_}
 use Prim.Native.Nat.{ℕ, _-_, _<_, _≤_}
 use native.Mathlib.Omega.{arith}
 use lib.ListN.{length, getD}
-use mathlib.Core.Bool.{true, false, not}
+use mathlib.Core.Bool.{true, not}
 use borrow.Author.Count.{below-more}
 use borrow.Author.Tests.{not-true, not-false}
 use Rattle.cluster.specs.Ranges.{within}
@@ -21,24 +21,22 @@ abbrev μ-loop : tie.MeasureT-loop
 loop-holds : tie.Need-loop-holds Inv-loop μ-loop
 loop-holds c = (search needs, λ j h. absurd (omega arith))
 
+cast-outside : tie.Need-cast-outside Inv-loop μ-loop
+cast-outside c = let h = c .shared-slice-known2 .given (c .before .before .loop .i) in search needs
+
 returns : tie.Need-returns Inv-loop μ-loop
 returns c =
-    let args = c .before .before .before .before .before .before .before .args in
-    let i = c .before .before .before .before .before .loop .i in
+    let args = c .before .before .before .before .before .before .args in
+    let i = c .before .before .before .before .loop .i in
     let ss = denote.Ref.now (args .servers) in
-    let b : i < length ss = search needs in
-    let e : within 1 (args .most) (getD ss i 0) ≡ false =
-    ap (within 1 (args .most)) (sym (c .before .before .wide .ensures)) ∙ not-true _ (sym (c .before .outside .ensures) ∙ c .if1 .taken) in
-    sym (ap not (each-fails (within 1 (args .most)) ss i b e))
+    sym (ap not (each-fails (within 1 (args .most)) ss i (search needs) (not-true _ (sym (c .before .outside .ensures) ∙ c .if1 .taken))))
 
 loop-again : tie.Need-loop-again Inv-loop μ-loop
 loop-again c =
-    let args = c .before .before .before .before .before .before .before .args in
-    let l = c .before .before .before .before .before .loop in
+    let args = c .before .before .before .before .before .before .args in
+    let l = c .before .before .before .before .loop in
     let ss = denote.Ref.now (args .servers) in
-    let e : within 1 (args .most) (getD ss (l .i) 0) ≡ true =
-    ap (within 1 (args .most)) (sym (c .before .before .wide .ensures)) ∙ not-false _ (sym (c .before .outside .ensures) ∙ c .if1 .left) in
-    (search needs, below-more (λ (j : ℕ). within 1 (args .most) (getD ss j 0) ≡ true) (l .i) (l .inv .1) e)
+    (search needs, below-more (λ (j : ℕ). within 1 (args .most) (getD ss j 0) ≡ true) (l .i) (l .inv .1) (not-false _ (sym (c .before .outside .ensures) ∙ c .if1 .left)))
 
 returns-2 : tie.Need-returns-2 Inv-loop μ-loop
 returns-2 c =
@@ -46,5 +44,5 @@ returns-2 c =
     sym (ap not (each-holds (within 1 (args .most)) (denote.Ref.now (args .servers)) (λ i h. c .before .loop .inv .1 i (omega arith))))
 
 pub server-outside-spec : {M : Type 1} → statement M
-server-outside-spec = tie.close (tie.spec Inv-loop μ-loop loop-holds (λ c. search needs) (λ c κs. search needs) (λ c κs. search needs) returns
+server-outside-spec = tie.close (tie.spec Inv-loop μ-loop loop-holds (λ c. search needs) cast-outside (λ c κs. search needs) returns
     (λ c. search needs) (λ c. search needs) loop-again returns-2)

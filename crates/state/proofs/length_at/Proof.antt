@@ -7,8 +7,8 @@ use Rattle.state.proofs.length_at.Tie as tie
 
 returns : tie.Need-returns
 unfolding lengthAt
-returns c = rw (c .wide2 .ensures .0, c .before .byte-at2 .ensures, c .before .before .wide .ensures .0, c .before .before .before .byte-at .ensures)
+returns c = rw (c .byte-at2 .ensures, c .before .byte-at .ensures)
 
 pub length-at-spec : {M : Type 1} → statement M
-length-at-spec = tie.close (tie.spec (λ c κs. search needs) (λ c κs. search needs) (λ c. search needs) (λ c κs. search needs) (λ c κs. search needs)
+length-at-spec = tie.close (tie.spec (λ c κs. search needs) (λ c. search needs) (λ c. search needs) (λ c κs. search needs) (λ c. search needs)
     (λ c. search needs) returns)

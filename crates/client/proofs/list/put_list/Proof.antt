@@ -1,16 +1,19 @@
 -- The loop's invariant: the list of the slots passed is written. Assumes nothing.
 use native.Mathlib.Omega.{arith}
 use mathlib.Core.Path.{_≡_}
-use Prim.Native.Nat.{_≤_, _-_, _+_, _*_}
+use Prim.Native.Nat.{_≤_, _-_, _*_}
 use Rattle.cluster.specs.Config.{shelf}
 use Rattle.protocol.specs.Format.{printMany}
 use Rattle.protocol.specs.Packet.{candidateF}
 use Rattle.protocol.specs.Reading.{Wrote}
 use Rattle.protocol.specs.Rules.{gather}
-use Rattle.protocol.specs.View.{candidatesIn}
+use Rattle.protocol.specs.View.{candidatesIn, candidateSlot}
 use Rattle.protocol.proofs.Puts.{wrote-length}
 use Rattle.client.proofs.ListBytes.{wrote-none, list-room, list-entry}
 use borrow.Author.Needs.{needs}
+use Rattle.client.proofs.Offered.{servers-few}
+use Rattle.cluster.specs.Ranges.{mostServers}
+use lib.ListN.{length}
 use Rattle.client.proofs.list.put_list.Statement.{statement}
 use Rattle.client.proofs.list.put_list.Tie as tie
 
@@ -24,17 +27,27 @@ loop-holds : tie.Need-loop-holds Inv-loop μ-loop
 unfolding gather
 loop-holds c = let a = c .before .before .before .args in (omega arith, wrote-none (a .out .now) (a .at))
 
+-- the list so far has room, and the buffer keeps its length
+room : (c : tie.At-loop Inv-loop μ-loop)
+    → let a = c .before .before .before .before .args in
+    let i = c .loop .i in
+    (i ≤ mostServers) × (length (printMany (candidateF (shelf (a .t))) (gather (candidatesIn (shelf (a .t)) (a .kept .now)) i)) ≤ candidateSlot * i) × (length (c .loop .out) ≡ length (a .out .now))
+room c =
+    let a = c .before .before .before .before .args in
+    let p = c .before .before .before .before .pre in
+    let i = c .loop .i in
+    let v = c .loop .inv in
+    let w : i ≤ mostServers = omega (arith, v .0, c .before .servers .ensures, servers-few (a .t) (p .1 .0)) in
+    let m = list-room (a .t) (a .kept .now) (p .0) (p .1 .0) (p .1 .1 .0) i (omega (arith, v .0, c .before .servers .ensures)) in
+    (w, m, wrote-length (v .1) (omega (arith, m, p .1 .1 .1, w)))
+
 put-entry-requires : tie.Need-put-entry-requires Inv-loop μ-loop
-unfolding shelf
 put-entry-requires c κs =
     let a = c .before .before .before .before .before .before .args in
     let p = c .before .before .before .before .before .before .pre in
-    let i = c .before .before .loop .i in
     let v = c .before .before .loop .inv in
-    let s : c .before .before .before .servers .result ≡ 3 * a .t + 1 = c .before .before .before .servers .ensures in
-    let m = list-room (a .t) (a .kept .now) (p .0) (p .1 .0) (p .1 .1 .0) i (omega (arith, v .0)) in
-    let l = wrote-length (v .1) (omega (arith, m, p .1 .0, p .1 .1 .1, v .0)) in
-    (p .1 .0, (omega (arith, p .1 .0), (p .1 .1 .0, omega (arith, m, l, v .1 .place, p .1 .0, p .1 .1 .1))))
+    let r = room (c .before .before) in
+    (p .1 .0, (omega (arith, c .before .before .before .servers .ensures, servers-few (a .t) (p .1 .0)), (p .1 .1 .0, omega (arith, r .1, r .2, v .1 .place, c .before .before .before .servers .ensures, servers-few (a .t) (p .1 .0), p .1 .1 .1))))
 
 loop-again : tie.Need-loop-again Inv-loop μ-loop
 loop-again c =
@@ -44,18 +57,6 @@ loop-again c =
     let v = c .before .before .before .before .before .loop .inv in
     (omega arith, list-entry (a .t) (a .kept .now) (p .0) (p .1 .0) (p .1 .1 .0) i (omega (arith, c .before .before .before .before .before .before .servers .ensures)) (p .1 .1 .1) (v .1) (c .before .before .put-entry .ensures))
 
-same-length : tie.Need-same-length Inv-loop μ-loop
-unfolding shelf
-same-length c =
-    let a = c .before .before .before .before .before .args in
-    let p = c .before .before .before .before .before .pre in
-    let i = c .before .loop .i in
-    let v = c .before .loop .inv in
-    let s : c .before .before .servers .result ≡ 3 * a .t + 1 = c .before .before .servers .ensures in
-    let m = list-room (a .t) (a .kept .now) (p .0) (p .1 .0) (p .1 .1 .0) i (omega (arith, v .0)) in
-    let l = wrote-length (v .1) (omega (arith, m, p .1 .0, p .1 .1 .1, v .0)) in
-    l
-
 returns : tie.Need-returns Inv-loop μ-loop
 returns c =
     let a = c .before .before .before .before .before .args in
@@ -64,4 +65,4 @@ returns c =
 
 pub put-list-spec : {M : Type 1} → statement M
 put-list-spec = tie.close (tie.spec Inv-loop μ-loop (λ c κs. search needs) loop-holds put-entry-requires (λ c. search needs) (λ c. search needs)
-    loop-again same-length returns)
+    loop-again (λ c. room (c .before) .2) returns)

@@ -11,7 +11,8 @@ use Rattle.protocol.specs.Packet.{headF, candidateF}
 use Rattle.protocol.specs.View.{part, chosenOf, chosenAt, candidateSlot, candidateAt}
 use Rattle.wire.proofs.Runs.{part-most}
 use Rattle.client.specs.Steps.{wholePacket}
-use Rattle.client.proofs.Printed.{packet-fits, candidate-back, bytes-part, part-length}
+use Rattle.client.proofs.Printed.{packet-fits, candidate-back}
+use Rattle.decide.proofs.Places.{bytes-part, part-length}
 use Rattle.client.proofs.packets.make_chosen.Statement.{statement}
 use Rattle.client.proofs.packets.make_chosen.Tie as tie
 

@@ -7,13 +7,14 @@ use Rattle.client.proofs.packets.make_in.Tie as tie
 
 returns : tie.Need-returns
 returns c =
-    let a = c .before .before .before .args in
-    sym (make-short (a .t) (a .client) (a .server) (a .call) (a .kept .now) (a .out .now) (c .if1 .taken))
+    let a = c .before .before .before .before .args in
+    rw (c .refused .ensures) (sym (make-short (a .t) (a .client) (a .server) (a .call) (a .kept .now) (a .out .now) (c .before .if1 .taken)))
 
 returns-2 : tie.Need-returns-2
 returns-2 c =
-    let a = c .before .before .before .before .before .args in
-    sym (make-refused (a .t) (a .client) (a .server) (a .call) (a .kept .now) (a .out .now) (c .before .before .if1 .left) (c .before .make-refusal .result) (c .before .make-refusal .ensures) (c .if2 .taken))
+    let a = c .before .before .before .before .before .before .args in
+    rw (c .refused2 .ensures)
+    (sym (make-refused (a .t) (a .client) (a .server) (a .call) (a .kept .now) (a .out .now) (c .before .before .before .if1 .left) (c .before .before .make-refusal .result) (c .before .before .make-refusal .ensures) (c .before .if2 .taken)))
 
 make-round-requires : tie.Need-make-round-requires
 make-round-requires c κs =
@@ -27,4 +28,4 @@ returns-3 c =
     c .before .before .make-round .ensures ∙ sym (make-goes (a .t) (a .client) (a .server) (a .call) (a .kept .now) (a .out .now) (c .before .before .before .before .before .before .if1 .left) (sym (c .before .before .before .before .before .make-refusal .ensures) ∙ c .before .before .before .before .if2 .left))
 
 pub make-in-spec : {M : Type 1} → statement M
-make-in-spec = tie.close (tie.spec returns (λ c κs. search needs) returns-2 make-round-requires (λ c. search needs) returns-3)
+make-in-spec = tie.close (tie.spec (λ c κs. search needs) returns (λ c κs. search needs) (λ c κs. search needs) returns-2 make-round-requires (λ c. search needs) returns-3)

@@ -13,7 +13,8 @@ use Rattle.protocol.specs.View.{part, chosenOf, chosenAt, candidateSlot, candid
 use Rattle.wire.specs.Places.{shareSize, lengthAt}
 use Rattle.wire.proofs.Runs.{part-most}
 use Rattle.client.specs.Steps.{wholePacket}
-use Rattle.client.proofs.Printed.{packet-fits, stamp-back, share-back, bytes-part, part-length, part-short}
+use Rattle.decide.proofs.Places.{part-length, bytes-part, stamp-bytes}
+use Rattle.client.proofs.Printed.{packet-fits, share-back, part-short}
 use Rattle.client.proofs.packets.make_store.Statement.{statement}
 use Rattle.client.proofs.packets.make_store.Tie as tie
 
@@ -40,7 +41,7 @@ returns c =
     let E : List ℕ = part (a .kept .now) (repliesAt + replySlot * i) replySlot in
     let ld : length D ≡ candidateSlot = part-length (a .kept .now) chosenAt candidateSlot (omega (arith, p .1 .1 .1 .0)) in
     let le : length E ≡ replySlot = part-length (a .kept .now) (repliesAt + replySlot * i) replySlot (omega (arith, p .1 .1 .1 .0, p .1 .1 .0, p .1 .0)) in
-    let s = stamp-back D (bytes-part (a .kept .now) chosenAt candidateSlot K) (omega (arith, ld)) in
+    let s = stamp-bytes D (bytes-part (a .kept .now) chosenAt candidateSlot K) (omega (arith, ld)) in
     let h = share-back (shelf (a .t)) E (bytes-part (a .kept .now) (repliesAt + replySlot * i) replySlot K) (omega (arith, le)) in
     let m = part-most D 0 stampSize in
     let n = part-short E (shareSize (shelf (a .t)) (lengthAt E)) in

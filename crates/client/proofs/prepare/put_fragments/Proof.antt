@@ -2,7 +2,7 @@
 use borrow.Author.Needs.{needs}
 use native.Mathlib.Omega.{arith}
 use mathlib.Core.Path.{_≡_, ap, _∙_}
-use Prim.Native.Nat.{ℕ, suc, _≤_, _-_}
+use Prim.Native.Nat.{suc, _≤_, _-_, _*_, _+_}
 use lib.ListN.{length}
 use Rattle.cluster.specs.Config.{shelf}
 use Rattle.erasure.specs.Fragments.{fragmentSize}
@@ -25,60 +25,52 @@ loop-holds : tie.Need-loop-holds Inv-loop μ-loop
 unfolding fragmentRun digestRun runOf
 loop-holds c = (omega arith, (put-none (c .before .before .before .before .args .fragments .now), put-none (c .before .before .before .before .args .digests .now)))
 
+-- the arrays keep their lengths
+lengths : (c : tie.At-loop Inv-loop μ-loop)
+    → let a = c .before .before .before .before .before .args in (length (c .loop .fragments) ≡ length (a .fragments .now)) × (length (c .loop .digests) ≡ length (a .digests .now))
+lengths c =
+    let a = c .before .before .before .before .before .args in
+    let p = c .before .before .before .before .before .pre in
+    let i = c .loop .i in
+    let v = c .loop .inv in
+    let w : i ≤ shelf (a .t) .servers = omega (arith, v .0, c .before .servers .ensures) in (
+      ap length (v .1 .0) ∙ put-length (a .fragments .now) 0 (fragmentRun (a .t) (a .content .now) i) (fragments-room (a .t) (a .content .now) i (a .fragments .now) w (p .1 .1 .1 .0)),
+      ap length (v .1 .1) ∙ put-length (a .digests .now) 0 (digestRun (a .t) (a .content .now) i) (digests-room (a .t) (a .content .now) i (a .digests .now) w (p .1 .1 .1 .1)),
+    )
+
+-- one more server's fit
+rooms : (c : tie.In-loop Inv-loop μ-loop)
+    → let a = c .before .before .before .before .before .before .args in
+    let i = c .before .loop .i in
+    (suc i ≤ shelf (a .t) .servers) × (fragmentSize (shelf (a .t) .shares) (length (a .content .now)) * i + fragmentSize (shelf (a .t) .shares) (length (a .content .now)) ≤ length (a .fragments .now))
+    × (digestSize * i + digestSize ≤ length (a .digests .now))
+rooms c =
+    let a = c .before .before .before .before .before .before .args in
+    let p = c .before .before .before .before .before .before .pre in
+    let i = c .before .loop .i in
+    let s : suc i ≤ shelf (a .t) .servers = omega (arith, c .loop-test .taken, c .before .before .servers .ensures) in (
+      s,
+      omega (arith, times-more (fragmentSize (shelf (a .t) .shares) (length (a .content .now))) i (shelf (a .t) .servers) s, p .1 .1 .1 .0),
+      omega (arith, times-more digestSize i (shelf (a .t) .servers) s, p .1 .1 .1 .1),
+    )
+
 put-fragment-requires : tie.Need-put-fragment-requires Inv-loop μ-loop
 put-fragment-requires c κs =
-    let a = c .before .before .before .before .before .before .before .before .args in
     let p = c .before .before .before .before .before .before .before .before .pre in
-    let i = c .before .before .before .loop .i in
-    let v = c .before .before .before .loop .inv in
-    let size : ℕ = fragmentSize (shelf (a .t) .shares) (length (a .content .now)) in
-    let w : i ≤ shelf (a .t) .servers = omega (arith, v .0, c .before .before .before .before .servers .ensures) in
-    let lf : length (c .before .before .before .loop .fragments) ≡ length (a .fragments .now) = ap length (v .1 .0) ∙ put-length (a .fragments .now) 0 (fragmentRun (a .t) (a .content .now) i) (fragments-room (a .t) (a .content .now) i (a .fragments .now) w (p .1 .1 .1 .0)) in
-    let ld : length (c .before .before .before .loop .digests) ≡ length (a .digests .now) = ap length (v .1 .1) ∙ put-length (a .digests .now) 0 (digestRun (a .t) (a .content .now) i) (digests-room (a .t) (a .content .now) i (a .digests .now) w (p .1 .1 .1 .1)) in
-    let s : suc i ≤ shelf (a .t) .servers = omega (arith, c .before .before .loop-test .taken, c .before .before .before .before .servers .ensures) in
-    let f = times-more size i (shelf (a .t) .servers) s in
-    let d = times-more digestSize i (shelf (a .t) .servers) s in
-    (p .0, (p .1 .0, (s, (p .1 .1 .0, (omega (arith, f, lf, p .1 .1 .1 .0), omega (arith, d, ld, p .1 .1 .1 .1))))))
+    let l = lengths (c .before .before .before) in
+    let r = rooms (c .before .before) in
+    (p .0, (p .1 .0, (r .0, (p .1 .1 .0, (omega (arith, l .0, r .1), omega (arith, l .1, r .2))))))
 
 loop-again : tie.Need-loop-again Inv-loop μ-loop
 loop-again c =
     let a = c .before .before .before .before .before .before .before .before .before .before .before .before .before .args in
-    let p = c .before .before .before .before .before .before .before .before .before .before .before .before .before .pre in
     let i = c .before .before .before .before .before .before .before .before .loop .i in
     let v = c .before .before .before .before .before .before .before .before .loop .inv in
-    let size : ℕ = fragmentSize (shelf (a .t) .shares) (length (a .content .now)) in
-    let w : i ≤ shelf (a .t) .servers = omega (arith, v .0, c .before .before .before .before .before .before .before .before .before .servers .ensures) in
-    let lf : length (c .before .before .before .before .before .before .before .before .loop .fragments) ≡ length (a .fragments .now) = ap length (v .1 .0) ∙ put-length (a .fragments .now) 0 (fragmentRun (a .t) (a .content .now) i) (fragments-room (a .t) (a .content .now) i (a .fragments .now) w (p .1 .1 .1 .0)) in
-    let ld : length (c .before .before .before .before .before .before .before .before .loop .digests) ≡ length (a .digests .now) = ap length (v .1 .1) ∙ put-length (a .digests .now) 0 (digestRun (a .t) (a .content .now) i) (digests-room (a .t) (a .content .now) i (a .digests .now) w (p .1 .1 .1 .1)) in
-    let s : suc i ≤ shelf (a .t) .servers = omega (arith, c .before .before .before .before .before .before .before .loop-test .taken, c .before .before .before .before .before .before .before .before .before .servers .ensures) in
-    let f = times-more size i (shelf (a .t) .servers) s in
-    let d = times-more digestSize i (shelf (a .t) .servers) s in
-    let e = c .before .before .before .before .put-fragment .ensures in
-    (omega arith, (e .0 ∙ rw (v .1 .0) (fragment-more (a .t) (a .content .now) (a .fragments .now) i (omega (arith, f, p .1 .1 .1 .0))), e .1 ∙ rw (v .1 .1) (digest-more (a .t) (a .content .now) (a .digests .now) i (omega (arith, d, p .1 .1 .1 .1)))))
-
-same-length : tie.Need-same-length Inv-loop μ-loop
-same-length c =
-    let a = c .before .before .before .before .before .before .args in
-    let p = c .before .before .before .before .before .before .pre in
-    let i = c .before .loop .i in
-    let v = c .before .loop .inv in
-    let size : ℕ = fragmentSize (shelf (a .t) .shares) (length (a .content .now)) in
-    let w : i ≤ shelf (a .t) .servers = omega (arith, v .0, c .before .before .servers .ensures) in
-    let lf : length (c .before .loop .fragments) ≡ length (a .fragments .now) = ap length (v .1 .0) ∙ put-length (a .fragments .now) 0 (fragmentRun (a .t) (a .content .now) i) (fragments-room (a .t) (a .content .now) i (a .fragments .now) w (p .1 .1 .1 .0)) in
-    let ld : length (c .before .loop .digests) ≡ length (a .digests .now) = ap length (v .1 .1) ∙ put-length (a .digests .now) 0 (digestRun (a .t) (a .content .now) i) (digests-room (a .t) (a .content .now) i (a .digests .now) w (p .1 .1 .1 .1)) in
-    lf
-
-same-length-2 : tie.Need-same-length-2 Inv-loop μ-loop
-same-length-2 c =
-    let a = c .before .before .before .before .before .before .args in
-    let p = c .before .before .before .before .before .before .pre in
-    let i = c .before .loop .i in
-    let v = c .before .loop .inv in
-    let size : ℕ = fragmentSize (shelf (a .t) .shares) (length (a .content .now)) in
-    let w : i ≤ shelf (a .t) .servers = omega (arith, v .0, c .before .before .servers .ensures) in
-    let lf : length (c .before .loop .fragments) ≡ length (a .fragments .now) = ap length (v .1 .0) ∙ put-length (a .fragments .now) 0 (fragmentRun (a .t) (a .content .now) i) (fragments-room (a .t) (a .content .now) i (a .fragments .now) w (p .1 .1 .1 .0)) in
-    let ld : length (c .before .loop .digests) ≡ length (a .digests .now) = ap length (v .1 .1) ∙ put-length (a .digests .now) 0 (digestRun (a .t) (a .content .now) i) (digests-room (a .t) (a .content .now) i (a .digests .now) w (p .1 .1 .1 .1)) in
-    ld
+    let r = rooms (c .before .before .before .before .before .before .before) in
+    let e = c .before .before .before .before .put-fragment .ensures in (
+      omega arith,
+      (e .0 ∙ rw (v .1 .0) (fragment-more (a .t) (a .content .now) (a .fragments .now) i (omega (arith, r .1))), e .1 ∙ rw (v .1 .1) (digest-more (a .t) (a .content .now) (a .digests .now) i (omega (arith, r .2)))),
+    )
 
 returns : tie.Need-returns Inv-loop μ-loop
 returns c =
@@ -88,4 +80,4 @@ returns c =
 
 pub put-fragments-spec : {M : Type 1} → statement M
 put-fragments-spec = tie.close (tie.spec Inv-loop μ-loop (λ c κs. search needs) loop-holds put-fragment-requires (λ c. search needs)
-    (λ c. omega arith) loop-again same-length same-length-2 returns)
+    (λ c. omega arith) loop-again (λ c. lengths (c .before) .0) (λ c. lengths (c .before) .1) returns)

@@ -9,12 +9,6 @@ use Rattle.client.proofs.ShareBytes.{three-puts}
 use Rattle.client.proofs.prepare.put_share.Statement.{statement}
 use Rattle.client.proofs.prepare.put_share.Tie as tie
 
-mul-at : tie.Need-mul-at
-mul-at c = omega (arith, c .before .before .before .pre .0)
-
-add-at : tie.Need-add-at
-add-at c = omega (arith, c .before .before .before .pre .0)
-
 write-at-requires : tie.Need-write-at-requires
 write-at-requires c κs = let z : length (c .before .before .before .before .before .args .t3) ≡ 2 = search needs in let p = c .before .before .before .before .before .pre in omega (arith, z, p .0, p .1 .0)
 
@@ -41,5 +35,6 @@ returns c =
     c .before .before .write-at3 .ensures ∙ rw (c .before .before .before .before .before .before .write-at2 .ensures, c .before .before .before .before .before .before .before .before .before .before .write-at .ensures) (three-puts (a .kept .now) (repliesAt + replySlot * a .i) 2 (length (a .fragment .now)) (a .t3) (a .fragment .now) (a .common .now) z refl (omega (arith, p .0, p .1 .0, p .1 .1)))
 
 pub put-share-spec : {M : Type 1} → statement M
-put-share-spec = tie.close (tie.spec mul-at add-at (λ c. search needs) write-at-requires add-write-at write-at-requires-2 add-write-at-2
-    add-write-at-3 write-at-requires-3 (λ c. search needs) returns)
+put-share-spec = tie.close (tie.spec (λ c. omega (arith, c .before .before .before .pre .0)) (λ c. omega (arith, c .before .before .before .pre .0))
+    (λ c. search needs) write-at-requires add-write-at write-at-requires-2 add-write-at-2 add-write-at-3 write-at-requires-3 (λ c. search needs)
+    returns)

@@ -2,7 +2,7 @@
 use mathlib.Core.Path.{_≡_, _∙_}
 use native.Mathlib.Omega.{arith}
 use lib.ListN.{length, replicate, length-replicate}
-use Prim.Native.Nat.{ℕ, _≤_, _*_}
+use Prim.Native.Nat.{ℕ, _*_}
 use Rattle.cluster.specs.Config.{shelf}
 use mathlib.Core.List.{List}
 use Rattle.hmac.specs.Hmac.{tagSize}
@@ -11,6 +11,7 @@ use Rattle.client.specs.Steps.{tagRun}
 use Rattle.client.proofs.StampBytes.{tag-run-length}
 use Rattle.client.proofs.Offered.{run-back, servers-few}
 use borrow.Author.Needs.{needs}
+use Rattle.cluster.specs.Ranges.{mostServers}
 use Rattle.client.proofs.prepare.put_tagged.Statement.{statement}
 use Rattle.client.proofs.prepare.put_tagged.Tie as tie
 
@@ -26,30 +27,28 @@ mul-part c =
     let p = c .before .before .before .before .before .before .before .before .before .pre in
     omega (arith, c .servers .ensures, servers-few (a .t) (p .1 .0))
 
+-- the tags are read back from their array
+abbrev run : tie.After-part → List ℕ
+run c = let a = c .before .before .before .before .before .before .before .before .before .before .args in tagRun (a .keys .now) (a .stamp .now) (c .before .before .before .before .before .before .digest .result) (shelf (a .t) .servers)
+
+tags-back : (c : tie.After-part) → (length (run c) ≡ tagSize * shelf (c .before .before .before .before .before .before .before .before .before .before .args .t) .servers) × (c .part .result .now ≡ run c)
+tags-back c =
+    let a = c .before .before .before .before .before .before .before .before .before .before .args in
+    let l = tag-run-length (a .keys .now) (a .stamp .now) (c .before .before .before .before .before .before .digest .result) (shelf (a .t) .servers) in (
+      l,
+      run-back (replicate (tagSize * mostServers) 0) (run c) (tagSize * c .before .servers .result) (c .part .ensures) (c .before .before .before .before .put-tags .ensures) (omega (arith, l, c .before .servers .ensures))
+          (omega (arith, l, servers-few (a .t) (c .before .before .before .before .before .before .before .before .before .before .pre .1 .0), length-replicate {A = ℕ} (tagSize * mostServers) 0)),
+    )
+
 put-write-requires : tie.Need-put-write-requires
 put-write-requires c κs =
-    let a = c .before .before .before .before .before .before .before .before .before .before .before .before .args in
     let p = c .before .before .before .before .before .before .before .before .before .before .before .before .pre in
-    let d = c .before .before .before .before .before .before .before .before .digest .result in
-    let T : List ℕ = tagRun (a .keys .now) (a .stamp .now) d (shelf (a .t) .servers) in
-    let l : length T ≡ tagSize * shelf (a .t) .servers = tag-run-length (a .keys .now) (a .stamp .now) d (shelf (a .t) .servers) in
-    let s = c .before .before .before .servers .ensures in
-    let few : shelf (a .t) .servers ≤ 13 = servers-few (a .t) (p .1 .0) in
-    let q : c .before .before .part .result .now ≡ T = run-back (replicate 416 0) T (32 * c .before .before .before .servers .result) (c .before .before .part .ensures) (c .before .before .before .before .before .before .put-tags .ensures) (omega (arith, l, s)) (omega (arith, l, few, length-replicate {A = ℕ} 416 0)) in
-    let z : length (a .t6) ≡ nonceSize = c .before .before .before .before .before .before .before .before .before .before .before .before .good .1 .1 .1 .1 .1 .0 .1 .0 .1 in
-    (p .0, (p .1 .0, (p .1 .1 .0, (p .1 .1 .1, (z, rw q l)))))
+    let w = tags-back (c .before .before) in
+    let z : length (c .before .before .before .before .before .before .before .before .before .before .before .before .args .t6) ≡ nonceSize = c .before .before .before .before .before .before .before .before .before .before .before .before .good .1 .1 .1 .1 .1 .0 .1 .0 .1 in
+    (p .0, (p .1 .0, (p .1 .1 .0, (p .1 .1 .1, (z, rw (w .1) (w .0))))))
 
 returns : tie.Need-returns
-returns c =
-    let a = c .before .before .before .before .before .before .before .before .before .before .before .before .before .before .before .args in
-    let p = c .before .before .before .before .before .before .before .before .before .before .before .before .before .before .before .pre in
-    let d = c .before .before .before .before .before .before .before .before .before .before .before .digest .result in
-    let T : List ℕ = tagRun (a .keys .now) (a .stamp .now) d (shelf (a .t) .servers) in
-    let l : length T ≡ tagSize * shelf (a .t) .servers = tag-run-length (a .keys .now) (a .stamp .now) d (shelf (a .t) .servers) in
-    let s = c .before .before .before .before .before .before .servers .ensures in
-    let few : shelf (a .t) .servers ≤ 13 = servers-few (a .t) (p .1 .0) in
-    let q : c .before .before .before .before .before .part .result .now ≡ T = run-back (replicate 416 0) T (32 * c .before .before .before .before .before .before .servers .result) (c .before .before .before .before .before .part .ensures) (c .before .before .before .before .before .before .before .before .before .put-tags .ensures) (omega (arith, l, s)) (omega (arith, l, few, length-replicate {A = ℕ} 416 0)) in
-    c .before .before .put-write .ensures ∙ rw (q, c .before .before .before .before .before .before .before .before .before .before .before .digest .ensures)
+returns c = c .before .before .put-write .ensures ∙ rw (tags-back (c .before .before .before .before .before) .1, c .before .before .before .before .before .before .before .before .before .before .before .digest .ensures)
 
 pub put-tagged-spec : {M : Type 1} → statement M
 put-tagged-spec = tie.close (tie.spec (λ c. search needs) (λ c κs. search needs) (λ c. search needs) put-tags-requires (λ c. search needs)

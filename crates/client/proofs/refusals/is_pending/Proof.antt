@@ -8,11 +8,11 @@ use Rattle.client.proofs.refusals.is_pending.Tie as tie
 
 returns : tie.Need-returns
 unfolding inHand
-returns c = sym (not-true _ (sym (c .before .is-outside .ensures) ∙ c .if1 .taken))
+returns c = sym (not-true _ (sym (c .before .outside .ensures) ∙ c .if1 .taken))
 
 returns-2 : tie.Need-returns-2
 unfolding inHand
-returns-2 c = sym (not-false _ (sym (c .before .is-outside .ensures) ∙ c .if1 .left))
+returns-2 c = sym (not-false _ (sym (c .before .outside .ensures) ∙ c .if1 .left))
 
 pub is-pending-spec : {M : Type 1} → statement M
 is-pending-spec = tie.close (tie.spec (λ c. search needs) (λ c κs. search needs) returns returns-2)

@@ -1,10 +1,9 @@
--- `client::refusals::read_refusal` meets its contract, by those of the functions that it calls. Assumes nothing.
+-- `client::refusals::read_refusal` meets its contract: the first test that applies gives its number. Assumes nothing.
 use mathlib.Core.Path.{_≡_, sym, _∙_}
-use mathlib.Core.Bool.{true, false, not}
+use mathlib.Core.Bool.{false, not}
 use Rattle.cluster.specs.Config.{shelf}
 use Rattle.protocol.specs.ClientBytes.{inHand}
 use Rattle.cluster.specs.Ranges.{within, topClient, topNumber}
-use lib.Dec.{leb}
 use borrow.Author.Tests.{lt-leb, le-leb}
 use native.Mathlib.Omega.{arith}
 use Rattle.protocol.specs.Client.{readRefusal, badFaults}
@@ -12,49 +11,36 @@ use borrow.Author.Needs.{needs}
 use Rattle.client.proofs.refusals.read_refusal.Statement.{statement}
 use Rattle.client.proofs.refusals.read_refusal.Tie as tie
 
+-- the tests that do not apply
+past₁ : (c : tie.Else1) → badFaults (shelf (c .before .before .args .t)) ≡ false
+unfolding shelf
+past₁ c = sym (c .before .outside .ensures) ∙ c .if1 .left
+
+past₂ : (c : tie.Else2) → not (within 1 topClient (c .before .before .before .before .args .client)) ≡ false
+past₂ c = sym (c .before .outside2 .ensures) ∙ c .if2 .left
+
+past₃ : (c : tie.Else3) → inHand (c .before .before .before .before .before .before .args .call) ≡ false
+past₃ c = sym (c .before .is-pending .ensures) ∙ c .if3 .left
+
 returns : tie.Need-returns
 unfolding readRefusal shelf
-returns c =
-    let a = c .before .before .args in
-    let w₁ : badFaults (shelf (a .t)) ≡ true = sym (c .before .is-outside .ensures) ∙ c .if1 .taken in
-    rw w₁
+returns c = rw (sym (c .before .outside .ensures) ∙ c .if1 .taken)
 
 returns-2 : tie.Need-returns-2
 unfolding readRefusal shelf
-returns-2 c =
-    let a = c .before .before .before .before .args in
-    let w₁ : badFaults (shelf (a .t)) ≡ false = sym (c .before .before .before .is-outside .ensures) ∙ c .before .before .if1 .left in
-    let w₂ : not (within 1 topClient (a .client)) ≡ true = sym (c .before .is-outside2 .ensures) ∙ c .if2 .taken in
-    rw (w₁, w₂)
+returns-2 c = rw (past₁ (c .before .before), sym (c .before .outside2 .ensures) ∙ c .if2 .taken)
 
 returns-3 : tie.Need-returns-3
 unfolding readRefusal shelf
-returns-3 c =
-    let a = c .before .before .before .before .before .before .args in
-    let w₁ : badFaults (shelf (a .t)) ≡ false = sym (c .before .before .before .before .before .is-outside .ensures) ∙ c .before .before .before .before .if1 .left in
-    let w₂ : not (within 1 topClient (a .client)) ≡ false = sym (c .before .before .before .is-outside2 .ensures) ∙ c .before .before .if2 .left in
-    let w₃ : inHand (a .call) ≡ true = sym (c .before .is-pending .ensures) ∙ c .if3 .taken in
-    rw (w₁, w₂, w₃)
+returns-3 c = rw (past₁ (c .before .before .before .before), past₂ (c .before .before), sym (c .before .is-pending .ensures) ∙ c .if3 .taken)
 
 returns-4 : tie.Need-returns-4
 unfolding readRefusal shelf
-returns-4 c =
-    let a = c .before .before .before .before .before .before .before .before .args in
-    let w₁ : badFaults (shelf (a .t)) ≡ false = sym (c .before .before .before .before .before .before .before .is-outside .ensures) ∙ c .before .before .before .before .before .before .if1 .left in
-    let w₂ : not (within 1 topClient (a .client)) ≡ false = sym (c .before .before .before .before .before .is-outside2 .ensures) ∙ c .before .before .before .before .if2 .left in
-    let w₃ : inHand (a .call) ≡ false = sym (c .before .before .before .is-pending .ensures) ∙ c .before .before .if3 .left in
-    let w₄ : leb topNumber (a .call .number) ≡ true = le-leb topNumber (a .call .number) (omega arith) in
-    rw (w₁, w₂, w₃, w₄)
+returns-4 c = rw (past₁ (c .before .before .before .before .before .before), past₂ (c .before .before .before .before), past₃ (c .before .before), le-leb topNumber (c .before .before .before .before .before .before .before .before .args .call .number) (omega arith))
 
 returns-5 : tie.Need-returns-5
 unfolding readRefusal shelf
-returns-5 c =
-    let a = c .before .before .before .before .before .before .before .before .args in
-    let w₁ : badFaults (shelf (a .t)) ≡ false = sym (c .before .before .before .before .before .before .before .is-outside .ensures) ∙ c .before .before .before .before .before .before .if1 .left in
-    let w₂ : not (within 1 topClient (a .client)) ≡ false = sym (c .before .before .before .before .before .is-outside2 .ensures) ∙ c .before .before .before .before .if2 .left in
-    let w₃ : inHand (a .call) ≡ false = sym (c .before .before .before .is-pending .ensures) ∙ c .before .before .if3 .left in
-    let w₄ : leb topNumber (a .call .number) ≡ false = lt-leb topNumber (a .call .number) (omega arith) in
-    rw (w₁, w₂, w₃, w₄)
+returns-5 c = rw (past₁ (c .before .before .before .before .before .before), past₂ (c .before .before .before .before), past₃ (c .before .before), lt-leb topNumber (c .before .before .before .before .before .before .before .before .args .call .number) (omega arith))
 
 pub read-refusal-spec : {M : Type 1} → statement M
 read-refusal-spec = tie.close (tie.spec (λ c κs. search needs) returns (λ c κs. search needs) returns-2 (λ c κs. search needs) returns-3

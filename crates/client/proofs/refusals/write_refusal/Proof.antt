@@ -1,10 +1,9 @@
--- `client::refusals::write_refusal` meets its contract, by those of the functions that it calls. Assumes nothing.
+-- `client::refusals::write_refusal` meets its contract: the first test that applies gives its number. Assumes nothing.
 use mathlib.Core.Path.{_≡_, sym, _∙_}
-use mathlib.Core.Bool.{true, false, not}
+use mathlib.Core.Bool.{false, not}
 use Rattle.cluster.specs.Config.{shelf}
 use Rattle.protocol.specs.ClientBytes.{inHand}
 use Rattle.cluster.specs.Ranges.{within, topWriter, leastLength, topLength, topNumber}
-use lib.Dec.{leb}
 use borrow.Author.Tests.{lt-leb, le-leb}
 use native.Mathlib.Omega.{arith}
 use Rattle.protocol.specs.Client.{writeRefusal, badFaults}
@@ -12,61 +11,43 @@ use borrow.Author.Needs.{needs}
 use Rattle.client.proofs.refusals.write_refusal.Statement.{statement}
 use Rattle.client.proofs.refusals.write_refusal.Tie as tie
 
+-- the tests that do not apply
+past₁ : (c : tie.Else1) → badFaults (shelf (c .before .before .args .t)) ≡ false
+unfolding shelf
+past₁ c = sym (c .before .outside .ensures) ∙ c .if1 .left
+
+past₂ : (c : tie.Else2) → not (within 1 topWriter (c .before .before .before .before .args .client)) ≡ false
+past₂ c = sym (c .before .outside2 .ensures) ∙ c .if2 .left
+
+past₃ : (c : tie.Else3) → not (within leastLength topLength (c .before .before .before .before .before .before .args .n)) ≡ false
+past₃ c = sym (c .before .outside3 .ensures) ∙ c .if3 .left
+
+past₄ : (c : tie.Else4) → inHand (c .before .before .before .before .before .before .before .before .args .call) ≡ false
+past₄ c = sym (c .before .is-pending .ensures) ∙ c .if4 .left
+
 returns : tie.Need-returns
 unfolding writeRefusal shelf
-returns c =
-    let a = c .before .before .args in
-    let w₁ : badFaults (shelf (a .t)) ≡ true = sym (c .before .is-outside .ensures) ∙ c .if1 .taken in
-    rw w₁
+returns c = rw (sym (c .before .outside .ensures) ∙ c .if1 .taken)
 
 returns-2 : tie.Need-returns-2
 unfolding writeRefusal shelf
-returns-2 c =
-    let a = c .before .before .before .before .args in
-    let w₁ : badFaults (shelf (a .t)) ≡ false = sym (c .before .before .before .is-outside .ensures) ∙ c .before .before .if1 .left in
-    let w₂ : not (within 1 topWriter (a .client)) ≡ true = sym (c .before .is-outside2 .ensures) ∙ c .if2 .taken in
-    rw (w₁, w₂)
+returns-2 c = rw (past₁ (c .before .before), sym (c .before .outside2 .ensures) ∙ c .if2 .taken)
 
 returns-3 : tie.Need-returns-3
 unfolding writeRefusal shelf
-returns-3 c =
-    let a = c .before .before .before .before .before .before .args in
-    let w₁ : badFaults (shelf (a .t)) ≡ false = sym (c .before .before .before .before .before .is-outside .ensures) ∙ c .before .before .before .before .if1 .left in
-    let w₂ : not (within 1 topWriter (a .client)) ≡ false = sym (c .before .before .before .is-outside2 .ensures) ∙ c .before .before .if2 .left in
-    let w₃ : not (within leastLength topLength (a .n)) ≡ true = sym (c .before .is-outside3 .ensures) ∙ c .if3 .taken in
-    rw (w₁, w₂, w₃)
+returns-3 c = rw (past₁ (c .before .before .before .before), past₂ (c .before .before), sym (c .before .outside3 .ensures) ∙ c .if3 .taken)
 
 returns-4 : tie.Need-returns-4
 unfolding writeRefusal shelf
-returns-4 c =
-    let a = c .before .before .before .before .before .before .before .before .args in
-    let w₁ : badFaults (shelf (a .t)) ≡ false = sym (c .before .before .before .before .before .before .before .is-outside .ensures) ∙ c .before .before .before .before .before .before .if1 .left in
-    let w₂ : not (within 1 topWriter (a .client)) ≡ false = sym (c .before .before .before .before .before .is-outside2 .ensures) ∙ c .before .before .before .before .if2 .left in
-    let w₃ : not (within leastLength topLength (a .n)) ≡ false = sym (c .before .before .before .is-outside3 .ensures) ∙ c .before .before .if3 .left in
-    let w₄ : inHand (a .call) ≡ true = sym (c .before .is-pending .ensures) ∙ c .if4 .taken in
-    rw (w₁, w₂, w₃, w₄)
+returns-4 c = rw (past₁ (c .before .before .before .before .before .before), past₂ (c .before .before .before .before), past₃ (c .before .before), sym (c .before .is-pending .ensures) ∙ c .if4 .taken)
 
 returns-5 : tie.Need-returns-5
 unfolding writeRefusal shelf
-returns-5 c =
-    let a = c .before .before .before .before .before .before .before .before .before .before .args in
-    let w₁ : badFaults (shelf (a .t)) ≡ false = sym (c .before .before .before .before .before .before .before .before .before .is-outside .ensures) ∙ c .before .before .before .before .before .before .before .before .if1 .left in
-    let w₂ : not (within 1 topWriter (a .client)) ≡ false = sym (c .before .before .before .before .before .before .before .is-outside2 .ensures) ∙ c .before .before .before .before .before .before .if2 .left in
-    let w₃ : not (within leastLength topLength (a .n)) ≡ false = sym (c .before .before .before .before .before .is-outside3 .ensures) ∙ c .before .before .before .before .if3 .left in
-    let w₄ : inHand (a .call) ≡ false = sym (c .before .before .before .is-pending .ensures) ∙ c .before .before .if4 .left in
-    let w₅ : leb topNumber (a .call .number) ≡ true = le-leb topNumber (a .call .number) (omega arith) in
-    rw (w₁, w₂, w₃, w₄, w₅)
+returns-5 c = rw (past₁ (c .before .before .before .before .before .before .before .before), past₂ (c .before .before .before .before .before .before), past₃ (c .before .before .before .before), past₄ (c .before .before), le-leb topNumber (c .before .before .before .before .before .before .before .before .before .before .args .call .number) (omega arith))
 
 returns-6 : tie.Need-returns-6
 unfolding writeRefusal shelf
-returns-6 c =
-    let a = c .before .before .before .before .before .before .before .before .before .before .args in
-    let w₁ : badFaults (shelf (a .t)) ≡ false = sym (c .before .before .before .before .before .before .before .before .before .is-outside .ensures) ∙ c .before .before .before .before .before .before .before .before .if1 .left in
-    let w₂ : not (within 1 topWriter (a .client)) ≡ false = sym (c .before .before .before .before .before .before .before .is-outside2 .ensures) ∙ c .before .before .before .before .before .before .if2 .left in
-    let w₃ : not (within leastLength topLength (a .n)) ≡ false = sym (c .before .before .before .before .before .is-outside3 .ensures) ∙ c .before .before .before .before .if3 .left in
-    let w₄ : inHand (a .call) ≡ false = sym (c .before .before .before .is-pending .ensures) ∙ c .before .before .if4 .left in
-    let w₅ : leb topNumber (a .call .number) ≡ false = lt-leb topNumber (a .call .number) (omega arith) in
-    rw (w₁, w₂, w₃, w₄, w₅)
+returns-6 c = rw (past₁ (c .before .before .before .before .before .before .before .before), past₂ (c .before .before .before .before .before .before), past₃ (c .before .before .before .before), past₄ (c .before .before), lt-leb topNumber (c .before .before .before .before .before .before .before .before .before .before .args .call .number) (omega arith))
 
 pub write-refusal-spec : {M : Type 1} → statement M
 write-refusal-spec = tie.close (tie.spec (λ c κs. search needs) returns (λ c κs. search needs) returns-2 (λ c κs. search needs) returns-3

@@ -6,16 +6,16 @@ use lib.Dec.{leb}
 use native.Mathlib.Omega.{arith}
 use borrow.Author.Tests.{leb-true}
 use Rattle.protocol.specs.ClientBytes.{awaited, inHand}
-use Rattle.client.proofs.Tests.{both}
 use Rattle.client.proofs.replies.awaited_kind.Statement.{statement}
 use Rattle.client.proofs.replies.awaited_kind.Tie as tie
+use Rattle.cluster.proofs.Tests.{and-both}
 
 mul-result : tie.Need-mul-result
 unfolding inHand
 mul-result c =
     let a = c .before .before .before .before .args in
     let w : inHand (a .call) ≡ true = sym (c .before .before .before .is-pending .ensures) ∙ c .before .before .if1 .taken in
-    let r = leb-true (a .call .tally .round) 6 (both (leb 1 (a .call .tally .round)) (leb (a .call .tally .round) 6) w .1) in
+    let r = leb-true (a .call .tally .round) 6 (and-both (leb 1 (a .call .tally .round)) (leb (a .call .tally .round) 6) w .1) in
     omega arith
 
 returns : tie.Need-returns

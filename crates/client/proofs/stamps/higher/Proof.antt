@@ -1,7 +1,6 @@
 -- `client::stamps::higher` meets its contract, by those of the functions that it calls. Assumes nothing.
 use borrow.Author.Needs.{needs}
 use mathlib.Core.Path.{_≡_, sym, _∙_}
-use mathlib.Core.Bool.{true, false}
 use Prim.Native.Nat.{_<_}
 use native.Mathlib.Omega.{arith}
 use Rattle.hmac.specs.Hmac.{tagOf, tagSize}
@@ -18,23 +17,25 @@ returns c =
     let e = c .before .number4 .ensures in
     sym (stays-low (a .writers .now) (a .body .now) (a .high) (rw e at (c .if1 .taken)))
 
+-- the number is higher, and the tags compared are the stamp's and the one that the writers' key gives
+up : (c : tie.Else1) → c .before .before .before .args .high < stampAt (c .before .before .before .args .body .now) .number
+unfolding stampAt
+up c = rw (c .before .number4 .ensures) at (c .if1 .left)
+
+tags : (c : tie.After-same)
+    → let a = c .before .before .before .before .before .before .before .before .before .args in c .same .result ≡ sameList (part (a .body .now) 5 tagSize) (tagOf (a .writers .now) (part (a .body .now) 0 5))
+tags c = c .same .ensures ∙ rw (c .before .before .part2 .ensures, c .before .before .before .tag .ensures, c .before .before .before .before .part .ensures)
+
 returns-2 : tie.Need-returns-2
 unfolding stampAt
 returns-2 c =
     let a = c .before .before .before .before .before .before .before .before .before .before .args in
-    let e = c .before .before .before .before .before .before .before .before .number4 .ensures in
-    let s : sameList (part (a .body .now) 5 tagSize) (tagOf (a .writers .now) (part (a .body .now) 0 5)) ≡ true = rw (c .before .before .before .part2 .ensures, c .before .before .before .before .tag .ensures, c .before .before .before .before .before .part .ensures) at (sym (c .before .same .ensures) ∙ c .if2 .taken) in
-    let up : a .high < stampAt (a .body .now) .number = rw e at (c .before .before .before .before .before .before .before .if1 .left) in
-    e ∙ sym (raised (a .writers .now) (a .body .now) (a .high) (λ k. c .before .before .before .before .before .before .before .before .before .shared-slice-known .given k .fits) (omega (arith, c .before .before .before .before .before .before .before .before .before .before .pre)) up s)
+    c .before .before .before .before .before .before .before .before .number4 .ensures ∙ sym (raised (a .writers .now) (a .body .now) (a .high) (λ k. c .before .before .before .before .before .before .before .before .before .shared-slice-known .given k .fits) (omega (arith, c .before .before .before .before .before .before .before .before .before .before .pre)) (up (c .before .before .before .before .before .before .before)) (sym (tags (c .before)) ∙ c .if2 .taken))
 
 returns-3 : tie.Need-returns-3
-unfolding stampAt
 returns-3 c =
     let a = c .before .before .before .before .before .before .before .before .before .before .args in
-    let e = c .before .before .before .before .before .before .before .before .number4 .ensures in
-    let s : sameList (part (a .body .now) 5 tagSize) (tagOf (a .writers .now) (part (a .body .now) 0 5)) ≡ false = rw (c .before .before .before .part2 .ensures, c .before .before .before .before .tag .ensures, c .before .before .before .before .before .part .ensures) at (sym (c .before .same .ensures) ∙ c .if2 .left) in
-    let up : a .high < stampAt (a .body .now) .number = rw e at (c .before .before .before .before .before .before .before .if1 .left) in
-    sym (not-raised (a .writers .now) (a .body .now) (a .high) (λ k. c .before .before .before .before .before .before .before .before .before .shared-slice-known .given k .fits) (omega (arith, c .before .before .before .before .before .before .before .before .before .before .pre)) up s)
+    sym (not-raised (a .writers .now) (a .body .now) (a .high) (λ k. c .before .before .before .before .before .before .before .before .before .shared-slice-known .given k .fits) (omega (arith, c .before .before .before .before .before .before .before .before .before .before .pre)) (up (c .before .before .before .before .before .before .before)) (sym (tags (c .before)) ∙ c .if2 .left))
 
 pub higher-spec : {M : Type 1} → statement M
 higher-spec = tie.close (tie.spec (λ c κs. search needs) returns (λ c κs. search needs) (λ c κs. search needs) (λ c κs. search needs)

@@ -2,7 +2,7 @@
 use borrow.Author.Needs.{needs}
 use native.Mathlib.Omega.{arith}
 use mathlib.Core.Path.{_≡_, ap, _∙_}
-use Prim.Native.Nat.{_≤_, _-_, _*_, _+_}
+use Prim.Native.Nat.{_≤_, _-_, _*_}
 use lib.ListN.{length}
 use Rattle.cluster.specs.Config.{shelf}
 use Rattle.hmac.specs.Hmac.{tagSize}
@@ -11,6 +11,8 @@ use Rattle.protocol.specs.ClientBytes.{put}
 use Rattle.protocol.proofs.Puts.{put-length}
 use Rattle.client.specs.Steps.{tagRun}
 use Rattle.client.proofs.StampBytes.{put-none, tag-run-length, key-at, tag-more}
+use Rattle.cluster.specs.Ranges.{mostServers}
+use Rattle.client.proofs.Offered.{servers-few}
 use Rattle.client.proofs.stamps.put_tags.Statement.{statement}
 use Rattle.client.proofs.stamps.put_tags.Tie as tie
 
@@ -24,54 +26,34 @@ loop-holds : tie.Need-loop-holds Inv-loop μ-loop
 unfolding tagRun runOf
 loop-holds c = (omega arith, put-none (c .before .before .before .args .tags .now))
 
-mul-tag-with : tie.Need-mul-tag-with Inv-loop μ-loop
-unfolding shelf
-mul-tag-with c = let e : c .before .before .servers .result ≡ 3 * c .before .before .before .before .before .args .t + 1 = c .before .before .servers .ensures in omega arith
-
-element-copy-out-tag-with : tie.Need-element-copy-out-tag-with Inv-loop μ-loop
-unfolding shelf
-element-copy-out-tag-with c = let e : c .before .before .servers .result ≡ 3 * c .before .before .before .before .before .args .t + 1 = c .before .before .servers .ensures in omega arith
-
-mul-write-at : tie.Need-mul-write-at Inv-loop μ-loop
-unfolding shelf
-mul-write-at c = let e : c .before .before .before .before .before .servers .result ≡ 3 * c .before .before .before .before .before .before .before .before .args .t + 1 = c .before .before .before .before .before .servers .ensures in omega arith
+-- there are few servers, the tags so far have room, and the buffer keeps its length
+room : (c : tie.At-loop Inv-loop μ-loop)
+    → let a = c .before .before .before .before .args in
+    (c .before .servers .result ≤ mostServers) × (tagSize * c .before .servers .result ≤ length (a .tags .now)) × (length (c .loop .tags) ≡ length (a .tags .now))
+room c =
+    let a = c .before .before .before .before .args in
+    let p = c .before .before .before .before .pre in
+    let e = c .before .servers .ensures in
+    let l : tagSize * c .before .servers .result ≤ length (a .tags .now) = omega (arith, e, p .1) in (
+      omega (arith, e, servers-few (a .t) (p .0)),
+      l,
+      ap length (c .loop .inv .1) ∙ put-length (a .tags .now) 0 (tagRun (a .keys .now) (a .stamp .now) (a .digest) (c .loop .i)) (omega (arith, tag-run-length (a .keys .now) (a .stamp .now) (a .digest) (c .loop .i))),
+    )
 
 write-at-requires : tie.Need-write-at-requires Inv-loop μ-loop
-unfolding shelf
 write-at-requires c κs =
-    let a = c .before .before .before .before .before .before .before .before .before .args in
-    let e : c .before .before .before .before .before .before .servers .result ≡ 3 * a .t + 1 = c .before .before .before .before .before .before .servers .ensures in
-    let p : tagSize * (3 * a .t + 1) ≤ length (a .tags .now) = c .before .before .before .before .before .before .before .before .before .pre .1 in
-    let i = c .before .before .before .before .before .loop .i in
-    let r = tag-run-length (a .keys .now) (a .stamp .now) (a .digest) i in
-    let l : length (c .before .before .before .before .before .loop .tags) ≡ length (a .tags .now) = ap length (c .before .before .before .before .before .loop .inv .1) ∙ put-length (a .tags .now) 0 (tagRun (a .keys .now) (a .stamp .now) (a .digest) i) (omega (arith, r)) in
     let g : length (c .before .before .tag-with .result) ≡ tagSize = search needs in
-    omega (arith, l, g)
+    omega (arith, room (c .before .before .before .before .before), g)
 
 loop-again : tie.Need-loop-again Inv-loop μ-loop
-unfolding shelf
 loop-again c =
     let a = c .before .before .before .before .before .before .before .before .before .before .before .before .args in
-    let e : c .before .before .before .before .before .before .before .before .before .servers .result ≡ 3 * a .t + 1 = c .before .before .before .before .before .before .before .before .before .servers .ensures in
-    let p : tagSize * (3 * a .t + 1) ≤ length (a .tags .now) = c .before .before .before .before .before .before .before .before .before .before .before .before .pre .1 in
     let i = c .before .before .before .before .before .before .before .before .loop .i in
-    let r = tag-run-length (a .keys .now) (a .stamp .now) (a .digest) i in
-    let l : length (c .before .before .before .before .before .before .before .before .loop .tags) ≡ length (a .tags .now) = ap length (c .before .before .before .before .before .before .before .before .loop .inv .1) ∙ put-length (a .tags .now) 0 (tagRun (a .keys .now) (a .stamp .now) (a .digest) i) (omega (arith, r)) in
-    let z = c .before .before .write-at .ensures in
-    let y = c .before .before .before .before .before .tag-with .ensures in
-    let k = key-at (a .keys .now) i in
-    (omega arith, z ∙ rw (c .before .before .before .before .before .before .before .before .loop .inv .1, y) (tag-more (a .tags .now) (a .keys .now) (a .stamp .now) (a .digest) i _ k (omega arith)))
-
-same-length : tie.Need-same-length Inv-loop μ-loop
-unfolding shelf
-same-length c =
-    let a = c .before .before .before .before .before .args in
-    let e : c .before .before .servers .result ≡ 3 * a .t + 1 = c .before .before .servers .ensures in
-    let p : tagSize * (3 * a .t + 1) ≤ length (a .tags .now) = c .before .before .before .before .before .pre .1 in
-    let i = c .before .loop .i in
-    let r = tag-run-length (a .keys .now) (a .stamp .now) (a .digest) i in
-    let l : length (c .before .loop .tags) ≡ length (a .tags .now) = ap length (c .before .loop .inv .1) ∙ put-length (a .tags .now) 0 (tagRun (a .keys .now) (a .stamp .now) (a .digest) i) (omega (arith, r)) in
-    l
+    let k = key-at (a .keys .now) i in (
+      omega arith,
+      c .before .before .write-at .ensures
+          ∙ rw (c .before .before .before .before .before .before .before .before .loop .inv .1, c .before .before .before .before .before .tag-with .ensures) (tag-more (a .tags .now) (a .keys .now) (a .stamp .now) (a .digest) i _ k (omega (arith, room (c .before .before .before .before .before .before .before .before)))),
+    )
 
 returns : tie.Need-returns Inv-loop μ-loop
 returns c =
@@ -80,5 +62,6 @@ returns c =
     rw q at (c .before .loop .inv .1)
 
 pub put-tags-spec : {M : Type 1} → statement M
-put-tags-spec = tie.close (tie.spec Inv-loop μ-loop (λ c κs. search needs) loop-holds mul-tag-with element-copy-out-tag-with (λ c κs. search needs)
-    mul-write-at (λ c. search needs) write-at-requires (λ c. search needs) (λ c. omega arith) loop-again same-length returns)
+put-tags-spec = tie.close (tie.spec Inv-loop μ-loop (λ c κs. search needs) loop-holds (λ c. omega (arith, room (c .before)))
+    (λ c. omega (arith, room (c .before))) (λ c κs. search needs) (λ c. omega (arith, room (c .before .before .before .before))) (λ c. search needs)
+    write-at-requires (λ c. search needs) (λ c. omega arith) loop-again (λ c. room (c .before) .2) returns)

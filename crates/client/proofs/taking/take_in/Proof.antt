@@ -18,7 +18,7 @@ returns-2 : tie.Need-returns-2
 unfolding shelf
 returns-2 c =
     let a = c .before .before .before .before .before .before .before .args in
-    let w : badFaults (shelf (a .t)) ≡ true = sym (c .before .before .is-outside .ensures) ∙ c .before .if2 .taken in
+    let w : badFaults (shelf (a .t)) ≡ true = sym (c .before .before .outside .ensures) ∙ c .before .if2 .taken in
     taken-in (a .t) (a .client) (a .writers .now) (a .keys .now) (a .call) (a .kept .now) (a .reply .now) (a .out .now) (c .refused2 .result) (a .kept .now) (a .out .now) (c .before .before .before .if1 .left)
     (takes-refused (a .t) (a .client) (a .writers .now) (a .keys .now) (a .call) (a .kept .now) (a .reply .now) (a .out .now) (c .refused2 .result) 3 (c .refused2 .ensures) (take-faults (a .t) (a .client) (a .writers .now) (a .keys .now) (a .call) (a .kept .now) (a .reply .now) (a .out .now) w))
 
@@ -26,15 +26,15 @@ returns-3 : tie.Need-returns-3
 unfolding shelf
 returns-3 c =
     let a = c .before .before .before .before .before .before .before .before .before .args in
-    let w : badFaults (shelf (a .t)) ≡ false = sym (c .before .before .before .before .is-outside .ensures) ∙ c .before .before .before .if2 .left in
-    let v = sym (c .before .before .is-outside2 .ensures) ∙ c .before .if3 .taken in
+    let w : badFaults (shelf (a .t)) ≡ false = sym (c .before .before .before .before .outside .ensures) ∙ c .before .before .before .if2 .left in
+    let v = sym (c .before .before .outside2 .ensures) ∙ c .before .if3 .taken in
     taken-in (a .t) (a .client) (a .writers .now) (a .keys .now) (a .call) (a .kept .now) (a .reply .now) (a .out .now) (c .refused3 .result) (a .kept .now) (a .out .now) (c .before .before .before .before .before .if1 .left)
     (takes-refused (a .t) (a .client) (a .writers .now) (a .keys .now) (a .call) (a .kept .now) (a .reply .now) (a .out .now) (c .refused3 .result) 5 (c .refused3 .ensures) (take-reader (a .t) (a .client) (a .writers .now) (a .keys .now) (a .call) (a .kept .now) (a .reply .now) (a .out .now) w v))
 
 take-reply-requires : tie.Need-take-reply-requires
 unfolding shelf
 take-reply-requires c κs =
-    (sym (c .before .before .before .before .before .is-outside .ensures) ∙ c .before .before .before .before .if2 .left, (sym (c .before .before .before .is-outside2 .ensures) ∙ c .before .before .if3 .left, c .before .before .before .before .before .before .if1 .left))
+    (sym (c .before .before .before .before .before .outside .ensures) ∙ c .before .before .before .before .if2 .left, (sym (c .before .before .before .outside2 .ensures) ∙ c .before .before .if3 .left, c .before .before .before .before .before .before .if1 .left))
 
 returns-4 : tie.Need-returns-4
 returns-4 c =

@@ -1,24 +1,21 @@
 -- `decide::fragments_of` meets its contract: each is copied behind the others.
 -- The loop's invariant: those passed stand in their places. Nothing is assumed.
-use mathlib.Core.Path.{_≡_, refl, ap, subst}
+use mathlib.Core.Path.{_≡_, refl, subst}
 use Prim.Native.Nat.{ℕ, _+_, _-_, _*_, _≤_, _<_}
 use native.Mathlib.Omega.{arith}
 use lib.ListN.{length, getD}
 use borrow.Author.Needs.{needs}
 use Rattle.cluster.specs.Config.{shelf}
-use Rattle.erasure.specs.Fragments.{fragmentSize}
 use Rattle.protocol.specs.Values.{stampSize}
-use Rattle.protocol.specs.Rules.{highest}
 use Rattle.protocol.specs.View.{part, repliesAt, replySlot}
-use Rattle.protocol.proofs.Room.{shelf-fits}
 use Rattle.decide.specs.Steps.{fragmentOf}
-use Rattle.decide.proofs.Restoring.{fragments-room, place-room, source-length, fragments-more}
+use Rattle.decide.proofs.Restoring.{fragmentsRoom, Turn, fragments-room, turn, source-length, fragments-more}
 use Rattle.decide.proofs.content.fragments_of.Statement.{statement}
 use Rattle.decide.proofs.content.fragments_of.Tie as tie
 
 abbrev Inv-loop : tie.InvT-loop
 Inv-loop kept t n servers f k out₀ p₀ out p =
-    (p ≤ k) × (length out ≡ 1028) × ((q : ℕ) → q < p → part out (q * f) f ≡ fragmentOf kept f (getD servers q 0) .bytes)
+    (p ≤ k) × (length out ≡ fragmentsRoom) × ((q : ℕ) → q < p → part out (q * f) f ≡ fragmentOf kept f (getD servers q 0) .bytes)
 
 abbrev μ-loop : tie.MeasureT-loop
 μ-loop kept t n servers f k out₀ p₀ out p = k - p
@@ -35,109 +32,29 @@ loop-holds c = (omega arith, refl, λ q l. absurd (omega arith))
 array-read-at : tie.Need-array-read-at Inv-loop μ-loop
 array-read-at c = omega (arith, c .before .before .shares .ensures .1, c .before .before .before .before .before .pre .0 .high)
 
-sub-at : tie.Need-sub-at Inv-loop μ-loop
-sub-at c =
+-- what every number of a turn rests on, at the top of the loop's body
+fine : (c : tie.In-loop Inv-loop μ-loop)
+    → Turn (c .before .before .before .before .before .args .kept .now) (getD (c .before .before .before .before .before .args .t4) (c .before .loop .p) 0)
+    (c .before .before .before .fragment-size .result) (c .before .loop .p)
+fine c =
     let a = c .before .before .before .before .before .args in
     let p = c .before .before .before .before .before .pre in
-    let l : c .before .loop .p < shelf (a .t) .shares = omega (arith, c .before .before .shares .ensures .0) in
-    let f = shelf-fits (a .t) (p .0 .low) (p .0 .high) in
-    omega (arith, p .2 .lowest (c .before .loop .p) l, p .2 .highest (c .before .loop .p) l, f .few, f .room (a .n) (p .1), p .0 .size, c .before .before .before .fragment-size .ensures, place-room (c .before .loop .p) (shelf (a .t) .shares) (fragmentSize (shelf (a .t) .shares) (a .n)) l, fragments-room (a .t) (a .n) (p .0 .low) (p .0 .high) (p .1), ap (λ (z : ℕ). c .before .loop .p * z) (c .before .before .before .fragment-size .ensures))
-
-mul-at : tie.Need-mul-at Inv-loop μ-loop
-mul-at c =
-    let a = c .before .before .before .before .before .args in
-    let p = c .before .before .before .before .before .pre in
-    let l : c .before .loop .p < shelf (a .t) .shares = omega (arith, c .before .before .shares .ensures .0) in
-    let f = shelf-fits (a .t) (p .0 .low) (p .0 .high) in
-    omega (arith, p .2 .lowest (c .before .loop .p) l, p .2 .highest (c .before .loop .p) l, f .few, f .room (a .n) (p .1), p .0 .size, c .before .before .before .fragment-size .ensures, place-room (c .before .loop .p) (shelf (a .t) .shares) (fragmentSize (shelf (a .t) .shares) (a .n)) l, fragments-room (a .t) (a .n) (p .0 .low) (p .0 .high) (p .1), ap (λ (z : ℕ). c .before .loop .p * z) (c .before .before .before .fragment-size .ensures))
-
-add-at : tie.Need-add-at Inv-loop μ-loop
-add-at c =
-    let a = c .before .before .before .before .before .args in
-    let p = c .before .before .before .before .before .pre in
-    let l : c .before .loop .p < shelf (a .t) .shares = omega (arith, c .before .before .shares .ensures .0) in
-    let f = shelf-fits (a .t) (p .0 .low) (p .0 .high) in
-    omega (arith, p .2 .lowest (c .before .loop .p) l, p .2 .highest (c .before .loop .p) l, f .few, f .room (a .n) (p .1), p .0 .size, c .before .before .before .fragment-size .ensures, place-room (c .before .loop .p) (shelf (a .t) .shares) (fragmentSize (shelf (a .t) .shares) (a .n)) l, fragments-room (a .t) (a .n) (p .0 .low) (p .0 .high) (p .1), ap (λ (z : ℕ). c .before .loop .p * z) (c .before .before .before .fragment-size .ensures))
-
-add-at-2 : tie.Need-add-at-2 Inv-loop μ-loop
-add-at-2 c =
-    let a = c .before .before .before .before .before .args in
-    let p = c .before .before .before .before .before .pre in
-    let l : c .before .loop .p < shelf (a .t) .shares = omega (arith, c .before .before .shares .ensures .0) in
-    let f = shelf-fits (a .t) (p .0 .low) (p .0 .high) in
-    omega (arith, p .2 .lowest (c .before .loop .p) l, p .2 .highest (c .before .loop .p) l, f .few, f .room (a .n) (p .1), p .0 .size, c .before .before .before .fragment-size .ensures, place-room (c .before .loop .p) (shelf (a .t) .shares) (fragmentSize (shelf (a .t) .shares) (a .n)) l, fragments-room (a .t) (a .n) (p .0 .low) (p .0 .high) (p .1), ap (λ (z : ℕ). c .before .loop .p * z) (c .before .before .before .fragment-size .ensures))
-
-add-at-3 : tie.Need-add-at-3 Inv-loop μ-loop
-add-at-3 c =
-    let a = c .before .before .before .before .before .args in
-    let p = c .before .before .before .before .before .pre in
-    let l : c .before .loop .p < shelf (a .t) .shares = omega (arith, c .before .before .shares .ensures .0) in
-    let f = shelf-fits (a .t) (p .0 .low) (p .0 .high) in
-    omega (arith, p .2 .lowest (c .before .loop .p) l, p .2 .highest (c .before .loop .p) l, f .few, f .room (a .n) (p .1), p .0 .size, c .before .before .before .fragment-size .ensures, place-room (c .before .loop .p) (shelf (a .t) .shares) (fragmentSize (shelf (a .t) .shares) (a .n)) l, fragments-room (a .t) (a .n) (p .0 .low) (p .0 .high) (p .1), ap (λ (z : ℕ). c .before .loop .p * z) (c .before .before .before .fragment-size .ensures))
-
-mul-copy : tie.Need-mul-copy Inv-loop μ-loop
-mul-copy c =
-    let a = c .before .before .before .before .before .before .args in
-    let p = c .before .before .before .before .before .before .pre in
-    let l : c .before .before .loop .p < shelf (a .t) .shares = omega (arith, c .before .before .before .shares .ensures .0) in
-    let f = shelf-fits (a .t) (p .0 .low) (p .0 .high) in
-    omega (arith, p .2 .lowest (c .before .before .loop .p) l, p .2 .highest (c .before .before .loop .p) l, f .few, f .room (a .n) (p .1), p .0 .size, c .before .before .before .before .fragment-size .ensures, place-room (c .before .before .loop .p) (shelf (a .t) .shares) (fragmentSize (shelf (a .t) .shares) (a .n)) l, fragments-room (a .t) (a .n) (p .0 .low) (p .0 .high) (p .1), ap (λ (z : ℕ). c .before .before .loop .p * z) (c .before .before .before .before .fragment-size .ensures))
-
-add-copy : tie.Need-add-copy Inv-loop μ-loop
-add-copy c =
-    let a = c .before .before .before .before .before .before .args in
-    let p = c .before .before .before .before .before .before .pre in
-    let l : c .before .before .loop .p < shelf (a .t) .shares = omega (arith, c .before .before .before .shares .ensures .0) in
-    let f = shelf-fits (a .t) (p .0 .low) (p .0 .high) in
-    omega (arith, p .2 .lowest (c .before .before .loop .p) l, p .2 .highest (c .before .before .loop .p) l, f .few, f .room (a .n) (p .1), p .0 .size, c .before .before .before .before .fragment-size .ensures, place-room (c .before .before .loop .p) (shelf (a .t) .shares) (fragmentSize (shelf (a .t) .shares) (a .n)) l, fragments-room (a .t) (a .n) (p .0 .low) (p .0 .high) (p .1), ap (λ (z : ℕ). c .before .before .loop .p * z) (c .before .before .before .before .fragment-size .ensures))
-
-sub-copy : tie.Need-sub-copy Inv-loop μ-loop
-sub-copy c =
-    let a = c .before .before .before .before .before .before .args in
-    let p = c .before .before .before .before .before .before .pre in
-    let l : c .before .before .loop .p < shelf (a .t) .shares = omega (arith, c .before .before .before .shares .ensures .0) in
-    let f = shelf-fits (a .t) (p .0 .low) (p .0 .high) in
-    omega (arith, p .2 .lowest (c .before .before .loop .p) l, p .2 .highest (c .before .before .loop .p) l, f .few, f .room (a .n) (p .1), p .0 .size, c .before .before .before .before .fragment-size .ensures, place-room (c .before .before .loop .p) (shelf (a .t) .shares) (fragmentSize (shelf (a .t) .shares) (a .n)) l, fragments-room (a .t) (a .n) (p .0 .low) (p .0 .high) (p .1), ap (λ (z : ℕ). c .before .before .loop .p * z) (c .before .before .before .before .fragment-size .ensures))
-
-part-copy-start : tie.Need-part-copy-start Inv-loop μ-loop
-part-copy-start c =
-    let a = c .before .before .before .before .before .before .args in
-    let p = c .before .before .before .before .before .before .pre in
-    let l : c .before .before .loop .p < shelf (a .t) .shares = omega (arith, c .before .before .before .shares .ensures .0) in
-    let f = shelf-fits (a .t) (p .0 .low) (p .0 .high) in
-    omega (arith, p .2 .lowest (c .before .before .loop .p) l, p .2 .highest (c .before .before .loop .p) l, f .few, f .room (a .n) (p .1), p .0 .size, c .before .before .before .before .fragment-size .ensures, place-room (c .before .before .loop .p) (shelf (a .t) .shares) (fragmentSize (shelf (a .t) .shares) (a .n)) l, fragments-room (a .t) (a .n) (p .0 .low) (p .0 .high) (p .1), ap (λ (z : ℕ). c .before .before .loop .p * z) (c .before .before .before .before .fragment-size .ensures))
-
-part-copy-end : tie.Need-part-copy-end Inv-loop μ-loop
-part-copy-end c =
-    let a = c .before .before .before .before .before .before .args in
-    let p = c .before .before .before .before .before .before .pre in
-    let l : c .before .before .loop .p < shelf (a .t) .shares = omega (arith, c .before .before .before .shares .ensures .0) in
-    let f = shelf-fits (a .t) (p .0 .low) (p .0 .high) in
-    omega (arith, p .2 .lowest (c .before .before .loop .p) l, p .2 .highest (c .before .before .loop .p) l, f .few, f .room (a .n) (p .1), p .0 .size, c .before .before .before .before .fragment-size .ensures, place-room (c .before .before .loop .p) (shelf (a .t) .shares) (fragmentSize (shelf (a .t) .shares) (a .n)) l, fragments-room (a .t) (a .n) (p .0 .low) (p .0 .high) (p .1), ap (λ (z : ℕ). c .before .before .loop .p * z) (c .before .before .before .before .fragment-size .ensures))
+    turn (a .t) (a .kept .now) (a .t4) (a .n) (p .0) (p .1) (p .2) (c .before .before .before .fragment-size .result) (c .before .loop .p)
+    (c .before .before .before .fragment-size .ensures) (omega (arith, c .before .before .shares .ensures .0))
 
 copy-requires : tie.Need-copy-requires Inv-loop μ-loop
 copy-requires c κs =
     let a = c .before .before .before .before .before .before .before .args in
     let p = c .before .before .before .before .before .before .before .pre in
+    let f = c .before .before .before .before .before .fragment-size in
     let l : c .before .before .before .loop .p < shelf (a .t) .shares = omega (arith, c .before .before .before .before .shares .ensures .0) in
-    let e = c .before .before .before .before .before .fragment-size .ensures in
     let at : ℕ = repliesAt + replySlot * (getD (a .t4) (c .before .before .before .loop .p) 0 - 1) + (stampSize + 3) in
     omega (
       arith,
-      source-length (a .t) (a .kept .now) (a .t4) (a .n) (p .0) (p .1) (p .2) (c .before .before .before .before .before .fragment-size .result) (c .before .before .before .loop .p) at e l refl,
+      source-length (a .t) (a .kept .now) (a .t4) (a .n) (p .0) (p .1) (p .2) (f .result) (c .before .before .before .loop .p) at (f .ensures) l refl,
       c .before .before .before .loop .inv .1,
-      place-room (c .before .before .before .loop .p) (shelf (a .t) .shares) (c .before .before .before .before .before .fragment-size .result) l,
-      fragments-room (a .t) (a .n) (p .0 .low) (p .0 .high) (p .1),
-      ap (λ (z : ℕ). shelf (a .t) .shares * z) e,
+      fine (c .before .before),
     )
-
-add-p : tie.Need-add-p Inv-loop μ-loop
-add-p c =
-    let a = c .before .before .before .before .before .before .before .before .before .args in
-    let p = c .before .before .before .before .before .before .before .before .before .pre in
-    let l : c .before .before .before .before .before .loop .p < shelf (a .t) .shares = omega (arith, c .before .before .before .before .before .before .shares .ensures .0) in
-    let f = shelf-fits (a .t) (p .0 .low) (p .0 .high) in
-    omega (arith, p .2 .lowest (c .before .before .before .before .before .loop .p) l, p .2 .highest (c .before .before .before .before .before .loop .p) l, f .few, f .room (a .n) (p .1), p .0 .size, c .before .before .before .before .before .before .before .fragment-size .ensures, place-room (c .before .before .before .before .before .loop .p) (shelf (a .t) .shares) (fragmentSize (shelf (a .t) .shares) (a .n)) l, fragments-room (a .t) (a .n) (p .0 .low) (p .0 .high) (p .1), ap (λ (z : ℕ). c .before .before .before .before .before .loop .p * z) (c .before .before .before .before .before .before .before .fragment-size .ensures))
 
 loop-again : tie.Need-loop-again Inv-loop μ-loop
 loop-again c =
@@ -159,6 +76,8 @@ returns c =
     record { long = omega (arith, fragments-room (a .t) (a .n) (p .0 .low) (p .0 .high) (p .1), c .before .loop .inv .1); each = λ q l. subst (λ (f : ℕ). part (c .before .loop .out) (q * f) f ≡ fragmentOf (a .kept .now) f (getD (a .t4) q 0) .bytes) e (c .before .loop .inv .2 q (omega (arith, c .before .before .shares .ensures .0))) }
 
 pub fragments-of-spec : {M : Type 1} → statement M
-fragments-of-spec = tie.close (tie.spec Inv-loop μ-loop fragment-size-requires shares-requires loop-holds array-read-at (λ c. search needs) sub-at
-    mul-at add-at add-at-2 add-at-3 (λ c. search needs) mul-copy add-copy sub-copy part-copy-start part-copy-end copy-requires add-p
-    (λ c. omega arith) loop-again returns)
+fragments-of-spec = tie.close (tie.spec Inv-loop μ-loop fragment-size-requires shares-requires loop-holds array-read-at (λ c. search needs)
+    (λ c. omega (arith, fine c)) (λ c. omega (arith, fine c)) (λ c. omega (arith, fine c)) (λ c. omega (arith, fine c)) (λ c. omega (arith, fine c))
+    (λ c. search needs) (λ c. omega (arith, fine (c .before))) (λ c. omega (arith, fine (c .before))) (λ c. omega (arith, fine (c .before)))
+    (λ c. omega (arith, fine (c .before))) (λ c. omega (arith, fine (c .before))) copy-requires
+    (λ c. omega (arith, fine (c .before .before .before .before))) (λ c. omega arith) loop-again returns)

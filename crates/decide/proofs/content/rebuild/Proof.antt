@@ -1,54 +1,26 @@
 -- `decide::rebuild` meets its contract: the arguments of restoring are never refused. Nothing is assumed.
 use mathlib.Core.Path.{_≡_, ap, _∙_}
 use mathlib.Core.List.{List}
-use Prim.Native.Nat.{ℕ, _+_, _-_, _*_, _≤_}
+use Prim.Native.Nat.{ℕ, _-_, _*_, _≤_}
 use native.Mathlib.Omega.{arith}
-use lib.ListN.{length, take, drop, getD}
+use lib.ListN.{take}
 use borrow.Author.Needs.{needs}
 use Rattle.cluster.specs.Config.{shelf}
-use Rattle.cluster.specs.Ranges.{topLength}
+use Rattle.cluster.specs.Ranges.{topLength, topFaults}
 use Rattle.erasure.specs.Fragments.{fragmentSize}
-use Rattle.protocol.specs.Format.{value2}
-use Rattle.protocol.specs.Values.{stampSize}
-use Rattle.protocol.specs.View.{repliesAt, replySlot, replySlotOf}
+use Rattle.protocol.specs.View.{replySlotOf}
 use Rattle.erasure.specs.Steps.{restoreStep}
-use Rattle.decide.proofs.Restoring.{fragments-room, rebuilt}
-use Rattle.decide.proofs.Places.{part-length, part-of}
-use Rattle.decide.proofs.Replies.{sizeIn}
+use Rattle.decide.proofs.Restoring.{fragments-room, rebuilt, fragmentsRoom}
+use Rattle.decide.proofs.Replies.{sizeIn, lentSlot, lent-length, slot-lent}
 use Rattle.decide.proofs.content.rebuild.Statement.{statement}
 use Rattle.decide.proofs.content.rebuild.Tie as tie
 
-mul-y : tie.Need-mul-y
-mul-y c = let p = c .before .before .pre in omega (arith, p .0 .size)
-
-add-y : tie.Need-add-y
-add-y c = let p = c .before .before .pre in omega (arith, p .0 .size)
-
-add-size-of : tie.Need-add-size-of
-add-size-of c = let p = c .before .before .pre in omega (arith, p .0 .size)
-
-sub-size-of : tie.Need-sub-size-of
-sub-size-of c = let p = c .before .before .pre in omega (arith, p .0 .size)
-
-part-size-of-start : tie.Need-part-size-of-start
-part-size-of-start c = let p = c .before .before .pre in omega (arith, p .0 .size)
-
-part-size-of-end : tie.Need-part-size-of-end
-part-size-of-end c = let p = c .before .before .pre in omega (arith, p .0 .size)
-
 size-of-requires : tie.Need-size-of-requires
-size-of-requires c κs =
-    let a = c .before .before .before .args in
-    let p = c .before .before .before .pre in
-    ap length (part-of (a .kept .now) (repliesAt + replySlot * a .b) replySlot) ∙ part-length (a .kept .now) (repliesAt + replySlot * a .b) replySlot (omega (arith, p .0 .size))
+size-of-requires c κs = let a = c .before .before .before .args in let p = c .before .before .before .pre in lent-length (a .kept .now) (a .b) (p .0 .size) (p .1)
 
 -- the length read
-size : (kept : List ℕ) (b n : ℕ)
-    → n ≡ value2 (getD (take (repliesAt + replySlot * b + replySlot - (repliesAt + replySlot * b)) (drop (repliesAt + replySlot * b) kept)) (stampSize + 1) 0)
-    (getD (take (repliesAt + replySlot * b + replySlot - (repliesAt + replySlot * b)) (drop (repliesAt + replySlot * b) kept)) (stampSize + 2) 0)
-    → n ≡ sizeIn (replySlotOf kept b)
-unfolding replySlotOf
-size kept b n e = e ∙ rw (part-of kept (repliesAt + replySlot * b) replySlot)
+size : (kept : List ℕ) (b n : ℕ) → n ≡ sizeIn (lentSlot kept b) → n ≡ sizeIn (replySlotOf kept b)
+size kept b n e = e ∙ ap sizeIn (slot-lent kept b)
 
 shares-requires : tie.Need-shares-requires
 shares-requires c κs = c .before .before .before .before .pre .0 .high
@@ -60,7 +32,7 @@ fragment-size-requires c κs =
     (p .0 .low, p .0 .high, omega (arith, p .2 .top, size (a .kept .now) (a .b) (c .before .size-of .result) (c .before .size-of .ensures)))
 
 -- the fragments' room, by what was read
-room : (t n k f : ℕ) → 1 ≤ t → t ≤ 4 → n ≤ topLength → k ≡ shelf t .shares → f ≡ fragmentSize (shelf t .shares) n → k * f ≤ 1028
+room : (t n k f : ℕ) → 1 ≤ t → t ≤ topFaults → n ≤ topLength → k ≡ shelf t .shares → f ≡ fragmentSize (shelf t .shares) n → k * f ≤ fragmentsRoom
 room t n k f l h m e q = rw (e, q) (fragments-room t n l h m)
 
 mul-end : tie.Need-mul-end
@@ -106,6 +78,8 @@ returns c =
     ∙ lent (a .t) (c .before .before .before .before .before .before .before .before .before .before .before .size-of .result) (c .before .before .before .before .before .before .before .before .before .before .shares .result) (shelf (a .t) .shares) (c .before .before .before .before .before .before .before .before .before .fragment-size .result) (fragmentSize (shelf (a .t) .shares) (c .before .before .before .before .before .before .before .before .before .before .before .size-of .result)) (a .t4) (c .before .before .before .before .before .before .before .before .fragments-of .result) (a .out .now) k f)
 
 pub rebuild-spec : {M : Type 1} → statement M
-rebuild-spec = tie.close (tie.spec mul-y add-y add-size-of sub-size-of part-size-of-start part-size-of-end size-of-requires shares-requires
+rebuild-spec = tie.close (tie.spec (λ c. omega (arith, c .before .before .pre .0 .size)) (λ c. omega (arith, c .before .before .pre .0 .size))
+    (λ c. omega (arith, c .before .before .pre .0 .size)) (λ c. omega (arith, c .before .before .pre .0 .size))
+    (λ c. omega (arith, c .before .before .pre .0 .size)) (λ c. omega (arith, c .before .before .pre .0 .size)) size-of-requires shares-requires
     fragment-size-requires mul-end fragments-of-requires (λ c. omega arith) (λ c. omega arith) part-restore-end (λ c. omega arith) (λ c. omega arith)
     part-restore-end-2 (λ c κs. search needs) (λ c. search needs) returns)

@@ -5,10 +5,11 @@ use native.Mathlib.Omega.{arith}
 use borrow.Author.Tests.{not-true, not-false}
 use Rattle.cluster.specs.Config.{shelf}
 use Rattle.protocol.specs.View.{candidatesIn, replySlotOf}
-use Rattle.protocol.proofs.Room.{shelf-fits}
-use Rattle.decide.specs.Steps.{slotHeld}
+use Rattle.decide.specs.Steps.{slotHeld, agreesAt}
 use Rattle.decide.proofs.Groups.{is-marked, agrees-unmarked, leader-full, agrees-nameless, agrees-unlike, agrees-last, agrees-self}
 use Rattle.decide.proofs.Replies.{names-full}
+use Rattle.decide.proofs.Arguments.{few}
+use Rattle.cluster.specs.Ranges.{mostServers}
 use Rattle.decide.proofs.leading.agrees.Statement.{statement}
 use Rattle.decide.proofs.leading.agrees.Tie as tie
 
@@ -16,26 +17,26 @@ returns : tie.Need-returns
 returns c =
     let a = c .before .before .before .args in
     let p = c .before .before .before .pre in
-    let k : a .b < 13 = omega (arith, p .2, shelf-fits (a .t) (p .0 .low) (p .0 .high) .few) in
+    let k : a .b < mostServers = omega (arith, p .2, few (p .0)) in
     let e : a .j ≡ a .b = c .if1 .taken in
     rw (e, agrees-self (a .t) (a .t2) (a .kept .now) (a .i) (a .d .now) (p .4) (a .b) k (p .5))
 
 array-read-if2 : tie.Need-array-read-if2
-array-read-if2 c = let a = c .before .before .before .args in let p = c .before .before .before .pre in omega (arith, p .3, shelf-fits (a .t) (p .0 .low) (p .0 .high) .few)
+array-read-if2 c = let a = c .before .before .before .args in let p = c .before .before .before .pre in omega (arith, p .3, few (p .0))
 
 returns-2 : tie.Need-returns-2
 returns-2 c = let a = c .before .before .before .before .args in rw (agrees-unmarked (a .t) (a .t2) (a .kept .now) (a .i) (a .b) (a .j) (c .if2 .taken))
 
 names-at-requires : tie.Need-names-at-requires
-names-at-requires c κs = let a = c .before .before .before .before .args in let p = c .before .before .before .before .pre in (p .0, p .1, omega (arith, p .3, shelf-fits (a .t) (p .0 .low) (p .0 .high) .few))
+names-at-requires c κs = let a = c .before .before .before .before .args in let p = c .before .before .before .before .pre in (p .0, p .1, omega (arith, p .3, few (p .0)))
 
 returns-3 : tie.Need-returns-3
 returns-3 c =
     let a = c .before .before .before .before .before .before .args in
     let p = c .before .before .before .before .before .before .pre in
-    let l : a .j < 13 = omega (arith, p .3, shelf-fits (a .t) (p .0 .low) (p .0 .high) .few) in
-    let k : a .b < 13 = omega (arith, p .2, shelf-fits (a .t) (p .0 .low) (p .0 .high) .few) in
-    rw (agrees-nameless (a .t) (a .t2) (a .kept .now) (a .i) (a .d .now) (p .4) (a .b) k (p .5) (a .j) l (is-marked (a .t) (a .t2) (a .kept .now) (a .i) (a .j) (c .before .before .if2 .left))
+    let l : a .j < mostServers = omega (arith, p .3, few (p .0)) in
+    let k : a .b < mostServers = omega (arith, p .2, few (p .0)) in
+    rw (agrees-nameless (a .t) (a .t2) (a .kept .now) (a .i) (a .d .now) (p .4) (a .b) k (p .5) (a .j) l (is-marked (a .t2) (a .j) (c .before .before .if2 .left))
     (sym (c .before .names-at .ensures) ∙ not-true (c .before .names-at .result) (c .if3 .taken)))
 
 alike-at-requires : tie.Need-alike-at-requires
@@ -43,8 +44,8 @@ unfolding slotHeld
 alike-at-requires c κs =
     let a = c .before .before .before .before .before .before .args in
     let p = c .before .before .before .before .before .before .pre in
-    let l : a .j < 13 = omega (arith, p .3, shelf-fits (a .t) (p .0 .low) (p .0 .high) .few) in
-    let k : a .b < 13 = omega (arith, p .2, shelf-fits (a .t) (p .0 .low) (p .0 .high) .few) in (
+    let l : a .j < mostServers = omega (arith, p .3, few (p .0)) in
+    let k : a .b < mostServers = omega (arith, p .2, few (p .0)) in (
       p .0,
       k,
       l,
@@ -57,9 +58,9 @@ returns-4 : tie.Need-returns-4
 returns-4 c =
     let a = c .before .before .before .before .before .before .before .before .args in
     let p = c .before .before .before .before .before .before .before .before .pre in
-    let l : a .j < 13 = omega (arith, p .3, shelf-fits (a .t) (p .0 .low) (p .0 .high) .few) in
-    let k : a .b < 13 = omega (arith, p .2, shelf-fits (a .t) (p .0 .low) (p .0 .high) .few) in
-    rw (agrees-unlike (a .t) (a .t2) (a .kept .now) (a .i) (a .d .now) (p .4) (a .b) k (p .5) (a .j) l (is-marked (a .t) (a .t2) (a .kept .now) (a .i) (a .j) (c .before .before .before .before .if2 .left))
+    let l : a .j < mostServers = omega (arith, p .3, few (p .0)) in
+    let k : a .b < mostServers = omega (arith, p .2, few (p .0)) in
+    rw (agrees-unlike (a .t) (a .t2) (a .kept .now) (a .i) (a .d .now) (p .4) (a .b) k (p .5) (a .j) l (is-marked (a .t2) (a .j) (c .before .before .before .before .if2 .left))
     (sym (c .before .alike-at .ensures) ∙ not-true (c .before .alike-at .result) (c .if4 .taken)))
 
 intact-at-requires : tie.Need-intact-at-requires
@@ -73,33 +74,24 @@ intact-at-requires c κs =
           (sym (c .before .before .before .names-at .ensures) ∙ not-false (c .before .before .before .names-at .result) (c .before .before .if3 .left)),
     )
 
+-- of a slot that is marked, names and is alike, the digest decides
+last : (c : tie.After-intact-at)
+    → let a = c .before .before .before .before .before .before .before .before .before .args in agreesAt (a .t) (a .t2) (a .kept .now) (a .i) (a .b) (suc (a .j)) ≡ c .intact-at .result
+last c =
+    let a = c .before .before .before .before .before .before .before .before .before .args in
+    let p = c .before .before .before .before .before .before .before .before .before .pre in
+    let l : a .j < mostServers = omega (arith, p .3, few (p .0)) in
+    let k : a .b < mostServers = omega (arith, p .2, few (p .0)) in
+    agrees-last (a .t) (a .t2) (a .kept .now) (a .i) (a .d .now) (p .4) (a .b) k (p .5) (a .j) l (is-marked (a .t2) (a .j) (c .before .before .before .before .before .if2 .left))
+    (sym (c .before .before .before .before .names-at .ensures) ∙ not-false (c .before .before .before .before .names-at .result) (c .before .before .before .if3 .left))
+    (sym (c .before .before .alike-at .ensures) ∙ not-false (c .before .before .alike-at .result) (c .before .if4 .left))
+    ∙ sym (c .intact-at .ensures)
+
 returns-5 : tie.Need-returns-5
-returns-5 c =
-    let a = c .before .before .before .before .before .before .before .before .before .before .args in
-    let p = c .before .before .before .before .before .before .before .before .before .before .pre in
-    let l : a .j < 13 = omega (arith, p .3, shelf-fits (a .t) (p .0 .low) (p .0 .high) .few) in
-    let k : a .b < 13 = omega (arith, p .2, shelf-fits (a .t) (p .0 .low) (p .0 .high) .few) in
-    rw (
-      agrees-last (a .t) (a .t2) (a .kept .now) (a .i) (a .d .now) (p .4) (a .b) k (p .5) (a .j) l (is-marked (a .t) (a .t2) (a .kept .now) (a .i) (a .j) (c .before .before .before .before .before .before .if2 .left))
-          (sym (c .before .before .before .before .before .names-at .ensures) ∙ not-false (c .before .before .before .before .before .names-at .result) (c .before .before .before .before .if3 .left))
-          (sym (c .before .before .before .alike-at .ensures) ∙ not-false (c .before .before .before .alike-at .result) (c .before .before .if4 .left)),
-      ← c .before .intact-at .ensures,
-      c .if5 .taken,
-    )
+returns-5 c = rw (last (c .before), c .if5 .taken)
 
 returns-6 : tie.Need-returns-6
-returns-6 c =
-    let a = c .before .before .before .before .before .before .before .before .before .before .args in
-    let p = c .before .before .before .before .before .before .before .before .before .before .pre in
-    let l : a .j < 13 = omega (arith, p .3, shelf-fits (a .t) (p .0 .low) (p .0 .high) .few) in
-    let k : a .b < 13 = omega (arith, p .2, shelf-fits (a .t) (p .0 .low) (p .0 .high) .few) in
-    rw (
-      agrees-last (a .t) (a .t2) (a .kept .now) (a .i) (a .d .now) (p .4) (a .b) k (p .5) (a .j) l (is-marked (a .t) (a .t2) (a .kept .now) (a .i) (a .j) (c .before .before .before .before .before .before .if2 .left))
-          (sym (c .before .before .before .before .before .names-at .ensures) ∙ not-false (c .before .before .before .before .before .names-at .result) (c .before .before .before .before .if3 .left))
-          (sym (c .before .before .before .alike-at .ensures) ∙ not-false (c .before .before .before .alike-at .result) (c .before .before .if4 .left)),
-      ← c .before .intact-at .ensures,
-      c .if5 .left,
-    )
+returns-6 c = rw (last (c .before), c .if5 .left)
 
 pub agrees-spec : {M : Type 1} → statement M
 agrees-spec = tie.close (tie.spec returns array-read-if2 returns-2 names-at-requires returns-3 alike-at-requires returns-4 intact-at-requires

@@ -5,28 +5,29 @@ use native.Mathlib.Omega.{arith}
 use borrow.Author.Tests.{not-true, not-false}
 use Rattle.cluster.specs.Config.{shelf}
 use Rattle.protocol.specs.View.{candidatesIn, replySlotOf}
-use Rattle.protocol.proofs.Room.{shelf-fits}
 use Rattle.decide.specs.Steps.{slotHeld}
 use Rattle.decide.proofs.Groups.{is-marked, fits-unmarked, fits-marked}
 use Rattle.decide.proofs.Replies.{names-full}
+use Rattle.decide.proofs.Arguments.{few}
+use Rattle.cluster.specs.Ranges.{mostServers}
 use Rattle.decide.proofs.leading.fits.Statement.{statement}
 use Rattle.decide.proofs.leading.fits.Tie as tie
 
 array-read-if1 : tie.Need-array-read-if1
-array-read-if1 c = let a = c .before .before .args in let p = c .before .before .pre in omega (arith, p .2, shelf-fits (a .t) (p .0 .low) (p .0 .high) .few)
+array-read-if1 c = let a = c .before .before .args in let p = c .before .before .pre in omega (arith, p .2, few (p .0))
 
 returns : tie.Need-returns
 returns c = let a = c .before .before .before .args in sym (fits-unmarked (a .t) (a .t2) (a .kept .now) (a .i) (a .j) (c .if1 .taken))
 
 names-at-requires : tie.Need-names-at-requires
-names-at-requires c κs = let a = c .before .before .before .args in let p = c .before .before .before .pre in (p .0, p .1, omega (arith, p .2, shelf-fits (a .t) (p .0 .low) (p .0 .high) .few))
+names-at-requires c κs = let a = c .before .before .before .args in let p = c .before .before .before .pre in (p .0, p .1, omega (arith, p .2, few (p .0)))
 
 returns-2 : tie.Need-returns-2
 returns-2 c =
     let a = c .before .before .before .before .before .args in
     let p = c .before .before .before .before .before .pre in
-    let l : a .j < 13 = omega (arith, p .2, shelf-fits (a .t) (p .0 .low) (p .0 .high) .few) in
-    sym (fits-marked (a .t) (a .t2) (a .kept .now) (a .i) (a .d .now) (p .3) (a .j) l (is-marked (a .t) (a .t2) (a .kept .now) (a .i) (a .j) (c .before .before .if1 .left))
+    let l : a .j < mostServers = omega (arith, p .2, few (p .0)) in
+    sym (fits-marked (a .t) (a .t2) (a .kept .now) (a .i) (a .d .now) (p .3) (a .j) l (is-marked (a .t2) (a .j) (c .before .before .if1 .left))
     ∙ rw (sym (c .before .names-at .ensures) ∙ not-true (c .before .names-at .result) (c .if2 .taken)))
 
 intact-at-requires : tie.Need-intact-at-requires
@@ -44,9 +45,9 @@ returns-3 : tie.Need-returns-3
 returns-3 c =
     let a = c .before .before .before .before .before .before .args in
     let p = c .before .before .before .before .before .before .pre in
-    let l : a .j < 13 = omega (arith, p .2, shelf-fits (a .t) (p .0 .low) (p .0 .high) .few) in
+    let l : a .j < mostServers = omega (arith, p .2, few (p .0)) in
     c .intact-at .ensures
-    ∙ sym (fits-marked (a .t) (a .t2) (a .kept .now) (a .i) (a .d .now) (p .3) (a .j) l (is-marked (a .t) (a .t2) (a .kept .now) (a .i) (a .j) (c .before .before .before .if1 .left))
+    ∙ sym (fits-marked (a .t) (a .t2) (a .kept .now) (a .i) (a .d .now) (p .3) (a .j) l (is-marked (a .t2) (a .j) (c .before .before .before .if1 .left))
     ∙ rw (sym (c .before .before .names-at .ensures) ∙ not-false (c .before .before .names-at .result) (c .before .if2 .left)))
 
 pub fits-spec : {M : Type 1} → statement M

@@ -1,15 +1,16 @@
 -- `decide::group_of` meets its contract: a slot that does not fit leads none; else its members decide. Nothing is assumed.
-use mathlib.Core.Path.{_≡_, refl, sym, ap, _∙_}
+use mathlib.Core.Path.{_≡_, sym, ap, _∙_}
 use Prim.Native.Nat.{ℕ, _≤_}
 use native.Mathlib.Numerals.{add-one}
 use native.Mathlib.Omega.{arith}
 use lib.ListN.{length, take}
 use borrow.Author.Tests.{not-true, not-false}
 use Rattle.cluster.specs.Config.{shelf}
-use Rattle.protocol.proofs.Room.{shelf-fits}
 use Rattle.decide.specs.Steps.{membersAt}
 use Rattle.decide.proofs.Groups.{leads-unfit, members-most, leads-few, leads-enough}
 use Rattle.decide.proofs.Led.{nobody-leads, slot-leads}
+use Rattle.decide.proofs.Arguments.{few}
+use borrow.Author.Needs.{needs}
 use Rattle.decide.proofs.leading.group_of.Statement.{statement}
 use Rattle.decide.proofs.leading.group_of.Tie as tie
 
@@ -18,8 +19,8 @@ fits-requires c κs = let p = c .before .before .pre in (p .0, p .1, p .2, p .3)
 
 returns : tie.Need-returns
 returns c =
-    let a = c .before .before .before .before .args in
-    nobody-leads (a .t) (a .marks) (a .kept .now) (a .i) (a .b) _ refl (leads-unfit (a .t) (a .marks) (a .kept .now) (a .i) (a .b) (sym (c .before .fits2 .ensures) ∙ not-true (c .before .fits2 .result) (c .if1 .taken)))
+    let a = c .before .before .before .before .before .args in
+    nobody-leads (a .t) (a .marks) (a .kept .now) (a .i) (a .b) _ (c .no-group .ensures) (leads-unfit (a .t) (a .marks) (a .kept .now) (a .i) (a .b) (sym (c .before .before .fits2 .ensures) ∙ not-true (c .before .before .fits2 .result) (c .before .if1 .taken)))
 
 members-of-requires : tie.Need-members-of-requires
 members-of-requires c κs = let p = c .before .before .before .before .pre in (p .0, p .1, p .2, p .3, sym (c .before .fits2 .ensures) ∙ not-false (c .before .fits2 .result) (c .if1 .left))
@@ -29,13 +30,10 @@ shares-requires c κs = c .before .before .before .before .before .pre .0 .high
 
 returns-2 : tie.Need-returns-2
 returns-2 c =
-    let a = c .before .before .before .before .before .before .before .before .args in
-    nobody-leads (a .t) (a .marks) (a .kept .now) (a .i) (a .b) _ refl
-    (leads-few (a .t) (a .marks) (a .kept .now) (a .i) (a .b) (sym (c .before .before .before .before .before .fits2 .ensures) ∙ not-false (c .before .before .before .before .before .fits2 .result) (c .before .before .before .before .if1 .left))
-    (omega (arith, c .if2 .taken, c .before .before .before .members-of .ensures .count, c .before .before .shares .ensures .0)))
-
-add-t12 : tie.Need-add-t12
-add-t12 c = let p = c .before .before .before .before .before .before .before .before .before .pre in omega (arith, p .2, shelf-fits (c .before .before .before .before .before .before .before .before .before .args .t) (p .0 .low) (p .0 .high) .few)
+    let a = c .before .before .before .before .before .before .before .before .before .args in
+    nobody-leads (a .t) (a .marks) (a .kept .now) (a .i) (a .b) _ (c .no-group2 .ensures)
+    (leads-few (a .t) (a .marks) (a .kept .now) (a .i) (a .b) (sym (c .before .before .before .before .before .before .fits2 .ensures) ∙ not-false (c .before .before .before .before .before .before .fits2 .result) (c .before .before .before .before .before .if1 .left))
+    (omega (arith, c .before .if2 .taken, c .before .before .before .before .members-of .ensures .count, c .before .before .before .shares .ensures .0)))
 
 returns-3 : tie.Need-returns-3
 returns-3 c =
@@ -48,4 +46,5 @@ returns-3 c =
     (ap (λ (x : ℕ). take x (c .before .before .before .before .members-of .result .servers)) k ∙ m .these)
 
 pub group-of-spec : {M : Type 1} → statement M
-group-of-spec = tie.close (tie.spec fits-requires returns members-of-requires shares-requires returns-2 add-t12 returns-3)
+group-of-spec = tie.close (tie.spec fits-requires (λ c κs. search needs) returns members-of-requires shares-requires (λ c κs. search needs) returns-2
+    (λ c. let p = c .before .before .before .before .before .before .before .before .before .pre in omega (arith, p .2, few (p .0))) returns-3)

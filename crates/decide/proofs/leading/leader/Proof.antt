@@ -1,6 +1,6 @@
 -- `decide::leader` meets its contract: the digest of the nonce is made once; then slot by slot.
 -- The loop's invariant: no slot passed leads. Nothing is assumed.
-use mathlib.Core.Path.{_≡_, refl, sym, ap, _∙_}
+use mathlib.Core.Path.{_≡_, sym, ap, _∙_}
 use Prim.Native.Nat.{_+_, _-_, _*_, _≤_}
 use native.Mathlib.Omega.{arith}
 use borrow.Author.Needs.{needs}
@@ -20,27 +20,6 @@ Inv-loop kept marks t i at d s b₀ b = (b ≤ s) × (leaderAt t marks kept i b 
 
 abbrev μ-loop : tie.MeasureT-loop
 μ-loop kept marks t i at d s b₀ b = s - b
-
-mul-at : tie.Need-mul-at Inv-loop μ-loop
-mul-at c = let p = c .before .pre in omega (arith, p .0 .size)
-
-add-at : tie.Need-add-at Inv-loop μ-loop
-add-at c = let p = c .before .pre in omega (arith, p .0 .size)
-
-add-at-2 : tie.Need-add-at-2 Inv-loop μ-loop
-add-at-2 c = let p = c .before .pre in omega (arith, p .0 .size)
-
-add-digest : tie.Need-add-digest Inv-loop μ-loop
-add-digest c = let p = c .before .pre in omega (arith, p .0 .size)
-
-sub-digest : tie.Need-sub-digest Inv-loop μ-loop
-sub-digest c = let p = c .before .pre in omega (arith, p .0 .size)
-
-part-digest-start : tie.Need-part-digest-start Inv-loop μ-loop
-part-digest-start c = let p = c .before .pre in omega (arith, p .0 .size)
-
-part-digest-end : tie.Need-part-digest-end Inv-loop μ-loop
-part-digest-end c = let p = c .before .pre in omega (arith, p .0 .size)
 
 servers-requires : tie.Need-servers-requires Inv-loop μ-loop
 servers-requires c κs = c .before .before .before .pre .0 .high
@@ -73,11 +52,13 @@ loop-again c =
 
 returns-2 : tie.Need-returns-2 Inv-loop μ-loop
 returns-2 c =
-    let a = c .before .before .before .before .before .before .args in
-    let e : c .before .loop .b ≡ shelf (a .t) .servers = omega (arith, c .before .before .servers .ensures .0) in
-    no-group (a .t) (a .marks) (a .kept .now) (a .i) (leaderAt (a .t) (a .marks) (a .kept .now) (a .i) (shelf (a .t) .servers)) _ refl
-    (sym (ap (leaderAt (a .t) (a .marks) (a .kept .now) (a .i)) e) ∙ c .before .loop .inv .1)
+    let a = c .before .before .before .before .before .before .before .args in
+    let e : c .before .before .loop .b ≡ shelf (a .t) .servers = omega (arith, c .before .before .before .servers .ensures .0) in
+    no-group (a .t) (a .marks) (a .kept .now) (a .i) (leaderAt (a .t) (a .marks) (a .kept .now) (a .i) (shelf (a .t) .servers)) _ (c .no-group .ensures)
+    (sym (ap (leaderAt (a .t) (a .marks) (a .kept .now) (a .i)) e) ∙ c .before .before .loop .inv .1)
 
 pub leader-spec : {M : Type 1} → statement M
-leader-spec = tie.close (tie.spec Inv-loop μ-loop mul-at add-at add-at-2 add-digest sub-digest part-digest-start part-digest-end
-    (λ c κs. search needs) servers-requires loop-holds (λ c. search needs) group-of-requires returns add-b (λ c. omega arith) loop-again returns-2)
+leader-spec = tie.close (tie.spec Inv-loop μ-loop (λ c. omega (arith, c .before .pre .0 .size)) (λ c. omega (arith, c .before .pre .0 .size))
+    (λ c. omega (arith, c .before .pre .0 .size)) (λ c. omega (arith, c .before .pre .0 .size)) (λ c. omega (arith, c .before .pre .0 .size))
+    (λ c. omega (arith, c .before .pre .0 .size)) (λ c. omega (arith, c .before .pre .0 .size)) (λ c κs. search needs) servers-requires loop-holds
+    (λ c. search needs) group-of-requires returns add-b (λ c. omega arith) loop-again (λ c κs. search needs) returns-2)

@@ -1,5 +1,5 @@
 -- `decide::tried` meets its contract: the rank, then the list, then the groups. Nothing is assumed.
-use mathlib.Core.Path.{refl, sym, _∙_}
+use mathlib.Core.Path.{sym, _∙_}
 use mathlib.Core.Bool.{cond}
 use Prim.Native.Nat.{suc}
 use borrow.Author.Needs.{needs}
@@ -16,17 +16,17 @@ use Rattle.decide.proofs.leading.tried.Tie as tie
 
 returns : tie.Need-returns
 returns c =
-    let a = c .before .before .before .args in
+    let a = c .before .before .before .before .args in
     let n = leaderAt (a .t) (a .marks) (a .kept .now) (a .i) (shelf (a .t) .servers) in
-    no-group (a .t) (a .marks) (a .kept .now) (a .i) (cond (triedAt (a .t) (a .kept .now) (a .key) (a .i)) n 0) _ refl
-    (rw (other-rank (a .t) (a .kept .now) (a .key) (a .i) (λ e. c .if1 .taken (c .before .rank-at .ensures ∙ sym (candidate-rank (shelf (a .t)) (a .kept .now) (a .i) (c .before .before .before .pre .1)) ∙ e))))
+    no-group (a .t) (a .marks) (a .kept .now) (a .i) (cond (triedAt (a .t) (a .kept .now) (a .key) (a .i)) n 0) _ (c .no-group .ensures)
+    (rw (other-rank (a .t) (a .kept .now) (a .key) (a .i) (λ e. c .before .if1 .taken (c .before .before .rank-at .ensures ∙ sym (candidate-rank (shelf (a .t)) (a .kept .now) (a .i) (c .before .before .before .before .pre .1)) ∙ e))))
 
 returns-2 : tie.Need-returns-2
 returns-2 c =
-    let a = c .before .before .before .before .before .args in
+    let a = c .before .before .before .before .before .before .args in
     let n = leaderAt (a .t) (a .marks) (a .kept .now) (a .i) (shelf (a .t) .servers) in
-    no-group (a .t) (a .marks) (a .kept .now) (a .i) (cond (triedAt (a .t) (a .kept .now) (a .key) (a .i)) n 0) _ refl
-    (rw (not-listed (a .t) (a .kept .now) (a .key) (a .i) (bit-some (enters (candidatesIn (shelf (a .t)) (a .kept .now)) (suc (a .i))) (sym (c .before .entry .ensures) ∙ c .if2 .taken))))
+    no-group (a .t) (a .marks) (a .kept .now) (a .i) (cond (triedAt (a .t) (a .kept .now) (a .key) (a .i)) n 0) _ (c .no-group2 .ensures)
+    (rw (not-listed (a .t) (a .kept .now) (a .key) (a .i) (bit-some (enters (candidatesIn (shelf (a .t)) (a .kept .now)) (suc (a .i))) (sym (c .before .before .entry .ensures) ∙ c .before .if2 .taken))))
 
 returns-3 : tie.Need-returns-3
 returns-3 c =
@@ -36,5 +36,5 @@ returns-3 c =
     (c .leader .ensures)
 
 pub tried-spec : {M : Type 1} → statement M
-tried-spec = tie.close (tie.spec (λ c. search needs) (λ c. search needs) (λ c κs. search needs) returns (λ c κs. search needs) returns-2
-    (λ c κs. search needs) returns-3)
+tried-spec = tie.close (tie.spec (λ c. search needs) (λ c. search needs) (λ c κs. search needs) (λ c κs. search needs) returns (λ c κs. search needs)
+    (λ c κs. search needs) returns-2 (λ c κs. search needs) returns-3)

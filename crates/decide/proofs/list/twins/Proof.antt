@@ -8,12 +8,6 @@ use Rattle.decide.proofs.Places.{part-of, same-slots}
 use Rattle.decide.proofs.list.twins.Statement.{statement}
 use Rattle.decide.proofs.list.twins.Tie as tie
 
-mul-n : tie.Need-mul-n
-mul-n c = omega (arith, c .servers .ensures .1)
-
-add-n : tie.Need-add-n
-add-n c = omega (arith, c .servers .ensures .1)
-
 returns : tie.Need-returns
 returns c =
     let a = c .before .before .before .before .before .args in
@@ -24,6 +18,6 @@ returns c =
     (p .0 .size) (p .1) (p .2))
 
 pub twins-spec : {M : Type 1} → statement M
-twins-spec = tie.close (tie.spec (λ c κs. search needs) mul-n add-n (λ c. search needs) (λ c. search needs) (λ c. search needs) (λ c. search needs)
+twins-spec = tie.close (tie.spec (λ c κs. search needs) (λ c. omega (arith, c .servers .ensures .1)) (λ c. omega (arith, c .servers .ensures .1))
     (λ c. search needs) (λ c. search needs) (λ c. search needs) (λ c. search needs) (λ c. search needs) (λ c. search needs) (λ c. search needs)
-    (λ c. search needs) (λ c κs. search needs) returns)
+    (λ c. search needs) (λ c. search needs) (λ c. search needs) (λ c. search needs) (λ c. search needs) (λ c κs. search needs) returns)

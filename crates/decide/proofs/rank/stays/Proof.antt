@@ -12,7 +12,8 @@ use Rattle.protocol.specs.Rules.{countTo}
 use Rattle.protocol.specs.View.{repliesAt, replySlot, marked, repliesIn}
 use Rattle.decide.specs.Steps.{bit, rankAt, ranksBelow, stays}
 use Rattle.decide.proofs.Ranks.{below-slot}
-use Rattle.decide.proofs.Counted.{bit-le, count-more, count-le, count-none, quorum-of}
+use Rattle.protocol.proofs.Marks.{count-le}
+use Rattle.decide.proofs.Counted.{bit-le, count-more, count-none, quorum-of}
 use Rattle.decide.proofs.rank.stays.Statement.{statement}
 use Rattle.decide.proofs.rank.stays.Tie as tie
 

@@ -1,15 +1,16 @@
 -- `decide::alike` meets its contract: with equal lengths the rest stands at the same places, one after the other. Nothing is assumed.
 use mathlib.Core.Path.{_≡_, sym, ap, _∙_}
 use mathlib.Core.List.{List}
-use Prim.Native.Nat.{ℕ, _+_, _-_, _*_}
+use Prim.Native.Nat.{ℕ, _+_, _-_, _*_, _≤_}
 use native.Mathlib.Omega.{arith}
-use lib.ListN.{take, drop}
+use lib.ListN.{take, drop, length}
 use borrow.Author.Needs.{needs}
 use Rattle.cluster.specs.Config.{shelf}
 use Rattle.erasure.specs.Fragments.{fragmentSize}
 use Rattle.protocol.specs.Values.{sameList, digestSize, digestsSize, tagsSize}
-use Rattle.protocol.specs.View.{part}
+use Rattle.protocol.specs.View.{part, replySlot}
 use Rattle.decide.proofs.Replies.{digestsIn, alike-not, alike-in}
+use Rattle.hmac.specs.Hmac.{tagSize}
 use Rattle.decide.proofs.reply.alike.Statement.{statement}
 use Rattle.decide.proofs.reply.alike.Tie as tie
 
@@ -25,41 +26,17 @@ digests-at-requires c κs = let p = c .before .before .before .before .before .p
 servers-requires : tie.Need-servers-requires
 servers-requires c κs = c .before .before .before .before .before .before .pre .1
 
-mul-e : tie.Need-mul-e
-mul-e c = let r = c .before .digests-at .ensures .room in omega (arith, r, c .servers .ensures .0)
-
-add-e : tie.Need-add-e
-add-e c = let r = c .before .digests-at .ensures .room in omega (arith, r, c .servers .ensures .0)
-
-add-e-2 : tie.Need-add-e-2
-add-e-2 c = let r = c .before .digests-at .ensures .room in omega (arith, r, c .servers .ensures .0)
-
 servers-requires-2 : tie.Need-servers-requires-2
 servers-requires-2 c κs = c .before .before .before .before .before .before .before .pre .1
 
-mul-e-2 : tie.Need-mul-e-2
-mul-e-2 c = let r = c .before .before .digests-at .ensures .room in let p = c .before .before .before .before .before .before .before .before .pre in omega (arith, r, c .before .servers .ensures .0, c .servers2 .ensures .0, p .2)
-
-add-e-3 : tie.Need-add-e-3
-add-e-3 c = let r = c .before .before .digests-at .ensures .room in let p = c .before .before .before .before .before .before .before .before .pre in omega (arith, r, c .before .servers .ensures .0, c .servers2 .ensures .0, p .2)
-
-sub-same : tie.Need-sub-same
-sub-same c = let r = c .before .before .digests-at .ensures .room in let p = c .before .before .before .before .before .before .before .before .pre in omega (arith, r, c .before .servers .ensures .0, c .servers2 .ensures .0, p .2)
-
-part-same-start : tie.Need-part-same-start
-part-same-start c = let r = c .before .before .digests-at .ensures .room in let p = c .before .before .before .before .before .before .before .before .pre in omega (arith, r, c .before .servers .ensures .0, c .servers2 .ensures .0, p .2)
-
-part-same-end : tie.Need-part-same-end
-part-same-end c = let r = c .before .before .digests-at .ensures .room in let p = c .before .before .before .before .before .before .before .before .pre in omega (arith, r, c .before .servers .ensures .0, c .servers2 .ensures .0, p .2)
-
-sub-same-2 : tie.Need-sub-same-2
-sub-same-2 c = let r = c .before .before .before .digests-at .ensures .room in let p = c .before .before .before .before .before .before .before .before .before .pre in omega (arith, r, c .before .before .servers .ensures .0, c .before .servers2 .ensures .0, p .3)
-
-part-same-start-2 : tie.Need-part-same-start-2
-part-same-start-2 c = let r = c .before .before .before .digests-at .ensures .room in let p = c .before .before .before .before .before .before .before .before .before .pre in omega (arith, r, c .before .before .servers .ensures .0, c .before .servers2 .ensures .0, p .3)
-
-part-same-end-2 : tie.Need-part-same-end-2
-part-same-end-2 c = let r = c .before .before .before .digests-at .ensures .room in let p = c .before .before .before .before .before .before .before .before .before .pre in omega (arith, r, c .before .before .servers .ensures .0, c .before .servers2 .ensures .0, p .3)
+-- the runs end within both replies
+fine : (c : tie.After-servers2)
+    → (length (c .before .before .before .before .before .before .before .before .args .a .now) ≡ replySlot)
+    × (length (c .before .before .before .before .before .before .before .before .args .b .now) ≡ replySlot)
+    × (c .before .before .digests-at .result + digestSize * c .before .servers .result + digestSize + tagSize * c .servers2 .result ≤ replySlot)
+fine c =
+    let p = c .before .before .before .before .before .before .before .before .pre in
+    (p .2, p .3, omega (arith, c .before .before .digests-at .ensures .room, c .before .servers .ensures .0, c .servers2 .ensures .0))
 
 returns-2 : tie.Need-returns-2
 returns-2 c =
@@ -75,16 +52,17 @@ returns-2 c =
     let l : at + 32 * m + 32 + 32 * o - at ≡ digestsSize (shelf (a .t)) + digestSize + tagsSize (shelf (a .t)) = omega (arith, c .before .before .before .before .servers .ensures .0, c .before .before .before .servers2 .ensures .0) in
     c .same .ensures
     ∙ cuts (a .a .now) (a .b .now) at (digestsIn (shelf (a .t)) (a .a .now)) (at + 32 * m + 32 + 32 * o - at) (digestsSize (shelf (a .t)) + digestSize + tagsSize (shelf (a .t))) e l
-    ∙ sym (alike-in (shelf (a .t)) (a .a .now) (a .b .now) (p .4) (p .5) (sym (c .before .before .before .before .before .before .before .size-of2 .ensures) ∙ same-number (c .before .before .before .before .before .before .before .size-of2 .result) (c .before .before .before .before .before .before .before .before .size-of .result) (c .before .before .before .before .before .before .if1 .left) ∙ c .before .before .before .before .before .before .before .before .size-of .ensures)
+    ∙ sym (alike-in (shelf (a .t)) (a .a .now) (a .b .now) (p .4) (p .5) (sym (c .before .before .before .before .before .before .before .size-of2 .ensures) ∙ c .before .before .before .before .before .before .if1 .left ∙ c .before .before .before .before .before .before .before .before .size-of .ensures)
     (omega (arith, r .room, e, p .2)) (omega (arith, r .room, e, p .3)))
   where
     cuts : (a b : List ℕ) (x y n m : ℕ) → x ≡ y → n ≡ m → sameList (take n (drop x a)) (take n (drop x b)) ≡ sameList (part a y m) (part b y m)
     cuts a b x y n m e l = unfold part in rw (e, l)
 
-    same-number : (x y : ℕ) → x ≡ y → x ≡ y
-    same-number x y e = e
-
 pub alike-spec : {M : Type 1} → statement M
-alike-spec = tie.close (tie.spec (λ c κs. search needs) (λ c κs. search needs) returns digests-at-requires servers-requires mul-e add-e add-e-2
-    servers-requires-2 mul-e-2 add-e-3 sub-same part-same-start part-same-end sub-same-2 part-same-start-2 part-same-end-2 (λ c κs. search needs)
+alike-spec = tie.close (tie.spec (λ c κs. search needs) (λ c κs. search needs) returns digests-at-requires servers-requires
+    (λ c. omega (arith, c .before .digests-at .ensures .room, c .servers .ensures .0))
+    (λ c. omega (arith, c .before .digests-at .ensures .room, c .servers .ensures .0))
+    (λ c. omega (arith, c .before .digests-at .ensures .room, c .servers .ensures .0)) servers-requires-2 (λ c. omega (arith, fine c))
+    (λ c. omega (arith, fine c)) (λ c. omega (arith, fine c)) (λ c. omega (arith, fine c)) (λ c. omega (arith, fine c))
+    (λ c. omega (arith, fine (c .before))) (λ c. omega (arith, fine (c .before))) (λ c. omega (arith, fine (c .before))) (λ c κs. search needs)
     returns-2)

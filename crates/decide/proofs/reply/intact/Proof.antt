@@ -1,9 +1,9 @@
 -- `decide::intact` meets its contract: the fragment and its digest stand where the length says. Nothing is assumed.
 use mathlib.Core.Path.{_≡_, sym, ap, _∙_}
 use mathlib.Core.List.{List}
-use Prim.Native.Nat.{ℕ, _+_, _-_, _*_}
+use Prim.Native.Nat.{ℕ, _+_, _-_, _*_, _≤_}
 use native.Mathlib.Omega.{arith}
-use lib.ListN.{take, drop}
+use lib.ListN.{length, take, drop}
 use borrow.Author.Needs.{needs}
 use Rattle.cluster.specs.Config.{shelf}
 use Rattle.sha256.specs.Sha256.{sha256}
@@ -18,32 +18,13 @@ use Rattle.decide.proofs.reply.intact.Tie as tie
 digests-at-requires : tie.Need-digests-at-requires
 digests-at-requires c κs = let p = c .before .before .pre in (p .0, p .1, omega (arith, c .size-of .ensures, p .3 .top))
 
-sub-digest : tie.Need-sub-digest
-sub-digest c = let r = c .digests-at .ensures in omega (arith, r .room, r .place, c .before .before .before .pre .2)
-
-part-digest-start : tie.Need-part-digest-start
-part-digest-start c = let r = c .digests-at .ensures in omega (arith, r .room, r .place, c .before .before .before .pre .2)
-
-part-digest-end : tie.Need-part-digest-end
-part-digest-end c = let r = c .digests-at .ensures in omega (arith, r .room, r .place, c .before .before .before .pre .2)
-
-mul-at : tie.Need-mul-at
-mul-at c = let r = c .before .before .digests-at .ensures in let p = c .before .before .before .before .before .pre in omega (arith, r .room, p .4)
-
-add-at : tie.Need-add-at
-add-at c = let r = c .before .before .digests-at .ensures in let p = c .before .before .before .before .before .pre in omega (arith, r .room, p .4)
-
-add-same : tie.Need-add-same
-add-same c = let r = c .before .before .before .digests-at .ensures in let p = c .before .before .before .before .before .before .pre in omega (arith, r .room, p .4, p .2)
-
-sub-same : tie.Need-sub-same
-sub-same c = let r = c .before .before .before .digests-at .ensures in let p = c .before .before .before .before .before .before .pre in omega (arith, r .room, p .4, p .2)
-
-part-same-start : tie.Need-part-same-start
-part-same-start c = let r = c .before .before .before .digests-at .ensures in let p = c .before .before .before .before .before .before .pre in omega (arith, r .room, p .4, p .2)
-
-part-same-end : tie.Need-part-same-end
-part-same-end c = let r = c .before .before .before .digests-at .ensures in let p = c .before .before .before .before .before .before .pre in omega (arith, r .room, p .4, p .2)
+-- the digest of server j + 1's fragment ends within the reply
+fine : (c : tie.After-digests-at)
+    → (stampSize + 3 ≤ c .digests-at .result) × (c .digests-at .result + digestSize * c .before .before .before .args .j + digestSize ≤ length (c .before .before .before .args .reply .now))
+fine c =
+    let r = c .digests-at .ensures in
+    let p = c .before .before .before .pre in
+    (omega (arith, r .place), omega (arith, r .room, p .2, p .4))
 
 returns : tie.Need-returns
 returns c =
@@ -65,5 +46,8 @@ returns c =
     cut d at n m e = unfold part in ap (λ (k : ℕ). take k (drop at d)) e
 
 pub intact-spec : {M : Type 1} → statement M
-intact-spec = tie.close (tie.spec (λ c κs. search needs) digests-at-requires (λ c. search needs) sub-digest part-digest-start part-digest-end
-    (λ c κs. search needs) mul-at add-at (λ c. search needs) add-same sub-same part-same-start part-same-end (λ c κs. search needs) returns)
+intact-spec = tie.close (tie.spec (λ c κs. search needs) digests-at-requires (λ c. search needs) (λ c. omega (arith, fine c))
+    (λ c. omega (arith, fine c)) (λ c. omega (arith, fine c)) (λ c κs. search needs) (λ c. omega (arith, fine (c .before .before)))
+    (λ c. omega (arith, fine (c .before .before))) (λ c. search needs) (λ c. omega (arith, fine (c .before .before .before)))
+    (λ c. omega (arith, fine (c .before .before .before))) (λ c. omega (arith, fine (c .before .before .before)))
+    (λ c. omega (arith, fine (c .before .before .before))) (λ c κs. search needs) returns)

@@ -47,21 +47,6 @@ digests-at-requires c κs = let p = c .before .before .before .before .before .b
 servers-requires : tie.Need-servers-requires
 servers-requires c κs = c .before .before .before .before .before .before .before .before .before .before .before .before .before .pre .1
 
-mul-at : tie.Need-mul-at
-mul-at c = let r = c .before .digests-at .ensures .room in omega (arith, r, c .servers .ensures .0)
-
-add-at : tie.Need-add-at
-add-at c = let r = c .before .digests-at .ensures .room in omega (arith, r, c .servers .ensures .0)
-
-add-same : tie.Need-add-same
-add-same c = let r = c .before .digests-at .ensures .room in omega (arith, r, c .servers .ensures .0)
-
-sub-same-3 : tie.Need-sub-same-3
-sub-same-3 c = let r = c .before .digests-at .ensures .room in omega (arith, r, c .servers .ensures .0)
-
-part-same-start-3 : tie.Need-part-same-start-3
-part-same-start-3 c = let r = c .before .digests-at .ensures .room in omega (arith, r, c .servers .ensures .0)
-
 part-same-end-3 : tie.Need-part-same-end-3
 part-same-end-3 c = let r = c .before .digests-at .ensures .room in omega (arith, r, c .servers .ensures .0, c .before .before .before .before .before .before .before .before .before .before .before .before .before .before .pre .2)
 
@@ -83,4 +68,8 @@ returns-5 c =
 pub names-spec : {M : Type 1} → statement M
 names-spec = tie.close (tie.spec (λ c. search needs) returns (λ c κs. search needs) returns-2 returns-3 (λ c. search needs) (λ c. search needs)
     (λ c. search needs) (λ c. search needs) (λ c. search needs) (λ c. search needs) (λ c κs. search needs) returns-4 digests-at-requires
-    servers-requires mul-at add-at add-same sub-same-3 part-same-start-3 part-same-end-3 (λ c κs. search needs) returns-5)
+    servers-requires (λ c. omega (arith, c .before .digests-at .ensures .room, c .servers .ensures .0))
+    (λ c. omega (arith, c .before .digests-at .ensures .room, c .servers .ensures .0))
+    (λ c. omega (arith, c .before .digests-at .ensures .room, c .servers .ensures .0))
+    (λ c. omega (arith, c .before .digests-at .ensures .room, c .servers .ensures .0))
+    (λ c. omega (arith, c .before .digests-at .ensures .room, c .servers .ensures .0)) part-same-end-3 (λ c κs. search needs) returns-5)

@@ -1,12 +1,13 @@
--- `decide::shares` meets its contract: document 01's number of fragments that give a content back. Nothing is assumed.
-use borrow.Author.Needs.{needs}
+-- `decide::sizes::shares` meets its contract: document 01's number of fragments that give a content back. Nothing is assumed.
+use native.Mathlib.Omega.{arith}
 use Rattle.cluster.specs.Config.{shelf}
+use borrow.Author.Needs.{needs}
 use Rattle.decide.proofs.sizes.shares.Statement.{statement}
 use Rattle.decide.proofs.sizes.shares.Tie as tie
 
 returns : tie.Need-returns
 unfolding shelf
-returns c = search needs
+returns c = (c .shares .ensures, omega (arith, c .shares .ensures))
 
 pub shares-spec : {M : Type 1} → statement M
-shares-spec = tie.close (tie.spec (λ c. search needs) returns)
+shares-spec = tie.close (tie.spec (λ c. search needs) (λ c κs. search needs) returns)

@@ -1,17 +1,10 @@
--- By the tests. Assumes nothing.
-use Rattle.drill.specs.Sheet.{isBlanking}
-use borrow.Author.Tests.{eq-eqb, ne-eqb}
+-- No client, and no content. Assumes nothing.
 use borrow.Author.Needs.{needs}
 use Rattle.drill.proofs.lines.is_blanking.Statement.{statement}
 use Rattle.drill.proofs.lines.is_blanking.Tie as tie
 
 returns : tie.Need-returns
-unfolding isBlanking
-returns c = rw (ne-eqb _ _ (c .if1 .taken))
-
-returns-2 : tie.Need-returns-2
-unfolding isBlanking
-returns-2 c = rw (eq-eqb _ _ (c .before .if1 .left)) (c .no-content .ensures)
+returns c = rw (c .no-content .ensures)
 
 pub is-blanking-spec : {M : Type 1} → statement M
-is-blanking-spec = tie.close (tie.spec returns (λ c κs. search needs) returns-2)
+is-blanking-spec = tie.close (tie.spec (λ c κs. search needs) returns)

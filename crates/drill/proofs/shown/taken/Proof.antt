@@ -1,6 +1,6 @@
 -- By the answer. Assumes nothing.
 use lib.ListN.{length}
-use Rattle.drill.proofs.Answers.{part-less}
+use Rattle.client.proofs.Printed.{part-short}
 use Rattle.drill.specs.Steps.{shown}
 use Rattle.protocol.specs.View.{part}
 use Rattle.protocol.specs.Client.{gave}
@@ -14,7 +14,7 @@ use Rattle.drill.proofs.shown.taken.Tie as tie
 
 content-read-requires : tie.Need-content-read-requires
 content-read-requires c κs =
-    let h = part-less (c .before .before .before .before .before .args .out .now) 0 (c .before .before .a3 .given .0 .1 .0) in
+    let h = part-short (c .before .before .before .before .before .args .out .now) (c .before .before .a3 .given .0 .1 .0) in
     let l = ap length (c .part .ensures) in
     omega arith
 

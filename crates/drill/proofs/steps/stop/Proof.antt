@@ -1,19 +1,22 @@
 -- Refused, or the client's small state changes. Assumes nothing.
-use Rattle.drill.proofs.Stepping.{too-low, too-high, stop-stays, stop-moves}
-use native.Mathlib.Omega.{arith}
+use Rattle.drill.proofs.Stepping.{is-in, is-out, stop-stays, stop-moves}
+use Prim.Native.Nat.{_≤_}
 use borrow.Author.Needs.{needs}
+use Rattle.cluster.specs.Ranges.{topClient}
 use Rattle.drill.proofs.steps.stop.Statement.{statement}
 use Rattle.drill.proofs.steps.stop.Tie as tie
 
+client-in : (c : tie.Else1) → (1 ≤ c .before .before .before .args .client) × (c .before .before .before .args .client ≤ topClient)
+client-in c = is-in 1 topClient _ (c .before .outside .ensures) (c .if1 .left)
+
 returns : tie.Need-returns
-returns c = let a = c .before .before .before .args in stop-stays (a .t) (a .client) (c .before .before .before .pre .0) (a .work .now) (too-low 1 16 (a .client) (omega arith)) (c .refused .ensures)
+returns c = let a = c .before .before .before .before .args in stop-stays (a .t) (a .client) (c .before .before .before .before .pre .0) (a .work .now) (is-out 1 topClient (a .client) (c .before .before .outside .ensures) (c .before .if1 .taken)) (c .refused .ensures)
+
+give-up-requires : tie.Need-give-up-requires
+give-up-requires c κs = (client-in (c .before), c .before .before .before .before .pre .1)
 
 returns-2 : tie.Need-returns-2
-returns-2 c = let a = c .before .before .before .before .args in stop-stays (a .t) (a .client) (c .before .before .before .before .pre .0) (a .work .now) (too-high 1 16 (a .client) (omega arith) (omega arith)) (c .refused2 .ensures)
-
-returns-3 : tie.Need-returns-3
-returns-3 c = let a = c .before .before .before .before .before .before .before .before .args in stop-moves (a .t) (a .client) (c .before .before .before .before .before .before .before .before .pre .0) (a .work .now) (omega arith, omega arith) (c .before .before .before .give-up .ensures) (c .given-up .ensures)
+returns-2 c = let a = c .before .before .before .before .before .before .before .before .args in stop-moves (a .t) (a .client) (c .before .before .before .before .before .before .before .before .pre .0) (a .work .now) (client-in (c .before .before .before .before .before)) (c .before .before .before .give-up .ensures) (c .given-up .ensures)
 
 pub stop-spec : {M : Type 1} → statement M
-stop-spec = tie.close (tie.spec (λ c κs. search needs) returns (λ c κs. search needs) returns-2 (λ c κs. search needs) (λ c κs. search needs)
-    (λ c. search needs) returns-3)
+stop-spec = tie.close (tie.spec (λ c κs. search needs) (λ c κs. search needs) returns give-up-requires (λ c κs. search needs) (λ c. search needs) returns-2)

@@ -1,10 +1,10 @@
 -- Each lane is read at its run.
-use mathlib.Core.Path.{_≡_, refl, ap, _∙_}
+use mathlib.Core.Path.{refl, ap, _∙_}
 use mathlib.Core.List.{[]}
 use Prim.Native.Nat.{ℕ, _+_, _-_, _<_, _≤_}
 use native.Mathlib.Omega.{arith}
-use lib.ListN.{length, getD, length-set}
-use Rattle.gf256.proofs.Fill.{fill-more}
+use lib.ListN.{getD}
+use Rattle.erasure.proofs.Fill.{Filled, filled-none, filled-more}
 use Rattle.erasure.specs.System.{width}
 use Rattle.erasure.specs.Lanes.{Lane}
 use native.Mathlib.Nat.{add-assoc}
@@ -13,13 +13,13 @@ use Rattle.erasure.proofs.lanes.gather.Statement.{statement}
 use Rattle.erasure.proofs.lanes.gather.Tie as tie
 
 abbrev Inv-loop : tie.InvT-loop
-Inv-loop src q k starts out₀ j₀ out j = (j ≤ k) × (length out ≡ width) × ((m : ℕ) → m < j → Lane (getD out m []) (λ i. getD src (getD starts m 0 + (q + i)) 0))
+Inv-loop src q k starts out₀ j₀ out j = (j ≤ k) × Filled [] (λ m x. Lane x (λ i. getD src (getD starts m 0 + (q + i)) 0)) width j out
 
 abbrev μ-loop : tie.MeasureT-loop
 μ-loop src q k starts out₀ j₀ out j = k - j
 
 loop-holds : tie.Need-loop-holds Inv-loop μ-loop
-loop-holds c = (search needs, refl, λ m h. absurd (omega arith))
+loop-holds c = (search needs, filled-none refl)
 
 add-lane-at : tie.Need-add-lane-at Inv-loop μ-loop
 add-lane-at c = let h : c .before .loop .j < c .before .before .before .args .k = search needs in omega (arith, c .before .before .before .pre .1 (c .before .loop .j) h)
@@ -31,16 +31,13 @@ loop-again : tie.Need-loop-again Inv-loop μ-loop
 loop-again c =
     let l = c .before .before .loop in
     let args = c .before .before .before .before .args in
-    let src = denote.Ref.now (args .src) in
-    let starts = args .t2 in (
+    let src = denote.Ref.now (args .src) in (
       search needs,
-      length-set (l .out) (l .j) (c .lane-at .result) ∙ l .inv .1,
-      fill-more [] (λ m x. Lane x (λ i. getD src (getD starts m 0 + (args .q + i)) 0)) (l .out) (l .j) (c .lane-at .result) (omega arith) (l .inv .2)
-          (λ i h. c .lane-at .ensures i h ∙ ap (λ (x : ℕ). getD src x 0) (add-assoc (getD starts (l .j) 0) (args .q) i)),
+      filled-more (l .inv .1) (omega arith) _ (λ i h. c .lane-at .ensures i h ∙ ap (λ (x : ℕ). getD src x 0) (add-assoc (getD (args .t2) (l .j) 0) (args .q) i)),
     )
 
 returns : tie.Need-returns Inv-loop μ-loop
-returns c j h = c .before .loop .inv .2 j (omega arith)
+returns c j h = c .before .loop .inv .1 .each j (omega arith)
 
 pub gather-spec : {M : Type 1} → statement M
 gather-spec = tie.close (tie.spec Inv-loop μ-loop loop-holds (λ c. search needs) (λ c. search needs) add-lane-at lane-at-requires (λ c. search needs)

@@ -1,27 +1,24 @@
 -- Each power is the last one times x.
 use Rattle.erasure.specs.System.{width}
-use mathlib.Core.List.{[], _∷_}
-use lib.ListN.{length-set, length, getD}
 use mathlib.Core.Path.{_≡_, refl, sym, ap, _∙_}
-use Prim.Native.Nat.{ℕ, _-_, _<_, _≤_}
+use Prim.Native.Nat.{ℕ, _-_, _≤_}
 use native.Mathlib.Numerals.{add-one}
 use native.Mathlib.Omega.{arith}
 use borrow.Author.Needs.{needs}
-use borrow.Author.Count.{below-none}
 use Rattle.gf256.specs.Gf.{times, power}
-use Rattle.gf256.proofs.Fill.{fill-more}
+use Rattle.erasure.proofs.Fill.{Filled, filled-none, filled-more}
 use Rattle.erasure.proofs.system.powers_row.Statement.{statement}
 use Rattle.erasure.proofs.system.powers_row.Tie as tie
 
 abbrev Inv-loop : tie.InvT-loop
-Inv-loop x out₀ w₀ c₀ out w c = (c ≤ width) × (w ≡ power x c) × (length out ≡ width) × ((j : ℕ) → j < c → getD out j 0 ≡ power x j)
+Inv-loop x out₀ w₀ c₀ out w c = (c ≤ width) × (w ≡ power x c) × Filled 0 (λ j v. v ≡ power x j) width c out
 
 abbrev μ-loop : tie.MeasureT-loop
 μ-loop x out₀ w₀ c₀ out w c = width - c
 
 loop-holds : tie.Need-loop-holds Inv-loop μ-loop
 unfolding power
-loop-holds c = (search needs, refl, refl, below-none (λ (j : ℕ). getD (0 ∷ 0 ∷ 0 ∷ 0 ∷ 0 ∷ []) j 0 ≡ power (c .args .x) j))
+loop-holds c = (search needs, refl, filled-none refl)
 
 loop-again : tie.Need-loop-again Inv-loop μ-loop
 unfolding power
@@ -30,12 +27,11 @@ loop-again c =
     let x = c .before .before .before .args .x in (
       search needs,
       c .product .ensures ∙ ap (λ (w : ℕ). times w x) (at .inv .1) ∙ ap (power x) (sym (add-one (at .c))),
-      length-set (at .out) (at .c) (at .w) ∙ at .inv .2,
-      fill-more 0 (λ j v. v ≡ power x j) (at .out) (at .c) (at .w) (omega arith) (at .inv .3) (at .inv .1),
+      filled-more (at .inv .2) (omega arith) _ (at .inv .1),
     )
 
 returns : tie.Need-returns Inv-loop μ-loop
-returns c j h = c .before .loop .inv .3 j (omega arith)
+returns c j h = c .before .loop .inv .2 .each j (omega arith)
 
 pub powers-row-spec : {M : Type 1} → statement M
 powers-row-spec = tie.close (tie.spec Inv-loop μ-loop loop-holds (λ c. search needs) (λ c κs. search needs) (λ c. search needs) (λ c. search needs)

@@ -3,37 +3,35 @@ use Rattle.gf256.specs.Gf.{inverse}
 use Rattle.erasure.proofs.Rows.{system-turned}
 use mathlib.Core.Path.{_≡_, refl, subst, _∙_}
 use mathlib.Core.List.{List, []}
-use Prim.Native.Nat.{ℕ, _-_, _<_, _≤_}
+use Prim.Native.Nat.{ℕ, _-_, _≤_}
 use native.Mathlib.Omega.{arith}
 use borrow.Author.Needs.{needs}
-use lib.ListN.{length, getD, set, length-set}
+use lib.ListN.{getD}
 use lib.Seq.{getD-set-other}
-use Rattle.gf256.proofs.Fill.{fill-more}
+use Rattle.erasure.proofs.Fill.{Filled, filled-none, filled-more}
 use Rattle.erasure.specs.System.{width, RowTurned, SystemTurned}
 use Rattle.erasure.proofs.system.turn.Statement.{statement}
 use Rattle.erasure.proofs.system.turn.Tie as tie
 
 abbrev Inv-loop : tie.InvT-loop
-Inv-loop p pivot d out₀ r₀ out r = (r ≤ width) × (length out ≡ width) × ((j : ℕ) → j < r → RowTurned (getD out₀ j []) pivot d p (getD out j [])) × ((j : ℕ) → r ≤ j → getD out j [] ≡ getD out₀ j [])
+Inv-loop p pivot d out₀ r₀ out r = (r ≤ width) × Filled [] (λ j row. RowTurned (getD out₀ j []) pivot d p row) width r out × ((j : ℕ) → r ≤ j → getD out j [] ≡ getD out₀ j [])
 
 abbrev μ-loop : tie.MeasureT-loop
 μ-loop p pivot d out₀ r₀ out r = width - r
 
 loop-holds : tie.Need-loop-holds Inv-loop μ-loop
-loop-holds c = (search needs, search needs, λ j h. absurd (omega arith), λ j h. refl)
+loop-holds c = (search needs, filled-none (search needs), λ j h. refl)
 
 loop-again : tie.Need-loop-again Inv-loop μ-loop
 loop-again c =
     let at = c .before .before .before .loop in
     let args = c .before .before .before .before .before .before .before .args in
-    let base = set (args .t1) (args .p) (c .before .before .before .before .unit-row .result) in
     let pivot = getD (args .t1) (args .p) [] in
     let d = c .before .before .before .before .before .inverse .result in (
       search needs,
-      length-set (at .out) (at .r) (c .turn-row .result) ∙ at .inv .1,
-      fill-more [] (λ j row. RowTurned (getD base j []) pivot d (args .p) row) (at .out) (at .r) (c .turn-row .result) (omega arith) (at .inv .2)
-          (subst (λ (x : List ℕ). RowTurned x pivot d (args .p) (c .turn-row .result)) (at .inv .3 (at .r) (omega arith)) (c .turn-row .ensures)),
-      λ j h. getD-set-other (at .out) (at .r) j (c .turn-row .result) [] (λ e. omega arith) ∙ at .inv .3 j (omega arith),
+      filled-more (at .inv .1) (omega arith) _
+          (subst (λ (x : List ℕ). RowTurned x pivot d (args .p) (c .turn-row .result)) (at .inv .2 (at .r) (omega arith)) (c .turn-row .ensures)),
+      λ j h. getD-set-other (at .out) (at .r) j (c .turn-row .result) [] (λ e. omega arith) ∙ at .inv .2 j (omega arith),
     )
 
 returns : tie.Need-returns Inv-loop μ-loop
@@ -43,7 +41,7 @@ returns c =
     let d = c .before .before .before .inverse in
     subst (λ (x : ℕ). SystemTurned (args .t1) (args .p) x (c .before .loop .out)) (d .ensures)
     (system-turned (args .t1) (c .before .loop .out) (args .p) (d .result) (unit .result) (search needs) (search needs) (unit .ensures .0) (unit .ensures .1) (search needs)
-    (λ j h. c .before .loop .inv .2 j (omega arith)))
+    (λ j h. c .before .loop .inv .1 .each j (omega arith)))
 
 pub turn-spec : {M : Type 1} → statement M
 turn-spec = tie.close (tie.spec Inv-loop μ-loop (λ c. search needs) (λ c. search needs) (λ c. search needs) (λ c κs. search needs)

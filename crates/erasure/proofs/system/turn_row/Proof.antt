@@ -1,40 +1,31 @@
 -- Each entry is less w times the pivot's, and the store at p comes last.
 use Rattle.erasure.specs.System.{width}
-use mathlib.Core.List.{[], _∷_}
-use lib.ListN.{length-set, length, getD}
+use lib.ListN.{getD}
 use mathlib.Core.Path.{_≡_, refl, ap, _∙_}
-use Prim.Native.Nat.{ℕ, _-_, _<_, _≤_}
+use Prim.Native.Nat.{ℕ, _-_, _≤_}
 use native.Mathlib.Omega.{arith}
 use borrow.Author.Needs.{needs}
-use borrow.Author.Count.{below-none}
 use lib.Bits.{bitXor}
 use lib.Seq.{getD-set-same, getD-set-other}
 use Rattle.gf256.specs.Gf.{times}
-use Rattle.gf256.proofs.Fill.{fill-more}
+use Rattle.erasure.proofs.Fill.{Filled, filled-none, filled-more}
 use Rattle.erasure.proofs.system.turn_row.Statement.{statement}
 use Rattle.erasure.proofs.system.turn_row.Tie as tie
 
 abbrev Inv-loop : tie.InvT-loop
-Inv-loop d p row pivot w out₀ c₀ out c = (c ≤ width) × (length out ≡ width) × ((j : ℕ) → j < c → getD out j 0 ≡ bitXor (getD row j 0) (times w (getD pivot j 0)))
+Inv-loop d p row pivot w out₀ c₀ out c = (c ≤ width) × Filled 0 (λ j v. v ≡ bitXor (getD row j 0) (times w (getD pivot j 0))) width c out
 
 abbrev μ-loop : tie.MeasureT-loop
 μ-loop d p row pivot w out₀ c₀ out c = width - c
 
 loop-holds : tie.Need-loop-holds Inv-loop μ-loop
-loop-holds c =
-    (search needs, refl, below-none (λ (j : ℕ). getD (0 ∷ 0 ∷ 0 ∷ 0 ∷ 0 ∷ []) j 0 ≡ bitXor (getD (c .before .args .t1) j 0) (times (c .product .result) (getD (c .before .args .t2) j 0))))
+loop-holds c = (search needs, filled-none refl)
 
 loop-again : tie.Need-loop-again Inv-loop μ-loop
 loop-again c =
     let at = c .before .before .loop in
     let args = c .before .before .before .before .args in
-    let w = c .before .before .before .product .result in
-    let new = bitXor (getD (args .t1) (at .c) 0) (c .product2 .result) in (
-      search needs,
-      length-set (at .out) (at .c) new ∙ at .inv .1,
-      fill-more 0 (λ j v. v ≡ bitXor (getD (args .t1) j 0) (times w (getD (args .t2) j 0))) (at .out) (at .c) new (omega arith) (at .inv .2)
-          (ap (bitXor (getD (args .t1) (at .c) 0)) (c .product2 .ensures)),
-    )
+    (search needs, filled-more (at .inv .1) (omega arith) _ (ap (bitXor (getD (args .t1) (at .c) 0)) (c .product2 .ensures)))
 
 returns : tie.Need-returns Inv-loop μ-loop
 returns c =
@@ -44,7 +35,7 @@ returns c =
     record {
       here = getD-set-same (at .out) (args .p) w 0 (omega arith) ∙ c .before .before .product .ensures;
       there = λ j h ne.
-          getD-set-other (at .out) (args .p) j w 0 ne ∙ at .inv .2 j (omega arith)
+          getD-set-other (at .out) (args .p) j w 0 ne ∙ at .inv .1 .each j (omega arith)
           ∙ ap (λ (u : ℕ). bitXor (getD (args .t1) j 0) (times u (getD (args .t2) j 0))) (c .before .before .product .ensures);
     }
 

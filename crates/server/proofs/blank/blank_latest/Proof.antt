@@ -5,10 +5,12 @@ use Rattle.server.proofs.blank.blank_latest.Statement.{statement}
 use Rattle.server.proofs.blank.blank_latest.Tie as tie
 
 returns : tie.Need-returns
-returns c = latest-size (c .before .before .args .memory .now) (c .if1 .taken)
+returns c = rw (c .refused .ensures) (latest-size (c .before .before .before .args .memory .now) (c .before .if1 .taken))
 
 returns-2 : tie.Need-returns-2
-returns-2 c = latest-broken (c .before .before .before .before .before .before .args .memory .now) (c .before .before .before .before .if1 .left) (rw (c .enum-told .given .1) at (c .before .before .«open» .ensures))
+returns-2 c =
+    let m = rw (c .before .enum-told .given .1) at (c .before .before .before .«open» .ensures) in
+    rw (c .refused2 .ensures) (latest-broken (c .before .before .before .before .before .before .before .args .memory .now) (c .before .before .before .before .before .if1 .left) m)
 
 returns-3 : tie.Need-returns-3
 returns-3 c =
@@ -16,5 +18,5 @@ returns-3 c =
     latest-blanked (c .before .before .before .before .before .before .before .before .before .before .before .before .before .before .args .memory .now) (c .before .before .before .before .before .before .before .before .before .before .before .before .if1 .left) (λ i. c .before .before .before .before .before .before .before .before .before .before .before .before .before .slice-known .given i .fits) m (c .before .before .before .before .candidate-size .ensures) (c .before .before .before .part .ensures) (c .before .before .put .ensures)
 
 pub blank-latest-spec : {M : Type 1} → statement M
-blank-latest-spec = tie.close (tie.spec returns (λ c κs. search needs) (λ c. search needs) (λ c. search needs) (λ c. search needs) returns-2
+blank-latest-spec = tie.close (tie.spec (λ c κs. search needs) returns (λ c κs. search needs) (λ c. search needs) (λ c. search needs) (λ c κs. search needs) (λ c. search needs) returns-2
     (λ c. search needs) (λ c κs. search needs) (λ c κs. search needs) (λ c κs. search needs) (λ c. search needs) returns-3)

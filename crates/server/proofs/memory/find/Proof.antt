@@ -1,7 +1,7 @@
 -- Above all stamps, the highest of them, or searched for by its bytes. Assumes nothing.
 use borrow.Author.Needs.{needs}
 use Rattle.cluster.specs.Config.{shelf}
-use Rattle.server.proofs.Once.{find-above, find-highest, find-searched}
+use Rattle.server.proofs.Finding.{find-above, find-highest, find-searched}
 use Rattle.server.proofs.memory.find.Statement.{statement}
 use Rattle.server.proofs.memory.find.Tie as tie
 

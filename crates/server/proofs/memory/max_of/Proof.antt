@@ -1,7 +1,7 @@
 -- Each way through the test. Assumes nothing.
 use mathlib.Core.Path.{sym}
 use native.Mathlib.Omega.{arith}
-use Rattle.server.proofs.Once.{max-is-left, max-is-right}
+use Rattle.server.proofs.Finding.{max-is-left, max-is-right}
 use Rattle.server.proofs.memory.max_of.Statement.{statement}
 use Rattle.server.proofs.memory.max_of.Tie as tie
 

@@ -1,6 +1,6 @@
 -- The write where it is higher, else top as it is. Assumes nothing.
 use mathlib.Core.Path.{sym}
-use Rattle.server.proofs.Once.{raised-higher, raised-same}
+use Rattle.server.proofs.Finding.{raised-higher, raised-same}
 use Rattle.server.proofs.memory.raised.Statement.{statement}
 use Rattle.server.proofs.memory.raised.Tie as tie
 

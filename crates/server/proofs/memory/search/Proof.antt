@@ -5,9 +5,9 @@ use native.Mathlib.Omega.{arith}
 use mathlib.Core.Path.{ap}
 use lib.ListN.{length, length-drop}
 use Rattle.cluster.specs.Config.{shelf}
-use Rattle.server.specs.Reads.{frameSize}
+use Rattle.wire.specs.Places.{shareSize}
 use Rattle.wire.proofs.Lengths.{fragment-few}
-use Rattle.server.proofs.Walk.{Walking, walk-none, walk-end, walk-short, walk-found, walk-more, size-told}
+use Rattle.server.proofs.Walk.{Walking, walk-none, walk-end, walk-short, walk-found, walk-more, no-fragment, size-told}
 use Rattle.server.proofs.memory.search.Statement.{statement}
 use Rattle.server.proofs.memory.search.Tie as tie
 
@@ -17,6 +17,10 @@ Inv-loop memory t n stamp frame at₀ i₀ at i = (i ≤ n) × Walking (shelf t)
 abbrev μ-loop : tie.MeasureT-loop
 μ-loop memory t n stamp frame at₀ i₀ at i = n - i
 
+add-frame : tie.Need-add-frame Inv-loop μ-loop
+unfolding shareSize shelf
+add-frame c = omega (arith, c .share-size .ensures, no-fragment (c .before .before .before .args .t))
+
 loop-holds : tie.Need-loop-holds Inv-loop μ-loop
 loop-holds c = (omega arith, walk-none _ _ _ _ (c .writes-place .ensures))
 
@@ -24,25 +28,25 @@ returns : tie.Need-returns Inv-loop μ-loop
 returns c = walk-found (c .before .before .before .before .before .loop .inv .1) (λ i. c .before .before .before .before .before .before .before .before .before .shared-slice-known .given i .fits) (omega arith) (c .before .before .before .rest .ensures) (c .before .before .part .ensures) (c .before .same .ensures) (c .if1 .taken)
 
 add-size : tie.Need-add-size Inv-loop μ-loop
-unfolding frameSize shelf
-add-size c = omega (arith, c .before .before .before .before .before .before .before .before .before .before .frame-size .ensures, c .fragment-size .ensures, fragment-few (c .before .before .before .before .before .before .before .before .before .before .before .before .before .args .t) (c .before .number2 .result))
+unfolding shareSize shelf
+add-size c = omega (arith, c .before .before .before .before .before .before .before .before .before .before .share-size .ensures, c .fragment-size .ensures, fragment-few (c .before .before .before .before .before .before .before .before .before .before .before .before .before .args .t) (c .before .number2 .result), no-fragment (c .before .before .before .before .before .before .before .before .before .before .before .before .before .args .t))
 
 returns-2 : tie.Need-returns-2 Inv-loop μ-loop
 returns-2 c =
-    walk-short (c .before .before .before .before .before .before .before .before .before .loop .inv .1) (λ i. c .before .before .before .before .before .before .before .before .before .before .before .before .before .shared-slice-known .given i .fits) (omega arith) (c .before .before .before .before .before .before .before .rest .ensures) (size-told _ (c .before .before .before .before .before .before .before .before .before .before .before .before .before .before .args .memory .now) (c .before .before .before .before .before .before .before .before .before .loop .at) (c .before .before .before .before .before .before .before .rest .ensures) (c .before .before .before .rest2 .ensures) (c .before .before .number2 .ensures) (c .before .before .before .before .before .before .before .before .before .before .before .frame-size .ensures) (c .before .fragment-size .ensures)) (c .if2 .taken)
+    walk-short (c .before .before .before .before .before .before .before .before .before .loop .inv .1) (λ i. c .before .before .before .before .before .before .before .before .before .before .before .before .before .shared-slice-known .given i .fits) (omega arith) (c .before .before .before .before .before .before .before .rest .ensures) (size-told (c .before .before .before .before .before .before .before .before .before .before .before .before .before .before .args .t) (c .before .before .before .before .before .before .before .before .before .before .before .before .before .before .args .memory .now) (c .before .before .before .before .before .before .before .before .before .loop .at) (c .before .before .before .before .before .before .before .rest .ensures) (c .before .before .before .rest2 .ensures) (c .before .before .number2 .ensures) (c .before .before .before .before .before .before .before .before .before .before .before .share-size .ensures) (c .before .fragment-size .ensures)) (c .if2 .taken)
 
 add-at : tie.Need-add-at Inv-loop μ-loop
-unfolding frameSize
-add-at c = omega (arith, c .before .before .before .before .before .before .before .before .before .before .before .frame-size .ensures, ap length (c .before .before .before .before .before .before .before .rest .ensures), length-drop (c .before .before .before .before .before .before .before .before .before .loop .at) (c .before .before .before .before .before .before .before .before .before .before .before .before .before .before .args .memory .now), c .if2 .left)
+unfolding shareSize shelf
+add-at c = omega (arith, c .before .before .before .before .before .before .before .before .before .before .before .share-size .ensures, ap length (c .before .before .before .before .before .before .before .rest .ensures), length-drop (c .before .before .before .before .before .before .before .before .before .loop .at) (c .before .before .before .before .before .before .before .before .before .before .before .before .before .before .args .memory .now), c .if2 .left)
 
 loop-again : tie.Need-loop-again Inv-loop μ-loop
 loop-again c =
-    (omega arith, walk-more (c .before .before .before .before .before .before .before .before .before .loop .inv .1) (λ i. c .before .before .before .before .before .before .before .before .before .before .before .before .before .shared-slice-known .given i .fits) (omega arith) (c .before .before .before .before .before .before .before .rest .ensures) (c .before .before .before .before .before .before .part .ensures) (c .before .before .before .before .before .same .ensures) (c .before .before .before .before .if1 .left) (size-told _ (c .before .before .before .before .before .before .before .before .before .before .before .before .before .before .args .memory .now) (c .before .before .before .before .before .before .before .before .before .loop .at) (c .before .before .before .before .before .before .before .rest .ensures) (c .before .before .before .rest2 .ensures) (c .before .before .number2 .ensures) (c .before .before .before .before .before .before .before .before .before .before .before .frame-size .ensures) (c .before .fragment-size .ensures)))
+    (omega arith, walk-more (c .before .before .before .before .before .before .before .before .before .loop .inv .1) (λ i. c .before .before .before .before .before .before .before .before .before .before .before .before .before .shared-slice-known .given i .fits) (omega arith) (c .before .before .before .before .before .before .before .rest .ensures) (c .before .before .before .before .before .before .part .ensures) (c .before .before .before .before .before .same .ensures) (c .before .before .before .before .if1 .left) (size-told (c .before .before .before .before .before .before .before .before .before .before .before .before .before .before .args .t) (c .before .before .before .before .before .before .before .before .before .before .before .before .before .before .args .memory .now) (c .before .before .before .before .before .before .before .before .before .loop .at) (c .before .before .before .before .before .before .before .rest .ensures) (c .before .before .before .rest2 .ensures) (c .before .before .number2 .ensures) (c .before .before .before .before .before .before .before .before .before .before .before .share-size .ensures) (c .before .fragment-size .ensures)))
 
 returns-3 : tie.Need-returns-3 Inv-loop μ-loop
 returns-3 c = walk-end (c .before .loop .inv .1) (omega arith)
 
 pub search-spec : {M : Type 1} → statement M
-search-spec = tie.close (tie.spec Inv-loop μ-loop (λ c κs. search needs) (λ c κs. search needs) loop-holds (λ c κs. search needs)
+search-spec = tie.close (tie.spec Inv-loop μ-loop (λ c κs. search needs) add-frame (λ c κs. search needs) loop-holds (λ c κs. search needs)
     (λ c κs. search needs) (λ c κs. search needs) returns (λ c κs. search needs) (λ c κs. search needs) (λ c κs. search needs) add-size returns-2
     add-at (λ c. omega arith) (λ c. omega arith) loop-again returns-3)

@@ -3,7 +3,7 @@ use mathlib.Core.Path.{sym, subst}
 use native.Mathlib.Omega.{arith}
 use borrow.Author.Needs.{needs}
 use lib.Dec.{T}
-use Rattle.server.proofs.Once.{stands}
+use Rattle.server.proofs.Finding.{stands}
 use Rattle.server.proofs.memory.stands_at.Statement.{statement}
 use Rattle.server.proofs.memory.stands_at.Tie as tie
 

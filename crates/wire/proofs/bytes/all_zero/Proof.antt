@@ -6,9 +6,10 @@ use native.Mathlib.Omega.{arith}
 use lib.ListN.{length, drop, length-drop}
 use lib.Seq.{take-all}
 use Rattle.protocol.specs.Format.{zeros}
-use Rattle.wire.proofs.Joined.{chunk-zero, chunk-other, not-true, not-false}
+use Rattle.wire.proofs.Joined.{chunk-zero, chunk-other}
 use Rattle.wire.proofs.bytes.all_zero.Statement.{statement}
 use Rattle.wire.proofs.bytes.all_zero.Tie as tie
+use borrow.Author.Tests.{not-true, not-false}
 
 abbrev Inv-loop : tie.InvT-loop
 Inv-loop s at₀ at = (at ≤ length s) × (zeros s ≡ zeros (drop at s))

@@ -2,21 +2,21 @@
 -- Assumes nothing.
 use borrow.Author.Needs.{needs}
 use native.Mathlib.Omega.{arith}
-use Rattle.wire.proofs.Leaf.{byte-end, byte-low, byte-high, byte-in}
+use lib.ListN.{length-drop}
+use Rattle.wire.proofs.Leaf.{ends, answers, byte-numbered, here}
 use Rattle.wire.proofs.fields.byte_field.Statement.{statement}
 use Rattle.wire.proofs.fields.byte_field.Tie as tie
 
 returns : tie.Need-returns
-returns c = byte-end _ _ (omega arith)
+returns c = ends (byte-numbered _ _) _ _ (simp length-drop (omega arith))
+
+cast-ranged : tie.Need-cast-ranged
+cast-ranged c = let h = c .shared-slice-known2 .given (c .before .before .before .args .c .at) in search needs
 
 returns-2 : tie.Need-returns-2
-returns-2 c = byte-low _ _ (omega arith) (omega arith)
-
-returns-3 : tie.Need-returns-3
-returns-3 c = byte-high _ _ (omega arith) (omega arith) (omega arith)
-
-returns-4 : tie.Need-returns-4
-returns-4 c = byte-in _ _ (omega arith) (omega arith) (omega arith) (omega arith)
+returns-2 c =
+    let a = c .before .before .before .before .args in
+    answers (byte-numbered _ _) _ _ (simp length-drop (omega arith)) (c .ranged .result) (here (a .s .now) (a .c .at)) (c .ranged .ensures)
 
 pub byte-field-spec : {M : Type 1} → statement M
-byte-field-spec = tie.close (tie.spec returns (λ c. search needs) (λ c κs. search needs) returns-2 returns-3 (λ c. search needs) returns-4)
+byte-field-spec = tie.close (tie.spec returns (λ c. search needs) cast-ranged (λ c. search needs) (λ c κs. search needs) returns-2)

@@ -2,25 +2,24 @@
 -- Assumes nothing.
 use borrow.Author.Needs.{needs}
 use native.Mathlib.Omega.{arith}
-use Rattle.wire.proofs.Leaf.{number2-end, number2-low, number2-high, number2-in}
+use mathlib.Core.Path.{ap}
+use lib.ListN.{length, length-drop}
+use Rattle.wire.specs.Places.{lengthAt}
+use Rattle.wire.proofs.Leaf.{ends, answers, number2-numbered}
 use Rattle.wire.proofs.fields.number2_field.Statement.{statement}
 use Rattle.wire.proofs.fields.number2_field.Tie as tie
 
 returns : tie.Need-returns
-returns c = number2-end _ _ (omega arith)
+returns c = ends (number2-numbered _ _) _ _ (omega (arith, ap length (c .before .rest .ensures)))
+
+add-ranged : tie.Need-add-ranged
+add-ranged c = omega (arith, simp length-drop at (ap length (c .before .before .rest .ensures)))
 
 returns-2 : tie.Need-returns-2
-returns-2 c = number2-end _ _ (omega arith)
-
-returns-3 : tie.Need-returns-3
-returns-3 c = number2-low _ _ (omega arith) (omega arith)
-
-returns-4 : tie.Need-returns-4
-returns-4 c = number2-high _ _ (omega arith) (omega arith) (omega arith)
-
-returns-5 : tie.Need-returns-5
-returns-5 c = number2-in _ _ (omega arith) (omega arith) (omega arith) (omega arith)
+unfolding lengthAt
+returns-2 c =
+    let b = c .before .before .before .rest .ensures in
+    answers (number2-numbered _ _) _ _ (omega (arith, ap length b)) (c .ranged .result) (rw b at (c .before .number2 .ensures)) (c .ranged .ensures)
 
 pub number2-field-spec : {M : Type 1} → statement M
-number2-field-spec = tie.close (tie.spec returns (λ c. search needs) returns-2 (λ c. search needs) (λ c κs. search needs) (λ c. search needs)
-    (λ c. search needs) (λ c. search needs) (λ c κs. search needs) (λ c. search needs) returns-3 returns-4 (λ c. search needs) returns-5)
+number2-field-spec = tie.close (tie.spec (λ c κs. search needs) returns (λ c κs. search needs) add-ranged (λ c κs. search needs) returns-2)

@@ -1,33 +1,66 @@
 -- A candidate is let through by its stamp, its nonce and its tags.
 -- Assumes nothing.
 use borrow.Author.Needs.{needs}
-use Rattle.protocol.proofs.Leaves.{stops-first, stops-second, stops-via}
+use mathlib.Core.List.{List}
+use Prim.Native.Nat.{ℕ}
 use Rattle.cluster.specs.Config.{shelf}
+use Rattle.protocol.proofs.Leaves.{stops-first, stops-second, stops-via}
+use Rattle.protocol.specs.Values.{nonceSize}
 use Rattle.protocol.specs.Packet.{candidateF}
-use Rattle.wire.proofs.Through.{candidate-took}
+use Rattle.wire.specs.Reads.{Took, stampL}
+use Rattle.wire.proofs.Through.{Ran, candidate-took}
 use Rattle.wire.proofs.parts.candidate_field.Statement.{statement}
 use Rattle.wire.proofs.parts.candidate_field.Tie as tie
+
+-- ---- the fields that were let through, and the place past each
+
+module _ (c : tie.After-number) where
+  abbrev s : List ℕ
+  s = c .before .before .before .before .args .s .now
+
+  abbrev p1 : ℕ
+  p1 = c .number .given .0 .1 .0 .at
+
+  stamp-past : Took stampL s (c .before .before .before .before .args .c .at) (c .number .given .0 .0) p1
+  stamp-past = rw (c .number .given .1) at (c .before .before .stamp-field .ensures)
+
+module _ (c : tie.After-c2) where
+  abbrev first : tie.After-number
+  first = c .before .before .before .before
+
+  nonce-ran : Ran nonceSize (s first) (p1 first) (c .c2 .given .0 .0 .at)
+  nonce-ran = rw (c .c2 .given .1) at (c .before .before .run-field .ensures)
+
+-- ---- the needs
 
 returns : tie.Need-returns
 unfolding candidateF
 returns c = stops-via _ _ _ (stops-first _ _ (rw (c .enum-told .given .1) at (c .before .before .stamp-field .ensures)))
 
 run-field-requires : tie.Need-run-field-requires
-run-field-requires c κs = (rw (c .before .number .given .1) at (c .before .before .before .stamp-field .ensures)) .leaves .within
+run-field-requires c κs = stamp-past (c .before) .leaves .within
 
 returns-2 : tie.Need-returns-2
 unfolding candidateF
-returns-2 c = stops-via _ _ _ (stops-second _ _ ((rw (c .before .before .before .before .number .given .1) at (c .before .before .before .before .before .before .stamp-field .ensures)) .leaves) (stops-first _ _ (rw (c .enum-told2 .given .1) at (c .before .before .run-field .ensures))))
+returns-2 c =
+    stops-via _ _ _ (stops-second _ _ (stamp-past (c .before .before .before .before) .leaves) (stops-first _ _ (rw (c .enum-told2 .given .1) at (c .before .before .run-field .ensures))))
 
 run-field-requires-2 : tie.Need-run-field-requires-2
-run-field-requires-2 c κs = (rw (c .before .before .c2 .given .1) at (c .before .before .before .before .run-field .ensures)) .leaves .within
+run-field-requires-2 c κs = nonce-ran (c .before .before) .leaves .within
 
 returns-3 : tie.Need-returns-3
 unfolding candidateF
-returns-3 c = stops-via _ _ _ (stops-second _ _ ((rw (c .before .before .before .before .before .before .before .before .before .number .given .1) at (c .before .before .before .before .before .before .before .before .before .before .before .stamp-field .ensures)) .leaves) (stops-second _ _ ((rw (c .before .before .before .before .before .c2 .given .1) at (c .before .before .before .before .before .before .before .run-field .ensures)) .leaves) (rw (c .before .before .before .tags-size .ensures) at (rw (c .enum-told3 .given .1) at (c .before .before .run-field2 .ensures)))))
+returns-3 c =
+    let n = c .before .before .before .before .before in
+    stops-via _ _ _
+    (stops-second _ _ (stamp-past (first n) .leaves)
+    (stops-second _ _ (nonce-ran n .leaves) (rw (c .before .before .before .tags-size .ensures) at (rw (c .enum-told3 .given .1) at (c .before .before .run-field2 .ensures)))))
 
 returns-4 : tie.Need-returns-4
-returns-4 c = candidate-took (shelf (c .before .before .before .before .before .before .before .before .before .before .before .before .before .before .args .t)) (rw (c .before .before .before .before .before .before .before .before .before .before .number .given .1) at (c .before .before .before .before .before .before .before .before .before .before .before .before .stamp-field .ensures)) (rw (c .before .before .before .before .before .before .c2 .given .1) at (c .before .before .before .before .before .before .before .before .run-field .ensures)) (rw (c .before .before .before .before .tags-size .ensures) at (rw (c .before .c3 .given .1) at (c .before .before .before .run-field2 .ensures)))
+returns-4 c =
+    let n = c .before .before .before .before .before .before in
+    candidate-took (shelf (first n .before .before .before .before .args .t)) (stamp-past (first n)) (nonce-ran n)
+    (rw (c .before .before .before .before .tags-size .ensures) at (rw (c .before .c3 .given .1) at (c .before .before .before .run-field2 .ensures)))
 
 pub candidate-field-spec : {M : Type 1} → statement M
 candidate-field-spec = tie.close (tie.spec (λ c κs. search needs) (λ c. search needs) (λ c. search needs) returns run-field-requires

@@ -1,11 +1,36 @@
 -- A stamp is let through by its number, its writer and its tag.
 -- Assumes nothing.
 use borrow.Author.Needs.{needs}
+use mathlib.Core.List.{List}
+use Prim.Native.Nat.{ℕ}
+use Rattle.cluster.specs.Ranges.{topNumber, topWriter}
 use Rattle.protocol.proofs.Leaves.{stops-first, stops-second, stops-via}
 use Rattle.protocol.specs.Packet.{stampF}
+use Rattle.wire.specs.Reads.{Took, number4L, byteL}
 use Rattle.wire.proofs.Through.{stamp-took}
 use Rattle.wire.proofs.parts.stamp_field.Statement.{statement}
 use Rattle.wire.proofs.parts.stamp_field.Tie as tie
+
+-- ---- the fields that were let through, and the place past each
+
+module _ (c : tie.After-number) where
+  abbrev s : List ℕ
+  s = c .before .before .before .before .args .s .now
+
+  abbrev p1 : ℕ
+  p1 = c .number .given .0 .1 .0 .at
+
+  number-took : Took (number4L 1 topNumber) s (c .before .before .before .before .args .c .at) (c .number .given .0 .0) p1
+  number-took = rw (c .number .given .1) at (c .before .before .number4-field .ensures)
+
+module _ (c : tie.After-writer) where
+  abbrev first : tie.After-number
+  first = c .before .before .before .before
+
+  writer-took : Took (byteL 1 topWriter) (s first) (p1 first) (c .writer .given .0 .0) (c .writer .given .0 .1 .0 .at)
+  writer-took = rw (c .writer .given .1) at (c .before .before .byte-field .ensures)
+
+-- ---- the needs
 
 returns : tie.Need-returns
 unfolding stampF
@@ -13,17 +38,25 @@ returns c = stops-via _ _ _ (stops-first _ _ (rw (c .enum-told .given .1) at (c 
 
 returns-2 : tie.Need-returns-2
 unfolding stampF
-returns-2 c = stops-via _ _ _ (stops-second _ _ ((rw (c .before .before .before .before .number .given .1) at (c .before .before .before .before .before .before .number4-field .ensures)) .leaves) (stops-first _ _ (rw (c .enum-told2 .given .1) at (c .before .before .byte-field .ensures))))
+returns-2 c =
+    stops-via _ _ _
+    (stops-second _ _ (number-took (c .before .before .before .before) .leaves) (stops-first _ _ (rw (c .enum-told2 .given .1) at (c .before .before .byte-field .ensures))))
 
 run-field-requires : tie.Need-run-field-requires
-run-field-requires c κs = (rw (c .before .writer .given .1) at (c .before .before .before .byte-field .ensures)) .leaves .within
+run-field-requires c κs = writer-took (c .before) .leaves .within
 
 returns-3 : tie.Need-returns-3
 unfolding stampF
-returns-3 c = stops-via _ _ _ (stops-second _ _ ((rw (c .before .before .before .before .before .before .before .before .number .given .1) at (c .before .before .before .before .before .before .before .before .before .before .number4-field .ensures)) .leaves) (stops-second _ _ ((rw (c .before .before .before .before .writer .given .1) at (c .before .before .before .before .before .before .byte-field .ensures)) .leaves) (rw (c .enum-told3 .given .1) at (c .before .before .run-field .ensures))))
+returns-3 c =
+    let w = c .before .before .before .before in
+    stops-via _ _ _
+    (stops-second _ _ (number-took (first w) .leaves)
+    (stops-second _ _ (writer-took w .leaves) (rw (c .enum-told3 .given .1) at (c .before .before .run-field .ensures))))
 
 returns-4 : tie.Need-returns-4
-returns-4 c = stamp-took (rw (c .before .before .before .before .before .before .before .before .before .number .given .1) at (c .before .before .before .before .before .before .before .before .before .before .before .number4-field .ensures)) (rw (c .before .before .before .before .before .writer .given .1) at (c .before .before .before .before .before .before .before .byte-field .ensures)) (rw (c .before .c3 .given .1) at (c .before .before .before .run-field .ensures))
+returns-4 c =
+    let w = c .before .before .before .before .before in
+    stamp-took (number-took (first w)) (writer-took w) (rw (c .before .c3 .given .1) at (c .before .before .before .run-field .ensures))
 
 pub stamp-field-spec : {M : Type 1} → statement M
 stamp-field-spec = tie.close (tie.spec (λ c. search needs) (λ c κs. search needs) (λ c. search needs) (λ c. search needs) returns (λ c. search needs)

@@ -1,0 +1,118 @@
+-- What a stamp's bytes find among the stored writes: nothing above the highest of them, that one at its place, else what a walk finds.
+-- Equal bytes have equal keys, so a stamp above all the others is none of them. Assumes nothing.
+use mathlib.Core.Path.{_≡_, refl, sym, ap, _∙_, subst}
+use mathlib.Core.Bool.{Bool, true, false, cond}
+use mathlib.Core.List.{List, [], _∷_, _++_}
+use mathlib.Core.Option.{Option, none, some}
+use Prim.Native.Nat.{ℕ, _+_, _-_, _*_, _≤_, _<_}
+use native.Mathlib.Omega.{arith}
+use lib.Dec.{ltb}
+use lib.ListN.{drop}
+use borrow.Author.Tests.{ltb-true, ltb-false, le-ltb, lt-ltb}
+use Rattle.cluster.specs.Config.{Config}
+use Rattle.cluster.proofs.Tests.{untrue}
+use Rattle.protocol.specs.declared.Stamp.{Stamp}
+use Rattle.protocol.specs.Format.{orElse, via, seq, number4, byte, run}
+use Rattle.protocol.specs.Values.{Share, Write, sameList, sameStamp, stampSize}
+use Rattle.protocol.specs.Packet.{stampF}
+use Rattle.protocol.specs.Memory.{held}
+use Rattle.protocol.specs.View.{part, stampAt}
+use Rattle.protocol.proofs.Answers.{at-cond}
+use Rattle.protocol.proofs.Equal.{same-true, same-printed}
+use Rattle.protocol.proofs.Formats.{value4-print}
+use Rattle.server.specs.declared.memory.Top.{Top}
+use Rattle.server.specs.declared.memory.Found.{Found}
+use Rattle.server.specs.declared.memory.Found.the-variants as found
+use Rattle.server.specs.Reads.{Stored, firstWith, FindIs, SearchAs, FindAs, keyOf, maxOf, UpTo, TopOf, raisedTop}
+
+-- ---- keys
+
+pub max-left : (a b : ℕ) → a ≤ maxOf a b
+unfolding maxOf
+max-left a b = at-cond (ltb a b) b a (λ z. a ≤ z) (λ e. omega (arith, ltb-true a b e)) (λ e. omega arith)
+
+pub max-right : (a b : ℕ) → b ≤ maxOf a b
+unfolding maxOf
+max-right a b = at-cond (ltb a b) b a (λ z. b ≤ z) (λ e. omega arith) (λ e. omega (arith, ltb-false a b e))
+
+pub max-is-left : (a b : ℕ) → b ≤ a → maxOf a b ≡ a
+unfolding maxOf
+max-is-left a b h = rw (le-ltb a b h)
+
+pub max-is-right : (a b : ℕ) → a < b → maxOf a b ≡ b
+unfolding maxOf
+max-is-right a b h = rw (lt-ltb a b h)
+
+pub raised-higher : (top : Top) (k at : ℕ) → top .key < k → raisedTop top k at ≡ record { key = k; at = at }
+unfolding raisedTop
+raised-higher top k at h = rw (lt-ltb (top .key) k h)
+
+pub raised-same : (top : Top) (k at : ℕ) → k ≤ top .key → raisedTop top k at ≡ top
+unfolding raisedTop
+raised-same top k at h = rw (le-ltb (top .key) k h)
+
+pub up-more : (top up : ℕ) (ws : List Write) → top ≤ up → UpTo top ws → UpTo up ws
+up-more top up [] l h = tt
+up-more top up (w ∷ ws) l h = (omega (arith, h .0), up-more top up ws l (h .1))
+
+-- the key of a printed stamp
+pub key-printed : (a : Stamp) → keyOf (stampAt (stampF .print a)) ≡ keyOf a
+unfolding keyOf stampAt stampF via seq number4 byte run
+key-printed a = ap (λ (n : ℕ). 256 * n + a .writer) (value4-print (a .number))
+
+-- ---- what is found: nothing above all stamps, the highest at its place, and below it what a walk finds
+
+pub first-above : (key : List ℕ) (top : ℕ) (ws : List Write) → UpTo top ws → top < keyOf (stampAt key) → firstWith key ws ≡ none
+unfolding firstWith
+first-above key top [] h k = refl
+first-above key top (w ∷ ws) h k =
+    let f : sameList (stampF .print (w .stamp)) key ≡ false =
+    untrue _ (λ e.
+    let q : keyOf (w .stamp) ≡ keyOf (stampAt key) = sym (key-printed (w .stamp)) ∙ ap (λ (x : List ℕ). keyOf (stampAt x)) (same-true (stampF .print (w .stamp)) key e) in
+    omega (arith, q, h .0, k)) in
+    rw f (first-above key top ws (h .1) k)
+
+-- the first of two lists' writes
+pub first-append : (key : List ℕ) (xs ys : List Write) → firstWith key (xs ++ ys) ≡ orElse (firstWith key xs) (firstWith key ys)
+unfolding firstWith
+first-append key [] ys = refl
+first-append key (x ∷ xs) ys = go (sameList (stampF .print (x .stamp)) key) (first-append key xs ys)
+  where
+    go : (b : Bool) → firstWith key (xs ++ ys) ≡ orElse (firstWith key xs) (firstWith key ys)
+        → cond b (some x) (firstWith key (xs ++ ys)) ≡ orElse (cond b (some x) (firstWith key xs)) (firstWith key ys)
+    go true h = refl
+    go false h = h
+
+module _ (s : Config) (n : ℕ) (top : Top) (d y : List ℕ) {x : List ℕ} (p : x ≡ part y 0 stampSize) where
+  found-as : (r : Found) → ((ws : List Write) (e : ℕ) → Stored s n d ws e → TopOf s d top ws → FindIs s d (firstWith x ws) r) → FindAs s n top d y r
+  found-as r f ws e m u = subst (λ (z : List ℕ). FindIs s d (firstWith z ws) r) p (f ws e m u)
+
+  pub find-above : {k : ℕ} → k ≡ keyOf (stampAt x) → top .key < k → FindAs s n top d y found.Nothing
+  find-above q l = found-as found.Nothing (λ ws e m u. first-above x (top .key) ws (u .up) (omega (arith, q, l)))
+
+  pub find-highest : (0 < top .at) × (sameList (part (drop (top .at) d) 0 stampSize) x ≡ true) → FindAs s n top d y (found.At (top .at))
+  find-highest (l, f) = found-as (found.At (top .at)) (λ ws e m u. u .first l x f)
+
+  pub find-searched : (r : Found) → SearchAs s n d x r → FindAs s n top d y r
+  find-searched r f = found-as r (λ ws e m u. f ws e m)
+
+-- the bytes at a place, as the code compares them
+pub stands : (d key : List ℕ) (at : ℕ) {y x : List ℕ} {r : Bool} → y ≡ drop at d → x ≡ part y 0 stampSize → r ≡ sameList x key → r ≡ true
+    → sameList (part (drop at d) 0 stampSize) key ≡ true
+stands d key at p q c e =
+    ap (λ (z : List ℕ). sameList (part z 0 stampSize) key) (sym p) ∙ ap (λ (z : List ℕ). sameList z key) (sym q) ∙ sym c ∙ e
+
+-- ---- what is found by a stamp's bytes is what is held for it
+
+abbrev pub shareIn : Option Write → Option Share
+shareIn none = none
+shareIn (some w) = some (w .share)
+
+share-cond : (b : Bool) (w : Write) (o : Option Write) (p : Option Share) → shareIn o ≡ p → shareIn (cond b (some w) o) ≡ cond b (some (w .share)) p
+share-cond true w o p e = refl
+share-cond false w o p e = e
+
+pub first-held : (a : Stamp) (ws : List Write) → shareIn (firstWith (stampF .print a) ws) ≡ held a ws
+unfolding firstWith held
+first-held a [] = refl
+first-held a (w ∷ ws) = rw (same-printed (w .stamp) a) (share-cond (sameStamp (w .stamp) a) w _ _ (first-held a ws))
