@@ -1,4 +1,4 @@
--- A number is a product with f where f divides it and the quotient is the other factor.
+-- A number is a product with f where f divides it and the quotient is the other factor. Assumes nothing.
 use mathlib.Core.Path.{sym, ap}
 use mathlib.Core.Bool.{not}
 use Rattle.erasure.proofs.Refused.{not-whole, quotient}

@@ -1,4 +1,4 @@
--- The loop goes on only where each server so far is within.
+-- The loop goes on only where each server so far is within. Assumes nothing.
 use mathlib.Core.Path.{_≡_, sym, ap, _∙_}
 use Prim.Native.Nat.{ℕ, _-_, _<_, _≤_}
 use native.Mathlib.Omega.{arith}

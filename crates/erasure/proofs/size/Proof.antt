@@ -1,4 +1,4 @@
--- By definition.
+-- By definition. Assumes nothing.
 use mathlib.Core.Path.{refl}
 use Rattle.erasure.specs.Fragments.{fragmentSize}
 use borrow.Author.Needs.{needs}

@@ -1,4 +1,4 @@
--- The inverse of 0 is 0; any other has 255 less the logarithm as its own.
+-- The inverse of 0 is 0; any other has 255 less the logarithm as its own. Assumes nothing.
 use native.Mathlib.Omega.{arith}
 use mathlib.Core.Path.{sym, ap, _∙_}
 use Rattle.gf256.proofs.Tables.{inverse-of-log, inverse-zero}

@@ -1,4 +1,4 @@
--- A product with 0 is 0; any other has the sum of the logarithms as its own.
+-- A product with 0 is 0; any other has the sum of the logarithms as its own. Assumes nothing.
 use Prim.Native.Nat.{ℕ}
 use mathlib.Core.Path.{sym, ap, _∙_}
 use Rattle.gf256.specs.Gf.{times}

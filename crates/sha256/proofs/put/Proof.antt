@@ -1,3 +1,4 @@
+-- `sha256::put` meets its contract: after k turns the first k bytes of s stand at their places, and nothing else has changed. Assumes nothing.
 use mathlib.Core.Path.{_≡_, refl}
 use Prim.Native.Nat.{_≤_, _-_}
 use native.Mathlib.Numerals.{add-one}

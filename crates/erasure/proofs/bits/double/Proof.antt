@@ -1,4 +1,4 @@
--- The two branches are the two cases of the top bit.
+-- The two branches are the two cases of the top bit. Assumes nothing.
 use native.Mathlib.Omega.{arith}
 use Rattle.erasure.proofs.Horner.{double-low, double-high}
 use Rattle.erasure.proofs.bits.double.Statement.{statement}

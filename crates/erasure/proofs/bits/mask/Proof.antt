@@ -1,4 +1,4 @@
--- The lowest bit of the shifted weight is the bit, and the mask is that times 255.
+-- The lowest bit of the shifted weight is the bit, and the mask is that times 255. Assumes nothing.
 use Prim.Native.Nat.{_/_, _^_}
 use native.Mathlib.Omega.{arith}
 use lib.Bits.{and-le-r}

@@ -1,4 +1,4 @@
--- After n turns the product with the highest n bits of b stands there.
+-- After n turns the product with the highest n bits of b stands there. Assumes nothing.
 use mathlib.Core.Path.{_≡_, refl, sym, ap, ap₂, subst, _∙_}
 use Prim.Native.Nat.{ℕ, _+_, _-_, _/_, _^_, _≤_}
 use native.Mathlib.Omega.{arith}

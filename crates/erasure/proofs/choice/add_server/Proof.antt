@@ -1,4 +1,4 @@
--- The three ways out are the three cases of `more`.
+-- The three ways out are the three cases of `more`. Assumes nothing.
 use mathlib.Core.Path.{_≡_, sym, ap, ap₂, _∙_}
 use mathlib.Core.Bool.{true, false}
 use Prim.Native.Nat.{ℕ}

@@ -1,4 +1,4 @@
--- The loop goes on only where the server is not found.
+-- The loop goes on only where the server is not found. Assumes nothing.
 use mathlib.Core.Path.{_≡_, sym, _∙_}
 use Prim.Native.Nat.{ℕ, _-_, _<_, _≤_}
 use native.Mathlib.Omega.{arith}

@@ -1,4 +1,4 @@
--- After i turns the choice among the first i servers is held.
+-- After i turns the choice among the first i servers is held. Assumes nothing.
 use mathlib.Core.Path.{_≡_, refl, sym, ap, ap₂, subst, _∙_}
 use mathlib.Core.List.{map}
 use Prim.Native.Nat.{ℕ, _-_, _≤_}

@@ -1,4 +1,4 @@
--- By the test.
+-- By the test. Assumes nothing.
 use mathlib.Core.Path.{sym, ap}
 use lib.Bits.{bitXor}
 use lib.ListN.{getD}

@@ -1,4 +1,4 @@
--- The loop multiplies by one factor after the other, in both products.
+-- The loop multiplies by one factor after the other, in both products. Assumes nothing.
 use mathlib.Core.Path.{_≡_, sym, ap, ap₂, _∙_}
 use Prim.Native.Nat.{ℕ, _-_, _≤_}
 use native.Mathlib.Omega.{arith}

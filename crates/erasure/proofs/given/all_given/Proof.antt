@@ -1,4 +1,4 @@
--- The loop goes on only where the run is given.
+-- The loop goes on only where the run is given. Assumes nothing.
 use mathlib.Core.Path.{sym}
 use mathlib.Core.Bool.{true≢false}
 use Prim.Native.Nat.{ℕ, _-_, _<_, _≤_}

@@ -1,4 +1,4 @@
--- The loop is left before its end only where the point stands.
+-- The loop is left before its end only where the point stands. Assumes nothing.
 use Prim.Native.Nat.{_-_, _≤_}
 use native.Mathlib.Omega.{arith}
 use borrow.Author.Needs.{needs}

@@ -1,4 +1,4 @@
--- Each entry is where its point stands.
+-- Each entry is where its point stands. Assumes nothing.
 use mathlib.Core.Path.{_≡_, refl}
 use Prim.Native.Nat.{_+_, _-_, _<_, _≤_}
 use native.Mathlib.Omega.{arith}

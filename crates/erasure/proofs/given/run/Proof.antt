@@ -1,4 +1,4 @@
--- A given run is copied from its own fragment; the weights at another run's point make the sums.
+-- A given run is copied from its own fragment; the weights at another run's point make the sums. Assumes nothing.
 use mathlib.Core.Path.{sym}
 use Prim.Native.Nat.{_+_}
 use native.Mathlib.Omega.{arith}

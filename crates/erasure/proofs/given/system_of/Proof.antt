@@ -1,4 +1,4 @@
--- Where all runs are given, nothing is promised.
+-- Where all runs are given, nothing is promised. Assumes nothing.
 use native.Mathlib.Omega.{arith}
 use borrow.Author.Needs.{needs}
 use Rattle.erasure.proofs.given.system_of.Statement.{statement}

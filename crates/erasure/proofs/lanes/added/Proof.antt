@@ -1,4 +1,4 @@
--- At each place the mask lets x through, or 0.
+-- At each place the mask lets x through, or 0. Assumes nothing.
 use mathlib.Core.Path.{_≡_, refl, ap, _∙_}
 use Prim.Native.Nat.{_-_, _≤_}
 use native.Mathlib.Omega.{arith}

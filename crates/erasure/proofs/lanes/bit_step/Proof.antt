@@ -1,4 +1,4 @@
--- The doubled sum, and one run after the other where its weight has the bit.
+-- The doubled sum, and one run after the other where its weight has the bit. Assumes nothing.
 use mathlib.Core.Path.{refl, sym, ap, ap₂, _∙_}
 use Prim.Native.Nat.{ℕ, _-_, _*_, _≤_}
 use native.Mathlib.Omega.{arith}

@@ -1,4 +1,4 @@
--- Past its end a list reads as 0.
+-- Past its end a list reads as 0. Assumes nothing.
 use mathlib.Core.Path.{sym}
 use lib.ListN.{List·getD-eq-default}
 use borrow.Author.Needs.{needs}

@@ -1,4 +1,4 @@
--- Lane after lane is written behind the last, and each place holds its sum.
+-- Lane after lane is written behind the last, and each place holds its sum. Assumes nothing.
 use mathlib.Core.Path.{ap, subst, _∙_}
 use Prim.Native.Nat.{ℕ, _+_, _-_, _<_, _≤_}
 use native.Mathlib.Omega.{arith}

@@ -1,4 +1,4 @@
--- What is written so far is written, and the rest is kept.
+-- What is written so far is written, and the rest is kept. Assumes nothing.
 use mathlib.Core.Path.{refl, subst}
 use Prim.Native.Nat.{ℕ, _+_, _-_, _≤_}
 use native.Mathlib.Omega.{arith}

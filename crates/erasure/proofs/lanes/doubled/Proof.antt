@@ -1,4 +1,4 @@
--- Each place is doubled.
+-- Each place is doubled. Assumes nothing.
 use mathlib.Core.Path.{_≡_, refl}
 use Prim.Native.Nat.{_-_, _≤_}
 use native.Mathlib.Omega.{arith}

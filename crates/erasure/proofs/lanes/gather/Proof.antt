@@ -1,4 +1,4 @@
--- Each lane is read at its run.
+-- Each lane is read at its run. Assumes nothing.
 use mathlib.Core.Path.{refl, ap, _∙_}
 use mathlib.Core.List.{[]}
 use Prim.Native.Nat.{ℕ, _+_, _-_, _<_, _≤_}

@@ -1,4 +1,4 @@
--- After n turns the sum is that of the highest n bits of each weight.
+-- After n turns the sum is that of the highest n bits of each weight. Assumes nothing.
 use mathlib.Core.Path.{_≡_, sym, ap, subst, _∙_}
 use Prim.Native.Nat.{ℕ, _+_, _-_, _*_, _/_, _^_, _<_, _≤_}
 use native.Mathlib.Omega.{arith}

@@ -1,4 +1,4 @@
--- A list of equal bytes.
+-- A list of equal bytes. Assumes nothing.
 use mathlib.Core.Path.{refl}
 use Rattle.erasure.specs.Fragments.{table}
 use Rattle.erasure.specs.Steps.{zeros}

@@ -1,4 +1,4 @@
--- The weights at z make the sum at each place a value of the polynomial.
+-- The weights at z make the sum at each place a value of the polynomial. Assumes nothing.
 use mathlib.Core.Path.{_≡_}
 use Prim.Native.Nat.{ℕ, _<_}
 use native.Mathlib.Omega.{arith}

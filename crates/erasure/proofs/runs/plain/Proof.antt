@@ -1,4 +1,4 @@
--- What the content has of the run is copied behind nothing, and the rest is 00h.
+-- What the content has of the run is copied behind nothing, and the rest is 00h. Assumes nothing.
 use mathlib.Core.Path.{refl}
 use Prim.Native.Nat.{_*_, _≤_}
 use native.Mathlib.Omega.{arith}

@@ -1,4 +1,4 @@
--- Each entry is its place.
+-- Each entry is its place. Assumes nothing.
 use mathlib.Core.Path.{_≡_, refl}
 use Prim.Native.Nat.{_-_, _≤_}
 use native.Mathlib.Omega.{arith}

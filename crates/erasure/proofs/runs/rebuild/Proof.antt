@@ -1,4 +1,4 @@
--- Run after run is written behind the last; a run begins at a multiple of its length.
+-- Run after run is written behind the last; a run begins at a multiple of its length. Assumes nothing.
 use mathlib.Core.Path.{_≡_, ap, subst, _∙_}
 use Prim.Native.Nat.{ℕ, _+_, _-_, _%_, _<_, _≤_}
 use native.Mathlib.Nat.{add-mod-right, zero-mod}

@@ -1,4 +1,4 @@
--- Each entry is the place times the length of a run.
+-- Each entry is the place times the length of a run. Assumes nothing.
 use mathlib.Core.Path.{_≡_, refl}
 use Prim.Native.Nat.{_-_, _*_, _<_, _≤_}
 use native.Mathlib.Omega.{arith}

@@ -1,4 +1,4 @@
--- Row after row is that of its point.
+-- Row after row is that of its point. Assumes nothing.
 use mathlib.Core.Path.{_≡_, refl}
 use mathlib.Core.List.{[]}
 use Prim.Native.Nat.{ℕ, _-_, _<_, _≤_}

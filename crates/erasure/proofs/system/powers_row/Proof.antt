@@ -1,4 +1,4 @@
--- Each power is the last one times x.
+-- Each power is the last one times x. Assumes nothing.
 use Rattle.erasure.specs.System.{width}
 use mathlib.Core.Path.{_≡_, refl, sym, ap, _∙_}
 use Prim.Native.Nat.{ℕ, _-_, _≤_}

@@ -1,4 +1,4 @@
--- Each turn at a pivot that is not zero leaves the system solved one step further; k turns solve it.
+-- Each turn at a pivot that is not zero leaves the system solved one step further; k turns solve it. Assumes nothing.
 use mir.Val.{Fits}
 use mir.Syntax.{w8}
 use Rattle.erasure.proofs.Solved.{begun, begun-small, mat, Small, small-out, turned-mat, half-system, point, pivot-pos, unit-law, solves, toByte}

@@ -1,4 +1,4 @@
--- Each entry is less w times the pivot's, and the store at p comes last.
+-- Each entry is less w times the pivot's, and the store at p comes last. Assumes nothing.
 use Rattle.erasure.specs.System.{width}
 use lib.ListN.{getD}
 use mathlib.Core.Path.{_≡_, refl, ap, _∙_}

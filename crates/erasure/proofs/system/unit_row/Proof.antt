@@ -1,4 +1,4 @@
--- The one store is at p; all else is still 0.
+-- The one store is at p; all else is still 0. Assumes nothing.
 use Rattle.erasure.specs.System.{width}
 use lib.ListN.{getD-replicate}
 use mathlib.Core.Path.{_∙_}

@@ -1,4 +1,4 @@
--- The loop adds one product after the other.
+-- The loop adds one product after the other. Assumes nothing.
 use mathlib.Core.Path.{_≡_, sym, ap, _∙_}
 use Prim.Native.Nat.{ℕ, _-_, _≤_}
 use native.Mathlib.Omega.{arith}

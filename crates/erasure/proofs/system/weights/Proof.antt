@@ -1,4 +1,4 @@
--- Each entry is what `weight` gives there.
+-- Each entry is what `weight` gives there. Assumes nothing.
 use mathlib.Core.Path.{_≡_, refl, ap, _∙_}
 use Prim.Native.Nat.{ℕ, _-_, _≤_}
 use native.Mathlib.Omega.{arith}

@@ -1,4 +1,4 @@
--- The table is that of the logarithms, entry by entry; entry a - 1 is that of a.
+-- The table is that of the logarithms, entry by entry; entry a - 1 is that of a. Assumes nothing.
 use mathlib.Core.Path.{_∙_}
 use Prim.Native.Nat.{_-_, _<_}
 use native.Mathlib.Omega.{arith}

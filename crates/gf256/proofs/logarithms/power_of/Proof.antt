@@ -1,4 +1,4 @@
--- The table is that of the powers, entry by entry.
+-- The table is that of the powers, entry by entry. Assumes nothing.
 use Rattle.gf256.proofs.Tables.{powers, powers-at}
 use borrow.Author.Needs.{needs}
 use Rattle.gf256.proofs.logarithms.power_of.Statement.{statement}
