@@ -164,7 +164,8 @@ module _ (K : Setup) (xs : Steps K) (fair : Fair K xs) (cs : List Candidate) (g 
         let fq : g j .share ≡ some (hs .0) = T .share-is ∙ ap (λ (a : Stamp). held a (hist K (N .ys) j)) (sym (T .stamp-is) ∙ sq) ∙ hs .1 in
         let P = piece-of K (N .ys) (T .old) j d G (hs .0) (hs .1) in let O = P .origin in
         let pw : O .write ≡ gen .origin .write = by-stamp (K .s) xs (O .write) (gen .origin .write)
-        (suf-up (λ (zs : Steps K). In (O .write) (marks (K .s) zs)) (marks-up (K .s) (O .write)) (N .ys) xs (before-now K xs fair cs g m W j N) (O .made))
+        (suf-up (λ (zs : Steps K). In (O .write) (marks (K .s) zs)) (marks-up (K .s) (O .write)) (N .ys) xs (before-now K xs fair cs g m W j N)
+        (O .made))
         (gen .origin .made) (O .stamp-is ∙ sym (gen .origin .stamp-is)) in
         (sq, fq ∙ ap some (P .share-is ∙ ap (λ (w : Stamped). shareFor (K .s) w j) pw))
 

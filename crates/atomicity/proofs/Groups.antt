@@ -54,8 +54,10 @@ module _ (s : System) (m : ByServer Bool) (g : ByServer Held) (c : Candidate) wh
         share = h;
         share-is = q;
         stamp-is = stamp-same _ _ (and-left (sameStamp (g i .stamp) (c .stamp)) _ (and-right (m i) _ e));
-        nonce-is = same-true _ _ (and-left (sameList (h .nonceDigest) (s .P .digest (c .nonce))) _ (and-right (within leastLength topLength (h .size)) _ k));
-        digest-is = same-true _ _ (and-right (sameList (h .nonceDigest) (s .P .digest (c .nonce))) _ (and-right (within leastLength topLength (h .size)) _ k));
+        nonce-is = same-true _ _ (and-left (sameList (h .nonceDigest) (s .P .digest (c .nonce))) _
+            (and-right (within leastLength topLength (h .size)) _ k));
+        digest-is = same-true _ _ (and-right (sameList (h .nonceDigest) (s .P .digest (c .nonce))) _
+            (and-right (within leastLength topLength (h .size)) _ k));
       }
 
   -- two shares of one group

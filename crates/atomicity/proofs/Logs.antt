@@ -74,7 +74,8 @@ module _ (K : Setup) where
   beginSigned a false f = []
 
   unfoldable pub newSigned : (x : StepOf K) (xs : Steps K) (st : Step) → x .step ≡ st → List (Signed (x ∷ xs))
-  newSigned x xs (write c r n) e = beginSigned (newCall c (suc (calls K xs c)) (some r) (length xs)) (accepted (result K x xs)) (new-write x xs c r n e)
+  newSigned x xs (write c r n) e = beginSigned (newCall c (suc (calls K xs c)) (some r) (length xs)) (accepted (result K x xs))
+      (new-write x xs c r n e)
   newSigned x xs (read c) e = beginSigned (newCall c (suc (calls K xs c)) none (length xs)) (accepted (result K x xs)) (new-read x xs c e)
   newSigned x xs (make c b o) e = []
   newSigned x xs (take-reply c b o) e = []

@@ -83,7 +83,8 @@ module _ (K : Setup) where
       (own : mover (x .step) ≡ some (a .client) → acting (a .client) (x .step) ≡ true → a .number ≡ calls K xs (a .client) →
       P (effect x xs (a .client) a))
       (other : (mover (x .step) ≡ some (a .client) → a .number ≡ calls K xs (a .client) → ⊥) → P a) where
-    touch-case : (c : ℕ) → mover (x .step) ≡ some c → (a .client ≡ c → acting (a .client) (x .step) ≡ true) → P (touch c (calls K xs c) (effect x xs c) a)
+    touch-case : (c : ℕ) → mover (x .step) ≡ some c → (a .client ≡ c → acting (a .client) (x .step) ≡ true) → P
+        (touch c (calls K xs c) (effect x xs c) a)
     unfolding touch
     touch-case c m act = at-cond (eqb (a .client) c && eqb (a .number) (calls K xs c)) _ a P
         (λ t. let q : a .client ≡ c = eqb-true _ _ (and-left (eqb (a .client) c) _ t) in

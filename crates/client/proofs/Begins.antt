@@ -32,7 +32,18 @@ module _ (t client : ℕ) (c : Call) (kept : List ℕ) where
 
     pub write-begins : length kept ≡ keptSize → no ≡ 0
         → coreWrite t client c kept content nonce
-        ≡ record { result = record { number = 0; count = 0 }; call = record { number = suc (c .number); last = c .last; high = c .last; length = length content; tally = fresh 1 }; kept = put (put kept 0 content) nonceAt nonce }
+        ≡ record {
+          result = record { number = 0; count = 0 };
+          call = record {
+            number = suc (c .number);
+            last = c .last;
+            high = c .last;
+            length =
+                length content;
+            tally = fresh 1;
+          };
+          kept = put (put kept 0 content) nonceAt nonce;
+        }
     unfolding coreWrite beginWrite
     write-begins h z = rw (eq-eqb (length kept) keptSize h, z)
 
@@ -60,7 +71,18 @@ module _ (t client : ℕ) (c : Call) (kept : List ℕ) where
 
   pub read-begins : length kept ≡ keptSize → none ≡ 0
       → coreRead t client c kept
-      ≡ record { result = record { number = 0; count = 0 }; call = record { number = suc (c .number); last = c .last; high = c .high; length = c .length; tally = fresh 4 }; kept = put kept candidatesAt (replicate (candidateSlot * mostServers) 0) }
+      ≡ record {
+        result = record { number = 0; count = 0 };
+        call = record {
+          number = suc (c .number);
+          last = c .last;
+          high = c .high;
+          length =
+              c .length;
+          tally = fresh 4;
+        };
+        kept = put kept candidatesAt (replicate (candidateSlot * mostServers) 0);
+      }
   unfolding coreRead beginRead
   read-begins h z = rw (eq-eqb (length kept) keptSize h, z)
 
@@ -72,7 +94,8 @@ module _ (t client : ℕ) (c : Call) (kept : List ℕ) where
       let p₃ = passes (inHand c) 12 _ (p₂ .1) in
       leb-false topNumber (c .number) (passes (leb topNumber (c .number)) 13 _ (p₃ .1) .0)
 
-  pub core-write : (content nonce : List ℕ) → length kept ≡ keptSize → coreWrite t client c kept content nonce ≡ beginWrite t client c kept content nonce
+  pub core-write : (content nonce : List ℕ) → length kept ≡ keptSize → coreWrite t client c kept content nonce ≡ beginWrite t client c kept content
+      nonce
   unfolding coreWrite
   core-write content nonce h = rw (eq-eqb (length kept) keptSize h)
 

@@ -62,11 +62,13 @@ module _ (t client : ℕ) (c : Call) (reply : List ℕ) (h : Head) (y : Ready t 
     refused-as false true f g n e ne = rw e (sym (clock-short t client writers (keyOf keys) c kept output reply h y clock f g))
     refused-as false false f g n e ne = absurd (ne e)
 
-    pub clock-refused : (n room high : ℕ) → n ≡ firstOf (refuse 14 (ends (shelf t) c && leb topNumber high) ∷ refuse 15 (ltb room contentRoom) ∷ []) → (n ≡ 0 → ⊥)
+    pub clock-refused : (n room high : ℕ) → n ≡ firstOf (refuse 14 (ends (shelf t) c && leb topNumber high) ∷ refuse 15 (ltb room contentRoom) ∷ []) →
+        (n ≡ 0 → ⊥)
         → high ≡ top → length output ≡ room → Takes (record { taken = taken.Refused n; call = c }) kept
     clock-refused n room high e ne m l = refused-as over (ltb (length output) contentRoom) refl refl n (rw (m, ← l) at e) ne
 
-    module _ (n room high : ℕ) (e : n ≡ firstOf (refuse 14 (ends (shelf t) c && leb topNumber high) ∷ refuse 15 (ltb room contentRoom) ∷ [])) (z : n ≡ 0) (m : high ≡ top) where
+    module _ (n room high : ℕ) (e : n ≡ firstOf (refuse 14 (ends (shelf t) c && leb topNumber high) ∷ refuse 15 (ltb room contentRoom) ∷ []))
+        (z : n ≡ 0) (m : high ≡ top) where
       fine : over ≡ false
       fine = rw m at (passes (ends (shelf t) c && leb topNumber high) 13 (cond (ltb room contentRoom) 15 0) (sym e ∙ z) .0)
 
@@ -79,12 +81,31 @@ module _ (t client : ℕ) (c : Call) (reply : List ℕ) (h : Head) (y : Ready t 
       clock-below q = rw m (leb-false topNumber top (rw q at fine))
 
       pub clock-noted : length output ≡ room → ends (shelf t) c ≡ false
-          → Takes (record { taken = taken.More; call = record { number = c .number; last = c .last; high = high; length = c .length; tally = noted (c .tally) (h .server) } }) kept
+          → Takes (record {
+            taken = taken.More;
+            call = record {
+              number = c .number;
+              last = c .last;
+              high = high;
+              length = c .length;
+              tally = noted
+                  (c .tally) (h .server);
+            };
+          }) kept
       unfolding clientTake
       clock-noted l q = rw m (sym (clock-goes t client writers (keyOf keys) c kept output reply h y clock fine (wide l) q))
 
       pub clock-ended : length output ≡ room → ends (shelf t) c ≡ true
-          → Takes (record { taken = taken.More; call = record { number = c .number; last = suc high; high = high; length = c .length; tally = fresh 2 } })
+          → Takes (record {
+            taken = taken.More;
+            call = record {
+              number = c .number;
+              last = suc high;
+              high = high;
+              length = c .length;
+              tally = fresh 2;
+            };
+          })
           (writeMade t client writers keys c kept (suc high))
       unfolding clientTake
       clock-ended l q = rw m (sym (clock-ends t client writers (keyOf keys) c kept output reply h y clock fine (wide l) q))

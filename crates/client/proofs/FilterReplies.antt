@@ -34,14 +34,16 @@ use Rattle.client.proofs.TakenReplies.{on-round, body-at, printed}
 use Rattle.client.proofs.Judged.{judged-by}
 
 -- the round's step, of a body
-on-filter : (t client : ℕ) (writers : List ℕ) (keys : ByServer (List ℕ)) (c : Call) (kept output : List ℕ) (h : Head) (x : Body) (d : List ℕ) → heldF (shelf t) .print (heldIn x) ≡ d
+on-filter : (t client : ℕ) (writers : List ℕ) (keys : ByServer (List ℕ)) (c : Call) (kept output : List ℕ) (h : Head) (x : Body) (d : List ℕ) → heldF
+    (shelf t) .print (heldIn x) ≡ d
     → takeOn real (shelf t) client writers keys c kept output 5 (some (record { head = h; body = x }))
     ≡ (let c' = withTally c (noted (c .tally) (h .server)) in
     let k = put kept (repliesAt + replySlot * (h .server - 1)) d in
     let m = marked (c' .tally .marks) in
     let g = repliesIn (shelf t) (c' .tally .marks) k in
     let cs = gather (candidatesIn (shelf t) k) (shelf t .servers) in
-    cond (ends (shelf t) c) (judgeIn real (shelf t) client writers keys c kept output c' m g k (live real (shelf t) m g cs) (choice real (shelf t) m g cs))
+    cond (ends (shelf t) c) (judgeIn real (shelf t) client writers keys c kept output c' m g k (live real (shelf t) m g cs)
+    (choice real (shelf t) m g cs))
     (record { answer = taken.More; call = c'; kept = k; output = output }))
 unfolding takeOn takeFilter took
 on-filter t client writers keys c kept output h x d e = rw e
@@ -61,7 +63,8 @@ module _ (t client : ℕ) (c : Call) (reply : List ℕ) (h : Head) (y : Ready t 
     held-ok : heldF (shelf t) .Ok (heldAt (shelf t) body)
     held-ok =
         let o : BodyOk (shelf (h .t)) (packetAt h reply .body) = of-head in
-        subst (BodyOk (shelf t)) body-is (subst (λ (k : ℕ). BodyOk (shelf k) (packetAt h reply .body)) (awaited-reply t client c h (y .awaited) .ofShelf) o)
+        subst (BodyOk (shelf t)) body-is (subst (λ (k : ℕ). BodyOk (shelf k) (packetAt h reply .body))
+        (awaited-reply t client c h (y .awaited) .ofShelf) o)
       where
         of-head : BodyOk (shelf (h .t)) (packetAt h reply .body)
         of-head = unfold packetAt in body-ok (packetAt h reply) (decode-ok reply (packetAt h reply) (y .decoded))
@@ -89,7 +92,8 @@ module _ (t client : ℕ) (c : Call) (reply : List ℕ) (h : Head) (y : Ready t 
       cs = gather (candidatesIn (shelf t) after) (shelf t .servers)
 
       abbrev judged : Took
-      judged = judgeIn real (shelf t) client writers (keyOf keys) c kept output then m g after (live real (shelf t) m g cs) (choice real (shelf t) m g cs)
+      judged = judgeIn real (shelf t) client writers (keyOf keys) c kept output then m g after (live real (shelf t) m g cs)
+          (choice real (shelf t) m g cs)
 
       took-filter : clientTake real t client writers keys c kept reply output
           ≡ cond (ends (shelf t) c) judged (record { answer = taken.More; call = then; kept = after; output = output })
@@ -109,8 +113,10 @@ module _ (t client : ℕ) (c : Call) (reply : List ℕ) (h : Head) (y : Ready t 
       filter-ends l bs f =
           let r = ready-faults t client c reply h y in
           let v = ready-server t client c reply h y in
-          let n : length after ≡ keptSize = put-length kept (repliesAt + replySlot * (h .server - 1)) body (omega (arith, l, body-fits, v .0, v .1)) ∙ l in
+          let n : length after ≡ keptSize = put-length kept (repliesAt + replySlot * (h .server - 1)) body (omega (arith, l, body-fits, v .0, v .1)) ∙
+          l in
           let z : length {A = ℕ} (replicate contentRoom 0) ≡ contentRoom = length-replicate {A = ℕ} contentRoom 0 in
-          judged-by t (then .tally .marks) after (record { low = r .0; high = r .1; size = n }) bs client writers (keyOf keys) c (noted (c .tally) (h .server)) kept output
+          judged-by t (then .tally .marks) after (record { low = r .0; high = r .1; size = n }) bs client writers (keyOf keys) c
+          (noted (c .tally) (h .server)) kept output
           (replicate contentRoom 0) (omega (arith, z))
           ∙ sym (took-filter ∙ rw f)

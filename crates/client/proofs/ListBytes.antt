@@ -67,13 +67,15 @@ module _ (s : Config) (kept : List ℕ) (i : ℕ) (few : i < mostServers) (size 
 
 print-append : {A : Type 0} (F : Fmt A) (xs ys : List A) → printMany F (xs ++ ys) ≡ printMany F xs ++ printMany F ys
 print-append F [] ys = refl
-print-append F (x ∷ xs) ys = ap (λ (z : List ℕ). F .print x ++ z) (print-append F xs ys) ∙ sym (append-assoc (F .print x) (printMany F xs) (printMany F ys))
+print-append F (x ∷ xs) ys = ap (λ (z : List ℕ). F .print x ++ z) (print-append F xs ys) ∙ sym
+    (append-assoc (F .print x) (printMany F xs) (printMany F ys))
 
 module _ (F : Fmt Candidate) (g : ByServer Candidate) where
   list-more : (n : ℕ) → printMany F (gather g (suc n)) ≡ printMany F (gather g n) ++ cond (enters g (suc n)) (F .print (g (suc n))) []
   list-more n = ap (printMany F) (gather-more g n) ∙ go (enters g (suc n))
     where
-      go : (b : Bool) → printMany F (cond b (gather g n ++ (g (suc n) ∷ [])) (gather g n)) ≡ printMany F (gather g n) ++ cond b (F .print (g (suc n))) []
+      go : (b : Bool) → printMany F (cond b (gather g n ++ (g (suc n) ∷ [])) (gather g n)) ≡ printMany F (gather g n) ++ cond b (F .print (g (suc n)))
+          []
       go true = print-append F (gather g n) (g (suc n) ∷ []) ∙ ap (λ (z : List ℕ). printMany F (gather g n) ++ z) (append-nil (F .print (g (suc n))))
       go false = sym (append-nil (printMany F (gather g n)))
 

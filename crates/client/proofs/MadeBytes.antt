@@ -19,7 +19,8 @@ module _ (t client b : ℕ) (c : Call) (kept : List ℕ) where
   head k = record { kind = k; client = client; server = b; t = t; call = c .number }
 
   abbrev bytes : ℕ → List ℕ
-  bytes r = encode (made t client (record { calls = c .number; last = c .last; marks = marked (c .tally .marks); hand = handOf (shelf t) r c kept }) b)
+  bytes r = encode (made t client (record { calls = c .number; last = c .last; marks = marked (c .tally .marks); hand = handOf (shelf t) r c kept })
+      b)
 
   abbrev chosen : List ℕ
   chosen = candidateF (shelf t) .print (chosenOf (shelf t) kept)
@@ -49,11 +50,13 @@ module _ (t client b : ℕ) (c : Call) (kept : List ℕ) where
   filter-bytes = refl
 
   pub store-bytes : 1 ≤ b → b ≤ shelf t .servers
-      → bytes 2 ≡ headF .print (head 3) ++ (stampF .print (chosenOf (shelf t) kept .stamp) ++ shareF (shelf t) .print (shareAt (shelf t) (replySlotOf kept (b - 1))))
+      → bytes 2 ≡ headF .print (head 3) ++ (stampF .print (chosenOf (shelf t) kept .stamp) ++ shareF (shelf t) .print
+      (shareAt (shelf t) (replySlotOf kept (b - 1))))
   unfolding encode packetF writeF via seq bodyF made handOf sharesIn
   store-bytes lo hi = rw (le-leb 1 b lo, le-leb b (shelf t .servers) hi)
 
-  pub empty-bytes : (r : ℕ) → 1 ≤ r → r ≤ 6 → (r ≡ 2 → ⊥) → (r ≡ 3 → ⊥) → (r ≡ 5 → ⊥) → (r ≡ 6 → ⊥) → bytes r ≡ headF .print (head (2 * r - 1)) ++ ([] ++ [])
+  pub empty-bytes : (r : ℕ) → 1 ≤ r → r ≤ 6 → (r ≡ 2 → ⊥) → (r ≡ 3 → ⊥) → (r ≡ 5 → ⊥) → (r ≡ 6 → ⊥) → bytes r ≡ headF .print (head (2 * r - 1)) ++
+      ([] ++ [])
   empty-bytes zero lo hi a b c d = let z : ⊥ = omega arith in absurd z
   empty-bytes (suc zero) lo hi a b c d = clock-bytes
   empty-bytes (suc (suc zero)) lo hi a b c d = absurd (a refl)

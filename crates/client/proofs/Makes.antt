@@ -22,7 +22,8 @@ module _ (t client b : ℕ) (c : Call) (kept output : List ℕ) where
   abbrev no : ℕ
   no = makeRefusal (shelf t) client b (inHand c) (length output)
 
-  pub make-short : (length kept ≡ keptSize → ⊥) → coreMake t client b c kept output ≡ record { result = record { number = 1; count = 0 }; output = output }
+  pub make-short : (length kept ≡ keptSize → ⊥) → coreMake t client b c kept output ≡ record
+      { result = record { number = 1; count = 0 }; output = output }
   unfolding coreMake
   make-short h = rw (ne-eqb (length kept) keptSize h)
 
@@ -35,11 +36,13 @@ module _ (t client b : ℕ) (c : Call) (kept output : List ℕ) where
   unfolding clientMake
   make-refused h n e ne = core-make h ∙ rw (refused-is no _ _ (λ z. ne (e ∙ z)), e)
 
-  pub make-goes : length kept ≡ keptSize → no ≡ 0 → coreMake t client b c kept output ≡ wholePacket (encode (made t client (view (shelf t) c kept) b)) output
+  pub make-goes : length kept ≡ keptSize → no ≡ 0 → coreMake t client b c kept output ≡ wholePacket (encode (made t client (view (shelf t) c kept) b))
+      output
   unfolding clientMake wholePacket
   make-goes h z = core-make h ∙ rw z
 
-  pub make-fits : no ≡ 0 → (1 ≤ t) × ((t ≤ topFaults) × ((client ≤ topClient) × ((1 ≤ b) × ((b ≤ shelf t .servers) × ((packetRoom ≤ length output) × (inHand c ≡ true))))))
+  pub make-fits : no ≡ 0 → (1 ≤ t) × ((t ≤ topFaults) × ((client ≤ topClient) × ((1 ≤ b) ×
+      ((b ≤ shelf t .servers) × ((packetRoom ≤ length output) × (inHand c ≡ true))))))
   unfolding makeRefusal shelf
   make-fits e =
       let p₁ = passes (badFaults (shelf t)) 2 _ e in
@@ -48,5 +51,23 @@ module _ (t client b : ℕ) (c : Call) (kept output : List ℕ) where
       let p₄ = passes (not (inHand c)) 12 _ (p₃ .1) in
       let p₅ = passes (ltb (length output) packetRoom) 14 _ (p₄ .1) in
       let i₁ = inside 1 topFaults t (p₁ .0) in
-      let i₂ = inside 1 (shelf t .servers) b (p₂ .0) in
-      (i₁ .0, (i₁ .1, (inside 1 topClient client (p₃ .0) .1, (i₂ .0, (i₂ .1, (ltb-false (length output) packetRoom (p₅ .0), not-false (inHand c) (p₄ .0)))))))
+      let i₂ = inside 1 (shelf t .servers) b (p₂ .0) in (
+        i₁ .0,
+        (
+          i₁ .1,
+          (
+            inside 1 topClient client (p₃ .0) .1,
+            (
+              i₂ .0,
+              (
+                i₂ .1,
+                (
+                  ltb-false (length output) packetRoom (p₅ .0),
+                  not-false (inHand c)
+                      (p₄ .0),
+                ),
+              ),
+            ),
+          ),
+        ),
+      )

@@ -56,7 +56,8 @@ rooms (suc (suc (suc (suc zero)))) n lo hi l = (omega arith, omega arith)
 rooms (suc (suc (suc (suc (suc t))))) n lo hi l = let z : ⊥ = omega arith in absurd z
 
 -- a share of a content of n bytes, with no more than m bytes that are the same for all, fits its slot
-pub share-room : (t n m k : ℕ) → 1 ≤ t → t ≤ topFaults → n ≤ topLength → m ≡ digestSize * shelf t .servers + digestSize + tagSize * shelf t .servers → k ≤ m
+pub share-room : (t n m k : ℕ) → 1 ≤ t → t ≤ topFaults → n ≤ topLength → m ≡ digestSize * shelf t .servers + digestSize + tagSize * shelf t .servers →
+    k ≤ m
     → 2 + (fragmentSize (shelf t .shares) n + k) ≤ replySlot
 share-room t n m k lo hi l e q = let r = rooms t n lo hi l in omega (arith, r .1)
 
@@ -87,7 +88,8 @@ content-short c kept =
     omega (arith, part-most kept 0 n, least (c .length))
 
 -- the candidate stands past the content
-pub content-stays : (c : Call) (kept b : List ℕ) → length kept ≡ keptSize → length b ≤ candidateSlot → contentOf c (put kept chosenAt b) ≡ contentOf c kept
+pub content-stays : (c : Call) (kept b : List ℕ) → length kept ≡ keptSize → length b ≤ candidateSlot → contentOf c (put kept chosenAt b) ≡ contentOf c
+    kept
 unfolding contentOf
 content-stays c kept b h l =
     part-below kept chosenAt b (omega arith) 0 (cond (leb (c .length) topLength) (c .length) topLength) (omega (arith, least (c .length)))
@@ -109,7 +111,8 @@ piece-in-run t r m l =
     let w : ℕ = fragmentSize (shelf t .shares) (length r) in
     let R : List ℕ = fragmentRun t r (shelf t .servers) in
     let n : length R ≡ w * shelf t .servers =
-    run-length w (fragment (shelf t .points) (shelf t .shares) r) (λ i. real-lengths .part (shelf t .points) (shelf t .shares) r i) (shelf t .servers) in
+    run-length w (fragment (shelf t .points) (shelf t .shares) r) (λ i. real-lengths .part (shelf t .points) (shelf t .shares) r i)
+    (shelf t .servers) in
     ap (λ (x : List ℕ). part x (w * m) w) (sym (put-all R R refl)) ∙ piece-at t r R m l (omega (arith, n))
 
 common-length : (t : ℕ) (r digest tags : List ℕ) → length digest ≡ digestSize
@@ -131,14 +134,17 @@ module _ (t : ℕ) (kept r digest tags F D : List ℕ) (n m : ℕ) where
   -- out of the two arrays
   pub offered-run : n ≡ length r → m ≡ digestSize * shelf t .servers + digestSize + length tags → length digest ≡ digestSize
       → width * shelf t .servers ≤ length F → m ≤ length D
-      → shareRun kept (print2 n) (put F 0 (fragmentRun t r (shelf t .servers))) (fragmentSize (shelf t .shares) n) (part (put D 0 common) 0 m) (shelf t .servers)
+      → shareRun kept (print2 n) (put F 0 (fragmentRun t r (shelf t .servers))) (fragmentSize (shelf t .shares) n) (part (put D 0 common) 0 m)
+      (shelf t .servers)
       ≡ offered t kept r digest tags
   offered-run e l d f g =
       let q : m ≡ length common = l ∙ sym (common-length t r digest tags d) in
       let b : part (put D 0 common) 0 m ≡ common = run-back D common m refl refl q (omega arith) in
-      ap (λ (k : ℕ). shareRun kept (print2 k) (put F 0 (fragmentRun t r (shelf t .servers))) (fragmentSize (shelf t .shares) k) (part (put D 0 common) 0 m) (shelf t .servers)) e
+      ap (λ (k : ℕ). shareRun kept (print2 k) (put F 0 (fragmentRun t r (shelf t .servers))) (fragmentSize (shelf t .shares) k)
+      (part (put D 0 common) 0 m) (shelf t .servers)) e
       ∙ (ap (λ (x : List ℕ). shareRun kept (print2 (length r)) (put F 0 (fragmentRun t r (shelf t .servers))) width x (shelf t .servers)) b
-      ∙ same-shares kept (print2 (length r)) (put F 0 (fragmentRun t r (shelf t .servers))) (fragmentRun t r (shelf t .servers)) width common (shelf t .servers)
+      ∙ same-shares kept (print2 (length r)) (put F 0 (fragmentRun t r (shelf t .servers))) (fragmentRun t r (shelf t .servers)) width common
+      (shelf t .servers)
       (λ i h. piece-at t r F i h f ∙ sym (piece-in-run t r i h)))
 
 -- ---- the write
@@ -150,11 +156,14 @@ module _ (t client : ℕ) (writers : List ℕ) (keys : List (List ℕ)) (c : Cal
   abbrev tags : List ℕ
   tags = tagRun keys stamp (sha256 (nonceOf kept)) (shelf t .servers)
 
-  pub offered-made : offered t (put kept chosenAt (stamp ++ (nonceOf kept ++ tags))) (contentOf c kept) (sha256 (nonceOf kept)) tags ≡ writeMade t client writers keys c kept k
+  pub offered-made : offered t (put kept chosenAt (stamp ++ (nonceOf kept ++ tags))) (contentOf c kept) (sha256 (nonceOf kept)) tags ≡ writeMade t
+      client writers keys c kept k
   unfolding tagRun
   offered-made =
       let r : List ℕ = contentOf c kept in
-      let a = shares-run t client writers (keyOf keys) r (nonceOf kept) k (put kept chosenAt (stamp ++ (nonceOf kept ++ tags))) (fragmentRun t r (shelf t .servers))
+      let a = shares-run t client writers (keyOf keys) r (nonceOf kept) k (put kept chosenAt (stamp ++ (nonceOf kept ++ tags)))
+      (fragmentRun t r (shelf t .servers))
       (piece-in-run t r) (shelf t .servers) (omega arith) in
-      a ∙ ap (λ (x : List ℕ). putShares (shelf t) (put kept chosenAt x) (sharesMade real (shelf t) client writers (keyOf keys) r (nonceOf kept) k) (shelf t .servers))
+      a ∙ ap (λ (x : List ℕ). putShares (shelf t) (put kept chosenAt x) (sharesMade real (shelf t) client writers (keyOf keys) r (nonceOf kept) k)
+      (shelf t .servers))
       (sym (candidate-made t client writers (keyOf keys) r (nonceOf kept) k))

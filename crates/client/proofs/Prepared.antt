@@ -41,8 +41,10 @@ module _ (t client : ℕ) (writers : List ℕ) (keys : ByServer (List ℕ)) (r n
   unfolding candidateF stampF via seq number4 byte run candidateMade stampOf tagsOf stampMessage candidateMessage real
   candidate-made = refl
 
-  pub shares-run : (kept pieces : List ℕ) → ((m : ℕ) → suc m ≤ shelf t .servers → part pieces (width * m) width ≡ fragment (shelf t .points) (shelf t .shares) r (suc m))
-      → (m : ℕ) → m ≤ shelf t .servers → shareRun kept (print2 (length r)) pieces width common m ≡ putShares (shelf t) kept (sharesMade real (shelf t) client writers keys r nonce k) m
+  pub shares-run : (kept pieces : List ℕ) → ((m : ℕ) → suc m ≤ shelf t .servers → part pieces (width * m) width ≡ fragment (shelf t .points)
+      (shelf t .shares) r (suc m))
+      → (m : ℕ) → m ≤ shelf t .servers → shareRun kept (print2 (length r)) pieces width common m ≡ putShares (shelf t) kept
+      (sharesMade real (shelf t) client writers keys r nonce k) m
   unfolding shareRun putShares sharesMade shareMade shareF via seq number2 run tagsOf stampOf stampMessage candidateMessage real digestRun
   shares-run kept pieces h zero l = refl
   shares-run kept pieces h (suc m) l =
@@ -53,7 +55,8 @@ unfolding real
 lengths t r i = real-lengths .part (shelf t .points) (shelf t .shares) r i
 
 pub piece-at : (t : ℕ) (r d : List ℕ) (m : ℕ) → suc m ≤ shelf t .servers → fragmentSize (shelf t .shares) (length r) * shelf t .servers ≤ length d
-    → part (put d 0 (fragmentRun t r (shelf t .servers))) (fragmentSize (shelf t .shares) (length r) * m) (fragmentSize (shelf t .shares) (length r)) ≡ fragment (shelf t .points) (shelf t .shares) r (suc m)
+    → part (put d 0 (fragmentRun t r (shelf t .servers))) (fragmentSize (shelf t .shares) (length r) * m) (fragmentSize (shelf t .shares) (length r))
+    ≡ fragment (shelf t .points) (shelf t .shares) r (suc m)
 unfolding fragmentRun nth part
 piece-at t r d m l h =
     let w : ℕ = fragmentSize (shelf t .shares) (length r) in
@@ -62,5 +65,6 @@ piece-at t r d m l h =
     let n : length R ≡ w * shelf t .servers = run-length w F (lengths t r) (shelf t .servers) in
     let o : w * m ≡ 0 + w * m = omega arith in
     let s : m ≡ suc m - 1 = omega arith in
-    ap (λ (k : ℕ). part (put d 0 R) k w) o ∙ (part-inside d 0 R (omega (arith, n, h)) (w * m) w (omega (arith, n, times-more w m (shelf t .servers) l))
+    ap (λ (k : ℕ). part (put d 0 R) k w) o ∙ (part-inside d 0 R (omega (arith, n, h)) (w * m) w
+    (omega (arith, n, times-more w m (shelf t .servers) l))
     ∙ (ap (λ (k : ℕ). take w (drop (w * k) R)) s ∙ nth-run w F (lengths t r) (shelf t .servers) (suc m) (omega arith) l))

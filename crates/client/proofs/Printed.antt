@@ -26,8 +26,10 @@ module _ (s : Config) (d : List ℕ) (b : Bytes d) (h : 5 ≤ length d) where
   pub candidate-back : candidateF s .print (candidateAt s d) ≡ part d 0 (candidateSize s)
   unfolding candidateF via seq run candidateAt
   candidate-back =
-      let j : part d stampSize nonceSize ++ part d (stampSize + nonceSize) (tagsSize s) ≡ part d stampSize (nonceSize + tagsSize s) = sym (part-split d stampSize nonceSize (tagsSize s)) in
-      let k : part d 0 stampSize ++ part d (0 + stampSize) (nonceSize + tagsSize s) ≡ part d 0 (stampSize + (nonceSize + tagsSize s)) = sym (part-split d 0 stampSize (nonceSize + tagsSize s)) in
+      let j : part d stampSize nonceSize ++ part d (stampSize + nonceSize) (tagsSize s) ≡ part d stampSize (nonceSize + tagsSize s) = sym
+      (part-split d stampSize nonceSize (tagsSize s)) in
+      let k : part d 0 stampSize ++ part d (0 + stampSize) (nonceSize + tagsSize s) ≡ part d 0 (stampSize + (nonceSize + tagsSize s)) = sym
+      (part-split d 0 stampSize (nonceSize + tagsSize s)) in
       let e : stampSize + (nonceSize + tagsSize s) ≡ candidateSize s = omega arith in
       rw (stamp-bytes d b h, j) (k ∙ ap (part d 0) e)
 
@@ -51,7 +53,8 @@ module _ (s : Config) (d : List ℕ) (b : Bytes d) (h : 5 ≤ length d) where
       let j₄ = sym (part-split d 0 2 (f + (D + (digestSize + T)))) in
       let e : 2 + (f + (D + (digestSize + T))) ≡ 2 + f + D + digestSize + T = omega arith in
       let N : List ℕ = print2 (value2 (getD d 0 0) (getD d 1 0)) in
-      ap (λ (x : List ℕ). N ++ (part d 2 f ++ (part d (2 + f) D ++ x))) j₁ ∙ (ap (λ (x : List ℕ). N ++ (part d 2 f ++ x)) j₂ ∙ (ap (λ (x : List ℕ). N ++ x) j₃
+      ap (λ (x : List ℕ). N ++ (part d 2 f ++ (part d (2 + f) D ++ x))) j₁ ∙ (ap (λ (x : List ℕ). N ++ (part d 2 f ++ x)) j₂ ∙
+      (ap (λ (x : List ℕ). N ++ x) j₃
       ∙ (ap (λ (x : List ℕ). x ++ part d 2 (f + (D + (digestSize + T)))) length-back ∙ (j₄ ∙ ap (part d 0) e))))
 
 -- a packet whose body has no more bytes than a slot of each kind fits its buffer
@@ -59,7 +62,14 @@ pub packet-fits : (h : Head) (a b output : List ℕ) → packetRoom ≤ length o
     → packetStep h a b output ≡ wholePacket (headF .print h ++ (a ++ b)) output
 unfolding packetStep writeStep wholePacket
 packet-fits h a b output r l =
-    let n : length (headF .print h ++ (a ++ b)) ≤ packetRoom = omega (arith, length-append (headF .print h) (a ++ b), length-append a b, head-length h, l) in
+    let n : length (headF .print h ++ (a ++ b)) ≤ packetRoom = omega (
+      arith,
+      length-append (headF .print h) (a ++ b),
+      length-append a b,
+      head-length
+          h,
+      l,
+    ) in
     rw (le-ltb (length output) packetRoom r, le-ltb (length output) (length (headF .print h ++ (a ++ b))) (omega arith))
 
 -- no more bytes than there are

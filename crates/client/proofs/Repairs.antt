@@ -22,7 +22,8 @@ pub tags-room : (t n : ℕ) → t ≤ topFaults → n ≤ topLength → tagsPlac
 unfolding tagsPlace shelf
 tags-room t n h k = let f : fragmentSize (t + 1) n ≤ n + t = fragment-most t n (fragmentSize (t + 1) n) refl in omega arith
 
-module _ (t : ℕ) (kept : List ℕ) (i b n : ℕ) (top : t ≤ topFaults) (size : length kept ≡ keptSize) (slot : i < mostServers) (low : 1 ≤ b) (high : b ≤ mostServers) (short : n ≤ topLength) where
+module _ (t : ℕ) (kept : List ℕ) (i b n : ℕ) (top : t ≤ topFaults) (size : length kept ≡ keptSize) (slot : i < mostServers) (low : 1 ≤ b)
+    (high : b ≤ mostServers) (short : n ≤ topLength) where
   abbrev name : List ℕ
   name = part kept (candidatesAt + candidateSlot * i) (stampSize + nonceSize)
 
@@ -44,14 +45,17 @@ module _ (t : ℕ) (kept : List ℕ) (i b n : ℕ) (top : t ≤ topFaults) (size
   few = omega arith
 
   -- the tags after the stamp and the nonce
-  pub repair-put : (bytes : List ℕ) → candidateSlot ≤ length bytes → put (put bytes 0 name) (stampSize + nonceSize) tags ≡ put bytes 0 (repairBytes t kept i b n)
+  pub repair-put : (bytes : List ℕ) → candidateSlot ≤ length bytes → put (put bytes 0 name) (stampSize + nonceSize) tags ≡ put bytes 0
+      (repairBytes t kept i b n)
   unfolding repairBytes
   repair-put bytes h = put-put bytes 0 (stampSize + nonceSize) name tags name-length (omega (arith, tags-length, few))
 
   -- and read back
-  pub repair-cut : (bytes : List ℕ) → candidateSlot ≤ length bytes → part (put bytes 0 (repairBytes t kept i b n)) 0 (candidateSize (shelf t)) ≡ repairBytes t kept i b n
+  pub repair-cut : (bytes : List ℕ) → candidateSlot ≤ length bytes → part (put bytes 0 (repairBytes t kept i b n)) 0 (candidateSize (shelf t)) ≡
+      repairBytes t kept i b n
   repair-cut bytes h =
-      ap (part (put bytes 0 (repairBytes t kept i b n)) 0) (sym repair-length) ∙ part-same bytes 0 (repairBytes t kept i b n) (omega (arith, repair-length, few))
+      ap (part (put bytes 0 (repairBytes t kept i b n)) 0) (sym repair-length) ∙ part-same bytes 0 (repairBytes t kept i b n)
+      (omega (arith, repair-length, few))
 
   -- the two parts fit their buffer
   pub name-fits : (bytes : List ℕ) → candidateSlot ≤ length bytes → 0 + length name ≤ length bytes

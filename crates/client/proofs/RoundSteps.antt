@@ -39,7 +39,8 @@ module _ (t client : ℕ) (writers : List ℕ) (keys : ByServer (List ℕ)) (c :
   goes true y z k = refl
   goes false y z k = refl
 
-  stored : (b e : Bool) (y z : Tally) → cond b (going c kept) (cond e (going (withTally c y) kept) (going (withTally c z) kept)) ≡ going (cond b c (withTally c (cond e y z))) kept
+  stored : (b e : Bool) (y z : Tally) → cond b (going c kept) (cond e (going (withTally c y) kept) (going (withTally c z) kept)) ≡ going
+      (cond b c (withTally c (cond e y z))) kept
   stored true e y z = refl
   stored false e y z = goes e y z kept
 
@@ -47,16 +48,20 @@ module _ (t client : ℕ) (writers : List ℕ) (keys : ByServer (List ℕ)) (c :
   unfolding takeOn takeStore took
   on-store = stored (eqb (codeIn x) 11) (ends (shelf t) c) (fresh 3) marks
 
-  pub on-complete : on 3 ≡ cond (ends (shelf t) c) (ending (taken.Written (chosenOf (shelf t) kept .stamp .number)) output) (going (withTally c marks) kept)
+  pub on-complete : on 3 ≡ cond (ends (shelf t) c) (ending (taken.Written (chosenOf (shelf t) kept .stamp .number)) output)
+      (going (withTally c marks) kept)
   unfolding takeOn takeComplete took
   on-complete = refl
 
   pub on-collect : on 4
-      ≡ going (withTally c (cond (ends (shelf t) c) (fresh 5) marks)) (put kept (candidatesAt + candidateSlot * (h .server - 1)) (anyCandidateF (shelf t) .print (candidateIn (shelf t) x)))
+      ≡ going (withTally c (cond (ends (shelf t) c) (fresh 5) marks)) (put kept (candidatesAt + candidateSlot * (h .server - 1))
+      (anyCandidateF (shelf t) .print (candidateIn (shelf t) x)))
   unfolding takeOn takeCollect took
-  on-collect = goes (ends (shelf t) c) (fresh 5) marks (put kept (candidatesAt + candidateSlot * (h .server - 1)) (anyCandidateF (shelf t) .print (candidateIn (shelf t) x)))
+  on-collect = goes (ends (shelf t) c) (fresh 5) marks (put kept (candidatesAt + candidateSlot * (h .server - 1))
+      (anyCandidateF (shelf t) .print (candidateIn (shelf t) x)))
 
   pub on-repair : on 6
-      ≡ cond (ends (shelf t) c) (ending (taken.Read (chosenOf (shelf t) kept .stamp .number) (length (contentOf c kept))) (over (contentOf c kept) output)) (going (withTally c marks) kept)
+      ≡ cond (ends (shelf t) c) (ending (taken.Read (chosenOf (shelf t) kept .stamp .number) (length (contentOf c kept)))
+      (over (contentOf c kept) output)) (going (withTally c marks) kept)
   unfolding takeOn takeRepair delivers took
   on-repair = refl

@@ -37,7 +37,11 @@ module _ (t client : ℕ) (writers : List ℕ) (keys : List (List ℕ)) (c : Cal
     (room : contentRoom ≤ length output) where
   -- the call after a reply to store, by the code in it
   abbrev stored : ℕ → Answered
-  stored code = record { taken = taken.More; call = cond (eqb code 11) c (withTally c (cond (ends (shelf t) c) (fresh 3) (noted (c .tally) (h .server)))) }
+  stored code = record {
+    taken = taken.More;
+    call = cond (eqb code 11) c (withTally c
+        (cond (ends (shelf t) c) (fresh 3) (noted (c .tally) (h .server))));
+  }
 
   abbrev noting : Answered
   noting = record { taken = taken.More; call = withTally c (noted (c .tally) (h .server)) }
@@ -51,20 +55,23 @@ module _ (t client : ℕ) (writers : List ℕ) (keys : List (List ℕ)) (c : Cal
   abbrev delivered : Answered
   delivered = record { taken = taken.Read (chosenOf (shelf t) kept .stamp .number) (length (contentOf c kept)); call = withTally c (fresh 0) }
 
-  pub takes-store : c .tally .round ≡ 2 → (code : ℕ) → code ≡ getD reply headSize 0 → (a : Answered) → a ≡ stored code → TakesAs t client writers keys c kept reply output a kept output
+  pub takes-store : c .tally .round ≡ 2 → (code : ℕ) → code ≡ getD reply headSize 0 → (a : Answered) → a ≡ stored code → TakesAs t client writers keys
+      c kept reply output a kept output
   unfolding clientTake
   takes-store e code d a r =
       ap (λ (z : Answered). whole z kept output) (r ∙ ap stored (d ∙ sym (getD-drop headSize reply 0 0)))
       ∙ sym (took-store t client writers (keyOf keys) c kept output reply h y room e)
 
-  pub takes-complete : c .tally .round ≡ 3 → (a : Answered) → a ≡ cond (ends (shelf t) c) wrote noting → TakesAs t client writers keys c kept reply output a kept output
+  pub takes-complete : c .tally .round ≡ 3 → (a : Answered) → a ≡ cond (ends (shelf t) c) wrote noting → TakesAs t client writers keys c kept reply
+      output a kept output
   unfolding clientTake
   takes-complete e a r =
       ap (λ (z : Answered). whole z kept output) r
       ∙ (by-test (ends (shelf t) c) wrote noting kept output ∙ sym (took-complete t client writers (keyOf keys) c kept output reply h y room e))
 
   pub takes-collect : c .tally .round ≡ 4 → Bytes reply → (body : List ℕ) → body ≡ drop headSize reply → (a : Answered) → a ≡ collected
-      → (kept' : List ℕ) → kept' ≡ put kept (candidatesAt + candidateSlot * (h .server - 1)) body → TakesAs t client writers keys c kept reply output a kept' output
+      → (kept' : List ℕ) → kept' ≡ put kept (candidatesAt + candidateSlot * (h .server - 1)) body → TakesAs t client writers keys c kept reply output
+      a kept' output
   unfolding clientTake
   takes-collect e bs body d a r kept' k =
       ap (λ (z : Answered). whole z kept' output) r
@@ -72,7 +79,8 @@ module _ (t client : ℕ) (writers : List ℕ) (keys : List (List ℕ)) (c : Cal
       ∙ sym (took-collect t client writers (keyOf keys) c kept output reply h y room bs e))
 
   pub takes-repair : c .tally .round ≡ 6 → (a : Answered) → a ≡ cond (ends (shelf t) c) delivered noting
-      → (output' : List ℕ) → output' ≡ cond (ends (shelf t) c) (over (contentOf c kept) output) output → TakesAs t client writers keys c kept reply output a kept output'
+      → (output' : List ℕ) → output' ≡ cond (ends (shelf t) c) (over (contentOf c kept) output) output → TakesAs t client writers keys c kept reply
+      output a kept output'
   unfolding clientTake
   takes-repair e a r output' o =
       ap (λ (z : Answered). whole z kept output') r

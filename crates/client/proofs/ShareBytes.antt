@@ -30,7 +30,8 @@ pub run-more : (w : ℕ) (f : ℕ → List ℕ) → ((i : ℕ) → length (f i) 
 unfolding runOf
 run-more w f l d i h =
     let o : w * i ≡ 0 + w * i = omega arith in
-    ap (λ (n : ℕ). put (put d 0 (runOf i f)) n (f (suc i))) o ∙ (put-put d 0 (w * i) (runOf i f) (f (suc i)) (run-length w f l i) (omega (arith, l (suc i)))
+    ap (λ (n : ℕ). put (put d 0 (runOf i f)) n (f (suc i))) o ∙ (put-put d 0 (w * i) (runOf i f) (f (suc i)) (run-length w f l i)
+    (omega (arith, l (suc i)))
     ∙ ap (λ (k : ℕ). put d 0 (runOf k f)) (sym (add-one i)))
 
 -- three runs that follow one another
@@ -45,7 +46,8 @@ empty : (l : List ℕ) → length l ≡ 0 → l ≡ []
 empty [] e = refl
 empty (x ∷ l) e = let z : ⊥ = omega arith in absurd z
 
-module _ (t i : ℕ) (content : List ℕ) (low : 1 ≤ t) (high : t ≤ topFaults) (within-s : suc i ≤ shelf t .servers) (short : length content ≤ topLength) where
+module _ (t i : ℕ) (content : List ℕ) (low : 1 ≤ t) (high : t ≤ topFaults) (within-s : suc i ≤ shelf t .servers)
+    (short : length content ≤ topLength) where
   abbrev size : ℕ
   size = fragmentSize (shelf t .shares) (length content)
 
@@ -60,28 +62,47 @@ module _ (t i : ℕ) (content : List ℕ) (low : 1 ≤ t) (high : t ≤ topFault
   unfolding part
   cut rest = take-at piece rest size piece-length
 
-  full : 1 ≤ length content → (fragmentStep t (suc i) content .count ≡ size) × (part (fragmentStep t (suc i) content .bytes) 0 (fragmentStep t (suc i) content .count) ≡ piece)
+  full : 1 ≤ length content → (fragmentStep t (suc i) content .count ≡ size) × (part (fragmentStep t (suc i) content .bytes) 0
+      (fragmentStep t (suc i) content .count) ≡ piece)
   unfolding fragmentStep fragmentRefusal fragmentBytes
   full h =
-      rw (le-leb 1 t low, le-leb t topFaults high, le-leb 1 (suc i) (omega arith), le-leb (suc i) (shelf t .servers) within-s, le-leb leastLength (length content) h, le-leb (length content) topLength short)
+      rw (
+        le-leb 1 t low,
+        le-leb t topFaults high,
+        le-leb 1 (suc i) (omega arith),
+        le-leb (suc i) (shelf t .servers) within-s,
+        le-leb leastLength
+            (length content) h,
+        le-leb (length content) topLength short,
+      )
       (refl, cut _)
 
   no-size : fragmentSize (shelf t .shares) 0 ≡ 0
   unfolding fragmentSize shelf
   no-size = div-eq-of-lt (omega arith)
 
-  none : length content ≡ 0 → (fragmentStep t (suc i) content .count ≡ size) × (part (fragmentStep t (suc i) content .bytes) 0 (fragmentStep t (suc i) content .count) ≡ piece)
+  none : length content ≡ 0 → (fragmentStep t (suc i) content .count ≡ size) × (part (fragmentStep t (suc i) content .bytes) 0
+      (fragmentStep t (suc i) content .count) ≡ piece)
   unfolding fragmentStep fragmentRefusal part
   none z =
       let s : size ≡ 0 = ap (fragmentSize (shelf t .shares)) z ∙ no-size in
-      let q : fragmentStep t (suc i) content .count ≡ 0 = rw (le-leb 1 t low, le-leb t topFaults high, le-leb 1 (suc i) (omega arith), le-leb (suc i) (shelf t .servers) within-s, z) in
+      let q : fragmentStep t (suc i) content .count ≡ 0 = rw (
+        le-leb 1 t low,
+        le-leb t topFaults high,
+        le-leb 1 (suc i) (omega arith),
+        le-leb (suc i)
+            (shelf t .servers) within-s,
+        z,
+      ) in
       (q ∙ sym s, ap (λ (k : ℕ). take k (drop 0 (fragmentStep t (suc i) content .bytes))) q ∙ sym (empty piece (piece-length ∙ s)))
 
   -- a content without bytes has fragments without bytes, which is what a refusal leaves too
-  pub fragment-cut : (fragmentStep t (suc i) content .count ≡ size) × (part (fragmentStep t (suc i) content .bytes) 0 (fragmentStep t (suc i) content .count) ≡ piece)
+  pub fragment-cut : (fragmentStep t (suc i) content .count ≡ size) × (part (fragmentStep t (suc i) content .bytes) 0
+      (fragmentStep t (suc i) content .count) ≡ piece)
   fragment-cut = go (leb 1 (length content)) refl
     where
-      go : (b : Bool) → leb 1 (length content) ≡ b → (fragmentStep t (suc i) content .count ≡ size) × (part (fragmentStep t (suc i) content .bytes) 0 (fragmentStep t (suc i) content .count) ≡ piece)
+      go : (b : Bool) → leb 1 (length content) ≡ b → (fragmentStep t (suc i) content .count ≡ size) ×
+          (part (fragmentStep t (suc i) content .bytes) 0 (fragmentStep t (suc i) content .count) ≡ piece)
       go true e = full (leb-true 1 (length content) e)
       go false e = let l = leb-false 1 (length content) e in none (omega arith)
 
@@ -102,31 +123,37 @@ module _ (t : ℕ) (content : List ℕ) where
   unfolding real
   digests i = real-lengths .digest (fragment (shelf t .points) (shelf t .shares) content i)
 
-  pub fragments-room : (i : ℕ) (d : List ℕ) → i ≤ shelf t .servers → width * shelf t .servers ≤ length d → 0 + length (fragmentRun t content i) ≤ length d
+  pub fragments-room : (i : ℕ) (d : List ℕ) → i ≤ shelf t .servers → width * shelf t .servers ≤ length d → 0 + length (fragmentRun t content i) ≤
+      length d
   unfolding fragmentRun
   fragments-room i d h r =
       let m = mul-le-mul-left {m = i} {n = shelf t .servers} width h in
       omega (arith, m, run-length width (fragment (shelf t .points) (shelf t .shares) content) lengths i)
 
-  pub digests-room : (i : ℕ) (d : List ℕ) → i ≤ shelf t .servers → digestSize * shelf t .servers ≤ length d → 0 + length (digestRun t content i) ≤ length d
+  pub digests-room : (i : ℕ) (d : List ℕ) → i ≤ shelf t .servers → digestSize * shelf t .servers ≤ length d → 0 + length (digestRun t content i) ≤
+      length d
   unfolding digestRun
   digests-room i d h r =
       omega (arith, h, run-length digestSize (λ k. sha256 (fragment (shelf t .points) (shelf t .shares) content k)) digests i)
 
   pub fragment-more : (d : List ℕ) (i : ℕ) → width * i + width ≤ length d
-      → put (put d 0 (fragmentRun t content i)) (width * i) (fragment (shelf t .points) (shelf t .shares) content (suc i)) ≡ put d 0 (fragmentRun t content (i + 1))
+      → put (put d 0 (fragmentRun t content i)) (width * i) (fragment (shelf t .points) (shelf t .shares) content (suc i)) ≡ put d 0
+      (fragmentRun t content (i + 1))
   unfolding fragmentRun
   fragment-more d i h = run-more width (fragment (shelf t .points) (shelf t .shares) content) lengths d i h
 
   pub digest-more : (d : List ℕ) (i : ℕ) → digestSize * i + digestSize ≤ length d
-      → put (put d 0 (digestRun t content i)) (digestSize * i) (sha256 (fragment (shelf t .points) (shelf t .shares) content (suc i))) ≡ put d 0 (digestRun t content (i + 1))
+      → put (put d 0 (digestRun t content i)) (digestSize * i) (sha256 (fragment (shelf t .points) (shelf t .shares) content (suc i))) ≡ put d 0
+      (digestRun t content (i + 1))
   unfolding digestRun
   digest-more d i h = run-more digestSize (λ k. sha256 (fragment (shelf t .points) (shelf t .shares) content k)) digests d i h
 
   -- what follows the digests
-  pub digests-then : (d x : List ℕ) (n : ℕ) → digestSize * n + length x ≤ length d → put (put d 0 (digestRun t content n)) (digestSize * n) x ≡ put d 0 (digestRun t content n ++ x)
+  pub digests-then : (d x : List ℕ) (n : ℕ) → digestSize * n + length x ≤ length d → put (put d 0 (digestRun t content n)) (digestSize * n) x ≡ put d
+      0 (digestRun t content n ++ x)
   unfolding digestRun
   digests-then d x n h =
       let o : digestSize * n ≡ 0 + digestSize * n = omega arith in
       ap (λ (k : ℕ). put (put d 0 (digestRun t content n)) k x) o
-      ∙ put-put d 0 (digestSize * n) (digestRun t content n) x (run-length digestSize (λ k. sha256 (fragment (shelf t .points) (shelf t .shares) content k)) digests n) (omega arith)
+      ∙ put-put d 0 (digestSize * n) (digestRun t content n) x (run-length digestSize
+      (λ k. sha256 (fragment (shelf t .points) (shelf t .shares) content k)) digests n) (omega arith)

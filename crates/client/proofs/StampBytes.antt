@@ -76,7 +76,8 @@ two-puts d m g n e h =
 
 pub tag-run-length : (keys : List (List ℕ)) (stamp digest : List ℕ) (n : ℕ) → length (tagRun keys stamp digest n) ≡ tagSize * n
 unfolding tagRun tagOf real
-tag-run-length keys stamp digest n = run-length tagSize (λ i. tagOf (keyOf keys i) (stamp ++ digest)) (λ i. real-lengths .tag (keyOf keys i) (stamp ++ digest)) n
+tag-run-length keys stamp digest n = run-length tagSize (λ i. tagOf (keyOf keys i) (stamp ++ digest))
+    (λ i. real-lengths .tag (keyOf keys i) (stamp ++ digest)) n
 
 pub key-at : (keys : List (List ℕ)) (i : ℕ) → keyOf keys (suc i) ≡ getD keys i []
 unfolding keyOf
@@ -84,7 +85,8 @@ key-at [] i = refl
 key-at (k ∷ ks) zero = refl
 key-at (k ∷ ks) (suc i) = key-at ks i
 
-pub tag-more : (d : List ℕ) (keys : List (List ℕ)) (stamp digest : List ℕ) (i : ℕ) (key : List ℕ) → keyOf keys (suc i) ≡ key → tagSize * i + tagSize ≤ length d
+pub tag-more : (d : List ℕ) (keys : List (List ℕ)) (stamp digest : List ℕ) (i : ℕ) (key : List ℕ) → keyOf keys (suc i) ≡ key → tagSize * i + tagSize ≤
+    length d
     → put (put d 0 (tagRun keys stamp digest i)) (tagSize * i) (tagOf key (stamp ++ digest)) ≡ put d 0 (tagRun keys stamp digest (i + 1))
 unfolding tagRun runOf real
 tag-more d keys stamp digest i key k h =

@@ -54,7 +54,8 @@ awaited-reply t client c h e =
     let p₃ = passes (eqb (awaited c) 0) 12 _ (p₂ .1) in
     let f = and-both (eqb (h .t) t) (eqb (h .client) client) (not-false (eqb (h .t) t && eqb (h .client) client) (p₁ .0)) in
     let o : other c (awaited c) h ≡ false = rw (p₃ .0) at (p₂ .0) in
-    let k = and-both (eqb (h .call) (c .number)) (eqb (h .kind) (awaited c)) (left-off (eqb (h .call) (c .number) && eqb (h .kind) (awaited c)) (marked (c .tally .marks) (h .server)) o) in
+    let k = and-both (eqb (h .call) (c .number)) (eqb (h .kind) (awaited c)) (left-off (eqb (h .call) (c .number) && eqb (h .kind) (awaited c))
+    (marked (c .tally .marks) (h .server)) o) in
     record { ofShelf = eqb-true (h .t) t (f .0); ofKind = eqb-true (h .kind) (awaited c) (k .1); pending = p₃ .0 }
 
 module _ (t client : ℕ) (writers : List ℕ) (keys : ByServer (List ℕ)) (c : Call) (kept output : List ℕ) (h : Head) (x : Body) where
@@ -93,11 +94,13 @@ module _ (t client : ℕ) (writers : List ℕ) (keys : ByServer (List ℕ)) (c :
 
       pub high-refused : high (h .server) x ≡ true → outcome ≡ refusedWith 14
       unfolding takeIn took
-      high-refused e = let q : number ≡ 14 = rest-number ∙ rw e in refused-is number _ _ (λ z. (let y : ⊥ = omega (arith, q, z) in y)) ∙ ap refusedWith q
+      high-refused e = let q : number ≡ 14 = rest-number ∙ rw e in refused-is number _ _ (λ z. (let y : ⊥ = omega (arith, q, z) in y)) ∙ ap
+          refusedWith q
 
       pub short-refused : high (h .server) x ≡ false → ltb (length output) contentRoom ≡ true → outcome ≡ refusedWith 15
       unfolding takeIn took
-      short-refused e l = let q : number ≡ 15 = rest-number ∙ rw (e, l) in refused-is number _ _ (λ z. (let y : ⊥ = omega (arith, q, z) in y)) ∙ ap refusedWith q
+      short-refused e l = let q : number ≡ 15 = rest-number ∙ rw (e, l) in refused-is number _ _ (λ z. (let y : ⊥ = omega (arith, q, z) in y)) ∙ ap
+          refusedWith q
 
       pub taken-reply : high (h .server) x ≡ false → ltb (length output) contentRoom ≡ false
           → outcome ≡ takeOn real (shelf t) client writers keys c kept output (c .tally .round) (some packet)

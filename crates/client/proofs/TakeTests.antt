@@ -47,12 +47,14 @@ module _ (t client : ℕ) (calls kind : ℕ) (replied : ByServer Bool) (high : �
   number-faults none e = rw e
   number-faults (some p) e = rw e
 
-  number-reader : (o : Option Packet) → badFaults (shelf t) ≡ false → not (within 1 topClient client) ≡ true → takeRefusal (shelf t) client o calls kind replied high room ≡ 5
+  number-reader : (o : Option Packet) → badFaults (shelf t) ≡ false → not (within 1 topClient client) ≡ true → takeRefusal (shelf t) client o calls
+      kind replied high room ≡ 5
   unfolding takeRefusal
   number-reader none f e = rw (f, e)
   number-reader (some p) f e = rw (f, e)
 
-  number-broken : badFaults (shelf t) ≡ false → not (within 1 topClient client) ≡ false → takeRefusal (shelf t) client none calls kind replied high room ≡ 7
+  number-broken : badFaults (shelf t) ≡ false → not (within 1 topClient client) ≡ false → takeRefusal (shelf t) client none calls kind replied high
+      room ≡ 7
   unfolding takeRefusal
   number-broken f e = rw (f, e)
 
@@ -65,10 +67,12 @@ module _ (t client : ℕ) (writers : List ℕ) (keys : List (List ℕ)) (c : Cal
   whole = clientTake real t client writers keys c kept reply output
 
   abbrev number : Option Packet → ℕ
-  number o = takeRefusal (shelf t) client o (c .number) (awaited c) (marked (c .tally .marks)) (highIn real (shelf t) client writers (keyOf keys) c kept output) (length output)
+  number o = takeRefusal (shelf t) client o (c .number) (awaited c) (marked (c .tally .marks))
+      (highIn real (shelf t) client writers (keyOf keys) c kept output) (length output)
 
   -- a number of the list refuses
-  refuses : (o : Option Packet) (n : ℕ) → number o ≡ n → (n ≡ 0 → ⊥) → takeIn real (shelf t) client writers (keyOf keys) c kept output o ≡ refusedWith c kept output n
+  refuses : (o : Option Packet) (n : ℕ) → number o ≡ n → (n ≡ 0 → ⊥) → takeIn real (shelf t) client writers (keyOf keys) c kept output o ≡ refusedWith
+      c kept output n
   unfolding takeIn took
   refuses o n q ne = refused-is (number o) _ _ (λ z. ne (sym q ∙ z)) ∙ ap (refusedWith c kept output) q
 
@@ -84,13 +88,16 @@ module _ (t client : ℕ) (writers : List ℕ) (keys : List (List ℕ)) (c : Cal
     pub take-broken : decode reply ≡ none → whole ≡ refusedWith c kept output 7
     unfolding clientTake
     take-broken e =
-        ap (takeIn real (shelf t) client writers (keyOf keys) c kept output) e ∙ refuses none 7 (number-broken t client _ _ _ _ _ faults reader) (λ z. (let q : ⊥ = omega (arith, z) in q))
+        ap (takeIn real (shelf t) client writers (keyOf keys) c kept output) e ∙ refuses none 7 (number-broken t client _ _ _ _ _ faults reader)
+        (λ z. (let q : ⊥ = omega (arith, z) in q))
 
-    pub take-head : (h : Head) → decode reply ≡ some (packetAt h reply) → (n : ℕ) → n ≡ replyRefusal t client c h → (n ≡ 0 → ⊥) → whole ≡ refusedWith c kept output n
+    pub take-head : (h : Head) → decode reply ≡ some (packetAt h reply) → (n : ℕ) → n ≡ replyRefusal t client c h → (n ≡ 0 → ⊥) → whole ≡ refusedWith
+        c kept output n
     unfolding clientTake packetAt
     take-head h e n r ne =
         ap (takeIn real (shelf t) client writers (keyOf keys) c kept output) e
-        ∙ head-refused t client writers (keyOf keys) c kept output h (packetAt h reply .body) faults reader (kind-decoded reply (packetAt h reply) e) n r ne
+        ∙ head-refused t client writers (keyOf keys) c kept output h (packetAt h reply .body) faults reader (kind-decoded reply (packetAt h reply) e)
+        n r ne
 
   -- ---- kept bytes of another length
 
@@ -119,15 +126,18 @@ module _ (t client : ℕ) (writers : List ℕ) (keys : List (List ℕ)) (c : Cal
       (e ∙ ap answered q, (k ∙ ap (λ (x : Took). x .kept) q, o ∙ ap (λ (x : Took). x .output) q))
 
   -- an answer that refuses, and nothing changed
-  pub takes-refused : (a : Answered) (n : ℕ) → a ≡ record { taken = taken.Refused n; call = c } → whole ≡ refusedWith c kept output n → TakesAs t client writers keys c kept reply output a kept output
+  pub takes-refused : (a : Answered) (n : ℕ) → a ≡ record { taken = taken.Refused n; call = c } → whole ≡ refusedWith c kept output n → TakesAs t
+      client writers keys c kept reply output a kept output
   takes-refused a n r e = ap (λ (z : Answered). record { answer = z .taken; call = z .call; kept = kept; output = output }) r ∙ sym e
 
   -- past clock a short output is the last test
-  pub round-short : (h : Head) → Ready t client c reply h → (c .tally .round ≡ 1 → ⊥) → length output < contentRoom → whole ≡ refusedWith c kept output 15
+  pub round-short : (h : Head) → Ready t client c reply h → (c .tally .round ≡ 1 → ⊥) → length output < contentRoom → whole ≡ refusedWith c kept
+      output 15
   unfolding clientTake packetAt
   round-short h y ne l =
       ap (takeIn real (shelf t) client writers (keyOf keys) c kept output) (y .decoded)
-      ∙ short-refused t client writers (keyOf keys) c kept output h (packetAt h reply .body) (y .faults) (y .reader) (kind-decoded reply (packetAt h reply) (y .decoded)) (y .awaited)
+      ∙ short-refused t client writers (keyOf keys) c kept output h (packetAt h reply .body) (y .faults) (y .reader)
+      (kind-decoded reply (packetAt h reply) (y .decoded)) (y .awaited)
       (never-high t client writers (keyOf keys) c kept output h (packetAt h reply .body) ne) (lt-ltb (length output) contentRoom l)
 
 -- ---- a reply that no test of its head refuses
@@ -144,8 +154,10 @@ module _ (t client : ℕ) (c : Call) (reply : List ℕ) (h : Head) (y : Ready t 
       let d : List ℕ = drop headSize reply in
       let body : Body = packetAt h reply .body in
       let b : body ≡ collectReply (candidateAt (shelf t) d) = body-at t client [] (keyOf []) c [] [] reply h y 4 e refl in
-      let k : BodyOk (shelf t) body = subst (λ (s : ℕ). BodyOk (shelf s) body) (awaited-reply t client c h (y .awaited) .ofShelf) (body-ok (packetAt h reply) (decode-ok reply (packetAt h reply) (y .decoded))) in
+      let k : BodyOk (shelf t) body = subst (λ (s : ℕ). BodyOk (shelf s) body) (awaited-reply t client c h (y .awaited) .ofShelf)
+      (body-ok (packetAt h reply) (decode-ok reply (packetAt h reply) (y .decoded))) in
       let f : BodyOk (shelf t) (collectReply (candidateAt (shelf t) d)) = subst (λ (x : Body). BodyOk (shelf t) x) b k in
-      let p : anyCandidateF (shelf t) .print (candidateAt (shelf t) d) ≡ d = ap (printBody (shelf t)) (sym b) ∙ printed t client [] (keyOf []) c [] [] reply h y bs in
+      let p : anyCandidateF (shelf t) .print (candidateAt (shelf t) d) ≡ d = ap (printBody (shelf t)) (sym b) ∙ printed t client [] (keyOf []) c [] []
+      reply h y bs in
       let r = inside 1 topFaults t (y .faults) in
       omega (arith, ap length p, any-candidate-length (shelf t) (candidateAt (shelf t) d) f, shelf-fits t (r .0) (r .1) .few)

@@ -34,7 +34,8 @@ kind-at : (c : Call) (r : ℕ) → c .tally .round ≡ r → within 1 6 r ≡ tr
 unfolding awaited inHand
 kind-at c r e w = ap (λ (k : ℕ). cond (within 1 6 k) (2 * k) 0) e ∙ rw w
 
-module _ (t client : ℕ) (writers : List ℕ) (keys : ByServer (List ℕ)) (c : Call) (kept output reply : List ℕ) (h : Head) (y : Ready t client c reply h) where
+module _ (t client : ℕ) (writers : List ℕ) (keys : ByServer (List ℕ)) (c : Call) (kept output reply : List ℕ) (h : Head)
+    (y : Ready t client c reply h) where
   abbrev all : Took
   all = takeIn real (shelf t) client writers keys c kept output (decode reply)
 
@@ -45,7 +46,8 @@ module _ (t client : ℕ) (writers : List ℕ) (keys : ByServer (List ℕ)) (c :
   unfolding packetAt
   sameKind = kind-decoded reply (packetAt h reply) (y .decoded)
 
-  pub on-round : contentRoom ≤ length output → (r : ℕ) → c .tally .round ≡ r → (r ≡ 1 → ⊥) → all ≡ takeOn real (shelf t) client writers keys c kept output r (some (record { head = h; body = body }))
+  pub on-round : contentRoom ≤ length output → (r : ℕ) → c .tally .round ≡ r → (r ≡ 1 → ⊥) → all ≡ takeOn real (shelf t) client writers keys c kept
+      output r (some (record { head = h; body = body }))
   unfolding packetAt
   on-round room r e ne =
       ap (takeIn real (shelf t) client writers keys c kept output) (y .decoded)
@@ -57,7 +59,8 @@ module _ (t client : ℕ) (writers : List ℕ) (keys : ByServer (List ℕ)) (c :
   unfolding packetAt
   body-at r e w =
       let a = awaited-reply t client c h (y .awaited) in
-      ap (λ (k : ℕ). bodyAt (shelf k) (h .kind) (drop headSize reply)) (a .ofShelf) ∙ ap (λ (k : ℕ). bodyAt (shelf t) k (drop headSize reply)) (a .ofKind ∙ kind-at c r e w)
+      ap (λ (k : ℕ). bodyAt (shelf k) (h .kind) (drop headSize reply)) (a .ofShelf) ∙ ap (λ (k : ℕ). bodyAt (shelf t) k (drop headSize reply))
+      (a .ofKind ∙ kind-at c r e w)
 
   -- the round's own bytes are the packet's past its head
   pub printed : Bytes reply → printBody (shelf t) body ≡ drop headSize reply
@@ -76,11 +79,18 @@ module _ (t client : ℕ) (writers : List ℕ) (keys : ByServer (List ℕ)) (c :
   unfolding bodyAt
   took-store room e =
       let b : body ≡ storeReply (getD (drop headSize reply) 0 0) = body-at 2 e refl in
-      on-round room 2 e (λ z. (let q : ⊥ = omega (arith, z) in q)) ∙ ap (λ (x : Body). takeOn real (shelf t) client writers keys c kept output 2 (some (record { head = h; body = x }))) b
+      on-round room 2 e (λ z. (let q : ⊥ = omega (arith, z) in q)) ∙ ap (λ (x : Body). takeOn real (shelf t) client writers keys c kept output 2
+      (some (record { head = h; body = x }))) b
       ∙ on-store t client writers keys c kept output h (storeReply (getD (drop headSize reply) 0 0))
 
   pub took-complete : contentRoom ≤ length output → c .tally .round ≡ 3
-      → all ≡ cond (ends (shelf t) c) (record { answer = taken.Written (chosenOf (shelf t) kept .stamp .number); call = withTally c (fresh 0); kept = kept; output = output })
+      → all ≡ cond (ends (shelf t) c) (record {
+        answer = taken.Written (chosenOf (shelf t) kept .stamp .number);
+        call = withTally c (fresh 0);
+        kept =
+            kept;
+        output = output;
+      })
       (record { answer = taken.More; call = withTally c (noted (c .tally) (h .server)); kept = kept; output = output })
   took-complete room e = on-round room 3 e (λ z. (let q : ⊥ = omega (arith, z) in q)) ∙ on-complete t client writers keys c kept output h body
 
@@ -96,13 +106,24 @@ module _ (t client : ℕ) (writers : List ℕ) (keys : ByServer (List ℕ)) (c :
       let d : List ℕ = drop headSize reply in
       let b : body ≡ collectReply (candidateAt (shelf t) d) = body-at 4 e refl in
       let p : anyCandidateF (shelf t) .print (candidateAt (shelf t) d) ≡ d = ap (printBody (shelf t)) (sym b) ∙ printed bs in
-      on-round room 4 e (λ z. (let q : ⊥ = omega (arith, z) in q)) ∙ (ap (λ (x : Body). takeOn real (shelf t) client writers keys c kept output 4 (some (record { head = h; body = x }))) b
+      on-round room 4 e (λ z. (let q : ⊥ = omega (arith, z) in q)) ∙ (ap (λ (x : Body). takeOn real (shelf t) client writers keys c kept output 4
+      (some (record { head = h; body = x }))) b
       ∙ (on-collect t client writers keys c kept output h (collectReply (candidateAt (shelf t) d))
-      ∙ ap (λ (z : List ℕ). record { answer = taken.More; call = withTally c (cond (ends (shelf t) c) (fresh 5) (noted (c .tally) (h .server))); kept = put kept (candidatesAt + candidateSlot * (h .server - 1)) z; output = output }) p))
+      ∙ ap (λ (z : List ℕ). record {
+        answer = taken.More;
+        call = withTally c (cond (ends (shelf t) c) (fresh 5) (noted (c .tally) (h .server)));
+        kept = put kept (candidatesAt + candidateSlot * (h .server - 1)) z;
+        output = output;
+      }) p))
 
   pub took-repair : contentRoom ≤ length output → c .tally .round ≡ 6
       → all ≡ cond (ends (shelf t) c)
-      (record { answer = taken.Read (chosenOf (shelf t) kept .stamp .number) (length (contentOf c kept)); call = withTally c (fresh 0); kept = kept; output = over (contentOf c kept) output })
+      (record {
+        answer = taken.Read (chosenOf (shelf t) kept .stamp .number) (length (contentOf c kept));
+        call = withTally c (fresh 0);
+        kept = kept;
+        output = over (contentOf c kept) output;
+      })
       (record { answer = taken.More; call = withTally c (noted (c .tally) (h .server)); kept = kept; output = output })
   took-repair room e = on-round room 6 e (λ z. (let q : ⊥ = omega (arith, z) in q)) ∙ on-repair t client writers keys c kept output h body
 
@@ -122,7 +143,8 @@ module _ (t client : ℕ) (writers : List ℕ) (keys : ByServer (List ℕ)) (c :
     unfolding bodyAt packetAt
     as-clock =
         let b : body ≡ clockReply stamp = body-at 1 clock refl in
-        ap (takeIn real (shelf t) client writers keys c kept output) (y .decoded) ∙ ap (λ (x : Body). takeIn real (shelf t) client writers keys c kept output (some (record { head = h; body = x }))) b
+        ap (takeIn real (shelf t) client writers keys c kept output) (y .decoded) ∙ ap
+        (λ (x : Body). takeIn real (shelf t) client writers keys c kept output (some (record { head = h; body = x }))) b
 
     clockKind : kindOf (clockReply stamp) ≡ h .kind
     clockKind = let a = awaited-reply t client c h (y .awaited) in sym (a .ofKind ∙ kind-at c 1 clock refl)
@@ -131,7 +153,8 @@ module _ (t client : ℕ) (writers : List ℕ) (keys : ByServer (List ℕ)) (c :
     refusedWith n = record { answer = taken.Refused n; call = c; kept = kept; output = output }
 
     pub clock-too-high : ends (shelf t) c ≡ true → leb topNumber highest ≡ true → all ≡ refusedWith 14
-    clock-too-high e l = as-clock ∙ high-refused t client writers keys c kept output h (clockReply stamp) (y .faults) (y .reader) clockKind (y .awaited)
+    clock-too-high e l = as-clock ∙ high-refused t client writers keys c kept output h (clockReply stamp) (y .faults) (y .reader) clockKind
+        (y .awaited)
         (clock-high t client writers keys c kept output h (clockReply stamp) clock ∙ rw (e, l))
 
     module _ (fine : (ends (shelf t) c && leb topNumber highest) ≡ false) where
@@ -139,15 +162,30 @@ module _ (t client : ℕ) (writers : List ℕ) (keys : ByServer (List ℕ)) (c :
       not-high = clock-high t client writers keys c kept output h (clockReply stamp) clock ∙ fine
 
       pub clock-short : ltb (length output) contentRoom ≡ true → all ≡ refusedWith 15
-      clock-short l = as-clock ∙ short-refused t client writers keys c kept output h (clockReply stamp) (y .faults) (y .reader) clockKind (y .awaited) not-high l
+      clock-short l = as-clock ∙ short-refused t client writers keys c kept output h (clockReply stamp) (y .faults) (y .reader) clockKind (y .awaited)
+          not-high l
 
-      clock-on : contentRoom ≤ length output → all ≡ takeClock real (shelf t) client writers keys c kept output (ends (shelf t) c) (h .server) (clockReply stamp)
+      clock-on : contentRoom ≤ length output → all ≡ takeClock real (shelf t) client writers keys c kept output (ends (shelf t) c) (h .server)
+          (clockReply stamp)
       unfolding takeOn
-      clock-on room = as-clock ∙ (taken-reply t client writers keys c kept output h (clockReply stamp) (y .faults) (y .reader) clockKind (y .awaited) not-high (le-ltb (length output) contentRoom room)
+      clock-on room = as-clock ∙ (taken-reply t client writers keys c kept output h (clockReply stamp) (y .faults) (y .reader) clockKind (y .awaited)
+          not-high (le-ltb (length output) contentRoom room)
           ∙ ap (λ (k : ℕ). takeOn real (shelf t) client writers keys c kept output k (some packet)) clock)
 
       pub clock-goes : contentRoom ≤ length output → ends (shelf t) c ≡ false
-          → all ≡ record { answer = taken.More; call = record { number = c .number; last = c .last; high = highest; length = c .length; tally = noted (c .tally) (h .server) }; kept = kept; output = output }
+          → all ≡ record {
+            answer = taken.More;
+            call = record {
+              number = c .number;
+              last = c .last;
+              high = highest;
+              length = c .length;
+              tally = noted
+                  (c .tally) (h .server);
+            };
+            kept = kept;
+            output = output;
+          }
       unfolding takeClock took
       clock-goes room e = clock-on room ∙ rw e
 
@@ -155,7 +193,8 @@ module _ (t client : ℕ) (writers : List ℕ) (keys : ByServer (List ℕ)) (c :
           → all ≡ record {
             answer = taken.More;
             call = record { number = c .number; last = suc highest; high = highest; length = c .length; tally = fresh 2 };
-            kept = putShares (shelf t) (put kept chosenAt (candidateF (shelf t) .print (candidateMade real (shelf t) client writers keys (nonceOf kept) (suc highest))))
+            kept = putShares (shelf t) (put kept chosenAt (candidateF (shelf t) .print
+                (candidateMade real (shelf t) client writers keys (nonceOf kept) (suc highest))))
                 (sharesMade real (shelf t) client writers keys (contentOf c kept) (nonceOf kept) (suc highest)) (shelf t .servers);
             output = output;
           }

@@ -65,12 +65,14 @@ servers-length (suc n) m = go (m (suc n)) (servers-length n m)
 -- the first ones of a longer list are those of a shorter one
 pub servers-first : (m : ByServer Bool) (j n : ℕ) → j ≤ n → take (length (serversOf j m)) (serversOf n m) ≡ serversOf j m
 unfolding serversOf
-servers-first m j zero h = let e : j ≡ 0 = omega arith in subst (λ (i : ℕ). take (length (serversOf i m)) (serversOf 0 m) ≡ serversOf i m) (sym e) refl
+servers-first m j zero h = let e : j ≡ 0 = omega arith in subst (λ (i : ℕ). take (length (serversOf i m)) (serversOf 0 m) ≡ serversOf i m) (sym e)
+    refl
 servers-first m j (suc n) h = go (ltb n j) refl (servers-first m j n)
   where
     go : (b : Bool) → ltb n j ≡ b → (j ≤ n → take (length (serversOf j m)) (serversOf n m) ≡ serversOf j m)
         → take (length (serversOf j m)) (serversOf (suc n) m) ≡ serversOf j m
-    go true e f = let l = ltb-true n j e in let q : j ≡ suc n = omega arith in subst (λ (i : ℕ). take (length (serversOf i m)) (serversOf (suc n) m) ≡ serversOf i m) (sym q) (take-length (serversOf (suc n) m))
+    go true e f = let l = ltb-true n j e in let q : j ≡ suc n = omega arith in subst
+        (λ (i : ℕ). take (length (serversOf i m)) (serversOf (suc n) m) ≡ serversOf i m) (sym q) (take-length (serversOf (suc n) m))
     go false e f =
         let l = ltb-false n j e in
         let x : take (length (serversOf j m)) (serversOf n m) ≡ serversOf j m = f (omega arith) in
@@ -83,7 +85,8 @@ pub servers-step : (m : ByServer Bool) (j n : ℕ) (out : List ℕ) → n ≡ le
 unfolding serversOf
 servers-step m j n out e h l = rw add-one (go (m (suc j)))
   where
-    go : (b : Bool) → (n + bit b ≡ length (serversOf j m ++ cond b (suc j ∷ []) [])) × (take (n + bit b) (set out n (suc j)) ≡ serversOf j m ++ cond b (suc j ∷ []) [])
+    go : (b : Bool) → (n + bit b ≡ length (serversOf j m ++ cond b (suc j ∷ []) [])) ×
+        (take (n + bit b) (set out n (suc j)) ≡ serversOf j m ++ cond b (suc j ∷ []) [])
     go true = (
       omega (arith, length-append (serversOf j m) (suc j ∷ [])),
       rw add-one (take-suc-set out n (suc j) l ∙ ap (λ (z : List ℕ). z ++ (suc j ∷ [])) h),

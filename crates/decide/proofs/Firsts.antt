@@ -28,7 +28,8 @@ unfolding first
 first-none p [] ys h = refl
 first-none p (x ∷ xs) ys h = go (p x) h (first-none p xs ys)
   where
-    go : (b : Bool) → cond b (some x) (first p xs) ≡ none → (first p xs ≡ none → first p (xs ++ ys) ≡ first p ys) → cond b (some x) (first p (xs ++ ys)) ≡ first p ys
+    go : (b : Bool) → cond b (some x) (first p xs) ≡ none → (first p xs ≡ none → first p (xs ++ ys) ≡ first p ys) → cond b (some x)
+        (first p (xs ++ ys)) ≡ first p ys
     go true e f = absurd (Option·none-ne-some x (sym e))
     go false e f = f e
 
@@ -37,20 +38,27 @@ unfolding first
 first-some p [] ys a h = absurd (Option·none-ne-some a h)
 first-some p (x ∷ xs) ys a h = go (p x) h (first-some p xs ys a)
   where
-    go : (b : Bool) → cond b (some x) (first p xs) ≡ some a → (first p xs ≡ some a → first p (xs ++ ys) ≡ some a) → cond b (some x) (first p (xs ++ ys)) ≡ some a
+    go : (b : Bool) → cond b (some x) (first p xs) ≡ some a → (first p xs ≡ some a → first p (xs ++ ys) ≡ some a) → cond b (some x)
+        (first p (xs ++ ys)) ≡ some a
     go true e f = e
     go false e f = f e
 
 module _ (p q : Candidate → Bool) (held : ByServer Candidate) where
   found-more : (n : ℕ) → first p (keep q (gather held n)) ≡ none
-      → first p (keep q (gather held (suc n))) ≡ cond (q (held (suc n)) && enters held (suc n)) (cond (p (held (suc n))) (some (held (suc n))) none) none
+      → first p (keep q (gather held (suc n))) ≡ cond (q (held (suc n)) && enters held (suc n)) (cond (p (held (suc n))) (some (held (suc n))) none)
+      none
   unfolding first keep
   found-more n h = ap (λ (l : List Candidate). first p (keep q l)) (gather-more held n) ∙ go (enters held (suc n)) (q (held (suc n))) refl
     where
       go : (b d : Bool) → q (held (suc n)) ≡ d
-          → first p (keep q (cond b (gather held n ++ (held (suc n) ∷ [])) (gather held n))) ≡ cond (d && b) (cond (p (held (suc n))) (some (held (suc n))) none) none
+          → first p (keep q (cond b (gather held n ++ (held (suc n) ∷ [])) (gather held n))) ≡ cond (d && b)
+          (cond (p (held (suc n))) (some (held (suc n))) none) none
       go true true e = rw (keep-append q (gather held n) (held (suc n) ∷ []), first-none p (keep q (gather held n)) (keep q (held (suc n) ∷ [])) h, e)
-      go true false e = rw (keep-append q (gather held n) (held (suc n) ∷ []), first-none p (keep q (gather held n)) (keep q (held (suc n) ∷ [])) h, e)
+      go true false e = rw (
+        keep-append q (gather held n) (held (suc n) ∷ []),
+        first-none p (keep q (gather held n)) (keep q (held (suc n) ∷ [])) h,
+        e,
+      )
       go false true e = h
       go false false e = h
 
@@ -76,16 +84,20 @@ module _ (t : ℕ) (marks kept : List ℕ) (key : ℕ) where
 
   chosen-more : (n : ℕ) → chosenAt t marks kept key n ≡ none
       → chosenAt t marks kept key (suc n)
-      ≡ cond (triedAt t kept key n) (cond (not (eqb (leaderAt t marks kept n (shelf t .servers)) 0)) (some (candidatesIn (shelf t) kept (suc n))) none) none
+      ≡ cond (triedAt t kept key n) (cond (not (eqb (leaderAt t marks kept n (shelf t .servers)) 0)) (some (candidatesIn (shelf t) kept (suc n)))
+      none) none
   unfolding chosenAt triedAt leaderAt
   chosen-more n h =
-      found-more (proven real (shelf t) (marked marks) (repliesIn (shelf t) marks kept)) (λ c. eqb (rank (c .stamp)) key) (candidatesIn (shelf t) kept) n h
+      found-more (proven real (shelf t) (marked marks) (repliesIn (shelf t) marks kept)) (λ c. eqb (rank (c .stamp)) key)
+      (candidatesIn (shelf t) kept) n h
 
   -- the slot is passed
   pub chosen-passed : (n : ℕ) (r : Group) → chosenAt t marks kept key n ≡ none
-      → GroupAs t marks kept n (cond (triedAt t kept key n) (leaderAt t marks kept n (shelf t .servers)) 0) r → r .server ≡ 0 → chosenAt t marks kept key (n + 1) ≡ none
+      → GroupAs t marks kept n (cond (triedAt t kept key n) (leaderAt t marks kept n (shelf t .servers)) 0) r → r .server ≡ 0 → chosenAt t marks kept
+      key (n + 1) ≡ none
   chosen-passed n r h g e =
-      ap (chosenAt t marks kept key) (add-one n) ∙ chosen-more n h ∙ go (triedAt t kept key n) (leaderAt t marks kept n (shelf t .servers)) (sym (g .server) ∙ e)
+      ap (chosenAt t marks kept key) (add-one n) ∙ chosen-more n h ∙ go (triedAt t kept key n) (leaderAt t marks kept n (shelf t .servers))
+      (sym (g .server) ∙ e)
     where
       go : (b : Bool) (x : ℕ) → cond b x 0 ≡ 0 → cond b (cond (not (eqb x 0)) (some (candidatesIn (shelf t) kept (suc n))) none) none ≡ none
       go true x q = rw (eq-eqb x 0 q)
@@ -98,17 +110,21 @@ module _ (t : ℕ) (marks kept : List ℕ) (key : ℕ) where
   chosen-here n r l h g k = record { nothing = λ e. absurd (k e); hit = λ b e. go b e (triedAt t kept key n) refl }
     where
       entering : triedAt t kept key n ≡ true → enters (candidatesIn (shelf t) kept) (suc n) ≡ true
-      entering q = unfold triedAt in and-both (eqb (rank (candidatesIn (shelf t) kept (suc n) .stamp)) key) (enters (candidatesIn (shelf t) kept) (suc n)) q .1
+      entering q = unfold triedAt in and-both (eqb (rank (candidatesIn (shelf t) kept (suc n) .stamp)) key)
+          (enters (candidatesIn (shelf t) kept) (suc n)) q .1
 
       later : (c : Candidate) → chosenAt t marks kept key (suc n) ≡ some c → chosenAt t marks kept key (shelf t .servers) ≡ some c
       later c q =
           let e : suc n + (shelf t .servers - suc n) ≡ shelf t .servers = omega arith in
           sym (ap (chosenAt t marks kept key) e)
-          ∙ (unfold chosenAt in found-kept (proven real (shelf t) (marked marks) (repliesIn (shelf t) marks kept)) (λ d. eqb (rank (d .stamp)) key) (candidatesIn (shelf t) kept) c (suc n) (shelf t .servers - suc n) (unfold chosenAt in q))
+          ∙ (unfold chosenAt in found-kept (proven real (shelf t) (marked marks) (repliesIn (shelf t) marks kept)) (λ d. eqb (rank (d .stamp)) key)
+          (candidatesIn (shelf t) kept) c (suc n) (shelf t .servers - suc n) (unfold chosenAt in q))
 
-      go : (b : ℕ) → r .server ≡ suc b → (y : Bool) → triedAt t kept key n ≡ y → Hit t marks kept key (record { slot = n; server = r .server; servers = r .servers }) b
+      go : (b : ℕ) → r .server ≡ suc b → (y : Bool) → triedAt t kept key n ≡ y → Hit t marks kept key
+          (record { slot = n; server = r .server; servers = r .servers }) b
       go b e true q =
-          let w : leaderAt t marks kept n (shelf t .servers) ≡ suc b = sym (ap (λ (z : Bool). cond z (leaderAt t marks kept n (shelf t .servers)) 0) q) ∙ sym (g .server) ∙ e in
+          let w : leaderAt t marks kept n (shelf t .servers) ≡ suc b = sym (ap (λ (z : Bool). cond z (leaderAt t marks kept n (shelf t .servers)) 0)
+          q) ∙ sym (g .server) ∙ e in
           record {
             slot = l;
             listed = entering q;
@@ -132,7 +148,8 @@ module _ (held : ByServer Candidate) (i : ℕ) (h : enters held (suc i) ≡ true
           go : (b : Bool) → sameCandidate (held (suc j)) (held (suc i)) ≡ b → sameCandidate (held (suc j)) (held (suc i)) ≡ false
           go true q =
               let e : held (suc j) ≡ held (suc i) = candidate-same (held (suc j)) (held (suc i)) q in
-              absurd (subst T (sym h ∙ enters-twin held i j (entered held i h) k (subst (λ (x : Candidate). sameCandidate (held (suc i)) x ≡ true) (sym e) (candidate-refl (held (suc i))))) tt)
+              absurd (subst T (sym h ∙ enters-twin held i j (entered held i h) k (subst (λ (x : Candidate). sameCandidate (held (suc i)) x ≡ true)
+              (sym e) (candidate-refl (held (suc i))))) tt)
           go false q = q
 
   pub slot-of : (k : ℕ) → slotOf held (held (suc i)) (suc i + k) ≡ i

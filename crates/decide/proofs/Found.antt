@@ -36,8 +36,11 @@ first-in p (x ∷ xs) c h = go (p x) refl h (first-in p xs c)
     go : (b : Bool) → p x ≡ b → cond b (some x) (first p xs) ≡ some c → (first p xs ≡ some c → (any (sameCandidate c) xs ≡ true) × (p c ≡ true))
         → ((sameCandidate c x || any (sameCandidate c) xs) ≡ true) × (p c ≡ true)
     go true e q f =
-        let z : x ≡ c = Option·some-injective x c q in
-        (subst (λ (y : Candidate). (sameCandidate c y || any (sameCandidate c) xs) ≡ true) (sym z) (rw (candidate-refl c)), subst (λ (y : Candidate). p y ≡ true) z e)
+        let z : x ≡ c = Option·some-injective x c q in (
+          subst (λ (y : Candidate). (sameCandidate c y || any (sameCandidate c) xs) ≡ true) (sym z) (rw (candidate-refl c)),
+          subst
+              (λ (y : Candidate). p y ≡ true) z e,
+        )
     go false e q f = let w = f q in (rw (w .0) (or-true (sameCandidate c x)), w .1)
 
 keep-in : (p q : Candidate → Bool) (l : List Candidate) → any p (keep q l) ≡ true → any p l ≡ true
@@ -60,10 +63,12 @@ module _ (held : ByServer Candidate) (c : Candidate) where
   slot-within (suc n) h = by-before (ltb (slotOf held c n) n) refl (slot-within n)
     where
       -- nothing before and not here: then it is not in the list
-      never : sameCandidate (held (suc n)) c ≡ false → any (sameCandidate c) (gather held n) ≡ false → any (sameCandidate c) (gather held (suc n)) ≡ false
+      never : sameCandidate (held (suc n)) c ≡ false → any (sameCandidate c) (gather held n) ≡ false → any (sameCandidate c) (gather held (suc n)) ≡
+          false
       never q e = ap (any (sameCandidate c)) (gather-more held n) ∙ go (enters held (suc n)) (sameCandidate c (held (suc n))) refl
         where
-          go : (y z : Bool) → sameCandidate c (held (suc n)) ≡ z → any (sameCandidate c) (cond y (gather held n ++ (held (suc n) ∷ [])) (gather held n)) ≡ false
+          go : (y z : Bool) → sameCandidate c (held (suc n)) ≡ z → any (sameCandidate c)
+              (cond y (gather held n ++ (held (suc n) ∷ [])) (gather held n)) ≡ false
           go true true w =
               let s : c ≡ held (suc n) = candidate-same c (held (suc n)) w in
               absurd (subst T (sym (candidate-refl c) ∙ subst (λ (x : Candidate). sameCandidate x c ≡ false) (sym s) q) tt)
@@ -94,7 +99,8 @@ module _ (held : ByServer Candidate) (c : Candidate) where
       by-here false q k = absurd (omega arith)
 
       by-before : (b : Bool) → ltb (slotOf held c n) n ≡ b → cond b (slotOf held c n) (cond (sameCandidate (held (suc n)) c) n (suc n)) < suc n
-          → (slotOf held c n < n → held (suc (slotOf held c n)) ≡ c) → held (suc (cond b (slotOf held c n) (cond (sameCandidate (held (suc n)) c) n (suc n)))) ≡ c
+          → (slotOf held c n < n → held (suc (slotOf held c n)) ≡ c) → held (suc (cond b (slotOf held c n)
+          (cond (sameCandidate (held (suc n)) c) n (suc n)))) ≡ c
       by-before true e k f = f (ltb-true (slotOf held c n) n e)
       by-before false e k f = by-here (sameCandidate (held (suc n)) c) refl k
 
@@ -106,7 +112,8 @@ unfolding choice highest live
 chosen-slot s m g held c h =
     let w = first-in (proven real s m g) (highest real s (live real s m g (gather held (s .servers)))) c h in
     let v = keep-in (sameCandidate c) (λ (x : Candidate). ltb (countTo (s .servers) (lower real s m g x)) (quorum s)) (gather held (s .servers))
-    (keep-in (sameCandidate c) (λ (x : Candidate). not (any (λ (d : Candidate). below (x .stamp) (d .stamp)) (live real s m g (gather held (s .servers)))))
+    (keep-in (sameCandidate c) (λ (x : Candidate). not (any (λ (d : Candidate). below (x .stamp) (d .stamp))
+    (live real s m g (gather held (s .servers)))))
     (live real s m g (gather held (s .servers))) (w .0)) in
     let l = slot-within held c (s .servers) v in
     (l, slot-holds held c (s .servers) l, w .1)
@@ -114,7 +121,8 @@ chosen-slot s m g held c h =
 -- ---- tags
 
 pub found-tags : (t : ℕ) (ms kept : List ℕ) (i b : ℕ) → Usable t kept → i < shelf t .servers → leaderAt t ms kept i (shelf t .servers) ≡ suc b
-    → sameTags t kept i (suc b) ≡ sameList (tagsIn real (shelf t) (candidatesIn (shelf t) kept (suc i)) (repliesIn (shelf t) ms kept (suc b) .share)) (candidatesIn (shelf t) kept (suc i) .tags)
+    → sameTags t kept i (suc b) ≡ sameList (tagsIn real (shelf t) (candidatesIn (shelf t) kept (suc i)) (repliesIn (shelf t) ms kept (suc b) .share))
+    (candidatesIn (shelf t) kept (suc i) .tags)
 unfolding sameTags usable
 found-tags t ms kept i b u l h =
     let w = leader-leads t ms kept i (shelf t .servers) b h in
@@ -135,6 +143,11 @@ found-tags t ms kept i b u l h =
     (at-slot t kept i b q)
   where
     at-slot : (t : ℕ) (kept : List ℕ) (i b : ℕ) → Full (replySlotOf kept b)
-        → sameTagsAt t kept i (suc b) ≡ sameList (shareOfSize (shelf t) (sizeIn (replySlotOf kept b)) (drop (stampSize + 1) (replySlotOf kept b)) .tags) (candidatesIn (shelf t) kept (suc i) .tags)
+        → sameTagsAt t kept i (suc b) ≡ sameList (shareOfSize (shelf t) (sizeIn (replySlotOf kept b))
+        (drop (stampSize + 1) (replySlotOf kept b)) .tags) (candidatesIn (shelf t) kept (suc i) .tags)
     at-slot t kept i b q =
-        unfold sameTagsAt in rw (share-in t kept b) (unfold shareOfSize in rw (le-leb leastLength (sizeIn (replySlotOf kept b)) (q .least), le-leb (sizeIn (replySlotOf kept b)) topLength (q .top)))
+        unfold sameTagsAt in rw (share-in t kept b) (unfold shareOfSize in rw (
+          le-leb leastLength (sizeIn (replySlotOf kept b)) (q .least),
+          le-leb
+              (sizeIn (replySlotOf kept b)) topLength (q .top),
+        ))

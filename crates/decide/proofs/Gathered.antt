@@ -71,7 +71,8 @@ module _ (g : ByServer Candidate) where
       go false r = rw b (any-append (sameCandidate (g (suc n))) (gather g n) (g (suc n) ∷ []) ∙ rw (r, candidate-refl (g (suc n))))
 
   -- a slot before holds an equal one, which is not blank
-  pub any-some : (x : Candidate) (n j : ℕ) → isBlank (x .stamp) ≡ false → j < n → sameCandidate x (g (suc j)) ≡ true → any (sameCandidate x) (gather g n) ≡ true
+  pub any-some : (x : Candidate) (n j : ℕ) → isBlank (x .stamp) ≡ false → j < n → sameCandidate x (g (suc j)) ≡ true → any (sameCandidate x)
+      (gather g n) ≡ true
   any-some x zero j b l e = absurd (omega arith)
   any-some x (suc n) j b l e = go (eqb j n) refl (any-some x n j b)
     where
@@ -80,7 +81,8 @@ module _ (g : ByServer Candidate) where
       go true q f =
           let i : j ≡ n = eqb-true j n q in
           let k : x ≡ g (suc n) = candidate-same x (g (suc n)) (subst (λ (i : ℕ). sameCandidate x (g (suc i)) ≡ true) i e) in
-          subst (λ (z : Candidate). any (sameCandidate z) (gather g (suc n)) ≡ true) (sym k) (any-last n (subst (λ (z : Candidate). isBlank (z .stamp) ≡ false) k b))
+          subst (λ (z : Candidate). any (sameCandidate z) (gather g (suc n)) ≡ true) (sym k)
+          (any-last n (subst (λ (z : Candidate). isBlank (z .stamp) ≡ false) k b))
       go false q f = let d = eqb-false j n q in any-kept (sameCandidate x) n (f (omega arith) e)
 
   -- whether one enters, by the slots before it
@@ -92,7 +94,8 @@ module _ (g : ByServer Candidate) where
   unfolding enters
   enters-twin n j b l e = rw (b, any-some (g (suc n)) n j b l e)
 
-  pub enters-new : (n : ℕ) → isBlank (g (suc n) .stamp) ≡ false → ((j : ℕ) → j < n → sameCandidate (g (suc n)) (g (suc j)) ≡ false) → enters g (suc n) ≡ true
+  pub enters-new : (n : ℕ) → isBlank (g (suc n) .stamp) ≡ false → ((j : ℕ) → j < n → sameCandidate (g (suc n)) (g (suc j)) ≡ false) → enters g (suc n)
+      ≡ true
   unfolding enters
   enters-new n b h = rw (b, any-none (g (suc n)) n h)
 
@@ -106,4 +109,5 @@ module _ (g : ByServer Candidate) where
   -- one that is kept out, and not for being blank, has a twin in the list
   pub kept-out : (n : ℕ) → enters g (suc n) ≡ false → isBlank (g (suc n) .stamp) ≡ false → any (sameCandidate (g (suc n))) (gather g n) ≡ true
   unfolding enters
-  kept-out n e q = not-false (any (sameCandidate (g (suc n))) (gather g n)) (subst (λ (b : Bool). not (b || any (sameCandidate (g (suc n))) (gather g n)) ≡ false) q e)
+  kept-out n e q = not-false (any (sameCandidate (g (suc n))) (gather g n)) (subst (λ (b : Bool). not
+      (b || any (sameCandidate (g (suc n))) (gather g n)) ≡ false) q e)

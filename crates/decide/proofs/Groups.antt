@@ -34,7 +34,8 @@ module _ (s : Config) (c : Candidate) (d : List ℕ) (e : d ≡ sha256 (c .nonce
   unfolding real
   share-fits i none = refl
   share-fits i (some h) =
-      rw e (sym (and-assoc (within leastLength topLength (h .size)) (sameList (h .nonceDigest) (sha256 (c .nonce))) (sameList (sha256 (h .part)) (nth digestSize (h .digests) i))))
+      rw e (sym (and-assoc (within leastLength topLength (h .size)) (sameList (h .nonceDigest) (sha256 (c .nonce)))
+      (sameList (sha256 (h .part)) (nth digestSize (h .digests) i))))
 
   pub fits-in : (i : ℕ) (x : Held) → (sameStamp (x .stamp) (c .stamp) && shareFits real s c i (x .share)) ≡ (names c d x && intact i (x .share))
   unfolding names
@@ -62,14 +63,16 @@ module _ (t : ℕ) (ms kept : List ℕ) (i : ℕ) where
         → fitsAt t ms kept i j ≡ (names (candidatesIn (shelf t) kept (suc i)) d (slotHeld t kept j) && intact (suc j) (slotHeld t kept j .share))
     unfolding fitsAt fits slotHeld
     fits-marked j l h =
-        rw (h, reply-in (shelf t) ms kept j l h) (fits-in (shelf t) (candidatesIn (shelf t) kept (suc i)) d e (suc j) (heldAt (shelf t) (replySlotOf kept j)))
+        rw (h, reply-in (shelf t) ms kept j l h) (fits-in (shelf t) (candidatesIn (shelf t) kept (suc i)) d e (suc j)
+        (heldAt (shelf t) (replySlotOf kept j)))
 
     -- what fitting tells: a mark, and a reply that names
     pub fits-named : (j : ℕ) → j < mostServers → fitsAt t ms kept i j ≡ true
         → (marked ms (suc j) ≡ true) × (names (candidatesIn (shelf t) kept (suc i)) d (slotHeld t kept j) ≡ true)
     fits-named j l h = go (marked ms (suc j)) refl
       where
-        go : (b : Bool) → marked ms (suc j) ≡ b → (marked ms (suc j) ≡ true) × (names (candidatesIn (shelf t) kept (suc i)) d (slotHeld t kept j) ≡ true)
+        go : (b : Bool) → marked ms (suc j) ≡ b → (marked ms (suc j) ≡ true) × (names (candidatesIn (shelf t) kept (suc i)) d (slotHeld t kept j) ≡
+            true)
         go true q = (q, and-both _ _ (sym (fits-marked j l q) ∙ h) .0)
         go false q = absurd (subst T (sym h ∙ never q) tt)
           where
@@ -82,11 +85,13 @@ module _ (t : ℕ) (ms kept : List ℕ) (i : ℕ) where
 
   -- agreeing is fitting, and the same share as the leader's
   agrees-fits : (b j : ℕ)
-      → agreesAt t ms kept i b (suc j) ≡ (fitsAt t ms kept i j && sameShare real (shelf t) (repliesIn (shelf t) ms kept (suc b) .share) (repliesIn (shelf t) ms kept (suc j) .share))
+      → agreesAt t ms kept i b (suc j) ≡ (fitsAt t ms kept i j && sameShare real (shelf t) (repliesIn (shelf t) ms kept (suc b) .share)
+      (repliesIn (shelf t) ms kept (suc j) .share))
   unfolding agreesAt agrees fitsAt
   agrees-fits b j = refl
 
-  module _ (d : List ℕ) (e : d ≡ sha256 (candidatesIn (shelf t) kept (suc i) .nonce)) (b : ℕ) (small : b < mostServers) (fit : fitsAt t ms kept i b ≡ true) where
+  module _ (d : List ℕ) (e : d ≡ sha256 (candidatesIn (shelf t) kept (suc i) .nonce)) (b : ℕ) (small : b < mostServers)
+      (fit : fitsAt t ms kept i b ≡ true) where
     leads-marked : marked ms (suc b) ≡ true
     leads-marked = fits-named d e b small fit .0
 
@@ -105,9 +110,11 @@ module _ (t : ℕ) (ms kept : List ℕ) (i : ℕ) where
       pub agrees-nameless : names (candidatesIn (shelf t) kept (suc i)) d (slotHeld t kept j) ≡ false → agreesAt t ms kept i b (suc j) ≡ false
       agrees-nameless q = agrees-in ∙ rw q
 
-      pub agrees-unlike : sameShare real (shelf t) (slotHeld t kept b .share) (slotHeld t kept j .share) ≡ false → agreesAt t ms kept i b (suc j) ≡ false
+      pub agrees-unlike : sameShare real (shelf t) (slotHeld t kept b .share) (slotHeld t kept j .share) ≡ false → agreesAt t ms kept i b (suc j) ≡
+          false
       agrees-unlike q =
-          agrees-in ∙ rw q (and-false (names (candidatesIn (shelf t) kept (suc i)) d (slotHeld t kept j) && intact (suc j) (slotHeld t kept j .share)))
+          agrees-in ∙ rw q (and-false (names (candidatesIn (shelf t) kept (suc i)) d (slotHeld t kept j) && intact (suc j)
+          (slotHeld t kept j .share)))
 
       pub agrees-last : names (candidatesIn (shelf t) kept (suc i)) d (slotHeld t kept j) ≡ true
           → sameShare real (shelf t) (slotHeld t kept b .share) (slotHeld t kept j .share) ≡ true
@@ -120,18 +127,23 @@ module _ (t : ℕ) (ms kept : List ℕ) (i : ℕ) where
         (same-share-self (shareOfSize (shelf t) (sizeIn (replySlotOf kept b)) (drop (stampSize + 1) (replySlotOf kept b))))
 
   -- what agreeing tells: a mark, a share, and the leader's length
-  pub member-shares : (d : List ℕ) (e : d ≡ sha256 (candidatesIn (shelf t) kept (suc i) .nonce)) (b : ℕ) (small : b < mostServers) (fit : fitsAt t ms kept i b ≡ true) (j : ℕ) → j < mostServers
+  pub member-shares : (d : List ℕ) (e : d ≡ sha256 (candidatesIn (shelf t) kept (suc i) .nonce)) (b : ℕ) (small : b < mostServers)
+      (fit : fitsAt t ms kept i b ≡ true) (j : ℕ) → j < mostServers
       → agreesAt t ms kept i b (suc j) ≡ true
-      → (marked ms (suc j) ≡ true) × (eqb (getD (replySlotOf kept j) stampSize 0) 0 ≡ false) × (sizeIn (replySlotOf kept j) ≡ sizeIn (replySlotOf kept b))
+      → (marked ms (suc j) ≡ true) × (eqb (getD (replySlotOf kept j) stampSize 0) 0 ≡ false) ×
+      (sizeIn (replySlotOf kept j) ≡ sizeIn (replySlotOf kept b))
   unfolding slotHeld
   member-shares d e b small fit j l h =
-      let k = and-both (fitsAt t ms kept i j) (sameShare real (shelf t) (repliesIn (shelf t) ms kept (suc b) .share) (repliesIn (shelf t) ms kept (suc j) .share)) (sym (agrees-fits b j) ∙ h) in
+      let k = and-both (fitsAt t ms kept i j) (sameShare real (shelf t) (repliesIn (shelf t) ms kept (suc b) .share)
+      (repliesIn (shelf t) ms kept (suc j) .share)) (sym (agrees-fits b j) ∙ h) in
       let w = fits-named d e j l (k .0) in
       let f = names-full (shelf t) (replySlotOf kept j) (candidatesIn (shelf t) kept (suc i)) d (w .1) in
       let g = leader-full d e b small fit in
       let r : sameShare real (shelf t) (heldAt (shelf t) (replySlotOf kept b) .share) (heldAt (shelf t) (replySlotOf kept j) .share) ≡ true =
-      subst (λ (x : Held). sameShare real (shelf t) (heldAt (shelf t) (replySlotOf kept b) .share) (x .share) ≡ true) (reply-in (shelf t) ms kept j l (w .0))
-      (subst (λ (x : Held). sameShare real (shelf t) (x .share) (repliesIn (shelf t) ms kept (suc j) .share) ≡ true) (reply-in (shelf t) ms kept b small (fits-named d e b small fit .0)) (k .1)) in
+      subst (λ (x : Held). sameShare real (shelf t) (heldAt (shelf t) (replySlotOf kept b) .share) (x .share) ≡ true)
+      (reply-in (shelf t) ms kept j l (w .0))
+      (subst (λ (x : Held). sameShare real (shelf t) (x .share) (repliesIn (shelf t) ms kept (suc j) .share) ≡ true)
+      (reply-in (shelf t) ms kept b small (fits-named d e b small fit .0)) (k .1)) in
       (w .0, f .flag, sizes (eqb (sizeIn (replySlotOf kept j)) (sizeIn (replySlotOf kept b))) refl r f g)
     where
       sizes : (y : Bool) → eqb (sizeIn (replySlotOf kept j)) (sizeIn (replySlotOf kept b)) ≡ y
@@ -139,9 +151,11 @@ module _ (t : ℕ) (ms kept : List ℕ) (i : ℕ) where
           → Full (replySlotOf kept j) → Full (replySlotOf kept b) → sizeIn (replySlotOf kept j) ≡ sizeIn (replySlotOf kept b)
       sizes true q r f g = eqb-true (sizeIn (replySlotOf kept j)) (sizeIn (replySlotOf kept b)) q
       sizes false q r f g =
-          absurd (subst T (sym r ∙ alike-not (shelf t) (replySlotOf kept b) (replySlotOf kept j) g f (eqb-false (sizeIn (replySlotOf kept j)) (sizeIn (replySlotOf kept b)) q)) tt)
+          absurd (subst T (sym r ∙ alike-not (shelf t) (replySlotOf kept b) (replySlotOf kept j) g f
+          (eqb-false (sizeIn (replySlotOf kept j)) (sizeIn (replySlotOf kept b)) q)) tt)
 
-  pub agrees-at : (b j : ℕ) → agrees real (shelf t) (marked ms) (repliesIn (shelf t) ms kept) (candidatesIn (shelf t) kept (suc i)) (suc b) j ≡ agreesAt t ms kept i b j
+  pub agrees-at : (b j : ℕ) → agrees real (shelf t) (marked ms) (repliesIn (shelf t) ms kept) (candidatesIn (shelf t) kept (suc i)) (suc b) j ≡
+      agreesAt t ms kept i b j
   unfolding agreesAt
   agrees-at b j = refl
 
@@ -161,7 +175,8 @@ module _ (t : ℕ) (ms kept : List ℕ) (i : ℕ) where
   pub members-most : (b : ℕ) → length (membersAt t ms kept i b) ≤ shelf t .shares
   members-most b = omega (arith, members-length b)
 
-  leads-count : (b : ℕ) → fitsAt t ms kept i b ≡ true → leadsAt t ms kept i b ≡ leb (shelf t .shares) (countTo (shelf t .servers) (agreesAt t ms kept i b))
+  leads-count : (b : ℕ) → fitsAt t ms kept i b ≡ true → leadsAt t ms kept i b ≡ leb (shelf t .shares)
+      (countTo (shelf t .servers) (agreesAt t ms kept i b))
   unfolding leadsAt leads fitsAt agreesAt
   leads-count b h = rw h
 
@@ -169,18 +184,23 @@ module _ (t : ℕ) (ms kept : List ℕ) (i : ℕ) where
   leads-few b h l = leads-count b h ∙ lt-leb (shelf t .shares) (countTo (shelf t .servers) (agreesAt t ms kept i b)) (omega (arith, members-length b))
 
   pub leads-enough : (b : ℕ) → fitsAt t ms kept i b ≡ true → shelf t .shares ≤ length (membersAt t ms kept i b) → leadsAt t ms kept i b ≡ true
-  leads-enough b h l = leads-count b h ∙ le-leb (shelf t .shares) (countTo (shelf t .servers) (agreesAt t ms kept i b)) (omega (arith, members-length b))
+  leads-enough b h l = leads-count b h ∙ le-leb (shelf t .shares) (countTo (shelf t .servers) (agreesAt t ms kept i b))
+      (omega (arith, members-length b))
 
-  pub leads-fits : (b : ℕ) → leadsAt t ms kept i b ≡ true → (fitsAt t ms kept i b ≡ true) × (shelf t .shares ≤ length (serversOf (shelf t .servers) (agreesAt t ms kept i b)))
+  pub leads-fits : (b : ℕ) → leadsAt t ms kept i b ≡ true → (fitsAt t ms kept i b ≡ true) ×
+      (shelf t .shares ≤ length (serversOf (shelf t .servers) (agreesAt t ms kept i b)))
   unfolding leadsAt leads fitsAt agreesAt
   leads-fits b h =
       let k = and-both (fits real (shelf t) (marked ms) (repliesIn (shelf t) ms kept) (candidatesIn (shelf t) kept (suc i)) (suc b))
-      (leb (shelf t .shares) (countTo (shelf t .servers) (agrees real (shelf t) (marked ms) (repliesIn (shelf t) ms kept) (candidatesIn (shelf t) kept (suc i)) (suc b)))) h in (
+      (leb (shelf t .shares) (countTo (shelf t .servers) (agrees real (shelf t) (marked ms) (repliesIn (shelf t) ms kept)
+      (candidatesIn (shelf t) kept (suc i)) (suc b)))) h in (
         k .0,
         omega (
           arith,
-          leb-true (shelf t .shares) (countTo (shelf t .servers) (agrees real (shelf t) (marked ms) (repliesIn (shelf t) ms kept) (candidatesIn (shelf t) kept (suc i)) (suc b))) (k .1),
-          servers-length (shelf t .servers) (agrees real (shelf t) (marked ms) (repliesIn (shelf t) ms kept) (candidatesIn (shelf t) kept (suc i)) (suc b)),
+          leb-true (shelf t .shares) (countTo (shelf t .servers) (agrees real (shelf t) (marked ms) (repliesIn (shelf t) ms kept)
+              (candidatesIn (shelf t) kept (suc i)) (suc b))) (k .1),
+          servers-length (shelf t .servers) (agrees real (shelf t) (marked ms) (repliesIn (shelf t) ms kept) (candidatesIn (shelf t) kept (suc i))
+              (suc b)),
         ),
       )
 
@@ -202,7 +222,8 @@ module _ (t : ℕ) (ms kept : List ℕ) (i : ℕ) where
     where
       go : (x : ℕ) → leader real (shelf t) (marked ms) (repliesIn (shelf t) ms kept) (candidatesIn (shelf t) kept (suc i)) n ≡ x
           → (y : Bool) → leads real (shelf t) (marked ms) (repliesIn (shelf t) ms kept) (candidatesIn (shelf t) kept (suc i)) (suc n) ≡ y
-          → cond (eqb x 0 && y) (suc n) x ≡ suc b → (leaderAt t ms kept i n ≡ suc b → (leadsAt t ms kept i b ≡ true) × (b < n)) → (leadsAt t ms kept i b ≡ true) × (b < suc n)
+          → cond (eqb x 0 && y) (suc n) x ≡ suc b → (leaderAt t ms kept i n ≡ suc b → (leadsAt t ms kept i b ≡ true) × (b < n)) →
+          (leadsAt t ms kept i b ≡ true) × (b < suc n)
       go zero e true q w f = let z : n ≡ b = omega arith in (subst (λ (k : ℕ). leadsAt t ms kept i k ≡ true) z q, omega arith)
       go zero e false q w f = absurd (omega arith)
       go (suc x) e y q w f =

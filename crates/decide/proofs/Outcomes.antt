@@ -53,7 +53,8 @@ module _ (t : ℕ) (marks kept : List ℕ) (u : Usable t kept) (key : ℕ) (r : 
   pub hit-rises : Rising t (r .servers)
   hit-rises = members-rise t (agreesAt t marks kept (r .slot) b) (r .servers) (unfold membersAt in k .members) (hit-fits .1)
 
-  hit-content : restoredBy real (shelf t) (marked marks) (repliesIn (shelf t) marks kept) (candidatesIn (shelf t) kept (suc (r .slot))) (suc b) (repliesIn (shelf t) marks kept (suc b) .share)
+  hit-content : restoredBy real (shelf t) (marked marks) (repliesIn (shelf t) marks kept) (candidatesIn (shelf t) kept (suc (r .slot))) (suc b)
+      (repliesIn (shelf t) marks kept (suc b) .share)
       ≡ contentOf t kept b (take (shelf t .shares) (r .servers))
   unfolding shareSize
   hit-content =
@@ -75,7 +76,8 @@ module _ (t : ℕ) (marks kept output : List ℕ) where
   unfolding decided
   decided-unusable e = rw e
 
-  pub decided-roomless : usable t kept ≡ true → length output < contentRoom → decided t marks kept output ≡ record { answer = decisions.Wait; output = output }
+  pub decided-roomless : usable t kept ≡ true → length output < contentRoom → decided t marks kept output ≡ record
+      { answer = decisions.Wait; output = output }
   unfolding decided
   decided-roomless e l = rw (e, lt-leb contentRoom (length output) l)
 
@@ -92,7 +94,8 @@ module _ (t : ℕ) (marks kept output : List ℕ) where
         (choice real (shelf t) (marked marks) (repliesIn (shelf t) marks kept) (gather (candidatesIn (shelf t) kept) (shelf t .servers)))
     on = unfold decided in rw (e, le-leb contentRoom (length output) l)
 
-    pub decided-blank : topAt t marks kept (shelf t .servers) ≤ blankRank → decided t marks kept output ≡ record { answer = decisions.Blank; output = output }
+    pub decided-blank : topAt t marks kept (shelf t .servers) ≤ blankRank → decided t marks kept output ≡ record
+        { answer = decisions.Blank; output = output }
     unfolding topAt decidedOn
     decided-blank h = on ∙ rw (live-none (shelf t) (marked marks) (repliesIn (shelf t) marks kept) (candidatesIn (shelf t) kept) writers repliers h)
 
@@ -117,15 +120,19 @@ module _ (t : ℕ) (marks kept output : List ℕ) where
     chosen-on : blankRank < topAt t marks kept (shelf t .servers) → (o : Option Candidate)
         → chosenAt t marks kept (topAt t marks kept (shelf t .servers)) (shelf t .servers) ≡ o
         → decided t marks kept output
-        ≡ decidedOn (shelf t) (marked marks) (repliesIn (shelf t) marks kept) (candidatesIn (shelf t) kept) output (candidatesIn (shelf t) kept 0 ∷ []) o
+        ≡ decidedOn (shelf t) (marked marks) (repliesIn (shelf t) marks kept) (candidatesIn (shelf t) kept) output
+        (candidatesIn (shelf t) kept 0 ∷ []) o
     chosen-on h o q =
         on
         ∙ by-choice (live real (shelf t) (marked marks) (repliesIn (shelf t) marks kept) (gather (candidatesIn (shelf t) kept) (shelf t .servers)))
         (choice real (shelf t) (marked marks) (repliesIn (shelf t) marks kept) (gather (candidatesIn (shelf t) kept) (shelf t .servers)))
-        (live-some (shelf t) (marked marks) (repliesIn (shelf t) marks kept) (candidatesIn (shelf t) kept) writers repliers (unfold topAt in h)) (candidatesIn (shelf t) kept 0)
-        ∙ ap (decidedOn (shelf t) (marked marks) (repliesIn (shelf t) marks kept) (candidatesIn (shelf t) kept) output (candidatesIn (shelf t) kept 0 ∷ [])) (choice-is h ∙ q)
+        (live-some (shelf t) (marked marks) (repliesIn (shelf t) marks kept) (candidatesIn (shelf t) kept) writers repliers (unfold topAt in h))
+        (candidatesIn (shelf t) kept 0)
+        ∙ ap (decidedOn (shelf t) (marked marks) (repliesIn (shelf t) marks kept) (candidatesIn (shelf t) kept) output
+        (candidatesIn (shelf t) kept 0 ∷ [])) (choice-is h ∙ q)
 
-    pub decided-none : blankRank < topAt t marks kept (shelf t .servers) → chosenAt t marks kept (topAt t marks kept (shelf t .servers)) (shelf t .servers) ≡ none
+    pub decided-none : blankRank < topAt t marks kept (shelf t .servers) → chosenAt t marks kept (topAt t marks kept (shelf t .servers))
+        (shelf t .servers) ≡ none
         → decided t marks kept output ≡ record { answer = decisions.Wait; output = output }
     unfolding decidedOn
     decided-none h q = chosen-on h none q

@@ -112,7 +112,8 @@ pub candidate-in : (s : Config) (kept : List ℕ) (i : ℕ) → i < mostServers
 unfolding candidatesIn
 candidate-in s kept i h = rw (lt-ltb i mostServers h)
 
-pub reply-in : (s : Config) (ms kept : List ℕ) (i : ℕ) → i < mostServers → marked ms (suc i) ≡ true → repliesIn s ms kept (suc i) ≡ heldAt s (replySlotOf kept i)
+pub reply-in : (s : Config) (ms kept : List ℕ) (i : ℕ) → i < mostServers → marked ms (suc i) ≡ true → repliesIn s ms kept (suc i) ≡ heldAt s
+    (replySlotOf kept i)
 unfolding repliesIn
 reply-in s ms kept i h e = rw (lt-ltb i mostServers h, e)
 
@@ -120,20 +121,29 @@ reply-in s ms kept i h e = rw (lt-ltb i mostServers h, e)
 pub stamp-rank : (d : List ℕ) (at n : ℕ) → 5 ≤ n → rank (stampAt (part d at n)) ≡ rankAt d at
 unfolding stampAt rankAt
 stamp-rank d at n h =
-    rw (getD-part d at n 0 (omega arith), getD-part d at n 1 (omega arith), getD-part d at n 2 (omega arith), getD-part d at n 3 (omega arith), getD-part d at n 4 (omega arith))
+    rw (
+      getD-part d at n 0 (omega arith),
+      getD-part d at n 1 (omega arith),
+      getD-part d at n 2 (omega arith),
+      getD-part d at n 3 (omega arith),
+      getD-part d at n 4 (omega arith),
+    )
     (let e : at + 0 ≡ at = omega arith in rw e)
 
 -- two slots of candidates, compared by as many bytes as a candidate has
-pub same-slots : (s : Config) (kept : List ℕ) (i j : ℕ) → s .servers ≤ mostServers → Bytes kept → length kept ≡ keptSize → i < mostServers → j < mostServers
+pub same-slots : (s : Config) (kept : List ℕ) (i j : ℕ) → s .servers ≤ mostServers → Bytes kept → length kept ≡ keptSize → i < mostServers → j <
+    mostServers
     → sameList (part kept (candidatesAt + candidateSlot * i) (candidateSize s)) (part kept (candidatesAt + candidateSlot * j) (candidateSize s))
     ≡ sameCandidate (candidatesIn s kept (suc i)) (candidatesIn s kept (suc j))
 same-slots s kept i j few b l h k =
     let n : ℕ = candidatesAt + candidateSlot * i in
     let m : ℕ = candidatesAt + candidateSlot * j in
     let p : part (part kept n candidateSlot) 0 (candidateSize s) ≡ part kept n (candidateSize s) =
-    part-part kept n candidateSlot 0 (candidateSize s) (omega arith) ∙ (let e : n + 0 ≡ n = omega arith in ap (λ (x : ℕ). part kept x (candidateSize s)) e) in
+    part-part kept n candidateSlot 0 (candidateSize s) (omega arith) ∙ (let e : n + 0 ≡ n = omega arith in ap
+    (λ (x : ℕ). part kept x (candidateSize s)) e) in
     let q : part (part kept m candidateSlot) 0 (candidateSize s) ≡ part kept m (candidateSize s) =
-    part-part kept m candidateSlot 0 (candidateSize s) (omega arith) ∙ (let e : m + 0 ≡ m = omega arith in ap (λ (x : ℕ). part kept x (candidateSize s)) e) in
+    part-part kept m candidateSlot 0 (candidateSize s) (omega arith) ∙ (let e : m + 0 ≡ m = omega arith in ap
+    (λ (x : ℕ). part kept x (candidateSize s)) e) in
     rw (← p, ← q, candidate-in s kept i h, candidate-in s kept j k)
     (same-candidates s (part kept n candidateSlot) (part kept m candidateSlot) (bytes-part kept n candidateSlot b) (bytes-part kept m candidateSlot b)
     (omega (arith, part-length kept n candidateSlot (omega arith))) (omega (arith, part-length kept m candidateSlot (omega arith))))
@@ -142,10 +152,12 @@ pub nonce-in : (s : Config) (kept : List ℕ) (i : ℕ) → i < mostServers
     → candidatesIn s kept (suc i) .nonce ≡ part kept (candidatesAt + candidateSlot * i + stampSize) nonceSize
 unfolding candidateAt
 nonce-in s kept i h =
-    ap (λ (c : Candidate). c .nonce) (candidate-in s kept i h) ∙ part-part kept (candidatesAt + candidateSlot * i) candidateSlot stampSize nonceSize (omega arith)
+    ap (λ (c : Candidate). c .nonce) (candidate-in s kept i h) ∙ part-part kept (candidatesAt + candidateSlot * i) candidateSlot stampSize nonceSize
+    (omega arith)
 
 pub candidate-tags : (s : Config) (kept : List ℕ) (i : ℕ) → i < mostServers → s .servers ≤ mostServers
     → candidatesIn s kept (suc i) .tags ≡ part kept (candidatesAt + candidateSlot * i + (stampSize + nonceSize)) (tagsSize s)
 unfolding candidateAt
 candidate-tags s kept i h few =
-    ap (λ (c : Candidate). c .tags) (candidate-in s kept i h) ∙ part-part kept (candidatesAt + candidateSlot * i) candidateSlot (stampSize + nonceSize) (tagsSize s) (omega arith)
+    ap (λ (c : Candidate). c .tags) (candidate-in s kept i h) ∙ part-part kept (candidatesAt + candidateSlot * i) candidateSlot
+    (stampSize + nonceSize) (tagsSize s) (omega arith)

@@ -68,7 +68,8 @@ stamp-writer d at n b = bytes-part d at n b 4
 module _ (s : Config) (kept : List ℕ) where
   pub candidate-rank : (i : ℕ) → i < mostServers → rank (candidatesIn s kept (suc i) .stamp) ≡ rankAt kept (candidatesAt + candidateSlot * i)
   unfolding candidateAt
-  candidate-rank i h = ap (λ (c : Candidate). rank (c .stamp)) (candidate-in s kept i h) ∙ stamp-rank kept (candidatesAt + candidateSlot * i) candidateSlot (omega arith)
+  candidate-rank i h = ap (λ (c : Candidate). rank (c .stamp)) (candidate-in s kept i h) ∙ stamp-rank kept (candidatesAt + candidateSlot * i)
+      candidateSlot (omega arith)
 
   pub candidate-writer : Bytes kept → (i : ℕ) → candidatesIn s kept i .stamp .writer < 256
   unfolding candidatesIn candidateAt
@@ -80,9 +81,11 @@ module _ (s : Config) (kept : List ℕ) where
       go false = omega arith
 
   module _ (ms : List ℕ) where
-    pub reply-rank : (i : ℕ) → i < mostServers → marked ms (suc i) ≡ true → rank (repliesIn s ms kept (suc i) .stamp) ≡ rankAt kept (repliesAt + replySlot * i)
+    pub reply-rank : (i : ℕ) → i < mostServers → marked ms (suc i) ≡ true → rank (repliesIn s ms kept (suc i) .stamp) ≡ rankAt kept
+        (repliesAt + replySlot * i)
     unfolding heldAt replySlotOf
-    reply-rank i h e = ap (λ (x : Held). rank (x .stamp)) (reply-in s ms kept i h e) ∙ stamp-rank kept (repliesAt + replySlot * i) replySlot (omega arith)
+    reply-rank i h e = ap (λ (x : Held). rank (x .stamp)) (reply-in s ms kept i h e) ∙ stamp-rank kept (repliesAt + replySlot * i) replySlot
+        (omega arith)
 
     pub reply-writer : Bytes kept → (i : ℕ) → repliesIn s ms kept i .stamp .writer < 256
     unfolding repliesIn heldAt replySlotOf

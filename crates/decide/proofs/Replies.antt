@@ -34,7 +34,8 @@ digestsIn s d = stampSize + 3 + fragmentSize (s .shares) (sizeIn d)
 
 named-range : (x : List ℕ) (h : Share) → namesShare x (some h) ≡ true → (leastLength ≤ h .size) × (h .size ≤ topLength)
 named-range x h e =
-    let w = and-both (leb leastLength (h .size)) (leb (h .size) topLength) (and-both (within leastLength topLength (h .size)) (sameList (h .nonceDigest) x) e .0) in
+    let w = and-both (leb leastLength (h .size)) (leb (h .size) topLength) (and-both (within leastLength topLength (h .size))
+    (sameList (h .nonceDigest) x) e .0) in
     (leb-true leastLength (h .size) (w .0), leb-true (h .size) topLength (w .1))
 
 -- an entry of a run within the slot
@@ -62,15 +63,19 @@ module _ (s : Config) (d : List ℕ) where
     unfolding shareOfSize
     digests-in = body-part (2 + fragmentSize (s .shares) n) (stampSize + 3 + fragmentSize (s .shares) n) (digestsSize s) (omega arith)
 
-    pub nonce-digest-in : shareOfSize s n (drop (stampSize + 1) d) .nonceDigest ≡ part d (stampSize + 3 + fragmentSize (s .shares) n + digestsSize s) digestSize
+    pub nonce-digest-in : shareOfSize s n (drop (stampSize + 1) d) .nonceDigest ≡ part d (stampSize + 3 + fragmentSize (s .shares) n + digestsSize s)
+        digestSize
     unfolding shareOfSize
     nonce-digest-in =
-        body-part (2 + fragmentSize (s .shares) n + digestsSize s) (stampSize + 3 + fragmentSize (s .shares) n + digestsSize s) digestSize (omega arith)
+        body-part (2 + fragmentSize (s .shares) n + digestsSize s) (stampSize + 3 + fragmentSize (s .shares) n + digestsSize s) digestSize
+        (omega arith)
 
-    pub tags-in : shareOfSize s n (drop (stampSize + 1) d) .tags ≡ part d (stampSize + 3 + fragmentSize (s .shares) n + digestsSize s + digestSize) (tagsSize s)
+    pub tags-in : shareOfSize s n (drop (stampSize + 1) d) .tags ≡ part d (stampSize + 3 + fragmentSize (s .shares) n + digestsSize s + digestSize)
+        (tagsSize s)
     unfolding shareOfSize
     tags-in =
-        body-part (2 + fragmentSize (s .shares) n + digestsSize s + digestSize) (stampSize + 3 + fragmentSize (s .shares) n + digestsSize s + digestSize) (tagsSize s) (omega arith)
+        body-part (2 + fragmentSize (s .shares) n + digestsSize s + digestSize) (stampSize + 3 + fragmentSize (s .shares) n + digestsSize s +
+        digestSize) (tagsSize s) (omega arith)
 
   -- ---- naming a candidate
 
@@ -81,11 +86,13 @@ module _ (s : Config) (d : List ℕ) where
   module _ (e x : List ℕ) where
     names-some : eqb (getD d stampSize 0) 0 ≡ false
         → names (candidateAt s e) x (heldAt s d)
-        ≡ (sameStamp (stampAt d) (stampAt e) && (within leastLength topLength (sizeIn d) && sameList (part d (digestsIn s d + digestsSize s) digestSize) x))
+        ≡ (sameStamp (stampAt d) (stampAt e) && (within leastLength topLength (sizeIn d) && sameList
+        (part d (digestsIn s d + digestsSize s) digestSize) x))
     unfolding names candidateAt
     names-some h =
         rw (held-share h)
-        (unfold heldAt shareOfSize in (ap (λ (z : List ℕ). sameStamp (stampAt d) (stampAt e) && (within leastLength topLength (sizeIn d) && sameList z x)) (unfold shareOfSize in nonce-digest-in (sizeIn d))))
+        (unfold heldAt shareOfSize in (ap (λ (z : List ℕ). sameStamp (stampAt d) (stampAt e) &&
+        (within leastLength topLength (sizeIn d) && sameList z x)) (unfold shareOfSize in nonce-digest-in (sizeIn d))))
 
     -- by the tests that fail, or by the last one
     pub names-short : eqb (getD d stampSize 0) 0 ≡ false → sizeIn d < leastLength → names (candidateAt s e) x (heldAt s d) ≡ false
@@ -112,7 +119,8 @@ module _ (s : Config) (d : List ℕ) where
       go true e = absurd (subst T (sym h ∙ names-none c x e) tt)
       go false e =
           let k = and-both (sameStamp (stampAt d) (c .stamp)) (namesShare x (heldAt s d .share)) h in
-          let w = named-range x (shareOfSize s (sizeIn d) (drop (stampSize + 1) d)) (subst (λ (z : Option Share). namesShare x z ≡ true) (held-share e) (k .1)) in
+          let w = named-range x (shareOfSize s (sizeIn d) (drop (stampSize + 1) d))
+          (subst (λ (z : Option Share). namesShare x z ≡ true) (held-share e) (k .1)) in
           record { flag = e; least = w .0; top = w .1 }
 
   -- ---- a fragment's own digest
@@ -133,7 +141,8 @@ unfolding replySlotOf
 slot-lent kept j = part-of kept (repliesAt + replySlot * j) replySlot
 
 pub lent-length : (kept : List ℕ) (j : ℕ) → length kept ≡ keptSize → j < mostServers → length (lentSlot kept j) ≡ replySlot
-lent-length kept j l h = ap length (part-of kept (repliesAt + replySlot * j) replySlot) ∙ part-length kept (repliesAt + replySlot * j) replySlot (omega arith)
+lent-length kept j l h = ap length (part-of kept (repliesAt + replySlot * j) replySlot) ∙ part-length kept (repliesAt + replySlot * j) replySlot
+    (omega arith)
 
 -- a part of a slot, and the share in a slot
 pub slot-part : (kept : List ℕ) (j p n : ℕ) → p + n ≤ replySlot → part (replySlotOf kept j) p n ≡ part kept (repliesAt + replySlot * j + p) n
@@ -159,7 +168,9 @@ pub reply-tags : (t : ℕ) (kept : List ℕ) (j n at : ℕ) → n ≡ shareOf t 
 reply-tags t kept j n at e q l =
     let w : shareOf t kept (suc j) ≡ shareOfSize (shelf t) n (drop (stampSize + 1) (replySlotOf kept j)) =
     share-in t kept j ∙ ap (λ (x : ℕ). shareOfSize (shelf t) x (drop (stampSize + 1) (replySlotOf kept j))) (sym (e ∙ share-size t kept j)) in
-    let p : part (replySlotOf kept j) (stampSize + 3 + fragmentSize (shelf t .shares) n + digestsSize (shelf t) + digestSize) (tagsSize (shelf t)) ≡ part kept (repliesAt + replySlot * j + (stampSize + 3 + fragmentSize (shelf t .shares) n + digestsSize (shelf t) + digestSize)) (tagsSize (shelf t)) =
+    let p : part (replySlotOf kept j) (stampSize + 3 + fragmentSize (shelf t .shares) n + digestsSize (shelf t) + digestSize) (tagsSize (shelf t)) ≡
+    part kept (repliesAt + replySlot * j + (stampSize + 3 + fragmentSize (shelf t .shares) n + digestsSize (shelf t) + digestSize))
+    (tagsSize (shelf t)) =
     slot-part kept j (stampSize + 3 + fragmentSize (shelf t .shares) n + digestsSize (shelf t) + digestSize) (tagsSize (shelf t)) l in
     ap (λ (h : Share). h .tags) w ∙ tags-in (shelf t) (replySlotOf kept j) n
     ∙ p ∙ ap (λ (x : ℕ). part kept x (tagsSize (shelf t))) (sym q)
@@ -182,16 +193,30 @@ module _ (s : Config) (a b : List ℕ) (f : Full a) (g : Full b) where
         let e : D + (digestsSize s + digestSize) ≡ D + digestsSize s + digestSize = omega arith in
         same-parts a b D D (digestsSize s + digestSize) (tagsSize s) (omega arith) (omega arith)
         ∙ rw (same-parts a b D D (digestsSize s) digestSize (omega arith) (omega arith), e)
-        (and-assoc (sameList (part a D (digestsSize s)) (part b D (digestsSize s))) (sameList (part a (D + digestsSize s) digestSize) (part b (D + digestsSize s) digestSize))
+        (and-assoc (sameList (part a D (digestsSize s)) (part b D (digestsSize s)))
+        (sameList (part a (D + digestsSize s) digestSize) (part b (D + digestsSize s) digestSize))
         (sameList (part a (D + digestsSize s + digestSize) (tagsSize s)) (part b (D + digestsSize s + digestSize) (tagsSize s))))
 
-  pub alike-in : sizeIn b ≡ sizeIn a → digestsIn s a + digestsSize s + digestSize + tagsSize s ≤ length a → digestsIn s a + digestsSize s + digestSize + tagsSize s ≤ length b
+  pub alike-in : sizeIn b ≡ sizeIn a → digestsIn s a + digestsSize s + digestSize + tagsSize s ≤ length a → digestsIn s a + digestsSize s +
+      digestSize + tagsSize s ≤ length b
       → sameShare real s (heldAt s a .share) (heldAt s b .share)
       ≡ sameList (part a (digestsIn s a) (digestsSize s + digestSize + tagsSize s)) (part b (digestsIn s a) (digestsSize s + digestSize + tagsSize s))
   alike-in e l k =
       let n : ℕ = sizeIn a in
-      let p : heldAt s b .share ≡ some (shareOfSize s n (drop (stampSize + 1) b)) = held-share s b (g .flag) ∙ ap (λ (z : ℕ). some (shareOfSize s z (drop (stampSize + 1) b))) e in
-      rw (held-share s a (f .flag), p, digests-in s a n, digests-in s b n, nonce-digest-in s a n, nonce-digest-in s b n, tags-in s a n, tags-in s b n, sizes n, three-runs (digestsIn s a) l k)
+      let p : heldAt s b .share ≡ some (shareOfSize s n (drop (stampSize + 1) b)) = held-share s b (g .flag) ∙ ap
+      (λ (z : ℕ). some (shareOfSize s z (drop (stampSize + 1) b))) e in
+      rw (
+        held-share s a (f .flag),
+        p,
+        digests-in s a n,
+        digests-in s b n,
+        nonce-digest-in s a n,
+        nonce-digest-in s b n,
+        tags-in s a n,
+        tags-in s b n,
+        sizes n,
+        three-runs (digestsIn s a) l k,
+      )
     where
       sizes : (n : ℕ) → eqb (shareOfSize s n (drop (stampSize + 1) a) .size) (shareOfSize s n (drop (stampSize + 1) b) .size) ≡ true
       sizes n = unfold shareOfSize in eq-eqb n n refl

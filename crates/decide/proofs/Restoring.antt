@@ -81,14 +81,20 @@ unfolding shelf
 shares-few t h = omega arith
 
 pub restores : (t n : ℕ) (ss frs out : List ℕ) (g : ℕ → Part) → 1 ≤ t → t ≤ topFaults → leastLength ≤ n → n ≤ topLength → length ss ≡ shelf t .shares
-    → ((i : ℕ) → i < length ss → (1 ≤ getD ss i 0) × (getD ss i 0 ≤ shelf t .servers)) → ((i j : ℕ) → i < j → j < length ss → getD ss i 0 < getD ss j 0)
+    → ((i : ℕ) → i < length ss → (1 ≤ getD ss i 0) × (getD ss i 0 ≤ shelf t .servers)) →
+    ((i j : ℕ) → i < j → j < length ss → getD ss i 0 < getD ss j 0)
     → length frs ≡ length ss * fragmentSize (shelf t .shares) n → contentRoom ≤ length out
-    → ((p : ℕ) → p < length ss → record { server = getD ss p 0; bytes = take (fragmentSize (shelf t .shares) n) (drop (p * fragmentSize (shelf t .shares) n) frs) } ≡ g (getD ss p 0))
+    → ((p : ℕ) → p < length ss → record {
+      server = getD ss p 0;
+      bytes = take (fragmentSize (shelf t .shares) n)
+          (drop (p * fragmentSize (shelf t .shares) n) frs);
+    } ≡ g (getD ss p 0))
     → restoreStep t n ss frs out ≡ (record { number = 0; count = n }, restored (shelf t .points) (shelf t .shares) n (map g ss) ++ drop n out)
 unfolding restoreStep restoreRefusal argumentChecks restoredBytes
 restores t n ss frs out g lo hi least most size within-range rise given room each-part =
     let d : firstDifferent (shelf t .shares) ss ≡ places (length ss) = ap (λ (k : ℕ). firstDifferent k ss) (sym size) ∙ all-chosen ss rise in
-    let w : length (firstDifferent (shelf t .shares) ss) ≡ shelf t .shares = ap (λ (k : ℕ). length (firstDifferent k ss)) (sym size) ∙ chosen-length ss rise ∙ size in
+    let w : length (firstDifferent (shelf t .shares) ss) ≡ shelf t .shares = ap (λ (k : ℕ). length (firstDifferent k ss)) (sym size) ∙ chosen-length
+    ss rise ∙ size in
     let p : partsAt (fragmentSize (shelf t .shares) n) ss frs (firstDifferent (shelf t .shares) ss) ≡ map g ss =
     ap (partsAt (fragmentSize (shelf t .shares) n) ss frs) d ∙ parts-all (fragmentSize (shelf t .shares) n) ss frs g each-part in
     rw (
@@ -133,12 +139,15 @@ module _ (t : ℕ) (kept servers : List ℕ) (n : ℕ) (u : Usable t kept) (most
       }
 
   -- a server's fragment is lent whole
-  pub source-length : (f p at : ℕ) → f ≡ fragmentSize (shelf t .shares) n → p < shelf t .shares → at ≡ repliesAt + replySlot * (getD servers p 0 - 1) + (stampSize + 3)
+  pub source-length : (f p at : ℕ) → f ≡ fragmentSize (shelf t .shares) n → p < shelf t .shares → at ≡ repliesAt + replySlot *
+      (getD servers p 0 - 1) + (stampSize + 3)
       → length (take (at + f - at) (drop at kept)) ≡ f
   source-length f p at e l q = ap length (part-of kept at f) ∙ part-length kept at f (omega (arith, turn f p e l .inside))
 
-  pub fragments-more : (out out' : List ℕ) (f p at : ℕ) → f ≡ fragmentSize (shelf t .shares) n → p < shelf t .shares → at ≡ repliesAt + replySlot * (getD servers p 0 - 1) + (stampSize + 3)
-      → length out ≡ fragmentsRoom → ((q : ℕ) → q < p → part out (q * f) f ≡ fragmentOf kept f (getD servers q 0) .bytes) → out' ≡ put out (p * f) (take (at + f - at) (drop at kept))
+  pub fragments-more : (out out' : List ℕ) (f p at : ℕ) → f ≡ fragmentSize (shelf t .shares) n → p < shelf t .shares → at ≡ repliesAt + replySlot *
+      (getD servers p 0 - 1) + (stampSize + 3)
+      → length out ≡ fragmentsRoom → ((q : ℕ) → q < p → part out (q * f) f ≡ fragmentOf kept f (getD servers q 0) .bytes) → out' ≡ put out (p * f)
+      (take (at + f - at) (drop at kept))
       → (length out' ≡ fragmentsRoom) × ((q : ℕ) → q < p + 1 → part out' (q * f) f ≡ fragmentOf kept f (getD servers q 0) .bytes)
   fragments-more out out' f p at e l q s h w =
       let x : List ℕ = take (at + f - at) (drop at kept) in
@@ -150,13 +159,15 @@ module _ (t : ℕ) (kept servers : List ℕ) (n : ℕ) (u : Usable t kept) (most
             ∙ fragment-put out f p (λ j. fragmentOf kept f (getD servers j 0) .bytes) x fits z (here f p at q) h y k,
       )
     where
-      here : (f p at : ℕ) → at ≡ repliesAt + replySlot * (getD servers p 0 - 1) + (stampSize + 3) → take (at + f - at) (drop at kept) ≡ fragmentOf kept f (getD servers p 0) .bytes
+      here : (f p at : ℕ) → at ≡ repliesAt + replySlot * (getD servers p 0 - 1) + (stampSize + 3) → take (at + f - at) (drop at kept) ≡ fragmentOf
+          kept f (getD servers p 0) .bytes
       here f p at q = part-of kept at f ∙ (unfold fragmentOf in ap (λ (k : ℕ). part kept k f) q)
 
   pub rebuilt : (b : ℕ) (frs out out' : List ℕ) (o : Outcome) → leastLength ≤ n → n ≡ sizeIn (replySlotOf kept b) → length servers ≡ mostServers
       → FragmentsAs t kept (fragmentSize (shelf t .shares) n) servers frs → contentRoom ≤ length out
       → (o, out') ≡ restoreStep t n (take (shelf t .shares) servers) (take (shelf t .shares * fragmentSize (shelf t .shares) n) frs) out
-      → (o .count ≡ length (contentOf t kept b (take (shelf t .shares) servers))) × (out' ≡ over (contentOf t kept b (take (shelf t .shares) servers)) out)
+      → (o .count ≡ length (contentOf t kept b (take (shelf t .shares) servers))) ×
+      (out' ≡ over (contentOf t kept b (take (shelf t .shares) servers)) out)
   unfolding over contentOf shareAt shareOfSize
   rebuilt b frs out out' o least size wide each room h =
       let c : shelf t .shares ≤ mostServers = shares-few t (u .high) in
@@ -166,7 +177,8 @@ module _ (t : ℕ) (kept servers : List ℕ) (n : ℕ) (u : Usable t kept) (most
       let at : (i : ℕ) → i < length (take (shelf t .shares) servers) → getD (take (shelf t .shares) servers) i 0 ≡ getD servers i 0 =
       λ i q. getD-take (shelf t .shares) servers i 0 (omega arith) in
       let z =
-      restores t n (take (shelf t .shares) servers) (take (shelf t .shares * fragmentSize (shelf t .shares) n) frs) out (fragmentOf kept (fragmentSize (shelf t .shares) n))
+      restores t n (take (shelf t .shares) servers) (take (shelf t .shares * fragmentSize (shelf t .shares) n) frs) out
+      (fragmentOf kept (fragmentSize (shelf t .shares) n))
       (u .low) (u .high) least most l
       (λ i q. rw (at i q) (r .lowest i (omega arith), r .highest i (omega arith)))
       (λ i j q p. rw (at i (omega arith), at j p) (r .rising i j q (omega arith)))
@@ -176,14 +188,18 @@ module _ (t : ℕ) (kept servers : List ℕ) (n : ℕ) (u : Usable t kept) (most
       let e : n ≡ value2 (getD (drop (stampSize + 1) (replySlotOf kept b)) 0 0) (getD (drop (stampSize + 1) (replySlotOf kept b)) 1 0) =
       size ∙ sym (length-read (replySlotOf kept b)) in
       rw (← e) (
-        ap (λ (x : Outcome × List ℕ). x .0 .count) y ∙ sym (restored-length (shelf t .points) (shelf t .shares) n (map (fragmentOf kept (fragmentSize (shelf t .shares) n)) (take (shelf t .shares) servers))),
+        ap (λ (x : Outcome × List ℕ). x .0 .count) y ∙ sym (restored-length (shelf t .points) (shelf t .shares) n
+            (map (fragmentOf kept (fragmentSize (shelf t .shares) n)) (take (shelf t .shares) servers))),
         ap (λ (x : Outcome × List ℕ). x .1) y
-            ∙ ap (λ (x : ℕ). restored (shelf t .points) (shelf t .shares) n (map (fragmentOf kept (fragmentSize (shelf t .shares) n)) (take (shelf t .shares) servers)) ++ drop x out)
-            (sym (restored-length (shelf t .points) (shelf t .shares) n (map (fragmentOf kept (fragmentSize (shelf t .shares) n)) (take (shelf t .shares) servers)))),
+            ∙ ap (λ (x : ℕ). restored (shelf t .points) (shelf t .shares) n (map (fragmentOf kept (fragmentSize (shelf t .shares) n))
+            (take (shelf t .shares) servers)) ++ drop x out)
+            (sym (restored-length (shelf t .points) (shelf t .shares) n (map (fragmentOf kept (fragmentSize (shelf t .shares) n))
+            (take (shelf t .shares) servers)))),
       )
     where
       standing : (frs : List ℕ) (p f k : ℕ) → p < k → part frs (p * f) f ≡ fragmentOf kept f (getD servers p 0) .bytes
           → record { server = getD servers p 0; bytes = take f (drop (p * f) (take (k * f) frs)) } ≡ fragmentOf kept f (getD servers p 0)
       standing frs p f k q e =
-          let x : take f (drop (p * f) (take (k * f) frs)) ≡ fragmentOf kept f (getD servers p 0) .bytes = cut-part frs (p * f) f (k * f) (place-room p k f q) ∙ e in
+          let x : take f (drop (p * f) (take (k * f) frs)) ≡ fragmentOf kept f (getD servers p 0) .bytes = cut-part frs (p * f) f (k * f)
+          (place-room p k f q) ∙ e in
           (λ i. record { server = getD servers p 0; bytes = x i }) ∙ (unfold fragmentOf in refl)

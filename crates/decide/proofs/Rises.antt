@@ -24,7 +24,8 @@ unfolding serversOf
 servers-in m zero i h = absurd (omega arith)
 servers-in m (suc n) i h = go (m (suc n)) h (servers-in m n i)
   where
-    go : (b : Bool) → i < length (serversOf n m ++ cond b (suc n ∷ []) []) → (i < length (serversOf n m) → (1 ≤ getD (serversOf n m) i 0) × (getD (serversOf n m) i 0 ≤ n))
+    go : (b : Bool) → i < length (serversOf n m ++ cond b (suc n ∷ []) []) → (i < length (serversOf n m) → (1 ≤ getD (serversOf n m) i 0) ×
+        (getD (serversOf n m) i 0 ≤ n))
         → (1 ≤ getD (serversOf n m ++ cond b (suc n ∷ []) []) i 0) × (getD (serversOf n m ++ cond b (suc n ∷ []) []) i 0 ≤ suc n)
     go false l f = rw append-nil (let w = f (omega (arith, ap length (append-nil (serversOf n m)))) in (w .0, omega (arith, w .1)))
     go true l f = last (ltb i (length (serversOf n m))) refl
@@ -45,7 +46,8 @@ unfolding serversOf
 servers-rise m zero i j l h = absurd (omega arith)
 servers-rise m (suc n) i j l h = go (m (suc n)) h (servers-rise m n i j l)
   where
-    go : (b : Bool) → j < length (serversOf n m ++ cond b (suc n ∷ []) []) → (j < length (serversOf n m) → getD (serversOf n m) i 0 < getD (serversOf n m) j 0)
+    go : (b : Bool) → j < length (serversOf n m ++ cond b (suc n ∷ []) []) → (j < length (serversOf n m) → getD (serversOf n m) i 0 < getD
+        (serversOf n m) j 0)
         → getD (serversOf n m ++ cond b (suc n ∷ []) []) i 0 < getD (serversOf n m ++ cond b (suc n ∷ []) []) j 0
     go false k f = rw append-nil (f (omega (arith, ap length (append-nil (serversOf n m)))))
     go true k f = last (ltb j (length (serversOf n m))) refl
@@ -61,11 +63,13 @@ servers-rise m (suc n) i j l h = go (m (suc n)) h (servers-rise m n i j l)
             rw (List·getD-append (serversOf n m) (suc n ∷ []) 0 i (omega arith), getD-at (serversOf n m) (suc n) [] 0 j e) (omega (arith, w .1))
 
 -- an array that begins with enough of them
-pub members-rise : (t : ℕ) (m : ByServer Bool) (servers : List ℕ) → take (shelf t .shares) servers ≡ take (shelf t .shares) (serversOf (shelf t .servers) m)
+pub members-rise : (t : ℕ) (m : ByServer Bool) (servers : List ℕ) → take (shelf t .shares) servers ≡ take (shelf t .shares)
+    (serversOf (shelf t .servers) m)
     → shelf t .shares ≤ length (serversOf (shelf t .servers) m) → Rising t servers
 members-rise t m servers e k =
     let g : (i : ℕ) → i < shelf t .shares → getD servers i 0 ≡ getD (serversOf (shelf t .servers) m) i 0 =
-    λ i l. sym (getD-take (shelf t .shares) servers i 0 l) ∙ ap (λ (z : List ℕ). getD z i 0) e ∙ getD-take (shelf t .shares) (serversOf (shelf t .servers) m) i 0 l in
+    λ i l. sym (getD-take (shelf t .shares) servers i 0 l) ∙ ap (λ (z : List ℕ). getD z i 0) e ∙ getD-take (shelf t .shares)
+    (serversOf (shelf t .servers) m) i 0 l in
     record {
       lowest = λ i l. rw (g i l) (servers-in m (shelf t .servers) i (omega arith) .0);
       highest = λ i l. rw (g i l) (servers-in m (shelf t .servers) i (omega arith) .1);
@@ -131,7 +135,8 @@ map-of f ss (suc n) h =
     ∙ rw (map-of f ss n (omega arith), take-suc ss n 0 (omega arith)) (sym (map-append f (take n ss) (getD ss n 0 ∷ [])))
 
 -- the parts at all places, where each stands
-pub parts-all : (f : ℕ) (ss frs : List ℕ) (g : ℕ → Part) → ((p : ℕ) → p < length ss → record { server = getD ss p 0; bytes = take f (drop (p * f) frs) } ≡ g (getD ss p 0))
+pub parts-all : (f : ℕ) (ss frs : List ℕ) (g : ℕ → Part) → ((p : ℕ) → p < length ss → record
+    { server = getD ss p 0; bytes = take f (drop (p * f) frs) } ≡ g (getD ss p 0))
     → partsAt f ss frs (places (length ss)) ≡ map g ss
 unfolding partsAt
 parts-all f ss frs g h =

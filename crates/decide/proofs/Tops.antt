@@ -23,7 +23,8 @@ unfolding keep
 keep-append p [] ys = refl
 keep-append p (x ∷ xs) ys = go (p x) (keep-append p xs ys)
   where
-    go : (b : Bool) → keep p (xs ++ ys) ≡ keep p xs ++ keep p ys → cond b (x ∷ keep p (xs ++ ys)) (keep p (xs ++ ys)) ≡ cond b (x ∷ keep p xs) (keep p xs) ++ keep p ys
+    go : (b : Bool) → keep p (xs ++ ys) ≡ keep p xs ++ keep p ys → cond b (x ∷ keep p (xs ++ ys)) (keep p (xs ++ ys)) ≡ cond b (x ∷ keep p xs)
+        (keep p xs) ++ keep p ys
     go true e = ap (λ z. x ∷ z) e
     go false e = e
 
@@ -38,7 +39,8 @@ keep-keep p q (x ∷ xs) = go (q x) (keep-keep p q xs)
     go false e = e
 
 -- one of those kept
-pub any-member : (c : Candidate) (p q : Candidate → Bool) (l : List Candidate) → any (sameCandidate c) l ≡ true → q c ≡ true → p c ≡ true → any p (keep q l) ≡ true
+pub any-member : (c : Candidate) (p q : Candidate → Bool) (l : List Candidate) → any (sameCandidate c) l ≡ true → q c ≡ true → p c ≡ true → any p
+    (keep q l) ≡ true
 unfolding any keep
 any-member c p q [] h k m = absurd (subst T (sym h) tt)
 any-member c p q (y ∷ ys) h k m = go (sameCandidate c y) refl (any-member c p q ys)
@@ -96,10 +98,12 @@ module _ (s : Config) (m : ByServer Bool) (g : ByServer Held) (held : ByServer C
   unfolding keep gather
   keep-gather p q zero h = refl
   keep-gather p q (suc n) h =
-      ap (keep p) (gather-more held n) ∙ go (enters held (suc n)) refl (keep-gather p q n (λ i l. h i (omega arith))) ∙ sym (ap (keep q) (gather-more held n))
+      ap (keep p) (gather-more held n) ∙ go (enters held (suc n)) refl (keep-gather p q n (λ i l. h i (omega arith))) ∙ sym
+      (ap (keep q) (gather-more held n))
     where
       go : (b : Bool) → enters held (suc n) ≡ b → keep p (gather held n) ≡ keep q (gather held n)
-          → keep p (cond b (gather held n ++ (held (suc n) ∷ [])) (gather held n)) ≡ keep q (cond b (gather held n ++ (held (suc n) ∷ [])) (gather held n))
+          → keep p (cond b (gather held n ++ (held (suc n) ∷ [])) (gather held n)) ≡ keep q
+          (cond b (gather held n ++ (held (suc n) ∷ [])) (gather held n))
       go true e f =
           keep-append p (gather held n) (held (suc n) ∷ [])
           ∙ rw (f, h n (omega arith) (entered held n e)) (sym (keep-append q (gather held n) (held (suc n) ∷ [])))
@@ -118,9 +122,16 @@ module _ (s : Config) (m : ByServer Bool) (g : ByServer Held) (held : ByServer C
       last false e = refl
 
       go : (b : Bool) → enters held (suc n) ≡ b → any p (keep r (gather held n)) ≡ any q (keep r (gather held n))
-          → any p (keep r (cond b (gather held n ++ (held (suc n) ∷ [])) (gather held n))) ≡ any q (keep r (cond b (gather held n ++ (held (suc n) ∷ [])) (gather held n)))
+          → any p (keep r (cond b (gather held n ++ (held (suc n) ∷ [])) (gather held n))) ≡ any q
+          (keep r (cond b (gather held n ++ (held (suc n) ∷ [])) (gather held n)))
       go true e f =
-          rw (keep-append r (gather held n) (held (suc n) ∷ []), any-append p (keep r (gather held n)) (keep r (held (suc n) ∷ [])), any-append q (keep r (gather held n)) (keep r (held (suc n) ∷ [])), f)
+          rw (
+            keep-append r (gather held n) (held (suc n) ∷ []),
+            any-append p (keep r (gather held n)) (keep r (held (suc n) ∷ [])),
+            any-append q
+                (keep r (gather held n)) (keep r (held (suc n) ∷ [])),
+            f,
+          )
           (ap (λ (b : Bool). any q (keep r (gather held n)) || b) (last (r (held (suc n))) (entered held n e)))
       go false e f = f
 
@@ -146,7 +157,8 @@ module _ (s : Config) (m : ByServer Bool) (g : ByServer Held) (held : ByServer C
   top-most zero i l e = absurd (omega arith)
   top-most (suc n) i l e = go (eqb i n) refl (top-most n i)
     where
-      last : rank (held (suc n) .stamp) ≤ cond (ltb (topRank s m g held n) (rank (held (suc n) .stamp)) && true) (rank (held (suc n) .stamp)) (topRank s m g held n)
+      last : rank (held (suc n) .stamp) ≤ cond (ltb (topRank s m g held n) (rank (held (suc n) .stamp)) && true) (rank (held (suc n) .stamp))
+          (topRank s m g held n)
       last = here (ltb (topRank s m g held n) (rank (held (suc n) .stamp))) refl
         where
           here : (b : Bool) → ltb (topRank s m g held n) (rank (held (suc n) .stamp)) ≡ b
@@ -170,7 +182,8 @@ module _ (s : Config) (m : ByServer Bool) (g : ByServer Held) (held : ByServer C
   top-stays zero h = absurd (omega arith)
   top-stays (suc n) h = go (ltb (topRank s m g held n) (rank (held (suc n) .stamp))) (stays s m g (rank (held (suc n) .stamp))) refl (top-stays n) h
     where
-      go : (b d : Bool) → stays s m g (rank (held (suc n) .stamp)) ≡ d → (blankRank < topRank s m g held n → stays s m g (topRank s m g held n) ≡ true)
+      go : (b d : Bool) → stays s m g (rank (held (suc n) .stamp)) ≡ d → (blankRank < topRank s m g held n → stays s m g (topRank s m g held n) ≡
+          true)
           → blankRank < cond (b && d) (rank (held (suc n) .stamp)) (topRank s m g held n)
           → stays s m g (cond (b && d) (rank (held (suc n) .stamp)) (topRank s m g held n)) ≡ true
       go true true e f k = e

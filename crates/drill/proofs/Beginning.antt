@@ -60,7 +60,8 @@ blank-made : (t b : ℕ) (d : List ℕ) → (1 ≤ t) × (t ≤ topFaults) → (
 unfolding blankStep blankRefusal
 blank-made t b d ht hb l = rw (eq-eqb (length d) memorySize l, inside 1 topFaults t ht, inside 1 (shelf t .servers) b hb)
 
-pub ready-more : (t b : ℕ) (w v : List ℕ) → (1 ≤ t) × (t ≤ topFaults) → b ≤ shelf t .servers → Ready t b w → BlanksAs (blankStep (memoryIn w b) t b) w b v → Ready t (b + 1) v
+pub ready-more : (t b : ℕ) (w v : List ℕ) → (1 ≤ t) × (t ≤ topFaults) → b ≤ shelf t .servers → Ready t b w → BlanksAs (blankStep (memoryIn w b) t b) w
+    b v → Ready t (b + 1) v
 ready-more t b w v ht hb r e =
     let h = few-servers t b (ht .1) (r .low, hb) in
     let m = blankStep (memoryIn w b) t b .memory in
@@ -74,11 +75,13 @@ ready-more t b w v ht hb r e =
       memory = λ i hi k. ap (λ (z : List ℕ). memoryIn z i) (e .area) ∙ at i hi k (eqb i b) refl;
     }
   where
-    at : (i : ℕ) → 1 ≤ i → i < b + 1 → (x : Bool) → eqb i b ≡ x → memoryIn (putMemory w b (blankStep (memoryIn w b) t b .memory)) i ≡ encodeMemory (blankMemory t i)
+    at : (i : ℕ) → 1 ≤ i → i < b + 1 → (x : Bool) → eqb i b ≡ x → memoryIn (putMemory w b (blankStep (memoryIn w b) t b .memory)) i ≡ encodeMemory
+        (blankMemory t i)
     at i hi k true q =
         let h = few-servers t b (ht .1) (r .low, hb) in
         let z = eqb-true i b q in
-        rw z (memory-here w b h (r .size) (blankStep (memoryIn w b) t b .memory) (e .size) ∙ blank-made t b (memoryIn w b) ht (r .low, hb) (memory-size w b h (r .size)))
+        rw z (memory-here w b h (r .size) (blankStep (memoryIn w b) t b .memory) (e .size) ∙ blank-made t b (memoryIn w b) ht (r .low, hb)
+        (memory-size w b h (r .size)))
     at i hi k false q =
         let h = few-servers t b (ht .1) (r .low, hb) in
         let d = eqb-false i b q in

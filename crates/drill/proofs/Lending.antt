@@ -56,7 +56,8 @@ module _ (w : List ℕ) (c : ℕ) (h : (1 ≤ c) × (c ≤ topClient)) (size : l
   unfolding keptIn part
   kept-size = length-take-le keptSize (drop (keptAt c) w) (omega (arith, length-drop (keptAt c) w, kept-fits))
 
-  pub core-write : (t : ℕ) (content nonce : List ℕ) → coreWrite t c (callIn w c) (keptIn w c) content nonce ≡ beginWrite t c (callIn w c) (keptIn w c) content nonce
+  pub core-write : (t : ℕ) (content nonce : List ℕ) → coreWrite t c (callIn w c) (keptIn w c) content nonce ≡ beginWrite t c (callIn w c) (keptIn w c)
+      content nonce
   unfolding coreWrite
   core-write t content nonce = rw (eq-eqb (length (keptIn w c)) keptSize kept-size)
 
@@ -66,7 +67,8 @@ module _ (w : List ℕ) (c : ℕ) (h : (1 ≤ c) × (c ≤ topClient)) (size : l
 
   -- a beginning on the slot lent
   pub begins-as : (F : Call → List ℕ → Begun) (b : Begun) (k : ℕ) {x : Call} {a : ℕ} {ks out : List ℕ} {s : Started} → F (callIn w c) (keptIn w c) ≡ b
-      → x ≡ callIn w c → a ≡ keptAt c → k ≡ keptSize → s ≡ started (F x (take k (drop a w))) → ks ≡ F x (take k (drop a w)) .kept → length ks ≡ length (take k (drop a w))
+      → x ≡ callIn w c → a ≡ keptAt c → k ≡ keptSize → s ≡ started (F x (take k (drop a w))) → ks ≡ F x (take k (drop a w)) .kept → length ks ≡ length
+      (take k (drop a w))
       → out ≡ putCall (take a w ++ (ks ++ drop k (drop a w))) c (s .call) → length (s .call .tally .marks) ≡ mostServers
       → BeginsAs b w c out (s .taken .number)
   unfolding putClient keptIn
@@ -78,7 +80,8 @@ module _ (w : List ℕ) (c : ℕ) (h : (1 ≤ c) × (c ≤ topClient)) (size : l
       let ek' : ks ≡ b .kept = eks ∙ ap (λ (z : Begun). z .kept) f in
       let n = ap (λ (z : Started). z .taken .number) es' in
       let q : s .call ≡ b .call = ap (λ (z : Started). z .call) es' in
-      let g : take a w ++ (ks ++ drop k (drop a w)) ≡ put w (keptAt c) (b .kept) = rw ea (back w (keptAt c) k ks (l ∙ sym ek)) ∙ ap (put w (keptAt c)) ek' in
+      let g : take a w ++ (ks ++ drop k (drop a w)) ≡ put w (keptAt c) (b .kept) = rw ea (back w (keptAt c) k ks (l ∙ sym ek)) ∙ ap (put w (keptAt c))
+      ek' in
       record {
         result = n;
         area = eo ∙ ap (λ (z : List ℕ). putCall z c (s .call)) g ∙ ap (putCall (put w (keptAt c) (b .kept)) c) q;
@@ -98,17 +101,25 @@ module _ (w : List ℕ) (c : ℕ) (h : (1 ≤ c) × (c ≤ topClient)) (size : l
       let lb : length (callBytes call) ≡ stateSize = state-length call m in
       let lp : length (take k (drop a w)) ≡ k = length-take-le k (drop a w) (omega (arith, length-drop a w, call-fits)) in
       let p : placed (take k (drop a w)) 0 (callBytes call) .output ≡ put (take k (drop a w)) 0 (callBytes call) =
-      placed-wrote {d = take k (drop a w)} {e = placed (take k (drop a w)) 0 (callBytes call) .output} {at = 0} {n = placed (take k (drop a w)) 0 (callBytes call) .next} {b = callBytes call} refl (omega arith) .bytes in
-      ap (λ (z : List ℕ). take a w ++ (z ++ drop k (drop a w))) (e ∙ p) ∙ back-put w a k (callBytes call) (omega arith) (omega (arith, call-fits)) ∙ ap (λ (z : ℕ). put w z (callBytes call)) ea
+      placed-wrote {d = take k (drop a w)} {e = placed (take k (drop a w)) 0 (callBytes call) .output} {at = 0}
+      {n = placed (take k (drop a w)) 0 (callBytes call) .next} {b = callBytes call} refl (omega arith) .bytes in
+      ap (λ (z : List ℕ). take a w ++ (z ++ drop k (drop a w))) (e ∙ p) ∙ back-put w a k (callBytes call) (omega arith) (omega (arith, call-fits)) ∙
+      ap (λ (z : ℕ). put w z (callBytes call)) ea
 
 pub kept-place : (c : ℕ) {a : ℕ} → a ≡ clientAt c → a + 64 ≡ keptAt c
 unfolding keptAt
 kept-place c e = ap (λ (z : ℕ). z + 64) e
 
 -- giving up
-pub stops-as : (w : List ℕ) (c t : ℕ) {x : Call} {out : List ℕ} {s : Stopped} → x ≡ callIn w c → s ≡ stopped (giveUp t c x) → out ≡ putCall w c (s .call)
+pub stops-as : (w : List ℕ) (c t : ℕ) {x : Call} {out : List ℕ} {s : Stopped} → x ≡ callIn w c → s ≡ stopped (giveUp t c x) → out ≡ putCall w c
+    (s .call)
     → length (s .call .tally .marks) ≡ mostServers → StopsAs (giveUp t c (callIn w c)) w c out (s .taken)
 stops-as w c t {x} {out} {s} ex es eo m =
     let e : s ≡ stopped (giveUp t c (callIn w c)) = es ∙ ap (λ (z : Call). stopped (giveUp t c z)) ex in
     let q : s .call ≡ giveUp t c (callIn w c) .call = ap (λ (z : Stopped). z .call) e in
-    record { result = ap (λ (z : Stopped). z .taken) e; area = eo ∙ ap (putCall w c) q; marks = sym (ap (λ (z : Call). length (z .tally .marks)) q) ∙ m }
+    record {
+      result = ap (λ (z : Stopped). z .taken) e;
+      area = eo ∙ ap (putCall w c) q;
+      marks = sym (ap (λ (z : Call). length (z .tally .marks)) q) ∙
+          m;
+    }

@@ -48,7 +48,8 @@ module _ (s d : List ℕ) (end : ℕ) (e : EndsAt s 0 end) where
     unfolding listing listed
     lists-103 {f} h p = one-row 1 103 (rw (e .first, o, h)) p
 
-    pub lists-rows : {f : List ℕ} {n : ℕ} → (1 ≤ l .client) × (l .client ≤ topFaults) → RowsAs (l .client) (lines (drop (nextAt s end) s)) d f n → ListsAs s d f n
+    pub lists-rows : {f : List ℕ} {n : ℕ} → (1 ≤ l .client) × (l .client ≤ topFaults) → RowsAs (l .client) (lines (drop (nextAt s end) s)) d f n →
+        ListsAs s d f n
     unfolding listing listed
     lists-rows {f} {n} h r =
         let k = inside 1 topFaults (l .client) h in
@@ -81,7 +82,8 @@ module _ (s d : List ℕ) (h : rowSize * rowsFor (length (lines s)) ≤ length d
   rows-room end e =
       let k = least-row (length (lines s)) .1 in
       let l : length (lines s) ≡ suc (length (lines (drop (end + 1) s))) = ap length (e .first) in
-      let z : length (lines (drop (nextAt s end) s)) ≡ length (lines (drop (end + 1) s)) = ap (λ (y : List ℕ). length (lines y)) (next-drop s end (e .within)) in
+      let z : length (lines (drop (nextAt s end) s)) ≡ length (lines (drop (end + 1) s)) = ap (λ (y : List ℕ). length (lines y))
+      (next-drop s end (e .within)) in
       omega arith
 
 -- ---- the refusals
@@ -92,14 +94,21 @@ module _ (s d w : List ℕ) where
   drill-1 h = rw (ne-eqb (length w) workSize h)
 
   module _ (size : length w ≡ workSize) where
-    pub drill-15 : length d < rowSize * rowsFor (length (lines s)) → record { result = record { number = 15; count = 0 }; output = d; work = w } ≡ drillOf s d w
+    pub drill-15 : length d < rowSize * rowsFor (length (lines s)) → record { result = record { number = 15; count = 0 }; output = d; work = w } ≡
+        drillOf s d w
     unfolding drillOf drillRefusal
     drill-15 h = rw (eq-eqb (length w) workSize size, lt-ltb (length d) (rowSize * rowsFor (length (lines s))) h)
 
     pub drill-0 : {f v : List ℕ} {n : ℕ} → rowSize * rowsFor (length (lines s)) ≤ length d → ListsAs s d f n → v ≡ replicate (length w) 0
         → record { result = record { number = 0; count = n }; output = f; work = v } ≡ drillOf s d w
     unfolding drillOf drillRefusal
-    drill-0 {f} {v} {n} h l e = rw (eq-eqb (length w) workSize size, le-ltb (length d) (rowSize * rowsFor (length (lines s))) h, l .bytes, l .count, e)
+    drill-0 {f} {v} {n} h l e = rw (
+      eq-eqb (length w) workSize size,
+      le-ltb (length d) (rowSize * rowsFor (length (lines s))) h,
+      l .bytes,
+      l .count,
+      e,
+    )
 
 -- ---- by division
 

@@ -62,7 +62,8 @@ pub few-servers : (t b : ℕ) → t ≤ topFaults → (1 ≤ b) × (b ≤ shelf 
 unfolding shelf
 few-servers t b h k = (k .0, omega arith)
 
-pub server-put : (t : ℕ) (w : List ℕ) (m : Machines) → t ≤ topFaults → Stands t w m → (b : ℕ) → within 1 (shelf t .servers) b ≡ true → (x : List ℕ) → length x ≡ memorySize
+pub server-put : (t : ℕ) (w : List ℕ) (m : Machines) → t ≤ topFaults → Stands t w m → (b : ℕ) → within 1 (shelf t .servers) b ≡ true → (x : List ℕ) →
+    length x ≡ memorySize
     → Stands t (putMemory w b x) (record { client = m .client; memory = upd (m .memory) b x })
 unfolding upd
 server-put t w m ht st b hb x l =

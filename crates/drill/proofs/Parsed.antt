@@ -64,7 +64,8 @@ module _ (b : List ℕ) (h : length b ≡ lineSize) where
   unfolding fields readOf
   no-fill p q r w e = rw (eq-eqb (length b) lineSize h, p, q, r, w, e)
 
-  pub all-fields : {v c s n f : ℕ} → columnAt b 0 ≡ some v → columnAt b 8 ≡ some c → columnAt b 16 ≡ some s → columnAt b 24 ≡ some n → columnAt b 32 ≡ some f
+  pub all-fields : {v c s n f : ℕ} → columnAt b 0 ≡ some v → columnAt b 8 ≡ some c → columnAt b 16 ≡ some s → columnAt b 24 ≡ some n → columnAt b 32 ≡
+      some f
       → reads.Line (record { verb = v; client = c; server = s; length = n; fill = f }) ≡ readOf (fields b)
   unfolding fields readOf
   all-fields p q r w e = rw (eq-eqb (length b) lineSize h, p, q, r, w, e)

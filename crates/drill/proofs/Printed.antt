@@ -81,7 +81,8 @@ justified-length (suc n) v =
 columns-append : (vs ws : List ℕ) → columns (vs ++ ws) ≡ columns vs ++ columns ws
 unfolding columns
 columns-append [] ws = refl
-columns-append (v ∷ vs) ws = ap (λ (z : List ℕ). justified columnSize v ++ z) (columns-append vs ws) ∙ sym (append-assoc (justified columnSize v) (columns vs) (columns ws))
+columns-append (v ∷ vs) ws = ap (λ (z : List ℕ). justified columnSize v ++ z) (columns-append vs ws) ∙ sym
+    (append-assoc (justified columnSize v) (columns vs) (columns ws))
 
 pub columns-length : (vs : List ℕ) → length (columns vs) ≡ 8 * length vs
 unfolding columns
@@ -98,7 +99,8 @@ columns-one v = append-nil (justified columnSize v)
 
 pub columns-more : (vs : List ℕ) (j : ℕ) → j < length vs → columns (take (j + 1) vs) ≡ columns (take j vs) ++ justified columnSize (getD vs j 0)
 columns-more vs j h =
-    rw (add-one, take-suc vs j 0 h) (columns-append (take j vs) (getD vs j 0 ∷ []) ∙ ap (λ (z : List ℕ). columns (take j vs) ++ z) (columns-one (getD vs j 0)))
+    rw (add-one, take-suc vs j 0 h) (columns-append (take j vs) (getD vs j 0 ∷ []) ∙ ap (λ (z : List ℕ). columns (take j vs) ++ z)
+    (columns-one (getD vs j 0)))
 
 -- ---- put one after another
 

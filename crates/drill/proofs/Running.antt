@@ -32,7 +32,8 @@ use Rattle.drill.proofs.Printed.{row-length}
 
 -- ---- one line
 
-pub row-in : (t k n : ℕ) (l : Line) (w v output : List ℕ) (at : ℕ) {printed : List ℕ} {k' round : ℕ} {x : Shown} → StepsIn t (λ m. stepOf (drillShelf t) m k l) w v x k'
+pub row-in : (t k n : ℕ) (l : Line) (w v output : List ℕ) (at : ℕ) {printed : List ℕ} {k' round : ℕ} {x : Shown} → StepsIn t
+    (λ m. stepOf (drillShelf t) m k l) w v x k'
     → RoundIn v (l .client) round → printed ≡ put output at (stepRow n l round x) → RowIn t k n l w v output at printed k'
 row-in t k n l w v output at {printed} {k'} {round} {x} s r e =
     record {
@@ -94,7 +95,8 @@ module _ (t : ℕ) (s d : List ℕ) (from : ℕ) where
     pub few : k < n
     pub most : n ≤ topNumber
 
-  pub going-none : (w : List ℕ) → Stands t w (start (drillShelf t) .machines) → from ≤ length s → rowSize * length (lines (drop from s)) ≤ length d → Going d w from 2 0 0
+  pub going-none : (w : List ℕ) → Stands t w (start (drillShelf t) .machines) → from ≤ length s → rowSize * length (lines (drop from s)) ≤ length d →
+      Going d w from 2 0 0
   unfolding put start
   going-none w st h r =
       record {
@@ -125,7 +127,8 @@ module _ (t : ℕ) (s d : List ℕ) (from : ℕ) where
     unfolding lines rows
     going-all h =
         let z : drop at s ≡ [] = drop-of-length-le s h in
-        let q : g .printed ≡ rows (drillShelf t) 2 (start (drillShelf t)) (lines (drop from s)) = sym (append-nil (g .printed)) ∙ (rw z at (g .whole)) in
+        let q : g .printed ≡ rows (drillShelf t) 2 (start (drillShelf t)) (lines (drop from s)) = sym (append-nil (g .printed)) ∙
+        (rw z at (g .whole)) in
         record { bytes = g .bytes ∙ put-over d (g .printed) ∙ ap (λ (y : List ℕ). over y d) q; count = sym (g .count) ∙ ap length q }
 
     module _ (end : ℕ) (en : EndsAt s at end) where
@@ -135,14 +138,17 @@ module _ (t : ℕ) (s d : List ℕ) (from : ℕ) where
       pub row-room : done + rowSize ≤ length e
       row-room = omega (arith, lines-here, g .room, going-size)
 
-      pub going-last : {f : List ℕ} → stepLine n (textAt s at end) ≡ none → f ≡ put e done (lastRow n 117) → RowsAs t (lines (drop from s)) d f (done + rowSize)
+      pub going-last : {f : List ℕ} → stepLine n (textAt s at end) ≡ none → f ≡ put e done (lastRow n 117) → RowsAs t (lines (drop from s)) d f
+          (done + rowSize)
       unfolding rows lastRow
       going-last {f} o q =
           let l : length (lastRow n 117) ≡ rowSize = row-length (n ∷ 0 ∷ 0 ∷ 0 ∷ 117 ∷ 0 ∷ 0 ∷ 0 ∷ []) refl in
           let r : rows (drillShelf t) n (g .state) (lines (drop at s)) ≡ lastRow n 117 = rw (en .first, o) in
-          let y : g .printed ++ lastRow n 117 ≡ rows (drillShelf t) 2 (start (drillShelf t)) (lines (drop from s)) = ap (λ (z : List ℕ). g .printed ++ z) (sym r) ∙ g .whole in
+          let y : g .printed ++ lastRow n 117 ≡ rows (drillShelf t) 2 (start (drillShelf t)) (lines (drop from s)) = ap
+          (λ (z : List ℕ). g .printed ++ z) (sym r) ∙ g .whole in
           record {
-            bytes = q ∙ then-put (lastRow n 117) (omega (arith, lines-here, g .room)) ∙ put-over d (g .printed ++ lastRow n 117) ∙ ap (λ (z : List ℕ). over z d) y;
+            bytes = q ∙ then-put (lastRow n 117) (omega (arith, lines-here, g .room)) ∙ put-over d (g .printed ++ lastRow n 117) ∙ ap
+                (λ (z : List ℕ). over z d) y;
             count = omega (arith, length-append (g .printed) (lastRow n 117), g .count, ap length y);
           }
 
@@ -156,7 +162,8 @@ module _ (t : ℕ) (s d : List ℕ) (from : ℕ) where
           let x' : stepOf S m k l ≡ x = ap (λ (z : ℕ). stepOf S m z l) (g .begun) in
           let b : List ℕ = stepRow n l (roundOf (x .state .machines) (l .client)) (shown (x .result)) in
           let lb : length b ≡ rowSize = row-length (n ∷ l .verb ∷ l .client ∷ _ ∷ _ ∷ _ ∷ _ ∷ _ ∷ []) refl in
-          let fb : f ≡ put e done b = r .row m (g .stands) ∙ ap (λ (z : Stepped). put e done (stepRow n l (roundOf (z .state .machines) (l .client)) (shown (z .result)))) x' in
+          let fb : f ≡ put e done b = r .row m (g .stands) ∙ ap (λ (z : Stepped). put e done
+          (stepRow n l (roundOf (z .state .machines) (l .client)) (shown (z .result)))) x' in
           let dn = next-drop s end (en .within) in
           let nl : length (lines (drop (nextAt s end) s)) ≡ length (lines (drop (end + 1) s)) = ap (λ (z : List ℕ). length (lines z)) dn in
           let kn : k' ≡ x .state .begun = r .counts m (g .stands) ∙ ap (λ (z : Stepped). z .state .begun) x' in
@@ -169,7 +176,8 @@ module _ (t : ℕ) (s d : List ℕ) (from : ℕ) where
             within = next-later s end at (en .after) (en .within) h .1;
             bytes = fb ∙ then-put b (omega (arith, lines-here, g .room));
             count = length-append (g .printed) b ∙ omega (arith, g .count);
-            whole = rw (dn, add-one) (append-assoc (g .printed) b (rows S (suc n) (x .state) (lines (drop (end + 1) s))) ∙ ap (λ (z : List ℕ). g .printed ++ z) (sym rr) ∙ g .whole);
+            whole = rw (dn, add-one) (append-assoc (g .printed) b (rows S (suc n) (x .state) (lines (drop (end + 1) s))) ∙ ap
+                (λ (z : List ℕ). g .printed ++ z) (sym rr) ∙ g .whole);
             stands = subst (λ (z : Stepped). Stands t v (z .state .machines)) x' (r .stands m (g .stands));
             begun = kn;
             room = omega (arith, lines-here, g .room);

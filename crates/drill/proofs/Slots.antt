@@ -44,7 +44,8 @@ module _ (w : List ℕ) (b : ℕ) (h : (1 ≤ b) × (b ≤ mostServers)) (size :
     memory-back ys l = rw ea (back w (serverAt b) k ys (same-memory ys l ∙ sym ek))
 
     pub serves-as : (F : List ℕ → Served) {ys out : List ℕ} {r : Outcome} → length ys ≡ length (take k (drop a w))
-        → record { result = r; memory = ys; output = out } ≡ F (take k (drop a w)) → ServesAs (F (memoryIn w b)) w b (take a w ++ (ys ++ drop k (drop a w))) out r
+        → record { result = r; memory = ys; output = out } ≡ F (take k (drop a w)) → ServesAs (F (memoryIn w b)) w b
+        (take a w ++ (ys ++ drop k (drop a w))) out r
     unfolding putMemory
     serves-as F {ys} {out} {r} l e =
         let f : record { result = r; memory = ys; output = out } ≡ F (memoryIn w b) = e ∙ ap F lent-memory in
@@ -76,7 +77,8 @@ module _ (w : List ℕ) (c : ℕ) (h : (1 ≤ c) × (c ≤ topClient)) (size : l
   unfolding coreTake
   core-take t writers keys reply output = rw (eq-eqb (length (keptIn w c)) keptSize (kept-size w c h size))
 
-  pub takes-as : (F : Call → List ℕ → Took) (d : Took) (k : ℕ) {x : Call} {a : ℕ} {ks after out : List ℕ} {s : Answered} → F (callIn w c) (keptIn w c) ≡ d
+  pub takes-as : (F : Call → List ℕ → Took) (d : Took) (k : ℕ) {x : Call} {a : ℕ} {ks after out : List ℕ} {s : Answered} → F (callIn w c) (keptIn w c)
+      ≡ d
       → x ≡ callIn w c → a ≡ keptAt c → k ≡ keptSize → s ≡ answered (F x (take k (drop a w))) → ks ≡ F x (take k (drop a w)) .kept
       → out ≡ F x (take k (drop a w)) .output → length ks ≡ length (take k (drop a w))
       → after ≡ putCall (take a w ++ (ks ++ drop k (drop a w))) c (s .call) → length (s .call .tally .marks) ≡ mostServers
@@ -89,7 +91,8 @@ module _ (w : List ℕ) (c : ℕ) (h : (1 ≤ c) × (c ≤ topClient)) (size : l
       let es' : s ≡ answered d = es ∙ ap answered f in
       let ek' : ks ≡ d .kept = eks ∙ ap (λ (z : Took). z .kept) f in
       let q : s .call ≡ d .call = ap (λ (z : Answered). z .call) es' in
-      let g : take a w ++ (ks ++ drop k (drop a w)) ≡ put w (keptAt c) (d .kept) = rw ea (back w (keptAt c) k ks (l ∙ sym ek)) ∙ ap (put w (keptAt c)) ek' in
+      let g : take a w ++ (ks ++ drop k (drop a w)) ≡ put w (keptAt c) (d .kept) = rw ea (back w (keptAt c) k ks (l ∙ sym ek)) ∙ ap (put w (keptAt c))
+      ek' in
       record {
         result = ap (λ (z : Answered). z .taken) es';
         area = ef ∙ ap (λ (z : List ℕ). putCall z c (s .call)) g ∙ ap (putCall (put w (keptAt c) (d .kept)) c) q;

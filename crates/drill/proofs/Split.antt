@@ -135,7 +135,8 @@ unfolding before
 before-length x [] n h = omega arith
 before-length x (l ∷ ls) n h = omega arith
 
-one-or : (b : Bool) (x : ℕ) (ls : List Text) (n : ℕ) → length ls ≤ n → length (cond b (record { bytes = []; ended = true } ∷ ls) (before x ls)) ≤ suc n
+one-or : (b : Bool) (x : ℕ) (ls : List Text) (n : ℕ) → length ls ≤ n → length (cond b (record { bytes = []; ended = true } ∷ ls) (before x ls)) ≤ suc
+    n
 one-or true x ls n h = omega arith
 one-or false x ls n h = before-length x ls n h
 

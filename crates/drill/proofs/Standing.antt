@@ -42,7 +42,8 @@ below-clients t b c h k = omega arith
 
 -- ---- a client's slot
 
-module _ (w : List ℕ) (c : ℕ) (hc : (1 ≤ c) × (c ≤ topClient)) (size : length w ≡ workSize) (x : Call) (l : length (x .tally .marks) ≡ mostServers) where
+module _ (w : List ℕ) (c : ℕ) (hc : (1 ≤ c) × (c ≤ topClient)) (size : length w ≡ workSize) (x : Call)
+    (l : length (x .tally .marks) ≡ mostServers) where
   state-fits : clientAt c + length (callBytes x) ≤ length w
   unfolding clientAt
   state-fits = omega (arith, state-length x l)
@@ -103,7 +104,8 @@ module _ (w : List ℕ) (c : ℕ) (hc : (1 ≤ c) × (c ≤ topClient)) (size : 
 
   pub kept-kept-there : (i : ℕ) → (1 ≤ i) × (i ≤ topClient) → i ≢ c → keptIn (put w (keptAt c) k) i ≡ keptIn w i
   unfolding keptIn keptAt
-  kept-kept-there i hi d = part-other w (clientAt c + 64) k kept-room (clientAt i + 64) keptSize (other-slot i c hi hc d 64 keptSize 64 (length k) (omega arith) (omega arith))
+  kept-kept-there i hi d = part-other w (clientAt c + 64) k kept-room (clientAt i + 64) keptSize
+      (other-slot i c hi hc d 64 keptSize 64 (length k) (omega arith) (omega arith))
 
   pub memory-kept-there : (t b : ℕ) → t ≤ topFaults → (1 ≤ b) × (b ≤ shelf t .servers) → memoryIn (put w (keptAt c) k) b ≡ memoryIn w b
   unfolding memoryIn keptAt

@@ -47,7 +47,8 @@ module _ (t c : ℕ) (ht : (1 ≤ t) × (t ≤ topFaults)) where
   unfolding beginWrite writeRefusal shelf
   no-size x k content nonce h e = rw (inside 1 topFaults t ht, h, e)
 
-  pub no-reader : (x : Call) (k : List ℕ) → within 1 topClient c ≡ false → beginRead t c x k ≡ record { result = record { number = 5; count = 0 }; call = x; kept = k }
+  pub no-reader : (x : Call) (k : List ℕ) → within 1 topClient c ≡ false → beginRead t c x k ≡ record
+      { result = record { number = 5; count = 0 }; call = x; kept = k }
   unfolding beginRead readRefusal shelf
   no-reader x k h = rw (inside 1 topFaults t ht, h)
 
@@ -58,7 +59,8 @@ module _ (t c : ℕ) (ht : (1 ≤ t) × (t ≤ topFaults)) where
 -- ---- a write
 
 module _ (t k c n fill : ℕ) (ht : t ≤ topFaults) (w : List ℕ) where
-  pub write-stays : (j : ℕ) {x : Shown} → ((y : Call) (z : List ℕ) → beginWrite t c y z (replicate n fill) (nonceFor (suc k)) ≡ record { result = record { number = suc j; count = 0 }; call = y; kept = z })
+  pub write-stays : (j : ℕ) {x : Shown} → ((y : Call) (z : List ℕ) → beginWrite t c y z (replicate n fill) (nonceFor (suc k)) ≡ record
+      { result = record { number = suc j; count = 0 }; call = y; kept = z })
       → x ≡ shown (refused (suc j)) → StepsIn t (λ m. writeLine (drillShelf t) m k c n fill) w w x k
   unfolding writeLine doBytes setMachine drillShelf
   write-stays j {x} e ex =
@@ -68,15 +70,18 @@ module _ (t k c n fill : ℕ) (ht : t ≤ topFaults) (w : List ℕ) where
         counts = λ m st. rw (e (m .client c .call) (m .client c .kept));
       }
 
-  module _ (hc : (1 ≤ c) × (c ≤ topClient)) {content nonce after : List ℕ} {number : ℕ} {x : Shown} (ec : content ≡ replicate n fill) (en : nonce ≡ nonceFor (suc k))
+  module _ (hc : (1 ≤ c) × (c ≤ topClient)) {content nonce after : List ℕ} {number : ℕ} {x : Shown} (ec : content ≡ replicate n fill)
+      (en : nonce ≡ nonceFor (suc k))
       (e : BeginsAs (writeIn t w c content nonce) w c after number) (ex : x ≡ shown (resultOf number)) where
-    begins : (m : Machines) → Stands t w m → BeginsAs (beginWrite t c (m .client c .call) (m .client c .kept) (replicate n fill) (nonceFor (suc k))) w c after number
+    begins : (m : Machines) → Stands t w m → BeginsAs (beginWrite t c (m .client c .call) (m .client c .kept) (replicate n fill) (nonceFor (suc k))) w
+        c after number
     begins m st =
         let r : writeIn t w c content nonce ≡ beginWrite t c (m .client c .call) (m .client c .kept) (replicate n fill) (nonceFor (suc k)) =
         rw (ec, en, st .calls c (inside 1 topClient c hc), st .kept c (inside 1 topClient c hc)) in
         subst (λ (z : Begun). BeginsAs z w c after number) r e
 
-    pub write-moves : (k' : ℕ) → k' ≡ cond (accepted (resultOf number)) (suc k) k → StepsIn t (λ m. writeLine (drillShelf t) m k c n fill) w after x k'
+    pub write-moves : (k' : ℕ) → k' ≡ cond (accepted (resultOf number)) (suc k) k → StepsIn t (λ m. writeLine (drillShelf t) m k c n fill) w after x
+        k'
     unfolding writeLine doBytes setMachine drillShelf
     write-moves k' ek =
         record {
@@ -103,7 +108,8 @@ module _ (t c : ℕ) (ht : (1 ≤ t) × (t ≤ topFaults)) (w : List ℕ) where
         shows = λ m st. rw (no-reader t c ht (m .client c .call) (m .client c .kept) h) ex;
       }
 
-  pub read-moves : (hc : (1 ≤ c) × (c ≤ topClient)) {after : List ℕ} {number : ℕ} {x : Shown} → BeginsAs (readIn t w c) w c after number → x ≡ shown (resultOf number)
+  pub read-moves : (hc : (1 ≤ c) × (c ≤ topClient)) {after : List ℕ} {number : ℕ} {x : Shown} → BeginsAs (readIn t w c) w c after number → x ≡ shown
+      (resultOf number)
       → DoneIn t (λ m. doBytes real (drillShelf t) m (read c)) w after x
   unfolding doBytes setMachine drillShelf
   read-moves hc {after} {number} {x} e ex =
@@ -116,7 +122,8 @@ module _ (t c : ℕ) (ht : (1 ≤ t) × (t ≤ topFaults)) (w : List ℕ) where
 
   -- ---- giving up
 
-  pub stop-stays : {x : Shown} → within 1 topClient c ≡ false → x ≡ shown (refused 5) → DoneIn t (λ m. doBytes real (drillShelf t) m (give-up c)) w w x
+  pub stop-stays : {x : Shown} → within 1 topClient c ≡ false → x ≡ shown (refused 5) → DoneIn t (λ m. doBytes real (drillShelf t) m (give-up c)) w w
+      x
   unfolding doBytes setMachine drillShelf
   stop-stays {x} h ex =
       record {
@@ -124,11 +131,13 @@ module _ (t c : ℕ) (ht : (1 ≤ t) × (t ≤ topFaults)) (w : List ℕ) where
         shows = λ m st. rw (no-stopper t c ht (m .client c .call) h) ex;
       }
 
-  pub stop-moves : (hc : (1 ≤ c) × (c ≤ topClient)) {after : List ℕ} {answer : Aborted} {x : Shown} → StopsAs (giveUpIn t w c) w c after answer → x ≡ shown (abortedOut answer)
+  pub stop-moves : (hc : (1 ≤ c) × (c ≤ topClient)) {after : List ℕ} {answer : Aborted} {x : Shown} → StopsAs (giveUpIn t w c) w c after answer → x ≡
+      shown (abortedOut answer)
       → DoneIn t (λ m. doBytes real (drillShelf t) m (give-up c)) w after x
   unfolding doBytes setMachine drillShelf
   stop-moves hc {after} {answer} {x} e ex =
-      let f : (m : Machines) → Stands t w m → StopsAs (giveUp t c (m .client c .call)) w c after answer = λ m st. rw (st .calls c (inside 1 topClient c hc)) at e in
+      let f : (m : Machines) → Stands t w m → StopsAs (giveUp t c (m .client c .call)) w c after answer = λ m st. rw
+      (st .calls c (inside 1 topClient c hc)) at e in
       record {
         stands = λ m st. rw (f m st .area) (call-put t w m (ht .1) st c (inside 1 topClient c hc) _ (f m st .marks));
         shows = λ m st. ex ∙ ap (λ (z : Aborted). shown (abortedOut z)) (f m st .result);

@@ -34,7 +34,12 @@ module _ (t : ℕ) (w : List ℕ) (c b : ℕ) where
 
   pub refuses-5 : (1 ≤ b) × (b ≤ shelf t .servers) → within 1 topClient c ≡ false → RefusesAs t w c b 5
   unfolding visitRefusal drillShelf
-  refuses-5 k h = record { told = λ m st. rw (inside 1 (shelf t .servers) b k, h); readers = λ e. absurd (omega arith); servers = λ e. absurd (omega arith) }
+  refuses-5 k h = record {
+    told = λ m st. rw (inside 1 (shelf t .servers) b k, h);
+    readers = λ e. absurd (omega arith);
+    servers = λ e. absurd
+        (omega arith);
+  }
 
   module _ (hb : (1 ≤ b) × (b ≤ shelf t .servers)) (hc : (1 ≤ c) × (c ≤ topClient)) where
     pub refuses-13 : inHand (callIn w c) ≡ false → RefusesAs t w c b 13
@@ -59,7 +64,8 @@ module _ (t : ℕ) (w : List ℕ) (c b : ℕ) where
           servers = λ e. hb;
         }
 
-  pub visit-refused : (n : ℕ) {x : Shown} → RefusesAs t w c b n → (n ≡ 0 → ⊥) → x ≡ shown (refused n) → DoneIn t (λ m. visitLine (drillShelf t) m c b) w w x
+  pub visit-refused : (n : ℕ) {x : Shown} → RefusesAs t w c b n → (n ≡ 0 → ⊥) → x ≡ shown (refused n) → DoneIn t (λ m. visitLine (drillShelf t) m c b)
+      w w x
   unfolding visitLine
   visit-refused zero {x} r h ex = absurd (h refl)
   visit-refused (suc n) {x} r h ex =
@@ -81,12 +87,14 @@ module _ (t : ℕ) (w : List ℕ) (b : ℕ) where
   unfolding blankLine drillShelf
   blank-refused h ex = record { stands = λ m st. rw h st; shows = λ m st. rw h ex }
 
-  pub blank-moves : {x : Shown} {v : List ℕ} → t ≤ topFaults → (1 ≤ b) × (b ≤ shelf t .servers) → BlanksAs (blankLatest (memoryIn w b)) w b v → x ≡ shown (resultOf 0)
+  pub blank-moves : {x : Shown} {v : List ℕ} → t ≤ topFaults → (1 ≤ b) × (b ≤ shelf t .servers) → BlanksAs (blankLatest (memoryIn w b)) w b v → x ≡
+      shown (resultOf 0)
       → DoneIn t (λ m. blankLine (drillShelf t) m b) w v x
   unfolding blankLine drillShelf
   blank-moves {x} {v} ht hb e ex =
       let k : within 1 (shelf t .servers) b ≡ true = inside 1 (shelf t .servers) b hb in
-      let f : (m : Machines) → Stands t w m → BlanksAs (blankLatest (m .memory b)) w b v = λ m st. subst (λ (z : List ℕ). BlanksAs (blankLatest z) w b v) (st .memory b k) e in
+      let f : (m : Machines) → Stands t w m → BlanksAs (blankLatest (m .memory b)) w b v = λ m st. subst
+      (λ (z : List ℕ). BlanksAs (blankLatest z) w b v) (st .memory b k) e in
       record {
         stands = λ m st. rw k (rw (f m st .area) (server-put t w m ht st b k (blankLatest (m .memory b) .memory) (f m st .size)));
         shows = λ m st. rw k ex;
@@ -120,20 +128,24 @@ module _ (t k : ℕ) (l : Line) (w v : List ℕ) {x : Shown} where
     counts = λ m st. rw (eq-eqb (l .verb) 1 e) (d .counts m st);
   }
 
-  as-done : (f : Machines → Done) → ((m : Machines) → stepOf (drillShelf t) m k l ≡ after (drillShelf t) m k (f m)) → DoneIn t f w v x → StepsIn t (λ m. stepOf (drillShelf t) m k l) w v x k
+  as-done : (f : Machines → Done) → ((m : Machines) → stepOf (drillShelf t) m k l ≡ after (drillShelf t) m k (f m)) → DoneIn t f w v x → StepsIn t
+      (λ m. stepOf (drillShelf t) m k l) w v x k
   as-done f e d =
       record { stands = λ m st. rw (e m) (d .stands m st); shows = λ m st. rw (e m) (d .shows m st); counts = λ m st. rw (e m) }
 
-  pub step-read : (l .verb ≡ 1 → ⊥) → l .verb ≡ 2 → DoneIn t (λ m. doBytes real (drillShelf t) m (read (l .client))) w v x → StepsIn t (λ m. stepOf (drillShelf t) m k l) w v x k
+  pub step-read : (l .verb ≡ 1 → ⊥) → l .verb ≡ 2 → DoneIn t (λ m. doBytes real (drillShelf t) m (read (l .client))) w v x → StepsIn t
+      (λ m. stepOf (drillShelf t) m k l) w v x k
   unfolding stepOf
   step-read n e d = as-done _ (λ m. rw (ne-eqb (l .verb) 1 n, eq-eqb (l .verb) 2 e)) d
 
   module _ (n1 : l .verb ≡ 1 → ⊥) (n2 : l .verb ≡ 2 → ⊥) where
-    pub step-visit : l .verb ≡ 3 → DoneIn t (λ m. visitLine (drillShelf t) m (l .client) (l .server)) w v x → StepsIn t (λ m. stepOf (drillShelf t) m k l) w v x k
+    pub step-visit : l .verb ≡ 3 → DoneIn t (λ m. visitLine (drillShelf t) m (l .client) (l .server)) w v x → StepsIn t
+        (λ m. stepOf (drillShelf t) m k l) w v x k
     unfolding stepOf
     step-visit e d = as-done _ (λ m. rw (ne-eqb (l .verb) 1 n1, ne-eqb (l .verb) 2 n2, eq-eqb (l .verb) 3 e)) d
 
-    pub step-blank : (l .verb ≡ 3 → ⊥) → l .verb ≡ 4 → DoneIn t (λ m. blankLine (drillShelf t) m (l .server)) w v x → StepsIn t (λ m. stepOf (drillShelf t) m k l) w v x k
+    pub step-blank : (l .verb ≡ 3 → ⊥) → l .verb ≡ 4 → DoneIn t (λ m. blankLine (drillShelf t) m (l .server)) w v x → StepsIn t
+        (λ m. stepOf (drillShelf t) m k l) w v x k
     unfolding stepOf
     step-blank n3 e d = as-done _ (λ m. rw (ne-eqb (l .verb) 1 n1, ne-eqb (l .verb) 2 n2, ne-eqb (l .verb) 3 n3, eq-eqb (l .verb) 4 e)) d
 

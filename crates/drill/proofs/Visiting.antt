@@ -54,10 +54,12 @@ module _ (t c b : ℕ) (w : List ℕ) (ht : t ≤ topFaults) (hc : (1 ≤ c) × 
     own : within 1 topClient c ≡ true
     own = inside 1 topClient c hc
 
-    same-made : clientMake t c b (callIn w c) (keptIn w c) (replicate packetRoom 0) ≡ clientMake t c b (m .client c .call) (m .client c .kept) (replicate packetRoom 0)
+    same-made : clientMake t c b (callIn w c) (keptIn w c) (replicate packetRoom 0) ≡ clientMake t c b (m .client c .call) (m .client c .kept)
+        (replicate packetRoom 0)
     same-made = rw (st .calls c own, st .kept c own)
 
-    pub made-sent : {r : Outcome} {p : List ℕ} → record { result = r; output = p } ≡ clientMake t c b (callIn w c) (keptIn w c) (replicate packetRoom 0)
+    pub made-sent : {r : Outcome} {p : List ℕ} → record { result = r; output = p } ≡ clientMake t c b (callIn w c) (keptIn w c)
+        (replicate packetRoom 0)
         → part p 0 (r .count) ≡ doBytes real (drillShelf t) m (make c b (replicate packetRoom 0)) .sent
     unfolding doBytes part drillShelf
     made-sent {r} {p} e = part-take p (r .count) ∙ ap (λ (z : Written). take (z .result .count) (z .output)) (e ∙ same-made)
@@ -84,7 +86,8 @@ module _ (t c b : ℕ) (w : List ℕ) (ht : t ≤ topFaults) (hc : (1 ≤ c) × 
           part-take q (r .count) ∙ rw (f .result, f .written)
 
     module _ {o : List ℕ} {w₁ : List ℕ} {a : Taken} (reply : List ℕ)
-        (e : TakesAs (clientTake real t c (drillShelf t .writers) (drillShelf t .keys) (callIn w c) (keptIn w c) reply (replicate contentRoom 0)) w c w₁ o a) where
+        (e : TakesAs (clientTake real t c (drillShelf t .writers) (drillShelf t .keys) (callIn w c) (keptIn w c) reply (replicate contentRoom 0)) w c
+        w₁ o a) where
       took : Took
       took = clientTake real t c (drillShelf t .writers) (drillShelf t .keys) (m .client c .call) (m .client c .kept) reply (replicate contentRoom 0)
 
@@ -105,11 +108,13 @@ module _ (t c b : ℕ) (w : List ℕ) (ht : t ≤ topFaults) (hc : (1 ≤ c) × 
           rw (f .result, f .written)
 
 module _ (t c b : ℕ) (w : List ℕ) (ht : t ≤ topFaults) (hc : (1 ≤ c) × (c ≤ topClient)) (hb : (1 ≤ b) × (b ≤ shelf t .servers)) where
-  visit-goes : {r₁ r₂ : Outcome} {p q o w₁ w₂ p' q' : List ℕ} {a : Taken} → record { result = r₁; output = p } ≡ clientMake t c b (callIn w c) (keptIn w c) (replicate packetRoom 0)
+  visit-goes : {r₁ r₂ : Outcome} {p q o w₁ w₂ p' q' : List ℕ} {a : Taken} → record { result = r₁; output = p } ≡ clientMake t c b (callIn w c)
+      (keptIn w c) (replicate packetRoom 0)
       → p' ≡ part p 0 (r₁ .count)
       → ServesAs (serverTake real (memoryIn w b) (replicate keySize b) p' (replicate packetRoom 0)) w b w₁ q r₂
       → q' ≡ part q 0 (r₂ .count)
-      → TakesAs (clientTake real t c (drillShelf t .writers) (drillShelf t .keys) (callIn w₁ c) (keptIn w₁ c) q' (replicate contentRoom 0)) w₁ c w₂ o a
+      → TakesAs (clientTake real t c (drillShelf t .writers) (drillShelf t .keys) (callIn w₁ c) (keptIn w₁ c) q' (replicate contentRoom 0)) w₁ c w₂ o
+      a
       → (m : Machines) → Stands t w m → (Stands t w₂ (visited (drillShelf t) m c b .machines)) × (takenOut a o ≡ visited (drillShelf t) m c b .result)
   unfolding visited
   visit-goes {r₁} {r₂} {p} {q} {o} {w₁} {w₂} {p'} {q'} {a} e₁ ep e₂ eq e₃ m st =
@@ -122,7 +127,8 @@ module _ (t c b : ℕ) (w : List ℕ) (ht : t ≤ topFaults) (hc : (1 ≤ c) × 
       let st₂ : Stands t w₁ (d₂ .machines) = serve-stands t c b w ht hc hb m st (d₁ .sent) f₂ in
       let s₂ : q' ≡ d₂ .sent = eq ∙ serve-sent t c b w ht hc hb m st (d₁ .sent) f₂ in
       let f₃ : TakesAs (clientTake real t c (s .writers) (s .keys) (callIn w₁ c) (keptIn w₁ c) (d₂ .sent) (replicate contentRoom 0)) w₁ c w₂ o a =
-      subst (λ (z : List ℕ). TakesAs (clientTake real t c (s .writers) (s .keys) (callIn w₁ c) (keptIn w₁ c) z (replicate contentRoom 0)) w₁ c w₂ o a) s₂ e₃ in
+      subst (λ (z : List ℕ). TakesAs (clientTake real t c (s .writers) (s .keys) (callIn w₁ c) (keptIn w₁ c) z (replicate contentRoom 0)) w₁ c w₂ o a)
+      s₂ e₃ in
       let k : d₁ .machines ≡ m = make-stays s m c b (replicate packetRoom 0) in
       rw k (take-stands t c b w₁ ht hc hb (d₂ .machines) st₂ (d₂ .sent) f₃, take-shows t c b w₁ ht hc hb (d₂ .machines) st₂ (d₂ .sent) f₃)
 
@@ -131,7 +137,8 @@ module _ (t c b : ℕ) (w : List ℕ) (ht : t ≤ topFaults) (hc : (1 ≤ c) × 
       → p' ≡ part p 0 (r₁ .count)
       → ServesAs (serverTake real (memoryIn w b) (replicate keySize b) p' (replicate packetRoom 0)) w b w₁ q r₂
       → q' ≡ part q 0 (r₂ .count)
-      → TakesAs (clientTake real t c (drillShelf t .writers) (drillShelf t .keys) (callIn w₁ c) (keptIn w₁ c) q' (replicate contentRoom 0)) w₁ c w₂ o a
+      → TakesAs (clientTake real t c (drillShelf t .writers) (drillShelf t .keys) (callIn w₁ c) (keptIn w₁ c) q' (replicate contentRoom 0)) w₁ c w₂ o
+      a
       → x ≡ shown (takenOut a o) → DoneIn t (λ m. visited (drillShelf t) m c b) w w₂ x
   visit-done e₁ ep e₂ eq e₃ ex =
       record { stands = λ m st. visit-goes e₁ ep e₂ eq e₃ m st .0; shows = λ m st. ex ∙ ap shown (visit-goes e₁ ep e₂ eq e₃ m st .1) }

@@ -56,7 +56,8 @@ module _ (t server : ℕ) (content : List ℕ) (made : FragmentOutcome) (is : ma
   made-room none =
       let n : ℕ = length content in
       let legal = makes t server n (sym made-number ∙ none) in
-      let below : (n + (t + 1) - 1) / (t + 1) < 513 = div-lt-iff-lt-mul {k = t + 1} (omega arith) .1 (omega (arith, legal .faults .0, legal .bytes .1)) in
+      let below : (n + (t + 1) - 1) / (t + 1) < 513 = div-lt-iff-lt-mul {k = t + 1} (omega arith) .1
+      (omega (arith, legal .faults .0, legal .bytes .1)) in
       omega (arith, below, made-size none)
 
   pub made-long : made .number ≡ 0 → made .count ≤ length (made .bytes)

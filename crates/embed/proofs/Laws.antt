@@ -21,7 +21,8 @@ use Rattle.embed.specs.Packing.{packed, answer, written, wrongSize}
 use Rattle.embed.specs.Digests.{digestRefusal, tagRefusal}
 
 -- the first n bytes over the front of a buffer
-pub copied-front : (s d : List ℕ) (n : ℕ) {b e : List ℕ} {k : ℕ} → n ≤ length s → n ≤ length d → b ≡ part s 0 n → record { next = k; output = e } ≡ placed d 0 b
+pub copied-front : (s d : List ℕ) (n : ℕ) {b e : List ℕ} {k : ℕ} → n ≤ length s → n ≤ length d → b ≡ part s 0 n → record { next = k; output = e } ≡
+    placed d 0 b
     → e ≡ take n s ++ drop n d
 unfolding part over
 copied-front s d n {b} {e} in-s in-d q p =

@@ -36,7 +36,8 @@ module _ (out : List ℕ) (n : ℕ) (in-out : n ≤ length out) where
       let l : length (take n out) ≡ n = length-take-le n out in-out in
       let k : length b ≤ n = omega (arith, e, l, length-append b (drop (length b) (take n out)), length-drop (length b) (take n out)) in (
         append-assoc b (drop (length b) (take n out)) (drop n out)
-            ∙ ap (λ (z : List ℕ). b ++ z) (sym (drop-append-le (length b) (take n out) (drop n out) (omega (arith, k, l))) ∙ ap (drop (length b)) (take-append-drop n out)),
+            ∙ ap (λ (z : List ℕ). b ++ z) (sym (drop-append-le (length b) (take n out) (drop n out) (omega (arith, k, l))) ∙ ap (drop (length b))
+            (take-append-drop n out)),
         k,
       )
 
@@ -65,7 +66,8 @@ module _ (out : List ℕ) (n : ℕ) (in-out : n ≤ length out) where
           let x = over-part (encode (replyTo p (act P (shelf (m .t)) key (m .server) (serverIn m) (p .body) .reply))) e in
           record { result = refl; memory = refl; output = sym (x .0); count = x .1 }
 
-      by-number : (m : Memory) (o : Option Packet) (k : ℕ) → length (onRefusal k (accepted P memory key packet (take n out) m o) (turnedDown P memory key packet (take n out) k) .output) ≡ n
+      by-number : (m : Memory) (o : Option Packet) (k : ℕ) → length (onRefusal k (accepted P memory key packet (take n out) m o)
+          (turnedDown P memory key packet (take n out) k) .output) ≡ n
           → Serves (onRefusal k (accepted P memory key packet (take n out) m o) (turnedDown P memory key packet (take n out) k))
           (onRefusal k (accepted P memory key packet out m o) (turnedDown P memory key packet out k))
       by-number m o zero e = done m o e
@@ -76,16 +78,20 @@ module _ (out : List ℕ) (n : ℕ) (in-out : n ≤ length out) where
       refusal-same t b none = refl
       refusal-same t b (some p) = rw same refl
 
-      in-memory : (o : Option Memory) → length (onMemory P memory key packet (take n out) o .output) ≡ n → Serves (onMemory P memory key packet (take n out) o) (onMemory P memory key packet out o)
+      in-memory : (o : Option Memory) → length (onMemory P memory key packet (take n out) o .output) ≡ n → Serves
+          (onMemory P memory key packet (take n out) o) (onMemory P memory key packet out o)
       unfolding onMemory
       in-memory none e = down 2
-      in-memory (some m) e = rw (refusal-same (m .t) (m .server) (decode packet)) (by-number m (decode packet) (serverRefusal (m .t) (m .server) (decode packet) (length (take n out))) e)
+      in-memory (some m) e = rw (refusal-same (m .t) (m .server) (decode packet)) (by-number m (decode packet)
+          (serverRefusal (m .t) (m .server) (decode packet) (length (take n out))) e)
 
-      pub serves : length (serverTake P memory key packet (take n out) .output) ≡ n → Serves (serverTake P memory key packet (take n out)) (serverTake P memory key packet out)
+      pub serves : length (serverTake P memory key packet (take n out) .output) ≡ n → Serves (serverTake P memory key packet (take n out))
+          (serverTake P memory key packet out)
       unfolding serverTake
       serves e = go (eqb (length memory) memorySize) e
         where
-          go : (b : Bool) → length (cond b (onMemory P memory key packet (take n out) (decodeMemory memory)) (turnedDown P memory key packet (take n out) 1) .output) ≡ n
+          go : (b : Bool) → length (cond b (onMemory P memory key packet (take n out) (decodeMemory memory))
+              (turnedDown P memory key packet (take n out) 1) .output) ≡ n
               → Serves (cond b (onMemory P memory key packet (take n out) (decodeMemory memory)) (turnedDown P memory key packet (take n out) 1))
               (cond b (onMemory P memory key packet out (decodeMemory memory)) (turnedDown P memory key packet out 1))
           go true f = in-memory (decodeMemory memory) f
@@ -93,25 +99,32 @@ module _ (out : List ℕ) (n : ℕ) (in-out : n ≤ length out) where
 
 -- ---- what the exports make of it, where what was lent is at most a packet's room
 
-module _ (memory key packet out : List ℕ) (n : ℕ) (in-out : n ≤ length out) (small : n ≤ packetRoom) (same : ltb (length out) packetRoom ≡ ltb n packetRoom)
-    (o : Outcome) (m x : List ℕ) (e : record { result = o; memory = m; output = x } ≡ serverTake real memory key packet (take n out)) (keeps : length x ≡ length (take n out)) where
-  through : Serves out n in-out (same ∙ ap (λ (k : ℕ). ltb k packetRoom) (sym (length-take-le n out in-out))) (record { result = o; memory = m; output = x }) (serverTake real memory key packet out)
+module _ (memory key packet out : List ℕ) (n : ℕ) (in-out : n ≤ length out) (small : n ≤ packetRoom)
+    (same : ltb (length out) packetRoom ≡ ltb n packetRoom)
+    (o : Outcome) (m x : List ℕ) (e : record { result = o; memory = m; output = x } ≡ serverTake real memory key packet (take n out))
+    (keeps : length x ≡ length (take n out)) where
+  through : Serves out n in-out (same ∙ ap (λ (k : ℕ). ltb k packetRoom) (sym (length-take-le n out in-out)))
+      (record { result = o; memory = m; output = x }) (serverTake real memory key packet out)
   through = rw e (serves out n in-out (same ∙ ap (λ (k : ℕ). ltb k packetRoom) (sym (length-take-le n out in-out))) real memory key packet
       (sym (ap (λ (s : Served). length (s .output)) e) ∙ keeps ∙ length-take-le n out in-out))
 
   pub served-count : o .count ≤ packetRoom
   served-count = omega (arith, through .count, small)
 
-  pub served-out : (r : ℕ) → r ≡ packed (o .number) 0 0 (o .count) → record { answer = r; memory = m; output = x ++ drop n out } ≡ servedOut (serverTake real memory key packet out)
+  pub served-out : (r : ℕ) → r ≡ packed (o .number) 0 0 (o .count) → record { answer = r; memory = m; output = x ++ drop n out } ≡ servedOut
+      (serverTake real memory key packet out)
   served-out r p = rw (p, through .result, through .memory, through .output) refl
 
-pub take-unsized : (memory key packet out : List ℕ) → length key ≢ keySize → record { answer = packed wrongSize 0 0 0; memory = memory; output = out } ≡ takeBy memory key packet out
+pub take-unsized : (memory key packet out : List ℕ) → length key ≢ keySize → record { answer = packed wrongSize 0 0 0; memory = memory; output = out }
+    ≡ takeBy memory key packet out
 unfolding takeBy keySized
 take-unsized memory key packet out h = rw (ne-eqb (length key) keySize h) refl
 
-pub take-sized : (memory key packet out array : List ℕ) (x : Exchange) → length key ≡ keySize → array ≡ key → x ≡ servedOut (serverTake real memory array packet out) → x ≡ takeBy memory key packet out
+pub take-sized : (memory key packet out array : List ℕ) (x : Exchange) → length key ≡ keySize → array ≡ key → x ≡ servedOut
+    (serverTake real memory array packet out) → x ≡ takeBy memory key packet out
 unfolding takeBy keySized
-take-sized memory key packet out array x h same e = rw (eq-eqb (length key) keySize h) (e ∙ ap (λ (k : List ℕ). servedOut (serverTake real memory k packet out)) same)
+take-sized memory key packet out array x h same e = rw (eq-eqb (length key) keySize h)
+    (e ∙ ap (λ (k : List ℕ). servedOut (serverTake real memory k packet out)) same)
 
 -- ---- a client makes a packet
 
@@ -129,8 +142,10 @@ module _ (out : List ℕ) (n : ℕ) (in-out : n ≤ length out) (small : n ≤ p
   by-refusal : (k : ℕ)
       → length (onRefusal {A = Written} k (record { result = record { number = k; count = length bytes }; output = over bytes (take n out) })
       (record { result = record { number = k; count = 0 }; output = take n out }) .output) ≡ n
-      → Makes (onRefusal k (record { result = record { number = k; count = length bytes }; output = over bytes (take n out) }) (record { result = record { number = k; count = 0 }; output = take n out }))
-      (onRefusal k (record { result = record { number = k; count = length bytes }; output = over bytes out }) (record { result = record { number = k; count = 0 }; output = out }))
+      → Makes (onRefusal k (record { result = record { number = k; count = length bytes }; output = over bytes (take n out) })
+      (record { result = record { number = k; count = 0 }; output = take n out }))
+      (onRefusal k (record { result = record { number = k; count = length bytes }; output = over bytes out })
+      (record { result = record { number = k; count = 0 }; output = out }))
   by-refusal zero f = let z = over-part out n in-out bytes f in record { result = refl; output = sym (z .0); count = z .1 }
   by-refusal (suc k) f = record { result = refl; output = sym (take-append-drop n out); count = omega arith }
 
@@ -140,10 +155,12 @@ module _ (out : List ℕ) (n : ℕ) (in-out : n ≤ length out) (small : n ≤ p
 
   made-part : Makes (record { result = o; output = x }) (clientMake t client b c kept out)
   unfolding clientMake
-  made-part = rw (e, refusal-is) (by-refusal (makeRefusal (shelf t) client b (inHand c) (length (take n out))) (sym (ap (λ (w : Written). length (w .output)) e) ∙ keeps ∙ length-take-le n out in-out))
+  made-part = rw (e, refusal-is) (by-refusal (makeRefusal (shelf t) client b (inHand c) (length (take n out)))
+      (sym (ap (λ (w : Written). length (w .output)) e) ∙ keeps ∙ length-take-le n out in-out))
 
   pub made-count : o .count ≤ packetRoom
   made-count = omega (arith, made-part .count, small)
 
-  pub made-out : (r : ℕ) → r ≡ packed (o .number) 0 0 (o .count) → record { answer = r; output = x ++ drop n out } ≡ madeOut (clientMake t client b c kept out)
+  pub made-out : (r : ℕ) → r ≡ packed (o .number) 0 0 (o .count) → record { answer = r; output = x ++ drop n out } ≡ madeOut
+      (clientMake t client b c kept out)
   made-out r p = rw (p, made-part .result, made-part .output) refl

@@ -41,7 +41,8 @@ module _ (d : List ℕ) (size : length d ≡ clientSize) where
   whole : (k : List ℕ) → putMid keptPlace (length d - keptPlace) d k ≡ take stateSize d ++ (part d stateSize (keptPlace - stateSize) ++ k)
   unfolding part
   whole k =
-      let nothing : drop (length d - keptPlace) (drop keptPlace d) ≡ [] = drop-of-length-le (drop keptPlace d) {i = length d - keptPlace} (omega (arith, length-drop keptPlace d)) in
+      let nothing : drop (length d - keptPlace) (drop keptPlace d) ≡ [] = drop-of-length-le (drop keptPlace d) {i = length d - keptPlace}
+      (omega (arith, length-drop keptPlace d)) in
       ap (λ (z : List ℕ). take keptPlace d ++ (k ++ z)) nothing ∙ ap (λ (z : List ℕ). take keptPlace d ++ z) (append-nil k)
       ∙ ap (λ (z : List ℕ). z ++ k) (take-add stateSize (keptPlace - stateSize) d)
       ∙ append-assoc (take stateSize d) (take (keptPlace - stateSize) (drop stateSize d)) k
@@ -50,7 +51,8 @@ module _ (d : List ℕ) (size : length d ≡ clientSize) where
   unfolding stateWith
   put-back k c =
       let front : length (take stateSize d) ≡ stateSize = length-take-le stateSize d (omega (arith, size)) in
-      rw (whole k) (ap (λ (z : List ℕ). callBytes c ++ z) (drop-at (take stateSize d) (part d stateSize (keptPlace - stateSize) ++ k) stateSize front))
+      rw (whole k) (ap (λ (z : List ℕ). callBytes c ++ z) (drop-at (take stateSize d) (part d stateSize (keptPlace - stateSize) ++ k) stateSize
+      front))
 
   -- the small state at the start: there is room for it
   pub put-first : (c : Call) → length (c .tally .marks) ≡ mostServers → placed d 0 (callBytes c) .output ≡ callBytes c ++ drop stateSize d
@@ -63,7 +65,8 @@ module _ (d : List ℕ) (size : length d ≡ clientSize) where
   -- ---- beginning a call
 
   module _ (t client : ℕ) (content nonce : List ℕ) where
-    pub core-write : coreWrite t client (callAt d) (midOf keptPlace (length d - keptPlace) d) content nonce ≡ beginWrite t client (callAt d) (keptOf d) content nonce
+    pub core-write : coreWrite t client (callAt d) (midOf keptPlace (length d - keptPlace) d) content nonce ≡ beginWrite t client (callAt d)
+        (keptOf d) content nonce
     unfolding coreWrite
     core-write = rw lent (rw (eq-eqb (length (keptOf d)) keptSize kept-size))
 
@@ -71,14 +74,16 @@ module _ (d : List ℕ) (size : length d ≡ clientSize) where
   unfolding coreRead
   core-read t client = rw lent (rw (eq-eqb (length (keptOf d)) keptSize kept-size))
 
-  pub core-made : (t client b : ℕ) (x : Call) (k o : List ℕ) → x ≡ callAt d → k ≡ drop keptPlace d → coreMake t client b x k o ≡ clientMake t client b (callAt d) (keptOf d) o
+  pub core-made : (t client b : ℕ) (x : Call) (k o : List ℕ) → x ≡ callAt d → k ≡ drop keptPlace d → coreMake t client b x k o ≡ clientMake t client b
+      (callAt d) (keptOf d) o
   unfolding coreMake
   core-made t client b x k o e f =
       let g : k ≡ keptOf d = unfold keptOf in f in
       rw (e, g) (rw (eq-eqb (length (keptOf d)) keptSize kept-size) refl)
 
   -- what the core answered and left, put back
-  pub began : (b : Begun) (r : Started) (k after : List ℕ) → r ≡ started b → k ≡ b .kept → after ≡ callBytes (r .call) ++ drop stateSize (putMid keptPlace (length d - keptPlace) d k)
+  pub began : (b : Begun) (r : Started) (k after : List ℕ) → r ≡ started b → k ≡ b .kept → after ≡ callBytes (r .call) ++ drop stateSize
+      (putMid keptPlace (length d - keptPlace) d k)
       → (r .taken ≡ b .result) × (after ≡ stateWith d (b .call) (b .kept))
   began b r k after e f p = (
     ap (λ (x : Started). x .taken) e,
@@ -88,7 +93,8 @@ module _ (d : List ℕ) (size : length d ≡ clientSize) where
   -- ---- taking a packet
 
   pub core-take : (t client : ℕ) (writers : List ℕ) (keys : List (List ℕ)) (packet out : List ℕ)
-      → coreTake t client writers keys (callAt d) (midOf keptPlace (length d - keptPlace) d) packet out ≡ clientTake real t client writers keys (callAt d) (keptOf d) packet out
+      → coreTake t client writers keys (callAt d) (midOf keptPlace (length d - keptPlace) d) packet out ≡ clientTake real t client writers keys
+      (callAt d) (keptOf d) packet out
   unfolding coreTake
   core-take t client writers keys packet out = rw lent (rw (eq-eqb (length (keptOf d)) keptSize kept-size))
 
@@ -100,7 +106,8 @@ module _ (d : List ℕ) (size : length d ≡ clientSize) where
 
 -- ---- the exports, test by test
 
-pub make-unsized : (d out : List ℕ) (t client b : ℕ) → length d ≢ clientSize → record { answer = packed wrongSize 0 0 0; output = out } ≡ makeIn d t client b out
+pub make-unsized : (d out : List ℕ) (t client b : ℕ) → length d ≢ clientSize → record { answer = packed wrongSize 0 0 0; output = out } ≡ makeIn d t
+    client b out
 unfolding makeIn sized
 make-unsized d out t client b h = rw (ne-eqb (length d) clientSize h) refl
 
@@ -116,20 +123,25 @@ module _ (d : List ℕ) (t client : ℕ) (writers keys packet out : List ℕ) wh
   unfolding takeIn sizedFor
   take-other-key e h = rw (eq-eqb (length d) clientSize e, ne-eqb (length writers) keySize h) refl
 
-  pub take-other-keys : length d ≡ clientSize → length writers ≡ keySize → length keys ≢ keysSize → unheard ≡ takeIn d t client writers keys packet out
+  pub take-other-keys : length d ≡ clientSize → length writers ≡ keySize → length keys ≢ keysSize → unheard ≡ takeIn d t client writers keys packet
+      out
   unfolding takeIn sizedFor
   take-other-keys e f h = rw (eq-eqb (length d) clientSize e, eq-eqb (length writers) keySize f, ne-eqb (length keys) keysSize h) refl
 
-  pub take-done : length d ≡ clientSize → length writers ≡ keySize → length keys ≡ keysSize → (w : List ℕ) (k : List (List ℕ)) (x : Taking) → w ≡ writers → k ≡ keysIn keys
+  pub take-done : length d ≡ clientSize → length writers ≡ keySize → length keys ≡ keysSize → (w : List ℕ) (k : List (List ℕ)) (x : Taking) → w ≡
+      writers → k ≡ keysIn keys
       → x ≡ tookIn d (clientTake real t client w k (callAt d) (keptOf d) packet out) → x ≡ takeIn d t client writers keys packet out
   unfolding takeIn sizedFor
-  take-done e f g w k x p q r = rw (eq-eqb (length d) clientSize e, eq-eqb (length writers) keySize f, eq-eqb (length keys) keysSize g) (r ∙ rw (p, q) refl)
+  take-done e f g w k x p q r = rw (eq-eqb (length d) clientSize e, eq-eqb (length writers) keySize f, eq-eqb (length keys) keysSize g)
+      (r ∙ rw (p, q) refl)
 
-pub make-done : (d out : List ℕ) (t client b : ℕ) → length d ≡ clientSize → (x : Posted) → x ≡ madeOut (clientMake t client b (callAt d) (keptOf d) out) → x ≡ makeIn d t client b out
+pub make-done : (d out : List ℕ) (t client b : ℕ) → length d ≡ clientSize → (x : Posted) → x ≡ madeOut
+    (clientMake t client b (callAt d) (keptOf d) out) → x ≡ makeIn d t client b out
 unfolding makeIn sized
 make-done d out t client b h x e = rw (eq-eqb (length d) clientSize h) e
 
-pub write-unsized : (d content nonce : List ℕ) (t client : ℕ) → length d ≢ clientSize → record { answer = packed wrongSize 0 0 0; state = d } ≡ writeIn d t client content nonce
+pub write-unsized : (d content nonce : List ℕ) (t client : ℕ) → length d ≢ clientSize → record { answer = packed wrongSize 0 0 0; state = d } ≡
+    writeIn d t client content nonce
 unfolding writeIn sizedWith
 write-unsized d content nonce t client h = rw (ne-eqb (length d) clientSize h) refl
 
@@ -137,21 +149,25 @@ pub read-unsized : (d : List ℕ) (t client : ℕ) → length d ≢ clientSize �
 unfolding readIn sized
 read-unsized d t client h = rw (ne-eqb (length d) clientSize h) refl
 
-pub give-up-unsized : (d : List ℕ) (t client : ℕ) → length d ≢ clientSize → record { answer = packed wrongSize 0 0 0; state = d } ≡ giveUpIn d t client
+pub give-up-unsized : (d : List ℕ) (t client : ℕ) → length d ≢ clientSize → record { answer = packed wrongSize 0 0 0; state = d } ≡ giveUpIn d t
+    client
 unfolding giveUpIn sized
 give-up-unsized d t client h = rw (ne-eqb (length d) clientSize h) refl
 
 module _ (d : List ℕ) (t client : ℕ) (size : length d ≡ clientSize) where
-  pub write-other-nonce : (content nonce : List ℕ) → length nonce ≢ nonceSize → record { answer = packed wrongSize 0 0 0; state = d } ≡ writeIn d t client content nonce
+  pub write-other-nonce : (content nonce : List ℕ) → length nonce ≢ nonceSize → record { answer = packed wrongSize 0 0 0; state = d } ≡ writeIn d t
+      client content nonce
   unfolding writeIn sizedWith
   write-other-nonce content nonce h = rw (eq-eqb (length d) clientSize size, ne-eqb (length nonce) nonceSize h) refl
 
   pub write-done : (content nonce array : List ℕ) (o : Outcome) (r : ℕ) (after : List ℕ) → length nonce ≡ nonceSize → array ≡ nonce
       → (o ≡ beginWrite t client (callAt d) (keptOf d) content array .result)
-      × (after ≡ stateWith d (beginWrite t client (callAt d) (keptOf d) content array .call) (beginWrite t client (callAt d) (keptOf d) content array .kept))
+      × (after ≡ stateWith d (beginWrite t client (callAt d) (keptOf d) content array .call)
+      (beginWrite t client (callAt d) (keptOf d) content array .kept))
       → r ≡ packed (o .number) 0 0 0 → record { answer = r; state = after } ≡ writeIn d t client content nonce
   unfolding writeIn sizedWith begunIn
-  write-done content nonce array o r after n same e p = rw (eq-eqb (length d) clientSize size, eq-eqb (length nonce) nonceSize n, p, e .0, e .1, same) refl
+  write-done content nonce array o r after n same e p = rw (eq-eqb (length d) clientSize size, eq-eqb (length nonce) nonceSize n, p, e .0, e .1, same)
+      refl
 
   pub read-done : (o : Outcome) (r : ℕ) (after : List ℕ)
       → (o ≡ beginRead t client (callAt d) (keptOf d) .result)
@@ -165,7 +181,8 @@ module _ (d : List ℕ) (t client : ℕ) (size : length d ≡ clientSize) where
   unfolding stateWith part keptOf
   stays c =
       let rest : List ℕ = drop stateSize d in
-      ap (λ (z : List ℕ). callBytes c ++ z) (sym (take-append-drop (keptPlace - stateSize) rest) ∙ ap (λ (z : List ℕ). take (keptPlace - stateSize) rest ++ z) (drop-drop (keptPlace - stateSize) stateSize d))
+      ap (λ (z : List ℕ). callBytes c ++ z) (sym (take-append-drop (keptPlace - stateSize) rest) ∙ ap
+      (λ (z : List ℕ). take (keptPlace - stateSize) rest ++ z) (drop-drop (keptPlace - stateSize) stateSize d))
 
   pub give-up-done : (x : Call) (s : Stopped) (r : ℕ) (after : List ℕ) → x ≡ callAt d → s ≡ stopped (giveUp t client x)
       → after ≡ callBytes (s .call) ++ drop stateSize d → r ≡ abortedOf (s .taken) → record { answer = r; state = after } ≡ giveUpIn d t client

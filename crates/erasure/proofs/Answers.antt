@@ -55,7 +55,8 @@ make-refused t server content x e h =
     let no : ℕ → FragmentOutcome = λ y. record { number = y; count = 0; bytes = zeros fragmentRoom } in
     ap (λ (y : ℕ). onRefusal y done (no y)) (sym e) ∙ refused-is x done (no x) h
 
-pub make-accepted : (t server : ℕ) (content : List ℕ) → t ≤ topFaults → 1 ≤ server → server ≤ shelf t .servers → fragmentRefusal t server (length content) ≡ 0
+pub make-accepted : (t server : ℕ) (content : List ℕ) → t ≤ topFaults → 1 ≤ server → server ≤ shelf t .servers → fragmentRefusal t server
+    (length content) ≡ 0
     → let f = fragmentSize (shelf t .shares) (length content) in
     fragmentStep t server content ≡ record { number = 0; count = f; bytes = madeOf (shelf t .shares) f content server ++ zeros (fragmentRoom - f) }
 unfolding fragmentStep fragmentBytes fragment madeOf column shelf
@@ -67,7 +68,8 @@ make-accepted t server content ht lo hi e =
     let no : ℕ → FragmentOutcome = λ y. record { number = y; count = 0; bytes = zeros fragmentRoom } in
     ap (λ (y : ℕ). onRefusal y (make (fragmentBytes t server content)) (no y)) e
     ∙ ap make
-    (table-ext f (λ q. through bytes (take k (upTo s)) (column k content q) (pointOf (upTo s) server)) (λ q. through bytes (upTo k) (column k content q) server)
+    (table-ext f (λ q. through bytes (take k (upTo s)) (column k content q) (pointOf (upTo s) server))
+    (λ q. through bytes (upTo k) (column k content q) server)
     (λ q h. ap₂ (λ (u : List ℕ) (z : ℕ). through bytes u (column k content q) z) (first-points s k (omega arith)) (point-is s server lo hi)))
 
 -- a plain run is the fragment of its server

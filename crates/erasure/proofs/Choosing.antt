@@ -71,9 +71,11 @@ chosen-ordered k ss (suc i) =
     let ps = chosenOf k ss i in
     let b = getD ss i 0 in
     let s = among b (serversAt ss ps) in
-    subst Ordered (sym (more-map (λ p. getD ss p 0) (ltb (length ps) k) s ps i)) (step (ltb (length ps) k) s (serversAt ss ps) b refl (chosen-ordered k ss i))
+    subst Ordered (sym (more-map (λ p. getD ss p 0) (ltb (length ps) k) s ps i)) (step (ltb (length ps) k) s (serversAt ss ps) b refl
+    (chosen-ordered k ss i))
 
-pub chosen-different : (k : ℕ) (ss : List ℕ) (n i j : ℕ) → let xs = serversAt ss (chosenOf k ss n) in i < length xs → j < length xs → i ≢ j → getD xs i 0 ≢ getD xs j 0
+pub chosen-different : (k : ℕ) (ss : List ℕ) (n i j : ℕ) → let xs = serversAt ss (chosenOf k ss n) in i < length xs → j < length xs → i ≢ j → getD xs
+    i 0 ≢ getD xs j 0
 chosen-different k ss n i j hi hj ne e = go (decLt i j)
   where
     xs : List ℕ
@@ -85,7 +87,8 @@ chosen-different k ss n i j hi hj ne e = go (decLt i j)
 
 -- ---- the places stand in the list
 
-more-lt : (a b : Bool) (ps : List ℕ) (i : ℕ) → ((j : ℕ) → j < length ps → getD ps j 0 < i) → (j : ℕ) → j < length (more a b ps i) → getD (more a b ps i) j 0 < suc i
+more-lt : (a b : Bool) (ps : List ℕ) (i : ℕ) → ((j : ℕ) → j < length ps → getD ps j 0 < i) → (j : ℕ) → j < length (more a b ps i) → getD
+    (more a b ps i) j 0 < suc i
 more-lt true true ps i h j l = omega (arith, h j l)
 more-lt false b ps i h j l = omega (arith, h j l)
 more-lt true false ps i h j l = go (decLt j (length ps))
@@ -101,4 +104,5 @@ pub chosen-lt : (k : ℕ) (ss : List ℕ) (i j : ℕ) → j < length (chosenOf k
 unfolding chosenOf
 chosen-lt k ss zero j h = absurd (not-suc-le-zero h)
 chosen-lt k ss (suc i) j h =
-    more-lt (ltb (length (chosenOf k ss i)) k) (among (getD ss i 0) (map (λ p. getD ss p 0) (chosenOf k ss i))) (chosenOf k ss i) i (chosen-lt k ss i) j h
+    more-lt (ltb (length (chosenOf k ss i)) k) (among (getD ss i 0) (map (λ p. getD ss p 0) (chosenOf k ss i))) (chosenOf k ss i) i (chosen-lt k ss i)
+    j h

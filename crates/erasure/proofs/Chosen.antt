@@ -68,11 +68,13 @@ module _ (t n : ℕ) (servers fragments output : List ℕ) where
 
   pub refused-few : arguments ≡ 0 → length (firstDifferent (shelf t .shares) servers) < shelf t .shares
       → restoreRefusal t n servers (length fragments) (length output) ≡ 16
-  refused-few e h = accepted-arguments e ∙ ap (λ (b : Bool). cond b 16 0) (lt-ltb (length (firstDifferent (shelf t .shares) servers)) (shelf t .shares) h)
+  refused-few e h = accepted-arguments e ∙ ap (λ (b : Bool). cond b 16 0) (lt-ltb (length (firstDifferent (shelf t .shares) servers))
+      (shelf t .shares) h)
 
   pub refused-none : arguments ≡ 0 → shelf t .shares ≤ length (firstDifferent (shelf t .shares) servers)
       → restoreRefusal t n servers (length fragments) (length output) ≡ 0
-  refused-none e h = accepted-arguments e ∙ ap (λ (b : Bool). cond b 16 0) (le-ltb (length (firstDifferent (shelf t .shares) servers)) (shelf t .shares) h)
+  refused-none e h = accepted-arguments e ∙ ap (λ (b : Bool). cond b 16 0) (le-ltb (length (firstDifferent (shelf t .shares) servers))
+      (shelf t .shares) h)
 
 -- ---- what was chosen
 
@@ -163,6 +165,8 @@ module _ (k : ℕ) (servers : List ℕ) (c : Chosen) (h : Holds k servers (first
           let q : ℕ = m % f in
           let inside : q < f = mod-lt m (size-pos k n (omega arith) kpos) in
           sym (ap₂ (λ (u v : List ℕ). through bytes u v (pointOf (upTo s) (m / f + 1)))
-          (ap (map (λ p. pointOf (upTo s) (p .server))) parts-at ∙ points-are places (λ j l. subst (λ (x : ℕ). x < length servers) (sym (place-is j (omega (arith, long)))) (place-lt j (omega (arith, long)))) ∙ sym servers-at)
+          (ap (map (λ p. pointOf (upTo s) (p .server))) parts-at ∙ points-are places
+          (λ j l. subst (λ (x : ℕ). x < length servers) (sym (place-is j (omega (arith, long)))) (place-lt j (omega (arith, long)))) ∙ sym servers-at)
           (ap (map (λ p. getD (p .bytes) q 0)) parts-at ∙ byte-at q inside)
-          ∙ ap (through bytes (take k (c .servers)) (table k (λ j. getD fragments (getD (c .at) j 0 * f + q) 0))) (point-is s (m / f + 1) (omega arith) (omega arith))))
+          ∙ ap (through bytes (take k (c .servers)) (table k (λ j. getD fragments (getD (c .at) j 0 * f + q) 0)))
+          (point-is s (m / f + 1) (omega arith) (omega arith))))

@@ -77,18 +77,22 @@ step k ss ps i true true r m ih l j h = go (ℕ-discrete j i)
     go : Dec (j ≡ i) → among (getD ss j 0) (serversAt ss ps) ≡ true
     go (yes e) = ap (λ (x : ℕ). among (getD ss x 0) (serversAt ss ps)) e ∙ m
     go (no ne) = ih l j (lt-of-le-ne (le-of-suc-le-suc h) ne)
-step k ss ps i true false r m ih l j h = subst (λ (xs : List ℕ). among (getD ss j 0) xs ≡ true) (sym (map-snoc (λ p. getD ss p 0) ps i)) (go (ℕ-discrete j i))
+step k ss ps i true false r m ih l j h = subst (λ (xs : List ℕ). among (getD ss j 0) xs ≡ true) (sym (map-snoc (λ p. getD ss p 0) ps i))
+    (go (ℕ-discrete j i))
   where
     go : Dec (j ≡ i) → among (getD ss j 0) (serversAt ss ps ++ (getD ss i 0 ∷ [])) ≡ true
     go (yes e) = ap (λ (x : ℕ). among (getD ss x 0) (serversAt ss ps ++ (getD ss i 0 ∷ []))) e ∙ among-last (getD ss i 0) (serversAt ss ps)
     go (no ne) =
-        among-left (getD ss j 0) (serversAt ss ps) (getD ss i 0 ∷ []) (ih (omega (arith, length-append ps (i ∷ []))) j (lt-of-le-ne (le-of-suc-le-suc h) ne))
+        among-left (getD ss j 0) (serversAt ss ps) (getD ss i 0 ∷ []) (ih (omega (arith, length-append ps (i ∷ []))) j
+        (lt-of-le-ne (le-of-suc-le-suc h) ne))
 
-all-among : (k : ℕ) (ss : List ℕ) (i : ℕ) → length (chosenOf k ss i) < k → (j : ℕ) → j < i → among (getD ss j 0) (serversAt ss (chosenOf k ss i)) ≡ true
+all-among : (k : ℕ) (ss : List ℕ) (i : ℕ) → length (chosenOf k ss i) < k → (j : ℕ) → j < i → among (getD ss j 0) (serversAt ss (chosenOf k ss i)) ≡
+    true
 unfolding chosenOf
 all-among k ss zero l j h = absurd (not-suc-le-zero h)
 all-among k ss (suc i) l j h =
-    step k ss (chosenOf k ss i) i (ltb (length (chosenOf k ss i)) k) (among (getD ss i 0) (serversAt ss (chosenOf k ss i))) refl refl (all-among k ss i) l j h
+    step k ss (chosenOf k ss i) i (ltb (length (chosenOf k ss i)) k) (among (getD ss i 0) (serversAt ss (chosenOf k ss i))) refl refl
+    (all-among k ss i) l j h
 
 -- d stands somewhere in ss
 abbrev pub Stands : ℕ → List ℕ → Type 0

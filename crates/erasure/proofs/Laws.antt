@@ -35,7 +35,8 @@ run-lt k n m h hk = div-lt-iff-lt-mul (size-pos k n (omega arith) hk) .1 (lt-of-
 
 -- ---- lengths
 
-pub fragment-length : (points : List ℕ) (k : ℕ) (content : List ℕ) (server : ℕ) → length (fragment points k content server) ≡ fragmentSize k (length content)
+pub fragment-length : (points : List ℕ) (k : ℕ) (content : List ℕ) (server : ℕ) → length (fragment points k content server) ≡ fragmentSize k
+    (length content)
 unfolding fragment
 fragment-length points k content server = length-table (fragmentSize k (length content)) _
 
@@ -124,7 +125,8 @@ module _ (points : List ℕ) (k : ℕ) (content : List ℕ) (pt : PointTable poi
   lead-at j h = getD-take k points j 0 h ∙ ap (λ (x : ℕ). getD points x 0) (omega arith)
 
   values : (q : ℕ) → q < f → (xs : List ℕ)
-      → map (λ p. getD (p .bytes) q 0) (map (partOf points k content) xs) ≡ map (through bytes (take k points) (column k content q)) (map (pointOf points) xs)
+      → map (λ p. getD (p .bytes) q 0) (map (partOf points k content) xs) ≡ map (through bytes (take k points) (column k content q))
+      (map (pointOf points) xs)
   unfolding fragment
   values q h [] = refl
   values q h (x ∷ xs) = ap₂ (λ (u : ℕ) (v : List ℕ). u ∷ v) (getD-table f _ q 0 h) (values q h xs)
@@ -148,7 +150,8 @@ module _ (points : List ℕ) (k : ℕ) (content : List ℕ) (pt : PointTable poi
       (ap (map (λ p. pointOf points (p .server))) (take-map part k servers) ∙ places first)
       (ap (map (λ p. getD (p .bytes) q 0)) (take-map part k servers) ∙ values q inside first)
       ∙ ap (through bytes xs (map (through bytes (take k points) (column k content q)) xs)) (sym (lead-at (m / f) run))
-      ∙ restored-bytes (take k points) (column k content q) xs small-lead (small-column q) (points-small points first pt) (length-column q) distinct-lead
+      ∙ restored-bytes (take k points) (column k content q) xs small-lead (small-column q) (points-small points first pt) (length-column q)
+      distinct-lead
       (length-map first (pointOf points) ∙ length-take-le k servers l ∙ sym lead) (points-of points first pt firstAt firstDistinct) (m / f)
       (subst (λ (x : ℕ). m / f < x) (sym lead) run)
       ∙ getD-table k _ (m / f) 0 run
@@ -191,7 +194,8 @@ module _ (points : List ℕ) (k : ℕ) (content : List ℕ) (pt : PointTable poi
       let inside : q < f = subst (λ (x : ℕ). q < x) (length-table f _) b in
       getD-table f _ q 0 inside
       ∙ ap (through bytes (take k points) (column k content q)) (sym (lead-at j h))
-      ∙ through-value (take k points) (column k content q) small-lead (small-column q) (length-column q) distinct-lead j (subst (λ (x : ℕ). j < x) (sym lead) h)
+      ∙ through-value (take k points) (column k content q) small-lead (small-column q) (length-column q) distinct-lead j
+      (subst (λ (x : ℕ). j < x) (sym lead) h)
       ∙ getD-table k _ j 0 h ∙ sym (getD-table f _ q 0 inside))
 
   -- p has degree below k and takes at each of the first k points the byte of that run at place q
@@ -220,5 +224,7 @@ module _ (points : List ℕ) (k : ℕ) (content : List ℕ) (pt : PointTable poi
   unfolding fragment pointOf
   the-one q h p t i =
       getD-table f _ q 0 h
-      ∙ sym (one-through (take k points) (column k content q) p small-lead (small-column q) (t .byteful) (t .degree ∙ sym lead) (length-column q) distinct-lead
-      (λ j b. let c : j < k = subst (λ (x : ℕ). j < x) lead b in ap (eval bytes p) (lead-at j c) ∙ t .passes j c) (pointOf points i) (pt .bytes (i - 1)))
+      ∙ sym (one-through (take k points) (column k content q) p small-lead (small-column q) (t .byteful) (t .degree ∙ sym lead) (length-column q)
+      distinct-lead
+      (λ j b. let c : j < k = subst (λ (x : ℕ). j < x) lead b in ap (eval bytes p) (lead-at j c) ∙ t .passes j c) (pointOf points i)
+      (pt .bytes (i - 1)))

@@ -50,7 +50,8 @@ written out old n g l h new kept =
     (λ j b. go j (decLt j n))
   where
     go : (j : ℕ) → Dec (j < n) → getD out j 0 ≡ getD (table n g ++ drop n old) j 0
-    go j (yes b) = new j b ∙ sym (List·getD-append (table n g) (drop n old) 0 j (subst (λ (x : ℕ). j < x) (sym (length-table n g)) b) ∙ getD-table n g j 0 b)
+    go j (yes b) = new j b ∙ sym (List·getD-append (table n g) (drop n old) 0 j (subst (λ (x : ℕ). j < x) (sym (length-table n g)) b) ∙ getD-table n g
+        j 0 b)
     go j (no nb) =
         let ge : n ≤ j = omega arith in
         kept j ge
@@ -88,7 +89,8 @@ pub written-none : (old : List ℕ) (at : ℕ) (g : ℕ → ℕ) → Written old
 written-none old at g = record { long = refl; here = λ i h. absurd (not-suc-le-zero h); below = λ i h. refl; above = λ i h. refl }
 
 -- a second piece behind the first
-pub written-on : (old mid new : List ℕ) (at n m : ℕ) (g : ℕ → ℕ) → Written old mid at n g → Written mid new (at + n) m (λ i. g (n + i)) → Written old new at (n + m) g
+pub written-on : (old mid new : List ℕ) (at n m : ℕ) (g : ℕ → ℕ) → Written old mid at n g → Written mid new (at + n) m (λ i. g (n + i)) → Written old
+    new at (n + m) g
 written-on old mid new at n m g a b = record {
   long = b .long ∙ a .long;
   here = λ i h. go i h (decLt i n);
@@ -103,7 +105,8 @@ written-on old mid new at n m g a b = record {
         ap (λ (x : ℕ). getD new x 0) (omega arith) ∙ b .here (i - n) (omega arith) ∙ ap g e
 
 -- from the start on
-pub written-next : (old mid new : List ℕ) (n m : ℕ) (g : ℕ → ℕ) → Written old mid 0 n g → Written mid new n m (λ i. g (n + i)) → Written old new 0 (n + m) g
+pub written-next : (old mid new : List ℕ) (n m : ℕ) (g : ℕ → ℕ) → Written old mid 0 n g → Written mid new n m (λ i. g (n + i)) → Written old new 0
+    (n + m) g
 written-next old mid new n m g a b = written-on old mid new 0 n m g a (subst (λ (x : ℕ). Written mid new x m (λ i. g (n + i))) (sym (zero-add n)) b)
 
 written-one : (old : List ℕ) (at v : ℕ) → at < length old → Written old (set old at v) at 1 (λ i. v)

@@ -82,7 +82,8 @@ drop-zeros n f h =
     table-is (n - f) (drop f (table n (λ i. 0))) (λ i. 0) (length-drop f (table n (λ i. 0)) ∙ ap (λ (x : ℕ). x - f) (length-table n (λ i. 0)))
     (λ i b. getD-drop f (table n (λ i. 0)) i 0 ∙ getD-table n (λ i. 0) (f + i) 0 (omega arith))
 
-pub made : (k f room z : ℕ) (w content starts at xs old out : List ℕ) (v : ℕ → ℕ) → old ≡ zeros room → k ≤ width → f ≤ room → Weighs k xs v z → take k xs ≡ upTo k
+pub made : (k f room z : ℕ) (w content starts at xs old out : List ℕ) (v : ℕ → ℕ) → old ≡ zeros room → k ≤ width → f ≤ room → Weighs k xs v z → take k
+    xs ≡ upTo k
     → ((j : ℕ) → j < k → getD w j 0 ≡ v j) → ((j : ℕ) → j < k → getD starts j 0 ≡ getD at j 0 * f) → ((j : ℕ) → j < width → getD at j 0 ≡ j)
     → ((j : ℕ) → getD content j 0 < 256) → Written old out 0 f (sumAt k w content starts) → out ≡ madeOf k f content z ++ zeros (room - f)
 unfolding madeOf
@@ -123,12 +124,14 @@ copied f j m room content old out eo fr hm end wr =
         ∙ sym (List·getD-eq-default content 0 (all (decLt m (length content - j * f)) i h (omega arith)))
 
 -- is the fragment at its point
-pub plain-made : (k f j : ℕ) (content : List ℕ) → k < 256 → j < k → ((i : ℕ) → getD content i 0 < 256) → madeOf k f content (j + 1) ≡ plainOf f j content
+pub plain-made : (k f j : ℕ) (content : List ℕ) → k < 256 → j < k → ((i : ℕ) → getD content i 0 < 256) → madeOf k f content (j + 1) ≡ plainOf f j
+    content
 unfolding madeOf plainOf
 plain-made k f j content kb h small =
     table-ext f (λ q. through bytes (upTo k) (table k (λ i. getD content (i * f + q) 0)) (j + 1)) (λ q. getD content (j * f + q) 0)
     (λ q b.
     ap₂ (λ (u : List ℕ) (z : ℕ). through bytes u (table k (λ i. getD content (i * f + q) 0)) z)
     (sym (take-is k (upTo k) (upTo k) (omega (arith, upTo-length k)) (upTo-length k) (λ i _. refl))) (sym (upTo-at k j h))
-    ∙ value-at k (upTo k) (λ i. getD content (i * f + q) 0) (omega (arith, upTo-length k)) (λ i l. omega (arith, upTo-at k i l)) (λ i. small (i * f + q))
+    ∙ value-at k (upTo k) (λ i. getD content (i * f + q) 0) (omega (arith, upTo-length k)) (λ i l. omega (arith, upTo-at k i l))
+    (λ i. small (i * f + q))
     (λ i m hi hm ne e. ne (let p : i + 1 ≡ m + 1 = sym (upTo-at k i hi) ∙ e ∙ upTo-at k m hm in omega arith)) j h)

@@ -53,8 +53,10 @@ module _ (k : ℕ) (a : List (List ℕ)) (places starts fragments : List ℕ) (i
   run-summed h = ap (λ (b : Bool). cond b own weighed) (le-ltb (getD places i 0) k h)
 
   -- either way, the value of the polynomial at the run's point
-  run-value : (f : ℕ) (at servers : List ℕ) → k ≤ width → k ≤ length servers → i < k → AllDifferent k servers → ((j : ℕ) → j < k → getD servers j 0 < 256)
-      → ((j : ℕ) → getD fragments j 0 < 256) → ((j : ℕ) → j < k → getD starts j 0 ≡ getD at j 0 * f) → (getD places i 0 < k → getD servers (getD places i 0) 0 ≡ i + 1)
+  run-value : (f : ℕ) (at servers : List ℕ) → k ≤ width → k ≤ length servers → i < k → AllDifferent k servers →
+      ((j : ℕ) → j < k → getD servers j 0 < 256)
+      → ((j : ℕ) → getD fragments j 0 < 256) → ((j : ℕ) → j < k → getD starts j 0 ≡ getD at j 0 * f) →
+      (getD places i 0 < k → getD servers (getD places i 0) 0 ≡ i + 1)
       → (k ≤ getD places i 0 → Solves k servers a) → Dec (getD places i 0 < k)
       → runAt k a places starts fragments i q ≡ through bytes (take k servers) (table k (λ j. getD fragments (getD at j 0 * f + q) 0)) (i + 1)
   run-value f at servers kw kl hi d points small es given solved (yes b) =
@@ -66,16 +68,19 @@ module _ (k : ℕ) (a : List (List ℕ)) (places starts fragments : List ℕ) (i
   run-value f at servers kw kl hi d points small es given solved (no nb) =
       let past : k ≤ getD places i 0 = omega arith in
       run-summed past
-      ∙ sumTo-ext k (λ j. times (getD fragments (getD starts j 0 + q) 0) (weightAt k a (i + 1) j)) (λ j. times (getD fragments (getD at j 0 * f + q) 0) (weightAt k a (i + 1) j))
+      ∙ sumTo-ext k (λ j. times (getD fragments (getD starts j 0 + q) 0) (weightAt k a (i + 1) j))
+      (λ j. times (getD fragments (getD at j 0 * f + q) 0) (weightAt k a (i + 1) j))
       (λ j h. ap (λ (x : ℕ). times (getD fragments (x + q) 0) (weightAt k a (i + 1) j)) (es j h))
       ∙ solved past (i + 1) (omega arith) (λ j. getD fragments (getD at j 0 * f + q) 0) (λ j. small (getD at j 0 * f + q))
 
 -- the sums of the weights that were made
-pub summed-as : (k i q : ℕ) (a : List (List ℕ)) (w places starts fragments : List ℕ) → k ≤ width → ((j : ℕ) → j < width → getD w j 0 ≡ weightAt k a (i + 1) j)
+pub summed-as : (k i q : ℕ) (a : List (List ℕ)) (w places starts fragments : List ℕ) → k ≤ width →
+    ((j : ℕ) → j < width → getD w j 0 ≡ weightAt k a (i + 1) j)
     → k ≤ getD places i 0 → sumAt k w fragments starts q ≡ runAt k a places starts fragments i q
 unfolding sumAt
 summed-as k i q a w places starts fragments kw ew past =
-    sumTo-ext k (λ j. times (getD fragments (getD starts j 0 + q) 0) (getD w j 0)) (λ j. times (getD fragments (getD starts j 0 + q) 0) (weightAt k a (i + 1) j))
+    sumTo-ext k (λ j. times (getD fragments (getD starts j 0 + q) 0) (getD w j 0)) (λ j. times (getD fragments (getD starts j 0 + q) 0)
+    (weightAt k a (i + 1) j))
     (λ j b. ap (times (getD fragments (getD starts j 0 + q) 0)) (ew j (omega arith)))
     ∙ sym (run-summed k a places starts fragments i q past)
 
@@ -98,7 +103,8 @@ run-more k f d m a places starts fragments old mid new hf e hm before piece =
     piece)
 
 -- after the last
-pub rebuilt : (k f n : ℕ) (a : List (List ℕ)) (places starts fragments at servers old new : List ℕ) → k ≤ width → 0 < f → n ≤ k * f → n ≤ length old → k ≤ length servers
+pub rebuilt : (k f n : ℕ) (a : List (List ℕ)) (places starts fragments at servers old new : List ℕ) → k ≤ width → 0 < f → n ≤ k * f → n ≤ length old →
+    k ≤ length servers
     → AllDifferent k servers → ((j : ℕ) → j < k → getD servers j 0 < 256) → ((j : ℕ) → getD fragments j 0 < 256)
     → ((j : ℕ) → j < k → getD starts j 0 ≡ getD at j 0 * f) → ((i : ℕ) → i < k → getD places i 0 < k → getD servers (getD places i 0) 0 ≡ i + 1)
     → ((i : ℕ) → i < k → k ≤ getD places i 0 → Solves k servers a) → Written old new 0 n (byteOf k f a places starts fragments)

@@ -100,11 +100,13 @@ module _ (t n : ℕ) (servers : List ℕ) (given room : ℕ) where
     pub whole : given ≡ length servers * fragmentSize (shelf t .shares) n
 
   pub accepted : firstOf (argumentChecks t n servers given room) ≡ 0 → Restores
-  accepted e = go (not (within 1 topFaults t)) (not (each (within 1 (shelf t .servers)) servers)) (not (within leastLength topLength n)) (ltb room contentRoom)
+  accepted e = go (not (within 1 topFaults t)) (not (each (within 1 (shelf t .servers)) servers)) (not (within leastLength topLength n))
+      (ltb room contentRoom)
       (not (eqb given (length servers * fragmentSize (shelf t .shares) n))) refl refl refl refl refl
     where
       go : (a b c d f : Bool) → not (within 1 topFaults t) ≡ a → not (each (within 1 (shelf t .servers)) servers) ≡ b
-          → not (within leastLength topLength n) ≡ c → ltb room contentRoom ≡ d → not (eqb given (length servers * fragmentSize (shelf t .shares) n)) ≡ f → Restores
+          → not (within leastLength topLength n) ≡ c → ltb room contentRoom ≡ d → not (eqb given (length servers * fragmentSize (shelf t .shares) n))
+          ≡ f → Restores
       go true b c d f p q r s u = absurd (suc-ne-zero 2 (sym (argument-tests true b c d f p q r s u) ∙ e))
       go false true c d f p q r s u = absurd (suc-ne-zero 3 (sym (argument-tests false true c d f p q r s u) ∙ e))
       go false false true d f p q r s u = absurd (suc-ne-zero 5 (sym (argument-tests false false true d f p q r s u) ∙ e))
@@ -116,7 +118,8 @@ module _ (t n : ℕ) (servers : List ℕ) (given room : ℕ) where
             (each-at (within 1 (shelf t .servers)) servers (not-false (each (within 1 (shelf t .servers)) servers) q) i h);
         bytes = within-bounds leastLength topLength n (not-false (within leastLength topLength n) r);
         fits = ltb-false room contentRoom s;
-        whole = eqb-true given (length servers * fragmentSize (shelf t .shares) n) (not-false (eqb given (length servers * fragmentSize (shelf t .shares) n)) u);
+        whole = eqb-true given (length servers * fragmentSize (shelf t .shares) n) (not-false
+            (eqb given (length servers * fragmentSize (shelf t .shares) n)) u);
       }
 
 -- ---- one list of tests behind another
@@ -125,7 +128,8 @@ pub first-of-first : (xs ys : List Check) → firstOf xs ≢ 0 → firstOf (xs +
 first-of-first [] ys ne = absurd (ne refl)
 first-of-first (x ∷ xs) ys ne = go (x .when) (first-of-first xs ys) ne
   where
-    go : (b : Bool) → (firstOf xs ≢ 0 → firstOf (xs ++ ys) ≡ firstOf xs) → cond b (x .number) (firstOf xs) ≢ 0 → cond b (x .number) (firstOf (xs ++ ys)) ≡ cond b (x .number) (firstOf xs)
+    go : (b : Bool) → (firstOf xs ≢ 0 → firstOf (xs ++ ys) ≡ firstOf xs) → cond b (x .number) (firstOf xs) ≢ 0 → cond b (x .number)
+        (firstOf (xs ++ ys)) ≡ cond b (x .number) (firstOf xs)
     go true rest h = refl
     go false rest h = rest h
 
@@ -138,6 +142,7 @@ pub first-of-second : (xs ys : List Check) → Counts xs → firstOf xs ≡ 0 �
 first-of-second [] ys c e = refl
 first-of-second (x ∷ xs) ys c e = go (x .when) (first-of-second xs ys (c .1)) e
   where
-    go : (b : Bool) → (firstOf xs ≡ 0 → firstOf (xs ++ ys) ≡ firstOf ys) → cond b (x .number) (firstOf xs) ≡ 0 → cond b (x .number) (firstOf (xs ++ ys)) ≡ firstOf ys
+    go : (b : Bool) → (firstOf xs ≡ 0 → firstOf (xs ++ ys) ≡ firstOf ys) → cond b (x .number) (firstOf xs) ≡ 0 → cond b (x .number)
+        (firstOf (xs ++ ys)) ≡ firstOf ys
     go true rest h = absurd (c .0 h)
     go false rest h = rest h

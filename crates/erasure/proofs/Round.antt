@@ -54,7 +54,8 @@ module _ (f : ℕ) (g : ℕ → List ℕ) (long : (s : ℕ) → length (g s) ≡
 
 map-at : (g h : ℕ → List ℕ) (ss : List ℕ) → ((i : ℕ) → i < length ss → g (getD ss i 0) ≡ h (getD ss i 0)) → map g ss ≡ map h ss
 map-at g h [] e = refl
-map-at g h (s ∷ ss) e = ap₂ (λ (x : List ℕ) (xs : List (List ℕ)). x ∷ xs) (e 0 (zero-lt-suc (length ss))) (map-at g h ss (λ i b. e (suc i) (suc-le-suc b)))
+map-at g h (s ∷ ss) e = ap₂ (λ (x : List ℕ) (xs : List (List ℕ)). x ∷ xs) (e 0 (zero-lt-suc (length ss)))
+    (map-at g h ss (λ i b. e (suc i) (suc-le-suc b)))
 
 -- ---- what the operation that makes a fragment gives: its first bytes, as many as it counts
 
@@ -80,10 +81,12 @@ module _ (t : ℕ) (content : List ℕ) (faults : (1 ≤ t) × (t ≤ topFaults)
   unfolding fragmentStep
   made-is server lo hi =
       let e : fragmentRefusal t server (length content) ≡ 0 =
-      fragment-tests t server (length content) false false false (ap not (within-in 1 topFaults t (faults .0) (faults .1))) (ap not (within-in 1 s server lo hi))
+      fragment-tests t server (length content) false false false (ap not (within-in 1 topFaults t (faults .0) (faults .1)))
+      (ap not (within-in 1 s server lo hi))
       (ap not (within-in leastLength topLength (length content) (bytes .0) (bytes .1))) in
       let done : FragmentOutcome = record { number = 0; count = f; bytes = fragmentBytes t server content ++ zeros (fragmentRoom - f) } in
-      ap (λ (x : ℕ). (let o : FragmentOutcome = onRefusal x done (record { number = x; count = 0; bytes = zeros fragmentRoom }) in take (o .count) (o .bytes))) e
+      ap (λ (x : ℕ). (let o : FragmentOutcome = onRefusal x done (record { number = x; count = 0; bytes = zeros fragmentRoom }) in take (o .count)
+      (o .bytes))) e
       ∙ take-at (fragmentBytes t server content) (zeros (fragmentRoom - f)) f (made-length server)
 
   module _ (servers ds output : List ℕ) (numbers : (i : ℕ) → i < length servers → (1 ≤ getD servers i 0) × (getD servers i 0 ≤ s))
@@ -95,7 +98,8 @@ module _ (t : ℕ) (content : List ℕ) (faults : (1 ≤ t) × (t ≤ topFaults)
     given-is : joined (map (madeBy t content) servers) ≡ given
     unfolding given
     given-is =
-        ap joined (map-at (madeBy t content) (λ i. fragmentBytes t i content) servers (λ i h. made-is (getD servers i 0) (numbers i h .0) (numbers i h .1)))
+        ap joined (map-at (madeBy t content) (λ i. fragmentBytes t i content) servers
+        (λ i h. made-is (getD servers i 0) (numbers i h .0) (numbers i h .1)))
 
     places : List ℕ
     places = firstDifferent k servers
@@ -129,14 +133,16 @@ module _ (t : ℕ) (content : List ℕ) (faults : (1 ≤ t) × (t ≤ topFaults)
     unfolding restoredBytes shelf places firstDifferent
     restored-is =
         ap (restored (shelf t .points) k (length content)) (parts-are places place-lt)
-        ∙ restores (shelf t .points) k content (legal-table (legal-shelf t (faults .0) (faults .1))) (omega arith) (omega (arith, upTo-length (3 * t + 1))) small (serversAt servers places) chosen-in
+        ∙ restores (shelf t .points) k content (legal-table (legal-shelf t (faults .0) (faults .1))) (omega arith)
+        (omega (arith, upTo-length (3 * t + 1))) small (serversAt servers places) chosen-in
         (distinct-of (serversAt servers places) (chosen-ordered k servers (length servers)))
         (omega (arith, enough-chosen, length-map places (λ p. getD servers p 0)))
 
     none-refused : firstOf (argumentChecks t (length content) servers (length given) (length output)) ≡ 0
     unfolding given
     none-refused =
-        argument-tests t (length content) servers (length given) (length output) false false false false false (ap not (within-in 1 topFaults t (faults .0) (faults .1)))
+        argument-tests t (length content) servers (length given) (length output) false false false false false
+        (ap not (within-in 1 topFaults t (faults .0) (faults .1)))
         (ap not (each-holds (within 1 s) servers (λ i h. within-in 1 s (getD servers i 0) (numbers i h .0) (numbers i h .1))))
         (ap not (within-in leastLength topLength (length content) (bytes .0) (bytes .1))) (le-ltb (length output) contentRoom room)
         (ap not (eq-eqb (length given) (length servers * f) (length-joined f (λ i. fragmentBytes t i content) made-length servers)))

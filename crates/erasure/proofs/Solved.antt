@@ -49,9 +49,12 @@ module _ (a out : List (List ℕ)) (p d : ℕ) (t : SystemTurned a p d out) (sma
   small-out r c hr hc = go (ℕ-discrete r p) (ℕ-discrete c p)
     where
       go : Dec (r ≡ p) → Dec (c ≡ p) → entry out r c < 256
-      go (yes e) (yes f) = subst (λ (x : ℕ). entry out x c < 256) (sym e) (subst (λ (x : ℕ). entry out p x < 256) (sym f) (subst (λ (x : ℕ). x < 256) (sym (t .pp)) dsmall))
-      go (yes e) (no nf) = subst (λ (x : ℕ). entry out x c < 256) (sym e) (subst (λ (x : ℕ). x < 256) (sym (t .pc c hc nf)) (times-lt d (entry a p c) dsmall))
-      go (no ne) (yes f) = subst (λ (x : ℕ). entry out r x < 256) (sym f) (subst (λ (x : ℕ). x < 256) (sym (t .rp r hr ne)) (times-lt (entry a r p) d (small r p hr p5)))
+      go (yes e) (yes f) = subst (λ (x : ℕ). entry out x c < 256) (sym e) (subst (λ (x : ℕ). entry out p x < 256) (sym f)
+          (subst (λ (x : ℕ). x < 256) (sym (t .pp)) dsmall))
+      go (yes e) (no nf) = subst (λ (x : ℕ). entry out x c < 256) (sym e) (subst (λ (x : ℕ). x < 256) (sym (t .pc c hc nf))
+          (times-lt d (entry a p c) dsmall))
+      go (no ne) (yes f) = subst (λ (x : ℕ). entry out r x < 256) (sym f) (subst (λ (x : ℕ). x < 256) (sym (t .rp r hr ne))
+          (times-lt (entry a r p) d (small r p hr p5)))
       go (no ne) (no nf) =
           subst (λ (x : ℕ). x < 256) (sym (t .rc r c hr hc ne nf))
           (xor-lt 8 (entry a r c) (times (times (entry a r p) d) (entry a p c)) (small r c hr hc)
@@ -68,7 +71,8 @@ module _ (a out : List (List ℕ)) (p d : ℕ) (t : SystemTurned a p d out) (sma
         ap toByte (t .rc r c (le-trans hr kw) (le-trans hc kw) ne nc)
         ∙ to-add (entry a r c) (times (times (entry a r p) d) (entry a p c)) (small r c (le-trans hr kw) (le-trans hc kw))
         (times-lt (times (entry a r p) d) (entry a p c) (times-lt (entry a r p) d sr))
-        ∙ ap (addB (mat a r c)) (to-mul (times (entry a r p) d) (entry a p c) (times-lt (entry a r p) d sr) sp ∙ ap (λ (x : Byte). mulB x (mat a p c)) (to-mul (entry a r p) d sr dsmall));
+        ∙ ap (addB (mat a r c)) (to-mul (times (entry a r p) d) (entry a p c) (times-lt (entry a r p) d sr) sp ∙ ap (λ (x : Byte). mulB x (mat a p c))
+        (to-mul (entry a r p) d sr dsmall));
   }
 
 -- an equal system is half solved alike
@@ -112,7 +116,8 @@ unfolding sumTo sum
 sum-number zero f = refl
 sum-number (suc k) f = ap (λ (b : Byte). b .0) (sum-more field laws k f) ∙ ap (λ (x : ℕ). bitXor x (f k .0)) (sum-number k f)
 
-pub tab-take : (k : ℕ) (xs : List ℕ) (f : ℕ → Byte) → k ≤ length xs → ((i : ℕ) → f i .0 ≡ getD xs i 0) → map (λ b. b .0) (tab field laws k f) ≡ take k xs
+pub tab-take : (k : ℕ) (xs : List ℕ) (f : ℕ → Byte) → k ≤ length xs → ((i : ℕ) → f i .0 ≡ getD xs i 0) → map (λ b. b .0) (tab field laws k f) ≡ take k
+    xs
 unfolding tab
 tab-take zero xs f h e = refl
 tab-take (suc k) [] f h e = absurd (not-suc-le-zero h)
@@ -141,11 +146,13 @@ solves k xs a kw kx s sa d half z hz y sy =
     ∙ sym (sum-number k (λ j. mulB (w j) (v j)))
     ∙ ap (λ (b : Byte). b .0) (sym (weights field laws k (mat a) v q) ∙ all-turned field laws k (point xs) (mat a) (different k xs s d) half v q)
     ∙ through-number (tab field laws k (point xs)) (tab field laws k v) q
-    ∙ ap₂ (λ (u t : List ℕ). through bytes u t z) (tab-take k xs (point xs) kx (λ i. to-val (getD xs i 0) (s i))) (tab-table k v y (λ i. to-val (y i) (sy i)))
+    ∙ ap₂ (λ (u t : List ℕ). through bytes u t z) (tab-take k xs (point xs) kx (λ i. to-val (getD xs i 0) (s i)))
+    (tab-table k v y (λ i. to-val (y i) (sy i)))
 
 -- the system that the code begins with
 pub begun : (k : ℕ) (xs : List ℕ) (a : List (List ℕ)) → k ≤ width → ((i : ℕ) → getD xs i 0 < 256)
-    → ((i c : ℕ) → i < width → c < width → entry a i c ≡ power (getD xs i 0) c) → (r c : ℕ) → r < k → c < k → mat a r c ≡ pow field laws (point xs r) c
+    → ((i c : ℕ) → i < width → c < width → entry a i c ≡ power (getD xs i 0) c) → (r c : ℕ) → r < k → c < k → mat a r c ≡ pow field laws (point xs r)
+    c
 begun k xs a kw s e r c hr hc =
     same (mat a r c) (pow field laws (point xs r) c)
     (ap (λ (x : ℕ). x % 256) (e r c (le-trans hr kw) (le-trans hc kw)) ∙ to-val (power (getD xs r 0) c) (power-lt (getD xs r 0) c (s r))

@@ -44,7 +44,8 @@ module _ (k : ℕ) (xs : List ℕ) (small : (i : ℕ) → getD xs i 0 < 256) whe
   unfolding directAt
   direct-number z n e j =
       ap₂ (λ (u v : ℕ). times u (inverse v)) (prod-number k (factor field laws (point xs) j z) (factorAt xs j n) (λ m _. factor-number j z n e m))
-      (prod-number k (factor field laws (point xs) j (point xs j)) (factorAt xs j (getD xs j 0)) (λ m _. factor-number j (point xs j) (getD xs j 0) (to-val (getD xs j 0) (small j)) m))
+      (prod-number k (factor field laws (point xs) j (point xs j)) (factorAt xs j (getD xs j 0))
+      (λ m _. factor-number j (point xs j) (getD xs j 0) (to-val (getD xs j 0) (small j)) m))
 
   pub direct : k ≤ length xs → AllDifferent k xs → (z : ℕ) → z < 256 → Weighs k xs (directAt k xs z) z
   direct kx d z hz y sy =
@@ -55,4 +56,5 @@ module _ (k : ℕ) (xs : List ℕ) (small : (i : ℕ) → getD xs i 0 < 256) whe
       ∙ sym (sum-number k (λ j. mulB (v j) (weightOf field laws k (point xs) q j)))
       ∙ ap (λ (b : Byte). b .0) (weighed field laws k (point xs) v q (different k xs small d))
       ∙ through-number (tab field laws k (point xs)) (tab field laws k v) q
-      ∙ ap₂ (λ (u t : List ℕ). through bytes u t z) (tab-take k xs (point xs) kx (λ i. to-val (getD xs i 0) (small i))) (tab-table k v y (λ i. to-val (y i) (sy i)))
+      ∙ ap₂ (λ (u t : List ℕ). through bytes u t z) (tab-take k xs (point xs) kx (λ i. to-val (getD xs i 0) (small i)))
+      (tab-table k v y (λ i. to-val (y i) (sy i)))

@@ -117,7 +117,8 @@ lift-distinct (x ∷ xs) s d = (lift-apart x (s .0) xs (s .1) (d .0), lift-disti
 
 -- ---- restoring, of numbers
 
-pub through-lift : (xs ys : List ℕ) (sx : Small xs) (sy : Small ys) (z : ℕ) (h : z < 256) → through field (lift xs sx) (lift ys sy) (z, h) .0 ≡ through bytes xs ys z
+pub through-lift : (xs ys : List ℕ) (sx : Small xs) (sy : Small ys) (z : ℕ) (h : z < 256) → through field (lift xs sx) (lift ys sy) (z, h) .0 ≡
+    through bytes xs ys z
 through-lift xs ys sx sy z h =
     through-number (lift xs sx) (lift ys sy) (z, h) ∙ ap₂ (λ (u v : List ℕ). through bytes u v z) (lift-map xs sx) (lift-map ys sy)
 
@@ -175,7 +176,8 @@ pub the-one : (xs ys p : List ℕ) → Small xs → Small ys → Small p → len
 the-one xs ys p sx sy sp lp ly d e z h =
     sym (eval-lift p sp z h)
     ∙ ap (λ (b : Byte). b .0)
-    (through-is field laws (lift xs sx) (lift ys sy) (lift p sp) nilB (lift-length p sp ∙ lp ∙ sym (lift-length xs sx)) (lift-length ys sy ∙ ly ∙ sym (lift-length xs sx))
+    (through-is field laws (lift xs sx) (lift ys sy) (lift p sp) nilB (lift-length p sp ∙ lp ∙ sym (lift-length xs sx))
+    (lift-length ys sy ∙ ly ∙ sym (lift-length xs sx))
     (lift-distinct xs sx d)
     (λ i b.
     let x : Byte = getD (lift xs sx) i nilB in
@@ -193,5 +195,6 @@ there-is xs ys sx sy =
       map (λ b. b .0) q,
       length-map q (λ b. b .0) ∙ length-throughC field laws (lift xs sx) (lift ys sy) ∙ lift-length xs sx,
       numbers-small q,
-      λ z h. sym (eval-number q (z, h)) ∙ ap (λ (b : Byte). b .0) (throughC-eval field laws (lift xs sx) (lift ys sy) (z, h)) ∙ through-lift xs ys sx sy z h,
+      λ z h. sym (eval-number q (z, h)) ∙ ap (λ (b : Byte). b .0) (throughC-eval field laws (lift xs sx) (lift ys sy) (z, h)) ∙ through-lift xs ys sx
+          sy z h,
     )

@@ -67,7 +67,8 @@ left (suc n) a q b h = step (left n (xtime a) (bitXor (a / 128) (q * 2)) (b / 2)
         let r = l .0 in
         let e = l .1 in (
           bitXor (b % 2 * q) r,
-          ap₂ bitXor (bit-xor (b % 2) a (m q) (bit b) ∙ ap (bitXor (b % 2 * a)) (sym (bit-through (λ x. product 9 x 0x11b) (product-nil 9 0x11b) (b % 2) q (bit b))))
+          ap₂ bitXor (bit-xor (b % 2) a (m q) (bit b) ∙ ap (bitXor (b % 2 * a)) (sym
+              (bit-through (λ x. product 9 x 0x11b) (product-nil 9 0x11b) (b % 2) q (bit b))))
               (ap (λ (x : ℕ). product n x (b / 2)) twice ∙ e)
               ∙ xor-swap (b % 2 * a) (m (b % 2 * q)) (timesBits n (xtime a) (b / 2)) (m r)
               ∙ ap (bitXor (timesBits (suc n) a b)) (sym (product-xor 9 (b % 2 * q) r 0x11b)),
@@ -77,7 +78,12 @@ pub times-remainder : (a b : ℕ) → a < 256 → Remainder a b (times a b)
 unfolding times multipleOf
 times-remainder a b h =
     let l = left 8 a 0 b h in
-    record { small = times-lt a b h; multiple = l .0; equal = ap (λ (x : ℕ). product 8 x b) (sym (ap (bitXor a) (product-nil 9 0x11b) ∙ xor-zero-r a)) ∙ l .1 }
+    record {
+      small = times-lt a b h;
+      multiple = l .0;
+      equal = ap (λ (x : ℕ). product 8 x b) (sym (ap (bitXor a) (product-nil 9 0x11b) ∙ xor-zero-r a))
+          ∙ l .1;
+    }
 
 -- ---- and there is but one remainder: a multiple of 11Bh that is not 0 has degree 8 or more
 
@@ -102,7 +108,8 @@ product-last zero a b =
 product-last (suc n) a b =
     ap (bitXor (b % 2 * a)) (product-last n (a * 2) (b / 2))
     ∙ sym (xor-assoc (b % 2 * a) (product n (a * 2) (b / 2)) (b / 2 / 2 ^ n % 2 * (a * 2 * 2 ^ n)))
-    ∙ ap₂ (λ (x y : ℕ). bitXor (bitXor (b % 2 * a) (product n (a * 2) (b / 2))) (x % 2 * y)) (div-div-eq-div-mul b 2 (2 ^ n) ∙ ap (λ (x : ℕ). b / x) (sym (pow-succ' 2 n)))
+    ∙ ap₂ (λ (x y : ℕ). bitXor (bitXor (b % 2 * a) (product n (a * 2) (b / 2))) (x % 2 * y))
+    (div-div-eq-div-mul b 2 (2 ^ n) ∙ ap (λ (x : ℕ). b / x) (sym (pow-succ' 2 n)))
     (mul-assoc a 2 (2 ^ n) ∙ ap (λ (x : ℕ). a * x) (sym (pow-succ' 2 n)))
 
 xor-eq : (a b : ℕ) → bitXor a b ≡ 0 → a ≡ b
@@ -121,7 +128,8 @@ unfolding multipleOf
 high q h =
     let low : ℕ = product 8 q 0x11b in
     let split : product 9 q 0x11b ≡ bitXor low (1 * (q * 256)) = product-last 8 q 0x11b in
-    let top : bitXor (low / 256) (1 * (q * 256) / 256) ≡ 0 = sym (xor-shr low (1 * (q * 256)) 8) ∙ ap (λ (x : ℕ). x / 256) (sym split) ∙ omega arith in
+    let top : bitXor (low / 256) (1 * (q * 256) / 256) ≡ 0 = sym (xor-shr low (1 * (q * 256)) 8) ∙ ap (λ (x : ℕ). x / 256) (sym split) ∙ omega
+    arith in
     let same : low / 256 ≡ 1 * (q * 256) / 256 = xor-eq (low / 256) (1 * (q * 256) / 256) top in
     omega (arith, same, low-le q)
 
@@ -132,7 +140,8 @@ remainder-unique a b c d r s =
     let n : ℕ = product 9 (s .multiple) 0x11b in
     let both : bitXor (bitXor c d) (bitXor m n) ≡ 0 =
     xor-swap c d m n ∙ ap₂ bitXor (sym (r .equal)) (sym (s .equal)) ∙ xor-self (product 8 a b) in
-    let sum : bitXor c d ≡ multipleOf (bitXor (r .multiple) (s .multiple)) = xor-eq (bitXor c d) (bitXor m n) both ∙ sym (product-xor 9 (r .multiple) (s .multiple) 0x11b) in
+    let sum : bitXor c d ≡ multipleOf (bitXor (r .multiple) (s .multiple)) = xor-eq (bitXor c d) (bitXor m n) both ∙ sym
+    (product-xor 9 (r .multiple) (s .multiple) 0x11b) in
     let none : bitXor (r .multiple) (s .multiple) ≡ 0 =
     high (bitXor (r .multiple) (s .multiple)) (subst (λ (x : ℕ). x < 256) sum (xor-lt 8 c d (r .small) (s .small))) in
     xor-eq c d (sum ∙ ap (λ (q : ℕ). product 9 q 0x11b) none ∙ product-nil 9 0x11b)

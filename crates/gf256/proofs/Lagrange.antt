@@ -58,7 +58,8 @@ module _ (O : Ops) (L : Field.Laws O) where
   others-ne (x ∷ xs) zero d h = Through.vanish-ne O L x xs (d .0)
   others-ne (x ∷ xs) (suc j) d h = λ e.
       others-ne xs j (d .1) (le-of-suc-le-suc h)
-      (Field.factor-nil O L (getD xs j 0# ⊕ x) _ (λ q. apart-at 0# x xs (d .0) j (le-of-suc-le-suc h) (sym (Field.eq-of-sum O L (getD xs j 0#) x q))) e)
+      (Field.factor-nil O L (getD xs j 0# ⊕ x) _ (λ q. apart-at 0# x xs (d .0) j (le-of-suc-le-suc h) (sym (Field.eq-of-sum O L (getD xs j 0#) x q)))
+      e)
 
   -- what the value at the j-th point counts for at z
   weight : List F → ℕ → F → F
@@ -75,7 +76,8 @@ module _ (O : Ops) (L : Field.Laws O) where
   -- the coefficients of the sum
   sumC : List F → (ℕ → F) → ℕ → List F
   sumC xs v zero = []
-  sumC xs v (suc n) = Roots.plus O L (sumC xs v n) (Coefficients.scale O L (v n ⊗ inv (others xs n (getD xs n 0#))) (Coefficients.vanishC O L (omit n xs)))
+  sumC xs v (suc n) = Roots.plus O L (sumC xs v n) (Coefficients.scale O L (v n ⊗ inv (others xs n (getD xs n 0#)))
+      (Coefficients.vanishC O L (omit n xs)))
 
   length-term : (xs : List F) (a : F) (n : ℕ) → n < length xs → length (Coefficients.scale O L a (Coefficients.vanishC O L (omit n xs))) ≡ length xs
   length-term xs a n h = Coefficients.length-scale O L a _ ∙ Coefficients.length-vanishC O L (omit n xs) ∙ length-omit n xs h
@@ -144,7 +146,8 @@ module _ (O : Ops) (L : Field.Laws O) where
   others-prod (suc n) x (suc j) z h =
       ap₂ (λ s t. s ⊗ t) (sym (ap (λ t. cond t 1# (z ⊕ x 0)) (eqb·zero-suc j)))
       (others-prod n (λ i. x (suc i)) j z (le-of-suc-le-suc h)
-      ∙ prod-ext n (factor (λ i. x (suc i)) j z) (λ m. factor x (suc j) z (suc m)) (λ m b. sym (ap (λ t. cond t 1# (z ⊕ x (suc m))) (eqb·suc-suc m j))))
+      ∙ prod-ext n (factor (λ i. x (suc i)) j z) (λ m. factor x (suc j) z (suc m)) (λ m b. sym
+      (ap (λ t. cond t 1# (z ⊕ x (suc m))) (eqb·suc-suc m j))))
       ∙ sym (prod-first n (factor x (suc j) z))
 
   -- the weight of the j-th of k points

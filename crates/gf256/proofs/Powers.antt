@@ -137,11 +137,13 @@ module _ (O : Ops) (L : Laws O) where
     pivot e =
         one-ne-nil
         (sym known-p ∙ sym (lead-tab p known)
-        ∙ lead-nil O L (tab (suc p) x) (known 0) (tab p (λ i. known (suc i))) (ap suc (length-tab p (λ i. known (suc i))) ∙ sym (length-tab (suc p) x))
+        ∙ lead-nil O L (tab (suc p) x) (known 0) (tab p (λ i. known (suc i))) (ap suc (length-tab p (λ i. known (suc i))) ∙ sym
+        (length-tab (suc p) x))
         (distinct-tab (suc p) x (λ i j bi bj ne. diff i j (omega arith) (omega arith) ne))
         (roots-tab (tab (suc p) known) (suc p) x
         (λ i b. eval-tab (suc p) known (x i)
-        ∙ sym (sum-short O L (suc p) k (λ c. pow (x i) c ⊗ known c) small (λ c hc bc. ap (λ s. pow (x i) c ⊗ s) (known-late c hc) ∙ mul-nil O L (pow (x i) c)))
+        ∙ sym (sum-short O L (suc p) k (λ c. pow (x i) c ⊗ known c) small (λ c hc bc. ap (λ s. pow (x i) c ⊗ s) (known-late c hc) ∙ mul-nil O L
+        (pow (x i) c)))
         ∙ sym (system i (omega arith)) ∙ given-nil e i b (ℕ-discrete i p))))
 
   -- ---- the solved system
@@ -151,7 +153,8 @@ module _ (O : Ops) (L : Laws O) where
       → (v : ℕ → F) (z : F) → sum O L k (λ c. pow z c ⊗ row O L k m v c) ≡ through O (tab k x) (tab k v) z
   all-turned k x m diff half v z =
       sym (eval-tab k (row O L k m v) z)
-      ∙ through-is O L (tab k x) (tab k v) (tab k (row O L k m v)) 0# (length-tab k (row O L k m v) ∙ sym (length-tab k x)) (length-tab k v ∙ sym (length-tab k x))
+      ∙ through-is O L (tab k x) (tab k v) (tab k (row O L k m v)) 0# (length-tab k (row O L k m v) ∙ sym (length-tab k x))
+      (length-tab k v ∙ sym (length-tab k x))
       (distinct-tab k x diff)
       (λ i b.
       let b′ : i < k = subst (λ (n : ℕ). i < n) (length-tab k x) b in
@@ -159,10 +162,12 @@ module _ (O : Ops) (L : Laws O) where
       ∙ sym (half v (row O L k m v) v (λ c _. refl) (λ c h b. absurd (omega arith)) (λ r _. refl) (λ r h b. absurd (omega arith)) i b′)
       ∙ sym (getD-tab k v i 0# b′)) z
 
-  pub weights : (k : ℕ) (m : ℕ → ℕ → F) (v : ℕ → F) (z : F) → sum O L k (λ c. pow z c ⊗ row O L k m v c) ≡ sum O L k (λ j. sum O L k (λ c. pow z c ⊗ m c j) ⊗ v j)
+  pub weights : (k : ℕ) (m : ℕ → ℕ → F) (v : ℕ → F) (z : F) → sum O L k (λ c. pow z c ⊗ row O L k m v c) ≡ sum O L k
+      (λ j. sum O L k (λ c. pow z c ⊗ m c j) ⊗ v j)
   weights k m v z =
       sum-ext O L k (λ c. pow z c ⊗ row O L k m v c) (λ c. sum O L k (λ j. (pow z c ⊗ m c j) ⊗ v j))
-      (λ c b. sym (sum-mul O L k (pow z c) (λ j. m c j ⊗ v j)) ∙ sum-ext O L k (λ j. pow z c ⊗ (m c j ⊗ v j)) (λ j. (pow z c ⊗ m c j) ⊗ v j) (λ j bj. sym (mul-assoc (pow z c) (m c j) (v j))))
+      (λ c b. sym (sum-mul O L k (pow z c) (λ j. m c j ⊗ v j)) ∙ sum-ext O L k (λ j. pow z c ⊗ (m c j ⊗ v j)) (λ j. (pow z c ⊗ m c j) ⊗ v j)
+      (λ j bj. sym (mul-assoc (pow z c) (m c j) (v j))))
       ∙ sum-swap O L k k (λ c j. (pow z c ⊗ m c j) ⊗ v j)
       ∙ sum-ext O L k (λ j. sum O L k (λ c. (pow z c ⊗ m c j) ⊗ v j)) (λ j. sum O L k (λ c. pow z c ⊗ m c j) ⊗ v j)
       (λ j b. sum-ext O L k (λ c. (pow z c ⊗ m c j) ⊗ v j) (λ c. v j ⊗ (pow z c ⊗ m c j)) (λ c bc. mul-comm (pow z c ⊗ m c j) (v j))

@@ -115,7 +115,8 @@ module _ (O : Ops) (L : Laws O) where
   agree-roots p q [] a = tt
   agree-roots p q (x ∷ xs) a = (plus-eval p q x ∙ sum-of-eq O L (eval O p x) (eval O q x) (a .0), agree-roots p q xs (a .1))
 
-  pub agree-everywhere : (xs p q : List F) → length p ≡ length xs → length q ≡ length xs → Distinct xs → Agree p q xs → (z : F) → eval O p z ≡ eval O q z
+  pub agree-everywhere : (xs p q : List F) → length p ≡ length xs → length q ≡ length xs → Distinct xs → Agree p q xs → (z : F) → eval O p z ≡ eval O
+      q z
   agree-everywhere xs p q lp lq d a z =
       eq-of-sum O L (eval O p z) (eval O q z)
       (sym (plus-eval p q z) ∙ roots-nil xs (plus p q) (length-plus p q (length xs) lp lq) d (agree-roots p q xs a) z)

@@ -29,7 +29,8 @@ module _ (O : Ops) (L : Laws O) where
   unfolding sum
   sum-add zero f g = sym (nil-add 0#)
   sum-add (suc n) f g =
-      ap (λ t. (f 0 ⊕ g 0) ⊕ t) (sum-add n (λ i. f (suc i)) (λ i. g (suc i))) ∙ swap4 O L (f 0) (g 0) (sum n (λ i. f (suc i))) (sum n (λ i. g (suc i)))
+      ap (λ t. (f 0 ⊕ g 0) ⊕ t) (sum-add n (λ i. f (suc i)) (λ i. g (suc i))) ∙ swap4 O L (f 0) (g 0) (sum n (λ i. f (suc i)))
+      (sum n (λ i. g (suc i)))
 
   pub sum-mul : (n : ℕ) (a : F) (f : ℕ → F) → sum n (λ i. a ⊗ f i) ≡ a ⊗ sum n f
   unfolding sum
@@ -53,7 +54,8 @@ module _ (O : Ops) (L : Laws O) where
   unfolding sum
   sum-short zero zero f h z = refl
   sum-short zero (suc k) f h z =
-      ap₂ (λ s t. s ⊕ t) (z 0 zero-le (zero-lt-suc k)) (sum-short zero k (λ i. f (suc i)) zero-le (λ c _ b. z (suc c) zero-le (suc-le-suc b))) ∙ nil-add 0#
+      ap₂ (λ s t. s ⊕ t) (z 0 zero-le (zero-lt-suc k)) (sum-short zero k (λ i. f (suc i)) zero-le (λ c _ b. z (suc c) zero-le (suc-le-suc b))) ∙
+      nil-add 0#
   sum-short (suc n) zero f h z = absurd (not-suc-le-zero h)
   sum-short (suc n) (suc k) f h z =
       ap (λ t. f 0 ⊕ t) (sum-short n k (λ i. f (suc i)) (le-of-suc-le-suc h) (λ c hc b. z (suc c) (suc-le-suc hc) (suc-le-suc b)))
@@ -92,7 +94,8 @@ module _ (O : Ops) (L : Laws O) where
   rest-add zero p f g = sym (nil-add 0#)
   rest-add (suc n) zero f g = sum-add n (λ i. f (suc i)) (λ i. g (suc i))
   rest-add (suc n) (suc p) f g =
-      ap (λ t. (f 0 ⊕ g 0) ⊕ t) (rest-add n p (λ i. f (suc i)) (λ i. g (suc i))) ∙ swap4 O L (f 0) (g 0) (rest n p (λ i. f (suc i))) (rest n p (λ i. g (suc i)))
+      ap (λ t. (f 0 ⊕ g 0) ⊕ t) (rest-add n p (λ i. f (suc i)) (λ i. g (suc i))) ∙ swap4 O L (f 0) (g 0) (rest n p (λ i. f (suc i)))
+      (rest n p (λ i. g (suc i)))
 
   pub rest-mul : (n p : ℕ) (a : F) (f : ℕ → F) → rest n p (λ i. a ⊗ f i) ≡ a ⊗ rest n p f
   unfolding rest

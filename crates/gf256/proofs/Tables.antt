@@ -102,7 +102,8 @@ logs-at k h =
 
 pub power-add : (a i j : ℕ) → a < 256 → power a (i + j) ≡ times (power a i) (power a j)
 unfolding power
-power-add a i zero h = ap (power a) (add-zero i) ∙ sym (times-comm (power a i) 1 (power-lt a i h) (omega arith) ∙ one-times (power a i) (power-lt a i h))
+power-add a i zero h = ap (power a) (add-zero i) ∙ sym (times-comm (power a i) 1 (power-lt a i h) (omega arith) ∙ one-times (power a i)
+    (power-lt a i h))
 power-add a i (suc j) h =
     ap (power a) (add-suc i j) ∙ ap (λ (x : ℕ). times x a) (power-add a i j h)
     ∙ times-assoc (power a i) (power a j) a (power-lt a i h) (power-lt a j h) h
@@ -125,7 +126,8 @@ pub power-mod : (n : ℕ) → power 3 (n % 255) ≡ power 3 n
 power-mod n =
     sym (ap (power 3) (omega arith)
     ∙ power-add 3 (255 * (n / 255)) (n % 255) (omega arith)
-    ∙ ap (λ (x : ℕ). times x (power 3 (n % 255))) (power-mul 3 255 (n / 255) (omega arith) ∙ ap (λ (x : ℕ). power x (n / 255)) power-round ∙ power-one (n / 255))
+    ∙ ap (λ (x : ℕ). times x (power 3 (n % 255))) (power-mul 3 255 (n / 255) (omega arith) ∙ ap (λ (x : ℕ). power x (n / 255)) power-round ∙ power-one
+    (n / 255))
     ∙ one-times (power 3 (n % 255)) (power-lt 3 (n % 255) (omega arith)))
 
 -- ---- inverses

@@ -92,7 +92,8 @@ module _ (O : Ops) (L : Laws O) where
   -- ---- the only one
 
   -- the one polynomial: whatever has as many coefficients as there are points, and takes f's values there
-  pub through-unique : (f : F → F) (xs p : List F) → length p ≡ length xs → Distinct xs → Each (λ z. eval O p z ≡ f z) xs → (z : F) → eval O p z ≡ through O xs (map f xs) z
+  pub through-unique : (f : F → F) (xs p : List F) → length p ≡ length xs → Distinct xs → Each (λ z. eval O p z ≡ f z) xs → (z : F) → eval O p z ≡
+      through O xs (map f xs) z
   through-unique f xs p l d e z =
       agree-everywhere O L xs p (throughC O L xs (map f xs)) l (length-throughC O L xs (map f xs)) d
       (each-agree p (throughC O L xs (map f xs)) xs
@@ -101,14 +102,16 @@ module _ (O : Ops) (L : Laws O) where
       ∙ throughC-eval O L xs (map f xs) z
 
   -- values of one polynomial at as many other points give it back: what restoring rests on
-  pub through-again : (ps rs xs : List F) → length xs ≡ length ps → Distinct xs → (z : F) → through O xs (map (through O ps rs) xs) z ≡ through O ps rs z
+  pub through-again : (ps rs xs : List F) → length xs ≡ length ps → Distinct xs → (z : F) → through O xs (map (through O ps rs) xs) z ≡ through O ps
+      rs z
   through-again ps rs xs l d z =
       sym (through-unique (through O ps rs) xs (throughC O L ps rs) (length-throughC O L ps rs ∙ sym l) d
       (each-all (λ y. eval O (throughC O L ps rs) y ≡ through O ps rs y) (throughC-eval O L ps rs) xs) z)
       ∙ throughC-eval O L ps rs z
 
   -- at the i-th point it has the i-th value
-  pub through-at : (xs ys : List F) (e : F) → length ys ≡ length xs → Distinct xs → (i : ℕ) → i < length xs → through O xs ys (getD xs i e) ≡ getD ys i e
+  pub through-at : (xs ys : List F) (e : F) → length ys ≡ length xs → Distinct xs → (i : ℕ) → i < length xs → through O xs ys (getD xs i e) ≡ getD ys
+      i e
   through-at [] ys e l d i b = absurd (not-suc-le-zero b)
   through-at (x ∷ xs) [] e l d i b = absurd (suc-ne-zero (length xs) (sym l))
   through-at (x ∷ xs) (y ∷ ys) e l d zero b = through-here x xs y ys (d .0)

@@ -51,11 +51,13 @@ take-other l i k ne = go (decLt k i)
         List·getD-eq-default (take (i + 1) l) 0 (omega (arith, length-take (i + 1) l))
         ∙ sym (List·getD-eq-default (take i l) 0 (omega (arith, length-take i l)))
 
-pub masked-more : (key out : List ℕ) (x i : ℕ) → i < 64 → out ≡ maskedOf (take i key) x → set out i (bitXor (getD key i 0) x) ≡ maskedOf (take (i + 1) key) x
+pub masked-more : (key out : List ℕ) (x i : ℕ) → i < 64 → out ≡ maskedOf (take i key) x → set out i (bitXor (getD key i 0) x) ≡ maskedOf
+    (take (i + 1) key) x
 unfolding maskedOf
 masked-more key out x i h e =
     ap (λ (l : List ℕ). set l i y) e
-    ∙ ext-getD 0 (set (tab 64 f) i y) (tab 64 g) (length-set (tab 64 f) i y ∙ tab-length 64 f ∙ sym (tab-length 64 g)) (λ k l. go k (at k l) (ℕ-discrete k i))
+    ∙ ext-getD 0 (set (tab 64 f) i y) (tab 64 g) (length-set (tab 64 f) i y ∙ tab-length 64 f ∙ sym (tab-length 64 g))
+    (λ k l. go k (at k l) (ℕ-discrete k i))
   where
     f : ℕ → ℕ
     f k = bitXor (getD (take i key) k 0) x

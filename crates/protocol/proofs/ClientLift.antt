@@ -29,7 +29,11 @@ pub past : (n k : ℕ) → k < 7 → eqb (suc (suc (suc (suc (suc (suc (suc n)))
 past n k h = ne-eqb _ k (λ e. omega arith)
 
 pub out-of-rounds : (n : ℕ) → within 1 6 (suc (suc (suc (suc (suc (suc (suc n))))))) ≡ false
-out-of-rounds n = rw (lt-leb (suc (suc (suc (suc (suc (suc (suc n))))))) 6 (omega arith), le-leb 1 (suc (suc (suc (suc (suc (suc (suc n))))))) (omega arith))
+out-of-rounds n = rw (
+  lt-leb (suc (suc (suc (suc (suc (suc (suc n))))))) 6 (omega arith),
+  le-leb 1 (suc (suc (suc (suc (suc (suc (suc n)))))))
+      (omega arith),
+)
 
 -- no call is in hand in any other round
 pub hand-past : (s : Config) (n : ℕ) (c : Call) (kept : List ℕ) → handOf s (suc (suc (suc (suc (suc (suc (suc n))))))) c kept ≡ idle
@@ -97,7 +101,8 @@ fresh-sound s r c kept e k =
     }
 
 -- a content at the start is what the view reads there
-pub content-read : (c : Call) (kept content : List ℕ) → c .length ≡ length content → length content ≤ topLength → part kept 0 (length content) ≡ content
+pub content-read : (c : Call) (kept content : List ℕ) → c .length ≡ length content → length content ≤ topLength → part kept 0 (length content) ≡
+    content
     → contentOf c kept ≡ content
 unfolding contentOf
 content-read c kept content e l p = rw (e, le-leb (length content) topLength l) p
@@ -106,7 +111,8 @@ module _ (s : Config) (c : Call) (kept : List ℕ) (h : Sound s c kept) where
   -- begin a write
   pub write-begun : (content nonce : List ℕ) → length content ≤ topLength → length nonce ≡ nonceSize
       → Lifted s (begun (view s c kept) (clocking content nonce (c .last)))
-      (record { number = suc (c .number); last = c .last; high = c .last; length = length content; tally = fresh 1 }) (put (put kept 0 content) nonceAt nonce)
+      (record { number = suc (c .number); last = c .last; high = c .last; length = length content; tally = fresh 1 })
+      (put (put kept 0 content) nonceAt nonce)
   unfolding view handOf nonceOf fresh begun
   write-begun content nonce small l =
       let k : List ℕ = put kept 0 content in

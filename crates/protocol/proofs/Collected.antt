@@ -54,15 +54,23 @@ module _ (s : Config) (f : Fitting s) (c : Call) (kept : List ℕ) (h : Sound s 
       hand = (λ i. handOf s (round-same s f c kept h b lo hi new e i) (withTally c (noted (c .tally) b)) K) ∙ ap collecting collected
 
   -- the last reply: filter begins
-  collect-ends : Lifted s (onto (view s c kept) nobody (filtering (gather (upd (candidatesIn s kept) b d) (s .servers)) (λ i. noHeld))) (withTally c (fresh 5)) K
+  collect-ends : Lifted s (onto (view s c kept) nobody (filtering (gather (upd (candidatesIn s kept) b d) (s .servers)) (λ i. noHeld)))
+      (withTally c (fresh 5)) K
   unfolding view handOf fresh onto
   collect-ends =
       record {
-        seen = λ i. record { calls = c .number; last = c .last; marks = marked-fresh i; hand = filtering (gather (collected i) (s .servers)) (replies-fresh s K i) };
+        seen = λ i. record {
+          calls = c .number;
+          last = c .last;
+          marks = marked-fresh i;
+          hand = filtering (gather (collected i) (s .servers))
+              (replies-fresh s K i);
+        };
         sound = fresh-sound s 5 _ K (unfold fresh in refl) collected-size;
       }
 
-pub collect-turn : (P : Primitives) (s : Config) (f : Fitting s) (client : ℕ) (writers : List ℕ) (keys : ByServer (List ℕ)) (c : Call) (kept output : List ℕ)
+pub collect-turn : (P : Primitives) (s : Config) (f : Fitting s) (client : ℕ) (writers : List ℕ) (keys : ByServer (List ℕ)) (c : Call)
+    (kept output : List ℕ)
     (h : Sound s c kept) (b : ℕ) (lo : 1 ≤ b) (hi : b ≤ s .servers) (new : marked (c .tally .marks) b ≡ false)
     → (q : Bool) → c .tally .round ≡ 4 → (x : Body) → CandidateLengths s (candidateIn s x)
     → Turned s (update P s client writers keys (view s c kept) b x (M s f c kept h b lo hi new) q (collecting (candidatesIn s kept)))

@@ -51,7 +51,11 @@ pub stamp-same : (a b : Stamp) → sameStamp a b ≡ true → a ≡ b
 unfolding sameStamp
 stamp-same a b e =
     let (n, w, t) = and-on3 _ _ _ e in
-    λ i. record { number = eqb-true (a .number) (b .number) n i; writer = eqb-true (a .writer) (b .writer) w i; tag = same-true (a .tag) (b .tag) t i }
+    λ i. record {
+      number = eqb-true (a .number) (b .number) n i;
+      writer = eqb-true (a .writer) (b .writer) w i;
+      tag = same-true (a .tag) (b .tag) t i;
+    }
 
 pub stamp-refl : (a : Stamp) → sameStamp a a ≡ true
 unfolding sameStamp
@@ -61,7 +65,11 @@ pub candidate-same : (a b : Candidate) → sameCandidate a b ≡ true → a ≡ 
 unfolding sameCandidate
 candidate-same a b e =
     let (s, n, t) = and-on3 _ _ _ e in
-    λ i. record { stamp = stamp-same (a .stamp) (b .stamp) s i; nonce = same-true (a .nonce) (b .nonce) n i; tags = same-true (a .tags) (b .tags) t i }
+    λ i. record {
+      stamp = stamp-same (a .stamp) (b .stamp) s i;
+      nonce = same-true (a .nonce) (b .nonce) n i;
+      tags = same-true (a .tags) (b .tags) t i;
+    }
 
 pub candidate-refl : (a : Candidate) → sameCandidate a a ≡ true
 unfolding sameCandidate

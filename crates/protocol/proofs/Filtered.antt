@@ -32,8 +32,10 @@ use Rattle.protocol.proofs.ClientLift.{Sound, Lifted, fresh-sound, cont
 use Rattle.protocol.proofs.Turns.{Turned, turned-cond, chosen-read, M, marks-now, noted-sound, round-same}
 
 -- the round ends: k are the bytes with the last reply
-module _ (P : Primitives) (law : Lengths P) (s : Config) (f : Fitting s) (client : ℕ) (writers : List ℕ) (keys : ByServer (List ℕ)) (c : Call) (kept output : List ℕ)
-    (h : Sound s c kept) (b : ℕ) (lo : 1 ≤ b) (hi : b ≤ s .servers) (new : marked (c .tally .marks) b ≡ false) (k : List ℕ) (size : length k ≡ keptSize) where
+module _ (P : Primitives) (law : Lengths P) (s : Config) (f : Fitting s) (client : ℕ) (writers : List ℕ) (keys : ByServer (List ℕ)) (c : Call)
+    (kept output : List ℕ)
+    (h : Sound s c kept) (b : ℕ) (lo : 1 ≤ b) (hi : b ≤ s .servers) (new : marked (c .tally .marks) b ≡ false) (k : List ℕ)
+    (size : length k ≡ keptSize) where
   sound-k : Sound s c k
   sound-k = record { size = size; width = h .width; counted = h .counted }
 
@@ -78,7 +80,8 @@ module _ (P : Primitives) (law : Lengths P) (s : Config) (f : Fitting s) (client
 
   more-lift : c .tally .round ≡ 5
       → Lifted s
-      (onto (view s c kept) (marked (noted (c .tally) b .marks)) (filtering (gather (candidatesIn s k) (s .servers)) (repliesIn s (noted (c .tally) b .marks) k)))
+      (onto (view s c kept) (marked (noted (c .tally) b .marks)) (filtering (gather (candidatesIn s k) (s .servers))
+      (repliesIn s (noted (c .tally) b .marks) k)))
       (withTally c (noted (c .tally) b)) k
   unfolding view onto handOf
   more-lift e =
@@ -111,7 +114,8 @@ module _ (P : Primitives) (law : Lengths P) (s : Config) (f : Fitting s) (client
 
 -- ---- a reply of server b
 
-module _ (P : Primitives) (law : Lengths P) (s : Config) (f : Fitting s) (client : ℕ) (writers : List ℕ) (keys : ByServer (List ℕ)) (c : Call) (kept output : List ℕ)
+module _ (P : Primitives) (law : Lengths P) (s : Config) (f : Fitting s) (client : ℕ) (writers : List ℕ) (keys : ByServer (List ℕ)) (c : Call)
+    (kept output : List ℕ)
     (h : Sound s c kept) (b : ℕ) (lo : 1 ≤ b) (hi : b ≤ s .servers) (new : marked (c .tally .marks) b ≡ false) (y : Held) (ok : heldF s .Ok y) where
   -- the bytes with this reply
   abbrev K : List ℕ
@@ -126,13 +130,15 @@ module _ (P : Primitives) (law : Lengths P) (s : Config) (f : Fitting s) (client
 
   slots-now : candidatesIn s K ≡ candidatesIn s kept
   slots-now =
-      slots-past s (f .few) kept (h .size) (repliesAt + replySlot * (b - 1)) (heldF s .print y) (omega arith) (omega (arith, held-room s f y ok, f .few, hi))
+      slots-past s (f .few) kept (h .size) (repliesAt + replySlot * (b - 1)) (heldF s .print y) (omega arith)
+      (omega (arith, held-room s f y ok, f .few, hi))
 
   replies-now : repliesIn s (noted (c .tally) b .marks) K ≡ upd old b y
   unfolding noted
   replies-now =
       let u : suc (b - 1) ≡ b = omega arith in
-      replies-put s (f .few) kept (h .size) (c .tally .marks) (b - 1) y (omega (arith, hi, f .few)) (h .width) (held-lengths s y ok) (held-room s f y ok)
+      replies-put s (f .few) kept (h .size) (c .tally .marks) (b - 1) y (omega (arith, hi, f .few)) (h .width) (held-lengths s y ok)
+      (held-room s f y ok)
       ∙ ap (λ (n : ℕ). upd old n y) u
 
   marks-then : marked (noted (c .tally) b .marks) ≡ M s f c kept h b lo hi new
@@ -147,7 +153,8 @@ module _ (P : Primitives) (law : Lengths P) (s : Config) (f : Fitting s) (client
       (more-lift P law s f client writers keys c kept output h b lo hi new K size-now e)
 
   filter-ends : c .tally .round ≡ 5 → All (candidateF s .Ok) (gather (candidatesIn s kept) (s .servers)) → ((i : ℕ) → heldF s .Ok (upd old b y i))
-      → let m = marked (noted (c .tally) b .marks) in let g = repliesIn s (noted (c .tally) b .marks) K in let l = gather (candidatesIn s K) (s .servers) in
+      → let m = marked (noted (c .tally) b .marks) in let g = repliesIn s (noted (c .tally) b .marks) K in let l = gather (candidatesIn s K)
+      (s .servers) in
       let M' = M s f c kept h b lo hi new in let g' = upd old b y in let l' = gather (candidatesIn s kept) (s .servers) in
       Turned s (judge P s client writers keys (view s c kept) M' l' g' (live P s M' g' l') (choice P s M' g' l'))
       (judgeIn P s client writers keys c kept output (withTally c (noted (c .tally) b)) m g K (live P s m g l) (choice P s m g l))
@@ -157,13 +164,17 @@ module _ (P : Primitives) (law : Lengths P) (s : Config) (f : Fitting s) (client
       let l : List Candidate = gather (candidatesIn s K) (s .servers) in
       let q' : (i : ℕ) → heldF s .Ok (g i) = subst (λ (z : ByServer Held). (i : ℕ) → heldF s .Ok (z i)) (sym replies-now) q in
       let cs' : All (candidateF s .Ok) l = subst (λ (z : ByServer Candidate). All (candidateF s .Ok) (gather z (s .servers))) (sym slots-now) cs in
-      subst (λ (u : Turn). Turned s u (judgeIn P s client writers keys c kept output (withTally c (noted (c .tally) b)) m g K (live P s m g l) (choice P s m g l)))
+      subst (λ (u : Turn). Turned s u (judgeIn P s client writers keys c kept output (withTally c (noted (c .tally) b)) m g K (live P s m g l)
+      (choice P s m g l)))
       (λ i.
       judge P s client writers keys (view s c kept) (marks-then i) (gather (slots-now i) (s .servers)) (replies-now i)
-      (live P s (marks-then i) (replies-now i) (gather (slots-now i) (s .servers))) (choice P s (marks-then i) (replies-now i) (gather (slots-now i) (s .servers))))
-      (judge-turn P law s f client writers keys c kept output h b lo hi new K size-now e (live P s m g l) (choice P s m g l) (choice-ok P law s m g q' l cs') q')
+      (live P s (marks-then i) (replies-now i) (gather (slots-now i) (s .servers)))
+      (choice P s (marks-then i) (replies-now i) (gather (slots-now i) (s .servers))))
+      (judge-turn P law s f client writers keys c kept output h b lo hi new K size-now e (live P s m g l) (choice P s m g l)
+      (choice-ok P law s m g q' l cs') q')
 
-pub filter-turn : (P : Primitives) (law : Lengths P) (s : Config) (f : Fitting s) (client : ℕ) (writers : List ℕ) (keys : ByServer (List ℕ)) (c : Call) (kept output : List ℕ)
+pub filter-turn : (P : Primitives) (law : Lengths P) (s : Config) (f : Fitting s) (client : ℕ) (writers : List ℕ) (keys : ByServer (List ℕ))
+    (c : Call) (kept output : List ℕ)
     (h : Sound s c kept) (b : ℕ) (lo : 1 ≤ b) (hi : b ≤ s .servers) (new : marked (c .tally .marks) b ≡ false)
     → (q : Bool) → c .tally .round ≡ 5 → (x : Body) → heldF s .Ok (heldIn x) → All (candidateF s .Ok) (gather (candidatesIn s kept) (s .servers))
     → ((i : ℕ) → heldF s .Ok (upd (repliesIn s (c .tally .marks) kept) b (heldIn x) i))

@@ -45,7 +45,8 @@ module _ (P : Primitives) (s : Config) (c : ℕ) (writers : List ℕ) (keys : By
   unfolding onto
   onto-calls m h = refl
 
-  judge-calls : (m : ByServer Bool) (cs : List Candidate) (g : ByServer Held) (l : List Candidate) (o : Option Candidate) → Kept (judge P s c writers keys cl m cs g l o)
+  judge-calls : (m : ByServer Bool) (cs : List Candidate) (g : ByServer Held) (l : List Candidate) (o : Option Candidate) → Kept
+      (judge P s c writers keys cl m cs g l o)
   unfolding judge found
   judge-calls m cs g [] o = onto-calls _ _
   judge-calls m cs g (y ∷ l) none = onto-calls _ _
@@ -139,12 +140,14 @@ module _ (P : Primitives) (law : Lengths P) (t : ℕ) (f : Fitting (shelf t)) (c
       let n = update-calls P s c writers keys cl b (p .body) m (isFull s m) (cl .hand) in
       record {
         ok =
-            update-ok P law s f c writers keys cl (fine .ok .last) b (p .body) m (isFull s m) (cl .hand) refl (fine .ok .hand) xok (unfold highAt in (a .low));
+            update-ok P law s f c writers keys cl (fine .ok .last) b (p .body) m (isFull s m) (cl .hand) refl (fine .ok .hand) xok
+            (unfold highAt in (a .low));
         calls = subst (λ (z : ℕ). z ≤ topNumber) (sym n) (fine .calls);
         busy = λ q. subst (λ (z : ℕ). 1 ≤ z) (sym n) (fine .busy (unfold isIdle in (a .pending)));
       }
 
-  pub take-fine : (o : Option Packet) → ((p : Packet) → o ≡ some p → PacketOk p) → (room : ℕ) → Fine (shelf t) c (takeStep P (shelf t) c writers keys cl o room .client)
+  pub take-fine : (o : Option Packet) → ((p : Packet) → o ≡ some p → PacketOk p) → (room : ℕ) → Fine (shelf t) c
+      (takeStep P (shelf t) c writers keys cl o room .client)
   unfolding takeStep
   take-fine none ok room =
       at-refusal (λ (u : Turn). Fine (shelf t) c (u .client)) _ _ _

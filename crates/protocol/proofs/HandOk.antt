@@ -136,7 +136,8 @@ module _ (s : Config) where
   not-blank c (inl e) f = absurd (subst T (ap (λ (x : Candidate). eqb (x .stamp .number) 0) (sym e) ∙ f) tt)
   not-blank c (inr h) f = h
 
-  pub gather-ok : (g : ByServer Candidate) → ((i : ℕ) → anyCandidateF s .Ok (g i)) → (n : ℕ) → All (candidateF s .Ok) (gather g n) × (length (gather g n) ≤ n)
+  pub gather-ok : (g : ByServer Candidate) → ((i : ℕ) → anyCandidateF s .Ok (g i)) → (n : ℕ) → All (candidateF s .Ok) (gather g n) ×
+      (length (gather g n) ≤ n)
   unfolding gather
   gather-ok g h zero = (tt, omega arith)
   gather-ok g h (suc n) =
@@ -157,7 +158,8 @@ module _ (P : Primitives) (law : Lengths P) (s : Config) (m : ByServer Bool) (g 
   choice-ok cs h d e = first-all (candidateF s .Ok) (proven P s m g) _ d (keep-all (candidateF s .Ok) _ _ (keep-all (candidateF s .Ok) _ cs h)) e
 
   -- the chosen candidate with the tags of server n's share
-  pub with-tags : (d : Candidate) (n : ℕ) → candidateF s .Ok d → candidateF s .Ok (record { stamp = d .stamp; nonce = d .nonce; tags = tagsIn P s d (g n .share) })
+  pub with-tags : (d : Candidate) (n : ℕ) → candidateF s .Ok d → candidateF s .Ok (record
+      { stamp = d .stamp; nonce = d .nonce; tags = tagsIn P s d (g n .share) })
   with-tags d n h = put-tags d (tagsIn P s d (g n .share)) h (lengths (g n .share) (share-held s (g n) (fine n)))
     where
       lengths : (o : Option Share) → ((q : Share) → o ≡ some q → shareF s .Ok q) → length (tagsIn P s d o) ≡ tagsSize s
@@ -175,4 +177,9 @@ module _ (P : Primitives) (law : Lengths P) (s : Config) (m : ByServer Bool) (g 
       go : (o : Option Share) → ((q : Share) → o ≡ some q → shareF s .Ok q) → length (restoredBy P s m g d n o) ≤ topLength
       go none k = unfold restoredBy in lit≤ tt
       go (some q) k =
-          unfold restoredBy in omega (arith, law .content (s .points) (s .shares) (q .size) (parts P s m g d n (s .servers)), share-size s f q (k q refl))
+          unfold restoredBy in omega (
+            arith,
+            law .content (s .points) (s .shares) (q .size) (parts P s m g d n (s .servers)),
+            share-size s f q
+                (k q refl),
+          )

@@ -52,7 +52,8 @@ module _ (s : Config) (f : Fitting s) (kept : List ℕ) (size : length kept ≡ 
   unfolding putShares
   puts-below zero l p w k = refl
   puts-below (suc n) l p w k =
-      part-below (putShares s kept h n) (repliesAt + replySlot * n) (B n) (slot-room n l (putShares s kept h n) (puts-length n (omega arith))) p w (omega arith)
+      part-below (putShares s kept h n) (repliesAt + replySlot * n) (B n) (slot-room n l (putShares s kept h n) (puts-length n (omega arith))) p w
+      (omega arith)
       ∙ puts-below n (omega arith) p w k
 
   -- the share of server j + 1 among those of servers 1 to n
@@ -70,7 +71,8 @@ module _ (s : Config) (f : Fitting s) (kept : List ℕ) (size : length kept ≡ 
           let q : j ≡ n = eqb-true j n e in
           rw q
           (ap (shareAt s)
-          (part-put (putShares s kept h n) (repliesAt + replySlot * n) (B n) (slot-room n l (putShares s kept h n) (puts-length n (omega arith))) replySlot (share-slot n l))
+          (part-put (putShares s kept h n) (repliesAt + replySlot * n) (B n) (slot-room n l (putShares s kept h n) (puts-length n (omega arith)))
+          replySlot (share-slot n l))
           ∙ share-read s (h (suc n)) _ (ok (suc n) (omega arith) l .lengths))
       go false e before =
           let d : j ≢ n = eqb-false j n e in

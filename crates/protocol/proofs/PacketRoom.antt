@@ -33,8 +33,14 @@ module _ (s : Config) (f : Fitting s) where
   list-length : (cs : List Candidate) → All (candidateF s .Ok) cs → length (printMany (candidateF s) cs) ≤ candidateSlot * length cs
   list-length [] h = omega arith
   list-length (c ∷ cs) h =
-      omega
-      (arith, length-append (candidateF s .print c) (printMany (candidateF s) cs), candidate-length s c (candidate-lengths s c (h .0)), list-length cs (h .1), f .few)
+      omega (
+        arith,
+        length-append (candidateF s .print c) (printMany (candidateF s) cs),
+        candidate-length s c (candidate-lengths s c (h .0)),
+        list-length cs
+            (h .1),
+        f .few,
+      )
 
   candidates-room : (cs : List Candidate) → candidatesF s .Ok cs → length (candidatesF s .print cs) ≤ bodyRoom
   unfolding candidatesF via seq byte many

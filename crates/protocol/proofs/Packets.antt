@@ -56,7 +56,8 @@ pub any-candidate-law : (s : Config) → Lawful (anyCandidateF s)
 unfolding anyCandidateF candidateF stampF via seq number4 byte run
 any-candidate-law s =
     orBlank-law (candidateSize s) (blankCandidate s) (candidateF s) (replicate-append-replicate (stampSize + nonceSize) (tagsSize s) 0)
-    (λ r. ap (λ (z : List ℕ). candidateF s .parse (z ++ r)) (sym (replicate-append-replicate (stampSize + nonceSize) (tagsSize s) 0))) (candidate-law s)
+    (λ r. ap (λ (z : List ℕ). candidateF s .parse (z ++ r)) (sym (replicate-append-replicate (stampSize + nonceSize) (tagsSize s) 0)))
+    (candidate-law s)
 
 pub candidates-law : (s : Config) → Lawful (candidatesF s)
 unfolding candidatesF seq many

@@ -53,7 +53,8 @@ module _ (d : List ℕ) (at : ℕ) (b : List ℕ) (fits : at + length b ≤ leng
       let e : p ≡ length X + (p - length X) = omega arith in
       let m : at + length b + (p - length X) ≡ p = omega arith in
       let f : drop p (X ++ Y) ≡ drop p d =
-      ap (λ (k : ℕ). drop k (X ++ Y)) e ∙ drop-append-add X Y (p - length X) ∙ drop-drop (p - length X) (at + length b) d ∙ ap (λ (k : ℕ). drop k d) m in
+      ap (λ (k : ℕ). drop k (X ++ Y)) e ∙ drop-append-add X Y (p - length X) ∙ drop-drop (p - length X) (at + length b) d ∙ ap (λ (k : ℕ). drop k d)
+      m in
       ap (λ (z : List ℕ). take n (drop p z)) (sym (append-assoc (take at d) b Y)) ∙ ap (take n) f
 
   -- another place is not touched

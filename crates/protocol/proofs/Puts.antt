@@ -43,7 +43,8 @@ pub wrote-then : {d e f : List ℕ} {at k n : ℕ} {a b : List ℕ} → Wrote d 
     → Wrote d at (a ++ b) f n
 wrote-then {d} {e} {f} {at} {k} {n} {a} {b} p q h =
     record {
-      bytes = q .bytes ∙ ap (λ (z : List ℕ). put z k b) (p .bytes) ∙ ap (λ (z : ℕ). put (put d at a) z b) (p .place) ∙ put-put d at (length a) a b refl h;
+      bytes = q .bytes ∙ ap (λ (z : List ℕ). put z k b) (p .bytes) ∙ ap (λ (z : ℕ). put (put d at a) z b) (p .place) ∙ put-put d at (length a) a b
+          refl h;
       place = omega (arith, p .place, q .place, length-append a b);
     }
 

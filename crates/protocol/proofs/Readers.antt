@@ -47,7 +47,8 @@ module _ (s : Config) where
   unfolding candidateAt stampAt
   blank-read h =
       let a : part (replicate candidateSlot 0) 5 tagSize ≡ replicate tagSize 0 = part-zeros candidateSlot 5 tagSize (omega arith) in
-      let b : part (replicate candidateSlot 0) stampSize nonceSize ≡ replicate nonceSize 0 = part-zeros candidateSlot stampSize nonceSize (omega arith) in
+      let b : part (replicate candidateSlot 0) stampSize nonceSize ≡ replicate nonceSize 0 = part-zeros candidateSlot stampSize nonceSize
+      (omega arith) in
       let c : part (replicate candidateSlot 0) (stampSize + nonceSize) (tagsSize s) ≡ replicate (tagsSize s) 0 =
       part-zeros candidateSlot (stampSize + nonceSize) (tagsSize s) (omega arith) in
       λ i. record { stamp = record { number = 0; writer = 0; tag = a i }; nonce = b i; tags = c i }
@@ -94,7 +95,8 @@ module _ (s : Config) where
       let l3 : length (N ++ P ++ D) ≡ 2 + f + d = omega (arith, length-append (N ++ P) D, l .digests, l2) in
       let l4 : length (N ++ P ++ D ++ E) ≡ 2 + f + d + digestSize = omega (arith, length-append (N ++ P ++ D) E, l .nonceDigest, l3) in
       let f1 : take f (drop 2 X) ≡ P = ap (λ (z : List ℕ). take f (drop 2 z)) p1 ∙ second-run N P (D ++ (E ++ (G ++ r))) 2 f refl (l .part) in
-      let f2 : take d (drop (2 + f) X) ≡ D = ap (λ (z : List ℕ). take d (drop (2 + f) z)) p2 ∙ second-run (N ++ P) D (E ++ (G ++ r)) (2 + f) d l2 (l .digests) in
+      let f2 : take d (drop (2 + f) X) ≡ D = ap (λ (z : List ℕ). take d (drop (2 + f) z)) p2 ∙ second-run (N ++ P) D (E ++ (G ++ r)) (2 + f) d l2
+      (l .digests) in
       let f3 : take digestSize (drop (2 + f + d) X) ≡ E =
       ap (λ (z : List ℕ). take digestSize (drop (2 + f + d) z)) p3 ∙ second-run (N ++ P ++ D) E (G ++ r) (2 + f + d) digestSize l3 (l .nonceDigest) in
       let f4 : take w (drop (2 + f + d + digestSize) X) ≡ G =
@@ -120,14 +122,19 @@ module _ (s : Config) where
   unfolding heldF via seq
   held-lengths x o = record { tag = any-stamp-tag (x .stamp) (o .0); share = λ h e. share-lengths s h (share-held x o h e) }
 
-  held-none : (a : Stamp) (r : List ℕ) → length (a .tag) ≡ tagSize → heldAt s ((stampF .print a ++ (0 ∷ [])) ++ r) ≡ record { stamp = a; share = none }
+  held-none : (a : Stamp) (r : List ℕ) → length (a .tag) ≡ tagSize → heldAt s ((stampF .print a ++ (0 ∷ [])) ++ r) ≡ record
+      { stamp = a; share = none }
   unfolding heldAt
   held-none a r k =
       let S : List ℕ = stampF .print a in
       let X : List ℕ = S ++ (0 ∷ r) in
       let e : stampAt X ≡ a = stamp-read a (0 ∷ r) k in
       let f : getD X stampSize 0 ≡ 0 = getD-at S 0 r 0 stampSize (stamp-length a k) in
-      ap (heldAt s) (append-assoc S (0 ∷ []) r) ∙ (λ i. record { stamp = e i; share = cond (eqb (f i) 0) none (some (shareAt s (drop (stampSize + 1) X))) })
+      ap (heldAt s) (append-assoc S (0 ∷ []) r) ∙ (λ i. record {
+        stamp = e i;
+        share = cond (eqb (f i) 0) none
+            (some (shareAt s (drop (stampSize + 1) X)));
+      })
 
   held-some : (a : Stamp) (q : Share) (r : List ℕ) → length (a .tag) ≡ tagSize → ShareLengths s q
       → heldAt s ((stampF .print a ++ (1 ∷ shareF s .print q)) ++ r) ≡ record { stamp = a; share = some q }

@@ -67,7 +67,8 @@ module _ (P : Primitives) (law : Lengths P) (sh : Shelf) (tr : (1 ≤ sh .t) × 
     here c = subst (λ (y : Client). Fine s c y) (sym (m .client c .seen)) (m .fine c)
 
     -- a step of client c
-    client-agrees : (c : ℕ) (u : Turn) (x : Machine) (r : Result) → Good s c u x r → Agrees (setClient P s (sh .writers) keys v c u) (setMachine P sh w c x r)
+    client-agrees : (c : ℕ) (u : Turn) (x : Machine) (r : Result) → Good s c u x r → Agrees (setClient P s (sh .writers) keys v c u)
+        (setMachine P sh w c x r)
     unfolding setClient setMachine upd
     client-agrees c u x r g =
         record {
@@ -77,7 +78,8 @@ module _ (P : Primitives) (law : Lengths P) (sh : Shelf) (tr : (1 ≤ sh .t) × 
           ok = λ p e. no-some p e;
         }
       where
-        go-client : (i : ℕ) (b : Bool) → let z = cond b x (w .client i) in Lifted (shelf (sh .t)) (cond b (u .client) (v .client i)) (z .call) (z .kept)
+        go-client : (i : ℕ) (b : Bool) → let z = cond b x (w .client i) in Lifted (shelf (sh .t)) (cond b (u .client) (v .client i)) (z .call)
+            (z .kept)
         go-client i true = g .lifted
         go-client i false = m .client i
 
@@ -123,26 +125,31 @@ module _ (P : Primitives) (law : Lengths P) (sh : Shelf) (tr : (1 ≤ sh .t) × 
         x : server.Lifted (sh .t) b (stepped b packet output) (served b packet output)
         x = serve-lift P (sh .t) b (v .server b) (w .memory b) (keys b) packet output (m .memory b lo hi)
 
-        sent-as : (o : Option Packet) → ((p : Packet) → o ≡ some p → take (served b packet output .result .count) (served b packet output .output) ≡ encode p)
-            → (o ≡ none → served b packet output .result .count ≡ 0) → take (served b packet output .result .count) (served b packet output .output) ≡ sentOf o
+        sent-as : (o : Option Packet) → ((p : Packet) → o ≡ some p → take (served b packet output .result .count) (served b packet output .output) ≡
+            encode p)
+            → (o ≡ none → served b packet output .result .count ≡ 0) → take (served b packet output .result .count) (served b packet output .output) ≡
+            sentOf o
         sent-as none f g = ap (λ (n : ℕ). take n (served b packet output .output)) (g refl)
         sent-as (some p) f g = f p refl
 
         go : (i : ℕ) → 1 ≤ i → i ≤ s .servers → (q : Bool) → eqb i b ≡ q
             → Holds (sh .t) i (cond q (stepped b packet output .server) (v .server i)) (cond q (served b packet output .memory) (w .memory i))
-        go i l k true e = subst (λ (j : ℕ). Holds (sh .t) j (stepped b packet output .server) (served b packet output .memory)) (sym (eqb-true i b e)) (x .memory)
+        go i l k true e = subst (λ (j : ℕ). Holds (sh .t) j (stepped b packet output .server) (served b packet output .memory)) (sym (eqb-true i b e))
+            (x .memory)
         go i l k false e = m .memory i l k
 
     step-agrees : (x : Step) → Fed s x → Agrees (doValues P s (sh .writers) keys v x) (doBytes P sh w x)
     unfolding doValues doBytes
     step-agrees (write c r n) f =
-        at-client c (λ y. writeStep s c y r n) _ _ (write-good (sh .t) c (w .client c .call) (w .client c .kept) tr fits (sound c) (here c) r n (f .1 .1))
+        at-client c (λ y. writeStep s c y r n) _ _ (write-good (sh .t) c (w .client c .call) (w .client c .kept) tr fits (sound c) (here c) r n
+        (f .1 .1))
     step-agrees (read c) f = at-client c (readStep s c) _ _ (read-good (sh .t) c (w .client c .call) (w .client c .kept) tr fits (sound c) (here c))
     step-agrees (make c b output) f = unfold doValues doBytes in make-agrees c b output
     step-agrees (take-reply c reply output) f =
         at-client c (λ y. takeStep P s c (sh .writers) keys y (decode reply) (length output)) _ _
         (take-good (sh .t) c (w .client c .call) (w .client c .kept) tr fits (sound c) (here c) P law (sh .writers) (sh .keys) reply output)
-    step-agrees (give-up c) f = at-client c (abortStep s c) _ _ (abort-good (sh .t) c (w .client c .call) (w .client c .kept) tr fits (sound c) (here c))
+    step-agrees (give-up c) f = at-client c (abortStep s c) _ _ (abort-good (sh .t) c (w .client c .call) (w .client c .kept) tr fits (sound c)
+        (here c))
     step-agrees (serve b packet output) f =
         let (lo, hi) = and-both _ _ (f .0) in unfold doValues doBytes in serve-agrees b packet output (leb-true 1 b lo) (leb-true b (s .servers) hi)
 

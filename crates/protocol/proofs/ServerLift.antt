@@ -44,7 +44,14 @@ module _ {t b : ℕ} {v : Server} {memory : List ℕ} (h : Holds t b v memory) w
   unfolding memoryOf
   memory-ok =
       of-fields _
-      (record { t-range = h .t-range; server-range = h .b-range; few = h .ok .few; latest = h .ok .latest; writes = h .ok .writes; once = h .ok .once })
+      (record {
+        t-range = h .t-range;
+        server-range = h .b-range;
+        few = h .ok .few;
+        latest = h .ok .latest;
+        writes = h .ok .writes;
+        once = h .ok .once;
+      })
 
   pub holds-decodes : decodeMemory memory ≡ some (memoryOf t b v)
   holds-decodes = ap decodeMemory (h .bytes) ∙ decode-encode-memory (memoryOf t b v) memory-ok
@@ -52,7 +59,8 @@ module _ {t b : ℕ} {v : Server} {memory : List ℕ} (h : Holds t b v memory) w
   pub holds-length : length memory ≡ memorySize
   holds-length = ap length (h .bytes) ∙ memory-length (memoryOf t b v) memory-ok
 
-pub blank-holds : (t b : ℕ) → (1 ≤ t) × (t ≤ topFaults) → (1 ≤ b) × (b ≤ shelf t .servers) → Holds t b (blankServer (shelf t)) (encodeMemory (blankMemory t b))
+pub blank-holds : (t b : ℕ) → (1 ≤ t) × (t ≤ topFaults) → (1 ≤ b) × (b ≤ shelf t .servers) → Holds t b (blankServer (shelf t))
+    (encodeMemory (blankMemory t b))
 unfolding memoryOf
 blank-holds t b h k = record { t-range = h; b-range = k; ok = blank-ok (shelf t); bytes = refl }
 

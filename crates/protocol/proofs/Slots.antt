@@ -42,7 +42,8 @@ module _ (s : Config) (few : s .servers ≤ mostServers) (kept : List ℕ) (size
       at (suc i) = go (ltb i mostServers) refl
         where
           go : (b : Bool) → ltb i mostServers ≡ b
-              → cond b (candidateAt s (part (put kept candidatesAt blanks) (candidatesAt + candidateSlot * i) candidateSlot)) (blankCandidate s) ≡ blankCandidate s
+              → cond b (candidateAt s (part (put kept candidatesAt blanks) (candidatesAt + candidateSlot * i) candidateSlot)) (blankCandidate s) ≡
+              blankCandidate s
           go false e = refl
           go true e =
               let l : i < mostServers = ltb-true i mostServers e in
@@ -68,13 +69,15 @@ module _ (s : Config) (few : s .servers ≤ mostServers) (kept : List ℕ) (size
       read : (r : List ℕ) → candidateAt s (anyCandidateF s .print c ++ r) ≡ c
       read r = ap (λ (z : List ℕ). candidateAt s (z ++ r)) (any-print s c) ∙ candidate-read s c r h
 
-      at : (b : ℕ) → candidatesIn s (put kept (candidatesAt + candidateSlot * i) (anyCandidateF s .print c)) b ≡ cond (eqb b (suc i)) c (candidatesIn s kept b)
+      at : (b : ℕ) → candidatesIn s (put kept (candidatesAt + candidateSlot * i) (anyCandidateF s .print c)) b ≡ cond (eqb b (suc i)) c
+          (candidatesIn s kept b)
       at zero = rw (ne-eqb 0 (suc i) (λ e. omega arith))
       at (suc j) = go (eqb (suc j) (suc i)) refl
         where
           go : (b : Bool) → eqb (suc j) (suc i) ≡ b
               → cond (ltb j mostServers)
-              (candidateAt s (part (put kept (candidatesAt + candidateSlot * i) (anyCandidateF s .print c)) (candidatesAt + candidateSlot * j) candidateSlot)) (blankCandidate s)
+              (candidateAt s (part (put kept (candidatesAt + candidateSlot * i) (anyCandidateF s .print c)) (candidatesAt + candidateSlot * j)
+              candidateSlot)) (blankCandidate s)
               ≡ cond b c (cond (ltb j mostServers) (candidateAt s (part kept (candidatesAt + candidateSlot * j) candidateSlot)) (blankCandidate s))
           go true e =
               let q : j ≡ i = omega (arith, eqb-true (suc j) (suc i) e) in
@@ -104,7 +107,8 @@ module _ (s : Config) (few : s .servers ≤ mostServers) (kept : List ℕ) (size
 
   -- ---- replies
 
-  pub replies-put : (ms : List ℕ) (i : ℕ) (x : Held) → i < mostServers → length ms ≡ mostServers → HeldLengths s x → length (heldF s .print x) ≤ replySlot
+  pub replies-put : (ms : List ℕ) (i : ℕ) (x : Held) → i < mostServers → length ms ≡ mostServers → HeldLengths s x → length (heldF s .print x) ≤
+      replySlot
       → repliesIn s (set ms i 1) (put kept (repliesAt + replySlot * i) (heldF s .print x)) ≡ upd (repliesIn s ms kept) (suc i) x
   unfolding repliesIn replySlotOf upd marked
   replies-put ms i x small wide h l = λ k b. at b k
@@ -112,7 +116,8 @@ module _ (s : Config) (few : s .servers ≤ mostServers) (kept : List ℕ) (size
       room : repliesAt + replySlot * i + length (heldF s .print x) ≤ length kept
       room = omega (arith, l, small, size)
 
-      at : (b : ℕ) → repliesIn s (set ms i 1) (put kept (repliesAt + replySlot * i) (heldF s .print x)) b ≡ cond (eqb b (suc i)) x (repliesIn s ms kept b)
+      at : (b : ℕ) → repliesIn s (set ms i 1) (put kept (repliesAt + replySlot * i) (heldF s .print x)) b ≡ cond (eqb b (suc i)) x
+          (repliesIn s ms kept b)
       at zero = rw (ne-eqb 0 (suc i) (λ e. omega arith))
       at (suc j) = go (eqb (suc j) (suc i)) refl
         where

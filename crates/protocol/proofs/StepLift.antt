@@ -64,11 +64,13 @@ module _ (t c : ℕ) (call : Call) (kept : List ℕ) (tr : (1 ≤ t) × (t ≤ t
   -- ---- a write begins
 
   pub write-good : (r n : List ℕ) → length n ≡ nonceSize
-      → let d = beginWrite t c call kept r n in Good s c (writeStep s c cl r n) (record { call = d .call; kept = d .kept }) (resultOf (d .result .number))
+      → let d = beginWrite t c call kept r n in Good s c (writeStep s c cl r n) (record { call = d .call; kept = d .kept })
+      (resultOf (d .result .number))
   unfolding writeStep beginWrite view
   write-good r n l =
       let code : ℕ = writeRefusal s c (length r) (inHand call) (call .number) in
-      let x : (let d = beginWrite t c call kept r n in Same (writeStep s c cl r n) (record { call = d .call; kept = d .kept }) (resultOf (d .result .number))) =
+      let x : (let d = beginWrite t c call kept r n in Same (writeStep s c cl r n) (record { call = d .call; kept = d .kept })
+      (resultOf (d .result .number))) =
       at-both code _ (ap (λ (z : Bool). writeRefusal s c (length r) z (call .number)) (pending-is s call kept))
       (λ (u : Turn) (d : Begun). Same u (record { call = d .call; kept = d .kept }) (resultOf (d .result .number)))
       (λ e. (write-begun s call kept sound r n (write-accepted s c cl fine r n l (inHand call) e .0 .high) l, ap resultOf e))
@@ -77,7 +79,8 @@ module _ (t c : ℕ) (call : Call) (kept : List ℕ) (tr : (1 ≤ t) × (t ≤ t
 
   -- ---- a read begins
 
-  pub read-good : let d = beginRead t c call kept in Good s c (readStep s c cl) (record { call = d .call; kept = d .kept }) (resultOf (d .result .number))
+  pub read-good : let d = beginRead t c call kept in Good s c (readStep s c cl) (record { call = d .call; kept = d .kept })
+      (resultOf (d .result .number))
   unfolding readStep beginRead view
   read-good =
       let code : ℕ = readRefusal s c (inHand call) (call .number) in
@@ -128,7 +131,8 @@ module _ (t c : ℕ) (call : Call) (kept : List ℕ) (tr : (1 ≤ t) × (t ≤ t
 
   pub take-good : (P : Primitives) → Lengths P → (writers : List ℕ) (keys : List (List ℕ)) (reply output : List ℕ)
       → let d = clientTake P t c writers keys call kept reply output in
-      Good s c (takeStep P s c writers (keyOf keys) cl (decode reply) (length output)) (record { call = d .call; kept = d .kept }) (takenOut (d .answer) (d .output))
+      Good s c (takeStep P s c writers (keyOf keys) cl (decode reply) (length output)) (record { call = d .call; kept = d .kept })
+      (takenOut (d .answer) (d .output))
   unfolding clientTake
   take-good P law writers keys reply output =
       let x = take-lift P law t f c writers (keyOf keys) call kept output sound (fine .ok .hand) (decode reply) (λ p e. decode-ok reply p e) in

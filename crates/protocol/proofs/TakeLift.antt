@@ -47,7 +47,8 @@ module _ (s : Config) (client : ℕ) (p : Packet) (calls kind : ℕ) (replied : 
 
   new-server : late ≡ false → eqb kind 0 ≡ false → replied (p .head .server) ≡ false
   new-server e i =
-      or-none (not (eqb (p .head .call) calls && eqb (kindOf (p .body)) kind)) (replied (p .head .server)) (and-rest (not (eqb kind 0)) _ (ap not i) e) .1
+      or-none (not (eqb (p .head .call) calls && eqb (kindOf (p .body)) kind)) (replied (p .head .server))
+      (and-rest (not (eqb kind 0)) _ (ap not i) e) .1
 
   -- what an accepted packet is known by
   pub record Accepted (high : ℕ → Body → Bool) : Type 0 where
@@ -112,12 +113,14 @@ shelf-t t = refl
 
 -- ---- the rounds together
 
-module _ (P : Primitives) (law : Lengths P) (s : Config) (f : Fitting s) (client : ℕ) (writers : List ℕ) (keys : ByServer (List ℕ)) (c : Call) (kept output : List ℕ)
+module _ (P : Primitives) (law : Lengths P) (s : Config) (f : Fitting s) (client : ℕ) (writers : List ℕ) (keys : ByServer (List ℕ)) (c : Call)
+    (kept output : List ℕ)
     (h : Sound s c kept) (b : ℕ) (lo : 1 ≤ b) (hi : b ≤ s .servers) (new : marked (c .tally .marks) b ≡ false) (x : Body) (xok : BodyOk s x) where
   round-turn : (q : Bool) (r : ℕ) → c .tally .round ≡ r → within 1 6 r ≡ true → HandOk s client (handOf s r c kept)
       → Turned s (update P s client writers keys (view s c kept) b x (M s f c kept h b lo hi new) q (handOf s r c kept))
       (cond (eqb r 1) (takeClock P s client writers keys c kept output q b x) (cond (eqb r 2) (takeStore P s client writers keys c kept output q b x)
-      (cond (eqb r 3) (takeComplete P s client writers keys c kept output q b) (cond (eqb r 4) (takeCollect P s client writers keys c kept output q b x)
+      (cond (eqb r 3) (takeComplete P s client writers keys c kept output q b) (cond (eqb r 4)
+      (takeCollect P s client writers keys c kept output q b x)
       (cond (eqb r 5) (takeFilter P s client writers keys c kept output q b x) (takeRepair P s client writers keys c kept output q b))))))
   unfolding handOf HandOk
   round-turn q zero e i k = absurd (subst T (sym i) tt)
@@ -178,20 +181,24 @@ module _ (P : Primitives) (law : Lengths P) (t : ℕ) (f : Fitting (shelf t)) (c
       → Turned s (turnOn P s client writers keys cl (some p)) (takeOn P s client writers keys c kept output (c .tally .round) (some p))
   unfolding turnOn takeOn view
   accepted-turn p ok e =
-      let a = accepted s client p (c .number) (awaited c) (marked (c .tally .marks)) (highIn P s client writers keys c kept output) (length output) e in
+      let a = accepted s client p (c .number) (awaited c) (marked (c .tally .marks)) (highIn P s client writers keys c kept output) (length output)
+      e in
       let b : ℕ = p .head .server in
       let lo : 1 ≤ b = server-range p ok .0 in
       let hi : b ≤ s .servers = server-in p ok (a .same-t) in
       let xok : BodyOk s (p .body) = subst (λ (z : ℕ). BodyOk (shelf z) (p .body)) (a .same-t ∙ shelf-t t) (body-ok p ok) in
       subst
-      (λ (q : Bool). Turned s (update P s client writers keys cl b (p .body) (upd (marked (c .tally .marks)) b true) q (handOf s (c .tally .round) c kept))
+      (λ (q : Bool). Turned s (update P s client writers keys cl b (p .body) (upd (marked (c .tally .marks)) b true) q
+      (handOf s (c .tally .round) c kept))
       (takeOn P s client writers keys c kept output (c .tally .round) (some p)))
       (sym (full-is s f c kept h b lo hi (a .new)))
-      (round-turn P law s f client writers keys c kept output h b lo hi (a .new) (p .body) xok (ends s c) (c .tally .round) refl (in-round c (a .pending)) fine)
+      (round-turn P law s f client writers keys c kept output h b lo hi (a .new) (p .body) xok (ends s c) (c .tally .round) refl
+      (in-round c (a .pending)) fine)
 
   settle : (o : Option Packet) → ((p : Packet) → o ≡ some p → PacketOk p) → (n : ℕ) → codeB o ≡ n
       → Turned s (onRefusal n (turnOn P s client writers keys cl o) (record { client = cl; result = refused n }))
-      (onRefusal n (takeOn P s client writers keys c kept output (c .tally .round) o) (took P s client writers keys c kept output (taken.Refused n) c kept))
+      (onRefusal n (takeOn P s client writers keys c kept output (c .tally .round) o)
+      (took P s client writers keys c kept output (taken.Refused n) c kept))
   settle o ok (suc n) e = refused-turn (suc n)
   settle (some p) ok zero e = accepted-turn p (ok p refl) e
   settle none ok zero e = absurd (not-none s client (c .number) (awaited c) (marked (c .tally .marks)) _ (length output) e)

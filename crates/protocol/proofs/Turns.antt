@@ -48,7 +48,8 @@ pub chosen-read : (s : Config) → Fitting s → (k : List ℕ) → length k ≡
     → candidateAt s (part (put k chosenAt (candidateF s .print d)) chosenAt candidateSlot) ≡ d
 chosen-read s f k size d l =
     let n = candidate-length s d l in
-    ap (candidateAt s) (part-put k chosenAt (candidateF s .print d) (omega (arith, f .few)) candidateSlot (omega (arith, f .few))) ∙ candidate-read s d _ l
+    ap (candidateAt s) (part-put k chosenAt (candidateF s .print d) (omega (arith, f .few)) candidateSlot (omega (arith, f .few))) ∙ candidate-read s
+    d _ l
 
 -- ---- one more mark
 
@@ -107,7 +108,13 @@ module _ (s : Config) (f : Fitting s) (c : Call) (kept : List ℕ) (h : Sound s 
   unfolding view onto
   noted-lift r e =
       record {
-        seen = λ i. record { calls = c .number; last = c .last; marks = marks-now i; hand = handOf s (round-same e i) (withTally c (noted (c .tally) b)) kept };
+        seen = λ i. record {
+          calls = c .number;
+          last = c .last;
+          marks = marks-now i;
+          hand = handOf s (round-same e i)
+              (withTally c (noted (c .tally) b)) kept;
+        };
         sound = noted-sound _ kept refl (h .size);
       }
 
@@ -135,7 +142,12 @@ module _ (s : Config) (f : Fitting s) (c : Call) (kept : List ℕ) (h : Sound s 
 
     -- clock ends with the number n: the candidate and every share are made and kept
     clock-ends : WriteOk client (contentOf c kept) (nonceOf kept) → (n m : ℕ)
-        → Lifted s (record { calls = c .number; last = n; marks = nobody; hand = prepared P s client writers keys (contentOf c kept) (nonceOf kept) n })
+        → Lifted s (record {
+          calls = c .number;
+          last = n;
+          marks = nobody;
+          hand = prepared P s client writers keys (contentOf c kept) (nonceOf kept) n;
+        })
         (record { number = c .number; last = n; high = m; length = c .length; tally = fresh 2 })
         (putShares s (put kept chosenAt (candidateF s .print (candidateMade P s client writers keys (nonceOf kept) n)))
         (sharesMade P s client writers keys (contentOf c kept) (nonceOf kept) n) (s .servers))
@@ -151,7 +163,8 @@ module _ (s : Config) (f : Fitting s) (c : Call) (kept : List ℕ) (h : Sound s 
         let ok = shares-made P law s client writers keys r (nonceOf kept) n w in
         let K : List ℕ = putShares s k g (s .servers) in
         let e : candidateAt s (part K chosenAt candidateSlot) ≡ d =
-        ap (candidateAt s) (puts-below s f k z g ok (s .servers) (omega arith) chosenAt candidateSlot (omega arith)) ∙ chosen-read s f kept (h .size) d l in
+        ap (candidateAt s) (puts-below s f k z g ok (s .servers) (omega arith) chosenAt candidateSlot (omega arith)) ∙ chosen-read s f kept (h .size)
+        d l in
         let p : sharesIn s K ≡ g = shares-put s f k z g ok ∙ cut-twice r (nonceOf kept) n in
         record {
           seen = λ i. record { calls = c .number; last = n; marks = marked-fresh i; hand = storing (e i) (p i) };
@@ -174,7 +187,14 @@ module _ (s : Config) (f : Fitting s) (c : Call) (kept : List ℕ) (h : Sound s 
                   marks = marks-now i;
                   hand =
                       handOf s (round-same e i)
-                      (record { number = c .number; last = c .last; high = higher P writers (c .high) (stampIn x); length = c .length; tally = noted (c .tally) b }) kept;
+                      (record {
+                        number = c .number;
+                        last = c .last;
+                        high = higher P writers (c .high) (stampIn x);
+                        length = c .length;
+                        tally = noted
+                            (c .tally) b;
+                      }) kept;
                 };
             sound = noted-sound _ kept refl (h .size);
           };
@@ -201,7 +221,8 @@ module _ (s : Config) (f : Fitting s) (c : Call) (kept : List ℕ) (h : Sound s 
         counts false = record { result = refl; client = unfold handOf in noted-lift 2 e }
 
     pub complete-turn : (q : Bool) → c .tally .round ≡ 3 → (x : Body)
-        → Turned s (update P s client writers keys (view s c kept) b x M q (completing (chosenOf s kept))) (takeComplete P s client writers keys c kept output q b)
+        → Turned s (update P s client writers keys (view s c kept) b x M q (completing (chosenOf s kept)))
+        (takeComplete P s client writers keys c kept output q b)
     unfolding update takeComplete took handOf
     complete-turn true e x = record { result = refl; client = idled s c kept h }
     complete-turn false e x = record { result = refl; client = noted-lift 3 e }

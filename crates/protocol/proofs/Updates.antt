@@ -57,7 +57,8 @@ module _ (P : Primitives) (law : Lengths P) (s : Config) (f : Fitting s) (client
       into nobody (repairing (record { stamp = d .stamp; nonce = d .nonce; tags = tagsIn P s d (g n .share) }) (restoredBy P s m g d n (g n .share)))
       (with-tags P law s m g k d n h, content-short P law s m g k d n f))
 
-  judge-ok : (m : ByServer Bool) (cs : List Candidate) (g : ByServer Held) (l : List Candidate) (o : Option Candidate) → HandOk s client (filtering cs g)
+  judge-ok : (m : ByServer Bool) (cs : List Candidate) (g : ByServer Held) (l : List Candidate) (o : Option Candidate) → HandOk s client
+      (filtering cs g)
       → ((d : Candidate) → o ≡ some d → candidateF s .Ok d) → Good (judge P s client writers keys cl m cs g l o)
   unfolding judge HandOk
   judge-ok m cs g [] o h k = into nobody idle tt

@@ -34,7 +34,11 @@ decide {A} F law s at bs h = go (F .parse (drop at s)) refl
         (record {
           value = x .0;
           next = at + n;
-          there = record { parsed = e ∙ ap (λ (y : List ℕ). some (x .0, y)) (sym r); within = omega arith; ok = law .fits (drop at s) (x .0) (x .1) e };
+          there = record {
+            parsed = e ∙ ap (λ (y : List ℕ). some (x .0, y)) (sym r);
+            within = omega arith;
+            ok = law .fits (drop at s) (x .0) (x .1) e;
+          };
         })
 
 -- the same at places that are known to be the same

@@ -48,7 +48,8 @@ module _ (m : List ℕ) (t b : ℕ) where
       small = omega (arith, within-bounds 1 topFaults t (not-false _ h) .1)
 
       -- a cleared memory with its first two bytes set
-      pub blank-made : not (within 1 (shelf t .servers) b) ≡ false → {z : List ℕ} → z ≡ replicate (length m) 0 → blanked 0 (set (set z 0 t) 1 b) ≡ blankStep m t b
+      pub blank-made : not (within 1 (shelf t .servers) b) ≡ false → {z : List ℕ} → z ≡ replicate (length m) 0 → blanked 0 (set (set z 0 t) 1 b) ≡
+          blankStep m t b
       blank-made k {z} e =
           let c : z ≡ replicate memorySize 0 = e ∙ ap (λ (j : ℕ). replicate j 0) s in
           ap (λ (y : List ℕ). blanked 0 (set (set y 0 t) 1 b)) c ∙ ap (blanked 0) (sym (blank-bytes t b small)) ∙ sym (blank-accepted k)

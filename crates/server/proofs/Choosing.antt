@@ -71,7 +71,8 @@ module _ (s : Config) (key : List ℕ) (b : ℕ) (v : Server) (y : List ℕ) whe
   unfolding candidateAt
   key-of m i l h c e j k =
       ap (λ (z : Candidate). below (z .stamp) (stampAt (slotOf s y j))) e
-      ∙ below-key (stampAt (slotOf s y i)) (stampAt (slotOf s y j)) (unfold candidateAt in (stamp-ranges s (cand i) (l .ok i h) .1)) (unfold candidateAt in (stamp-ranges s (cand j) (l .ok j k) .1))
+      ∙ below-key (stampAt (slotOf s y i)) (stampAt (slotOf s y j)) (unfold candidateAt in (stamp-ranges s (cand i) (l .ok i h) .1))
+      (unfold candidateAt in (stamp-ranges s (cand j) (l .ok j k) .1))
 
   module _ (m : ℕ) (few : m < 255) (l : Listed s (suc m) y) (c : Candidate) where
     -- an invalid one changes nothing
@@ -126,13 +127,15 @@ module _ (s : Config) (key : List ℕ) (b : ℕ) (v : Server) (y : List ℕ) whe
     step h = go (good m) refl h
       where
         next : good m ≡ true → Kept m c → Kept (suc m) (cond (below (c .stamp) (cand m .stamp)) (cand m) c)
-        next g (inr h) = rw (ap (λ (z : Candidate). below (z .stamp) (cand m .stamp)) (h .is) ∙ above-blank (cand m .stamp) (stamp-ranges s (cand m) (l .ok m (omega arith)) .0)) (inl (m, start g h))
+        next g (inr h) = rw (ap (λ (z : Candidate). below (z .stamp) (cand m .stamp)) (h .is) ∙ above-blank (cand m .stamp)
+            (stamp-ranges s (cand m) (l .ok m (omega arith)) .0)) (inl (m, start g h))
         next g (inl (i, h)) = test (ltb (keyOf (stampAt (slotOf s y i))) (keyOf (stampAt (slotOf s y m)))) refl
           where
             same : below (c .stamp) (cand m .stamp) ≡ ltb (keyOf (stampAt (slotOf s y i))) (keyOf (stampAt (slotOf s y m)))
             same = key-of (suc m) i l (omega (arith, h .at)) c (h .is) m (omega arith)
 
-            test : (q : Bool) → ltb (keyOf (stampAt (slotOf s y i))) (keyOf (stampAt (slotOf s y m))) ≡ q → Kept (suc m) (cond (below (c .stamp) (cand m .stamp)) (cand m) c)
+            test : (q : Bool) → ltb (keyOf (stampAt (slotOf s y i))) (keyOf (stampAt (slotOf s y m))) ≡ q → Kept (suc m)
+                (cond (below (c .stamp) (cand m .stamp)) (cand m) c)
             test true e = rw (same ∙ e) (inl (m, higher g i h (ltb-true _ _ e)))
             test false e = rw (same ∙ e) (inl (i, lower i h (ltb-false _ _ e)))
 

@@ -52,7 +52,8 @@ unfolding raise below
 blank-raises s v =
     rw (le-ltb (v .latest .stamp .number) 0 (omega arith), le-ltb (v .latest .stamp .writer) 0 (omega arith), and-false)
 
-module _ {d : List ℕ} (bs : Bytes d) (key packet : List ℕ) (ps : Bytes packet) (output : List ℕ) (h : Head) {n e : ℕ} {top : Top} (o : Opened d (h .t) (h .server) n e top)
+module _ {d : List ℕ} (bs : Bytes d) (key packet : List ℕ) (ps : Bytes packet) (output : List ℕ) (h : Head) {n e : ℕ} {top : Top}
+    (o : Opened d (h .t) (h .server) n e top)
     (dec : decode packet ≡ some (packetAt h packet)) (k : h .kind ≡ 9) (room : packetRoom ≤ length output) where
   abbrev s : Config
   s = shelf (h .t)
@@ -76,31 +77,38 @@ module _ {d : List ℕ} (bs : Bytes d) (key packet : List ℕ) (ps : Bytes packe
   unfolding act serverIn
   step-is c p = ap acted p
 
-  answered : (c : Candidate) → kept ≡ c → length (c .stamp .tag) ≡ tagSize → {a : Stamp} → a ≡ c .stamp → {r : Outcome} {m out : List ℕ} → m ≡ encodeMemory (memoryOf (h .t) (h .server) (raise c server))
+  answered : (c : Candidate) → kept ≡ c → length (c .stamp .tag) ≡ tagSize → {a : Stamp} → a ≡ c .stamp → {r : Outcome} {m out : List ℕ} → m ≡
+      encodeMemory (memoryOf (h .t) (h .server) (raise c server))
       → HeldAs d h n top a output (record { result = r; output = out })
       → record { result = r; memory = m; output = out } ≡ accepted real d key packet output (memoryIn o) (decode packet)
   answered c p l {a} q u w =
       let H : List ℕ = heldF s .print (record { stamp = c .stamp; share = held (c .stamp) (o .writes) }) in
       replied-as key packet output h o dec room (filter (candidateList s M Y)) (filter-body h packet dec k) (acted c) (step-is c p) H [] u
       (sym (append-nil H))
-      (w (o .writes) e (o .there) (o .up) (ap (λ (z : Stamp). length (z .tag)) q ∙ l) ∙ ap (λ (z : Stamp). packetStep (replyHead h 10) (heldF s .print (record { stamp = z; share = held z (o .writes) })) [] output) q)
+      (w (o .writes) e (o .there) (o .up) (ap (λ (z : Stamp). length (z .tag)) q ∙ l) ∙ ap
+      (λ (z : Stamp). packetStep (replyHead h 10) (heldF s .print (record { stamp = z; share = held z (o .writes) })) [] output) q)
 
-  module _ {u v : List ℕ} {m : ℕ} (p : u ≡ drop headSize packet) (q : v ≡ drop 1 u) (c : m ≡ getD u 0 0) (f : Chosen) (g : ChosenAs d key (h .t) (h .server) n top v m f) where
+  module _ {u v : List ℕ} {m : ℕ} (p : u ≡ drop headSize packet) (q : v ≡ drop 1 u) (c : m ≡ getD u 0 0) (f : Chosen)
+      (g : ChosenAs d key (h .t) (h .server) n top v m f) where
     in-packet : v ≡ Y
     in-packet = q ∙ ap (drop 1) p
 
     choice : {x : Chosen} → f ≡ x → ChosenIs s Y kept x
     choice {x} t =
         let i : m ≡ M = c ∙ ap (λ (z : List ℕ). getD z 0 0) p in
-        let j : ChosenAs d key (h .t) (h .server) n top Y M f = subst (λ (z : List ℕ). ChosenAs d key (h .t) (h .server) n top z M f) in-packet (subst (λ (z : ℕ). ChosenAs d key (h .t) (h .server) n top v z f) i g) in
+        let j : ChosenAs d key (h .t) (h .server) n top Y M f = subst (λ (z : List ℕ). ChosenAs d key (h .t) (h .server) n top z M f) in-packet
+        (subst (λ (z : ℕ). ChosenAs d key (h .t) (h .server) n top v z f) i g) in
         subst (ChosenIs s Y kept) t (j e o (listed h packet dec k ps))
 
-    pub filter-nothing : f ≡ chosen.Nothing → {a : Stamp} → a ≡ blankStamp → {r : Outcome} {out : List ℕ} → HeldAs d h n top a output (record { result = r; output = out })
+    pub filter-nothing : f ≡ chosen.Nothing → {a : Stamp} → a ≡ blankStamp → {r : Outcome} {out : List ℕ} → HeldAs d h n top a output
+        (record { result = r; output = out })
         → record { result = r; memory = d; output = out } ≡ accepted real d key packet output (memoryIn o) (decode packet)
     filter-nothing t a w =
-        answered (blankCandidate s) (choice t) (length-replicate {A = ℕ} tagSize 0) a (unchanged o bs ∙ ap (λ (z : Server). encodeMemory (memoryOf (h .t) (h .server) z)) (sym (blank-raises s server))) w
+        answered (blankCandidate s) (choice t) (length-replicate {A = ℕ} tagSize 0) a
+        (unchanged o bs ∙ ap (λ (z : Server). encodeMemory (memoryOf (h .t) (h .server) z)) (sym (blank-raises s server))) w
 
-    pub filter-chosen : {i : ℕ} → f ≡ chosen.At i → {x : List ℕ} → x ≡ slotOf s v i → {a : Stamp} → a ≡ stampAt (padded stampSize x) → {r : Outcome} {m₁ out : List ℕ}
+    pub filter-chosen : {i : ℕ} → f ≡ chosen.At i → {x : List ℕ} → x ≡ slotOf s v i → {a : Stamp} → a ≡ stampAt (padded stampSize x) → {r : Outcome}
+        {m₁ out : List ℕ}
         → HeldAs d h n top a output (record { result = r; output = out }) → m₁ ≡ raisedBytes d x
         → record { result = r; memory = m₁; output = out } ≡ accepted real d key packet output (memoryIn o) (decode packet)
     unfolding candidateAt
@@ -112,4 +120,5 @@ module _ {d : List ℕ} (bs : Bytes d) (key packet : List ℕ) (ps : Bytes packe
         let size : length X ≡ candidateSize s = ap length (C .made) ∙ candidate-length s (candidateAt s X) lengths in
         let stamp : a ≡ stampAt X = b ∙ ap (λ (l : List ℕ). stampAt (padded stampSize l)) same ∙ stamp-value X (omega (arith, size)) in
         answered (candidateAt s X) (C .best) (lengths .tag) stamp
-        (z ∙ ap (raisedBytes d) same ∙ raised-memory o bs X (slot-bytes s Y i (bytes-drop 1 (drop headSize packet) (bytes-drop headSize packet ps))) (C .made) (C .ok)) w
+        (z ∙ ap (raisedBytes d) same ∙ raised-memory o bs X (slot-bytes s Y i (bytes-drop 1 (drop headSize packet) (bytes-drop headSize packet ps)))
+        (C .made) (C .ok)) w

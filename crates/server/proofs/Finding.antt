@@ -68,7 +68,8 @@ first-above key top [] h k = refl
 first-above key top (w ∷ ws) h k =
     let f : sameList (stampF .print (w .stamp)) key ≡ false =
     untrue _ (λ e.
-    let q : keyOf (w .stamp) ≡ keyOf (stampAt key) = sym (key-printed (w .stamp)) ∙ ap (λ (x : List ℕ). keyOf (stampAt x)) (same-true (stampF .print (w .stamp)) key e) in
+    let q : keyOf (w .stamp) ≡ keyOf (stampAt key) = sym (key-printed (w .stamp)) ∙ ap (λ (x : List ℕ). keyOf (stampAt x))
+    (same-true (stampF .print (w .stamp)) key e) in
     omega (arith, q, h .0, k)) in
     rw f (first-above key top ws (h .1) k)
 

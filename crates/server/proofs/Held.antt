@@ -54,11 +54,13 @@ head-made a flag l {j} {k} {e} {f} p q =
     over-all : (d x : List ℕ) → length d ≤ length x → over x d ≡ x
     over-all d x h = unfold over in (ap (λ (y : List ℕ). x ++ y) (drop-of-length-le d h) ∙ append-nil x)
 
-pub size-made : (t : ℕ) (d : List ℕ) {v k : ℕ} → v ≡ value2 (getD d 0 0) (getD d 1 0) → k ≡ shareSize (shelf t) v → k ≡ shareSize (shelf t) (lengthAt d)
+pub size-made : (t : ℕ) (d : List ℕ) {v k : ℕ} → v ≡ value2 (getD d 0 0) (getD d 1 0) → k ≡ shareSize (shelf t) v → k ≡ shareSize (shelf t)
+    (lengthAt d)
 unfolding lengthAt
 size-made t d p q = q ∙ ap (shareSize (shelf t)) p
 
-pub bytes-made : (s : Config) (d : List ℕ) (at : ℕ) {b x z : List ℕ} {k : ℕ} → b ≡ drop at d → x ≡ drop stampSize b → k ≡ shareSize s (lengthAt x) → z ≡ part x 0 k
+pub bytes-made : (s : Config) (d : List ℕ) (at : ℕ) {b x z : List ℕ} {k : ℕ} → b ≡ drop at d → x ≡ drop stampSize b → k ≡ shareSize s (lengthAt x) → z
+    ≡ part x 0 k
     → z ≡ shareBytes s d at
 unfolding shareBytes part
 bytes-made s d at p q r u =
@@ -75,7 +77,8 @@ share-there s {d} {at} {q} f bs =
     let A : List ℕ = stampF .print (w .stamp) in
     let B : List ℕ = shareF s .print (w .share) in
     let y : List ℕ = drop stampSize (drop at d) in
-    let u : drop at d ≡ writeF s .print w ++ drop q d = unfold writeF via seq in (write-law s .read (drop at d) w (drop q d) (bytes-drop at d bs) (f .parsed)) in
+    let u : drop at d ≡ writeF s .print w ++ drop q d = unfold writeF via seq in (write-law s .read (drop at d) w (drop q d) (bytes-drop at d bs)
+    (f .parsed)) in
     let l : length A ≡ stampSize = stamp-length (w .stamp) (unfold stampF seq via run in (f .ok .0 .1 .1)) in
     let v : y ≡ B ++ drop q d = ap (drop stampSize) (u ∙ append-assoc A B (drop q d)) ∙ drop-at A (B ++ drop q d) stampSize l in
     let k : length B ≡ shareSize s (lengthAt y) = share-length s (w .share) (share-lengths s (w .share) (f .ok .1)) ∙ size-at s (drop at d) in
@@ -94,33 +97,40 @@ held-none : (s : Config) (a : Stamp) → heldF s .print (record { stamp = a; sha
 unfolding heldF anyStampF via seq orBlank optional
 held-none s a = refl
 
-held-some : (s : Config) (a : Stamp) (x : Share) → heldF s .print (record { stamp = a; share = some x }) ≡ stampF .print a ++ 1 ∷ [] ++ shareF s .print x
+held-some : (s : Config) (a : Stamp) (x : Share) → heldF s .print (record { stamp = a; share = some x }) ≡ stampF .print a ++ 1 ∷ [] ++ shareF
+    s .print x
 unfolding heldF anyStampF via seq orBlank optional
 held-some s a x = sym (append-assoc (stampF .print a) (1 ∷ []) (shareF s .print x))
 
-module _ (d : List ℕ) (bs : Bytes d) (h : Head) (n : ℕ) (top : Top) (a : Stamp) (output : List ℕ) {z : List ℕ} (p : z ≡ stampF .print a ++ 0 ∷ []) where
+module _ (d : List ℕ) (bs : Bytes d) (h : Head) (n : ℕ) (top : Top) (a : Stamp) (output : List ℕ) {z : List ℕ}
+    (p : z ≡ stampF .print a ++ 0 ∷ []) where
   found-for : (ws : List Write) → length (a .tag) ≡ tagSize → shareIn (firstWith (part z 0 stampSize) ws) ≡ held a ws
   unfolding part
   found-for ws l =
       let searched : take stampSize z ≡ stampF .print a = ap (take stampSize) p ∙ take-at (stampF .print a) (0 ∷ []) stampSize (stamp-length a l) in
       ap (λ (y : List ℕ). shareIn (firstWith y ws)) searched ∙ first-held a ws
 
-  replies : (ws : List Write) {w : Written} (o : Option Share) → held a ws ≡ o → (first second : List ℕ) {g : Head} → g ≡ replyHead h 10 → w ≡ packetStep g first second output
+  replies : (ws : List Write) {w : Written} (o : Option Share) → held a ws ≡ o → (first second : List ℕ) {g : Head} → g ≡ replyHead h 10 → w ≡
+      packetStep g first second output
       → first ++ second ≡ heldF (shelf (h .t)) .print (record { stamp = a; share = o })
       → w ≡ packetStep (replyHead h 10) (heldF (shelf (h .t)) .print (record { stamp = a; share = held a ws })) [] output
   replies ws {w} o e first second i u v =
       headed h 10 output first second i u ∙ joined (replyHead h 10) first second output
-      ∙ ap (λ (y : List ℕ). packetStep (replyHead h 10) y [] output) (v ∙ ap (λ (y : Option Share). heldF (shelf (h .t)) .print (record { stamp = a; share = y })) (sym e))
+      ∙ ap (λ (y : List ℕ). packetStep (replyHead h 10) y [] output) (v ∙ ap (λ (y : Option Share). heldF (shelf (h .t)) .print
+      (record { stamp = a; share = y })) (sym e))
 
   pub held-nothing : (f : Found) → FindAs (shelf (h .t)) n top d z f → f ≡ found.Nothing → {second : List ℕ} → second ≡ part d 0 0
       → {g : Head} {w : Written} → g ≡ replyHead h 10 → w ≡ packetStep g z second output → HeldAs d h n top a output w
   held-nothing f find t {second} v i u ws e m up l =
-      let k : firstWith (part z 0 stampSize) ws ≡ none = subst (λ (y : Found). FindIs (shelf (h .t)) d (firstWith (part z 0 stampSize) ws) y) t (find ws e m up) in
+      let k : firstWith (part z 0 stampSize) ws ≡ none = subst (λ (y : Found). FindIs (shelf (h .t)) d (firstWith (part z 0 stampSize) ws) y) t
+      (find ws e m up) in
       replies ws none (sym (found-for ws l) ∙ ap shareIn k) z second i u
       (ap (λ (y : List ℕ). z ++ y) (v ∙ part-none d 0) ∙ append-nil z ∙ p ∙ sym (held-none (shelf (h .t)) a))
 
-  pub held-share : (f : Found) → FindAs (shelf (h .t)) n top d z f → {at : ℕ} → f ≡ found.At at → {first second : List ℕ} → first ≡ stampF .print a ++ 1 ∷ []
-      → second ≡ shareBytes (shelf (h .t)) d at → {g : Head} {w : Written} → g ≡ replyHead h 10 → w ≡ packetStep g first second output → HeldAs d h n top a output w
+  pub held-share : (f : Found) → FindAs (shelf (h .t)) n top d z f → {at : ℕ} → f ≡ found.At at → {first second : List ℕ} → first ≡ stampF .print a ++
+      1 ∷ []
+      → second ≡ shareBytes (shelf (h .t)) d at → {g : Head} {w : Written} → g ≡ replyHead h 10 → w ≡ packetStep g first second output → HeldAs d h n
+      top a output w
   held-share f find {at} t {first} {second} y v i u ws e m up l =
       let k = subst (λ (y : Found). FindIs (shelf (h .t)) d (firstWith (part z 0 stampSize) ws) y) t (find ws e m up) in
       let x : Share = writeAt (shelf (h .t)) (drop at d) .share in

@@ -36,7 +36,8 @@ module _ (s : Config) (y : List ℕ) where
   unfolding candidateList
   list-split n h = all-init (candidateF s .Ok) (candidateList s n y) (at n) h
 
-  list-print : (n : ℕ) → printMany (candidateF s) (candidateList s (suc n) y) ≡ printMany (candidateF s) (candidateList s n y) ++ candidateF s .print (at n)
+  list-print : (n : ℕ) → printMany (candidateF s) (candidateList s (suc n) y) ≡ printMany (candidateF s) (candidateList s n y) ++ candidateF s .print
+      (at n)
   unfolding candidateList
   list-print n = print-snoc (candidateF s) (candidateList s n y) (at n)
 
@@ -67,7 +68,8 @@ module _ (s : Config) (y : List ℕ) where
   slot-here n h k r e =
       let A : List ℕ = printMany (candidateF s) (candidateList s n y) in
       let B : List ℕ = candidateF s .print (at n) in
-      let u : drop (candidateSize s * n) y ≡ B ++ r = ap (drop (candidateSize s * n)) e ∙ drop-at A (B ++ r) (candidateSize s * n) (list-length n h) in
+      let u : drop (candidateSize s * n) y ≡ B ++ r = ap (drop (candidateSize s * n)) e ∙ drop-at A (B ++ r) (candidateSize s * n)
+      (list-length n h) in
       ap (take (candidateSize s)) u ∙ take-at B r (candidateSize s) (one-length (at n) k)
 
   slot-print : (n : ℕ) → All (candidateF s .Ok) (candidateList s n y) → (r : List ℕ) → y ≡ printMany (candidateF s) (candidateList s n y) ++ r
@@ -80,7 +82,8 @@ module _ (s : Config) (y : List ℕ) where
       let u : y ≡ A ++ (B ++ r) = e ∙ ap (λ (z : List ℕ). z ++ r) (list-print n) ∙ append-assoc A B r in
       go a b u (last-of j n k) (λ l. slot-print n a (B ++ r) u j l)
     where
-      go : All (candidateF s .Ok) (candidateList s n y) → candidateF s .Ok (at n) → y ≡ printMany (candidateF s) (candidateList s n y) ++ (candidateF s .print (at n) ++ r)
+      go : All (candidateF s .Ok) (candidateList s n y) → candidateF s .Ok (at n) → y ≡ printMany (candidateF s) (candidateList s n y) ++
+          (candidateF s .print (at n) ++ r)
           → (j < n) ⊎ (j ≡ n) → (j < n → slotOf s y j ≡ candidateF s .print (at j)) → slotOf s y j ≡ candidateF s .print (at j)
       go a b u (inl l) f = f l
       go a b u (inr e) f = subst (λ (z : ℕ). slotOf s y z ≡ candidateF s .print (at z)) (sym e) (slot-here n a b r u)
@@ -117,4 +120,5 @@ module _ (h : Head) (packet : List ℕ) (dec : decode packet ≡ some (packetAt 
   pub listed : Bytes packet → Listed (shelf (h .t)) (countIn packet) (listIn packet)
   unfolding candidatesF via seq many byte
   listed ps =
-      listed-from (shelf (h .t)) (listIn packet) (countIn packet) (unfold candidatesF via seq many byte in (sent-ok h packet dec filter-body .1 .1)) (ap (drop 1) (sent-bytes h packet dec filter-body ps))
+      listed-from (shelf (h .t)) (listIn packet) (countIn packet) (unfold candidatesF via seq many byte in (sent-ok h packet dec filter-body .1 .1))
+      (ap (drop 1) (sent-bytes h packet dec filter-body ps))

@@ -33,10 +33,12 @@ use Rattle.server.proofs.Finding.{up-more, key-printed, first-above, fi
 -- ---- whether a stamp stands before
 
 module _ (s : Config) (n : ℕ) (top : Top) (d : List ℕ) (at : ℕ) (bs : Bytes d) {x : List ℕ} (p : x ≡ drop at d) where
-  found-held : {next : ℕ} → Leaves (writeF s) d at (writeAt s (drop at d)) next → (ws : List Write) → shareIn (firstWith (part x 0 stampSize) ws) ≡ held (stampAt (drop at d)) ws
+  found-held : {next : ℕ} → Leaves (writeF s) d at (writeAt s (drop at d)) next → (ws : List Write) → shareIn (firstWith (part x 0 stampSize) ws) ≡
+      held (stampAt (drop at d)) ws
   unfolding writeAt part
   found-held f ws =
-      ap (λ (k : List ℕ). shareIn (firstWith k ws)) (ap (take stampSize) p ∙ unfold part in (stamp-bytes s f bs)) ∙ first-held (stampAt (drop at d)) ws
+      ap (λ (k : List ℕ). shareIn (firstWith k ws)) (ap (take stampSize) p ∙ unfold part in (stamp-bytes s f bs)) ∙ first-held (stampAt (drop at d))
+      ws
 
   pub repeats-none : {r : Found} → r ≡ found.Nothing → FindAs s n top d x r → RepeatsAs s n top d at false
   repeats-none t g ws e next m u f =
@@ -50,9 +52,11 @@ module _ (s : Config) (n : ℕ) (top : Top) (d : List ℕ) (at : ℕ) (bs : Byte
 
 -- ---- the highest of the writes, with one more
 
-module _ (s : Config) {d : List ℕ} (bs : Bytes d) (top : Top) (seen : List Write) {at q : ℕ} (f : Leaves (writeF s) d at (writeAt s (drop at d)) q) (u : TopOf s d top seen) where
+module _ (s : Config) {d : List ℕ} (bs : Bytes d) (top : Top) (seen : List Write) {at q : ℕ} (f : Leaves (writeF s) d at (writeAt s (drop at d)) q)
+    (u : TopOf s d top seen) where
   -- a higher write is the only one with its stamp
-  above : {k : ℕ} → k ≡ keyOf (writeAt s (drop at d) .stamp) → top .key < k → TopOf s d (record { key = k; at = at }) (seen ++ writeAt s (drop at d) ∷ [])
+  above : {k : ℕ} → k ≡ keyOf (writeAt s (drop at d) .stamp) → top .key < k → TopOf s d (record { key = k; at = at })
+      (seen ++ writeAt s (drop at d) ∷ [])
   unfolding firstWith part
   above {k} e l =
       let w : Write = writeAt s (drop at d) in
@@ -65,7 +69,11 @@ module _ (s : Config) {d : List ℕ} (bs : Bytes d) (top : Top) (seen : List Wri
             record {
               next = q;
               there = f;
-              first = first-append key seen (w ∷ []) ∙ rw (first-above key (top .key) seen (u .up) (omega (arith, m, l)), ap (λ (x : List ℕ). sameList x key) (sym b) ∙ g);
+              first = first-append key seen (w ∷ []) ∙ rw (
+                first-above key (top .key) seen (u .up) (omega (arith, m, l)),
+                ap
+                    (λ (x : List ℕ). sameList x key) (sym b) ∙ g,
+              );
             };
       }
 
@@ -74,7 +82,12 @@ module _ (s : Config) {d : List ℕ} (bs : Bytes d) (top : Top) (seen : List Wri
       let w : Write = writeAt s (drop at d) in
       record {
         up = all-snoc (λ x. keyOf (x .stamp) ≤ top .key) seen w (u .up) (omega (arith, e, l));
-        first = λ p key g. let o = u .first p key g in record { next = o .next; there = o .there; first = first-append key seen (w ∷ []) ∙ rw (o .first) };
+        first = λ p key g. let o = u .first p key g in record {
+          next = o .next;
+          there = o .there;
+          first = first-append key seen (w ∷ []) ∙ rw
+              (o .first);
+        };
       }
 
   top-more : {k : ℕ} → k ≡ keyOf (writeAt s (drop at d) .stamp) → TopOf s d (raisedTop top k at) (seen ++ writeAt s (drop at d) ∷ [])
@@ -92,7 +105,8 @@ pub record Checking (s : Config) (n : ℕ) (d : List ℕ) (at : ℕ) (top : Top)
   pub rest : (ws : List Write) (e : ℕ) → Stored s n d ws e
       → (ys : List Write) × Leaves (many (n - i) (writeF s)) d at ys e × (distinct ws ≡ freshAfter seen ys)
 
-pub check-none : (s : Config) (n : ℕ) (d : List ℕ) {at : ℕ} → at ≡ writesPlace s → writesPlace s ≤ length d → Checking s n d at (record { key = 0; at = 0 }) 0
+pub check-none : (s : Config) (n : ℕ) (d : List ℕ) {at : ℕ} → at ≡ writesPlace s → writesPlace s ≤ length d → Checking s n d at
+    (record { key = 0; at = 0 }) 0
 check-none s n d {at} p h = subst (λ (j : ℕ). Checking s n d j (record { key = 0; at = 0 }) 0) (sym p) start
   where
     start : Checking s n d (writesPlace s) (record { key = 0; at = 0 }) 0

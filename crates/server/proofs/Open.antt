@@ -68,7 +68,8 @@ module _ {d : List ℕ} (size : length d ≡ memorySize) where
         no-latest f =
             memory-stops d size
             (stops-kept _ _ (stops-via _ _ _
-            (stops-second _ _ (byte-there 1 topFaults x) (stops-second _ _ server-there (stops-second _ _ (byte-there 0 capacity z) (stops-first _ _ f))))))
+            (stops-second _ _ (byte-there 1 topFaults x) (stops-second _ _ server-there
+            (stops-second _ _ (byte-there 0 capacity z) (stops-first _ _ f))))))
 
         at-latest : r ≡ latestPlace
         at-latest = omega (arith, x .place, y .place, z .place)
@@ -87,7 +88,8 @@ module _ {d : List ℕ} (size : length d ≡ memorySize) where
               leaves-keep _ _
               (leaves-via _ _ _ (λ i. (t, (b, (many-count n (writeF (shelf t)) m i, (candidateAt (shelf t) (drop r d), ws)))))
               (leaves-seq _ _ (byte-there 1 topFaults x)
-              (leaves-seq _ _ server-there (leaves-seq _ _ (byte-there 0 capacity z) (leaves-seq _ _ (l .leaves) (leaves-moved (sym at-writes) refl m))))))
+              (leaves-seq _ _ server-there (leaves-seq _ _ (byte-there 0 capacity z)
+              (leaves-seq _ _ (l .leaves) (leaves-moved (sym at-writes) refl m))))))
               o
 
           memory-twice : {ws : List Write} {e : ℕ} → Stored (shelf t) n d ws e → distinct ws ≡ false → Stops memoryF d 0
@@ -96,7 +98,8 @@ module _ {d : List ℕ} (size : length d ≡ memorySize) where
               stops-test _ _
               (leaves-via _ _ _ (λ i. (t, (b, (many-count n (writeF (shelf t)) m i, (candidateAt (shelf t) (drop r d), ws)))))
               (leaves-seq _ _ (byte-there 1 topFaults x)
-              (leaves-seq _ _ server-there (leaves-seq _ _ (byte-there 0 capacity z) (leaves-seq _ _ (l .leaves) (leaves-moved (sym at-writes) refl m))))))
+              (leaves-seq _ _ server-there (leaves-seq _ _ (byte-there 0 capacity z)
+              (leaves-seq _ _ (l .leaves) (leaves-moved (sym at-writes) refl m))))))
               o
 
           memory-short : Stops (many n (writeF (shelf t))) d (writesPlace (shelf t)) → Stops memoryF d 0
@@ -104,15 +107,18 @@ module _ {d : List ℕ} (size : length d ≡ memorySize) where
           memory-short f =
               let g : Stops (many n (writeF (shelf t))) d k = subst (λ (j : ℕ). Stops (many n (writeF (shelf t))) d j) (sym at-writes) f in
               stops-kept _ _ (stops-via _ _ _
-              (stops-second _ _ (byte-there 1 topFaults x) (stops-second _ _ server-there (stops-second _ _ (byte-there 0 capacity z) (stops-second _ _ (l .leaves) g)))))
+              (stops-second _ _ (byte-there 1 topFaults x) (stops-second _ _ server-there
+              (stops-second _ _ (byte-there 0 capacity z) (stops-second _ _ (l .leaves) g)))))
 
           pub no-writes : Bytes d → {u : Writes} → u ≡ writes.Broken → WritesAs (shelf t) n d u → decodeMemory d ≡ none
-          no-writes bs broken w₀ = memory-stops d size (go (decide (many n (writeF (shelf t))) (many-law (writeF (shelf t)) (write-law (shelf t)) n) d (writesPlace (shelf t)) bs writes-within))
+          no-writes bs broken w₀ = memory-stops d size (go (decide (many n (writeF (shelf t))) (many-law (writeF (shelf t)) (write-law (shelf t)) n) d
+              (writesPlace (shelf t)) bs writes-within))
             where
               w : WritesAs (shelf t) n d writes.Broken
               w = subst (λ (o : Writes). WritesAs (shelf t) n d o) broken w₀
 
-              go : Reads (many n (writeF (shelf t))) d (writesPlace (shelf t)) ⊎ Stops (many n (writeF (shelf t))) d (writesPlace (shelf t)) → Stops memoryF d 0
+              go : Reads (many n (writeF (shelf t))) d (writesPlace (shelf t)) ⊎ Stops (many n (writeF (shelf t))) d (writesPlace (shelf t)) → Stops
+                  memoryF d 0
               go (inl o) = memory-twice (o .there) (untrue _ (w (o .value) (o .next) (o .there)))
               go (inr f) = memory-short f
 
@@ -123,7 +129,13 @@ module _ {d : List ℕ} (size : length d ≡ memorySize) where
                   writes = w .writes;
                   there = w .there;
                   up = w .up;
-                  decoded = subst (λ (j : ℕ). decodeMemory d ≡ some (record { t = t; server = b; latest = candidateAt (shelf t) (drop j d); writes = w .writes }))
+                  decoded = subst (λ (j : ℕ). decodeMemory d ≡ some (record {
+                    t = t;
+                    server = b;
+                    latest = candidateAt (shelf t) (drop j d);
+                    writes =
+                        w .writes;
+                  }))
                       at-latest (memory-opens d size (memory-there (w .there) (w .once)) (tail d e f g i));
                 }
 

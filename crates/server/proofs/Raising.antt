@@ -43,7 +43,8 @@ below-key a b ha hb = go (ltb (a .number) (b .number)) (eqb (a .number) (b .numb
     k : ℕ
     k = 256 * b .number + b .writer
 
-    go : (x y z : Bool) → ltb (a .number) (b .number) ≡ x → eqb (a .number) (b .number) ≡ y → ltb (a .writer) (b .writer) ≡ z → (x || (y && z)) ≡ ltb j k
+    go : (x y z : Bool) → ltb (a .number) (b .number) ≡ x → eqb (a .number) (b .number) ≡ y → ltb (a .writer) (b .writer) ≡ z → (x || (y && z)) ≡ ltb
+        j k
     go true y z p q r = sym (lt-ltb j k (omega (arith, ltb-true (a .number) (b .number) p)))
     go false true true p q r = sym (lt-ltb j k (omega (arith, eqb-true (a .number) (b .number) q, ltb-true (a .writer) (b .writer) r)))
     go false true false p q r = sym (le-ltb j k (omega (arith, eqb-true (a .number) (b .number) q, ltb-false (a .writer) (b .writer) r)))
@@ -120,7 +121,8 @@ module _ {d : List ℕ} {t b n e : ℕ} {top : Top} (o : Opened d t b n e top) (
 
 module _ (d : List ℕ) (bs : Bytes d) (packet : List ℕ) (ps : Bytes packet) (output : List ℕ) (h : Head) where
   pub complete-answers : {x m out first second : List ℕ} {g : Head} {r : Outcome} → x ≡ drop headSize packet → m ≡ raisedBytes d x
-      → first ≡ part packet 0 0 → second ≡ part packet 0 0 → g ≡ replyHead h 6 → record { result = r; output = out } ≡ packetStep g first second output
+      → first ≡ part packet 0 0 → second ≡ part packet 0 0 → g ≡ replyHead h 6 → record { result = r; output = out } ≡ packetStep g first second
+      output
       → AnswersFor 5 d packet output h (record { result = r; memory = m; output = out })
   unfolding bodyAt act packetAt
   complete-answers {x} {m} {out} {first} {second} c e f j q w key n z top o dec k room =

@@ -73,7 +73,8 @@ place-fits t i h k {z} e =
     let m : z * i ≤ 32768 * i = mul-le-mul-right i l in
     omega (arith, m)
 
-pub slot-made : (s : Config) (y : List ℕ) (i : ℕ) {a b : ℕ} {x : List ℕ} → a ≡ candidateSize s → b ≡ candidateSize s → x ≡ part y (a * i) b → x ≡ slotOf s y i
+pub slot-made : (s : Config) (y : List ℕ) (i : ℕ) {a b : ℕ} {x : List ℕ} → a ≡ candidateSize s → b ≡ candidateSize s → x ≡ part y (a * i) b → x ≡
+    slotOf s y i
 unfolding slotOf
 slot-made s y i p q r = r ∙ (λ j. part y (p j * i) (q j))
 
@@ -106,11 +107,13 @@ module _ (s : Config) (y : List ℕ) where
 
   -- ---- the next rank
 
-  pub next-under : (n bound : ℕ) → 0 < nextRank s y n bound → (i : ℕ) × (i < n) × (nextRank s y n bound ≡ rankOf s y i) × (nextRank s y n bound < bound)
+  pub next-under : (n bound : ℕ) → 0 < nextRank s y n bound → (i : ℕ) × (i < n) × (nextRank s y n bound ≡ rankOf s y i) ×
+      (nextRank s y n bound < bound)
   unfolding nextRank maxOf under
   next-under zero bound h = absurd (omega arith)
   next-under (suc n) bound h =
-      at-cond (ltb (nextRank s y n bound) (cond (ltb (rankOf s y n) bound) (rankOf s y n) 0)) (cond (ltb (rankOf s y n) bound) (rankOf s y n) 0) (nextRank s y n bound) Q
+      at-cond (ltb (nextRank s y n bound) (cond (ltb (rankOf s y n) bound) (rankOf s y n) 0)) (cond (ltb (rankOf s y n) bound) (rankOf s y n) 0)
+      (nextRank s y n bound) Q
       (λ e. at-cond (ltb (rankOf s y n) bound) (rankOf s y n) 0 Q (λ f l. (n, omega arith, refl, ltb-true _ _ f)) (λ f l. absurd (omega arith)))
       (λ e l. let (i, k, p, q) = next-under n bound l in (i, omega arith, p, q)) h
     where
@@ -125,11 +128,14 @@ module _ (s : Config) (y : List ℕ) where
       here : rankOf s y n < bound → rankOf s y n ≤ maxOf (nextRank s y n bound) (under (rankOf s y n) bound)
       here k = omega (arith, under-is (rankOf s y n) bound k, max-right (nextRank s y n bound) (under (rankOf s y n) bound))
 
-      go : (j < n) ⊎ (j ≡ n) → (j < n → rankOf s y j ≤ nextRank s y n bound) → rankOf s y j ≤ maxOf (nextRank s y n bound) (under (rankOf s y n) bound)
+      go : (j < n) ⊎ (j ≡ n) → (j < n → rankOf s y j ≤ nextRank s y n bound) → rankOf s y j ≤ maxOf (nextRank s y n bound)
+          (under (rankOf s y n) bound)
       go (inl k) f = omega (arith, f k, max-left (nextRank s y n bound) (under (rankOf s y n) bound))
-      go (inr e) f = subst (λ (z : ℕ). rankOf s y z ≤ maxOf (nextRank s y n bound) (under (rankOf s y n) bound)) (sym e) (here (subst (λ (z : ℕ). rankOf s y z < bound) e l))
+      go (inr e) f = subst (λ (z : ℕ). rankOf s y z ≤ maxOf (nextRank s y n bound) (under (rankOf s y n) bound)) (sym e)
+          (here (subst (λ (z : ℕ). rankOf s y z < bound) e l))
 
   -- one more slot
-  pub next-more : (n bound : ℕ) {a r u z : ℕ} → a ≡ nextRank s y n bound → r ≡ rankOf s y n → u ≡ under r bound → z ≡ maxOf a u → z ≡ nextRank s y (n + 1) bound
+  pub next-more : (n bound : ℕ) {a r u z : ℕ} → a ≡ nextRank s y n bound → r ≡ rankOf s y n → u ≡ under r bound → z ≡ maxOf a u → z ≡ nextRank s y
+      (n + 1) bound
   unfolding nextRank
   next-more n bound p q v w = rw add-one (w ∙ (λ i. maxOf (p i) ((v ∙ ap (λ (x : ℕ). under x bound) q) i)))

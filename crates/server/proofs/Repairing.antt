@@ -22,7 +22,8 @@ use Rattle.server.specs.Valid.{ValidAs, RaisedAs, AnswersWith}
 use Rattle.server.proofs.Raising.{raised-memory}
 use Rattle.server.proofs.Replies.{body-of, replied, unchanged, part-none, alone, headed, sent-ok, sent-bytes}
 
-module _ (d : List ℕ) (bs : Bytes d) (key : List ℕ) (t b n : ℕ) (top : Top) (x : List ℕ) (xs : Bytes x) {r : Bool} (test : ValidAs d key t b n top x r) where
+module _ (d : List ℕ) (bs : Bytes d) (key : List ℕ) (t b n : ℕ) (top : Top) (x : List ℕ) (xs : Bytes x) {r : Bool}
+    (test : ValidAs d key t b n top x r) where
   pub raised-valid : r ≡ true → {m : List ℕ} → m ≡ raisedBytes d x → RaisedAs d key t b n top x m
   raised-valid i p e o made ok =
       let v : Server = serverIn (memoryIn o) in
@@ -36,8 +37,10 @@ module _ (d : List ℕ) (bs : Bytes d) (key : List ℕ) (t b n : ℕ) (top : Top
       unchanged o bs ∙ ap (λ (g : Bool). encodeMemory (memoryOf t b (cond g (raise c v) v))) (sym i ∙ test e o made ok)
 
 module _ (d key packet : List ℕ) (ps : Bytes packet) (output : List ℕ) (h : Head) (n : ℕ) (top : Top) where
-  pub repair-answers : {x m out first second : List ℕ} {g : Head} {r : Outcome} → x ≡ drop headSize packet → RaisedAs d key (h .t) (h .server) n top x m
-      → first ≡ part packet 0 0 → second ≡ part packet 0 0 → g ≡ replyHead h 12 → record { result = r; output = out } ≡ packetStep g first second output
+  pub repair-answers : {x m out first second : List ℕ} {g : Head} {r : Outcome} → x ≡ drop headSize packet → RaisedAs d key (h .t) (h .server) n top x
+      m
+      → first ≡ part packet 0 0 → second ≡ part packet 0 0 → g ≡ replyHead h 12 → record { result = r; output = out } ≡ packetStep g first second
+      output
       → AnswersWith 11 d key packet output h n top (record { result = r; memory = m; output = out })
   unfolding bodyAt act packetAt
   repair-answers {x} {m} {out} {first} {second} c u f j q w e o dec k room =

@@ -63,7 +63,8 @@ module _ {d : List ℕ} (key packet output : List ℕ) (h : Head) {n e : ℕ} {t
     unfolding packetAt
     reply-packet-ok =
         let p : Packet = packetAt h packet in
-        reply-ok p (stepOf x .reply) (decode-ok packet p dec) (act-ok real (shelf (h .t)) key (h .server) (serverIn (memoryIn o)) (server-ok o) x (sent-ok h packet dec body) .reply)
+        reply-ok p (stepOf x .reply) (decode-ok packet p dec) (act-ok real (shelf (h .t)) key (h .server) (serverIn (memoryIn o)) (server-ok o) x
+        (sent-ok h packet dec body) .reply)
 
     made : (first second : List ℕ) → printBody (shelf (h .t)) (stepOf x .reply) ≡ first ++ second
         → packetStep (replyHead h (kindOf (stepOf x .reply))) first second output
@@ -81,12 +82,17 @@ module _ {d : List ℕ} (key packet output : List ℕ) (h : Head) {n e : ℕ} {t
         → record { result = r; memory = m; output = out } ≡ accepted real d key packet output (memoryIn o) (decode packet)
     unfolding served
     replied first second {r} {m} {out} e p w =
-        let q : _≡_ {A = Written} (record { result = r; output = out }) (record { result = served (packetAt h packet) x .result; output = served (packetAt h packet) x .output }) =
+        let q : _≡_ {A = Written} (record { result = r; output = out }) (record {
+          result = served (packetAt h packet) x .result;
+          output = served
+              (packetAt h packet) x .output;
+        }) =
         w ∙ made first second p in
         (λ i. record { result = q i .result; memory = e i; output = q i .output }) ∙ to-accepted
 
     -- the same where the step is known
-    pub replied-as : (a : Acted) → stepOf x ≡ a → (first second : List ℕ) {r : Outcome} {m out : List ℕ} → m ≡ encodeMemory (memoryOf (h .t) (h .server) (a .server))
+    pub replied-as : (a : Acted) → stepOf x ≡ a → (first second : List ℕ) {r : Outcome} {m out : List ℕ} → m ≡ encodeMemory
+        (memoryOf (h .t) (h .server) (a .server))
         → printBody (shelf (h .t)) (a .reply) ≡ first ++ second
         → record { result = r; output = out } ≡ packetStep (replyHead h (kindOf (a .reply))) first second output
         → record { result = r; memory = m; output = out } ≡ accepted real d key packet output (memoryIn o) (decode packet)
@@ -116,8 +122,10 @@ headed h k output first second q w = w ∙ ap (λ (y : Head). packetStep y first
 
 -- ---- clock and collect
 
-module _ (d : List ℕ) (bs : Bytes d) (output : List ℕ) (h : Head) {first second : List ℕ} (nothing : second ≡ part d latestPlace 0) {g : Head} {r : Outcome} {out : List ℕ} where
-  pub clock-answers : first ≡ part d latestPlace stampSize → g ≡ replyHead h 2 → record { result = r; output = out } ≡ packetStep g first second output
+module _ (d : List ℕ) (bs : Bytes d) (output : List ℕ) (h : Head) {first second : List ℕ} (nothing : second ≡ part d latestPlace 0) {g : Head}
+    {r : Outcome} {out : List ℕ} where
+  pub clock-answers : first ≡ part d latestPlace stampSize → g ≡ replyHead h 2 → record { result = r; output = out } ≡ packetStep g first second
+      output
       → AnswersAll 1 d output h (record { result = r; memory = d; output = out })
   unfolding bodyAt act serverIn anyStampF orBlank candidateAt
   clock-answers f q w packet key n e top o dec k room =
@@ -126,7 +134,8 @@ module _ (d : List ℕ) (bs : Bytes d) (output : List ℕ) (h : Head) {first sec
       (headed h 2 output first second q w)
 
   pub collect-answers : {z : ℕ} → z ≡ candidateSize (shelf (h .t)) → first ≡ part d latestPlace z → g ≡ replyHead h 8
-      → record { result = r; output = out } ≡ packetStep g first second output → AnswersAll 7 d output h (record { result = r; memory = d; output = out })
+      → record { result = r; output = out } ≡ packetStep g first second output → AnswersAll 7 d output h
+      (record { result = r; memory = d; output = out })
   unfolding bodyAt act serverIn
   collect-answers z f q w packet key n e top o dec k room =
       replied key packet output h o dec room collect (body-of h packet 7 k) first second (unchanged o bs)

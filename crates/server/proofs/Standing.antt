@@ -22,7 +22,8 @@ use Rattle.server.specs.Reads.{latestPlace, Opened}
 use Rattle.server.specs.Answers.{memoryIn}
 
 -- a candidate's bytes begin with its stamp's
-pub candidate-stamp : (s : Config) (c : Candidate) → length (c .stamp .tag) ≡ tagSize → (r : List ℕ) → take stampSize (candidateF s .print c ++ r) ≡ stampF .print (c .stamp)
+pub candidate-stamp : (s : Config) (c : Candidate) → length (c .stamp .tag) ≡ tagSize → (r : List ℕ) → take stampSize (candidateF s .print c ++ r) ≡
+    stampF .print (c .stamp)
 unfolding candidateF via seq run
 candidate-stamp s c l r =
     ap (take stampSize) (append-assoc (stampF .print (c .stamp)) (c .nonce ++ c .tags) r)
@@ -56,7 +57,8 @@ module _ {d : List ℕ} {t b n e : ℕ} {top : Top} (o : Opened d t b n e top) w
     unfolding part
     latest-part =
         ap (take (candidateSize (shelf t))) latest-on
-        ∙ take-at (anyCandidateF (shelf t) .print (memoryIn o .latest)) after (candidateSize (shelf t)) (any-candidate-length (shelf t) (memoryIn o .latest) (memory-fields .latest))
+        ∙ take-at (anyCandidateF (shelf t) .print (memoryIn o .latest)) after (candidateSize (shelf t))
+        (any-candidate-length (shelf t) (memoryIn o .latest) (memory-fields .latest))
 
     pub latest-stamp : part d latestPlace stampSize ≡ stampF .print (memoryIn o .latest .stamp)
     unfolding part

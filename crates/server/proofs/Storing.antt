@@ -65,7 +65,8 @@ module _ {d : List ℕ} {t b n e : ℕ} {top : Top} (o : Opened d t b n e top) (
       let s : Config = shelf t in
       let p : ℕ = writesPlace s in
       let W : List ℕ = printMany (writeF s) (o .writes) in
-      let u : drop p d ≡ W ++ drop e d = many-law (writeF s) (write-law s) n .read (drop p d) (o .writes) (drop e d) (bytes-drop p d bs) (o .there .parsed) in
+      let u : drop p d ≡ W ++ drop e d = many-law (writeF s) (write-law s) n .read (drop p d) (o .writes) (drop e d) (bytes-drop p d bs)
+      (o .there .parsed) in
       let l : length (drop p d) ≡ length W + length (drop e d) = ap length u ∙ length-append W (drop e d) in
       omega (arith, l, length-drop p d, length-drop e d, o .there .within, printed o, memory-size-of o bs, size-few t (memory-fields o .t-range .1))
 
@@ -76,7 +77,14 @@ module _ {d : List ℕ} {t b n e : ℕ} {top : Top} (o : Opened d t b n e top) (
     fits =
         let f = memory-fields o in
         let m : Memory = added (memoryIn o) w in
-        let r = memory-room m (of-fields m (record { t-range = f .t-range; server-range = f .server-range; few = ok .few; latest = ok .latest; writes = ok .writes; once = ok .once })) in
+        let r = memory-room m (of-fields m (record {
+          t-range = f .t-range;
+          server-range = f .server-range;
+          few = ok .few;
+          latest = ok .latest;
+          writes = ok .writes;
+          once = ok .once;
+        })) in
         let L : List ℕ = anyCandidateF (shelf t) .print (memoryIn o .latest) in
         let W : List ℕ = printMany (writeF (shelf t)) (o .writes) in
         let X : List ℕ = writeF (shelf t) .print w in
@@ -89,7 +97,8 @@ module _ {d : List ℕ} {t b n e : ℕ} {top : Top} (o : Opened d t b n e top) (
         let c : n ≡ length (o .writes) = sym (many-count n (writeF (shelf t)) (o .there)) in
         let size = memory-size-of o bs in
         let d₁ : List ℕ = set d 2 (n + 1) in
-        let f : placed d 2 ((n + 1) ∷ []) .output ≡ d₁ = placed-put d 2 ((n + 1) ∷ []) (omega (arith, size)) ∙ sym (wrote-byte d 2 (n + 1) (omega (arith, size)) .bytes) in
+        let f : placed d 2 ((n + 1) ∷ []) .output ≡ d₁ = placed-put d 2 ((n + 1) ∷ []) (omega (arith, size)) ∙ sym
+        (wrote-byte d 2 (n + 1) (omega (arith, size)) .bytes) in
         let l : e + length x ≤ length d₁ = omega (arith, ap length p, writes-end, fits, length-set d 2 (n + 1), size) in
         ap (λ (y : List ℕ). placed y e x .output) f
         ∙ placed-put d₁ e x l
@@ -106,14 +115,16 @@ pub code-made : (h : Head) (c : ℕ) (output : List ℕ) {g : Head} {second : Li
 code-made h c output {g} {second} q p w =
     headed h 4 output (c ∷ []) second q w ∙ ap (λ (y : List ℕ). packetStep (replyHead h 4) (c ∷ []) y output) (p ∙ part-none (c ∷ []) 0)
 
-pub kept-made : (d : List ℕ) (n e : ℕ) (w : List ℕ) {j k : ℕ} {mid out : List ℕ} → record { next = j; output = mid } ≡ placed d countPlace ((n + 1) ∷ [])
+pub kept-made : (d : List ℕ) (n e : ℕ) (w : List ℕ) {j k : ℕ} {mid out : List ℕ} → record { next = j; output = mid } ≡ placed d countPlace
+    ((n + 1) ∷ [])
     → record { next = k; output = out } ≡ placed mid e w → out ≡ keptBytes d n e w
 unfolding keptBytes
 kept-made d n e w p q = ap (λ (z : Placed). z .output) q ∙ ap (λ (y : List ℕ). placed y e w .output) (ap (λ (z : Placed). z .output) p)
 
 -- ---- the answers
 
-module _ {d : List ℕ} (bs : Bytes d) (packet : List ℕ) (ps : Bytes packet) (output : List ℕ) (h : Head) {n e : ℕ} {top : Top} (key : List ℕ) (o : Opened d (h .t) (h .server) n e top)
+module _ {d : List ℕ} (bs : Bytes d) (packet : List ℕ) (ps : Bytes packet) (output : List ℕ) (h : Head) {n e : ℕ} {top : Top} (key : List ℕ)
+    (o : Opened d (h .t) (h .server) n e top)
     (dec : decode packet ≡ some (packetAt h packet)) (k : h .kind ≡ 3) (room : packetRoom ≤ length output) where
   abbrev written : Write
   written = writeAt (shelf (h .t)) (drop headSize packet)
@@ -146,7 +157,8 @@ module _ {d : List ℕ} (bs : Bytes d) (packet : List ℕ) (ps : Bytes packet) (
     unfolding act kept serverIn
     step-held t = rw (q ∙ t)
 
-    step-full : g ≡ false → capacity ≤ n → act real (shelf (h .t)) key (h .server) server (store written) ≡ record { server = server; reply = storeReply 11 }
+    step-full : g ≡ false → capacity ≤ n → act real (shelf (h .t)) key (h .server) server (store written) ≡ record
+        { server = server; reply = storeReply 11 }
     unfolding act kept serverIn
     step-full t l = rw (q ∙ t, le-leb capacity (length (o .writes)) (omega (arith, count, l)))
 
@@ -163,34 +175,43 @@ module _ {d : List ℕ} (bs : Bytes d) (packet : List ℕ) (ps : Bytes packet) (
   module _ {x : List ℕ} (p : x ≡ drop headSize packet) {f : Found} (g : FindAs (shelf (h .t)) n top d x f) where
     is-held : {at : ℕ} → f ≡ found.At at → isSome (held (written .stamp) (o .writes)) ≡ true
     is-held t =
-        let i = subst (λ (y : Found). FindIs (shelf (h .t)) d (firstWith (part x 0 stampSize) (o .writes)) y) t (g (o .writes) e (o .there) (o .up)) in
+        let i = subst (λ (y : Found). FindIs (shelf (h .t)) d (firstWith (part x 0 stampSize) (o .writes)) y) t
+        (g (o .writes) e (o .there) (o .up)) in
         ap isSome (sym (found-held p) ∙ ap shareIn (i .first))
 
     is-new : f ≡ found.Nothing → isSome (held (written .stamp) (o .writes)) ≡ false
     is-new t =
-        let i : firstWith (part x 0 stampSize) (o .writes) ≡ none = subst (λ (y : Found). FindIs (shelf (h .t)) d (firstWith (part x 0 stampSize) (o .writes)) y) t (g (o .writes) e (o .there) (o .up)) in
+        let i : firstWith (part x 0 stampSize) (o .writes) ≡ none = subst (λ (y : Found). FindIs (shelf (h .t)) d
+        (firstWith (part x 0 stampSize) (o .writes)) y) t (g (o .writes) e (o .there) (o .up)) in
         ap isSome (sym (found-held p) ∙ ap shareIn i)
 
-    pub answer-held : {r : Outcome} {out : List ℕ} {at : ℕ} → f ≡ found.At at → record { result = r; output = out } ≡ packetStep (replyHead h 4) (10 ∷ []) [] output
+    pub answer-held : {r : Outcome} {out : List ℕ} {at : ℕ} → f ≡ found.At at → record { result = r; output = out } ≡ packetStep (replyHead h 4)
+        (10 ∷ []) [] output
         → record { result = r; memory = d; output = out } ≡ accepted real d key packet output (memoryIn o) (decode packet)
     answer-held t w =
-        replied-as key packet output h o dec room (store written) the-body _ (step-held true (is-held t) refl) (10 ∷ []) [] (unchanged o bs) (code-alone 10) w
+        replied-as key packet output h o dec room (store written) the-body _ (step-held true (is-held t) refl) (10 ∷ []) [] (unchanged o bs)
+        (code-alone 10) w
 
-    pub answer-full : {r : Outcome} {out : List ℕ} → f ≡ found.Nothing → capacity ≤ n → record { result = r; output = out } ≡ packetStep (replyHead h 4) (11 ∷ []) [] output
+    pub answer-full : {r : Outcome} {out : List ℕ} → f ≡ found.Nothing → capacity ≤ n → record { result = r; output = out } ≡ packetStep
+        (replyHead h 4) (11 ∷ []) [] output
         → record { result = r; memory = d; output = out } ≡ accepted real d key packet output (memoryIn o) (decode packet)
     answer-full t l w =
-        replied-as key packet output h o dec room (store written) the-body _ (step-full false (is-new t) refl l) (11 ∷ []) [] (unchanged o bs) (code-alone 11) w
+        replied-as key packet output h o dec room (store written) the-body _ (step-full false (is-new t) refl l) (11 ∷ []) [] (unchanged o bs)
+        (code-alone 11) w
 
     pub answer-kept : {r : Outcome} {out : List ℕ} → f ≡ found.Nothing → n < capacity → {m : List ℕ} → m ≡ keptBytes d n e x
         → record { result = r; output = out } ≡ packetStep (replyHead h 4) (0 ∷ []) [] output
         → record { result = r; memory = m; output = out } ≡ accepted real d key packet output (memoryIn o) (decode packet)
     answer-kept t l u w =
         let a = step-kept false (is-new t) refl l in
-        let ok = subst (λ (z : Acted). ServerOk (shelf (h .t)) (z .server)) a (act-ok real (shelf (h .t)) key (h .server) server (server-ok o) (store written) write-ok .server) in
+        let ok = subst (λ (z : Acted). ServerOk (shelf (h .t)) (z .server)) a (act-ok real (shelf (h .t)) key (h .server) server (server-ok o)
+        (store written) write-ok .server) in
         replied-as key packet output h o dec room (store written) the-body _ a (0 ∷ []) []
         (u ∙ as-memory ok l x (p ∙ write-bytes)) (code-alone 0) w
       where
-        as-memory : ServerOk (shelf (h .t)) (record { latest = memoryIn o .latest; history = o .writes ++ written ∷ [] }) → n < capacity → (y : List ℕ)
+        as-memory : ServerOk (shelf (h .t)) (record { latest = memoryIn o .latest; history = o .writes ++ written ∷ [] }) → n < capacity →
+            (y : List ℕ)
             → y ≡ writeF (shelf (h .t)) .print written
-            → keptBytes d n e y ≡ encodeMemory (memoryOf (h .t) (h .server) (record { latest = memoryIn o .latest; history = o .writes ++ written ∷ [] }))
+            → keptBytes d n e y ≡ encodeMemory (memoryOf (h .t) (h .server) (record
+            { latest = memoryIn o .latest; history = o .writes ++ written ∷ [] }))
         as-memory ok l y q = unfold memoryOf in kept-memory o bs written l ok y q

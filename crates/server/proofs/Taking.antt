@@ -81,7 +81,15 @@ module _ (h : Head) (packet : List ℕ) where
     pub barred-other : (h .kind ≡ 11 → ⊥) → true ≡ barred (h .client) (packetAt h packet .body)
     unfolding packetAt bodyAt barred
     barred-other not11 =
-        rw (ne-eqb (h .kind) 1 not1, ne-eqb (h .kind) 3 not3, ne-eqb (h .kind) 5 not5, ne-eqb (h .kind) 7 not7, ne-eqb (h .kind) 9 not9, ne-eqb (h .kind) 11 not11)
+        rw (
+          ne-eqb (h .kind) 1 not1,
+          ne-eqb (h .kind) 3 not3,
+          ne-eqb (h .kind) 5 not5,
+          ne-eqb (h .kind) 7 not7,
+          ne-eqb (h .kind) 9 not9,
+          ne-eqb
+              (h .kind) 11 not11,
+        )
         (at-cond (eqb (h .kind) 2) _ _ Q (λ e. refl)
         (λ e. at-cond (eqb (h .kind) 4) _ _ Q (λ e. refl)
         (λ e. at-cond (eqb (h .kind) 6) _ _ Q (λ e. refl)
@@ -145,7 +153,8 @@ unfolding serverRefusal packetAt
 was-let-in h t b packet room e =
     go (eqb (h .t) t && eqb (h .server) b) refl (barred (h .client) (packetAt h packet .body)) refl (ltb room packetRoom) refl e
   where
-    go : (x : Bool) → (eqb (h .t) t && eqb (h .server) b) ≡ x → (y : Bool) → barred (h .client) (packetAt h packet .body) ≡ y → (z : Bool) → ltb room packetRoom ≡ z
+    go : (x : Bool) → (eqb (h .t) t && eqb (h .server) b) ≡ x → (y : Bool) → barred (h .client) (packetAt h packet .body) ≡ y → (z : Bool) → ltb room
+        packetRoom ≡ z
         → _≡_ {A = ℕ} (cond (not x) 8 (cond y 9 (cond z 15 0))) 0 → LetIn h t b packet room
     go true p false q false r k =
         let (i, j) = and-both (eqb (h .t) t) (eqb (h .server) b) p in
@@ -182,7 +191,8 @@ module _ (d key packet output : List ℕ) where
       unfolding serverTake onMemory serverRefusal turnedDown
       take-unread r p = rw (eq-eqb (length d) memorySize size, o .decoded, r) (ap down p)
 
-      module _ (h : Head) (dec : decode packet ≡ some (packetAt h packet)) {k : ℕ} (found : k ≡ serverRefusal t b (some (packetAt h packet)) (length output)) where
+      module _ (h : Head) (dec : decode packet ≡ some (packetAt h packet)) {k : ℕ} (found : k ≡ serverRefusal t b (some (packetAt h packet))
+          (length output)) where
         whole : serverTake real d key packet output ≡ onRefusal k (accepted real d key packet output (memoryIn o) (decode packet)) (down (number k))
         unfolding serverTake onMemory turnedDown
         whole =

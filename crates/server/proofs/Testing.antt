@@ -57,7 +57,8 @@ module _ (s : Config) (n : ℕ) (top : Top) (d x g : List ℕ) where
       let i : firstWith (part x 0 stampSize) ws ≡ none = subst (λ (z : Found). FindIs s d (firstWith (part x 0 stampSize) ws) z) t (find ws e m u) in
       sym (ap (hasDigest g) (sym (found-for ws a q) ∙ ap shareIn i))
 
-  pub history-found : {f : Found} → FindAs s n top d x f → {at : ℕ} → f ≡ found.At at → {b c z : List ℕ} {r : Bool} → b ≡ drop at d → c ≡ drop stampSize b → z ≡ shareAt s c .nonceDigest → r ≡ sameList z g
+  pub history-found : {f : Found} → FindAs s n top d x f → {at : ℕ} → f ≡ found.At at → {b c z : List ℕ} {r : Bool} → b ≡ drop at d → c ≡ drop
+      stampSize b → z ≡ shareAt s c .nonceDigest → r ≡ sameList z g
       → HistoryAs s n top d x g r
   unfolding writeAt
   history-found find {at} t {b} {c} {z} {r} u v w k ws e m up a q =
@@ -67,8 +68,10 @@ module _ (s : Config) (n : ℕ) (top : Top) (d x g : List ℕ) where
 
 -- ---- by the tag
 
-pub tag-made : (s : Config) (prepared : Prepared) (b : ℕ) (x g : List ℕ) {y u v z : List ℕ} {l : ℕ} {r : Bool} → y ≡ part x 0 stampSize → v ≡ preparedTag prepared (y ++ g)
-    → l ≡ tagsSize s → u ≡ part x (stampSize + nonceSize) l → z ≡ part u (tagSize * (b - 1)) tagSize → r ≡ sameList z v → r ≡ tagChecks s prepared b x g
+pub tag-made : (s : Config) (prepared : Prepared) (b : ℕ) (x g : List ℕ) {y u v z : List ℕ} {l : ℕ} {r : Bool} → y ≡ part x 0 stampSize → v ≡
+    preparedTag prepared (y ++ g)
+    → l ≡ tagsSize s → u ≡ part x (stampSize + nonceSize) l → z ≡ part u (tagSize * (b - 1)) tagSize → r ≡ sameList z v → r ≡ tagChecks s prepared b x
+    g
 unfolding tagChecks candidateAt nth part
 tag-made s prepared b x g p q k i j w =
     let a = q ∙ ap (λ (o : List ℕ). preparedTag prepared (o ++ g)) p in
@@ -78,7 +81,8 @@ tag-made s prepared b x g p q k i j w =
 -- ---- both
 
 module _ (d key : List ℕ) (t b n : ℕ) (top : Top) (x : List ℕ) {g : List ℕ} (q : g ≡ nonceHash x) where
-  module _ {e : ℕ} (o : Opened d t b n e top) (made : x ≡ candidateF (shelf t) .print (candidateAt (shelf t) x)) (ok : candidateF (shelf t) .Ok (candidateAt (shelf t) x)) where
+  module _ {e : ℕ} (o : Opened d t b n e top) (made : x ≡ candidateF (shelf t) .print (candidateAt (shelf t) x))
+      (ok : candidateF (shelf t) .Ok (candidateAt (shelf t) x)) where
     stamp-start : part x 0 stampSize ≡ stampF .print (candidateAt (shelf t) x .stamp)
     unfolding part
     stamp-start =
@@ -92,7 +96,8 @@ module _ (d key : List ℕ) (t b n : ℕ) (top : Top) (x : List ℕ) {g : List �
     history-is : {r : Bool} → HistoryAs (shelf t) n top d x g r → r ≡ byHistory real (shelf t) key b (serverIn (memoryIn o)) (candidateAt (shelf t) x)
     unfolding byHistory serverIn
     history-is h =
-        h (o .writes) e (o .there) (o .up) (candidateAt (shelf t) x .stamp) stamp-start ∙ ap (λ (z : List ℕ). hasDigest z (held (candidateAt (shelf t) x .stamp) (o .writes))) digest-is
+        h (o .writes) e (o .there) (o .up) (candidateAt (shelf t) x .stamp) stamp-start ∙ ap
+        (λ (z : List ℕ). hasDigest z (held (candidateAt (shelf t) x .stamp) (o .writes))) digest-is
 
     tag-is : tagChecks (shelf t) (preparedOf key) b x g ≡ byTag real (shelf t) key b (candidateAt (shelf t) x)
     unfolding tagChecks byTag real
@@ -107,7 +112,8 @@ module _ (d key : List ℕ) (t b n : ℕ) (top : Top) (x : List ℕ) {g : List �
   unfolding valid
   valid-history h i e o made ok = rw (sym (history-is o made ok h) ∙ i)
 
-  pub valid-tag : {r c : Bool} → HistoryAs (shelf t) n top d x g r → r ≡ false → {prepared : Prepared} → prepared ≡ preparedOf key → c ≡ tagChecks (shelf t) prepared b x g
+  pub valid-tag : {r c : Bool} → HistoryAs (shelf t) n top d x g r → r ≡ false → {prepared : Prepared} → prepared ≡ preparedOf key → c ≡ tagChecks
+      (shelf t) prepared b x g
       → ValidAs d key t b n top x c
   unfolding valid
   valid-tag h i k j e o made ok = rw (sym (history-is o made ok h) ∙ i) (j ∙ ap (λ (z : Prepared). tagChecks (shelf t) z b x g) k ∙ tag-is o made ok)

@@ -44,7 +44,8 @@ module _ (d key : List ℕ) (t b n : ℕ) (top : Top) (y : List ℕ) (m : ℕ) w
         above = λ e o l j k h. go e o l j k h (ltb (rankOf (shelf t) y j) bound) refl;
       }
     where
-      go : (e : ℕ) (o : Opened d t b n e top) → Listed (shelf t) m y → (j : ℕ) → j < m → rank < rankOf (shelf t) y j → (c : Bool) → ltb (rankOf (shelf t) y j) bound ≡ c
+      go : (e : ℕ) (o : Opened d t b n e top) → Listed (shelf t) m y → (j : ℕ) → j < m → rank < rankOf (shelf t) y j → (c : Bool) → ltb
+          (rankOf (shelf t) y j) bound ≡ c
           → valid real (shelf t) key b (serverIn (memoryIn o)) (candidateAt (shelf t) (slotOf (shelf t) y j)) ≡ false
       go e o l j k h true f = absurd (omega (arith, p, h, next-most (shelf t) y m bound j k (ltb-true (rankOf (shelf t) y j) bound f)))
       go e o l j k h false f = none e o l j k (ltb-false (rankOf (shelf t) y j) bound f)
@@ -55,7 +56,8 @@ module _ (d key : List ℕ) (t b n : ℕ) (top : Top) (y : List ℕ) (m : ℕ) w
         best-none (shelf t) key b (serverIn (memoryIn o)) y m few l
         (λ j k. w .above e o l j k (omega (arith, h, rank-pos (shelf t) y j (omega arith))))
 
-    module _ {rank : ℕ} (w : Trying rank) (pos : 0 < rank) {i : ℕ} (p : i ≡ slotWith rank) {x : List ℕ} (q : x ≡ slotOf (shelf t) y i) {r : Bool} (test : ValidAs d key t b n top x r) where
+    module _ {rank : ℕ} (w : Trying rank) (pos : 0 < rank) {i : ℕ} (p : i ≡ slotWith rank) {x : List ℕ} (q : x ≡ slotOf (shelf t) y i) {r : Bool}
+        (test : ValidAs d key t b n top x r) where
       in-hand : (i < m) × (rank ≡ rankOf (shelf t) y i)
       in-hand =
           let (k, h, u) = w .slot pos in
@@ -85,7 +87,8 @@ module _ (d key : List ℕ) (t b n : ℕ) (top : Top) (y : List ℕ) (m : ℕ) w
           go false z =
               let v : rankOf (shelf t) y i ≡ rankOf (shelf t) y j = omega (arith, in-hand .1, h, ltb-false rank (rankOf (shelf t) y j) z) in
               let s : i ≡ j = rank-inj (shelf t) y i j (omega (arith, in-hand .0, few)) (omega (arith, k, few)) v in
-              ap (λ (z : ℕ). valid real (shelf t) key b (serverIn (memoryIn o)) (candidateAt (shelf t) (slotOf (shelf t) y z))) (sym s) ∙ sym (tested e o l) ∙ g
+              ap (λ (z : ℕ). valid real (shelf t) key b (serverIn (memoryIn o)) (candidateAt (shelf t) (slotOf (shelf t) y z))) (sym s) ∙ sym
+              (tested e o l) ∙ g
 
 pub next-less : (t : ℕ) (y : List ℕ) (m : ℕ) {rank next : ℕ} → 0 < rank → next ≡ nextRank (shelf t) y m rank → next < rank
 next-less t y m {rank} {next} pos u = go (ltb 0 (nextRank (shelf t) y m rank)) refl
@@ -96,18 +99,21 @@ next-less t y m {rank} {next} pos u = go (ltb 0 (nextRank (shelf t) y m rank)) r
 
 -- ---- the highest of all
 
-module _ (d key : List ℕ) (t b n : ℕ) (top : Top) (y : List ℕ) (m : ℕ) (few : m ≤ 255) (bs : Bytes y) {rank : ℕ} (u : rank ≡ nextRank (shelf t) y m 281474976710656) where
+module _ (d key : List ℕ) (t b n : ℕ) (top : Top) (y : List ℕ) (m : ℕ) (few : m ≤ 255) (bs : Bytes y) {rank : ℕ}
+    (u : rank ≡ nextRank (shelf t) y m 281474976710656) where
   highest : Trying d key t b n top y m rank
   highest = try-under d key t b n top y m (none-above d key t b n top y m bs) u
 
   pub highest-none : rank ≤ 0 → ChosenAs d key t b n top y m chosen.Nothing
   highest-none h = try-none d key t b n top y m few highest h
 
-  module _ (pos : 0 < rank) {i : ℕ} (p : i ≡ slotWith rank) {x : List ℕ} (q : x ≡ slotOf (shelf t) y i) {g : List ℕ} (f : g ≡ nonceHash x) {r : Bool} (past : HistoryAs (shelf t) n top d x g r) where
+  module _ (pos : 0 < rank) {i : ℕ} (p : i ≡ slotWith rank) {x : List ℕ} (q : x ≡ slotOf (shelf t) y i) {g : List ℕ} (f : g ≡ nonceHash x) {r : Bool}
+      (past : HistoryAs (shelf t) n top d x g r) where
     pub highest-held : r ≡ true → ChosenAs d key t b n top y m (chosen.At i)
     highest-held h = try-found d key t b n top y m few highest pos p q (valid-history d key t b n top x f past h) refl
 
-    module _ (unheld : r ≡ false) {prepared : Prepared} (k : prepared ≡ preparedOf key) {c : Bool} (tag : c ≡ tagChecks (shelf t) prepared b x g) where
+    module _ (unheld : r ≡ false) {prepared : Prepared} (k : prepared ≡ preparedOf key) {c : Bool}
+        (tag : c ≡ tagChecks (shelf t) prepared b x g) where
       pub highest-tagged : c ≡ true → ChosenAs d key t b n top y m (chosen.At i)
       highest-tagged h = try-found d key t b n top y m few highest pos p q (valid-tag d key t b n top x f past unheld k tag) h
 

@@ -47,17 +47,23 @@ module _ (d : List ℕ) where
 
       made : put d latestPlace (zeros (candidateSize (shelf t))) ≡ encodeMemory (raised (memoryIn o) (blankCandidate (shelf t)))
       made =
-          let old : length (anyCandidateF (shelf t) .print (memoryIn o .latest)) ≡ candidateSize (shelf t) = any-candidate-length (shelf t) (memoryIn o .latest) (memory-fields o .latest) in
-          let new : length (anyCandidateF (shelf t) .print (blankCandidate (shelf t))) ≡ candidateSize (shelf t) = ap length (blank-print (shelf t)) ∙ length-replicate {A = ℕ} (candidateSize (shelf t)) 0 in
-          (λ i. put (sym (memory-bytes o bs) i) latestPlace (sym (blank-print (shelf t)) i)) ∙ latest-bytes (memoryIn o) (blankCandidate (shelf t)) (old ∙ sym new)
+          let old : length (anyCandidateF (shelf t) .print (memoryIn o .latest)) ≡ candidateSize (shelf t) = any-candidate-length (shelf t)
+          (memoryIn o .latest) (memory-fields o .latest) in
+          let new : length (anyCandidateF (shelf t) .print (blankCandidate (shelf t))) ≡ candidateSize (shelf t) = ap length (blank-print (shelf t)) ∙
+          length-replicate {A = ℕ} (candidateSize (shelf t)) 0 in
+          (λ i. put (sym (memory-bytes o bs) i) latestPlace (sym (blank-print (shelf t)) i)) ∙ latest-bytes (memoryIn o) (blankCandidate (shelf t))
+          (old ∙ sym new)
 
-      pub latest-blanked : {k : ℕ} {x : List ℕ} {j : ℕ} {out : List ℕ} → k ≡ candidateSize (shelf t) → x ≡ part (zeros (stampSize + nonceSize + tagSize * mostServers)) 0 k
+      pub latest-blanked : {k : ℕ} {x : List ℕ} {j : ℕ} {out : List ℕ} → k ≡ candidateSize (shelf t) → x ≡ part
+          (zeros (stampSize + nonceSize + tagSize * mostServers)) 0 k
           → record { next = j; output = out } ≡ placed d latestPlace x → blanked 0 out ≡ blankLatest d
       unfolding blankLatest latestBlanked
       latest-blanked {k} {x} p q r =
           let t-few : t ≤ topFaults = memory-fields o .t-range .1 in
           let c : ℕ = candidateSize (shelf t) in
-          let z : x ≡ zeros c = q ∙ ap (part (zeros (stampSize + nonceSize + tagSize * mostServers)) 0) p ∙ part-zeros (stampSize + nonceSize + tagSize * mostServers) 0 c (omega (arith, candidate-most t t-few)) in
+          let z : x ≡ zeros c = q ∙ ap (part (zeros (stampSize + nonceSize + tagSize * mostServers)) 0) p ∙ part-zeros
+          (stampSize + nonceSize + tagSize * mostServers) 0 c (omega (arith, candidate-most t t-few)) in
           let l : latestPlace + length (zeros c) ≤ length d = omega (arith, length-replicate {A = ℕ} c 0, memory-size-of o bs, size-few t t-few) in
           rw (eq-eqb (length d) memorySize size, o .decoded)
-          (ap (blanked 0) (ap (λ (y : Placed). y .output) r ∙ ap (λ (y : List ℕ). placed d latestPlace y .output) z ∙ placed-put d latestPlace (zeros c) l ∙ made))
+          (ap (blanked 0) (ap (λ (y : Placed). y .output) r ∙ ap (λ (y : List ℕ). placed d latestPlace y .output) z ∙ placed-put d latestPlace
+          (zeros c) l ∙ made))

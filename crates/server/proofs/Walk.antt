@@ -46,7 +46,8 @@ module _ (s : Config) {d : List ℕ} {at q : ℕ} {w : Write} (f : Leaves (write
   write-bytes : drop at d ≡ stampF .print (w .stamp) ++ (shareF s .print (w .share) ++ drop q d)
   unfolding writeF via seq
   write-bytes =
-      let u : drop at d ≡ writeF s .print w ++ drop q d = unfold writeF via seq in (write-law s .read (drop at d) w (drop q d) (bytes-drop at d bs) (f .parsed)) in
+      let u : drop at d ≡ writeF s .print w ++ drop q d = unfold writeF via seq in (write-law s .read (drop at d) w (drop q d) (bytes-drop at d bs)
+      (f .parsed)) in
       u ∙ append-assoc (stampF .print (w .stamp)) (shareF s .print (w .share)) (drop q d)
 
   share-bytes : drop stampSize (drop at d) ≡ shareF s .print (w .share) ++ drop q d
@@ -76,8 +77,20 @@ module _ (s : Config) {d : List ℕ} {at q : ℕ} {w : Write} (f : Leaves (write
       let A : List ℕ = stampF .print (w .stamp) in
       let B : List ℕ = shareF s .print (w .share) in
       let l : length (drop at d) ≡ length A + length (B ++ drop q d) = ap length write-bytes ∙ length-append A (B ++ drop q d) in
-      let m : fragmentSize (s .shares) (w .share .size) ≡ fragmentSize (s .shares) (lengthAt (drop stampSize (drop at d))) = ap (fragmentSize (s .shares)) size-is in
-      omega (arith, l, m, length-append B (drop q d), stamp-there, share-length s (w .share) share-ok, length-drop at d, length-drop q d, f .within, h)
+      let m : fragmentSize (s .shares) (w .share .size) ≡ fragmentSize (s .shares) (lengthAt (drop stampSize (drop at d))) = ap
+      (fragmentSize (s .shares)) size-is in
+      omega (
+        arith,
+        l,
+        m,
+        length-append B (drop q d),
+        stamp-there,
+        share-length s (w .share) share-ok,
+        length-drop at d,
+        length-drop q d,
+        f .within,
+        h,
+      )
 
 -- no content, no fragment
 pub no-fragment : (t : ℕ) → fragmentSize (shelf t .shares) 0 ≡ 0
@@ -90,7 +103,8 @@ pub size-told : (t : ℕ) (d : List ℕ) (at : ℕ) {y x : List ℕ} {v f g : �
 unfolding lengthAt shareSize
 size-told t d at {y} {x} p q r a b =
     let e : x ≡ drop stampSize (drop at d) = q ∙ ap (drop stampSize) p in
-    let l : fragmentSize (shelf t .shares) _ ≡ fragmentSize (shelf t .shares) _ = ap (fragmentSize (shelf t .shares)) (r ∙ ap (λ (z : List ℕ). value2 (getD z 0 0) (getD z 1 0)) e) in
+    let l : fragmentSize (shelf t .shares) _ ≡ fragmentSize (shelf t .shares) _ = ap (fragmentSize (shelf t .shares))
+    (r ∙ ap (λ (z : List ℕ). value2 (getD z 0 0) (getD z 1 0)) e) in
     omega (arith, no-fragment t)
 
 -- the next of the stored writes
@@ -106,7 +120,8 @@ next-write s {d} {at} bs k j {e} {ys} p m = go (ltb (length d) at) refl
 
     here : at ≤ length d → Reads (writeF s) d at ⊎ Stops (writeF s) d at → G
     here h (inl r) =
-        leaves-moved refl (write-ends s (r .there) bs h) (subst (λ (x : Write). Leaves (writeF s) d at x (r .next)) (write-is s (r .there) bs) (r .there))
+        leaves-moved refl (write-ends s (r .there) bs h) (subst (λ (x : Write). Leaves (writeF s) d at x (r .next)) (write-is s (r .there) bs)
+        (r .there))
     here h (inr f) = absurd (many-stops (writeF s) k j p m f)
 
     go : (b : Bool) → ltb (length d) at ≡ b → G
@@ -123,8 +138,12 @@ pub record Walking (s : Config) (n : ℕ) (d key : List ℕ) (at i : ℕ) : Type
 pub walk-none : (s : Config) (n : ℕ) (d key : List ℕ) {at : ℕ} → at ≡ writesPlace s → Walking s n d key at 0
 walk-none s n d key {at} p =
     record {
-      rest = λ ws e m.
-          (ws, subst (λ (j : ℕ). Leaves (many (n - 0) (writeF s)) d j ws e) (sym p) (subst (λ (j : ℕ). Leaves (many j (writeF s)) d (writesPlace s) ws e) (sym (sub-zero n)) m), refl);
+      rest = λ ws e m. (
+        ws,
+        subst (λ (j : ℕ). Leaves (many (n - 0) (writeF s)) d j ws e) (sym p)
+            (subst (λ (j : ℕ). Leaves (many j (writeF s)) d (writesPlace s) ws e) (sym (sub-zero n)) m),
+        refl,
+      );
     }
 
 module _ {s : Config} {n : ℕ} {d key : List ℕ} {at i : ℕ} (h : Walking s n d key at i) where

@@ -19,8 +19,10 @@ bit : (x y z : ℕ) → x < 2 → y < 2 → z < 2 → majority x y z ≡ mixed x
 unfolding majority
 bit x y z h k l =
     two (λ i. majority i y z ≡ mixed i y z)
-    (two (λ j. majority 0 j z ≡ mixed 0 j z) (two (λ n. majority 0 0 n ≡ mixed 0 0 n) refl refl z l) (two (λ n. majority 0 1 n ≡ mixed 0 1 n) refl refl z l) y k)
-    (two (λ j. majority 1 j z ≡ mixed 1 j z) (two (λ n. majority 1 0 n ≡ mixed 1 0 n) refl refl z l) (two (λ n. majority 1 1 n ≡ mixed 1 1 n) refl refl z l) y k)
+    (two (λ j. majority 0 j z ≡ mixed 0 j z) (two (λ n. majority 0 0 n ≡ mixed 0 0 n) refl refl z l)
+    (two (λ n. majority 0 1 n ≡ mixed 0 1 n) refl refl z l) y k)
+    (two (λ j. majority 1 j z ≡ mixed 1 j z) (two (λ n. majority 1 0 n ≡ mixed 1 0 n) refl refl z l)
+    (two (λ n. majority 1 1 n ≡ mixed 1 1 n) refl refl z l) y k)
     x h
 
 -- at a last bit and what is before it
@@ -48,8 +50,10 @@ mixed-split a b c x y z h k l =
 pub majority-mixed : (n x y z : ℕ) → x < 2 ^ n → y < 2 ^ n → z < 2 ^ n → majority x y z ≡ mixed x y z
 majority-mixed zero x y z h k l = bit x y z (omega arith) (omega arith) (omega arith)
 majority-mixed (suc n) x y z h k l =
-    let ih : majority (x / 2) (y / 2) (z / 2) ≡ mixed (x / 2) (y / 2) (z / 2) = majority-mixed n (x / 2) (y / 2) (z / 2) (half x h) (half y k) (half z l) in
-    let low : majority (x % 2) (y % 2) (z % 2) ≡ mixed (x % 2) (y % 2) (z % 2) = bit (x % 2) (y % 2) (z % 2) (omega arith) (omega arith) (omega arith) in
+    let ih : majority (x / 2) (y / 2) (z / 2) ≡ mixed (x / 2) (y / 2) (z / 2) = majority-mixed n (x / 2) (y / 2) (z / 2) (half x h) (half y k)
+    (half z l) in
+    let low : majority (x % 2) (y % 2) (z % 2) ≡ mixed (x % 2) (y % 2) (z % 2) = bit (x % 2) (y % 2) (z % 2) (omega arith) (omega arith)
+    (omega arith) in
     whole majority x y z
     ∙ majority-split (x / 2) (y / 2) (z / 2) (x % 2) (y % 2) (z % 2) (omega arith) (omega arith) (omega arith)
     ∙ ap₂ (λ (p q : ℕ). p * 2 ^ 1 + q) ih low

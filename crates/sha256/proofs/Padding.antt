@@ -54,7 +54,8 @@ fill-zeros x k h =
     ∙ ap (λ (y : List ℕ). x ++ y) (replicate-append-replicate {A = ℕ} k (128 - length (x ++ z)) 0 ∙ ap (λ (j : ℕ). replicate j 0) n))
 
 pub tail-made : (rest d : List ℕ) (n i k : ℕ) → i ≡ length rest → k ≡ i + length d → k ≤ 119 → n % 64 ≡ k % 64
-    → paste (paste (paste (paste (replicate 128 0) 0 rest (length rest)) i d (length d)) k (0x80 ∷ []) 1) ((k + 8) / 64 * 64 + 56) (bigEndian 8 (n * 8 % 2 ^ 64)) 8
+    → paste (paste (paste (paste (replicate 128 0) 0 rest (length rest)) i d (length d)) k (0x80 ∷ []) 1) ((k + 8) / 64 * 64 + 56)
+    (bigEndian 8 (n * 8 % 2 ^ 64)) 8
     ≡ filled (rest ++ (d ++ padding n))
 unfolding padding bigEndian
 tail-made rest d n i k hi hk h m =
@@ -67,10 +68,12 @@ tail-made rest d n i k hi hk h m =
     let e1 : paste (replicate 128 0) 0 rest (length rest) ≡ filled rest = from-none rest
     (fill-put [] rest 0 (length rest) refl refl (omega arith)) in
     let e2 : paste (filled rest) i d (length d) ≡ filled (rest ++ d) = fill-put rest d i (length d) hi refl (omega arith) in
-    let e3 : paste (filled (rest ++ d)) k mark 1 ≡ filled marked = fill-put (rest ++ d) mark k 1 (omega (arith, length-append rest d)) refl (omega arith) in
+    let e3 : paste (filled (rest ++ d)) k mark 1 ≡ filled marked = fill-put (rest ++ d) mark k 1 (omega (arith, length-append rest d)) refl
+    (omega arith) in
     let e4 : filled marked ≡ filled (marked ++ z) = fill-zeros marked (zeros n) (omega arith) in
     let e5 : paste (filled (marked ++ z)) at c 8 ≡ filled (marked ++ z ++ c) =
-    fill-put (marked ++ z) c at 8 (omega (arith, length-append marked z, length-replicate {A = ℕ} (zeros n) 0)) (sym (tab-length 8 _)) (omega arith) in
+    fill-put (marked ++ z) c at 8 (omega (arith, length-append marked z, length-replicate {A = ℕ} (zeros n) 0)) (sym (tab-length 8 _))
+    (omega arith) in
     let e6 : marked ++ z ++ c ≡ rest ++ (d ++ (mark ++ (z ++ c))) =
     append-assoc marked z c ∙ append-assoc (rest ++ d) mark (z ++ c) ∙ append-assoc rest d (mark ++ (z ++ c)) in
     ap (λ (t : List ℕ). paste (paste (paste t i d (length d)) k mark 1) at c 8) e1
@@ -85,13 +88,15 @@ tail-length : (rest d : List ℕ) (n : ℕ) → length rest + length d ≤ 119 �
 tail-length rest d n h e = omega (arith, length-append rest (d ++ padding n), length-append d (padding n), padding-length n)
 
 -- the whole blocks of m as they lie, then the last blocks from the array
-pub finished : (h m d rest t : List ℕ) (n w e : ℕ) → w ≡ length m / 64 * 64 → rest ≡ drop w m → e ≡ (length m - w + length d + 8) / 64 * 64 + 64 → length d ≤ 32
+pub finished : (h m d rest t : List ℕ) (n w e : ℕ) → w ≡ length m / 64 * 64 → rest ≡ drop w m → e ≡ (length m - w + length d + 8) / 64 * 64 + 64 →
+    length d ≤ 32
     → n % 64 ≡ (length m + length d) % 64 → t ≡ filled (rest ++ (d ++ padding n))
     → bytesOf (hashed (hashed h (length m / 64) m) (length (take e t) / 64) (take e t)) ≡ digestFrom h (m ++ (d ++ padding n))
 unfolding filled digestFrom
 finished h m d rest t n w e hw hr he hd hn ht =
     let r : length (drop w m) ≡ length m - w = length-drop w m in
     let l : length (drop w m ++ (d ++ padding n)) ≡ e = tail-length (drop w m) d n (omega arith) (omega arith) ∙ omega arith in
-    let q : take e t ≡ drop w m ++ (d ++ padding n) = ap (λ (x : List ℕ). take e x) (ht ∙ ap (λ (x : List ℕ). filled (x ++ (d ++ padding n))) hr) ∙ take-at (drop w m ++ (d ++ padding n)) _ e l in
+    let q : take e t ≡ drop w m ++ (d ++ padding n) = ap (λ (x : List ℕ). take e x) (ht ∙ ap (λ (x : List ℕ). filled (x ++ (d ++ padding n))) hr) ∙
+    take-at (drop w m ++ (d ++ padding n)) _ e l in
     ap bytesOf
     (ap (λ (x : List ℕ). hashed (hashed h (length m / 64) m) (length x / 64) x) q ∙ sym (whole-then-rest h m (d ++ padding n) w hw))

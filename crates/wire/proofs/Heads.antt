@@ -17,7 +17,8 @@ use Rattle.wire.specs.Reads.{Took, Past, numberL, byteL, number4L}
 at-value : {F : Fmt ℕ} {X : List ℕ → ℕ} {w : ℕ} {s : List ℕ} {at v next : ℕ} → Took (numberL F X w) s at v next → Leaves F s at v next
 at-value {F} {X} {w} {s} {at} {v} {next} t = subst (λ (x : ℕ). Leaves F s at x next) (sym (t .number)) (t .leaves)
 
-module _ {s : List ℕ} {k p c q b r t u n e : ℕ} (x : Took (byteL 1 12) s 0 k p) (y : Took (byteL 1 topClient) s p c q) (z : Took (byteL 1 mostServers) s q b r)
+module _ {s : List ℕ} {k p c q b r t u n e : ℕ} (x : Took (byteL 1 12) s 0 k p) (y : Took (byteL 1 topClient) s p c q)
+    (z : Took (byteL 1 mostServers) s q b r)
     (w : Took (byteL 1 topFaults) s r t u) (v : Took (number4L 1 topNumber) s u n e) where
   pub head-took : b ≤ 3 * t + 1 → Past headF s 0 (record { kind = k; client = c; server = b; t = t; call = n }) e headSize
   unfolding headF shelf

@@ -74,7 +74,8 @@ byte-differs a b i h = by (sameList a b) refl
 
 module _ (a b : List ℕ) (i : ℕ) where
   pub same-more : (all : ℕ) → i < length a → i < length b
-      → eqb all 0 && sameList (drop i a) (drop i b) ≡ eqb (bitOr all (bitXor (getD a i 0) (getD b i 0))) 0 && sameList (drop (i + 1) a) (drop (i + 1) b)
+      → eqb all 0 && sameList (drop i a) (drop i b) ≡ eqb (bitOr all (bitXor (getD a i 0) (getD b i 0))) 0 && sameList (drop (i + 1) a)
+      (drop (i + 1) b)
   same-more all h k =
       rw (add-one, drop-cons a i 0 h, drop-cons b i 0 k, or-eqb all (bitXor (getD a i 0) (getD b i 0)), xor-eqb (getD a i 0) (getD b i 0))
       (sym (and-assoc (eqb all 0) (eqb (getD a i 0) (getD b i 0)) (sameList (drop (suc i) a) (drop (suc i) b))))

@@ -53,7 +53,10 @@ module _ (p : Packet) (first second output : List ℕ) (e : printBody (shelf (p 
   made-encode = ap (λ (b : List ℕ). writeStep b output) (ap (λ (b : List ℕ). headF .print (p .head) ++ b) (sym e) ∙ sym (encode-parts p))
 
   pub made-accepted : PacketOk p → packetRoom ≤ length output
-      → packetStep (p .head) first second output ≡ record { result = record { number = 0; count = length (encode p) }; output = over (encode p) output }
+      → packetStep (p .head) first second output ≡ record {
+        result = record { number = 0; count = length (encode p) };
+        output = over (encode p) output;
+      }
   unfolding writeStep
   made-accepted ok h =
       made-encode ∙ simp (le-ltb (length output) packetRoom h, le-ltb (length output) (length (encode p)) (omega (arith, packet-room p ok)))

@@ -49,7 +49,10 @@ module _ {F : Fmt ℕ} {lo hi w : ℕ} {X : List ℕ → ℕ} (r : Numbered F lo
       } in
       record { leaves = subst (λ (z : ℕ). Leaves F s at n z) (sym p) g; number = q ∙ e; place = p }
   answers h field.Broken {v} e (inl l) = record { stopped = r .long (drop at s) h ∙ simp (lt-leb lo (X (drop at s)) (omega arith)) }
-  answers h field.Broken {v} e (inr k) = record { stopped = r .long (drop at s) h ∙ simp (lt-leb (X (drop at s)) hi (omega arith)) (guard-none (leb lo (X (drop at s)))) }
+  answers h field.Broken {v} e (inr k) = record {
+    stopped = r .long (drop at s) h ∙ simp (lt-leb (X (drop at s)) hi (omega arith))
+        (guard-none (leb lo (X (drop at s))));
+  }
 
 -- the byte at a place, counted from it
 pub here : (s : List ℕ) (at : ℕ) → getD s at 0 ≡ first (drop at s)

@@ -25,7 +25,8 @@ use Rattle.wire.proofs.From.{drop-from}
 -- ---- any format that stops after some
 
 module _ {A : Type 0} (F : Fmt A) where
-  parse-broken : (i m : ℕ) (b : List ℕ) (xs : List A) (q : List ℕ) → parseMany F i b ≡ some (xs, q) → F .parse q ≡ none → parseMany F (i + suc m) b ≡ none
+  parse-broken : (i m : ℕ) (b : List ℕ) (xs : List A) (q : List ℕ) → parseMany F i b ≡ some (xs, q) → F .parse q ≡ none → parseMany F (i + suc m) b ≡
+      none
   parse-broken zero m b xs q e f =
       let l : b ≡ q = same-rest [] xs b q e in
       let z : 0 + suc m ≡ suc m = omega arith in
@@ -42,7 +43,10 @@ module _ {A : Type 0} (F : Fmt A) where
   unfolding many
   many-broken i n {s} {at} {k} {xs} h m f =
       let z : i + suc (n - suc i) ≡ n = omega arith in
-      record { stopped = subst (λ (j : ℕ). parseMany F j (drop at s) ≡ none) z (parse-broken i (n - suc i) (drop at s) xs (drop k s) (m .parsed) (f .stopped)) }
+      record {
+        stopped = subst (λ (j : ℕ). parseMany F j (drop at s) ≡ none) z (parse-broken i (n - suc i) (drop at s) xs (drop k s) (m .parsed)
+            (f .stopped));
+      }
 
 -- ---- candidates
 
@@ -51,14 +55,16 @@ module _ (c : Config) {s : List ℕ} {at : ℕ} where
   unfolding candidateList
   run-none h = record { leaves = leaves-none (candidateF c) 0 h; place = omega arith }
 
-  pub run-more : (i : ℕ) {k v q : ℕ} → Past (many i (candidateF c)) s at (candidateList c i (drop at s)) k (candidateSize c * i) → Took (candidateL c) s k v q
+  pub run-more : (i : ℕ) {k v q : ℕ} → Past (many i (candidateF c)) s at (candidateList c i (drop at s)) k (candidateSize c * i) → Took (candidateL c)
+      s k v q
       → Past (many (i + 1) (candidateF c)) s at (candidateList c (i + 1) (drop at s)) q (candidateSize c * (i + 1))
   unfolding candidateList
   run-more i {k} {v} {q} m t =
       let r : drop k s ≡ drop (candidateSize c * i) (drop at s) = drop-from s at (candidateSize c * i) (m .place) in
       let xs : List Candidate = candidateList c i (drop at s) in
       let g : Leaves (many (i + 1) (candidateF c)) s at (xs ++ candidateAt c (drop (candidateSize c * i) (drop at s)) ∷ []) q =
-      subst (λ (d : List ℕ). Leaves (many (i + 1) (candidateF c)) s at (xs ++ candidateAt c d ∷ []) q) r (many-snoc (candidateF c) i (m .leaves) (t .leaves)) in
+      subst (λ (d : List ℕ). Leaves (many (i + 1) (candidateF c)) s at (xs ++ candidateAt c d ∷ []) q) r
+      (many-snoc (candidateF c) i (m .leaves) (t .leaves)) in
       record { leaves = rw add-one (rw add-one at g); place = rw add-one (omega (arith, m .place, t .place, mul-suc (candidateSize c) i)) }
 
   pub list-took : (S : ℕ) → S ≡ c .servers → {n p e : ℕ} → Took (byteL 0 S) s at n p

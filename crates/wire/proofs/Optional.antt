@@ -39,7 +39,8 @@ flag-one hi v {s} {p} {f} {q} e b n =
 
 module _ (c : Config) {s : List ℕ} {at : ℕ} where
   -- the byte after the stamp, with the limit that the stamp sets
-  flag-at : (hi : ℕ) {v p f q : ℕ} → Took anyStampL s at v p → hi ≡ cond (eqb v 0) 0 1 → Took (byteL 0 hi) s p f q → Leaves (byte 0 (heldMost (stampAt (drop at s)))) s p f q
+  flag-at : (hi : ℕ) {v p f q : ℕ} → Took anyStampL s at v p → hi ≡ cond (eqb v 0) 0 1 → Took (byteL 0 hi) s p f q → Leaves
+      (byte 0 (heldMost (stampAt (drop at s)))) s p f q
   flag-at hi {v} {p} {f} {q} a e b =
       let m : hi ≡ heldMost (stampAt (drop at s)) = e ∙ ap (λ (x : ℕ). cond (eqb x 0) 0 1) (a .number) in
       subst (λ (k : ℕ). Leaves (byte 0 k) s p f q) m (subst (λ (x : ℕ). Leaves (byte 0 hi) s p x q) (sym (b .number)) (b .leaves))
@@ -47,12 +48,14 @@ module _ (c : Config) {s : List ℕ} {at : ℕ} where
   flag-place : (hi : ℕ) {v p f q : ℕ} → Took anyStampL s at v p → Took (byteL 0 hi) s p f q → f ≡ getD (drop at s) stampSize 0
   flag-place hi a b = b .number ∙ first-from s at stampSize (a .place)
 
-  pub held-absent : (hi : ℕ) {v p f q : ℕ} → Took anyStampL s at v p → hi ≡ cond (eqb v 0) 0 1 → Took (byteL 0 hi) s p f q → f ≡ 0 → Took (heldL c) s at f q
+  pub held-absent : (hi : ℕ) {v p f q : ℕ} → Took anyStampL s at v p → hi ≡ cond (eqb v 0) 0 1 → Took (byteL 0 hi) s p f q → f ≡ 0 → Took (heldL c) s
+      at f q
   unfolding heldF heldAt heldSize
   held-absent hi {v} {p} {f} {q} a e b z =
       let d : List ℕ = drop at s in
       let g : getD d stampSize 0 ≡ 0 = sym (flag-place hi a b) ∙ z in
-      let l = leaves-via _ _ _ refl (leaves-seq _ _ (a .leaves) (leaves-absent _ _ (subst (λ (x : ℕ). Leaves (byte 0 (heldMost (stampAt d))) s p x q) z (flag-at hi a e b)))) in
+      let l = leaves-via _ _ _ refl (leaves-seq _ _ (a .leaves) (leaves-absent _ _ (subst (λ (x : ℕ). Leaves (byte 0 (heldMost (stampAt d))) s p x q)
+      z (flag-at hi a e b)))) in
       let w : q ≡ at + (stampSize + 1 + 0) = omega (arith, a .place, b .place) in
       record {
         leaves = subst (λ (x : ℕ). Leaves (heldF c) s at (heldBy c d x (drop (stampSize + 1) d)) q) (sym g) l;
@@ -86,7 +89,8 @@ module _ (c : Config) {s : List ℕ} {at : ℕ} where
       let l =
       leaves-via _ _ _ refl
       (leaves-seq _ _ (a .leaves)
-      (leaves-present _ _ (subst (λ (y : ℕ). Leaves (byte 0 (heldMost (stampAt d))) s p y q) (flag-one hi v e b x) (flag-at hi a e b)) (r .leaves))) in
+      (leaves-present _ _ (subst (λ (y : ℕ). Leaves (byte 0 (heldMost (stampAt d))) s p y q) (flag-one hi v e b x) (flag-at hi a e b))
+      (r .leaves))) in
       let z : ℕ = shareSize c (lengthAt (drop (stampSize + 1) d)) in
       let k : u ≡ q + z = r .place ∙ ap (λ (y : List ℕ). q + shareSize c (lengthAt y)) t in
       let j : u ≡ at + (stampSize + 1 + z) = omega (arith, k, w) in

@@ -38,7 +38,8 @@ none-placed d at b h = simp (lt-leb (at + length b) (length d) h)
 -- ---- one after another
 
 module _ {d e f : List ℕ} {at k n : ℕ} (a b : List ℕ) where
-  pub placed-then : record { next = k; output = e } ≡ placed d at a → record { next = n; output = f } ≡ placed e k b → at + length a + length b ≤ length d
+  pub placed-then : record { next = k; output = e } ≡ placed d at a → record { next = n; output = f } ≡ placed e k b → at + length a + length b ≤
+      length d
       → Wrote d at (a ++ b) f n
   placed-then p q h =
       let w = placed-wrote p (omega arith) in
@@ -67,7 +68,8 @@ module _ (h : Head) (first second output : List ℕ) where
   size : length (headF .print h ++ (first ++ second)) ≡ headSize + length first + length second
   size = omega (arith, length-append (headF .print h) (first ++ second), length-append first second, head-length h)
 
-  pub short-buffer : length output < packetRoom → record { result = record { number = 15; count = 0 }; output = output } ≡ packetStep h first second output
+  pub short-buffer : length output < packetRoom → record { result = record { number = 15; count = 0 }; output = output } ≡ packetStep h first second
+      output
   unfolding packetStep writeStep
   short-buffer l = simp (lt-ltb (length output) packetRoom l)
 
@@ -79,7 +81,8 @@ module _ (h : Head) (first second output : List ℕ) where
 
   pub packet-made : {e f g : List ℕ} {a b n : ℕ} → packetRoom ≤ length output → headSize + length first + length second ≤ length output
       → record { next = a; output = e } ≡ placed output 0 (headF .print h) → record { next = b; output = f } ≡ placed e a first
-      → record { next = n; output = g } ≡ placed f b second → record { result = record { number = 0; count = n }; output = g } ≡ packetStep h first second output
+      → record { next = n; output = g } ≡ placed f b second → record { result = record { number = 0; count = n }; output = g } ≡ packetStep h first
+      second output
   unfolding packetStep writeStep
   packet-made {e} {f} {g} {a} {b} {n} l k p q r =
       let bytes : List ℕ = headF .print h ++ (first ++ second) in

@@ -81,7 +81,8 @@ padded-part a n d =
     ext-getD 0 (take n (drop a m)) (padded n (drop a d)) (l ∙ sym (padded-length n (drop a d)))
     (λ i h.
     let k : i < n = omega arith in
-    getD-take n (drop a m) i 0 k ∙ getD-drop a m i 0 ∙ padded-get (a + n) d (a + i) (omega arith) ∙ sym (getD-drop a d i 0) ∙ sym (padded-get n (drop a d) i k))
+    getD-take n (drop a m) i 0 k ∙ getD-drop a m i 0 ∙ padded-get (a + n) d (a + i) (omega arith) ∙ sym (getD-drop a d i 0) ∙ sym
+    (padded-get n (drop a d) i k))
 
 -- no more than the part is needed
 pub padded-cut : (n : ℕ) (d : List ℕ) → padded n (part d 0 n) ≡ padded n d
@@ -100,10 +101,12 @@ put-padded n s h =
     let z : List ℕ = replicate n 0 in
     let m : n ≡ length s + (n - length s) = omega arith in
     let p : take n (s ++ z) ≡ s ++ replicate (n - length s) 0 =
-    ap (λ (k : ℕ). take k (s ++ z)) m ∙ take-append-add s z (n - length s) ∙ ap (λ (y : List ℕ). s ++ y) (take-zeros (n - length s) n (omega arith)) in
+    ap (λ (k : ℕ). take k (s ++ z)) m ∙ take-append-add s z (n - length s) ∙ ap (λ (y : List ℕ). s ++ y)
+    (take-zeros (n - length s) n (omega arith)) in
     rw (zero-add (length s)) (ap (λ (y : List ℕ). s ++ y) (drop-zeros (length s) n) ∙ sym p)
 
-pub placed-padded : (n : ℕ) (d : List ℕ) (at : ℕ) {b e : List ℕ} {k : ℕ} → b ≡ part d at n → record { next = k; output = e } ≡ placed (replicate n 0) 0 b
+pub placed-padded : (n : ℕ) (d : List ℕ) (at : ℕ) {b e : List ℕ} {k : ℕ} → b ≡ part d at n → record { next = k; output = e } ≡ placed (replicate n 0)
+    0 b
     → e ≡ padded n (drop at d)
 unfolding part
 placed-padded n d at {b} q p =
@@ -112,7 +115,8 @@ placed-padded n d at {b} q p =
 
 -- a stamp by its places
 pub stamp-padded : (s : List ℕ)
-    → record { number = value4 (getD s 0 0) (getD s 1 0) (getD s 2 0) (getD s 3 0); writer = getD s 4 0; tag = padded tagSize (drop 5 s) } ≡ stampAt (padded stampSize s)
+    → record { number = value4 (getD s 0 0) (getD s 1 0) (getD s 2 0) (getD s 3 0); writer = getD s 4 0; tag = padded tagSize (drop 5 s) } ≡ stampAt
+    (padded stampSize s)
 unfolding stampAt
 stamp-padded s =
     rw (

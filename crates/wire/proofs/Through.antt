@@ -36,7 +36,8 @@ module _ {s : List ℕ} {at : ℕ} where
       let stamp : ℕ → List ℕ → Stamp = λ w t. record { number = four (drop at s); writer = w; tag = t } in
       let same = ap₂ stamp (first-from s at 4 (a .place)) (part-from s at {k = q} 5 tagSize (omega (arith, a .place, b .place))) in
       record {
-        leaves = subst (λ (x : Stamp). Leaves stampF s at x e) same (leaves-via _ _ _ refl (leaves-seq _ _ (a .leaves) (leaves-seq _ _ (b .leaves) (r .leaves))));
+        leaves = subst (λ (x : Stamp). Leaves stampF s at x e) same (leaves-via _ _ _ refl
+            (leaves-seq _ _ (a .leaves) (leaves-seq _ _ (b .leaves) (r .leaves))));
         number = a .number;
         place = omega (arith, a .place, b .place, r .place);
       }
@@ -60,7 +61,8 @@ module _ {s : List ℕ} {at : ℕ} where
   blank-stamp-took {e} n h z p =
       let b : stampAt (drop at s) ≡ blankStamp = blank-stamp stampSize (drop at s) (omega (arith, length-drop at s)) z (omega arith) in
       record {
-        leaves = subst (λ (k : ℕ). Leaves anyStampF s at (stampAt (drop at s)) k) (sym p) (subst (λ (x : Stamp). Leaves anyStampF s at x (at + stampSize)) (sym b) (leaves-blank _ _ _ n h z));
+        leaves = subst (λ (k : ℕ). Leaves anyStampF s at (stampAt (drop at s)) k) (sym p)
+            (subst (λ (x : Stamp). Leaves anyStampF s at x (at + stampSize)) (sym b) (leaves-blank _ _ _ n h z));
         number = sym (ap (λ (x : Stamp). x .number) b);
         place = p;
       }
@@ -80,12 +82,14 @@ module _ (c : Config) {s : List ℕ} {at : ℕ} where
       let b = subst (λ (k : ℕ). Fragment c s k p q) (a .number) b₀ in
       let share : List ℕ → List ℕ → List ℕ → List ℕ → Share = λ u v w z. record { size = m; part = u; digests = v; nonceDigest = w; tags = z } in
       let e1 : part s p f ≡ part (drop at s) 2 f = part-from s at 2 f (a .place) in
-      let e2 : part s q (digestsSize c) ≡ part (drop at s) (2 + f) (digestsSize c) = part-from s at {k = q} (2 + f) (digestsSize c) (omega (arith, a .place, b .place)) in
+      let e2 : part s q (digestsSize c) ≡ part (drop at s) (2 + f) (digestsSize c) = part-from s at {k = q} (2 + f) (digestsSize c)
+      (omega (arith, a .place, b .place)) in
       let e3 : part s d digestSize ≡ part (drop at s) (2 + f + digestsSize c) digestSize =
       part-from s at {k = d} (2 + f + digestsSize c) digestSize (omega (arith, a .place, b .place, x .place)) in
       let e4 : part s g (tagsSize c) ≡ part (drop at s) (2 + f + digestsSize c + digestSize) (tagsSize c) =
       part-from s at {k = g} (2 + f + digestsSize c + digestSize) (tagsSize c) (omega (arith, a .place, b .place, x .place, y .place)) in
-      let same = ap₂ (λ u v. share u v (part s d digestSize) (part s g (tagsSize c))) e1 e2 ∙ ap₂ (share (part (drop at s) 2 f) (part (drop at s) (2 + f) (digestsSize c))) e3 e4 in
+      let same = ap₂ (λ u v. share u v (part s d digestSize) (part s g (tagsSize c))) e1 e2 ∙ ap₂
+      (share (part (drop at s) 2 f) (part (drop at s) (2 + f) (digestsSize c))) e3 e4 in
       record {
         leaves =
             subst (λ (h : Share). Leaves (shareF c) s at h e) same
@@ -98,21 +102,24 @@ module _ (c : Config) {s : List ℕ} {at : ℕ} where
   -- the fragment's length is told by the length that stands there
   sized : {n p q : ℕ} → Took (number2L leastLength topLength) s at n p → Fragment c s n p q
       → Leaves (run (fragmentSize (c .shares) (lengthAt (drop at s)))) s p (part s p (fragmentSize (c .shares) (lengthAt (drop at s)))) q
-  sized {n} {p} {q} a b = subst (λ (k : ℕ). Leaves (run (fragmentSize (c .shares) k)) s p (part s p (fragmentSize (c .shares) k)) q) (a .number) (b .leaves)
+  sized {n} {p} {q} a b = subst (λ (k : ℕ). Leaves (run (fragmentSize (c .shares) k)) s p (part s p (fragmentSize (c .shares) k)) q) (a .number)
+      (b .leaves)
 
   pub share-stops1 : {n p : ℕ} → Took (number2L leastLength topLength) s at n p → Stops (run (fragmentSize (c .shares) n)) s p → Stops (shareF c) s at
   unfolding shareF
   share-stops1 {n} {p} a z =
       stops-via _ _ _ (stops-second _ _ (a .leaves) (stops-first _ _ (subst (λ (k : ℕ). Stops (run (fragmentSize (c .shares) k)) s p) (a .number) z)))
 
-  pub share-stops2 : {n p q : ℕ} → Took (number2L leastLength topLength) s at n p → Fragment c s n p q → Stops (run (digestsSize c)) s q → Stops (shareF c) s at
+  pub share-stops2 : {n p q : ℕ} → Took (number2L leastLength topLength) s at n p → Fragment c s n p q → Stops (run (digestsSize c)) s q → Stops
+      (shareF c) s at
   unfolding shareF
   share-stops2 a b z = stops-via _ _ _ (stops-second _ _ (a .leaves) (stops-second _ _ (sized a b) (stops-first _ _ z)))
 
   pub share-stops3 : {n p q d : ℕ} → Took (number2L leastLength topLength) s at n p → Fragment c s n p q
       → Ran (digestsSize c) s q d → Stops (run digestSize) s d → Stops (shareF c) s at
   unfolding shareF
-  share-stops3 a b x z = stops-via _ _ _ (stops-second _ _ (a .leaves) (stops-second _ _ (sized a b) (stops-second _ _ (x .leaves) (stops-first _ _ z))))
+  share-stops3 a b x z = stops-via _ _ _ (stops-second _ _ (a .leaves) (stops-second _ _ (sized a b)
+      (stops-second _ _ (x .leaves) (stops-first _ _ z))))
 
   pub share-stops4 : {n p q d g : ℕ} → Took (number2L leastLength topLength) s at n p → Fragment c s n p q
       → Ran (digestsSize c) s q d → Ran digestSize s d g
@@ -130,7 +137,8 @@ module _ (c : Config) {s : List ℕ} {at : ℕ} where
             subst (λ (h : List ℕ). Leaves (writeF c) s at (record { stamp = stampAt (drop at s); share = shareAt c h }) e) r
             (leaves-via _ _ _ refl (leaves-seq _ _ (a .leaves) (b .leaves)));
         number = b .number ∙ ap lengthAt r;
-        place = b .place ∙ ap₂ (λ (k : ℕ) (h : List ℕ). k + shareSize c (lengthAt h)) (a .place) r ∙ add-assoc at stampSize (shareSize c (lengthAt (drop stampSize (drop at s))));
+        place = b .place ∙ ap₂ (λ (k : ℕ) (h : List ℕ). k + shareSize c (lengthAt h)) (a .place) r ∙ add-assoc at stampSize
+            (shareSize c (lengthAt (drop stampSize (drop at s))));
       }
 
   pub candidate-took : {v p q e : ℕ} → Took stampL s at v p → Ran nonceSize s p q

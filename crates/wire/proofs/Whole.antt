@@ -37,7 +37,8 @@ module _ (c : Config) (s : List ℕ) (at : ℕ) where
   pub of-field : {A : Type 0} (L : Layout A) {con : A → Body} {k : ℕ} → Kind c k (L .format) con → ((d : List ℕ) → con (L .value d) ≡ bodyAt c k d)
       → {j : ℕ} → j ≡ k → (f : Field) → FieldAs L s at f → BodyAs c j s at f
   of-field L {con} {k} d e {j} ej (field.Value v p) t =
-      subst (λ (i : ℕ). BodyAs c i s at (field.Value v p)) (sym ej) (subst (λ (b : Body). Leaves (bodyF c k) s at b (p .at)) (e (drop at s)) (body-leaves d (t .leaves)))
+      subst (λ (i : ℕ). BodyAs c i s at (field.Value v p)) (sym ej) (subst (λ (b : Body). Leaves (bodyF c k) s at b (p .at)) (e (drop at s))
+      (body-leaves d (t .leaves)))
   of-field L d e ej field.Broken z = subst (λ (i : ℕ). Stops (bodyF c i) s at) (sym ej) (body-stops d z)
 
   -- a body of no field
@@ -45,12 +46,14 @@ module _ (c : Config) (s : List ℕ) (at : ℕ) where
   unfolding empty
   nothing h = record { parsed = refl; within = h; ok = tt }
 
-  bare : {con : Body} (k : ℕ) → Kind c k empty (λ x. con) → con ≡ bodyAt c k (drop at s) → at ≤ length s → (j : ℕ) → j ≡ k → Leaves (bodyF c j) s at (bodyAt c j (drop at s)) at
+  bare : {con : Body} (k : ℕ) → Kind c k empty (λ x. con) → con ≡ bodyAt c k (drop at s) → at ≤ length s → (j : ℕ) → j ≡ k → Leaves (bodyF c j) s at
+      (bodyAt c j (drop at s)) at
   bare k d e h j ej =
       subst (λ (i : ℕ). Leaves (bodyF c i) s at (bodyAt c i (drop at s)) at) (sym ej)
       (subst (λ (b : Body). Leaves (bodyF c k) s at b at) e (body-leaves d (nothing h)))
 
-  pub bare-as : at ≤ length s → (j : ℕ) → 1 ≤ j → j ≤ 12 → (j ≡ 2 → ⊥) → (j ≡ 3 → ⊥) → (j ≡ 4 → ⊥) → (j ≡ 5 → ⊥) → (j ≡ 8 → ⊥) → (j ≡ 9 → ⊥) → (j ≡ 10 → ⊥)
+  pub bare-as : at ≤ length s → (j : ℕ) → 1 ≤ j → j ≤ 12 → (j ≡ 2 → ⊥) → (j ≡ 3 → ⊥) → (j ≡ 4 → ⊥) → (j ≡ 5 → ⊥) → (j ≡ 8 → ⊥) → (j ≡ 9 → ⊥) →
+      (j ≡ 10 → ⊥)
       → (j ≡ 11 → ⊥) → Leaves (bodyF c j) s at (bodyAt c j (drop at s)) at
   unfolding bodyAt
   bare-as h j l u n2 n3 n4 n5 n8 n9 n10 n11 = go (eqb j 1) (eqb j 6) (eqb j 7) refl refl refl
@@ -59,7 +62,9 @@ module _ (c : Config) (s : List ℕ) (at : ℕ) where
       go true y z ex ey ez = bare 1 (clock-kind c) refl h j (eqb-true j 1 ex)
       go false true z ex ey ez = bare 6 (complete-reply-kind c) refl h j (eqb-true j 6 ey)
       go false false true ex ey ez = bare 7 (collect-kind c) refl h j (eqb-true j 7 ez)
-      go false false false ex ey ez = bare 12 (repair-reply-kind c) refl h j (twelve j u (over 11 j (over 10 j (over 9 j (over 8 j (over 7 j (over 6 j (over 5 j (over 4 j (over 3 j (over 2 j (over 1 j l (eqb-false j 1 ex)) n2) n3) n4) n5) (eqb-false j 6 ey)) (eqb-false j 7 ez)) n8) n9) n10) n11))
+      go false false false ex ey ez = bare 12 (repair-reply-kind c) refl h j (twelve j u
+          (over 11 j (over 10 j (over 9 j (over 8 j (over 7 j (over 6 j (over 5 j (over 4 j
+          (over 3 j (over 2 j (over 1 j l (eqb-false j 1 ex)) n2) n3) n4) n5) (eqb-false j 6 ey)) (eqb-false j 7 ez)) n8) n9) n10) n11))
 
 -- ---- packets
 
@@ -72,12 +77,15 @@ module _ {s : List ℕ} {h : Head} {p : ℕ} (f : Past headF s 0 h p headSize) w
   unfolding packetF packetAt
   took {e} b =
       let r : p ≡ headSize = omega (arith, f .place) in
-      subst (λ (k : ℕ). Leaves packetF s 0 (record { head = h; body = bodyAt (shelf (h .t)) (h .kind) (drop k s) }) e) r (leaves-via _ _ _ refl (leaves-seq _ _ (f .leaves) b))
+      subst (λ (k : ℕ). Leaves packetF s 0 (record { head = h; body = bodyAt (shelf (h .t)) (h .kind) (drop k s) }) e) r
+      (leaves-via _ _ _ refl (leaves-seq _ _ (f .leaves) b))
 
-  pub packet-decoded : {e : ℕ} → Leaves (bodyF (shelf (h .t)) (h .kind)) s p (bodyAt (shelf (h .t)) (h .kind) (drop p s)) e → length s ≤ e → decode s ≡ some (packetAt h s)
+  pub packet-decoded : {e : ℕ} → Leaves (bodyF (shelf (h .t)) (h .kind)) s p (bodyAt (shelf (h .t)) (h .kind) (drop p s)) e → length s ≤ e → decode s
+      ≡ some (packetAt h s)
   packet-decoded b k = decoded (took b) k
 
-  pub packet-trailing : {e : ℕ} → Leaves (bodyF (shelf (h .t)) (h .kind)) s p (bodyAt (shelf (h .t)) (h .kind) (drop p s)) e → e < length s → decode s ≡ none
+  pub packet-trailing : {e : ℕ} → Leaves (bodyF (shelf (h .t)) (h .kind)) s p (bodyAt (shelf (h .t)) (h .kind) (drop p s)) e → e < length s → decode s
+      ≡ none
   packet-trailing b k = trailing (took b) k
 
   pub packet-broken : Stops (bodyF (shelf (h .t)) (h .kind)) s p → decode s ≡ none
@@ -119,6 +127,7 @@ pub fragment-broken : (s : List ℕ) → decode s ≡ none → [] ≡ fragmentIn
 unfolding fragmentIn
 fragment-broken s e = rw e
 
-pub fragment-read : (s : List ℕ) (h : Head) {x : List ℕ} → decode s ≡ some (packetAt h s) → x ≡ fragmentOf (bodyAt (shelf (h .t)) (h .kind) (drop headSize s)) → x ≡ fragmentIn (decode s)
+pub fragment-read : (s : List ℕ) (h : Head) {x : List ℕ} → decode s ≡ some (packetAt h s) → x ≡ fragmentOf
+    (bodyAt (shelf (h .t)) (h .kind) (drop headSize s)) → x ≡ fragmentIn (decode s)
 unfolding fragmentIn packetAt
 fragment-read s h {x} e f = rw e f

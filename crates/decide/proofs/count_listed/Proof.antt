@@ -29,7 +29,11 @@ servers-requires : tie.Need-servers-requires Inv-loop μ-loop
 servers-requires c κs = known (c .before .is-usable .ensures) (c .if1 .left) .high
 
 loop-holds : tie.Need-loop-holds Inv-loop μ-loop
-loop-holds c = (omega arith, sym (count-none (enters (candidatesIn (shelf (c .before .before .before .before .args .t)) (c .before .before .before .before .args .kept .now)))))
+loop-holds c = (
+  omega arith,
+  sym (count-none (enters (candidatesIn (shelf (c .before .before .before .before .args .t))
+      (c .before .before .before .before .args .kept .now)))),
+)
 
 entry-requires : tie.Need-entry-requires Inv-loop μ-loop
 entry-requires c κs =
@@ -41,10 +45,21 @@ add-n c =
     let a = c .before .before .before .before .before .before .before .args in
     let p = enters (candidatesIn (shelf (a .t)) (a .kept .now)) in
     let u = known (c .before .before .before .before .before .is-usable .ensures) (c .before .before .before .before .if1 .left) in
-    omega (arith, c .before .before .loop .inv .1, c .before .before .loop .inv .0, count-le (c .before .before .loop .i) p, c .entry .ensures, bit-le (p (suc (c .before .before .loop .i))), c .before .before .before .servers .ensures .1, u .high)
+    omega (
+      arith,
+      c .before .before .loop .inv .1,
+      c .before .before .loop .inv .0,
+      count-le (c .before .before .loop .i) p,
+      c .entry .ensures,
+      bit-le
+          (p (suc (c .before .before .loop .i))),
+      c .before .before .before .servers .ensures .1,
+      u .high,
+    )
 
 add-i : tie.Need-add-i Inv-loop μ-loop
-add-i c = let u = known (c .before .before .before .before .before .is-usable .ensures) (c .before .before .before .before .if1 .left) in omega (arith, c .before .before .before .servers .ensures .1, u .high)
+add-i c = let u = known (c .before .before .before .before .before .is-usable .ensures) (c .before .before .before .before .if1 .left) in omega
+    (arith, c .before .before .before .servers .ensures .1, u .high)
 
 loop-again : tie.Need-loop-again Inv-loop μ-loop
 loop-again c =

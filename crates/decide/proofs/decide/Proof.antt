@@ -29,7 +29,8 @@ returns c =
 returns-2 : tie.Need-returns-2
 returns-2 c =
     let a = c .before .before .before .before .before .args in
-    told (decided-roomless (a .t) (a .marks) (a .kept .now) (a .out .now) (is-usable (c .before .before .is-usable .ensures) (c .before .if1 .left)) (omega arith))
+    told (decided-roomless (a .t) (a .marks) (a .kept .now) (a .out .now) (is-usable (c .before .before .is-usable .ensures) (c .before .if1 .left))
+    (omega arith))
 
 top-requires : tie.Need-top-requires
 top-requires c κs = known (c .before .before .is-usable .ensures) (c .before .if1 .left)
@@ -37,8 +38,10 @@ top-requires c κs = known (c .before .before .is-usable .ensures) (c .before .i
 returns-3 : tie.Need-returns-3
 returns-3 c =
     let a = c .before .before .before .before .before .before .before .args in
-    told (decided-blank (a .t) (a .marks) (a .kept .now) (a .out .now) (is-usable (c .before .before .before .before .is-usable .ensures) (c .before .before .before .if1 .left))
-    (omega (arith, c .before .before .if2 .left)) (λ i. c .before .before .before .before .before .before .shared-slice-known .given i .fits) (omega (arith, c .if3 .taken, c .before .top .ensures)))
+    told (decided-blank (a .t) (a .marks) (a .kept .now) (a .out .now) (is-usable (c .before .before .before .before .is-usable .ensures)
+    (c .before .before .before .if1 .left))
+    (omega (arith, c .before .before .if2 .left)) (λ i. c .before .before .before .before .before .before .shared-slice-known .given i .fits)
+    (omega (arith, c .if3 .taken, c .before .top .ensures)))
 
 find-requires : tie.Need-find-requires
 find-requires c κs = known (c .before .before .before .before .is-usable .ensures) (c .before .before .before .if1 .left)
@@ -47,10 +50,16 @@ returns-4 : tie.Need-returns-4
 returns-4 c =
     let a = c .before .before .before .before .before .before .before .before .before .before .args in
     let q = c .before .before .before .before .top .ensures in
-    let n : chosenAt (a .t) (a .marks) (a .kept .now) (topAt (a .t) (a .marks) (a .kept .now) (shelf (a .t) .servers)) (shelf (a .t) .servers) ≡ none =
-    ap (λ (x : ℕ). chosenAt (a .t) (a .marks) (a .kept .now) x (shelf (a .t) .servers)) (sym q) ∙ c .before .before .find .ensures .nothing (c .if4 .taken) in
-    told (decided-none (a .t) (a .marks) (a .kept .now) (a .out .now) (is-usable (c .before .before .before .before .before .before .before .is-usable .ensures) (c .before .before .before .before .before .before .if1 .left))
-    (omega (arith, c .before .before .before .before .before .if2 .left)) (λ i. c .before .before .before .before .before .before .before .before .before .shared-slice-known .given i .fits) (omega (arith, c .before .before .before .if3 .left, q)) n)
+    let n : chosenAt (a .t) (a .marks) (a .kept .now) (topAt (a .t) (a .marks) (a .kept .now) (shelf (a .t) .servers)) (shelf (a .t) .servers) ≡
+    none =
+    ap (λ (x : ℕ). chosenAt (a .t) (a .marks) (a .kept .now) x (shelf (a .t) .servers)) (sym q) ∙ c .before .before .find .ensures .nothing
+    (c .if4 .taken) in
+    told (decided-none (a .t) (a .marks) (a .kept .now) (a .out .now)
+    (is-usable (c .before .before .before .before .before .before .before .is-usable .ensures)
+    (c .before .before .before .before .before .before .if1 .left))
+    (omega (arith, c .before .before .before .before .before .if2 .left))
+    (λ i. c .before .before .before .before .before .before .before .before .before .shared-slice-known .given i .fits)
+    (omega (arith, c .before .before .before .if3 .left, q)) n)
 
 -- a server was found
 some-server : (n : ℕ) → (n ≡ 0 → ⊥) → 1 ≤ n
@@ -61,7 +70,8 @@ sub-rebuild : tie.Need-sub-rebuild
 sub-rebuild c = omega (arith, some-server (c .before .before .find .result .server) (c .if4 .left))
 
 -- what was found, at the rank of the definition
-hit : (t : ℕ) (marks kept : List ℕ) (key : ℕ) (r : Choice) → key ≡ topAt t marks kept (shelf t .servers) → ChoiceAs t marks kept key r → (r .server ≡ 0 → ⊥)
+hit : (t : ℕ) (marks kept : List ℕ) (key : ℕ) (r : Choice) → key ≡ topAt t marks kept (shelf t .servers) → ChoiceAs t marks kept key r →
+    (r .server ≡ 0 → ⊥)
     → Hit t marks kept (topAt t marks kept (shelf t .servers)) r (r .server - 1)
 hit t marks kept key r e k l =
     subst (λ (x : ℕ). Hit t marks kept x r (r .server - 1)) e (k .hit (r .server - 1) (omega (arith, some-server (r .server) l)))
@@ -71,8 +81,10 @@ rebuild-requires c κs =
     let a = c .before .before .before .before .before .before .before .before .before .before .before .args in
     let r = c .before .before .before .find .result in
     let key = topAt (a .t) (a .marks) (a .kept .now) (shelf (a .t) .servers) in
-    let u = known (c .before .before .before .before .before .before .before .before .is-usable .ensures) (c .before .before .before .before .before .before .before .if1 .left) in
-    let k = hit (a .t) (a .marks) (a .kept .now) (c .before .before .before .before .before .top .result) r (c .before .before .before .before .before .top .ensures) (c .before .before .before .find .ensures) (c .before .if4 .left) in (
+    let u = known (c .before .before .before .before .before .before .before .before .is-usable .ensures)
+    (c .before .before .before .before .before .before .before .if1 .left) in
+    let k = hit (a .t) (a .marks) (a .kept .now) (c .before .before .before .before .before .top .result) r
+    (c .before .before .before .before .before .top .ensures) (c .before .before .before .find .ensures) (c .before .if4 .left) in (
       u,
       hit-small (a .t) (a .marks) (a .kept .now) u key r (r .server - 1) k,
       hit-full (a .t) (a .marks) (a .kept .now) u key r (r .server - 1) k,
@@ -85,10 +97,17 @@ returns-5 c =
     let a = c .before .before .before .before .before .before .before .before .before .before .before .before .before .before .args in
     let r = c .before .before .before .before .before .before .find .result in
     let q = c .before .before .before .before .before .before .before .before .top .ensures in
-    let k = hit (a .t) (a .marks) (a .kept .now) (c .before .before .before .before .before .before .before .before .top .result) r q (c .before .before .before .before .before .before .find .ensures) (c .before .before .before .before .if4 .left) in
+    let k = hit (a .t) (a .marks) (a .kept .now) (c .before .before .before .before .before .before .before .before .top .result) r q
+    (c .before .before .before .before .before .before .find .ensures) (c .before .before .before .before .if4 .left) in
     let d =
-    told (decided-found (a .t) (a .marks) (a .kept .now) (a .out .now) (is-usable (c .before .before .before .before .before .before .before .before .before .before .before .is-usable .ensures) (c .before .before .before .before .before .before .before .before .before .before .if1 .left)) (omega (arith, c .before .before .before .before .before .before .before .before .before .if2 .left))
-    (λ i. c .before .before .before .before .before .before .before .before .before .before .before .before .before .shared-slice-known .given i .fits) (known (c .before .before .before .before .before .before .before .before .before .before .before .is-usable .ensures) (c .before .before .before .before .before .before .before .before .before .before .if1 .left)) r (r .server - 1) (omega (arith, c .before .before .before .before .before .before .before .if3 .left, q)) k) in
+    told (decided-found (a .t) (a .marks) (a .kept .now) (a .out .now)
+    (is-usable (c .before .before .before .before .before .before .before .before .before .before .before .is-usable .ensures)
+    (c .before .before .before .before .before .before .before .before .before .before .if1 .left))
+    (omega (arith, c .before .before .before .before .before .before .before .before .before .if2 .left))
+    (λ i. c .before .before .before .before .before .before .before .before .before .before .before .before .before .shared-slice-known .given
+    i .fits) (known (c .before .before .before .before .before .before .before .before .before .before .before .is-usable .ensures)
+    (c .before .before .before .before .before .before .before .before .before .before .if1 .left)) r (r .server - 1)
+    (omega (arith, c .before .before .before .before .before .before .before .if3 .left, q)) k) in
     let e : r .server ≡ suc (r .server - 1) = omega (arith, some-server (r .server) (c .before .before .before .before .if4 .left)) in
     let w = c .before .before .rebuild .ensures in
     ((λ i. decisions.Found (r .slot) (e i) (w .0 i)) ∙ d .0, w .1 ∙ d .1)

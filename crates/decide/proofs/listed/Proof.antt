@@ -22,7 +22,11 @@ returns-2 : tie.Need-returns-2
 unfolding listedIn
 returns-2 c =
     let a = c .before .before .before .before .before .args in
-    rw (is-usable (c .before .before .before .is-usable .ensures) (c .before .before .if1 .left), le-ltb (a .i) (shelf (a .t) .servers) (omega (arith, c .before .servers .ensures .0)))
+    rw (
+      is-usable (c .before .before .before .is-usable .ensures) (c .before .before .if1 .left),
+      le-ltb (a .i) (shelf (a .t) .servers)
+          (omega (arith, c .before .servers .ensures .0)),
+    )
 
 entry-requires : tie.Need-entry-requires
 entry-requires c κs =
@@ -33,7 +37,12 @@ returns-3 : tie.Need-returns-3
 unfolding listedIn
 returns-3 c =
     let a = c .before .before .before .before .before .before .args in
-    rw (is-usable (c .before .before .before .before .is-usable .ensures) (c .before .before .before .if1 .left), lt-ltb (a .i) (shelf (a .t) .servers) (omega (arith, c .before .before .servers .ensures .0)), c .entry .ensures)
+    rw (
+      is-usable (c .before .before .before .before .is-usable .ensures) (c .before .before .before .if1 .left),
+      lt-ltb (a .i)
+          (shelf (a .t) .servers) (omega (arith, c .before .before .servers .ensures .0)),
+      c .entry .ensures,
+    )
     (bit-one (enters (candidatesIn (shelf (a .t)) (a .kept .now)) (suc (a .i))))
 
 pub listed-spec : {M : Type 1} → statement M

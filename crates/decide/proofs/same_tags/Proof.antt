@@ -23,13 +23,21 @@ returns-2 : tie.Need-returns-2
 unfolding sameTags
 returns-2 c =
     let a = c .before .before .before .before .before .args in
-    rw (is-usable (c .before .before .before .is-usable .ensures) (c .before .before .if1 .left), le-ltb (a .i) (shelf (a .t) .servers) (omega (arith, c .before .servers .ensures .0)))
+    rw (
+      is-usable (c .before .before .before .is-usable .ensures) (c .before .before .if1 .left),
+      le-ltb (a .i) (shelf (a .t) .servers)
+          (omega (arith, c .before .servers .ensures .0)),
+    )
 
 returns-3 : tie.Need-returns-3
 unfolding sameTags
 returns-3 c =
     let a = c .before .before .before .before .before .before .args in
-    rw (is-usable (c .before .before .before .before .is-usable .ensures) (c .before .before .before .if1 .left), lt-leb 1 (a .b) (c .if3 .taken), and-false (ltb (a .i) (shelf (a .t) .servers)))
+    rw (
+      is-usable (c .before .before .before .before .is-usable .ensures) (c .before .before .before .if1 .left),
+      lt-leb 1 (a .b) (c .if3 .taken),
+      and-false (ltb (a .i) (shelf (a .t) .servers)),
+    )
 
 servers-requires-2 : tie.Need-servers-requires-2
 servers-requires-2 c κs = known (c .before .before .before .before .is-usable .ensures) (c .before .before .before .if1 .left) .high
@@ -38,7 +46,13 @@ returns-4 : tie.Need-returns-4
 unfolding sameTags
 returns-4 c =
     let a = c .before .before .before .before .before .before .before .before .args in
-    rw (is-usable (c .before .before .before .before .before .before .is-usable .ensures) (c .before .before .before .before .before .if1 .left), lt-leb (a .b) (shelf (a .t) .servers) (omega (arith, c .if4 .taken, c .before .servers2 .ensures .0)), and-false (leb 1 (a .b)), and-false (ltb (a .i) (shelf (a .t) .servers)))
+    rw (
+      is-usable (c .before .before .before .before .before .before .is-usable .ensures) (c .before .before .before .before .before .if1 .left),
+      lt-leb (a .b) (shelf (a .t) .servers) (omega (arith, c .if4 .taken, c .before .servers2 .ensures .0)),
+      and-false (leb 1 (a .b)),
+      and-false
+          (ltb (a .i) (shelf (a .t) .servers)),
+    )
 
 tags-alike-requires : tie.Need-tags-alike-requires
 tags-alike-requires c κs =
@@ -50,7 +64,16 @@ unfolding sameTags
 returns-5 c =
     let a = c .before .before .before .before .before .before .before .before .before .args in
     let e : suc (a .b - 1) ≡ a .b = omega (arith, c .before .before .before .if3 .left) in
-    rw (is-usable (c .before .before .before .before .before .before .before .is-usable .ensures) (c .before .before .before .before .before .before .if1 .left), lt-ltb (a .i) (shelf (a .t) .servers) (omega (arith, c .before .before .before .before .before .servers .ensures .0)), le-leb 1 (a .b) (omega (arith, c .before .before .before .if3 .left)), le-leb (a .b) (shelf (a .t) .servers) (omega (arith, c .before .if4 .left, c .before .before .servers2 .ensures .0)))
+    rw (
+      is-usable (c .before .before .before .before .before .before .before .is-usable .ensures)
+          (c .before .before .before .before .before .before .if1 .left),
+      lt-ltb (a .i) (shelf (a .t) .servers)
+          (omega (arith, c .before .before .before .before .before .servers .ensures .0)),
+      le-leb 1 (a .b)
+          (omega (arith, c .before .before .before .if3 .left)),
+      le-leb (a .b) (shelf (a .t) .servers)
+          (omega (arith, c .before .if4 .left, c .before .before .servers2 .ensures .0)),
+    )
     (c .tags-alike .ensures ∙ ap (sameTagsAt (a .t) (a .kept .now) (a .i)) e)
 
 pub same-tags-spec : {M : Type 1} → statement M

@@ -10,26 +10,48 @@ use Rattle.drill.proofs.drill.Statement.{statement}
 use Rattle.drill.proofs.drill.Tie as tie
 
 returns : tie.Need-returns
-returns c = let a = c .before .before .before .before .before .args in rw (c .refused .ensures) (drill-1 (a .sheet .now) (a .out .now) (a .work .now) (c .before .if1 .taken))
+returns c = let a = c .before .before .before .before .before .args in rw (c .refused .ensures)
+    (drill-1 (a .sheet .now) (a .out .now) (a .work .now) (c .before .if1 .taken))
 
 returns-2 : tie.Need-returns-2
 returns-2 c =
     let a = c .before .before .before .before .before .before .before .before .args in
-    let m : c .before .before .rows-for .result ≡ rowsFor (length (lines (a .sheet .now))) = c .before .before .rows-for .ensures ∙ ap rowsFor (c .before .before .before .count-lines .ensures) in
-    rw (c .refused2 .ensures) (drill-15 (a .sheet .now) (a .out .now) (a .work .now) (c .before .before .before .before .if1 .left) (room-short (length (a .out .now)) _ (rw m at (c .before .if2 .taken))))
+    let m : c .before .before .rows-for .result ≡ rowsFor (length (lines (a .sheet .now))) = c .before .before .rows-for .ensures ∙ ap rowsFor
+    (c .before .before .before .count-lines .ensures) in
+    rw (c .refused2 .ensures) (drill-15 (a .sheet .now) (a .out .now) (a .work .now) (c .before .before .before .before .if1 .left)
+    (room-short (length (a .out .now)) _ (rw m at (c .before .if2 .taken))))
 
 list-requires : tie.Need-list-requires
 list-requires c κs =
     let a = c .before .before .before .before .before .before .before .before .before .before .before .before .before .args in
-    let m : c .before .before .before .before .before .before .before .rows-for .result ≡ rowsFor (length (lines (a .sheet .now))) = c .before .before .before .before .before .before .before .rows-for .ensures ∙ ap rowsFor (c .before .before .before .before .before .before .before .before .count-lines .ensures) in
-    ((c .before .before .before .work .given ∙ c .before .before .before .before .before .before .before .before .before .if1 .left, c .before .before .before .before .clear .ensures ∙ ap (λ (n : ℕ). replicate n 0) (sym (c .before .before .before .work .given))), room-fits (length (a .out .now)) _ (rw m at (c .before .before .before .before .before .before .if2 .left)))
+    let m : c .before .before .before .before .before .before .before .rows-for .result ≡ rowsFor (length (lines (a .sheet .now))) =
+    c .before .before .before .before .before .before .before .rows-for .ensures ∙ ap rowsFor
+    (c .before .before .before .before .before .before .before .before .count-lines .ensures) in (
+      (
+        c .before .before .before .work .given ∙ c .before .before .before .before .before .before .before .before .before .if1 .left,
+        c .before .before .before .before .clear .ensures ∙ ap (λ (n : ℕ). replicate n 0) (sym (c .before .before .before .work .given)),
+      ),
+      room-fits
+          (length (a .out .now)) _ (rw m at (c .before .before .before .before .before .before .if2 .left)),
+    )
 
 returns-3 : tie.Need-returns-3
 returns-3 c =
-    let a = c .before .before .before .before .before .before .before .before .before .before .before .before .before .before .before .before .before .before .before .before .before .before .args in
-    let m : c .before .before .before .before .before .before .before .before .before .before .before .before .before .before .before .before .rows-for .result ≡ rowsFor (length (lines (a .sheet .now))) = c .before .before .before .before .before .before .before .before .before .before .before .before .before .before .before .before .rows-for .ensures ∙ ap rowsFor (c .before .before .before .before .before .before .before .before .before .before .before .before .before .before .before .before .before .count-lines .ensures) in
-    drill-0 (a .sheet .now) (a .out .now) (a .work .now) (c .before .before .before .before .before .before .before .before .before .before .before .before .before .before .before .before .before .before .if1 .left) (room-fits (length (a .out .now)) _ (rw m at (c .before .before .before .before .before .before .before .before .before .before .before .before .before .before .before .if2 .left))) (c .before .before .before .before .before .before .before .before .list .ensures)
-    (c .before .before .clear2 .ensures ∙ ap (λ (n : ℕ). replicate n 0) (c .before .before .before .before .before .work2 .given ∙ c .before .before .before .before .before .before .before .before .before .before .before .before .work .given))
+    let a = c .before .before .before .before .before .before .before .before .before .before .before .before .before .before .before .before .before
+    .before .before .before .before .before .args in
+    let m : c .before .before .before .before .before .before .before .before .before .before .before .before .before .before .before .before
+    .rows-for .result ≡ rowsFor (length (lines (a .sheet .now))) =
+    c .before .before .before .before .before .before .before .before .before .before .before .before .before .before .before .before .rows-for
+    .ensures ∙ ap rowsFor
+    (c .before .before .before .before .before .before .before .before .before .before .before .before .before .before .before .before .before
+    .count-lines .ensures) in
+    drill-0 (a .sheet .now) (a .out .now) (a .work .now)
+    (c .before .before .before .before .before .before .before .before .before .before .before .before .before .before .before .before .before .before
+    .if1 .left) (room-fits (length (a .out .now)) _
+    (rw m at (c .before .before .before .before .before .before .before .before .before .before .before .before .before .before .before .if2 .left)))
+    (c .before .before .before .before .before .before .before .before .list .ensures)
+    (c .before .before .clear2 .ensures ∙ ap (λ (n : ℕ). replicate n 0) (c .before .before .before .before .before .work2 .given ∙
+    c .before .before .before .before .before .before .before .before .before .before .before .before .work .given))
 
 pub drill-spec : {M : Type 1} → statement M
 drill-spec = tie.close (tie.spec (λ c κs. search needs) returns (λ c κs. search needs) (λ c κs. search needs) (λ c κs. search needs) returns-2

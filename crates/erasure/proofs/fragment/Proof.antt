@@ -44,15 +44,22 @@ module _ (c : tie.After-size) where
   size-most : c .size .result ≤ fragmentRoom
   size-most =
       subst (λ (x : ℕ). x ≤ fragmentRoom) (sym (c .size .ensures))
-      (size-fits (c .before .shares-of .result) (length (content past)) (omega (arith, shares-are (c .before), ok past .faults .0)) (ok past .bytes .1))
+      (size-fits (c .before .shares-of .result) (length (content past)) (omega (arith, shares-are (c .before), ok past .faults .0))
+      (ok past .bytes .1))
 
   -- bytes that are the sums, or a run, are the fragment
-  done : (b : List ℕ) → b ≡ madeOf (c .before .shares-of .result) (c .size .result) (content past) (server past) ++ zeros (fragmentRoom - c .size .result)
+  done : (b : List ℕ) → b ≡ madeOf (c .before .shares-of .result) (c .size .result) (content past) (server past) ++ zeros
+      (fragmentRoom - c .size .result)
       → record { number = 0; count = c .size .result; bytes = b } ≡ fragmentStep (t past) (server past) (content past)
   done b e =
       let shares = c .before .shares-of in
       let f = c .size .ensures ∙ ap (λ (k : ℕ). fragmentSize k (length (content past))) (shares .ensures) in
-      let outcome : ℕ → ℕ → FragmentOutcome = λ k x. record { number = 0; count = x; bytes = madeOf k x (content past) (server past) ++ zeros (fragmentRoom - x) } in
+      let outcome : ℕ → ℕ → FragmentOutcome = λ k x. record {
+        number = 0;
+        count = x;
+        bytes = madeOf k x (content past) (server past) ++ zeros
+            (fragmentRoom - x);
+      } in
       ap (λ (b : List ℕ). record { number = 0; count = c .size .result; bytes = b }) e
       ∙ ap₂ outcome (shares .ensures) f
       ∙ sym (make-accepted (t past) (server past) (content past) (ok past .faults .1) (ok past .number .0) (ok past .number .1) (accepted past))
@@ -85,11 +92,13 @@ returns-2 c =
     let size = c .before .before .size .result in
     let past = c .before .before .before .before in
     let r = ok past in
-    let small : (j : ℕ) → getD (content past) j 0 < 256 = λ j. (c .before .before .before .before .before .before .shared-slice-known .given j .fits) in
+    let small : (j : ℕ) → getD (content past) j 0 < 256 = λ j. (c .before .before .before .before .before .before .shared-slice-known .given
+    j .fits) in
     done (c .before .before) _
     (c .plain .ensures
     ∙ ap (λ (l : List ℕ). l ++ zeros (fragmentRoom - size))
-    (run-made (c .before .before .before .shares-of .result) size (server past) (content past) (omega (arith, shares-are (c .before .before .before), r .faults .1)) (r .number .0) (c .before .if2 .taken) small))
+    (run-made (c .before .before .before .shares-of .result) size (server past) (content past)
+    (omega (arith, shares-are (c .before .before .before), r .faults .1)) (r .number .0) (c .before .if2 .taken) small))
 
 cast-make : tie.Need-cast-make
 unfolding shelf

@@ -17,9 +17,11 @@ use Rattle.erasure.proofs.fragment_refusal.Tie as tie
 faults-in : (c : tie.Else1) → not (within 1 topFaults (c .before .before .args .t)) ≡ false
 faults-in c = sym (c .before .outside .ensures) ∙ c .if1 .left
 
-server-tested : (c : tie.After-outside2) → let args = c .before .before .before .before .args in not (within 1 (shelf (args .t) .servers) (args .server)) ≡ c .outside2 .result
+server-tested : (c : tie.After-outside2) → let args = c .before .before .before .before .args in not
+    (within 1 (shelf (args .t) .servers) (args .server)) ≡ c .outside2 .result
 server-tested c =
-    ap (λ (s : ℕ). not (within 1 s (c .before .before .before .before .args .server))) (sym (c .before .servers-of .ensures)) ∙ sym (c .outside2 .ensures)
+    ap (λ (s : ℕ). not (within 1 s (c .before .before .before .before .args .server))) (sym (c .before .servers-of .ensures)) ∙ sym
+    (c .outside2 .ensures)
 
 last-test : (c : tie.After-outside3) (b : Bool) → c .outside3 .result ≡ b
     → let args = c .before .before .before .before .before .before .args in fragmentRefusal (args .t) (args .server) (args .n) ≡ cond b 6 0
@@ -41,7 +43,8 @@ servers-of-requires c κs = within-bounds 1 topFaults (c .before .before .args .
 returns-2 : tie.Need-returns-2
 returns-2 c =
     let args = c .before .before .before .before .before .args in
-    sym (fragment-tests (args .t) (args .server) (args .n) false true _ (faults-in (c .before .before .before)) (server-tested (c .before) ∙ c .if2 .taken) refl)
+    sym (fragment-tests (args .t) (args .server) (args .n) false true _ (faults-in (c .before .before .before))
+    (server-tested (c .before) ∙ c .if2 .taken) refl)
 
 returns-3 : tie.Need-returns-3
 returns-3 c = sym (last-test (c .before) true (c .if3 .taken))

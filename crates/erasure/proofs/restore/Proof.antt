@@ -98,8 +98,10 @@ returns-2 : tie.Need-returns-2
 returns-2 c =
     let p = past (c .before .before) in
     let few : length (firstDifferent (shelf (t p) .shares) (servers p)) < shelf (t p) .shares =
-    subst (λ (x : ℕ). length (firstDifferent x (servers p)) < x) (c .before .before .before .before .before .shares-of .ensures) (omega (arith, counted-is (c .before .before), c .before .if2 .taken)) in
-    rw (c .refused2 .ensures) (sym (restore-refused (t p) (n p) (servers p) (fragments p) (out p) 16 (refused-few (t p) (n p) (servers p) (fragments p) (out p) (none-applies p) few) (suc-ne-zero 15)))
+    subst (λ (x : ℕ). length (firstDifferent x (servers p)) < x) (c .before .before .before .before .before .shares-of .ensures)
+    (omega (arith, counted-is (c .before .before), c .before .if2 .taken)) in
+    rw (c .refused2 .ensures) (sym (restore-refused (t p) (n p) (servers p) (fragments p) (out p) 16
+    (refused-few (t p) (n p) (servers p) (fragments p) (out p) (none-applies p) few) (suc-ne-zero 15)))
 
 size-requires : tie.Need-size-requires
 size-requires c κs = (omega (arith, k-is (c .before)), k-most (c .before), ok (past (c .before)) .bytes .1)
@@ -111,7 +113,8 @@ rebuild-requires c κs =
     let chosen-as = a .before .before .select .ensures in
     let size = c .before .size in
     let full : k a ≤ chosen a .count = search needs in
-    let f : size .result ≡ fragmentSize (shelf (t p) .shares) (n p) = size .ensures ∙ ap (λ (x : ℕ). fragmentSize x (n p)) (a .before .before .before .shares-of .ensures) in (
+    let f : size .result ≡ fragmentSize (shelf (t p) .shares) (n p) = size .ensures ∙ ap (λ (x : ℕ). fragmentSize x (n p))
+    (a .before .before .before .shares-of .ensures) in (
       k-most a,
       subst (λ (x : ℕ). 0 < x) (sym (size .ensures)) (size-pos (k a) (n p) (ok p .bytes .0) (omega (arith, k-is a))),
       subst (λ (x : ℕ). n p ≤ k a * x) (sym (size .ensures)) (runs-cover (k a) (n p) (omega (arith, k-is a))),
@@ -131,13 +134,18 @@ returns-3 c =
     let full : k a ≤ chosen a .count = search needs in
     let enough : shelf (t p) .shares ≤ length (firstDifferent (shelf (t p) .shares) (servers p)) =
     subst (λ (x : ℕ). x ≤ length (firstDifferent x (servers p))) (k-is a) (omega (arith, counted-is a, full)) in
-    let bytes : rebuiltOf (k a) (size .result) (n p) (chosen a .servers) (chosen a .at) (fragments p) ≡ restoredBytes (t p) (n p) (servers p) (fragments p) =
+    let bytes : rebuiltOf (k a) (size .result) (n p) (chosen a .servers) (chosen a .at) (fragments p) ≡ restoredBytes (t p) (n p) (servers p)
+    (fragments p) =
     ap (λ (x : ℕ). rebuiltOf (k a) x (n p) (chosen a .servers) (chosen a .at) (fragments p)) (size .ensures)
-    ∙ rebuilt-is (k a) (servers p) (chosen a) (a .before .before .select .ensures) (k-most a) (at-length a) (servers-length a) full s (n p) (fragments p) (omega (arith, k-is a)) (omega (arith, k-is a)) (ok p .numbers)
+    ∙ rebuilt-is (k a) (servers p) (chosen a) (a .before .before .select .ensures) (k-most a) (at-length a) (servers-length a) full s (n p)
+    (fragments p) (omega (arith, k-is a)) (omega (arith, k-is a)) (ok p .numbers)
     ∙ ap (λ (x : ℕ). restored (upTo s) x (n p) (partsAt (fragmentSize x (n p)) (servers p) (fragments p) (firstDifferent x (servers p)))) (k-is a) in
-    ap (λ (l : List ℕ). (record { number = 0; count = n p }, l)) (c .before .before .rebuild .ensures ∙ ap (λ (l : List ℕ). l ++ drop (n p) (out p)) bytes)
-    ∙ sym (restore-accepted (t p) (n p) (servers p) (fragments p) (out p) (refused-none (t p) (n p) (servers p) (fragments p) (out p) (none-applies p) enough))
+    ap (λ (l : List ℕ). (record { number = 0; count = n p }, l)) (c .before .before .rebuild .ensures ∙ ap (λ (l : List ℕ). l ++ drop (n p) (out p))
+    bytes)
+    ∙ sym (restore-accepted (t p) (n p) (servers p) (fragments p) (out p) (refused-none (t p) (n p) (servers p) (fragments p) (out p) (none-applies p)
+    enough))
 
 pub restore-spec : {M : Type 1} → statement M
-restore-spec = tie.close (tie.spec (λ c κs. search needs) (λ c κs. search needs) returns shares-of-requires select-requires (λ c κs. search needs) returns-2 size-requires rebuild-requires
+restore-spec = tie.close (tie.spec (λ c κs. search needs) (λ c κs. search needs) returns shares-of-requires select-requires (λ c κs. search needs)
+    returns-2 size-requires rebuild-requires
     (λ c. search needs) returns-3)

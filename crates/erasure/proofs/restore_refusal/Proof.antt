@@ -43,7 +43,8 @@ module _ (c : tie.Else1) where
   faults : (1 ≤ t) × (t ≤ topFaults)
   faults = within-bounds 1 topFaults t (not-false _ faults-in)
 
-servers-tested : (c : tie.After-server-outside) → let p = c .before .before in not (each (within 1 (shelf (t p) .servers)) (servers p)) ≡ c .server-outside .result
+servers-tested : (c : tie.After-server-outside) → let p = c .before .before in not (each (within 1 (shelf (t p) .servers)) (servers p)) ≡
+    c .server-outside .result
 servers-tested c =
     ap (λ (s : ℕ). not (each (within 1 s) (servers (c .before .before)))) (sym (c .before .servers-of .ensures)) ∙ sym (c .server-outside .ensures)
 
@@ -56,7 +57,8 @@ module _ (c : tie.Else2) where
       → not (eqb (given past) (length (servers past) * fragmentSize (shelf (t past) .shares) (n past))) ≡ f
       → firstOf (argumentChecks (t past) (n past) (servers past) (given past) (room past)) ≡ cond d 6 (cond e 15 (cond f 16 0))
   other-tests d e f =
-      argument-tests (t past) (n past) (servers past) (given past) (room past) false false d e f (faults-in past) (servers-tested (c .before) ∙ c .if2 .left)
+      argument-tests (t past) (n past) (servers past) (given past) (room past) false false d e f (faults-in past)
+      (servers-tested (c .before) ∙ c .if2 .left)
 
 module _ (c : tie.Else3) where
   length-in : not (within leastLength topLength (n (past (c .before .before)))) ≡ false
@@ -89,7 +91,8 @@ returns : tie.Need-returns
 returns c =
     let args = c .before .before .before .args in
     let ss = denote.Ref.now (args .servers) in
-    sym (argument-tests (args .t) (args .n) ss (args .given) (args .room) true _ _ _ _ (sym (c .before .outside .ensures) ∙ c .if1 .taken) refl refl refl refl)
+    sym (argument-tests (args .t) (args .n) ss (args .given) (args .room) true _ _ _ _ (sym (c .before .outside .ensures) ∙ c .if1 .taken) refl refl
+    refl refl)
 
 servers-of-requires : tie.Need-servers-of-requires
 servers-of-requires c κs = faults c .1
@@ -97,7 +100,8 @@ servers-of-requires c κs = faults c .1
 returns-2 : tie.Need-returns-2
 returns-2 c =
     let p = c .before .before .before in
-    sym (argument-tests (t p) (n p) (servers p) (given p) (room p) false true _ _ _ (faults-in p) (servers-tested (c .before) ∙ c .if2 .taken) refl refl refl)
+    sym (argument-tests (t p) (n p) (servers p) (given p) (room p) false true _ _ _ (faults-in p) (servers-tested (c .before) ∙ c .if2 .taken) refl
+    refl refl)
 
 returns-3 : tie.Need-returns-3
 returns-3 c = sym (other-tests (c .before .before) true _ _ (sym (c .before .outside2 .ensures) ∙ c .if3 .taken) refl refl)
@@ -116,7 +120,8 @@ size-requires c κs = (omega (arith, shares-are c), omega (arith, shares-are c, 
 miscounted-requires : tie.Need-miscounted-requires
 miscounted-requires c κs =
     subst (λ (x : ℕ). 0 < x) (sym (c .size .ensures))
-    (size-pos (c .before .shares-of .result) (n (past (second (c .before)))) (lengths (c .before .before .before) .0) (omega (arith, shares-are (c .before))))
+    (size-pos (c .before .shares-of .result) (n (past (second (c .before)))) (lengths (c .before .before .before) .0)
+    (omega (arith, shares-are (c .before))))
 
 returns-5 : tie.Need-returns-5
 returns-5 c = sym (last-test (c .before) true (c .if5 .taken))

@@ -35,8 +35,11 @@ loop-again : tie.Need-loop-again Inv-loop μ-loop
 loop-again c =
     let args = c .before .before .before .before .before .before .args in
     let l = c .before .before .before .before .loop in
-    let ss = denote.Ref.now (args .servers) in
-    (search needs, below-more (λ (j : ℕ). within 1 (args .most) (getD ss j 0) ≡ true) (l .i) (l .inv .1) (not-false _ (sym (c .before .outside .ensures) ∙ c .if1 .left)))
+    let ss = denote.Ref.now (args .servers) in (
+      search needs,
+      below-more (λ (j : ℕ). within 1 (args .most) (getD ss j 0) ≡ true) (l .i) (l .inv .1)
+          (not-false _ (sym (c .before .outside .ensures) ∙ c .if1 .left)),
+    )
 
 returns-2 : tie.Need-returns-2 Inv-loop μ-loop
 returns-2 c =

@@ -13,7 +13,8 @@ returns c = sym (ap inverse (c .if1 .taken) ∙ inverse-zero)
 returns-2 : tie.Need-returns-2
 returns-2 c =
     c .power-of .ensures
-    ∙ inverse-of-log (c .before .before .before .args .a) (c .before .log-of .result) (omega arith) (omega arith) (c .before .log-of .ensures .0) (c .before .log-of .ensures .1)
+    ∙ inverse-of-log (c .before .before .before .args .a) (c .before .log-of .result) (omega arith) (omega arith) (c .before .log-of .ensures .0)
+    (c .before .log-of .ensures .1)
 
 pub inverse-spec : {M : Type 1} → statement M
 inverse-spec = tie.close (tie.spec returns (λ c κs. search needs) (λ c. search needs) (λ c κs. search needs) returns-2)

@@ -22,8 +22,12 @@ loop-holds c = (omega arith, refl, refl)
 loop-again : tie.Need-loop-again Inv-loop μ-loop
 loop-again c =
     let at = c .before .loop in
-    let e : 7 - at .i ≡ 8 - suc (at .i) = omega arith in
-    (omega arith, search needs, tab-more _ _ _ _ (omega arith) (at .inv .2) (ap (λ (k : ℕ). c .before .before .args .n * 8 % 2 ^ 64 / 2 ^ (8 * k) % 256) e))
+    let e : 7 - at .i ≡ 8 - suc (at .i) = omega arith in (
+      omega arith,
+      search needs,
+      tab-more _ _ _ _ (omega arith) (at .inv .2) (ap (λ (k : ℕ). c .before .before .args .n * 8 % 2 ^ 64 / 2 ^ (8 * k) %
+          256) e),
+    )
 
 returns : tie.Need-returns Inv-loop μ-loop
 unfolding bigEndian

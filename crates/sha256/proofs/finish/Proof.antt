@@ -19,7 +19,8 @@ returns c =
     let m : List ℕ = a .m .now in
     let w : ℕ = length m / 64 * 64 in
     let rest = take-all (length m - w) (drop w m) (omega (arith, length-drop w m)) in
-    cc (finished _ m (a .d .now) _ (c .before .before .before .tail .result) (a .n) w _ refl rest refl (omega arith) (omega arith) (c .before .before .before .tail .ensures))
+    cc (finished _ m (a .d .now) _ (c .before .before .before .tail .result) (a .n) w _ refl rest refl (omega arith) (omega arith)
+    (c .before .before .before .tail .ensures))
 
 pub finish-spec : {M : Type 1} → statement M
 finish-spec = tie.close (tie.spec (λ c. search needs) (λ c κs. search needs) (λ c. search needs) (λ c. search needs) (λ c. search needs)

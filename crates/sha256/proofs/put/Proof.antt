@@ -21,8 +21,13 @@ loop-holds c = (search needs, (paste-zero (c .args .t .now) (c .args .i) (c .arg
 loop-again : tie.Need-loop-again Inv-loop μ-loop
 loop-again c =
     let a = c .before .before .before .args in
-    let i = c .before .before .loop .k in
-    (search needs, (rw (c .before .before .loop .inv .1 .0) (rw add-one (paste-suc (a .t .now) (a .i) (a .s .now) i 0 (omega arith) (omega arith))), simp length-set (c .before .before .loop .inv .1 .1)))
+    let i = c .before .before .loop .k in (
+      search needs,
+      (
+        rw (c .before .before .loop .inv .1 .0) (rw add-one (paste-suc (a .t .now) (a .i) (a .s .now) i 0 (omega arith) (omega arith))),
+        simp length-set (c .before .before .loop .inv .1 .1),
+      ),
+    )
 
 same-length : tie.Need-same-length Inv-loop μ-loop
 same-length c = c .before .loop .inv .1 .1

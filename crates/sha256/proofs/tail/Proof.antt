@@ -8,7 +8,8 @@ use Rattle.sha256.proofs.tail.Tie as tie
 
 returns : tie.Need-returns
 returns c =
-    let a = c .before .before .before .before .before .before .before .before .before .before .before .before .before .before .before .before .before .args in
+    let a = c .before .before .before .before .before .before .before .before .before .before .before .before .before .before .before .before .before
+    .args in
     cc (tail-made (a .rest .now) (a .d .now) (a .n) _ _ refl refl (omega arith) (omega arith))
 
 pub tail-spec : {M : Type 1} → statement M

@@ -19,7 +19,9 @@ returns-2 : tie.Need-returns-2
 returns-2 c =
     let a = c .before .before .before .before .before .before .before .before .before .before .before .before .before .before .before .args in
     let l : length (a .call .tally .marks) ≡ mostServers = search needs in
-    state-put (a .bytes .now) (a .call) l (omega arith) (rw (sym (c .before .before .before .before .before .before .before .before .before .before .before .before .numbers-of .ensures)) (c .before .before .before .before .before .before .before .put .ensures)) (c .before .before .put2 .ensures)
+    state-put (a .bytes .now) (a .call) l (omega arith)
+    (rw (sym (c .before .before .before .before .before .before .before .before .before .before .before .before .numbers-of .ensures))
+    (c .before .before .before .before .before .before .before .put .ensures)) (c .before .before .put2 .ensures)
 
 pub put-spec : {M : Type 1} → statement M
 put-spec = tie.close (tie.spec returns (λ c κs. search needs) (λ c. search needs) (λ c κs. search needs) (λ c. search needs) (λ c κs. search needs)

@@ -15,7 +15,8 @@ returns c =
 returns-2 : tie.Need-returns-2
 returns-2 c =
     let a = c .before .before .before .before .before .args in
-    let e = read-refused (a .t) (a .client) (a .call) (a .kept .now) (c .before .before .before .if1 .left) _ (c .before .before .read-refusal .ensures) (c .before .if2 .taken) in
+    let e = read-refused (a .t) (a .client) (a .call) (a .kept .now) (c .before .before .before .if1 .left) _
+    (c .before .before .read-refusal .ensures) (c .before .if2 .taken) in
     (rw (e, c .not-begun2 .ensures), rw e)
 
 next-call-requires : tie.Need-next-call-requires

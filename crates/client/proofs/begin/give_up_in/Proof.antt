@@ -16,18 +16,31 @@ returns c =
     let e = c .before .abort-refusal .ensures in
     rw (e, refused-is (abortRefusal (shelf (a .t)) (a .client) (inHand (a .call))) _ _ (λ z. c .if1 .taken (e ∙ z)))
 
-not-refused : (c : tie.Else1) → abortRefusal (shelf (c .before .before .before .args .t)) (c .before .before .before .args .client) (inHand (c .before .before .before .args .call)) ≡ 0
+not-refused : (c : tie.Else1) → abortRefusal (shelf (c .before .before .before .args .t)) (c .before .before .before .args .client)
+    (inHand (c .before .before .before .args .call)) ≡ 0
 not-refused c = sym (c .before .abort-refusal .ensures) ∙ c .if1 .left
 
 returns-2 : tie.Need-returns-2
 unfolding giveUp
 returns-2 c =
-    rw (not-refused (c .before .before .before), eq-eqb (c .before .before .before .before .before .before .args .call .tally .round) 3 (c .if2 .taken), c .before .with-tally .ensures, c .before .before .fresh-tally .ensures)
+    rw (
+      not-refused (c .before .before .before),
+      eq-eqb (c .before .before .before .before .before .before .args .call .tally .round) 3
+          (c .if2 .taken),
+      c .before .with-tally .ensures,
+      c .before .before .fresh-tally .ensures,
+    )
 
 returns-3 : tie.Need-returns-3
 unfolding giveUp
 returns-3 c =
-    rw (not-refused (c .before .before .before), ne-eqb (c .before .before .before .before .before .before .args .call .tally .round) 3 (c .if2 .left), c .before .with-tally .ensures, c .before .before .fresh-tally .ensures)
+    rw (
+      not-refused (c .before .before .before),
+      ne-eqb (c .before .before .before .before .before .before .args .call .tally .round) 3
+          (c .if2 .left),
+      c .before .with-tally .ensures,
+      c .before .before .fresh-tally .ensures,
+    )
 
 pub give-up-in-spec : {M : Type 1} → statement M
 give-up-in-spec = tie.close (tie.spec (λ c κs. search needs) returns (λ c κs. search needs) (λ c κs. search needs) returns-2 returns-3)

@@ -8,7 +8,8 @@ use Rattle.client.proofs.filter.found.Tie as tie
 returns : tie.Need-returns
 unfolding foundAt
 returns c =
-    let e = sym (c .before .before .before .before .before .before .before .same-tags .ensures) ∙ c .before .before .before .before .before .before .if1 .taken in
+    let e = sym (c .before .before .before .before .before .before .before .same-tags .ensures) ∙
+    c .before .before .before .before .before .before .if1 .taken in
     let d = c .before .before .deliver .ensures in
     rw (e, d .0, d .1, c .before .before .before .before .number-in .ensures)
 

@@ -22,29 +22,40 @@ found-requires c κs =
     let d = c .before .before .before .before .before .decision .given in
     let F = shelf-fits (a .t) (p .0) (p .1 .0) .few in
     let l : length {A = ℕ} (replicate contentRoom 0) ≡ contentRoom = length-replicate {A = ℕ} contentRoom 0 in
-    let e : decided (a .t) (a .call .tally .marks) (a .kept .now) (replicate contentRoom 0) .answer ≡ decisions.Found (d .0 .0) (d .0 .1 .0) (d .0 .1 .1 .0) = sym (c .before .before .before .before .before .before .before .before .decide .ensures .0) ∙ d .1 in
-    let r = found-range (a .t) (a .call .tally .marks) (a .kept .now) (record { low = p .0; high = p .1 .0; size = p .1 .1 .0 }) (λ k. c .before .before .before .before .before .before .before .before .before .before .before .before .before .before .slice-known .given k .fits) (replicate contentRoom 0) (omega (arith, l)) (d .0 .0) (d .0 .1 .0) (d .0 .1 .1 .0) e in
+    let e : decided (a .t) (a .call .tally .marks) (a .kept .now) (replicate contentRoom 0) .answer ≡ decisions.Found (d .0 .0) (d .0 .1 .0)
+    (d .0 .1 .1 .0) = sym (c .before .before .before .before .before .before .before .before .decide .ensures .0) ∙ d .1 in
+    let r = found-range (a .t) (a .call .tally .marks) (a .kept .now) (record { low = p .0; high = p .1 .0; size = p .1 .1 .0 })
+    (λ k. c .before .before .before .before .before .before .before .before .before .before .before .before .before .before .slice-known .given
+    k .fits) (replicate contentRoom 0) (omega (arith, l)) (d .0 .0) (d .0 .1 .0) (d .0 .1 .1 .0) e in
     let z : length (c .before .before .before .before .before .before .before .before .decide .last .1 .1 .1 .0) ≡ 1024 = search needs in
-    let q : length (c .before .before .part .result .now) ≤ length (c .before .before .before .before .before .before .before .before .decide .last .1 .1 .1 .0) = rw (c .before .before .part .ensures) (part-short (c .before .before .before .before .before .before .before .before .decide .last .1 .1 .1 .0) (d .0 .1 .1 .0)) in
+    let q : length (c .before .before .part .result .now) ≤ length
+    (c .before .before .before .before .before .before .before .before .decide .last .1 .1 .1 .0) = rw (c .before .before .part .ensures)
+    (part-short (c .before .before .before .before .before .before .before .before .decide .last .1 .1 .1 .0) (d .0 .1 .1 .0)) in
     (p .1 .0, (omega (arith, r .0), (r .1 .0, (omega (arith, r .1 .1), (p .1 .1 .0, (omega (arith, q, z), p .1 .1 .1))))))
 
 returns : tie.Need-returns
 returns c =
     let a = c .before .before .before .before .before .before .before .before .before .before .before .args in
-    rw (c .more .ensures) (judged-wait (a .t) (a .call) (a .kept .now) (a .out .now) (sym (c .before .before .before .before .decide .ensures .0) ∙ c .before .enum-told .given .1))
+    rw (c .more .ensures) (judged-wait (a .t) (a .call) (a .kept .now) (a .out .now)
+    (sym (c .before .before .before .before .decide .ensures .0) ∙ c .before .enum-told .given .1))
 
 returns-2 : tie.Need-returns-2
 returns-2 c =
     let a = c .before .before .before .before .before .before .before .before .before .before .before .args in
-    rw (c .enter .ensures) (judged-blank (a .t) (a .call) (a .kept .now) (a .out .now) (sym (c .before .before .before .before .decide .ensures .0) ∙ c .before .enum-told2 .given .1))
+    rw (c .enter .ensures) (judged-blank (a .t) (a .call) (a .kept .now) (a .out .now)
+    (sym (c .before .before .before .before .decide .ensures .0) ∙ c .before .enum-told2 .given .1))
 
 returns-3 : tie.Need-returns-3
 returns-3 c =
-    let a = c .before .before .before .before .before .before .before .before .before .before .before .before .before .before .before .before .before .before .before .before .args in
+    let a = c .before .before .before .before .before .before .before .before .before .before .before .before .before .before .before .before .before
+    .before .before .before .args in
     let d = c .before .before .before .before .before .before .before .before .before .before .decision .given in
     c .before .before .before .before .found .ensures
-    ∙ judged-found (a .t) (a .call) (a .kept .now) (a .out .now) (d .0 .0) (d .0 .1 .0) (d .0 .1 .1 .0) (c .before .before .before .before .before .before .before .part .result .now) (sym (c .before .before .before .before .before .before .before .before .before .before .before .before .before .decide .ensures .0) ∙ d .1)
-    (c .before .before .before .before .before .before .before .part .ensures ∙ ap (λ (x : List ℕ). part x 0 (d .0 .1 .1 .0)) (c .before .before .before .before .before .before .before .before .before .before .before .before .before .decide .ensures .1))
+    ∙ judged-found (a .t) (a .call) (a .kept .now) (a .out .now) (d .0 .0) (d .0 .1 .0) (d .0 .1 .1 .0)
+    (c .before .before .before .before .before .before .before .part .result .now) (sym
+    (c .before .before .before .before .before .before .before .before .before .before .before .before .before .decide .ensures .0) ∙ d .1)
+    (c .before .before .before .before .before .before .before .part .ensures ∙ ap (λ (x : List ℕ). part x 0 (d .0 .1 .1 .0))
+    (c .before .before .before .before .before .before .before .before .before .before .before .before .before .decide .ensures .1))
 
 pub judge-spec : {M : Type 1} → statement M
 judge-spec = tie.close (tie.spec (λ c. search needs) (λ c κs. search needs) (λ c. search needs) (λ c κs. search needs) (λ c. search needs)

@@ -11,21 +11,38 @@ write-at-requires : tie.Need-write-at-requires
 write-at-requires c κs =
     let a = c .before .before .before .before .before .before .before .args in
     let p = c .before .before .before .before .before .before .before .pre in
-    rw (c .before .before .before .before .part .ensures) (name-fits (a .t) (a .kept .now) (a .i) (a .b) (a .n) (p .0) (p .1 .1 .1 .1 .1 .0) (p .1 .0) (p .1 .1 .0) (p .1 .1 .1 .0) (p .1 .1 .1 .1 .0) (a .bytes .now) (p .1 .1 .1 .1 .1 .1))
+    rw (c .before .before .before .before .part .ensures) (name-fits (a .t) (a .kept .now) (a .i) (a .b) (a .n) (p .0) (p .1 .1 .1 .1 .1 .0) (p .1 .0)
+    (p .1 .1 .0) (p .1 .1 .1 .0) (p .1 .1 .1 .1 .0) (a .bytes .now) (p .1 .1 .1 .1 .1 .1))
 
 write-at-requires-2 : tie.Need-write-at-requires-2
 write-at-requires-2 c κs =
     let a = c .before .before .before .before .before .before .before .before .before .before .before .args in
     let p = c .before .before .before .before .before .before .before .before .before .before .before .pre in
-    rw (c .before .before .before .before .before .part2 .ensures, c .before .before .before .before .before .before .tags-size .ensures, c .before .before .before .before .before .before .before .tags-at .ensures .0) (omega (arith, tags-fit (a .t) (a .kept .now) (a .i) (a .b) (a .n) (p .0) (p .1 .1 .1 .1 .1 .0) (p .1 .0) (p .1 .1 .0) (p .1 .1 .1 .0) (p .1 .1 .1 .1 .0) (a .bytes .now) (p .1 .1 .1 .1 .1 .1)))
+    rw (
+      c .before .before .before .before .before .part2 .ensures,
+      c .before .before .before .before .before .before .tags-size .ensures,
+      c .before .before .before .before .before .before .before .tags-at .ensures .0,
+    )
+    (omega (
+      arith,
+      tags-fit (a .t) (a .kept .now) (a .i) (a .b) (a .n) (p .0) (p .1 .1 .1 .1 .1 .0) (p .1 .0) (p .1 .1 .0) (p .1 .1 .1 .0)
+          (p .1 .1 .1 .1 .0) (a .bytes .now) (p .1 .1 .1 .1 .1 .1),
+    ))
 
 returns : tie.Need-returns
 returns c =
     let a = c .before .before .before .before .before .before .before .before .before .before .before .before .before .before .args in
     let p = c .before .before .before .before .before .before .before .before .before .before .before .before .before .before .pre in
     c .before .before .write-at2 .ensures
-    ∙ rw (c .before .before .before .before .before .before .write-at .ensures, c .before .before .before .before .before .before .before .before .part2 .ensures, c .before .before .before .before .before .before .before .before .before .tags-size .ensures, c .before .before .before .before .before .before .before .before .before .before .tags-at .ensures .0, c .before .before .before .before .before .before .before .before .before .before .before .part .ensures)
-    (repair-put (a .t) (a .kept .now) (a .i) (a .b) (a .n) (p .0) (p .1 .1 .1 .1 .1 .0) (p .1 .0) (p .1 .1 .0) (p .1 .1 .1 .0) (p .1 .1 .1 .1 .0) (a .bytes .now) (p .1 .1 .1 .1 .1 .1))
+    ∙ rw (
+      c .before .before .before .before .before .before .write-at .ensures,
+      c .before .before .before .before .before .before .before .before .part2 .ensures,
+      c .before .before .before .before .before .before .before .before .before .tags-size .ensures,
+      c .before .before .before .before .before .before .before .before .before .before .tags-at .ensures .0,
+      c .before .before .before .before .before .before .before .before .before .before .before .part .ensures,
+    )
+    (repair-put (a .t) (a .kept .now) (a .i) (a .b) (a .n) (p .0) (p .1 .1 .1 .1 .1 .0) (p .1 .0) (p .1 .1 .0) (p .1 .1 .1 .0) (p .1 .1 .1 .1 .0)
+    (a .bytes .now) (p .1 .1 .1 .1 .1 .1))
 
 pub put-repair-spec : {M : Type 1} → statement M
 put-repair-spec = tie.close (tie.spec (λ c. search needs) (λ c. search needs) (λ c. search needs) (λ c κs. search needs) (λ c. search needs)

@@ -16,12 +16,21 @@ short : (c : tie.After-digests-size)
 unfolding shelf
 short c =
     let a = c .before .before .args in
-    let p = c .before .before .pre in
-    (omega (arith, p .0, p .1, fragment-most (a .t) (a .n) (c .before .fragment-size .result) (c .before .fragment-size .ensures)), omega (arith, p .0, c .digests-size .ensures))
+    let p = c .before .before .pre in (
+      omega (arith, p .0, p .1, fragment-most (a .t) (a .n) (c .before .fragment-size .result) (c .before .fragment-size .ensures)),
+      omega
+          (arith, p .0, c .digests-size .ensures),
+    )
 
 add-result-2 : tie.Need-add-result-2
 add-result-2 c =
-    omega (arith, c .before .pre .0, c .before .pre .1, fragment-most (c .before .args .t) (c .before .args .n) (c .fragment-size .result) (c .fragment-size .ensures))
+    omega (
+      arith,
+      c .before .pre .0,
+      c .before .pre .1,
+      fragment-most (c .before .args .t) (c .before .args .n) (c .fragment-size .result)
+          (c .fragment-size .ensures),
+    )
 
 returns : tie.Need-returns
 unfolding tagsPlace

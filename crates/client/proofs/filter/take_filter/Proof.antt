@@ -24,12 +24,14 @@ put-reply-requires c κs =
 note-reply-requires : tie.Need-note-reply-requires
 note-reply-requires c κs =
     let a = c .before .before .before .before .before .before .before .before .before .args in
-    ready-server (a .t) (a .client) (a .call) (a .reply .now) (a .head) (c .before .before .before .before .before .before .before .before .before .pre .0)
+    ready-server (a .t) (a .client) (a .call) (a .reply .now) (a .head)
+    (c .before .before .before .before .before .before .before .before .before .pre .0)
 
 is-last-requires : tie.Need-is-last-requires
 is-last-requires c κs =
     let a = c .before .before .before .before .before .before .before .before .before .before .args in
-    ready-faults (a .t) (a .client) (a .call) (a .reply .now) (a .head) (c .before .before .before .before .before .before .before .before .before .before .pre .0) .1
+    ready-faults (a .t) (a .client) (a .call) (a .reply .now) (a .head)
+    (c .before .before .before .before .before .before .before .before .before .before .pre .0) .1
 
 judge-requires : tie.Need-judge-requires
 judge-requires c κs =
@@ -40,25 +42,45 @@ judge-requires c κs =
 
 returns : tie.Need-returns
 returns c =
-    let a = c .before .before .before .before .before .before .before .before .before .before .before .before .before .before .before .before .before .before .before .args in
-    let p = c .before .before .before .before .before .before .before .before .before .before .before .before .before .before .before .before .before .before .before .pre in
-    let Y : Bytes (a .reply .now) = λ k. c .before .before .before .before .before .before .before .before .before .before .before .before .before .before .before .before .before .shared-slice-known .given k .fits in
-    let e = sym (c .before .before .before .before .before .before .before .before .is-last .ensures) ∙ c .before .before .before .before .before .before .before .if1 .taken in
+    let a = c .before .before .before .before .before .before .before .before .before .before .before .before .before .before .before .before .before
+    .before .before .args in
+    let p = c .before .before .before .before .before .before .before .before .before .before .before .before .before .before .before .before .before
+    .before .before .pre in
+    let Y : Bytes (a .reply .now) = λ k.
+    c .before .before .before .before .before .before .before .before .before .before .before .before .before .before .before .before .before
+    .shared-slice-known .given k .fits in
+    let e = sym (c .before .before .before .before .before .before .before .before .is-last .ensures) ∙
+    c .before .before .before .before .before .before .before .if1 .taken in
     let at : ℕ = repliesAt + replySlot * (a .head .server - 1) in
-    let N : Bytes (c .before .before .before .before .before .before .before .before .before .before .before .before .put-reply .last .0) = λ k. c .before .before .before .before .before .before .before .before .before .before .slice-known3 .given k .fits in
-    let K : Bytes (put (a .kept .now) at (drop headSize (a .reply .now))) = subst Bytes (c .before .before .before .before .before .before .before .before .before .before .before .before .put-reply .ensures ∙ ap (put (a .kept .now) at) (c .before .before .before .before .before .before .before .before .before .before .before .before .before .rest .ensures)) N in
+    let N : Bytes (c .before .before .before .before .before .before .before .before .before .before .before .before .put-reply .last .0) = λ k.
+    c .before .before .before .before .before .before .before .before .before .before .slice-known3 .given k .fits in
+    let K : Bytes (put (a .kept .now) at (drop headSize (a .reply .now))) = subst Bytes
+    (c .before .before .before .before .before .before .before .before .before .before .before .before .put-reply .ensures ∙ ap
+    (put (a .kept .now) at)
+    (c .before .before .before .before .before .before .before .before .before .before .before .before .before .rest .ensures)) N in
     λ writers keys.
-    c .before .before .before .before .judge .ensures ∙ rw (c .before .before .before .before .before .before .before .before .before .note-reply .ensures, c .before .before .before .before .before .before .before .before .before .before .before .before .put-reply .ensures, c .before .before .before .before .before .before .before .before .before .before .before .before .before .rest .ensures)
-    (filter-ends (a .t) (a .client) (a .call) (a .reply .now) (a .head) (p .0) (p .1 .0) Y writers keys (a .kept .now) (a .out .now) (p .1 .1 .1) (p .1 .1 .0) K e)
+    c .before .before .before .before .judge .ensures ∙ rw (
+      c .before .before .before .before .before .before .before .before .before .note-reply .ensures,
+      c .before .before .before .before .before .before .before .before .before .before .before .before .put-reply .ensures,
+      c .before .before .before .before .before .before .before .before .before .before .before .before .before .rest .ensures,
+    )
+    (filter-ends (a .t) (a .client) (a .call) (a .reply .now) (a .head) (p .0) (p .1 .0) Y writers keys (a .kept .now) (a .out .now) (p .1 .1 .1)
+    (p .1 .1 .0) K e)
 
 returns-2 : tie.Need-returns-2
 returns-2 c =
     let a = c .before .before .before .before .before .before .before .before .before .before .before .before .before .args in
     let p = c .before .before .before .before .before .before .before .before .before .before .before .before .before .pre in
-    let Y : Bytes (a .reply .now) = λ k. c .before .before .before .before .before .before .before .before .before .before .before .shared-slice-known .given k .fits in
+    let Y : Bytes (a .reply .now) = λ k.
+    c .before .before .before .before .before .before .before .before .before .before .before .shared-slice-known .given k .fits in
     let e = sym (c .before .before .is-last .ensures) ∙ c .before .if1 .left in
     λ writers keys.
-    rw (c .more .ensures, c .before .before .before .note-reply .ensures, c .before .before .before .before .before .before .put-reply .ensures, c .before .before .before .before .before .before .before .rest .ensures)
+    rw (
+      c .more .ensures,
+      c .before .before .before .note-reply .ensures,
+      c .before .before .before .before .before .before .put-reply .ensures,
+      c .before .before .before .before .before .before .before .rest .ensures,
+    )
     (filter-more (a .t) (a .client) (a .call) (a .reply .now) (a .head) (p .0) (p .1 .0) Y writers keys (a .kept .now) (a .out .now) (p .1 .1 .1) e)
 
 pub take-filter-spec : {M : Type 1} → statement M

@@ -18,7 +18,8 @@ use Rattle.client.proofs.list.put_list.Statement.{statement}
 use Rattle.client.proofs.list.put_list.Tie as tie
 
 abbrev Inv-loop : tie.InvT-loop
-Inv-loop out₀ at kept t s next₀ i₀ out next i = (i ≤ s) × (Wrote out₀ at (printMany (candidateF (shelf t)) (gather (candidatesIn (shelf t) kept) i)) out next)
+Inv-loop out₀ at kept t s next₀ i₀ out next i = (i ≤ s) × (Wrote out₀ at (printMany (candidateF (shelf t)) (gather (candidatesIn (shelf t) kept) i))
+    out next)
 
 abbrev μ-loop : tie.MeasureT-loop
 μ-loop out₀ at kept t s next₀ i₀ out next i = s - i
@@ -31,7 +32,8 @@ loop-holds c = let a = c .before .before .before .args in (omega arith, wrote-no
 room : (c : tie.At-loop Inv-loop μ-loop)
     → let a = c .before .before .before .before .args in
     let i = c .loop .i in
-    (i ≤ mostServers) × (length (printMany (candidateF (shelf (a .t))) (gather (candidatesIn (shelf (a .t)) (a .kept .now)) i)) ≤ candidateSlot * i) × (length (c .loop .out) ≡ length (a .out .now))
+    (i ≤ mostServers) × (length (printMany (candidateF (shelf (a .t))) (gather (candidatesIn (shelf (a .t)) (a .kept .now)) i)) ≤ candidateSlot * i) ×
+    (length (c .loop .out) ≡ length (a .out .now))
 room c =
     let a = c .before .before .before .before .args in
     let p = c .before .before .before .before .pre in
@@ -46,16 +48,24 @@ put-entry-requires c κs =
     let a = c .before .before .before .before .before .before .args in
     let p = c .before .before .before .before .before .before .pre in
     let v = c .before .before .loop .inv in
-    let r = room (c .before .before) in
-    (p .1 .0, (omega (arith, c .before .before .before .servers .ensures, servers-few (a .t) (p .1 .0)), (p .1 .1 .0, omega (arith, r .1, r .2, v .1 .place, c .before .before .before .servers .ensures, servers-few (a .t) (p .1 .0), p .1 .1 .1))))
+    let r = room (c .before .before) in (
+      p .1 .0,
+      (
+        omega (arith, c .before .before .before .servers .ensures, servers-few (a .t) (p .1 .0)),
+        (p .1 .1 .0, omega (arith, r .1, r .2, v .1 .place, c .before .before .before .servers .ensures, servers-few (a .t) (p .1 .0), p .1 .1 .1)),
+      ),
+    )
 
 loop-again : tie.Need-loop-again Inv-loop μ-loop
 loop-again c =
     let a = c .before .before .before .before .before .before .before .before .before .args in
     let p = c .before .before .before .before .before .before .before .before .before .pre in
     let i = c .before .before .before .before .before .loop .i in
-    let v = c .before .before .before .before .before .loop .inv in
-    (omega arith, list-entry (a .t) (a .kept .now) (p .0) (p .1 .0) (p .1 .1 .0) i (omega (arith, c .before .before .before .before .before .before .servers .ensures)) (p .1 .1 .1) (v .1) (c .before .before .put-entry .ensures))
+    let v = c .before .before .before .before .before .loop .inv in (
+      omega arith,
+      list-entry (a .t) (a .kept .now) (p .0) (p .1 .0) (p .1 .1 .0) i (omega
+          (arith, c .before .before .before .before .before .before .servers .ensures)) (p .1 .1 .1) (v .1) (c .before .before .put-entry .ensures),
+    )
 
 returns : tie.Need-returns Inv-loop μ-loop
 returns c =

@@ -18,7 +18,8 @@ put-list-requires : tie.Need-put-list-requires
 put-list-requires c κs =
     let a = c .before .before .before .before .before .before .before .before .before .before .before .before .args in
     let p = c .before .before .before .before .before .before .before .before .before .before .before .before .pre in
-    let k = after-count (a .head) (c .before .before .before .before .count-listed .result) (a .out .now) (p .1 .1 .1) (c .before .before .before .before .before .before .before .before .put-head .ensures) (c .before .before .before .put-byte .ensures) in
+    let k = after-count (a .head) (c .before .before .before .before .count-listed .result) (a .out .now) (p .1 .1 .1)
+    (c .before .before .before .before .before .before .before .before .put-head .ensures) (c .before .before .before .put-byte .ensures) in
     (p .0, (p .1 .0, (p .1 .1 .0, omega (arith, k .0, k .1, p .1 .1 .1))))
 
 returns : tie.Need-returns
@@ -27,9 +28,12 @@ returns c =
     let a = c .before .before .before .before .before .before .before .before .before .before .before .before .before .before .before .args in
     let p = c .before .before .before .before .before .before .before .before .before .before .before .before .before .before .before .pre in
     let G : List Candidate = gather (candidatesIn (shelf (a .t)) (a .kept .now)) (shelf (a .t) .servers) in
-    let n : c .before .before .before .before .before .before .before .count-listed .result ≡ length G = c .before .before .before .before .before .before .before .count-listed .ensures ∙ count-is (a .t) (a .kept .now) (p .0) (p .1 .0) (p .1 .1 .0) in
+    let n : c .before .before .before .before .before .before .before .count-listed .result ≡ length G =
+    c .before .before .before .before .before .before .before .count-listed .ensures ∙ count-is (a .t) (a .kept .now) (p .0) (p .1 .0) (p .1 .1 .0) in
     let l = list-room (a .t) (a .kept .now) (p .0) (p .1 .0) (p .1 .1 .0) (shelf (a .t) .servers) (omega arith) in
-    filter-made (a .head) (length G) (a .out .now) (p .1 .1 .1) (c .before .before .before .before .before .before .before .before .before .before .before .put-head .ensures) (rw n at (c .before .before .before .before .before .before .put-byte .ensures))
+    filter-made (a .head) (length G) (a .out .now) (p .1 .1 .1)
+    (c .before .before .before .before .before .before .before .before .before .before .before .put-head .ensures)
+    (rw n at (c .before .before .before .before .before .before .put-byte .ensures))
     (printMany (candidateF (shelf (a .t))) G) (omega (arith, l, p .1 .0)) (c .before .before .put-list .ensures)
 
 pub make-filter-spec : {M : Type 1} → statement M

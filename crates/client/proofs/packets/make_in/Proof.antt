@@ -14,18 +14,40 @@ returns-2 : tie.Need-returns-2
 returns-2 c =
     let a = c .before .before .before .before .before .before .args in
     rw (c .refused2 .ensures)
-    (sym (make-refused (a .t) (a .client) (a .server) (a .call) (a .kept .now) (a .out .now) (c .before .before .before .if1 .left) (c .before .before .make-refusal .result) (c .before .before .make-refusal .ensures) (c .before .if2 .taken)))
+    (sym (make-refused (a .t) (a .client) (a .server) (a .call) (a .kept .now) (a .out .now) (c .before .before .before .if1 .left)
+    (c .before .before .make-refusal .result) (c .before .before .make-refusal .ensures) (c .before .if2 .taken)))
 
 make-round-requires : tie.Need-make-round-requires
 make-round-requires c κs =
     let a = c .before .before .before .before .before .before .args in
-    let f = make-fits (a .t) (a .client) (a .server) (a .call) (a .kept .now) (a .out .now) (sym (c .before .before .make-refusal .ensures) ∙ c .before .if2 .left) in
-    (f .0, (f .1 .0, (f .1 .1 .0, (f .1 .1 .1 .0, (f .1 .1 .1 .1 .0, (c .before .before .before .if1 .left, (f .1 .1 .1 .1 .1 .0, f .1 .1 .1 .1 .1 .1)))))))
+    let f = make-fits (a .t) (a .client) (a .server) (a .call) (a .kept .now) (a .out .now)
+    (sym (c .before .before .make-refusal .ensures) ∙ c .before .if2 .left) in (
+      f .0,
+      (
+        f .1 .0,
+        (
+          f .1 .1 .0,
+          (
+            f .1 .1 .1 .0,
+            (
+              f .1 .1 .1 .1 .0,
+              (
+                c .before .before .before .if1 .left,
+                (f .1 .1 .1 .1 .1 .0, f .1 .1 .1 .1 .1 .1),
+              ),
+            ),
+          ),
+        ),
+      ),
+    )
 
 returns-3 : tie.Need-returns-3
 returns-3 c =
     let a = c .before .before .before .before .before .before .before .before .before .args in
-    c .before .before .make-round .ensures ∙ sym (make-goes (a .t) (a .client) (a .server) (a .call) (a .kept .now) (a .out .now) (c .before .before .before .before .before .before .if1 .left) (sym (c .before .before .before .before .before .make-refusal .ensures) ∙ c .before .before .before .before .if2 .left))
+    c .before .before .make-round .ensures ∙ sym (make-goes (a .t) (a .client) (a .server) (a .call) (a .kept .now) (a .out .now)
+    (c .before .before .before .before .before .before .if1 .left) (sym (c .before .before .before .before .before .make-refusal .ensures) ∙
+    c .before .before .before .before .if2 .left))
 
 pub make-in-spec : {M : Type 1} → statement M
-make-in-spec = tie.close (tie.spec (λ c κs. search needs) returns (λ c κs. search needs) (λ c κs. search needs) returns-2 make-round-requires (λ c. search needs) returns-3)
+make-in-spec = tie.close (tie.spec (λ c κs. search needs) returns (λ c κs. search needs) (λ c κs. search needs) returns-2 make-round-requires
+    (λ c. search needs) returns-3)

@@ -29,7 +29,14 @@ make-store-requires c κs =
 -- the packet's head, by the round's kind
 head-at : (c : tie.After-head-of) (k : ℕ)
     → let a = c .before .before .before .before .args in
-    2 * a .call .tally .round - 1 ≡ k → c .head-of .result ≡ record { kind = k; client = a .client; server = a .server; t = a .t; call = a .call .number }
+    2 * a .call .tally .round - 1 ≡ k → c .head-of .result ≡ record {
+      kind = k;
+      client = a .client;
+      server = a .server;
+      t = a .t;
+      call =
+          a .call .number;
+    }
 head-at c k e =
     let a = c .before .before .before .before .args in
     c .head-of .ensures ∙ ap (λ (x : ℕ). record { kind = x; client = a .client; server = a .server; t = a .t; call = a .call .number }) e
@@ -40,7 +47,8 @@ returns c =
     let p = c .before .before .before .before .before .before .before .before .before .pre in
     let r = hand-round (a .call) (p .1 .1 .1 .1 .1 .1 .0) in
     let hd = head-at (c .before .before .before .before .before) 3 (omega arith) in
-    let q = round-bytes (a .t) (a .client) (a .server) (a .call) (a .kept .now) 2 (c .before .before .before .before .if1 .taken) ∙ store-bytes (a .t) (a .client) (a .server) (a .call) (a .kept .now) (p .1 .1 .0) (p .1 .1 .1 .0) in
+    let q = round-bytes (a .t) (a .client) (a .server) (a .call) (a .kept .now) 2 (c .before .before .before .before .if1 .taken) ∙ store-bytes (a .t)
+    (a .client) (a .server) (a .call) (a .kept .now) (p .1 .1 .0) (p .1 .1 .1 .0) in
     (rw hd at (c .before .before .make-store .ensures)) ∙ ap (λ (x : List ℕ). wholePacket x (a .out .now)) (sym q)
 
 make-chosen-requires : tie.Need-make-chosen-requires
@@ -54,7 +62,8 @@ returns-2 c =
     let p = c .before .before .before .before .before .before .before .before .before .before .pre in
     let r = hand-round (a .call) (p .1 .1 .1 .1 .1 .1 .0) in
     let hd = head-at (c .before .before .before .before .before .before) 5 (omega arith) in
-    let q = round-bytes (a .t) (a .client) (a .server) (a .call) (a .kept .now) 3 (c .before .before .before .before .if2 .taken) ∙ complete-bytes (a .t) (a .client) (a .server) (a .call) (a .kept .now) in
+    let q = round-bytes (a .t) (a .client) (a .server) (a .call) (a .kept .now) 3 (c .before .before .before .before .if2 .taken) ∙ complete-bytes
+    (a .t) (a .client) (a .server) (a .call) (a .kept .now) in
     (rw hd at (c .before .before .make-chosen .ensures)) ∙ ap (λ (x : List ℕ). wholePacket x (a .out .now)) (sym q)
 
 make-chosen-requires-2 : tie.Need-make-chosen-requires-2
@@ -68,7 +77,8 @@ returns-3 c =
     let p = c .before .before .before .before .before .before .before .before .before .before .before .pre in
     let r = hand-round (a .call) (p .1 .1 .1 .1 .1 .1 .0) in
     let hd = head-at (c .before .before .before .before .before .before .before) 11 (omega arith) in
-    let q = round-bytes (a .t) (a .client) (a .server) (a .call) (a .kept .now) 6 (c .before .before .before .before .if3 .taken) ∙ repair-bytes (a .t) (a .client) (a .server) (a .call) (a .kept .now) in
+    let q = round-bytes (a .t) (a .client) (a .server) (a .call) (a .kept .now) 6 (c .before .before .before .before .if3 .taken) ∙ repair-bytes
+    (a .t) (a .client) (a .server) (a .call) (a .kept .now) in
     (rw hd at (c .before .before .make-chosen2 .ensures)) ∙ ap (λ (x : List ℕ). wholePacket x (a .out .now)) (sym q)
 
 make-empty-requires : tie.Need-make-empty-requires
@@ -81,8 +91,11 @@ returns-4 c =
     let a = c .before .before .before .before .before .before .before .before .before .before .before .args in
     let p = c .before .before .before .before .before .before .before .before .before .before .before .pre in
     let r = hand-round (a .call) (p .1 .1 .1 .1 .1 .1 .0) in
-    let q = round-bytes (a .t) (a .client) (a .server) (a .call) (a .kept .now) (a .call .tally .round) refl ∙ empty-bytes (a .t) (a .client) (a .server) (a .call) (a .kept .now) (a .call .tally .round) (r .0) (r .1) (c .before .before .before .before .before .before .if1 .left) (c .before .before .before .before .before .if2 .left) (p .1 .1 .1 .1 .1 .1 .1) (c .before .before .before .before .if3 .left) in
-    (rw (c .before .before .before .before .before .before .before .head-of .ensures) at (c .before .before .make-empty .ensures)) ∙ ap (λ (x : List ℕ). wholePacket x (a .out .now)) (sym q)
+    let q = round-bytes (a .t) (a .client) (a .server) (a .call) (a .kept .now) (a .call .tally .round) refl ∙ empty-bytes (a .t) (a .client)
+    (a .server) (a .call) (a .kept .now) (a .call .tally .round) (r .0) (r .1) (c .before .before .before .before .before .before .if1 .left)
+    (c .before .before .before .before .before .if2 .left) (p .1 .1 .1 .1 .1 .1 .1) (c .before .before .before .before .if3 .left) in
+    (rw (c .before .before .before .before .before .before .before .head-of .ensures) at (c .before .before .make-empty .ensures)) ∙ ap
+    (λ (x : List ℕ). wholePacket x (a .out .now)) (sym q)
 
 pub make-plain-spec : {M : Type 1} → statement M
 make-plain-spec = tie.close (tie.spec

@@ -22,13 +22,29 @@ returns : tie.Need-returns
 returns c =
     let a = c .before .before .before .before .before .before .before .before .before .args in
     let p = c .before .before .before .before .before .before .before .before .before .pre in
-    let q = round-bytes (a .t) (a .client) (a .server) (a .call) (a .kept .now) 5 (c .before .before .before .before .before .if1 .taken) ∙ filter-bytes (a .t) (a .client) (a .server) (a .call) (a .kept .now) in
-    (rw (c .before .before .before .before .head-of .ensures) at (c .before .before .make-filter .ensures)) ∙ ap (λ (x : List ℕ). wholePacket x (a .out .now)) (sym q)
+    let q = round-bytes (a .t) (a .client) (a .server) (a .call) (a .kept .now) 5 (c .before .before .before .before .before .if1 .taken) ∙
+    filter-bytes (a .t) (a .client) (a .server) (a .call) (a .kept .now) in
+    (rw (c .before .before .before .before .head-of .ensures) at (c .before .before .make-filter .ensures)) ∙ ap
+    (λ (x : List ℕ). wholePacket x (a .out .now)) (sym q)
 
 make-plain-requires : tie.Need-make-plain-requires
 make-plain-requires c κs =
-    let p = c .before .before .before .before .before .pre in
-    (p .1 .0, (p .1 .1 .0, (p .1 .1 .1 .0, (p .1 .1 .1 .1 .0, (p .1 .1 .1 .1 .1 .0, (p .1 .1 .1 .1 .1 .1 .0, (p .1 .1 .1 .1 .1 .1 .1, c .before .if1 .left)))))))
+    let p = c .before .before .before .before .before .pre in (
+      p .1 .0,
+      (
+        p .1 .1 .0,
+        (
+          p .1 .1 .1 .0,
+          (
+            p .1 .1 .1 .1 .0,
+            (
+              p .1 .1 .1 .1 .1 .0,
+              (p .1 .1 .1 .1 .1 .1 .0, (p .1 .1 .1 .1 .1 .1 .1, c .before .if1 .left)),
+            ),
+          ),
+        ),
+      ),
+    )
 
 returns-2 : tie.Need-returns-2
 returns-2 c = search needs

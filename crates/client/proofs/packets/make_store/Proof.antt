@@ -35,18 +35,28 @@ unfolding chosenOf replySlotOf lengthAt candidateAt stampAt
 returns c =
     let a = c .before .before .before .before .before .before .before .before .before .before .before .before .args in
     let p = c .before .before .before .before .before .before .before .before .before .before .before .before .pre in
-    let K : Bytes (a .kept .now) = λ k. c .before .before .before .before .before .before .before .before .before .before .before .shared-slice-known .given k .fits in
+    let K : Bytes (a .kept .now) = λ k.
+    c .before .before .before .before .before .before .before .before .before .before .before .shared-slice-known .given k .fits in
     let i : ℕ = a .server - 1 in
     let D : List ℕ = part (a .kept .now) chosenAt candidateSlot in
     let E : List ℕ = part (a .kept .now) (repliesAt + replySlot * i) replySlot in
     let ld : length D ≡ candidateSlot = part-length (a .kept .now) chosenAt candidateSlot (omega (arith, p .1 .1 .1 .0)) in
-    let le : length E ≡ replySlot = part-length (a .kept .now) (repliesAt + replySlot * i) replySlot (omega (arith, p .1 .1 .1 .0, p .1 .1 .0, p .1 .0)) in
+    let le : length E ≡ replySlot = part-length (a .kept .now) (repliesAt + replySlot * i) replySlot
+    (omega (arith, p .1 .1 .1 .0, p .1 .1 .0, p .1 .0)) in
     let s = stamp-bytes D (bytes-part (a .kept .now) chosenAt candidateSlot K) (omega (arith, ld)) in
     let h = share-back (shelf (a .t)) E (bytes-part (a .kept .now) (repliesAt + replySlot * i) replySlot K) (omega (arith, le)) in
     let m = part-most D 0 stampSize in
     let n = part-short E (shareSize (shelf (a .t)) (lengthAt E)) in
-    c .before .before .make-packet .ensures ∙ rw (c .before .before .before .before .before .part3 .ensures, c .before .before .before .before .part4 .ensures, c .before .before .before .before .before .before .share-size .ensures, c .before .before .before .before .before .before .before .number2 .ensures, c .before .before .before .before .before .before .before .before .part2 .ensures, c .before .before .before .before .before .before .before .before .before .part .ensures)
-    (packet-fits (a .head) (part D 0 stampSize) (part E 0 (shareSize (shelf (a .t)) (lengthAt E))) (a .out .now) (p .1 .1 .1 .1) (omega (arith, m, n, le))
+    c .before .before .make-packet .ensures ∙ rw (
+      c .before .before .before .before .before .part3 .ensures,
+      c .before .before .before .before .part4 .ensures,
+      c .before .before .before .before .before .before .share-size .ensures,
+      c .before .before .before .before .before .before .before .number2 .ensures,
+      c .before .before .before .before .before .before .before .before .part2 .ensures,
+      c .before .before .before .before .before .before .before .before .before .part .ensures,
+    )
+    (packet-fits (a .head) (part D 0 stampSize) (part E 0 (shareSize (shelf (a .t)) (lengthAt E))) (a .out .now) (p .1 .1 .1 .1)
+    (omega (arith, m, n, le))
     ∙ (ap (λ (x : List ℕ). wholePacket (headF .print (a .head) ++ (x ++ part E 0 (shareSize (shelf (a .t)) (lengthAt E)))) (a .out .now)) (sym s)
     ∙ ap (λ (x : List ℕ). wholePacket (headF .print (a .head) ++ (stampF .print (stampAt D) ++ x)) (a .out .now)) (sym h)))
 

@@ -9,7 +9,11 @@ returns : tie.Need-returns
 returns c =
     let a = c .before .before .before .before .before .before .before .before .before .args in
     let p = c .before .before .before .before .before .before .before .before .before .pre in
-    c .before .before .put-tagged .ensures ∙ rw (c .before .before .before .before .before .stamp-bytes .ensures, c .before .before .before .before .before .before .nonce .ensures) (offered-made (a .t) (a .client) (a .writers .now) (a .keys .now) (a .call) (a .kept .now) (a .number))
+    c .before .before .put-tagged .ensures ∙ rw (
+      c .before .before .before .before .before .stamp-bytes .ensures,
+      c .before .before .before .before .before .before .nonce .ensures,
+    ) (offered-made (a .t) (a .client) (a .writers .now) (a .keys .now) (a .call)
+    (a .kept .now) (a .number))
 
 pub prepare-spec : {M : Type 1} → statement M
 prepare-spec = tie.close (tie.spec (λ c κs. search needs) (λ c. search needs) (λ c κs. search needs) (λ c. search needs) (λ c κs. search needs)

@@ -15,13 +15,19 @@ write-at-requires-2 : tie.Need-write-at-requires-2
 write-at-requires-2 c κs = let p = c .before .before .before .before .before .before .before .before .before .pre in omega (arith, p .0, p .1 .1 .0)
 
 write-at-requires-3 : tie.Need-write-at-requires-3
-write-at-requires-3 c κs = let p = c .before .before .before .before .before .before .before .before .before .before .before .before .before .pre in omega (arith, p .0, p .1 .1 .1)
+write-at-requires-3 c κs = let p =
+    c .before .before .before .before .before .before .before .before .before .before .before .before .before .pre in omega (arith, p .0, p .1 .1 .1)
 
 returns : tie.Need-returns
 returns c =
     let a = c .before .before .before .before .before .before .before .before .before .before .before .before .before .before .before .before .args in
     let p = c .before .before .before .before .before .before .before .before .before .before .before .before .before .before .before .before .pre in
-    c .before .before .write-at3 .ensures ∙ rw (c .before .before .before .before .before .before .write-at2 .ensures, c .before .before .before .before .before .before .before .before .before .before .write-at .ensures) (three-puts (a .kept .now) chosenAt stampSize nonceSize (a .stamp .now) (a .nonce .now) (a .tags .now) (p .1 .0) (p .1 .1 .0) (omega (arith, p .0, p .1 .1 .1)))
+    c .before .before .write-at3 .ensures ∙ rw (
+      c .before .before .before .before .before .before .write-at2 .ensures,
+      c .before .before .before .before .before .before .before .before .before .before .write-at .ensures,
+    )
+    (three-puts (a .kept .now) chosenAt stampSize nonceSize (a .stamp .now) (a .nonce .now) (a .tags .now) (p .1 .0) (p .1 .1 .0)
+    (omega (arith, p .0, p .1 .1 .1)))
 
 pub put-candidate-spec : {M : Type 1} → statement M
 put-candidate-spec = tie.close (tie.spec write-at-requires (λ c. search needs) write-at-requires-2 (λ c. search needs) (λ c. search needs)

@@ -16,33 +16,45 @@ use Rattle.client.proofs.prepare.put_fragments.Statement.{statement}
 use Rattle.client.proofs.prepare.put_fragments.Tie as tie
 
 abbrev Inv-loop : tie.InvT-loop
-Inv-loop fragments₀ digests₀ t content s i₀ fragments digests i = (i ≤ s) × ((fragments ≡ put fragments₀ 0 (fragmentRun t content i)) × (digests ≡ put digests₀ 0 (digestRun t content i)))
+Inv-loop fragments₀ digests₀ t content s i₀ fragments digests i = (i ≤ s) × ((fragments ≡ put fragments₀ 0 (fragmentRun t content i)) ×
+    (digests ≡ put digests₀ 0 (digestRun t content i)))
 
 abbrev μ-loop : tie.MeasureT-loop
 μ-loop fragments₀ digests₀ t content s i₀ fragments digests i = s - i
 
 loop-holds : tie.Need-loop-holds Inv-loop μ-loop
 unfolding fragmentRun digestRun runOf
-loop-holds c = (omega arith, (put-none (c .before .before .before .before .args .fragments .now), put-none (c .before .before .before .before .args .digests .now)))
+loop-holds c = (
+  omega arith,
+  (
+    put-none (c .before .before .before .before .args .fragments .now),
+    put-none
+        (c .before .before .before .before .args .digests .now),
+  ),
+)
 
 -- the arrays keep their lengths
 lengths : (c : tie.At-loop Inv-loop μ-loop)
-    → let a = c .before .before .before .before .before .args in (length (c .loop .fragments) ≡ length (a .fragments .now)) × (length (c .loop .digests) ≡ length (a .digests .now))
+    → let a = c .before .before .before .before .before .args in (length (c .loop .fragments) ≡ length (a .fragments .now)) ×
+    (length (c .loop .digests) ≡ length (a .digests .now))
 lengths c =
     let a = c .before .before .before .before .before .args in
     let p = c .before .before .before .before .before .pre in
     let i = c .loop .i in
     let v = c .loop .inv in
     let w : i ≤ shelf (a .t) .servers = omega (arith, v .0, c .before .servers .ensures) in (
-      ap length (v .1 .0) ∙ put-length (a .fragments .now) 0 (fragmentRun (a .t) (a .content .now) i) (fragments-room (a .t) (a .content .now) i (a .fragments .now) w (p .1 .1 .1 .0)),
-      ap length (v .1 .1) ∙ put-length (a .digests .now) 0 (digestRun (a .t) (a .content .now) i) (digests-room (a .t) (a .content .now) i (a .digests .now) w (p .1 .1 .1 .1)),
+      ap length (v .1 .0) ∙ put-length (a .fragments .now) 0 (fragmentRun (a .t) (a .content .now) i)
+          (fragments-room (a .t) (a .content .now) i (a .fragments .now) w (p .1 .1 .1 .0)),
+      ap length (v .1 .1) ∙ put-length (a .digests .now) 0 (digestRun (a .t) (a .content .now) i)
+          (digests-room (a .t) (a .content .now) i (a .digests .now) w (p .1 .1 .1 .1)),
     )
 
 -- one more server's fit
 rooms : (c : tie.In-loop Inv-loop μ-loop)
     → let a = c .before .before .before .before .before .before .args in
     let i = c .before .loop .i in
-    (suc i ≤ shelf (a .t) .servers) × (fragmentSize (shelf (a .t) .shares) (length (a .content .now)) * i + fragmentSize (shelf (a .t) .shares) (length (a .content .now)) ≤ length (a .fragments .now))
+    (suc i ≤ shelf (a .t) .servers) × (fragmentSize (shelf (a .t) .shares) (length (a .content .now)) * i + fragmentSize (shelf (a .t) .shares)
+    (length (a .content .now)) ≤ length (a .fragments .now))
     × (digestSize * i + digestSize ≤ length (a .digests .now))
 rooms c =
     let a = c .before .before .before .before .before .before .args in
@@ -69,7 +81,11 @@ loop-again c =
     let r = rooms (c .before .before .before .before .before .before .before) in
     let e = c .before .before .before .before .put-fragment .ensures in (
       omega arith,
-      (e .0 ∙ rw (v .1 .0) (fragment-more (a .t) (a .content .now) (a .fragments .now) i (omega (arith, r .1))), e .1 ∙ rw (v .1 .1) (digest-more (a .t) (a .content .now) (a .digests .now) i (omega (arith, r .2)))),
+      (
+        e .0 ∙ rw (v .1 .0) (fragment-more (a .t) (a .content .now) (a .fragments .now) i (omega (arith, r .1))),
+        e .1 ∙ rw (v .1 .1)
+            (digest-more (a .t) (a .content .now) (a .digests .now) i (omega (arith, r .2))),
+      ),
     )
 
 returns : tie.Need-returns Inv-loop μ-loop

@@ -23,7 +23,8 @@ put-parts-requires c κs =
     (p .0, (p .1 .0, (r .0, omega (arith, p .1 .0, p .1 .1 .1))))
 
 -- there are few servers, and each has its tag
-few : (c : tie.After-servers) → (c .servers .result ≤ mostServers) × (length (c .before .before .before .before .before .before .before .before .before .args .tags .now) ≤ tagSize * mostServers)
+few : (c : tie.After-servers) → (c .servers .result ≤ mostServers) ×
+    (length (c .before .before .before .before .before .before .before .before .before .args .tags .now) ≤ tagSize * mostServers)
 few c =
     let p = c .before .before .before .before .before .before .before .before .before .pre in
     let l = servers-few (c .before .before .before .before .before .before .before .before .before .args .t) (p .1 .0) in
@@ -35,9 +36,21 @@ put-sized-requires c κs =
     let p = c .before .before .before .before .before .before .before .before .before .before .before .before .before .pre in
     let e = c .before .before .before .before .before .before .before .put-parts .ensures .0 in
     let s = c .before .before .before .before .servers .ensures in
-    let n : c .before .before .before .before .before .before .before .put-parts .result ≤ topLength = rw e (content-short (a .call) (a .kept .now)) in
-    let k : length (c .part .result .now) ≤ digestSize * c .before .before .before .before .servers .result + digestSize + length (a .tags .now) = rw (c .part .ensures) (part-most _ 0 _) in
-    (p .1 .0, (n, (p .1 .1 .0, share-room (a .t) (c .before .before .before .before .before .before .before .put-parts .result) (digestSize * c .before .before .before .before .servers .result + digestSize + length (a .tags .now)) (length (c .part .result .now)) (p .0) (p .1 .0) n (omega (arith, s, p .1 .1 .1)) k)))
+    let n : c .before .before .before .before .before .before .before .put-parts .result ≤ topLength = rw e
+    (content-short (a .call) (a .kept .now)) in
+    let k : length (c .part .result .now) ≤ digestSize * c .before .before .before .before .servers .result + digestSize + length (a .tags .now) = rw
+    (c .part .ensures) (part-most _ 0 _) in (
+      p .1 .0,
+      (
+        n,
+        (
+          p .1 .1 .0,
+          share-room (a .t) (c .before .before .before .before .before .before .before .put-parts .result)
+              (digestSize * c .before .before .before .before .servers .result + digestSize + length (a .tags .now)) (length (c .part .result .now)) (p .0)
+              (p .1 .0) n (omega (arith, s, p .1 .1 .1)) k,
+        ),
+      ),
+    )
 
 returns : tie.Need-returns
 returns c =
@@ -45,9 +58,22 @@ returns c =
     let p = c .before .before .before .before .before .before .before .before .before .before .before .before .before .before .before .before .pre in
     let e = c .before .before .before .before .before .before .before .before .before .before .put-parts .ensures in
     let s = c .before .before .before .before .before .before .before .servers .ensures in
-    let z : length (a .digest) ≡ digestSize = c .before .before .before .before .before .before .before .before .before .before .before .before .before .before .before .before .good .1 .1 .1 .0 .1 .0 .1 in
+    let z : length (a .digest) ≡ digestSize =
+    c .before .before .before .before .before .before .before .before .before .before .before .before .before .before .before .before .good .1 .1 .1
+    .0 .1 .0 .1 in
     let r = rooms (a .t) (length (contentOf (a .call) (a .kept .now))) (p .0) (p .1 .0) (content-short (a .call) (a .kept .now)) in
-    c .before .before .put-sized .ensures ∙ rw (c .before .before .before .part .ensures, e .1 .0, e .1 .1) (offered-run (a .t) (a .kept .now) (contentOf (a .call) (a .kept .now)) (a .digest) (a .tags .now) (replicate fragmentsRoom 0) (replicate commonRoom 0) (c .before .before .before .before .before .before .before .before .before .before .put-parts .result) (digestSize * c .before .before .before .before .before .before .before .servers .result + digestSize + length (a .tags .now)) (e .0) (rw s) z (omega (arith, r .0, length-replicate {A = ℕ} fragmentsRoom 0)) (omega (arith, servers-few (a .t) (p .1 .0), s, p .1 .1 .1, length-replicate {A = ℕ} commonRoom 0)))
+    c .before .before .put-sized .ensures ∙ rw (c .before .before .before .part .ensures, e .1 .0, e .1 .1)
+    (offered-run (a .t) (a .kept .now) (contentOf (a .call) (a .kept .now)) (a .digest) (a .tags .now) (replicate fragmentsRoom 0)
+    (replicate commonRoom 0) (c .before .before .before .before .before .before .before .before .before .before .put-parts .result)
+    (digestSize * c .before .before .before .before .before .before .before .servers .result + digestSize + length (a .tags .now)) (e .0) (rw s) z
+    (omega (arith, r .0, length-replicate {A = ℕ} fragmentsRoom 0)) (omega (
+      arith,
+      servers-few (a .t) (p .1 .0),
+      s,
+      p .1 .1 .1,
+      length-replicate
+          {A = ℕ} commonRoom 0,
+    )))
 
 pub put-offer-spec : {M : Type 1} → statement M
 put-offer-spec = tie.close (tie.spec (λ c. search needs) (λ c. search needs) put-parts-requires (λ c κs. search needs) (λ c. omega (arith, few c))

@@ -23,20 +23,35 @@ servers-requires c κs = c .before .before .before .before .before .before .befo
 
 mul-put-common : tie.Need-mul-put-common
 unfolding shelf
-mul-put-common c = let e : c .servers .result ≡ 3 * c .before .before .before .before .before .before .before .before .before .before .before .before .before .before .args .t + 1 = c .servers .ensures in omega (arith, c .before .before .before .before .before .before .before .before .before .before .before .before .before .before .pre .1 .0)
+mul-put-common c = let e : c .servers .result ≡ 3 *
+    c .before .before .before .before .before .before .before .before .before .before .before .before .before .before .args .t + 1 =
+    c .servers .ensures in omega
+    (arith, c .before .before .before .before .before .before .before .before .before .before .before .before .before .before .pre .1 .0)
 
 put-common-requires : tie.Need-put-common-requires
-put-common-requires c κs = rw (c .servers .ensures) (omega (arith, c .before .before .before .before .before .before .before .before .before .before .before .before .before .before .pre .1 .1 .1))
+put-common-requires c κs = rw (c .servers .ensures)
+    (omega (arith, c .before .before .before .before .before .before .before .before .before .before .before .before .before .before .pre .1 .1 .1))
 
 returns : tie.Need-returns
 returns c =
-    let a = c .before .before .before .before .before .before .before .before .before .before .before .before .before .before .before .before .before .args in
-    let p = c .before .before .before .before .before .before .before .before .before .before .before .before .before .before .before .before .before .pre in
+    let a = c .before .before .before .before .before .before .before .before .before .before .before .before .before .before .before .before .before
+    .args in
+    let p = c .before .before .before .before .before .before .before .before .before .before .before .before .before .before .before .before .before
+    .pre in
     let k = c .before .before .before .before .before .before .before .before .before .before .before .before .content .ensures .0 in
     let f = c .before .before .before .before .before .before .before .before .before .put-fragments .ensures in
-    let z : length (a .digest) ≡ digestSize = c .before .before .before .before .before .before .before .before .before .before .before .before .before .before .before .before .before .good .1 .1 .1 .1 .1 .0 .1 .0 .1 in
-    let l = length-append (a .digest) (a .tags .now) in
-    (rw k, (rw k at (f .0), c .before .before .put-common .ensures ∙ rw (c .before .before .before .servers .ensures, f .1, k) (digests-then (a .t) (contentOf (a .call) (a .kept .now)) (a .common .now) (a .digest ++ a .tags .now) (shelf (a .t) .servers) (omega (arith, z, l, p .1 .1 .1)))))
+    let z : length (a .digest) ≡ digestSize =
+    c .before .before .before .before .before .before .before .before .before .before .before .before .before .before .before .before .before .good .1
+    .1 .1 .1 .1 .0 .1 .0 .1 in
+    let l = length-append (a .digest) (a .tags .now) in (
+      rw k,
+      (
+        rw k at (f .0),
+        c .before .before .put-common .ensures ∙ rw (c .before .before .before .servers .ensures, f .1, k)
+            (digests-then (a .t) (contentOf (a .call) (a .kept .now)) (a .common .now) (a .digest ++ a .tags .now) (shelf (a .t) .servers)
+            (omega (arith, z, l, p .1 .1 .1))),
+      ),
+    )
 
 pub put-parts-spec : {M : Type 1} → statement M
 put-parts-spec = tie.close (tie.spec (λ c κs. search needs) put-fragments-requires servers-requires mul-put-common put-common-requires

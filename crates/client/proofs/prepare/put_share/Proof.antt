@@ -10,29 +10,42 @@ use Rattle.client.proofs.prepare.put_share.Statement.{statement}
 use Rattle.client.proofs.prepare.put_share.Tie as tie
 
 write-at-requires : tie.Need-write-at-requires
-write-at-requires c κs = let z : length (c .before .before .before .before .before .args .t3) ≡ 2 = search needs in let p = c .before .before .before .before .before .pre in omega (arith, z, p .0, p .1 .0)
+write-at-requires c κs = let z : length (c .before .before .before .before .before .args .t3) ≡ 2 = search needs in let p =
+    c .before .before .before .before .before .pre in omega (arith, z, p .0, p .1 .0)
 
 add-write-at : tie.Need-add-write-at
 add-write-at c = omega (arith, c .before .before .before .before .before .before .before .before .before .pre .0)
 
 write-at-requires-2 : tie.Need-write-at-requires-2
-write-at-requires-2 c κs = let p = c .before .before .before .before .before .before .before .before .before .pre in omega (arith, p .0, p .1 .0, p .1 .1)
+write-at-requires-2 c κs = let p = c .before .before .before .before .before .before .before .before .before .pre in omega
+    (arith, p .0, p .1 .0, p .1 .1)
 
 add-write-at-2 : tie.Need-add-write-at-2
 add-write-at-2 c = omega (arith, c .before .before .before .before .before .before .before .before .before .before .before .before .before .pre .0)
 
 add-write-at-3 : tie.Need-add-write-at-3
-add-write-at-3 c = omega (arith, c .before .before .before .before .before .before .before .before .before .before .before .before .before .pre .0, c .before .before .before .before .before .before .before .before .before .before .before .before .before .pre .1 .1)
+add-write-at-3 c = omega (
+  arith,
+  c .before .before .before .before .before .before .before .before .before .before .before .before .before .pre .0,
+  c .before .before .before .before .before .before .before .before .before .before .before .before .before .pre .1 .1,
+)
 
 write-at-requires-3 : tie.Need-write-at-requires-3
-write-at-requires-3 c κs = let p = c .before .before .before .before .before .before .before .before .before .before .before .before .before .pre in omega (arith, p .0, p .1 .0, p .1 .1)
+write-at-requires-3 c κs = let p =
+    c .before .before .before .before .before .before .before .before .before .before .before .before .before .pre in omega
+    (arith, p .0, p .1 .0, p .1 .1)
 
 returns : tie.Need-returns
 returns c =
     let a = c .before .before .before .before .before .before .before .before .before .before .before .before .before .before .before .before .args in
     let p = c .before .before .before .before .before .before .before .before .before .before .before .before .before .before .before .before .pre in
     let z : length (a .t3) ≡ 2 = search needs in
-    c .before .before .write-at3 .ensures ∙ rw (c .before .before .before .before .before .before .write-at2 .ensures, c .before .before .before .before .before .before .before .before .before .before .write-at .ensures) (three-puts (a .kept .now) (repliesAt + replySlot * a .i) 2 (length (a .fragment .now)) (a .t3) (a .fragment .now) (a .common .now) z refl (omega (arith, p .0, p .1 .0, p .1 .1)))
+    c .before .before .write-at3 .ensures ∙ rw (
+      c .before .before .before .before .before .before .write-at2 .ensures,
+      c .before .before .before .before .before .before .before .before .before .before .write-at .ensures,
+    )
+    (three-puts (a .kept .now) (repliesAt + replySlot * a .i) 2 (length (a .fragment .now)) (a .t3) (a .fragment .now) (a .common .now) z refl
+    (omega (arith, p .0, p .1 .0, p .1 .1)))
 
 pub put-share-spec : {M : Type 1} → statement M
 put-share-spec = tie.close (tie.spec (λ c. omega (arith, c .before .before .before .pre .0)) (λ c. omega (arith, c .before .before .before .pre .0))

@@ -49,8 +49,14 @@ loop-again c =
     let i = c .before .before .before .before .before .before .loop .i in
     let v = c .before .before .before .before .before .before .loop .inv in
     let e = c .before .before .put-share .ensures in
-    let g = c .before .before .before .part .ensures in
-    (omega arith, (e ∙ rw (g, v .1 .0) (ap (shareRun (a .kept .now) (a .size) (a .fragments .now) (a .f) (a .common .now)) (sym (add-one i))), (let z : length (c .before .before .put-share .last .0) ≡ length (c .before .before .before .before .before .before .loop .kept) = search needs in z ∙ v .1 .1)))
+    let g = c .before .before .before .part .ensures in (
+      omega arith,
+      (
+        e ∙ rw (g, v .1 .0) (ap (shareRun (a .kept .now) (a .size) (a .fragments .now) (a .f) (a .common .now)) (sym (add-one i))),
+        (let z : length (c .before .before .put-share .last .0) ≡ length (c .before .before .before .before .before .before .loop .kept) = search
+            needs in z ∙ v .1 .1),
+      ),
+    )
 
 same-length : tie.Need-same-length Inv-loop μ-loop
 same-length c = c .before .loop .inv .1 .1 ∙ sym (c .before .before .before .before .before .before .pre .1 .0)

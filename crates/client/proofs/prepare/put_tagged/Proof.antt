@@ -29,26 +29,40 @@ mul-part c =
 
 -- the tags are read back from their array
 abbrev run : tie.After-part → List ℕ
-run c = let a = c .before .before .before .before .before .before .before .before .before .before .args in tagRun (a .keys .now) (a .stamp .now) (c .before .before .before .before .before .before .digest .result) (shelf (a .t) .servers)
+run c = let a = c .before .before .before .before .before .before .before .before .before .before .args in tagRun (a .keys .now) (a .stamp .now)
+    (c .before .before .before .before .before .before .digest .result) (shelf (a .t) .servers)
 
-tags-back : (c : tie.After-part) → (length (run c) ≡ tagSize * shelf (c .before .before .before .before .before .before .before .before .before .before .args .t) .servers) × (c .part .result .now ≡ run c)
+tags-back : (c : tie.After-part) →
+    (length (run c) ≡ tagSize * shelf (c .before .before .before .before .before .before .before .before .before .before .args .t) .servers) ×
+    (c .part .result .now ≡ run c)
 tags-back c =
     let a = c .before .before .before .before .before .before .before .before .before .before .args in
-    let l = tag-run-length (a .keys .now) (a .stamp .now) (c .before .before .before .before .before .before .digest .result) (shelf (a .t) .servers) in (
+    let l = tag-run-length (a .keys .now) (a .stamp .now) (c .before .before .before .before .before .before .digest .result)
+    (shelf (a .t) .servers) in (
       l,
-      run-back (replicate (tagSize * mostServers) 0) (run c) (tagSize * c .before .servers .result) (c .part .ensures) (c .before .before .before .before .put-tags .ensures) (omega (arith, l, c .before .servers .ensures))
-          (omega (arith, l, servers-few (a .t) (c .before .before .before .before .before .before .before .before .before .before .pre .1 .0), length-replicate {A = ℕ} (tagSize * mostServers) 0)),
+      run-back (replicate (tagSize * mostServers) 0) (run c) (tagSize * c .before .servers .result) (c .part .ensures)
+          (c .before .before .before .before .put-tags .ensures) (omega (arith, l, c .before .servers .ensures))
+          (omega (
+            arith,
+            l,
+            servers-few (a .t) (c .before .before .before .before .before .before .before .before .before .before .pre .1 .0),
+            length-replicate {A = ℕ} (tagSize * mostServers) 0,
+          )),
     )
 
 put-write-requires : tie.Need-put-write-requires
 put-write-requires c κs =
     let p = c .before .before .before .before .before .before .before .before .before .before .before .before .pre in
     let w = tags-back (c .before .before) in
-    let z : length (c .before .before .before .before .before .before .before .before .before .before .before .before .args .t6) ≡ nonceSize = c .before .before .before .before .before .before .before .before .before .before .before .before .good .1 .1 .1 .1 .1 .0 .1 .0 .1 in
+    let z : length (c .before .before .before .before .before .before .before .before .before .before .before .before .args .t6) ≡ nonceSize =
+    c .before .before .before .before .before .before .before .before .before .before .before .before .good .1 .1 .1 .1 .1 .0 .1 .0 .1 in
     (p .0, (p .1 .0, (p .1 .1 .0, (p .1 .1 .1, (z, rw (w .1) (w .0))))))
 
 returns : tie.Need-returns
-returns c = c .before .before .put-write .ensures ∙ rw (tags-back (c .before .before .before .before .before) .1, c .before .before .before .before .before .before .before .before .before .before .before .digest .ensures)
+returns c = c .before .before .put-write .ensures ∙ rw (
+  tags-back (c .before .before .before .before .before) .1,
+  c .before .before .before .before .before .before .before .before .before .before .before .digest .ensures,
+)
 
 pub put-tagged-spec : {M : Type 1} → statement M
 put-tagged-spec = tie.close (tie.spec (λ c. search needs) (λ c κs. search needs) (λ c. search needs) put-tags-requires (λ c. search needs)

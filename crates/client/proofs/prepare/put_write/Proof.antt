@@ -23,7 +23,12 @@ returns c =
     let p = c .before .before .before .before .before .before .before .before .before .before .before .before .pre in
     let l = length-append (a .stamp .now) (a .nonce .now ++ a .tags .now) in
     let k = length-append (a .nonce .now) (a .tags .now) in
-    c .before .before .put-offer .ensures ∙ rw (c .before .before .before .before .before .before .put-candidate .ensures, content-stays (a .call) (a .kept .now) (a .stamp .now ++ (a .nonce .now ++ a .tags .now)) (p .1 .1 .0) (omega (arith, l, k, p .1 .0, p .1 .1 .1 .0, p .1 .1 .1 .1 .0, p .1 .1 .1 .1 .1)))
+    c .before .before .put-offer .ensures ∙ rw (
+      c .before .before .before .before .before .before .put-candidate .ensures,
+      content-stays (a .call)
+          (a .kept .now) (a .stamp .now ++ (a .nonce .now ++ a .tags .now)) (p .1 .1 .0) (omega
+          (arith, l, k, p .1 .0, p .1 .1 .1 .0, p .1 .1 .1 .1 .0, p .1 .1 .1 .1 .1)),
+    )
 
 pub put-write-spec : {M : Type 1} → statement M
 put-write-spec = tie.close (tie.spec put-candidate-requires (λ c κs. search needs) (λ c. search needs) returns)

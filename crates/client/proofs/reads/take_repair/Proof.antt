@@ -6,7 +6,8 @@ use Rattle.client.proofs.reads.take_repair.Tie as tie
 
 returns : tie.Need-returns
 returns c =
-    let e = sym (c .before .before .before .before .before .before .before .is-last .ensures) ∙ c .before .before .before .before .before .before .if1 .taken in
+    let e = sym (c .before .before .before .before .before .before .before .is-last .ensures) ∙
+    c .before .before .before .before .before .before .if1 .taken in
     let d = c .before .before .deliver .ensures in
     let k = c .before .before .before .before .content .ensures .0 in
     (rw (e, d .0, k, c .before .before .before .before .before .chosen-number .ensures), rw e (rw k at (d .1)))

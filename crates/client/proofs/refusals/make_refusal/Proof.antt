@@ -17,7 +17,8 @@ past₁ : (c : tie.Else1) → badFaults (shelf (c .before .before .args .t)) ≡
 unfolding shelf
 past₁ c = sym (c .before .outside .ensures) ∙ c .if1 .left
 
-past₂ : (c : tie.Else2) → not (within 1 (shelf (c .before .before .before .before .before .args .t) .servers) (c .before .before .before .before .before .args .server)) ≡ false
+past₂ : (c : tie.Else2) → not (within 1 (shelf (c .before .before .before .before .before .args .t) .servers)
+    (c .before .before .before .before .before .args .server)) ≡ false
 unfolding shelf
 past₂ c = rw (c .before .before .servers .ensures) at (sym (c .before .outside2 .ensures) ∙ c .if2 .left)
 
@@ -45,15 +46,37 @@ returns-3 c = rw (past₁ (c .before .before .before .before .before), past₂ (
 
 returns-4 : tie.Need-returns-4
 unfolding makeRefusal shelf
-returns-4 c = rw (past₁ (c .before .before .before .before .before .before .before), past₂ (c .before .before .before .before), past₃ (c .before .before), ap not (sym (c .before .is-pending .ensures)) ∙ c .if4 .taken)
+returns-4 c = rw (
+  past₁ (c .before .before .before .before .before .before .before),
+  past₂ (c .before .before .before .before),
+  past₃
+      (c .before .before),
+  ap not (sym (c .before .is-pending .ensures)) ∙ c .if4 .taken,
+)
 
 returns-5 : tie.Need-returns-5
 unfolding makeRefusal shelf
-returns-5 c = rw (past₁ (c .before .before .before .before .before .before .before .before), past₂ (c .before .before .before .before .before), past₃ (c .before .before .before), past₄ (c .before), lt-ltb (c .before .before .before .before .before .before .before .before .before .before .args .room) packetRoom (omega arith))
+returns-5 c = rw (
+  past₁ (c .before .before .before .before .before .before .before .before),
+  past₂ (c .before .before .before .before .before),
+  past₃
+      (c .before .before .before),
+  past₄ (c .before),
+  lt-ltb
+      (c .before .before .before .before .before .before .before .before .before .before .args .room) packetRoom (omega arith),
+)
 
 returns-6 : tie.Need-returns-6
 unfolding makeRefusal shelf
-returns-6 c = rw (past₁ (c .before .before .before .before .before .before .before .before), past₂ (c .before .before .before .before .before), past₃ (c .before .before .before), past₄ (c .before), le-ltb (c .before .before .before .before .before .before .before .before .before .before .args .room) packetRoom (omega arith))
+returns-6 c = rw (
+  past₁ (c .before .before .before .before .before .before .before .before),
+  past₂ (c .before .before .before .before .before),
+  past₃
+      (c .before .before .before),
+  past₄ (c .before),
+  le-ltb
+      (c .before .before .before .before .before .before .before .before .before .before .args .room) packetRoom (omega arith),
+)
 
 pub make-refusal-spec : {M : Type 1} → statement M
 make-refusal-spec = tie.close (tie.spec (λ c κs. search needs) returns servers-requires (λ c κs. search needs) returns-2 (λ c κs. search needs)

@@ -36,11 +36,21 @@ returns-3 c = rw (past₁ (c .before .before .before .before), past₂ (c .befor
 
 returns-4 : tie.Need-returns-4
 unfolding readRefusal shelf
-returns-4 c = rw (past₁ (c .before .before .before .before .before .before), past₂ (c .before .before .before .before), past₃ (c .before .before), le-leb topNumber (c .before .before .before .before .before .before .before .before .args .call .number) (omega arith))
+returns-4 c = rw (
+  past₁ (c .before .before .before .before .before .before),
+  past₂ (c .before .before .before .before),
+  past₃ (c .before .before),
+  le-leb topNumber (c .before .before .before .before .before .before .before .before .args .call .number) (omega arith),
+)
 
 returns-5 : tie.Need-returns-5
 unfolding readRefusal shelf
-returns-5 c = rw (past₁ (c .before .before .before .before .before .before), past₂ (c .before .before .before .before), past₃ (c .before .before), lt-leb topNumber (c .before .before .before .before .before .before .before .before .args .call .number) (omega arith))
+returns-5 c = rw (
+  past₁ (c .before .before .before .before .before .before),
+  past₂ (c .before .before .before .before),
+  past₃ (c .before .before),
+  lt-leb topNumber (c .before .before .before .before .before .before .before .before .args .call .number) (omega arith),
+)
 
 pub read-refusal-spec : {M : Type 1} → statement M
 read-refusal-spec = tie.close (tie.spec (λ c κs. search needs) returns (λ c κs. search needs) returns-2 (λ c κs. search needs) returns-3

@@ -39,15 +39,37 @@ returns-3 c = rw (past₁ (c .before .before .before .before), past₂ (c .befor
 
 returns-4 : tie.Need-returns-4
 unfolding writeRefusal shelf
-returns-4 c = rw (past₁ (c .before .before .before .before .before .before), past₂ (c .before .before .before .before), past₃ (c .before .before), sym (c .before .is-pending .ensures) ∙ c .if4 .taken)
+returns-4 c = rw (
+  past₁ (c .before .before .before .before .before .before),
+  past₂ (c .before .before .before .before),
+  past₃ (c .before .before),
+  sym
+      (c .before .is-pending .ensures) ∙ c .if4 .taken,
+)
 
 returns-5 : tie.Need-returns-5
 unfolding writeRefusal shelf
-returns-5 c = rw (past₁ (c .before .before .before .before .before .before .before .before), past₂ (c .before .before .before .before .before .before), past₃ (c .before .before .before .before), past₄ (c .before .before), le-leb topNumber (c .before .before .before .before .before .before .before .before .before .before .args .call .number) (omega arith))
+returns-5 c = rw (
+  past₁ (c .before .before .before .before .before .before .before .before),
+  past₂
+      (c .before .before .before .before .before .before),
+  past₃ (c .before .before .before .before),
+  past₄ (c .before .before),
+  le-leb topNumber
+      (c .before .before .before .before .before .before .before .before .before .before .args .call .number) (omega arith),
+)
 
 returns-6 : tie.Need-returns-6
 unfolding writeRefusal shelf
-returns-6 c = rw (past₁ (c .before .before .before .before .before .before .before .before), past₂ (c .before .before .before .before .before .before), past₃ (c .before .before .before .before), past₄ (c .before .before), lt-leb topNumber (c .before .before .before .before .before .before .before .before .before .before .args .call .number) (omega arith))
+returns-6 c = rw (
+  past₁ (c .before .before .before .before .before .before .before .before),
+  past₂
+      (c .before .before .before .before .before .before),
+  past₃ (c .before .before .before .before),
+  past₄ (c .before .before),
+  lt-leb topNumber
+      (c .before .before .before .before .before .before .before .before .before .before .args .call .number) (omega arith),
+)
 
 pub write-refusal-spec : {M : Type 1} → statement M
 write-refusal-spec = tie.close (tie.spec (λ c κs. search needs) returns (λ c κs. search needs) returns-2 (λ c κs. search needs) returns-3

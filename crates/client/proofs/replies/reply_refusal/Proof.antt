@@ -27,12 +27,22 @@ returns-2 c = rw (past₁ (c .before .before), sym (c .before .awaited-kind .ens
 returns-3 : tie.Need-returns-3
 unfolding replyRefusal
 returns-3 c =
-    rw (past₁ (c .before .before .before .before), past₂ (c .before .before), rw (c .before .before .before .awaited-kind .ensures) at (sym (c .before .is-other .ensures) ∙ c .if3 .taken))
+    rw (
+      past₁ (c .before .before .before .before),
+      past₂ (c .before .before),
+      rw (c .before .before .before .awaited-kind .ensures) at
+          (sym (c .before .is-other .ensures) ∙ c .if3 .taken),
+    )
 
 returns-4 : tie.Need-returns-4
 unfolding replyRefusal
 returns-4 c =
-    rw (past₁ (c .before .before .before .before), past₂ (c .before .before), rw (c .before .before .before .awaited-kind .ensures) at (sym (c .before .is-other .ensures) ∙ c .if3 .left))
+    rw (
+      past₁ (c .before .before .before .before),
+      past₂ (c .before .before),
+      rw (c .before .before .before .awaited-kind .ensures) at
+          (sym (c .before .is-other .ensures) ∙ c .if3 .left),
+    )
 
 pub reply-refusal-spec : {M : Type 1} → statement M
 reply-refusal-spec = tie.close (tie.spec (λ c κs. search needs) returns (λ c κs. search needs) returns-2 (λ c κs. search needs) returns-3 returns-4)

@@ -23,19 +23,31 @@ unfolding stampAt
 up c = rw (c .before .number4 .ensures) at (c .if1 .left)
 
 tags : (c : tie.After-same)
-    → let a = c .before .before .before .before .before .before .before .before .before .args in c .same .result ≡ sameList (part (a .body .now) 5 tagSize) (tagOf (a .writers .now) (part (a .body .now) 0 5))
-tags c = c .same .ensures ∙ rw (c .before .before .part2 .ensures, c .before .before .before .tag .ensures, c .before .before .before .before .part .ensures)
+    → let a = c .before .before .before .before .before .before .before .before .before .args in c .same .result ≡ sameList
+    (part (a .body .now) 5 tagSize) (tagOf (a .writers .now) (part (a .body .now) 0 5))
+tags c = c .same .ensures ∙ rw (
+  c .before .before .part2 .ensures,
+  c .before .before .before .tag .ensures,
+  c .before .before .before .before .part .ensures,
+)
 
 returns-2 : tie.Need-returns-2
 unfolding stampAt
 returns-2 c =
     let a = c .before .before .before .before .before .before .before .before .before .before .args in
-    c .before .before .before .before .before .before .before .before .number4 .ensures ∙ sym (raised (a .writers .now) (a .body .now) (a .high) (λ k. c .before .before .before .before .before .before .before .before .before .shared-slice-known .given k .fits) (omega (arith, c .before .before .before .before .before .before .before .before .before .before .pre)) (up (c .before .before .before .before .before .before .before)) (sym (tags (c .before)) ∙ c .if2 .taken))
+    c .before .before .before .before .before .before .before .before .number4 .ensures ∙ sym
+    (raised (a .writers .now) (a .body .now) (a .high)
+    (λ k. c .before .before .before .before .before .before .before .before .before .shared-slice-known .given k .fits)
+    (omega (arith, c .before .before .before .before .before .before .before .before .before .before .pre))
+    (up (c .before .before .before .before .before .before .before)) (sym (tags (c .before)) ∙ c .if2 .taken))
 
 returns-3 : tie.Need-returns-3
 returns-3 c =
     let a = c .before .before .before .before .before .before .before .before .before .before .args in
-    sym (not-raised (a .writers .now) (a .body .now) (a .high) (λ k. c .before .before .before .before .before .before .before .before .before .shared-slice-known .given k .fits) (omega (arith, c .before .before .before .before .before .before .before .before .before .before .pre)) (up (c .before .before .before .before .before .before .before)) (sym (tags (c .before)) ∙ c .if2 .left))
+    sym (not-raised (a .writers .now) (a .body .now) (a .high)
+    (λ k. c .before .before .before .before .before .before .before .before .before .shared-slice-known .given k .fits)
+    (omega (arith, c .before .before .before .before .before .before .before .before .before .before .pre))
+    (up (c .before .before .before .before .before .before .before)) (sym (tags (c .before)) ∙ c .if2 .left))
 
 pub higher-spec : {M : Type 1} → statement M
 higher-spec = tie.close (tie.spec (λ c κs. search needs) returns (λ c κs. search needs) (λ c κs. search needs) (λ c κs. search needs)

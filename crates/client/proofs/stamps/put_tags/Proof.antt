@@ -29,7 +29,8 @@ loop-holds c = (omega arith, put-none (c .before .before .before .args .tags .no
 -- there are few servers, the tags so far have room, and the buffer keeps its length
 room : (c : tie.At-loop Inv-loop μ-loop)
     → let a = c .before .before .before .before .args in
-    (c .before .servers .result ≤ mostServers) × (tagSize * c .before .servers .result ≤ length (a .tags .now)) × (length (c .loop .tags) ≡ length (a .tags .now))
+    (c .before .servers .result ≤ mostServers) × (tagSize * c .before .servers .result ≤ length (a .tags .now)) ×
+    (length (c .loop .tags) ≡ length (a .tags .now))
 room c =
     let a = c .before .before .before .before .args in
     let p = c .before .before .before .before .pre in
@@ -37,7 +38,8 @@ room c =
     let l : tagSize * c .before .servers .result ≤ length (a .tags .now) = omega (arith, e, p .1) in (
       omega (arith, e, servers-few (a .t) (p .0)),
       l,
-      ap length (c .loop .inv .1) ∙ put-length (a .tags .now) 0 (tagRun (a .keys .now) (a .stamp .now) (a .digest) (c .loop .i)) (omega (arith, tag-run-length (a .keys .now) (a .stamp .now) (a .digest) (c .loop .i))),
+      ap length (c .loop .inv .1) ∙ put-length (a .tags .now) 0 (tagRun (a .keys .now) (a .stamp .now) (a .digest) (c .loop .i))
+          (omega (arith, tag-run-length (a .keys .now) (a .stamp .now) (a .digest) (c .loop .i))),
     )
 
 write-at-requires : tie.Need-write-at-requires Inv-loop μ-loop
@@ -52,7 +54,11 @@ loop-again c =
     let k = key-at (a .keys .now) i in (
       omega arith,
       c .before .before .write-at .ensures
-          ∙ rw (c .before .before .before .before .before .before .before .before .loop .inv .1, c .before .before .before .before .before .tag-with .ensures) (tag-more (a .tags .now) (a .keys .now) (a .stamp .now) (a .digest) i _ k (omega (arith, room (c .before .before .before .before .before .before .before .before)))),
+          ∙ rw (
+            c .before .before .before .before .before .before .before .before .loop .inv .1,
+            c .before .before .before .before .before .tag-with .ensures,
+          ) (tag-more (a .tags .now) (a .keys .now) (a .stamp .now) (a .digest) i _ k
+          (omega (arith, room (c .before .before .before .before .before .before .before .before)))),
     )
 
 returns : tie.Need-returns Inv-loop μ-loop

@@ -19,7 +19,8 @@ take-collect-requires c κs =
     let p = z .pre in
     let f = ready-faults (a .t) (a .client) (a .call) (a .reply .now) (a .head) (p .0) in
     let r = ready-server (a .t) (a .client) (a .call) (a .reply .now) (a .head) (p .0) in
-    let l : length (drop headSize (a .reply .now)) ≤ candidateSlot = collect-length (a .t) (a .client) (a .call) (a .reply .now) (a .head) (p .0) (λ k. c .before .before .before .before .before .before .shared-slice-known .given k .fits) (c .before .before .if1 .taken) in
+    let l : length (drop headSize (a .reply .now)) ≤ candidateSlot = collect-length (a .t) (a .client) (a .call) (a .reply .now) (a .head) (p .0)
+    (λ k. c .before .before .before .before .before .before .shared-slice-known .given k .fits) (c .before .before .if1 .taken) in
     (f .1, (r .0, (r .1, (p .1 .1 .0, rw (c .rest .ensures) l))))
 
 returns : tie.Need-returns
@@ -28,7 +29,10 @@ returns c =
     let a = z .args in
     let p = z .pre in
     λ writers keys. takes-collect (a .t) (a .client) writers keys (a .call) (a .kept .now) (a .reply .now) (a .out .now) (a .head) (p .0) (p .1 .1 .1)
-    (c .before .before .before .before .before .if1 .taken) (λ k. c .before .before .before .before .before .before .before .before .before .shared-slice-known .given k .fits) _ (c .before .before .before .rest .ensures) (c .before .before .take-collect .result) (c .before .before .take-collect .ensures .0) _ (c .before .before .take-collect .ensures .1)
+    (c .before .before .before .before .before .if1 .taken)
+    (λ k. c .before .before .before .before .before .before .before .before .before .shared-slice-known .given k .fits) _
+    (c .before .before .before .rest .ensures) (c .before .before .take-collect .result) (c .before .before .take-collect .ensures .0) _
+    (c .before .before .take-collect .ensures .1)
 
 returns-2 : tie.Need-returns-2
 returns-2 c = search needs
@@ -48,8 +52,14 @@ returns-3 c =
     let a = z .args in
     let p = z .pre in
     let q = ready-round (a .t) (a .client) (a .call) (a .reply .now) (a .head) (p .0) in
-    let e : a .call .tally .round ≡ 6 = omega (arith, p .1 .0, c .before .before .before .before .before .before .if1 .left, c .before .before .before .before .before .if2 .left) in
-    λ writers keys. takes-repair (a .t) (a .client) writers keys (a .call) (a .kept .now) (a .reply .now) (a .out .now) (a .head) (p .0) (p .1 .1 .1) e
+    let e : a .call .tally .round ≡ 6 = omega (
+      arith,
+      p .1 .0,
+      c .before .before .before .before .before .before .if1 .left,
+      c .before .before .before .before .before .if2 .left,
+    ) in
+    λ writers keys. takes-repair (a .t) (a .client) writers keys (a .call) (a .kept .now) (a .reply .now) (a .out .now) (a .head) (p .0) (p .1 .1 .1)
+    e
     (c .before .before .take-repair .result) (c .before .before .take-repair .ensures .0) _ (c .before .before .take-repair .ensures .1)
 
 pub take-read-round-spec : {M : Type 1} → statement M

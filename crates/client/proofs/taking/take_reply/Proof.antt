@@ -11,8 +11,10 @@ returns c =
     let z = c .before .before .before .before .before .before .before in
     let a = z .args in
     let p = z .pre in
-    takes-refused (a .t) (a .client) (a .writers .now) (a .keys .now) (a .call) (a .kept .now) (a .reply .now) (a .out .now) (c .refused .result) 7 (c .refused .ensures)
-    (take-broken (a .t) (a .client) (a .writers .now) (a .keys .now) (a .call) (a .kept .now) (a .reply .now) (a .out .now) (p .0) (p .1 .0) (rw (c .before .enum-told .given .1) at (c .before .before .before .read-packet .ensures)))
+    takes-refused (a .t) (a .client) (a .writers .now) (a .keys .now) (a .call) (a .kept .now) (a .reply .now) (a .out .now) (c .refused .result) 7
+    (c .refused .ensures)
+    (take-broken (a .t) (a .client) (a .writers .now) (a .keys .now) (a .call) (a .kept .now) (a .reply .now) (a .out .now) (p .0) (p .1 .0)
+    (rw (c .before .enum-told .given .1) at (c .before .before .before .read-packet .ensures)))
 
 reply-refusal-requires : tie.Need-reply-refusal-requires
 reply-refusal-requires c κs =
@@ -24,15 +26,28 @@ returns-2 c =
     let z = c .before .before .before .before .before .before .before .before .before .before in
     let a = z .args in
     let p = z .pre in
-    takes-refused (a .t) (a .client) (a .writers .now) (a .keys .now) (a .call) (a .kept .now) (a .reply .now) (a .out .now) (c .refused2 .result) _ (c .refused2 .ensures)
-    (take-head (a .t) (a .client) (a .writers .now) (a .keys .now) (a .call) (a .kept .now) (a .reply .now) (a .out .now) (p .0) (p .1 .0) (c .before .before .before .before .head .given .0 .0) (rw (c .before .before .before .before .head .given .1) at (c .before .before .before .before .before .before .read-packet .ensures)) (c .before .before .reply-refusal .result) (c .before .before .reply-refusal .ensures) (c .before .if1 .taken))
+    takes-refused (a .t) (a .client) (a .writers .now) (a .keys .now) (a .call) (a .kept .now) (a .reply .now) (a .out .now) (c .refused2 .result) _
+    (c .refused2 .ensures)
+    (take-head (a .t) (a .client) (a .writers .now) (a .keys .now) (a .call) (a .kept .now) (a .reply .now) (a .out .now) (p .0) (p .1 .0)
+    (c .before .before .before .before .head .given .0 .0) (rw (c .before .before .before .before .head .given .1) at
+    (c .before .before .before .before .before .before .read-packet .ensures)) (c .before .before .reply-refusal .result)
+    (c .before .before .reply-refusal .ensures) (c .before .if1 .taken))
 
 take-round-requires : tie.Need-take-round-requires
 take-round-requires c κs =
     let z = c .before .before .before .before .before .before .before .before .before .before .before in
     let a = z .args in
-    let p = z .pre in
-    (record { decoded = (rw (c .before .before .before .before .before .head .given .1) at (c .before .before .before .before .before .before .before .read-packet .ensures)); faults = p .0; reader = p .1 .0; awaited = sym (c .before .before .before .reply-refusal .ensures) ∙ c .before .before .if1 .left }, p .1 .1)
+    let p = z .pre in (
+      record {
+        decoded = (rw (c .before .before .before .before .before .head .given .1) at
+            (c .before .before .before .before .before .before .before .read-packet .ensures));
+        faults = p .0;
+        reader = p .1 .0;
+        awaited = sym
+            (c .before .before .before .reply-refusal .ensures) ∙ c .before .before .if1 .left;
+      },
+      p .1 .1,
+    )
 
 returns-3 : tie.Need-returns-3
 returns-3 c = search needs

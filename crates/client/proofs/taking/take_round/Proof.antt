@@ -16,8 +16,10 @@ returns-2 c =
     let z = c .before .before .before .before .before .before .before in
     let a = z .args in
     let p = z .pre in
-    takes-refused (a .t) (a .client) (a .writers .now) (a .keys .now) (a .call) (a .kept .now) (a .reply .now) (a .out .now) (c .refused .result) 15 (c .refused .ensures)
-    (round-short (a .t) (a .client) (a .writers .now) (a .keys .now) (a .call) (a .kept .now) (a .reply .now) (a .out .now) (a .head) (p .0) (c .before .before .if1 .left) (omega (arith, c .before .if2 .taken)))
+    takes-refused (a .t) (a .client) (a .writers .now) (a .keys .now) (a .call) (a .kept .now) (a .reply .now) (a .out .now) (c .refused .result) 15
+    (c .refused .ensures)
+    (round-short (a .t) (a .client) (a .writers .now) (a .keys .now) (a .call) (a .kept .now) (a .reply .now) (a .out .now) (a .head) (p .0)
+    (c .before .before .if1 .left) (omega (arith, c .before .if2 .taken)))
 
 take-write-round-requires : tie.Need-take-write-round-requires
 take-write-round-requires c κs =

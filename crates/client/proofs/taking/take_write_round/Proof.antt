@@ -11,8 +11,11 @@ take-store-requires : tie.Need-take-store-requires
 take-store-requires c κs =
     let z = c .before .before .before .before .before .before in
     let a = z .args in
-    let p = z .pre in
-    (ready-faults (a .t) (a .client) (a .call) (a .reply .now) (a .head) (p .0) .1, ready-server (a .t) (a .client) (a .call) (a .reply .now) (a .head) (p .0))
+    let p = z .pre in (
+      ready-faults (a .t) (a .client) (a .call) (a .reply .now) (a .head) (p .0) .1,
+      ready-server (a .t) (a .client) (a .call) (a .reply .now)
+          (a .head) (p .0),
+    )
 
 returns : tie.Need-returns
 returns c =
@@ -26,8 +29,11 @@ take-complete-requires : tie.Need-take-complete-requires
 take-complete-requires c κs =
     let z = c .before .before .before .before .before in
     let a = z .args in
-    let p = z .pre in
-    (ready-faults (a .t) (a .client) (a .call) (a .reply .now) (a .head) (p .0) .1, ready-server (a .t) (a .client) (a .call) (a .reply .now) (a .head) (p .0))
+    let p = z .pre in (
+      ready-faults (a .t) (a .client) (a .call) (a .reply .now) (a .head) (p .0) .1,
+      ready-server (a .t) (a .client) (a .call) (a .reply .now)
+          (a .head) (p .0),
+    )
 
 returns-2 : tie.Need-returns-2
 returns-2 c =

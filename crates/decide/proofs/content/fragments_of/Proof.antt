@@ -34,7 +34,8 @@ array-read-at c = omega (arith, c .before .before .shares .ensures .1, c .before
 
 -- what every number of a turn rests on, at the top of the loop's body
 fine : (c : tie.In-loop Inv-loop μ-loop)
-    → Turn (c .before .before .before .before .before .args .kept .now) (getD (c .before .before .before .before .before .args .t4) (c .before .loop .p) 0)
+    → Turn (c .before .before .before .before .before .args .kept .now) (getD (c .before .before .before .before .before .args .t4)
+    (c .before .loop .p) 0)
     (c .before .before .before .fragment-size .result) (c .before .loop .p)
 fine c =
     let a = c .before .before .before .before .before .args in
@@ -61,10 +62,13 @@ loop-again c =
     let a = c .before .before .before .before .before .before .before .before .before .args in
     let p = c .before .before .before .before .before .before .before .before .before .pre in
     let v = c .before .before .before .before .before .loop .inv in
-    let l : c .before .before .before .before .before .loop .p < shelf (a .t) .shares = omega (arith, c .before .before .before .before .before .before .shares .ensures .0) in
+    let l : c .before .before .before .before .before .loop .p < shelf (a .t) .shares = omega
+    (arith, c .before .before .before .before .before .before .shares .ensures .0) in
     let at : ℕ = repliesAt + replySlot * (getD (a .t4) (c .before .before .before .before .before .loop .p) 0 - 1) + (stampSize + 3) in
     let w =
-    fragments-more (a .t) (a .kept .now) (a .t4) (a .n) (p .0) (p .1) (p .2) (c .before .before .before .before .before .loop .out) (c .before .copy .last .0) (c .before .before .before .before .before .before .before .fragment-size .result) (c .before .before .before .before .before .loop .p) at
+    fragments-more (a .t) (a .kept .now) (a .t4) (a .n) (p .0) (p .1) (p .2) (c .before .before .before .before .before .loop .out)
+    (c .before .copy .last .0) (c .before .before .before .before .before .before .before .fragment-size .result)
+    (c .before .before .before .before .before .loop .p) at
     (c .before .before .before .before .before .before .before .fragment-size .ensures) l refl (v .1) (v .2) (c .before .copy .ensures) in
     (omega arith, w .0, w .1)
 
@@ -73,7 +77,12 @@ returns c =
     let a = c .before .before .before .before .before .args in
     let e = c .before .before .before .fragment-size .ensures in
     let p = c .before .before .before .before .before .pre in
-    record { long = omega (arith, fragments-room (a .t) (a .n) (p .0 .low) (p .0 .high) (p .1), c .before .loop .inv .1); each = λ q l. subst (λ (f : ℕ). part (c .before .loop .out) (q * f) f ≡ fragmentOf (a .kept .now) f (getD (a .t4) q 0) .bytes) e (c .before .loop .inv .2 q (omega (arith, c .before .before .shares .ensures .0))) }
+    record {
+      long = omega (arith, fragments-room (a .t) (a .n) (p .0 .low) (p .0 .high) (p .1), c .before .loop .inv .1);
+      each = λ q l. subst
+          (λ (f : ℕ). part (c .before .loop .out) (q * f) f ≡ fragmentOf (a .kept .now) f (getD (a .t4) q 0) .bytes) e
+          (c .before .loop .inv .2 q (omega (arith, c .before .before .shares .ensures .0)));
+    }
 
 pub fragments-of-spec : {M : Type 1} → statement M
 fragments-of-spec = tie.close (tie.spec Inv-loop μ-loop fragment-size-requires shares-requires loop-holds array-read-at (λ c. search needs)

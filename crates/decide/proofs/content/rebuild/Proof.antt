@@ -16,7 +16,8 @@ use Rattle.decide.proofs.content.rebuild.Statement.{statement}
 use Rattle.decide.proofs.content.rebuild.Tie as tie
 
 size-of-requires : tie.Need-size-of-requires
-size-of-requires c κs = let a = c .before .before .before .args in let p = c .before .before .before .pre in lent-length (a .kept .now) (a .b) (p .0 .size) (p .1)
+size-of-requires c κs = let a = c .before .before .before .args in let p = c .before .before .before .pre in lent-length (a .kept .now) (a .b)
+    (p .0 .size) (p .1)
 
 -- the length read
 size : (kept : List ℕ) (b n : ℕ) → n ≡ sizeIn (lentSlot kept b) → n ≡ sizeIn (replySlotOf kept b)
@@ -39,7 +40,12 @@ mul-end : tie.Need-mul-end
 mul-end c =
     let a = c .before .before .before .before .before .before .args in
     let p = c .before .before .before .before .before .before .pre in
-    omega (arith, room (a .t) (c .before .before .size-of .result) (c .before .shares .result) (c .fragment-size .result) (p .0 .low) (p .0 .high) (omega (arith, p .2 .top, size (a .kept .now) (a .b) (c .before .before .size-of .result) (c .before .before .size-of .ensures))) (c .before .shares .ensures .0) (c .fragment-size .ensures))
+    omega (
+      arith,
+      room (a .t) (c .before .before .size-of .result) (c .before .shares .result) (c .fragment-size .result) (p .0 .low) (p .0 .high)
+          (omega (arith, p .2 .top, size (a .kept .now) (a .b) (c .before .before .size-of .result) (c .before .before .size-of .ensures)))
+          (c .before .shares .ensures .0) (c .fragment-size .ensures),
+    )
 
 fragments-of-requires : tie.Need-fragments-of-requires
 fragments-of-requires c κs =
@@ -48,14 +54,28 @@ fragments-of-requires c κs =
     (p .0, omega (arith, p .2 .top, size (a .kept .now) (a .b) (c .before .before .size-of .result) (c .before .before .size-of .ensures)), p .3)
 
 part-restore-end : tie.Need-part-restore-end
-part-restore-end c = omega (arith, c .before .before .before .shares .ensures .1, c .before .before .before .before .before .before .before .before .pre .0 .high, c .before .before .before .before .before .before .before .before .good .1 .1 .1 .0 .1 .0 .1)
+part-restore-end c = omega (
+  arith,
+  c .before .before .before .shares .ensures .1,
+  c .before .before .before .before .before .before .before .before .pre .0 .high,
+  c .before .before .before .before .before .before .before .before .good .1 .1 .1 .0 .1 .0 .1,
+)
 
 products : (k l f g : ℕ) → k ≡ l → f ≡ g → k * f ≡ l * g
 products k l f g e q = rw (e, q)
 
 part-restore-end-2 : tie.Need-part-restore-end-2
 part-restore-end-2 c =
-    omega (arith, c .before .before .before .fragments-of .ensures .long, products (c .before .before .before .before .before .shares .result) (shelf (c .before .before .before .before .before .before .before .before .before .before .args .t) .shares) (c .before .before .before .before .fragment-size .result) (fragmentSize (shelf (c .before .before .before .before .before .before .before .before .before .before .args .t) .shares) (c .before .before .before .before .before .before .size-of .result)) (c .before .before .before .before .before .shares .ensures .0) (c .before .before .before .before .fragment-size .ensures))
+    omega (
+      arith,
+      c .before .before .before .fragments-of .ensures .long,
+      products (c .before .before .before .before .before .shares .result)
+          (shelf (c .before .before .before .before .before .before .before .before .before .before .args .t) .shares)
+          (c .before .before .before .before .fragment-size .result) (fragmentSize (shelf
+          (c .before .before .before .before .before .before .before .before .before .before .args .t) .shares)
+          (c .before .before .before .before .before .before .size-of .result)) (c .before .before .before .before .before .shares .ensures .0)
+          (c .before .before .before .before .fragment-size .ensures),
+    )
 
 -- what is lent to restoring
 lent : (t n k l f g : ℕ) (servers frs out : List ℕ) → k ≡ l → f ≡ g
@@ -69,13 +89,22 @@ returns : tie.Need-returns
 returns c =
     let a = c .before .before .before .before .before .before .before .before .before .before .before .before .before .before .before .args in
     let p = c .before .before .before .before .before .before .before .before .before .before .before .before .before .before .before .pre in
-    let n = size (a .kept .now) (a .b) (c .before .before .before .before .before .before .before .before .before .before .before .size-of .result) (c .before .before .before .before .before .before .before .before .before .before .before .size-of .ensures) in
+    let n = size (a .kept .now) (a .b) (c .before .before .before .before .before .before .before .before .before .before .before .size-of .result)
+    (c .before .before .before .before .before .before .before .before .before .before .before .size-of .ensures) in
     let k = c .before .before .before .before .before .before .before .before .before .before .shares .ensures .0 in
     let f = c .before .before .before .before .before .before .before .before .before .fragment-size .ensures in
-    rebuilt (a .t) (a .kept .now) (a .t4) (c .before .before .before .before .before .before .before .before .before .before .before .size-of .result) (p .0) (omega (arith, p .2 .top, n)) (p .3) (a .b) (c .before .before .before .before .before .before .before .before .fragments-of .result) (a .out .now) (c .before .before .restore .last .1 .1 .1 .1 .0)
-    (c .before .before .restore .result) (omega (arith, p .2 .least, n)) n (c .before .before .before .before .before .before .before .before .before .before .before .before .before .before .before .good .1 .1 .1 .0 .1 .0 .1) (c .before .before .before .before .before .before .before .before .fragments-of .ensures) (p .4)
+    rebuilt (a .t) (a .kept .now) (a .t4) (c .before .before .before .before .before .before .before .before .before .before .before .size-of .result)
+    (p .0) (omega (arith, p .2 .top, n)) (p .3) (a .b) (c .before .before .before .before .before .before .before .before .fragments-of .result)
+    (a .out .now) (c .before .before .restore .last .1 .1 .1 .1 .0)
+    (c .before .before .restore .result) (omega (arith, p .2 .least, n)) n
+    (c .before .before .before .before .before .before .before .before .before .before .before .before .before .before .before .good .1 .1 .1 .0 .1 .0
+    .1) (c .before .before .before .before .before .before .before .before .fragments-of .ensures) (p .4)
     (c .before .before .restore .ensures
-    ∙ lent (a .t) (c .before .before .before .before .before .before .before .before .before .before .before .size-of .result) (c .before .before .before .before .before .before .before .before .before .before .shares .result) (shelf (a .t) .shares) (c .before .before .before .before .before .before .before .before .before .fragment-size .result) (fragmentSize (shelf (a .t) .shares) (c .before .before .before .before .before .before .before .before .before .before .before .size-of .result)) (a .t4) (c .before .before .before .before .before .before .before .before .fragments-of .result) (a .out .now) k f)
+    ∙ lent (a .t) (c .before .before .before .before .before .before .before .before .before .before .before .size-of .result)
+    (c .before .before .before .before .before .before .before .before .before .before .shares .result) (shelf (a .t) .shares)
+    (c .before .before .before .before .before .before .before .before .before .fragment-size .result)
+    (fragmentSize (shelf (a .t) .shares) (c .before .before .before .before .before .before .before .before .before .before .before .size-of .result))
+    (a .t4) (c .before .before .before .before .before .before .before .before .fragments-of .result) (a .out .now) k f)
 
 pub rebuild-spec : {M : Type 1} → statement M
 rebuild-spec = tie.close (tie.spec (λ c. omega (arith, c .before .before .pre .0 .size)) (λ c. omega (arith, c .before .before .pre .0 .size))

@@ -25,10 +25,12 @@ array-read-if2 : tie.Need-array-read-if2
 array-read-if2 c = let a = c .before .before .before .args in let p = c .before .before .before .pre in omega (arith, p .3, few (p .0))
 
 returns-2 : tie.Need-returns-2
-returns-2 c = let a = c .before .before .before .before .args in rw (agrees-unmarked (a .t) (a .t2) (a .kept .now) (a .i) (a .b) (a .j) (c .if2 .taken))
+returns-2 c = let a = c .before .before .before .before .args in rw (agrees-unmarked (a .t) (a .t2) (a .kept .now) (a .i) (a .b) (a .j)
+    (c .if2 .taken))
 
 names-at-requires : tie.Need-names-at-requires
-names-at-requires c κs = let a = c .before .before .before .before .args in let p = c .before .before .before .before .pre in (p .0, p .1, omega (arith, p .3, few (p .0)))
+names-at-requires c κs = let a = c .before .before .before .before .args in let p =
+    c .before .before .before .before .pre in (p .0, p .1, omega (arith, p .3, few (p .0)))
 
 returns-3 : tie.Need-returns-3
 returns-3 c =
@@ -36,7 +38,8 @@ returns-3 c =
     let p = c .before .before .before .before .before .before .pre in
     let l : a .j < mostServers = omega (arith, p .3, few (p .0)) in
     let k : a .b < mostServers = omega (arith, p .2, few (p .0)) in
-    rw (agrees-nameless (a .t) (a .t2) (a .kept .now) (a .i) (a .d .now) (p .4) (a .b) k (p .5) (a .j) l (is-marked (a .t2) (a .j) (c .before .before .if2 .left))
+    rw (agrees-nameless (a .t) (a .t2) (a .kept .now) (a .i) (a .d .now) (p .4) (a .b) k (p .5) (a .j) l
+    (is-marked (a .t2) (a .j) (c .before .before .if2 .left))
     (sym (c .before .names-at .ensures) ∙ not-true (c .before .names-at .result) (c .if3 .taken)))
 
 alike-at-requires : tie.Need-alike-at-requires
@@ -60,7 +63,8 @@ returns-4 c =
     let p = c .before .before .before .before .before .before .before .before .pre in
     let l : a .j < mostServers = omega (arith, p .3, few (p .0)) in
     let k : a .b < mostServers = omega (arith, p .2, few (p .0)) in
-    rw (agrees-unlike (a .t) (a .t2) (a .kept .now) (a .i) (a .d .now) (p .4) (a .b) k (p .5) (a .j) l (is-marked (a .t2) (a .j) (c .before .before .before .before .if2 .left))
+    rw (agrees-unlike (a .t) (a .t2) (a .kept .now) (a .i) (a .d .now) (p .4) (a .b) k (p .5) (a .j) l
+    (is-marked (a .t2) (a .j) (c .before .before .before .before .if2 .left))
     (sym (c .before .alike-at .ensures) ∙ not-true (c .before .alike-at .result) (c .if4 .taken)))
 
 intact-at-requires : tie.Need-intact-at-requires
@@ -71,19 +75,23 @@ intact-at-requires c κs =
       p .0,
       p .3,
       names-full (shelf (a .t)) (replySlotOf (a .kept .now) (a .j)) (candidatesIn (shelf (a .t)) (a .kept .now) (suc (a .i))) (a .d .now)
-          (sym (c .before .before .before .names-at .ensures) ∙ not-false (c .before .before .before .names-at .result) (c .before .before .if3 .left)),
+          (sym (c .before .before .before .names-at .ensures) ∙ not-false (c .before .before .before .names-at .result)
+          (c .before .before .if3 .left)),
     )
 
 -- of a slot that is marked, names and is alike, the digest decides
 last : (c : tie.After-intact-at)
-    → let a = c .before .before .before .before .before .before .before .before .before .args in agreesAt (a .t) (a .t2) (a .kept .now) (a .i) (a .b) (suc (a .j)) ≡ c .intact-at .result
+    → let a = c .before .before .before .before .before .before .before .before .before .args in agreesAt (a .t) (a .t2) (a .kept .now) (a .i) (a .b)
+    (suc (a .j)) ≡ c .intact-at .result
 last c =
     let a = c .before .before .before .before .before .before .before .before .before .args in
     let p = c .before .before .before .before .before .before .before .before .before .pre in
     let l : a .j < mostServers = omega (arith, p .3, few (p .0)) in
     let k : a .b < mostServers = omega (arith, p .2, few (p .0)) in
-    agrees-last (a .t) (a .t2) (a .kept .now) (a .i) (a .d .now) (p .4) (a .b) k (p .5) (a .j) l (is-marked (a .t2) (a .j) (c .before .before .before .before .before .if2 .left))
-    (sym (c .before .before .before .before .names-at .ensures) ∙ not-false (c .before .before .before .before .names-at .result) (c .before .before .before .if3 .left))
+    agrees-last (a .t) (a .t2) (a .kept .now) (a .i) (a .d .now) (p .4) (a .b) k (p .5) (a .j) l
+    (is-marked (a .t2) (a .j) (c .before .before .before .before .before .if2 .left))
+    (sym (c .before .before .before .before .names-at .ensures) ∙ not-false (c .before .before .before .before .names-at .result)
+    (c .before .before .before .if3 .left))
     (sym (c .before .before .alike-at .ensures) ∙ not-false (c .before .before .alike-at .result) (c .before .if4 .left))
     ∙ sym (c .intact-at .ensures)
 

@@ -23,26 +23,46 @@ loop-holds : tie.Need-loop-holds Inv-loop μ-loop
 loop-holds c = let a = c .before .before .args in (omega arith, chosen-none (a .t) (a .marks) (a .kept .now) (a .key))
 
 tried-requires : tie.Need-tried-requires Inv-loop μ-loop
-tried-requires c κs = (c .before .before .before .before .pre, omega (arith, c .before .before .servers .ensures .1, c .before .before .before .before .pre .high))
+tried-requires c κs = (
+  c .before .before .before .before .pre,
+  omega (
+    arith,
+    c .before .before .servers .ensures .1,
+    c .before .before .before .before .pre .high,
+  ),
+)
 
 returns : tie.Need-returns Inv-loop μ-loop
 returns c =
     let a = c .before .before .before .before .before .before .before .before .args in
-    chosen-here (a .t) (a .marks) (a .kept .now) (a .key) (c .before .before .before .before .before .loop .i) (c .before .before .before .tried .result) (omega (arith, c .before .before .before .before .before .before .servers .ensures .0)) (c .before .before .before .before .before .loop .inv .1) (c .before .before .before .tried .ensures) (c .before .if1 .taken)
+    chosen-here (a .t) (a .marks) (a .kept .now) (a .key) (c .before .before .before .before .before .loop .i)
+    (c .before .before .before .tried .result) (omega (arith, c .before .before .before .before .before .before .servers .ensures .0))
+    (c .before .before .before .before .before .loop .inv .1) (c .before .before .before .tried .ensures) (c .before .if1 .taken)
 
 add-i : tie.Need-add-i Inv-loop μ-loop
-add-i c = omega (arith, c .before .before .before .before .before .servers .ensures .1, c .before .before .before .before .before .before .before .pre .high)
+add-i c = omega (
+  arith,
+  c .before .before .before .before .before .servers .ensures .1,
+  c .before .before .before .before .before .before .before .pre .high,
+)
 
 loop-again : tie.Need-loop-again Inv-loop μ-loop
 loop-again c =
-    let a = c .before .before .before .before .before .before .before .args in
-    (omega arith, chosen-passed (a .t) (a .marks) (a .kept .now) (a .key) (c .before .before .before .before .loop .i) (c .before .before .tried .result) (c .before .before .before .before .loop .inv .1) (c .before .before .tried .ensures) (c .if1 .left))
+    let a = c .before .before .before .before .before .before .before .args in (
+      omega arith,
+      chosen-passed (a .t) (a .marks) (a .kept .now) (a .key) (c .before .before .before .before .loop .i)
+          (c .before .before .tried .result) (c .before .before .before .before .loop .inv .1) (c .before .before .tried .ensures) (c .if1 .left),
+    )
 
 returns-2 : tie.Need-returns-2 Inv-loop μ-loop
 returns-2 c =
     let a = c .before .before .before .before .args in
     let e : c .before .loop .i ≡ shelf (a .t) .servers = omega (arith, c .before .before .servers .ensures .0) in
-    record { nothing = λ z. sym (ap (chosenAt (a .t) (a .marks) (a .kept .now) (a .key)) e) ∙ c .before .loop .inv .1; hit = λ b z. absurd (omega (arith, z)) }
+    record {
+      nothing = λ z. sym (ap (chosenAt (a .t) (a .marks) (a .kept .now) (a .key)) e) ∙ c .before .loop .inv .1;
+      hit = λ b z. absurd
+          (omega (arith, z));
+    }
 
 pub find-spec : {M : Type 1} → statement M
 find-spec = tie.close (tie.spec Inv-loop μ-loop servers-requires loop-holds tried-requires returns add-i (λ c. omega arith) loop-again returns-2)

@@ -20,7 +20,12 @@ returns : tie.Need-returns
 returns c = let a = c .before .before .before .args in sym (fits-unmarked (a .t) (a .t2) (a .kept .now) (a .i) (a .j) (c .if1 .taken))
 
 names-at-requires : tie.Need-names-at-requires
-names-at-requires c κs = let a = c .before .before .before .args in let p = c .before .before .before .pre in (p .0, p .1, omega (arith, p .2, few (p .0)))
+names-at-requires c κs = let a = c .before .before .before .args in let p = c .before .before .before .pre in (
+  p .0,
+  p .1,
+  omega
+      (arith, p .2, few (p .0)),
+)
 
 returns-2 : tie.Need-returns-2
 returns-2 c =
@@ -47,7 +52,8 @@ returns-3 c =
     let p = c .before .before .before .before .before .before .pre in
     let l : a .j < mostServers = omega (arith, p .2, few (p .0)) in
     c .intact-at .ensures
-    ∙ sym (fits-marked (a .t) (a .t2) (a .kept .now) (a .i) (a .d .now) (p .3) (a .j) l (is-marked (a .t2) (a .j) (c .before .before .before .if1 .left))
+    ∙ sym (fits-marked (a .t) (a .t2) (a .kept .now) (a .i) (a .d .now) (p .3) (a .j) l
+    (is-marked (a .t2) (a .j) (c .before .before .before .if1 .left))
     ∙ rw (sym (c .before .before .names-at .ensures) ∙ not-false (c .before .before .names-at .result) (c .before .if2 .left)))
 
 pub fits-spec : {M : Type 1} → statement M

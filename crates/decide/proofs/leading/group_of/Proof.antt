@@ -20,10 +20,19 @@ fits-requires c κs = let p = c .before .before .pre in (p .0, p .1, p .2, p .3)
 returns : tie.Need-returns
 returns c =
     let a = c .before .before .before .before .before .args in
-    nobody-leads (a .t) (a .marks) (a .kept .now) (a .i) (a .b) _ (c .no-group .ensures) (leads-unfit (a .t) (a .marks) (a .kept .now) (a .i) (a .b) (sym (c .before .before .fits2 .ensures) ∙ not-true (c .before .before .fits2 .result) (c .before .if1 .taken)))
+    nobody-leads (a .t) (a .marks) (a .kept .now) (a .i) (a .b) _ (c .no-group .ensures)
+    (leads-unfit (a .t) (a .marks) (a .kept .now) (a .i) (a .b) (sym (c .before .before .fits2 .ensures) ∙ not-true (c .before .before .fits2 .result)
+    (c .before .if1 .taken)))
 
 members-of-requires : tie.Need-members-of-requires
-members-of-requires c κs = let p = c .before .before .before .before .pre in (p .0, p .1, p .2, p .3, sym (c .before .fits2 .ensures) ∙ not-false (c .before .fits2 .result) (c .if1 .left))
+members-of-requires c κs = let p = c .before .before .before .before .pre in (
+  p .0,
+  p .1,
+  p .2,
+  p .3,
+  sym (c .before .fits2 .ensures) ∙ not-false
+      (c .before .fits2 .result) (c .if1 .left),
+)
 
 shares-requires : tie.Need-shares-requires
 shares-requires c κs = c .before .before .before .before .before .pre .0 .high
@@ -32,17 +41,26 @@ returns-2 : tie.Need-returns-2
 returns-2 c =
     let a = c .before .before .before .before .before .before .before .before .before .args in
     nobody-leads (a .t) (a .marks) (a .kept .now) (a .i) (a .b) _ (c .no-group2 .ensures)
-    (leads-few (a .t) (a .marks) (a .kept .now) (a .i) (a .b) (sym (c .before .before .before .before .before .before .fits2 .ensures) ∙ not-false (c .before .before .before .before .before .before .fits2 .result) (c .before .before .before .before .before .if1 .left))
-    (omega (arith, c .before .if2 .taken, c .before .before .before .before .members-of .ensures .count, c .before .before .before .shares .ensures .0)))
+    (leads-few (a .t) (a .marks) (a .kept .now) (a .i) (a .b) (sym (c .before .before .before .before .before .before .fits2 .ensures) ∙ not-false
+    (c .before .before .before .before .before .before .fits2 .result) (c .before .before .before .before .before .if1 .left))
+    (omega (
+      arith,
+      c .before .if2 .taken,
+      c .before .before .before .before .members-of .ensures .count,
+      c .before .before .before .shares .ensures .0,
+    )))
 
 returns-3 : tie.Need-returns-3
 returns-3 c =
     let a = c .before .before .before .before .before .before .before .before .before .args in
     let m = c .before .before .before .before .members-of .ensures in
-    let l : shelf (a .t) .shares ≤ length (membersAt (a .t) (a .marks) (a .kept .now) (a .i) (a .b)) = omega (arith, c .before .if2 .left, m .count, c .before .before .before .shares .ensures .0) in
-    let k : shelf (a .t) .shares ≡ c .before .before .before .before .members-of .result .count = omega (arith, l, m .count, members-most (a .t) (a .marks) (a .kept .now) (a .i) (a .b)) in
+    let l : shelf (a .t) .shares ≤ length (membersAt (a .t) (a .marks) (a .kept .now) (a .i) (a .b)) = omega
+    (arith, c .before .if2 .left, m .count, c .before .before .before .shares .ensures .0) in
+    let k : shelf (a .t) .shares ≡ c .before .before .before .before .members-of .result .count = omega
+    (arith, l, m .count, members-most (a .t) (a .marks) (a .kept .now) (a .i) (a .b)) in
     slot-leads (a .t) (a .marks) (a .kept .now) (a .i) (a .b) _ (add-one (a .b))
-    (leads-enough (a .t) (a .marks) (a .kept .now) (a .i) (a .b) (sym (c .before .before .before .before .before .before .fits2 .ensures) ∙ not-false (c .before .before .before .before .before .before .fits2 .result) (c .before .before .before .before .before .if1 .left)) l)
+    (leads-enough (a .t) (a .marks) (a .kept .now) (a .i) (a .b) (sym (c .before .before .before .before .before .before .fits2 .ensures) ∙ not-false
+    (c .before .before .before .before .before .before .fits2 .result) (c .before .before .before .before .before .if1 .left)) l)
     (ap (λ (x : ℕ). take x (c .before .before .before .before .members-of .result .servers)) k ∙ m .these)
 
 pub group-of-spec : {M : Type 1} → statement M

@@ -30,8 +30,14 @@ loop-holds c = let a = c .before .before .before .before .args in (omega arith, 
 group-of-requires : tie.Need-group-of-requires Inv-loop μ-loop
 group-of-requires c κs =
     let a = c .before .before .before .before .before .before .before .args in
-    let p = c .before .before .before .before .before .before .before .pre in
-    (p .0, p .1, omega (arith, c .before .before .before .servers .ensures .0), c .before .before .before .before .digest .ensures ∙ ap sha256 (part-of (a .kept .now) (candidatesAt + candidateSlot * a .i + stampSize) digestSize ∙ sym (nonce-in (shelf (a .t)) (a .kept .now) (a .i) (p .1))))
+    let p = c .before .before .before .before .before .before .before .pre in (
+      p .0,
+      p .1,
+      omega (arith, c .before .before .before .servers .ensures .0),
+      c .before .before .before .before .digest .ensures ∙ ap sha256
+          (part-of (a .kept .now) (candidatesAt + candidateSlot * a .i + stampSize) digestSize ∙ sym
+          (nonce-in (shelf (a .t)) (a .kept .now) (a .i) (p .1))),
+    )
 
 returns : tie.Need-returns Inv-loop μ-loop
 returns c =
@@ -39,22 +45,31 @@ returns c =
     let j = c .before .before .before .before .before .loop .b in
     let v = c .before .before .before .before .before .loop .inv in
     let g = c .before .before .group-of .ensures in
-    first-leads (a .t) (a .marks) (a .kept .now) (a .i) (c .before .before .before .before .before .loop .b) (c .before .before .group-of .result) (omega (arith, c .before .before .before .before .before .before .servers .ensures .0)) (v .1) g (c .if1 .taken)
+    first-leads (a .t) (a .marks) (a .kept .now) (a .i) (c .before .before .before .before .before .loop .b) (c .before .before .group-of .result)
+    (omega (arith, c .before .before .before .before .before .before .servers .ensures .0)) (v .1) g (c .if1 .taken)
 
 add-b : tie.Need-add-b Inv-loop μ-loop
-add-b c = omega (arith, c .before .before .before .before .before .before .servers .ensures .1, c .before .before .before .before .before .before .before .before .before .before .pre .0 .high)
+add-b c = omega (
+  arith,
+  c .before .before .before .before .before .before .servers .ensures .1,
+  c .before .before .before .before .before .before .before .before .before .before .pre .0 .high,
+)
 
 loop-again : tie.Need-loop-again Inv-loop μ-loop
 loop-again c =
     let a = c .before .before .before .before .before .before .before .before .before .before .args in
-    let g = c .before .before .group-of .ensures in
-    (omega arith, leader-more (a .t) (a .marks) (a .kept .now) (a .i) (c .before .before .before .before .before .loop .b) (c .before .before .before .before .before .loop .inv .1) ∙ sym (g .server) ∙ c .if1 .left)
+    let g = c .before .before .group-of .ensures in (
+      omega arith,
+      leader-more (a .t) (a .marks) (a .kept .now) (a .i) (c .before .before .before .before .before .loop .b)
+          (c .before .before .before .before .before .loop .inv .1) ∙ sym (g .server) ∙ c .if1 .left,
+    )
 
 returns-2 : tie.Need-returns-2 Inv-loop μ-loop
 returns-2 c =
     let a = c .before .before .before .before .before .before .before .args in
     let e : c .before .before .loop .b ≡ shelf (a .t) .servers = omega (arith, c .before .before .before .servers .ensures .0) in
-    no-group (a .t) (a .marks) (a .kept .now) (a .i) (leaderAt (a .t) (a .marks) (a .kept .now) (a .i) (shelf (a .t) .servers)) _ (c .no-group .ensures)
+    no-group (a .t) (a .marks) (a .kept .now) (a .i) (leaderAt (a .t) (a .marks) (a .kept .now) (a .i) (shelf (a .t) .servers)) _
+    (c .no-group .ensures)
     (sym (ap (leaderAt (a .t) (a .marks) (a .kept .now) (a .i)) e) ∙ c .before .before .loop .inv .1)
 
 pub leader-spec : {M : Type 1} → statement M

@@ -17,27 +17,33 @@ use Rattle.decide.proofs.leading.members_of.Tie as tie
 
 abbrev Inv-loop : tie.InvT-loop
 Inv-loop kept marks t i d b s k out₀ n₀ j₀ out n j =
-    (j ≤ s) × (n ≤ k) × (length out ≡ 13) × (n ≡ length (serversOf j (agreesAt t marks kept i b))) × (take n out ≡ serversOf j (agreesAt t marks kept i b))
+    (j ≤ s) × (n ≤ k) × (length out ≡ 13) × (n ≡ length (serversOf j (agreesAt t marks kept i b))) ×
+    (take n out ≡ serversOf j (agreesAt t marks kept i b))
 
 abbrev μ-loop : tie.MeasureT-loop
 μ-loop kept marks t i d b s k out₀ n₀ j₀ out n j = s - j
 
 -- as many as are needed, and all of them
 enough : (t : ℕ) (marks kept : List ℕ) (i b : ℕ) (r : Members) (j : ℕ) → j ≤ shelf t .servers → shelf t .shares ≡ r .count
-    → r .count ≡ length (serversOf j (agreesAt t marks kept i b)) → take (r .count) (r .servers) ≡ serversOf j (agreesAt t marks kept i b) → MembersAs t marks kept i b r
+    → r .count ≡ length (serversOf j (agreesAt t marks kept i b)) → take (r .count) (r .servers) ≡ serversOf j (agreesAt t marks kept i b) → MembersAs
+    t marks kept i b r
 unfolding membersAt
 enough t marks kept i b r j h k e f =
     let m : take (shelf t .shares) (serversOf (shelf t .servers) (agreesAt t marks kept i b)) ≡ serversOf j (agreesAt t marks kept i b) =
-    ap (λ (x : ℕ). take x (serversOf (shelf t .servers) (agreesAt t marks kept i b))) (k ∙ e) ∙ servers-first (agreesAt t marks kept i b) j (shelf t .servers) h in
+    ap (λ (x : ℕ). take x (serversOf (shelf t .servers) (agreesAt t marks kept i b))) (k ∙ e) ∙ servers-first (agreesAt t marks kept i b) j
+    (shelf t .servers) h in
     record { count = e ∙ sym (ap length m); these = f ∙ sym m }
 
 every : (t : ℕ) (marks kept : List ℕ) (i b : ℕ) (r : Members) (j : ℕ) → j ≡ shelf t .servers → r .count ≤ shelf t .shares
-    → r .count ≡ length (serversOf j (agreesAt t marks kept i b)) → take (r .count) (r .servers) ≡ serversOf j (agreesAt t marks kept i b) → MembersAs t marks kept i b r
+    → r .count ≡ length (serversOf j (agreesAt t marks kept i b)) → take (r .count) (r .servers) ≡ serversOf j (agreesAt t marks kept i b) → MembersAs
+    t marks kept i b r
 unfolding membersAt
 every t marks kept i b r j h k e f =
     let q = serversOf (shelf t .servers) (agreesAt t marks kept i b) in
-    let w : serversOf j (agreesAt t marks kept i b) ≡ serversOf (shelf t .servers) (agreesAt t marks kept i b) = ap (λ (x : ℕ). serversOf x (agreesAt t marks kept i b)) h in
-    let m : take (shelf t .shares) (serversOf (shelf t .servers) (agreesAt t marks kept i b)) ≡ serversOf (shelf t .servers) (agreesAt t marks kept i b) =
+    let w : serversOf j (agreesAt t marks kept i b) ≡ serversOf (shelf t .servers) (agreesAt t marks kept i b) = ap
+    (λ (x : ℕ). serversOf x (agreesAt t marks kept i b)) h in
+    let m : take (shelf t .shares) (serversOf (shelf t .servers) (agreesAt t marks kept i b)) ≡ serversOf (shelf t .servers)
+    (agreesAt t marks kept i b) =
     take-all (shelf t .shares) (serversOf (shelf t .servers) (agreesAt t marks kept i b)) (omega (arith, ap length w, e, k)) in
     record { count = e ∙ ap length w ∙ sym (ap length m); these = f ∙ w ∙ sym m }
 
@@ -55,22 +61,53 @@ returns : tie.Need-returns Inv-loop μ-loop
 returns c =
     let a = c .before .before .before .before .before .before .before .args in
     let v = c .before .before .loop .inv in
-    enough (a .t) (a .marks) (a .kept .now) (a .i) (a .b) (record { count = c .before .before .loop .n; servers = c .before .before .loop .out }) (c .before .before .loop .j)
-    (omega (arith, c .before .before .before .before .servers .ensures .0)) (omega (arith, c .before .before .before .shares .ensures .0, c .if1 .taken)) (v .3) (v .4)
+    enough (a .t) (a .marks) (a .kept .now) (a .i) (a .b) (record { count = c .before .before .loop .n; servers = c .before .before .loop .out })
+    (c .before .before .loop .j)
+    (omega (arith, c .before .before .before .before .servers .ensures .0)) (omega (
+      arith,
+      c .before .before .before .shares .ensures .0,
+      c .if1 .taken,
+    )) (v .3) (v .4)
 
 array-write-out : tie.Need-array-write-out Inv-loop μ-loop
-array-write-out c = let v = c .before .before .loop .inv in omega (arith, v .1, v .2, c .before .before .before .shares .ensures .1, c .before .before .before .before .before .before .before .pre .0 .high)
+array-write-out c = let v = c .before .before .loop .inv in omega (
+  arith,
+  v .1,
+  v .2,
+  c .before .before .before .shares .ensures .1,
+  c .before .before .before .before .before .before .before .pre .0 .high,
+)
 
 agrees-requires : tie.Need-agrees-requires Inv-loop μ-loop
-agrees-requires c κs = let p = c .before .before .before .before .before .before .before .pre in (p .0, p .1, p .2, omega (arith, c .before .before .before .before .servers .ensures .0), p .3, p .4)
+agrees-requires c κs = let p = c .before .before .before .before .before .before .before .pre in (
+  p .0,
+  p .1,
+  p .2,
+  omega
+      (arith, c .before .before .before .before .servers .ensures .0),
+  p .3,
+  p .4,
+)
 
 add-n : tie.Need-add-n Inv-loop μ-loop
 add-n c =
     let a = c .before .before .before .before .before .before .before .before .args in
-    omega (arith, c .before .before .before .loop .inv .1, c .agrees .ensures, bit-le (agreesAt (a .t) (a .marks) (a .kept .now) (a .i) (a .b) (suc (c .before .before .before .loop .j))), c .before .before .before .before .shares .ensures .1, c .before .before .before .before .before .before .before .before .pre .0 .high)
+    omega (
+      arith,
+      c .before .before .before .loop .inv .1,
+      c .agrees .ensures,
+      bit-le
+          (agreesAt (a .t) (a .marks) (a .kept .now) (a .i) (a .b) (suc (c .before .before .before .loop .j))),
+      c .before .before .before .before .shares .ensures .1,
+      c .before .before .before .before .before .before .before .before .pre .0 .high,
+    )
 
 add-j : tie.Need-add-j Inv-loop μ-loop
-add-j c = omega (arith, c .before .before .before .before .before .servers .ensures .1, c .before .before .before .before .before .before .before .before .pre .0 .high)
+add-j c = omega (
+  arith,
+  c .before .before .before .before .before .servers .ensures .1,
+  c .before .before .before .before .before .before .before .before .pre .0 .high,
+)
 
 loop-again : tie.Need-loop-again Inv-loop μ-loop
 loop-again c =
@@ -78,7 +115,8 @@ loop-again c =
     let v = c .before .before .before .loop .inv in
     let p = agreesAt (a .t) (a .marks) (a .kept .now) (a .i) (a .b) in
     let k = c .before .before .before .before .shares .ensures .1 in
-    let w = servers-step p (c .before .before .before .loop .j) (c .before .before .before .loop .n) (c .before .before .before .loop .out) (v .3) (v .4) (omega (arith, v .1, v .2, k, c .before .before .before .before .before .before .before .before .pre .0 .high)) in (
+    let w = servers-step p (c .before .before .before .loop .j) (c .before .before .before .loop .n) (c .before .before .before .loop .out) (v .3)
+    (v .4) (omega (arith, v .1, v .2, k, c .before .before .before .before .before .before .before .before .pre .0 .high)) in (
       omega arith,
       omega (arith, v .1, c .before .if1 .left, c .agrees .ensures, bit-le (p (suc (c .before .before .before .loop .j)))),
       length-set (c .before .before .before .loop .out) (c .before .before .before .loop .n) (c .before .before .before .loop .j + 1) ∙ v .2,

@@ -19,19 +19,24 @@ returns c =
     let a = c .before .before .before .before .args in
     let n = leaderAt (a .t) (a .marks) (a .kept .now) (a .i) (shelf (a .t) .servers) in
     no-group (a .t) (a .marks) (a .kept .now) (a .i) (cond (triedAt (a .t) (a .kept .now) (a .key) (a .i)) n 0) _ (c .no-group .ensures)
-    (rw (other-rank (a .t) (a .kept .now) (a .key) (a .i) (λ e. c .before .if1 .taken (c .before .before .rank-at .ensures ∙ sym (candidate-rank (shelf (a .t)) (a .kept .now) (a .i) (c .before .before .before .before .pre .1)) ∙ e))))
+    (rw (other-rank (a .t) (a .kept .now) (a .key) (a .i) (λ e. c .before .if1 .taken
+    (c .before .before .rank-at .ensures ∙ sym (candidate-rank (shelf (a .t)) (a .kept .now) (a .i) (c .before .before .before .before .pre .1)) ∙
+    e))))
 
 returns-2 : tie.Need-returns-2
 returns-2 c =
     let a = c .before .before .before .before .before .before .args in
     let n = leaderAt (a .t) (a .marks) (a .kept .now) (a .i) (shelf (a .t) .servers) in
     no-group (a .t) (a .marks) (a .kept .now) (a .i) (cond (triedAt (a .t) (a .kept .now) (a .key) (a .i)) n 0) _ (c .no-group2 .ensures)
-    (rw (not-listed (a .t) (a .kept .now) (a .key) (a .i) (bit-some (enters (candidatesIn (shelf (a .t)) (a .kept .now)) (suc (a .i))) (sym (c .before .before .entry .ensures) ∙ c .before .if2 .taken))))
+    (rw (not-listed (a .t) (a .kept .now) (a .key) (a .i) (bit-some (enters (candidatesIn (shelf (a .t)) (a .kept .now)) (suc (a .i)))
+    (sym (c .before .before .entry .ensures) ∙ c .before .if2 .taken))))
 
 returns-3 : tie.Need-returns-3
 returns-3 c =
     let a = c .before .before .before .before .before .before .args in
-    rw (is-tried (a .t) (a .kept .now) (a .key) (a .i) (candidate-rank (shelf (a .t)) (a .kept .now) (a .i) (c .before .before .before .before .before .before .pre .1) ∙ sym (c .before .before .before .before .rank-at .ensures) ∙ c .before .before .before .if1 .left)
+    rw (is-tried (a .t) (a .kept .now) (a .key) (a .i) (candidate-rank (shelf (a .t)) (a .kept .now) (a .i)
+    (c .before .before .before .before .before .before .pre .1) ∙ sym (c .before .before .before .before .rank-at .ensures) ∙
+    c .before .before .before .if1 .left)
     (bit-here (enters (candidatesIn (shelf (a .t)) (a .kept .now)) (suc (a .i))) (λ e. c .before .if2 .left (c .before .before .entry .ensures ∙ e))))
     (c .leader .ensures)
 

@@ -30,7 +30,8 @@ abbrev μ-loop : tie.MeasureT-loop
 stamp : (t : ℕ) (kept : List ℕ) (i r : ℕ) → Bytes kept → i < 13 → r ≡ rankAt kept (candidatesAt + candidateSlot * i) → blankRank < r
     → isBlank (candidatesIn (shelf t) kept (suc i) .stamp) ≡ false
 stamp t kept i r b h e l =
-    high-rank (candidatesIn (shelf t) kept (suc i) .stamp) (candidate-writer (shelf t) kept b (suc i)) (omega (arith, candidate-rank (shelf t) kept i h))
+    high-rank (candidatesIn (shelf t) kept (suc i) .stamp) (candidate-writer (shelf t) kept b (suc i))
+    (omega (arith, candidate-rank (shelf t) kept i h))
 
 one-more : (p : ℕ → Bool) (j : ℕ) → ((k : ℕ) → k < j → p k ≡ false) → p j ≡ false → (k : ℕ) → k < j + 1 → p k ≡ false
 one-more p j h e k l = go (eqb k j) refl
@@ -56,14 +57,16 @@ returns-2 c =
     let a = z .before .before .args in
     let p = z .before .before .pre in
     rw (enters-twin (candidatesIn (shelf (a .t)) (a .kept .now)) (a .i) (c .before .before .before .loop .j)
-    (stamp (a .t) (a .kept .now) (a .i) (z .rank-at .result) (λ k. z .before .shared-slice-known .given k .fits) (p .1) (z .rank-at .ensures) (omega arith))
+    (stamp (a .t) (a .kept .now) (a .i) (z .rank-at .result) (λ k. z .before .shared-slice-known .given k .fits) (p .1) (z .rank-at .ensures)
+    (omega arith))
     (omega arith) (sym (c .before .twins .ensures) ∙ c .if2 .taken))
 
 loop-again : tie.Need-loop-again Inv-loop μ-loop
 loop-again c =
     let a = c .before .before .before .before .before .before .before .args in (
       search needs,
-      one-more (λ (k : ℕ). sameCandidate (candidatesIn (shelf (a .t)) (a .kept .now) (suc (a .i))) (candidatesIn (shelf (a .t)) (a .kept .now) (suc k)))
+      one-more (λ (k : ℕ). sameCandidate (candidatesIn (shelf (a .t)) (a .kept .now) (suc (a .i)))
+          (candidatesIn (shelf (a .t)) (a .kept .now) (suc k)))
           (c .before .before .before .loop .j) (c .before .before .before .loop .inv .1) (sym (c .before .twins .ensures) ∙ c .if2 .left),
     )
 
@@ -74,7 +77,8 @@ returns-3 c =
     let p = z .before .before .pre in
     let e : c .before .loop .j ≡ a .i = omega arith in
     rw (enters-new (candidatesIn (shelf (a .t)) (a .kept .now)) (a .i)
-    (stamp (a .t) (a .kept .now) (a .i) (z .rank-at .result) (λ k. z .before .shared-slice-known .given k .fits) (p .1) (z .rank-at .ensures) (omega arith))
+    (stamp (a .t) (a .kept .now) (a .i) (z .rank-at .result) (λ k. z .before .shared-slice-known .given k .fits) (p .1) (z .rank-at .ensures)
+    (omega arith))
     (λ j l. c .before .loop .inv .1 j (omega arith)))
 
 pub entry-spec : {M : Type 1} → statement M

@@ -12,19 +12,40 @@ returns : tie.Need-returns
 unfolding raised
 returns c =
     let a = c .before .before .before .args in
-    rw (candidate-rank (shelf (a .t)) (a .kept .now) (a .i) (c .before .before .before .pre .1), ← c .before .rank-at .ensures, le-ltb (a .top) (c .before .rank-at .result) (omega arith))
+    rw (
+      candidate-rank (shelf (a .t)) (a .kept .now) (a .i) (c .before .before .before .pre .1),
+      ← c .before .rank-at .ensures,
+      le-ltb (a .top)
+          (c .before .rank-at .result) (omega arith),
+    )
 
 returns-2 : tie.Need-returns-2
 unfolding raised
 returns-2 c =
     let a = c .before .before .before .before .before .args in
-    rw (candidate-rank (shelf (a .t)) (a .kept .now) (a .i) (c .before .before .before .before .before .pre .1), ← c .before .before .before .rank-at .ensures, lt-ltb (a .top) (c .before .before .before .rank-at .result) (omega arith), ← c .before .stays .ensures, c .if2 .taken)
+    rw (
+      candidate-rank (shelf (a .t)) (a .kept .now) (a .i) (c .before .before .before .before .before .pre .1),
+      ←
+          c .before .before .before .rank-at .ensures,
+      lt-ltb (a .top) (c .before .before .before .rank-at .result) (omega arith),
+      ←
+          c .before .stays .ensures,
+      c .if2 .taken,
+    )
 
 returns-3 : tie.Need-returns-3
 unfolding raised
 returns-3 c =
     let a = c .before .before .before .before .before .args in
-    rw (candidate-rank (shelf (a .t)) (a .kept .now) (a .i) (c .before .before .before .before .before .pre .1), ← c .before .before .before .rank-at .ensures, lt-ltb (a .top) (c .before .before .before .rank-at .result) (omega arith), ← c .before .stays .ensures, c .if2 .left)
+    rw (
+      candidate-rank (shelf (a .t)) (a .kept .now) (a .i) (c .before .before .before .before .before .pre .1),
+      ←
+          c .before .before .before .rank-at .ensures,
+      lt-ltb (a .top) (c .before .before .before .rank-at .result) (omega arith),
+      ←
+          c .before .stays .ensures,
+      c .if2 .left,
+    )
 
 pub raised-spec : {M : Type 1} → statement M
 raised-spec = tie.close (tie.spec (λ c. search needs) (λ c. search needs) (λ c κs. search needs) returns (λ c κs. search needs) returns-2 returns-3)

@@ -32,13 +32,24 @@ array-read-is-lower : tie.Need-array-read-is-lower Inv-loop μ-loop
 array-read-is-lower c = omega (arith, c .before .before .servers .ensures .1, c .before .before .before .before .pre .high)
 
 is-lower-requires : tie.Need-is-lower-requires Inv-loop μ-loop
-is-lower-requires c κs = (c .before .before .before .before .pre .size, omega (arith, c .before .before .servers .ensures .1, c .before .before .before .before .pre .high))
+is-lower-requires c κs = (
+  c .before .before .before .before .pre .size,
+  omega (
+    arith,
+    c .before .before .servers .ensures .1,
+    c .before .before .before .before .pre .high,
+  ),
+)
 
 add-n : tie.Need-add-n Inv-loop μ-loop
 add-n c =
     let a = c .before .before .before .before .before .args in
     let p = ranksBelow (marked (a .t2)) (repliesIn (shelf (a .t)) (a .t2) (a .kept .now)) (a .key) in
-    let j : c .before .before .loop .j < 13 = omega (arith, c .before .before .before .servers .ensures .1, c .before .before .before .before .before .pre .high) in
+    let j : c .before .before .loop .j < 13 = omega (
+      arith,
+      c .before .before .before .servers .ensures .1,
+      c .before .before .before .before .before .pre .high,
+    ) in
     omega (
       arith,
       c .before .before .loop .inv .1,
@@ -46,7 +57,8 @@ add-n c =
       c .is-lower .ensures,
       c .before .before .before .before .before .pre .high,
       c .before .before .before .servers .ensures .1,
-      bit-le (not (eqb (getD (a .t2) (c .before .before .loop .j) 0) 0) && ltb (rankAt (a .kept .now) (repliesAt + replySlot * c .before .before .loop .j)) (a .key)),
+      bit-le (not (eqb (getD (a .t2) (c .before .before .loop .j) 0) 0) && ltb (rankAt (a .kept .now)
+          (repliesAt + replySlot * c .before .before .loop .j)) (a .key)),
     )
 
 add-j : tie.Need-add-j Inv-loop μ-loop
@@ -56,8 +68,13 @@ loop-again : tie.Need-loop-again Inv-loop μ-loop
 loop-again c =
     let a = c .before .before .before .before .before .args in
     let p = ranksBelow (marked (a .t2)) (repliesIn (shelf (a .t)) (a .t2) (a .kept .now)) (a .key) in
-    let j : c .before .before .loop .j < 13 = omega (arith, c .before .before .before .servers .ensures .1, c .before .before .before .before .before .pre .high) in
-    let e : c .is-lower .result ≡ bit (p (suc (c .before .before .loop .j))) = c .is-lower .ensures ∙ ap bit (sym (below-slot (shelf (a .t)) (a .kept .now) (a .t2) (a .key) (c .before .before .loop .j) j)) in
+    let j : c .before .before .loop .j < 13 = omega (
+      arith,
+      c .before .before .before .servers .ensures .1,
+      c .before .before .before .before .before .pre .high,
+    ) in
+    let e : c .is-lower .result ≡ bit (p (suc (c .before .before .loop .j))) = c .is-lower .ensures ∙ ap bit
+    (sym (below-slot (shelf (a .t)) (a .kept .now) (a .t2) (a .key) (c .before .before .loop .j) j)) in
     (omega arith, omega (arith, c .before .before .loop .inv .1, count-more (c .before .before .loop .j) p, e))
 
 sub-result : tie.Need-sub-result Inv-loop μ-loop
@@ -71,7 +88,8 @@ returns c =
     let e : c .before .loop .j ≡ shelf (a .t) .servers = omega (arith, c .before .before .servers .ensures .0) in
     let n : c .before .loop .n ≡ countTo (shelf (a .t) .servers) p = c .before .loop .inv .1 ∙ ap (λ (k : ℕ). countTo k p) e in
     ap (λ (x : ℕ). ltb x (c .before .before .servers .result - a .t)) n
-    ∙ ap (λ (x : ℕ). ltb (countTo (shelf (a .t) .servers) p) x) (quorum-of (a .t) (c .before .before .servers .result) (c .before .before .servers .ensures .1))
+    ∙ ap (λ (x : ℕ). ltb (countTo (shelf (a .t) .servers) p) x) (quorum-of (a .t) (c .before .before .servers .result)
+    (c .before .before .servers .ensures .1))
 
 pub stays-spec : {M : Type 1} → statement M
 stays-spec = tie.close (tie.spec Inv-loop μ-loop (λ c κs. search needs) loop-holds array-read-is-lower is-lower-requires add-n add-j

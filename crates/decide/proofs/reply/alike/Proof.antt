@@ -18,10 +18,16 @@ returns : tie.Need-returns
 returns c =
     let a = c .before .before .before .before .before .args in
     let p = c .before .before .before .before .before .pre in
-    sym (alike-not (shelf (a .t)) (a .a .now) (a .b .now) (p .4) (p .5) (λ e. c .if1 .taken (c .before .size-of2 .ensures ∙ e ∙ sym (c .before .before .size-of .ensures))))
+    sym (alike-not (shelf (a .t)) (a .a .now) (a .b .now) (p .4) (p .5) (λ e. c .if1 .taken
+    (c .before .size-of2 .ensures ∙ e ∙ sym (c .before .before .size-of .ensures))))
 
 digests-at-requires : tie.Need-digests-at-requires
-digests-at-requires c κs = let p = c .before .before .before .before .before .pre in (p .0, p .1, omega (arith, c .before .before .size-of .ensures, p .4 .top))
+digests-at-requires c κs = let p = c .before .before .before .before .before .pre in (
+  p .0,
+  p .1,
+  omega
+      (arith, c .before .before .size-of .ensures, p .4 .top),
+)
 
 servers-requires : tie.Need-servers-requires
 servers-requires c κs = c .before .before .before .before .before .before .pre .1
@@ -49,10 +55,14 @@ returns-2 c =
     let m : ℕ = c .before .before .before .before .servers .result in
     let o : ℕ = c .before .before .before .servers2 .result in
     let e : at ≡ digestsIn (shelf (a .t)) (a .a .now) = omega (arith, r .place, z) in
-    let l : at + 32 * m + 32 + 32 * o - at ≡ digestsSize (shelf (a .t)) + digestSize + tagsSize (shelf (a .t)) = omega (arith, c .before .before .before .before .servers .ensures .0, c .before .before .before .servers2 .ensures .0) in
+    let l : at + 32 * m + 32 + 32 * o - at ≡ digestsSize (shelf (a .t)) + digestSize + tagsSize (shelf (a .t)) = omega
+    (arith, c .before .before .before .before .servers .ensures .0, c .before .before .before .servers2 .ensures .0) in
     c .same .ensures
-    ∙ cuts (a .a .now) (a .b .now) at (digestsIn (shelf (a .t)) (a .a .now)) (at + 32 * m + 32 + 32 * o - at) (digestsSize (shelf (a .t)) + digestSize + tagsSize (shelf (a .t))) e l
-    ∙ sym (alike-in (shelf (a .t)) (a .a .now) (a .b .now) (p .4) (p .5) (sym (c .before .before .before .before .before .before .before .size-of2 .ensures) ∙ c .before .before .before .before .before .before .if1 .left ∙ c .before .before .before .before .before .before .before .before .size-of .ensures)
+    ∙ cuts (a .a .now) (a .b .now) at (digestsIn (shelf (a .t)) (a .a .now)) (at + 32 * m + 32 + 32 * o - at)
+    (digestsSize (shelf (a .t)) + digestSize + tagsSize (shelf (a .t))) e l
+    ∙ sym (alike-in (shelf (a .t)) (a .a .now) (a .b .now) (p .4) (p .5)
+    (sym (c .before .before .before .before .before .before .before .size-of2 .ensures) ∙ c .before .before .before .before .before .before .if1 .left
+    ∙ c .before .before .before .before .before .before .before .before .size-of .ensures)
     (omega (arith, r .room, e, p .2)) (omega (arith, r .room, e, p .3)))
   where
     cuts : (a b : List ℕ) (x y n m : ℕ) → x ≡ y → n ≡ m → sameList (take n (drop x a)) (take n (drop x b)) ≡ sameList (part a y m) (part b y m)

@@ -20,7 +20,8 @@ digests-at-requires c κs = let p = c .before .before .pre in (p .0, p .1, omega
 
 -- the digest of server j + 1's fragment ends within the reply
 fine : (c : tie.After-digests-at)
-    → (stampSize + 3 ≤ c .digests-at .result) × (c .digests-at .result + digestSize * c .before .before .before .args .j + digestSize ≤ length (c .before .before .before .args .reply .now))
+    → (stampSize + 3 ≤ c .digests-at .result) × (c .digests-at .result + digestSize * c .before .before .before .args .j + digestSize ≤ length
+    (c .before .before .before .args .reply .now))
 fine c =
     let r = c .digests-at .ensures in
     let p = c .before .before .before .pre in
@@ -33,11 +34,14 @@ returns c =
     let n : ℕ = c .before .before .before .before .before .before .size-of .result in
     let F : ℕ = fragmentSize (shelf (a .t) .shares) (sizeIn (a .reply .now)) in
     let z = ap (fragmentSize (shelf (a .t) .shares)) (c .before .before .before .before .before .before .size-of .ensures) in
-    let e : c .before .before .before .before .before .digests-at .result ≡ digestsIn (shelf (a .t)) (a .reply .now) = omega (arith, c .before .before .before .before .before .digests-at .ensures .place, z) in
+    let e : c .before .before .before .before .before .digests-at .result ≡ digestsIn (shelf (a .t)) (a .reply .now) = omega
+    (arith, c .before .before .before .before .before .digests-at .ensures .place, z) in
     let l : c .before .before .before .before .before .digests-at .result - (stampSize + 3) ≡ F = omega (arith, e) in
     let at : ℕ = c .before .before .before .before .before .digests-at .result + 32 * a .j in
     c .same .ensures
-    ∙ ap (λ (x : List ℕ). sameList x (take (at + 32 - at) (drop at (a .reply .now)))) (c .before .before .before .digest .ensures ∙ ap sha256 (cut (a .reply .now) (stampSize + 3) (c .before .before .before .before .before .digests-at .result - (stampSize + 3)) F l))
+    ∙ ap (λ (x : List ℕ). sameList x (take (at + 32 - at) (drop at (a .reply .now))))
+    (c .before .before .before .digest .ensures ∙ ap sha256 (cut (a .reply .now) (stampSize + 3)
+    (c .before .before .before .before .before .digests-at .result - (stampSize + 3)) F l))
     ∙ ap (sameList (sha256 (part (a .reply .now) (stampSize + 3) F)))
     (part-of (a .reply .now) at digestSize ∙ ap (λ (k : ℕ). part (a .reply .now) (k + 32 * a .j) digestSize) e)
     ∙ sym (intact-in (shelf (a .t)) (a .reply .now) (p .3) (a .j) (p .4))

@@ -21,48 +21,83 @@ use Rattle.decide.proofs.reply.names.Tie as tie
 returns : tie.Need-returns
 returns c =
     let a = c .before .before .before .before .before .args in
-    sym (names-none (shelf (a .t)) (a .reply .now) (candidateAt (shelf (a .t)) (a .candidate .now)) (a .d .now) (eq-eqb (getD (a .reply .now) stampSize 0) 0 (c .if1 .taken)))
+    sym (names-none (shelf (a .t)) (a .reply .now) (candidateAt (shelf (a .t)) (a .candidate .now)) (a .d .now)
+    (eq-eqb (getD (a .reply .now) stampSize 0) 0 (c .if1 .taken)))
 
 returns-2 : tie.Need-returns-2
 returns-2 c =
     let a = c .before .before .before .before .before .before .before .args in
-    sym (names-short (shelf (a .t)) (a .reply .now) (a .candidate .now) (a .d .now) (ne-eqb (getD (a .reply .now) stampSize 0) 0 (c .before .before .if1 .left)) (omega (arith, c .before .size-of .ensures)))
+    sym (names-short (shelf (a .t)) (a .reply .now) (a .candidate .now) (a .d .now)
+    (ne-eqb (getD (a .reply .now) stampSize 0) 0 (c .before .before .if1 .left)) (omega (arith, c .before .size-of .ensures)))
 
 returns-3 : tie.Need-returns-3
 returns-3 c =
     let a = c .before .before .before .before .before .before .before .before .args in
-    sym (names-long (shelf (a .t)) (a .reply .now) (a .candidate .now) (a .d .now) (ne-eqb (getD (a .reply .now) stampSize 0) 0 (c .before .before .before .if1 .left)) (omega (arith, c .before .before .size-of .ensures)))
+    sym (names-long (shelf (a .t)) (a .reply .now) (a .candidate .now) (a .d .now) (ne-eqb (getD (a .reply .now) stampSize 0) 0
+    (c .before .before .before .if1 .left)) (omega (arith, c .before .before .size-of .ensures)))
 
 returns-4 : tie.Need-returns-4
 returns-4 c =
     let a = c .before .before .before .before .before .before .before .before .before .before .before .before .args in
     let p = c .before .before .before .before .before .before .before .before .before .before .before .before .pre in
-    sym (names-other (shelf (a .t)) (a .reply .now) (a .candidate .now) (a .d .now) (ne-eqb (getD (a .reply .now) stampSize 0) 0 (c .before .before .before .before .before .before .before .if1 .left))
-    (sym (same-heads (a .reply .now) (a .candidate .now) (λ k. c .before .before .before .before .before .before .before .before .before .before .before .shared-slice-known .given k .fits) (λ k. c .before .before .before .before .before .before .before .before .before .before .shared-slice-known2 .given k .fits) (omega (arith, p .2)) (omega (arith, p .3)))
+    sym (names-other (shelf (a .t)) (a .reply .now) (a .candidate .now) (a .d .now)
+    (ne-eqb (getD (a .reply .now) stampSize 0) 0 (c .before .before .before .before .before .before .before .if1 .left))
+    (sym (same-heads (a .reply .now) (a .candidate .now)
+    (λ k. c .before .before .before .before .before .before .before .before .before .before .before .shared-slice-known .given k .fits)
+    (λ k. c .before .before .before .before .before .before .before .before .before .before .shared-slice-known2 .given k .fits) (omega (arith, p .2))
+    (omega (arith, p .3)))
     ∙ sym (c .before .same .ensures) ∙ not-true (c .before .same .result) (c .if4 .taken)))
 
 digests-at-requires : tie.Need-digests-at-requires
-digests-at-requires c κs = let p = c .before .before .before .before .before .before .before .before .before .before .before .before .pre in (p .0, p .1, omega arith)
+digests-at-requires c κs = let p = c .before .before .before .before .before .before .before .before .before .before .before .before .pre in (
+  p .0,
+  p .1,
+  omega arith,
+)
 
 servers-requires : tie.Need-servers-requires
 servers-requires c κs = c .before .before .before .before .before .before .before .before .before .before .before .before .before .pre .1
 
 part-same-end-3 : tie.Need-part-same-end-3
-part-same-end-3 c = let r = c .before .digests-at .ensures .room in omega (arith, r, c .servers .ensures .0, c .before .before .before .before .before .before .before .before .before .before .before .before .before .before .pre .2)
+part-same-end-3 c = let r = c .before .digests-at .ensures .room in omega (
+  arith,
+  r,
+  c .servers .ensures .0,
+  c .before .before .before .before .before .before .before .before .before .before .before .before .before .before .pre .2,
+)
 
 returns-5 : tie.Need-returns-5
 returns-5 c =
     let a = c .before .before .before .before .before .before .before .before .before .before .before .before .before .before .before .before .args in
     let p = c .before .before .before .before .before .before .before .before .before .before .before .before .before .before .before .before .pre in
     let f : Full (a .reply .now) =
-    record { flag = ne-eqb (getD (a .reply .now) stampSize 0) 0 (c .before .before .before .before .before .before .before .before .before .before .before .if1 .left); least = omega (arith, c .before .before .before .before .before .before .before .before .before .before .size-of .ensures); top = omega (arith, c .before .before .before .before .before .before .before .before .before .before .size-of .ensures) } in
+    record {
+      flag = ne-eqb (getD (a .reply .now) stampSize 0) 0
+          (c .before .before .before .before .before .before .before .before .before .before .before .if1 .left);
+      least = omega
+          (arith, c .before .before .before .before .before .before .before .before .before .before .size-of .ensures);
+      top = omega
+          (arith, c .before .before .before .before .before .before .before .before .before .before .size-of .ensures);
+    } in
     let q : sameStamp (stampAt (a .reply .now)) (stampAt (a .candidate .now)) ≡ true =
-    sym (same-heads (a .reply .now) (a .candidate .now) (λ k. c .before .before .before .before .before .before .before .before .before .before .before .before .before .before .before .shared-slice-known .given k .fits) (λ k. c .before .before .before .before .before .before .before .before .before .before .before .before .before .before .shared-slice-known2 .given k .fits) (omega (arith, p .2)) (omega (arith, p .3)))
-    ∙ sym (c .before .before .before .before .before .same .ensures) ∙ not-false (c .before .before .before .before .before .same .result) (c .before .before .before .before .if4 .left) in
+    sym (same-heads (a .reply .now) (a .candidate .now)
+    (λ k. c .before .before .before .before .before .before .before .before .before .before .before .before .before .before .before
+    .shared-slice-known .given k .fits)
+    (λ k. c .before .before .before .before .before .before .before .before .before .before .before .before .before .before .shared-slice-known2
+    .given k .fits) (omega (arith, p .2)) (omega (arith, p .3)))
+    ∙ sym (c .before .before .before .before .before .same .ensures) ∙ not-false (c .before .before .before .before .before .same .result)
+    (c .before .before .before .before .if4 .left) in
     let at : ℕ = c .before .before .before .digests-at .result + 32 * c .before .before .servers .result in
     let e : at ≡ digestsIn (shelf (a .t)) (a .reply .now) + digestsSize (shelf (a .t)) =
-    omega (arith, c .before .before .before .digests-at .ensures .place, c .before .before .servers .ensures .0, ap (fragmentSize (shelf (a .t) .shares)) (c .before .before .before .before .before .before .before .before .before .before .size-of .ensures)) in
-    c .same2 .ensures ∙ ap (λ (z : List ℕ). sameList z (a .d .now)) (part-of (a .reply .now) at digestSize ∙ ap (λ (k : ℕ). part (a .reply .now) k digestSize) e)
+    omega (
+      arith,
+      c .before .before .before .digests-at .ensures .place,
+      c .before .before .servers .ensures .0,
+      ap
+          (fragmentSize (shelf (a .t) .shares)) (c .before .before .before .before .before .before .before .before .before .before .size-of .ensures),
+    ) in
+    c .same2 .ensures ∙ ap (λ (z : List ℕ). sameList z (a .d .now)) (part-of (a .reply .now) at digestSize ∙ ap
+    (λ (k : ℕ). part (a .reply .now) k digestSize) e)
     ∙ sym (names-last (shelf (a .t)) (a .reply .now) (a .candidate .now) (a .d .now) f q)
 
 pub names-spec : {M : Type 1} → statement M

@@ -18,7 +18,8 @@ names-requires c κs =
       p .0 .low,
       p .0 .high,
       lent-length (a .kept .now) (a .j) (p .0 .size) (p .2),
-      ap length (part-of (a .kept .now) (candidatesAt + candidateSlot * a .i) candidateSlot) ∙ part-length (a .kept .now) (candidatesAt + candidateSlot * a .i) candidateSlot (omega (arith, p .0 .size)),
+      ap length (part-of (a .kept .now) (candidatesAt + candidateSlot * a .i) candidateSlot) ∙ part-length (a .kept .now)
+          (candidatesAt + candidateSlot * a .i) candidateSlot (omega (arith, p .0 .size)),
     )
 
 returns : tie.Need-returns

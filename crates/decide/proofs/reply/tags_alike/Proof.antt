@@ -27,26 +27,42 @@ size-of-requires c κs = let a = c .before .before .args in let p = c .before .b
 size : (t : ℕ) (kept : List ℕ) (j n : ℕ) → n ≡ sizeIn (lentSlot kept j) → n ≡ shareOf t kept (suc j) .size
 size t kept j n e = e ∙ ap sizeIn (slot-lent kept j) ∙ sym (share-size t kept j)
 
-both : (kept : List ℕ) (x y n m : ℕ) → n ≡ m → sameList (take (x + n - x) (drop x kept)) (take (y + n - y) (drop y kept)) ≡ sameList (part kept x m) (part kept y m)
+both : (kept : List ℕ) (x y n m : ℕ) → n ≡ m → sameList (take (x + n - x) (drop x kept)) (take (y + n - y) (drop y kept)) ≡ sameList (part kept x m)
+    (part kept y m)
 both kept x y n m e = rw (part-of kept x n, part-of kept y n, e)
 
 returns : tie.Need-returns
 unfolding sameTagsAt
 returns c =
     let a = c .before .before .before .before .args in
-    rw (lt-leb leastLength (shareOf (a .t) (a .kept .now) (suc (a .j)) .size) (omega (arith, c .if1 .taken, size (a .t) (a .kept .now) (a .j) (c .before .size-of .result) (c .before .size-of .ensures))))
+    rw (lt-leb leastLength (shareOf (a .t) (a .kept .now) (suc (a .j)) .size) (omega
+    (arith, c .if1 .taken, size (a .t) (a .kept .now) (a .j) (c .before .size-of .result) (c .before .size-of .ensures))))
 
 returns-2 : tie.Need-returns-2
 unfolding sameTagsAt
 returns-2 c =
     let a = c .before .before .before .before .before .args in
-    rw (lt-leb (shareOf (a .t) (a .kept .now) (suc (a .j)) .size) topLength (omega (arith, c .if2 .taken, size (a .t) (a .kept .now) (a .j) (c .before .before .size-of .result) (c .before .before .size-of .ensures))), and-false (leb leastLength (shareOf (a .t) (a .kept .now) (suc (a .j)) .size)))
+    rw (
+      lt-leb (shareOf (a .t) (a .kept .now) (suc (a .j)) .size) topLength (omega (
+        arith,
+        c .if2 .taken,
+        size (a .t) (a .kept .now) (a .j)
+            (c .before .before .size-of .result) (c .before .before .size-of .ensures),
+      )),
+      and-false
+          (leb leastLength (shareOf (a .t) (a .kept .now) (suc (a .j)) .size)),
+    )
 
 servers-requires : tie.Need-servers-requires
 servers-requires c κs = c .before .before .before .before .before .pre .0 .high
 
 digests-at-requires : tie.Need-digests-at-requires
-digests-at-requires c κs = let p = c .before .before .before .before .before .before .pre in (p .0 .low, p .0 .high, omega (arith, c .before .if2 .left))
+digests-at-requires c κs = let p = c .before .before .before .before .before .before .pre in (
+  p .0 .low,
+  p .0 .high,
+  omega
+      (arith, c .before .if2 .left),
+)
 
 -- the tags of both end within their slots
 fine : (c : tie.After-digests-at)
@@ -63,15 +79,25 @@ returns-3 c =
     let a = c .before .before .before .before .before .before .before .before .before .before .args in
     let p = c .before .before .before .before .before .before .before .before .before .before .pre in
     let n = c .before .before .before .before .before .before .before .size-of .result in
-    let z = size (a .t) (a .kept .now) (a .j) (c .before .before .before .before .before .before .before .size-of .result) (c .before .before .before .before .before .before .before .size-of .ensures) in
-    let at : ℕ = repliesAt + replySlot * a .j + c .before .before .before .digests-at .result + 32 * c .before .before .before .before .servers .result + 32 in
+    let z = size (a .t) (a .kept .now) (a .j) (c .before .before .before .before .before .before .before .size-of .result)
+    (c .before .before .before .before .before .before .before .size-of .ensures) in
+    let at : ℕ = repliesAt + replySlot * a .j + c .before .before .before .digests-at .result + 32 *
+    c .before .before .before .before .servers .result + 32 in
     let w : ℕ = 32 * c .before .before .before .before .servers .result in
     let e : w ≡ tagsSize (shelf (a .t)) = omega (arith, c .before .before .before .before .servers .ensures .0) in
-    rw (le-leb leastLength (shareOf (a .t) (a .kept .now) (suc (a .j)) .size) (omega (arith, c .before .before .before .before .before .before .if1 .left, z)), le-leb (shareOf (a .t) (a .kept .now) (suc (a .j)) .size) topLength (omega (arith, c .before .before .before .before .before .if2 .left, z)))
+    rw (
+      le-leb leastLength (shareOf (a .t) (a .kept .now) (suc (a .j)) .size) (omega
+          (arith, c .before .before .before .before .before .before .if1 .left, z)),
+      le-leb (shareOf (a .t) (a .kept .now) (suc (a .j)) .size) topLength
+          (omega (arith, c .before .before .before .before .before .if2 .left, z)),
+    )
     (c .same .ensures ∙ both (a .kept .now) at (candidatesAt + candidateSlot * a .i + (stampSize + nonceSize)) w (tagsSize (shelf (a .t))) e
     ∙ ap (λ (x : List ℕ). sameList x (part (a .kept .now) (candidatesAt + candidateSlot * a .i + (stampSize + nonceSize)) (tagsSize (shelf (a .t)))))
-    (sym (reply-tags (a .t) (a .kept .now) (a .j) (c .before .before .before .before .before .before .before .size-of .result) at z (omega (arith, c .before .before .before .digests-at .ensures .place, c .before .before .before .before .servers .ensures .0)) (omega (arith, c .before .before .before .digests-at .ensures .room, c .before .before .before .digests-at .ensures .place))))
-    ∙ ap (sameList (shareOf (a .t) (a .kept .now) (suc (a .j)) .tags)) (sym (candidate-tags (shelf (a .t)) (a .kept .now) (a .i) (p .1) (few (p .0)))))
+    (sym (reply-tags (a .t) (a .kept .now) (a .j) (c .before .before .before .before .before .before .before .size-of .result) at z
+    (omega (arith, c .before .before .before .digests-at .ensures .place, c .before .before .before .before .servers .ensures .0))
+    (omega (arith, c .before .before .before .digests-at .ensures .room, c .before .before .before .digests-at .ensures .place))))
+    ∙ ap (sameList (shareOf (a .t) (a .kept .now) (suc (a .j)) .tags)) (sym (candidate-tags (shelf (a .t)) (a .kept .now) (a .i) (p .1)
+    (few (p .0)))))
 
 pub tags-alike-spec : {M : Type 1} → statement M
 tags-alike-spec = tie.close (tie.spec (λ c. omega (arith, c .before .pre .0 .size)) (λ c. omega (arith, c .before .pre .0 .size))

@@ -8,7 +8,11 @@ use Rattle.decide.proofs.sizes.digests_at.Tie as tie
 
 add-result-2 : tie.Need-add-result-2
 unfolding shareSize
-add-result-2 c = let p = c .before .pre in omega (arith, shelf-fits (c .before .args .t) (p .0) (p .1) .room (c .before .args .n) (p .2), c .fragment-size .ensures)
+add-result-2 c = let p = c .before .pre in omega (
+  arith,
+  shelf-fits (c .before .args .t) (p .0) (p .1) .room (c .before .args .n) (p .2),
+  c .fragment-size .ensures,
+)
 
 returns : tie.Need-returns
 unfolding shareSize

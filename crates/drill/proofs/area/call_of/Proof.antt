@@ -10,7 +10,8 @@ use Rattle.drill.proofs.area.call_of.Tie as tie
 
 returns : tie.Need-returns
 unfolding callIn
-returns c = c .read .ensures ∙ ap callAt (c .before .part .ensures ∙ ap (λ (a : ℕ). part (c .before .before .before .before .args .work .now) a 29) (c .before .before .client-at .ensures .0))
+returns c = c .read .ensures ∙ ap callAt (c .before .part .ensures ∙ ap (λ (a : ℕ). part (c .before .before .before .before .args .work .now) a 29)
+    (c .before .before .client-at .ensures .0))
 
 pub call-of-spec : {M : Type 1} → statement M
 call-of-spec = tie.close (tie.spec (λ c κs. search needs) (λ c κs. search needs) (λ c κs. search needs) returns)

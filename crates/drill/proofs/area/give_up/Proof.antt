@@ -7,7 +7,8 @@ use Rattle.drill.proofs.area.give_up.Tie as tie
 returns : tie.Need-returns
 returns c =
     let a = c .before .before .before .before .before .before .before .before .args in
-    stops-as (a .work .now) (a .client) (a .t) (c .before .before .before .before .before .call-of .ensures) (c .before .before .before .before .give-up-in .ensures) (c .before .before .put-call .ensures .0) (c .before .before .put-call .ensures .1)
+    stops-as (a .work .now) (a .client) (a .t) (c .before .before .before .before .before .call-of .ensures)
+    (c .before .before .before .before .give-up-in .ensures) (c .before .before .put-call .ensures .0) (c .before .before .put-call .ensures .1)
 
 pub give-up-spec : {M : Type 1} → statement M
 give-up-spec = tie.close (tie.spec (λ c κs. search needs) (λ c κs. search needs) (λ c κs. search needs) (λ c. search needs) returns)

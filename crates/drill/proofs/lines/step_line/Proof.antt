@@ -7,16 +7,24 @@ use Rattle.drill.proofs.lines.step_line.Statement.{statement}
 use Rattle.drill.proofs.lines.step_line.Tie as tie
 
 returns : tie.Need-returns
-returns c = last-number (textAt (c .before .before .args .sheet .now) (c .before .before .args .at) (c .before .before .args .end)) (c .before .before .args .n) (c .if1 .taken)
+returns c = last-number (textAt (c .before .before .args .sheet .now) (c .before .before .args .at) (c .before .before .args .end))
+    (c .before .before .args .n) (c .if1 .taken)
 
 returns-2 : tie.Need-returns-2
-returns-2 c = no-step-text _ (c .before .before .before .before .before .args .n) (c .before .before .before .if1 .left) (read-broken _ (sym (c .before .before .text-at .ensures) ∙ c .enum-told .given .1))
+returns-2 c = no-step-text _ (c .before .before .before .before .before .args .n) (c .before .before .before .if1 .left)
+    (read-broken _ (sym (c .before .before .text-at .ensures) ∙ c .enum-told .given .1))
 
 returns-3 : tie.Need-returns-3
-returns-3 c = is-step-line _ (c .before .before .before .before .before .before .before .before .args .n) (c .before .before .before .before .before .before .if1 .left) _ (read-line _ _ (sym (c .before .before .before .before .before .text-at .ensures) ∙ c .before .before .before .l .given .1)) (sym (c .before .is-step .ensures) ∙ c .if2 .taken)
+returns-3 c = is-step-line _ (c .before .before .before .before .before .before .before .before .args .n)
+    (c .before .before .before .before .before .before .if1 .left) _ (read-line _ _
+    (sym (c .before .before .before .before .before .text-at .ensures) ∙ c .before .before .before .l .given .1))
+    (sym (c .before .is-step .ensures) ∙ c .if2 .taken)
 
 returns-4 : tie.Need-returns-4
-returns-4 c = no-step-line _ (c .before .before .before .before .before .before .before .before .args .n) (c .before .before .before .before .before .before .if1 .left) _ (read-line _ _ (sym (c .before .before .before .before .before .text-at .ensures) ∙ c .before .before .before .l .given .1)) (sym (c .before .is-step .ensures) ∙ c .if2 .left)
+returns-4 c = no-step-line _ (c .before .before .before .before .before .before .before .before .args .n)
+    (c .before .before .before .before .before .before .if1 .left) _ (read-line _ _
+    (sym (c .before .before .before .before .before .text-at .ensures) ∙ c .before .before .before .l .given .1))
+    (sym (c .before .is-step .ensures) ∙ c .if2 .left)
 
 pub step-line-spec : {M : Type 1} → statement M
 step-line-spec = tie.close (tie.spec returns (λ c κs. search needs) (λ c. search needs) (λ c. search needs) returns-2 (λ c κs. search needs) returns-3

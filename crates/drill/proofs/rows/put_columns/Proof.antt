@@ -17,16 +17,24 @@ loop-holds : tie.Need-loop-holds Inv-loop μ-loop
 loop-holds c = put-none (c .before .args .out .now) (c .before .args .at) (c .before .args .t3) (search needs) (c .before .pre)
 
 loop-again : tie.Need-loop-again Inv-loop μ-loop
-loop-again c = put-one-more (c .before .before .before .before .before .before .before .before .before .args .out .now) (c .before .before .before .before .before .before .before .before .before .args .at) (c .before .before .before .before .before .before .before .before .before .args .t3) (search needs) (c .before .before .before .before .before .before .before .before .before .pre) (c .before .before .before .before .before .before .before .loop .out) (c .before .before .before .before .before .before .before .loop .j) (c .before .before .before .before .before .before .before .loop .inv) (omega arith) (c .before .before .before .before .before .column-of .ensures) (c .before .before .put .ensures)
+loop-again c = put-one-more (c .before .before .before .before .before .before .before .before .before .args .out .now)
+    (c .before .before .before .before .before .before .before .before .before .args .at)
+    (c .before .before .before .before .before .before .before .before .before .args .t3) (search needs)
+    (c .before .before .before .before .before .before .before .before .before .pre)
+    (c .before .before .before .before .before .before .before .loop .out) (c .before .before .before .before .before .before .before .loop .j)
+    (c .before .before .before .before .before .before .before .loop .inv) (omega arith)
+    (c .before .before .before .before .before .column-of .ensures) (c .before .before .put .ensures)
 
 same-length : tie.Need-same-length Inv-loop μ-loop
-same-length c = same-size (c .before .before .before .args .out .now) (c .before .before .before .args .at) (c .before .before .before .args .t3) (search needs) (c .before .before .before .pre) (c .before .loop .out) (c .before .loop .j) (c .before .loop .inv)
+same-length c = same-size (c .before .before .before .args .out .now) (c .before .before .before .args .at) (c .before .before .before .args .t3)
+    (search needs) (c .before .before .before .pre) (c .before .loop .out) (c .before .loop .j) (c .before .loop .inv)
 
 returns : tie.Need-returns Inv-loop μ-loop
 returns c =
     let z = c .before .loop .inv .within in
     let e : c .before .loop .j ≡ 8 = omega arith in
-    put-all (c .before .before .before .args .out .now) (c .before .before .before .args .at) (c .before .before .before .args .t3) (search needs) (c .before .before .before .pre) (c .before .loop .out) (rw e at (c .before .loop .inv))
+    put-all (c .before .before .before .args .out .now) (c .before .before .before .args .at) (c .before .before .before .args .t3) (search needs)
+    (c .before .before .before .pre) (c .before .loop .out) (rw e at (c .before .loop .inv))
 
 pub put-columns-spec : {M : Type 1} → statement M
 put-columns-spec = tie.close (tie.spec Inv-loop μ-loop loop-holds (λ c. search needs) (λ c. search needs) (λ c κs. search needs) (λ c. search needs)

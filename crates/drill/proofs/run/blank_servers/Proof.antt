@@ -15,26 +15,39 @@ abbrev μ-loop : tie.MeasureT-loop
 μ-loop work₀ t n b₀ work b = n + 1 - b
 
 loop-holds : tie.Need-loop-holds Inv-loop μ-loop
-loop-holds c = ready-none (c .before .before .args .t) (c .before .before .args .work .now) (c .before .before .pre .1 .0) (c .before .before .pre .1 .1)
+loop-holds c = ready-none (c .before .before .args .t) (c .before .before .args .work .now) (c .before .before .pre .1 .0)
+    (c .before .before .pre .1 .1)
 
 blank-requires : tie.Need-blank-requires Inv-loop μ-loop
 blank-requires c κs =
-    let e = c .before .before .before .servers .ensures in
-    (few-servers (c .before .before .before .before .before .args .t) (c .before .before .loop .b) (c .before .before .before .before .before .pre .0 .1) (c .before .before .loop .inv .low, omega arith), c .before .before .loop .inv .size)
+    let e = c .before .before .before .servers .ensures in (
+      few-servers (c .before .before .before .before .before .args .t) (c .before .before .loop .b)
+          (c .before .before .before .before .before .pre .0 .1) (c .before .before .loop .inv .low, omega arith),
+      c .before .before .loop .inv .size,
+    )
 
 add-b : tie.Need-add-b Inv-loop μ-loop
-add-b c = let e = c .before .before .before .before .before .before .servers .ensures in let h = few-servers (c .before .before .before .before .before .before .before .before .args .t) (c .before .before .before .before .before .loop .b) (c .before .before .before .before .before .before .before .before .pre .0 .1) (c .before .before .before .before .before .loop .inv .low, omega arith) in omega arith
+add-b c = let e = c .before .before .before .before .before .before .servers .ensures in let h = few-servers
+    (c .before .before .before .before .before .before .before .before .args .t) (c .before .before .before .before .before .loop .b)
+    (c .before .before .before .before .before .before .before .before .pre .0 .1) (
+      c .before .before .before .before .before .loop .inv .low,
+      omega
+          arith,
+    ) in omega arith
 
 loop-again : tie.Need-loop-again Inv-loop μ-loop
 loop-again c =
     let e = c .before .before .before .before .before .before .servers .ensures in
-    ready-more (c .before .before .before .before .before .before .before .before .args .t) (c .before .before .before .before .before .loop .b) (c .before .before .before .before .before .loop .work) _ (c .before .before .before .before .before .before .before .before .pre .0) (omega arith) (c .before .before .before .before .before .loop .inv) (c .before .before .blank .ensures)
+    ready-more (c .before .before .before .before .before .before .before .before .args .t) (c .before .before .before .before .before .loop .b)
+    (c .before .before .before .before .before .loop .work) _ (c .before .before .before .before .before .before .before .before .pre .0)
+    (omega arith) (c .before .before .before .before .before .loop .inv) (c .before .before .blank .ensures)
 
 same-length : tie.Need-same-length Inv-loop μ-loop
 same-length c = c .before .loop .inv .size ∙ sym (c .before .before .before .before .pre .1 .0)
 
 returns : tie.Need-returns Inv-loop μ-loop
-returns c = let e = c .before .before .servers .ensures in ready-all (c .before .before .before .before .args .t) (c .before .loop .b) (c .before .loop .work) (omega arith) (c .before .loop .inv)
+returns c = let e = c .before .before .servers .ensures in ready-all (c .before .before .before .before .args .t) (c .before .loop .b)
+    (c .before .loop .work) (omega arith) (c .before .loop .inv)
 
 pub blank-servers-spec : {M : Type 1} → statement M
 blank-servers-spec = tie.close (tie.spec Inv-loop μ-loop (λ c. search needs) (λ c κs. search needs) loop-holds blank-requires add-b

@@ -17,58 +17,170 @@ abbrev μ-loop : tie.MeasureT-loop
 μ-loop sheet out₀ work₀ t from at₀ n₀ begun₀ done₀ out work at n begun done = length sheet - at
 
 loop-holds : tie.Need-loop-holds Inv-loop μ-loop
-loop-holds c = let a = c .before .before .before .args in going-none (a .t) (a .sheet .now) (a .out .now) (a .from) (a .work .now) (c .before .before .before .pre .0 .1) (c .before .before .before .pre .1 .0) (c .before .before .before .pre .1 .1)
+loop-holds c = let a = c .before .before .before .args in going-none (a .t) (a .sheet .now) (a .out .now) (a .from) (a .work .now)
+    (c .before .before .before .pre .0 .1) (c .before .before .before .pre .1 .0) (c .before .before .before .pre .1 .1)
 
 step-line-requires : tie.Need-step-line-requires Inv-loop μ-loop
 step-line-requires c κs = c .line-end .ensures .after
 
 put-last-requires : tie.Need-put-last-requires Inv-loop μ-loop
-put-last-requires c κs = row-room (c .before .before .before .before .before .before .before .before .before .before .args .t) (c .before .before .before .before .before .before .before .before .before .before .args .sheet .now) (c .before .before .before .before .before .before .before .before .before .before .args .out .now) (c .before .before .before .before .before .before .before .before .before .before .args .from) (c .before .before .before .before .before .before .loop .out) (c .before .before .before .before .before .before .loop .work) (c .before .before .before .before .before .before .loop .at) (c .before .before .before .before .before .before .loop .n) (c .before .before .before .before .before .before .loop .begun) (c .before .before .before .before .before .before .loop .done) (c .before .before .before .before .before .before .loop .inv) (c .before .before .before .before .line-end .result) (c .before .before .before .before .line-end .ensures)
+put-last-requires c κs = row-room (c .before .before .before .before .before .before .before .before .before .before .args .t)
+    (c .before .before .before .before .before .before .before .before .before .before .args .sheet .now)
+    (c .before .before .before .before .before .before .before .before .before .before .args .out .now)
+    (c .before .before .before .before .before .before .before .before .before .before .args .from)
+    (c .before .before .before .before .before .before .loop .out) (c .before .before .before .before .before .before .loop .work)
+    (c .before .before .before .before .before .before .loop .at) (c .before .before .before .before .before .before .loop .n)
+    (c .before .before .before .before .before .before .loop .begun) (c .before .before .before .before .before .before .loop .done)
+    (c .before .before .before .before .before .before .loop .inv) (c .before .before .before .before .line-end .result)
+    (c .before .before .before .before .line-end .ensures)
 
 add-result : tie.Need-add-result Inv-loop μ-loop
-add-result c = let h = row-room (c .before .before .before .before .before .before .before .before .before .before .before .before .before .args .t) (c .before .before .before .before .before .before .before .before .before .before .before .before .before .args .sheet .now) (c .before .before .before .before .before .before .before .before .before .before .before .before .before .args .out .now) (c .before .before .before .before .before .before .before .before .before .before .before .before .before .args .from) (c .before .before .before .before .before .before .before .before .before .loop .out) (c .before .before .before .before .before .before .before .before .before .loop .work) (c .before .before .before .before .before .before .before .before .before .loop .at) (c .before .before .before .before .before .before .before .before .before .loop .n) (c .before .before .before .before .before .before .before .before .before .loop .begun) (c .before .before .before .before .before .before .before .before .before .loop .done) (c .before .before .before .before .before .before .before .before .before .loop .inv) (c .before .before .before .before .before .before .before .line-end .result) (c .before .before .before .before .before .before .before .line-end .ensures) in omega arith
+add-result c = let h = row-room (c .before .before .before .before .before .before .before .before .before .before .before .before .before .args .t)
+    (c .before .before .before .before .before .before .before .before .before .before .before .before .before .args .sheet .now)
+    (c .before .before .before .before .before .before .before .before .before .before .before .before .before .args .out .now)
+    (c .before .before .before .before .before .before .before .before .before .before .before .before .before .args .from)
+    (c .before .before .before .before .before .before .before .before .before .loop .out)
+    (c .before .before .before .before .before .before .before .before .before .loop .work)
+    (c .before .before .before .before .before .before .before .before .before .loop .at)
+    (c .before .before .before .before .before .before .before .before .before .loop .n)
+    (c .before .before .before .before .before .before .before .before .before .loop .begun)
+    (c .before .before .before .before .before .before .before .before .before .loop .done)
+    (c .before .before .before .before .before .before .before .before .before .loop .inv)
+    (c .before .before .before .before .before .before .before .line-end .result)
+    (c .before .before .before .before .before .before .before .line-end .ensures) in omega arith
 
 same-length : tie.Need-same-length Inv-loop μ-loop
-same-length c = c .before .out .given ∙ going-size (c .before .before .before .before .before .before .before .before .before .before .before .before .before .args .t) (c .before .before .before .before .before .before .before .before .before .before .before .before .before .args .sheet .now) (c .before .before .before .before .before .before .before .before .before .before .before .before .before .args .out .now) (c .before .before .before .before .before .before .before .before .before .before .before .before .before .args .from) (c .before .before .before .before .before .before .before .before .before .loop .out) (c .before .before .before .before .before .before .before .before .before .loop .work) (c .before .before .before .before .before .before .before .before .before .loop .at) (c .before .before .before .before .before .before .before .before .before .loop .n) (c .before .before .before .before .before .before .before .before .before .loop .begun) (c .before .before .before .before .before .before .before .before .before .loop .done) (c .before .before .before .before .before .before .before .before .before .loop .inv)
+same-length c = c .before .out .given ∙ going-size
+    (c .before .before .before .before .before .before .before .before .before .before .before .before .before .args .t)
+    (c .before .before .before .before .before .before .before .before .before .before .before .before .before .args .sheet .now)
+    (c .before .before .before .before .before .before .before .before .before .before .before .before .before .args .out .now)
+    (c .before .before .before .before .before .before .before .before .before .before .before .before .before .args .from)
+    (c .before .before .before .before .before .before .before .before .before .loop .out)
+    (c .before .before .before .before .before .before .before .before .before .loop .work)
+    (c .before .before .before .before .before .before .before .before .before .loop .at)
+    (c .before .before .before .before .before .before .before .before .before .loop .n)
+    (c .before .before .before .before .before .before .before .before .before .loop .begun)
+    (c .before .before .before .before .before .before .before .before .before .loop .done)
+    (c .before .before .before .before .before .before .before .before .before .loop .inv)
 
 same-length-2 : tie.Need-same-length-2 Inv-loop μ-loop
-same-length-2 c = c .before .before .before .before .before .before .before .before .before .loop .inv .stands .size ∙ sym (c .before .before .before .before .before .before .before .before .before .before .before .before .before .pre .0 .1 .size)
+same-length-2 c = c .before .before .before .before .before .before .before .before .before .loop .inv .stands .size ∙ sym
+    (c .before .before .before .before .before .before .before .before .before .before .before .before .before .pre .0 .1 .size)
 
 returns : tie.Need-returns Inv-loop μ-loop
-returns c = going-last (c .before .before .before .before .before .before .before .before .before .before .before .before .before .args .t) (c .before .before .before .before .before .before .before .before .before .before .before .before .before .args .sheet .now) (c .before .before .before .before .before .before .before .before .before .before .before .before .before .args .out .now) (c .before .before .before .before .before .before .before .before .before .before .before .before .before .args .from) (c .before .before .before .before .before .before .before .before .before .loop .out) (c .before .before .before .before .before .before .before .before .before .loop .work) (c .before .before .before .before .before .before .before .before .before .loop .at) (c .before .before .before .before .before .before .before .before .before .loop .n) (c .before .before .before .before .before .before .before .before .before .loop .begun) (c .before .before .before .before .before .before .before .before .before .loop .done) (c .before .before .before .before .before .before .before .before .before .loop .inv) (c .before .before .before .before .before .before .before .line-end .result) (c .before .before .before .before .before .before .before .line-end .ensures) (read-broken _ (sym (c .before .before .before .before .before .before .step-line .ensures) ∙ c .before .before .before .before .enum-told .given .1)) (c .before .before .put-last .ensures)
+returns c = going-last (c .before .before .before .before .before .before .before .before .before .before .before .before .before .args .t)
+    (c .before .before .before .before .before .before .before .before .before .before .before .before .before .args .sheet .now)
+    (c .before .before .before .before .before .before .before .before .before .before .before .before .before .args .out .now)
+    (c .before .before .before .before .before .before .before .before .before .before .before .before .before .args .from)
+    (c .before .before .before .before .before .before .before .before .before .loop .out)
+    (c .before .before .before .before .before .before .before .before .before .loop .work)
+    (c .before .before .before .before .before .before .before .before .before .loop .at)
+    (c .before .before .before .before .before .before .before .before .before .loop .n)
+    (c .before .before .before .before .before .before .before .before .before .loop .begun)
+    (c .before .before .before .before .before .before .before .before .before .loop .done)
+    (c .before .before .before .before .before .before .before .before .before .loop .inv)
+    (c .before .before .before .before .before .before .before .line-end .result)
+    (c .before .before .before .before .before .before .before .line-end .ensures) (read-broken _
+    (sym (c .before .before .before .before .before .before .step-line .ensures) ∙ c .before .before .before .before .enum-told .given .1))
+    (c .before .before .put-last .ensures)
 
 one-line-requires : tie.Need-one-line-requires Inv-loop μ-loop
 one-line-requires c κs =
     let o = read-line _ _ (sym (c .before .before .before .before .before .step-line .ensures) ∙ c .before .before .before .l .given .1) in
     let g = c .before .before .before .before .before .before .before .before .loop .inv in
-    let h = line-number _ _ _ o in
-    ((((c .before .before .before .before .before .before .before .before .before .before .before .before .pre .0 .0), g .stands .size), omega (arith, g .few)), (line-form _ _ _ o, row-room (c .before .before .before .before .before .before .before .before .before .before .before .before .args .t) (c .before .before .before .before .before .before .before .before .before .before .before .before .args .sheet .now) (c .before .before .before .before .before .before .before .before .before .before .before .before .args .out .now) (c .before .before .before .before .before .before .before .before .before .before .before .before .args .from) (c .before .before .before .before .before .before .before .before .loop .out) (c .before .before .before .before .before .before .before .before .loop .work) (c .before .before .before .before .before .before .before .before .loop .at) (c .before .before .before .before .before .before .before .before .loop .n) (c .before .before .before .before .before .before .before .before .loop .begun) (c .before .before .before .before .before .before .before .before .loop .done) (c .before .before .before .before .before .before .before .before .loop .inv) (c .before .before .before .before .before .before .line-end .result) (c .before .before .before .before .before .before .line-end .ensures)))
+    let h = line-number _ _ _ o in (
+      (
+        ((c .before .before .before .before .before .before .before .before .before .before .before .before .pre .0 .0), g .stands .size),
+        omega
+            (arith, g .few),
+      ),
+      (
+        line-form _ _ _ o,
+        row-room
+            (c .before .before .before .before .before .before .before .before .before .before .before .before .args .t)
+            (c .before .before .before .before .before .before .before .before .before .before .before .before .args .sheet .now)
+            (c .before .before .before .before .before .before .before .before .before .before .before .before .args .out .now)
+            (c .before .before .before .before .before .before .before .before .before .before .before .before .args .from)
+            (c .before .before .before .before .before .before .before .before .loop .out)
+            (c .before .before .before .before .before .before .before .before .loop .work)
+            (c .before .before .before .before .before .before .before .before .loop .at)
+            (c .before .before .before .before .before .before .before .before .loop .n)
+            (c .before .before .before .before .before .before .before .before .loop .begun)
+            (c .before .before .before .before .before .before .before .before .loop .done)
+            (c .before .before .before .before .before .before .before .before .loop .inv)
+            (c .before .before .before .before .before .before .line-end .result) (c .before .before .before .before .before .before .line-end .ensures),
+      ),
+    )
 
 add-n : tie.Need-add-n Inv-loop μ-loop
-add-n c = let h = line-number _ _ _ (read-line _ _ (sym (c .before .before .before .before .before .before .before .before .before .before .before .step-line .ensures) ∙ c .before .before .before .before .before .before .before .before .before .l .given .1)) in omega arith
+add-n c = let h = line-number _ _ _
+    (read-line _ _ (sym (c .before .before .before .before .before .before .before .before .before .before .before .step-line .ensures) ∙
+    c .before .before .before .before .before .before .before .before .before .l .given .1)) in omega arith
 
 add-done : tie.Need-add-done Inv-loop μ-loop
-add-done c = let h = row-room (c .before .before .before .before .before .before .before .before .before .before .before .before .before .before .before .before .before .before .args .t) (c .before .before .before .before .before .before .before .before .before .before .before .before .before .before .before .before .before .before .args .sheet .now) (c .before .before .before .before .before .before .before .before .before .before .before .before .before .before .before .before .before .before .args .out .now) (c .before .before .before .before .before .before .before .before .before .before .before .before .before .before .before .before .before .before .args .from) (c .before .before .before .before .before .before .before .before .before .before .before .before .before .before .loop .out) (c .before .before .before .before .before .before .before .before .before .before .before .before .before .before .loop .work) (c .before .before .before .before .before .before .before .before .before .before .before .before .before .before .loop .at) (c .before .before .before .before .before .before .before .before .before .before .before .before .before .before .loop .n) (c .before .before .before .before .before .before .before .before .before .before .before .before .before .before .loop .begun) (c .before .before .before .before .before .before .before .before .before .before .before .before .before .before .loop .done) (c .before .before .before .before .before .before .before .before .before .before .before .before .before .before .loop .inv) (c .before .before .before .before .before .before .before .before .before .before .before .before .line-end .result) (c .before .before .before .before .before .before .before .before .before .before .before .before .line-end .ensures) in omega arith
+add-done c = let h = row-room
+    (c .before .before .before .before .before .before .before .before .before .before .before .before .before .before .before .before .before .before
+    .args .t) (c .before .before .before .before .before .before .before .before .before .before .before .before .before .before .before .before
+    .before .before .args .sheet .now)
+    (c .before .before .before .before .before .before .before .before .before .before .before .before .before .before .before .before .before .before
+    .args .out .now) (c .before .before .before .before .before .before .before .before .before .before .before .before .before .before .before
+    .before .before .before .args .from)
+    (c .before .before .before .before .before .before .before .before .before .before .before .before .before .before .loop .out)
+    (c .before .before .before .before .before .before .before .before .before .before .before .before .before .before .loop .work)
+    (c .before .before .before .before .before .before .before .before .before .before .before .before .before .before .loop .at)
+    (c .before .before .before .before .before .before .before .before .before .before .before .before .before .before .loop .n)
+    (c .before .before .before .before .before .before .before .before .before .before .before .before .before .before .loop .begun)
+    (c .before .before .before .before .before .before .before .before .before .before .before .before .before .before .loop .done)
+    (c .before .before .before .before .before .before .before .before .before .before .before .before .before .before .loop .inv)
+    (c .before .before .before .before .before .before .before .before .before .before .before .before .line-end .result)
+    (c .before .before .before .before .before .before .before .before .before .before .before .before .line-end .ensures) in omega arith
 
 loop-less : tie.Need-loop-less Inv-loop μ-loop
 loop-less c =
     let e = c .before .before .before .before .before .before .before .before .before .before .before .before .line-end .ensures in
-    let h = next-later (c .before .before .before .before .before .before .before .before .before .before .before .before .before .before .before .before .before .before .args .sheet .now) (c .before .before .before .before .before .before .before .before .before .before .before .before .line-end .result) (c .before .before .before .before .before .before .before .before .before .before .before .before .before .before .loop .at) (e .after) (e .within) (omega arith) in
+    let h = next-later (c .before .before .before .before .before .before .before .before .before .before .before .before .before .before .before
+    .before .before .before .args .sheet .now)
+    (c .before .before .before .before .before .before .before .before .before .before .before .before .line-end .result)
+    (c .before .before .before .before .before .before .before .before .before .before .before .before .before .before .loop .at) (e .after)
+    (e .within) (omega arith) in
     let r = c .next-line .ensures in
     omega arith
 
 loop-again : tie.Need-loop-again Inv-loop μ-loop
 loop-again c =
-    rw (c .next-line .ensures) (going-more (c .before .before .before .before .before .before .before .before .before .before .before .before .before .before .before .before .before .before .args .t) (c .before .before .before .before .before .before .before .before .before .before .before .before .before .before .before .before .before .before .args .sheet .now) (c .before .before .before .before .before .before .before .before .before .before .before .before .before .before .before .before .before .before .args .out .now) (c .before .before .before .before .before .before .before .before .before .before .before .before .before .before .before .before .before .before .args .from) (c .before .before .before .before .before .before .before .before .before .before .before .before .before .before .loop .out) (c .before .before .before .before .before .before .before .before .before .before .before .before .before .before .loop .work) (c .before .before .before .before .before .before .before .before .before .before .before .before .before .before .loop .at) (c .before .before .before .before .before .before .before .before .before .before .before .before .before .before .loop .n) (c .before .before .before .before .before .before .before .before .before .before .before .before .before .before .loop .begun) (c .before .before .before .before .before .before .before .before .before .before .before .before .before .before .loop .done) (c .before .before .before .before .before .before .before .before .before .before .before .before .before .before .loop .inv) (c .before .before .before .before .before .before .before .before .before .before .before .before .line-end .result) (c .before .before .before .before .before .before .before .before .before .before .before .before .line-end .ensures) (read-line _ _ (sym (c .before .before .before .before .before .before .before .before .before .before .before .step-line .ensures) ∙ c .before .before .before .before .before .before .before .before .before .l .given .1)) (c .before .before .before .before .before .one-line .ensures) (omega arith))
+    rw (c .next-line .ensures)
+    (going-more (c .before .before .before .before .before .before .before .before .before .before .before .before .before .before .before .before
+    .before .before .args .t)
+    (c .before .before .before .before .before .before .before .before .before .before .before .before .before .before .before .before .before .before
+    .args .sheet .now) (c .before .before .before .before .before .before .before .before .before .before .before .before .before .before .before
+    .before .before .before .args .out .now)
+    (c .before .before .before .before .before .before .before .before .before .before .before .before .before .before .before .before .before .before
+    .args .from) (c .before .before .before .before .before .before .before .before .before .before .before .before .before .before .loop .out)
+    (c .before .before .before .before .before .before .before .before .before .before .before .before .before .before .loop .work)
+    (c .before .before .before .before .before .before .before .before .before .before .before .before .before .before .loop .at)
+    (c .before .before .before .before .before .before .before .before .before .before .before .before .before .before .loop .n)
+    (c .before .before .before .before .before .before .before .before .before .before .before .before .before .before .loop .begun)
+    (c .before .before .before .before .before .before .before .before .before .before .before .before .before .before .loop .done)
+    (c .before .before .before .before .before .before .before .before .before .before .before .before .before .before .loop .inv)
+    (c .before .before .before .before .before .before .before .before .before .before .before .before .line-end .result)
+    (c .before .before .before .before .before .before .before .before .before .before .before .before .line-end .ensures)
+    (read-line _ _ (sym (c .before .before .before .before .before .before .before .before .before .before .before .step-line .ensures) ∙
+    c .before .before .before .before .before .before .before .before .before .l .given .1))
+    (c .before .before .before .before .before .one-line .ensures) (omega arith))
 
 same-length-3 : tie.Need-same-length-3 Inv-loop μ-loop
-same-length-3 c = going-size (c .before .before .before .before .before .args .t) (c .before .before .before .before .before .args .sheet .now) (c .before .before .before .before .before .args .out .now) (c .before .before .before .before .before .args .from) (c .before .loop .out) (c .before .loop .work) (c .before .loop .at) (c .before .loop .n) (c .before .loop .begun) (c .before .loop .done) (c .before .loop .inv)
+same-length-3 c = going-size (c .before .before .before .before .before .args .t) (c .before .before .before .before .before .args .sheet .now)
+    (c .before .before .before .before .before .args .out .now) (c .before .before .before .before .before .args .from) (c .before .loop .out)
+    (c .before .loop .work) (c .before .loop .at) (c .before .loop .n) (c .before .loop .begun) (c .before .loop .done) (c .before .loop .inv)
 
 same-length-4 : tie.Need-same-length-4 Inv-loop μ-loop
 same-length-4 c = c .before .loop .inv .stands .size ∙ sym (c .before .before .before .before .before .pre .0 .1 .size)
 
 returns-2 : tie.Need-returns-2 Inv-loop μ-loop
-returns-2 c = going-all (c .before .before .before .before .before .args .t) (c .before .before .before .before .before .args .sheet .now) (c .before .before .before .before .before .args .out .now) (c .before .before .before .before .before .args .from) (c .before .loop .out) (c .before .loop .work) (c .before .loop .at) (c .before .loop .n) (c .before .loop .begun) (c .before .loop .done) (c .before .loop .inv) (omega arith)
+returns-2 c = going-all (c .before .before .before .before .before .args .t) (c .before .before .before .before .before .args .sheet .now)
+    (c .before .before .before .before .before .args .out .now) (c .before .before .before .before .before .args .from) (c .before .loop .out)
+    (c .before .loop .work) (c .before .loop .at) (c .before .loop .n) (c .before .loop .begun) (c .before .loop .done) (c .before .loop .inv)
+    (omega arith)
 
 pub rows-from-spec : {M : Type 1} → statement M
 rows-from-spec = tie.close (tie.spec Inv-loop μ-loop loop-holds (λ c κs. search needs) step-line-requires (λ c. search needs) (λ c. search needs)

@@ -20,15 +20,21 @@ server-in c = let a = c .before .before .before .before .args in is-in 1 (shelf 
 returns : tie.Need-returns
 returns c =
     let a = c .before .before .before .before .before .args in
-    blank-refused (a .t) (a .work .now) (a .server) (is-out 1 (shelf (a .t) .servers) (a .server) (tested (c .before .before)) (c .before .if1 .taken)) (c .refused .ensures)
+    blank-refused (a .t) (a .work .now) (a .server) (is-out 1 (shelf (a .t) .servers) (a .server) (tested (c .before .before))
+    (c .before .if1 .taken)) (c .refused .ensures)
 
 blank-latest-requires : tie.Need-blank-latest-requires
-blank-latest-requires c κs = let a = c .before .before .before .before .before .args in (few-servers (a .t) (a .server) (c .before .before .before .before .before .pre .0 .1) (server-in (c .before)), c .before .before .before .before .before .pre .1)
+blank-latest-requires c κs = let a = c .before .before .before .before .before .args in (
+  few-servers (a .t) (a .server)
+      (c .before .before .before .before .before .pre .0 .1) (server-in (c .before)),
+  c .before .before .before .before .before .pre .1,
+)
 
 returns-2 : tie.Need-returns-2
 returns-2 c =
     let a = c .before .before .before .before .before .before .before .before .before .args in
-    blank-moves (a .t) (a .work .now) (a .server) (c .before .before .before .before .before .before .before .before .before .pre .0 .1) (server-in (c .before .before .before .before .before)) (c .before .before .before .blank-latest .ensures) (c .begun .ensures)
+    blank-moves (a .t) (a .work .now) (a .server) (c .before .before .before .before .before .before .before .before .before .pre .0 .1)
+    (server-in (c .before .before .before .before .before)) (c .before .before .before .blank-latest .ensures) (c .begun .ensures)
 
 pub blank-line-spec : {M : Type 1} → statement M
 blank-line-spec = tie.close (tie.spec (λ c. search needs) (λ c κs. search needs) (λ c κs. search needs) (λ c κs. search needs) returns

@@ -12,8 +12,13 @@ use Rattle.drill.proofs.servers.serve.Tie as tie
 returns : tie.Need-returns
 returns c =
     let a = c .before .before .before .before .before .before .before .before .before .before .before .before .args in
-    serves-as (a .work .now) (a .server) (c .before .before .before .before .before .before .before .before .before .before .before .before .pre .0) (c .before .before .before .before .before .before .before .before .before .before .before .before .pre .1) (c .before .before .before .before .before .before .before .before .server-at .result + 40960 - c .before .before .before .before .before .before .before .before .server-at .result) (c .before .before .before .before .before .before .before .before .server-at .ensures .0) (omega arith)
-    (λ z. serverTake real z (replicate 32 (a .server)) (a .packet .now) (a .out .now)) (c .before .before .before .work .given .0) (c .before .before .before .before .take .ensures)
+    serves-as (a .work .now) (a .server) (c .before .before .before .before .before .before .before .before .before .before .before .before .pre .0)
+    (c .before .before .before .before .before .before .before .before .before .before .before .before .pre .1)
+    (c .before .before .before .before .before .before .before .before .server-at .result + 40960 -
+    c .before .before .before .before .before .before .before .before .server-at .result)
+    (c .before .before .before .before .before .before .before .before .server-at .ensures .0) (omega arith)
+    (λ z. serverTake real z (replicate 32 (a .server)) (a .packet .now) (a .out .now)) (c .before .before .before .work .given .0)
+    (c .before .before .before .before .take .ensures)
 
 pub serve-spec : {M : Type 1} → statement M
 serve-spec = tie.close (tie.spec (λ c κs. search needs) (λ c. search needs) (λ c. search needs) (λ c. search needs) (λ c. search needs)

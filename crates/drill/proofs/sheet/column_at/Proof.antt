@@ -8,7 +8,8 @@ use Rattle.drill.proofs.sheet.column_at.Statement.{statement}
 use Rattle.drill.proofs.sheet.column_at.Tie as tie
 
 number-from-requires : tie.Need-number-from-requires
-number-from-requires c κs = let z = part-most (c .before .before .before .args .text .now) (c .before .before .before .args .at) 8 in rw (c .before .part .ensures) z
+number-from-requires c κs = let z = part-most (c .before .before .before .args .text .now) (c .before .before .before .args .at) 8 in rw
+    (c .before .part .ensures) z
 
 returns : tie.Need-returns
 unfolding columnAt

@@ -26,28 +26,36 @@ returns : tie.Need-returns Inv-loop μ-loop
 unfolding numberOf
 returns c =
     let s = c .before .before .before .before .before .args .s .now in
-    ap numberOf (sym (c .before .before .before .loop .inv .0 ∙ digits-low s (c .before .before .before .loop .i) (omega arith) (c .before .before .before .loop .v) (c .if1 .taken)))
+    ap numberOf (sym (c .before .before .before .loop .inv .0 ∙ digits-low s (c .before .before .before .loop .i) (omega arith)
+    (c .before .before .before .loop .v) (c .if1 .taken)))
 
 returns-2 : tie.Need-returns-2 Inv-loop μ-loop
 unfolding numberOf
 returns-2 c =
     let s = c .before .before .before .before .before .before .args .s .now in
-    ap numberOf (sym (c .before .before .before .before .loop .inv .0 ∙ digits-high s (c .before .before .before .before .loop .i) (omega arith) (c .before .before .before .before .loop .v) (c .before .if1 .left) (c .if2 .taken)))
+    ap numberOf (sym (c .before .before .before .before .loop .inv .0 ∙ digits-high s (c .before .before .before .before .loop .i) (omega arith)
+    (c .before .before .before .before .loop .v) (c .before .if1 .left) (c .if2 .taken)))
 
 mul-v : tie.Need-mul-v Inv-loop μ-loop
 mul-v c = let f = tens-fits (c .before .before .before .before .loop .i) (omega arith) in omega arith
 
 add-v : tie.Need-add-v Inv-loop μ-loop
 add-v c = let f = tens-fits (c .before .before .before .before .before .loop .i + 1) (omega arith) in
-    let g = tens-more (c .before .before .before .before .before .loop .v) (c .before .before .before .before .before .loop .i) (getD (c .before .before .before .before .before .before .before .args .s .now) (c .before .before .before .before .before .loop .i) 0 - 48) (c .before .before .before .before .before .loop .inv .1) (omega arith) in omega arith
+    let g = tens-more (c .before .before .before .before .before .loop .v) (c .before .before .before .before .before .loop .i)
+    (getD (c .before .before .before .before .before .before .before .args .s .now) (c .before .before .before .before .before .loop .i) 0 - 48)
+    (c .before .before .before .before .before .loop .inv .1) (omega arith) in omega arith
 
 loop-again : tie.Need-loop-again Inv-loop μ-loop
 loop-again c =
     let s = c .before .before .before .before .before .before .before .args .s .now in
     let i = c .before .before .before .before .before .loop .i in
-    let g = tens-more (c .before .before .before .before .before .loop .v) i (getD s i 0 - 48) (c .before .before .before .before .before .loop .inv .1) (omega arith) in
-    let e : c .wide .result ≡ getD s i 0 - 48 = c .wide .ensures in
-    (c .before .before .before .before .before .loop .inv .0 ∙ digits-more s i (omega arith) (c .before .before .before .before .before .loop .v) (c .before .before .if1 .left) (c .before .if2 .left) ∙ rw e, rw e g)
+    let g = tens-more (c .before .before .before .before .before .loop .v) i (getD s i 0 - 48)
+    (c .before .before .before .before .before .loop .inv .1) (omega arith) in
+    let e : c .wide .result ≡ getD s i 0 - 48 = c .wide .ensures in (
+      c .before .before .before .before .before .loop .inv .0 ∙ digits-more s i (omega arith) (c .before .before .before .before .before .loop .v)
+          (c .before .before .if1 .left) (c .before .if2 .left) ∙ rw e,
+      rw e g,
+    )
 
 returns-3 : tie.Need-returns-3 Inv-loop μ-loop
 unfolding numberOf

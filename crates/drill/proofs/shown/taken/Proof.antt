@@ -31,7 +31,8 @@ returns-3 c = rw (c .before .a2 .given .1)
 
 returns-4 : tie.Need-returns-4
 unfolding part
-returns-4 c = rw (c .before .before .before .a3 .given .1) (c .content-read .ensures ∙ ap (λ (z : List ℕ). shown (gave (c .before .before .before .a3 .given .0 .0) z)) (c .before .part .ensures))
+returns-4 c = rw (c .before .before .before .a3 .given .1) (c .content-read .ensures ∙ ap
+    (λ (z : List ℕ). shown (gave (c .before .before .before .a3 .given .0 .0) z)) (c .before .part .ensures))
 
 returns-5 : tie.Need-returns-5
 unfolding shown

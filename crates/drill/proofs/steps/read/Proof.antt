@@ -10,13 +10,17 @@ client-in : (c : tie.Else1) → (1 ≤ c .before .before .before .args .client) 
 client-in c = is-in 1 topClient _ (c .before .outside .ensures) (c .if1 .left)
 
 returns : tie.Need-returns
-returns c = let a = c .before .before .before .before .args in read-stays (a .t) (a .client) (c .before .before .before .before .pre .0) (a .work .now) (is-out 1 topClient (a .client) (c .before .before .outside .ensures) (c .before .if1 .taken)) (c .refused .ensures)
+returns c = let a = c .before .before .before .before .args in read-stays (a .t) (a .client) (c .before .before .before .before .pre .0)
+    (a .work .now) (is-out 1 topClient (a .client) (c .before .before .outside .ensures) (c .before .if1 .taken)) (c .refused .ensures)
 
 begin-read-requires : tie.Need-begin-read-requires
 begin-read-requires c κs = (client-in (c .before), c .before .before .before .before .pre .1)
 
 returns-2 : tie.Need-returns-2
-returns-2 c = let a = c .before .before .before .before .before .before .before .before .args in read-moves (a .t) (a .client) (c .before .before .before .before .before .before .before .before .pre .0) (a .work .now) (client-in (c .before .before .before .before .before)) (c .before .before .before .begin-read .ensures) (c .begun .ensures)
+returns-2 c = let a = c .before .before .before .before .before .before .before .before .args in read-moves (a .t) (a .client)
+    (c .before .before .before .before .before .before .before .before .pre .0) (a .work .now) (client-in (c .before .before .before .before .before))
+    (c .before .before .before .begin-read .ensures) (c .begun .ensures)
 
 pub read-spec : {M : Type 1} → statement M
-read-spec = tie.close (tie.spec (λ c κs. search needs) (λ c κs. search needs) returns begin-read-requires (λ c κs. search needs) (λ c. search needs) returns-2)
+read-spec = tie.close (tie.spec (λ c κs. search needs) (λ c κs. search needs) returns begin-read-requires (λ c κs. search needs) (λ c. search needs)
+    returns-2)

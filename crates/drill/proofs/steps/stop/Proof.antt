@@ -10,13 +10,17 @@ client-in : (c : tie.Else1) → (1 ≤ c .before .before .before .args .client) 
 client-in c = is-in 1 topClient _ (c .before .outside .ensures) (c .if1 .left)
 
 returns : tie.Need-returns
-returns c = let a = c .before .before .before .before .args in stop-stays (a .t) (a .client) (c .before .before .before .before .pre .0) (a .work .now) (is-out 1 topClient (a .client) (c .before .before .outside .ensures) (c .before .if1 .taken)) (c .refused .ensures)
+returns c = let a = c .before .before .before .before .args in stop-stays (a .t) (a .client) (c .before .before .before .before .pre .0)
+    (a .work .now) (is-out 1 topClient (a .client) (c .before .before .outside .ensures) (c .before .if1 .taken)) (c .refused .ensures)
 
 give-up-requires : tie.Need-give-up-requires
 give-up-requires c κs = (client-in (c .before), c .before .before .before .before .pre .1)
 
 returns-2 : tie.Need-returns-2
-returns-2 c = let a = c .before .before .before .before .before .before .before .before .args in stop-moves (a .t) (a .client) (c .before .before .before .before .before .before .before .before .pre .0) (a .work .now) (client-in (c .before .before .before .before .before)) (c .before .before .before .give-up .ensures) (c .given-up .ensures)
+returns-2 c = let a = c .before .before .before .before .before .before .before .before .args in stop-moves (a .t) (a .client)
+    (c .before .before .before .before .before .before .before .before .pre .0) (a .work .now) (client-in (c .before .before .before .before .before))
+    (c .before .before .before .give-up .ensures) (c .given-up .ensures)
 
 pub stop-spec : {M : Type 1} → statement M
-stop-spec = tie.close (tie.spec (λ c κs. search needs) (λ c κs. search needs) returns give-up-requires (λ c κs. search needs) (λ c. search needs) returns-2)
+stop-spec = tie.close (tie.spec (λ c κs. search needs) (λ c κs. search needs) returns give-up-requires (λ c κs. search needs) (λ c. search needs)
+    returns-2)

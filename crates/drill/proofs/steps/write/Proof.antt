@@ -22,26 +22,45 @@ client-in c = let h = writer-in c in (h .0, omega arith)
 returns : tie.Need-returns
 returns c =
     let a = c .before .before .before .before .args in
-    write-stays (a .t) (a .begun) (a .client) (a .size) (a .fill) (c .before .before .before .before .pre .0 .0 .1) (a .work .now) 4 (λ y z. no-writer (a .t) (a .client) (c .before .before .before .before .pre .0 .0) y z _ _ (is-out 1 topWriter (a .client) (c .before .before .outside .ensures) (c .before .if1 .taken))) (c .refused .ensures)
+    write-stays (a .t) (a .begun) (a .client) (a .size) (a .fill) (c .before .before .before .before .pre .0 .0 .1) (a .work .now) 4
+    (λ y z. no-writer (a .t) (a .client) (c .before .before .before .before .pre .0 .0) y z _ _
+    (is-out 1 topWriter (a .client) (c .before .before .outside .ensures) (c .before .if1 .taken))) (c .refused .ensures)
 
 returns-2 : tie.Need-returns-2
 returns-2 c =
     let a = c .before .before .before .before .before .args in
     write-stays (a .t) (a .begun) (a .client) (a .size) (a .fill) (c .before .before .before .before .before .pre .0 .0 .1) (a .work .now) 5
-    (λ y z. no-size (a .t) (a .client) (c .before .before .before .before .before .pre .0 .0) y z _ _ (inside 1 topWriter (a .client) (writer-in (c .before .before))) (rw length-replicate (within-high leastLength topLength (a .size) (omega arith) (omega arith)))) (c .refused2 .ensures)
+    (λ y z. no-size (a .t) (a .client) (c .before .before .before .before .before .pre .0 .0) y z _ _
+    (inside 1 topWriter (a .client) (writer-in (c .before .before))) (rw length-replicate
+    (within-high leastLength topLength (a .size) (omega arith) (omega arith)))) (c .refused2 .ensures)
 
 begin-write-requires : tie.Need-begin-write-requires
-begin-write-requires c κs = (client-in (c .before .before .before .before .before .before), c .before .before .before .before .before .before .before .before .before .pre .0 .1)
+begin-write-requires c κs = (
+  client-in (c .before .before .before .before .before .before),
+  c .before .before .before .before .before .before .before .before .before .pre .0 .1,
+)
 
 returns-3 : tie.Need-returns-3
 returns-3 c =
     let a = c .before .before .before .before .before .before .before .before .before .before .before .before .before .before .args in
-    write-moves (a .t) (a .begun) (a .client) (a .size) (a .fill) (c .before .before .before .before .before .before .before .before .before .before .before .before .before .before .pre .0 .0 .1) (a .work .now) (client-in (c .before .before .before .before .before .before .before .before .before .before .before)) (c .before .before .before .before .before .before .before .part .ensures ∙ part-copies (a .size) topLength (a .fill) (omega arith)) (c .before .before .before .before .before .before .before .before .before .nonce-for .ensures ∙ rw add-one) (c .before .before .before .before .begin-write .ensures) (c .begun .ensures) (a .begun + 1) (counts-begun (a .begun) (c .before .before .before .before .begin-write .result) (c .before .if3 .taken))
+    write-moves (a .t) (a .begun) (a .client) (a .size) (a .fill)
+    (c .before .before .before .before .before .before .before .before .before .before .before .before .before .before .pre .0 .0 .1) (a .work .now)
+    (client-in (c .before .before .before .before .before .before .before .before .before .before .before))
+    (c .before .before .before .before .before .before .before .part .ensures ∙ part-copies (a .size) topLength (a .fill) (omega arith))
+    (c .before .before .before .before .before .before .before .before .before .nonce-for .ensures ∙ rw add-one)
+    (c .before .before .before .before .begin-write .ensures) (c .begun .ensures) (a .begun + 1)
+    (counts-begun (a .begun) (c .before .before .before .before .begin-write .result) (c .before .if3 .taken))
 
 returns-4 : tie.Need-returns-4
 returns-4 c =
     let a = c .before .before .before .before .before .before .before .before .before .before .before .before .before .before .args in
-    write-moves (a .t) (a .begun) (a .client) (a .size) (a .fill) (c .before .before .before .before .before .before .before .before .before .before .before .before .before .before .pre .0 .0 .1) (a .work .now) (client-in (c .before .before .before .before .before .before .before .before .before .before .before)) (c .before .before .before .before .before .before .before .part .ensures ∙ part-copies (a .size) topLength (a .fill) (omega arith)) (c .before .before .before .before .before .before .before .before .before .nonce-for .ensures ∙ rw add-one) (c .before .before .before .before .begin-write .ensures) (c .begun2 .ensures) (a .begun) (counts-refused (a .begun) (c .before .before .before .before .begin-write .result) (c .before .if3 .left))
+    write-moves (a .t) (a .begun) (a .client) (a .size) (a .fill)
+    (c .before .before .before .before .before .before .before .before .before .before .before .before .before .before .pre .0 .0 .1) (a .work .now)
+    (client-in (c .before .before .before .before .before .before .before .before .before .before .before))
+    (c .before .before .before .before .before .before .before .part .ensures ∙ part-copies (a .size) topLength (a .fill) (omega arith))
+    (c .before .before .before .before .before .before .before .before .before .nonce-for .ensures ∙ rw add-one)
+    (c .before .before .before .before .begin-write .ensures) (c .begun2 .ensures) (a .begun)
+    (counts-refused (a .begun) (c .before .before .before .before .begin-write .result) (c .before .if3 .left))
 
 pub write-spec : {M : Type 1} → statement M
 write-spec = tie.close (tie.spec (λ c κs. search needs) (λ c κs. search needs) returns (λ c κs. search needs) returns-2 (λ c. search needs)

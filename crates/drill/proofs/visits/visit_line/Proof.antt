@@ -5,13 +5,22 @@ use Rattle.drill.proofs.visits.visit_line.Statement.{statement}
 use Rattle.drill.proofs.visits.visit_line.Tie as tie
 
 visit-requires : tie.Need-visit-requires
-visit-requires c κs = let r = c .before .before .visit-refusal .ensures in ((c .before .before .before .before .before .pre .0 .1, c .before .before .before .before .before .pre .1), (r .readers (c .before .if1 .taken), r .servers (c .before .if1 .taken)))
+visit-requires c κs = let r = c .before .before .visit-refusal .ensures in (
+  (
+    c .before .before .before .before .before .pre .0 .1,
+    c .before .before .before .before .before .pre .1,
+  ),
+  (r .readers (c .before .if1 .taken), r .servers (c .before .if1 .taken)),
+)
 
 returns : tie.Need-returns
-returns c = let a = c .before .before .before .before .before .before .before .before .args in visit-passes (a .t) (a .work .now) (a .client) (a .server) (c .before .before .before .before .before .visit-refusal .ensures) (c .before .before .before .before .if1 .taken) (c .before .before .visit .ensures)
+returns c = let a = c .before .before .before .before .before .before .before .before .args in visit-passes (a .t) (a .work .now) (a .client)
+    (a .server) (c .before .before .before .before .before .visit-refusal .ensures) (c .before .before .before .before .if1 .taken)
+    (c .before .before .visit .ensures)
 
 returns-2 : tie.Need-returns-2
-returns-2 c = let a = c .before .before .before .before .before .args in visit-refused (a .t) (a .work .now) (a .client) (a .server) (c .before .before .visit-refusal .result) (c .before .before .visit-refusal .ensures) (c .before .if1 .left) (c .refused .ensures)
+returns-2 c = let a = c .before .before .before .before .before .args in visit-refused (a .t) (a .work .now) (a .client) (a .server)
+    (c .before .before .visit-refusal .result) (c .before .before .visit-refusal .ensures) (c .before .if1 .left) (c .refused .ensures)
 
 pub visit-line-spec : {M : Type 1} → statement M
 visit-line-spec = tie.close (tie.spec (λ c κs. search needs) visit-requires (λ c. search needs) returns (λ c κs. search needs) (λ c. search needs)

@@ -18,19 +18,23 @@ tested c = c .outside .ensures ∙ ap (λ (n : ℕ). not (within 1 n (c .before 
 server-in : (c : tie.Else1) → let a = c .before .before .before .before .args in (1 ≤ a .server) × (a .server ≤ shelf (a .t) .servers)
 server-in c = let a = c .before .before .before .before .args in is-in 1 (shelf (a .t) .servers) (a .server) (tested (c .before)) (c .if1 .left)
 
-client-in : (c : tie.Else2) → (1 ≤ c .before .before .before .before .before .before .args .client) × (c .before .before .before .before .before .before .args .client ≤ topClient)
+client-in : (c : tie.Else2) → (1 ≤ c .before .before .before .before .before .before .args .client) ×
+    (c .before .before .before .before .before .before .args .client ≤ topClient)
 client-in c = is-in 1 topClient _ (c .before .outside2 .ensures) (c .if2 .left)
 
-pending-told : (c : tie.After-is-pending) → let a = c .before .before .before .before .before .before .before .before .args in c .is-pending .result ≡ inHand (callIn (a .work .now) (a .client))
+pending-told : (c : tie.After-is-pending) → let a = c .before .before .before .before .before .before .before .before .args in c .is-pending .result ≡
+    inHand (callIn (a .work .now) (a .client))
 pending-told c = c .is-pending .ensures ∙ ap inHand (c .before .call-of .ensures)
 
 returns : tie.Need-returns
-returns c = let a = c .before .before .before .before .args in refuses-4 (a .t) (a .work .now) (a .client) (a .server) (is-out 1 (shelf (a .t) .servers) (a .server) (tested (c .before)) (c .if1 .taken))
+returns c = let a = c .before .before .before .before .args in refuses-4 (a .t) (a .work .now) (a .client) (a .server)
+    (is-out 1 (shelf (a .t) .servers) (a .server) (tested (c .before)) (c .if1 .taken))
 
 returns-2 : tie.Need-returns-2
 returns-2 c =
     let a = c .before .before .before .before .before .before .args in
-    refuses-5 (a .t) (a .work .now) (a .client) (a .server) (server-in (c .before .before)) (is-out 1 topClient (a .client) (c .before .outside2 .ensures) (c .if2 .taken))
+    refuses-5 (a .t) (a .work .now) (a .client) (a .server) (server-in (c .before .before))
+    (is-out 1 topClient (a .client) (c .before .outside2 .ensures) (c .if2 .taken))
 
 call-of-requires : tie.Need-call-of-requires
 call-of-requires c κs = client-in c
@@ -38,12 +42,14 @@ call-of-requires c κs = client-in c
 returns-3 : tie.Need-returns-3
 returns-3 c =
     let a = c .before .before .before .before .before .before .before .before .before .args in
-    passes (a .t) (a .work .now) (a .client) (a .server) (server-in (c .before .before .before .before .before)) (client-in (c .before .before .before)) (sym (pending-told (c .before)) ∙ c .if3 .taken)
+    passes (a .t) (a .work .now) (a .client) (a .server) (server-in (c .before .before .before .before .before))
+    (client-in (c .before .before .before)) (sym (pending-told (c .before)) ∙ c .if3 .taken)
 
 returns-4 : tie.Need-returns-4
 returns-4 c =
     let a = c .before .before .before .before .before .before .before .before .before .args in
-    refuses-13 (a .t) (a .work .now) (a .client) (a .server) (server-in (c .before .before .before .before .before)) (client-in (c .before .before .before)) (sym (pending-told (c .before)) ∙ c .if3 .left)
+    refuses-13 (a .t) (a .work .now) (a .client) (a .server) (server-in (c .before .before .before .before .before))
+    (client-in (c .before .before .before)) (sym (pending-told (c .before)) ∙ c .if3 .left)
 
 pub visit-refusal-spec : {M : Type 1} → statement M
 visit-refusal-spec = tie.close (tie.spec (λ c. search needs) (λ c κs. search needs) (λ c κs. search needs) returns (λ c κs. search needs) returns-2

@@ -13,7 +13,8 @@ returns c =
 returns-2 : tie.Need-returns-2
 returns-2 c =
     let a = c .before .before .before .before .before .before .before .args in
-    read-done (a .state .now) (a .t) (a .client) (c .before .before .before .before .before .if1 .left) (c .before .before .before .read-in .result) _ _ (c .before .before .before .read-in .ensures) (c .outcome .ensures)
+    read-done (a .state .now) (a .t) (a .client) (c .before .before .before .before .before .if1 .left) (c .before .before .before .read-in .result) _
+    _ (c .before .before .before .read-in .ensures) (c .outcome .ensures)
 
 pub cendrulas-client-begin-read-spec : {M : Type 1} → statement M
 cendrulas-client-begin-read-spec = tie.close (tie.spec (λ c κs. search needs) returns (λ c κs. search needs) (λ c κs. search needs)

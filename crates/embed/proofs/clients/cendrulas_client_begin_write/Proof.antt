@@ -13,12 +13,15 @@ returns c =
 returns-2 : tie.Need-returns-2
 returns-2 c =
     let a = c .before .before .before .before .before .before .args in
-    rw (c .pack2 .ensures) (write-other-nonce (a .state .now) (a .t) (a .client) (c .before .before .if1 .left) (a .content .now) (a .nonce .now) (c .before .if2 .taken))
+    rw (c .pack2 .ensures) (write-other-nonce (a .state .now) (a .t) (a .client) (c .before .before .if1 .left) (a .content .now) (a .nonce .now)
+    (c .before .if2 .taken))
 
 returns-3 : tie.Need-returns-3
 returns-3 c =
     let a = c .before .before .before .before .before .before .before .before .before .before .before .args in
-    write-done (a .state .now) (a .t) (a .client) (c .before .before .before .before .before .before .before .if1 .left) (a .content .now) (a .nonce .now) _ (c .before .before .before .write-in .result) _ _ (c .before .before .before .before .before .before .if2 .left) (c .before .before .before .before .array .ensures) (c .before .before .before .write-in .ensures) (c .outcome .ensures)
+    write-done (a .state .now) (a .t) (a .client) (c .before .before .before .before .before .before .before .if1 .left) (a .content .now)
+    (a .nonce .now) _ (c .before .before .before .write-in .result) _ _ (c .before .before .before .before .before .before .if2 .left)
+    (c .before .before .before .before .array .ensures) (c .before .before .before .write-in .ensures) (c .outcome .ensures)
 
 pub cendrulas-client-begin-write-spec : {M : Type 1} → statement M
 cendrulas-client-begin-write-spec = tie.close (tie.spec (λ c κs. search needs) returns (λ c κs. search needs) returns-2 (λ c κs. search needs)

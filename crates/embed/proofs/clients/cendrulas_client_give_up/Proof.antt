@@ -13,7 +13,10 @@ returns c =
 returns-2 : tie.Need-returns-2
 returns-2 c =
     let a = c .before .before .before .before .before .before .before .before .before .before .args in
-    give-up-done (a .state .now) (a .t) (a .client) (c .before .before .before .before .before .before .before .before .if1 .left) (c .before .before .before .before .before .before .read .result) (c .before .before .before .before .before .give-up-in .result) _ _ (c .before .before .before .before .before .before .read .ensures) (c .before .before .before .before .before .give-up-in .ensures) (c .before .before .before .put-call .ensures) (c .aborted .ensures)
+    give-up-done (a .state .now) (a .t) (a .client) (c .before .before .before .before .before .before .before .before .if1 .left)
+    (c .before .before .before .before .before .before .read .result) (c .before .before .before .before .before .give-up-in .result) _ _
+    (c .before .before .before .before .before .before .read .ensures) (c .before .before .before .before .before .give-up-in .ensures)
+    (c .before .before .before .put-call .ensures) (c .aborted .ensures)
 
 pub cendrulas-client-give-up-spec : {M : Type 1} → statement M
 cendrulas-client-give-up-spec = tie.close (tie.spec (λ c κs. search needs) returns (λ c κs. search needs) (λ c κs. search needs)

@@ -8,22 +8,32 @@ use Rattle.embed.proofs.clients.cendrulas_client_take.Tie as tie
 returns : tie.Need-returns
 returns c =
     let a = c .before .before .before .before .before .before .before .args in
-    rw (c .pack .ensures) (take-unsized (a .state .now) (a .t) (a .client) (a .writers .now) (a .keys .now) (a .packet .now) (a .out .now) (c .before .if1 .taken))
+    rw (c .pack .ensures) (take-unsized (a .state .now) (a .t) (a .client) (a .writers .now) (a .keys .now) (a .packet .now) (a .out .now)
+    (c .before .if1 .taken))
 
 returns-2 : tie.Need-returns-2
 returns-2 c =
     let a = c .before .before .before .before .before .before .before .before .args in
-    rw (c .pack2 .ensures) (take-other-key (a .state .now) (a .t) (a .client) (a .writers .now) (a .keys .now) (a .packet .now) (a .out .now) (c .before .before .if1 .left) (c .before .if2 .taken))
+    rw (c .pack2 .ensures) (take-other-key (a .state .now) (a .t) (a .client) (a .writers .now) (a .keys .now) (a .packet .now) (a .out .now)
+    (c .before .before .if1 .left) (c .before .if2 .taken))
 
 returns-3 : tie.Need-returns-3
 returns-3 c =
     let a = c .before .before .before .before .before .before .before .before .before .args in
-    rw (c .pack3 .ensures) (take-other-keys (a .state .now) (a .t) (a .client) (a .writers .now) (a .keys .now) (a .packet .now) (a .out .now) (c .before .before .before .if1 .left) (c .before .before .if2 .left) (c .before .if3 .taken))
+    rw (c .pack3 .ensures) (take-other-keys (a .state .now) (a .t) (a .client) (a .writers .now) (a .keys .now) (a .packet .now) (a .out .now)
+    (c .before .before .before .if1 .left) (c .before .before .if2 .left) (c .before .if3 .taken))
 
 returns-4 : tie.Need-returns-4
 returns-4 c =
-    let a = c .before .before .before .before .before .before .before .before .before .before .before .before .before .before .before .before .before .before .before .args in
-    take-done (a .state .now) (a .t) (a .client) (a .writers .now) (a .keys .now) (a .packet .now) (a .out .now) (c .before .before .before .before .before .before .before .before .before .before .before .before .before .if1 .left) (c .before .before .before .before .before .before .before .before .before .before .before .before .if2 .left) (c .before .before .before .before .before .before .before .before .before .before .before .if3 .left) _ _ _ (c .before .before .before .before .before .before .before .before .before .before .array .ensures) (c .before .before .before .before .before .before .before .before .before .keys-of .ensures) (c .before .before .before .before .take-packet .ensures)
+    let a = c .before .before .before .before .before .before .before .before .before .before .before .before .before .before .before .before .before
+    .before .before .args in
+    take-done (a .state .now) (a .t) (a .client) (a .writers .now) (a .keys .now) (a .packet .now) (a .out .now)
+    (c .before .before .before .before .before .before .before .before .before .before .before .before .before .if1 .left)
+    (c .before .before .before .before .before .before .before .before .before .before .before .before .if2 .left)
+    (c .before .before .before .before .before .before .before .before .before .before .before .if3 .left) _ _ _
+    (c .before .before .before .before .before .before .before .before .before .before .array .ensures)
+    (c .before .before .before .before .before .before .before .before .before .keys-of .ensures)
+    (c .before .before .before .before .take-packet .ensures)
 
 pub cendrulas-client-take-spec : {M : Type 1} → statement M
 cendrulas-client-take-spec = tie.close (tie.spec (λ c κs. search needs) returns (λ c κs. search needs) returns-2 (λ c κs. search needs) returns-3

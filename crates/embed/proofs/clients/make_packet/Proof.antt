@@ -15,7 +15,8 @@ use Rattle.embed.proofs.clients.make_packet.Statement.{statement}
 use Rattle.embed.proofs.clients.make_packet.Tie as tie
 
 slice-aggregate-make-in : tie.Need-slice-aggregate-make-in
-slice-aggregate-make-in c = let a = c .before .before .before .before .before .before .args in let l = c .before .before .lent in sym (length-take-le (l .result) (a .out .now) (l .ensures .0))
+slice-aggregate-make-in c = let a = c .before .before .before .before .before .before .args in let l = c .before .before .lent in sym
+    (length-take-le (l .result) (a .out .now) (l .ensures .0))
 
 cast-pack : tie.Need-cast-pack
 cast-pack c =
@@ -23,8 +24,11 @@ cast-pack c =
     let d = a .state .now in
     let l = c .before .before .before .before .before .lent in
     let m = c .before .before .make-in in
-    let e = m .ensures ∙ core-made d (c .before .before .before .before .before .before .before .before .before .pre) (a .t) (a .client) (a .server) (c .before .before .before .before .before .before .read .result) _ (take (l .result) (a .out .now)) (c .before .before .before .before .before .before .read .ensures) (c .before .before .before .before .rest .ensures) in
-    let n : m .result .count ≤ packetRoom = made-count (a .out .now) (l .result) (l .ensures .0) (l .ensures .1 .0) (l .ensures .1 .1) (a .t) (a .client) (a .server) (callAt d) (keptOf d) (m .result) (m .last .1 .1 .1 .1 .1 .0) e (m .kept .1 .1 .1 .1 .1 .0) in omega (arith, n)
+    let e = m .ensures ∙ core-made d (c .before .before .before .before .before .before .before .before .before .pre) (a .t) (a .client) (a .server)
+    (c .before .before .before .before .before .before .read .result) _ (take (l .result) (a .out .now))
+    (c .before .before .before .before .before .before .read .ensures) (c .before .before .before .before .rest .ensures) in
+    let n : m .result .count ≤ packetRoom = made-count (a .out .now) (l .result) (l .ensures .0) (l .ensures .1 .0) (l .ensures .1 .1) (a .t)
+    (a .client) (a .server) (callAt d) (keptOf d) (m .result) (m .last .1 .1 .1 .1 .1 .0) e (m .kept .1 .1 .1 .1 .1 .0) in omega (arith, n)
 
 returns : tie.Need-returns
 returns c =
@@ -32,8 +36,11 @@ returns c =
     let d = a .state .now in
     let l = c .before .before .before .before .before .before .lent in
     let m = c .before .before .before .make-in in
-    let e = m .ensures ∙ core-made d (c .before .before .before .before .before .before .before .before .before .before .pre) (a .t) (a .client) (a .server) (c .before .before .before .before .before .before .before .read .result) _ (take (l .result) (a .out .now)) (c .before .before .before .before .before .before .before .read .ensures) (c .before .before .before .before .before .rest .ensures) in
-    made-out (a .out .now) (l .result) (l .ensures .0) (l .ensures .1 .0) (l .ensures .1 .1) (a .t) (a .client) (a .server) (callAt d) (keptOf d) (m .result) (m .last .1 .1 .1 .1 .1 .0) e (m .kept .1 .1 .1 .1 .1 .0) _ (c .pack .ensures)
+    let e = m .ensures ∙ core-made d (c .before .before .before .before .before .before .before .before .before .before .pre) (a .t) (a .client)
+    (a .server) (c .before .before .before .before .before .before .before .read .result) _ (take (l .result) (a .out .now))
+    (c .before .before .before .before .before .before .before .read .ensures) (c .before .before .before .before .before .rest .ensures) in
+    made-out (a .out .now) (l .result) (l .ensures .0) (l .ensures .1 .0) (l .ensures .1 .1) (a .t) (a .client) (a .server) (callAt d) (keptOf d)
+    (m .result) (m .last .1 .1 .1 .1 .1 .0) e (m .kept .1 .1 .1 .1 .1 .0) _ (c .pack .ensures)
 
 pub make-packet-spec : {M : Type 1} → statement M
 make-packet-spec = tie.close (tie.spec (λ c κs. search needs) (λ c κs. search needs) (λ c κs. search needs) (λ c. search needs)

@@ -16,8 +16,12 @@ returns c =
     let a = c .before .before .before .before .before .before .before .before .before .before .before .before .args in
     let d = a .state .now in
     let e = core-read d (c .before .before .before .before .before .before .before .before .before .before .before .before .pre) (a .t) (a .client) in
-    began d (c .before .before .before .before .before .before .before .before .before .before .before .before .pre) (beginRead (a .t) (a .client) (callAt d) (keptOf d)) (begun .begin-read-in .result) (begun .begin-read-in .last .1 .0) (c .before .before .before .put-call .last .0)
-    (begun .begin-read-in .ensures .0 ∙ rw (c .before .before .before .before .before .before .before .before .before .read .ensures) (ap started e)) (begun .begin-read-in .ensures .1 ∙ rw (c .before .before .before .before .before .before .before .before .before .read .ensures) (ap (λ (b : Begun). b .kept) e)) (c .before .before .before .put-call .ensures)
+    began d (c .before .before .before .before .before .before .before .before .before .before .before .before .pre)
+    (beginRead (a .t) (a .client) (callAt d) (keptOf d)) (begun .begin-read-in .result) (begun .begin-read-in .last .1 .0)
+    (c .before .before .before .put-call .last .0)
+    (begun .begin-read-in .ensures .0 ∙ rw (c .before .before .before .before .before .before .before .before .before .read .ensures) (ap started e))
+    (begun .begin-read-in .ensures .1 ∙ rw (c .before .before .before .before .before .before .before .before .before .read .ensures)
+    (ap (λ (b : Begun). b .kept) e)) (c .before .before .before .put-call .ensures)
 
 pub read-in-spec : {M : Type 1} → statement M
 read-in-spec = tie.close (tie.spec (λ c κs. search needs) (λ c. search needs) (λ c. search needs) (λ c. search needs) (λ c κs. search needs)

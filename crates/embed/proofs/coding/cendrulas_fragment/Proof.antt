@@ -25,7 +25,8 @@ returns-2 c =
     let a = past .before .before .before .args in
     let content = a .content .now in
     refused 14 _ _ (fragmentBytes (a .t) (a .server) content) (a .out .now)
-    (no-room (a .t) (a .server) content (past .fragment .result) (past .fragment .ensures) (a .out .now) (c .before .before .if1 .left) (c .before .if2 .taken))
+    (no-room (a .t) (a .server) content (past .fragment .result) (past .fragment .ensures) (a .out .now) (c .before .before .if1 .left)
+    (c .before .if2 .taken))
     (c .pack2 .ensures)
 
 put-requires : tie.Need-put-requires
@@ -41,7 +42,8 @@ cast-pack : tie.Need-cast-pack
 cast-pack c =
     let past = c .before .before .before .before .before .before .before .before in
     let a = past .before .before .before .args in
-    let short = made-room (a .t) (a .server) (a .content .now) (past .fragment .result) (past .fragment .ensures) (c .before .before .before .before .before .before .before .if1 .left) in
+    let short = made-room (a .t) (a .server) (a .content .now) (past .fragment .result) (past .fragment .ensures)
+    (c .before .before .before .before .before .before .before .if1 .left) in
     omega (arith, short)
 
 returns-3 : tie.Need-returns-3

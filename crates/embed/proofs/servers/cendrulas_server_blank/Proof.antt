@@ -8,7 +8,11 @@ use Rattle.embed.proofs.servers.cendrulas_server_blank.Statement.{state
 use Rattle.embed.proofs.servers.cendrulas_server_blank.Tie as tie
 
 returns : tie.Need-returns
-returns c = (c .pack .ensures ∙ ap (λ (b : Blanked). packed (b .result .number) 0 0 0) (c .before .before .before .blank .ensures), ap (λ (b : Blanked). b .memory) (c .before .before .before .blank .ensures))
+returns c = (
+  c .pack .ensures ∙ ap (λ (b : Blanked). packed (b .result .number) 0 0 0) (c .before .before .before .blank .ensures),
+  ap
+      (λ (b : Blanked). b .memory) (c .before .before .before .blank .ensures),
+)
 
 pub cendrulas-server-blank-spec : {M : Type 1} → statement M
 cendrulas-server-blank-spec = tie.close (tie.spec (λ c κs. search needs) (λ c κs. search needs) (λ c. search needs) returns)

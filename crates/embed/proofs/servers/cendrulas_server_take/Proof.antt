@@ -13,7 +13,9 @@ returns c =
 returns-2 : tie.Need-returns-2
 returns-2 c =
     let a = c .before .before .before .before .before .before .before .before .before .before .before .before .before .args in
-    take-sized (a .memory .now) (a .key .now) (a .packet .now) (a .out .now) _ _ (c .before .before .before .before .before .before .before .before .if1 .left) (c .before .before .before .before .before .before .array .ensures) (c .before .before .before .before .serve .ensures)
+    take-sized (a .memory .now) (a .key .now) (a .packet .now) (a .out .now) _ _
+    (c .before .before .before .before .before .before .before .before .if1 .left) (c .before .before .before .before .before .before .array .ensures)
+    (c .before .before .before .before .serve .ensures)
 
 pub cendrulas-server-take-spec : {M : Type 1} → statement M
 cendrulas-server-take-spec = tie.close (tie.spec (λ c κs. search needs) returns (λ c κs. search needs) (λ c κs. search needs) (λ c. search needs)

@@ -11,14 +11,16 @@ use Rattle.embed.proofs.servers.serve.Statement.{statement}
 use Rattle.embed.proofs.servers.serve.Tie as tie
 
 slice-aggregate-take : tie.Need-slice-aggregate-take
-slice-aggregate-take c = let a = c .before .before .before .before .before .before .before .args in let l = c .before .before .before .lent in sym (length-take-le (l .result) (a .out .now) (l .ensures .0))
+slice-aggregate-take c = let a = c .before .before .before .before .before .before .before .args in let l = c .before .before .before .lent in sym
+    (length-take-le (l .result) (a .out .now) (l .ensures .0))
 
 cast-pack : tie.Need-cast-pack
 cast-pack c =
     let a = c .before .before .before .before .before .before .before .before .before .before .before .before .args in
     let l = c .before .before .before .before .before .before .before .before .lent in
     let t = c .before .before .before .before .take in
-    let n : t .result .count ≤ packetRoom = served-count (a .memory .now) (a .t2) (a .packet .now) (a .out .now) (l .result) (l .ensures .0) (l .ensures .1 .0) (l .ensures .1 .1) (t .result) (t .last .0) (t .last .1 .1 .1 .0) (t .ensures) (t .kept .1 .1 .1 .0) in
+    let n : t .result .count ≤ packetRoom = served-count (a .memory .now) (a .t2) (a .packet .now) (a .out .now) (l .result) (l .ensures .0)
+    (l .ensures .1 .0) (l .ensures .1 .1) (t .result) (t .last .0) (t .last .1 .1 .1 .0) (t .ensures) (t .kept .1 .1 .1 .0) in
     omega (arith, n)
 
 returns : tie.Need-returns
@@ -26,7 +28,8 @@ returns c =
     let a = c .before .before .before .before .before .before .before .before .before .before .before .before .before .args in
     let l = c .before .before .before .before .before .before .before .before .before .lent in
     let t = c .before .before .before .before .before .take in
-    served-out (a .memory .now) (a .t2) (a .packet .now) (a .out .now) (l .result) (l .ensures .0) (l .ensures .1 .0) (l .ensures .1 .1) (t .result) (t .last .0) (t .last .1 .1 .1 .0) (t .ensures) (t .kept .1 .1 .1 .0) _ (c .pack .ensures)
+    served-out (a .memory .now) (a .t2) (a .packet .now) (a .out .now) (l .result) (l .ensures .0) (l .ensures .1 .0) (l .ensures .1 .1) (t .result)
+    (t .last .0) (t .last .1 .1 .1 .0) (t .ensures) (t .kept .1 .1 .1 .0) _ (c .pack .ensures)
 
 pub serve-spec : {M : Type 1} → statement M
 serve-spec = tie.close (tie.spec (λ c κs. search needs) (λ c. search needs) slice-aggregate-take (λ c κs. search needs) cast-pack

@@ -41,9 +41,11 @@ returns-3 c =
     let la : length (args .c .at) ≡ width = search needs in
     let lp : length (args .c .servers) ≡ width = search needs in (
       search needs,
-      ap (λ (n : ℕ). take n (set (args .c .at) (args .c .count) (args .i))) (add-one (args .c .count)) ∙ take-suc-set (args .c .at) (args .c .count) (args .i) (omega arith)
+      ap (λ (n : ℕ). take n (set (args .c .at) (args .c .count) (args .i))) (add-one (args .c .count)) ∙ take-suc-set (args .c .at) (args .c .count)
+          (args .i) (omega arith)
           ∙ sym (ap₂ (λ t s. more t s (take (args .c .count) (args .c .at)) (args .i)) e f),
-      ap (λ (n : ℕ). take n (set (args .c .servers) (args .c .count) (args .s))) (add-one (args .c .count)) ∙ take-suc-set (args .c .servers) (args .c .count) (args .s) (omega arith)
+      ap (λ (n : ℕ). take n (set (args .c .servers) (args .c .count) (args .s))) (add-one (args .c .count)) ∙ take-suc-set (args .c .servers)
+          (args .c .count) (args .s) (omega arith)
           ∙ sym (ap₂ (λ t s. more t s (take (args .c .count) (args .c .servers)) (args .s)) e f),
     )
 

@@ -44,16 +44,19 @@ loop-again c =
     let s : among b (take (old .count) (old .servers)) ≡ among b (map g ps) = ap (among b) (at .inv .2 .servers-is) in
     let ps′ = more (ltb (length ps) k) (among b (map g ps)) ps (at .i) in
     let places′ : take (new .count) (new .at) ≡ ps′ =
-    c .add-server .ensures .1 ∙ ap₂ (λ x y. more x y (take (old .count) (old .at)) (at .i)) t s ∙ ap (λ x. more (ltb (length ps) k) (among b (map g ps)) x (at .i)) (at .inv .2 .places-is) in
+    c .add-server .ensures .1 ∙ ap₂ (λ x y. more x y (take (old .count) (old .at)) (at .i)) t s ∙ ap
+    (λ x. more (ltb (length ps) k) (among b (map g ps)) x (at .i)) (at .inv .2 .places-is) in
     let servers′ : take (new .count) (new .servers) ≡ map g ps′ =
-    c .add-server .ensures .2 ∙ ap₂ (λ x y. more x y (take (old .count) (old .servers)) b) t s ∙ ap (λ x. more (ltb (length ps) k) (among b (map g ps)) x b) (at .inv .2 .servers-is)
+    c .add-server .ensures .2 ∙ ap₂ (λ x y. more x y (take (old .count) (old .servers)) b) t s ∙ ap
+    (λ x. more (ltb (length ps) k) (among b (map g ps)) x b) (at .inv .2 .servers-is)
     ∙ sym (more-map g (ltb (length ps) k) (among b (map g ps)) ps (at .i)) in
     let la : length (new .at) ≡ width = search needs in
     let room′ : new .count ≤ k = c .add-server .ensures .0 in
     let len : length ps′ ≡ new .count = ap length (sym places′) ∙ length-take-le (new .count) (new .at) (omega arith) in (
       search needs,
       subst (λ (n : ℕ). length (chosenOf k bs n) ≡ new .count) (sym (add-one (at .i))) len,
-      subst (λ (n : ℕ). Holds k bs (chosenOf k bs n) new) (sym (add-one (at .i))) (record { room = room′; places-is = places′; servers-is = servers′ }),
+      subst (λ (n : ℕ). Holds k bs (chosenOf k bs n) new) (sym (add-one (at .i))) (record
+          { room = room′; places-is = places′; servers-is = servers′ }),
     )
 
 returns : tie.Need-returns Inv-loop μ-loop

@@ -9,10 +9,12 @@ use Rattle.erasure.proofs.direct.factor.Statement.{statement}
 use Rattle.erasure.proofs.direct.factor.Tie as tie
 
 returns : tie.Need-returns
-returns c = sym (ap (λ (b : Bool). cond b 1 (bitXor (c .before .args .z) (getD (c .before .args .t1) (c .before .args .m) 0))) (eq-eqb (c .before .args .m) (c .before .args .j) (c .if1 .taken)))
+returns c = sym (ap (λ (b : Bool). cond b 1 (bitXor (c .before .args .z) (getD (c .before .args .t1) (c .before .args .m) 0)))
+    (eq-eqb (c .before .args .m) (c .before .args .j) (c .if1 .taken)))
 
 returns-2 : tie.Need-returns-2
-returns-2 c = sym (ap (λ (b : Bool). cond b 1 (bitXor (c .before .args .z) (getD (c .before .args .t1) (c .before .args .m) 0))) (ne-eqb (c .before .args .m) (c .before .args .j) (c .if1 .left)))
+returns-2 c = sym (ap (λ (b : Bool). cond b 1 (bitXor (c .before .args .z) (getD (c .before .args .t1) (c .before .args .m) 0)))
+    (ne-eqb (c .before .args .m) (c .before .args .j) (c .if1 .left)))
 
 pub factor-spec : {M : Type 1} → statement M
 factor-spec = tie.close (tie.spec (λ c. search needs) returns returns-2)

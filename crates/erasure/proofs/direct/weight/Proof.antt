@@ -25,8 +25,10 @@ loop-again c =
     let args = c .before .before .before .before .before .before .args in
     let x = getD (args .t1) (args .j) 0 in (
       search needs,
-      c .before .before .product .ensures ∙ productTo-more (l .m) (factorAt (args .t1) (args .j) (args .z)) (l .top) (c .before .before .before .factor .result) (l .inv .1) (c .before .before .before .factor .ensures),
-      c .product2 .ensures ∙ productTo-more (l .m) (factorAt (args .t1) (args .j) x) (l .own) (c .before .factor2 .result) (l .inv .2) (c .before .factor2 .ensures),
+      c .before .before .product .ensures ∙ productTo-more (l .m) (factorAt (args .t1) (args .j) (args .z)) (l .top)
+          (c .before .before .before .factor .result) (l .inv .1) (c .before .before .before .factor .ensures),
+      c .product2 .ensures ∙ productTo-more (l .m) (factorAt (args .t1) (args .j) x) (l .own) (c .before .factor2 .result) (l .inv .2)
+          (c .before .factor2 .ensures),
     )
 
 returns : tie.Need-returns Inv-loop μ-loop
@@ -37,7 +39,8 @@ returns c =
     let e : l .m ≡ args .k = omega arith in
     c .product3 .ensures
     ∙ ap₂ times (l .inv .1 ∙ ap (λ (n : ℕ). productTo n (factorAt (args .t1) (args .j) (args .z))) e)
-    (c .before .inverse .ensures ∙ ap inverse (l .inv .2 ∙ ap (λ (n : ℕ). productTo n (factorAt (args .t1) (args .j) (getD (args .t1) (args .j) 0))) e))
+    (c .before .inverse .ensures ∙ ap inverse (l .inv .2 ∙ ap (λ (n : ℕ). productTo n (factorAt (args .t1) (args .j) (getD (args .t1) (args .j) 0)))
+    e))
 
 pub weight-spec : {M : Type 1} → statement M
 weight-spec = tie.close (tie.spec Inv-loop μ-loop (λ c. search needs) loop-holds (λ c κs. search needs) (λ c κs. search needs) (λ c κs. search needs)

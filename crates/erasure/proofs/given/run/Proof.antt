@@ -35,8 +35,10 @@ returns-2 c =
     let args = start .args in
     let fragments = denote.Ref.now (args .fragments) in
     let w = c .before .before .before .before .weights in
-    written-as _ _ (args .at) (args .m) (sumAt (args .k) (w .result) fragments (args .t3)) (runAt (args .k) (args .a) (args .t2) (args .t3) fragments (args .i))
-    (λ q h. summed-as (args .k) (args .i) q (args .a) (w .result) (args .t2) (args .t3) fragments (start .pre .0) (w .ensures) (c .before .before .before .before .before .if1 .left))
+    written-as _ _ (args .at) (args .m) (sumAt (args .k) (w .result) fragments (args .t3))
+    (runAt (args .k) (args .a) (args .t2) (args .t3) fragments (args .i))
+    (λ q h. summed-as (args .k) (args .i) q (args .a) (w .result) (args .t2) (args .t3) fragments (start .pre .0) (w .ensures)
+    (c .before .before .before .before .before .if1 .left))
     (c .before .before .combine .ensures)
 
 pub run-spec : {M : Type 1} → statement M

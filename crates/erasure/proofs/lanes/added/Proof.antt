@@ -31,7 +31,8 @@ returns c i h =
     let x = getD (args .t2) i 0 in
     let f : Fits w8 x = search needs in
     c .before .loop .inv .1 .each i (omega arith)
-    ∙ ap (bitXor (getD (args .t1) i 0)) (ap (bitAnd x) (c .before .before .mask .ensures) ∙ masked (bitOf (args .w) (args .b)) x (bit-lt (args .w) (args .b)) (f .fits))
+    ∙ ap (bitXor (getD (args .t1) i 0)) (ap (bitAnd x) (c .before .before .mask .ensures) ∙ masked (bitOf (args .w) (args .b)) x
+    (bit-lt (args .w) (args .b)) (f .fits))
 
 pub added-spec : {M : Type 1} → statement M
 added-spec = tie.close (tie.spec Inv-loop μ-loop (λ c κs. search needs) loop-holds (λ c. search needs) (λ c. search needs) (λ c. search needs)

@@ -13,7 +13,8 @@ use Rattle.erasure.proofs.lanes.bit_step.Statement.{statement}
 use Rattle.erasure.proofs.lanes.bit_step.Tie as tie
 
 abbrev Inv-loop : tie.InvT-loop
-Inv-loop lanes b k weights out₀ j₀ out j = (j ≤ k) × Lane out (λ i. bitXor (getD out₀ i 0) (sumTo j (λ m. bitOf (getD weights m 0) b * entry lanes m i)))
+Inv-loop lanes b k weights out₀ j₀ out j = (j ≤ k) × Lane out (λ i. bitXor (getD out₀ i 0)
+    (sumTo j (λ m. bitOf (getD weights m 0) b * entry lanes m i)))
 
 abbrev μ-loop : tie.MeasureT-loop
 μ-loop lanes b k weights out₀ j₀ out j = k - j

@@ -67,7 +67,8 @@ loop-again c =
     (λ i h.
     let b : i < lane = omega (arith, n .ensures .1) in
     sum .ensures i b
-    ∙ sumTo-ext (args .k) (λ j. times (entry (lanes .result) j i) (getD (args .weights) j 0)) (λ j. times (getD src (getD (args .starts) j 0 + (l .q + i)) 0) (getD (args .weights) j 0))
+    ∙ sumTo-ext (args .k) (λ j. times (entry (lanes .result) j i) (getD (args .weights) j 0))
+    (λ j. times (getD src (getD (args .starts) j 0 + (l .q + i)) 0) (getD (args .weights) j 0))
     (λ j hj. ap (λ (x : ℕ). times x (getD (args .weights) j 0)) (lanes .ensures j hj i b)))
     (c .before .before .store .ensures) in
     (omega (arith, n .ensures .0), written-on old (l .out) _ (args .at) (l .q) (n .result) g (l .inv .1) piece)
@@ -79,7 +80,8 @@ returns : tie.Need-returns Inv-loop μ-loop
 returns c =
     let l = c .before .loop in
     let args = c .before .before .before .before .args in
-    subst (λ (n : ℕ). Written (denote.Ref.now (args .out)) (l .out) (args .at) n (sumAt (args .k) (args .weights) (denote.Ref.now (args .src)) (args .starts))) (omega arith) (l .inv .1)
+    subst (λ (n : ℕ). Written (denote.Ref.now (args .out)) (l .out) (args .at) n (sumAt (args .k) (args .weights) (denote.Ref.now (args .src))
+    (args .starts))) (omega arith) (l .inv .1)
 
 pub combine-spec : {M : Type 1} → statement M
 combine-spec = tie.close (tie.spec Inv-loop μ-loop loop-holds (λ c. search needs) (λ c κs. search needs) gather-requires (λ c κs. search needs)

@@ -22,14 +22,18 @@ loop-again : tie.Need-loop-again Inv-loop μ-loop
 loop-again c =
     let l = c .before .before .loop in
     let args = c .before .before .before .args in
-    let src = denote.Ref.now (args .src) in
-    (search needs, written-more (denote.Ref.now (args .out)) (l .out) (args .at) (l .i) (λ j. getD src (args .from + j) 0) (getD src (args .from + l .i) 0) (omega (arith, l .inv .1 .long)) refl (l .inv .1))
+    let src = denote.Ref.now (args .src) in (
+      search needs,
+      written-more (denote.Ref.now (args .out)) (l .out) (args .at) (l .i) (λ j. getD src (args .from + j) 0)
+          (getD src (args .from + l .i) 0) (omega (arith, l .inv .1 .long)) refl (l .inv .1),
+    )
 
 returns : tie.Need-returns Inv-loop μ-loop
 returns c =
     let l = c .before .loop in
     let args = c .before .before .args in
-    subst (λ (n : ℕ). Written (denote.Ref.now (args .out)) (l .out) (args .at) n (λ j. getD (denote.Ref.now (args .src)) (args .from + j) 0)) (omega arith) (l .inv .1)
+    subst (λ (n : ℕ). Written (denote.Ref.now (args .out)) (l .out) (args .at) n (λ j. getD (denote.Ref.now (args .src)) (args .from + j) 0))
+    (omega arith) (l .inv .1)
 
 pub copy-spec : {M : Type 1} → statement M
 copy-spec = tie.close (tie.spec Inv-loop μ-loop loop-holds (λ c. search needs) (λ c. search needs) (λ c. search needs) (λ c. search needs)

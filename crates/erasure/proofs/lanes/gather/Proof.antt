@@ -22,7 +22,8 @@ loop-holds : tie.Need-loop-holds Inv-loop μ-loop
 loop-holds c = (search needs, filled-none refl)
 
 add-lane-at : tie.Need-add-lane-at Inv-loop μ-loop
-add-lane-at c = let h : c .before .loop .j < c .before .before .before .args .k = search needs in omega (arith, c .before .before .before .pre .1 (c .before .loop .j) h)
+add-lane-at c = let h : c .before .loop .j < c .before .before .before .args .k = search needs in omega
+    (arith, c .before .before .before .pre .1 (c .before .loop .j) h)
 
 lane-at-requires : tie.Need-lane-at-requires Inv-loop μ-loop
 lane-at-requires c κs = c .before .before .before .pre .1 (c .before .loop .j) (omega arith)
@@ -33,7 +34,8 @@ loop-again c =
     let args = c .before .before .before .before .args in
     let src = denote.Ref.now (args .src) in (
       search needs,
-      filled-more (l .inv .1) (omega arith) _ (λ i h. c .lane-at .ensures i h ∙ ap (λ (x : ℕ). getD src x 0) (add-assoc (getD (args .t2) (l .j) 0) (args .q) i)),
+      filled-more (l .inv .1) (omega arith) _ (λ i h. c .lane-at .ensures i h ∙ ap (λ (x : ℕ). getD src x 0)
+          (add-assoc (getD (args .t2) (l .j) 0) (args .q) i)),
     )
 
 returns : tie.Need-returns Inv-loop μ-loop

@@ -50,8 +50,10 @@ returns c i h =
     let l = c .before .loop in
     let args = c .before .before .args in
     let e : l .n ≡ 8 = omega arith in
-    subst (λ (n : ℕ). getD (l .out) i 0 ≡ sumTo (args .k) (λ j. timesBits n (entry (args .t1) j i) (getD (args .weights) j 0 / 2 ^ (8 - n)))) e (l .inv .1 i h)
-    ∙ sumTo-ext (args .k) (λ j. timesBits 8 (entry (args .t1) j i) (getD (args .weights) j 0 / 1)) (λ j. times (entry (args .t1) j i) (getD (args .weights) j 0))
+    subst (λ (n : ℕ). getD (l .out) i 0 ≡ sumTo (args .k) (λ j. timesBits n (entry (args .t1) j i) (getD (args .weights) j 0 / 2 ^ (8 - n)))) e
+    (l .inv .1 i h)
+    ∙ sumTo-ext (args .k) (λ j. timesBits 8 (entry (args .t1) j i) (getD (args .weights) j 0 / 1))
+    (λ j. times (entry (args .t1) j i) (getD (args .weights) j 0))
     (λ j b. ap (timesBits 8 (entry (args .t1) j i)) (div-one (getD (args .weights) j 0)))
 
 pub lane-sum-spec : {M : Type 1} → statement M

@@ -21,8 +21,11 @@ loop-holds c = (search needs, written-none _ _ _)
 loop-again : tie.Need-loop-again Inv-loop μ-loop
 loop-again c =
     let l = c .before .loop in
-    let args = c .before .before .args in
-    (search needs, written-more (denote.Ref.now (args .out)) (l .out) (args .at) (l .i) (λ j. getD (args .t4) j 0) (getD (args .t4) (l .i) 0) (omega (arith, l .inv .1 .long)) refl (l .inv .1))
+    let args = c .before .before .args in (
+      search needs,
+      written-more (denote.Ref.now (args .out)) (l .out) (args .at) (l .i) (λ j. getD (args .t4) j 0) (getD (args .t4) (l .i) 0)
+          (omega (arith, l .inv .1 .long)) refl (l .inv .1),
+    )
 
 returns : tie.Need-returns Inv-loop μ-loop
 returns c =

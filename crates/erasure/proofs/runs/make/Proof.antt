@@ -16,8 +16,14 @@ use Rattle.erasure.proofs.runs.make.Tie as tie
 starts-of-requires : tie.Need-starts-of-requires
 starts-of-requires c κs =
     let args = c .before .before .before .before .args in
-    let pre = c .before .before .before .before .pre in
-    (search needs, λ j h. omega (arith, plain-start (args .k) (args .f) j (getD (c .plain-places .result) j 0) (pre .0) (pre .1) h (c .plain-places .ensures j (omega arith))))
+    let pre = c .before .before .before .before .pre in (
+      search needs,
+      λ j h. omega (
+        arith,
+        plain-start (args .k) (args .f) j (getD (c .plain-places .result) j 0) (pre .0) (pre .1) h
+            (c .plain-places .ensures j (omega arith)),
+      ),
+    )
 
 combine-requires : tie.Need-combine-requires
 combine-requires c κs =
@@ -25,7 +31,12 @@ combine-requires c κs =
     let pre = c .before .before .before .before .before .before .before .pre in
     let places = c .before .before .before .plain-places in (
       search needs,
-      λ j h. omega (arith, c .before .before .starts-of .ensures j h, plain-start (args .k) (args .f) j (getD (places .result) j 0) (pre .0) (pre .1) h (places .ensures j (omega arith))),
+      λ j h. omega (
+        arith,
+        c .before .before .starts-of .ensures j h,
+        plain-start (args .k) (args .f) j (getD (places .result) j 0) (pre .0) (pre .1)
+            h (places .ensures j (omega arith)),
+      ),
       (let l : length (c .before .blank .result) ≡ fragmentRoom = search needs in omega (arith, l, pre .1)),
     )
 
@@ -39,12 +50,15 @@ returns c =
     let at = c .before .before .before .before .before .plain-places in
     let starts = c .before .before .before .before .starts-of in
     let content = denote.Ref.now (args .content) in
-    let small : (j : ℕ) → getD content j 0 < 256 = λ j. (c .before .before .before .before .before .before .before .before .shared-slice-known .given j .fits) in
+    let small : (j : ℕ) → getD content j 0 < 256 = λ j. (c .before .before .before .before .before .before .before .before .shared-slice-known .given
+    j .fits) in
     let bytes : (j : ℕ) → getD (xs .result) j 0 < 256 = λ j. (let f : Fits w8 (getD (xs .result) j 0) = search needs in f .fits) in
     let long : length (xs .result) ≡ width = search needs in
-    made (args .k) (args .f) fragmentRoom (args .z) (w .result) content (starts .result) (at .result) (xs .result) _ _ (directAt (args .k) (xs .result) (args .z))
+    made (args .k) (args .f) fragmentRoom (args .z) (w .result) content (starts .result) (at .result) (xs .result) _ _
+    (directAt (args .k) (xs .result) (args .z))
     (c .before .before .before .blank .ensures) (pre .0) (pre .1)
-    (direct (args .k) (xs .result) bytes (omega (arith, long, pre .0)) (plain-different (args .k) (xs .result) (pre .0) (xs .ensures)) (args .z) (start .fits .z .fits))
+    (direct (args .k) (xs .result) bytes (omega (arith, long, pre .0)) (plain-different (args .k) (xs .result) (pre .0) (xs .ensures)) (args .z)
+    (start .fits .z .fits))
     (plain-is (args .k) (xs .result) (pre .0) long (xs .ensures)) (w .ensures) (starts .ensures) (at .ensures) small (c .before .combine .ensures)
 
 pub make-spec : {M : Type 1} → statement M

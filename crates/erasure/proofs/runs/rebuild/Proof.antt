@@ -15,7 +15,8 @@ use Rattle.erasure.proofs.runs.rebuild.Statement.{statement}
 use Rattle.erasure.proofs.runs.rebuild.Tie as tie
 
 abbrev Inv-loop : tie.InvT-loop
-Inv-loop fragments k f n out₀ places a starts done₀ out done = (done ≤ n) × (done < n → done % f ≡ 0) × Written out₀ out 0 done (byteOf k f a places starts fragments)
+Inv-loop fragments k f n out₀ places a starts done₀ out done = (done ≤ n) × (done < n → done % f ≡ 0) × Written out₀ out 0 done
+    (byteOf k f a places starts fragments)
 
 abbrev μ-loop : tie.MeasureT-loop
 μ-loop fragments k f n out₀ places a starts done₀ out done = n - done
@@ -70,8 +71,10 @@ loop-again c =
     let places = c .before .before .before .before .before .before .before .before .before .places-of in
     let e : l .done % args .f ≡ 0 = l .inv .1 (omega arith) in (
       omega (arith, m .ensures .0),
-      λ h. (let q : m .result ≡ args .f = m .ensures .3 (omega arith) in ap (λ (x : ℕ). (l .done + x) % args .f) q ∙ add-mod-right (l .done) (args .f) ∙ e),
-      run-more (args .k) (args .f) (l .done) (m .result) (a .result) (places .result) (starts .result) (denote.Ref.now (args .fragments)) (denote.Ref.now (args .out)) (l .out) _ (start .pre .1) e
+      λ h. (let q : m .result ≡ args .f = m .ensures .3 (omega arith) in ap (λ (x : ℕ). (l .done + x) % args .f) q ∙ add-mod-right (l .done) (args .f)
+          ∙ e),
+      run-more (args .k) (args .f) (l .done) (m .result) (a .result) (places .result) (starts .result) (denote.Ref.now (args .fragments))
+          (denote.Ref.now (args .out)) (l .out) _ (start .pre .1) e
           (m .ensures .1) (l .inv .2) (c .before .before .run .ensures),
     )
 
@@ -89,11 +92,14 @@ returns c =
     let fragments = denote.Ref.now (args .fragments) in
     let old = denote.Ref.now (args .out) in
     let small : (j : ℕ) → getD fragments j 0 < 256 = λ j. (c .before .before .before .before .before .before .shared-slice-known .given j .fits) in
-    let points : (j : ℕ) → j < args .k → getD (args .servers) j 0 < 256 = λ j h. (let f : Fits w8 (getD (args .servers) j 0) = search needs in f .fits) in
+    let points : (j : ℕ) → j < args .k → getD (args .servers) j 0 < 256 = λ j h. (let f : Fits w8 (getD (args .servers) j 0) = search
+    needs in f .fits) in
     let long : length (args .servers) ≡ width = search needs in
-    rebuilt (args .k) (args .f) (args .n) (a .result) (places .result) (starts .result) fragments (args .at) (args .servers) old (l .out) (start .pre .0) (start .pre .1) (start .pre .2)
+    rebuilt (args .k) (args .f) (args .n) (a .result) (places .result) (starts .result) fragments (args .at) (args .servers) old (l .out)
+    (start .pre .0) (start .pre .1) (start .pre .2)
     (start .pre .3) (omega (arith, long, start .pre .0)) (start .pre .4) points small (starts .ensures) (places .ensures) (a .ensures)
-    (subst (λ (n : ℕ). Written old (l .out) 0 n (byteOf (args .k) (args .f) (a .result) (places .result) (starts .result) fragments)) (omega arith) (l .inv .2))
+    (subst (λ (n : ℕ). Written old (l .out) 0 n (byteOf (args .k) (args .f) (a .result) (places .result) (starts .result) fragments)) (omega arith)
+    (l .inv .2))
 
 pub rebuild-spec : {M : Type 1} → statement M
 rebuild-spec = tie.close (tie.spec Inv-loop μ-loop places-of-requires system-of-requires starts-of-requires loop-holds (λ c. search needs)

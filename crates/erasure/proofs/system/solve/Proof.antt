@@ -43,12 +43,14 @@ loop-again c =
     let small : e < 256 = at .inv .1 (at .p) (at .p) p5 p5 in
     let pos : 0 < e =
     pivot-pos k (at .p) xs (at .a) s (start .pre .1) pk
-    (half-system k (at .p) (mat (sys .result)) (λ r j. pow field laws (point xs r) j) (mat (at .a)) (begun k xs (sys .result) (search needs) s (sys .ensures)) (at .inv .2)) in (
+    (half-system k (at .p) (mat (sys .result)) (λ r j. pow field laws (point xs r) j) (mat (at .a))
+    (begun k xs (sys .result) (search needs) s (sys .ensures)) (at .inv .2)) in (
       search needs,
       small-out (at .a) (c .turn .result) (at .p) (inverse e) (c .turn .ensures) (at .inv .1) (inverse-lt e small) p5,
       subst (λ (n : ℕ). Half field laws k (mat (sys .result)) n (mat (c .turn .result))) (sym (add-one (at .p)))
           (half-more field laws k (at .p) (mat (sys .result)) (mat (at .a)) (mat (c .turn .result)) (toByte (inverse e))
-          (turned-mat (at .a) (c .turn .result) (at .p) (inverse e) (c .turn .ensures) (at .inv .1) (inverse-lt e small) p5 k (search needs)) pk (unit-law (at .a) (at .p) small pos) (at .inv .2)),
+          (turned-mat (at .a) (c .turn .result) (at .p) (inverse e) (c .turn .ensures) (at .inv .1) (inverse-lt e small) p5 k (search needs)) pk
+          (unit-law (at .a) (at .p) small pos) (at .inv .2)),
     )
 
 returns : tie.Need-returns Inv-loop μ-loop
@@ -62,7 +64,8 @@ returns c =
     let five : length xs ≡ width = search needs in
     let end : at .p ≡ k = omega arith in
     solves k xs (at .a) (search needs) (omega arith) s (at .inv .1) (start .pre .1)
-    (half-system k k (mat (sys .result)) (λ r j. pow field laws (point xs r) j) (mat (at .a)) (begun k xs (sys .result) (search needs) s (sys .ensures))
+    (half-system k k (mat (sys .result)) (λ r j. pow field laws (point xs r) j) (mat (at .a))
+    (begun k xs (sys .result) (search needs) s (sys .ensures))
     (subst (λ (n : ℕ). Half field laws k (mat (sys .result)) n (mat (at .a))) end (at .inv .2)))
 
 pub solve-spec : {M : Type 1} → statement M

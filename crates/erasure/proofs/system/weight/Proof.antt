@@ -22,8 +22,11 @@ loop-holds c = (search needs, sym (sumTo-none _))
 loop-again : tie.Need-loop-again Inv-loop μ-loop
 loop-again c =
     let at = c .before .before .before .loop in
-    let args = c .before .before .before .before .args in
-    (search needs, sumTo-more (at .c) (λ i. times (getD (args .t2) i 0) (entry (args .t1) i (args .j))) (at .acc) (c .product .result) (at .inv .1) (c .product .ensures))
+    let args = c .before .before .before .before .args in (
+      search needs,
+      sumTo-more (at .c) (λ i. times (getD (args .t2) i 0) (entry (args .t1) i (args .j))) (at .acc) (c .product .result) (at .inv .1)
+          (c .product .ensures),
+    )
 
 returns : tie.Need-returns Inv-loop μ-loop
 returns c =

@@ -29,7 +29,8 @@ loop-again c =
       search needs,
       filled-more (at .inv .1) (omega arith) _
           (c .weight .ensures
-          ∙ sumTo-ext (args .k) (λ i. times (getD (powers .result) i 0) (entry (args .a) i (at .j))) (λ i. times (power (args .z) i) (entry (args .a) i (at .j)))
+          ∙ sumTo-ext (args .k) (λ i. times (getD (powers .result) i 0) (entry (args .a) i (at .j)))
+          (λ i. times (power (args .z) i) (entry (args .a) i (at .j)))
           (λ i h. ap (λ (x : ℕ). times x (entry (args .a) i (at .j))) (powers .ensures i (omega arith)))),
     )
 

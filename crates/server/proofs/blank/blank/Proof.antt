@@ -15,22 +15,27 @@ use Rattle.server.proofs.blank.blank.Tie as tie
 faults-in : (c : tie.Else2) → not (within 1 topFaults (c .before .before .before .before .args .t)) ≡ false
 faults-in c = sym (c .before .outside .ensures) ∙ c .if2 .left
 
-server-tested : (c : tie.After-outside2) → let a = c .before .before .before .before .before .before .args in not (within 1 (shelf (a .t) .servers) (a .server)) ≡ c .outside2 .result
-server-tested c = ap (λ (n : ℕ). not (within 1 n (c .before .before .before .before .before .before .args .server))) (sym (c .before .servers .ensures)) ∙ sym (c .outside2 .ensures)
+server-tested : (c : tie.After-outside2) → let a = c .before .before .before .before .before .before .args in not
+    (within 1 (shelf (a .t) .servers) (a .server)) ≡ c .outside2 .result
+server-tested c = ap (λ (n : ℕ). not (within 1 n (c .before .before .before .before .before .before .args .server)))
+    (sym (c .before .servers .ensures)) ∙ sym (c .outside2 .ensures)
 
-server-in : (c : tie.Else3) → let a = c .before .before .before .before .before .before .before .args in not (within 1 (shelf (a .t) .servers) (a .server)) ≡ false
+server-in : (c : tie.Else3) → let a = c .before .before .before .before .before .before .before .args in not
+    (within 1 (shelf (a .t) .servers) (a .server)) ≡ false
 server-in c = server-tested (c .before) ∙ c .if3 .left
 
 -- ---- the needs
 
 returns : tie.Need-returns
-returns c = let a = c .before .before .before .args in rw (c .refused .ensures) (blank-size (a .memory .now) (a .t) (a .server) (c .before .if1 .taken))
+returns c = let a = c .before .before .before .args in rw (c .refused .ensures) (blank-size (a .memory .now) (a .t) (a .server)
+    (c .before .if1 .taken))
 
 returns-2 : tie.Need-returns-2
 returns-2 c =
     let a = c .before .before .before .before .before .args in
     rw (c .refused2 .ensures)
-    (blank-faults (a .memory .now) (a .t) (a .server) (c .before .before .before .if1 .left) (sym (c .before .before .outside .ensures) ∙ c .before .if2 .taken))
+    (blank-faults (a .memory .now) (a .t) (a .server) (c .before .before .before .if1 .left)
+    (sym (c .before .before .outside .ensures) ∙ c .before .if2 .taken))
 
 cast-servers : tie.Need-cast-servers
 cast-servers c = omega (arith, faults-byte (c .before .before .before .before .args .t) (faults-in c))
@@ -39,22 +44,34 @@ returns-3 : tie.Need-returns-3
 returns-3 c =
     let a = c .before .before .before .before .before .before .before .before .args in
     rw (c .refused3 .ensures)
-    (blank-server (a .memory .now) (a .t) (a .server) (c .before .before .before .before .before .before .if1 .left) (faults-in (c .before .before .before .before)) (server-tested (c .before .before) ∙ c .before .if3 .taken))
+    (blank-server (a .memory .now) (a .t) (a .server) (c .before .before .before .before .before .before .if1 .left)
+    (faults-in (c .before .before .before .before)) (server-tested (c .before .before) ∙ c .before .if3 .taken))
 
 cast-memory : tie.Need-cast-memory
-cast-memory c = omega (arith, faults-byte (c .before .before .before .before .before .before .before .before .before .before .before .args .t) (faults-in (c .before .before .before .before .before .before .before)))
+cast-memory c = omega (
+  arith,
+  faults-byte (c .before .before .before .before .before .before .before .before .before .before .before .args .t)
+      (faults-in (c .before .before .before .before .before .before .before)),
+)
 
 cast-memory-2 : tie.Need-cast-memory-2
 cast-memory-2 c =
     let a = c .before .before .before .before .before .before .before .before .before .before .before .args in
-    omega (arith, server-byte (a .t) (a .server) (faults-in (c .before .before .before .before .before .before .before)) (server-in (c .before .before .before .before)))
+    omega (
+      arith,
+      server-byte (a .t) (a .server) (faults-in (c .before .before .before .before .before .before .before))
+          (server-in (c .before .before .before .before)),
+    )
 
 returns-4 : tie.Need-returns-4
 returns-4 c =
     let a = c .before .before .before .before .before .before .before .before .before .before .before .args in
-    blank-made (a .memory .now) (a .t) (a .server) (c .before .before .before .before .before .before .before .before .before .if1 .left) (faults-in (c .before .before .before .before .before .before .before)) (server-in (c .before .before .before .before)) (c .before .before .clear .ensures)
+    blank-made (a .memory .now) (a .t) (a .server) (c .before .before .before .before .before .before .before .before .before .if1 .left)
+    (faults-in (c .before .before .before .before .before .before .before)) (server-in (c .before .before .before .before))
+    (c .before .before .clear .ensures)
 
 pub blank-spec : {M : Type 1} → statement M
-blank-spec = tie.close (tie.spec (λ c κs. search needs) returns (λ c κs. search needs) (λ c κs. search needs) returns-2 cast-servers (λ c κs. search needs)
+blank-spec = tie.close (tie.spec (λ c κs. search needs) returns (λ c κs. search needs) (λ c κs. search needs) returns-2 cast-servers
+    (λ c κs. search needs)
     (λ c κs. search needs) (λ c κs. search needs) returns-3 (λ c κs. search needs) cast-memory (λ c. search needs) cast-memory-2 (λ c. search needs)
     (λ c. search needs) returns-4)

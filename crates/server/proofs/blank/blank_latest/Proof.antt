@@ -10,13 +10,19 @@ returns c = rw (c .refused .ensures) (latest-size (c .before .before .before .ar
 returns-2 : tie.Need-returns-2
 returns-2 c =
     let m = rw (c .before .enum-told .given .1) at (c .before .before .before .«open» .ensures) in
-    rw (c .refused2 .ensures) (latest-broken (c .before .before .before .before .before .before .before .args .memory .now) (c .before .before .before .before .before .if1 .left) m)
+    rw (c .refused2 .ensures) (latest-broken (c .before .before .before .before .before .before .before .args .memory .now)
+    (c .before .before .before .before .before .if1 .left) m)
 
 returns-3 : tie.Need-returns-3
 returns-3 c =
-    let m = rw (c .before .before .before .before .before .before .before .before .t .given .1) at (c .before .before .before .before .before .before .before .before .before .before .«open» .ensures) in
-    latest-blanked (c .before .before .before .before .before .before .before .before .before .before .before .before .before .before .args .memory .now) (c .before .before .before .before .before .before .before .before .before .before .before .before .if1 .left) (λ i. c .before .before .before .before .before .before .before .before .before .before .before .before .before .slice-known .given i .fits) m (c .before .before .before .before .candidate-size .ensures) (c .before .before .before .part .ensures) (c .before .before .put .ensures)
+    let m = rw (c .before .before .before .before .before .before .before .before .t .given .1) at
+    (c .before .before .before .before .before .before .before .before .before .before .«open» .ensures) in
+    latest-blanked (c .before .before .before .before .before .before .before .before .before .before .before .before .before .before .args .memory
+    .now) (c .before .before .before .before .before .before .before .before .before .before .before .before .if1 .left)
+    (λ i. c .before .before .before .before .before .before .before .before .before .before .before .before .before .slice-known .given i .fits) m
+    (c .before .before .before .before .candidate-size .ensures) (c .before .before .before .part .ensures) (c .before .before .put .ensures)
 
 pub blank-latest-spec : {M : Type 1} → statement M
-blank-latest-spec = tie.close (tie.spec (λ c κs. search needs) returns (λ c κs. search needs) (λ c. search needs) (λ c. search needs) (λ c κs. search needs) (λ c. search needs) returns-2
+blank-latest-spec = tie.close (tie.spec (λ c κs. search needs) returns (λ c κs. search needs) (λ c. search needs) (λ c. search needs)
+    (λ c κs. search needs) (λ c. search needs) returns-2
     (λ c. search needs) (λ c κs. search needs) (λ c κs. search needs) (λ c κs. search needs) (λ c. search needs) returns-3)

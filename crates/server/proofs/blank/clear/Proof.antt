@@ -22,7 +22,8 @@ loop-again : tie.Need-loop-again Inv-loop μ-loop
 loop-again c = (
   omega arith,
   simp length-set (c .before .loop .inv .1),
-  ap (λ (z : List ℕ). set z (c .before .loop .i) 0) (c .before .loop .inv .2) ∙ fill-more (c .before .loop .i) 0 (c .before .before .args .memory .now) (omega arith),
+  ap (λ (z : List ℕ). set z (c .before .loop .i) 0) (c .before .loop .inv .2) ∙ fill-more (c .before .loop .i) 0
+      (c .before .before .args .memory .now) (omega arith),
 )
 
 same-length : tie.Need-same-length Inv-loop μ-loop

@@ -8,22 +8,42 @@ use Rattle.server.proofs.filter.choose.Tie as tie
 returns : tie.Need-returns
 returns c =
     let a = c .before .before .before .before .args in
-    highest-none (a .memory .now) (a .key) (a .t) (a .server) (a .n) (a .top) (a .list .now) (a .count) (omega arith) (λ i. c .before .before .shared-slice-known2 .given i .fits) (c .before .next-rank .ensures) (omega arith)
+    highest-none (a .memory .now) (a .key) (a .t) (a .server) (a .n) (a .top) (a .list .now) (a .count) (omega arith)
+    (λ i. c .before .before .shared-slice-known2 .given i .fits) (c .before .next-rank .ensures) (omega arith)
 
 returns-2 : tie.Need-returns-2
 returns-2 c =
     let a = c .before .before .before .before .before .before .before .before .before .args in
-    highest-held (a .memory .now) (a .key) (a .t) (a .server) (a .n) (a .top) (a .list .now) (a .count) (omega arith) (λ i. c .before .before .before .before .before .before .before .shared-slice-known2 .given i .fits) (c .before .before .before .before .before .before .next-rank .ensures) (omega (arith, c .before .before .before .before .before .if1 .left)) (c .before .before .before .before .slot-with .ensures) (c .before .before .before .slot .ensures) (c .before .before .digest-nonce .ensures) (c .before .by-history .ensures) (c .if2 .taken)
+    highest-held (a .memory .now) (a .key) (a .t) (a .server) (a .n) (a .top) (a .list .now) (a .count) (omega arith)
+    (λ i. c .before .before .before .before .before .before .before .shared-slice-known2 .given i .fits)
+    (c .before .before .before .before .before .before .next-rank .ensures) (omega (arith, c .before .before .before .before .before .if1 .left))
+    (c .before .before .before .before .slot-with .ensures) (c .before .before .before .slot .ensures) (c .before .before .digest-nonce .ensures)
+    (c .before .by-history .ensures) (c .if2 .taken)
 
 returns-3 : tie.Need-returns-3
 returns-3 c =
     let a = c .before .before .before .before .before .before .before .before .before .before .before .before .args in
-    highest-tagged (a .memory .now) (a .key) (a .t) (a .server) (a .n) (a .top) (a .list .now) (a .count) (omega arith) (λ i. c .before .before .before .before .before .before .before .before .before .before .shared-slice-known2 .given i .fits) (c .before .before .before .before .before .before .before .before .before .next-rank .ensures) (omega (arith, c .before .before .before .before .before .before .before .before .if1 .left)) (c .before .before .before .before .before .before .before .slot-with .ensures) (c .before .before .before .before .before .before .slot .ensures) (c .before .before .before .before .before .digest-nonce .ensures) (c .before .before .before .before .by-history .ensures) (c .before .before .before .if2 .left) (c .before .before .prepare .ensures) (c .before .by-tag .ensures) (c .if3 .taken)
+    highest-tagged (a .memory .now) (a .key) (a .t) (a .server) (a .n) (a .top) (a .list .now) (a .count) (omega arith)
+    (λ i. c .before .before .before .before .before .before .before .before .before .before .shared-slice-known2 .given i .fits)
+    (c .before .before .before .before .before .before .before .before .before .next-rank .ensures)
+    (omega (arith, c .before .before .before .before .before .before .before .before .if1 .left))
+    (c .before .before .before .before .before .before .before .slot-with .ensures) (c .before .before .before .before .before .before .slot .ensures)
+    (c .before .before .before .before .before .digest-nonce .ensures) (c .before .before .before .before .by-history .ensures)
+    (c .before .before .before .if2 .left) (c .before .before .prepare .ensures) (c .before .by-tag .ensures) (c .if3 .taken)
 
 returns-4 : tie.Need-returns-4
 returns-4 c =
     let a = c .before .before .before .before .before .before .before .before .before .before .before .before .before .args in
-    then-under (a .memory .now) (a .key) (a .t) (a .server) (a .n) (a .top) (a .list .now) (a .count) (omega (arith, c .before .before .before .before .before .before .before .before .before .before .before .before .before .fits .count .fits)) (λ i. c .before .before .before .before .before .before .before .before .before .before .before .shared-slice-known2 .given i .fits) (c .before .before .before .before .before .before .before .before .before .before .next-rank .ensures) (omega (arith, c .before .before .before .before .before .before .before .before .before .if1 .left)) (c .before .before .before .before .before .before .before .before .slot-with .ensures) (c .before .before .before .before .before .before .before .slot .ensures) (c .before .before .before .before .before .before .digest-nonce .ensures) (c .before .before .before .before .before .by-history .ensures) (c .before .before .before .before .if2 .left) (c .before .before .before .prepare .ensures) (c .before .before .by-tag .ensures) (c .before .if3 .left) (c .choose-under .result) (c .choose-under .ensures)
+    then-under (a .memory .now) (a .key) (a .t) (a .server) (a .n) (a .top) (a .list .now) (a .count)
+    (omega (arith, c .before .before .before .before .before .before .before .before .before .before .before .before .before .fits .count .fits))
+    (λ i. c .before .before .before .before .before .before .before .before .before .before .before .shared-slice-known2 .given i .fits)
+    (c .before .before .before .before .before .before .before .before .before .before .next-rank .ensures)
+    (omega (arith, c .before .before .before .before .before .before .before .before .before .if1 .left))
+    (c .before .before .before .before .before .before .before .before .slot-with .ensures)
+    (c .before .before .before .before .before .before .before .slot .ensures)
+    (c .before .before .before .before .before .before .digest-nonce .ensures) (c .before .before .before .before .before .by-history .ensures)
+    (c .before .before .before .before .if2 .left) (c .before .before .before .prepare .ensures) (c .before .before .by-tag .ensures)
+    (c .before .if3 .left) (c .choose-under .result) (c .choose-under .ensures)
 
 pub choose-spec : {M : Type 1} → statement M
 choose-spec = tie.close (tie.spec (λ c κs. search needs) returns (λ c κs. search needs) (λ c κs. search needs) (λ c κs. search needs)

@@ -8,13 +8,37 @@ returns : tie.Need-returns
 returns c =
     λ e o dec k room.
     let a = c .before .before .before .before .before .before .before .before .before .before .before .before .before .before .before .before .args in
-    filter-nothing (λ i. c .before .before .before .before .before .before .before .before .before .before .before .before .before .before .before .slice-known .given i .fits) (a .key) (a .packet .now) (λ i. c .before .before .before .before .before .before .before .before .before .before .before .before .before .before .shared-slice-known .given i .fits) (a .out .now) (a .head) o dec k room (c .before .before .before .before .before .before .before .before .before .before .before .before .rest .ensures) (c .before .before .before .before .before .before .before .before .before .before .before .rest2 .ensures) (c .before .before .before .before .before .before .before .before .before .before .byte-at .ensures) (c .before .before .before .before .before .before .before .before .choose .result) (c .before .before .before .before .before .before .before .before .choose .ensures) (c .before .before .before .before .before .before .enum-told .given .1) (c .before .before .before .before .blank .ensures) (c .before .before .reply-held .ensures)
+    filter-nothing (λ i. c .before .before .before .before .before .before .before .before .before .before .before .before .before .before .before
+    .slice-known .given i .fits) (a .key) (a .packet .now)
+    (λ i. c .before .before .before .before .before .before .before .before .before .before .before .before .before .before .shared-slice-known .given
+    i .fits) (a .out .now) (a .head) o dec k room
+    (c .before .before .before .before .before .before .before .before .before .before .before .before .rest .ensures)
+    (c .before .before .before .before .before .before .before .before .before .before .before .rest2 .ensures)
+    (c .before .before .before .before .before .before .before .before .before .before .byte-at .ensures)
+    (c .before .before .before .before .before .before .before .before .choose .result)
+    (c .before .before .before .before .before .before .before .before .choose .ensures)
+    (c .before .before .before .before .before .before .enum-told .given .1) (c .before .before .before .before .blank .ensures)
+    (c .before .before .reply-held .ensures)
 
 returns-2 : tie.Need-returns-2
 returns-2 c =
     λ e o dec k room.
-    let a = c .before .before .before .before .before .before .before .before .before .before .before .before .before .before .before .before .before .before .before .before .before .before .args in
-    filter-chosen (λ i. c .before .before .before .before .before .before .before .before .before .before .before .before .before .before .before .before .before .before .before .before .before .slice-known .given i .fits) (a .key) (a .packet .now) (λ i. c .before .before .before .before .before .before .before .before .before .before .before .before .before .before .before .before .before .before .before .before .shared-slice-known .given i .fits) (a .out .now) (a .head) o dec k room (c .before .before .before .before .before .before .before .before .before .before .before .before .before .before .before .before .before .before .rest .ensures) (c .before .before .before .before .before .before .before .before .before .before .before .before .before .before .before .before .before .rest2 .ensures) (c .before .before .before .before .before .before .before .before .before .before .before .before .before .before .before .before .byte-at .ensures) (c .before .before .before .before .before .before .before .before .before .before .before .before .before .before .choose .result) (c .before .before .before .before .before .before .before .before .before .before .before .before .before .before .choose .ensures) (c .before .before .before .before .before .before .before .before .before .before .before .before .i .given .1) (c .before .before .before .before .before .before .before .before .before .before .slot .ensures) (c .before .before .before .before .before .before .before .before .stamp-at .ensures) (c .before .before .before .before .before .before .reply-held2 .ensures) (c .before .before .raise .ensures)
+    let a = c .before .before .before .before .before .before .before .before .before .before .before .before .before .before .before .before .before
+    .before .before .before .before .before .args in
+    filter-chosen (λ i. c .before .before .before .before .before .before .before .before .before .before .before .before .before .before .before
+    .before .before .before .before .before .before .slice-known .given i .fits) (a .key) (a .packet .now)
+    (λ i. c .before .before .before .before .before .before .before .before .before .before .before .before .before .before .before .before .before
+    .before .before .before .shared-slice-known .given i .fits) (a .out .now) (a .head) o dec k room
+    (c .before .before .before .before .before .before .before .before .before .before .before .before .before .before .before .before .before .before
+    .rest .ensures) (c .before .before .before .before .before .before .before .before .before .before .before .before .before .before .before .before
+    .before .rest2 .ensures)
+    (c .before .before .before .before .before .before .before .before .before .before .before .before .before .before .before .before .byte-at
+    .ensures) (c .before .before .before .before .before .before .before .before .before .before .before .before .before .before .choose .result)
+    (c .before .before .before .before .before .before .before .before .before .before .before .before .before .before .choose .ensures)
+    (c .before .before .before .before .before .before .before .before .before .before .before .before .i .given .1)
+    (c .before .before .before .before .before .before .before .before .before .before .slot .ensures)
+    (c .before .before .before .before .before .before .before .before .stamp-at .ensures)
+    (c .before .before .before .before .before .before .reply-held2 .ensures) (c .before .before .raise .ensures)
 
 pub filter-spec : {M : Type 1} → statement M
 filter-spec = tie.close (tie.spec (λ c κs. search needs) (λ c κs. search needs) (λ c κs. search needs) (λ c κs. search needs) (λ c. search needs)

@@ -6,7 +6,9 @@ use Rattle.server.proofs.filter.share_bytes.Statement.{statement}
 use Rattle.server.proofs.filter.share_bytes.Tie as tie
 
 returns : tie.Need-returns
-returns c = bytes-made (shelf (c .before .before .before .before .before .args .t)) (c .before .before .before .before .before .args .memory .now) (c .before .before .before .before .before .args .at) (c .before .before .before .rest .ensures) (c .before .before .rest2 .ensures) (c .before .share-size .ensures) (c .part .ensures)
+returns c = bytes-made (shelf (c .before .before .before .before .before .args .t)) (c .before .before .before .before .before .args .memory .now)
+    (c .before .before .before .before .before .args .at) (c .before .before .before .rest .ensures) (c .before .before .rest2 .ensures)
+    (c .before .share-size .ensures) (c .part .ensures)
 
 pub share-bytes-spec : {M : Type 1} → statement M
 share-bytes-spec = tie.close (tie.spec (λ c κs. search needs) (λ c κs. search needs) (λ c κs. search needs) (λ c κs. search needs) returns)

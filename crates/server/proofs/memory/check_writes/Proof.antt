@@ -17,17 +17,25 @@ loop-holds : tie.Need-loop-holds Inv-loop μ-loop
 loop-holds c = (omega arith, check-none _ _ _ (c .writes-place .ensures) (omega arith))
 
 returns : tie.Need-returns Inv-loop μ-loop
-returns c = check-stop (c .before .before .before .before .loop .inv .1) (omega arith) (rw (c .enum-told .given .1) at (c .before .before .write-field .ensures))
+returns c = check-stop (c .before .before .before .before .loop .inv .1) (omega arith)
+    (rw (c .enum-told .given .1) at (c .before .before .write-field .ensures))
 
 returns-2 : tie.Need-returns-2 Inv-loop μ-loop
 returns-2 c =
     let w = rw (c .before .before .before .size .given .1) at (c .before .before .before .before .before .write-field .ensures) in
-    check-held (c .before .before .before .before .before .before .before .loop .inv .1) (omega arith) (w .leaves) (c .before .repeats .ensures) (c .if1 .taken)
+    check-held (c .before .before .before .before .before .before .before .loop .inv .1) (omega arith) (w .leaves) (c .before .repeats .ensures)
+    (c .if1 .taken)
 
 loop-again : tie.Need-loop-again Inv-loop μ-loop
 loop-again c =
-    let w = rw (c .before .before .before .before .before .before .size .given .1) at (c .before .before .before .before .before .before .before .before .write-field .ensures) in
-    (omega arith, check-more (c .before .before .before .before .before .before .before .before .before .before .loop .inv .1) (omega arith) (w .leaves) (λ i. c .before .before .before .before .before .before .before .before .before .before .before .before .shared-slice-known .given i .fits) (c .before .before .rest .ensures) (c .before .key-at .ensures) (c .raised .ensures) (c .before .before .before .before .repeats .ensures) (c .before .before .before .if1 .left))
+    let w = rw (c .before .before .before .before .before .before .size .given .1) at
+    (c .before .before .before .before .before .before .before .before .write-field .ensures) in (
+      omega arith,
+      check-more (c .before .before .before .before .before .before .before .before .before .before .loop .inv .1) (omega arith)
+          (w .leaves) (λ i. c .before .before .before .before .before .before .before .before .before .before .before .before .shared-slice-known .given
+          i .fits) (c .before .before .rest .ensures) (c .before .key-at .ensures) (c .raised .ensures)
+          (c .before .before .before .before .repeats .ensures) (c .before .before .before .if1 .left),
+    )
 
 returns-3 : tie.Need-returns-3 Inv-loop μ-loop
 returns-3 c = check-end (c .before .loop .inv .1) (omega arith)

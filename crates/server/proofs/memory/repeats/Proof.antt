@@ -6,10 +6,14 @@ use Rattle.server.proofs.memory.repeats.Statement.{statement}
 use Rattle.server.proofs.memory.repeats.Tie as tie
 
 returns : tie.Need-returns
-returns c = let a = c .before .before .before .before .before .args in repeats-found (shelf (a .t)) (a .n) (a .top) (a .memory .now) (a .at) (λ i. c .before .before .before .before .shared-slice-known .given i .fits) (c .before .before .before .rest .ensures) (c .enum-told2 .given .1) (c .before .before .find .ensures)
+returns c = let a = c .before .before .before .before .before .args in repeats-found (shelf (a .t)) (a .n) (a .top) (a .memory .now) (a .at)
+    (λ i. c .before .before .before .before .shared-slice-known .given i .fits) (c .before .before .before .rest .ensures) (c .enum-told2 .given .1)
+    (c .before .before .find .ensures)
 
 returns-2 : tie.Need-returns-2
-returns-2 c = let a = c .before .before .before .before .before .args in repeats-none (shelf (a .t)) (a .n) (a .top) (a .memory .now) (a .at) (λ i. c .before .before .before .before .shared-slice-known .given i .fits) (c .before .before .before .rest .ensures) (c .enum-told .given .1) (c .before .before .find .ensures)
+returns-2 c = let a = c .before .before .before .before .before .args in repeats-none (shelf (a .t)) (a .n) (a .top) (a .memory .now) (a .at)
+    (λ i. c .before .before .before .before .shared-slice-known .given i .fits) (c .before .before .before .rest .ensures) (c .enum-told .given .1)
+    (c .before .before .find .ensures)
 
 pub repeats-spec : {M : Type 1} → statement M
 repeats-spec = tie.close (tie.spec (λ c κs. search needs) (λ c κs. search needs) (λ c. search needs) (λ c. search needs) returns returns-2)

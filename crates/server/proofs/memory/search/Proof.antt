@@ -25,23 +25,63 @@ loop-holds : tie.Need-loop-holds Inv-loop μ-loop
 loop-holds c = (omega arith, walk-none _ _ _ _ (c .writes-place .ensures))
 
 returns : tie.Need-returns Inv-loop μ-loop
-returns c = walk-found (c .before .before .before .before .before .loop .inv .1) (λ i. c .before .before .before .before .before .before .before .before .before .shared-slice-known .given i .fits) (omega arith) (c .before .before .before .rest .ensures) (c .before .before .part .ensures) (c .before .same .ensures) (c .if1 .taken)
+returns c = walk-found (c .before .before .before .before .before .loop .inv .1) (λ i.
+    c .before .before .before .before .before .before .before .before .before .shared-slice-known .given i .fits) (omega arith)
+    (c .before .before .before .rest .ensures) (c .before .before .part .ensures) (c .before .same .ensures) (c .if1 .taken)
 
 add-size : tie.Need-add-size Inv-loop μ-loop
 unfolding shareSize shelf
-add-size c = omega (arith, c .before .before .before .before .before .before .before .before .before .before .share-size .ensures, c .fragment-size .ensures, fragment-few (c .before .before .before .before .before .before .before .before .before .before .before .before .before .args .t) (c .before .number2 .result), no-fragment (c .before .before .before .before .before .before .before .before .before .before .before .before .before .args .t))
+add-size c = omega (
+  arith,
+  c .before .before .before .before .before .before .before .before .before .before .share-size .ensures,
+  c .fragment-size .ensures,
+  fragment-few
+      (c .before .before .before .before .before .before .before .before .before .before .before .before .before .args .t) (c .before .number2 .result),
+  no-fragment (c .before .before .before .before .before .before .before .before .before .before .before .before .before .args .t),
+)
 
 returns-2 : tie.Need-returns-2 Inv-loop μ-loop
 returns-2 c =
-    walk-short (c .before .before .before .before .before .before .before .before .before .loop .inv .1) (λ i. c .before .before .before .before .before .before .before .before .before .before .before .before .before .shared-slice-known .given i .fits) (omega arith) (c .before .before .before .before .before .before .before .rest .ensures) (size-told (c .before .before .before .before .before .before .before .before .before .before .before .before .before .before .args .t) (c .before .before .before .before .before .before .before .before .before .before .before .before .before .before .args .memory .now) (c .before .before .before .before .before .before .before .before .before .loop .at) (c .before .before .before .before .before .before .before .rest .ensures) (c .before .before .before .rest2 .ensures) (c .before .before .number2 .ensures) (c .before .before .before .before .before .before .before .before .before .before .before .share-size .ensures) (c .before .fragment-size .ensures)) (c .if2 .taken)
+    walk-short (c .before .before .before .before .before .before .before .before .before .loop .inv .1)
+    (λ i. c .before .before .before .before .before .before .before .before .before .before .before .before .before .shared-slice-known .given
+    i .fits) (omega arith) (c .before .before .before .before .before .before .before .rest .ensures)
+    (size-told (c .before .before .before .before .before .before .before .before .before .before .before .before .before .before .args .t)
+    (c .before .before .before .before .before .before .before .before .before .before .before .before .before .before .args .memory .now)
+    (c .before .before .before .before .before .before .before .before .before .loop .at)
+    (c .before .before .before .before .before .before .before .rest .ensures) (c .before .before .before .rest2 .ensures)
+    (c .before .before .number2 .ensures)
+    (c .before .before .before .before .before .before .before .before .before .before .before .share-size .ensures)
+    (c .before .fragment-size .ensures)) (c .if2 .taken)
 
 add-at : tie.Need-add-at Inv-loop μ-loop
 unfolding shareSize shelf
-add-at c = omega (arith, c .before .before .before .before .before .before .before .before .before .before .before .share-size .ensures, ap length (c .before .before .before .before .before .before .before .rest .ensures), length-drop (c .before .before .before .before .before .before .before .before .before .loop .at) (c .before .before .before .before .before .before .before .before .before .before .before .before .before .before .args .memory .now), c .if2 .left)
+add-at c = omega (
+  arith,
+  c .before .before .before .before .before .before .before .before .before .before .before .share-size .ensures,
+  ap length
+      (c .before .before .before .before .before .before .before .rest .ensures),
+  length-drop
+      (c .before .before .before .before .before .before .before .before .before .loop .at)
+      (c .before .before .before .before .before .before .before .before .before .before .before .before .before .before .args .memory .now),
+  c .if2 .left,
+)
 
 loop-again : tie.Need-loop-again Inv-loop μ-loop
-loop-again c =
-    (omega arith, walk-more (c .before .before .before .before .before .before .before .before .before .loop .inv .1) (λ i. c .before .before .before .before .before .before .before .before .before .before .before .before .before .shared-slice-known .given i .fits) (omega arith) (c .before .before .before .before .before .before .before .rest .ensures) (c .before .before .before .before .before .before .part .ensures) (c .before .before .before .before .before .same .ensures) (c .before .before .before .before .if1 .left) (size-told (c .before .before .before .before .before .before .before .before .before .before .before .before .before .before .args .t) (c .before .before .before .before .before .before .before .before .before .before .before .before .before .before .args .memory .now) (c .before .before .before .before .before .before .before .before .before .loop .at) (c .before .before .before .before .before .before .before .rest .ensures) (c .before .before .before .rest2 .ensures) (c .before .before .number2 .ensures) (c .before .before .before .before .before .before .before .before .before .before .before .share-size .ensures) (c .before .fragment-size .ensures)))
+loop-again c = (
+  omega arith,
+  walk-more (c .before .before .before .before .before .before .before .before .before .loop .inv .1)
+      (λ i. c .before .before .before .before .before .before .before .before .before .before .before .before .before .shared-slice-known .given
+      i .fits) (omega arith) (c .before .before .before .before .before .before .before .rest .ensures)
+      (c .before .before .before .before .before .before .part .ensures) (c .before .before .before .before .before .same .ensures)
+      (c .before .before .before .before .if1 .left)
+      (size-told (c .before .before .before .before .before .before .before .before .before .before .before .before .before .before .args .t)
+      (c .before .before .before .before .before .before .before .before .before .before .before .before .before .before .args .memory .now)
+      (c .before .before .before .before .before .before .before .before .before .loop .at)
+      (c .before .before .before .before .before .before .before .rest .ensures) (c .before .before .before .rest2 .ensures)
+      (c .before .before .number2 .ensures)
+      (c .before .before .before .before .before .before .before .before .before .before .before .share-size .ensures)
+      (c .before .fragment-size .ensures)),
+)
 
 returns-3 : tie.Need-returns-3 Inv-loop μ-loop
 returns-3 c = walk-end (c .before .loop .inv .1) (omega arith)

@@ -13,7 +13,11 @@ returns c = λ e. absurd (subst T (sym e) tt)
 returns-2 : tie.Need-returns-2
 returns-2 c =
     let a = c .before .before .before .before .before .before .args in
-    λ e. (omega (arith, c .before .before .before .if1 .left), stands (a .memory .now) (a .stamp .now) (a .at) (c .before .before .rest .ensures) (c .before .part .ensures) (c .same .ensures) e)
+    λ e. (
+      omega (arith, c .before .before .before .if1 .left),
+      stands (a .memory .now) (a .stamp .now) (a .at) (c .before .before .rest .ensures)
+          (c .before .part .ensures) (c .same .ensures) e,
+    )
 
 pub stands-at-spec : {M : Type 1} → statement M
 stands-at-spec = tie.close (tie.spec returns (λ c κs. search needs) (λ c κs. search needs) (λ c κs. search needs) returns-2)

@@ -20,10 +20,18 @@ unfolding nextRank
 loop-holds c = (omega arith, refl)
 
 loop-again : tie.Need-loop-again Inv-loop μ-loop
-loop-again c = (omega arith, next-more (shelf (c .before .before .before .before .before .before .args .t)) (c .before .before .before .before .before .before .args .list .now) (c .before .before .before .before .loop .i) (c .before .before .before .before .before .before .args .bound) (c .before .before .before .before .loop .inv .1) (c .before .before .rank-at .ensures) (c .before .under .ensures) (c .max-of .ensures))
+loop-again c = (
+  omega arith,
+  next-more (shelf (c .before .before .before .before .before .before .args .t))
+      (c .before .before .before .before .before .before .args .list .now) (c .before .before .before .before .loop .i)
+      (c .before .before .before .before .before .before .args .bound) (c .before .before .before .before .loop .inv .1)
+      (c .before .before .rank-at .ensures) (c .before .under .ensures) (c .max-of .ensures),
+)
 
 returns : tie.Need-returns Inv-loop μ-loop
-returns c = let e : c .before .loop .i ≡ c .before .before .before .args .n = omega arith in subst (λ (z : ℕ). c .before .loop .best ≡ nextRank (shelf (c .before .before .before .args .t)) (c .before .before .before .args .list .now) z (c .before .before .before .args .bound)) e (c .before .loop .inv .1)
+returns c = let e : c .before .loop .i ≡ c .before .before .before .args .n = omega arith in subst
+    (λ (z : ℕ). c .before .loop .best ≡ nextRank (shelf (c .before .before .before .args .t)) (c .before .before .before .args .list .now) z
+    (c .before .before .before .args .bound)) e (c .before .loop .inv .1)
 
 pub next-rank-spec : {M : Type 1} → statement M
 next-rank-spec = tie.close (tie.spec Inv-loop μ-loop loop-holds (λ c κs. search needs) (λ c κs. search needs) (λ c κs. search needs)

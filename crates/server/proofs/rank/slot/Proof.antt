@@ -7,10 +7,14 @@ use Rattle.server.proofs.rank.slot.Statement.{statement}
 use Rattle.server.proofs.rank.slot.Tie as tie
 
 mul-part : tie.Need-mul-part
-mul-part c = record { fits = place-fits (c .before .before .args .t) (c .before .before .args .i) (omega arith) (omega arith) (c .candidate-size .ensures) }
+mul-part c = record {
+  fits = place-fits (c .before .before .args .t) (c .before .before .args .i) (omega arith) (omega arith)
+      (c .candidate-size .ensures);
+}
 
 returns : tie.Need-returns
-returns c = slot-made (shelf (c .before .before .before .before .args .t)) (c .before .before .before .before .args .list .now) (c .before .before .before .before .args .i) (c .before .before .candidate-size .ensures) (c .before .candidate-size2 .ensures) (c .part .ensures)
+returns c = slot-made (shelf (c .before .before .before .before .args .t)) (c .before .before .before .before .args .list .now)
+    (c .before .before .before .before .args .i) (c .before .before .candidate-size .ensures) (c .before .candidate-size2 .ensures) (c .part .ensures)
 
 pub slot-spec : {M : Type 1} → statement M
 slot-spec = tie.close (tie.spec (λ c κs. search needs) mul-part (λ c κs. search needs) (λ c κs. search needs) returns)

@@ -9,10 +9,12 @@ returns : tie.Need-returns
 returns c = foreign-reader (c .before .before .args .client) (c .before .before .args .packet .now) (omega arith)
 
 returns-2 : tie.Need-returns-2
-returns-2 c = foreign-own (c .before .before .before .before .before .args .client) (c .before .before .before .before .before .args .packet .now) (omega arith) (c .before .before .rest .ensures) (c .before .byte-at .ensures) (c .if2 .taken)
+returns-2 c = foreign-own (c .before .before .before .before .before .args .client) (c .before .before .before .before .before .args .packet .now)
+    (omega arith) (c .before .before .rest .ensures) (c .before .byte-at .ensures) (c .if2 .taken)
 
 returns-3 : tie.Need-returns-3
-returns-3 c = foreign-other (c .before .before .before .before .before .args .client) (c .before .before .before .before .before .args .packet .now) (omega arith) (c .before .before .rest .ensures) (c .before .byte-at .ensures) (c .if2 .left)
+returns-3 c = foreign-other (c .before .before .before .before .before .args .client) (c .before .before .before .before .before .args .packet .now)
+    (omega arith) (c .before .before .rest .ensures) (c .before .byte-at .ensures) (c .if2 .left)
 
 pub foreign-spec : {M : Type 1} → statement M
 foreign-spec = tie.close (tie.spec returns (λ c κs. search needs) (λ c κs. search needs) returns-2 returns-3)

@@ -7,7 +7,14 @@ use Rattle.server.proofs.valid.by_tag.Statement.{statement}
 use Rattle.server.proofs.valid.by_tag.Tie as tie
 
 returns : tie.Need-returns
-returns c = tag-made (shelf (c .before .before .before .before .before .before .before .before .args .t)) (c .before .before .before .before .before .before .before .before .args .prepared) (c .before .before .before .before .before .before .before .before .args .server) (c .before .before .before .before .before .before .before .before .args .candidate .now) (c .before .before .before .before .before .before .before .before .args .digest) (c .before .before .before .before .before .before .part .ensures) (c .before .before .before .before .before .prepared-tag-with .ensures) (c .before .before .before .before .tags-size .ensures) (c .before .before .before .part2 .ensures) (c .before .before .part3 .ensures) (c .same .ensures)
+returns c = tag-made (shelf (c .before .before .before .before .before .before .before .before .args .t))
+    (c .before .before .before .before .before .before .before .before .args .prepared)
+    (c .before .before .before .before .before .before .before .before .args .server)
+    (c .before .before .before .before .before .before .before .before .args .candidate .now)
+    (c .before .before .before .before .before .before .before .before .args .digest)
+    (c .before .before .before .before .before .before .part .ensures) (c .before .before .before .before .before .prepared-tag-with .ensures)
+    (c .before .before .before .before .tags-size .ensures) (c .before .before .before .part2 .ensures) (c .before .before .part3 .ensures)
+    (c .same .ensures)
 
 pub by-tag-spec : {M : Type 1} → statement M
 by-tag-spec = tie.close (tie.spec (λ c κs. search needs) (λ c κs. search needs) (λ c. search needs) (λ c κs. search needs) (λ c κs. search needs)

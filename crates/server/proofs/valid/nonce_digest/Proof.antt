@@ -6,7 +6,10 @@ use Rattle.server.proofs.valid.nonce_digest.Statement.{statement}
 use Rattle.server.proofs.valid.nonce_digest.Tie as tie
 
 returns : tie.Need-returns
-returns c = digest-at (shelf (c .before .before .before .before .before .before .before .args .t)) (c .before .before .before .before .before .before .before .args .share .now) (c .before .before .before .before .before .number2 .ensures) (c .before .before .before .before .fragment-size .ensures) (c .before .digests-size .ensures) (c .before .before .before .rest .ensures) (c .before .before .rest2 .ensures) (c .part .ensures)
+returns c = digest-at (shelf (c .before .before .before .before .before .before .before .args .t))
+    (c .before .before .before .before .before .before .before .args .share .now) (c .before .before .before .before .before .number2 .ensures)
+    (c .before .before .before .before .fragment-size .ensures) (c .before .digests-size .ensures) (c .before .before .before .rest .ensures)
+    (c .before .before .rest2 .ensures) (c .part .ensures)
 
 pub nonce-digest-spec : {M : Type 1} → statement M
 nonce-digest-spec = tie.close (tie.spec (λ c κs. search needs) (λ c κs. search needs) (λ c κs. search needs) (λ c κs. search needs)

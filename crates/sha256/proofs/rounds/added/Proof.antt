@@ -7,7 +7,10 @@ use Rattle.sha256.proofs.rounds.added.Tie as tie
 
 returns : tie.Need-returns
 unfolding addWork
-returns c = λ i. c .before .before .before .before .before .before .before .add .ensures i ∷ c .before .before .before .before .before .before .add2 .ensures i ∷ c .before .before .before .before .before .add3 .ensures i ∷ c .before .before .before .before .add4 .ensures i ∷ c .before .before .before .add5 .ensures i ∷ c .before .before .add6 .ensures i ∷ c .before .add7 .ensures i ∷ c .add8 .ensures i ∷ []
+returns c = λ i. c .before .before .before .before .before .before .before .add .ensures i ∷
+    c .before .before .before .before .before .before .add2 .ensures i ∷ c .before .before .before .before .before .add3 .ensures i ∷
+    c .before .before .before .before .add4 .ensures i ∷ c .before .before .before .add5 .ensures i ∷ c .before .before .add6 .ensures i ∷
+    c .before .add7 .ensures i ∷ c .add8 .ensures i ∷ []
 
 pub added-spec : {M : Type 1} → statement M
 added-spec = tie.close (tie.spec (λ c. search needs) (λ c κs. search needs) (λ c. search needs) (λ c κs. search needs) (λ c. search needs)

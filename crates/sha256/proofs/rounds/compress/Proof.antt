@@ -11,7 +11,8 @@ use Rattle.sha256.proofs.rounds.compress.Statement.{statement}
 use Rattle.sha256.proofs.rounds.compress.Tie as tie
 
 -- one round more
-rounds-next : (n t : ℕ) (k w : List ℕ) (s v r : Work) → k ≡ kTable → n ≡ suc t → v ≡ rounds t w s → r ≡ roundOf v (getD k t 0) (getD w t 0) → r ≡ rounds n w s
+rounds-next : (n t : ℕ) (k w : List ℕ) (s v r : Work) → k ≡ kTable → n ≡ suc t → v ≡ rounds t w s → r ≡ roundOf v (getD k t 0) (getD w t 0) → r ≡
+    rounds n w s
 unfolding rounds
 rounds-next n t k w s v r l e h q =
     q ∙ ap₂ (λ (u : Work) (z : List ℕ). roundOf u (getD z t 0) (getD w t 0)) h l ∙ ap (λ (i : ℕ). rounds i w s) (sym e)

@@ -21,8 +21,11 @@ loop-holds : tie.Need-loop-holds Inv-loop μ-loop
 loop-holds c = (omega arith, refl)
 
 loop-again : tie.Need-loop-again Inv-loop μ-loop
-loop-again c =
-    (omega arith, c .before .before .loop .inv .1 ∙ zeros-more (c .before .before .before .args .s .now) (c .before .before .loop .i) (c .before .before .loop .all) (omega arith))
+loop-again c = (
+  omega arith,
+  c .before .before .loop .inv .1 ∙ zeros-more (c .before .before .before .args .s .now) (c .before .before .loop .i)
+      (c .before .before .loop .all) (omega arith),
+)
 
 returns : tie.Need-returns Inv-loop μ-loop
 returns c = sym (c .before .loop .inv .1 ∙ zeros-end (c .before .before .args .s .now) (c .before .loop .i) (c .before .loop .all) (omega arith))

@@ -12,10 +12,14 @@ returns : tie.Need-returns
 returns c = part-past (c .before .before .args .s .now) (c .before .before .args .at) (c .before .before .args .n) (omega arith)
 
 returns-2 : tie.Need-returns-2
-returns-2 c = part-short (c .before .before .before .args .s .now) (c .before .before .before .args .at) (length (c .before .before .before .args .s .now) - c .before .before .before .args .at) (c .before .before .before .args .n) (omega arith) (omega arith)
+returns-2 c = part-short (c .before .before .before .args .s .now) (c .before .before .before .args .at)
+    (length (c .before .before .before .args .s .now) - c .before .before .before .args .at) (c .before .before .before .args .n) (omega arith)
+    (omega arith)
 
 returns-3 : tie.Need-returns-3
-returns-3 c = part-whole (c .before .before .before .args .s .now) (c .before .before .before .args .at) (c .before .before .before .args .at + c .before .before .before .args .n - c .before .before .before .args .at) (c .before .before .before .args .n) (omega arith)
+returns-3 c = part-whole (c .before .before .before .args .s .now) (c .before .before .before .args .at)
+    (c .before .before .before .args .at + c .before .before .before .args .n - c .before .before .before .args .at)
+    (c .before .before .before .args .n) (omega arith)
 
 pub part-spec : {M : Type 1} → statement M
 part-spec = tie.close (tie.spec (λ c. search needs) returns (λ c. search needs) (λ c. search needs) (λ c. search needs) (λ c. search needs) returns-2

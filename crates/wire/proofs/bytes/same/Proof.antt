@@ -22,7 +22,8 @@ returns : tie.Need-returns Inv-loop μ-loop
 returns c = let a = c .before .before .before .args in sym (lengths-differ (a .a .now) (a .b .now) (c .if1 .taken))
 
 returns-2 : tie.Need-returns-2 Inv-loop μ-loop
-returns-2 c = let a = c .before .before .before .before .before .before .args in sym (byte-differs (a .a .now) (a .b .now) 3 (λ e. c .if2 .taken (c .before .before .byte-at .ensures ∙ e ∙ sym (c .before .byte-at2 .ensures))))
+returns-2 c = let a = c .before .before .before .before .before .before .args in sym
+    (byte-differs (a .a .now) (a .b .now) 3 (λ e. c .if2 .taken (c .before .before .byte-at .ensures ∙ e ∙ sym (c .before .byte-at2 .ensures))))
 
 loop-holds : tie.Need-loop-holds Inv-loop μ-loop
 loop-holds c = (omega arith, refl)

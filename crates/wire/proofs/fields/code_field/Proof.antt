@@ -16,10 +16,12 @@ returns-2 : tie.Need-returns-2
 returns-2 c = code-zero (rw (c .before .before .v .given .1) at (c .before .before .before .before .byte-field .ensures)) (omega arith)
 
 returns-3 : tie.Need-returns-3
-returns-3 c = code-stops (rw (c .before .before .before .v .given .1) at (c .before .before .before .before .before .byte-field .ensures)) (c .before .if1 .left) (omega arith)
+returns-3 c = code-stops (rw (c .before .before .before .v .given .1) at (c .before .before .before .before .before .byte-field .ensures))
+    (c .before .if1 .left) (omega arith)
 
 returns-4 : tie.Need-returns-4
-returns-4 c = code-high (rw (c .before .before .before .v .given .1) at (c .before .before .before .before .before .byte-field .ensures)) (c .before .if1 .left) (omega arith)
+returns-4 c = code-high (rw (c .before .before .before .v .given .1) at (c .before .before .before .before .before .byte-field .ensures))
+    (c .before .if1 .left) (omega arith)
 
 pub code-field-spec : {M : Type 1} → statement M
 code-field-spec = tie.close (tie.spec (λ c κs. search needs) (λ c. search needs) (λ c. search needs) returns returns-2 returns-3 returns-4)

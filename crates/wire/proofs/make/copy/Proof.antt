@@ -21,19 +21,26 @@ loop-holds : tie.Need-loop-holds Inv-loop μ-loop
 loop-holds c = (omega arith, paste-zero (c .args .out .now) (c .args .at) (c .args .bytes .now))
 
 slice-write-out : tie.Need-slice-write-out Inv-loop μ-loop
-slice-write-out c = omega (arith, ap length (c .before .before .loop .inv .1), length-paste (c .before .before .before .args .out .now) (c .before .before .before .args .at) (c .before .before .before .args .bytes .now) (c .before .before .loop .i) (omega arith) (omega arith))
+slice-write-out c = omega (
+  arith,
+  ap length (c .before .before .loop .inv .1),
+  length-paste (c .before .before .before .args .out .now)
+      (c .before .before .before .args .at) (c .before .before .before .args .bytes .now) (c .before .before .loop .i) (omega arith) (omega arith),
+)
 
 loop-again : tie.Need-loop-again Inv-loop μ-loop
 loop-again c =
     let a = c .before .before .before .args in
     let i = c .before .before .loop .i in (
       omega arith,
-      ap (λ (z : List ℕ). set z (a .at + i) (getD (a .bytes .now) i 0)) (c .before .before .loop .inv .1) ∙ paste-suc (a .out .now) (a .at) (a .bytes .now) i 0 (omega arith) (omega arith)
+      ap (λ (z : List ℕ). set z (a .at + i) (getD (a .bytes .now) i 0)) (c .before .before .loop .inv .1) ∙ paste-suc (a .out .now) (a .at)
+          (a .bytes .now) i 0 (omega arith) (omega arith)
           ∙ ap (paste (a .out .now) (a .at) (a .bytes .now)) (sym (add-one i)),
     )
 
 same-length : tie.Need-same-length Inv-loop μ-loop
-same-length c = ap length (c .before .loop .inv .1) ∙ length-paste (c .before .before .args .out .now) (c .before .before .args .at) (c .before .before .args .bytes .now) (c .before .loop .i) (omega arith) (omega arith)
+same-length c = ap length (c .before .loop .inv .1) ∙ length-paste (c .before .before .args .out .now) (c .before .before .args .at)
+    (c .before .before .args .bytes .now) (c .before .loop .i) (omega arith) (omega arith)
 
 returns : tie.Need-returns Inv-loop μ-loop
 returns c =

@@ -16,7 +16,8 @@ unfolding bodyAt
 returns c =
     let a = c .before .before .before .args in
     let s = shelf (a .t) in
-    of-field s (a .s .now) (a .c .at) anyStampL (clock-reply-kind s) (λ d. refl) (omega arith) (c .any-stamp-field .result) (c .any-stamp-field .ensures)
+    of-field s (a .s .now) (a .c .at) anyStampL (clock-reply-kind s) (λ d. refl) (omega arith) (c .any-stamp-field .result)
+    (c .any-stamp-field .ensures)
 
 returns-2 : tie.Need-returns-2
 unfolding bodyAt
@@ -37,21 +38,24 @@ unfolding bodyAt
 returns-4 c =
     let a = c .before .before .before .before .before .before .args in
     let s = shelf (a .t) in
-    of-field s (a .s .now) (a .c .at) (anyCandidateL s) (collect-reply-kind s) (λ d. refl) (omega arith) (c .any-candidate-field .result) (c .any-candidate-field .ensures)
+    of-field s (a .s .now) (a .c .at) (anyCandidateL s) (collect-reply-kind s) (λ d. refl) (omega arith) (c .any-candidate-field .result)
+    (c .any-candidate-field .ensures)
 
 returns-5 : tie.Need-returns-5
 unfolding bodyAt
 returns-5 c =
     let a = c .before .before .before .before .before .before .before .args in
     let s = shelf (a .t) in
-    of-field s (a .s .now) (a .c .at) (candidateL s) (complete-kind s) (λ d. refl) (omega arith) (c .candidate-field .result) (c .candidate-field .ensures)
+    of-field s (a .s .now) (a .c .at) (candidateL s) (complete-kind s) (λ d. refl) (omega arith) (c .candidate-field .result)
+    (c .candidate-field .ensures)
 
 returns-6 : tie.Need-returns-6
 unfolding bodyAt
 returns-6 c =
     let a = c .before .before .before .before .before .before .before .before .args in
     let s = shelf (a .t) in
-    of-field s (a .s .now) (a .c .at) (candidatesL s) (filter-kind s) (λ d. refl) (omega arith) (c .candidates-field .result) (c .candidates-field .ensures)
+    of-field s (a .s .now) (a .c .at) (candidatesL s) (filter-kind s) (λ d. refl) (omega arith) (c .candidates-field .result)
+    (c .candidates-field .ensures)
 
 returns-7 : tie.Need-returns-7
 unfolding bodyAt
@@ -65,10 +69,16 @@ unfolding bodyAt
 returns-8 c =
     let a = c .before .before .before .before .before .before .before .before .before .before .args in
     let s = shelf (a .t) in
-    of-field s (a .s .now) (a .c .at) (candidateL s) (repair-kind s) (λ d. refl) (omega arith) (c .candidate-field2 .result) (c .candidate-field2 .ensures)
+    of-field s (a .s .now) (a .c .at) (candidateL s) (repair-kind s) (λ d. refl) (omega arith) (c .candidate-field2 .result)
+    (c .candidate-field2 .ensures)
 
 returns-9 : tie.Need-returns-9
-returns-9 c = let p = c .before .before .before .before .before .before .before .before .before .pre in let a = c .before .before .before .before .before .before .before .before .before .args in bare-as (shelf (a .t)) (a .s .now) (a .c .at) (p .2) (a .kind) (p .0) (p .1) (c .before .before .before .before .before .before .before .if1 .left) (c .before .before .before .before .before .before .if2 .left) (c .before .before .before .before .before .if3 .left) (c .before .before .before .if5 .left) (c .before .before .before .before .if4 .left) (c .before .before .if6 .left) (c .before .if7 .left) (c .if8 .left)
+returns-9 c = let p = c .before .before .before .before .before .before .before .before .before .pre in let a =
+    c .before .before .before .before .before .before .before .before .before .args in bare-as (shelf (a .t)) (a .s .now) (a .c .at) (p .2) (a .kind)
+    (p .0) (p .1) (c .before .before .before .before .before .before .before .if1 .left)
+    (c .before .before .before .before .before .before .if2 .left) (c .before .before .before .before .before .if3 .left)
+    (c .before .before .before .if5 .left) (c .before .before .before .before .if4 .left) (c .before .before .if6 .left) (c .before .if7 .left)
+    (c .if8 .left)
 
 pub body-field-spec : {M : Type 1} → statement M
 body-field-spec = tie.close (tie.spec (λ c κs. search needs) returns (λ c κs. search needs) returns-2 (λ c κs. search needs) returns-3

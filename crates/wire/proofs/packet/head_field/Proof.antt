@@ -32,21 +32,24 @@ module _ (c : tie.After-server) where
   abbrev client-at : tie.After-client
   client-at = c .before .before .before .before
 
-  server-took : Took (byteL 1 mostServers) (s (kind-at client-at)) (client-at .client .given .0 .1 .0 .at) (c .server .given .0 .0) (c .server .given .0 .1 .0 .at)
+  server-took : Took (byteL 1 mostServers) (s (kind-at client-at)) (client-at .client .given .0 .1 .0 .at) (c .server .given .0 .0)
+      (c .server .given .0 .1 .0 .at)
   server-took = rw (c .server .given .1) at (c .before .before .byte-field3 .ensures)
 
 module _ (c : tie.After-t) where
   abbrev server-at : tie.After-server
   server-at = c .before .before .before .before
 
-  t-took : Took (byteL 1 topFaults) (s (kind-at (client-at server-at))) (server-at .server .given .0 .1 .0 .at) (c .t .given .0 .0) (c .t .given .0 .1 .0 .at)
+  t-took : Took (byteL 1 topFaults) (s (kind-at (client-at server-at))) (server-at .server .given .0 .1 .0 .at) (c .t .given .0 .0)
+      (c .t .given .0 .1 .0 .at)
   t-took = rw (c .t .given .1) at (c .before .before .byte-field4 .ensures)
 
 module _ (c : tie.After-call) where
   abbrev t-at : tie.After-t
   t-at = c .before .before .before .before
 
-  call-took : Took (number4L 1 topNumber) (s (kind-at (client-at (server-at t-at)))) (t-at .t .given .0 .1 .0 .at) (c .call .given .0 .0) (c .call .given .0 .1 .0 .at)
+  call-took : Took (number4L 1 topNumber) (s (kind-at (client-at (server-at t-at)))) (t-at .t .given .0 .1 .0 .at) (c .call .given .0 .0)
+      (c .call .given .0 .1 .0 .at)
   call-took = rw (c .call .given .1) at (c .before .before .number4-field .ensures)
 
 -- ---- the needs
@@ -59,7 +62,8 @@ returns-2 : tie.Need-returns-2
 unfolding headF
 returns-2 c =
     stops-kept _ _
-    (stops-via _ _ _ (stops-second _ _ (kind-took (c .before .before .before .before) .leaves) (stops-first _ _ (rw (c .enum-told2 .given .1) at (c .before .before .byte-field2 .ensures)))))
+    (stops-via _ _ _ (stops-second _ _ (kind-took (c .before .before .before .before) .leaves)
+    (stops-first _ _ (rw (c .enum-told2 .given .1) at (c .before .before .byte-field2 .ensures)))))
 
 returns-3 : tie.Need-returns-3
 unfolding headF

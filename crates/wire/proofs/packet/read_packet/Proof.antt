@@ -11,16 +11,27 @@ returns : tie.Need-returns
 returns c = refused (head-stops (rw (c .enum-told .given .1) at (c .before .before .head-field .ensures)))
 
 body-field-requires : tie.Need-body-field-requires
-body-field-requires c κs = (kind-range (rw (c .before .head .given .1) at (c .before .before .before .head-field .ensures)) .0, kind-range (rw (c .before .head .given .1) at (c .before .before .before .head-field .ensures)) .1, (rw (c .before .head .given .1) at (c .before .before .before .head-field .ensures)) .leaves .within)
+body-field-requires c κs = (
+  kind-range (rw (c .before .head .given .1) at (c .before .before .before .head-field .ensures)) .0,
+  kind-range
+      (rw (c .before .head .given .1) at (c .before .before .before .head-field .ensures)) .1,
+  (rw (c .before .head .given .1) at (c .before .before .before .head-field .ensures)) .leaves .within,
+)
 
 returns-2 : tie.Need-returns-2
-returns-2 c = packet-broken (rw (c .before .before .before .before .head .given .1) at (c .before .before .before .before .before .before .head-field .ensures)) (rw (c .enum-told2 .given .1) at (c .before .before .body-field .ensures))
+returns-2 c = packet-broken (rw (c .before .before .before .before .head .given .1) at
+    (c .before .before .before .before .before .before .head-field .ensures)) (rw (c .enum-told2 .given .1) at
+    (c .before .before .body-field .ensures))
 
 returns-3 : tie.Need-returns-3
-returns-3 c = packet-trailing (rw (c .before .before .before .before .before .before .head .given .1) at (c .before .before .before .before .before .before .before .before .head-field .ensures)) (rw (c .before .before .v .given .1) at (c .before .before .before .before .body-field .ensures)) (omega arith)
+returns-3 c = packet-trailing (rw (c .before .before .before .before .before .before .head .given .1) at
+    (c .before .before .before .before .before .before .before .before .head-field .ensures))
+    (rw (c .before .before .v .given .1) at (c .before .before .before .before .body-field .ensures)) (omega arith)
 
 returns-4 : tie.Need-returns-4
-returns-4 c = packet-decoded (rw (c .before .before .before .before .before .before .head .given .1) at (c .before .before .before .before .before .before .before .before .head-field .ensures)) (rw (c .before .before .v .given .1) at (c .before .before .before .before .body-field .ensures)) (omega arith)
+returns-4 c = packet-decoded (rw (c .before .before .before .before .before .before .head .given .1) at
+    (c .before .before .before .before .before .before .before .before .head-field .ensures))
+    (rw (c .before .before .v .given .1) at (c .before .before .before .before .body-field .ensures)) (omega arith)
 
 pub read-packet-spec : {M : Type 1} → statement M
 read-packet-spec = tie.close (tie.spec (λ c κs. search needs) (λ c. search needs) (λ c. search needs) returns body-field-requires (λ c. search needs)

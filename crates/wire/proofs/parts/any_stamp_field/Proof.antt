@@ -14,13 +14,19 @@ returns c = past-any-stamp (omega arith)
 
 returns-2 : tie.Need-returns-2
 unfolding anyStampF
-returns-2 c = ⊎-elim (λ h. stops-short _ _ _ (rw (c .before .before .before .enum-told .given .1) at (c .before .before .before .before .before .stamp-field .ensures)) h) (λ h. stops-blank _ _ _ (rw (c .before .before .before .enum-told .given .1) at (c .before .before .before .before .before .stamp-field .ensures)) (h .0) (h .1)) (rw (c .enum-told2 .given .1) at (c .before .before .zero-run .ensures))
+returns-2 c = ⊎-elim (λ h. stops-short _ _ _ (rw (c .before .before .before .enum-told .given .1) at
+    (c .before .before .before .before .before .stamp-field .ensures)) h) (λ h. stops-blank _ _ _
+    (rw (c .before .before .before .enum-told .given .1) at (c .before .before .before .before .before .stamp-field .ensures)) (h .0) (h .1))
+    (rw (c .enum-told2 .given .1) at (c .before .before .zero-run .ensures))
 
 returns-3 : tie.Need-returns-3
 returns-3 c = any-stamp-took (rw (c .before .number .given .1) at (c .before .before .before .stamp-field .ensures))
 
 returns-4 : tie.Need-returns-4
-returns-4 c = blank-stamp-took (rw (c .before .before .before .before .enum-told .given .1) at (c .before .before .before .before .before .before .stamp-field .ensures)) ((rw (c .before .c1 .given .1) at (c .before .before .before .zero-run .ensures)) .within) ((rw (c .before .c1 .given .1) at (c .before .before .before .zero-run .ensures)) .zero) ((rw (c .before .c1 .given .1) at (c .before .before .before .zero-run .ensures)) .place)
+returns-4 c = blank-stamp-took (rw (c .before .before .before .before .enum-told .given .1) at
+    (c .before .before .before .before .before .before .stamp-field .ensures)) ((rw (c .before .c1 .given .1) at
+    (c .before .before .before .zero-run .ensures)) .within) ((rw (c .before .c1 .given .1) at (c .before .before .before .zero-run .ensures)) .zero)
+    ((rw (c .before .c1 .given .1) at (c .before .before .before .zero-run .ensures)) .place)
 
 pub any-stamp-field-spec : {M : Type 1} → statement M
 any-stamp-field-spec = tie.close (tie.spec returns (λ c κs. search needs) (λ c. search needs) (λ c. search needs) (λ c κs. search needs)

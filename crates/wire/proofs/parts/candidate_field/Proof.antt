@@ -43,7 +43,8 @@ run-field-requires c κs = stamp-past (c .before) .leaves .within
 returns-2 : tie.Need-returns-2
 unfolding candidateF
 returns-2 c =
-    stops-via _ _ _ (stops-second _ _ (stamp-past (c .before .before .before .before) .leaves) (stops-first _ _ (rw (c .enum-told2 .given .1) at (c .before .before .run-field .ensures))))
+    stops-via _ _ _ (stops-second _ _ (stamp-past (c .before .before .before .before) .leaves)
+    (stops-first _ _ (rw (c .enum-told2 .given .1) at (c .before .before .run-field .ensures))))
 
 run-field-requires-2 : tie.Need-run-field-requires-2
 run-field-requires-2 c κs = nonce-ran (c .before .before) .leaves .within
@@ -54,7 +55,8 @@ returns-3 c =
     let n = c .before .before .before .before .before in
     stops-via _ _ _
     (stops-second _ _ (stamp-past (first n) .leaves)
-    (stops-second _ _ (nonce-ran n .leaves) (rw (c .before .before .before .tags-size .ensures) at (rw (c .enum-told3 .given .1) at (c .before .before .run-field2 .ensures)))))
+    (stops-second _ _ (nonce-ran n .leaves) (rw (c .before .before .before .tags-size .ensures) at
+    (rw (c .enum-told3 .given .1) at (c .before .before .run-field2 .ensures)))))
 
 returns-4 : tie.Need-returns-4
 returns-4 c =

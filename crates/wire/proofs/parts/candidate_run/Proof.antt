@@ -26,13 +26,24 @@ loop-holds : tie.Need-loop-holds Inv-loop μ-loop
 loop-holds c = (omega arith, run-none (shelf (c .before .args .t)) (omega arith))
 
 returns : tie.Need-returns Inv-loop μ-loop
-returns c = many-broken (candidateF (shelf (c .before .before .before .before .before .before .args .t))) (c .before .before .before .before .loop .i) (c .before .before .before .before .before .before .args .n) (omega arith) (c .before .before .before .before .loop .inv .1 .leaves) (rw (c .enum-told .given .1) at (c .before .before .candidate-field .ensures))
+returns c = many-broken (candidateF (shelf (c .before .before .before .before .before .before .args .t))) (c .before .before .before .before .loop .i)
+    (c .before .before .before .before .before .before .args .n) (omega arith) (c .before .before .before .before .loop .inv .1 .leaves)
+    (rw (c .enum-told .given .1) at (c .before .before .candidate-field .ensures))
 
 loop-again : tie.Need-loop-again Inv-loop μ-loop
-loop-again c = (omega arith, run-more (shelf (c .before .before .before .before .before .before .before .args .t)) (c .before .before .before .before .before .loop .i) (c .before .before .before .before .before .loop .inv .1) (rw (c .before .number .given .1) at (c .before .before .before .candidate-field .ensures)))
+loop-again c = (
+  omega arith,
+  run-more (shelf (c .before .before .before .before .before .before .before .args .t))
+      (c .before .before .before .before .before .loop .i) (c .before .before .before .before .before .loop .inv .1)
+      (rw (c .before .number .given .1) at (c .before .before .before .candidate-field .ensures)),
+)
 
 returns-2 : tie.Need-returns-2 Inv-loop μ-loop
-returns-2 c = let e : c .before .loop .i ≡ c .before .before .before .args .n = omega arith in subst (λ (k : ℕ). Past (many k (candidateF (shelf (c .before .before .before .args .t)))) (c .before .before .before .args .s .now) (c .before .before .before .args .c .at) (candidateList (shelf (c .before .before .before .args .t)) k (drop (c .before .before .before .args .c .at) (c .before .before .before .args .s .now))) (c .before .loop .at) (candidateSize (shelf (c .before .before .before .args .t)) * k)) e (c .before .loop .inv .1)
+returns-2 c = let e : c .before .loop .i ≡ c .before .before .before .args .n = omega arith in subst
+    (λ (k : ℕ). Past (many k (candidateF (shelf (c .before .before .before .args .t)))) (c .before .before .before .args .s .now)
+    (c .before .before .before .args .c .at) (candidateList (shelf (c .before .before .before .args .t)) k
+    (drop (c .before .before .before .args .c .at) (c .before .before .before .args .s .now))) (c .before .loop .at)
+    (candidateSize (shelf (c .before .before .before .args .t)) * k)) e (c .before .loop .inv .1)
 
 pub candidate-run-spec : {M : Type 1} → statement M
 candidate-run-spec = tie.close (tie.spec Inv-loop μ-loop loop-holds (λ c κs. search needs) (λ c. search needs) (λ c. search needs) returns

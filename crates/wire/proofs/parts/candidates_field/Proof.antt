@@ -12,16 +12,25 @@ unfolding shelf
 cast-byte-field c = omega (arith, c .servers .ensures)
 
 returns : tie.Need-returns
-returns c = list-stops (shelf (c .before .before .before .before .before .args .t)) (c .before .before .before .servers .result) (c .before .before .before .servers .ensures) (rw (c .enum-told .given .1) at (c .before .before .byte-field .ensures))
+returns c = list-stops (shelf (c .before .before .before .before .before .args .t)) (c .before .before .before .servers .result)
+    (c .before .before .before .servers .ensures) (rw (c .enum-told .given .1) at (c .before .before .byte-field .ensures))
 
 candidate-run-requires : tie.Need-candidate-run-requires
 candidate-run-requires c κs = (rw (c .before .n .given .1) at (c .before .before .before .byte-field .ensures)) .leaves .within
 
 returns-2 : tie.Need-returns-2
-returns-2 c = list-breaks (shelf (c .before .before .before .before .before .before .before .before .before .args .t)) (c .before .before .before .before .before .before .before .servers .result) (c .before .before .before .before .before .before .before .servers .ensures) (rw (c .before .before .before .before .n .given .1) at (c .before .before .before .before .before .before .byte-field .ensures)) (rw (c .enum-told2 .given .1) at (c .before .before .candidate-run .ensures))
+returns-2 c = list-breaks (shelf (c .before .before .before .before .before .before .before .before .before .args .t))
+    (c .before .before .before .before .before .before .before .servers .result)
+    (c .before .before .before .before .before .before .before .servers .ensures) (rw (c .before .before .before .before .n .given .1) at
+    (c .before .before .before .before .before .before .byte-field .ensures)) (rw (c .enum-told2 .given .1) at
+    (c .before .before .candidate-run .ensures))
 
 returns-3 : tie.Need-returns-3
-returns-3 c = list-took (shelf (c .before .before .before .before .before .before .before .before .before .before .args .t)) (c .before .before .before .before .before .before .before .before .servers .result) (c .before .before .before .before .before .before .before .before .servers .ensures) (rw (c .before .before .before .before .before .n .given .1) at (c .before .before .before .before .before .before .before .byte-field .ensures)) (rw (c .before .c2 .given .1) at (c .before .before .before .candidate-run .ensures))
+returns-3 c = list-took (shelf (c .before .before .before .before .before .before .before .before .before .before .args .t))
+    (c .before .before .before .before .before .before .before .before .servers .result)
+    (c .before .before .before .before .before .before .before .before .servers .ensures)
+    (rw (c .before .before .before .before .before .n .given .1) at (c .before .before .before .before .before .before .before .byte-field .ensures))
+    (rw (c .before .c2 .given .1) at (c .before .before .before .candidate-run .ensures))
 
 pub candidates-field-spec : {M : Type 1} → statement M
 candidates-field-spec = tie.close (tie.spec (λ c κs. search needs) cast-byte-field (λ c κs. search needs) (λ c. search needs) (λ c. search needs)

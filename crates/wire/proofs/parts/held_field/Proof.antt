@@ -47,7 +47,8 @@ returns-2 : tie.Need-returns-2
 returns-2 c =
     let l = c .before .before .before in
     let a = l .before .before in
-    held-flag-stops (form a) (l .held-most .result) (stamp-took a) (l .held-most .ensures) (rw (c .enum-told2 .given .1) at (c .before .before .byte-field .ensures))
+    held-flag-stops (form a) (l .held-most .result) (stamp-took a) (l .held-most .ensures)
+    (rw (c .enum-told2 .given .1) at (c .before .before .byte-field .ensures))
 
 returns-3 : tie.Need-returns-3
 returns-3 c =

@@ -83,7 +83,8 @@ run-field-requires c κs = length-took (c .before .before) .leaves .within
 returns-2 : tie.Need-returns-2
 returns-2 c =
     let a = c .before .before .before .before .before in
-    share-stops1 (form a) (length-took a) (rw (c .before .before .before .fragment-size .ensures) at (rw (c .enum-told2 .given .1) at (c .before .before .run-field .ensures)))
+    share-stops1 (form a) (length-took a) (rw (c .before .before .before .fragment-size .ensures) at
+    (rw (c .enum-told2 .given .1) at (c .before .before .run-field .ensures)))
 
 run-field-requires-2 : tie.Need-run-field-requires-2
 run-field-requires-2 c κs = fragment-ran (c .before .before) .leaves .within
@@ -100,7 +101,8 @@ run-field-requires-3 c κs = digests-ran (c .before) .leaves .within
 returns-4 : tie.Need-returns-4
 returns-4 c =
     let a = c .before .before .before .before in
-    share-stops3 (form (n (c2 a))) (length-took (n (c2 a))) (fragment-ran (c2 a)) (digests-ran a) (rw (c .enum-told4 .given .1) at (c .before .before .run-field3 .ensures))
+    share-stops3 (form (n (c2 a))) (length-took (n (c2 a))) (fragment-ran (c2 a)) (digests-ran a)
+    (rw (c .enum-told4 .given .1) at (c .before .before .run-field3 .ensures))
 
 run-field-requires-4 : tie.Need-run-field-requires-4
 run-field-requires-4 c κs = nonce-ran (c .before .before) .leaves .within

@@ -40,7 +40,8 @@ returns-2 : tie.Need-returns-2
 unfolding stampF
 returns-2 c =
     stops-via _ _ _
-    (stops-second _ _ (number-took (c .before .before .before .before) .leaves) (stops-first _ _ (rw (c .enum-told2 .given .1) at (c .before .before .byte-field .ensures))))
+    (stops-second _ _ (number-took (c .before .before .before .before) .leaves) (stops-first _ _
+    (rw (c .enum-told2 .given .1) at (c .before .before .byte-field .ensures))))
 
 run-field-requires : tie.Need-run-field-requires
 run-field-requires c κs = writer-took (c .before) .leaves .within

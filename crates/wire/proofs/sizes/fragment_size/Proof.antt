@@ -15,15 +15,18 @@ returns c = rw (c .if1 .taken) (ap (λ (z : ℕ). z / 2) (let e : c .before .arg
 
 returns-2 : tie.Need-returns-2
 unfolding shelf fragmentSize
-returns-2 c = rw (c .if2 .taken) (ap (λ (z : ℕ). z / 3) (let e : c .before .before .args .n + 2 ≡ c .before .before .args .n + 3 - 1 = omega arith in e))
+returns-2 c = rw (c .if2 .taken) (ap (λ (z : ℕ). z / 3) (let e : c .before .before .args .n + 2 ≡ c .before .before .args .n + 3 - 1 = omega
+    arith in e))
 
 returns-3 : tie.Need-returns-3
 unfolding shelf fragmentSize
-returns-3 c = rw (c .if3 .taken) (ap (λ (z : ℕ). z / 4) (let e : c .before .before .before .args .n + 3 ≡ c .before .before .before .args .n + 4 - 1 = omega arith in e))
+returns-3 c = rw (c .if3 .taken) (ap (λ (z : ℕ). z / 4) (let e : c .before .before .before .args .n + 3 ≡ c .before .before .before .args .n + 4 - 1 =
+    omega arith in e))
 
 returns-4 : tie.Need-returns-4
 unfolding shelf fragmentSize
-returns-4 c = rw (c .if4 .taken) (ap (λ (z : ℕ). z / 5) (let e : c .before .before .before .before .args .n + 4 ≡ c .before .before .before .before .args .n + 5 - 1 = omega arith in e))
+returns-4 c = rw (c .if4 .taken) (ap (λ (z : ℕ). z / 5) (let e : c .before .before .before .before .args .n + 4 ≡
+    c .before .before .before .before .args .n + 5 - 1 = omega arith in e))
 
 returns-5 : tie.Need-returns-5
 unfolding shelf fragmentSize

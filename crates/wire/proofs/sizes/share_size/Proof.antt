@@ -12,15 +12,32 @@ add-result c = omega (arith, c .fragment-size .ensures, fragment-few (c .before 
 
 add-result-2 : tie.Need-add-result-2
 unfolding shelf
-add-result-2 c = omega (arith, c .before .fragment-size .ensures, fragment-few (c .before .before .args .t) (c .before .before .args .n), c .digests-size .ensures)
+add-result-2 c = omega (
+  arith,
+  c .before .fragment-size .ensures,
+  fragment-few (c .before .before .args .t) (c .before .before .args .n),
+  c .digests-size .ensures,
+)
 
 add-result-3 : tie.Need-add-result-3
 unfolding shelf
-add-result-3 c = omega (arith, c .before .fragment-size .ensures, fragment-few (c .before .before .args .t) (c .before .before .args .n), c .digests-size .ensures)
+add-result-3 c = omega (
+  arith,
+  c .before .fragment-size .ensures,
+  fragment-few (c .before .before .args .t) (c .before .before .args .n),
+  c .digests-size .ensures,
+)
 
 add-result-4 : tie.Need-add-result-4
 unfolding shelf
-add-result-4 c = omega (arith, c .before .before .fragment-size .ensures, fragment-few (c .before .before .before .args .t) (c .before .before .before .args .n), c .before .digests-size .ensures, c .tags-size .ensures)
+add-result-4 c = omega (
+  arith,
+  c .before .before .fragment-size .ensures,
+  fragment-few (c .before .before .before .args .t)
+      (c .before .before .before .args .n),
+  c .before .digests-size .ensures,
+  c .tags-size .ensures,
+)
 
 returns : tie.Need-returns
 unfolding shareSize

@@ -6,7 +6,8 @@ use Rattle.wire.proofs.values.stamp_at.Statement.{statement}
 use Rattle.wire.proofs.values.stamp_at.Tie as tie
 
 returns : tie.Need-returns
-returns c = rw (c .before .before .before .number4 .ensures, c .before .before .byte-at .ensures, c .tag-of .ensures, c .before .rest .ensures) (stamp-padded (c .before .before .before .before .before .args .s .now))
+returns c = rw (c .before .before .before .number4 .ensures, c .before .before .byte-at .ensures, c .tag-of .ensures, c .before .rest .ensures)
+    (stamp-padded (c .before .before .before .before .before .args .s .now))
 
 pub stamp-at-spec : {M : Type 1} → statement M
 stamp-at-spec = tie.close (tie.spec (λ c κs. search needs) (λ c κs. search needs) (λ c κs. search needs) (λ c κs. search needs) returns)
