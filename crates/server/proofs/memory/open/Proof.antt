@@ -1,12 +1,74 @@
--- Each field that breaks stops the memory there; zeros to the end open it. Assumes nothing.
+-- Each field that breaks stops the memory there; zeros to the end open it. What each reader let through is told once, at its place. Assumes nothing.
+use mathlib.Core.Path.{_≡_}
+use mathlib.Core.List.{List}
+use Prim.Native.Nat.{ℕ}
 use borrow.Author.Needs.{needs}
 use native.Mathlib.Omega.{arith}
-use Rattle.cluster.specs.Ranges.{topFaults}
+use lib.ListN.{length}
+use Rattle.cluster.specs.Config.{shelf}
+use Rattle.cluster.specs.Ranges.{topFaults, memorySize, capacity}
 use Rattle.protocol.proofs.Memories.{memory-size}
+use Rattle.wire.specs.Reads.{Took, byteL, anyCandidateL}
 use Rattle.wire.proofs.Heads.{byte-range}
 use Rattle.server.proofs.Open.{no-t, no-server, no-count, no-latest, writes-within, no-writes, opens, no-tail, servers-most}
 use Rattle.server.proofs.memory.open.Statement.{statement}
 use Rattle.server.proofs.memory.open.Tie as tie
+
+-- ---- what the readers let through
+
+module _ (c : tie.After-t) where
+  abbrev memory : List ℕ
+  memory = c .before .before .before .before .before .args .memory .now
+
+  abbrev t : ℕ
+  t = c .t .given .0 .0
+
+  abbrev past-t : ℕ
+  past-t = c .t .given .0 .1 .0 .at
+
+  size-is : length memory ≡ memorySize
+  size-is = c .before .before .before .if1 .left
+
+  t-took : Took (byteL 1 topFaults) memory 0 t past-t
+  t-took = rw (c .t .given .1) at (c .before .before .byte-field .ensures)
+
+module _ (c : tie.After-server) where
+  abbrev after-t : tie.After-t
+  after-t = c .before .before .before .before .before
+
+  abbrev servers : ℕ
+  servers = c .before .before .before .servers .result
+
+  abbrev past-server : ℕ
+  past-server = c .server .given .0 .1 .0 .at
+
+  servers-are : servers ≡ shelf (t after-t) .servers
+  servers-are = c .before .before .before .servers .ensures
+
+  server-took : Took (byteL 1 servers) (memory after-t) (past-t after-t) (c .server .given .0 .0) past-server
+  server-took = rw (c .server .given .1) at (c .before .before .byte-field2 .ensures)
+
+module _ (c : tie.After-n) where
+  abbrev after-server : tie.After-server
+  after-server = c .before .before .before .before
+
+  abbrev past-n : ℕ
+  past-n = c .n .given .0 .1 .0 .at
+
+  n-took : Took (byteL 0 capacity) (memory (after-t after-server)) (past-server after-server) (c .n .given .0 .0) past-n
+  n-took = rw (c .n .given .1) at (c .before .before .byte-field3 .ensures)
+
+module _ (c : tie.After-number) where
+  abbrev after-n : tie.After-n
+  after-n = c .before .before .before .before
+
+  abbrev first : tie.After-t
+  first = after-t (after-server after-n)
+
+  latest-took : Took (anyCandidateL (shelf (t first))) (memory first) (past-n after-n) (c .number .given .0 .0) (c .number .given .0 .1 .0 .at)
+  latest-took = rw (c .number .given .1) at (c .before .before .any-candidate-field .ensures)
+
+-- ---- the needs
 
 returns : tie.Need-returns
 returns c = memory-size (c .before .before .args .memory .now) (c .if1 .taken)
@@ -15,152 +77,70 @@ returns-2 : tie.Need-returns-2
 returns-2 c = no-t (c .before .before .before .if1 .left) (rw (c .enum-told .given .1) at (c .before .before .byte-field .ensures))
 
 cast-servers : tie.Need-cast-servers
-cast-servers c =
-    let x = rw (c .before .t .given .1) at (c .before .before .before .byte-field .ensures) in
-    omega (arith, byte-range 1 topFaults x .1)
+cast-servers c = omega (arith, byte-range 1 topFaults (t-took (c .before)) .1)
 
 cast-byte-field-2 : tie.Need-cast-byte-field-2
-cast-byte-field-2 c =
-    let x = rw (c .before .before .t .given .1) at (c .before .before .before .before .byte-field .ensures) in
-    omega (arith, servers-most (byte-range 1 topFaults x .1) (c .servers .ensures))
+cast-byte-field-2 c = omega (arith, servers-most (byte-range 1 topFaults (t-took (c .before .before)) .1) (c .servers .ensures))
 
 returns-3 : tie.Need-returns-3
 returns-3 c =
-    let x = rw (c .before .before .before .before .before .t .given .1) at
-    (c .before .before .before .before .before .before .before .byte-field .ensures) in
-    no-server (c .before .before .before .before .before .before .before .before .if1 .left) x (c .before .before .before .servers .ensures)
-    (rw (c .enum-told2 .given .1) at (c .before .before .byte-field2 .ensures))
+    let p = c .before .before .before .before .before in
+    no-server (size-is p) (t-took p) (c .before .before .before .servers .ensures) (rw (c .enum-told2 .given .1) at (c .before .before .byte-field2 .ensures))
 
 returns-4 : tie.Need-returns-4
 returns-4 c =
-    let x = rw (c .before .before .before .before .before .before .before .before .before .t .given .1) at
-    (c .before .before .before .before .before .before .before .before .before .before .before .byte-field .ensures) in
-    let y = rw (c .before .before .before .before .server .given .1) at (c .before .before .before .before .before .before .byte-field2 .ensures) in
-    no-count (c .before .before .before .before .before .before .before .before .before .before .before .before .if1 .left) x
-    (c .before .before .before .before .before .before .before .servers .ensures) y
-    (rw (c .enum-told3 .given .1) at (c .before .before .byte-field3 .ensures))
+    let s = c .before .before .before .before in
+    no-count (size-is (after-t s)) (t-took (after-t s)) (servers-are s) (server-took s) (rw (c .enum-told3 .given .1) at (c .before .before .byte-field3 .ensures))
 
 cast-any-candidate-field : tie.Need-cast-any-candidate-field
-cast-any-candidate-field c =
-    let x = rw (c .before .before .before .before .before .before .before .before .before .before .t .given .1) at
-    (c .before .before .before .before .before .before .before .before .before .before .before .before .byte-field .ensures) in
-    omega (arith, byte-range 1 topFaults x .1)
+cast-any-candidate-field c = omega (arith, byte-range 1 topFaults (t-took (c .before .before .before .before .before .before .before .before .before .before)) .1)
 
 returns-5 : tie.Need-returns-5
 returns-5 c =
-    let x = rw (c .before .before .before .before .before .before .before .before .before .before .before .before .before .t .given .1) at
-    (c .before .before .before .before .before .before .before .before .before .before .before .before .before .before .before .byte-field .ensures)
-    in
-    let y = rw (c .before .before .before .before .before .before .before .before .server .given .1) at
-    (c .before .before .before .before .before .before .before .before .before .before .byte-field2 .ensures) in
-    let z = rw (c .before .before .before .before .n .given .1) at (c .before .before .before .before .before .before .byte-field3 .ensures) in
-    no-latest (c .before .before .before .before .before .before .before .before .before .before .before .before .before .before .before .before .if1
-    .left) x (c .before .before .before .before .before .before .before .before .before .before .before .servers .ensures) y z
+    let m = c .before .before .before .before in
+    let s = after-server m in
+    no-latest (size-is (after-t s)) (t-took (after-t s)) (servers-are s) (server-took s) (n-took m)
     (rw (c .enum-told4 .given .1) at (c .before .before .any-candidate-field .ensures))
 
 cast-check-writes : tie.Need-cast-check-writes
-cast-check-writes c =
-    let x = rw (c .before .before .before .before .before .before .before .before .before .before .before .before .before .before .t .given .1) at
-    (c .before .before .before .before .before .before .before .before .before .before .before .before .before .before .before .before .byte-field
-    .ensures) in
-    omega (arith, byte-range 1 topFaults x .1)
+cast-check-writes c = omega (arith, byte-range 1 topFaults (t-took (first (c .before))) .1)
 
 check-writes-requires : tie.Need-check-writes-requires
 check-writes-requires c κs =
-    let x = rw (c .before .before .before .before .before .before .before .before .before .before .before .before .before .before .t .given .1) at
-    (c .before .before .before .before .before .before .before .before .before .before .before .before .before .before .before .before .byte-field
-    .ensures) in
-    let y = rw (c .before .before .before .before .before .before .before .before .before .server .given .1) at
-    (c .before .before .before .before .before .before .before .before .before .before .before .byte-field2 .ensures) in
-    let z = rw (c .before .before .before .before .before .n .given .1) at
-    (c .before .before .before .before .before .before .before .byte-field3 .ensures) in
-    let l = rw (c .before .number .given .1) at (c .before .before .before .any-candidate-field .ensures) in
-    writes-within (c .before .before .before .before .before .before .before .before .before .before .before .before .before .before .before .before
-    .before .if1 .left) x (c .before .before .before .before .before .before .before .before .before .before .before .before .servers .ensures) y z l
+    let l = c .before in
+    let s = after-server (after-n l) in
+    writes-within (size-is (after-t s)) (t-took (after-t s)) (servers-are s) (server-took s) (n-took (after-n l)) (latest-took l)
 
 returns-6 : tie.Need-returns-6
 returns-6 c =
-    let x = rw (c .before .before .before .before .before .before .before .before .before .before .before .before .before .before .before .before
-    .before .t .given .1) at
-    (c .before .before .before .before .before .before .before .before .before .before .before .before .before .before .before .before .before .before
-    .before .byte-field .ensures) in
-    let y = rw (c .before .before .before .before .before .before .before .before .before .before .before .before .server .given .1) at
-    (c .before .before .before .before .before .before .before .before .before .before .before .before .before .before .byte-field2 .ensures) in
-    let z = rw (c .before .before .before .before .before .before .before .before .n .given .1) at
-    (c .before .before .before .before .before .before .before .before .before .before .byte-field3 .ensures) in
-    let l = rw (c .before .before .before .before .number .given .1) at
-    (c .before .before .before .before .before .before .any-candidate-field .ensures) in
-    no-writes (c .before .before .before .before .before .before .before .before .before .before .before .before .before .before .before .before
-    .before .before .before .before .if1 .left) x
-    (c .before .before .before .before .before .before .before .before .before .before .before .before .before .before .before .servers .ensures) y z
-    l (λ i. c .before .before .before .before .before .before .before .before .before .before .before .before .before .before .before .before .before
-    .before .before .before .before .shared-slice-known .given i .fits) (c .enum-told5 .given .1) (c .before .before .check-writes .ensures)
+    let l = c .before .before .before .before in
+    let s = after-server (after-n l) in
+    no-writes (size-is (after-t s)) (t-took (after-t s)) (servers-are s) (server-took s) (n-took (after-n l)) (latest-took l)
+    (λ i. first l .before .before .before .before .shared-slice-known .given i .fits) (c .enum-told5 .given .1) (c .before .before .check-writes .ensures)
 
 cast-t25 : tie.Need-cast-t25
-cast-t25 c =
-    let x = rw (c .before .before .before .before .before .before .before .before .before .before .before .before .before .before .before .before
-    .before .before .before .before .before .t .given .1) at
-    (c .before .before .before .before .before .before .before .before .before .before .before .before .before .before .before .before .before .before
-    .before .before .before .before .before .byte-field .ensures) in
-    omega (arith, byte-range 1 topFaults x .1)
+cast-t25 c = omega (arith, byte-range 1 topFaults (t-took (first (c .before .before .before .before .before .before .before .before))) .1)
 
 cast-t26 : tie.Need-cast-t26
 cast-t26 c =
-    let x = rw (c .before .before .before .before .before .before .before .before .before .before .before .before .before .before .before .before
-    .before .before .before .before .before .t .given .1) at
-    (c .before .before .before .before .before .before .before .before .before .before .before .before .before .before .before .before .before .before
-    .before .before .before .before .before .byte-field .ensures) in
-    let y = rw (c .before .before .before .before .before .before .before .before .before .before .before .before .before .before .before .before
-    .server .given .1) at
-    (c .before .before .before .before .before .before .before .before .before .before .before .before .before .before .before .before .before .before
-    .byte-field2 .ensures) in
-    omega (
-      arith,
-      servers-most (byte-range 1 topFaults x .1)
-          (c .before .before .before .before .before .before .before .before .before .before .before .before .before .before .before .before .before .before
-          .before .servers .ensures),
-      byte-range 1 _ y .1,
-    )
+    let s = after-server (after-n (c .before .before .before .before .before .before .before .before)) in
+    omega (arith, servers-most (byte-range 1 topFaults (t-took (after-t s)) .1) (servers-are s), byte-range 1 _ (server-took s) .1)
 
 returns-7 : tie.Need-returns-7
 returns-7 c =
-    let x = rw (c .before .before .before .before .before .before .before .before .before .before .before .before .before .before .before .before
-    .before .before .before .before .before .t .given .1) at
-    (c .before .before .before .before .before .before .before .before .before .before .before .before .before .before .before .before .before .before
-    .before .before .before .before .before .byte-field .ensures) in
-    let y = rw (c .before .before .before .before .before .before .before .before .before .before .before .before .before .before .before .before
-    .server .given .1) at
-    (c .before .before .before .before .before .before .before .before .before .before .before .before .before .before .before .before .before .before
-    .byte-field2 .ensures) in
-    let z = rw (c .before .before .before .before .before .before .before .before .before .before .before .before .n .given .1) at
-    (c .before .before .before .before .before .before .before .before .before .before .before .before .before .before .byte-field3 .ensures) in
-    let l = rw (c .before .before .before .before .before .before .before .before .number .given .1) at
-    (c .before .before .before .before .before .before .before .before .before .before .any-candidate-field .ensures) in
+    let l = c .before .before .before .before .before .before .before .before in
+    let s = after-server (after-n l) in
     let w = rw (c .before .before .before .before .end .given .1) at (c .before .before .before .before .before .before .check-writes .ensures) in
-    opens (c .before .before .before .before .before .before .before .before .before .before .before .before .before .before .before .before .before
-    .before .before .before .before .before .before .before .if1 .left) x
-    (c .before .before .before .before .before .before .before .before .before .before .before .before .before .before .before .before .before .before
-    .before .servers .ensures) y z l w (c .before .before .rest .ensures) (c .before .all-zero .ensures) (c .if2 .taken)
+    opens (size-is (after-t s)) (t-took (after-t s)) (servers-are s) (server-took s) (n-took (after-n l)) (latest-took l) w
+    (c .before .before .rest .ensures) (c .before .all-zero .ensures) (c .if2 .taken)
 
 returns-8 : tie.Need-returns-8
 returns-8 c =
-    let x = rw (c .before .before .before .before .before .before .before .before .before .before .before .before .before .before .before .before
-    .before .before .before .before .before .t .given .1) at
-    (c .before .before .before .before .before .before .before .before .before .before .before .before .before .before .before .before .before .before
-    .before .before .before .before .before .byte-field .ensures) in
-    let y = rw (c .before .before .before .before .before .before .before .before .before .before .before .before .before .before .before .before
-    .server .given .1) at
-    (c .before .before .before .before .before .before .before .before .before .before .before .before .before .before .before .before .before .before
-    .byte-field2 .ensures) in
-    let z = rw (c .before .before .before .before .before .before .before .before .before .before .before .before .n .given .1) at
-    (c .before .before .before .before .before .before .before .before .before .before .before .before .before .before .byte-field3 .ensures) in
-    let l = rw (c .before .before .before .before .before .before .before .before .number .given .1) at
-    (c .before .before .before .before .before .before .before .before .before .before .any-candidate-field .ensures) in
+    let l = c .before .before .before .before .before .before .before .before in
+    let s = after-server (after-n l) in
     let w = rw (c .before .before .before .before .end .given .1) at (c .before .before .before .before .before .before .check-writes .ensures) in
-    no-tail (c .before .before .before .before .before .before .before .before .before .before .before .before .before .before .before .before .before
-    .before .before .before .before .before .before .before .if1 .left) x
-    (c .before .before .before .before .before .before .before .before .before .before .before .before .before .before .before .before .before .before
-    .before .servers .ensures) y z l w (c .before .before .rest .ensures) (c .before .all-zero .ensures) (c .if2 .left)
+    no-tail (size-is (after-t s)) (t-took (after-t s)) (servers-are s) (server-took s) (n-took (after-n l)) (latest-took l) w
+    (c .before .before .rest .ensures) (c .before .all-zero .ensures) (c .if2 .left)
 
 pub open-spec : {M : Type 1} → statement M
 open-spec = tie.close (tie.spec returns (λ c. search needs) (λ c κs. search needs) (λ c. search needs) (λ c. search needs) returns-2 cast-servers
