@@ -8,6 +8,7 @@ use lib.Dec.{ltb, eqb}
 use lib.ListN.{getD}
 use borrow.Author.Needs.{needs}
 use Rattle.cluster.specs.Config.{shelf}
+use Rattle.cluster.specs.Ranges.{mostServers}
 use Rattle.protocol.specs.Rules.{countTo}
 use Rattle.protocol.specs.View.{repliesAt, replySlot, marked, repliesIn}
 use Rattle.decide.specs.Steps.{bit, rankAt, ranksBelow, stays}
@@ -41,15 +42,15 @@ is-lower-requires c κs = (
   ),
 )
 
+-- the slot that is looked at is one of the array's
+slot-low : (c : tie.After-is-lower Inv-loop μ-loop) → c .before .before .loop .j < mostServers
+slot-low c = omega (arith, c .before .before .before .servers .ensures .1, c .before .before .before .before .before .pre .high)
+
 add-n : tie.Need-add-n Inv-loop μ-loop
 add-n c =
     let a = c .before .before .before .before .before .args in
     let p = ranksBelow (marked (a .t2)) (repliesIn (shelf (a .t)) (a .t2) (a .kept .now)) (a .key) in
-    let j : c .before .before .loop .j < 13 = omega (
-      arith,
-      c .before .before .before .servers .ensures .1,
-      c .before .before .before .before .before .pre .high,
-    ) in
+    let j = slot-low c in
     omega (
       arith,
       c .before .before .loop .inv .1,
@@ -68,11 +69,7 @@ loop-again : tie.Need-loop-again Inv-loop μ-loop
 loop-again c =
     let a = c .before .before .before .before .before .args in
     let p = ranksBelow (marked (a .t2)) (repliesIn (shelf (a .t)) (a .t2) (a .kept .now)) (a .key) in
-    let j : c .before .before .loop .j < 13 = omega (
-      arith,
-      c .before .before .before .servers .ensures .1,
-      c .before .before .before .before .before .pre .high,
-    ) in
+    let j = slot-low c in
     let e : c .is-lower .result ≡ bit (p (suc (c .before .before .loop .j))) = c .is-lower .ensures ∙ ap bit
     (sym (below-slot (shelf (a .t)) (a .kept .now) (a .t2) (a .key) (c .before .before .loop .j) j)) in
     (omega arith, omega (arith, c .before .before .loop .inv .1, count-more (c .before .before .loop .j) p, e))
