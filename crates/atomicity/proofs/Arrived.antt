@@ -27,7 +27,7 @@ use Rattle.atomicity.specs.Premises.{Sent}
 use Rattle.atomicity.specs.Claim.{cameIn}
 use Rattle.atomicity.proofs.Util.{clash, and-right, ever-map, ever-with, ever-out, rise, within-in}
 use Rattle.atomicity.proofs.Model.{perform, now, account, marks, turn}
-use Rattle.atomicity.proofs.Setup.{Setup, Steps, StepOf, Meets, Fair, hand, calls, lat}
+use Rattle.atomicity.proofs.Setup.{Setup, Steps, StepOf, Meets, Fair, hand, calls, lat, srv, cli, replied, lastOf}
 use Rattle.atomicity.proofs.Moves.{Fits, Moved, kept, wbegan, rbegan, quit, took, moved, acting}
 use Rattle.atomicity.proofs.Rounds.{Next, turn-turned}
 use Rattle.atomicity.proofs.Positions.{next-stage, stage, stage-awaits, stage-bound, pos, ever-before}
@@ -52,7 +52,7 @@ module _ (K : Setup) (c : ℕ) where
 
   -- it was asked for no later than now
   too-early : (xs : Steps K) → Fair K xs → K .correct .client c ≡ true → (n k b : ℕ) → Ever (Arr n k b) xs →
-      16 * n + k ≤ pos (now (K .s) xs .client c)
+      16 * n + k ≤ pos (cli K xs c)
   too-early xs fair good n k b ev = ever-out _ xs
       (λ y ys h. let a = h .0 .2 in let p = a .2 in
       let t = reply-source K ys (h .0 .1) p (subst (λ (i : ℕ). K .correct .client i ≡ true) (sym (a .6)) good)
@@ -94,7 +94,7 @@ module _ (K : Setup) (c : ℕ) where
       go z zs (ap (λ (σ : Stamp). σ .number) (ap stampIn (a .says))) (a .old) (latest-known K zs (a .old) j)) xs ev)
     where
       go : (z : StepOf K) (zs : Steps K) → stampIn y .number ≡ lat K zs j .number → Fair K zs →
-          (now (K .s) zs .server j .latest ≡ blankCandidate (K .s .config)) ⊎ Genuine K zs (now (K .s) zs .server j .latest) →
+          (srv K zs j .latest ≡ blankCandidate (K .s .config)) ⊎ Genuine K zs (srv K zs j .latest) →
           stampIn y .number ≤ length (stampedAt (K .s) (account (K .s)) z zs ++ marks (K .s) zs)
       go z zs q f (inl b) = omega (arith, q, ap (λ (d : Candidate). d .stamp .number) b)
       go z zs q f (inr g) = omega (
@@ -125,7 +125,7 @@ module _ (K : Setup) (c : ℕ) where
 
   pub arrived : (xs : Steps K) → Fair K xs → K .correct .client c ≡ true → (b : ℕ) → (n k : ℕ) → n ≡ calls K xs c → k ≡ awaits (hand K xs c) →
       isIdle (hand K xs c) ≡ false → Roomy k xs → Ever (Arr n k b) xs →
-      now (K .s) xs .client c .marks b ≡ true
+      replied K xs c b ≡ true
   unfolding Ever nowValues pos begun onto isIdle awaits stage highAt
   arrived [] fair good b n k nq kq busy room ev = absurd ev
   arrived (x ∷ xs) fair good b n k nq kq busy room (inr ev) =
@@ -139,8 +139,8 @@ module _ (K : Setup) (c : ℕ) where
       cl' = perform (K .s) w (x .step) .world .client c
 
       go : Moved (K .s) c w (x .step) cl' (result K x xs) →
-          (n ≡ calls K xs c → k ≡ awaits (hand K xs c) → isIdle (hand K xs c) ≡ false → w .client c .marks b ≡ true) →
-          16 * n + k ≤ pos (w .client c) → cl' .marks b ≡ true
+          (n ≡ calls K xs c → k ≡ awaits (hand K xs c) → isIdle (hand K xs c) ≡ false → replied K xs c b ≡ true) →
+          16 * n + k ≤ pos (cli K xs c) → cl' .marks b ≡ true
       go (kept e _) f low = subst (λ (z : Client). z .marks b ≡ true) (sym e)
           (f (nq ∙ ap (λ (z : Client). z .calls) e) (kq ∙ ap (λ (z : Client). awaits (z .hand)) e)
           (subst (λ (z : Client). isIdle (z .hand) ≡ false) e busy))
@@ -150,14 +150,14 @@ module _ (K : Setup) (c : ℕ) where
           (omega (arith, low, nq, ap (λ (z : Client). z .calls) e, stage-bound (hand K xs c) .1, ap (λ (z : Client). awaits (z .hand)) e, kq))
       go (quit s a i e) f low = clash refl (subst (λ (z : Client). isIdle (z .hand) ≡ false) e busy)
       go (took p b' o s rd fit e v) f low =
-          let t = turn-turned (K .s) c (w .client c) p in
+          let t = turn-turned (K .s) c (cli K xs c) p in
           let cq : cl' .calls ≡ calls K xs c = ap (λ (y : Client). y .calls) e ∙ t .calls in
-          let st = next-stage (K .s) c (hand K xs c) (w .client c .last) (cl' .hand) (cl' .last)
-          (subst (λ (y : Client). Next (K .s) c (hand K xs c) (w .client c .last) (y .hand) (y .last)) (sym e) (t .next)) in
+          let st = next-stage (K .s) c (hand K xs c) (lastOf K xs c) (cl' .hand) (cl' .last)
+          (subst (λ (y : Client). Next (K .s) c (hand K xs c) (lastOf K xs c) (y .hand) (y .last)) (sym e) (t .next)) in
           let sq : stage (hand K xs c) ≡ stage (cl' .hand) =
           omega (arith, st .0, low, nq, cq, kq, stage-awaits (cl' .hand) busy, stage-awaits (hand K xs c) (fit .busy)) in
           subst (λ (y : Client). y .marks b ≡ true) (sym e)
-          (update-grown (K .s) c (w .client c) (p .head .server) (p .body) _ (hand K xs c) (fit .busy)
+          (update-grown (K .s) c (cli K xs c) (p .head .server) (p .body) _ (hand K xs c) (fit .busy)
           (sq ∙ ap (λ (y : Client). stage (y .hand)) e) .0 b
           (f (nq ∙ cq) (omega (arith, kq, sq, stage-awaits (cl' .hand) busy, stage-awaits (hand K xs c) (fit .busy))) (fit .busy)))
   arrived (x ∷ xs) fair good b n k nq kq busy room (inl a) = go (moved (K .s) c w (x .step))
@@ -175,8 +175,8 @@ module _ (K : Setup) (c : ℕ) where
       made-by = subst (λ (i : ℕ). Ever (MadeBy K (serves i) p) xs) (sym (a .7)) (sent-made K (serves b) (a .0) p (a .5) xs (a .10))
 
       -- it was let in
-      let-in : (q : Packet) (b' o : List ℕ) → x .step ≡ take-reply c b' o → decode b' ≡ some q → Fits (K .s) c (w .client c) q →
-          cl' ≡ turn (K .s) c (w .client c) q .client → cl' .marks b ≡ true
+      let-in : (q : Packet) (b' o : List ℕ) → x .step ≡ take-reply c b' o → decode b' ≡ some q → Fits (K .s) c (cli K xs c) q →
+          cl' ≡ turn (K .s) c (cli K xs c) q .client → cl' .marks b ≡ true
       let-in q b' o s rd fit e =
           let same-bytes : b' ≡ a .0 = take-inj (sym s ∙ a .3) in
           let pq : q ≡ p = Option·some-injective _ _ (sym rd ∙ ap decode same-bytes ∙ a .5) in
@@ -187,8 +187,8 @@ module _ (K : Setup) (c : ℕ) where
           let sq : stage (hand K xs c) ≡ stage (cl' .hand) =
           omega (arith, kk, kq, stage-awaits (cl' .hand) busy, stage-awaits (hand K xs c) (fit .busy)) in
           subst (λ (y : Client). y .marks b ≡ true) (sym e)
-          (subst (λ (i : ℕ). turn (K .s) c (w .client c) q .client .marks i ≡ true) (ap (λ (z : Packet). z .head .server) pq ∙ a .7)
-          (update-grown (K .s) c (w .client c) (q .head .server) (q .body) _ (hand K xs c) (fit .busy)
+          (subst (λ (i : ℕ). turn (K .s) c (cli K xs c) q .client .marks i ≡ true) (ap (λ (z : Packet). z .head .server) pq ∙ a .7)
+          (update-grown (K .s) c (cli K xs c) (q .head .server) (q .body) _ (hand K xs c) (fit .busy)
           (sq ∙ ap (λ (y : Client). stage (y .hand)) e) .1
           (not-eleven xs (q .head .server) (q .body) (hand K xs c) refl (subst (λ (i : ℕ). Roomy i xs) kk (roomy-down k x xs room)) ev)))
         where
@@ -196,7 +196,7 @@ module _ (K : Setup) (c : ℕ) where
           take-inj e = cc
 
       -- it was turned down: its server had replied
-      turned-down : cl' ≡ w .client c → accepted (result K x xs) ≡ false → cl' .marks b ≡ true
+      turned-down : cl' ≡ cli K xs c → accepted (result K x xs) ≡ false → cl' .marks b ≡ true
       turned-down e down =
           let hq : hand K (x ∷ xs) c ≡ hand K xs c = ap (λ (z : Client). z .hand) e in
           let busy' : isIdle (hand K xs c) ≡ false = subst (λ (z : Hand). isIdle z ≡ false) hq busy in
@@ -205,32 +205,32 @@ module _ (K : Setup) (c : ℕ) where
           let ev = heard K c xs (past K x xs fair) p good (a .6) call busy' kind made-by in
           let room' : Roomy (awaits (hand K xs c)) xs = subst (λ (i : ℕ). Roomy i xs) (kq ∙ ap awaits hq) (roomy-down k x xs room) in
           let same-t : p .head .t ≡ K .s .config .t = told-t in let rg = K .parties .clients c good in
-          let res : result K x xs ≡ onRefusal (code (K .s) c (w .client c) p (length (a .1))) (turn (K .s) c (w .client c) p)
-          (record { client = w .client c; result = refused (code (K .s) c (w .client c) p (length (a .1))) }) .result =
+          let res : result K x xs ≡ onRefusal (code (K .s) c (cli K xs c) p (length (a .1))) (turn (K .s) c (cli K xs c) p)
+          (record { client = cli K xs c; result = refused (code (K .s) c (cli K xs c) p (length (a .1))) }) .result =
           ap (λ (y : Step). perform (K .s) w y .result) (a .3) ∙ result-is (K .s) c w (a .0) (a .1) p (a .5) in
-          code-cases (code (K .s) c (w .client c) p (length (a .1))) (w .client c .marks (p .head .server))
-          (highAt (K .s .P) (K .s .config) c (K .s .writers) (K .s .keys) (w .client c) (p .head .server) (p .body))
+          code-cases (code (K .s) c (cli K xs c) p (length (a .1))) (replied K xs c (p .head .server))
+          (highAt (K .s .P) (K .s .config) c (K .s .writers) (K .s .keys) (cli K xs c) (p .head .server) (p .body))
           (ltb (length (a .1)) contentRoom)
-          (code-is (K .s) c (w .client c) p (length (a .1)) good-faults (within-in 1 topClient c (rg .0) (rg .1)) same-t (a .6) busy' call kind)
-          (λ u. subst (λ (z : Client). z .marks b ≡ true) (sym e) (subst (λ (i : ℕ). w .client c .marks i ≡ true) (a .7) u))
+          (code-is (K .s) c (cli K xs c) p (length (a .1)) good-faults (within-in 1 topClient c (rg .0) (rg .1)) same-t (a .6) busy' call kind)
+          (λ u. subst (λ (z : Client). z .marks b ≡ true) (sym e) (subst (λ (i : ℕ). replied K xs c i ≡ true) (a .7) u))
           (λ u. absurd (not-high xs (past K x xs fair) (p .head .server) (p .body)
-          (isFull (K .s .config) (upd (w .client c .marks) (p .head .server) true)) (hand K xs c) refl room' ev u))
-          (λ u. clash (a .4) (fifteen (turn (K .s) c (w .client c) p) (code (K .s) c (w .client c) p (length (a .1))) res u))
-          (λ u. clash (through (code (K .s) c (w .client c) p (length (a .1))) res u) down)
+          (isFull (K .s .config) (upd (replied K xs c) (p .head .server) true)) (hand K xs c) refl room' ev u))
+          (λ u. clash (a .4) (fifteen (turn (K .s) c (cli K xs c) p) (code (K .s) c (cli K xs c) p (length (a .1))) res u))
+          (λ u. clash (through (code (K .s) c (cli K xs c) p (length (a .1))) res u) down)
         where
           told-t : p .head .t ≡ K .s .config .t
           told-t = ever-out (Told K p) xs (λ y ys t. reply-t p (t .behind .ask) _ (t .behind .reply) ∙ t .behind .asked .same-t)
               (reply-source K xs (past K x xs fair) p (subst (λ (i : ℕ). K .correct .client i ≡ true) (sym (a .6)) good) made-by)
 
-          fifteen : (u : Turn) (v : ℕ) → result K x xs ≡ onRefusal v u (record { client = w .client c; result = refused v }) .result → v ≡ 15 →
+          fifteen : (u : Turn) (v : ℕ) → result K x xs ≡ onRefusal v u (record { client = cli K xs c; result = refused v }) .result → v ≡ 15 →
               cameIn (result K x xs) ≡ false
-          fifteen u v r z = ap cameIn (r ∙ ap (λ (i : ℕ). onRefusal i u (record { client = w .client c; result = refused i }) .result) z)
+          fifteen u v r z = ap cameIn (r ∙ ap (λ (i : ℕ). onRefusal i u (record { client = cli K xs c; result = refused i }) .result) z)
 
-          through : (v : ℕ) → result K x xs ≡ onRefusal v (turn (K .s) c (w .client c) p)
-              (record { client = w .client c; result = refused v }) .result → v ≡ 0 → accepted (result K x xs) ≡ true
+          through : (v : ℕ) → result K x xs ≡ onRefusal v (turn (K .s) c (cli K xs c) p)
+              (record { client = cli K xs c; result = refused v }) .result → v ≡ 0 → accepted (result K x xs) ≡ true
           through v r z = ap accepted (r ∙ ap
-              (λ (i : ℕ). onRefusal i (turn (K .s) c (w .client c) p) (record { client = w .client c; result = refused i }) .result) z)
-              ∙ turn-turned (K .s) c (w .client c) p .fine
+              (λ (i : ℕ). onRefusal i (turn (K .s) c (cli K xs c) p) (record { client = cli K xs c; result = refused i }) .result) z)
+              ∙ turn-turned (K .s) c (cli K xs c) p .fine
 
       go : Moved (K .s) c w (x .step) cl' (result K x xs) → cl' .marks b ≡ true
       go (kept e f) = turned-down e (f (ap (acting c) (a .3) ∙ eq-eqb c c refl))

@@ -21,7 +21,7 @@ use Rattle.atomicity.specs.Steps.{Stamped, stampedAt}
 use Rattle.atomicity.specs.Claim.{Call}
 use Rattle.atomicity.proofs.Util.{left-in, right-in}
 use Rattle.atomicity.proofs.Model.{perform, now, account, marks}
-use Rattle.atomicity.proofs.Setup.{Setup, Steps, StepOf, hand, calls}
+use Rattle.atomicity.proofs.Setup.{Setup, Steps, StepOf, hand, calls, cli}
 use Rattle.atomicity.proofs.Moves.{Moved, kept, wbegan, rbegan, quit, took, moved}
 use Rattle.atomicity.proofs.Rounds.{turn-turned}
 use Rattle.atomicity.proofs.Positions.{since, since-same}
@@ -215,7 +215,7 @@ module _ (K : Setup) where
             base = base-up x xs a σ (omega (arith, q)) (h .base);
             current = λ n. subst (λ (z : Client). Cur (x ∷ xs) a σ (z .hand)) (sym e) tt;
           }
-      go (took p b o s rd fit e v) = let t = turn-turned (K .s) (a .client) (now (K .s) xs .client (a .client)) p in
+      go (took p b o s rd fit e v) = let t = turn-turned (K .s) (a .client) (cli K xs (a .client)) p in
           let q : cl' .calls ≡ calls K xs (a .client) = ap (λ (z : Client). z .calls) e ∙ t .calls in
           record {
             base = base-up x xs a σ (omega (arith, q)) (h .base);

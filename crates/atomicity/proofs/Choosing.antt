@@ -14,8 +14,7 @@ use borrow.Author.Tests.{ltb-false, leb-true, eqb-false, not-true}
 use Rattle.cluster.specs.Config.{upTo}
 use Rattle.erasure.specs.Fragments.{Part}
 use Rattle.protocol.specs.declared.Stamp.{Stamp}
-use Rattle.protocol.specs.Values.{Candidate, Share, Held, below, blankStamp, blankCandidate, isSome, nth, digestSize, runOf}
-use Rattle.protocol.specs.Memory.{held}
+use Rattle.protocol.specs.Values.{Candidate, Share, Held, below, blankStamp, blankCandidate, nth, digestSize, runOf}
 use Rattle.protocol.specs.Rules.{ByServer, any, first, countTo, lower, live, fits, agrees, leads, leader, proven, highest, choice, restoredBy, tagsIn}
 use Rattle.atomicity.specs.Lists.{In}
 use Rattle.atomicity.specs.Steps.{digestsWith}
@@ -23,11 +22,12 @@ use Rattle.atomicity.proofs.Util.{bool-case, clash, and-left, and-right
 use Rattle.atomicity.proofs.Stamps.{le-trans, le-blank}
 use Rattle.atomicity.proofs.Counting.{quorum-sum}
 use Rattle.atomicity.proofs.Model.{fragmentFor, tagsFor}
-use Rattle.atomicity.proofs.Setup.{Setup, Steps, Fair, lat, hist}
+use Rattle.atomicity.proofs.Setup.{Setup, Steps, Fair, right, Same, same-right, lat}
 use Rattle.atomicity.proofs.Begun.{mark-bytes, mark-digested}
 use Rattle.atomicity.proofs.Genuine.{Revealed, Genuine}
+use Rattle.atomicity.proofs.Covers.{Covers}
 use Rattle.atomicity.proofs.States.{Filters}
-use Rattle.atomicity.proofs.Quorums.{S, Q, FullAt, TopAt, Beats, meets-marks, correct-in, right, Many}
+use Rattle.atomicity.proofs.Quorums.{S, Q, FullAt, TopAt, Beats, meets-marks, correct-in, Many}
 use Rattle.atomicity.proofs.Gathered.{members, members-length, members-range, members-apart, upTo-in}
 use Rattle.atomicity.proofs.Groups.{fit-view, member, leader-view, parts-are, no-two}
 
@@ -48,39 +48,39 @@ module _ (K : Setup) where
   Live m g cs = live (K .s .P) (K .s .config) m g cs
 
   -- what no correct reply of many servers is below is never excluded
-  pub live-by : (g : ByServer Held) (m : ByServer Bool) (cs : List Candidate) (d : Candidate) (P : ℕ → Bool) → In d cs → Many K P →
-      ((j : ℕ) → right K j ≡ true → P j ≡ true → m j ≡ true → below (g j .stamp) (d .stamp) ≡ false) → In d (Live m g cs)
+  pub live-by : (xs : Steps K) (g : ByServer Held) (m : ByServer Bool) (cs : List Candidate) (d : Candidate) (P : ℕ → Bool) → In d cs → Many K xs P →
+      ((j : ℕ) → right K xs j ≡ true → P j ≡ true → m j ≡ true → below (g j .stamp) (d .stamp) ≡ false) → In d (Live m g cs)
   unfolding live lower
-  live-by g m cs d P i many f = in-keep (λ c. ltb (countTo (S K) (lower (K .s .P) (K .s .config) m g c)) (Q K)) cs d i
+  live-by xs g m cs d P i many f = in-keep (λ c. ltb (countTo (S K) (lower (K .s .P) (K .s .config) m g c)) (Q K)) cs d i
       (bool-case (ltb (countTo (S K) (lower (K .s .P) (K .s .config) m g d)) (Q K)) (λ e. e) (λ e. absurd (bad (ltb-false _ _ e))))
     where
       bad : Q K ≤ countTo (S K) (lower (K .s .P) (K .s .config) m g d) → ⊥
       bad h =
-          let r = meets-marks K P (lower (K .s .P) (K .s .config) m g d) many h in
+          let r = meets-marks K xs P (lower (K .s .P) (K .s .config) m g d) many h in
           let j = r .0 in
           clash (and-right (m j) _ (r .3)) (f j (r .1) (r .2) (and-left (m j) _ (r .3)))
 
-  -- so is what is held by a quorum since the round began
-  pub live-in : (ys z0 z1 : Steps K) (cs : List Candidate) (g : ByServer Held) (m : ByServer Bool) → Filters K ys z0 z1 cs g m → (d : Candidate) →
-      In d cs → Genuine K z1 d → FullAt K z1 (d .stamp) → In d (Live m g cs)
-  live-in ys z0 z1 cs g m F d i gen full = let o = gen .origin in
-      live-by g m cs d (λ j. isSome (held (d .stamp) (hist K z1 j))) i full
-      (λ j h p k. F .sift j h k .stands d i p (o .write) (o .made) (o .stamp-is) (gen .nonce-is))
+  -- so is what is covered by a quorum since the round began
+  pub live-in : (ys z0 z1 : Steps K) (cs : List Candidate) (g : ByServer Held) (m : ByServer Bool) → Same K z1 ys → Filters K ys z0 z1 cs g m →
+      (d : Candidate) → In d cs → Genuine K z1 d → FullAt K z1 (d .stamp) → In d (Live m g cs)
+  live-in ys z0 z1 cs g m p1 F d i gen full = let o = gen .origin in
+      live-by z1 g m cs d (λ j. Covers K z1 j (d .stamp)) i full
+      (λ j h p k. F .sift j (sym (same-right K z1 ys p1 j) ∙ h) k .stands d i p (o .write) (o .made) (o .stamp-is) (gen .nonce-is))
 
   -- what had ended when the call began is no higher than a candidate that is live
-  pub floor : (ys z0 z1 : Steps K) (cs : List Candidate) (g : ByServer Held) (m : ByServer Bool) → Filters K ys z0 z1 cs g m → (b : Stamp) →
-      TopAt K z0 b →
+  pub reached : (ys z0 z1 : Steps K) (cs : List Candidate) (g : ByServer Held) (m : ByServer Bool) → Same K z0 ys → Same K z1 ys →
+      Filters K ys z0 z1 cs g m → (b : Stamp) → TopAt K z0 b →
       (below blankStamp b ≡ false) ⊎ ((d : Candidate) × In d (Live m g cs) × (below (d .stamp) b ≡ false))
-  floor ys z0 z1 cs g m F b top =
+  reached ys z0 z1 cs g m p0 p1 F b top =
       let C = F .first in
-      let r = meets-marks K (λ j. not (below (lat K z0 j) b)) (C .whom) top (C .enough) in
-      let e = C .each (r .0) (r .1) (r .3) in
+      let r = meets-marks K z0 (λ j. not (below (lat K z0 j) b)) (C .whom) top (C .enough) in
+      let e = C .each (r .0) (same-right K z1 z0 (p1 ∙ sym p0) (r .0) ∙ r .1) (r .3) in
       go (C .what (r .0)) (le-trans b (lat K z0 (r .0)) (C .what (r .0) .stamp) (not-true _ (r .2)) (e .0)) (e .1)
     where
       go : (d : Candidate) → below (d .stamp) b ≡ false → (d ≡ blankCandidate (K .s .config)) ⊎ (In d cs × Genuine K z1 d × FullAt K z1 (d .stamp)) →
           (below blankStamp b ≡ false) ⊎ ((d : Candidate) × In d (Live m g cs) × (below (d .stamp) b ≡ false))
       go d h (inl e) = inl (subst (λ (z : Candidate). below (z .stamp) b ≡ false) e h)
-      go d h (inr k) = inr (d, live-in ys z0 z1 cs g m F d (k .0) (k .1) (k .2), h)
+      go d h (inr k) = inr (d, live-in ys z0 z1 cs g m p1 F d (k .0) (k .1) (k .2), h)
 
   -- ---- a proven candidate is a write's, and its group gives the content back
 
@@ -98,7 +98,7 @@ module _ (K : Setup) where
       let A = agrees (K .s .P) (K .s .config) m g c b in
       let own = fit-view (K .s) m g c b (and-left (fits (K .s .P) (K .s .config) m g c b) _ L) in
       let many : K .s .config .shares ≤ countTo (S K) A = leb-true _ _ (and-right (fits (K .s .P) (K .s .config) m g c b) _ L) in
-      let h = correct-in K A many in
+      let h = correct-in K ys A many in
       let j = h .0 in
       let f = member (K .s) m g c b j (own .share) (own .share-is) (h .4) in
       let P = F .sift j (h .3) (f .0 .marked) .piece (f .0 .share) (f .0 .share-is) in
@@ -136,11 +136,12 @@ module _ (K : Setup) where
     pub beats : Beats K z0 (c .stamp)
     pub real : Real ys c g m (leader (K .s .P) (K .s .config) m g c (S K))
 
-  pub chosen : (ys z0 z1 : Steps K) (cs : List Candidate) (g : ByServer Held) (m : ByServer Bool) → Fair K ys → Filters K ys z0 z1 cs g m →
+  pub chosen : (ys z0 z1 : Steps K) (cs : List Candidate) (g : ByServer Held) (m : ByServer Bool) → Same K z0 ys → Same K z1 ys → Fair K ys →
+      Filters K ys z0 z1 cs g m →
       (c : Candidate) →
       choice (K .s .P) (K .s .config) m g cs ≡ some c → Chosen ys z0 cs g m c
   unfolding choice highest live Beats
-  chosen ys z0 z1 cs g m fair F c ch =
+  chosen ys z0 z1 cs g m p0 p1 fair F c ch =
       let v = first-view (proven (K .s .P) (K .s .config) m g) (highest (K .s .P) (K .s .config) (Live m g cs)) c ch in
       let hi = keep-in (λ c. not (any (λ d. below (c .stamp) (d .stamp)) (Live m g cs))) (Live m g cs) c (v .0) in
       record {
@@ -157,7 +158,7 @@ module _ (K : Setup) where
       led (inr z) e = real ys z0 z1 cs g m fair F c (leader (K .s .P) (K .s .config) m g c (S K)) (z .2)
 
       over : any (λ d. below (c .stamp) (d .stamp)) (Live m g cs) ≡ false → (b : Stamp) → TopAt K z0 b → below (c .stamp) b ≡ false
-      over nope b top = go (floor ys z0 z1 cs g m F b top)
+      over nope b top = go (reached ys z0 z1 cs g m p0 p1 F b top)
         where
           go : (below blankStamp b ≡ false) ⊎ ((d : Candidate) × In d (Live m g cs) × (below (d .stamp) b ≡ false)) → below (c .stamp) b ≡ false
           go (inl z) = le-blank b (c .stamp) z

@@ -1,7 +1,7 @@
 -- Counting servers: how quorums meet. A count is of a test over servers 1 to n, and only the laws of Legal are used of the numbers.
 -- Assumes nothing.
 use mathlib.Core.Path.{_≡_, refl, ap}
-use mathlib.Core.Bool.{Bool, true, false, cond, not, _&&_}
+use mathlib.Core.Bool.{Bool, true, false, cond, not, _&&_, _||_}
 use Prim.Native.Nat.{ℕ, zero, suc, _+_, _≤_}
 use native.Mathlib.Omega.{arith}
 use Rattle.cluster.specs.Config.{Config, Legal, quorum}
@@ -42,6 +42,17 @@ unfolding countTo
 part-count h a zero = omega arith
 part-count h a (suc n) = omega (arith, part-count h a n, part-one (h (suc n)) (a (suc n)))
 
+lies-one : (h a : Bool) → cond (not h || a) 1 0 ≡ cond (h && a) 1 0 + cond (not h) 1 0
+lies-one false a = refl
+lies-one true false = refl
+lies-one true true = refl
+
+-- those that lie or pass a test
+pub lies-count : (h a : ℕ → Bool) (n : ℕ) → countTo n (λ x. not (h x) || a x) ≡ countTo n (λ x. h x && a x) + countTo n (λ x. not (h x))
+unfolding countTo
+lies-count h a zero = refl
+lies-count h a (suc n) = omega (arith, lies-count h a n, lies-one (h (suc n)) (a (suc n)))
+
 -- a positive count has a witness
 pub found : (p : ℕ → Bool) (n : ℕ) → 1 ≤ countTo n p → (x : ℕ) × (1 ≤ x) × (x ≤ n) × (p x ≡ true)
 unfolding countTo
@@ -71,24 +82,31 @@ quorum-sum s l = omega (arith, l .most)
 
 module _ (s : Config) (legal : Legal s) (correct : ℕ → Bool) (few : countTo (s .servers) (λ b. not (correct b)) ≤ s .t) where
   -- two quorums, less the liars, share a correct server
-  pub share : (a b : ℕ → Bool) →
-      quorum s ≤ countTo (s .servers) (λ x. correct x && a x) + countTo (s .servers) (λ x. not (correct x)) →
-      quorum s ≤ countTo (s .servers) (λ x. correct x && b x) + countTo (s .servers) (λ x. not (correct x)) →
-      (x : ℕ) × (1 ≤ x) × (x ≤ s .servers) × ((correct x && (a x && b x)) ≡ true)
+  pub share : (a b : ℕ → Bool) → quorum s ≤ countTo (s .servers) (λ x. not (correct x) || a x) →
+      quorum s ≤ countTo (s .servers) (λ x. not (correct x) || b x) → (x : ℕ) × (1 ≤ x) × (x ≤ s .servers) × ((correct x && (a x && b x)) ≡ true)
   share a b ha hb = found (λ x. correct x && (a x && b x)) (s .servers)
-      (omega (arith, meet-count correct a b (s .servers), split-count correct (s .servers), quorum-sum s legal, legal .most))
+      (omega (
+        arith,
+        lies-count correct a (s .servers),
+        lies-count correct b (s .servers),
+        meet-count correct a b (s .servers),
+        split-count correct (s .servers),
+        quorum-sum s legal,
+        legal .most,
+      ))
 
   -- a quorum of correct replies and a store quorum share k correct servers, however many lie
-  pub share-k : (a b : ℕ → Bool) →
-      quorum s ≤ countTo (s .servers) (λ x. correct x && a x) + countTo (s .servers) (λ x. not (correct x)) →
+  pub share-k : (a b : ℕ → Bool) → quorum s ≤ countTo (s .servers) (λ x. not (correct x) || a x) →
       quorum s ≤ countTo (s .servers) (λ x. correct x && b x) →
       s .shares ≤ countTo (s .servers) (λ x. correct x && (a x && b x))
-  share-k a b ha hb = omega (arith, meet-count correct a b (s .servers), split-count correct (s .servers), quorum-sum s legal, legal .covered)
-
-  -- a quorum, less the liars
-  pub correct-part : (a : ℕ → Bool) → quorum s ≤ countTo (s .servers) a →
-      quorum s ≤ countTo (s .servers) (λ x. correct x && a x) + countTo (s .servers) (λ x. not (correct x))
-  correct-part a h = omega (arith, part-count correct a (s .servers))
+  share-k a b ha hb = omega (
+    arith,
+    lies-count correct a (s .servers),
+    meet-count correct a b (s .servers),
+    split-count correct (s .servers),
+    quorum-sum s legal,
+    legal .covered,
+  )
 
   -- k matching replies have a correct one
   pub correct-one : (a : ℕ → Bool) → s .shares ≤ countTo (s .servers) a → (x : ℕ) × (1 ≤ x) × (x ≤ s .servers) × ((correct x && a x) ≡ true)

@@ -13,25 +13,25 @@ use lib.Dec.{leb, ltb, eqb}
 use lib.ListN.{length}
 use borrow.Author.Tests.{le-ltb, leb-true, leb-false, le-leb, eqb-false, eq-eqb, ne-eqb}
 use Rattle.protocol.specs.declared.Stamp.{Stamp}
-use Rattle.protocol.specs.Values.{Candidate, Share, Held, below, blankStamp, blankCandidate, isBlank, isSome, sameStamp}
+use Rattle.protocol.specs.Values.{Candidate, Share, Held, below, blankStamp, blankCandidate, isBlank, sameStamp}
 use Rattle.protocol.specs.Memory.{held}
 use Rattle.protocol.specs.Rules.{ByServer, any, countTo, lower, live, shareFits, fits, sameShare, agrees, leads, leader, proven, highest, choice}
+use Rattle.protocol.specs.Server.{act}
 use Rattle.protocol.proofs.Equal.{same-refl, stamp-refl}
 use Rattle.atomicity.specs.Lists.{In}
 use Rattle.atomicity.specs.Steps.{Stamped}
 use Rattle.atomicity.proofs.Util.{bool-case, clash, not-f, and-left, and-right, and-intro, in-keep, keep-in, any-in}
 use Rattle.atomicity.proofs.Stamps.{below-num, num-le, le-view, same-is}
-use Rattle.atomicity.proofs.Counting.{count-mono, found, share-k}
-use Rattle.atomicity.proofs.Model.{now, marks, shareFor, fragmentFor}
-use Rattle.atomicity.proofs.Setup.{Setup, Steps, Fair, hist}
+use Rattle.atomicity.proofs.Counting.{count-mono, found}
+use Rattle.atomicity.proofs.Model.{marks, shareFor, fragmentFor}
+use Rattle.atomicity.proofs.Setup.{Setup, Steps, Fair, hist, right, right-range}
 use Rattle.atomicity.proofs.Marks.{mark-num, marks-up}
 use Rattle.atomicity.proofs.Rising.{by-parts, by-stamp}
 use Rattle.atomicity.proofs.Begun.{mark-length}
-use Rattle.atomicity.proofs.Servers.{is-some, best-max}
+use Rattle.atomicity.proofs.Covers.{Covers, covers-held, covers-up, not-lower}
 use Rattle.atomicity.proofs.Genuine.{Genuine, genuine-up}
-use Rattle.atomicity.proofs.Heard.{held-up}
-use Rattle.atomicity.proofs.Quorums.{S, Q, right, Many, FullAt}
-use Rattle.atomicity.proofs.Telling.{vouches, piece-of}
+use Rattle.atomicity.proofs.Quorums.{S, Q, Many, many-at, meets-k}
+use Rattle.atomicity.proofs.Telling.{piece-of}
 use Rattle.atomicity.proofs.Groups.{leader-some}
 use Rattle.atomicity.proofs.Choosing.{q-pos, Live, live-by}
 use Rattle.atomicity.proofs.Suffixes.{Suf, suf-up}
@@ -41,7 +41,7 @@ use Rattle.atomicity.proofs.Highest.{Most, both-le, first-some, keep-no
 use Rattle.cluster.proofs.Tests.{untrue}
 
 module _ (K : Setup) (xs : Steps K) (fair : Fair K xs) (cs : List Candidate) (g : ByServer Held) (m : ByServer Bool) (W : Waits K xs cs g m)
-    (enough : Q K ≤ countTo (S K) (λ j. right K j && m j)) where
+    (enough : Q K ≤ countTo (S K) (λ j. right K xs j && m j)) where
   abbrev tells : ℕ → Bool
   tells = told K xs fair cs g m W
 
@@ -49,7 +49,7 @@ module _ (K : Setup) (xs : Steps K) (fair : Fair K xs) (cs : List Candidate) (g 
   some-told = omega (arith, enough, q-pos K)
 
   all-marked : Q K ≤ countTo (S K) m
-  all-marked = omega (arith, enough, count-mono tells m (S K) (λ j lo hi e. and-right (right K j) (m j) e))
+  all-marked = omega (arith, enough, count-mono tells m (S K) (λ j lo hi e. and-right (right K xs j) (m j) e))
 
   -- all correct replies are below d: it leaves the list
   excluded : (d : Candidate) → ((j : ℕ) → 1 ≤ j → j ≤ S K → tells j ≡ true → below (g j .stamp) (d .stamp) ≡ true) →
@@ -60,7 +60,7 @@ module _ (K : Setup) (xs : Steps K) (fair : Fair K xs) (cs : List Candidate) (g 
         arith,
         enough,
         count-mono tells (lower (K .s .P) (K .s .config) m g d) (S K)
-            (λ j lo hi e. and-intro _ _ (and-right (right K j) (m j) e) (f j lo hi e)),
+            (λ j lo hi e. and-intro _ _ (and-right (right K xs j) (m j) e) (f j lo hi e)),
       ))
 
   top : Most tells (λ j. g j .stamp) (S K)
@@ -85,10 +85,12 @@ module _ (K : Setup) (xs : Steps K) (fair : Fair K xs) (cs : List Candidate) (g 
   -- the highest correct reply is a genuine candidate's
   module _ (d : Candidate) (ind : In d cs) (gen : Genuine K xs d) (is-top : g (top .0) .stamp ≡ d .stamp) where
     abbrev holds : ℕ → Bool
-    holds j = isSome (held (d .stamp) (hist K (first-moment .1 .ys) j))
+    holds j = Covers K (first-moment .1 .ys) j (d .stamp)
 
-    full0 : FullAt K (first-moment .1 .ys) (d .stamp)
-    full0 = then-genuine K xs fair cs g m W (first-moment .0) (first-moment .1) d ind gen .1
+    -- who was correct then is correct now
+    full0 : Many K xs holds
+    full0 = many-at K (first-moment .1 .ys) xs holds (first-moment .1 .sat .phase)
+        (then-genuine K xs fair cs g m W (first-moment .0) (first-moment .1) d ind gen .1)
 
     record Reply (j : ℕ) : Type 0 where
       low : 1 ≤ j
@@ -99,20 +101,20 @@ module _ (K : Setup) (xs : Steps K) (fair : Fair K xs) (cs : List Candidate) (g 
     at-of : (j : ℕ) → Reply j → Moment K xs fair cs g m W j
     at-of j r = first-moment .2 j (r .low) (r .high) (r .tell) .0
 
-    held-then : (j : ℕ) (r : Reply j) → isSome (held (d .stamp) (hist K (at-of j r .ys) j)) ≡ true
+    covered-then : (j : ℕ) (r : Reply j) → Covers K (at-of j r .ys) j (d .stamp) ≡ true
     unfolding at-of
-    held-then j r = suf-up (λ (zs : Steps K). isSome (held (d .stamp) (hist K zs j)) ≡ true) (λ x zs k. held-up K x zs j (d .stamp) k)
+    covered-then j r = suf-up (λ (zs : Steps K). Covers K zs j (d .stamp) ≡ true) (λ x zs k. covers-up K x zs j (d .stamp) k)
         (first-moment .1 .ys) (at-of j r .ys) (first-moment .2 j (r .low) (r .high) (r .tell) .1) (r .hold)
 
     -- a holder's reply is not below d
     high-then : (j : ℕ) → Reply j → below (g j .stamp) (d .stamp) ≡ false
+    unfolding act
     high-then j r = let N = at-of j r in let T = N .sat in let G = then-genuine K xs fair cs g m W j N d ind gen .0 in
         subst (λ (a : Stamp). below a (d .stamp) ≡ false) (sym (T .stamp-is))
-        (best-max (K .s) j (now (K .s) (N .ys) .server j) (blankCandidate (K .s .config)) cs d ind
-        (vouches K (N .ys) (T .old) j d (G .origin .write) (G .origin .made) (G .origin .stamp-is) (G .nonce-is) (held-then j r)))
+        (not-lower K (N .ys) (T .old) j d (G .origin .write) (G .origin .made) (G .origin .stamp-is) (G .nonce-is) (covered-then j r) cs ind)
 
     is-live : In d (Live K m g cs)
-    is-live = live-by K g m cs d holds ind full0 (λ j h p k. let rg = K .parties .servers j h in
+    is-live = live-by K xs g m cs d holds ind full0 (λ j h p k. let rg = right-range K xs j h in
         high-then j (record { low = rg .0; high = rg .1; tell = and-intro _ _ h k; hold = p }))
 
     is-highest : In d (highest (K .s .P) (K .s .config) (Live K m g cs))
@@ -160,7 +162,7 @@ module _ (K : Setup) (xs : Steps K) (fair : Fair K xs) (cs : List Candidate) (g 
         let low : below (d .stamp) (g j .stamp) ≡ false =
         subst (λ (a : Stamp). below a (g j .stamp) ≡ false) is-top (top .4 j (r .low) (r .high) (r .tell)) in
         let sq : g j .stamp ≡ d .stamp = same-stamp j N (T .stamp-is) (high-then j r) low G (best-real K xs fair cs g m W j N) in
-        let hs = is-some (held (d .stamp) (hist K (N .ys) j)) (held-then j r) in
+        let hs = covers-held K (N .ys) j (d .stamp) (covered-then j r) in
         let fq : g j .share ≡ some (hs .0) = T .share-is ∙ ap (λ (a : Stamp). held a (hist K (N .ys) j)) (sym (T .stamp-is) ∙ sq) ∙ hs .1 in
         let P = piece-of K (N .ys) (T .old) j d G (hs .0) (hs .1) in let O = P .origin in
         let pw : O .write ≡ gen .origin .write = by-stamp (K .s) xs (O .write) (gen .origin .write)
@@ -172,7 +174,7 @@ module _ (K : Setup) (xs : Steps K) (fair : Fair K xs) (cs : List Candidate) (g 
     fits-one : (j : ℕ) → Reply j → fits (K .s .P) (K .s .config) m g d j ≡ true
     unfolding fits
     fits-one j r = let v = votes j r in
-        and-intro _ _ (and-right (right K j) (m j) (r .tell))
+        and-intro _ _ (and-right (right K xs j) (m j) (r .tell))
         (and-intro _ _ (subst (λ (a : Stamp). sameStamp a (d .stamp) ≡ true) (sym (v .0)) (stamp-refl (d .stamp)))
         (subst (λ (o : Option Share). shareFits (K .s .P) (K .s .config) d j o ≡ true) (sym (v .1))
         (and-intro _ _ (mark-length (K .s) xs (gen .origin .write) (gen .origin .made))
@@ -189,14 +191,13 @@ module _ (K : Setup) (xs : Steps K) (fair : Fair K xs) (cs : List Candidate) (g 
 
     -- the correct servers that held it and replied
     abbrev voter : ℕ → Bool
-    voter j = right K j && (holds j && m j)
+    voter j = right K xs j && (holds j && m j)
 
     many-voters : K .s .config .shares ≤ countTo (S K) voter
-    unfolding Many
-    many-voters = share-k (K .s .config) (K .legal) (right K) (K .parties .liars) holds m full0 enough
+    many-voters = meets-k K xs holds m full0 enough
 
     reply-of : (j : ℕ) → 1 ≤ j → j ≤ S K → voter j ≡ true → Reply j
-    reply-of j lo hi e = let a = and-left (right K j) _ e in let b = and-right (right K j) _ e in
+    reply-of j lo hi e = let a = and-left (right K xs j) _ e in let b = and-right (right K xs j) _ e in
         record { low = lo; high = hi; tell = and-intro _ _ a (and-right (holds j) (m j) b); hold = and-left (holds j) (m j) b }
 
     is-proven : proven (K .s .P) (K .s .config) m g d ≡ true

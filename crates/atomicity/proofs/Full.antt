@@ -25,7 +25,7 @@ use Rattle.atomicity.specs.Lists.{Ever, In, AllPairs}
 use Rattle.atomicity.specs.Steps.{System, Stamped}
 use Rattle.atomicity.proofs.Util.{cond-both, clash, rise, ever-map, all-of, in-map, map-in}
 use Rattle.atomicity.proofs.Model.{perform, now, acts, marks, isValid, bestOf}
-use Rattle.atomicity.proofs.Setup.{Setup, Steps, Fair, hand, hist}
+use Rattle.atomicity.proofs.Setup.{Setup, Steps, Fair, hand, hist, srv}
 use Rattle.atomicity.proofs.Serving.{Served, same, acted, served}
 use Rattle.atomicity.proofs.Marks.{marks-up}
 use Rattle.atomicity.proofs.Begun.{Known, known}
@@ -83,10 +83,10 @@ module _ (K : Setup) where
   history-apart [] j = tt
   history-apart (x ∷ xs) j = go (served (K .s) (now (K .s) xs) j (x .step)) (history-apart xs j)
     where
-      go : Served (K .s) j (now (K .s) xs) (x .step) (perform (K .s) (now (K .s) xs) (x .step) .world .server j) → Apart (now (K .s) xs .server j) →
+      go : Served (K .s) j (now (K .s) xs) (x .step) (perform (K .s) (now (K .s) xs) (x .step) .world .server j) → Apart (srv K xs j) →
           Apart (perform (K .s) (now (K .s) xs) (x .step) .world .server j)
       go (same e) h = subst Apart (sym e) h
-      go (acted p a b c d e) h = subst Apart (sym e) (act-apart (K .s) j (now (K .s) xs .server j) (p .body) h)
+      go (acted p a b c d e) h = subst Apart (sym e) (act-apart (K .s) j (srv K xs j) (p .body) h)
 
   -- the moment of an answer 11, seen from zs
   record Moment (j : ℕ) (a : Stamp) (zs : Steps K) : Type 0 where
@@ -109,7 +109,7 @@ module _ (K : Setup) where
         is-full = f .is-full;
       }) xs
       (ever-map (Heard K c j xs x) (λ y ys. Moment j (d .stamp) (y ∷ ys)) (λ y ys t. let a = at-step K c j xs x (storing d g) hq y ys t in
-      let w = store-full (K .s) j (now (K .s) ys .server j) (record { stamp = d .stamp; share = g j }) (sym (ap codeIn (a .says)) ∙ k) in
+      let w = store-full (K .s) j (srv K ys j) (record { stamp = d .stamp; share = g j }) (sym (ap codeIn (a .says)) ∙ k) in
       record { ys = ys; kept-marks = λ m i. marks-up (K .s) m y ys i; fair-then = a .old; not-held = w .0; is-full = w .1 }) xs ev) in
       let es = map (λ (e : Write). e .stamp) (hist K (v .ys) j) in
       let f = subst (Known (K .s) xs c) hq (known (K .s) xs c) in

@@ -20,7 +20,7 @@ use Rattle.atomicity.specs.Steps.{Stamped, packetIn, makes, serves, show
 use Rattle.atomicity.specs.Premises.{NoForgery, NoCollision, NoEarlyNonce, Shows}
 use Rattle.atomicity.proofs.Util.{right-in, flat-in, in-map, all-in, ever-map, within-in}
 use Rattle.atomicity.proofs.Model.{perform, now, account, marks, vouched, tagged, isValid}
-use Rattle.atomicity.proofs.Setup.{Setup, Steps, StepOf, Meets, Fair, Begin, Show}
+use Rattle.atomicity.proofs.Setup.{Setup, Steps, StepOf, Meets, Fair, Begin, Show, right-range, hand, srv}
 use Rattle.atomicity.proofs.Serving.{Served, same, acted, served, making}
 use Rattle.atomicity.proofs.Marks.{marks-up}
 use Rattle.atomicity.proofs.Begun.{Known, known, mark-digested}
@@ -46,7 +46,7 @@ module _ (K : Setup) where
       (subst (λ (y : Step). In u (f y)) (sym (v .2)) (h (v .0) (v .1) (ap packetIn (sym (v .2)) ∙ t .got)))
 
   forged : (x : StepOf K) (xs : Steps K) (j : ℕ) (p : Packet) → Judging x xs j p → (c : Candidate) → In c (judged (p .body)) →
-      vouched (K .s) j (now (K .s) xs .server j) c ≡ false → tagged (K .s) j c ≡ true →
+      vouched (K .s) j (srv K xs j) c ≡ false → tagged (K .s) j c ≡ true →
       Ever (λ y ys. In {A = List ℕ × List ℕ} (K .s .keys j, candidateMessage (c .stamp) (K .s .P .digest (c .nonce)))
       (tagsMade (K .s) (account (K .s)) y ys)) xs
   unfolding NoForgery checkedBy serverChecks In
@@ -58,10 +58,10 @@ module _ (K : Setup) where
       kb = (K .s .keys j, candidateMessage (c .stamp) (K .s .P .digest (c .nonce)))
 
       r : (1 ≤ j) × (j ≤ K .s .config .servers)
-      r = K .parties .servers j (server-correct K x xs (t .prem) j (t .by))
+      r = right-range K xs j (server-correct K x xs (t .prem) j (t .by))
 
-      mine : account (K .s) .server xs j ≡ now (K .s) xs .server j
-      mine = ap (λ (b : Bool). cond b (now (K .s) xs .server j) (blankServer (K .s .config))) (within-in 1 (K .s .config .servers) j (r .0) (r .1))
+      mine : account (K .s) .server xs j ≡ srv K xs j
+      mine = ap (λ (b : Bool). cond b (srv K xs j) (blankServer (K .s .config))) (within-in 1 (K .s .config .servers) j (r .0) (r .1))
 
       one : In kb (serverChecks (K .s) j (account (K .s) .server xs j) c)
       one = subst (λ (v : Server). In kb (serverChecks (K .s) j v c)) (sym mine)
@@ -73,11 +73,11 @@ module _ (K : Setup) where
           (subst (λ (q : Option Packet). In c (inPacket judged q)) (sym d) i) one
 
   vouched-for : (x : StepOf K) (xs : Steps K) → Fair K xs → (j : ℕ) (p : Packet) → Judging x xs j p → (c : Candidate) → In c (judged (p .body)) →
-      isValid (K .s) j (now (K .s) xs .server j) c ≡ true → Vouched K xs c
+      isValid (K .s) j (srv K xs j) c ≡ true → Vouched K xs c
   unfolding valid
-  vouched-for x xs h j p t c i v = go (vouched (K .s) j (now (K .s) xs .server j) c) refl v
+  vouched-for x xs h j p t c i v = go (vouched (K .s) j (srv K xs j) c) refl v
     where
-      go : (b : Bool) → vouched (K .s) j (now (K .s) xs .server j) c ≡ b → (b || tagged (K .s) j c) ≡ true → Vouched K xs c
+      go : (b : Bool) → vouched (K .s) j (srv K xs j) c ≡ b → (b || tagged (K .s) j c) ≡ true → Vouched K xs c
       go true e k = by-history K xs h j c e
       go false e k = made-mark K (K .s .keys j) (c .stamp) (c .nonce) xs (forged x xs j p t c i e k)
 
@@ -114,7 +114,7 @@ module _ (K : Setup) where
   judged-shown repairReply c i = absurd i
 
   pub genuine : (x : StepOf K) (xs : Steps K) → Fair K xs → (j : ℕ) (p : Packet) → Judging x xs j p → (c : Candidate) → In c (judged (p .body)) →
-      isValid (K .s) j (now (K .s) xs .server j) c ≡ true → Genuine xs c
+      isValid (K .s) j (srv K xs j) c ≡ true → Genuine xs c
   unfolding NoCollision NoEarlyNonce digestedBy noncesBy digestsWith In
   genuine x xs h j p t c i v =
       let r = vouched-for x xs h j p t c i v in
@@ -162,7 +162,7 @@ module _ (K : Setup) where
   completed c p is y ys h =
       let d = p .head .client in
       let t = making (K .s) (now (K .s) ys) d (y .step) p (h .0) (h .2) in
-      let w = complete-made (now (K .s) ys .client d .hand) (t .to) c (sym (ap (λ (q : Packet). q .body) (t .is)) ∙ is) in
+      let w = complete-made (hand K ys d) (t .to) c (sym (ap (λ (q : Packet). q .body) (t .is)) ∙ is) in
       let k = subst (Known (K .s) ys d) w (known (K .s) ys d) in
       record {
         origin = record {
@@ -174,8 +174,8 @@ module _ (K : Setup) where
         nonce-is = sym (ap (λ (z : Candidate). z .nonce) (k .3));
       }
 
-  pub latest-known : (xs : Steps K) → Fair K xs → (j : ℕ) → (now (K .s) xs .server j .latest ≡ blankCandidate (K .s .config))
-      ⊎ Genuine xs (now (K .s) xs .server j .latest)
+  pub latest-known : (xs : Steps K) → Fair K xs → (j : ℕ) → (srv K xs j .latest ≡ blankCandidate (K .s .config))
+      ⊎ Genuine xs (srv K xs j .latest)
   unfolding nowValues Always
   latest-known [] h j = inl refl
   latest-known (x ∷ xs) h j = go (served (K .s) (now (K .s) xs) j (x .step)) (latest-known xs (h .1) j)
@@ -190,14 +190,14 @@ module _ (K : Setup) where
       later c (inl e) = inl e
       later c (inr g) = inr (genuine-up c x xs g)
 
-      go : Served (K .s) j w (x .step) (perform (K .s) w (x .step) .world .server j) → Good xs (w .server j .latest) →
+      go : Served (K .s) j w (x .step) (perform (K .s) w (x .step) .world .server j) → Good xs (srv K xs j .latest) →
           Good (x ∷ xs) (perform (K .s) w (x .step) .world .server j .latest)
       go (same q) old = later _ (subst (λ (v : Server). Good xs (v .latest)) (sym q) old)
       go (acted p a b c d q) old = later _
-          (subst (λ (v : Server). Good xs (v .latest)) (sym q) (new _ (act-grows (K .s) j (w .server j) (p .body) .latest)))
+          (subst (λ (v : Server). Good xs (v .latest)) (sym q) (new _ (act-grows (K .s) j (srv K xs j) (p .body) .latest)))
         where
           from : (z : Candidate) → (z ≡ blankCandidate (K .s .config))
-              ⊎ ((In z (judged (p .body)) × (isValid (K .s) j (w .server j) z ≡ true)) ⊎ (p .body ≡ complete z)) → Good xs z
+              ⊎ ((In z (judged (p .body)) × (isValid (K .s) j (srv K xs j) z ≡ true)) ⊎ (p .body ≡ complete z)) → Good xs z
           from z (inl e) = inl e
           from z (inr (inl v)) = inr (genuine x xs (h .1) j p (record { prem = h .0; by = a; got = b; fine = d }) z (v .0) (v .1))
           from z (inr (inr k)) = inr (ever-genuine z xs
@@ -205,6 +205,6 @@ module _ (K : Setup) where
               (writer-made K x xs (h .0) j p b c d
               (complete-writer (p .head .client) z (subst (λ (y : Body). barred (p .head .client) y ≡ false) k (c .allowed))))))
 
-          new : (z : Candidate) → (z ≡ w .server j .latest) ⊎ Origin (K .s) j (w .server j) (p .body) z → Good xs z
+          new : (z : Candidate) → (z ≡ srv K xs j .latest) ⊎ Origin (K .s) j (srv K xs j) (p .body) z → Good xs z
           new z (inl e) = subst (Good xs) (sym e) old
           new z (inr o) = from z o

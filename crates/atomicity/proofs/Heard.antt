@@ -23,11 +23,12 @@ use Rattle.atomicity.specs.Steps.{System, Stamped, makes, serves, packet
 use Rattle.atomicity.proofs.Util.{clash, cond-both, ever-map, ever-with, ever-out}
 use Rattle.atomicity.proofs.Stamps.{le-trans, below-irrefl}
 use Rattle.atomicity.proofs.Model.{perform, now, acts, marks}
-use Rattle.atomicity.proofs.Setup.{Setup, Steps, StepOf, Meets, Fair, lat, hist, hand, calls}
+use Rattle.atomicity.proofs.Setup.{Setup, Steps, StepOf, Meets, Fair, Same, same-step, lat, hand, calls, srv, cli}
 use Rattle.atomicity.proofs.Serving.{making}
 use Rattle.atomicity.proofs.Positions.{pos, stage-awaits, since, from, Before, ever-before}
 use Rattle.atomicity.proofs.Marks.{marks-up}
-use Rattle.atomicity.proofs.Servers.{held-some, is-some, in-held, latest-rises, history-keeps}
+use Rattle.atomicity.proofs.Servers.{latest-rises}
+use Rattle.atomicity.proofs.Covers.{Covers, covers-up}
 use Rattle.atomicity.proofs.Sources.{MadeBy, Told, reply-source}
 
 module _ (K : Setup) where
@@ -36,11 +37,6 @@ module _ (K : Setup) where
   pub lat-up : (x : StepOf K) (xs : Steps K) (j : ℕ) (a : Stamp) → below (lat K xs j) a ≡ false → below (lat K (x ∷ xs) j) a ≡ false
   unfolding nowValues
   lat-up x xs j a h = le-trans a (lat K xs j) (lat K (x ∷ xs) j) h (latest-rises (K .s) (now (K .s) xs) j (x .step))
-
-  pub held-up : (x : StepOf K) (xs : Steps K) (j : ℕ) (a : Stamp) → isSome (held a (hist K xs j)) ≡ true → isSome (held a (hist K (x ∷ xs) j)) ≡ true
-  unfolding nowValues
-  held-up x xs j a h = let f = is-some (held a (hist K xs j)) h in let e = held-some a (f .0) (hist K xs j) (f .1) in
-      in-held a (hist K (x ∷ xs) j) (e .0) (history-keeps (K .s) (now (K .s) xs) j (x .step) (e .0) (e .1)) (e .2)
 
   -- from the moment when the call or the round began
   pub since-up : (c : ℕ) (P : Steps K → Type 0) → ((x : StepOf K) (xs : Steps K) → P xs → P (x ∷ xs)) → (xs : Steps K) → P (since (K .s) c xs) → P xs
@@ -55,7 +51,7 @@ module _ (K : Setup) where
   pub from-up : (c : ℕ) (P : Steps K → Type 0) → ((x : StepOf K) (xs : Steps K) → P xs → P (x ∷ xs)) → (xs : Steps K) → P (from (K .s) c xs) → P xs
   unfolding from
   from-up c P f [] h = h
-  from-up c P f (x ∷ xs) h = go (eqb (pos (now (K .s) xs .client c)) (pos (now (K .s) (x ∷ xs) .client c))) h (λ k. from-up c P f xs k)
+  from-up c P f (x ∷ xs) h = go (eqb (pos (cli K xs c)) (pos (cli K (x ∷ xs) c))) h (λ k. from-up c P f xs k)
     where
       go : (b : Bool) → P (cond b (from (K .s) c xs) (x ∷ xs)) → (P (from (K .s) c xs) → P xs) → P (x ∷ xs)
       go true k r = f x xs (r k)
@@ -65,12 +61,18 @@ module _ (K : Setup) where
   lat-since c xs j = since-up c (λ (zs : Steps K). below (lat K zs j) (lat K (since (K .s) c xs) j) ≡ false) (λ x zs h. lat-up x zs j _ h) xs
       (below-irrefl _)
 
-  pub held-from : (c : ℕ) (xs : Steps K) (j : ℕ) (a : Stamp) → isSome (held a (hist K (from (K .s) c xs) j)) ≡ true →
-      isSome (held a (hist K xs j)) ≡ true
-  held-from c xs j a h = from-up c (λ (zs : Steps K). isSome (held a (hist K zs j)) ≡ true) (λ x zs k. held-up x zs j a k) xs h
+  pub covers-from : (c : ℕ) (xs : Steps K) (j : ℕ) (a : Stamp) → Covers K (from (K .s) c xs) j a ≡ true → Covers K xs j a ≡ true
+  covers-from c xs j a h = from-up c (λ (zs : Steps K). Covers K zs j a ≡ true) (λ x zs k. covers-up K x zs j a k) xs h
 
   pub marks-from : (c : ℕ) (xs : Steps K) (m : Stamped) → In m (marks (K .s) (from (K .s) c xs)) → In m (marks (K .s) xs)
   marks-from c xs m i = from-up c (λ (zs : Steps K). In m (marks (K .s) zs)) (marks-up (K .s) m) xs i
+
+  -- the call and the round began in the phase of now
+  pub same-since : (c : ℕ) (xs : Steps K) → Same K (since (K .s) c xs) xs
+  same-since c xs = since-up c (Same K (since (K .s) c xs)) (λ x zs h. h ∙ same-step K x zs) xs refl
+
+  pub same-from : (c : ℕ) (xs : Steps K) → Same K (from (K .s) c xs) xs
+  same-from c xs = from-up c (Same K (from (K .s) c xs)) (λ x zs h. h ∙ same-step K x zs) xs refl
 
 -- ---- kinds
 
@@ -108,17 +110,19 @@ module _ (K : Setup) where
     pub got : packetIn (y .step) ≡ some ask
     pub body-is : ask .body ≡ request (hand K xs c) j
     pub fine : accepted (perform (K .s) (now (K .s) ys) (y .step) .result) ≡ true
-    pub says : x ≡ acts (K .s) j (now (K .s) ys .server j) (ask .body) .reply
-    pub after : now (K .s) (y ∷ ys) .server j ≡ acts (K .s) j (now (K .s) ys .server j) (ask .body) .server
+    pub says : x ≡ acts (K .s) j (srv K ys j) (ask .body) .reply
+    pub after : srv K (y ∷ ys) j ≡ acts (K .s) j (srv K ys j) (ask .body) .server
     pub prem : Meets K y ys
     pub old : Fair K ys
     pub from-is : from (K .s) c ys ≡ from (K .s) c xs
     pub since-is : since (K .s) c ys ≡ since (K .s) c xs
+    -- so who is correct after xs was so then
+    pub phase : Same K ys xs
 
   -- the client's position when it made the request behind a reply
   asked-pos : (p : Packet) (y : StepOf K) (ys : Steps K) (t : Told K p y ys) (z : StepOf K) (zs : Steps K) →
       MadeBy K (makes (p .head .client)) (t .behind .ask) z zs →
-      (isIdle (hand K zs (p .head .client)) ≡ false) × (pos (now (K .s) zs .client (p .head .client)) ≡ 16 * p .head .call + kindOf (p .body))
+      (isIdle (hand K zs (p .head .client)) ≡ false) × (pos (cli K zs (p .head .client)) ≡ 16 * p .head .call + kindOf (p .body))
       × (t .behind .ask .body ≡ request (hand K zs (p .head .client)) (p .head .server))
   unfolding pos made replyTo
   asked-pos p y ys t z zs h =
@@ -135,11 +139,11 @@ module _ (K : Setup) where
 
   -- the moment of the request behind a reply
   pub asked-at : (c : ℕ) (p : Packet) (y : StepOf K) (ys : Steps K) → p .head .client ≡ c → Told K p y ys →
-      Ever (λ z zs. Before (K .s) c zs ys × (pos (now (K .s) zs .client c) ≡ 16 * p .head .call + kindOf (p .body))) ys
+      Ever (λ z zs. Before (K .s) c zs ys × (pos (cli K zs c) ≡ 16 * p .head .call + kindOf (p .body))) ys
   asked-at c p y ys mine t = ever-map (λ z zs. MadeBy K (makes (p .head .client)) (t .behind .ask) z zs × Before (K .s) c zs ys) _
       (λ z zs h. (
         h .1,
-        subst (λ (i : ℕ). pos (now (K .s) zs .client i) ≡ 16 * p .head .call + kindOf (p .body)) mine
+        subst (λ (i : ℕ). pos (cli K zs i) ≡ 16 * p .head .call + kindOf (p .body)) mine
             (asked-pos p y ys t z zs (h .0) .1),
       ))
       ys (ever-before (K .s) c (MadeBy K (makes (p .head .client)) (t .behind .ask)) ys (t .source))
@@ -152,8 +156,8 @@ module _ (K : Setup) where
       (λ z zs h.
       let a = t .behind in
       let q = asked-pos p y ys t z zs (h .0) in
-      let here : pos (now (K .s) zs .client c) ≡ pos (now (K .s) xs .client c) =
-      subst (λ (i : ℕ). pos (now (K .s) zs .client i) ≡ pos (now (K .s) xs .client c)) mine
+      let here : pos (cli K zs c) ≡ pos (cli K xs c) =
+      subst (λ (i : ℕ). pos (cli K zs i) ≡ pos (cli K xs c)) mine
       (omega (arith, q .1, call, kind, stage-awaits (hand K xs c) busy)) in
       let e1 = h .1 .round (omega (arith, here, h .1 .low, bef .low)) in
       let e2 = bef .round (omega (arith, here, h .1 .low, bef .low)) in
@@ -169,6 +173,7 @@ module _ (K : Setup) where
         old = old;
         from-is = e2 .0;
         since-is = e2 .1;
+        phase = sym (same-from K c ys) ∙ subst (λ (z : Steps K). Same K z xs) (sym (e2 .0)) (same-from K c xs);
       })
       (ever-before (K .s) c (MadeBy K (makes (p .head .client)) (t .behind .ask)) ys (t .source))
 

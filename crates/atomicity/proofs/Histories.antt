@@ -19,7 +19,7 @@ use Rattle.atomicity.specs.Lists.{Ever, Always, In}
 use Rattle.atomicity.specs.Steps.{Stamped, makes, stampedAt, tagsWith, tagsMade}
 use Rattle.atomicity.proofs.Util.{left-in, right-in, in-flat, map-in, ever-map, within-in}
 use Rattle.atomicity.proofs.Model.{perform, now, account, marks, vouched, writeFor}
-use Rattle.atomicity.proofs.Setup.{Setup, Steps, StepOf, Fair, hist}
+use Rattle.atomicity.proofs.Setup.{Setup, Steps, StepOf, Fair, hist, hand, srv}
 use Rattle.atomicity.proofs.Serving.{Served, same, acted, served, making}
 use Rattle.atomicity.proofs.Marks.{marks-up}
 use Rattle.atomicity.proofs.Begun.{Known, known}
@@ -47,7 +47,7 @@ module _ (K : Setup) where
   made-from j e p is at y ys h =
       let c = p .head .client in
       let t = making (K .s) (now (K .s) ys) c (y .step) p (h .0) (h .2) in
-      let w = store-made (now (K .s) ys .client c .hand) (t .to) e (sym (ap (λ (q : Packet). q .body) (t .is)) ∙ is) in
+      let w = store-made (hand K ys c) (t .to) e (sym (ap (λ (q : Packet). q .body) (t .is)) ∙ is) in
       let k = subst (Known (K .s) ys c) (w .2) (known (K .s) ys c) in
       let to-j : t .to ≡ j = sym (ap (λ (q : Packet). q .head .server) (t .is)) ∙ at in (
         k .0,
@@ -69,9 +69,9 @@ module _ (K : Setup) where
       go : Served (K .s) j w (x .step) (perform (K .s) w (x .step) .world .server j) → (In e (hist K xs j) → From j e xs) → From j e (x ∷ xs)
       go (same q) f = from-up j e x xs (f (subst (λ (v : Server). In e (v .history)) q i))
       go (acted p a b c d q) f = from-up j e x xs
-          (new (act-grows (K .s) j (w .server j) (p .body) .new e (subst (λ (v : Server). In e (v .history)) q i)))
+          (new (act-grows (K .s) j (srv K xs j) (p .body) .new e (subst (λ (v : Server). In e (v .history)) q i)))
         where
-          new : In e (w .server j .history) ⊎ (p .body ≡ store e) → From j e xs
+          new : In e (hist K xs j) ⊎ (p .body ≡ store e) → From j e xs
           new (inl k) = f k
           new (inr k) = ever-from j e xs (ever-map (MadeBy K (makes (p .head .client)) p) (λ y ys. From j e ys) (made-from j e p k (c .mine)) xs
               (writer-made K x xs (h .0) j p b c d
@@ -83,7 +83,7 @@ module _ (K : Setup) where
   abbrev pub Vouched : Steps K → Candidate → Type 0
   Vouched xs c = (m : Stamped) × In m (marks (K .s) xs) × (m .stamp ≡ c .stamp) × (K .s .P .digest (m .nonce) ≡ K .s .P .digest (c .nonce))
 
-  pub by-history : (xs : Steps K) → Fair K xs → (j : ℕ) (c : Candidate) → vouched (K .s) j (now (K .s) xs .server j) c ≡ true → Vouched xs c
+  pub by-history : (xs : Steps K) → Fair K xs → (j : ℕ) (c : Candidate) → vouched (K .s) j (srv K xs j) c ≡ true → Vouched xs c
   unfolding byHistory
   by-history xs h j c v =
       let b = held-digest (c .stamp) (K .s .P .digest (c .nonce)) (hist K xs j) v in

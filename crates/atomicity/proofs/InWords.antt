@@ -19,7 +19,7 @@ use Rattle.protocol.proofs.Primitive.{real-lengths}
 use Rattle.protocol.proofs.Accounts.{claimed}
 use Rattle.atomicity.specs.Lists.{Always, Once, All, In, AllPairs}
 use Rattle.atomicity.specs.Steps.{System}
-use Rattle.atomicity.specs.Premises.{Correct, Parties, Premise}
+use Rattle.atomicity.specs.Premises.{Correct, Parties, correctAt, Premise}
 use Rattle.atomicity.specs.Claim.{Call, given, log, before, holds, shows, Replay, CameTo, Progress, systemOf}
 use Rattle.atomicity.specs.Page41.{Version, versions, NeverOlder, Ended, Page41}
 use Rattle.atomicity.proofs.Util.{unfalse, clash, or-cases, all-in}
@@ -91,16 +91,17 @@ module _ (K : Setup) (xs : Steps K) (fair : Fair K xs) where
       over (inl k) = k
       over (inr k) = clash k stays
 
+      -- server b is correct, and its reply of kind k to call n of this client came in
+      Came : ℕ → ℕ → ℕ → Type 0
+      Came n k b = (correctAt (K .s) (account (K .s)) (K .correct) xs b ≡ true) × CameTo (K .s) (account (K .s)) (K .correct) xs (a .client) n k b
+
       -- the call is in hand, in a round that awaits k
       pending : a .number ≡ calls K xs (a .client) → isIdle (hand K xs (a .client)) ≡ false → (k : ℕ) → awaits (hand K xs (a .client)) ≡ k → ⊥
       pending n busy zero e = in-round (hand K xs (a .client)) busy e
       pending n busy (suc k) e =
           let A = answers k (once-now _ xs (sym n, e)) in
-          let came = subst (λ (j : ℕ). All
-          (λ b. (K .correct .server b ≡ true) × CameTo (K .s) (account (K .s)) (K .correct) xs (a .client) j (suc k) b) (A .0)) n (A .2) in
-          let came' = subst (λ (j : ℕ). All
-          (λ b. (K .correct .server b ≡ true) × CameTo (K .s) (account (K .s)) (K .correct) xs (a .client) (calls K xs (a .client)) j b) (A .0))
-          (sym e) came in
+          let came = subst (λ (j : ℕ). All (Came j (suc k)) (A .0)) n (A .2) in
+          let came' = subst (λ (j : ℕ). All (Came (calls K xs (a .client)) j) (A .0)) (sym e) came in
           let z = progress K xs fair (a .client) good busy (inr room) (A .0) (A .1) came' in
           omega (arith, z, A .3)
 

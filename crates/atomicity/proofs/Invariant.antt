@@ -24,9 +24,9 @@ use Rattle.atomicity.specs.Steps.{Stamped, packetIn, makes, stampedAt, p
 use Rattle.atomicity.specs.Premises.{Shows, PartyOf, odd}
 use Rattle.atomicity.proofs.Util.{bool-case, clash, left-in, right-in, ever-map, ever-with, rise, not-f, and-intro}
 use Rattle.atomicity.proofs.Stamps.{below-blank}
-use Rattle.atomicity.proofs.Counting.{split-count, quorum-sum, count-mono}
+use Rattle.atomicity.proofs.Counting.{split-count, lies-count, quorum-sum, count-mono}
 use Rattle.atomicity.proofs.Model.{perform, now, account, marks, turn}
-use Rattle.atomicity.proofs.Setup.{Setup, Steps, StepOf, Meets, Fair, Show, hand, calls, lat}
+use Rattle.atomicity.proofs.Setup.{Setup, Steps, StepOf, Meets, Fair, Show, hand, calls, lat, cli, replied, right, same-step, right-step, lastOf}
 use Rattle.atomicity.proofs.Moves.{Fits, Moved, kept, wbegan, rbegan, quit, took, moved}
 use Rattle.atomicity.proofs.Serving.{making}
 use Rattle.atomicity.proofs.Rounds.{Next, turn-turned}
@@ -36,15 +36,15 @@ use Rattle.atomicity.proofs.Begun.{Known, known}
 use Rattle.atomicity.proofs.Nonces.{by-nonce}
 use Rattle.atomicity.proofs.Sources.{complete-made, made-by}
 use Rattle.atomicity.proofs.Genuine.{Genuine}
-use Rattle.atomicity.proofs.Heard.{heard}
+use Rattle.atomicity.proofs.Heard.{heard, same-since, same-from}
 use Rattle.atomicity.proofs.States.{HandOk, ok-up, says-up}
-use Rattle.atomicity.proofs.Quorums.{S, Q, right, Many, FullAt, TopAt, full-up, top-up}
+use Rattle.atomicity.proofs.Quorums.{S, Q, Many, FullAt, TopAt, full-up, top-up}
 use Rattle.atomicity.proofs.Telling.{says}
 use Rattle.atomicity.proofs.Turns.{Outcome, turn-ok, none-short, unmarked}
 
 module _ (K : Setup) where
   unfoldable pub Hands : Steps K → Type 0
-  Hands xs = (c : ℕ) → K .correct .client c ≡ true → HandOk K xs (since (K .s) c xs) (from (K .s) c xs) (now (K .s) xs .client c .marks) (hand K xs c)
+  Hands xs = (c : ℕ) → K .correct .client c ≡ true → HandOk K xs (since (K .s) c xs) (from (K .s) c xs) (replied K xs c) (hand K xs c)
 
   -- ---- a write that was shown is held by a quorum
 
@@ -77,7 +77,7 @@ module _ (K : Setup) where
       let v = show-hand c n y ys h in
       let good : K .correct .client c ≡ true = make-shape c (y .step) (h .2) ys (prem .party) in
       let f = subst (Known (K .s) ys c) (v .1) (known (K .s) ys c) in
-      let k = subst (λ (z : Hand). HandOk K ys (since (K .s) c ys) (from (K .s) c ys) (now (K .s) ys .client c .marks) z) (v .1) (hands c good) in
+      let k = subst (λ (z : Hand). HandOk K ys (since (K .s) c ys) (from (K .s) c ys) (replied K ys c) z) (v .1) (hands c good) in
       record {
         write = f .0;
         made = marks-up (K .s) (f .0) y ys (f .1);
@@ -139,27 +139,28 @@ module _ (K : Setup) where
 
   pub outcome : (x : StepOf K) (xs : Steps K) → Fair K (x ∷ xs) → Hands xs → Always (λ y ys. Hands ys) xs → (c : ℕ) → K .correct .client c ≡ true →
       (p : Packet) (b o : List ℕ) →
-      x .step ≡ take-reply c b o → decode b ≡ some p → Fits (K .s) c (now (K .s) xs .client c) p →
+      x .step ≡ take-reply c b o → decode b ≡ some p → Fits (K .s) c (cli K xs c) p →
       accepted (perform (K .s) (now (K .s) xs) (x .step) .result) ≡ true →
-      Outcome K x xs (since (K .s) c xs) (from (K .s) c xs) (hand K xs c) (turn (K .s) c (now (K .s) xs .client c) p)
+      Outcome K x xs (since (K .s) c xs) (from (K .s) c xs) (hand K xs c) (turn (K .s) c (cli K xs c) p)
   unfolding Always Hands allDigested digestedBy isFull
   outcome x xs fair hands always c good p b o st rd fit fine =
       let rg = K .laws .heads b p rd (fit .same-t) in
       let got : packetIn (x .step) ≡ some p = ap packetIn st ∙ rd in
-      turn-ok K x xs (since (K .s) c xs) (from (K .s) c xs) fair (λ d g. shown-full (x ∷ xs) fair (hands, always) d g) c (now (K .s) xs .client c)
+      turn-ok K x xs (since (K .s) c xs) (from (K .s) c xs) (same-since K c xs ∙ same-step K x xs)
+      (same-from K c xs ∙ same-step K x xs) fair (λ d g. shown-full (x ∷ xs) fair (hands, always) d g) c (cli K xs c)
       (p .head .server) (p .body)
       (λ f e. left-in (f .part) (digested (K .s) (account (K .s)) x xs) (allDigested (K .s) (account (K .s)) xs)
       (subst (λ (t : Bool). In (f .part) (cond t (digestedBy (K .s) (stampedAt (K .s) (account (K .s)) x xs) (x .step)) [])) (sym fine)
       (subst (λ (y : Step). In (f .part) (digestedBy (K .s) (stampedAt (K .s) (account (K .s)) x xs) y)) (sym st)
       (right-in (f .part) (flat (digestsWith (K .s)) (stampedAt (K .s) (account (K .s)) x xs)) (inPacket fragments (decode b))
       (subst (λ (q : Option Packet). In (f .part) (inPacket fragments q)) (sym rd) (piece-in (p .body) f e))))))
-      (rg .2) (rg .3) (leb (Q K) (countTo (S K) (upd (now (K .s) xs .client c .marks) (p .head .server) true))) (λ e. leb-true (Q K) _ e)
+      (rg .2) (rg .3) (leb (Q K) (countTo (S K) (upd (replied K xs c) (p .head .server) true))) (λ e. leb-true (Q K) _ e)
       (λ e. leb-false (Q K) _ e) (hand K xs c) refl
       (hands c good)
       (λ h. says-up K (since (K .s) c xs) (from (K .s) c xs) (p .head .server) (p .body) (hand K xs c) x xs
       (says K c xs (p .head .server) (p .body) (hand K xs c) refl
       (heard K c xs (fair .1) p good (fit .mine) (fit .call) (fit .busy) (fit .kind)
-      (made-by K x xs (fair .0) p got fine .1 (ap odd (fit .kind) ∙ awaits-even (hand K xs c)) h))))
+      (made-by K x xs (fair .0) p got fine .1 (ap odd (fit .kind) ∙ awaits-even (hand K xs c)) (right-step K x xs (p .head .server) ∙ h)))))
 
   -- the moment when the round began, after a reply
   from-cond : (x : StepOf K) (xs : Steps K) (c : ℕ) → calls K (x ∷ xs) c ≡ calls K xs c → stage (hand K xs c) ≤ stage (hand K (x ∷ xs) c) →
@@ -193,21 +194,21 @@ module _ (K : Setup) where
           (sym (since-same (K .s) c x xs (sym (ap (λ (z : Client). z .calls) e))))
           (subst (λ (z : Steps K). At (since (K .s) c xs) z cl') (sym (from-same (K .s) c x xs (sym (ap pos e))))
           (subst (At (since (K .s) c xs) (from (K .s) c xs)) (sym e)
-          (ok-up K (since (K .s) c xs) (from (K .s) c xs) (w .client c .marks) (hand K xs c) x xs (hands c good))))
+          (ok-up K (since (K .s) c xs) (from (K .s) c xs) (replied K xs c) (hand K xs c) x xs (hands c good))))
       go (wbegan r n a b d l e) = subst (At (since (K .s) c (x ∷ xs)) (from (K .s) c (x ∷ xs))) (sym e)
           (record { short = none-short K; low = λ j h i. unmarked K j i })
       go (rbegan a b d e) = subst (At (since (K .s) c (x ∷ xs)) (from (K .s) c (x ∷ xs))) (sym e)
           (record { short = none-short K; coll = λ j h i. unmarked K j i })
       go (quit a b d e) = subst (At (since (K .s) c (x ∷ xs)) (from (K .s) c (x ∷ xs))) (sym e) tt
       go (took p b o st rd fit e f) =
-          let t = turn-turned (K .s) c (w .client c) p in
+          let t = turn-turned (K .s) c (cli K xs c) p in
           let u = outcome x xs fair hands always c good p b o st rd fit (subst (λ (z : Result). accepted z ≡ true) (sym f) (t .fine)) .0 in
           let cq : cl' .calls ≡ calls K xs c = ap (λ (z : Client). z .calls) e ∙ t .calls in
           let u' : At (since (K .s) c xs) (cond (eqb (stage (hand K xs c)) (stage (cl' .hand))) (from (K .s) c xs) (x ∷ xs)) cl' =
           subst (λ (v : Client). At (since (K .s) c xs) (cond (eqb (stage (hand K xs c)) (stage (v .hand))) (from (K .s) c xs) (x ∷ xs)) v)
           (sym e) u in
-          let st' = next-stage (K .s) c (hand K xs c) (w .client c .last) (cl' .hand) (cl' .last)
-          (subst (λ (v : Client). Next (K .s) c (hand K xs c) (w .client c .last) (v .hand) (v .last)) (sym e) (t .next)) in
+          let st' = next-stage (K .s) c (hand K xs c) (lastOf K xs c) (cl' .hand) (cl' .last)
+          (subst (λ (v : Client). Next (K .s) c (hand K xs c) (lastOf K xs c) (v .hand) (v .last)) (sym e) (t .next)) in
           subst (λ (v : Steps K). At v (from (K .s) c (x ∷ xs)) cl') (sym (since-same (K .s) c x xs (sym cq)))
           (subst (λ (v : Steps K). At (since (K .s) c xs) v cl') (from-cond x xs c cq (st' .0)) u')
 
@@ -229,8 +230,9 @@ module _ (K : Setup) where
   unfolding Many
   top-blank ys = omega (
     arith,
-    split-count (right K) (S K),
+    split-count (right K ys) (S K),
     quorum-sum (K .s .config) (K .legal),
-    count-mono (right K) (λ j. right K j && not (below (lat K ys j) blankStamp)) (S K)
+    lies-count (right K ys) (λ j. not (below (lat K ys j) blankStamp)) (S K),
+    count-mono (right K ys) (λ j. right K ys j && not (below (lat K ys j) blankStamp)) (S K)
         (λ j lo hi h. and-intro _ _ h (not-f _ (below-blank (lat K ys j)))),
   )

@@ -14,6 +14,7 @@ pub mod Nonces
 pub mod Servers
 pub mod Sources
 pub mod Histories
+pub mod Covers
 pub mod Genuine
 pub mod Heard
 pub mod Quorums

@@ -21,7 +21,7 @@ use Rattle.atomicity.specs.Premises.{PartyOf}
 use Rattle.atomicity.specs.Claim.{Call, follow, leave}
 use Rattle.atomicity.proofs.Util.{clash, no-some}
 use Rattle.atomicity.proofs.Model.{perform, now, account, turn}
-use Rattle.atomicity.proofs.Setup.{Setup, Steps, StepOf, Fair, hand, calls}
+use Rattle.atomicity.proofs.Setup.{Setup, Steps, StepOf, Fair, hand, calls, cli}
 use Rattle.atomicity.proofs.Moves.{Fits, Moved, kept, wbegan, rbegan, quit, took, moved, acting}
 use Rattle.atomicity.proofs.Rounds.{turn-turned}
 use Rattle.atomicity.proofs.Positions.{since, from}
@@ -131,14 +131,14 @@ module _ (K : Setup) where
   -- the call that takes the reply
   taken-call : (x : StepOf K) (xs : Steps K) → Fair K (x ∷ xs) → (a : Call) (σ : Stamp) → CallOk K xs a σ → a .number ≡ calls K xs (a .client) →
       (p : Packet) (b o : List ℕ) →
-      x .step ≡ take-reply (a .client) b o → decode b ≡ some p → Fits (K .s) (a .client) (now (K .s) xs .client (a .client)) p →
-      perform (K .s) (now (K .s) xs) (x .step) .world .client (a .client) ≡ turn (K .s) (a .client) (now (K .s) xs .client (a .client)) p .client →
-      result K x xs ≡ turn (K .s) (a .client) (now (K .s) xs .client (a .client)) p .result →
+      x .step ≡ take-reply (a .client) b o → decode b ≡ some p → Fits (K .s) (a .client) (cli K xs (a .client)) p →
+      perform (K .s) (now (K .s) xs) (x .step) .world .client (a .client) ≡ turn (K .s) (a .client) (cli K xs (a .client)) p .client →
+      result K x xs ≡ turn (K .s) (a .client) (cli K xs (a .client)) p .result →
       Goal x xs a σ (effect K x xs (a .client) a)
   unfolding nowValues Always Outcome Hands Ever Follows stampedBy
   taken-call x xs fair a σ h n p b o st rd fit e v =
       let c = a .client in
-      let cl = now (K .s) xs .client c in
+      let cl = cli K xs c in
       let t = turn-turned (K .s) c cl p in
       let hs = hands-all K xs (fair .1) in
       let good : K .correct .client c ≡ true = subst (λ (y : Step). PartyOf (K .s) (account (K .s)) (K .correct) xs y) st (fair .0 .party) in

@@ -17,13 +17,13 @@ use Rattle.atomicity.specs.Lists.{Ever, Always, In}
 use Rattle.atomicity.specs.Steps.{Stamped, serves, judged, shown, inPacket, noncesBy, noncesGot}
 use Rattle.atomicity.specs.Premises.{Begins, FreshNonce, NoEarlyNonce}
 use Rattle.atomicity.proofs.Util.{bool-case, clash, and-left, and-right, in-map, all-in}
-use Rattle.atomicity.proofs.Model.{now, account, marks, isValid}
-use Rattle.atomicity.proofs.Setup.{Setup, Steps, StepOf, Fair, Begin, Show}
+use Rattle.atomicity.proofs.Model.{account, marks, isValid}
+use Rattle.atomicity.proofs.Setup.{Setup, Steps, StepOf, Fair, Begin, Show, srv, right}
 use Rattle.atomicity.proofs.Marks.{marks-up}
 use Rattle.atomicity.proofs.Nonces.{begins, by-nonce}
 use Rattle.atomicity.proofs.Servers.{best-view}
 use Rattle.atomicity.proofs.Genuine.{at-serve, Genuine, genuine}
-use Rattle.atomicity.proofs.Quorums.{right, FullAt}
+use Rattle.atomicity.proofs.Quorums.{FullAt}
 use Rattle.atomicity.proofs.Invariant.{hands-all, shown-since}
 use Rattle.atomicity.proofs.Listed.{counted-one}
 use Rattle.atomicity.proofs.Suffixes.{Suf, suf-refl, suf-total, suf-up, suf-trans, suf-tail, ever-suf, suf-ever}
@@ -32,16 +32,16 @@ use Rattle.atomicity.proofs.Waiting.{best, Sat, Waits}
 module _ (K : Setup) (xs : Steps K) (fair : Fair K xs) (cs : List Candidate) (g : ByServer Held) (m : ByServer Bool) (W : Waits K xs cs g m) where
   -- a correct server that replied
   abbrev pub told : ℕ → Bool
-  told j = right K j && m j
+  told j = right K xs j && m j
 
   pub record Moment (j : ℕ) : Type 0 where
     pub y : StepOf K
     pub ys : Steps K
-    pub sat : Sat K cs j (g j) y ys
+    pub sat : Sat K xs cs j (g j) y ys
     pub suf : Suf (y ∷ ys) xs
 
   moment : (j : ℕ) → told j ≡ true → Moment j
-  moment j e = let r = ever-suf (Sat K cs j (g j)) xs (W .told j (and-left (right K j) (m j) e) (and-right (right K j) (m j) e)) in
+  moment j e = let r = ever-suf (Sat K xs cs j (g j)) xs (W .told j (and-left (right K xs j) (m j) e) (and-right (right K xs j) (m j) e)) in
       record { y = r .0; ys = r .1; sat = r .2; suf = r .3 }
 
   pub before-now : (j : ℕ) (M : Moment j) → Suf (M .ys) xs
@@ -95,12 +95,12 @@ module _ (K : Setup) (xs : Steps K) (fair : Fair K xs) (cs : List Candidate) (g 
 
   pub best-real : (j : ℕ) (M : Moment j) → (best K cs j (M .ys) ≡ blankCandidate (K .s .config))
       ⊎ (In (best K cs j (M .ys)) cs × Genuine K (M .ys) (best K cs j (M .ys)))
-  best-real j M = go (best-view (K .s) j (now (K .s) (M .ys) .server j) (blankCandidate (K .s .config)) cs)
+  best-real j M = go (best-view (K .s) j (srv K (M .ys) j) (blankCandidate (K .s .config)) cs)
     where
       b : Candidate
       b = best K cs j (M .ys)
 
-      go : (b ≡ blankCandidate (K .s .config)) ⊎ (In b cs × (isValid (K .s) j (now (K .s) (M .ys) .server j) b ≡ true)) →
+      go : (b ≡ blankCandidate (K .s .config)) ⊎ (In b cs × (isValid (K .s) j (srv K (M .ys) j) b ≡ true)) →
           (b ≡ blankCandidate (K .s .config)) ⊎ (In b cs × Genuine K (M .ys) b)
       go (inl e) = inl e
       go (inr v) = let T = M .sat in inr

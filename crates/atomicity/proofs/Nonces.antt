@@ -13,7 +13,7 @@ use Rattle.atomicity.specs.Steps.{Stamped, stampedAt}
 use Rattle.atomicity.specs.Premises.{Begins, FreshNonce}
 use Rattle.atomicity.proofs.Util.{split-in, ever-map}
 use Rattle.atomicity.proofs.Model.{perform, now, account, marks, stampFor, preparedFor}
-use Rattle.atomicity.proofs.Setup.{Setup, Steps, StepOf, Fair, Begin, hand}
+use Rattle.atomicity.proofs.Setup.{Setup, Steps, StepOf, Fair, Begin, hand, lastOf, cli}
 use Rattle.atomicity.proofs.Moves.{Moved, kept, wbegan, rbegan, quit, took, moved}
 use Rattle.atomicity.proofs.Rounds.{Next, stays, clock-on, clock-ends, store-ends, collect-on, collect-ends, filter-on, filter-ends, over, turn-turned}
 use Rattle.atomicity.proofs.Marks.{Marked, mark-source}
@@ -85,7 +85,7 @@ module _ (K : Setup) where
       on (filtering cs g) e f = tt
       on (repairing d r) e f = tt
 
-      go : Moved (K .s) c w (x .step) cl' (perform (K .s) w (x .step) .result) → Unmarked xs (w .client c .hand) → Unmarked (x ∷ xs) (cl' .hand)
+      go : Moved (K .s) c w (x .step) cl' (perform (K .s) w (x .step) .result) → Unmarked xs (hand K xs c) → Unmarked (x ∷ xs) (cl' .hand)
       go (kept e _) u = on (cl' .hand) refl (λ r n k q. subst (Unmarked xs) (sym (ap (λ (y : Client). y .hand) e) ∙ q) u)
       go (wbegan r n a b d l e) u = on (cl' .hand) refl
           (λ r' n' k q m i z. let q' : clocking r n _ ≡ clocking r' n' k = sym (ap (λ (y : Client). y .hand) e) ∙ q in
@@ -94,9 +94,9 @@ module _ (K : Setup) where
           (subst (λ (y : List ℕ). Ever (Begin K (m .client) y) xs) (z ∙ sym nn) (begins xs m i)))
       go (rbegan a b d e) u = subst (Unmarked (x ∷ xs)) (sym (ap (λ (y : Client). y .hand) e)) tt
       go (quit a b d e) u = subst (Unmarked (x ∷ xs)) (sym (ap (λ (y : Client). y .hand) e)) tt
-      go (took p b o a d f e r) u = let t = turn-turned (K .s) c (w .client c) p .next in
-          on (cl' .hand) refl (λ r n k q. on-next (w .client c .hand) (w .client c .last) (cl' .hand) (cl' .last)
-          (subst (λ (z : Client). Next (K .s) c (w .client c .hand) (w .client c .last) (z .hand) (z .last)) (sym e) t) r n k q u)
+      go (took p b o a d f e r) u = let t = turn-turned (K .s) c (cli K xs c) p .next in
+          on (cl' .hand) refl (λ r n k q. on-next (hand K xs c) (lastOf K xs c) (cl' .hand) (cl' .last)
+          (subst (λ (z : Client). Next (K .s) c (hand K xs c) (lastOf K xs c) (z .hand) (z .last)) (sym e) t) r n k q u)
         where
           on-next : (h : Hand) (l : ℕ) (h' : Hand) (l' : ℕ) → Next (K .s) c h l h' l' → (r n : List ℕ) (k : ℕ) → h' ≡ clocking r n k → Unmarked xs h →
               (m : Stamped) → In m (marks (K .s) xs) → m .nonce ≡ n → ⊥

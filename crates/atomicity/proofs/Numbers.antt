@@ -25,7 +25,7 @@ use Rattle.atomicity.specs.Steps.{Stamped, inPacket, clockStamps, stampe
 use Rattle.atomicity.specs.Premises.{NoForgery}
 use Rattle.atomicity.proofs.Util.{cond-both, and-left, left-in, right-in, in-flat, map-in, all-in}
 use Rattle.atomicity.proofs.Model.{perform, now, account, marks, updated}
-use Rattle.atomicity.proofs.Setup.{Setup, Steps, StepOf, Fair, hand}
+use Rattle.atomicity.proofs.Setup.{Setup, Steps, StepOf, Fair, hand, lastOf, cli}
 use Rattle.atomicity.proofs.Moves.{Moved, kept, wbegan, rbegan, quit, took, moved}
 use Rattle.atomicity.proofs.Rounds.{turn-turned}
 use Rattle.atomicity.proofs.Rising.{Clocked, clocked-map, capped}
@@ -119,7 +119,7 @@ module _ (K : Setup) where
   clock-in repairReply k e = absurd (omega (arith, k))
 
   unfoldable pub Small : Steps K → Type 0
-  Small xs = (c : ℕ) → (now (K .s) xs .client c .last ≤ length (marks (K .s) xs)) × Low (length (marks (K .s) xs)) (hand K xs c)
+  Small xs = (c : ℕ) → (lastOf K xs c ≤ length (marks (K .s) xs)) × Low (length (marks (K .s) xs)) (hand K xs c)
 
   pub mark-small : (xs : Steps K) → Small xs → (m : Stamped) → In m (marks (K .s) xs) → m .stamp .number ≤ length (marks (K .s) xs)
   unfolding Small
@@ -153,7 +153,7 @@ module _ (K : Setup) where
       go (rbegan s a i e) = subst (Goal M) (sym e) (omega (arith, up, h c .0), tt)
       go (quit s a i e) = subst (Goal M) (sym e) (omega (arith, up, h c .0), tt)
       go (took p b o s rd fit e v) =
-          let u = update-low c N (w .client c) (p .head .server) (p .body) _ _ (hand K xs c) refl (h c .0) (h c .1)
+          let u = update-low c N (cli K xs c) (p .head .server) (p .body) _ _ (hand K xs c) refl (h c .0) (h c .1)
           (λ k t. checked (fit .kind ∙ k) t) in
           let q : M ≡ N + length (stampedFrom c (hand K xs c) (cl' .hand)) =
           omega (arith, length-append (stampedAt (K .s) (account (K .s)) x xs) (marks (K .s) xs), ap length at-take) in
@@ -163,7 +163,7 @@ module _ (K : Setup) where
           at-take = ap (stampedBy (w .client) (perform (K .s) w (x .step) .world .client)) s
 
           fine : accepted (result K x xs) ≡ true
-          fine = subst (λ (z : Result). accepted z ≡ true) (sym v) (turn-turned (K .s) c (w .client c) p .fine)
+          fine = subst (λ (z : Result). accepted z ≡ true) (sym v) (turn-turned (K .s) c (cli K xs c) p .fine)
 
           checked : kindOf (p .body) ≡ 2 → checks (K .s .P) (K .s .writers) (stampIn (p .body)) ≡ true → stampIn (p .body) .number ≤ N
           checked k t =

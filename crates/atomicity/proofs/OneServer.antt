@@ -20,11 +20,11 @@ use Rattle.atomicity.specs.Lists.{In}
 use Rattle.atomicity.specs.Steps.{System}
 use Rattle.atomicity.specs.Claim.{Call, given, counted, begunWrites, NeverRead, CameTo, CameIn, Progress, OneServer}
 use Rattle.atomicity.proofs.Util.{bool-case, clash, and-right, and-intro, or-cases, keep-in, all-in, map-in}
-use Rattle.atomicity.proofs.Model.{Laws, account, marks, now}
-use Rattle.atomicity.proofs.Setup.{Setup, Steps, Fair, hand, calls}
+use Rattle.atomicity.proofs.Model.{Laws, account, marks}
+use Rattle.atomicity.proofs.Setup.{Setup, Steps, Fair, hand, calls, replied, right, right-range}
 use Rattle.atomicity.proofs.Positions.{since, from}
 use Rattle.atomicity.proofs.States.{HandOk}
-use Rattle.atomicity.proofs.Quorums.{S, Q, right}
+use Rattle.atomicity.proofs.Quorums.{S, Q}
 use Rattle.atomicity.proofs.Invariant.{Hands, hands-all}
 use Rattle.atomicity.proofs.Shape.{Log}
 use Rattle.atomicity.proofs.Logs.{Signed}
@@ -57,7 +57,7 @@ module _ (K : Setup) (xs : Steps K) (fair : Fair K xs) where
   -- ---- progress
 
   short : (c : ℕ) (m : ByServer Bool) (h : Hand) → isIdle h ≡ false → HandOk K xs (since (K .s) c xs) (from (K .s) c xs) m h → Wait K xs m h →
-      (n : ℕ) → n ≤ countTo (S K) (λ j. right K j && m j) → n ≤ countTo (S K) m → n < Q K
+      (n : ℕ) → n ≤ countTo (S K) (λ j. right K xs j && m j) → n ≤ countTo (S K) m → n < Q K
   unfolding HandOk Wait isIdle awaits
   short c m idle busy ok w n k l = clash refl busy
   short c m (clocking r t u) busy ok w n k l = omega (arith, ok .short, l)
@@ -69,16 +69,16 @@ module _ (K : Setup) (xs : Steps K) (fair : Fair K xs) where
   short c m (repairing d r) busy ok w n k l = omega (arith, ok .short, l)
 
   pub progress : Progress (K .s) (account (K .s)) (K .correct) xs
-  unfolding Progress Hands CameTo Roomy
+  unfolding Progress Hands CameTo Roomy right
   progress c good busy room bs d came =
-      let m = now (K .s) xs .client c .marks in
-      let each : (b : ℕ) → In b bs → (right K b ≡ true)
-      × (m b ≡ true) = λ b i. let k = all-in (λ b. (right K b ≡ true) × CameIn (K .s) (account (K .s)) (K .correct) xs c b) bs came b i in
+      let m = replied K xs c in
+      let each : (b : ℕ) → In b bs → (right K xs b ≡ true)
+      × (m b ≡ true) = λ b i. let k = all-in (λ b. (right K xs b ≡ true) × CameIn (K .s) (account (K .s)) (K .correct) xs c b) bs came b i in
       (k .0, arrived K c xs fair good b (calls K xs c) (awaits (hand K xs c)) refl refl busy (roomy room) (k .1)) in
       short c m (hand K xs c) busy (hands-all K xs fair .0 c good) (waiting K xs fair c good) (length bs)
-      (marked-count (S K) bs (λ j. right K j && m j) d
-      (λ b i. let e = each b i in let rg = K .parties .servers b (e .0) in (rg .0, rg .1, and-intro _ _ (e .0) (e .1))))
-      (marked-count (S K) bs m d (λ b i. let e = each b i in let rg = K .parties .servers b (e .0) in (rg .0, rg .1, e .1)))
+      (marked-count (S K) bs (λ j. right K xs j && m j) d
+      (λ b i. let e = each b i in let rg = right-range K xs b (e .0) in (rg .0, rg .1, and-intro _ _ (e .0) (e .1))))
+      (marked-count (S K) bs m d (λ b i. let e = each b i in let rg = right-range K xs b (e .0) in (rg .0, rg .1, e .1)))
     where
       roomy : (leb 8 (awaits (hand K xs c)) ≡ true) ⊎ (begunWrites (Log K xs) ≤ capacity) → (8 ≤ awaits (hand K xs c))
           ⊎ (length (marks (K .s) xs) ≤ capacity)

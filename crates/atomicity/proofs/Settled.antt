@@ -20,7 +20,7 @@ use Rattle.atomicity.specs.Steps.{System}
 use Rattle.atomicity.specs.Claim.{Call, given, follow}
 use Rattle.atomicity.proofs.Util.{cond-both, clash, no-some, or-right, split-in, map-in}
 use Rattle.atomicity.proofs.Model.{perform, now, updated}
-use Rattle.atomicity.proofs.Setup.{Setup, Steps, StepOf, Fair, hand, calls}
+use Rattle.atomicity.proofs.Setup.{Setup, Steps, StepOf, Fair, hand, calls, cli}
 use Rattle.atomicity.proofs.Moves.{Moved, kept, wbegan, rbegan, quit, took, moved, acting}
 use Rattle.atomicity.proofs.Rounds.{turn-turned}
 use Rattle.atomicity.proofs.Calls.{CallOk}
@@ -123,10 +123,10 @@ module _ (K : Setup) where
       go (quit s v d e) i = subst (λ (y : Result). Out (follow y (eqb (awaits (cl' .hand)) 6) (length xs) a)) (sym v)
           (or-right (given (a .over)) true refl)
       go (took p b o s rd fit e v) i =
-          let t = turn-turned (K .s) (a .client) (w .client (a .client)) p in
+          let t = turn-turned (K .s) (a .client) (cli K xs (a .client)) p in
           let idle-now = i (n ∙ sym (t .calls) ∙ sym (ap (λ (z : Client). z .calls) e)) in
           subst (λ (y : Result). Out (follow y (eqb (awaits (cl' .hand)) 6) (length xs) a)) (sym v)
-          (update-closed (K .s) (a .client) a (length xs) (eqb (awaits (cl' .hand)) 6) (w .client (a .client)) (p .head .server) (p .body) _ _
+          (update-closed (K .s) (a .client) a (length xs) (eqb (awaits (cl' .hand)) 6) (cli K xs (a .client)) (p .head .server) (p .body) _ _
           (hand K xs (a .client)) (fit .busy) (fit .busy) (subst (λ (z : Client). isIdle (z .hand) ≡ true) e idle-now))
 
   step-settled : (x : StepOf K) (xs : Steps K) (a : Call) → Settled xs a → (st : Step) → x .step ≡ st → Settled (x ∷ xs) (touched K x xs st a)

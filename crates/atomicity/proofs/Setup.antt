@@ -1,15 +1,20 @@
--- The setting of the whole proof: a system with its laws, who is correct, and runs that meet the premises.
+-- The setting of the whole proof: a system with its laws, runs that meet the premises, who is correct at a moment, and the ways into a moment.
+-- The files after this one know who is correct and what a moment holds by the names and laws here, so that a change of either is made here.
 -- Assumes nothing.
-use mathlib.Core.List.{List}
-use Prim.Native.Nat.{ℕ}
+use mathlib.Core.Path.{_≡_, refl}
+use mathlib.Core.Bool.{Bool, true, not}
+use mathlib.Core.List.{List, _∷_}
+use Prim.Native.Nat.{ℕ, _≤_}
 use Rattle.cluster.specs.Config.{Legal}
 use Rattle.protocol.specs.declared.Stamp.{Stamp}
 use Rattle.protocol.specs.Values.{Write}
-use Rattle.protocol.specs.Client.{Hand}
+use Rattle.protocol.specs.Rules.{ByServer, countTo}
+use Rattle.protocol.specs.Server.{Server}
+use Rattle.protocol.specs.Client.{Client, Hand}
 use Rattle.protocol.specs.Runs.{Typed}
 use Rattle.atomicity.specs.Lists.{Always}
 use Rattle.atomicity.specs.Steps.{System}
-use Rattle.atomicity.specs.Premises.{Correct, Parties, Premise, Begins, Shows}
+use Rattle.atomicity.specs.Premises.{Correct, Parties, correctAt, Premise, Begins, Shows}
 use Rattle.atomicity.proofs.Model.{Run, Laws, account, now}
 
 pub record Setup : Type 0 where
@@ -38,16 +43,61 @@ module _ (K : Setup) where
   abbrev pub Show : ℕ → List ℕ → StepOf → Steps → Type 0
   Show c n x xs = Shows (K .s) (account (K .s)) (K .correct) c n x xs
 
-  -- ---- a moment's clients and servers
+  -- ---- who is correct at a moment
+
+  -- Who is correct does not change within a phase, so that all that a call has heard in one phase can be counted together. There is one phase
+  unfoldable pub phase : Steps → ℕ
+  phase xs = 0
+
+  abbrev pub Same : Steps → Steps → Type 0
+  Same ys xs = phase ys ≡ phase xs
+
+  unfoldable pub right : Steps → ℕ → Bool
+  right xs j = correctAt (K .s) (account (K .s)) (K .correct) xs j
+
+  pub right-range : (xs : Steps) (j : ℕ) → right xs j ≡ true → (1 ≤ j) × (j ≤ K .s .config .servers)
+  unfolding right
+  right-range xs j e = K .parties .servers j e
+
+  pub few-liars : (xs : Steps) → countTo (K .s .config .servers) (λ j. not (right xs j)) ≤ K .s .config .t
+  unfolding right
+  few-liars xs = K .parties .liars
+
+  pub same-right : (ys xs : Steps) → Same ys xs → (j : ℕ) → right ys j ≡ right xs j
+  unfolding right
+  same-right ys xs e j = refl
+
+  -- no step ends the phase
+  pub same-step : (x : StepOf) (xs : Steps) → Same xs (x ∷ xs)
+  unfolding phase
+  same-step x xs = refl
+
+  pub right-step : (x : StepOf) (xs : Steps) (j : ℕ) → right xs j ≡ right (x ∷ xs) j
+  right-step x xs j = same-right xs (x ∷ xs) (same-step x xs) j
+
+  -- ---- the ways into a moment: its servers and clients
+
+  abbrev pub srv : Steps → ℕ → Server
+  srv xs j = now (K .s) xs .server j
 
   abbrev pub lat : Steps → ℕ → Stamp
-  lat xs j = now (K .s) xs .server j .latest .stamp
+  lat xs j = srv xs j .latest .stamp
 
   abbrev pub hist : Steps → ℕ → List Write
-  hist xs j = now (K .s) xs .server j .history
+  hist xs j = srv xs j .history
+
+  abbrev pub cli : Steps → ℕ → Client
+  cli xs c = now (K .s) xs .client c
 
   abbrev pub hand : Steps → ℕ → Hand
-  hand xs c = now (K .s) xs .client c .hand
+  hand xs c = cli xs c .hand
 
   abbrev pub calls : Steps → ℕ → ℕ
-  calls xs c = now (K .s) xs .client c .calls
+  calls xs c = cli xs c .calls
+
+  -- the number of its last stamp, and who has replied in its round
+  abbrev pub lastOf : Steps → ℕ → ℕ
+  lastOf xs c = cli xs c .last
+
+  abbrev pub replied : Steps → ℕ → ByServer Bool
+  replied xs c = cli xs c .marks

@@ -16,7 +16,7 @@ use Rattle.protocol.proofs.Answers.{at-cond}
 use Rattle.atomicity.specs.Claim.{Call, change, follow, note, log}
 use Rattle.atomicity.proofs.Util.{clash, no-some, and-left, and-right, and-intro}
 use Rattle.atomicity.proofs.Model.{perform, now, account}
-use Rattle.atomicity.proofs.Setup.{Setup, Steps, StepOf, hand, calls}
+use Rattle.atomicity.proofs.Setup.{Setup, Steps, StepOf, hand, calls, cli}
 use Rattle.atomicity.proofs.Positions.{since-new}
 use Rattle.atomicity.proofs.Moves.{acting}
 use Rattle.atomicity.proofs.Calls.{Open, Cur, CallOk}
@@ -123,7 +123,7 @@ module _ (K : Setup) where
   -- ---- a call that began
 
   pub begun-at : (x : StepOf K) (xs : Steps K) (c : ℕ) (h : Hand) (w : Option (List ℕ)) →
-      perform (K .s) (now (K .s) xs) (x .step) .world .client c ≡ begun (now (K .s) xs .client c) h →
+      perform (K .s) (now (K .s) xs) (x .step) .world .client c ≡ begun (cli K xs c) h →
       (Open K (x ∷ xs) (newCall c (suc (calls K xs c)) w (length xs)) → Cur K (x ∷ xs) (newCall c (suc (calls K xs c)) w (length xs)) blankStamp h) →
       CallOk K (x ∷ xs) (newCall c (suc (calls K xs c)) w (length xs)) blankStamp
   unfolding nowValues newCall begun

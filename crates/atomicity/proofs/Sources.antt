@@ -23,7 +23,7 @@ use Rattle.atomicity.specs.Steps.{bytesIn, packetIn, makes, serves}
 use Rattle.atomicity.specs.Premises.{Authentic, PartyOf, odd}
 use Rattle.atomicity.proofs.Util.{clash, no-some, ever-map, ever-with}
 use Rattle.atomicity.proofs.Model.{perform, now, account}
-use Rattle.atomicity.proofs.Setup.{Setup, Steps, StepOf, Meets, Fair}
+use Rattle.atomicity.proofs.Setup.{Setup, Steps, StepOf, Meets, Fair, right}
 use Rattle.atomicity.proofs.Serving.{Asked, Answered, answer}
 
 -- ---- shapes of steps
@@ -104,13 +104,14 @@ module _ (K : Setup) where
   pub made-by : (x : StepOf K) (xs : Steps K) → Meets K x xs → (p : Packet) → packetIn (x .step) ≡ some p →
       accepted (perform (K .s) (now (K .s) xs) (x .step) .result) ≡ true →
       (odd (kindOf (p .body)) ≡ true → K .correct .client (p .head .client) ≡ true → Ever (MadeBy (makes (p .head .client)) p) xs)
-      × (odd (kindOf (p .body)) ≡ false → K .correct .server (p .head .server) ≡ true → Ever (MadeBy (serves (p .head .server)) p) xs)
-  unfolding Authentic
+      × (odd (kindOf (p .body)) ≡ false → right K xs (p .head .server) ≡ true → Ever (MadeBy (serves (p .head .server)) p) xs)
+  unfolding Authentic right
   made-by x xs prem p e f = let a = prem .authentic p e f in let b = bytesIn (x .step) in let r = read-back (x .step) p e in
       (λ o c. sent-made (makes (p .head .client)) b p r xs (a .0 o c), λ o c. sent-made (serves (p .head .server)) b p r xs (a .1 o c))
 
   -- a server that steps is correct, and one of the shelf
-  pub server-correct : (x : StepOf K) (xs : Steps K) → Meets K x xs → (j : ℕ) → serves j (x .step) ≡ true → K .correct .server j ≡ true
+  pub server-correct : (x : StepOf K) (xs : Steps K) → Meets K x xs → (j : ℕ) → serves j (x .step) ≡ true → right K xs j ≡ true
+  unfolding right
   server-correct x xs prem j e = let h = serve-shape j (x .step) e in
       subst (λ (y : Step). PartyOf (K .s) (account (K .s)) (K .correct) xs y) (h .2) (prem .party)
 

@@ -1,7 +1,7 @@
 -- What is known of a client's hand with the marks of who replied, and of a correct server's reply to it; and that all of it lasts while others
 -- step.
 -- Assumes nothing.
-use mathlib.Core.Path.{_≡_}
+use mathlib.Core.Path.{_≡_, _∙_}
 use mathlib.Core.Bool.{Bool, true, false}
 use mathlib.Core.List.{List, _∷_}
 use mathlib.Core.Option.{some}
@@ -9,9 +9,8 @@ use mathlib.Core.Logic.{_⊎_, inl, inr}
 use Prim.Native.Nat.{ℕ, _≤_, _<_}
 use lib.Dec.{eqb}
 use Rattle.protocol.specs.declared.Stamp.{Stamp}
-use Rattle.protocol.specs.Values.{Candidate, Share, Held, below, blankCandidate, isSome}
+use Rattle.protocol.specs.Values.{Candidate, Share, Held, below, blankCandidate}
 use Rattle.protocol.specs.Packet.{Body}
-use Rattle.protocol.specs.Memory.{held}
 use Rattle.protocol.specs.Rules.{ByServer, countTo}
 use Rattle.protocol.specs.Client.{Hand, idle, clocking, storing, completing, collecting, filtering, repairing, stampIn, codeIn, candidateIn, heldIn, higher}
 use Rattle.atomicity.specs.Lists.{In}
@@ -19,10 +18,11 @@ use Rattle.atomicity.specs.Steps.{Stamped, digested, allDigested}
 use Rattle.atomicity.proofs.Util.{right-in}
 use Rattle.atomicity.proofs.Counting.{share}
 use Rattle.atomicity.proofs.Model.{account, marks, tagged, shareFor}
-use Rattle.atomicity.proofs.Setup.{Setup, Steps, StepOf, lat, hist}
+use Rattle.atomicity.proofs.Setup.{Setup, Steps, StepOf, right, right-step, lat}
 use Rattle.atomicity.proofs.Genuine.{Revealed, revealed-up, Genuine, genuine-up}
-use Rattle.atomicity.proofs.Heard.{lat-up, held-up}
-use Rattle.atomicity.proofs.Quorums.{S, Q, right, FullAt, full-up, WBeats, Beats}
+use Rattle.atomicity.proofs.Covers.{Covers, covers-up}
+use Rattle.atomicity.proofs.Heard.{lat-up}
+use Rattle.atomicity.proofs.Quorums.{S, Q, FullAt, full-up, WBeats, Beats}
 
 module _ (K : Setup) where
   -- ---- what a correct reply told
@@ -39,7 +39,7 @@ module _ (K : Setup) where
   pub record Sift (xs z1 : Steps K) (j : ℕ) (cs : List Candidate) (h : Held) : Type 0 where
     pub piece : (f : Share) → h .share ≡ some f → Piece xs j (h .stamp) f
     pub tags : (d : Candidate) → In d cs → tagged (K .s) j d ≡ true → below (lat K xs j) (d .stamp) ≡ false
-    pub stands : (d : Candidate) → In d cs → isSome (held (d .stamp) (hist K z1 j)) ≡ true → (m : Stamped) → In m (marks (K .s) z1) →
+    pub stands : (d : Candidate) → In d cs → Covers K z1 j (d .stamp) ≡ true → (m : Stamped) → In m (marks (K .s) z1) →
         m .stamp ≡ d .stamp → m .nonce ≡ d .nonce → below (h .stamp) (d .stamp) ≡ false
 
   -- what collect left: q replies, and each correct one's candidate is in the list or blank
@@ -47,7 +47,7 @@ module _ (K : Setup) where
     pub whom : ByServer Bool
     pub what : ByServer Candidate
     pub enough : Q K ≤ countTo (S K) whom
-    pub each : (j : ℕ) → right K j ≡ true → whom j ≡ true →
+    pub each : (j : ℕ) → right K z1 j ≡ true → whom j ≡ true →
         (below (what j .stamp) (lat K z0 j) ≡ false)
         × ((what j ≡ blankCandidate (K .s .config)) ⊎ (In (what j) cs × Genuine K z1 (what j) × FullAt K z1 (what j .stamp)))
 
@@ -62,38 +62,38 @@ module _ (K : Setup) where
 
   -- ---- the hands; m marks who replied in this round
 
-  pub record Clocks (z0 : Steps K) (top : ℕ) (m : ByServer Bool) : Type 0 where
+  pub record Clocks (xs z0 : Steps K) (top : ℕ) (m : ByServer Bool) : Type 0 where
     pub short : countTo (S K) m < Q K
-    pub low : (j : ℕ) → right K j ≡ true → m j ≡ true → lat K z0 j .number ≤ top
+    pub low : (j : ℕ) → right K xs j ≡ true → m j ≡ true → lat K z0 j .number ≤ top
 
   pub record Stores (xs z0 : Steps K) (a : Stamp) (m : ByServer Bool) : Type 0 where
     pub short : countTo (S K) m < Q K
     pub beats : WBeats K z0 a
-    pub holds : (j : ℕ) → right K j ≡ true → m j ≡ true → isSome (held a (hist K xs j)) ≡ true
+    pub holds : (j : ℕ) → right K xs j ≡ true → m j ≡ true → Covers K xs j a ≡ true
 
   pub record Completes (xs : Steps K) (a : Stamp) (m : ByServer Bool) : Type 0 where
     pub short : countTo (S K) m < Q K
     pub full : FullAt K xs a
-    pub high : (j : ℕ) → right K j ≡ true → m j ≡ true → below (lat K xs j) a ≡ false
+    pub high : (j : ℕ) → right K xs j ≡ true → m j ≡ true → below (lat K xs j) a ≡ false
 
   pub record Collects (xs z0 : Steps K) (g : ByServer Candidate) (m : ByServer Bool) : Type 0 where
     pub short : countTo (S K) m < Q K
-    pub coll : (j : ℕ) → right K j ≡ true → m j ≡ true → Coll xs z0 j (g j)
+    pub coll : (j : ℕ) → right K xs j ≡ true → m j ≡ true → Coll xs z0 j (g j)
 
   pub record Filters (xs z0 z1 : Steps K) (cs : List Candidate) (g : ByServer Held) (m : ByServer Bool) : Type 0 where
     pub first : Collected z0 z1 cs
-    pub sift : (j : ℕ) → right K j ≡ true → m j ≡ true → Sift xs z1 j cs (g j)
+    pub sift : (j : ℕ) → right K xs j ≡ true → m j ≡ true → Sift xs z1 j cs (g j)
     pub digs : (j : ℕ) (f : Share) → m j ≡ true → g j .share ≡ some f → In (f .part) (allDigested (K .s) (account (K .s)) xs)
 
   pub record Repairs (xs z0 : Steps K) (d : Candidate) (r : List ℕ) (m : ByServer Bool) : Type 0 where
     pub short : countTo (S K) m < Q K
     pub proved : Proved xs z0 d r
     pub tagged : Tagged d
-    pub high : (j : ℕ) → right K j ≡ true → m j ≡ true → below (lat K xs j) (d .stamp) ≡ false
+    pub high : (j : ℕ) → right K xs j ≡ true → m j ≡ true → below (lat K xs j) (d .stamp) ≡ false
 
   unfoldable pub HandOk : Steps K → Steps K → Steps K → ByServer Bool → Hand → Type 0
   HandOk xs z0 z1 m idle = Unit {0}
-  HandOk xs z0 z1 m (clocking r n k) = Clocks z0 k m
+  HandOk xs z0 z1 m (clocking r n k) = Clocks xs z0 k m
   HandOk xs z0 z1 m (storing d h) = Stores xs z0 (d .stamp) m
   HandOk xs z0 z1 m (completing d) = Completes xs (d .stamp) m
   HandOk xs z0 z1 m (collecting g) = Collects xs z0 g m
@@ -132,15 +132,24 @@ module _ (K : Setup) where
   pub ok-up : (z0 z1 : Steps K) (m : ByServer Bool) (h : Hand) (x : StepOf K) (xs : Steps K) → HandOk xs z0 z1 m h → HandOk (x ∷ xs) z0 z1 m h
   unfolding HandOk
   ok-up z0 z1 m idle x xs h = tt
-  ok-up z0 z1 m (clocking r n k) x xs h = h
-  ok-up z0 z1 m (storing d g) x xs h = record { short = h .short; beats = h .beats; holds = λ j g i. held-up K x xs j (d .stamp) (h .holds j g i) }
+  ok-up z0 z1 m (clocking r n k) x xs h = record { short = h .short; low = λ j g i. h .low j (right-step K x xs j ∙ g) i }
+  ok-up z0 z1 m (storing d g) x xs h =
+      record {
+        short = h .short;
+        beats = h .beats;
+        holds = λ j g i. covers-up K x xs j (d .stamp) (h .holds j (right-step K x xs j ∙ g) i);
+      }
   ok-up z0 z1 m (completing d) x xs h =
-      record { short = h .short; full = full-up K (d .stamp) x xs (h .full); high = λ j g i. lat-up K x xs j (d .stamp) (h .high j g i) }
-  ok-up z0 z1 m (collecting g) x xs h = record { short = h .short; coll = λ j k i. coll-up z0 j (g j) x xs (h .coll j k i) }
+      record {
+        short = h .short;
+        full = full-up K (d .stamp) x xs (h .full);
+        high = λ j g i. lat-up K x xs j (d .stamp) (h .high j (right-step K x xs j ∙ g) i);
+      }
+  ok-up z0 z1 m (collecting g) x xs h = record { short = h .short; coll = λ j k i. coll-up z0 j (g j) x xs (h .coll j (right-step K x xs j ∙ k) i) }
   ok-up z0 z1 m (filtering cs g) x xs h =
       record {
         first = h .first;
-        sift = λ j k i. sift-up z1 j cs (g j) x xs (h .sift j k i);
+        sift = λ j k i. sift-up z1 j cs (g j) x xs (h .sift j (right-step K x xs j ∙ k) i);
         digs = λ j f i e. dig-up (f .part) x xs (h .digs j f i e);
       }
   ok-up z0 z1 m (repairing d r) x xs h =
@@ -148,14 +157,14 @@ module _ (K : Setup) where
         short = h .short;
         proved = proved-up z0 d r x xs (h .proved);
         tagged = h .tagged;
-        high = λ j g i. lat-up K x xs j (d .stamp) (h .high j g i);
+        high = λ j g i. lat-up K x xs j (d .stamp) (h .high j (right-step K x xs j ∙ g) i);
       }
 
   -- what the reply x of a correct server j to the hand means
   unfoldable pub Says : Steps K → Steps K → Steps K → ℕ → Body → Hand → Type 0
   Says xs z0 z1 j x idle = Unit {0}
   Says xs z0 z1 j x (clocking r n k) = (i : ℕ) → lat K z0 j .number ≤ higher (K .s .P) (K .s .writers) i (stampIn x)
-  Says xs z0 z1 j x (storing d h) = eqb (codeIn x) 11 ≡ false → isSome (held (d .stamp) (hist K xs j)) ≡ true
+  Says xs z0 z1 j x (storing d h) = eqb (codeIn x) 11 ≡ false → Covers K xs j (d .stamp) ≡ true
   Says xs z0 z1 j x (completing d) = below (lat K xs j) (d .stamp) ≡ false
   Says xs z0 z1 j x (collecting g) = Coll xs z0 j (candidateIn (K .s .config) x)
   Says xs z0 z1 j x (filtering cs g) = Sift xs z1 j cs (heldIn x)
@@ -165,7 +174,7 @@ module _ (K : Setup) where
   unfolding Says
   says-up z0 z1 j x idle y xs h = tt
   says-up z0 z1 j x (clocking r n k) y xs h = h
-  says-up z0 z1 j x (storing d g) y xs h = λ e. held-up K y xs j (d .stamp) (h e)
+  says-up z0 z1 j x (storing d g) y xs h = λ e. covers-up K y xs j (d .stamp) (h e)
   says-up z0 z1 j x (completing d) y xs h = lat-up K y xs j (d .stamp) h
   says-up z0 z1 j x (collecting g) y xs h = coll-up z0 j (candidateIn (K .s .config) x) y xs h
   says-up z0 z1 j x (filtering cs g) y xs h = sift-up z1 j cs (heldIn x) y xs h

@@ -17,7 +17,7 @@ use Rattle.atomicity.specs.Steps.{Stamped}
 use Rattle.atomicity.specs.Claim.{Call, log}
 use Rattle.atomicity.proofs.Util.{clash, right-in, in-map, map-in, all-of}
 use Rattle.atomicity.proofs.Model.{perform, now, marks}
-use Rattle.atomicity.proofs.Setup.{Setup, Steps, StepOf, Meets, Fair, Show, hand, calls}
+use Rattle.atomicity.proofs.Setup.{Setup, Steps, StepOf, Meets, Fair, Show, hand, calls, cli}
 use Rattle.atomicity.proofs.Moves.{Moved, kept, wbegan, rbegan, quit, took, moved}
 use Rattle.atomicity.proofs.Rounds.{turn-turned}
 use Rattle.atomicity.proofs.Marks.{marks-up}
@@ -189,7 +189,7 @@ module _ (K : Setup) where
       go (wbegan r n s a i l e) f = began (ap (λ (z : Client). z .calls) e) (subst (λ (v : Result). accepted v ≡ true) (sym a) refl) (inl (r, n, s))
       go (rbegan s a i e) f = began (ap (λ (z : Client). z .calls) e) (subst (λ (v : Result). accepted v ≡ true) (sym a) refl) (inr s)
       go (quit s a i e) f = clash refl (subst (λ (z : Client). isIdle (z .hand) ≡ false) e b)
-      go (took p b' o s rd fit e v) f = on (sym (ap (λ (z : Client). z .calls) e ∙ turn-turned (K .s) c (w .client c) p .calls)) (f (fit .busy))
+      go (took p b' o s rd fit e v) f = on (sym (ap (λ (z : Client). z .calls) e ∙ turn-turned (K .s) c (cli K xs c) p .calls)) (f (fit .busy))
 
   -- ---- a write that was shown
 

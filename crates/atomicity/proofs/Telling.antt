@@ -3,7 +3,7 @@
 use mathlib.Core.Path.{_≡_, sym, ap, _∙_, subst}
 use mathlib.Core.Bool.{Bool, true, false, cond, _&&_}
 use mathlib.Core.List.{List, _∷_}
-use mathlib.Core.Option.{Option, some}
+use mathlib.Core.Option.{some}
 use mathlib.Core.Logic.{_⊎_, inl, inr}
 use Prim.Native.Nat.{ℕ, _≤_}
 use native.Mathlib.Nat.{le-refl}
@@ -11,26 +11,27 @@ use native.Mathlib.Omega.{arith}
 use lib.Dec.{ltb, eqb}
 use borrow.Author.Tests.{ltb-false}
 use Rattle.protocol.specs.declared.Stamp.{Stamp}
-use Rattle.protocol.specs.Values.{Candidate, Share, Write, Held, below, blankCandidate, blankStamp, isSome}
+use Rattle.protocol.specs.Values.{Candidate, Share, Write, Held, below, blankCandidate, blankStamp}
 use Rattle.protocol.specs.Packet.{Body, Packet}
 use Rattle.protocol.specs.Packet.{clock, store, complete, collect, filter, repair}
 use Rattle.protocol.specs.Memory.{held}
-use Rattle.protocol.specs.Server.{Server, hasDigest, raise, valid, byHistory, act}
+use Rattle.protocol.specs.Server.{Server, raise, valid, act}
 use Rattle.protocol.specs.Client.{Hand, idle, clocking, storing, completing, collecting, filtering, repairing, stampIn, codeIn, candidateIn, heldIn, higher, checks, request}
 use Rattle.protocol.proofs.Answers.{at-cond}
 use Rattle.atomicity.specs.Lists.{Ever, In}
 use Rattle.atomicity.specs.Steps.{System, Stamped, judged}
-use Rattle.atomicity.proofs.Util.{clash, and-intro, or-left, or-right, ever-map, rise}
-use Rattle.atomicity.proofs.Stamps.{le-trans, num-le, same-is}
-use Rattle.atomicity.proofs.Model.{now, acts, marks, vouched, tagged, isValid, bestOf, shareFor}
-use Rattle.atomicity.proofs.Setup.{Setup, Steps, StepOf, Fair, lat, hist, hand}
+use Rattle.atomicity.proofs.Util.{clash, and-intro, or-right, ever-map, rise}
+use Rattle.atomicity.proofs.Stamps.{le-trans, num-le}
+use Rattle.atomicity.proofs.Model.{acts, marks, vouched, tagged, isValid, bestOf, shareFor}
+use Rattle.atomicity.proofs.Setup.{Setup, Steps, StepOf, Fair, lat, hist, hand, srv}
 use Rattle.atomicity.proofs.Positions.{since, from}
 use Rattle.atomicity.proofs.Marks.{mark-num, mark-checks}
 use Rattle.atomicity.proofs.Rising.{by-stamp}
-use Rattle.atomicity.proofs.Servers.{held-some, is-some, raise-ge, best-view, best-max, store-held}
+use Rattle.atomicity.proofs.Servers.{held-some, raise-ge, best-view, best-max}
 use Rattle.atomicity.proofs.Histories.{history}
 use Rattle.atomicity.proofs.Genuine.{Judging, Genuine, genuine, genuine-up, latest-known}
-use Rattle.atomicity.proofs.Heard.{lat-since, held-from, marks-from, Heard}
+use Rattle.atomicity.proofs.Covers.{Covers, covers-stored, not-lower}
+use Rattle.atomicity.proofs.Heard.{lat-since, covers-from, marks-from, Heard}
 use Rattle.atomicity.proofs.States.{Piece, piece-up, Sift, Coll, Says, says-up}
 use Rattle.cluster.proofs.Tests.{untrue}
 
@@ -45,8 +46,8 @@ module _ (K : Setup) where
     pub ask : Packet
     pub asked : ask .body ≡ q
     pub judging : Judging K y ys j ask
-    pub says : x ≡ acts (K .s) j (now (K .s) ys .server j) q .reply
-    pub after : now (K .s) (y ∷ ys) .server j ≡ acts (K .s) j (now (K .s) ys .server j) q .server
+    pub says : x ≡ acts (K .s) j (srv K ys j) q .reply
+    pub after : srv K (y ∷ ys) j ≡ acts (K .s) j (srv K ys j) q .server
     pub old : Fair K ys
     pub from-is : from (K .s) c ys ≡ from (K .s) c xs
     pub since-is : since (K .s) c ys ≡ since (K .s) c xs
@@ -59,29 +60,14 @@ module _ (K : Setup) where
         ask = t .ask;
         asked = q;
         judging = record { prem = t .prem; by = t .by; got = t .got; fine = t .fine };
-        says = t .says ∙ ap (λ (z : Body). acts (K .s) j (now (K .s) ys .server j) z .reply) q;
-        after = t .after ∙ ap (λ (z : Body). acts (K .s) j (now (K .s) ys .server j) z .server) q;
+        says = t .says ∙ ap (λ (z : Body). acts (K .s) j (srv K ys j) z .reply) q;
+        after = t .after ∙ ap (λ (z : Body). acts (K .s) j (srv K ys j) z .server) q;
         old = t .old;
         from-is = t .from-is;
         since-is = t .since-is;
       }
 
-  -- ---- what a history vouches for
-
-  pub vouches : (ys : Steps K) → Fair K ys → (j : ℕ) (d : Candidate) (m : Stamped) → In m (marks (K .s) ys) → m .stamp ≡ d .stamp →
-      m .nonce ≡ d .nonce →
-      isSome (held (d .stamp) (hist K ys j)) ≡ true → isValid (K .s) j (now (K .s) ys .server j) d ≡ true
-  unfolding valid byHistory
-  vouches ys fair j d m i a n h =
-      let f = is-some (held (d .stamp) (hist K ys j)) h in
-      let e = held-some (d .stamp) (f .0) (hist K ys j) (f .1) in
-      let o = history K ys fair j (e .0) (e .1) in
-      let k : o .0 .stamp ≡ m .stamp = sym (ap (λ (z : Write). z .stamp) (o .2)) ∙ e .2 ∙ sym a in
-      let eq : o .0 ≡ m = by-stamp (K .s) ys (o .0) m (o .1) i k in
-      let nd : f .0 .nonceDigest ≡ K .s .P .digest (d .nonce) = sym (ap (λ (z : Share). z .nonceDigest) (e .3))
-      ∙ ap (λ (z : Write). z .share .nonceDigest) (o .2) ∙ ap (λ (z : Stamped). K .s .P .digest (z .nonce)) eq ∙ ap (K .s .P .digest) n in
-      or-left _ _ (subst (λ (z : Option Share). hasDigest (K .s .P .digest (d .nonce)) z ≡ true) (sym (f .1))
-      (same-is (f .0 .nonceDigest) (K .s .P .digest (d .nonce)) nd))
+  -- ---- what a history holds
 
   -- a share under the stamp of a shown write
   pub piece-of : (ys : Steps K) → Fair K ys → (j : ℕ) (d : Candidate) → Genuine K ys d → (f : Share) → held (d .stamp) (hist K ys j) ≡ some f →
@@ -110,7 +96,7 @@ module _ (K : Setup) where
       Sift K (y ∷ ys) (from (K .s) c xs) j cs (heldIn x)
   unfolding act valid
   sifted c j xs cs x y ys t =
-      let v = now (K .s) ys .server j in
+      let v = srv K ys j in
       let b = bestOf (K .s) j v (blankCandidate (K .s .config)) cs in
       let rq : heldIn x ≡ record { stamp = b .stamp; share = held (b .stamp) (hist K ys j) } = ap heldIn (t .says) in
       let sq : heldIn x .stamp ≡ b .stamp = ap (λ (h : Held). h .stamp) rq in
@@ -121,17 +107,16 @@ module _ (K : Setup) where
         tags = λ d i e. subst (λ (z : Server). below (z .latest .stamp) (d .stamp) ≡ false) (sym (t .after))
             (le-trans (d .stamp) (b .stamp) (raise b v .latest .stamp) (best-max (K .s) j v (blankCandidate (K .s .config)) cs d i (tag-valid d e))
             (raise-ge b v));
-        stands = λ d i h m k a n. subst (λ (z : Stamp). below z (d .stamp) ≡ false) (sym sq)
-            (best-max (K .s) j v (blankCandidate (K .s .config)) cs d i
-            (vouches ys (t .old) j d m (marks-from K c ys m (subst (λ (l : Steps K). In m (marks (K .s) l)) (sym (t .from-is)) k)) a n
-            (held-from K c ys j (d .stamp) (subst (λ (l : Steps K). isSome (held (d .stamp) (hist K l j)) ≡ true) (sym (t .from-is)) h))));
+        stands = λ d i h m k a n. subst (λ (z : Body). below (heldIn z .stamp) (d .stamp) ≡ false) (sym (t .says))
+            (not-lower K ys (t .old) j d m (marks-from K c ys m (subst (λ (l : Steps K). In m (marks (K .s) l)) (sym (t .from-is)) k)) a n
+            (covers-from K c ys j (d .stamp) (subst (λ (l : Steps K). Covers K l j (d .stamp) ≡ true) (sym (t .from-is)) h)) cs i);
       }
     where
-      tag-valid : (d : Candidate) → tagged (K .s) j d ≡ true → isValid (K .s) j (now (K .s) ys .server j) d ≡ true
-      tag-valid d e = or-right (vouched (K .s) j (now (K .s) ys .server j) d) (tagged (K .s) j d) e
+      tag-valid : (d : Candidate) → tagged (K .s) j d ≡ true → isValid (K .s) j (srv K ys j) d ≡ true
+      tag-valid d e = or-right (vouched (K .s) j (srv K ys j) d) (tagged (K .s) j d) e
 
       go : (b : Candidate) (f : Share) → held (b .stamp) (hist K ys j) ≡ some f → (b ≡ blankCandidate (K .s .config))
-          ⊎ (In b cs × (isValid (K .s) j (now (K .s) ys .server j) b ≡ true)) → Piece K (y ∷ ys) j (b .stamp) f
+          ⊎ (In b cs × (isValid (K .s) j (srv K ys j) b ≡ true)) → Piece K (y ∷ ys) j (b .stamp) f
       go b f h (inl e) = absurd (no-blank ys (t .old) j f (subst (λ (z : Candidate). held (z .stamp) (hist K ys j) ≡ some f) e h))
       go b f h (inr v) = piece-up K j (b .stamp) f y ys (piece-of ys (t .old) j b
           (genuine K y ys (t .old) j (t .ask) (t .judging) b (subst (λ (z : Body). In b (judged z)) (sym (t .asked)) (v .0)) (v .1)) f h)
@@ -145,8 +130,8 @@ module _ (K : Setup) where
       subst (λ (a : Stamp). lat K (since (K .s) c xs) j .number ≤ higher (K .s .P) (K .s .writers) k a) (sym (ap stampIn (t .says)))
       (go low (latest-known K ys (t .old) j))
     where
-      go : lat K (since (K .s) c xs) j .number ≤ lat K ys j .number → (now (K .s) ys .server j .latest ≡ blankCandidate (K .s .config))
-          ⊎ Genuine K ys (now (K .s) ys .server j .latest) →
+      go : lat K (since (K .s) c xs) j .number ≤ lat K ys j .number → (srv K ys j .latest ≡ blankCandidate (K .s .config))
+          ⊎ Genuine K ys (srv K ys j .latest) →
           lat K (since (K .s) c xs) j .number ≤ higher (K .s .P) (K .s .writers) k (lat K ys j)
       go low (inl e) = omega (arith, low, ap (λ (z : Candidate). z .stamp .number) e)
       go low (inr g) = omega (
@@ -158,15 +143,14 @@ module _ (K : Setup) where
       )
 
   stored : (c j : ℕ) (xs : Steps K) (w : Write) (x : Body) (y : StepOf K) (ys : Steps K) → At c j xs (store w) x y ys → eqb (codeIn x) 11 ≡ false →
-      isSome (held (w .stamp) (hist K (y ∷ ys) j)) ≡ true
-  stored c j xs w x y ys t k = subst (λ (z : Server). isSome (held (w .stamp) (z .history)) ≡ true) (sym (t .after))
-      (store-held (K .s) j (now (K .s) ys .server j) w (subst (λ (z : Body). eqb (codeIn z) 11 ≡ false) (t .says) k))
+      Covers K (y ∷ ys) j (w .stamp) ≡ true
+  stored c j xs w x y ys t k = covers-stored K j w y ys (t .after) (subst (λ (z : Body). eqb (codeIn z) 11 ≡ false) (t .says) k)
 
   done-high : (c j : ℕ) (xs : Steps K) (d : Candidate) (x : Body) (y : StepOf K) (ys : Steps K) → At c j xs (complete d) x y ys →
       below (lat K (y ∷ ys) j) (d .stamp) ≡ false
   unfolding act
   done-high c j xs d x y ys t = subst (λ (z : Server). below (z .latest .stamp) (d .stamp) ≡ false) (sym (t .after))
-      (raise-ge d (now (K .s) ys .server j))
+      (raise-ge d (srv K ys j))
 
   collected : (c j : ℕ) (xs : Steps K) (x : Body) (y : StepOf K) (ys : Steps K) → At c j xs collect x y ys →
       Coll K (y ∷ ys) (since (K .s) c xs) j (candidateIn (K .s .config) x)
@@ -177,8 +161,8 @@ module _ (K : Setup) where
         real = go (latest-known K ys (t .old) j);
       })
     where
-      go : (now (K .s) ys .server j .latest ≡ blankCandidate (K .s .config)) ⊎ Genuine K ys (now (K .s) ys .server j .latest) →
-          (now (K .s) ys .server j .latest ≡ blankCandidate (K .s .config)) ⊎ Genuine K (y ∷ ys) (now (K .s) ys .server j .latest)
+      go : (srv K ys j .latest ≡ blankCandidate (K .s .config)) ⊎ Genuine K ys (srv K ys j .latest) →
+          (srv K ys j .latest ≡ blankCandidate (K .s .config)) ⊎ Genuine K (y ∷ ys) (srv K ys j .latest)
       go (inl e) = inl e
       go (inr g) = inr (genuine-up K _ y ys g)
 
@@ -186,8 +170,8 @@ module _ (K : Setup) where
       tagged (K .s) j d ≡ true → below (lat K (y ∷ ys) j) (d .stamp) ≡ false
   unfolding act valid
   repaired c j xs d x y ys t e = subst (λ (z : Server). below (z .latest .stamp) (d .stamp) ≡ false) (sym (t .after))
-      (subst (λ (b : Bool). below ((cond b (raise d (now (K .s) ys .server j)) (now (K .s) ys .server j)) .latest .stamp) (d .stamp) ≡ false)
-      (sym (or-right (vouched (K .s) j (now (K .s) ys .server j) d) (tagged (K .s) j d) e)) (raise-ge d (now (K .s) ys .server j)))
+      (subst (λ (b : Bool). below ((cond b (raise d (srv K ys j)) (srv K ys j)) .latest .stamp) (d .stamp) ≡ false)
+      (sym (or-right (vouched (K .s) j (srv K ys j) d) (tagged (K .s) j d) e)) (raise-ge d (srv K ys j)))
 
   pub says : (c : ℕ) (xs : Steps K) (j : ℕ) (x : Body) (h : Hand) → hand K xs c ≡ h → Ever (Heard K c j xs x) xs →
       Says K xs (since (K .s) c xs) (from (K .s) c xs) j x h

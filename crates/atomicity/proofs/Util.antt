@@ -60,6 +60,11 @@ pub or-right : (a b : Bool) → b ≡ true → (a || b) ≡ true
 or-right true b e = refl
 or-right false b e = e
 
+-- what a liar need not pass
+pub or-given : (h a : Bool) → (not h || a) ≡ true → h ≡ true → a ≡ true
+or-given true a e k = e
+or-given false a e k = clash k refl
+
 pub no-some : {A : Type 0} {a : A} → none ≡ some a → ⊥
 no-some e = absurd (let z : _≡_ {A = ℕ} 0 1 = cc in omega arith)
 

@@ -13,7 +13,9 @@ use Rattle.cluster.proofs.Tests.{inside, passes, refused-is}
 use Rattle.protocol.specs.declared.Call.{Call}
 use Rattle.protocol.specs.Client.{badFaults, writeRefusal, readRefusal}
 use Rattle.protocol.specs.View.{keptSize, nonceAt, candidatesAt, candidateSlot}
-use Rattle.protocol.specs.ClientBytes.{beginWrite, beginRead, inHand, put, fresh}
+use Rattle.protocol.specs.ClientBytes.{inHand, put, fresh, beginWrite, beginRead}
+use Rattle.client.specs.Rounds.{writeByRounds, readByRounds}
+use Rattle.client.proofs.StepsSame.{same-write, same-read}
 use Rattle.client.specs.Core.{coreWrite, coreRead, notBegun}
 
 module _ (t client : ℕ) (c : Call) (kept : List ℕ) where
@@ -25,12 +27,12 @@ module _ (t client : ℕ) (c : Call) (kept : List ℕ) where
     unfolding coreWrite
     write-short h = rw (ne-eqb (length kept) keptSize h)
 
-    pub write-refused : length kept ≡ keptSize → (n : ℕ) → n ≡ no → (n ≡ 0 → ⊥)
+    pub write-refused : length (c .tally .marks) ≡ mostServers → length kept ≡ keptSize → (n : ℕ) → n ≡ no → (n ≡ 0 → ⊥)
         → coreWrite t client c kept content nonce ≡ record { result = record { number = n; count = 0 }; call = c; kept = kept }
-    unfolding coreWrite beginWrite
-    write-refused h n e ne = rw (eq-eqb (length kept) keptSize h, refused-is no _ _ (λ z. ne (e ∙ z)), e)
+    unfolding coreWrite writeByRounds
+    write-refused w h n e ne = rw (eq-eqb (length kept) keptSize h, same-write t client c w kept content nonce, refused-is no _ _ (λ z. ne (e ∙ z)), e)
 
-    pub write-begins : length kept ≡ keptSize → no ≡ 0
+    pub write-begins : length (c .tally .marks) ≡ mostServers → length kept ≡ keptSize → no ≡ 0
         → coreWrite t client c kept content nonce
         ≡ record {
           result = record { number = 0; count = 0 };
@@ -44,8 +46,8 @@ module _ (t client : ℕ) (c : Call) (kept : List ℕ) where
           };
           kept = put (put kept 0 content) nonceAt nonce;
         }
-    unfolding coreWrite beginWrite
-    write-begins h z = rw (eq-eqb (length kept) keptSize h, z)
+    unfolding coreWrite writeByRounds
+    write-begins w h z = rw (eq-eqb (length kept) keptSize h, same-write t client c w kept content nonce, z)
 
     pub write-fits : no ≡ 0 → (length content ≤ topLength) × (c .number < topNumber)
     unfolding writeRefusal
@@ -64,12 +66,12 @@ module _ (t client : ℕ) (c : Call) (kept : List ℕ) where
   unfolding coreRead
   read-short h = rw (ne-eqb (length kept) keptSize h)
 
-  pub read-refused : length kept ≡ keptSize → (n : ℕ) → n ≡ none → (n ≡ 0 → ⊥)
+  pub read-refused : length (c .tally .marks) ≡ mostServers → length kept ≡ keptSize → (n : ℕ) → n ≡ none → (n ≡ 0 → ⊥)
       → coreRead t client c kept ≡ record { result = record { number = n; count = 0 }; call = c; kept = kept }
-  unfolding coreRead beginRead
-  read-refused h n e ne = rw (eq-eqb (length kept) keptSize h, refused-is none _ _ (λ z. ne (e ∙ z)), e)
+  unfolding coreRead readByRounds
+  read-refused w h n e ne = rw (eq-eqb (length kept) keptSize h, same-read t client c w kept, refused-is none _ _ (λ z. ne (e ∙ z)), e)
 
-  pub read-begins : length kept ≡ keptSize → none ≡ 0
+  pub read-begins : length (c .tally .marks) ≡ mostServers → length kept ≡ keptSize → none ≡ 0
       → coreRead t client c kept
       ≡ record {
         result = record { number = 0; count = 0 };
@@ -83,8 +85,8 @@ module _ (t client : ℕ) (c : Call) (kept : List ℕ) where
         };
         kept = put kept candidatesAt (replicate (candidateSlot * mostServers) 0);
       }
-  unfolding coreRead beginRead
-  read-begins h z = rw (eq-eqb (length kept) keptSize h, z)
+  unfolding coreRead readByRounds
+  read-begins w h z = rw (eq-eqb (length kept) keptSize h, same-read t client c w kept, z)
 
   pub read-fits : none ≡ 0 → c .number < topNumber
   unfolding readRefusal

@@ -21,7 +21,8 @@ use Rattle.protocol.specs.Packet.{Body, BodyOk, clockReply, printBody, headSize
 use Rattle.protocol.specs.Primitives.{real}
 use Rattle.protocol.specs.Client.{higher}
 use Rattle.protocol.specs.View.{stampAt}
-use Rattle.protocol.specs.ClientBytes.{keyOf, clientTake, fresh, noted, ends}
+use Rattle.protocol.specs.ClientBytes.{keyOf, fresh}
+use Rattle.client.specs.Rounds.{takeByRounds, noted, ends}
 use Rattle.protocol.proofs.Bodies.{decode-ok}
 use Rattle.protocol.proofs.Packets.{stamp-length, any-stamp-tag}
 use Rattle.wire.specs.Places.{bodyAt, packetAt}
@@ -51,36 +52,36 @@ module _ (t client : ℕ) (c : Call) (reply : List ℕ) (h : Head) (y : Ready t 
     Takes a k = TakesAs t client writers keys c kept reply output a k output
 
     abbrev over : Bool
-    over = ends (shelf t) c && leb topNumber top
+    over = ends (shelf t) c (h .server) && leb topNumber top
 
     refused-as : (p q : Bool) → over ≡ p → ltb (length output) contentRoom ≡ q → (n : ℕ) → n ≡ cond p 14 (cond q 15 0) → (n ≡ 0 → ⊥)
         → Takes (record { taken = taken.Refused n; call = c }) kept
-    unfolding clientTake
+    unfolding takeByRounds
     refused-as true q f g n e ne =
-        let w = and-both (ends (shelf t) c) (leb topNumber top) f in
+        let w = and-both (ends (shelf t) c (h .server)) (leb topNumber top) f in
         rw e (sym (clock-too-high t client writers (keyOf keys) c kept output reply h y clock (w .0) (w .1)))
     refused-as false true f g n e ne = rw e (sym (clock-short t client writers (keyOf keys) c kept output reply h y clock f g))
     refused-as false false f g n e ne = absurd (ne e)
 
-    pub clock-refused : (n room high : ℕ) → n ≡ firstOf (refuse 14 (ends (shelf t) c && leb topNumber high) ∷ refuse 15 (ltb room contentRoom) ∷ []) →
+    pub clock-refused : (n room high : ℕ) → n ≡ firstOf (refuse 14 (ends (shelf t) c (h .server) && leb topNumber high) ∷ refuse 15 (ltb room contentRoom) ∷ []) →
         (n ≡ 0 → ⊥)
         → high ≡ top → length output ≡ room → Takes (record { taken = taken.Refused n; call = c }) kept
     clock-refused n room high e ne m l = refused-as over (ltb (length output) contentRoom) refl refl n (rw (m, ← l) at e) ne
 
-    module _ (n room high : ℕ) (e : n ≡ firstOf (refuse 14 (ends (shelf t) c && leb topNumber high) ∷ refuse 15 (ltb room contentRoom) ∷ []))
+    module _ (n room high : ℕ) (e : n ≡ firstOf (refuse 14 (ends (shelf t) c (h .server) && leb topNumber high) ∷ refuse 15 (ltb room contentRoom) ∷ []))
         (z : n ≡ 0) (m : high ≡ top) where
       fine : over ≡ false
-      fine = rw m at (passes (ends (shelf t) c && leb topNumber high) 13 (cond (ltb room contentRoom) 15 0) (sym e ∙ z) .0)
+      fine = rw m at (passes (ends (shelf t) c (h .server) && leb topNumber high) 13 (cond (ltb room contentRoom) 15 0) (sym e ∙ z) .0)
 
       wide : length output ≡ room → contentRoom ≤ length output
       wide l =
-          let p = passes (ends (shelf t) c && leb topNumber high) 13 (cond (ltb room contentRoom) 15 0) (sym e ∙ z) .1 in
+          let p = passes (ends (shelf t) c (h .server) && leb topNumber high) 13 (cond (ltb room contentRoom) 15 0) (sym e ∙ z) .1 in
           rw l (ltb-false room contentRoom (passes (ltb room contentRoom) 14 0 p .0))
 
-      pub clock-below : ends (shelf t) c ≡ true → high < topNumber
+      pub clock-below : ends (shelf t) c (h .server) ≡ true → high < topNumber
       clock-below q = rw m (leb-false topNumber top (rw q at fine))
 
-      pub clock-noted : length output ≡ room → ends (shelf t) c ≡ false
+      pub clock-noted : length output ≡ room → ends (shelf t) c (h .server) ≡ false
           → Takes (record {
             taken = taken.More;
             call = record {
@@ -88,24 +89,23 @@ module _ (t client : ℕ) (c : Call) (reply : List ℕ) (h : Head) (y : Ready t 
               last = c .last;
               high = high;
               length = c .length;
-              tally = noted
-                  (c .tally) (h .server);
+              tally = noted (shelf t) (c .tally) (h .server);
             };
           }) kept
-      unfolding clientTake
+      unfolding takeByRounds
       clock-noted l q = rw m (sym (clock-goes t client writers (keyOf keys) c kept output reply h y clock fine (wide l) q))
 
-      pub clock-ended : length output ≡ room → ends (shelf t) c ≡ true
+      pub clock-ended : length output ≡ room → ends (shelf t) c (h .server) ≡ true
           → Takes (record {
             taken = taken.More;
             call = record {
               number = c .number;
               last = suc high;
-              high = high;
+              high = c .high;
               length = c .length;
               tally = fresh 2;
             };
           })
           (writeMade t client writers keys c kept (suc high))
-      unfolding clientTake
+      unfolding takeByRounds
       clock-ended l q = rw m (sym (clock-ends t client writers (keyOf keys) c kept output reply h y clock fine (wide l) q))

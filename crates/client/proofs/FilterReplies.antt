@@ -19,7 +19,8 @@ use Rattle.protocol.specs.Primitives.{real}
 use Rattle.protocol.specs.Rules.{ByServer, gather, live, choice}
 use Rattle.protocol.specs.Client.{heldIn}
 use Rattle.protocol.specs.View.{heldAt, keptSize, marked, candidatesIn, repliesIn, repliesAt, replySlot}
-use Rattle.protocol.specs.ClientBytes.{Took, took, takeOn, takeFilter, judgeIn, put, noted, ends, withTally, keyOf, clientTake}
+use Rattle.protocol.specs.ClientBytes.{Took, put, keyOf}
+use Rattle.client.specs.Rounds.{took, takeOn, takeFilter, judgeIn, noted, ends, withTally, takeByRounds}
 use Rattle.protocol.proofs.Bodies.{decode-ok}
 use Rattle.protocol.proofs.HandOk.{held-room}
 use Rattle.protocol.proofs.Puts.{put-length}
@@ -37,12 +38,12 @@ use Rattle.client.proofs.Judged.{judged-by}
 on-filter : (t client : ℕ) (writers : List ℕ) (keys : ByServer (List ℕ)) (c : Call) (kept output : List ℕ) (h : Head) (x : Body) (d : List ℕ) → heldF
     (shelf t) .print (heldIn x) ≡ d
     → takeOn real (shelf t) client writers keys c kept output 5 (some (record { head = h; body = x }))
-    ≡ (let c' = withTally c (noted (c .tally) (h .server)) in
+    ≡ (let c' = withTally c (noted (shelf t) (c .tally) (h .server)) in
     let k = put kept (repliesAt + replySlot * (h .server - 1)) d in
     let m = marked (c' .tally .marks) in
     let g = repliesIn (shelf t) (c' .tally .marks) k in
     let cs = gather (candidatesIn (shelf t) k) (shelf t .servers) in
-    cond (ends (shelf t) c) (judgeIn real (shelf t) client writers keys c kept output c' m g k (live real (shelf t) m g cs)
+    cond (ends (shelf t) c (h .server)) (judgeIn real (shelf t) client writers keys c kept output c' m g k (live real (shelf t) m g cs)
     (choice real (shelf t) m g cs))
     (record { answer = taken.More; call = c'; kept = k; output = output }))
 unfolding takeOn takeFilter took
@@ -77,7 +78,7 @@ module _ (t client : ℕ) (c : Call) (reply : List ℕ) (h : Head) (y : Ready t 
 
     module _ (writers : List ℕ) (keys : List (List ℕ)) (kept output : List ℕ) (room : contentRoom ≤ length output) where
       abbrev then : Call
-      then = withTally c (noted (c .tally) (h .server))
+      then = withTally c (noted (shelf t) (c .tally) (h .server))
 
       abbrev after : List ℕ
       after = put kept (repliesAt + replySlot * (h .server - 1)) body
@@ -95,20 +96,20 @@ module _ (t client : ℕ) (c : Call) (reply : List ℕ) (h : Head) (y : Ready t 
       judged = judgeIn real (shelf t) client writers (keyOf keys) c kept output then m g after (live real (shelf t) m g cs)
           (choice real (shelf t) m g cs)
 
-      took-filter : clientTake real t client writers keys c kept reply output
-          ≡ cond (ends (shelf t) c) judged (record { answer = taken.More; call = then; kept = after; output = output })
-      unfolding clientTake
+      took-filter : takeByRounds real t client writers keys c kept reply output
+          ≡ cond (ends (shelf t) c (h .server)) judged (record { answer = taken.More; call = then; kept = after; output = output })
+      unfolding takeByRounds
       took-filter =
           on-round t client writers (keyOf keys) c kept output reply h y room 5 e (λ z. (let q : ⊥ = omega (arith, z) in q))
           ∙ (ap (λ (x : Body). takeOn real (shelf t) client writers (keyOf keys) c kept output 5 (some (record { head = h; body = x }))) body-is
           ∙ on-filter t client writers (keyOf keys) c kept output h (filterReply (heldAt (shelf t) body)) body held-print)
 
-      pub filter-more : ends (shelf t) c ≡ false
-          → record { answer = taken.More; call = then; kept = after; output = output } ≡ clientTake real t client writers keys c kept reply output
+      pub filter-more : ends (shelf t) c (h .server) ≡ false
+          → record { answer = taken.More; call = then; kept = after; output = output } ≡ takeByRounds real t client writers keys c kept reply output
       filter-more f = sym (took-filter ∙ rw f)
 
-      pub filter-ends : length kept ≡ keptSize → Bytes after → ends (shelf t) c ≡ true
-          → judgedIn t then after output ≡ clientTake real t client writers keys c kept reply output
+      pub filter-ends : length kept ≡ keptSize → Bytes after → ends (shelf t) c (h .server) ≡ true
+          → judgedIn t then after output ≡ takeByRounds real t client writers keys c kept reply output
       unfolding judgedIn
       filter-ends l bs f =
           let r = ready-faults t client c reply h y in
@@ -117,6 +118,6 @@ module _ (t client : ℕ) (c : Call) (reply : List ℕ) (h : Head) (y : Ready t 
           l in
           let z : length {A = ℕ} (replicate contentRoom 0) ≡ contentRoom = length-replicate {A = ℕ} contentRoom 0 in
           judged-by t (then .tally .marks) after (record { low = r .0; high = r .1; size = n }) bs client writers (keyOf keys) c
-          (noted (c .tally) (h .server)) kept output
+          (noted (shelf t) (c .tally) (h .server)) kept output
           (replicate contentRoom 0) (omega (arith, z))
           ∙ sym (took-filter ∙ rw f)

@@ -19,14 +19,14 @@ use Rattle.protocol.specs.declared.Tally.{Tally}
 use Rattle.protocol.specs.declared.Taken.the-variants as taken
 use Rattle.protocol.specs.Format.{Bytes, via, seq, run}
 use Rattle.protocol.specs.Values.{Candidate, Share, Held, stampSize, nonceSize, digestSize, digestsSize, tagsSize}
-use Rattle.protocol.specs.Packet.{candidateF}
+use Rattle.protocol.specs.Packet.{candidateF, shareSize}
 use Rattle.protocol.specs.Primitives.{real}
 use Rattle.protocol.specs.Rules.{ByServer, gather, live, choice, leader, proven, parts, restoredBy, tagsIn}
 use Rattle.protocol.specs.ServerBytes.{over}
 use Rattle.protocol.specs.View.{part, candidateAt, shareOfSize, keptSize, marked, candidatesIn, repliesIn, replySlotOf, candidatesAt, candidateSlot, repliesAt, replySlot}
-use Rattle.protocol.specs.ClientBytes.{took, delivers, foundIn, judgeIn, fresh, withTally}
+use Rattle.protocol.specs.ClientBytes.{fresh}
+use Rattle.client.specs.Rounds.{took, delivers, foundIn, judgeIn, withTally}
 use Rattle.protocol.proofs.Primitive.{real-lengths}
-use Rattle.protocol.specs.Packet.{shareSize}
 use Rattle.protocol.proofs.Room.{shelf-fits}
 use Rattle.decide.specs.declared.Decision.{Decision}
 use Rattle.decide.specs.declared.Decision.the-variants as decisions

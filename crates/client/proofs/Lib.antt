@@ -1,7 +1,10 @@
+pub mod TakeSame
+pub mod StepsSame
 pub mod Tests
 pub mod Begins
 pub mod StampBytes
 pub mod TakeRefusals
+pub mod Tallies
 pub mod RoundSteps
 pub mod TakenReplies
 pub mod MadeBytes

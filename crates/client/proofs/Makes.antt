@@ -13,7 +13,9 @@ use Rattle.cluster.proofs.Tests.{inside, passes, refused-is}
 use Rattle.protocol.specs.declared.Call.{Call}
 use Rattle.protocol.specs.Packet.{encode}
 use Rattle.protocol.specs.Client.{badFaults, makeRefusal, made}
-use Rattle.protocol.specs.ClientBytes.{clientMake, inHand}
+use Rattle.protocol.specs.ClientBytes.{inHand, clientMake}
+use Rattle.client.specs.Rounds.{makeByRounds}
+use Rattle.client.proofs.StepsSame.{same-make}
 use Rattle.protocol.specs.View.{keptSize, view}
 use Rattle.client.specs.Core.{coreMake}
 use Rattle.client.specs.Steps.{wholePacket}
@@ -33,13 +35,13 @@ module _ (t client b : ℕ) (c : Call) (kept output : List ℕ) where
 
   pub make-refused : length kept ≡ keptSize → (n : ℕ) → n ≡ no → (n ≡ 0 → ⊥)
       → coreMake t client b c kept output ≡ record { result = record { number = n; count = 0 }; output = output }
-  unfolding clientMake
-  make-refused h n e ne = core-make h ∙ rw (refused-is no _ _ (λ z. ne (e ∙ z)), e)
+  unfolding makeByRounds
+  make-refused h n e ne = core-make h ∙ same-make t client c b kept output ∙ rw (refused-is no _ _ (λ z. ne (e ∙ z)), e)
 
   pub make-goes : length kept ≡ keptSize → no ≡ 0 → coreMake t client b c kept output ≡ wholePacket (encode (made t client (view (shelf t) c kept) b))
       output
-  unfolding clientMake wholePacket
-  make-goes h z = core-make h ∙ rw z
+  unfolding makeByRounds wholePacket
+  make-goes h z = core-make h ∙ same-make t client c b kept output ∙ rw z
 
   pub make-fits : no ≡ 0 → (1 ≤ t) × ((t ≤ topFaults) × ((client ≤ topClient) × ((1 ≤ b) ×
       ((b ≤ shelf t .servers) × ((packetRoom ≤ length output) × (inHand c ≡ true))))))

@@ -19,7 +19,8 @@ use Rattle.protocol.specs.Rules.{ByServer}
 use Rattle.protocol.specs.Client.{candidateIn, codeIn}
 use Rattle.protocol.specs.ServerBytes.{over}
 use Rattle.protocol.specs.View.{chosenOf, contentOf, candidatesAt, candidateSlot}
-use Rattle.protocol.specs.ClientBytes.{Took, took, takeOn, takeStore, takeComplete, takeCollect, takeRepair, delivers, put, fresh, noted, ends, withTally}
+use Rattle.protocol.specs.ClientBytes.{Took, put, fresh}
+use Rattle.client.specs.Rounds.{took, takeOn, takeStore, takeComplete, takeCollect, takeRepair, delivers, counted, noted, ends, withTally}
 
 module _ (t client : ℕ) (writers : List ℕ) (keys : ByServer (List ℕ)) (c : Call) (kept output : List ℕ) (h : Head) (x : Body) where
   abbrev on : ℕ → Took
@@ -33,35 +34,37 @@ module _ (t client : ℕ) (writers : List ℕ) (keys : ByServer (List ℕ)) (c :
   ending a o = record { answer = a; call = withTally c (fresh 0); kept = kept; output = o }
 
   abbrev marks : Tally
-  marks = noted (c .tally) (h .server)
+  marks = noted (shelf t) (c .tally) (h .server)
 
   goes : (e : Bool) (y z : Tally) (k : List ℕ) → cond e (going (withTally c y) k) (going (withTally c z) k) ≡ going (withTally c (cond e y z)) k
   goes true y z k = refl
   goes false y z k = refl
 
-  stored : (b e : Bool) (y z : Tally) → cond b (going c kept) (cond e (going (withTally c y) kept) (going (withTally c z) kept)) ≡ going
-      (cond b c (withTally c (cond e y z))) kept
-  stored true e y z = refl
-  stored false e y z = goes e y z kept
+  stored : (b e : Bool) (x y z : Tally)
+      → cond b (going (withTally c x) kept) (cond e (going (withTally c y) kept) (going (withTally c z) kept))
+      ≡ going (withTally c (cond b x (cond e y z))) kept
+  stored true e x y z = refl
+  stored false e x y z = goes e y z kept
 
-  pub on-store : on 2 ≡ going (cond (eqb (codeIn x) 11) c (withTally c (cond (ends (shelf t) c) (fresh 3) marks))) kept
+  pub on-store : on 2
+      ≡ going (withTally c (cond (eqb (codeIn x) 11) (counted (shelf t) (c .tally)) (cond (ends (shelf t) c (h .server)) (fresh 3) marks))) kept
   unfolding takeOn takeStore took
-  on-store = stored (eqb (codeIn x) 11) (ends (shelf t) c) (fresh 3) marks
+  on-store = stored (eqb (codeIn x) 11) (ends (shelf t) c (h .server)) (counted (shelf t) (c .tally)) (fresh 3) marks
 
-  pub on-complete : on 3 ≡ cond (ends (shelf t) c) (ending (taken.Written (chosenOf (shelf t) kept .stamp .number)) output)
+  pub on-complete : on 3 ≡ cond (ends (shelf t) c (h .server)) (ending (taken.Written (chosenOf (shelf t) kept .stamp .number)) output)
       (going (withTally c marks) kept)
   unfolding takeOn takeComplete took
   on-complete = refl
 
   pub on-collect : on 4
-      ≡ going (withTally c (cond (ends (shelf t) c) (fresh 5) marks)) (put kept (candidatesAt + candidateSlot * (h .server - 1))
+      ≡ going (withTally c (cond (ends (shelf t) c (h .server)) (fresh 5) marks)) (put kept (candidatesAt + candidateSlot * (h .server - 1))
       (anyCandidateF (shelf t) .print (candidateIn (shelf t) x)))
   unfolding takeOn takeCollect took
-  on-collect = goes (ends (shelf t) c) (fresh 5) marks (put kept (candidatesAt + candidateSlot * (h .server - 1))
+  on-collect = goes (ends (shelf t) c (h .server)) (fresh 5) marks (put kept (candidatesAt + candidateSlot * (h .server - 1))
       (anyCandidateF (shelf t) .print (candidateIn (shelf t) x)))
 
   pub on-repair : on 6
-      ≡ cond (ends (shelf t) c) (ending (taken.Read (chosenOf (shelf t) kept .stamp .number) (length (contentOf c kept)))
+      ≡ cond (ends (shelf t) c (h .server)) (ending (taken.Read (chosenOf (shelf t) kept .stamp .number) (length (contentOf c kept)))
       (over (contentOf c kept) output)) (going (withTally c marks) kept)
   unfolding takeOn takeRepair delivers took
   on-repair = refl

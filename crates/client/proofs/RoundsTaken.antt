@@ -16,7 +16,8 @@ use Rattle.protocol.specs.Format.{Bytes}
 use Rattle.protocol.specs.Packet.{headSize}
 use Rattle.protocol.specs.ServerBytes.{over}
 use Rattle.protocol.specs.View.{chosenOf, contentOf, candidatesAt, candidateSlot}
-use Rattle.protocol.specs.ClientBytes.{Took, clientTake, keyOf, put, fresh, noted, ends, withTally}
+use Rattle.protocol.specs.ClientBytes.{Took, keyOf, put, fresh}
+use Rattle.client.specs.Rounds.{takeByRounds, counted, noted, ends, withTally}
 use Rattle.client.specs.declared.answers.Answered.{Answered}
 use Rattle.client.specs.Steps.{Ready, TakesAs}
 use Rattle.client.proofs.TakenReplies.{took-store, took-complete, took-collect, took-repair}
@@ -39,51 +40,51 @@ module _ (t client : ℕ) (writers : List ℕ) (keys : List (List ℕ)) (c : Cal
   abbrev stored : ℕ → Answered
   stored code = record {
     taken = taken.More;
-    call = cond (eqb code 11) c (withTally c
-        (cond (ends (shelf t) c) (fresh 3) (noted (c .tally) (h .server))));
+    call = withTally c (cond (eqb code 11) (counted (shelf t) (c .tally))
+        (cond (ends (shelf t) c (h .server)) (fresh 3) (noted (shelf t) (c .tally) (h .server))));
   }
 
   abbrev noting : Answered
-  noting = record { taken = taken.More; call = withTally c (noted (c .tally) (h .server)) }
+  noting = record { taken = taken.More; call = withTally c (noted (shelf t) (c .tally) (h .server)) }
 
   abbrev wrote : Answered
   wrote = record { taken = taken.Written (chosenOf (shelf t) kept .stamp .number); call = withTally c (fresh 0) }
 
   abbrev collected : Answered
-  collected = record { taken = taken.More; call = withTally c (cond (ends (shelf t) c) (fresh 5) (noted (c .tally) (h .server))) }
+  collected = record { taken = taken.More; call = withTally c (cond (ends (shelf t) c (h .server)) (fresh 5) (noted (shelf t) (c .tally) (h .server))) }
 
   abbrev delivered : Answered
   delivered = record { taken = taken.Read (chosenOf (shelf t) kept .stamp .number) (length (contentOf c kept)); call = withTally c (fresh 0) }
 
   pub takes-store : c .tally .round ≡ 2 → (code : ℕ) → code ≡ getD reply headSize 0 → (a : Answered) → a ≡ stored code → TakesAs t client writers keys
       c kept reply output a kept output
-  unfolding clientTake
+  unfolding takeByRounds
   takes-store e code d a r =
       ap (λ (z : Answered). whole z kept output) (r ∙ ap stored (d ∙ sym (getD-drop headSize reply 0 0)))
       ∙ sym (took-store t client writers (keyOf keys) c kept output reply h y room e)
 
-  pub takes-complete : c .tally .round ≡ 3 → (a : Answered) → a ≡ cond (ends (shelf t) c) wrote noting → TakesAs t client writers keys c kept reply
+  pub takes-complete : c .tally .round ≡ 3 → (a : Answered) → a ≡ cond (ends (shelf t) c (h .server)) wrote noting → TakesAs t client writers keys c kept reply
       output a kept output
-  unfolding clientTake
+  unfolding takeByRounds
   takes-complete e a r =
       ap (λ (z : Answered). whole z kept output) r
-      ∙ (by-test (ends (shelf t) c) wrote noting kept output ∙ sym (took-complete t client writers (keyOf keys) c kept output reply h y room e))
+      ∙ (by-test (ends (shelf t) c (h .server)) wrote noting kept output ∙ sym (took-complete t client writers (keyOf keys) c kept output reply h y room e))
 
   pub takes-collect : c .tally .round ≡ 4 → Bytes reply → (body : List ℕ) → body ≡ drop headSize reply → (a : Answered) → a ≡ collected
       → (kept' : List ℕ) → kept' ≡ put kept (candidatesAt + candidateSlot * (h .server - 1)) body → TakesAs t client writers keys c kept reply output
       a kept' output
-  unfolding clientTake
+  unfolding takeByRounds
   takes-collect e bs body d a r kept' k =
       ap (λ (z : Answered). whole z kept' output) r
       ∙ (ap (λ (z : List ℕ). whole collected z output) (k ∙ ap (put kept (candidatesAt + candidateSlot * (h .server - 1))) d)
       ∙ sym (took-collect t client writers (keyOf keys) c kept output reply h y room bs e))
 
-  pub takes-repair : c .tally .round ≡ 6 → (a : Answered) → a ≡ cond (ends (shelf t) c) delivered noting
-      → (output' : List ℕ) → output' ≡ cond (ends (shelf t) c) (over (contentOf c kept) output) output → TakesAs t client writers keys c kept reply
+  pub takes-repair : c .tally .round ≡ 6 → (a : Answered) → a ≡ cond (ends (shelf t) c (h .server)) delivered noting
+      → (output' : List ℕ) → output' ≡ cond (ends (shelf t) c (h .server)) (over (contentOf c kept) output) output → TakesAs t client writers keys c kept reply
       output a kept output'
-  unfolding clientTake
+  unfolding takeByRounds
   takes-repair e a r output' o =
       ap (λ (z : Answered). whole z kept output') r
-      ∙ (ap (λ (z : List ℕ). whole (cond (ends (shelf t) c) delivered noting) kept z) o
-      ∙ (by-both (ends (shelf t) c) delivered noting kept (over (contentOf c kept) output) output
+      ∙ (ap (λ (z : List ℕ). whole (cond (ends (shelf t) c (h .server)) delivered noting) kept z) o
+      ∙ (by-both (ends (shelf t) c (h .server)) delivered noting kept (over (contentOf c kept) output) output
       ∙ sym (took-repair t client writers (keyOf keys) c kept output reply h y room e)))

@@ -20,7 +20,8 @@ use Rattle.protocol.specs.Primitives.{real}
 use Rattle.protocol.specs.Rules.{ByServer}
 use Rattle.protocol.specs.Client.{badFaults, takeRefusal, higher, stampIn}
 use Rattle.protocol.specs.View.{marked}
-use Rattle.protocol.specs.ClientBytes.{Took, took, takeIn, takeOn, highIn, awaited, ends}
+use Rattle.protocol.specs.ClientBytes.{Took, awaited}
+use Rattle.client.specs.Rounds.{took, takeIn, takeOn, highIn, ends}
 use Rattle.client.specs.Steps.{foreign, other, replyRefusal}
 
 -- a number that the first three tests give is the whole list's, and with 0 the rest of the list decides
@@ -112,6 +113,6 @@ module _ (t client : ℕ) (writers : List ℕ) (keys : ByServer (List ℕ)) (c :
   unfolding highIn
   never-high ne = rw (ne-eqb (c .tally .round) 1 ne)
 
-  pub clock-high : c .tally .round ≡ 1 → high (h .server) x ≡ (ends (shelf t) c && leb topNumber (higher real writers (c .high) (stampIn x)))
+  pub clock-high : c .tally .round ≡ 1 → high (h .server) x ≡ (ends (shelf t) c (h .server) && leb topNumber (higher real writers (c .high) (stampIn x)))
   unfolding highIn
   clock-high e = rw (eq-eqb (c .tally .round) 1 e)

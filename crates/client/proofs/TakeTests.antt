@@ -10,7 +10,7 @@ use lib.Dec.{eqb}
 use lib.ListN.{length, drop}
 use borrow.Author.Tests.{eq-eqb, ne-eqb, lt-ltb}
 use Rattle.cluster.specs.Config.{shelf}
-use Rattle.cluster.specs.Ranges.{within, topFaults, topClient, contentRoom}
+use Rattle.cluster.specs.Ranges.{mostServers, within, topFaults, topClient, contentRoom}
 use Rattle.cluster.proofs.Tests.{inside, refused-is}
 use Rattle.protocol.specs.declared.Call.{Call}
 use Rattle.protocol.specs.declared.Head.{Head}
@@ -21,7 +21,9 @@ use Rattle.protocol.specs.Primitives.{real}
 use Rattle.protocol.specs.Rules.{ByServer}
 use Rattle.protocol.specs.Client.{badFaults, takeRefusal}
 use Rattle.protocol.specs.View.{marked, keptSize, candidateAt, candidateSlot}
-use Rattle.protocol.specs.ClientBytes.{Took, took, takeIn, highIn, clientTake, keyOf, awaited, inHand}
+use Rattle.protocol.specs.ClientBytes.{Took, keyOf, inHand, awaited, clientTake}
+use Rattle.client.specs.Rounds.{took, takeIn, highIn, takeByRounds}
+use Rattle.client.proofs.TakeSame.{same-take}
 use Rattle.protocol.proofs.Whole.{kind-decoded}
 use Rattle.protocol.proofs.Bodies.{decode-ok}
 use Rattle.protocol.proofs.Packets.{any-candidate-length}
@@ -64,7 +66,7 @@ in-hand false n e = absurd (true≢false e)
 
 module _ (t client : ℕ) (writers : List ℕ) (keys : List (List ℕ)) (c : Call) (kept reply output : List ℕ) where
   abbrev whole : Took
-  whole = clientTake real t client writers keys c kept reply output
+  whole = takeByRounds real t client writers keys c kept reply output
 
   abbrev number : Option Packet → ℕ
   number o = takeRefusal (shelf t) client o (c .number) (awaited c) (marked (c .tally .marks))
@@ -77,23 +79,23 @@ module _ (t client : ℕ) (writers : List ℕ) (keys : List (List ℕ)) (c : Cal
   refuses o n q ne = refused-is (number o) _ _ (λ z. ne (sym q ∙ z)) ∙ ap (refusedWith c kept output) q
 
   pub take-faults : badFaults (shelf t) ≡ true → whole ≡ refusedWith c kept output 3
-  unfolding clientTake
+  unfolding takeByRounds
   take-faults e = refuses (decode reply) 3 (number-faults t client _ _ _ _ _ (decode reply) e) (λ z. (let q : ⊥ = omega (arith, z) in q))
 
   pub take-reader : badFaults (shelf t) ≡ false → not (within 1 topClient client) ≡ true → whole ≡ refusedWith c kept output 5
-  unfolding clientTake
+  unfolding takeByRounds
   take-reader f e = refuses (decode reply) 5 (number-reader t client _ _ _ _ _ (decode reply) f e) (λ z. (let q : ⊥ = omega (arith, z) in q))
 
   module _ (faults : badFaults (shelf t) ≡ false) (reader : not (within 1 topClient client) ≡ false) where
     pub take-broken : decode reply ≡ none → whole ≡ refusedWith c kept output 7
-    unfolding clientTake
+    unfolding takeByRounds
     take-broken e =
         ap (takeIn real (shelf t) client writers (keyOf keys) c kept output) e ∙ refuses none 7 (number-broken t client _ _ _ _ _ faults reader)
         (λ z. (let q : ⊥ = omega (arith, z) in q))
 
     pub take-head : (h : Head) → decode reply ≡ some (packetAt h reply) → (n : ℕ) → n ≡ replyRefusal t client c h → (n ≡ 0 → ⊥) → whole ≡ refusedWith
         c kept output n
-    unfolding clientTake packetAt
+    unfolding takeByRounds packetAt
     take-head h e n r ne =
         ap (takeIn real (shelf t) client writers (keyOf keys) c kept output) e
         ∙ head-refused t client writers (keyOf keys) c kept output h (packetAt h reply .body) faults reader (kind-decoded reply (packetAt h reply) e)
@@ -105,22 +107,22 @@ module _ (t client : ℕ) (writers : List ℕ) (keys : List (List ℕ)) (c : Cal
   unfolding coreTake
   take-length h = rw (ne-eqb (length kept) keptSize h)
 
-  pub core-take : length kept ≡ keptSize → coreTake t client writers keys c kept reply output ≡ whole
+  pub core-take : length kept ≡ keptSize → coreTake t client writers keys c kept reply output ≡ clientTake real t client writers keys c kept reply output
   unfolding coreTake
   core-take h = rw (eq-eqb (length kept) keptSize h)
 
   -- what take answers, the relation gives
-  pub taken-in : (a : Answered) (kept' output' : List ℕ) → length kept ≡ keptSize → TakesAs t client writers keys c kept reply output a kept' output'
+  pub taken-in : (a : Answered) (kept' output' : List ℕ) → length (c .tally .marks) ≡ mostServers → length kept ≡ keptSize → TakesAs t client writers keys c kept reply output a kept' output'
       → (a ≡ answered (coreTake t client writers keys c kept reply output))
       × ((kept' ≡ coreTake t client writers keys c kept reply output .kept) × (output' ≡ coreTake t client writers keys c kept reply output .output))
-  taken-in a kept' output' h e =
-      let q = e ∙ sym (core-take h) in
+  taken-in a kept' output' w h e =
+      let q = e ∙ sym (core-take h ∙ same-take real t client writers keys c kept reply output h w) in
       (ap answered q, (ap (λ (k : Took). k .kept) q, ap (λ (k : Took). k .output) q))
 
   pub core-answers : length kept ≡ keptSize → (a : Answered) (kept' output' : List ℕ)
       → (a ≡ answered (coreTake t client writers keys c kept reply output))
       × ((kept' ≡ coreTake t client writers keys c kept reply output .kept) × (output' ≡ coreTake t client writers keys c kept reply output .output))
-      → (a ≡ answered whole) × ((kept' ≡ whole .kept) × (output' ≡ whole .output))
+      → let one = clientTake real t client writers keys c kept reply output in (a ≡ answered one) × ((kept' ≡ one .kept) × (output' ≡ one .output))
   core-answers h a kept' output' (e, (k, o)) =
       let q = core-take h in
       (e ∙ ap answered q, (k ∙ ap (λ (x : Took). x .kept) q, o ∙ ap (λ (x : Took). x .output) q))
@@ -133,7 +135,7 @@ module _ (t client : ℕ) (writers : List ℕ) (keys : List (List ℕ)) (c : Cal
   -- past clock a short output is the last test
   pub round-short : (h : Head) → Ready t client c reply h → (c .tally .round ≡ 1 → ⊥) → length output < contentRoom → whole ≡ refusedWith c kept
       output 15
-  unfolding clientTake packetAt
+  unfolding takeByRounds packetAt
   round-short h y ne l =
       ap (takeIn real (shelf t) client writers (keyOf keys) c kept output) (y .decoded)
       ∙ short-refused t client writers (keyOf keys) c kept output h (packetAt h reply .body) (y .faults) (y .reader)

@@ -22,7 +22,8 @@ use Rattle.protocol.specs.Rules.{ByServer}
 use Rattle.protocol.specs.Client.{higher, candidateMade, sharesMade}
 use Rattle.protocol.specs.ServerBytes.{over}
 use Rattle.protocol.specs.View.{stampAt, candidateAt, chosenOf, contentOf, nonceOf, chosenAt, candidatesAt, candidateSlot}
-use Rattle.protocol.specs.ClientBytes.{Took, highIn, takeIn, takeOn, takeClock, took, putShares, awaited, inHand, put, fresh, noted, ends, withTally}
+use Rattle.protocol.specs.ClientBytes.{Took, putShares, inHand, put, fresh, awaited}
+use Rattle.client.specs.Rounds.{highIn, takeIn, takeOn, takeClock, took, counted, noted, ends, withTally}
 use Rattle.protocol.proofs.Whole.{kind-decoded}
 use Rattle.wire.specs.Places.{bodyAt, packetAt}
 use Rattle.wire.proofs.Laws.{body-bytes}
@@ -72,7 +73,8 @@ module _ (t client : ℕ) (writers : List ℕ) (keys : ByServer (List ℕ)) (c :
   pub took-store : contentRoom ≤ length output → c .tally .round ≡ 2
       → all ≡ record {
         answer = taken.More;
-        call = cond (eqb (getD (drop headSize reply) 0 0) 11) c (withTally c (cond (ends (shelf t) c) (fresh 3) (noted (c .tally) (h .server))));
+        call = withTally c (cond (eqb (getD (drop headSize reply) 0 0) 11) (counted (shelf t) (c .tally))
+            (cond (ends (shelf t) c (h .server)) (fresh 3) (noted (shelf t) (c .tally) (h .server))));
         kept = kept;
         output = output;
       }
@@ -84,20 +86,20 @@ module _ (t client : ℕ) (writers : List ℕ) (keys : ByServer (List ℕ)) (c :
       ∙ on-store t client writers keys c kept output h (storeReply (getD (drop headSize reply) 0 0))
 
   pub took-complete : contentRoom ≤ length output → c .tally .round ≡ 3
-      → all ≡ cond (ends (shelf t) c) (record {
+      → all ≡ cond (ends (shelf t) c (h .server)) (record {
         answer = taken.Written (chosenOf (shelf t) kept .stamp .number);
         call = withTally c (fresh 0);
         kept =
             kept;
         output = output;
       })
-      (record { answer = taken.More; call = withTally c (noted (c .tally) (h .server)); kept = kept; output = output })
+      (record { answer = taken.More; call = withTally c (noted (shelf t) (c .tally) (h .server)); kept = kept; output = output })
   took-complete room e = on-round room 3 e (λ z. (let q : ⊥ = omega (arith, z) in q)) ∙ on-complete t client writers keys c kept output h body
 
   pub took-collect : contentRoom ≤ length output → Bytes reply → c .tally .round ≡ 4
       → all ≡ record {
         answer = taken.More;
-        call = withTally c (cond (ends (shelf t) c) (fresh 5) (noted (c .tally) (h .server)));
+        call = withTally c (cond (ends (shelf t) c (h .server)) (fresh 5) (noted (shelf t) (c .tally) (h .server)));
         kept = put kept (candidatesAt + candidateSlot * (h .server - 1)) (drop headSize reply);
         output = output;
       }
@@ -111,20 +113,20 @@ module _ (t client : ℕ) (writers : List ℕ) (keys : ByServer (List ℕ)) (c :
       ∙ (on-collect t client writers keys c kept output h (collectReply (candidateAt (shelf t) d))
       ∙ ap (λ (z : List ℕ). record {
         answer = taken.More;
-        call = withTally c (cond (ends (shelf t) c) (fresh 5) (noted (c .tally) (h .server)));
+        call = withTally c (cond (ends (shelf t) c (h .server)) (fresh 5) (noted (shelf t) (c .tally) (h .server)));
         kept = put kept (candidatesAt + candidateSlot * (h .server - 1)) z;
         output = output;
       }) p))
 
   pub took-repair : contentRoom ≤ length output → c .tally .round ≡ 6
-      → all ≡ cond (ends (shelf t) c)
+      → all ≡ cond (ends (shelf t) c (h .server))
       (record {
         answer = taken.Read (chosenOf (shelf t) kept .stamp .number) (length (contentOf c kept));
         call = withTally c (fresh 0);
         kept = kept;
         output = over (contentOf c kept) output;
       })
-      (record { answer = taken.More; call = withTally c (noted (c .tally) (h .server)); kept = kept; output = output })
+      (record { answer = taken.More; call = withTally c (noted (shelf t) (c .tally) (h .server)); kept = kept; output = output })
   took-repair room e = on-round room 6 e (λ z. (let q : ⊥ = omega (arith, z) in q)) ∙ on-repair t client writers keys c kept output h body
 
   -- ---- clock
@@ -152,12 +154,12 @@ module _ (t client : ℕ) (writers : List ℕ) (keys : ByServer (List ℕ)) (c :
     abbrev refusedWith : ℕ → Took
     refusedWith n = record { answer = taken.Refused n; call = c; kept = kept; output = output }
 
-    pub clock-too-high : ends (shelf t) c ≡ true → leb topNumber highest ≡ true → all ≡ refusedWith 14
+    pub clock-too-high : ends (shelf t) c (h .server) ≡ true → leb topNumber highest ≡ true → all ≡ refusedWith 14
     clock-too-high e l = as-clock ∙ high-refused t client writers keys c kept output h (clockReply stamp) (y .faults) (y .reader) clockKind
         (y .awaited)
         (clock-high t client writers keys c kept output h (clockReply stamp) clock ∙ rw (e, l))
 
-    module _ (fine : (ends (shelf t) c && leb topNumber highest) ≡ false) where
+    module _ (fine : (ends (shelf t) c (h .server) && leb topNumber highest) ≡ false) where
       not-high : highIn real (shelf t) client writers keys c kept output (h .server) (clockReply stamp) ≡ false
       not-high = clock-high t client writers keys c kept output h (clockReply stamp) clock ∙ fine
 
@@ -165,14 +167,14 @@ module _ (t client : ℕ) (writers : List ℕ) (keys : ByServer (List ℕ)) (c :
       clock-short l = as-clock ∙ short-refused t client writers keys c kept output h (clockReply stamp) (y .faults) (y .reader) clockKind (y .awaited)
           not-high l
 
-      clock-on : contentRoom ≤ length output → all ≡ takeClock real (shelf t) client writers keys c kept output (ends (shelf t) c) (h .server)
+      clock-on : contentRoom ≤ length output → all ≡ takeClock real (shelf t) client writers keys c kept output (ends (shelf t) c (h .server)) (h .server)
           (clockReply stamp)
       unfolding takeOn
       clock-on room = as-clock ∙ (taken-reply t client writers keys c kept output h (clockReply stamp) (y .faults) (y .reader) clockKind (y .awaited)
           not-high (le-ltb (length output) contentRoom room)
           ∙ ap (λ (k : ℕ). takeOn real (shelf t) client writers keys c kept output k (some packet)) clock)
 
-      pub clock-goes : contentRoom ≤ length output → ends (shelf t) c ≡ false
+      pub clock-goes : contentRoom ≤ length output → ends (shelf t) c (h .server) ≡ false
           → all ≡ record {
             answer = taken.More;
             call = record {
@@ -180,8 +182,7 @@ module _ (t client : ℕ) (writers : List ℕ) (keys : ByServer (List ℕ)) (c :
               last = c .last;
               high = highest;
               length = c .length;
-              tally = noted
-                  (c .tally) (h .server);
+              tally = noted (shelf t) (c .tally) (h .server);
             };
             kept = kept;
             output = output;
@@ -189,10 +190,10 @@ module _ (t client : ℕ) (writers : List ℕ) (keys : ByServer (List ℕ)) (c :
       unfolding takeClock took
       clock-goes room e = clock-on room ∙ rw e
 
-      pub clock-ends : contentRoom ≤ length output → ends (shelf t) c ≡ true
+      pub clock-ends : contentRoom ≤ length output → ends (shelf t) c (h .server) ≡ true
           → all ≡ record {
             answer = taken.More;
-            call = record { number = c .number; last = suc highest; high = highest; length = c .length; tally = fresh 2 };
+            call = record { number = c .number; last = suc highest; high = c .high; length = c .length; tally = fresh 2 };
             kept = putShares (shelf t) (put kept chosenAt (candidateF (shelf t) .print
                 (candidateMade real (shelf t) client writers keys (nonceOf kept) (suc highest))))
                 (sharesMade real (shelf t) client writers keys (contentOf c kept) (nonceOf kept) (suc highest)) (shelf t .servers);

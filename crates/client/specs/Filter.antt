@@ -11,7 +11,8 @@ use Rattle.protocol.specs.declared.Taken.the-variants as taken
 use Rattle.protocol.specs.Values.{stampSize, nonceSize, digestSize, digestsSize, tagsSize}
 use Rattle.protocol.specs.ServerBytes.{over}
 use Rattle.protocol.specs.View.{part, chosenAt, candidatesAt, candidateSlot, candidatesIn, repliesAt, replySlot}
-use Rattle.protocol.specs.ClientBytes.{Took, put, fresh, withTally}
+use Rattle.protocol.specs.ClientBytes.{Took, put, fresh}
+use Rattle.client.specs.Rounds.{withTally}
 use Rattle.decide.specs.declared.Decision.{Decision}
 use Rattle.decide.specs.declared.Decision.the-variants as decisions
 use Rattle.decide.specs.Decided.{Decided, sameTags, decided}

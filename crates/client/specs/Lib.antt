@@ -1,3 +1,4 @@
+pub mod Rounds
 pub mod Core
 pub mod Answers
 pub mod Steps

@@ -7,7 +7,8 @@ ghost use Rattle.cluster.specs.Config.{shelf};
 ghost use Rattle.cluster.specs.Ranges.{topFaults, topLength, contentRoom, mostServers};
 ghost use Rattle.protocol.specs.declared.Taken.the-variants as taken;
 ghost use Rattle.protocol.specs.ServerBytes.{over};
-ghost use Rattle.protocol.specs.ClientBytes.{fresh, noted, ends, withTally};
+ghost use Rattle.protocol.specs.ClientBytes.{fresh};
+ghost use Rattle.client.specs.Rounds.{noted, ends, withTally};
 use crate::kept;
 use crate::rounds;
 
@@ -38,11 +39,11 @@ pub(crate) fn more(call: protocol::Call) -> Answered
 }
 
 // The server has replied, and the round goes on.
-pub(crate) fn note_reply(call: protocol::Call, server: usize) -> protocol::Call
-    requires { ⌜ (1 ≤ server) × (server ≤ mostServers) ⌝ }
-    ensures { λ r. ⌜ r ≡ withTally call (noted (call .tally) server) ⌝ }
+pub(crate) fn note_reply(call: protocol::Call, t: usize, server: usize) -> protocol::Call
+    requires { ⌜ (t ≤ topFaults) × ((1 ≤ server) × (server ≤ mostServers)) ⌝ }
+    ensures { λ r. ⌜ r ≡ withTally call (noted (shelf t) (call .tally) server) ⌝ }
 {
-    rounds::with_tally(call, rounds::note(call.tally, server))
+    rounds::with_tally(call, rounds::note(t, call.tally, server))
 }
 
 // The next round, or the end of the call: 0.
@@ -55,12 +56,13 @@ pub(crate) fn enter(call: protocol::Call, round: u8) -> protocol::Call
 // The reply is noted, or it ends its round and the next one begins.
 pub(crate) fn step(call: protocol::Call, t: usize, server: usize, next: u8) -> Answered
     requires { ⌜ (t ≤ topFaults) × ((1 ≤ server) × (server ≤ mostServers)) ⌝ }
-    ensures { λ r. ⌜ r ≡ record { taken = taken.More; call = withTally call (cond (ends (shelf t) call) (fresh next) (noted (call .tally) server)) } ⌝ }
+    ensures { λ r. ⌜ r ≡ record { taken = taken.More; call = withTally call (cond (ends (shelf t) call server) (fresh next) (noted (shelf t) (call .tally) server)) } ⌝ }
 {
-    if rounds::is_last(t, call) {
+    let noted = note_reply(call, t, server);
+    if rounds::is_full(t, noted.tally) {
         return more(enter(call, next));
     }
-    more(note_reply(call, server))
+    more(noted)
 }
 
 // A content is delivered, and the call has ended.

@@ -5,7 +5,7 @@ ghost use lib.ListN.{length, replicate};
 ghost use Rattle.cluster.specs.Ranges.{topLength, topNumber, mostServers};
 ghost use Rattle.protocol.specs.Values.{nonceSize};
 ghost use Rattle.protocol.specs.View.{nonceAt, candidatesAt, candidateSlot, keptSize};
-ghost use Rattle.protocol.specs.ClientBytes.{beginWrite, beginRead, giveUp, put, fresh};
+ghost use Rattle.protocol.specs.ClientBytes.{put, fresh, beginWrite, beginRead, giveUp};
 ghost use Rattle.client.specs.Answers.{stopped, started};
 ghost use Rattle.client.specs.Core.{coreWrite, coreRead};
 use crate::kept;

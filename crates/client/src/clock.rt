@@ -5,12 +5,11 @@ ghost use mathlib.Core.Bool.{_&&_};
 ghost use Prim.Native.Nat.{ℕ, suc, _≤_, _<_};
 ghost use lib.Dec.{leb, ltb};
 ghost use lib.ListN.{length};
-ghost use Rattle.cluster.specs.Config.{shelf};
 ghost use Rattle.cluster.specs.Refusals.{refuse, firstOf};
 ghost use Rattle.cluster.specs.Ranges.{topFaults, topClient, topNumber, contentRoom};
 ghost use Rattle.protocol.specs.declared.Taken.the-variants as taken;
 ghost use Rattle.protocol.specs.View.{keptSize};
-ghost use Rattle.protocol.specs.ClientBytes.{fresh, ends};
+ghost use Rattle.protocol.specs.ClientBytes.{fresh};
 ghost use Rattle.client.specs.Steps.{writeMade, Ready, TakesAs};
 use crate::answers;
 use crate::answers::Answered;
@@ -30,35 +29,33 @@ fn with_high(call: protocol::Call, high: u32) -> protocol::Call
 // Store begins, with the number of the stamp made.
 fn enter_store(call: protocol::Call, high: u32) -> protocol::Call
     requires { ⌜ high < topNumber ⌝ }
-    ensures { λ r. ⌜ r ≡ record { number = call .number; last = suc high; high = high; length = call .length; tally = fresh 2 } ⌝ }
+    ensures { λ r. ⌜ r ≡ record { number = call .number; last = suc high; high = call .high; length = call .length; tally = fresh 2 } ⌝ }
 {
     let tally = rounds::fresh_tally(2);
     protocol::Call {
         number: call.number,
         last: high + 1,
-        high: high,
+        high: call.high,
         length: call.length,
         tally: tally,
     }
 }
 
-// The stamp's number would pass its top at the reply that ends the round.
-fn is_over(t: usize, call: protocol::Call, high: u32) -> bool
-    requires { ⌜ t ≤ topFaults ⌝ }
-    ensures { λ r. ⌜ r ≡ (ends (shelf t) call && leb topNumber high) ⌝ }
+// The stamp's number would pass its top, and the reply ends the round.
+fn is_over(ends: bool, high: u32) -> bool
+    ensures { λ r. ⌜ r ≡ (ends && leb topNumber high) ⌝ }
 {
-    if rounds::is_last(t, call) {
+    if ends {
         return cluster::TOP_NUMBER <= high as usize;
     }
     false
 }
 
 // 14, 15.
-fn clock_refusal(t: usize, call: protocol::Call, high: u32, room: usize) -> u8
-    requires { ⌜ t ≤ topFaults ⌝ }
-    ensures { λ r. ⌜ r ≡ firstOf (refuse 14 (ends (shelf t) call && leb topNumber high) ∷ refuse 15 (ltb room contentRoom) ∷ []) ⌝ }
+fn clock_refusal(ends: bool, high: u32, room: usize) -> u8
+    ensures { λ r. ⌜ r ≡ firstOf (refuse 14 (ends && leb topNumber high) ∷ refuse 15 (ltb room contentRoom) ∷ []) ⌝ }
 {
-    if is_over(t, call, high) {
+    if is_over(ends, high) {
         return 14;
     }
     if room < cluster::CONTENT_ROOM {
@@ -78,7 +75,7 @@ fn end_clock(
     high: u32,
 ) -> Answered
     requires { ⌜ (1 ≤ t) × ((t ≤ topFaults) × ((client ≤ topClient) × ((length (now kept) ≡ keptSize) × (high < topNumber)))) ⌝ }
-    ensures { λ r. ⌜ (r ≡ record { taken = taken.More; call = record { number = call .number; last = suc high; high = high; length = call .length; tally = fresh 2 } })
+    ensures { λ r. ⌜ (r ≡ record { taken = taken.More; call = record { number = call .number; last = suc high; high = call .high; length = call .length; tally = fresh 2 } })
         × (now (kept .exit) ≡ writeMade t client (now (writers .entry)) (now (keys .entry)) call (now (kept .entry)) (suc high)) ⌝ }
 {
     prepare::prepare(kept, call, t, client, writers, keys, high + 1);
@@ -102,12 +99,14 @@ pub(crate) fn take_clock(
 {
     let body = wire::bytes::rest(reply, wire::sizes::HEAD);
     let high = stamps::higher(writers, call.high, body);
-    let noted = answers::note_reply(with_high(call, high), head.server as usize);
-    let n = clock_refusal(t, call, high, room);
+    let server = head.server as usize;
+    let noted = answers::note_reply(with_high(call, high), t, server);
+    let ends = rounds::is_full(t, noted.tally);
+    let n = clock_refusal(ends, high, room);
     if n != 0 {
         return answers::refused(n, call);
     }
-    if rounds::is_last(t, call) {
+    if ends {
         return end_clock(call, kept, t, client, writers, keys, high);
     }
     answers::more(noted)

@@ -158,8 +158,8 @@ pub(crate) fn take_filter(
 {
     let server = head.server as usize;
     put_reply(kept, server, wire::bytes::rest(reply, wire::sizes::HEAD));
-    let noted = answers::note_reply(call, server);
-    if rounds::is_last(t, call) {
+    let noted = answers::note_reply(call, t, server);
+    if rounds::is_full(t, noted.tally) {
         return judge(noted, kept, t, out);
     }
     answers::more(noted)

@@ -8,7 +8,8 @@ ghost use Rattle.cluster.specs.Ranges.{topFaults, mostServers, contentRoom};
 ghost use Rattle.protocol.specs.declared.Taken.the-variants as taken;
 ghost use Rattle.protocol.specs.ServerBytes.{over};
 ghost use Rattle.protocol.specs.View.{keptSize, candidatesAt, candidateSlot, chosenOf, contentOf};
-ghost use Rattle.protocol.specs.ClientBytes.{put, fresh, noted, ends, withTally};
+ghost use Rattle.protocol.specs.ClientBytes.{put, fresh};
+ghost use Rattle.client.specs.Rounds.{noted, ends, withTally};
 use crate::answers;
 use crate::answers::Answered;
 use crate::kept;
@@ -23,7 +24,7 @@ pub(crate) fn take_collect(
     body: &[u8],
 ) -> Answered
     requires { ⌜ (t ≤ topFaults) × ((1 ≤ server) × ((server ≤ mostServers) × ((length (now kept) ≡ keptSize) × (length (now body) ≤ candidateSlot)))) ⌝ }
-    ensures { λ r. ⌜ (r ≡ record { taken = taken.More; call = withTally call (cond (ends (shelf t) call) (fresh 5) (noted (call .tally) server)) })
+    ensures { λ r. ⌜ (r ≡ record { taken = taken.More; call = withTally call (cond (ends (shelf t) call server) (fresh 5) (noted (shelf t) (call .tally) server)) })
         × (now (kept .exit) ≡ put (now (kept .entry)) (candidatesAt + candidateSlot * (server - 1)) (now (body .entry))) ⌝ }
 {
     kept::write_at(
@@ -43,14 +44,15 @@ pub(crate) fn take_repair(
     out: &mut [u8],
 ) -> Answered
     requires { ⌜ (t ≤ topFaults) × ((1 ≤ server) × ((server ≤ mostServers) × (contentRoom ≤ length (now out)))) ⌝ }
-    ensures { λ r. ⌜ (r ≡ cond (ends (shelf t) call)
+    ensures { λ r. ⌜ (r ≡ cond (ends (shelf t) call server)
         (record { taken = taken.Read (chosenOf (shelf t) (now (kept .entry)) .stamp .number) (length (contentOf call (now (kept .entry)))); call = withTally call (fresh 0) })
-        (record { taken = taken.More; call = withTally call (noted (call .tally) server) }))
-        × (now (out .exit) ≡ cond (ends (shelf t) call) (over (contentOf call (now (kept .entry))) (now (out .entry))) (now (out .entry))) ⌝ }
+        (record { taken = taken.More; call = withTally call (noted (shelf t) (call .tally) server) }))
+        × (now (out .exit) ≡ cond (ends (shelf t) call server) (over (contentOf call (now (kept .entry))) (now (out .entry))) (now (out .entry))) ⌝ }
 {
-    if rounds::is_last(t, call) {
+    let noted = answers::note_reply(call, t, server);
+    if rounds::is_full(t, noted.tally) {
         let number = kept::chosen_number(kept, t);
         return answers::deliver(call, number, kept::content(kept, call), out);
     }
-    answers::more(answers::note_reply(call, server))
+    answers::more(noted)
 }

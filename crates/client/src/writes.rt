@@ -7,7 +7,8 @@ ghost use Rattle.cluster.specs.Config.{shelf};
 ghost use Rattle.cluster.specs.Ranges.{topFaults, mostServers};
 ghost use Rattle.protocol.specs.declared.Taken.the-variants as taken;
 ghost use Rattle.protocol.specs.View.{chosenOf};
-ghost use Rattle.protocol.specs.ClientBytes.{fresh, noted, ends, withTally};
+ghost use Rattle.protocol.specs.ClientBytes.{fresh};
+ghost use Rattle.client.specs.Rounds.{counted, noted, ends, withTally};
 use crate::answers;
 use crate::answers::Answered;
 use crate::kept;
@@ -18,11 +19,12 @@ pub(crate) fn take_store(call: protocol::Call, t: usize, server: usize, code: u8
     requires { ⌜ (t ≤ topFaults) × ((1 ≤ server) × (server ≤ mostServers)) ⌝ }
     ensures { λ r. ⌜ r ≡ record {
       taken = taken.More;
-      call = cond (eqb code 11) call (withTally call (cond (ends (shelf t) call) (fresh 3) (noted (call .tally) server)));
+      call = withTally call (cond (eqb code 11) (counted (shelf t) (call .tally))
+          (cond (ends (shelf t) call server) (fresh 3) (noted (shelf t) (call .tally) server)));
     } ⌝ }
 {
     if code == 11 {
-        return answers::more(call);
+        return answers::more(rounds::with_tally(call, rounds::recount(t, call.tally)));
     }
     answers::step(call, t, server, 3)
 }
@@ -30,16 +32,17 @@ pub(crate) fn take_store(call: protocol::Call, t: usize, server: usize, code: u8
 // Line 108.
 pub(crate) fn take_complete(call: protocol::Call, kept: &[u8], t: usize, server: usize) -> Answered
     requires { ⌜ (t ≤ topFaults) × ((1 ≤ server) × (server ≤ mostServers)) ⌝ }
-    ensures { λ r. ⌜ r ≡ cond (ends (shelf t) call)
+    ensures { λ r. ⌜ r ≡ cond (ends (shelf t) call server)
         (record { taken = taken.Written (chosenOf (shelf t) (now (kept .entry)) .stamp .number); call = withTally call (fresh 0) })
-        (record { taken = taken.More; call = withTally call (noted (call .tally) server) }) ⌝ }
+        (record { taken = taken.More; call = withTally call (noted (shelf t) (call .tally) server) }) ⌝ }
 {
-    if rounds::is_last(t, call) {
+    let noted = answers::note_reply(call, t, server);
+    if rounds::is_full(t, noted.tally) {
         let number = kept::chosen_number(kept, t);
         return Answered {
             taken: protocol::Taken::Written(number),
             call: answers::enter(call, 0),
         };
     }
-    answers::more(answers::note_reply(call, server))
+    answers::more(noted)
 }

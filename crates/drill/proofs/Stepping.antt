@@ -14,8 +14,8 @@ use Rattle.protocol.specs.declared.Call.{Call}
 use Rattle.protocol.specs.declared.Aborted.{Aborted}
 use Rattle.protocol.specs.declared.Aborted.the-variants as aborts
 use Rattle.protocol.specs.Primitives.{real}
-use Rattle.protocol.specs.Client.{refused, writeRefusal, readRefusal, abortRefusal, accepted}
-use Rattle.protocol.specs.ClientBytes.{Begun, beginWrite, beginRead, giveUp}
+use Rattle.protocol.specs.Client.{refused, writeStep, readStep, abortStep, writeRefusal, readRefusal, abortRefusal, accepted}
+use Rattle.protocol.specs.ClientBytes.{Begun, after, begunBy, beginWrite, beginRead, giveUp}
 use Rattle.protocol.specs.Runs.{Machines, read, give-up, resultOf, abortedOut, doBytes, setMachine}
 use Rattle.drill.specs.declared.shown.Shown.{Shown}
 use Rattle.drill.specs.Steps.{drillShelf, nonceFor, writeLine, shown}
@@ -39,21 +39,21 @@ module _ (lo hi x : ℕ) {r : Bool} (e : r ≡ not (within lo hi x)) where
 module _ (t c : ℕ) (ht : (1 ≤ t) × (t ≤ topFaults)) where
   pub no-writer : (x : Call) (k content nonce : List ℕ) → within 1 topWriter c ≡ false
       → beginWrite t c x k content nonce ≡ record { result = record { number = 5; count = 0 }; call = x; kept = k }
-  unfolding beginWrite writeRefusal shelf
+  unfolding beginWrite begunBy after writeStep writeRefusal shelf
   no-writer x k content nonce h = rw (inside 1 topFaults t ht, h)
 
   pub no-size : (x : Call) (k content nonce : List ℕ) → within 1 topWriter c ≡ true → within leastLength topLength (length content) ≡ false
       → beginWrite t c x k content nonce ≡ record { result = record { number = 6; count = 0 }; call = x; kept = k }
-  unfolding beginWrite writeRefusal shelf
+  unfolding beginWrite begunBy after writeStep writeRefusal shelf
   no-size x k content nonce h e = rw (inside 1 topFaults t ht, h, e)
 
   pub no-reader : (x : Call) (k : List ℕ) → within 1 topClient c ≡ false → beginRead t c x k ≡ record
       { result = record { number = 5; count = 0 }; call = x; kept = k }
-  unfolding beginRead readRefusal shelf
+  unfolding beginRead begunBy after readStep readRefusal shelf
   no-reader x k h = rw (inside 1 topFaults t ht, h)
 
   pub no-stopper : (x : Call) → within 1 topClient c ≡ false → giveUp t c x ≡ record { answer = aborts.Refused 5; call = x }
-  unfolding giveUp abortRefusal shelf
+  unfolding giveUp after abortStep abortRefusal shelf
   no-stopper x h = rw (inside 1 topFaults t ht, h)
 
 -- ---- a write

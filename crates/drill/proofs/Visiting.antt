@@ -17,7 +17,7 @@ use Rattle.protocol.specs.declared.Taken.{Taken}
 use Rattle.protocol.specs.Primitives.{real}
 use Rattle.protocol.specs.View.{part}
 use Rattle.protocol.specs.ServerBytes.{Served, serverTake}
-use Rattle.protocol.specs.ClientBytes.{Written, Took, clientMake, clientTake, keyOf}
+use Rattle.protocol.specs.ClientBytes.{Written, Took, keyOf, clientMake, clientTake}
 use Rattle.protocol.specs.Runs.{Shelf, Machines, Done, make, serve, take-reply, takenOut, doBytes, setMachine}
 use Rattle.client.proofs.StampBytes.{key-at}
 use Rattle.drill.specs.declared.shown.Shown.{Shown}

@@ -23,6 +23,8 @@ use Rattle.protocol.specs.Server.{act, replyTo, serverRefusal}
 use Rattle.protocol.specs.ServerBytes.{Served, over, serverIn, turnedDown, accepted, onMemory, serverTake}
 use Rattle.protocol.specs.Client.{made, makeRefusal}
 use Rattle.protocol.specs.ClientBytes.{Written, inHand, clientMake}
+use Rattle.client.specs.Rounds.{makeByRounds}
+use Rattle.client.proofs.StepsSame.{same-make}
 use Rattle.protocol.specs.View.{view}
 use Rattle.embed.specs.Packing.{packed, wrongSize}
 use Rattle.embed.specs.Clients.{madeOut}
@@ -154,9 +156,9 @@ module _ (out : List ℕ) (n : ℕ) (in-out : n ≤ length out) (small : n ≤ p
   refusal-is = rw (same, length-take-le n out in-out) refl
 
   made-part : Makes (record { result = o; output = x }) (clientMake t client b c kept out)
-  unfolding clientMake
-  made-part = rw (e, refusal-is) (by-refusal (makeRefusal (shelf t) client b (inHand c) (length (take n out)))
-      (sym (ap (λ (w : Written). length (w .output)) e) ∙ keeps ∙ length-take-le n out in-out))
+  unfolding makeByRounds
+  made-part = rw (e ∙ same-make t client c b kept (take n out), same-make t client c b kept out, refusal-is) (by-refusal (makeRefusal (shelf t) client b (inHand c) (length (take n out)))
+      (sym (ap (λ (w : Written). length (w .output)) (e ∙ same-make t client c b kept (take n out))) ∙ keeps ∙ length-take-le n out in-out))
 
   pub made-count : o .count ≤ packetRoom
   made-count = omega (arith, made-part .count, small)

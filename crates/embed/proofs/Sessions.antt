@@ -15,7 +15,7 @@ use Rattle.protocol.specs.declared.Call.{Call}
 use Rattle.protocol.specs.Values.{nonceSize}
 use Rattle.protocol.specs.Primitives.{real}
 use Rattle.protocol.specs.View.{part, keptSize}
-use Rattle.protocol.specs.ClientBytes.{Begun, put, beginWrite, beginRead, giveUp, Took, clientMake, clientTake}
+use Rattle.protocol.specs.ClientBytes.{Begun, put, Took, beginWrite, beginRead, giveUp, clientMake, clientTake}
 use Rattle.wire.specs.Make.{placed}
 use Rattle.state.specs.State.{keptPlace, stateSize, callAt, callBytes}
 use Rattle.state.proofs.Laws.{state-length}

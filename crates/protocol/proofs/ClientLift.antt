@@ -14,13 +14,13 @@ use Rattle.cluster.proofs.Tests.{and-both}
 use Rattle.protocol.specs.declared.Call.{Call}
 use Rattle.protocol.specs.declared.Tally.{Tally}
 use Rattle.protocol.specs.Values.{blankCandidate, nonceSize}
-use Rattle.protocol.specs.Rules.{nobody, countTo}
+use Rattle.protocol.specs.Rules.{nobody}
 use Rattle.protocol.specs.Client.{Client, idle, clocking, collecting, begun, onto, awaits, isIdle}
 use Rattle.protocol.specs.View.{part, marked, contentOf, nonceOf, handOf, view, keptSize, nonceAt, candidateSlot, candidatesAt}
-use Rattle.protocol.specs.ClientBytes.{put, fresh, withTally, inHand, awaited}
+use Rattle.protocol.specs.ClientBytes.{put, fresh, inHand, awaited}
 use Rattle.protocol.proofs.Puts.{put-length}
 use Rattle.protocol.proofs.Places.{part-same, part-below}
-use Rattle.protocol.proofs.Marks.{marked-fresh, count-fresh}
+use Rattle.protocol.proofs.Marks.{marked-fresh}
 use Rattle.protocol.proofs.Slots.{slots-zero}
 
 -- ---- the pending round
@@ -79,11 +79,10 @@ module _ (s : Config) (c : Call) (kept : List ℕ) where
 
 -- ---- what every step on bytes leaves
 
--- the sizes, and the count is that of the marks
+-- the sizes
 pub record Sound (s : Config) (c : Call) (kept : List ℕ) : Type 0 where
   pub size : length kept ≡ keptSize
   pub width : length (c .tally .marks) ≡ mostServers
-  pub counted : c .tally .count ≡ countTo (s .servers) (marked (c .tally .marks))
 
 -- the bytes stand for the client cl
 pub record Lifted (s : Config) (cl : Client) (c : Call) (kept : List ℕ) : Type 0 where
@@ -97,7 +96,6 @@ fresh-sound s r c kept e k =
     record {
       size = k;
       width = ap (λ (y : Tally). length (y .marks)) e;
-      counted = ap (λ (y : Tally). y .count) e ∙ count-fresh (s .servers) ∙ ap (λ (y : Tally). countTo (s .servers) (marked (y .marks))) (sym e);
     }
 
 -- a content at the start is what the view reads there
@@ -147,7 +145,7 @@ module _ (s : Config) (c : Call) (kept : List ℕ) (h : Sound s c kept) where
       }
 
   -- giving up, or the end of a call
-  pub idled : Lifted s (onto (view s c kept) nobody idle) (withTally c (fresh 0)) kept
+  pub idled : Lifted s (onto (view s c kept) nobody idle) (record { number = c .number; last = c .last; high = c .high; length = c .length; tally = fresh 0 }) kept
   unfolding view handOf fresh onto
   idled =
       record {

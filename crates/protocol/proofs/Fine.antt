@@ -24,7 +24,7 @@ use Rattle.protocol.proofs.Acts.{blank-candidate}
 use Rattle.protocol.proofs.ServerLift.{body-ok}
 use Rattle.protocol.proofs.HandOk.{WriteOk, HandOk}
 use Rattle.protocol.proofs.Updates.{ClientOk, update-ok}
-use Rattle.protocol.proofs.TakeLift.{accepted, not-none, shelf-t}
+use Rattle.protocol.proofs.Accepted.{accepted, not-none, shelf-t}
 
 pub record Fine (s : Config) (c : ℕ) (cl : Client) : Type 0 where
   pub ok : ClientOk s c cl

@@ -24,12 +24,13 @@ pub mod PacketRoom
 pub mod Prepared
 pub mod Updates
 pub mod ClientLift
-pub mod Turns
-pub mod Collected
-pub mod Filtered
-pub mod TakeLift
+pub mod Accepted
 pub mod Fine
 pub mod MakeLift
+pub mod Sized
+pub mod PutMarks
+pub mod Counts
+pub mod TakeSeen
 pub mod StepLift
 pub mod RunLift
 pub mod Accounts

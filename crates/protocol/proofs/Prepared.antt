@@ -10,7 +10,7 @@ use Rattle.cluster.specs.Ranges.{topNumber, topLength}
 use Rattle.hmac.specs.Hmac.{tagSize}
 use Rattle.protocol.specs.declared.Stamp.{Stamp}
 use Rattle.protocol.specs.Format.{via, seq, run, byte, number2, number4}
-use Rattle.protocol.specs.Values.{digestSize, tagsSize}
+use Rattle.protocol.specs.Values.{digestSize, nonceSize, tagsSize}
 use Rattle.protocol.specs.Packet.{stampF, candidateF, shareF}
 use Rattle.protocol.specs.Primitives.{Primitives, Lengths, stampMessage, candidateMessage}
 use Rattle.protocol.specs.Rules.{ByServer}
@@ -31,12 +31,12 @@ module _ (P : Primitives) (law : Lengths P) (s : Config) (client : ℕ) (writers
   unfolding sharesMade
   shares-in r n k b lo hi = rw (le-leb 1 b lo, le-leb b (s .servers) hi)
 
-  module _ (r n : List ℕ) (k : ℕ) (w : WriteOk client r n) where
+  module _ (r n : List ℕ) (k : ℕ) (short : length r ≤ topLength) (nonce : length n ≡ nonceSize) where
     pub candidate-made : CandidateLengths s (candidateMade P s client writers keys n k)
     unfolding candidateMade stampOf
-    candidate-made = record { tag = law .tag writers (stampMessage k client); nonce = w .nonce; tags = tags-length _ n }
+    candidate-made = record { tag = law .tag writers (stampMessage k client); nonce = nonce; tags = tags-length _ n }
 
-    share-made : (b : ℕ) → ShareLengths s (shareMade P s client writers keys r n k b)
+    pub share-made : (b : ℕ) → ShareLengths s (shareMade P s client writers keys r n k b)
     unfolding shareMade
     share-made b =
         record {
@@ -48,18 +48,19 @@ module _ (P : Primitives) (law : Lengths P) (s : Config) (client : ℕ) (writers
 
     share-short : (b : ℕ) → shareMade P s client writers keys r n k b .size ≤ topLength
     unfolding shareMade
-    share-short b = w .high
+    share-short b = short
 
     pub shares-made : (b : ℕ) → 1 ≤ b → b ≤ s .servers → Holdable s (sharesMade P s client writers keys r n k b)
     shares-made b lo hi = subst (Holdable s) (sym (shares-in r n k b lo hi)) (record { lengths = share-made b; short = share-short b })
 
+  module _ (r n : List ℕ) (k : ℕ) (w : WriteOk client r n) where
     candidate-ok : (1 ≤ k) × (k ≤ topNumber) → candidateF s .Ok (candidateMade P s client writers keys n k)
     unfolding candidateF stampF via seq run number4 byte candidateMade stampOf
-    candidate-ok h = let l = candidate-made in ((h, (w .writer, l .tag)), (l .nonce, l .tags))
+    candidate-ok h = let l = candidate-made r n k (w .high) (w .nonce) in ((h, (w .writer, l .tag)), (l .nonce, l .tags))
 
     share-ok : (b : ℕ) → shareF s .Ok (shareMade P s client writers keys r n k b)
     unfolding shareF via seq run number2 shareMade
-    share-ok b = let l = share-made b in ((w .low, w .high), (l .part, (l .digests, (l .nonceDigest, l .tags))))
+    share-ok b = let l = share-made r n k (w .high) (w .nonce) b in ((w .low, w .high), (l .part, (l .digests, (l .nonceDigest, l .tags))))
 
     pub prepared-ok : (1 ≤ k) × (k ≤ topNumber) → HandOk s client (prepared P s client writers keys r n k)
     unfolding HandOk prepared

@@ -19,7 +19,7 @@ use Rattle.protocol.specs.Server.{Stepped, serverStep}
 use Rattle.protocol.specs.ServerBytes.{Served, serverTake}
 use Rattle.protocol.specs.Client.{Client, Turn, Result, idle, newClient, writeStep, readStep, abortStep, takeStep, makeStep}
 use Rattle.protocol.specs.View.{handOf, view, keptSize}
-use Rattle.protocol.specs.ClientBytes.{fresh, clientMake, keyOf}
+use Rattle.protocol.specs.ClientBytes.{fresh, keyOf, clientMake}
 use Rattle.protocol.specs.Runs.{Shelf, configOf, Step, write, read, make, take-reply, give-up, serve, resultOf, sentOf, Machine, Machines, Done, newMachine, setMachine, doBytes, nowBytes, World, After, setClient, doValues, nowValues, Fed}
 use Rattle.protocol.proofs.Answers.{no-some}
 use Rattle.protocol.proofs.Bodies.{decode-encode}

@@ -1,110 +1,43 @@
--- The client's operations on bytes: what the contracts of the code cite. A call, the kept bytes, arguments and an output buffer go in;
--- the answer, the call, the kept bytes and the output buffer come out. Refusals and rules are those of Client and Rules, on the view of the bytes.
-use mathlib.Core.Bool.{Bool, cond, _&&_}
+-- The client's operations on bytes: what the contracts of the code cite. The bytes are looked at as a client (View), the step is that of Client,
+-- and the client after it is put back. No rule of the protocol stands here: this file says only which bytes a client is kept in.
+use mathlib.Core.Bool.{Bool, cond}
 use mathlib.Core.List.{List, [], _∷_, _++_}
 use mathlib.Core.Option.{Option, none, some}
-use Prim.Native.Nat.{ℕ, zero, suc, _+_, _-_, _*_}
-use lib.Dec.{leb, ltb, eqb}
-use lib.ListN.{length, take, drop, set, replicate}
-use Rattle.cluster.specs.Config.{Config, quorum, shelf}
-use Rattle.cluster.specs.Ranges.{within, mostServers, topNumber}
+use Prim.Native.Nat.{ℕ, zero, suc, _+_, _-_, _*_, _/_}
+use lib.Dec.{eqb}
+use lib.ListN.{length, take, drop, replicate}
+use Rattle.cluster.specs.Config.{Config, shelf}
+use Rattle.cluster.specs.Ranges.{within, mostServers}
 use Rattle.cluster.specs.Refusals.{onRefusal}
-use Rattle.cluster.specs.declared.Outcome.{Outcome}
 use Rattle.protocol.specs.declared.Call.{Call}
 use Rattle.protocol.specs.declared.Tally.{Tally}
+use Rattle.cluster.specs.declared.Outcome.{Outcome}
 use Rattle.protocol.specs.declared.Taken.{Taken}
 use Rattle.protocol.specs.declared.Taken.the-variants as taken
 use Rattle.protocol.specs.declared.Aborted.{Aborted}
 use Rattle.protocol.specs.declared.Aborted.the-variants as aborts
-use Rattle.protocol.specs.Values.{Candidate, Share, Held, sameList}
-use Rattle.protocol.specs.Packet.{Body, Packet, decode, encode, anyCandidateF, candidateF, shareF, heldF}
+use Rattle.protocol.specs.Values.{Share}
+use Rattle.protocol.specs.Packet.{Packet, kindOf, decode, encode, candidateF, anyCandidateF, shareF, heldF}
 use Rattle.protocol.specs.Primitives.{Primitives}
-use Rattle.protocol.specs.Rules.{ByServer, gather, live, choice, leader, restoredBy, tagsIn}
-use Rattle.protocol.specs.Client.{higher, stampIn, codeIn, candidateIn, heldIn, made, candidateMade, sharesMade, writeRefusal, readRefusal, makeRefusal, abortRefusal, takeRefusal}
+use Rattle.protocol.specs.Rules.{ByServer, countTo}
+use Rattle.protocol.specs.Client.{Client, Hand, idle, clocking, storing, completing, collecting, filtering, repairing, Result, refused, more, written, gave, gaveBlank, aborted, Turn, awaits, candidateIn, heldIn, writeStep, readStep, abortStep, makeStep, takeStep}
 use Rattle.protocol.specs.ServerBytes.{over}
-use Rattle.protocol.specs.View.{view, marked, contentOf, nonceOf, chosenOf, candidatesIn, repliesIn, nonceAt, chosenAt, candidateSlot, candidatesAt, repliesAt, replySlot}
+use Rattle.protocol.specs.View.{view, nonceAt, chosenAt, candidateSlot, candidatesAt, repliesAt, replySlot}
 
--- d with the bytes b from the place at on
-unfoldable pub put : List ℕ → ℕ → List ℕ → List ℕ
-put d at b = take at d ++ (b ++ drop (at + length b) d)
-
--- ---- the call
-
--- a round begins; 0: no call is in hand
-unfoldable pub fresh : ℕ → Tally
-fresh r = record { round = r; count = 0; marks = replicate mostServers 0 }
-
--- server b has replied in this round
-unfoldable pub noted : Tally → ℕ → Tally
-noted y b = record { round = y .round; count = cond (ltb (y .count) mostServers) (y .count + 1) (y .count); marks = set (y .marks) (b - 1) 1 }
-
-abbrev pub withTally : Call → Tally → Call
-withTally c y = record { number = c .number; last = c .last; high = c .high; length = c .length; tally = y }
-
-unfoldable pub inHand : Call → Bool
-inHand c = within 1 6 (c .tally .round)
-
--- the kind that the round awaits, 0 with no call in hand
-unfoldable pub awaited : Call → ℕ
-awaited c = cond (inHand c) (2 * c .tally .round) 0
-
--- the next reply makes a quorum
-unfoldable pub ends : Config → Call → Bool
-ends s c = leb (quorum s) (c .tally .count + 1)
-
--- ---- begins and giving up
+-- ---- what the operations give
 
 pub record Begun : Type 0 where
   pub result : Outcome
   pub call : Call
   pub kept : List ℕ
 
-unfoldable pub beginWrite : ℕ → ℕ → Call → List ℕ → List ℕ → List ℕ → Begun
-beginWrite t client c kept content nonce =
-    let n = writeRefusal (shelf t) client (length content) (inHand c) (c .number) in
-    onRefusal n
-    (record {
-      result = record { number = n; count = 0 };
-      call = record { number = suc (c .number); last = c .last; high = c .last; length = length content; tally = fresh 1 };
-      kept = put (put kept 0 content) nonceAt nonce;
-    })
-    (record { result = record { number = n; count = 0 }; call = c; kept = kept })
-
-unfoldable pub beginRead : ℕ → ℕ → Call → List ℕ → Begun
-beginRead t client c kept =
-    let n = readRefusal (shelf t) client (inHand c) (c .number) in
-    onRefusal n
-    (record {
-      result = record { number = n; count = 0 };
-      call = record { number = suc (c .number); last = c .last; high = c .high; length = c .length; tally = fresh 4 };
-      kept = put kept candidatesAt (replicate (candidateSlot * mostServers) 0);
-    })
-    (record { result = record { number = n; count = 0 }; call = c; kept = kept })
-
 pub record GaveUp : Type 0 where
   pub answer : Aborted
   pub call : Call
 
-unfoldable pub giveUp : ℕ → ℕ → Call → GaveUp
-giveUp t client c =
-    let n = abortRefusal (shelf t) client (inHand c) in
-    onRefusal n (record { answer = cond (eqb (c .tally .round) 3) aborts.InComplete aborts.Before; call = withTally c (fresh 0) })
-    (record { answer = aborts.Refused n; call = c })
-
--- ---- making the round's packet
-
 pub record Written : Type 0 where
   pub result : Outcome
   pub output : List ℕ
-
-unfoldable pub clientMake : ℕ → ℕ → ℕ → Call → List ℕ → List ℕ → Written
-clientMake t client b c kept output =
-    let n = makeRefusal (shelf t) client b (inHand c) (length output) in
-    let bytes = encode (made t client (view (shelf t) c kept) b) in
-    onRefusal n (record { result = record { number = n; count = length bytes }; output = over bytes output })
-    (record { result = record { number = n; count = 0 }; output = output })
-
--- ---- taking a reply
 
 pub record Took : Type 0 where
   pub answer : Taken
@@ -112,86 +45,16 @@ pub record Took : Type 0 where
   pub kept : List ℕ
   pub output : List ℕ
 
+-- ---- places, keys and marks
+
+-- d with the bytes b from the place at on
+unfoldable pub put : List ℕ → ℕ → List ℕ → List ℕ
+put d at b = take at d ++ (b ++ drop (at + length b) d)
+
 -- the shares of servers 1 to n in their slots
 unfoldable pub putShares : Config → List ℕ → ByServer Share → ℕ → List ℕ
 putShares s kept h zero = kept
 putShares s kept h (suc n) = put (putShares s kept h n) (repliesAt + replySlot * n) (shareF s .print (h (suc n)))
-
-module _ (P : Primitives) (s : Config) (client : ℕ) (writers : List ℕ) (keys : ByServer (List ℕ)) (c : Call) (kept output : List ℕ) where
-  -- the answer, with the call and the kept bytes after it, and the output as it was
-  unfoldable pub took : Taken → Call → List ℕ → Took
-  took a c' k = record { answer = a; call = c'; kept = k; output = output }
-
-  -- a content is delivered
-  unfoldable pub delivers : ℕ → List ℕ → List ℕ → Took
-  delivers number content k =
-      record { answer = taken.Read number (length content); call = withTally c (fresh 0); kept = k; output = over content output }
-
-  -- each round takes `e`: this reply is the one that makes a quorum
-  unfoldable pub takeClock : Bool → ℕ → Body → Took
-  takeClock e b x =
-      let h = higher P writers (c .high) (stampIn x) in
-      cond e
-      (took taken.More (record { number = c .number; last = suc h; high = h; length = c .length; tally = fresh 2 })
-      (putShares s (put kept chosenAt (candidateF s .print (candidateMade P s client writers keys (nonceOf kept) (suc h))))
-      (sharesMade P s client writers keys (contentOf c kept) (nonceOf kept) (suc h)) (s .servers)))
-      (took taken.More (record { number = c .number; last = c .last; high = h; length = c .length; tally = noted (c .tally) b }) kept)
-
-  unfoldable pub takeStore : Bool → ℕ → Body → Took
-  takeStore e b x =
-      cond (eqb (codeIn x) 11) (took taken.More c kept)
-      (cond e (took taken.More (withTally c (fresh 3)) kept) (took taken.More (withTally c (noted (c .tally) b)) kept))
-
-  unfoldable pub takeComplete : Bool → ℕ → Took
-  takeComplete e b =
-      cond e (took (taken.Written (chosenOf s kept .stamp .number)) (withTally c (fresh 0)) kept) (took taken.More (withTally c (noted (c .tally) b)) kept)
-
-  unfoldable pub takeCollect : Bool → ℕ → Body → Took
-  takeCollect e b x =
-      let k = put kept (candidatesAt + candidateSlot * (b - 1)) (anyCandidateF s .print (candidateIn s x)) in
-      cond e (took taken.More (withTally c (fresh 5)) k) (took taken.More (withTally c (noted (c .tally) b)) k)
-
-  unfoldable pub foundIn : ByServer Bool → ByServer Held → List ℕ → Candidate → ℕ → Took
-  foundIn m g k d b =
-      let content = restoredBy P s m g d b (g b .share) in
-      let tags = tagsIn P s d (g b .share) in
-      cond (sameList tags (d .tags)) (delivers (d .stamp .number) content k)
-      (took taken.More (record { number = c .number; last = c .last; high = c .high; length = length content; tally = fresh 6 })
-      (put (put k 0 content) chosenAt (candidateF s .print (record { stamp = d .stamp; nonce = d .nonce; tags = tags }))))
-
-  unfoldable pub judgeIn : Call → ByServer Bool → ByServer Held → List ℕ → List Candidate → Option Candidate → Took
-  judgeIn c' m g k [] o = took taken.Blank (withTally c (fresh 0)) k
-  judgeIn c' m g k (l ∷ ls) none = took taken.More c' k
-  judgeIn c' m g k (l ∷ ls) (some d) = foundIn m g k d (leader P s m g d (s .servers))
-
-  unfoldable pub takeFilter : Bool → ℕ → Body → Took
-  takeFilter e b x =
-      let k = put kept (repliesAt + replySlot * (b - 1)) (heldF s .print (heldIn x)) in
-      let c' = withTally c (noted (c .tally) b) in
-      let m = marked (c' .tally .marks) in
-      let g = repliesIn s (c' .tally .marks) k in
-      let cs = gather (candidatesIn s k) (s .servers) in
-      cond e (judgeIn c' m g k (live P s m g cs) (choice P s m g cs)) (took taken.More c' k)
-
-  unfoldable pub takeRepair : Bool → ℕ → Took
-  takeRepair e b =
-      cond e (delivers (chosenOf s kept .stamp .number) (contentOf c kept) kept) (took taken.More (withTally c (noted (c .tally) b)) kept)
-
-  unfoldable pub takeOn : ℕ → Option Packet → Took
-  takeOn r none = took taken.More c kept
-  takeOn r (some p) =
-      let b = p .head .server in
-      let e = ends s c in
-      cond (eqb r 1) (takeClock e b (p .body)) (cond (eqb r 2) (takeStore e b (p .body)) (cond (eqb r 3) (takeComplete e b)
-      (cond (eqb r 4) (takeCollect e b (p .body)) (cond (eqb r 5) (takeFilter e b (p .body)) (takeRepair e b)))))
-
-  unfoldable pub highIn : ℕ → Body → Bool
-  highIn b x = eqb (c .tally .round) 1 && (ends s c && leb topNumber (higher P writers (c .high) (stampIn x)))
-
-  unfoldable pub takeIn : Option Packet → Took
-  takeIn o =
-      let n = takeRefusal s client o (c .number) (awaited c) (marked (c .tally .marks)) highIn (length output) in
-      onRefusal n (takeOn (c .tally .round) o) (took (taken.Refused n) c kept)
 
 -- the key of server i in a table of keys
 unfoldable pub keyOf : List (List ℕ) → ByServer (List ℕ)
@@ -200,5 +63,124 @@ keyOf [] (suc i) = []
 keyOf (k ∷ ks) (suc zero) = k
 keyOf (k ∷ ks) (suc (suc i)) = keyOf ks (suc i)
 
+-- a round begins; 0: no call is in hand
+unfoldable pub fresh : ℕ → Tally
+fresh r = record { round = r; count = 0; marks = replicate mostServers 0 }
+
+unfoldable pub inHand : Call → Bool
+inHand c = within 1 6 (c .tally .round)
+
+-- the kind that the round awaits, 0 with no call in hand
+unfoldable pub awaited : Call → ℕ
+awaited c = cond (inHand c) (2 * c .tally .round) 0
+
+-- a client's bytes: its small state and the kept bytes
+pub record Machine : Type 0 where
+  pub call : Call
+  pub kept : List ℕ
+
+-- ---- a client is put back into its bytes
+
+-- the marks of the servers past i: a byte that already stands for its mark stays
+unfoldable pub putMarks : ℕ → List ℕ → ByServer Bool → List ℕ
+putMarks i [] m = []
+putMarks i (x ∷ xs) m = cond (m (suc i)) (cond (eqb x 0) 1 x) 0 ∷ putMarks (suc i) xs m
+
+-- an accepted reply that holds a candidate or a share is kept in its server's slot
+unfoldable pub putReply : Config → List ℕ → Option Packet → List ℕ
+putReply s kept none = kept
+putReply s kept (some p) =
+    let i = p .head .server - 1 in
+    cond (eqb (kindOf (p .body)) 8) (put kept (candidatesAt + candidateSlot * i) (anyCandidateF s .print (candidateIn s (p .body))))
+    (cond (eqb (kindOf (p .body)) 10) (put kept (repliesAt + replySlot * i) (heldF s .print (heldIn (p .body)))) kept)
+
+-- what a round writes when it begins; complete and filter use what store and collect left
+pub record Bulk : Type 0 where
+  pub high : ℕ
+  pub length : ℕ
+  pub kept : List ℕ
+
+unfoldable pub begins : Config → Bulk → Hand → Bulk
+begins s w idle = w
+begins s w (clocking r n h) = record { high = h; length = length r; kept = put (put (w .kept) 0 r) nonceAt n }
+begins s w (storing d g) =
+    record { high = w .high; length = w .length; kept = putShares s (put (w .kept) chosenAt (candidateF s .print d)) g (s .servers) }
+begins s w (completing d) = w
+begins s w (collecting g) =
+    record { high = w .high; length = w .length; kept = put (w .kept) candidatesAt (replicate (candidateSlot * mostServers) 0) }
+begins s w (filtering l g) = w
+begins s w (repairing d r) = record { high = w .high; length = length r; kept = put (put (w .kept) 0 r) chosenAt (candidateF s .print d) }
+
+-- within a round the highest number, the marks and their count change, and no more. The count is there to be shown: no step looks at it
+unfoldable pub putBack : Config → Call → List ℕ → Client → Machine
+putBack s c kept cl =
+    let r = awaits (cl .hand) / 2 in
+    let same = eqb (c .tally .round) r in
+    let w = begins s (record { high = c .high; length = c .length; kept = kept }) (cl .hand) in
+    record {
+      call = record {
+        number = cl .calls;
+        last = cl .last;
+        high = w .high;
+        length = cond same (c .length) (w .length);
+        tally = record { round = r; count = countTo (s .servers) (cl .marks); marks = putMarks 0 (c .tally .marks) (cl .marks) };
+      };
+      kept = cond same kept (w .kept);
+    }
+
+-- ---- results as the code tells them
+
+-- the number of a refusal or 0, what a taken reply and giving up answer, and the content delivered; each operation reads its own
+pub record Told : Type 0 where
+  pub number : ℕ
+  pub taken : Taken
+  pub aborted : Aborted
+  pub content : List ℕ
+
+abbrev pub told : Result → Told
+told (refused n) = record { number = n; taken = taken.Refused n; aborted = aborts.Refused n; content = [] }
+told more = record { number = 0; taken = taken.More; aborted = aborts.Before; content = [] }
+told (written n) = record { number = 0; taken = taken.Written n; aborted = aborts.Before; content = [] }
+told (gave n r) = record { number = 0; taken = taken.Read n (length r); aborted = aborts.Before; content = r }
+told gaveBlank = record { number = 0; taken = taken.Blank; aborted = aborts.Before; content = [] }
+told (aborted b) = record { number = 0; taken = taken.More; aborted = cond b aborts.InComplete aborts.Before; content = [] }
+
+-- ---- the operations
+
+-- what a turn leaves: refused, nothing changes. k: the kept bytes with the reply
+unfoldable pub after : Config → Call → List ℕ → List ℕ → Turn → Machine
+after s c kept k u = onRefusal (told (u .result) .number) (putBack s c k (u .client)) (record { call = c; kept = kept })
+
+unfoldable pub begunBy : Config → Call → List ℕ → Turn → Begun
+begunBy s c kept u =
+    let m = after s c kept kept u in record { result = record { number = told (u .result) .number; count = 0 }; call = m .call; kept = m .kept }
+
+unfoldable pub beginWrite : ℕ → ℕ → Call → List ℕ → List ℕ → List ℕ → Begun
+beginWrite t client c kept content nonce = begunBy (shelf t) c kept (writeStep (shelf t) client (view (shelf t) c kept) content nonce)
+
+unfoldable pub beginRead : ℕ → ℕ → Call → List ℕ → Begun
+beginRead t client c kept = begunBy (shelf t) c kept (readStep (shelf t) client (view (shelf t) c kept))
+
+-- the kept bytes have no part in it
+unfoldable pub giveUp : ℕ → ℕ → Call → GaveUp
+giveUp t client c =
+    let u = abortStep (shelf t) client (view (shelf t) c []) in record { answer = told (u .result) .aborted; call = after (shelf t) c [] [] u .call }
+
+abbrev pub sentOf : Option Packet → List ℕ
+sentOf none = []
+sentOf (some p) = encode p
+
+unfoldable pub clientMake : ℕ → ℕ → ℕ → Call → List ℕ → List ℕ → Written
+clientMake t client b c kept output =
+    let d = makeStep (shelf t) client (view (shelf t) c kept) b (length output) in
+    record { result = record { number = d .number; count = length (sentOf (d .packet)) }; output = over (sentOf (d .packet)) output }
+
+unfoldable pub tookBy : Config → Call → List ℕ → List ℕ → List ℕ → Turn → Took
+tookBy s c kept k output u =
+    let m = after s c kept k u in
+    record { answer = told (u .result) .taken; call = m .call; kept = m .kept; output = over (told (u .result) .content) output }
+
 unfoldable pub clientTake : Primitives → ℕ → ℕ → List ℕ → List (List ℕ) → Call → List ℕ → List ℕ → List ℕ → Took
-clientTake P t client writers keys c kept reply output = takeIn P (shelf t) client writers (keyOf keys) c kept output (decode reply)
+clientTake P t client writers keys c kept reply output =
+    tookBy (shelf t) c kept (putReply (shelf t) kept (decode reply)) output
+    (takeStep P (shelf t) client writers (keyOf keys) (view (shelf t) c kept) (decode reply) (length output))

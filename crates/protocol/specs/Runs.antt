@@ -23,7 +23,8 @@ use Rattle.protocol.specs.Server.{Server, blankServer, serverStep}
 use Rattle.protocol.specs.ServerBytes.{serverIn, serverTake}
 use Rattle.protocol.specs.Client.{Client, Turn, Result, refused, more, written, gave, gaveBlank, aborted, newClient, writeStep, readStep, abortStep, makeStep, takeStep}
 use Rattle.protocol.specs.View.{view, keptSize}
-use Rattle.protocol.specs.ClientBytes.{fresh, beginWrite, beginRead, giveUp, clientTake, clientMake, keyOf}
+use Rattle.protocol.specs.ClientBytes.{fresh, keyOf, beginWrite, beginRead, giveUp, clientTake, clientMake}
+pub use Rattle.protocol.specs.ClientBytes.{Machine, sentOf}
 
 -- a shelf's t, its writers' key, and the servers' keys
 pub record Shelf : Type 0 where
@@ -61,10 +62,6 @@ abbrev pub abortedOut : Aborted → Result
 abortedOut (aborts.Refused n) = refused n
 abortedOut aborts.Before = aborted false
 abortedOut aborts.InComplete = aborted true
-
-pub record Machine : Type 0 where
-  pub call : Call
-  pub kept : List ℕ
 
 pub record Machines : Type 0 where
   pub client : ℕ → Machine
@@ -167,10 +164,6 @@ pub record Account (s : Config) : Type 0 where
   pub sent : Typed s → List (Typed s) → List ℕ
   pub client : List (Typed s) → ℕ → Client
   pub server : List (Typed s) → ℕ → Server
-
-abbrev pub sentOf : Option Packet → List ℕ
-sentOf none = []
-sentOf (some p) = encode p
 
 abbrev pub serverOr : Config → Option Memory → Server
 serverOr s none = blankServer s

@@ -15,7 +15,8 @@ impl Client<'_> {
             return Answer::refused(refusal);
         }
         let (server, body) = (packet[2] as usize, &packet[8..]);
-        let last = u32::from(self.state[COUNT]) + 1 >= quorum_of(self.t as u8);
+        // the marks decide, whatever count the state was lent with
+        let last = self.marks_with(server) >= quorum_of(self.t as u8);
         let high = if self.round() == 1 { self.higher(writers, body) } else { 0 };
         if last && high >= TOP_NUMBER {
             return Answer::refused(14);
@@ -25,7 +26,7 @@ impl Client<'_> {
         }
         match self.round() {
             1 => self.take_clock(last, high, server, writers, keys),
-            2 if body[0] == 11 => Answer::wrote(0),
+            2 if body[0] == 11 => self.recount(),
             5 => self.take_filter(last, server, body, out),
             round => {
                 if round == 4 {
@@ -56,9 +57,19 @@ impl Client<'_> {
     }
 
     pub(super) fn note(&mut self, server: usize) -> Answer {
-        self.state[COUNT] = if self.state[COUNT] < 13 { self.state[COUNT] + 1 } else { self.state[COUNT] };
         self.state[MARKS + server - 1] = 1;
+        self.recount()
+    }
+
+    /// The count is that of the shelf's servers that are marked.
+    fn recount(&mut self) -> Answer {
+        self.state[COUNT] = (1..=self.servers()).filter(|&i| self.marked(i)).count() as u8;
         Answer::wrote(0)
+    }
+
+    /// How many servers are marked once this one is.
+    fn marks_with(&self, server: usize) -> u32 {
+        (1..=self.servers()).filter(|&i| i == server || self.marked(i)).count() as u32
     }
 
     /// The highest number in clock, with this reply's stamp where its tag checks.
@@ -69,8 +80,8 @@ impl Client<'_> {
     }
 
     fn take_clock(&mut self, last: bool, high: u32, server: usize, writers: &[u8], keys: &[u8]) -> Answer {
-        put(self.state, HIGH, &high.to_be_bytes());
         if !last {
+            put(self.state, HIGH, &high.to_be_bytes());
             return self.note(server);
         }
         put(self.state, LAST, &(high + 1).to_be_bytes());

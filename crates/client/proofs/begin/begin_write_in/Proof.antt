@@ -1,10 +1,15 @@
 -- `client::begin::begin_write_in` meets its contract, by those of the functions that it calls. Assumes nothing.
-use mathlib.Core.Path.{sym, _∙_}
+use mathlib.Core.Path.{_≡_, sym, _∙_}
 use native.Mathlib.Omega.{arith}
 use Rattle.client.proofs.Begins.{write-short, write-refused, write-begins, write-fits}
+use lib.ListN.{length}
+use Rattle.cluster.specs.Ranges.{mostServers}
 use borrow.Author.Needs.{needs}
 use Rattle.client.proofs.begin.begin_write_in.Statement.{statement}
 use Rattle.client.proofs.begin.begin_write_in.Tie as tie
+
+wide : (c : tie.Start) → length (c .args .call .tally .marks) ≡ mostServers
+wide c = search needs
 
 returns : tie.Need-returns
 returns c =
@@ -15,7 +20,7 @@ returns c =
 returns-2 : tie.Need-returns-2
 returns-2 c =
     let a = c .before .before .before .before .before .before .args in
-    let e = write-refused (a .t) (a .client) (a .call) (a .kept .now) (a .content .now) (a .nonce .now) (c .before .before .before .if1 .left) _
+    let e = write-refused (a .t) (a .client) (a .call) (a .kept .now) (a .content .now) (a .nonce .now) (wide (c .before .before .before .before .before .before)) (c .before .before .before .if1 .left) _
     (c .before .before .write-refusal .ensures) (c .before .if2 .taken) in
     (rw (e, c .not-begun2 .ensures), rw e)
 
@@ -45,7 +50,7 @@ returns-3 c =
     let a = c .before .before .before .before .before .before .before .before .before .before .before .args in
     let z = sym (c .before .before .before .before .before .before .before .write-refusal .ensures) ∙
     c .before .before .before .before .before .before .if2 .left in
-    let e = write-begins (a .t) (a .client) (a .call) (a .kept .now) (a .content .now) (a .nonce .now)
+    let e = write-begins (a .t) (a .client) (a .call) (a .kept .now) (a .content .now) (a .nonce .now) (wide (c .before .before .before .before .before .before .before .before .before .before .before))
     (c .before .before .before .before .before .before .before .before .if1 .left) z in
     (rw (e, c .next-call .ensures), rw e (c .before .before .before .keep-write .ensures))
 

@@ -4,26 +4,34 @@ use borrow.Author.Tests.{eq-eqb, ne-eqb}
 use Rattle.cluster.specs.Config.{shelf}
 use Rattle.cluster.proofs.Tests.{refused-is}
 use Rattle.protocol.specs.Client.{abortRefusal}
-use Rattle.protocol.specs.ClientBytes.{giveUp, inHand}
+use lib.ListN.{length}
+use Rattle.cluster.specs.Ranges.{mostServers}
+use Rattle.protocol.specs.ClientBytes.{inHand}
+use Rattle.client.specs.Rounds.{abortByRounds}
+use Rattle.client.proofs.StepsSame.{same-abort}
 use borrow.Author.Needs.{needs}
 use Rattle.client.proofs.begin.give_up_in.Statement.{statement}
 use Rattle.client.proofs.begin.give_up_in.Tie as tie
 
 returns : tie.Need-returns
-unfolding giveUp
+unfolding abortByRounds
 returns c =
     let a = c .before .before .before .args in
     let e = c .before .abort-refusal .ensures in
-    rw (e, refused-is (abortRefusal (shelf (a .t)) (a .client) (inHand (a .call))) _ _ (λ z. c .if1 .taken (e ∙ z)))
+    let w : length (a .call .tally .marks) ≡ mostServers = search needs in
+    rw (same-abort (a .t) (a .client) (a .call) w, e, refused-is (abortRefusal (shelf (a .t)) (a .client) (inHand (a .call))) _ _ (λ z. c .if1 .taken (e ∙ z)))
 
 not-refused : (c : tie.Else1) → abortRefusal (shelf (c .before .before .before .args .t)) (c .before .before .before .args .client)
     (inHand (c .before .before .before .args .call)) ≡ 0
 not-refused c = sym (c .before .abort-refusal .ensures) ∙ c .if1 .left
 
 returns-2 : tie.Need-returns-2
-unfolding giveUp
+unfolding abortByRounds
 returns-2 c =
+    let a = c .before .before .before .before .before .before .args in
+    let w : length (a .call .tally .marks) ≡ mostServers = search needs in
     rw (
+      same-abort (a .t) (a .client) (a .call) w,
       not-refused (c .before .before .before),
       eq-eqb (c .before .before .before .before .before .before .args .call .tally .round) 3
           (c .if2 .taken),
@@ -32,9 +40,12 @@ returns-2 c =
     )
 
 returns-3 : tie.Need-returns-3
-unfolding giveUp
+unfolding abortByRounds
 returns-3 c =
+    let a = c .before .before .before .before .before .before .args in
+    let w : length (a .call .tally .marks) ≡ mostServers = search needs in
     rw (
+      same-abort (a .t) (a .client) (a .call) w,
       not-refused (c .before .before .before),
       ne-eqb (c .before .before .before .before .before .before .args .call .tally .round) 3
           (c .if2 .left),

@@ -1,14 +1,23 @@
 -- `client::clock::take_clock` meets its contract, by those of the functions that it calls. Assumes nothing.
-use mathlib.Core.Path.{_≡_, sym, _∙_}
-use mathlib.Core.List.{[]}
+use mathlib.Core.Path.{_≡_, refl, ap, _∙_}
+use mathlib.Core.Bool.{Bool, _&&_}
+use mathlib.Core.List.{List, [], _∷_}
+use Prim.Native.Nat.{ℕ}
 use native.Mathlib.Omega.{arith}
+use lib.Dec.{leb, ltb}
 use lib.ListN.{drop}
+use Rattle.cluster.specs.Config.{shelf}
+use Rattle.cluster.specs.Ranges.{topNumber, contentRoom}
+use Rattle.cluster.specs.Refusals.{refuse, firstOf}
+use Rattle.protocol.specs.declared.Call.{Call}
 use Rattle.protocol.specs.Packet.{headSize}
 use Rattle.protocol.specs.Primitives.{real}
 use Rattle.protocol.specs.Client.{higher}
 use Rattle.protocol.specs.View.{stampAt}
+use Rattle.client.specs.Rounds.{noted, ends}
 use Rattle.client.proofs.ReadyRanges.{ready-faults, ready-client, ready-server}
 use Rattle.client.proofs.Clocked.{clock-long, clock-refused, clock-below, clock-noted, clock-ended}
+use Rattle.client.proofs.Tallies.{ends-by}
 use borrow.Author.Needs.{needs}
 use Rattle.client.proofs.clock.take_clock.Statement.{statement}
 use Rattle.client.proofs.clock.take_clock.Tie as tie
@@ -25,82 +34,82 @@ higher-requires c κs =
 
 note-reply-requires : tie.Need-note-reply-requires
 note-reply-requires c κs =
-    let a = c .before .before .before .before .before .before .args in
-    let p = c .before .before .before .before .before .before .pre in
-    ready-server (a .t) (a .client) (a .call) (a .reply .now) (a .head) (p .0)
+    let q = c .before .before .before .before .before .before in
+    let a = q .args in
+    (ready-faults (a .t) (a .client) (a .call) (a .reply .now) (a .head) (q .pre .0) .1, ready-server (a .t) (a .client) (a .call) (a .reply .now) (a .head) (q .pre .0))
 
-clock-refusal-requires : tie.Need-clock-refusal-requires
-clock-refusal-requires c κs =
-    let a = c .before .before .before .before .before .before .before .args in
-    let p = c .before .before .before .before .before .before .before .pre in
-    ready-faults (a .t) (a .client) (a .call) (a .reply .now) (a .head) (p .0) .1
+is-full-requires : tie.Need-is-full-requires
+is-full-requires c κs =
+    let q = c .before .before .before .before .before .before .before in
+    let a = q .args in
+    ready-faults (a .t) (a .client) (a .call) (a .reply .now) (a .head) (q .pre .0) .1
+
+-- what is known once the refusals are tested: the highest number, and whether the reply ends the round
+module _ (c : tie.After-clock-refusal) where
+  abbrev start : tie.Start
+  start = c .before .before .before .before .before .before .before .before .before
+
+  abbrev high : ℕ
+  high = c .before .before .before .before .before .higher .result
+
+  high-is : high ≡ higher real (start .args .writers .now) (start .args .call .high) (stampAt (drop headSize (start .args .reply .now)))
+  high-is =
+      c .before .before .before .before .before .higher .ensures
+      ∙ ap (λ (d : List ℕ). higher real (start .args .writers .now) (start .args .call .high) (stampAt d))
+      (c .before .before .before .before .before .before .rest .ensures)
+
+  ended : (v : Bool) → c .before .is-full .result ≡ v → ends (shelf (start .args .t)) (start .args .call) (start .args .head .server) ≡ v
+  ended v e =
+      ends-by (start .args .t) (start .args .call) (start .args .head .server) _
+      (ap (λ (z : Call). z .tally) (c .before .before .note-reply .ensures)
+      ∙ ap (λ (z : Call). noted (shelf (start .args .t)) (z .tally) (start .args .head .server)) (c .before .before .before .with-high .ensures)) _ v
+      (c .before .is-full .ensures) e
+
+  refusal-is : c .clock-refusal .result
+      ≡ firstOf (refuse 14 (ends (shelf (start .args .t)) (start .args .call) (start .args .head .server) && leb topNumber high) ∷ refuse 15 (ltb (start .args .room) contentRoom) ∷ [])
+  refusal-is = rw (ended _ refl) (c .clock-refusal .ensures)
 
 returns : tie.Need-returns
 returns c =
-    let a = c .before .before .before .before .before .before .before .before .before .before .args in
-    let p = c .before .before .before .before .before .before .before .before .before .before .pre in
-    let e : c .before .before .before .before .before .before .higher .result ≡ higher real (a .writers .now) (a .call .high)
-    (stampAt (drop headSize (a .reply .now))) = c .before .before .before .before .before .before .higher .ensures ∙ rw
-    (c .before .before .before .before .before .before .before .rest .ensures) in
-    λ output l. rw (c .refused .ensures) (clock-refused (a .t) (a .client) (a .call) (a .reply .now) (a .head) (p .0) (a .writers .now) (a .keys .now)
-    (a .kept .now) output (p .1 .0) (c .before .before .clock-refusal .result) (a .room)
-    (c .before .before .before .before .before .before .higher .result) (c .before .before .clock-refusal .ensures) (c .before .if1 .taken) e l)
-
-is-last-requires : tie.Need-is-last-requires
-is-last-requires c κs =
-    let a = c .before .before .before .before .before .before .before .before .before .args in
-    let p = c .before .before .before .before .before .before .before .before .before .pre in
-    ready-faults (a .t) (a .client) (a .call) (a .reply .now) (a .head) (p .0) .1
+    let q = c .before .before in
+    let a = start q .args in
+    let p = start q .pre in
+    λ output l. rw (c .refused .ensures)
+    (clock-refused (a .t) (a .client) (a .call) (a .reply .now) (a .head) (p .0) (a .writers .now) (a .keys .now)
+    (a .kept .now) output (p .1 .0) (q .clock-refusal .result) (a .room) (high q) (refusal-is q) (c .before .if1 .taken) (high-is q) l)
 
 end-clock-requires : tie.Need-end-clock-requires
 end-clock-requires c κs =
-    let a = c .before .before .before .before .before .before .before .before .before .before .before .before .args in
-    let p = c .before .before .before .before .before .before .before .before .before .before .before .before .pre in
-    let e : c .before .before .before .before .before .before .before .before .higher .result ≡ higher real (a .writers .now) (a .call .high)
-    (stampAt (drop headSize (a .reply .now))) = c .before .before .before .before .before .before .before .before .higher .ensures ∙ rw
-    (c .before .before .before .before .before .before .before .before .before .rest .ensures) in
+    let q = c .before .before .before in
+    let a = start q .args in
+    let p = start q .pre in
     let f = ready-faults (a .t) (a .client) (a .call) (a .reply .now) (a .head) (p .0) in
-    let n = sym (c .before .before .is-last .ensures) ∙ c .before .if2 .taken in
-    let b = clock-below (a .t) (a .client) (a .call) (a .reply .now) (a .head) (p .0) (a .writers .now) (a .keys .now) (a .kept .now) [] (p .1 .0)
-    (c .before .before .before .before .clock-refusal .result) (a .room)
-    (c .before .before .before .before .before .before .before .before .higher .result) (c .before .before .before .before .clock-refusal .ensures)
-    (c .before .before .before .if1 .left) e n in
+    let b =
+    clock-below (a .t) (a .client) (a .call) (a .reply .now) (a .head) (p .0) (a .writers .now) (a .keys .now) (a .kept .now) [] (p .1 .0)
+    (q .clock-refusal .result) (a .room) (high q) (refusal-is q) (c .before .before .if1 .left) (high-is q) (ended q _ (c .before .if2 .taken)) in
     (f .0, (f .1, (ready-client (a .t) (a .client) (a .call) (a .reply .now) (a .head) (p .0) .1, (p .1 .1, b))))
 
 returns-2 : tie.Need-returns-2
 returns-2 c =
-    let a = c .before .before .before .before .before .before .before .before .before .before .before .before .before .before .before .args in
-    let p = c .before .before .before .before .before .before .before .before .before .before .before .before .before .before .before .pre in
-    let e : c .before .before .before .before .before .before .before .before .before .before .before .higher .result ≡ higher real (a .writers .now)
-    (a .call .high) (stampAt (drop headSize (a .reply .now))) =
-    c .before .before .before .before .before .before .before .before .before .before .before .higher .ensures ∙ rw
-    (c .before .before .before .before .before .before .before .before .before .before .before .before .rest .ensures) in
-    let n = sym (c .before .before .before .before .before .is-last .ensures) ∙ c .before .before .before .before .if2 .taken in
-    λ output l. rw (c .before .before .end-clock .ensures .0, c .before .before .end-clock .ensures .1)
+    let d = c .before .before in
+    let q = d .before .before .before .before in
+    let a = start q .args in
+    let p = start q .pre in
+    λ output l. rw (d .end-clock .ensures .0, d .end-clock .ensures .1)
     (clock-ended (a .t) (a .client) (a .call) (a .reply .now) (a .head) (p .0) (a .writers .now) (a .keys .now) (a .kept .now) output (p .1 .0)
-    (c .before .before .before .before .before .before .before .clock-refusal .result) (a .room)
-    (c .before .before .before .before .before .before .before .before .before .before .before .higher .result)
-    (c .before .before .before .before .before .before .before .clock-refusal .ensures) (c .before .before .before .before .before .before .if1 .left)
-    e l n)
+    (q .clock-refusal .result) (a .room) (high q) (refusal-is q) (d .before .before .before .if1 .left) (high-is q) l
+    (ended q _ (d .before .before .if2 .taken)))
 
 returns-3 : tie.Need-returns-3
 returns-3 c =
-    let a = c .before .before .before .before .before .before .before .before .before .before .before .before .args in
-    let p = c .before .before .before .before .before .before .before .before .before .before .before .before .pre in
-    let e : c .before .before .before .before .before .before .before .before .higher .result ≡ higher real (a .writers .now) (a .call .high)
-    (stampAt (drop headSize (a .reply .now))) = c .before .before .before .before .before .before .before .before .higher .ensures ∙ rw
-    (c .before .before .before .before .before .before .before .before .before .rest .ensures) in
-    let n = sym (c .before .before .is-last .ensures) ∙ c .before .if2 .left in
-    λ output l. rw (
-      c .more .ensures,
-      c .before .before .before .before .before .note-reply .ensures,
-      c .before .before .before .before .before .before .before .with-high .ensures,
-    ) (clock-noted (a .t) (a .client) (a .call) (a .reply .now) (a .head)
-    (p .0) (a .writers .now) (a .keys .now) (a .kept .now) output (p .1 .0) (c .before .before .before .before .clock-refusal .result) (a .room)
-    (c .before .before .before .before .before .before .before .before .higher .result) (c .before .before .before .before .clock-refusal .ensures)
-    (c .before .before .before .if1 .left) e l n)
+    let q = c .before .before .before in
+    let a = start q .args in
+    let p = start q .pre in
+    λ output l. rw (c .more .ensures, q .before .before .note-reply .ensures, q .before .before .before .with-high .ensures)
+    (clock-noted (a .t) (a .client) (a .call) (a .reply .now) (a .head) (p .0) (a .writers .now) (a .keys .now) (a .kept .now) output (p .1 .0)
+    (q .clock-refusal .result) (a .room) (high q) (refusal-is q) (c .before .before .if1 .left) (high-is q) l (ended q _ (c .before .if2 .left)))
 
 pub take-clock-spec : {M : Type 1} → statement M
-take-clock-spec = tie.close (tie.spec (λ c κs. search needs) higher-requires (λ c κs. search needs) (λ c. search needs) note-reply-requires
-    clock-refusal-requires (λ c κs. search needs) returns is-last-requires end-clock-requires (λ c. search needs) returns-2 (λ c κs. search needs)
+take-clock-spec = tie.close (tie.spec (λ c κs. search needs) higher-requires (λ c. search needs) (λ c κs. search needs) note-reply-requires
+    is-full-requires (λ c κs. search needs) (λ c κs. search needs) returns end-clock-requires (λ c. search needs) returns-2 (λ c κs. search needs)
     returns-3)

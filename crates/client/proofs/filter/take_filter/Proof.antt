@@ -1,14 +1,19 @@
 -- `client::filter::take_filter` meets its contract, by those of the functions that it calls. Assumes nothing.
+use mathlib.Core.Bool.{Bool}
+use Rattle.cluster.specs.Config.{shelf}
+use Rattle.client.specs.Rounds.{ends}
 use borrow.Author.Needs.{needs}
 use native.Mathlib.Omega.{arith}
-use mathlib.Core.Path.{sym, ap, _∙_, subst}
+use mathlib.Core.Path.{_≡_, sym, ap, _∙_, subst}
 use Prim.Native.Nat.{ℕ, _+_, _-_, _*_}
 use lib.ListN.{drop}
+use Rattle.protocol.specs.declared.Call.{Call}
 use Rattle.protocol.specs.Format.{Bytes}
 use Rattle.protocol.specs.Packet.{headSize}
 use Rattle.protocol.specs.View.{repliesAt, replySlot}
 use Rattle.protocol.specs.ClientBytes.{put}
 use Rattle.client.proofs.ReadyRanges.{ready-faults, ready-server}
+use Rattle.client.proofs.Tallies.{ends-by}
 use Rattle.client.proofs.FilterReplies.{body-fits, filter-more, filter-ends}
 use Rattle.client.proofs.filter.take_filter.Statement.{statement}
 use Rattle.client.proofs.filter.take_filter.Tie as tie
@@ -23,15 +28,26 @@ put-reply-requires c κs =
 
 note-reply-requires : tie.Need-note-reply-requires
 note-reply-requires c κs =
-    let a = c .before .before .before .before .before .before .before .before .before .args in
-    ready-server (a .t) (a .client) (a .call) (a .reply .now) (a .head)
-    (c .before .before .before .before .before .before .before .before .before .pre .0)
+    let q = c .before .before .before .before .before .before .before .before .before in
+    let a = q .args in
+    let y = q .pre .0 in
+    (ready-faults (a .t) (a .client) (a .call) (a .reply .now) (a .head) y .1, ready-server (a .t) (a .client) (a .call) (a .reply .now) (a .head) y)
 
-is-last-requires : tie.Need-is-last-requires
-is-last-requires c κs =
-    let a = c .before .before .before .before .before .before .before .before .before .before .args in
-    ready-faults (a .t) (a .client) (a .call) (a .reply .now) (a .head)
-    (c .before .before .before .before .before .before .before .before .before .before .pre .0) .1
+is-full-requires : tie.Need-is-full-requires
+is-full-requires c κs =
+    let q = c .before .before .before .before .before .before .before .before .before .before in
+    let a = q .args in
+    ready-faults (a .t) (a .client) (a .call) (a .reply .now) (a .head) (q .pre .0) .1
+
+module _ (c : tie.After-is-full) where
+  abbrev start : tie.Start
+  start = c .before .before .before .before .before .before .before .before .before .before .before
+
+  -- the test of the code tells whether the reply ends the round
+  ended : (v : Bool) → c .is-full .result ≡ v → ends (shelf (start .args .t)) (start .args .call) (start .args .head .server) ≡ v
+  ended v e =
+      ends-by (start .args .t) (start .args .call) (start .args .head .server) _ (ap (λ (z : Call). z .tally) (c .before .note-reply .ensures)) _ v
+      (c .is-full .ensures) e
 
 judge-requires : tie.Need-judge-requires
 judge-requires c κs =
@@ -49,8 +65,7 @@ returns c =
     let Y : Bytes (a .reply .now) = λ k.
     c .before .before .before .before .before .before .before .before .before .before .before .before .before .before .before .before .before
     .shared-slice-known .given k .fits in
-    let e = sym (c .before .before .before .before .before .before .before .before .is-last .ensures) ∙
-    c .before .before .before .before .before .before .before .if1 .taken in
+    let e = ended (c .before .before .before .before .before .before .before .before) _ (c .before .before .before .before .before .before .before .if1 .taken) in
     let at : ℕ = repliesAt + replySlot * (a .head .server - 1) in
     let N : Bytes (c .before .before .before .before .before .before .before .before .before .before .before .before .put-reply .last .0) = λ k.
     c .before .before .before .before .before .before .before .before .before .before .slice-known3 .given k .fits in
@@ -73,7 +88,7 @@ returns-2 c =
     let p = c .before .before .before .before .before .before .before .before .before .before .before .before .before .pre in
     let Y : Bytes (a .reply .now) = λ k.
     c .before .before .before .before .before .before .before .before .before .before .before .shared-slice-known .given k .fits in
-    let e = sym (c .before .before .is-last .ensures) ∙ c .before .if1 .left in
+    let e = ended (c .before .before) _ (c .before .if1 .left) in
     λ writers keys.
     rw (
       c .more .ensures,
@@ -84,5 +99,5 @@ returns-2 c =
     (filter-more (a .t) (a .client) (a .call) (a .reply .now) (a .head) (p .0) (p .1 .0) Y writers keys (a .kept .now) (a .out .now) (p .1 .1 .1) e)
 
 pub take-filter-spec : {M : Type 1} → statement M
-take-filter-spec = tie.close (tie.spec (λ c. search needs) (λ c κs. search needs) put-reply-requires note-reply-requires is-last-requires
+take-filter-spec = tie.close (tie.spec (λ c. search needs) (λ c κs. search needs) put-reply-requires note-reply-requires is-full-requires
     judge-requires (λ c. search needs) (λ c. search needs) returns (λ c κs. search needs) (λ c. search needs) returns-2)

@@ -5,7 +5,7 @@ use mathlib.Core.Bool.{true}
 use lib.Dec.{leb}
 use native.Mathlib.Omega.{arith}
 use borrow.Author.Tests.{leb-true}
-use Rattle.protocol.specs.ClientBytes.{awaited, inHand}
+use Rattle.protocol.specs.ClientBytes.{inHand, awaited}
 use Rattle.client.proofs.replies.awaited_kind.Statement.{statement}
 use Rattle.client.proofs.replies.awaited_kind.Tie as tie
 use Rattle.cluster.proofs.Tests.{and-both}

@@ -4,9 +4,14 @@ use mathlib.Core.Bool.{true, false}
 use Rattle.cluster.specs.Config.{shelf}
 use Rattle.protocol.specs.Client.{badFaults}
 use Rattle.client.proofs.TakeTests.{take-faults, take-reader, take-length, taken-in, takes-refused}
+use lib.ListN.{length}
+use Rattle.cluster.specs.Ranges.{mostServers}
 use borrow.Author.Needs.{needs}
 use Rattle.client.proofs.taking.take_in.Statement.{statement}
 use Rattle.client.proofs.taking.take_in.Tie as tie
+
+wide : (c : tie.Start) → length (c .args .call .tally .marks) ≡ mostServers
+wide c = search needs
 
 returns : tie.Need-returns
 returns c =
@@ -21,7 +26,7 @@ returns-2 c =
     let a = c .before .before .before .before .before .before .before .args in
     let w : badFaults (shelf (a .t)) ≡ true = sym (c .before .before .outside .ensures) ∙ c .before .if2 .taken in
     taken-in (a .t) (a .client) (a .writers .now) (a .keys .now) (a .call) (a .kept .now) (a .reply .now) (a .out .now) (c .refused2 .result)
-    (a .kept .now) (a .out .now) (c .before .before .before .if1 .left)
+    (a .kept .now) (a .out .now) (wide (c .before .before .before .before .before .before .before)) (c .before .before .before .if1 .left)
     (takes-refused (a .t) (a .client) (a .writers .now) (a .keys .now) (a .call) (a .kept .now) (a .reply .now) (a .out .now) (c .refused2 .result) 3
     (c .refused2 .ensures) (take-faults (a .t) (a .client) (a .writers .now) (a .keys .now) (a .call) (a .kept .now) (a .reply .now) (a .out .now) w))
 
@@ -32,7 +37,7 @@ returns-3 c =
     let w : badFaults (shelf (a .t)) ≡ false = sym (c .before .before .before .before .outside .ensures) ∙ c .before .before .before .if2 .left in
     let v = sym (c .before .before .outside2 .ensures) ∙ c .before .if3 .taken in
     taken-in (a .t) (a .client) (a .writers .now) (a .keys .now) (a .call) (a .kept .now) (a .reply .now) (a .out .now) (c .refused3 .result)
-    (a .kept .now) (a .out .now) (c .before .before .before .before .before .if1 .left)
+    (a .kept .now) (a .out .now) (wide (c .before .before .before .before .before .before .before .before .before)) (c .before .before .before .before .before .if1 .left)
     (takes-refused (a .t) (a .client) (a .writers .now) (a .keys .now) (a .call) (a .kept .now) (a .reply .now) (a .out .now) (c .refused3 .result) 5
     (c .refused3 .ensures) (take-reader (a .t) (a .client) (a .writers .now) (a .keys .now) (a .call) (a .kept .now) (a .reply .now) (a .out .now) w
     v))
@@ -48,7 +53,7 @@ returns-4 : tie.Need-returns-4
 returns-4 c =
     let a = c .before .before .before .before .before .before .before .before .before .before .before .before .before .before .before .args in
     taken-in (a .t) (a .client) (a .writers .now) (a .keys .now) (a .call) (a .kept .now) (a .reply .now) (a .out .now)
-    (c .before .before .before .before .take-reply .result) _ _
+    (c .before .before .before .before .take-reply .result) _ _ (wide (c .before .before .before .before .before .before .before .before .before .before .before .before .before .before .before))
     (c .before .before .before .before .before .before .before .before .before .before .before .if1 .left)
     (c .before .before .before .before .take-reply .ensures)
 
