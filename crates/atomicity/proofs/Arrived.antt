@@ -20,11 +20,11 @@ use Rattle.protocol.specs.Rules.{upd}
 use Rattle.protocol.specs.Server.{act}
 use Rattle.protocol.specs.Client.{Client, Hand, Turn, refused, idle, clocking, storing, completing, collecting, filtering, repairing, awaits, isIdle, isFull, tooHigh, highAt, badFaults, accepted}
 use Rattle.protocol.specs.Client.{onto, begun, higher, stampIn, codeIn}
-use Rattle.protocol.specs.Runs.{Step, take-reply, World, nowValues}
+use Rattle.protocol.specs.Runs.{Lent, Step, take-reply}
+use Rattle.protocol.proofs.ValueRuns.{World, nowValues}
 use Rattle.atomicity.specs.Lists.{Ever}
 use Rattle.atomicity.specs.Steps.{serves, stampedAt}
-use Rattle.atomicity.specs.Premises.{Sent}
-use Rattle.atomicity.specs.Claim.{cameIn}
+use Rattle.atomicity.specs.Claim.{cameIn, Arrives}
 use Rattle.atomicity.proofs.Util.{clash, and-right, ever-map, ever-with, ever-out, rise, within-in}
 use Rattle.atomicity.proofs.Model.{perform, now, account, marks, turn}
 use Rattle.atomicity.proofs.Setup.{Setup, Steps, StepOf, Meets, Fair, hand, calls, lat, srv, cli, replied, lastOf}
@@ -45,20 +45,17 @@ use Rattle.atomicity.proofs.Grown.{code, code-cases, code-is, reply-t, 
 module _ (K : Setup) (c : ℕ) where
   -- server b's reply to the round of kind k of call n comes in
   abbrev pub Arr : ℕ → ℕ → ℕ → StepOf K → Steps K → Type 0
-  Arr n k b x xs = (reply : List ℕ) × (o : List ℕ) × (p : Packet) × (x .step ≡ take-reply c reply o) × (cameIn (result K x xs) ≡ true)
-      × (decode reply ≡ some p)
-      × (p .head .client ≡ c) × (p .head .server ≡ b) × (p .head .call ≡ n) × (kindOf (p .body) ≡ k)
-      × Sent (K .s) (account (K .s)) (K .correct) (serves b) reply xs
+  Arr n k b x xs = Arrives (K .s) (account (K .s)) c n k b x xs
 
   -- it was asked for no later than now
   too-early : (xs : Steps K) → Fair K xs → K .correct .client c ≡ true → (n k b : ℕ) → Ever (Arr n k b) xs →
       16 * n + k ≤ pos (cli K xs c)
   too-early xs fair good n k b ev = ever-out _ xs
-      (λ y ys h. let a = h .0 .2 in let p = a .2 in
-      let t = reply-source K ys (h .0 .1) p (subst (λ (i : ℕ). K .correct .client i ≡ true) (sym (a .6)) good)
-      (subst (λ (i : ℕ). Ever (MadeBy K (serves i) p) ys) (sym (a .7)) (sent-made K (serves b) (a .0) p (a .5) ys (a .10))) in
-      ever-out _ ys (λ z zs u. ever-out _ zs (λ w ws v. omega (arith, v .1, a .8, a .9, v .0 .low, u .1 .low, h .1 .low))
-      (asked-at K c p z zs (a .6) (u .0))) (ever-before (K .s) c _ ys t))
+      (λ y ys h. let a = h .0 .2 in let p = a .packet in
+      let t = reply-source K ys (h .0 .1) p (subst (λ (i : ℕ). K .correct .client i ≡ true) (sym (a .client)) good)
+      (subst (λ (i : ℕ). Ever (MadeBy K (serves i) p) ys) (sym (a .server)) (sent-made K (serves b) (a .reply) p (a .decoded) ys (a .sent))) in
+      ever-out _ ys (λ z zs u. ever-out _ zs (λ w ws v. omega (arith, v .1, a .call, a .kind, v .0 .low, u .1 .low, h .1 .low))
+      (asked-at K c p z zs (a .client) (u .0))) (ever-before (K .s) c _ ys t))
       (ever-before (K .s) c _ xs (ever-with (Meets K) (Arr n k b) xs fair ev))
 
   -- ---- refusal 14 and the answer 11 do not come
@@ -149,7 +146,7 @@ module _ (K : Setup) (c : ℕ) where
       go (rbegan s a i e) f low = absurd
           (omega (arith, low, nq, ap (λ (z : Client). z .calls) e, stage-bound (hand K xs c) .1, ap (λ (z : Client). awaits (z .hand)) e, kq))
       go (quit s a i e) f low = clash refl (subst (λ (z : Client). isIdle (z .hand) ≡ false) e busy)
-      go (took p b' o s rd fit e v) f low =
+      go (took p lent b' o s rd fit e v) f low =
           let t = turn-turned (K .s) c (cli K xs c) p in
           let cq : cl' .calls ≡ calls K xs c = ap (λ (y : Client). y .calls) e ∙ t .calls in
           let st = next-stage (K .s) c (hand K xs c) (lastOf K xs c) (cl' .hand) (cl' .last)
@@ -169,30 +166,30 @@ module _ (K : Setup) (c : ℕ) where
       cl' = perform (K .s) w (x .step) .world .client c
 
       p : Packet
-      p = a .2
+      p = a .packet
 
       made-by : Ever (MadeBy K (serves (p .head .server)) p) xs
-      made-by = subst (λ (i : ℕ). Ever (MadeBy K (serves i) p) xs) (sym (a .7)) (sent-made K (serves b) (a .0) p (a .5) xs (a .10))
+      made-by = subst (λ (i : ℕ). Ever (MadeBy K (serves i) p) xs) (sym (a .server)) (sent-made K (serves b) (a .reply) p (a .decoded) xs (a .sent))
 
       -- it was let in
-      let-in : (q : Packet) (b' o : List ℕ) → x .step ≡ take-reply c b' o → decode b' ≡ some q → Fits (K .s) c (cli K xs c) q →
+      let-in : (q : Packet) (lent : Lent) (b' o : List ℕ) → x .step ≡ take-reply c lent b' o → decode b' ≡ some q → Fits (K .s) c (cli K xs c) q →
           cl' ≡ turn (K .s) c (cli K xs c) q .client → cl' .marks b ≡ true
-      let-in q b' o s rd fit e =
-          let same-bytes : b' ≡ a .0 = take-inj (sym s ∙ a .3) in
-          let pq : q ≡ p = Option·some-injective _ _ (sym rd ∙ ap decode same-bytes ∙ a .5) in
+      let-in q lent b' o s rd fit e =
+          let same-bytes : b' ≡ a .reply = take-inj (sym s ∙ a .step) in
+          let pq : q ≡ p = Option·some-injective _ _ (sym rd ∙ ap decode same-bytes ∙ a .decoded) in
           let ev : Ever (Heard K c (q .head .server) xs (q .body)) xs =
           heard K c xs (past K x xs fair) q good (fit .mine) (fit .call) (fit .busy) (fit .kind)
           (subst (λ (z : Packet). Ever (MadeBy K (serves (z .head .server)) z) xs) (sym pq) made-by) in
-          let kk : k ≡ awaits (hand K xs c) = sym (a .9) ∙ ap (λ (z : Packet). kindOf (z .body)) (sym pq) ∙ fit .kind in
+          let kk : k ≡ awaits (hand K xs c) = sym (a .kind) ∙ ap (λ (z : Packet). kindOf (z .body)) (sym pq) ∙ fit .kind in
           let sq : stage (hand K xs c) ≡ stage (cl' .hand) =
           omega (arith, kk, kq, stage-awaits (cl' .hand) busy, stage-awaits (hand K xs c) (fit .busy)) in
           subst (λ (y : Client). y .marks b ≡ true) (sym e)
-          (subst (λ (i : ℕ). turn (K .s) c (cli K xs c) q .client .marks i ≡ true) (ap (λ (z : Packet). z .head .server) pq ∙ a .7)
+          (subst (λ (i : ℕ). turn (K .s) c (cli K xs c) q .client .marks i ≡ true) (ap (λ (z : Packet). z .head .server) pq ∙ a .server)
           (update-grown (K .s) c (cli K xs c) (q .head .server) (q .body) _ (hand K xs c) (fit .busy)
           (sq ∙ ap (λ (y : Client). stage (y .hand)) e) .1
           (not-eleven xs (q .head .server) (q .body) (hand K xs c) refl (subst (λ (i : ℕ). Roomy i xs) kk (roomy-down k x xs room)) ev)))
         where
-          take-inj : {u v u' v' : List ℕ} → take-reply c u v ≡ take-reply c u' v' → u ≡ u'
+          take-inj : {l l' : Lent} {u v u' v' : List ℕ} → take-reply c l u v ≡ take-reply c l' u' v' → u ≡ u'
           take-inj e = cc
 
       -- it was turned down: its server had replied
@@ -200,27 +197,27 @@ module _ (K : Setup) (c : ℕ) where
       turned-down e down =
           let hq : hand K (x ∷ xs) c ≡ hand K xs c = ap (λ (z : Client). z .hand) e in
           let busy' : isIdle (hand K xs c) ≡ false = subst (λ (z : Hand). isIdle z ≡ false) hq busy in
-          let call : p .head .call ≡ calls K xs c = a .8 ∙ nq ∙ ap (λ (z : Client). z .calls) e in
-          let kind : kindOf (p .body) ≡ awaits (hand K xs c) = a .9 ∙ kq ∙ ap awaits hq in
-          let ev = heard K c xs (past K x xs fair) p good (a .6) call busy' kind made-by in
+          let call : p .head .call ≡ calls K xs c = a .call ∙ nq ∙ ap (λ (z : Client). z .calls) e in
+          let kind : kindOf (p .body) ≡ awaits (hand K xs c) = a .kind ∙ kq ∙ ap awaits hq in
+          let ev = heard K c xs (past K x xs fair) p good (a .client) call busy' kind made-by in
           let room' : Roomy (awaits (hand K xs c)) xs = subst (λ (i : ℕ). Roomy i xs) (kq ∙ ap awaits hq) (roomy-down k x xs room) in
           let same-t : p .head .t ≡ K .s .config .t = told-t in let rg = K .parties .clients c good in
-          let res : result K x xs ≡ onRefusal (code (K .s) c (cli K xs c) p (length (a .1))) (turn (K .s) c (cli K xs c) p)
-          (record { client = cli K xs c; result = refused (code (K .s) c (cli K xs c) p (length (a .1))) }) .result =
-          ap (λ (y : Step). perform (K .s) w y .result) (a .3) ∙ result-is (K .s) c w (a .0) (a .1) p (a .5) in
-          code-cases (code (K .s) c (cli K xs c) p (length (a .1))) (replied K xs c (p .head .server))
+          let res : result K x xs ≡ onRefusal (code (K .s) c (cli K xs c) p (length (a .output))) (turn (K .s) c (cli K xs c) p)
+          (record { client = cli K xs c; result = refused (code (K .s) c (cli K xs c) p (length (a .output))) }) .result =
+          ap (λ (y : Step). perform (K .s) w y .result) (a .step) ∙ result-is (K .s) c w (a .lent) (a .reply) (a .output) p (a .decoded) in
+          code-cases (code (K .s) c (cli K xs c) p (length (a .output))) (replied K xs c (p .head .server))
           (highAt (K .s .P) (K .s .config) c (K .s .writers) (K .s .keys) (cli K xs c) (p .head .server) (p .body))
-          (ltb (length (a .1)) contentRoom)
-          (code-is (K .s) c (cli K xs c) p (length (a .1)) good-faults (within-in 1 topClient c (rg .0) (rg .1)) same-t (a .6) busy' call kind)
-          (λ u. subst (λ (z : Client). z .marks b ≡ true) (sym e) (subst (λ (i : ℕ). replied K xs c i ≡ true) (a .7) u))
+          (ltb (length (a .output)) contentRoom)
+          (code-is (K .s) c (cli K xs c) p (length (a .output)) good-faults (within-in 1 topClient c (rg .0) (rg .1)) same-t (a .client) busy' call kind)
+          (λ u. subst (λ (z : Client). z .marks b ≡ true) (sym e) (subst (λ (i : ℕ). replied K xs c i ≡ true) (a .server) u))
           (λ u. absurd (not-high xs (past K x xs fair) (p .head .server) (p .body)
           (isFull (K .s .config) (upd (replied K xs c) (p .head .server) true)) (hand K xs c) refl room' ev u))
-          (λ u. clash (a .4) (fifteen (turn (K .s) c (cli K xs c) p) (code (K .s) c (cli K xs c) p (length (a .1))) res u))
-          (λ u. clash (through (code (K .s) c (cli K xs c) p (length (a .1))) res u) down)
+          (λ u. clash (a .came) (fifteen (turn (K .s) c (cli K xs c) p) (code (K .s) c (cli K xs c) p (length (a .output))) res u))
+          (λ u. clash (through (code (K .s) c (cli K xs c) p (length (a .output))) res u) down)
         where
           told-t : p .head .t ≡ K .s .config .t
           told-t = ever-out (Told K p) xs (λ y ys t. reply-t p (t .behind .ask) _ (t .behind .reply) ∙ t .behind .asked .same-t)
-              (reply-source K xs (past K x xs fair) p (subst (λ (i : ℕ). K .correct .client i ≡ true) (sym (a .6)) good) made-by)
+              (reply-source K xs (past K x xs fair) p (subst (λ (i : ℕ). K .correct .client i ≡ true) (sym (a .client)) good) made-by)
 
           fifteen : (u : Turn) (v : ℕ) → result K x xs ≡ onRefusal v u (record { client = cli K xs c; result = refused v }) .result → v ≡ 15 →
               cameIn (result K x xs) ≡ false
@@ -233,8 +230,8 @@ module _ (K : Setup) (c : ℕ) where
               ∙ turn-turned (K .s) c (cli K xs c) p .fine
 
       go : Moved (K .s) c w (x .step) cl' (result K x xs) → cl' .marks b ≡ true
-      go (kept e f) = turned-down e (f (ap (acting c) (a .3) ∙ eq-eqb c c refl))
-      go (wbegan r m s z i l e) = absurd (let s' = sym s ∙ a .3 in let y : _≡_ {A = ℕ} 0 1 = cc in omega arith)
-      go (rbegan s z i e) = absurd (let s' = sym s ∙ a .3 in let y : _≡_ {A = ℕ} 0 1 = cc in omega arith)
-      go (quit s z i e) = absurd (let s' = sym s ∙ a .3 in let y : _≡_ {A = ℕ} 0 1 = cc in omega arith)
-      go (took q b' o s rd fit e v) = let-in q b' o s rd fit e
+      go (kept e f) = turned-down e (f (ap (acting c) (a .step) ∙ eq-eqb c c refl))
+      go (wbegan r m s z i l e) = absurd (let s' = sym s ∙ a .step in let y : _≡_ {A = ℕ} 0 1 = cc in omega arith)
+      go (rbegan s z i e) = absurd (let s' = sym s ∙ a .step in let y : _≡_ {A = ℕ} 0 1 = cc in omega arith)
+      go (quit s z i e) = absurd (let s' = sym s ∙ a .step in let y : _≡_ {A = ℕ} 0 1 = cc in omega arith)
+      go (took q lent b' o s rd fit e v) = let-in q lent b' o s rd fit e

@@ -12,10 +12,11 @@ use Rattle.cluster.specs.Ranges.{within, leastLength, topLength}
 use Rattle.protocol.specs.Format.{Bytes}
 use Rattle.protocol.specs.Packet.{decode}
 use Rattle.protocol.specs.Client.{Client, Hand, Result, Turn, isIdle, writeRefusal, writeStep, idle, clocking, storing, completing, collecting, filtering, repairing, begun, onto, prepared, candidateMade, shareMade, sharesMade, stampOf, accepted}
-use Rattle.protocol.specs.Runs.{Step, write, take-reply, Typed, World, Fed, nowValues, doValues, setClient}
+use Rattle.protocol.specs.Runs.{Step, write, take-reply, Fed}
+use Rattle.protocol.proofs.ValueRuns.{World, nowValues, doValues, setClient}
 use Rattle.protocol.proofs.Fine.{at-refusal}
 use Rattle.atomicity.specs.Lists.{Ever, In, flat}
-use Rattle.atomicity.specs.Steps.{System, Stamped, stampedFrom, stampedBy, stampedAt, digestsWith, digestedBy, digested, allDigested, inPacket, fragments}
+use Rattle.atomicity.specs.Steps.{StepIn, System, Stamped, stampedFrom, stampedBy, stampedAt, digestsWith, digestedBy, digested, compared, allDigested, ofPacket}
 use Rattle.atomicity.proofs.Util.{clash, left-in, right-in, split-in, flat-in, ever-out}
 use Rattle.atomicity.proofs.Model.{Run, perform, now, account, marks, stampFor, candidateFor, sharesFor}
 use Rattle.atomicity.proofs.Moves.{write-passed, Moved, kept, wbegan, rbegan, quit, took, moved}
@@ -31,7 +32,7 @@ write-length s c cl r n = at-refusal (λ (u : Turn). accepted (u .result) ≡ tr
 
 module _ (s : System) where
   -- the write was begun
-  abbrev pub Opening : ℕ → List ℕ → List ℕ → Typed (s .config) → Run s → Type 0
+  abbrev pub Opening : ℕ → List ℕ → List ℕ → StepIn s → Run s → Type 0
   Opening c r n x xs = (x .step ≡ write c r n) × (accepted (perform s (now s xs) (x .step) .result) ≡ true)
 
   -- what is known of a writing hand
@@ -44,7 +45,7 @@ module _ (s : System) where
   Known xs c (filtering cs g) = Unit {0}
   Known xs c (repairing d r) = Unit {0}
 
-  known-up : (x : Typed (s .config)) (xs : Run s) (c : ℕ) (h : Hand) → Known xs c h → Known (x ∷ xs) c h
+  known-up : (x : StepIn s) (xs : Run s) (c : ℕ) (h : Hand) → Known xs c h → Known (x ∷ xs) c h
   unfolding Known Ever
   known-up x xs c idle f = tt
   known-up x xs c (clocking r n k) f = inr f
@@ -54,7 +55,7 @@ module _ (s : System) where
   known-up x xs c (filtering cs g) f = tt
   known-up x xs c (repairing d r) f = tt
 
-  known-next : (x : Typed (s .config)) (xs : Run s) (c : ℕ) (h : Hand) (l : ℕ) (h' : Hand) (l' : ℕ) → Next s c h l h' l' →
+  known-next : (x : StepIn s) (xs : Run s) (c : ℕ) (h : Hand) (l : ℕ) (h' : Hand) (l' : ℕ) → Next s c h l h' l' →
       ((m : Stamped) → In m (stampedFrom c h h') → In m (marks s (x ∷ xs))) → Known xs c h → Known (x ∷ xs) c h'
   unfolding Known Ever stampedFrom prepared candidateMade sharesMade shareMade stampOf In
   known-next x xs c h l h' l' (stays _ _) new f = known-up x xs c h f
@@ -87,13 +88,13 @@ module _ (s : System) where
       go (wbegan r n a b d l e) f = to e (inl (a, subst (λ (z : Result). accepted z ≡ true) (sym b) refl))
       go (rbegan a b d e) f = to e tt
       go (quit a b d e) f = to e tt
-      go (took p b o a d g e r) f = known-next x xs c (w .client c .hand) (w .client c .last) (cl' .hand) (cl' .last)
+      go (took p lent b o a d g e r) f = known-next x xs c (w .client c .hand) (w .client c .last) (cl' .hand) (cl' .last)
           (subst (λ (z : Client). Next s c (w .client c .hand) (w .client c .last) (z .hand) (z .last)) (sym e)
           (turn-turned s c (w .client c) p .next))
           (λ m i. new m (subst (λ (y : Step). In m (stampedBy (w .client) (perform s w (x .step) .world .client) y)) (sym a) (here m i))) f
         where
           here : (m : Stamped) → In m (stampedFrom c (w .client c .hand) (cl' .hand)) →
-              In m (stampedBy (w .client) (perform s w (x .step) .world .client) (take-reply c b o))
+              In m (stampedBy (w .client) (perform s w (x .step) .world .client) (take-reply c lent b o))
           here m i = i
 
           new : (m : Stamped) → In m (stampedAt s (account s) x xs) → In m (marks s (x ∷ xs))
@@ -113,7 +114,7 @@ module _ (s : System) where
   -- so its content is of bytes
   pub mark-bytes : (xs : Run s) (m : Stamped) → In m (marks s xs) → Bytes (m .content)
   mark-bytes xs m i = ever-out (Opening (m .client) (m .content) (m .nonce)) xs
-      (λ y ys o. subst (λ (st : Step). Fed (s .config) st → Bytes (m .content)) (sym (o .0)) (λ f. f .0) (y .fed)) (opened xs m i)
+      (λ y ys o. subst (λ (st : Step). Fed (s .config) (s .writers) (s .keys) st → Bytes (m .content)) (sym (o .0)) (λ f. f .0) (y .fed)) (opened xs m i)
 
   -- and its length is in its range: any other is refused
   pub mark-length : (xs : Run s) (m : Stamped) → In m (marks s xs) → within leastLength topLength (length (m .content)) ≡ true
@@ -132,13 +133,13 @@ module _ (s : System) where
           In u (digested s (account s) x xs ++ allDigested s (account s) xs)
       go (inr k) f = right-in u (digested s (account s) x xs) (allDigested s (account s) xs) (f k)
       go (inl k) f = left-in u (digested s (account s) x xs) (allDigested s (account s) xs)
-          (subst (λ (b : Bool). In u (cond b (digestedBy s (stampedAt s (account s) x xs) (x .step)) [])) (sym (t .fine))
-          (subst (λ (y : Step). In u (digestedBy s (stampedAt s (account s) x xs) y)) (sym (t .step))
+          (subst (λ (b : Bool). In u (cond b (digestedBy s (account s .client xs) (account s .server xs) (stampedAt s (account s) x xs) (x .step)) [])) (sym (t .fine))
+          (subst (λ (y : Step). In u (digestedBy s (account s .client xs) (account s .server xs) (stampedAt s (account s) x xs) y)) (sym (t .step))
           (here (flat-in (digestsWith s) (stampedAt s (account s) x xs) m u k d))))
         where
           t : Marked s (now s xs) (x .step) m
           t = mark-source s (now s xs) (x .step) m k
 
           here : In u (flat (digestsWith s) (stampedAt s (account s) x xs)) →
-              In u (digestedBy s (stampedAt s (account s) x xs) (take-reply (m .client) (t .packet) (t .output)))
-          here j = left-in u (flat (digestsWith s) (stampedAt s (account s) x xs)) (inPacket fragments (decode (t .packet))) j
+              In u (digestedBy s (account s .client xs) (account s .server xs) (stampedAt s (account s) x xs) (take-reply (m .client) (t .lent) (t .packet) (t .output)))
+          here j = left-in u (flat (digestsWith s) (stampedAt s (account s) x xs)) (ofPacket (compared s (account s .client xs (m .client)) (account s .client xs (m .client) .hand)) (decode (t .packet))) j

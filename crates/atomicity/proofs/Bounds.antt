@@ -10,11 +10,12 @@ use native.Mathlib.Omega.{arith}
 use lib.ListN.{length, length-append, length-map}
 use Rattle.protocol.specs.Rules.{keep}
 use Rattle.protocol.specs.Client.{Client, accepted}
-use Rattle.protocol.specs.Runs.{Step, write, read, make, take-reply, give-up, serve, nowValues}
+use Rattle.protocol.specs.Runs.{Step, write, read, make, take-reply, give-up, serve}
+use Rattle.protocol.proofs.ValueRuns.{nowValues}
 use Rattle.atomicity.specs.Lists.{Ever, In, AllPairs}
 use Rattle.atomicity.specs.Steps.{Stamped, stampedFrom, stampedBy, stampedAt}
 use Rattle.atomicity.specs.Premises.{Begins}
-use Rattle.atomicity.specs.Claim.{Call, given, log, begunWrites}
+use Rattle.atomicity.specs.Claim.{Logged, given, log, begunWrites}
 use Rattle.atomicity.proofs.Util.{left-in, right-in, map-in, all-of}
 use Rattle.atomicity.proofs.Model.{perform, now, account, marks}
 use Rattle.atomicity.proofs.Setup.{Setup, Steps, StepOf, Fair, Begin, calls}
@@ -35,7 +36,7 @@ by-one was is (read c) = inl refl
 by-one was is (make c b o) = inl refl
 by-one was is (give-up c) = inl refl
 by-one was is (serve b p o) = inl refl
-by-one was is (take-reply c b o) = go (from-one c (was c .hand) (is c .hand))
+by-one was is (take-reply c lent b o) = go (from-one c (was c .hand) (is c .hand))
   where
     go : From c (was c .hand) (is c .hand) → (stampedFrom c (was c .hand) (is c .hand) ≡ [])
         ⊎ ((m : Stamped) × (stampedFrom c (was c .hand) (is c .hand) ≡ m ∷ []))
@@ -74,7 +75,7 @@ module _ (K : Setup) where
   begunNonce x xs (write c r n) = cond (accepted (result K x xs)) (n ∷ []) []
   begunNonce x xs (read c) = []
   begunNonce x xs (make c b o) = []
-  begunNonce x xs (take-reply c b o) = []
+  begunNonce x xs (take-reply c lent b o) = []
   begunNonce x xs (give-up c) = []
   begunNonce x xs (serve b p o) = []
 
@@ -92,10 +93,10 @@ module _ (K : Setup) where
       here r e = subst (λ (b : Bool). In n (cond b (n ∷ []) [])) (sym e) (inl refl)
   begun-nonce (x ∷ xs) c n (inr h) = right-in n (begunNonce x xs (x .step)) (nonces xs) (begun-nonce xs c n h)
 
-  abbrev isWrite : Call → Bool
+  abbrev isWrite : Logged → Bool
   isWrite c = given (c .wrote)
 
-  keep-append : (p : Call → Bool) (us vs : List Call) → length (keep p (us ++ vs)) ≡ length (keep p us) + length (keep p vs)
+  keep-append : (p : Logged → Bool) (us vs : List Logged) → length (keep p (us ++ vs)) ≡ length (keep p us) + length (keep p vs)
   unfolding keep
   keep-append p [] vs = omega arith
   keep-append p (u ∷ us) vs = go (p u) (keep-append p us vs)
@@ -112,13 +113,13 @@ module _ (K : Setup) where
   map-writes x xs fair [] = refl
   map-writes x xs fair (g ∷ gs) = go (step-keeps K x xs fair g .wrote) (map-writes x xs fair gs)
     where
-      T : List Call
+      T : List Logged
       T = map (touched K x xs (x .step)) (map (λ (g : Signed K xs). g .call) gs)
 
-      C : List Call
+      C : List Logged
       C = map (λ (g : Signed K xs). g .call) gs
 
-      two : (b : Bool) (u v : Call) → length (keep isWrite T) ≡ length (keep isWrite C) →
+      two : (b : Bool) (u v : Logged) → length (keep isWrite T) ≡ length (keep isWrite C) →
           length (cond b (u ∷ keep isWrite T) (keep isWrite T)) ≡ length (cond b (v ∷ keep isWrite C) (keep isWrite C))
       two true u v e = ap suc e
       two false u v e = e
@@ -142,7 +143,7 @@ module _ (K : Setup) where
       go true = refl
       go false = refl
   new-writes x xs (make c b o) = refl
-  new-writes x xs (take-reply c b o) = refl
+  new-writes x xs (take-reply c lent b o) = refl
   new-writes x xs (give-up c) = refl
   new-writes x xs (serve b p o) = refl
 
@@ -152,10 +153,10 @@ module _ (K : Setup) where
   nonces-writes (x ∷ xs) fair = length-append (begunNonce x xs (x .step)) (nonces xs)
       ∙ ap₂ (λ (a b : ℕ). a + b) (new-writes x xs (x .step)) (nonces-writes xs (past K x xs fair) ∙ sym old)
       ∙ sym (keep-append isWrite (news K x xs (x .step)) (map (touched K x xs (x .step)) (Log K xs)))
-      ∙ ap (λ (l : List Call). length (keep isWrite l)) (sym (note-shape K x xs (Log K xs) (x .step)))
+      ∙ ap (λ (l : List Logged). length (keep isWrite l)) (sym (note-shape K x xs (Log K xs) (x .step)))
     where
       old : length (keep isWrite (map (touched K x xs (x .step)) (Log K xs))) ≡ length (keep isWrite (Log K xs))
-      old = subst (λ (l : List Call). length (keep isWrite (map (touched K x xs (x .step)) l)) ≡ length (keep isWrite l))
+      old = subst (λ (l : List Logged). length (keep isWrite (map (touched K x xs (x .step)) l)) ≡ length (keep isWrite l))
           (story-log K xs (past K x xs fair)) (map-writes x xs fair (story K xs (past K x xs fair)))
 
   pub few-marks : (xs : Steps K) → Fair K xs → length (marks (K .s) xs) ≤ begunWrites (Log K xs)

@@ -14,11 +14,12 @@ use Rattle.protocol.specs.declared.Stamp.{Stamp}
 use Rattle.protocol.specs.Values.{Candidate, below, blankStamp}
 use Rattle.protocol.specs.Packet.{Packet, decode}
 use Rattle.protocol.specs.Client.{Client, Hand, Result, idle, clocking, storing, completing, collecting, filtering, repairing, begun, onto, accepted}
-use Rattle.protocol.specs.Runs.{take-reply, nowValues}
+use Rattle.protocol.specs.Runs.{Lent, take-reply}
+use Rattle.protocol.proofs.ValueRuns.{nowValues}
 use Rattle.protocol.proofs.Answers.{at-cond}
 use Rattle.atomicity.specs.Lists.{Ever, In}
 use Rattle.atomicity.specs.Steps.{Stamped, stampedAt}
-use Rattle.atomicity.specs.Claim.{Call}
+use Rattle.atomicity.specs.Claim.{Logged}
 use Rattle.atomicity.proofs.Util.{left-in, right-in}
 use Rattle.atomicity.proofs.Model.{perform, now, account, marks}
 use Rattle.atomicity.proofs.Setup.{Setup, Steps, StepOf, hand, calls, cli}
@@ -81,11 +82,11 @@ module _ (K : Setup) where
   abbrev pub Grounded : Steps K → Option (List ℕ) → Stamp → Type 0
   Grounded xs v σ = ((v ≡ none) × (σ ≡ blankStamp)) ⊎ ((r : Revealed K xs σ) × (v ≡ some (r .write .content)))
 
-  pub record Read (xs : Steps K) (a : Call) (σ : Stamp) : Type 0 where
+  pub record Read (xs : Steps K) (a : Logged) (σ : Stamp) : Type 0 where
     pub floor : (b : Stamp) (e : ℕ) → Ends K b e xs → e < a .begun → below σ b ≡ false
     pub value : Grounded xs (a .answer) σ
 
-  pub record Base (xs : Steps K) (a : Call) (σ : Stamp) : Type 0 where
+  pub record Base (xs : Steps K) (a : Logged) (σ : Stamp) : Type 0 where
     pub begun-lt : a .begun < length xs
     pub number-le : a .number ≤ calls K xs (a .client)
     pub ended : (e : ℕ) → a .over ≡ some e → (a .begun < e) × (e < length xs) × Ends K σ e xs
@@ -95,20 +96,20 @@ module _ (K : Setup) where
     pub leaves : a .gaveUp ≡ true → a .over ≡ none
 
   -- the call in hand
-  pub record Open (xs : Steps K) (a : Call) : Type 0 where
+  pub record Open (xs : Steps K) (a : Logged) : Type 0 where
     pub going : a .over ≡ none
     pub staying : a .gaveUp ≡ false
     pub began : a .begun ≡ length (since (K .s) (a .client) xs)
     pub unreached : a .reached ≡ false
 
   -- a write in hand that has its stamp
-  pub record Writing (xs : Steps K) (a : Call) (σ : Stamp) (d : Candidate) : Type 0 where
+  pub record Writing (xs : Steps K) (a : Logged) (σ : Stamp) (d : Candidate) : Type 0 where
     pub content : List ℕ
     pub content-is : a .wrote ≡ some content
     pub own : Own xs (a .begun) content σ
     pub hand-is : d .stamp ≡ σ
 
-  unfoldable pub Cur : Steps K → Call → Stamp → Hand → Type 0
+  unfoldable pub Cur : Steps K → Logged → Stamp → Hand → Type 0
   Cur xs a σ idle = Unit {0}
   Cur xs a σ (clocking r n k) = Open xs a × (a .wrote ≡ some r)
   Cur xs a σ (storing d g) = Open xs a × Writing xs a σ d
@@ -117,7 +118,7 @@ module _ (K : Setup) where
   Cur xs a σ (filtering cs g) = Open xs a × (a .wrote ≡ none)
   Cur xs a σ (repairing d r) = Open xs a × (a .wrote ≡ none)
 
-  pub record CallOk (xs : Steps K) (a : Call) (σ : Stamp) : Type 0 where
+  pub record CallOk (xs : Steps K) (a : Logged) (σ : Stamp) : Type 0 where
     pub base : Base xs a σ
     pub current : a .number ≡ calls K xs (a .client) → Cur xs a σ (hand K xs (a .client))
 
@@ -132,7 +133,7 @@ module _ (K : Setup) where
   written-up x xs t v σ l w =
       record { floor = λ b e k m. w .floor b e (ends-back x xs b e k (omega (arith, l, m))) m; own = own-up x xs t v σ (w .own) }
 
-  pub base-up : (x : StepOf K) (xs : Steps K) (a : Call) (σ : Stamp) → calls K xs (a .client) ≤ calls K (x ∷ xs) (a .client) → Base xs a σ →
+  pub base-up : (x : StepOf K) (xs : Steps K) (a : Logged) (σ : Stamp) → calls K xs (a .client) ≤ calls K (x ∷ xs) (a .client) → Base xs a σ →
       Base (x ∷ xs) a σ
   unfolding Ever revealed-up
   base-up x xs a σ l h = record {
@@ -150,7 +151,7 @@ module _ (K : Setup) where
       go (inl p) = inl p
       go (inr g) = inr (revealed-up K σ x xs (g .0), g .1)
 
-  pub open-up : (x : StepOf K) (xs : Steps K) (a : Call) → calls K xs (a .client) ≡ calls K (x ∷ xs) (a .client) → Open xs a → Open (x ∷ xs) a
+  pub open-up : (x : StepOf K) (xs : Steps K) (a : Logged) → calls K xs (a .client) ≡ calls K (x ∷ xs) (a .client) → Open xs a → Open (x ∷ xs) a
   open-up x xs a e h = record {
     going = h .going;
     staying = h .staying;
@@ -158,7 +159,7 @@ module _ (K : Setup) where
     unreached = h .unreached;
   }
 
-  pub writing-up : (x : StepOf K) (xs : Steps K) (a : Call) (σ : Stamp) (d : Candidate) → Writing xs a σ d → Writing (x ∷ xs) a σ d
+  pub writing-up : (x : StepOf K) (xs : Steps K) (a : Logged) (σ : Stamp) (d : Candidate) → Writing xs a σ d → Writing (x ∷ xs) a σ d
   writing-up x xs a σ d h = record {
     content = h .content;
     content-is = h .content-is;
@@ -166,7 +167,7 @@ module _ (K : Setup) where
     hand-is = h .hand-is;
   }
 
-  pub cur-up : (x : StepOf K) (xs : Steps K) (a : Call) (σ : Stamp) (h : Hand) → calls K xs (a .client) ≡ calls K (x ∷ xs) (a .client) →
+  pub cur-up : (x : StepOf K) (xs : Steps K) (a : Logged) (σ : Stamp) (h : Hand) → calls K xs (a .client) ≡ calls K (x ∷ xs) (a .client) →
       Cur xs a σ h → Cur (x ∷ xs) a σ h
   unfolding Cur
   cur-up x xs a σ idle e c = tt
@@ -178,19 +179,19 @@ module _ (K : Setup) where
   cur-up x xs a σ (repairing d r) e c = (open-up x xs a e (c .0), c .1)
 
   -- what a step keeps of a call
-  pub record Keeps (a : Call) (σ : Stamp) (b : Call) (τ : Stamp) : Type 0 where
+  pub record Keeps (a : Logged) (σ : Stamp) (b : Logged) (τ : Stamp) : Type 0 where
     pub client : b .client ≡ a .client
     pub number : b .number ≡ a .number
     pub begun : b .begun ≡ a .begun
     pub wrote : b .wrote ≡ a .wrote
     pub reached : a .reached ≡ true → (b .reached ≡ true) × (τ ≡ σ)
 
-  pub keeps-refl : (a : Call) (σ : Stamp) → Keeps a σ a σ
+  pub keeps-refl : (a : Logged) (σ : Stamp) → Keeps a σ a σ
   keeps-refl a σ = record { client = refl; number = refl; begun = refl; wrote = refl; reached = λ e. (e, refl) }
 
   -- a call that takes no reply in this step
-  pub carry : (x : StepOf K) (xs : Steps K) (a : Call) (σ : Stamp) → CallOk xs a σ →
-      ((p : Packet) (b o : List ℕ) → x .step ≡ take-reply (a .client) b o → decode b ≡ some p →
+  pub carry : (x : StepOf K) (xs : Steps K) (a : Logged) (σ : Stamp) → CallOk xs a σ →
+      ((p : Packet) (lent : Lent) (b o : List ℕ) → x .step ≡ take-reply (a .client) lent b o → decode b ≡ some p →
       accepted (perform (K .s) (now (K .s) xs) (x .step) .result) ≡ true → a .number ≡ calls K xs (a .client) → ⊥) →
       CallOk (x ∷ xs) a σ
   unfolding nowValues Cur begun onto
@@ -215,9 +216,9 @@ module _ (K : Setup) where
             base = base-up x xs a σ (omega (arith, q)) (h .base);
             current = λ n. subst (λ (z : Client). Cur (x ∷ xs) a σ (z .hand)) (sym e) tt;
           }
-      go (took p b o s rd fit e v) = let t = turn-turned (K .s) (a .client) (cli K xs (a .client)) p in
+      go (took p lent b o s rd fit e v) = let t = turn-turned (K .s) (a .client) (cli K xs (a .client)) p in
           let q : cl' .calls ≡ calls K xs (a .client) = ap (λ (z : Client). z .calls) e ∙ t .calls in
           record {
             base = base-up x xs a σ (omega (arith, q)) (h .base);
-            current = λ n. absurd (f p b o s rd (subst (λ (z : Result). accepted z ≡ true) (sym v) (t .fine)) (n ∙ q));
+            current = λ n. absurd (f p lent b o s rd (subst (λ (z : Result). accepted z ≡ true) (sym v) (t .fine)) (n ∙ q));
           }

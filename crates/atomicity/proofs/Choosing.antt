@@ -3,7 +3,7 @@
 -- Assumes nothing.
 use mathlib.Core.Path.{_≡_, refl, sym, ap, ap₂, _∙_, subst}
 use mathlib.Core.Bool.{Bool, true, false, cond, not}
-use mathlib.Core.List.{List, [], _∷_}
+use mathlib.Core.List.{List, [], _∷_, map}
 use mathlib.Core.Option.{some}
 use mathlib.Core.Logic.{_⊎_, inl, inr}
 use Prim.Native.Nat.{ℕ, _≤_, _<_}
@@ -15,13 +15,13 @@ use Rattle.cluster.specs.Config.{upTo}
 use Rattle.erasure.specs.Fragments.{Part}
 use Rattle.protocol.specs.declared.Stamp.{Stamp}
 use Rattle.protocol.specs.Values.{Candidate, Share, Held, below, blankStamp, blankCandidate, nth, digestSize, runOf}
-use Rattle.protocol.specs.Rules.{ByServer, any, first, countTo, lower, live, fits, agrees, leads, leader, proven, highest, choice, restoredBy, tagsIn}
+use Rattle.protocol.specs.Rules.{ByServer, any, first, countTo, lower, live, fits, agrees, leads, leader, proven, highest, choice, parts, restoredBy, tagsIn}
 use Rattle.atomicity.specs.Lists.{In}
-use Rattle.atomicity.specs.Steps.{digestsWith}
+use Rattle.atomicity.specs.Steps.{digestsWith, proving, allDigested}
 use Rattle.atomicity.proofs.Util.{bool-case, clash, and-left, and-right, in-keep, keep-in, none-in, in-map}
 use Rattle.atomicity.proofs.Stamps.{le-trans, le-blank}
 use Rattle.atomicity.proofs.Counting.{quorum-sum}
-use Rattle.atomicity.proofs.Model.{fragmentFor, tagsFor}
+use Rattle.atomicity.proofs.Model.{fragmentFor, tagsFor, account}
 use Rattle.atomicity.proofs.Setup.{Setup, Steps, Fair, right, Same, same-right, lat}
 use Rattle.atomicity.proofs.Begun.{mark-bytes, mark-digested}
 use Rattle.atomicity.proofs.Genuine.{Revealed, Genuine}
@@ -29,7 +29,7 @@ use Rattle.atomicity.proofs.Covers.{Covers}
 use Rattle.atomicity.proofs.States.{Filters}
 use Rattle.atomicity.proofs.Quorums.{S, Q, FullAt, TopAt, Beats, meets-marks, correct-in, Many}
 use Rattle.atomicity.proofs.Gathered.{members, members-length, members-range, members-apart, upTo-in}
-use Rattle.atomicity.proofs.Groups.{fit-view, member, leader-view, parts-are, no-two}
+use Rattle.atomicity.proofs.Groups.{fit-view, member, leader-view, parts-are, part-in, no-two}
 
 pub first-view : {A : Type 0} (p : A → Bool) (l : List A) (c : A) → first p l ≡ some c → In c l × (p c ≡ true)
 unfolding first In
@@ -84,6 +84,10 @@ module _ (K : Setup) where
 
   -- ---- a proven candidate is a write's, and its group gives the content back
 
+  -- these have been digested
+  abbrev pub Digests : Steps K → List (List ℕ) → Type 0
+  Digests ys us = (u : List ℕ) → In u us → In u (allDigested (K .s) (account (K .s)) ys)
+
   pub record Real (ys : Steps K) (c : Candidate) (g : ByServer Held) (m : ByServer Bool) (b : ℕ) : Type 0 where
     pub origin : Revealed K ys (c .stamp)
     pub digest-is : K .s .P .digest (origin .write .nonce) ≡ K .s .P .digest (c .nonce)
@@ -91,10 +95,10 @@ module _ (K : Setup) where
     pub gives : restoredBy (K .s .P) (K .s .config) m g c b (g b .share) ≡ origin .write .content
 
   pub real : (ys z0 z1 : Steps K) (cs : List Candidate) (g : ByServer Held) (m : ByServer Bool) → Fair K ys → Filters K ys z0 z1 cs g m →
-      (c : Candidate) (b : ℕ) →
+      (c : Candidate) (b : ℕ) → Digests ys (map (λ p. p .bytes) (parts (K .s .P) (K .s .config) m g c b (S K))) →
       leads (K .s .P) (K .s .config) m g c b ≡ true → Real ys c g m b
   unfolding leads restoredBy In digestsWith
-  real ys z0 z1 cs g m fair F c b L =
+  real ys z0 z1 cs g m fair F c b dig L =
       let A = agrees (K .s .P) (K .s .config) m g c b in
       let own = fit-view (K .s) m g c b (and-left (fits (K .s .P) (K .s .config) m g c b) _ L) in
       let many : K .s .config .shares ≤ countTo (S K) A = leb-true _ _ (and-right (fits (K .s .P) (K .s .config) m g c b) _ L) in
@@ -112,7 +116,9 @@ module _ (K : Setup) where
       let t = member (K .s) m g c b i (own .share) (own .share-is) e in (
         t .0 .share,
         t .0 .share-is,
-        no-two K ys fair (t .0 .share .part) (fragmentFor (K .s) (w .content) i) (F .digs i (t .0 .share) (t .0 .marked) (t .0 .share-is))
+        no-two K ys fair (t .0 .share .part) (fragmentFor (K .s) (w .content) i)
+            (dig _ (in-map (λ (p : Part). p .bytes) (parts (K .s .P) (K .s .config) m g c b (S K)) (record { server = i; bytes = t .0 .share .part })
+            (part-in (K .s) m g c b (S K) i (t .0 .share) lo hi e (t .0 .share-is))))
             (mark-digested (K .s) ys w (fragmentFor (K .s) (w .content) i) (P .origin .made)
             (inr (in-map (λ (i : ℕ). fragmentFor (K .s) (w .content) i) (upTo (S K)) i (upTo-in (S K) i lo hi))))
             (t .0 .digest-is ∙ ap (λ (z : List ℕ). nth digestSize z i) (sym (t .1 .digests) ∙ digests)
@@ -138,10 +144,9 @@ module _ (K : Setup) where
 
   pub chosen : (ys z0 z1 : Steps K) (cs : List Candidate) (g : ByServer Held) (m : ByServer Bool) → Same K z0 ys → Same K z1 ys → Fair K ys →
       Filters K ys z0 z1 cs g m →
-      (c : Candidate) →
-      choice (K .s .P) (K .s .config) m g cs ≡ some c → Chosen ys z0 cs g m c
-  unfolding choice highest live Beats
-  chosen ys z0 z1 cs g m p0 p1 fair F c ch =
+      (c : Candidate) → Digests ys (proving (K .s) m g (some c)) → choice (K .s .P) (K .s .config) m g cs ≡ some c → Chosen ys z0 cs g m c
+  unfolding choice highest live Beats proving
+  chosen ys z0 z1 cs g m p0 p1 fair F c dig ch =
       let v = first-view (proven (K .s .P) (K .s .config) m g) (highest (K .s .P) (K .s .config) (Live m g cs)) c ch in
       let hi = keep-in (λ c. not (any (λ d. below (c .stamp) (d .stamp)) (Live m g cs))) (Live m g cs) c (v .0) in
       record {
@@ -155,7 +160,7 @@ module _ (K : Setup) where
           × (leads (K .s .P) (K .s .config) m g c (leader (K .s .P) (K .s .config) m g c (S K)) ≡ true)) →
           eqb (leader (K .s .P) (K .s .config) m g c (S K)) 0 ≡ false → Real ys c g m (leader (K .s .P) (K .s .config) m g c (S K))
       led (inl z) e = absurd (eqb-false _ _ e z)
-      led (inr z) e = real ys z0 z1 cs g m fair F c (leader (K .s .P) (K .s .config) m g c (S K)) (z .2)
+      led (inr z) e = real ys z0 z1 cs g m fair F c (leader (K .s .P) (K .s .config) m g c (S K)) dig (z .2)
 
       over : any (λ d. below (c .stamp) (d .stamp)) (Live m g cs) ≡ false → (b : Stamp) → TopAt K z0 b → below (c .stamp) b ≡ false
       over nope b top = go (reached ys z0 z1 cs g m p0 p1 F b top)

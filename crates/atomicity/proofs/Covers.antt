@@ -13,7 +13,7 @@ use Rattle.protocol.specs.Packet.{store, filter}
 use Rattle.protocol.specs.Memory.{held}
 use Rattle.protocol.specs.Server.{Server, hasDigest, valid, byHistory, act}
 use Rattle.protocol.specs.Client.{codeIn, heldIn}
-use Rattle.protocol.specs.Runs.{nowValues}
+use Rattle.protocol.proofs.ValueRuns.{nowValues}
 use Rattle.atomicity.specs.Lists.{In}
 use Rattle.atomicity.specs.Steps.{Stamped}
 use Rattle.atomicity.proofs.Util.{or-left}

@@ -22,9 +22,10 @@ use Rattle.protocol.specs.Server.{kept, raise, byHistory, byTag, valid, best, a
 use Rattle.protocol.specs.Client.{awaits, isIdle, stampOf, tagsOf, candidateMade, shareMade, sharesMade, prepared, made, onto, checks, higher, isFull, found, judge, update, tooHigh}
 use Rattle.protocol.specs.Client.{writeRefusal, readRefusal, makeRefusal, takeRefusal, begun, writeStep, readStep, makeStep, turnOn, highAt, takeStep}
 use Rattle.protocol.specs.ClientBytes.{keyOf}
-use Rattle.protocol.specs.Runs.{doValues, nowValues, setClient, write}
+use Rattle.protocol.specs.Runs.{write}
+use Rattle.protocol.proofs.ValueRuns.{doValues, nowValues, setClient}
 use Rattle.atomicity.specs.Lists.{flat, Ever}
-use Rattle.atomicity.specs.Steps.{stampedFrom, stampedBy, clockChecks, serverChecks, checkedBy, digestsWith, digestedBy, noncesBy, makes}
+use Rattle.atomicity.specs.Steps.{stampedFrom, stampedBy, clientChecks, serverChecks, checkedBy, judged, proving, compared, digestsWith, digestedBy, noncesBy, makes}
 use Rattle.atomicity.specs.Claim.{change, note, log, OneOrder}
 use Rattle.atomicity.proofs.Safety.{order}
 use Rattle.atomicity.specs.Premises.{Begins, Shows}
@@ -79,7 +80,7 @@ good-collected = good-shown toCollect (fit .collects) late reading
     (shown-later _ _ (λ c r n e. (let z : _≡_ {A = ℕ} 0 1 = cc in omega arith))
     (shown-later _ _ (λ c r n e. (let z : _≡_ {A = ℕ} 0 1 = cc in omega arith)) (good-completed .1)))
     (facts .collects) (good-read late 9 wilded refl
-    (good-wild 16 1 (repair liar) (fit .inside) (fit .wild) (digests toComplete early) (nonceL ∷ []) completed (good-completed .0) refl refl refl
+    (good-wild 16 1 (repair liar) (fit .inside) (fit .wild) (digests toComplete early) [] completed (good-completed .0) refl refl refl
     (facts .wild) (good-completed .1)))
 
 good-whole : Good (digests toFilter (digests toCollect late)) whole
@@ -94,7 +95,7 @@ calls-are : log A whole
     ≡ record { client = 9; number = 1; wrote = none; begun = 29; reached = false; over = some 45; answer = some content0; gaveUp = false }
     ∷ record { client = 1; number = 1; wrote = some content0; begun = 0; reached = true; over = some 27; answer = none; gaveUp = false }
     ∷ []
-unfolding toy keyOf packet piece nonce0 content0 cand liar share nonceL shelf upTo quorum pointOf fragment restored table fragmentSize column xtime timesBits times power inverse product eval vanish through byte number2 number4 run seq via keepF orBlank many optional empty packetF headF bodyF stampF anyStampF shareF writeF candidateF anyCandidateF candidatesF heldF codeF decode encode nth runOf isBlank below sameStamp sameCandidate held stampMessage candidateMessage upd nobody countTo any keep first gather lower live fits agrees leads leader highest choice parts restoredBy kept raise byHistory byTag valid best act barred replyTo serverRefusal answered serverStep awaits isIdle stampOf tagsOf candidateMade shareMade sharesMade prepared made onto checks higher isFull found judge update tooHigh writeRefusal readRefusal makeRefusal takeRefusal begun writeStep readStep makeStep turnOn highAt takeStep doValues nowValues setClient flat stampedFrom stampedBy clockChecks serverChecks checkedBy digestsWith digestedBy noncesBy made0 asked0 clockAt storeAt completeAt collectAt filterAt talks begins stored revealed completed wilded reading collected lied whole change note log
+unfolding toy keyOf packet piece nonce0 content0 cand liar share nonceL shelf upTo quorum pointOf fragment restored table fragmentSize column xtime timesBits times power inverse product eval vanish through byte number2 number4 run seq via keepF orBlank many optional empty packetF headF bodyF stampF anyStampF shareF writeF candidateF anyCandidateF candidatesF heldF codeF decode encode nth runOf isBlank below sameStamp sameCandidate held stampMessage candidateMessage upd nobody countTo any keep first gather lower live fits agrees leads leader highest choice parts restoredBy kept raise byHistory byTag valid best act barred replyTo serverRefusal answered serverStep awaits isIdle stampOf tagsOf candidateMade shareMade sharesMade prepared made onto checks higher isFull found judge update tooHigh writeRefusal readRefusal makeRefusal takeRefusal begun writeStep readStep makeStep turnOn highAt takeStep doValues nowValues setClient flat stampedFrom stampedBy clientChecks serverChecks checkedBy digestsWith judged proving compared digestedBy noncesBy made0 asked0 clockAt storeAt completeAt collectAt filterAt talks begins stored revealed completed wilded reading collected lied whole change note log
 calls-are = refl
 
 -- and the theorem speaks of them

@@ -7,6 +7,7 @@ use mathlib.Core.Option.{some, Option·some-injective}
 use mathlib.Core.Logic.{_⊎_, inl, inr}
 use Prim.Native.Nat.{ℕ}
 use native.Mathlib.Omega.{arith}
+use Rattle.protocol.proofs.RunLift.{decode-nothing}
 use Rattle.cluster.specs.Config.{shelf}
 use Rattle.cluster.specs.Ranges.{within}
 use Rattle.protocol.specs.Packet.{Body, Packet, kindOf}
@@ -27,8 +28,8 @@ Gets x xs p E D = (packetIn (x .step) ≡ some p) × (tagsChecked (K .s) A x xs 
 -- if p is a correct party's, it sent it
 abbrev pub Source : StepOf K → Steps K → Packet → Type 0
 Source x xs p =
-    (odd (kindOf (p .body)) ≡ true → who .client (p .head .client) ≡ true → Sent (K .s) A who (makes (p .head .client)) (bytesIn (x .step)) xs)
-    × (odd (kindOf (p .body)) ≡ false → who .server (p .head .server) ≡ true → Sent (K .s) A who (serves (p .head .server)) (bytesIn (x .step)) xs)
+    (odd (kindOf (p .body)) ≡ true → who .client (p .head .client) ≡ true → Sent (K .s) A (makes (p .head .client)) (bytesIn (x .step)) xs)
+    × (odd (kindOf (p .body)) ≡ false → who .server (p .head .server) ≡ true → Sent (K .s) A (serves (p .head .server)) (bytesIn (x .step)) xs)
 
 pub good-get : (D E : List (List ℕ)) (x : StepOf K) (xs : Steps K) (p : Packet) → Good D xs → PartyOf (K .s) A who xs (x .step) →
     ((c : ℕ) (r n : List ℕ) → x .step ≡ write c r n → ⊥) → Gets x xs p E D → Source x xs p → (noncesGot (K .s) A x xs ≡ []) ⊎ ShownAll xs →
@@ -62,7 +63,7 @@ good-first x c r n e w = record {
   fair = (
     record {
       party = subst (λ (y : Step). PartyOf (K .s) A who [] y) (sym e) w;
-      authentic = λ p q o. absurd (no-some (sym (ap packetIn e) ∙ q));
+      authentic = λ p q o. absurd (no-some (sym decode-nothing ∙ sym (ap packetIn e) ∙ q));
       fresh = λ d m h. (λ k z. z, λ z. z);
       unforged = subst (All (λ kb. Ever (λ y ys. In kb (tagsMade (K .s) A y ys)) [])) (sym checked) tt;
       uncollided = subst (All (λ u. All (λ v. toy .digest u ≡ toy .digest v → u ≡ v) (digested (K .s) A x [] ++ []))) (sym hashed) tt;
@@ -74,17 +75,17 @@ good-first x c r n e w = record {
 }
   where
     checked : tagsChecked (K .s) A x [] ≡ []
-    checked = ap (λ (y : Step). cond (fine x []) (checkedBy (K .s) (A .server []) y) []) e ∙ cond-nil (fine x [])
+    checked = ap (λ (y : Step). cond (fine x []) (checkedBy (K .s) (A .client []) (A .server []) y) []) e ∙ cond-nil (fine x [])
 
     hashed : digested (K .s) A x [] ≡ []
-    hashed = ap (λ (y : Step). cond (fine x []) (digestedBy (K .s) (stampedAt (K .s) A x []) y) []) e ∙ cond-nil (fine x [])
+    hashed = ap (λ (y : Step). cond (fine x []) (digestedBy (K .s) (A .client []) (A .server []) (stampedAt (K .s) A x []) y) []) e ∙ cond-nil (fine x [])
 
     seen : noncesGot (K .s) A x [] ≡ []
     seen = ap (λ (y : Step). cond (fine x []) (noncesBy (K .s) y) []) e ∙ cond-nil (fine x [])
 
 pub good-read : (D : List (List ℕ)) (c : ℕ) (xs : Steps K) → who .client c ≡ true → Good D xs → Good D (record { step = read c; fed = tt } ∷ xs)
 unfolding Authentic checkedBy digestedBy noncesBy
-good-read D c xs w g = good-step D [] (record { step = read c; fed = tt }) xs g w (λ p e o. absurd (no-some e))
+good-read D c xs w g = good-step D [] (record { step = read c; fed = tt }) xs g w (λ p e o. absurd (no-some (sym decode-nothing ∙ e)))
     (λ d r n e. (let z : _≡_ {A = ℕ} 0 1 = cc in omega arith))
     (cond-nil (fine (record { step = read c; fed = tt }) xs)) (cond-nil (fine (record { step = read c; fed = tt }) xs)) refl
     (inl (cond-nil (fine (record { step = read c; fed = tt }) xs)))

@@ -12,7 +12,7 @@ use Rattle.protocol.specs.declared.Stamp.{Stamp}
 use Rattle.protocol.specs.Client.{Client, Hand, Turn, more, awaits}
 use Rattle.atomicity.specs.Lists.{In}
 use Rattle.atomicity.specs.Steps.{Stamped, stampedFrom}
-use Rattle.atomicity.specs.Claim.{Call, follow, reach}
+use Rattle.atomicity.specs.Claim.{Logged, follow, reach}
 use Rattle.atomicity.proofs.Util.{clash}
 use Rattle.atomicity.proofs.Setup.{Setup, Steps, StepOf, calls}
 use Rattle.atomicity.proofs.Positions.{since}
@@ -32,22 +32,22 @@ is-reached false b e = clash e refl
 
 module _ (K : Setup) where
   -- what is known at the step
-  pub record Known (x : StepOf K) (xs : Steps K) (a : Call) (h : Hand) (u : Turn) : Type 0 where
+  pub record Known (x : StepOf K) (xs : Steps K) (a : Logged) (h : Hand) (u : Turn) : Type 0 where
     pub result : ResultOk K (x ∷ xs) (since (K .s) (a .client) xs) h (u .result)
     pub marked : (m : Stamped) → m .client ≡ a .client → In m (stampedFrom (a .client) h (u .client .hand)) →
         MarkAt K m (length (since (K .s) (a .client) xs)) (x ∷ xs)
 
-  abbrev pub after : Steps K → Call → Turn → Call
+  abbrev pub after : Steps K → Logged → Turn → Logged
   after xs a u = follow (u .result) (eqb (awaits (u .client .hand)) 6) (length xs) a
 
   -- with some stamp, the call a is b after the step, and the hand h
-  abbrev pub Stands : StepOf K → Steps K → Call → Stamp → Call → Hand → Type 0
+  abbrev pub Stands : StepOf K → Steps K → Logged → Stamp → Logged → Hand → Type 0
   Stands x xs a σ b h = (τ : Stamp) × Base K (x ∷ xs) b τ × Cur K (x ∷ xs) b τ h × Keeps K a σ b τ
 
-  unfoldable pub Follows : StepOf K → Steps K → Call → Stamp → Hand → Turn → Type 0
+  unfoldable pub Follows : StepOf K → Steps K → Logged → Stamp → Hand → Turn → Type 0
   Follows x xs a σ h u = Known x xs a h u → Stands x xs a σ (after xs a u) (u .client .hand)
 
-  module _ (x : StepOf K) (xs : Steps K) (a : Call) (σ : Stamp) (same : calls K xs (a .client) ≡ calls K (x ∷ xs) (a .client))
+  module _ (x : StepOf K) (xs : Steps K) (a : Logged) (σ : Stamp) (same : calls K xs (a .client) ≡ calls K (x ∷ xs) (a .client))
       (base : Base K xs a σ) where
     -- the hand moved on, the call is as it was
     pub stays : (h h' : Hand) (cl : Client) → Cur K xs a σ h → cl .hand ≡ h' → (a .reached || eqb (awaits h') 6) ≡ a .reached →
@@ -66,9 +66,9 @@ module _ (K : Setup) where
           gaveUp = a .gaveUp;
         }) r in (
           σ,
-          subst (λ (b : Call). Base K (x ∷ xs) b σ) (sym q) (base-up K x xs a σ (omega (arith, same)) base),
-          subst (λ (b : Call). Cur K (x ∷ xs) b σ (cl .hand)) (sym q) (subst (Cur K (x ∷ xs) a σ) (sym e) (f (cur-up K x xs a σ h same c))),
-          subst (λ (b : Call). Keeps K a σ b σ) (sym q) (keeps-refl K a σ),
+          subst (λ (b : Logged). Base K (x ∷ xs) b σ) (sym q) (base-up K x xs a σ (omega (arith, same)) base),
+          subst (λ (b : Logged). Cur K (x ∷ xs) b σ (cl .hand)) (sym q) (subst (Cur K (x ∷ xs) a σ) (sym e) (f (cur-up K x xs a σ h same c))),
+          subst (λ (b : Logged). Keeps K a σ b σ) (sym q) (keeps-refl K a σ),
         )
 
     -- what had ended when the call began was on top then

@@ -19,7 +19,7 @@ use Rattle.protocol.specs.Memory.{held}
 use Rattle.protocol.specs.Rules.{ByServer}
 use Rattle.protocol.specs.Server.{Server, Acted, raise, kept, act}
 use Rattle.protocol.specs.Client.{storing, codeIn}
-use Rattle.protocol.specs.Runs.{nowValues}
+use Rattle.protocol.proofs.ValueRuns.{nowValues}
 use Rattle.protocol.proofs.Answers.{at-cond}
 use Rattle.atomicity.specs.Lists.{Ever, In, AllPairs}
 use Rattle.atomicity.specs.Steps.{System, Stamped}

@@ -6,17 +6,18 @@ use mathlib.Core.Bool.{Bool, true, false, cond, not, _&&_, _||_}
 use mathlib.Core.List.{List, [], _∷_, _++_}
 use mathlib.Core.Option.{Option, some}
 use mathlib.Core.Logic.{_⊎_, inl, inr}
-use Prim.Native.Nat.{ℕ, _≤_}
+use Prim.Native.Nat.{ℕ}
 use Rattle.protocol.specs.declared.Stamp.{Stamp}
 use Rattle.protocol.specs.Values.{Candidate, blankCandidate}
 use Rattle.protocol.specs.Packet.{Body, Packet, decode}
-use Rattle.protocol.specs.Packet.{clock, clockReply, store, storeReply, complete, completeReply, collect, collectReply, filter, filterReply, repair, repairReply}
+use Rattle.protocol.specs.Packet.{complete}
 use Rattle.protocol.specs.Primitives.{candidateMessage}
 use Rattle.protocol.specs.Server.{Server, blankServer, valid, barred}
 use Rattle.protocol.specs.Client.{made, accepted}
-use Rattle.protocol.specs.Runs.{Step, serve, World, nowValues}
+use Rattle.protocol.specs.Runs.{Step, serve}
+use Rattle.protocol.proofs.ValueRuns.{World, nowValues}
 use Rattle.atomicity.specs.Lists.{Ever, Always, All, In, flat}
-use Rattle.atomicity.specs.Steps.{Stamped, packetIn, makes, serves, shown, judged, inPacket, stampedAt, digestsWith, tagsMade, tagsChecked, checkedBy, serverChecks, digested, digestedBy, allDigested, noncesGot, noncesBy}
+use Rattle.atomicity.specs.Steps.{Stamped, packetIn, makes, serves, offered, isComplete, judged, ofPacket, stampedAt, digestsWith, tagsMade, tagsChecked, checkedBy, serverChecks, digested, digestedBy, allDigested, noncesGot, noncesBy}
 use Rattle.atomicity.specs.Premises.{NoForgery, NoCollision, NoEarlyNonce, Shows}
 use Rattle.atomicity.proofs.Util.{right-in, flat-in, in-map, all-in, ever-map, within-in}
 use Rattle.atomicity.proofs.Model.{perform, now, account, marks, vouched, tagged, isValid}
@@ -25,7 +26,7 @@ use Rattle.atomicity.proofs.Serving.{Served, same, acted, served, makin
 use Rattle.atomicity.proofs.Marks.{marks-up}
 use Rattle.atomicity.proofs.Begun.{Known, known, mark-digested}
 use Rattle.atomicity.proofs.Nonces.{begins}
-use Rattle.atomicity.proofs.Servers.{Origin, act-grows}
+use Rattle.atomicity.proofs.Servers.{Origin, judged-tested, act-grows}
 use Rattle.atomicity.proofs.Sources.{serve-shape, complete-writer, complete-made, MadeBy, server-correct, writer-made}
 use Rattle.atomicity.proofs.Histories.{Vouched, by-history, made-mark}
 
@@ -45,35 +46,44 @@ module _ (K : Setup) where
       subst (λ (b : Bool). In u (cond b (f (x .step)) [])) (sym (t .fine))
       (subst (λ (y : Step). In u (f y)) (sym (v .2)) (h (v .0) (v .1) (ap packetIn (sym (v .2)) ∙ t .got)))
 
-  forged : (x : StepOf K) (xs : Steps K) (j : ℕ) (p : Packet) → Judging x xs j p → (c : Candidate) → In c (judged (p .body)) →
-      vouched (K .s) j (srv K xs j) c ≡ false → tagged (K .s) j c ≡ true →
+  -- the server of this step as the account tells it
+  told : (x : StepOf K) (xs : Steps K) (j : ℕ) (p : Packet) → Judging x xs j p → account (K .s) .server xs j ≡ srv K xs j
+  told x xs j p t =
+      let r = right-range K xs j (server-correct K x xs (t .prem) j (t .by)) in
+      ap (λ (b : Bool). cond b (srv K xs j) (blankServer (K .s .config))) (within-in 1 (K .s .config .servers) j (r .0) (r .1))
+
+  -- the candidate on which its answer rests is among those that the premises speak of
+  at-judged : (x : StepOf K) (xs : Steps K) (j : ℕ) (p : Packet) → Judging x xs j p → (c : Candidate) → In c (judged (K .s) j (srv K xs j) (p .body)) →
+      (b : List ℕ) → decode b ≡ some p → In c (ofPacket (λ q. judged (K .s) j (account (K .s) .server xs j) (q .body)) (decode b))
+  at-judged x xs j p t c i b d =
+      subst (λ (q : Option Packet). In c (ofPacket (λ q. judged (K .s) j (account (K .s) .server xs j) (q .body)) q)) (sym d)
+      (subst (λ (v : Server). In c (judged (K .s) j v (p .body))) (sym (told x xs j p t)) i)
+
+  forged : (x : StepOf K) (xs : Steps K) (j : ℕ) (p : Packet) → Judging x xs j p → (c : Candidate) →
+      In c (judged (K .s) j (srv K xs j) (p .body)) → vouched (K .s) j (srv K xs j) c ≡ false → tagged (K .s) j c ≡ true →
       Ever (λ y ys. In {A = List ℕ × List ℕ} (K .s .keys j, candidateMessage (c .stamp) (K .s .P .digest (c .nonce)))
       (tagsMade (K .s) (account (K .s)) y ys)) xs
   unfolding NoForgery checkedBy serverChecks In
   forged x xs j p t c i e k =
       all-in (λ kb. Ever (λ y ys. In kb (tagsMade (K .s) (account (K .s)) y ys)) xs) (tagsChecked (K .s) (account (K .s)) x xs) (t .prem .unforged) _
-      (at-serve _ x xs j p t (checkedBy (K .s) (account (K .s) .server xs)) here)
+      (at-serve _ x xs j p t (checkedBy (K .s) (account (K .s) .client xs) (account (K .s) .server xs))
+      (λ b o d. subst (λ (q : Option Packet). In kb (ofPacket (λ z. flat (serverChecks (K .s) j v) (judged (K .s) j v (z .body))) q)) (sym d)
+      (flat-in (serverChecks (K .s) j v) (judged (K .s) j v (p .body)) c kb
+      (subst (λ (u : Server). In c (judged (K .s) j u (p .body))) (sym (told x xs j p t)) i) one)))
     where
+      v : Server
+      v = account (K .s) .server xs j
+
       kb : List ℕ × List ℕ
       kb = (K .s .keys j, candidateMessage (c .stamp) (K .s .P .digest (c .nonce)))
 
-      r : (1 ≤ j) × (j ≤ K .s .config .servers)
-      r = right-range K xs j (server-correct K x xs (t .prem) j (t .by))
-
-      mine : account (K .s) .server xs j ≡ srv K xs j
-      mine = ap (λ (b : Bool). cond b (srv K xs j) (blankServer (K .s .config))) (within-in 1 (K .s .config .servers) j (r .0) (r .1))
-
       one : In kb (serverChecks (K .s) j (account (K .s) .server xs j) c)
-      one = subst (λ (v : Server). In kb (serverChecks (K .s) j v c)) (sym mine)
+      one = subst (λ (v : Server). In kb (serverChecks (K .s) j v c)) (sym (told x xs j p t))
           (subst (λ (b : Bool). In kb (cond (not b && tagged (K .s) j c) (kb ∷ []) [])) (sym e)
           (subst (λ (b : Bool). In kb (cond b (kb ∷ []) [])) (sym k) (inl refl)))
 
-      here : (b o : List ℕ) → decode b ≡ some p → In kb (flat (serverChecks (K .s) j (account (K .s) .server xs j)) (inPacket judged (decode b)))
-      here b o d = flat-in (serverChecks (K .s) j (account (K .s) .server xs j)) (inPacket judged (decode b)) c kb
-          (subst (λ (q : Option Packet). In c (inPacket judged q)) (sym d) i) one
-
-  vouched-for : (x : StepOf K) (xs : Steps K) → Fair K xs → (j : ℕ) (p : Packet) → Judging x xs j p → (c : Candidate) → In c (judged (p .body)) →
-      isValid (K .s) j (srv K xs j) c ≡ true → Vouched K xs c
+  vouched-for : (x : StepOf K) (xs : Steps K) → Fair K xs → (j : ℕ) (p : Packet) → Judging x xs j p → (c : Candidate) →
+      In c (judged (K .s) j (srv K xs j) (p .body)) → isValid (K .s) j (srv K xs j) c ≡ true → Vouched K xs c
   unfolding valid
   vouched-for x xs h j p t c i v = go (vouched (K .s) j (srv K xs j) c) refl v
     where
@@ -98,23 +108,17 @@ module _ (K : Setup) where
     pub origin : Revealed xs (c .stamp)
     pub nonce-is : origin .write .nonce ≡ c .nonce
 
-  judged-shown : (x : Body) (c : Candidate) → In c (judged x) → In c (shown x)
+  -- what is judged was offered
+  judged-offered : (j : ℕ) (v : Server) (x : Body) (c : Candidate) → In c (judged (K .s) j v x) → In c (offered x)
   unfolding In
-  judged-shown clock c i = absurd i
-  judged-shown (store w) c i = absurd i
-  judged-shown (complete d) c i = absurd i
-  judged-shown collect c i = absurd i
-  judged-shown (filter cs) c i = i
-  judged-shown (repair d) c i = i
-  judged-shown (clockReply x) c i = absurd i
-  judged-shown (storeReply x) c i = absurd i
-  judged-shown completeReply c i = absurd i
-  judged-shown (collectReply x) c i = absurd i
-  judged-shown (filterReply x) c i = absurd i
-  judged-shown repairReply c i = absurd i
+  judged-offered j v x c i = go (isComplete x) (judged-tested (K .s) j v x c i)
+    where
+      go : (t : Bool) → In c (cond t [] (offered x)) → In c (offered x)
+      go true k = absurd k
+      go false k = k
 
-  pub genuine : (x : StepOf K) (xs : Steps K) → Fair K xs → (j : ℕ) (p : Packet) → Judging x xs j p → (c : Candidate) → In c (judged (p .body)) →
-      isValid (K .s) j (srv K xs j) c ≡ true → Genuine xs c
+  pub genuine : (x : StepOf K) (xs : Steps K) → Fair K xs → (j : ℕ) (p : Packet) → Judging x xs j p → (c : Candidate) →
+      In c (judged (K .s) j (srv K xs j) (p .body)) → isValid (K .s) j (srv K xs j) c ≡ true → Genuine xs c
   unfolding NoCollision NoEarlyNonce digestedBy noncesBy digestsWith In
   genuine x xs h j p t c i v =
       let r = vouched-for x xs h j p t c i v in
@@ -122,8 +126,9 @@ module _ (K : Setup) where
       let nonceOf : Candidate → List ℕ = λ (y : Candidate). y .nonce in
       let D = digested (K .s) (account (K .s)) x xs in
       let all = D ++ allDigested (K .s) (account (K .s)) xs in
-      let mine : In (c .nonce) D = at-serve (c .nonce) x xs j p t (digestedBy (K .s) (stampedAt (K .s) (account (K .s)) x xs))
-      (λ b o d. in-map nonceOf (inPacket judged (decode b)) c (subst (λ (q : Option Packet). In c (inPacket judged q)) (sym d) i)) in
+      let mine : In (c .nonce) D = at-serve (c .nonce) x xs j p t
+      (digestedBy (K .s) (account (K .s) .client xs) (account (K .s) .server xs) (stampedAt (K .s) (account (K .s)) x xs))
+      (λ b o d. in-map nonceOf (ofPacket (λ q. judged (K .s) j (account (K .s) .server xs j) (q .body)) (decode b)) c (at-judged x xs j p t c i b d)) in
       let theirs : In (m .nonce) all =
       right-in (m .nonce) D (allDigested (K .s) (account (K .s)) xs) (mark-digested (K .s) xs m (m .nonce) (r .1) (inl refl)) in
       let equal : c .nonce ≡ m .nonce = all-in (λ u. K .s .P .digest (c .nonce) ≡ K .s .P .digest u → c .nonce ≡ u) all
@@ -131,8 +136,8 @@ module _ (K : Setup) where
       (sym (r .3)) in
       let seen : In (m .nonce) (noncesGot (K .s) (account (K .s)) x xs) = subst (λ (n : List ℕ). In n (noncesGot (K .s) (account (K .s)) x xs)) equal
       (at-serve (c .nonce) x xs j p t (noncesBy (K .s))
-      (λ b o d. in-map nonceOf (inPacket shown (decode b)) c
-      (subst (λ (q : Option Packet). In c (inPacket shown q)) (sym d) (judged-shown (p .body) c i)))) in
+      (λ b o d. in-map nonceOf (ofPacket (λ q. offered (q .body)) (decode b)) c
+      (subst (λ (q : Option Packet). In c (ofPacket (λ z. offered (z .body)) q)) (sym d) (judged-offered j (srv K xs j) (p .body) c i)))) in
       record {
         origin = record {
           write = m;
@@ -197,7 +202,7 @@ module _ (K : Setup) where
           (subst (λ (v : Server). Good xs (v .latest)) (sym q) (new _ (act-grows (K .s) j (srv K xs j) (p .body) .latest)))
         where
           from : (z : Candidate) → (z ≡ blankCandidate (K .s .config))
-              ⊎ ((In z (judged (p .body)) × (isValid (K .s) j (srv K xs j) z ≡ true)) ⊎ (p .body ≡ complete z)) → Good xs z
+              ⊎ ((In z (judged (K .s) j (srv K xs j) (p .body)) × (isValid (K .s) j (srv K xs j) z ≡ true)) ⊎ (p .body ≡ complete z)) → Good xs z
           from z (inl e) = inl e
           from z (inr (inl v)) = inr (genuine x xs (h .1) j p (record { prem = h .0; by = a; got = b; fine = d }) z (v .0) (v .1))
           from z (inr (inr k)) = inr (ever-genuine z xs

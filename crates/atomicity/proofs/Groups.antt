@@ -24,7 +24,7 @@ use Rattle.protocol.proofs.Answers.{at-cond}
 use Rattle.atomicity.specs.Lists.{Always, All, In}
 use Rattle.atomicity.specs.Steps.{System, Stamped, digested, allDigested}
 use Rattle.atomicity.specs.Premises.{NoCollision}
-use Rattle.atomicity.proofs.Util.{bool-case, clash, and-left, and-right, split-in, all-in}
+use Rattle.atomicity.proofs.Util.{bool-case, clash, and-left, and-right, left-in, right-in, split-in, all-in}
 use Rattle.atomicity.proofs.Stamps.{same-is}
 use Rattle.atomicity.proofs.Model.{account, tagsFor}
 use Rattle.atomicity.proofs.Setup.{Setup, Steps, Fair}
@@ -138,6 +138,23 @@ module _ (s : System) (m : ByServer Bool) (g : ByServer Held) (c : Candidate) wh
       go false e = refl
       go true e = let r = h (suc n) (omega arith) (omega arith) e in
           ap (partOf (s .P) (s .config) (suc n)) (r .1) ∙ ap (λ (z : List ℕ). record { server = suc n; bytes = z } ∷ []) (r .2)
+
+  -- a member's fragment is among them
+  pub part-in : (b n i : ℕ) (f : Share) → 1 ≤ i → i ≤ n → agrees (s .P) (s .config) m g c b i ≡ true → g i .share ≡ some f →
+      In {A = Part} (record { server = i; bytes = f .part }) (parts (s .P) (s .config) m g c b n)
+  unfolding parts In
+  part-in b zero i f lo hi a e = absurd (omega arith)
+  part-in b (suc n) i f lo hi a e = bool-case (leb i n)
+      (λ t. left-in _ (parts (s .P) (s .config) m g c b n) _ (part-in b n i f lo (leb-true i n t) a e))
+      (λ t. let z : i ≡ suc n = omega (arith, leb-false i n t) in
+      right-in _ (parts (s .P) (s .config) m g c b n) _
+      (subst (λ (k : ℕ). In {A = Part} (record { server = i; bytes = f .part }) (cond (agrees (s .P) (s .config) m g c b k)
+      (partOf (s .P) (s .config) k (g k .share)) [])) z (here i a e)))
+    where
+      here : (k : ℕ) → agrees (s .P) (s .config) m g c b k ≡ true → g k .share ≡ some f → In {A = Part} (record { server = k; bytes = f .part })
+          (cond (agrees (s .P) (s .config) m g c b k) (partOf (s .P) (s .config) k (g k .share)) [])
+      here k a e = subst (λ (t : Bool). In {A = Part} (record { server = k; bytes = f .part }) (cond t (partOf (s .P) (s .config) k (g k .share)) []))
+          (sym a) (subst (λ (o : Option Share). In {A = Part} (record { server = k; bytes = f .part }) (partOf (s .P) (s .config) k o)) (sym e) (inl refl))
 
 -- ---- tags, and digests
 

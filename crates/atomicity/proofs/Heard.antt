@@ -17,7 +17,7 @@ use Rattle.protocol.specs.Packet.{clock, clockReply, store, storeReply, complet
 use Rattle.protocol.specs.Memory.{held}
 use Rattle.protocol.specs.Server.{Server, Acted, barred, replyTo, act, kept}
 use Rattle.protocol.specs.Client.{Hand, idle, clocking, storing, completing, collecting, filtering, repairing, awaits, isIdle, request, made, accepted}
-use Rattle.protocol.specs.Runs.{nowValues}
+use Rattle.protocol.proofs.ValueRuns.{nowValues}
 use Rattle.atomicity.specs.Lists.{Ever, In}
 use Rattle.atomicity.specs.Steps.{System, Stamped, makes, serves, packetIn}
 use Rattle.atomicity.proofs.Util.{clash, cond-both, ever-map, ever-with, ever-out}

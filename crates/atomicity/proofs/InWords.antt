@@ -14,13 +14,13 @@ use Rattle.cluster.specs.Config.{Legal}
 use Rattle.cluster.proofs.Legal.{legal-shelf}
 use Rattle.protocol.specs.Primitives.{real}
 use Rattle.protocol.specs.Client.{Hand, awaits, isIdle}
-use Rattle.protocol.specs.Runs.{Typed, byValues}
+use Rattle.protocol.proofs.ValueRuns.{byValues}
 use Rattle.protocol.proofs.Primitive.{real-lengths}
 use Rattle.protocol.proofs.Accounts.{claimed}
 use Rattle.atomicity.specs.Lists.{Always, Once, All, In, AllPairs}
-use Rattle.atomicity.specs.Steps.{System}
+use Rattle.atomicity.specs.Steps.{StepIn, System}
 use Rattle.atomicity.specs.Premises.{Correct, Parties, correctAt, Premise}
-use Rattle.atomicity.specs.Claim.{Call, given, log, before, holds, shows, Replay, CameTo, Progress, systemOf}
+use Rattle.atomicity.specs.Claim.{InTime, Logged, given, log, before, holds, givesHeld, Replay, CameTo, Progress, systemOf}
 use Rattle.atomicity.specs.Page41.{Version, versions, NeverOlder, Ended, Page41}
 use Rattle.atomicity.proofs.Util.{unfalse, clash, or-cases, all-in}
 use Rattle.atomicity.proofs.Model.{Laws, account}
@@ -32,7 +32,7 @@ use Rattle.atomicity.proofs.Real.{real-laws}
 
 -- ---- versions along an order
 
-version-in : (n : ℕ) (m : Option (List ℕ)) (cs : List Call) (v : Version) → In v (versions n m cs) → In (v .call) cs × (n ≤ v .number)
+version-in : (n : ℕ) (m : Option (List ℕ)) (cs : List Logged) (v : Version) → In v (versions n m cs) → In (v .call) cs × (n ≤ v .number)
 unfolding versions In
 version-in n m [] v i = absurd i
 version-in n m (c ∷ cs) v (inl e) = (inl (ap (λ (z : Version). z .call) e), omega (arith, ap (λ (z : Version). z .number) e))
@@ -40,31 +40,31 @@ version-in n m (c ∷ cs) v (inr i) = let r = version-in (n + cond (given (c .wr
     (inr (r .0), omega (arith, r .1))
 
 -- who stands ahead is no newer
-rising : (n : ℕ) (m : Option (List ℕ)) (cs : List Call) → AllPairs (λ a b. before b a ≡ false) cs → (a r : Version) → In a (versions n m cs) →
+rising : (n : ℕ) (m : Option (List ℕ)) (cs : List Logged) → InTime cs → (a r : Version) → In a (versions n m cs) →
     In r (versions n m cs) → before (a .call) (r .call) ≡ true → a .number ≤ r .number
 unfolding versions In AllPairs
 rising n m [] t a r i j b = absurd i
 rising n m (c ∷ cs) t a r (inl p) (inl q) b = omega (arith, ap (λ (z : Version). z .number) p, ap (λ (z : Version). z .number) q)
 rising n m (c ∷ cs) t a r (inl p) (inr j) b =
     omega (arith, ap (λ (z : Version). z .number) p, version-in (n + cond (given (c .wrote)) 1 0) (holds m (c .wrote)) cs r j .1)
-rising n m (c ∷ cs) t a r (inr i) (inl q) b = clash (subst (λ (z : Call). before (a .call) z ≡ true) (ap (λ (z : Version). z .call) q) b)
+rising n m (c ∷ cs) t a r (inr i) (inl q) b = clash (subst (λ (z : Logged). before (a .call) z ≡ true) (ap (λ (z : Version). z .call) q) b)
     (all-in (λ x. before x c ≡ false) cs (t .0) (a .call) (version-in (n + cond (given (c .wrote)) 1 0) (holds m (c .wrote)) cs a i .0))
 rising n m (c ∷ cs) t a r (inr i) (inr j) b = rising (n + cond (given (c .wrote)) 1 0) (holds m (c .wrote)) cs (t .1) a r i j b
 
--- a read shows the content of its version
-shown : (n : ℕ) (m : Option (List ℕ)) (cs : List Call) → Replay m cs → (r : Version) → In r (versions n m cs) → r .call .wrote ≡ none →
+-- a read gives the content of its version
+shown : (n : ℕ) (m : Option (List ℕ)) (cs : List Logged) → Replay m cs → (r : Version) → In r (versions n m cs) → r .call .wrote ≡ none →
     r .call .answer ≡ r .content
 unfolding versions In Replay
 shown n m [] h r i w = absurd i
-shown n m (c ∷ cs) h r (inl q) w = let e = ap (λ (z : Version). z .call) q in ap (λ (z : Call). z .answer) e
-    ∙ here (c .wrote) (sym (ap (λ (z : Call). z .wrote) e) ∙ w) (h .0) ∙ sym (ap (λ (z : Version). z .content) q)
+shown n m (c ∷ cs) h r (inl q) w = let e = ap (λ (z : Version). z .call) q in ap (λ (z : Logged). z .answer) e
+    ∙ here (c .wrote) (sym (ap (λ (z : Logged). z .wrote) e) ∙ w) (h .0) ∙ sym (ap (λ (z : Version). z .content) q)
   where
-    here : (o : Option (List ℕ)) → o ≡ none → shows m o c → c .answer ≡ holds m o
+    here : (o : Option (List ℕ)) → o ≡ none → givesHeld m o c → c .answer ≡ holds m o
     here none e h = h
     here (some v) e h = absurd (let z : _≡_ {A = ℕ} 0 1 = cc in omega arith)
 shown n m (c ∷ cs) h r (inr i) w = shown (n + cond (given (c .wrote)) 1 0) (holds m (c .wrote)) cs (h .1) r i w
 
-pub never-older : (cs : List Call) → NeverOlder cs
+pub never-older : (cs : List Logged) → NeverOlder cs
 unfolding NeverOlder
 never-older cs o r i = (shown 0 none (o .order) (o .legal) r i, λ a j b. rising 0 none (o .order) (o .time) a r j i b)
 
@@ -93,7 +93,7 @@ module _ (K : Setup) (xs : Steps K) (fair : Fair K xs) where
 
       -- server b is correct, and its reply of kind k to call n of this client came in
       Came : ℕ → ℕ → ℕ → Type 0
-      Came n k b = (correctAt (K .s) (account (K .s)) (K .correct) xs b ≡ true) × CameTo (K .s) (account (K .s)) (K .correct) xs (a .client) n k b
+      Came n k b = (correctAt (K .s) (account (K .s)) (K .correct) xs b ≡ true) × CameTo (K .s) (account (K .s)) xs (a .client) n k b
 
       -- the call is in hand, in a round that awaits k
       pending : a .number ≡ calls K xs (a .client) → isIdle (hand K xs (a .client)) ≡ false → (k : ℕ) → awaits (hand K xs (a .client)) ≡ k → ⊥
@@ -107,7 +107,7 @@ module _ (K : Setup) (xs : Steps K) (fair : Fair K xs) where
 
 -- ---- on bytes, with the real functions
 
-on-values : (s : System) → Legal (s .config) → Laws s → (correct : Correct) → Parties (s .config) correct → (l : List (Typed (s .config))) →
+on-values : (s : System) → Legal (s .config) → Laws s → (correct : Correct) → Parties (s .config) correct → (l : List (StepIn s)) →
     Always (Premise s (byValues (s .P) (s .config) (s .writers) (s .keys)) correct) l →
     NeverOlder (log (byValues (s .P) (s .config) (s .writers) (s .keys)) l) × Ended s (byValues (s .P) (s .config) (s .writers) (s .keys)) correct l
 unfolding byValues
@@ -117,7 +117,7 @@ on-values s legal laws correct parties l fair =
 
 pub page-41 : Page41
 unfolding Page41
-page-41 sh lo hi correct parties = claimed real real-lengths sh (lo, hi)
-    (λ A. (l : List (Typed (systemOf sh .config))) → Always (Premise (systemOf sh) A correct) l → NeverOlder (log A l)
+page-41 sh lo hi first sized correct parties = claimed real real-lengths sh (lo, hi) first sized
+    (λ A. (l : List (StepIn (systemOf sh))) → Always (Premise (systemOf sh) A correct) l → NeverOlder (log A l)
     × Ended (systemOf sh) A correct l)
     (on-values (systemOf sh) (legal-shelf (sh .t) lo hi) (real-laws sh lo hi) correct parties)

@@ -5,22 +5,22 @@ use mathlib.Core.Path.{_≡_, refl, sym, ap, _∙_, subst}
 use mathlib.Core.Bool.{Bool, true, false, cond, not, _&&_}
 use mathlib.Core.List.{List, [], _∷_}
 use mathlib.Core.Option.{Option, some}
-use mathlib.Core.Logic.{inl}
 use Prim.Native.Nat.{ℕ, _≤_, _<_}
 use native.Mathlib.Omega.{arith}
 use lib.Dec.{leb, ltb, eqb}
 use lib.ListN.{length}
-use borrow.Author.Tests.{ltb-true, ltb-false, leb-true, leb-false, eqb-true, eqb-false}
+use borrow.Author.Tests.{ltb-true, ltb-false, leb-true, leb-false, eqb-true, eqb-false, le-leb}
 use Rattle.protocol.specs.declared.Stamp.{Stamp}
-use Rattle.protocol.specs.Values.{Candidate, Share, below, blankStamp}
-use Rattle.protocol.specs.Packet.{Body, Packet, decode, complete}
-use Rattle.protocol.specs.Packet.{clock, clockReply, store, storeReply, completeReply, collect, collectReply, filter, filterReply, repair, repairReply}
-use Rattle.protocol.specs.Rules.{upd, countTo}
+use Rattle.protocol.specs.Values.{Candidate, below, blankStamp, Held}
+use Rattle.protocol.specs.Packet.{Packet, decode, complete}
+use Rattle.protocol.specs.Server.{Server}
+use Rattle.protocol.specs.Rules.{upd, countTo, ByServer, choice}
 use Rattle.protocol.specs.Client.{Client, Hand, Result, idle, clocking, storing, completing, collecting, filtering, repairing, isFull, awaits, begun, onto, made, heldIn, accepted}
-use Rattle.protocol.specs.Runs.{Step, write, read, make, take-reply, give-up, serve, World, nowValues}
+use Rattle.protocol.specs.Runs.{Lent, Step, write, read, make, take-reply, give-up, serve}
+use Rattle.protocol.proofs.ValueRuns.{World, nowValues}
 use Rattle.protocol.proofs.Answers.{at-cond}
 use Rattle.atomicity.specs.Lists.{Ever, Always, In, flat}
-use Rattle.atomicity.specs.Steps.{Stamped, packetIn, makes, stampedAt, partIn, fragments, inPacket, digestsWith, digested, digestedBy, allDigested}
+use Rattle.atomicity.specs.Steps.{Stamped, packetIn, makes, stampedAt, ofPacket, proving, compared, digestsWith, digested, digestedBy, allDigested}
 use Rattle.atomicity.specs.Premises.{Shows, PartyOf, odd}
 use Rattle.atomicity.proofs.Util.{bool-case, clash, left-in, right-in, ever-map, ever-with, rise, not-f, and-intro}
 use Rattle.atomicity.proofs.Stamps.{below-blank}
@@ -53,7 +53,7 @@ module _ (K : Setup) where
   make-shape c (write d r n) e xs p = clash e refl
   make-shape c (read d) e xs p = clash e refl
   make-shape c (make d b o) e xs p = subst (λ (i : ℕ). K .correct .client i ≡ true) (sym (eqb-true c d e)) p
-  make-shape c (take-reply d b o) e xs p = clash e refl
+  make-shape c (take-reply d lent b o) e xs p = clash e refl
   make-shape c (give-up d) e xs p = clash e refl
   make-shape c (serve b q o) e xs p = clash e refl
 
@@ -111,21 +111,6 @@ module _ (K : Setup) where
 
   -- ---- a reply that is let in
 
-  piece-in : (y : Body) (f : Share) → heldIn y .share ≡ some f → In (f .part) (fragments y)
-  unfolding In
-  piece-in (filterReply x) f e = subst (λ (z : Option Share). In (f .part) (partIn z)) (sym e) (inl refl)
-  piece-in clock f e = absurd (let z : _≡_ {A = ℕ} 0 1 = cc in omega arith)
-  piece-in (clockReply x) f e = absurd (let z : _≡_ {A = ℕ} 0 1 = cc in omega arith)
-  piece-in (store x) f e = absurd (let z : _≡_ {A = ℕ} 0 1 = cc in omega arith)
-  piece-in (storeReply x) f e = absurd (let z : _≡_ {A = ℕ} 0 1 = cc in omega arith)
-  piece-in (complete x) f e = absurd (let z : _≡_ {A = ℕ} 0 1 = cc in omega arith)
-  piece-in completeReply f e = absurd (let z : _≡_ {A = ℕ} 0 1 = cc in omega arith)
-  piece-in collect f e = absurd (let z : _≡_ {A = ℕ} 0 1 = cc in omega arith)
-  piece-in (collectReply x) f e = absurd (let z : _≡_ {A = ℕ} 0 1 = cc in omega arith)
-  piece-in (filter x) f e = absurd (let z : _≡_ {A = ℕ} 0 1 = cc in omega arith)
-  piece-in (repair x) f e = absurd (let z : _≡_ {A = ℕ} 0 1 = cc in omega arith)
-  piece-in repairReply f e = absurd (let z : _≡_ {A = ℕ} 0 1 = cc in omega arith)
-
   -- what a hand awaits is of even kind
   pub awaits-even : (h : Hand) → odd (awaits h) ≡ false
   unfolding awaits
@@ -138,22 +123,18 @@ module _ (K : Setup) where
   awaits-even (repairing d r) = refl
 
   pub outcome : (x : StepOf K) (xs : Steps K) → Fair K (x ∷ xs) → Hands xs → Always (λ y ys. Hands ys) xs → (c : ℕ) → K .correct .client c ≡ true →
-      (p : Packet) (b o : List ℕ) →
-      x .step ≡ take-reply c b o → decode b ≡ some p → Fits (K .s) c (cli K xs c) p →
+      (p : Packet) (lent : Lent) (b o : List ℕ) →
+      x .step ≡ take-reply c lent b o → decode b ≡ some p → Fits (K .s) c (cli K xs c) p →
       accepted (perform (K .s) (now (K .s) xs) (x .step) .result) ≡ true →
       Outcome K x xs (since (K .s) c xs) (from (K .s) c xs) (hand K xs c) (turn (K .s) c (cli K xs c) p)
-  unfolding Always Hands allDigested digestedBy isFull
-  outcome x xs fair hands always c good p b o st rd fit fine =
+  unfolding Always Hands allDigested digestedBy compared isFull
+  outcome x xs fair hands always c good p lent b o st rd fit fine =
       let rg = K .laws .heads b p rd (fit .same-t) in
       let got : packetIn (x .step) ≡ some p = ap packetIn st ∙ rd in
       turn-ok K x xs (since (K .s) c xs) (from (K .s) c xs) (same-since K c xs ∙ same-step K x xs)
       (same-from K c xs ∙ same-step K x xs) fair (λ d g. shown-full (x ∷ xs) fair (hands, always) d g) c (cli K xs c)
       (p .head .server) (p .body)
-      (λ f e. left-in (f .part) (digested (K .s) (account (K .s)) x xs) (allDigested (K .s) (account (K .s)) xs)
-      (subst (λ (t : Bool). In (f .part) (cond t (digestedBy (K .s) (stampedAt (K .s) (account (K .s)) x xs) (x .step)) [])) (sym fine)
-      (subst (λ (y : Step). In (f .part) (digestedBy (K .s) (stampedAt (K .s) (account (K .s)) x xs) y)) (sym st)
-      (right-in (f .part) (flat (digestsWith (K .s)) (stampedAt (K .s) (account (K .s)) x xs)) (inPacket fragments (decode b))
-      (subst (λ (q : Option Packet). In (f .part) (inPacket fragments q)) (sym rd) (piece-in (p .body) f e))))))
+      (λ cs g e l u i. left-in u (digested (K .s) (account (K .s)) x xs) (allDigested (K .s) (account (K .s)) xs) (compares cs g e l u i))
       (rg .2) (rg .3) (leb (Q K) (countTo (S K) (upd (replied K xs c) (p .head .server) true))) (λ e. leb-true (Q K) _ e)
       (λ e. leb-false (Q K) _ e) (hand K xs c) refl
       (hands c good)
@@ -161,6 +142,34 @@ module _ (K : Setup) where
       (says K c xs (p .head .server) (p .body) (hand K xs c) refl
       (heard K c xs (fair .1) p good (fit .mine) (fit .call) (fit .busy) (fit .kind)
       (made-by K x xs (fair .0) p got fine .1 (ap odd (fit .kind) ∙ awaits-even (hand K xs c)) (right-step K x xs (p .head .server) ∙ h)))))
+    where
+      w : ℕ → Client
+      w = cli K xs
+
+      v : ℕ → Server
+      v = account (K .s) .server xs
+
+      ms : List Stamped
+      ms = stampedAt (K .s) (account (K .s)) x xs
+
+      -- once the round is full, the fragments that prove the choice are digested in this step
+      compares : (cs : List Candidate) (g : ByServer Held) → hand K xs c ≡ filtering cs g → Q K ≤ countTo (S K) (upd (replied K xs c) (p .head .server) true) →
+          (u : List ℕ) → In u (proving (K .s) (upd (replied K xs c) (p .head .server) true) (upd g (p .head .server) (heldIn (p .body)))
+          (choice (K .s .P) (K .s .config) (upd (replied K xs c) (p .head .server) true) (upd g (p .head .server) (heldIn (p .body))) cs)) →
+          In u (digested (K .s) (account (K .s)) x xs)
+      compares cs g e l u i =
+          subst (λ (t : Bool). In u (cond t (digestedBy (K .s) w v ms (x .step)) [])) (sym fine)
+          (subst (λ (y : Step). In u (digestedBy (K .s) w v ms y)) (sym st)
+          (right-in u (flat (digestsWith (K .s)) ms) (ofPacket (compared (K .s) (w c) (hand K xs c)) (decode b))
+          (subst (λ (q : Option Packet). In u (ofPacket (compared (K .s) (w c) (hand K xs c)) q)) (sym rd)
+          (subst (λ (h : Hand). In u (compared (K .s) (w c) h p)) (sym e)
+          (subst (λ (t : Bool). In u (cond t (proving (K .s) m g' (choice (K .s .P) (K .s .config) m g' cs)) [])) (sym (le-leb (Q K) _ l)) i)))))
+        where
+          m : ByServer Bool
+          m = upd (replied K xs c) (p .head .server) true
+
+          g' : ByServer Held
+          g' = upd g (p .head .server) (heldIn (p .body))
 
   -- the moment when the round began, after a reply
   from-cond : (x : StepOf K) (xs : Steps K) (c : ℕ) → calls K (x ∷ xs) c ≡ calls K xs c → stage (hand K xs c) ≤ stage (hand K (x ∷ xs) c) →
@@ -200,9 +209,9 @@ module _ (K : Setup) where
       go (rbegan a b d e) = subst (At (since (K .s) c (x ∷ xs)) (from (K .s) c (x ∷ xs))) (sym e)
           (record { short = none-short K; coll = λ j h i. unmarked K j i })
       go (quit a b d e) = subst (At (since (K .s) c (x ∷ xs)) (from (K .s) c (x ∷ xs))) (sym e) tt
-      go (took p b o st rd fit e f) =
+      go (took p lent b o st rd fit e f) =
           let t = turn-turned (K .s) c (cli K xs c) p in
-          let u = outcome x xs fair hands always c good p b o st rd fit (subst (λ (z : Result). accepted z ≡ true) (sym f) (t .fine)) .0 in
+          let u = outcome x xs fair hands always c good p lent b o st rd fit (subst (λ (z : Result). accepted z ≡ true) (sym f) (t .fine)) .0 in
           let cq : cl' .calls ≡ calls K xs c = ap (λ (z : Client). z .calls) e ∙ t .calls in
           let u' : At (since (K .s) c xs) (cond (eqb (stage (hand K xs c)) (stage (cl' .hand))) (from (K .s) c xs) (x ∷ xs)) cl' =
           subst (λ (v : Client). At (since (K .s) c xs) (cond (eqb (stage (hand K xs c)) (stage (v .hand))) (from (K .s) c xs) (x ∷ xs)) v)

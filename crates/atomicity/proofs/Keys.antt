@@ -8,7 +8,7 @@ use native.Mathlib.Omega.{arith}
 use lib.Dec.{ltb, eqb}
 use borrow.Author.Tests.{ltb-true, ltb-false, lt-ltb, eqb-true, eq-eqb}
 use Rattle.protocol.specs.declared.Stamp.{Stamp}
-use Rattle.atomicity.specs.Claim.{Call, given}
+use Rattle.atomicity.specs.Claim.{Logged, given}
 use Rattle.atomicity.proofs.Util.{bool-case, and-left, and-right, and-intro, or-left, or-right}
 
 unfoldable pub lex : ℕ → ℕ → Bool → Bool
@@ -60,14 +60,14 @@ lex-total m n r s h = bool-case (ltb m n) (λ e. inl (lex-lt m n r (ltb-true m n
 -- ---- of calls
 
 -- 0 for a write, 1 for a read
-unfoldable pub part : Call → ℕ
+unfoldable pub part : Logged → ℕ
 part c = cond (given (c .wrote)) 0 1
 
 -- write before read, then by the begin
-unfoldable pub lesser : Call → Call → Bool
+unfoldable pub lesser : Logged → Logged → Bool
 lesser a b = lex (part a) (part b) (ltb (a .begun) (b .begun))
 
-unfoldable pub less : Stamp → Call → Stamp → Call → Bool
+unfoldable pub less : Stamp → Logged → Stamp → Logged → Bool
 less σ a τ b = lex (σ .number) (τ .number) (lex (σ .writer) (τ .writer) (lesser a b))
 
 lt-chain : (a b c : ℕ) → ltb a b ≡ true → ltb b c ≡ true → ltb a c ≡ true
@@ -76,24 +76,24 @@ lt-chain a b c p q = lt-ltb a c (omega (arith, ltb-true a b p, ltb-true b c q))
 lt-asym : (a b : ℕ) → ltb a b ≡ true → ltb b a ≡ true → ⊥
 lt-asym a b p q = omega (arith, ltb-true a b p, ltb-true b a q)
 
-pub less-chain : (σ : Stamp) (a : Call) (τ : Stamp) (b : Call) (υ : Stamp) (c : Call) → less σ a τ b ≡ true → less τ b υ c ≡ true →
+pub less-chain : (σ : Stamp) (a : Logged) (τ : Stamp) (b : Logged) (υ : Stamp) (c : Logged) → less σ a τ b ≡ true → less τ b υ c ≡ true →
     less σ a υ c ≡ true
 unfolding less lesser
 less-chain σ a τ b υ c = lex-chain _ _ _ _ _ _ (lex-chain _ _ _ _ _ _ (lex-chain _ _ _ _ _ _ (lt-chain (a .begun) (b .begun) (c .begun))))
 
-pub less-asym : (σ : Stamp) (a : Call) (τ : Stamp) (b : Call) → less σ a τ b ≡ true → less τ b σ a ≡ true → ⊥
+pub less-asym : (σ : Stamp) (a : Logged) (τ : Stamp) (b : Logged) → less σ a τ b ≡ true → less τ b σ a ≡ true → ⊥
 unfolding less lesser
 less-asym σ a τ b = lex-asym _ _ _ _ (lex-asym _ _ _ _ (lex-asym _ _ _ _ (lt-asym (a .begun) (b .begun))))
 
-pub less-total : (σ : Stamp) (a : Call) (τ : Stamp) (b : Call) → b .begun < a .begun → (less σ a τ b ≡ true) ⊎ (less τ b σ a ≡ true)
+pub less-total : (σ : Stamp) (a : Logged) (τ : Stamp) (b : Logged) → b .begun < a .begun → (less σ a τ b ≡ true) ⊎ (less τ b σ a ≡ true)
 unfolding less lesser
 less-total σ a τ b h = lex-total _ _ _ _ (lex-total _ _ _ _ (lex-total _ _ _ _ (inr (lt-ltb (b .begun) (a .begun) h))))
 
 -- what is left of less after the stamps
-abbrev pub Rest : Stamp → Call → Stamp → Call → Type 0
+abbrev pub Rest : Stamp → Logged → Stamp → Logged → Type 0
 Rest σ a τ b = (σ .number < τ .number) ⊎ ((σ .number ≡ τ .number) × ((σ .writer < τ .writer) ⊎ ((σ .writer ≡ τ .writer) × (lesser a b ≡ true))))
 
-pub less-rest : (σ : Stamp) (a : Call) (τ : Stamp) (b : Call) → less σ a τ b ≡ true → Rest σ a τ b
+pub less-rest : (σ : Stamp) (a : Logged) (τ : Stamp) (b : Logged) → less σ a τ b ≡ true → Rest σ a τ b
 unfolding less
 less-rest σ a τ b h = go (lex-view _ _ _ h)
   where
@@ -105,7 +105,7 @@ less-rest σ a τ b h = go (lex-view _ _ _ h)
     go (inr k) = inr (k .0, inner (k .1))
 
 -- w ≤ x ≤ r, and w and r have one stamp: so has x
-pub between : (σ : Stamp) (w : Call) (τ : Stamp) (x : Call) (υ : Stamp) (r : Call) → σ .number ≡ υ .number → σ .writer ≡ υ .writer → Rest σ w τ x →
+pub between : (σ : Stamp) (w : Logged) (τ : Stamp) (x : Logged) (υ : Stamp) (r : Logged) → σ .number ≡ υ .number → σ .writer ≡ υ .writer → Rest σ w τ x →
     Rest τ x υ r →
     (σ .number ≡ τ .number) × (σ .writer ≡ τ .writer) × (lesser w x ≡ true)
 between σ w τ x υ r n o (inl p) (inl q) = absurd (omega (arith, n))

@@ -14,11 +14,12 @@ use Rattle.protocol.specs.declared.Stamp.{Stamp}
 use Rattle.protocol.specs.Values.{blankStamp}
 use Rattle.protocol.specs.Packet.{Packet, decode}
 use Rattle.protocol.specs.Client.{Client, Hand, Result, idle, clocking, storing, completing, collecting, filtering, repairing, onto, awaits, isIdle, accepted}
-use Rattle.protocol.specs.Runs.{Step, write, read, make, take-reply, give-up, serve, nowValues}
+use Rattle.protocol.specs.Runs.{Lent, Step, write, read, make, take-reply, give-up, serve}
+use Rattle.protocol.proofs.ValueRuns.{nowValues}
 use Rattle.atomicity.specs.Lists.{Ever, Always, In}
 use Rattle.atomicity.specs.Steps.{Stamped, stampedFrom, stampedBy, stampedAt}
 use Rattle.atomicity.specs.Premises.{PartyOf}
-use Rattle.atomicity.specs.Claim.{Call, follow, leave}
+use Rattle.atomicity.specs.Claim.{Logged, follow, leave}
 use Rattle.atomicity.proofs.Util.{clash, no-some}
 use Rattle.atomicity.proofs.Model.{perform, now, account, turn}
 use Rattle.atomicity.proofs.Setup.{Setup, Steps, StepOf, Fair, hand, calls, cli}
@@ -35,7 +36,7 @@ use Rattle.atomicity.proofs.Shape.{begun-at, effect, newCall, news, ref
 module _ (K : Setup) where
   -- a known call
   pub record Signed (xs : Steps K) : Type 0 where
-    pub call : Call
+    pub call : Logged
     pub stamp : Stamp
     pub ok : CallOk K xs call stamp
 
@@ -53,7 +54,7 @@ module _ (K : Setup) where
           write-inj e = cc
       go (rbegan s b d e) = absurd (let z : _≡_ {A = ℕ} 0 1 = cc in omega arith)
       go (quit s b d e) = absurd (let z : _≡_ {A = ℕ} 0 1 = cc in omega arith)
-      go (took p b o s rd fit e f) = absurd (let z : _≡_ {A = ℕ} 0 1 = cc in omega arith)
+      go (took p lent b o s rd fit e f) = absurd (let z : _≡_ {A = ℕ} 0 1 = cc in omega arith)
 
   pub new-read : (x : StepOf K) (xs : Steps K) (c : ℕ) → x .step ≡ read c → accepted (result K x xs) ≡ true →
       CallOk K (x ∷ xs) (newCall c (suc (calls K xs c)) none (length xs)) blankStamp
@@ -66,10 +67,10 @@ module _ (K : Setup) where
       go (wbegan r' n' s b d l e) = absurd (let z : _≡_ {A = ℕ} 0 1 = cc in omega arith)
       go (rbegan s b d e) = begun-at K x xs c _ none e (λ o. (o, refl))
       go (quit s b d e) = absurd (let z : _≡_ {A = ℕ} 0 1 = cc in omega arith)
-      go (took p b o s rd fit e f) = absurd (let z : _≡_ {A = ℕ} 0 1 = cc in omega arith)
+      go (took p lent b o s rd fit e f) = absurd (let z : _≡_ {A = ℕ} 0 1 = cc in omega arith)
 
   -- the call that begins, if it is accepted
-  unfoldable pub beginSigned : {xs : Steps K} (a : Call) (b : Bool) → (b ≡ true → CallOk K xs a blankStamp) → List (Signed xs)
+  unfoldable pub beginSigned : {xs : Steps K} (a : Logged) (b : Bool) → (b ≡ true → CallOk K xs a blankStamp) → List (Signed xs)
   beginSigned a true f = record { call = a; stamp = blankStamp; ok = f refl } ∷ []
   beginSigned a false f = []
 
@@ -78,11 +79,11 @@ module _ (K : Setup) where
       (new-write x xs c r n e)
   newSigned x xs (read c) e = beginSigned (newCall c (suc (calls K xs c)) none (length xs)) (accepted (result K x xs)) (new-read x xs c e)
   newSigned x xs (make c b o) e = []
-  newSigned x xs (take-reply c b o) e = []
+  newSigned x xs (take-reply c lent b o) e = []
   newSigned x xs (give-up c) e = []
   newSigned x xs (serve b p o) e = []
 
-  begin-call : {xs : Steps K} (a : Call) (b : Bool) (f : b ≡ true → CallOk K xs a blankStamp) →
+  begin-call : {xs : Steps K} (a : Logged) (b : Bool) (f : b ≡ true → CallOk K xs a blankStamp) →
       map (λ (g : Signed xs). g .call) (beginSigned a b f) ≡ cond b (a ∷ []) []
   unfolding beginSigned
   begin-call a true f = refl
@@ -94,13 +95,13 @@ module _ (K : Setup) where
   new-calls x xs (write c r n) e = begin-call _ (accepted (result K x xs)) (new-write x xs c r n e)
   new-calls x xs (read c) e = begin-call _ (accepted (result K x xs)) (new-read x xs c e)
   new-calls x xs (make c b o) e = refl
-  new-calls x xs (take-reply c b o) e = refl
+  new-calls x xs (take-reply c lent b o) e = refl
   new-calls x xs (give-up c) e = refl
   new-calls x xs (serve b p o) e = refl
 
   -- ---- a call that takes a reply, or is given up
 
-  leave-cur : (ys : Steps K) (a : Call) (σ : Stamp) (h : Hand) → isIdle h ≡ false → Cur K ys a σ h → a .over ≡ none
+  leave-cur : (ys : Steps K) (a : Logged) (σ : Stamp) (h : Hand) → isIdle h ≡ false → Cur K ys a σ h → a .over ≡ none
   unfolding Cur isIdle awaits
   leave-cur ys a σ idle e c = clash refl e
   leave-cur ys a σ (clocking r n k) e c = c .0 .going
@@ -110,7 +111,7 @@ module _ (K : Setup) where
   leave-cur ys a σ (filtering cs g) e c = c .0 .going
   leave-cur ys a σ (repairing d r) e c = c .0 .going
 
-  leave-ok : (ys : Steps K) (a : Call) (σ : Stamp) → a .over ≡ none → hand K ys (a .client) ≡ idle → CallOk K ys a σ → CallOk K ys (leave a) σ
+  leave-ok : (ys : Steps K) (a : Logged) (σ : Stamp) → a .over ≡ none → hand K ys (a .client) ≡ idle → CallOk K ys a σ → CallOk K ys (leave a) σ
   unfolding Cur
   leave-ok ys a σ o i h = record {
     base = record {
@@ -125,18 +126,18 @@ module _ (K : Setup) where
     current = λ n. subst (Cur K ys (leave a) σ) (sym i) tt;
   }
 
-  abbrev Goal : StepOf K → Steps K → Call → Stamp → Call → Type 0
+  abbrev Goal : StepOf K → Steps K → Logged → Stamp → Logged → Type 0
   Goal x xs a σ b = (τ : Stamp) × CallOk K (x ∷ xs) b τ × Keeps K a σ b τ
 
   -- the call that takes the reply
-  taken-call : (x : StepOf K) (xs : Steps K) → Fair K (x ∷ xs) → (a : Call) (σ : Stamp) → CallOk K xs a σ → a .number ≡ calls K xs (a .client) →
-      (p : Packet) (b o : List ℕ) →
-      x .step ≡ take-reply (a .client) b o → decode b ≡ some p → Fits (K .s) (a .client) (cli K xs (a .client)) p →
+  taken-call : (x : StepOf K) (xs : Steps K) → Fair K (x ∷ xs) → (a : Logged) (σ : Stamp) → CallOk K xs a σ → a .number ≡ calls K xs (a .client) →
+      (p : Packet) (lent : Lent) (b o : List ℕ) →
+      x .step ≡ take-reply (a .client) lent b o → decode b ≡ some p → Fits (K .s) (a .client) (cli K xs (a .client)) p →
       perform (K .s) (now (K .s) xs) (x .step) .world .client (a .client) ≡ turn (K .s) (a .client) (cli K xs (a .client)) p .client →
       result K x xs ≡ turn (K .s) (a .client) (cli K xs (a .client)) p .result →
       Goal x xs a σ (effect K x xs (a .client) a)
   unfolding nowValues Always Outcome Hands Ever Follows stampedBy
-  taken-call x xs fair a σ h n p b o st rd fit e v =
+  taken-call x xs fair a σ h n p lent b o st rd fit e v =
       let c = a .client in
       let cl = cli K xs c in
       let t = turn-turned (K .s) c cl p in
@@ -144,7 +145,7 @@ module _ (K : Setup) where
       let good : K .correct .client c ≡ true = subst (λ (y : Step). PartyOf (K .s) (account (K .s)) (K .correct) xs y) st (fair .0 .party) in
       let fine : accepted (result K x xs) ≡ true = subst (λ (z : Result). accepted z ≡ true) (sym v) (t .fine) in
       let same : calls K xs c ≡ calls K (x ∷ xs) c = sym (ap (λ (z : Client). z .calls) e ∙ t .calls) in
-      let u = outcome K x xs fair (hs .0) (hs .1) c good p b o st rd fit fine in
+      let u = outcome K x xs fair (hs .0) (hs .1) c good p lent b o st rd fit fine in
       let r = call-follows K x xs a σ same (h .base) (from (K .s) c xs) cl (p .head .server) (p .body) _ _ (cl .hand) refl (fit .busy) (hs .0 c good)
       (h .current n)
       (record {
@@ -165,13 +166,13 @@ module _ (K : Setup) where
           (perform (K .s) (now (K .s) xs) (x .step) .world .client (a .client) .hand)) → In m (stampedAt (K .s) (account (K .s)) x xs)
       here m i = subst (λ (y : Step). In m (stampedBy (now (K .s) xs .client) (perform (K .s) (now (K .s) xs) (x .step) .world .client) y)) (sym st) i
 
-      at-hand : {d : Call} {τ : Stamp} {cl : Client} → Keeps K a σ d τ → perform (K .s) (now (K .s) xs) (x .step) .world .client (a .client) ≡ cl →
+      at-hand : {d : Logged} {τ : Stamp} {cl : Client} → Keeps K a σ d τ → perform (K .s) (now (K .s) xs) (x .step) .world .client (a .client) ≡ cl →
           Cur K (x ∷ xs) d τ (cl .hand) → Cur K (x ∷ xs) d τ (perform (K .s) (now (K .s) xs) (x .step) .world .client (d .client) .hand)
       at-hand {d} {τ} {cl} k e c = subst (λ (i : ℕ). Cur K (x ∷ xs) d τ (perform (K .s) (now (K .s) xs) (x .step) .world .client i .hand))
           (sym (k .client)) (subst (λ (y : Client). Cur K (x ∷ xs) d τ (y .hand)) (sym e) c)
 
   -- the client's own call, at its own take or give-up
-  own-call : (x : StepOf K) (xs : Steps K) → Fair K (x ∷ xs) → (a : Call) (σ : Stamp) → CallOk K xs a σ → a .number ≡ calls K xs (a .client) →
+  own-call : (x : StepOf K) (xs : Steps K) → Fair K (x ∷ xs) → (a : Logged) (σ : Stamp) → CallOk K xs a σ → a .number ≡ calls K xs (a .client) →
       mover (x .step) ≡ some (a .client) → acting (a .client) (x .step) ≡ true →
       Goal x xs a σ (effect K x xs (a .client) a)
   unfolding nowValues onto
@@ -183,19 +184,19 @@ module _ (K : Setup) where
       go : Moved (K .s) (a .client) (now (K .s) xs) (x .step) cl' (result K x xs) → Goal x xs a σ (effect K x xs (a .client) a)
       go (kept e f) = let no = f act in let r = refused-view (result K x xs) no in
           subst (λ (y : Result). Goal x xs a σ (follow y (eqb (awaits (hand K (x ∷ xs) (a .client))) 6) (length xs) a)) (sym (r .1))
-          (σ, carry K x xs a σ h (λ p b o s rd acc q. clash acc no), keeps-refl K a σ)
+          (σ, carry K x xs a σ h (λ p lent b o s rd acc q. clash acc no), keeps-refl K a σ)
       go (wbegan r n' s b d l e) = absurd (no-some (sym (ap mover s) ∙ m))
       go (rbegan s b d e) = absurd (no-some (sym (ap mover s) ∙ m))
       go (quit s v d e) =
-          let k = carry K x xs a σ h (λ p b o s' rd acc q. (let z : _≡_ {A = ℕ} 0 1 = cc in omega arith)) in
+          let k = carry K x xs a σ h (λ p lent b o s' rd acc q. (let z : _≡_ {A = ℕ} 0 1 = cc in omega arith)) in
           subst (λ (y : Result). Goal x xs a σ (follow y (eqb (awaits (hand K (x ∷ xs) (a .client))) 6) (length xs) a)) (sym v) (
             σ,
             leave-ok (x ∷ xs) a σ (leave-cur xs a σ (hand K xs (a .client)) d (h .current n)) (ap (λ (z : Client). z .hand) e) k,
             record { client = refl; number = refl; begun = refl; wrote = refl; reached = λ e. (e, refl) },
           )
-      go (took p b o s rd fit e v) = taken-call x xs fair a σ h n p b o s rd fit e v
+      go (took p lent b o s rd fit e v) = taken-call x xs fair a σ h n p lent b o s rd fit e v
 
-  pub step-call : (x : StepOf K) (xs : Steps K) → Fair K (x ∷ xs) → (a : Call) (σ : Stamp) → CallOk K xs a σ → (st : Step) → x .step ≡ st →
+  pub step-call : (x : StepOf K) (xs : Steps K) → Fair K (x ∷ xs) → (a : Logged) (σ : Stamp) → CallOk K xs a σ → (st : Step) → x .step ≡ st →
       Goal x xs a σ (touched K x xs st a)
   step-call x xs fair a σ h = touched-case K (Goal x xs a σ) x xs a (λ k act n. own-call x xs fair a σ h n k act)
-      (λ f. (σ, carry K x xs a σ h (λ p b o s rd acc n. f (ap mover s) n), keeps-refl K a σ))
+      (λ f. (σ, carry K x xs a σ h (λ p lent b o s rd acc n. f (ap mover s) n), keeps-refl K a σ))

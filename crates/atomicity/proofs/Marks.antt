@@ -12,10 +12,11 @@ use Rattle.protocol.specs.declared.Stamp.{Stamp}
 use Rattle.protocol.specs.Values.{sameList, isBlank}
 use Rattle.protocol.specs.Primitives.{stampMessage}
 use Rattle.protocol.specs.Client.{Client, Hand, awaits, Result, idle, clocking, storing, completing, collecting, filtering, repairing, prepared, candidateMade, stampOf, checks, accepted}
-use Rattle.protocol.specs.Runs.{Step, write, read, make, take-reply, give-up, serve, Typed, World, nowValues}
+use Rattle.protocol.specs.Runs.{Lent, Step, write, read, make, take-reply, give-up, serve}
+use Rattle.protocol.proofs.ValueRuns.{World, nowValues}
 use Rattle.protocol.proofs.Equal.{same-refl}
 use Rattle.atomicity.specs.Lists.{In}
-use Rattle.atomicity.specs.Steps.{System, Stamped, stampedFrom, stampedBy, stampedAt}
+use Rattle.atomicity.specs.Steps.{StepIn, System, Stamped, stampedFrom, stampedBy, stampedAt}
 use Rattle.atomicity.proofs.Util.{and-intro, not-f, right-in, split-in}
 use Rattle.atomicity.proofs.Model.{Run, perform, now, account, marks, stampFor, preparedFor}
 use Rattle.atomicity.proofs.Moves.{Moved, kept, wbegan, rbegan, quit, took, moved}
@@ -23,9 +24,10 @@ use Rattle.atomicity.proofs.Rounds.{Next, stays, clock-on, clock-ends, 
 
 -- where a mark comes from
 pub record Marked (s : System) (w : World) (x : Step) (m : Stamped) : Type 0 where
+  pub lent : Lent
   pub packet : List ℕ
   pub output : List ℕ
-  pub step : x ≡ take-reply (m .client) packet output
+  pub step : x ≡ take-reply (m .client) lent packet output
   pub top : ℕ
   pub top' : ℕ
   pub was : w .client (m .client) .hand ≡ clocking (m .content) (m .nonce) top
@@ -89,10 +91,10 @@ module _ (s : System) where
   mark-source w (make c b o) m i = absurd i
   mark-source w (give-up c) m i = absurd i
   mark-source w (serve b p o) m i = absurd i
-  mark-source w (take-reply c b o) m i = go (moved s c w (take-reply c b o))
+  mark-source w (take-reply c lent b o) m i = go (moved s c w (take-reply c lent b o))
     where
       x : Step
-      x = take-reply c b o
+      x = take-reply c lent b o
 
       cl' : Client
       cl' = perform s w x .world .client c
@@ -103,14 +105,15 @@ module _ (s : System) where
       go (wbegan r n a d f l e) = absurd (let z : _≡_ {A = ℕ} 0 1 = cc in omega arith)
       go (rbegan a d f e) = absurd (let z : _≡_ {A = ℕ} 0 1 = cc in omega arith)
       go (quit a d f e) = absurd (let z : _≡_ {A = ℕ} 0 1 = cc in omega arith)
-      go (took p b' o' a d f e r) =
+      go (took p lent' b' o' a d f e r) =
           let t = turn-turned s c (w .client c) p in
           let g = from-next c (w .client c .hand) (w .client c .last) (cl' .hand) (cl' .last) m
           (subst (λ (z : Client). Next s c (w .client c .hand) (w .client c .last) (z .hand) (z .last)) (sym e) (t .next)) i in
           record {
+            lent = lent;
             packet = b;
             output = o;
-            step = ap (λ (d : ℕ). take-reply d b o) (sym (g .0));
+            step = ap (λ (d : ℕ). take-reply d lent b o) (sym (g .0));
             top = g .1;
             top' = g .2;
             was = ap (λ (d : ℕ). w .client d .hand) (g .0) ∙ g .3;
@@ -123,7 +126,7 @@ module _ (s : System) where
           }
 
   -- a property of each new mark is one of all
-  pub mark-all : (P : Stamped → Type 0) → ((x : Typed (s .config)) (xs : Run s) (m : Stamped) → Marked s (now s xs) (x .step) m → P m) →
+  pub mark-all : (P : Stamped → Type 0) → ((x : StepIn s) (xs : Run s) (m : Stamped) → Marked s (now s xs) (x .step) m → P m) →
       (xs : Run s) (m : Stamped) → In m (marks s xs) → P m
   unfolding marks In nowValues
   mark-all P f [] m i = absurd i
@@ -153,6 +156,6 @@ module _ (s : System) where
       (and-intro _ _ (not-f _ (ne-eqb (m .stamp .number) 0 (λ e. omega (arith, e, mark-num xs m i))))
       (same-refl (s .P .tag (s .writers) (stampMessage (m .stamp .number) (m .client)))))
 
-  pub marks-up : (m : Stamped) (x : Typed (s .config)) (xs : Run s) → In m (marks s xs) → In m (marks s (x ∷ xs))
+  pub marks-up : (m : Stamped) (x : StepIn s) (xs : Run s) → In m (marks s xs) → In m (marks s (x ∷ xs))
   unfolding marks
   marks-up m x xs i = right-in m (stampedAt s (account s) x xs) (marks s xs) i

@@ -18,12 +18,13 @@ use Rattle.protocol.specs.Primitives.{stampMessage, candidateMessage}
 use Rattle.protocol.specs.Rules.{ByServer, upd}
 use Rattle.protocol.specs.Server.{Server, Acted, blankServer, byHistory, byTag, valid, best, act}
 use Rattle.protocol.specs.Client.{Client, Hand, Turn, isFull, update, stampOf, tagsOf, prepared}
-use Rattle.protocol.specs.Runs.{Step, World, After, Typed, Account, steps, sentOf, doValues, nowValues}
+use Rattle.protocol.specs.Runs.{Step, Account, steps, sentOf}
+use Rattle.protocol.proofs.ValueRuns.{World, After, doValues, nowValues}
 use Rattle.atomicity.specs.Lists.{All, AllPairs}
-use Rattle.atomicity.specs.Steps.{System, Stamped, stampedAt}
+use Rattle.atomicity.specs.Steps.{StepIn, System, Stamped, stampedAt}
 
 abbrev pub Run : System → Type 0
-Run s = List (Typed (s .config))
+Run s = List (StepIn s)
 
 module _ (s : System) where
   abbrev pub perform : World → Step → After
@@ -33,7 +34,7 @@ module _ (s : System) where
   now xs = nowValues (s .P) (s .config) (s .writers) (s .keys) (steps xs)
 
   -- what byValues tells, field by field
-  abbrev pub account : Account (s .config)
+  abbrev pub account : Account (StepIn s)
   account =
       record {
         result = λ x xs. perform (now xs) (x .step) .result;
@@ -111,7 +112,7 @@ module _ (s : System) where
 
   pub record Laws : Type 0 where
     -- bytes that were sent and decode to p were sent as p
-    pub reads : (x : Typed (s .config)) (xs : Run s) (p : Packet) → decode (sentOf (perform (now xs) (x .step) .sent)) ≡ some p →
+    pub reads : (x : StepIn s) (xs : Run s) (p : Packet) → decode (sentOf (perform (now xs) (x .step) .sent)) ≡ some p →
         perform (now xs) (x .step) .sent ≡ some p
     -- the ranges of a packet's head
     pub heads : (b : List ℕ) (p : Packet) → decode b ≡ some p → p .head .t ≡ s .config .t

@@ -11,17 +11,17 @@ use native.Mathlib.Omega.{arith}
 use lib.Dec.{leb}
 use borrow.Author.Tests.{leb-true, leb-false}
 use Rattle.protocol.specs.Values.{Candidate, Held, blankCandidate}
-use Rattle.protocol.specs.Packet.{Body, Packet}
+use Rattle.protocol.specs.Packet.{Body, Packet, filter}
 use Rattle.protocol.specs.Rules.{ByServer, countTo}
 use Rattle.atomicity.specs.Lists.{Ever, Always, In}
-use Rattle.atomicity.specs.Steps.{Stamped, serves, judged, shown, inPacket, noncesBy, noncesGot}
+use Rattle.atomicity.specs.Steps.{Stamped, serves, judged, offered, ofPacket, noncesBy, noncesGot}
 use Rattle.atomicity.specs.Premises.{Begins, FreshNonce, NoEarlyNonce}
 use Rattle.atomicity.proofs.Util.{bool-case, clash, and-left, and-right, in-map, all-in}
 use Rattle.atomicity.proofs.Model.{account, marks, isValid}
 use Rattle.atomicity.proofs.Setup.{Setup, Steps, StepOf, Fair, Begin, Show, srv, right}
 use Rattle.atomicity.proofs.Marks.{marks-up}
 use Rattle.atomicity.proofs.Nonces.{begins, by-nonce}
-use Rattle.atomicity.proofs.Servers.{best-view}
+use Rattle.atomicity.proofs.Servers.{best-case}
 use Rattle.atomicity.proofs.Genuine.{at-serve, Genuine, genuine}
 use Rattle.atomicity.proofs.Quorums.{FullAt}
 use Rattle.atomicity.proofs.Invariant.{hands-all, shown-since}
@@ -95,16 +95,20 @@ module _ (K : Setup) (xs : Steps K) (fair : Fair K xs) (cs : List Candidate) (g 
 
   pub best-real : (j : ℕ) (M : Moment j) → (best K cs j (M .ys) ≡ blankCandidate (K .s .config))
       ⊎ (In (best K cs j (M .ys)) cs × Genuine K (M .ys) (best K cs j (M .ys)))
-  best-real j M = go (best-view (K .s) j (srv K (M .ys) j) (blankCandidate (K .s .config)) cs)
+  best-real j M = go (best-case (K .s) j (srv K (M .ys) j) (filter cs))
     where
       b : Candidate
       b = best K cs j (M .ys)
 
-      go : (b ≡ blankCandidate (K .s .config)) ⊎ (In b cs × (isValid (K .s) j (srv K (M .ys) j) b ≡ true)) →
+      go : (b ≡ blankCandidate (K .s .config))
+          ⊎ (In b (judged (K .s) j (srv K (M .ys) j) (filter cs)) × (In b cs × (isValid (K .s) j (srv K (M .ys) j) b ≡ true))) →
           (b ≡ blankCandidate (K .s .config)) ⊎ (In b cs × Genuine K (M .ys) b)
       go (inl e) = inl e
-      go (inr v) = let T = M .sat in inr
-          (v .0, genuine K (M .y) (M .ys) (T .old) j (T .ask) (T .judging) b (subst (λ (z : Body). In b (judged z)) (sym (T .asked)) (v .0)) (v .1))
+      go (inr v) = let T = M .sat in inr (
+        v .1 .0,
+        genuine K (M .y) (M .ys) (T .old) j (T .ask) (T .judging) b
+            (subst (λ (z : Body). In b (judged (K .s) j (srv K (M .ys) j) z)) (sym (T .asked)) (v .0)) (v .1 .1),
+      )
 
   -- a nonce that a server got belongs to a write that was begun before
   born : (n : List ℕ) (c j : ℕ) (y : StepOf K) (ys zs : Steps K) → serves j (y .step) ≡ true → In n (noncesGot (K .s) (account (K .s)) y ys) →
@@ -130,8 +134,8 @@ module _ (K : Setup) (xs : Steps K) (fair : Fair K xs) (cs : List Candidate) (g 
   then-genuine j M d i gen =
       let T = M .sat in let w = gen .origin .write in let y = M .y in let ys = M .ys in
       let seen : In (w .nonce) (noncesGot (K .s) (account (K .s)) y ys) = at-serve K (w .nonce) y ys j (T .ask) (T .judging) (noncesBy (K .s))
-      (λ b o e. subst (λ (q : Option Packet). In (w .nonce) (map (λ (c : Candidate). c .nonce) (inPacket shown q))) (sym e)
-      (subst (λ (z : Body). In (w .nonce) (map (λ (c : Candidate). c .nonce) (shown z))) (sym (T .asked))
+      (λ b o e. subst (λ (q : Option Packet). In (w .nonce) (map (λ (c : Candidate). c .nonce) (ofPacket (λ z. offered (z .body)) q))) (sym e)
+      (subst (λ (z : Body). In (w .nonce) (map (λ (c : Candidate). c .nonce) (offered z))) (sym (T .asked))
       (subst (λ (z : List ℕ). In z (map (λ (c : Candidate). c .nonce) cs)) (sym (gen .nonce-is))
       (in-map (λ (c : Candidate). c .nonce) cs d i)))) in
       let beg = born (w .nonce) (w .client) j y ys xs (T .judging .by) seen fair (M .suf) (begins K xs w (gen .origin .made)) in

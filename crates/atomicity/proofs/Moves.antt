@@ -18,7 +18,8 @@ use Rattle.protocol.specs.Packet.{Packet, kindOf, decode}
 use Rattle.protocol.specs.Rules.{nobody}
 use Rattle.protocol.specs.Client.{Client, Turn, Result, more, aborted, idle, clocking, collecting, awaits, isIdle, highAt, onto, begun, badFaults, accepted}
 use Rattle.protocol.specs.Client.{writeRefusal, readRefusal, abortRefusal, takeRefusal, writeStep, readStep, abortStep, takeStep, turnOn}
-use Rattle.protocol.specs.Runs.{Step, write, read, make, take-reply, give-up, serve, World, After, doValues, setClient}
+use Rattle.protocol.specs.Runs.{Lent, Step, write, read, make, take-reply, give-up, serve}
+use Rattle.protocol.proofs.ValueRuns.{World, After, doValues, setClient}
 use Rattle.protocol.proofs.Fine.{at-refusal}
 use Rattle.atomicity.specs.Steps.{System}
 use Rattle.atomicity.proofs.Util.{and-left, and-right, upd-case, clash}
@@ -49,7 +50,7 @@ abbrev pub acting : ℕ → Step → Bool
 acting c (write d r n) = eqb c d
 acting c (read d) = eqb c d
 acting c (make d b o) = false
-acting c (take-reply d b o) = eqb c d
+acting c (take-reply d lent b o) = eqb c d
 acting c (give-up d) = eqb c d
 acting c (serve b p o) = false
 
@@ -61,7 +62,7 @@ pub data Moved (s : System) (c : ℕ) (w : World) (x : Step) (cl : Client) (res 
       Moved s c w x cl res
   quit : x ≡ give-up c → res ≡ aborted (eqb (awaits (w .client c .hand)) 6) → isIdle (w .client c .hand) ≡ false →
       cl ≡ onto (w .client c) nobody idle → Moved s c w x cl res
-  took : (p : Packet) (b o : List ℕ) → x ≡ take-reply c b o → decode b ≡ some p → Fits s c (w .client c) p →
+  took : (p : Packet) (lent : Lent) (b o : List ℕ) → x ≡ take-reply c lent b o → decode b ≡ some p → Fits s c (w .client c) p →
       cl ≡ turn s c (w .client c) p .client → res ≡ turn s c (w .client c) p .result → Moved s c w x cl res
 
 pub take-fits : (s : System) (c : ℕ) (cl : Client) (p : Packet) (room : ℕ) →
@@ -128,20 +129,20 @@ module _ (s : System) (c : ℕ) (w : World) where
       quit refl refl (not-true _ (not-false _ (z3 .0))) refl)
       (kept refl (λ q. refl))
 
-  take-moved : (b o : List ℕ) (q : Option Packet) → decode b ≡ q →
-      Moved s c w (take-reply c b o) (takeStep (s .P) (s .config) c (s .writers) (s .keys) (w .client c) q (length o) .client)
+  take-moved : (lent : Lent) (b o : List ℕ) (q : Option Packet) → decode b ≡ q →
+      Moved s c w (take-reply c lent b o) (takeStep (s .P) (s .config) c (s .writers) (s .keys) (w .client c) q (length o) .client)
       (takeStep (s .P) (s .config) c (s .writers) (s .keys) (w .client c) q (length o) .result)
   unfolding takeStep turnOn takeRefusal
-  take-moved b o none d = at-refusal (λ (u : Turn). Moved s c w (take-reply c b o) (u .client) (u .result))
+  take-moved lent b o none d = at-refusal (λ (u : Turn). Moved s c w (take-reply c lent b o) (u .client) (u .result))
       (takeRefusal (s .config) c none (w .client c .calls) (awaits (w .client c .hand)) (w .client c .marks)
       (highAt (s .P) (s .config) c (s .writers) (s .keys) (w .client c)) (length o)) _ _
       (λ e. let z1 = passes (badFaults (s .config)) 2 _ e in let z2 = passes (not (within 1 topClient c)) 4 _ (z1 .1) in
       absurd (omega (arith, z2 .1)))
       (kept refl (λ q. refl))
-  take-moved b o (some p) d = at-refusal (λ (u : Turn). Moved s c w (take-reply c b o) (u .client) (u .result))
+  take-moved lent b o (some p) d = at-refusal (λ (u : Turn). Moved s c w (take-reply c lent b o) (u .client) (u .result))
       (takeRefusal (s .config) c (some p) (w .client c .calls) (awaits (w .client c .hand)) (w .client c .marks)
       (highAt (s .P) (s .config) c (s .writers) (s .keys) (w .client c)) (length o)) _ _
-      (λ e. took p b o refl d (take-fits s c (w .client c) p (length o) e) refl refl)
+      (λ e. took p lent b o refl d (take-fits s c (w .client c) p (length o) e) refl refl)
       (kept refl (λ q. refl))
 
   pub moved : (x : Step) → Moved s c w x (perform s w x .world .client c) (perform s w x .result)
@@ -153,10 +154,10 @@ module _ (s : System) (c : ℕ) (w : World) where
       (λ e. subst (λ (i : ℕ). Moved s c w (read i) (readStep (s .config) i (w .client i) .client)
       (readStep (s .config) i (w .client i) .result)) e read-moved)
   moved (make d b o) = kept refl (λ q. clash q refl)
-  moved (take-reply d b o) = set-moved (take-reply d b o) d _ (λ e. e)
-      (λ e. subst (λ (i : ℕ). Moved s c w (take-reply i b o)
+  moved (take-reply d lent b o) = set-moved (take-reply d lent b o) d _ (λ e. e)
+      (λ e. subst (λ (i : ℕ). Moved s c w (take-reply i lent b o)
       (takeStep (s .P) (s .config) i (s .writers) (s .keys) (w .client i) (decode b) (length o) .client)
-      (takeStep (s .P) (s .config) i (s .writers) (s .keys) (w .client i) (decode b) (length o) .result)) e (take-moved b o (decode b) refl))
+      (takeStep (s .P) (s .config) i (s .writers) (s .keys) (w .client i) (decode b) (length o) .result)) e (take-moved lent b o (decode b) refl))
   moved (give-up d) = set-moved (give-up d) d _ (λ e. e)
       (λ e. subst (λ (i : ℕ). Moved s c w (give-up i) (abortStep (s .config) i (w .client i) .client)
       (abortStep (s .config) i (w .client i) .result)) e quit-moved)

@@ -7,7 +7,8 @@ use mathlib.Core.Logic.{_⊎_, inl, inr}
 use Prim.Native.Nat.{ℕ, suc}
 use native.Mathlib.Omega.{arith}
 use Rattle.protocol.specs.Client.{Client, Hand, Result, idle, clocking, storing, completing, collecting, filtering, repairing, begun, onto, prepared, accepted}
-use Rattle.protocol.specs.Runs.{write, World, nowValues}
+use Rattle.protocol.specs.Runs.{write}
+use Rattle.protocol.proofs.ValueRuns.{World, nowValues}
 use Rattle.atomicity.specs.Lists.{Ever, Always, In}
 use Rattle.atomicity.specs.Steps.{Stamped, stampedAt}
 use Rattle.atomicity.specs.Premises.{Begins, FreshNonce}
@@ -94,7 +95,7 @@ module _ (K : Setup) where
           (subst (λ (y : List ℕ). Ever (Begin K (m .client) y) xs) (z ∙ sym nn) (begins xs m i)))
       go (rbegan a b d e) u = subst (Unmarked (x ∷ xs)) (sym (ap (λ (y : Client). y .hand) e)) tt
       go (quit a b d e) u = subst (Unmarked (x ∷ xs)) (sym (ap (λ (y : Client). y .hand) e)) tt
-      go (took p b o a d f e r) u = let t = turn-turned (K .s) c (cli K xs c) p .next in
+      go (took p lent b o a d f e r) u = let t = turn-turned (K .s) c (cli K xs c) p .next in
           on (cl' .hand) refl (λ r n k q. on-next (hand K xs c) (lastOf K xs c) (cl' .hand) (cl' .last)
           (subst (λ (z : Client). Next (K .s) c (hand K xs c) (lastOf K xs c) (z .hand) (z .last)) (sym e) t) r n k q u)
         where

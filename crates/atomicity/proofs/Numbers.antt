@@ -1,6 +1,6 @@
 -- Numbers stay small: a stamp's number is at most the number of marks, since each new one is one above a number that a mark has.
 -- Assumes nothing.
-use mathlib.Core.Path.{_≡_, refl, sym, ap, _∙_, subst}
+use mathlib.Core.Path.{_≡_, refl, sym, ap, subst}
 use mathlib.Core.Bool.{Bool, true, false, cond, _&&_}
 use mathlib.Core.List.{List, [], _∷_, _++_}
 use mathlib.Core.Option.{Option, none, some}
@@ -12,18 +12,19 @@ use lib.ListN.{length, length-append}
 use Rattle.cluster.specs.Config.{upTo}
 use Rattle.protocol.specs.declared.Stamp.{Stamp}
 use Rattle.protocol.specs.Values.{Candidate, Held, sameList}
-use Rattle.protocol.specs.Packet.{Body, Packet, kindOf}
-use Rattle.protocol.specs.Packet.{clock, clockReply, store, storeReply, complete, completeReply, collect, collectReply, filter, filterReply, repair, repairReply}
+use Rattle.protocol.specs.Packet.{Body, Packet}
+use Rattle.protocol.specs.Packet.{clock}
 use Rattle.protocol.specs.Primitives.{stampMessage, candidateMessage}
 use Rattle.protocol.specs.Rules.{ByServer, leader, tagsIn}
 use Rattle.protocol.specs.Client.{Client, Hand, Turn, Result, idle, clocking, storing, completing, collecting, filtering, repairing, awaits, accepted}
 use Rattle.protocol.specs.Client.{update, judge, found, onto, begun, prepared, candidateMade, higher, checks, stampIn, codeIn}
-use Rattle.protocol.specs.Runs.{Step, World, nowValues}
+use Rattle.protocol.specs.Runs.{Step}
+use Rattle.protocol.proofs.ValueRuns.{World, nowValues}
 use Rattle.protocol.proofs.Answers.{at-cond}
-use Rattle.atomicity.specs.Lists.{Ever, Always, In, flat}
-use Rattle.atomicity.specs.Steps.{Stamped, inPacket, clockStamps, stampedFrom, stampedBy, stampedAt, tagsWith, tagsMade, clockChecks, checkedBy, tagsChecked}
+use Rattle.atomicity.specs.Lists.{Ever, Always, In}
+use Rattle.atomicity.specs.Steps.{Stamped, ofPacket, stampedFrom, stampedBy, stampedAt, tagsWith, tagsMade, clientChecks, checkedBy, tagsChecked}
 use Rattle.atomicity.specs.Premises.{NoForgery}
-use Rattle.atomicity.proofs.Util.{cond-both, and-left, left-in, right-in, in-flat, map-in, all-in}
+use Rattle.atomicity.proofs.Util.{cond-both, left-in, right-in, in-flat, map-in, all-in}
 use Rattle.atomicity.proofs.Model.{perform, now, account, marks, updated}
 use Rattle.atomicity.proofs.Setup.{Setup, Steps, StepOf, Fair, hand, lastOf, cli}
 use Rattle.atomicity.proofs.Moves.{Moved, kept, wbegan, rbegan, quit, took, moved}
@@ -36,11 +37,23 @@ abbrev pub Low : ℕ → Hand → Type 0
 Low n = Clocked (λ k. k ≤ n)
 
 module _ (K : Setup) where
-  pub higher-low : (N m : ℕ) (a : Stamp) → m ≤ N → (checks (K .s .P) (K .s .writers) a ≡ true → a .number ≤ N) →
-      higher (K .s .P) (K .s .writers) m a ≤ N
+  -- the highest number that clock has so far
+  abbrev highSoFar : Hand → ℕ
+  highSoFar idle = 0
+  highSoFar (clocking r n h) = h
+  highSoFar (storing d g) = 0
+  highSoFar (completing d) = 0
+  highSoFar (collecting g) = 0
+  highSoFar (filtering cs g) = 0
+  highSoFar (repairing d r) = 0
+
+  -- a number that clock takes over: its stamp's tag checks, and it is above the highest so far
+  abbrev pub Rises : ℕ → Stamp → Bool
+  Rises m a = checks (K .s .P) (K .s .writers) a && ltb m (a .number)
+
+  pub higher-low : (N m : ℕ) (a : Stamp) → m ≤ N → (Rises m a ≡ true → a .number ≤ N) → higher (K .s .P) (K .s .writers) m a ≤ N
   unfolding higher
-  higher-low N m a l f = at-cond (checks (K .s .P) (K .s .writers) a && ltb m (a .number)) (a .number) m (λ (v : ℕ). v ≤ N)
-      (λ e. f (and-left (checks (K .s .P) (K .s .writers) a) _ e)) (λ e. l)
+  higher-low N m a l f = at-cond (Rises m a) (a .number) m (λ (v : ℕ). v ≤ N) f (λ e. l)
 
   -- the client after a reply, with M marks then
   abbrev LowTurn : ℕ → ℕ → Hand → Turn → Type 0
@@ -63,7 +76,7 @@ module _ (K : Setup) where
   judge-low c N cs g g' m cl (x ∷ ls) (some d) l = found-low c N cs g g' m cl d (leader (K .s .P) (K .s .config) m g' d (K .s .config .servers)) l
 
   update-low : (c N : ℕ) (cl : Client) (b : ℕ) (y : Body) (m : ByServer Bool) (full : Bool) (h : Hand) → cl .hand ≡ h → cl .last ≤ N → Low N h →
-      (awaits h ≡ 2 → checks (K .s .P) (K .s .writers) (stampIn y) ≡ true → stampIn y .number ≤ N) →
+      (awaits h ≡ 2 → Rises (highSoFar h) (stampIn y) ≡ true → stampIn y .number ≤ N) →
       LowTurn c N h (updated (K .s) c cl b y m full h)
   unfolding update onto Clocked stampedFrom awaits prepared candidateMade
   update-low c N cl b y m full idle e l lo f = (omega arith, subst (Low (N + 0)) (sym e) tt)
@@ -102,21 +115,15 @@ module _ (K : Setup) where
   abbrev kb : Body → List ℕ × List ℕ
   kb y = (K .s .writers, stampMessage (stampIn y .number) (stampIn y .writer))
 
-  clock-in : (y : Body) → kindOf y ≡ 2 → checks (K .s .P) (K .s .writers) (stampIn y) ≡ true → In (kb y) (flat (clockChecks (K .s)) (clockStamps y))
-  unfolding flat clockChecks In
-  clock-in (clockReply a) k e = left-in (kb (clockReply a)) (cond (checks (K .s .P) (K .s .writers) a) (kb (clockReply a) ∷ []) []) []
-      (subst (λ (b : Bool). In (kb (clockReply a)) (cond b (kb (clockReply a) ∷ []) [])) (sym e) (inl refl))
-  clock-in clock k e = absurd (omega (arith, k))
-  clock-in (store x) k e = absurd (omega (arith, k))
-  clock-in (storeReply x) k e = absurd (omega (arith, k))
-  clock-in (complete x) k e = absurd (omega (arith, k))
-  clock-in completeReply k e = absurd (omega (arith, k))
-  clock-in collect k e = absurd (omega (arith, k))
-  clock-in (collectReply x) k e = absurd (omega (arith, k))
-  clock-in (filter x) k e = absurd (omega (arith, k))
-  clock-in (filterReply x) k e = absurd (omega (arith, k))
-  clock-in (repair x) k e = absurd (omega (arith, k))
-  clock-in repairReply k e = absurd (omega (arith, k))
+  clock-in : (h : Hand) (y : Body) → awaits h ≡ 2 → Rises (highSoFar h) (stampIn y) ≡ true → In (kb y) (clientChecks (K .s) h y)
+  unfolding clientChecks awaits In
+  clock-in (clocking r n h) y k e = subst (λ (b : Bool). In (kb y) (cond b (kb y ∷ []) [])) (sym e) (inl refl)
+  clock-in idle y k e = absurd (omega (arith, k))
+  clock-in (storing d g) y k e = absurd (omega (arith, k))
+  clock-in (completing d) y k e = absurd (omega (arith, k))
+  clock-in (collecting g) y k e = absurd (omega (arith, k))
+  clock-in (filtering cs g) y k e = absurd (omega (arith, k))
+  clock-in (repairing d r) y k e = absurd (omega (arith, k))
 
   unfoldable pub Small : Steps K → Type 0
   Small xs = (c : ℕ) → (lastOf K xs c ≤ length (marks (K .s) xs)) × Low (length (marks (K .s) xs)) (hand K xs c)
@@ -152,9 +159,9 @@ module _ (K : Setup) where
       go (wbegan r n s a i l e) = subst (Goal M) (sym e) (omega (arith, up, h c .0), omega (arith, up, h c .0))
       go (rbegan s a i e) = subst (Goal M) (sym e) (omega (arith, up, h c .0), tt)
       go (quit s a i e) = subst (Goal M) (sym e) (omega (arith, up, h c .0), tt)
-      go (took p b o s rd fit e v) =
+      go (took p lent b o s rd fit e v) =
           let u = update-low c N (cli K xs c) (p .head .server) (p .body) _ _ (hand K xs c) refl (h c .0) (h c .1)
-          (λ k t. checked (fit .kind ∙ k) t) in
+          checked in
           let q : M ≡ N + length (stampedFrom c (hand K xs c) (cl' .hand)) =
           omega (arith, length-append (stampedAt (K .s) (account (K .s)) x xs) (marks (K .s) xs), ap length at-take) in
           subst (λ (m : ℕ). Goal m cl') (sym q) (subst (λ (y : Client). Goal (N + length (stampedFrom c (hand K xs c) (y .hand))) y) (sym e) u)
@@ -165,13 +172,13 @@ module _ (K : Setup) where
           fine : accepted (result K x xs) ≡ true
           fine = subst (λ (z : Result). accepted z ≡ true) (sym v) (turn-turned (K .s) c (cli K xs c) p .fine)
 
-          checked : kindOf (p .body) ≡ 2 → checks (K .s .P) (K .s .writers) (stampIn (p .body)) ≡ true → stampIn (p .body) .number ≤ N
+          checked : awaits (hand K xs c) ≡ 2 → Rises (highSoFar (hand K xs c)) (stampIn (p .body)) ≡ true → stampIn (p .body) .number ≤ N
           checked k t =
               let i : In (kb (p .body)) (tagsChecked (K .s) (account (K .s)) x xs) =
-              subst (λ (z : Bool). In (kb (p .body)) (cond z (checkedBy (K .s) (account (K .s) .server xs) (x .step)) [])) (sym fine)
-              (subst (λ (y : Step). In (kb (p .body)) (checkedBy (K .s) (account (K .s) .server xs) y)) (sym s)
-              (subst (λ (q : Option Packet). In (kb (p .body)) (flat (clockChecks (K .s)) (inPacket clockStamps q))) (sym rd)
-              (clock-in (p .body) k t))) in
+              subst (λ (z : Bool). In (kb (p .body)) (cond z (checkedBy (K .s) (cli K xs) (account (K .s) .server xs) (x .step)) [])) (sym fine)
+              (subst (λ (y : Step). In (kb (p .body)) (checkedBy (K .s) (cli K xs) (account (K .s) .server xs) y)) (sym s)
+              (subst (λ (q : Option Packet). In (kb (p .body)) (ofPacket (λ z. clientChecks (K .s) (hand K xs c) (z .body)) q)) (sym rd)
+              (clock-in (hand K xs c) (p .body) k t))) in
               let m = made-num (K .s .writers) (stampIn (p .body) .number) (stampIn (p .body) .writer) xs
               (all-in (λ z. Ever (λ y ys. In z (tagsMade (K .s) (account (K .s)) y ys)) xs) (tagsChecked (K .s) (account (K .s)) x xs)
               (fair .0 .unforged) _ i) in

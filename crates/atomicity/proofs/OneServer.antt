@@ -15,10 +15,10 @@ use Rattle.cluster.specs.Config.{Legal}
 use Rattle.cluster.specs.Ranges.{capacity}
 use Rattle.protocol.specs.Rules.{ByServer, countTo}
 use Rattle.protocol.specs.Client.{Hand, idle, clocking, storing, completing, collecting, filtering, repairing, awaits, isIdle}
-use Rattle.protocol.specs.Runs.{byValues}
+use Rattle.protocol.proofs.ValueRuns.{byValues}
 use Rattle.atomicity.specs.Lists.{In}
 use Rattle.atomicity.specs.Steps.{System}
-use Rattle.atomicity.specs.Claim.{Call, given, counted, begunWrites, NeverRead, CameTo, CameIn, Progress, OneServer}
+use Rattle.atomicity.specs.Claim.{Logged, given, counted, begunWrites, NeverRead, CameTo, CameIn, Progress, OneServer}
 use Rattle.atomicity.proofs.Util.{bool-case, clash, and-right, and-intro, or-cases, keep-in, all-in, map-in}
 use Rattle.atomicity.proofs.Model.{Laws, account, marks}
 use Rattle.atomicity.proofs.Setup.{Setup, Steps, Fair, hand, calls, replied, right, right-range}
@@ -39,15 +39,15 @@ use Rattle.atomicity.proofs.Decides.{decides}
 
 module _ (K : Setup) (xs : Steps K) (fair : Fair K xs) where
   -- a call of the log is known
-  pub known-call : (a : Call) → In a (Log K xs) → (g : Signed K xs) × In g (story K xs fair) × (a ≡ g .call)
-  known-call a i = map-in (λ (g : Signed K xs). g .call) (story K xs fair) a (subst (λ (l : List Call). In a l) (sym (story-log K xs fair)) i)
+  pub known-call : (a : Logged) → In a (Log K xs) → (g : Signed K xs) × In g (story K xs fair) × (a ≡ g .call)
+  known-call a i = map-in (λ (g : Signed K xs). g .call) (story K xs fair) a (subst (λ (l : List Logged). In a l) (sym (story-log K xs fair)) i)
 
   pub never-read : NeverRead (Log K xs)
   unfolding NeverRead counted
   never-read o w i up un j =
       let g = known-call w i in
       let c = keep-in counted (Log K xs) w (in-perm (perm-sym (o .exact)) w j) .1 in
-      let over : w .over ≡ none = subst (λ (a : Call). a .gaveUp ≡ true → a .over ≡ none) (sym (g .2)) (g .0 .ok .base .leaves) up in
+      let over : w .over ≡ none = subst (λ (a : Logged). a .gaveUp ≡ true → a .over ≡ none) (sym (g .2)) (g .0 .ok .base .leaves) up in
       go over (or-cases (given (w .over)) (given (w .wrote) && w .reached) c)
     where
       go : w .over ≡ none → (given (w .over) ≡ true) ⊎ ((given (w .wrote) && w .reached) ≡ true) → ⊥

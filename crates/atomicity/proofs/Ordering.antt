@@ -9,7 +9,7 @@ use mathlib.Core.Logic.{_⊎_, inl, inr}
 use Prim.Native.Nat.{ℕ}
 use Rattle.protocol.specs.Rules.{keep}
 use Rattle.atomicity.specs.Lists.{All, In, AllPairs, Perm, nil, skip, swap, trans}
-use Rattle.atomicity.specs.Claim.{Call, before, counted, shows, holds, Replay, OneOrder}
+use Rattle.atomicity.specs.Claim.{InTime, Logged, before, counted, givesHeld, holds, Replay, OneOrder}
 use Rattle.atomicity.proofs.Util.{no-some, all-in, all-map}
 use Rattle.atomicity.proofs.Sorting.{sort, perm-sort, all-sort, sort-sorted}
 use Rattle.cluster.proofs.Tests.{untrue}
@@ -36,7 +36,7 @@ perm-map f (skip x p) = skip (f x) (perm-map f p)
 perm-map f (swap x y xs) = swap (f x) (f y) (map f xs)
 perm-map f (trans p q) = trans (perm-map f p) (perm-map f q)
 
-module _ {A : Type 0} (call : A → Call) (less : A → A → Bool)
+module _ {A : Type 0} (call : A → Logged) (less : A → A → Bool)
     (chain : (a b c : A) → less a b ≡ true → less b c ≡ true → less a c ≡ true)
     (asym : (a b : A) → less a b ≡ true → less b a ≡ true → ⊥) where
   -- no write of cs stands below r
@@ -106,12 +106,12 @@ module _ {A : Type 0} (call : A → Call) (less : A → A → Bool)
 
       go : (o : Option (List ℕ)) → call c .wrote ≡ o → (call c .wrote ≡ none → Replay m (map call cs)) →
           ((v : List ℕ) → call c .wrote ≡ some v → Replay (some v) (map call cs)) →
-          shows m o (call c) × Replay (holds m o) (map call cs)
+          givesHeld m o (call c) × Replay (holds m o) (map call cs)
       go none e f g = (mine e (h c (inl refl) e), f e)
       go (some v) e f g = (tt, g v e)
 
   pub timely : (cs : List A) → ((a b : A) → In a cs → In b cs → before (call a) (call b) ≡ true → less a b ≡ true) →
-      Sorted cs → AllPairs (λ a b. before b a ≡ false) (map call cs)
+      Sorted cs → InTime (map call cs)
   unfolding Sorted AllPairs In All
   timely [] t s = tt
   timely (c ∷ cs) t s = (each cs (λ x i. i) (s .0), timely cs (λ a b i j. t a b (inr i) (inr j)) (s .1))
@@ -154,7 +154,7 @@ module _ {A : Type 0} (call : A → Call) (less : A → A → Bool)
     where
       go : (b : Bool) → keep counted (map call cs) ≡ map call (count-in cs) →
           cond b (call c ∷ keep counted (map call cs)) (keep counted (map call cs)) ≡ map call (cond b (c ∷ count-in cs) (count-in cs))
-      go true e = ap (λ (l : List Call). call c ∷ l) e
+      go true e = ap (λ (l : List Logged). call c ∷ l) e
       go false e = e
 
   -- the one order, from three facts about the calls that count

@@ -1,7 +1,7 @@
 -- Tools to show that a given run meets the premises: a toy shelf of t = 1 whose digest and tag can be followed by eye, servers 1 to 3 and
 -- clients 1 to 15 correct, so that server 4 may lie and client 16 is wild; and that a step keeps the premises, from facts that are computed.
 -- Assumes nothing.
-use mathlib.Core.Path.{_≡_, refl, sym, ap, subst}
+use mathlib.Core.Path.{_≡_, refl, sym, ap, subst, _∙_}
 use mathlib.Core.Bool.{Bool, true, false, cond, not, _&&_, _||_}
 use mathlib.Core.List.{List, [], _∷_, _++_}
 use mathlib.Core.Logic.{_⊎_, inl, inr}
@@ -22,6 +22,7 @@ use Rattle.protocol.specs.Values.{digestSize, sameList}
 use Rattle.protocol.specs.Packet.{Body, Packet, kindOf, encode}
 use Rattle.protocol.specs.Primitives.{Primitives, Lengths, real}
 use Rattle.protocol.specs.Rules.{countTo}
+use Rattle.protocol.proofs.RunLift.{decode-nothing}
 use Rattle.protocol.specs.Runs.{write, make, take-reply, serve, Shelf, Account}
 use Rattle.protocol.proofs.Primitive.{real-lengths}
 use Rattle.protocol.proofs.Equal.{same-true}
@@ -90,7 +91,7 @@ K =
       parties = toy-parties;
     }
 
-abbrev pub A : Account (K .s .config)
+abbrev pub A : Account (StepOf K)
 A = account (K .s)
 
 -- ---- steps
@@ -118,7 +119,11 @@ abbrev pub serves-it : (b : ℕ) (p : List ℕ) → within 1 (shelf 1 .servers) 
 serves-it b p i e = record { step = serve b p (replicate packetRoom 0); fed = (i, bytes-ok p e) }
 
 abbrev pub takes-it : (c : ℕ) (p : List ℕ) → allBytes p ≡ true → StepOf K
-takes-it c p e = record { step = take-reply c p (replicate contentRoom 0); fed = bytes-ok p e }
+takes-it c p e =
+    record {
+      step = take-reply c (record { writers = desk .writers; keys = desk .keys }) p (replicate contentRoom 0);
+      fed = (bytes-ok p e, λ own. (refl, refl));
+    }
 
 -- ---- one step
 
@@ -197,5 +202,5 @@ cond-nil false = refl
 
 pub good-make : (D : List (List ℕ)) (c b : ℕ) (xs : Steps K) → who .client c ≡ true → Good D xs → Good D (makes-it c b ∷ xs)
 unfolding Authentic checkedBy digestedBy noncesBy
-good-make D c b xs w g = good-step D [] (makes-it c b) xs g w (λ p e o. absurd (no-some e)) (λ d r n e. (let z : _≡_ {A = ℕ} 0 1 = cc in omega arith))
+good-make D c b xs w g = good-step D [] (makes-it c b) xs g w (λ p e o. absurd (no-some (sym decode-nothing ∙ e))) (λ d r n e. (let z : _≡_ {A = ℕ} 0 1 = cc in omega arith))
     (cond-nil (fine (makes-it c b) xs)) (cond-nil (fine (makes-it c b) xs)) refl (inl (cond-nil (fine (makes-it c b) xs)))

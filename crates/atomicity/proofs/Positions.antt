@@ -13,9 +13,10 @@ use borrow.Author.Tests.{eq-eqb, ne-eqb}
 use Rattle.protocol.specs.Rules.{nobody}
 use Rattle.protocol.specs.Client.{Client, Hand, idle, clocking, storing, completing, collecting, filtering, repairing, awaits, isIdle, request}
 use Rattle.protocol.specs.Client.{onto, begun, prepared}
-use Rattle.protocol.specs.Runs.{Step, World, Typed, nowValues}
+use Rattle.protocol.specs.Runs.{Step}
+use Rattle.protocol.proofs.ValueRuns.{World, nowValues}
 use Rattle.atomicity.specs.Lists.{Ever}
-use Rattle.atomicity.specs.Steps.{System}
+use Rattle.atomicity.specs.Steps.{StepIn, System}
 use Rattle.atomicity.proofs.Util.{clash, ever-map}
 use Rattle.atomicity.proofs.Model.{Run, perform, now}
 use Rattle.atomicity.proofs.Moves.{Moved, kept, wbegan, rbegan, quit, took, moved}
@@ -114,7 +115,7 @@ module _ (s : System) where
       go (wbegan r n a b d l e) = subst (Later (w .client c)) (sym e) (later-fresh (w .client c) _)
       go (rbegan a b d e) = subst (Later (w .client c)) (sym e) (later-fresh (w .client c) _)
       go (quit a b d e) = subst (Later (w .client c)) (sym e) (quitted c (w .client c))
-      go (took p b o a d f e r) = let t = turn-turned s c (w .client c) p in
+      go (took p lent b o a d f e r) = let t = turn-turned s c (w .client c) p in
           subst (Later (w .client c)) (sym e) (later-next c (w .client c) _ (t .calls) (t .next))
 
   -- ---- the moments when the call and the round of client c began
@@ -128,22 +129,22 @@ module _ (s : System) where
   from c [] = []
   from c (x ∷ xs) = cond (eqb (pos (now s xs .client c)) (pos (now s (x ∷ xs) .client c))) (from c xs) (x ∷ xs)
 
-  pub since-same : (c : ℕ) (x : Typed (s .config)) (xs : Run s) → now s xs .client c .calls ≡ now s (x ∷ xs) .client c .calls →
+  pub since-same : (c : ℕ) (x : StepIn s) (xs : Run s) → now s xs .client c .calls ≡ now s (x ∷ xs) .client c .calls →
       since c (x ∷ xs) ≡ since c xs
   unfolding since
   since-same c x xs e = ap (λ (b : Bool). cond b (since c xs) xs) (eq-eqb _ _ e)
 
-  pub since-new : (c : ℕ) (x : Typed (s .config)) (xs : Run s) → now s xs .client c .calls < now s (x ∷ xs) .client c .calls → since c (x ∷ xs) ≡ xs
+  pub since-new : (c : ℕ) (x : StepIn s) (xs : Run s) → now s xs .client c .calls < now s (x ∷ xs) .client c .calls → since c (x ∷ xs) ≡ xs
   unfolding since
   since-new c x xs l = ap (λ (b : Bool). cond b (since c xs) xs)
       (ne-eqb (now s xs .client c .calls) (now s (x ∷ xs) .client c .calls) (λ q. omega (arith, q)))
 
-  pub from-same : (c : ℕ) (x : Typed (s .config)) (xs : Run s) → pos (now s xs .client c) ≡ pos (now s (x ∷ xs) .client c) →
+  pub from-same : (c : ℕ) (x : StepIn s) (xs : Run s) → pos (now s xs .client c) ≡ pos (now s (x ∷ xs) .client c) →
       from c (x ∷ xs) ≡ from c xs
   unfolding from
   from-same c x xs e = ap (λ (b : Bool). cond b (from c xs) (x ∷ xs)) (eq-eqb _ _ e)
 
-  pub from-new : (c : ℕ) (x : Typed (s .config)) (xs : Run s) → pos (now s xs .client c) < pos (now s (x ∷ xs) .client c) → from c (x ∷ xs) ≡ x ∷ xs
+  pub from-new : (c : ℕ) (x : StepIn s) (xs : Run s) → pos (now s xs .client c) < pos (now s (x ∷ xs) .client c) → from c (x ∷ xs) ≡ x ∷ xs
   unfolding from
   from-new c x xs l = ap (λ (b : Bool). cond b (from c xs) (x ∷ xs))
       (ne-eqb (pos (now s xs .client c)) (pos (now s (x ∷ xs) .client c)) (λ q. omega (arith, q)))
@@ -155,7 +156,7 @@ module _ (s : System) where
         (from c ys ≡ from c xs) × (since c ys ≡ since c xs) × ((b : ℕ) → request (now s ys .client c .hand) b ≡ request (now s xs .client c .hand) b)
         × (now s ys .client c .calls ≡ now s xs .client c .calls)
 
-  pub before-one : (c : ℕ) (x : Typed (s .config)) (xs : Run s) → Before c xs (x ∷ xs)
+  pub before-one : (c : ℕ) (x : StepIn s) (xs : Run s) → Before c xs (x ∷ xs)
   unfolding nowValues
   before-one c x xs = let l = later (now s xs) c (x .step) in
       record { low = l .mono; round = λ e. (sym (from-same c x xs e), sym (since-same c x xs (l .same-calls e)), l .same-ask e, l .same-calls e) }
@@ -167,7 +168,7 @@ module _ (s : System) where
         (f .0 ∙ g .0, f .1 ∙ g .1, λ b. f .2 b ∙ g .2 b, f .3 ∙ g .3);
   }
 
-  pub ever-before : (c : ℕ) (P : Typed (s .config) → Run s → Type 0) (xs : Run s) → Ever P xs → Ever (λ y ys. P y ys × Before c ys xs) xs
+  pub ever-before : (c : ℕ) (P : StepIn s → Run s → Type 0) (xs : Run s) → Ever P xs → Ever (λ y ys. P y ys × Before c ys xs) xs
   unfolding Ever
   ever-before c P [] e = absurd e
   ever-before c P (x ∷ xs) (inl p) = inl (p, before-one c x xs)

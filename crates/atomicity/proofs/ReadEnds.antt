@@ -15,7 +15,7 @@ use Rattle.protocol.specs.Client.{Client, Hand, gave, gaveBlank, idle, filterin
 use Rattle.protocol.specs.Client.{judge, found, onto}
 use Rattle.protocol.proofs.Answers.{at-cond}
 use Rattle.atomicity.specs.Lists.{Ever}
-use Rattle.atomicity.specs.Claim.{Call, close}
+use Rattle.atomicity.specs.Claim.{Logged, close}
 use Rattle.atomicity.proofs.Util.{clash, no-some}
 use Rattle.atomicity.proofs.Setup.{Setup, Steps, StepOf, calls}
 use Rattle.atomicity.proofs.Positions.{since}
@@ -25,7 +25,7 @@ use Rattle.atomicity.proofs.Invariant.{Ends, top-blank}
 use Rattle.atomicity.proofs.Calls.{Grounded, Base, Open, Cur, Keeps}
 use Rattle.atomicity.proofs.Following.{Follows, unreach, stays, low}
 
-module _ (K : Setup) (x : StepOf K) (xs : Steps K) (a : Call) (σ : Stamp) (same : calls K xs (a .client) ≡ calls K (x ∷ xs) (a .client))
+module _ (K : Setup) (x : StepOf K) (xs : Steps K) (a : Logged) (σ : Stamp) (same : calls K xs (a .client) ≡ calls K (x ∷ xs) (a .client))
     (base : Base K xs a σ) where
   read-ends : (τ : Stamp) (v : Option (List ℕ)) → Open K xs a → a .wrote ≡ none → TopAt K (x ∷ xs) τ →
       ((b : Stamp) → TopAt K (since (K .s) (a .client) xs) b → below τ b ≡ false) → Grounded K (x ∷ xs) v τ →

@@ -8,7 +8,7 @@ use mathlib.Core.Option.{some}
 use Prim.Native.Nat.{ℕ, zero, suc, _≤_, _<_}
 use native.Mathlib.Omega.{arith}
 use lib.Dec.{eqb}
-use lib.ListN.{length, getD}
+use lib.ListN.{length, getD, replicate, length-replicate}
 use borrow.Author.Tests.{leb-true, eqb-false}
 use Rattle.cluster.specs.Config.{Config, shelf}
 use Rattle.cluster.specs.Ranges.{topFaults, topClient}
@@ -19,6 +19,7 @@ use Rattle.protocol.specs.Format.{Bytes, byte, number4, seq, via, keep}
 use Rattle.protocol.specs.Values.{digestSize}
 use Rattle.protocol.specs.Packet.{Packet, PacketOk, packetF, headF, decode}
 use Rattle.protocol.specs.Primitives.{Primitives, Lengths, real}
+use Rattle.protocol.specs.View.{keptSize}
 use Rattle.protocol.specs.ClientBytes.{keyOf}
 use Rattle.protocol.specs.Runs.{Shelf, configOf, steps, sentOf}
 use Rattle.protocol.proofs.Bodies.{decode-ok}
@@ -83,7 +84,7 @@ module _ (P : Primitives) (size : Lengths P) (sh : Shelf) (lo : 1 ≤ sh .t) (hi
       record {
         reads =
             λ x xs p e.
-            let a = run-agrees P size sh (lo, hi) (x .step) (steps xs) (x .fed) (fed xs) in
+            let a = run-agrees P size sh (lo, hi) (λ c. replicate keptSize 0) (λ c. length-replicate {A = ℕ} keptSize 0) (x .step) (steps xs) (x .fed) (fed xs) in
             sent-value P size sh (lo, hi) a (sentOf (perform systemWith (now systemWith xs) (x .step) .sent)) p (a .sent) e;
         heads = λ b p e t. let h = head-ranges b p e in (h .0, h .1, h .2, subst (λ (k : ℕ). p .head .server ≤ shelf k .servers) t (h .3));
         digest-at = λ f i l h. nth-run digestSize (λ j. P .digest (f j)) (λ j. size .digest (f j)) (configOf sh .servers) i l h;
@@ -100,5 +101,5 @@ real-laws sh lo hi = laws-of real real-lengths sh lo hi (real-restores (sh .t) l
 -- demand 3
 pub atomic-and-live : Demand3
 unfolding Demand3
-atomic-and-live sh lo hi = claimed real real-lengths sh (lo, hi) (OneServer (systemOf sh))
+atomic-and-live sh lo hi first sized = claimed real real-lengths sh (lo, hi) first sized (OneServer (systemOf sh))
     (one-server (systemOf sh) (legal-shelf (sh .t) lo hi) (real-laws sh lo hi))

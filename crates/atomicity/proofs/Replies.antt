@@ -11,7 +11,7 @@ use Rattle.protocol.specs.Rules.{ByServer}
 use Rattle.protocol.specs.Client.{Client, Hand, idle, clocking, storing, completing, collecting, filtering, repairing, awaits, isIdle}
 use Rattle.protocol.specs.Client.{update, onto, higher, stampIn, codeIn}
 use Rattle.protocol.proofs.Answers.{at-cond}
-use Rattle.atomicity.specs.Claim.{Call}
+use Rattle.atomicity.specs.Claim.{Logged}
 use Rattle.atomicity.proofs.Util.{clash}
 use Rattle.atomicity.proofs.Model.{updated}
 use Rattle.atomicity.proofs.Setup.{Setup, Steps, StepOf, calls}
@@ -22,7 +22,7 @@ use Rattle.atomicity.proofs.Following.{Follows, unreach, is-reached, st
 use Rattle.atomicity.proofs.ReadEnds.{gave-ends, judge-follows}
 use Rattle.atomicity.proofs.WriteEnds.{clock-ends, store-ends, write-ends}
 
-module _ (K : Setup) (x : StepOf K) (xs : Steps K) (a : Call) (σ : Stamp) (same : calls K xs (a .client) ≡ calls K (x ∷ xs) (a .client))
+module _ (K : Setup) (x : StepOf K) (xs : Steps K) (a : Logged) (σ : Stamp) (same : calls K xs (a .client) ≡ calls K (x ∷ xs) (a .client))
     (base : Base K xs a σ) where
   pub call-follows : (z1 : Steps K) (cl : Client) (b : ℕ) (y : Body) (m : ByServer Bool) (full : Bool) (h : Hand) → cl .hand ≡ h →
       isIdle h ≡ false → HandOk K xs (since (K .s) (a .client) xs) z1 (cl .marks) h → Cur K xs a σ h →

@@ -8,9 +8,10 @@ use native.Mathlib.Nat.{le-refl}
 use native.Mathlib.Omega.{arith}
 use Rattle.protocol.specs.declared.Stamp.{Stamp}
 use Rattle.protocol.specs.Client.{Client, Hand, idle, clocking, storing, completing, collecting, filtering, repairing, begun, onto, prepared, stampOf}
-use Rattle.protocol.specs.Runs.{Step, Typed, World, nowValues}
+use Rattle.protocol.specs.Runs.{Step}
+use Rattle.protocol.proofs.ValueRuns.{World, nowValues}
 use Rattle.atomicity.specs.Lists.{In}
-use Rattle.atomicity.specs.Steps.{System, Stamped, stampedAt}
+use Rattle.atomicity.specs.Steps.{StepIn, System, Stamped, stampedAt}
 use Rattle.atomicity.proofs.Util.{split-in}
 use Rattle.atomicity.proofs.Model.{Run, perform, now, account, marks, stampFor}
 use Rattle.atomicity.proofs.Moves.{Moved, kept, wbegan, rbegan, quit, took, moved}
@@ -71,7 +72,7 @@ module _ (s : System) where
       go (wbegan r n a b d l e) = subst Goal (sym e) (le-refl _, le-refl _)
       go (rbegan a b d e) = subst Goal (sym e) (tt, le-refl _)
       go (quit a b d e) = subst Goal (sym e) (tt, le-refl _)
-      go (took p b q a d f e r) = subst Goal (sym e) (last-next c _ _ _ _ (turn-turned s c (w .client c) p .next) o)
+      go (took p lent b q a d f e r) = subst Goal (sym e) (last-next c _ _ _ _ (turn-turned s c (w .client c) p .next) o)
 
   last-ok : (xs : Run s) (c : ℕ) → LastOk (now s xs .client c .last) (now s xs .client c .hand)
   unfolding nowValues Clocked
@@ -90,7 +91,7 @@ module _ (s : System) where
       go (inr k) r = omega (arith, r k, last-step (now s xs) (m .client) (x .step) (last-ok xs (m .client)) .1)
 
   -- a new mark is above the old ones of its client
-  pub above : (x : Typed (s .config)) (xs : Run s) (a b : Stamped) → a .client ≡ b .client → Marked s (now s xs) (x .step) a → In b (marks s xs) →
+  pub above : (x : StepIn s) (xs : Run s) (a b : Stamped) → a .client ≡ b .client → Marked s (now s xs) (x .step) a → In b (marks s xs) →
       b .stamp .number < a .stamp .number
   unfolding stampOf Clocked
   above x xs a b w t j = omega (

@@ -14,11 +14,11 @@ use lib.ListN.{length}
 use borrow.Author.Tests.{ltb-true, ltb-false, lt-ltb}
 use Rattle.protocol.specs.declared.Stamp.{Stamp}
 use Rattle.protocol.specs.Rules.{keep}
-use Rattle.protocol.specs.Runs.{nowValues}
+use Rattle.protocol.proofs.ValueRuns.{nowValues}
 use Rattle.protocol.proofs.Answers.{at-cond}
 use Rattle.atomicity.specs.Lists.{Ever, In, AllPairs}
 use Rattle.atomicity.specs.Steps.{Stamped}
-use Rattle.atomicity.specs.Claim.{Call, given, endedBy, before, counted, OneOrder}
+use Rattle.atomicity.specs.Claim.{Logged, given, endedBy, before, counted, OneOrder}
 use Rattle.atomicity.proofs.Util.{bool-case, clash, and-left, and-right, and-intro, or-cases, or-right, keep-in, in-keep, all-of, all-in, all-map}
 use Rattle.atomicity.proofs.Stamps.{le-view}
 use Rattle.atomicity.proofs.Model.{now}
@@ -44,15 +44,15 @@ pub given-some : {A : Type 0} (o : Option A) → given o ≡ true → (a : A) ×
 given-some none e = clash e refl
 given-some (some a) e = (a, refl)
 
-part-write : (a : Call) (v : List ℕ) → a .wrote ≡ some v → part a ≡ 0
+part-write : (a : Logged) (v : List ℕ) → a .wrote ≡ some v → part a ≡ 0
 unfolding part
 part-write a v e = ap (λ (o : Option (List ℕ)). cond (given o) 0 1) e
 
-part-read : (a : Call) → a .wrote ≡ none → part a ≡ 1
+part-read : (a : Logged) → a .wrote ≡ none → part a ≡ 1
 unfolding part
 part-read a e = ap (λ (o : Option (List ℕ)). cond (given o) 0 1) e
 
-wrote-case : {B : Type 0} (a : Call) → (a .wrote ≡ none → B) → ((v : List ℕ) → a .wrote ≡ some v → B) → B
+wrote-case : {B : Type 0} (a : Logged) → (a .wrote ≡ none → B) → ((v : List ℕ) → a .wrote ≡ some v → B) → B
 wrote-case {B} a f g = go (a .wrote) refl
   where
     go : (o : Option (List ℕ)) → a .wrote ≡ o → B
@@ -73,7 +73,7 @@ module _ (K : Setup) where
   mark-when (x ∷ xs) m k t u w n (inr h) (inr i) = mark-when xs m k t u w n h i
 
   module _ (xs : Steps K) (fair : Fair K xs) where
-    abbrev callOf : Signed K xs → Call
+    abbrev callOf : Signed K xs → Logged
     callOf g = g .call
 
     abbrev keyless : Signed K xs → Signed K xs → Bool

@@ -57,7 +57,7 @@ unfoldable pub made0 : List (List ℕ)
 made0 = nonce0 ∷ piece 1 ∷ piece 2 ∷ piece 3 ∷ piece 4 ∷ []
 
 unfoldable pub asked0 : List (List ℕ)
-asked0 = nonce0 ∷ nonceL ∷ []
+asked0 = nonce0 ∷ []
 
 -- ---- the exchanges with server b
 
@@ -74,14 +74,14 @@ completeAt b = record { client = 1; server = b; ask = complete cand; answer = co
 unfoldable pub collectAt : ℕ → Talk
 collectAt b = record { client = 9; server = b; ask = collect; answer = collectReply cand; served = []; taken = [] }
 
-unfoldable pub filterAt : ℕ → Talk
-filterAt b = record {
+unfoldable pub filterAt : ℕ → List (List ℕ) → Talk
+filterAt b l = record {
   client = 9;
   server = b;
   ask = filter (cand ∷ liar ∷ []);
   answer = filterReply (record { stamp = cand .stamp; share = some (share b) });
   served = asked0;
-  taken = piece b ∷ [];
+  taken = l;
 }
 
 abbrev pub toStore : List Talk
@@ -94,7 +94,7 @@ abbrev pub toCollect : List Talk
 toCollect = collectAt 1 ∷ collectAt 2 ∷ []
 
 abbrev pub toFilter : List Talk
-toFilter = filterAt 1 ∷ filterAt 2 ∷ filterAt 3 ∷ []
+toFilter = filterAt 1 [] ∷ filterAt 2 [] ∷ filterAt 3 (piece 1 ∷ piece 2 ∷ piece 3 ∷ []) ∷ []
 
 -- each is proper, and the packets of the wild client and of the liar are of bytes
 pub record Fit : Type 0 where

@@ -17,9 +17,9 @@ use Rattle.protocol.specs.Server.{kept, raise, byHistory, byTag, valid, best, a
 use Rattle.protocol.specs.Client.{awaits, isIdle, stampOf, tagsOf, candidateMade, shareMade, sharesMade, prepared, made, onto, checks, higher, isFull, found, judge, update, tooHigh}
 use Rattle.protocol.specs.Client.{writeRefusal, readRefusal, makeRefusal, takeRefusal, begun, writeStep, readStep, makeStep, turnOn, highAt, takeStep}
 use Rattle.protocol.specs.ClientBytes.{keyOf}
-use Rattle.protocol.specs.Runs.{doValues, nowValues, setClient}
+use Rattle.protocol.proofs.ValueRuns.{doValues, nowValues, setClient}
 use Rattle.atomicity.specs.Lists.{flat, All}
-use Rattle.atomicity.specs.Steps.{stampedFrom, stampedBy, clockChecks, serverChecks, checkedBy, digestsWith, digestedBy, noncesBy, shown}
+use Rattle.atomicity.specs.Steps.{stampedFrom, stampedBy, clientChecks, serverChecks, checkedBy, judged, proving, compared, digestsWith, digestedBy, noncesBy, offered}
 use Rattle.atomicity.proofs.Playing.{toy, packet, serves-it, takes-it, packetOf}
 use Rattle.atomicity.proofs.Exchanges.{Gets}
 use Rattle.atomicity.proofs.Talks.{Calm, talks, digests, Calms}
@@ -30,22 +30,22 @@ abbrev pub early : List (List ℕ)
 early = digests toStore []
 
 abbrev pub late : List (List ℕ)
-late = nonceL ∷ digests toComplete early
+late = digests toComplete early
 
 pub record Facts : Type 0 where
   -- clock and store show no nonce
-  pub quiet : All (λ k. shown (k .ask) ≡ []) toStore
+  pub quiet : All (λ k. offered (k .ask) ≡ []) toStore
   pub stores : Calms toStore (fit .stores) [] begins
   pub complete : Calm (completeAt 1) first-complete early stored
   pub completes : Calms toComplete (fit .completes) early revealed
-  pub wild : Gets (serves-it 1 (packet 16 1 (repair liar)) (fit .inside) (fit .wild)) completed (packetOf 16 1 (repair liar)) (nonceL ∷ [])
+  pub wild : Gets (serves-it 1 (packet 16 1 (repair liar)) (fit .inside) (fit .wild)) completed (packetOf 16 1 (repair liar)) []
       (digests toComplete early)
   pub collects : Calms toCollect (fit .collects) late reading
   pub lie : Gets (takes-it 9 (packet 9 4 (collectReply liar)) (fit .lie)) collected (packetOf 9 4 (collectReply liar)) [] (digests toCollect late)
   pub filters : Calms toFilter (fit .filters) (digests toCollect late) lied
 
 pub facts : Facts
-unfolding toy keyOf packet piece nonce0 content0 cand liar share nonceL shelf upTo quorum pointOf fragment restored table fragmentSize column xtime timesBits times power inverse product eval vanish through byte number2 number4 run seq via keepF orBlank many optional empty packetF headF bodyF stampF anyStampF shareF writeF candidateF anyCandidateF candidatesF heldF codeF decode encode nth runOf isBlank below sameStamp sameCandidate held stampMessage candidateMessage upd nobody countTo any keep first gather lower live fits agrees leads leader highest choice parts restoredBy kept raise byHistory byTag valid best act barred replyTo serverRefusal answered serverStep awaits isIdle stampOf tagsOf candidateMade shareMade sharesMade prepared made onto checks higher isFull found judge update tooHigh writeRefusal readRefusal makeRefusal takeRefusal begun writeStep readStep makeStep turnOn highAt takeStep doValues nowValues setClient flat stampedFrom stampedBy clockChecks serverChecks checkedBy digestsWith digestedBy noncesBy made0 asked0 clockAt storeAt completeAt collectAt filterAt talks digests Calms All begins stored revealed completed wilded reading collected lied whole
+unfolding toy keyOf packet piece nonce0 content0 cand liar share nonceL shelf upTo quorum pointOf fragment restored table fragmentSize column xtime timesBits times power inverse product eval vanish through byte number2 number4 run seq via keepF orBlank many optional empty packetF headF bodyF stampF anyStampF shareF writeF candidateF anyCandidateF candidatesF heldF codeF decode encode nth runOf isBlank below sameStamp sameCandidate held stampMessage candidateMessage upd nobody countTo any keep first gather lower live fits agrees leads leader highest choice parts restoredBy kept raise byHistory byTag valid best act barred replyTo serverRefusal answered serverStep awaits isIdle stampOf tagsOf candidateMade shareMade sharesMade prepared made onto checks higher isFull found judge update tooHigh writeRefusal readRefusal makeRefusal takeRefusal begun writeStep readStep makeStep turnOn highAt takeStep doValues nowValues setClient flat stampedFrom stampedBy clientChecks serverChecks checkedBy digestsWith judged proving compared digestedBy noncesBy made0 asked0 clockAt storeAt completeAt collectAt filterAt talks digests Calms All begins stored revealed completed wilded reading collected lied whole
 facts = record {
   quiet = (refl, (refl, (refl, (refl, (refl, (refl, tt))))));
   stores = (

@@ -13,19 +13,20 @@ use lib.ListN.{length}
 use Rattle.cluster.specs.Ranges.{capacity}
 use Rattle.cluster.proofs.Tests.{untrue}
 use Rattle.protocol.specs.declared.Stamp.{Stamp}
-use Rattle.protocol.specs.Values.{Candidate, Share, Write, below, sameStamp, blankCandidate, isSome}
+use Rattle.protocol.specs.Values.{Candidate, Share, Write, below, sameStamp, blankCandidate, isSome, blankStamp}
 use Rattle.protocol.specs.Packet.{Body}
 use Rattle.protocol.specs.Packet.{clock, clockReply, store, storeReply, complete, completeReply, collect, collectReply, filter, filterReply, repair, repairReply}
 use Rattle.protocol.specs.Memory.{held}
 use Rattle.protocol.specs.Server.{Server, Acted, hasDigest, raise, kept, best, act}
 use Rattle.protocol.specs.Client.{codeIn}
-use Rattle.protocol.specs.Runs.{Step, World}
+use Rattle.protocol.specs.Runs.{Step}
+use Rattle.protocol.proofs.ValueRuns.{World}
 use Rattle.protocol.proofs.Equal.{same-true, stamp-same, stamp-refl}
 use Rattle.protocol.proofs.Answers.{at-cond}
 use Rattle.atomicity.specs.Lists.{In}
-use Rattle.atomicity.specs.Steps.{System, judged}
-use Rattle.atomicity.proofs.Util.{cond-both, clash, and-left, and-right, and-intro, left-in, right-in, split-in}
-use Rattle.atomicity.proofs.Stamps.{below-irrefl, below-asym, le-trans}
+use Rattle.atomicity.specs.Steps.{System, nonblank, tested, judged}
+use Rattle.atomicity.proofs.Util.{cond-both, clash, and-left, and-right, and-intro, left-in, right-in, split-in, bool-case}
+use Rattle.atomicity.proofs.Stamps.{below-irrefl, below-asym, le-trans, below-trans, below-blank}
 use Rattle.atomicity.proofs.Model.{perform, acts, isValid, bestOf}
 use Rattle.atomicity.proofs.Serving.{Served, same, acted, served}
 
@@ -82,9 +83,11 @@ raise-history : (c : Candidate) (v : Server) → raise c v .history ≡ v .histo
 unfolding raise
 raise-history c v = cond-both (λ (y : Server). y .history ≡ v .history) (below (v .latest .stamp) (c .stamp)) _ v refl refl
 
-raise-view : (c : Candidate) (v : Server) → (raise c v .latest ≡ v .latest) ⊎ (raise c v .latest ≡ c)
+raise-view : (c : Candidate) (v : Server) → (raise c v .latest ≡ v .latest)
+    ⊎ ((raise c v .latest ≡ c) × (below (v .latest .stamp) (c .stamp) ≡ true))
 unfolding raise
-raise-view c v = cond-both (λ (y : Server). (y .latest ≡ v .latest) ⊎ (y .latest ≡ c)) (below (v .latest .stamp) (c .stamp)) _ v (inr refl) (inl refl)
+raise-view c v = at-cond (below (v .latest .stamp) (c .stamp)) _ v
+    (λ (y : Server). (y .latest ≡ v .latest) ⊎ ((y .latest ≡ c) × (below (v .latest .stamp) (c .stamp) ≡ true))) (λ e. inr (refl, e)) (λ e. inl refl)
 
 module _ (s : System) (j : ℕ) where
   -- ---- best: the one begun with, or the highest valid one of the list
@@ -105,6 +108,66 @@ module _ (s : System) (j : ℕ) where
       go true e (inr p) g = inr (inr (p .0), p .1)
       go false e f (inl g) = inl g
       go false e f (inr p) = inr (inr (p .0), p .1)
+
+  -- it is the one begun with, or higher
+  best-above : (v : Server) (c : Candidate) (cs : List Candidate) → (bestOf s j v c cs ≡ c) ⊎ (below (c .stamp) (bestOf s j v c cs .stamp) ≡ true)
+  unfolding best
+  best-above v c [] = inl refl
+  best-above v c (d ∷ ds) = go (isValid s j v d && below (c .stamp) (d .stamp)) refl (best-above v d ds) (best-above v c ds)
+    where
+      Above : Candidate → Type 0
+      Above x = (x ≡ c) ⊎ (below (c .stamp) (x .stamp) ≡ true)
+
+      go : (t : Bool) → (isValid s j v d && below (c .stamp) (d .stamp)) ≡ t →
+          (bestOf s j v d ds ≡ d) ⊎ (below (d .stamp) (bestOf s j v d ds .stamp) ≡ true) → Above (bestOf s j v c ds) → Above (bestOf s j v (cond t d c) ds)
+      go true e (inl f) g = inr (subst (λ (x : Candidate). below (c .stamp) (x .stamp) ≡ true) (sym f) (and-right (isValid s j v d) _ e))
+      go true e (inr h) g = inr (below-trans (c .stamp) (d .stamp) (bestOf s j v d ds .stamp) (and-right (isValid s j v d) _ e) h)
+      go false e f g = g
+
+  -- what a request finds that judges: nothing, or a valid candidate of its list, on which the answer rests
+  pub best-case : (v : Server) (x : Body) → let c = bestOf s j v (blankCandidate (s .config)) (tested x) in
+      (c ≡ blankCandidate (s .config)) ⊎ (In c (judged s j v x) × (In c (tested x) × (isValid s j v c ≡ true)))
+  unfolding judged In
+  best-case v x = go (best-view v (blankCandidate (s .config)) (tested x)) (best-above v (blankCandidate (s .config)) (tested x))
+    where
+      c : Candidate
+      c = bestOf s j v (blankCandidate (s .config)) (tested x)
+
+      go : (c ≡ blankCandidate (s .config)) ⊎ (In c (tested x) × (isValid s j v c ≡ true)) →
+          (c ≡ blankCandidate (s .config)) ⊎ (below blankStamp (c .stamp) ≡ true) →
+          (c ≡ blankCandidate (s .config)) ⊎ (In c (cond (below blankStamp (c .stamp)) (c ∷ []) []) × (In c (tested x) × (isValid s j v c ≡ true)))
+      go (inl e) a = inl e
+      go (inr p) (inl e) = inl e
+      go (inr p) (inr a) = inr (subst (λ (t : Bool). In c (cond t (c ∷ []) [])) (sym a) (inl refl), p)
+
+  -- the candidate on which the answer rests is of the list
+  pub judged-tested : (v : Server) (x : Body) (d : Candidate) → In d (judged s j v x) → In d (tested x)
+  unfolding judged In
+  judged-tested v x d i = go (below blankStamp (c .stamp)) refl i
+    where
+      c : Candidate
+      c = bestOf s j v (blankCandidate (s .config)) (tested x)
+
+      from : below blankStamp (c .stamp) ≡ true → (c ≡ blankCandidate (s .config)) ⊎ (In c (tested x) × (isValid s j v c ≡ true)) → In c (tested x)
+      from a (inl e) = absurd (clash (subst (λ (z : Candidate). below blankStamp (z .stamp) ≡ true) e a) (below-irrefl blankStamp))
+      from a (inr p) = p .0
+
+      go : (t : Bool) → below blankStamp (c .stamp) ≡ t → In d (cond t (c ∷ []) []) → In d (tested x)
+      go true a (inl e) = subst (λ (z : Candidate). In z (tested x)) (sym e) (from a (best-view v (blankCandidate (s .config)) (tested x)))
+      go true a (inr z) = absurd z
+      go false a z = absurd z
+
+  -- a valid candidate of a repair that is higher than the latest
+  repair-judged : (v : Server) (c : Candidate) → isValid s j v c ≡ true → below (v .latest .stamp) (c .stamp) ≡ true → In c (judged s j v (repair c))
+  unfolding judged best In
+  repair-judged v c e up =
+      subst (λ (t : Bool). In c (nonblank (cond (t && below blankStamp (c .stamp)) c (blankCandidate (s .config))))) (sym e)
+      (subst (λ (t : Bool). In c (nonblank (cond t c (blankCandidate (s .config))))) (sym above)
+      (subst (λ (t : Bool). In c (cond t (c ∷ []) [])) (sym above) (inl refl)))
+    where
+      above : below blankStamp (c .stamp) ≡ true
+      above = bool-case (below blankStamp (c .stamp)) (λ q. q)
+          (λ q. clash up (le-trans (c .stamp) blankStamp (v .latest .stamp) q (below-blank (v .latest .stamp))))
 
   best-from : (v : Server) (c : Candidate) (cs : List Candidate) → below (bestOf s j v c cs .stamp) (c .stamp) ≡ false
   unfolding best
@@ -139,7 +202,7 @@ module _ (s : System) (j : ℕ) where
 
   -- where a new latest comes from
   abbrev pub Origin : Server → Body → Candidate → Type 0
-  Origin v x c = (c ≡ blankCandidate (s .config)) ⊎ ((In c (judged x) × (isValid s j v c ≡ true)) ⊎ (x ≡ complete c))
+  Origin v x c = (c ≡ blankCandidate (s .config)) ⊎ ((In c (judged s j v x) × (isValid s j v c ≡ true)) ⊎ (x ≡ complete c))
 
   -- a server before and after the request x
   pub record Grows (v : Server) (x : Body) (v' : Server) : Type 0 where
@@ -151,7 +214,7 @@ module _ (s : System) (j : ℕ) where
   unmoved : (v : Server) (x : Body) → Grows v x v
   unmoved v x = record { rises = below-irrefl (v .latest .stamp); keeps = λ e i. i; new = λ e i. inl i; latest = inl refl }
 
-  raised : (v : Server) (x : Body) (c : Candidate) → Origin v x c → Grows v x (raise c v)
+  raised : (v : Server) (x : Body) (c : Candidate) → (below (v .latest .stamp) (c .stamp) ≡ true → Origin v x c) → Grows v x (raise c v)
   raised v x c o = record {
     rises = raise-rises c v;
     keeps = λ e i. subst (In e) (sym (raise-history c v)) i;
@@ -159,9 +222,10 @@ module _ (s : System) (j : ℕ) where
     latest = go (raise-view c v);
   }
     where
-      go : (raise c v .latest ≡ v .latest) ⊎ (raise c v .latest ≡ c) → (raise c v .latest ≡ v .latest) ⊎ Origin v x (raise c v .latest)
+      go : (raise c v .latest ≡ v .latest) ⊎ ((raise c v .latest ≡ c) × (below (v .latest .stamp) (c .stamp) ≡ true)) →
+          (raise c v .latest ≡ v .latest) ⊎ Origin v x (raise c v .latest)
       go (inl e) = inl e
-      go (inr e) = inr (subst (Origin v x) (sym e) o)
+      go (inr e) = inr (subst (Origin v x) (sym (e .0)) (o (e .1)))
 
   stored : (v : Server) (w : Write) → Grows v (store w) (record { latest = v .latest; history = v .history ++ (w ∷ []) })
   unfolding In
@@ -178,21 +242,22 @@ module _ (s : System) (j : ℕ) where
       go e (inr (inr z)) = absurd z
 
   pub act-grows : (v : Server) (x : Body) → Grows v x (acts s j v x .server)
-  unfolding act kept In
+  unfolding act kept judged In
   act-grows v clock = unmoved v clock
   act-grows v (store w) = cond-both (λ (a : Acted). Grows v (store w) (a .server)) (isSome (held (w .stamp) (v .history))) _ _ (unmoved v (store w))
       (cond-both (λ (a : Acted). Grows v (store w) (a .server)) (leb capacity (length (v .history))) _ _ (unmoved v (store w)) (stored v w))
-  act-grows v (complete c) = raised v (complete c) c (inr (inr refl))
+  act-grows v (complete c) = raised v (complete c) c (λ up. inr (inr refl))
   act-grows v collect = unmoved v collect
-  act-grows v (filter cs) = raised v (filter cs) (bestOf s j v (blankCandidate (s .config)) cs) (go (best-view v (blankCandidate (s .config)) cs))
+  act-grows v (filter cs) = raised v (filter cs) (bestOf s j v (blankCandidate (s .config)) cs) (λ up. go (best-case v (filter cs)))
     where
-      go : (bestOf s j v (blankCandidate (s .config)) cs ≡ blankCandidate (s .config))
-          ⊎ (In (bestOf s j v (blankCandidate (s .config)) cs) cs × (isValid s j v (bestOf s j v (blankCandidate (s .config)) cs) ≡ true))
-          → Origin v (filter cs) (bestOf s j v (blankCandidate (s .config)) cs)
+      c : Candidate
+      c = bestOf s j v (blankCandidate (s .config)) cs
+
+      go : (c ≡ blankCandidate (s .config)) ⊎ (In c (judged s j v (filter cs)) × (In c cs × (isValid s j v c ≡ true))) → Origin v (filter cs) c
       go (inl e) = inl e
-      go (inr p) = inr (inl p)
+      go (inr p) = inr (inl (p .0, p .1 .1))
   act-grows v (repair c) = at-cond (isValid s j v c) _ v (λ (y : Server). Grows v (repair c) y)
-      (λ e. raised v (repair c) c (inr (inl (inl refl, e)))) (λ e. unmoved v (repair c))
+      (λ e. raised v (repair c) c (λ up. inr (inl (repair-judged v c e up, e)))) (λ e. unmoved v (repair c))
   act-grows v (clockReply x) = unmoved v (clockReply x)
   act-grows v (storeReply x) = unmoved v (storeReply x)
   act-grows v completeReply = unmoved v completeReply

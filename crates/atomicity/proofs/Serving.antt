@@ -18,7 +18,8 @@ use Rattle.protocol.specs.Rules.{upd}
 use Rattle.protocol.specs.Server.{Server, Stepped, barred, replyTo, serverRefusal, serverStep, answered}
 use Rattle.protocol.specs.Client.{Made, isIdle, made, badFaults, accepted}
 use Rattle.protocol.specs.Client.{makeRefusal, makeStep}
-use Rattle.protocol.specs.Runs.{Step, write, read, make, take-reply, give-up, serve, World, doValues, setClient, resultOf}
+use Rattle.protocol.specs.Runs.{Step, write, read, make, take-reply, give-up, serve, resultOf}
+use Rattle.protocol.proofs.ValueRuns.{World, doValues, setClient}
 use Rattle.atomicity.specs.Steps.{System, makes, serves, packetIn}
 use Rattle.atomicity.proofs.Util.{no-some, and-left, and-right, upd-case, upd-here, clash}
 use Rattle.atomicity.proofs.Model.{perform, acts}
@@ -78,7 +79,7 @@ module _ (s : System) (w : World) where
   served j (write c r n) = same refl
   served j (read c) = same refl
   served j (make c b o) = same refl
-  served j (take-reply c b o) = same refl
+  served j (take-reply c lent b o) = same refl
   served j (give-up c) = same refl
   served j (serve b p o) = upd-case (λ (v : Server). Served s j w (serve b p o) v) (w .server) b _ j (λ e. here e (serve-view b o (decode p)))
       (λ e. same refl)
@@ -100,7 +101,7 @@ module _ (s : System) (w : World) where
   answer j (write c r n) p e f = clash e refl
   answer j (read c) p e f = clash e refl
   answer j (make c b o) p e f = clash e refl
-  answer j (take-reply c b o) p e f = clash e refl
+  answer j (take-reply c lent b o) p e f = clash e refl
   answer j (give-up c) p e f = clash e refl
   answer j (serve b q o) p e f = go (serve-view b o (decode q))
     where
@@ -134,7 +135,7 @@ module _ (s : System) (w : World) where
   unfolding doValues setClient makeStep makeRefusal
   making c (write d r n) p e f = clash e refl
   making c (read d) p e f = clash e refl
-  making c (take-reply d b o) p e f = clash e refl
+  making c (take-reply d lent b o) p e f = clash e refl
   making c (give-up d) p e f = clash e refl
   making c (serve b q o) p e f = clash e refl
   making c (make d b o) p e f = go (makeRefusal (s .config) d b (not (isIdle (w .client d .hand))) (length o)) refl f

@@ -14,10 +14,11 @@ use Rattle.protocol.specs.Packet.{Body}
 use Rattle.protocol.specs.Rules.{ByServer, leader, tagsIn}
 use Rattle.protocol.specs.Client.{Client, Hand, Turn, Result, refused, more, written, gave, gaveBlank, aborted, idle, clocking, storing, completing, collecting, filtering, repairing, awaits, isIdle, accepted}
 use Rattle.protocol.specs.Client.{update, judge, found, onto, begun, prepared, codeIn}
-use Rattle.protocol.specs.Runs.{Step, write, read, make, take-reply, give-up, serve, World, nowValues}
+use Rattle.protocol.specs.Runs.{Step, write, read, make, take-reply, give-up, serve}
+use Rattle.protocol.proofs.ValueRuns.{World, nowValues}
 use Rattle.atomicity.specs.Lists.{In}
 use Rattle.atomicity.specs.Steps.{System}
-use Rattle.atomicity.specs.Claim.{Call, given, follow}
+use Rattle.atomicity.specs.Claim.{Logged, given, follow}
 use Rattle.atomicity.proofs.Util.{cond-both, clash, no-some, or-right, split-in, map-in}
 use Rattle.atomicity.proofs.Model.{perform, now, updated}
 use Rattle.atomicity.proofs.Setup.{Setup, Steps, StepOf, Fair, hand, calls, cli}
@@ -29,13 +30,13 @@ use Rattle.atomicity.proofs.Logs.{Signed, beginSigned, newSigned, new-w
 use Rattle.atomicity.proofs.Story.{past, stepSigned, story}
 
 -- over, or given up
-abbrev pub Out : Call → Type 0
+abbrev pub Out : Logged → Type 0
 Out a = (given (a .over) || a .gaveUp) ≡ true
 
-abbrev Closed : Call → ℕ → Bool → Turn → Type 0
+abbrev Closed : Logged → ℕ → Bool → Turn → Type 0
 Closed a t b u = isIdle (u .client .hand) ≡ true → Out (follow (u .result) b t a)
 
-follow-keeps : (v : Result) (b : Bool) (t : ℕ) (a : Call) → (follow v b t a .client ≡ a .client) × (follow v b t a .number ≡ a .number)
+follow-keeps : (v : Result) (b : Bool) (t : ℕ) (a : Logged) → (follow v b t a .client ≡ a .client) × (follow v b t a .number ≡ a .number)
 follow-keeps (refused k) b t a = (refl, refl)
 follow-keeps more b t a = (refl, refl)
 follow-keeps (written k) b t a = (refl, refl)
@@ -43,7 +44,7 @@ follow-keeps (gave k r) b t a = (refl, refl)
 follow-keeps gaveBlank b t a = (refl, refl)
 follow-keeps (aborted f) b t a = (refl, refl)
 
-module _ (s : System) (c : ℕ) (a : Call) (t : ℕ) (f : Bool) where
+module _ (s : System) (c : ℕ) (a : Logged) (t : ℕ) (f : Bool) where
   found-closed : (g : ByServer Held) (m : ByServer Bool) (cl : Client) (d : Candidate) (b : ℕ) →
       Closed a t f (found (s .P) (s .config) c (s .writers) (s .keys) cl m g d b)
   unfolding found onto isIdle awaits
@@ -75,11 +76,11 @@ module _ (s : System) (c : ℕ) (a : Call) (t : ℕ) (f : Bool) where
   update-closed cl b y m false (repairing d r) v w = λ e. clash e refl
 
 module _ (K : Setup) where
-  unfoldable pub Settled : Steps K → Call → Type 0
+  unfoldable pub Settled : Steps K → Logged → Type 0
   Settled xs a = (a .number ≡ calls K xs (a .client) → isIdle (hand K xs (a .client)) ≡ true) → Out a
 
   -- a call that the step leaves as it is
-  same-call : (x : StepOf K) (xs : Steps K) (a : Call) → Settled xs a →
+  same-call : (x : StepOf K) (xs : Steps K) (a : Logged) → Settled xs a →
       (mover (x .step) ≡ some (a .client) → a .number ≡ calls K xs (a .client) → ⊥) → Settled (x ∷ xs) a
   unfolding Settled nowValues
   same-call x xs a h f hyp = go (moved (K .s) (a .client) (now (K .s) xs) (x .step))
@@ -90,10 +91,10 @@ module _ (K : Setup) where
       go (wbegan r n s b i m e) = h (λ n. i)
       go (rbegan s b i e) = h (λ n. i)
       go (quit s b i e) = h (λ n. absurd (f (ap mover s) n))
-      go (took p b o s rd fit e v) = h (λ n. absurd (f (ap mover s) n))
+      go (took p lent b o s rd fit e v) = h (λ n. absurd (f (ap mover s) n))
 
   -- the client's own call, at its own take or give-up
-  own-settled : (x : StepOf K) (xs : Steps K) (a : Call) → Settled xs a → a .number ≡ calls K xs (a .client) →
+  own-settled : (x : StepOf K) (xs : Steps K) (a : Logged) → Settled xs a → a .number ≡ calls K xs (a .client) →
       mover (x .step) ≡ some (a .client) → acting (a .client) (x .step) ≡ true → Settled (x ∷ xs) (effect K x xs (a .client) a)
   unfolding Settled nowValues
   own-settled x xs a h n m act hyp = go (moved (K .s) (a .client) w (x .step)) (back (follow-keeps (result K x xs) _ (length xs) a) hyp)
@@ -104,7 +105,7 @@ module _ (K : Setup) where
       cl' : Client
       cl' = perform (K .s) w (x .step) .world .client (a .client)
 
-      T : Call
+      T : Logged
       T = effect K x xs (a .client) a
 
       back : (T .client ≡ a .client) × (T .number ≡ a .number) →
@@ -122,19 +123,19 @@ module _ (K : Setup) where
       go (rbegan s b d e) i = absurd (no-some (sym (ap mover s) ∙ m))
       go (quit s v d e) i = subst (λ (y : Result). Out (follow y (eqb (awaits (cl' .hand)) 6) (length xs) a)) (sym v)
           (or-right (given (a .over)) true refl)
-      go (took p b o s rd fit e v) i =
+      go (took p lent b o s rd fit e v) i =
           let t = turn-turned (K .s) (a .client) (cli K xs (a .client)) p in
           let idle-now = i (n ∙ sym (t .calls) ∙ sym (ap (λ (z : Client). z .calls) e)) in
           subst (λ (y : Result). Out (follow y (eqb (awaits (cl' .hand)) 6) (length xs) a)) (sym v)
           (update-closed (K .s) (a .client) a (length xs) (eqb (awaits (cl' .hand)) 6) (cli K xs (a .client)) (p .head .server) (p .body) _ _
           (hand K xs (a .client)) (fit .busy) (fit .busy) (subst (λ (z : Client). isIdle (z .hand) ≡ true) e idle-now))
 
-  step-settled : (x : StepOf K) (xs : Steps K) (a : Call) → Settled xs a → (st : Step) → x .step ≡ st → Settled (x ∷ xs) (touched K x xs st a)
+  step-settled : (x : StepOf K) (xs : Steps K) (a : Logged) → Settled xs a → (st : Step) → x .step ≡ st → Settled (x ∷ xs) (touched K x xs st a)
   step-settled x xs a h = touched-case K (Settled (x ∷ xs)) x xs a (λ k act n. own-settled x xs a h n k act) (λ f. same-call x xs a h f)
 
   -- ---- a new call
 
-  begin-settled : {ys : Steps K} (a : Call) (b : Bool) (f : b ≡ true → CallOk K ys a blankStamp) → (b ≡ true → Settled ys a) → (g : Signed K ys) →
+  begin-settled : {ys : Steps K} (a : Logged) (b : Bool) (f : b ≡ true → CallOk K ys a blankStamp) → (b ≡ true → Settled ys a) → (g : Signed K ys) →
       In g (beginSigned K a b f) → Settled ys (g .call)
   unfolding beginSigned In
   begin-settled {ys} a true f h g (inl e) = subst (λ (z : Signed K ys). Settled ys (z .call)) (sym e) (h refl)
@@ -156,7 +157,7 @@ module _ (K : Setup) where
       go (wbegan r n s b i m e) = clash (subst (λ (z : Client). isIdle (z .hand) ≡ true) e (hyp (sym (ap (λ (z : Client). z .calls) e)))) refl
       go (rbegan s b i e) = clash (subst (λ (z : Client). isIdle (z .hand) ≡ true) e (hyp (sym (ap (λ (z : Client). z .calls) e)))) refl
       go (quit s b i e) = absurd (f (ap mover s))
-      go (took p b o s rd fit e v) = absurd (f (ap mover s))
+      go (took p lent b o s rd fit e v) = absurd (f (ap mover s))
 
   new-settled : (x : StepOf K) (xs : Steps K) (st : Step) (e : x .step ≡ st) (g : Signed K (x ∷ xs)) → In g (newSigned K x xs st e) →
       Settled (x ∷ xs) (g .call)
@@ -168,7 +169,7 @@ module _ (K : Setup) where
       (λ acc. begun-settled x xs c none (ap (acting c) e ∙ eq-eqb c c refl) acc
       (λ k. no-some (sym (ap mover e) ∙ k))) g i
   new-settled x xs (make c b o) e g i = absurd i
-  new-settled x xs (take-reply c b o) e g i = absurd i
+  new-settled x xs (take-reply c lent b o) e g i = absurd i
   new-settled x xs (give-up c) e g i = absurd i
   new-settled x xs (serve b p o) e g i = absurd i
 

@@ -11,9 +11,8 @@ use Rattle.protocol.specs.Values.{Write}
 use Rattle.protocol.specs.Rules.{ByServer, countTo}
 use Rattle.protocol.specs.Server.{Server}
 use Rattle.protocol.specs.Client.{Client, Hand}
-use Rattle.protocol.specs.Runs.{Typed}
 use Rattle.atomicity.specs.Lists.{Always}
-use Rattle.atomicity.specs.Steps.{System}
+use Rattle.atomicity.specs.Steps.{StepIn, System}
 use Rattle.atomicity.specs.Premises.{Correct, Parties, correctAt, Premise, Begins, Shows}
 use Rattle.atomicity.proofs.Model.{Run, Laws, account, now}
 
@@ -29,7 +28,7 @@ module _ (K : Setup) where
   Steps = Run (K .s)
 
   abbrev pub StepOf : Type 0
-  StepOf = Typed (K .s .config)
+  StepOf = StepIn (K .s)
 
   abbrev pub Meets : StepOf → Steps → Type 0
   Meets x xs = Premise (K .s) (account (K .s)) (K .correct) x xs
@@ -38,10 +37,10 @@ module _ (K : Setup) where
   Fair xs = Always Meets xs
 
   abbrev pub Begin : ℕ → List ℕ → StepOf → Steps → Type 0
-  Begin c n x xs = Begins (K .s) (account (K .s)) (K .correct) c n x xs
+  Begin c n x xs = Begins (K .s) (account (K .s)) c n x xs
 
   abbrev pub Show : ℕ → List ℕ → StepOf → Steps → Type 0
-  Show c n x xs = Shows (K .s) (account (K .s)) (K .correct) c n x xs
+  Show c n x xs = Shows (K .s) (account (K .s)) c n x xs
 
   -- ---- who is correct at a moment
 

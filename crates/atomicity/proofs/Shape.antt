@@ -11,9 +11,10 @@ use lib.ListN.{length}
 use borrow.Author.Tests.{eqb-true, eq-eqb}
 use Rattle.protocol.specs.Values.{blankStamp}
 use Rattle.protocol.specs.Client.{Client, Hand, Result, refused, more, written, gave, gaveBlank, aborted, begun, awaits, accepted}
-use Rattle.protocol.specs.Runs.{Step, write, read, make, take-reply, give-up, serve, nowValues}
+use Rattle.protocol.specs.Runs.{Step, write, read, make, take-reply, give-up, serve}
+use Rattle.protocol.proofs.ValueRuns.{nowValues}
 use Rattle.protocol.proofs.Answers.{at-cond}
-use Rattle.atomicity.specs.Claim.{Call, change, follow, note, log}
+use Rattle.atomicity.specs.Claim.{Logged, change, follow, note, log}
 use Rattle.atomicity.proofs.Util.{clash, no-some, and-left, and-right, and-intro}
 use Rattle.atomicity.proofs.Model.{perform, now, account}
 use Rattle.atomicity.proofs.Setup.{Setup, Steps, StepOf, hand, calls, cli}
@@ -23,23 +24,23 @@ use Rattle.atomicity.proofs.Calls.{Open, Cur, CallOk}
 
 -- ---- the shape of the log
 
-unfoldable pub touch : ℕ → ℕ → (Call → Call) → Call → Call
+unfoldable pub touch : ℕ → ℕ → (Logged → Logged) → Logged → Logged
 touch c n f a = cond (eqb (a .client) c && eqb (a .number) n) (f a) a
 
-change-map : (c n : ℕ) (f : Call → Call) (cs : List Call) → change c n f cs ≡ map (touch c n f) cs
+change-map : (c n : ℕ) (f : Logged → Logged) (cs : List Logged) → change c n f cs ≡ map (touch c n f) cs
 unfolding change touch
 change-map c n f [] = refl
-change-map c n f (a ∷ cs) = ap (λ (l : List Call). touch c n f a ∷ l) (change-map c n f cs)
+change-map c n f (a ∷ cs) = ap (λ (l : List Logged). touch c n f a ∷ l) (change-map c n f cs)
 
-map-id : (cs : List Call) → cs ≡ map (λ a. a) cs
+map-id : (cs : List Logged) → cs ≡ map (λ a. a) cs
 map-id [] = refl
-map-id (a ∷ cs) = ap (λ (l : List Call). a ∷ l) (map-id cs)
+map-id (a ∷ cs) = ap (λ (l : List Logged). a ∷ l) (map-id cs)
 
-begin-shape : (b : Bool) (a : Call) (cs : List Call) → _≡_ {A = List Call} (cond b (a ∷ cs) cs) (cond b (a ∷ []) [] ++ map (λ z. z) cs)
-begin-shape true a cs = ap (λ (l : List Call). a ∷ l) (map-id cs)
+begin-shape : (b : Bool) (a : Logged) (cs : List Logged) → _≡_ {A = List Logged} (cond b (a ∷ cs) cs) (cond b (a ∷ []) [] ++ map (λ z. z) cs)
+begin-shape true a cs = ap (λ (l : List Logged). a ∷ l) (map-id cs)
 begin-shape false a cs = map-id cs
 
-unfoldable pub newCall : ℕ → ℕ → Option (List ℕ) → ℕ → Call
+unfoldable pub newCall : ℕ → ℕ → Option (List ℕ) → ℕ → Logged
 newCall c n w t = record { client = c; number = n; wrote = w; begun = t; reached = false; over = none; answer = none; gaveUp = false }
 
 pub refused-view : (v : Result) → accepted v ≡ false → (n : ℕ) × (v ≡ refused n)
@@ -55,31 +56,31 @@ abbrev pub mover : Step → Option ℕ
 mover (write c r n) = none
 mover (read c) = none
 mover (make c b o) = none
-mover (take-reply c b o) = some c
+mover (take-reply c lent b o) = some c
 mover (give-up c) = some c
 mover (serve b p o) = none
 
 module _ (K : Setup) where
-  abbrev pub Log : Steps K → List Call
+  abbrev pub Log : Steps K → List Logged
   Log xs = log (account (K .s)) xs
 
   abbrev pub result : StepOf K → Steps K → Result
   result x xs = perform (K .s) (now (K .s) xs) (x .step) .result
 
   -- what the step does to the call of client c
-  abbrev pub effect : StepOf K → Steps K → ℕ → Call → Call
+  abbrev pub effect : StepOf K → Steps K → ℕ → Logged → Logged
   effect x xs c = follow (result x xs) (eqb (awaits (hand K (x ∷ xs) c)) 6) (length xs)
 
-  unfoldable pub touched : StepOf K → Steps K → Step → Call → Call
+  unfoldable pub touched : StepOf K → Steps K → Step → Logged → Logged
   touched x xs (write c r n) a = a
   touched x xs (read c) a = a
   touched x xs (make c b o) a = a
-  touched x xs (take-reply c b o) a = touch c (calls K xs c) (effect x xs c) a
+  touched x xs (take-reply c lent b o) a = touch c (calls K xs c) (effect x xs c) a
   touched x xs (give-up c) a = touch c (calls K xs c) (effect x xs c) a
   touched x xs (serve b p o) a = a
 
   -- a step changes its mover's present call, and leaves any other as it is
-  module _ (P : Call → Type 0) (x : StepOf K) (xs : Steps K) (a : Call)
+  module _ (P : Logged → Type 0) (x : StepOf K) (xs : Steps K) (a : Logged)
       (own : mover (x .step) ≡ some (a .client) → acting (a .client) (x .step) ≡ true → a .number ≡ calls K xs (a .client) →
       P (effect x xs (a .client) a))
       (other : (mover (x .step) ≡ some (a .client) → a .number ≡ calls K xs (a .client) → ⊥) → P a) where
@@ -98,25 +99,25 @@ module _ (K : Setup) where
     touched-case (write c r n) e = other (λ k n. no-some (sym (ap mover e) ∙ k))
     touched-case (read c) e = other (λ k n. no-some (sym (ap mover e) ∙ k))
     touched-case (make c b o) e = other (λ k n. no-some (sym (ap mover e) ∙ k))
-    touched-case (take-reply c b o) e = touch-case c (ap mover e) (λ q. ap (acting (a .client)) e ∙ eq-eqb _ _ q)
+    touched-case (take-reply c lent b o) e = touch-case c (ap mover e) (λ q. ap (acting (a .client)) e ∙ eq-eqb _ _ q)
     touched-case (give-up c) e = touch-case c (ap mover e) (λ q. ap (acting (a .client)) e ∙ eq-eqb _ _ q)
     touched-case (serve b p o) e = other (λ k n. no-some (sym (ap mover e) ∙ k))
 
-  unfoldable pub news : StepOf K → Steps K → Step → List Call
+  unfoldable pub news : StepOf K → Steps K → Step → List Logged
   news x xs (write c r n) = cond (accepted (result x xs)) (newCall c (suc (calls K xs c)) (some r) (length xs) ∷ []) []
   news x xs (read c) = cond (accepted (result x xs)) (newCall c (suc (calls K xs c)) none (length xs) ∷ []) []
   news x xs (make c b o) = []
-  news x xs (take-reply c b o) = []
+  news x xs (take-reply c lent b o) = []
   news x xs (give-up c) = []
   news x xs (serve b p o) = []
 
-  pub note-shape : (x : StepOf K) (xs : Steps K) (cs : List Call) (st : Step) →
+  pub note-shape : (x : StepOf K) (xs : Steps K) (cs : List Logged) (st : Step) →
       note (account (K .s)) x xs cs st ≡ news x xs st ++ map (touched x xs st) cs
   unfolding note news touched newCall
   note-shape x xs cs (write c r n) = begin-shape (accepted (result x xs)) _ cs
   note-shape x xs cs (read c) = begin-shape (accepted (result x xs)) _ cs
   note-shape x xs cs (make c b o) = map-id cs
-  note-shape x xs cs (take-reply c b o) = change-map c (calls K xs c) (effect x xs c) cs
+  note-shape x xs cs (take-reply c lent b o) = change-map c (calls K xs c) (effect x xs c) cs
   note-shape x xs cs (give-up c) = change-map c (calls K xs c) (effect x xs c) cs
   note-shape x xs cs (serve b p o) = map-id cs
 

@@ -21,26 +21,18 @@ use Rattle.protocol.specs.Runs.{Step, write, read, make, take-reply, give-up, s
 use Rattle.atomicity.specs.Lists.{Ever}
 use Rattle.atomicity.specs.Steps.{bytesIn, packetIn, makes, serves}
 use Rattle.atomicity.specs.Premises.{Authentic, PartyOf, odd}
-use Rattle.atomicity.proofs.Util.{clash, no-some, ever-map, ever-with}
+use Rattle.atomicity.proofs.Util.{clash, ever-map, ever-with}
 use Rattle.atomicity.proofs.Model.{perform, now, account}
 use Rattle.atomicity.proofs.Setup.{Setup, Steps, StepOf, Meets, Fair, right}
 use Rattle.atomicity.proofs.Serving.{Asked, Answered, answer}
 
 -- ---- shapes of steps
 
-pub read-back : (x : Step) (p : Packet) → packetIn x ≡ some p → decode (bytesIn x) ≡ some p
-read-back (write c r n) p e = absurd (no-some e)
-read-back (read c) p e = absurd (no-some e)
-read-back (make c b o) p e = absurd (no-some e)
-read-back (take-reply c b o) p e = e
-read-back (give-up c) p e = absurd (no-some e)
-read-back (serve b q o) p e = e
-
 pub serve-shape : (j : ℕ) (x : Step) → serves j x ≡ true → (b : List ℕ) × (o : List ℕ) × (x ≡ serve j b o)
 serve-shape j (write c r n) e = clash e refl
 serve-shape j (read c) e = clash e refl
 serve-shape j (make c b o) e = clash e refl
-serve-shape j (take-reply c b o) e = clash e refl
+serve-shape j (take-reply c lent b o) e = clash e refl
 serve-shape j (give-up c) e = clash e refl
 serve-shape j (serve i b o) e = (b, o, ap (λ (k : ℕ). serve k b o) (sym (eqb-true j i e)))
 
@@ -106,8 +98,8 @@ module _ (K : Setup) where
       (odd (kindOf (p .body)) ≡ true → K .correct .client (p .head .client) ≡ true → Ever (MadeBy (makes (p .head .client)) p) xs)
       × (odd (kindOf (p .body)) ≡ false → right K xs (p .head .server) ≡ true → Ever (MadeBy (serves (p .head .server)) p) xs)
   unfolding Authentic right
-  made-by x xs prem p e f = let a = prem .authentic p e f in let b = bytesIn (x .step) in let r = read-back (x .step) p e in
-      (λ o c. sent-made (makes (p .head .client)) b p r xs (a .0 o c), λ o c. sent-made (serves (p .head .server)) b p r xs (a .1 o c))
+  made-by x xs prem p e f = let a = prem .authentic p e f in let b = bytesIn (x .step) in
+      (λ o c. sent-made (makes (p .head .client)) b p e xs (a .0 o c), λ o c. sent-made (serves (p .head .server)) b p e xs (a .1 o c))
 
   -- a server that steps is correct, and one of the shelf
   pub server-correct : (x : StepOf K) (xs : Steps K) → Meets K x xs → (j : ℕ) → serves j (x .step) ≡ true → right K xs j ≡ true
@@ -120,7 +112,7 @@ module _ (K : Setup) where
       accepted (perform (K .s) (now (K .s) xs) (x .step) .result) ≡ true →
       p .head .client ≤ topWriter → Ever (MadeBy (makes (p .head .client)) p) xs
   writer-made x xs prem j p e a f l = made-by x xs prem p e f .0 (asked-odd (p .head .client) (p .body) (a .allowed))
-      (K .parties .writers (p .head .client) (K .laws .heads (bytesIn (x .step)) p (read-back (x .step) p e) (a .same-t) .0) l)
+      (K .parties .writers (p .head .client) (K .laws .heads (bytesIn (x .step)) p e (a .same-t) .0) l)
 
   -- ---- replies
 

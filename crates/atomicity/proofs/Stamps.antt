@@ -1,6 +1,6 @@
 -- The order of stamps, by number, then writer; and that lists that are equal pass the test for it.
 -- Assumes nothing.
-use mathlib.Core.Path.{_≡_, sym, subst}
+use mathlib.Core.Path.{_≡_, sym, subst, _∙_}
 use mathlib.Core.Bool.{true, false, _&&_}
 use mathlib.Core.List.{List}
 use mathlib.Core.Logic.{_⊎_, inl, inr}
@@ -97,3 +97,13 @@ below-asym a b p = untrue (below b a) (λ q. go (below-view a b p) (below-view b
 
 pub same-is : (xs ys : List ℕ) → xs ≡ ys → sameList xs ys ≡ true
 same-is xs ys e = subst (λ (z : List ℕ). sameList xs z ≡ true) e (same-refl xs)
+
+pub below-trans : (a b c : Stamp) → below a b ≡ true → below b c ≡ true → below a c ≡ true
+below-trans a b c p q = go (below-view a b p) (below-view b c q)
+  where
+    go : (a .number < b .number) ⊎ ((a .number ≡ b .number) × (a .writer < b .writer)) →
+        (b .number < c .number) ⊎ ((b .number ≡ c .number) × (b .writer < c .writer)) → below a c ≡ true
+    go (inl x) (inl y) = below-num a c (omega arith)
+    go (inl x) (inr y) = below-num a c (omega (arith, y .0))
+    go (inr x) (inl y) = below-num a c (omega (arith, x .0))
+    go (inr x) (inr y) = below-who a c (x .0 ∙ y .0) (omega (arith, x .1, y .1))

@@ -14,10 +14,9 @@ use Rattle.protocol.specs.Packet.{Body}
 use Rattle.protocol.specs.Rules.{ByServer, countTo}
 use Rattle.protocol.specs.Client.{Hand, idle, clocking, storing, completing, collecting, filtering, repairing, stampIn, codeIn, candidateIn, heldIn, higher}
 use Rattle.atomicity.specs.Lists.{In}
-use Rattle.atomicity.specs.Steps.{Stamped, digested, allDigested}
-use Rattle.atomicity.proofs.Util.{right-in}
+use Rattle.atomicity.specs.Steps.{Stamped}
 use Rattle.atomicity.proofs.Counting.{share}
-use Rattle.atomicity.proofs.Model.{account, marks, tagged, shareFor}
+use Rattle.atomicity.proofs.Model.{marks, tagged, shareFor}
 use Rattle.atomicity.proofs.Setup.{Setup, Steps, StepOf, right, right-step, lat}
 use Rattle.atomicity.proofs.Genuine.{Revealed, revealed-up, Genuine, genuine-up}
 use Rattle.atomicity.proofs.Covers.{Covers, covers-up}
@@ -83,7 +82,6 @@ module _ (K : Setup) where
   pub record Filters (xs z0 z1 : Steps K) (cs : List Candidate) (g : ByServer Held) (m : ByServer Bool) : Type 0 where
     pub first : Collected z0 z1 cs
     pub sift : (j : ℕ) → right K xs j ≡ true → m j ≡ true → Sift xs z1 j cs (g j)
-    pub digs : (j : ℕ) (f : Share) → m j ≡ true → g j .share ≡ some f → In (f .part) (allDigested (K .s) (account (K .s)) xs)
 
   pub record Repairs (xs z0 : Steps K) (d : Candidate) (r : List ℕ) (m : ByServer Bool) : Type 0 where
     pub short : countTo (S K) m < Q K
@@ -101,11 +99,6 @@ module _ (K : Setup) where
   HandOk xs z0 z1 m (repairing d r) = Repairs xs z0 d r m
 
   -- ---- what lasts
-
-  pub dig-up : (u : List ℕ) (x : StepOf K) (xs : Steps K) → In u (allDigested (K .s) (account (K .s)) xs) →
-      In u (allDigested (K .s) (account (K .s)) (x ∷ xs))
-  unfolding allDigested
-  dig-up u x xs i = right-in u (digested (K .s) (account (K .s)) x xs) (allDigested (K .s) (account (K .s)) xs) i
 
   pub coll-up : (z0 : Steps K) (j : ℕ) (d : Candidate) (x : StepOf K) (xs : Steps K) → Coll xs z0 j d → Coll (x ∷ xs) z0 j d
   coll-up z0 j d x xs h = record { high = h .high; real = go (h .real) }
@@ -150,7 +143,6 @@ module _ (K : Setup) where
       record {
         first = h .first;
         sift = λ j k i. sift-up z1 j cs (g j) x xs (h .sift j (right-step K x xs j ∙ k) i);
-        digs = λ j f i e. dig-up (f .part) x xs (h .digs j f i e);
       }
   ok-up z0 z1 m (repairing d r) x xs h =
       record {

@@ -11,10 +11,11 @@ use native.Mathlib.Omega.{arith}
 use lib.ListN.{length}
 use Rattle.protocol.specs.Values.{Candidate, blankStamp}
 use Rattle.protocol.specs.Client.{Client, Hand, Result, begun, onto, awaits, isIdle, accepted}
-use Rattle.protocol.specs.Runs.{Step, write, read, make, take-reply, give-up, serve, World, nowValues}
+use Rattle.protocol.specs.Runs.{Step, write, read, make, take-reply, give-up, serve}
+use Rattle.protocol.proofs.ValueRuns.{World, nowValues}
 use Rattle.atomicity.specs.Lists.{Ever, Always, All, In, AllPairs}
 use Rattle.atomicity.specs.Steps.{Stamped}
-use Rattle.atomicity.specs.Claim.{Call, log}
+use Rattle.atomicity.specs.Claim.{Logged, log}
 use Rattle.atomicity.proofs.Util.{clash, right-in, in-map, map-in, all-of}
 use Rattle.atomicity.proofs.Model.{perform, now, marks}
 use Rattle.atomicity.proofs.Setup.{Setup, Steps, StepOf, Meets, Fair, Show, hand, calls, cli}
@@ -62,7 +63,7 @@ module _ (K : Setup) where
   story-log [] fair = refl
   story-log (x ∷ xs) fair = map-append (λ (g : Signed K (x ∷ xs)). g .call) (newSigned K x xs (x .step) refl)
       (map (stepSigned x xs fair) (story xs (past x xs fair)))
-      ∙ ap₂ (λ (us vs : List Call). us ++ vs) (new-calls K x xs (x .step) refl)
+      ∙ ap₂ (λ (us vs : List Logged). us ++ vs) (new-calls K x xs (x .step) refl)
       (map-map (λ (g : Signed K (x ∷ xs)). g .call) (stepSigned x xs fair) (story xs (past x xs fair))
       ∙ sym (map-map (touched K x xs (x .step)) (λ (g : Signed K xs). g .call) (story xs (past x xs fair)))
       ∙ ap (map (touched K x xs (x .step))) (story-log xs (past x xs fair)))
@@ -91,7 +92,7 @@ module _ (K : Setup) where
       go [] k = tt
       go (d ∷ ds) k = (omega (arith, k .0, step-keeps x xs fair a .begun, step-keeps x xs fair d .begun), go ds (k .1))
 
-  begin-pairs : {ys : Steps K} (a : Call) (b : Bool) (f : b ≡ true → CallOk K ys a blankStamp) (l : List (Signed K ys)) →
+  begin-pairs : {ys : Steps K} (a : Logged) (b : Bool) (f : b ≡ true → CallOk K ys a blankStamp) (l : List (Signed K ys)) →
       ((g : Signed K ys) → In g l → g .call .begun < a .begun) →
       AllPairs (λ (a b : Signed K ys). Later a b) l → AllPairs (λ (a b : Signed K ys). Later a b) (beginSigned K a b f ++ l)
   unfolding beginSigned AllPairs
@@ -105,7 +106,7 @@ module _ (K : Setup) where
   new-pairs x xs (write c r n) e l f h = begin-pairs _ (accepted (result K x xs)) (new-write K x xs c r n e) l f h
   new-pairs x xs (read c) e l f h = begin-pairs _ (accepted (result K x xs)) (new-read K x xs c e) l f h
   new-pairs x xs (make c b o) e l f h = h
-  new-pairs x xs (take-reply c b o) e l f h = h
+  new-pairs x xs (take-reply c lent b o) e l f h = h
   new-pairs x xs (give-up c) e l f h = h
   new-pairs x xs (serve b p o) e l f h = h
 
@@ -127,7 +128,7 @@ module _ (K : Setup) where
     pub client : known .call .client ≡ c
     pub number : known .call .number ≡ calls K xs c
 
-  begin-has : {ys : Steps K} (a : Call) (b : Bool) (f : b ≡ true → CallOk K ys a blankStamp) (l : List (Signed K ys)) → b ≡ true → (g : Signed K ys)
+  begin-has : {ys : Steps K} (a : Logged) (b : Bool) (f : b ≡ true → CallOk K ys a blankStamp) (l : List (Signed K ys)) → b ≡ true → (g : Signed K ys)
       × In g (beginSigned K a b f ++ l) × (g .call ≡ a)
   unfolding beginSigned In
   begin-has a true f l e = (record { call = a; stamp = blankStamp; ok = f refl }, inl refl, refl)
@@ -139,21 +140,21 @@ module _ (K : Setup) where
   unfolding newSigned newCall
   new-has x xs c (write d r n) e l acc s = let g = begin-has _ (accepted (result K x xs)) (new-write K x xs d r n e) l acc in
       let q : d ≡ c = same s in
-      (g .0, g .1, ap (λ (a : Call). a .client) (g .2) ∙ q, ap (λ (a : Call). a .number) (g .2) ∙ ap (λ (i : ℕ). suc (calls K xs i)) q)
+      (g .0, g .1, ap (λ (a : Logged). a .client) (g .2) ∙ q, ap (λ (a : Logged). a .number) (g .2) ∙ ap (λ (i : ℕ). suc (calls K xs i)) q)
     where
       same : ((r' n' : List ℕ) × (write d r n ≡ write c r' n')) ⊎ (write d r n ≡ read c) → d ≡ c
       same (inl z) = let y = z .2 in cc
       same (inr z) = absurd (let y : _≡_ {A = ℕ} 0 1 = cc in omega arith)
   new-has x xs c (read d) e l acc s = let g = begin-has _ (accepted (result K x xs)) (new-read K x xs d e) l acc in let q : d ≡ c = same s in
-      (g .0, g .1, ap (λ (a : Call). a .client) (g .2) ∙ q, ap (λ (a : Call). a .number) (g .2) ∙ ap (λ (i : ℕ). suc (calls K xs i)) q)
+      (g .0, g .1, ap (λ (a : Logged). a .client) (g .2) ∙ q, ap (λ (a : Logged). a .number) (g .2) ∙ ap (λ (i : ℕ). suc (calls K xs i)) q)
     where
       same : ((r' n' : List ℕ) × (read d ≡ write c r' n')) ⊎ (read d ≡ read c) → d ≡ c
       same (inl z) = absurd (let y = z .2 in let w : _≡_ {A = ℕ} 0 1 = cc in omega arith)
       same (inr z) = cc
   new-has x xs c (make d b o) e l acc (inl z) = absurd (let y = z .2 in let w : _≡_ {A = ℕ} 0 1 = cc in omega arith)
   new-has x xs c (make d b o) e l acc (inr z) = absurd (let w : _≡_ {A = ℕ} 0 1 = cc in omega arith)
-  new-has x xs c (take-reply d b o) e l acc (inl z) = absurd (let y = z .2 in let w : _≡_ {A = ℕ} 0 1 = cc in omega arith)
-  new-has x xs c (take-reply d b o) e l acc (inr z) = absurd (let w : _≡_ {A = ℕ} 0 1 = cc in omega arith)
+  new-has x xs c (take-reply d lent b o) e l acc (inl z) = absurd (let y = z .2 in let w : _≡_ {A = ℕ} 0 1 = cc in omega arith)
+  new-has x xs c (take-reply d lent b o) e l acc (inr z) = absurd (let w : _≡_ {A = ℕ} 0 1 = cc in omega arith)
   new-has x xs c (give-up d) e l acc (inl z) = absurd (let y = z .2 in let w : _≡_ {A = ℕ} 0 1 = cc in omega arith)
   new-has x xs c (give-up d) e l acc (inr z) = absurd (let w : _≡_ {A = ℕ} 0 1 = cc in omega arith)
   new-has x xs c (serve b p o) e l acc (inl z) = absurd (let y = z .2 in let w : _≡_ {A = ℕ} 0 1 = cc in omega arith)
@@ -189,7 +190,7 @@ module _ (K : Setup) where
       go (wbegan r n s a i l e) f = began (ap (λ (z : Client). z .calls) e) (subst (λ (v : Result). accepted v ≡ true) (sym a) refl) (inl (r, n, s))
       go (rbegan s a i e) f = began (ap (λ (z : Client). z .calls) e) (subst (λ (v : Result). accepted v ≡ true) (sym a) refl) (inr s)
       go (quit s a i e) f = clash refl (subst (λ (z : Client). isIdle (z .hand) ≡ false) e b)
-      go (took p b' o s rd fit e v) f = on (sym (ap (λ (z : Client). z .calls) e ∙ turn-turned (K .s) c (cli K xs c) p .calls)) (f (fit .busy))
+      go (took p lent b' o s rd fit e v) f = on (sym (ap (λ (z : Client). z .calls) e ∙ turn-turned (K .s) c (cli K xs c) p .calls)) (f (fit .busy))
 
   -- ---- a write that was shown
 

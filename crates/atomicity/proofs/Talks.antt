@@ -13,7 +13,7 @@ use Rattle.cluster.specs.Ranges.{within}
 use Rattle.protocol.specs.Values.{Candidate}
 use Rattle.protocol.specs.Packet.{Body, Packet, kindOf}
 use Rattle.atomicity.specs.Lists.{Ever, All}
-use Rattle.atomicity.specs.Steps.{inPacket, shown, noncesGot, noncesBy}
+use Rattle.atomicity.specs.Steps.{ofPacket, offered, noncesGot, noncesBy}
 use Rattle.atomicity.specs.Premises.{odd}
 use Rattle.atomicity.proofs.Util.{clash, and-left, and-right}
 use Rattle.atomicity.proofs.Setup.{Steps, StepOf, Begin}
@@ -89,7 +89,7 @@ module _ (k : Talk) where
 
   module _ (p : Proper k) where
     -- it shows no nonce, or all have been shown
-    pub good-exchange : (D : List (List ℕ)) (xs : Steps K) → Good D xs → Calm p D xs → (shown (k .ask) ≡ []) ⊎ ShownAll (make ∷ xs) →
+    pub good-exchange : (D : List (List ℕ)) (xs : Steps K) → Good D xs → Calm p D xs → (offered (k .ask) ≡ []) ⊎ ShownAll (make ∷ xs) →
         Good (k .taken ++ (k .served ++ D)) (exchange p xs)
     unfolding noncesBy Ever
     good-exchange D xs g (sent, back, gets, takes) s =
@@ -104,10 +104,10 @@ module _ (k : Talk) where
         ok : Bool
         ok = fine (serve p) (make ∷ xs)
 
-        quiet : (shown (k .ask) ≡ []) ⊎ ShownAll (make ∷ xs) → (noncesGot (K .s) A (serve p) (make ∷ xs) ≡ []) ⊎ ShownAll (make ∷ xs)
+        quiet : (offered (k .ask) ≡ []) ⊎ ShownAll (make ∷ xs) → (noncesGot (K .s) A (serve p) (make ∷ xs) ≡ []) ⊎ ShownAll (make ∷ xs)
         quiet (inr h) = inr h
         quiet (inl e) = inl
-            (subst (λ (o : Option Packet). cond ok (map (λ (c : Candidate). c .nonce) (inPacket shown o)) [] ≡ []) (sym (gets .0))
+            (subst (λ (o : Option Packet). cond ok (map (λ (c : Candidate). c .nonce) (ofPacket (λ z. offered (z .body)) o)) [] ≡ []) (sym (gets .0))
             (subst (λ (l : List Candidate). cond ok (map (λ (c : Candidate). c .nonce) l) [] ≡ []) (sym e) (cond-nil ok)))
 
     pub shown-exchange : (xs : Steps K) → ShownAll (make ∷ xs) → ShownAll (exchange p xs)
@@ -145,7 +145,7 @@ Calms [] e D xs = Unit {0}
 Calms (k ∷ ks) e D xs = Calm k (headOf k ks e) D xs × Calms ks (tailOf k ks e) (k .taken ++ (k .served ++ D)) (exchange k (headOf k ks e) xs)
 
 -- while they show no nonce
-pub good-quiet : (ks : List Talk) (e : allProper ks ≡ true) (D : List (List ℕ)) (xs : Steps K) → All (λ k. shown (k .ask) ≡ []) ks → Calms ks e D xs →
+pub good-quiet : (ks : List Talk) (e : allProper ks ≡ true) (D : List (List ℕ)) (xs : Steps K) → All (λ k. offered (k .ask) ≡ []) ks → Calms ks e D xs →
     Good D xs → Good (digests ks D) (talks ks e xs)
 unfolding talks digests Calms All
 good-quiet [] e D xs q c g = g

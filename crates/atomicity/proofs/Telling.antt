@@ -27,7 +27,7 @@ use Rattle.atomicity.proofs.Setup.{Setup, Steps, StepOf, Fair, lat, his
 use Rattle.atomicity.proofs.Positions.{since, from}
 use Rattle.atomicity.proofs.Marks.{mark-num, mark-checks}
 use Rattle.atomicity.proofs.Rising.{by-stamp}
-use Rattle.atomicity.proofs.Servers.{held-some, raise-ge, best-view, best-max}
+use Rattle.atomicity.proofs.Servers.{held-some, raise-ge, best-case, best-max}
 use Rattle.atomicity.proofs.Histories.{history}
 use Rattle.atomicity.proofs.Genuine.{Judging, Genuine, genuine, genuine-up, latest-known}
 use Rattle.atomicity.proofs.Covers.{Covers, covers-stored, not-lower}
@@ -103,7 +103,7 @@ module _ (K : Setup) where
       let fq : heldIn x .share ≡ held (b .stamp) (hist K ys j) = ap (λ (h : Held). h .share) rq in
       record {
         piece = λ f e. subst (λ (a : Stamp). Piece K (y ∷ ys) j a f) (sym sq)
-            (go b f (sym fq ∙ e) (best-view (K .s) j v (blankCandidate (K .s .config)) cs));
+            (go b f (sym fq ∙ e) (best-case (K .s) j v (filter cs)));
         tags = λ d i e. subst (λ (z : Server). below (z .latest .stamp) (d .stamp) ≡ false) (sym (t .after))
             (le-trans (d .stamp) (b .stamp) (raise b v .latest .stamp) (best-max (K .s) j v (blankCandidate (K .s .config)) cs d i (tag-valid d e))
             (raise-ge b v));
@@ -116,10 +116,10 @@ module _ (K : Setup) where
       tag-valid d e = or-right (vouched (K .s) j (srv K ys j) d) (tagged (K .s) j d) e
 
       go : (b : Candidate) (f : Share) → held (b .stamp) (hist K ys j) ≡ some f → (b ≡ blankCandidate (K .s .config))
-          ⊎ (In b cs × (isValid (K .s) j (srv K ys j) b ≡ true)) → Piece K (y ∷ ys) j (b .stamp) f
+          ⊎ (In b (judged (K .s) j (srv K ys j) (filter cs)) × (In b cs × (isValid (K .s) j (srv K ys j) b ≡ true))) → Piece K (y ∷ ys) j (b .stamp) f
       go b f h (inl e) = absurd (no-blank ys (t .old) j f (subst (λ (z : Candidate). held (z .stamp) (hist K ys j) ≡ some f) e h))
       go b f h (inr v) = piece-up K j (b .stamp) f y ys (piece-of ys (t .old) j b
-          (genuine K y ys (t .old) j (t .ask) (t .judging) b (subst (λ (z : Body). In b (judged z)) (sym (t .asked)) (v .0)) (v .1)) f h)
+          (genuine K y ys (t .old) j (t .ask) (t .judging) b (subst (λ (z : Body). In b (judged (K .s) j (srv K ys j) z)) (sym (t .asked)) (v .0)) (v .1 .1)) f h)
 
   clocked : (c j : ℕ) (xs : Steps K) (x : Body) (y : StepOf K) (ys : Steps K) → At c j xs clock x y ys → (k : ℕ) →
       lat K (since (K .s) c xs) j .number ≤ higher (K .s .P) (K .s .writers) k (stampIn x)

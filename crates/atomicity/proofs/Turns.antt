@@ -20,10 +20,10 @@ use Rattle.protocol.proofs.Marks.{count-nobody}
 use Rattle.protocol.proofs.Equal.{same-true}
 use Rattle.protocol.proofs.Answers.{at-cond}
 use Rattle.atomicity.specs.Lists.{In}
-use Rattle.atomicity.specs.Steps.{allDigested}
+use Rattle.atomicity.specs.Steps.{proving}
 use Rattle.atomicity.proofs.Util.{bool-case, clash, not-f, upd-here, upd-else}
 use Rattle.atomicity.proofs.Stamps.{num-le}
-use Rattle.atomicity.proofs.Model.{account, updated}
+use Rattle.atomicity.proofs.Model.{updated}
 use Rattle.atomicity.proofs.Setup.{Setup, Steps, StepOf, Fair, right, right-range, Same, same-right, right-step, lat}
 use Rattle.atomicity.proofs.Rounds.{higher-le}
 use Rattle.atomicity.proofs.Positions.{stage}
@@ -31,11 +31,11 @@ use Rattle.atomicity.proofs.Marks.{mark-num}
 use Rattle.atomicity.proofs.Genuine.{Genuine}
 use Rattle.atomicity.proofs.Covers.{Covers, covers-up}
 use Rattle.atomicity.proofs.Heard.{lat-up}
-use Rattle.atomicity.proofs.States.{Coll, coll-up, Sift, sift-up, Proved, proved-up, Filters, HandOk, Says, ok-up, dig-up}
+use Rattle.atomicity.proofs.States.{Coll, coll-up, Sift, sift-up, Proved, proved-up, Filters, HandOk, Says, ok-up}
 use Rattle.atomicity.proofs.Quorums.{S, Q, FullAt, TopAt, WBeats, Beats, many-marks, meets-marks, full-up}
 use Rattle.atomicity.proofs.Gathered.{in-gather}
 use Rattle.atomicity.proofs.Groups.{tagged-of}
-use Rattle.atomicity.proofs.Choosing.{q-pos, reached, Live, chosen}
+use Rattle.atomicity.proofs.Choosing.{q-pos, reached, Live, chosen, Digests}
 
 module _ (K : Setup) where
   -- what a call that ends gives; h was the hand
@@ -88,11 +88,11 @@ module _ (K : Setup) where
 
   finished : (x : StepOf K) (xs z0 z1 : Steps K) (cs : List Candidate) (old g : ByServer Held) (m : ByServer Bool) → Same K z0 (x ∷ xs) →
       Same K z1 (x ∷ xs) → Fair K (x ∷ xs) → Filters K (x ∷ xs) z0 z1 cs g m → Q K ≤ countTo (S K) m → (c : ℕ) (cl : Client) (d : Candidate) →
-      choice (K .s .P) (K .s .config) m g cs ≡ some d → Outcome x xs z0 z1 (filtering cs old)
+      Digests K (x ∷ xs) (proving (K .s) m g (some d)) → choice (K .s .P) (K .s .config) m g cs ≡ some d → Outcome x xs z0 z1 (filtering cs old)
       (found (K .s .P) (K .s .config) c (K .s .writers) (K .s .keys) cl m g d (leader (K .s .P) (K .s .config) m g d (S K)))
   unfolding found Outcome ResultOk HandOk stage onto
-  finished x xs z0 z1 cs old g m p0 p1 fair F l c cl d ch =
-      let C = chosen K (x ∷ xs) z0 z1 cs g m p0 p1 fair F d ch in
+  finished x xs z0 z1 cs old g m p0 p1 fair F l c cl d dig ch =
+      let C = chosen K (x ∷ xs) z0 z1 cs g m p0 p1 fair F d dig ch in
       let R = C .real in
       let b = leader (K .s .P) (K .s .config) m g d (S K) in
       at-cond (sameList (tagsIn (K .s .P) (K .s .config) d (g b .share)) (d .tags)) _ _ (Outcome x xs z0 z1 (filtering cs old))
@@ -119,23 +119,26 @@ module _ (K : Setup) where
 
   judged : (x : StepOf K) (xs z0 z1 : Steps K) (cs : List Candidate) (old g : ByServer Held) (m : ByServer Bool) → Same K z0 (x ∷ xs) →
       Same K z1 (x ∷ xs) → Fair K (x ∷ xs) → Filters K (x ∷ xs) z0 z1 cs g m → Q K ≤ countTo (S K) m → (c : ℕ) (cl : Client)
-      (ls : List Candidate) → Live K m g cs ≡ ls → (o : Option Candidate) → choice (K .s .P) (K .s .config) m g cs ≡ o →
+      (ls : List Candidate) → Live K m g cs ≡ ls → (o : Option Candidate) → Digests K (x ∷ xs) (proving (K .s) m g o) →
+      choice (K .s .P) (K .s .config) m g cs ≡ o →
       Outcome x xs z0 z1 (filtering cs old) (judge (K .s .P) (K .s .config) c (K .s .writers) (K .s .keys) cl m cs g ls o)
   unfolding judge Outcome ResultOk HandOk stage onto Beats In
-  judged x xs z0 z1 cs old g m p0 p1 fair F l c cl [] e o q = (tt, λ b top. go b (reached K (x ∷ xs) z0 z1 cs g m p0 p1 F b top))
+  judged x xs z0 z1 cs old g m p0 p1 fair F l c cl [] e o dig q = (tt, λ b top. go b (reached K (x ∷ xs) z0 z1 cs g m p0 p1 F b top))
     where
       go : (b : Stamp) → (below blankStamp b ≡ false) ⊎ ((d : Candidate) × In d (Live K m g cs) × (below (d .stamp) b ≡ false)) →
           below blankStamp b ≡ false
       go b (inl z) = z
       go b (inr d) = absurd (subst (λ (z : List Candidate). In (d .0) z) e (d .1))
-  judged x xs z0 z1 cs old g m p0 p1 fair F l c cl (a ∷ ls) e none q = (F, tt)
-  judged x xs z0 z1 cs old g m p0 p1 fair F l c cl (a ∷ ls) e (some d) q = finished x xs z0 z1 cs old g m p0 p1 fair F l c cl d q
+  judged x xs z0 z1 cs old g m p0 p1 fair F l c cl (a ∷ ls) e none dig q = (F, tt)
+  judged x xs z0 z1 cs old g m p0 p1 fair F l c cl (a ∷ ls) e (some d) dig q = finished x xs z0 z1 cs old g m p0 p1 fair F l c cl d dig q
 
   -- ---- a reply y of server b to the hand h
 
   module _ (x : StepOf K) (xs z0 z1 : Steps K) (p0 : Same K z0 (x ∷ xs)) (p1 : Same K z1 (x ∷ xs)) (fair : Fair K (x ∷ xs))
       (held-by : (d : Candidate) → Genuine K (x ∷ xs) d → FullAt K (x ∷ xs) (d .stamp)) (c : ℕ) (cl : Client) (b : ℕ) (y : Body)
-      (dig : (f : Share) → heldIn y .share ≡ some f → In (f .part) (allDigested (K .s) (account (K .s)) (x ∷ xs))) where
+      (dig : (cs : List Candidate) (g : ByServer Held) → cl .hand ≡ filtering cs g → Q K ≤ countTo (S K) (upd (cl .marks) b true) →
+      Digests K (x ∷ xs) (proving (K .s) (upd (cl .marks) b true) (upd g b (heldIn y))
+      (choice (K .s .P) (K .s .config) (upd (cl .marks) b true) (upd g b (heldIn y)) cs))) where
     abbrev m : ByServer Bool
     m = cl .marks
 
@@ -204,10 +207,6 @@ module _ (K : Setup) where
     filter-on cs g ok say = record {
       first = ok .first;
       sift = on-replies x xs (λ j v. Sift K (x ∷ xs) z1 j cs v) m g b (heldIn y) say (λ j h i. sift-up K z1 j cs (g j) x xs (ok .sift j h i));
-      digs = λ j f i e. bool-case (eqb j b)
-          (λ q. dig f (sym (ap (λ (h : Held). h .share) (ap (upd g b (heldIn y)) (eqb-true j b q) ∙ upd-here g b (heldIn y))) ∙ e))
-          (λ q. dig-up K (f .part) x xs (ok .digs j f (sym (upd-else m b true j q) ∙ i)
-          (sym (ap (λ (h : Held). h .share) (upd-else g b (heldIn y) j q)) ∙ e)));
     }
 
     pub turn-ok : 1 ≤ b → b ≤ S K → (full : Bool) → (full ≡ true → Q K ≤ countTo (S K) m') → (full ≡ false → countTo (S K) m' < Q K) → (h : Hand) →
@@ -235,13 +234,12 @@ module _ (K : Setup) where
           each = λ j h i. let t = collect-on g ok say j h i in (t .high, listed (upd g b sent) j h (t .real));
         };
         sift = λ j h i. unmarked j i;
-        digs = λ j f i e. unmarked j i;
       },
       tt,
     )
     turn-ok lo hi false yes-full no-full (collecting g) e ok say = (record { short = no-full refl; coll = collect-on g ok say }, tt)
     turn-ok lo hi true yes-full no-full (filtering cs g) e ok say =
-        judged x xs z0 z1 cs g (upd g b (heldIn y)) m' p0 p1 fair (filter-on cs g ok say) (yes-full refl) c cl _ refl _ refl
+        judged x xs z0 z1 cs g (upd g b (heldIn y)) m' p0 p1 fair (filter-on cs g ok say) (yes-full refl) c cl _ refl _ (dig cs g e (yes-full refl)) refl
     turn-ok lo hi false yes-full no-full (filtering cs g) e ok say = (filter-on cs g ok say, tt)
     turn-ok lo hi true yes-full no-full (repairing d r) e ok say =
         (tt, (d, many-marks K (x ∷ xs) _ m' (yes-full refl) (λ j h i. not-f _ (repair-on d r lo hi ok say j h i)), proved-up K z0 d r x xs (ok .proved)))

@@ -16,7 +16,7 @@ use Rattle.protocol.specs.Rules.{ByServer, upd, countTo, choice, leader, tagsIn
 use Rattle.protocol.specs.Server.{act}
 use Rattle.protocol.specs.Client.{Client, Hand, Turn, Result, idle, clocking, storing, completing, collecting, filtering, repairing, isFull, accepted}
 use Rattle.protocol.specs.Client.{update, judge, found, onto, begun, prepared, codeIn, candidateIn, heldIn}
-use Rattle.protocol.specs.Runs.{World, nowValues}
+use Rattle.protocol.proofs.ValueRuns.{World, nowValues}
 use Rattle.atomicity.specs.Lists.{Ever, In}
 use Rattle.atomicity.specs.Steps.{packetIn}
 use Rattle.atomicity.specs.Premises.{odd}
@@ -192,7 +192,7 @@ module _ (K : Setup) where
       go (wbegan r n s a i l e) h = subst At (sym e) tt
       go (rbegan s a i e) h = subst At (sym e) tt
       go (quit s a i e) h = subst At (sym e) tt
-      go (took p b o s rd fit e v) h =
+      go (took p lent b o s rd fit e v) h =
           subst At (sym e) (update-wait x xs c (cli K xs c) (p .head .server) (p .body) _
           (λ q. leb-false (Q K) (countTo (S K) (upd (replied K xs c) (p .head .server) true)) q) (hand K xs c) refl refl h
           (λ k. heard K c xs (past K x xs fair) p good (fit .mine) (fit .call) (fit .busy) (fit .kind)

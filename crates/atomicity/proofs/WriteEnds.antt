@@ -17,7 +17,7 @@ use Rattle.protocol.specs.Client.{Client, Hand, more, written, idle, clocking, 
 use Rattle.protocol.specs.Client.{prepared, candidateMade}
 use Rattle.atomicity.specs.Lists.{Ever, In}
 use Rattle.atomicity.specs.Steps.{Stamped, stampedFrom}
-use Rattle.atomicity.specs.Claim.{Call, close, reach}
+use Rattle.atomicity.specs.Claim.{Logged, close, reach}
 use Rattle.atomicity.proofs.Util.{clash, no-some}
 use Rattle.atomicity.proofs.Model.{stampFor, preparedFor}
 use Rattle.atomicity.proofs.Setup.{Setup, Steps, StepOf, calls}
@@ -28,7 +28,7 @@ use Rattle.atomicity.proofs.Invariant.{Ends}
 use Rattle.atomicity.proofs.Calls.{MarkAt, Own, Base, Open, Cur, open-up, written-up, writing-up}
 use Rattle.atomicity.proofs.Following.{Stands, Follows, unreach, low}
 
-module _ (K : Setup) (x : StepOf K) (xs : Steps K) (a : Call) (σ : Stamp) (same : calls K xs (a .client) ≡ calls K (x ∷ xs) (a .client))
+module _ (K : Setup) (x : StepOf K) (xs : Steps K) (a : Logged) (σ : Stamp) (same : calls K xs (a .client) ≡ calls K (x ∷ xs) (a .client))
     (base : Base K xs a σ) where
   pub clock-ends : (r n : List ℕ) (k k' : ℕ) (cl : Client) → cl .hand ≡ preparedFor (K .s) (a .client) r n (suc k') → Open K xs a
       × (a .wrote ≡ some r) → Follows K x xs a σ (clocking r n k) (record { client = cl; result = more })

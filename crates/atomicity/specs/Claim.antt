@@ -6,23 +6,24 @@ use mathlib.Core.List.{List, [], _∷_}
 use mathlib.Core.Option.{Option, none, some}
 use mathlib.Core.Logic.{_⊎_}
 use Prim.Native.Nat.{ℕ, suc, _≤_, _<_}
-use lib.Dec.{leb, ltb, eqb}
+use lib.Dec.{ltb, eqb}
 use lib.ListN.{length}
 use Rattle.cluster.specs.Config.{Config, quorum}
 use Rattle.cluster.specs.Ranges.{topFaults, capacity}
 use Rattle.protocol.specs.Packet.{Packet, kindOf, decode}
 use Rattle.protocol.specs.Primitives.{real}
-use Rattle.protocol.specs.Rules.{keep}
-use Rattle.protocol.specs.Client.{Hand, Result, refused, more, written, gave, gaveBlank, aborted, awaits, isIdle, accepted}
+use Rattle.protocol.specs.Rules.{ByServer, keep}
+use Rattle.protocol.specs.Client.{Hand, Result, refused, more, written, gave, gaveBlank, aborted, awaits, isIdle, inComplete, isReading, accepted}
+use Rattle.protocol.specs.View.{keptSize}
 use Rattle.protocol.specs.ClientBytes.{keyOf}
-use Rattle.protocol.specs.Runs.{Shelf, configOf, Step, write, read, make, take-reply, give-up, serve, Typed, Account, byBytes}
+use Rattle.protocol.specs.Runs.{Shelf, configOf, Lent, Step, write, read, make, take-reply, give-up, serve, Typed, Account, byBytes}
 use Rattle.atomicity.specs.Lists.{Ever, Always, All, In, AllPairs, Perm}
-use Rattle.atomicity.specs.Steps.{System, serves}
+use Rattle.atomicity.specs.Steps.{System, StepIn, serves}
 use Rattle.atomicity.specs.Premises.{Correct, Parties, correctAt, Sent, Premise}
 
 -- ---- calls
 
-pub record Call : Type 0 where
+pub record Logged : Type 0 where
   pub client : ℕ
   pub number : ℕ
   -- the content of a write; none for a read
@@ -38,21 +39,21 @@ pub record Call : Type 0 where
   pub gaveUp : Bool
 
 -- f of the call of client c with this number
-unfoldable pub change : ℕ → ℕ → (Call → Call) → List Call → List Call
+unfoldable pub change : ℕ → ℕ → (Logged → Logged) → List Logged → List Logged
 change c n f [] = []
 change c n f (x ∷ xs) = cond (eqb (x .client) c && eqb (x .number) n) (f x) x ∷ change c n f xs
 
-abbrev pub reach : Bool → Call → Call
+abbrev pub reach : Bool → Logged → Logged
 reach b x = record { client = x .client; number = x .number; wrote = x .wrote; begun = x .begun; reached = x .reached || b; over = x .over; answer = x .answer; gaveUp = x .gaveUp }
 
-abbrev pub close : ℕ → Option (List ℕ) → Call → Call
+abbrev pub close : ℕ → Option (List ℕ) → Logged → Logged
 close n a x = record { client = x .client; number = x .number; wrote = x .wrote; begun = x .begun; reached = x .reached; over = some n; answer = a; gaveUp = x .gaveUp }
 
-abbrev pub leave : Call → Call
+abbrev pub leave : Logged → Logged
 leave x = record { client = x .client; number = x .number; wrote = x .wrote; begun = x .begun; reached = x .reached; over = x .over; answer = x .answer; gaveUp = true }
 
 -- what a step's result does to its client's call: complete tells that the hand is in the complete round, n is how many steps were done
-abbrev pub follow : Result → Bool → ℕ → Call → Call
+abbrev pub follow : Result → Bool → ℕ → Logged → Logged
 follow (refused k) complete n x = x
 follow more complete n x = reach complete x
 follow (written k) complete n x = close n none x
@@ -60,26 +61,26 @@ follow (gave k r) complete n x = close n (some r) x
 follow gaveBlank complete n x = close n none x
 follow (aborted b) complete n x = leave x
 
-module _ {s : Config} (A : Account s) where
+module _ {s : Config} {writers : List ℕ} {keys : ByServer (List ℕ)} (A : Account (Typed s writers keys)) where
   -- "A call begins when accepted and ends, finished, at the reply that gives its result"
-  abbrev pub enter : Typed s → List (Typed s) → ℕ → Option (List ℕ) → List Call → List Call
+  abbrev pub enter : Typed s writers keys → List (Typed s writers keys) → ℕ → Option (List ℕ) → List Logged → List Logged
   enter x xs c w cs =
       cond (accepted (A .result x xs))
       (record { client = c; number = suc (A .client xs c .calls); wrote = w; begun = length xs; reached = false; over = none; answer = none; gaveUp = false } ∷ cs)
       cs
 
-  abbrev pub touch : Typed s → List (Typed s) → ℕ → List Call → List Call
-  touch x xs c cs = change c (A .client xs c .calls) (follow (A .result x xs) (eqb (awaits (A .client (x ∷ xs) c .hand)) 6) (length xs)) cs
+  abbrev pub touch : Typed s writers keys → List (Typed s writers keys) → ℕ → List Logged → List Logged
+  touch x xs c cs = change c (A .client xs c .calls) (follow (A .result x xs) (inComplete (A .client (x ∷ xs) c .hand)) (length xs)) cs
 
-  unfoldable pub note : Typed s → List (Typed s) → List Call → Step → List Call
+  unfoldable pub note : Typed s writers keys → List (Typed s writers keys) → List Logged → Step → List Logged
   note x xs cs (write c r n) = enter x xs c (some r) cs
   note x xs cs (read c) = enter x xs c none cs
   note x xs cs (make c b o) = cs
-  note x xs cs (take-reply c p o) = touch x xs c cs
+  note x xs cs (take-reply c lent p o) = touch x xs c cs
   note x xs cs (give-up c) = touch x xs c cs
   note x xs cs (serve b p o) = cs
 
-  unfoldable pub log : List (Typed s) → List Call
+  unfoldable pub log : List (Typed s writers keys) → List Logged
   log [] = []
   log (x ∷ xs) = note x xs (log xs) (x .step)
 
@@ -94,40 +95,45 @@ abbrev pub endedBy : Option ℕ → ℕ → Bool
 endedBy none n = false
 endedBy (some e) n = ltb e n
 
-unfoldable pub before : Call → Call → Bool
+unfoldable pub before : Logged → Logged → Bool
 before a b = endedBy (a .over) (b .begun)
 
 -- "the right clients' finished calls, with some unfinished writes": those whose complete round began
-unfoldable pub counted : Call → Bool
+unfoldable pub counted : Logged → Bool
 counted c = given (c .over) || (given (c .wrote) && c .reached)
 
 -- "it holds blank, then the last write's record, and each read gives what it holds, blank or the same length and bytes"
-abbrev pub shows : Option (List ℕ) → Option (List ℕ) → Call → Type 0
-shows m none c = c .answer ≡ m
-shows m (some r) c = Unit {0}
+abbrev pub givesHeld : Option (List ℕ) → Option (List ℕ) → Logged → Type 0
+givesHeld m none c = c .answer ≡ m
+givesHeld m (some r) c = Unit {0}
 
 abbrev pub holds : Option (List ℕ) → Option (List ℕ) → Option (List ℕ)
 holds m none = m
 holds m (some r) = some r
 
-unfoldable pub Replay : Option (List ℕ) → List Call → Type 0
+unfoldable pub Replay : Option (List ℕ) → List Logged → Type 0
 Replay m [] = Unit {0}
-Replay m (c ∷ cs) = shows m (c .wrote) c × Replay (holds m (c .wrote)) cs
+Replay m (c ∷ cs) = givesHeld m (c .wrote) c × Replay (holds m (c .wrote)) cs
 
--- "have one order: a call that ended before another began stands ahead of it, and each read gives the last write before it, or blank if none"
-pub record OneOrder (cs : List Call) : Type 0 where
-  pub order : List Call
+-- whoever stands ahead of a call did not begin after it had ended
+abbrev pub InTime : List Logged → Type 0
+InTime order = AllPairs (λ a b. before b a ≡ false) order
+
+-- "have one order: a call that ended before another began stands ahead of it, and each read gives the last write before it, or blank if none".
+-- The order is oldest first; lists of steps and the log are newest first
+pub record OneOrder (cs : List Logged) : Type 0 where
+  pub order : List Logged
   pub exact : Perm order (keep counted cs)
-  pub time : AllPairs (λ a b. before b a ≡ false) order
+  pub time : InTime order
   pub legal : Replay none order
 
 -- a write given up before its complete round is in no order, so that no read gives it
-unfoldable pub NeverRead : List Call → Type 0
-NeverRead cs = (o : OneOrder cs) (w : Call) → In w cs → w .gaveUp ≡ true → w .reached ≡ false → In w (o .order) → ⊥
+unfoldable pub NeverRead : List Logged → Type 0
+NeverRead cs = (o : OneOrder cs) (w : Logged) → In w cs → w .gaveUp ≡ true → w .reached ≡ false → In w (o .order) → ⊥
 
 -- ---- progress
 
-unfoldable pub begunWrites : List Call → ℕ
+unfoldable pub begunWrites : List Logged → ℕ
 begunWrites cs = length (keep (λ c. given (c .wrote)) cs)
 
 -- "A reply refused with 15 hasn't come in"
@@ -140,25 +146,36 @@ cameIn gaveBlank = true
 cameIn (aborted b) = true
 
 -- a read is in hand; or "at most 32 writes have begun". The text asks the second of reads too
-abbrev pub Room : List Call → Hand → Type 0
-Room cs h = (leb 8 (awaits h) ≡ true) ⊎ (begunWrites cs ≤ capacity)
+abbrev pub Room : List Logged → Hand → Type 0
+Room cs h = (isReading h ≡ true) ⊎ (begunWrites cs ≤ capacity)
 
-module _ (s : System) (A : Account (s .config)) (correct : Correct) where
-  -- server b's reply to the round of client c's call n that awaits kind k has come in
-  unfoldable pub CameTo : List (Typed (s .config)) → ℕ → ℕ → ℕ → ℕ → Type 0
-  CameTo l c n k b =
-      Ever
-      (λ x xs. (reply : List ℕ) × (o : List ℕ) × (p : Packet) × (x .step ≡ take-reply c reply o) × (cameIn (A .result x xs) ≡ true) × (decode reply ≡ some p)
-      × (p .head .client ≡ c) × (p .head .server ≡ b) × (p .head .call ≡ n) × (kindOf (p .body) ≡ k) × Sent s A correct (serves b) reply xs)
-      l
+module _ (s : System) (A : Account (StepIn s)) where
+  -- with this step server b's reply to the round of client c's call n that awaits kind k comes in
+  pub record Arrives (c n k b : ℕ) (x : StepIn s) (xs : List (StepIn s)) : Type 0 where
+    pub lent : Lent
+    pub reply : List ℕ
+    pub output : List ℕ
+    pub packet : Packet
+    pub step : x .step ≡ take-reply c lent reply output
+    pub came : cameIn (A .result x xs) ≡ true
+    pub decoded : decode reply ≡ some packet
+    pub client : packet .head .client ≡ c
+    pub server : packet .head .server ≡ b
+    pub call : packet .head .call ≡ n
+    pub kind : kindOf (packet .body) ≡ k
+    pub sent : Sent s A (serves b) reply xs
 
+  unfoldable pub CameTo : List (StepIn s) → ℕ → ℕ → ℕ → ℕ → Type 0
+  CameTo l c n k b = Ever (Arrives c n k b) l
+
+module _ (s : System) (A : Account (StepIn s)) (correct : Correct) where
   -- to the round that it has in hand
-  abbrev pub CameIn : List (Typed (s .config)) → ℕ → ℕ → Type 0
-  CameIn l c b = CameTo l c (A .client l c .calls) (awaits (A .client l c .hand)) b
+  abbrev pub CameIn : List (StepIn s) → ℕ → ℕ → Type 0
+  CameIn l c b = CameTo s A l c (A .client l c .calls) (awaits (A .client l c .hand)) b
 
   -- while a call is in hand, its round lacks replies of S - t correct servers. "A right client's call that isn't given up has ended once
   -- 2t+1 honest boxes' replies to each of its rounds have come in, while at most 32 writes have begun"
-  unfoldable pub Progress : List (Typed (s .config)) → Type 0
+  unfoldable pub Progress : List (StepIn s) → Type 0
   Progress l =
       (c : ℕ) → correct .client c ≡ true → isIdle (A .client l c .hand) ≡ false → Room (log A l) (A .client l c .hand)
       → (bs : List ℕ) → AllPairs (λ a b. eqb a b ≡ false) bs → All (λ b. (correctAt s A correct l b ≡ true) × CameIn l c b) bs
@@ -166,15 +183,16 @@ module _ (s : System) (A : Account (s .config)) (correct : Correct) where
 
 -- ---- the claim, of an account of runs
 
-unfoldable pub OneServer : (s : System) → Account (s .config) → Type 0
+unfoldable pub OneServer : (s : System) → Account (StepIn s) → Type 0
 OneServer s A =
-    (correct : Correct) → Parties (s .config) correct → (l : List (Typed (s .config))) → Always (Premise s A correct) l
+    (correct : Correct) → Parties (s .config) correct → (l : List (StepIn s)) → Always (Premise s A correct) l
     → OneOrder (log A l) × (NeverRead (log A l) × Progress s A correct l)
 
 -- the real digest, tag and fragments, on a shelf of document 01
 abbrev pub systemOf : Shelf → System
 systemOf s = record { P = real; config = configOf s; writers = s .writers; keys = keyOf (s .keys) }
 
--- demand 3, of the operations on bytes
+-- demand 3, of the operations on bytes. A new client's kept bytes may be any
 unfoldable pub Demand3 : Type 0
-Demand3 = (s : Shelf) → 1 ≤ s .t → s .t ≤ topFaults → OneServer (systemOf s) (byBytes real s)
+Demand3 =
+    (s : Shelf) → 1 ≤ s .t → s .t ≤ topFaults → (first : ℕ → List ℕ) → ((c : ℕ) → length (first c) ≡ keptSize) → OneServer (systemOf s) (byBytes real s first)

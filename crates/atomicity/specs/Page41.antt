@@ -10,19 +10,20 @@ use Rattle.cluster.specs.Config.{quorum}
 use Rattle.cluster.specs.Ranges.{topFaults, capacity}
 use Rattle.protocol.specs.Primitives.{real}
 use Rattle.protocol.specs.Client.{awaits}
-use Rattle.protocol.specs.Runs.{Shelf, configOf, Typed, Account, byBytes}
+use Rattle.protocol.specs.Runs.{Shelf, configOf, StepOn, Account, byBytes}
+use Rattle.protocol.specs.View.{keptSize}
 use Rattle.atomicity.specs.Lists.{Always, Once, All, In, AllPairs}
-use Rattle.atomicity.specs.Steps.{System}
+use Rattle.atomicity.specs.Steps.{System, StepIn}
 use Rattle.atomicity.specs.Premises.{Correct, Parties, correctAt, Premise}
-use Rattle.atomicity.specs.Claim.{Call, given, log, before, holds, OneOrder, begunWrites, CameTo, systemOf}
+use Rattle.atomicity.specs.Claim.{Logged, given, log, before, holds, OneOrder, begunWrites, CameTo, systemOf}
 
 -- a call in an order, with its version: the number of writes up to it, and the content of the last of them, none for blank
 pub record Version : Type 0 where
-  pub call : Call
+  pub call : Logged
   pub number : ℕ
   pub content : Option (List ℕ)
 
-unfoldable pub versions : ℕ → Option (List ℕ) → List Call → List Version
+unfoldable pub versions : ℕ → Option (List ℕ) → List Logged → List Version
 versions n m [] = []
 versions n m (c ∷ cs) =
     record { call = c; number = n + cond (given (c .wrote)) 1 0; content = holds m (c .wrote) }
@@ -30,27 +31,28 @@ versions n m (c ∷ cs) =
 
 -- page 41: "once one scope has shown a saved record, no scope later shows an older one". Each read shows the content of its version, and
 -- once a call has ended, no call that begins later has an older version
-unfoldable pub NeverOlder : List Call → Type 0
+unfoldable pub NeverOlder : List Logged → Type 0
 NeverOlder cs =
     (o : OneOrder cs) (r : Version) → In r (versions 0 none (o .order))
     → (r .call .wrote ≡ none → r .call .answer ≡ r .content)
     × ((a : Version) → In a (versions 0 none (o .order)) → before (a .call) (r .call) ≡ true → a .number ≤ r .number)
 
-module _ (s : System) (A : Account (s .config)) (correct : Correct) where
+module _ (s : System) (A : Account (StepIn s)) (correct : Correct) where
   -- S - t correct servers' replies to the round of call n of client c that awaits kind k have come in
-  abbrev pub Answered : List (Typed (s .config)) → ℕ → ℕ → ℕ → Type 0
+  abbrev pub Answered : List (StepIn s) → ℕ → ℕ → ℕ → Type 0
   Answered l c n k =
-      (bs : List ℕ) × AllPairs (λ a b. eqb a b ≡ false) bs × All (λ b. (correctAt s A correct l b ≡ true) × CameTo s A correct l c n k b) bs
+      (bs : List ℕ) × AllPairs (λ a b. eqb a b ≡ false) bs × All (λ b. (correctAt s A correct l b ≡ true) × CameTo s A l c n k b) bs
       × (quorum (s .config) ≤ length bs)
 
   -- "A right client's call that isn't given up has ended once 2t+1 honest boxes' replies to each of its rounds have come in, while at most 32 writes have begun"
-  unfoldable pub Ended : List (Typed (s .config)) → Type 0
+  unfoldable pub Ended : List (StepIn s) → Type 0
   Ended l =
-      (a : Call) → In a (log A l) → correct .client (a .client) ≡ true → a .gaveUp ≡ false → begunWrites (log A l) ≤ capacity
+      (a : Logged) → In a (log A l) → correct .client (a .client) ≡ true → a .gaveUp ≡ false → begunWrites (log A l) ≤ capacity
       → ((k : ℕ) → Once (λ xs. (A .client xs (a .client) .calls ≡ a .number) × (awaits (A .client xs (a .client) .hand) ≡ suc k)) l → Answered l (a .client) (a .number) (suc k))
       → given (a .over) ≡ true
 
 unfoldable pub Page41 : Type 0
 Page41 =
-    (s : Shelf) → 1 ≤ s .t → s .t ≤ topFaults → (correct : Correct) → Parties (configOf s) correct → (l : List (Typed (configOf s)))
-    → Always (Premise (systemOf s) (byBytes real s) correct) l → NeverOlder (log (byBytes real s) l) × Ended (systemOf s) (byBytes real s) correct l
+    (s : Shelf) → 1 ≤ s .t → s .t ≤ topFaults → (first : ℕ → List ℕ) → ((c : ℕ) → length (first c) ≡ keptSize)
+    → (correct : Correct) → Parties (configOf s) correct → (l : List (StepOn s)) → Always (Premise (systemOf s) (byBytes real s first) correct) l
+    → NeverOlder (log (byBytes real s first) l) × Ended (systemOf s) (byBytes real s first) correct l

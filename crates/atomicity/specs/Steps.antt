@@ -1,19 +1,19 @@
 -- What a step gets, makes, checks, digests and shows (document 01, "What the contracts owe", 5). All of it is read off an account of runs:
 -- the step, its result, the bytes sent, and the clients and servers before and after it.
-use mathlib.Core.Bool.{Bool, false, cond, not, _&&_}
+use mathlib.Core.Bool.{Bool, true, false, cond, not, _&&_}
 use mathlib.Core.List.{List, [], _∷_, _++_, map}
 use mathlib.Core.Option.{Option, none, some}
 use Prim.Native.Nat.{ℕ}
-use lib.Dec.{eqb}
+use lib.Dec.{ltb, eqb}
 use Rattle.cluster.specs.Config.{Config, upTo}
 use Rattle.protocol.specs.declared.Stamp.{Stamp}
-use Rattle.protocol.specs.Values.{Candidate, Share, Held}
-use Rattle.protocol.specs.Packet.{Body, Packet, decode}
+use Rattle.protocol.specs.Values.{Candidate, Held, blankStamp, blankCandidate, below}
+use Rattle.protocol.specs.Packet.{Body, Packet, kindOf, decode}
 use Rattle.protocol.specs.Packet.{clock, clockReply, store, storeReply, complete, completeReply, collect, collectReply, filter, filterReply, repair, repairReply}
 use Rattle.protocol.specs.Primitives.{Primitives, stampMessage, candidateMessage}
-use Rattle.protocol.specs.Rules.{ByServer}
-use Rattle.protocol.specs.Server.{Server, byHistory, byTag}
-use Rattle.protocol.specs.Client.{Client, Hand, idle, clocking, storing, completing, collecting, filtering, repairing, checks, accepted}
+use Rattle.protocol.specs.Rules.{ByServer, upd, choice, leader, parts}
+use Rattle.protocol.specs.Server.{Server, byHistory, byTag, best}
+use Rattle.protocol.specs.Client.{Client, Hand, idle, clocking, storing, completing, collecting, filtering, repairing, checks, isFull, stampIn, heldIn, accepted}
 use Rattle.protocol.specs.Runs.{Step, write, read, make, take-reply, give-up, serve, Typed, Account}
 use Rattle.atomicity.specs.Lists.{flat}
 
@@ -24,68 +24,70 @@ pub record System : Type 0 where
   pub writers : List ℕ
   pub keys : ByServer (List ℕ)
 
+-- a step of the system's runs
+abbrev pub StepIn : System → Type 0
+StepIn s = Typed (s .config) (s .writers) (s .keys)
+
 -- ---- the packet that a step gets, and its party
 
--- by the step: of the client that makes a packet; of the client that takes these bytes; of the server that takes these bytes
-abbrev pub onStep : {A : Type 0} → A → (ℕ → A) → (ℕ → List ℕ → A) → (ℕ → List ℕ → A) → Step → A
-onStep other made took served (write c r n) = other
-onStep other made took served (read c) = other
-onStep other made took served (make c b o) = made c
-onStep other made took served (take-reply c p o) = took c p
-onStep other made took served (give-up c) = other
-onStep other made took served (serve b p o) = served b p
-
 abbrev pub bytesIn : Step → List ℕ
-bytesIn x = onStep [] (λ c. []) (λ c p. p) (λ b p. p) x
+bytesIn (write c r n) = []
+bytesIn (read c) = []
+bytesIn (make c b o) = []
+bytesIn (take-reply c lent p o) = p
+bytesIn (give-up c) = []
+bytesIn (serve b p o) = p
 
 abbrev pub packetIn : Step → Option Packet
-packetIn x = onStep none (λ c. none) (λ c p. decode p) (λ b p. decode p) x
+packetIn x = decode (bytesIn x)
 
 -- client c makes a packet; server b takes one
 abbrev pub makes : ℕ → Step → Bool
-makes c x = onStep false (λ d. eqb c d) (λ d p. false) (λ b p. false) x
+makes c (write d r n) = false
+makes c (read d) = false
+makes c (make d b o) = eqb c d
+makes c (take-reply d lent p o) = false
+makes c (give-up d) = false
+makes c (serve b p o) = false
 
 abbrev pub serves : ℕ → Step → Bool
-serves b x = onStep false (λ d. false) (λ d p. false) (λ e p. eqb b e) x
+serves b (write c r n) = false
+serves b (read c) = false
+serves b (make c e o) = false
+serves b (take-reply c lent p o) = false
+serves b (give-up c) = false
+serves b (serve e p o) = eqb b e
 
--- ---- what a packet's body holds
+-- of the packet that was read, if there is one
+abbrev pub ofPacket : {A : Type 0} → (Packet → List A) → Option Packet → List A
+ofPacket f none = []
+ofPacket f (some p) = f p
 
--- by the body: of a complete, of a filter, of a repair, of a clock reply, of a filter reply
-abbrev pub onBody : {A : Type 0} → A → (Candidate → A) → (List Candidate → A) → (Candidate → A) → (Stamp → A) → (Held → A) → Body → A
-onBody other done sifts mends clocks sifted clock = other
-onBody other done sifts mends clocks sifted (clockReply a) = clocks a
-onBody other done sifts mends clocks sifted (store w) = other
-onBody other done sifts mends clocks sifted (storeReply n) = other
-onBody other done sifts mends clocks sifted (complete c) = done c
-onBody other done sifts mends clocks sifted completeReply = other
-onBody other done sifts mends clocks sifted collect = other
-onBody other done sifts mends clocks sifted (collectReply c) = other
-onBody other done sifts mends clocks sifted (filter cs) = sifts cs
-onBody other done sifts mends clocks sifted (filterReply h) = sifted h
-onBody other done sifts mends clocks sifted (repair c) = mends c
-onBody other done sifts mends clocks sifted repairReply = other
+abbrev pub isComplete : Body → Bool
+isComplete x = eqb (kindOf x) 5
 
--- the candidates that it shows, and those that a server judges by their tags
-abbrev pub shown : Body → List Candidate
-shown x = onBody [] (λ c. c ∷ []) (λ cs. cs) (λ c. c ∷ []) (λ a. []) (λ h. []) x
+-- the candidates that a packet offers to its server
+abbrev pub offered : Body → List Candidate
+offered clock = []
+offered (clockReply a) = []
+offered (store w) = []
+offered (storeReply n) = []
+offered (complete c) = c ∷ []
+offered completeReply = []
+offered collect = []
+offered (collectReply c) = []
+offered (filter cs) = cs
+offered (filterReply h) = []
+offered (repair c) = c ∷ []
+offered repairReply = []
 
-abbrev pub judged : Body → List Candidate
-judged x = onBody [] (λ c. []) (λ cs. cs) (λ c. c ∷ []) (λ a. []) (λ h. []) x
+-- those that it judges: complete's is taken as it is
+abbrev pub tested : Body → List Candidate
+tested x = cond (isComplete x) [] (offered x)
 
--- the stamp of a clock reply, and the fragment of a filter reply
-abbrev pub clockStamps : Body → List Stamp
-clockStamps x = onBody [] (λ c. []) (λ cs. []) (λ c. []) (λ a. a ∷ []) (λ h. []) x
-
-abbrev pub partIn : Option Share → List (List ℕ)
-partIn none = []
-partIn (some h) = h .part ∷ []
-
-abbrev pub fragments : Body → List (List ℕ)
-fragments x = onBody [] (λ c. []) (λ cs. []) (λ c. []) (λ a. []) (λ h. partIn (h .share)) x
-
-abbrev pub inPacket : {A : Type 0} → (Body → List A) → Option Packet → List A
-inPacket f none = []
-inPacket f (some p) = f (p .body)
+-- a candidate, unless it is blank
+abbrev pub nonblank : Candidate → List Candidate
+nonblank c = cond (below blankStamp (c .stamp)) (c ∷ []) []
 
 -- ---- a write that gets its stamp: at the reply that ends clock the hand was clocking and is storing
 
@@ -112,7 +114,12 @@ stampedFrom c (repairing d r) h = []
 
 -- by the clients before and after the step
 unfoldable pub stampedBy : (ℕ → Client) → (ℕ → Client) → Step → List Stamped
-stampedBy was is x = onStep [] (λ c. []) (λ c p. stampedFrom c (was c .hand) (is c .hand)) (λ b p. []) x
+stampedBy was is (write c r n) = []
+stampedBy was is (read c) = []
+stampedBy was is (make c b o) = []
+stampedBy was is (take-reply c lent p o) = stampedFrom c (was c .hand) (is c .hand)
+stampedBy was is (give-up c) = []
+stampedBy was is (serve b p o) = []
 
 module _ (s : System) where
   -- (key, bytes) of the tags that are made with a stamp, and the inputs that are digested with it
@@ -124,45 +131,95 @@ module _ (s : System) where
   unfoldable pub digestsWith : Stamped → List (List ℕ)
   digestsWith m = m .nonce ∷ map (λ i. s .P .fragment (s .config .points) (s .config .shares) (m .content) i) (upTo (s .config .servers))
 
-  -- (key, bytes) of the tags that check: of a clock reply's stamp, and of a candidate that the server's history does not vouch for
-  unfoldable pub clockChecks : Stamp → List (List ℕ × List ℕ)
-  clockChecks a = cond (checks (s .P) (s .writers) a) ((s .writers, stampMessage (a .number) (a .writer)) ∷ []) []
+  -- the candidate on which server b's answer to a filter or a repair rests: the highest valid one, if there is one. The definition judges every
+  -- candidate of a filter, the code those that are not lower: it is asked of this one alone
+  unfoldable pub judged : ℕ → Server → Body → List Candidate
+  judged b v x = nonblank (best (s .P) (s .config) (s .keys b) b v (blankCandidate (s .config)) (tested x))
 
+  -- (key, bytes) of the tags that check: of a candidate that the server's history does not vouch for
   unfoldable pub serverChecks : ℕ → Server → Candidate → List (List ℕ × List ℕ)
   serverChecks b v c =
       cond (not (byHistory (s .P) (s .config) (s .keys b) b v c) && byTag (s .P) (s .config) (s .keys b) b c)
       ((s .keys b, candidateMessage (c .stamp) (s .P .digest (c .nonce))) ∷ []) []
 
-  unfoldable pub checkedBy : (ℕ → Server) → Step → List (List ℕ × List ℕ)
-  checkedBy v x = onStep [] (λ c. []) (λ c p. flat clockChecks (inPacket clockStamps (decode p))) (λ b p. flat (serverChecks b (v b)) (inPacket judged (decode p))) x
+  -- and of the stamp in a reply x to clock that is above the highest number so far: no other is looked at
+  unfoldable pub clientChecks : Hand → Body → List (List ℕ × List ℕ)
+  clientChecks idle x = []
+  clientChecks (clocking r n h) x =
+      let a = stampIn x in
+      cond (checks (s .P) (s .writers) a && ltb h (a .number)) ((s .writers, stampMessage (a .number) (a .writer)) ∷ []) []
+  clientChecks (storing d h) x = []
+  clientChecks (completing d) x = []
+  clientChecks (collecting g) x = []
+  clientChecks (filtering cs g) x = []
+  clientChecks (repairing d r) x = []
 
-  unfoldable pub digestedBy : List Stamped → Step → List (List ℕ)
-  digestedBy ms x = onStep [] (λ c. []) (λ c p. flat digestsWith ms ++ inPacket fragments (decode p)) (λ b p. map (λ c. c .nonce) (inPacket judged (decode p))) x
+  -- by the clients and servers before the step
+  unfoldable pub checkedBy : (ℕ → Client) → (ℕ → Server) → Step → List (List ℕ × List ℕ)
+  checkedBy w v (write c r n) = []
+  checkedBy w v (read c) = []
+  checkedBy w v (make c b o) = []
+  checkedBy w v (take-reply c lent p o) = ofPacket (λ q. clientChecks (w c .hand) (q .body)) (decode p)
+  checkedBy w v (give-up c) = []
+  checkedBy w v (serve b p o) = ofPacket (λ q. flat (serverChecks b (v b)) (judged b (v b) (q .body))) (decode p)
+
+  -- the fragments that prove the candidate chosen: those of the leader's group. More are digested: it is asked of these alone
+  unfoldable pub proving : ByServer Bool → ByServer Held → Option Candidate → List (List ℕ)
+  proving m g none = []
+  proving m g (some d) =
+      map (λ p. p .bytes) (parts (s .P) (s .config) m g d (leader (s .P) (s .config) m g d (s .config .servers)) (s .config .servers))
+
+  -- by the client before the step; they are looked at once the round is full
+  unfoldable pub compared : Client → Hand → Packet → List (List ℕ)
+  compared cl idle p = []
+  compared cl (clocking r n k) p = []
+  compared cl (storing d h) p = []
+  compared cl (completing d) p = []
+  compared cl (collecting g) p = []
+  compared cl (filtering cs g) p =
+      let m = upd (cl .marks) (p .head .server) true in
+      let g' = upd g (p .head .server) (heldIn (p .body)) in
+      cond (isFull (s .config) m) (proving m g' (choice (s .P) (s .config) m g' cs)) []
+  compared cl (repairing d r) p = []
+
+  -- with the stamps that the step makes
+  unfoldable pub digestedBy : (ℕ → Client) → (ℕ → Server) → List Stamped → Step → List (List ℕ)
+  digestedBy w v ms (write c r n) = []
+  digestedBy w v ms (read c) = []
+  digestedBy w v ms (make c b o) = []
+  digestedBy w v ms (take-reply c lent p o) = flat digestsWith ms ++ ofPacket (compared (w c) (w c .hand)) (decode p)
+  digestedBy w v ms (give-up c) = []
+  digestedBy w v ms (serve b p o) = map (λ c. c .nonce) (ofPacket (λ q. judged b (v b) (q .body)) (decode p))
 
   unfoldable pub noncesBy : Step → List (List ℕ)
-  noncesBy x = onStep [] (λ c. []) (λ c p. []) (λ b p. map (λ c. c .nonce) (inPacket shown (decode p))) x
+  noncesBy (write c r n) = []
+  noncesBy (read c) = []
+  noncesBy (make c b o) = []
+  noncesBy (take-reply c lent p o) = []
+  noncesBy (give-up c) = []
+  noncesBy (serve b p o) = map (λ c. c .nonce) (ofPacket (λ q. offered (q .body)) (decode p))
 
   -- ---- of a step x after the steps xs, by an account. A refused step checks, digests and shows nothing: the premises then ask less
-  module _ (A : Account (s .config)) where
-    abbrev pub ok : Typed (s .config) → List (Typed (s .config)) → Bool
+  module _ (A : Account (StepIn s)) where
+    abbrev pub ok : StepIn s → List (StepIn s) → Bool
     ok x xs = accepted (A .result x xs)
 
-    abbrev pub stampedAt : Typed (s .config) → List (Typed (s .config)) → List Stamped
+    abbrev pub stampedAt : StepIn s → List (StepIn s) → List Stamped
     stampedAt x xs = stampedBy (A .client xs) (A .client (x ∷ xs)) (x .step)
 
-    abbrev pub tagsMade : Typed (s .config) → List (Typed (s .config)) → List (List ℕ × List ℕ)
+    abbrev pub tagsMade : StepIn s → List (StepIn s) → List (List ℕ × List ℕ)
     tagsMade x xs = flat tagsWith (stampedAt x xs)
 
-    abbrev pub tagsChecked : Typed (s .config) → List (Typed (s .config)) → List (List ℕ × List ℕ)
-    tagsChecked x xs = cond (ok x xs) (checkedBy (A .server xs) (x .step)) []
+    abbrev pub tagsChecked : StepIn s → List (StepIn s) → List (List ℕ × List ℕ)
+    tagsChecked x xs = cond (ok x xs) (checkedBy (A .client xs) (A .server xs) (x .step)) []
 
-    abbrev pub digested : Typed (s .config) → List (Typed (s .config)) → List (List ℕ)
-    digested x xs = cond (ok x xs) (digestedBy (stampedAt x xs) (x .step)) []
+    abbrev pub digested : StepIn s → List (StepIn s) → List (List ℕ)
+    digested x xs = cond (ok x xs) (digestedBy (A .client xs) (A .server xs) (stampedAt x xs) (x .step)) []
 
-    unfoldable pub allDigested : List (Typed (s .config)) → List (List ℕ)
+    unfoldable pub allDigested : List (StepIn s) → List (List ℕ)
     allDigested [] = []
     allDigested (x ∷ xs) = digested x xs ++ allDigested xs
 
     -- the nonces that a server's step gets
-    abbrev pub noncesGot : Typed (s .config) → List (Typed (s .config)) → List (List ℕ)
+    abbrev pub noncesGot : StepIn s → List (StepIn s) → List (List ℕ)
     noncesGot x xs = cond (ok x xs) (noncesBy (x .step)) []

@@ -1,3 +1,4 @@
+pub mod RoundsSame
 pub mod TakeSame
 pub mod StepsSame
 pub mod Tests

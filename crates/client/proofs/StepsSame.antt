@@ -1,15 +1,15 @@
 -- Begins, giving up and making a packet, by the call's own fields on bytes, are those that look at the bytes as a client and put it back: for every state.
 -- Refusals are one list; what an accepted step writes is the same. The width of the marks is that of their type. Nothing is assumed.
 use mathlib.Core.Path.{_≡_, refl, sym, ap, _∙_, subst}
-use mathlib.Core.Bool.{Bool, true, false, cond, not, true≢false}
+use mathlib.Core.Bool.{Bool, true, false, cond, not}
 use mathlib.Core.List.{List, []}
 use mathlib.Core.Option.{none, some}
 use Prim.Native.Nat.{ℕ, zero, suc, _*_}
 use lib.Dec.{T, eqb}
 use lib.ListN.{length, replicate}
-use borrow.Author.Tests.{ne-eqb, not-false}
+use borrow.Author.Tests.{not-false}
 use Rattle.cluster.specs.Config.{Config, shelf}
-use Rattle.cluster.specs.Ranges.{within, mostServers, topWriter, topClient, leastLength, topLength}
+use Rattle.cluster.specs.Ranges.{within, mostServers, topClient}
 use Rattle.cluster.specs.Refusals.{onRefusal}
 use Rattle.cluster.proofs.Tests.{passes}
 use Rattle.protocol.specs.declared.Call.{Call}
@@ -108,7 +108,8 @@ module _ (t client : ℕ) (c : Call) (wide : length (c .tally .marks) ≡ mostSe
   unfolding giveUp abortByRounds abortStep
   same-abort =
       at-refusals gave-up _ (λ n. record { client = view s c []; result = refused n })
-      (λ n. record { answer = cond (eqb (c .tally .round) 3) aborts.InComplete aborts.Before; call = withTally c (fresh 0) }) (λ n. record { answer = aborts.Refused n; call = c }) _ _
+      (λ n. record { answer = cond (eqb (c .tally .round) 3) aborts.InComplete aborts.Before; call = withTally c (fresh 0) })
+      (λ n. record { answer = aborts.Refused n; call = c }) _ _
       (ap (λ (z : Bool). abortRefusal s client z) (pending-is s c []))
       (λ e. end (abort-busy s client (inHand c) e)) (λ k. unfold after in refl)
     where

@@ -112,7 +112,8 @@ module _ (t client : ℕ) (writers : List ℕ) (keys : List (List ℕ)) (c : Cal
   core-take h = rw (eq-eqb (length kept) keptSize h)
 
   -- what take answers, the relation gives
-  pub taken-in : (a : Answered) (kept' output' : List ℕ) → length (c .tally .marks) ≡ mostServers → length kept ≡ keptSize → TakesAs t client writers keys c kept reply output a kept' output'
+  pub taken-in : (a : Answered) (kept' output' : List ℕ) → length (c .tally .marks) ≡ mostServers → length kept ≡ keptSize
+      → TakesAs t client writers keys c kept reply output a kept' output'
       → (a ≡ answered (coreTake t client writers keys c kept reply output))
       × ((kept' ≡ coreTake t client writers keys c kept reply output .kept) × (output' ≡ coreTake t client writers keys c kept reply output .output))
   taken-in a kept' output' w h e =

@@ -1,22 +1,21 @@
--- The client's operations by rounds on bytes: a step on the way to the definitions of crate protocol, which they equal for every state (`same-take` and the like in proofs/).
+-- The client's operations by rounds on bytes: a step on the way to the definitions of crate protocol, which they equal
+-- for every state (`same-take` and the like in proofs/).
 use mathlib.Core.Bool.{Bool, true, cond, _&&_}
-use mathlib.Core.List.{List, [], _∷_, _++_}
+use mathlib.Core.List.{List, [], _∷_}
 use mathlib.Core.Option.{Option, none, some}
-use Prim.Native.Nat.{ℕ, zero, suc, _+_, _-_, _*_}
+use Prim.Native.Nat.{ℕ, suc, _+_, _-_, _*_}
 use lib.Dec.{leb, eqb}
-use lib.ListN.{length, take, drop, set, replicate}
+use lib.ListN.{length, set, replicate}
 use Rattle.cluster.specs.Config.{Config, shelf}
-use Rattle.cluster.specs.Ranges.{within, mostServers, topNumber}
+use Rattle.cluster.specs.Ranges.{mostServers, topNumber}
 use Rattle.cluster.specs.Refusals.{onRefusal}
-use Rattle.cluster.specs.declared.Outcome.{Outcome}
 use Rattle.protocol.specs.declared.Call.{Call}
 use Rattle.protocol.specs.declared.Tally.{Tally}
 use Rattle.protocol.specs.declared.Taken.{Taken}
 use Rattle.protocol.specs.declared.Taken.the-variants as taken
-use Rattle.protocol.specs.declared.Aborted.{Aborted}
 use Rattle.protocol.specs.declared.Aborted.the-variants as aborts
-use Rattle.protocol.specs.Values.{Candidate, Share, Held, sameList}
-use Rattle.protocol.specs.Packet.{Body, Packet, decode, encode, anyCandidateF, candidateF, shareF, heldF}
+use Rattle.protocol.specs.Values.{Candidate, Held, sameList}
+use Rattle.protocol.specs.Packet.{Body, Packet, decode, encode, anyCandidateF, candidateF, heldF}
 use Rattle.protocol.specs.Primitives.{Primitives}
 use Rattle.protocol.specs.Rules.{ByServer, upd, countTo, gather, live, choice, leader, restoredBy, tagsIn}
 use Rattle.protocol.specs.Client.{isFull, higher, stampIn, codeIn, candidateIn, heldIn, made, candidateMade, sharesMade, writeRefusal, readRefusal, makeRefusal, abortRefusal, takeRefusal}

@@ -157,7 +157,8 @@ module _ (out : List ℕ) (n : ℕ) (in-out : n ≤ length out) (small : n ≤ p
 
   made-part : Makes (record { result = o; output = x }) (clientMake t client b c kept out)
   unfolding makeByRounds
-  made-part = rw (e ∙ same-make t client c b kept (take n out), same-make t client c b kept out, refusal-is) (by-refusal (makeRefusal (shelf t) client b (inHand c) (length (take n out)))
+  made-part = rw (e ∙ same-make t client c b kept (take n out), same-make t client c b kept out, refusal-is)
+      (by-refusal (makeRefusal (shelf t) client b (inHand c) (length (take n out)))
       (sym (ap (λ (w : Written). length (w .output)) (e ∙ same-make t client c b kept (take n out))) ∙ keeps ∙ length-take-le n out in-out))
 
   pub made-count : o .count ≤ packetRoom

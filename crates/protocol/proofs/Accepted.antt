@@ -6,10 +6,10 @@ use mathlib.Core.List.{List}
 use mathlib.Core.Option.{none, some}
 use Prim.Native.Nat.{ℕ, zero, suc, _≤_}
 use native.Mathlib.Omega.{arith}
-use lib.Dec.{leb, ltb, eqb, lit<}
+use lib.Dec.{leb, eqb, lit<}
 use borrow.Author.Tests.{eqb-true, leb-true, not-false, ne-eqb}
 use Rattle.cluster.specs.Config.{Config, shelf}
-use Rattle.cluster.specs.Ranges.{within, topWriter, topClient, topNumber, leastLength, topLength, contentRoom}
+use Rattle.cluster.specs.Ranges.{within, topWriter, topClient, topNumber, leastLength, topLength}
 use Rattle.cluster.proofs.Tests.{and-both, or-none, and-rest, passes}
 use Rattle.protocol.specs.declared.Call.{Call}
 use Rattle.protocol.specs.Format.{via, seq, keep, byte}
@@ -42,7 +42,8 @@ module _ (s : Config) (client : ℕ) (p : Packet) (calls kind : ℕ) (replied : 
   same-kind e i =
       let n = or-none (not (eqb (p .head .call) calls && eqb (kindOf (p .body)) kind)) (replied (p .head .server))
       (and-rest (not (eqb kind 0)) _ (ap not i) e) .0 in
-      eqb-true (kindOf (p .body)) kind (and-both (eqb (p .head .call) calls) (eqb (kindOf (p .body)) kind) (not-false (eqb (p .head .call) calls && eqb (kindOf (p .body)) kind) n) .1)
+      eqb-true (kindOf (p .body)) kind
+      (and-both (eqb (p .head .call) calls) (eqb (kindOf (p .body)) kind) (not-false (eqb (p .head .call) calls && eqb (kindOf (p .body)) kind) n) .1)
 
   -- what an accepted packet is known by
   pub record Accepted (high : ℕ → Body → Bool) : Type 0 where

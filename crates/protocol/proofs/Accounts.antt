@@ -4,6 +4,7 @@ use mathlib.Core.Path.{_≡_, refl, sym, ap, subst}
 use mathlib.Core.Bool.{Bool, true, false, cond}
 use mathlib.Core.List.{List, [], _∷_}
 use Prim.Native.Nat.{ℕ, _≤_}
+use lib.ListN.{length}
 use borrow.Author.Tests.{leb-true}
 use Rattle.cluster.specs.Config.{Config, shelf}
 use Rattle.cluster.specs.Ranges.{within, topFaults}
@@ -13,15 +14,18 @@ use Rattle.protocol.specs.Primitives.{Primitives, Lengths}
 use Rattle.protocol.specs.Server.{Server, blankServer}
 use Rattle.protocol.specs.ServerBytes.{serverIn, memoryOf}
 use Rattle.protocol.specs.ClientBytes.{keyOf}
-use Rattle.protocol.specs.Runs.{Shelf, configOf, Typed, steps, Account, serverOr, byBytes, byValues, doBytes, nowBytes, doValues, nowValues}
+use Rattle.protocol.specs.Runs.{Shelf, configOf, StepOn, steps, Account, serverOr, byBytes, doBytes, nowBytes}
+use Rattle.protocol.specs.View.{keptSize}
+use Rattle.protocol.proofs.ValueRuns.{byValues, doValues, nowValues}
 use Rattle.protocol.proofs.ServerLift.{Holds, holds-decodes}
 use Rattle.protocol.proofs.RunLift.{Matches, Agrees, AllFed, run-matches, run-agrees}
 
-module _ (P : Primitives) (law : Lengths P) (sh : Shelf) (tr : (1 ≤ sh .t) × (sh .t ≤ topFaults)) where
+module _ (P : Primitives) (law : Lengths P) (sh : Shelf) (tr : (1 ≤ sh .t) × (sh .t ≤ topFaults)) (first : ℕ → List ℕ)
+    (sized : (c : ℕ) → length (first c) ≡ keptSize) where
   abbrev s : Config
   s = configOf sh
 
-  steps-fed : (l : List (Typed s)) → AllFed P law sh tr (steps l)
+  steps-fed : (l : List (StepOn sh)) → AllFed P law sh tr (steps l)
   unfolding AllFed
   steps-fed [] = tt
   steps-fed (x ∷ xs) = (x .fed, steps-fed xs)
@@ -30,29 +34,29 @@ module _ (P : Primitives) (law : Lengths P) (sh : Shelf) (tr : (1 ≤ sh .t) × 
   unfolding serverIn memoryOf
   server-same b v memory h = ap (serverOr s) (unfold memoryOf in holds-decodes h)
 
-  match : (xs : List (Typed s)) → Matches P law sh tr (nowBytes P sh (steps xs)) (nowValues P s (sh .writers) (keyOf (sh .keys)) (steps xs))
-  match xs = run-matches P law sh tr (steps xs) (steps-fed xs)
+  match : (xs : List (StepOn sh)) → Matches P law sh tr (nowBytes P sh first (steps xs)) (nowValues P s (sh .writers) (keyOf (sh .keys)) (steps xs))
+  match xs = run-matches P law sh tr first sized (steps xs) (steps-fed xs)
 
-  agree : (x : Typed s) (xs : List (Typed s))
+  agree : (x : StepOn sh) (xs : List (StepOn sh))
       → Agrees P law sh tr (doValues P s (sh .writers) (keyOf (sh .keys)) (nowValues P s (sh .writers) (keyOf (sh .keys)) (steps xs)) (x .step))
-      (doBytes P sh (nowBytes P sh (steps xs)) (x .step))
-  agree x xs = run-agrees P law sh tr (x .step) (steps xs) (x .fed) (steps-fed xs)
+      (doBytes P sh (nowBytes P sh first (steps xs)) (x .step))
+  agree x xs = run-agrees P law sh tr first sized (x .step) (steps xs) (x .fed) (steps-fed xs)
 
-  server-at : (xs : List (Typed s)) (b : ℕ)
-      → cond (within 1 (s .servers) b) (serverOr s (decodeMemory (nowBytes P sh (steps xs) .memory b))) (blankServer s)
+  server-at : (xs : List (StepOn sh)) (b : ℕ)
+      → cond (within 1 (s .servers) b) (serverOr s (decodeMemory (nowBytes P sh first (steps xs) .memory b))) (blankServer s)
       ≡ cond (within 1 (s .servers) b) (nowValues P s (sh .writers) (keyOf (sh .keys)) (steps xs) .server b) (blankServer s)
   server-at xs b = go (within 1 (shelf (sh .t) .servers) b) refl
     where
       go : (q : Bool) → within 1 (shelf (sh .t) .servers) b ≡ q
-          → cond q (serverOr (shelf (sh .t)) (decodeMemory (nowBytes P sh (steps xs) .memory b))) (blankServer (shelf (sh .t)))
+          → cond q (serverOr (shelf (sh .t)) (decodeMemory (nowBytes P sh first (steps xs) .memory b))) (blankServer (shelf (sh .t)))
           ≡ cond q (nowValues P (shelf (sh .t)) (sh .writers) (keyOf (sh .keys)) (steps xs) .server b) (blankServer (shelf (sh .t)))
       go false e = refl
       go true e =
           let (lo, hi) = and-both _ _ e in
-          server-same b _ (nowBytes P sh (steps xs) .memory b) (match xs .memory b (leb-true 1 b lo) (leb-true b (shelf (sh .t) .servers) hi))
+          server-same b _ (nowBytes P sh first (steps xs) .memory b) (match xs .memory b (leb-true 1 b lo) (leb-true b (shelf (sh .t) .servers) hi))
 
   -- bytes and values give one account
-  pub accounts : byBytes P sh ≡ byValues P s (sh .writers) (keyOf (sh .keys))
+  pub accounts : byBytes P sh first ≡ byValues P s (sh .writers) (keyOf (sh .keys))
   unfolding byBytes byValues
   accounts =
       λ i.
@@ -64,5 +68,5 @@ module _ (P : Primitives) (law : Lengths P) (sh : Shelf) (tr : (1 ≤ sh .t) × 
       }
 
   -- whatever is claimed of the account by values holds of the account by bytes
-  pub claimed : (C : Account s → Type 0) → C (byValues P s (sh .writers) (keyOf (sh .keys))) → C (byBytes P sh)
+  pub claimed : (C : Account (StepOn sh) → Type 0) → C (byValues P s (sh .writers) (keyOf (sh .keys))) → C (byBytes P sh first)
   claimed C h = subst C (sym accounts) h

@@ -16,7 +16,7 @@ use Rattle.protocol.specs.declared.Tally.{Tally}
 use Rattle.protocol.specs.Values.{blankCandidate, nonceSize}
 use Rattle.protocol.specs.Rules.{nobody}
 use Rattle.protocol.specs.Client.{Client, idle, clocking, collecting, begun, onto, awaits, isIdle}
-use Rattle.protocol.specs.View.{part, marked, contentOf, nonceOf, handOf, view, keptSize, nonceAt, candidateSlot, candidatesAt}
+use Rattle.protocol.specs.View.{part, contentOf, nonceOf, handOf, view, keptSize, nonceAt, candidateSlot, candidatesAt}
 use Rattle.protocol.specs.ClientBytes.{put, fresh, inHand, awaited}
 use Rattle.protocol.proofs.Puts.{put-length}
 use Rattle.protocol.proofs.Places.{part-same, part-below}
@@ -145,7 +145,8 @@ module _ (s : Config) (c : Call) (kept : List ℕ) (h : Sound s c kept) where
       }
 
   -- giving up, or the end of a call
-  pub idled : Lifted s (onto (view s c kept) nobody idle) (record { number = c .number; last = c .last; high = c .high; length = c .length; tally = fresh 0 }) kept
+  pub idled : Lifted s (onto (view s c kept) nobody idle)
+      (record { number = c .number; last = c .last; high = c .high; length = c .length; tally = fresh 0 }) kept
   unfolding view handOf fresh onto
   idled =
       record {

@@ -1,6 +1,6 @@
 -- The count in a client's bytes: after every accepted step it is the number of the shelf's servers that are marked, whatever was lent.
 -- A mark put back stands for its mark, place by place. Nothing is assumed.
-use mathlib.Core.Path.{_≡_, refl, sym, _∙_}
+use mathlib.Core.Path.{_≡_, refl, sym}
 use mathlib.Core.Bool.{Bool, true, false, cond, not}
 use mathlib.Core.List.{List}
 use Prim.Native.Nat.{ℕ, zero, suc, _+_, _≤_, _<_}
@@ -9,10 +9,9 @@ use lib.Dec.{eqb}
 use lib.ListN.{length, getD}
 use borrow.Author.Tests.{ne-eqb}
 use Rattle.cluster.specs.Config.{Config}
-use Rattle.cluster.specs.Refusals.{onRefusal}
 use Rattle.protocol.specs.declared.Call.{Call}
 use Rattle.protocol.specs.Rules.{ByServer, countTo}
-use Rattle.protocol.specs.Client.{Client, Turn}
+use Rattle.protocol.specs.Client.{Turn}
 use Rattle.protocol.specs.View.{marked}
 use Rattle.protocol.specs.ClientBytes.{putMarks, putBack, told, after}
 use Rattle.protocol.proofs.PutMarks.{marks-at}

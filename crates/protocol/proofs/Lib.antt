@@ -30,7 +30,12 @@ pub mod MakeLift
 pub mod Sized
 pub mod PutMarks
 pub mod Counts
+pub mod Noted
+pub mod WriteSeen
+pub mod ReadSeen
 pub mod TakeSeen
 pub mod StepLift
+pub mod ValueRuns
+pub mod LentKeys
 pub mod RunLift
 pub mod Accounts

@@ -6,7 +6,7 @@ use mathlib.Core.List.{List, [], _∷_}
 use mathlib.Core.Option.{Option, none, some}
 use Prim.Native.Nat.{ℕ, _≤_}
 use lib.Dec.{eqb}
-use lib.ListN.{length, take, length-replicate}
+use lib.ListN.{length, take}
 use borrow.Author.Tests.{eqb-true, leb-true}
 use Rattle.cluster.specs.Config.{Config, shelf}
 use Rattle.cluster.specs.Ranges.{topFaults}
@@ -19,8 +19,10 @@ use Rattle.protocol.specs.Server.{Stepped, serverStep}
 use Rattle.protocol.specs.ServerBytes.{Served, serverTake}
 use Rattle.protocol.specs.Client.{Client, Turn, Result, idle, newClient, writeStep, readStep, abortStep, takeStep, makeStep}
 use Rattle.protocol.specs.View.{handOf, view, keptSize}
-use Rattle.protocol.specs.ClientBytes.{fresh, keyOf, clientMake}
-use Rattle.protocol.specs.Runs.{Shelf, configOf, Step, write, read, make, take-reply, give-up, serve, resultOf, sentOf, Machine, Machines, Done, newMachine, setMachine, doBytes, nowBytes, World, After, setClient, doValues, nowValues, Fed}
+use Rattle.protocol.specs.ClientBytes.{fresh, keyOf, clientMake, clientTake}
+use Rattle.protocol.specs.Runs.{Shelf, configOf, Step, write, read, make, take-reply, give-up, serve, resultOf, takenOut, sentOf, Machine, Machines, Done, newCall, setMachine, doBytes, nowBytes, Fed}
+use Rattle.protocol.proofs.ValueRuns.{World, After, setClient, doValues, nowValues}
+use Rattle.protocol.proofs.LentKeys.{take-lent}
 use Rattle.protocol.proofs.Answers.{no-some}
 use Rattle.protocol.proofs.Bodies.{decode-encode}
 use Rattle.protocol.proofs.Room.{Fitting, shelf-fits}
@@ -138,16 +140,19 @@ module _ (P : Primitives) (law : Lengths P) (sh : Shelf) (tr : (1 ≤ sh .t) × 
             (x .memory)
         go i l k false e = m .memory i l k
 
-    step-agrees : (x : Step) → Fed s x → Agrees (doValues P s (sh .writers) keys v x) (doBytes P sh w x)
+    step-agrees : (x : Step) → Fed s (sh .writers) keys x → Agrees (doValues P s (sh .writers) keys v x) (doBytes P sh w x)
     unfolding doValues doBytes
     step-agrees (write c r n) f =
         at-client c (λ y. writeStep s c y r n) _ _ (write-good (sh .t) c (w .client c .call) (w .client c .kept) tr fits (sound c) (here c) r n
         (f .1 .1))
     step-agrees (read c) f = at-client c (readStep s c) _ _ (read-good (sh .t) c (w .client c .call) (w .client c .kept) tr fits (sound c) (here c))
     step-agrees (make c b output) f = unfold doValues doBytes in make-agrees c b output
-    step-agrees (take-reply c reply output) f =
+    step-agrees (take-reply c lent reply output) f =
+        let d = clientTake P (sh .t) c (lent .writers) (lent .keys) (w .client c .call) (w .client c .kept) reply output in
         at-client c (λ y. takeStep P s c (sh .writers) keys y (decode reply) (length output)) _ _
-        (take-good (sh .t) c (w .client c .call) (w .client c .kept) tr fits (sound c) (here c) P law (sh .writers) (sh .keys) reply output)
+        (subst (λ (u : Turn). Good s c u (record { call = d .call; kept = d .kept }) (takenOut (d .answer) (d .output)))
+        (take-lent P s c (sh .writers) keys lent _ (decode reply) (length output) (here c) (f .1))
+        (take-good (sh .t) c (w .client c .call) (w .client c .kept) tr fits (sound c) (here c) P law (lent .writers) (lent .keys) reply output))
     step-agrees (give-up c) f = at-client c (abortStep s c) _ _ (abort-good (sh .t) c (w .client c .call) (w .client c .kept) tr fits (sound c)
         (here c))
     step-agrees (serve b packet output) f =
@@ -157,26 +162,27 @@ module _ (P : Primitives) (law : Lengths P) (sh : Shelf) (tr : (1 ≤ sh .t) × 
 
   unfoldable pub AllFed : List Step → Type 0
   AllFed [] = Unit {0}
-  AllFed (x ∷ xs) = Fed s x × AllFed xs
+  AllFed (x ∷ xs) = Fed s (sh .writers) keys x × AllFed xs
 
-  start : Lifted s newClient (newMachine .call) (newMachine .kept)
-  unfolding view handOf fresh
-  start =
-      record {
-        seen = λ i. record { calls = 0; last = 0; marks = marked-fresh i; hand = idle };
-        sound = fresh-sound s 0 (newMachine .call) (newMachine .kept) (unfold fresh in refl) (length-replicate {A = ℕ} keptSize 0);
-      }
+  module _ (first : ℕ → List ℕ) (sized : (c : ℕ) → length (first c) ≡ keptSize) where
+    start : (c : ℕ) → Lifted s newClient newCall (first c)
+    unfolding view handOf fresh
+    start c =
+        record {
+          seen = λ i. record { calls = 0; last = 0; marks = marked-fresh i; hand = idle };
+          sound = fresh-sound s 0 newCall (first c) (unfold fresh in refl) (sized c);
+        }
 
-  -- at every moment the bytes match the values
-  pub run-matches : (l : List Step) → AllFed l → Matches (nowBytes P sh l) (nowValues P s (sh .writers) keys l)
-  unfolding nowBytes nowValues AllFed
-  run-matches [] f = record { client = λ c. start; fine = start-fine s; memory = λ b lo hi. blank-holds (sh .t) b tr (lo, hi) }
-  run-matches (x ∷ xs) f = step-agrees (nowBytes P sh xs) (nowValues P s (sh .writers) keys xs) (run-matches xs (f .1)) x (f .0) .matches
+    -- at every moment the bytes match the values
+    pub run-matches : (l : List Step) → AllFed l → Matches (nowBytes P sh first l) (nowValues P s (sh .writers) keys l)
+    unfolding nowBytes nowValues AllFed
+    run-matches [] f = record { client = start; fine = start-fine s; memory = λ b lo hi. blank-holds (sh .t) b tr (lo, hi) }
+    run-matches (x ∷ xs) f = step-agrees (nowBytes P sh first xs) (nowValues P s (sh .writers) keys xs) (run-matches xs (f .1)) x (f .0) .matches
 
-  -- and each step gives the same result and sends the same packet
-  pub run-agrees : (x : Step) (xs : List Step) → Fed s x → AllFed xs
-      → Agrees (doValues P s (sh .writers) keys (nowValues P s (sh .writers) keys xs) x) (doBytes P sh (nowBytes P sh xs) x)
-  run-agrees x xs f g = step-agrees (nowBytes P sh xs) (nowValues P s (sh .writers) keys xs) (run-matches xs g) x f
+    -- and each step gives the same result and sends the same packet
+    pub run-agrees : (x : Step) (xs : List Step) → Fed s (sh .writers) keys x → AllFed xs
+        → Agrees (doValues P s (sh .writers) keys (nowValues P s (sh .writers) keys xs) x) (doBytes P sh (nowBytes P sh first xs) x)
+    run-agrees x xs f g = step-agrees (nowBytes P sh first xs) (nowValues P s (sh .writers) keys xs) (run-matches xs g) x f
 
   -- bytes that were sent and decode to p were sent as p
   pub sent-value : {a : After} {d : Done} → Agrees a d → (packet : List ℕ) (p : Packet) → d .sent ≡ packet → decode packet ≡ some p → a .sent ≡ some p

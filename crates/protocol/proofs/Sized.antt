@@ -1,16 +1,16 @@
 -- What kept bytes of their size stand for has its lengths, whatever bytes they are: content, nonce, candidates, and shares of a length in its range.
 -- Each is a part of a slot, and a slot has room for it. Nothing is assumed but the primitives' lengths.
 use mathlib.Core.Path.{_≡_, refl, sym, ap, _∙_, subst}
-use mathlib.Core.Bool.{Bool, true, false, cond, _&&_, _||_, true≢false}
+use mathlib.Core.Bool.{Bool, true, _&&_, _||_}
 use mathlib.Core.List.{List, [], _∷_, _++_}
 use mathlib.Core.Option.{Option, none, some, Option·some-injective}
 use mathlib.Core.Logic.{_⊎_, inl, inr}
-use Prim.Native.Nat.{ℕ, zero, suc, _+_, _-_, _*_, _≤_, _<_}
+use Prim.Native.Nat.{ℕ, zero, suc, _+_, _*_, _≤_, _<_}
 use native.Mathlib.Omega.{arith}
 use lib.Dec.{leb, ltb, eqb, lit≤}
 use lib.ListN.{length, take, drop, getD, length-drop, length-replicate}
 use lib.Seq.{length-take-le}
-use borrow.Author.Tests.{leb-true, leb-false, ltb-true, ne-eqb}
+use borrow.Author.Tests.{leb-true, ltb-true}
 use Rattle.cluster.specs.Config.{Config}
 use Rattle.cluster.specs.Ranges.{within, mostServers, leastLength, topLength}
 use Rattle.cluster.proofs.Tests.{and-both}
@@ -18,16 +18,16 @@ use Rattle.hmac.specs.Hmac.{tagSize}
 use Rattle.erasure.specs.Fragments.{fragmentSize}
 use Rattle.protocol.specs.declared.Call.{Call}
 use Rattle.protocol.specs.Format.{All, value2}
-use Rattle.protocol.specs.Values.{Candidate, Share, Held, sameList, nth, sameStamp, noHeld, blankCandidate, isBlank, sameCandidate, nonceSize, stampSize, digestSize, digestsSize, tagsSize}
+use Rattle.protocol.specs.Values.{Candidate, Share, Held, sameList, nth, sameStamp, blankCandidate, isBlank, sameCandidate, nonceSize, stampSize, digestSize, digestsSize, tagsSize}
 use Rattle.protocol.specs.Packet.{heldF, shareSize}
 use Rattle.protocol.specs.Primitives.{Primitives, Lengths}
-use Rattle.protocol.specs.Rules.{ByServer, upd, any, gather, choice, live, highest, proven, leader, leads, fits, shareFits, restoredBy, tagsIn, parts}
+use Rattle.protocol.specs.Rules.{ByServer, any, gather, choice, live, highest, proven, leader, leads, fits, shareFits, restoredBy, tagsIn, parts}
 use Rattle.protocol.specs.View.{part, stampAt, candidateAt, shareOfSize, shareAt, heldAt, contentOf, nonceOf, marked, candidatesIn, repliesIn, replySlotOf, keptSize, nonceAt, candidateSlot, candidatesAt, repliesAt, replySlot}
 use Rattle.protocol.proofs.Answers.{no-some, at-cond}
 use Rattle.protocol.proofs.Packets.{CandidateLengths, ShareLengths}
 use Rattle.protocol.proofs.Room.{Fitting}
 use Rattle.protocol.proofs.Readers.{held-lengths}
-use Rattle.protocol.proofs.HandOk.{keep-all, first-all, upd-ok}
+use Rattle.protocol.proofs.HandOk.{keep-all, first-all}
 use Rattle.protocol.proofs.Walks.{all-snoc}
 
 pub part-length : (d : List ℕ) (at n : ℕ) → at + n ≤ length d → length (part d at n) ≡ n
@@ -68,7 +68,12 @@ module _ (s : Config) (f : Fitting s) where
       }
 
   pub blank-sized : CandidateLengths s (blankCandidate s)
-  blank-sized = record { tag = length-replicate {A = ℕ} tagSize 0; nonce = length-replicate {A = ℕ} nonceSize 0; tags = length-replicate {A = ℕ} (tagsSize s) 0 }
+  blank-sized =
+      record {
+        tag = length-replicate {A = ℕ} tagSize 0;
+        nonce = length-replicate {A = ℕ} nonceSize 0;
+        tags = length-replicate {A = ℕ} (tagsSize s) 0;
+      }
 
   module _ (kept : List ℕ) (size : length kept ≡ keptSize) where
     pub candidates-sized : (i : ℕ) → CandidateLengths s (candidatesIn s kept i)
@@ -130,7 +135,8 @@ gather-all Q g h (suc n) =
     (λ e. gather-all Q g h n) (λ e. all-snoc _ (gather g n) (g (suc n)) (gather-all Q g h n) (h (suc n)))
 
 module _ (P : Primitives) (law : Lengths P) (s : Config) (m : ByServer Bool) (g : ByServer Held) where
-  pub choice-sized : (table : ByServer Candidate) → ((i : ℕ) → CandidateLengths s (table i)) → (n : ℕ) (d : Candidate) → choice P s m g (gather table n) ≡ some d
+  pub choice-sized : (table : ByServer Candidate) → ((i : ℕ) → CandidateLengths s (table i))
+      → (n : ℕ) (d : Candidate) → choice P s m g (gather table n) ≡ some d
       → CandidateLengths s d
   unfolding choice highest live
   choice-sized table h n d e =

@@ -1,13 +1,13 @@
 -- Each operation of a client on bytes against its step on values: result, bytes sent, and the client that the bytes stand for after it.
 -- Both are one step; what it leaves is put into the bytes and read back. Nothing is assumed but the primitives' lengths.
-use mathlib.Core.Path.{_≡_, refl, sym, ap, _∙_, subst}
-use mathlib.Core.Bool.{Bool, true, false, cond, not}
+use mathlib.Core.Path.{_≡_, refl, sym, _∙_, subst}
+use mathlib.Core.Bool.{Bool, true, false, not}
 use mathlib.Core.List.{List, []}
 use mathlib.Core.Option.{Option, none, some, Option·some-injective}
 use Prim.Native.Nat.{ℕ, zero, suc, _≤_}
 use lib.Dec.{eqb}
 use lib.ListN.{length, take, replicate}
-use borrow.Author.Tests.{not-true, not-false, ne-eqb}
+use borrow.Author.Tests.{not-true, not-false}
 use Rattle.cluster.specs.Config.{Config, shelf}
 use Rattle.cluster.specs.Ranges.{within, mostServers, topFaults, topClient}
 use Rattle.cluster.specs.Refusals.{onRefusal}
@@ -17,7 +17,7 @@ use Rattle.protocol.specs.Values.{nonceSize, blankCandidate}
 use Rattle.protocol.specs.Packet.{Packet, PacketOk, decode}
 use Rattle.protocol.specs.Primitives.{Primitives, Lengths}
 use Rattle.protocol.specs.Rules.{countTo, nobody}
-use Rattle.protocol.specs.Client.{Client, Hand, Turn, Result, idle, clocking, collecting, refused, more, aborted, awaits, isIdle, onto, begun, writeRefusal, readRefusal, makeRefusal, abortRefusal, badFaults, writeStep, readStep, abortStep, makeStep, Made, takeStep, made}
+use Rattle.protocol.specs.Client.{Client, Turn, Result, idle, clocking, collecting, refused, more, aborted, awaits, isIdle, onto, begun, writeRefusal, readRefusal, makeRefusal, abortRefusal, badFaults, writeStep, readStep, abortStep, makeStep, Made, takeStep, made}
 use Rattle.protocol.specs.View.{view}
 use Rattle.protocol.specs.ClientBytes.{fresh, inHand, keyOf, Machine, sentOf, putMarks, begins, putBack, told, after, begunBy, beginWrite, beginRead, giveUp, clientMake, clientTake}
 use Rattle.protocol.specs.Runs.{resultOf, takenOut, abortedOut}
@@ -72,7 +72,8 @@ module _ (t c : ℕ) (call : Call) (kept : List ℕ) (tr : (1 ≤ t) × (t ≤ t
       → let y = begun cl (clocking r n (cl .last)) in Lifted s y (putBack s call kept y .call) (putBack s call kept y .kept)
   unfolding putBack begins begun awaits view
   write-put r n l e =
-      let out : within 1 6 (call .tally .round) ≡ false = unfold inHand in (sym (unfold view in pending-is s call kept) ∙ write-idle s c (length r) _ (call .number) e) in
+      let out : within 1 6 (call .tally .round) ≡ false =
+      unfold inHand in (sym (unfold view in pending-is s call kept) ∙ write-idle s c (length r) _ (call .number) e) in
       rw (none-marked, none-counted, other-round (call .tally .round) 1 out refl)
       (unfold view begun fresh in write-begun s call kept sound r n (write-accepted s c cl fine r n l _ e .0 .high) l)
 
@@ -89,7 +90,8 @@ module _ (t c : ℕ) (call : Call) (kept : List ℕ) (tr : (1 ≤ t) × (t ≤ t
       → let y = begun cl (collecting (λ b. blankCandidate s)) in Lifted s y (putBack s call kept y .call) (putBack s call kept y .kept)
   unfolding putBack begins begun awaits view
   read-put e =
-      let out : within 1 6 (call .tally .round) ≡ false = unfold inHand in (sym (unfold view in pending-is s call kept) ∙ read-idle s c _ (call .number) e) in
+      let out : within 1 6 (call .tally .round) ≡ false =
+      unfold inHand in (sym (unfold view in pending-is s call kept) ∙ read-idle s c _ (call .number) e) in
       rw (none-marked, none-counted, other-round (call .tally .round) 4 out refl) (unfold view begun fresh in read-begun s call kept sound (f .few))
 
   pub read-good : let d = beginRead t c call kept in Good s c (readStep s c cl) (record { call = d .call; kept = d .kept })
@@ -107,7 +109,8 @@ module _ (t c : ℕ) (call : Call) (kept : List ℕ) (tr : (1 ≤ t) × (t ≤ t
   abort-put = rw (none-marked, none-counted, either) (unfold view onto fresh in idled s call kept sound)
 
   abort-as : (k : ℕ) (b : Bool)
-      → let u = onRefusal {A = Turn} k (record { client = onto (view s call []) nobody idle; result = aborted b }) (record { client = view s call []; result = refused k }) in
+      → let u = onRefusal {A = Turn} k (record { client = onto (view s call []) nobody idle; result = aborted b })
+      (record { client = view s call []; result = refused k }) in
       let v = onRefusal {A = Turn} k (record { client = onto cl nobody idle; result = aborted b }) (record { client = cl; result = refused k }) in
       Lifted s (v .client) (after s call [] [] u .call) kept × (abortedOut (told (u .result) .aborted) ≡ v .result)
   unfolding after

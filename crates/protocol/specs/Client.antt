@@ -14,7 +14,7 @@ use Rattle.protocol.specs.Packet.{Body, Packet, kindOf}
 use Rattle.protocol.specs.Primitives.{Primitives, stampMessage}
 use Rattle.protocol.specs.Rules.{ByServer, upd, nobody, countTo, gather, live, choice, leader, restoredBy, tagsIn}
 -- passed on to those who import the client
-pub use Rattle.protocol.specs.Pending.{Hand, idle, clocking, storing, completing, collecting, filtering, repairing, Client, newClient, Result, refused, more, written, gave, gaveBlank, aborted, accepted, Turn, request, stampIn, codeIn, candidateIn, heldIn}
+pub use Rattle.protocol.specs.Pending.{inComplete, isReading, Hand, idle, clocking, storing, completing, collecting, filtering, repairing, Client, newClient, Result, refused, more, written, gave, gaveBlank, aborted, accepted, Turn, request, stampIn, codeIn, candidateIn, heldIn}
 unfoldable pub use Rattle.protocol.specs.Pending.{awaits, isIdle, stampOf, tagsOf, candidateMade, shareMade, sharesMade, prepared, made}
 
 -- ---- a reply is taken
@@ -146,7 +146,7 @@ readStep s client cl =
 unfoldable pub abortStep : Config → ℕ → Client → Turn
 abortStep s client cl =
     let k = abortRefusal s client (not (isIdle (cl .hand))) in
-    onRefusal k (record { client = onto cl nobody idle; result = aborted (eqb (awaits (cl .hand)) 6) }) (record { client = cl; result = refused k })
+    onRefusal k (record { client = onto cl nobody idle; result = aborted (inComplete (cl .hand)) }) (record { client = cl; result = refused k })
 
 -- making a packet changes nothing
 pub record Made : Type 0 where

@@ -3,7 +3,7 @@
 use mathlib.Core.Bool.{Bool, true, false, cond}
 use mathlib.Core.List.{List}
 use Prim.Native.Nat.{ℕ}
-use lib.Dec.{eqb}
+use lib.Dec.{leb, eqb}
 use lib.ListN.{length}
 use Rattle.cluster.specs.Config.{Config}
 use Rattle.cluster.specs.Ranges.{within}
@@ -55,6 +55,13 @@ awaits (repairing c r) = 12
 
 unfoldable pub isIdle : Hand → Bool
 isIdle h = eqb (awaits h) 0
+
+-- a write in its last round; a read in any
+abbrev pub inComplete : Hand → Bool
+inComplete h = eqb (awaits h) 6
+
+abbrev pub isReading : Hand → Bool
+isReading h = leb 8 (awaits h)
 
 pub data Result : Type 0 where
   refused : ℕ → Result

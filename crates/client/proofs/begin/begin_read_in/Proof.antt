@@ -20,7 +20,8 @@ returns c =
 returns-2 : tie.Need-returns-2
 returns-2 c =
     let a = c .before .before .before .before .before .args in
-    let e = read-refused (a .t) (a .client) (a .call) (a .kept .now) (wide (c .before .before .before .before .before)) (c .before .before .before .if1 .left) _
+    let e = read-refused (a .t) (a .client) (a .call) (a .kept .now) (wide (c .before .before .before .before .before))
+    (c .before .before .before .if1 .left) _
     (c .before .before .read-refusal .ensures) (c .before .if2 .taken) in
     (rw (e, c .not-begun2 .ensures), rw e)
 
@@ -35,7 +36,8 @@ returns-3 : tie.Need-returns-3
 returns-3 c =
     let a = c .before .before .before .before .before .before .before .before .before .args in
     let z = sym (c .before .before .before .before .before .before .read-refusal .ensures) ∙ c .before .before .before .before .before .if2 .left in
-    let e = read-begins (a .t) (a .client) (a .call) (a .kept .now) (wide (c .before .before .before .before .before .before .before .before .before)) (c .before .before .before .before .before .before .before .if1 .left) z in
+    let e = read-begins (a .t) (a .client) (a .call) (a .kept .now) (wide (c .before .before .before .before .before .before .before .before .before))
+    (c .before .before .before .before .before .before .before .if1 .left) z in
     (rw (e, c .next-call .ensures), rw e (c .before .before .before .clear-slots .ensures))
 
 pub begin-read-in-spec : {M : Type 1} → statement M

@@ -20,7 +20,8 @@ returns c =
 returns-2 : tie.Need-returns-2
 returns-2 c =
     let a = c .before .before .before .before .before .before .args in
-    let e = write-refused (a .t) (a .client) (a .call) (a .kept .now) (a .content .now) (a .nonce .now) (wide (c .before .before .before .before .before .before)) (c .before .before .before .if1 .left) _
+    let e = write-refused (a .t) (a .client) (a .call) (a .kept .now) (a .content .now) (a .nonce .now)
+    (wide (c .before .before .before .before .before .before)) (c .before .before .before .if1 .left) _
     (c .before .before .write-refusal .ensures) (c .before .if2 .taken) in
     (rw (e, c .not-begun2 .ensures), rw e)
 
@@ -50,7 +51,8 @@ returns-3 c =
     let a = c .before .before .before .before .before .before .before .before .before .before .before .args in
     let z = sym (c .before .before .before .before .before .before .before .write-refusal .ensures) ∙
     c .before .before .before .before .before .before .if2 .left in
-    let e = write-begins (a .t) (a .client) (a .call) (a .kept .now) (a .content .now) (a .nonce .now) (wide (c .before .before .before .before .before .before .before .before .before .before .before))
+    let e = write-begins (a .t) (a .client) (a .call) (a .kept .now) (a .content .now) (a .nonce .now)
+    (wide (c .before .before .before .before .before .before .before .before .before .before .before))
     (c .before .before .before .before .before .before .before .before .if1 .left) z in
     (rw (e, c .next-call .ensures), rw e (c .before .before .before .keep-write .ensures))
 

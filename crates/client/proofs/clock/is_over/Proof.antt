@@ -1,5 +1,4 @@
 -- `client::clock::is_over` meets its contract, by its test. Assumes nothing.
-use borrow.Author.Needs.{needs}
 use Rattle.client.proofs.clock.is_over.Statement.{statement}
 use Rattle.client.proofs.clock.is_over.Tie as tie
 

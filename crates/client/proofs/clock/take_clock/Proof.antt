@@ -35,8 +35,10 @@ higher-requires c κs =
 note-reply-requires : tie.Need-note-reply-requires
 note-reply-requires c κs =
     let q = c .before .before .before .before .before .before in
-    let a = q .args in
-    (ready-faults (a .t) (a .client) (a .call) (a .reply .now) (a .head) (q .pre .0) .1, ready-server (a .t) (a .client) (a .call) (a .reply .now) (a .head) (q .pre .0))
+    let a = q .args in (
+      ready-faults (a .t) (a .client) (a .call) (a .reply .now) (a .head) (q .pre .0) .1,
+      ready-server (a .t) (a .client) (a .call) (a .reply .now) (a .head) (q .pre .0),
+    )
 
 is-full-requires : tie.Need-is-full-requires
 is-full-requires c κs =
@@ -66,7 +68,8 @@ module _ (c : tie.After-clock-refusal) where
       (c .before .is-full .ensures) e
 
   refusal-is : c .clock-refusal .result
-      ≡ firstOf (refuse 14 (ends (shelf (start .args .t)) (start .args .call) (start .args .head .server) && leb topNumber high) ∷ refuse 15 (ltb (start .args .room) contentRoom) ∷ [])
+      ≡ firstOf (refuse 14 (ends (shelf (start .args .t)) (start .args .call) (start .args .head .server) && leb topNumber high)
+      ∷ refuse 15 (ltb (start .args .room) contentRoom) ∷ [])
   refusal-is = rw (ended _ refl) (c .clock-refusal .ensures)
 
 returns : tie.Need-returns

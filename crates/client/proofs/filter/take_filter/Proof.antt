@@ -4,7 +4,7 @@ use Rattle.cluster.specs.Config.{shelf}
 use Rattle.client.specs.Rounds.{ends}
 use borrow.Author.Needs.{needs}
 use native.Mathlib.Omega.{arith}
-use mathlib.Core.Path.{_≡_, sym, ap, _∙_, subst}
+use mathlib.Core.Path.{_≡_, ap, _∙_, subst}
 use Prim.Native.Nat.{ℕ, _+_, _-_, _*_}
 use lib.ListN.{drop}
 use Rattle.protocol.specs.declared.Call.{Call}

@@ -1,6 +1,5 @@
 -- `client::rounds::one_for` meets its contract. Assumes nothing.
 use borrow.Author.Tests.{eq-eqb, ne-eqb}
-use borrow.Author.Needs.{needs}
 use Rattle.client.proofs.rounds.one_for.Statement.{statement}
 use Rattle.client.proofs.rounds.one_for.Tie as tie
 

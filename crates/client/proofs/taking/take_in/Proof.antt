@@ -37,7 +37,8 @@ returns-3 c =
     let w : badFaults (shelf (a .t)) ≡ false = sym (c .before .before .before .before .outside .ensures) ∙ c .before .before .before .if2 .left in
     let v = sym (c .before .before .outside2 .ensures) ∙ c .before .if3 .taken in
     taken-in (a .t) (a .client) (a .writers .now) (a .keys .now) (a .call) (a .kept .now) (a .reply .now) (a .out .now) (c .refused3 .result)
-    (a .kept .now) (a .out .now) (wide (c .before .before .before .before .before .before .before .before .before)) (c .before .before .before .before .before .if1 .left)
+    (a .kept .now) (a .out .now) (wide (c .before .before .before .before .before .before .before .before .before))
+    (c .before .before .before .before .before .if1 .left)
     (takes-refused (a .t) (a .client) (a .writers .now) (a .keys .now) (a .call) (a .kept .now) (a .reply .now) (a .out .now) (c .refused3 .result) 5
     (c .refused3 .ensures) (take-reader (a .t) (a .client) (a .writers .now) (a .keys .now) (a .call) (a .kept .now) (a .reply .now) (a .out .now) w
     v))
@@ -53,7 +54,8 @@ returns-4 : tie.Need-returns-4
 returns-4 c =
     let a = c .before .before .before .before .before .before .before .before .before .before .before .before .before .before .before .args in
     taken-in (a .t) (a .client) (a .writers .now) (a .keys .now) (a .call) (a .kept .now) (a .reply .now) (a .out .now)
-    (c .before .before .before .before .take-reply .result) _ _ (wide (c .before .before .before .before .before .before .before .before .before .before .before .before .before .before .before))
+    (c .before .before .before .before .take-reply .result) _ _
+    (wide (c .before .before .before .before .before .before .before .before .before .before .before .before .before .before .before))
     (c .before .before .before .before .before .before .before .before .before .before .before .if1 .left)
     (c .before .before .before .before .take-reply .ensures)
 
