@@ -101,7 +101,9 @@ uint64_t cendrulas_server_take(uint8_t *memory, size_t memory_len, const uint8_t
                                const uint8_t *packet, size_t packet_len, uint8_t *out, size_t out_len);
 
 /* ---- A client: a state of 24,640 bytes that it is lent with every call. All 00h is a new client. One call is in hand at a time.
- * t and client are those of this client in every call; every value of the bytes has a meaning, so no state is refused. */
+ * t and client are those of this client in every call; every value of the bytes has a meaning, so no state is refused.
+ * state[14] is the round in hand (0 none, 1 clock, 2 store, 3 complete, 4 collect, 5 filter, 6 repair) and state[15] how many servers have replied
+ * in it, after every accepted call; a round ends with replies of 2t+1, but a filter round may need more. */
 
 /* Begins a write. The nonce has 32 bytes that nobody can guess and that no other write of the shelf gets.
  * Refusals: 255 where state_len is not 24,640 or nonce_len is not 32; 3 where t is outside 1 to 4; 5 where client is outside 1 to 8;

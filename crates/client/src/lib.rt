@@ -3,6 +3,7 @@
 ghost use mathlib.Core.Path.{_≡_};
 ghost use Rattle.protocol.specs.Primitives.{real};
 ghost use Rattle.protocol.specs.ClientBytes.{beginWrite, beginRead, clientMake, clientTake, giveUp};
+ghost use Rattle.protocol.specs.Runs.{newCall};
 
 pub mod refusals; // which number refuses a step
 mod rounds; // the tally of a round
@@ -32,6 +33,13 @@ pub const NEW: protocol::Call = protocol::Call {
         marks: [0; cluster::MOST_SERVERS],
     },
 };
+
+// A client that has begun no call: with it, and any kept bytes, the runs of the theorem start.
+pub fn new_call() -> protocol::Call
+    ensures { λ r. ⌜ r ≡ newCall ⌝ }
+{
+    NEW
+}
 
 // A write begins.
 pub fn begin_write(

@@ -15,7 +15,7 @@ use Rattle.protocol.specs.View.{keptSize}
 use Rattle.protocol.specs.Memory.{encodeMemory, blankMemory}
 use Rattle.protocol.specs.ServerBytes.{blankRefusal, blankStep}
 use Rattle.protocol.specs.ClientBytes.{fresh}
-use Rattle.protocol.specs.Runs.{newMachine, nowBytes}
+use Rattle.protocol.specs.Runs.{newCall, nowBytes}
 use Rattle.protocol.proofs.Places.{part-zeros}
 use Rattle.wire.specs.Places.{padded}
 use Rattle.state.specs.State.{callAt, tallyAt, marksAt, lengthAt}
@@ -31,16 +31,16 @@ pub record Ready (t b : ℕ) (w : List ℕ) : Type 0 where
   pub size : length w ≡ workSize
   pub low : 1 ≤ b
   pub high : b ≤ shelf t .servers + 1
-  pub calls : (c : ℕ) → within 1 topClient c ≡ true → callIn w c ≡ newMachine .call
-  pub kept : (c : ℕ) → within 1 topClient c ≡ true → keptIn w c ≡ newMachine .kept
+  pub calls : (c : ℕ) → within 1 topClient c ≡ true → callIn w c ≡ newCall
+  pub kept : (c : ℕ) → within 1 topClient c ≡ true → keptIn w c ≡ replicate keptSize 0
   pub memory : (i : ℕ) → 1 ≤ i → i < b → memoryIn w i ≡ encodeMemory (blankMemory t i)
 
 module _ (n : ℕ) (size : n ≡ workSize) (c : ℕ) (h : (1 ≤ c) × (c ≤ topClient)) where
-  zero-call : callIn (replicate n 0) c ≡ newMachine .call
+  zero-call : callIn (replicate n 0) c ≡ newCall
   unfolding callIn callAt tallyAt marksAt lengthAt padded clientAt fresh
   zero-call = rw (part-zeros n (clientAt c) 29 (omega arith))
 
-  zero-kept : keptIn (replicate n 0) c ≡ newMachine .kept
+  zero-kept : keptIn (replicate n 0) c ≡ replicate keptSize 0
   unfolding keptIn keptAt clientAt
   zero-kept = part-zeros n (keptAt c) keptSize (omega arith)
 

@@ -21,8 +21,8 @@ use Rattle.protocol.specs.ClientBytes.{Written, Took, keyOf, clientMake, client
 use Rattle.protocol.specs.Runs.{Shelf, Machines, Done, make, serve, take-reply, takenOut, doBytes, setMachine}
 use Rattle.client.proofs.StampBytes.{key-at}
 use Rattle.drill.specs.declared.shown.Shown.{Shown}
-use Rattle.drill.specs.Steps.{drillShelf, visited, shown}
-use Rattle.drill.specs.Area.{callIn, keptIn, memoryIn, Stands, ServesAs, TakesAs}
+use Rattle.drill.specs.Steps.{drillShelf, lentTo, visited, shown}
+use Rattle.drill.specs.Area.{callIn, keptIn, memoryIn, Stands, takeIn, ServesAs, TakesAs}
 use Rattle.drill.specs.Moves.{DoneIn}
 use Rattle.drill.proofs.Standing.{client-put}
 use Rattle.drill.proofs.Memories.{server-put, few-servers}
@@ -86,22 +86,23 @@ module _ (t c b : ℕ) (w : List ℕ) (ht : t ≤ topFaults) (hc : (1 ≤ c) × 
           part-take q (r .count) ∙ rw (f .result, f .written)
 
     module _ {o : List ℕ} {w₁ : List ℕ} {a : Taken} (reply : List ℕ)
-        (e : TakesAs (clientTake real t c (drillShelf t .writers) (drillShelf t .keys) (callIn w c) (keptIn w c) reply (replicate contentRoom 0)) w c
-        w₁ o a) where
+        (e : TakesAs (takeIn t w c reply (replicate contentRoom 0)) w c w₁ o a) where
       took : Took
-      took = clientTake real t c (drillShelf t .writers) (drillShelf t .keys) (m .client c .call) (m .client c .kept) reply (replicate contentRoom 0)
+      took =
+          let l = lentTo (drillShelf t) c in
+          clientTake real t c (l .writers) (l .keys) (m .client c .call) (m .client c .kept) reply (replicate contentRoom 0)
 
-      same-took : clientTake real t c (drillShelf t .writers) (drillShelf t .keys) (callIn w c) (keptIn w c) reply (replicate contentRoom 0) ≡ took
+      same-took : takeIn t w c reply (replicate contentRoom 0) ≡ took
       unfolding took
       same-took = rw (st .calls c own, st .kept c own)
 
-      pub take-stands : Stands t w₁ (doBytes real (drillShelf t) m (take-reply c reply (replicate contentRoom 0)) .machines)
+      pub take-stands : Stands t w₁ (doBytes real (drillShelf t) m (take-reply c (lentTo (drillShelf t) c) reply (replicate contentRoom 0)) .machines)
       unfolding doBytes setMachine took drillShelf
       take-stands =
           let f : TakesAs took w c w₁ o a = subst (λ (z : Took). TakesAs z w c w₁ o a) same-took e in
           rw (f .area) (client-put t w m ht st c hc (took .call) (took .kept) (f .marks) (f .size))
 
-      pub take-shows : takenOut a o ≡ doBytes real (drillShelf t) m (take-reply c reply (replicate contentRoom 0)) .result
+      pub take-shows : takenOut a o ≡ doBytes real (drillShelf t) m (take-reply c (lentTo (drillShelf t) c) reply (replicate contentRoom 0)) .result
       unfolding doBytes setMachine took drillShelf
       take-shows =
           let f : TakesAs took w c w₁ o a = subst (λ (z : Took). TakesAs z w c w₁ o a) same-took e in
@@ -113,8 +114,7 @@ module _ (t c b : ℕ) (w : List ℕ) (ht : t ≤ topFaults) (hc : (1 ≤ c) × 
       → p' ≡ part p 0 (r₁ .count)
       → ServesAs (serverTake real (memoryIn w b) (replicate keySize b) p' (replicate packetRoom 0)) w b w₁ q r₂
       → q' ≡ part q 0 (r₂ .count)
-      → TakesAs (clientTake real t c (drillShelf t .writers) (drillShelf t .keys) (callIn w₁ c) (keptIn w₁ c) q' (replicate contentRoom 0)) w₁ c w₂ o
-      a
+      → TakesAs (takeIn t w₁ c q' (replicate contentRoom 0)) w₁ c w₂ o a
       → (m : Machines) → Stands t w m → (Stands t w₂ (visited (drillShelf t) m c b .machines)) × (takenOut a o ≡ visited (drillShelf t) m c b .result)
   unfolding visited
   visit-goes {r₁} {r₂} {p} {q} {o} {w₁} {w₂} {p'} {q'} {a} e₁ ep e₂ eq e₃ m st =
@@ -126,9 +126,8 @@ module _ (t c b : ℕ) (w : List ℕ) (ht : t ≤ topFaults) (hc : (1 ≤ c) × 
       let d₂ : Done = doBytes real s m (serve b (d₁ .sent) (replicate packetRoom 0)) in
       let st₂ : Stands t w₁ (d₂ .machines) = serve-stands t c b w ht hc hb m st (d₁ .sent) f₂ in
       let s₂ : q' ≡ d₂ .sent = eq ∙ serve-sent t c b w ht hc hb m st (d₁ .sent) f₂ in
-      let f₃ : TakesAs (clientTake real t c (s .writers) (s .keys) (callIn w₁ c) (keptIn w₁ c) (d₂ .sent) (replicate contentRoom 0)) w₁ c w₂ o a =
-      subst (λ (z : List ℕ). TakesAs (clientTake real t c (s .writers) (s .keys) (callIn w₁ c) (keptIn w₁ c) z (replicate contentRoom 0)) w₁ c w₂ o a)
-      s₂ e₃ in
+      let f₃ : TakesAs (takeIn t w₁ c (d₂ .sent) (replicate contentRoom 0)) w₁ c w₂ o a =
+      subst (λ (z : List ℕ). TakesAs (takeIn t w₁ c z (replicate contentRoom 0)) w₁ c w₂ o a) s₂ e₃ in
       let k : d₁ .machines ≡ m = make-stays s m c b (replicate packetRoom 0) in
       rw k (take-stands t c b w₁ ht hc hb (d₂ .machines) st₂ (d₂ .sent) f₃, take-shows t c b w₁ ht hc hb (d₂ .machines) st₂ (d₂ .sent) f₃)
 
@@ -137,8 +136,7 @@ module _ (t c b : ℕ) (w : List ℕ) (ht : t ≤ topFaults) (hc : (1 ≤ c) × 
       → p' ≡ part p 0 (r₁ .count)
       → ServesAs (serverTake real (memoryIn w b) (replicate keySize b) p' (replicate packetRoom 0)) w b w₁ q r₂
       → q' ≡ part q 0 (r₂ .count)
-      → TakesAs (clientTake real t c (drillShelf t .writers) (drillShelf t .keys) (callIn w₁ c) (keptIn w₁ c) q' (replicate contentRoom 0)) w₁ c w₂ o
-      a
+      → TakesAs (takeIn t w₁ c q' (replicate contentRoom 0)) w₁ c w₂ o a
       → x ≡ shown (takenOut a o) → DoneIn t (λ m. visited (drillShelf t) m c b) w w₂ x
   visit-done e₁ ep e₂ eq e₃ ex =
       record { stands = λ m st. visit-goes e₁ ep e₂ eq e₃ m st .0; shows = λ m st. ex ∙ ap shown (visit-goes e₁ ep e₂ eq e₃ m st .1) }

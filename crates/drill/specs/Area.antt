@@ -10,12 +10,14 @@ use Rattle.protocol.specs.declared.Call.{Call}
 use Rattle.cluster.specs.declared.Outcome.{Outcome}
 use Rattle.protocol.specs.declared.Aborted.{Aborted}
 use Rattle.protocol.specs.declared.Taken.{Taken}
+use Rattle.protocol.specs.Primitives.{real}
 use Rattle.protocol.specs.ServerBytes.{Served, Blanked}
 use Rattle.protocol.specs.View.{part, keptSize}
-use Rattle.protocol.specs.ClientBytes.{Begun, GaveUp, Took, put, beginWrite, beginRead, giveUp}
+use Rattle.protocol.specs.ClientBytes.{Begun, GaveUp, Took, put, beginWrite, beginRead, giveUp, clientTake}
 use Rattle.protocol.specs.Runs.{Machines}
 use Rattle.state.specs.State.{stateSize, keptPlace, callAt, callBytes}
 use Rattle.drill.specs.Listing.{workSize}
+use Rattle.drill.specs.Steps.{drillShelf, lentTo}
 
 unfoldable pub serverAt : ℕ → ℕ
 serverAt b = memorySize * (b - 1)
@@ -68,6 +70,11 @@ readIn t w c = beginRead t c (callIn w c) (keptIn w c)
 
 abbrev pub giveUpIn : ℕ → List ℕ → ℕ → GaveUp
 giveUpIn t w c = giveUp t c (callIn w c)
+
+abbrev pub takeIn : ℕ → List ℕ → ℕ → List ℕ → List ℕ → Took
+takeIn t w c reply output =
+    let l = lentTo (drillShelf t) c in
+    clientTake real t c (l .writers) (l .keys) (callIn w c) (keptIn w c) reply output
 
 -- a beginning in the area w: its refusal or 0, and the area after it
 pub record BeginsAs (b : Begun) (w : List ℕ) (c : ℕ) (after : List ℕ) (number : ℕ) : Type 0 where

@@ -5,15 +5,16 @@ use Prim.Native.Nat.{ℕ, suc, _+_}
 use lib.Dec.{eqb}
 use lib.ListN.{length, getD, replicate}
 use Rattle.cluster.specs.Config.{upTo}
-use Rattle.cluster.specs.Ranges.{within, mostServers, topClient, keySize, packetRoom, contentRoom}
+use Rattle.cluster.specs.Ranges.{within, mostServers, topWriter, topClient, keySize, packetRoom, contentRoom}
 use Rattle.cluster.specs.Refusals.{refuse, firstOf, onRefusal}
 use Rattle.protocol.specs.Format.{print4}
 use Rattle.protocol.specs.Primitives.{real}
 use Rattle.protocol.specs.Rules.{upd}
 use Rattle.protocol.specs.Client.{Result, refused, more, written, gave, gaveBlank, aborted, accepted}
+use Rattle.protocol.specs.View.{keptSize}
 use Rattle.protocol.specs.ClientBytes.{inHand}
 use Rattle.server.specs.Blank.{blankLatest}
-use Rattle.protocol.specs.Runs.{Shelf, configOf, Machines, Done, write, read, make, take-reply, give-up, serve, doBytes, nowBytes}
+use Rattle.protocol.specs.Runs.{Shelf, Lent, configOf, Machines, Done, write, read, make, take-reply, give-up, serve, doBytes, nowBytes}
 use Rattle.drill.specs.declared.sheet.Line.{Line}
 use Rattle.drill.specs.declared.shown.Shown.{Shown}
 
@@ -22,6 +23,12 @@ use Rattle.drill.specs.declared.shown.Shown.{Shown}
 -- the writers' key is 32 bytes FFh, server i's key 32 bytes of i
 unfoldable pub drillShelf : ℕ → Shelf
 drillShelf t = record { t = t; writers = replicate keySize 255; keys = map (λ i. replicate keySize i) (upTo mostServers) }
+
+-- clients 9 to 16 hold no keys: they are lent zeros
+unfoldable pub lentTo : Shelf → ℕ → Lent
+lentTo s client =
+    cond (within 1 topWriter client) (record { writers = s .writers; keys = s .keys })
+    (record { writers = replicate keySize 0; keys = replicate mostServers (replicate keySize 0) })
 
 -- k as a 32-byte number
 unfoldable pub nonceFor : ℕ → List ℕ
@@ -37,9 +44,9 @@ pub record Stepped : Type 0 where
   pub state : State
   pub result : Result
 
--- no client has begun a call, and every server is blank
+-- no client has begun a call, the bytes that clients keep things in are 00h, and every server is blank
 unfoldable pub start : Shelf → State
-start s = record { machines = nowBytes real s []; begun = 0 }
+start s = record { machines = nowBytes real s (λ c. replicate keptSize 0) []; begun = 0 }
 
 -- ---- one line's step. The buffers lent hold 00h
 
@@ -63,7 +70,7 @@ module _ (s : Shelf) (w : Machines) where
   visited client server =
       let a = doBytes real s w (make client server (replicate packetRoom 0)) in
       let b = doBytes real s (a .machines) (serve server (a .sent) (replicate packetRoom 0)) in
-      doBytes real s (b .machines) (take-reply client (b .sent) (replicate contentRoom 0))
+      doBytes real s (b .machines) (take-reply client (lentTo s client) (b .sent) (replicate contentRoom 0))
 
   -- nothing changes
   abbrev pub staying : Result → Done

@@ -4,11 +4,10 @@ ghost use Prim.Native.Nat.{_≤_};
 ghost use lib.ListN.{length};
 ghost use Rattle.cluster.specs.Config.{shelf};
 ghost use Rattle.cluster.specs.Ranges.{topClient, topFaults};
-ghost use Rattle.protocol.specs.Primitives.{real};
-ghost use Rattle.protocol.specs.ClientBytes.{clientMake, clientTake};
+ghost use Rattle.protocol.specs.ClientBytes.{clientMake};
 ghost use Rattle.drill.specs.Listing.{workSize};
-ghost use Rattle.drill.specs.Steps.{drillShelf, visited, visitLine};
-ghost use Rattle.drill.specs.Area.{callIn, keptIn, TakesAs};
+ghost use Rattle.drill.specs.Steps.{drillShelf, lentTo, visited, visitLine};
+ghost use Rattle.drill.specs.Area.{callIn, keptIn, takeIn, TakesAs};
 ghost use Rattle.drill.specs.Moves.{DoneIn, RefusesAs};
 use crate::area;
 use crate::shown::Shown;
@@ -35,6 +34,26 @@ fn server_keys() -> [[u8; cluster::KEY]; cluster::MOST_SERVERS]
     ]
 }
 
+// The writers' key as it is lent to a client: zeros to one that holds no keys.
+fn writers_for(client: usize) -> [u8; cluster::KEY]
+    ensures { λ r. ⌜ r ≡ lentTo (drillShelf 0) client .writers ⌝ }
+{
+    if cluster::outside(1, cluster::TOP_WRITER, client) {
+        return [0u8; cluster::KEY];
+    }
+    [255u8; cluster::KEY]
+}
+
+// The servers' keys as they are lent to a client.
+fn keys_for(client: usize) -> [[u8; cluster::KEY]; cluster::MOST_SERVERS]
+    ensures { λ r. ⌜ r ≡ lentTo (drillShelf 0) client .keys ⌝ }
+{
+    if cluster::outside(1, cluster::TOP_WRITER, client) {
+        return [[0u8; cluster::KEY]; cluster::MOST_SERVERS];
+    }
+    server_keys()
+}
+
 // The packet of a client's round for a server.
 fn make(work: &[u8], t: usize, client: usize, server: usize, out: &mut [u8]) -> cluster::Outcome
     requires { ⌜ ((1 ≤ client) × (client ≤ topClient)) × (length (now work) ≡ workSize) ⌝ }
@@ -47,13 +66,13 @@ fn make(work: &[u8], t: usize, client: usize, server: usize, out: &mut [u8]) -> 
 // A client takes a reply.
 fn take(work: &mut [u8], t: usize, client: usize, reply: &[u8], out: &mut [u8]) -> protocol::Taken
     requires { ⌜ ((1 ≤ client) × (client ≤ topClient)) × (length (now work) ≡ workSize) ⌝ }
-    ensures { λ r. ⌜ TakesAs (clientTake real t client (drillShelf t .writers) (drillShelf t .keys) (callIn (now (work .entry)) client) (keptIn (now (work .entry)) client) (now (reply .entry)) (now (out .entry))) (now (work .entry)) client (now (work .exit)) (now (out .exit)) r ⌝ }
+    ensures { λ r. ⌜ TakesAs (takeIn t (now (work .entry)) client (now (reply .entry)) (now (out .entry))) (now (work .entry)) client (now (work .exit)) (now (out .exit)) r ⌝ }
 {
     let call = area::call_of(work, client);
     let a = area::kept_at(client);
     let e = a + wire::kept::KEPT;
-    let writers = [255u8; cluster::KEY];
-    let keys = server_keys();
+    let writers = writers_for(client);
+    let keys = keys_for(client);
     let s = client::taking::take_in(
         call,
         &mut work[a..e],

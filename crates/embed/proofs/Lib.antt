@@ -5,3 +5,9 @@ pub mod Sessions
 pub mod Rooms
 pub mod Listings
 pub mod KeyRuns
+pub mod Unpacked
+pub mod Bounded
+pub mod PassedKeys
+pub mod Stands
+pub mod Exported
+pub mod ExportRuns

@@ -5,3 +5,4 @@ pub mod Clients
 pub mod Servers
 pub mod Drills
 pub mod Packets
+pub mod Exports

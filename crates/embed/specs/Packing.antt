@@ -4,12 +4,25 @@
 --   bits 16 to 47   a stamp's number
 --   bits  0 to 15   how many bytes of the output were written
 use mathlib.Core.List.{List, _++_}
-use Prim.Native.Nat.{ℕ, _+_, _*_, _^_}
+use Prim.Native.Nat.{ℕ, _+_, _*_, _^_, _/_, _%_}
 use lib.ListN.{length, drop}
 use Rattle.cluster.specs.Refusals.{onRefusal}
 
 unfoldable pub packed : ℕ → ℕ → ℕ → ℕ → ℕ
 packed refusal result number count = refusal * 2 ^ 56 + result * 2 ^ 48 + number * 2 ^ 16 + count
+
+-- the parts of an answer, as a caller reads them
+unfoldable pub refusalIn : ℕ → ℕ
+refusalIn answer = answer / 2 ^ 56
+
+unfoldable pub resultIn : ℕ → ℕ
+resultIn answer = answer / 2 ^ 48 % 2 ^ 8
+
+unfoldable pub numberIn : ℕ → ℕ
+numberIn answer = answer / 2 ^ 16 % 2 ^ 32
+
+unfoldable pub countIn : ℕ → ℕ
+countIn answer = answer % 2 ^ 16
 
 -- A number above those of documents 01 and 02, which only a caller from another language can meet:
 -- a key, a nonce or a client's state is lent with another size than the type has.

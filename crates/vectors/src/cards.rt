@@ -80,7 +80,7 @@ fn begun(n: usize) -> u64 {
     let mut kept = [0u8; wire::kept::KEPT];
     let nonce = [5u8; 32];
     let started = client::begin::begin_write_in(
-        client::NEW,
+        client::new_call(),
         &mut kept,
         1,
         1,
