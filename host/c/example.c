@@ -11,9 +11,11 @@ enum { T = 1, SERVERS = 3 * T + 1, PASSES = 8 };
 static uint8_t memories[SERVERS][CENDRULAS_SERVER_MEMORY];
 static uint8_t writers_key[CENDRULAS_KEY];
 static uint8_t server_keys[CENDRULAS_KEYS];
+static const uint8_t no_keys[CENDRULAS_KEYS] = {0}; /* clients 9 to 16 hold no keys: they lend 00h */
 
 struct scope {
     size_t number;
+    const uint8_t *writers_key, *server_keys;
     uint8_t state[CENDRULAS_CLIENT_STATE]; /* all 00h: a new client */
 };
 
@@ -47,8 +49,8 @@ static uint64_t visit(struct scope *scope, size_t server, uint8_t *content) {
         stop("a packet", made);
     }
     size_t n = serve(server, packet, cendrulas_count(made), reply);
-    return cendrulas_client_take(scope->state, sizeof scope->state, T, scope->number, writers_key, sizeof writers_key,
-                                 server_keys, sizeof server_keys, reply, n, content, CENDRULAS_CONTENT_ROOM);
+    return cendrulas_client_take(scope->state, sizeof scope->state, T, scope->number, scope->writers_key, CENDRULAS_KEY,
+                                 scope->server_keys, CENDRULAS_KEYS, reply, n, content, CENDRULAS_CONTENT_ROOM);
 }
 
 /* Visits the servers by turns until the call in hand ends. A refused reply changes nothing: the next one is waited for. */
@@ -63,7 +65,8 @@ static uint64_t finish(struct scope *scope, uint8_t *content) {
 }
 
 int main(void) {
-    static struct scope writer = {.number = 1}, reader = {.number = 9};
+    static struct scope writer = {.number = 1, .writers_key = writers_key, .server_keys = server_keys};
+    static struct scope reader = {.number = 9, .writers_key = no_keys, .server_keys = no_keys};
     static const uint8_t record[] = "CH1 500 mV/div 20 us/div";
     uint8_t nonce[CENDRULAS_NONCE], content[CENDRULAS_CONTENT_ROOM];
 

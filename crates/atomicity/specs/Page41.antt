@@ -29,8 +29,8 @@ versions n m (c ∷ cs) =
     record { call = c; number = n + cond (given (c .wrote)) 1 0; content = holds m (c .wrote) }
     ∷ versions (n + cond (given (c .wrote)) 1 0) (holds m (c .wrote)) cs
 
--- page 41: "once one scope has shown a saved record, no scope later shows an older one". Each read shows the content of its version, and
--- once a call has ended, no call that begins later has an older version
+-- page 41, "once one scope has shown a saved record, no scope later shows an older one", of calls that begin later: each read gives the content of
+-- its version, and once a call has ended, no call that begins later has an older version
 unfoldable pub NeverOlder : List Logged → Type 0
 NeverOlder cs =
     (o : OneOrder cs) (r : Version) → In r (versions 0 none (o .order))

@@ -1,4 +1,4 @@
--- The premises of demand 3, each with the words that it renders. They are asked of accepted steps only.
+-- The premises of demand 3, each with the words that it renders. Whose step it is is asked of every step; all else of accepted steps only.
 use mathlib.Core.Path.{_≡_}
 use mathlib.Core.Bool.{Bool, true, false, not}
 use mathlib.Core.List.{List, _++_}

@@ -1,6 +1,6 @@
--- What a client's step answers has room in one number: stamps' numbers go to 99,999,999, contents to 1,024 bytes, and a refusal isn't 0.
--- So have counts of bytes: what is sent is a packet. By cases on the round: what a client holds is within the layout at every moment. Nothing is assumed but the primitives' lengths.
-use mathlib.Core.Path.{_≡_, refl, sym, subst, _∙_}
+-- What a step answers has room in one number: stamps' numbers go to 99,999,999, contents to 1,024 bytes, packets to 6,400, and a refusal isn't 0.
+-- By cases on the round: what a client holds is within the layout at every moment. Nothing is assumed but the primitives' lengths.
+use mathlib.Core.Path.{_≡_, refl, subst, _∙_}
 use mathlib.Core.Bool.{Bool, true, false, cond}
 use mathlib.Core.List.{List, [], _∷_}
 use mathlib.Core.Option.{Option, none, some}
@@ -21,7 +21,7 @@ use Rattle.protocol.specs.Rules.{ByServer, upd, tagsIn, leader}
 use Rattle.protocol.specs.Server.{serverRefusal}
 use Rattle.protocol.specs.ServerBytes.{Served, over, turnedDown, accepted as acting, onMemory, serverTake}
 use Rattle.protocol.specs.ClientBytes.{clientMake}
-use Rattle.protocol.specs.Client.{Client, Hand, Turn, Result, refused, more, written, gave, gaveBlank, aborted, idle, clocking, storing, completing, collecting, filtering, repairing, update, judge, found, codeIn, heldIn, isFull, isIdle, awaits, abortRefusal, abortStep, takeRefusal, turnOn, highAt, takeStep}
+use Rattle.protocol.specs.Client.{Client, Hand, Turn, Result, refused, more, written, gave, gaveBlank, aborted, idle, clocking, storing, completing, collecting, filtering, repairing, update, judge, found, codeIn, heldIn, isFull, awaits, abortRefusal, abortStep, takeRefusal, turnOn, highAt, takeStep}
 use Rattle.protocol.proofs.Answers.{at-cond}
 use Rattle.protocol.proofs.Room.{Fitting}
 use Rattle.protocol.proofs.HandOk.{HandOk, held-in, upd-ok, choice-ok, content-short}
@@ -123,7 +123,8 @@ module _ (P : Primitives) (memory key packet output : List ℕ) where
   done m none = down 0
   done m (some p) = over-room _ output
 
-  by-number : (m : Memory) (o : Option Packet) (n : ℕ) → Fits (onRefusal n (acting P memory key packet output m o) (turnedDown P memory key packet output n))
+  by-number : (m : Memory) (o : Option Packet) (n : ℕ)
+      → Fits (onRefusal n (acting P memory key packet output m o) (turnedDown P memory key packet output n))
   by-number m o zero = done m o
   by-number m o (suc n) = down (suc n)
 

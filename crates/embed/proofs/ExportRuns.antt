@@ -4,8 +4,8 @@
 use mathlib.Core.Path.{_≡_, refl, sym, ap, _∙_, subst}
 use mathlib.Core.Bool.{Bool, true, false, cond}
 use mathlib.Core.List.{List, [], _∷_}
-use Prim.Native.Nat.{ℕ, zero, suc, _+_, _≤_}
-use lib.ListN.{length, drop, replicate, length-replicate}
+use Prim.Native.Nat.{ℕ, _≤_}
+use lib.ListN.{length, replicate, length-replicate}
 use borrow.Author.Tests.{eq-eqb}
 use Rattle.cluster.specs.Config.{Config, shelf}
 use Rattle.cluster.specs.Ranges.{within, topFaults, memorySize}
@@ -26,7 +26,7 @@ use Rattle.protocol.proofs.Accounts.{accounts}
 use Rattle.state.specs.State.{keptPlace, callAt, tallyAt, marksAt, lengthAt}
 use Rattle.wire.specs.Places.{padded}
 use Rattle.embed.specs.Clients.{clientSize, keptOf}
-use Rattle.embed.specs.Exports.{KeysSized, Devices, doExport, nowExport, byExports}
+use Rattle.embed.specs.Exports.{KeysSized, doExport, nowExport, byExports}
 use Rattle.embed.proofs.Stands.{Stands, Same}
 use Rattle.embed.proofs.Exported.{passedStep, passed-fed, passed-values, step-same}
 
@@ -92,7 +92,8 @@ module _ (sh : Shelf) (tr : (1 ≤ sh .t) × (sh .t ≤ topFaults)) (keyed : Key
   steps-same x xs st =
       let y : StepOn sh = passedOn x in
       let ys : List (StepOn sh) = passedAll xs in
-      step-same sh tr keyed (nowExport sh (steps xs)) (machines xs) (world ys) st (run-matches real real-lengths sh tr zeros zeros-size (steps ys) (all-fed ys))
+      step-same sh tr keyed (nowExport sh (steps xs)) (machines xs) (world ys) st
+      (run-matches real real-lengths sh tr zeros zeros-size (steps ys) (all-fed ys))
       (x .step) (x .fed) (run-agrees real real-lengths sh tr zeros zeros-size (y .step) (steps ys) (y .fed) (all-fed ys))
 
   pub now-stands : (xs : List (StepOn sh)) → Stands sh (nowExport sh (steps xs)) (machines xs)

@@ -2,46 +2,40 @@
 -- states are the machines' again. The sizes are right, and an answer has room for what the step tells, since all that clients hold is within the
 -- layout. Assumes nothing.
 use mathlib.Core.Path.{_≡_, refl, sym, ap, _∙_, subst}
-use mathlib.Core.Bool.{Bool, true, false, cond}
-use mathlib.Core.List.{List, [], _∷_}
+use mathlib.Core.Bool.{true}
+use mathlib.Core.List.{List, []}
 use mathlib.Core.Option.{Option, none, some}
-use Prim.Native.Nat.{ℕ, zero, suc, _≤_, _<_}
+use Prim.Native.Nat.{ℕ, _≤_, _<_}
 use native.Mathlib.Omega.{arith}
-use lib.Dec.{eqb, lit<}
-use lib.ListN.{length, take, drop, replicate, length-append, length-replicate}
+use lib.Dec.{lit<}
+use lib.ListN.{length, take}
 use lib.Seq.{length-take-le}
 use borrow.Author.Tests.{eq-eqb}
-use Rattle.cluster.specs.Config.{Config, shelf}
-use Rattle.cluster.specs.Ranges.{within, topWriter, topFaults, mostServers, keySize, memorySize, packetRoom}
-use Rattle.cluster.specs.Refusals.{onRefusal}
+use Rattle.cluster.specs.Config.{Config}
+use Rattle.cluster.specs.Ranges.{within, topFaults, mostServers, keySize, packetRoom}
 use Rattle.cluster.proofs.Tests.{within-bounds, within-in}
 use Rattle.protocol.specs.Values.{nonceSize}
-use Rattle.protocol.specs.Packet.{Packet, PacketOk, decode, encode}
-use Rattle.protocol.specs.Memory.{Memory, decodeMemory, encodeMemory, blankMemory}
-use Rattle.protocol.specs.Primitives.{Primitives, real}
-use Rattle.protocol.specs.Rules.{ByServer, upd}
-use Rattle.protocol.specs.Server.{serverRefusal, blankServer}
-use Rattle.protocol.specs.ServerBytes.{Served, over, turnedDown, accepted, onMemory, serverTake, blankRefusal, blankStep}
+use Rattle.protocol.specs.Packet.{Packet, PacketOk, decode}
+use Rattle.protocol.specs.Primitives.{real}
+use Rattle.protocol.specs.Rules.{ByServer}
+use Rattle.protocol.specs.ServerBytes.{over, serverTake}
 use Rattle.protocol.specs.Client.{Client, Result, abortStep, takeStep}
-use Rattle.protocol.specs.View.{view, keptSize}
-use Rattle.protocol.specs.ClientBytes.{Machine, told, Begun, GaveUp, Took, Written, keyOf, fresh, beginWrite, beginRead, giveUp, clientMake, clientTake, tookBy}
-use Rattle.protocol.specs.Runs.{Shelf, configOf, Step, write, read, make, take-reply, give-up, serve, resultOf, takenOut, abortedOut, sentOf, Machines, Done, newCall, setMachine, doBytes, nowBytes, Fed, StepOn, steps, Account, serverOr, byBytes}
-use Rattle.protocol.proofs.ValueRuns.{World, After, doValues, nowValues, byValues}
+use Rattle.protocol.specs.View.{view}
+use Rattle.protocol.specs.ClientBytes.{Machine, told, Begun, keyOf, beginWrite, beginRead, giveUp, clientMake, clientTake, tookBy}
+use Rattle.protocol.specs.Runs.{Shelf, configOf, Step, write, read, make, take-reply, give-up, serve, resultOf, takenOut, abortedOut, sentOf, Machines, Done, setMachine, doBytes, Fed}
+use Rattle.protocol.proofs.ValueRuns.{World, After, doValues}
 use Rattle.protocol.proofs.Primitive.{real-lengths}
 use Rattle.protocol.proofs.Bodies.{decode-ok}
-use Rattle.protocol.proofs.Room.{Fitting, shelf-fits}
+use Rattle.protocol.proofs.Room.{shelf-fits}
 use Rattle.protocol.proofs.PacketRoom.{packet-room}
 use Rattle.protocol.proofs.ClientLift.{Sound}
 use Rattle.protocol.proofs.Fine.{Fine}
-use Rattle.protocol.proofs.RunLift.{Matches, Agrees, AllFed, run-matches, run-agrees}
-use Rattle.protocol.proofs.Accounts.{accounts}
-use Rattle.state.specs.State.{callAt, tallyAt, marksAt, lengthAt}
-use Rattle.wire.specs.Places.{padded}
+use Rattle.protocol.proofs.RunLift.{Matches, Agrees}
 use Rattle.wire.proofs.Runs.{padded-length}
-use Rattle.embed.specs.Packing.{packed, countIn}
-use Rattle.embed.specs.Clients.{clientSize, keptOf, stateWith, Session, sized, sizedWith, sizedFor, begunIn, stoppedIn, abortedOf, takenOf, tookIn, Taking, Posted, madeOut, keysSize, keysIn, writeIn, readIn, giveUpIn, makeIn, takeIn}
+use Rattle.embed.specs.Packing.{countIn}
+use Rattle.embed.specs.Clients.{clientSize, stateWith, Session, sized, sizedWith, sizedFor, begunIn, stoppedIn, abortedOf, takenOf, tookIn, Taking, Posted, madeOut, keysSize, keysIn, writeIn, readIn, giveUpIn, makeIn, takeIn}
 use Rattle.embed.specs.Servers.{Exchange, keySized, servedOut, takeBy}
-use Rattle.embed.specs.Exports.{passedKey, passedKeys, KeysSized, Devices, Did, said, setState, doExport, nowExport, byExports}
+use Rattle.embed.specs.Exports.{passedKey, passedKeys, KeysSized, Devices, said, setState, doExport}
 use Rattle.embed.proofs.Bounded.{take-small, abort-small, served-room, make-room}
 use Rattle.embed.proofs.Unpacked.{count-back, said-number, said-aborted, said-taken}
 use Rattle.embed.proofs.PassedKeys.{passed-size, own-key, keys-read}
@@ -161,8 +155,8 @@ module _ (sh : Shelf) (tr : (1 ≤ sh .t) × (sh .t ≤ topFaults)) (keyed : Key
         let cl : Client = view s (m .client c .call) (m .client c .kept) in
         let r : Result = takeStep real s c writers (keyOf ks) cl (decode p) (length o) .result in
         said-taken r (over (told r .content) o)
-        (take-small real real-lengths (sh .t) (shelf-fits (sh .t) (tr .0) (tr .1)) c writers (keyOf ks) cl (fine-here c) (decode p) (λ q e. decode-ok p q e)
-        (length o))
+        (take-small real real-lengths (sh .t) (shelf-fits (sh .t) (tr .0) (tr .1)) c writers (keyOf ks) cl (fine-here c) (decode p)
+        (λ q e. decode-ok p q e) (length o))
 
     serve-same : (b : ℕ) (p o : List ℕ) → within 1 (s .servers) b ≡ true → within 1 mostServers b ≡ true
         → takeBy (w .memory b) (keys b) p o ≡ servedOut (serverTake real (m .memory b) (keys b) p o)
@@ -186,7 +180,8 @@ module _ (sh : Shelf) (tr : (1 ≤ sh .t) × (sh .t ≤ topFaults)) (keyed : Key
               ∙ ap (λ (k : ℕ). take k (d .output)) (count-back (d .result .number) 0 0 (d .result .count) (lit< tt) (lit< tt) n);
         }
     step-same (take-reply c lent p o) f g =
-        let e = take-same c (passedKey (lent .writers)) (passedKeys (lent .keys)) p o (padded-length keySize (lent .writers)) (passed-size (lent .keys)) in
+        let e = take-same c (passedKey (lent .writers)) (passedKeys (lent .keys)) p o (padded-length keySize (lent .writers))
+        (passed-size (lent .keys)) in
         client-same sh w m st c _ _ _ _ (machine-sound c _ _ g) (unfold tookIn in ap (λ (z : Taking). z .state) e)
         (unfold tookIn in (ap (λ (z : Taking). said (z .answer) (z .output)) e
         ∙ taken-said c (passedKey (lent .writers)) (keysIn (passedKeys (lent .keys))) p o))

@@ -1,6 +1,6 @@
 -- The keys of servers 1 to 13 in one run of bytes are read as they were passed; so a client 1 to 8, who is lent the shelf's keys, takes with those.
 -- By the places, which are 32 bytes each. Assumes nothing.
-use mathlib.Core.Path.{_≡_, refl, sym, ap, _∙_, subst}
+use mathlib.Core.Path.{_≡_, refl, sym, ap, _∙_}
 use mathlib.Core.Bool.{Bool, true, false}
 use mathlib.Core.List.{List, [], _∷_, _++_, map}
 use Prim.Native.Nat.{ℕ, zero, suc, _+_, _-_, _*_, _≤_, _<_}
@@ -12,14 +12,13 @@ use lib.ListN.{length, take, drop, getD, length-append, length-map, List·getD-e
 use lib.Seq.{take-at, take-all, drop-append-add}
 use borrow.Author.Tests.{ltb-true, ltb-false}
 use Rattle.cluster.specs.Config.{upTo}
-use Rattle.cluster.specs.Ranges.{within, keySize, mostServers}
+use Rattle.cluster.specs.Ranges.{keySize, mostServers}
 use Rattle.cluster.proofs.Legal.{upTo-length, upTo-at}
 use Rattle.cluster.proofs.Tests.{within-in}
 use Rattle.erasure.proofs.Lists.{getD-map}
 use Rattle.protocol.specs.View.{part}
 use Rattle.protocol.specs.ClientBytes.{keyOf}
 use Rattle.protocol.specs.Runs.{Shelf}
-use Rattle.wire.specs.Places.{padded}
 use Rattle.wire.proofs.Runs.{padded-length, padded-whole}
 use Rattle.client.proofs.StampBytes.{key-at}
 use Rattle.embed.specs.Clients.{keysSize, keysIn}
@@ -80,7 +79,8 @@ module _ (keys : List (List ℕ)) where
   read-past i h =
       let d : List ℕ = passedKeys keys in
       key-at (keysIn d) i
-      ∙ List·getD-eq-default (keysIn d) [] (omega (arith, length-map (upTo mostServers) (λ j. part d (keySize * (j - 1)) keySize), upTo-length mostServers))
+      ∙ List·getD-eq-default (keysIn d) []
+      (omega (arith, length-map (upTo mostServers) (λ j. part d (keySize * (j - 1)) keySize), upTo-length mostServers))
 
 -- ---- the shelf's own
 
@@ -96,7 +96,8 @@ module _ (s : Shelf) (sized : KeysSized s) where
       go : (x : Bool) → ltb i mostServers ≡ x → keyOf (keysIn (passedKeys (s .keys))) (suc i) ≡ keyOf (s .keys) (suc i)
       go true e =
           let h = ltb-true i mostServers e in
-          read-key (s .keys) i h ∙ own-key (keyOf (s .keys) (suc i)) (sized .servers (suc i) (within-in 1 mostServers (suc i) (omega arith) (omega (arith, h))))
+          read-key (s .keys) i h
+          ∙ own-key (keyOf (s .keys) (suc i)) (sized .servers (suc i) (within-in 1 mostServers (suc i) (omega arith) (omega (arith, h))))
       go false e =
           let h = ltb-false i mostServers e in
           read-past (s .keys) i h ∙ sym (key-at (s .keys) i ∙ List·getD-eq-default (s .keys) [] (omega (arith, h, sized .count)))

@@ -1,14 +1,14 @@
 -- A client's state holds its call and its kept bytes, whatever step it does: what a step puts into it is read back. So a step through the exported
 -- functions gives the result and sends the bytes of the step on machines, and the states stay those of the machines. Assumes nothing.
-use mathlib.Core.Path.{_≡_, refl, sym, ap, _∙_, subst}
+use mathlib.Core.Path.{_≡_, refl, sym, ap, _∙_}
 use mathlib.Core.Bool.{Bool, true, false, cond}
-use mathlib.Core.List.{List, [], _++_, append-assoc}
-use Prim.Native.Nat.{ℕ, _+_, _-_}
+use mathlib.Core.List.{List, _++_, append-assoc}
+use Prim.Native.Nat.{ℕ, _-_}
 use native.Mathlib.Omega.{arith}
 use lib.Dec.{eqb}
-use lib.ListN.{length, take, drop, length-append, length-drop}
+use lib.ListN.{length, drop, length-append, length-drop}
 use lib.Seq.{length-take-le, drop-at}
-use borrow.Author.Tests.{eq-eqb, eqb-true}
+use borrow.Author.Tests.{eq-eqb}
 use Rattle.cluster.specs.Config.{shelf}
 use Rattle.cluster.specs.Ranges.{within, mostServers}
 use Rattle.protocol.specs.declared.Call.{Call}
@@ -26,7 +26,8 @@ use Rattle.embed.specs.Exports.{Devices, Did, setState}
 
 -- ---- one state
 
-module _ (d : List ℕ) (size : length d ≡ clientSize) (c : Call) (k : List ℕ) (kept : length k ≡ keptSize) (marks : length (c .tally .marks) ≡ mostServers) where
+module _ (d : List ℕ) (size : length d ≡ clientSize) (c : Call) (k : List ℕ) (kept : length k ≡ keptSize)
+    (marks : length (c .tally .marks) ≡ mostServers) where
   abbrev between : List ℕ
   between = part d stateSize (keptPlace - stateSize)
 

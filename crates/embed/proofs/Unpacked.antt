@@ -1,7 +1,7 @@
 -- An answer is read as it was packed, where its parts have room: the result 8 bits, the stamp's number 32 and the count 16.
 -- By the digits of a number. Assumes nothing.
 use mathlib.Core.Path.{_≡_, refl, ap, _∙_}
-use mathlib.Core.List.{List, []}
+use mathlib.Core.List.{List}
 use mathlib.Core.Bool.{true, false}
 use Prim.Native.Nat.{ℕ, zero, suc, _+_, _*_, _/_, _%_, _≤_, _<_}
 use native.Mathlib.Omega.{arith}

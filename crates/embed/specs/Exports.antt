@@ -100,5 +100,7 @@ byExports s =
       result = λ x xs. doExport s (nowExport s (steps xs)) (x .step) .result;
       sent = λ x xs. doExport s (nowExport s (steps xs)) (x .step) .sent;
       client = λ xs c. let d = nowExport s (steps xs) .state c in view (configOf s) (callAt d) (keptOf d);
-      server = λ xs b. cond (within 1 (configOf s .servers) b) (serverOr (configOf s) (decodeMemory (nowExport s (steps xs) .memory b))) (blankServer (configOf s));
+      server =
+          λ xs b.
+          cond (within 1 (configOf s .servers) b) (serverOr (configOf s) (decodeMemory (nowExport s (steps xs) .memory b))) (blankServer (configOf s));
     }

@@ -1,7 +1,7 @@
 -- The claim of firmware that links the library: demand 3 and page 41, of every list of steps done through the exported functions
 -- (crates/embed/specs/Exports.antt), from client states of 00h and servers made blank, on a shelf whose keys have 32 bytes.
 use mathlib.Core.List.{List}
-use Prim.Native.Nat.{ℕ, _≤_}
+use Prim.Native.Nat.{_≤_}
 use Rattle.cluster.specs.Ranges.{topFaults}
 use Rattle.protocol.specs.Runs.{Shelf, configOf, StepOn}
 use Rattle.atomicity.specs.Lists.{Always}

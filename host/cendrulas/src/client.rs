@@ -72,6 +72,7 @@ pub fn client_give_up(state: &mut [u8], t: usize, client: usize) -> Answer {
 }
 
 /// The writers' key, and the keys of servers 1 to 13 one after the other.
+#[derive(Clone)]
 pub struct Keys {
     pub writers: [u8; 32],
     pub servers: [u8; SERVER_KEYS],

@@ -17,6 +17,8 @@ const LIFE: usize = 2_000;
 /// One client on both sides, in the same state.
 struct Pair {
     number: usize,
+    /// What it is lent: the shelf's keys, or other bytes where it holds none.
+    lent: Keys,
     state: Vec<u8>,
     plain: plain::Client,
 }
@@ -60,8 +62,8 @@ impl Shelf {
     }
 
     fn step(&mut self, run: &mut Run, at: usize, step: Step) -> Option<Vec<u8>> {
-        let Pair { number, state, plain } = &mut self.clients[at];
-        let (answer, mut out) = step.by_three(run, &Party::new(self.t, *number, &self.keys), state, plain);
+        let Pair { number, lent, state, plain } = &mut self.clients[at];
+        let (answer, mut out) = step.by_three(run, &Party::new(self.t, *number, lent), state, plain);
         out.truncate(answer.count);
         (answer.refusal == 0).then_some(out)
     }
@@ -132,10 +134,10 @@ impl Shelf {
 
     /// A step of a copy of the client whose state was damaged.
     fn injured(&self, run: &mut Run, source: &mut Source, at: usize) {
-        let Pair { number, state, .. } = &self.clients[at];
+        let Pair { number, lent, state, .. } = &self.clients[at];
         let mut state = state.clone();
         states::injure(source, &mut state);
-        states::step(run, source, &Party::new(self.t, *number, &self.keys), &mut state, &self.old);
+        states::step(run, source, &Party::new(self.t, *number, lent), &mut state, &self.old);
     }
 }
 
@@ -144,6 +146,6 @@ impl Pair {
     fn new(t: usize, number: usize, keys: &Keys, calls: u32) -> Self {
         let mut state = vec![0; CLIENT_STATE];
         state[..4].copy_from_slice(&calls.to_be_bytes());
-        Pair { number, state, plain: plain::Client::new(t, number, keys, calls) }
+        Pair { number, lent: crate::vectors::lent_to(number), state, plain: plain::Client::new(t, number, keys, calls) }
     }
 }

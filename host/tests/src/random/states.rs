@@ -91,10 +91,10 @@ fn awaited(source: &mut Source, party: &Party, state: &[u8], old: &[Vec<u8>]) ->
 
 /// Every operation of a new client looks at the sizes, then at t, then at the client's number (255, 3 and 5), unnarrowed.
 pub fn out_of_range(run: &mut Run) {
-    let keys = crate::vectors::drill_keys();
     let numbers = [0, 1, 8, 9, 16, 17, 257, usize::MAX];
     for t in [0, 1, 4, 5, 257, usize::MAX] {
         for number in numbers {
+            let keys = crate::vectors::lent_to(number);
             let party = Party::new(t, number, &keys);
             every(run, &CLIENT, &party, CLIENT_STATE, 32);
             every(run, &CLIENT, &Party { writers: &keys.writers[1..], ..party }, CLIENT_STATE, 31);

@@ -18,7 +18,7 @@ mod sheets;
 mod packets;
 
 #[cfg(feature = "client")]
-pub use client::drill_keys;
+pub use client::{drill_keys, lent_to};
 
 pub fn all(run: &mut Run, folder: &Path) {
     let vectors = folder.join("vectors");
