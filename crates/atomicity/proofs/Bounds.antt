@@ -22,7 +22,7 @@ use Rattle.atomicity.proofs.Setup.{Setup, Steps, StepOf, Fair, Begin, c
 use Rattle.atomicity.proofs.Marks.{From, from-one, mark-source}
 use Rattle.atomicity.proofs.Rising.{above}
 use Rattle.atomicity.proofs.Nonces.{begins, by-nonce}
-use Rattle.atomicity.proofs.Shape.{Log, result, touched, news, newCall, note-shape}
+use Rattle.atomicity.proofs.Shape.{Log, result, touched, news, entered, note-shape}
 use Rattle.atomicity.proofs.Logs.{Signed}
 use Rattle.atomicity.proofs.Story.{past, story, story-log, stepSigned, step-keeps}
 use Rattle.atomicity.proofs.Listed.{pigeon, map-apart}
@@ -131,15 +131,15 @@ module _ (K : Setup) where
           ∙ two (given (g .call .wrote)) (touched K x xs (x .step) (g .call)) (g .call) e
 
   new-writes : (x : StepOf K) (xs : Steps K) (st : Step) → length (begunNonce x xs st) ≡ length (keep isWrite (news K x xs st))
-  unfolding begunNonce news keep newCall
+  unfolding begunNonce news keep entered
   new-writes x xs (write c r n) = go (accepted (result K x xs))
     where
-      go : (b : Bool) → length (cond b (n ∷ []) []) ≡ length (keep isWrite (cond b (newCall c (suc (calls K xs c)) (some r) (length xs) ∷ []) []))
+      go : (b : Bool) → length (cond b (n ∷ []) []) ≡ length (keep isWrite (cond b (entered c (suc (calls K xs c)) (some r) (length xs) ∷ []) []))
       go true = refl
       go false = refl
   new-writes x xs (read c) = go (accepted (result K x xs))
     where
-      go : (b : Bool) → _≡_ {A = ℕ} 0 (length (keep isWrite (cond b (newCall c (suc (calls K xs c)) none (length xs) ∷ []) [])))
+      go : (b : Bool) → _≡_ {A = ℕ} 0 (length (keep isWrite (cond b (entered c (suc (calls K xs c)) none (length xs) ∷ []) [])))
       go true = refl
       go false = refl
   new-writes x xs (make c b o) = refl

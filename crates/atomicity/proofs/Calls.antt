@@ -19,10 +19,10 @@ use Rattle.protocol.proofs.ValueRuns.{nowValues}
 use Rattle.protocol.proofs.Answers.{at-cond}
 use Rattle.atomicity.specs.Lists.{Ever, In}
 use Rattle.atomicity.specs.Steps.{Stamped, stampedAt}
-use Rattle.atomicity.specs.Claim.{Logged}
+use Rattle.atomicity.specs.Claim.{Logged, given}
 use Rattle.atomicity.proofs.Util.{left-in, right-in}
 use Rattle.atomicity.proofs.Model.{perform, now, account, marks}
-use Rattle.atomicity.proofs.Setup.{Setup, Steps, StepOf, hand, calls, cli}
+use Rattle.atomicity.proofs.Setup.{Setup, Steps, StepOf, hand, calls, cli, Show}
 use Rattle.atomicity.proofs.Moves.{Moved, kept, wbegan, rbegan, quit, took, moved}
 use Rattle.atomicity.proofs.Rounds.{turn-turned}
 use Rattle.atomicity.proofs.Positions.{since, since-same}
@@ -78,21 +78,28 @@ module _ (K : Setup) where
     pub floor : (b : Stamp) (e : ℕ) → Ends K b e xs → e < t → b .number < σ .number
     pub own : Own xs t v σ
 
-  -- the answer is blank, or the content of a write that has shown its nonce
-  abbrev pub Grounded : Steps K → Option (List ℕ) → Stamp → Type 0
-  Grounded xs v σ = ((v ≡ none) × (σ ≡ blankStamp)) ⊎ ((r : Revealed K xs σ) × (v ≡ some (r .write .content)))
+  -- the write had shown its nonce when a step was done that e steps came before
+  abbrev pub ShownBy : ℕ → Stamped → Steps K → Type 0
+  ShownBy e m xs = Ever (λ y ys. (length ys ≡ e) × Ever (Show K (m .client) (m .nonce)) (y ∷ ys)) xs
 
-  pub record Read (xs : Steps K) (a : Logged) (σ : Stamp) : Type 0 where
+  -- the answer is blank, or the content of a write that has shown its nonce, and had so when the read ended
+  abbrev pub Grounded : Steps K → ℕ → Option (List ℕ) → Stamp → Type 0
+  Grounded xs e v σ =
+      ((v ≡ none) × (σ ≡ blankStamp))
+      ⊎ ((r : Revealed K xs σ) × (v ≡ some (r .write .content)) × ShownBy e (r .write) xs)
+
+  pub record Read (xs : Steps K) (a : Logged) (e : ℕ) (σ : Stamp) : Type 0 where
     pub floor : (b : Stamp) (e : ℕ) → Ends K b e xs → e < a .begun → below σ b ≡ false
-    pub value : Grounded xs (a .answer) σ
+    pub value : Grounded xs e (a .answer) σ
 
   pub record Base (xs : Steps K) (a : Logged) (σ : Stamp) : Type 0 where
     pub begun-lt : a .begun < length xs
     pub number-le : a .number ≤ calls K xs (a .client)
     pub ended : (e : ℕ) → a .over ≡ some e → (a .begun < e) × (e < length xs) × Ends K σ e xs
-    pub write : (v : List ℕ) → a .wrote ≡ some v → a .reached ≡ true → Written xs (a .begun) v σ
-    pub read : (e : ℕ) → a .wrote ≡ none → a .over ≡ some e → Read xs a σ
-    pub reaches : (v : List ℕ) (e : ℕ) → a .wrote ≡ some v → a .over ≡ some e → a .reached ≡ true
+    pub write : (v : List ℕ) → a .wrote ≡ some v → given (a .reached) ≡ true → Written xs (a .begun) v σ
+    pub read : (e : ℕ) → a .wrote ≡ none → a .over ≡ some e → Read xs a e σ
+    pub reaches : (v : List ℕ) (e : ℕ) → a .wrote ≡ some v → a .over ≡ some e → given (a .reached) ≡ true
+    pub reach-lt : (k : ℕ) → a .reached ≡ some k → k < length xs
     pub leaves : a .gaveUp ≡ true → a .over ≡ none
 
   -- the call in hand
@@ -100,7 +107,7 @@ module _ (K : Setup) where
     pub going : a .over ≡ none
     pub staying : a .gaveUp ≡ false
     pub began : a .begun ≡ length (since (K .s) (a .client) xs)
-    pub unreached : a .reached ≡ false
+    pub unreached : a .reached ≡ none
 
   -- a write in hand that has its stamp
   pub record Writing (xs : Steps K) (a : Logged) (σ : Stamp) (d : Candidate) : Type 0 where
@@ -113,7 +120,7 @@ module _ (K : Setup) where
   Cur xs a σ idle = Unit {0}
   Cur xs a σ (clocking r n k) = Open xs a × (a .wrote ≡ some r)
   Cur xs a σ (storing d g) = Open xs a × Writing xs a σ d
-  Cur xs a σ (completing d) = Writing xs a σ d × (a .over ≡ none) × (a .gaveUp ≡ false) × (a .reached ≡ true)
+  Cur xs a σ (completing d) = Writing xs a σ d × (a .over ≡ none) × (a .gaveUp ≡ false) × (given (a .reached) ≡ true)
   Cur xs a σ (collecting g) = Open xs a × (a .wrote ≡ none)
   Cur xs a σ (filtering cs g) = Open xs a × (a .wrote ≡ none)
   Cur xs a σ (repairing d r) = Open xs a × (a .wrote ≡ none)
@@ -142,14 +149,15 @@ module _ (K : Setup) where
     ended = λ e q. let r = h .ended e q in (r .0, omega (arith, r .1), inr (r .2));
     write = λ v p q. written-up x xs (a .begun) v σ (h .begun-lt) (h .write v p q);
     read = λ e p q. let r = h .read e p q in
-        record { floor = λ b e k m. r .floor b e (ends-back x xs b e k (omega (arith, m, h .begun-lt))) m; value = go (r .value) };
+        record { floor = λ b i k m. r .floor b i (ends-back x xs b i k (omega (arith, m, h .begun-lt))) m; value = go e (r .value) };
     reaches = h .reaches;
+    reach-lt = λ k q. omega (arith, h .reach-lt k q);
     leaves = h .leaves;
   }
     where
-      go : Grounded xs (a .answer) σ → Grounded (x ∷ xs) (a .answer) σ
-      go (inl p) = inl p
-      go (inr g) = inr (revealed-up K σ x xs (g .0), g .1)
+      go : (e : ℕ) → Grounded xs e (a .answer) σ → Grounded (x ∷ xs) e (a .answer) σ
+      go e (inl p) = inl p
+      go e (inr g) = inr (revealed-up K σ x xs (g .0), g .1, inr (g .2))
 
   pub open-up : (x : StepOf K) (xs : Steps K) (a : Logged) → calls K xs (a .client) ≡ calls K (x ∷ xs) (a .client) → Open xs a → Open (x ∷ xs) a
   open-up x xs a e h = record {
@@ -184,10 +192,10 @@ module _ (K : Setup) where
     pub number : b .number ≡ a .number
     pub begun : b .begun ≡ a .begun
     pub wrote : b .wrote ≡ a .wrote
-    pub reached : a .reached ≡ true → (b .reached ≡ true) × (τ ≡ σ)
+    pub reached : given (a .reached) ≡ true → (b .reached ≡ a .reached) × (τ ≡ σ)
 
   pub keeps-refl : (a : Logged) (σ : Stamp) → Keeps a σ a σ
-  keeps-refl a σ = record { client = refl; number = refl; begun = refl; wrote = refl; reached = λ e. (e, refl) }
+  keeps-refl a σ = record { client = refl; number = refl; begun = refl; wrote = refl; reached = λ e. (refl, refl) }
 
   -- a call that takes no reply in this step
   pub carry : (x : StepOf K) (xs : Steps K) (a : Logged) (σ : Stamp) → CallOk xs a σ →

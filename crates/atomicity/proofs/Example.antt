@@ -27,7 +27,7 @@ use Rattle.protocol.proofs.ValueRuns.{doValues, nowValues, setClient}
 use Rattle.atomicity.specs.Lists.{flat, Ever}
 use Rattle.atomicity.specs.Steps.{stampedFrom, stampedBy, clientChecks, serverChecks, checkedBy, judged, proving, compared, digestsWith, digestedBy, noncesBy, makes}
 use Rattle.atomicity.specs.Claim.{change, note, log, OneOrder}
-use Rattle.atomicity.proofs.Safety.{order}
+use Rattle.atomicity.proofs.Safety.{ordered}
 use Rattle.atomicity.specs.Premises.{Begins, Shows}
 use Rattle.atomicity.proofs.Setup.{Begin}
 use Rattle.atomicity.proofs.Playing.{toy, K, A, packet, Good, ShownAll}
@@ -92,12 +92,12 @@ good-whole = good-shown toFilter (fit .filters) (digests toCollect late) lied
 -- ---- its calls
 
 calls-are : log A whole
-    ≡ record { client = 9; number = 1; wrote = none; begun = 29; reached = false; over = some 45; answer = some content0; gaveUp = false }
-    ∷ record { client = 1; number = 1; wrote = some content0; begun = 0; reached = true; over = some 27; answer = none; gaveUp = false }
+    ≡ record { client = 9; number = 1; wrote = none; begun = 29; reached = none; over = some 45; answer = some content0; gaveUp = false }
+    ∷ record { client = 1; number = 1; wrote = some content0; begun = 0; reached = some 18; over = some 27; answer = none; gaveUp = false }
     ∷ []
 unfolding toy keyOf packet piece nonce0 content0 cand liar share nonceL shelf upTo quorum pointOf fragment restored table fragmentSize column xtime timesBits times power inverse product eval vanish through byte number2 number4 run seq via keepF orBlank many optional empty packetF headF bodyF stampF anyStampF shareF writeF candidateF anyCandidateF candidatesF heldF codeF decode encode nth runOf isBlank below sameStamp sameCandidate held stampMessage candidateMessage upd nobody countTo any keep first gather lower live fits agrees leads leader highest choice parts restoredBy kept raise byHistory byTag valid best act barred replyTo serverRefusal answered serverStep awaits isIdle stampOf tagsOf candidateMade shareMade sharesMade prepared made onto checks higher isFull found judge update tooHigh writeRefusal readRefusal makeRefusal takeRefusal begun writeStep readStep makeStep turnOn highAt takeStep doValues nowValues setClient flat stampedFrom stampedBy clientChecks serverChecks checkedBy digestsWith judged proving compared digestedBy noncesBy made0 asked0 clockAt storeAt completeAt collectAt filterAt talks begins stored revealed completed wilded reading collected lied whole change note log
 calls-are = refl
 
 -- and the theorem speaks of them
 pub example : OneOrder (log A whole)
-example = order K whole (good-whole .fair)
+example = ordered K whole (good-whole .fair) .0

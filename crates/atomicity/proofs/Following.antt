@@ -2,17 +2,17 @@
 -- stays as it was.
 -- Assumes nothing.
 use mathlib.Core.Path.{_≡_, refl, sym, ap, _∙_, subst}
-use mathlib.Core.Bool.{Bool, true, false, _||_}
+use mathlib.Core.Bool.{Bool, true, false}
 use mathlib.Core.List.{_∷_}
 use Prim.Native.Nat.{ℕ, _<_}
 use native.Mathlib.Omega.{arith}
-use lib.Dec.{eqb}
 use lib.ListN.{length}
 use Rattle.protocol.specs.declared.Stamp.{Stamp}
-use Rattle.protocol.specs.Client.{Client, Hand, Turn, more, awaits}
+use Rattle.protocol.specs.Client.{Client, Hand, Turn, more, inComplete}
+use mathlib.Core.Option.{Option, none, some}
 use Rattle.atomicity.specs.Lists.{In}
 use Rattle.atomicity.specs.Steps.{Stamped, stampedFrom}
-use Rattle.atomicity.specs.Claim.{Logged, follow, reach}
+use Rattle.atomicity.specs.Claim.{Logged, follow, reach, earliest, given}
 use Rattle.atomicity.proofs.Util.{clash}
 use Rattle.atomicity.proofs.Setup.{Setup, Steps, StepOf, calls}
 use Rattle.atomicity.proofs.Positions.{since}
@@ -22,13 +22,14 @@ use Rattle.atomicity.proofs.Invariant.{Ends, ends-top}
 use Rattle.atomicity.proofs.Calls.{MarkAt, ends-since, ends-back, Base, Cur, base-up, cur-up, Keeps, keeps-refl}
 
 -- reached stays as it is
-pub unreach : (r b : Bool) → b ≡ false → (r || b) ≡ r
-unreach true b e = refl
-unreach false b e = e
+pub unreach : (r : Option ℕ) (b : Bool) (n : ℕ) → b ≡ false → earliest r b n ≡ r
+unreach (some k) b n e = refl
+unreach none true n e = clash refl e
+unreach none false n e = refl
 
-pub is-reached : (r b : Bool) → r ≡ true → (r || b) ≡ r
-is-reached true b e = refl
-is-reached false b e = clash e refl
+pub is-reached : (r : Option ℕ) (b : Bool) (n : ℕ) → given r ≡ true → earliest r b n ≡ r
+is-reached (some k) b n e = refl
+is-reached none b n e = clash e refl
 
 module _ (K : Setup) where
   -- what is known at the step
@@ -38,7 +39,7 @@ module _ (K : Setup) where
         MarkAt K m (length (since (K .s) (a .client) xs)) (x ∷ xs)
 
   abbrev pub after : Steps K → Logged → Turn → Logged
-  after xs a u = follow (u .result) (eqb (awaits (u .client .hand)) 6) (length xs) a
+  after xs a u = follow (u .result) (inComplete (u .client .hand)) (length xs) a
 
   -- with some stamp, the call a is b after the step, and the hand h
   abbrev pub Stands : StepOf K → Steps K → Logged → Stamp → Logged → Hand → Type 0
@@ -50,12 +51,12 @@ module _ (K : Setup) where
   module _ (x : StepOf K) (xs : Steps K) (a : Logged) (σ : Stamp) (same : calls K xs (a .client) ≡ calls K (x ∷ xs) (a .client))
       (base : Base K xs a σ) where
     -- the hand moved on, the call is as it was
-    pub stays : (h h' : Hand) (cl : Client) → Cur K xs a σ h → cl .hand ≡ h' → (a .reached || eqb (awaits h') 6) ≡ a .reached →
+    pub stays : (h h' : Hand) (cl : Client) → Cur K xs a σ h → cl .hand ≡ h' → earliest (a .reached) (inComplete h') (length xs) ≡ a .reached →
         (Cur K (x ∷ xs) a σ h → Cur K (x ∷ xs) a σ h') → Follows x xs a σ h (record { client = cl; result = more })
     unfolding Follows
     stays h h' cl c e r f k =
-        let q : reach (eqb (awaits (cl .hand)) 6) a ≡ a = ap (λ (z : Hand). reach (eqb (awaits z) 6) a) e
-        ∙ ap (λ (z : Bool). record {
+        let q : reach (inComplete (cl .hand)) (length xs) a ≡ a = ap (λ (z : Hand). reach (inComplete z) (length xs) a) e
+        ∙ ap (λ (z : Option ℕ). record {
           client = a .client;
           number = a .number;
           wrote = a .wrote;

@@ -20,14 +20,15 @@ use Rattle.protocol.proofs.Accounts.{claimed}
 use Rattle.atomicity.specs.Lists.{Always, Once, All, In, AllPairs}
 use Rattle.atomicity.specs.Steps.{StepIn, System}
 use Rattle.atomicity.specs.Premises.{Correct, Parties, correctAt, Premise}
-use Rattle.atomicity.specs.Claim.{InTime, Logged, given, log, before, holds, givesHeld, Replay, CameTo, Progress, systemOf}
-use Rattle.atomicity.specs.Page41.{Version, versions, NeverOlder, Ended, Page41}
+use Rattle.atomicity.specs.Claim.{InTime, Logged, given, before, holds, givesHeld, Replay, CameTo, Progress, systemOf, OneOrder}
+use Rattle.atomicity.specs.Page41.{Version, versions, NeverOlder, Ended, Page41, Page41Of}
 use Rattle.atomicity.proofs.Util.{unfalse, clash, or-cases, all-in}
 use Rattle.atomicity.proofs.Model.{Laws, account}
 use Rattle.atomicity.proofs.Setup.{Setup, Steps, Fair, hand, calls}
 use Rattle.atomicity.proofs.Shape.{Log}
 use Rattle.atomicity.proofs.Settled.{Settled, all-settled}
 use Rattle.atomicity.proofs.OneServer.{known-call, progress}
+use Rattle.atomicity.proofs.Safety.{ordered}
 use Rattle.atomicity.proofs.Real.{real-laws}
 
 -- ---- versions along an order
@@ -64,7 +65,7 @@ shown n m (c ∷ cs) h r (inl q) w = let e = ap (λ (z : Version). z .call) q in
     here (some v) e h = absurd (let z : _≡_ {A = ℕ} 0 1 = cc in omega arith)
 shown n m (c ∷ cs) h r (inr i) w = shown (n + cond (given (c .wrote)) 1 0) (holds m (c .wrote)) cs (h .1) r i w
 
-pub never-older : (cs : List Logged) → NeverOlder cs
+pub never-older : (cs : List Logged) (o : OneOrder cs) → NeverOlder (o .order)
 unfolding NeverOlder
 never-older cs o r i = (shown 0 none (o .order) (o .legal) r i, λ a j b. rising 0 none (o .order) (o .time) a r j i b)
 
@@ -109,15 +110,15 @@ module _ (K : Setup) (xs : Steps K) (fair : Fair K xs) where
 
 on-values : (s : System) → Legal (s .config) → Laws s → (correct : Correct) → Parties (s .config) correct → (l : List (StepIn s)) →
     Always (Premise s (byValues (s .P) (s .config) (s .writers) (s .keys)) correct) l →
-    NeverOlder (log (byValues (s .P) (s .config) (s .writers) (s .keys)) l) × Ended s (byValues (s .P) (s .config) (s .writers) (s .keys)) correct l
+    Page41Of s (byValues (s .P) (s .config) (s .writers) (s .keys)) correct l
 unfolding byValues
 on-values s legal laws correct parties l fair =
     let K : Setup = record { s = s; legal = legal; laws = laws; correct = correct; parties = parties } in
-    (never-older (Log K l), ended K l fair)
+    let o = ordered K l fair in
+    record { one = o .0; older = never-older (Log K l) (o .0); sourced = o .1; ended = ended K l fair }
 
 pub page-41 : Page41
 unfolding Page41
 page-41 sh lo hi first sized correct parties = claimed real real-lengths sh (lo, hi) first sized
-    (λ A. (l : List (StepIn (systemOf sh))) → Always (Premise (systemOf sh) A correct) l → NeverOlder (log A l)
-    × Ended (systemOf sh) A correct l)
+    (λ A. (l : List (StepIn (systemOf sh))) → Always (Premise (systemOf sh) A correct) l → Page41Of (systemOf sh) A correct l)
     (on-values (systemOf sh) (legal-shelf (sh .t) lo hi) (real-laws sh lo hi) correct parties)

@@ -31,7 +31,7 @@ use Rattle.atomicity.proofs.Turns.{Outcome}
 use Rattle.atomicity.proofs.Calls.{Cur, CallOk, Keeps, keeps-refl, carry}
 use Rattle.atomicity.proofs.Replies.{call-follows}
 use Rattle.atomicity.proofs.Following.{Follows}
-use Rattle.atomicity.proofs.Shape.{begun-at, effect, newCall, news, refused-view, result, touched, mover, touched-case}
+use Rattle.atomicity.proofs.Shape.{begun-at, effect, entered, news, refused-view, result, touched, mover, touched-case}
 
 module _ (K : Setup) where
   -- a known call
@@ -41,12 +41,12 @@ module _ (K : Setup) where
     pub ok : CallOk K xs call stamp
 
   pub new-write : (x : StepOf K) (xs : Steps K) (c : ℕ) (r n : List ℕ) → x .step ≡ write c r n → accepted (result K x xs) ≡ true →
-      CallOk K (x ∷ xs) (newCall c (suc (calls K xs c)) (some r) (length xs)) blankStamp
-  unfolding Cur newCall
+      CallOk K (x ∷ xs) (entered c (suc (calls K xs c)) (some r) (length xs)) blankStamp
+  unfolding Cur entered
   new-write x xs c r n st acc = go (moved (K .s) c (now (K .s) xs) (x .step))
     where
       go : Moved (K .s) c (now (K .s) xs) (x .step) (perform (K .s) (now (K .s) xs) (x .step) .world .client c) (result K x xs) →
-          CallOk K (x ∷ xs) (newCall c (suc (calls K xs c)) (some r) (length xs)) blankStamp
+          CallOk K (x ∷ xs) (entered c (suc (calls K xs c)) (some r) (length xs)) blankStamp
       go (kept e f) = clash acc (f (ap (acting c) st ∙ eq-eqb c c refl))
       go (wbegan r' n' s b d l e) = let z : r' ≡ r = write-inj (sym s ∙ st) in begun-at K x xs c _ (some r) e (λ o. (o, ap some (sym z)))
         where
@@ -57,12 +57,12 @@ module _ (K : Setup) where
       go (took p lent b o s rd fit e f) = absurd (let z : _≡_ {A = ℕ} 0 1 = cc in omega arith)
 
   pub new-read : (x : StepOf K) (xs : Steps K) (c : ℕ) → x .step ≡ read c → accepted (result K x xs) ≡ true →
-      CallOk K (x ∷ xs) (newCall c (suc (calls K xs c)) none (length xs)) blankStamp
-  unfolding Cur newCall
+      CallOk K (x ∷ xs) (entered c (suc (calls K xs c)) none (length xs)) blankStamp
+  unfolding Cur entered
   new-read x xs c st acc = go (moved (K .s) c (now (K .s) xs) (x .step))
     where
       go : Moved (K .s) c (now (K .s) xs) (x .step) (perform (K .s) (now (K .s) xs) (x .step) .world .client c) (result K x xs) →
-          CallOk K (x ∷ xs) (newCall c (suc (calls K xs c)) none (length xs)) blankStamp
+          CallOk K (x ∷ xs) (entered c (suc (calls K xs c)) none (length xs)) blankStamp
       go (kept e f) = clash acc (f (ap (acting c) st ∙ eq-eqb c c refl))
       go (wbegan r' n' s b d l e) = absurd (let z : _≡_ {A = ℕ} 0 1 = cc in omega arith)
       go (rbegan s b d e) = begun-at K x xs c _ none e (λ o. (o, refl))
@@ -75,9 +75,9 @@ module _ (K : Setup) where
   beginSigned a false f = []
 
   unfoldable pub newSigned : (x : StepOf K) (xs : Steps K) (st : Step) → x .step ≡ st → List (Signed (x ∷ xs))
-  newSigned x xs (write c r n) e = beginSigned (newCall c (suc (calls K xs c)) (some r) (length xs)) (accepted (result K x xs))
+  newSigned x xs (write c r n) e = beginSigned (entered c (suc (calls K xs c)) (some r) (length xs)) (accepted (result K x xs))
       (new-write x xs c r n e)
-  newSigned x xs (read c) e = beginSigned (newCall c (suc (calls K xs c)) none (length xs)) (accepted (result K x xs)) (new-read x xs c e)
+  newSigned x xs (read c) e = beginSigned (entered c (suc (calls K xs c)) none (length xs)) (accepted (result K x xs)) (new-read x xs c e)
   newSigned x xs (make c b o) e = []
   newSigned x xs (take-reply c lent b o) e = []
   newSigned x xs (give-up c) e = []
@@ -121,6 +121,7 @@ module _ (K : Setup) where
       write = h .base .write;
       read = λ e p q. absurd (no-some (sym o ∙ q));
       reaches = h .base .reaches;
+      reach-lt = h .base .reach-lt;
       leaves = λ q. o;
     };
     current = λ n. subst (Cur K ys (leave a) σ) (sym i) tt;
@@ -192,7 +193,7 @@ module _ (K : Setup) where
           subst (λ (y : Result). Goal x xs a σ (follow y (eqb (awaits (hand K (x ∷ xs) (a .client))) 6) (length xs) a)) (sym v) (
             σ,
             leave-ok (x ∷ xs) a σ (leave-cur xs a σ (hand K xs (a .client)) d (h .current n)) (ap (λ (z : Client). z .hand) e) k,
-            record { client = refl; number = refl; begun = refl; wrote = refl; reached = λ e. (e, refl) },
+            record { client = refl; number = refl; begun = refl; wrote = refl; reached = λ e. (refl, refl) },
           )
       go (took p lent b o s rd fit e v) = taken-call x xs fair a σ h n p lent b o s rd fit e v
 

@@ -1,10 +1,9 @@
 -- The claim on values: for every system with its laws and every run that meets the premises there is one order of the calls, a write given up
 -- before its complete round is in none, and a round in hand lacks a quorum of correct replies.
 -- Assumes nothing.
-use mathlib.Core.Path.{_≡_, refl, sym, ap, subst}
+use mathlib.Core.Path.{_≡_, refl, sym, subst}
 use mathlib.Core.Bool.{Bool, true, false, _&&_}
 use mathlib.Core.List.{List}
-use mathlib.Core.Option.{none}
 use mathlib.Core.Logic.{_⊎_, inl, inr}
 use Prim.Native.Nat.{ℕ, _≤_, _<_}
 use native.Mathlib.Omega.{arith}
@@ -18,8 +17,8 @@ use Rattle.protocol.specs.Client.{Hand, idle, clocking, storing, completing, co
 use Rattle.protocol.proofs.ValueRuns.{byValues}
 use Rattle.atomicity.specs.Lists.{In}
 use Rattle.atomicity.specs.Steps.{System}
-use Rattle.atomicity.specs.Claim.{Logged, given, counted, begunWrites, NeverRead, CameTo, CameIn, Progress, OneServer}
-use Rattle.atomicity.proofs.Util.{bool-case, clash, and-right, and-intro, or-cases, keep-in, all-in, map-in}
+use Rattle.atomicity.specs.Claim.{Logged, begunWrites, CameTo, CameIn, Progress, OneServer}
+use Rattle.atomicity.proofs.Util.{bool-case, clash, and-intro, all-in, map-in}
 use Rattle.atomicity.proofs.Model.{Laws, account, marks}
 use Rattle.atomicity.proofs.Setup.{Setup, Steps, Fair, hand, calls, replied, right, right-range}
 use Rattle.atomicity.proofs.Positions.{since, from}
@@ -29,8 +28,7 @@ use Rattle.atomicity.proofs.Invariant.{Hands, hands-all}
 use Rattle.atomicity.proofs.Shape.{Log}
 use Rattle.atomicity.proofs.Logs.{Signed}
 use Rattle.atomicity.proofs.Story.{story, story-log}
-use Rattle.atomicity.proofs.Ordering.{in-perm, perm-sym}
-use Rattle.atomicity.proofs.Safety.{order}
+use Rattle.atomicity.proofs.Safety.{ordered}
 use Rattle.atomicity.proofs.Bounds.{few-marks}
 use Rattle.atomicity.proofs.Listed.{marked-count}
 use Rattle.atomicity.proofs.Arrived.{Roomy, arrived}
@@ -41,18 +39,6 @@ module _ (K : Setup) (xs : Steps K) (fair : Fair K xs) where
   -- a call of the log is known
   pub known-call : (a : Logged) → In a (Log K xs) → (g : Signed K xs) × In g (story K xs fair) × (a ≡ g .call)
   known-call a i = map-in (λ (g : Signed K xs). g .call) (story K xs fair) a (subst (λ (l : List Logged). In a l) (sym (story-log K xs fair)) i)
-
-  pub never-read : NeverRead (Log K xs)
-  unfolding NeverRead counted
-  never-read o w i up un j =
-      let g = known-call w i in
-      let c = keep-in counted (Log K xs) w (in-perm (perm-sym (o .exact)) w j) .1 in
-      let over : w .over ≡ none = subst (λ (a : Logged). a .gaveUp ≡ true → a .over ≡ none) (sym (g .2)) (g .0 .ok .base .leaves) up in
-      go over (or-cases (given (w .over)) (given (w .wrote) && w .reached) c)
-    where
-      go : w .over ≡ none → (given (w .over) ≡ true) ⊎ ((given (w .wrote) && w .reached) ≡ true) → ⊥
-      go q (inl k) = clash k (ap given q)
-      go q (inr k) = clash (and-right (given (w .wrote)) (w .reached) k) un
 
   -- ---- progress
 
@@ -89,4 +75,4 @@ pub one-server : (s : System) → Legal (s .config) → Laws s → OneServer s (
 unfolding OneServer byValues
 one-server s legal laws correct parties l fair =
     let K : Setup = record { s = s; legal = legal; laws = laws; correct = correct; parties = parties } in
-    (order K l fair, (never-read K l fair, progress K l fair))
+    (ordered K l fair .0, progress K l fair)

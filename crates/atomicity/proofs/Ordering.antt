@@ -8,9 +8,10 @@ use mathlib.Core.Option.{Option, none, some}
 use mathlib.Core.Logic.{_⊎_, inl, inr}
 use Prim.Native.Nat.{ℕ}
 use Rattle.protocol.specs.Rules.{keep}
+use Rattle.atomicity.specs.Page41.{reachedBy, Sourced}
 use Rattle.atomicity.specs.Lists.{All, In, AllPairs, Perm, nil, skip, swap, trans}
 use Rattle.atomicity.specs.Claim.{InTime, Logged, before, counted, givesHeld, holds, Replay, OneOrder}
-use Rattle.atomicity.proofs.Util.{no-some, all-in, all-map}
+use Rattle.atomicity.proofs.Util.{no-some, all-in, all-map, in-map}
 use Rattle.atomicity.proofs.Sorting.{sort, perm-sort, all-sort, sort-sorted}
 use Rattle.cluster.proofs.Tests.{untrue}
 
@@ -157,18 +158,54 @@ module _ {A : Type 0} (call : A → Logged) (less : A → A → Bool)
       go true e = ap (λ (l : List Logged). call c ∷ l) e
       go false e = e
 
-  -- the one order, from three facts about the calls that count
+  -- whatever a read gave was written by a write below it, in time
+  abbrev pub Sources : List A → Type 0
+  Sources cs = (r : A) → In r cs → (v : List ℕ) → call r .wrote ≡ none → call r .answer ≡ some v →
+      (w : A) × In w cs × (less w r ≡ true) × (call w .wrote ≡ some v) × (reachedBy (call w .reached) (call r .over) ≡ true)
+
+  -- who stands below a call in a sorted list stands ahead of it
+  sourced : (ahead cs : List A) → Sorted cs →
+      ((r : A) → In r cs → (v : List ℕ) → call r .wrote ≡ none → call r .answer ≡ some v →
+      (w : A) × (In w ahead ⊎ In w cs) × (less w r ≡ true) × (call w .wrote ≡ some v) × (reachedBy (call w .reached) (call r .over) ≡ true)) →
+      Sourced (map call ahead) (map call cs)
+  unfolding Sorted AllPairs Sourced In
+  sourced ahead [] s h = tt
+  sourced ahead (c ∷ cs) s h = (mine, sourced (c ∷ ahead) cs (s .1) later)
+    where
+      mine : (v : List ℕ) → call c .wrote ≡ none → call c .answer ≡ some v →
+          (w : Logged) × In w (map call ahead) × (w .wrote ≡ some v) × (reachedBy (w .reached) (call c .over) ≡ true)
+      mine v n a = let k = h c (inl refl) v n a in (call (k .0), in-map call ahead (k .0) (place (k .0) (k .2) (k .1)), k .3, k .4)
+        where
+          place : (w : A) → less w c ≡ true → In w ahead ⊎ In w (c ∷ cs) → In w ahead
+          place w l (inl i) = i
+          place w l (inr (inl e)) = absurd (asym c c (subst (λ (z : A). less z c ≡ true) e l) (subst (λ (z : A). less z c ≡ true) e l))
+          place w l (inr (inr i)) = absurd (asym c w (all-in (λ x. less c x ≡ true) cs (s .0) w i) l)
+
+      later : (r : A) → In r cs → (v : List ℕ) → call r .wrote ≡ none → call r .answer ≡ some v →
+          (w : A) × (In w (c ∷ ahead) ⊎ In w cs) × (less w r ≡ true) × (call w .wrote ≡ some v)
+          × (reachedBy (call w .reached) (call r .over) ≡ true)
+      later r i v n a = let k = h r (inr i) v n a in (k .0, move (k .0) (k .1), k .2, k .3, k .4)
+        where
+          move : (w : A) → In w ahead ⊎ In w (c ∷ cs) → In w (c ∷ ahead) ⊎ In w cs
+          move w (inl i) = inl (inr i)
+          move w (inr (inl e)) = inl (inl e)
+          move w (inr (inr i)) = inr i
+
+  -- the one order, from four facts about the calls that count
   pub one-order : (cs : List A) →
       AllPairs (λ a b. (less a b ≡ true) ⊎ (less b a ≡ true)) (count-in cs) →
       ((a b : A) → In a (count-in cs) → In b (count-in cs) → before (call a) (call b) ≡ true → less a b ≡ true) →
-      Reads none (count-in cs) → OneOrder (map call cs)
+      Reads none (count-in cs) → Sources (count-in cs) → (o : OneOrder (map call cs)) × Sourced [] (o .order)
   unfolding Sorted
-  one-order cs apart fits reads =
+  one-order cs apart fits reads sources =
       let xs = count-in cs in
-      let o = sort-sorted less chain xs apart in
-      record {
-        order = map call (sort less xs);
-        exact = subst (Perm (map call (sort less xs))) (sym (keep-call cs)) (perm-map call (perm-sort less xs));
-        time = timely (sort less xs) (λ a b i j. fits a b (from-sort xs a i) (from-sort xs b j)) o;
-        legal = replays none (sort less xs) o (reads-sort none xs reads);
-      }
+      let o = sort-sorted less chain xs apart in (
+        record {
+          order = map call (sort less xs);
+          exact = subst (Perm (map call (sort less xs))) (sym (keep-call cs)) (perm-map call (perm-sort less xs));
+          time = timely (sort less xs) (λ a b i j. fits a b (from-sort xs a i) (from-sort xs b j)) o;
+          legal = replays none (sort less xs) o (reads-sort none xs reads);
+        },
+        sourced [] (sort less xs) o
+            (λ r i v w a. let k = sources r (from-sort xs r i) v w a in (k .0, inr (into-sort xs (k .0) (k .1)), k .2, k .3, k .4)),
+      )

@@ -7,19 +7,21 @@ use mathlib.Core.Bool.{Bool, true, cond, _&&_}
 use mathlib.Core.List.{List, [], _∷_}
 use mathlib.Core.Option.{Option, none, some}
 use mathlib.Core.Logic.{_⊎_, inl, inr}
-use Prim.Native.Nat.{ℕ, _≤_, _<_}
+use Prim.Native.Nat.{ℕ, _≤_, _<_, suc}
 use native.Mathlib.Omega.{arith}
 use lib.Dec.{ltb}
 use lib.ListN.{length}
-use borrow.Author.Tests.{ltb-true, ltb-false, lt-ltb}
+use borrow.Author.Tests.{ltb-true, ltb-false, lt-ltb, le-leb}
 use Rattle.protocol.specs.declared.Stamp.{Stamp}
 use Rattle.protocol.specs.Rules.{keep}
 use Rattle.protocol.proofs.ValueRuns.{nowValues}
 use Rattle.protocol.proofs.Answers.{at-cond}
+use Rattle.atomicity.proofs.Genuine.{Revealed}
+use Rattle.atomicity.specs.Page41.{reachedBy, Sourced}
 use Rattle.atomicity.specs.Lists.{Ever, In, AllPairs}
 use Rattle.atomicity.specs.Steps.{Stamped}
 use Rattle.atomicity.specs.Claim.{Logged, given, endedBy, before, counted, OneOrder}
-use Rattle.atomicity.proofs.Util.{bool-case, clash, and-left, and-right, and-intro, or-cases, or-right, keep-in, in-keep, all-of, all-in, all-map}
+use Rattle.atomicity.proofs.Util.{bool-case, clash, and-left, and-right, and-intro, or-cases, or-right, keep-in, in-keep, all-of, all-in, all-map, given-some, no-some}
 use Rattle.atomicity.proofs.Stamps.{le-view}
 use Rattle.atomicity.proofs.Model.{now}
 use Rattle.atomicity.proofs.Setup.{Setup, Steps, Fair}
@@ -27,10 +29,10 @@ use Rattle.atomicity.proofs.Positions.{since}
 use Rattle.atomicity.proofs.Marks.{mark-num, mark-who, mark-source}
 use Rattle.atomicity.proofs.Rising.{above}
 use Rattle.atomicity.proofs.Nonces.{by-nonce}
-use Rattle.atomicity.proofs.Calls.{MarkAt, mark-at, Grounded}
+use Rattle.atomicity.proofs.Calls.{MarkAt, mark-at, Grounded, ShownBy}
 use Rattle.atomicity.proofs.Shape.{Log}
 use Rattle.atomicity.proofs.Logs.{Signed}
-use Rattle.atomicity.proofs.Story.{story, story-log, story-pairs, Counts, shown-call}
+use Rattle.atomicity.proofs.Story.{story, story-log, story-pairs, Counts, shown-then}
 use Rattle.atomicity.proofs.Keys.{lex-lt, lex-eq, lex-view, part, lesser, less, less-chain, less-asym, less-total, Rest, less-rest, between}
 use Rattle.atomicity.proofs.Ordering.{Clear, Last, Explained, Reads, one-order}
 
@@ -39,10 +41,6 @@ unfolding keep AllPairs
 keep-pairs R p [] h = tt
 keep-pairs {A} R p (x ∷ l) h = at-cond (p x) (x ∷ keep p l) (keep p l) (AllPairs R)
     (λ e. (all-of (R x) (keep p l) (λ y i. all-in (R x) l (h .0) y (keep-in p l y i .0)), keep-pairs R p l (h .1))) (λ e. keep-pairs R p l (h .1))
-
-pub given-some : {A : Type 0} (o : Option A) → given o ≡ true → (a : A) × (o ≡ some a)
-given-some none e = clash e refl
-given-some (some a) e = (a, refl)
 
 part-write : (a : Logged) (v : List ℕ) → a .wrote ≡ some v → part a ≡ 0
 unfolding part
@@ -92,22 +90,22 @@ module _ (K : Setup) where
     counts g i = keep-in (λ (g : Signed K xs). counted (g .call)) (story K xs fair) g i .1
 
     -- a write that counts has reached its complete round
-    write-reached : (g : Signed K xs) → In g gs → (v : List ℕ) → g .call .wrote ≡ some v → g .call .reached ≡ true
+    write-reached : (g : Signed K xs) → In g gs → (v : List ℕ) → g .call .wrote ≡ some v → given (g .call .reached) ≡ true
     unfolding counted
-    write-reached g i v w = go (or-cases (given (g .call .over)) (given (g .call .wrote) && g .call .reached) (counts g i))
+    write-reached g i v w = go (or-cases (given (g .call .over)) (given (g .call .wrote) && given (g .call .reached)) (counts g i))
       where
-        go : (given (g .call .over) ≡ true) ⊎ ((given (g .call .wrote) && g .call .reached) ≡ true) → g .call .reached ≡ true
+        go : (given (g .call .over) ≡ true) ⊎ ((given (g .call .wrote) && given (g .call .reached)) ≡ true) → given (g .call .reached) ≡ true
         go (inl o) = let e = given-some (g .call .over) o in g .ok .base .reaches v (e .0) w (e .1)
-        go (inr o) = and-right (given (g .call .wrote)) (g .call .reached) o
+        go (inr o) = and-right (given (g .call .wrote)) (given (g .call .reached)) o
 
     -- a read that counts has ended
     read-over : (g : Signed K xs) → In g gs → g .call .wrote ≡ none → (e : ℕ) × (g .call .over ≡ some e)
     unfolding counted
-    read-over g i w = go (or-cases (given (g .call .over)) (given (g .call .wrote) && g .call .reached) (counts g i))
+    read-over g i w = go (or-cases (given (g .call .over)) (given (g .call .wrote) && given (g .call .reached)) (counts g i))
       where
-        go : (given (g .call .over) ≡ true) ⊎ ((given (g .call .wrote) && g .call .reached) ≡ true) → (e : ℕ) × (g .call .over ≡ some e)
+        go : (given (g .call .over) ≡ true) ⊎ ((given (g .call .wrote) && given (g .call .reached)) ≡ true) → (e : ℕ) × (g .call .over ≡ some e)
         go (inl o) = given-some (g .call .over) o
-        go (inr o) = clash (and-left (given (g .call .wrote)) (g .call .reached) o) (ap given w)
+        go (inr o) = clash (and-left (given (g .call .wrote)) (given (g .call .reached)) o) (ap given w)
 
     -- real time
     fits : (a b : Signed K xs) → In a gs → In b gs → before (a .call) (b .call) ≡ true → keyless a b ≡ true
@@ -140,14 +138,69 @@ module _ (K : Setup) where
         go none q k = clash k refl
         go (some e) q k = ended e q (ltb-true e (b .call .begun) k)
 
+    -- the write that a read's content comes from
+    record From (r : Signed K xs) (e : ℕ) : Type 0 where
+      known : Signed K xs
+      among : In known gs
+      content : List ℕ
+      wrote : known .call .wrote ≡ some content
+      gives : r .call .answer ≡ some content
+      stamp-is : known .stamp ≡ r .stamp
+      by : reachedBy (known .call .reached) (some e) ≡ true
+
+    from-write : (r : Signed K xs) (e : ℕ) (m : Revealed K xs (r .stamp)) → r .call .answer ≡ some (m .write .content) →
+        ShownBy K e (m .write) xs → From r e
+    unfolding counted
+    from-write r e m v h =
+        let C : Counts K xs fair (m .write .nonce) (suc e) = shown-then K xs fair (m .write) e h in
+        let eq : C .write ≡ m .write = by-nonce K xs fair (C .write) (m .write) (C .made) (m .made) (C .nonce-is) in
+        record {
+          known = C .known;
+          among = in-keep (λ (g : Signed K xs). counted (g .call)) (story K xs fair) (C .known) (C .among)
+              (or-right (given (C .known .call .over)) _ (and-intro _ _ (ap given (C .wrote)) (ap given (C .reached))));
+          content = m .write .content;
+          wrote = C .wrote ∙ ap (λ (z : Stamped). some (z .content)) eq;
+          gives = v;
+          stamp-is = sym (C .stamp-is) ∙ ap (λ (z : Stamped). z .stamp) eq ∙ m .stamp-is;
+          by = ap (λ (o : Option ℕ). reachedBy o (some e)) (C .reached) ∙ le-leb (C .when) e (omega (arith, C .early));
+        }
+
+    -- it stands below the read
+    below-it : (r : Signed K xs) (e : ℕ) → r .call .wrote ≡ none → (f : From r e) → keyless (f .known) r ≡ true
+    unfolding less lesser
+    below-it r e w f = lex-eq _ _ _ (ap (λ (a : Stamp). a .number) (f .stamp-is)) (lex-eq _ _ _ (ap (λ (a : Stamp). a .writer) (f .stamp-is))
+        (lex-lt (part (f .known .call)) (part (r .call)) _
+        (omega (arith, part-write (f .known .call) (f .content) (f .wrote), part-read (r .call) w))))
+
+    -- and no other write between
+    last : (r : Signed K xs) (e : ℕ) (f : From r e) (u : Signed K xs) (v : List ℕ) → In u gs → u .call .wrote ≡ some v →
+        (f .known .stamp .number ≡ u .stamp .number) × (f .known .stamp .writer ≡ u .stamp .writer) × (lesser (f .known .call) (u .call) ≡ true) → ⊥
+    unfolding lesser
+    last r e f u v j q b =
+        let W = u .ok .base .write v q (write-reached u j v q) .own in
+        let X = f .known .ok .base .write (f .content) (f .wrote) (write-reached (f .known) (f .among) (f .content) (f .wrote)) .own in
+        let wm = mark-at K (W .write) (u .call .begun) xs (W .since-when) in
+        let xm = mark-at K (X .write) (f .known .call .begun) xs (X .since-when) in
+        let sn : X .write .stamp .number ≡ W .write .stamp .number = ap (λ (a : Stamp). a .number) (X .stamp-is) ∙ b .0
+        ∙ sym (ap (λ (a : Stamp). a .number) (W .stamp-is)) in
+        let sw : X .write .stamp .writer ≡ W .write .stamp .writer = ap (λ (a : Stamp). a .writer) (X .stamp-is) ∙ b .1
+        ∙ sym (ap (λ (a : Stamp). a .writer) (W .stamp-is)) in
+        let t = mark-when xs (X .write) (W .write) (f .known .call .begun) (u .call .begun)
+        (sym (mark-who (K .s) xs (X .write) xm) ∙ sw ∙ mark-who (K .s) xs (W .write) wm) sn (X .since-when) (W .since-when) in
+        early t (lex-view _ _ _ (b .2))
+      where
+        early : f .known .call .begun ≡ u .call .begun → (part (f .known .call) < part (u .call))
+            ⊎ ((part (f .known .call) ≡ part (u .call)) × (ltb (f .known .call .begun) (u .call .begun) ≡ true)) → ⊥
+        early t (inl k) = omega (arith, k, part-write (u .call) v q)
+        early t (inr k) = omega (arith, t, ltb-true (f .known .call .begun) (u .call .begun) (k .1))
+
     -- a read gives the last write below it
     reads : Reads callOf keyless chain asym none gs
-    unfolding Reads Explained Clear Last counted less lesser
-    reads r i w = let o = read-over r i w in go (r .ok .base .read (o .0) w (o .1) .value)
+    unfolding Reads Explained Clear Last less lesser
+    reads r i w = let o = read-over r i w in go (o .0) (r .ok .base .read (o .0) w (o .1) .value)
       where
-        go : Grounded K xs (r .call .answer) (r .stamp) →
-            Explained callOf keyless chain asym none gs r
-        go (inl p) = inl (p .0, λ u v j q l. clear u v j q (less-rest (u .stamp) (u .call) (r .stamp) (r .call) l))
+        go : (e : ℕ) → Grounded K xs e (r .call .answer) (r .stamp) → Explained callOf keyless chain asym none gs r
+        go e (inl p) = inl (p .0, λ u v j q l. clear u v j q (less-rest (u .stamp) (u .call) (r .stamp) (r .call) l))
           where
             clear : (u : Signed K xs) (v : List ℕ) → In u gs → u .call .wrote ≡ some v → Rest (u .stamp) (u .call) (r .stamp) (r .call) → ⊥
             clear u v j q (inl k) = omega (arith, k, ap (λ (a : Stamp). a .number) (p .1))
@@ -159,60 +212,38 @@ module _ (K : Setup) where
                   mark-num (K .s) xs (W .write) (mark-at K (W .write) (u .call .begun) xs (W .since-when)),
                   ap (λ (a : Stamp). a .number) (W .stamp-is),
                 )
-        go (inr g) = inr (
-          C .known,
-          m .content,
-          g .1,
-          (
-            among,
-            C .wrote ∙ ap (λ (z : Stamped). some (z .content)) eq,
-            below-it,
-            λ u v j q l k. last u v j q (between (C .known .stamp) (C .known .call) (u .stamp) (u .call) (r .stamp) (r .call)
-                (ap (λ (a : Stamp). a .number) stamps) (ap (λ (a : Stamp). a .writer) stamps)
-                (less-rest (C .known .stamp) (C .known .call) (u .stamp) (u .call) k) (less-rest (u .stamp) (u .call) (r .stamp) (r .call) l)),
-          ),
-        )
-          where
-            m : Stamped
-            m = g .0 .write
+        go e (inr g) =
+            let f = from-write r e (g .0) (g .1) (g .2) in
+            inr (
+              f .known,
+              f .content,
+              f .gives,
+              (
+                f .among,
+                f .wrote,
+                unfold less lesser in below-it r e w f,
+                λ u v j q l k. last r e f u v j q (between (f .known .stamp) (f .known .call) (u .stamp) (u .call) (r .stamp) (r .call)
+                    (ap (λ (a : Stamp). a .number) (f .stamp-is)) (ap (λ (a : Stamp). a .writer) (f .stamp-is))
+                    (less-rest (f .known .stamp) (f .known .call) (u .stamp) (u .call) k) (less-rest (u .stamp) (u .call) (r .stamp) (r .call) l)),
+              ),
+            )
 
-            C : Counts K xs fair (m .nonce)
-            C = shown-call K xs fair (m .client) (m .nonce) (g .0 .shown)
-
-            eq : C .write ≡ m
-            eq = by-nonce K xs fair (C .write) m (C .made) (g .0 .made) (C .nonce-is)
-
-            stamps : C .known .stamp ≡ r .stamp
-            stamps = sym (C .stamp-is) ∙ ap (λ (z : Stamped). z .stamp) eq ∙ g .0 .stamp-is
-
-            among : In (C .known) gs
-            among = in-keep (λ (g : Signed K xs). counted (g .call)) (story K xs fair) (C .known) (C .among)
-                (or-right (given (C .known .call .over)) _ (and-intro _ _ (ap given (C .wrote)) (C .reached)))
-
-            below-it : keyless (C .known) r ≡ true
-            below-it = lex-eq _ _ _ (ap (λ (a : Stamp). a .number) stamps) (lex-eq _ _ _ (ap (λ (a : Stamp). a .writer) stamps)
-                (lex-lt (part (C .known .call)) (part (r .call)) _
-                (omega (arith, part-write (C .known .call) (C .write .content) (C .wrote), part-read (r .call) w))))
-
-            last : (u : Signed K xs) (v : List ℕ) → In u gs → u .call .wrote ≡ some v → (C .known .stamp .number ≡ u .stamp .number)
-                × (C .known .stamp .writer ≡ u .stamp .writer) × (lesser (C .known .call) (u .call) ≡ true) → ⊥
-            last u v j q b =
-                let W = u .ok .base .write v q (write-reached u j v q) .own in
-                let X = C .known .ok .base .write (C .write .content) (C .wrote) (C .reached) .own in
-                let wm = mark-at K (W .write) (u .call .begun) xs (W .since-when) in
-                let xm = mark-at K (X .write) (C .known .call .begun) xs (X .since-when) in
-                let sn : X .write .stamp .number ≡ W .write .stamp .number = ap (λ (a : Stamp). a .number) (X .stamp-is) ∙ b .0
-                ∙ sym (ap (λ (a : Stamp). a .number) (W .stamp-is)) in
-                let sw : X .write .stamp .writer ≡ W .write .stamp .writer = ap (λ (a : Stamp). a .writer) (X .stamp-is) ∙ b .1
-                ∙ sym (ap (λ (a : Stamp). a .writer) (W .stamp-is)) in
-                let t = mark-when xs (X .write) (W .write) (C .known .call .begun) (u .call .begun)
-                (sym (mark-who (K .s) xs (X .write) xm) ∙ sw ∙ mark-who (K .s) xs (W .write) wm) sn (X .since-when) (W .since-when) in
-                early t (lex-view _ _ _ (b .2))
-              where
-                early : C .known .call .begun ≡ u .call .begun → (part (C .known .call) < part (u .call))
-                    ⊎ ((part (C .known .call) ≡ part (u .call)) × (ltb (C .known .call .begun) (u .call .begun) ≡ true)) → ⊥
-                early t (inl k) = omega (arith, k, part-write (u .call) v q)
-                early t (inr k) = omega (arith, t, ltb-true (C .known .call .begun) (u .call .begun) (k .1))
+    -- whatever a read gave was written by a write below it, whose complete round had begun by then
+    sources : (r : Signed K xs) → In r gs → (v : List ℕ) → r .call .wrote ≡ none → r .call .answer ≡ some v →
+        (w : Signed K xs) × In w gs × (keyless w r ≡ true) × (w .call .wrote ≡ some v) × (reachedBy (w .call .reached) (r .call .over) ≡ true)
+    sources r i v w a = let o = read-over r i w in go (o .0) (o .1) (r .ok .base .read (o .0) w (o .1) .value)
+      where
+        go : (e : ℕ) → r .call .over ≡ some e → Grounded K xs e (r .call .answer) (r .stamp) →
+            (w : Signed K xs) × In w gs × (keyless w r ≡ true) × (w .call .wrote ≡ some v) × (reachedBy (w .call .reached) (r .call .over) ≡ true)
+        go e q (inl p) = absurd (no-some (sym (p .0) ∙ a))
+        go e q (inr g) =
+            let f = from-write r e (g .0) (g .1) (g .2) in (
+              f .known,
+              f .among,
+              below-it r e w f,
+              f .wrote ∙ sym (f .gives) ∙ a,
+              ap (λ (z : Option ℕ). reachedBy (f .known .call .reached) z) q ∙ f .by,
+            )
 
     apart : AllPairs (λ a b. (keyless a b ≡ true) ⊎ (keyless b a ≡ true)) gs
     unfolding AllPairs
@@ -228,5 +259,7 @@ module _ (K : Setup) where
           weaken l (h .1),
         )
 
-    pub order : OneOrder (Log K xs)
-    order = subst OneOrder (story-log K xs fair) (one-order callOf keyless chain asym (story K xs fair) apart fits reads)
+    -- the order, and where in it a read's content comes from
+    pub ordered : (o : OneOrder (Log K xs)) × Sourced [] (o .order)
+    ordered = subst (λ (l : List Logged). (o : OneOrder l) × Sourced [] (o .order)) (story-log K xs fair)
+        (one-order callOf keyless chain asym (story K xs fair) apart fits reads sources)

@@ -25,7 +25,7 @@ use Rattle.atomicity.proofs.Setup.{Setup, Steps, StepOf, Fair, hand, ca
 use Rattle.atomicity.proofs.Moves.{Moved, kept, wbegan, rbegan, quit, took, moved, acting}
 use Rattle.atomicity.proofs.Rounds.{turn-turned}
 use Rattle.atomicity.proofs.Calls.{CallOk}
-use Rattle.atomicity.proofs.Shape.{result, effect, touched, mover, touched-case, newCall, refused-view}
+use Rattle.atomicity.proofs.Shape.{result, effect, touched, mover, touched-case, entered, refused-view}
 use Rattle.atomicity.proofs.Logs.{Signed, beginSigned, newSigned, new-write, new-read}
 use Rattle.atomicity.proofs.Story.{past, stepSigned, story}
 
@@ -145,14 +145,14 @@ module _ (K : Setup) where
   -- the hand of a client that has just begun is not idle
   begun-settled : (x : StepOf K) (xs : Steps K) (c : ℕ) (w : Option (List ℕ)) → acting c (x .step) ≡ true → accepted (result K x xs) ≡ true →
       (mover (x .step) ≡ some c → ⊥) →
-      Settled (x ∷ xs) (newCall c (suc (calls K xs c)) w (length xs))
-  unfolding Settled nowValues newCall begun isIdle awaits
+      Settled (x ∷ xs) (entered c (suc (calls K xs c)) w (length xs))
+  unfolding Settled nowValues entered begun isIdle awaits
   begun-settled x xs c w act acc f hyp = go (moved (K .s) c (now (K .s) xs) (x .step))
     where
       cl' : Client
       cl' = perform (K .s) (now (K .s) xs) (x .step) .world .client c
 
-      go : Moved (K .s) c (now (K .s) xs) (x .step) cl' (result K x xs) → Out (newCall c (suc (calls K xs c)) w (length xs))
+      go : Moved (K .s) c (now (K .s) xs) (x .step) cl' (result K x xs) → Out (entered c (suc (calls K xs c)) w (length xs))
       go (kept e k) = clash acc (k act)
       go (wbegan r n s b i m e) = clash (subst (λ (z : Client). isIdle (z .hand) ≡ true) e (hyp (sym (ap (λ (z : Client). z .calls) e)))) refl
       go (rbegan s b i e) = clash (subst (λ (z : Client). isIdle (z .hand) ≡ true) e (hyp (sym (ap (λ (z : Client). z .calls) e)))) refl

@@ -40,8 +40,8 @@ begin-shape : (b : Bool) (a : Logged) (cs : List Logged) → _≡_ {A = List Log
 begin-shape true a cs = ap (λ (l : List Logged). a ∷ l) (map-id cs)
 begin-shape false a cs = map-id cs
 
-unfoldable pub newCall : ℕ → ℕ → Option (List ℕ) → ℕ → Logged
-newCall c n w t = record { client = c; number = n; wrote = w; begun = t; reached = false; over = none; answer = none; gaveUp = false }
+unfoldable pub entered : ℕ → ℕ → Option (List ℕ) → ℕ → Logged
+entered c n w t = record { client = c; number = n; wrote = w; begun = t; reached = none; over = none; answer = none; gaveUp = false }
 
 pub refused-view : (v : Result) → accepted v ≡ false → (n : ℕ) × (v ≡ refused n)
 refused-view (refused n) e = (n, refl)
@@ -104,8 +104,8 @@ module _ (K : Setup) where
     touched-case (serve b p o) e = other (λ k n. no-some (sym (ap mover e) ∙ k))
 
   unfoldable pub news : StepOf K → Steps K → Step → List Logged
-  news x xs (write c r n) = cond (accepted (result x xs)) (newCall c (suc (calls K xs c)) (some r) (length xs) ∷ []) []
-  news x xs (read c) = cond (accepted (result x xs)) (newCall c (suc (calls K xs c)) none (length xs) ∷ []) []
+  news x xs (write c r n) = cond (accepted (result x xs)) (entered c (suc (calls K xs c)) (some r) (length xs) ∷ []) []
+  news x xs (read c) = cond (accepted (result x xs)) (entered c (suc (calls K xs c)) none (length xs) ∷ []) []
   news x xs (make c b o) = []
   news x xs (take-reply c lent b o) = []
   news x xs (give-up c) = []
@@ -113,7 +113,7 @@ module _ (K : Setup) where
 
   pub note-shape : (x : StepOf K) (xs : Steps K) (cs : List Logged) (st : Step) →
       note (account (K .s)) x xs cs st ≡ news x xs st ++ map (touched x xs st) cs
-  unfolding note news touched newCall
+  unfolding note news touched entered
   note-shape x xs cs (write c r n) = begin-shape (accepted (result x xs)) _ cs
   note-shape x xs cs (read c) = begin-shape (accepted (result x xs)) _ cs
   note-shape x xs cs (make c b o) = map-id cs
@@ -125,9 +125,9 @@ module _ (K : Setup) where
 
   pub begun-at : (x : StepOf K) (xs : Steps K) (c : ℕ) (h : Hand) (w : Option (List ℕ)) →
       perform (K .s) (now (K .s) xs) (x .step) .world .client c ≡ begun (cli K xs c) h →
-      (Open K (x ∷ xs) (newCall c (suc (calls K xs c)) w (length xs)) → Cur K (x ∷ xs) (newCall c (suc (calls K xs c)) w (length xs)) blankStamp h) →
-      CallOk K (x ∷ xs) (newCall c (suc (calls K xs c)) w (length xs)) blankStamp
-  unfolding nowValues newCall begun
+      (Open K (x ∷ xs) (entered c (suc (calls K xs c)) w (length xs)) → Cur K (x ∷ xs) (entered c (suc (calls K xs c)) w (length xs)) blankStamp h) →
+      CallOk K (x ∷ xs) (entered c (suc (calls K xs c)) w (length xs)) blankStamp
+  unfolding nowValues entered begun
   begun-at x xs c h w e f =
       let q : calls K (x ∷ xs) c ≡ suc (calls K xs c) = ap (λ (z : Client). z .calls) e in
       record {
@@ -138,8 +138,9 @@ module _ (K : Setup) where
           write = λ v p q. clash q refl;
           read = λ e p q. absurd (no-some q);
           reaches = λ v e p q. absurd (no-some q);
+          reach-lt = λ k q. absurd (no-some q);
           leaves = λ q. clash q refl;
         };
-        current = λ n. subst (λ (z : Client). Cur K (x ∷ xs) (newCall c (suc (calls K xs c)) w (length xs)) blankStamp (z .hand)) (sym e)
+        current = λ n. subst (λ (z : Client). Cur K (x ∷ xs) (entered c (suc (calls K xs c)) w (length xs)) blankStamp (z .hand)) (sym e)
             (f (record { going = refl; staying = refl; began = ap length (sym (since-new (K .s) c x xs (omega (arith, q)))); unreached = refl }));
       }

@@ -6,7 +6,7 @@ use mathlib.Core.Bool.{Bool, true, false}
 use mathlib.Core.List.{List, [], _∷_, _++_, map, map-append}
 use mathlib.Core.Option.{some}
 use mathlib.Core.Logic.{_⊎_, inl, inr}
-use Prim.Native.Nat.{ℕ, suc, _<_}
+use Prim.Native.Nat.{ℕ, suc, _<_, _≤_}
 use native.Mathlib.Omega.{arith}
 use lib.ListN.{length}
 use Rattle.protocol.specs.Values.{Candidate, blankStamp}
@@ -15,8 +15,8 @@ use Rattle.protocol.specs.Runs.{Step, write, read, make, take-reply, give-up, s
 use Rattle.protocol.proofs.ValueRuns.{World, nowValues}
 use Rattle.atomicity.specs.Lists.{Ever, Always, All, In, AllPairs}
 use Rattle.atomicity.specs.Steps.{Stamped}
-use Rattle.atomicity.specs.Claim.{Logged, log}
-use Rattle.atomicity.proofs.Util.{clash, right-in, in-map, map-in, all-of}
+use Rattle.atomicity.specs.Claim.{Logged, log, given}
+use Rattle.atomicity.proofs.Util.{clash, right-in, in-map, map-in, all-of, given-some}
 use Rattle.atomicity.proofs.Model.{perform, now, marks}
 use Rattle.atomicity.proofs.Setup.{Setup, Steps, StepOf, Meets, Fair, Show, hand, calls, cli}
 use Rattle.atomicity.proofs.Moves.{Moved, kept, wbegan, rbegan, quit, took, moved}
@@ -25,8 +25,8 @@ use Rattle.atomicity.proofs.Marks.{marks-up}
 use Rattle.atomicity.proofs.Rising.{by-stamp}
 use Rattle.atomicity.proofs.Begun.{Known, known}
 use Rattle.atomicity.proofs.Invariant.{show-hand}
-use Rattle.atomicity.proofs.Calls.{mark-at, Cur, CallOk, Keeps}
-use Rattle.atomicity.proofs.Shape.{Log, result, touched, newCall, note-shape}
+use Rattle.atomicity.proofs.Calls.{mark-at, Cur, CallOk, Keeps, ShownBy}
+use Rattle.atomicity.proofs.Shape.{Log, result, touched, entered, note-shape}
 use Rattle.atomicity.proofs.Logs.{Signed, beginSigned, newSigned, new-calls, new-write, new-read, step-call}
 
 module _ (K : Setup) where
@@ -102,7 +102,7 @@ module _ (K : Setup) where
   new-pairs : (x : StepOf K) (xs : Steps K) (st : Step) (e : x .step ≡ st) (l : List (Signed K (x ∷ xs))) →
       ((g : Signed K (x ∷ xs)) → In g l → g .call .begun < length xs) →
       AllPairs (λ (a b : Signed K (x ∷ xs)). Later a b) l → AllPairs (λ (a b : Signed K (x ∷ xs)). Later a b) (newSigned K x xs st e ++ l)
-  unfolding newSigned newCall
+  unfolding newSigned entered
   new-pairs x xs (write c r n) e l f h = begin-pairs _ (accepted (result K x xs)) (new-write K x xs c r n e) l f h
   new-pairs x xs (read c) e l f h = begin-pairs _ (accepted (result K x xs)) (new-read K x xs c e) l f h
   new-pairs x xs (make c b o) e l f h = h
@@ -137,7 +137,7 @@ module _ (K : Setup) where
   new-has : (x : StepOf K) (xs : Steps K) (c : ℕ) (st : Step) (e : x .step ≡ st) (l : List (Signed K (x ∷ xs))) → accepted (result K x xs) ≡ true →
       ((r n : List ℕ) × (st ≡ write c r n)) ⊎ (st ≡ read c) →
       (g : Signed K (x ∷ xs)) × In g (newSigned K x xs st e ++ l) × (g .call .client ≡ c) × (g .call .number ≡ suc (calls K xs c))
-  unfolding newSigned newCall
+  unfolding newSigned entered
   new-has x xs c (write d r n) e l acc s = let g = begin-has _ (accepted (result K x xs)) (new-write K x xs d r n e) l acc in
       let q : d ≡ c = same s in
       (g .0, g .1, ap (λ (a : Logged). a .client) (g .2) ∙ q, ap (λ (a : Logged). a .number) (g .2) ∙ ap (λ (i : ℕ). suc (calls K xs i)) q)
@@ -194,22 +194,27 @@ module _ (K : Setup) where
 
   -- ---- a write that was shown
 
-  pub record Counts (xs : Steps K) (fair : Fair K xs) (n : List ℕ) : Type 0 where
+  -- t: its complete round had begun when fewer steps were done
+  pub record Counts (xs : Steps K) (fair : Fair K xs) (n : List ℕ) (t : ℕ) : Type 0 where
     pub known : Signed K xs
     pub among : In known (story xs fair)
-    pub reached : known .call .reached ≡ true
+    pub when : ℕ
+    pub reached : known .call .reached ≡ some when
+    pub early : when < t
     pub write : Stamped
     pub made : In write (marks (K .s) xs)
     pub nonce-is : write .nonce ≡ n
     pub stamp-is : write .stamp ≡ known .stamp
     pub wrote : known .call .wrote ≡ some (write .content)
 
-  counts-up : (x : StepOf K) (xs : Steps K) (fair : Fair K (x ∷ xs)) (n : List ℕ) → Counts xs (past x xs fair) n → Counts (x ∷ xs) fair n
-  counts-up x xs fair n h = let k = step-keeps x xs fair (h .known) in let r = k .reached (h .reached) in
+  counts-up : (x : StepOf K) (xs : Steps K) (fair : Fair K (x ∷ xs)) (n : List ℕ) (t u : ℕ) → t ≤ u → Counts xs (past x xs fair) n t → Counts (x ∷ xs) fair n u
+  counts-up x xs fair n t u l h = let k = step-keeps x xs fair (h .known) in let r = k .reached (ap given (h .reached)) in
       record {
         known = stepSigned x xs fair (h .known);
         among = story-next x xs fair (h .known) (h .among);
-        reached = r .0;
+        when = h .when;
+        reached = r .0 ∙ h .reached;
+        early = omega (arith, h .early, l);
         write = h .write;
         made = marks-up (K .s) (h .write) x xs (h .made);
         nonce-is = h .nonce-is;
@@ -217,16 +222,17 @@ module _ (K : Setup) where
         wrote = k .wrote ∙ h .wrote;
       }
 
-  pub shown-call : (xs : Steps K) (fair : Fair K xs) (c : ℕ) (n : List ℕ) → Ever (Show K c n) xs → Counts xs fair n
+  pub shown-call : (xs : Steps K) (fair : Fair K xs) (c : ℕ) (n : List ℕ) → Ever (Show K c n) xs → Counts xs fair n (length xs)
   unfolding Ever Cur Known isIdle awaits
   shown-call [] fair c n h = absurd h
-  shown-call (x ∷ xs) fair c n (inl h) = counts-up x xs fair n
+  shown-call (x ∷ xs) fair c n (inl h) = counts-up x xs fair n (length xs) (suc (length xs)) (omega arith)
       (let v = show-hand K c n x xs h in
       let a = has-call xs (past x xs fair) c (subst (λ (z : Hand). isIdle z ≡ false) (sym (v .1)) refl) in
       let g = a .known in
       let cur = subst (Cur K xs (g .call) (g .stamp)) (ap (λ (i : ℕ). hand K xs i) (a .client) ∙ v .1)
       (g .ok .current (a .number ∙ ap (calls K xs) (sym (a .client)))) in
       let W = cur .0 .own in
+      let at = given-some (g .call .reached) (cur .3) in
       let f = subst (Known (K .s) xs c) (v .1) (known (K .s) xs c) in
       let made = mark-at K (W .write) (g .call .begun) xs (W .since-when) in
       let q : W .write .stamp ≡ f .0 .stamp = W .stamp-is ∙ sym (cur .0 .hand-is) ∙ ap (λ (z : Candidate). z .stamp) (f .3) in
@@ -234,11 +240,22 @@ module _ (K : Setup) where
       record {
         known = g;
         among = a .among;
-        reached = cur .3;
+        when = at .0;
+        reached = at .1;
+        early = g .ok .base .reach-lt (at .0) (at .1);
         write = W .write;
         made = made;
         nonce-is = ap (λ (m : Stamped). m .nonce) e ∙ sym (ap (λ (z : Candidate). z .nonce) (f .3)) ∙ v .2;
         stamp-is = W .stamp-is;
         wrote = cur .0 .content-is ∙ ap some (sym (W .content-is));
       })
-  shown-call (x ∷ xs) fair c n (inr h) = counts-up x xs fair n (shown-call xs (past x xs fair) c n h)
+  shown-call (x ∷ xs) fair c n (inr h) =
+      counts-up x xs fair n (length xs) (suc (length xs)) (omega arith) (shown-call xs (past x xs fair) c n h)
+
+  -- shown when a step was done that e steps came before
+  pub shown-then : (xs : Steps K) (fair : Fair K xs) (m : Stamped) (e : ℕ) → ShownBy K e m xs → Counts xs fair (m .nonce) (suc e)
+  unfolding Ever
+  shown-then [] fair m e h = absurd h
+  shown-then (x ∷ xs) fair m e (inl h) =
+      subst (λ (t : ℕ). Counts (x ∷ xs) fair (m .nonce) (suc t)) (h .0) (shown-call (x ∷ xs) fair (m .client) (m .nonce) (h .1))
+  shown-then (x ∷ xs) fair m e (inr h) = counts-up x xs fair (m .nonce) (suc e) (suc e) (omega arith) (shown-then xs (past x xs fair) m e h)

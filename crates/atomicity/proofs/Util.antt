@@ -3,7 +3,7 @@
 use mathlib.Core.Path.{_≡_, refl, sym, ap, _∙_, subst}
 use mathlib.Core.Bool.{Bool, true, false, cond, not, _&&_, _||_, true≢false}
 use mathlib.Core.List.{List, [], _∷_, _++_, map}
-use mathlib.Core.Option.{none, some}
+use mathlib.Core.Option.{none, some, Option}
 use mathlib.Core.Logic.{_⊎_, inl, inr}
 use Prim.Native.Nat.{ℕ, _≤_}
 use native.Mathlib.Omega.{arith}
@@ -11,6 +11,7 @@ use lib.Dec.{eqb, leb}
 use borrow.Author.Tests.{eqb-true, eq-eqb, le-leb}
 use Rattle.cluster.specs.Ranges.{within}
 use Rattle.cluster.proofs.Tests.{untrue}
+use Rattle.atomicity.specs.Claim.{given}
 use Rattle.atomicity.specs.Lists.{Ever, Always, All, In, flat}
 use Rattle.protocol.specs.Rules.{any, keep, upd}
 
@@ -214,3 +215,7 @@ module _ {A B : Type 0} where
       go : In b (f x) ⊎ In b (flat f cs) → (In b (flat f cs) → (c : A) × In c cs × In b (f c)) → (c : A) × In c (x ∷ cs) × In b (f c)
       go (inl k) r = (x, inl refl, k)
       go (inr k) r = let q = r k in (q .0, inr (q .1), q .2)
+
+pub given-some : {A : Type 0} (o : Option A) → given o ≡ true → (a : A) × (o ≡ some a)
+given-some none e = clash e refl
+given-some (some a) e = (a, refl)

@@ -2,22 +2,21 @@
 -- complete ends.
 -- Assumes nothing.
 use mathlib.Core.Path.{_≡_, refl, sym, ap, _∙_, subst}
-use mathlib.Core.Bool.{true, _||_, or-true}
+use mathlib.Core.Bool.{true}
 use mathlib.Core.List.{List, _∷_}
-use mathlib.Core.Option.{none, some, Option·some-injective}
+use mathlib.Core.Option.{none, some, Option·some-injective, Option}
 use mathlib.Core.Logic.{inl}
 use Prim.Native.Nat.{ℕ, suc, _<_}
 use native.Mathlib.Omega.{arith}
-use lib.Dec.{eqb}
 use lib.ListN.{length}
 use Rattle.protocol.specs.declared.Stamp.{Stamp}
 use Rattle.protocol.specs.Values.{Candidate, Share}
 use Rattle.protocol.specs.Rules.{ByServer}
-use Rattle.protocol.specs.Client.{Client, Hand, more, written, idle, clocking, storing, completing, awaits}
+use Rattle.protocol.specs.Client.{Client, Hand, more, written, idle, clocking, storing, completing, awaits, inComplete}
 use Rattle.protocol.specs.Client.{prepared, candidateMade}
 use Rattle.atomicity.specs.Lists.{Ever, In}
 use Rattle.atomicity.specs.Steps.{Stamped, stampedFrom}
-use Rattle.atomicity.specs.Claim.{Logged, close, reach}
+use Rattle.atomicity.specs.Claim.{Logged, close, reach, earliest, given}
 use Rattle.atomicity.proofs.Util.{clash, no-some}
 use Rattle.atomicity.proofs.Model.{stampFor, preparedFor}
 use Rattle.atomicity.proofs.Setup.{Setup, Steps, StepOf, calls}
@@ -38,15 +37,16 @@ module _ (K : Setup) (x : StepOf K) (xs : Steps K) (a : Logged) (σ : Stamp) (sa
       let m : Stamped = record { client = a .client; content = r; nonce = n; stamp = τ } in
       let at : MarkAt K m (length (since (K .s) (a .client) xs)) (x ∷ xs) =
       kn .marked m refl (subst (λ (h : Hand). In m (stampedFrom (a .client) (clocking r n k) h)) (sym e) (inl refl)) in
-      subst (λ (h : Hand). Stands K x xs a σ (reach (eqb (awaits h) 6) a) h) (sym e) (
+      subst (λ (h : Hand). Stands K x xs a σ (reach (inComplete h) (length xs) a) h) (sym e) (
         τ,
         record {
           begun-lt = omega (arith, base .begun-lt);
           number-le = omega (arith, base .number-le, same);
           ended = λ t q. absurd (no-some (sym (c .0 .going) ∙ q));
-          write = λ v p q. clash q (unreach (a .reached) _ refl ∙ c .0 .unreached);
+          write = λ v p q. clash q (ap given (unreach (a .reached) _ (length xs) refl ∙ c .0 .unreached));
           read = λ t p q. absurd (no-some (sym p ∙ c .1));
           reaches = λ v t p q. absurd (no-some (sym (c .0 .going) ∙ q));
+          reach-lt = λ k q. absurd (no-some (sym (unreach (a .reached) _ (length xs) refl ∙ c .0 .unreached) ∙ q));
           leaves = λ q. c .0 .going;
         },
         (
@@ -54,7 +54,7 @@ module _ (K : Setup) (x : StepOf K) (xs : Steps K) (a : Logged) (σ : Stamp) (sa
             going = c .0 .going;
             staying = c .0 .staying;
             began = open-up K x xs a same (c .0) .began;
-            unreached = unreach (a .reached) _ refl ∙ c .0 .unreached;
+            unreached = unreach (a .reached) _ (length xs) refl ∙ c .0 .unreached;
           },
           record {
             content = r;
@@ -68,7 +68,7 @@ module _ (K : Setup) (x : StepOf K) (xs : Steps K) (a : Logged) (σ : Stamp) (sa
             hand-is = refl;
           },
         ),
-        record { client = refl; number = refl; begun = refl; wrote = refl; reached = λ e. clash e (c .0 .unreached) },
+        record { client = refl; number = refl; begun = refl; wrote = refl; reached = λ e. clash e (ap given (c .0 .unreached)) },
       )
 
   pub store-ends : (d : Candidate) (g : ByServer Share) (cl : Client) → cl .hand ≡ completing d → WBeats K (since (K .s) (a .client) xs) (d .stamp) →
@@ -76,8 +76,9 @@ module _ (K : Setup) (x : StepOf K) (xs : Steps K) (a : Logged) (σ : Stamp) (sa
   unfolding Follows Cur WBeats Ever awaits
   store-ends d g cl e beats c kn =
       let w = writing-up K x xs a σ d (c .1) in
-      let won : (a .reached || true) ≡ true = or-true (a .reached) in
-      subst (λ (h : Hand). Stands K x xs a σ (reach (eqb (awaits h) 6) a) h) (sym e) (
+      let now : earliest (a .reached) true (length xs) ≡ some (length xs) = ap (λ (z : Option ℕ). earliest z true (length xs)) (c .0 .unreached) in
+      let won : given (earliest (a .reached) true (length xs)) ≡ true = ap given now in
+      subst (λ (h : Hand). Stands K x xs a σ (reach (inComplete h) (length xs) a) h) (sym e) (
         σ,
         record {
           begun-lt = omega (arith, base .begun-lt);
@@ -89,6 +90,7 @@ module _ (K : Setup) (x : StepOf K) (xs : Steps K) (a : Logged) (σ : Stamp) (sa
           };
           read = λ t p q. absurd (no-some (sym p ∙ w .content-is));
           reaches = λ v t p q. won;
+          reach-lt = λ k q. (let z : length xs ≡ k = Option·some-injective _ _ (sym now ∙ q) in omega (arith, z));
           leaves = λ q. c .0 .going;
         },
         (
@@ -97,7 +99,7 @@ module _ (K : Setup) (x : StepOf K) (xs : Steps K) (a : Logged) (σ : Stamp) (sa
           c .0 .staying,
           won,
         ),
-        record { client = refl; number = refl; begun = refl; wrote = refl; reached = λ e. clash e (c .0 .unreached) },
+        record { client = refl; number = refl; begun = refl; wrote = refl; reached = λ e. clash e (ap given (c .0 .unreached)) },
       )
 
   pub write-ends : (d : Candidate) (cl : Client) (n : ℕ) → cl .hand ≡ idle → Cur K xs a σ (completing d) →
@@ -116,10 +118,11 @@ module _ (K : Setup) (x : StepOf K) (xs : Steps K) (a : Logged) (σ : Stamp) (sa
           write = λ v p q. written-up K x xs (a .begun) v σ (base .begun-lt) (base .write v p q);
           read = λ t p q. absurd (no-some (sym p ∙ c .0 .content-is));
           reaches = λ v t p q. c .3;
+          reach-lt = λ k q. omega (arith, base .reach-lt k q);
           leaves = λ q. clash q (c .2);
         },
         subst (Cur K (x ∷ xs) (close (length xs) none a) σ) (sym e) tt,
-        record { client = refl; number = refl; begun = refl; wrote = refl; reached = λ e. (e, refl) },
+        record { client = refl; number = refl; begun = refl; wrote = refl; reached = λ e. (refl, refl) },
       )
     where
       hand-inj : {p q : Candidate} → completing p ≡ completing q → p ≡ q

@@ -17,7 +17,7 @@ use Rattle.protocol.specs.Client.{Hand, Result, refused, more, written, gave, g
 use Rattle.protocol.specs.View.{keptSize}
 use Rattle.protocol.specs.ClientBytes.{keyOf}
 use Rattle.protocol.specs.Runs.{Shelf, configOf, Lent, Step, write, read, make, take-reply, give-up, serve, Typed, Account, byBytes}
-use Rattle.atomicity.specs.Lists.{Ever, Always, All, In, AllPairs, Perm}
+use Rattle.atomicity.specs.Lists.{Ever, Always, All, AllPairs, Perm}
 use Rattle.atomicity.specs.Steps.{System, StepIn, serves}
 use Rattle.atomicity.specs.Premises.{Correct, Parties, correctAt, Sent, Premise}
 
@@ -30,8 +30,8 @@ pub record Logged : Type 0 where
   pub wrote : Option (List ℕ)
   -- how many steps were done when it began
   pub begun : ℕ
-  -- its complete round has begun
-  pub reached : Bool
+  -- how many steps were done when its complete round began
+  pub reached : Option ℕ
   -- how many steps were done when it ended, finished
   pub over : Option ℕ
   -- the content that a read gave; none for blank
@@ -43,8 +43,14 @@ unfoldable pub change : ℕ → ℕ → (Logged → Logged) → List Logged → 
 change c n f [] = []
 change c n f (x ∷ xs) = cond (eqb (x .client) c && eqb (x .number) n) (f x) x ∷ change c n f xs
 
-abbrev pub reach : Bool → Logged → Logged
-reach b x = record { client = x .client; number = x .number; wrote = x .wrote; begun = x .begun; reached = x .reached || b; over = x .over; answer = x .answer; gaveUp = x .gaveUp }
+-- that moment, or n if there is none and it is now
+abbrev pub earliest : Option ℕ → Bool → ℕ → Option ℕ
+earliest none false n = none
+earliest none true n = some n
+earliest (some k) b n = some k
+
+abbrev pub reach : Bool → ℕ → Logged → Logged
+reach b n x = record { client = x .client; number = x .number; wrote = x .wrote; begun = x .begun; reached = earliest (x .reached) b n; over = x .over; answer = x .answer; gaveUp = x .gaveUp }
 
 abbrev pub close : ℕ → Option (List ℕ) → Logged → Logged
 close n a x = record { client = x .client; number = x .number; wrote = x .wrote; begun = x .begun; reached = x .reached; over = some n; answer = a; gaveUp = x .gaveUp }
@@ -55,7 +61,7 @@ leave x = record { client = x .client; number = x .number; wrote = x .wrote; beg
 -- what a step's result does to its client's call: complete tells that the hand is in the complete round, n is how many steps were done
 abbrev pub follow : Result → Bool → ℕ → Logged → Logged
 follow (refused k) complete n x = x
-follow more complete n x = reach complete x
+follow more complete n x = reach complete n x
 follow (written k) complete n x = close n none x
 follow (gave k r) complete n x = close n (some r) x
 follow gaveBlank complete n x = close n none x
@@ -66,7 +72,7 @@ module _ {s : Config} {writers : List ℕ} {keys : ByServer (List ℕ)} (A : Acc
   abbrev pub enter : Typed s writers keys → List (Typed s writers keys) → ℕ → Option (List ℕ) → List Logged → List Logged
   enter x xs c w cs =
       cond (accepted (A .result x xs))
-      (record { client = c; number = suc (A .client xs c .calls); wrote = w; begun = length xs; reached = false; over = none; answer = none; gaveUp = false } ∷ cs)
+      (record { client = c; number = suc (A .client xs c .calls); wrote = w; begun = length xs; reached = none; over = none; answer = none; gaveUp = false } ∷ cs)
       cs
 
   abbrev pub touch : Typed s writers keys → List (Typed s writers keys) → ℕ → List Logged → List Logged
@@ -100,7 +106,7 @@ before a b = endedBy (a .over) (b .begun)
 
 -- "the right clients' finished calls, with some unfinished writes": those whose complete round began
 unfoldable pub counted : Logged → Bool
-counted c = given (c .over) || (given (c .wrote) && c .reached)
+counted c = given (c .over) || (given (c .wrote) && given (c .reached))
 
 -- "it holds blank, then the last write's record, and each read gives what it holds, blank or the same length and bytes"
 abbrev pub givesHeld : Option (List ℕ) → Option (List ℕ) → Logged → Type 0
@@ -126,10 +132,6 @@ pub record OneOrder (cs : List Logged) : Type 0 where
   pub exact : Perm order (keep counted cs)
   pub time : InTime order
   pub legal : Replay none order
-
--- a write given up before its complete round is in no order, so that no read gives it
-unfoldable pub NeverRead : List Logged → Type 0
-NeverRead cs = (o : OneOrder cs) (w : Logged) → In w cs → w .gaveUp ≡ true → w .reached ≡ false → In w (o .order) → ⊥
 
 -- ---- progress
 
@@ -186,7 +188,7 @@ module _ (s : System) (A : Account (StepIn s)) (correct : Correct) where
 unfoldable pub OneServer : (s : System) → Account (StepIn s) → Type 0
 OneServer s A =
     (correct : Correct) → Parties (s .config) correct → (l : List (StepIn s)) → Always (Premise s A correct) l
-    → OneOrder (log A l) × (NeverRead (log A l) × Progress s A correct l)
+    → OneOrder (log A l) × Progress s A correct l
 
 -- the real digest, tag and fragments, on a shelf of document 01
 abbrev pub systemOf : Shelf → System

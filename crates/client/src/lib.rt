@@ -22,7 +22,7 @@ pub mod begin; // beginning a call and giving it up
 pub mod taking; // a reply is taken
 
 // The state of a client that has begun no call.
-pub const NEW: protocol::Call = protocol::Call {
+const NEW: protocol::Call = protocol::Call {
     number: 0,
     last: 0,
     high: 0,

@@ -7,8 +7,8 @@ use Rattle.protocol.specs.View.{keptSize}
 use Rattle.protocol.specs.Runs.{StepOn}
 use Rattle.atomicity.specs.Lists.{Always}
 use Rattle.atomicity.specs.Premises.{Premise}
-use Rattle.atomicity.specs.Claim.{log, OneServer, systemOf, Demand3}
-use Rattle.atomicity.specs.Page41.{NeverOlder, Ended, Page41}
+use Rattle.atomicity.specs.Claim.{OneServer, systemOf, Demand3}
+use Rattle.atomicity.specs.Page41.{Page41Of, Page41}
 use Rattle.atomicity.proofs.Real.{atomic-and-live}
 use Rattle.atomicity.proofs.InWords.{page-41}
 use Rattle.embed.proofs.ExportRuns.{claimed-of-exports}
@@ -24,5 +24,5 @@ pub firmware-page-41 : Page41OfExports
 unfolding Page41OfExports Page41
 firmware-page-41 s lo hi keyed correct parties =
     claimed-of-exports s (lo, hi) keyed (λ c. replicate keptSize 0) (λ c. length-replicate {A = ℕ} keptSize 0)
-    (λ A. (l : List (StepOn s)) → Always (Premise (systemOf s) A correct) l → NeverOlder (log A l) × Ended (systemOf s) A correct l)
+    (λ A. (l : List (StepOn s)) → Always (Premise (systemOf s) A correct) l → Page41Of (systemOf s) A correct l)
     (page-41 s lo hi (λ c. replicate keptSize 0) (λ c. length-replicate {A = ℕ} keptSize 0) correct parties)

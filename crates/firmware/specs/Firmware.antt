@@ -6,8 +6,8 @@ use Rattle.cluster.specs.Ranges.{topFaults}
 use Rattle.protocol.specs.Runs.{Shelf, configOf, StepOn}
 use Rattle.atomicity.specs.Lists.{Always}
 use Rattle.atomicity.specs.Premises.{Correct, Parties, Premise}
-use Rattle.atomicity.specs.Claim.{log, OneServer, systemOf}
-use Rattle.atomicity.specs.Page41.{NeverOlder, Ended}
+use Rattle.atomicity.specs.Claim.{OneServer, systemOf}
+use Rattle.atomicity.specs.Page41.{Page41Of}
 use Rattle.embed.specs.Exports.{KeysSized, byExports}
 
 unfoldable pub Demand3OfExports : Type 0
@@ -17,4 +17,4 @@ unfoldable pub Page41OfExports : Type 0
 Page41OfExports =
     (s : Shelf) → 1 ≤ s .t → s .t ≤ topFaults → KeysSized s
     → (correct : Correct) → Parties (configOf s) correct → (l : List (StepOn s)) → Always (Premise (systemOf s) (byExports s) correct) l
-    → NeverOlder (log (byExports s) l) × Ended (systemOf s) (byExports s) correct l
+    → Page41Of (systemOf s) (byExports s) correct l
