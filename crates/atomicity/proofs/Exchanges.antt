@@ -1,103 +1,299 @@
--- Runs of the toy shelf that meet the premises, extended by exchanges, by a lie or by a wild client's packet, from computed facts.
+-- Steps of the example's shelf that keep what is known of a run (the module Playing), from what is known of the step on values: a packet that was made
+-- is read as it was made, so that nothing of it has to be computed from bytes.
 -- Assumes nothing.
 use mathlib.Core.Path.{_≡_, refl, sym, ap, _∙_, subst}
-use mathlib.Core.Bool.{true, false, cond}
-use mathlib.Core.List.{List, [], _∷_, _++_}
-use mathlib.Core.Option.{some, Option·some-injective}
+use mathlib.Core.Bool.{Bool, true, false, cond, not}
+use mathlib.Core.List.{List, [], _∷_, _++_, map}
+use mathlib.Core.Option.{Option, none, some, Option·some-injective}
 use mathlib.Core.Logic.{_⊎_, inl, inr}
 use Prim.Native.Nat.{ℕ}
 use native.Mathlib.Omega.{arith}
-use Rattle.protocol.proofs.RunLift.{decode-nothing}
-use Rattle.cluster.specs.Config.{shelf}
-use Rattle.cluster.specs.Ranges.{within}
-use Rattle.protocol.specs.Packet.{Body, Packet, kindOf}
-use Rattle.protocol.specs.Runs.{Step, write, read}
-use Rattle.atomicity.specs.Lists.{Ever, Always, All, In}
-use Rattle.atomicity.specs.Steps.{bytesIn, packetIn, makes, serves, stampedAt, tagsMade, tagsChecked, digested, allDigested, noncesGot, checkedBy, digestedBy, noncesBy}
-use Rattle.atomicity.specs.Premises.{PartyOf, Sent, Authentic, Begins, FreshNonce, NoEarlyNonce, NoForgery, NoCollision, odd}
-use Rattle.atomicity.proofs.Util.{clash, no-some}
-use Rattle.atomicity.proofs.Setup.{Steps, StepOf, Begin, Show}
-use Rattle.atomicity.proofs.Playing.{A, Good, K, ShownAll, allBytes, clear, cond-nil, fine, good-step, packet, packetOf, serves-it, takes-it, toy, who}
+use lib.ListN.{length, replicate, length-replicate}
+use borrow.Author.Tests.{eq-eqb}
+use Rattle.cluster.specs.Ranges.{within, topWriter, packetRoom, contentRoom}
+use Rattle.cluster.specs.Refusals.{onRefusal}
+use Rattle.protocol.specs.Format.{Bytes}
+use Rattle.protocol.specs.Values.{Candidate}
+use Rattle.protocol.specs.Packet.{Body, Packet, PacketOk, kindOf, encode, decode}
+use Rattle.protocol.specs.Rules.{upd}
+use Rattle.protocol.specs.Server.{Server, Acted, Stepped, blankServer, act, answered, replyTo, serverRefusal, serverStep}
+use Rattle.protocol.specs.Client.{Client, Hand, Made as Making, Turn, refused, accepted, made, makeRefusal, makeStep, takeRefusal, takeStep, turnOn, highAt, awaits, isIdle, inComplete}
+use Rattle.protocol.specs.ClientBytes.{keyOf}
+use Rattle.protocol.specs.View.{keptSize}
+use Rattle.protocol.specs.Runs.{Lent, Step, write, read, make, take-reply, give-up, serve, resultOf, sentOf, steps}
+use Rattle.protocol.proofs.Bodies.{decode-encode}
+use Rattle.protocol.proofs.RunLift.{AllFed, run-agrees, decode-nothing}
+use Rattle.protocol.proofs.ValueRuns.{World, After, doValues, setClient, nowValues}
+use Rattle.atomicity.specs.Lists.{Ever, All, flat}
+use Rattle.atomicity.specs.Steps.{StepIn, makes, serves, ofPacket, offered, stampedFrom, stampedBy, serverChecks, clientChecks, judged, compared, digestsWith, checkedBy, digestedBy, noncesBy}
+use Rattle.atomicity.specs.Premises.{Authentic, Begins, FreshNonce, Sent, odd}
+use Rattle.atomicity.specs.Claim.{Logged, log, note, change, follow}
+use Rattle.atomicity.proofs.Util.{clash, no-some, upd-here}
+use Rattle.atomicity.proofs.Model.{Run, perform, now}
+use Rattle.atomicity.proofs.Playing.{Hashing, functions, function-lengths, desk, who, nonce1, s, A, serversOf, checkedIn, digestedIn, noncesIn, Made, Timely, Play, Next, play-on}
 
--- ---- one step that gets a packet
+-- ---- output buffers
 
--- it reads p, checks no tag and digests E, which collides with nothing of E and D
-abbrev pub Gets : StepOf K → Steps K → Packet → List (List ℕ) → List (List ℕ) → Type 0
-Gets x xs p E D = (packetIn (x .step) ≡ some p) × (tagsChecked (K .s) A x xs ≡ []) × (digested (K .s) A x xs ≡ E) × (clear E (E ++ D) ≡ true)
+unfoldable pub packetBuffer : List ℕ
+packetBuffer = replicate packetRoom 0
 
--- if p is a correct party's, it sent it
-abbrev pub Source : StepOf K → Steps K → Packet → Type 0
-Source x xs p =
-    (odd (kindOf (p .body)) ≡ true → who .client (p .head .client) ≡ true → Sent (K .s) A (makes (p .head .client)) (bytesIn (x .step)) xs)
-    × (odd (kindOf (p .body)) ≡ false → who .server (p .head .server) ≡ true → Sent (K .s) A (serves (p .head .server)) (bytesIn (x .step)) xs)
+unfoldable pub contentBuffer : List ℕ
+contentBuffer = replicate contentRoom 0
 
-pub good-get : (D E : List (List ℕ)) (x : StepOf K) (xs : Steps K) (p : Packet) → Good D xs → PartyOf (K .s) A who xs (x .step) →
-    ((c : ℕ) (r n : List ℕ) → x .step ≡ write c r n → ⊥) → Gets x xs p E D → Source x xs p → (noncesGot (K .s) A x xs ≡ []) ⊎ ShownAll xs →
-    Good (E ++ D) (x ∷ xs)
-unfolding Authentic
-good-get D E x xs p g w f (r, t, d, v) s n =
-    good-step D E x xs g w (λ q e o. subst (Source x xs) (Option·some-injective _ _ (sym r ∙ e)) s) f t d v n
+packet-room : length packetBuffer ≡ packetRoom
+unfolding packetBuffer
+packet-room = length-replicate {A = ℕ} packetRoom 0
 
--- a client takes a lie, the packet of a server that is not correct
-pub good-lie : (c b : ℕ) (y : Body) (f : allBytes (packet c b y) ≡ true) (D E : List (List ℕ)) (xs : Steps K) → Good D xs → who .client c ≡ true →
-    who .server b ≡ false → odd (kindOf y) ≡ false → Gets (takes-it c (packet c b y) f) xs (packetOf c b y) E D →
-    Good (E ++ D) (takes-it c (packet c b y) f ∷ xs)
-unfolding noncesBy
-good-lie c b y f D E xs g w l a h = good-get D E (takes-it c (packet c b y) f) xs (packetOf c b y) g w
-    (λ d r m q. (let z : _≡_ {A = ℕ} 0 1 = cc in omega arith)) h (λ k u. clash k a, λ k u. clash u l)
-    (inl (cond-nil (fine (takes-it c (packet c b y) f) xs)))
+pub content-room : length contentBuffer ≡ contentRoom
+unfolding contentBuffer
+content-room = length-replicate {A = ℕ} contentRoom 0
 
--- a server takes the packet of a wild client, one that is not correct
-pub good-wild : (c b : ℕ) (x : Body) (i : within 1 (shelf 1 .servers) b ≡ true) (e : allBytes (packet c b x) ≡ true) (D E : List (List ℕ))
-    (xs : Steps K) → Good D xs → who .client c ≡ false → who .server b ≡ true → odd (kindOf x) ≡ true →
-    Gets (serves-it b (packet c b x) i e) xs (packetOf c b x) E D → ShownAll xs → Good (E ++ D) (serves-it b (packet c b x) i e ∷ xs)
-good-wild c b x i e D E xs g l w a h s = good-get D E (serves-it b (packet c b x) i e) xs (packetOf c b x) g w
-    (λ d r m q. (let z : _≡_ {A = ℕ} 0 1 = cc in omega arith)) h (λ k u. clash u l, λ k u. clash a k) (inr s)
+-- ---- lists that may be empty
 
--- ---- begins
+pub cond-nil : {B : Type 0} (b : Bool) → _≡_ {A = List B} (cond b [] []) []
+cond-nil true = refl
+cond-nil false = refl
 
--- the first step begins a write
-pub good-first : (x : StepOf K) (c : ℕ) (r n : List ℕ) → x .step ≡ write c r n → who .client c ≡ true → Good [] (x ∷ [])
-unfolding Authentic checkedBy digestedBy noncesBy Always allDigested FreshNonce NoForgery NoCollision NoEarlyNonce All Ever
-good-first x c r n e w = record {
-  fair = (
-    record {
-      party = subst (λ (y : Step). PartyOf (K .s) A who [] y) (sym e) w;
-      authentic = λ p q o. absurd (no-some (sym decode-nothing ∙ sym (ap packetIn e) ∙ q));
-      fresh = λ d m h. (λ k z. z, λ z. z);
-      unforged = subst (All (λ kb. Ever (λ y ys. In kb (tagsMade (K .s) A y ys)) [])) (sym checked) tt;
-      uncollided = subst (All (λ u. All (λ v. toy .digest u ≡ toy .digest v → u ≡ v) (digested (K .s) A x [] ++ []))) (sym hashed) tt;
-      unshown = subst (All (λ n. (c : ℕ) → Ever (Begin K c n) [] → Ever (Show K c n) [])) (sym seen) tt;
-    },
-    tt,
-  );
-  digs = ap (λ (l : List (List ℕ)). l ++ []) hashed;
-}
-  where
-    checked : tagsChecked (K .s) A x [] ≡ []
-    checked = ap (λ (y : Step). cond (fine x []) (checkedBy (K .s) (A .client []) (A .server []) y) []) e ∙ cond-nil (fine x [])
+pub all-none : {B : Type 0} (P : B → Type 0) (b : Bool) → All P (cond b [] [])
+unfolding All
+all-none P true = tt
+all-none P false = tt
 
-    hashed : digested (K .s) A x [] ≡ []
-    hashed = ap (λ (y : Step). cond (fine x []) (digestedBy (K .s) (A .client []) (A .server []) (stampedAt (K .s) A x []) y) []) e ∙ cond-nil (fine x [])
+all-if : {B : Type 0} (P : B → Type 0) (b : Bool) (xs : List B) → All P xs → All P (cond b xs [])
+unfolding All
+all-if P true xs h = h
+all-if P false xs h = tt
 
-    seen : noncesGot (K .s) A x [] ≡ []
-    seen = ap (λ (y : Step). cond (fine x []) (noncesBy (K .s) y) []) e ∙ cond-nil (fine x [])
+module _ (H : Hashing) where
+  -- ---- steps
 
-pub good-read : (D : List (List ℕ)) (c : ℕ) (xs : Steps K) → who .client c ≡ true → Good D xs → Good D (record { step = read c; fed = tt } ∷ xs)
-unfolding Authentic checkedBy digestedBy noncesBy
-good-read D c xs w g = good-step D [] (record { step = read c; fed = tt }) xs g w (λ p e o. absurd (no-some (sym decode-nothing ∙ e)))
-    (λ d r n e. (let z : _≡_ {A = ℕ} 0 1 = cc in omega arith))
-    (cond-nil (fine (record { step = read c; fed = tt }) xs)) (cond-nil (fine (record { step = read c; fed = tt }) xs)) refl
-    (inl (cond-nil (fine (record { step = read c; fed = tt }) xs)))
+  abbrev pub makes-it : ℕ → ℕ → StepIn (s H)
+  makes-it c b = record { step = make c b packetBuffer; fed = tt }
 
--- what has been shown stays shown while no write begins
-pub shown-later : (x : StepOf K) (xs : Steps K) → ((c : ℕ) (r n : List ℕ) → x .step ≡ write c r n → ⊥) → ShownAll xs → ShownAll (x ∷ xs)
-unfolding Ever Begins
-shown-later x xs f h c n (inl b) = absurd (f c (b .0) n (b .1))
-shown-later x xs f h c n (inr b) = inr (h c n b)
+  abbrev pub serves-it : (b : ℕ) (p : Packet) → within 1 (s H .config .servers) b ≡ true → Bytes (encode p) → StepIn (s H)
+  serves-it b p i e = record { step = serve b (encode p) packetBuffer; fed = (i, e) }
 
-pub old-begin : (x : StepOf K) (xs : Steps K) → ((c : ℕ) (r n : List ℕ) → x .step ≡ write c r n → ⊥) → (c : ℕ) (n : List ℕ) →
-    Ever (Begin K c n) (x ∷ xs) → Ever (Begin K c n) xs
-unfolding Ever Begins
-old-begin x xs f c n (inl b) = absurd (f c (b .0) n (b .1))
-old-begin x xs f c n (inr b) = b
+  -- the keys that are lent: a writer's are the shelf's
+  abbrev pub Owned : ℕ → Lent → Type 0
+  Owned c lent = within 1 topWriter c ≡ true → (lent .writers ≡ s H .writers) × (keyOf (lent .keys) ≡ s H .keys)
+
+  abbrev pub takes-it : (c : ℕ) (lent : Lent) (q : Packet) → Owned c lent → Bytes (encode q) → StepIn (s H)
+  takes-it c lent q own e = record { step = take-reply c lent (encode q) contentBuffer; fed = (e, own) }
+
+  -- ---- what correct parties send is a packet
+
+  fed : (l : Run (s H)) → AllFed (functions H) (function-lengths H) desk (omega arith, omega arith) (steps l)
+  unfolding AllFed
+  fed [] = tt
+  fed (x ∷ xs) = (x .fed, fed xs)
+
+  pub sent-ok : (x : StepIn (s H)) (xs : Run (s H)) (p : Packet) → perform (s H) (now (s H) xs) (x .step) .sent ≡ some p → PacketOk p
+  sent-ok x xs p e = run-agrees (functions H) (function-lengths H) desk (omega arith, omega arith) (λ c. replicate keptSize 0)
+      (λ c. length-replicate {A = ℕ} keptSize 0) (x .step) (steps xs) (x .fed) (fed xs) .ok p e
+
+  -- ---- a client makes a packet
+
+  pub not-write : (x : StepIn (s H)) (xs : Run (s H)) → ((c : ℕ) (r n : List ℕ) → x .step ≡ write c r n → ⊥) → (c : ℕ) (n : List ℕ) →
+      Begins (s H) (A H) c n x xs → ⊥
+  unfolding Begins
+  not-write x xs f c n (r, e, o) = f c r n e
+
+  pub play-make : (c b : ℕ) (two : Bool) (xs : Run (s H)) (w : World) (cs : List Logged) → Play H two xs w cs → who .client c ≡ true →
+      Play H two (makes-it c b ∷ xs) w cs
+  unfolding doValues log note Authentic FreshNonce checkedBy digestedBy noncesBy
+  play-make c b two xs w cs p right = play-on H two two xs w cs (makes-it c b) w cs p (λ y. y) (record {
+    world = refl;
+    noted = p .calls;
+    party = right;
+    authentic = λ q e o. absurd (no-some (sym decode-nothing ∙ e));
+    fresh = λ d n h. absurd (none-begins d n h);
+    write = λ d n h. absurd (none-begins d n h);
+    unforged = all-none _ (accepted (perform (s H) w (make c b packetBuffer) .result));
+    digests = all-none _ (accepted (perform (s H) w (make c b packetBuffer) .result));
+    nonces = inl (cond-nil (accepted (perform (s H) w (make c b packetBuffer) .result)));
+  })
+    where
+      none-begins : (d : ℕ) (n : List ℕ) → Begins (s H) (A H) d n (makes-it c b) xs → ⊥
+      none-begins d n h = not-write (makes-it c b) xs (λ d r n e. (let z : _≡_ {A = ℕ} 0 1 = cc in omega arith)) d n h
+
+  -- the packet that it makes is sent
+  pub made-sent : (c b : ℕ) (xs : Run (s H)) (w : World) → now (s H) xs ≡ w →
+      makeRefusal (s H .config) c b (not (isIdle (w .client c .hand))) packetRoom ≡ 0 →
+      perform (s H) (now (s H) xs) (make c b packetBuffer) .sent ≡ some (made (s H .config .t) c (w .client c) b)
+  unfolding doValues makeStep
+  made-sent c b xs w here go =
+      ap (λ (v : World). makeStep (s H .config) c (v .client c) b (length packetBuffer) .packet) here
+      ∙ ap (λ (n : ℕ). makeStep (s H .config) c (w .client c) b n .packet) packet-room
+      ∙ ap (λ (k : ℕ). onRefusal {A = Making} k (record { number = 0; packet = some (made (s H .config .t) c (w .client c) b) }) (record { number = k; packet = none }) .packet) go
+
+  -- ---- a server takes a packet
+
+  abbrev pub acts : ℕ → World → Body → Acted
+  acts b w x = act (functions H) (s H .config) (s H .keys b) b (w .server b) x
+
+  abbrev pub served : World → ℕ → Server → World
+  served w b v = record { client = w .client; server = upd (w .server) b v }
+
+  -- what is known of it, in the world w: the packet is not refused, and what it does
+  pub record Serves (w : World) (b : ℕ) (p : Packet) (v : Server) (r : Body) : Type 0 where
+    pub right : who .server b ≡ true
+    pub inside : within 1 (s H .config .servers) b ≡ true
+    pub ok : PacketOk p
+    pub bytes : Bytes (encode p)
+    pub request : odd (kindOf (p .body)) ≡ true
+    pub lets : serverRefusal (s H .config .t) b (some p) packetRoom ≡ 0
+    pub does : acts b w (p .body) ≡ record { server = v; reply = r }
+
+  module _ (w : World) (b : ℕ) (p : Packet) (v : Server) (r : Body) (k : Serves w b p v r) where
+    abbrev pub serving : StepIn (s H)
+    serving = serves-it b p (k .inside) (k .bytes)
+
+    stepped : serverStep (functions H) (s H .config) (s H .keys b) b (w .server b) (length packetBuffer) (decode (encode p)) ≡
+        record { number = 0; server = v; reply = some (replyTo p r) }
+    unfolding serverStep answered
+    stepped =
+        (λ i. serverStep (functions H) (s H .config) (s H .keys b) b (w .server b) (packet-room i) (decode-encode p (k .ok) i))
+        ∙ ap (λ (n : ℕ). onRefusal n (answered (functions H) (s H .config) (s H .keys b) b (w .server b) packetRoom (some p))
+            (record { number = n; server = w .server b; reply = none })) (k .lets)
+        ∙ ap (λ (a : Acted). record { number = 0; server = a .server; reply = some (replyTo p (a .reply)) }) (k .does)
+
+    performed : perform (s H) w (serve b (encode p) packetBuffer) ≡ record { world = served w b v; result = resultOf 0; sent = some (replyTo p r) }
+    unfolding doValues
+    performed =
+        ap (λ (d : Stepped). record { world = served w b (d .server); result = resultOf (d .number); sent = d .reply }) stepped
+
+    pub reply-sent : (xs : Run (s H)) → now (s H) xs ≡ w →
+        perform (s H) (now (s H) xs) (serve b (encode p) packetBuffer) .sent ≡ some (replyTo p r)
+    reply-sent xs here = ap (λ (u : World). perform (s H) u (serve b (encode p) packetBuffer) .sent) here ∙ ap (λ (a : After). a .sent) performed
+
+    -- it is its client's own, unless the client is wild; tags that check have been made; and it digests and gets known nonces
+    pub play-serve : (two : Bool) (xs : Run (s H)) (cs : List Logged) → Play H two xs w cs →
+        (who .client (p .head .client) ≡ true → Sent (s H) (A H) (makes (p .head .client)) (encode p) xs) →
+        All (λ kb. Made H kb xs) (flat (serverChecks (s H) b (w .server b)) (judged (s H) b (w .server b) (p .body))) →
+        All (λ u. u ≡ nonce1) (map (λ c. c .nonce) (judged (s H) b (w .server b) (p .body))) →
+        Timely H xs (map (λ c. c .nonce) (offered (p .body))) →
+        Play H two (serving ∷ xs) (served w b v) cs
+    unfolding log note Authentic FreshNonce checkedBy digestedBy noncesBy stampedBy
+    play-serve two xs cs pl source tags digs news = play-on H two two xs w cs serving (served w b v) cs pl (λ y. y) (record {
+      world = ap (λ (a : After). a .world) performed;
+      noted = pl .calls;
+      party = k .right;
+      authentic = λ q e o. subst Source (Option·some-injective _ _ (sym reads ∙ e)) (λ y z. source z, λ y z. clash (k .request) y);
+      fresh = λ d n h. absurd (none-begins d n h);
+      write = λ d n h. absurd (none-begins d n h);
+      unforged = all-if _ done _ (subst (λ (o : Option Packet). All (λ kb. Made H kb xs)
+          (ofPacket (λ q. flat (serverChecks (s H) b (serversOf H w b)) (judged (s H) b (serversOf H w b) (q .body))) o)) (sym reads)
+          (subst (λ (u : Server). All (λ kb. Made H kb xs) (flat (serverChecks (s H) b u) (judged (s H) b u (p .body)))) (sym there) tags));
+      digests = all-if _ done _ (subst (λ (o : Option Packet). All (λ u. u ≡ nonce1)
+          (map (λ (c : Candidate). c .nonce) (ofPacket (λ q. judged (s H) b (serversOf H w b) (q .body)) o))) (sym reads)
+          (subst (λ (u : Server). All (λ u. u ≡ nonce1) (map (λ (c : Candidate). c .nonce) (judged (s H) b u (p .body)))) (sym there) digs));
+      nonces = timely-if done (subst (λ (o : Option Packet). Timely H xs (map (λ (c : Candidate). c .nonce) (ofPacket (λ q. offered (q .body)) o)))
+          (sym reads) news);
+    })
+      where
+        Source : Packet → Type 0
+        Source q =
+            (odd (kindOf (q .body)) ≡ true → who .client (q .head .client) ≡ true → Sent (s H) (A H) (makes (q .head .client)) (encode p) xs)
+            × (odd (kindOf (q .body)) ≡ false → who .server (q .head .server) ≡ true → Sent (s H) (A H) (serves (q .head .server)) (encode p) xs)
+
+        reads : decode (encode p) ≡ some p
+        reads = decode-encode p (k .ok)
+
+        done : Bool
+        done = accepted (perform (s H) w (serve b (encode p) packetBuffer) .result)
+
+        there : serversOf H w b ≡ w .server b
+        there = ap (λ (q : Bool). cond q (w .server b) (blankServer (s H .config))) (k .inside)
+
+        none-begins : (d : ℕ) (n : List ℕ) → Begins (s H) (A H) d n serving xs → ⊥
+        none-begins d n h = not-write serving xs (λ d r n e. (let z : _≡_ {A = ℕ} 0 1 = cc in omega arith)) d n h
+
+        timely-if : (q : Bool) {ns : List (List ℕ)} → Timely H xs ns → Timely H xs (cond q ns [])
+        timely-if true h = h
+        timely-if false h = inl refl
+
+  -- ---- a client takes a reply
+
+  abbrev pub turned : ℕ → Client → Packet → Turn
+  turned c cl q = turnOn (functions H) (s H .config) c (s H .writers) (s H .keys) cl (some q)
+
+  abbrev pub took : World → ℕ → Turn → World
+  took w c t = record { client = upd (w .client) c (t .client); server = w .server }
+
+  -- the call as the log has it after the turn t, with n steps done
+  abbrev pub followed : World → ℕ → Turn → ℕ → List Logged → List Logged
+  followed w c t n cs = change c (w .client c .calls) (follow (t .result) (inComplete (t .client .hand)) n) cs
+
+  -- what is known of it, in the world w: the packet is not refused, and what it leads to
+  pub record Takes (w : World) (c : ℕ) (lent : Lent) (q : Packet) (t : Turn) : Type 0 where
+    pub right : who .client c ≡ true
+    pub own : Owned c lent
+    pub ok : PacketOk q
+    pub bytes : Bytes (encode q)
+    pub reply : odd (kindOf (q .body)) ≡ false
+    pub lets : let cl = w .client c in takeRefusal (s H .config) c (some q) (cl .calls) (awaits (cl .hand)) (cl .marks)
+        (highAt (functions H) (s H .config) c (s H .writers) (s H .keys) cl) contentRoom ≡ 0
+    pub does : turned c (w .client c) q ≡ t
+
+  module _ (w : World) (c : ℕ) (lent : Lent) (q : Packet) (t : Turn) (k : Takes w c lent q t) where
+    abbrev pub taking : StepIn (s H)
+    taking = takes-it c lent q (k .own) (k .bytes)
+
+    stepped-on : takeStep (functions H) (s H .config) c (s H .writers) (s H .keys) (w .client c) (decode (encode q)) (length contentBuffer) ≡ t
+    unfolding takeStep
+    stepped-on =
+        (λ i. takeStep (functions H) (s H .config) c (s H .writers) (s H .keys) (w .client c) (decode-encode q (k .ok) i) (content-room i))
+        ∙ ap (λ (n : ℕ). onRefusal n (turned c (w .client c) q) (record { client = w .client c; result = refused n })) (k .lets)
+        ∙ k .does
+
+    performed-on : perform (s H) w (take-reply c lent (encode q) contentBuffer) ≡ record { world = took w c t; result = t .result; sent = none }
+    unfolding doValues setClient
+    performed-on = ap (λ (u : Turn). record { world = took w c u; result = u .result; sent = none }) stepped-on
+
+    -- it is its server's own, unless the server lies; tags that check have been made; and it digests the first nonce alone
+    pub play-take : (two : Bool) (xs : Run (s H)) (cs : List Logged) → Play H two xs w cs →
+        (who .server (q .head .server) ≡ true → Sent (s H) (A H) (serves (q .head .server)) (encode q) xs) →
+        All (λ kb. Made H kb xs) (clientChecks (s H) (w .client c .hand) (q .body)) →
+        All (λ u. u ≡ nonce1)
+            (flat (digestsWith (s H)) (stampedFrom c (w .client c .hand) (t .client .hand)) ++ compared (s H) (w .client c) (w .client c .hand) q) →
+        Play H two (taking ∷ xs) (took w c t) (followed w c t (length xs) cs)
+    unfolding log note Authentic FreshNonce checkedBy digestedBy noncesBy stampedBy nowValues
+    play-take two xs cs pl source tags digs = play-on H two two xs w cs taking (took w c t) (followed w c t (length xs) cs) pl (λ y. y) (record {
+      world = ap (λ (a : After). a .world) performed-on;
+      noted = logged;
+      party = k .right;
+      authentic = λ p e o. subst Source (Option·some-injective _ _ (sym reads ∙ e)) (λ y z. clash y (k .reply), λ y z. source z);
+      fresh = λ d n h. absurd (none-begins d n h);
+      write = λ d n h. absurd (none-begins d n h);
+      unforged = all-if _ done _ (subst (λ (o : Option Packet). All (λ kb. Made H kb xs) (ofPacket (λ p. clientChecks (s H) (w .client c .hand) (p .body)) o))
+          (sym reads) tags);
+      digests = all-if _ done _ (subst (λ (h : Hand). All (λ u. u ≡ nonce1) (flat (digestsWith (s H)) (stampedFrom c (w .client c .hand) h)
+          ++ ofPacket (compared (s H) (w .client c) (w .client c .hand)) (decode (encode q)))) (sym after)
+          (subst (λ (o : Option Packet). All (λ u. u ≡ nonce1) (flat (digestsWith (s H)) (stampedFrom c (w .client c .hand) (t .client .hand))
+          ++ ofPacket (compared (s H) (w .client c) (w .client c .hand)) o)) (sym reads) digs));
+      nonces = inl (cond-nil done);
+    })
+      where
+        Source : Packet → Type 0
+        Source p =
+            (odd (kindOf (p .body)) ≡ true → who .client (p .head .client) ≡ true → Sent (s H) (A H) (makes (p .head .client)) (encode q) xs)
+            × (odd (kindOf (p .body)) ≡ false → who .server (p .head .server) ≡ true → Sent (s H) (A H) (serves (p .head .server)) (encode q) xs)
+
+        reads : decode (encode q) ≡ some q
+        reads = decode-encode q (k .ok)
+
+        done : Bool
+        done = accepted (perform (s H) w (take-reply c lent (encode q) contentBuffer) .result)
+
+        -- the hand after it
+        after : perform (s H) w (take-reply c lent (encode q) contentBuffer) .world .client c .hand ≡ t .client .hand
+        after = ap (λ (a : After). a .world .client c .hand) performed-on ∙ ap (λ (cl : Client). cl .hand) (upd-here (w .client) c (t .client))
+
+        logged : log (A H) (taking ∷ xs) ≡ followed w c t (length xs) cs
+        logged =
+            (λ i. let u = pl .here i in let a = perform (s H) u (take-reply c lent (encode q) contentBuffer) in
+            change c (u .client c .calls) (follow (a .result) (inComplete (a .world .client c .hand)) (length xs)) (pl .calls i))
+            ∙ (λ i. change c (w .client c .calls) (follow (performed-on i .result) (inComplete (after i)) (length xs)) cs)
+
+        none-begins : (d : ℕ) (n : List ℕ) → Begins (s H) (A H) d n taking xs → ⊥
+        none-begins d n h = not-write taking xs (λ d r n e. (let z : _≡_ {A = ℕ} 0 1 = cc in omega arith)) d n h

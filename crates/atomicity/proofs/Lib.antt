@@ -52,9 +52,13 @@ pub mod OneServer
 pub mod Real
 pub mod Settled
 pub mod InWords
+pub mod Printed
 pub mod Playing
 pub mod Exchanges
+pub mod CallSteps
 pub mod Talks
 pub mod Scene
-pub mod SceneFacts
-pub mod Example
+pub mod SceneRead
+pub mod SceneBytes
+pub mod SceneWrites
+pub mod SceneStored

@@ -1,206 +1,223 @@
--- Tools to show that a given run meets the premises: a toy shelf of t = 1 whose digest and tag can be followed by eye, servers 1 to 3 and
--- clients 1 to 15 correct, so that server 4 may lie and client 16 is wild; and that a step keeps the premises, from facts that are computed.
+-- Tools to show that a given run meets the premises, for every digest and tag of the right lengths: a shelf of t = 1 on which server 1 lies and
+-- client 16 is wild, what is known of a run so far, and that one more step keeps it. All that is digested is one nonce, so that nothing collides.
 -- Assumes nothing.
 use mathlib.Core.Path.{_≡_, refl, sym, ap, subst, _∙_}
 use mathlib.Core.Bool.{Bool, true, false, cond, not, _&&_, _||_}
 use mathlib.Core.List.{List, [], _∷_, _++_}
 use mathlib.Core.Logic.{_⊎_, inl, inr}
-use Prim.Native.Nat.{ℕ, zero, suc}
+use Prim.Native.Nat.{ℕ, suc}
 use native.Mathlib.Omega.{arith}
-use lib.Dec.{ltb}
-use lib.ListN.{take, replicate, length-append, length-replicate}
-use lib.Seq.{length-take-le}
-use borrow.Author.Tests.{ltb-true, not-true}
-use Rattle.cluster.specs.Config.{shelf}
-use Rattle.cluster.specs.Ranges.{within, packetRoom, contentRoom}
-use Rattle.cluster.proofs.Legal.{legal-shelf}
+use lib.ListN.{length, getD, replicate}
+use Rattle.cluster.specs.Config.{Config, shelf}
+use Rattle.cluster.specs.Ranges.{within, keySize}
 use Rattle.cluster.proofs.Tests.{inside}
 use Rattle.hmac.specs.Hmac.{tagSize}
 use Rattle.erasure.specs.Fragments.{fragment, restored}
 use Rattle.protocol.specs.Format.{Bytes}
-use Rattle.protocol.specs.Values.{digestSize, sameList}
-use Rattle.protocol.specs.Packet.{Body, Packet, kindOf, encode}
+use Rattle.protocol.specs.Values.{digestSize, nonceSize}
 use Rattle.protocol.specs.Primitives.{Primitives, Lengths, real}
-use Rattle.protocol.specs.Rules.{countTo}
-use Rattle.protocol.proofs.RunLift.{decode-nothing}
-use Rattle.protocol.specs.Runs.{write, make, take-reply, serve, Shelf, Account}
-use Rattle.protocol.proofs.Primitive.{real-lengths}
-use Rattle.protocol.proofs.Equal.{same-true}
+use Rattle.protocol.specs.Rules.{ByServer, countTo}
+use Rattle.protocol.specs.Server.{Server, blankServer}
 use Rattle.protocol.specs.Client.{accepted}
+use Rattle.protocol.specs.ClientBytes.{keyOf}
+use Rattle.protocol.specs.Runs.{Step, Shelf, configOf, Account}
+use Rattle.protocol.proofs.Primitive.{real-lengths}
+use Rattle.protocol.proofs.ValueRuns.{World, After, nowValues}
 use Rattle.atomicity.specs.Lists.{Ever, Always, All, In}
-use Rattle.atomicity.specs.Steps.{tagsMade, tagsChecked, digested, allDigested, noncesGot, checkedBy, digestedBy, noncesBy}
-use Rattle.atomicity.specs.Premises.{Correct, Parties, PartyOf, Authentic, Begins, FreshNonce, NoEarlyNonce, NoForgery, NoCollision}
-use Rattle.atomicity.proofs.Util.{clash, no-some, and-left, and-right, or-cases, all-of, within-in}
-use Rattle.atomicity.proofs.Stamps.{same-is}
-use Rattle.atomicity.proofs.Model.{account}
-use Rattle.atomicity.proofs.Setup.{Setup, Steps, StepOf, Fair, Begin, Show}
-use Rattle.atomicity.proofs.Real.{Restores, real-restores, systemWith, laws-of}
+use Rattle.atomicity.specs.Steps.{System, StepIn, stampedBy, tagsMade, tagsChecked, digested, allDigested, noncesGot, checkedBy, digestedBy, noncesBy}
+use Rattle.atomicity.specs.Premises.{Correct, Parties, PartyOf, Authentic, Begins, Shows, FreshNonce, NoEarlyNonce, NoForgery, NoCollision, Premise}
+use Rattle.atomicity.specs.Claim.{Logged, log}
+use Rattle.atomicity.proofs.Util.{all-map, all-in, within-in, split-in, all-of}
+use Rattle.atomicity.proofs.Model.{Run, perform, now, account}
 
--- ---- the toy shelf
+-- ---- any digest and tag of the right lengths
 
--- the first bytes of the input, and zeros
-unfoldable pub toy : Primitives
-toy = record {
-  digest = λ m. take digestSize (m ++ replicate digestSize 0);
-  tag = λ k m. take tagSize (k ++ (m ++ replicate tagSize 0));
-  fragment = fragment;
-  restored = restored;
-}
+pub record Hashing : Type 0 where
+  pub digest : List ℕ → List ℕ
+  pub tag : List ℕ → List ℕ → List ℕ
+  pub digest-size : (m : List ℕ) → length (digest m) ≡ digestSize
+  pub tag-size : (k m : List ℕ) → length (tag k m) ≡ tagSize
+  pub digest-bytes : (m : List ℕ) → Bytes (digest m)
+  pub tag-bytes : (k m : List ℕ) → Bytes (tag k m)
 
-pub toy-lengths : Lengths toy
-unfolding toy real
-toy-lengths =
-    record {
-      digest = λ m. length-take-le digestSize (m ++ replicate digestSize 0)
-          (omega (arith, length-append m (replicate digestSize 0), length-replicate {A = ℕ} digestSize 0));
-      tag =
-          λ k m.
-          length-take-le tagSize (k ++ (m ++ replicate tagSize 0))
-          (omega (arith, length-append k (m ++ replicate tagSize 0), length-append m (replicate tagSize 0), length-replicate {A = ℕ} tagSize 0));
-      part = real-lengths .part;
-      content = real-lengths .content;
-    }
+abbrev pub functions : Hashing → Primitives
+functions H = record { digest = H .digest; tag = H .tag; fragment = fragment; restored = restored }
+
+pub function-lengths : (H : Hashing) → Lengths (functions H)
+unfolding real
+function-lengths H = record { digest = H .digest-size; tag = H .tag-size; part = real-lengths .part; content = real-lengths .content }
+
+-- ---- the shelf and its parties: server 1 lies, client 16 is wild
 
 abbrev pub desk : Shelf
-desk = record { t = 1; writers = 99 ∷ []; keys = (1 ∷ []) ∷ (2 ∷ []) ∷ (3 ∷ []) ∷ (4 ∷ []) ∷ [] }
+desk = record {
+  t = 1;
+  writers = replicate keySize 255;
+  keys = replicate keySize 1 ∷ replicate keySize 2 ∷ replicate keySize 3 ∷ replicate keySize 4 ∷ [];
+}
 
 abbrev pub who : Correct
-who = record { client = within 1 15; server = within 1 3 }
+who = record { client = within 1 15; server = within 2 4 }
 
-pub toy-parties : Parties (shelf 1) who
+pub parties : Parties (configOf desk) who
 unfolding shelf countTo
-toy-parties =
+parties =
     record {
       writers = λ c lo hi. within-in 1 15 c lo (omega (arith, hi));
       clients = λ c e. let r = inside 1 15 c (ap not e) in (r .0, omega (arith, r .1));
-      servers = λ b e. let r = inside 1 3 b (ap not e) in (r .0, omega (arith, r .1));
+      servers = λ b e. let r = inside 2 4 b (ap not e) in (omega (arith, r .0), omega (arith, r .1));
       liars = omega arith;
     }
 
-pub toy-restores : Restores toy (shelf 1)
-unfolding toy real
-toy-restores r b is d a l = real-restores 1 (omega arith) (omega arith) r b is d a l
+-- ---- nonces: of the first write, of the second, and of what the wild client makes up
 
-abbrev pub K : Setup
-K =
-    record {
-      s = systemWith toy toy-lengths desk (omega arith) (omega arith);
-      legal = legal-shelf 1 (omega arith) (omega arith);
-      laws = laws-of toy toy-lengths desk (omega arith) (omega arith) toy-restores;
-      correct = who;
-      parties = toy-parties;
-    }
+unfoldable pub nonce1 : List ℕ
+nonce1 = replicate nonceSize 42
 
-abbrev pub A : Account (StepOf K)
-A = account (K .s)
+unfoldable pub nonce2 : List ℕ
+nonce2 = replicate nonceSize 43
 
--- ---- steps
+unfoldable pub nonce3 : List ℕ
+nonce3 = replicate nonceSize 7
 
-abbrev pub allBytes : List ℕ → Bool
-allBytes [] = true
-allBytes (x ∷ xs) = ltb x 256 && allBytes xs
+first-differs : (a b : List ℕ) → a ≡ b → getD a 0 0 ≡ getD b 0 0
+first-differs a b e = ap (λ (l : List ℕ). getD l 0 0) e
 
-pub bytes-ok : (l : List ℕ) → allBytes l ≡ true → Bytes l
-bytes-ok [] e i = omega arith
-bytes-ok (x ∷ xs) e zero = ltb-true x 256 (and-left (ltb x 256) _ e)
-bytes-ok (x ∷ xs) e (suc i) = bytes-ok xs (and-right (ltb x 256) _ e) i
+module _ (H : Hashing) where
+  abbrev pub s : System
+  s = record { P = functions H; config = configOf desk; writers = desk .writers; keys = keyOf (desk .keys) }
 
--- the packet of client c's first call, to or from server b
-abbrev pub packetOf : ℕ → ℕ → Body → Packet
-packetOf c b x = record { head = record { kind = kindOf x; client = c; server = b; t = 1; call = 1 }; body = x }
+  abbrev pub A : Account (StepIn s)
+  A = account s
 
-unfoldable pub packet : ℕ → ℕ → Body → List ℕ
-packet c b x = encode (packetOf c b x)
+  -- ---- what a step does to a world; of a moment's world it is what the premises speak of
 
-abbrev pub makes-it : ℕ → ℕ → StepOf K
-makes-it c b = record { step = make c b (replicate packetRoom 0); fed = tt }
+  abbrev pub serversOf : World → ByServer Server
+  serversOf w b = cond (within 1 (s .config .servers) b) (w .server b) (blankServer (s .config))
 
-abbrev pub serves-it : (b : ℕ) (p : List ℕ) → within 1 (shelf 1 .servers) b ≡ true → allBytes p ≡ true → StepOf K
-serves-it b p i e = record { step = serve b p (replicate packetRoom 0); fed = (i, bytes-ok p e) }
+  abbrev pub checkedIn : World → Step → List (List ℕ × List ℕ)
+  checkedIn w x = cond (accepted (perform s w x .result)) (checkedBy s (w .client) (serversOf w) x) []
 
-abbrev pub takes-it : (c : ℕ) (p : List ℕ) → allBytes p ≡ true → StepOf K
-takes-it c p e =
-    record {
-      step = take-reply c (record { writers = desk .writers; keys = desk .keys }) p (replicate contentRoom 0);
-      fed = (bytes-ok p e, λ own. (refl, refl));
-    }
+  abbrev pub digestedIn : World → Step → List (List ℕ)
+  digestedIn w x =
+      cond (accepted (perform s w x .result))
+      (digestedBy s (w .client) (serversOf w) (stampedBy (w .client) (perform s w x .world .client) x) x) []
 
--- ---- one step
+  abbrev pub noncesIn : World → Step → List (List ℕ)
+  noncesIn w x = cond (accepted (perform s w x .result)) (noncesBy s x) []
 
--- no input of vs has u's digest, but u; nor that of one of us
-abbrev pub alone : List ℕ → List (List ℕ) → Bool
-alone u [] = true
-alone u (v ∷ vs) = (not (sameList (toy .digest u) (toy .digest v)) || sameList u v) && alone u vs
+  -- ---- what is known of a run
 
-abbrev pub clear : List (List ℕ) → List (List ℕ) → Bool
-clear [] vs = true
-clear (u ∷ us) vs = alone u vs && clear us vs
+  abbrev pub Begun : ℕ → List ℕ → Run s → Type 0
+  Begun c n xs = Ever (Begins s A c n) xs
 
-pub alone-ok : (u : List ℕ) (vs : List (List ℕ)) → alone u vs ≡ true → All (λ v. toy .digest u ≡ toy .digest v → u ≡ v) vs
-unfolding All
-alone-ok u [] e = tt
-alone-ok u (v ∷ vs) e = (
-  λ q. one q (or-cases (not (sameList (toy .digest u) (toy .digest v))) (sameList u v)
-      (and-left (not (sameList (toy .digest u) (toy .digest v)) || sameList u v) _ e)),
-  alone-ok u vs (and-right (not (sameList (toy .digest u) (toy .digest v)) || sameList u v) _ e),
-)
-  where
-    one : toy .digest u ≡ toy .digest v → (not (sameList (toy .digest u) (toy .digest v)) ≡ true) ⊎ (sameList u v ≡ true) → u ≡ v
-    one q (inl k) = clash (same-is (toy .digest u) (toy .digest v) q) (not-true _ k)
-    one q (inr k) = same-true u v k
+  abbrev pub Shown : ℕ → List ℕ → Run s → Type 0
+  Shown c n xs = Ever (Shows s A c n) xs
 
-pub clear-ok : (us vs : List (List ℕ)) → clear us vs ≡ true → All (λ u. All (λ v. toy .digest u ≡ toy .digest v → u ≡ v) vs) us
-unfolding All
-clear-ok [] vs e = tt
-clear-ok (u ∷ us) vs e = (alone-ok u vs (and-left (alone u vs) _ e), clear-ok us vs (and-right (alone u vs) _ e))
+  abbrev pub Got : List ℕ → Run s → Type 0
+  Got n xs = Ever (λ y ys. In n (noncesGot s A y ys)) xs
 
--- every write that began has shown its nonce
-abbrev pub ShownAll : Steps K → Type 0
-ShownAll xs = (c : ℕ) (n : List ℕ) → Ever (Begin K c n) xs → Ever (Show K c n) xs
+  -- the tag with this key over these bytes has been made
+  abbrev pub Made : List ℕ × List ℕ → Run s → Type 0
+  Made kb xs = Ever (λ y ys. In kb (tagsMade s A y ys)) xs
 
--- a run that meets the premises and has digested D
-pub record Good (D : List (List ℕ)) (xs : Steps K) : Type 0 where
-  pub fair : Fair K xs
-  pub digs : allDigested (K .s) A xs ≡ D
+  -- a write that has begun: client 1's with the first nonce or, if two have, one with the second
+  abbrev pub OfWrite : Bool → ℕ → List ℕ → Type 0
+  OfWrite two c n = ((c ≡ 1) × (n ≡ nonce1)) ⊎ ((two ≡ true) × (n ≡ nonce2))
 
--- one more step, which begins no write
-pub good-step : (D E : List (List ℕ)) (x : StepOf K) (xs : Steps K) → Good D xs → PartyOf (K .s) A who xs (x .step) → Authentic (K .s) A who x xs →
-    ((c : ℕ) (r n : List ℕ) → x .step ≡ write c r n → ⊥) →
-    tagsChecked (K .s) A x xs ≡ [] → digested (K .s) A x xs ≡ E → clear E (E ++ D) ≡ true → (noncesGot (K .s) A x xs ≡ []) ⊎ ShownAll xs →
-    Good (E ++ D) (x ∷ xs)
-unfolding Always allDigested FreshNonce Begins NoForgery NoCollision NoEarlyNonce All
-good-step D E x xs g p a w t e c n = record {
-  fair = (
-    record {
-      party = p;
-      authentic = a;
-      fresh = λ d m h. absurd (w d (h .0) m (h .1));
-      unforged = subst (All (λ kb. Ever (λ y ys. In kb (tagsMade (K .s) A y ys)) xs)) (sym t) tt;
-      uncollided = subst (λ (u : List (List ℕ)). All
-          (λ u. All (λ v. toy .digest u ≡ toy .digest v → u ≡ v) (digested (K .s) A x xs ++ allDigested (K .s) A xs)) u) (sym e)
-          (subst (λ (v : List (List ℕ)). All (λ u. All (λ v. toy .digest u ≡ toy .digest v → u ≡ v) v) E) (sym both) (clear-ok E (E ++ D) c));
-      unshown = shows n;
-    },
-    g .fair,
-  );
-  digs = both;
-}
-  where
-    both : digested (K .s) A x xs ++ allDigested (K .s) A xs ≡ E ++ D
-    both = λ i. e i ++ g .digs i
+  -- its world and its calls; all that was digested is the first nonce; servers have got the first nonce and the made-up one only
+  pub record Play (two : Bool) (xs : Run s) (w : World) (cs : List Logged) : Type 0 where
+    pub fair : Always (Premise s A who) xs
+    pub here : now s xs ≡ w
+    pub calls : log A xs ≡ cs
+    pub same : All (λ u. u ≡ nonce1) (allDigested s A xs)
+    pub begun : (c : ℕ) (n : List ℕ) → Begun c n xs → OfWrite two c n
+    pub got : (n : List ℕ) → Got n xs → (n ≡ nonce1) ⊎ (n ≡ nonce3)
 
-    shows : (noncesGot (K .s) A x xs ≡ []) ⊎ ShownAll xs → All (λ n. (c : ℕ) → Ever (Begin K c n) xs → Ever (Show K c n) xs) (noncesGot (K .s) A x xs)
-    shows (inl z) = subst (All (λ n. (c : ℕ) → Ever (Begin K c n) xs → Ever (Show K c n) xs)) (sym z) tt
-    shows (inr s) = all-of (λ n. (c : ℕ) → Ever (Begin K c n) xs → Ever (Show K c n) xs) (noncesGot (K .s) A x xs) (λ n i c h. s c n h)
+  -- ---- nonces that may be shown
 
-abbrev pub fine : StepOf K → Steps K → Bool
-fine x xs = accepted (A .result x xs)
+  -- servers get no nonce, or the first after its writer has shown it, or the made-up one
+  abbrev pub Timely : Run s → List (List ℕ) → Type 0
+  Timely xs ns = (ns ≡ []) ⊎ (Shown 1 nonce1 xs × All (λ n. (n ≡ nonce1) ⊎ (n ≡ nonce3)) ns)
 
-pub cond-nil : {B : Type 0} (b : Bool) → _≡_ {A = List B} (cond b [] []) []
-cond-nil true = refl
-cond-nil false = refl
+  timely : (two : Bool) (xs : Run s) (w : World) (cs : List Logged) → Play two xs w cs → (ns : List (List ℕ)) → Timely xs ns →
+      All (λ n. (c : ℕ) → Begun c n xs → Shown c n xs) ns
+  unfolding All nonce1 nonce2 nonce3
+  timely two xs w cs p ns (inl e) = subst (All (λ n. (c : ℕ) → Begun c n xs → Shown c n xs)) (sym e) tt
+  timely two xs w cs p ns (inr (h, a)) = all-map _ _ each ns a
+    where
+      each : (n : List ℕ) → (n ≡ nonce1) ⊎ (n ≡ nonce3) → (c : ℕ) → Begun c n xs → Shown c n xs
+      each n one c b = tell (p .begun c n b) one
+        where
+          tell : OfWrite two c n → (n ≡ nonce1) ⊎ (n ≡ nonce3) → Shown c n xs
+          tell (inl (i, e)) o = subst (λ (j : ℕ). Shown j n xs) (sym i) (subst (λ (m : List ℕ). Shown 1 m xs) (sym e) h)
+          tell (inr (y, e)) (inl k) = absurd (omega (arith, first-differs _ _ (sym e ∙ k)))
+          tell (inr (y, e)) (inr k) = absurd (omega (arith, first-differs _ _ (sym e ∙ k)))
 
-pub good-make : (D : List (List ℕ)) (c b : ℕ) (xs : Steps K) → who .client c ≡ true → Good D xs → Good D (makes-it c b ∷ xs)
-unfolding Authentic checkedBy digestedBy noncesBy
-good-make D c b xs w g = good-step D [] (makes-it c b) xs g w (λ p e o. absurd (no-some (sym decode-nothing ∙ e))) (λ d r n e. (let z : _≡_ {A = ℕ} 0 1 = cc in omega arith))
-    (cond-nil (fine (makes-it c b) xs)) (cond-nil (fine (makes-it c b) xs)) refl (inl (cond-nil (fine (makes-it c b) xs)))
+  got-more : (n : List ℕ) (xs : Run s) (ns : List (List ℕ)) → Timely xs ns → In n ns → (n ≡ nonce1) ⊎ (n ≡ nonce3)
+  unfolding In
+  got-more n xs ns (inl e) i = absurd (subst (In n) e i)
+  got-more n xs ns (inr (h, a)) i = all-in _ ns a n i
+
+  -- ---- one more step
+
+  -- what has to be known of a step x after xs, in the world w
+  pub record Next (is : Bool) (xs : Run s) (w : World) (x : StepIn s) (w' : World) (cs' : List Logged) : Type 0 where
+    pub world : perform s w (x .step) .world ≡ w'
+    pub noted : log A (x ∷ xs) ≡ cs'
+    pub party : PartyOf s A who xs (x .step)
+    pub authentic : Authentic s A who x xs
+    pub fresh : FreshNonce s A x xs
+    pub write : (c : ℕ) (n : List ℕ) → Begins s A c n x xs → OfWrite is c n
+    pub unforged : All (λ kb. Made kb xs) (checkedIn w (x .step))
+    pub digests : All (λ u. u ≡ nonce1) (digestedIn w (x .step))
+    pub nonces : Timely xs (noncesIn w (x .step))
+
+  all-row : {B : Type 0} (P : B → Type 0) (us vs : List B) → All P us → All P vs → All P (us ++ vs)
+  unfolding All
+  all-row P [] vs h k = k
+  all-row P (u ∷ us) vs h k = (h .0, all-row P us vs (h .1) k)
+
+  pub play-on : (was is : Bool) (xs : Run s) (w : World) (cs : List Logged) (x : StepIn s) (w' : World) (cs' : List Logged) →
+      Play was xs w cs → (was ≡ true → is ≡ true) → Next is xs w x w' cs' → Play is (x ∷ xs) w' cs'
+  unfolding Always Ever allDigested NoForgery NoCollision NoEarlyNonce nowValues
+  play-on was is xs w cs x w' cs' p up h = record {
+    fair = (
+      record {
+        party = h .party;
+        authentic = h .authentic;
+        fresh = h .fresh;
+        unforged = subst (λ (v : World). All (λ kb. Made kb xs) (checkedIn v (x .step))) (sym (p .here)) (h .unforged);
+        uncollided =
+            all-map (λ u. u ≡ nonce1) _ (λ u e. all-map (λ v. v ≡ nonce1) _ (λ v k q. e ∙ sym k) _ all-first) (digested s A x xs) just-first;
+        unshown = timely was xs w cs p (noncesGot s A x xs) just-timely;
+      },
+      p .fair,
+    );
+    here = ap (λ (v : World). perform s v (x .step) .world) (p .here) ∙ h .world;
+    calls = h .noted;
+    same = all-first;
+    begun = began;
+    got = gets;
+  }
+    where
+      just-first : All (λ u. u ≡ nonce1) (digested s A x xs)
+      just-first = subst (λ (v : World). All (λ u. u ≡ nonce1) (digestedIn v (x .step))) (sym (p .here)) (h .digests)
+
+      all-first : All (λ u. u ≡ nonce1) (digested s A x xs ++ allDigested s A xs)
+      all-first = all-row (λ u. u ≡ nonce1) (digested s A x xs) (allDigested s A xs) just-first (p .same)
+
+      just-timely : Timely xs (noncesGot s A x xs)
+      just-timely = subst (λ (v : World). Timely xs (noncesIn v (x .step))) (sym (p .here)) (h .nonces)
+
+      began : (c : ℕ) (n : List ℕ) → Begun c n (x ∷ xs) → OfWrite is c n
+      began c n (inl b) = h .write c n b
+      began c n (inr b) = still (p .begun c n b)
+        where
+          still : OfWrite was c n → OfWrite is c n
+          still (inl o) = inl o
+          still (inr (y, e)) = inr (up y, e)
+
+      gets : (n : List ℕ) → Got n (x ∷ xs) → (n ≡ nonce1) ⊎ (n ≡ nonce3)
+      gets n (inl i) = got-more n xs (noncesGot s A x xs) just-timely i
+      gets n (inr g) = p .got n g

@@ -1,167 +1,240 @@
--- Exchanges of correct parties on the toy shelf, one after another, keep the premises: what is asked and answered, and what is computed of each step.
+-- Exchanges on the example's shelf: of a correct client with a correct server, and with the liar, which answers what it likes. What can be computed of
+-- one is one test.
 -- Assumes nothing.
-use mathlib.Core.Path.{_≡_, refl, sym, subst}
+use mathlib.Core.Path.{_≡_, refl, sym, ap, _∙_, subst}
 use mathlib.Core.Bool.{Bool, true, false, cond, not, _&&_}
 use mathlib.Core.List.{List, [], _∷_, _++_, map}
-use mathlib.Core.Option.{Option}
+use mathlib.Core.Option.{Option, none, some}
 use mathlib.Core.Logic.{_⊎_, inl, inr}
-use Prim.Native.Nat.{ℕ}
+use Prim.Native.Nat.{ℕ, suc}
 use native.Mathlib.Omega.{arith}
-use borrow.Author.Tests.{eq-eqb, not-true}
+use lib.ListN.{length}
+use lib.Dec.{eqb}
+use borrow.Author.Tests.{eq-eqb, eqb-true, not-true}
 use Rattle.cluster.specs.Config.{shelf}
-use Rattle.cluster.specs.Ranges.{within}
-use Rattle.protocol.specs.Values.{Candidate}
-use Rattle.protocol.specs.Packet.{Body, Packet, kindOf}
-use Rattle.atomicity.specs.Lists.{Ever, All}
-use Rattle.atomicity.specs.Steps.{ofPacket, offered, noncesGot, noncesBy}
-use Rattle.atomicity.specs.Premises.{odd}
-use Rattle.atomicity.proofs.Util.{clash, and-left, and-right}
-use Rattle.atomicity.proofs.Setup.{Steps, StepOf, Begin}
-use Rattle.atomicity.proofs.Playing.{A, Good, K, ShownAll, allBytes, cond-nil, fine, good-make, makes-it, packet, packetOf, serves-it, takes-it, who}
-use Rattle.atomicity.proofs.Exchanges.{Gets, good-get, shown-later, old-begin}
+use Rattle.cluster.specs.Ranges.{within, packetRoom, contentRoom}
+use Rattle.cluster.specs.Refusals.{onRefusal}
+use Rattle.protocol.specs.Format.{Bytes}
+use Rattle.protocol.specs.Values.{nonceSize, blankCandidate}
+use Rattle.protocol.specs.Packet.{Body, BodyOk, Packet, PacketOk, kindOf, encode, decode}
+use Rattle.protocol.proofs.ServerLift.{reply-ok}
+use Rattle.protocol.specs.Rules.{upd, nobody}
+use Rattle.protocol.specs.Server.{Server, replyTo, serverRefusal}
+use Rattle.protocol.specs.Client.{Client, Hand, Turn, refused, more, aborted, accepted, made, makeRefusal, takeRefusal, takeStep, highAt, awaits, writeRefusal, readRefusal, abortRefusal, writeStep, readStep, abortStep, isIdle, inComplete, clocking, collecting, idle, begun, onto}
+use Rattle.protocol.specs.Runs.{Lent, Step, write, read, make, give-up, take-reply, serve, sentOf}
+use Rattle.protocol.proofs.Bodies.{decode-encode}
+use Rattle.protocol.proofs.RunLift.{decode-nothing}
+use Rattle.protocol.proofs.ValueRuns.{World, After, doValues, setClient, nowValues}
+use Rattle.atomicity.specs.Lists.{Ever, All, flat}
+use Rattle.atomicity.specs.Steps.{StepIn, makes, offered, stampedFrom, stampedBy, serverChecks, clientChecks, judged, compared, digestsWith, checkedBy, digestedBy, noncesBy}
+use Rattle.atomicity.specs.Premises.{PartyOf, Authentic, Begins, FreshNonce, odd}
+use Rattle.atomicity.specs.Claim.{Logged, log, note, change, follow}
+use Rattle.atomicity.proofs.Util.{clash, and-left, and-right, all-map}
+use Rattle.atomicity.proofs.Model.{Run, perform, now}
+use Rattle.atomicity.proofs.Playing.{Hashing, functions, serversOf, who, nonce1, s, A, Begun, Got, Made, OfWrite, Timely, Play, play-on, checkedIn, digestedIn, noncesIn}
+use Rattle.atomicity.proofs.Printed.{BodyBytes, PacketBytes, packet-bytes}
+use Rattle.atomicity.proofs.SceneBytes.{headFits, packet-of}
+use Rattle.atomicity.proofs.Exchanges.{packetBuffer, contentBuffer, content-room, serves-it, takes-it, cond-nil, all-none, makes-it, sent-ok, play-make, made-sent, acts, served, Serves, serving, reply-sent, play-serve, Owned, turned, took, followed, Takes, taking, play-take, not-write}
 
--- a client asks a server and takes its answer; what the server digests at the one, and the client at the other
-pub record Talk : Type 0 where
-  pub client : ℕ
-  pub server : ℕ
-  pub ask : Body
-  pub answer : Body
-  pub served : List (List ℕ)
-  pub taken : List (List ℕ)
+module _ (H : Hashing) where
+  -- ---- an exchange: client c asks server b, which does this and answers r, and the client's turn is t
 
-abbrev asked : Talk → List ℕ
-asked k = packet (k .client) (k .server) (k .ask)
+  pub record Talk (w : World) (c b : ℕ) (lent : Lent) (v : Server) (r : Body) (t : Turn) : Type 0 where
+    pub client : who .client c ≡ true
+    pub server : who .server b ≡ true
+    pub inside : within 1 (s H .config .servers) b ≡ true
+    pub own : Owned H c lent
+    pub ask-bytes : PacketBytes (made (s H .config .t) c (w .client c) b)
+    pub answer-bytes : PacketBytes (replyTo (made (s H .config .t) c (w .client c) b) r)
+    pub asks : odd (kindOf (made (s H .config .t) c (w .client c) b .body)) ≡ true
+    pub answers : odd (kindOf r) ≡ false
+    pub makes-on : makeRefusal (s H .config) c b (not (isIdle (w .client c .hand))) packetRoom ≡ 0
+    pub serves-on : serverRefusal (s H .config .t) b (some (made (s H .config .t) c (w .client c) b)) packetRoom ≡ 0
+    pub does : acts H b w (made (s H .config .t) c (w .client c) b .body) ≡ record { server = v; reply = r }
+    pub takes-on : let cl = w .client c in takeRefusal (s H .config) c (some (replyTo (made (s H .config .t) c cl b) r)) (cl .calls) (awaits (cl .hand))
+        (cl .marks) (highAt (functions H) (s H .config) c (s H .writers) (s H .keys) cl) contentRoom ≡ 0
+    pub turns : turned H c (w .client c) (replyTo (made (s H .config .t) c (w .client c) b) r) ≡ t
 
-abbrev answered : Talk → List ℕ
-answered k = packet (k .client) (k .server) (k .answer)
+  module _ (w : World) (c b : ℕ) (lent : Lent) (v : Server) (r : Body) (t : Turn) (k : Talk w c b lent v r t) where
+    abbrev pub asked : Packet
+    asked = made (s H .config .t) c (w .client c) b
 
--- both are correct, a request is asked and a reply answered, and the packets are of bytes
-abbrev pub proper : Talk → Bool
-proper k = who .client (k .client) && (who .server (k .server) && (within 1 (shelf 1 .servers) (k .server)
-    && (odd (kindOf (k .ask)) && (not (odd (kindOf (k .answer))) && (allBytes (asked k) && allBytes (answered k))))))
+    abbrev pub answered : Packet
+    answered = replyTo asked r
 
-pub record Proper (k : Talk) : Type 0 where
-  pub client : who .client (k .client) ≡ true
-  pub server : who .server (k .server) ≡ true
-  pub inside : within 1 (shelf 1 .servers) (k .server) ≡ true
-  pub asks : odd (kindOf (k .ask)) ≡ true
-  pub answers : odd (kindOf (k .answer)) ≡ false
-  pub ask-bytes : allBytes (asked k) ≡ true
-  pub answer-bytes : allBytes (answered k) ≡ true
+    abbrev pub exchanged : Run (s H) → Run (s H)
+    exchanged xs =
+        takes-it H c lent answered (k .own) (packet-bytes answered (k .answer-bytes))
+        ∷ serves-it H b asked (k .inside) (packet-bytes asked (k .ask-bytes)) ∷ makes-it H c b ∷ xs
 
-pub properly : (k : Talk) → proper k ≡ true → Proper k
-properly k e =
-    let e1 = and-right (who .client (k .client)) _ e in
-    let e2 = and-right (who .server (k .server)) _ e1 in
-    let e3 = and-right (within 1 (shelf 1 .servers) (k .server)) _ e2 in
-    let e4 = and-right (odd (kindOf (k .ask))) _ e3 in
-    let e5 = and-right (not (odd (kindOf (k .answer)))) _ e4 in
-    record {
-      client = and-left (who .client (k .client)) _ e;
-      server = and-left (who .server (k .server)) _ e1;
-      inside = and-left (within 1 (shelf 1 .servers) (k .server)) _ e2;
-      asks = and-left (odd (kindOf (k .ask))) _ e3;
-      answers = not-true _ (and-left (not (odd (kindOf (k .answer)))) _ e4);
-      ask-bytes = and-left (allBytes (asked k)) (allBytes (answered k)) e5;
-      answer-bytes = and-right (allBytes (asked k)) (allBytes (answered k)) e5;
-    }
-
--- ---- one exchange
-
-module _ (k : Talk) where
-  abbrev pub make : StepOf K
-  make = makes-it (k .client) (k .server)
-
-  abbrev pub serve : Proper k → StepOf K
-  serve p = serves-it (k .server) (asked k) (p .inside) (p .ask-bytes)
-
-  abbrev pub take : Proper k → StepOf K
-  take p = takes-it (k .client) (answered k) (p .answer-bytes)
-
-  abbrev pub exchange : Proper k → Steps K → Steps K
-  exchange p xs = take p ∷ serve p ∷ make ∷ xs
-
-  -- what is computed of it: what is sent, and what the steps that get a packet do; D was digested before
-  abbrev pub Calm : Proper k → List (List ℕ) → Steps K → Type 0
-  Calm p D xs = (A .sent make xs ≡ asked k) × (A .sent (serve p) (make ∷ xs) ≡ answered k)
-      × Gets (serve p) (make ∷ xs) (packetOf (k .client) (k .server) (k .ask)) (k .served) D
-      × Gets (take p) (serve p ∷ make ∷ xs) (packetOf (k .client) (k .server) (k .answer)) (k .taken) (k .served ++ D)
-
-  module _ (p : Proper k) where
-    -- it shows no nonce, or all have been shown
-    pub good-exchange : (D : List (List ℕ)) (xs : Steps K) → Good D xs → Calm p D xs → (offered (k .ask) ≡ []) ⊎ ShownAll (make ∷ xs) →
-        Good (k .taken ++ (k .served ++ D)) (exchange p xs)
-    unfolding noncesBy Ever
-    good-exchange D xs g (sent, back, gets, takes) s =
-        good-get (k .served ++ D) (k .taken) (take p) (serve p ∷ make ∷ xs) _
-        (good-get D (k .served) (serve p) (make ∷ xs) _ (good-make D (k .client) (k .server) xs (p .client) g) (p .server)
-        (λ d r m q. (let z : _≡_ {A = ℕ} 0 1 = cc in omega arith)) gets
-        (λ w h. inl (eq-eqb (k .client) (k .client) refl, sent), λ w h. clash (p .asks) w) (quiet s))
-        (p .client) (λ d r m q. (let z : _≡_ {A = ℕ} 0 1 = cc in omega arith)) takes
-        (λ w h. clash w (p .answers), λ w h. inl (eq-eqb (k .server) (k .server) refl, back))
-        (inl (cond-nil (fine (take p) (serve p ∷ make ∷ xs))))
+    -- tags that check have been made before; nonces that the server gets are timely
+    pub play-exchange : (two : Bool) (xs : Run (s H)) (cs : List Logged) → Play H two xs w cs →
+        All (λ kb. Made H kb xs) (flat (serverChecks (s H) b (w .server b)) (judged (s H) b (w .server b) (asked .body))) →
+        All (λ u. u ≡ nonce1) (map (λ d. d .nonce) (judged (s H) b (w .server b) (asked .body))) →
+        Timely H (makes-it H c b ∷ xs) (map (λ d. d .nonce) (offered (asked .body))) →
+        All (λ kb. Made H kb xs) (clientChecks (s H) (w .client c .hand) r) →
+        All (λ u. u ≡ nonce1)
+            (flat (digestsWith (s H)) (stampedFrom c (w .client c .hand) (t .client .hand)) ++ compared (s H) (w .client c) (w .client c .hand) answered) →
+        Play H two (exchanged xs) (took H (served H w b v) c t) (followed H w c t (suc (suc (length xs))) cs)
+    unfolding Ever replyTo made
+    play-exchange two xs cs p served-tags served-digests timely taken-tags taken-digests =
+        play-take H (served H w b v) c lent answered t takes two (serves-it H b asked (k .inside) (packet-bytes asked (k .ask-bytes)) ∷ makes-it H c b ∷ xs) cs
+        (play-serve H w b asked v r serves two (makes-it H c b ∷ xs) cs p1
+        (λ y. inl (eq-eqb c c refl, ap sentOf sent)) (all-map _ _ (λ kb h. inr h) _ served-tags) served-digests
+        timely)
+        (λ y. inl (eq-eqb b b refl, ap sentOf back)) (all-map _ _ (λ kb h. inr (inr h)) _ taken-tags) taken-digests
       where
-        ok : Bool
-        ok = fine (serve p) (make ∷ xs)
+        p1 : Play H two (makes-it H c b ∷ xs) w cs
+        p1 = play-make H c b two xs w cs p (k .client)
 
-        quiet : (offered (k .ask) ≡ []) ⊎ ShownAll (make ∷ xs) → (noncesGot (K .s) A (serve p) (make ∷ xs) ≡ []) ⊎ ShownAll (make ∷ xs)
-        quiet (inr h) = inr h
-        quiet (inl e) = inl
-            (subst (λ (o : Option Packet). cond ok (map (λ (c : Candidate). c .nonce) (ofPacket (λ z. offered (z .body)) o)) [] ≡ []) (sym (gets .0))
-            (subst (λ (l : List Candidate). cond ok (map (λ (c : Candidate). c .nonce) l) [] ≡ []) (sym e) (cond-nil ok)))
+        sent : perform (s H) (now (s H) xs) (make c b packetBuffer) .sent ≡ some asked
+        sent = made-sent H c b xs w (p .here) (k .makes-on)
 
-    pub shown-exchange : (xs : Steps K) → ShownAll (make ∷ xs) → ShownAll (exchange p xs)
-    shown-exchange xs h = shown-later (take p) (serve p ∷ make ∷ xs) (λ d r k q. (let z : _≡_ {A = ℕ} 0 1 = cc in omega arith))
-        (shown-later (serve p) (make ∷ xs) (λ d r k q. (let z : _≡_ {A = ℕ} 0 1 = cc in omega arith)) h)
+        ask-ok : PacketOk asked
+        ask-ok = sent-ok H (makes-it H c b) xs asked sent
 
-    old-exchange : (xs : Steps K) (d : ℕ) (m : List ℕ) → Ever (Begin K d m) (exchange p xs) → Ever (Begin K d m) xs
-    old-exchange xs d m h = old-begin make xs (λ d r k q. (let z : _≡_ {A = ℕ} 0 1 = cc in omega arith)) d m
-        (old-begin (serve p) (make ∷ xs) (λ d r k q. (let z : _≡_ {A = ℕ} 0 1 = cc in omega arith)) d m
-        (old-begin (take p) (serve p ∷ make ∷ xs) (λ d r k q. (let z : _≡_ {A = ℕ} 0 1 = cc in omega arith)) d m h))
+        serves : Serves H w b asked v r
+        serves =
+            record {
+              right = k .server;
+              inside = k .inside;
+              ok = ask-ok;
+              bytes = packet-bytes asked (k .ask-bytes);
+              request = k .asks;
+              lets = k .serves-on;
+              does = k .does;
+            }
 
--- ---- one after another
+        back : perform (s H) (now (s H) (makes-it H c b ∷ xs)) (serve b (encode asked) packetBuffer) .sent ≡ some answered
+        back = reply-sent H w b asked v r serves (makes-it H c b ∷ xs) (p1 .here)
 
-abbrev pub allProper : List Talk → Bool
-allProper [] = true
-allProper (k ∷ ks) = proper k && allProper ks
+        takes : Takes H (served H w b v) c lent answered t
+        takes =
+            record {
+              right = k .client;
+              own = k .own;
+              ok = sent-ok H (serves-it H b asked (k .inside) (packet-bytes asked (k .ask-bytes))) (makes-it H c b ∷ xs) answered back;
+              bytes = packet-bytes answered (k .answer-bytes);
+              reply = k .answers;
+              lets = k .takes-on;
+              does = k .turns;
+            }
 
-abbrev pub headOf : (k : Talk) (ks : List Talk) → allProper (k ∷ ks) ≡ true → Proper k
-headOf k ks e = properly k (and-left (proper k) (allProper ks) e)
+  -- what is computed of it
+  abbrev pub talkFits : World → ℕ → ℕ → Body → Bool
+  talkFits w c b r =
+      let cl = w .client c in let p = made (s H .config .t) c cl b in let q = replyTo p r in
+      (who .client c && (who .server b && within 1 (s H .config .servers) b))
+      && ((headFits p && headFits q)
+      && ((odd (kindOf (p .body)) && not (odd (kindOf r)))
+      && (eqb (makeRefusal (s H .config) c b (not (isIdle (cl .hand))) packetRoom) 0
+      && (eqb (serverRefusal (s H .config .t) b (some p) packetRoom) 0
+      && eqb (takeRefusal (s H .config) c (some q) (cl .calls) (awaits (cl .hand)) (cl .marks)
+      (highAt (functions H) (s H .config) c (s H .writers) (s H .keys) cl) contentRoom) 0))))
 
-abbrev pub tailOf : (k : Talk) (ks : List Talk) → allProper (k ∷ ks) ≡ true → allProper ks ≡ true
-tailOf k ks e = and-right (proper k) (allProper ks) e
+  pub talk-of : (w : World) (c b : ℕ) (lent : Lent) (v : Server) (r : Body) (t : Turn) → talkFits w c b r ≡ true → Owned H c lent →
+      BodyBytes (made (s H .config .t) c (w .client c) b .body) → BodyBytes r →
+      acts H b w (made (s H .config .t) c (w .client c) b .body) ≡ record { server = v; reply = r } →
+      turned H c (w .client c) (replyTo (made (s H .config .t) c (w .client c) b) r) ≡ t → Talk w c b lent v r t
+  unfolding replyTo
+  talk-of w c b lent v r t e own pb qb does turns =
+      let cl = w .client c in
+      let p = made (s H .config .t) c cl b in
+      let q = replyTo p r in
+      let parties = and-left (who .client c && (who .server b && within 1 (s H .config .servers) b)) _ e in
+      let rest = and-right (who .client c && (who .server b && within 1 (s H .config .servers) b)) _ e in
+      let heads = and-left (headFits p && headFits q) _ rest in
+      let more = and-right (headFits p && headFits q) _ rest in
+      let kinds = and-left (odd (kindOf (p .body)) && not (odd (kindOf r))) _ more in
+      let goes = and-right (odd (kindOf (p .body)) && not (odd (kindOf r))) _ more in
+      let m = eqb (makeRefusal (s H .config) c b (not (isIdle (cl .hand))) packetRoom) 0 in
+      let n = eqb (serverRefusal (s H .config .t) b (some p) packetRoom) 0 in
+      record {
+        client = and-left (who .client c) _ parties;
+        server = and-left (who .server b) _ (and-right (who .client c) _ parties);
+        inside = and-right (who .server b) _ (and-right (who .client c) _ parties);
+        own = own;
+        ask-bytes = packet-of p (and-left (headFits p) _ heads) pb;
+        answer-bytes = packet-of q (and-right (headFits p) _ heads) qb;
+        asks = and-left (odd (kindOf (p .body))) _ kinds;
+        answers = not-true _ (and-right (odd (kindOf (p .body))) _ kinds);
+        makes-on = eqb-true _ 0 (and-left m _ goes);
+        serves-on = eqb-true _ 0 (and-left n _ (and-right m _ goes));
+        does = does;
+        takes-on = eqb-true _ 0 (and-right n _ (and-right m _ goes));
+        turns = turns;
+      }
 
-unfoldable pub talks : (ks : List Talk) → allProper ks ≡ true → Steps K → Steps K
-talks [] e xs = xs
-talks (k ∷ ks) e xs = talks ks (tailOf k ks e) (exchange k (headOf k ks e) xs)
+  -- ---- the liar, server 1, answers client c with x
 
--- what has been digested after them
-unfoldable pub digests : List Talk → List (List ℕ) → List (List ℕ)
-digests [] D = D
-digests (k ∷ ks) D = digests ks (k .taken ++ (k .served ++ D))
+  pub record Lie (w : World) (c : ℕ) (lent : Lent) (x : Body) (t : Turn) : Type 0 where
+    pub client : who .client c ≡ true
+    pub own : Owned H c lent
+    pub ok : BodyOk (shelf (made (s H .config .t) c (w .client c) 1 .head .t)) x
+    pub bytes : PacketBytes (replyTo (made (s H .config .t) c (w .client c) 1) x)
+    pub answers : odd (kindOf x) ≡ false
+    pub makes-on : makeRefusal (s H .config) c 1 (not (isIdle (w .client c .hand))) packetRoom ≡ 0
+    pub takes-on : let cl = w .client c in takeRefusal (s H .config) c (some (replyTo (made (s H .config .t) c cl 1) x)) (cl .calls) (awaits (cl .hand))
+        (cl .marks) (highAt (functions H) (s H .config) c (s H .writers) (s H .keys) cl) contentRoom ≡ 0
+    pub turns : turned H c (w .client c) (replyTo (made (s H .config .t) c (w .client c) 1) x) ≡ t
 
-unfoldable pub Calms : (ks : List Talk) → allProper ks ≡ true → List (List ℕ) → Steps K → Type 0
-Calms [] e D xs = Unit {0}
-Calms (k ∷ ks) e D xs = Calm k (headOf k ks e) D xs × Calms ks (tailOf k ks e) (k .taken ++ (k .served ++ D)) (exchange k (headOf k ks e) xs)
+  module _ (w : World) (c : ℕ) (lent : Lent) (x : Body) (t : Turn) (k : Lie w c lent x t) where
+    abbrev pub lie : Packet
+    lie = replyTo (made (s H .config .t) c (w .client c) 1) x
 
--- while they show no nonce
-pub good-quiet : (ks : List Talk) (e : allProper ks ≡ true) (D : List (List ℕ)) (xs : Steps K) → All (λ k. offered (k .ask) ≡ []) ks → Calms ks e D xs →
-    Good D xs → Good (digests ks D) (talks ks e xs)
-unfolding talks digests Calms All
-good-quiet [] e D xs q c g = g
-good-quiet (k ∷ ks) e D xs q c g = good-quiet ks (tailOf k ks e) _ _ (q .1) (c .1) (good-exchange k (headOf k ks e) D xs g (c .0) (inl (q .0)))
+    abbrev pub lied : Run (s H) → Run (s H)
+    lied xs = takes-it H c lent lie (k .own) (packet-bytes lie (k .bytes)) ∷ makes-it H c 1 ∷ xs
 
--- when all nonces have been shown
-pub good-shown : (ks : List Talk) (e : allProper ks ≡ true) (D : List (List ℕ)) (xs : Steps K) → ShownAll xs → Calms ks e D xs →
-    Good D xs → Good (digests ks D) (talks ks e xs) × ShownAll (talks ks e xs)
-unfolding talks digests Calms
-good-shown [] e D xs s c g = (g, s)
-good-shown (k ∷ ks) e D xs s c g =
-    let h = shown-later (make k) xs (λ d r m q. (let z : _≡_ {A = ℕ} 0 1 = cc in omega arith)) s in
-    good-shown ks (tailOf k ks e) _ _ (shown-exchange k (headOf k ks e) xs h) (c .1) (good-exchange k (headOf k ks e) D xs g (c .0) (inr h))
+    pub play-lie : (two : Bool) (xs : Run (s H)) (cs : List Logged) → Play H two xs w cs →
+        All (λ kb. Made H kb xs) (clientChecks (s H) (w .client c .hand) x) →
+        All (λ u. u ≡ nonce1)
+            (flat (digestsWith (s H)) (stampedFrom c (w .client c .hand) (t .client .hand)) ++ compared (s H) (w .client c) (w .client c .hand) lie) →
+        Play H two (lied xs) (took H w c t) (followed H w c t (suc (length xs)) cs)
+    unfolding Ever replyTo made
+    play-lie two xs cs p tags digests =
+        play-take H w c lent lie t takes two (makes-it H c 1 ∷ xs) cs (play-make H c 1 two xs w cs p (k .client))
+        (λ y. clash y refl) (all-map _ _ (λ kb h. inr h) _ tags) digests
+      where
+        takes : Takes H w c lent lie t
+        takes =
+            record {
+              right = k .client;
+              own = k .own;
+              ok = reply-ok (made (s H .config .t) c (w .client c) 1) x
+                  (sent-ok H (makes-it H c 1) xs _ (made-sent H c 1 xs w (p .here) (k .makes-on))) (k .ok);
+              bytes = packet-bytes lie (k .bytes);
+              reply = k .answers;
+              lets = k .takes-on;
+              does = k .turns;
+            }
 
-pub old-talks : (ks : List Talk) (e : allProper ks ≡ true) (xs : Steps K) (d : ℕ) (m : List ℕ) → Ever (Begin K d m) (talks ks e xs) →
-    Ever (Begin K d m) xs
-unfolding talks
-old-talks [] e xs d m h = h
-old-talks (k ∷ ks) e xs d m h = old-exchange k (headOf k ks e) xs d m (old-talks ks (tailOf k ks e) (exchange k (headOf k ks e) xs) d m h)
+  abbrev pub lieFits : World → ℕ → Body → Bool
+  lieFits w c x =
+      let cl = w .client c in let p = made (s H .config .t) c cl 1 in let q = replyTo p x in
+      who .client c
+      && (headFits q
+      && (not (odd (kindOf x))
+      && (eqb (makeRefusal (s H .config) c 1 (not (isIdle (cl .hand))) packetRoom) 0
+      && eqb (takeRefusal (s H .config) c (some q) (cl .calls) (awaits (cl .hand)) (cl .marks)
+      (highAt (functions H) (s H .config) c (s H .writers) (s H .keys) cl) contentRoom) 0)))
+
+  pub lie-of : (w : World) (c : ℕ) (lent : Lent) (x : Body) (t : Turn) → lieFits w c x ≡ true → Owned H c lent → BodyOk (shelf 1) x → BodyBytes x →
+      turned H c (w .client c) (replyTo (made (s H .config .t) c (w .client c) 1) x) ≡ t → Lie w c lent x t
+  unfolding replyTo made shelf
+  lie-of w c lent x t e own ok b turns =
+      let cl = w .client c in
+      let q = replyTo (made (s H .config .t) c cl 1) x in
+      let e1 = and-right (who .client c) _ e in
+      let e2 = and-right (headFits q) _ e1 in
+      let e3 = and-right (not (odd (kindOf x))) _ e2 in
+      let m = eqb (makeRefusal (s H .config) c 1 (not (isIdle (cl .hand))) packetRoom) 0 in
+      record {
+        client = and-left (who .client c) _ e;
+        own = own;
+        ok = ok;
+        bytes = packet-of q (and-left (headFits q) _ e1) b;
+        answers = not-true _ (and-left (not (odd (kindOf x))) _ e2);
+        makes-on = eqb-true _ 0 (and-left m _ e3);
+        takes-on = eqb-true _ 0 (and-right m _ e3);
+        turns = turns;
+      }
