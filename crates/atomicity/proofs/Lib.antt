@@ -62,3 +62,6 @@ pub mod SceneRead
 pub mod SceneBytes
 pub mod SceneWrites
 pub mod SceneStored
+pub mod SceneReads
+pub mod SceneShown
+pub mod SceneEnds

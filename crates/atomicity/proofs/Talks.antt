@@ -185,6 +185,10 @@ module _ (H : Hashing) where
     abbrev pub lied : Run (s H) → Run (s H)
     lied xs = takes-it H c lent lie (k .own) (packet-bytes lie (k .bytes)) ∷ makes-it H c 1 ∷ xs
 
+    pub lie-ok : (two : Bool) (xs : Run (s H)) (cs : List Logged) → Play H two xs w cs → PacketOk lie
+    lie-ok two xs cs p = reply-ok (made (s H .config .t) c (w .client c) 1) x
+        (sent-ok H (makes-it H c 1) xs _ (made-sent H c 1 xs w (p .here) (k .makes-on))) (k .ok)
+
     pub play-lie : (two : Bool) (xs : Run (s H)) (cs : List Logged) → Play H two xs w cs →
         All (λ kb. Made H kb xs) (clientChecks (s H) (w .client c .hand) x) →
         All (λ u. u ≡ nonce1)
@@ -200,8 +204,7 @@ module _ (H : Hashing) where
             record {
               right = k .client;
               own = k .own;
-              ok = reply-ok (made (s H .config .t) c (w .client c) 1) x
-                  (sent-ok H (makes-it H c 1) xs _ (made-sent H c 1 xs w (p .here) (k .makes-on))) (k .ok);
+              ok = lie-ok two xs cs p;
               bytes = packet-bytes lie (k .bytes);
               reply = k .answers;
               lets = k .takes-on;
