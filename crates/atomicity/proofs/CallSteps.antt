@@ -167,32 +167,37 @@ module _ (H : Hashing) where
       (cond-nil (accepted (perform (s H) w (give-up c) .result))) (cond-nil (accepted (perform (s H) w (give-up c) .result)))
       (cond-nil (accepted (perform (s H) w (give-up c) .result)))
 
-  -- a reply that is refused with k + 1
-  pub play-refused : (k c : ℕ) (lent : Lent) (q : Packet) (own : Owned H c lent) (qb : Bytes (encode q)) (two : Bool) (xs : Run (s H)) (w : World)
-      (cs : List Logged) → Play H two xs w cs → who .client c ≡ true → PacketOk q →
-      (let cl = w .client c in takeRefusal (s H .config) c (some q) (cl .calls) (awaits (cl .hand)) (cl .marks)
-      (highAt (functions H) (s H .config) c (s H .writers) (s H .keys) cl) contentRoom) ≡ suc k →
-      let t : Turn = record { client = w .client c; result = refused (suc k) } in
-      Play H two (takes-it H c lent q own qb ∷ xs) (took H w c t) (followed H w c t (length xs) cs)
-  unfolding note Authentic checkedBy digestedBy noncesBy doValues takeStep setClient nowValues
-  play-refused k c lent q own qb two xs w cs p right ok why = play-quiet c t (takes-it H c lent q own qb) w two xs cs p does
-      refl right (λ r e o. clash o (ap (λ (u : World). accepted (perform (s H) u step .result)) (p .here) ∙ not-done))
-      (λ d n h. not-write H (takes-it H c lent q own qb) xs (λ d r n e. (let z : _≡_ {A = ℕ} 0 1 = cc in omega arith)) d n h)
-      (ap (λ (b : Bool). cond b (checkedBy (s H) (w .client) (serversOf H w) step) []) not-done)
-      (ap (λ (b : Bool). cond b (digestedBy (s H) (w .client) (serversOf H w) (stampedBy (w .client) (perform (s H) w step .world .client) step) step) []) not-done)
-      (ap (λ (b : Bool). cond b (noncesBy (s H) step) []) not-done)
-    where
-      t : Turn
-      t = record { client = w .client c; result = refused (suc k) }
+  -- ---- a reply that is refused with k + 1
 
-      step : Step
-      step = take-reply c lent (encode q) contentBuffer
+  module _ (k c : ℕ) (lent : Lent) (q : Packet) (w : World) where
+    abbrev pub unmoved : Turn
+    unmoved = record { client = w .client c; result = refused (suc k) }
 
-      does : perform (s H) w step ≡ record { world = took H w c t; result = t .result; sent = none }
-      does = (λ i. setClient (s H .P) (s H .config) (s H .writers) (s H .keys) w c
-          (takeStep (functions H) (s H .config) c (s H .writers) (s H .keys) (w .client c) (decode-encode q ok i) (content-room i)))
-          ∙ ap (λ (n : ℕ). setClient (s H .P) (s H .config) (s H .writers) (s H .keys) w c
-          (onRefusal n (turned H c (w .client c) q) (record { client = w .client c; result = refused n }))) why
+    pub refused-does : PacketOk q →
+        (let cl = w .client c in takeRefusal (s H .config) c (some q) (cl .calls) (awaits (cl .hand)) (cl .marks)
+        (highAt (functions H) (s H .config) c (s H .writers) (s H .keys) cl) contentRoom) ≡ suc k →
+        perform (s H) w (take-reply c lent (encode q) contentBuffer) ≡ record { world = took H w c unmoved; result = refused (suc k); sent = none }
+    unfolding doValues takeStep setClient
+    refused-does ok why =
+        (λ i. setClient (s H .P) (s H .config) (s H .writers) (s H .keys) w c
+        (takeStep (functions H) (s H .config) c (s H .writers) (s H .keys) (w .client c) (decode-encode q ok i) (content-room i)))
+        ∙ ap (λ (n : ℕ). setClient (s H .P) (s H .config) (s H .writers) (s H .keys) w c
+        (onRefusal n (turned H c (w .client c) q) (record { client = w .client c; result = refused n }))) why
 
-      not-done : accepted (perform (s H) w step .result) ≡ false
-      not-done = ap (λ (a : After). accepted (a .result)) does
+    pub play-refused : (own : Owned H c lent) (qb : Bytes (encode q)) (two : Bool) (xs : Run (s H)) (cs : List Logged) → Play H two xs w cs →
+        who .client c ≡ true → perform (s H) w (take-reply c lent (encode q) contentBuffer)
+        ≡ record { world = took H w c unmoved; result = refused (suc k); sent = none } →
+        Play H two (takes-it H c lent q own qb ∷ xs) (took H w c unmoved) (followed H w c unmoved (length xs) cs)
+    unfolding note Authentic checkedBy digestedBy noncesBy nowValues
+    play-refused own qb two xs cs p right does = play-quiet c unmoved (takes-it H c lent q own qb) w two xs cs p does
+        refl right (λ r e o. clash o (ap (λ (u : World). accepted (perform (s H) u step .result)) (p .here) ∙ not-done))
+        (λ d n h. not-write H (takes-it H c lent q own qb) xs (λ d r n e. (let z : _≡_ {A = ℕ} 0 1 = cc in omega arith)) d n h)
+        (ap (λ (b : Bool). cond b (checkedBy (s H) (w .client) (serversOf H w) step) []) not-done)
+        (ap (λ (b : Bool). cond b (digestedBy (s H) (w .client) (serversOf H w) (stampedBy (w .client) (perform (s H) w step .world .client) step) step) []) not-done)
+        (ap (λ (b : Bool). cond b (noncesBy (s H) step) []) not-done)
+      where
+        step : Step
+        step = take-reply c lent (encode q) contentBuffer
+
+        not-done : accepted (perform (s H) w step .result) ≡ false
+        not-done = ap (λ (a : After). accepted (a .result)) does

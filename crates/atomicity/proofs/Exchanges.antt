@@ -166,6 +166,30 @@ module _ (H : Hashing) where
         perform (s H) (now (s H) xs) (serve b (encode p) packetBuffer) .sent ≡ some (replyTo p r)
     reply-sent xs here = ap (λ (u : World). perform (s H) u (serve b (encode p) packetBuffer) .sent) here ∙ ap (λ (a : After). a .sent) performed
 
+    -- ---- what the premises ask about: tags that check, what is digested, nonces that it gets
+
+    reads : decode (encode p) ≡ some p
+    reads = decode-encode p (k .ok)
+
+    there : serversOf H w b ≡ w .server b
+    there = ap (λ (q : Bool). cond q (w .server b) (blankServer (s H .config))) (k .inside)
+
+    done : accepted (perform (s H) w (serve b (encode p) packetBuffer) .result) ≡ true
+    done = ap (λ (a : After). accepted (a .result)) performed
+
+    pub serve-checks : checkedIn H w (serve b (encode p) packetBuffer)
+        ≡ flat (serverChecks (s H) b (w .server b)) (judged (s H) b (w .server b) (p .body))
+    unfolding checkedBy
+    serve-checks = λ i. cond (done i) (ofPacket (λ q. flat (serverChecks (s H) b (there i)) (judged (s H) b (there i) (q .body))) (reads i)) []
+
+    pub serve-digests : digestedIn H w (serve b (encode p) packetBuffer) ≡ map (λ c. c .nonce) (judged (s H) b (w .server b) (p .body))
+    unfolding digestedBy
+    serve-digests = λ i. cond (done i) (map (λ (c : Candidate). c .nonce) (ofPacket (λ q. judged (s H) b (there i) (q .body)) (reads i))) []
+
+    pub serve-nonces : noncesIn H w (serve b (encode p) packetBuffer) ≡ map (λ c. c .nonce) (offered (p .body))
+    unfolding noncesBy
+    serve-nonces = λ i. cond (done i) (map (λ (c : Candidate). c .nonce) (ofPacket (λ q. offered (q .body)) (reads i))) []
+
     -- it is its client's own, unless the client is wild; tags that check have been made; and it digests and gets known nonces
     pub play-serve : (two : Bool) (xs : Run (s H)) (cs : List Logged) → Play H two xs w cs →
         (who .client (p .head .client) ≡ true → Sent (s H) (A H) (makes (p .head .client)) (encode p) xs) →
@@ -173,7 +197,7 @@ module _ (H : Hashing) where
         All (λ u. u ≡ nonce1) (map (λ c. c .nonce) (judged (s H) b (w .server b) (p .body))) →
         Timely H xs (map (λ c. c .nonce) (offered (p .body))) →
         Play H two (serving ∷ xs) (served w b v) cs
-    unfolding log note Authentic FreshNonce checkedBy digestedBy noncesBy stampedBy
+    unfolding log note Authentic FreshNonce
     play-serve two xs cs pl source tags digs news = play-on H two two xs w cs serving (served w b v) cs pl (λ y. y) (record {
       world = ap (λ (a : After). a .world) performed;
       noted = pl .calls;
@@ -181,14 +205,9 @@ module _ (H : Hashing) where
       authentic = λ q e o. subst Source (Option·some-injective _ _ (sym reads ∙ e)) (λ y z. source z, λ y z. clash (k .request) y);
       fresh = λ d n h. absurd (none-begins d n h);
       write = λ d n h. absurd (none-begins d n h);
-      unforged = all-if _ done _ (subst (λ (o : Option Packet). All (λ kb. Made H kb xs)
-          (ofPacket (λ q. flat (serverChecks (s H) b (serversOf H w b)) (judged (s H) b (serversOf H w b) (q .body))) o)) (sym reads)
-          (subst (λ (u : Server). All (λ kb. Made H kb xs) (flat (serverChecks (s H) b u) (judged (s H) b u (p .body)))) (sym there) tags));
-      digests = all-if _ done _ (subst (λ (o : Option Packet). All (λ u. u ≡ nonce1)
-          (map (λ (c : Candidate). c .nonce) (ofPacket (λ q. judged (s H) b (serversOf H w b) (q .body)) o))) (sym reads)
-          (subst (λ (u : Server). All (λ u. u ≡ nonce1) (map (λ (c : Candidate). c .nonce) (judged (s H) b u (p .body)))) (sym there) digs));
-      nonces = timely-if done (subst (λ (o : Option Packet). Timely H xs (map (λ (c : Candidate). c .nonce) (ofPacket (λ q. offered (q .body)) o)))
-          (sym reads) news);
+      unforged = subst (All (λ kb. Made H kb xs)) (sym serve-checks) tags;
+      digests = subst (All (λ u. u ≡ nonce1)) (sym serve-digests) digs;
+      nonces = subst (Timely H xs) (sym serve-nonces) news;
     })
       where
         Source : Packet → Type 0
@@ -196,21 +215,8 @@ module _ (H : Hashing) where
             (odd (kindOf (q .body)) ≡ true → who .client (q .head .client) ≡ true → Sent (s H) (A H) (makes (q .head .client)) (encode p) xs)
             × (odd (kindOf (q .body)) ≡ false → who .server (q .head .server) ≡ true → Sent (s H) (A H) (serves (q .head .server)) (encode p) xs)
 
-        reads : decode (encode p) ≡ some p
-        reads = decode-encode p (k .ok)
-
-        done : Bool
-        done = accepted (perform (s H) w (serve b (encode p) packetBuffer) .result)
-
-        there : serversOf H w b ≡ w .server b
-        there = ap (λ (q : Bool). cond q (w .server b) (blankServer (s H .config))) (k .inside)
-
         none-begins : (d : ℕ) (n : List ℕ) → Begins (s H) (A H) d n serving xs → ⊥
         none-begins d n h = not-write serving xs (λ d r n e. (let z : _≡_ {A = ℕ} 0 1 = cc in omega arith)) d n h
-
-        timely-if : (q : Bool) {ns : List (List ℕ)} → Timely H xs ns → Timely H xs (cond q ns [])
-        timely-if true h = h
-        timely-if false h = inl refl
 
   -- ---- a client takes a reply
 
@@ -250,6 +256,25 @@ module _ (H : Hashing) where
     unfolding doValues setClient
     performed-on = ap (λ (u : Turn). record { world = took w c u; result = u .result; sent = none }) stepped-on
 
+    reads-on : decode (encode q) ≡ some q
+    reads-on = decode-encode q (k .ok)
+
+    -- the hand after it
+    hand-on : perform (s H) w (take-reply c lent (encode q) contentBuffer) .world .client c .hand ≡ t .client .hand
+    hand-on = ap (λ (a : After). a .world .client c .hand) performed-on ∙ ap (λ (cl : Client). cl .hand) (upd-here (w .client) c (t .client))
+
+    pub take-checks : checkedIn H w (take-reply c lent (encode q) contentBuffer)
+        ≡ cond (accepted (t .result)) (clientChecks (s H) (w .client c .hand) (q .body)) []
+    unfolding checkedBy
+    take-checks = λ i. cond (accepted (performed-on i .result)) (ofPacket (λ p. clientChecks (s H) (w .client c .hand) (p .body)) (reads-on i)) []
+
+    pub take-digests : digestedIn H w (take-reply c lent (encode q) contentBuffer)
+        ≡ cond (accepted (t .result))
+        (flat (digestsWith (s H)) (stampedFrom c (w .client c .hand) (t .client .hand)) ++ compared (s H) (w .client c) (w .client c .hand) q) []
+    unfolding digestedBy stampedBy
+    take-digests = λ i. cond (accepted (performed-on i .result)) (flat (digestsWith (s H)) (stampedFrom c (w .client c .hand) (hand-on i))
+        ++ ofPacket (compared (s H) (w .client c) (w .client c .hand)) (reads-on i)) []
+
     -- it is its server's own, unless the server lies; tags that check have been made; and it digests the first nonce alone
     pub play-take : (two : Bool) (xs : Run (s H)) (cs : List Logged) → Play H two xs w cs →
         (who .server (q .head .server) ≡ true → Sent (s H) (A H) (serves (q .head .server)) (encode q) xs) →
@@ -257,21 +282,17 @@ module _ (H : Hashing) where
         All (λ u. u ≡ nonce1)
             (flat (digestsWith (s H)) (stampedFrom c (w .client c .hand) (t .client .hand)) ++ compared (s H) (w .client c) (w .client c .hand) q) →
         Play H two (taking ∷ xs) (took w c t) (followed w c t (length xs) cs)
-    unfolding log note Authentic FreshNonce checkedBy digestedBy noncesBy stampedBy nowValues
+    unfolding log note Authentic FreshNonce noncesBy nowValues
     play-take two xs cs pl source tags digs = play-on H two two xs w cs taking (took w c t) (followed w c t (length xs) cs) pl (λ y. y) (record {
       world = ap (λ (a : After). a .world) performed-on;
       noted = logged;
       party = k .right;
-      authentic = λ p e o. subst Source (Option·some-injective _ _ (sym reads ∙ e)) (λ y z. clash y (k .reply), λ y z. source z);
+      authentic = λ p e o. subst Source (Option·some-injective _ _ (sym reads-on ∙ e)) (λ y z. clash y (k .reply), λ y z. source z);
       fresh = λ d n h. absurd (none-begins d n h);
       write = λ d n h. absurd (none-begins d n h);
-      unforged = all-if _ done _ (subst (λ (o : Option Packet). All (λ kb. Made H kb xs) (ofPacket (λ p. clientChecks (s H) (w .client c .hand) (p .body)) o))
-          (sym reads) tags);
-      digests = all-if _ done _ (subst (λ (h : Hand). All (λ u. u ≡ nonce1) (flat (digestsWith (s H)) (stampedFrom c (w .client c .hand) h)
-          ++ ofPacket (compared (s H) (w .client c) (w .client c .hand)) (decode (encode q)))) (sym after)
-          (subst (λ (o : Option Packet). All (λ u. u ≡ nonce1) (flat (digestsWith (s H)) (stampedFrom c (w .client c .hand) (t .client .hand))
-          ++ ofPacket (compared (s H) (w .client c) (w .client c .hand)) o)) (sym reads) digs));
-      nonces = inl (cond-nil done);
+      unforged = subst (All (λ kb. Made H kb xs)) (sym take-checks) (all-if _ (accepted (t .result)) _ tags);
+      digests = subst (All (λ u. u ≡ nonce1)) (sym take-digests) (all-if _ (accepted (t .result)) _ digs);
+      nonces = inl (cond-nil (accepted (perform (s H) w (take-reply c lent (encode q) contentBuffer) .result)));
     })
       where
         Source : Packet → Type 0
@@ -279,21 +300,11 @@ module _ (H : Hashing) where
             (odd (kindOf (p .body)) ≡ true → who .client (p .head .client) ≡ true → Sent (s H) (A H) (makes (p .head .client)) (encode q) xs)
             × (odd (kindOf (p .body)) ≡ false → who .server (p .head .server) ≡ true → Sent (s H) (A H) (serves (p .head .server)) (encode q) xs)
 
-        reads : decode (encode q) ≡ some q
-        reads = decode-encode q (k .ok)
-
-        done : Bool
-        done = accepted (perform (s H) w (take-reply c lent (encode q) contentBuffer) .result)
-
-        -- the hand after it
-        after : perform (s H) w (take-reply c lent (encode q) contentBuffer) .world .client c .hand ≡ t .client .hand
-        after = ap (λ (a : After). a .world .client c .hand) performed-on ∙ ap (λ (cl : Client). cl .hand) (upd-here (w .client) c (t .client))
-
         logged : log (A H) (taking ∷ xs) ≡ followed w c t (length xs) cs
         logged =
             (λ i. let u = pl .here i in let a = perform (s H) u (take-reply c lent (encode q) contentBuffer) in
             change c (u .client c .calls) (follow (a .result) (inComplete (a .world .client c .hand)) (length xs)) (pl .calls i))
-            ∙ (λ i. change c (w .client c .calls) (follow (performed-on i .result) (inComplete (after i)) (length xs)) cs)
+            ∙ (λ i. change c (w .client c .calls) (follow (performed-on i .result) (inComplete (hand-on i)) (length xs)) cs)
 
         none-begins : (d : ℕ) (n : List ℕ) → Begins (s H) (A H) d n taking xs → ⊥
         none-begins d n h = not-write taking xs (λ d r n e. (let z : _≡_ {A = ℕ} 0 1 = cc in omega arith)) d n h

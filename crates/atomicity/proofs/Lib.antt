@@ -65,3 +65,4 @@ pub mod SceneStored
 pub mod SceneReads
 pub mod SceneShown
 pub mod SceneEnds
+pub mod Example

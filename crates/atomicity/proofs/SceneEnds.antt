@@ -18,17 +18,18 @@ use Rattle.protocol.specs.Memory.{held}
 use Rattle.protocol.specs.Primitives.{stampMessage, candidateMessage}
 use Rattle.protocol.specs.Rules.{upd, nobody, countTo, parts}
 use Rattle.protocol.specs.Server.{Server, replyTo, byHistory, byTag, best, raise, act, barred, serverRefusal}
-use Rattle.protocol.specs.Client.{gave, clocking, collecting, filtering, awaits, isIdle, isFull, candidateMade, shareMade, stampOf, made, onto, writeRefusal, readRefusal, abortRefusal, begun}
+use Rattle.protocol.specs.Client.{refused, gave, clocking, collecting, filtering, awaits, isIdle, isFull, candidateMade, shareMade, stampOf, made, onto, writeRefusal, readRefusal, abortRefusal, begun}
+use Rattle.protocol.specs.Runs.{take-reply}
 use Rattle.protocol.proofs.ValueRuns.{World}
 use Rattle.atomicity.specs.Lists.{Ever, All, flat}
 use Rattle.atomicity.specs.Steps.{nonblank, judged, serverChecks, clientChecks, proving, stampedFrom, compared}
 use Rattle.atomicity.specs.Claim.{Logged, change}
 use Rattle.atomicity.proofs.Util.{clash}
-use Rattle.atomicity.proofs.Model.{Run}
+use Rattle.atomicity.proofs.Model.{Run, perform}
 use Rattle.atomicity.proofs.Playing.{Hashing, functions, s, nonce1, nonce2, nonce3, Begun, Got, Shown, Made, Timely, Play}
 use Rattle.atomicity.proofs.Printed.{bytes-of, bytes-ok, packet-bytes}
-use Rattle.atomicity.proofs.Exchanges.{makes-it, takes-it}
-use Rattle.atomicity.proofs.CallSteps.{writing, play-write, reads-it, play-read, gives-up, play-give-up, play-refused}
+use Rattle.atomicity.proofs.Exchanges.{makes-it, takes-it, contentBuffer}
+use Rattle.atomicity.proofs.CallSteps.{reads-it, play-read, refused-does, play-refused}
 use Rattle.atomicity.proofs.Talks.{exchanged, play-exchange, lie, lied, lie-ok, play-lie}
 use Rattle.atomicity.proofs.Scene.{content1, content2, pieces, cand, share, stored, spoilt, madeUp, holding, blankOne, stamp-checks, by-history, by-tag, valid-held, best-held, best-tagged, best-made-up}
 use Rattle.atomicity.proofs.SceneRead.{knows, sifted, marked, heard, part, choice-is, leader-is, parts-are}
@@ -158,10 +159,13 @@ module _ (H : Hashing) where
   unfolding x16 w0 w1 w2 w3 w4 w5 w6 w7 w8 w9 w10 w11 w12 w13 w14 w15 w16 upd begun awaits change clientChecks flat stampedFrom compared All
   p16 = play-lie H (w15 H) 9 others _ _ (reads H .collect-1) true x15 _ p15 tt tt
 
+  again : perform (s H) (w16 H) (take-reply 9 others (encode theLie) contentBuffer) ≡ record { world = w17 H; result = refused 12; sent = none }
+  unfolding w0 w1 w2 w3 w4 w5 w6 w7 w8 w9 w10 w11 w12 w13 w14 w15 w16 w17 upd awaits shelf
+  again = refused-does H 11 9 others theLie (w16 H) (lie-ok H (w15 H) 9 others _ _ (reads H .collect-1) true x15 _ p15) (reads H .again)
+
   p17 : Play H true x17 (w17 H) (theRead none none ∷ secondWrite true ∷ wrote ∷ [])
   unfolding x17 w0 w1 w2 w3 w4 w5 w6 w7 w8 w9 w10 w11 w12 w13 w14 w15 w16 w17 upd awaits change shelf
-  p17 = play-refused H 11 9 others theLie _ _ true x16 (w16 H) _ p16 refl
-      (lie-ok H (w15 H) 9 others _ _ (reads H .collect-1) true x15 _ p15) (reads H .again)
+  p17 = play-refused H 11 9 others theLie (w16 H) _ _ true x16 _ p16 refl again
 
   p18 : Play H true x18 (w18 H) (theRead none none ∷ secondWrite true ∷ wrote ∷ [])
   unfolding x18 w0 w1 w2 w3 w4 w5 w6 w7 w8 w9 w10 w11 w12 w13 w14 w15 w16 w17 w18 upd awaits made change clientChecks judged best below flat stampedFrom compared All

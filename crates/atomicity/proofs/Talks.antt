@@ -67,7 +67,61 @@ module _ (H : Hashing) where
         takes-it H c lent answered (k .own) (packet-bytes answered (k .answer-bytes))
         ∷ serves-it H b asked (k .inside) (packet-bytes asked (k .ask-bytes)) ∷ makes-it H c b ∷ xs
 
-    -- tags that check have been made before; nonces that the server gets are timely
+    -- ---- the steps that get a packet: both packets have their layout, as a correct party made them
+
+    module _ (two : Bool) (xs : Run (s H)) (cs : List Logged) (p : Play H two xs w cs) where
+      pub making : Play H two (makes-it H c b ∷ xs) w cs
+      making = play-make H c b two xs w cs p (k .client)
+
+      pub sent : perform (s H) (now (s H) xs) (make c b packetBuffer) .sent ≡ some asked
+      sent = made-sent H c b xs w (p .here) (k .makes-on)
+
+      unfoldable pub serves : Serves H w b asked v r
+      serves =
+          record {
+            right = k .server;
+            inside = k .inside;
+            ok = sent-ok H (makes-it H c b) xs asked sent;
+            bytes = packet-bytes asked (k .ask-bytes);
+            request = k .asks;
+            lets = k .serves-on;
+            does = k .does;
+          }
+
+      pub back : perform (s H) (now (s H) (makes-it H c b ∷ xs)) (serve b (encode asked) packetBuffer) .sent ≡ some answered
+      back = reply-sent H w b asked v r serves (makes-it H c b ∷ xs) (making .here)
+
+      unfoldable pub takes : Takes H (served H w b v) c lent answered t
+      unfolding replyTo made
+      takes =
+          record {
+            right = k .client;
+            own = k .own;
+            ok = sent-ok H (serves-it H b asked (k .inside) (packet-bytes asked (k .ask-bytes))) (makes-it H c b ∷ xs) answered back;
+            bytes = packet-bytes answered (k .answer-bytes);
+            reply = k .answers;
+            lets = k .takes-on;
+            does = k .turns;
+          }
+
+      -- tags that check have been made before; nonces that the server gets are timely
+      pub play-asked : All (λ kb. Made H kb xs) (flat (serverChecks (s H) b (w .server b)) (judged (s H) b (w .server b) (asked .body))) →
+          All (λ u. u ≡ nonce1) (map (λ d. d .nonce) (judged (s H) b (w .server b) (asked .body))) →
+          Timely H (makes-it H c b ∷ xs) (map (λ d. d .nonce) (offered (asked .body))) →
+          Play H two (serves-it H b asked (k .inside) (packet-bytes asked (k .ask-bytes)) ∷ makes-it H c b ∷ xs) (served H w b v) cs
+      unfolding Ever made serves
+      play-asked tags digests timely = play-serve H w b asked v r serves two (makes-it H c b ∷ xs) cs making
+          (λ y. inl (eq-eqb c c refl, ap sentOf sent)) (all-map _ _ (λ kb h. inr h) _ tags) digests timely
+
+      pub play-answered : Play H two (serves-it H b asked (k .inside) (packet-bytes asked (k .ask-bytes)) ∷ makes-it H c b ∷ xs) (served H w b v) cs →
+          All (λ kb. Made H kb xs) (clientChecks (s H) (w .client c .hand) r) →
+          All (λ u. u ≡ nonce1)
+              (flat (digestsWith (s H)) (stampedFrom c (w .client c .hand) (t .client .hand)) ++ compared (s H) (w .client c) (w .client c .hand) answered) →
+          Play H two (exchanged xs) (took H (served H w b v) c t) (followed H w c t (suc (suc (length xs))) cs)
+      unfolding Ever replyTo made takes
+      play-answered q tags digests = play-take H (served H w b v) c lent answered t takes two _ cs q
+          (λ y. inl (eq-eqb b b refl, ap sentOf back)) (all-map _ _ (λ kb h. inr (inr h)) _ tags) digests
+
     pub play-exchange : (two : Bool) (xs : Run (s H)) (cs : List Logged) → Play H two xs w cs →
         All (λ kb. Made H kb xs) (flat (serverChecks (s H) b (w .server b)) (judged (s H) b (w .server b) (asked .body))) →
         All (λ u. u ≡ nonce1) (map (λ d. d .nonce) (judged (s H) b (w .server b) (asked .body))) →
@@ -76,49 +130,8 @@ module _ (H : Hashing) where
         All (λ u. u ≡ nonce1)
             (flat (digestsWith (s H)) (stampedFrom c (w .client c .hand) (t .client .hand)) ++ compared (s H) (w .client c) (w .client c .hand) answered) →
         Play H two (exchanged xs) (took H (served H w b v) c t) (followed H w c t (suc (suc (length xs))) cs)
-    unfolding Ever replyTo made
     play-exchange two xs cs p served-tags served-digests timely taken-tags taken-digests =
-        play-take H (served H w b v) c lent answered t takes two (serves-it H b asked (k .inside) (packet-bytes asked (k .ask-bytes)) ∷ makes-it H c b ∷ xs) cs
-        (play-serve H w b asked v r serves two (makes-it H c b ∷ xs) cs p1
-        (λ y. inl (eq-eqb c c refl, ap sentOf sent)) (all-map _ _ (λ kb h. inr h) _ served-tags) served-digests
-        timely)
-        (λ y. inl (eq-eqb b b refl, ap sentOf back)) (all-map _ _ (λ kb h. inr (inr h)) _ taken-tags) taken-digests
-      where
-        p1 : Play H two (makes-it H c b ∷ xs) w cs
-        p1 = play-make H c b two xs w cs p (k .client)
-
-        sent : perform (s H) (now (s H) xs) (make c b packetBuffer) .sent ≡ some asked
-        sent = made-sent H c b xs w (p .here) (k .makes-on)
-
-        ask-ok : PacketOk asked
-        ask-ok = sent-ok H (makes-it H c b) xs asked sent
-
-        serves : Serves H w b asked v r
-        serves =
-            record {
-              right = k .server;
-              inside = k .inside;
-              ok = ask-ok;
-              bytes = packet-bytes asked (k .ask-bytes);
-              request = k .asks;
-              lets = k .serves-on;
-              does = k .does;
-            }
-
-        back : perform (s H) (now (s H) (makes-it H c b ∷ xs)) (serve b (encode asked) packetBuffer) .sent ≡ some answered
-        back = reply-sent H w b asked v r serves (makes-it H c b ∷ xs) (p1 .here)
-
-        takes : Takes H (served H w b v) c lent answered t
-        takes =
-            record {
-              right = k .client;
-              own = k .own;
-              ok = sent-ok H (serves-it H b asked (k .inside) (packet-bytes asked (k .ask-bytes))) (makes-it H c b ∷ xs) answered back;
-              bytes = packet-bytes answered (k .answer-bytes);
-              reply = k .answers;
-              lets = k .takes-on;
-              does = k .turns;
-            }
+        play-answered two xs cs p (play-asked two xs cs p served-tags served-digests timely) taken-tags taken-digests
 
   -- what is computed of it
   abbrev pub talkFits : World → ℕ → ℕ → Body → Bool

@@ -1,4 +1,4 @@
--- Laws of HMAC that the proofs of this crate and of others cite: the length of a tag, the key of 32 bytes, its block, and a prepared key.
+-- Laws of HMAC that the proofs of this crate and of others cite: the length and bytes of a tag, the key of 32 bytes, its block, and a prepared key.
 -- A digest has 32 bytes, so a tag has as many as it takes of them; a key that fits a block is used as it is; the block of the key's
 -- first i bytes becomes that of i + 1 bytes by one store, since nothing xor x is x;
 -- a block of the key has 64 bytes, so its hash value stands for it. Assumes nothing.
@@ -14,7 +14,7 @@ use lib.ListN.{length, getD, set, take, replicate, length-set, length-take, List
 use lib.Seq.{length-take-le, take-suc, take-suc-set, take-all, getD-take, getD-set-same, getD-set-other, ext-getD}
 use borrow.Author.Tests.{le-leb}
 use Rattle.sha256.specs.Sha256.{tab, sha256}
-use Rattle.sha256.proofs.Laws.{sha-length, tab-length, tab-at, tab-ext}
+use Rattle.sha256.proofs.Laws.{sha-length, sha-bytes, tab-length, tab-at, tab-ext}
 use Rattle.sha256.proofs.Hashed.{digest-after}
 use Rattle.hmac.specs.Hmac.{hmacSha256, keyOf, maskedOf, tagOf, tagSize}
 use Rattle.hmac.specs.PreparedKey.{preparedOf, preparedHmac, preparedTag}
@@ -26,6 +26,14 @@ hmac-length k m = sha-length _
 pub tag-length : (k m : List ℕ) → length (tagOf k m) ≡ tagSize
 unfolding tagOf tagSize
 tag-length k m = length-take-le 32 (hmacSha256 k m) (omega (arith, hmac-length k m))
+
+pub tag-bytes : (k m : List ℕ) (i : ℕ) → getD (tagOf k m) i 0 < 256
+unfolding tagOf hmacSha256
+tag-bytes k m i = go (decLt i tagSize)
+  where
+    go : Dec (i < tagSize) → getD (take tagSize (unfold hmacSha256 in hmacSha256 k m)) i 0 < 256
+    go (yes p) = rw (getD-take tagSize (hmacSha256 k m) i 0 p) (sha-bytes _ i)
+    go (no p) = rw (List·getD-eq-default (take tagSize (hmacSha256 k m)) 0 {n = i} (omega (arith, tag-length k m))) (omega arith)
 
 pub short-key : (k : List ℕ) → length k ≡ 32 → keyOf k ≡ k
 unfolding keyOf

@@ -1,0 +1,73 @@
+-- A run of the shelf with the real SHA-256 and HMAC, on bytes, that meets every premise: so page 41 holds of it, and its read gives what was written.
+-- Nothing is computed of a digest or a tag: the run is shown for all of the right lengths (the modules Playing to SceneEnds).
+-- Assumes nothing.
+--
+-- Its steps, oldest first (a number is how many steps were done before), with what each premise asks of them:
+--   0        client 1 begins a write                                   a nonce that no write had (fresh)
+--   1 to 8   clock: server 1 lies with a high number; servers 2, 3     each packet is its party's (authentic); step 8 digests the nonce five times (uncollided)
+--   9 to 16  store: server 1 lies; servers 2, 3 keep the write
+--   17 to 24 complete: server 1 lies; servers 2, 3                     a server gets the nonce after its writer has shown it (unshown, step 20)
+--   25       client 2 begins a write                                   another nonce than the first write's, which began before (fresh)
+--   26 to 28 clock: server 2 answers the first write's stamp           a tag checks that client 1 had made (unforged, step 28)
+--   29       client 2 gives up, before its complete round
+--   30       wild client 16 shows server 2 a made-up candidate         no write began with its nonce (unshown)
+--   31       client 9 begins a read; it is lent other bytes for keys
+--   32 to 40 collect: server 1 lies with spoilt tags; servers 2, 3     step 34 is server 1's reply again: refused with 12
+--   41 to 49 filter: servers 2, 3 by their history, server 4 by tag    a tag checks that client 1 had made (unforged, step 48); step 49 digests the fragments
+--   50 to 57 repair: server 1 lies; servers 2, 3                       step 57 gives the content
+use mathlib.Core.Path.{_≡_, refl, ap, _∙_}
+use mathlib.Core.Bool.{true}
+use mathlib.Core.List.{List, [], _∷_}
+use mathlib.Core.Option.{some}
+use mathlib.Core.Logic.{inl, inr}
+use Prim.Native.Nat.{ℕ, zero, suc}
+use native.Mathlib.Omega.{arith}
+use lib.ListN.{length, drop}
+use Rattle.cluster.specs.Config.{upTo, shelf}
+use Rattle.sha256.specs.Sha256.{sha256}
+use Rattle.sha256.proofs.Laws.{sha-length, sha-bytes}
+use Rattle.hmac.specs.Hmac.{tagOf}
+use Rattle.hmac.proofs.Laws.{tag-length, tag-bytes}
+use Rattle.protocol.specs.Primitives.{real, stampMessage, candidateMessage}
+use Rattle.protocol.specs.View.{keptSize}
+use Rattle.protocol.specs.Client.{refused}
+use Rattle.protocol.specs.Runs.{StepOn, Account, byBytes}
+use Rattle.protocol.proofs.Primitive.{real-lengths}
+use Rattle.protocol.proofs.ValueRuns.{byValues}
+use Rattle.protocol.proofs.Accounts.{claimed}
+use Rattle.atomicity.specs.Lists.{Ever, Always}
+use Rattle.atomicity.specs.Steps.{tagsChecked, digested, noncesGot}
+use Rattle.atomicity.specs.Premises.{Premise}
+use Rattle.atomicity.specs.Claim.{log, systemOf}
+use Rattle.atomicity.specs.Page41.{Page41Of, Page41}
+use Rattle.atomicity.proofs.InWords.{page-41}
+use Rattle.atomicity.proofs.Playing.{Hashing, desk, who, parties}
+use Rattle.atomicity.proofs.Scene.{content1}
+use Rattle.atomicity.proofs.SceneShown.{wrote, secondWrite}
+use Rattle.atomicity.proofs.SceneEnds.{theRead, x25, p25}
+
+-- ---- the real functions
+
+abbrev realOnes : Hashing
+realOnes = record { digest = sha256; tag = tagOf; digest-size = sha-length; tag-size = tag-length; digest-bytes = sha-bytes; tag-bytes = tag-bytes }
+
+unfoldable pub run : List (StepOn desk)
+run = x25 realOnes
+
+-- ---- on bytes, whatever bytes new clients keep things in
+
+module _ (first : ℕ → List ℕ) (sized : (c : ℕ) → length (first c) ≡ keptSize) where
+  pub meets : Always (Premise (systemOf desk) (byBytes real desk first) who) run
+  unfolding run real byValues
+  meets = claimed real real-lengths desk (omega arith, omega arith) first sized (λ A. Always (Premise (systemOf desk) A who) run) (p25 realOnes .fair)
+
+  -- page 41, all of it
+  pub shows : Page41Of (systemOf desk) (byBytes real desk first) who run
+  unfolding Page41
+  shows = page-41 desk (omega arith) (omega arith) first sized who parties run meets
+
+  -- its calls: the read gave the content of the write that ended before it began; the write that was given up is unfinished
+  pub calls-are : log (byBytes real desk first) run ≡ theRead (some 57) (some content1) ∷ secondWrite true ∷ wrote ∷ []
+  unfolding run real byValues
+  calls-are = claimed real real-lengths desk (omega arith, omega arith) first sized
+      (λ A. log A run ≡ theRead (some 57) (some content1) ∷ secondWrite true ∷ wrote ∷ []) (p25 realOnes .calls)
