@@ -17,12 +17,12 @@ use Rattle.atomicity.specs.Steps.{Stamped, stampedFrom, stampedBy, stamp
 use Rattle.atomicity.specs.Premises.{Begins}
 use Rattle.atomicity.specs.Claim.{Logged, given, log, begunWrites}
 use Rattle.atomicity.proofs.Util.{left-in, right-in, map-in, all-of}
-use Rattle.atomicity.proofs.Model.{perform, now, account, marks}
-use Rattle.atomicity.proofs.Setup.{Setup, Steps, StepOf, Fair, Begin, calls}
+use Rattle.atomicity.proofs.Model.{account, marks}
+use Rattle.atomicity.proofs.Setup.{Setup, Steps, StepOf, Fair, Begin, calls, cli, result}
 use Rattle.atomicity.proofs.Marks.{From, from-one, mark-source}
 use Rattle.atomicity.proofs.Rising.{above}
 use Rattle.atomicity.proofs.Nonces.{begins, by-nonce}
-use Rattle.atomicity.proofs.Shape.{Log, result, touched, news, entered, note-shape}
+use Rattle.atomicity.proofs.Shape.{Log, touched, news, entered, note-shape}
 use Rattle.atomicity.proofs.Logs.{Signed}
 use Rattle.atomicity.proofs.Story.{past, story, story-log, stepSigned, step-keeps}
 use Rattle.atomicity.proofs.Listed.{pigeon, map-apart}
@@ -49,7 +49,7 @@ module _ (K : Setup) where
   marks-apart : (xs : Steps K) → Fair K xs → AllPairs (λ (a b : Stamped). a .nonce ≡ b .nonce → ⊥) (marks (K .s) xs)
   unfolding marks AllPairs nowValues In
   marks-apart [] fair = tt
-  marks-apart (x ∷ xs) fair = go (by-one (now (K .s) xs .client) (perform (K .s) (now (K .s) xs) (x .step) .world .client) (x .step))
+  marks-apart (x ∷ xs) fair = go (by-one (cli K xs) (cli K (x ∷ xs)) (x .step))
       (marks-apart xs (past K x xs fair))
     where
       A : List Stamped
@@ -64,7 +64,7 @@ module _ (K : Setup) where
             let q : m .0 ≡ b = by-nonce K (x ∷ xs) fair (m .0) b (left-in (m .0) A (marks (K .s) xs) here) (right-in b A (marks (K .s) xs) i) e in
             omega (
               arith,
-              above (K .s) x xs (m .0) b (ap (λ (z : Stamped). z .client) q) (mark-source (K .s) (now (K .s) xs) (x .step) (m .0) here) i,
+              above (K .s) x xs (m .0) b (ap (λ (z : Stamped). z .client) q) (mark-source (K .s) x xs (m .0) here) i,
               ap (λ (z : Stamped). z .stamp .number) q,
             )),
         h,

@@ -21,9 +21,9 @@ use Rattle.atomicity.specs.Lists.{Ever, In}
 use Rattle.atomicity.specs.Steps.{Stamped, stampedAt}
 use Rattle.atomicity.specs.Claim.{Logged, given}
 use Rattle.atomicity.proofs.Util.{left-in, right-in}
-use Rattle.atomicity.proofs.Model.{perform, now, account, marks}
-use Rattle.atomicity.proofs.Setup.{Setup, Steps, StepOf, hand, calls, cli, Show}
-use Rattle.atomicity.proofs.Moves.{Moved, kept, wbegan, rbegan, quit, took, moved}
+use Rattle.atomicity.proofs.Model.{account, marks}
+use Rattle.atomicity.proofs.Setup.{Setup, Steps, StepOf, hand, calls, cli, Show, result}
+use Rattle.atomicity.proofs.Moves.{kept, wbegan, rbegan, quit, took, moved, MovedAt}
 use Rattle.atomicity.proofs.Rounds.{turn-turned}
 use Rattle.atomicity.proofs.Positions.{since, since-same}
 use Rattle.atomicity.proofs.Genuine.{Revealed, revealed-up}
@@ -200,15 +200,15 @@ module _ (K : Setup) where
   -- a call that takes no reply in this step
   pub carry : (x : StepOf K) (xs : Steps K) (a : Logged) (σ : Stamp) → CallOk xs a σ →
       ((p : Packet) (lent : Lent) (b o : List ℕ) → x .step ≡ take-reply (a .client) lent b o → decode b ≡ some p →
-      accepted (perform (K .s) (now (K .s) xs) (x .step) .result) ≡ true → a .number ≡ calls K xs (a .client) → ⊥) →
+      accepted (result K x xs) ≡ true → a .number ≡ calls K xs (a .client) → ⊥) →
       CallOk (x ∷ xs) a σ
   unfolding nowValues Cur begun onto
-  carry x xs a σ h f = go (moved (K .s) (a .client) (now (K .s) xs) (x .step))
+  carry x xs a σ h f = go (moved (K .s) (a .client) x xs)
     where
       cl' : Client
-      cl' = perform (K .s) (now (K .s) xs) (x .step) .world .client (a .client)
+      cl' = cli K (x ∷ xs) (a .client)
 
-      go : Moved (K .s) (a .client) (now (K .s) xs) (x .step) cl' (perform (K .s) (now (K .s) xs) (x .step) .result) → CallOk (x ∷ xs) a σ
+      go : MovedAt (K .s) (a .client) x xs → CallOk (x ∷ xs) a σ
       go (kept e _) = let q : calls K xs (a .client) ≡ cl' .calls = sym (ap (λ (z : Client). z .calls) e) in
           record {
             base = base-up x xs a σ (omega (arith, q)) (h .base);

@@ -23,7 +23,6 @@ use Rattle.atomicity.specs.Steps.{Stamped}
 use Rattle.atomicity.specs.Claim.{Logged, given, endedBy, before, counted, OneOrder}
 use Rattle.atomicity.proofs.Util.{bool-case, clash, and-left, and-right, and-intro, or-cases, or-right, keep-in, in-keep, all-of, all-in, all-map, given-some, no-some}
 use Rattle.atomicity.proofs.Stamps.{le-view}
-use Rattle.atomicity.proofs.Model.{now}
 use Rattle.atomicity.proofs.Setup.{Setup, Steps, Fair}
 use Rattle.atomicity.proofs.Positions.{since}
 use Rattle.atomicity.proofs.Marks.{mark-num, mark-who, mark-source}
@@ -65,9 +64,9 @@ module _ (K : Setup) where
   mark-when [] m k t u w n h i = absurd h
   mark-when (x ∷ xs) m k t u w n (inl h) (inl i) = sym (h .1) ∙ ap (λ (c : ℕ). length (since (K .s) c xs)) w ∙ i .1
   mark-when (x ∷ xs) m k t u w n (inl h) (inr i) =
-      absurd (omega (arith, n, above (K .s) x xs m k w (mark-source (K .s) (now (K .s) xs) (x .step) m (h .0)) (mark-at K k u xs i)))
+      absurd (omega (arith, n, above (K .s) x xs m k w (mark-source (K .s) x xs m (h .0)) (mark-at K k u xs i)))
   mark-when (x ∷ xs) m k t u w n (inr h) (inl i) =
-      absurd (omega (arith, n, above (K .s) x xs k m (sym w) (mark-source (K .s) (now (K .s) xs) (x .step) k (i .0)) (mark-at K m t xs h)))
+      absurd (omega (arith, n, above (K .s) x xs k m (sym w) (mark-source (K .s) x xs k (i .0)) (mark-at K m t xs h)))
   mark-when (x ∷ xs) m k t u w n (inr h) (inr i) = mark-when xs m k t u w n h i
 
   module _ (xs : Steps K) (fair : Fair K xs) where

@@ -19,16 +19,14 @@ use Rattle.protocol.specs.Packet.{clock, clockReply, store, storeReply, complet
 use Rattle.protocol.specs.Memory.{held}
 use Rattle.protocol.specs.Server.{Server, Acted, hasDigest, raise, kept, best, act}
 use Rattle.protocol.specs.Client.{codeIn}
-use Rattle.protocol.specs.Runs.{Step}
-use Rattle.protocol.proofs.ValueRuns.{World}
 use Rattle.protocol.proofs.Equal.{same-true, stamp-same, stamp-refl}
 use Rattle.protocol.proofs.Answers.{at-cond}
 use Rattle.atomicity.specs.Lists.{In}
-use Rattle.atomicity.specs.Steps.{System, nonblank, tested, judged}
+use Rattle.atomicity.specs.Steps.{StepIn, System, nonblank, tested, judged}
 use Rattle.atomicity.proofs.Util.{cond-both, clash, and-left, and-right, and-intro, left-in, right-in, split-in, bool-case}
 use Rattle.atomicity.proofs.Stamps.{below-irrefl, below-asym, le-trans, below-trans, below-blank}
-use Rattle.atomicity.proofs.Model.{perform, acts, isValid, bestOf}
-use Rattle.atomicity.proofs.Serving.{Served, same, acted, served}
+use Rattle.atomicity.proofs.Model.{Run, serverAt, latestAt, historyAt, acts, isValid, bestOf}
+use Rattle.atomicity.proofs.Serving.{ServedAt, same, acted, served}
 
 -- ---- lookups in a history
 
@@ -283,19 +281,19 @@ store-held s j v w = go (isSome (held (w .stamp) (v .history))) refl (leb capaci
 -- ---- along a run
 
 module _ (s : System) where
-  pub latest-rises : (w : World) (j : ℕ) (x : Step) → below (perform s w x .world .server j .latest .stamp) (w .server j .latest .stamp) ≡ false
-  latest-rises w j x = go (served s w j x)
+  pub latest-rises : (x : StepIn s) (xs : Run s) (j : ℕ) → below (latestAt s (x ∷ xs) j) (latestAt s xs j) ≡ false
+  latest-rises x xs j = go (served s j x xs)
     where
-      go : Served s j w x (perform s w x .world .server j) →
-          below (perform s w x .world .server j .latest .stamp) (w .server j .latest .stamp) ≡ false
-      go (same e) = subst (λ (v : Server). below (v .latest .stamp) (w .server j .latest .stamp) ≡ false) (sym e)
-          (below-irrefl (w .server j .latest .stamp))
-      go (acted p a b c d e) = subst (λ (v : Server). below (v .latest .stamp) (w .server j .latest .stamp) ≡ false) (sym e)
-          (act-grows s j (w .server j) (p .body) .rises)
+      Goal : Server → Type 0
+      Goal v = below (v .latest .stamp) (latestAt s xs j) ≡ false
 
-  pub history-keeps : (w : World) (j : ℕ) (x : Step) (e : Write) → In e (w .server j .history) → In e (perform s w x .world .server j .history)
-  history-keeps w j x e i = go (served s w j x)
+      go : ServedAt s j x xs → Goal (serverAt s (x ∷ xs) j)
+      go (same e) = subst Goal (sym e) (below-irrefl (latestAt s xs j))
+      go (acted p a b c d e) = subst Goal (sym e) (act-grows s j (serverAt s xs j) (p .body) .rises)
+
+  pub history-keeps : (x : StepIn s) (xs : Run s) (j : ℕ) (e : Write) → In e (historyAt s xs j) → In e (historyAt s (x ∷ xs) j)
+  history-keeps x xs j e i = go (served s j x xs)
     where
-      go : Served s j w x (perform s w x .world .server j) → In e (perform s w x .world .server j .history)
+      go : ServedAt s j x xs → In e (historyAt s (x ∷ xs) j)
       go (same q) = subst (λ (v : Server). In e (v .history)) (sym q) i
-      go (acted p a b c d q) = subst (λ (v : Server). In e (v .history)) (sym q) (act-grows s j (w .server j) (p .body) .keeps e i)
+      go (acted p a b c d q) = subst (λ (v : Server). In e (v .history)) (sym q) (act-grows s j (serverAt s xs j) (p .body) .keeps e i)

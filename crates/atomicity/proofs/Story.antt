@@ -12,21 +12,21 @@ use lib.ListN.{length}
 use Rattle.protocol.specs.Values.{Candidate, blankStamp}
 use Rattle.protocol.specs.Client.{Client, Hand, Result, begun, onto, awaits, isIdle, accepted}
 use Rattle.protocol.specs.Runs.{Step, write, read, make, take-reply, give-up, serve}
-use Rattle.protocol.proofs.ValueRuns.{World, nowValues}
+use Rattle.protocol.proofs.ValueRuns.{nowValues}
 use Rattle.atomicity.specs.Lists.{Ever, Always, All, In, AllPairs}
 use Rattle.atomicity.specs.Steps.{Stamped}
 use Rattle.atomicity.specs.Claim.{Logged, log, given}
 use Rattle.atomicity.proofs.Util.{clash, right-in, in-map, map-in, all-of, given-some}
-use Rattle.atomicity.proofs.Model.{perform, now, marks}
-use Rattle.atomicity.proofs.Setup.{Setup, Steps, StepOf, Meets, Fair, Show, hand, calls, cli}
-use Rattle.atomicity.proofs.Moves.{Moved, kept, wbegan, rbegan, quit, took, moved}
+use Rattle.atomicity.proofs.Model.{marks}
+use Rattle.atomicity.proofs.Setup.{Setup, Steps, StepOf, Meets, Fair, Show, hand, calls, cli, result}
+use Rattle.atomicity.proofs.Moves.{kept, wbegan, rbegan, quit, took, moved, MovedAt}
 use Rattle.atomicity.proofs.Rounds.{turn-turned}
 use Rattle.atomicity.proofs.Marks.{marks-up}
 use Rattle.atomicity.proofs.Rising.{by-stamp}
 use Rattle.atomicity.proofs.Begun.{Known, known}
 use Rattle.atomicity.proofs.Invariant.{show-hand}
 use Rattle.atomicity.proofs.Calls.{mark-at, Cur, CallOk, Keeps, ShownBy}
-use Rattle.atomicity.proofs.Shape.{Log, result, touched, entered, note-shape}
+use Rattle.atomicity.proofs.Shape.{Log, touched, entered, note-shape}
 use Rattle.atomicity.proofs.Logs.{Signed, beginSigned, newSigned, new-calls, new-write, new-read, step-call}
 
 module _ (K : Setup) where
@@ -163,13 +163,10 @@ module _ (K : Setup) where
   pub has-call : (xs : Steps K) (fair : Fair K xs) (c : ℕ) → isIdle (hand K xs c) ≡ false → Has xs fair c
   unfolding nowValues story isIdle awaits begun onto
   has-call [] fair c b = clash refl b
-  has-call (x ∷ xs) fair c b = go (moved (K .s) c (now (K .s) xs) (x .step)) (λ k. has-call xs (past x xs fair) c k)
+  has-call (x ∷ xs) fair c b = go (moved (K .s) c x xs) (λ k. has-call xs (past x xs fair) c k)
     where
-      w : World
-      w = now (K .s) xs
-
       cl' : Client
-      cl' = perform (K .s) w (x .step) .world .client c
+      cl' = cli K (x ∷ xs) c
 
       on : calls K xs c ≡ cl' .calls → Has xs (past x xs fair) c → Has (x ∷ xs) fair c
       on q h = let k = step-keeps x xs fair (h .known) in
@@ -185,7 +182,7 @@ module _ (K : Setup) where
       began q acc s = let g = new-has x xs c (x .step) refl (map (stepSigned x xs fair) (story xs (past x xs fair))) acc s in
           record { known = g .0; among = g .1; client = g .2; number = g .3 ∙ sym q }
 
-      go : Moved (K .s) c w (x .step) cl' (result K x xs) → (isIdle (hand K xs c) ≡ false → Has xs (past x xs fair) c) → Has (x ∷ xs) fair c
+      go : MovedAt (K .s) c x xs → (isIdle (hand K xs c) ≡ false → Has xs (past x xs fair) c) → Has (x ∷ xs) fair c
       go (kept e _) f = on (sym (ap (λ (z : Client). z .calls) e)) (f (subst (λ (z : Client). isIdle (z .hand) ≡ false) e b))
       go (wbegan r n s a i l e) f = began (ap (λ (z : Client). z .calls) e) (subst (λ (v : Result). accepted v ≡ true) (sym a) refl) (inl (r, n, s))
       go (rbegan s a i e) f = began (ap (λ (z : Client). z .calls) e) (subst (λ (v : Result). accepted v ≡ true) (sym a) refl) (inr s)
