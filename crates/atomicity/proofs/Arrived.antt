@@ -21,7 +21,6 @@ use Rattle.protocol.specs.Server.{act}
 use Rattle.protocol.specs.Client.{Client, Hand, Turn, refused, idle, clocking, storing, completing, collecting, filtering, repairing, awaits, isIdle, isFull, tooHigh, highAt, badFaults, accepted}
 use Rattle.protocol.specs.Client.{onto, begun, higher, stampIn, codeIn}
 use Rattle.protocol.specs.Runs.{Lent, take-reply}
-use Rattle.protocol.proofs.ValueRuns.{nowValues}
 use Rattle.atomicity.specs.Lists.{Ever}
 use Rattle.atomicity.specs.Steps.{serves, stampedAt}
 use Rattle.atomicity.specs.Claim.{cameIn, Arrives}
@@ -122,7 +121,7 @@ module _ (K : Setup) (c : ℕ) where
   pub arrived : (xs : Steps K) → Fair K xs → K .correct .client c ≡ true → (b : ℕ) → (n k : ℕ) → n ≡ calls K xs c → k ≡ awaits (hand K xs c) →
       isIdle (hand K xs c) ≡ false → Roomy k xs → Ever (Arr n k b) xs →
       replied K xs c b ≡ true
-  unfolding Ever nowValues pos begun onto isIdle awaits stage highAt
+  unfolding Ever pos begun onto isIdle awaits stage highAt
   arrived [] fair good b n k nq kq busy room ev = absurd ev
   arrived (x ∷ xs) fair good b n k nq kq busy room (inr ev) =
       go (moved (K .s) c x xs) (λ u v z. arrived xs (past K x xs fair) good b n k u v z (roomy-down k x xs room) ev)
@@ -199,7 +198,8 @@ module _ (K : Setup) (c : ℕ) where
           code-cases (code (K .s) c (cli K xs c) p (length (a .output))) (replied K xs c (p .head .server))
           (highAt (K .s .P) (K .s .config) c (K .s .writers) (K .s .keys) (cli K xs c) (p .head .server) (p .body))
           (ltb (length (a .output)) contentRoom)
-          (code-is (K .s) c (cli K xs c) p (length (a .output)) good-faults (within-in 1 topClient c (rg .0) (rg .1)) same-t (a .client) busy' call kind)
+          (code-is (K .s) c (cli K xs c) p (length (a .output)) good-faults (within-in 1 topClient c (rg .0) (rg .1)) same-t (a .client)
+          busy' call kind)
           (λ u. subst (λ (z : Client). z .marks b ≡ true) (sym e) (subst (λ (i : ℕ). replied K xs c i ≡ true) (a .server) u))
           (λ u. absurd (not-high xs (past K x xs fair) (p .head .server) (p .body)
           (isFull (K .s .config) (upd (replied K xs c) (p .head .server) true)) (hand K xs c) refl room' ev u))

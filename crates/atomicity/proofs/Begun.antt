@@ -95,7 +95,7 @@ module _ (s : System) where
 
   -- a mark's write was begun, with its content and nonce
   pub opened : (xs : Run s) (m : Stamped) → In m (marks s xs) → Ever (Opening (m .client) (m .content) (m .nonce)) xs
-  unfolding marks In Ever Known nowValues
+  unfolding marks In Ever Known
   opened [] m i = absurd i
   opened (x ∷ xs) m i = go (split-in m (stampedAt s (account s) x xs) (marks s xs) i) (λ k. opened xs m k)
     where
@@ -118,7 +118,7 @@ module _ (s : System) where
 
   -- what a mark digests is among the inputs digested
   pub mark-digested : (xs : Run s) (m : Stamped) (u : List ℕ) → In m (marks s xs) → In u (digestsWith s m) → In u (allDigested s (account s) xs)
-  unfolding marks In allDigested nowValues digestedBy
+  unfolding marks In allDigested digestedBy
   mark-digested [] m u i d = absurd i
   mark-digested (x ∷ xs) m u i d = go (split-in m (stampedAt s (account s) x xs) (marks s xs) i) (λ k. mark-digested xs m u k d)
     where

@@ -11,7 +11,6 @@ use lib.ListN.{length, length-append, length-map}
 use Rattle.protocol.specs.Rules.{keep}
 use Rattle.protocol.specs.Client.{Client, accepted}
 use Rattle.protocol.specs.Runs.{Step, write, read, make, take-reply, give-up, serve}
-use Rattle.protocol.proofs.ValueRuns.{nowValues}
 use Rattle.atomicity.specs.Lists.{Ever, In, AllPairs}
 use Rattle.atomicity.specs.Steps.{Stamped, stampedFrom, stampedBy, stampedAt}
 use Rattle.atomicity.specs.Premises.{Begins}
@@ -47,7 +46,7 @@ module _ (K : Setup) where
   -- ---- marks are no more than the writes begun
 
   marks-apart : (xs : Steps K) → Fair K xs → AllPairs (λ (a b : Stamped). a .nonce ≡ b .nonce → ⊥) (marks (K .s) xs)
-  unfolding marks AllPairs nowValues In
+  unfolding marks AllPairs In
   marks-apart [] fair = tt
   marks-apart (x ∷ xs) fair = go (by-one (cli K xs) (cli K (x ∷ xs)) (x .step))
       (marks-apart xs (past K x xs fair))

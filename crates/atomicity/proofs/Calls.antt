@@ -15,7 +15,6 @@ use Rattle.protocol.specs.Values.{Candidate, below, blankStamp}
 use Rattle.protocol.specs.Packet.{Packet, decode}
 use Rattle.protocol.specs.Client.{Client, Hand, Result, idle, clocking, storing, completing, collecting, filtering, repairing, begun, onto, accepted}
 use Rattle.protocol.specs.Runs.{Lent, take-reply}
-use Rattle.protocol.proofs.ValueRuns.{nowValues}
 use Rattle.protocol.proofs.Answers.{at-cond}
 use Rattle.atomicity.specs.Lists.{Ever, In}
 use Rattle.atomicity.specs.Steps.{Stamped, stampedAt}
@@ -202,7 +201,7 @@ module _ (K : Setup) where
       ((p : Packet) (lent : Lent) (b o : List ℕ) → x .step ≡ take-reply (a .client) lent b o → decode b ≡ some p →
       accepted (result K x xs) ≡ true → a .number ≡ calls K xs (a .client) → ⊥) →
       CallOk (x ∷ xs) a σ
-  unfolding nowValues Cur begun onto
+  unfolding Cur begun onto
   carry x xs a σ h f = go (moved (K .s) (a .client) x xs)
     where
       cl' : Client

@@ -13,7 +13,6 @@ use Rattle.protocol.specs.Packet.{store, filter}
 use Rattle.protocol.specs.Memory.{held}
 use Rattle.protocol.specs.Server.{Server, hasDigest, valid, byHistory, act}
 use Rattle.protocol.specs.Client.{codeIn, heldIn}
-use Rattle.protocol.proofs.ValueRuns.{nowValues}
 use Rattle.atomicity.specs.Lists.{In}
 use Rattle.atomicity.specs.Steps.{Stamped}
 use Rattle.atomicity.proofs.Util.{or-left}
@@ -35,7 +34,7 @@ module _ (K : Setup) where
 
   -- it stays covered
   pub covers-up : (x : StepOf K) (xs : Steps K) (j : ℕ) (a : Stamp) → Covers xs j a ≡ true → Covers (x ∷ xs) j a ≡ true
-  unfolding Covers nowValues
+  unfolding Covers
   covers-up x xs j a h = let f = is-some (held a (hist K xs j)) h in let e = held-some a (f .0) (hist K xs j) (f .1) in
       in-held a (hist K (x ∷ xs) j) (e .0) (history-keeps (K .s) x xs j (e .0) (e .1)) (e .2)
 

@@ -17,7 +17,6 @@ use Rattle.protocol.specs.Packet.{clock, clockReply, store, storeReply, complet
 use Rattle.protocol.specs.Memory.{held}
 use Rattle.protocol.specs.Server.{Server, Acted, barred, replyTo, act, kept}
 use Rattle.protocol.specs.Client.{Hand, idle, clocking, storing, completing, collecting, filtering, repairing, awaits, isIdle, request, made, accepted}
-use Rattle.protocol.proofs.ValueRuns.{nowValues}
 use Rattle.atomicity.specs.Lists.{Ever, In}
 use Rattle.atomicity.specs.Steps.{System, Stamped, makes, serves, packetIn}
 use Rattle.atomicity.proofs.Util.{clash, cond-both, ever-map, ever-with, ever-out}
@@ -35,7 +34,6 @@ module _ (K : Setup) where
   -- ---- what lasts
 
   pub lat-up : (x : StepOf K) (xs : Steps K) (j : ℕ) (a : Stamp) → below (lat K xs j) a ≡ false → below (lat K (x ∷ xs) j) a ≡ false
-  unfolding nowValues
   lat-up x xs j a h = le-trans a (lat K xs j) (lat K (x ∷ xs) j) h (latest-rises (K .s) x xs j)
 
   -- from the moment when the call or the round began
@@ -151,7 +149,7 @@ module _ (K : Setup) where
   heard-at : (c : ℕ) (xs : Steps K) (p : Packet) → p .head .client ≡ c → p .head .call ≡ calls K xs c → isIdle (hand K xs c) ≡ false →
       kindOf (p .body) ≡ awaits (hand K xs c) →
       (y : StepOf K) (ys : Steps K) → Meets K y ys → Fair K ys → Told K p y ys → Before (K .s) c ys xs → Heard c (p .head .server) xs (p .body) y ys
-  unfolding nowValues pos replyTo
+  unfolding pos replyTo
   heard-at c xs p mine call busy kind y ys prem old t bef = ever-out _ ys
       (λ z zs h.
       let a = t .behind in

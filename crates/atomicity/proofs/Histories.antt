@@ -59,7 +59,7 @@ module _ (K : Setup) where
       )
 
   pub history : (xs : Steps K) → Fair K xs → (j : ℕ) (e : Write) → In e (hist K xs j) → From j e xs
-  unfolding Always nowValues In
+  unfolding nowValues Always In
   history [] h j e i = absurd i
   history (x ∷ xs) h j e i = go (served (K .s) j x xs) (λ k. history xs (h .1) j e k)
     where

@@ -186,7 +186,7 @@ module _ (K : Setup) where
   -- ---- every run
 
   hands-step : (x : StepOf K) (xs : Steps K) → Fair K (x ∷ xs) → Hands xs → Always (λ y ys. Hands ys) xs → Hands (x ∷ xs)
-  unfolding Hands nowValues HandOk Outcome begun onto
+  unfolding Hands HandOk Outcome begun onto
   hands-step x xs fair hands always c good = go (moved (K .s) c x xs)
     where
       cl' : Client
@@ -219,7 +219,7 @@ module _ (K : Setup) where
           (subst (λ (v : Steps K). At (since (K .s) c xs) v cl') (from-cond x xs c cq (st' .0)) u')
 
   pub hands-all : (xs : Steps K) → Fair K xs → Hands xs × Always (λ y ys. Hands ys) xs
-  unfolding Hands Always HandOk nowValues
+  unfolding nowValues Hands Always HandOk
   hands-all [] fair = (λ c g. tt, tt)
   hands-all (x ∷ xs) fair = let r = hands-all xs (fair .1) in (hands-step x xs fair (r .0) (r .1), (r .0, r .1))
 

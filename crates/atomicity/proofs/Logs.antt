@@ -15,7 +15,6 @@ use Rattle.protocol.specs.Values.{blankStamp}
 use Rattle.protocol.specs.Packet.{Packet, decode}
 use Rattle.protocol.specs.Client.{Client, Hand, Result, idle, clocking, storing, completing, collecting, filtering, repairing, onto, awaits, isIdle, accepted}
 use Rattle.protocol.specs.Runs.{Lent, Step, write, read, make, take-reply, give-up, serve}
-use Rattle.protocol.proofs.ValueRuns.{nowValues}
 use Rattle.atomicity.specs.Lists.{Ever, Always, In}
 use Rattle.atomicity.specs.Steps.{Stamped, stampedFrom, stampedBy, stampedAt}
 use Rattle.atomicity.specs.Premises.{PartyOf}
@@ -137,7 +136,7 @@ module _ (K : Setup) where
       cli K (x ∷ xs) (a .client) ≡ turn (K .s) (a .client) (cli K xs (a .client)) p .client →
       result K x xs ≡ turn (K .s) (a .client) (cli K xs (a .client)) p .result →
       Goal x xs a σ (effect K x xs (a .client) a)
-  unfolding nowValues Always Outcome Hands Ever Follows stampedBy
+  unfolding Always Outcome Hands Ever Follows stampedBy
   taken-call x xs fair a σ h n p lent b o st rd fit e v =
       let c = a .client in
       let cl = cli K xs c in
@@ -164,19 +163,19 @@ module _ (K : Setup) where
       (r .0, record { base = r .1; current = λ k. at-hand (r .3) e (r .2) }, r .3))
     where
       here : (m : Stamped) → In m (stampedFrom (a .client) (hand K xs (a .client))
-          (cli K (x ∷ xs) (a .client) .hand)) → In m (stampedAt (K .s) (account (K .s)) x xs)
+          (hand K (x ∷ xs) (a .client))) → In m (stampedAt (K .s) (account (K .s)) x xs)
       here m i = subst (λ (y : Step). In m (stampedBy (cli K xs) (cli K (x ∷ xs)) y)) (sym st) i
 
       at-hand : {d : Logged} {τ : Stamp} {cl : Client} → Keeps K a σ d τ → cli K (x ∷ xs) (a .client) ≡ cl →
-          Cur K (x ∷ xs) d τ (cl .hand) → Cur K (x ∷ xs) d τ (cli K (x ∷ xs) (d .client) .hand)
-      at-hand {d} {τ} {cl} k e c = subst (λ (i : ℕ). Cur K (x ∷ xs) d τ (cli K (x ∷ xs) i .hand))
+          Cur K (x ∷ xs) d τ (cl .hand) → Cur K (x ∷ xs) d τ (hand K (x ∷ xs) (d .client))
+      at-hand {d} {τ} {cl} k e c = subst (λ (i : ℕ). Cur K (x ∷ xs) d τ (hand K (x ∷ xs) i))
           (sym (k .client)) (subst (λ (y : Client). Cur K (x ∷ xs) d τ (y .hand)) (sym e) c)
 
   -- the client's own call, at its own take or give-up
   own-call : (x : StepOf K) (xs : Steps K) → Fair K (x ∷ xs) → (a : Logged) (σ : Stamp) → CallOk K xs a σ → a .number ≡ calls K xs (a .client) →
       mover (x .step) ≡ some (a .client) → acting (a .client) (x .step) ≡ true →
       Goal x xs a σ (effect K x xs (a .client) a)
-  unfolding nowValues onto
+  unfolding onto
   own-call x xs fair a σ h n m act = go (moved (K .s) (a .client) x xs)
     where
       cl' : Client

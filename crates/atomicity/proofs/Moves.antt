@@ -147,7 +147,8 @@ module _ (s : System) (c : ℕ) (w : World) where
   step-moved : (x : Step) → Moved s c (w .client c) x (perform s w x .world .client c) (perform s w x .result)
   unfolding doValues setClient
   step-moved (write d r n) = set-moved (write d r n) d _ (λ e. e)
-      (λ e. subst (λ (i : ℕ). MovedBy s c (w .client c) (write i r n) (writeStep (s .config) i (w .client i) r n)) e (write-moved s c (w .client c) r n))
+      (λ e. subst (λ (i : ℕ). MovedBy s c (w .client c) (write i r n) (writeStep (s .config) i (w .client i) r n)) e
+      (write-moved s c (w .client c) r n))
   step-moved (read d) = set-moved (read d) d _ (λ e. e)
       (λ e. subst (λ (i : ℕ). MovedBy s c (w .client c) (read i) (readStep (s .config) i (w .client i))) e (read-moved s c (w .client c)))
   step-moved (make d b o) = kept refl (λ q. clash q refl)

@@ -49,7 +49,7 @@ module _ (K : Setup) where
   -- a hand that is clocking after the step, and was before or begins now
   unmarked-at : (x : StepOf K) (xs : Steps K) → Fair K (x ∷ xs) → (c : ℕ) (r n : List ℕ) (k : ℕ) → hand K (x ∷ xs) c ≡ clocking r n k →
       ((m : Stamped) → In m (marks (K .s) xs) → m .nonce ≡ n → ⊥) → (m : Stamped) → In m (marks (K .s) (x ∷ xs)) → m .nonce ≡ n → ⊥
-  unfolding marks nowValues Known prepared
+  unfolding marks Known prepared
   unmarked-at x xs fair c r n k e old m i q = go (split-in m (stampedAt (K .s) (account (K .s)) x xs) (marks (K .s) xs) i)
     where
       go : In m (stampedAt (K .s) (account (K .s)) x xs) ⊎ In m (marks (K .s) xs) → ⊥
@@ -61,7 +61,7 @@ module _ (K : Setup) where
           subst (λ (y : List ℕ). Ever (Opening (K .s) (m .client) (m .content) y) (x ∷ xs)) q (opened (K .s) (x ∷ xs) m i) in
           let w : m .client ≡ c = one-nonce (x ∷ xs) fair (m .client) c (m .content) r n b o .0 in
           let a : preparedFor (K .s) (m .client) (m .content) (m .nonce) (suc (t .top')) ≡ clocking r n k = sym (t .is)
-          ∙ ap (λ (i : ℕ). hand K (x ∷ xs) i) w ∙ e in
+          ∙ ap (hand K (x ∷ xs)) w ∙ e in
           (let z : _≡_ {A = ℕ} 0 1 = cc in omega arith)
 
   pub unmarked : (xs : Steps K) → Fair K xs → (c : ℕ) → Unmarked xs (hand K xs c)
@@ -111,7 +111,7 @@ module _ (K : Setup) where
 
   -- two marks with one nonce are one
   pub by-nonce : (xs : Steps K) → Fair K xs → (a b : Stamped) → In a (marks (K .s) xs) → In b (marks (K .s) xs) → a .nonce ≡ b .nonce → a ≡ b
-  unfolding marks In Always Unmarked nowValues
+  unfolding marks In Always Unmarked
   by-nonce [] fair a b i j e = absurd i
   by-nonce (x ∷ xs) fair a b i j e =
       go (split-in a (stampedAt (K .s) (account (K .s)) x xs) (marks (K .s) xs) i)
@@ -126,10 +126,10 @@ module _ (K : Setup) where
       both : M a → M b → a ≡ b
       both t u =
           let w : a .client ≡ b .client = (let z = sym (t .step) ∙ u .step in cc) in
-          let h : clocking (a .content) (a .nonce) (t .top) ≡ clocking (b .content) (b .nonce) (u .top) = sym (t .was) ∙ ap (λ (i : ℕ). hand K xs i) w
+          let h : clocking (a .content) (a .nonce) (t .top) ≡ clocking (b .content) (b .nonce) (u .top) = sym (t .was) ∙ ap (hand K xs) w
           ∙ u .was in
           let r : a .content ≡ b .content = cc in let n : a .nonce ≡ b .nonce = cc in
-          let l : suc (t .top') ≡ suc (u .top') = sym (t .last-is) ∙ ap (λ (i : ℕ). cli K (x ∷ xs) i .last) w
+          let l : suc (t .top') ≡ suc (u .top') = sym (t .last-is) ∙ ap (lastOf K (x ∷ xs)) w
           ∙ u .last-is in
           let σ : a .stamp ≡ b .stamp = t .stamp-is ∙ ap (λ (c : ℕ). stampFor (K .s) c (suc (t .top'))) w
           ∙ ap (λ (k : ℕ). stampFor (K .s) (b .client) k) l ∙ sym (u .stamp-is) in

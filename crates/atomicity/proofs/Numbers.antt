@@ -131,7 +131,7 @@ module _ (K : Setup) where
   mark-small xs h m i = omega (arith, h (m .client) .0, capped (K .s) xs m i)
 
   small-step : (x : StepOf K) (xs : Steps K) → Fair K (x ∷ xs) → Small xs → Small (x ∷ xs)
-  unfolding Small nowValues marks begun onto Clocked Always NoForgery checkedBy stampedBy
+  unfolding Small marks begun onto Clocked Always NoForgery checkedBy stampedBy
   small-step x xs fair h c = go (moved (K .s) c x xs)
     where
       cl' : Client
@@ -180,6 +180,6 @@ module _ (K : Setup) where
               omega (arith, m .2, mark-small xs h (m .0) (m .1))
 
   pub small : (xs : Steps K) → Fair K xs → Small xs
-  unfolding Small nowValues marks Clocked
+  unfolding nowValues Small marks Clocked
   small [] fair = λ c. (omega arith, tt)
   small (x ∷ xs) fair = small-step x xs fair (small xs (past K x xs fair))

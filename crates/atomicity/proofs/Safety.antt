@@ -14,7 +14,6 @@ use lib.ListN.{length}
 use borrow.Author.Tests.{ltb-true, ltb-false, lt-ltb, le-leb}
 use Rattle.protocol.specs.declared.Stamp.{Stamp}
 use Rattle.protocol.specs.Rules.{keep}
-use Rattle.protocol.proofs.ValueRuns.{nowValues}
 use Rattle.protocol.proofs.Answers.{at-cond}
 use Rattle.atomicity.proofs.Genuine.{Revealed}
 use Rattle.atomicity.specs.Page41.{reachedBy, Sourced}
@@ -60,7 +59,7 @@ module _ (K : Setup) where
   -- a mark tells when its call began
   mark-when : (xs : Steps K) (m k : Stamped) (t u : ℕ) → m .client ≡ k .client → m .stamp .number ≡ k .stamp .number → MarkAt K m t xs →
       MarkAt K k u xs → t ≡ u
-  unfolding Ever nowValues
+  unfolding Ever
   mark-when [] m k t u w n h i = absurd h
   mark-when (x ∷ xs) m k t u w n (inl h) (inl i) = sym (h .1) ∙ ap (λ (c : ℕ). length (since (K .s) c xs)) w ∙ i .1
   mark-when (x ∷ xs) m k t u w n (inl h) (inr i) =

@@ -95,8 +95,8 @@ module _ (s : System) (w : World) where
   step-served j (make c b o) = same refl
   step-served j (take-reply c lent b o) = same refl
   step-served j (give-up c) = same refl
-  step-served j (serve b p o) = upd-case (λ (v : Server). Served s j (w .server j) (serve b p o) v (resultOf (stepOf b p o .number))) (w .server) b _ j
-      (λ e. here e (serve-view s b (w .server b) o (decode p))) (λ e. same refl)
+  step-served j (serve b p o) = upd-case (λ (v : Server). Served s j (w .server j) (serve b p o) v (resultOf (stepOf b p o .number)))
+      (w .server) b _ j (λ e. here e (serve-view s b (w .server b) o (decode p))) (λ e. same refl)
     where
       here : j ≡ b → Handled s b (w .server b) (decode p) (stepOf b p o)
           → Served s j (w .server j) (serve b p o) (stepOf b p o .server) (resultOf (stepOf b p o .number))

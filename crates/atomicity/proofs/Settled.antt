@@ -15,7 +15,6 @@ use Rattle.protocol.specs.Rules.{ByServer, leader, tagsIn}
 use Rattle.protocol.specs.Client.{Client, Hand, Turn, Result, refused, more, written, gave, gaveBlank, aborted, idle, clocking, storing, completing, collecting, filtering, repairing, awaits, isIdle, accepted}
 use Rattle.protocol.specs.Client.{update, judge, found, onto, begun, prepared, codeIn}
 use Rattle.protocol.specs.Runs.{Step, write, read, make, take-reply, give-up, serve}
-use Rattle.protocol.proofs.ValueRuns.{nowValues}
 use Rattle.atomicity.specs.Lists.{In}
 use Rattle.atomicity.specs.Steps.{System}
 use Rattle.atomicity.specs.Claim.{Logged, given, follow}
@@ -82,7 +81,7 @@ module _ (K : Setup) where
   -- a call that the step leaves as it is
   same-call : (x : StepOf K) (xs : Steps K) (a : Logged) → Settled xs a →
       (mover (x .step) ≡ some (a .client) → a .number ≡ calls K xs (a .client) → ⊥) → Settled (x ∷ xs) a
-  unfolding Settled nowValues
+  unfolding Settled
   same-call x xs a h f hyp = go (moved (K .s) (a .client) x xs)
     where
       go : MovedAt (K .s) (a .client) x xs →
@@ -96,7 +95,7 @@ module _ (K : Setup) where
   -- the client's own call, at its own take or give-up
   own-settled : (x : StepOf K) (xs : Steps K) (a : Logged) → Settled xs a → a .number ≡ calls K xs (a .client) →
       mover (x .step) ≡ some (a .client) → acting (a .client) (x .step) ≡ true → Settled (x ∷ xs) (effect K x xs (a .client) a)
-  unfolding Settled nowValues
+  unfolding Settled
   own-settled x xs a h n m act hyp = go (moved (K .s) (a .client) x xs) (back (follow-keeps (result K x xs) _ (length xs) a) hyp)
     where
       cl' : Client
@@ -106,11 +105,11 @@ module _ (K : Setup) where
       T = effect K x xs (a .client) a
 
       back : (T .client ≡ a .client) × (T .number ≡ a .number) →
-          (T .number ≡ cli K (x ∷ xs) (T .client) .calls →
-          isIdle (cli K (x ∷ xs) (T .client) .hand) ≡ true) →
+          (T .number ≡ calls K (x ∷ xs) (T .client) →
+          isIdle (hand K (x ∷ xs) (T .client)) ≡ true) →
           a .number ≡ cl' .calls → isIdle (cl' .hand) ≡ true
-      back k f q = subst (λ (i : ℕ). isIdle (cli K (x ∷ xs) i .hand) ≡ true) (k .0)
-          (f (k .1 ∙ q ∙ ap (λ (i : ℕ). cli K (x ∷ xs) i .calls) (sym (k .0))))
+      back k f q = subst (λ (i : ℕ). isIdle (hand K (x ∷ xs) i) ≡ true) (k .0)
+          (f (k .1 ∙ q ∙ ap (calls K (x ∷ xs)) (sym (k .0))))
 
       go : MovedAt (K .s) (a .client) x xs → (a .number ≡ cl' .calls → isIdle (cl' .hand) ≡ true) → Out T
       go (kept e f) i = let r = refused-view (result K x xs) (f act) in
@@ -143,7 +142,7 @@ module _ (K : Setup) where
   begun-settled : (x : StepOf K) (xs : Steps K) (c : ℕ) (w : Option (List ℕ)) → acting c (x .step) ≡ true → accepted (result K x xs) ≡ true →
       (mover (x .step) ≡ some c → ⊥) →
       Settled (x ∷ xs) (entered c (suc (calls K xs c)) w (length xs))
-  unfolding Settled nowValues entered begun isIdle awaits
+  unfolding Settled entered begun isIdle awaits
   begun-settled x xs c w act acc f hyp = go (moved (K .s) c x xs)
     where
       cl' : Client

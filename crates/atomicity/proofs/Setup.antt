@@ -16,7 +16,8 @@ use Rattle.protocol.specs.Client.{Client, Hand, Result}
 use Rattle.atomicity.specs.Lists.{Always}
 use Rattle.atomicity.specs.Steps.{StepIn, System}
 use Rattle.atomicity.specs.Premises.{Correct, Parties, correctAt, Premise, Begins, Shows}
-use Rattle.atomicity.proofs.Model.{Run, Laws, account, clientAt, serverAt, resultAt, sentAt, handAt, callsAt, lastAt, repliedAt, latestAt, historyAt}
+use Rattle.atomicity.proofs.Model.{Run, Laws, account}
+use Rattle.atomicity.proofs.Model.{clientAt, serverAt, resultAt, sentAt, handAt, callsAt, lastAt, repliedAt, latestAt, historyAt}
 
 pub record Setup : Type 0 where
   pub s : System

@@ -12,7 +12,6 @@ use borrow.Author.Tests.{eqb-true, eq-eqb}
 use Rattle.protocol.specs.Values.{blankStamp}
 use Rattle.protocol.specs.Client.{Client, Hand, Result, refused, more, written, gave, gaveBlank, aborted, begun, awaits, accepted}
 use Rattle.protocol.specs.Runs.{Step, write, read, make, take-reply, give-up, serve}
-use Rattle.protocol.proofs.ValueRuns.{nowValues}
 use Rattle.protocol.proofs.Answers.{at-cond}
 use Rattle.atomicity.specs.Claim.{Logged, change, follow, note, log}
 use Rattle.atomicity.proofs.Util.{clash, no-some, and-left, and-right, and-intro}
@@ -124,7 +123,7 @@ module _ (K : Setup) where
       cli K (x ∷ xs) c ≡ begun (cli K xs c) h →
       (Open K (x ∷ xs) (entered c (suc (calls K xs c)) w (length xs)) → Cur K (x ∷ xs) (entered c (suc (calls K xs c)) w (length xs)) blankStamp h) →
       CallOk K (x ∷ xs) (entered c (suc (calls K xs c)) w (length xs)) blankStamp
-  unfolding nowValues entered begun
+  unfolding entered begun
   begun-at x xs c h w e f =
       let q : calls K (x ∷ xs) c ≡ suc (calls K xs c) = ap (λ (z : Client). z .calls) e in
       record {

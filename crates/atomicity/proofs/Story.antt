@@ -226,7 +226,7 @@ module _ (K : Setup) where
       (let v = show-hand K c n x xs h in
       let a = has-call xs (past x xs fair) c (subst (λ (z : Hand). isIdle z ≡ false) (sym (v .1)) refl) in
       let g = a .known in
-      let cur = subst (Cur K xs (g .call) (g .stamp)) (ap (λ (i : ℕ). hand K xs i) (a .client) ∙ v .1)
+      let cur = subst (Cur K xs (g .call) (g .stamp)) (ap (hand K xs) (a .client) ∙ v .1)
       (g .ok .current (a .number ∙ ap (calls K xs) (sym (a .client)))) in
       let W = cur .0 .own in
       let at = given-some (g .call .reached) (cur .3) in
