@@ -8,13 +8,14 @@ use mathlib.Core.Logic.{_⊎_, inl, inr}
 use Prim.Native.Nat.{ℕ, suc, _+_, _≤_}
 use native.Mathlib.Omega.{arith}
 use lib.ListN.{length, length-append, length-map}
+use Rattle.protocol.specs.Values.{isSome}
 use Rattle.protocol.specs.Rules.{keep}
 use Rattle.protocol.specs.Client.{Client, accepted}
 use Rattle.protocol.specs.Runs.{Step, write, read, make, take-reply, give-up, serve}
 use Rattle.atomicity.specs.Lists.{Ever, In, AllPairs}
 use Rattle.atomicity.specs.Steps.{Stamped, stampedFrom, stampedBy, stampedAt}
 use Rattle.atomicity.specs.Premises.{Begins}
-use Rattle.atomicity.specs.Claim.{Logged, given, log, begunWrites}
+use Rattle.atomicity.specs.Claim.{Logged, log, begunWrites}
 use Rattle.atomicity.proofs.Util.{left-in, right-in, map-in, all-of}
 use Rattle.atomicity.proofs.Model.{account, marks}
 use Rattle.atomicity.proofs.Setup.{Setup, Steps, StepOf, Fair, Begin, calls, cli, result}
@@ -93,7 +94,7 @@ module _ (K : Setup) where
   begun-nonce (x ∷ xs) c n (inr h) = right-in n (begunNonce x xs (x .step)) (nonces xs) (begun-nonce xs c n h)
 
   abbrev isWrite : Logged → Bool
-  isWrite c = given (c .wrote)
+  isWrite c = isSome (c .wrote)
 
   keep-append : (p : Logged → Bool) (us vs : List Logged) → length (keep p (us ++ vs)) ≡ length (keep p us) + length (keep p vs)
   unfolding keep
@@ -124,10 +125,10 @@ module _ (K : Setup) where
       two false u v e = e
 
       go : touched K x xs (x .step) (g .call) .wrote ≡ g .call .wrote → length (keep isWrite T) ≡ length (keep isWrite C) →
-          length (cond (given (touched K x xs (x .step) (g .call) .wrote)) (touched K x xs (x .step) (g .call) ∷ keep isWrite T)
-          (keep isWrite T)) ≡ length (cond (given (g .call .wrote)) (g .call ∷ keep isWrite C) (keep isWrite C))
-      go q e = ap (λ (o : Option (List ℕ)). length (cond (given o) (touched K x xs (x .step) (g .call) ∷ keep isWrite T) (keep isWrite T))) q
-          ∙ two (given (g .call .wrote)) (touched K x xs (x .step) (g .call)) (g .call) e
+          length (cond (isSome (touched K x xs (x .step) (g .call) .wrote)) (touched K x xs (x .step) (g .call) ∷ keep isWrite T)
+          (keep isWrite T)) ≡ length (cond (isSome (g .call .wrote)) (g .call ∷ keep isWrite C) (keep isWrite C))
+      go q e = ap (λ (o : Option (List ℕ)). length (cond (isSome o) (touched K x xs (x .step) (g .call) ∷ keep isWrite T) (keep isWrite T))) q
+          ∙ two (isSome (g .call .wrote)) (touched K x xs (x .step) (g .call)) (g .call) e
 
   new-writes : (x : StepOf K) (xs : Steps K) (st : Step) → length (begunNonce x xs st) ≡ length (keep isWrite (news K x xs st))
   unfolding begunNonce news keep entered

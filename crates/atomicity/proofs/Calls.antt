@@ -11,14 +11,14 @@ use native.Mathlib.Omega.{arith}
 use lib.Dec.{eqb}
 use lib.ListN.{length}
 use Rattle.protocol.specs.declared.Stamp.{Stamp}
-use Rattle.protocol.specs.Values.{Candidate, below, blankStamp}
+use Rattle.protocol.specs.Values.{Candidate, below, blankStamp, isSome}
 use Rattle.protocol.specs.Packet.{Packet, decode}
 use Rattle.protocol.specs.Client.{Client, Hand, Result, idle, clocking, storing, completing, collecting, filtering, repairing, begun, onto, accepted}
 use Rattle.protocol.specs.Runs.{Lent, take-reply}
 use Rattle.protocol.proofs.Answers.{at-cond}
 use Rattle.atomicity.specs.Lists.{Ever, In}
 use Rattle.atomicity.specs.Steps.{Stamped, stampedAt}
-use Rattle.atomicity.specs.Claim.{Logged, given}
+use Rattle.atomicity.specs.Claim.{Logged}
 use Rattle.atomicity.proofs.Util.{left-in, right-in}
 use Rattle.atomicity.proofs.Model.{account, marks}
 use Rattle.atomicity.proofs.Setup.{Setup, Steps, StepOf, hand, calls, cli, Show, result}
@@ -95,9 +95,9 @@ module _ (K : Setup) where
     pub begun-lt : a .begun < length xs
     pub number-le : a .number ≤ calls K xs (a .client)
     pub ended : (e : ℕ) → a .over ≡ some e → (a .begun < e) × (e < length xs) × Ends K σ e xs
-    pub write : (v : List ℕ) → a .wrote ≡ some v → given (a .reached) ≡ true → Written xs (a .begun) v σ
+    pub write : (v : List ℕ) → a .wrote ≡ some v → isSome (a .reached) ≡ true → Written xs (a .begun) v σ
     pub read : (e : ℕ) → a .wrote ≡ none → a .over ≡ some e → Read xs a e σ
-    pub reaches : (v : List ℕ) (e : ℕ) → a .wrote ≡ some v → a .over ≡ some e → given (a .reached) ≡ true
+    pub reaches : (v : List ℕ) (e : ℕ) → a .wrote ≡ some v → a .over ≡ some e → isSome (a .reached) ≡ true
     pub reach-lt : (k : ℕ) → a .reached ≡ some k → k < length xs
     pub leaves : a .gaveUp ≡ true → a .over ≡ none
 
@@ -119,7 +119,7 @@ module _ (K : Setup) where
   Cur xs a σ idle = Unit {0}
   Cur xs a σ (clocking r n k) = Open xs a × (a .wrote ≡ some r)
   Cur xs a σ (storing d g) = Open xs a × Writing xs a σ d
-  Cur xs a σ (completing d) = Writing xs a σ d × (a .over ≡ none) × (a .gaveUp ≡ false) × (given (a .reached) ≡ true)
+  Cur xs a σ (completing d) = Writing xs a σ d × (a .over ≡ none) × (a .gaveUp ≡ false) × (isSome (a .reached) ≡ true)
   Cur xs a σ (collecting g) = Open xs a × (a .wrote ≡ none)
   Cur xs a σ (filtering cs g) = Open xs a × (a .wrote ≡ none)
   Cur xs a σ (repairing d r) = Open xs a × (a .wrote ≡ none)
@@ -191,7 +191,7 @@ module _ (K : Setup) where
     pub number : b .number ≡ a .number
     pub begun : b .begun ≡ a .begun
     pub wrote : b .wrote ≡ a .wrote
-    pub reached : given (a .reached) ≡ true → (b .reached ≡ a .reached) × (τ ≡ σ)
+    pub reached : isSome (a .reached) ≡ true → (b .reached ≡ a .reached) × (τ ≡ σ)
 
   pub keeps-refl : (a : Logged) (σ : Stamp) → Keeps a σ a σ
   keeps-refl a σ = record { client = refl; number = refl; begun = refl; wrote = refl; reached = λ e. (refl, refl) }

@@ -15,12 +15,12 @@ use Rattle.protocol.specs.Server.{Server, hasDigest, valid, byHistory, act}
 use Rattle.protocol.specs.Client.{codeIn, heldIn}
 use Rattle.atomicity.specs.Lists.{In}
 use Rattle.atomicity.specs.Steps.{Stamped}
-use Rattle.atomicity.proofs.Util.{or-left}
+use Rattle.atomicity.proofs.Util.{or-left, is-some}
 use Rattle.atomicity.proofs.Stamps.{same-is}
 use Rattle.atomicity.proofs.Model.{acts, marks, isValid}
 use Rattle.atomicity.proofs.Setup.{Setup, Steps, StepOf, Fair, srv, hist}
 use Rattle.atomicity.proofs.Rising.{by-stamp}
-use Rattle.atomicity.proofs.Servers.{held-some, is-some, in-held, history-keeps, store-held, best-max}
+use Rattle.atomicity.proofs.Servers.{held-some, in-held, history-keeps, store-held, best-max}
 use Rattle.atomicity.proofs.Histories.{history}
 
 module _ (K : Setup) where

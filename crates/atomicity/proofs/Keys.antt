@@ -8,7 +8,8 @@ use native.Mathlib.Omega.{arith}
 use lib.Dec.{ltb, eqb}
 use borrow.Author.Tests.{ltb-true, ltb-false, lt-ltb, eqb-true, eq-eqb}
 use Rattle.protocol.specs.declared.Stamp.{Stamp}
-use Rattle.atomicity.specs.Claim.{Logged, given}
+use Rattle.protocol.specs.Values.{isSome}
+use Rattle.atomicity.specs.Claim.{Logged}
 use Rattle.atomicity.proofs.Util.{bool-case, and-left, and-right, and-intro, or-left, or-right}
 
 unfoldable pub lex : ℕ → ℕ → Bool → Bool
@@ -61,7 +62,7 @@ lex-total m n r s h = bool-case (ltb m n) (λ e. inl (lex-lt m n r (ltb-true m n
 
 -- 0 for a write, 1 for a read
 unfoldable pub part : Logged → ℕ
-part c = cond (given (c .wrote)) 0 1
+part c = cond (isSome (c .wrote)) 0 1
 
 -- write before read, then by the begin
 unfoldable pub lesser : Logged → Logged → Bool

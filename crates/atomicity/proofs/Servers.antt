@@ -41,10 +41,6 @@ held-some a f (e ∷ es) h = go (sameStamp (e .stamp) a) refl h (λ k. held-some
     go true q k r = (e, inl refl, stamp-same (e .stamp) a q, let z : e .share ≡ f = cc in z)
     go false q k r = let y = r k in (y .0, inr (y .1), y .2, y .3)
 
-pub is-some : {A : Type 0} (o : Option A) → isSome o ≡ true → (a : A) × (o ≡ some a)
-is-some none e = clash e refl
-is-some (some a) e = (a, refl)
-
 pub in-held : (a : Stamp) (es : List Write) (e : Write) → In e es → e .stamp ≡ a → isSome (held a es) ≡ true
 unfolding held In
 in-held a [] e i q = absurd i

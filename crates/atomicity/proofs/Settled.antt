@@ -9,7 +9,7 @@ use Prim.Native.Nat.{ℕ, suc}
 use lib.Dec.{eqb}
 use lib.ListN.{length}
 use borrow.Author.Tests.{eq-eqb}
-use Rattle.protocol.specs.Values.{Candidate, Held, sameList, blankStamp}
+use Rattle.protocol.specs.Values.{Candidate, Held, sameList, blankStamp, isSome}
 use Rattle.protocol.specs.Packet.{Body}
 use Rattle.protocol.specs.Rules.{ByServer, leader, tagsIn}
 use Rattle.protocol.specs.Client.{Client, Hand, Turn, Result, refused, more, written, gave, gaveBlank, aborted, idle, clocking, storing, completing, collecting, filtering, repairing, awaits, isIdle, accepted}
@@ -17,7 +17,7 @@ use Rattle.protocol.specs.Client.{update, judge, found, onto, begun, prepared, 
 use Rattle.protocol.specs.Runs.{Step, write, read, make, take-reply, give-up, serve}
 use Rattle.atomicity.specs.Lists.{In}
 use Rattle.atomicity.specs.Steps.{System}
-use Rattle.atomicity.specs.Claim.{Logged, given, follow}
+use Rattle.atomicity.specs.Claim.{Logged, follow}
 use Rattle.atomicity.proofs.Util.{cond-both, clash, no-some, or-right, split-in, map-in}
 use Rattle.atomicity.proofs.Model.{updated}
 use Rattle.atomicity.proofs.Setup.{Setup, Steps, StepOf, Fair, hand, calls, cli, result}
@@ -30,7 +30,7 @@ use Rattle.atomicity.proofs.Story.{past, stepSigned, story}
 
 -- over, or given up
 abbrev pub Out : Logged → Type 0
-Out a = (given (a .over) || a .gaveUp) ≡ true
+Out a = (isSome (a .over) || a .gaveUp) ≡ true
 
 abbrev Closed : Logged → ℕ → Bool → Turn → Type 0
 Closed a t b u = isIdle (u .client .hand) ≡ true → Out (follow (u .result) b t a)
@@ -118,7 +118,7 @@ module _ (K : Setup) where
       go (wbegan r n' s b d l e) i = absurd (no-some (sym (ap mover s) ∙ m))
       go (rbegan s b d e) i = absurd (no-some (sym (ap mover s) ∙ m))
       go (quit s v d e) i = subst (λ (y : Result). Out (follow y (eqb (awaits (cl' .hand)) 6) (length xs) a)) (sym v)
-          (or-right (given (a .over)) true refl)
+          (or-right (isSome (a .over)) true refl)
       go (took p lent b o s rd fit e v) i =
           let t = turn-turned (K .s) (a .client) (cli K xs (a .client)) p in
           let idle-now = i (n ∙ sym (t .calls) ∙ sym (ap (λ (z : Client). z .calls) e)) in

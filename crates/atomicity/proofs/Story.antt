@@ -9,14 +9,14 @@ use mathlib.Core.Logic.{_⊎_, inl, inr}
 use Prim.Native.Nat.{ℕ, suc, _<_, _≤_}
 use native.Mathlib.Omega.{arith}
 use lib.ListN.{length}
-use Rattle.protocol.specs.Values.{Candidate, blankStamp}
+use Rattle.protocol.specs.Values.{Candidate, blankStamp, isSome}
 use Rattle.protocol.specs.Client.{Client, Hand, Result, begun, onto, awaits, isIdle, accepted}
 use Rattle.protocol.specs.Runs.{Step, write, read, make, take-reply, give-up, serve}
 use Rattle.protocol.proofs.ValueRuns.{nowValues}
 use Rattle.atomicity.specs.Lists.{Ever, Always, All, In, AllPairs}
 use Rattle.atomicity.specs.Steps.{Stamped}
-use Rattle.atomicity.specs.Claim.{Logged, log, given}
-use Rattle.atomicity.proofs.Util.{clash, right-in, in-map, map-in, all-of, given-some}
+use Rattle.atomicity.specs.Claim.{Logged, log}
+use Rattle.atomicity.proofs.Util.{clash, right-in, in-map, map-in, all-of, is-some}
 use Rattle.atomicity.proofs.Model.{marks}
 use Rattle.atomicity.proofs.Setup.{Setup, Steps, StepOf, Meets, Fair, Show, hand, calls, cli, result}
 use Rattle.atomicity.proofs.Moves.{kept, wbegan, rbegan, quit, took, moved, MovedAt}
@@ -205,7 +205,7 @@ module _ (K : Setup) where
     pub wrote : known .call .wrote ≡ some (write .content)
 
   counts-up : (x : StepOf K) (xs : Steps K) (fair : Fair K (x ∷ xs)) (n : List ℕ) (t u : ℕ) → t ≤ u → Counts xs (past x xs fair) n t → Counts (x ∷ xs) fair n u
-  counts-up x xs fair n t u l h = let k = step-keeps x xs fair (h .known) in let r = k .reached (ap given (h .reached)) in
+  counts-up x xs fair n t u l h = let k = step-keeps x xs fair (h .known) in let r = k .reached (ap isSome (h .reached)) in
       record {
         known = stepSigned x xs fair (h .known);
         among = story-next x xs fair (h .known) (h .among);
@@ -229,7 +229,7 @@ module _ (K : Setup) where
       let cur = subst (Cur K xs (g .call) (g .stamp)) (ap (hand K xs) (a .client) ∙ v .1)
       (g .ok .current (a .number ∙ ap (calls K xs) (sym (a .client)))) in
       let W = cur .0 .own in
-      let at = given-some (g .call .reached) (cur .3) in
+      let at = is-some (g .call .reached) (cur .3) in
       let f = subst (Known (K .s) xs c) (v .1) (known (K .s) xs c) in
       let made = mark-at K (W .write) (g .call .begun) xs (W .since-when) in
       let q : W .write .stamp ≡ f .0 .stamp = W .stamp-is ∙ sym (cur .0 .hand-is) ∙ ap (λ (z : Candidate). z .stamp) (f .3) in

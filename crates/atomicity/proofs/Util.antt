@@ -11,8 +11,8 @@ use lib.Dec.{eqb, leb}
 use borrow.Author.Tests.{eqb-true, eq-eqb, le-leb}
 use Rattle.cluster.specs.Ranges.{within}
 use Rattle.cluster.proofs.Tests.{untrue}
-use Rattle.atomicity.specs.Claim.{given}
 use Rattle.atomicity.specs.Lists.{Ever, Always, All, In, flat}
+use Rattle.protocol.specs.Values.{isSome}
 use Rattle.protocol.specs.Rules.{any, keep, upd}
 
 pub cond-both : {A : Type 0} (P : A → Type 0) (b : Bool) (x y : A) → P x → P y → P (cond b x y)
@@ -216,6 +216,6 @@ module _ {A B : Type 0} where
       go (inl k) r = (x, inl refl, k)
       go (inr k) r = let q = r k in (q .0, inr (q .1), q .2)
 
-pub given-some : {A : Type 0} (o : Option A) → given o ≡ true → (a : A) × (o ≡ some a)
-given-some none e = clash e refl
-given-some (some a) e = (a, refl)
+pub is-some : {A : Type 0} (o : Option A) → isSome o ≡ true → (a : A) × (o ≡ some a)
+is-some none e = clash e refl
+is-some (some a) e = (a, refl)
