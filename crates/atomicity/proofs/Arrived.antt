@@ -18,7 +18,8 @@ use Rattle.protocol.specs.Values.{Candidate, blankCandidate}
 use Rattle.protocol.specs.Packet.{Body, Packet, kindOf, decode}
 use Rattle.protocol.specs.Rules.{upd}
 use Rattle.protocol.specs.Server.{act}
-use Rattle.protocol.specs.Client.{Client, Hand, Turn, refused, idle, clocking, storing, completing, collecting, filtering, repairing, awaits, isIdle, isFull, tooHigh, highAt, badFaults, accepted}
+use Rattle.protocol.specs.Client.{Client, Hand, Turn, refused, idle, clocking, storing, completing, collecting, filtering, repairing, awaits, isIdle}
+use Rattle.protocol.specs.Client.{isFull, tooHigh, highAt, badFaults, accepted}
 use Rattle.protocol.specs.Client.{onto, begun, higher, stampIn, codeIn}
 use Rattle.protocol.specs.Runs.{Lent, take-reply}
 use Rattle.atomicity.specs.Lists.{Ever}

@@ -11,16 +11,19 @@ use Rattle.cluster.specs.Config.{Config}
 use Rattle.cluster.specs.Ranges.{within, leastLength, topLength}
 use Rattle.protocol.specs.Format.{Bytes}
 use Rattle.protocol.specs.Packet.{decode}
-use Rattle.protocol.specs.Client.{Client, Hand, Result, Turn, isIdle, writeRefusal, writeStep, idle, clocking, storing, completing, collecting, filtering, repairing, begun, onto, prepared, candidateMade, shareMade, sharesMade, stampOf, accepted}
+use Rattle.protocol.specs.Client.{Client, Hand, Result, Turn, isIdle, writeRefusal, writeStep, idle, clocking, storing, completing, collecting}
+use Rattle.protocol.specs.Client.{filtering, repairing, begun, onto, prepared, candidateMade, shareMade, sharesMade, stampOf, accepted}
 use Rattle.protocol.specs.Runs.{Step, write, take-reply, Fed}
 use Rattle.protocol.proofs.ValueRuns.{nowValues, doValues, setClient}
 use Rattle.protocol.proofs.Fine.{at-refusal}
 use Rattle.atomicity.specs.Lists.{Ever, In, flat}
-use Rattle.atomicity.specs.Steps.{StepIn, System, Stamped, stampedFrom, stampedBy, stampedAt, digestsWith, digestedBy, digested, compared, allDigested, ofPacket}
+use Rattle.atomicity.specs.Steps.{StepIn, System, Stamped, stampedFrom, stampedBy, stampedAt, digestsWith, digestedBy, digested, compared}
+use Rattle.atomicity.specs.Steps.{allDigested, ofPacket}
 use Rattle.atomicity.proofs.Util.{clash, left-in, right-in, split-in, flat-in, ever-out}
 use Rattle.atomicity.proofs.Model.{Run, perform, now, account, clientAt, handAt, lastAt, resultAt, marks, stampFor, candidateFor, sharesFor}
 use Rattle.atomicity.proofs.Moves.{write-passed, MovedAt, kept, wbegan, rbegan, quit, took, moved}
-use Rattle.atomicity.proofs.Rounds.{Next, stays, clock-on, clock-ends, store-ends, collect-on, collect-ends, filter-on, filter-ends, over, turn-turned}
+use Rattle.atomicity.proofs.Rounds.{Next, stays, clock-on, clock-ends, store-ends, collect-on, collect-ends, filter-on, filter-ends, over}
+use Rattle.atomicity.proofs.Rounds.{turn-turned}
 use Rattle.atomicity.proofs.Marks.{Marked, mark-source, marks-up}
 
 -- an accepted write's length is in its range
@@ -107,7 +110,8 @@ module _ (s : System) where
   -- so its content is of bytes
   pub mark-bytes : (xs : Run s) (m : Stamped) → In m (marks s xs) → Bytes (m .content)
   mark-bytes xs m i = ever-out (Opening (m .client) (m .content) (m .nonce)) xs
-      (λ y ys o. subst (λ (st : Step). Fed (s .config) (s .writers) (s .keys) st → Bytes (m .content)) (sym (o .0)) (λ f. f .0) (y .fed)) (opened xs m i)
+      (λ y ys o. subst (λ (st : Step). Fed (s .config) (s .writers) (s .keys) st → Bytes (m .content)) (sym (o .0)) (λ f. f .0) (y .fed))
+      (opened xs m i)
 
   -- and its length is in its range: any other is refused
   pub mark-length : (xs : Run s) (m : Stamped) → In m (marks s xs) → within leastLength topLength (length (m .content)) ≡ true
@@ -126,13 +130,15 @@ module _ (s : System) where
           In u (digested s (account s) x xs ++ allDigested s (account s) xs)
       go (inr k) f = right-in u (digested s (account s) x xs) (allDigested s (account s) xs) (f k)
       go (inl k) f = left-in u (digested s (account s) x xs) (allDigested s (account s) xs)
-          (subst (λ (b : Bool). In u (cond b (digestedBy s (clientAt s xs) (account s .server xs) (stampedAt s (account s) x xs) (x .step)) [])) (sym (t .fine))
-          (subst (λ (y : Step). In u (digestedBy s (clientAt s xs) (account s .server xs) (stampedAt s (account s) x xs) y)) (sym (t .step))
-          (here (flat-in (digestsWith s) (stampedAt s (account s) x xs) m u k d))))
+          (subst (λ (b : Bool). In u (cond b (by (x .step)) [])) (sym (t .fine))
+          (subst (λ (y : Step). In u (by y)) (sym (t .step)) (here (flat-in (digestsWith s) (stampedAt s (account s) x xs) m u k d))))
         where
           t : Marked s x xs m
           t = mark-source s x xs m k
 
-          here : In u (flat (digestsWith s) (stampedAt s (account s) x xs)) →
-              In u (digestedBy s (clientAt s xs) (account s .server xs) (stampedAt s (account s) x xs) (take-reply (m .client) (t .lent) (t .packet) (t .output)))
-          here j = left-in u (flat (digestsWith s) (stampedAt s (account s) x xs)) (ofPacket (compared s (clientAt s xs (m .client)) (handAt s xs (m .client))) (decode (t .packet))) j
+          by : Step → List (List ℕ)
+          by = digestedBy s (clientAt s xs) (account s .server xs) (stampedAt s (account s) x xs)
+
+          here : In u (flat (digestsWith s) (stampedAt s (account s) x xs)) → In u (by (take-reply (m .client) (t .lent) (t .packet) (t .output)))
+          here j = left-in u (flat (digestsWith s) (stampedAt s (account s) x xs))
+              (ofPacket (compared s (clientAt s xs (m .client)) (handAt s xs (m .client))) (decode (t .packet))) j

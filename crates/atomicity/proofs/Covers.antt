@@ -20,7 +20,8 @@ use Rattle.atomicity.proofs.Stamps.{same-is}
 use Rattle.atomicity.proofs.Model.{acts, marks, isValid}
 use Rattle.atomicity.proofs.Setup.{Setup, Steps, StepOf, Fair, srv, hist}
 use Rattle.atomicity.proofs.Rising.{by-stamp}
-use Rattle.atomicity.proofs.Servers.{held-some, in-held, history-keeps, store-held, best-max}
+use Rattle.atomicity.proofs.Best.{best-max}
+use Rattle.atomicity.proofs.Servers.{held-some, in-held, history-keeps, store-held}
 use Rattle.atomicity.proofs.Histories.{history}
 
 module _ (K : Setup) where

@@ -17,7 +17,8 @@ use Rattle.protocol.specs.Client.{made, accepted}
 use Rattle.protocol.specs.Runs.{Step, serve}
 use Rattle.protocol.proofs.ValueRuns.{nowValues}
 use Rattle.atomicity.specs.Lists.{Ever, Always, All, In, flat}
-use Rattle.atomicity.specs.Steps.{Stamped, packetIn, makes, serves, offered, isComplete, judged, ofPacket, stampedAt, digestsWith, tagsMade, tagsChecked, checkedBy, serverChecks, digested, digestedBy, allDigested, noncesGot, noncesBy}
+use Rattle.atomicity.specs.Steps.{Stamped, packetIn, makes, serves, offered, isComplete, judged, ofPacket, stampedAt, digestsWith, tagsMade}
+use Rattle.atomicity.specs.Steps.{tagsChecked, checkedBy, serverChecks, digested, digestedBy, allDigested, noncesGot, noncesBy}
 use Rattle.atomicity.specs.Premises.{NoForgery, NoCollision, NoEarlyNonce, Shows}
 use Rattle.atomicity.proofs.Util.{right-in, flat-in, in-map, all-in, ever-map, within-in}
 use Rattle.atomicity.proofs.Model.{account, marks, vouched, tagged, isValid}
@@ -26,7 +27,8 @@ use Rattle.atomicity.proofs.Serving.{same, acted, served, making, Serve
 use Rattle.atomicity.proofs.Marks.{marks-up}
 use Rattle.atomicity.proofs.Begun.{Known, known, mark-digested}
 use Rattle.atomicity.proofs.Nonces.{begins}
-use Rattle.atomicity.proofs.Servers.{Origin, judged-tested, act-grows}
+use Rattle.atomicity.proofs.Best.{judged-tested}
+use Rattle.atomicity.proofs.Servers.{Origin, act-grows}
 use Rattle.atomicity.proofs.Sources.{serve-shape, complete-writer, complete-made, MadeBy, server-correct, writer-made}
 use Rattle.atomicity.proofs.Histories.{Vouched, by-history, made-mark}
 
@@ -53,7 +55,8 @@ module _ (K : Setup) where
       ap (λ (b : Bool). cond b (srv K xs j) (blankServer (K .s .config))) (within-in 1 (K .s .config .servers) j (r .0) (r .1))
 
   -- the candidate on which its answer rests is among those that the premises speak of
-  at-judged : (x : StepOf K) (xs : Steps K) (j : ℕ) (p : Packet) → Judging x xs j p → (c : Candidate) → In c (judged (K .s) j (srv K xs j) (p .body)) →
+  at-judged : (x : StepOf K) (xs : Steps K) (j : ℕ) (p : Packet) → Judging x xs j p → (c : Candidate) →
+      In c (judged (K .s) j (srv K xs j) (p .body)) →
       (b : List ℕ) → decode b ≡ some p → In c (ofPacket (λ q. judged (K .s) j (account (K .s) .server xs j) (q .body)) (decode b))
   at-judged x xs j p t c i b d =
       subst (λ (q : Option Packet). In c (ofPacket (λ q. judged (K .s) j (account (K .s) .server xs j) (q .body)) q)) (sym d)
@@ -128,7 +131,8 @@ module _ (K : Setup) where
       let all = D ++ allDigested (K .s) (account (K .s)) xs in
       let mine : In (c .nonce) D = at-serve (c .nonce) x xs j p t
       (digestedBy (K .s) (account (K .s) .client xs) (account (K .s) .server xs) (stampedAt (K .s) (account (K .s)) x xs))
-      (λ b o d. in-map nonceOf (ofPacket (λ q. judged (K .s) j (account (K .s) .server xs j) (q .body)) (decode b)) c (at-judged x xs j p t c i b d)) in
+      (λ b o d. in-map nonceOf (ofPacket (λ q. judged (K .s) j (account (K .s) .server xs j) (q .body)) (decode b)) c
+      (at-judged x xs j p t c i b d)) in
       let theirs : In (m .nonce) all =
       right-in (m .nonce) D (allDigested (K .s) (account (K .s)) xs) (mark-digested (K .s) xs m (m .nonce) (r .1) (inl refl)) in
       let equal : c .nonce ≡ m .nonce = all-in (λ u. K .s .P .digest (c .nonce) ≡ K .s .P .digest u → c .nonce ≡ u) all

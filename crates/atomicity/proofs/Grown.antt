@@ -15,7 +15,8 @@ use Rattle.protocol.specs.Values.{Candidate, Held, sameList}
 use Rattle.protocol.specs.Packet.{Body, Packet, kindOf, decode}
 use Rattle.protocol.specs.Rules.{ByServer, upd, leader, tagsIn}
 use Rattle.protocol.specs.Server.{replyTo}
-use Rattle.protocol.specs.Client.{Client, Hand, Turn, refused, idle, clocking, storing, completing, collecting, filtering, repairing, awaits, isIdle, highAt, badFaults}
+use Rattle.protocol.specs.Client.{Client, Hand, Turn, refused, idle, clocking, storing, completing, collecting, filtering, repairing, awaits, isIdle}
+use Rattle.protocol.specs.Client.{highAt, badFaults}
 use Rattle.protocol.specs.Client.{update, judge, found, onto, prepared, codeIn, takeRefusal, takeStep, turnOn}
 use Rattle.protocol.specs.Runs.{Lent, Step, take-reply}
 use Rattle.protocol.proofs.ValueRuns.{doValues, setClient}

@@ -15,18 +15,21 @@ use Rattle.protocol.specs.Values.{Candidate, below, blankStamp, Held}
 use Rattle.protocol.specs.Packet.{Packet, decode}
 use Rattle.protocol.specs.Server.{Server}
 use Rattle.protocol.specs.Rules.{upd, countTo, ByServer, choice}
-use Rattle.protocol.specs.Client.{Client, Hand, Result, idle, clocking, storing, completing, collecting, filtering, repairing, isFull, awaits, begun, onto, made, heldIn, accepted}
+use Rattle.protocol.specs.Client.{Client, Hand, Result, idle, clocking, storing, completing, collecting, filtering, repairing, isFull, awaits, begun}
+use Rattle.protocol.specs.Client.{onto, made, heldIn, accepted}
 use Rattle.protocol.specs.Runs.{Lent, Step, write, read, make, take-reply, give-up, serve}
 use Rattle.protocol.proofs.ValueRuns.{nowValues}
 use Rattle.protocol.proofs.Answers.{at-cond}
 use Rattle.atomicity.specs.Lists.{Ever, Always, In, flat}
-use Rattle.atomicity.specs.Steps.{Stamped, packetIn, makes, stampedAt, ofPacket, proving, compared, digestsWith, digested, digestedBy, allDigested}
+use Rattle.atomicity.specs.Steps.{Stamped, packetIn, makes, stampedAt, ofPacket, proving, compared, digestsWith, digested, digestedBy}
+use Rattle.atomicity.specs.Steps.{allDigested}
 use Rattle.atomicity.specs.Premises.{Shows, PartyOf, odd}
 use Rattle.atomicity.proofs.Util.{bool-case, clash, left-in, right-in, ever-map, ever-with, rise, not-f, and-intro}
 use Rattle.atomicity.proofs.Stamps.{below-blank}
 use Rattle.atomicity.proofs.Counting.{split-count, lies-count, quorum-sum, count-mono}
 use Rattle.atomicity.proofs.Model.{account, marks, turn}
-use Rattle.atomicity.proofs.Setup.{Setup, Steps, StepOf, Meets, Fair, Show, hand, calls, lat, cli, replied, right, same-step, right-step, lastOf, result}
+use Rattle.atomicity.proofs.Setup.{Setup, Steps, StepOf, Meets, Fair, Show, hand, calls, lat, cli, replied, right, same-step, right-step}
+use Rattle.atomicity.proofs.Setup.{lastOf, result}
 use Rattle.atomicity.proofs.Moves.{Fits, kept, wbegan, rbegan, quit, took, moved, MovedAt}
 use Rattle.atomicity.proofs.Serving.{making}
 use Rattle.atomicity.proofs.Rounds.{Next, turn-turned}
@@ -153,7 +156,8 @@ module _ (K : Setup) where
       ms = stampedAt (K .s) (account (K .s)) x xs
 
       -- once the round is full, the fragments that prove the choice are digested in this step
-      compares : (cs : List Candidate) (g : ByServer Held) → hand K xs c ≡ filtering cs g → Q K ≤ countTo (S K) (upd (replied K xs c) (p .head .server) true) →
+      compares : (cs : List Candidate) (g : ByServer Held) → hand K xs c ≡ filtering cs g →
+          Q K ≤ countTo (S K) (upd (replied K xs c) (p .head .server) true) →
           (u : List ℕ) → In u (proving (K .s) (upd (replied K xs c) (p .head .server) true) (upd g (p .head .server) (heldIn (p .body)))
           (choice (K .s .P) (K .s .config) (upd (replied K xs c) (p .head .server) true) (upd g (p .head .server) (heldIn (p .body))) cs)) →
           In u (digested (K .s) (account (K .s)) x xs)

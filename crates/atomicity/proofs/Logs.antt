@@ -13,7 +13,8 @@ use borrow.Author.Tests.{eq-eqb}
 use Rattle.protocol.specs.declared.Stamp.{Stamp}
 use Rattle.protocol.specs.Values.{blankStamp}
 use Rattle.protocol.specs.Packet.{Packet, decode}
-use Rattle.protocol.specs.Client.{Client, Hand, Result, idle, clocking, storing, completing, collecting, filtering, repairing, onto, awaits, isIdle, accepted}
+use Rattle.protocol.specs.Client.{Client, Hand, Result, idle, clocking, storing, completing, collecting, filtering, repairing, onto, awaits, isIdle}
+use Rattle.protocol.specs.Client.{accepted}
 use Rattle.protocol.specs.Runs.{Lent, Step, write, read, make, take-reply, give-up, serve}
 use Rattle.atomicity.specs.Lists.{Ever, Always, In}
 use Rattle.atomicity.specs.Steps.{Stamped, stampedFrom, stampedBy, stampedAt}

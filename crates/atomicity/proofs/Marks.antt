@@ -11,7 +11,8 @@ use borrow.Author.Tests.{ne-eqb}
 use Rattle.protocol.specs.declared.Stamp.{Stamp}
 use Rattle.protocol.specs.Values.{sameList, isBlank}
 use Rattle.protocol.specs.Primitives.{stampMessage}
-use Rattle.protocol.specs.Client.{Client, Hand, awaits, Result, idle, clocking, storing, completing, collecting, filtering, repairing, prepared, candidateMade, stampOf, checks, accepted}
+use Rattle.protocol.specs.Client.{Client, Hand, awaits, Result, idle, clocking, storing, completing, collecting, filtering, repairing, prepared}
+use Rattle.protocol.specs.Client.{candidateMade, stampOf, checks, accepted}
 use Rattle.protocol.specs.Runs.{Lent, Step, write, read, make, take-reply, give-up, serve}
 use Rattle.protocol.proofs.Equal.{same-refl}
 use Rattle.atomicity.specs.Lists.{In}
@@ -19,7 +20,8 @@ use Rattle.atomicity.specs.Steps.{StepIn, System, Stamped, stampedFrom, 
 use Rattle.atomicity.proofs.Util.{and-intro, not-f, right-in, split-in}
 use Rattle.atomicity.proofs.Model.{Run, account, clientAt, resultAt, handAt, lastAt, marks, stampFor, preparedFor}
 use Rattle.atomicity.proofs.Moves.{MovedAt, kept, wbegan, rbegan, quit, took, moved}
-use Rattle.atomicity.proofs.Rounds.{Next, stays, clock-on, clock-ends, store-ends, collect-on, collect-ends, filter-on, filter-ends, over, turn-turned}
+use Rattle.atomicity.proofs.Rounds.{Next, stays, clock-on, clock-ends, store-ends, collect-on, collect-ends, filter-on, filter-ends, over}
+use Rattle.atomicity.proofs.Rounds.{turn-turned}
 
 -- where a mark comes from
 pub record Marked (s : System) (x : StepIn s) (xs : Run s) (m : Stamped) : Type 0 where

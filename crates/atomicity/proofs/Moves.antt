@@ -16,7 +16,8 @@ use Rattle.cluster.proofs.Tests.{or-none, inside, passes}
 use Rattle.protocol.specs.Values.{blankCandidate}
 use Rattle.protocol.specs.Packet.{Packet, kindOf, decode}
 use Rattle.protocol.specs.Rules.{nobody}
-use Rattle.protocol.specs.Client.{Client, Turn, Result, more, aborted, idle, clocking, collecting, awaits, isIdle, highAt, onto, begun, badFaults, accepted}
+use Rattle.protocol.specs.Client.{Client, Turn, Result, more, aborted, idle, clocking, collecting, awaits, isIdle, highAt, onto, begun, badFaults}
+use Rattle.protocol.specs.Client.{accepted}
 use Rattle.protocol.specs.Client.{writeRefusal, readRefusal, abortRefusal, takeRefusal, writeStep, readStep, abortStep, takeStep, turnOn}
 use Rattle.protocol.specs.Runs.{Lent, Step, write, read, make, take-reply, give-up, serve}
 use Rattle.protocol.proofs.ValueRuns.{World, doValues, nowValues, setClient}

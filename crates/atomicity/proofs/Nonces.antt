@@ -6,7 +6,8 @@ use mathlib.Core.List.{List, [], _∷_}
 use mathlib.Core.Logic.{_⊎_, inl, inr}
 use Prim.Native.Nat.{ℕ, suc}
 use native.Mathlib.Omega.{arith}
-use Rattle.protocol.specs.Client.{Client, Hand, Result, idle, clocking, storing, completing, collecting, filtering, repairing, begun, onto, prepared, accepted}
+use Rattle.protocol.specs.Client.{Client, Hand, Result, idle, clocking, storing, completing, collecting, filtering, repairing, begun, onto, prepared}
+use Rattle.protocol.specs.Client.{accepted}
 use Rattle.protocol.specs.Runs.{write}
 use Rattle.protocol.proofs.ValueRuns.{nowValues}
 use Rattle.atomicity.specs.Lists.{Ever, Always, In}
@@ -16,7 +17,8 @@ use Rattle.atomicity.proofs.Util.{split-in, ever-map}
 use Rattle.atomicity.proofs.Model.{account, marks, stampFor, preparedFor}
 use Rattle.atomicity.proofs.Setup.{Setup, Steps, StepOf, Fair, Begin, hand, lastOf, cli}
 use Rattle.atomicity.proofs.Moves.{kept, wbegan, rbegan, quit, took, moved, MovedAt}
-use Rattle.atomicity.proofs.Rounds.{Next, stays, clock-on, clock-ends, store-ends, collect-on, collect-ends, filter-on, filter-ends, over, turn-turned}
+use Rattle.atomicity.proofs.Rounds.{Next, stays, clock-on, clock-ends, store-ends, collect-on, collect-ends, filter-on, filter-ends, over}
+use Rattle.atomicity.proofs.Rounds.{turn-turned}
 use Rattle.atomicity.proofs.Marks.{Marked, mark-source}
 use Rattle.atomicity.proofs.Begun.{Opening, Known, known, opened}
 

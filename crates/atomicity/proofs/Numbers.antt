@@ -21,7 +21,8 @@ use Rattle.protocol.specs.Runs.{Step}
 use Rattle.protocol.proofs.ValueRuns.{nowValues}
 use Rattle.protocol.proofs.Answers.{at-cond}
 use Rattle.atomicity.specs.Lists.{Ever, Always, In}
-use Rattle.atomicity.specs.Steps.{Stamped, ofPacket, stampedFrom, stampedBy, stampedAt, tagsWith, tagsMade, clientChecks, checkedBy, tagsChecked}
+use Rattle.atomicity.specs.Steps.{Stamped, ofPacket, stampedFrom, stampedBy, stampedAt, tagsWith, tagsMade, clientChecks, checkedBy}
+use Rattle.atomicity.specs.Steps.{tagsChecked}
 use Rattle.atomicity.specs.Premises.{NoForgery}
 use Rattle.atomicity.proofs.Util.{cond-both, left-in, right-in, in-flat, map-in, all-in}
 use Rattle.atomicity.proofs.Model.{account, marks, updated}

@@ -18,7 +18,8 @@ use Rattle.atomicity.specs.Steps.{StepIn, System}
 use Rattle.atomicity.proofs.Util.{clash, ever-map}
 use Rattle.atomicity.proofs.Model.{Run, clientAt, handAt, callsAt}
 use Rattle.atomicity.proofs.Moves.{MovedAt, kept, wbegan, rbegan, quit, took, moved}
-use Rattle.atomicity.proofs.Rounds.{Next, stays, clock-on, clock-ends, store-ends, collect-on, collect-ends, filter-on, filter-ends, over, turn-turned}
+use Rattle.atomicity.proofs.Rounds.{Next, stays, clock-on, clock-ends, store-ends, collect-on, collect-ends, filter-on, filter-ends, over}
+use Rattle.atomicity.proofs.Rounds.{turn-turned}
 
 unfoldable pub stage : Hand → ℕ
 stage idle = 15

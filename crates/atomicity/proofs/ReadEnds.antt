@@ -76,6 +76,7 @@ module _ (K : Setup) (x : StepOf K) (xs : Steps K) (a : Logged) (σ : Stamp) (sa
       Follows K x xs a σ (filtering cs g) (judge (K .s .P) (K .s .config) (a .client) (K .s .writers) (K .s .keys) cl m cs g' ls o)
   unfolding judge onto Cur awaits
   judge-follows cs g g' m cl [] o c = blank-ends (filtering cs g) _ refl (c .0) (c .1)
-  judge-follows cs g g' m cl (l ∷ ls) none c = stays K x xs a σ same base (filtering cs g) (filtering cs g') _ c refl (unreach (a .reached) _ (length xs) refl)
+  judge-follows cs g g' m cl (l ∷ ls) none c = stays K x xs a σ same base (filtering cs g) (filtering cs g') _ c refl
+      (unreach (a .reached) _ (length xs) refl)
       (λ z. z)
   judge-follows cs g g' m cl (l ∷ ls) (some d) c = found-follows cs g g' m cl d (leader (K .s .P) (K .s .config) m g' d (K .s .config .servers)) c

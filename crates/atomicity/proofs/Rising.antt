@@ -14,7 +14,8 @@ use Rattle.atomicity.specs.Steps.{StepIn, System, Stamped, stampedAt}
 use Rattle.atomicity.proofs.Util.{split-in}
 use Rattle.atomicity.proofs.Model.{Run, account, clientAt, handAt, lastAt, marks, stampFor}
 use Rattle.atomicity.proofs.Moves.{MovedAt, kept, wbegan, rbegan, quit, took, moved}
-use Rattle.atomicity.proofs.Rounds.{Next, stays, clock-on, clock-ends, store-ends, collect-on, collect-ends, filter-on, filter-ends, over, turn-turned}
+use Rattle.atomicity.proofs.Rounds.{Next, stays, clock-on, clock-ends, store-ends, collect-on, collect-ends, filter-on, filter-ends, over}
+use Rattle.atomicity.proofs.Rounds.{turn-turned}
 use Rattle.atomicity.proofs.Marks.{Marked, mark-source, mark-form, mark-who}
 
 -- the number of a hand in its clock round has P

@@ -3,7 +3,7 @@
 -- no other write has its stamp.
 -- Assumes nothing.
 use mathlib.Core.Path.{_≡_, refl, sym, ap, _∙_, subst}
-use mathlib.Core.Bool.{Bool, true, cond, _&&_}
+use mathlib.Core.Bool.{Bool, true, _&&_}
 use mathlib.Core.List.{List, [], _∷_}
 use mathlib.Core.Option.{Option, none, some}
 use mathlib.Core.Logic.{_⊎_, inl, inr}
@@ -15,13 +15,13 @@ use borrow.Author.Tests.{ltb-true, ltb-false, lt-ltb}
 use Rattle.protocol.specs.declared.Stamp.{Stamp}
 use Rattle.protocol.specs.Values.{isSome}
 use Rattle.protocol.specs.Rules.{keep}
-use Rattle.protocol.proofs.Answers.{at-cond}
 use Rattle.atomicity.proofs.Genuine.{Revealed}
 use Rattle.atomicity.specs.Page41.{Sourced}
 use Rattle.atomicity.specs.Lists.{Ever, In, AllPairs}
 use Rattle.atomicity.specs.Steps.{Stamped}
 use Rattle.atomicity.specs.Claim.{Logged, endedBy, before, counted, OneOrder}
-use Rattle.atomicity.proofs.Util.{bool-case, clash, and-left, and-right, and-intro, or-cases, or-right, keep-in, in-keep, all-of, all-in, all-map, is-some, no-some}
+use Rattle.atomicity.proofs.Util.{bool-case, clash, and-left, and-right, and-intro, or-cases, or-right, keep-in, in-keep, keep-pairs}
+use Rattle.atomicity.proofs.Util.{all-map, is-some, no-some}
 use Rattle.atomicity.proofs.Stamps.{le-view}
 use Rattle.atomicity.proofs.Setup.{Setup, Steps, Fair}
 use Rattle.atomicity.proofs.Positions.{since}
@@ -31,30 +31,11 @@ use Rattle.atomicity.proofs.Nonces.{by-nonce}
 use Rattle.atomicity.proofs.Calls.{MarkAt, mark-at, Grounded, ShownBy}
 use Rattle.atomicity.proofs.Shape.{Log}
 use Rattle.atomicity.proofs.Logs.{Signed}
-use Rattle.atomicity.proofs.Story.{story, story-log, story-pairs, Counts, shown-then}
-use Rattle.atomicity.proofs.Keys.{lex-lt, lex-eq, lex-view, part, lesser, less, less-chain, less-asym, less-total, Rest, less-rest, between}
+use Rattle.atomicity.proofs.Story.{story, story-log, story-pairs}
+use Rattle.atomicity.proofs.Shown.{Counts, shown-then}
+use Rattle.atomicity.proofs.Keys.{lex-lt, lex-eq, lex-view, part, part-write, part-read, wrote-case, lesser, less, less-chain, less-asym}
+use Rattle.atomicity.proofs.Keys.{less-total, Rest, less-rest, between}
 use Rattle.atomicity.proofs.Ordering.{Clear, Last, Explained, Reads, one-order, ReachedBy}
-
-keep-pairs : {A : Type 0} (R : A → A → Type 0) (p : A → Bool) (l : List A) → AllPairs R l → AllPairs R (keep p l)
-unfolding keep AllPairs
-keep-pairs R p [] h = tt
-keep-pairs {A} R p (x ∷ l) h = at-cond (p x) (x ∷ keep p l) (keep p l) (AllPairs R)
-    (λ e. (all-of (R x) (keep p l) (λ y i. all-in (R x) l (h .0) y (keep-in p l y i .0)), keep-pairs R p l (h .1))) (λ e. keep-pairs R p l (h .1))
-
-part-write : (a : Logged) (v : List ℕ) → a .wrote ≡ some v → part a ≡ 0
-unfolding part
-part-write a v e = ap (λ (o : Option (List ℕ)). cond (isSome o) 0 1) e
-
-part-read : (a : Logged) → a .wrote ≡ none → part a ≡ 1
-unfolding part
-part-read a e = ap (λ (o : Option (List ℕ)). cond (isSome o) 0 1) e
-
-wrote-case : {B : Type 0} (a : Logged) → (a .wrote ≡ none → B) → ((v : List ℕ) → a .wrote ≡ some v → B) → B
-wrote-case {B} a f g = go (a .wrote) refl
-  where
-    go : (o : Option (List ℕ)) → a .wrote ≡ o → B
-    go none e = f e
-    go (some v) e = g v e
 
 module _ (K : Setup) where
   -- a mark tells when its call began

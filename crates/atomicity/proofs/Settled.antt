@@ -12,7 +12,8 @@ use borrow.Author.Tests.{eq-eqb}
 use Rattle.protocol.specs.Values.{Candidate, Held, sameList, blankStamp, isSome}
 use Rattle.protocol.specs.Packet.{Body}
 use Rattle.protocol.specs.Rules.{ByServer, leader, tagsIn}
-use Rattle.protocol.specs.Client.{Client, Hand, Turn, Result, refused, more, written, gave, gaveBlank, aborted, idle, clocking, storing, completing, collecting, filtering, repairing, awaits, isIdle, accepted}
+use Rattle.protocol.specs.Client.{Client, Hand, Turn, Result, refused, more, written, gave, gaveBlank, aborted, idle, clocking, storing, completing}
+use Rattle.protocol.specs.Client.{collecting, filtering, repairing, awaits, isIdle, accepted}
 use Rattle.protocol.specs.Client.{update, judge, found, onto, begun, prepared, codeIn}
 use Rattle.protocol.specs.Runs.{Step, write, read, make, take-reply, give-up, serve}
 use Rattle.atomicity.specs.Lists.{In}

@@ -13,7 +13,8 @@ use Rattle.cluster.specs.Ranges.{topWriter}
 use Rattle.cluster.proofs.Tests.{or-none}
 use Rattle.protocol.specs.Values.{Candidate, Share, Write}
 use Rattle.protocol.specs.Packet.{Body, Packet, kindOf, decode}
-use Rattle.protocol.specs.Packet.{clock, clockReply, store, storeReply, complete, completeReply, collect, collectReply, filter, filterReply, repair, repairReply}
+use Rattle.protocol.specs.Packet.{clock, clockReply, store, storeReply, complete, completeReply, collect, collectReply, filter, filterReply, repair}
+use Rattle.protocol.specs.Packet.{repairReply}
 use Rattle.protocol.specs.Rules.{ByServer}
 use Rattle.protocol.specs.Server.{barred, replyTo}
 use Rattle.protocol.specs.Client.{Hand, idle, clocking, storing, completing, collecting, filtering, repairing, request, accepted}
