@@ -47,7 +47,7 @@ pub data Served (s : System) (j : ℕ) (was : Server) (x : Step) (v : Server) (r
       Served s j was x v res
 
 -- what is behind a reply p
-pub record Answered (s : System) (j : ℕ) (was : Server) (x : Step) (v : Server) (res : Result) (p : Packet) : Type 0 where
+pub record Behind (s : System) (j : ℕ) (was : Server) (x : Step) (v : Server) (res : Result) (p : Packet) : Type 0 where
   pub ask : Packet
   pub got : packetIn x ≡ some ask
   pub asked : Asked s j ask
@@ -106,7 +106,7 @@ module _ (s : System) (w : World) where
           (q .4 ∙ ap (λ (i : ℕ). acts s i (w .server i) (q .0 .body) .server) (sym e))
 
   step-answer : (j : ℕ) (x : Step) (p : Packet) → serves j x ≡ true → perform s w x .sent ≡ some p →
-      Answered s j (w .server j) x (perform s w x .world .server j) (perform s w x .result) p
+      Behind s j (w .server j) x (perform s w x .world .server j) (perform s w x .result) p
   unfolding doValues setClient
   step-answer j (write c r n) p e f = clash e refl
   step-answer j (read c) p e f = clash e refl
@@ -119,7 +119,7 @@ module _ (s : System) (w : World) where
       same-server = sym (eqb-true j b e)
 
       go : Handled s b (w .server b) (decode q) (stepOf b q o) →
-          Answered s j (w .server j) (serve b q o) (upd (w .server) b (stepOf b q o .server) j) (resultOf (stepOf b q o .number)) p
+          Behind s j (w .server j) (serve b q o) (upd (w .server) b (stepOf b q o .server) j) (resultOf (stepOf b q o .number)) p
       go (inl z) = absurd (z .1 p f)
       go (inr z) = record {
         ask = z .0;
@@ -171,10 +171,10 @@ module _ (s : System) where
   unfolding nowValues
   served j x xs = step-served s (now s xs) j (x .step)
 
-  abbrev pub AnsweredAt : ℕ → StepIn s → Run s → Packet → Type 0
-  AnsweredAt j x xs p = Answered s j (serverAt s xs j) (x .step) (serverAt s (x ∷ xs) j) (resultAt s x xs) p
+  abbrev pub BehindAt : ℕ → StepIn s → Run s → Packet → Type 0
+  BehindAt j x xs p = Behind s j (serverAt s xs j) (x .step) (serverAt s (x ∷ xs) j) (resultAt s x xs) p
 
-  pub answer : (j : ℕ) (x : StepIn s) (xs : Run s) (p : Packet) → serves j (x .step) ≡ true → sentAt s x xs ≡ some p → AnsweredAt j x xs p
+  pub answer : (j : ℕ) (x : StepIn s) (xs : Run s) (p : Packet) → serves j (x .step) ≡ true → sentAt s x xs ≡ some p → BehindAt j x xs p
   unfolding nowValues
   answer j x xs p e f = step-answer s (now s xs) j (x .step) p e f
 

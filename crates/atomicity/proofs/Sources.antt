@@ -25,7 +25,7 @@ use Rattle.atomicity.specs.Premises.{Authentic, PartyOf, odd}
 use Rattle.atomicity.proofs.Util.{clash, ever-map, ever-with}
 use Rattle.atomicity.proofs.Model.{account}
 use Rattle.atomicity.proofs.Setup.{Setup, Steps, StepOf, Meets, Fair, right, result, sent}
-use Rattle.atomicity.proofs.Serving.{Asked, answer, AnsweredAt}
+use Rattle.atomicity.proofs.Serving.{Asked, answer, BehindAt}
 
 -- ---- shapes of steps
 
@@ -120,7 +120,7 @@ module _ (K : Setup) where
   -- y, after ys, is the step of a server that gave the packet p, on a request that the client had made
   pub record Told (p : Packet) (y : StepOf K) (ys : Steps K) : Type 0 where
     pub by : serves (p .head .server) (y .step) ≡ true
-    pub behind : AnsweredAt (K .s) (p .head .server) y ys p
+    pub behind : BehindAt (K .s) (p .head .server) y ys p
     pub same-call : behind .ask .head .call ≡ p .head .call
     pub source : Ever (MadeBy (makes (p .head .client)) (behind .ask)) ys
 
