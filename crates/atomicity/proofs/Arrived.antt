@@ -18,24 +18,23 @@ use Rattle.protocol.specs.Values.{Candidate, blankCandidate}
 use Rattle.protocol.specs.Packet.{Body, Packet, kindOf, decode}
 use Rattle.protocol.specs.Rules.{upd}
 use Rattle.protocol.specs.Server.{act}
-use Rattle.protocol.specs.Client.{Client, Hand, Turn, refused, idle, clocking, storing, completing, collecting, filtering, repairing, awaits, isIdle, isFull, tooHigh, highAt, badFaults, accepted}
+use Rattle.protocol.specs.Client.{Client, Hand, Turn, refused, idle, clocking, storing, completing, collecting, filtering, repairing, awaits, isIdle}
+use Rattle.protocol.specs.Client.{isFull, tooHigh, highAt, badFaults, accepted}
 use Rattle.protocol.specs.Client.{onto, begun, higher, stampIn, codeIn}
-use Rattle.protocol.specs.Runs.{Lent, Step, take-reply}
-use Rattle.protocol.proofs.ValueRuns.{World, nowValues}
+use Rattle.protocol.specs.Runs.{Lent, take-reply}
 use Rattle.atomicity.specs.Lists.{Ever}
 use Rattle.atomicity.specs.Steps.{serves, stampedAt}
 use Rattle.atomicity.specs.Claim.{cameIn, Arrives}
 use Rattle.atomicity.proofs.Util.{clash, and-right, ever-map, ever-with, ever-out, rise, within-in}
-use Rattle.atomicity.proofs.Model.{perform, now, account, marks, turn}
-use Rattle.atomicity.proofs.Setup.{Setup, Steps, StepOf, Meets, Fair, hand, calls, lat, srv, cli, replied, lastOf}
-use Rattle.atomicity.proofs.Moves.{Fits, Moved, kept, wbegan, rbegan, quit, took, moved, acting}
+use Rattle.atomicity.proofs.Model.{account, marks, turn}
+use Rattle.atomicity.proofs.Setup.{Setup, Steps, StepOf, Meets, Fair, hand, calls, lat, srv, cli, replied, lastOf, result}
+use Rattle.atomicity.proofs.Moves.{Fits, kept, wbegan, rbegan, quit, took, moved, acting, MovedAt}
 use Rattle.atomicity.proofs.Rounds.{Next, turn-turned}
 use Rattle.atomicity.proofs.Positions.{next-stage, stage, stage-awaits, stage-bound, pos, ever-before}
 use Rattle.atomicity.proofs.Sources.{MadeBy, Told, reply-source, sent-made}
 use Rattle.atomicity.proofs.Genuine.{Genuine, latest-known}
 use Rattle.atomicity.proofs.Heard.{Heard, heard, asked-at}
 use Rattle.atomicity.proofs.Telling.{at-step}
-use Rattle.atomicity.proofs.Shape.{result}
 use Rattle.atomicity.proofs.Story.{past}
 use Rattle.atomicity.proofs.Rising.{Clocked}
 use Rattle.atomicity.proofs.Numbers.{Low, Small, small, mark-small, higher-low}
@@ -123,19 +122,16 @@ module _ (K : Setup) (c : ℕ) where
   pub arrived : (xs : Steps K) → Fair K xs → K .correct .client c ≡ true → (b : ℕ) → (n k : ℕ) → n ≡ calls K xs c → k ≡ awaits (hand K xs c) →
       isIdle (hand K xs c) ≡ false → Roomy k xs → Ever (Arr n k b) xs →
       replied K xs c b ≡ true
-  unfolding Ever nowValues pos begun onto isIdle awaits stage highAt
+  unfolding Ever pos begun onto isIdle awaits stage highAt
   arrived [] fair good b n k nq kq busy room ev = absurd ev
   arrived (x ∷ xs) fair good b n k nq kq busy room (inr ev) =
-      go (moved (K .s) c w (x .step)) (λ u v z. arrived xs (past K x xs fair) good b n k u v z (roomy-down k x xs room) ev)
+      go (moved (K .s) c x xs) (λ u v z. arrived xs (past K x xs fair) good b n k u v z (roomy-down k x xs room) ev)
       (too-early xs (past K x xs fair) good n k b ev)
     where
-      w : World
-      w = now (K .s) xs
-
       cl' : Client
-      cl' = perform (K .s) w (x .step) .world .client c
+      cl' = cli K (x ∷ xs) c
 
-      go : Moved (K .s) c w (x .step) cl' (result K x xs) →
+      go : MovedAt (K .s) c x xs →
           (n ≡ calls K xs c → k ≡ awaits (hand K xs c) → isIdle (hand K xs c) ≡ false → replied K xs c b ≡ true) →
           16 * n + k ≤ pos (cli K xs c) → cl' .marks b ≡ true
       go (kept e _) f low = subst (λ (z : Client). z .marks b ≡ true) (sym e)
@@ -157,13 +153,10 @@ module _ (K : Setup) (c : ℕ) where
           (update-grown (K .s) c (cli K xs c) (p .head .server) (p .body) _ (hand K xs c) (fit .busy)
           (sq ∙ ap (λ (y : Client). stage (y .hand)) e) .0 b
           (f (nq ∙ cq) (omega (arith, kq, sq, stage-awaits (cl' .hand) busy, stage-awaits (hand K xs c) (fit .busy))) (fit .busy)))
-  arrived (x ∷ xs) fair good b n k nq kq busy room (inl a) = go (moved (K .s) c w (x .step))
+  arrived (x ∷ xs) fair good b n k nq kq busy room (inl a) = go (moved (K .s) c x xs)
     where
-      w : World
-      w = now (K .s) xs
-
       cl' : Client
-      cl' = perform (K .s) w (x .step) .world .client c
+      cl' = cli K (x ∷ xs) c
 
       p : Packet
       p = a .packet
@@ -202,13 +195,12 @@ module _ (K : Setup) (c : ℕ) where
           let ev = heard K c xs (past K x xs fair) p good (a .client) call busy' kind made-by in
           let room' : Roomy (awaits (hand K xs c)) xs = subst (λ (i : ℕ). Roomy i xs) (kq ∙ ap awaits hq) (roomy-down k x xs room) in
           let same-t : p .head .t ≡ K .s .config .t = told-t in let rg = K .parties .clients c good in
-          let res : result K x xs ≡ onRefusal (code (K .s) c (cli K xs c) p (length (a .output))) (turn (K .s) c (cli K xs c) p)
-          (record { client = cli K xs c; result = refused (code (K .s) c (cli K xs c) p (length (a .output))) }) .result =
-          ap (λ (y : Step). perform (K .s) w y .result) (a .step) ∙ result-is (K .s) c w (a .lent) (a .reply) (a .output) p (a .decoded) in
+          let res = result-is (K .s) c x xs (a .lent) (a .reply) (a .output) p (a .step) (a .decoded) in
           code-cases (code (K .s) c (cli K xs c) p (length (a .output))) (replied K xs c (p .head .server))
           (highAt (K .s .P) (K .s .config) c (K .s .writers) (K .s .keys) (cli K xs c) (p .head .server) (p .body))
           (ltb (length (a .output)) contentRoom)
-          (code-is (K .s) c (cli K xs c) p (length (a .output)) good-faults (within-in 1 topClient c (rg .0) (rg .1)) same-t (a .client) busy' call kind)
+          (code-is (K .s) c (cli K xs c) p (length (a .output)) good-faults (within-in 1 topClient c (rg .0) (rg .1)) same-t (a .client)
+          busy' call kind)
           (λ u. subst (λ (z : Client). z .marks b ≡ true) (sym e) (subst (λ (i : ℕ). replied K xs c i ≡ true) (a .server) u))
           (λ u. absurd (not-high xs (past K x xs fair) (p .head .server) (p .body)
           (isFull (K .s .config) (upd (replied K xs c) (p .head .server) true)) (hand K xs c) refl room' ev u))
@@ -229,7 +221,7 @@ module _ (K : Setup) (c : ℕ) where
               (λ (i : ℕ). onRefusal i (turn (K .s) c (cli K xs c) p) (record { client = cli K xs c; result = refused i }) .result) z)
               ∙ turn-turned (K .s) c (cli K xs c) p .fine
 
-      go : Moved (K .s) c w (x .step) cl' (result K x xs) → cl' .marks b ≡ true
+      go : MovedAt (K .s) c x xs → cl' .marks b ≡ true
       go (kept e f) = turned-down e (f (ap (acting c) (a .step) ∙ eq-eqb c c refl))
       go (wbegan r m s z i l e) = absurd (let s' = sym s ∙ a .step in let y : _≡_ {A = ℕ} 0 1 = cc in omega arith)
       go (rbegan s z i e) = absurd (let s' = sym s ∙ a .step in let y : _≡_ {A = ℕ} 0 1 = cc in omega arith)

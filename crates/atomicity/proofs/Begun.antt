@@ -11,16 +11,19 @@ use Rattle.cluster.specs.Config.{Config}
 use Rattle.cluster.specs.Ranges.{within, leastLength, topLength}
 use Rattle.protocol.specs.Format.{Bytes}
 use Rattle.protocol.specs.Packet.{decode}
-use Rattle.protocol.specs.Client.{Client, Hand, Result, Turn, isIdle, writeRefusal, writeStep, idle, clocking, storing, completing, collecting, filtering, repairing, begun, onto, prepared, candidateMade, shareMade, sharesMade, stampOf, accepted}
+use Rattle.protocol.specs.Client.{Client, Hand, Result, Turn, isIdle, writeRefusal, writeStep, idle, clocking, storing, completing, collecting}
+use Rattle.protocol.specs.Client.{filtering, repairing, begun, onto, prepared, candidateMade, shareMade, sharesMade, stampOf, accepted}
 use Rattle.protocol.specs.Runs.{Step, write, take-reply, Fed}
-use Rattle.protocol.proofs.ValueRuns.{World, nowValues, doValues, setClient}
+use Rattle.protocol.proofs.ValueRuns.{nowValues, doValues, setClient}
 use Rattle.protocol.proofs.Fine.{at-refusal}
 use Rattle.atomicity.specs.Lists.{Ever, In, flat}
-use Rattle.atomicity.specs.Steps.{StepIn, System, Stamped, stampedFrom, stampedBy, stampedAt, digestsWith, digestedBy, digested, compared, allDigested, ofPacket}
+use Rattle.atomicity.specs.Steps.{StepIn, System, Stamped, stampedFrom, stampedBy, stampedAt, digestsWith, digestedBy, digested, compared}
+use Rattle.atomicity.specs.Steps.{allDigested, ofPacket}
 use Rattle.atomicity.proofs.Util.{clash, left-in, right-in, split-in, flat-in, ever-out}
-use Rattle.atomicity.proofs.Model.{Run, perform, now, account, marks, stampFor, candidateFor, sharesFor}
-use Rattle.atomicity.proofs.Moves.{write-passed, Moved, kept, wbegan, rbegan, quit, took, moved}
-use Rattle.atomicity.proofs.Rounds.{Next, stays, clock-on, clock-ends, store-ends, collect-on, collect-ends, filter-on, filter-ends, over, turn-turned}
+use Rattle.atomicity.proofs.Model.{Run, perform, now, account, clientAt, handAt, lastAt, resultAt, marks, stampFor, candidateFor, sharesFor}
+use Rattle.atomicity.proofs.Moves.{write-passed, MovedAt, kept, wbegan, rbegan, quit, took, moved}
+use Rattle.atomicity.proofs.Rounds.{Next, stays, clock-on, clock-ends, store-ends, collect-on, collect-ends, filter-on, filter-ends, over}
+use Rattle.atomicity.proofs.Rounds.{turn-turned}
 use Rattle.atomicity.proofs.Marks.{Marked, mark-source, marks-up}
 
 -- an accepted write's length is in its range
@@ -33,7 +36,7 @@ write-length s c cl r n = at-refusal (λ (u : Turn). accepted (u .result) ≡ tr
 module _ (s : System) where
   -- the write was begun
   abbrev pub Opening : ℕ → List ℕ → List ℕ → StepIn s → Run s → Type 0
-  Opening c r n x xs = (x .step ≡ write c r n) × (accepted (perform s (now s xs) (x .step) .result) ≡ true)
+  Opening c r n x xs = (x .step ≡ write c r n) × (accepted (resultAt s x xs) ≡ true)
 
   -- what is known of a writing hand
   unfoldable pub Known : Run s → ℕ → Hand → Type 0
@@ -69,32 +72,25 @@ module _ (s : System) where
   known-next x xs c h l h' l' (filter-ends cs g d r _) new f = tt
   known-next x xs c h l h' l' (over _ _) new f = tt
 
-  pub known : (xs : Run s) (c : ℕ) → Known xs c (now s xs .client c .hand)
+  pub known : (xs : Run s) (c : ℕ) → Known xs c (handAt s xs c)
   unfolding nowValues Known begun onto Ever stampedBy marks
   known [] c = tt
-  known (x ∷ xs) c = go (moved s c (now s xs) (x .step)) (known xs c)
+  known (x ∷ xs) c = go (moved s c x xs) (known xs c)
     where
-      w : World
-      w = now s xs
-
-      cl' : Client
-      cl' = perform s w (x .step) .world .client c
-
-      to : {cl : Client} → cl' ≡ cl → Known (x ∷ xs) c (cl .hand) → Known (x ∷ xs) c (cl' .hand)
+      to : {cl : Client} → clientAt s (x ∷ xs) c ≡ cl → Known (x ∷ xs) c (cl .hand) → Known (x ∷ xs) c (handAt s (x ∷ xs) c)
       to e k = subst (λ (z : Client). Known (x ∷ xs) c (z .hand)) (sym e) k
 
-      go : Moved s c w (x .step) cl' (perform s w (x .step) .result) → Known xs c (w .client c .hand) → Known (x ∷ xs) c (cl' .hand)
-      go (kept e _) f = to e (known-up x xs c (w .client c .hand) f)
+      go : MovedAt s c x xs → Known xs c (handAt s xs c) → Known (x ∷ xs) c (handAt s (x ∷ xs) c)
+      go (kept e _) f = to e (known-up x xs c (handAt s xs c) f)
       go (wbegan r n a b d l e) f = to e (inl (a, subst (λ (z : Result). accepted z ≡ true) (sym b) refl))
       go (rbegan a b d e) f = to e tt
       go (quit a b d e) f = to e tt
-      go (took p lent b o a d g e r) f = known-next x xs c (w .client c .hand) (w .client c .last) (cl' .hand) (cl' .last)
-          (subst (λ (z : Client). Next s c (w .client c .hand) (w .client c .last) (z .hand) (z .last)) (sym e)
-          (turn-turned s c (w .client c) p .next))
-          (λ m i. new m (subst (λ (y : Step). In m (stampedBy (w .client) (perform s w (x .step) .world .client) y)) (sym a) (here m i))) f
+      go (took p lent b o a d g e r) f = known-next x xs c (handAt s xs c) (lastAt s xs c) (handAt s (x ∷ xs) c) (lastAt s (x ∷ xs) c)
+          (subst (λ (z : Client). Next s c (handAt s xs c) (lastAt s xs c) (z .hand) (z .last)) (sym e) (turn-turned s c (clientAt s xs c) p .next))
+          (λ m i. new m (subst (λ (y : Step). In m (stampedBy (clientAt s xs) (clientAt s (x ∷ xs)) y)) (sym a) (here m i))) f
         where
-          here : (m : Stamped) → In m (stampedFrom c (w .client c .hand) (cl' .hand)) →
-              In m (stampedBy (w .client) (perform s w (x .step) .world .client) (take-reply c lent b o))
+          here : (m : Stamped) → In m (stampedFrom c (handAt s xs c) (handAt s (x ∷ xs) c)) →
+              In m (stampedBy (clientAt s xs) (clientAt s (x ∷ xs)) (take-reply c lent b o))
           here m i = i
 
           new : (m : Stamped) → In m (stampedAt s (account s) x xs) → In m (marks s (x ∷ xs))
@@ -102,30 +98,31 @@ module _ (s : System) where
 
   -- a mark's write was begun, with its content and nonce
   pub opened : (xs : Run s) (m : Stamped) → In m (marks s xs) → Ever (Opening (m .client) (m .content) (m .nonce)) xs
-  unfolding marks In Ever Known nowValues
+  unfolding marks In Ever Known
   opened [] m i = absurd i
   opened (x ∷ xs) m i = go (split-in m (stampedAt s (account s) x xs) (marks s xs) i) (λ k. opened xs m k)
     where
       go : In m (stampedAt s (account s) x xs) ⊎ In m (marks s xs) → (In m (marks s xs) → Ever (Opening (m .client) (m .content) (m .nonce)) xs) →
           Opening (m .client) (m .content) (m .nonce) x xs ⊎ Ever (Opening (m .client) (m .content) (m .nonce)) xs
-      go (inl k) f = inr (subst (Known xs (m .client)) (mark-source s (now s xs) (x .step) m k .was) (known xs (m .client)))
+      go (inl k) f = inr (subst (Known xs (m .client)) (mark-source s x xs m k .was) (known xs (m .client)))
       go (inr k) f = inr (f k)
 
   -- so its content is of bytes
   pub mark-bytes : (xs : Run s) (m : Stamped) → In m (marks s xs) → Bytes (m .content)
   mark-bytes xs m i = ever-out (Opening (m .client) (m .content) (m .nonce)) xs
-      (λ y ys o. subst (λ (st : Step). Fed (s .config) (s .writers) (s .keys) st → Bytes (m .content)) (sym (o .0)) (λ f. f .0) (y .fed)) (opened xs m i)
+      (λ y ys o. subst (λ (st : Step). Fed (s .config) (s .writers) (s .keys) st → Bytes (m .content)) (sym (o .0)) (λ f. f .0) (y .fed))
+      (opened xs m i)
 
   -- and its length is in its range: any other is refused
   pub mark-length : (xs : Run s) (m : Stamped) → In m (marks s xs) → within leastLength topLength (length (m .content)) ≡ true
   unfolding doValues setClient
   mark-length xs m i = ever-out (Opening (m .client) (m .content) (m .nonce)) xs
-      (λ y ys o. write-length (s .config) (m .client) (now s ys .client (m .client)) (m .content) (m .nonce)
+      (λ y ys o. write-length (s .config) (m .client) (clientAt s ys (m .client)) (m .content) (m .nonce)
       (subst (λ (st : Step). accepted (perform s (now s ys) st .result) ≡ true) (o .0) (o .1))) (opened xs m i)
 
   -- what a mark digests is among the inputs digested
   pub mark-digested : (xs : Run s) (m : Stamped) (u : List ℕ) → In m (marks s xs) → In u (digestsWith s m) → In u (allDigested s (account s) xs)
-  unfolding marks In allDigested nowValues digestedBy
+  unfolding marks In allDigested digestedBy
   mark-digested [] m u i d = absurd i
   mark-digested (x ∷ xs) m u i d = go (split-in m (stampedAt s (account s) x xs) (marks s xs) i) (λ k. mark-digested xs m u k d)
     where
@@ -133,13 +130,15 @@ module _ (s : System) where
           In u (digested s (account s) x xs ++ allDigested s (account s) xs)
       go (inr k) f = right-in u (digested s (account s) x xs) (allDigested s (account s) xs) (f k)
       go (inl k) f = left-in u (digested s (account s) x xs) (allDigested s (account s) xs)
-          (subst (λ (b : Bool). In u (cond b (digestedBy s (account s .client xs) (account s .server xs) (stampedAt s (account s) x xs) (x .step)) [])) (sym (t .fine))
-          (subst (λ (y : Step). In u (digestedBy s (account s .client xs) (account s .server xs) (stampedAt s (account s) x xs) y)) (sym (t .step))
-          (here (flat-in (digestsWith s) (stampedAt s (account s) x xs) m u k d))))
+          (subst (λ (b : Bool). In u (cond b (by (x .step)) [])) (sym (t .fine))
+          (subst (λ (y : Step). In u (by y)) (sym (t .step)) (here (flat-in (digestsWith s) (stampedAt s (account s) x xs) m u k d))))
         where
-          t : Marked s (now s xs) (x .step) m
-          t = mark-source s (now s xs) (x .step) m k
+          t : Marked s x xs m
+          t = mark-source s x xs m k
 
-          here : In u (flat (digestsWith s) (stampedAt s (account s) x xs)) →
-              In u (digestedBy s (account s .client xs) (account s .server xs) (stampedAt s (account s) x xs) (take-reply (m .client) (t .lent) (t .packet) (t .output)))
-          here j = left-in u (flat (digestsWith s) (stampedAt s (account s) x xs)) (ofPacket (compared s (account s .client xs (m .client)) (account s .client xs (m .client) .hand)) (decode (t .packet))) j
+          by : Step → List (List ℕ)
+          by = digestedBy s (clientAt s xs) (account s .server xs) (stampedAt s (account s) x xs)
+
+          here : In u (flat (digestsWith s) (stampedAt s (account s) x xs)) → In u (by (take-reply (m .client) (t .lent) (t .packet) (t .output)))
+          here j = left-in u (flat (digestsWith s) (stampedAt s (account s) x xs))
+              (ofPacket (compared s (clientAt s xs (m .client)) (handAt s xs (m .client))) (decode (t .packet))) j

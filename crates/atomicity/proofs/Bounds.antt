@@ -8,21 +8,21 @@ use mathlib.Core.Logic.{_⊎_, inl, inr}
 use Prim.Native.Nat.{ℕ, suc, _+_, _≤_}
 use native.Mathlib.Omega.{arith}
 use lib.ListN.{length, length-append, length-map}
+use Rattle.protocol.specs.Values.{isSome}
 use Rattle.protocol.specs.Rules.{keep}
 use Rattle.protocol.specs.Client.{Client, accepted}
 use Rattle.protocol.specs.Runs.{Step, write, read, make, take-reply, give-up, serve}
-use Rattle.protocol.proofs.ValueRuns.{nowValues}
 use Rattle.atomicity.specs.Lists.{Ever, In, AllPairs}
 use Rattle.atomicity.specs.Steps.{Stamped, stampedFrom, stampedBy, stampedAt}
 use Rattle.atomicity.specs.Premises.{Begins}
-use Rattle.atomicity.specs.Claim.{Logged, given, log, begunWrites}
+use Rattle.atomicity.specs.Claim.{Logged, log, begunWrites}
 use Rattle.atomicity.proofs.Util.{left-in, right-in, map-in, all-of}
-use Rattle.atomicity.proofs.Model.{perform, now, account, marks}
-use Rattle.atomicity.proofs.Setup.{Setup, Steps, StepOf, Fair, Begin, calls}
+use Rattle.atomicity.proofs.Model.{account, marks}
+use Rattle.atomicity.proofs.Setup.{Setup, Steps, StepOf, Fair, Begin, calls, cli, result}
 use Rattle.atomicity.proofs.Marks.{From, from-one, mark-source}
 use Rattle.atomicity.proofs.Rising.{above}
 use Rattle.atomicity.proofs.Nonces.{begins, by-nonce}
-use Rattle.atomicity.proofs.Shape.{Log, result, touched, news, entered, note-shape}
+use Rattle.atomicity.proofs.Shape.{Log, touched, news, entered, note-shape}
 use Rattle.atomicity.proofs.Logs.{Signed}
 use Rattle.atomicity.proofs.Story.{past, story, story-log, stepSigned, step-keeps}
 use Rattle.atomicity.proofs.Listed.{pigeon, map-apart}
@@ -47,9 +47,9 @@ module _ (K : Setup) where
   -- ---- marks are no more than the writes begun
 
   marks-apart : (xs : Steps K) → Fair K xs → AllPairs (λ (a b : Stamped). a .nonce ≡ b .nonce → ⊥) (marks (K .s) xs)
-  unfolding marks AllPairs nowValues In
+  unfolding marks AllPairs In
   marks-apart [] fair = tt
-  marks-apart (x ∷ xs) fair = go (by-one (now (K .s) xs .client) (perform (K .s) (now (K .s) xs) (x .step) .world .client) (x .step))
+  marks-apart (x ∷ xs) fair = go (by-one (cli K xs) (cli K (x ∷ xs)) (x .step))
       (marks-apart xs (past K x xs fair))
     where
       A : List Stamped
@@ -64,7 +64,7 @@ module _ (K : Setup) where
             let q : m .0 ≡ b = by-nonce K (x ∷ xs) fair (m .0) b (left-in (m .0) A (marks (K .s) xs) here) (right-in b A (marks (K .s) xs) i) e in
             omega (
               arith,
-              above (K .s) x xs (m .0) b (ap (λ (z : Stamped). z .client) q) (mark-source (K .s) (now (K .s) xs) (x .step) (m .0) here) i,
+              above (K .s) x xs (m .0) b (ap (λ (z : Stamped). z .client) q) (mark-source (K .s) x xs (m .0) here) i,
               ap (λ (z : Stamped). z .stamp .number) q,
             )),
         h,
@@ -94,7 +94,7 @@ module _ (K : Setup) where
   begun-nonce (x ∷ xs) c n (inr h) = right-in n (begunNonce x xs (x .step)) (nonces xs) (begun-nonce xs c n h)
 
   abbrev isWrite : Logged → Bool
-  isWrite c = given (c .wrote)
+  isWrite c = isSome (c .wrote)
 
   keep-append : (p : Logged → Bool) (us vs : List Logged) → length (keep p (us ++ vs)) ≡ length (keep p us) + length (keep p vs)
   unfolding keep
@@ -125,10 +125,10 @@ module _ (K : Setup) where
       two false u v e = e
 
       go : touched K x xs (x .step) (g .call) .wrote ≡ g .call .wrote → length (keep isWrite T) ≡ length (keep isWrite C) →
-          length (cond (given (touched K x xs (x .step) (g .call) .wrote)) (touched K x xs (x .step) (g .call) ∷ keep isWrite T)
-          (keep isWrite T)) ≡ length (cond (given (g .call .wrote)) (g .call ∷ keep isWrite C) (keep isWrite C))
-      go q e = ap (λ (o : Option (List ℕ)). length (cond (given o) (touched K x xs (x .step) (g .call) ∷ keep isWrite T) (keep isWrite T))) q
-          ∙ two (given (g .call .wrote)) (touched K x xs (x .step) (g .call)) (g .call) e
+          length (cond (isSome (touched K x xs (x .step) (g .call) .wrote)) (touched K x xs (x .step) (g .call) ∷ keep isWrite T)
+          (keep isWrite T)) ≡ length (cond (isSome (g .call .wrote)) (g .call ∷ keep isWrite C) (keep isWrite C))
+      go q e = ap (λ (o : Option (List ℕ)). length (cond (isSome o) (touched K x xs (x .step) (g .call) ∷ keep isWrite T) (keep isWrite T))) q
+          ∙ two (isSome (g .call .wrote)) (touched K x xs (x .step) (g .call)) (g .call) e
 
   new-writes : (x : StepOf K) (xs : Steps K) (st : Step) → length (begunNonce x xs st) ≡ length (keep isWrite (news K x xs st))
   unfolding begunNonce news keep entered

@@ -11,19 +11,18 @@ use native.Mathlib.Omega.{arith}
 use lib.Dec.{eqb}
 use lib.ListN.{length}
 use Rattle.protocol.specs.declared.Stamp.{Stamp}
-use Rattle.protocol.specs.Values.{Candidate, below, blankStamp}
+use Rattle.protocol.specs.Values.{Candidate, below, blankStamp, isSome}
 use Rattle.protocol.specs.Packet.{Packet, decode}
 use Rattle.protocol.specs.Client.{Client, Hand, Result, idle, clocking, storing, completing, collecting, filtering, repairing, begun, onto, accepted}
 use Rattle.protocol.specs.Runs.{Lent, take-reply}
-use Rattle.protocol.proofs.ValueRuns.{nowValues}
 use Rattle.protocol.proofs.Answers.{at-cond}
 use Rattle.atomicity.specs.Lists.{Ever, In}
 use Rattle.atomicity.specs.Steps.{Stamped, stampedAt}
-use Rattle.atomicity.specs.Claim.{Logged, given}
+use Rattle.atomicity.specs.Claim.{Logged}
 use Rattle.atomicity.proofs.Util.{left-in, right-in}
-use Rattle.atomicity.proofs.Model.{perform, now, account, marks}
-use Rattle.atomicity.proofs.Setup.{Setup, Steps, StepOf, hand, calls, cli, Show}
-use Rattle.atomicity.proofs.Moves.{Moved, kept, wbegan, rbegan, quit, took, moved}
+use Rattle.atomicity.proofs.Model.{account, marks}
+use Rattle.atomicity.proofs.Setup.{Setup, Steps, StepOf, hand, calls, cli, Show, result}
+use Rattle.atomicity.proofs.Moves.{kept, wbegan, rbegan, quit, took, moved, MovedAt}
 use Rattle.atomicity.proofs.Rounds.{turn-turned}
 use Rattle.atomicity.proofs.Positions.{since, since-same}
 use Rattle.atomicity.proofs.Genuine.{Revealed, revealed-up}
@@ -96,9 +95,9 @@ module _ (K : Setup) where
     pub begun-lt : a .begun < length xs
     pub number-le : a .number ≤ calls K xs (a .client)
     pub ended : (e : ℕ) → a .over ≡ some e → (a .begun < e) × (e < length xs) × Ends K σ e xs
-    pub write : (v : List ℕ) → a .wrote ≡ some v → given (a .reached) ≡ true → Written xs (a .begun) v σ
+    pub write : (v : List ℕ) → a .wrote ≡ some v → isSome (a .reached) ≡ true → Written xs (a .begun) v σ
     pub read : (e : ℕ) → a .wrote ≡ none → a .over ≡ some e → Read xs a e σ
-    pub reaches : (v : List ℕ) (e : ℕ) → a .wrote ≡ some v → a .over ≡ some e → given (a .reached) ≡ true
+    pub reaches : (v : List ℕ) (e : ℕ) → a .wrote ≡ some v → a .over ≡ some e → isSome (a .reached) ≡ true
     pub reach-lt : (k : ℕ) → a .reached ≡ some k → k < length xs
     pub leaves : a .gaveUp ≡ true → a .over ≡ none
 
@@ -120,7 +119,7 @@ module _ (K : Setup) where
   Cur xs a σ idle = Unit {0}
   Cur xs a σ (clocking r n k) = Open xs a × (a .wrote ≡ some r)
   Cur xs a σ (storing d g) = Open xs a × Writing xs a σ d
-  Cur xs a σ (completing d) = Writing xs a σ d × (a .over ≡ none) × (a .gaveUp ≡ false) × (given (a .reached) ≡ true)
+  Cur xs a σ (completing d) = Writing xs a σ d × (a .over ≡ none) × (a .gaveUp ≡ false) × (isSome (a .reached) ≡ true)
   Cur xs a σ (collecting g) = Open xs a × (a .wrote ≡ none)
   Cur xs a σ (filtering cs g) = Open xs a × (a .wrote ≡ none)
   Cur xs a σ (repairing d r) = Open xs a × (a .wrote ≡ none)
@@ -192,7 +191,7 @@ module _ (K : Setup) where
     pub number : b .number ≡ a .number
     pub begun : b .begun ≡ a .begun
     pub wrote : b .wrote ≡ a .wrote
-    pub reached : given (a .reached) ≡ true → (b .reached ≡ a .reached) × (τ ≡ σ)
+    pub reached : isSome (a .reached) ≡ true → (b .reached ≡ a .reached) × (τ ≡ σ)
 
   pub keeps-refl : (a : Logged) (σ : Stamp) → Keeps a σ a σ
   keeps-refl a σ = record { client = refl; number = refl; begun = refl; wrote = refl; reached = λ e. (refl, refl) }
@@ -200,15 +199,15 @@ module _ (K : Setup) where
   -- a call that takes no reply in this step
   pub carry : (x : StepOf K) (xs : Steps K) (a : Logged) (σ : Stamp) → CallOk xs a σ →
       ((p : Packet) (lent : Lent) (b o : List ℕ) → x .step ≡ take-reply (a .client) lent b o → decode b ≡ some p →
-      accepted (perform (K .s) (now (K .s) xs) (x .step) .result) ≡ true → a .number ≡ calls K xs (a .client) → ⊥) →
+      accepted (result K x xs) ≡ true → a .number ≡ calls K xs (a .client) → ⊥) →
       CallOk (x ∷ xs) a σ
-  unfolding nowValues Cur begun onto
-  carry x xs a σ h f = go (moved (K .s) (a .client) (now (K .s) xs) (x .step))
+  unfolding Cur begun onto
+  carry x xs a σ h f = go (moved (K .s) (a .client) x xs)
     where
       cl' : Client
-      cl' = perform (K .s) (now (K .s) xs) (x .step) .world .client (a .client)
+      cl' = cli K (x ∷ xs) (a .client)
 
-      go : Moved (K .s) (a .client) (now (K .s) xs) (x .step) cl' (perform (K .s) (now (K .s) xs) (x .step) .result) → CallOk (x ∷ xs) a σ
+      go : MovedAt (K .s) (a .client) x xs → CallOk (x ∷ xs) a σ
       go (kept e _) = let q : calls K xs (a .client) ≡ cl' .calls = sym (ap (λ (z : Client). z .calls) e) in
           record {
             base = base-up x xs a σ (omega (arith, q)) (h .base);

@@ -15,7 +15,8 @@ use Rattle.cluster.specs.Config.{upTo}
 use Rattle.erasure.specs.Fragments.{Part}
 use Rattle.protocol.specs.declared.Stamp.{Stamp}
 use Rattle.protocol.specs.Values.{Candidate, Share, Held, below, blankStamp, blankCandidate, nth, digestSize, runOf}
-use Rattle.protocol.specs.Rules.{ByServer, any, first, countTo, lower, live, fits, agrees, leads, leader, proven, highest, choice, parts, restoredBy, tagsIn}
+use Rattle.protocol.specs.Rules.{ByServer, any, first, countTo, lower, live, fits, agrees, leads, leader, proven, highest, choice, parts, restoredBy}
+use Rattle.protocol.specs.Rules.{tagsIn}
 use Rattle.atomicity.specs.Lists.{In}
 use Rattle.atomicity.specs.Steps.{digestsWith, proving, allDigested}
 use Rattle.atomicity.proofs.Util.{bool-case, clash, and-left, and-right, in-keep, keep-in, none-in, in-map}

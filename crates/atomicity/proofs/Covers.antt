@@ -13,15 +13,15 @@ use Rattle.protocol.specs.Packet.{store, filter}
 use Rattle.protocol.specs.Memory.{held}
 use Rattle.protocol.specs.Server.{Server, hasDigest, valid, byHistory, act}
 use Rattle.protocol.specs.Client.{codeIn, heldIn}
-use Rattle.protocol.proofs.ValueRuns.{nowValues}
 use Rattle.atomicity.specs.Lists.{In}
 use Rattle.atomicity.specs.Steps.{Stamped}
-use Rattle.atomicity.proofs.Util.{or-left}
+use Rattle.atomicity.proofs.Util.{or-left, is-some}
 use Rattle.atomicity.proofs.Stamps.{same-is}
-use Rattle.atomicity.proofs.Model.{now, acts, marks, isValid}
+use Rattle.atomicity.proofs.Model.{acts, marks, isValid}
 use Rattle.atomicity.proofs.Setup.{Setup, Steps, StepOf, Fair, srv, hist}
 use Rattle.atomicity.proofs.Rising.{by-stamp}
-use Rattle.atomicity.proofs.Servers.{held-some, is-some, in-held, history-keeps, store-held, best-max}
+use Rattle.atomicity.proofs.Best.{best-max}
+use Rattle.atomicity.proofs.Servers.{held-some, in-held, history-keeps, store-held}
 use Rattle.atomicity.proofs.Histories.{history}
 
 module _ (K : Setup) where
@@ -35,9 +35,9 @@ module _ (K : Setup) where
 
   -- it stays covered
   pub covers-up : (x : StepOf K) (xs : Steps K) (j : ℕ) (a : Stamp) → Covers xs j a ≡ true → Covers (x ∷ xs) j a ≡ true
-  unfolding Covers nowValues
+  unfolding Covers
   covers-up x xs j a h = let f = is-some (held a (hist K xs j)) h in let e = held-some a (f .0) (hist K xs j) (f .1) in
-      in-held a (hist K (x ∷ xs) j) (e .0) (history-keeps (K .s) (now (K .s) xs) j (x .step) (e .0) (e .1)) (e .2)
+      in-held a (hist K (x ∷ xs) j) (e .0) (history-keeps (K .s) x xs j (e .0) (e .1)) (e .2)
 
   -- what is acknowledged is covered
   pub covers-stored : (j : ℕ) (w : Write) (y : StepOf K) (ys : Steps K) → srv K (y ∷ ys) j ≡ acts (K .s) j (srv K ys j) (store w) .server →

@@ -8,11 +8,12 @@ use Prim.Native.Nat.{ℕ, _<_}
 use native.Mathlib.Omega.{arith}
 use lib.ListN.{length}
 use Rattle.protocol.specs.declared.Stamp.{Stamp}
+use Rattle.protocol.specs.Values.{isSome}
 use Rattle.protocol.specs.Client.{Client, Hand, Turn, more, inComplete}
 use mathlib.Core.Option.{Option, none, some}
 use Rattle.atomicity.specs.Lists.{In}
 use Rattle.atomicity.specs.Steps.{Stamped, stampedFrom}
-use Rattle.atomicity.specs.Claim.{Logged, follow, reach, earliest, given}
+use Rattle.atomicity.specs.Claim.{Logged, follow, reach, earliest}
 use Rattle.atomicity.proofs.Util.{clash}
 use Rattle.atomicity.proofs.Setup.{Setup, Steps, StepOf, calls}
 use Rattle.atomicity.proofs.Positions.{since}
@@ -27,7 +28,7 @@ unreach (some k) b n e = refl
 unreach none true n e = clash refl e
 unreach none false n e = refl
 
-pub is-reached : (r : Option ℕ) (b : Bool) (n : ℕ) → given r ≡ true → earliest r b n ≡ r
+pub is-reached : (r : Option ℕ) (b : Bool) (n : ℕ) → isSome r ≡ true → earliest r b n ≡ r
 is-reached (some k) b n e = refl
 is-reached none b n e = clash e refl
 

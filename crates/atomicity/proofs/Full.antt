@@ -14,7 +14,8 @@ use Rattle.cluster.specs.Ranges.{capacity}
 use Rattle.protocol.specs.declared.Stamp.{Stamp}
 use Rattle.protocol.specs.Values.{Candidate, Share, Write, below, isSome, blankCandidate}
 use Rattle.protocol.specs.Packet.{Body}
-use Rattle.protocol.specs.Packet.{clock, clockReply, store, storeReply, complete, completeReply, collect, collectReply, filter, filterReply, repair, repairReply}
+use Rattle.protocol.specs.Packet.{clock, clockReply, store, storeReply, complete, completeReply, collect, collectReply, filter, filterReply, repair}
+use Rattle.protocol.specs.Packet.{repairReply}
 use Rattle.protocol.specs.Memory.{held}
 use Rattle.protocol.specs.Rules.{ByServer}
 use Rattle.protocol.specs.Server.{Server, Acted, raise, kept, act}
@@ -24,9 +25,9 @@ use Rattle.protocol.proofs.Answers.{at-cond}
 use Rattle.atomicity.specs.Lists.{Ever, In, AllPairs}
 use Rattle.atomicity.specs.Steps.{System, Stamped}
 use Rattle.atomicity.proofs.Util.{cond-both, clash, rise, ever-map, all-of, in-map, map-in}
-use Rattle.atomicity.proofs.Model.{perform, now, acts, marks, isValid, bestOf}
+use Rattle.atomicity.proofs.Model.{acts, marks, isValid, bestOf}
 use Rattle.atomicity.proofs.Setup.{Setup, Steps, Fair, hand, hist, srv}
-use Rattle.atomicity.proofs.Serving.{Served, same, acted, served}
+use Rattle.atomicity.proofs.Serving.{same, acted, served, ServedAt}
 use Rattle.atomicity.proofs.Marks.{marks-up}
 use Rattle.atomicity.proofs.Begun.{Known, known}
 use Rattle.atomicity.proofs.Servers.{in-held}
@@ -81,10 +82,10 @@ module _ (K : Setup) where
   history-apart : (xs : Steps K) (j : ℕ) → AllPairs (λ (a b : Write). a .stamp ≡ b .stamp → ⊥) (hist K xs j)
   unfolding nowValues AllPairs Apart
   history-apart [] j = tt
-  history-apart (x ∷ xs) j = go (served (K .s) (now (K .s) xs) j (x .step)) (history-apart xs j)
+  history-apart (x ∷ xs) j = go (served (K .s) j x xs) (history-apart xs j)
     where
-      go : Served (K .s) j (now (K .s) xs) (x .step) (perform (K .s) (now (K .s) xs) (x .step) .world .server j) → Apart (srv K xs j) →
-          Apart (perform (K .s) (now (K .s) xs) (x .step) .world .server j)
+      go : ServedAt (K .s) j x xs → Apart (srv K xs j) →
+          Apart (srv K (x ∷ xs) j)
       go (same e) h = subst Apart (sym e) h
       go (acted p a b c d e) h = subst Apart (sym e) (act-apart (K .s) j (srv K xs j) (p .body) h)
 

@@ -15,18 +15,20 @@ use Rattle.protocol.specs.Primitives.{candidateMessage}
 use Rattle.protocol.specs.Server.{Server, blankServer, valid, barred}
 use Rattle.protocol.specs.Client.{made, accepted}
 use Rattle.protocol.specs.Runs.{Step, serve}
-use Rattle.protocol.proofs.ValueRuns.{World, nowValues}
+use Rattle.protocol.proofs.ValueRuns.{nowValues}
 use Rattle.atomicity.specs.Lists.{Ever, Always, All, In, flat}
-use Rattle.atomicity.specs.Steps.{Stamped, packetIn, makes, serves, offered, isComplete, judged, ofPacket, stampedAt, digestsWith, tagsMade, tagsChecked, checkedBy, serverChecks, digested, digestedBy, allDigested, noncesGot, noncesBy}
+use Rattle.atomicity.specs.Steps.{Stamped, packetIn, makes, serves, offered, isComplete, judged, ofPacket, stampedAt, digestsWith, tagsMade}
+use Rattle.atomicity.specs.Steps.{tagsChecked, checkedBy, serverChecks, digested, digestedBy, allDigested, noncesGot, noncesBy}
 use Rattle.atomicity.specs.Premises.{NoForgery, NoCollision, NoEarlyNonce, Shows}
 use Rattle.atomicity.proofs.Util.{right-in, flat-in, in-map, all-in, ever-map, within-in}
-use Rattle.atomicity.proofs.Model.{perform, now, account, marks, vouched, tagged, isValid}
-use Rattle.atomicity.proofs.Setup.{Setup, Steps, StepOf, Meets, Fair, Begin, Show, right-range, hand, srv}
-use Rattle.atomicity.proofs.Serving.{Served, same, acted, served, making}
+use Rattle.atomicity.proofs.Model.{account, marks, vouched, tagged, isValid}
+use Rattle.atomicity.proofs.Setup.{Setup, Steps, StepOf, Meets, Fair, Begin, Show, right-range, hand, srv, result}
+use Rattle.atomicity.proofs.Serving.{same, acted, served, making, ServedAt}
 use Rattle.atomicity.proofs.Marks.{marks-up}
 use Rattle.atomicity.proofs.Begun.{Known, known, mark-digested}
 use Rattle.atomicity.proofs.Nonces.{begins}
-use Rattle.atomicity.proofs.Servers.{Origin, judged-tested, act-grows}
+use Rattle.atomicity.proofs.Best.{judged-tested}
+use Rattle.atomicity.proofs.Servers.{Origin, act-grows}
 use Rattle.atomicity.proofs.Sources.{serve-shape, complete-writer, complete-made, MadeBy, server-correct, writer-made}
 use Rattle.atomicity.proofs.Histories.{Vouched, by-history, made-mark}
 
@@ -36,12 +38,12 @@ module _ (K : Setup) where
     pub prem : Meets K x xs
     pub by : serves j (x .step) ≡ true
     pub got : packetIn (x .step) ≡ some p
-    pub fine : accepted (perform (K .s) (now (K .s) xs) (x .step) .result) ≡ true
+    pub fine : accepted (result K x xs) ≡ true
 
   -- a property of lists that the step gives, if it is accepted and a server's
   pub at-serve : {A : Type 0} (u : A) (x : StepOf K) (xs : Steps K) (j : ℕ) (p : Packet) → Judging x xs j p → (f : Step → List A) →
       ((b o : List ℕ) → decode b ≡ some p → In u (f (serve j b o))) →
-      In u (cond (accepted (perform (K .s) (now (K .s) xs) (x .step) .result)) (f (x .step)) [])
+      In u (cond (accepted (result K x xs)) (f (x .step)) [])
   at-serve {A} u x xs j p t f h = let v = serve-shape j (x .step) (t .by) in
       subst (λ (b : Bool). In u (cond b (f (x .step)) [])) (sym (t .fine))
       (subst (λ (y : Step). In u (f y)) (sym (v .2)) (h (v .0) (v .1) (ap packetIn (sym (v .2)) ∙ t .got)))
@@ -53,7 +55,8 @@ module _ (K : Setup) where
       ap (λ (b : Bool). cond b (srv K xs j) (blankServer (K .s .config))) (within-in 1 (K .s .config .servers) j (r .0) (r .1))
 
   -- the candidate on which its answer rests is among those that the premises speak of
-  at-judged : (x : StepOf K) (xs : Steps K) (j : ℕ) (p : Packet) → Judging x xs j p → (c : Candidate) → In c (judged (K .s) j (srv K xs j) (p .body)) →
+  at-judged : (x : StepOf K) (xs : Steps K) (j : ℕ) (p : Packet) → Judging x xs j p → (c : Candidate) →
+      In c (judged (K .s) j (srv K xs j) (p .body)) →
       (b : List ℕ) → decode b ≡ some p → In c (ofPacket (λ q. judged (K .s) j (account (K .s) .server xs j) (q .body)) (decode b))
   at-judged x xs j p t c i b d =
       subst (λ (q : Option Packet). In c (ofPacket (λ q. judged (K .s) j (account (K .s) .server xs j) (q .body)) q)) (sym d)
@@ -128,7 +131,8 @@ module _ (K : Setup) where
       let all = D ++ allDigested (K .s) (account (K .s)) xs in
       let mine : In (c .nonce) D = at-serve (c .nonce) x xs j p t
       (digestedBy (K .s) (account (K .s) .client xs) (account (K .s) .server xs) (stampedAt (K .s) (account (K .s)) x xs))
-      (λ b o d. in-map nonceOf (ofPacket (λ q. judged (K .s) j (account (K .s) .server xs j) (q .body)) (decode b)) c (at-judged x xs j p t c i b d)) in
+      (λ b o d. in-map nonceOf (ofPacket (λ q. judged (K .s) j (account (K .s) .server xs j) (q .body)) (decode b)) c
+      (at-judged x xs j p t c i b d)) in
       let theirs : In (m .nonce) all =
       right-in (m .nonce) D (allDigested (K .s) (account (K .s)) xs) (mark-digested (K .s) xs m (m .nonce) (r .1) (inl refl)) in
       let equal : c .nonce ≡ m .nonce = all-in (λ u. K .s .P .digest (c .nonce) ≡ K .s .P .digest u → c .nonce ≡ u) all
@@ -166,7 +170,7 @@ module _ (K : Setup) where
   unfolding made Known Ever Shows
   completed c p is y ys h =
       let d = p .head .client in
-      let t = making (K .s) (now (K .s) ys) d (y .step) p (h .0) (h .2) in
+      let t = making (K .s) d y ys p (h .0) (h .2) in
       let w = complete-made (hand K ys d) (t .to) c (sym (ap (λ (q : Packet). q .body) (t .is)) ∙ is) in
       let k = subst (Known (K .s) ys d) w (known (K .s) ys d) in
       record {
@@ -183,11 +187,8 @@ module _ (K : Setup) where
       ⊎ Genuine xs (srv K xs j .latest)
   unfolding nowValues Always
   latest-known [] h j = inl refl
-  latest-known (x ∷ xs) h j = go (served (K .s) (now (K .s) xs) j (x .step)) (latest-known xs (h .1) j)
+  latest-known (x ∷ xs) h j = go (served (K .s) j x xs) (latest-known xs (h .1) j)
     where
-      w : World
-      w = now (K .s) xs
-
       Good : Steps K → Candidate → Type 0
       Good zs c = (c ≡ blankCandidate (K .s .config)) ⊎ Genuine zs c
 
@@ -195,8 +196,8 @@ module _ (K : Setup) where
       later c (inl e) = inl e
       later c (inr g) = inr (genuine-up c x xs g)
 
-      go : Served (K .s) j w (x .step) (perform (K .s) w (x .step) .world .server j) → Good xs (srv K xs j .latest) →
-          Good (x ∷ xs) (perform (K .s) w (x .step) .world .server j .latest)
+      go : ServedAt (K .s) j x xs → Good xs (srv K xs j .latest) →
+          Good (x ∷ xs) (srv K (x ∷ xs) j .latest)
       go (same q) old = later _ (subst (λ (v : Server). Good xs (v .latest)) (sym q) old)
       go (acted p a b c d q) old = later _
           (subst (λ (v : Server). Good xs (v .latest)) (sym q) (new _ (act-grows (K .s) j (srv K xs j) (p .body) .latest)))

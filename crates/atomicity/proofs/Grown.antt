@@ -15,14 +15,15 @@ use Rattle.protocol.specs.Values.{Candidate, Held, sameList}
 use Rattle.protocol.specs.Packet.{Body, Packet, kindOf, decode}
 use Rattle.protocol.specs.Rules.{ByServer, upd, leader, tagsIn}
 use Rattle.protocol.specs.Server.{replyTo}
-use Rattle.protocol.specs.Client.{Client, Hand, Turn, refused, idle, clocking, storing, completing, collecting, filtering, repairing, awaits, isIdle, highAt, badFaults}
+use Rattle.protocol.specs.Client.{Client, Hand, Turn, refused, idle, clocking, storing, completing, collecting, filtering, repairing, awaits, isIdle}
+use Rattle.protocol.specs.Client.{highAt, badFaults}
 use Rattle.protocol.specs.Client.{update, judge, found, onto, prepared, codeIn, takeRefusal, takeStep, turnOn}
-use Rattle.protocol.specs.Runs.{Lent, take-reply}
-use Rattle.protocol.proofs.ValueRuns.{World, doValues, setClient}
+use Rattle.protocol.specs.Runs.{Lent, Step, take-reply}
+use Rattle.protocol.proofs.ValueRuns.{doValues, setClient}
 use Rattle.protocol.proofs.Answers.{at-cond}
-use Rattle.atomicity.specs.Steps.{System}
+use Rattle.atomicity.specs.Steps.{StepIn, System}
 use Rattle.atomicity.proofs.Util.{cond-both, bool-case, clash, upd-here, upd-else}
-use Rattle.atomicity.proofs.Model.{perform, updated, turn}
+use Rattle.atomicity.proofs.Model.{Run, perform, now, clientAt, resultAt, updated, turn}
 use Rattle.atomicity.proofs.Positions.{stage}
 
 pub reply-t : (p ask : Packet) (y : Body) → p ≡ replyTo ask y → p .head .t ≡ ask .head .t
@@ -109,11 +110,12 @@ module _ (s : System) (c : ℕ) where
           (cond (eqb (awaits (cl .hand)) 0) 13 T14)
 
   -- the result by the code
-  pub result-is : (w : World) (lent : Lent) (b o : List ℕ) (p : Packet) → decode b ≡ some p →
-      perform s w (take-reply c lent b o) .result ≡ onRefusal (code (w .client c) p (length o)) (turn s c (w .client c) p)
-      (record { client = w .client c; result = refused (code (w .client c) p (length o)) }) .result
+  pub result-is : (x : StepIn s) (xs : Run s) (lent : Lent) (b o : List ℕ) (p : Packet) → x .step ≡ take-reply c lent b o → decode b ≡ some p →
+      let cl = clientAt s xs c in
+      resultAt s x xs ≡ onRefusal (code cl p (length o)) (turn s c cl p) (record { client = cl; result = refused (code cl p (length o)) }) .result
   unfolding doValues setClient takeStep turnOn
-  result-is w lent b o p e = ap (λ (q : Option Packet). takeStep (s .P) (s .config) c (s .writers) (s .keys) (w .client c) q (length o) .result) e
+  result-is x xs lent b o p st e = ap (λ (y : Step). perform s (now s xs) y .result) st
+      ∙ ap (λ (q : Option Packet). takeStep (s .P) (s .config) c (s .writers) (s .keys) (clientAt s xs c) q (length o) .result) e
 
 pub code-cases : {B : Type 0} (n : ℕ) (u v w : Bool) → n ≡ cond u 12 (cond v 14 (cond w 15 0)) → (u ≡ true → B) → (v ≡ true → B) → (n ≡ 15 → B) →
     (n ≡ 0 → B) → B

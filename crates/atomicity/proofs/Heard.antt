@@ -13,17 +13,18 @@ use Rattle.cluster.specs.Ranges.{capacity}
 use Rattle.protocol.specs.declared.Stamp.{Stamp}
 use Rattle.protocol.specs.Values.{below, isSome}
 use Rattle.protocol.specs.Packet.{Body, Packet, kindOf}
-use Rattle.protocol.specs.Packet.{clock, clockReply, store, storeReply, complete, completeReply, collect, collectReply, filter, filterReply, repair, repairReply}
+use Rattle.protocol.specs.Packet.{clock, clockReply, store, storeReply, complete, completeReply, collect, collectReply, filter, filterReply, repair}
+use Rattle.protocol.specs.Packet.{repairReply}
 use Rattle.protocol.specs.Memory.{held}
 use Rattle.protocol.specs.Server.{Server, Acted, barred, replyTo, act, kept}
-use Rattle.protocol.specs.Client.{Hand, idle, clocking, storing, completing, collecting, filtering, repairing, awaits, isIdle, request, made, accepted}
-use Rattle.protocol.proofs.ValueRuns.{nowValues}
+use Rattle.protocol.specs.Client.{Hand, idle, clocking, storing, completing, collecting, filtering, repairing, awaits, isIdle, request, made}
+use Rattle.protocol.specs.Client.{accepted}
 use Rattle.atomicity.specs.Lists.{Ever, In}
 use Rattle.atomicity.specs.Steps.{System, Stamped, makes, serves, packetIn}
 use Rattle.atomicity.proofs.Util.{clash, cond-both, ever-map, ever-with, ever-out}
 use Rattle.atomicity.proofs.Stamps.{le-trans, below-irrefl}
-use Rattle.atomicity.proofs.Model.{perform, now, acts, marks}
-use Rattle.atomicity.proofs.Setup.{Setup, Steps, StepOf, Meets, Fair, Same, same-step, lat, hand, calls, srv, cli}
+use Rattle.atomicity.proofs.Model.{acts, marks}
+use Rattle.atomicity.proofs.Setup.{Setup, Steps, StepOf, Meets, Fair, Same, same-step, lat, hand, calls, srv, cli, result}
 use Rattle.atomicity.proofs.Serving.{making}
 use Rattle.atomicity.proofs.Positions.{pos, stage-awaits, since, from, Before, ever-before}
 use Rattle.atomicity.proofs.Marks.{marks-up}
@@ -35,8 +36,7 @@ module _ (K : Setup) where
   -- ---- what lasts
 
   pub lat-up : (x : StepOf K) (xs : Steps K) (j : ℕ) (a : Stamp) → below (lat K xs j) a ≡ false → below (lat K (x ∷ xs) j) a ≡ false
-  unfolding nowValues
-  lat-up x xs j a h = le-trans a (lat K xs j) (lat K (x ∷ xs) j) h (latest-rises (K .s) (now (K .s) xs) j (x .step))
+  lat-up x xs j a h = le-trans a (lat K xs j) (lat K (x ∷ xs) j) h (latest-rises (K .s) x xs j)
 
   -- from the moment when the call or the round began
   pub since-up : (c : ℕ) (P : Steps K → Type 0) → ((x : StepOf K) (xs : Steps K) → P xs → P (x ∷ xs)) → (xs : Steps K) → P (since (K .s) c xs) → P xs
@@ -109,7 +109,7 @@ module _ (K : Setup) where
     pub by : serves j (y .step) ≡ true
     pub got : packetIn (y .step) ≡ some ask
     pub body-is : ask .body ≡ request (hand K xs c) j
-    pub fine : accepted (perform (K .s) (now (K .s) ys) (y .step) .result) ≡ true
+    pub fine : accepted (result K y ys) ≡ true
     pub says : x ≡ acts (K .s) j (srv K ys j) (ask .body) .reply
     pub after : srv K (y ∷ ys) j ≡ acts (K .s) j (srv K ys j) (ask .body) .server
     pub prem : Meets K y ys
@@ -128,7 +128,7 @@ module _ (K : Setup) where
   asked-pos p y ys t z zs h =
       let d = p .head .client in
       let a = t .behind in
-      let m = making (K .s) (now (K .s) zs) d (z .step) (a .ask) (h .0) (h .2) in
+      let m = making (K .s) d z zs (a .ask) (h .0) (h .2) in
       let bq : a .ask .body ≡ request (hand K zs d) (m .to) = ap (λ (x : Packet). x .body) (m .is) in
       let k : kindOf (p .body) ≡ awaits (hand K zs d) = ap (λ (x : Packet). kindOf (x .body)) (a .reply)
       ∙ act-kind (K .s) (p .head .server) _ (a .ask .head .client) (a .ask .body) (a .asked .allowed)
@@ -151,7 +151,7 @@ module _ (K : Setup) where
   heard-at : (c : ℕ) (xs : Steps K) (p : Packet) → p .head .client ≡ c → p .head .call ≡ calls K xs c → isIdle (hand K xs c) ≡ false →
       kindOf (p .body) ≡ awaits (hand K xs c) →
       (y : StepOf K) (ys : Steps K) → Meets K y ys → Fair K ys → Told K p y ys → Before (K .s) c ys xs → Heard c (p .head .server) xs (p .body) y ys
-  unfolding nowValues pos replyTo
+  unfolding pos replyTo
   heard-at c xs p mine call busy kind y ys prem old t bef = ever-out _ ys
       (λ z zs h.
       let a = t .behind in

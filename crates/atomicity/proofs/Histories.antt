@@ -14,13 +14,13 @@ use Rattle.protocol.specs.Packet.{store}
 use Rattle.protocol.specs.Primitives.{candidateMessage}
 use Rattle.protocol.specs.Server.{Server, byHistory, barred}
 use Rattle.protocol.specs.Client.{made}
-use Rattle.protocol.proofs.ValueRuns.{World, nowValues}
+use Rattle.protocol.proofs.ValueRuns.{nowValues}
 use Rattle.atomicity.specs.Lists.{Ever, Always, In}
 use Rattle.atomicity.specs.Steps.{Stamped, makes, stampedAt, tagsWith, tagsMade}
 use Rattle.atomicity.proofs.Util.{left-in, right-in, in-flat, map-in, ever-map, within-in}
-use Rattle.atomicity.proofs.Model.{perform, now, account, marks, vouched, writeFor}
+use Rattle.atomicity.proofs.Model.{account, marks, vouched, writeFor}
 use Rattle.atomicity.proofs.Setup.{Setup, Steps, StepOf, Fair, hist, hand, srv}
-use Rattle.atomicity.proofs.Serving.{Served, same, acted, served, making}
+use Rattle.atomicity.proofs.Serving.{same, acted, served, making, ServedAt}
 use Rattle.atomicity.proofs.Marks.{marks-up}
 use Rattle.atomicity.proofs.Begun.{Known, known}
 use Rattle.atomicity.proofs.Servers.{held-digest, act-grows}
@@ -46,7 +46,7 @@ module _ (K : Setup) where
   unfolding made Known
   made-from j e p is at y ys h =
       let c = p .head .client in
-      let t = making (K .s) (now (K .s) ys) c (y .step) p (h .0) (h .2) in
+      let t = making (K .s) c y ys p (h .0) (h .2) in
       let w = store-made (hand K ys c) (t .to) e (sym (ap (λ (q : Packet). q .body) (t .is)) ∙ is) in
       let k = subst (Known (K .s) ys c) (w .2) (known (K .s) ys c) in
       let to-j : t .to ≡ j = sym (ap (λ (q : Packet). q .head .server) (t .is)) ∙ at in (
@@ -59,14 +59,11 @@ module _ (K : Setup) where
       )
 
   pub history : (xs : Steps K) → Fair K xs → (j : ℕ) (e : Write) → In e (hist K xs j) → From j e xs
-  unfolding Always nowValues In
+  unfolding nowValues Always In
   history [] h j e i = absurd i
-  history (x ∷ xs) h j e i = go (served (K .s) (now (K .s) xs) j (x .step)) (λ k. history xs (h .1) j e k)
+  history (x ∷ xs) h j e i = go (served (K .s) j x xs) (λ k. history xs (h .1) j e k)
     where
-      w : World
-      w = now (K .s) xs
-
-      go : Served (K .s) j w (x .step) (perform (K .s) w (x .step) .world .server j) → (In e (hist K xs j) → From j e xs) → From j e (x ∷ xs)
+      go : ServedAt (K .s) j x xs → (In e (hist K xs j) → From j e xs) → From j e (x ∷ xs)
       go (same q) f = from-up j e x xs (f (subst (λ (v : Server). In e (v .history)) q i))
       go (acted p a b c d q) f = from-up j e x xs
           (new (act-grows (K .s) j (srv K xs j) (p .body) .new e (subst (λ (v : Server). In e (v .history)) q i)))

@@ -12,17 +12,18 @@ use native.Mathlib.Omega.{arith}
 use borrow.Author.Tests.{eq-eqb}
 use Rattle.cluster.specs.Config.{Legal}
 use Rattle.cluster.proofs.Legal.{legal-shelf}
+use Rattle.protocol.specs.Values.{isSome}
 use Rattle.protocol.specs.Primitives.{real}
 use Rattle.protocol.specs.Client.{Hand, awaits, isIdle}
 use Rattle.protocol.proofs.ValueRuns.{byValues}
 use Rattle.protocol.proofs.Primitive.{real-lengths}
 use Rattle.protocol.proofs.Accounts.{claimed}
-use Rattle.atomicity.specs.Lists.{Always, Once, All, In, AllPairs}
+use Rattle.atomicity.specs.Lists.{Always, Once, In, AllPairs}
 use Rattle.atomicity.specs.Steps.{StepIn, System}
-use Rattle.atomicity.specs.Premises.{Correct, Parties, correctAt, Premise}
-use Rattle.atomicity.specs.Claim.{InTime, Logged, given, before, holds, givesHeld, Replay, CameTo, Progress, systemOf, OneOrder}
+use Rattle.atomicity.specs.Premises.{Correct, Parties, Premise}
+use Rattle.atomicity.specs.Claim.{InTime, Logged, before, holds, Replay, Answered, Progress, systemOf, OneOrder}
 use Rattle.atomicity.specs.Page41.{Version, versions, NeverOlder, Ended, Page41, Page41Of}
-use Rattle.atomicity.proofs.Util.{unfalse, clash, or-cases, all-in}
+use Rattle.atomicity.proofs.Util.{no-some, unfalse, clash, or-cases, all-in}
 use Rattle.atomicity.proofs.Model.{Laws, account}
 use Rattle.atomicity.proofs.Setup.{Setup, Steps, Fair, hand, calls}
 use Rattle.atomicity.proofs.Shape.{Log}
@@ -37,7 +38,7 @@ version-in : (n : ℕ) (m : Option (List ℕ)) (cs : List Logged) (v : Version) 
 unfolding versions In
 version-in n m [] v i = absurd i
 version-in n m (c ∷ cs) v (inl e) = (inl (ap (λ (z : Version). z .call) e), omega (arith, ap (λ (z : Version). z .number) e))
-version-in n m (c ∷ cs) v (inr i) = let r = version-in (n + cond (given (c .wrote)) 1 0) (holds m (c .wrote)) cs v i in
+version-in n m (c ∷ cs) v (inr i) = let r = version-in (n + cond (isSome (c .wrote)) 1 0) (holds m (c .wrote)) cs v i in
     (inr (r .0), omega (arith, r .1))
 
 -- who stands ahead is no newer
@@ -47,10 +48,10 @@ unfolding versions In AllPairs
 rising n m [] t a r i j b = absurd i
 rising n m (c ∷ cs) t a r (inl p) (inl q) b = omega (arith, ap (λ (z : Version). z .number) p, ap (λ (z : Version). z .number) q)
 rising n m (c ∷ cs) t a r (inl p) (inr j) b =
-    omega (arith, ap (λ (z : Version). z .number) p, version-in (n + cond (given (c .wrote)) 1 0) (holds m (c .wrote)) cs r j .1)
+    omega (arith, ap (λ (z : Version). z .number) p, version-in (n + cond (isSome (c .wrote)) 1 0) (holds m (c .wrote)) cs r j .1)
 rising n m (c ∷ cs) t a r (inr i) (inl q) b = clash (subst (λ (z : Logged). before (a .call) z ≡ true) (ap (λ (z : Version). z .call) q) b)
-    (all-in (λ x. before x c ≡ false) cs (t .0) (a .call) (version-in (n + cond (given (c .wrote)) 1 0) (holds m (c .wrote)) cs a i .0))
-rising n m (c ∷ cs) t a r (inr i) (inr j) b = rising (n + cond (given (c .wrote)) 1 0) (holds m (c .wrote)) cs (t .1) a r i j b
+    (all-in (λ x. before x c ≡ false) cs (t .0) (a .call) (version-in (n + cond (isSome (c .wrote)) 1 0) (holds m (c .wrote)) cs a i .0))
+rising n m (c ∷ cs) t a r (inr i) (inr j) b = rising (n + cond (isSome (c .wrote)) 1 0) (holds m (c .wrote)) cs (t .1) a r i j b
 
 -- a read gives the content of its version
 shown : (n : ℕ) (m : Option (List ℕ)) (cs : List Logged) → Replay m cs → (r : Version) → In r (versions n m cs) → r .call .wrote ≡ none →
@@ -58,12 +59,12 @@ shown : (n : ℕ) (m : Option (List ℕ)) (cs : List Logged) → Replay m cs →
 unfolding versions In Replay
 shown n m [] h r i w = absurd i
 shown n m (c ∷ cs) h r (inl q) w = let e = ap (λ (z : Version). z .call) q in ap (λ (z : Logged). z .answer) e
-    ∙ here (c .wrote) (sym (ap (λ (z : Logged). z .wrote) e) ∙ w) (h .0) ∙ sym (ap (λ (z : Version). z .content) q)
+    ∙ here (c .wrote) refl (sym (ap (λ (z : Logged). z .wrote) e) ∙ w) (h .0) ∙ sym (ap (λ (z : Version). z .content) q)
   where
-    here : (o : Option (List ℕ)) → o ≡ none → givesHeld m o c → c .answer ≡ holds m o
-    here none e h = h
-    here (some v) e h = absurd (let z : _≡_ {A = ℕ} 0 1 = cc in omega arith)
-shown n m (c ∷ cs) h r (inr i) w = shown (n + cond (given (c .wrote)) 1 0) (holds m (c .wrote)) cs (h .1) r i w
+    here : (o : Option (List ℕ)) → c .wrote ≡ o → o ≡ none → (c .wrote ≡ none → c .answer ≡ m) → c .answer ≡ holds m o
+    here none w e h = h w
+    here (some v) w e h = absurd (no-some (sym e))
+shown n m (c ∷ cs) h r (inr i) w = shown (n + cond (isSome (c .wrote)) 1 0) (holds m (c .wrote)) cs (h .1) r i w
 
 pub never-older : (cs : List Logged) (o : OneOrder cs) → NeverOlder (o .order)
 unfolding NeverOlder
@@ -86,25 +87,21 @@ module _ (K : Setup) (xs : Steps K) (fair : Fair K xs) where
   ended a i good stays room answers =
       let g = known-call K xs fair a i in
       let settled : Settled K xs a = subst (Settled K xs) (sym (g .2)) (all-settled K xs fair (g .0) (g .1)) in
-      over (or-cases (given (a .over)) (a .gaveUp) (settled (λ n. unfalse _ (λ busy. pending n busy (awaits (hand K xs (a .client))) refl))))
+      over (or-cases (isSome (a .over)) (a .gaveUp) (settled (λ n. unfalse _ (λ busy. pending n busy (awaits (hand K xs (a .client))) refl))))
     where
-      over : (given (a .over) ≡ true) ⊎ (a .gaveUp ≡ true) → given (a .over) ≡ true
+      over : (isSome (a .over) ≡ true) ⊎ (a .gaveUp ≡ true) → isSome (a .over) ≡ true
       over (inl k) = k
       over (inr k) = clash k stays
 
-      -- server b is correct, and its reply of kind k to call n of this client came in
-      Came : ℕ → ℕ → ℕ → Type 0
-      Came n k b = (correctAt (K .s) (account (K .s)) (K .correct) xs b ≡ true) × CameTo (K .s) (account (K .s)) xs (a .client) n k b
+      Met : ℕ → ℕ → Type 0
+      Met n k = Answered (K .s) (account (K .s)) (K .correct) xs (a .client) n k
 
       -- the call is in hand, in a round that awaits k
       pending : a .number ≡ calls K xs (a .client) → isIdle (hand K xs (a .client)) ≡ false → (k : ℕ) → awaits (hand K xs (a .client)) ≡ k → ⊥
       pending n busy zero e = in-round (hand K xs (a .client)) busy e
       pending n busy (suc k) e =
-          let A = answers k (once-now _ xs (sym n, e)) in
-          let came = subst (λ (j : ℕ). All (Came j (suc k)) (A .0)) n (A .2) in
-          let came' = subst (λ (j : ℕ). All (Came (calls K xs (a .client)) j) (A .0)) (sym e) came in
-          let z = progress K xs fair (a .client) good busy (inr room) (A .0) (A .1) came' in
-          omega (arith, z, A .3)
+          progress K xs fair (a .client) good busy (inr room) (subst (Met (calls K xs (a .client))) (sym e)
+          (subst (λ (j : ℕ). Met j (suc k)) n (answers k (once-now _ xs (sym n, e)))))
 
 -- ---- on bytes, with the real functions
 

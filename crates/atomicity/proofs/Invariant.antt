@@ -12,22 +12,25 @@ use lib.ListN.{length}
 use borrow.Author.Tests.{ltb-true, ltb-false, leb-true, leb-false, eqb-true, eqb-false, le-leb}
 use Rattle.protocol.specs.declared.Stamp.{Stamp}
 use Rattle.protocol.specs.Values.{Candidate, below, blankStamp, Held}
-use Rattle.protocol.specs.Packet.{Packet, decode, complete}
+use Rattle.protocol.specs.Packet.{Packet, decode}
 use Rattle.protocol.specs.Server.{Server}
 use Rattle.protocol.specs.Rules.{upd, countTo, ByServer, choice}
-use Rattle.protocol.specs.Client.{Client, Hand, Result, idle, clocking, storing, completing, collecting, filtering, repairing, isFull, awaits, begun, onto, made, heldIn, accepted}
+use Rattle.protocol.specs.Client.{Client, Hand, Result, idle, clocking, storing, completing, collecting, filtering, repairing, isFull, awaits, begun}
+use Rattle.protocol.specs.Client.{onto, made, heldIn, accepted}
 use Rattle.protocol.specs.Runs.{Lent, Step, write, read, make, take-reply, give-up, serve}
-use Rattle.protocol.proofs.ValueRuns.{World, nowValues}
+use Rattle.protocol.proofs.ValueRuns.{nowValues}
 use Rattle.protocol.proofs.Answers.{at-cond}
 use Rattle.atomicity.specs.Lists.{Ever, Always, In, flat}
-use Rattle.atomicity.specs.Steps.{Stamped, packetIn, makes, stampedAt, ofPacket, proving, compared, digestsWith, digested, digestedBy, allDigested}
+use Rattle.atomicity.specs.Steps.{Stamped, packetIn, makes, stampedAt, ofPacket, proving, compared, digestsWith, digested, digestedBy}
+use Rattle.atomicity.specs.Steps.{allDigested}
 use Rattle.atomicity.specs.Premises.{Shows, PartyOf, odd}
 use Rattle.atomicity.proofs.Util.{bool-case, clash, left-in, right-in, ever-map, ever-with, rise, not-f, and-intro}
 use Rattle.atomicity.proofs.Stamps.{below-blank}
 use Rattle.atomicity.proofs.Counting.{split-count, lies-count, quorum-sum, count-mono}
-use Rattle.atomicity.proofs.Model.{perform, now, account, marks, turn}
-use Rattle.atomicity.proofs.Setup.{Setup, Steps, StepOf, Meets, Fair, Show, hand, calls, lat, cli, replied, right, same-step, right-step, lastOf}
-use Rattle.atomicity.proofs.Moves.{Fits, Moved, kept, wbegan, rbegan, quit, took, moved}
+use Rattle.atomicity.proofs.Model.{account, marks, turn}
+use Rattle.atomicity.proofs.Setup.{Setup, Steps, StepOf, Meets, Fair, Show, hand, calls, lat, cli, replied, right, same-step, right-step}
+use Rattle.atomicity.proofs.Setup.{lastOf, result}
+use Rattle.atomicity.proofs.Moves.{Fits, kept, wbegan, rbegan, quit, took, moved, MovedAt}
 use Rattle.atomicity.proofs.Serving.{making}
 use Rattle.atomicity.proofs.Rounds.{Next, turn-turned}
 use Rattle.atomicity.proofs.Positions.{next-stage, stage, pos, since, from, since-same, from-same, from-new}
@@ -62,7 +65,7 @@ module _ (K : Setup) where
       × (d .nonce ≡ n)
   unfolding Shows made
   show-hand c n y ys h =
-      let t = making (K .s) (now (K .s) ys) c (y .step) (h .1) (h .2) (K .laws .reads y ys (h .1) (h .3)) in
+      let t = making (K .s) c y ys (h .1) (h .2) (K .laws .reads y ys (h .1) (h .3)) in
       (h .0, complete-made (hand K ys c) (t .to) (h .0) (sym (ap (λ (q : Packet). q .body) (t .is)) ∙ h .4), h .5)
 
   pub record Shown (zs : Steps K) (n : List ℕ) : Type 0 where
@@ -125,7 +128,7 @@ module _ (K : Setup) where
   pub outcome : (x : StepOf K) (xs : Steps K) → Fair K (x ∷ xs) → Hands xs → Always (λ y ys. Hands ys) xs → (c : ℕ) → K .correct .client c ≡ true →
       (p : Packet) (lent : Lent) (b o : List ℕ) →
       x .step ≡ take-reply c lent b o → decode b ≡ some p → Fits (K .s) c (cli K xs c) p →
-      accepted (perform (K .s) (now (K .s) xs) (x .step) .result) ≡ true →
+      accepted (result K x xs) ≡ true →
       Outcome K x xs (since (K .s) c xs) (from (K .s) c xs) (hand K xs c) (turn (K .s) c (cli K xs c) p)
   unfolding Always Hands allDigested digestedBy compared isFull
   outcome x xs fair hands always c good p lent b o st rd fit fine =
@@ -153,7 +156,8 @@ module _ (K : Setup) where
       ms = stampedAt (K .s) (account (K .s)) x xs
 
       -- once the round is full, the fragments that prove the choice are digested in this step
-      compares : (cs : List Candidate) (g : ByServer Held) → hand K xs c ≡ filtering cs g → Q K ≤ countTo (S K) (upd (replied K xs c) (p .head .server) true) →
+      compares : (cs : List Candidate) (g : ByServer Held) → hand K xs c ≡ filtering cs g →
+          Q K ≤ countTo (S K) (upd (replied K xs c) (p .head .server) true) →
           (u : List ℕ) → In u (proving (K .s) (upd (replied K xs c) (p .head .server) true) (upd g (p .head .server) (heldIn (p .body)))
           (choice (K .s .P) (K .s .config) (upd (replied K xs c) (p .head .server) true) (upd g (p .head .server) (heldIn (p .body))) cs)) →
           In u (digested (K .s) (account (K .s)) x xs)
@@ -186,19 +190,16 @@ module _ (K : Setup) where
   -- ---- every run
 
   hands-step : (x : StepOf K) (xs : Steps K) → Fair K (x ∷ xs) → Hands xs → Always (λ y ys. Hands ys) xs → Hands (x ∷ xs)
-  unfolding Hands nowValues HandOk Outcome begun onto
-  hands-step x xs fair hands always c good = go (moved (K .s) c w (x .step))
+  unfolding Hands HandOk Outcome begun onto
+  hands-step x xs fair hands always c good = go (moved (K .s) c x xs)
     where
-      w : World
-      w = now (K .s) xs
-
       cl' : Client
-      cl' = perform (K .s) w (x .step) .world .client c
+      cl' = cli K (x ∷ xs) c
 
       At : Steps K → Steps K → Client → Type 0
       At z0 z1 cl = HandOk K (x ∷ xs) z0 z1 (cl .marks) (cl .hand)
 
-      go : Moved (K .s) c w (x .step) cl' (perform (K .s) w (x .step) .result) → At (since (K .s) c (x ∷ xs)) (from (K .s) c (x ∷ xs)) cl'
+      go : MovedAt (K .s) c x xs → At (since (K .s) c (x ∷ xs)) (from (K .s) c (x ∷ xs)) cl'
       go (kept e _) = subst (λ (z : Steps K). At z (from (K .s) c (x ∷ xs)) cl')
           (sym (since-same (K .s) c x xs (sym (ap (λ (z : Client). z .calls) e))))
           (subst (λ (z : Steps K). At (since (K .s) c xs) z cl') (sym (from-same (K .s) c x xs (sym (ap pos e))))
@@ -222,7 +223,7 @@ module _ (K : Setup) where
           (subst (λ (v : Steps K). At (since (K .s) c xs) v cl') (from-cond x xs c cq (st' .0)) u')
 
   pub hands-all : (xs : Steps K) → Fair K xs → Hands xs × Always (λ y ys. Hands ys) xs
-  unfolding Hands Always HandOk nowValues
+  unfolding nowValues Hands Always HandOk
   hands-all [] fair = (λ c g. tt, tt)
   hands-all (x ∷ xs) fair = let r = hands-all xs (fair .1) in (hands-step x xs fair (r .0) (r .1), (r .0, r .1))
 

@@ -1,14 +1,17 @@
 -- The key of a call with its stamp: number, writer, write before read, time of the begin; compared in that order.
 -- Assumes nothing.
-use mathlib.Core.Path.{_≡_, refl, sym, _∙_}
+use mathlib.Core.Path.{_≡_, refl, sym, ap, _∙_}
 use mathlib.Core.Bool.{Bool, true, false, cond, _&&_, _||_}
+use mathlib.Core.List.{List}
+use mathlib.Core.Option.{Option, none, some}
 use mathlib.Core.Logic.{_⊎_, inl, inr}
 use Prim.Native.Nat.{ℕ, _<_}
 use native.Mathlib.Omega.{arith}
 use lib.Dec.{ltb, eqb}
 use borrow.Author.Tests.{ltb-true, ltb-false, lt-ltb, eqb-true, eq-eqb}
 use Rattle.protocol.specs.declared.Stamp.{Stamp}
-use Rattle.atomicity.specs.Claim.{Logged, given}
+use Rattle.protocol.specs.Values.{isSome}
+use Rattle.atomicity.specs.Claim.{Logged}
 use Rattle.atomicity.proofs.Util.{bool-case, and-left, and-right, and-intro, or-left, or-right}
 
 unfoldable pub lex : ℕ → ℕ → Bool → Bool
@@ -61,7 +64,22 @@ lex-total m n r s h = bool-case (ltb m n) (λ e. inl (lex-lt m n r (ltb-true m n
 
 -- 0 for a write, 1 for a read
 unfoldable pub part : Logged → ℕ
-part c = cond (given (c .wrote)) 0 1
+part c = cond (isSome (c .wrote)) 0 1
+
+pub part-write : (a : Logged) (v : List ℕ) → a .wrote ≡ some v → part a ≡ 0
+unfolding part
+part-write a v e = ap (λ (o : Option (List ℕ)). cond (isSome o) 0 1) e
+
+pub part-read : (a : Logged) → a .wrote ≡ none → part a ≡ 1
+unfolding part
+part-read a e = ap (λ (o : Option (List ℕ)). cond (isSome o) 0 1) e
+
+pub wrote-case : {B : Type 0} (a : Logged) → (a .wrote ≡ none → B) → ((v : List ℕ) → a .wrote ≡ some v → B) → B
+wrote-case {B} a f g = go (a .wrote) refl
+  where
+    go : (o : Option (List ℕ)) → a .wrote ≡ o → B
+    go none e = f e
+    go (some v) e = g v e
 
 -- write before read, then by the begin
 unfoldable pub lesser : Logged → Logged → Bool
@@ -105,7 +123,8 @@ less-rest σ a τ b h = go (lex-view _ _ _ h)
     go (inr k) = inr (k .0, inner (k .1))
 
 -- w ≤ x ≤ r, and w and r have one stamp: so has x
-pub between : (σ : Stamp) (w : Logged) (τ : Stamp) (x : Logged) (υ : Stamp) (r : Logged) → σ .number ≡ υ .number → σ .writer ≡ υ .writer → Rest σ w τ x →
+pub between : (σ : Stamp) (w : Logged) (τ : Stamp) (x : Logged) (υ : Stamp) (r : Logged) → σ .number ≡ υ .number → σ .writer ≡ υ .writer →
+    Rest σ w τ x →
     Rest τ x υ r →
     (σ .number ≡ τ .number) × (σ .writer ≡ τ .writer) × (lesser w x ≡ true)
 between σ w τ x υ r n o (inl p) (inl q) = absurd (omega (arith, n))

@@ -11,6 +11,7 @@ pub mod Marks
 pub mod Rising
 pub mod Begun
 pub mod Nonces
+pub mod Best
 pub mod Servers
 pub mod Sources
 pub mod Histories
@@ -33,6 +34,7 @@ pub mod Replies
 pub mod Shape
 pub mod Logs
 pub mod Story
+pub mod Shown
 pub mod Sorting
 pub mod Keys
 pub mod Ordering

@@ -13,17 +13,17 @@ use borrow.Author.Tests.{eq-eqb}
 use Rattle.protocol.specs.declared.Stamp.{Stamp}
 use Rattle.protocol.specs.Values.{blankStamp}
 use Rattle.protocol.specs.Packet.{Packet, decode}
-use Rattle.protocol.specs.Client.{Client, Hand, Result, idle, clocking, storing, completing, collecting, filtering, repairing, onto, awaits, isIdle, accepted}
+use Rattle.protocol.specs.Client.{Client, Hand, Result, idle, clocking, storing, completing, collecting, filtering, repairing, onto, awaits, isIdle}
+use Rattle.protocol.specs.Client.{accepted}
 use Rattle.protocol.specs.Runs.{Lent, Step, write, read, make, take-reply, give-up, serve}
-use Rattle.protocol.proofs.ValueRuns.{nowValues}
 use Rattle.atomicity.specs.Lists.{Ever, Always, In}
 use Rattle.atomicity.specs.Steps.{Stamped, stampedFrom, stampedBy, stampedAt}
 use Rattle.atomicity.specs.Premises.{PartyOf}
 use Rattle.atomicity.specs.Claim.{Logged, follow, leave}
 use Rattle.atomicity.proofs.Util.{clash, no-some}
-use Rattle.atomicity.proofs.Model.{perform, now, account, turn}
-use Rattle.atomicity.proofs.Setup.{Setup, Steps, StepOf, Fair, hand, calls, cli}
-use Rattle.atomicity.proofs.Moves.{Fits, Moved, kept, wbegan, rbegan, quit, took, moved, acting}
+use Rattle.atomicity.proofs.Model.{account, turn}
+use Rattle.atomicity.proofs.Setup.{Setup, Steps, StepOf, Fair, hand, calls, cli, result}
+use Rattle.atomicity.proofs.Moves.{Fits, kept, wbegan, rbegan, quit, took, moved, acting, MovedAt}
 use Rattle.atomicity.proofs.Rounds.{turn-turned}
 use Rattle.atomicity.proofs.Positions.{since, from}
 use Rattle.atomicity.proofs.Invariant.{Hands, hands-all, outcome}
@@ -31,7 +31,7 @@ use Rattle.atomicity.proofs.Turns.{Outcome}
 use Rattle.atomicity.proofs.Calls.{Cur, CallOk, Keeps, keeps-refl, carry}
 use Rattle.atomicity.proofs.Replies.{call-follows}
 use Rattle.atomicity.proofs.Following.{Follows}
-use Rattle.atomicity.proofs.Shape.{begun-at, effect, entered, news, refused-view, result, touched, mover, touched-case}
+use Rattle.atomicity.proofs.Shape.{begun-at, effect, entered, news, refused-view, touched, mover, touched-case}
 
 module _ (K : Setup) where
   -- a known call
@@ -43,9 +43,9 @@ module _ (K : Setup) where
   pub new-write : (x : StepOf K) (xs : Steps K) (c : ℕ) (r n : List ℕ) → x .step ≡ write c r n → accepted (result K x xs) ≡ true →
       CallOk K (x ∷ xs) (entered c (suc (calls K xs c)) (some r) (length xs)) blankStamp
   unfolding Cur entered
-  new-write x xs c r n st acc = go (moved (K .s) c (now (K .s) xs) (x .step))
+  new-write x xs c r n st acc = go (moved (K .s) c x xs)
     where
-      go : Moved (K .s) c (now (K .s) xs) (x .step) (perform (K .s) (now (K .s) xs) (x .step) .world .client c) (result K x xs) →
+      go : MovedAt (K .s) c x xs →
           CallOk K (x ∷ xs) (entered c (suc (calls K xs c)) (some r) (length xs)) blankStamp
       go (kept e f) = clash acc (f (ap (acting c) st ∙ eq-eqb c c refl))
       go (wbegan r' n' s b d l e) = let z : r' ≡ r = write-inj (sym s ∙ st) in begun-at K x xs c _ (some r) e (λ o. (o, ap some (sym z)))
@@ -59,9 +59,9 @@ module _ (K : Setup) where
   pub new-read : (x : StepOf K) (xs : Steps K) (c : ℕ) → x .step ≡ read c → accepted (result K x xs) ≡ true →
       CallOk K (x ∷ xs) (entered c (suc (calls K xs c)) none (length xs)) blankStamp
   unfolding Cur entered
-  new-read x xs c st acc = go (moved (K .s) c (now (K .s) xs) (x .step))
+  new-read x xs c st acc = go (moved (K .s) c x xs)
     where
-      go : Moved (K .s) c (now (K .s) xs) (x .step) (perform (K .s) (now (K .s) xs) (x .step) .world .client c) (result K x xs) →
+      go : MovedAt (K .s) c x xs →
           CallOk K (x ∷ xs) (entered c (suc (calls K xs c)) none (length xs)) blankStamp
       go (kept e f) = clash acc (f (ap (acting c) st ∙ eq-eqb c c refl))
       go (wbegan r' n' s b d l e) = absurd (let z : _≡_ {A = ℕ} 0 1 = cc in omega arith)
@@ -134,10 +134,10 @@ module _ (K : Setup) where
   taken-call : (x : StepOf K) (xs : Steps K) → Fair K (x ∷ xs) → (a : Logged) (σ : Stamp) → CallOk K xs a σ → a .number ≡ calls K xs (a .client) →
       (p : Packet) (lent : Lent) (b o : List ℕ) →
       x .step ≡ take-reply (a .client) lent b o → decode b ≡ some p → Fits (K .s) (a .client) (cli K xs (a .client)) p →
-      perform (K .s) (now (K .s) xs) (x .step) .world .client (a .client) ≡ turn (K .s) (a .client) (cli K xs (a .client)) p .client →
+      cli K (x ∷ xs) (a .client) ≡ turn (K .s) (a .client) (cli K xs (a .client)) p .client →
       result K x xs ≡ turn (K .s) (a .client) (cli K xs (a .client)) p .result →
       Goal x xs a σ (effect K x xs (a .client) a)
-  unfolding nowValues Always Outcome Hands Ever Follows stampedBy
+  unfolding Always Outcome Hands Ever Follows stampedBy
   taken-call x xs fair a σ h n p lent b o st rd fit e v =
       let c = a .client in
       let cl = cli K xs c in
@@ -164,25 +164,25 @@ module _ (K : Setup) where
       (r .0, record { base = r .1; current = λ k. at-hand (r .3) e (r .2) }, r .3))
     where
       here : (m : Stamped) → In m (stampedFrom (a .client) (hand K xs (a .client))
-          (perform (K .s) (now (K .s) xs) (x .step) .world .client (a .client) .hand)) → In m (stampedAt (K .s) (account (K .s)) x xs)
-      here m i = subst (λ (y : Step). In m (stampedBy (now (K .s) xs .client) (perform (K .s) (now (K .s) xs) (x .step) .world .client) y)) (sym st) i
+          (hand K (x ∷ xs) (a .client))) → In m (stampedAt (K .s) (account (K .s)) x xs)
+      here m i = subst (λ (y : Step). In m (stampedBy (cli K xs) (cli K (x ∷ xs)) y)) (sym st) i
 
-      at-hand : {d : Logged} {τ : Stamp} {cl : Client} → Keeps K a σ d τ → perform (K .s) (now (K .s) xs) (x .step) .world .client (a .client) ≡ cl →
-          Cur K (x ∷ xs) d τ (cl .hand) → Cur K (x ∷ xs) d τ (perform (K .s) (now (K .s) xs) (x .step) .world .client (d .client) .hand)
-      at-hand {d} {τ} {cl} k e c = subst (λ (i : ℕ). Cur K (x ∷ xs) d τ (perform (K .s) (now (K .s) xs) (x .step) .world .client i .hand))
+      at-hand : {d : Logged} {τ : Stamp} {cl : Client} → Keeps K a σ d τ → cli K (x ∷ xs) (a .client) ≡ cl →
+          Cur K (x ∷ xs) d τ (cl .hand) → Cur K (x ∷ xs) d τ (hand K (x ∷ xs) (d .client))
+      at-hand {d} {τ} {cl} k e c = subst (λ (i : ℕ). Cur K (x ∷ xs) d τ (hand K (x ∷ xs) i))
           (sym (k .client)) (subst (λ (y : Client). Cur K (x ∷ xs) d τ (y .hand)) (sym e) c)
 
   -- the client's own call, at its own take or give-up
   own-call : (x : StepOf K) (xs : Steps K) → Fair K (x ∷ xs) → (a : Logged) (σ : Stamp) → CallOk K xs a σ → a .number ≡ calls K xs (a .client) →
       mover (x .step) ≡ some (a .client) → acting (a .client) (x .step) ≡ true →
       Goal x xs a σ (effect K x xs (a .client) a)
-  unfolding nowValues onto
-  own-call x xs fair a σ h n m act = go (moved (K .s) (a .client) (now (K .s) xs) (x .step))
+  unfolding onto
+  own-call x xs fair a σ h n m act = go (moved (K .s) (a .client) x xs)
     where
       cl' : Client
-      cl' = perform (K .s) (now (K .s) xs) (x .step) .world .client (a .client)
+      cl' = cli K (x ∷ xs) (a .client)
 
-      go : Moved (K .s) (a .client) (now (K .s) xs) (x .step) cl' (result K x xs) → Goal x xs a σ (effect K x xs (a .client) a)
+      go : MovedAt (K .s) (a .client) x xs → Goal x xs a σ (effect K x xs (a .client) a)
       go (kept e f) = let no = f act in let r = refused-view (result K x xs) no in
           subst (λ (y : Result). Goal x xs a σ (follow y (eqb (awaits (hand K (x ∷ xs) (a .client))) 6) (length xs) a)) (sym (r .1))
           (σ, carry K x xs a σ h (λ p lent b o s rd acc q. clash acc no), keeps-refl K a σ)

@@ -11,31 +11,32 @@ use borrow.Author.Tests.{ne-eqb}
 use Rattle.protocol.specs.declared.Stamp.{Stamp}
 use Rattle.protocol.specs.Values.{sameList, isBlank}
 use Rattle.protocol.specs.Primitives.{stampMessage}
-use Rattle.protocol.specs.Client.{Client, Hand, awaits, Result, idle, clocking, storing, completing, collecting, filtering, repairing, prepared, candidateMade, stampOf, checks, accepted}
+use Rattle.protocol.specs.Client.{Client, Hand, awaits, Result, idle, clocking, storing, completing, collecting, filtering, repairing, prepared}
+use Rattle.protocol.specs.Client.{candidateMade, stampOf, checks, accepted}
 use Rattle.protocol.specs.Runs.{Lent, Step, write, read, make, take-reply, give-up, serve}
-use Rattle.protocol.proofs.ValueRuns.{World, nowValues}
 use Rattle.protocol.proofs.Equal.{same-refl}
 use Rattle.atomicity.specs.Lists.{In}
 use Rattle.atomicity.specs.Steps.{StepIn, System, Stamped, stampedFrom, stampedBy, stampedAt}
 use Rattle.atomicity.proofs.Util.{and-intro, not-f, right-in, split-in}
-use Rattle.atomicity.proofs.Model.{Run, perform, now, account, marks, stampFor, preparedFor}
-use Rattle.atomicity.proofs.Moves.{Moved, kept, wbegan, rbegan, quit, took, moved}
-use Rattle.atomicity.proofs.Rounds.{Next, stays, clock-on, clock-ends, store-ends, collect-on, collect-ends, filter-on, filter-ends, over, turn-turned}
+use Rattle.atomicity.proofs.Model.{Run, account, clientAt, resultAt, handAt, lastAt, marks, stampFor, preparedFor}
+use Rattle.atomicity.proofs.Moves.{MovedAt, kept, wbegan, rbegan, quit, took, moved}
+use Rattle.atomicity.proofs.Rounds.{Next, stays, clock-on, clock-ends, store-ends, collect-on, collect-ends, filter-on, filter-ends, over}
+use Rattle.atomicity.proofs.Rounds.{turn-turned}
 
 -- where a mark comes from
-pub record Marked (s : System) (w : World) (x : Step) (m : Stamped) : Type 0 where
+pub record Marked (s : System) (x : StepIn s) (xs : Run s) (m : Stamped) : Type 0 where
   pub lent : Lent
   pub packet : List ℕ
   pub output : List ℕ
-  pub step : x ≡ take-reply (m .client) lent packet output
+  pub step : x .step ≡ take-reply (m .client) lent packet output
   pub top : ℕ
   pub top' : ℕ
-  pub was : w .client (m .client) .hand ≡ clocking (m .content) (m .nonce) top
+  pub was : handAt s xs (m .client) ≡ clocking (m .content) (m .nonce) top
   pub rises : top ≤ top'
-  pub is : perform s w x .world .client (m .client) .hand ≡ preparedFor s (m .client) (m .content) (m .nonce) (suc top')
-  pub last-is : perform s w x .world .client (m .client) .last ≡ suc top'
+  pub is : handAt s (x ∷ xs) (m .client) ≡ preparedFor s (m .client) (m .content) (m .nonce) (suc top')
+  pub last-is : lastAt s (x ∷ xs) (m .client) ≡ suc top'
   pub stamp-is : m .stamp ≡ stampFor s (m .client) (suc top')
-  pub fine : accepted (perform s w x .result) ≡ true
+  pub fine : accepted (resultAt s x xs) ≡ true
 
 -- only a hand that goes from clock to store gives a mark, and it gives one
 abbrev pub From : ℕ → Hand → Hand → Type 0
@@ -84,56 +85,54 @@ module _ (s : System) where
   from-next c h l h' l' m (filter-ends cs g d r _) i = absurd i
   from-next c h l h' l' m (over _ _) i = absurd (mark-none c h idle m (λ a b. omega (arith, b)) i)
 
-  pub mark-source : (w : World) (x : Step) (m : Stamped) → In m (stampedBy (w .client) (perform s w x .world .client) x) → Marked s w x m
+  pub mark-source : (x : StepIn s) (xs : Run s) (m : Stamped) → In m (stampedAt s (account s) x xs) → Marked s x xs m
   unfolding stampedBy In Ended
-  mark-source w (write c r n) m i = absurd i
-  mark-source w (read c) m i = absurd i
-  mark-source w (make c b o) m i = absurd i
-  mark-source w (give-up c) m i = absurd i
-  mark-source w (serve b p o) m i = absurd i
-  mark-source w (take-reply c lent b o) m i = go (moved s c w (take-reply c lent b o))
+  mark-source x xs m i = by (x .step) refl i
     where
-      x : Step
-      x = take-reply c lent b o
-
-      cl' : Client
-      cl' = perform s w x .world .client c
-
-      go : Moved s c w x cl' (perform s w x .result) → Marked s w x m
-      go (kept e _) = absurd (mark-none c (w .client c .hand) (w .client c .hand) m (λ a b. omega (arith, a, b))
-          (subst (λ (z : Client). In m (stampedFrom c (w .client c .hand) (z .hand))) e i))
-      go (wbegan r n a d f l e) = absurd (let z : _≡_ {A = ℕ} 0 1 = cc in omega arith)
-      go (rbegan a d f e) = absurd (let z : _≡_ {A = ℕ} 0 1 = cc in omega arith)
-      go (quit a d f e) = absurd (let z : _≡_ {A = ℕ} 0 1 = cc in omega arith)
-      go (took p lent' b' o' a d f e r) =
-          let t = turn-turned s c (w .client c) p in
-          let g = from-next c (w .client c .hand) (w .client c .last) (cl' .hand) (cl' .last) m
-          (subst (λ (z : Client). Next s c (w .client c .hand) (w .client c .last) (z .hand) (z .last)) (sym e) (t .next)) i in
+      ends : (c : ℕ) (lent : Lent) (b o : List ℕ) → x .step ≡ take-reply c lent b o → In m (stampedFrom c (handAt s xs c) (handAt s (x ∷ xs) c)) →
+          MovedAt s c x xs → Marked s x xs m
+      ends c lent b o q i (kept e _) = absurd (mark-none c (handAt s xs c) (handAt s xs c) m (λ a b. omega (arith, a, b))
+          (subst (λ (z : Client). In m (stampedFrom c (handAt s xs c) (z .hand))) e i))
+      ends c lent b o q i (wbegan r n a d f l e) = absurd (let z : _≡_ {A = ℕ} 0 1 = cc in omega arith)
+      ends c lent b o q i (rbegan a d f e) = absurd (let z : _≡_ {A = ℕ} 0 1 = cc in omega arith)
+      ends c lent b o q i (quit a d f e) = absurd (let z : _≡_ {A = ℕ} 0 1 = cc in omega arith)
+      ends c lent b o q i (took p lent' b' o' a d f e r) =
+          let t = turn-turned s c (clientAt s xs c) p in
+          let g = from-next c (handAt s xs c) (lastAt s xs c) (handAt s (x ∷ xs) c) (lastAt s (x ∷ xs) c) m
+          (subst (λ (z : Client). Next s c (handAt s xs c) (lastAt s xs c) (z .hand) (z .last)) (sym e) (t .next)) i in
           record {
             lent = lent;
             packet = b;
             output = o;
-            step = ap (λ (d : ℕ). take-reply d lent b o) (sym (g .0));
+            step = q ∙ ap (λ (d : ℕ). take-reply d lent b o) (sym (g .0));
             top = g .1;
             top' = g .2;
-            was = ap (λ (d : ℕ). w .client d .hand) (g .0) ∙ g .3;
+            was = ap (handAt s xs) (g .0) ∙ g .3;
             rises = g .4;
-            is = ap (λ (d : ℕ). perform s w x .world .client d .hand) (g .0) ∙ g .5
+            is = ap (handAt s (x ∷ xs)) (g .0) ∙ g .5
                 ∙ ap (λ (d : ℕ). preparedFor s d (m .content) (m .nonce) (suc (g .2))) (sym (g .0));
-            last-is = ap (λ (d : ℕ). perform s w x .world .client d .last) (g .0) ∙ g .6;
+            last-is = ap (lastAt s (x ∷ xs)) (g .0) ∙ g .6;
             stamp-is = g .7 ∙ ap (λ (d : ℕ). stampFor s d (suc (g .2))) (sym (g .0));
             fine = subst (λ (z : Result). accepted z ≡ true) (sym r) (t .fine);
           }
 
+      by : (y : Step) → x .step ≡ y → In m (stampedBy (clientAt s xs) (clientAt s (x ∷ xs)) y) → Marked s x xs m
+      by (write c r n) q i = absurd i
+      by (read c) q i = absurd i
+      by (make c b o) q i = absurd i
+      by (give-up c) q i = absurd i
+      by (serve b p o) q i = absurd i
+      by (take-reply c lent b o) q i = ends c lent b o q i (moved s c x xs)
+
   -- a property of each new mark is one of all
-  pub mark-all : (P : Stamped → Type 0) → ((x : StepIn s) (xs : Run s) (m : Stamped) → Marked s (now s xs) (x .step) m → P m) →
+  pub mark-all : (P : Stamped → Type 0) → ((x : StepIn s) (xs : Run s) (m : Stamped) → Marked s x xs m → P m) →
       (xs : Run s) (m : Stamped) → In m (marks s xs) → P m
-  unfolding marks In nowValues
+  unfolding marks In
   mark-all P f [] m i = absurd i
   mark-all P f (x ∷ xs) m i = go (split-in m (stampedAt s (account s) x xs) (marks s xs) i) (λ k. mark-all P f xs m k)
     where
       go : In m (stampedAt s (account s) x xs) ⊎ In m (marks s xs) → (In m (marks s xs) → P m) → P m
-      go (inl k) r = f x xs m (mark-source (now s xs) (x .step) m k)
+      go (inl k) r = f x xs m (mark-source x xs m k)
       go (inr k) r = r k
 
   pub mark-num : (xs : Run s) (m : Stamped) → In m (marks s xs) → 1 ≤ m .stamp .number

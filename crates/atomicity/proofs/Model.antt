@@ -1,10 +1,11 @@
--- The vocabulary of the proof: a system's runs on values, the account of them, the writes that have a stamp (marks) with what they send, and
--- the laws of digest, tag, fragments and packets that the proof rests on. The laws are proved for the real functions in the module Real.
+-- The vocabulary of the proof: a system's runs on values, the ways into a moment and the account of runs, the writes that have a stamp (marks)
+-- with what they send, and the laws of digest, tag, fragments and packets that the proof rests on. The laws are proved for the real functions in
+-- the module Real.
 -- Assumes nothing.
 use mathlib.Core.Path.{_≡_}
 use mathlib.Core.Bool.{Bool, true, false, cond}
 use mathlib.Core.List.{List, [], _∷_, _++_, map}
-use mathlib.Core.Option.{some}
+use mathlib.Core.Option.{Option, some}
 use Prim.Native.Nat.{ℕ, _≤_}
 use lib.Dec.{eqb}
 use lib.ListN.{length}
@@ -17,7 +18,7 @@ use Rattle.protocol.specs.Packet.{Body, Packet, decode}
 use Rattle.protocol.specs.Primitives.{stampMessage, candidateMessage}
 use Rattle.protocol.specs.Rules.{ByServer, upd}
 use Rattle.protocol.specs.Server.{Server, Acted, blankServer, byHistory, byTag, valid, best, act}
-use Rattle.protocol.specs.Client.{Client, Hand, Turn, isFull, update, stampOf, tagsOf, prepared}
+use Rattle.protocol.specs.Client.{Client, Hand, Result, Turn, isFull, update, stampOf, tagsOf, prepared}
 use Rattle.protocol.specs.Runs.{Step, Account, steps, sentOf}
 use Rattle.protocol.proofs.ValueRuns.{World, After, doValues, nowValues}
 use Rattle.atomicity.specs.Lists.{All, AllPairs}
@@ -33,14 +34,48 @@ module _ (s : System) where
   abbrev pub now : Run s → World
   now xs = nowValues (s .P) (s .config) (s .writers) (s .keys) (steps xs)
 
+  -- ---- the ways into a moment, the one after the steps xs: its clients and servers, and what a step x then gives
+
+  abbrev pub clientAt : Run s → ℕ → Client
+  clientAt xs c = now xs .client c
+
+  abbrev pub serverAt : Run s → ℕ → Server
+  serverAt xs b = now xs .server b
+
+  abbrev pub resultAt : StepIn s → Run s → Result
+  resultAt x xs = perform (now xs) (x .step) .result
+
+  abbrev pub sentAt : StepIn s → Run s → Option Packet
+  sentAt x xs = perform (now xs) (x .step) .sent
+
+  -- a client's hand, the number of its calls, that of its last stamp, and who has replied in its round
+  abbrev pub handAt : Run s → ℕ → Hand
+  handAt xs c = clientAt xs c .hand
+
+  abbrev pub callsAt : Run s → ℕ → ℕ
+  callsAt xs c = clientAt xs c .calls
+
+  abbrev pub lastAt : Run s → ℕ → ℕ
+  lastAt xs c = clientAt xs c .last
+
+  abbrev pub repliedAt : Run s → ℕ → ByServer Bool
+  repliedAt xs c = clientAt xs c .marks
+
+  -- a server's latest stamp and its history
+  abbrev pub latestAt : Run s → ℕ → Stamp
+  latestAt xs b = serverAt xs b .latest .stamp
+
+  abbrev pub historyAt : Run s → ℕ → List Write
+  historyAt xs b = serverAt xs b .history
+
   -- what byValues tells, field by field
   abbrev pub account : Account (StepIn s)
   account =
       record {
-        result = λ x xs. perform (now xs) (x .step) .result;
-        sent = λ x xs. sentOf (perform (now xs) (x .step) .sent);
-        client = λ xs c. now xs .client c;
-        server = λ xs b. cond (within 1 (s .config .servers) b) (now xs .server b) (blankServer (s .config));
+        result = resultAt;
+        sent = λ x xs. sentOf (sentAt x xs);
+        client = clientAt;
+        server = λ xs b. cond (within 1 (s .config .servers) b) (serverAt xs b) (blankServer (s .config));
       }
 
   -- ---- a server's rules with its own key
@@ -112,8 +147,7 @@ module _ (s : System) where
 
   pub record Laws : Type 0 where
     -- bytes that were sent and decode to p were sent as p
-    pub reads : (x : StepIn s) (xs : Run s) (p : Packet) → decode (sentOf (perform (now xs) (x .step) .sent)) ≡ some p →
-        perform (now xs) (x .step) .sent ≡ some p
+    pub reads : (x : StepIn s) (xs : Run s) (p : Packet) → decode (sentOf (sentAt x xs)) ≡ some p → sentAt x xs ≡ some p
     -- the ranges of a packet's head
     pub heads : (b : List ℕ) (p : Packet) → decode b ≡ some p → p .head .t ≡ s .config .t
         → (1 ≤ p .head .client) × (p .head .client ≤ topClient) × (1 ≤ p .head .server) × (p .head .server ≤ s .config .servers)

@@ -21,7 +21,7 @@ use Rattle.atomicity.proofs.Model.{account, marks, isValid}
 use Rattle.atomicity.proofs.Setup.{Setup, Steps, StepOf, Fair, Begin, Show, srv, right}
 use Rattle.atomicity.proofs.Marks.{marks-up}
 use Rattle.atomicity.proofs.Nonces.{begins, by-nonce}
-use Rattle.atomicity.proofs.Servers.{best-case}
+use Rattle.atomicity.proofs.Best.{best-case}
 use Rattle.atomicity.proofs.Genuine.{at-serve, Genuine, genuine}
 use Rattle.atomicity.proofs.Quorums.{FullAt}
 use Rattle.atomicity.proofs.Invariant.{hands-all, shown-since}

@@ -3,7 +3,7 @@
 -- Assumes nothing.
 use mathlib.Core.Path.{_≡_, refl, subst}
 use mathlib.Core.Bool.{Bool, true, false, not, _&&_, _||_}
-use mathlib.Core.List.{List}
+use mathlib.Core.List.{List, _∷_}
 use mathlib.Core.Option.{Option, none, some}
 use Prim.Native.Nat.{ℕ, _≤_}
 use native.Mathlib.Omega.{arith}
@@ -16,14 +16,15 @@ use Rattle.cluster.proofs.Tests.{or-none, inside, passes}
 use Rattle.protocol.specs.Values.{blankCandidate}
 use Rattle.protocol.specs.Packet.{Packet, kindOf, decode}
 use Rattle.protocol.specs.Rules.{nobody}
-use Rattle.protocol.specs.Client.{Client, Turn, Result, more, aborted, idle, clocking, collecting, awaits, isIdle, highAt, onto, begun, badFaults, accepted}
+use Rattle.protocol.specs.Client.{Client, Turn, Result, more, aborted, idle, clocking, collecting, awaits, isIdle, highAt, onto, begun, badFaults}
+use Rattle.protocol.specs.Client.{accepted}
 use Rattle.protocol.specs.Client.{writeRefusal, readRefusal, abortRefusal, takeRefusal, writeStep, readStep, abortStep, takeStep, turnOn}
 use Rattle.protocol.specs.Runs.{Lent, Step, write, read, make, take-reply, give-up, serve}
-use Rattle.protocol.proofs.ValueRuns.{World, After, doValues, setClient}
+use Rattle.protocol.proofs.ValueRuns.{World, doValues, nowValues, setClient}
 use Rattle.protocol.proofs.Fine.{at-refusal}
-use Rattle.atomicity.specs.Steps.{System}
+use Rattle.atomicity.specs.Steps.{StepIn, System}
 use Rattle.atomicity.proofs.Util.{and-left, and-right, upd-case, clash}
-use Rattle.atomicity.proofs.Model.{perform, turn}
+use Rattle.atomicity.proofs.Model.{Run, perform, now, clientAt, resultAt, turn}
 
 -- ---- a client
 
@@ -54,16 +55,17 @@ acting c (take-reply d lent b o) = eqb c d
 acting c (give-up d) = eqb c d
 acting c (serve b p o) = false
 
-pub data Moved (s : System) (c : ℕ) (w : World) (x : Step) (cl : Client) (res : Result) : Type 0 where
-  kept : cl ≡ w .client c → (acting c x ≡ true → accepted res ≡ false) → Moved s c w x cl res
-  wbegan : (r n : List ℕ) → x ≡ write c r n → res ≡ more → isIdle (w .client c .hand) ≡ true → c ≤ topWriter →
-      cl ≡ begun (w .client c) (clocking r n (w .client c .last)) → Moved s c w x cl res
-  rbegan : x ≡ read c → res ≡ more → isIdle (w .client c .hand) ≡ true → cl ≡ begun (w .client c) (collecting (λ b. blankCandidate (s .config))) →
-      Moved s c w x cl res
-  quit : x ≡ give-up c → res ≡ aborted (eqb (awaits (w .client c .hand)) 6) → isIdle (w .client c .hand) ≡ false →
-      cl ≡ onto (w .client c) nobody idle → Moved s c w x cl res
-  took : (p : Packet) (lent : Lent) (b o : List ℕ) → x ≡ take-reply c lent b o → decode b ≡ some p → Fits s c (w .client c) p →
-      cl ≡ turn s c (w .client c) p .client → res ≡ turn s c (w .client c) p .result → Moved s c w x cl res
+-- client c was so before step x, and is cl after it, with this result
+pub data Moved (s : System) (c : ℕ) (was : Client) (x : Step) (cl : Client) (res : Result) : Type 0 where
+  kept : cl ≡ was → (acting c x ≡ true → accepted res ≡ false) → Moved s c was x cl res
+  wbegan : (r n : List ℕ) → x ≡ write c r n → res ≡ more → isIdle (was .hand) ≡ true → c ≤ topWriter →
+      cl ≡ begun was (clocking r n (was .last)) → Moved s c was x cl res
+  rbegan : x ≡ read c → res ≡ more → isIdle (was .hand) ≡ true → cl ≡ begun was (collecting (λ b. blankCandidate (s .config))) →
+      Moved s c was x cl res
+  quit : x ≡ give-up c → res ≡ aborted (eqb (awaits (was .hand)) 6) → isIdle (was .hand) ≡ false → cl ≡ onto was nobody idle →
+      Moved s c was x cl res
+  took : (p : Packet) (lent : Lent) (b o : List ℕ) → x ≡ take-reply c lent b o → decode b ≡ some p → Fits s c was p →
+      cl ≡ turn s c was p .client → res ≡ turn s c was p .result → Moved s c was x cl res
 
 pub take-fits : (s : System) (c : ℕ) (cl : Client) (p : Packet) (room : ℕ) →
     takeRefusal (s .config) c (some p) (cl .calls) (awaits (cl .hand)) (cl .marks) (highAt (s .P) (s .config) c (s .writers) (s .keys) cl) room ≡ 0 →
@@ -92,73 +94,77 @@ take-fits s c cl p room e =
     second true u p q = clash refl p
     second false u p q = q
 
-module _ (s : System) (c : ℕ) (w : World) where
-  abbrev MovedTo : Step → After → Type 0
-  MovedTo x a = Moved s c w x (a .world .client c) (a .result)
+module _ (s : System) (c : ℕ) (cl : Client) where
+  abbrev MovedBy : Step → Turn → Type 0
+  MovedBy x u = Moved s c cl x (u .client) (u .result)
 
-  -- client d makes the turn u
-  set-moved : (x : Step) (d : ℕ) (u : Turn) → (eqb c d ≡ false → acting c x ≡ false) → (c ≡ d → Moved s c w x (u .client) (u .result)) →
-      MovedTo x (setClient (s .P) (s .config) (s .writers) (s .keys) w d u)
-  unfolding setClient
-  set-moved x d u g f = upd-case (λ (y : Client). Moved s c w x y (u .result)) (w .client) d (u .client) c f (λ e. kept refl (λ q. clash q (g e)))
-
-  write-moved : (r n : List ℕ) → Moved s c w (write c r n) (writeStep (s .config) c (w .client c) r n .client)
-      (writeStep (s .config) c (w .client c) r n .result)
+  write-moved : (r n : List ℕ) → MovedBy (write c r n) (writeStep (s .config) c cl r n)
   unfolding writeStep
-  write-moved r n = at-refusal (λ (u : Turn). Moved s c w (write c r n) (u .client) (u .result))
-      (writeRefusal (s .config) c (length r) (not (isIdle (w .client c .hand))) (w .client c .calls)) _ _
-      (λ e. let z = write-passed (s .config) c (w .client c) r e in wbegan r n refl refl (z .2) (z .0) refl) (kept refl (λ q. refl))
+  write-moved r n = at-refusal (MovedBy (write c r n)) (writeRefusal (s .config) c (length r) (not (isIdle (cl .hand))) (cl .calls)) _ _
+      (λ e. let z = write-passed (s .config) c cl r e in wbegan r n refl refl (z .2) (z .0) refl) (kept refl (λ q. refl))
 
-  read-moved : Moved s c w (read c) (readStep (s .config) c (w .client c) .client) (readStep (s .config) c (w .client c) .result)
+  read-moved : MovedBy (read c) (readStep (s .config) c cl)
   unfolding readStep readRefusal
-  read-moved = at-refusal (λ (u : Turn). Moved s c w (read c) (u .client) (u .result))
-      (readRefusal (s .config) c (not (isIdle (w .client c .hand))) (w .client c .calls)) _ _
+  read-moved = at-refusal (MovedBy (read c)) (readRefusal (s .config) c (not (isIdle (cl .hand))) (cl .calls)) _ _
       (λ e. let z1 = passes (badFaults (s .config)) 2 _ e in
       let z2 = passes (not (within 1 topClient c)) 4 _ (z1 .1) in
-      let z3 = passes (not (isIdle (w .client c .hand))) 12 _ (z2 .1) in
+      let z3 = passes (not (isIdle (cl .hand))) 12 _ (z2 .1) in
       rbegan refl refl (not-false _ (z3 .0)) refl)
       (kept refl (λ q. refl))
 
-  quit-moved : Moved s c w (give-up c) (abortStep (s .config) c (w .client c) .client) (abortStep (s .config) c (w .client c) .result)
+  quit-moved : MovedBy (give-up c) (abortStep (s .config) c cl)
   unfolding abortStep abortRefusal
-  quit-moved = at-refusal (λ (u : Turn). Moved s c w (give-up c) (u .client) (u .result))
-      (abortRefusal (s .config) c (not (isIdle (w .client c .hand)))) _ _
+  quit-moved = at-refusal (MovedBy (give-up c)) (abortRefusal (s .config) c (not (isIdle (cl .hand)))) _ _
       (λ e. let z1 = passes (badFaults (s .config)) 2 _ e in
       let z2 = passes (not (within 1 topClient c)) 4 _ (z1 .1) in
-      let z3 = passes (not (not (isIdle (w .client c .hand)))) 12 _ (z2 .1) in
+      let z3 = passes (not (not (isIdle (cl .hand)))) 12 _ (z2 .1) in
       quit refl refl (not-true _ (not-false _ (z3 .0))) refl)
       (kept refl (λ q. refl))
 
   take-moved : (lent : Lent) (b o : List ℕ) (q : Option Packet) → decode b ≡ q →
-      Moved s c w (take-reply c lent b o) (takeStep (s .P) (s .config) c (s .writers) (s .keys) (w .client c) q (length o) .client)
-      (takeStep (s .P) (s .config) c (s .writers) (s .keys) (w .client c) q (length o) .result)
+      MovedBy (take-reply c lent b o) (takeStep (s .P) (s .config) c (s .writers) (s .keys) cl q (length o))
   unfolding takeStep turnOn takeRefusal
-  take-moved lent b o none d = at-refusal (λ (u : Turn). Moved s c w (take-reply c lent b o) (u .client) (u .result))
-      (takeRefusal (s .config) c none (w .client c .calls) (awaits (w .client c .hand)) (w .client c .marks)
-      (highAt (s .P) (s .config) c (s .writers) (s .keys) (w .client c)) (length o)) _ _
+  take-moved lent b o none d = at-refusal (MovedBy (take-reply c lent b o))
+      (takeRefusal (s .config) c none (cl .calls) (awaits (cl .hand)) (cl .marks)
+      (highAt (s .P) (s .config) c (s .writers) (s .keys) cl) (length o)) _ _
       (λ e. let z1 = passes (badFaults (s .config)) 2 _ e in let z2 = passes (not (within 1 topClient c)) 4 _ (z1 .1) in
       absurd (omega (arith, z2 .1)))
       (kept refl (λ q. refl))
-  take-moved lent b o (some p) d = at-refusal (λ (u : Turn). Moved s c w (take-reply c lent b o) (u .client) (u .result))
-      (takeRefusal (s .config) c (some p) (w .client c .calls) (awaits (w .client c .hand)) (w .client c .marks)
-      (highAt (s .P) (s .config) c (s .writers) (s .keys) (w .client c)) (length o)) _ _
-      (λ e. took p lent b o refl d (take-fits s c (w .client c) p (length o) e) refl refl)
+  take-moved lent b o (some p) d = at-refusal (MovedBy (take-reply c lent b o))
+      (takeRefusal (s .config) c (some p) (cl .calls) (awaits (cl .hand)) (cl .marks)
+      (highAt (s .P) (s .config) c (s .writers) (s .keys) cl) (length o)) _ _
+      (λ e. took p lent b o refl d (take-fits s c cl p (length o) e) refl refl)
       (kept refl (λ q. refl))
 
-  pub moved : (x : Step) → Moved s c w x (perform s w x .world .client c) (perform s w x .result)
+-- one step from any world: a run's moments follow
+module _ (s : System) (c : ℕ) (w : World) where
+  -- client d makes the turn u
+  set-moved : (x : Step) (d : ℕ) (u : Turn) → (eqb c d ≡ false → acting c x ≡ false) → (c ≡ d → Moved s c (w .client c) x (u .client) (u .result)) →
+      Moved s c (w .client c) x (setClient (s .P) (s .config) (s .writers) (s .keys) w d u .world .client c) (u .result)
+  unfolding setClient
+  set-moved x d u g f = upd-case (λ (y : Client). Moved s c (w .client c) x y (u .result)) (w .client) d (u .client) c f
+      (λ e. kept refl (λ q. clash q (g e)))
+
+  step-moved : (x : Step) → Moved s c (w .client c) x (perform s w x .world .client c) (perform s w x .result)
   unfolding doValues setClient
-  moved (write d r n) = set-moved (write d r n) d _ (λ e. e)
-      (λ e. subst (λ (i : ℕ). Moved s c w (write i r n) (writeStep (s .config) i (w .client i) r n .client)
-      (writeStep (s .config) i (w .client i) r n .result)) e (write-moved r n))
-  moved (read d) = set-moved (read d) d _ (λ e. e)
-      (λ e. subst (λ (i : ℕ). Moved s c w (read i) (readStep (s .config) i (w .client i) .client)
-      (readStep (s .config) i (w .client i) .result)) e read-moved)
-  moved (make d b o) = kept refl (λ q. clash q refl)
-  moved (take-reply d lent b o) = set-moved (take-reply d lent b o) d _ (λ e. e)
-      (λ e. subst (λ (i : ℕ). Moved s c w (take-reply i lent b o)
-      (takeStep (s .P) (s .config) i (s .writers) (s .keys) (w .client i) (decode b) (length o) .client)
-      (takeStep (s .P) (s .config) i (s .writers) (s .keys) (w .client i) (decode b) (length o) .result)) e (take-moved lent b o (decode b) refl))
-  moved (give-up d) = set-moved (give-up d) d _ (λ e. e)
-      (λ e. subst (λ (i : ℕ). Moved s c w (give-up i) (abortStep (s .config) i (w .client i) .client)
-      (abortStep (s .config) i (w .client i) .result)) e quit-moved)
-  moved (serve b p o) = kept refl (λ q. clash q refl)
+  step-moved (write d r n) = set-moved (write d r n) d _ (λ e. e)
+      (λ e. subst (λ (i : ℕ). MovedBy s c (w .client c) (write i r n) (writeStep (s .config) i (w .client i) r n)) e
+      (write-moved s c (w .client c) r n))
+  step-moved (read d) = set-moved (read d) d _ (λ e. e)
+      (λ e. subst (λ (i : ℕ). MovedBy s c (w .client c) (read i) (readStep (s .config) i (w .client i))) e (read-moved s c (w .client c)))
+  step-moved (make d b o) = kept refl (λ q. clash q refl)
+  step-moved (take-reply d lent b o) = set-moved (take-reply d lent b o) d _ (λ e. e)
+      (λ e. subst (λ (i : ℕ). MovedBy s c (w .client c) (take-reply i lent b o)
+      (takeStep (s .P) (s .config) i (s .writers) (s .keys) (w .client i) (decode b) (length o))) e
+      (take-moved s c (w .client c) lent b o (decode b) refl))
+  step-moved (give-up d) = set-moved (give-up d) d _ (λ e. e)
+      (λ e. subst (λ (i : ℕ). MovedBy s c (w .client c) (give-up i) (abortStep (s .config) i (w .client i))) e (quit-moved s c (w .client c)))
+  step-moved (serve b p o) = kept refl (λ q. clash q refl)
+
+-- client c at step x after the steps xs
+abbrev pub MovedAt : (s : System) → ℕ → StepIn s → Run s → Type 0
+MovedAt s c x xs = Moved s c (clientAt s xs c) (x .step) (clientAt s (x ∷ xs) c) (resultAt s x xs)
+
+pub moved : (s : System) (c : ℕ) (x : StepIn s) (xs : Run s) → MovedAt s c x xs
+unfolding nowValues
+moved s c x xs = step-moved s c (now s xs) (x .step)

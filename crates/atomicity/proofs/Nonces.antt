@@ -6,17 +6,19 @@ use mathlib.Core.List.{List, [], _∷_}
 use mathlib.Core.Logic.{_⊎_, inl, inr}
 use Prim.Native.Nat.{ℕ, suc}
 use native.Mathlib.Omega.{arith}
-use Rattle.protocol.specs.Client.{Client, Hand, Result, idle, clocking, storing, completing, collecting, filtering, repairing, begun, onto, prepared, accepted}
+use Rattle.protocol.specs.Client.{Client, Hand, Result, idle, clocking, storing, completing, collecting, filtering, repairing, begun, onto, prepared}
+use Rattle.protocol.specs.Client.{accepted}
 use Rattle.protocol.specs.Runs.{write}
-use Rattle.protocol.proofs.ValueRuns.{World, nowValues}
+use Rattle.protocol.proofs.ValueRuns.{nowValues}
 use Rattle.atomicity.specs.Lists.{Ever, Always, In}
 use Rattle.atomicity.specs.Steps.{Stamped, stampedAt}
 use Rattle.atomicity.specs.Premises.{Begins, FreshNonce}
 use Rattle.atomicity.proofs.Util.{split-in, ever-map}
-use Rattle.atomicity.proofs.Model.{perform, now, account, marks, stampFor, preparedFor}
+use Rattle.atomicity.proofs.Model.{account, marks, stampFor, preparedFor}
 use Rattle.atomicity.proofs.Setup.{Setup, Steps, StepOf, Fair, Begin, hand, lastOf, cli}
-use Rattle.atomicity.proofs.Moves.{Moved, kept, wbegan, rbegan, quit, took, moved}
-use Rattle.atomicity.proofs.Rounds.{Next, stays, clock-on, clock-ends, store-ends, collect-on, collect-ends, filter-on, filter-ends, over, turn-turned}
+use Rattle.atomicity.proofs.Moves.{kept, wbegan, rbegan, quit, took, moved, MovedAt}
+use Rattle.atomicity.proofs.Rounds.{Next, stays, clock-on, clock-ends, store-ends, collect-on, collect-ends, filter-on, filter-ends, over}
+use Rattle.atomicity.proofs.Rounds.{turn-turned}
 use Rattle.atomicity.proofs.Marks.{Marked, mark-source}
 use Rattle.atomicity.proofs.Begun.{Opening, Known, known, opened}
 
@@ -49,31 +51,28 @@ module _ (K : Setup) where
   -- a hand that is clocking after the step, and was before or begins now
   unmarked-at : (x : StepOf K) (xs : Steps K) → Fair K (x ∷ xs) → (c : ℕ) (r n : List ℕ) (k : ℕ) → hand K (x ∷ xs) c ≡ clocking r n k →
       ((m : Stamped) → In m (marks (K .s) xs) → m .nonce ≡ n → ⊥) → (m : Stamped) → In m (marks (K .s) (x ∷ xs)) → m .nonce ≡ n → ⊥
-  unfolding marks nowValues Known prepared
+  unfolding marks Known prepared
   unmarked-at x xs fair c r n k e old m i q = go (split-in m (stampedAt (K .s) (account (K .s)) x xs) (marks (K .s) xs) i)
     where
       go : In m (stampedAt (K .s) (account (K .s)) x xs) ⊎ In m (marks (K .s) xs) → ⊥
       go (inr j) = old m j q
       go (inl j) =
-          let t = mark-source (K .s) (now (K .s) xs) (x .step) m j in
+          let t = mark-source (K .s) x xs m j in
           let o : Ever (Opening (K .s) c r n) (x ∷ xs) = subst (Known (K .s) (x ∷ xs) c) e (known (K .s) (x ∷ xs) c) in
           let b : Ever (Opening (K .s) (m .client) (m .content) n) (x ∷ xs) =
           subst (λ (y : List ℕ). Ever (Opening (K .s) (m .client) (m .content) y) (x ∷ xs)) q (opened (K .s) (x ∷ xs) m i) in
           let w : m .client ≡ c = one-nonce (x ∷ xs) fair (m .client) c (m .content) r n b o .0 in
           let a : preparedFor (K .s) (m .client) (m .content) (m .nonce) (suc (t .top')) ≡ clocking r n k = sym (t .is)
-          ∙ ap (λ (i : ℕ). hand K (x ∷ xs) i) w ∙ e in
+          ∙ ap (hand K (x ∷ xs)) w ∙ e in
           (let z : _≡_ {A = ℕ} 0 1 = cc in omega arith)
 
   pub unmarked : (xs : Steps K) → Fair K xs → (c : ℕ) → Unmarked xs (hand K xs c)
   unfolding nowValues Unmarked Always begun onto FreshNonce Begins prepared
   unmarked [] fair c = tt
-  unmarked (x ∷ xs) fair c = go (moved (K .s) c (now (K .s) xs) (x .step)) (unmarked xs (fair .1) c)
+  unmarked (x ∷ xs) fair c = go (moved (K .s) c x xs) (unmarked xs (fair .1) c)
     where
-      w : World
-      w = now (K .s) xs
-
       cl' : Client
-      cl' = perform (K .s) w (x .step) .world .client c
+      cl' = cli K (x ∷ xs) c
 
       -- from the hand before, by the hand after
       on : (h : Hand) → cl' .hand ≡ h → ((r n : List ℕ) (k : ℕ) → h ≡ clocking r n k → (m : Stamped) → In m (marks (K .s) xs) → m .nonce ≡ n → ⊥) →
@@ -86,7 +85,7 @@ module _ (K : Setup) where
       on (filtering cs g) e f = tt
       on (repairing d r) e f = tt
 
-      go : Moved (K .s) c w (x .step) cl' (perform (K .s) w (x .step) .result) → Unmarked xs (hand K xs c) → Unmarked (x ∷ xs) (cl' .hand)
+      go : MovedAt (K .s) c x xs → Unmarked xs (hand K xs c) → Unmarked (x ∷ xs) (cl' .hand)
       go (kept e _) u = on (cl' .hand) refl (λ r n k q. subst (Unmarked xs) (sym (ap (λ (y : Client). y .hand) e) ∙ q) u)
       go (wbegan r n a b d l e) u = on (cl' .hand) refl
           (λ r' n' k q m i z. let q' : clocking r n _ ≡ clocking r' n' k = sym (ap (λ (y : Client). y .hand) e) ∙ q in
@@ -114,14 +113,14 @@ module _ (K : Setup) where
 
   -- two marks with one nonce are one
   pub by-nonce : (xs : Steps K) → Fair K xs → (a b : Stamped) → In a (marks (K .s) xs) → In b (marks (K .s) xs) → a .nonce ≡ b .nonce → a ≡ b
-  unfolding marks In Always Unmarked nowValues
+  unfolding marks In Always Unmarked
   by-nonce [] fair a b i j e = absurd i
   by-nonce (x ∷ xs) fair a b i j e =
       go (split-in a (stampedAt (K .s) (account (K .s)) x xs) (marks (K .s) xs) i)
       (split-in b (stampedAt (K .s) (account (K .s)) x xs) (marks (K .s) xs) j) (λ k l. by-nonce xs (fair .1) a b k l e)
     where
       M : Stamped → Type 0
-      M m = Marked (K .s) (now (K .s) xs) (x .step) m
+      M m = Marked (K .s) x xs m
 
       never : (m k : Stamped) → m .nonce ≡ k .nonce → M m → In k (marks (K .s) xs) → ⊥
       never m k q t l = subst (Unmarked xs) (t .was) (unmarked xs (fair .1) (m .client)) k l (sym q)
@@ -129,10 +128,10 @@ module _ (K : Setup) where
       both : M a → M b → a ≡ b
       both t u =
           let w : a .client ≡ b .client = (let z = sym (t .step) ∙ u .step in cc) in
-          let h : clocking (a .content) (a .nonce) (t .top) ≡ clocking (b .content) (b .nonce) (u .top) = sym (t .was) ∙ ap (λ (i : ℕ). hand K xs i) w
+          let h : clocking (a .content) (a .nonce) (t .top) ≡ clocking (b .content) (b .nonce) (u .top) = sym (t .was) ∙ ap (hand K xs) w
           ∙ u .was in
           let r : a .content ≡ b .content = cc in let n : a .nonce ≡ b .nonce = cc in
-          let l : suc (t .top') ≡ suc (u .top') = sym (t .last-is) ∙ ap (λ (i : ℕ). perform (K .s) (now (K .s) xs) (x .step) .world .client i .last) w
+          let l : suc (t .top') ≡ suc (u .top') = sym (t .last-is) ∙ ap (lastOf K (x ∷ xs)) w
           ∙ u .last-is in
           let σ : a .stamp ≡ b .stamp = t .stamp-is ∙ ap (λ (c : ℕ). stampFor (K .s) c (suc (t .top'))) w
           ∙ ap (λ (k : ℕ). stampFor (K .s) (b .client) k) l ∙ sym (u .stamp-is) in
@@ -140,7 +139,7 @@ module _ (K : Setup) where
 
       go : In a (stampedAt (K .s) (account (K .s)) x xs) ⊎ In a (marks (K .s) xs) → In b (stampedAt (K .s) (account (K .s)) x xs)
           ⊎ In b (marks (K .s) xs) → (In a (marks (K .s) xs) → In b (marks (K .s) xs) → a ≡ b) → a ≡ b
-      go (inl k) (inl l) r = both (mark-source (K .s) (now (K .s) xs) (x .step) a k) (mark-source (K .s) (now (K .s) xs) (x .step) b l)
-      go (inl k) (inr l) r = absurd (never a b e (mark-source (K .s) (now (K .s) xs) (x .step) a k) l)
-      go (inr k) (inl l) r = absurd (never b a (sym e) (mark-source (K .s) (now (K .s) xs) (x .step) b l) k)
+      go (inl k) (inl l) r = both (mark-source (K .s) x xs a k) (mark-source (K .s) x xs b l)
+      go (inl k) (inr l) r = absurd (never a b e (mark-source (K .s) x xs a k) l)
+      go (inr k) (inl l) r = absurd (never b a (sym e) (mark-source (K .s) x xs b l) k)
       go (inr k) (inr l) r = r k l

@@ -13,24 +13,23 @@ use Rattle.cluster.specs.Config.{upTo}
 use Rattle.protocol.specs.declared.Stamp.{Stamp}
 use Rattle.protocol.specs.Values.{Candidate, Held, sameList}
 use Rattle.protocol.specs.Packet.{Body, Packet}
-use Rattle.protocol.specs.Packet.{clock}
 use Rattle.protocol.specs.Primitives.{stampMessage, candidateMessage}
 use Rattle.protocol.specs.Rules.{ByServer, leader, tagsIn}
 use Rattle.protocol.specs.Client.{Client, Hand, Turn, Result, idle, clocking, storing, completing, collecting, filtering, repairing, awaits, accepted}
 use Rattle.protocol.specs.Client.{update, judge, found, onto, begun, prepared, candidateMade, higher, checks, stampIn, codeIn}
 use Rattle.protocol.specs.Runs.{Step}
-use Rattle.protocol.proofs.ValueRuns.{World, nowValues}
+use Rattle.protocol.proofs.ValueRuns.{nowValues}
 use Rattle.protocol.proofs.Answers.{at-cond}
 use Rattle.atomicity.specs.Lists.{Ever, Always, In}
-use Rattle.atomicity.specs.Steps.{Stamped, ofPacket, stampedFrom, stampedBy, stampedAt, tagsWith, tagsMade, clientChecks, checkedBy, tagsChecked}
+use Rattle.atomicity.specs.Steps.{Stamped, ofPacket, stampedFrom, stampedBy, stampedAt, tagsWith, tagsMade, clientChecks, checkedBy}
+use Rattle.atomicity.specs.Steps.{tagsChecked}
 use Rattle.atomicity.specs.Premises.{NoForgery}
 use Rattle.atomicity.proofs.Util.{cond-both, left-in, right-in, in-flat, map-in, all-in}
-use Rattle.atomicity.proofs.Model.{perform, now, account, marks, updated}
-use Rattle.atomicity.proofs.Setup.{Setup, Steps, StepOf, Fair, hand, lastOf, cli}
-use Rattle.atomicity.proofs.Moves.{Moved, kept, wbegan, rbegan, quit, took, moved}
+use Rattle.atomicity.proofs.Model.{account, marks, updated}
+use Rattle.atomicity.proofs.Setup.{Setup, Steps, StepOf, Fair, hand, lastOf, cli, result}
+use Rattle.atomicity.proofs.Moves.{kept, wbegan, rbegan, quit, took, moved, MovedAt}
 use Rattle.atomicity.proofs.Rounds.{turn-turned}
 use Rattle.atomicity.proofs.Rising.{Clocked, clocked-map, capped}
-use Rattle.atomicity.proofs.Shape.{result}
 use Rattle.atomicity.proofs.Story.{past}
 
 abbrev pub Low : ℕ → Hand → Type 0
@@ -133,14 +132,11 @@ module _ (K : Setup) where
   mark-small xs h m i = omega (arith, h (m .client) .0, capped (K .s) xs m i)
 
   small-step : (x : StepOf K) (xs : Steps K) → Fair K (x ∷ xs) → Small xs → Small (x ∷ xs)
-  unfolding Small nowValues marks begun onto Clocked Always NoForgery checkedBy stampedBy
-  small-step x xs fair h c = go (moved (K .s) c w (x .step))
+  unfolding Small marks begun onto Clocked Always NoForgery checkedBy stampedBy
+  small-step x xs fair h c = go (moved (K .s) c x xs)
     where
-      w : World
-      w = now (K .s) xs
-
       cl' : Client
-      cl' = perform (K .s) w (x .step) .world .client c
+      cl' = cli K (x ∷ xs) c
 
       N : ℕ
       N = length (marks (K .s) xs)
@@ -154,7 +150,7 @@ module _ (K : Setup) where
       up : N ≤ M
       up = omega (arith, length-append (stampedAt (K .s) (account (K .s)) x xs) (marks (K .s) xs))
 
-      go : Moved (K .s) c w (x .step) cl' (result K x xs) → Goal M cl'
+      go : MovedAt (K .s) c x xs → Goal M cl'
       go (kept e _) = subst (Goal M) (sym e) (omega (arith, up, h c .0), clocked-map _ _ (λ k l. omega (arith, up, l)) (hand K xs c) (h c .1))
       go (wbegan r n s a i l e) = subst (Goal M) (sym e) (omega (arith, up, h c .0), omega (arith, up, h c .0))
       go (rbegan s a i e) = subst (Goal M) (sym e) (omega (arith, up, h c .0), tt)
@@ -167,7 +163,7 @@ module _ (K : Setup) where
           subst (λ (m : ℕ). Goal m cl') (sym q) (subst (λ (y : Client). Goal (N + length (stampedFrom c (hand K xs c) (y .hand))) y) (sym e) u)
         where
           at-take : stampedAt (K .s) (account (K .s)) x xs ≡ stampedFrom c (hand K xs c) (cl' .hand)
-          at-take = ap (stampedBy (w .client) (perform (K .s) w (x .step) .world .client)) s
+          at-take = ap (stampedBy (cli K xs) (cli K (x ∷ xs))) s
 
           fine : accepted (result K x xs) ≡ true
           fine = subst (λ (z : Result). accepted z ≡ true) (sym v) (turn-turned (K .s) c (cli K xs c) p .fine)
@@ -185,6 +181,6 @@ module _ (K : Setup) where
               omega (arith, m .2, mark-small xs h (m .0) (m .1))
 
   pub small : (xs : Steps K) → Fair K xs → Small xs
-  unfolding Small nowValues marks Clocked
+  unfolding nowValues Small marks Clocked
   small [] fair = λ c. (omega arith, tt)
   small (x ∷ xs) fair = small-step x xs fair (small xs (past K x xs fair))

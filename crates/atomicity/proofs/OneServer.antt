@@ -7,7 +7,7 @@ use mathlib.Core.List.{List}
 use mathlib.Core.Logic.{_⊎_, inl, inr}
 use Prim.Native.Nat.{ℕ, _≤_, _<_}
 use native.Mathlib.Omega.{arith}
-use lib.Dec.{leb, ltb}
+use lib.Dec.{ltb}
 use lib.ListN.{length}
 use borrow.Author.Tests.{leb-true, ltb-true, ltb-false}
 use Rattle.cluster.specs.Config.{Legal}
@@ -17,7 +17,7 @@ use Rattle.protocol.specs.Client.{Hand, idle, clocking, storing, completing, co
 use Rattle.protocol.proofs.ValueRuns.{byValues}
 use Rattle.atomicity.specs.Lists.{In}
 use Rattle.atomicity.specs.Steps.{System}
-use Rattle.atomicity.specs.Claim.{Logged, begunWrites, CameTo, CameIn, Progress, OneServer}
+use Rattle.atomicity.specs.Claim.{Logged, CameTo, Room, Answered, Progress, OneServer}
 use Rattle.atomicity.proofs.Util.{bool-case, clash, and-intro, all-in, map-in}
 use Rattle.atomicity.proofs.Model.{Laws, account, marks}
 use Rattle.atomicity.proofs.Setup.{Setup, Steps, Fair, hand, calls, replied, right, right-range}
@@ -54,20 +54,26 @@ module _ (K : Setup) (xs : Steps K) (fair : Fair K xs) where
       bool-case (ltb n (Q K)) (λ e. ltb-true n (Q K) e) (λ e. absurd (decides K xs fair cs g m w (omega (arith, k, ltb-false n (Q K) e))))
   short c m (repairing d r) busy ok w n k l = omega (arith, ok .short, l)
 
-  pub progress : Progress (K .s) (account (K .s)) (K .correct) xs
-  unfolding Progress Hands CameTo Roomy right
-  progress c good busy room bs d came =
+  -- where the history of every server has room: what the claim asks, so that it has, is no matter here
+  lacking : (c : ℕ) → K .correct .client c ≡ true → isIdle (hand K xs c) ≡ false → Roomy K c (awaits (hand K xs c)) xs →
+      Answered (K .s) (account (K .s)) (K .correct) xs c (calls K xs c) (awaits (hand K xs c)) → ⊥
+  unfolding Hands CameTo right
+  lacking c good busy room (bs, d, came, enough) =
       let m = replied K xs c in
       let each : (b : ℕ) → In b bs → (right K xs b ≡ true)
-      × (m b ≡ true) = λ b i. let k = all-in (λ b. (right K xs b ≡ true) × CameIn (K .s) (account (K .s)) (K .correct) xs c b) bs came b i in
-      (k .0, arrived K c xs fair good b (calls K xs c) (awaits (hand K xs c)) refl refl busy (roomy room) (k .1)) in
-      short c m (hand K xs c) busy (hands-all K xs fair .0 c good) (waiting K xs fair c good) (length bs)
+      × (m b ≡ true) = λ b i. let k = all-in _ bs came b i in
+      (k .0, arrived K c xs fair good b (calls K xs c) (awaits (hand K xs c)) refl refl busy room (k .1)) in
+      let few = short c m (hand K xs c) busy (hands-all K xs fair .0 c good) (waiting K xs fair c good) (length bs)
       (marked-count (S K) bs (λ j. right K xs j && m j) d
       (λ b i. let e = each b i in let rg = right-range K xs b (e .0) in (rg .0, rg .1, and-intro _ _ (e .0) (e .1))))
-      (marked-count (S K) bs m d (λ b i. let e = each b i in let rg = right-range K xs b (e .0) in (rg .0, rg .1, e .1)))
+      (marked-count (S K) bs m d (λ b i. let e = each b i in let rg = right-range K xs b (e .0) in (rg .0, rg .1, e .1))) in
+      omega (arith, few, enough)
+
+  pub progress : Progress (K .s) (account (K .s)) (K .correct) xs
+  unfolding Progress Roomy
+  progress c good busy room = lacking c good busy (roomy room)
     where
-      roomy : (leb 8 (awaits (hand K xs c)) ≡ true) ⊎ (begunWrites (Log K xs) ≤ capacity) → (8 ≤ awaits (hand K xs c))
-          ⊎ (length (marks (K .s) xs) ≤ capacity)
+      roomy : Room (Log K xs) (hand K xs c) → (8 ≤ awaits (hand K xs c)) ⊎ (length (marks (K .s) xs) ≤ capacity)
       roomy (inl h) = inl (leb-true 8 (awaits (hand K xs c)) h)
       roomy (inr h) = inr (omega (arith, h, few-marks K xs fair))
 

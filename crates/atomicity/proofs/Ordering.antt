@@ -6,11 +6,11 @@ use mathlib.Core.Bool.{Bool, true, false, cond}
 use mathlib.Core.List.{List, [], _∷_, map}
 use mathlib.Core.Option.{Option, none, some}
 use mathlib.Core.Logic.{_⊎_, inl, inr}
-use Prim.Native.Nat.{ℕ}
+use Prim.Native.Nat.{ℕ, _≤_}
 use Rattle.protocol.specs.Rules.{keep}
-use Rattle.atomicity.specs.Page41.{reachedBy, Sourced}
+use Rattle.atomicity.specs.Page41.{Sourced}
 use Rattle.atomicity.specs.Lists.{All, In, AllPairs, Perm, nil, skip, swap, trans}
-use Rattle.atomicity.specs.Claim.{InTime, Logged, before, counted, givesHeld, holds, Replay, OneOrder}
+use Rattle.atomicity.specs.Claim.{InTime, Logged, before, counted, holds, Replay, OneOrder}
 use Rattle.atomicity.proofs.Util.{no-some, all-in, all-map, in-map}
 use Rattle.atomicity.proofs.Sorting.{sort, perm-sort, all-sort, sort-sorted}
 use Rattle.cluster.proofs.Tests.{untrue}
@@ -36,6 +36,10 @@ perm-map f nil = nil
 perm-map f (skip x p) = skip (f x) (perm-map f p)
 perm-map f (swap x y xs) = swap (f x) (f y) (map f xs)
 perm-map f (trans p q) = trans (perm-map f p) (perm-map f q)
+
+-- the complete round of call w had begun when call c ended
+abbrev pub ReachedBy : Logged → Logged → Type 0
+ReachedBy w c = (n : ℕ) × (e : ℕ) × (w .reached ≡ some n) × (c .over ≡ some e) × (n ≤ e)
 
 module _ {A : Type 0} (call : A → Logged) (less : A → A → Bool)
     (chain : (a b c : A) → less a b ≡ true → less b c ≡ true → less a c ≡ true)
@@ -107,9 +111,9 @@ module _ {A : Type 0} (call : A → Logged) (less : A → A → Bool)
 
       go : (o : Option (List ℕ)) → call c .wrote ≡ o → (call c .wrote ≡ none → Replay m (map call cs)) →
           ((v : List ℕ) → call c .wrote ≡ some v → Replay (some v) (map call cs)) →
-          givesHeld m o (call c) × Replay (holds m o) (map call cs)
-      go none e f g = (mine e (h c (inl refl) e), f e)
-      go (some v) e f g = (tt, g v e)
+          (call c .wrote ≡ none → call c .answer ≡ m) × Replay (holds m o) (map call cs)
+      go none e f g = (λ q. mine q (h c (inl refl) q), f e)
+      go (some v) e f g = (λ q. absurd (no-some (sym q ∙ e)), g v e)
 
   pub timely : (cs : List A) → ((a b : A) → In a cs → In b cs → before (call a) (call b) ≡ true → less a b ≡ true) →
       Sorted cs → InTime (map call cs)
@@ -161,19 +165,19 @@ module _ {A : Type 0} (call : A → Logged) (less : A → A → Bool)
   -- whatever a read gave was written by a write below it, in time
   abbrev pub Sources : List A → Type 0
   Sources cs = (r : A) → In r cs → (v : List ℕ) → call r .wrote ≡ none → call r .answer ≡ some v →
-      (w : A) × In w cs × (less w r ≡ true) × (call w .wrote ≡ some v) × (reachedBy (call w .reached) (call r .over) ≡ true)
+      (w : A) × In w cs × (less w r ≡ true) × (call w .wrote ≡ some v) × ReachedBy (call w) (call r)
 
   -- who stands below a call in a sorted list stands ahead of it
   sourced : (ahead cs : List A) → Sorted cs →
       ((r : A) → In r cs → (v : List ℕ) → call r .wrote ≡ none → call r .answer ≡ some v →
-      (w : A) × (In w ahead ⊎ In w cs) × (less w r ≡ true) × (call w .wrote ≡ some v) × (reachedBy (call w .reached) (call r .over) ≡ true)) →
+      (w : A) × (In w ahead ⊎ In w cs) × (less w r ≡ true) × (call w .wrote ≡ some v) × ReachedBy (call w) (call r)) →
       Sourced (map call ahead) (map call cs)
   unfolding Sorted AllPairs Sourced In
   sourced ahead [] s h = tt
   sourced ahead (c ∷ cs) s h = (mine, sourced (c ∷ ahead) cs (s .1) later)
     where
       mine : (v : List ℕ) → call c .wrote ≡ none → call c .answer ≡ some v →
-          (w : Logged) × In w (map call ahead) × (w .wrote ≡ some v) × (reachedBy (w .reached) (call c .over) ≡ true)
+          (w : Logged) × In w (map call ahead) × (w .wrote ≡ some v) × ReachedBy w (call c)
       mine v n a = let k = h c (inl refl) v n a in (call (k .0), in-map call ahead (k .0) (place (k .0) (k .2) (k .1)), k .3, k .4)
         where
           place : (w : A) → less w c ≡ true → In w ahead ⊎ In w (c ∷ cs) → In w ahead
@@ -183,7 +187,7 @@ module _ {A : Type 0} (call : A → Logged) (less : A → A → Bool)
 
       later : (r : A) → In r cs → (v : List ℕ) → call r .wrote ≡ none → call r .answer ≡ some v →
           (w : A) × (In w (c ∷ ahead) ⊎ In w cs) × (less w r ≡ true) × (call w .wrote ≡ some v)
-          × (reachedBy (call w .reached) (call r .over) ≡ true)
+          × ReachedBy (call w) (call r)
       later r i v n a = let k = h r (inr i) v n a in (k .0, move (k .0) (k .1), k .2, k .3, k .4)
         where
           move : (w : A) → In w ahead ⊎ In w (c ∷ cs) → In w (c ∷ ahead) ⊎ In w cs

@@ -13,14 +13,13 @@ use borrow.Author.Tests.{eq-eqb, ne-eqb}
 use Rattle.protocol.specs.Rules.{nobody}
 use Rattle.protocol.specs.Client.{Client, Hand, idle, clocking, storing, completing, collecting, filtering, repairing, awaits, isIdle, request}
 use Rattle.protocol.specs.Client.{onto, begun, prepared}
-use Rattle.protocol.specs.Runs.{Step}
-use Rattle.protocol.proofs.ValueRuns.{World, nowValues}
 use Rattle.atomicity.specs.Lists.{Ever}
 use Rattle.atomicity.specs.Steps.{StepIn, System}
 use Rattle.atomicity.proofs.Util.{clash, ever-map}
-use Rattle.atomicity.proofs.Model.{Run, perform, now}
-use Rattle.atomicity.proofs.Moves.{Moved, kept, wbegan, rbegan, quit, took, moved}
-use Rattle.atomicity.proofs.Rounds.{Next, stays, clock-on, clock-ends, store-ends, collect-on, collect-ends, filter-on, filter-ends, over, turn-turned}
+use Rattle.atomicity.proofs.Model.{Run, clientAt, handAt, callsAt}
+use Rattle.atomicity.proofs.Moves.{MovedAt, kept, wbegan, rbegan, quit, took, moved}
+use Rattle.atomicity.proofs.Rounds.{Next, stays, clock-on, clock-ends, store-ends, collect-on, collect-ends, filter-on, filter-ends, over}
+use Rattle.atomicity.proofs.Rounds.{turn-turned}
 
 unfoldable pub stage : Hand → ℕ
 stage idle = 15
@@ -104,61 +103,59 @@ module _ (s : System) where
   unfolding onto
   quitted c cl = later-next c cl _ refl (over (cl .hand) _)
 
-  pub later : (w : World) (c : ℕ) (x : Step) → Later (w .client c) (perform s w x .world .client c)
-  later w c x = go (moved s c w x)
+  later : (c : ℕ) (x : StepIn s) (xs : Run s) → Later (clientAt s xs c) (clientAt s (x ∷ xs) c)
+  later c x xs = go (moved s c x xs)
     where
-      cl' : Client
-      cl' = perform s w x .world .client c
+      cl : Client
+      cl = clientAt s xs c
 
-      go : Moved s c w x cl' (perform s w x .result) → Later (w .client c) cl'
-      go (kept e _) = subst (Later (w .client c)) (sym e) (later-refl (w .client c))
-      go (wbegan r n a b d l e) = subst (Later (w .client c)) (sym e) (later-fresh (w .client c) _)
-      go (rbegan a b d e) = subst (Later (w .client c)) (sym e) (later-fresh (w .client c) _)
-      go (quit a b d e) = subst (Later (w .client c)) (sym e) (quitted c (w .client c))
-      go (took p lent b o a d f e r) = let t = turn-turned s c (w .client c) p in
-          subst (Later (w .client c)) (sym e) (later-next c (w .client c) _ (t .calls) (t .next))
+      go : MovedAt s c x xs → Later cl (clientAt s (x ∷ xs) c)
+      go (kept e _) = subst (Later cl) (sym e) (later-refl cl)
+      go (wbegan r n a b d l e) = subst (Later cl) (sym e) (later-fresh cl _)
+      go (rbegan a b d e) = subst (Later cl) (sym e) (later-fresh cl _)
+      go (quit a b d e) = subst (Later cl) (sym e) (quitted c cl)
+      go (took p lent b o a d f e r) = let t = turn-turned s c cl p in subst (Later cl) (sym e) (later-next c cl _ (t .calls) (t .next))
 
   -- ---- the moments when the call and the round of client c began
   -- the steps before the begin of c's present call
   unfoldable pub since : ℕ → Run s → Run s
   since c [] = []
-  since c (x ∷ xs) = cond (eqb (now s xs .client c .calls) (now s (x ∷ xs) .client c .calls)) (since c xs) xs
+  since c (x ∷ xs) = cond (eqb (callsAt s xs c) (callsAt s (x ∷ xs) c)) (since c xs) xs
 
   -- the steps up to and with the one that began c's present round
   unfoldable pub from : ℕ → Run s → Run s
   from c [] = []
-  from c (x ∷ xs) = cond (eqb (pos (now s xs .client c)) (pos (now s (x ∷ xs) .client c))) (from c xs) (x ∷ xs)
+  from c (x ∷ xs) = cond (eqb (pos (clientAt s xs c)) (pos (clientAt s (x ∷ xs) c))) (from c xs) (x ∷ xs)
 
-  pub since-same : (c : ℕ) (x : StepIn s) (xs : Run s) → now s xs .client c .calls ≡ now s (x ∷ xs) .client c .calls →
+  pub since-same : (c : ℕ) (x : StepIn s) (xs : Run s) → callsAt s xs c ≡ callsAt s (x ∷ xs) c →
       since c (x ∷ xs) ≡ since c xs
   unfolding since
   since-same c x xs e = ap (λ (b : Bool). cond b (since c xs) xs) (eq-eqb _ _ e)
 
-  pub since-new : (c : ℕ) (x : StepIn s) (xs : Run s) → now s xs .client c .calls < now s (x ∷ xs) .client c .calls → since c (x ∷ xs) ≡ xs
+  pub since-new : (c : ℕ) (x : StepIn s) (xs : Run s) → callsAt s xs c < callsAt s (x ∷ xs) c → since c (x ∷ xs) ≡ xs
   unfolding since
   since-new c x xs l = ap (λ (b : Bool). cond b (since c xs) xs)
-      (ne-eqb (now s xs .client c .calls) (now s (x ∷ xs) .client c .calls) (λ q. omega (arith, q)))
+      (ne-eqb (callsAt s xs c) (callsAt s (x ∷ xs) c) (λ q. omega (arith, q)))
 
-  pub from-same : (c : ℕ) (x : StepIn s) (xs : Run s) → pos (now s xs .client c) ≡ pos (now s (x ∷ xs) .client c) →
+  pub from-same : (c : ℕ) (x : StepIn s) (xs : Run s) → pos (clientAt s xs c) ≡ pos (clientAt s (x ∷ xs) c) →
       from c (x ∷ xs) ≡ from c xs
   unfolding from
   from-same c x xs e = ap (λ (b : Bool). cond b (from c xs) (x ∷ xs)) (eq-eqb _ _ e)
 
-  pub from-new : (c : ℕ) (x : StepIn s) (xs : Run s) → pos (now s xs .client c) < pos (now s (x ∷ xs) .client c) → from c (x ∷ xs) ≡ x ∷ xs
+  pub from-new : (c : ℕ) (x : StepIn s) (xs : Run s) → pos (clientAt s xs c) < pos (clientAt s (x ∷ xs) c) → from c (x ∷ xs) ≡ x ∷ xs
   unfolding from
   from-new c x xs l = ap (λ (b : Bool). cond b (from c xs) (x ∷ xs))
-      (ne-eqb (pos (now s xs .client c)) (pos (now s (x ∷ xs) .client c)) (λ q. omega (arith, q)))
+      (ne-eqb (pos (clientAt s xs c)) (pos (clientAt s (x ∷ xs) c)) (λ q. omega (arith, q)))
 
   -- an earlier moment, seen from now
   pub record Before (c : ℕ) (ys xs : Run s) : Type 0 where
-    pub low : pos (now s ys .client c) ≤ pos (now s xs .client c)
-    pub round : pos (now s ys .client c) ≡ pos (now s xs .client c) →
-        (from c ys ≡ from c xs) × (since c ys ≡ since c xs) × ((b : ℕ) → request (now s ys .client c .hand) b ≡ request (now s xs .client c .hand) b)
-        × (now s ys .client c .calls ≡ now s xs .client c .calls)
+    pub low : pos (clientAt s ys c) ≤ pos (clientAt s xs c)
+    pub round : pos (clientAt s ys c) ≡ pos (clientAt s xs c) →
+        (from c ys ≡ from c xs) × (since c ys ≡ since c xs) × ((b : ℕ) → request (handAt s ys c) b ≡ request (handAt s xs c) b)
+        × (callsAt s ys c ≡ callsAt s xs c)
 
   pub before-one : (c : ℕ) (x : StepIn s) (xs : Run s) → Before c xs (x ∷ xs)
-  unfolding nowValues
-  before-one c x xs = let l = later (now s xs) c (x .step) in
+  before-one c x xs = let l = later c x xs in
       record { low = l .mono; round = λ e. (sym (from-same c x xs e), sym (since-same c x xs (l .same-calls e)), l .same-ask e, l .same-calls e) }
 
   pub before-trans : (c : ℕ) (zs ys xs : Run s) → Before c zs ys → Before c ys xs → Before c zs xs

@@ -9,13 +9,13 @@ use Prim.Native.Nat.{ℕ}
 use native.Mathlib.Omega.{arith}
 use lib.ListN.{length}
 use Rattle.protocol.specs.declared.Stamp.{Stamp}
-use Rattle.protocol.specs.Values.{Candidate, Held, below, blankStamp, sameList}
+use Rattle.protocol.specs.Values.{Candidate, Held, below, blankStamp, sameList, isSome}
 use Rattle.protocol.specs.Rules.{ByServer, leader, tagsIn}
 use Rattle.protocol.specs.Client.{Client, Hand, gave, gaveBlank, idle, filtering, repairing, awaits}
 use Rattle.protocol.specs.Client.{judge, found, onto}
 use Rattle.protocol.proofs.Answers.{at-cond}
 use Rattle.atomicity.specs.Lists.{Ever}
-use Rattle.atomicity.specs.Claim.{Logged, close, given}
+use Rattle.atomicity.specs.Claim.{Logged, close}
 use Rattle.atomicity.proofs.Util.{clash, no-some}
 use Rattle.atomicity.proofs.Setup.{Setup, Steps, StepOf, calls}
 use Rattle.atomicity.proofs.Positions.{since}
@@ -44,7 +44,7 @@ module _ (K : Setup) (x : StepOf K) (xs : Steps K) (a : Logged) (σ : Stamp) (sa
       reach-lt = λ k q. absurd (no-some (sym (o .unreached) ∙ q));
       leaves = λ q. clash q (o .staying);
     },
-    record { client = refl; number = refl; begun = refl; wrote = refl; reached = λ e. clash e (ap given (o .unreached)) },
+    record { client = refl; number = refl; begun = refl; wrote = refl; reached = λ e. clash e (ap isSome (o .unreached)) },
   )
 
   pub gave-ends : (h : Hand) (cl : Client) (n : ℕ) (v : List ℕ) → cl .hand ≡ idle → Open K xs a → a .wrote ≡ none →
@@ -76,6 +76,7 @@ module _ (K : Setup) (x : StepOf K) (xs : Steps K) (a : Logged) (σ : Stamp) (sa
       Follows K x xs a σ (filtering cs g) (judge (K .s .P) (K .s .config) (a .client) (K .s .writers) (K .s .keys) cl m cs g' ls o)
   unfolding judge onto Cur awaits
   judge-follows cs g g' m cl [] o c = blank-ends (filtering cs g) _ refl (c .0) (c .1)
-  judge-follows cs g g' m cl (l ∷ ls) none c = stays K x xs a σ same base (filtering cs g) (filtering cs g') _ c refl (unreach (a .reached) _ (length xs) refl)
+  judge-follows cs g g' m cl (l ∷ ls) none c = stays K x xs a σ same base (filtering cs g) (filtering cs g') _ c refl
+      (unreach (a .reached) _ (length xs) refl)
       (λ z. z)
   judge-follows cs g g' m cl (l ∷ ls) (some d) c = found-follows cs g g' m cl d (leader (K .s .P) (K .s .config) m g' d (K .s .config .servers)) c

@@ -29,7 +29,7 @@ use Rattle.protocol.proofs.Accounts.{claimed}
 use Rattle.atomicity.specs.Lists.{All, AllPairs}
 use Rattle.atomicity.specs.Steps.{System}
 use Rattle.atomicity.specs.Claim.{OneServer, systemOf, Demand3}
-use Rattle.atomicity.proofs.Model.{Run, Laws, perform, now}
+use Rattle.atomicity.proofs.Model.{Run, Laws, sentAt}
 use Rattle.atomicity.proofs.OneServer.{one-server}
 
 -- ---- lists of different servers
@@ -84,8 +84,9 @@ module _ (P : Primitives) (size : Lengths P) (sh : Shelf) (lo : 1 ≤ sh .t) (hi
       record {
         reads =
             λ x xs p e.
-            let a = run-agrees P size sh (lo, hi) (λ c. replicate keptSize 0) (λ c. length-replicate {A = ℕ} keptSize 0) (x .step) (steps xs) (x .fed) (fed xs) in
-            sent-value P size sh (lo, hi) a (sentOf (perform systemWith (now systemWith xs) (x .step) .sent)) p (a .sent) e;
+            let a = run-agrees P size sh (lo, hi) (λ c. replicate keptSize 0) (λ c. length-replicate {A = ℕ} keptSize 0)
+            (x .step) (steps xs) (x .fed) (fed xs) in
+            sent-value P size sh (lo, hi) a (sentOf (sentAt systemWith x xs)) p (a .sent) e;
         heads = λ b p e t. let h = head-ranges b p e in (h .0, h .1, h .2, subst (λ (k : ℕ). p .head .server ≤ shelf k .servers) t (h .3));
         digest-at = λ f i l h. nth-run digestSize (λ j. P .digest (f j)) (λ j. size .digest (f j)) (configOf sh .servers) i l h;
         tag-at = λ k f i l h. nth-run tagSize (λ j. P .tag (k j) (f j)) (λ j. size .tag (k j) (f j)) (configOf sh .servers) i l h;

@@ -8,14 +8,14 @@ use native.Mathlib.Nat.{le-refl}
 use native.Mathlib.Omega.{arith}
 use Rattle.protocol.specs.declared.Stamp.{Stamp}
 use Rattle.protocol.specs.Client.{Client, Hand, idle, clocking, storing, completing, collecting, filtering, repairing, begun, onto, prepared, stampOf}
-use Rattle.protocol.specs.Runs.{Step}
-use Rattle.protocol.proofs.ValueRuns.{World, nowValues}
+use Rattle.protocol.proofs.ValueRuns.{nowValues}
 use Rattle.atomicity.specs.Lists.{In}
 use Rattle.atomicity.specs.Steps.{StepIn, System, Stamped, stampedAt}
 use Rattle.atomicity.proofs.Util.{split-in}
-use Rattle.atomicity.proofs.Model.{Run, perform, now, account, marks, stampFor}
-use Rattle.atomicity.proofs.Moves.{Moved, kept, wbegan, rbegan, quit, took, moved}
-use Rattle.atomicity.proofs.Rounds.{Next, stays, clock-on, clock-ends, store-ends, collect-on, collect-ends, filter-on, filter-ends, over, turn-turned}
+use Rattle.atomicity.proofs.Model.{Run, account, clientAt, handAt, lastAt, marks, stampFor}
+use Rattle.atomicity.proofs.Moves.{MovedAt, kept, wbegan, rbegan, quit, took, moved}
+use Rattle.atomicity.proofs.Rounds.{Next, stays, clock-on, clock-ends, store-ends, collect-on, collect-ends, filter-on, filter-ends, over}
+use Rattle.atomicity.proofs.Rounds.{turn-turned}
 use Rattle.atomicity.proofs.Marks.{Marked, mark-source, mark-form, mark-who}
 
 -- the number of a hand in its clock round has P
@@ -55,43 +55,39 @@ module _ (s : System) where
   last-next c h l h' l' (filter-ends cs g d r _) o = (tt, le-refl l)
   last-next c h l h' l' (over _ _) o = (tt, le-refl l)
 
-  last-step : (w : World) (c : ℕ) (x : Step) → LastOk (w .client c .last) (w .client c .hand) →
-      LastOk (perform s w x .world .client c .last) (perform s w x .world .client c .hand)
-      × (w .client c .last ≤ perform s w x .world .client c .last)
+  last-step : (c : ℕ) (x : StepIn s) (xs : Run s) → LastOk (lastAt s xs c) (handAt s xs c) →
+      LastOk (lastAt s (x ∷ xs) c) (handAt s (x ∷ xs) c) × (lastAt s xs c ≤ lastAt s (x ∷ xs) c)
   unfolding begun onto Clocked
-  last-step w c x o = go (moved s c w x)
+  last-step c x xs o = go (moved s c x xs)
     where
-      cl' : Client
-      cl' = perform s w x .world .client c
-
       Goal : Client → Type 0
-      Goal z = LastOk (z .last) (z .hand) × (w .client c .last ≤ z .last)
+      Goal z = LastOk (z .last) (z .hand) × (lastAt s xs c ≤ z .last)
 
-      go : Moved s c w x cl' (perform s w x .result) → Goal cl'
+      go : MovedAt s c x xs → Goal (clientAt s (x ∷ xs) c)
       go (kept e _) = subst Goal (sym e) (o, le-refl _)
       go (wbegan r n a b d l e) = subst Goal (sym e) (le-refl _, le-refl _)
       go (rbegan a b d e) = subst Goal (sym e) (tt, le-refl _)
       go (quit a b d e) = subst Goal (sym e) (tt, le-refl _)
-      go (took p lent b q a d f e r) = subst Goal (sym e) (last-next c _ _ _ _ (turn-turned s c (w .client c) p .next) o)
+      go (took p lent b q a d f e r) = subst Goal (sym e) (last-next c _ _ _ _ (turn-turned s c (clientAt s xs c) p .next) o)
 
-  last-ok : (xs : Run s) (c : ℕ) → LastOk (now s xs .client c .last) (now s xs .client c .hand)
+  last-ok : (xs : Run s) (c : ℕ) → LastOk (lastAt s xs c) (handAt s xs c)
   unfolding nowValues Clocked
   last-ok [] c = tt
-  last-ok (x ∷ xs) c = last-step (now s xs) c (x .step) (last-ok xs c) .0
+  last-ok (x ∷ xs) c = last-step c x xs (last-ok xs c) .0
 
   -- no mark's number is above its client's last
-  pub capped : (xs : Run s) (m : Stamped) → In m (marks s xs) → m .stamp .number ≤ now s xs .client (m .client) .last
-  unfolding marks nowValues In stampOf
+  pub capped : (xs : Run s) (m : Stamped) → In m (marks s xs) → m .stamp .number ≤ lastAt s xs (m .client)
+  unfolding marks In stampOf
   capped [] m i = absurd i
   capped (x ∷ xs) m i = go (split-in m (stampedAt s (account s) x xs) (marks s xs) i) (λ k. capped xs m k)
     where
-      go : In m (stampedAt s (account s) x xs) ⊎ In m (marks s xs) → (In m (marks s xs) → m .stamp .number ≤ now s xs .client (m .client) .last) →
-          m .stamp .number ≤ perform s (now s xs) (x .step) .world .client (m .client) .last
-      go (inl k) r = let t = mark-source s (now s xs) (x .step) m k in omega (arith, ap (λ (a : Stamp). a .number) (t .stamp-is), t .last-is)
-      go (inr k) r = omega (arith, r k, last-step (now s xs) (m .client) (x .step) (last-ok xs (m .client)) .1)
+      go : In m (stampedAt s (account s) x xs) ⊎ In m (marks s xs) → (In m (marks s xs) → m .stamp .number ≤ lastAt s xs (m .client)) →
+          m .stamp .number ≤ lastAt s (x ∷ xs) (m .client)
+      go (inl k) r = let t = mark-source s x xs m k in omega (arith, ap (λ (a : Stamp). a .number) (t .stamp-is), t .last-is)
+      go (inr k) r = omega (arith, r k, last-step (m .client) x xs (last-ok xs (m .client)) .1)
 
   -- a new mark is above the old ones of its client
-  pub above : (x : StepIn s) (xs : Run s) (a b : Stamped) → a .client ≡ b .client → Marked s (now s xs) (x .step) a → In b (marks s xs) →
+  pub above : (x : StepIn s) (xs : Run s) (a b : Stamped) → a .client ≡ b .client → Marked s x xs a → In b (marks s xs) →
       b .stamp .number < a .stamp .number
   unfolding stampOf Clocked
   above x xs a b w t j = omega (
@@ -99,23 +95,23 @@ module _ (s : System) where
     ap (λ (a : Stamp). a .number) (t .stamp-is),
     t .rises,
     capped xs b j,
-    ap (λ (c : ℕ). now s xs .client c .last) w,
-    subst (LastOk (now s xs .client (a .client) .last)) (t .was) (last-ok xs (a .client)),
+    ap (lastAt s xs) w,
+    subst (LastOk (lastAt s xs (a .client))) (t .was) (last-ok xs (a .client)),
   )
 
   -- two marks of one client with one number are one
   one-mark : (xs : Run s) (a b : Stamped) → In a (marks s xs) → In b (marks s xs) → a .client ≡ b .client → a .stamp .number ≡ b .stamp .number →
       a ≡ b
-  unfolding marks nowValues In stampOf Clocked
+  unfolding marks In stampOf Clocked
   one-mark [] a b i j w n = absurd i
   one-mark (x ∷ xs) a b i j w n =
       go (split-in a (stampedAt s (account s) x xs) (marks s xs) i) (split-in b (stampedAt s (account s) x xs) (marks s xs) j)
       (λ k l. one-mark xs a b k l w n)
     where
-      both : Marked s (now s xs) (x .step) a → Marked s (now s xs) (x .step) b → a ≡ b
+      both : Marked s x xs a → Marked s x xs b → a ≡ b
       both t u =
           let h : clocking (a .content) (a .nonce) (t .top) ≡ clocking (b .content) (b .nonce) (u .top) = sym (t .was)
-          ∙ ap (λ (i : ℕ). now s xs .client i .hand) w ∙ u .was in
+          ∙ ap (handAt s xs) w ∙ u .was in
           let r : a .content ≡ b .content = cc in let q : a .nonce ≡ b .nonce = cc in
           let σ : a .stamp ≡ b .stamp = mark-form s (x ∷ xs) a i ∙ ap (λ (c : ℕ). stampFor s c (a .stamp .number)) w
           ∙ ap (λ (k : ℕ). stampFor s (b .client) k) n ∙ sym (mark-form s (x ∷ xs) b j) in
@@ -123,9 +119,9 @@ module _ (s : System) where
 
       go : In a (stampedAt s (account s) x xs) ⊎ In a (marks s xs) → In b (stampedAt s (account s) x xs) ⊎ In b (marks s xs) →
           (In a (marks s xs) → In b (marks s xs) → a ≡ b) → a ≡ b
-      go (inl k) (inl l) r = both (mark-source s (now s xs) (x .step) a k) (mark-source s (now s xs) (x .step) b l)
-      go (inl k) (inr l) r = absurd (omega (arith, n, above x xs a b w (mark-source s (now s xs) (x .step) a k) l))
-      go (inr k) (inl l) r = absurd (omega (arith, n, above x xs b a (sym w) (mark-source s (now s xs) (x .step) b l) k))
+      go (inl k) (inl l) r = both (mark-source s x xs a k) (mark-source s x xs b l)
+      go (inl k) (inr l) r = absurd (omega (arith, n, above x xs a b w (mark-source s x xs a k) l))
+      go (inr k) (inl l) r = absurd (omega (arith, n, above x xs b a (sym w) (mark-source s x xs b l) k))
       go (inr k) (inr l) r = r k l
 
   pub by-parts : (xs : Run s) (a b : Stamped) → In a (marks s xs) → In b (marks s xs) → a .stamp .number ≡ b .stamp .number →

@@ -3,7 +3,7 @@
 -- no other write has its stamp.
 -- Assumes nothing.
 use mathlib.Core.Path.{_≡_, refl, sym, ap, _∙_, subst}
-use mathlib.Core.Bool.{Bool, true, cond, _&&_}
+use mathlib.Core.Bool.{Bool, true, _&&_}
 use mathlib.Core.List.{List, [], _∷_}
 use mathlib.Core.Option.{Option, none, some}
 use mathlib.Core.Logic.{_⊎_, inl, inr}
@@ -11,19 +11,18 @@ use Prim.Native.Nat.{ℕ, _≤_, _<_, suc}
 use native.Mathlib.Omega.{arith}
 use lib.Dec.{ltb}
 use lib.ListN.{length}
-use borrow.Author.Tests.{ltb-true, ltb-false, lt-ltb, le-leb}
+use borrow.Author.Tests.{ltb-true, ltb-false, lt-ltb}
 use Rattle.protocol.specs.declared.Stamp.{Stamp}
+use Rattle.protocol.specs.Values.{isSome}
 use Rattle.protocol.specs.Rules.{keep}
-use Rattle.protocol.proofs.ValueRuns.{nowValues}
-use Rattle.protocol.proofs.Answers.{at-cond}
 use Rattle.atomicity.proofs.Genuine.{Revealed}
-use Rattle.atomicity.specs.Page41.{reachedBy, Sourced}
+use Rattle.atomicity.specs.Page41.{Sourced}
 use Rattle.atomicity.specs.Lists.{Ever, In, AllPairs}
 use Rattle.atomicity.specs.Steps.{Stamped}
-use Rattle.atomicity.specs.Claim.{Logged, given, endedBy, before, counted, OneOrder}
-use Rattle.atomicity.proofs.Util.{bool-case, clash, and-left, and-right, and-intro, or-cases, or-right, keep-in, in-keep, all-of, all-in, all-map, given-some, no-some}
+use Rattle.atomicity.specs.Claim.{Logged, endedBy, before, counted, OneOrder}
+use Rattle.atomicity.proofs.Util.{bool-case, clash, and-left, and-right, and-intro, or-cases, or-right, keep-in, in-keep, keep-pairs}
+use Rattle.atomicity.proofs.Util.{all-map, is-some, no-some}
 use Rattle.atomicity.proofs.Stamps.{le-view}
-use Rattle.atomicity.proofs.Model.{now}
 use Rattle.atomicity.proofs.Setup.{Setup, Steps, Fair}
 use Rattle.atomicity.proofs.Positions.{since}
 use Rattle.atomicity.proofs.Marks.{mark-num, mark-who, mark-source}
@@ -32,42 +31,23 @@ use Rattle.atomicity.proofs.Nonces.{by-nonce}
 use Rattle.atomicity.proofs.Calls.{MarkAt, mark-at, Grounded, ShownBy}
 use Rattle.atomicity.proofs.Shape.{Log}
 use Rattle.atomicity.proofs.Logs.{Signed}
-use Rattle.atomicity.proofs.Story.{story, story-log, story-pairs, Counts, shown-then}
-use Rattle.atomicity.proofs.Keys.{lex-lt, lex-eq, lex-view, part, lesser, less, less-chain, less-asym, less-total, Rest, less-rest, between}
-use Rattle.atomicity.proofs.Ordering.{Clear, Last, Explained, Reads, one-order}
-
-keep-pairs : {A : Type 0} (R : A → A → Type 0) (p : A → Bool) (l : List A) → AllPairs R l → AllPairs R (keep p l)
-unfolding keep AllPairs
-keep-pairs R p [] h = tt
-keep-pairs {A} R p (x ∷ l) h = at-cond (p x) (x ∷ keep p l) (keep p l) (AllPairs R)
-    (λ e. (all-of (R x) (keep p l) (λ y i. all-in (R x) l (h .0) y (keep-in p l y i .0)), keep-pairs R p l (h .1))) (λ e. keep-pairs R p l (h .1))
-
-part-write : (a : Logged) (v : List ℕ) → a .wrote ≡ some v → part a ≡ 0
-unfolding part
-part-write a v e = ap (λ (o : Option (List ℕ)). cond (given o) 0 1) e
-
-part-read : (a : Logged) → a .wrote ≡ none → part a ≡ 1
-unfolding part
-part-read a e = ap (λ (o : Option (List ℕ)). cond (given o) 0 1) e
-
-wrote-case : {B : Type 0} (a : Logged) → (a .wrote ≡ none → B) → ((v : List ℕ) → a .wrote ≡ some v → B) → B
-wrote-case {B} a f g = go (a .wrote) refl
-  where
-    go : (o : Option (List ℕ)) → a .wrote ≡ o → B
-    go none e = f e
-    go (some v) e = g v e
+use Rattle.atomicity.proofs.Story.{story, story-log, story-pairs}
+use Rattle.atomicity.proofs.Shown.{Counts, shown-then}
+use Rattle.atomicity.proofs.Keys.{lex-lt, lex-eq, lex-view, part, part-write, part-read, wrote-case, lesser, less, less-chain, less-asym}
+use Rattle.atomicity.proofs.Keys.{less-total, Rest, less-rest, between}
+use Rattle.atomicity.proofs.Ordering.{Clear, Last, Explained, Reads, one-order, ReachedBy}
 
 module _ (K : Setup) where
   -- a mark tells when its call began
   mark-when : (xs : Steps K) (m k : Stamped) (t u : ℕ) → m .client ≡ k .client → m .stamp .number ≡ k .stamp .number → MarkAt K m t xs →
       MarkAt K k u xs → t ≡ u
-  unfolding Ever nowValues
+  unfolding Ever
   mark-when [] m k t u w n h i = absurd h
   mark-when (x ∷ xs) m k t u w n (inl h) (inl i) = sym (h .1) ∙ ap (λ (c : ℕ). length (since (K .s) c xs)) w ∙ i .1
   mark-when (x ∷ xs) m k t u w n (inl h) (inr i) =
-      absurd (omega (arith, n, above (K .s) x xs m k w (mark-source (K .s) (now (K .s) xs) (x .step) m (h .0)) (mark-at K k u xs i)))
+      absurd (omega (arith, n, above (K .s) x xs m k w (mark-source (K .s) x xs m (h .0)) (mark-at K k u xs i)))
   mark-when (x ∷ xs) m k t u w n (inr h) (inl i) =
-      absurd (omega (arith, n, above (K .s) x xs k m (sym w) (mark-source (K .s) (now (K .s) xs) (x .step) k (i .0)) (mark-at K m t xs h)))
+      absurd (omega (arith, n, above (K .s) x xs k m (sym w) (mark-source (K .s) x xs k (i .0)) (mark-at K m t xs h)))
   mark-when (x ∷ xs) m k t u w n (inr h) (inr i) = mark-when xs m k t u w n h i
 
   module _ (xs : Steps K) (fair : Fair K xs) where
@@ -90,22 +70,22 @@ module _ (K : Setup) where
     counts g i = keep-in (λ (g : Signed K xs). counted (g .call)) (story K xs fair) g i .1
 
     -- a write that counts has reached its complete round
-    write-reached : (g : Signed K xs) → In g gs → (v : List ℕ) → g .call .wrote ≡ some v → given (g .call .reached) ≡ true
+    write-reached : (g : Signed K xs) → In g gs → (v : List ℕ) → g .call .wrote ≡ some v → isSome (g .call .reached) ≡ true
     unfolding counted
-    write-reached g i v w = go (or-cases (given (g .call .over)) (given (g .call .wrote) && given (g .call .reached)) (counts g i))
+    write-reached g i v w = go (or-cases (isSome (g .call .over)) (isSome (g .call .wrote) && isSome (g .call .reached)) (counts g i))
       where
-        go : (given (g .call .over) ≡ true) ⊎ ((given (g .call .wrote) && given (g .call .reached)) ≡ true) → given (g .call .reached) ≡ true
-        go (inl o) = let e = given-some (g .call .over) o in g .ok .base .reaches v (e .0) w (e .1)
-        go (inr o) = and-right (given (g .call .wrote)) (given (g .call .reached)) o
+        go : (isSome (g .call .over) ≡ true) ⊎ ((isSome (g .call .wrote) && isSome (g .call .reached)) ≡ true) → isSome (g .call .reached) ≡ true
+        go (inl o) = let e = is-some (g .call .over) o in g .ok .base .reaches v (e .0) w (e .1)
+        go (inr o) = and-right (isSome (g .call .wrote)) (isSome (g .call .reached)) o
 
     -- a read that counts has ended
     read-over : (g : Signed K xs) → In g gs → g .call .wrote ≡ none → (e : ℕ) × (g .call .over ≡ some e)
     unfolding counted
-    read-over g i w = go (or-cases (given (g .call .over)) (given (g .call .wrote) && given (g .call .reached)) (counts g i))
+    read-over g i w = go (or-cases (isSome (g .call .over)) (isSome (g .call .wrote) && isSome (g .call .reached)) (counts g i))
       where
-        go : (given (g .call .over) ≡ true) ⊎ ((given (g .call .wrote) && given (g .call .reached)) ≡ true) → (e : ℕ) × (g .call .over ≡ some e)
-        go (inl o) = given-some (g .call .over) o
-        go (inr o) = clash (and-left (given (g .call .wrote)) (given (g .call .reached)) o) (ap given w)
+        go : (isSome (g .call .over) ≡ true) ⊎ ((isSome (g .call .wrote) && isSome (g .call .reached)) ≡ true) → (e : ℕ) × (g .call .over ≡ some e)
+        go (inl o) = is-some (g .call .over) o
+        go (inr o) = clash (and-left (isSome (g .call .wrote)) (isSome (g .call .reached)) o) (ap isSome w)
 
     -- real time
     fits : (a b : Signed K xs) → In a gs → In b gs → before (a .call) (b .call) ≡ true → keyless a b ≡ true
@@ -146,7 +126,9 @@ module _ (K : Setup) where
       wrote : known .call .wrote ≡ some content
       gives : r .call .answer ≡ some content
       stamp-is : known .stamp ≡ r .stamp
-      by : reachedBy (known .call .reached) (some e) ≡ true
+      begun : ℕ
+      reached : known .call .reached ≡ some begun
+      by : begun ≤ e
 
     from-write : (r : Signed K xs) (e : ℕ) (m : Revealed K xs (r .stamp)) → r .call .answer ≡ some (m .write .content) →
         ShownBy K e (m .write) xs → From r e
@@ -157,12 +139,14 @@ module _ (K : Setup) where
         record {
           known = C .known;
           among = in-keep (λ (g : Signed K xs). counted (g .call)) (story K xs fair) (C .known) (C .among)
-              (or-right (given (C .known .call .over)) _ (and-intro _ _ (ap given (C .wrote)) (ap given (C .reached))));
+              (or-right (isSome (C .known .call .over)) _ (and-intro _ _ (ap isSome (C .wrote)) (ap isSome (C .reached))));
           content = m .write .content;
           wrote = C .wrote ∙ ap (λ (z : Stamped). some (z .content)) eq;
           gives = v;
           stamp-is = sym (C .stamp-is) ∙ ap (λ (z : Stamped). z .stamp) eq ∙ m .stamp-is;
-          by = ap (λ (o : Option ℕ). reachedBy o (some e)) (C .reached) ∙ le-leb (C .when) e (omega (arith, C .early));
+          begun = C .when;
+          reached = C .reached;
+          by = omega (arith, C .early);
         }
 
     -- it stands below the read
@@ -230,11 +214,11 @@ module _ (K : Setup) where
 
     -- whatever a read gave was written by a write below it, whose complete round had begun by then
     sources : (r : Signed K xs) → In r gs → (v : List ℕ) → r .call .wrote ≡ none → r .call .answer ≡ some v →
-        (w : Signed K xs) × In w gs × (keyless w r ≡ true) × (w .call .wrote ≡ some v) × (reachedBy (w .call .reached) (r .call .over) ≡ true)
+        (w : Signed K xs) × In w gs × (keyless w r ≡ true) × (w .call .wrote ≡ some v) × ReachedBy (w .call) (r .call)
     sources r i v w a = let o = read-over r i w in go (o .0) (o .1) (r .ok .base .read (o .0) w (o .1) .value)
       where
         go : (e : ℕ) → r .call .over ≡ some e → Grounded K xs e (r .call .answer) (r .stamp) →
-            (w : Signed K xs) × In w gs × (keyless w r ≡ true) × (w .call .wrote ≡ some v) × (reachedBy (w .call .reached) (r .call .over) ≡ true)
+            (w : Signed K xs) × In w gs × (keyless w r ≡ true) × (w .call .wrote ≡ some v) × ReachedBy (w .call) (r .call)
         go e q (inl p) = absurd (no-some (sym (p .0) ∙ a))
         go e q (inr g) =
             let f = from-write r e (g .0) (g .1) (g .2) in (
@@ -242,7 +226,7 @@ module _ (K : Setup) where
               f .among,
               below-it r e w f,
               f .wrote ∙ sym (f .gives) ∙ a,
-              ap (λ (z : Option ℕ). reachedBy (f .known .call .reached) z) q ∙ f .by,
+              (f .begun, e, f .reached, q, f .by),
             )
 
     apart : AllPairs (λ a b. (keyless a b ≡ true) ⊎ (keyless b a ≡ true)) gs

@@ -2,7 +2,7 @@
 -- the blank, a valid candidate of the request, or the one of a complete. And lookups in a history.
 -- Assumes nothing.
 use mathlib.Core.Path.{_≡_, refl, sym, ap, _∙_, subst}
-use mathlib.Core.Bool.{Bool, true, false, cond, _&&_}
+use mathlib.Core.Bool.{Bool, true, false, cond}
 use mathlib.Core.List.{List, [], _∷_, _++_}
 use mathlib.Core.Option.{Option, none, some}
 use mathlib.Core.Logic.{_⊎_, inl, inr}
@@ -11,24 +11,23 @@ use native.Mathlib.Omega.{arith}
 use lib.Dec.{leb, eqb}
 use lib.ListN.{length}
 use Rattle.cluster.specs.Ranges.{capacity}
-use Rattle.cluster.proofs.Tests.{untrue}
 use Rattle.protocol.specs.declared.Stamp.{Stamp}
-use Rattle.protocol.specs.Values.{Candidate, Share, Write, below, sameStamp, blankCandidate, isSome, blankStamp}
+use Rattle.protocol.specs.Values.{Candidate, Share, Write, below, sameStamp, blankCandidate, isSome}
 use Rattle.protocol.specs.Packet.{Body}
-use Rattle.protocol.specs.Packet.{clock, clockReply, store, storeReply, complete, completeReply, collect, collectReply, filter, filterReply, repair, repairReply}
+use Rattle.protocol.specs.Packet.{clock, clockReply, store, storeReply, complete, completeReply, collect, collectReply, filter, filterReply, repair}
+use Rattle.protocol.specs.Packet.{repairReply}
 use Rattle.protocol.specs.Memory.{held}
-use Rattle.protocol.specs.Server.{Server, Acted, hasDigest, raise, kept, best, act}
+use Rattle.protocol.specs.Server.{Server, Acted, hasDigest, raise, kept, act}
 use Rattle.protocol.specs.Client.{codeIn}
-use Rattle.protocol.specs.Runs.{Step}
-use Rattle.protocol.proofs.ValueRuns.{World}
 use Rattle.protocol.proofs.Equal.{same-true, stamp-same, stamp-refl}
 use Rattle.protocol.proofs.Answers.{at-cond}
 use Rattle.atomicity.specs.Lists.{In}
-use Rattle.atomicity.specs.Steps.{System, nonblank, tested, judged}
-use Rattle.atomicity.proofs.Util.{cond-both, clash, and-left, and-right, and-intro, left-in, right-in, split-in, bool-case}
-use Rattle.atomicity.proofs.Stamps.{below-irrefl, below-asym, le-trans, below-trans, below-blank}
-use Rattle.atomicity.proofs.Model.{perform, acts, isValid, bestOf}
-use Rattle.atomicity.proofs.Serving.{Served, same, acted, served}
+use Rattle.atomicity.specs.Steps.{StepIn, System, judged}
+use Rattle.atomicity.proofs.Util.{cond-both, clash, left-in, right-in, split-in}
+use Rattle.atomicity.proofs.Stamps.{below-irrefl, below-asym}
+use Rattle.atomicity.proofs.Model.{Run, serverAt, latestAt, historyAt, acts, isValid, bestOf}
+use Rattle.atomicity.proofs.Serving.{ServedAt, same, acted, served}
+use Rattle.atomicity.proofs.Best.{best-case, repair-judged}
 
 -- ---- lookups in a history
 
@@ -42,10 +41,6 @@ held-some a f (e ∷ es) h = go (sameStamp (e .stamp) a) refl h (λ k. held-some
         (x : Write) × In x (e ∷ es) × (x .stamp ≡ a) × (x .share ≡ f)
     go true q k r = (e, inl refl, stamp-same (e .stamp) a q, let z : e .share ≡ f = cc in z)
     go false q k r = let y = r k in (y .0, inr (y .1), y .2, y .3)
-
-pub is-some : {A : Type 0} (o : Option A) → isSome o ≡ true → (a : A) × (o ≡ some a)
-is-some none e = clash e refl
-is-some (some a) e = (a, refl)
 
 pub in-held : (a : Stamp) (es : List Write) (e : Write) → In e es → e .stamp ≡ a → isSome (held a es) ≡ true
 unfolding held In
@@ -89,117 +84,9 @@ unfolding raise
 raise-view c v = at-cond (below (v .latest .stamp) (c .stamp)) _ v
     (λ (y : Server). (y .latest ≡ v .latest) ⊎ ((y .latest ≡ c) × (below (v .latest .stamp) (c .stamp) ≡ true))) (λ e. inr (refl, e)) (λ e. inl refl)
 
+-- ---- one request
+
 module _ (s : System) (j : ℕ) where
-  -- ---- best: the one begun with, or the highest valid one of the list
-
-  pub best-view : (v : Server) (c : Candidate) (cs : List Candidate) → (bestOf s j v c cs ≡ c)
-      ⊎ (In (bestOf s j v c cs) cs × (isValid s j v (bestOf s j v c cs) ≡ true))
-  unfolding best In
-  best-view v c [] = inl refl
-  best-view v c (d ∷ ds) = go (isValid s j v d && below (c .stamp) (d .stamp)) refl (best-view v d ds) (best-view v c ds)
-    where
-      Seen : Candidate → Type 0
-      Seen x = (x ≡ c) ⊎ (In x (d ∷ ds) × (isValid s j v x ≡ true))
-
-      go : (t : Bool) → (isValid s j v d && below (c .stamp) (d .stamp)) ≡ t →
-          (bestOf s j v d ds ≡ d) ⊎ (In (bestOf s j v d ds) ds × (isValid s j v (bestOf s j v d ds) ≡ true)) →
-          (bestOf s j v c ds ≡ c) ⊎ (In (bestOf s j v c ds) ds × (isValid s j v (bestOf s j v c ds) ≡ true)) → Seen (bestOf s j v (cond t d c) ds)
-      go true e (inl f) g = inr (inl f, subst (λ (x : Candidate). isValid s j v x ≡ true) (sym f) (and-left (isValid s j v d) _ e))
-      go true e (inr p) g = inr (inr (p .0), p .1)
-      go false e f (inl g) = inl g
-      go false e f (inr p) = inr (inr (p .0), p .1)
-
-  -- it is the one begun with, or higher
-  best-above : (v : Server) (c : Candidate) (cs : List Candidate) → (bestOf s j v c cs ≡ c) ⊎ (below (c .stamp) (bestOf s j v c cs .stamp) ≡ true)
-  unfolding best
-  best-above v c [] = inl refl
-  best-above v c (d ∷ ds) = go (isValid s j v d && below (c .stamp) (d .stamp)) refl (best-above v d ds) (best-above v c ds)
-    where
-      Above : Candidate → Type 0
-      Above x = (x ≡ c) ⊎ (below (c .stamp) (x .stamp) ≡ true)
-
-      go : (t : Bool) → (isValid s j v d && below (c .stamp) (d .stamp)) ≡ t →
-          (bestOf s j v d ds ≡ d) ⊎ (below (d .stamp) (bestOf s j v d ds .stamp) ≡ true) → Above (bestOf s j v c ds) → Above (bestOf s j v (cond t d c) ds)
-      go true e (inl f) g = inr (subst (λ (x : Candidate). below (c .stamp) (x .stamp) ≡ true) (sym f) (and-right (isValid s j v d) _ e))
-      go true e (inr h) g = inr (below-trans (c .stamp) (d .stamp) (bestOf s j v d ds .stamp) (and-right (isValid s j v d) _ e) h)
-      go false e f g = g
-
-  -- what a request finds that judges: nothing, or a valid candidate of its list, on which the answer rests
-  pub best-case : (v : Server) (x : Body) → let c = bestOf s j v (blankCandidate (s .config)) (tested x) in
-      (c ≡ blankCandidate (s .config)) ⊎ (In c (judged s j v x) × (In c (tested x) × (isValid s j v c ≡ true)))
-  unfolding judged In
-  best-case v x = go (best-view v (blankCandidate (s .config)) (tested x)) (best-above v (blankCandidate (s .config)) (tested x))
-    where
-      c : Candidate
-      c = bestOf s j v (blankCandidate (s .config)) (tested x)
-
-      go : (c ≡ blankCandidate (s .config)) ⊎ (In c (tested x) × (isValid s j v c ≡ true)) →
-          (c ≡ blankCandidate (s .config)) ⊎ (below blankStamp (c .stamp) ≡ true) →
-          (c ≡ blankCandidate (s .config)) ⊎ (In c (cond (below blankStamp (c .stamp)) (c ∷ []) []) × (In c (tested x) × (isValid s j v c ≡ true)))
-      go (inl e) a = inl e
-      go (inr p) (inl e) = inl e
-      go (inr p) (inr a) = inr (subst (λ (t : Bool). In c (cond t (c ∷ []) [])) (sym a) (inl refl), p)
-
-  -- the candidate on which the answer rests is of the list
-  pub judged-tested : (v : Server) (x : Body) (d : Candidate) → In d (judged s j v x) → In d (tested x)
-  unfolding judged In
-  judged-tested v x d i = go (below blankStamp (c .stamp)) refl i
-    where
-      c : Candidate
-      c = bestOf s j v (blankCandidate (s .config)) (tested x)
-
-      from : below blankStamp (c .stamp) ≡ true → (c ≡ blankCandidate (s .config)) ⊎ (In c (tested x) × (isValid s j v c ≡ true)) → In c (tested x)
-      from a (inl e) = absurd (clash (subst (λ (z : Candidate). below blankStamp (z .stamp) ≡ true) e a) (below-irrefl blankStamp))
-      from a (inr p) = p .0
-
-      go : (t : Bool) → below blankStamp (c .stamp) ≡ t → In d (cond t (c ∷ []) []) → In d (tested x)
-      go true a (inl e) = subst (λ (z : Candidate). In z (tested x)) (sym e) (from a (best-view v (blankCandidate (s .config)) (tested x)))
-      go true a (inr z) = absurd z
-      go false a z = absurd z
-
-  -- a valid candidate of a repair that is higher than the latest
-  repair-judged : (v : Server) (c : Candidate) → isValid s j v c ≡ true → below (v .latest .stamp) (c .stamp) ≡ true → In c (judged s j v (repair c))
-  unfolding judged best In
-  repair-judged v c e up =
-      subst (λ (t : Bool). In c (nonblank (cond (t && below blankStamp (c .stamp)) c (blankCandidate (s .config))))) (sym e)
-      (subst (λ (t : Bool). In c (nonblank (cond t c (blankCandidate (s .config))))) (sym above)
-      (subst (λ (t : Bool). In c (cond t (c ∷ []) [])) (sym above) (inl refl)))
-    where
-      above : below blankStamp (c .stamp) ≡ true
-      above = bool-case (below blankStamp (c .stamp)) (λ q. q)
-          (λ q. clash up (le-trans (c .stamp) blankStamp (v .latest .stamp) q (below-blank (v .latest .stamp))))
-
-  best-from : (v : Server) (c : Candidate) (cs : List Candidate) → below (bestOf s j v c cs .stamp) (c .stamp) ≡ false
-  unfolding best
-  best-from v c [] = below-irrefl (c .stamp)
-  best-from v c (d ∷ ds) = go (isValid s j v d && below (c .stamp) (d .stamp)) refl (best-from v d ds) (best-from v c ds)
-    where
-      go : (t : Bool) → (isValid s j v d && below (c .stamp) (d .stamp)) ≡ t → below (bestOf s j v d ds .stamp) (d .stamp) ≡ false →
-          below (bestOf s j v c ds .stamp) (c .stamp) ≡ false →
-          below (bestOf s j v (cond t d c) ds .stamp) (c .stamp) ≡ false
-      go true e f g = le-trans (c .stamp) (d .stamp) (bestOf s j v d ds .stamp) (below-asym (c .stamp) (d .stamp) (and-right (isValid s j v d) _ e)) f
-      go false e f g = g
-
-  pub best-max : (v : Server) (c : Candidate) (cs : List Candidate) (d : Candidate) → In d cs → isValid s j v d ≡ true →
-      below (bestOf s j v c cs .stamp) (d .stamp) ≡ false
-  unfolding best In
-  best-max v c [] d i q = absurd i
-  best-max v c (e ∷ es) d (inl q) k = go (isValid s j v e && below (c .stamp) (e .stamp)) refl
-    where
-      ve : isValid s j v e ≡ true
-      ve = subst (λ (y : Candidate). isValid s j v y ≡ true) q k
-
-      low : (isValid s j v e && below (c .stamp) (e .stamp)) ≡ false → below (c .stamp) (e .stamp) ≡ false
-      low k = untrue _ (λ z. clash (and-intro _ _ ve z) k)
-
-      go : (t : Bool) → (isValid s j v e && below (c .stamp) (e .stamp)) ≡ t → below (bestOf s j v (cond t e c) es .stamp) (d .stamp) ≡ false
-      go true k = subst (λ (y : Candidate). below (bestOf s j v e es .stamp) (y .stamp) ≡ false) (sym q) (best-from v e es)
-      go false k = subst (λ (y : Candidate). below (bestOf s j v c es .stamp) (y .stamp) ≡ false) (sym q)
-          (le-trans (e .stamp) (c .stamp) (bestOf s j v c es .stamp) (low k) (best-from v c es))
-  best-max v c (e ∷ es) d (inr i) q = best-max v (cond (isValid s j v e && below (c .stamp) (e .stamp)) e c) es d i q
-
-  -- ---- one request
-
   -- where a new latest comes from
   abbrev pub Origin : Server → Body → Candidate → Type 0
   Origin v x c = (c ≡ blankCandidate (s .config)) ⊎ ((In c (judged s j v x) × (isValid s j v c ≡ true)) ⊎ (x ≡ complete c))
@@ -248,7 +135,7 @@ module _ (s : System) (j : ℕ) where
       (cond-both (λ (a : Acted). Grows v (store w) (a .server)) (leb capacity (length (v .history))) _ _ (unmoved v (store w)) (stored v w))
   act-grows v (complete c) = raised v (complete c) c (λ up. inr (inr refl))
   act-grows v collect = unmoved v collect
-  act-grows v (filter cs) = raised v (filter cs) (bestOf s j v (blankCandidate (s .config)) cs) (λ up. go (best-case v (filter cs)))
+  act-grows v (filter cs) = raised v (filter cs) (bestOf s j v (blankCandidate (s .config)) cs) (λ up. go (best-case s j v (filter cs)))
     where
       c : Candidate
       c = bestOf s j v (blankCandidate (s .config)) cs
@@ -257,7 +144,7 @@ module _ (s : System) (j : ℕ) where
       go (inl e) = inl e
       go (inr p) = inr (inl (p .0, p .1 .1))
   act-grows v (repair c) = at-cond (isValid s j v c) _ v (λ (y : Server). Grows v (repair c) y)
-      (λ e. raised v (repair c) c (λ up. inr (inl (repair-judged v c e up, e)))) (λ e. unmoved v (repair c))
+      (λ e. raised v (repair c) c (λ up. inr (inl (repair-judged s j v c e up, e)))) (λ e. unmoved v (repair c))
   act-grows v (clockReply x) = unmoved v (clockReply x)
   act-grows v (storeReply x) = unmoved v (storeReply x)
   act-grows v completeReply = unmoved v completeReply
@@ -283,19 +170,19 @@ store-held s j v w = go (isSome (held (w .stamp) (v .history))) refl (leb capaci
 -- ---- along a run
 
 module _ (s : System) where
-  pub latest-rises : (w : World) (j : ℕ) (x : Step) → below (perform s w x .world .server j .latest .stamp) (w .server j .latest .stamp) ≡ false
-  latest-rises w j x = go (served s w j x)
+  pub latest-rises : (x : StepIn s) (xs : Run s) (j : ℕ) → below (latestAt s (x ∷ xs) j) (latestAt s xs j) ≡ false
+  latest-rises x xs j = go (served s j x xs)
     where
-      go : Served s j w x (perform s w x .world .server j) →
-          below (perform s w x .world .server j .latest .stamp) (w .server j .latest .stamp) ≡ false
-      go (same e) = subst (λ (v : Server). below (v .latest .stamp) (w .server j .latest .stamp) ≡ false) (sym e)
-          (below-irrefl (w .server j .latest .stamp))
-      go (acted p a b c d e) = subst (λ (v : Server). below (v .latest .stamp) (w .server j .latest .stamp) ≡ false) (sym e)
-          (act-grows s j (w .server j) (p .body) .rises)
+      Goal : Server → Type 0
+      Goal v = below (v .latest .stamp) (latestAt s xs j) ≡ false
 
-  pub history-keeps : (w : World) (j : ℕ) (x : Step) (e : Write) → In e (w .server j .history) → In e (perform s w x .world .server j .history)
-  history-keeps w j x e i = go (served s w j x)
+      go : ServedAt s j x xs → Goal (serverAt s (x ∷ xs) j)
+      go (same e) = subst Goal (sym e) (below-irrefl (latestAt s xs j))
+      go (acted p a b c d e) = subst Goal (sym e) (act-grows s j (serverAt s xs j) (p .body) .rises)
+
+  pub history-keeps : (x : StepIn s) (xs : Run s) (j : ℕ) (e : Write) → In e (historyAt s xs j) → In e (historyAt s (x ∷ xs) j)
+  history-keeps x xs j e i = go (served s j x xs)
     where
-      go : Served s j w x (perform s w x .world .server j) → In e (perform s w x .world .server j .history)
+      go : ServedAt s j x xs → In e (historyAt s (x ∷ xs) j)
       go (same q) = subst (λ (v : Server). In e (v .history)) (sym q) i
-      go (acted p a b c d q) = subst (λ (v : Server). In e (v .history)) (sym q) (act-grows s j (w .server j) (p .body) .keeps e i)
+      go (acted p a b c d q) = subst (λ (v : Server). In e (v .history)) (sym q) (act-grows s j (serverAt s xs j) (p .body) .keeps e i)

@@ -9,29 +9,29 @@ use Prim.Native.Nat.{ℕ, suc}
 use lib.Dec.{eqb}
 use lib.ListN.{length}
 use borrow.Author.Tests.{eq-eqb}
-use Rattle.protocol.specs.Values.{Candidate, Held, sameList, blankStamp}
+use Rattle.protocol.specs.Values.{Candidate, Held, sameList, blankStamp, isSome}
 use Rattle.protocol.specs.Packet.{Body}
 use Rattle.protocol.specs.Rules.{ByServer, leader, tagsIn}
-use Rattle.protocol.specs.Client.{Client, Hand, Turn, Result, refused, more, written, gave, gaveBlank, aborted, idle, clocking, storing, completing, collecting, filtering, repairing, awaits, isIdle, accepted}
+use Rattle.protocol.specs.Client.{Client, Hand, Turn, Result, refused, more, written, gave, gaveBlank, aborted, idle, clocking, storing, completing}
+use Rattle.protocol.specs.Client.{collecting, filtering, repairing, awaits, isIdle, accepted}
 use Rattle.protocol.specs.Client.{update, judge, found, onto, begun, prepared, codeIn}
 use Rattle.protocol.specs.Runs.{Step, write, read, make, take-reply, give-up, serve}
-use Rattle.protocol.proofs.ValueRuns.{World, nowValues}
 use Rattle.atomicity.specs.Lists.{In}
 use Rattle.atomicity.specs.Steps.{System}
-use Rattle.atomicity.specs.Claim.{Logged, given, follow}
+use Rattle.atomicity.specs.Claim.{Logged, follow}
 use Rattle.atomicity.proofs.Util.{cond-both, clash, no-some, or-right, split-in, map-in}
-use Rattle.atomicity.proofs.Model.{perform, now, updated}
-use Rattle.atomicity.proofs.Setup.{Setup, Steps, StepOf, Fair, hand, calls, cli}
-use Rattle.atomicity.proofs.Moves.{Moved, kept, wbegan, rbegan, quit, took, moved, acting}
+use Rattle.atomicity.proofs.Model.{updated}
+use Rattle.atomicity.proofs.Setup.{Setup, Steps, StepOf, Fair, hand, calls, cli, result}
+use Rattle.atomicity.proofs.Moves.{kept, wbegan, rbegan, quit, took, moved, acting, MovedAt}
 use Rattle.atomicity.proofs.Rounds.{turn-turned}
 use Rattle.atomicity.proofs.Calls.{CallOk}
-use Rattle.atomicity.proofs.Shape.{result, effect, touched, mover, touched-case, entered, refused-view}
+use Rattle.atomicity.proofs.Shape.{effect, touched, mover, touched-case, entered, refused-view}
 use Rattle.atomicity.proofs.Logs.{Signed, beginSigned, newSigned, new-write, new-read}
 use Rattle.atomicity.proofs.Story.{past, stepSigned, story}
 
 -- over, or given up
 abbrev pub Out : Logged → Type 0
-Out a = (given (a .over) || a .gaveUp) ≡ true
+Out a = (isSome (a .over) || a .gaveUp) ≡ true
 
 abbrev Closed : Logged → ℕ → Bool → Turn → Type 0
 Closed a t b u = isIdle (u .client .hand) ≡ true → Out (follow (u .result) b t a)
@@ -82,10 +82,10 @@ module _ (K : Setup) where
   -- a call that the step leaves as it is
   same-call : (x : StepOf K) (xs : Steps K) (a : Logged) → Settled xs a →
       (mover (x .step) ≡ some (a .client) → a .number ≡ calls K xs (a .client) → ⊥) → Settled (x ∷ xs) a
-  unfolding Settled nowValues
-  same-call x xs a h f hyp = go (moved (K .s) (a .client) (now (K .s) xs) (x .step))
+  unfolding Settled
+  same-call x xs a h f hyp = go (moved (K .s) (a .client) x xs)
     where
-      go : Moved (K .s) (a .client) (now (K .s) xs) (x .step) (perform (K .s) (now (K .s) xs) (x .step) .world .client (a .client)) (result K x xs) →
+      go : MovedAt (K .s) (a .client) x xs →
           Out a
       go (kept e _) = h (λ n. subst (λ (z : Client). isIdle (z .hand) ≡ true) e (hyp (n ∙ sym (ap (λ (z : Client). z .calls) e))))
       go (wbegan r n s b i m e) = h (λ n. i)
@@ -96,33 +96,30 @@ module _ (K : Setup) where
   -- the client's own call, at its own take or give-up
   own-settled : (x : StepOf K) (xs : Steps K) (a : Logged) → Settled xs a → a .number ≡ calls K xs (a .client) →
       mover (x .step) ≡ some (a .client) → acting (a .client) (x .step) ≡ true → Settled (x ∷ xs) (effect K x xs (a .client) a)
-  unfolding Settled nowValues
-  own-settled x xs a h n m act hyp = go (moved (K .s) (a .client) w (x .step)) (back (follow-keeps (result K x xs) _ (length xs) a) hyp)
+  unfolding Settled
+  own-settled x xs a h n m act hyp = go (moved (K .s) (a .client) x xs) (back (follow-keeps (result K x xs) _ (length xs) a) hyp)
     where
-      w : World
-      w = now (K .s) xs
-
       cl' : Client
-      cl' = perform (K .s) w (x .step) .world .client (a .client)
+      cl' = cli K (x ∷ xs) (a .client)
 
       T : Logged
       T = effect K x xs (a .client) a
 
       back : (T .client ≡ a .client) × (T .number ≡ a .number) →
-          (T .number ≡ perform (K .s) w (x .step) .world .client (T .client) .calls →
-          isIdle (perform (K .s) w (x .step) .world .client (T .client) .hand) ≡ true) →
+          (T .number ≡ calls K (x ∷ xs) (T .client) →
+          isIdle (hand K (x ∷ xs) (T .client)) ≡ true) →
           a .number ≡ cl' .calls → isIdle (cl' .hand) ≡ true
-      back k f q = subst (λ (i : ℕ). isIdle (perform (K .s) w (x .step) .world .client i .hand) ≡ true) (k .0)
-          (f (k .1 ∙ q ∙ ap (λ (i : ℕ). perform (K .s) w (x .step) .world .client i .calls) (sym (k .0))))
+      back k f q = subst (λ (i : ℕ). isIdle (hand K (x ∷ xs) i) ≡ true) (k .0)
+          (f (k .1 ∙ q ∙ ap (calls K (x ∷ xs)) (sym (k .0))))
 
-      go : Moved (K .s) (a .client) w (x .step) cl' (result K x xs) → (a .number ≡ cl' .calls → isIdle (cl' .hand) ≡ true) → Out T
+      go : MovedAt (K .s) (a .client) x xs → (a .number ≡ cl' .calls → isIdle (cl' .hand) ≡ true) → Out T
       go (kept e f) i = let r = refused-view (result K x xs) (f act) in
           subst (λ (y : Result). Out (follow y (eqb (awaits (cl' .hand)) 6) (length xs) a)) (sym (r .1))
           (h (λ k. subst (λ (z : Client). isIdle (z .hand) ≡ true) e (i (k ∙ sym (ap (λ (z : Client). z .calls) e)))))
       go (wbegan r n' s b d l e) i = absurd (no-some (sym (ap mover s) ∙ m))
       go (rbegan s b d e) i = absurd (no-some (sym (ap mover s) ∙ m))
       go (quit s v d e) i = subst (λ (y : Result). Out (follow y (eqb (awaits (cl' .hand)) 6) (length xs) a)) (sym v)
-          (or-right (given (a .over)) true refl)
+          (or-right (isSome (a .over)) true refl)
       go (took p lent b o s rd fit e v) i =
           let t = turn-turned (K .s) (a .client) (cli K xs (a .client)) p in
           let idle-now = i (n ∙ sym (t .calls) ∙ sym (ap (λ (z : Client). z .calls) e)) in
@@ -146,13 +143,13 @@ module _ (K : Setup) where
   begun-settled : (x : StepOf K) (xs : Steps K) (c : ℕ) (w : Option (List ℕ)) → acting c (x .step) ≡ true → accepted (result K x xs) ≡ true →
       (mover (x .step) ≡ some c → ⊥) →
       Settled (x ∷ xs) (entered c (suc (calls K xs c)) w (length xs))
-  unfolding Settled nowValues entered begun isIdle awaits
-  begun-settled x xs c w act acc f hyp = go (moved (K .s) c (now (K .s) xs) (x .step))
+  unfolding Settled entered begun isIdle awaits
+  begun-settled x xs c w act acc f hyp = go (moved (K .s) c x xs)
     where
       cl' : Client
-      cl' = perform (K .s) (now (K .s) xs) (x .step) .world .client c
+      cl' = cli K (x ∷ xs) c
 
-      go : Moved (K .s) c (now (K .s) xs) (x .step) cl' (result K x xs) → Out (entered c (suc (calls K xs c)) w (length xs))
+      go : MovedAt (K .s) c x xs → Out (entered c (suc (calls K xs c)) w (length xs))
       go (kept e k) = clash acc (k act)
       go (wbegan r n s b i m e) = clash (subst (λ (z : Client). isIdle (z .hand) ≡ true) e (hyp (sym (ap (λ (z : Client). z .calls) e)))) refl
       go (rbegan s b i e) = clash (subst (λ (z : Client). isIdle (z .hand) ≡ true) e (hyp (sym (ap (λ (z : Client). z .calls) e)))) refl

@@ -4,17 +4,20 @@
 use mathlib.Core.Path.{_≡_, refl}
 use mathlib.Core.Bool.{Bool, true, not}
 use mathlib.Core.List.{List, _∷_}
+use mathlib.Core.Option.{Option}
 use Prim.Native.Nat.{ℕ, _≤_}
 use Rattle.cluster.specs.Config.{Legal}
 use Rattle.protocol.specs.declared.Stamp.{Stamp}
 use Rattle.protocol.specs.Values.{Write}
+use Rattle.protocol.specs.Packet.{Packet}
 use Rattle.protocol.specs.Rules.{ByServer, countTo}
 use Rattle.protocol.specs.Server.{Server}
-use Rattle.protocol.specs.Client.{Client, Hand}
+use Rattle.protocol.specs.Client.{Client, Hand, Result}
 use Rattle.atomicity.specs.Lists.{Always}
 use Rattle.atomicity.specs.Steps.{StepIn, System}
 use Rattle.atomicity.specs.Premises.{Correct, Parties, correctAt, Premise, Begins, Shows}
-use Rattle.atomicity.proofs.Model.{Run, Laws, account, now}
+use Rattle.atomicity.proofs.Model.{Run, Laws, account}
+use Rattle.atomicity.proofs.Model.{clientAt, serverAt, resultAt, sentAt, handAt, callsAt, lastAt, repliedAt, latestAt, historyAt}
 
 pub record Setup : Type 0 where
   pub s : System
@@ -74,29 +77,34 @@ module _ (K : Setup) where
   pub right-step : (x : StepOf) (xs : Steps) (j : ℕ) → right xs j ≡ right (x ∷ xs) j
   right-step x xs j = same-right xs (x ∷ xs) (same-step x xs) j
 
-  -- ---- the ways into a moment: its servers and clients
+  -- ---- the ways into a moment, of this system's runs
 
   abbrev pub srv : Steps → ℕ → Server
-  srv xs j = now (K .s) xs .server j
+  srv = serverAt (K .s)
 
   abbrev pub lat : Steps → ℕ → Stamp
-  lat xs j = srv xs j .latest .stamp
+  lat = latestAt (K .s)
 
   abbrev pub hist : Steps → ℕ → List Write
-  hist xs j = srv xs j .history
+  hist = historyAt (K .s)
 
   abbrev pub cli : Steps → ℕ → Client
-  cli xs c = now (K .s) xs .client c
+  cli = clientAt (K .s)
 
   abbrev pub hand : Steps → ℕ → Hand
-  hand xs c = cli xs c .hand
+  hand = handAt (K .s)
 
   abbrev pub calls : Steps → ℕ → ℕ
-  calls xs c = cli xs c .calls
+  calls = callsAt (K .s)
 
-  -- the number of its last stamp, and who has replied in its round
   abbrev pub lastOf : Steps → ℕ → ℕ
-  lastOf xs c = cli xs c .last
+  lastOf = lastAt (K .s)
 
   abbrev pub replied : Steps → ℕ → ByServer Bool
-  replied xs c = cli xs c .marks
+  replied = repliedAt (K .s)
+
+  abbrev pub result : StepOf → Steps → Result
+  result = resultAt (K .s)
+
+  abbrev pub sent : StepOf → Steps → Option Packet
+  sent = sentAt (K .s)

@@ -12,12 +12,11 @@ use borrow.Author.Tests.{eqb-true, eq-eqb}
 use Rattle.protocol.specs.Values.{blankStamp}
 use Rattle.protocol.specs.Client.{Client, Hand, Result, refused, more, written, gave, gaveBlank, aborted, begun, awaits, accepted}
 use Rattle.protocol.specs.Runs.{Step, write, read, make, take-reply, give-up, serve}
-use Rattle.protocol.proofs.ValueRuns.{nowValues}
 use Rattle.protocol.proofs.Answers.{at-cond}
 use Rattle.atomicity.specs.Claim.{Logged, change, follow, note, log}
 use Rattle.atomicity.proofs.Util.{clash, no-some, and-left, and-right, and-intro}
-use Rattle.atomicity.proofs.Model.{perform, now, account}
-use Rattle.atomicity.proofs.Setup.{Setup, Steps, StepOf, hand, calls, cli}
+use Rattle.atomicity.proofs.Model.{account}
+use Rattle.atomicity.proofs.Setup.{Setup, Steps, StepOf, hand, calls, cli, result}
 use Rattle.atomicity.proofs.Positions.{since-new}
 use Rattle.atomicity.proofs.Moves.{acting}
 use Rattle.atomicity.proofs.Calls.{Open, Cur, CallOk}
@@ -64,12 +63,9 @@ module _ (K : Setup) where
   abbrev pub Log : Steps K → List Logged
   Log xs = log (account (K .s)) xs
 
-  abbrev pub result : StepOf K → Steps K → Result
-  result x xs = perform (K .s) (now (K .s) xs) (x .step) .result
-
   -- what the step does to the call of client c
   abbrev pub effect : StepOf K → Steps K → ℕ → Logged → Logged
-  effect x xs c = follow (result x xs) (eqb (awaits (hand K (x ∷ xs) c)) 6) (length xs)
+  effect x xs c = follow (result K x xs) (eqb (awaits (hand K (x ∷ xs) c)) 6) (length xs)
 
   unfoldable pub touched : StepOf K → Steps K → Step → Logged → Logged
   touched x xs (write c r n) a = a
@@ -104,8 +100,8 @@ module _ (K : Setup) where
     touched-case (serve b p o) e = other (λ k n. no-some (sym (ap mover e) ∙ k))
 
   unfoldable pub news : StepOf K → Steps K → Step → List Logged
-  news x xs (write c r n) = cond (accepted (result x xs)) (entered c (suc (calls K xs c)) (some r) (length xs) ∷ []) []
-  news x xs (read c) = cond (accepted (result x xs)) (entered c (suc (calls K xs c)) none (length xs) ∷ []) []
+  news x xs (write c r n) = cond (accepted (result K x xs)) (entered c (suc (calls K xs c)) (some r) (length xs) ∷ []) []
+  news x xs (read c) = cond (accepted (result K x xs)) (entered c (suc (calls K xs c)) none (length xs) ∷ []) []
   news x xs (make c b o) = []
   news x xs (take-reply c lent b o) = []
   news x xs (give-up c) = []
@@ -114,8 +110,8 @@ module _ (K : Setup) where
   pub note-shape : (x : StepOf K) (xs : Steps K) (cs : List Logged) (st : Step) →
       note (account (K .s)) x xs cs st ≡ news x xs st ++ map (touched x xs st) cs
   unfolding note news touched entered
-  note-shape x xs cs (write c r n) = begin-shape (accepted (result x xs)) _ cs
-  note-shape x xs cs (read c) = begin-shape (accepted (result x xs)) _ cs
+  note-shape x xs cs (write c r n) = begin-shape (accepted (result K x xs)) _ cs
+  note-shape x xs cs (read c) = begin-shape (accepted (result K x xs)) _ cs
   note-shape x xs cs (make c b o) = map-id cs
   note-shape x xs cs (take-reply c lent b o) = change-map c (calls K xs c) (effect x xs c) cs
   note-shape x xs cs (give-up c) = change-map c (calls K xs c) (effect x xs c) cs
@@ -124,10 +120,10 @@ module _ (K : Setup) where
   -- ---- a call that began
 
   pub begun-at : (x : StepOf K) (xs : Steps K) (c : ℕ) (h : Hand) (w : Option (List ℕ)) →
-      perform (K .s) (now (K .s) xs) (x .step) .world .client c ≡ begun (cli K xs c) h →
+      cli K (x ∷ xs) c ≡ begun (cli K xs c) h →
       (Open K (x ∷ xs) (entered c (suc (calls K xs c)) w (length xs)) → Cur K (x ∷ xs) (entered c (suc (calls K xs c)) w (length xs)) blankStamp h) →
       CallOk K (x ∷ xs) (entered c (suc (calls K xs c)) w (length xs)) blankStamp
-  unfolding nowValues entered begun
+  unfolding entered begun
   begun-at x xs c h w e f =
       let q : calls K (x ∷ xs) c ≡ suc (calls K xs c) = ap (λ (z : Client). z .calls) e in
       record {

@@ -13,7 +13,8 @@ use Rattle.cluster.specs.Ranges.{topWriter}
 use Rattle.cluster.proofs.Tests.{or-none}
 use Rattle.protocol.specs.Values.{Candidate, Share, Write}
 use Rattle.protocol.specs.Packet.{Body, Packet, kindOf, decode}
-use Rattle.protocol.specs.Packet.{clock, clockReply, store, storeReply, complete, completeReply, collect, collectReply, filter, filterReply, repair, repairReply}
+use Rattle.protocol.specs.Packet.{clock, clockReply, store, storeReply, complete, completeReply, collect, collectReply, filter, filterReply, repair}
+use Rattle.protocol.specs.Packet.{repairReply}
 use Rattle.protocol.specs.Rules.{ByServer}
 use Rattle.protocol.specs.Server.{barred, replyTo}
 use Rattle.protocol.specs.Client.{Hand, idle, clocking, storing, completing, collecting, filtering, repairing, request, accepted}
@@ -22,9 +23,9 @@ use Rattle.atomicity.specs.Lists.{Ever}
 use Rattle.atomicity.specs.Steps.{bytesIn, packetIn, makes, serves}
 use Rattle.atomicity.specs.Premises.{Authentic, PartyOf, odd}
 use Rattle.atomicity.proofs.Util.{clash, ever-map, ever-with}
-use Rattle.atomicity.proofs.Model.{perform, now, account}
-use Rattle.atomicity.proofs.Setup.{Setup, Steps, StepOf, Meets, Fair, right}
-use Rattle.atomicity.proofs.Serving.{Asked, Answered, answer}
+use Rattle.atomicity.proofs.Model.{account}
+use Rattle.atomicity.proofs.Setup.{Setup, Steps, StepOf, Meets, Fair, right, result, sent}
+use Rattle.atomicity.proofs.Serving.{Asked, answer, BehindAt}
 
 -- ---- shapes of steps
 
@@ -85,8 +86,8 @@ complete-made (repairing d r) b w q = absurd (let z : _≡_ {A = ℕ} 0 1 = cc i
 module _ (K : Setup) where
   -- such a step sent p
   abbrev pub MadeBy : (Step → Bool) → Packet → StepOf K → Steps K → Type 0
-  MadeBy who p y ys = (who (y .step) ≡ true) × (decode (sentOf (perform (K .s) (now (K .s) ys) (y .step) .sent)) ≡ some p)
-      × (perform (K .s) (now (K .s) ys) (y .step) .sent ≡ some p)
+  MadeBy who p y ys = (who (y .step) ≡ true) × (decode (sentOf (sent K y ys)) ≡ some p)
+      × (sent K y ys ≡ some p)
 
   pub sent-made : (who : Step → Bool) (b : List ℕ) (p : Packet) → decode b ≡ some p → (xs : Steps K) →
       Ever (λ (y : StepOf K) ys. (who (y .step) ≡ true) × (account (K .s) .sent y ys ≡ b)) xs → Ever (MadeBy who p) xs
@@ -94,7 +95,7 @@ module _ (K : Setup) where
 
   -- a correct party's packet was made by it: a request by its client, a reply by its server
   pub made-by : (x : StepOf K) (xs : Steps K) → Meets K x xs → (p : Packet) → packetIn (x .step) ≡ some p →
-      accepted (perform (K .s) (now (K .s) xs) (x .step) .result) ≡ true →
+      accepted (result K x xs) ≡ true →
       (odd (kindOf (p .body)) ≡ true → K .correct .client (p .head .client) ≡ true → Ever (MadeBy (makes (p .head .client)) p) xs)
       × (odd (kindOf (p .body)) ≡ false → right K xs (p .head .server) ≡ true → Ever (MadeBy (serves (p .head .server)) p) xs)
   unfolding Authentic right
@@ -109,7 +110,7 @@ module _ (K : Setup) where
 
   -- a writer's packet was made by it
   pub writer-made : (x : StepOf K) (xs : Steps K) → Meets K x xs → (j : ℕ) (p : Packet) → packetIn (x .step) ≡ some p → Asked (K .s) j p →
-      accepted (perform (K .s) (now (K .s) xs) (x .step) .result) ≡ true →
+      accepted (result K x xs) ≡ true →
       p .head .client ≤ topWriter → Ever (MadeBy (makes (p .head .client)) p) xs
   writer-made x xs prem j p e a f l = made-by x xs prem p e f .0 (asked-odd (p .head .client) (p .body) (a .allowed))
       (K .parties .writers (p .head .client) (K .laws .heads (bytesIn (x .step)) p e (a .same-t) .0) l)
@@ -119,7 +120,7 @@ module _ (K : Setup) where
   -- y, after ys, is the step of a server that gave the packet p, on a request that the client had made
   pub record Told (p : Packet) (y : StepOf K) (ys : Steps K) : Type 0 where
     pub by : serves (p .head .server) (y .step) ≡ true
-    pub behind : Answered (K .s) (now (K .s) ys) (p .head .server) (y .step) p
+    pub behind : BehindAt (K .s) (p .head .server) y ys p
     pub same-call : behind .ask .head .call ≡ p .head .call
     pub source : Ever (MadeBy (makes (p .head .client)) (behind .ask)) ys
 
@@ -127,7 +128,7 @@ module _ (K : Setup) where
       MadeBy (serves (p .head .server)) p y ys → Told p y ys
   unfolding replyTo
   told-at p c y ys prem m =
-      let a = answer (K .s) (now (K .s) ys) (p .head .server) (y .step) p (m .0) (m .2) in
+      let a = answer (K .s) (p .head .server) y ys p (m .0) (m .2) in
       let mine : a .ask .head .client ≡ p .head .client = sym (ap (λ (q : Packet). q .head .client) (a .reply)) in
       record {
         by = m .0;

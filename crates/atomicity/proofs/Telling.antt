@@ -16,7 +16,8 @@ use Rattle.protocol.specs.Packet.{Body, Packet}
 use Rattle.protocol.specs.Packet.{clock, store, complete, collect, filter, repair}
 use Rattle.protocol.specs.Memory.{held}
 use Rattle.protocol.specs.Server.{Server, raise, valid, act}
-use Rattle.protocol.specs.Client.{Hand, idle, clocking, storing, completing, collecting, filtering, repairing, stampIn, codeIn, candidateIn, heldIn, higher, checks, request}
+use Rattle.protocol.specs.Client.{Hand, idle, clocking, storing, completing, collecting, filtering, repairing, stampIn, codeIn, candidateIn, heldIn}
+use Rattle.protocol.specs.Client.{higher, checks, request}
 use Rattle.protocol.proofs.Answers.{at-cond}
 use Rattle.atomicity.specs.Lists.{Ever, In}
 use Rattle.atomicity.specs.Steps.{System, Stamped, judged}
@@ -27,7 +28,8 @@ use Rattle.atomicity.proofs.Setup.{Setup, Steps, StepOf, Fair, lat, his
 use Rattle.atomicity.proofs.Positions.{since, from}
 use Rattle.atomicity.proofs.Marks.{mark-num, mark-checks}
 use Rattle.atomicity.proofs.Rising.{by-stamp}
-use Rattle.atomicity.proofs.Servers.{held-some, raise-ge, best-case, best-max}
+use Rattle.atomicity.proofs.Best.{best-case, best-max}
+use Rattle.atomicity.proofs.Servers.{held-some, raise-ge}
 use Rattle.atomicity.proofs.Histories.{history}
 use Rattle.atomicity.proofs.Genuine.{Judging, Genuine, genuine, genuine-up, latest-known}
 use Rattle.atomicity.proofs.Covers.{Covers, covers-stored, not-lower}
@@ -119,7 +121,8 @@ module _ (K : Setup) where
           ⊎ (In b (judged (K .s) j (srv K ys j) (filter cs)) × (In b cs × (isValid (K .s) j (srv K ys j) b ≡ true))) → Piece K (y ∷ ys) j (b .stamp) f
       go b f h (inl e) = absurd (no-blank ys (t .old) j f (subst (λ (z : Candidate). held (z .stamp) (hist K ys j) ≡ some f) e h))
       go b f h (inr v) = piece-up K j (b .stamp) f y ys (piece-of ys (t .old) j b
-          (genuine K y ys (t .old) j (t .ask) (t .judging) b (subst (λ (z : Body). In b (judged (K .s) j (srv K ys j) z)) (sym (t .asked)) (v .0)) (v .1 .1)) f h)
+          (genuine K y ys (t .old) j (t .ask) (t .judging) b
+          (subst (λ (z : Body). In b (judged (K .s) j (srv K ys j) z)) (sym (t .asked)) (v .0)) (v .1 .1)) f h)
 
   clocked : (c j : ℕ) (xs : Steps K) (x : Body) (y : StepOf K) (ys : Steps K) → At c j xs clock x y ys → (k : ℕ) →
       lat K (since (K .s) c xs) j .number ≤ higher (K .s .P) (K .s .writers) k (stampIn x)

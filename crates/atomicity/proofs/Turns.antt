@@ -14,7 +14,8 @@ use Rattle.protocol.specs.declared.Stamp.{Stamp}
 use Rattle.protocol.specs.Values.{Candidate, Share, Held, below, blankStamp, blankCandidate, sameList, isBlank}
 use Rattle.protocol.specs.Packet.{Body}
 use Rattle.protocol.specs.Rules.{ByServer, upd, nobody, countTo, gather, choice, leader, tagsIn}
-use Rattle.protocol.specs.Client.{Client, Hand, Turn, Result, refused, more, written, gave, gaveBlank, aborted, idle, clocking, storing, completing, collecting, filtering, repairing}
+use Rattle.protocol.specs.Client.{Client, Hand, Turn, Result, refused, more, written, gave, gaveBlank, aborted, idle, clocking, storing, completing}
+use Rattle.protocol.specs.Client.{collecting, filtering, repairing}
 use Rattle.protocol.specs.Client.{update, judge, found, onto, prepared, candidateMade, stampOf, higher, stampIn, codeIn, candidateIn, heldIn}
 use Rattle.protocol.proofs.Marks.{count-nobody}
 use Rattle.protocol.proofs.Equal.{same-true}
@@ -171,7 +172,8 @@ module _ (K : Setup) where
     complete-on : (d : Candidate) → HandOk K xs z0 z1 m (completing d) → Said (completing d) →
         (j : ℕ) → right K (x ∷ xs) j ≡ true → m' j ≡ true → below (lat K (x ∷ xs) j) (d .stamp) ≡ false
     unfolding HandOk Says
-    complete-on d ok say = on-marks x xs (λ j. below (lat K (x ∷ xs) j) (d .stamp) ≡ false) m b say (λ j h i. lat-up K x xs j (d .stamp) (ok .high j h i))
+    complete-on d ok say = on-marks x xs (λ j. below (lat K (x ∷ xs) j) (d .stamp) ≡ false) m b say
+        (λ j h i. lat-up K x xs j (d .stamp) (ok .high j h i))
 
     repair-on : (d : Candidate) (r : List ℕ) → 1 ≤ b → b ≤ S K → HandOk K xs z0 z1 m (repairing d r) → Said (repairing d r) →
         (j : ℕ) → right K (x ∷ xs) j ≡ true → m' j ≡ true → below (lat K (x ∷ xs) j) (d .stamp) ≡ false
@@ -239,7 +241,8 @@ module _ (K : Setup) where
     )
     turn-ok lo hi false yes-full no-full (collecting g) e ok say = (record { short = no-full refl; coll = collect-on g ok say }, tt)
     turn-ok lo hi true yes-full no-full (filtering cs g) e ok say =
-        judged x xs z0 z1 cs g (upd g b (heldIn y)) m' p0 p1 fair (filter-on cs g ok say) (yes-full refl) c cl _ refl _ (dig cs g e (yes-full refl)) refl
+        judged x xs z0 z1 cs g (upd g b (heldIn y)) m' p0 p1 fair (filter-on cs g ok say)
+        (yes-full refl) c cl _ refl _ (dig cs g e (yes-full refl)) refl
     turn-ok lo hi false yes-full no-full (filtering cs g) e ok say = (filter-on cs g ok say, tt)
     turn-ok lo hi true yes-full no-full (repairing d r) e ok say =
         (tt, (d, many-marks K (x ∷ xs) _ m' (yes-full refl) (λ j h i. not-f _ (repair-on d r lo hi ok say j h i)), proved-up K z0 d r x xs (ok .proved)))

@@ -11,9 +11,10 @@ use lib.Dec.{eqb, leb}
 use borrow.Author.Tests.{eqb-true, eq-eqb, le-leb}
 use Rattle.cluster.specs.Ranges.{within}
 use Rattle.cluster.proofs.Tests.{untrue}
-use Rattle.atomicity.specs.Claim.{given}
-use Rattle.atomicity.specs.Lists.{Ever, Always, All, In, flat}
+use Rattle.atomicity.specs.Lists.{Ever, Always, All, In, AllPairs, flat}
+use Rattle.protocol.specs.Values.{isSome}
 use Rattle.protocol.specs.Rules.{any, keep, upd}
+use Rattle.protocol.proofs.Answers.{at-cond}
 
 pub cond-both : {A : Type 0} (P : A → Type 0) (b : Bool) (x y : A) → P x → P y → P (cond b x y)
 cond-both P true x y f g = f
@@ -216,6 +217,12 @@ module _ {A B : Type 0} where
       go (inl k) r = (x, inl refl, k)
       go (inr k) r = let q = r k in (q .0, inr (q .1), q .2)
 
-pub given-some : {A : Type 0} (o : Option A) → given o ≡ true → (a : A) × (o ≡ some a)
-given-some none e = clash e refl
-given-some (some a) e = (a, refl)
+pub is-some : {A : Type 0} (o : Option A) → isSome o ≡ true → (a : A) × (o ≡ some a)
+is-some none e = clash e refl
+is-some (some a) e = (a, refl)
+
+pub keep-pairs : {A : Type 0} (R : A → A → Type 0) (p : A → Bool) (l : List A) → AllPairs R l → AllPairs R (keep p l)
+unfolding keep AllPairs
+keep-pairs R p [] h = tt
+keep-pairs {A} R p (x ∷ l) h = at-cond (p x) (x ∷ keep p l) (keep p l) (AllPairs R)
+    (λ e. (all-of (R x) (keep p l) (λ y i. all-in (R x) l (h .0) y (keep-in p l y i .0)), keep-pairs R p l (h .1))) (λ e. keep-pairs R p l (h .1))

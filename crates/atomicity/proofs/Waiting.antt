@@ -16,14 +16,14 @@ use Rattle.protocol.specs.Rules.{ByServer, upd, countTo, choice, leader, tagsIn
 use Rattle.protocol.specs.Server.{act}
 use Rattle.protocol.specs.Client.{Client, Hand, Turn, Result, idle, clocking, storing, completing, collecting, filtering, repairing, isFull, accepted}
 use Rattle.protocol.specs.Client.{update, judge, found, onto, begun, prepared, codeIn, candidateIn, heldIn}
-use Rattle.protocol.proofs.ValueRuns.{World, nowValues}
+use Rattle.protocol.proofs.ValueRuns.{nowValues}
 use Rattle.atomicity.specs.Lists.{Ever, In}
 use Rattle.atomicity.specs.Steps.{packetIn}
 use Rattle.atomicity.specs.Premises.{odd}
 use Rattle.atomicity.proofs.Util.{cond-both, bool-case, upd-here, upd-else, ever-map}
-use Rattle.atomicity.proofs.Model.{perform, now, bestOf, updated}
+use Rattle.atomicity.proofs.Model.{bestOf, updated}
 use Rattle.atomicity.proofs.Setup.{Setup, Steps, StepOf, Fair, hand, hist, srv, replied, right, Same, same-step, right-step, cli}
-use Rattle.atomicity.proofs.Moves.{Moved, kept, wbegan, rbegan, quit, took, moved}
+use Rattle.atomicity.proofs.Moves.{kept, wbegan, rbegan, quit, took, moved, MovedAt}
 use Rattle.atomicity.proofs.Rounds.{turn-turned}
 use Rattle.atomicity.proofs.Sources.{made-by}
 use Rattle.atomicity.proofs.Genuine.{Judging}
@@ -34,7 +34,6 @@ use Rattle.atomicity.proofs.Gathered.{gather-blank}
 use Rattle.atomicity.proofs.Choosing.{Live}
 use Rattle.atomicity.proofs.Turns.{none-short, unmarked}
 use Rattle.atomicity.proofs.Invariant.{awaits-even}
-use Rattle.atomicity.proofs.Shape.{result}
 use Rattle.atomicity.proofs.Story.{past, meets}
 
 module _ (K : Setup) where
@@ -176,18 +175,15 @@ module _ (K : Setup) where
   pub waiting : (xs : Steps K) → Fair K xs → (c : ℕ) → K .correct .client c ≡ true → Wait xs (replied K xs c) (hand K xs c)
   unfolding nowValues Wait begun onto past isFull
   waiting [] fair c good = tt
-  waiting (x ∷ xs) fair c good = go (moved (K .s) c w (x .step)) (waiting xs (past K x xs fair) c good)
+  waiting (x ∷ xs) fair c good = go (moved (K .s) c x xs) (waiting xs (past K x xs fair) c good)
     where
-      w : World
-      w = now (K .s) xs
-
       cl' : Client
-      cl' = perform (K .s) w (x .step) .world .client c
+      cl' = cli K (x ∷ xs) c
 
       At : Client → Type 0
       At z = Wait (x ∷ xs) (z .marks) (z .hand)
 
-      go : Moved (K .s) c w (x .step) cl' (result K x xs) → Wait xs (replied K xs c) (hand K xs c) → At cl'
+      go : MovedAt (K .s) c x xs → Wait xs (replied K xs c) (hand K xs c) → At cl'
       go (kept e _) h = subst At (sym e) (wait-up x xs (replied K xs c) (hand K xs c) h)
       go (wbegan r n s a i l e) h = subst At (sym e) tt
       go (rbegan s a i e) h = subst At (sym e) tt

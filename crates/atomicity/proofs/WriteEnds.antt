@@ -10,13 +10,13 @@ use Prim.Native.Nat.{ℕ, suc, _<_}
 use native.Mathlib.Omega.{arith}
 use lib.ListN.{length}
 use Rattle.protocol.specs.declared.Stamp.{Stamp}
-use Rattle.protocol.specs.Values.{Candidate, Share}
+use Rattle.protocol.specs.Values.{Candidate, Share, isSome}
 use Rattle.protocol.specs.Rules.{ByServer}
 use Rattle.protocol.specs.Client.{Client, Hand, more, written, idle, clocking, storing, completing, awaits, inComplete}
 use Rattle.protocol.specs.Client.{prepared, candidateMade}
 use Rattle.atomicity.specs.Lists.{Ever, In}
 use Rattle.atomicity.specs.Steps.{Stamped, stampedFrom}
-use Rattle.atomicity.specs.Claim.{Logged, close, reach, earliest, given}
+use Rattle.atomicity.specs.Claim.{Logged, close, reach, earliest}
 use Rattle.atomicity.proofs.Util.{clash, no-some}
 use Rattle.atomicity.proofs.Model.{stampFor, preparedFor}
 use Rattle.atomicity.proofs.Setup.{Setup, Steps, StepOf, calls}
@@ -43,7 +43,7 @@ module _ (K : Setup) (x : StepOf K) (xs : Steps K) (a : Logged) (σ : Stamp) (sa
           begun-lt = omega (arith, base .begun-lt);
           number-le = omega (arith, base .number-le, same);
           ended = λ t q. absurd (no-some (sym (c .0 .going) ∙ q));
-          write = λ v p q. clash q (ap given (unreach (a .reached) _ (length xs) refl ∙ c .0 .unreached));
+          write = λ v p q. clash q (ap isSome (unreach (a .reached) _ (length xs) refl ∙ c .0 .unreached));
           read = λ t p q. absurd (no-some (sym p ∙ c .1));
           reaches = λ v t p q. absurd (no-some (sym (c .0 .going) ∙ q));
           reach-lt = λ k q. absurd (no-some (sym (unreach (a .reached) _ (length xs) refl ∙ c .0 .unreached) ∙ q));
@@ -68,7 +68,7 @@ module _ (K : Setup) (x : StepOf K) (xs : Steps K) (a : Logged) (σ : Stamp) (sa
             hand-is = refl;
           },
         ),
-        record { client = refl; number = refl; begun = refl; wrote = refl; reached = λ e. clash e (ap given (c .0 .unreached)) },
+        record { client = refl; number = refl; begun = refl; wrote = refl; reached = λ e. clash e (ap isSome (c .0 .unreached)) },
       )
 
   pub store-ends : (d : Candidate) (g : ByServer Share) (cl : Client) → cl .hand ≡ completing d → WBeats K (since (K .s) (a .client) xs) (d .stamp) →
@@ -77,7 +77,7 @@ module _ (K : Setup) (x : StepOf K) (xs : Steps K) (a : Logged) (σ : Stamp) (sa
   store-ends d g cl e beats c kn =
       let w = writing-up K x xs a σ d (c .1) in
       let now : earliest (a .reached) true (length xs) ≡ some (length xs) = ap (λ (z : Option ℕ). earliest z true (length xs)) (c .0 .unreached) in
-      let won : given (earliest (a .reached) true (length xs)) ≡ true = ap given now in
+      let won : isSome (earliest (a .reached) true (length xs)) ≡ true = ap isSome now in
       subst (λ (h : Hand). Stands K x xs a σ (reach (inComplete h) (length xs) a) h) (sym e) (
         σ,
         record {
@@ -99,7 +99,7 @@ module _ (K : Setup) (x : StepOf K) (xs : Steps K) (a : Logged) (σ : Stamp) (sa
           c .0 .staying,
           won,
         ),
-        record { client = refl; number = refl; begun = refl; wrote = refl; reached = λ e. clash e (ap given (c .0 .unreached)) },
+        record { client = refl; number = refl; begun = refl; wrote = refl; reached = λ e. clash e (ap isSome (c .0 .unreached)) },
       )
 
   pub write-ends : (d : Candidate) (cl : Client) (n : ℕ) → cl .hand ≡ idle → Cur K xs a σ (completing d) →

@@ -5,11 +5,12 @@ use mathlib.Core.Bool.{Bool, true, false, cond, not, _&&_, _||_}
 use mathlib.Core.List.{List, [], _∷_}
 use mathlib.Core.Option.{Option, none, some}
 use mathlib.Core.Logic.{_⊎_}
-use Prim.Native.Nat.{ℕ, suc, _≤_, _<_}
+use Prim.Native.Nat.{ℕ, suc, _≤_}
 use lib.Dec.{ltb, eqb}
 use lib.ListN.{length}
 use Rattle.cluster.specs.Config.{Config, quorum}
 use Rattle.cluster.specs.Ranges.{topFaults, capacity}
+use Rattle.protocol.specs.Values.{isSome}
 use Rattle.protocol.specs.Packet.{Packet, kindOf, decode}
 use Rattle.protocol.specs.Primitives.{real}
 use Rattle.protocol.specs.Rules.{ByServer, keep}
@@ -23,16 +24,14 @@ use Rattle.atomicity.specs.Premises.{Correct, Parties, correctAt, Sent, 
 
 -- ---- calls
 
+-- begun, reached, over: how many steps were done when the call began, when its complete round began, and when it ended, finished
 pub record Logged : Type 0 where
   pub client : ℕ
   pub number : ℕ
   -- the content of a write; none for a read
   pub wrote : Option (List ℕ)
-  -- how many steps were done when it began
   pub begun : ℕ
-  -- how many steps were done when its complete round began
   pub reached : Option ℕ
-  -- how many steps were done when it ended, finished
   pub over : Option ℕ
   -- the content that a read gave; none for blank
   pub answer : Option (List ℕ)
@@ -49,14 +48,19 @@ earliest none false n = none
 earliest none true n = some n
 earliest (some k) b n = some k
 
+-- x with its complete round begun at r, over at o, with answer a, and given up if g
+abbrev pub become : Option ℕ → Option ℕ → Option (List ℕ) → Bool → Logged → Logged
+become r o a g x =
+    record { client = x .client; number = x .number; wrote = x .wrote; begun = x .begun; reached = r; over = o; answer = a; gaveUp = g }
+
 abbrev pub reach : Bool → ℕ → Logged → Logged
-reach b n x = record { client = x .client; number = x .number; wrote = x .wrote; begun = x .begun; reached = earliest (x .reached) b n; over = x .over; answer = x .answer; gaveUp = x .gaveUp }
+reach b n x = become (earliest (x .reached) b n) (x .over) (x .answer) (x .gaveUp) x
 
 abbrev pub close : ℕ → Option (List ℕ) → Logged → Logged
-close n a x = record { client = x .client; number = x .number; wrote = x .wrote; begun = x .begun; reached = x .reached; over = some n; answer = a; gaveUp = x .gaveUp }
+close n a x = become (x .reached) (some n) a (x .gaveUp) x
 
 abbrev pub leave : Logged → Logged
-leave x = record { client = x .client; number = x .number; wrote = x .wrote; begun = x .begun; reached = x .reached; over = x .over; answer = x .answer; gaveUp = true }
+leave x = become (x .reached) (x .over) (x .answer) true x
 
 -- what a step's result does to its client's call: complete tells that the hand is in the complete round, n is how many steps were done
 abbrev pub follow : Result → Bool → ℕ → Logged → Logged
@@ -71,9 +75,9 @@ module _ {s : Config} {writers : List ℕ} {keys : ByServer (List ℕ)} (A : Acc
   -- "A call begins when accepted and ends, finished, at the reply that gives its result"
   abbrev pub enter : Typed s writers keys → List (Typed s writers keys) → ℕ → Option (List ℕ) → List Logged → List Logged
   enter x xs c w cs =
+      let k = suc (A .client xs c .calls) in
       cond (accepted (A .result x xs))
-      (record { client = c; number = suc (A .client xs c .calls); wrote = w; begun = length xs; reached = none; over = none; answer = none; gaveUp = false } ∷ cs)
-      cs
+      (record { client = c; number = k; wrote = w; begun = length xs; reached = none; over = none; answer = none; gaveUp = false } ∷ cs) cs
 
   abbrev pub touch : Typed s writers keys → List (Typed s writers keys) → ℕ → List Logged → List Logged
   touch x xs c cs = change c (A .client xs c .calls) (follow (A .result x xs) (inComplete (A .client (x ∷ xs) c .hand)) (length xs)) cs
@@ -90,10 +94,6 @@ module _ {s : Config} {writers : List ℕ} {keys : ByServer (List ℕ)} (A : Acc
   log [] = []
   log (x ∷ xs) = note x xs (log xs) (x .step)
 
-abbrev pub given : {B : Type 0} → Option B → Bool
-given none = false
-given (some a) = true
-
 -- ---- the one order
 
 -- a ended before b began
@@ -106,20 +106,16 @@ before a b = endedBy (a .over) (b .begun)
 
 -- "the right clients' finished calls, with some unfinished writes": those whose complete round began
 unfoldable pub counted : Logged → Bool
-counted c = given (c .over) || (given (c .wrote) && given (c .reached))
-
--- "it holds blank, then the last write's record, and each read gives what it holds, blank or the same length and bytes"
-abbrev pub givesHeld : Option (List ℕ) → Option (List ℕ) → Logged → Type 0
-givesHeld m none c = c .answer ≡ m
-givesHeld m (some r) c = Unit {0}
+counted c = isSome (c .over) || (isSome (c .wrote) && isSome (c .reached))
 
 abbrev pub holds : Option (List ℕ) → Option (List ℕ) → Option (List ℕ)
 holds m none = m
 holds m (some r) = some r
 
+-- "it holds blank, then the last write's record, and each read gives what it holds, blank or the same length and bytes"
 unfoldable pub Replay : Option (List ℕ) → List Logged → Type 0
 Replay m [] = Unit {0}
-Replay m (c ∷ cs) = givesHeld m (c .wrote) c × Replay (holds m (c .wrote)) cs
+Replay m (c ∷ cs) = (c .wrote ≡ none → c .answer ≡ m) × Replay (holds m (c .wrote)) cs
 
 -- whoever stands ahead of a call did not begin after it had ended
 abbrev pub InTime : List Logged → Type 0
@@ -136,7 +132,7 @@ pub record OneOrder (cs : List Logged) : Type 0 where
 -- ---- progress
 
 unfoldable pub begunWrites : List Logged → ℕ
-begunWrites cs = length (keep (λ c. given (c .wrote)) cs)
+begunWrites cs = length (keep (λ c. isSome (c .wrote)) cs)
 
 -- "A reply refused with 15 hasn't come in"
 abbrev pub cameIn : Result → Bool
@@ -171,30 +167,37 @@ module _ (s : System) (A : Account (StepIn s)) where
   CameTo l c n k b = Ever (Arrives c n k b) l
 
 module _ (s : System) (A : Account (StepIn s)) (correct : Correct) where
-  -- to the round that it has in hand
-  abbrev pub CameIn : List (StepIn s) → ℕ → ℕ → Type 0
-  CameIn l c b = CameTo s A l c (A .client l c .calls) (awaits (A .client l c .hand)) b
+  -- S - t correct servers' replies to the round of call n of client c that awaits kind k have come in
+  abbrev pub Answered : List (StepIn s) → ℕ → ℕ → ℕ → Type 0
+  Answered l c n k =
+      (bs : List ℕ) × AllPairs (λ a b. eqb a b ≡ false) bs × All (λ b. (correctAt s A correct l b ≡ true) × CameTo s A l c n k b) bs
+      × (quorum (s .config) ≤ length bs)
 
-  -- while a call is in hand, its round lacks replies of S - t correct servers. "A right client's call that isn't given up has ended once
-  -- 2t+1 honest boxes' replies to each of its rounds have come in, while at most 32 writes have begun"
+  -- ".. has ended once 2t+1 honest boxes' replies to each of its rounds have come in": while a call is in hand, its round is not answered
   unfoldable pub Progress : List (StepIn s) → Type 0
   Progress l =
       (c : ℕ) → correct .client c ≡ true → isIdle (A .client l c .hand) ≡ false → Room (log A l) (A .client l c .hand)
-      → (bs : List ℕ) → AllPairs (λ a b. eqb a b ≡ false) bs → All (λ b. (correctAt s A correct l b ≡ true) × CameIn l c b) bs
-      → length bs < quorum (s .config)
+      → Answered l c (A .client l c .calls) (awaits (A .client l c .hand)) → ⊥
 
 -- ---- the claim, of an account of runs
 
+-- for every list of steps that meets the premises
+abbrev pub EveryRun : (s : System) → Account (StepIn s) → (Correct → List (StepIn s) → Type 0) → Type 0
+EveryRun s A P = (correct : Correct) → Parties (s .config) correct → (l : List (StepIn s)) → Always (Premise s A correct) l → P correct l
+
 unfoldable pub OneServer : (s : System) → Account (StepIn s) → Type 0
-OneServer s A =
-    (correct : Correct) → Parties (s .config) correct → (l : List (StepIn s)) → Always (Premise s A correct) l
-    → OneOrder (log A l) × Progress s A correct l
+OneServer s A = EveryRun s A (λ correct l. OneOrder (log A l) × Progress s A correct l)
 
 -- the real digest, tag and fragments, on a shelf of document 01
 abbrev pub systemOf : Shelf → System
 systemOf s = record { P = real; config = configOf s; writers = s .writers; keys = keyOf (s .keys) }
 
--- demand 3, of the operations on bytes. A new client's kept bytes may be any
+-- of the operations on bytes, on every shelf. A new client's kept bytes may be any
+abbrev pub OnBytes : ((s : System) → Account (StepIn s) → Type 0) → Type 0
+OnBytes P =
+    (s : Shelf) → 1 ≤ s .t → s .t ≤ topFaults → (first : ℕ → List ℕ) → ((c : ℕ) → length (first c) ≡ keptSize)
+    → P (systemOf s) (byBytes real s first)
+
+-- demand 3
 unfoldable pub Demand3 : Type 0
-Demand3 =
-    (s : Shelf) → 1 ≤ s .t → s .t ≤ topFaults → (first : ℕ → List ℕ) → ((c : ℕ) → length (first c) ≡ keptSize) → OneServer (systemOf s) (byBytes real s first)
+Demand3 = OnBytes OneServer

@@ -41,7 +41,8 @@ module _ (s : System) (A : Account (StepIn s)) where
 
   -- "a writer shows its nonce by making kind 5"
   unfoldable pub Shows : ℕ → List ℕ → StepIn s → List (StepIn s) → Type 0
-  Shows c n x xs = (d : Candidate) × (p : Packet) × (makes c (x .step) ≡ true) × (decode (A .sent x xs) ≡ some p) × (p .body ≡ complete d) × (d .nonce ≡ n)
+  Shows c n x xs =
+      (d : Candidate) × (p : Packet) × (makes c (x .step) ≡ true) × (decode (A .sent x xs) ≡ some p) × (p .body ≡ complete d) × (d .nonce ≡ n)
 
   -- a server has got a candidate with nonce n
   abbrev pub Got : List ℕ → List (StepIn s) → Type 0
@@ -68,7 +69,8 @@ module _ (s : System) (A : Account (StepIn s)) (correct : Correct) where
   abbrev pub correctAt : List (StepIn s) → ℕ → Bool
   correctAt xs b = correct .server b
 
-  -- "a right client begins a write or read, makes or takes a packet or gives up; an honest box takes a packet"; "all others keep to these steps or stop for good"
+  -- "a right client begins a write or read, makes or takes a packet or gives up; an honest box takes a packet"; "all others keep to these steps
+  -- or stop for good"
   abbrev pub PartyOf : List (StepIn s) → Step → Type 0
   PartyOf xs (write c r n) = correct .client c ≡ true
   PartyOf xs (read c) = correct .client c ≡ true
@@ -77,7 +79,8 @@ module _ (s : System) (A : Account (StepIn s)) (correct : Correct) where
   PartyOf xs (give-up c) = correct .client c ≡ true
   PartyOf xs (serve b p o) = correctAt xs b ≡ true
 
-  -- "none bears a right party's number falsely": "A packet of odd kind is its client's, of even kind its box's; a right party's was made by it in an earlier step"
+  -- "none bears a right party's number falsely": "A packet of odd kind is its client's, of even kind its box's; a right party's was made by it
+  -- in an earlier step"
   unfoldable pub Authentic : StepIn s → List (StepIn s) → Type 0
   Authentic x xs =
       (p : Packet) → packetIn (x .step) ≡ some p → ok s A x xs ≡ true

@@ -1,6 +1,6 @@
 -- What a step gets, makes, checks, digests and shows (document 01, "What the contracts owe", 5). All of it is read off an account of runs:
 -- the step, its result, the bytes sent, and the clients and servers before and after it.
-use mathlib.Core.Bool.{Bool, true, false, cond, not, _&&_}
+use mathlib.Core.Bool.{Bool, true, cond, not, _&&_}
 use mathlib.Core.List.{List, [], _∷_, _++_, map}
 use mathlib.Core.Option.{Option, none, some}
 use Prim.Native.Nat.{ℕ}
@@ -8,13 +8,16 @@ use lib.Dec.{ltb, eqb}
 use Rattle.cluster.specs.Config.{Config, upTo}
 use Rattle.protocol.specs.declared.Stamp.{Stamp}
 use Rattle.protocol.specs.Values.{Candidate, Held, blankStamp, blankCandidate, below}
-use Rattle.protocol.specs.Packet.{Body, Packet, kindOf, decode}
-use Rattle.protocol.specs.Packet.{clock, clockReply, store, storeReply, complete, completeReply, collect, collectReply, filter, filterReply, repair, repairReply}
+use Rattle.protocol.specs.Packet.{Body, Packet, kindOf, decode, clock, clockReply, store, storeReply, complete, completeReply}
+use Rattle.protocol.specs.Packet.{collect, collectReply, filter, filterReply, repair, repairReply}
 use Rattle.protocol.specs.Primitives.{Primitives, stampMessage, candidateMessage}
 use Rattle.protocol.specs.Rules.{ByServer, upd, choice, leader, parts}
 use Rattle.protocol.specs.Server.{Server, byHistory, byTag, best}
-use Rattle.protocol.specs.Client.{Client, Hand, idle, clocking, storing, completing, collecting, filtering, repairing, checks, isFull, stampIn, heldIn, accepted}
-use Rattle.protocol.specs.Runs.{Step, write, read, make, take-reply, give-up, serve, Typed, Account}
+use Rattle.protocol.specs.Client.{Client, Hand, checks, isFull, stampIn, heldIn, accepted}
+use Rattle.protocol.specs.Client.{idle, clocking, storing, completing, collecting, filtering, repairing}
+use Rattle.protocol.specs.Runs.{Step, Typed, Account, onTaken}
+-- passed on to those who import the steps
+pub use Rattle.protocol.specs.Runs.{bytesIn, makes, serves}
 use Rattle.atomicity.specs.Lists.{flat}
 
 -- the functions, the shelf's numbers, the writers' key and the servers' keys
@@ -28,35 +31,10 @@ pub record System : Type 0 where
 abbrev pub StepIn : System → Type 0
 StepIn s = Typed (s .config) (s .writers) (s .keys)
 
--- ---- the packet that a step gets, and its party
-
-abbrev pub bytesIn : Step → List ℕ
-bytesIn (write c r n) = []
-bytesIn (read c) = []
-bytesIn (make c b o) = []
-bytesIn (take-reply c lent p o) = p
-bytesIn (give-up c) = []
-bytesIn (serve b p o) = p
+-- ---- the packet that a step takes
 
 abbrev pub packetIn : Step → Option Packet
 packetIn x = decode (bytesIn x)
-
--- client c makes a packet; server b takes one
-abbrev pub makes : ℕ → Step → Bool
-makes c (write d r n) = false
-makes c (read d) = false
-makes c (make d b o) = eqb c d
-makes c (take-reply d lent p o) = false
-makes c (give-up d) = false
-makes c (serve b p o) = false
-
-abbrev pub serves : ℕ → Step → Bool
-serves b (write c r n) = false
-serves b (read c) = false
-serves b (make c e o) = false
-serves b (take-reply c lent p o) = false
-serves b (give-up c) = false
-serves b (serve e p o) = eqb b e
 
 -- of the packet that was read, if there is one
 abbrev pub ofPacket : {A : Type 0} → (Packet → List A) → Option Packet → List A
@@ -114,12 +92,7 @@ stampedFrom c (repairing d r) h = []
 
 -- by the clients before and after the step
 unfoldable pub stampedBy : (ℕ → Client) → (ℕ → Client) → Step → List Stamped
-stampedBy was is (write c r n) = []
-stampedBy was is (read c) = []
-stampedBy was is (make c b o) = []
-stampedBy was is (take-reply c lent p o) = stampedFrom c (was c .hand) (is c .hand)
-stampedBy was is (give-up c) = []
-stampedBy was is (serve b p o) = []
+stampedBy was is = onTaken (λ c p. stampedFrom c (was c .hand) (is c .hand)) (λ b p. [])
 
 module _ (s : System) where
   -- (key, bytes) of the tags that are made with a stamp, and the inputs that are digested with it
@@ -156,12 +129,9 @@ module _ (s : System) where
 
   -- by the clients and servers before the step
   unfoldable pub checkedBy : (ℕ → Client) → (ℕ → Server) → Step → List (List ℕ × List ℕ)
-  checkedBy w v (write c r n) = []
-  checkedBy w v (read c) = []
-  checkedBy w v (make c b o) = []
-  checkedBy w v (take-reply c lent p o) = ofPacket (λ q. clientChecks (w c .hand) (q .body)) (decode p)
-  checkedBy w v (give-up c) = []
-  checkedBy w v (serve b p o) = ofPacket (λ q. flat (serverChecks b (v b)) (judged b (v b) (q .body))) (decode p)
+  checkedBy w v =
+      onTaken (λ c p. ofPacket (λ q. clientChecks (w c .hand) (q .body)) (decode p))
+      (λ b p. ofPacket (λ q. flat (serverChecks b (v b)) (judged b (v b) (q .body))) (decode p))
 
   -- the fragments that prove the candidate chosen: those of the leader's group. More are digested: it is asked of these alone
   unfoldable pub proving : ByServer Bool → ByServer Held → Option Candidate → List (List ℕ)
@@ -184,20 +154,12 @@ module _ (s : System) where
 
   -- with the stamps that the step makes
   unfoldable pub digestedBy : (ℕ → Client) → (ℕ → Server) → List Stamped → Step → List (List ℕ)
-  digestedBy w v ms (write c r n) = []
-  digestedBy w v ms (read c) = []
-  digestedBy w v ms (make c b o) = []
-  digestedBy w v ms (take-reply c lent p o) = flat digestsWith ms ++ ofPacket (compared (w c) (w c .hand)) (decode p)
-  digestedBy w v ms (give-up c) = []
-  digestedBy w v ms (serve b p o) = map (λ c. c .nonce) (ofPacket (λ q. judged b (v b) (q .body)) (decode p))
+  digestedBy w v ms =
+      onTaken (λ c p. flat digestsWith ms ++ ofPacket (compared (w c) (w c .hand)) (decode p))
+      (λ b p. map (λ c. c .nonce) (ofPacket (λ q. judged b (v b) (q .body)) (decode p)))
 
   unfoldable pub noncesBy : Step → List (List ℕ)
-  noncesBy (write c r n) = []
-  noncesBy (read c) = []
-  noncesBy (make c b o) = []
-  noncesBy (take-reply c lent p o) = []
-  noncesBy (give-up c) = []
-  noncesBy (serve b p o) = map (λ c. c .nonce) (ofPacket (λ q. offered (q .body)) (decode p))
+  noncesBy = onTaken (λ c p. []) (λ b p. map (λ c. c .nonce) (ofPacket (λ q. offered (q .body)) (decode p)))
 
   -- ---- of a step x after the steps xs, by an account. A refused step checks, digests and shows nothing: the premises then ask less
   module _ (A : Account (StepIn s)) where

@@ -23,7 +23,7 @@ use Rattle.protocol.specs.View.{handOf, view, nonceAt, candidateSlot, candidate
 use Rattle.protocol.specs.ClientBytes.{put, fresh, inHand, Begun, GaveUp, Written, sentOf, putMarks, begins, putBack, told, after, begunBy, beginWrite, beginRead, giveUp, clientMake}
 use Rattle.client.specs.Rounds.{withTally, writeByRounds, readByRounds, abortByRounds, makeByRounds}
 use Rattle.protocol.proofs.ClientLift.{out-of-rounds, pending-is}
-use Rattle.protocol.proofs.Accepted.{write-idle, read-idle, other-round, either}
+use Rattle.protocol.proofs.LetIn.{write-idle, read-idle, other-round, either}
 use Rattle.protocol.proofs.PutMarks.{marks-fresh}
 use Rattle.protocol.proofs.Marks.{count-nobody}
 

@@ -21,7 +21,7 @@ use Rattle.protocol.specs.View.{marked, handOf, view, keptSize}
 use Rattle.protocol.specs.ClientBytes.{keyOf, awaited, putReply, after, tookBy, clientTake}
 use Rattle.protocol.proofs.Bodies.{decode-ok}
 use Rattle.protocol.proofs.ClientLift.{Sound, out-of-rounds, awaits-is}
-use Rattle.protocol.proofs.Accepted.{accepted, not-none, high-is}
+use Rattle.protocol.proofs.LetIn.{let-in, not-none, high-is}
 use Rattle.protocol.proofs.Noted.{Reply, inRound, withMark, keptWith, reply-of, round-of}
 use Rattle.client.specs.Rounds.{took, takeClock, takeStore, takeComplete, takeCollect, takeFilter, takeRepair, ends, takeOn, highIn, takeIn, takeByRounds}
 use Rattle.client.proofs.RoundsSame.{clock-one, store-one, complete-one, collect-one, filter-one, repair-one}
@@ -72,7 +72,7 @@ module _ (P : Primitives) (t client : ℕ) (writers : List ℕ) (keys : ByServer
       ≡ takeOn P s client writers keys c kept output (c .tally .round) (some p)
   unfolding turnOn takeOn view ends putReply
   accepted-one p ok e =
-      let a = accepted s client p (c .number) (awaited c) (marked (c .tally .marks)) high (length output) e in
+      let a = let-in s client p (c .number) (awaited c) (marked (c .tally .marks)) high (length output) e in
       let (i, k) = round-of t client c kept p (awaited c) high a refl in
       rw k
       (round-one P client writers keys output (reply-of t client c kept p (awaited c) high a h ok) (isFull s (withMark c (p .head .server))) (c .tally .round) i)

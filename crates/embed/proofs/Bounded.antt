@@ -19,7 +19,7 @@ use Rattle.protocol.specs.Memory.{Memory, decodeMemory}
 use Rattle.protocol.specs.Primitives.{Primitives, Lengths}
 use Rattle.protocol.specs.Rules.{ByServer, upd, tagsIn, leader}
 use Rattle.protocol.specs.Server.{serverRefusal}
-use Rattle.protocol.specs.ServerBytes.{Served, over, turnedDown, accepted as acting, onMemory, serverTake}
+use Rattle.protocol.specs.ServerBytes.{Served, over, turnedDown, actedOn, onMemory, serverTake}
 use Rattle.protocol.specs.ClientBytes.{clientMake}
 use Rattle.protocol.specs.Client.{Client, Hand, Turn, Result, refused, more, written, gave, gaveBlank, aborted, idle, clocking, storing, completing, collecting, filtering, repairing, update, judge, found, codeIn, heldIn, isFull, awaits, abortRefusal, abortStep, takeRefusal, turnOn, highAt, takeStep}
 use Rattle.protocol.proofs.Answers.{at-cond}
@@ -27,7 +27,7 @@ use Rattle.protocol.proofs.Room.{Fitting}
 use Rattle.protocol.proofs.HandOk.{HandOk, held-in, upd-ok, choice-ok, content-short}
 use Rattle.protocol.proofs.Fine.{Fine}
 use Rattle.protocol.proofs.ServerLift.{body-ok}
-use Rattle.protocol.proofs.Accepted.{accepted, not-none, shelf-t}
+use Rattle.protocol.proofs.LetIn.{let-in, not-none, shelf-t}
 
 abbrev pub Small : Result → Type 0
 Small (refused n) = 1 ≤ n
@@ -88,7 +88,7 @@ module _ (P : Primitives) (law : Lengths P) (t : ℕ) (f : Fitting (shelf t)) (c
   unfolding turnOn
   turn-small p ok room e =
       let s : Config = shelf t in
-      let a = accepted s c p (cl .calls) (awaits (cl .hand)) (cl .marks) (highAt P s c writers keys cl) room e in
+      let a = let-in s c p (cl .calls) (awaits (cl .hand)) (cl .marks) (highAt P s c writers keys cl) room e in
       let m : ByServer Bool = upd (cl .marks) (p .head .server) true in
       update-small P law s f c writers keys cl (p .head .server) (p .body) m (isFull s m) (cl .hand) (fine .ok .hand)
       (subst (λ (z : ℕ). BodyOk (shelf z) (p .body)) (a .same-t ∙ shelf-t t) (body-ok p ok))
@@ -118,13 +118,13 @@ module _ (P : Primitives) (memory key packet output : List ℕ) where
   unfolding turnedDown
   down n = omega arith
 
-  done : (m : Memory) (o : Option Packet) → Fits (acting P memory key packet output m o)
-  unfolding acting
+  done : (m : Memory) (o : Option Packet) → Fits (actedOn P memory key packet output m o)
+  unfolding actedOn
   done m none = down 0
   done m (some p) = over-room _ output
 
   by-number : (m : Memory) (o : Option Packet) (n : ℕ)
-      → Fits (onRefusal n (acting P memory key packet output m o) (turnedDown P memory key packet output n))
+      → Fits (onRefusal n (actedOn P memory key packet output m o) (turnedDown P memory key packet output n))
   by-number m o zero = done m o
   by-number m o (suc n) = down (suc n)
 

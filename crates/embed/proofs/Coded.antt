@@ -18,7 +18,7 @@ use Rattle.erasure.specs.declared.FragmentOutcome.{FragmentOutcome}
 use Rattle.erasure.specs.Fragments.{fragmentSize}
 use Rattle.erasure.specs.Steps.{zeros, fragmentRefusal, fragmentBytes, fragmentStep, restoreRefusal, argumentChecks, restoreStep}
 use Rattle.erasure.proofs.Laws.{fragment-length}
-use Rattle.erasure.proofs.Refused.{makes, accepted, first-of-first}
+use Rattle.erasure.proofs.Refused.{makes, restores, first-of-first}
 use Rattle.embed.specs.Coding.{exportRefusal, outcomeOf}
 
 -- ---- a fragment
@@ -95,7 +95,7 @@ unfolding restoreRefusal
 legal t n servers given space e = go (ℕ-discrete (firstOf (argumentChecks t n servers given space)) 0)
   where
     go : Dec (firstOf (argumentChecks t n servers given space) ≡ 0) → n ≤ topLength
-    go (yes none) = accepted t n servers given space none .bytes .1
+    go (yes none) = restores t n servers given space none .bytes .1
     go (no some) = absurd (some (sym (first-of-first (argumentChecks t n servers given space) _ some) ∙ e))
 
 module _ (t n : ℕ) (servers fragments out : List ℕ) where

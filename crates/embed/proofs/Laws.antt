@@ -44,10 +44,10 @@ pub refused-with : (m q r : ℕ) (bytes out : List ℕ) → q ≡ m → m ≢ 0 
 refused-with zero q r bytes out e some gives = absurd (some refl)
 refused-with (suc n) q r bytes out e some gives = refused n q r bytes out e gives
 
-pub accepted : (n q r : ℕ) (bytes made out after : List ℕ) → q ≡ 0 → r ≡ packed 0 0 0 n
+pub carried-out : (n q r : ℕ) (bytes made out after : List ℕ) → q ≡ 0 → r ≡ packed 0 0 0 n
     → take n made ≡ bytes → length bytes ≡ n → after ≡ take n made ++ drop n out
     → (r ≡ answer q bytes) × (after ≡ written q bytes out)
-accepted n q r bytes made out after e gives same long puts =
+carried-out n q r bytes made out after e gives same long puts =
     rw e (
       gives ∙ ap (λ (k : ℕ). packed 0 0 0 k) (sym long),
       puts ∙ ap (λ (b : List ℕ). b ++ drop n out) same ∙ ap (λ (k : ℕ). bytes ++ drop k out) (sym long),

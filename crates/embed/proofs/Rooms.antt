@@ -20,7 +20,7 @@ use Rattle.protocol.specs.Packet.{Packet, decode, encode}
 use Rattle.protocol.specs.Memory.{Memory, decodeMemory}
 use Rattle.protocol.specs.Primitives.{Primitives, real}
 use Rattle.protocol.specs.Server.{act, replyTo, serverRefusal}
-use Rattle.protocol.specs.ServerBytes.{Served, over, serverIn, turnedDown, accepted, onMemory, serverTake}
+use Rattle.protocol.specs.ServerBytes.{Served, over, serverIn, turnedDown, actedOn, onMemory, serverTake}
 use Rattle.protocol.specs.Client.{made, makeRefusal}
 use Rattle.protocol.specs.ClientBytes.{Written, inHand, clientMake}
 use Rattle.client.specs.Rounds.{makeByRounds}
@@ -60,18 +60,18 @@ module _ (out : List ℕ) (n : ℕ) (in-out : n ≤ length out) where
       unfolding turnedDown
       down k = record { result = refl; memory = refl; output = sym whole; count = omega arith }
 
-      done : (m : Memory) (o : Option Packet) → length (accepted P memory key packet (take n out) m o .output) ≡ n
-          → Serves (accepted P memory key packet (take n out) m o) (accepted P memory key packet out m o)
-      unfolding accepted
+      done : (m : Memory) (o : Option Packet) → length (actedOn P memory key packet (take n out) m o .output) ≡ n
+          → Serves (actedOn P memory key packet (take n out) m o) (actedOn P memory key packet out m o)
+      unfolding actedOn
       done m none e = down 0
       done m (some p) e =
           let x = over-part (encode (replyTo p (act P (shelf (m .t)) key (m .server) (serverIn m) (p .body) .reply))) e in
           record { result = refl; memory = refl; output = sym (x .0); count = x .1 }
 
-      by-number : (m : Memory) (o : Option Packet) (k : ℕ) → length (onRefusal k (accepted P memory key packet (take n out) m o)
+      by-number : (m : Memory) (o : Option Packet) (k : ℕ) → length (onRefusal k (actedOn P memory key packet (take n out) m o)
           (turnedDown P memory key packet (take n out) k) .output) ≡ n
-          → Serves (onRefusal k (accepted P memory key packet (take n out) m o) (turnedDown P memory key packet (take n out) k))
-          (onRefusal k (accepted P memory key packet out m o) (turnedDown P memory key packet out k))
+          → Serves (onRefusal k (actedOn P memory key packet (take n out) m o) (turnedDown P memory key packet (take n out) k))
+          (onRefusal k (actedOn P memory key packet out m o) (turnedDown P memory key packet out k))
       by-number m o zero e = done m o e
       by-number m o (suc k) e = down (suc k)
 

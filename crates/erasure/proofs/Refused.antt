@@ -99,8 +99,8 @@ module _ (t n : ℕ) (servers : List ℕ) (given room : ℕ) where
     pub fits : contentRoom ≤ room
     pub whole : given ≡ length servers * fragmentSize (shelf t .shares) n
 
-  pub accepted : firstOf (argumentChecks t n servers given room) ≡ 0 → Restores
-  accepted e = go (not (within 1 topFaults t)) (not (each (within 1 (shelf t .servers)) servers)) (not (within leastLength topLength n))
+  pub restores : firstOf (argumentChecks t n servers given room) ≡ 0 → Restores
+  restores e = go (not (within 1 topFaults t)) (not (each (within 1 (shelf t .servers)) servers)) (not (within leastLength topLength n))
       (ltb room contentRoom)
       (not (eqb given (length servers * fragmentSize (shelf t .shares) n))) refl refl refl refl refl
     where

@@ -1,12 +1,9 @@
 -- The claim of firmware that links the library: demand 3 and page 41, of every list of steps done through the exported functions
 -- (crates/embed/specs/Exports.antt), from client states of 00h and servers made blank, on a shelf whose keys have 32 bytes.
-use mathlib.Core.List.{List}
 use Prim.Native.Nat.{_≤_}
 use Rattle.cluster.specs.Ranges.{topFaults}
-use Rattle.protocol.specs.Runs.{Shelf, configOf, StepOn}
-use Rattle.atomicity.specs.Lists.{Always}
-use Rattle.atomicity.specs.Premises.{Correct, Parties, Premise}
-use Rattle.atomicity.specs.Claim.{OneServer, systemOf}
+use Rattle.protocol.specs.Runs.{Shelf}
+use Rattle.atomicity.specs.Claim.{EveryRun, OneServer, systemOf}
 use Rattle.atomicity.specs.Page41.{Page41Of}
 use Rattle.embed.specs.Exports.{KeysSized, byExports}
 
@@ -15,6 +12,4 @@ Demand3OfExports = (s : Shelf) → 1 ≤ s .t → s .t ≤ topFaults → KeysSiz
 
 unfoldable pub Page41OfExports : Type 0
 Page41OfExports =
-    (s : Shelf) → 1 ≤ s .t → s .t ≤ topFaults → KeysSized s
-    → (correct : Correct) → Parties (configOf s) correct → (l : List (StepOn s)) → Always (Premise (systemOf s) (byExports s) correct) l
-    → Page41Of (systemOf s) (byExports s) correct l
+    (s : Shelf) → 1 ≤ s .t → s .t ≤ topFaults → KeysSized s → EveryRun (systemOf s) (byExports s) (Page41Of (systemOf s) (byExports s))

@@ -24,7 +24,7 @@ use Rattle.protocol.proofs.Acts.{blank-candidate}
 use Rattle.protocol.proofs.ServerLift.{body-ok}
 use Rattle.protocol.proofs.HandOk.{WriteOk, HandOk}
 use Rattle.protocol.proofs.Updates.{ClientOk, update-ok}
-use Rattle.protocol.proofs.Accepted.{accepted, not-none, shelf-t}
+use Rattle.protocol.proofs.LetIn.{let-in, not-none, shelf-t}
 
 pub record Fine (s : Config) (c : ℕ) (cl : Client) : Type 0 where
   pub ok : ClientOk s c cl
@@ -133,7 +133,7 @@ module _ (P : Primitives) (law : Lengths P) (t : ℕ) (f : Fitting (shelf t)) (c
   unfolding turnOn
   turn-fine p ok room e =
       let s : Config = shelf t in
-      let a = accepted s c p (cl .calls) (awaits (cl .hand)) (cl .marks) (highAt P s c writers keys cl) room e in
+      let a = let-in s c p (cl .calls) (awaits (cl .hand)) (cl .marks) (highAt P s c writers keys cl) room e in
       let b : ℕ = p .head .server in
       let m : ByServer Bool = upd (cl .marks) b true in
       let xok : BodyOk s (p .body) = subst (λ (z : ℕ). BodyOk (shelf z) (p .body)) (a .same-t ∙ shelf-t t) (body-ok p ok) in

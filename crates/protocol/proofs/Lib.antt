@@ -24,7 +24,7 @@ pub mod PacketRoom
 pub mod Prepared
 pub mod Updates
 pub mod ClientLift
-pub mod Accepted
+pub mod LetIn
 pub mod Fine
 pub mod MakeLift
 pub mod Sized

@@ -25,7 +25,7 @@ use Rattle.protocol.proofs.Slots.{slots-put, slots-past, replies-put}
 use Rattle.protocol.proofs.ServerLift.{body-ok}
 use Rattle.protocol.proofs.HandOk.{candidate-in, held-in, held-room}
 use Rattle.protocol.proofs.ClientLift.{Sound, Lifted, in-round}
-use Rattle.protocol.proofs.Accepted.{Accepted, server-range, shelf-t}
+use Rattle.protocol.proofs.LetIn.{LetIn, server-range, shelf-t}
 use Rattle.protocol.proofs.PutMarks.{marks-same, marks-fresh, marks-noted}
 
 -- ---- a reply x of server b, and where it is put
@@ -65,7 +65,7 @@ pub record Reply (s : Config) (c : Call) (kept : List ℕ) (b : ℕ) (x : Body) 
   pub body : BodyOk s x
 
 module _ (t client : ℕ) (c : Call) (kept : List ℕ) (p : Packet) (kind : ℕ) (high : ℕ → Body → Bool)
-    (a : Accepted (shelf t) client p (c .number) kind (marked (c .tally .marks)) high) where
+    (a : LetIn (shelf t) client p (c .number) kind (marked (c .tally .marks)) high) where
   pub reply-of : Sound (shelf t) c kept → PacketOk p → Reply (shelf t) c kept (p .head .server) (p .body)
   reply-of h ok =
       record {

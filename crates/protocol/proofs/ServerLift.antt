@@ -20,7 +20,7 @@ use Rattle.protocol.specs.Packet.{clock, clockReply, store, storeReply, 
 use Rattle.protocol.specs.Memory.{MemoryOk, decodeMemory, encodeMemory, blankMemory}
 use Rattle.protocol.specs.Primitives.{Primitives}
 use Rattle.protocol.specs.Server.{Server, Acted, act, barred, Stepped, replyTo, serverRefusal, answered, serverStep, blankServer}
-use Rattle.protocol.specs.ServerBytes.{Served, serverIn, memoryOf, over, turnedDown, accepted, onMemory, serverTake}
+use Rattle.protocol.specs.ServerBytes.{Served, serverIn, memoryOf, over, turnedDown, actedOn, onMemory, serverTake}
 use Rattle.protocol.proofs.Answers.{no-some}
 use Rattle.protocol.proofs.Bodies.{decode-ok}
 use Rattle.protocol.proofs.Memories.{of-fields, memory-length, decode-encode-memory}
@@ -114,8 +114,8 @@ module _ (P : Primitives) (t b : ℕ) (v : Server) (memory key packet output : L
   lift-refused n = record { number = refl; memory = h; ok = λ p e. no-some p e; sent = λ p e. no-some p e; silent = λ e. refl }
 
   lift-acted : (p : Packet) → PacketOk p → p .head .t ≡ t
-      → Lifted t b (answered P (shelf t) key b v (length output) (some p)) (accepted P memory key packet output (memoryOf t b v) (some p))
-  unfolding answered accepted memoryOf serverIn
+      → Lifted t b (answered P (shelf t) key b v (length output) (some p)) (actedOn P memory key packet output (memoryOf t b v) (some p))
+  unfolding answered actedOn memoryOf serverIn
   lift-acted p ok e =
       let s : Config = shelf t in
       let a : Acted = act P s key b v (p .body) in
@@ -130,10 +130,10 @@ module _ (P : Primitives) (t b : ℕ) (v : Server) (memory key packet output : L
         silent = λ f. no-some _ (sym f);
       }
 
-  -- refused with n, or accepted
+  -- refused with n, or acted on
   lift-on : (o : Option Packet) → ((p : Packet) → o ≡ some p → PacketOk p) → (n : ℕ) → serverRefusal t b o (length output) ≡ n
       → Lifted t b (onRefusal n (answered P (shelf t) key b v (length output) o) (record { number = n; server = v; reply = none }))
-      (onRefusal n (accepted P memory key packet output (memoryOf t b v) o) (turnedDown P memory key packet output n))
+      (onRefusal n (actedOn P memory key packet output (memoryOf t b v) o) (turnedDown P memory key packet output n))
   lift-on o f (suc n) e = lift-refused (suc n)
   lift-on none f zero e = absurd (let z : _≡_ {A = ℕ} 7 0 = unfold serverRefusal in e in omega arith)
   lift-on (some p) f zero e = lift-acted p (f p refl) (accepted-t t b p (length output) e)

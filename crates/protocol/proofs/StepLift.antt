@@ -31,7 +31,7 @@ use Rattle.protocol.proofs.MakeLift.{made-ok}
 use Rattle.protocol.proofs.TakeSeen.{take-seen}
 use Rattle.protocol.proofs.PutMarks.{marks-fresh}
 use Rattle.protocol.proofs.Marks.{count-nobody}
-use Rattle.protocol.proofs.Accepted.{write-idle, read-idle, other-round, either}
+use Rattle.protocol.proofs.LetIn.{write-idle, read-idle, other-round, either}
 
 -- what a step on bytes leaves and answers, by the turn on values
 pub record Good (s : Config) (c : ℕ) (u : Turn) (m : Machine) (r : Result) : Type 0 where

@@ -18,7 +18,7 @@ use Rattle.protocol.specs.Client.{Client, Turn, refused, awaits, isFull,
 use Rattle.protocol.specs.View.{marked, handOf, view}
 use Rattle.protocol.specs.ClientBytes.{putReply, after, tookBy}
 use Rattle.protocol.proofs.ClientLift.{Sound, out-of-rounds, awaits-is}
-use Rattle.protocol.proofs.Accepted.{accepted, not-none}
+use Rattle.protocol.proofs.LetIn.{let-in, not-none}
 use Rattle.protocol.proofs.Noted.{Reply, inRound, withMark, keptWith, reply-of, round-of}
 use Rattle.protocol.proofs.WriteSeen.{Turned, clock-turn, store-turn, complete-turn}
 use Rattle.protocol.proofs.ReadSeen.{collect-turn, filter-turn, repair-turn}
@@ -56,7 +56,7 @@ module _ (P : Primitives) (law : Lengths P) (t client : ℕ) (writers : List ℕ
   unfolding turnOn view putReply
   accepted-turn p ok e =
       let kind : ℕ = awaits (handOf s (c .tally .round) c kept) in
-      let a = accepted s client p (c .number) kind (marked (c .tally .marks)) _ (length output) e in
+      let a = let-in s client p (c .number) kind (marked (c .tally .marks)) _ (length output) e in
       let (i, k) = round-of t client c kept p kind _ a (unfold view in awaits-is s c kept) in
       rw k
       (round-turn P law client writers keys output (reply-of t client c kept p kind _ a h ok) (isFull s (withMark c (p .head .server))) (c .tally .round) i)

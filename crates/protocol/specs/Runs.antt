@@ -1,10 +1,11 @@
 -- Runs: a list of steps, newest first, done by the operations on bytes. Each step gets the shelf's t, its party's number and keys, and what
 -- that party's last step left; nobody else writes that.
-use mathlib.Core.Bool.{true, false, cond}
+use mathlib.Core.Bool.{Bool, true, false, cond}
 use mathlib.Core.List.{List, [], _∷_}
 use mathlib.Core.Option.{Option, none, some}
 use mathlib.Core.Path.{_≡_}
 use Prim.Native.Nat.{ℕ, zero, suc}
+use lib.Dec.{eqb}
 use lib.ListN.{length, take}
 use Rattle.cluster.specs.Config.{Config, shelf}
 use Rattle.cluster.specs.Ranges.{within, topWriter}
@@ -47,6 +48,35 @@ pub data Step : Type 0 where
   take-reply : (client : ℕ) → (lent : Lent) → (reply output : List ℕ) → Step
   give-up : (client : ℕ) → Step
   serve : (server : ℕ) → (packet output : List ℕ) → Step
+
+-- f of the reply that a client takes, g of the packet that a server takes; nothing of other steps
+abbrev pub onTaken : {A : Type 0} → (ℕ → List ℕ → List A) → (ℕ → List ℕ → List A) → Step → List A
+onTaken f g (write c r n) = []
+onTaken f g (read c) = []
+onTaken f g (make c b o) = []
+onTaken f g (take-reply c lent p o) = f c p
+onTaken f g (give-up c) = []
+onTaken f g (serve b p o) = g b p
+
+abbrev pub bytesIn : Step → List ℕ
+bytesIn = onTaken (λ c p. p) (λ b p. p)
+
+-- client c makes a packet; server b takes one, and makes its reply
+abbrev pub makes : ℕ → Step → Bool
+makes c (write d r n) = false
+makes c (read d) = false
+makes c (make d b o) = eqb c d
+makes c (take-reply d lent p o) = false
+makes c (give-up d) = false
+makes c (serve b p o) = false
+
+abbrev pub serves : ℕ → Step → Bool
+serves b (write c r n) = false
+serves b (read c) = false
+serves b (make c e o) = false
+serves b (take-reply c lent p o) = false
+serves b (give-up c) = false
+serves b (serve e p o) = eqb b e
 
 abbrev pub resultOf : ℕ → Result
 resultOf zero = more

@@ -55,9 +55,10 @@ module _ (P : Primitives) (memory key packet output : List ℕ) where
   unfoldable pub turnedDown : ℕ → Served
   turnedDown n = record { result = record { number = n; count = 0 }; memory = memory; output = output }
 
-  unfoldable pub accepted : Memory → Option Packet → Served
-  accepted m none = turnedDown 0
-  accepted m (some p) =
+  -- let in: the packet is acted on
+  unfoldable pub actedOn : Memory → Option Packet → Served
+  actedOn m none = turnedDown 0
+  actedOn m (some p) =
       let a = act P (shelf (m .t)) key (m .server) (serverIn m) (p .body) in
       let bytes = encode (replyTo p (a .reply)) in
       record { result = record { number = 0; count = length bytes }; memory = encodeMemory (memoryOf (m .t) (m .server) (a .server)); output = over bytes output }
@@ -66,7 +67,7 @@ module _ (P : Primitives) (memory key packet output : List ℕ) where
   onMemory none = turnedDown 2
   onMemory (some m) =
       let n = serverRefusal (m .t) (m .server) (decode packet) (length output) in
-      onRefusal n (accepted m (decode packet)) (turnedDown n)
+      onRefusal n (actedOn m (decode packet)) (turnedDown n)
 
   unfoldable pub serverTake : Served
   serverTake = cond (eqb (length memory) memorySize) (onMemory (decodeMemory memory)) (turnedDown 1)

@@ -21,7 +21,7 @@ use Rattle.protocol.specs.Server.{Acted, Server, kept, act}
 use Rattle.protocol.specs.View.{part}
 use Rattle.protocol.specs.ClientBytes.{put, Written}
 use Rattle.protocol.specs.Primitives.{real}
-use Rattle.protocol.specs.ServerBytes.{serverIn, memoryOf, accepted}
+use Rattle.protocol.specs.ServerBytes.{serverIn, memoryOf, actedOn}
 use Rattle.protocol.proofs.Acts.{ServerOk, act-ok}
 use Rattle.protocol.proofs.Answers.{bytes-drop}
 use Rattle.protocol.proofs.Changes.{added, print-snoc, append-bytes}
@@ -187,21 +187,21 @@ module _ {d : List ℕ} (bs : Bytes d) (packet : List ℕ) (ps : Bytes packet) (
 
     pub answer-held : {r : Outcome} {out : List ℕ} {at : ℕ} → f ≡ found.At at → record { result = r; output = out } ≡ packetStep (replyHead h 4)
         (10 ∷ []) [] output
-        → record { result = r; memory = d; output = out } ≡ accepted real d key packet output (memoryIn o) (decode packet)
+        → record { result = r; memory = d; output = out } ≡ actedOn real d key packet output (memoryIn o) (decode packet)
     answer-held t w =
         replied-as key packet output h o dec room (store written) the-body _ (step-held true (is-held t) refl) (10 ∷ []) [] (unchanged o bs)
         (code-alone 10) w
 
     pub answer-full : {r : Outcome} {out : List ℕ} → f ≡ found.Nothing → capacity ≤ n → record { result = r; output = out } ≡ packetStep
         (replyHead h 4) (11 ∷ []) [] output
-        → record { result = r; memory = d; output = out } ≡ accepted real d key packet output (memoryIn o) (decode packet)
+        → record { result = r; memory = d; output = out } ≡ actedOn real d key packet output (memoryIn o) (decode packet)
     answer-full t l w =
         replied-as key packet output h o dec room (store written) the-body _ (step-full false (is-new t) refl l) (11 ∷ []) [] (unchanged o bs)
         (code-alone 11) w
 
     pub answer-kept : {r : Outcome} {out : List ℕ} → f ≡ found.Nothing → n < capacity → {m : List ℕ} → m ≡ keptBytes d n e x
         → record { result = r; output = out } ≡ packetStep (replyHead h 4) (0 ∷ []) [] output
-        → record { result = r; memory = m; output = out } ≡ accepted real d key packet output (memoryIn o) (decode packet)
+        → record { result = r; memory = m; output = out } ≡ actedOn real d key packet output (memoryIn o) (decode packet)
     answer-kept t l u w =
         let a = step-kept false (is-new t) refl l in
         let ok = subst (λ (z : Acted). ServerOk (shelf (h .t)) (z .server)) a (act-ok real (shelf (h .t)) key (h .server) server (server-ok o)

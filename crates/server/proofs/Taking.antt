@@ -20,7 +20,7 @@ use Rattle.protocol.specs.Memory.{decodeMemory}
 use Rattle.protocol.specs.Primitives.{real}
 use Rattle.protocol.specs.Server.{barred, serverRefusal}
 use Rattle.protocol.specs.View.{stampAt, candidateAt}
-use Rattle.protocol.specs.ServerBytes.{Served, turnedDown, accepted, onMemory, serverTake}
+use Rattle.protocol.specs.ServerBytes.{Served, turnedDown, actedOn, onMemory, serverTake}
 use Rattle.protocol.proofs.Answers.{at-cond}
 use Rattle.wire.specs.Places.{writeAt, bodyAt, packetAt}
 use Rattle.wire.proofs.Laws.{head-ranges}
@@ -193,11 +193,11 @@ module _ (d key packet output : List ℕ) where
 
       module _ (h : Head) (dec : decode packet ≡ some (packetAt h packet)) {k : ℕ} (found : k ≡ serverRefusal t b (some (packetAt h packet))
           (length output)) where
-        whole : serverTake real d key packet output ≡ onRefusal k (accepted real d key packet output (memoryIn o) (decode packet)) (down (number k))
+        whole : serverTake real d key packet output ≡ onRefusal k (actedOn real d key packet output (memoryIn o) (decode packet)) (down (number k))
         unfolding serverTake onMemory turnedDown
         whole =
             rw (eq-eqb (length d) memorySize size, o .decoded)
-            (ap (λ (j : ℕ). onRefusal j (accepted real d key packet output (memoryIn o) (decode packet)) (down (number j)))
+            (ap (λ (j : ℕ). onRefusal j (actedOn real d key packet output (memoryIn o) (decode packet)) (down (number j)))
             (ap (λ q. serverRefusal t b q (length output)) dec ∙ sym found))
 
         pub take-refused : (k ≡ 0 → ⊥) → {z : Outcome} → z ≡ number k → down z ≡ serverTake real d key packet output
@@ -207,10 +207,10 @@ module _ (d key packet output : List ℕ) where
         take-answered z {r} a =
             let l = was-let-in h t b packet (length output) (sym found ∙ z) in
             moved (l .t-own) (l .server-own) (λ o₁. a o₁ dec (l .sent) (l .room-there)) o
-            ∙ sym (whole ∙ ap (λ (j : ℕ). onRefusal j (accepted real d key packet output (memoryIn o) (decode packet)) (down (number j))) z)
+            ∙ sym (whole ∙ ap (λ (j : ℕ). onRefusal j (actedOn real d key packet output (memoryIn o) (decode packet)) (down (number j))) z)
           where
             Q : ℕ → ℕ → Type 0
-            Q i j = (o₁ : Opened d i j n e top) → r ≡ accepted real d key packet output (memoryIn o₁) (decode packet)
+            Q i j = (o₁ : Opened d i j n e top) → r ≡ actedOn real d key packet output (memoryIn o₁) (decode packet)
 
             moved : h .t ≡ t → h .server ≡ b → Q (h .t) (h .server) → Q t b
             moved p q f = subst (λ (i : ℕ). Q i b) p (subst (λ (j : ℕ). Q (h .t) j) q f)

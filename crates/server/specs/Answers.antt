@@ -15,7 +15,7 @@ use Rattle.protocol.specs.Memory.{Memory}
 use Rattle.protocol.specs.Primitives.{real}
 use Rattle.protocol.specs.Server.{barred}
 use Rattle.protocol.specs.View.{stampAt, candidateAt}
-use Rattle.protocol.specs.ServerBytes.{Served, accepted}
+use Rattle.protocol.specs.ServerBytes.{Served, actedOn}
 use Rattle.wire.specs.Places.{packetAt}
 use Rattle.wire.specs.Make.{placed}
 use Rattle.server.specs.declared.memory.Top.{Top}
@@ -33,7 +33,7 @@ replyHead h k = record { kind = k; client = h .client; server = h .server; t = h
 abbrev pub AnswersAs : ℕ → List ℕ → List ℕ → List ℕ → List ℕ → Head → ℕ → ℕ → Top → Served → Type 0
 AnswersAs k d key packet output h n e top r =
     (o : Opened d (h .t) (h .server) n e top) → decode packet ≡ some (packetAt h packet) → h .kind ≡ k → packetRoom ≤ length output
-    → r ≡ accepted real d key packet output (memoryIn o) (decode packet)
+    → r ≡ actedOn real d key packet output (memoryIn o) (decode packet)
 
 -- the same for every key
 abbrev pub AnswersOf : ℕ → List ℕ → List ℕ → List ℕ → Head → ℕ → ℕ → Top → Served → Type 0
@@ -50,7 +50,7 @@ AnswersAll k d output h r = (packet : List ℕ) → AnswersFor k d packet output
 abbrev pub AnswersAny : List ℕ → List ℕ → List ℕ → List ℕ → Head → ℕ → ℕ → Top → Served → Type 0
 AnswersAny d key packet output h n e top r =
     (o : Opened d (h .t) (h .server) n e top) → decode packet ≡ some (packetAt h packet) → barred (h .client) (packetAt h packet .body) ≡ false → packetRoom ≤ length output
-    → r ≡ accepted real d key packet output (memoryIn o) (decode packet)
+    → r ≡ actedOn real d key packet output (memoryIn o) (decode packet)
 
 -- the candidate's bytes c over the latest ones, if its stamp is higher
 unfoldable pub raisedBytes : List ℕ → List ℕ → List ℕ

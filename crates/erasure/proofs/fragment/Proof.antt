@@ -27,11 +27,11 @@ module _ (c : tie.Else1) where
   abbrev content : List ℕ
   content = denote.Ref.now (c .before .before .before .args .content)
 
-  accepted : fragmentRefusal t server (length content) ≡ 0
-  accepted = sym (c .before .fragment-refusal .ensures) ∙ c .if1 .left
+  none-applies : fragmentRefusal t server (length content) ≡ 0
+  none-applies = sym (c .before .fragment-refusal .ensures) ∙ c .if1 .left
 
   ok : Makes t server (length content)
-  ok = makes t server (length content) accepted
+  ok = makes t server (length content) none-applies
 
 shares-are : (c : tie.After-shares-of) → c .shares-of .result ≡ t (c .before) + 1
 unfolding shelf
@@ -62,7 +62,7 @@ module _ (c : tie.After-size) where
       } in
       ap (λ (b : List ℕ). record { number = 0; count = c .size .result; bytes = b }) e
       ∙ ap₂ outcome (shares .ensures) f
-      ∙ sym (make-accepted (t past) (server past) (content past) (ok past .faults .1) (ok past .number .0) (ok past .number .1) (accepted past))
+      ∙ sym (make-accepted (t past) (server past) (content past) (ok past .faults .1) (ok past .number .0) (ok past .number .1) (none-applies past))
 
 -- ---- the needs
 

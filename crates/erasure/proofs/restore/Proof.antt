@@ -14,7 +14,7 @@ use Rattle.erasure.specs.System.{width}
 use Rattle.erasure.specs.Lanes.{rebuiltOf}
 use Rattle.erasure.specs.declared.choice.Chosen.{Chosen}
 use Rattle.erasure.proofs.Laws.{size-pos, runs-cover}
-use Rattle.erasure.proofs.Refused.{Restores, accepted}
+use Rattle.erasure.proofs.Refused.{Restores, restores}
 use Rattle.erasure.proofs.Chosen.{restore-refused, restore-accepted, refused-arguments, refused-few, refused-none, counted, differ, fit, rebuilt-is}
 use borrow.Author.Needs.{needs}
 use Rattle.erasure.proofs.restore.Statement.{statement}
@@ -42,7 +42,7 @@ module _ (c : tie.Else1) where
   none-applies = sym (c .before .restore-refusal .ensures) ∙ c .if1 .left
 
   ok : Restores t n servers (length fragments) (length out)
-  ok = accepted t n servers (length fragments) (length out) none-applies
+  ok = restores t n servers (length fragments) (length out) none-applies
 
 shares-are : (c : tie.After-shares-of) → c .shares-of .result ≡ t (c .before) + 1
 unfolding shelf

@@ -3,7 +3,7 @@
 use native.Mathlib.Omega.{arith}
 use borrow.Author.Needs.{needs}
 use Rattle.erasure.specs.Steps.{fragmentBytes}
-use Rattle.embed.proofs.Laws.{refused, refused-with, accepted}
+use Rattle.embed.proofs.Laws.{refused, refused-with, carried-out}
 use Rattle.embed.proofs.Coded.{made-count, made-bytes, made-room, made-long, own-refusal, no-room, room}
 use Rattle.embed.proofs.coding.cendrulas_fragment.Statement.{statement}
 use Rattle.embed.proofs.coding.cendrulas_fragment.Tie as tie
@@ -56,7 +56,7 @@ returns-3 c =
     let made = past .fragment .result in
     let is = past .fragment .ensures in
     let none = tested .if1 .left in
-    accepted (made .count) _ _ (fragmentBytes (a .t) (a .server) content) (made .bytes) (a .out .now) _
+    carried-out (made .count) _ _ (fragmentBytes (a .t) (a .server) content) (made .bytes) (a .out .now) _
     (room (a .t) (a .server) content made is (a .out .now) none (omega arith))
     (c .pack3 .ensures)
     (made-bytes (a .t) (a .server) content made is none)

@@ -7,7 +7,7 @@ use native.Mathlib.Omega.{arith}
 use borrow.Author.Needs.{needs}
 use Rattle.hmac.specs.Hmac.{tagOf}
 use Rattle.hmac.proofs.Laws.{tag-length}
-use Rattle.embed.proofs.Laws.{refused, accepted, all-of, tag-key, tag-short, tag-room}
+use Rattle.embed.proofs.Laws.{refused, carried-out, all-of, tag-key, tag-short, tag-room}
 use Rattle.embed.proofs.digests.cendrulas_tag.Statement.{statement}
 use Rattle.embed.proofs.digests.cendrulas_tag.Tie as tie
 
@@ -35,7 +35,7 @@ returns-3 c =
     let message = a .message .now in
     let long = tag-length key message in
     let made = past-tag .tag .ensures ∙ ap (λ (k : List ℕ). tagOf k message) (past-array .array .ensures) in
-    accepted 32 _ _ _ (past-tag .tag .result) (a .out .now) _
+    carried-out 32 _ _ _ (past-tag .tag .result) (a .out .now) _
     (tag-room key (a .out .now) (past-array .before .before .if1 .left) (omega arith))
     (c .pack3 .ensures)
     (all-of 32 (past-tag .tag .result) (tagOf key message) made long)

@@ -1,4 +1,4 @@
--- What an accepted reply is known by, and a packet's server.
+-- What a reply that a client lets in is known by, and a packet's server.
 -- By the order of the refusals. Nothing is assumed.
 use mathlib.Core.Path.{_≡_, refl, sym, ap, _∙_}
 use mathlib.Core.Bool.{Bool, true, false, cond, not, _&&_, _||_, true≢false}
@@ -45,8 +45,8 @@ module _ (s : Config) (client : ℕ) (p : Packet) (calls kind : ℕ) (replied : 
       eqb-true (kindOf (p .body)) kind
       (and-both (eqb (p .head .call) calls) (eqb (kindOf (p .body)) kind) (not-false (eqb (p .head .call) calls && eqb (kindOf (p .body)) kind) n) .1)
 
-  -- what an accepted packet is known by
-  pub record Accepted (high : ℕ → Body → Bool) : Type 0 where
+  -- what a packet that is let in is known by
+  pub record LetIn (high : ℕ → Body → Bool) : Type 0 where
     pub faults : badFaults s ≡ false
     pub kind-is : kindOf (p .body) ≡ kind
     pub same-t : p .head .t ≡ s .t
@@ -54,9 +54,9 @@ module _ (s : Config) (client : ℕ) (p : Packet) (calls kind : ℕ) (replied : 
     pub new : replied (p .head .server) ≡ false
     pub low : high (p .head .server) (p .body) ≡ false
 
-  pub accepted : (high : ℕ → Body → Bool) (room : ℕ) → takeRefusal s client (some p) calls kind replied high room ≡ 0 → Accepted high
+  pub let-in : (high : ℕ → Body → Bool) (room : ℕ) → takeRefusal s client (some p) calls kind replied high room ≡ 0 → LetIn high
   unfolding takeRefusal
-  accepted high room e =
+  let-in high room e =
       let (a, e5) = passes (badFaults s) 2 _ e in
       let (b, e8) = passes (not (within 1 topClient client)) 4 _ e5 in
       let (own, e12) = passes foreign 7 _ e8 in
