@@ -2,34 +2,32 @@
 -- Assumes nothing.
 use mathlib.Core.Path.{_≡_, refl, sym, ap, _∙_, subst}
 use mathlib.Core.Bool.{Bool, true, false, cond, not}
-use mathlib.Core.List.{List, [], _∷_, _++_, map}
+use mathlib.Core.List.{List, [], _∷_}
 use mathlib.Core.Option.{Option, none, some}
-use mathlib.Core.Logic.{_⊎_, inl, inr}
+use mathlib.Core.Logic.{inl}
 use Prim.Native.Nat.{ℕ, suc}
 use native.Mathlib.Omega.{arith}
 use lib.ListN.{length}
-use borrow.Author.Tests.{eq-eqb}
-use Rattle.cluster.specs.Ranges.{within, packetRoom, contentRoom}
+use Rattle.cluster.specs.Ranges.{contentRoom}
 use Rattle.cluster.specs.Refusals.{onRefusal}
 use Rattle.protocol.specs.Format.{Bytes}
 use Rattle.protocol.specs.Values.{nonceSize, blankCandidate}
-use Rattle.protocol.specs.Packet.{Body, Packet, PacketOk, kindOf, encode, decode}
-use Rattle.protocol.specs.Rules.{upd, nobody}
-use Rattle.protocol.specs.Server.{Server, replyTo, serverRefusal}
-use Rattle.protocol.specs.Client.{Client, Hand, Turn, refused, more, aborted, accepted, made, makeRefusal, takeRefusal, takeStep, highAt, awaits, writeRefusal, readRefusal, abortRefusal, writeStep, readStep, abortStep, isIdle, inComplete, clocking, collecting, idle, begun, onto}
-use Rattle.protocol.specs.Runs.{Lent, Step, write, read, make, give-up, take-reply, serve, sentOf}
+use Rattle.protocol.specs.Packet.{Packet, PacketOk, encode}
+use Rattle.protocol.specs.Rules.{nobody}
+use Rattle.protocol.specs.Client.{Client, Hand, Turn, refused, more, aborted, accepted, takeRefusal, takeStep, highAt, awaits, writeRefusal, readRefusal, abortRefusal, writeStep, readStep, abortStep, isIdle, inComplete, clocking, collecting, idle, begun, onto}
+use Rattle.protocol.specs.Runs.{Lent, Step, write, read, give-up, take-reply}
 use Rattle.protocol.proofs.Bodies.{decode-encode}
 use Rattle.protocol.proofs.RunLift.{decode-nothing}
 use Rattle.protocol.proofs.ValueRuns.{World, After, doValues, setClient, nowValues}
-use Rattle.atomicity.specs.Lists.{Ever, All, flat}
-use Rattle.atomicity.specs.Steps.{StepIn, makes, offered, stampedFrom, stampedBy, serverChecks, clientChecks, judged, compared, digestsWith, checkedBy, digestedBy, noncesBy}
-use Rattle.atomicity.specs.Premises.{PartyOf, Authentic, Begins, FreshNonce, odd}
+use Rattle.atomicity.specs.Lists.{All}
+use Rattle.atomicity.specs.Steps.{StepIn, stampedBy, checkedBy, digestedBy, noncesBy}
+use Rattle.atomicity.specs.Premises.{PartyOf, Authentic, Begins, FreshNonce}
 use Rattle.atomicity.specs.Claim.{Logged, log, note, change, follow}
-use Rattle.atomicity.proofs.Util.{clash, no-some, upd-here, all-map}
-use Rattle.atomicity.proofs.Model.{Run, perform, now}
-use Rattle.atomicity.proofs.Playing.{Hashing, functions, serversOf, who, nonce1, s, A, Begun, Got, Made, OfWrite, Timely, Play, play-on, checkedIn, digestedIn, noncesIn}
-use Rattle.atomicity.proofs.Printed.{PacketBytes, packet-bytes}
-use Rattle.atomicity.proofs.Exchanges.{packetBuffer, contentBuffer, content-room, serves-it, takes-it, cond-nil, all-none, makes-it, sent-ok, play-make, made-sent, acts, served, Serves, serving, reply-sent, play-serve, Owned, turned, took, followed, Takes, taking, play-take, not-write}
+use Rattle.atomicity.proofs.Util.{clash, no-some, upd-here}
+use Rattle.atomicity.proofs.Model.{Run, perform}
+use Rattle.atomicity.proofs.Playing.{Hashing, functions, serversOf, who, nonce1, s, A, Begun, Got, Made, OfWrite, Play, play-on, checkedIn, digestedIn, noncesIn}
+use Rattle.atomicity.proofs.ServeSteps.{contentBuffer, content-room, takes-it, cond-nil, all-none, Owned, not-write}
+use Rattle.atomicity.proofs.TakeSteps.{turned, took, followed}
 
 module _ (H : Hashing) where
   -- ---- a call begins

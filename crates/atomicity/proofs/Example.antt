@@ -15,28 +15,24 @@
 --   32 to 40 collect: server 1 lies with spoilt tags; servers 2, 3     step 34 is server 1's reply again: refused with 12
 --   41 to 49 filter: servers 2, 3 by their history, server 4 by tag    a tag checks that client 1 had made (unforged, step 48); step 49 digests the fragments
 --   50 to 57 repair: server 1 lies; servers 2, 3                       step 57 gives the content
-use mathlib.Core.Path.{_≡_, refl, ap, _∙_}
+use mathlib.Core.Path.{_≡_}
 use mathlib.Core.Bool.{true}
 use mathlib.Core.List.{List, [], _∷_}
 use mathlib.Core.Option.{some}
-use mathlib.Core.Logic.{inl, inr}
-use Prim.Native.Nat.{ℕ, zero, suc}
+use Prim.Native.Nat.{ℕ}
 use native.Mathlib.Omega.{arith}
-use lib.ListN.{length, drop}
-use Rattle.cluster.specs.Config.{upTo, shelf}
+use lib.ListN.{length}
 use Rattle.sha256.specs.Sha256.{sha256}
 use Rattle.sha256.proofs.Laws.{sha-length, sha-bytes}
 use Rattle.hmac.specs.Hmac.{tagOf}
 use Rattle.hmac.proofs.Laws.{tag-length, tag-bytes}
-use Rattle.protocol.specs.Primitives.{real, stampMessage, candidateMessage}
+use Rattle.protocol.specs.Primitives.{real}
 use Rattle.protocol.specs.View.{keptSize}
-use Rattle.protocol.specs.Client.{refused}
-use Rattle.protocol.specs.Runs.{StepOn, Account, byBytes}
+use Rattle.protocol.specs.Runs.{StepOn, byBytes}
 use Rattle.protocol.proofs.Primitive.{real-lengths}
 use Rattle.protocol.proofs.ValueRuns.{byValues}
 use Rattle.protocol.proofs.Accounts.{claimed}
-use Rattle.atomicity.specs.Lists.{Ever, Always}
-use Rattle.atomicity.specs.Steps.{tagsChecked, digested, noncesGot}
+use Rattle.atomicity.specs.Lists.{Always}
 use Rattle.atomicity.specs.Premises.{Premise}
 use Rattle.atomicity.specs.Claim.{log, systemOf}
 use Rattle.atomicity.specs.Page41.{Page41Of, Page41}
@@ -45,10 +41,11 @@ use Rattle.atomicity.proofs.Playing.{Hashing, desk, who, parties}
 use Rattle.atomicity.proofs.Scene.{content1}
 use Rattle.atomicity.proofs.SceneShown.{wrote, secondWrite}
 use Rattle.atomicity.proofs.SceneEnds.{theRead, x25, p25}
+use Rattle.atomicity.proofs.SceneFacts.{Happens, happens}
 
 -- ---- the real functions
 
-abbrev realOnes : Hashing
+abbrev pub realOnes : Hashing
 realOnes = record { digest = sha256; tag = tagOf; digest-size = sha-length; tag-size = tag-length; digest-bytes = sha-bytes; tag-bytes = tag-bytes }
 
 unfoldable pub run : List (StepOn desk)
@@ -71,3 +68,8 @@ module _ (first : ℕ → List ℕ) (sized : (c : ℕ) → length (first c) ≡ 
   unfolding run real byValues
   calls-are = claimed real real-lengths desk (omega arith, omega arith) first sized
       (λ A. log A run ≡ theRead (some 57) (some content1) ∷ secondWrite true ∷ wrote ∷ []) (p25 realOnes .calls)
+
+  -- and each premise is really asked something: tags check, nonces are digested and shown, and a step is refused
+  pub happens-on-bytes : Happens realOnes (byBytes real desk first)
+  unfolding real byValues
+  happens-on-bytes = claimed real real-lengths desk (omega arith, omega arith) first sized (λ A. Happens realOnes A) (happens realOnes)

@@ -1,14 +1,14 @@
 -- Tools to show that a given run meets the premises, for every digest and tag of the right lengths: a shelf of t = 1 on which server 1 lies and
 -- client 16 is wild, what is known of a run so far, and that one more step keeps it. All that is digested is one nonce, so that nothing collides.
 -- Assumes nothing.
-use mathlib.Core.Path.{_≡_, refl, sym, ap, subst, _∙_}
-use mathlib.Core.Bool.{Bool, true, false, cond, not, _&&_, _||_}
+use mathlib.Core.Path.{_≡_, sym, ap, subst, _∙_}
+use mathlib.Core.Bool.{Bool, true, cond, not}
 use mathlib.Core.List.{List, [], _∷_, _++_}
 use mathlib.Core.Logic.{_⊎_, inl, inr}
-use Prim.Native.Nat.{ℕ, suc}
+use Prim.Native.Nat.{ℕ}
 use native.Mathlib.Omega.{arith}
 use lib.ListN.{length, getD, replicate}
-use Rattle.cluster.specs.Config.{Config, shelf}
+use Rattle.cluster.specs.Config.{shelf}
 use Rattle.cluster.specs.Ranges.{within, keySize}
 use Rattle.cluster.proofs.Tests.{inside}
 use Rattle.hmac.specs.Hmac.{tagSize}
@@ -22,12 +22,12 @@ use Rattle.protocol.specs.Client.{accepted}
 use Rattle.protocol.specs.ClientBytes.{keyOf}
 use Rattle.protocol.specs.Runs.{Step, Shelf, configOf, Account}
 use Rattle.protocol.proofs.Primitive.{real-lengths}
-use Rattle.protocol.proofs.ValueRuns.{World, After, nowValues}
+use Rattle.protocol.proofs.ValueRuns.{World, nowValues}
 use Rattle.atomicity.specs.Lists.{Ever, Always, All, In}
-use Rattle.atomicity.specs.Steps.{System, StepIn, stampedBy, tagsMade, tagsChecked, digested, allDigested, noncesGot, checkedBy, digestedBy, noncesBy}
+use Rattle.atomicity.specs.Steps.{System, StepIn, stampedBy, tagsMade, digested, allDigested, noncesGot, checkedBy, digestedBy, noncesBy}
 use Rattle.atomicity.specs.Premises.{Correct, Parties, PartyOf, Authentic, Begins, Shows, FreshNonce, NoEarlyNonce, NoForgery, NoCollision, Premise}
 use Rattle.atomicity.specs.Claim.{Logged, log}
-use Rattle.atomicity.proofs.Util.{all-map, all-in, within-in, split-in, all-of}
+use Rattle.atomicity.proofs.Util.{all-map, all-in, within-in}
 use Rattle.atomicity.proofs.Model.{Run, perform, now, account}
 
 -- ---- any digest and tag of the right lengths

@@ -6,9 +6,9 @@ use mathlib.Core.List.{List, [], _∷_, _++_}
 use mathlib.Core.Option.{none, some}
 use Prim.Native.Nat.{ℕ, zero, suc, _/_, _%_, _≤_, _<_}
 use native.Mathlib.Omega.{arith}
-use lib.Dec.{ltb}
+use lib.Dec.{ltb, leb}
 use lib.ListN.{length}
-use borrow.Author.Tests.{ltb-true}
+use borrow.Author.Tests.{ltb-true, leb-true}
 use Rattle.cluster.specs.Config.{Config, shelf}
 use Rattle.cluster.specs.Ranges.{topNumber}
 use Rattle.protocol.specs.declared.Stamp.{Stamp}
@@ -149,3 +149,21 @@ unfolding encode packetF headF bodyF via seq keep byte number4
 packet-bytes p h =
     bytes-of (next (h .kind) (next (h .client) (next (h .server) (next (h .t)
     (row (number-bytes (p .head .call) (h .call)) (body-bytes (shelf (p .head .t)) (p .body) (h .body)))))))
+
+-- a head in its ranges, by one test
+abbrev pub headFits : Packet → Bool
+headFits p = ltb (p .head .kind) 256 && (ltb (p .head .client) 256 && (ltb (p .head .server) 256 && (ltb (p .head .t) 256 && leb (p .head .call) topNumber)))
+
+pub packet-of : (p : Packet) → headFits p ≡ true → BodyBytes (p .body) → PacketBytes p
+packet-of p e b =
+    let e1 = and-right (ltb (p .head .kind) 256) _ e in
+    let e2 = and-right (ltb (p .head .client) 256) _ e1 in
+    let e3 = and-right (ltb (p .head .server) 256) _ e2 in
+    record {
+      kind = ltb-true _ _ (and-left (ltb (p .head .kind) 256) _ e);
+      client = ltb-true _ _ (and-left (ltb (p .head .client) 256) _ e1);
+      server = ltb-true _ _ (and-left (ltb (p .head .server) 256) _ e2);
+      t = ltb-true _ _ (and-left (ltb (p .head .t) 256) _ e3);
+      call = leb-true _ _ (and-right (ltb (p .head .t) 256) _ e3);
+      body = b;
+    }

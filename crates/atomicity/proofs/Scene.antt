@@ -1,14 +1,14 @@
 -- What the example's parties write, store, show and make up, for every digest and tag of the right lengths, and what servers and clients find of it
 -- by their tests. The content is the nonce twice, so that all four fragments are the nonce; a spoilt tag differs from the tag in its first byte.
 -- Assumes nothing.
-use mathlib.Core.Path.{_≡_, refl, sym, ap, _∙_, subst}
-use mathlib.Core.Bool.{Bool, true, false, cond, not, _&&_, _||_}
+use mathlib.Core.Path.{_≡_, refl, sym, ap, _∙_}
+use mathlib.Core.Bool.{Bool, true, false, cond, _&&_, _||_}
 use mathlib.Core.List.{List, [], _∷_, _++_}
 use mathlib.Core.Option.{none, some}
 use Prim.Native.Nat.{ℕ, zero, suc, _+_, _*_, _≤_, _<_}
 use native.Mathlib.Omega.{arith}
 use lib.Dec.{eqb}
-use lib.ListN.{length, replicate, length-replicate, getD, getD-replicate}
+use lib.ListN.{length, replicate, getD, getD-replicate}
 use borrow.Author.Tests.{eqb-true}
 use Rattle.cluster.specs.Config.{shelf, upTo, pointOf}
 use Rattle.hmac.specs.Hmac.{tagSize}
@@ -18,18 +18,16 @@ use Rattle.gf256.specs.Gf.{xtime, timesBits, times, power, inverse, product}
 use Rattle.gf256.specs.Bytes.{bytes}
 use Rattle.gf256.specs.Poly.{eval, vanish, through}
 use Rattle.protocol.specs.declared.Stamp.{Stamp}
-use Rattle.protocol.specs.Format.{Bytes}
-use Rattle.protocol.specs.Values.{Candidate, Share, Write, sameList, sameStamp, sameCandidate, nth, runOf, nonceSize, blankCandidate, isBlank, below}
+use Rattle.protocol.specs.Values.{Candidate, Share, Write, sameList, sameStamp, sameCandidate, nth, runOf, blankCandidate, isBlank, below}
 use Rattle.protocol.specs.Memory.{held}
 use Rattle.protocol.specs.Primitives.{stampMessage, candidateMessage}
-use Rattle.protocol.specs.Rules.{ByServer}
 use Rattle.protocol.specs.Server.{Server, hasDigest, byHistory, byTag, valid, best}
-use Rattle.protocol.specs.Client.{checks, stampOf, tagsOf, candidateMade, shareMade, sharesMade}
-use Rattle.protocol.proofs.Equal.{same-true, same-refl, stamp-refl, candidate-refl, candidate-same}
+use Rattle.protocol.specs.Client.{checks, stampOf, tagsOf, candidateMade, shareMade}
+use Rattle.protocol.proofs.Equal.{same-true, same-refl, stamp-refl, candidate-same}
 use Rattle.protocol.proofs.Primitive.{nth-run}
 use Rattle.cluster.proofs.Tests.{untrue}
 use Rattle.atomicity.proofs.Util.{clash}
-use Rattle.atomicity.proofs.Playing.{Hashing, functions, s, desk, nonce1, nonce2, nonce3}
+use Rattle.atomicity.proofs.Playing.{Hashing, functions, s, nonce1, nonce3}
 
 -- ---- a spoilt tag
 

@@ -1,48 +1,27 @@
 -- What the example's parties send is bytes and has its layout: the stamps, candidates and shares of the module Scene.
 -- Assumes nothing.
-use mathlib.Core.Path.{_≡_, refl, sym, ap, _∙_, subst}
-use mathlib.Core.Bool.{Bool, true, false, cond, not, _&&_}
+use mathlib.Core.Path.{_≡_, refl, sym, _∙_, subst}
+use mathlib.Core.Bool.{Bool, true, false, cond}
 use mathlib.Core.List.{List, [], _∷_}
-use mathlib.Core.Logic.{inl, inr}
-use Prim.Native.Nat.{ℕ, suc, _*_, _≤_, _<_}
+use mathlib.Core.Logic.{inr}
+use Prim.Native.Nat.{ℕ, _<_}
 use native.Mathlib.Omega.{arith}
-use lib.Dec.{eqb, leb, ltb}
-use lib.ListN.{length, replicate, length-replicate}
-use borrow.Author.Tests.{eqb-true, leb-true, ltb-true, not-true}
+use lib.Dec.{eqb}
+use lib.ListN.{replicate, length-replicate}
 use Rattle.cluster.specs.Config.{shelf}
-use Rattle.cluster.specs.Ranges.{topNumber}
 use Rattle.hmac.specs.Hmac.{tagSize}
 use Rattle.erasure.specs.Fragments.{fragment}
 use Rattle.protocol.specs.declared.Stamp.{Stamp}
-use Rattle.protocol.specs.Format.{byte, number4, run, seq, via, keep, orBlank, many, All as AllOk}
-use Rattle.protocol.specs.Values.{Candidate, nonceSize, runOf, tagsSize}
-use Rattle.protocol.specs.Packet.{Packet, PacketOk, BodyOk, kindOf, stampF, anyStampF, candidateF, anyCandidateF, candidatesF, codeF, bodyF, headF, packetF, filter}
+use Rattle.protocol.specs.Format.{byte, number4, run, seq, via, keep, orBlank, many}
+use Rattle.protocol.specs.Values.{nonceSize}
+use Rattle.protocol.specs.Packet.{Packet, PacketOk, stampF, anyStampF, candidateF, anyCandidateF, candidatesF, bodyF, headF, packetF, filter}
 use Rattle.protocol.specs.Primitives.{stampMessage, candidateMessage}
-use Rattle.protocol.specs.Client.{checks, stampOf, tagsOf, candidateMade, shareMade}
+use Rattle.protocol.specs.Client.{stampOf, tagsOf, candidateMade, shareMade}
 use Rattle.protocol.proofs.Primitive.{run-length}
 use Rattle.atomicity.specs.Lists.{All}
-use Rattle.atomicity.proofs.Util.{and-left, and-right}
-use Rattle.atomicity.proofs.Playing.{Hashing, functions, s, nonce1, nonce3}
-use Rattle.atomicity.proofs.Printed.{Byted, done, next, byted, bytes-ok, run-bytes, StampBytes, CandidateBytes, ShareBytes, BodyBytes, PacketBytes}
-use Rattle.atomicity.proofs.Scene.{spoil, spoil-length, spoilt-differs, differs, content1, piece, pieces, tagFor, cand, share, spoilt, stamp7, madeUp, highStamp}
-
--- a head in its ranges, by one test
-abbrev pub headFits : Packet → Bool
-headFits p = ltb (p .head .kind) 256 && (ltb (p .head .client) 256 && (ltb (p .head .server) 256 && (ltb (p .head .t) 256 && leb (p .head .call) topNumber)))
-
-pub packet-of : (p : Packet) → headFits p ≡ true → BodyBytes (p .body) → PacketBytes p
-packet-of p e b =
-    let e1 = and-right (ltb (p .head .kind) 256) _ e in
-    let e2 = and-right (ltb (p .head .client) 256) _ e1 in
-    let e3 = and-right (ltb (p .head .server) 256) _ e2 in
-    record {
-      kind = ltb-true _ _ (and-left (ltb (p .head .kind) 256) _ e);
-      client = ltb-true _ _ (and-left (ltb (p .head .client) 256) _ e1);
-      server = ltb-true _ _ (and-left (ltb (p .head .server) 256) _ e2);
-      t = ltb-true _ _ (and-left (ltb (p .head .t) 256) _ e3);
-      call = leb-true _ _ (and-right (ltb (p .head .t) 256) _ e3);
-      body = b;
-    }
+use Rattle.atomicity.proofs.Playing.{Hashing, s, nonce1, nonce3}
+use Rattle.atomicity.proofs.Printed.{Byted, done, next, byted, bytes-ok, run-bytes, StampBytes, CandidateBytes, ShareBytes, PacketBytes, packet-of}
+use Rattle.atomicity.proofs.Scene.{spoil, spoil-length, content1, tagFor, cand, share, spoilt, stamp7, madeUp, highStamp}
 
 small : (q : Bool) → cond q 1 0 < 256
 small true = omega arith
@@ -112,9 +91,14 @@ module _ (H : Hashing) where
   pub spoilt-ok : anyCandidateF (shelf 1) .Ok (spoilt H)
   unfolding anyCandidateF orBlank candidateF stampF via seq number4 byte run spoilt cand candidateMade stampOf nonce1
   spoilt-ok =
-      inr (((omega arith, omega arith), ((omega arith, omega arith), H .tag-size (s H .writers) (stampMessage 1 1))), (length-replicate {A = ℕ} nonceSize 42,
-      run-length tagSize (λ i. spoil (tagFor H (cand H .stamp) nonce1 i))
-      (λ i. spoil-length _ ∙ H .tag-size (s H .keys i) (candidateMessage (cand H .stamp) (H .digest nonce1))) (s H .config .servers)))
+      inr (
+        ((omega arith, omega arith), ((omega arith, omega arith), H .tag-size (s H .writers) (stampMessage 1 1))),
+        (
+          length-replicate {A = ℕ} nonceSize 42,
+          run-length tagSize (λ i. spoil (tagFor H (cand H .stamp) nonce1 i))
+              (λ i. spoil-length _ ∙ H .tag-size (s H .keys i) (candidateMessage (cand H .stamp) (H .digest nonce1))) (s H .config .servers),
+        ),
+      )
 
   pub high-bytes : StampBytes (highStamp H)
   unfolding highStamp
@@ -134,8 +118,26 @@ module _ (H : Hashing) where
 
   pub wild-ok : PacketOk wildPacket
   unfolding PacketOk packetF headF bodyF candidatesF candidateF stampF via seq keep many number4 byte run wildPacket madeUp shelf nonce3
-  wild-ok =
-      ((refl, ((omega arith, omega arith), ((omega arith, omega arith), ((omega arith, omega arith), ((omega arith, omega arith), (omega arith, omega arith)))))),
-      (refl, ((omega arith, omega arith), (refl, ((((omega arith, omega arith), ((omega arith, omega arith), length-replicate {A = ℕ} tagSize 0)),
-      (length-replicate {A = ℕ} nonceSize 7, run-length tagSize (λ i. spoil (tagFor H stamp7 nonce3 i))
-      (λ i. spoil-length _ ∙ H .tag-size (s H .keys i) (candidateMessage stamp7 (H .digest nonce3))) 4)), tt)))))
+  wild-ok = (
+    (refl, ((omega arith, omega arith), ((omega arith, omega arith), ((omega arith, omega arith), ((omega arith, omega arith), (omega arith, omega arith)))))),
+    (
+      refl,
+      (
+        (omega arith, omega arith),
+        (
+          refl,
+          (
+            (
+              ((omega arith, omega arith), ((omega arith, omega arith), length-replicate {A = ℕ} tagSize 0)),
+              (
+                length-replicate {A = ℕ} nonceSize 7,
+                run-length tagSize (λ i. spoil (tagFor H stamp7 nonce3 i))
+                    (λ i. spoil-length _ ∙ H .tag-size (s H .keys i) (candidateMessage stamp7 (H .digest nonce3))) 4,
+              ),
+            ),
+            tt,
+          ),
+        ),
+      ),
+    ),
+  )

@@ -1,43 +1,38 @@
 -- The example's read, step by step: client 9 collects a spoilt candidate from the liar, whose reply comes twice, reads past it and repairs.
 -- The run meets the premises.
 -- Assumes nothing.
-use mathlib.Core.Path.{_≡_, refl, sym, ap, _∙_, subst}
+use mathlib.Core.Path.{_≡_, refl, sym, ap, subst}
 use mathlib.Core.Bool.{Bool, true, false, cond, not, _&&_}
 use mathlib.Core.List.{List, [], _∷_, _++_, map}
 use mathlib.Core.Option.{Option, none, some}
-use mathlib.Core.Logic.{_⊎_, inl, inr}
+use mathlib.Core.Logic.{inl, inr}
 use Prim.Native.Nat.{ℕ}
 use native.Mathlib.Omega.{arith}
-use lib.ListN.{length, getD, length-replicate}
 use Rattle.cluster.specs.Config.{shelf, quorum}
 use Rattle.erasure.specs.Fragments.{Part}
-use Rattle.protocol.specs.Format.{Bytes}
-use Rattle.protocol.specs.Values.{Candidate, nonceSize, blankCandidate, noHeld, below, sameStamp}
-use Rattle.protocol.specs.Packet.{Body, Packet, clockReply, collectReply, filter, filterReply, repair, repairReply, encode}
+use Rattle.protocol.specs.Values.{Candidate, blankCandidate, noHeld, below}
+use Rattle.protocol.specs.Packet.{Body, Packet, collectReply, filter, filterReply, repair, repairReply, encode}
 use Rattle.protocol.specs.Memory.{held}
-use Rattle.protocol.specs.Primitives.{stampMessage, candidateMessage}
+use Rattle.protocol.specs.Primitives.{candidateMessage}
 use Rattle.protocol.specs.Rules.{upd, nobody, countTo, parts}
-use Rattle.protocol.specs.Server.{Server, replyTo, byHistory, byTag, best, raise, act, barred, serverRefusal}
-use Rattle.protocol.specs.Client.{refused, gave, clocking, collecting, filtering, awaits, isIdle, isFull, candidateMade, shareMade, stampOf, made, onto, writeRefusal, readRefusal, abortRefusal, begun}
+use Rattle.protocol.specs.Server.{replyTo, byHistory, byTag, best}
+use Rattle.protocol.specs.Client.{refused, gave, collecting, filtering, awaits, isIdle, isFull, candidateMade, shareMade, stampOf, made, readRefusal, begun}
 use Rattle.protocol.specs.Runs.{take-reply}
-use Rattle.protocol.proofs.ValueRuns.{World}
 use Rattle.atomicity.specs.Lists.{Ever, All, flat}
 use Rattle.atomicity.specs.Steps.{nonblank, judged, serverChecks, clientChecks, proving, stampedFrom, compared}
 use Rattle.atomicity.specs.Claim.{Logged, change}
-use Rattle.atomicity.proofs.Util.{clash}
 use Rattle.atomicity.proofs.Model.{Run, perform}
-use Rattle.atomicity.proofs.Playing.{Hashing, functions, s, nonce1, nonce2, nonce3, Begun, Got, Shown, Made, Timely, Play}
-use Rattle.atomicity.proofs.Printed.{bytes-of, bytes-ok, packet-bytes}
-use Rattle.atomicity.proofs.Exchanges.{makes-it, takes-it, contentBuffer}
+use Rattle.atomicity.proofs.Playing.{Hashing, functions, s, nonce1, Shown, Made, Timely, Play}
+use Rattle.atomicity.proofs.Printed.{packet-bytes}
+use Rattle.atomicity.proofs.ServeSteps.{makes-it, takes-it, contentBuffer}
 use Rattle.atomicity.proofs.CallSteps.{reads-it, play-read, refused-does, play-refused}
 use Rattle.atomicity.proofs.Talks.{exchanged, play-exchange, lie, lied, lie-ok, play-lie}
-use Rattle.atomicity.proofs.Scene.{content1, content2, pieces, cand, share, stored, spoilt, madeUp, holding, blankOne, stamp-checks, by-history, by-tag, valid-held, best-held, best-tagged, best-made-up}
-use Rattle.atomicity.proofs.SceneRead.{knows, sifted, marked, heard, part, choice-is, leader-is, parts-are}
-use Rattle.atomicity.proofs.SceneBytes.{wildPacket, wild-bytes, wild-ok}
-use Rattle.atomicity.proofs.SceneWrites.{ours, one, oneTwo, goes, ends, w0, w1, w2, w3, w4, w5, w6, w7, w8, w9, w10}
+use Rattle.atomicity.proofs.Scene.{content1, pieces, cand, share, spoilt, holding, blankOne, by-history, by-tag, valid-held, best-held, best-tagged}
+use Rattle.atomicity.proofs.SceneRead.{knows, sifted, marked, heard, choice-is, leader-is, parts-are}
+use Rattle.atomicity.proofs.SceneWrites.{one, oneTwo, goes, ends, w0, w1, w2, w3, w4, w5, w6, w7, w8, w9, w10}
 use Rattle.atomicity.proofs.SceneReads.{others, two, blanks, told, repairs, w11, w12, w13, w14, w15, w16, w17, w18, w19, w20, w21, w22, w23, w24, w25, reads}
 use Rattle.atomicity.proofs.SceneShown.{wrote, secondWrite, x11, x12, x13, x14, p14, shown-14, tag-made-14}
-use Rattle.atomicity.proofs.SceneStored.{firstWrite, x1, x2, x3, x4, x5, x6, x7, x8, x9, x10, p10, shown-10, stamp-made, tag-made}
+use Rattle.atomicity.proofs.SceneStored.{x1, x2, x3, x4, x5, x6, x7, x8, x9, x10}
 
 abbrev pub theRead : Option ℕ → Option (List ℕ) → Logged
 theRead e a = record { client = 9; number = 1; wrote = none; begun = 31; reached = none; over = e; answer = a; gaveUp = false }
@@ -51,7 +46,7 @@ module _ (H : Hashing) where
   unfoldable pub x16 : Run (s H)
   x16 = lied H (w15 H) 9 others (collectReply (spoilt H)) (goes 0 one (collecting (upd (blanks H) 1 (spoilt H)))) (reads H .collect-1) x15
 
-  abbrev theLie : Packet
+  abbrev pub theLie : Packet
   theLie = lie H (w15 H) 9 others (collectReply (spoilt H)) (goes 0 one (collecting (upd (blanks H) 1 (spoilt H)))) (reads H .collect-1)
 
   -- the liar's reply comes again
@@ -98,7 +93,7 @@ module _ (H : Hashing) where
       ((s H .keys b, candidateMessage (cand H .stamp) (H .digest nonce1)) ∷ []) []) (by-history H b tags)
 
   -- server 4 takes the right one by its tag
-  judged-tagged : judged (s H) 4 (blankOne H) (filter (sifted H)) ≡ cand H ∷ []
+  pub judged-tagged : judged (s H) 4 (blankOne H) (filter (sifted H)) ≡ cand H ∷ []
   unfolding judged below cand candidateMade stampOf shelf
   judged-tagged = ap nonblank (best-tagged H 4 (omega arith) (omega arith))
 
@@ -142,7 +137,7 @@ module _ (H : Hashing) where
   repair-timely b xs h = inr (inr h, (inl cand-nonce, tt))
 
   -- the fragments that prove the choice
-  proving-is : All (λ u. u ≡ nonce1) (proving (s H) (marked H) (heard H) (some (spoilt H)))
+  pub proving-is : All (λ u. u ≡ nonce1) (proving (s H) (marked H) (heard H) (some (spoilt H)))
   unfolding proving share shareMade shelf All
   proving-is =
       subst (λ (n : ℕ). All (λ u. u ≡ nonce1) (map (λ (p : Part). p .bytes) (parts (functions H) (s H .config) (marked H) (heard H) (spoilt H) n (s H .config .servers))))
@@ -155,11 +150,11 @@ module _ (H : Hashing) where
   unfolding x1 x2 x3 x4 x5 x6 x7 x8 x9 x10 x11 x12 x13 x14 x15 w0 w1 w2 w3 w4 w5 w6 w7 w8 w9 w10 w11 w12 w13 w14 w15 upd readRefusal shelf isIdle awaits
   p15 = play-read H 9 true (x14 H) (w14 H) _ (p14 H) refl refl
 
-  p16 : Play H true x16 (w16 H) (theRead none none ∷ secondWrite true ∷ wrote ∷ [])
+  pub p16 : Play H true x16 (w16 H) (theRead none none ∷ secondWrite true ∷ wrote ∷ [])
   unfolding x16 w0 w1 w2 w3 w4 w5 w6 w7 w8 w9 w10 w11 w12 w13 w14 w15 w16 upd begun awaits change clientChecks flat stampedFrom compared All
   p16 = play-lie H (w15 H) 9 others _ _ (reads H .collect-1) true x15 _ p15 tt tt
 
-  again : perform (s H) (w16 H) (take-reply 9 others (encode theLie) contentBuffer) ≡ record { world = w17 H; result = refused 12; sent = none }
+  pub again : perform (s H) (w16 H) (take-reply 9 others (encode theLie) contentBuffer) ≡ record { world = w17 H; result = refused 12; sent = none }
   unfolding w0 w1 w2 w3 w4 w5 w6 w7 w8 w9 w10 w11 w12 w13 w14 w15 w16 w17 upd awaits shelf
   again = refused-does H 11 9 others theLie (w16 H) (lie-ok H (w15 H) 9 others _ _ (reads H .collect-1) true x15 _ p15) (reads H .again)
 
@@ -189,7 +184,7 @@ module _ (H : Hashing) where
   unfolding Ever x20
   shown-20 = inr (inr (inr shown-19))
 
-  p21 : Play H true x21 (w21 H) (theRead none none ∷ secondWrite true ∷ wrote ∷ [])
+  pub p21 : Play H true x21 (w21 H) (theRead none none ∷ secondWrite true ∷ wrote ∷ [])
   unfolding x21 w0 w1 w2 w3 w4 w5 w6 w7 w8 w9 w10 w11 w12 w13 w14 w15 w16 w17 w18 w19 w20 w21 upd nobody awaits made change clientChecks flat stampedFrom compared replyTo isFull countTo quorum shelf All Ever spoilt
   p21 = play-exchange H (w20 H) 9 3 others _ _ _ (reads H .filter-3) true x20 _ p20 (none-checked 3 (spoilt H) (spoilt H .tags) x20 (filter (sifted H)) (judged-held 3) refl)
       (nonce-digested (judged (s H) 3 (holding H 3) (filter (sifted H))) (spoilt H) (judged-held 3) refl) (sifted-timely 3 x20 shown-20) tt tt

@@ -1,23 +1,23 @@
 -- What the example's read makes of the replies: the list after collect is the spoilt candidate and the right one; after filter servers 2 and 3 prove
 -- the spoilt one, which stands first, so that it is read with the tags that they hold, and repaired.
 -- Assumes nothing.
-use mathlib.Core.Path.{_≡_, refl, sym, ap, _∙_}
+use mathlib.Core.Path.{_≡_, refl, ap, _∙_}
 use mathlib.Core.Bool.{Bool, true, false, cond, not, _&&_, _||_}
 use mathlib.Core.List.{List, [], _∷_, _++_}
-use mathlib.Core.Option.{Option, none, some}
+use mathlib.Core.Option.{none, some}
 use Prim.Native.Nat.{ℕ, _+_, _≤_}
 use native.Mathlib.Omega.{arith}
 use lib.Dec.{eqb, leb}
-use lib.ListN.{length, replicate}
+use lib.ListN.{length}
 use borrow.Author.Tests.{eq-eqb}
-use Rattle.cluster.specs.Config.{shelf, upTo, quorum}
+use Rattle.cluster.specs.Config.{shelf, quorum}
 use Rattle.cluster.specs.Ranges.{within}
 use Rattle.erasure.specs.Fragments.{Part, fragment, restored}
 use Rattle.protocol.specs.Format.{Bytes}
-use Rattle.protocol.specs.Values.{Candidate, Share, Held, sameList, sameStamp, sameCandidate, nth, runOf, digestSize, blankCandidate, noHeld, isBlank, below}
+use Rattle.protocol.specs.Values.{Candidate, Held, sameList, sameStamp, sameCandidate, nth, digestSize, blankCandidate, noHeld, isBlank, below}
 use Rattle.protocol.specs.Primitives.{real}
-use Rattle.protocol.specs.Rules.{ByServer, upd, nobody, countTo, any, keep, first, gather, lower, live, fits, sameShare, agrees, leads, leader, highest, choice, proven, partOf, parts, restoredBy}
-use Rattle.protocol.specs.Client.{Client, Turn, more, gave, idle, found, judge, onto, repairing, stampOf, candidateMade, shareMade}
+use Rattle.protocol.specs.Rules.{ByServer, upd, nobody, countTo, any, keep, first, gather, lower, live, fits, sameShare, agrees, leads, leader, highest, choice, proven, parts, restoredBy}
+use Rattle.protocol.specs.Client.{Client, more, gave, idle, found, judge, onto, repairing, stampOf, candidateMade, shareMade}
 use Rattle.protocol.proofs.Equal.{same-refl, stamp-refl, candidate-refl}
 use Rattle.protocol.proofs.Primitive.{nth-run}
 use Rattle.atomicity.specs.Lists.{All, AllPairs}

@@ -2,7 +2,7 @@
 -- past a liar. What each exchange does is computed, but for the tests of tags and digests, which the modules Scene and SceneRead know.
 -- Assumes nothing.
 use mathlib.Core.Path.{_≡_, refl, ap, _∙_}
-use mathlib.Core.Bool.{Bool, true, false, cond, _&&_}
+use mathlib.Core.Bool.{Bool, true, cond, _&&_}
 use mathlib.Core.List.{List, [], _∷_}
 use mathlib.Core.Option.{Option, none, some}
 use Prim.Native.Nat.{ℕ}
@@ -10,21 +10,22 @@ use native.Mathlib.Omega.{arith}
 use lib.ListN.{replicate}
 use Rattle.cluster.specs.Config.{shelf, quorum}
 use Rattle.cluster.specs.Ranges.{keySize, contentRoom}
-use Rattle.protocol.specs.Values.{Candidate, Share, blankCandidate, noHeld, isBlank, below}
+use Rattle.protocol.specs.Values.{Candidate, Share, blankCandidate, noHeld, below}
 use Rattle.protocol.specs.Packet.{Body, clockReply, collectReply, filter, filterReply, repair, repairReply}
 use Rattle.protocol.specs.Memory.{held}
 use Rattle.protocol.specs.Rules.{ByServer, upd, nobody, countTo}
 use Rattle.protocol.specs.Server.{Server, Acted, raise, act, barred, replyTo, serverRefusal}
-use Rattle.protocol.specs.Client.{Hand, Turn, refused, gave, clocking, collecting, filtering, repairing, awaits, isIdle, stampOf, candidateMade, made, onto, higher, isFull, update, tooHigh, makeRefusal, takeRefusal, turnOn, highAt, begun}
+use Rattle.protocol.specs.Client.{Hand, refused, gave, clocking, collecting, filtering, repairing, awaits, isIdle, stampOf, candidateMade, made, onto, higher, isFull, update, tooHigh, makeRefusal, takeRefusal, turnOn, highAt, begun}
 use Rattle.protocol.specs.Runs.{Lent}
 use Rattle.protocol.proofs.ValueRuns.{World}
 use Rattle.atomicity.specs.Lists.{All}
 use Rattle.atomicity.proofs.Util.{clash}
 use Rattle.atomicity.proofs.Printed.{bare, full}
 use Rattle.atomicity.proofs.Playing.{Hashing, functions, s, nonce2}
-use Rattle.atomicity.proofs.Exchanges.{Owned, served, took}
+use Rattle.atomicity.proofs.ServeSteps.{Owned, served}
+use Rattle.atomicity.proofs.TakeSteps.{took}
 use Rattle.atomicity.proofs.CallSteps.{began, left}
-use Rattle.atomicity.proofs.Talks.{Talk, talk-of, Lie, lie-of, lie}
+use Rattle.atomicity.proofs.Talks.{Talk, talk-of, Lie, lie-of}
 use Rattle.atomicity.proofs.Scene.{content1, content2, pieces, cand, share, stored, spoilt, holding, blankOne, stamp-checks, held-own, best-held, best-tagged, valid-held}
 use Rattle.atomicity.proofs.SceneRead.{gathered, knows, judged-is, sifted}
 use Rattle.atomicity.proofs.SceneBytes.{stamp-bytes, cand-bytes, share-bytes, spoilt-bytes, spoilt-ok}

@@ -1,40 +1,37 @@
 -- The example from client 2's write on, step by step: client 2 takes a stamp whose tag checks and gives up, and the wild client shows a server what it
 -- made up. The run meets the premises.
 -- Assumes nothing.
-use mathlib.Core.Path.{_≡_, refl, sym, ap, _∙_, subst}
-use mathlib.Core.Bool.{Bool, true, false, cond, not, _&&_}
+use mathlib.Core.Path.{_≡_, refl, sym, ap, subst}
+use mathlib.Core.Bool.{Bool, true, false, cond, _&&_}
 use mathlib.Core.List.{List, [], _∷_, map}
-use mathlib.Core.Option.{Option, none, some}
+use mathlib.Core.Option.{none, some}
 use mathlib.Core.Logic.{_⊎_, inl, inr}
 use Prim.Native.Nat.{ℕ}
 use native.Mathlib.Omega.{arith}
 use lib.ListN.{length, getD, length-replicate}
-use Rattle.cluster.specs.Config.{shelf, quorum}
-use Rattle.erasure.specs.Fragments.{Part}
+use Rattle.cluster.specs.Config.{shelf}
 use Rattle.protocol.specs.Format.{Bytes}
-use Rattle.protocol.specs.Values.{Candidate, nonceSize, blankCandidate, noHeld, below, sameStamp}
-use Rattle.protocol.specs.Packet.{Body, Packet, clockReply, collectReply, filter, filterReply, repair, repairReply, encode}
+use Rattle.protocol.specs.Values.{Candidate, nonceSize, noHeld, below, sameStamp}
+use Rattle.protocol.specs.Packet.{clockReply, filterReply}
 use Rattle.protocol.specs.Memory.{held}
 use Rattle.protocol.specs.Primitives.{stampMessage, candidateMessage}
-use Rattle.protocol.specs.Rules.{upd, nobody, countTo, parts}
-use Rattle.protocol.specs.Server.{Server, byHistory, byTag, best, raise, act, barred, serverRefusal}
-use Rattle.protocol.specs.Client.{gave, clocking, collecting, filtering, awaits, isIdle, isFull, candidateMade, shareMade, stampOf, made, onto, writeRefusal, readRefusal, abortRefusal, begun}
-use Rattle.protocol.proofs.ValueRuns.{World}
+use Rattle.protocol.specs.Rules.{upd}
+use Rattle.protocol.specs.Server.{best, raise, act, barred, serverRefusal}
+use Rattle.protocol.specs.Client.{clocking, awaits, isIdle, candidateMade, stampOf, made, onto, writeRefusal, abortRefusal, begun}
 use Rattle.atomicity.specs.Lists.{Ever, All, flat}
-use Rattle.atomicity.specs.Steps.{nonblank, judged, serverChecks, clientChecks, proving, stampedFrom, compared}
+use Rattle.atomicity.specs.Steps.{nonblank, judged, serverChecks, clientChecks, stampedFrom, compared}
 use Rattle.atomicity.specs.Claim.{Logged, change}
 use Rattle.atomicity.proofs.Util.{clash}
 use Rattle.atomicity.proofs.Model.{Run}
-use Rattle.atomicity.proofs.Playing.{Hashing, functions, s, nonce1, nonce2, nonce3, Begun, Got, Shown, Made, Timely, Play}
+use Rattle.atomicity.proofs.Playing.{Hashing, s, nonce1, nonce2, nonce3, Begun, Got, Shown, Made, Play}
 use Rattle.atomicity.proofs.Printed.{bytes-of, bytes-ok, packet-bytes}
-use Rattle.atomicity.proofs.Exchanges.{Serves, serving, play-serve, served, takes-it}
-use Rattle.atomicity.proofs.CallSteps.{writing, play-write, reads-it, play-read, gives-up, play-give-up, play-refused}
-use Rattle.atomicity.proofs.Talks.{exchanged, play-exchange, lie, lied, lie-ok, play-lie}
-use Rattle.atomicity.proofs.Scene.{content1, content2, pieces, cand, share, stored, spoilt, madeUp, holding, blankOne, stamp-checks, by-history, by-tag, valid-held, best-held, best-tagged, best-made-up}
-use Rattle.atomicity.proofs.SceneRead.{knows, sifted, marked, heard, part, choice-is, leader-is, parts-are}
+use Rattle.atomicity.proofs.ServeSteps.{Serves, serving, play-serve}
+use Rattle.atomicity.proofs.CallSteps.{writing, play-write, gives-up, play-give-up}
+use Rattle.atomicity.proofs.Talks.{exchanged, play-exchange}
+use Rattle.atomicity.proofs.Scene.{content2, cand, share, stored, madeUp, holding, stamp-checks, best-made-up}
 use Rattle.atomicity.proofs.SceneBytes.{wildPacket, wild-bytes, wild-ok}
-use Rattle.atomicity.proofs.SceneWrites.{ours, one, oneTwo, goes, ends, w0, w1, w2, w3, w4, w5, w6, w7, w8, w9, w10}
-use Rattle.atomicity.proofs.SceneReads.{others, two, blanks, told, repairs, w11, w12, w13, w14, w15, w16, w17, w18, w19, w20, w21, w22, w23, w24, w25, reads}
+use Rattle.atomicity.proofs.SceneWrites.{ours, goes, w0, w1, w2, w3, w4, w5, w6, w7, w8, w9, w10}
+use Rattle.atomicity.proofs.SceneReads.{two, w11, w12, w13, w14, reads}
 use Rattle.atomicity.proofs.SceneStored.{firstWrite, x1, x2, x3, x4, x5, x6, x7, x8, x9, x10, p10, shown-10, stamp-made, tag-made}
 
 pub content2-bytes : Bytes content2
@@ -103,7 +100,7 @@ module _ (H : Hashing) where
       no-two (inl e) = omega (arith, ap (λ (l : List ℕ). getD l 0 0) e)
       no-two (inr e) = omega (arith, ap (λ (l : List ℕ). getD l 0 0) e)
 
-  p11 : Play H true x11 (w11 H) (secondWrite false ∷ wrote ∷ [])
+  pub p11 : Play H true x11 (w11 H) (secondWrite false ∷ wrote ∷ [])
   unfolding x1 x2 x3 x4 x5 x6 x7 x8 x9 x10 x11 w0 w1 w2 w3 w4 w5 w6 w7 w8 w9 w10 w11 upd writeRefusal shelf isIdle awaits content2
   p11 = play-write H 2 content2 nonce2 content2-bytes nonce2-bytes nonce2-size false true (x10 H) (w10 H) _ (p10 H) (λ y. refl) refl refl (inr (refl, refl))
       new-2 ungot-2
@@ -118,7 +115,7 @@ module _ (H : Hashing) where
   p12 = play-exchange H (w11 H) 2 2 ours _ _ _ (reads H .clock-2) true x11 _ p11 tt tt (inl refl)
       (subst (All (λ kb. Made H kb x11)) (sym (tag-checks)) (inr (stamp-made H), tt)) tt
 
-  p13 : Play H true x13 (w13 H) (secondWrite true ∷ wrote ∷ [])
+  pub p13 : Play H true x13 (w13 H) (secondWrite true ∷ wrote ∷ [])
   unfolding x13 w0 w1 w2 w3 w4 w5 w6 w7 w8 w9 w10 w11 w12 w13 upd awaits isIdle abortRefusal shelf change onto
   p13 = play-give-up H 2 true x12 (w12 H) _ p12 refl refl
 

@@ -6,7 +6,6 @@ use mathlib.Core.List.{List, [], _∷_}
 use mathlib.Core.Option.{Option, none, some}
 use mathlib.Core.Logic.{inl, inr}
 use Prim.Native.Nat.{ℕ}
-use native.Mathlib.Omega.{arith}
 use lib.ListN.{length, length-replicate}
 use Rattle.cluster.specs.Config.{shelf, upTo}
 use Rattle.protocol.specs.Format.{Bytes}
@@ -15,18 +14,18 @@ use Rattle.protocol.specs.Packet.{Packet, decode, clockReply, storeReply, compl
 use Rattle.protocol.specs.Primitives.{stampMessage, candidateMessage}
 use Rattle.protocol.specs.Rules.{upd, nobody}
 use Rattle.protocol.specs.Server.{best}
-use Rattle.protocol.specs.Client.{Hand, checks, made, written, candidateMade, stampOf, writeRefusal, isIdle, awaits, begun, sharesMade}
+use Rattle.protocol.specs.Client.{checks, made, written, candidateMade, stampOf, writeRefusal, isIdle, awaits, begun}
 use Rattle.protocol.specs.Runs.{make, sentOf}
 use Rattle.protocol.proofs.Bodies.{decode-encode}
 use Rattle.protocol.proofs.ValueRuns.{World, nowValues, doValues}
 use Rattle.atomicity.specs.Lists.{Always, Ever, All, In, flat}
-use Rattle.atomicity.specs.Steps.{Stamped, allDigested, stampedFrom, stampedBy, stampedAt, tagsWith, digestsWith, judged, clientChecks, compared}
+use Rattle.atomicity.specs.Steps.{allDigested, stampedFrom, stampedBy, tagsWith, digestsWith, judged, clientChecks, compared}
 use Rattle.atomicity.specs.Premises.{Shows}
 use Rattle.atomicity.specs.Claim.{Logged, log, change}
 use Rattle.atomicity.proofs.Model.{Run, perform, now}
-use Rattle.atomicity.proofs.Playing.{Hashing, functions, s, A, nonce1, Shown, Made, Play}
+use Rattle.atomicity.proofs.Playing.{Hashing, s, A, nonce1, Shown, Made, Play}
 use Rattle.atomicity.proofs.Printed.{bytes-of, bytes-ok}
-use Rattle.atomicity.proofs.Exchanges.{makes-it, serves-it, takes-it, sent-ok, made-sent, packetBuffer}
+use Rattle.atomicity.proofs.ServeSteps.{makes-it, sent-ok, made-sent, packetBuffer}
 use Rattle.atomicity.proofs.CallSteps.{writing, play-write}
 use Rattle.atomicity.proofs.Talks.{exchanged, play-exchange, lied, play-lie}
 use Rattle.atomicity.proofs.Scene.{content1, pieces, cand, highStamp, high-unchecked, holding, blankOne}
@@ -97,7 +96,7 @@ module _ (H : Hashing) where
   p2 = play-lie H (w1 H) 1 ours _ _ (writes H .clock-1) false x1 _ p1
       (subst (λ (q : Bool). All (λ kb. Made H kb x1) (cond (q && true) ((s H .writers, stampMessage 99999998 2) ∷ []) [])) (sym (high-unchecked H)) tt) tt
 
-  p3 : Play H false x3 (w3 H) (firstWrite none none ∷ [])
+  pub p3 : Play H false x3 (w3 H) (firstWrite none none ∷ [])
   unfolding x3 w0 w1 w2 w3 upd begun awaits made change clientChecks checks isBlank judged best below flat stampedFrom compared All
   p3 = play-exchange H (w2 H) 1 2 ours _ _ _ (writes H .clock-2) false x2 _ p2 tt tt (inl refl) tt tt
 
@@ -119,7 +118,7 @@ module _ (H : Hashing) where
   unfolding x1 x2 x3 x4 x5 x6 x7 w4 w5 w6 w7 upd awaits made change clientChecks judged best below flat stampedFrom compared All
   p7 = play-exchange H (w6 H) 1 3 ours _ _ _ (writes H .store-3) false x6 _ p6 tt tt (inl refl) tt tt
 
-  p8 : Play H false x8 (w8 H) (firstWrite (some 16) none ∷ [])
+  pub p8 : Play H false x8 (w8 H) (firstWrite (some 16) none ∷ [])
   unfolding x8 w4 w5 w6 w7 w8 upd awaits change clientChecks flat stampedFrom compared All
   p8 = play-lie H (w7 H) 1 ours _ _ (writes H .complete-1) false x7 _ p7 tt tt
 

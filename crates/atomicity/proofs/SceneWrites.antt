@@ -1,30 +1,27 @@
 -- The example's writes: the worlds that client 1's write leads through, with a liar that answers each round, and client 2's write up to its first reply.
 -- What each exchange does is computed; tags and digests stand in it as they are.
 -- Assumes nothing.
-use mathlib.Core.Path.{_≡_, refl, ap}
-use mathlib.Core.Bool.{Bool, true, false, cond, _&&_}
-use mathlib.Core.List.{List, [], _∷_}
-use mathlib.Core.Option.{some}
-use mathlib.Core.Logic.{inl}
+use mathlib.Core.Path.{refl, ap}
+use mathlib.Core.Bool.{Bool, true, cond, _&&_}
+use mathlib.Core.List.{[], _∷_}
 use Prim.Native.Nat.{ℕ}
 use native.Mathlib.Omega.{arith}
-use lib.ListN.{length, replicate}
-use Rattle.cluster.specs.Config.{shelf, upTo, quorum}
-use Rattle.cluster.specs.Ranges.{keySize}
+use Rattle.cluster.specs.Config.{shelf, quorum}
 use Rattle.protocol.specs.Format.{byte, keep as keepF}
-use Rattle.protocol.specs.Values.{Candidate, blankStamp, blankCandidate, isBlank, below}
-use Rattle.protocol.specs.Packet.{Body, BodyOk, clock, clockReply, store, storeReply, complete, completeReply, anyStampF, codeF}
+use Rattle.protocol.specs.Values.{blankStamp, blankCandidate, isBlank, below}
+use Rattle.protocol.specs.Packet.{clockReply, storeReply, completeReply, codeF}
 use Rattle.protocol.specs.Memory.{held}
 use Rattle.protocol.specs.Rules.{ByServer, upd, nobody, countTo}
 use Rattle.protocol.specs.Server.{Server, kept, raise, act, barred, replyTo, serverRefusal, blankServer}
-use Rattle.protocol.specs.Client.{Client, Hand, Turn, Result, newClient, more, written, idle, clocking, storing, completing, awaits, isIdle, stampOf, candidateMade, shareMade, sharesMade, prepared, made, onto, checks, higher, isFull, update, tooHigh, makeRefusal, takeRefusal, turnOn, highAt, begun}
+use Rattle.protocol.specs.Client.{Hand, Turn, Result, newClient, more, written, idle, clocking, storing, completing, awaits, isIdle, stampOf, candidateMade, sharesMade, prepared, made, onto, checks, higher, isFull, update, tooHigh, makeRefusal, takeRefusal, turnOn, highAt, begun}
 use Rattle.protocol.specs.Runs.{Lent}
 use Rattle.protocol.proofs.ValueRuns.{World}
-use Rattle.atomicity.proofs.Playing.{Hashing, functions, desk, s, nonce1, nonce2}
-use Rattle.atomicity.proofs.Exchanges.{served, took}
+use Rattle.atomicity.proofs.Playing.{Hashing, functions, desk, s, nonce1}
+use Rattle.atomicity.proofs.ServeSteps.{served}
+use Rattle.atomicity.proofs.TakeSteps.{took}
 use Rattle.atomicity.proofs.CallSteps.{began}
 use Rattle.atomicity.proofs.Talks.{Talk, talk-of, Lie, lie-of}
-use Rattle.atomicity.proofs.Scene.{content1, content2, pieces, cand, share, stored, highStamp, high-unchecked, holding, blankOne, stamp-checks}
+use Rattle.atomicity.proofs.Scene.{content1, pieces, cand, share, stored, highStamp, high-unchecked, holding, blankOne}
 use Rattle.atomicity.proofs.SceneBytes.{stamp-bytes, cand-bytes, share-bytes, high-bytes, high-ok}
 use Rattle.atomicity.proofs.Printed.{StampBytes, bytes-ok}
 

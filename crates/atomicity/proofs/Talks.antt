@@ -1,40 +1,33 @@
 -- Exchanges on the example's shelf: of a correct client with a correct server, and with the liar, which answers what it likes. What can be computed of
 -- one is one test.
 -- Assumes nothing.
-use mathlib.Core.Path.{_≡_, refl, sym, ap, _∙_, subst}
-use mathlib.Core.Bool.{Bool, true, false, cond, not, _&&_}
-use mathlib.Core.List.{List, [], _∷_, _++_, map}
-use mathlib.Core.Option.{Option, none, some}
-use mathlib.Core.Logic.{_⊎_, inl, inr}
+use mathlib.Core.Path.{_≡_, refl, ap}
+use mathlib.Core.Bool.{Bool, true, false, not, _&&_}
+use mathlib.Core.List.{List, _∷_, _++_, map}
+use mathlib.Core.Option.{some}
+use mathlib.Core.Logic.{inl, inr}
 use Prim.Native.Nat.{ℕ, suc}
-use native.Mathlib.Omega.{arith}
 use lib.ListN.{length}
 use lib.Dec.{eqb}
 use borrow.Author.Tests.{eq-eqb, eqb-true, not-true}
 use Rattle.cluster.specs.Config.{shelf}
 use Rattle.cluster.specs.Ranges.{within, packetRoom, contentRoom}
-use Rattle.cluster.specs.Refusals.{onRefusal}
-use Rattle.protocol.specs.Format.{Bytes}
-use Rattle.protocol.specs.Values.{nonceSize, blankCandidate}
-use Rattle.protocol.specs.Packet.{Body, BodyOk, Packet, PacketOk, kindOf, encode, decode}
+use Rattle.protocol.specs.Packet.{Body, BodyOk, Packet, PacketOk, kindOf, encode}
 use Rattle.protocol.proofs.ServerLift.{reply-ok}
-use Rattle.protocol.specs.Rules.{upd, nobody}
 use Rattle.protocol.specs.Server.{Server, replyTo, serverRefusal}
-use Rattle.protocol.specs.Client.{Client, Hand, Turn, refused, more, aborted, accepted, made, makeRefusal, takeRefusal, takeStep, highAt, awaits, writeRefusal, readRefusal, abortRefusal, writeStep, readStep, abortStep, isIdle, inComplete, clocking, collecting, idle, begun, onto}
-use Rattle.protocol.specs.Runs.{Lent, Step, write, read, make, give-up, take-reply, serve, sentOf}
-use Rattle.protocol.proofs.Bodies.{decode-encode}
-use Rattle.protocol.proofs.RunLift.{decode-nothing}
-use Rattle.protocol.proofs.ValueRuns.{World, After, doValues, setClient, nowValues}
+use Rattle.protocol.specs.Client.{Turn, more, made, makeRefusal, takeRefusal, highAt, awaits, isIdle}
+use Rattle.protocol.specs.Runs.{Lent, make, serve, sentOf}
+use Rattle.protocol.proofs.ValueRuns.{World}
 use Rattle.atomicity.specs.Lists.{Ever, All, flat}
-use Rattle.atomicity.specs.Steps.{StepIn, makes, offered, stampedFrom, stampedBy, serverChecks, clientChecks, judged, compared, digestsWith, checkedBy, digestedBy, noncesBy}
-use Rattle.atomicity.specs.Premises.{PartyOf, Authentic, Begins, FreshNonce, odd}
-use Rattle.atomicity.specs.Claim.{Logged, log, note, change, follow}
+use Rattle.atomicity.specs.Steps.{offered, stampedFrom, serverChecks, clientChecks, judged, compared, digestsWith}
+use Rattle.atomicity.specs.Premises.{odd}
+use Rattle.atomicity.specs.Claim.{Logged}
 use Rattle.atomicity.proofs.Util.{clash, and-left, and-right, all-map}
 use Rattle.atomicity.proofs.Model.{Run, perform, now}
-use Rattle.atomicity.proofs.Playing.{Hashing, functions, serversOf, who, nonce1, s, A, Begun, Got, Made, OfWrite, Timely, Play, play-on, checkedIn, digestedIn, noncesIn}
-use Rattle.atomicity.proofs.Printed.{BodyBytes, PacketBytes, packet-bytes}
-use Rattle.atomicity.proofs.SceneBytes.{headFits, packet-of}
-use Rattle.atomicity.proofs.Exchanges.{packetBuffer, contentBuffer, content-room, serves-it, takes-it, cond-nil, all-none, makes-it, sent-ok, play-make, made-sent, acts, served, Serves, serving, reply-sent, play-serve, Owned, turned, took, followed, Takes, taking, play-take, not-write}
+use Rattle.atomicity.proofs.Playing.{Hashing, functions, who, nonce1, s, Made, Timely, Play}
+use Rattle.atomicity.proofs.Printed.{BodyBytes, PacketBytes, packet-bytes, headFits, packet-of}
+use Rattle.atomicity.proofs.ServeSteps.{packetBuffer, serves-it, takes-it, makes-it, sent-ok, play-make, made-sent, acts, served, Serves, reply-sent, play-serve, Owned}
+use Rattle.atomicity.proofs.TakeSteps.{turned, took, followed, Takes, play-take}
 
 module _ (H : Hashing) where
   -- ---- an exchange: client c asks server b, which does this and answers r, and the client's turn is t
@@ -116,7 +109,7 @@ module _ (H : Hashing) where
       pub play-answered : Play H two (serves-it H b asked (k .inside) (packet-bytes asked (k .ask-bytes)) ∷ makes-it H c b ∷ xs) (served H w b v) cs →
           All (λ kb. Made H kb xs) (clientChecks (s H) (w .client c .hand) r) →
           All (λ u. u ≡ nonce1)
-              (flat (digestsWith (s H)) (stampedFrom c (w .client c .hand) (t .client .hand)) ++ compared (s H) (w .client c) (w .client c .hand) answered) →
+          (flat (digestsWith (s H)) (stampedFrom c (w .client c .hand) (t .client .hand)) ++ compared (s H) (w .client c) (w .client c .hand) answered) →
           Play H two (exchanged xs) (took H (served H w b v) c t) (followed H w c t (suc (suc (length xs))) cs)
       unfolding Ever replyTo made takes
       play-answered q tags digests = play-take H (served H w b v) c lent answered t takes two _ cs q
@@ -128,7 +121,7 @@ module _ (H : Hashing) where
         Timely H (makes-it H c b ∷ xs) (map (λ d. d .nonce) (offered (asked .body))) →
         All (λ kb. Made H kb xs) (clientChecks (s H) (w .client c .hand) r) →
         All (λ u. u ≡ nonce1)
-            (flat (digestsWith (s H)) (stampedFrom c (w .client c .hand) (t .client .hand)) ++ compared (s H) (w .client c) (w .client c .hand) answered) →
+        (flat (digestsWith (s H)) (stampedFrom c (w .client c .hand) (t .client .hand)) ++ compared (s H) (w .client c) (w .client c .hand) answered) →
         Play H two (exchanged xs) (took H (served H w b v) c t) (followed H w c t (suc (suc (length xs))) cs)
     play-exchange two xs cs p served-tags served-digests timely taken-tags taken-digests =
         play-answered two xs cs p (play-asked two xs cs p served-tags served-digests timely) taken-tags taken-digests
@@ -205,7 +198,7 @@ module _ (H : Hashing) where
     pub play-lie : (two : Bool) (xs : Run (s H)) (cs : List Logged) → Play H two xs w cs →
         All (λ kb. Made H kb xs) (clientChecks (s H) (w .client c .hand) x) →
         All (λ u. u ≡ nonce1)
-            (flat (digestsWith (s H)) (stampedFrom c (w .client c .hand) (t .client .hand)) ++ compared (s H) (w .client c) (w .client c .hand) lie) →
+        (flat (digestsWith (s H)) (stampedFrom c (w .client c .hand) (t .client .hand)) ++ compared (s H) (w .client c) (w .client c .hand) lie) →
         Play H two (lied xs) (took H w c t) (followed H w c t (suc (length xs)) cs)
     unfolding Ever replyTo made
     play-lie two xs cs p tags digests =

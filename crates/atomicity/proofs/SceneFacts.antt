@@ -1,0 +1,137 @@
+-- Where the example asks something of each premise: at which steps a tag checks, something is digested, a server gets a nonce, a reply is refused.
+-- Assumes nothing.
+use mathlib.Core.Path.{_≡_, ap, _∙_}
+use mathlib.Core.Bool.{Bool, true, false, cond}
+use mathlib.Core.List.{List, [], _∷_, _++_, map}
+use mathlib.Core.Logic.{inl, inr}
+use Prim.Native.Nat.{ℕ, zero, suc}
+use lib.ListN.{drop}
+use Rattle.cluster.specs.Config.{shelf, upTo}
+use Rattle.protocol.specs.Packet.{Body, Packet, encode}
+use Rattle.protocol.specs.Primitives.{stampMessage, candidateMessage}
+use Rattle.protocol.specs.Rules.{upd}
+use Rattle.protocol.specs.Server.{Server, replyTo}
+use Rattle.protocol.specs.Client.{Turn, accepted, refused, begun, made, candidateMade}
+use Rattle.protocol.specs.Runs.{Lent, Account, take-reply, serve}
+use Rattle.protocol.proofs.ValueRuns.{World, After, nowValues}
+use Rattle.atomicity.specs.Lists.{Ever, flat}
+use Rattle.atomicity.specs.Steps.{StepIn, tagsChecked, digested, noncesGot, offered, judged, serverChecks, clientChecks, stampedFrom, compared, digestsWith}
+use Rattle.atomicity.specs.Claim.{Logged}
+use Rattle.atomicity.proofs.Model.{Run, perform, now}
+use Rattle.atomicity.proofs.Playing.{Hashing, s, A, nonce1, nonce3, checkedIn, digestedIn, noncesIn, Play}
+use Rattle.atomicity.proofs.Printed.{packet-bytes}
+use Rattle.atomicity.proofs.ServeSteps.{packetBuffer, contentBuffer, makes-it, serves-it, served, performed, serve-checks, serve-nonces}
+use Rattle.atomicity.proofs.TakeSteps.{take-checks, take-digests}
+use Rattle.atomicity.proofs.Talks.{Talk, asked, answered, making, serves, takes}
+use Rattle.atomicity.proofs.Scene.{cand, madeUp, blankOne, pieces}
+use Rattle.atomicity.proofs.SceneBytes.{wildPacket}
+use Rattle.atomicity.proofs.SceneWrites.{writes, w0, w1, w2, w3, w4, w5, w6, w7, w8, w9, w10}
+use Rattle.atomicity.proofs.SceneReads.{others, reads, w11, w12, w13, w14, w15, w16, w17, w18, w19, w20, w21}
+use Rattle.atomicity.proofs.SceneStored.{x1, x2, x3, x4, x5, x6, x7, x8, x9, x10, p3, p8}
+use Rattle.atomicity.proofs.SceneShown.{x11, x12, x13, x14, p11, p13, wild, tag-checks}
+use Rattle.atomicity.proofs.SceneEnds.{x15, x16, x17, x18, x19, x20, x21, x22, x23, x24, x25, p16, p21, judged-tagged, tag-checks-4, theLie, again}
+
+-- what some earlier step had, some step had
+pub ever-later : {X : Type 0} (P : X → List X → Type 0) (n : ℕ) (xs : List X) → Ever P (drop n xs) → Ever P xs
+unfolding Ever
+ever-later P zero xs h = h
+ever-later P (suc n) [] h = h
+ever-later P (suc n) (x ∷ xs) h = inr (ever-later P n xs h)
+
+module _ (H : Hashing) where
+  -- ---- the two steps of an exchange that get a packet
+
+  module _ (w : World) (c b : ℕ) (lent : Lent) (v : Server) (r : Body) (t : Turn) (k : Talk H w c b lent v r t) (two : Bool) (xs : Run (s H))
+      (cs : List Logged) (p : Play H two xs w cs) where
+    abbrev request : Packet
+    request = asked H w c b lent v r t k
+
+    abbrev reply : Packet
+    reply = answered H w c b lent v r t k
+
+    ask-checks : checkedIn H (now (s H) (makes-it H c b ∷ xs)) (serve b (encode request) packetBuffer)
+        ≡ flat (serverChecks (s H) b (w .server b)) (judged (s H) b (w .server b) (request .body))
+    ask-checks =
+        ap (λ (u : World). checkedIn H u (serve b (encode request) packetBuffer)) (making H w c b lent v r t k two xs cs p .here)
+        ∙ serve-checks H w b request v r (serves H w c b lent v r t k two xs cs p)
+
+    ask-nonces : noncesIn H (now (s H) (makes-it H c b ∷ xs)) (serve b (encode request) packetBuffer) ≡ map (λ d. d .nonce) (offered (request .body))
+    ask-nonces =
+        ap (λ (u : World). noncesIn H u (serve b (encode request) packetBuffer)) (making H w c b lent v r t k two xs cs p .here)
+        ∙ serve-nonces H w b request v r (serves H w c b lent v r t k two xs cs p)
+
+    -- the world that the reply is taken in
+    answer-here : now (s H) (serves-it H b request (k .inside) (packet-bytes request (k .ask-bytes)) ∷ makes-it H c b ∷ xs) ≡ served H w b v
+    unfolding nowValues
+    answer-here =
+        ap (λ (u : World). perform (s H) u (serve b (encode request) packetBuffer) .world) (making H w c b lent v r t k two xs cs p .here)
+        ∙ ap (λ (a : After). a .world) (performed H w b request v r (serves H w c b lent v r t k two xs cs p))
+
+    answer-checks : checkedIn H (now (s H) (serves-it H b request (k .inside) (packet-bytes request (k .ask-bytes)) ∷ makes-it H c b ∷ xs))
+        (take-reply c lent (encode reply) contentBuffer) ≡ cond (accepted (t .result)) (clientChecks (s H) (w .client c .hand) (reply .body)) []
+    answer-checks =
+        ap (λ (u : World). checkedIn H u (take-reply c lent (encode reply) contentBuffer)) answer-here
+        ∙ take-checks H (served H w b v) c lent reply t (takes H w c b lent v r t k two xs cs p)
+
+    answer-digests : digestedIn H (now (s H) (serves-it H b request (k .inside) (packet-bytes request (k .ask-bytes)) ∷ makes-it H c b ∷ xs))
+        (take-reply c lent (encode reply) contentBuffer) ≡ cond (accepted (t .result))
+        (flat (digestsWith (s H)) (stampedFrom c (w .client c .hand) (t .client .hand)) ++ compared (s H) (w .client c) (w .client c .hand) reply) []
+    answer-digests =
+        ap (λ (u : World). digestedIn H u (take-reply c lent (encode reply) contentBuffer)) answer-here
+        ∙ take-digests H (served H w b v) c lent reply t (takes H w c b lent v r t k two xs cs p)
+
+  -- ---- the steps of the run, each with how many steps came after it
+
+  -- the end of the first write's clock digests its nonce five times
+  at-8 : Ever (λ x xs. digested (s H) (A H) x xs ≡ nonce1 ∷ nonce1 ∷ nonce1 ∷ nonce1 ∷ nonce1 ∷ []) (x4 H)
+  unfolding Ever x4 w0 w1 w2 w3 upd begun stampedFrom flat digestsWith upTo shelf compared nowValues
+  at-8 = inl (answer-digests (w3 H) 1 3 _ _ _ _ (writes H .clock-3) false (x3 H) _ (p3 H)
+      ∙ (λ i. nonce1 ∷ pieces .0 i ∷ pieces .1 i ∷ pieces .2 i ∷ pieces .3 i ∷ []))
+
+  -- server 2 gets the nonce with complete
+  at-20 : Ever (λ x xs. noncesGot (s H) (A H) x xs ≡ nonce1 ∷ []) (x9 H)
+  unfolding Ever x9 w4 w5 w6 w7 w8 upd made cand candidateMade
+  at-20 = inr (inl (ask-nonces (w8 H) 1 2 _ _ _ _ (writes H .complete-2) false (x8 H) _ (p8 H)))
+
+  -- the first write's stamp checks at client 2
+  at-28 : Ever (λ x xs. tagsChecked (s H) (A H) x xs ≡ (s H .writers, stampMessage 1 1) ∷ []) (x12 H)
+  unfolding Ever x12 replyTo
+  at-28 = inl (answer-checks (w11 H) 2 2 _ _ _ _ (reads H .clock-2) true (x11 H) _ (p11 H) ∙ tag-checks H)
+
+  -- the wild client shows server 2 a nonce that no write has
+  at-30 : Ever (λ x xs. noncesGot (s H) (A H) x xs ≡ nonce3 ∷ []) (x14 H)
+  unfolding Ever x14 wildPacket madeUp
+  at-30 = inl (ap (λ (u : World). noncesIn H u (serve 2 (encode (wildPacket H)) packetBuffer)) (p13 H .here) ∙ serve-nonces H (w13 H) 2 (wildPacket H) _ _ (wild H))
+
+  -- the liar's reply comes again and is refused
+  at-34 : Ever (λ x xs. A H .result x xs ≡ refused 12) (x17 H)
+  unfolding Ever x17
+  at-34 = inl (ap (λ (u : World). perform (s H) u (take-reply 9 others (encode (theLie H)) contentBuffer) .result) (p16 H .here) ∙ ap (λ (a : After). a .result) (again H))
+
+  -- server 4 checks its tag of the candidate, and the client digests the two fragments that prove it
+  at-48 : Ever (λ x xs. tagsChecked (s H) (A H) x xs ≡ (s H .keys 4, candidateMessage (cand H .stamp) (H .digest nonce1)) ∷ []) (x22 H)
+  unfolding Ever x22 w0 w1 w2 w3 w4 w5 w6 w7 w8 w9 w10 w11 w12 w13 w14 w15 w16 w17 w18 w19 w20 w21 upd made flat
+  at-48 = inr (inl (ask-checks (w21 H) 9 4 _ _ _ _ (reads H .filter-4) true (x21 H) _ (p21 H)
+      ∙ ap (flat (serverChecks (s H) 4 (blankOne H))) (judged-tagged H) ∙ ap (λ (l : List (List ℕ × List ℕ)). l ++ []) (tag-checks-4 H)))
+
+  -- ---- all of it, of the whole run
+
+  pub record Happens (B : Account (StepIn (s H))) : Type 0 where
+    pub digests-nonce : Ever (λ x xs. digested (s H) B x xs ≡ nonce1 ∷ nonce1 ∷ nonce1 ∷ nonce1 ∷ nonce1 ∷ []) (x25 H)
+    pub gets-nonce : Ever (λ x xs. noncesGot (s H) B x xs ≡ nonce1 ∷ []) (x25 H)
+    pub checks-stamp : Ever (λ x xs. tagsChecked (s H) B x xs ≡ (s H .writers, stampMessage 1 1) ∷ []) (x25 H)
+    pub gets-made-up : Ever (λ x xs. noncesGot (s H) B x xs ≡ nonce3 ∷ []) (x25 H)
+    pub refuses : Ever (λ x xs. B .result x xs ≡ refused 12) (x25 H)
+    pub checks-tag : Ever (λ x xs. tagsChecked (s H) B x xs ≡ (s H .keys 4, candidateMessage (cand H .stamp) (H .digest nonce1)) ∷ []) (x25 H)
+
+  pub happens : Happens (A H)
+  unfolding x1 x2 x3 x4 x5 x6 x7 x8 x9 x10 x11 x12 x13 x14 x15 x16 x17 x18 x19 x20 x21 x22 x23 x24 x25
+  happens =
+      record {
+        digests-nonce = ever-later _ 49 (x25 H) at-8;
+        gets-nonce = ever-later _ 36 (x25 H) at-20;
+        checks-stamp = ever-later _ 29 (x25 H) at-28;
+        gets-made-up = ever-later _ 27 (x25 H) at-30;
+        refuses = ever-later _ 23 (x25 H) at-34;
+        checks-tag = ever-later _ 8 (x25 H) at-48;
+      }
