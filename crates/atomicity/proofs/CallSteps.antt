@@ -14,7 +14,9 @@ use Rattle.protocol.specs.Format.{Bytes}
 use Rattle.protocol.specs.Values.{nonceSize, blankCandidate}
 use Rattle.protocol.specs.Packet.{Packet, PacketOk, encode}
 use Rattle.protocol.specs.Rules.{nobody}
-use Rattle.protocol.specs.Client.{Client, Hand, Turn, refused, more, aborted, accepted, takeRefusal, takeStep, highAt, awaits, writeRefusal, readRefusal, abortRefusal, writeStep, readStep, abortStep, isIdle, inComplete, clocking, collecting, idle, begun, onto}
+use Rattle.protocol.specs.Client.{Client, Hand, Turn, refused, more, aborted, accepted, takeRefusal, takeStep, highAt, awaits, writeRefusal}
+use Rattle.protocol.specs.Client.{readRefusal, abortRefusal, writeStep, readStep, abortStep, isIdle, inComplete, clocking, collecting, idle, begun}
+use Rattle.protocol.specs.Client.{onto}
 use Rattle.protocol.specs.Runs.{Lent, Step, write, read, give-up, take-reply}
 use Rattle.protocol.proofs.Bodies.{decode-encode}
 use Rattle.protocol.proofs.RunLift.{decode-nothing}
@@ -25,7 +27,8 @@ use Rattle.atomicity.specs.Premises.{PartyOf, Authentic, Begins, FreshNo
 use Rattle.atomicity.specs.Claim.{Logged, log, note, change, follow}
 use Rattle.atomicity.proofs.Util.{clash, no-some, upd-here}
 use Rattle.atomicity.proofs.Model.{Run, perform}
-use Rattle.atomicity.proofs.Playing.{Hashing, functions, serversOf, who, nonce1, s, A, Begun, Got, Made, OfWrite, Play, play-on, checkedIn, digestedIn, noncesIn}
+use Rattle.atomicity.proofs.Playing.{Hashing, functions, serversOf, who, nonce1, s, A, Begun, Got, Made, OfWrite, Play, play-on, checkedIn}
+use Rattle.atomicity.proofs.Playing.{digestedIn, noncesIn}
 use Rattle.atomicity.proofs.ServeSteps.{contentBuffer, content-room, takes-it, cond-nil, all-none, Owned, not-write}
 use Rattle.atomicity.proofs.TakeSteps.{turned, took, followed}
 
@@ -54,11 +57,16 @@ module _ (H : Hashing) where
       play-on H was is xs w cs (writing c r n rb nb ln) _ _ p up (record {
         world = ap (λ (a : After). a .world) performed;
         noted =
-            (λ i. let u = p .here i in cond (accepted (perform (s H) u (write c r n) .result)) (entered u c (some r) (length xs) ∷ p .calls i) (p .calls i))
+            (λ i. let u = p .here i in cond (accepted (perform (s H) u (write c r n) .result)) (entered u c (some r) (length xs) ∷ p .calls i)
+            (p .calls i))
             ∙ ap (λ (a : After). cond (accepted (a .result)) (entered w c (some r) (length xs) ∷ cs) cs) performed;
         party = right;
         authentic = λ q e o. absurd (no-some (sym decode-nothing ∙ e));
-        fresh = λ d m h. (let e : n ≡ m = same h in (λ k b. new k (subst (λ (z : List ℕ). Begun H k z xs) (sym e) b), λ g. ungot (subst (λ (z : List ℕ). Got H z xs) (sym e) g)));
+        fresh = λ d m h. (let e : n ≡ m = same h in (
+          λ k b. new k (subst (λ (z : List ℕ). Begun H k z xs) (sym e) b),
+          λ g. ungot
+              (subst (λ (z : List ℕ). Got H z xs) (sym e) g),
+        ));
         write = λ d m h. subst (λ (z : List ℕ). OfWrite H is d z) (same h) (subst (λ (j : ℕ). OfWrite H is j n) (whose h) of);
         unforged = all-none _ done;
         digests = all-none _ done;
@@ -159,7 +167,8 @@ module _ (H : Hashing) where
       Play H two (gives-up c ∷ xs) (took H w c (left w c)) (followed H w c (left w c) (length xs) cs)
   unfolding note Authentic checkedBy digestedBy noncesBy doValues abortStep setClient
   play-give-up c two xs w cs p right go = play-quiet c (left w c) (gives-up c) w two xs cs p
-      (ap (λ (k : ℕ). setClient (s H .P) (s H .config) (s H .writers) (s H .keys) w c (onRefusal k (left w c) (record { client = w .client c; result = refused k }))) go)
+      (ap (λ (k : ℕ). setClient (s H .P) (s H .config) (s H .writers) (s H .keys) w c
+      (onRefusal k (left w c) (record { client = w .client c; result = refused k }))) go)
       refl right (λ q e o. absurd (no-some (sym decode-nothing ∙ e)))
       (λ d n h. not-write H (gives-up c) xs (λ d r n e. (let z : _≡_ {A = ℕ} 0 1 = cc in omega arith)) d n h)
       (cond-nil (accepted (perform (s H) w (give-up c) .result))) (cond-nil (accepted (perform (s H) w (give-up c) .result)))
@@ -191,7 +200,8 @@ module _ (H : Hashing) where
         refl right (λ r e o. clash o (ap (λ (u : World). accepted (perform (s H) u step .result)) (p .here) ∙ not-done))
         (λ d n h. not-write H (takes-it H c lent q own qb) xs (λ d r n e. (let z : _≡_ {A = ℕ} 0 1 = cc in omega arith)) d n h)
         (ap (λ (b : Bool). cond b (checkedBy (s H) (w .client) (serversOf H w) step) []) not-done)
-        (ap (λ (b : Bool). cond b (digestedBy (s H) (w .client) (serversOf H w) (stampedBy (w .client) (perform (s H) w step .world .client) step) step) []) not-done)
+        (ap (λ (b : Bool). cond b (digestedBy (s H) (w .client) (serversOf H w) (stampedBy (w .client) (perform (s H) w step .world .client) step)
+        step) []) not-done)
         (ap (λ (b : Bool). cond b (noncesBy (s H) step) []) not-done)
       where
         step : Step

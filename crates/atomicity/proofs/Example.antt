@@ -2,19 +2,19 @@
 -- Nothing is computed of a digest or a tag: the run is shown for all of the right lengths (the modules Playing to SceneEnds).
 -- Assumes nothing.
 --
--- Its steps, oldest first (a number is how many steps were done before), with what each premise asks of them:
---   0        client 1 begins a write                                   a nonce that no write had (fresh)
---   1 to 8   clock: server 1 lies with a high number; servers 2, 3     each packet is its party's (authentic); step 8 digests the nonce five times (uncollided)
---   9 to 16  store: server 1 lies; servers 2, 3 keep the write
---   17 to 24 complete: server 1 lies; servers 2, 3                     a server gets the nonce after its writer has shown it (unshown, step 20)
---   25       client 2 begins a write                                   another nonce than the first write's, which began before (fresh)
---   26 to 28 clock: server 2 answers the first write's stamp           a tag checks that client 1 had made (unforged, step 28)
---   29       client 2 gives up, before its complete round
---   30       wild client 16 shows server 2 a made-up candidate         no write began with its nonce (unshown)
---   31       client 9 begins a read; it is lent other bytes for keys
---   32 to 40 collect: server 1 lies with spoilt tags; servers 2, 3     step 34 is server 1's reply again: refused with 12
---   41 to 49 filter: servers 2, 3 by their history, server 4 by tag    a tag checks that client 1 had made (unforged, step 48); step 49 digests the fragments
---   50 to 57 repair: server 1 lies; servers 2, 3                       step 57 gives the content
+-- Its steps, oldest first (a number is how many steps were done before), with what the premises ask there:
+--   0         client 1 begins a write                                 fresh: a nonce that no write had
+--   1 to 8    clock: server 1 lies with a high number; servers 2, 3   authentic: each packet is its party's; uncollided: step 8 digests five times
+--   9 to 16   store: server 1 lies; servers 2, 3 keep the write
+--   17 to 24  complete: server 1 lies; servers 2, 3                   unshown: a server gets the nonce after its writer has shown it (step 20)
+--   25        client 2 begins a write                                 fresh: another nonce than the first write's
+--   26 to 28  clock: server 2 answers the first write's stamp         unforged: a tag checks that client 1 had made (step 28)
+--   29        client 2 gives up, before its complete round
+--   30        wild client 16 shows server 2 a made-up candidate       unshown: no write began with its nonce
+--   31        client 9 begins a read; it is lent other bytes for keys
+--   32 to 40  collect: server 1 lies with spoilt tags; servers 2, 3   step 34 is server 1's reply again, refused with 12
+--   41 to 49  filter: servers 2, 3 by history, server 4 by tag        unforged: step 48; uncollided: step 49 digests the fragments
+--   50 to 57  repair: server 1 lies; servers 2, 3                     step 57 gives the content
 use mathlib.Core.Path.{_≡_}
 use mathlib.Core.Bool.{true}
 use mathlib.Core.List.{List, [], _∷_}

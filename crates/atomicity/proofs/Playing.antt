@@ -25,7 +25,8 @@ use Rattle.protocol.proofs.Primitive.{real-lengths}
 use Rattle.protocol.proofs.ValueRuns.{World, nowValues}
 use Rattle.atomicity.specs.Lists.{Ever, Always, All, In}
 use Rattle.atomicity.specs.Steps.{System, StepIn, stampedBy, tagsMade, digested, allDigested, noncesGot, checkedBy, digestedBy, noncesBy}
-use Rattle.atomicity.specs.Premises.{Correct, Parties, PartyOf, Authentic, Begins, Shows, FreshNonce, NoEarlyNonce, NoForgery, NoCollision, Premise}
+use Rattle.atomicity.specs.Premises.{Correct, Parties, PartyOf, Authentic, Begins, Shows, FreshNonce, NoEarlyNonce, NoForgery, NoCollision}
+use Rattle.atomicity.specs.Premises.{Premise}
 use Rattle.atomicity.specs.Claim.{Logged, log}
 use Rattle.atomicity.proofs.Util.{all-map, all-in, within-in}
 use Rattle.atomicity.proofs.Model.{Run, perform, now, account}

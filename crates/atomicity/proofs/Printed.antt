@@ -14,8 +14,10 @@ use Rattle.cluster.specs.Ranges.{topNumber}
 use Rattle.protocol.specs.declared.Stamp.{Stamp}
 use Rattle.protocol.specs.Format.{Bytes, byte, number2, number4, run, seq, via, keep, orBlank, many, optional, printMany, print4}
 use Rattle.protocol.specs.Values.{Candidate, Share, Held, runOf}
-use Rattle.protocol.specs.Packet.{Body, Packet, stampF, anyStampF, shareF, writeF, candidateF, anyCandidateF, candidatesF, heldF, codeF, printBody, bodyF, headF, packetF, encode}
-use Rattle.protocol.specs.Packet.{clock, clockReply, store, storeReply, complete, completeReply, collect, collectReply, filter, filterReply, repair, repairReply}
+use Rattle.protocol.specs.Packet.{Body, Packet, stampF, anyStampF, shareF, writeF, candidateF, anyCandidateF, candidatesF, heldF, codeF, printBody}
+use Rattle.protocol.specs.Packet.{bodyF, headF, packetF, encode}
+use Rattle.protocol.specs.Packet.{clock, clockReply, store, storeReply, complete, completeReply, collect, collectReply, filter, filterReply, repair}
+use Rattle.protocol.specs.Packet.{repairReply}
 use Rattle.atomicity.specs.Lists.{All}
 use Rattle.atomicity.proofs.Util.{and-left, and-right}
 
@@ -54,7 +56,8 @@ bytes-ok (x ∷ xs) e = next (ltb-true x 256 (and-left (ltb x 256) _ e)) (bytes-
 
 number-bytes : (n : ℕ) → n ≤ topNumber → Byted (print4 n)
 number-bytes n h =
-    next {x = n / 16777216} (omega arith) (next {x = n / 65536 % 256} (omega arith) (next {x = n / 256 % 256} (omega arith) (next {x = n % 256} (omega arith) done)))
+    next {x = n / 16777216} (omega arith) (next {x = n / 65536 % 256} (omega arith)
+    (next {x = n / 256 % 256} (omega arith) (next {x = n % 256} (omega arith) done)))
 
 -- ---- the parts of a packet
 
@@ -152,7 +155,8 @@ packet-bytes p h =
 
 -- a head in its ranges, by one test
 abbrev pub headFits : Packet → Bool
-headFits p = ltb (p .head .kind) 256 && (ltb (p .head .client) 256 && (ltb (p .head .server) 256 && (ltb (p .head .t) 256 && leb (p .head .call) topNumber)))
+headFits p = ltb (p .head .kind) 256 && (ltb (p .head .client) 256 && (ltb (p .head .server) 256 &&
+    (ltb (p .head .t) 256 && leb (p .head .call) topNumber)))
 
 pub packet-of : (p : Packet) → headFits p ≡ true → BodyBytes (p .body) → PacketBytes p
 packet-of p e b =

@@ -104,7 +104,7 @@ module _ (H : Hashing) where
   abbrev pub stored : ℕ → Write
   stored b = record { stamp = cand .stamp; share = share b }
 
-  -- ---- what the liar and the wild client make up: a high stamp with a spoilt tag, the candidate with spoilt tags, and one of a stamp that nobody made
+  -- ---- what the liar and the wild client make up: a high stamp with a spoilt tag, the candidate with spoilt tags, and one of a made-up stamp
 
   unfoldable pub highStamp : Stamp
   highStamp = record { number = 99999998; writer = 2; tag = spoil (H .tag (s H .writers) (stampMessage 99999998 2)) }
@@ -117,7 +117,8 @@ module _ (H : Hashing) where
 
   -- ---- entries of the runs of tags and digests
 
-  tag-at : (a : Stamp) (n : List ℕ) (i : ℕ) → 1 ≤ i → i ≤ s H .config .servers → nth tagSize (runOf (s H .config .servers) (tagFor a n)) i ≡ tagFor a n i
+  tag-at : (a : Stamp) (n : List ℕ) (i : ℕ) → 1 ≤ i → i ≤ s H .config .servers → nth tagSize (runOf (s H .config .servers) (tagFor a n)) i
+      ≡ tagFor a n i
   tag-at a n i lo hi = nth-run tagSize (tagFor a n) (λ j. H .tag-size (s H .keys j) (candidateMessage a (H .digest n))) (s H .config .servers) i lo hi
 
   spoilt-at : (a : Stamp) (n : List ℕ) (i : ℕ) → 1 ≤ i → i ≤ s H .config .servers →
@@ -144,10 +145,16 @@ module _ (H : Hashing) where
   pub by-tag : (b : ℕ) → 1 ≤ b → b ≤ s H .config .servers → byTag (functions H) (s H .config) (s H .keys b) b cand ≡ true
   unfolding byTag cand candidateMade tagsOf
   by-tag b lo hi =
-      ap (λ (x : List ℕ). sameList x (tagFor (cand .stamp) nonce1 b)) (tag-at (cand .stamp) nonce1 b lo hi) ∙ same-refl (tagFor (cand .stamp) nonce1 b)
+      ap (λ (x : List ℕ). sameList x (tagFor (cand .stamp) nonce1 b)) (tag-at (cand .stamp) nonce1 b lo hi)
+      ∙ same-refl (tagFor (cand .stamp) nonce1 b)
 
   not-by-tag : (a : Stamp) (n : List ℕ) (b : ℕ) → 1 ≤ b → b ≤ s H .config .servers →
-      byTag (functions H) (s H .config) (s H .keys b) b (record { stamp = a; nonce = n; tags = runOf (s H .config .servers) (λ i. spoil (tagFor a n i)) }) ≡ false
+      byTag (functions H) (s H .config) (s H .keys b) b (record {
+        stamp = a;
+        nonce = n;
+        tags = runOf (s H .config .servers)
+            (λ i. spoil (tagFor a n i));
+      }) ≡ false
   unfolding byTag
   not-by-tag a n b lo hi = ap (λ (x : List ℕ). sameList x (tagFor a n b)) (spoilt-at a n b lo hi)
       ∙ differs (spoil (tagFor a n b)) (tagFor a n b) (spoilt-differs (tagFor a n b) (tag-long a n b))
@@ -182,7 +189,8 @@ module _ (H : Hashing) where
   pub valid-held : (b : ℕ) (tags : List ℕ) →
       valid (functions H) (s H .config) (s H .keys b) b (holding b) (record { stamp = cand .stamp; nonce = nonce1; tags = tags }) ≡ true
   unfolding valid
-  valid-held b tags = ap (λ (q : Bool). q || byTag (functions H) (s H .config) (s H .keys b) b (record { stamp = cand .stamp; nonce = nonce1; tags = tags }))
+  valid-held b tags = ap (λ (q : Bool). q || byTag (functions H) (s H .config) (s H .keys b) b
+      (record { stamp = cand .stamp; nonce = nonce1; tags = tags }))
       (by-history b tags)
 
   -- ---- what a filter's list leads to at a server: the first of two equals, by history; the one whose tag checks; or none
@@ -194,7 +202,8 @@ module _ (H : Hashing) where
   unfolding best below spoilt cand candidateMade stampOf
   best-held b =
       ap (λ (q : Bool). let x = cond q spoilt (blankCandidate (s H .config)) in
-      cond (valid (functions H) (s H .config) (s H .keys b) b (holding b) cand && below (x .stamp) (cand .stamp)) cand x) (ap (λ (q : Bool). q && true) (valid-held b (spoilt .tags)))
+      cond (valid (functions H) (s H .config) (s H .keys b) b (holding b) cand && below (x .stamp) (cand .stamp)) cand x)
+      (ap (λ (q : Bool). q && true) (valid-held b (spoilt .tags)))
       ∙ ap (λ (q : Bool). cond (q && false) cand spoilt) (valid-held b (cand .tags))
 
   -- a server that holds nothing

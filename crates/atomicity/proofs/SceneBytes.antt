@@ -20,7 +20,8 @@ use Rattle.protocol.specs.Client.{stampOf, tagsOf, candidateMade, shareMade}
 use Rattle.protocol.proofs.Primitive.{run-length}
 use Rattle.atomicity.specs.Lists.{All}
 use Rattle.atomicity.proofs.Playing.{Hashing, s, nonce1, nonce3}
-use Rattle.atomicity.proofs.Printed.{Byted, done, next, byted, bytes-ok, run-bytes, StampBytes, CandidateBytes, ShareBytes, PacketBytes, packet-of}
+use Rattle.atomicity.proofs.Printed.{Byted, done, next, byted, bytes-ok, run-bytes, StampBytes, CandidateBytes, ShareBytes, PacketBytes}
+use Rattle.atomicity.proofs.Printed.{packet-of}
 use Rattle.atomicity.proofs.Scene.{spoil, spoil-length, content1, tagFor, cand, share, spoilt, stamp7, madeUp, highStamp}
 
 small : (q : Bool) → cond q 1 0 < 256
@@ -62,7 +63,8 @@ module _ (H : Hashing) where
       record {
         stamp = stamp-bytes;
         nonce = nonce1-bytes;
-        tags = run-bytes (s H .config .servers) (λ i. spoil (tagFor H (cand H .stamp) nonce1 i)) (λ i. spoil-bytes (tag-bytes (cand H .stamp) nonce1 i));
+        tags = run-bytes (s H .config .servers) (λ i. spoil (tagFor H (cand H .stamp) nonce1 i))
+            (λ i. spoil-bytes (tag-bytes (cand H .stamp) nonce1 i));
       }
 
   pub made-up-bytes : CandidateBytes (madeUp H)
@@ -102,7 +104,12 @@ module _ (H : Hashing) where
 
   pub high-bytes : StampBytes (highStamp H)
   unfolding highStamp
-  high-bytes = record { number = omega arith; writer = omega arith; tag = spoil-bytes (byted _ (H .tag-bytes (s H .writers) (stampMessage 99999998 2))) }
+  high-bytes = record {
+    number = omega arith;
+    writer = omega arith;
+    tag = spoil-bytes
+        (byted _ (H .tag-bytes (s H .writers) (stampMessage 99999998 2)));
+  }
 
   pub high-ok : anyStampF .Ok (highStamp H)
   unfolding anyStampF orBlank stampF via seq number4 byte run highStamp
@@ -119,7 +126,19 @@ module _ (H : Hashing) where
   pub wild-ok : PacketOk wildPacket
   unfolding PacketOk packetF headF bodyF candidatesF candidateF stampF via seq keep many number4 byte run wildPacket madeUp shelf nonce3
   wild-ok = (
-    (refl, ((omega arith, omega arith), ((omega arith, omega arith), ((omega arith, omega arith), ((omega arith, omega arith), (omega arith, omega arith)))))),
+    (
+      refl,
+      (
+        (omega arith, omega arith),
+        (
+          (omega arith, omega arith),
+          (
+            (omega arith, omega arith),
+            ((omega arith, omega arith), (omega arith, omega arith)),
+          ),
+        ),
+      ),
+    ),
     (
       refl,
       (

@@ -16,7 +16,8 @@ use Rattle.protocol.specs.Memory.{held}
 use Rattle.protocol.specs.Primitives.{candidateMessage}
 use Rattle.protocol.specs.Rules.{upd, nobody, countTo, parts}
 use Rattle.protocol.specs.Server.{replyTo, byHistory, byTag, best}
-use Rattle.protocol.specs.Client.{refused, gave, collecting, filtering, awaits, isIdle, isFull, candidateMade, shareMade, stampOf, made, readRefusal, begun}
+use Rattle.protocol.specs.Client.{refused, gave, collecting, filtering, awaits, isIdle, isFull, candidateMade, shareMade, stampOf, made}
+use Rattle.protocol.specs.Client.{readRefusal, begun}
 use Rattle.protocol.specs.Runs.{take-reply}
 use Rattle.atomicity.specs.Lists.{Ever, All, flat}
 use Rattle.atomicity.specs.Steps.{nonblank, judged, serverChecks, clientChecks, proving, stampedFrom, compared}
@@ -27,10 +28,12 @@ use Rattle.atomicity.proofs.Printed.{packet-bytes}
 use Rattle.atomicity.proofs.ServeSteps.{makes-it, takes-it, contentBuffer}
 use Rattle.atomicity.proofs.CallSteps.{reads-it, play-read, refused-does, play-refused}
 use Rattle.atomicity.proofs.Talks.{exchanged, play-exchange, lie, lied, lie-ok, play-lie}
-use Rattle.atomicity.proofs.Scene.{content1, pieces, cand, share, spoilt, holding, blankOne, by-history, by-tag, valid-held, best-held, best-tagged}
+use Rattle.atomicity.proofs.Scene.{content1, pieces, cand, share, spoilt, holding, blankOne, by-history, by-tag, valid-held, best-held}
+use Rattle.atomicity.proofs.Scene.{best-tagged}
 use Rattle.atomicity.proofs.SceneRead.{knows, sifted, marked, heard, choice-is, leader-is, parts-are}
 use Rattle.atomicity.proofs.SceneWrites.{one, oneTwo, goes, ends, w0, w1, w2, w3, w4, w5, w6, w7, w8, w9, w10}
-use Rattle.atomicity.proofs.SceneReads.{others, two, blanks, told, repairs, w11, w12, w13, w14, w15, w16, w17, w18, w19, w20, w21, w22, w23, w24, w25, reads}
+use Rattle.atomicity.proofs.SceneReads.{others, two, blanks, told, repairs, w11, w12, w13, w14, w15, w16, w17, w18, w19, w20, w21, w22, w23}
+use Rattle.atomicity.proofs.SceneReads.{w24, w25, reads}
 use Rattle.atomicity.proofs.SceneShown.{wrote, secondWrite, x11, x12, x13, x14, p14, shown-14, tag-made-14}
 use Rattle.atomicity.proofs.SceneStored.{x1, x2, x3, x4, x5, x6, x7, x8, x9, x10}
 
@@ -54,11 +57,13 @@ module _ (H : Hashing) where
   x17 = takes-it H 9 others theLie (reads H .collect-1 .own) (packet-bytes theLie (reads H .collect-1 .bytes)) ∷ x16
 
   unfoldable pub x18 : Run (s H)
-  x18 = exchanged H (w17 H) 9 2 others (holding H 2) (collectReply (cand H)) (goes 0 oneTwo (collecting (upd (upd (blanks H) 1 (spoilt H)) 2 (cand H))))
+  x18 = exchanged H (w17 H) 9 2 others (holding H 2) (collectReply (cand H)) (goes 0 oneTwo
+      (collecting (upd (upd (blanks H) 1 (spoilt H)) 2 (cand H))))
       (reads H .collect-2) x17
 
   unfoldable pub x19 : Run (s H)
-  x19 = exchanged H (w18 H) 9 3 others (holding H 3) (collectReply (cand H)) (goes 0 nobody (filtering (sifted H) (λ i. noHeld))) (reads H .collect-3) x18
+  x19 = exchanged H (w18 H) 9 3 others (holding H 3) (collectReply (cand H)) (goes 0 nobody (filtering (sifted H) (λ i. noHeld)))
+      (reads H .collect-3) x18
 
   unfoldable pub x20 : Run (s H)
   x20 = exchanged H (w19 H) 9 2 others (holding H 2) (filterReply (knows H 2)) (goes 0 two (filtering (sifted H) (upd (λ i. noHeld) 2 (knows H 2))))
@@ -69,7 +74,8 @@ module _ (H : Hashing) where
       (goes 0 (upd two 3 true) (filtering (sifted H) (upd (upd (λ i. noHeld) 2 (knows H 2)) 3 (knows H 3)))) (reads H .filter-3) x20
 
   unfoldable pub x22 : Run (s H)
-  x22 = exchanged H (w21 H) 9 4 others (told H) (filterReply (record { stamp = cand H .stamp; share = none })) (goes 0 nobody (repairs H)) (reads H .filter-4) x21
+  x22 = exchanged H (w21 H) 9 4 others (told H) (filterReply (record { stamp = cand H .stamp; share = none })) (goes 0 nobody (repairs H))
+      (reads H .filter-4) x21
 
   unfoldable pub x23 : Run (s H)
   x23 = lied H (w22 H) 9 others repairReply (goes 0 one (repairs H)) (reads H .repair-1) x22
@@ -89,7 +95,8 @@ module _ (H : Hashing) where
 
   unchecked : (b : ℕ) (tags : List ℕ) → serverChecks (s H) b (holding H b) (record { stamp = cand H .stamp; nonce = nonce1; tags = tags }) ≡ []
   unfolding serverChecks
-  unchecked b tags = ap (λ (q : Bool). cond (not q && byTag (functions H) (s H .config) (s H .keys b) b (record { stamp = cand H .stamp; nonce = nonce1; tags = tags }))
+  unchecked b tags = ap (λ (q : Bool). cond (not q && byTag (functions H) (s H .config) (s H .keys b) b
+      (record { stamp = cand H .stamp; nonce = nonce1; tags = tags }))
       ((s H .keys b, candidateMessage (cand H .stamp) (H .digest nonce1)) ∷ []) []) (by-history H b tags)
 
   -- server 4 takes the right one by its tag
@@ -99,7 +106,8 @@ module _ (H : Hashing) where
 
   pub tag-checks-4 : serverChecks (s H) 4 (blankOne H) (cand H) ≡ (s H .keys 4, candidateMessage (cand H .stamp) (H .digest nonce1)) ∷ []
   unfolding serverChecks byHistory held cand candidateMade shelf
-  tag-checks-4 = ap (λ (q : Bool). cond q ((s H .keys 4, candidateMessage (cand H .stamp) (H .digest nonce1)) ∷ []) []) (by-tag H 4 (omega arith) (omega arith))
+  tag-checks-4 = ap (λ (q : Bool). cond q ((s H .keys 4, candidateMessage (cand H .stamp) (H .digest nonce1)) ∷ []) [])
+      (by-tag H 4 (omega arith) (omega arith))
 
   judged-repair : (b : ℕ) → judged (s H) b (holding H b) (repair (cand H)) ≡ cand H ∷ []
   unfolding judged best below cand candidateMade stampOf
@@ -140,14 +148,16 @@ module _ (H : Hashing) where
   pub proving-is : All (λ u. u ≡ nonce1) (proving (s H) (marked H) (heard H) (some (spoilt H)))
   unfolding proving share shareMade shelf All
   proving-is =
-      subst (λ (n : ℕ). All (λ u. u ≡ nonce1) (map (λ (p : Part). p .bytes) (parts (functions H) (s H .config) (marked H) (heard H) (spoilt H) n (s H .config .servers))))
+      subst (λ (n : ℕ). All (λ u. u ≡ nonce1) (map (λ (p : Part). p .bytes) (parts (functions H) (s H .config) (marked H) (heard H) (spoilt H) n
+      (s H .config .servers))))
       (sym (leader-is H))
       (subst (λ (l : List Part). All (λ u. u ≡ nonce1) (map (λ (p : Part). p .bytes) l)) (sym (parts-are H)) (pieces .1, (pieces .2, tt)))
 
   -- ---- it meets the premises
 
   p15 : Play H true x15 (w15 H) (theRead none none ∷ secondWrite true ∷ wrote ∷ [])
-  unfolding x1 x2 x3 x4 x5 x6 x7 x8 x9 x10 x11 x12 x13 x14 x15 w0 w1 w2 w3 w4 w5 w6 w7 w8 w9 w10 w11 w12 w13 w14 w15 upd readRefusal shelf isIdle awaits
+  unfolding x1 x2 x3 x4 x5 x6 x7 x8 x9 x10 x11 x12 x13 x14 x15 w0 w1 w2 w3 w4 w5 w6 w7 w8 w9 w10 w11 w12 w13 w14 w15 upd readRefusal shelf isIdle
+      awaits
   p15 = play-read H 9 true (x14 H) (w14 H) _ (p14 H) refl refl
 
   pub p16 : Play H true x16 (w16 H) (theRead none none ∷ secondWrite true ∷ wrote ∷ [])
@@ -163,11 +173,13 @@ module _ (H : Hashing) where
   p17 = play-refused H 11 9 others theLie (w16 H) _ _ true x16 _ p16 refl again
 
   p18 : Play H true x18 (w18 H) (theRead none none ∷ secondWrite true ∷ wrote ∷ [])
-  unfolding x18 w0 w1 w2 w3 w4 w5 w6 w7 w8 w9 w10 w11 w12 w13 w14 w15 w16 w17 w18 upd awaits made change clientChecks judged best below flat stampedFrom compared All
+  unfolding x18 w0 w1 w2 w3 w4 w5 w6 w7 w8 w9 w10 w11 w12 w13 w14 w15 w16 w17 w18 upd awaits made change clientChecks judged best below flat
+      stampedFrom compared All
   p18 = play-exchange H (w17 H) 9 2 others _ _ _ (reads H .collect-2) true x17 _ p17 tt tt (inl refl) tt tt
 
   p19 : Play H true x19 (w19 H) (theRead none none ∷ secondWrite true ∷ wrote ∷ [])
-  unfolding x19 w0 w1 w2 w3 w4 w5 w6 w7 w8 w9 w10 w11 w12 w13 w14 w15 w16 w17 w18 w19 upd awaits made change clientChecks judged best below flat stampedFrom compared All
+  unfolding x19 w0 w1 w2 w3 w4 w5 w6 w7 w8 w9 w10 w11 w12 w13 w14 w15 w16 w17 w18 w19 upd awaits made change clientChecks judged best below flat
+      stampedFrom compared All
   p19 = play-exchange H (w18 H) 9 3 others _ _ _ (reads H .collect-3) true x18 _ p18 tt tt (inl refl) tt tt
 
   -- the nonce has been shown before, and so have the tags been made
@@ -176,8 +188,10 @@ module _ (H : Hashing) where
   shown-19 = inr (inr (inr (inr (inr (inr (inr (inr (inr (inr (shown-14 H))))))))))
 
   p20 : Play H true x20 (w20 H) (theRead none none ∷ secondWrite true ∷ wrote ∷ [])
-  unfolding x20 w0 w1 w2 w3 w4 w5 w6 w7 w8 w9 w10 w11 w12 w13 w14 w15 w16 w17 w18 w19 w20 upd nobody awaits made change clientChecks flat stampedFrom compared replyTo isFull countTo quorum shelf All Ever spoilt
-  p20 = play-exchange H (w19 H) 9 2 others _ _ _ (reads H .filter-2) true x19 _ p19 (none-checked 2 (spoilt H) (spoilt H .tags) x19 (filter (sifted H)) (judged-held 2) refl)
+  unfolding x20 w0 w1 w2 w3 w4 w5 w6 w7 w8 w9 w10 w11 w12 w13 w14 w15 w16 w17 w18 w19 w20 upd nobody awaits made change clientChecks flat stampedFrom
+      compared replyTo isFull countTo quorum shelf All Ever spoilt
+  p20 = play-exchange H (w19 H) 9 2 others _ _ _ (reads H .filter-2) true x19 _ p19
+      (none-checked 2 (spoilt H) (spoilt H .tags) x19 (filter (sifted H)) (judged-held 2) refl)
       (nonce-digested (judged (s H) 2 (holding H 2) (filter (sifted H))) (spoilt H) (judged-held 2) refl) (sifted-timely 2 x19 shown-19) tt tt
 
   shown-20 : Shown H 1 nonce1 x20
@@ -185,8 +199,10 @@ module _ (H : Hashing) where
   shown-20 = inr (inr (inr shown-19))
 
   pub p21 : Play H true x21 (w21 H) (theRead none none ∷ secondWrite true ∷ wrote ∷ [])
-  unfolding x21 w0 w1 w2 w3 w4 w5 w6 w7 w8 w9 w10 w11 w12 w13 w14 w15 w16 w17 w18 w19 w20 w21 upd nobody awaits made change clientChecks flat stampedFrom compared replyTo isFull countTo quorum shelf All Ever spoilt
-  p21 = play-exchange H (w20 H) 9 3 others _ _ _ (reads H .filter-3) true x20 _ p20 (none-checked 3 (spoilt H) (spoilt H .tags) x20 (filter (sifted H)) (judged-held 3) refl)
+  unfolding x21 w0 w1 w2 w3 w4 w5 w6 w7 w8 w9 w10 w11 w12 w13 w14 w15 w16 w17 w18 w19 w20 w21 upd nobody awaits made change clientChecks flat
+      stampedFrom compared replyTo isFull countTo quorum shelf All Ever spoilt
+  p21 = play-exchange H (w20 H) 9 3 others _ _ _ (reads H .filter-3) true x20 _ p20
+      (none-checked 3 (spoilt H) (spoilt H .tags) x20 (filter (sifted H)) (judged-held 3) refl)
       (nonce-digested (judged (s H) 3 (holding H 3) (filter (sifted H))) (spoilt H) (judged-held 3) refl) (sifted-timely 3 x20 shown-20) tt tt
 
   shown-21 : Shown H 1 nonce1 x21
@@ -199,7 +215,8 @@ module _ (H : Hashing) where
 
   -- server 4 checks its own tag, and the client compares the fragments that prove its choice
   p22 : Play H true x22 (w22 H) (theRead none none ∷ secondWrite true ∷ wrote ∷ [])
-  unfolding x22 w0 w1 w2 w3 w4 w5 w6 w7 w8 w9 w10 w11 w12 w13 w14 w15 w16 w17 w18 w19 w20 w21 w22 upd nobody awaits made change clientChecks flat stampedFrom compared replyTo isFull countTo quorum shelf All Ever cand candidateMade
+  unfolding x22 w0 w1 w2 w3 w4 w5 w6 w7 w8 w9 w10 w11 w12 w13 w14 w15 w16 w17 w18 w19 w20 w21 w22 upd nobody awaits made change clientChecks flat
+      stampedFrom compared replyTo isFull countTo quorum shelf All Ever cand candidateMade
   p22 = play-exchange H (w21 H) 9 4 others _ _ _ (reads H .filter-4) true x21 _ p21
       (subst (λ (l : List Candidate). All (λ kb. Made H kb x21) (flat (serverChecks (s H) 4 (blankOne H)) l)) (sym judged-tagged)
       (subst (λ (l : List (List ℕ × List ℕ)). All (λ kb. Made H kb x21) (l ++ [])) (sym tag-checks-4) (tag-made-21, tt)))
@@ -207,7 +224,8 @@ module _ (H : Hashing) where
       (subst (λ (o : Option Candidate). All (λ u. u ≡ nonce1) (proving (s H) (marked H) (heard H) o)) (sym (choice-is H)) proving-is)
 
   p23 : Play H true x23 (w23 H) (theRead none none ∷ secondWrite true ∷ wrote ∷ [])
-  unfolding x23 w0 w1 w2 w3 w4 w5 w6 w7 w8 w9 w10 w11 w12 w13 w14 w15 w16 w17 w18 w19 w20 w21 w22 w23 upd awaits change clientChecks flat stampedFrom compared All
+  unfolding x23 w0 w1 w2 w3 w4 w5 w6 w7 w8 w9 w10 w11 w12 w13 w14 w15 w16 w17 w18 w19 w20 w21 w22 w23 upd awaits change clientChecks flat stampedFrom
+      compared All
   p23 = play-lie H (w22 H) 9 others _ _ (reads H .repair-1) true x22 _ p22 tt tt
 
   shown-23 : Shown H 1 nonce1 x23
@@ -215,8 +233,10 @@ module _ (H : Hashing) where
   shown-23 = inr (inr (inr (inr (inr shown-21))))
 
   p24 : Play H true x24 (w24 H) (theRead none none ∷ secondWrite true ∷ wrote ∷ [])
-  unfolding x24 w0 w1 w2 w3 w4 w5 w6 w7 w8 w9 w10 w11 w12 w13 w14 w15 w16 w17 w18 w19 w20 w21 w22 w23 w24 upd awaits made change clientChecks flat stampedFrom compared All Ever cand candidateMade
-  p24 = play-exchange H (w23 H) 9 2 others _ _ _ (reads H .repair-2) true x23 _ p23 (none-checked 2 (cand H) (cand H .tags) x23 (repair (cand H)) (judged-repair 2) refl)
+  unfolding x24 w0 w1 w2 w3 w4 w5 w6 w7 w8 w9 w10 w11 w12 w13 w14 w15 w16 w17 w18 w19 w20 w21 w22 w23 w24 upd awaits made change clientChecks flat
+      stampedFrom compared All Ever cand candidateMade
+  p24 = play-exchange H (w23 H) 9 2 others _ _ _ (reads H .repair-2) true x23 _ p23
+      (none-checked 2 (cand H) (cand H .tags) x23 (repair (cand H)) (judged-repair 2) refl)
       (nonce-digested (judged (s H) 2 (holding H 2) (repair (cand H))) (cand H) (judged-repair 2) refl) (repair-timely 2 x23 shown-23) tt tt
 
   shown-24 : Shown H 1 nonce1 x24
@@ -225,6 +245,8 @@ module _ (H : Hashing) where
 
   -- the read gives what was written
   pub p25 : Play H true x25 (w25 H) (theRead (some 57) (some content1) ∷ secondWrite true ∷ wrote ∷ [])
-  unfolding x1 x2 x3 x4 x5 x6 x7 x8 x9 x10 x11 x12 x13 x14 x15 x16 x17 x18 x19 x20 x21 x22 x23 x24 x25 w0 w1 w2 w3 w4 w5 w6 w7 w8 w9 w10 w11 w12 w13 w14 w15 w16 w17 w18 w19 w20 w21 w22 w23 w24 w25 upd awaits made change clientChecks flat stampedFrom compared All Ever cand candidateMade
-  p25 = play-exchange H (w24 H) 9 3 others _ _ _ (reads H .repair-3) true x24 _ p24 (none-checked 3 (cand H) (cand H .tags) x24 (repair (cand H)) (judged-repair 3) refl)
+  unfolding x1 x2 x3 x4 x5 x6 x7 x8 x9 x10 x11 x12 x13 x14 x15 x16 x17 x18 x19 x20 x21 x22 x23 x24 x25 w0 w1 w2 w3 w4 w5 w6 w7 w8 w9 w10 w11 w12 w13
+      w14 w15 w16 w17 w18 w19 w20 w21 w22 w23 w24 w25 upd awaits made change clientChecks flat stampedFrom compared All Ever cand candidateMade
+  p25 = play-exchange H (w24 H) 9 3 others _ _ _ (reads H .repair-3) true x24 _ p24
+      (none-checked 3 (cand H) (cand H .tags) x24 (repair (cand H)) (judged-repair 3) refl)
       (nonce-digested (judged (s H) 3 (holding H 3) (repair (cand H))) (cand H) (judged-repair 3) refl) (repair-timely 3 x24 shown-24) tt tt

@@ -15,7 +15,8 @@ use Rattle.protocol.specs.Client.{Turn, accepted, refused, begun, made, candida
 use Rattle.protocol.specs.Runs.{Lent, Account, take-reply, serve}
 use Rattle.protocol.proofs.ValueRuns.{World, After, nowValues}
 use Rattle.atomicity.specs.Lists.{Ever, flat}
-use Rattle.atomicity.specs.Steps.{StepIn, tagsChecked, digested, noncesGot, offered, judged, serverChecks, clientChecks, stampedFrom, compared, digestsWith}
+use Rattle.atomicity.specs.Steps.{StepIn, tagsChecked, digested, noncesGot, offered, judged, serverChecks, clientChecks, stampedFrom}
+use Rattle.atomicity.specs.Steps.{compared, digestsWith}
 use Rattle.atomicity.specs.Claim.{Logged}
 use Rattle.atomicity.proofs.Model.{Run, perform, now}
 use Rattle.atomicity.proofs.Playing.{Hashing, s, A, nonce1, nonce3, checkedIn, digestedIn, noncesIn, Play}
@@ -29,7 +30,8 @@ use Rattle.atomicity.proofs.SceneWrites.{writes, w0, w1, w2, w3, w4, w5
 use Rattle.atomicity.proofs.SceneReads.{others, reads, w11, w12, w13, w14, w15, w16, w17, w18, w19, w20, w21}
 use Rattle.atomicity.proofs.SceneStored.{x1, x2, x3, x4, x5, x6, x7, x8, x9, x10, p3, p8}
 use Rattle.atomicity.proofs.SceneShown.{x11, x12, x13, x14, p11, p13, wild, tag-checks}
-use Rattle.atomicity.proofs.SceneEnds.{x15, x16, x17, x18, x19, x20, x21, x22, x23, x24, x25, p16, p21, judged-tagged, tag-checks-4, theLie, again}
+use Rattle.atomicity.proofs.SceneEnds.{x15, x16, x17, x18, x19, x20, x21, x22, x23, x24, x25, p16, p21, judged-tagged, tag-checks-4, theLie}
+use Rattle.atomicity.proofs.SceneEnds.{again}
 
 -- what some earlier step had, some step had
 pub ever-later : {X : Type 0} (P : X → List X → Type 0) (n : ℕ) (xs : List X) → Ever P (drop n xs) → Ever P xs
@@ -101,12 +103,14 @@ module _ (H : Hashing) where
   -- the wild client shows server 2 a nonce that no write has
   at-30 : Ever (λ x xs. noncesGot (s H) (A H) x xs ≡ nonce3 ∷ []) (x14 H)
   unfolding Ever x14 wildPacket madeUp
-  at-30 = inl (ap (λ (u : World). noncesIn H u (serve 2 (encode (wildPacket H)) packetBuffer)) (p13 H .here) ∙ serve-nonces H (w13 H) 2 (wildPacket H) _ _ (wild H))
+  at-30 = inl (ap (λ (u : World). noncesIn H u (serve 2 (encode (wildPacket H)) packetBuffer)) (p13 H .here)
+      ∙ serve-nonces H (w13 H) 2 (wildPacket H) _ _ (wild H))
 
   -- the liar's reply comes again and is refused
   at-34 : Ever (λ x xs. A H .result x xs ≡ refused 12) (x17 H)
   unfolding Ever x17
-  at-34 = inl (ap (λ (u : World). perform (s H) u (take-reply 9 others (encode (theLie H)) contentBuffer) .result) (p16 H .here) ∙ ap (λ (a : After). a .result) (again H))
+  at-34 = inl (ap (λ (u : World). perform (s H) u (take-reply 9 others (encode (theLie H)) contentBuffer) .result) (p16 H .here)
+      ∙ ap (λ (a : After). a .result) (again H))
 
   -- server 4 checks its tag of the candidate, and the client digests the two fragments that prove it
   at-48 : Ever (λ x xs. tagsChecked (s H) (A H) x xs ≡ (s H .keys 4, candidateMessage (cand H .stamp) (H .digest nonce1)) ∷ []) (x22 H)

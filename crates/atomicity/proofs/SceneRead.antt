@@ -16,7 +16,8 @@ use Rattle.erasure.specs.Fragments.{Part, fragment, restored}
 use Rattle.protocol.specs.Format.{Bytes}
 use Rattle.protocol.specs.Values.{Candidate, Held, sameList, sameStamp, sameCandidate, nth, digestSize, blankCandidate, noHeld, isBlank, below}
 use Rattle.protocol.specs.Primitives.{real}
-use Rattle.protocol.specs.Rules.{ByServer, upd, nobody, countTo, any, keep, first, gather, lower, live, fits, sameShare, agrees, leads, leader, highest, choice, proven, parts, restoredBy}
+use Rattle.protocol.specs.Rules.{ByServer, upd, nobody, countTo, any, keep, first, gather, lower, live, fits, sameShare, agrees, leads, leader}
+use Rattle.protocol.specs.Rules.{highest, choice, proven, parts, restoredBy}
 use Rattle.protocol.specs.Client.{Client, more, gave, idle, found, judge, onto, repairing, stampOf, candidateMade, shareMade}
 use Rattle.protocol.proofs.Equal.{same-refl, stamp-refl, candidate-refl}
 use Rattle.protocol.proofs.Primitive.{nth-run}
@@ -46,7 +47,8 @@ module _ (H : Hashing) where
   unfolding gather upd any isBlank spoilt cand candidateMade stampOf
   gather-three =
       ap (λ (l : List Candidate). cond (any (sameCandidate (cand H)) l) l (l ++ (cand H ∷ []))) gather-two
-      ∙ ap (λ (q : Bool). cond (q || (sameCandidate (cand H) (cand H) || false)) (spoilt H ∷ cand H ∷ []) (spoilt H ∷ cand H ∷ cand H ∷ [])) (candidates-differ H)
+      ∙ ap (λ (q : Bool). cond (q || (sameCandidate (cand H) (cand H) || false)) (spoilt H ∷ cand H ∷ []) (spoilt H ∷ cand H ∷ cand H ∷ []))
+      (candidates-differ H)
       ∙ ap (λ (q : Bool). cond (q || false) (spoilt H ∷ cand H ∷ []) (spoilt H ∷ cand H ∷ cand H ∷ [])) (candidate-refl (cand H))
 
   pub gathered : gather shown (s H .config .servers) ≡ spoilt H ∷ cand H ∷ []
@@ -68,7 +70,8 @@ module _ (H : Hashing) where
   unfolding share shareMade
   digest-at b lo hi =
       ap (sameList (H .digest (share H b .part)))
-      (nth-run digestSize (λ i. H .digest (fragment (s H .config .points) (s H .config .shares) content1 i)) (λ i. H .digest-size _) (s H .config .servers) b lo hi)
+      (nth-run digestSize (λ i. H .digest (fragment (s H .config .points) (s H .config .shares) content1 i)) (λ i. H .digest-size _)
+      (s H .config .servers) b lo hi)
       ∙ same-refl (H .digest (share H b .part))
 
   size-in : (b : ℕ) → within 1 1024 (share H b .size) ≡ true
@@ -105,7 +108,8 @@ module _ (H : Hashing) where
   -- the shares of two servers are of one group
   one-group : (b c : ℕ) → sameShare (functions H) (s H .config) (some (share H b)) (some (share H c)) ≡ true
   unfolding share shareMade
-  one-group b c = λ i. eq-eqb (length content1) (length content1) refl i && (same-refl (share H b .digests) i && (same-refl (share H b .nonceDigest) i && same-refl (share H b .tags) i))
+  one-group b c = λ i. eq-eqb (length content1) (length content1) refl i && (same-refl (share H b .digests) i &&
+      (same-refl (share H b .nonceDigest) i && same-refl (share H b .tags) i))
 
   abbrev grouped : ByServer Bool
   grouped i = agrees (functions H) (s H .config) marked heard (spoilt H) 2 i
@@ -186,7 +190,8 @@ module _ (H : Hashing) where
   restored-is : restoredBy (functions H) (s H .config) marked heard (spoilt H) 2 (some (share H 2)) ≡ content1
   unfolding restoredBy share shareMade real shelf AllPairs All
   restored-is = ap (λ (ps : List Part). restored (s H .config .points) (s H .config .shares) (length content1) ps) parts-are
-      ∙ real-restores 1 (omega arith) (omega arith) content1 content-bytes (2 ∷ 3 ∷ []) ((refl, tt), (tt, tt)) ((omega arith, omega arith), ((omega arith, omega arith), tt))
+      ∙ real-restores 1 (omega arith) (omega arith) content1 content-bytes (2 ∷ 3 ∷ []) ((refl, tt), (tt, tt))
+      ((omega arith, omega arith), ((omega arith, omega arith), tt))
       (omega arith)
 
   -- the list is judged: the candidate with the right tags is repaired, and the content waits
@@ -198,4 +203,8 @@ module _ (H : Hashing) where
       (λ i. judge (functions H) (s H .config) 9 (s H .writers) (s H .keys) cl marked sifted heard (live-is i) (choice-is i))
       ∙ ap (found (functions H) (s H .config) 9 (s H .writers) (s H .keys) cl marked heard (spoilt H)) leader-is
       ∙ (λ i. cond (tags-differ H i) (record { client = onto cl nobody idle; result = gave (spoilt H .stamp .number) (restored-is i) })
-      (record { client = onto cl nobody (repairing (record { stamp = spoilt H .stamp; nonce = spoilt H .nonce; tags = cand H .tags }) (restored-is i)); result = more }))
+      (record {
+        client = onto cl nobody (repairing (record { stamp = spoilt H .stamp; nonce = spoilt H .nonce; tags = cand H .tags })
+            (restored-is i));
+        result = more;
+      }))

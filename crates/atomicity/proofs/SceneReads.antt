@@ -15,7 +15,8 @@ use Rattle.protocol.specs.Packet.{Body, clockReply, collectReply, filter, filte
 use Rattle.protocol.specs.Memory.{held}
 use Rattle.protocol.specs.Rules.{ByServer, upd, nobody, countTo}
 use Rattle.protocol.specs.Server.{Server, Acted, raise, act, barred, replyTo, serverRefusal}
-use Rattle.protocol.specs.Client.{Hand, refused, gave, clocking, collecting, filtering, repairing, awaits, isIdle, stampOf, candidateMade, made, onto, higher, isFull, update, tooHigh, makeRefusal, takeRefusal, turnOn, highAt, begun}
+use Rattle.protocol.specs.Client.{Hand, refused, gave, clocking, collecting, filtering, repairing, awaits, isIdle, stampOf, candidateMade, made}
+use Rattle.protocol.specs.Client.{onto, higher, isFull, update, tooHigh, makeRefusal, takeRefusal, turnOn, highAt, begun}
 use Rattle.protocol.specs.Runs.{Lent}
 use Rattle.protocol.proofs.ValueRuns.{World}
 use Rattle.atomicity.specs.Lists.{All}
@@ -26,7 +27,8 @@ use Rattle.atomicity.proofs.ServeSteps.{Owned, served}
 use Rattle.atomicity.proofs.TakeSteps.{took}
 use Rattle.atomicity.proofs.CallSteps.{began, left}
 use Rattle.atomicity.proofs.Talks.{Talk, talk-of, Lie, lie-of}
-use Rattle.atomicity.proofs.Scene.{content1, content2, pieces, cand, share, stored, spoilt, holding, blankOne, stamp-checks, held-own, best-held, best-tagged, valid-held}
+use Rattle.atomicity.proofs.Scene.{content1, content2, pieces, cand, share, stored, spoilt, holding, blankOne, stamp-checks, held-own}
+use Rattle.atomicity.proofs.Scene.{best-held, best-tagged, valid-held}
 use Rattle.atomicity.proofs.SceneRead.{gathered, knows, judged-is, sifted}
 use Rattle.atomicity.proofs.SceneBytes.{stamp-bytes, cand-bytes, share-bytes, spoilt-bytes, spoilt-ok}
 use Rattle.atomicity.proofs.SceneWrites.{ours, one, oneTwo, goes, ends, w0, w1, w2, w3, w4, w5, w6, w7, w8, w9, w10}
@@ -111,11 +113,19 @@ module _ (H : Hashing) where
   filter-held : (b : ℕ) → actsOn b (holding H b) (filter (sifted H)) ≡ record { server = holding H b; reply = filterReply (knows H b) }
   unfolding act raise below spoilt cand candidateMade stampOf
   filter-held b =
-      ap (λ (c : Candidate). record { server = raise c (holding H b); reply = filterReply (record { stamp = c .stamp; share = held (c .stamp) (stored H b ∷ []) }) })
+      ap (λ (c : Candidate). record {
+        server = raise c (holding H b);
+        reply = filterReply
+            (record { stamp = c .stamp; share = held (c .stamp) (stored H b ∷ []) });
+      })
       (best-held H b)
       ∙ ap (λ (o : Option Share). record { server = holding H b; reply = filterReply (record { stamp = cand H .stamp; share = o }) }) (held-own H b)
 
-  filter-tagged : actsOn 4 (blankOne H) (filter (sifted H)) ≡ record { server = told; reply = filterReply (record { stamp = cand H .stamp; share = none }) }
+  filter-tagged : actsOn 4 (blankOne H) (filter (sifted H)) ≡ record {
+    server = told;
+    reply = filterReply
+        (record { stamp = cand H .stamp; share = none });
+  }
   unfolding act raise below held cand candidateMade stampOf shelf
   filter-tagged =
       ap (λ (c : Candidate). record { server = raise c (blankOne H); reply = filterReply (record { stamp = c .stamp; share = held (c .stamp) [] }) })
@@ -123,7 +133,8 @@ module _ (H : Hashing) where
 
   repair-held : (b : ℕ) → actsOn b (holding H b) (repair (cand H)) ≡ record { server = holding H b; reply = repairReply }
   unfolding act raise below cand candidateMade stampOf
-  repair-held b = ap (λ (q : Bool). record { server = cond q (raise (cand H) (holding H b)) (holding H b); reply = repairReply }) (valid-held H b (cand H .tags))
+  repair-held b = ap (λ (q : Bool). record { server = cond q (raise (cand H) (holding H b)) (holding H b); reply = repairReply })
+      (valid-held H b (cand H .tags))
 
   unowned : Owned H 9 others
   unowned own = clash own refl
@@ -135,7 +146,8 @@ module _ (H : Hashing) where
     pub collect-1 : Lie H w15 9 others (collectReply (spoilt H)) (goes 0 one (collecting (upd blanks 1 (spoilt H))))
     pub again : takeRefusal (s H .config) 9 (some (replyTo (made 1 9 (w15 .client 9) 1) (collectReply (spoilt H)))) 1 8 one
         (highAt (functions H) (s H .config) 9 (s H .writers) (s H .keys) (w16 .client 9)) contentRoom ≡ 12
-    pub collect-2 : Talk H w17 9 2 others (holding H 2) (collectReply (cand H)) (goes 0 oneTwo (collecting (upd (upd blanks 1 (spoilt H)) 2 (cand H))))
+    pub collect-2 : Talk H w17 9 2 others (holding H 2) (collectReply (cand H)) (goes 0 oneTwo
+        (collecting (upd (upd blanks 1 (spoilt H)) 2 (cand H))))
     pub collect-3 : Talk H w18 9 3 others (holding H 3) (collectReply (cand H)) (goes 0 nobody (filtering (sifted H) (λ i. noHeld)))
     pub filter-2 : Talk H w19 9 2 others (holding H 2) (filterReply (knows H 2)) (goes 0 two (filtering (sifted H) (upd (λ i. noHeld) 2 (knows H 2))))
     pub filter-3 : Talk H w20 9 3 others (holding H 3) (filterReply (knows H 3))
@@ -146,7 +158,9 @@ module _ (H : Hashing) where
     pub repair-3 : Talk H w24 9 3 others (holding H 3) repairReply (ends 0 (gave 1 content1))
 
   pub reads : Reads
-  unfolding w0 w1 w2 w3 w4 w5 w6 w7 w8 w9 w10 w11 w12 w13 w14 w15 w16 w17 w18 w19 w20 w21 w22 w23 w24 upd nobody begun shelf quorum awaits isIdle made makeRefusal takeRefusal serverRefusal barred turnOn highAt update tooHigh isFull countTo higher onto replyTo All act below stampOf candidateMade cand
+  unfolding w0 w1 w2 w3 w4 w5 w6 w7 w8 w9 w10 w11 w12 w13 w14 w15 w16 w17 w18 w19 w20 w21 w22 w23 w24 upd nobody begun shelf quorum awaits isIdle made
+      makeRefusal takeRefusal serverRefusal barred turnOn highAt update tooHigh isFull countTo higher onto replyTo All act below stampOf candidateMade
+      cand
   reads =
       record {
         clock-2 = talk-of H w11 2 2 ours (holding H 2) (clockReply (cand H .stamp)) _ refl (λ own. (refl, refl)) tt (stamp-bytes H) refl

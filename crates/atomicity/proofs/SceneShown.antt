@@ -1,4 +1,5 @@
--- The example from client 2's write on, step by step: client 2 takes a stamp whose tag checks and gives up, and the wild client shows a server what it
+-- The example from client 2's write on, step by step: client 2 takes a stamp whose tag checks and gives up, and the wild client shows a server what
+-- it
 -- made up. The run meets the premises.
 -- Assumes nothing.
 use mathlib.Core.Path.{_≡_, refl, sym, ap, subst}
@@ -66,7 +67,8 @@ module _ (H : Hashing) where
   x13 = gives-up H 2 ∷ x12
 
   pub wild : Serves H (w13 H) 2 (wildPacket H) (holding H 2) (filterReply noHeld)
-  unfolding w0 w1 w2 w3 w4 w5 w6 w7 w8 w9 w10 w11 w12 w13 upd shelf serverRefusal barred wildPacket act raise below held sameStamp cand candidateMade stampOf
+  unfolding w0 w1 w2 w3 w4 w5 w6 w7 w8 w9 w10 w11 w12 w13 upd shelf serverRefusal barred wildPacket act raise below held sameStamp cand candidateMade
+      stampOf
   wild =
       record {
         right = refl;
@@ -75,7 +77,11 @@ module _ (H : Hashing) where
         bytes = packet-bytes (wildPacket H) (wild-bytes H);
         request = refl;
         lets = refl;
-        does = ap (λ (c : Candidate). record { server = raise c (holding H 2); reply = filterReply (record { stamp = c .stamp; share = held (c .stamp) (stored H 2 ∷ []) }) })
+        does = ap (λ (c : Candidate). record {
+          server = raise c (holding H 2);
+          reply = filterReply
+              (record { stamp = c .stamp; share = held (c .stamp) (stored H 2 ∷ []) });
+        })
             (best-made-up H 2 (omega arith) (omega arith));
       }
 
@@ -102,7 +108,8 @@ module _ (H : Hashing) where
 
   pub p11 : Play H true x11 (w11 H) (secondWrite false ∷ wrote ∷ [])
   unfolding x1 x2 x3 x4 x5 x6 x7 x8 x9 x10 x11 w0 w1 w2 w3 w4 w5 w6 w7 w8 w9 w10 w11 upd writeRefusal shelf isIdle awaits content2
-  p11 = play-write H 2 content2 nonce2 content2-bytes nonce2-bytes nonce2-size false true (x10 H) (w10 H) _ (p10 H) (λ y. refl) refl refl (inr (refl, refl))
+  p11 = play-write H 2 content2 nonce2 content2-bytes nonce2-bytes nonce2-size false true (x10 H) (w10 H) _ (p10 H) (λ y. refl) refl refl
+      (inr (refl, refl))
       new-2 ungot-2
 
   -- the reply's stamp has a number above the highest so far, and its tag checks

@@ -29,7 +29,8 @@ use Rattle.atomicity.proofs.ServeSteps.{makes-it, sent-ok, made-sent, p
 use Rattle.atomicity.proofs.CallSteps.{writing, play-write}
 use Rattle.atomicity.proofs.Talks.{exchanged, play-exchange, lied, play-lie}
 use Rattle.atomicity.proofs.Scene.{content1, pieces, cand, highStamp, high-unchecked, holding, blankOne}
-use Rattle.atomicity.proofs.SceneWrites.{ours, one, oneTwo, goes, ends, clocks, stores, completes, keeping, w0, w1, w2, w3, w4, w5, w6, w7, w8, w9, w10, writes}
+use Rattle.atomicity.proofs.SceneWrites.{ours, one, oneTwo, goes, ends, clocks, stores, completes, keeping, w0, w1, w2, w3, w4, w5, w6, w7}
+use Rattle.atomicity.proofs.SceneWrites.{w8, w9, w10, writes}
 
 pub content1-bytes : Bytes content1
 unfolding content1
@@ -94,7 +95,8 @@ module _ (H : Hashing) where
   p2 : Play H false x2 (w2 H) (firstWrite none none ∷ [])
   unfolding x1 x2 w0 w1 w2 upd begun awaits change clientChecks flat stampedFrom compared All highStamp
   p2 = play-lie H (w1 H) 1 ours _ _ (writes H .clock-1) false x1 _ p1
-      (subst (λ (q : Bool). All (λ kb. Made H kb x1) (cond (q && true) ((s H .writers, stampMessage 99999998 2) ∷ []) [])) (sym (high-unchecked H)) tt) tt
+      (subst (λ (q : Bool). All (λ kb. Made H kb x1) (cond (q && true) ((s H .writers, stampMessage 99999998 2) ∷ []) []))
+      (sym (high-unchecked H)) tt) tt
 
   pub p3 : Play H false x3 (w3 H) (firstWrite none none ∷ [])
   unfolding x3 w0 w1 w2 w3 upd begun awaits made change clientChecks checks isBlank judged best below flat stampedFrom compared All
@@ -102,7 +104,8 @@ module _ (H : Hashing) where
 
   -- the end of clock digests the nonce five times: as itself, and as each fragment
   p4 : Play H false x4 (w4 H) (firstWrite none none ∷ [])
-  unfolding x4 w0 w1 w2 w3 w4 upd begun awaits made change clientChecks checks isBlank judged best below flat stampedFrom compared digestsWith upTo shelf All
+  unfolding x4 w0 w1 w2 w3 w4 upd begun awaits made change clientChecks checks isBlank judged best below flat stampedFrom compared digestsWith upTo
+      shelf All
   p4 = play-exchange H (w3 H) 1 3 ours _ _ _ (writes H .clock-3) false x3 _ p3 tt tt (inl refl) tt
       (refl, (pieces .0, (pieces .1, (pieces .2, (pieces .3, tt)))))
 
@@ -146,7 +149,8 @@ module _ (H : Hashing) where
   shown-9 = inr (inr shown-8)
 
   pub p10 : Play H false x10 (w10 H) (firstWrite (some 16) (some 24) ∷ [])
-  unfolding x1 x2 x3 x4 x5 x6 x7 x8 x9 x10 w4 w5 w6 w7 w8 w9 w10 upd awaits made change clientChecks judged best below flat stampedFrom compared All cand candidateMade Ever
+  unfolding x1 x2 x3 x4 x5 x6 x7 x8 x9 x10 w4 w5 w6 w7 w8 w9 w10 upd awaits made change clientChecks judged best below flat stampedFrom compared All
+      cand candidateMade Ever
   p10 = play-exchange H (w9 H) 1 3 ours _ _ _ (writes H .complete-3) false x9 _ p9 tt tt (inr (inr shown-9, (inl refl, tt))) tt tt
 
   -- ---- what has been made and shown by then

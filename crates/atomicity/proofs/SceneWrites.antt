@@ -1,4 +1,5 @@
--- The example's writes: the worlds that client 1's write leads through, with a liar that answers each round, and client 2's write up to its first reply.
+-- The example's writes: the worlds that client 1's write leads through, with a liar that answers each round, and client 2's write up to its first
+-- reply.
 -- What each exchange does is computed; tags and digests stand in it as they are.
 -- Assumes nothing.
 use mathlib.Core.Path.{refl, ap}
@@ -13,7 +14,9 @@ use Rattle.protocol.specs.Packet.{clockReply, storeReply, completeReply, codeF}
 use Rattle.protocol.specs.Memory.{held}
 use Rattle.protocol.specs.Rules.{ByServer, upd, nobody, countTo}
 use Rattle.protocol.specs.Server.{Server, kept, raise, act, barred, replyTo, serverRefusal, blankServer}
-use Rattle.protocol.specs.Client.{Hand, Turn, Result, newClient, more, written, idle, clocking, storing, completing, awaits, isIdle, stampOf, candidateMade, sharesMade, prepared, made, onto, checks, higher, isFull, update, tooHigh, makeRefusal, takeRefusal, turnOn, highAt, begun}
+use Rattle.protocol.specs.Client.{Hand, Turn, Result, newClient, more, written, idle, clocking, storing, completing, awaits, isIdle, stampOf}
+use Rattle.protocol.specs.Client.{candidateMade, sharesMade, prepared, made, onto, checks, higher, isFull, update, tooHigh, makeRefusal}
+use Rattle.protocol.specs.Client.{takeRefusal, turnOn, highAt, begun}
 use Rattle.protocol.specs.Runs.{Lent}
 use Rattle.protocol.proofs.ValueRuns.{World}
 use Rattle.atomicity.proofs.Playing.{Hashing, functions, desk, s, nonce1}
@@ -112,7 +115,9 @@ module _ (H : Hashing) where
     pub complete-3 : Talk H w9 1 3 ours (holding H 3) completeReply (ends 1 (written 1))
 
   pub writes : Writes
-  unfolding w0 w1 w2 w3 w4 w5 w6 w7 w8 w9 upd nobody begun shelf quorum awaits isIdle made makeRefusal takeRefusal serverRefusal barred act kept held raise below turnOn highAt update tooHigh isFull countTo higher checks isBlank onto replyTo prepared cand candidateMade stampOf sharesMade share highStamp codeF keepF byte
+  unfolding w0 w1 w2 w3 w4 w5 w6 w7 w8 w9 upd nobody begun shelf quorum awaits isIdle
+      made makeRefusal takeRefusal serverRefusal barred act kept held raise below turnOn highAt update tooHigh isFull countTo higher checks
+      isBlank onto replyTo prepared cand candidateMade stampOf sharesMade share highStamp codeF keepF byte
   writes =
       record {
         clock-1 = lie-of H w1 1 ours _ _ refl (λ own. (refl, refl)) (high-ok H) (high-bytes H)
@@ -120,8 +125,10 @@ module _ (H : Hashing) where
         clock-2 = talk-of H w2 1 2 ours (blankOne H) _ _ refl (λ own. (refl, refl)) tt blank-bytes refl refl;
         clock-3 = talk-of H w3 1 3 ours (blankOne H) _ _ refl (λ own. (refl, refl)) tt blank-bytes refl refl;
         store-1 = lie-of H w4 1 ours (storeReply 0) _ refl (λ own. (refl, refl)) (refl, (omega arith, omega arith)) (omega arith) refl;
-        store-2 = talk-of H w5 1 2 ours (keeping 2) (storeReply 0) _ refl (λ own. (refl, refl)) (stamp-bytes H, share-bytes H 2 (pieces .1)) (omega arith) refl refl;
-        store-3 = talk-of H w6 1 3 ours (keeping 3) (storeReply 0) _ refl (λ own. (refl, refl)) (stamp-bytes H, share-bytes H 3 (pieces .2)) (omega arith) refl refl;
+        store-2 = talk-of H w5 1 2 ours (keeping 2) (storeReply 0) _ refl (λ own. (refl, refl)) (stamp-bytes H, share-bytes H 2 (pieces .1))
+            (omega arith) refl refl;
+        store-3 = talk-of H w6 1 3 ours (keeping 3) (storeReply 0) _ refl (λ own. (refl, refl)) (stamp-bytes H, share-bytes H 3 (pieces .2))
+            (omega arith) refl refl;
         complete-1 = lie-of H w7 1 ours completeReply _ refl (λ own. (refl, refl)) tt tt refl;
         complete-2 = talk-of H w8 1 2 ours (holding H 2) completeReply _ refl (λ own. (refl, refl)) (cand-bytes H) tt refl refl;
         complete-3 = talk-of H w9 1 3 ours (holding H 3) completeReply _ refl (λ own. (refl, refl)) (cand-bytes H) tt refl refl;

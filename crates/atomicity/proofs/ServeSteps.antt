@@ -29,7 +29,8 @@ use Rattle.atomicity.specs.Premises.{Authentic, Begins, FreshNonce, Sent
 use Rattle.atomicity.specs.Claim.{Logged, log, note}
 use Rattle.atomicity.proofs.Util.{clash, no-some}
 use Rattle.atomicity.proofs.Model.{Run, perform, now}
-use Rattle.atomicity.proofs.Playing.{Hashing, functions, function-lengths, desk, who, nonce1, s, A, serversOf, checkedIn, digestedIn, noncesIn, Made, Timely, Play, play-on}
+use Rattle.atomicity.proofs.Playing.{Hashing, functions, function-lengths, desk, who, nonce1, s, A, serversOf, checkedIn, digestedIn}
+use Rattle.atomicity.proofs.Playing.{noncesIn, Made, Timely, Play, play-on}
 
 -- ---- output buffers
 
@@ -123,7 +124,8 @@ module _ (H : Hashing) where
   made-sent c b xs w here go =
       ap (λ (v : World). makeStep (s H .config) c (v .client c) b (length packetBuffer) .packet) here
       ∙ ap (λ (n : ℕ). makeStep (s H .config) c (w .client c) b n .packet) packet-room
-      ∙ ap (λ (k : ℕ). onRefusal {A = Making} k (record { number = 0; packet = some (made (s H .config .t) c (w .client c) b) }) (record { number = k; packet = none }) .packet) go
+      ∙ ap (λ (k : ℕ). onRefusal {A = Making} k (record { number = 0; packet = some (made (s H .config .t) c (w .client c) b) })
+      (record { number = k; packet = none }) .packet) go
 
   -- ---- a server takes a packet
 
@@ -156,7 +158,12 @@ module _ (H : Hashing) where
         (record { number = n; server = w .server b; reply = none })) (k .lets)
         ∙ ap (λ (a : Acted). record { number = 0; server = a .server; reply = some (replyTo p (a .reply)) }) (k .does)
 
-    pub performed : perform (s H) w (serve b (encode p) packetBuffer) ≡ record { world = served w b v; result = resultOf 0; sent = some (replyTo p r) }
+    pub performed : perform (s H) w (serve b (encode p) packetBuffer) ≡ record {
+      world = served w b v;
+      result = resultOf 0;
+      sent = some
+          (replyTo p r);
+    }
     unfolding doValues
     performed =
         ap (λ (d : Stepped). record { world = served w b (d .server); result = resultOf (d .number); sent = d .reply }) stepped

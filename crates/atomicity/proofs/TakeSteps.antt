@@ -18,7 +18,8 @@ use Rattle.protocol.specs.Runs.{Lent, write, take-reply}
 use Rattle.protocol.proofs.Bodies.{decode-encode}
 use Rattle.protocol.proofs.ValueRuns.{World, After, doValues, setClient, nowValues}
 use Rattle.atomicity.specs.Lists.{All, flat}
-use Rattle.atomicity.specs.Steps.{StepIn, makes, serves, ofPacket, stampedFrom, stampedBy, clientChecks, compared, digestsWith, checkedBy, digestedBy, noncesBy}
+use Rattle.atomicity.specs.Steps.{StepIn, makes, serves, ofPacket, stampedFrom, stampedBy, clientChecks, compared, digestsWith, checkedBy}
+use Rattle.atomicity.specs.Steps.{digestedBy, noncesBy}
 use Rattle.atomicity.specs.Premises.{Authentic, Begins, FreshNonce, Sent, odd}
 use Rattle.atomicity.specs.Claim.{Logged, log, note, change, follow}
 use Rattle.atomicity.proofs.Util.{clash, upd-here}

@@ -1,4 +1,5 @@
--- Exchanges on the example's shelf: of a correct client with a correct server, and with the liar, which answers what it likes. What can be computed of
+-- Exchanges on the example's shelf: of a correct client with a correct server, and with the liar, which answers what it likes. What can be computed
+-- of
 -- one is one test.
 -- Assumes nothing.
 use mathlib.Core.Path.{_≡_, refl, ap}
@@ -26,7 +27,8 @@ use Rattle.atomicity.proofs.Util.{clash, and-left, and-right, all-map}
 use Rattle.atomicity.proofs.Model.{Run, perform, now}
 use Rattle.atomicity.proofs.Playing.{Hashing, functions, who, nonce1, s, Made, Timely, Play}
 use Rattle.atomicity.proofs.Printed.{BodyBytes, PacketBytes, packet-bytes, headFits, packet-of}
-use Rattle.atomicity.proofs.ServeSteps.{packetBuffer, serves-it, takes-it, makes-it, sent-ok, play-make, made-sent, acts, served, Serves, reply-sent, play-serve, Owned}
+use Rattle.atomicity.proofs.ServeSteps.{packetBuffer, serves-it, takes-it, makes-it, sent-ok, play-make, made-sent, acts, served, Serves}
+use Rattle.atomicity.proofs.ServeSteps.{reply-sent, play-serve, Owned}
 use Rattle.atomicity.proofs.TakeSteps.{turned, took, followed, Takes, play-take}
 
 module _ (H : Hashing) where
@@ -44,7 +46,8 @@ module _ (H : Hashing) where
     pub makes-on : makeRefusal (s H .config) c b (not (isIdle (w .client c .hand))) packetRoom ≡ 0
     pub serves-on : serverRefusal (s H .config .t) b (some (made (s H .config .t) c (w .client c) b)) packetRoom ≡ 0
     pub does : acts H b w (made (s H .config .t) c (w .client c) b .body) ≡ record { server = v; reply = r }
-    pub takes-on : let cl = w .client c in takeRefusal (s H .config) c (some (replyTo (made (s H .config .t) c cl b) r)) (cl .calls) (awaits (cl .hand))
+    pub takes-on : let cl = w .client c in takeRefusal (s H .config) c (some (replyTo (made (s H .config .t) c cl b) r)) (cl .calls)
+        (awaits (cl .hand))
         (cl .marks) (highAt (functions H) (s H .config) c (s H .writers) (s H .keys) cl) contentRoom ≡ 0
     pub turns : turned H c (w .client c) (replyTo (made (s H .config .t) c (w .client c) b) r) ≡ t
 
@@ -109,7 +112,8 @@ module _ (H : Hashing) where
       pub play-answered : Play H two (serves-it H b asked (k .inside) (packet-bytes asked (k .ask-bytes)) ∷ makes-it H c b ∷ xs) (served H w b v) cs →
           All (λ kb. Made H kb xs) (clientChecks (s H) (w .client c .hand) r) →
           All (λ u. u ≡ nonce1)
-          (flat (digestsWith (s H)) (stampedFrom c (w .client c .hand) (t .client .hand)) ++ compared (s H) (w .client c) (w .client c .hand) answered) →
+          (flat (digestsWith (s H)) (stampedFrom c (w .client c .hand) (t .client .hand)) ++ compared (s H) (w .client c)
+          (w .client c .hand) answered) →
           Play H two (exchanged xs) (took H (served H w b v) c t) (followed H w c t (suc (suc (length xs))) cs)
       unfolding Ever replyTo made takes
       play-answered q tags digests = play-take H (served H w b v) c lent answered t takes two _ cs q
@@ -121,7 +125,8 @@ module _ (H : Hashing) where
         Timely H (makes-it H c b ∷ xs) (map (λ d. d .nonce) (offered (asked .body))) →
         All (λ kb. Made H kb xs) (clientChecks (s H) (w .client c .hand) r) →
         All (λ u. u ≡ nonce1)
-        (flat (digestsWith (s H)) (stampedFrom c (w .client c .hand) (t .client .hand)) ++ compared (s H) (w .client c) (w .client c .hand) answered) →
+        (flat (digestsWith (s H)) (stampedFrom c (w .client c .hand) (t .client .hand)) ++ compared (s H) (w .client c) (w .client c .hand) answered)
+        →
         Play H two (exchanged xs) (took H (served H w b v) c t) (followed H w c t (suc (suc (length xs))) cs)
     play-exchange two xs cs p served-tags served-digests timely taken-tags taken-digests =
         play-answered two xs cs p (play-asked two xs cs p served-tags served-digests timely) taken-tags taken-digests
@@ -180,7 +185,8 @@ module _ (H : Hashing) where
     pub bytes : PacketBytes (replyTo (made (s H .config .t) c (w .client c) 1) x)
     pub answers : odd (kindOf x) ≡ false
     pub makes-on : makeRefusal (s H .config) c 1 (not (isIdle (w .client c .hand))) packetRoom ≡ 0
-    pub takes-on : let cl = w .client c in takeRefusal (s H .config) c (some (replyTo (made (s H .config .t) c cl 1) x)) (cl .calls) (awaits (cl .hand))
+    pub takes-on : let cl = w .client c in takeRefusal (s H .config) c (some (replyTo (made (s H .config .t) c cl 1) x)) (cl .calls)
+        (awaits (cl .hand))
         (cl .marks) (highAt (functions H) (s H .config) c (s H .writers) (s H .keys) cl) contentRoom ≡ 0
     pub turns : turned H c (w .client c) (replyTo (made (s H .config .t) c (w .client c) 1) x) ≡ t
 
