@@ -26,8 +26,8 @@ use Rattle.protocol.specs.Client.{checks, stampOf, tagsOf, candidateMade, share
 use Rattle.protocol.proofs.Equal.{same-true, same-refl, stamp-refl, candidate-same}
 use Rattle.protocol.proofs.Primitive.{nth-run}
 use Rattle.cluster.proofs.Tests.{untrue}
 use Rattle.atomicity.proofs.Util.{clash}
-use Rattle.atomicity.proofs.Playing.{Hashing, functions, s, nonce1, nonce3}
+use Rattle.example.proofs.Playing.{Hashing, functions, s, nonce1, nonce3}
 
 -- ---- a spoilt tag
 

@@ -19,19 +19,19 @@ use Rattle.protocol.specs.Client.{Hand, refused, gave, clocking, collecting, fi
 use Rattle.protocol.specs.Client.{onto, higher, isFull, update, tooHigh, makeRefusal, takeRefusal, turnOn, highAt, begun}
 use Rattle.protocol.specs.Runs.{Lent}
 use Rattle.protocol.proofs.ValueRuns.{World}
 use Rattle.atomicity.specs.Lists.{All}
 use Rattle.atomicity.proofs.Util.{clash}
-use Rattle.atomicity.proofs.Printed.{bare, full}
-use Rattle.atomicity.proofs.Playing.{Hashing, functions, s, nonce2}
-use Rattle.atomicity.proofs.ServeSteps.{Owned, served}
-use Rattle.atomicity.proofs.TakeSteps.{took}
-use Rattle.atomicity.proofs.CallSteps.{began, left}
-use Rattle.atomicity.proofs.Talks.{Talk, talk-of, Lie, lie-of}
-use Rattle.atomicity.proofs.Scene.{content1, content2, pieces, cand, share, stored, spoilt, holding, blankOne, stamp-checks, held-own}
-use Rattle.atomicity.proofs.Scene.{best-held, best-tagged, valid-held}
-use Rattle.atomicity.proofs.SceneRead.{gathered, knows, judged-is, sifted}
-use Rattle.atomicity.proofs.SceneBytes.{stamp-bytes, cand-bytes, share-bytes, spoilt-bytes, spoilt-ok}
-use Rattle.atomicity.proofs.SceneWrites.{ours, one, oneTwo, goes, ends, w0, w1, w2, w3, w4, w5, w6, w7, w8, w9, w10}
+use Rattle.example.proofs.Printed.{bare, full}
+use Rattle.example.proofs.Playing.{Hashing, functions, s, nonce2}
+use Rattle.example.proofs.ServeSteps.{Owned, served}
+use Rattle.example.proofs.TakeSteps.{took}
+use Rattle.example.proofs.CallSteps.{began, left}
+use Rattle.example.proofs.Talks.{Talk, talk-of, Lie, lie-of}
+use Rattle.example.proofs.Scene.{content1, content2, pieces, cand, share, stored, spoilt, holding, blankOne, stamp-checks, held-own}
+use Rattle.example.proofs.Scene.{best-held, best-tagged, valid-held}
+use Rattle.example.proofs.SceneRead.{gathered, knows, judged-is, sifted}
+use Rattle.example.proofs.SceneBytes.{stamp-bytes, cand-bytes, share-bytes, spoilt-bytes, spoilt-ok}
+use Rattle.example.proofs.SceneWrites.{ours, one, oneTwo, goes, ends, w0, w1, w2, w3, w4, w5, w6, w7, w8, w9, w10}
 
 -- client 9 holds no keys: it is lent other bytes
 abbrev pub others : Lent

@@ -18,19 +18,19 @@ use Rattle.protocol.specs.Client.{checks, made, written, candidateMade, stampOf
 use Rattle.protocol.specs.Runs.{make, sentOf}
 use Rattle.protocol.proofs.Bodies.{decode-encode}
 use Rattle.protocol.proofs.ValueRuns.{World, nowValues, doValues}
 use Rattle.atomicity.specs.Lists.{Always, Ever, All, In, flat}
 use Rattle.atomicity.specs.Steps.{allDigested, stampedFrom, stampedBy, tagsWith, digestsWith, judged, clientChecks, compared}
 use Rattle.atomicity.specs.Premises.{Shows}
 use Rattle.atomicity.specs.Claim.{Logged, log, change}
 use Rattle.atomicity.proofs.Model.{Run, perform, now}
-use Rattle.atomicity.proofs.Playing.{Hashing, s, A, nonce1, Shown, Made, Play}
-use Rattle.atomicity.proofs.Printed.{bytes-of, bytes-ok}
-use Rattle.atomicity.proofs.ServeSteps.{makes-it, sent-ok, made-sent, packetBuffer}
-use Rattle.atomicity.proofs.CallSteps.{writing, play-write}
-use Rattle.atomicity.proofs.Talks.{exchanged, play-exchange, lied, play-lie}
-use Rattle.atomicity.proofs.Scene.{content1, pieces, cand, highStamp, high-unchecked, holding, blankOne}
-use Rattle.atomicity.proofs.SceneWrites.{ours, one, oneTwo, goes, ends, clocks, stores, completes, keeping, w0, w1, w2, w3, w4, w5, w6, w7}
-use Rattle.atomicity.proofs.SceneWrites.{w8, w9, w10, writes}
+use Rattle.example.proofs.Playing.{Hashing, s, A, nonce1, Shown, Made, Play}
+use Rattle.example.proofs.Printed.{bytes-of, bytes-ok}
+use Rattle.example.proofs.ServeSteps.{makes-it, sent-ok, made-sent, packetBuffer}
+use Rattle.example.proofs.CallSteps.{writing, play-write}
+use Rattle.example.proofs.Talks.{exchanged, play-exchange, lied, play-lie}
+use Rattle.example.proofs.Scene.{content1, pieces, cand, highStamp, high-unchecked, holding, blankOne}
+use Rattle.example.proofs.SceneWrites.{ours, one, oneTwo, goes, ends, clocks, stores, completes, keeping, w0, w1, w2, w3, w4, w5, w6, w7}
+use Rattle.example.proofs.SceneWrites.{w8, w9, w10, writes}
 
 pub content1-bytes : Bytes content1
 unfolding content1

@@ -19,21 +19,21 @@ use Rattle.protocol.specs.Primitives.{stampMessage, candidateMessage}
 use Rattle.protocol.specs.Rules.{upd}
 use Rattle.protocol.specs.Server.{best, raise, act, barred, serverRefusal}
 use Rattle.protocol.specs.Client.{clocking, awaits, isIdle, candidateMade, stampOf, made, onto, writeRefusal, abortRefusal, begun}
 use Rattle.atomicity.specs.Lists.{Ever, All, flat}
 use Rattle.atomicity.specs.Steps.{nonblank, judged, serverChecks, clientChecks, stampedFrom, compared}
 use Rattle.atomicity.specs.Claim.{Logged, change}
 use Rattle.atomicity.proofs.Util.{clash}
 use Rattle.atomicity.proofs.Model.{Run}
-use Rattle.atomicity.proofs.Playing.{Hashing, s, nonce1, nonce2, nonce3, Begun, Got, Shown, Made, Play}
-use Rattle.atomicity.proofs.Printed.{bytes-of, bytes-ok, packet-bytes}
-use Rattle.atomicity.proofs.ServeSteps.{Serves, serving, play-serve}
-use Rattle.atomicity.proofs.CallSteps.{writing, play-write, gives-up, play-give-up}
-use Rattle.atomicity.proofs.Talks.{exchanged, play-exchange}
-use Rattle.atomicity.proofs.Scene.{content2, cand, share, stored, madeUp, holding, stamp-checks, best-made-up}
-use Rattle.atomicity.proofs.SceneBytes.{wildPacket, wild-bytes, wild-ok}
-use Rattle.atomicity.proofs.SceneWrites.{ours, goes, w0, w1, w2, w3, w4, w5, w6, w7, w8, w9, w10}
-use Rattle.atomicity.proofs.SceneReads.{two, w11, w12, w13, w14, reads}
-use Rattle.atomicity.proofs.SceneStored.{firstWrite, x1, x2, x3, x4, x5, x6, x7, x8, x9, x10, p10, shown-10, stamp-made, tag-made}
+use Rattle.example.proofs.Playing.{Hashing, s, nonce1, nonce2, nonce3, Begun, Got, Shown, Made, Play}
+use Rattle.example.proofs.Printed.{bytes-of, bytes-ok, packet-bytes}
+use Rattle.example.proofs.ServeSteps.{Serves, serving, play-serve}
+use Rattle.example.proofs.CallSteps.{writing, play-write, gives-up, play-give-up}
+use Rattle.example.proofs.Talks.{exchanged, play-exchange}
+use Rattle.example.proofs.Scene.{content2, cand, share, stored, madeUp, holding, stamp-checks, best-made-up}
+use Rattle.example.proofs.SceneBytes.{wildPacket, wild-bytes, wild-ok}
+use Rattle.example.proofs.SceneWrites.{ours, goes, w0, w1, w2, w3, w4, w5, w6, w7, w8, w9, w10}
+use Rattle.example.proofs.SceneReads.{two, w11, w12, w13, w14, reads}
+use Rattle.example.proofs.SceneStored.{firstWrite, x1, x2, x3, x4, x5, x6, x7, x8, x9, x10, p10, shown-10, stamp-made, tag-made}
 
 pub content2-bytes : Bytes content2
 unfolding content2

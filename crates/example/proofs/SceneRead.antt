@@ -21,11 +21,11 @@ use Rattle.protocol.specs.Rules.{highest, choice, proven, parts, restoredBy}
 use Rattle.protocol.specs.Client.{Client, more, gave, idle, found, judge, onto, repairing, stampOf, candidateMade, shareMade}
 use Rattle.protocol.proofs.Equal.{same-refl, stamp-refl, candidate-refl}
 use Rattle.protocol.proofs.Primitive.{nth-run}
 use Rattle.atomicity.specs.Lists.{All, AllPairs}
 use Rattle.atomicity.proofs.Real.{real-restores}
-use Rattle.atomicity.proofs.Playing.{Hashing, functions, s, nonce1}
-use Rattle.atomicity.proofs.Printed.{bytes-of, bytes-ok}
-use Rattle.atomicity.proofs.Scene.{content1, cand, share, spoilt, tags-differ, candidates-differ}
+use Rattle.example.proofs.Playing.{Hashing, functions, s, nonce1}
+use Rattle.example.proofs.Printed.{bytes-of, bytes-ok}
+use Rattle.example.proofs.Scene.{content1, cand, share, spoilt, tags-differ, candidates-differ}
 
 -- a count over four servers, from the test of each
 count-four : (f : ByServer Bool) (a b c d : Bool) → f 1 ≡ a → f 2 ≡ b → f 3 ≡ c → f 4 ≡ d →

@@ -18,11 +18,11 @@ use Rattle.protocol.specs.Packet.{Packet, PacketOk, stampF, anyStampF, candidat
 use Rattle.protocol.specs.Primitives.{stampMessage, candidateMessage}
 use Rattle.protocol.specs.Client.{stampOf, tagsOf, candidateMade, shareMade}
 use Rattle.protocol.proofs.Primitive.{run-length}
 use Rattle.atomicity.specs.Lists.{All}
-use Rattle.atomicity.proofs.Playing.{Hashing, s, nonce1, nonce3}
-use Rattle.atomicity.proofs.Printed.{Byted, done, next, byted, bytes-ok, run-bytes, StampBytes, CandidateBytes, ShareBytes, PacketBytes}
-use Rattle.atomicity.proofs.Printed.{packet-of}
-use Rattle.atomicity.proofs.Scene.{spoil, spoil-length, content1, tagFor, cand, share, spoilt, stamp7, madeUp, highStamp}
+use Rattle.example.proofs.Playing.{Hashing, s, nonce1, nonce3}
+use Rattle.example.proofs.Printed.{Byted, done, next, byted, bytes-ok, run-bytes, StampBytes, CandidateBytes, ShareBytes, PacketBytes}
+use Rattle.example.proofs.Printed.{packet-of}
+use Rattle.example.proofs.Scene.{spoil, spoil-length, content1, tagFor, cand, share, spoilt, stamp7, madeUp, highStamp}
 
 small : (q : Bool) → cond q 1 0 < 256
 small true = omega arith

@@ -17,15 +17,15 @@ use Rattle.protocol.specs.Client.{Client, Turn, refused, accepted, takeRefusal,
 use Rattle.protocol.specs.Runs.{Lent, write, take-reply}
 use Rattle.protocol.proofs.Bodies.{decode-encode}
 use Rattle.protocol.proofs.ValueRuns.{World, After, doValues, setClient, nowValues}
 use Rattle.atomicity.specs.Lists.{All, flat}
 use Rattle.atomicity.specs.Steps.{StepIn, makes, serves, ofPacket, stampedFrom, stampedBy, clientChecks, compared, digestsWith, checkedBy}
 use Rattle.atomicity.specs.Steps.{digestedBy, noncesBy}
 use Rattle.atomicity.specs.Premises.{Authentic, Begins, FreshNonce, Sent, odd}
 use Rattle.atomicity.specs.Claim.{Logged, log, note, change, follow}
 use Rattle.atomicity.proofs.Util.{clash, upd-here}
 use Rattle.atomicity.proofs.Model.{Run, perform}
-use Rattle.atomicity.proofs.Playing.{Hashing, functions, who, nonce1, s, A, checkedIn, digestedIn, Made, Play, play-on}
-use Rattle.atomicity.proofs.ServeSteps.{contentBuffer, content-room, cond-nil, all-if, Owned, takes-it, not-write}
+use Rattle.example.proofs.Playing.{Hashing, functions, who, nonce1, s, A, checkedIn, digestedIn, Made, Play, play-on}
+use Rattle.example.proofs.ServeSteps.{contentBuffer, content-room, cond-nil, all-if, Owned, takes-it, not-write}
 
 module _ (H : Hashing) where
   -- ---- a client takes a reply

@@ -23,14 +23,14 @@ use Rattle.protocol.specs.Runs.{Lent, write, make, take-reply, serve, resultOf,
 use Rattle.protocol.proofs.Bodies.{decode-encode}
 use Rattle.protocol.proofs.RunLift.{AllFed, run-agrees, decode-nothing}
 use Rattle.protocol.proofs.ValueRuns.{World, After, doValues}
 use Rattle.atomicity.specs.Lists.{All, flat}
 use Rattle.atomicity.specs.Steps.{StepIn, makes, serves, ofPacket, offered, serverChecks, judged, checkedBy, digestedBy, noncesBy}
 use Rattle.atomicity.specs.Premises.{Authentic, Begins, FreshNonce, Sent, odd}
 use Rattle.atomicity.specs.Claim.{Logged, log, note}
 use Rattle.atomicity.proofs.Util.{clash, no-some}
 use Rattle.atomicity.proofs.Model.{Run, perform, now}
-use Rattle.atomicity.proofs.Playing.{Hashing, functions, function-lengths, desk, who, nonce1, s, A, serversOf, checkedIn, digestedIn}
-use Rattle.atomicity.proofs.Playing.{noncesIn, Made, Timely, Play, play-on}
+use Rattle.example.proofs.Playing.{Hashing, functions, function-lengths, desk, who, nonce1, s, A, serversOf, checkedIn, digestedIn}
+use Rattle.example.proofs.Playing.{noncesIn, Made, Timely, Play, play-on}
 
 -- ---- output buffers
 

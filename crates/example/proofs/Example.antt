@@ -32,16 +32,16 @@ use Rattle.protocol.specs.Runs.{StepOn, byBytes}
 use Rattle.protocol.proofs.Primitive.{real-lengths}
 use Rattle.protocol.proofs.ValueRuns.{byValues}
 use Rattle.protocol.proofs.Accounts.{claimed}
 use Rattle.atomicity.specs.Lists.{Always}
 use Rattle.atomicity.specs.Premises.{Premise}
 use Rattle.atomicity.specs.Claim.{log, systemOf}
 use Rattle.atomicity.specs.Page41.{Page41Of, Page41}
 use Rattle.atomicity.proofs.InWords.{page-41}
-use Rattle.atomicity.proofs.Playing.{Hashing, desk, who, parties}
-use Rattle.atomicity.proofs.Scene.{content1}
-use Rattle.atomicity.proofs.SceneShown.{wrote, secondWrite}
-use Rattle.atomicity.proofs.SceneEnds.{theRead, x25, p25}
-use Rattle.atomicity.proofs.SceneFacts.{Happens, happens}
+use Rattle.example.proofs.Playing.{Hashing, desk, who, parties}
+use Rattle.example.proofs.Scene.{content1}
+use Rattle.example.proofs.SceneShown.{wrote, secondWrite}
+use Rattle.example.proofs.SceneEnds.{theRead, x25, p25}
+use Rattle.example.proofs.SceneFacts.{Happens, happens}
 
 -- ---- the real functions
 

@@ -19,17 +19,17 @@ use Rattle.protocol.specs.Server.{Server, replyTo, serverRefusal}
 use Rattle.protocol.specs.Client.{Turn, more, made, makeRefusal, takeRefusal, highAt, awaits, isIdle}
 use Rattle.protocol.specs.Runs.{Lent, make, serve, sentOf}
 use Rattle.protocol.proofs.ValueRuns.{World}
 use Rattle.atomicity.specs.Lists.{Ever, All, flat}
 use Rattle.atomicity.specs.Steps.{offered, stampedFrom, serverChecks, clientChecks, judged, compared, digestsWith}
 use Rattle.atomicity.specs.Premises.{odd}
 use Rattle.atomicity.specs.Claim.{Logged}
 use Rattle.atomicity.proofs.Util.{clash, and-left, and-right, all-map}
 use Rattle.atomicity.proofs.Model.{Run, perform, now}
-use Rattle.atomicity.proofs.Playing.{Hashing, functions, who, nonce1, s, Made, Timely, Play}
-use Rattle.atomicity.proofs.Printed.{BodyBytes, PacketBytes, packet-bytes, headFits, packet-of}
-use Rattle.atomicity.proofs.ServeSteps.{packetBuffer, serves-it, takes-it, makes-it, sent-ok, play-make, made-sent, acts, served, Serves}
-use Rattle.atomicity.proofs.ServeSteps.{reply-sent, play-serve, Owned}
-use Rattle.atomicity.proofs.TakeSteps.{turned, took, followed, Takes, play-take}
+use Rattle.example.proofs.Playing.{Hashing, functions, who, nonce1, s, Made, Timely, Play}
+use Rattle.example.proofs.Printed.{BodyBytes, PacketBytes, packet-bytes, headFits, packet-of}
+use Rattle.example.proofs.ServeSteps.{packetBuffer, serves-it, takes-it, makes-it, sent-ok, play-make, made-sent, acts, served, Serves}
+use Rattle.example.proofs.ServeSteps.{reply-sent, play-serve, Owned}
+use Rattle.example.proofs.TakeSteps.{turned, took, followed, Takes, play-take}
 
 module _ (H : Hashing) where
   -- ---- an exchange: client c asks server b, which does this and answers r, and the client's turn is t

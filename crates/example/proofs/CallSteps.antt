@@ -21,16 +21,16 @@ use Rattle.protocol.specs.Runs.{Lent, Step, write, read, give-up, take-reply}
 use Rattle.protocol.proofs.Bodies.{decode-encode}
 use Rattle.protocol.proofs.RunLift.{decode-nothing}
 use Rattle.protocol.proofs.ValueRuns.{World, After, doValues, setClient, nowValues}
 use Rattle.atomicity.specs.Lists.{All}
 use Rattle.atomicity.specs.Steps.{StepIn, stampedBy, checkedBy, digestedBy, noncesBy}
 use Rattle.atomicity.specs.Premises.{PartyOf, Authentic, Begins, FreshNonce}
 use Rattle.atomicity.specs.Claim.{Logged, log, note, change, follow}
 use Rattle.atomicity.proofs.Util.{clash, no-some, upd-here}
 use Rattle.atomicity.proofs.Model.{Run, perform}
-use Rattle.atomicity.proofs.Playing.{Hashing, functions, serversOf, who, nonce1, s, A, Begun, Got, Made, OfWrite, Play, play-on, checkedIn}
-use Rattle.atomicity.proofs.Playing.{digestedIn, noncesIn}
-use Rattle.atomicity.proofs.ServeSteps.{contentBuffer, content-room, takes-it, cond-nil, all-none, Owned, not-write}
-use Rattle.atomicity.proofs.TakeSteps.{turned, took, followed}
+use Rattle.example.proofs.Playing.{Hashing, functions, serversOf, who, nonce1, s, A, Begun, Got, Made, OfWrite, Play, play-on, checkedIn}
+use Rattle.example.proofs.Playing.{digestedIn, noncesIn}
+use Rattle.example.proofs.ServeSteps.{contentBuffer, content-room, takes-it, cond-nil, all-none, Owned, not-write}
+use Rattle.example.proofs.TakeSteps.{turned, took, followed}
 
 module _ (H : Hashing) where
   -- ---- a call begins

@@ -14,24 +14,24 @@ use Rattle.protocol.specs.Server.{Server, replyTo}
 use Rattle.protocol.specs.Client.{Turn, accepted, refused, begun, made, candidateMade}
 use Rattle.protocol.specs.Runs.{Lent, Account, take-reply, serve}
 use Rattle.protocol.proofs.ValueRuns.{World, After, nowValues}
 use Rattle.atomicity.specs.Lists.{Ever, flat}
 use Rattle.atomicity.specs.Steps.{StepIn, tagsChecked, digested, noncesGot, offered, judged, serverChecks, clientChecks, stampedFrom}
 use Rattle.atomicity.specs.Steps.{compared, digestsWith}
 use Rattle.atomicity.specs.Claim.{Logged}
 use Rattle.atomicity.proofs.Model.{Run, perform, now}
-use Rattle.atomicity.proofs.Playing.{Hashing, s, A, nonce1, nonce3, checkedIn, digestedIn, noncesIn, Play}
-use Rattle.atomicity.proofs.Printed.{packet-bytes}
-use Rattle.atomicity.proofs.ServeSteps.{packetBuffer, contentBuffer, makes-it, serves-it, served, performed, serve-checks, serve-nonces}
-use Rattle.atomicity.proofs.TakeSteps.{take-checks, take-digests}
-use Rattle.atomicity.proofs.Talks.{Talk, asked, answered, making, serves, takes}
-use Rattle.atomicity.proofs.Scene.{cand, madeUp, blankOne, pieces}
-use Rattle.atomicity.proofs.SceneBytes.{wildPacket}
-use Rattle.atomicity.proofs.SceneWrites.{writes, w0, w1, w2, w3, w4, w5, w6, w7, w8, w9, w10}
-use Rattle.atomicity.proofs.SceneReads.{others, reads, w11, w12, w13, w14, w15, w16, w17, w18, w19, w20, w21}
-use Rattle.atomicity.proofs.SceneStored.{x1, x2, x3, x4, x5, x6, x7, x8, x9, x10, p3, p8}
-use Rattle.atomicity.proofs.SceneShown.{x11, x12, x13, x14, p11, p13, wild, tag-checks}
-use Rattle.atomicity.proofs.SceneEnds.{x15, x16, x17, x18, x19, x20, x21, x22, x23, x24, x25, p16, p21, judged-tagged, tag-checks-4, theLie}
-use Rattle.atomicity.proofs.SceneEnds.{again}
+use Rattle.example.proofs.Playing.{Hashing, s, A, nonce1, nonce3, checkedIn, digestedIn, noncesIn, Play}
+use Rattle.example.proofs.Printed.{packet-bytes}
+use Rattle.example.proofs.ServeSteps.{packetBuffer, contentBuffer, makes-it, serves-it, served, performed, serve-checks, serve-nonces}
+use Rattle.example.proofs.TakeSteps.{take-checks, take-digests}
+use Rattle.example.proofs.Talks.{Talk, asked, answered, making, serves, takes}
+use Rattle.example.proofs.Scene.{cand, madeUp, blankOne, pieces}
+use Rattle.example.proofs.SceneBytes.{wildPacket}
+use Rattle.example.proofs.SceneWrites.{writes, w0, w1, w2, w3, w4, w5, w6, w7, w8, w9, w10}
+use Rattle.example.proofs.SceneReads.{others, reads, w11, w12, w13, w14, w15, w16, w17, w18, w19, w20, w21}
+use Rattle.example.proofs.SceneStored.{x1, x2, x3, x4, x5, x6, x7, x8, x9, x10, p3, p8}
+use Rattle.example.proofs.SceneShown.{x11, x12, x13, x14, p11, p13, wild, tag-checks}
+use Rattle.example.proofs.SceneEnds.{x15, x16, x17, x18, x19, x20, x21, x22, x23, x24, x25, p16, p21, judged-tagged, tag-checks-4, theLie}
+use Rattle.example.proofs.SceneEnds.{again}
 
 -- what some earlier step had, some step had
 pub ever-later : {X : Type 0} (P : X → List X → Type 0) (n : ℕ) (xs : List X) → Ever P (drop n xs) → Ever P xs

@@ -19,14 +19,14 @@ use Rattle.protocol.specs.Client.{candidateMade, sharesMade, prepared, made, on
 use Rattle.protocol.specs.Client.{takeRefusal, turnOn, highAt, begun}
 use Rattle.protocol.specs.Runs.{Lent}
 use Rattle.protocol.proofs.ValueRuns.{World}
-use Rattle.atomicity.proofs.Playing.{Hashing, functions, desk, s, nonce1}
-use Rattle.atomicity.proofs.ServeSteps.{served}
-use Rattle.atomicity.proofs.TakeSteps.{took}
-use Rattle.atomicity.proofs.CallSteps.{began}
-use Rattle.atomicity.proofs.Talks.{Talk, talk-of, Lie, lie-of}
-use Rattle.atomicity.proofs.Scene.{content1, pieces, cand, share, stored, highStamp, high-unchecked, holding, blankOne}
-use Rattle.atomicity.proofs.SceneBytes.{stamp-bytes, cand-bytes, share-bytes, high-bytes, high-ok}
-use Rattle.atomicity.proofs.Printed.{StampBytes, bytes-ok}
+use Rattle.example.proofs.Playing.{Hashing, functions, desk, s, nonce1}
+use Rattle.example.proofs.ServeSteps.{served}
+use Rattle.example.proofs.TakeSteps.{took}
+use Rattle.example.proofs.CallSteps.{began}
+use Rattle.example.proofs.Talks.{Talk, talk-of, Lie, lie-of}
+use Rattle.example.proofs.Scene.{content1, pieces, cand, share, stored, highStamp, high-unchecked, holding, blankOne}
+use Rattle.example.proofs.SceneBytes.{stamp-bytes, cand-bytes, share-bytes, high-bytes, high-ok}
+use Rattle.example.proofs.Printed.{StampBytes, bytes-ok}
 
 -- ---- keys that are lent, marks and turns
 

@@ -19,23 +19,23 @@ use Rattle.protocol.specs.Server.{replyTo, byHistory, byTag, best}
 use Rattle.protocol.specs.Client.{refused, gave, collecting, filtering, awaits, isIdle, isFull, candidateMade, shareMade, stampOf, made}
 use Rattle.protocol.specs.Client.{readRefusal, begun}
 use Rattle.protocol.specs.Runs.{take-reply}
 use Rattle.atomicity.specs.Lists.{Ever, All, flat}
 use Rattle.atomicity.specs.Steps.{nonblank, judged, serverChecks, clientChecks, proving, stampedFrom, compared}
 use Rattle.atomicity.specs.Claim.{Logged, change}
 use Rattle.atomicity.proofs.Model.{Run, perform}
-use Rattle.atomicity.proofs.Playing.{Hashing, functions, s, nonce1, Shown, Made, Timely, Play}
-use Rattle.atomicity.proofs.Printed.{packet-bytes}
-use Rattle.atomicity.proofs.ServeSteps.{makes-it, takes-it, contentBuffer}
-use Rattle.atomicity.proofs.CallSteps.{reads-it, play-read, refused-does, play-refused}
-use Rattle.atomicity.proofs.Talks.{exchanged, play-exchange, lie, lied, lie-ok, play-lie}
-use Rattle.atomicity.proofs.Scene.{content1, pieces, cand, share, spoilt, holding, blankOne, by-history, by-tag, valid-held, best-held}
-use Rattle.atomicity.proofs.Scene.{best-tagged}
-use Rattle.atomicity.proofs.SceneRead.{knows, sifted, marked, heard, choice-is, leader-is, parts-are}
-use Rattle.atomicity.proofs.SceneWrites.{one, oneTwo, goes, ends, w0, w1, w2, w3, w4, w5, w6, w7, w8, w9, w10}
-use Rattle.atomicity.proofs.SceneReads.{others, two, blanks, told, repairs, w11, w12, w13, w14, w15, w16, w17, w18, w19, w20, w21, w22, w23}
-use Rattle.atomicity.proofs.SceneReads.{w24, w25, reads}
-use Rattle.atomicity.proofs.SceneShown.{wrote, secondWrite, x11, x12, x13, x14, p14, shown-14, tag-made-14}
-use Rattle.atomicity.proofs.SceneStored.{x1, x2, x3, x4, x5, x6, x7, x8, x9, x10}
+use Rattle.example.proofs.Playing.{Hashing, functions, s, nonce1, Shown, Made, Timely, Play}
+use Rattle.example.proofs.Printed.{packet-bytes}
+use Rattle.example.proofs.ServeSteps.{makes-it, takes-it, contentBuffer}
+use Rattle.example.proofs.CallSteps.{reads-it, play-read, refused-does, play-refused}
+use Rattle.example.proofs.Talks.{exchanged, play-exchange, lie, lied, lie-ok, play-lie}
+use Rattle.example.proofs.Scene.{content1, pieces, cand, share, spoilt, holding, blankOne, by-history, by-tag, valid-held, best-held}
+use Rattle.example.proofs.Scene.{best-tagged}
+use Rattle.example.proofs.SceneRead.{knows, sifted, marked, heard, choice-is, leader-is, parts-are}
+use Rattle.example.proofs.SceneWrites.{one, oneTwo, goes, ends, w0, w1, w2, w3, w4, w5, w6, w7, w8, w9, w10}
+use Rattle.example.proofs.SceneReads.{others, two, blanks, told, repairs, w11, w12, w13, w14, w15, w16, w17, w18, w19, w20, w21, w22, w23}
+use Rattle.example.proofs.SceneReads.{w24, w25, reads}
+use Rattle.example.proofs.SceneShown.{wrote, secondWrite, x11, x12, x13, x14, p14, shown-14, tag-made-14}
+use Rattle.example.proofs.SceneStored.{x1, x2, x3, x4, x5, x6, x7, x8, x9, x10}
 
 abbrev pub theRead : Option ℕ → Option (List ℕ) → Logged
 theRead e a = record { client = 9; number = 1; wrote = none; begun = 31; reached = none; over = e; answer = a; gaveUp = false }

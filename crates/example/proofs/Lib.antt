@@ -1,0 +1,16 @@
+pub mod Printed
+pub mod Playing
+pub mod ServeSteps
+pub mod TakeSteps
+pub mod CallSteps
+pub mod Talks
+pub mod Scene
+pub mod SceneBytes
+pub mod SceneRead
+pub mod SceneWrites
+pub mod SceneStored
+pub mod SceneReads
+pub mod SceneShown
+pub mod SceneEnds
+pub mod SceneFacts
+pub mod Example
