@@ -9,14 +9,14 @@ use Prim.Native.Nat.{ℕ, _≤_}
 use native.Mathlib.Omega.{arith}
 use lib.ListN.{length}
 use lib.Dec.{eqb}
-use borrow.Author.Tests.{eqb-true, not-false, not-true}
+use borrow.Author.Tests.{eqb-true, not-false}
 use Rattle.cluster.specs.Config.{Config}
-use Rattle.cluster.specs.Ranges.{within, topWriter, topClient, leastLength, topLength}
+use Rattle.cluster.specs.Ranges.{within, topWriter, leastLength, topLength}
 use Rattle.cluster.proofs.Tests.{or-none, inside, passes}
 use Rattle.protocol.specs.Values.{blankCandidate}
 use Rattle.protocol.specs.Packet.{Packet, kindOf, decode}
 use Rattle.protocol.specs.Rules.{nobody}
-use Rattle.protocol.specs.Client.{Client, Turn, Result, more, aborted, idle, clocking, collecting, awaits, isIdle, highAt, onto, begun, badFaults, accepted}
+use Rattle.protocol.specs.Client.{Client, Turn, Result, more, aborted, idle, clocking, collecting, awaits, isIdle, highAt, onto, begun, badFaults, badClient, ofWrite, accepted}
 use Rattle.protocol.specs.Client.{writeRefusal, readRefusal, abortRefusal, takeRefusal, writeStep, readStep, abortStep, takeStep, turnOn}
 use Rattle.protocol.specs.Runs.{Lent, Step, write, read, make, take-reply, give-up, serve}
 use Rattle.protocol.proofs.ValueRuns.{World, After, doValues, setClient}
@@ -32,7 +32,7 @@ pub write-passed : (s : Config) (c : ℕ) (cl : Client) (r : List ℕ) → write
 unfolding writeRefusal
 write-passed s c cl r e =
     let z1 = passes (badFaults s) 2 _ e in
-    let z2 = passes (not (within 1 topWriter c)) 4 _ (z1 .1) in
+    let z2 = passes (badClient true c) 4 _ (z1 .1) in
     let z3 = passes (not (within leastLength topLength (length r))) 5 _ (z2 .1) in
     let z4 = passes (not (isIdle (cl .hand))) 12 _ (z3 .1) in
     (inside 1 topWriter c (z2 .0) .1, not-false _ (z3 .0), not-false _ (z4 .0))
@@ -71,7 +71,7 @@ pub take-fits : (s : System) (c : ℕ) (cl : Client) (p : Packet) (room : ℕ) �
 unfolding takeRefusal highAt isIdle
 take-fits s c cl p room e =
     let z1 = passes (badFaults (s .config)) 2 _ e in
-    let z2 = passes (not (within 1 topClient c)) 4 _ (z1 .1) in
+    let z2 = passes (badClient (ofWrite (awaits (cl .hand))) c) 4 _ (z1 .1) in
     let z3 = passes (not (eqb (p .head .t) (s .config .t) && eqb (p .head .client) c)) 7 _ (z2 .1) in
     let z4 = passes (not (eqb (awaits (cl .hand)) 0) &&
     (not (eqb (p .head .call) (cl .calls) && eqb (kindOf (p .body)) (awaits (cl .hand))) || cl .marks (p .head .server))) 11 _ (z3 .1) in
@@ -114,19 +114,19 @@ module _ (s : System) (c : ℕ) (w : World) where
   read-moved = at-refusal (λ (u : Turn). Moved s c w (read c) (u .client) (u .result))
       (readRefusal (s .config) c (not (isIdle (w .client c .hand))) (w .client c .calls)) _ _
       (λ e. let z1 = passes (badFaults (s .config)) 2 _ e in
-      let z2 = passes (not (within 1 topClient c)) 4 _ (z1 .1) in
+      let z2 = passes (badClient false c) 4 _ (z1 .1) in
       let z3 = passes (not (isIdle (w .client c .hand))) 12 _ (z2 .1) in
       rbegan refl refl (not-false _ (z3 .0)) refl)
       (kept refl (λ q. refl))
 
   quit-moved : Moved s c w (give-up c) (abortStep (s .config) c (w .client c) .client) (abortStep (s .config) c (w .client c) .result)
-  unfolding abortStep abortRefusal
+  unfolding abortStep abortRefusal isIdle
   quit-moved = at-refusal (λ (u : Turn). Moved s c w (give-up c) (u .client) (u .result))
-      (abortRefusal (s .config) c (not (isIdle (w .client c .hand)))) _ _
+      (abortRefusal (s .config) c (awaits (w .client c .hand))) _ _
       (λ e. let z1 = passes (badFaults (s .config)) 2 _ e in
-      let z2 = passes (not (within 1 topClient c)) 4 _ (z1 .1) in
-      let z3 = passes (not (not (isIdle (w .client c .hand)))) 12 _ (z2 .1) in
-      quit refl refl (not-true _ (not-false _ (z3 .0))) refl)
+      let z2 = passes (badClient (ofWrite (awaits (w .client c .hand))) c) 4 _ (z1 .1) in
+      let z3 = passes (eqb (awaits (w .client c .hand)) 0) 12 _ (z2 .1) in
+      quit refl refl (z3 .0) refl)
       (kept refl (λ q. refl))
 
   take-moved : (lent : Lent) (b o : List ℕ) (q : Option Packet) → decode b ≡ q →
@@ -136,7 +136,7 @@ module _ (s : System) (c : ℕ) (w : World) where
   take-moved lent b o none d = at-refusal (λ (u : Turn). Moved s c w (take-reply c lent b o) (u .client) (u .result))
       (takeRefusal (s .config) c none (w .client c .calls) (awaits (w .client c .hand)) (w .client c .marks)
       (highAt (s .P) (s .config) c (s .writers) (s .keys) (w .client c)) (length o)) _ _
-      (λ e. let z1 = passes (badFaults (s .config)) 2 _ e in let z2 = passes (not (within 1 topClient c)) 4 _ (z1 .1) in
+      (λ e. let z1 = passes (badFaults (s .config)) 2 _ e in let z2 = passes (badClient (ofWrite (awaits (w .client c .hand))) c) 4 _ (z1 .1) in
       absurd (omega (arith, z2 .1)))
       (kept refl (λ q. refl))
   take-moved lent b o (some p) d = at-refusal (λ (u : Turn). Moved s c w (take-reply c lent b o) (u .client) (u .result))
