@@ -119,17 +119,17 @@ uint64_t cendrulas_client_begin_write(uint8_t *state, size_t state_len, size_t t
 uint64_t cendrulas_client_begin_read(uint8_t *state, size_t state_len, size_t t, size_t client);
 
 /* The packet of the current round for a server. It can be made again, for any server, as often as is useful.
- * Refusals: 255 where state_len is not 24,640; 3 where t is outside 1 to 4; 4 where server is outside 1 to 3t+1; 5 where client is outside 1 to 16;
- * 13 where no call is in hand; 15 where out_len < 6,400. Writes the packet; count its length. */
+ * Refusals: 255 where state_len is not 24,640; 3 where t is outside 1 to 4; 4 where server is outside 1 to 3t+1; 5 where client is outside 1 to 16,
+ * or with a write in hand outside 1 to 8; 13 where no call is in hand; 15 where out_len < 6,400. Writes the packet; count its length. */
 uint64_t cendrulas_client_make(const uint8_t *state, size_t state_len, size_t t, size_t client, size_t server,
                                uint8_t *out, size_t out_len);
 
 /* The client takes a server's reply. `writers` is the writers' key, `keys` the keys of servers 1 to 13 one after the other; they are used
  * only by a write's first round, so a client that only reads lends any bytes.
  * Refusals: 255 where state_len is not 24,640, writers_len is not 32 or keys_len is not 416; 3 where t is outside 1 to 4; 5 where client is outside
- * 1 to 16; 7 where the packet breaks the layout; 8 where its t or its client is not this one's; 13 where no call is in hand; 12 where it is no
- * reply of this call and round, or this server has replied in it; 14 where it would end the first round and the stamps' numbers are used up;
- * 15 where out_len < 1,024, whatever the reply. Changes the state.
+ * 1 to 16, or with a write in hand outside 1 to 8; 7 where the packet breaks the layout; 8 where its t or its client is not this one's; 13 where
+ * no call is in hand; 12 where it is no reply of this call and round, or this server has replied in it; 14 where it would end the first round
+ * and the stamps' numbers are used up; 15 where out_len < 1,024, whatever the reply. Changes the state.
  * Results: 0 the call goes on; 1 written, with the stamp's number; 2 read, with the stamp's number, the content at the front of `out` and its
  * length as count; 3 read blank: no write stands before this read. With 1, 2 and 3 the call has ended. */
 uint64_t cendrulas_client_take(uint8_t *state, size_t state_len, size_t t, size_t client,
@@ -137,9 +137,9 @@ uint64_t cendrulas_client_take(uint8_t *state, size_t state_len, size_t t, size_
                                const uint8_t *packet, size_t packet_len, uint8_t *out, size_t out_len);
 
 /* Gives up the call in hand.
- * Refusals: 255 where state_len is not 24,640; 3 where t is outside 1 to 4; 5 where client is outside 1 to 16; 13 where no call is in hand.
- * Changes the state; count 0. Results: 4 a read, or a write before its last round, whose content is then never read; 5 a write in its last
- * round: a later read may give its content or not. */
+ * Refusals: 255 where state_len is not 24,640; 3 where t is outside 1 to 4; 5 where client is outside 1 to 16, or with a write in hand outside
+ * 1 to 8; 13 where no call is in hand. Changes the state; count 0. Results: 4 a read, or a write before its last round, whose content is then
+ * never read; 5 a write in its last round: a later read may give its content or not. */
 uint64_t cendrulas_client_give_up(uint8_t *state, size_t state_len, size_t t, size_t client);
 
 /* ---- The drill: all servers and clients of a shelf in a work area, and a sheet of steps (document 01, "Drill sheets"). */

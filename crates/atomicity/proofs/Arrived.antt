@@ -1,5 +1,6 @@
 -- A correct server whose reply to the round in hand has come in is marked: the reply fits, so it was let in or its server had replied; refusal
--- 14 and the answer 11 do not come while numbers are small and histories have room, and a reply refused with 15 has not come in.
+-- 5 does not come to a client that began its call, 14 and the answer 11 not while numbers are small and histories have room, and a reply refused
+-- with 15 has not come in.
 -- Assumes nothing.
 use mathlib.Core.Path.{_≡_, refl, sym, ap, _∙_, subst}
 use mathlib.Core.Bool.{Bool, true, false, not}
@@ -11,7 +12,7 @@ use native.Mathlib.Omega.{arith}
 use lib.Dec.{ltb}
 use lib.ListN.{length, length-append}
 use borrow.Author.Tests.{leb-true, eq-eqb}
-use Rattle.cluster.specs.Ranges.{topFaults, topClient, topNumber, capacity, contentRoom}
+use Rattle.cluster.specs.Ranges.{topFaults, topWriter, topClient, topNumber, capacity, contentRoom}
 use Rattle.cluster.specs.Refusals.{onRefusal}
 use Rattle.protocol.specs.declared.Stamp.{Stamp}
 use Rattle.protocol.specs.Values.{Candidate, blankCandidate}
@@ -19,7 +20,7 @@ use Rattle.protocol.specs.Packet.{Body, Packet, kindOf, decode}
 use Rattle.protocol.specs.Rules.{upd}
 use Rattle.protocol.specs.Server.{act}
 use Rattle.protocol.specs.Client.{Client, Hand, Turn, refused, idle, clocking, storing, completing, collecting, filtering, repairing, awaits, isIdle}
-use Rattle.protocol.specs.Client.{isFull, tooHigh, highAt, badFaults, accepted}
+use Rattle.protocol.specs.Client.{isFull, tooHigh, highAt, badFaults, badClient, ofWrite, accepted}
 use Rattle.protocol.specs.Client.{onto, begun, higher, stampIn, codeIn}
 use Rattle.protocol.specs.Runs.{Lent, take-reply}
 use Rattle.atomicity.specs.Lists.{Ever}
@@ -32,6 +33,7 @@ use Rattle.atomicity.proofs.Moves.{Fits, kept, wbegan, rbegan, quit, to
 use Rattle.atomicity.proofs.Rounds.{Next, turn-turned}
 use Rattle.atomicity.proofs.Positions.{next-stage, stage, stage-awaits, stage-bound, pos, ever-before}
 use Rattle.atomicity.proofs.Sources.{MadeBy, Told, reply-source, sent-made}
+use Rattle.atomicity.proofs.Begun.{hand-writer}
 use Rattle.atomicity.proofs.Genuine.{Genuine, latest-known}
 use Rattle.atomicity.proofs.Heard.{Heard, heard, asked-at}
 use Rattle.atomicity.proofs.Telling.{at-step}
@@ -119,6 +121,14 @@ module _ (K : Setup) (c : ℕ) where
   good-faults : badFaults (K .s .config) ≡ false
   good-faults = ap not (within-in 1 topFaults (K .s .config .t) (K .legal .faulty) (omega (arith, K .legal .most, K .legal .few)))
 
+  -- refusal 5 does not come: a write in hand is a writer's
+  own-client : (xs : Steps K) → 1 ≤ c → c ≤ topClient → badClient (ofWrite (awaits (hand K xs c))) c ≡ false
+  own-client xs low high = go (ofWrite (awaits (hand K xs c))) refl
+    where
+      go : (w : Bool) → ofWrite (awaits (hand K xs c)) ≡ w → badClient w c ≡ false
+      go true e = ap not (within-in 1 topWriter c low (hand-writer (K .s) xs c e))
+      go false e = ap not (within-in 1 topClient c low high)
+
   pub arrived : (xs : Steps K) → Fair K xs → K .correct .client c ≡ true → (b : ℕ) → (n k : ℕ) → n ≡ calls K xs c → k ≡ awaits (hand K xs c) →
       isIdle (hand K xs c) ≡ false → Roomy k xs → Ever (Arr n k b) xs →
       replied K xs c b ≡ true
@@ -199,8 +209,7 @@ module _ (K : Setup) (c : ℕ) where
           code-cases (code (K .s) c (cli K xs c) p (length (a .output))) (replied K xs c (p .head .server))
           (highAt (K .s .P) (K .s .config) c (K .s .writers) (K .s .keys) (cli K xs c) (p .head .server) (p .body))
           (ltb (length (a .output)) contentRoom)
-          (code-is (K .s) c (cli K xs c) p (length (a .output)) good-faults (within-in 1 topClient c (rg .0) (rg .1)) same-t (a .client)
-          busy' call kind)
+          (code-is (K .s) c (cli K xs c) p (length (a .output)) good-faults (own-client xs (rg .0) (rg .1)) same-t (a .client) busy' call kind)
           (λ u. subst (λ (z : Client). z .marks b ≡ true) (sym e) (subst (λ (i : ℕ). replied K xs c i ≡ true) (a .server) u))
           (λ u. absurd (not-high xs (past K x xs fair) (p .head .server) (p .body)
           (isFull (K .s .config) (upd (replied K xs c) (p .head .server) true)) (hand K xs c) refl room' ev u))

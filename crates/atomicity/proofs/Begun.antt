@@ -5,14 +5,14 @@ use mathlib.Core.Path.{_≡_, refl, sym, subst}
 use mathlib.Core.Bool.{Bool, true, cond, not}
 use mathlib.Core.List.{List, [], _∷_, _++_}
 use mathlib.Core.Logic.{_⊎_, inl, inr}
-use Prim.Native.Nat.{ℕ, suc}
+use Prim.Native.Nat.{ℕ, suc, _≤_}
 use lib.ListN.{length}
 use Rattle.cluster.specs.Config.{Config}
-use Rattle.cluster.specs.Ranges.{within, leastLength, topLength}
+use Rattle.cluster.specs.Ranges.{within, topWriter, leastLength, topLength}
 use Rattle.protocol.specs.Format.{Bytes}
 use Rattle.protocol.specs.Packet.{decode}
-use Rattle.protocol.specs.Client.{Client, Hand, Result, Turn, isIdle, writeRefusal, writeStep, idle, clocking, storing, completing, collecting}
-use Rattle.protocol.specs.Client.{filtering, repairing, begun, onto, prepared, candidateMade, shareMade, sharesMade, stampOf, accepted}
+use Rattle.protocol.specs.Client.{Client, Hand, Result, Turn, awaits, isIdle, ofWrite, writeRefusal, writeStep, idle, clocking, storing, completing}
+use Rattle.protocol.specs.Client.{collecting, filtering, repairing, begun, onto, prepared, candidateMade, shareMade, sharesMade, stampOf, accepted}
 use Rattle.protocol.specs.Runs.{Step, write, take-reply, Fed}
 use Rattle.protocol.proofs.ValueRuns.{nowValues, doValues, setClient}
 use Rattle.protocol.proofs.Fine.{at-refusal}
@@ -32,6 +32,12 @@ write-length : (s : Config) (c : ℕ) (cl : Client) (r n : List ℕ) → accepte
 unfolding writeStep
 write-length s c cl r n = at-refusal (λ (u : Turn). accepted (u .result) ≡ true → within leastLength topLength (length r) ≡ true)
     (writeRefusal s c (length r) (not (isIdle (cl .hand))) (cl .calls)) _ _ (λ e q. write-passed s c cl r e .1) (λ q. clash q refl)
+
+-- and its client a writer
+write-client : (s : Config) (c : ℕ) (cl : Client) (r n : List ℕ) → accepted (writeStep s c cl r n .result) ≡ true → c ≤ topWriter
+unfolding writeStep
+write-client s c cl r n = at-refusal (λ (u : Turn). accepted (u .result) ≡ true → c ≤ topWriter)
+    (writeRefusal s c (length r) (not (isIdle (cl .hand))) (cl .calls)) _ _ (λ e q. write-passed s c cl r e .0) (λ q. clash q refl)
 
 module _ (s : System) where
   -- the write was begun
@@ -119,6 +125,28 @@ module _ (s : System) where
   mark-length xs m i = ever-out (Opening (m .client) (m .content) (m .nonce)) xs
       (λ y ys o. write-length (s .config) (m .client) (clientAt s ys (m .client)) (m .content) (m .nonce)
       (subst (λ (st : Step). accepted (perform s (now s ys) st .result) ≡ true) (o .0) (o .1))) (opened xs m i)
+
+  opened-client : (xs : Run s) (c : ℕ) (r n : List ℕ) → Ever (Opening c r n) xs → c ≤ topWriter
+  unfolding doValues setClient
+  opened-client xs c r n ev = ever-out (Opening c r n) xs
+      (λ y ys o. write-client (s .config) c (clientAt s ys c) r n (subst (λ (st : Step). accepted (perform s (now s ys) st .result) ≡ true) (o .0) (o .1))) ev
+
+  -- a write in hand is a writer's, so 5 does not refuse its rounds
+  pub hand-writer : (xs : Run s) (c : ℕ) → ofWrite (awaits (handAt s xs c)) ≡ true → c ≤ topWriter
+  unfolding awaits Ever Known
+  hand-writer xs c = go (handAt s xs c) (known xs c)
+    where
+      marked : (m : Stamped) → In m (marks s xs) → m .client ≡ c → c ≤ topWriter
+      marked m i e = subst (λ (d : ℕ). d ≤ topWriter) e (opened-client xs (m .client) (m .content) (m .nonce) (opened xs m i))
+
+      go : (h : Hand) → Known xs c h → ofWrite (awaits h) ≡ true → c ≤ topWriter
+      go idle k e = clash e refl
+      go (clocking r n h) k e = opened-client xs c r n k
+      go (storing d g) k e = marked (k .0) (k .1) (k .2)
+      go (completing d) k e = marked (k .0) (k .1) (k .2)
+      go (collecting g) k e = clash e refl
+      go (filtering cs g) k e = clash e refl
+      go (repairing d r) k e = clash e refl
 
   -- what a mark digests is among the inputs digested
   pub mark-digested : (xs : Run s) (m : Stamped) (u : List ℕ) → In m (marks s xs) → In u (digestsWith s m) → In u (allDigested s (account s) xs)

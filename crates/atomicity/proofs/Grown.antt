@@ -9,14 +9,14 @@ use native.Mathlib.Omega.{arith}
 use lib.Dec.{ltb, eqb}
 use lib.ListN.{length}
 use borrow.Author.Tests.{eqb-true, eq-eqb}
-use Rattle.cluster.specs.Ranges.{within, topClient, contentRoom}
+use Rattle.cluster.specs.Ranges.{contentRoom}
 use Rattle.cluster.specs.Refusals.{onRefusal}
 use Rattle.protocol.specs.Values.{Candidate, Held, sameList}
 use Rattle.protocol.specs.Packet.{Body, Packet, kindOf, decode}
 use Rattle.protocol.specs.Rules.{ByServer, upd, leader, tagsIn}
 use Rattle.protocol.specs.Server.{replyTo}
 use Rattle.protocol.specs.Client.{Client, Hand, Turn, refused, idle, clocking, storing, completing, collecting, filtering, repairing, awaits, isIdle}
-use Rattle.protocol.specs.Client.{highAt, badFaults}
+use Rattle.protocol.specs.Client.{highAt, badFaults, badClient, ofWrite}
 use Rattle.protocol.specs.Client.{update, judge, found, onto, prepared, codeIn, takeRefusal, takeStep, turnOn}
 use Rattle.protocol.specs.Runs.{Lent, Step, take-reply}
 use Rattle.protocol.proofs.ValueRuns.{doValues, setClient}
@@ -84,15 +84,15 @@ module _ (s : System) (c : ℕ) where
   code cl p room = takeRefusal (s .config) c (some p) (cl .calls) (awaits (cl .hand)) (cl .marks)
       (highAt (s .P) (s .config) c (s .writers) (s .keys) cl) room
 
-  pub code-is : (cl : Client) (p : Packet) (room : ℕ) → badFaults (s .config) ≡ false → within 1 topClient c ≡ true → p .head .t ≡ s .config .t →
+  pub code-is : (cl : Client) (p : Packet) (room : ℕ) → badFaults (s .config) ≡ false → badClient (ofWrite (awaits (cl .hand))) c ≡ false → p .head .t ≡ s .config .t →
       p .head .client ≡ c → isIdle (cl .hand) ≡ false → p .head .call ≡ cl .calls → kindOf (p .body) ≡ awaits (cl .hand) →
       code cl p room ≡ cond (cl .marks (p .head .server)) 12
       (cond (highAt (s .P) (s .config) c (s .writers) (s .keys) cl (p .head .server) (p .body)) 14 (cond (ltb room contentRoom) 15 0))
   unfolding takeRefusal isIdle
   code-is cl p room f r t m i l k =
-      ap (λ (z : Bool). cond z 3 (cond (not (within 1 topClient c)) 5
+      ap (λ (z : Bool). cond z 3 (cond (badClient (ofWrite (awaits (cl .hand))) c) 5
       (cond (not (eqb (p .head .t) (s .config .t) && eqb (p .head .client) c)) 8 T12))) f
-      ∙ ap (λ (z : Bool). cond (not z) 5 (cond (not (eqb (p .head .t) (s .config .t) && eqb (p .head .client) c)) 8 T12)) r
+      ∙ ap (λ (z : Bool). cond z 5 (cond (not (eqb (p .head .t) (s .config .t) && eqb (p .head .client) c)) 8 T12)) r
       ∙ ap (λ (z : Bool). cond (not (z && eqb (p .head .client) c)) 8 T12) (eq-eqb (p .head .t) (s .config .t) t)
       ∙ ap (λ (z : Bool). cond (not z) 8 T12) (eq-eqb (p .head .client) c m)
       ∙ ap (λ (z : Bool). cond (not z &&

@@ -9,15 +9,15 @@ use Prim.Native.Nat.{ℕ, _≤_}
 use native.Mathlib.Omega.{arith}
 use lib.ListN.{length}
 use lib.Dec.{eqb}
-use borrow.Author.Tests.{eqb-true, not-false, not-true}
+use borrow.Author.Tests.{eqb-true, not-false}
 use Rattle.cluster.specs.Config.{Config}
-use Rattle.cluster.specs.Ranges.{within, topWriter, topClient, leastLength, topLength}
+use Rattle.cluster.specs.Ranges.{within, topWriter, leastLength, topLength}
 use Rattle.cluster.proofs.Tests.{or-none, inside, passes}
 use Rattle.protocol.specs.Values.{blankCandidate}
 use Rattle.protocol.specs.Packet.{Packet, kindOf, decode}
 use Rattle.protocol.specs.Rules.{nobody}
 use Rattle.protocol.specs.Client.{Client, Turn, Result, more, aborted, idle, clocking, collecting, awaits, isIdle, highAt, onto, begun, badFaults}
-use Rattle.protocol.specs.Client.{accepted}
+use Rattle.protocol.specs.Client.{badClient, ofWrite, accepted}
 use Rattle.protocol.specs.Client.{writeRefusal, readRefusal, abortRefusal, takeRefusal, writeStep, readStep, abortStep, takeStep, turnOn}
 use Rattle.protocol.specs.Runs.{Lent, Step, write, read, make, take-reply, give-up, serve}
 use Rattle.protocol.proofs.ValueRuns.{World, doValues, nowValues, setClient}
@@ -33,7 +33,7 @@ pub write-passed : (s : Config) (c : ℕ) (cl : Client) (r : List ℕ) → write
 unfolding writeRefusal
 write-passed s c cl r e =
     let z1 = passes (badFaults s) 2 _ e in
-    let z2 = passes (not (within 1 topWriter c)) 4 _ (z1 .1) in
+    let z2 = passes (badClient true c) 4 _ (z1 .1) in
     let z3 = passes (not (within leastLength topLength (length r))) 5 _ (z2 .1) in
     let z4 = passes (not (isIdle (cl .hand))) 12 _ (z3 .1) in
     (inside 1 topWriter c (z2 .0) .1, not-false _ (z3 .0), not-false _ (z4 .0))
@@ -73,7 +73,7 @@ pub take-fits : (s : System) (c : ℕ) (cl : Client) (p : Packet) (room : ℕ) �
 unfolding takeRefusal highAt isIdle
 take-fits s c cl p room e =
     let z1 = passes (badFaults (s .config)) 2 _ e in
-    let z2 = passes (not (within 1 topClient c)) 4 _ (z1 .1) in
+    let z2 = passes (badClient (ofWrite (awaits (cl .hand))) c) 4 _ (z1 .1) in
     let z3 = passes (not (eqb (p .head .t) (s .config .t) && eqb (p .head .client) c)) 7 _ (z2 .1) in
     let z4 = passes (not (eqb (awaits (cl .hand)) 0) &&
     (not (eqb (p .head .call) (cl .calls) && eqb (kindOf (p .body)) (awaits (cl .hand))) || cl .marks (p .head .server))) 11 _ (z3 .1) in
@@ -107,18 +107,18 @@ module _ (s : System) (c : ℕ) (cl : Client) where
   unfolding readStep readRefusal
   read-moved = at-refusal (MovedBy (read c)) (readRefusal (s .config) c (not (isIdle (cl .hand))) (cl .calls)) _ _
       (λ e. let z1 = passes (badFaults (s .config)) 2 _ e in
-      let z2 = passes (not (within 1 topClient c)) 4 _ (z1 .1) in
+      let z2 = passes (badClient false c) 4 _ (z1 .1) in
       let z3 = passes (not (isIdle (cl .hand))) 12 _ (z2 .1) in
       rbegan refl refl (not-false _ (z3 .0)) refl)
       (kept refl (λ q. refl))
 
   quit-moved : MovedBy (give-up c) (abortStep (s .config) c cl)
-  unfolding abortStep abortRefusal
-  quit-moved = at-refusal (MovedBy (give-up c)) (abortRefusal (s .config) c (not (isIdle (cl .hand)))) _ _
+  unfolding abortStep abortRefusal isIdle
+  quit-moved = at-refusal (MovedBy (give-up c)) (abortRefusal (s .config) c (awaits (cl .hand))) _ _
       (λ e. let z1 = passes (badFaults (s .config)) 2 _ e in
-      let z2 = passes (not (within 1 topClient c)) 4 _ (z1 .1) in
-      let z3 = passes (not (not (isIdle (cl .hand)))) 12 _ (z2 .1) in
-      quit refl refl (not-true _ (not-false _ (z3 .0))) refl)
+      let z2 = passes (badClient (ofWrite (awaits (cl .hand))) c) 4 _ (z1 .1) in
+      let z3 = passes (eqb (awaits (cl .hand)) 0) 12 _ (z2 .1) in
+      quit refl refl (z3 .0) refl)
       (kept refl (λ q. refl))
 
   take-moved : (lent : Lent) (b o : List ℕ) (q : Option Packet) → decode b ≡ q →
@@ -127,7 +127,7 @@ module _ (s : System) (c : ℕ) (cl : Client) where
   take-moved lent b o none d = at-refusal (MovedBy (take-reply c lent b o))
       (takeRefusal (s .config) c none (cl .calls) (awaits (cl .hand)) (cl .marks)
       (highAt (s .P) (s .config) c (s .writers) (s .keys) cl) (length o)) _ _
-      (λ e. let z1 = passes (badFaults (s .config)) 2 _ e in let z2 = passes (not (within 1 topClient c)) 4 _ (z1 .1) in
+      (λ e. let z1 = passes (badFaults (s .config)) 2 _ e in let z2 = passes (badClient (ofWrite (awaits (cl .hand))) c) 4 _ (z1 .1) in
       absurd (omega (arith, z2 .1)))
       (kept refl (λ q. refl))
   take-moved lent b o (some p) d = at-refusal (MovedBy (take-reply c lent b o))

@@ -9,14 +9,14 @@ use mathlib.Core.Logic.{_⊎_, inl, inr}
 use Prim.Native.Nat.{ℕ, zero, suc, _≤_}
 use lib.ListN.{length}
 use lib.Dec.{eqb}
-use borrow.Author.Tests.{eqb-true, eq-eqb, not-false, not-true}
-use Rattle.cluster.specs.Ranges.{within, topClient}
+use borrow.Author.Tests.{eqb-true, eq-eqb, not-false}
+use Rattle.cluster.specs.Ranges.{within}
 use Rattle.cluster.specs.Refusals.{onRefusal}
 use Rattle.cluster.proofs.Tests.{inside, passes}
 use Rattle.protocol.specs.Packet.{Packet, decode}
 use Rattle.protocol.specs.Rules.{upd}
-use Rattle.protocol.specs.Server.{Server, Stepped, barred, replyTo, serverRefusal, serverStep, answered}
-use Rattle.protocol.specs.Client.{Client, Result, Made, isIdle, made, badFaults, accepted}
+use Rattle.protocol.specs.Server.{Server, memoryOf, Stepped, barred, replyTo, serverRefusal, serverStep, answered}
+use Rattle.protocol.specs.Client.{Client, Result, Made, awaits, isIdle, made, badFaults, badClient, ofWrite, accepted}
 use Rattle.protocol.specs.Client.{makeRefusal, makeStep}
 use Rattle.protocol.specs.Runs.{Step, write, read, make, take-reply, give-up, serve, resultOf}
 use Rattle.protocol.proofs.ValueRuns.{World, doValues, nowValues, setClient}
@@ -32,9 +32,10 @@ pub record Asked (s : System) (j : ℕ) (p : Packet) : Type 0 where
   pub mine : p .head .server ≡ j
   pub allowed : barred (p .head .client) (p .body) ≡ false
 
-pub serve-asked : (s : System) (j : ℕ) (p : Packet) (room : ℕ) → serverRefusal (s .config .t) j (some p) room ≡ 0 → Asked s j p
+pub serve-asked : (s : System) (j : ℕ) (v : Server) (p : Packet) (room : ℕ) →
+    serverRefusal true (some (memoryOf (s .config .t) j v)) (some p) room ≡ 0 → Asked s j p
 unfolding serverRefusal
-serve-asked s j p room e =
+serve-asked s j v p room e =
     let z1 = passes (not (eqb (p .head .t) (s .config .t) && eqb (p .head .server) j)) 7 _ e in
     let z2 = passes (barred (p .head .client) (p .body)) 8 _ (z1 .1) in
     let a = not-false (eqb (p .head .t) (s .config .t) && eqb (p .head .server) j) (z1 .0) in
@@ -73,12 +74,12 @@ serve-view : (s : System) (b : ℕ) (v : Server) (o : List ℕ) (q : Option Pack
     Handled s b v q (serverStep (s .P) (s .config) (s .keys b) b v (length o) q)
 unfolding serverStep answered serverRefusal
 serve-view s b v o none = inl (refl, λ r k. no-some k)
-serve-view s b v o (some a) = go (serverRefusal (s .config .t) b (some a) (length o)) refl
+serve-view s b v o (some a) = go (serverRefusal true (some (memoryOf (s .config .t) b v)) (some a) (length o)) refl
   where
-    go : (k : ℕ) → serverRefusal (s .config .t) b (some a) (length o) ≡ k →
+    go : (k : ℕ) → serverRefusal true (some (memoryOf (s .config .t) b v)) (some a) (length o) ≡ k →
         Handled s b v (some a) (onRefusal k (answered (s .P) (s .config) (s .keys b) b v (length o) (some a))
         (record { number = k; server = v; reply = none }))
-    go zero z = inr (a, refl, serve-asked s b a (length o) z, refl, refl, refl)
+    go zero z = inr (a, refl, serve-asked s b v a (length o) z, refl, refl, refl)
     go (suc n) z = inl (refl, λ r k. no-some k)
 
 -- ---- one step from any world: a run's moments follow
@@ -132,32 +133,32 @@ module _ (s : System) (w : World) where
       }
 
   step-making : (c : ℕ) (x : Step) (p : Packet) → makes c x ≡ true → perform s w x .sent ≡ some p → Making s c (w .client c) p
-  unfolding doValues setClient makeStep makeRefusal
+  unfolding doValues setClient makeStep makeRefusal isIdle
   step-making c (write d r n) p e f = clash e refl
   step-making c (read d) p e f = clash e refl
   step-making c (take-reply d lent b o) p e f = clash e refl
   step-making c (give-up d) p e f = clash e refl
   step-making c (serve b q o) p e f = clash e refl
-  step-making c (make d b o) p e f = go (makeRefusal (s .config) d b (not (isIdle (w .client d .hand))) (length o)) refl f
+  step-making c (make d b o) p e f = go (makeRefusal (s .config) d b (awaits (w .client d .hand)) (length o)) refl f
     where
       same-client : d ≡ c
       same-client = sym (eqb-true c d e)
 
-      go : (k : ℕ) → makeRefusal (s .config) d b (not (isIdle (w .client d .hand))) (length o) ≡ k →
+      go : (k : ℕ) → makeRefusal (s .config) d b (awaits (w .client d .hand)) (length o) ≡ k →
           (onRefusal {A = Made} k (record { number = 0; packet = some (made (s .config .t) d (w .client d) b) })
           (record { number = k; packet = none })) .packet ≡ some p → Making s c (w .client c) p
       go (suc n) z q = absurd (no-some q)
       go zero z q =
           let z1 = passes (badFaults (s .config)) 2 _ z in
           let z2 = passes (not (within 1 (s .config .servers) b)) 3 _ (z1 .1) in
-          let z3 = passes (not (within 1 topClient d)) 4 _ (z2 .1) in
-          let z4 = passes (not (not (isIdle (w .client d .hand)))) 12 _ (z3 .1) in
+          let z3 = passes (badClient (ofWrite (awaits (w .client d .hand))) d) 4 _ (z2 .1) in
+          let z4 = passes (eqb (awaits (w .client d .hand)) 0) 12 _ (z3 .1) in
           let i = inside 1 (s .config .servers) b (z2 .0) in
           record {
             to = b;
             low = i .0;
             high = i .1;
-            busy = subst (λ (i : ℕ). isIdle (w .client i .hand) ≡ false) same-client (not-true _ (not-false _ (z4 .0)));
+            busy = subst (λ (i : ℕ). isIdle (w .client i .hand) ≡ false) same-client (z4 .0);
             is = sym (Option·some-injective _ _ q) ∙ ap (λ (i : ℕ). made (s .config .t) i (w .client i) b) same-client;
           }
 

@@ -1,17 +1,17 @@
 -- What a begin does in each of its cases: kept bytes of another length, a refusal, or a call that begins; and what an accepted begin tells of its arguments.
 -- Each is the definition with the case's tests put in. Assumes nothing.
 use mathlib.Core.Path.{_≡_, _∙_}
-use mathlib.Core.Bool.{not}
+use mathlib.Core.Bool.{true, false, not}
 use mathlib.Core.List.{List}
 use Prim.Native.Nat.{ℕ, suc, _≤_, _<_, _*_}
 use lib.Dec.{leb}
 use lib.ListN.{length, replicate}
 use borrow.Author.Tests.{eq-eqb, ne-eqb, leb-false}
 use Rattle.cluster.specs.Config.{shelf}
-use Rattle.cluster.specs.Ranges.{within, topWriter, topClient, mostServers, topNumber, topLength, leastLength}
+use Rattle.cluster.specs.Ranges.{within, mostServers, topNumber, topLength, leastLength}
 use Rattle.cluster.proofs.Tests.{inside, passes, refused-is}
 use Rattle.protocol.specs.declared.Call.{Call}
-use Rattle.protocol.specs.Client.{badFaults, writeRefusal, readRefusal}
+use Rattle.protocol.specs.Client.{badFaults, badClient, writeRefusal, readRefusal}
 use Rattle.protocol.specs.View.{keptSize, nonceAt, candidatesAt, candidateSlot}
 use Rattle.protocol.specs.ClientBytes.{inHand, put, fresh, beginWrite, beginRead}
 use Rattle.client.specs.Rounds.{writeByRounds, readByRounds}
@@ -53,7 +53,7 @@ module _ (t client : ℕ) (c : Call) (kept : List ℕ) where
     unfolding writeRefusal
     write-fits e =
         let p₁ = passes (badFaults (shelf t)) 2 _ e in
-        let p₂ = passes (not (within 1 topWriter client)) 4 _ (p₁ .1) in
+        let p₂ = passes (badClient true client) 4 _ (p₁ .1) in
         let p₃ = passes (not (within leastLength topLength (length content))) 5 _ (p₂ .1) in
         let p₄ = passes (inHand c) 12 _ (p₃ .1) in
         let p₅ = passes (leb topNumber (c .number)) 13 _ (p₄ .1) in
@@ -92,7 +92,7 @@ module _ (t client : ℕ) (c : Call) (kept : List ℕ) where
   unfolding readRefusal
   read-fits e =
       let p₁ = passes (badFaults (shelf t)) 2 _ e in
-      let p₂ = passes (not (within 1 topClient client)) 4 _ (p₁ .1) in
+      let p₂ = passes (badClient false client) 4 _ (p₁ .1) in
       let p₃ = passes (inHand c) 12 _ (p₂ .1) in
       leb-false topNumber (c .number) (passes (leb topNumber (c .number)) 13 _ (p₃ .1) .0)
 

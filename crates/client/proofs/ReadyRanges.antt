@@ -11,6 +11,9 @@ use Rattle.cluster.proofs.Tests.{inside}
 use Rattle.protocol.specs.declared.Call.{Call}
 use Rattle.protocol.specs.declared.Head.{Head}
 use Rattle.protocol.specs.Packet.{decode}
+use Rattle.protocol.specs.Client.{ofWrite}
+use Rattle.protocol.specs.ClientBytes.{awaited}
+use Rattle.protocol.proofs.LetIn.{client-range}
 use Rattle.wire.specs.Places.{packetAt}
 use Rattle.wire.proofs.Laws.{head-ranges}
 use Rattle.client.specs.Steps.{Ready}
@@ -26,7 +29,7 @@ module _ (t client : ℕ) (c : Call) (reply : List ℕ) (h : Head) (y : Ready t 
   ready-faults = inside 1 topFaults t (y .faults)
 
   pub ready-client : (1 ≤ client) × (client ≤ topClient)
-  ready-client = inside 1 topClient client (y .reader)
+  ready-client = client-range (ofWrite (awaited c)) client (y .reader)
 
   pub ready-server : (1 ≤ h .server) × (h .server ≤ mostServers)
   ready-server = server-range reply h (y .decoded)

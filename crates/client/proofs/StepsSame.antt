@@ -7,9 +7,8 @@ use mathlib.Core.Option.{none, some}
 use Prim.Native.Nat.{ℕ, zero, suc, _*_}
 use lib.Dec.{T, eqb}
 use lib.ListN.{length, replicate}
-use borrow.Author.Tests.{not-false}
 use Rattle.cluster.specs.Config.{Config, shelf}
-use Rattle.cluster.specs.Ranges.{within, mostServers, topClient}
+use Rattle.cluster.specs.Ranges.{within, mostServers}
 use Rattle.cluster.specs.Refusals.{onRefusal}
 use Rattle.cluster.proofs.Tests.{passes}
 use Rattle.protocol.specs.declared.Call.{Call}
@@ -17,23 +16,23 @@ use Rattle.protocol.specs.declared.Aborted.the-variants as aborts
 use Rattle.protocol.specs.Values.{blankCandidate}
 use Rattle.protocol.specs.Packet.{encode}
 use Rattle.protocol.specs.Rules.{countTo, nobody}
-use Rattle.protocol.specs.Client.{Turn, Made, made, refused, more, aborted, idle, clocking, collecting, awaits, onto, begun, badFaults, writeRefusal, readRefusal, abortRefusal, makeRefusal, writeStep, readStep, abortStep, makeStep}
+use Rattle.protocol.specs.Client.{Turn, Made, made, refused, more, aborted, idle, clocking, collecting, awaits, onto, begun, badFaults, badClient, ofWrite, writeRefusal, readRefusal, abortRefusal, makeRefusal, writeStep, readStep, abortStep, makeStep}
 use Rattle.protocol.specs.ServerBytes.{over}
 use Rattle.protocol.specs.View.{handOf, view, nonceAt, candidateSlot, candidatesAt}
-use Rattle.protocol.specs.ClientBytes.{put, fresh, inHand, Begun, GaveUp, Written, sentOf, putMarks, begins, putBack, told, after, begunBy, beginWrite, beginRead, giveUp, clientMake}
+use Rattle.protocol.specs.ClientBytes.{put, fresh, inHand, awaited, Begun, GaveUp, Written, sentOf, putMarks, begins, putBack, told, after, begunBy, beginWrite, beginRead, giveUp, clientMake}
 use Rattle.client.specs.Rounds.{withTally, writeByRounds, readByRounds, abortByRounds, makeByRounds}
-use Rattle.protocol.proofs.ClientLift.{out-of-rounds, pending-is}
+use Rattle.protocol.proofs.ClientLift.{out-of-rounds, busy-is, awaits-is, pending-is}
 use Rattle.protocol.proofs.LetIn.{write-idle, read-idle, other-round, either}
 use Rattle.protocol.proofs.PutMarks.{marks-fresh}
 use Rattle.protocol.proofs.Marks.{count-nobody}
 
 -- a call is given up where one is
-abort-busy : (s : Config) (client : ℕ) (pending : Bool) → abortRefusal s client pending ≡ 0 → pending ≡ true
+abort-busy : (s : Config) (client : ℕ) (c : Call) → abortRefusal s client (awaited c) ≡ 0 → inHand c ≡ true
 unfolding abortRefusal
-abort-busy s client pending e =
+abort-busy s client c e =
     let (a, e5) = passes (badFaults s) 2 _ e in
-    let (w, e13) = passes (not (within 1 topClient client)) 4 _ e5 in
-    not-false pending (passes (not pending) 12 _ e13 .0)
+    let (w, e13) = passes (badClient (ofWrite (awaited c)) client) 4 _ e5 in
+    sym (busy-is c) ∙ ap not (passes (eqb (awaited c) 0) 12 _ e13 .0)
 
 -- the two steps agree where their refusals do and what they do agrees
 at-refusals : {A B : Type 0} (f : A → B) (ok : A) (down : ℕ → A) (ok' down' : ℕ → B) (m n : ℕ) → m ≡ n → (n ≡ 0 → f ok ≡ ok' 0)
@@ -110,8 +109,8 @@ module _ (t client : ℕ) (c : Call) (wide : length (c .tally .marks) ≡ mostSe
       at-refusals gave-up _ (λ n. record { client = view s c []; result = refused n })
       (λ n. record { answer = cond (eqb (c .tally .round) 3) aborts.InComplete aborts.Before; call = withTally c (fresh 0) })
       (λ n. record { answer = aborts.Refused n; call = c }) _ _
-      (ap (λ (z : Bool). abortRefusal s client z) (pending-is s c []))
-      (λ e. end (abort-busy s client (inHand c) e)) (λ k. unfold after in refl)
+      (ap (abortRefusal s client) (awaits-is s c []))
+      (λ e. end (abort-busy s client c e)) (λ k. unfold after in refl)
     where
       gave-up : Turn → GaveUp
       gave-up u =
@@ -137,7 +136,7 @@ module _ (t client : ℕ) (c : Call) where
       }) (record { number = 0; packet = some (made t client (view sh c kept) b) }) (λ n. record { number = n; packet = none })
       (λ n. record { result = record { number = n; count = length bytes }; output = over bytes output })
       (λ n. record { result = record { number = n; count = 0 }; output = output }) _ _
-      (ap (λ (z : Bool). makeRefusal sh client b z (length output)) (pending-is sh c kept)) (λ e. refl) (λ k. refl)
+      (ap (λ (k : ℕ). makeRefusal sh client b k (length output)) (awaits-is sh c kept)) (λ e. refl) (λ k. refl)
     where
       bytes : List ℕ
       bytes = encode (made t client (view sh c kept) b)

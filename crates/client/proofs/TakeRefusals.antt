@@ -10,7 +10,7 @@ use lib.Dec.{leb, ltb, eqb}
 use lib.ListN.{length}
 use borrow.Author.Tests.{eqb-true, eq-eqb, ne-eqb, not-false}
 use Rattle.cluster.specs.Config.{shelf}
-use Rattle.cluster.specs.Ranges.{within, topClient, topNumber, contentRoom}
+use Rattle.cluster.specs.Ranges.{topNumber, contentRoom}
 use Rattle.cluster.proofs.Tests.{and-both, passes, refused-is, accepted-is}
 use Rattle.protocol.specs.declared.Call.{Call}
 use Rattle.protocol.specs.declared.Head.{Head}
@@ -18,7 +18,7 @@ use Rattle.protocol.specs.declared.Taken.the-variants as taken
 use Rattle.protocol.specs.Packet.{Body, Packet, kindOf}
 use Rattle.protocol.specs.Primitives.{real}
 use Rattle.protocol.specs.Rules.{ByServer}
-use Rattle.protocol.specs.Client.{badFaults, takeRefusal, higher, stampIn}
+use Rattle.protocol.specs.Client.{badFaults, badClient, ofWrite, takeRefusal, higher, stampIn}
 use Rattle.protocol.specs.View.{marked}
 use Rattle.protocol.specs.ClientBytes.{Took, awaited}
 use Rattle.client.specs.Rounds.{took, takeIn, takeOn, highIn, ends}
@@ -75,7 +75,7 @@ module _ (t client : ℕ) (writers : List ℕ) (keys : ByServer (List ℕ)) (c :
   abbrev refusedWith : ℕ → Took
   refusedWith n = record { answer = taken.Refused n; call = c; kept = kept; output = output }
 
-  module _ (faults : badFaults (shelf t) ≡ false) (reader : not (within 1 topClient client) ≡ false) (kind : kindOf x ≡ h .kind) where
+  module _ (faults : badFaults (shelf t) ≡ false) (reader : badClient (ofWrite (awaited c)) client ≡ false) (kind : kindOf x ≡ h .kind) where
     list : number
         ≡ cond (foreign t client h) 8 (cond (not (eqb (awaited c) 0) && other c (awaited c) h) 12 (cond (eqb (awaited c) 0) 13
         (cond (high (h .server) x) 14 (cond (ltb (length output) contentRoom) 15 0))))

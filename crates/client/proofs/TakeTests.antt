@@ -1,7 +1,7 @@
 -- What take's tests leave of its definition: a refusal with the first test's number, which changes nothing; and what a reply that no test refuses tells.
 -- Each is the ordered list of tests with the known ones put in. Assumes nothing.
 use mathlib.Core.Path.{_≡_, refl, sym, ap, subst, _∙_}
-use mathlib.Core.Bool.{Bool, true, false, cond, not, true≢false}
+use mathlib.Core.Bool.{Bool, true, false, cond, true≢false}
 use mathlib.Core.List.{List, []}
 use mathlib.Core.Option.{Option, none, some}
 use Prim.Native.Nat.{ℕ, _*_, _≤_, _<_}
@@ -10,7 +10,7 @@ use lib.Dec.{eqb}
 use lib.ListN.{length, drop}
 use borrow.Author.Tests.{eq-eqb, ne-eqb, lt-ltb}
 use Rattle.cluster.specs.Config.{shelf}
-use Rattle.cluster.specs.Ranges.{mostServers, within, topFaults, topClient, contentRoom}
+use Rattle.cluster.specs.Ranges.{mostServers, topFaults, contentRoom}
 use Rattle.cluster.proofs.Tests.{inside, refused-is}
 use Rattle.protocol.specs.declared.Call.{Call}
 use Rattle.protocol.specs.declared.Head.{Head}
@@ -19,7 +19,7 @@ use Rattle.protocol.specs.Format.{Bytes}
 use Rattle.protocol.specs.Packet.{Packet, Body, BodyOk, printBody, collectReply, anyCandidateF, decode, headSize}
 use Rattle.protocol.specs.Primitives.{real}
 use Rattle.protocol.specs.Rules.{ByServer}
-use Rattle.protocol.specs.Client.{badFaults, takeRefusal}
+use Rattle.protocol.specs.Client.{badFaults, badClient, ofWrite, takeRefusal}
 use Rattle.protocol.specs.View.{marked, keptSize, candidateAt, candidateSlot}
 use Rattle.protocol.specs.ClientBytes.{Took, keyOf, inHand, awaited, clientTake}
 use Rattle.client.specs.Rounds.{took, takeIn, highIn, takeByRounds}
@@ -46,17 +46,15 @@ refusedWith c kept output n = record { answer = taken.Refused n; call = c; kept 
 module _ (t client : ℕ) (calls kind : ℕ) (replied : ByServer Bool) (high : ℕ → Body → Bool) (room : ℕ) where
   number-faults : (o : Option Packet) → badFaults (shelf t) ≡ true → takeRefusal (shelf t) client o calls kind replied high room ≡ 3
   unfolding takeRefusal
-  number-faults none e = rw e
-  number-faults (some p) e = rw e
+  number-faults o e = rw e
 
-  number-reader : (o : Option Packet) → badFaults (shelf t) ≡ false → not (within 1 topClient client) ≡ true → takeRefusal (shelf t) client o calls
-      kind replied high room ≡ 5
+  number-reader : (o : Option Packet) → badFaults (shelf t) ≡ false → badClient (ofWrite kind) client ≡ true
+      → takeRefusal (shelf t) client o calls kind replied high room ≡ 5
   unfolding takeRefusal
-  number-reader none f e = rw (f, e)
-  number-reader (some p) f e = rw (f, e)
+  number-reader o f e = rw (f, e)
 
-  number-broken : badFaults (shelf t) ≡ false → not (within 1 topClient client) ≡ false → takeRefusal (shelf t) client none calls kind replied high
-      room ≡ 7
+  number-broken : badFaults (shelf t) ≡ false → badClient (ofWrite kind) client ≡ false
+      → takeRefusal (shelf t) client none calls kind replied high room ≡ 7
   unfolding takeRefusal
   number-broken f e = rw (f, e)
 
@@ -82,11 +80,11 @@ module _ (t client : ℕ) (writers : List ℕ) (keys : List (List ℕ)) (c : Cal
   unfolding takeByRounds
   take-faults e = refuses (decode reply) 3 (number-faults t client _ _ _ _ _ (decode reply) e) (λ z. (let q : ⊥ = omega (arith, z) in q))
 
-  pub take-reader : badFaults (shelf t) ≡ false → not (within 1 topClient client) ≡ true → whole ≡ refusedWith c kept output 5
+  pub take-reader : badFaults (shelf t) ≡ false → badClient (ofWrite (awaited c)) client ≡ true → whole ≡ refusedWith c kept output 5
   unfolding takeByRounds
   take-reader f e = refuses (decode reply) 5 (number-reader t client _ _ _ _ _ (decode reply) f e) (λ z. (let q : ⊥ = omega (arith, z) in q))
 
-  module _ (faults : badFaults (shelf t) ≡ false) (reader : not (within 1 topClient client) ≡ false) where
+  module _ (faults : badFaults (shelf t) ≡ false) (reader : badClient (ofWrite (awaited c)) client ≡ false) where
     pub take-broken : decode reply ≡ none → whole ≡ refusedWith c kept output 7
     unfolding takeByRounds
     take-broken e =

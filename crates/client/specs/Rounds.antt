@@ -64,13 +64,13 @@ readByRounds t client c kept =
 
 unfoldable pub abortByRounds : ℕ → ℕ → Call → GaveUp
 abortByRounds t client c =
-    let n = abortRefusal (shelf t) client (inHand c) in
+    let n = abortRefusal (shelf t) client (awaited c) in
     onRefusal n (record { answer = cond (eqb (c .tally .round) 3) aborts.InComplete aborts.Before; call = withTally c (fresh 0) })
     (record { answer = aborts.Refused n; call = c })
 
 unfoldable pub makeByRounds : ℕ → ℕ → ℕ → Call → List ℕ → List ℕ → Written
 makeByRounds t client b c kept output =
-    let n = makeRefusal (shelf t) client b (inHand c) (length output) in
+    let n = makeRefusal (shelf t) client b (awaited c) (length output) in
     let bytes = encode (made t client (view (shelf t) c kept) b) in
     onRefusal n (record { result = record { number = n; count = length bytes }; output = over bytes output })
     (record { result = record { number = n; count = 0 }; output = output })

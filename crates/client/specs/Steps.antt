@@ -7,7 +7,6 @@ use Prim.Native.Nat.{ℕ, zero, suc, _+_, _*_}
 use lib.Dec.{eqb}
 use lib.ListN.{length}
 use Rattle.cluster.specs.Config.{shelf}
-use Rattle.cluster.specs.Ranges.{within, topClient}
 use Rattle.cluster.specs.Refusals.{refuse, firstOf}
 use Rattle.hmac.specs.Hmac.{tagOf}
 use Rattle.sha256.specs.Sha256.{sha256}
@@ -17,7 +16,7 @@ use Rattle.protocol.specs.declared.Head.{Head}
 use Rattle.protocol.specs.Values.{runOf}
 use Rattle.protocol.specs.Format.{print2}
 use Rattle.protocol.specs.Packet.{decode, candidateF}
-use Rattle.protocol.specs.Client.{badFaults, candidateMade, sharesMade}
+use Rattle.protocol.specs.Client.{badFaults, badClient, ofWrite, candidateMade, sharesMade}
 use Rattle.wire.specs.Places.{packetAt}
 use Rattle.protocol.specs.ServerBytes.{over}
 use Rattle.protocol.specs.View.{marked, part, repliesAt, replySlot, chosenAt, contentOf, nonceOf}
@@ -77,7 +76,7 @@ writeMade t client writers keys c kept k =
 pub record Ready (t client : ℕ) (c : Call) (reply : List ℕ) (h : Head) : Type 0 where
   pub decoded : decode reply ≡ some (packetAt h reply)
   pub faults : badFaults (shelf t) ≡ false
-  pub reader : not (within 1 topClient client) ≡ false
+  pub reader : badClient (ofWrite (awaited c)) client ≡ false
   pub awaited : replyRefusal t client c h ≡ 0
 
 -- the answer a, kept bytes and output after it are those of the step that takes the reply

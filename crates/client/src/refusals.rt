@@ -3,11 +3,11 @@ ghost use mathlib.Core.Path.{_≡_};
 ghost use Prim.Native.Nat.{_≤_};
 ghost use Rattle.cluster.specs.Config.{shelf};
 ghost use Rattle.cluster.specs.Ranges.{topFaults};
-ghost use Rattle.protocol.specs.Client.{writeRefusal, readRefusal, makeRefusal, abortRefusal};
-ghost use Rattle.protocol.specs.ClientBytes.{inHand};
+ghost use Rattle.protocol.specs.Client.{badClient, ofWrite, writeRefusal, readRefusal, makeRefusal, abortRefusal};
+ghost use Rattle.protocol.specs.ClientBytes.{inHand, awaited};
 
 // A call is in hand.
-pub fn is_pending(call: protocol::Call) -> bool
+pub(crate) fn is_pending(call: protocol::Call) -> bool
     ensures { λ r. ⌜ r ≡ inHand call ⌝ }
 {
     let tally = call.tally;
@@ -16,6 +16,28 @@ pub fn is_pending(call: protocol::Call) -> bool
         return false;
     }
     true
+}
+
+// The kind that the round awaits, 0 with no call in hand.
+pub(crate) fn awaited_kind(call: protocol::Call) -> u8
+    ensures { λ r. ⌜ r ≡ awaited call ⌝ }
+{
+    if is_pending(call) {
+        let tally = call.tally;
+        return 2 * tally.round;
+    }
+    0
+}
+
+// Refusal 5 in a round that awaits the kind: a client outside 1 to 16; in a write's rounds one outside 1 to 8.
+pub(crate) fn bad_client(kind: u8, client: usize) -> bool
+    ensures { λ r. ⌜ r ≡ badClient (ofWrite kind) client ⌝ }
+{
+    let k = kind as usize;
+    if cluster::outside(2, 6, k) {
+        return cluster::outside(1, cluster::TOP_CLIENT, client);
+    }
+    cluster::outside(1, cluster::TOP_WRITER, client)
 }
 
 pub(crate) fn write_refusal(t: usize, client: usize, n: usize, call: protocol::Call) -> u8
@@ -65,25 +87,21 @@ pub(crate) fn servers(t: usize) -> usize
     cluster::servers(t as u8)
 }
 
-pub(crate) fn make_refusal(
-    t: usize,
-    client: usize,
-    server: usize,
-    call: protocol::Call,
-    room: usize,
-) -> u8
-    ensures { λ r. ⌜ r ≡ makeRefusal (shelf t) client server (inHand call) room ⌝ }
+// What refuses the packet of the pending round for a server.
+pub fn make_refusal(t: usize, client: usize, server: usize, call: protocol::Call, room: usize) -> u8
+    ensures { λ r. ⌜ r ≡ makeRefusal (shelf t) client server (awaited call) room ⌝ }
 {
+    let kind = awaited_kind(call);
     if cluster::outside(1, cluster::TOP_FAULTS, t) {
         return 3;
     }
     if cluster::outside(1, servers(t), server) {
         return 4;
     }
-    if cluster::outside(1, cluster::TOP_CLIENT, client) {
+    if bad_client(kind, client) {
         return 5;
     }
-    if !is_pending(call) {
+    if kind == 0 {
         return 13;
     }
     if room < cluster::PACKET_ROOM {
@@ -93,15 +111,16 @@ pub(crate) fn make_refusal(
 }
 
 pub(crate) fn abort_refusal(t: usize, client: usize, call: protocol::Call) -> u8
-    ensures { λ r. ⌜ r ≡ abortRefusal (shelf t) client (inHand call) ⌝ }
+    ensures { λ r. ⌜ r ≡ abortRefusal (shelf t) client (awaited call) ⌝ }
 {
+    let kind = awaited_kind(call);
     if cluster::outside(1, cluster::TOP_FAULTS, t) {
         return 3;
     }
-    if cluster::outside(1, cluster::TOP_CLIENT, client) {
+    if bad_client(kind, client) {
         return 5;
     }
-    if !is_pending(call) {
+    if kind == 0 {
         return 13;
     }
     0

@@ -3,7 +3,6 @@ ghost use mathlib.Core.Path.{_≡_};
 ghost use Prim.Native.Nat.{_≤_};
 ghost use Rattle.cluster.specs.Ranges.{mostServers};
 ghost use Rattle.protocol.specs.View.{marked};
-ghost use Rattle.protocol.specs.ClientBytes.{awaited};
 ghost use Rattle.client.specs.Steps.{foreign, other, replyRefusal};
 use crate::refusals;
 
@@ -18,17 +17,6 @@ fn is_foreign(head: protocol::Head, t: usize, client: usize) -> bool
         return true;
     }
     false
-}
-
-// The kind that the round awaits, 0 with no call in hand.
-fn awaited_kind(call: protocol::Call) -> u8
-    ensures { λ r. ⌜ r ≡ awaited call ⌝ }
-{
-    if refusals::is_pending(call) {
-        let tally = call.tally;
-        return 2 * tally.round;
-    }
-    0
 }
 
 // The server has replied in this round.
@@ -69,7 +57,7 @@ pub(crate) fn reply_refusal(
     if is_foreign(head, t, client) {
         return 8;
     }
-    let kind = awaited_kind(call);
+    let kind = refusals::awaited_kind(call);
     if kind == 0 {
         return 13;
     }

@@ -1,15 +1,15 @@
 // A reply is taken: the tests that refuse it, and then its round's step.
 ghost use mathlib.Core.Path.{_≡_};
-ghost use mathlib.Core.Bool.{false, not};
+ghost use mathlib.Core.Bool.{false};
 ghost use mathlib.Core.List.{List};
 ghost use Prim.Native.Nat.{ℕ, _≤_, _<_};
 ghost use lib.ListN.{length};
 ghost use Rattle.cluster.specs.Config.{shelf};
-ghost use Rattle.cluster.specs.Ranges.{within, topClient, contentRoom};
-ghost use Rattle.protocol.specs.Client.{badFaults};
+ghost use Rattle.cluster.specs.Ranges.{contentRoom};
+ghost use Rattle.protocol.specs.Client.{badFaults, badClient, ofWrite};
 ghost use Rattle.protocol.specs.Primitives.{real};
 ghost use Rattle.protocol.specs.View.{keptSize};
-ghost use Rattle.protocol.specs.ClientBytes.{clientTake};
+ghost use Rattle.protocol.specs.ClientBytes.{awaited, clientTake};
 ghost use Rattle.client.specs.Answers.{answered};
 ghost use Rattle.client.specs.Core.{coreTake};
 ghost use Rattle.client.specs.Steps.{Ready, TakesAs};
@@ -19,6 +19,7 @@ use crate::clock;
 use crate::filter;
 use crate::kept;
 use crate::reads;
+use crate::refusals;
 use crate::replies;
 use crate::writes;
 
@@ -121,7 +122,7 @@ fn take_reply(
     reply: &[u8],
     out: &mut [u8],
 ) -> Answered
-    requires { ⌜ (badFaults (shelf t) ≡ false) × ((not (within 1 topClient client) ≡ false) × (length (now kept) ≡ keptSize)) ⌝ }
+    requires { ⌜ (badFaults (shelf t) ≡ false) × ((badClient (ofWrite (awaited call)) client ≡ false) × (length (now kept) ≡ keptSize)) ⌝ }
     ensures { λ r. ⌜ TakesAs t client (now (writers .entry)) (now (keys .entry)) call (now (kept .entry)) (now (reply .entry)) (now (out .entry)) r (now (kept .exit)) (now (out .exit)) ⌝ }
 {
     let wire::packet::PacketRead::Value(head) = wire::packet::read_packet(reply) else {
@@ -155,7 +156,7 @@ pub fn take_in(
     if cluster::outside(1, cluster::TOP_FAULTS, t) {
         return answers::refused(3, call);
     }
-    if cluster::outside(1, cluster::TOP_CLIENT, client) {
+    if refusals::bad_client(refusals::awaited_kind(call), client) {
         return answers::refused(5, call);
     }
     take_reply(call, kept, t, client, writers, keys, reply, out)

@@ -2,7 +2,7 @@
 -- By the order of the refusals. Assumes nothing.
 use mathlib.Core.Path.{_≡_, refl, sym, ap, _∙_, subst}
 use mathlib.Core.Bool.{Bool, true, false, not, cond}
-use mathlib.Core.List.{List}
+use mathlib.Core.List.{List, []}
 use Prim.Native.Nat.{ℕ, zero, suc, _+_, _≤_}
 use native.Mathlib.Numerals.{add-one}
 use lib.ListN.{length, replicate}
@@ -14,8 +14,10 @@ use Rattle.protocol.specs.declared.Call.{Call}
 use Rattle.protocol.specs.declared.Aborted.{Aborted}
 use Rattle.protocol.specs.declared.Aborted.the-variants as aborts
 use Rattle.protocol.specs.Primitives.{real}
-use Rattle.protocol.specs.Client.{refused, writeStep, readStep, abortStep, writeRefusal, readRefusal, abortRefusal, accepted}
+use Rattle.protocol.specs.Client.{refused, writeStep, readStep, abortStep, writeRefusal, readRefusal, abortRefusal, ofWrite, awaits, accepted}
 use Rattle.protocol.specs.ClientBytes.{Begun, after, begunBy, beginWrite, beginRead, giveUp}
+use Rattle.protocol.specs.View.{view}
+use Rattle.protocol.proofs.LetIn.{no-client}
 use Rattle.protocol.specs.Runs.{Machines, read, give-up, resultOf, abortedOut, doBytes, setMachine}
 use Rattle.drill.specs.declared.shown.Shown.{Shown}
 use Rattle.drill.specs.Steps.{drillShelf, nonceFor, writeLine, shown}
@@ -54,7 +56,7 @@ module _ (t c : ℕ) (ht : (1 ≤ t) × (t ≤ topFaults)) where
 
   pub no-stopper : (x : Call) → within 1 topClient c ≡ false → giveUp t c x ≡ record { answer = aborts.Refused 5; call = x }
   unfolding giveUp after abortStep abortRefusal shelf
-  no-stopper x h = rw (inside 1 topFaults t ht, h)
+  no-stopper x h = rw (inside 1 topFaults t ht, no-client (ofWrite (awaits (view (shelf t) x [] .hand))) c h)
 
 -- ---- a write
 

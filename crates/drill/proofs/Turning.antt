@@ -9,11 +9,12 @@ use lib.Dec.{eqb}
 use lib.ListN.{length}
 use borrow.Author.Tests.{eq-eqb, ne-eqb, leb-true}
 use Rattle.cluster.specs.Config.{shelf}
-use Rattle.cluster.specs.Ranges.{within, topClient, topFaults}
+use Rattle.cluster.specs.Ranges.{within, topClient, topFaults, packetRoom}
 use Rattle.cluster.proofs.Tests.{and-both}
 use Rattle.protocol.specs.Primitives.{real}
-use Rattle.protocol.specs.Client.{refused}
-use Rattle.protocol.specs.ClientBytes.{inHand}
+use Rattle.protocol.specs.Client.{ofWrite, makeRefusal, refused}
+use Rattle.protocol.specs.ClientBytes.{awaited}
+use Rattle.protocol.proofs.LetIn.{no-client}
 use Rattle.protocol.specs.Runs.{Machines, Done, read, give-up, resultOf, doBytes}
 use Rattle.server.specs.Blank.{blankLatest}
 use Rattle.drill.specs.declared.sheet.Line.{Line}
@@ -27,43 +28,35 @@ use Rattle.drill.proofs.Visiting.{inside}
 
 -- ---- a visit
 
-module _ (t : ℕ) (w : List ℕ) (c b : ℕ) where
+module _ (t : ℕ) (ht : (1 ≤ t) × (t ≤ topFaults)) (w : List ℕ) (c b : ℕ) where
   pub refuses-4 : within 1 (shelf t .servers) b ≡ false → RefusesAs t w c b 4
-  unfolding visitRefusal drillShelf
-  refuses-4 h = record { told = λ m st. rw h; readers = λ e. absurd (omega arith); servers = λ e. absurd (omega arith) }
+  unfolding visitRefusal makeRefusal drillShelf shelf
+  refuses-4 h =
+      record { told = λ m st. rw (inside 1 topFaults t ht, h); readers = λ e. absurd (omega arith); servers = λ e. absurd (omega arith) }
 
-  pub refuses-5 : (1 ≤ b) × (b ≤ shelf t .servers) → within 1 topClient c ≡ false → RefusesAs t w c b 5
-  unfolding visitRefusal drillShelf
-  refuses-5 k h = record {
-    told = λ m st. rw (inside 1 (shelf t .servers) b k, h);
-    readers = λ e. absurd (omega arith);
-    servers = λ e. absurd
-        (omega arith);
-  }
-
-  module _ (hb : (1 ≤ b) × (b ≤ shelf t .servers)) (hc : (1 ≤ c) × (c ≤ topClient)) where
-    pub refuses-13 : inHand (callIn w c) ≡ false → RefusesAs t w c b 13
-    unfolding visitRefusal drillShelf
-    refuses-13 h =
+  module _ (hb : (1 ≤ b) × (b ≤ shelf t .servers)) where
+    pub refuses-5 : within 1 topClient c ≡ false → RefusesAs t w c b 5
+    unfolding visitRefusal makeRefusal drillShelf shelf
+    refuses-5 h =
         record {
           told = λ m st.
-              let q : inHand (m .client c .call) ≡ false = ap inHand (sym (st .calls c (inside 1 topClient c hc))) ∙ h in
-              rw (inside 1 (shelf t .servers) b hb, inside 1 topClient c hc, q);
+              let q = no-client (ofWrite (awaited (m .client c .call))) c h in
+              rw (inside 1 topFaults t ht, inside 1 (shelf t .servers) b hb, q);
           readers = λ e. absurd (omega arith);
           servers = λ e. absurd (omega arith);
         }
 
-    pub passes : inHand (callIn w c) ≡ true → RefusesAs t w c b 0
+    -- as the packet
+    pub refuses-as : (hc : (1 ≤ c) × (c ≤ topClient)) {n : ℕ} → n ≡ makeRefusal (shelf t) c b (awaited (callIn w c)) packetRoom → RefusesAs t w c b n
     unfolding visitRefusal drillShelf
-    passes h =
+    refuses-as hc e =
         record {
-          told = λ m st.
-              let q : inHand (m .client c .call) ≡ true = ap inHand (sym (st .calls c (inside 1 topClient c hc))) ∙ h in
-              rw (inside 1 (shelf t .servers) b hb, inside 1 topClient c hc, q);
-          readers = λ e. hc;
-          servers = λ e. hb;
+          told = λ m st. e ∙ ap (λ x. makeRefusal (shelf t) c b (awaited x) packetRoom) (st .calls c (inside 1 topClient c hc));
+          readers = λ z. hc;
+          servers = λ z. hb;
         }
 
+module _ (t : ℕ) (w : List ℕ) (c b : ℕ) where
   pub visit-refused : (n : ℕ) {x : Shown} → RefusesAs t w c b n → (n ≡ 0 → ⊥) → x ≡ shown (refused n) → DoneIn t (λ m. visitLine (drillShelf t) m c b)
       w w x
   unfolding visitLine

@@ -10,9 +10,9 @@ use Rattle.cluster.specs.Refusals.{refuse, firstOf, onRefusal}
 use Rattle.protocol.specs.Format.{print4}
 use Rattle.protocol.specs.Primitives.{real}
 use Rattle.protocol.specs.Rules.{upd}
-use Rattle.protocol.specs.Client.{Result, refused, more, written, gave, gaveBlank, aborted, accepted}
+use Rattle.protocol.specs.Client.{Result, refused, more, written, gave, gaveBlank, aborted, accepted, makeRefusal}
 use Rattle.protocol.specs.View.{keptSize}
-use Rattle.protocol.specs.ClientBytes.{inHand}
+use Rattle.protocol.specs.ClientBytes.{awaited}
 use Rattle.server.specs.Blank.{blankLatest}
 use Rattle.protocol.specs.Runs.{Shelf, Lent, configOf, Machines, Done, write, read, make, take-reply, give-up, serve, doBytes, nowBytes}
 use Rattle.drill.specs.declared.sheet.Line.{Line}
@@ -57,13 +57,9 @@ module _ (s : Shelf) (w : Machines) where
       let d = doBytes real s w (write client (replicate n fill) (nonceFor (suc k))) in
       record { state = record { machines = d .machines; begun = cond (accepted (d .result)) (suc k) k }; result = d .result }
 
+  -- what refuses the packet refuses the visit, before anything acts
   unfoldable pub visitRefusal : ℕ → ℕ → ℕ
-  visitRefusal client server =
-      firstOf
-      (refuse 4 (not (within 1 (configOf s .servers) server))
-      ∷ refuse 5 (not (within 1 topClient client))
-      ∷ refuse 13 (not (inHand (w .client client .call)))
-      ∷ [])
+  visitRefusal client server = makeRefusal (configOf s) client server (awaited (w .client client .call)) packetRoom
 
   -- the current packet to the server, and its reply back; the server has acted even if the client refuses
   unfoldable pub visited : ℕ → ℕ → Done

@@ -101,7 +101,7 @@ pub(crate) fn visit(work: &mut [u8], t: usize, client: usize, server: usize) -> 
     crate::shown::taken(taken, &content)
 }
 
-// What refuses a visit before anything acts: 4, 5, 13, or 0.
+// What refuses a visit before anything acts, or 0: what refuses its packet. A client outside 1 to 16 has no place in the area.
 fn visit_refusal(work: &[u8], t: usize, client: usize, server: usize) -> u8
     requires { ⌜ (1 ≤ t) × (t ≤ topFaults) ⌝ }
     ensures { λ r. ⌜ RefusesAs t (now (work .entry)) client server r ⌝ }
@@ -112,10 +112,13 @@ fn visit_refusal(work: &[u8], t: usize, client: usize, server: usize) -> u8
     if cluster::outside(1, cluster::TOP_CLIENT, client) {
         return 5;
     }
-    if client::refusals::is_pending(area::call_of(work, client)) {
-        return 0;
-    }
-    13
+    client::refusals::make_refusal(
+        t,
+        client,
+        server,
+        area::call_of(work, client),
+        cluster::PACKET_ROOM,
+    )
 }
 
 pub(crate) fn visit_line(work: &mut [u8], t: usize, client: usize, server: usize) -> Shown

@@ -19,7 +19,7 @@ use Rattle.protocol.specs.Memory.{Memory, decodeMemory}
 use Rattle.protocol.specs.Primitives.{Primitives, Lengths}
 use Rattle.protocol.specs.Rules.{ByServer, upd, tagsIn, leader}
 use Rattle.protocol.specs.Server.{serverRefusal}
-use Rattle.protocol.specs.ServerBytes.{Served, over, turnedDown, actedOn, onMemory, serverTake}
+use Rattle.protocol.specs.ServerBytes.{Served, over, turnedDown, actedOn, serverTake}
 use Rattle.protocol.specs.ClientBytes.{clientMake}
 use Rattle.protocol.specs.Client.{Client, Hand, Turn, Result, refused, more, written, gave, gaveBlank, aborted, idle, clocking, storing, completing, collecting, filtering, repairing, update, judge, found, codeIn, heldIn, isFull, awaits, abortRefusal, abortStep, takeRefusal, turnOn, highAt, takeStep}
 use Rattle.protocol.proofs.Answers.{at-cond}
@@ -118,28 +118,19 @@ module _ (P : Primitives) (memory key packet output : List ℕ) where
   unfolding turnedDown
   down n = omega arith
 
-  done : (m : Memory) (o : Option Packet) → Fits (actedOn P memory key packet output m o)
+  done : (m : Option Memory) (o : Option Packet) → Fits (actedOn P memory key packet output m o)
   unfolding actedOn
-  done m none = down 0
-  done m (some p) = over-room _ output
-
-  by-number : (m : Memory) (o : Option Packet) (n : ℕ)
-      → Fits (onRefusal n (actedOn P memory key packet output m o) (turnedDown P memory key packet output n))
-  by-number m o zero = done m o
-  by-number m o (suc n) = down (suc n)
-
-  in-memory : (o : Option Memory) → Fits (onMemory P memory key packet output o)
-  unfolding onMemory
-  in-memory none = down 2
-  in-memory (some m) = by-number m (decode packet) (serverRefusal (m .t) (m .server) (decode packet) (length output))
+  done none o = down 0
+  done (some m) none = down 0
+  done (some m) (some p) = over-room _ output
 
   pub served-room : Fits (serverTake P memory key packet output)
   unfolding serverTake
-  served-room = go (eqb (length memory) memorySize)
+  served-room = go (serverRefusal (eqb (length memory) memorySize) (decodeMemory memory) (decode packet) (length output))
     where
-      go : (b : Bool) → Fits (cond b (onMemory P memory key packet output (decodeMemory memory)) (turnedDown P memory key packet output 1))
-      go true = in-memory (decodeMemory memory)
-      go false = down 1
+      go : (n : ℕ) → Fits (onRefusal n (actedOn P memory key packet output (decodeMemory memory) (decode packet)) (turnedDown P memory key packet output n))
+      go zero = done (decodeMemory memory) (decode packet)
+      go (suc n) = down (suc n)
 
 pub make-room : (t c b : ℕ) (call : Call) (kept output : List ℕ) → let d = clientMake t c b call kept output in d .result .count ≤ length (d .output)
 unfolding clientMake

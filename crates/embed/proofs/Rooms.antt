@@ -20,9 +20,9 @@ use Rattle.protocol.specs.Packet.{Packet, decode, encode}
 use Rattle.protocol.specs.Memory.{Memory, decodeMemory}
 use Rattle.protocol.specs.Primitives.{Primitives, real}
 use Rattle.protocol.specs.Server.{act, replyTo, serverRefusal}
-use Rattle.protocol.specs.ServerBytes.{Served, over, serverIn, turnedDown, actedOn, onMemory, serverTake}
+use Rattle.protocol.specs.ServerBytes.{Served, over, serverIn, turnedDown, actedOn, serverTake}
 use Rattle.protocol.specs.Client.{made, makeRefusal}
-use Rattle.protocol.specs.ClientBytes.{Written, inHand, clientMake}
+use Rattle.protocol.specs.ClientBytes.{Written, awaited, clientMake}
 use Rattle.client.specs.Rounds.{makeByRounds}
 use Rattle.client.proofs.StepsSame.{same-make}
 use Rattle.protocol.specs.View.{view}
@@ -60,44 +60,35 @@ module _ (out : List ℕ) (n : ℕ) (in-out : n ≤ length out) where
       unfolding turnedDown
       down k = record { result = refl; memory = refl; output = sym whole; count = omega arith }
 
-      done : (m : Memory) (o : Option Packet) → length (actedOn P memory key packet (take n out) m o .output) ≡ n
+      done : (m : Option Memory) (o : Option Packet) → length (actedOn P memory key packet (take n out) m o .output) ≡ n
           → Serves (actedOn P memory key packet (take n out) m o) (actedOn P memory key packet out m o)
       unfolding actedOn
-      done m none e = down 0
-      done m (some p) e =
+      done none o e = down 0
+      done (some m) none e = down 0
+      done (some m) (some p) e =
           let x = over-part (encode (replyTo p (act P (shelf (m .t)) key (m .server) (serverIn m) (p .body) .reply))) e in
           record { result = refl; memory = refl; output = sym (x .0); count = x .1 }
 
-      by-number : (m : Memory) (o : Option Packet) (k : ℕ) → length (onRefusal k (actedOn P memory key packet (take n out) m o)
-          (turnedDown P memory key packet (take n out) k) .output) ≡ n
-          → Serves (onRefusal k (actedOn P memory key packet (take n out) m o) (turnedDown P memory key packet (take n out) k))
-          (onRefusal k (actedOn P memory key packet out m o) (turnedDown P memory key packet out k))
-      by-number m o zero e = done m o e
-      by-number m o (suc k) e = down (suc k)
-
-      refusal-same : (t b : ℕ) (o : Option Packet) → serverRefusal t b o (length out) ≡ serverRefusal t b o (length (take n out))
+      refusal-same : (sized : Bool) (m : Option Memory) (o : Option Packet)
+          → serverRefusal sized m o (length out) ≡ serverRefusal sized m o (length (take n out))
       unfolding serverRefusal
-      refusal-same t b none = refl
-      refusal-same t b (some p) = rw same refl
-
-      in-memory : (o : Option Memory) → length (onMemory P memory key packet (take n out) o .output) ≡ n → Serves
-          (onMemory P memory key packet (take n out) o) (onMemory P memory key packet out o)
-      unfolding onMemory
-      in-memory none e = down 2
-      in-memory (some m) e = rw (refusal-same (m .t) (m .server) (decode packet)) (by-number m (decode packet)
-          (serverRefusal (m .t) (m .server) (decode packet) (length (take n out))) e)
+      refusal-same sized m o = rw same refl
 
       pub serves : length (serverTake P memory key packet (take n out) .output) ≡ n → Serves (serverTake P memory key packet (take n out))
           (serverTake P memory key packet out)
       unfolding serverTake
-      serves e = go (eqb (length memory) memorySize) e
+      serves e =
+          let m : Option Memory = decodeMemory memory in
+          let sized : Bool = eqb (length memory) memorySize in
+          rw (refusal-same sized m (decode packet)) (go (serverRefusal sized m (decode packet) (length (take n out))) e)
         where
-          go : (b : Bool) → length (cond b (onMemory P memory key packet (take n out) (decodeMemory memory))
-              (turnedDown P memory key packet (take n out) 1) .output) ≡ n
-              → Serves (cond b (onMemory P memory key packet (take n out) (decodeMemory memory)) (turnedDown P memory key packet (take n out) 1))
-              (cond b (onMemory P memory key packet out (decodeMemory memory)) (turnedDown P memory key packet out 1))
-          go true f = in-memory (decodeMemory memory) f
-          go false f = down 1
+          go : (k : ℕ) → length (onRefusal k (actedOn P memory key packet (take n out) (decodeMemory memory) (decode packet))
+              (turnedDown P memory key packet (take n out) k) .output) ≡ n
+              → Serves (onRefusal k (actedOn P memory key packet (take n out) (decodeMemory memory) (decode packet))
+              (turnedDown P memory key packet (take n out) k))
+              (onRefusal k (actedOn P memory key packet out (decodeMemory memory) (decode packet)) (turnedDown P memory key packet out k))
+          go zero f = done (decodeMemory memory) (decode packet) f
+          go (suc k) f = down (suc k)
 
 -- ---- what the exports make of it, where what was lent is at most a packet's room
 
@@ -151,14 +142,14 @@ module _ (out : List ℕ) (n : ℕ) (in-out : n ≤ length out) (small : n ≤ p
   by-refusal zero f = let z = over-part out n in-out bytes f in record { result = refl; output = sym (z .0); count = z .1 }
   by-refusal (suc k) f = record { result = refl; output = sym (take-append-drop n out); count = omega arith }
 
-  refusal-is : makeRefusal (shelf t) client b (inHand c) (length out) ≡ makeRefusal (shelf t) client b (inHand c) (length (take n out))
+  refusal-is : makeRefusal (shelf t) client b (awaited c) (length out) ≡ makeRefusal (shelf t) client b (awaited c) (length (take n out))
   unfolding makeRefusal
   refusal-is = rw (same, length-take-le n out in-out) refl
 
   made-part : Makes (record { result = o; output = x }) (clientMake t client b c kept out)
   unfolding makeByRounds
   made-part = rw (e ∙ same-make t client c b kept (take n out), same-make t client c b kept out, refusal-is)
-      (by-refusal (makeRefusal (shelf t) client b (inHand c) (length (take n out)))
+      (by-refusal (makeRefusal (shelf t) client b (awaited c) (length (take n out)))
       (sym (ap (λ (w : Written). length (w .output)) (e ∙ same-make t client c b kept (take n out))) ∙ keeps ∙ length-take-le n out in-out))
 
   pub made-count : o .count ≤ packetRoom

@@ -163,7 +163,7 @@ module _ (H : Hashing) where
   left w c = record { client = onto (w .client c) nobody idle; result = aborted (inComplete (w .client c .hand)) }
 
   pub play-give-up : (c : ℕ) (two : Bool) (xs : Run (s H)) (w : World) (cs : List Logged) → Play H two xs w cs → who .client c ≡ true →
-      abortRefusal (s H .config) c (not (isIdle (w .client c .hand))) ≡ 0 →
+      abortRefusal (s H .config) c (awaits (w .client c .hand)) ≡ 0 →
       Play H two (gives-up c ∷ xs) (took H w c (left w c)) (followed H w c (left w c) (length xs) cs)
   unfolding note Authentic checkedBy digestedBy noncesBy doValues abortStep setClient
   play-give-up c two xs w cs p right go = play-quiet c (left w c) (gives-up c) w two xs cs p

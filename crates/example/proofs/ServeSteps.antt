@@ -2,7 +2,7 @@
 -- packet that was made is read as it was made, so that nothing of it has to be computed from bytes.
 -- Assumes nothing.
 use mathlib.Core.Path.{_≡_, refl, sym, ap, _∙_, subst}
-use mathlib.Core.Bool.{Bool, true, false, cond, not}
+use mathlib.Core.Bool.{Bool, true, false, cond}
 use mathlib.Core.List.{List, [], _∷_, map}
 use mathlib.Core.Option.{none, some, Option·some-injective}
 use mathlib.Core.Logic.{inl}
@@ -15,8 +15,8 @@ use Rattle.protocol.specs.Format.{Bytes}
 use Rattle.protocol.specs.Values.{Candidate}
 use Rattle.protocol.specs.Packet.{Body, Packet, PacketOk, kindOf, encode, decode}
 use Rattle.protocol.specs.Rules.{upd}
-use Rattle.protocol.specs.Server.{Server, Acted, Stepped, blankServer, act, answered, replyTo, serverRefusal, serverStep}
-use Rattle.protocol.specs.Client.{Made as Making, accepted, made, makeRefusal, makeStep, isIdle}
+use Rattle.protocol.specs.Server.{memoryOf, Server, Acted, Stepped, blankServer, act, answered, replyTo, serverRefusal, serverStep}
+use Rattle.protocol.specs.Client.{awaits, Made as Making, accepted, made, makeRefusal, makeStep}
 use Rattle.protocol.specs.ClientBytes.{keyOf}
 use Rattle.protocol.specs.View.{keptSize}
 use Rattle.protocol.specs.Runs.{Lent, write, make, take-reply, serve, resultOf, steps}
@@ -118,7 +118,7 @@ module _ (H : Hashing) where
 
   -- the packet that it makes is sent
   pub made-sent : (c b : ℕ) (xs : Run (s H)) (w : World) → now (s H) xs ≡ w →
-      makeRefusal (s H .config) c b (not (isIdle (w .client c .hand))) packetRoom ≡ 0 →
+      makeRefusal (s H .config) c b (awaits (w .client c .hand)) packetRoom ≡ 0 →
       perform (s H) (now (s H) xs) (make c b packetBuffer) .sent ≡ some (made (s H .config .t) c (w .client c) b)
   unfolding doValues makeStep
   made-sent c b xs w here go =
@@ -142,7 +142,7 @@ module _ (H : Hashing) where
     pub ok : PacketOk p
     pub bytes : Bytes (encode p)
     pub request : odd (kindOf (p .body)) ≡ true
-    pub lets : serverRefusal (s H .config .t) b (some p) packetRoom ≡ 0
+    pub lets : serverRefusal true (some (memoryOf (s H .config .t) b (w .server b))) (some p) packetRoom ≡ 0
     pub does : acts b w (p .body) ≡ record { server = v; reply = r }
 
   module _ (w : World) (b : ℕ) (p : Packet) (v : Server) (r : Body) (k : Serves w b p v r) where

@@ -15,8 +15,8 @@ use Rattle.cluster.specs.Config.{shelf}
 use Rattle.cluster.specs.Ranges.{within, packetRoom, contentRoom}
 use Rattle.protocol.specs.Packet.{Body, BodyOk, Packet, PacketOk, kindOf, encode}
 use Rattle.protocol.proofs.ServerLift.{reply-ok}
-use Rattle.protocol.specs.Server.{Server, replyTo, serverRefusal}
-use Rattle.protocol.specs.Client.{Turn, more, made, makeRefusal, takeRefusal, highAt, awaits, isIdle}
+use Rattle.protocol.specs.Server.{memoryOf, Server, replyTo, serverRefusal}
+use Rattle.protocol.specs.Client.{Turn, more, made, makeRefusal, takeRefusal, highAt, awaits}
 use Rattle.protocol.specs.Runs.{Lent, make, serve, sentOf}
 use Rattle.protocol.proofs.ValueRuns.{World}
 use Rattle.atomicity.specs.Lists.{Ever, All, flat}
@@ -43,8 +43,9 @@ module _ (H : Hashing) where
     pub answer-bytes : PacketBytes (replyTo (made (s H .config .t) c (w .client c) b) r)
     pub asks : odd (kindOf (made (s H .config .t) c (w .client c) b .body)) ≡ true
     pub answers : odd (kindOf r) ≡ false
-    pub makes-on : makeRefusal (s H .config) c b (not (isIdle (w .client c .hand))) packetRoom ≡ 0
-    pub serves-on : serverRefusal (s H .config .t) b (some (made (s H .config .t) c (w .client c) b)) packetRoom ≡ 0
+    pub makes-on : makeRefusal (s H .config) c b (awaits (w .client c .hand)) packetRoom ≡ 0
+    pub serves-on : serverRefusal true (some (memoryOf (s H .config .t) b (w .server b))) (some (made (s H .config .t) c (w .client c) b)) packetRoom
+        ≡ 0
     pub does : acts H b w (made (s H .config .t) c (w .client c) b .body) ≡ record { server = v; reply = r }
     pub takes-on : let cl = w .client c in takeRefusal (s H .config) c (some (replyTo (made (s H .config .t) c cl b) r)) (cl .calls)
         (awaits (cl .hand))
@@ -138,8 +139,8 @@ module _ (H : Hashing) where
       (who .client c && (who .server b && within 1 (s H .config .servers) b))
       && ((headFits p && headFits q)
       && ((odd (kindOf (p .body)) && not (odd (kindOf r)))
-      && (eqb (makeRefusal (s H .config) c b (not (isIdle (cl .hand))) packetRoom) 0
-      && (eqb (serverRefusal (s H .config .t) b (some p) packetRoom) 0
+      && (eqb (makeRefusal (s H .config) c b (awaits (cl .hand)) packetRoom) 0
+      && (eqb (serverRefusal true (some (memoryOf (s H .config .t) b (w .server b))) (some p) packetRoom) 0
       && eqb (takeRefusal (s H .config) c (some q) (cl .calls) (awaits (cl .hand)) (cl .marks)
       (highAt (functions H) (s H .config) c (s H .writers) (s H .keys) cl) contentRoom) 0))))
 
@@ -158,8 +159,8 @@ module _ (H : Hashing) where
       let more = and-right (headFits p && headFits q) _ rest in
       let kinds = and-left (odd (kindOf (p .body)) && not (odd (kindOf r))) _ more in
       let goes = and-right (odd (kindOf (p .body)) && not (odd (kindOf r))) _ more in
-      let m = eqb (makeRefusal (s H .config) c b (not (isIdle (cl .hand))) packetRoom) 0 in
-      let n = eqb (serverRefusal (s H .config .t) b (some p) packetRoom) 0 in
+      let m = eqb (makeRefusal (s H .config) c b (awaits (cl .hand)) packetRoom) 0 in
+      let n = eqb (serverRefusal true (some (memoryOf (s H .config .t) b (w .server b))) (some p) packetRoom) 0 in
       record {
         client = and-left (who .client c) _ parties;
         server = and-left (who .server b) _ (and-right (who .client c) _ parties);
@@ -184,7 +185,7 @@ module _ (H : Hashing) where
     pub ok : BodyOk (shelf (made (s H .config .t) c (w .client c) 1 .head .t)) x
     pub bytes : PacketBytes (replyTo (made (s H .config .t) c (w .client c) 1) x)
     pub answers : odd (kindOf x) ≡ false
-    pub makes-on : makeRefusal (s H .config) c 1 (not (isIdle (w .client c .hand))) packetRoom ≡ 0
+    pub makes-on : makeRefusal (s H .config) c 1 (awaits (w .client c .hand)) packetRoom ≡ 0
     pub takes-on : let cl = w .client c in takeRefusal (s H .config) c (some (replyTo (made (s H .config .t) c cl 1) x)) (cl .calls)
         (awaits (cl .hand))
         (cl .marks) (highAt (functions H) (s H .config) c (s H .writers) (s H .keys) cl) contentRoom ≡ 0
@@ -229,7 +230,7 @@ module _ (H : Hashing) where
       who .client c
       && (headFits q
       && (not (odd (kindOf x))
-      && (eqb (makeRefusal (s H .config) c 1 (not (isIdle (cl .hand))) packetRoom) 0
+      && (eqb (makeRefusal (s H .config) c 1 (awaits (cl .hand)) packetRoom) 0
       && eqb (takeRefusal (s H .config) c (some q) (cl .calls) (awaits (cl .hand)) (cl .marks)
       (highAt (functions H) (s H .config) c (s H .writers) (s H .keys) cl) contentRoom) 0)))
 
@@ -242,7 +243,7 @@ module _ (H : Hashing) where
       let e1 = and-right (who .client c) _ e in
       let e2 = and-right (headFits q) _ e1 in
       let e3 = and-right (not (odd (kindOf x))) _ e2 in
-      let m = eqb (makeRefusal (s H .config) c 1 (not (isIdle (cl .hand))) packetRoom) 0 in
+      let m = eqb (makeRefusal (s H .config) c 1 (awaits (cl .hand)) packetRoom) 0 in
       record {
         client = and-left (who .client c) _ e;
         own = own;

@@ -12,7 +12,7 @@ use Rattle.cluster.proofs.Tests.{and-both}
 use Rattle.protocol.specs.Memory.{decodeMemory}
 use Rattle.protocol.specs.Primitives.{Primitives, Lengths}
 use Rattle.protocol.specs.Server.{Server, blankServer}
-use Rattle.protocol.specs.ServerBytes.{serverIn, memoryOf}
+use Rattle.protocol.specs.ServerBytes.{serverIn}
 use Rattle.protocol.specs.ClientBytes.{keyOf}
 use Rattle.protocol.specs.Runs.{Shelf, configOf, StepOn, steps, Account, serverOr, byBytes, doBytes, nowBytes}
 use Rattle.protocol.specs.View.{keptSize}
@@ -31,8 +31,8 @@ module _ (P : Primitives) (law : Lengths P) (sh : Shelf) (tr : (1 ≤ sh .t) × 
   steps-fed (x ∷ xs) = (x .fed, steps-fed xs)
 
   server-same : (b : ℕ) (v : Server) (memory : List ℕ) → Holds (sh .t) b v memory → serverOr s (decodeMemory memory) ≡ v
-  unfolding serverIn memoryOf
-  server-same b v memory h = ap (serverOr s) (unfold memoryOf in holds-decodes h)
+  unfolding serverIn
+  server-same b v memory h = ap (serverOr s) (holds-decodes h)
 
   match : (xs : List (StepOn sh)) → Matches P law sh tr (nowBytes P sh first (steps xs)) (nowValues P s (sh .writers) (keyOf (sh .keys)) (steps xs))
   match xs = run-matches P law sh tr first sized (steps xs) (steps-fed xs)

@@ -52,7 +52,7 @@ hand-awaits s (suc (suc (suc (suc (suc (suc zero)))))) c kept = refl
 hand-awaits s (suc (suc (suc (suc (suc (suc (suc n))))))) c kept =
     ap awaits (unfold handOf in hand-past s n c kept) ∙ rw (out-of-rounds n)
 
-busy-is : (c : Call) → not (eqb (awaited c) 0) ≡ inHand c
+pub busy-is : (c : Call) → not (eqb (awaited c) 0) ≡ inHand c
 unfolding awaited inHand
 busy-is c = go (within 1 6 (c .tally .round)) refl
   where

@@ -117,7 +117,7 @@ module _ (s : Config) (c : ℕ) (cl : Client) (fine : Fine s c cl) where
 
   pub abort-fine : Fine s c (abortStep s c cl .client)
   unfolding abortStep
-  abort-fine = at-refusal (λ (u : Turn). Fine s c (u .client)) (abortRefusal s c (not (isIdle (cl .hand)))) _ _ (λ e. over) fine
+  abort-fine = at-refusal (λ (u : Turn). Fine s c (u .client)) (abortRefusal s c (awaits (cl .hand))) _ _ (λ e. over) fine
     where
       over : Fine s c (onto cl nobody idle)
       over =

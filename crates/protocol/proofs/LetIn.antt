@@ -10,17 +10,30 @@ use lib.Dec.{leb, eqb, lit<}
 use borrow.Author.Tests.{eqb-true, leb-true, not-false, ne-eqb}
 use Rattle.cluster.specs.Config.{Config, shelf}
 use Rattle.cluster.specs.Ranges.{within, topWriter, topClient, topNumber, leastLength, topLength}
-use Rattle.cluster.proofs.Tests.{and-both, or-none, and-rest, passes}
+use Rattle.cluster.proofs.Tests.{untrue, and-both, or-none, and-rest, within-in, within-bounds, inside, passes}
 use Rattle.protocol.specs.declared.Call.{Call}
 use Rattle.protocol.specs.Format.{via, seq, keep, byte}
 use Rattle.protocol.specs.Packet.{Body, Packet, PacketOk, packetF, headF, kindOf}
 use Rattle.protocol.specs.Primitives.{Primitives}
 use Rattle.protocol.specs.Rules.{ByServer}
-use Rattle.protocol.specs.Client.{tooHigh, higher, stampIn, badFaults, takeRefusal, writeRefusal, readRefusal}
+use Rattle.protocol.specs.Client.{tooHigh, higher, stampIn, badFaults, badClient, ofWrite, takeRefusal, writeRefusal, readRefusal}
 use Rattle.protocol.specs.View.{handOf}
 use Rattle.protocol.proofs.ClientLift.{past, hand-past}
 
 -- ---- refusals
+
+-- a client that 5 does not refuse
+pub client-range : (writing : Bool) (client : ℕ) → badClient writing client ≡ false → (1 ≤ client) × (client ≤ topClient)
+client-range true client e = let r = inside 1 topWriter client e in (r .0, omega (arith, r .1))
+client-range false client e = inside 1 topClient client e
+
+-- no call is for a client outside 1 to 16
+pub no-client : (writing : Bool) (client : ℕ) → within 1 topClient client ≡ false → badClient writing client ≡ true
+no-client true client h =
+    let q : within 1 topWriter client ≡ false = untrue (within 1 topWriter client) (λ e.
+    let r = within-bounds 1 topWriter client e in true≢false (sym (within-in 1 topClient client (r .0) (omega (arith, r .1))) ∙ h)) in
+    ap not q
+no-client false client h = ap not h
 
 module _ (s : Config) (client : ℕ) (p : Packet) (calls kind : ℕ) (replied : ByServer Bool) where
   -- the tests of 8 and of 12
@@ -58,7 +71,7 @@ module _ (s : Config) (client : ℕ) (p : Packet) (calls kind : ℕ) (replied : 
   unfolding takeRefusal
   let-in high room e =
       let (a, e5) = passes (badFaults s) 2 _ e in
-      let (b, e8) = passes (not (within 1 topClient client)) 4 _ e5 in
+      let (b, e8) = passes (badClient (ofWrite kind) client) 4 _ e5 in
       let (own, e12) = passes foreign 7 _ e8 in
       let (l, e13) = passes late 11 _ e12 in
       let (i, e14) = passes (eqb kind 0) 12 _ e13 in
@@ -71,7 +84,7 @@ pub not-none : (s : Config) (client calls kind : ℕ) (replied : ByServer Bool) 
 unfolding takeRefusal
 not-none s client calls kind replied high room e =
     let (a, e5) = passes (badFaults s) 2 _ e in
-    let (b, e7) = passes (not (within 1 topClient client)) 4 _ e5 in
+    let (b, e7) = passes (badClient (ofWrite kind) client) 4 _ e5 in
     let z : _≡_ {A = ℕ} 7 0 = e7 in
     omega arith
 
@@ -103,7 +116,7 @@ pub write-idle : (s : Config) (client n : ℕ) (pending : Bool) (calls : ℕ) �
 unfolding writeRefusal
 write-idle s client n pending calls e =
     let (a, e5) = passes (badFaults s) 2 _ e in
-    let (w, e6) = passes (not (within 1 topWriter client)) 4 _ e5 in
+    let (w, e6) = passes (badClient true client) 4 _ e5 in
     let (z, e13) = passes (not (within leastLength topLength n)) 5 _ e6 in
     passes pending 12 _ e13 .0
 
@@ -111,7 +124,7 @@ pub read-idle : (s : Config) (client : ℕ) (pending : Bool) (calls : ℕ) → r
 unfolding readRefusal
 read-idle s client pending calls e =
     let (a, e5) = passes (badFaults s) 2 _ e in
-    let (w, e13) = passes (not (within 1 topClient client)) 4 _ e5 in
+    let (w, e13) = passes (badClient false client) 4 _ e5 in
     passes pending 12 _ e13 .0
 
 pub other-round : (r k : ℕ) → within 1 6 r ≡ false → within 1 6 k ≡ true → eqb r k ≡ false

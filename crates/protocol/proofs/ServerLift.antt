@@ -17,10 +17,10 @@ use Rattle.cluster.proofs.Tests.{and-both}
 use Rattle.protocol.specs.Format.{via, seq, keep, byte}
 use Rattle.protocol.specs.Packet.{Packet, Body, BodyOk, PacketOk, packetF, headF, bodyF, kindOf, decode, encode}
 use Rattle.protocol.specs.Packet.{clock, clockReply, store, storeReply, complete, completeReply, collect, collectReply, filter, filterReply, repair, repairReply}
-use Rattle.protocol.specs.Memory.{MemoryOk, decodeMemory, encodeMemory, blankMemory}
+use Rattle.protocol.specs.Memory.{Memory, MemoryOk, decodeMemory, encodeMemory, blankMemory}
 use Rattle.protocol.specs.Primitives.{Primitives}
-use Rattle.protocol.specs.Server.{Server, Acted, act, barred, Stepped, replyTo, serverRefusal, answered, serverStep, blankServer}
-use Rattle.protocol.specs.ServerBytes.{Served, serverIn, memoryOf, over, turnedDown, actedOn, onMemory, serverTake}
+use Rattle.protocol.specs.Server.{Server, memoryOf, Acted, act, barred, Stepped, replyTo, serverRefusal, answered, serverStep, blankServer}
+use Rattle.protocol.specs.ServerBytes.{Served, serverIn, over, turnedDown, actedOn, serverTake}
 use Rattle.protocol.proofs.Answers.{no-some}
 use Rattle.protocol.proofs.Bodies.{decode-ok}
 use Rattle.protocol.proofs.Memories.{of-fields, memory-length, decode-encode-memory}
@@ -41,7 +41,6 @@ pub record Holds (t b : ℕ) (v : Server) (memory : List ℕ) : Type 0 where
 
 module _ {t b : ℕ} {v : Server} {memory : List ℕ} (h : Holds t b v memory) where
   memory-ok : MemoryOk (memoryOf t b v)
-  unfolding memoryOf
   memory-ok =
       of-fields _
       (record {
@@ -61,7 +60,6 @@ module _ {t b : ℕ} {v : Server} {memory : List ℕ} (h : Holds t b v memory) w
 
 pub blank-holds : (t b : ℕ) → (1 ≤ t) × (t ≤ topFaults) → (1 ≤ b) × (b ≤ shelf t .servers) → Holds t b (blankServer (shelf t))
     (encodeMemory (blankMemory t b))
-unfolding memoryOf
 blank-holds t b h k = record { t-range = h; b-range = k; ok = blank-ok (shelf t); bytes = refl }
 
 -- ---- the reply is a packet
@@ -99,12 +97,12 @@ pub record Lifted (t b : ℕ) (u : Stepped) (d : Served) : Type 0 where
   pub silent : u .reply ≡ none → d .result .count ≡ 0
 
 -- no refusal: there is a packet, and its t is the server's
-accepted-t : (t b : ℕ) (p : Packet) (room : ℕ) → serverRefusal t b (some p) room ≡ 0 → p .head .t ≡ t
+accepted-t : (m : Memory) (p : Packet) (room : ℕ) → serverRefusal true (some m) (some p) room ≡ 0 → p .head .t ≡ m .t
 unfolding serverRefusal
-accepted-t t b p room e = go (eqb (p .head .t) t && eqb (p .head .server) b) refl e
+accepted-t m p room e = go (eqb (p .head .t) (m .t) && eqb (p .head .server) (m .server)) refl e
   where
-    go : (c : Bool) → (eqb (p .head .t) t && eqb (p .head .server) b) ≡ c
-        → _≡_ {A = ℕ} (cond (not c) 8 (cond (barred (p .head .client) (p .body)) 9 (cond (ltb room packetRoom) 15 0))) 0 → p .head .t ≡ t
+    go : (c : Bool) → (eqb (p .head .t) (m .t) && eqb (p .head .server) (m .server)) ≡ c
+        → _≡_ {A = ℕ} (cond (not c) 8 (cond (barred (p .head .client) (p .body)) 9 (cond (ltb room packetRoom) 15 0))) 0 → p .head .t ≡ m .t
     go true h k = eqb-true _ _ (and-both _ _ h .0)
     go false h k = absurd (let z : _≡_ {A = ℕ} 8 0 = k in omega arith)
 
@@ -114,8 +112,8 @@ module _ (P : Primitives) (t b : ℕ) (v : Server) (memory key packet output : L
   lift-refused n = record { number = refl; memory = h; ok = λ p e. no-some p e; sent = λ p e. no-some p e; silent = λ e. refl }
 
   lift-acted : (p : Packet) → PacketOk p → p .head .t ≡ t
-      → Lifted t b (answered P (shelf t) key b v (length output) (some p)) (actedOn P memory key packet output (memoryOf t b v) (some p))
-  unfolding answered actedOn memoryOf serverIn
+      → Lifted t b (answered P (shelf t) key b v (length output) (some p)) (actedOn P memory key packet output (some (memoryOf t b v)) (some p))
+  unfolding answered actedOn serverIn
   lift-acted p ok e =
       let s : Config = shelf t in
       let a : Acted = act P s key b v (p .body) in
@@ -130,17 +128,18 @@ module _ (P : Primitives) (t b : ℕ) (v : Server) (memory key packet output : L
         silent = λ f. no-some _ (sym f);
       }
 
-  -- refused with n, or acted on
-  lift-on : (o : Option Packet) → ((p : Packet) → o ≡ some p → PacketOk p) → (n : ℕ) → serverRefusal t b o (length output) ≡ n
+  -- refused with n, or actedOn
+  lift-on : (o : Option Packet) → ((p : Packet) → o ≡ some p → PacketOk p) → (n : ℕ)
+      → serverRefusal true (some (memoryOf t b v)) o (length output) ≡ n
       → Lifted t b (onRefusal n (answered P (shelf t) key b v (length output) o) (record { number = n; server = v; reply = none }))
-      (onRefusal n (actedOn P memory key packet output (memoryOf t b v) o) (turnedDown P memory key packet output n))
+      (onRefusal n (actedOn P memory key packet output (some (memoryOf t b v)) o) (turnedDown P memory key packet output n))
   lift-on o f (suc n) e = lift-refused (suc n)
   lift-on none f zero e = absurd (let z : _≡_ {A = ℕ} 7 0 = unfold serverRefusal in e in omega arith)
-  lift-on (some p) f zero e = lift-acted p (f p refl) (accepted-t t b p (length output) e)
+  lift-on (some p) f zero e = lift-acted p (f p refl) (accepted-t (memoryOf t b v) p (length output) e)
 
   -- the whole: bytes in, bytes out, as the values say
   pub serve-lift : Lifted t b (serverStep P (shelf t) key b v (length output) (decode packet)) (serverTake P memory key packet output)
-  unfolding serverTake onMemory serverStep memoryOf shelf
+  unfolding serverTake serverStep shelf
   serve-lift =
       rw (eq-eqb _ _ (holds-length h), holds-decodes h)
-      (lift-on (decode packet) (λ p e. decode-ok packet p e) (serverRefusal t b (decode packet) (length output)) refl)
+      (lift-on (decode packet) (λ p e. decode-ok packet p e) (serverRefusal true (some (memoryOf t b v)) (decode packet) (length output)) refl)

@@ -7,7 +7,6 @@ use mathlib.Core.Option.{Option, none, some, Option·some-injective}
 use Prim.Native.Nat.{ℕ, zero, suc, _≤_}
 use lib.Dec.{eqb}
 use lib.ListN.{length, take, replicate}
-use borrow.Author.Tests.{not-true, not-false}
 use Rattle.cluster.specs.Config.{Config, shelf}
 use Rattle.cluster.specs.Ranges.{within, mostServers, topFaults, topClient}
 use Rattle.cluster.specs.Refusals.{onRefusal}
@@ -17,7 +16,7 @@ use Rattle.protocol.specs.Values.{nonceSize, blankCandidate}
 use Rattle.protocol.specs.Packet.{Packet, PacketOk, decode}
 use Rattle.protocol.specs.Primitives.{Primitives, Lengths}
 use Rattle.protocol.specs.Rules.{countTo, nobody}
-use Rattle.protocol.specs.Client.{Client, Turn, Result, idle, clocking, collecting, refused, more, aborted, awaits, isIdle, onto, begun, writeRefusal, readRefusal, makeRefusal, abortRefusal, badFaults, writeStep, readStep, abortStep, makeStep, Made, takeStep, made}
+use Rattle.protocol.specs.Client.{Client, Turn, Result, idle, clocking, collecting, refused, more, aborted, awaits, isIdle, onto, begun, writeRefusal, readRefusal, makeRefusal, abortRefusal, badFaults, badClient, ofWrite, writeStep, readStep, abortStep, makeStep, Made, takeStep, made}
 use Rattle.protocol.specs.View.{view}
 use Rattle.protocol.specs.ClientBytes.{fresh, inHand, keyOf, Machine, sentOf, putMarks, begins, putBack, told, after, begunBy, beginWrite, beginRead, giveUp, clientMake, clientTake}
 use Rattle.protocol.specs.Runs.{resultOf, takenOut, abortedOut}
@@ -31,7 +30,7 @@ use Rattle.protocol.proofs.MakeLift.{made-ok}
 use Rattle.protocol.proofs.TakeSeen.{take-seen}
 use Rattle.protocol.proofs.PutMarks.{marks-fresh}
 use Rattle.protocol.proofs.Marks.{count-nobody}
-use Rattle.protocol.proofs.LetIn.{write-idle, read-idle, other-round, either}
+use Rattle.protocol.proofs.LetIn.{client-range, write-idle, read-idle, other-round, either}
 
 -- what a step on bytes leaves and answers, by the turn on values
 pub record Good (s : Config) (c : ℕ) (u : Turn) (m : Machine) (r : Result) : Type 0 where
@@ -121,7 +120,7 @@ module _ (t c : ℕ) (call : Call) (kept : List ℕ) (tr : (1 ≤ t) × (t ≤ t
   pub abort-good : let d = giveUp t c call in Good s c (abortStep s c cl) (record { call = d .call; kept = kept }) (abortedOut (d .answer))
   unfolding abortStep giveUp isIdle
   abort-good =
-      let x = abort-as (abortRefusal s c (not (eqb (awaits (cl .hand)) 0))) (eqb (awaits (cl .hand)) 6) in
+      let x = abort-as (abortRefusal s c (awaits (cl .hand))) (eqb (awaits (cl .hand)) 6) in
       rw same-awaits (record { lifted = x .0; fine = unfold abortStep isIdle in abort-fine s c cl fine; result = x .1 })
 
   -- ---- a reply is taken
@@ -146,23 +145,23 @@ module _ (t c : ℕ) (call : Call) (kept : List ℕ) (tr : (1 ≤ t) × (t ≤ t
     pub bytes : x ≡ sentOf o
     pub ok : (p : Packet) → o ≡ some p → PacketOk p
 
-  make-ranges : (b room : ℕ) (pending : Bool) → makeRefusal s c b pending room ≡ 0
-      → ((1 ≤ b) × (b ≤ s .servers)) × (((1 ≤ c) × (c ≤ topClient)) × (pending ≡ true))
+  make-ranges : (b room kind : ℕ) → makeRefusal s c b kind room ≡ 0
+      → ((1 ≤ b) × (b ≤ s .servers)) × (((1 ≤ c) × (c ≤ topClient)) × (eqb kind 0 ≡ false))
   unfolding makeRefusal
-  make-ranges b room pending e =
+  make-ranges b room kind e =
       let (a, e4) = passes (badFaults s) 2 _ e in
       let (x, e5) = passes (not (within 1 (s .servers) b)) 3 _ e4 in
-      let (y, e13) = passes (not (within 1 topClient c)) 4 _ e5 in
-      let (z, e15) = passes (not pending) 12 _ e13 in
-      (inside 1 (s .servers) b x, (inside 1 topClient c y, not-false pending z))
+      let (y, e13) = passes (badClient (ofWrite kind) c) 4 _ e5 in
+      let (z, e15) = passes (eqb kind 0) 12 _ e13 in
+      (inside 1 (s .servers) b x, (client-range (ofWrite kind) c y, z))
 
-  sent-ok : (b room k : ℕ) → makeRefusal s c b (not (isIdle (cl .hand))) room ≡ k → (p : Packet)
+  sent-ok : (b room k : ℕ) → makeRefusal s c b (awaits (cl .hand)) room ≡ k → (p : Packet)
       → onRefusal {A = Made} k (record { number = 0; packet = some (made t c cl b) }) (record { number = k; packet = none }) .packet ≡ some p → PacketOk p
   sent-ok b room (suc k) e p q = no-some p q
   sent-ok b room zero e p q =
       let (br, (cr, i)) = make-ranges b room _ e in
       subst PacketOk (Option·some-injective _ p q)
-      (made-ok t c cl b tr f cr br (fine .busy (not-true (isIdle (cl .hand)) i), fine .calls) (fine .ok .hand))
+      (made-ok t c cl b tr f cr br (fine .busy (unfold isIdle in i), fine .calls) (fine .ok .hand))
 
   pub make-good : (b : ℕ) (output : List ℕ)
       → let d = clientMake t c b call kept output in let v = makeStep s c cl b (length output) in

@@ -9,12 +9,12 @@ use Rattle.cluster.specs.Config.{Config, quorum}
 use Rattle.cluster.specs.Ranges.{within, topFaults, topWriter, topClient, topNumber, leastLength, topLength, packetRoom, contentRoom}
 use Rattle.cluster.specs.Refusals.{refuse, firstOf, onRefusal}
 use Rattle.protocol.specs.declared.Stamp.{Stamp}
-use Rattle.protocol.specs.Values.{Candidate, Held, sameList, isBlank, blankCandidate, noHeld}
+use Rattle.protocol.specs.Values.{Candidate, Held, sameList, isBlank, blankCandidate, noHeld, isSome, ofSome}
 use Rattle.protocol.specs.Packet.{Body, Packet, kindOf}
 use Rattle.protocol.specs.Primitives.{Primitives, stampMessage}
 use Rattle.protocol.specs.Rules.{ByServer, upd, nobody, countTo, gather, live, choice, leader, restoredBy, tagsIn}
 -- passed on to those who import the client
-pub use Rattle.protocol.specs.Pending.{inComplete, isReading, Hand, idle, clocking, storing, completing, collecting, filtering, repairing, Client, newClient, Result, refused, more, written, gave, gaveBlank, aborted, accepted, Turn, request, stampIn, codeIn, candidateIn, heldIn}
+pub use Rattle.protocol.specs.Pending.{inComplete, isReading, ofWrite, Hand, idle, clocking, storing, completing, collecting, filtering, repairing, Client, newClient, Result, refused, more, written, gave, gaveBlank, aborted, accepted, Turn, request, stampIn, codeIn, candidateIn, heldIn}
 unfoldable pub use Rattle.protocol.specs.Pending.{awaits, isIdle, stampOf, tagsOf, candidateMade, shareMade, sharesMade, prepared, made}
 
 -- ---- a reply is taken
@@ -87,42 +87,46 @@ tooHigh P writers x full (collecting g) = false
 tooHigh P writers x full (filtering cs g) = false
 tooHigh P writers x full (repairing c r) = false
 
--- ---- refusals, in document 01's order. pending: a call is in hand
+-- ---- refusals, in document 01's order
 
 abbrev pub badFaults : Config → Bool
 badFaults s = not (within 1 topFaults (s .t))
 
+-- 5: a client outside 1 to 16; a write by 9 to 16
+abbrev pub badClient : Bool → ℕ → Bool
+badClient writing client = not (within 1 (cond writing topWriter topClient) client)
+
+-- pending: a call is in hand
 unfoldable pub writeRefusal : Config → ℕ → ℕ → Bool → ℕ → ℕ
 writeRefusal s client n pending calls =
     firstOf
-    (refuse 3 (badFaults s) ∷ refuse 5 (not (within 1 topWriter client)) ∷ refuse 6 (not (within leastLength topLength n))
+    (refuse 3 (badFaults s) ∷ refuse 5 (badClient true client) ∷ refuse 6 (not (within leastLength topLength n))
     ∷ refuse 13 pending ∷ refuse 14 (leb topNumber calls) ∷ [])
 
 unfoldable pub readRefusal : Config → ℕ → Bool → ℕ → ℕ
 readRefusal s client pending calls =
-    firstOf (refuse 3 (badFaults s) ∷ refuse 5 (not (within 1 topClient client)) ∷ refuse 13 pending ∷ refuse 14 (leb topNumber calls) ∷ [])
+    firstOf (refuse 3 (badFaults s) ∷ refuse 5 (badClient false client) ∷ refuse 13 pending ∷ refuse 14 (leb topNumber calls) ∷ [])
 
-unfoldable pub makeRefusal : Config → ℕ → ℕ → Bool → ℕ → ℕ
-makeRefusal s client b pending room =
+-- kind: what the round awaits, 0 with no call in hand
+unfoldable pub makeRefusal : Config → ℕ → ℕ → ℕ → ℕ → ℕ
+makeRefusal s client b kind room =
     firstOf
-    (refuse 3 (badFaults s) ∷ refuse 4 (not (within 1 (s .servers) b)) ∷ refuse 5 (not (within 1 topClient client))
-    ∷ refuse 13 (not pending) ∷ refuse 15 (ltb room packetRoom) ∷ [])
+    (refuse 3 (badFaults s) ∷ refuse 4 (not (within 1 (s .servers) b)) ∷ refuse 5 (badClient (ofWrite kind) client)
+    ∷ refuse 13 (eqb kind 0) ∷ refuse 15 (ltb room packetRoom) ∷ [])
 
-unfoldable pub abortRefusal : Config → ℕ → Bool → ℕ
-abortRefusal s client pending =
-    firstOf (refuse 3 (badFaults s) ∷ refuse 5 (not (within 1 topClient client)) ∷ refuse 13 (not pending) ∷ [])
+unfoldable pub abortRefusal : Config → ℕ → ℕ → ℕ
+abortRefusal s client kind = firstOf (refuse 3 (badFaults s) ∷ refuse 5 (badClient (ofWrite kind) client) ∷ refuse 13 (eqb kind 0) ∷ [])
 
--- kind: what the round awaits, 0 with no call in hand; replied: who has replied in this round; high: this reply would end clock with too high a number
+-- a reply that breaks the layout is `none`; replied: who has replied in this round; high: this reply would end clock with too high a number
 unfoldable pub takeRefusal : Config → ℕ → Option Packet → ℕ → ℕ → ByServer Bool → (ℕ → Body → Bool) → ℕ → ℕ
-takeRefusal s client none calls kind replied high room =
-    firstOf (refuse 3 (badFaults s) ∷ refuse 5 (not (within 1 topClient client)) ∷ refuse 7 true ∷ [])
-takeRefusal s client (some p) calls kind replied high room =
+takeRefusal s client o calls kind replied high room =
     firstOf
-    (refuse 3 (badFaults s) ∷ refuse 5 (not (within 1 topClient client))
-    ∷ refuse 8 (not (eqb (p .head .t) (s .t) && eqb (p .head .client) client))
-    ∷ refuse 12 (not (eqb kind 0) && (not (eqb (p .head .call) calls && eqb (kindOf (p .body)) kind) || replied (p .head .server)))
+    (refuse 3 (badFaults s) ∷ refuse 5 (badClient (ofWrite kind) client) ∷ refuse 7 (not (isSome o))
+    ∷ refuse 8 (ofSome o (λ p. not (eqb (p .head .t) (s .t) && eqb (p .head .client) client)))
+    ∷ refuse 12
+    (ofSome o (λ p. not (eqb kind 0) && (not (eqb (p .head .call) calls && eqb (kindOf (p .body)) kind) || replied (p .head .server))))
     ∷ refuse 13 (eqb kind 0)
-    ∷ refuse 14 (high (p .head .server) (p .body))
+    ∷ refuse 14 (ofSome o (λ p. high (p .head .server) (p .body)))
     ∷ refuse 15 (ltb room contentRoom) ∷ [])
 
 -- ---- the steps
@@ -145,7 +149,7 @@ readStep s client cl =
 -- amended: giving up leaves no call in hand; the call number and the last stamp made stay
 unfoldable pub abortStep : Config → ℕ → Client → Turn
 abortStep s client cl =
-    let k = abortRefusal s client (not (isIdle (cl .hand))) in
+    let k = abortRefusal s client (awaits (cl .hand)) in
     onRefusal k (record { client = onto cl nobody idle; result = aborted (inComplete (cl .hand)) }) (record { client = cl; result = refused k })
 
 -- making a packet changes nothing
@@ -155,7 +159,7 @@ pub record Made : Type 0 where
 
 unfoldable pub makeStep : Config → ℕ → Client → ℕ → ℕ → Made
 makeStep s client cl b room =
-    let k = makeRefusal s client b (not (isIdle (cl .hand))) room in
+    let k = makeRefusal s client b (awaits (cl .hand)) room in
     onRefusal k (record { number = 0; packet = some (made (s .t) client cl b) }) (record { number = k; packet = none })
 
 module _ (P : Primitives) (s : Config) (client : ℕ) (writers : List ℕ) (keys : ByServer (List ℕ)) where

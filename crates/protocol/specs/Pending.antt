@@ -56,6 +56,10 @@ awaits (repairing c r) = 12
 unfoldable pub isIdle : Hand → Bool
 isIdle h = eqb (awaits h) 0
 
+-- a write awaits kind 2, 4 or 6
+abbrev pub ofWrite : ℕ → Bool
+ofWrite kind = within 2 6 kind
+
 -- a write in its last round; a read in any
 abbrev pub inComplete : Hand → Bool
 inComplete h = eqb (awaits h) 6

@@ -10,10 +10,10 @@ use Rattle.cluster.specs.Config.{Config}
 use Rattle.cluster.specs.Ranges.{capacity, topWriter, packetRoom}
 use Rattle.cluster.specs.Refusals.{refuse, firstOf, onRefusal}
 use Rattle.hmac.specs.Hmac.{tagSize}
-use Rattle.protocol.specs.Values.{Candidate, Share, Write, sameList, nth, below, blankCandidate, isSome}
+use Rattle.protocol.specs.Values.{Candidate, Share, Write, sameList, nth, below, blankCandidate, isSome, ofSome}
 use Rattle.protocol.specs.Packet.{Body, Packet, kindOf}
 use Rattle.protocol.specs.Packet.{clock, clockReply, store, storeReply, complete, completeReply, collect, collectReply, filter, filterReply, repair, repairReply}
-use Rattle.protocol.specs.Memory.{held}
+use Rattle.protocol.specs.Memory.{Memory, held}
 use Rattle.protocol.specs.Primitives.{Primitives, candidateMessage}
 
 -- lines 110, 111: lc, and Hist in order of arrival (document 01: at most 32 stored writes)
@@ -23,6 +23,10 @@ pub record Server : Type 0 where
 
 abbrev pub blankServer : Config → Server
 blankServer s = record { latest = blankCandidate s; history = [] }
+
+-- in a memory of t, as server b
+abbrev pub memoryOf : ℕ → ℕ → Server → Memory
+memoryOf t b v = record { t = t; server = b; latest = v .latest; writes = v .history }
 
 -- what a request does, and its answer
 pub record Acted : Type 0 where
@@ -104,14 +108,14 @@ unfoldable pub replyTo : Packet → Body → Packet
 replyTo p x =
     record { head = record { kind = kindOf x; client = p .head .client; server = p .head .server; t = p .head .t; call = p .head .call }; body = x }
 
-unfoldable pub serverRefusal : ℕ → ℕ → Option Packet → ℕ → ℕ
-serverRefusal t b none room = firstOf (refuse 7 true ∷ [])
-serverRefusal t b (some p) room =
+-- sized: the memory has its length; m: the record that it is; o: the packet
+unfoldable pub serverRefusal : Bool → Option Memory → Option Packet → ℕ → ℕ
+serverRefusal sized m o room =
     firstOf
-    (refuse 8 (not (eqb (p .head .t) t && eqb (p .head .server) b))
-    ∷ refuse 9 (barred (p .head .client) (p .body))
-    ∷ refuse 15 (ltb room packetRoom)
-    ∷ [])
+    (refuse 1 (not sized) ∷ refuse 2 (not (isSome m)) ∷ refuse 7 (not (isSome o))
+    ∷ refuse 8 (ofSome m (λ k. ofSome o (λ p. not (eqb (p .head .t) (k .t) && eqb (p .head .server) (k .server)))))
+    ∷ refuse 9 (ofSome o (λ p. barred (p .head .client) (p .body)))
+    ∷ refuse 15 (ltb room packetRoom) ∷ [])
 
 pub record Stepped : Type 0 where
   -- 0, or the refusal
@@ -125,4 +129,6 @@ module _ (P : Primitives) (s : Config) (key : List ℕ) (number : ℕ) (v : Serv
   answered (some p) = let a = act P s key number v (p .body) in record { number = 0; server = a .server; reply = some (replyTo p (a .reply)) }
 
   unfoldable pub serverStep : Option Packet → Stepped
-  serverStep o = let n = serverRefusal (s .t) number o room in onRefusal n (answered o) (record { number = n; server = v; reply = none })
+  serverStep o =
+      let n = serverRefusal true (some (memoryOf (s .t) number v)) o room in
+      onRefusal n (answered o) (record { number = n; server = v; reply = none })

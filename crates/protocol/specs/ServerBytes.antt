@@ -1,5 +1,5 @@
 -- The server's operations on bytes: what the contracts of the code cite.
-use mathlib.Core.Bool.{cond, not}
+use mathlib.Core.Bool.{not}
 use mathlib.Core.List.{List, [], _∷_, _++_}
 use mathlib.Core.Option.{Option, none, some}
 use Prim.Native.Nat.{ℕ}
@@ -12,7 +12,7 @@ use Rattle.cluster.specs.declared.Outcome.{Outcome}
 use Rattle.protocol.specs.Packet.{Packet, decode, encode}
 use Rattle.protocol.specs.Memory.{Memory, decodeMemory, encodeMemory, blankMemory}
 use Rattle.protocol.specs.Primitives.{Primitives}
-use Rattle.protocol.specs.Server.{Server, act, replyTo, serverRefusal}
+use Rattle.protocol.specs.Server.{Server, memoryOf, act, replyTo, serverRefusal}
 
 -- bytes written at the start of the output buffer, the rest untouched
 unfoldable pub over : List ℕ → List ℕ → List ℕ
@@ -21,10 +21,7 @@ over new old = new ++ drop (length new) old
 unfoldable pub serverIn : Memory → Server
 serverIn m = record { latest = m .latest; history = m .writes }
 
-unfoldable pub memoryOf : ℕ → ℕ → Server → Memory
-memoryOf t b v = record { t = t; server = b; latest = v .latest; writes = v .history }
-
--- ---- making a blank server: 1, 3, 4
+-- ---- making a blank server
 
 pub record Blanked : Type 0 where
   pub result : Outcome
@@ -43,7 +40,7 @@ blankStep memory t b =
     let n = blankRefusal (length memory) t b in
     record { result = record { number = n; count = 0 }; memory = onRefusal n (encodeMemory (blankMemory t b)) memory }
 
--- ---- taking a packet: 1, 2, 7, 8, 9, 15
+-- ---- taking a packet
 
 pub record Served : Type 0 where
   pub result : Outcome
@@ -56,18 +53,15 @@ module _ (P : Primitives) (memory key packet output : List ℕ) where
   turnedDown n = record { result = record { number = n; count = 0 }; memory = memory; output = output }
 
   -- let in: the packet is acted on
-  unfoldable pub actedOn : Memory → Option Packet → Served
-  actedOn m none = turnedDown 0
-  actedOn m (some p) =
+  unfoldable pub actedOn : Option Memory → Option Packet → Served
+  actedOn none o = turnedDown 0
+  actedOn (some m) none = turnedDown 0
+  actedOn (some m) (some p) =
       let a = act P (shelf (m .t)) key (m .server) (serverIn m) (p .body) in
       let bytes = encode (replyTo p (a .reply)) in
       record { result = record { number = 0; count = length bytes }; memory = encodeMemory (memoryOf (m .t) (m .server) (a .server)); output = over bytes output }
 
-  unfoldable pub onMemory : Option Memory → Served
-  onMemory none = turnedDown 2
-  onMemory (some m) =
-      let n = serverRefusal (m .t) (m .server) (decode packet) (length output) in
-      onRefusal n (actedOn m (decode packet)) (turnedDown n)
-
   unfoldable pub serverTake : Served
-  serverTake = cond (eqb (length memory) memorySize) (onMemory (decodeMemory memory)) (turnedDown 1)
+  serverTake =
+      let n = serverRefusal (eqb (length memory) memorySize) (decodeMemory memory) (decode packet) (length output) in
+      onRefusal n (actedOn (decodeMemory memory) (decode packet)) (turnedDown n)

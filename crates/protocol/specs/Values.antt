@@ -103,3 +103,8 @@ noHeld = record { stamp = blankStamp; share = none }
 abbrev pub isSome : {A : Type 0} → Option A → Bool
 isSome none = false
 isSome (some a) = true
+
+-- what a test says of what is there; false where nothing is
+abbrev pub ofSome : {A : Type 0} → Option A → (A → Bool) → Bool
+ofSome none f = false
+ofSome (some a) f = f a

@@ -19,9 +19,9 @@ use Rattle.protocol.specs.Values.{Candidate, below, blankStamp, blankCandidate,
 use Rattle.protocol.specs.Packet.{heldF, filter, filterReply, headSize, decode}
 use Rattle.protocol.specs.Memory.{held, encodeMemory}
 use Rattle.protocol.specs.Primitives.{real}
-use Rattle.protocol.specs.Server.{Acted, Server, raise, best, act}
+use Rattle.protocol.specs.Server.{memoryOf, Acted, Server, raise, best, act}
 use Rattle.protocol.specs.View.{part, stampAt, candidateAt}
-use Rattle.protocol.specs.ServerBytes.{serverIn, memoryOf, actedOn}
+use Rattle.protocol.specs.ServerBytes.{serverIn, actedOn}
 use Rattle.protocol.proofs.Answers.{bytes-drop}
 use Rattle.protocol.proofs.Packets.{candidate-lengths, candidate-length}
 use Rattle.wire.specs.Places.{candidateList, packetAt, padded}
@@ -80,7 +80,7 @@ module _ {d : List ℕ} (bs : Bytes d) (key packet : List ℕ) (ps : Bytes packe
   answered : (c : Candidate) → kept ≡ c → length (c .stamp .tag) ≡ tagSize → {a : Stamp} → a ≡ c .stamp → {r : Outcome} {m out : List ℕ} → m ≡
       encodeMemory (memoryOf (h .t) (h .server) (raise c server))
       → HeldAs d h n top a output (record { result = r; output = out })
-      → record { result = r; memory = m; output = out } ≡ actedOn real d key packet output (memoryIn o) (decode packet)
+      → record { result = r; memory = m; output = out } ≡ actedOn real d key packet output (some (memoryIn o)) (decode packet)
   answered c p l {a} q u w =
       let H : List ℕ = heldF s .print (record { stamp = c .stamp; share = held (c .stamp) (o .writes) }) in
       replied-as key packet output h o dec room (filter (candidateList s M Y)) (filter-body h packet dec k) (acted c) (step-is c p) H [] u
@@ -102,7 +102,7 @@ module _ {d : List ℕ} (bs : Bytes d) (key packet : List ℕ) (ps : Bytes packe
 
     pub filter-nothing : f ≡ chosen.Nothing → {a : Stamp} → a ≡ blankStamp → {r : Outcome} {out : List ℕ} → HeldAs d h n top a output
         (record { result = r; output = out })
-        → record { result = r; memory = d; output = out } ≡ actedOn real d key packet output (memoryIn o) (decode packet)
+        → record { result = r; memory = d; output = out } ≡ actedOn real d key packet output (some (memoryIn o)) (decode packet)
     filter-nothing t a w =
         answered (blankCandidate s) (choice t) (length-replicate {A = ℕ} tagSize 0) a
         (unchanged o bs ∙ ap (λ (z : Server). encodeMemory (memoryOf (h .t) (h .server) z)) (sym (blank-raises s server))) w
@@ -110,7 +110,7 @@ module _ {d : List ℕ} (bs : Bytes d) (key packet : List ℕ) (ps : Bytes packe
     pub filter-chosen : {i : ℕ} → f ≡ chosen.At i → {x : List ℕ} → x ≡ slotOf s v i → {a : Stamp} → a ≡ stampAt (padded stampSize x) → {r : Outcome}
         {m₁ out : List ℕ}
         → HeldAs d h n top a output (record { result = r; output = out }) → m₁ ≡ raisedBytes d x
-        → record { result = r; memory = m₁; output = out } ≡ actedOn real d key packet output (memoryIn o) (decode packet)
+        → record { result = r; memory = m₁; output = out } ≡ actedOn real d key packet output (some (memoryIn o)) (decode packet)
     unfolding candidateAt
     filter-chosen {i} t {x} y {a} b w z =
         let X : List ℕ = slotOf s Y i in

@@ -17,10 +17,10 @@ use Rattle.protocol.specs.Format.{Bytes}
 use Rattle.protocol.specs.Values.{Candidate, below, candidateSize}
 use Rattle.protocol.specs.Packet.{candidateF, anyCandidateF, complete, headSize}
 use Rattle.protocol.specs.Memory.{encodeMemory}
-use Rattle.protocol.specs.Server.{Server, raise, act}
+use Rattle.protocol.specs.Server.{memoryOf, Server, raise, act}
 use Rattle.protocol.specs.View.{part, stampAt, candidateAt}
 use Rattle.protocol.specs.ClientBytes.{put}
-use Rattle.protocol.specs.ServerBytes.{serverIn, memoryOf}
+use Rattle.protocol.specs.ServerBytes.{serverIn}
 use Rattle.protocol.proofs.Acts.{any-candidate}
 use Rattle.protocol.proofs.Answers.{bytes-drop}
 use Rattle.protocol.proofs.Changes.{latest-bytes}
@@ -95,7 +95,6 @@ module _ {d : List ℕ} {t b n e : ℕ} {top : Top} (o : Opened d t b n e top) (
     x-length = ap length x-any ∙ any-length (candidateAt (shelf t) x) (any-candidate (shelf t) (candidateAt (shelf t) x) ok)
 
     placed-raised : placed d latestPlace x .output ≡ encodeMemory (memoryOf t b (record { latest = candidateAt (shelf t) x; history = o .writes }))
-    unfolding memoryOf
     placed-raised =
         let l : latestPlace + length x ≤ length d = omega (arith, x-length, memory-size-of o bs, size-few t (memory-fields o .t-range .1)) in
         let c : Candidate = candidateAt (shelf t) x in

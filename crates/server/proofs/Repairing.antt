@@ -11,9 +11,9 @@ use Rattle.protocol.specs.declared.Head.{Head}
 use Rattle.protocol.specs.Format.{Bytes}
 use Rattle.protocol.specs.Packet.{repair, headSize}
 use Rattle.protocol.specs.Memory.{encodeMemory}
-use Rattle.protocol.specs.Server.{Server, raise, act}
+use Rattle.protocol.specs.Server.{memoryOf, Server, raise, act}
 use Rattle.protocol.specs.View.{part, candidateAt}
-use Rattle.protocol.specs.ServerBytes.{serverIn, memoryOf}
+use Rattle.protocol.specs.ServerBytes.{serverIn}
 use Rattle.wire.specs.Places.{bodyAt, packetAt}
 use Rattle.wire.specs.Make.{packetStep}
 use Rattle.server.specs.declared.memory.Top.{Top}

@@ -14,10 +14,10 @@ use Rattle.protocol.specs.Values.{stampSize, candidateSize}
 use Rattle.protocol.specs.Packet.{Body, Packet, BodyOk, PacketOk, clock, collect, kindOf, printBody, anyStampF, headSize, decode, encode}
 use Rattle.protocol.specs.Memory.{encodeMemory}
 use Rattle.protocol.specs.Primitives.{real}
-use Rattle.protocol.specs.Server.{Acted, act, replyTo}
+use Rattle.protocol.specs.Server.{memoryOf, Acted, act, replyTo}
 use Rattle.protocol.specs.View.{part, candidateAt}
 use Rattle.protocol.specs.ClientBytes.{Written}
-use Rattle.protocol.specs.ServerBytes.{Served, serverIn, memoryOf, over, actedOn}
+use Rattle.protocol.specs.ServerBytes.{Served, serverIn, over, actedOn}
 use Rattle.protocol.proofs.Acts.{act-ok}
 use Rattle.protocol.proofs.Bodies.{decode-ok}
 use Rattle.protocol.proofs.ServerLift.{body-ok, reply-ok}
@@ -72,14 +72,14 @@ module _ {d : List ℕ} (key packet output : List ℕ) (h : Head) {n e : ℕ} {t
     unfolding packetAt replyTo served
     made first second p = made-accepted (replyTo (packetAt h packet) (stepOf x .reply)) first second output p reply-packet-ok room
 
-    to-accepted : served (packetAt h packet) x ≡ actedOn real d key packet output (memoryIn o) (decode packet)
+    to-accepted : served (packetAt h packet) x ≡ actedOn real d key packet output (some (memoryIn o)) (decode packet)
     unfolding actedOn served packetAt
-    to-accepted = ap (served (packetAt h packet)) (sym body) ∙ ap (λ (q : Option Packet). actedOn real d key packet output (memoryIn o) q) (sym dec)
+    to-accepted = ap (served (packetAt h packet)) (sym body) ∙ ap (λ (q : Option Packet). actedOn real d key packet output (some (memoryIn o)) q) (sym dec)
 
     pub replied : (first second : List ℕ) {r : Outcome} {m out : List ℕ} → m ≡ encodeMemory (memoryOf (h .t) (h .server) (stepOf x .server))
         → printBody (shelf (h .t)) (stepOf x .reply) ≡ first ++ second
         → record { result = r; output = out } ≡ packetStep (replyHead h (kindOf (stepOf x .reply))) first second output
-        → record { result = r; memory = m; output = out } ≡ actedOn real d key packet output (memoryIn o) (decode packet)
+        → record { result = r; memory = m; output = out } ≡ actedOn real d key packet output (some (memoryIn o)) (decode packet)
     unfolding served
     replied first second {r} {m} {out} e p w =
         let q : _≡_ {A = Written} (record { result = r; output = out }) (record {
@@ -95,7 +95,7 @@ module _ {d : List ℕ} (key packet output : List ℕ) (h : Head) {n e : ℕ} {t
         (memoryOf (h .t) (h .server) (a .server))
         → printBody (shelf (h .t)) (a .reply) ≡ first ++ second
         → record { result = r; output = out } ≡ packetStep (replyHead h (kindOf (a .reply))) first second output
-        → record { result = r; memory = m; output = out } ≡ actedOn real d key packet output (memoryIn o) (decode packet)
+        → record { result = r; memory = m; output = out } ≡ actedOn real d key packet output (some (memoryIn o)) (decode packet)
     replied-as a q first second e p w =
         replied first second (e ∙ ap (λ (y : Acted). encodeMemory (memoryOf (h .t) (h .server) (y .server))) (sym q))
         (ap (λ (y : Acted). printBody (shelf (h .t)) (y .reply)) q ∙ p)
@@ -103,7 +103,7 @@ module _ {d : List ℕ} (key packet output : List ℕ) (h : Head) {n e : ℕ} {t
 
 -- the memory as it is
 pub unchanged : {d : List ℕ} {t b n e : ℕ} {top : Top} (o : Opened d t b n e top) → Bytes d → d ≡ encodeMemory (memoryOf t b (serverIn (memoryIn o)))
-unfolding memoryOf serverIn
+unfolding serverIn
 unchanged o bs = sym (memory-bytes o bs)
 
 -- no bytes of a run

@@ -17,11 +17,11 @@ use Rattle.protocol.specs.Format.{Bytes, printMany, byte, keep, via, seq, run, 
 use Rattle.protocol.specs.Values.{Write, isSome, stampSize}
 use Rattle.protocol.specs.Packet.{stampF, shareF, writeF, anyCandidateF, codeF, store, storeReply, printBody, headSize, decode}
 use Rattle.protocol.specs.Memory.{Memory, memoryF, encodeMemory, held}
-use Rattle.protocol.specs.Server.{Acted, Server, kept, act}
+use Rattle.protocol.specs.Server.{memoryOf, Acted, Server, kept, act}
 use Rattle.protocol.specs.View.{part}
 use Rattle.protocol.specs.ClientBytes.{put, Written}
 use Rattle.protocol.specs.Primitives.{real}
-use Rattle.protocol.specs.ServerBytes.{serverIn, memoryOf, actedOn}
+use Rattle.protocol.specs.ServerBytes.{serverIn, actedOn}
 use Rattle.protocol.proofs.Acts.{ServerOk, act-ok}
 use Rattle.protocol.proofs.Answers.{bytes-drop}
 use Rattle.protocol.proofs.Changes.{added, print-snoc, append-bytes}
@@ -187,21 +187,21 @@ module _ {d : List ℕ} (bs : Bytes d) (packet : List ℕ) (ps : Bytes packet) (
 
     pub answer-held : {r : Outcome} {out : List ℕ} {at : ℕ} → f ≡ found.At at → record { result = r; output = out } ≡ packetStep (replyHead h 4)
         (10 ∷ []) [] output
-        → record { result = r; memory = d; output = out } ≡ actedOn real d key packet output (memoryIn o) (decode packet)
+        → record { result = r; memory = d; output = out } ≡ actedOn real d key packet output (some (memoryIn o)) (decode packet)
     answer-held t w =
         replied-as key packet output h o dec room (store written) the-body _ (step-held true (is-held t) refl) (10 ∷ []) [] (unchanged o bs)
         (code-alone 10) w
 
     pub answer-full : {r : Outcome} {out : List ℕ} → f ≡ found.Nothing → capacity ≤ n → record { result = r; output = out } ≡ packetStep
         (replyHead h 4) (11 ∷ []) [] output
-        → record { result = r; memory = d; output = out } ≡ actedOn real d key packet output (memoryIn o) (decode packet)
+        → record { result = r; memory = d; output = out } ≡ actedOn real d key packet output (some (memoryIn o)) (decode packet)
     answer-full t l w =
         replied-as key packet output h o dec room (store written) the-body _ (step-full false (is-new t) refl l) (11 ∷ []) [] (unchanged o bs)
         (code-alone 11) w
 
     pub answer-kept : {r : Outcome} {out : List ℕ} → f ≡ found.Nothing → n < capacity → {m : List ℕ} → m ≡ keptBytes d n e x
         → record { result = r; output = out } ≡ packetStep (replyHead h 4) (0 ∷ []) [] output
-        → record { result = r; memory = m; output = out } ≡ actedOn real d key packet output (memoryIn o) (decode packet)
+        → record { result = r; memory = m; output = out } ≡ actedOn real d key packet output (some (memoryIn o)) (decode packet)
     answer-kept t l u w =
         let a = step-kept false (is-new t) refl l in
         let ok = subst (λ (z : Acted). ServerOk (shelf (h .t)) (z .server)) a (act-ok real (shelf (h .t)) key (h .server) server (server-ok o)
@@ -214,4 +214,4 @@ module _ {d : List ℕ} (bs : Bytes d) (packet : List ℕ) (ps : Bytes packet) (
             → y ≡ writeF (shelf (h .t)) .print written
             → keptBytes d n e y ≡ encodeMemory (memoryOf (h .t) (h .server) (record
             { latest = memoryIn o .latest; history = o .writes ++ written ∷ [] }))
-        as-memory ok l y q = unfold memoryOf in kept-memory o bs written l ok y q
+        as-memory ok l y q = kept-memory o bs written l ok y q

@@ -18,15 +18,15 @@ use Rattle.protocol.specs.declared.Head.{Head}
 use Rattle.protocol.specs.Packet.{Body, headSize, decode}
 use Rattle.protocol.specs.Memory.{decodeMemory}
 use Rattle.protocol.specs.Primitives.{real}
-use Rattle.protocol.specs.Server.{barred, serverRefusal}
+use Rattle.protocol.specs.Server.{Server, memoryOf, barred, serverRefusal}
 use Rattle.protocol.specs.View.{stampAt, candidateAt}
-use Rattle.protocol.specs.ServerBytes.{Served, turnedDown, actedOn, onMemory, serverTake}
+use Rattle.protocol.specs.ServerBytes.{Served, serverIn, turnedDown, actedOn, serverTake}
 use Rattle.protocol.proofs.Answers.{at-cond}
 use Rattle.wire.specs.Places.{writeAt, bodyAt, packetAt}
 use Rattle.wire.proofs.Laws.{head-ranges}
 use Rattle.server.specs.declared.memory.Top.{Top}
 use Rattle.server.specs.Reads.{Opened}
-use Rattle.server.specs.Answers.{memoryIn, AnswersAny}
+use Rattle.server.specs.Answers.{memoryIn, NumberAt, AnswersAny}
 
 -- ---- refusal 9
 
@@ -110,33 +110,33 @@ module _ (h : Head) (packet : List ℕ) where
 -- ---- refusals 8, 9 and 15
 
 module _ (h : Head) (t b : ℕ) (packet : List ℕ) (room : ℕ) where
-  pub other-t : (h .t ≡ t → ⊥) → 8 ≡ serverRefusal t b (some (packetAt h packet)) room
+  pub other-t : (h .t ≡ t → ⊥) → NumberAt t b (packetAt h packet) room 8
   unfolding serverRefusal packetAt
-  other-t e = rw (ne-eqb (h .t) t e)
+  other-t e v = rw (ne-eqb (h .t) t e)
 
   module _ (p : h .t ≡ t) where
-    pub other-server : (h .server ≡ b → ⊥) → 8 ≡ serverRefusal t b (some (packetAt h packet)) room
+    pub other-server : (h .server ≡ b → ⊥) → NumberAt t b (packetAt h packet) room 8
     unfolding serverRefusal packetAt
-    other-server e = rw (eq-eqb (h .t) t p, ne-eqb (h .server) b e)
+    other-server e v = rw (eq-eqb (h .t) t p, ne-eqb (h .server) b e)
 
     module _ (q : h .server ≡ b) {r : Bool} (test : r ≡ barred (h .client) (packetAt h packet .body)) where
-      pub is-barred : r ≡ true → 9 ≡ serverRefusal t b (some (packetAt h packet)) room
+      pub is-barred : r ≡ true → NumberAt t b (packetAt h packet) room 9
       unfolding serverRefusal
-      is-barred e = rw (heads, eq-eqb (h .t) t p, eq-eqb (h .server) b q, sym test ∙ e)
+      is-barred e v = rw (heads, eq-eqb (h .t) t p, eq-eqb (h .server) b q, sym test ∙ e)
         where
           heads : packetAt h packet .head ≡ h
           heads = unfold packetAt in refl
 
-      pub short : r ≡ false → room < packetRoom → 15 ≡ serverRefusal t b (some (packetAt h packet)) room
+      pub short : r ≡ false → room < packetRoom → NumberAt t b (packetAt h packet) room 15
       unfolding serverRefusal
-      short e l = rw (heads, eq-eqb (h .t) t p, eq-eqb (h .server) b q, sym test ∙ e, lt-ltb room packetRoom l)
+      short e l v = rw (heads, eq-eqb (h .t) t p, eq-eqb (h .server) b q, sym test ∙ e, lt-ltb room packetRoom l)
         where
           heads : packetAt h packet .head ≡ h
           heads = unfold packetAt in refl
 
-      pub let-in : r ≡ false → packetRoom ≤ room → 0 ≡ serverRefusal t b (some (packetAt h packet)) room
+      pub let-in : r ≡ false → packetRoom ≤ room → NumberAt t b (packetAt h packet) room 0
       unfolding serverRefusal
-      let-in e l = rw (heads, eq-eqb (h .t) t p, eq-eqb (h .server) b q, sym test ∙ e, le-ltb room packetRoom l)
+      let-in e l v = rw (heads, eq-eqb (h .t) t p, eq-eqb (h .server) b q, sym test ∙ e, le-ltb room packetRoom l)
         where
           heads : packetAt h packet .head ≡ h
           heads = unfold packetAt in refl
@@ -148,9 +148,10 @@ pub record LetIn (h : Head) (t b : ℕ) (packet : List ℕ) (room : ℕ) : Type 
   pub sent : barred (h .client) (packetAt h packet .body) ≡ false
   pub room-there : packetRoom ≤ room
 
-pub was-let-in : (h : Head) (t b : ℕ) (packet : List ℕ) (room : ℕ) → serverRefusal t b (some (packetAt h packet)) room ≡ 0 → LetIn h t b packet room
+pub was-let-in : (h : Head) (t b : ℕ) (packet : List ℕ) (room : ℕ) (v : Server)
+    → serverRefusal true (some (memoryOf t b v)) (some (packetAt h packet)) room ≡ 0 → LetIn h t b packet room
 unfolding serverRefusal packetAt
-was-let-in h t b packet room e =
+was-let-in h t b packet room v e =
     go (eqb (h .t) t && eqb (h .server) b) refl (barred (h .client) (packetAt h packet .body)) refl (ltb room packetRoom) refl e
   where
     go : (x : Bool) → (eqb (h .t) t && eqb (h .server) b) ≡ x → (y : Bool) → barred (h .client) (packetAt h packet .body) ≡ y → (z : Bool) → ltb room
@@ -178,39 +179,40 @@ module _ (d key packet output : List ℕ) where
   number n = record { number = n; count = 0 }
 
   pub take-size : (length d ≡ memorySize → ⊥) → {z : Outcome} → z ≡ number 1 → down z ≡ serverTake real d key packet output
-  unfolding serverTake turnedDown
+  unfolding serverTake serverRefusal turnedDown
   take-size h p = rw (ne-eqb (length d) memorySize h) (ap down p)
 
   module _ (size : length d ≡ memorySize) where
     pub take-broken : decodeMemory d ≡ none → {z : Outcome} → z ≡ number 2 → down z ≡ serverTake real d key packet output
-    unfolding serverTake onMemory turnedDown
+    unfolding serverTake serverRefusal turnedDown
     take-broken e p = rw (eq-eqb (length d) memorySize size, e) (ap down p)
 
     module _ {t b n e : ℕ} {top : Top} (o : Opened d t b n e top) where
       pub take-unread : decode packet ≡ none → {z : Outcome} → z ≡ number 7 → down z ≡ serverTake real d key packet output
-      unfolding serverTake onMemory serverRefusal turnedDown
+      unfolding serverTake serverRefusal turnedDown
       take-unread r p = rw (eq-eqb (length d) memorySize size, o .decoded, r) (ap down p)
 
-      module _ (h : Head) (dec : decode packet ≡ some (packetAt h packet)) {k : ℕ} (found : k ≡ serverRefusal t b (some (packetAt h packet))
-          (length output)) where
-        whole : serverTake real d key packet output ≡ onRefusal k (actedOn real d key packet output (memoryIn o) (decode packet)) (down (number k))
-        unfolding serverTake onMemory turnedDown
+      module _ (h : Head) (dec : decode packet ≡ some (packetAt h packet)) {k : ℕ}
+          (found : NumberAt t b (packetAt h packet) (length output) k) where
+        whole : serverTake real d key packet output ≡ onRefusal k (actedOn real d key packet output (some (memoryIn o)) (decode packet)) (down (number k))
+        unfolding serverTake turnedDown serverIn
         whole =
             rw (eq-eqb (length d) memorySize size, o .decoded)
-            (ap (λ (j : ℕ). onRefusal j (actedOn real d key packet output (memoryIn o) (decode packet)) (down (number j)))
-            (ap (λ q. serverRefusal t b q (length output)) dec ∙ sym found))
+            (ap (λ (j : ℕ). onRefusal j (actedOn real d key packet output (some (memoryIn o)) (decode packet)) (down (number j)))
+            (ap (λ q. serverRefusal true (some (memoryIn o)) q (length output)) dec ∙ sym (found (serverIn (memoryIn o)))))
 
         pub take-refused : (k ≡ 0 → ⊥) → {z : Outcome} → z ≡ number k → down z ≡ serverTake real d key packet output
         take-refused h p = ap down p ∙ sym (whole ∙ refused-is k _ _ h)
 
         pub take-answered : k ≡ 0 → {r : Served} → AnswersAny d key packet output h n e top r → r ≡ serverTake real d key packet output
         take-answered z {r} a =
-            let l = was-let-in h t b packet (length output) (sym found ∙ z) in
+            let v : Server = serverIn (memoryIn o) in
+            let l = was-let-in h t b packet (length output) v (sym (found v) ∙ z) in
             moved (l .t-own) (l .server-own) (λ o₁. a o₁ dec (l .sent) (l .room-there)) o
-            ∙ sym (whole ∙ ap (λ (j : ℕ). onRefusal j (actedOn real d key packet output (memoryIn o) (decode packet)) (down (number j))) z)
+            ∙ sym (whole ∙ ap (λ (j : ℕ). onRefusal j (actedOn real d key packet output (some (memoryIn o)) (decode packet)) (down (number j))) z)
           where
             Q : ℕ → ℕ → Type 0
-            Q i j = (o₁ : Opened d i j n e top) → r ≡ actedOn real d key packet output (memoryIn o₁) (decode packet)
+            Q i j = (o₁ : Opened d i j n e top) → r ≡ actedOn real d key packet output (some (memoryIn o₁)) (decode packet)
 
             moved : h .t ≡ t → h .server ≡ b → Q (h .t) (h .server) → Q t b
             moved p q f = subst (λ (i : ℕ). Q i b) p (subst (λ (j : ℕ). Q (h .t) j) q f)

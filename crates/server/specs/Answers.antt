@@ -1,7 +1,7 @@
 -- What the answer to each kind of request leaves, where the memory opens, the packet was let through, and the buffer has room:
 -- the server's step on values, in the bytes of memory and output.
 use mathlib.Core.Path.{_≡_}
-use mathlib.Core.Bool.{false, cond}
+use mathlib.Core.Bool.{true, false, cond}
 use mathlib.Core.List.{List, [], _∷_}
 use mathlib.Core.Option.{some}
 use Prim.Native.Nat.{ℕ, _+_, _≤_}
@@ -10,10 +10,10 @@ use lib.ListN.{length, drop}
 use Rattle.cluster.specs.Config.{shelf}
 use Rattle.cluster.specs.Ranges.{packetRoom}
 use Rattle.protocol.specs.declared.Head.{Head}
-use Rattle.protocol.specs.Packet.{decode}
+use Rattle.protocol.specs.Packet.{Packet, decode}
 use Rattle.protocol.specs.Memory.{Memory}
 use Rattle.protocol.specs.Primitives.{real}
-use Rattle.protocol.specs.Server.{barred}
+use Rattle.protocol.specs.Server.{Server, memoryOf, barred, serverRefusal}
 use Rattle.protocol.specs.View.{stampAt, candidateAt}
 use Rattle.protocol.specs.ServerBytes.{Served, actedOn}
 use Rattle.wire.specs.Places.{packetAt}
@@ -25,6 +25,10 @@ use Rattle.server.specs.Reads.{latestPlace, Opened, keyOf}
 abbrev pub memoryIn : {d : List ℕ} {t b n e : ℕ} {top : Top} → Opened d t b n e top → Memory
 memoryIn {d} {t} {b} o = record { t = t; server = b; latest = candidateAt (shelf t) (drop latestPlace d); writes = o .writes }
 
+-- r is the number of a packet at the server b of t, whatever that holds
+abbrev pub NumberAt : ℕ → ℕ → Packet → ℕ → ℕ → Type 0
+NumberAt t b p room r = (v : Server) → r ≡ serverRefusal true (some (memoryOf t b v)) (some p) room
+
 -- the head of a reply of kind k
 abbrev pub replyHead : Head → ℕ → Head
 replyHead h k = record { kind = k; client = h .client; server = h .server; t = h .t; call = h .call }
@@ -33,7 +37,7 @@ replyHead h k = record { kind = k; client = h .client; server = h .server; t = h
 abbrev pub AnswersAs : ℕ → List ℕ → List ℕ → List ℕ → List ℕ → Head → ℕ → ℕ → Top → Served → Type 0
 AnswersAs k d key packet output h n e top r =
     (o : Opened d (h .t) (h .server) n e top) → decode packet ≡ some (packetAt h packet) → h .kind ≡ k → packetRoom ≤ length output
-    → r ≡ actedOn real d key packet output (memoryIn o) (decode packet)
+    → r ≡ actedOn real d key packet output (some (memoryIn o)) (decode packet)
 
 -- the same for every key
 abbrev pub AnswersOf : ℕ → List ℕ → List ℕ → List ℕ → Head → ℕ → ℕ → Top → Served → Type 0
@@ -50,7 +54,7 @@ AnswersAll k d output h r = (packet : List ℕ) → AnswersFor k d packet output
 abbrev pub AnswersAny : List ℕ → List ℕ → List ℕ → List ℕ → Head → ℕ → ℕ → Top → Served → Type 0
 AnswersAny d key packet output h n e top r =
     (o : Opened d (h .t) (h .server) n e top) → decode packet ≡ some (packetAt h packet) → barred (h .client) (packetAt h packet .body) ≡ false → packetRoom ≤ length output
-    → r ≡ actedOn real d key packet output (memoryIn o) (decode packet)
+    → r ≡ actedOn real d key packet output (some (memoryIn o)) (decode packet)
 
 -- the candidate's bytes c over the latest ones, if its stamp is higher
 unfoldable pub raisedBytes : List ℕ → List ℕ → List ℕ

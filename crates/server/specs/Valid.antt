@@ -14,9 +14,9 @@ use Rattle.protocol.specs.Values.{Candidate, Write, sameList, nth, stampSize, n
 use Rattle.protocol.specs.Packet.{stampF, candidateF}
 use Rattle.protocol.specs.Memory.{held, encodeMemory}
 use Rattle.protocol.specs.Primitives.{real}
-use Rattle.protocol.specs.Server.{Server, hasDigest, valid, raise}
+use Rattle.protocol.specs.Server.{memoryOf, Server, hasDigest, valid, raise}
 use Rattle.protocol.specs.View.{part, candidateAt}
-use Rattle.protocol.specs.ServerBytes.{Served, serverIn, memoryOf}
+use Rattle.protocol.specs.ServerBytes.{Served, serverIn}
 use Rattle.server.specs.declared.memory.Top.{Top}
 use Rattle.server.specs.Reads.{Stored, TopOf, Opened}
 use Rattle.server.specs.Answers.{memoryIn, AnswersAs}

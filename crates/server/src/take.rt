@@ -1,18 +1,17 @@
 // Taking a packet: refused with the lowest number that applies, or answered.
 ghost use mathlib.Core.Path.{_≡_};
 ghost use mathlib.Core.Bool.{not, _||_};
-ghost use mathlib.Core.Option.{some};
 ghost use Prim.Native.Nat.{_≤_};
 ghost use lib.Dec.{ltb, eqb};
 ghost use lib.ListN.{drop};
 ghost use Rattle.cluster.specs.Ranges.{topWriter};
 ghost use Rattle.protocol.specs.Packet.{headSize};
-ghost use Rattle.protocol.specs.Server.{barred, serverRefusal};
+ghost use Rattle.protocol.specs.Server.{barred};
 ghost use Rattle.protocol.specs.View.{stampAt};
 ghost use Rattle.protocol.specs.Primitives.{real};
 ghost use Rattle.protocol.specs.ServerBytes.{serverTake};
 ghost use Rattle.wire.specs.Places.{packetAt};
-ghost use Rattle.server.specs.Answers.{AnswersAny};
+ghost use Rattle.server.specs.Answers.{NumberAt, AnswersAny};
 use crate::memory::MemoryRead;
 use crate::memory::Top;
 use crate::memory::open;
@@ -61,7 +60,7 @@ fn barred(head: protocol::Head, packet: &[u8]) -> bool
 
 // Refusals 8, 9 and 15 of a packet that was let through; 0 where none applies.
 fn refusal(head: protocol::Head, t: u8, server: u8, packet: &[u8], room: usize) -> u8
-    ensures { λ r. ⌜ r ≡ serverRefusal t server (some (packetAt head (now (packet .entry)))) room ⌝ }
+    ensures { λ r. ⌜ NumberAt t server (packetAt head (now (packet .entry))) room r ⌝ }
 {
     if head.t != t {
         return 8;

@@ -73,6 +73,11 @@ impl Client<'_> {
         self.shelf_refusal().or((!(1..=most).contains(&self.number)).then_some(5))
     }
 
+    /// Refusals 255, 3 and 5 of a step with a call in hand: a write is for 1 to 8 in each of its rounds.
+    fn call_refusal(&self) -> Option<u8> {
+        self.shelf_refusal().or_else(|| self.refusal(if (1..=3).contains(&self.round()) { 8 } else { 16 }))
+    }
+
     fn enter(&mut self, round: u8) -> Answer {
         self.state[ROUND..SMALL].fill(0);
         self.state[ROUND] = round;
@@ -118,7 +123,7 @@ impl Client<'_> {
     }
 
     pub fn give_up(&mut self) -> Answer {
-        match self.refusal(16).or_else(|| (!self.in_hand()).then_some(13)) {
+        match self.call_refusal().or_else(|| (!self.in_hand()).then_some(13)) {
             Some(refusal) => Answer::refused(refusal),
             None => {
                 let result = if self.round() == 3 { 5 } else { 4 };
@@ -131,7 +136,7 @@ impl Client<'_> {
         let refused = self
             .shelf_refusal()
             .or_else(|| (!(1..=self.servers()).contains(&server)).then_some(4))
-            .or(self.refusal(16))
+            .or_else(|| self.call_refusal())
             .or_else(|| (!self.in_hand()).then_some(13))
             .or((out.len() < PACKET_OUTPUT).then_some(15));
         if let Some(refusal) = refused {

@@ -10,7 +10,7 @@ use shelf::{fragments, quorum_of, RECORD_OUTPUT, TOP_NUMBER};
 impl Client<'_> {
     pub fn take(&mut self, writers: &[u8], keys: &[u8], packet: &[u8], out: &mut [u8]) -> Answer {
         let sized = self.state.len() == STATE && writers.len() == 32 && keys.len() == 416;
-        let refused = (!sized).then_some(WRONG_SIZE).or(self.refusal(16)).or_else(|| self.reply_refusal(packet));
+        let refused = (!sized).then_some(WRONG_SIZE).or_else(|| self.call_refusal()).or_else(|| self.reply_refusal(packet));
         if let Some(refusal) = refused {
             return Answer::refused(refusal);
         }

@@ -6,7 +6,7 @@ use Rattle.cluster.proofs.Tests.{refused-is}
 use Rattle.protocol.specs.Client.{abortRefusal}
 use lib.ListN.{length}
 use Rattle.cluster.specs.Ranges.{mostServers}
-use Rattle.protocol.specs.ClientBytes.{inHand}
+use Rattle.protocol.specs.ClientBytes.{awaited}
 use Rattle.client.specs.Rounds.{abortByRounds}
 use Rattle.client.proofs.StepsSame.{same-abort}
 use borrow.Author.Needs.{needs}
@@ -19,10 +19,10 @@ returns c =
     let a = c .before .before .before .args in
     let e = c .before .abort-refusal .ensures in
     let w : length (a .call .tally .marks) ≡ mostServers = search needs in
-    rw (same-abort (a .t) (a .client) (a .call) w, e, refused-is (abortRefusal (shelf (a .t)) (a .client) (inHand (a .call))) _ _ (λ z. c .if1 .taken (e ∙ z)))
+    rw (same-abort (a .t) (a .client) (a .call) w, e, refused-is (abortRefusal (shelf (a .t)) (a .client) (awaited (a .call))) _ _ (λ z. c .if1 .taken (e ∙ z)))
 
 not-refused : (c : tie.Else1) → abortRefusal (shelf (c .before .before .before .args .t)) (c .before .before .before .args .client)
-    (inHand (c .before .before .before .args .call)) ≡ 0
+    (awaited (c .before .before .before .args .call)) ≡ 0
 not-refused c = sym (c .before .abort-refusal .ensures) ∙ c .if1 .left
 
 returns-2 : tie.Need-returns-2

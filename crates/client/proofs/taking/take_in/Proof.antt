@@ -33,12 +33,12 @@ returns-2 c =
 returns-3 : tie.Need-returns-3
 unfolding shelf
 returns-3 c =
-    let a = c .before .before .before .before .before .before .before .before .before .args in
-    let w : badFaults (shelf (a .t)) ≡ false = sym (c .before .before .before .before .outside .ensures) ∙ c .before .before .before .if2 .left in
-    let v = sym (c .before .before .outside2 .ensures) ∙ c .before .if3 .taken in
+    let a = c .before .before .before .before .before .before .before .before .before .before .args in
+    let w : badFaults (shelf (a .t)) ≡ false = sym (c .before .before .before .before .before .outside .ensures) ∙ c .before .before .before .before .if2 .left in
+    let v = rw (c .before .before .before .awaited-kind .ensures) at (sym (c .before .before .bad-client .ensures) ∙ c .before .if3 .taken) in
     taken-in (a .t) (a .client) (a .writers .now) (a .keys .now) (a .call) (a .kept .now) (a .reply .now) (a .out .now) (c .refused3 .result)
-    (a .kept .now) (a .out .now) (wide (c .before .before .before .before .before .before .before .before .before))
-    (c .before .before .before .before .before .if1 .left)
+    (a .kept .now) (a .out .now) (wide (c .before .before .before .before .before .before .before .before .before .before))
+    (c .before .before .before .before .before .before .if1 .left)
     (takes-refused (a .t) (a .client) (a .writers .now) (a .keys .now) (a .call) (a .kept .now) (a .reply .now) (a .out .now) (c .refused3 .result) 5
     (c .refused3 .ensures) (take-reader (a .t) (a .client) (a .writers .now) (a .keys .now) (a .call) (a .kept .now) (a .reply .now) (a .out .now) w
     v))
@@ -46,19 +46,22 @@ returns-3 c =
 take-reply-requires : tie.Need-take-reply-requires
 unfolding shelf
 take-reply-requires c κs = (
-  sym (c .before .before .before .before .before .outside .ensures) ∙ c .before .before .before .before .if2 .left,
-  (sym (c .before .before .before .outside2 .ensures) ∙ c .before .before .if3 .left, c .before .before .before .before .before .before .if1 .left),
+  sym (c .before .before .before .before .before .before .outside .ensures) ∙ c .before .before .before .before .before .if2 .left,
+  (
+    rw (c .before .before .before .before .awaited-kind .ensures) at (sym (c .before .before .before .bad-client .ensures) ∙ c .before .before .if3 .left),
+    c .before .before .before .before .before .before .before .if1 .left,
+  ),
 )
 
 returns-4 : tie.Need-returns-4
 returns-4 c =
-    let a = c .before .before .before .before .before .before .before .before .before .before .before .before .before .before .before .args in
+    let a = c .before .before .before .before .before .before .before .before .before .before .before .before .before .before .before .before .args in
     taken-in (a .t) (a .client) (a .writers .now) (a .keys .now) (a .call) (a .kept .now) (a .reply .now) (a .out .now)
     (c .before .before .before .before .take-reply .result) _ _
-    (wide (c .before .before .before .before .before .before .before .before .before .before .before .before .before .before .before))
-    (c .before .before .before .before .before .before .before .before .before .before .before .if1 .left)
+    (wide (c .before .before .before .before .before .before .before .before .before .before .before .before .before .before .before .before))
+    (c .before .before .before .before .before .before .before .before .before .before .before .before .if1 .left)
     (c .before .before .before .before .take-reply .ensures)
 
 pub take-in-spec : {M : Type 1} → statement M
 take-in-spec = tie.close (tie.spec (λ c κs. search needs) returns (λ c κs. search needs) (λ c κs. search needs) returns-2 (λ c κs. search needs)
-    (λ c κs. search needs) returns-3 take-reply-requires (λ c. search needs) (λ c. search needs) returns-4)
+    (λ c κs. search needs) (λ c κs. search needs) returns-3 take-reply-requires (λ c. search needs) (λ c. search needs) returns-4)

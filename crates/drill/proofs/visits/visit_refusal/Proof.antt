@@ -1,16 +1,19 @@
 -- In the order of the refusals. Assumes nothing.
-use Rattle.drill.proofs.Turning.{refuses-4, refuses-5, refuses-13, passes}
+use Rattle.drill.proofs.Turning.{refuses-4, refuses-5, refuses-as}
 use Rattle.drill.proofs.Stepping.{is-in, is-out}
-use Rattle.protocol.specs.ClientBytes.{inHand}
+use Rattle.protocol.specs.Client.{makeRefusal}
+use Rattle.protocol.specs.ClientBytes.{awaited}
 use Rattle.cluster.specs.Config.{shelf}
-use mathlib.Core.Path.{_≡_, ap, sym, _∙_}
+use mathlib.Core.Path.{_≡_, ap, _∙_}
 use mathlib.Core.Bool.{not}
 use Prim.Native.Nat.{ℕ, _≤_}
-use Rattle.cluster.specs.Ranges.{within, topClient}
-use Rattle.drill.specs.Area.{callIn}
+use Rattle.cluster.specs.Ranges.{within, topFaults, topClient, packetRoom}
 use borrow.Author.Needs.{needs}
 use Rattle.drill.proofs.visits.visit_refusal.Statement.{statement}
 use Rattle.drill.proofs.visits.visit_refusal.Tie as tie
+
+own-t : (c : tie.Start) → (1 ≤ c .args .t) × (c .args .t ≤ topFaults)
+own-t c = c .pre
 
 tested : (c : tie.After-outside) → let a = c .before .before .before .args in c .outside .result ≡ not (within 1 (shelf (a .t) .servers) (a .server))
 tested c = c .outside .ensures ∙ ap (λ (n : ℕ). not (within 1 n (c .before .before .before .args .server))) (c .before .servers .ensures)
@@ -22,18 +25,15 @@ client-in : (c : tie.Else2) → (1 ≤ c .before .before .before .before .before
     (c .before .before .before .before .before .before .args .client ≤ topClient)
 client-in c = is-in 1 topClient _ (c .before .outside2 .ensures) (c .if2 .left)
 
-pending-told : (c : tie.After-is-pending) → let a = c .before .before .before .before .before .before .before .before .args in c .is-pending .result ≡
-    inHand (callIn (a .work .now) (a .client))
-pending-told c = c .is-pending .ensures ∙ ap inHand (c .before .call-of .ensures)
-
 returns : tie.Need-returns
-returns c = let a = c .before .before .before .before .args in refuses-4 (a .t) (a .work .now) (a .client) (a .server)
+returns c = let a = c .before .before .before .before .args in
+    refuses-4 (a .t) (own-t (c .before .before .before .before)) (a .work .now) (a .client) (a .server)
     (is-out 1 (shelf (a .t) .servers) (a .server) (tested (c .before)) (c .if1 .taken))
 
 returns-2 : tie.Need-returns-2
 returns-2 c =
     let a = c .before .before .before .before .before .before .args in
-    refuses-5 (a .t) (a .work .now) (a .client) (a .server) (server-in (c .before .before))
+    refuses-5 (a .t) (own-t (c .before .before .before .before .before .before)) (a .work .now) (a .client) (a .server) (server-in (c .before .before))
     (is-out 1 topClient (a .client) (c .before .outside2 .ensures) (c .if2 .taken))
 
 call-of-requires : tie.Need-call-of-requires
@@ -41,16 +41,11 @@ call-of-requires c κs = client-in c
 
 returns-3 : tie.Need-returns-3
 returns-3 c =
-    let a = c .before .before .before .before .before .before .before .before .before .args in
-    passes (a .t) (a .work .now) (a .client) (a .server) (server-in (c .before .before .before .before .before))
-    (client-in (c .before .before .before)) (sym (pending-told (c .before)) ∙ c .if3 .taken)
-
-returns-4 : tie.Need-returns-4
-returns-4 c =
-    let a = c .before .before .before .before .before .before .before .before .before .args in
-    refuses-13 (a .t) (a .work .now) (a .client) (a .server) (server-in (c .before .before .before .before .before))
-    (client-in (c .before .before .before)) (sym (pending-told (c .before)) ∙ c .if3 .left)
+    let a = c .before .before .before .before .before .before .before .before .args in
+    refuses-as (a .t) (own-t (c .before .before .before .before .before .before .before .before)) (a .work .now) (a .client) (a .server)
+    (server-in (c .before .before .before .before)) (client-in (c .before .before))
+    (c .make-refusal .ensures ∙ ap (λ x. makeRefusal (shelf (a .t)) (a .client) (a .server) (awaited x) packetRoom) (c .before .call-of .ensures))
 
 pub visit-refusal-spec : {M : Type 1} → statement M
 visit-refusal-spec = tie.close (tie.spec (λ c. search needs) (λ c κs. search needs) (λ c κs. search needs) returns (λ c κs. search needs) returns-2
-    call-of-requires (λ c κs. search needs) returns-3 returns-4)
+    call-of-requires (λ c κs. search needs) returns-3)

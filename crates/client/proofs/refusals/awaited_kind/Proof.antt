@@ -1,4 +1,4 @@
--- `client::replies::awaited_kind` meets its contract, by those of the functions that it calls. Assumes nothing.
+-- `client::refusals::awaited_kind` meets its contract, by those of the functions that it calls. Assumes nothing.
 use borrow.Author.Needs.{needs}
 use mathlib.Core.Path.{_≡_, sym, _∙_}
 use mathlib.Core.Bool.{true}
@@ -6,8 +6,8 @@ use lib.Dec.{leb}
 use native.Mathlib.Omega.{arith}
 use borrow.Author.Tests.{leb-true}
 use Rattle.protocol.specs.ClientBytes.{inHand, awaited}
-use Rattle.client.proofs.replies.awaited_kind.Statement.{statement}
-use Rattle.client.proofs.replies.awaited_kind.Tie as tie
+use Rattle.client.proofs.refusals.awaited_kind.Statement.{statement}
+use Rattle.client.proofs.refusals.awaited_kind.Tie as tie
 use Rattle.cluster.proofs.Tests.{and-both}
 
 mul-result : tie.Need-mul-result
