@@ -7,14 +7,13 @@ use mathlib.Core.Option.{none, some}
 use mathlib.Core.Logic.{inl}
 use Prim.Native.Nat.{ℕ, suc}
 use native.Mathlib.Omega.{arith}
-use lib.Dec.{eqb}
 use lib.ListN.{length}
 use borrow.Author.Tests.{eq-eqb}
 use Rattle.protocol.specs.declared.Stamp.{Stamp}
 use Rattle.protocol.specs.Values.{blankStamp}
 use Rattle.protocol.specs.Packet.{Packet, decode}
 use Rattle.protocol.specs.Client.{Client, Hand, Result, idle, clocking, storing, completing, collecting, filtering, repairing, onto, awaits, isIdle}
-use Rattle.protocol.specs.Client.{accepted}
+use Rattle.protocol.specs.Client.{accepted, inComplete}
 use Rattle.protocol.specs.Runs.{Lent, Step, write, read, make, take-reply, give-up, serve}
 use Rattle.atomicity.specs.Lists.{Ever, Always, In}
 use Rattle.atomicity.specs.Steps.{Stamped, stampedFrom, stampedBy, stampedAt}
@@ -157,10 +156,10 @@ module _ (K : Setup) where
               ap (λ (d : ℕ). length (since (K .s) d xs)) q,
             );
       }) in
-      subst (λ (z : Client). (τ : Stamp) × CallOk K (x ∷ xs) (follow (result K x xs) (eqb (awaits (z .hand)) 6) (length xs) a) τ
-      × Keeps K a σ (follow (result K x xs) (eqb (awaits (z .hand)) 6) (length xs) a) τ) (sym e)
-      (subst (λ (y : Result). (τ : Stamp) × CallOk K (x ∷ xs) (follow y (eqb (awaits (turn (K .s) c cl p .client .hand)) 6) (length xs) a) τ
-      × Keeps K a σ (follow y (eqb (awaits (turn (K .s) c cl p .client .hand)) 6) (length xs) a) τ) (sym v)
+      subst (λ (z : Client). (τ : Stamp) × CallOk K (x ∷ xs) (follow (result K x xs) (inComplete (z .hand)) (length xs) a) τ
+      × Keeps K a σ (follow (result K x xs) (inComplete (z .hand)) (length xs) a) τ) (sym e)
+      (subst (λ (y : Result). (τ : Stamp) × CallOk K (x ∷ xs) (follow y (inComplete (turn (K .s) c cl p .client .hand)) (length xs) a) τ
+      × Keeps K a σ (follow y (inComplete (turn (K .s) c cl p .client .hand)) (length xs) a) τ) (sym v)
       (r .0, record { base = r .1; current = λ k. at-hand (r .3) e (r .2) }, r .3))
     where
       here : (m : Stamped) → In m (stampedFrom (a .client) (hand K xs (a .client))
@@ -184,13 +183,13 @@ module _ (K : Setup) where
 
       go : MovedAt (K .s) (a .client) x xs → Goal x xs a σ (effect K x xs (a .client) a)
       go (kept e f) = let no = f act in let r = refused-view (result K x xs) no in
-          subst (λ (y : Result). Goal x xs a σ (follow y (eqb (awaits (hand K (x ∷ xs) (a .client))) 6) (length xs) a)) (sym (r .1))
+          subst (λ (y : Result). Goal x xs a σ (follow y (inComplete (hand K (x ∷ xs) (a .client))) (length xs) a)) (sym (r .1))
           (σ, carry K x xs a σ h (λ p lent b o s rd acc q. clash acc no), keeps-refl K a σ)
       go (wbegan r n' s b d l e) = absurd (no-some (sym (ap mover s) ∙ m))
       go (rbegan s b d e) = absurd (no-some (sym (ap mover s) ∙ m))
       go (quit s v d e) =
           let k = carry K x xs a σ h (λ p lent b o s' rd acc q. (let z : _≡_ {A = ℕ} 0 1 = cc in omega arith)) in
-          subst (λ (y : Result). Goal x xs a σ (follow y (eqb (awaits (hand K (x ∷ xs) (a .client))) 6) (length xs) a)) (sym v) (
+          subst (λ (y : Result). Goal x xs a σ (follow y (inComplete (hand K (x ∷ xs) (a .client))) (length xs) a)) (sym v) (
             σ,
             leave-ok (x ∷ xs) a σ (leave-cur xs a σ (hand K xs (a .client)) d (h .current n)) (ap (λ (z : Client). z .hand) e) k,
             record { client = refl; number = refl; begun = refl; wrote = refl; reached = λ e. (refl, refl) },

@@ -17,7 +17,7 @@ use Rattle.protocol.specs.Values.{blankCandidate}
 use Rattle.protocol.specs.Packet.{Packet, kindOf, decode}
 use Rattle.protocol.specs.Rules.{nobody}
 use Rattle.protocol.specs.Client.{Client, Turn, Result, more, aborted, idle, clocking, collecting, awaits, isIdle, highAt, onto, begun, badFaults}
-use Rattle.protocol.specs.Client.{badClient, ofWrite, accepted}
+use Rattle.protocol.specs.Client.{badClient, ofWrite, accepted, inComplete}
 use Rattle.protocol.specs.Client.{writeRefusal, readRefusal, abortRefusal, takeRefusal, writeStep, readStep, abortStep, takeStep, turnOn}
 use Rattle.protocol.specs.Runs.{Lent, Step, write, read, make, take-reply, give-up, serve}
 use Rattle.protocol.proofs.ValueRuns.{World, doValues, nowValues, setClient}
@@ -62,7 +62,7 @@ pub data Moved (s : System) (c : ℕ) (was : Client) (x : Step) (cl : Client) (r
       cl ≡ begun was (clocking r n (was .last)) → Moved s c was x cl res
   rbegan : x ≡ read c → res ≡ more → isIdle (was .hand) ≡ true → cl ≡ begun was (collecting (λ b. blankCandidate (s .config))) →
       Moved s c was x cl res
-  quit : x ≡ give-up c → res ≡ aborted (eqb (awaits (was .hand)) 6) → isIdle (was .hand) ≡ false → cl ≡ onto was nobody idle →
+  quit : x ≡ give-up c → res ≡ aborted (inComplete (was .hand)) → isIdle (was .hand) ≡ false → cl ≡ onto was nobody idle →
       Moved s c was x cl res
   took : (p : Packet) (lent : Lent) (b o : List ℕ) → x ≡ take-reply c lent b o → decode b ≡ some p → Fits s c was p →
       cl ≡ turn s c was p .client → res ≡ turn s c was p .result → Moved s c was x cl res

@@ -14,7 +14,7 @@ use Rattle.protocol.specs.Packet.{Body}
 use Rattle.protocol.specs.Rules.{ByServer, leader, tagsIn}
 use Rattle.protocol.specs.Client.{Client, Hand, Turn, Result, refused, more, written, gave, gaveBlank, aborted, idle, clocking, storing, completing}
 use Rattle.protocol.specs.Client.{collecting, filtering, repairing, awaits, isIdle, accepted}
-use Rattle.protocol.specs.Client.{update, judge, found, onto, begun, prepared, codeIn}
+use Rattle.protocol.specs.Client.{update, judge, found, onto, begun, prepared, codeIn, inComplete}
 use Rattle.protocol.specs.Runs.{Step, write, read, make, take-reply, give-up, serve}
 use Rattle.atomicity.specs.Lists.{In}
 use Rattle.atomicity.specs.Steps.{System}
@@ -114,17 +114,17 @@ module _ (K : Setup) where
 
       go : MovedAt (K .s) (a .client) x xs → (a .number ≡ cl' .calls → isIdle (cl' .hand) ≡ true) → Out T
       go (kept e f) i = let r = refused-view (result K x xs) (f act) in
-          subst (λ (y : Result). Out (follow y (eqb (awaits (cl' .hand)) 6) (length xs) a)) (sym (r .1))
+          subst (λ (y : Result). Out (follow y (inComplete (cl' .hand)) (length xs) a)) (sym (r .1))
           (h (λ k. subst (λ (z : Client). isIdle (z .hand) ≡ true) e (i (k ∙ sym (ap (λ (z : Client). z .calls) e)))))
       go (wbegan r n' s b d l e) i = absurd (no-some (sym (ap mover s) ∙ m))
       go (rbegan s b d e) i = absurd (no-some (sym (ap mover s) ∙ m))
-      go (quit s v d e) i = subst (λ (y : Result). Out (follow y (eqb (awaits (cl' .hand)) 6) (length xs) a)) (sym v)
+      go (quit s v d e) i = subst (λ (y : Result). Out (follow y (inComplete (cl' .hand)) (length xs) a)) (sym v)
           (or-right (isSome (a .over)) true refl)
       go (took p lent b o s rd fit e v) i =
           let t = turn-turned (K .s) (a .client) (cli K xs (a .client)) p in
           let idle-now = i (n ∙ sym (t .calls) ∙ sym (ap (λ (z : Client). z .calls) e)) in
-          subst (λ (y : Result). Out (follow y (eqb (awaits (cl' .hand)) 6) (length xs) a)) (sym v)
-          (update-closed (K .s) (a .client) a (length xs) (eqb (awaits (cl' .hand)) 6) (cli K xs (a .client)) (p .head .server) (p .body) _ _
+          subst (λ (y : Result). Out (follow y (inComplete (cl' .hand)) (length xs) a)) (sym v)
+          (update-closed (K .s) (a .client) a (length xs) (inComplete (cl' .hand)) (cli K xs (a .client)) (p .head .server) (p .body) _ _
           (hand K xs (a .client)) (fit .busy) (fit .busy) (subst (λ (z : Client). isIdle (z .hand) ≡ true) e idle-now))
 
   step-settled : (x : StepOf K) (xs : Steps K) (a : Logged) → Settled xs a → (st : Step) → x .step ≡ st → Settled (x ∷ xs) (touched K x xs st a)

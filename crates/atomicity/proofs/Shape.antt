@@ -10,7 +10,7 @@ use lib.Dec.{eqb}
 use lib.ListN.{length}
 use borrow.Author.Tests.{eqb-true, eq-eqb}
 use Rattle.protocol.specs.Values.{blankStamp}
-use Rattle.protocol.specs.Client.{Client, Hand, Result, refused, more, written, gave, gaveBlank, aborted, begun, awaits, accepted}
+use Rattle.protocol.specs.Client.{Client, Hand, Result, refused, more, written, gave, gaveBlank, aborted, begun, accepted, inComplete}
 use Rattle.protocol.specs.Runs.{Step, write, read, make, take-reply, give-up, serve}
 use Rattle.protocol.proofs.Answers.{at-cond}
 use Rattle.atomicity.specs.Claim.{Logged, change, follow, note, log}
@@ -65,7 +65,7 @@ module _ (K : Setup) where
 
   -- what the step does to the call of client c
   abbrev pub effect : StepOf K → Steps K → ℕ → Logged → Logged
-  effect x xs c = follow (result K x xs) (eqb (awaits (hand K (x ∷ xs) c)) 6) (length xs)
+  effect x xs c = follow (result K x xs) (inComplete (hand K (x ∷ xs) c)) (length xs)
 
   unfoldable pub touched : StepOf K → Steps K → Step → Logged → Logged
   touched x xs (write c r n) a = a
