@@ -42,7 +42,8 @@ extern "C" {
  * A refused call answers its refusal with all other parts 0 and writes nothing. Bytes of `out` past the count are never written.
  * If several refusals apply, the one that stands first in the function's list is given.
  *
- * Refusal 255 stands in no document: a key, a nonce or a client's state was lent with another length than its size. It is tested before all others.
+ * Refusal 255 stands in no document: a key, a nonce or a client's state was lent with another length than its size, or an output for a digest, a tag
+ * or a fragment with less than theirs. It is tested before all others.
  */
 static inline unsigned cendrulas_refusal(uint64_t answer) { return (unsigned)(answer >> 56); }
 static inline unsigned cendrulas_result(uint64_t answer) { return (unsigned)(answer >> 48) & 0xFFu; }
@@ -61,17 +62,17 @@ static inline size_t cendrulas_listing(uint64_t answer) { return (size_t)(answer
 #define CENDRULAS_ABORTED_IN_COMPLETE 5u
 
 /* SHA-256 (FIPS 180-4) of the message.
- * Refusals: 15 where out_len < 32. Writes the 32 bytes of the digest; count 32. */
+ * Refusals: 255 where out_len < 32. Writes the 32 bytes of the digest; count 32. */
 uint64_t cendrulas_digest(const uint8_t *message, size_t message_len, uint8_t *out, size_t out_len);
 
 /* HMAC-SHA-256 (RFC 2104) of the message.
- * Refusals: 255 where key_len is not 32; 15 where out_len < 32. Writes the tag; count 32. */
+ * Refusals: 255 where key_len is not 32 or out_len < 32. Writes the tag; count 32. */
 uint64_t cendrulas_tag(const uint8_t *key, size_t key_len, const uint8_t *message, size_t message_len,
                        uint8_t *out, size_t out_len);
 
 /* A server's fragment of the content: f bytes, f = content_len / (t+1) rounded up; at most 512.
- * Refusals: 3 where t is outside 1 to 4; 4 where server is outside 1 to 3t+1; 6 where content_len is outside 1 to 1,024;
- * 15 where out_len < 512, however short the fragment. Writes the fragment; count f. */
+ * Refusals: 255 where out_len < 512, however short the fragment; 3 where t is outside 1 to 4; 4 where server is outside 1 to 3t+1;
+ * 6 where content_len is outside 1 to 1,024. Writes the fragment; count f. */
 uint64_t cendrulas_fragment(size_t t, size_t server, const uint8_t *content, size_t content_len,
                             uint8_t *out, size_t out_len);
 
@@ -80,7 +81,7 @@ uint64_t cendrulas_fragment(size_t t, size_t server, const uint8_t *content, siz
  * Refusals: 3 where t is outside 1 to 4; 4 where a server is outside 1 to 3t+1; 6 where length is outside 1 to 1,024;
  * 15 where out_len < 1,024; 16 where fragments_len is not servers_len times f, or fewer than t+1 different servers are named.
  * Writes the content; count length. */
-uint64_t cendrulas_restore(size_t t, size_t length, const uint8_t *servers, size_t servers_len,
+uint64_t cendrulas_restore(size_t t, size_t length, const size_t *servers, size_t servers_len,
                            const uint8_t *fragments, size_t fragments_len, uint8_t *out, size_t out_len);
 
 /* Whether bytes are a packet. 7 where they break the layout. Writes nothing; count 0. */

@@ -37,9 +37,9 @@ fn restore(table: &mut Table, t: u8) {
     let mut all = [0; fragments::ALL_FRAGMENTS];
     let f = fragments::make(t, &data, &mut all).expect("a legal content");
     let (first, last) = (boxes_of(t) - t as usize, boxes_of(t));
-    let servers: Vec<u8> = (first..=last).map(|server| server as u8).collect();
+    let servers: Vec<usize> = (first..=last).collect();
     let flat = &all[(first - 1) * f..last * f];
-    let given: Vec<(u8, &[u8])> = servers.iter().copied().zip(flat.chunks_exact(f)).collect();
+    let given: Vec<(u8, &[u8])> = servers.iter().map(|&server| server as u8).zip(flat.chunks_exact(f)).collect();
     let (mut out, mut plain_out) = ([0; LENGTH], [0; LENGTH]);
     table.row(
         &format!("1,024 bytes from {} parity fragments, t = {t}", servers.len()),

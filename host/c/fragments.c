@@ -11,7 +11,7 @@ int main(void) {
     size_t used = 0;
 
     /* servers 4 and 3, in this order: any two different servers will do */
-    const uint8_t servers[2] = {4, 3};
+    const size_t servers[2] = {4, 3};
     for (int i = 0; i < 2; i++) {
         uint64_t answer = cendrulas_fragment(1, servers[i], content, length, one, sizeof one);
         if (cendrulas_refusal(answer) != 0) {

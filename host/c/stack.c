@@ -18,7 +18,8 @@ static size_t client, server, packet_len, reply_len;
 static uint8_t memories[SERVERS][CENDRULAS_SERVER_MEMORY], state[17][CENDRULAS_CLIENT_STATE];
 static uint8_t writers[CENDRULAS_KEY], keys[CENDRULAS_KEYS], nonce[CENDRULAS_NONCE], content[CENDRULAS_CONTENT_ROOM];
 static uint8_t packet[CENDRULAS_PACKET_ROOM], reply[CENDRULAS_PACKET_ROOM], out[CENDRULAS_CONTENT_ROOM];
-static uint8_t fragments[5 * 205], numbers[5];
+static uint8_t fragments[5 * 205];
+static size_t numbers[5];
 static uint64_t answer;
 
 static void fail(const char *what) {
@@ -34,7 +35,7 @@ static void *call(void *which) {
     case DIGEST: answer = cendrulas_digest(packet, sizeof packet, out, sizeof out); break;
     case TAG: answer = cendrulas_tag(writers, sizeof writers, packet, sizeof packet, out, sizeof out); break;
     case FRAGMENT: answer = cendrulas_fragment(T, server, content, sizeof content, out, sizeof out); break;
-    case RESTORE: answer = cendrulas_restore(T, sizeof content, numbers, sizeof numbers, fragments, sizeof fragments, out, sizeof out); break;
+    case RESTORE: answer = cendrulas_restore(T, sizeof content, numbers, 5, fragments, sizeof fragments, out, sizeof out); break;
     case CHECK: answer = cendrulas_packet_check(packet, packet_len); break;
     case BLANK: answer = cendrulas_server_blank(memory, sizeof memories[0], T, server); break;
     case SERVE:
@@ -151,7 +152,7 @@ static void coding(void) {
     accepted(TAG);
     for (server = 9; server <= SERVERS; server++) {
         accepted(FRAGMENT);
-        numbers[server - 9] = (uint8_t)server;
+        numbers[server - 9] = (size_t)server;
         memcpy(fragments + 205 * (server - 9), out, 205);
     }
     server = 1;

@@ -9,7 +9,7 @@ use native.Mathlib.Omega.{arith}
 use lib.Dec.{T, eqb}
 use lib.ListN.{length, drop}
 use lib.Seq.{take-at}
-use borrow.Author.Tests.{le-leb, eq-eqb}
+use borrow.Author.Tests.{le-leb, le-ltb, eq-eqb}
 use Rattle.cluster.specs.Config.{Config, shelf}
 use Rattle.cluster.specs.Ranges.{topFaults, contentRoom, mostServers, topLength}
 use Rattle.sha256.specs.Sha256.{sha256}
@@ -30,8 +30,7 @@ use Rattle.protocol.proofs.Primitive.{real-lengths}
 use Rattle.protocol.proofs.Room.{shelf-fits}
 use Rattle.decide.specs.declared.Decision.{Decision}
 use Rattle.decide.specs.declared.Decision.the-variants as decisions
-use Rattle.decide.specs.Listing.{usable}
-use Rattle.decide.specs.Decided.{Decided, slotOf, decidedOn, decided}
+use Rattle.decide.specs.Decided.{Decided, slotOf, decidedOn, decideRefusal, decided}
 use Rattle.decide.specs.Steps.{Usable, Full, leaderAt, fitsAt, leadsAt}
 use Rattle.decide.proofs.Places.{part-part, candidate-in, reply-in, part-length, part-split, bytes-part, stamp-bytes}
 use Rattle.decide.proofs.Replies.{sizeIn, held-share, tags-in, slot-part}
@@ -42,6 +41,11 @@ use Rattle.client.specs.Filter.{tagsPlace, repairBytes, foundAt, judgedB
 -- ---- by the decision's answer
 
 module _ (t : ℕ) (c : Call) (kept output : List ℕ) where
+  pub judged-refused : (n : ℕ) → decidedNow t c kept .answer ≡ decisions.Refused n
+      → record { answer = taken.Refused n; call = c; kept = kept; output = output } ≡ judgedIn t c kept output
+  unfolding judgedIn judgedBy
+  judged-refused n e = sym (ap (λ (d : Decision). judgedBy t c kept output d (decidedNow t c kept .output)) e)
+
   pub judged-wait : decidedNow t c kept .answer ≡ decisions.Wait → record { answer = taken.More; call = c; kept = kept; output = output } ≡ judgedIn t c kept output
   unfolding judgedIn judgedBy
   judged-wait e = sym (ap (λ (d : Decision). judgedBy t c kept output d (decidedNow t c kept .output)) e)
@@ -91,8 +95,8 @@ module _ (t : ℕ) (marks kept : List ℕ) (u : Usable t kept) (bytes : Bytes ke
 
   on-choice : (room : List ℕ) → contentRoom ≤ length room
       → decided t marks kept room ≡ decidedOn (shelf t) m g held room (live real (shelf t) m g listed) (choice real (shelf t) m g listed)
-  unfolding decided usable
-  on-choice room l = rw (le-leb 1 t (u .low), le-leb t topFaults (u .high), eq-eqb (length kept) keptSize (u .size), le-leb contentRoom (length room) l)
+  unfolding decided decideRefusal
+  on-choice room l = rw (eq-eqb (length kept) keptSize (u .size), le-leb 1 t (u .low), le-leb t topFaults (u .high), le-ltb (length room) contentRoom l)
 
   -- ---- a slot and its leader
 

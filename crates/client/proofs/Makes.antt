@@ -9,6 +9,7 @@ use lib.ListN.{length}
 use borrow.Author.Tests.{eq-eqb, ne-eqb, ltb-false}
 use Rattle.cluster.specs.Config.{shelf}
 use Rattle.cluster.specs.Ranges.{within, topFaults, topClient, packetRoom}
+use Rattle.cluster.specs.Refusals.{wrongSize}
 use Rattle.cluster.proofs.Tests.{inside, passes, refused-is}
 use Rattle.protocol.specs.declared.Call.{Call}
 use Rattle.protocol.specs.Packet.{encode}
@@ -27,7 +28,7 @@ module _ (t client b : ℕ) (c : Call) (kept output : List ℕ) where
   no = makeRefusal (shelf t) client b (awaited c) (length output)
 
   pub make-short : (length kept ≡ keptSize → ⊥) → coreMake t client b c kept output ≡ record
-      { result = record { number = 1; count = 0 }; output = output }
+      { result = record { number = wrongSize; count = 0 }; output = output }
   unfolding coreMake
   make-short h = rw (ne-eqb (length kept) keptSize h)
 

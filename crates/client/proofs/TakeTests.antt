@@ -11,6 +11,7 @@ use lib.ListN.{length, drop}
 use borrow.Author.Tests.{eq-eqb, ne-eqb, lt-ltb}
 use Rattle.cluster.specs.Config.{shelf}
 use Rattle.cluster.specs.Ranges.{mostServers, topFaults, contentRoom}
+use Rattle.cluster.specs.Refusals.{wrongSize}
 use Rattle.cluster.proofs.Tests.{inside, refused-is}
 use Rattle.protocol.specs.declared.Call.{Call}
 use Rattle.protocol.specs.declared.Head.{Head}
@@ -101,7 +102,7 @@ module _ (t client : ℕ) (writers : List ℕ) (keys : List (List ℕ)) (c : Cal
 
   -- ---- kept bytes of another length
 
-  pub take-length : (length kept ≡ keptSize → ⊥) → coreTake t client writers keys c kept reply output ≡ refusedWith c kept output 1
+  pub take-length : (length kept ≡ keptSize → ⊥) → coreTake t client writers keys c kept reply output ≡ refusedWith c kept output wrongSize
   unfolding coreTake
   take-length h = rw (ne-eqb (length kept) keptSize h)
 

@@ -1,9 +1,10 @@
--- The client's operations over kept bytes of any length, for a caller that keeps many clients in one area: 1 where the length is another, and nothing changes.
+-- The client's operations over kept bytes of any length, for a caller that keeps many clients in one area: refused where it is another than theirs.
 use mathlib.Core.Bool.{cond}
 use mathlib.Core.List.{List}
 use Prim.Native.Nat.{ℕ}
 use lib.Dec.{eqb}
 use lib.ListN.{length}
+use Rattle.cluster.specs.Refusals.{wrongSize}
 use Rattle.protocol.specs.declared.Call.{Call}
 use Rattle.protocol.specs.declared.Taken.the-variants as taken
 use Rattle.protocol.specs.Primitives.{real}
@@ -11,7 +12,7 @@ use Rattle.protocol.specs.View.{keptSize}
 use Rattle.protocol.specs.ClientBytes.{Begun, Written, Took, beginWrite, beginRead, clientMake, clientTake}
 
 abbrev pub notBegun : Call → List ℕ → Begun
-notBegun c kept = record { result = record { number = 1; count = 0 }; call = c; kept = kept }
+notBegun c kept = record { result = record { number = wrongSize; count = 0 }; call = c; kept = kept }
 
 unfoldable pub coreWrite : ℕ → ℕ → Call → List ℕ → List ℕ → List ℕ → Begun
 coreWrite t client c kept content nonce = cond (eqb (length kept) keptSize) (beginWrite t client c kept content nonce) (notBegun c kept)
@@ -21,9 +22,9 @@ coreRead t client c kept = cond (eqb (length kept) keptSize) (beginRead t client
 
 unfoldable pub coreMake : ℕ → ℕ → ℕ → Call → List ℕ → List ℕ → Written
 coreMake t client b c kept output =
-    cond (eqb (length kept) keptSize) (clientMake t client b c kept output) (record { result = record { number = 1; count = 0 }; output = output })
+    cond (eqb (length kept) keptSize) (clientMake t client b c kept output) (record { result = record { number = wrongSize; count = 0 }; output = output })
 
 unfoldable pub coreTake : ℕ → ℕ → List ℕ → List (List ℕ) → Call → List ℕ → List ℕ → List ℕ → Took
 coreTake t client writers keys c kept reply output =
     cond (eqb (length kept) keptSize) (clientTake real t client writers keys c kept reply output)
-    (record { answer = taken.Refused 1; call = c; kept = kept; output = output })
+    (record { answer = taken.Refused wrongSize; call = c; kept = kept; output = output })

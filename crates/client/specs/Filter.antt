@@ -50,6 +50,7 @@ foundAt t c kept output i b content =
 
 -- what a decision leads to; the content stands at the start of room
 unfoldable pub judgedBy : ℕ → Call → List ℕ → List ℕ → Decision → List ℕ → Took
+judgedBy t c kept output (decisions.Refused n) room = record { answer = taken.Refused n; call = c; kept = kept; output = output }
 judgedBy t c kept output decisions.Wait room = record { answer = taken.More; call = c; kept = kept; output = output }
 judgedBy t c kept output decisions.Blank room = record { answer = taken.Blank; call = withTally c (fresh 0); kept = kept; output = output }
 judgedBy t c kept output (decisions.Found i b n) room = foundAt t c kept output i b (part room 0 n)

@@ -110,7 +110,7 @@ pub fn begin_write_in(
         × (now (kept .exit) ≡ coreWrite t client call (now (kept .entry)) (now (content .entry)) (now (nonce .entry)) .kept) ⌝ }
 {
     if kept.len() != wire::kept::KEPT {
-        return not_begun(1, call);
+        return not_begun(cluster::WRONG_SIZE, call);
     }
     let n = refusals::write_refusal(t, client, content.len(), call);
     if n != 0 {
@@ -149,7 +149,7 @@ pub fn begin_read_in(call: protocol::Call, kept: &mut [u8], t: usize, client: us
     ensures { λ r. ⌜ (r ≡ started (coreRead t client call (now (kept .entry)))) × (now (kept .exit) ≡ coreRead t client call (now (kept .entry)) .kept) ⌝ }
 {
     if kept.len() != wire::kept::KEPT {
-        return not_begun(1, call);
+        return not_begun(cluster::WRONG_SIZE, call);
     }
     let n = refusals::read_refusal(t, client, call);
     if n != 0 {

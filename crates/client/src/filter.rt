@@ -131,6 +131,7 @@ fn judge(call: protocol::Call, kept: &mut [u8], t: usize, out: &mut [u8]) -> Ans
     let mut room = [0u8; cluster::CONTENT_ROOM];
     let decision = decide::decide(kept, marks, t, &mut room);
     match decision {
+        decide::Decision::Refused(n) => answers::refused(n, call),
         decide::Decision::Wait => answers::more(call),
         decide::Decision::Blank => Answered {
             taken: protocol::Taken::Blank,

@@ -166,7 +166,7 @@ pub fn make_in(
     ensures { λ r. ⌜ record { result = r; output = now (out .exit) } ≡ coreMake t client server call (now (kept .entry)) (now (out .entry)) ⌝ }
 {
     if kept.len() != wire::kept::KEPT {
-        return cluster::refused(1);
+        return cluster::refused(cluster::WRONG_SIZE);
     }
     let n = refusals::make_refusal(t, client, server, call, out.len());
     if n != 0 {

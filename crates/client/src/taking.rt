@@ -151,7 +151,7 @@ pub fn take_in(
         × (now (out .exit) ≡ coreTake t client (now (writers .entry)) (now (keys .entry)) call (now (kept .entry)) (now (reply .entry)) (now (out .entry)) .output)) ⌝ }
 {
     if kept.len() != wire::kept::KEPT {
-        return answers::refused(1, call);
+        return answers::refused(cluster::WRONG_SIZE, call);
     }
     if cluster::outside(1, cluster::TOP_FAULTS, t) {
         return answers::refused(3, call);

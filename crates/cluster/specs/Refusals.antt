@@ -11,6 +11,11 @@ pub record Check : Type 0 where
 abbrev pub refuse : ℕ → Bool → Check
 refuse n b = record { number = n; when = b }
 
+-- A number above those of documents 01 and 02: a lent buffer, for whose length the table has no number, is not of its size.
+-- Only callers that lend slices can meet it, and it is tested before all others
+abbrev pub wrongSize : ℕ
+wrongSize = 255
+
 -- the number of the first test that applies, or 0
 abbrev pub firstOf : List Check → ℕ
 firstOf [] = 0

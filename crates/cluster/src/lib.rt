@@ -35,6 +35,9 @@ pub const MEMORY: usize = 40960;
 
 pub const CAPACITY: usize = 32;
 
+// The refusal of a lent buffer, for whose length document 01's table has no number, that is not of its size.
+pub const WRONG_SIZE: u8 = 255;
+
 // What an operation answers: 0 or a refusal's number, and the bytes written to the output buffer.
 pub struct Outcome {
     pub number: u8,

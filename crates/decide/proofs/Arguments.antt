@@ -3,13 +3,15 @@ use mathlib.Core.Path.{_≡_, sym, ap, subst, _∙_}
 use mathlib.Core.Bool.{Bool, false, _&&_, and-false, not, true}
 use mathlib.Core.List.{List}
 use Prim.Native.Nat.{ℕ, _≤_, _<_}
-use lib.Dec.{T, leb, eqb}
+use lib.Dec.{T, leb, ltb, eqb}
 use lib.ListN.{length}
-use borrow.Author.Tests.{le-leb, lt-leb, eqb-true, not-false, not-true}
+use borrow.Author.Tests.{le-leb, lt-leb, eqb-true, ltb-false, not-false, not-true}
 use Rattle.protocol.specs.View.{keptSize}
 use Rattle.decide.specs.Listing.{usable}
+use Rattle.decide.specs.Decided.{decideRefusal}
 use Rattle.decide.specs.Steps.{Usable, UsableAs}
-use Rattle.cluster.specs.Ranges.{topFaults, mostServers}
+use Rattle.cluster.specs.Ranges.{within, topFaults, mostServers, contentRoom}
+use Rattle.cluster.proofs.Tests.{inside, passes}
 use Rattle.cluster.specs.Config.{shelf}
 use native.Mathlib.Omega.{arith}
 
@@ -28,6 +30,16 @@ module _ {t : ℕ} {kept : List ℕ} {r : Bool} (u : UsableAs t kept r) where
 
   pub known : not r ≡ false → Usable t kept
   known e = u .told (not-false r e)
+
+-- what is known of arguments that are not refused
+pub allowed : (t : ℕ) (kept : List ℕ) (room : ℕ) → decideRefusal t (length kept) room ≡ 0 → Usable t kept × (contentRoom ≤ room)
+unfolding decideRefusal
+allowed t kept room e =
+    let p₁ = passes (not (eqb (length kept) keptSize)) 254 _ e in
+    let p₂ = passes (not (within 1 topFaults t)) 2 _ (p₁ .1) in
+    let p₃ = passes (ltb room contentRoom) 14 _ (p₂ .1) in
+    let r = inside 1 topFaults t (p₂ .0) in
+    (record { low = r .0; high = r .1; size = eqb-true (length kept) keptSize (not-false _ (p₁ .0)) }, ltb-false room contentRoom (p₃ .0))
 
 module _ (t : ℕ) (kept : List ℕ) where
   refused : usable t kept ≡ false → UsableAs t kept false

@@ -1,16 +1,17 @@
--- What is decided, by the highest rank that stays and by what was found: nothing with other arguments, blank where the rank is the blank one, nothing yet
+-- What is decided, by the highest rank that stays and by what was found: a refusal of other arguments, blank where the rank is the blank one, nothing yet
 -- where no slot was found, and else the slot, the leader and the content that its members' fragments give. Nothing is assumed.
 use mathlib.Core.Path.{_≡_, refl, sym, ap, _∙_, subst}
-use mathlib.Core.Bool.{true, false}
+use mathlib.Core.Bool.{true}
+use mathlib.Core.Logic.{_≢_}
 use mathlib.Core.List.{List, [], _∷_}
 use mathlib.Core.Option.{Option, none, some}
 use Prim.Native.Nat.{ℕ, suc, _+_, _-_, _≤_, _<_}
 use native.Mathlib.Omega.{arith}
 use lib.Dec.{T}
 use lib.ListN.{length, take}
-use borrow.Author.Tests.{le-leb, lt-leb}
 use Rattle.cluster.specs.Config.{shelf}
-use Rattle.cluster.specs.Ranges.{mostServers, contentRoom}
+use Rattle.cluster.specs.Ranges.{mostServers}
+use Rattle.cluster.proofs.Tests.{refused-is}
 use Rattle.sha256.specs.Sha256.{sha256}
 use Rattle.protocol.specs.Format.{Bytes}
 use Rattle.protocol.specs.Values.{Candidate}
@@ -21,8 +22,7 @@ use Rattle.protocol.specs.View.{marked, candidatesIn, repliesIn, replySlotOf}
 use Rattle.protocol.specs.Packet.{shareSize}
 use Rattle.protocol.proofs.Room.{shelf-fits}
 use Rattle.decide.specs.declared.leading.Choice.{Choice}
-use Rattle.decide.specs.Decided.{slotOf, decidedOn, decided}
-use Rattle.decide.specs.Listing.{usable}
+use Rattle.decide.specs.Decided.{slotOf, decidedOn, decideRefusal, decided}
 use Rattle.decide.specs.declared.Decision.the-variants as decisions
 use Rattle.decide.specs.Steps.{Usable, blankRank, serversOf, fitsAt, agreesAt, leadsAt, leaderAt, topAt, Full, membersAt, chosenAt, Hit, contentOf, Rising}
 use Rattle.decide.proofs.Contents.{restored-members}
@@ -72,16 +72,14 @@ module _ (t : ℕ) (marks kept : List ℕ) (u : Usable t kept) (key : ℕ) (r : 
 -- ---- what is decided
 
 module _ (t : ℕ) (marks kept output : List ℕ) where
-  pub decided-unusable : usable t kept ≡ false → decided t marks kept output ≡ record { answer = decisions.Wait; output = output }
-  unfolding decided
-  decided-unusable e = rw e
+  abbrev number : ℕ
+  number = decideRefusal t (length kept) (length output)
 
-  pub decided-roomless : usable t kept ≡ true → length output < contentRoom → decided t marks kept output ≡ record
-      { answer = decisions.Wait; output = output }
+  pub decided-refused : (n : ℕ) → n ≡ number → n ≢ 0 → decided t marks kept output ≡ record { answer = decisions.Refused n; output = output }
   unfolding decided
-  decided-roomless e l = rw (e, lt-leb contentRoom (length output) l)
+  decided-refused n e ne = refused-is number _ _ (λ z. ne (e ∙ z)) ∙ ap (λ (k : ℕ). record { answer = decisions.Refused k; output = output }) (sym e)
 
-  module _ (e : usable t kept ≡ true) (l : contentRoom ≤ length output) (bytes : Bytes kept) where
+  module _ (e : number ≡ 0) (bytes : Bytes kept) where
     writers : (i : ℕ) → candidatesIn (shelf t) kept i .stamp .writer < 256
     writers = candidate-writer (shelf t) kept bytes
 
@@ -92,7 +90,7 @@ module _ (t : ℕ) (marks kept output : List ℕ) where
         ≡ decidedOn (shelf t) (marked marks) (repliesIn (shelf t) marks kept) (candidatesIn (shelf t) kept) output
         (live real (shelf t) (marked marks) (repliesIn (shelf t) marks kept) (gather (candidatesIn (shelf t) kept) (shelf t .servers)))
         (choice real (shelf t) (marked marks) (repliesIn (shelf t) marks kept) (gather (candidatesIn (shelf t) kept) (shelf t .servers)))
-    on = unfold decided in rw (e, le-leb contentRoom (length output) l)
+    on = unfold decided in rw e
 
     pub decided-blank : topAt t marks kept (shelf t .servers) ≤ blankRank → decided t marks kept output ≡ record
         { answer = decisions.Blank; output = output }

@@ -1,17 +1,18 @@
 -- What a filter round has decided, by document 01's rules on the view of the kept bytes, and the content that it gives.
-use mathlib.Core.Bool.{Bool, cond, _&&_}
+use mathlib.Core.Bool.{Bool, cond, not, _&&_}
 use mathlib.Core.List.{List, [], _∷_}
 use mathlib.Core.Option.{Option, none, some}
 use Prim.Native.Nat.{ℕ, zero, suc, _+_, _-_}
-use lib.Dec.{leb, ltb}
+use lib.Dec.{ltb, eqb}
 use lib.ListN.{length, drop}
 use Rattle.cluster.specs.Config.{Config, shelf}
-use Rattle.cluster.specs.Ranges.{within, leastLength, topLength, contentRoom}
+use Rattle.cluster.specs.Ranges.{within, topFaults, leastLength, topLength, contentRoom}
+use Rattle.cluster.specs.Refusals.{wrongSize, refuse, firstOf, onRefusal}
 use Rattle.protocol.specs.Values.{Candidate, Share, Held, sameList, sameCandidate, stampSize}
 use Rattle.protocol.specs.Primitives.{real}
 use Rattle.protocol.specs.Rules.{ByServer, gather, live, choice, leader, restoredBy}
 use Rattle.protocol.specs.ServerBytes.{over}
-use Rattle.protocol.specs.View.{marked, candidatesIn, repliesIn, replySlotOf, shareAt}
+use Rattle.protocol.specs.View.{keptSize, marked, candidatesIn, repliesIn, replySlotOf, shareAt}
 use Rattle.decide.specs.declared.Decision.{Decision}
 use Rattle.decide.specs.declared.Decision.the-variants as decisions
 use Rattle.decide.specs.Listing.{usable}
@@ -37,16 +38,21 @@ module _ (s : Config) (m : ByServer Bool) (g : ByServer Held) (held : ByServer C
       let content = restoredBy real s m g c b (g b .share) in
       record { answer = decisions.Found (slotOf held c (s .servers)) b (length content); output = over content output }
 
--- t, marks, kept bytes and output. With other arguments, or no room for a content, it waits
+-- size: how many kept bytes there are; room: the output's length
+unfoldable pub decideRefusal : ℕ → ℕ → ℕ → ℕ
+decideRefusal t size room =
+    firstOf (refuse wrongSize (not (eqb size keptSize)) ∷ refuse 3 (not (within 1 topFaults t)) ∷ refuse 15 (ltb room contentRoom) ∷ [])
+
+-- t, marks, kept bytes and output
 unfoldable pub decided : ℕ → List ℕ → List ℕ → List ℕ → Decided
 decided t marks kept output =
     let s = shelf t in
     let m = marked marks in
     let g = repliesIn s marks kept in
     let cs = gather (candidatesIn s kept) (s .servers) in
-    cond (usable t kept && leb contentRoom (length output))
-    (decidedOn s m g (candidatesIn s kept) output (live real s m g cs) (choice real s m g cs))
-    (record { answer = decisions.Wait; output = output })
+    let n = decideRefusal t (length kept) (length output) in
+    onRefusal n (decidedOn s m g (candidatesIn s kept) output (live real s m g cs) (choice real s m g cs))
+    (record { answer = decisions.Refused n; output = output })
 
 -- the share in server b's reply, whatever its byte and its mark say
 unfoldable pub shareOf : ℕ → List ℕ → ℕ → Share

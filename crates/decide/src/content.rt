@@ -22,7 +22,7 @@ pub(crate) fn fragments_of(
     kept: &[u8],
     t: usize,
     n: usize,
-    servers: [u8; cluster::MOST_SERVERS],
+    servers: [usize; cluster::MOST_SERVERS],
 ) -> [u8; FRAGMENTS]
     requires { ⌜ (Usable t (now kept)) × (n ≤ topLength) × (Rising t servers) ⌝ }
     ensures { λ r. ⌜ FragmentsAs t (now (kept .entry)) (fragmentSize (shelf t .shares) n) servers r ⌝ }
@@ -32,7 +32,7 @@ pub(crate) fn fragments_of(
     let mut out = [0u8; FRAGMENTS];
     let mut p = 0;
     while p < k {
-        let at = REPLIES + REPLY_SLOT * (servers[p] as usize - 1) + (STAMP + 3);
+        let at = REPLIES + REPLY_SLOT * (servers[p] - 1) + (STAMP + 3);
         copy(&mut out, p * f, &kept[at..at + f]);
         p += 1;
     }
@@ -44,7 +44,7 @@ pub(crate) fn rebuild(
     kept: &[u8],
     t: usize,
     b: usize,
-    servers: [u8; cluster::MOST_SERVERS],
+    servers: [usize; cluster::MOST_SERVERS],
     out: &mut [u8],
 ) -> usize
     requires { ⌜ (Usable t (now kept)) × (b < mostServers) × (Full (replySlotOf (now kept) b)) × (Rising t servers) × (contentRoom ≤ length (now out)) ⌝ }

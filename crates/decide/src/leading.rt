@@ -22,20 +22,20 @@ use wire::sizes::STAMP;
 // A group's servers: how many, and which.
 pub(crate) struct Members {
     pub(crate) count: usize,
-    pub(crate) servers: [u8; cluster::MOST_SERVERS],
+    pub(crate) servers: [usize; cluster::MOST_SERVERS],
 }
 
 // The server that leads a group, or 0, and the servers of its group.
 pub(crate) struct Group {
     pub(crate) server: usize,
-    pub(crate) servers: [u8; cluster::MOST_SERVERS],
+    pub(crate) servers: [usize; cluster::MOST_SERVERS],
 }
 
 // A slot, the server that leads a group of its candidate, or 0, and the servers of the group.
 pub(crate) struct Choice {
     pub(crate) slot: usize,
     pub(crate) server: usize,
-    pub(crate) servers: [u8; cluster::MOST_SERVERS],
+    pub(crate) servers: [usize; cluster::MOST_SERVERS],
 }
 
 // The reply of slot j fits the candidate of slot i, whose nonce has the digest d.
@@ -106,7 +106,7 @@ pub(crate) fn members_of(
 {
     let s = servers(t);
     let k = shares(t);
-    let mut out = [0u8; cluster::MOST_SERVERS];
+    let mut out = [0usize; cluster::MOST_SERVERS];
     let mut n = 0;
     let mut j = 0;
     while j < s {
@@ -116,7 +116,7 @@ pub(crate) fn members_of(
                 servers: out,
             };
         }
-        out[n] = (j + 1) as u8;
+        out[n] = j + 1;
         n += agrees(kept, marks, t, i, d, b, j);
         j += 1;
     }

@@ -3,7 +3,7 @@
 ghost use mathlib.Core.Path.{_≡_};
 ghost use Rattle.decide.specs.Listing.{listedIn, listedCount};
 ghost use Rattle.decide.specs.Steps.{UsableAs};
-ghost use Rattle.decide.specs.Decided.{sameTags, decided};
+ghost use Rattle.decide.specs.Decided.{sameTags, decideRefusal, decided};
 use crate::content::rebuild;
 use crate::leading::find;
 use crate::list::entry;
@@ -89,12 +89,28 @@ pub fn same_tags(kept: &[u8], t: usize, i: usize, b: usize) -> bool
     tags_alike(kept, t, i, b - 1)
 }
 
-// What a filter round has decided: nothing yet; no candidate is left; or the slot that holds the chosen one, the server that leads its group,
-// and the length of the content.
+// What a filter round has decided: the arguments are refused; nothing yet; no candidate is left; or the slot that holds the chosen one, the
+// server that leads its group, and the length of the content.
 pub enum Decision {
+    Refused(u8),
     Wait,
     Blank,
     Found(usize, usize, usize),
+}
+
+fn decide_refusal(t: usize, size: usize, room: usize) -> u8
+    ensures { λ r. ⌜ r ≡ decideRefusal t size room ⌝ }
+{
+    if size != wire::kept::KEPT {
+        return cluster::WRONG_SIZE;
+    }
+    if cluster::outside(1, cluster::TOP_FAULTS, t) {
+        return 3;
+    }
+    if room < cluster::CONTENT_ROOM {
+        return 15;
+    }
+    0
 }
 
 // What the filter round has decided; where a candidate is found, its content at the start of out.
@@ -102,11 +118,9 @@ pub fn decide(kept: &[u8], marks: [u8; cluster::MOST_SERVERS], t: usize, out: &m
     ensures { λ r. ⌜ (r ≡ decided t marks (now (kept .entry)) (now (out .entry)) .answer)
         × (now (out .exit) ≡ decided t marks (now (kept .entry)) (now (out .entry)) .output) ⌝ }
 {
-    if !is_usable(kept, t) {
-        return Decision::Wait;
-    }
-    if out.len() < cluster::CONTENT_ROOM {
-        return Decision::Wait;
+    let n = decide_refusal(t, kept.len(), out.len());
+    if n != 0 {
+        return Decision::Refused(n);
     }
     let key = top(kept, marks, t);
     if key <= BLANK_RANK {

@@ -1,7 +1,6 @@
 -- What the exports of fragments and restoring rest on: the operations' answers by cases on their refusal, and how large a count can be.
 -- A count is 0 or belongs to a legal content, so it fits its 16 bits. Assumes nothing.
 use mathlib.Core.Path.{_≡_, refl, sym, ap, subst, _∙_}
-use mathlib.Core.Logic.{_≢_}
 use mathlib.Core.List.{List}
 use Prim.Native.Nat.{ℕ, zero, suc, _+_, _-_, _/_, _≤_, _<_}
 use native.Mathlib.Nat.{div-lt-iff-lt-mul}
@@ -12,11 +11,11 @@ use lib.Seq.{take-at}
 use borrow.Author.Tests.{lt-ltb, le-ltb}
 use Rattle.cluster.specs.Config.{shelf}
 use Rattle.cluster.specs.Ranges.{topLength}
-use Rattle.cluster.specs.Refusals.{onRefusal, firstOf}
+use Rattle.cluster.specs.Refusals.{wrongSize, onRefusal, firstOf}
 use Rattle.cluster.specs.declared.Outcome.{Outcome}
 use Rattle.erasure.specs.declared.FragmentOutcome.{FragmentOutcome}
 use Rattle.erasure.specs.Fragments.{fragmentSize}
-use Rattle.erasure.specs.Steps.{zeros, fragmentRefusal, fragmentBytes, fragmentStep, restoreRefusal, argumentChecks, restoreStep}
+use Rattle.erasure.specs.Steps.{zeros, fragmentRoom, fragmentRefusal, fragmentBytes, fragmentStep, restoreRefusal, argumentChecks, restoreStep}
 use Rattle.erasure.proofs.Laws.{fragment-length}
 use Rattle.erasure.proofs.Refused.{makes, restores, first-of-first}
 use Rattle.embed.specs.Coding.{exportRefusal, outcomeOf}
@@ -27,10 +26,6 @@ by-number : (q n : ℕ) (xs ys : List ℕ)
     → onRefusal {A = FragmentOutcome} q (record { number = 0; count = n; bytes = xs }) (record { number = q; count = 0; bytes = ys }) .number ≡ q
 by-number zero n xs ys = refl
 by-number (suc q) n xs ys = refl
-
-by-own : (q next : ℕ) → q ≢ 0 → onRefusal q next q ≡ q
-by-own zero next some = absurd (some refl)
-by-own (suc q) next some = refl
 
 -- what the operation made, where it equals its definition's step
 module _ (t server : ℕ) (content : List ℕ) (made : FragmentOutcome) (is : made ≡ fragmentStep t server content) where
@@ -68,19 +63,14 @@ module _ (t server : ℕ) (content : List ℕ) (made : FragmentOutcome) (is : ma
       (rw (length-append (fragmentBytes t server content) (zeros (512 - fragmentSize (shelf t .shares) (length content))))
       (omega (arith, fragment-length (shelf t .points) (shelf t .shares) content server))))
 
-  -- ---- the refusal, with the output's as the last
-
-  pub own-refusal : (out : List ℕ) → made .number ≢ 0 → exportRefusal t server content out ≡ made .number
+  -- where the output has room, the refusal is the operation's own
+  pub own-refusal : (out : List ℕ) → fragmentRoom ≤ length out → exportRefusal t server content out ≡ made .number
   unfolding exportRefusal
-  own-refusal out some = rw (sym made-number) (by-own (made .number) _ some)
+  own-refusal out h = rw (le-ltb _ _ h) (sym made-number)
 
-  pub no-room : (out : List ℕ) → made .number ≡ 0 → length out < 512 → exportRefusal t server content out ≡ 15
-  unfolding exportRefusal
-  no-room out none h = rw (sym made-number ∙ none) (rw (lt-ltb _ _ h) refl)
-
-  pub room : (out : List ℕ) → made .number ≡ 0 → 512 ≤ length out → exportRefusal t server content out ≡ 0
-  unfolding exportRefusal
-  room out none h = rw (sym made-number ∙ none) (rw (le-ltb _ _ h) refl)
+pub no-room : (t server : ℕ) (content out : List ℕ) → length out < fragmentRoom → exportRefusal t server content out ≡ wrongSize
+unfolding exportRefusal
+no-room t server content out h = rw (lt-ltb _ _ h) refl
 
 -- ---- restoring
 

@@ -17,7 +17,8 @@ use Rattle.protocol.specs.View.{part}
 use Rattle.protocol.proofs.Puts.{put-over}
 use Rattle.wire.specs.Make.{placed}
 use Rattle.wire.proofs.Put.{placed-wrote}
-use Rattle.embed.specs.Packing.{packed, answer, written, wrongSize}
+use Rattle.cluster.specs.Refusals.{wrongSize}
+use Rattle.embed.specs.Packing.{packed, answer, written}
 use Rattle.embed.specs.Digests.{digestRefusal, tagRefusal}
 
 -- the first n bytes over the front of a buffer
@@ -55,7 +56,7 @@ carried-out n q r bytes made out after e gives same long puts =
 
 -- ---- the refusals, test by test
 
-pub digest-short : (out : List ℕ) → length out < digestSize → digestRefusal out ≡ 15
+pub digest-short : (out : List ℕ) → length out < digestSize → digestRefusal out ≡ wrongSize
 unfolding digestRefusal
 digest-short out h = rw (lt-ltb _ _ h) refl
 
@@ -67,7 +68,7 @@ pub tag-key : (key out : List ℕ) → (length key ≡ keySize → ⊥) → tagR
 unfolding tagRefusal
 tag-key key out h = rw (ne-eqb _ _ h) refl
 
-pub tag-short : (key out : List ℕ) → length key ≡ keySize → length out < tagSize → tagRefusal key out ≡ 15
+pub tag-short : (key out : List ℕ) → length key ≡ keySize → length out < tagSize → tagRefusal key out ≡ wrongSize
 unfolding tagRefusal
 tag-short key out k h = rw (eq-eqb _ _ k) (rw (lt-ltb _ _ h) refl)
 

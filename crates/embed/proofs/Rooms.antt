@@ -13,7 +13,7 @@ use lib.ListN.{length, take, drop, length-append, length-drop, take-append-drop}
 use lib.Seq.{length-take-le, drop-append-le}
 use Rattle.cluster.specs.Config.{shelf}
 use Rattle.cluster.specs.Ranges.{packetRoom, memorySize, keySize}
-use Rattle.cluster.specs.Refusals.{onRefusal}
+use Rattle.cluster.specs.Refusals.{wrongSize, onRefusal}
 use Rattle.cluster.specs.declared.Outcome.{Outcome}
 use Rattle.protocol.specs.declared.Call.{Call}
 use Rattle.protocol.specs.Packet.{Packet, decode, encode}
@@ -26,7 +26,7 @@ use Rattle.protocol.specs.ClientBytes.{Written, awaited, clientMake}
 use Rattle.client.specs.Rounds.{makeByRounds}
 use Rattle.client.proofs.StepsSame.{same-make}
 use Rattle.protocol.specs.View.{view}
-use Rattle.embed.specs.Packing.{packed, wrongSize}
+use Rattle.embed.specs.Packing.{packed}
 use Rattle.embed.specs.Clients.{madeOut}
 use Rattle.embed.specs.Servers.{Exchange, servedOut, keySized, takeBy}
 

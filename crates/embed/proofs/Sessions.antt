@@ -24,7 +24,8 @@ use Rattle.client.specs.declared.begin.Stopped.{Stopped}
 use Rattle.client.specs.declared.answers.Answered.{Answered}
 use Rattle.client.specs.Answers.{started, stopped, answered}
 use Rattle.client.specs.Core.{coreWrite, coreRead, coreMake, coreTake}
-use Rattle.embed.specs.Packing.{packed, wrongSize}
+use Rattle.cluster.specs.Refusals.{wrongSize}
+use Rattle.embed.specs.Packing.{packed}
 use Rattle.embed.specs.Clients.{clientSize, keptOf, stateWith, sized, sizedWith, begunIn, stoppedIn, abortedOf, writeIn, readIn, giveUpIn, Posted, madeOut, makeIn, takenOf, Taking, keysSize, keysIn, sizedFor, tookIn, takeIn}
 
 module _ (d : List ℕ) (size : length d ≡ clientSize) where

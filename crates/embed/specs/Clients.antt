@@ -1,5 +1,5 @@
 -- A client for other languages keeps its state in one lent run of bytes: the small state (crate state) at its start, and the kept bytes.
--- The operations are those of protocol's ClientBytes; 255 where the state, a nonce or a key is lent with another length.
+-- The operations are those of protocol's ClientBytes; `wrongSize` where the state, a nonce or a key is lent with another length.
 use mathlib.Core.Bool.{not}
 use mathlib.Core.List.{List, [], _∷_, _++_, map}
 use Prim.Native.Nat.{ℕ, _+_, _-_, _*_}
@@ -7,7 +7,7 @@ use lib.Dec.{eqb}
 use lib.ListN.{length, drop}
 use Rattle.cluster.specs.Config.{upTo}
 use Rattle.cluster.specs.Ranges.{keySize, mostServers}
-use Rattle.cluster.specs.Refusals.{refuse, firstOf, onRefusal}
+use Rattle.cluster.specs.Refusals.{wrongSize, refuse, firstOf, onRefusal}
 use Rattle.protocol.specs.declared.Call.{Call}
 use Rattle.protocol.specs.declared.Aborted.{Aborted}
 use Rattle.protocol.specs.declared.Aborted.the-variants as aborts
@@ -18,7 +18,7 @@ use Rattle.protocol.specs.declared.Taken.the-variants as taken
 use Rattle.protocol.specs.Primitives.{real}
 use Rattle.protocol.specs.ClientBytes.{Begun, GaveUp, Written, Took, beginWrite, beginRead, giveUp, clientMake, clientTake}
 use Rattle.state.specs.State.{stateSize, keptPlace, callAt, callBytes}
-use Rattle.embed.specs.Packing.{packed, wrongSize}
+use Rattle.embed.specs.Packing.{packed}
 use Rattle.embed.specs.Coding.{outcomeOf}
 
 -- the bytes between the small state and the kept bytes are not looked at

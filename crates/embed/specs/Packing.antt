@@ -24,11 +24,6 @@ numberIn answer = answer / 2 ^ 16 % 2 ^ 32
 unfoldable pub countIn : ℕ → ℕ
 countIn answer = answer % 2 ^ 16
 
--- A number above those of documents 01 and 02, which only a caller from another language can meet:
--- a key, a nonce or a client's state is lent with another size than the type has.
-abbrev pub wrongSize : ℕ
-wrongSize = 255
-
 -- ---- a call that is refused, or writes bytes to the front of its output
 
 abbrev pub answer : ℕ → List ℕ → ℕ

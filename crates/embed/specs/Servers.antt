@@ -1,14 +1,14 @@
--- A server for other languages: the operations of protocol's ServerBytes; 255 where the key is lent with another length.
+-- A server for other languages: the operations of protocol's ServerBytes; `wrongSize` where the key is lent with another length.
 use mathlib.Core.Bool.{not}
 use mathlib.Core.List.{List, [], _∷_}
 use Prim.Native.Nat.{ℕ}
 use lib.Dec.{eqb}
 use lib.ListN.{length}
 use Rattle.cluster.specs.Ranges.{keySize}
-use Rattle.cluster.specs.Refusals.{refuse, firstOf, onRefusal}
+use Rattle.cluster.specs.Refusals.{wrongSize, refuse, firstOf, onRefusal}
 use Rattle.protocol.specs.Primitives.{real}
 use Rattle.protocol.specs.ServerBytes.{Served, serverTake}
-use Rattle.embed.specs.Packing.{packed, wrongSize}
+use Rattle.embed.specs.Packing.{packed}
 use Rattle.embed.specs.Coding.{outcomeOf}
 
 -- an answer, and the memory and the output after it

@@ -76,10 +76,10 @@ pub extern "C" fn cendrulas_client_begin_write(
     ensures { λ r. ⌜ record { answer = r; state = now (state .exit) } ≡ writeIn (now (state .entry)) t client (now (content .entry)) (now (nonce .entry)) ⌝ }
 {
     if state.len() != CLIENT {
-        return pack(255, 0, 0, 0);
+        return pack(cluster::WRONG_SIZE, 0, 0, 0);
     }
     if nonce.len() != cluster::KEY {
-        return pack(255, 0, 0, 0);
+        return pack(cluster::WRONG_SIZE, 0, 0, 0);
     }
     let begun = write_in(state, t, client, content, array(nonce));
     outcome(begun)
@@ -90,7 +90,7 @@ pub extern "C" fn cendrulas_client_begin_read(state: &mut [u8], t: usize, client
     ensures { λ r. ⌜ record { answer = r; state = now (state .exit) } ≡ readIn (now (state .entry)) t client ⌝ }
 {
     if state.len() != CLIENT {
-        return pack(255, 0, 0, 0);
+        return pack(cluster::WRONG_SIZE, 0, 0, 0);
     }
     let begun = read_in(state, t, client);
     outcome(begun)
@@ -112,7 +112,7 @@ pub extern "C" fn cendrulas_client_give_up(state: &mut [u8], t: usize, client: u
     ensures { λ r. ⌜ record { answer = r; state = now (state .exit) } ≡ giveUpIn (now (state .entry)) t client ⌝ }
 {
     if state.len() != CLIENT {
-        return pack(255, 0, 0, 0);
+        return pack(cluster::WRONG_SIZE, 0, 0, 0);
     }
     let call = state::read(state);
     let stopped = client::begin::give_up_in(call, t, client);
@@ -151,7 +151,7 @@ pub extern "C" fn cendrulas_client_make(
     ensures { λ r. ⌜ record { answer = r; output = now (out .exit) } ≡ makeIn (now (state .entry)) t client server (now (out .entry)) ⌝ }
 {
     if state.len() != CLIENT {
-        return pack(255, 0, 0, 0);
+        return pack(cluster::WRONG_SIZE, 0, 0, 0);
     }
     make_packet(state, t, client, server, out)
 }
@@ -214,13 +214,13 @@ pub extern "C" fn cendrulas_client_take(
         ≡ takeIn (now (state .entry)) t client (now (writers .entry)) (now (keys .entry)) (now (packet .entry)) (now (out .entry)) ⌝ }
 {
     if state.len() != CLIENT {
-        return pack(255, 0, 0, 0);
+        return pack(cluster::WRONG_SIZE, 0, 0, 0);
     }
     if writers.len() != cluster::KEY {
-        return pack(255, 0, 0, 0);
+        return pack(cluster::WRONG_SIZE, 0, 0, 0);
     }
     if keys.len() != KEYS {
-        return pack(255, 0, 0, 0);
+        return pack(cluster::WRONG_SIZE, 0, 0, 0);
     }
     let w = array(writers);
     let k = super::keys::keys_of(keys);

@@ -14,13 +14,13 @@ pub extern "C" fn cendrulas_fragment(t: usize, server: usize, content: &[u8], ou
     ensures { λ r. ⌜ r ≡ answer (exportRefusal t server (now (content .entry)) (now (out .entry))) (fragmentBytes t server (now (content .entry))) ⌝ }
     ensures { λ _. ⌜ now (out .exit) ≡ written (exportRefusal t server (now (content .entry)) (now (out .entry))) (fragmentBytes t server (now (content .entry))) (now (out .entry)) ⌝ }
 {
+    if out.len() < FRAGMENT_ROOM {
+        return pack(cluster::WRONG_SIZE, 0, 0, 0);
+    }
     let made = erasure::fragment(t, server, content);
     let number = made.number;
     if number != 0 {
         return pack(number, 0, 0, 0);
-    }
-    if out.len() < FRAGMENT_ROOM {
-        return pack(15, 0, 0, 0);
     }
     let bytes = made.bytes;
     let count = made.count;
@@ -32,7 +32,7 @@ pub extern "C" fn cendrulas_fragment(t: usize, server: usize, content: &[u8], ou
 pub extern "C" fn cendrulas_restore(
     t: usize,
     length: usize,
-    servers: &[u8],
+    servers: &[usize],
     fragments: &[u8],
     out: &mut [u8],
 ) -> u64

@@ -14,7 +14,7 @@ pub extern "C" fn cendrulas_digest(message: &[u8], out: &mut [u8]) -> u64
     ensures { λ _. ⌜ now (out .exit) ≡ written (digestRefusal (now (out .entry))) (sha256 (now (message .entry))) (now (out .entry)) ⌝ }
 {
     if out.len() < 32 {
-        return pack(15, 0, 0, 0);
+        return pack(cluster::WRONG_SIZE, 0, 0, 0);
     }
     let digest = sha256::digest(message);
     put(out, &digest, 32);
@@ -27,10 +27,10 @@ pub extern "C" fn cendrulas_tag(key: &[u8], message: &[u8], out: &mut [u8]) -> u
     ensures { λ _. ⌜ now (out .exit) ≡ written (tagRefusal (now (key .entry)) (now (out .entry))) (tagOf (now (key .entry)) (now (message .entry))) (now (out .entry)) ⌝ }
 {
     if key.len() != cluster::KEY {
-        return pack(255, 0, 0, 0);
+        return pack(cluster::WRONG_SIZE, 0, 0, 0);
     }
     if out.len() < hmac::TAG {
-        return pack(15, 0, 0, 0);
+        return pack(cluster::WRONG_SIZE, 0, 0, 0);
     }
     let tag = hmac::tag(array(key), message);
     put(out, &tag, hmac::TAG);

@@ -48,7 +48,7 @@ pub extern "C" fn cendrulas_server_take(
     ensures { λ r. ⌜ record { answer = r; memory = now (memory .exit); output = now (out .exit) } ≡ takeBy (now (memory .entry)) (now (key .entry)) (now (packet .entry)) (now (out .entry)) ⌝ }
 {
     if key.len() != cluster::KEY {
-        return pack(255, 0, 0, 0);
+        return pack(cluster::WRONG_SIZE, 0, 0, 0);
     }
     serve(memory, array(key), packet, out)
 }

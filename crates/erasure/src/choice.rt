@@ -1,8 +1,9 @@
 // Which fragments restoring uses: those of the first k different servers given.
 ghost use mathlib.Core.Path.{_≡_};
-ghost use Prim.Native.Nat.{_≤_};
+ghost use Prim.Native.Nat.{ℕ, _≤_, _<_};
 ghost use lib.Dec.{ltb};
-ghost use lib.ListN.{take};
+ghost use lib.ListN.{length, take, getD};
+ghost use Rattle.cluster.specs.Ranges.{mostServers};
 ghost use Rattle.erasure.specs.System.{width};
 ghost use Rattle.erasure.specs.Choice.{among, more, firstDifferent};
 ghost use Rattle.erasure.specs.Chosen.{Holds};
@@ -57,8 +58,8 @@ fn add_server(c: Chosen, k: usize, s: u8, i: usize) -> Chosen
 }
 
 // The first k different servers, and where each stands.
-pub(crate) fn select(servers: &[u8], k: usize) -> Chosen
-    requires { ⌜ k ≤ width ⌝ }
+pub(crate) fn select(servers: &[usize], k: usize) -> Chosen
+    requires { ⌜ (k ≤ width) × ((i : ℕ) → i < length (now servers) → getD (now servers) i 0 ≤ mostServers) ⌝ }
     ensures { λ r. ⌜ Holds k (now (servers .entry)) (firstDifferent k (now (servers .entry))) r ⌝ }
 {
     let mut c = Chosen {
@@ -68,7 +69,7 @@ pub(crate) fn select(servers: &[u8], k: usize) -> Chosen
     };
     let mut i: usize = 0;
     while i < servers.len() {
-        let d = add_server(c, k, servers[i], i);
+        let d = add_server(c, k, servers[i] as u8, i);
         c = d;
         i += 1;
     }

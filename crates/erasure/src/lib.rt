@@ -57,12 +57,12 @@ fn size(k: usize, n: usize) -> usize
 // ---- refusals
 
 // Whether a server is not from 1 to most.
-fn server_outside(servers: &[u8], most: usize) -> bool
+fn server_outside(servers: &[usize], most: usize) -> bool
     ensures { λ r. ⌜ r ≡ not (each (within 1 most) (now (servers .entry))) ⌝ }
 {
     let mut i: usize = 0;
     while i < servers.len() {
-        if cluster::outside(1, most, servers[i] as usize) {
+        if cluster::outside(1, most, servers[i]) {
             return true;
         }
         i += 1;
@@ -97,7 +97,7 @@ fn fragment_refusal(t: usize, server: usize, n: usize) -> u8
 }
 
 // The refusals of restoring, but for too few different servers.
-fn restore_refusal(t: usize, n: usize, servers: &[u8], given: usize, room: usize) -> u8
+fn restore_refusal(t: usize, n: usize, servers: &[usize], given: usize, room: usize) -> u8
     ensures { λ r. ⌜ r ≡ firstOf (argumentChecks t n (now (servers .entry)) given room) ⌝ }
 {
     if cluster::outside(1, cluster::TOP_FAULTS, t) {
@@ -154,7 +154,7 @@ pub fn fragment(t: usize, server: usize, content: &[u8]) -> FragmentOutcome
 pub fn restore(
     t: usize,
     length: usize,
-    servers: &[u8],
+    servers: &[usize],
     fragments: &[u8],
     out: &mut [u8],
 ) -> cluster::Outcome

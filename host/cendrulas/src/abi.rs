@@ -29,7 +29,7 @@ extern "C" {
     pub fn cendrulas_restore(
         t: usize,
         length: usize,
-        servers: *const u8,
+        servers: *const usize,
         servers_len: usize,
         fragments: *const u8,
         fragments_len: usize,

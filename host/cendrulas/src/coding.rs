@@ -12,7 +12,7 @@ pub fn fragment(t: usize, server: usize, content: &[u8], out: &mut [u8]) -> Answ
 }
 
 /// A content of `length` bytes from the fragments of the servers named, one fragment after the other.
-pub fn restore(t: usize, length: usize, servers: &[u8], fragments: &[u8], out: &mut [u8]) -> Answer {
+pub fn restore(t: usize, length: usize, servers: &[usize], fragments: &[u8], out: &mut [u8]) -> Answer {
     // SAFETY: pointers and lengths are those of live slices, and `out` is lent alone.
     Answer::unpack(unsafe {
         abi::cendrulas_restore(

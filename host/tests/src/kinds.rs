@@ -9,9 +9,9 @@ pub struct Kinds(BTreeMap<&'static str, BTreeMap<String, u64>>);
 
 /// Operations with their kinds of answers, of the parts that the library has.
 const DUE: &[(bool, &str, &str)] = &[
-    (true, "digest", "accepted,refused 15"),
-    (true, "tag", "accepted,refused 15,refused 255"),
-    (cfg!(feature = "coding"), "fragment", "accepted,refused 3,refused 4,refused 6,refused 15"),
+    (true, "digest", "accepted,refused 255"),
+    (true, "tag", "accepted,refused 255"),
+    (cfg!(feature = "coding"), "fragment", "accepted,refused 3,refused 4,refused 6,refused 255"),
     (cfg!(feature = "coding"), "restore", "accepted,refused 3,refused 4,refused 6,refused 15,refused 16"),
     (cfg!(feature = "server"), "packet check", PACKETS),
     (cfg!(feature = "server"), "server is made blank", "accepted,refused 1,refused 3,refused 4"),

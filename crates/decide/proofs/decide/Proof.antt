@@ -5,15 +5,16 @@ use mathlib.Core.Option.{none}
 use Prim.Native.Nat.{ℕ, zero, suc, _-_, _≤_}
 use native.Mathlib.Omega.{arith}
 use borrow.Author.Needs.{needs}
+use lib.ListN.{length}
 use Rattle.cluster.specs.Config.{shelf}
-use Rattle.protocol.specs.Rules.{fits}
-use Rattle.decide.specs.Decided.{Decided}
+use Rattle.cluster.specs.Ranges.{contentRoom}
+use Rattle.protocol.specs.Format.{Bytes}
 use Rattle.decide.specs.declared.leading.Choice.{Choice}
-use Rattle.decide.specs.Decided.{Decided}
+use Rattle.decide.specs.Decided.{Decided, decideRefusal}
 use Rattle.decide.specs.declared.Decision.the-variants as decisions
-use Rattle.decide.specs.Steps.{topAt, chosenAt, Hit, ChoiceAs}
-use Rattle.decide.proofs.Outcomes.{decided-unusable, decided-roomless, decided-blank, decided-none, hit-small, hit-full, hit-rises, decided-found}
-use Rattle.decide.proofs.Arguments.{known, is-usable, unusable}
+use Rattle.decide.specs.Steps.{Usable, topAt, chosenAt, Hit, ChoiceAs}
+use Rattle.decide.proofs.Outcomes.{decided-refused, decided-blank, decided-none, hit-small, hit-full, hit-rises, decided-found}
+use Rattle.decide.proofs.Arguments.{allowed}
 use Rattle.decide.proofs.decide.Statement.{statement}
 use Rattle.decide.proofs.decide.Tie as tie
 
@@ -21,45 +22,53 @@ use Rattle.decide.proofs.decide.Tie as tie
 told : {d r : Decided} → d ≡ r → (r .answer ≡ d .answer) × (r .output ≡ d .output)
 told e = (sym (ap (λ (x : Decided). x .answer) e), sym (ap (λ (x : Decided). x .output) e))
 
+-- past the refusal
+module _ (c : tie.Else1) where
+  abbrev t : ℕ
+  t = c .before .before .before .before .args .t
+
+  abbrev marks : List ℕ
+  marks = c .before .before .before .before .args .marks
+
+  abbrev kept : List ℕ
+  kept = c .before .before .before .before .args .kept .now
+
+  abbrev out : List ℕ
+  out = c .before .before .before .before .args .out .now
+
+  not-refused : decideRefusal t (length kept) (length out) ≡ 0
+  not-refused = sym (c .before .decide-refusal .ensures) ∙ c .if1 .left
+
+  known : Usable t kept × (contentRoom ≤ length out)
+  known = allowed t kept (length out) not-refused
+
+  bytes : Bytes kept
+  bytes i = c .before .before .before .shared-slice-known .given i .fits
+
 returns : tie.Need-returns
 returns c =
     let a = c .before .before .before .before .args in
-    told (decided-unusable (a .t) (a .marks) (a .kept .now) (a .out .now) (unusable (c .before .is-usable .ensures) (c .if1 .taken)))
+    told (decided-refused (a .t) (a .marks) (a .kept .now) (a .out .now) (c .before .decide-refusal .result) (c .before .decide-refusal .ensures)
+    (c .if1 .taken))
+
+top-requires : tie.Need-top-requires
+top-requires c κs = known c .0
 
 returns-2 : tie.Need-returns-2
 returns-2 c =
-    let a = c .before .before .before .before .before .args in
-    told (decided-roomless (a .t) (a .marks) (a .kept .now) (a .out .now) (is-usable (c .before .before .is-usable .ensures) (c .before .if1 .left))
-    (omega arith))
+    let p = c .before .before in
+    told (decided-blank (t p) (marks p) (kept p) (out p) (not-refused p) (bytes p) (omega (arith, c .if2 .taken, c .before .top .ensures)))
 
-top-requires : tie.Need-top-requires
-top-requires c κs = known (c .before .before .is-usable .ensures) (c .before .if1 .left)
+find-requires : tie.Need-find-requires
+find-requires c κs = known (c .before .before) .0
 
 returns-3 : tie.Need-returns-3
 returns-3 c =
-    let a = c .before .before .before .before .before .before .before .args in
-    told (decided-blank (a .t) (a .marks) (a .kept .now) (a .out .now) (is-usable (c .before .before .before .before .is-usable .ensures)
-    (c .before .before .before .if1 .left))
-    (omega (arith, c .before .before .if2 .left)) (λ i. c .before .before .before .before .before .before .shared-slice-known .given i .fits)
-    (omega (arith, c .if3 .taken, c .before .top .ensures)))
-
-find-requires : tie.Need-find-requires
-find-requires c κs = known (c .before .before .before .before .is-usable .ensures) (c .before .before .before .if1 .left)
-
-returns-4 : tie.Need-returns-4
-returns-4 c =
-    let a = c .before .before .before .before .before .before .before .before .before .before .args in
+    let p = c .before .before .before .before .before in
     let q = c .before .before .before .before .top .ensures in
-    let n : chosenAt (a .t) (a .marks) (a .kept .now) (topAt (a .t) (a .marks) (a .kept .now) (shelf (a .t) .servers)) (shelf (a .t) .servers) ≡
-    none =
-    ap (λ (x : ℕ). chosenAt (a .t) (a .marks) (a .kept .now) x (shelf (a .t) .servers)) (sym q) ∙ c .before .before .find .ensures .nothing
-    (c .if4 .taken) in
-    told (decided-none (a .t) (a .marks) (a .kept .now) (a .out .now)
-    (is-usable (c .before .before .before .before .before .before .before .is-usable .ensures)
-    (c .before .before .before .before .before .before .if1 .left))
-    (omega (arith, c .before .before .before .before .before .if2 .left))
-    (λ i. c .before .before .before .before .before .before .before .before .before .shared-slice-known .given i .fits)
-    (omega (arith, c .before .before .before .if3 .left, q)) n)
+    let n : chosenAt (t p) (marks p) (kept p) (topAt (t p) (marks p) (kept p) (shelf (t p) .servers)) (shelf (t p) .servers) ≡ none =
+    ap (λ (x : ℕ). chosenAt (t p) (marks p) (kept p) x (shelf (t p) .servers)) (sym q) ∙ c .before .before .find .ensures .nothing (c .if3 .taken) in
+    told (decided-none (t p) (marks p) (kept p) (out p) (not-refused p) (bytes p) (omega (arith, c .before .before .before .if2 .left, q)) n)
 
 -- a server was found
 some-server : (n : ℕ) → (n ≡ 0 → ⊥) → 1 ≤ n
@@ -67,7 +76,7 @@ some-server zero f = absurd (f refl)
 some-server (suc n) f = omega arith
 
 sub-rebuild : tie.Need-sub-rebuild
-sub-rebuild c = omega (arith, some-server (c .before .before .find .result .server) (c .if4 .left))
+sub-rebuild c = omega (arith, some-server (c .before .before .find .result .server) (c .if3 .left))
 
 -- what was found, at the rank of the definition
 hit : (t : ℕ) (marks kept : List ℕ) (key : ℕ) (r : Choice) → key ≡ topAt t marks kept (shelf t .servers) → ChoiceAs t marks kept key r →
@@ -78,40 +87,32 @@ hit t marks kept key r e k l =
 
 rebuild-requires : tie.Need-rebuild-requires
 rebuild-requires c κs =
-    let a = c .before .before .before .before .before .before .before .before .before .before .before .args in
+    let p = c .before .before .before .before .before .before in
     let r = c .before .before .before .find .result in
-    let key = topAt (a .t) (a .marks) (a .kept .now) (shelf (a .t) .servers) in
-    let u = known (c .before .before .before .before .before .before .before .before .is-usable .ensures)
-    (c .before .before .before .before .before .before .before .if1 .left) in
-    let k = hit (a .t) (a .marks) (a .kept .now) (c .before .before .before .before .before .top .result) r
-    (c .before .before .before .before .before .top .ensures) (c .before .before .before .find .ensures) (c .before .if4 .left) in (
+    let top = c .before .before .before .before .before .top in
+    let key = topAt (t p) (marks p) (kept p) (shelf (t p) .servers) in
+    let u = known p .0 in
+    let k = hit (t p) (marks p) (kept p) (top .result) r (top .ensures) (c .before .before .before .find .ensures) (c .before .if3 .left) in (
       u,
-      hit-small (a .t) (a .marks) (a .kept .now) u key r (r .server - 1) k,
-      hit-full (a .t) (a .marks) (a .kept .now) u key r (r .server - 1) k,
-      hit-rises (a .t) (a .marks) (a .kept .now) u key r (r .server - 1) k,
-      omega (arith, c .before .before .before .before .before .before .if2 .left),
+      hit-small (t p) (marks p) (kept p) u key r (r .server - 1) k,
+      hit-full (t p) (marks p) (kept p) u key r (r .server - 1) k,
+      hit-rises (t p) (marks p) (kept p) u key r (r .server - 1) k,
+      known p .1,
     )
 
-returns-5 : tie.Need-returns-5
-returns-5 c =
-    let a = c .before .before .before .before .before .before .before .before .before .before .before .before .before .before .args in
-    let r = c .before .before .before .before .before .before .find .result in
-    let q = c .before .before .before .before .before .before .before .before .top .ensures in
-    let k = hit (a .t) (a .marks) (a .kept .now) (c .before .before .before .before .before .before .before .before .top .result) r q
-    (c .before .before .before .before .before .before .find .ensures) (c .before .before .before .before .if4 .left) in
-    let d =
-    told (decided-found (a .t) (a .marks) (a .kept .now) (a .out .now)
-    (is-usable (c .before .before .before .before .before .before .before .before .before .before .before .is-usable .ensures)
-    (c .before .before .before .before .before .before .before .before .before .before .if1 .left))
-    (omega (arith, c .before .before .before .before .before .before .before .before .before .if2 .left))
-    (λ i. c .before .before .before .before .before .before .before .before .before .before .before .before .before .shared-slice-known .given
-    i .fits) (known (c .before .before .before .before .before .before .before .before .before .before .before .is-usable .ensures)
-    (c .before .before .before .before .before .before .before .before .before .before .if1 .left)) r (r .server - 1)
-    (omega (arith, c .before .before .before .before .before .before .before .if3 .left, q)) k) in
-    let e : r .server ≡ suc (r .server - 1) = omega (arith, some-server (r .server) (c .before .before .before .before .if4 .left)) in
+returns-4 : tie.Need-returns-4
+returns-4 c =
+    let at = c .before .before .before .before in
+    let p = at .before .before .before .before .before in
+    let r = at .before .before .find .result in
+    let top = at .before .before .before .before .top in
+    let k = hit (t p) (marks p) (kept p) (top .result) r (top .ensures) (at .before .before .find .ensures) (at .if3 .left) in
+    let d = told (decided-found (t p) (marks p) (kept p) (out p) (not-refused p) (bytes p) (known p .0) r (r .server - 1)
+    (omega (arith, at .before .before .before .if2 .left, top .ensures)) k) in
+    let e : r .server ≡ suc (r .server - 1) = omega (arith, some-server (r .server) (at .if3 .left)) in
     let w = c .before .before .rebuild .ensures in
     ((λ i. decisions.Found (r .slot) (e i) (w .0 i)) ∙ d .0, w .1 ∙ d .1)
 
 pub decide-spec : {M : Type 1} → statement M
-decide-spec = tie.close (tie.spec (λ c κs. search needs) returns returns-2 top-requires returns-3 find-requires returns-4 sub-rebuild rebuild-requires
-    (λ c. search needs) returns-5)
+decide-spec = tie.close (tie.spec (λ c κs. search needs) returns top-requires returns-2 find-requires returns-3 sub-rebuild rebuild-requires
+    (λ c. search needs) returns-4)

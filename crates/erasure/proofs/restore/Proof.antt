@@ -92,7 +92,10 @@ shares-of-requires : tie.Need-shares-of-requires
 shares-of-requires c κs = ok c .faults .1
 
 select-requires : tie.Need-select-requires
-select-requires c κs = omega (arith, shares-are c, ok (c .before) .faults .1)
+unfolding shelf
+select-requires c κs =
+    let p = c .before in
+    (omega (arith, shares-are c, ok p .faults .1), λ i h. omega (arith, ok p .faults .1, ok p .numbers i h .1))
 
 returns-2 : tie.Need-returns-2
 returns-2 c =

@@ -21,9 +21,6 @@ abbrev μ-loop : tie.MeasureT-loop
 loop-holds : tie.Need-loop-holds Inv-loop μ-loop
 loop-holds c = (search needs, λ j h. absurd (omega arith))
 
-cast-outside : tie.Need-cast-outside Inv-loop μ-loop
-cast-outside c = let h = c .shared-slice-known2 .given (c .before .before .loop .i) in search needs
-
 returns : tie.Need-returns Inv-loop μ-loop
 returns c =
     let args = c .before .before .before .before .before .before .args in
@@ -47,5 +44,5 @@ returns-2 c =
     sym (ap not (each-holds (within 1 (args .most)) (denote.Ref.now (args .servers)) (λ i h. c .before .loop .inv .1 i (omega arith))))
 
 pub server-outside-spec : {M : Type 1} → statement M
-server-outside-spec = tie.close (tie.spec Inv-loop μ-loop loop-holds (λ c. search needs) cast-outside (λ c κs. search needs) returns
+server-outside-spec = tie.close (tie.spec Inv-loop μ-loop loop-holds (λ c. search needs) (λ c. search needs) (λ c κs. search needs) returns
     (λ c. search needs) (λ c. search needs) loop-again returns-2)

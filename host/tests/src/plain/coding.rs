@@ -1,4 +1,4 @@
-use super::{answer, narrow};
+use super::{answer, narrow, WRONG_SIZE};
 use cendrulas::Answer;
 use shelf::fragments::{self, ALL_FRAGMENTS};
 use shelf::{boxes_of, Refusal};
@@ -7,6 +7,9 @@ use shelf::{boxes_of, Refusal};
 const FRAGMENT_OUTPUT: usize = 512;
 
 pub fn fragment(t: usize, server: usize, content: &[u8], out: &mut [u8]) -> Answer {
+    if out.len() < FRAGMENT_OUTPUT {
+        return Answer::refused(WRONG_SIZE);
+    }
     answer(one_fragment(narrow(t), narrow(server), content, out))
 }
 
@@ -19,19 +22,16 @@ fn one_fragment(t: u8, server: u8, content: &[u8], out: &mut [u8]) -> Result<usi
     }
     let mut all = [0; ALL_FRAGMENTS];
     let f = fragments::make(t, content, &mut all)?;
-    if out.len() < FRAGMENT_OUTPUT {
-        return Err(Refusal::OutputTooSmall);
-    }
     out[..f].copy_from_slice(&all[(server as usize - 1) * f..][..f]);
     Ok(f)
 }
 
-pub fn restore(t: usize, length: usize, servers: &[u8], fragments: &[u8], out: &mut [u8]) -> Answer {
+pub fn restore(t: usize, length: usize, servers: &[usize], fragments: &[u8], out: &mut [u8]) -> Answer {
     let t = narrow(t);
     let f = if (1..=4).contains(&t) { fragments::fragment_length(t, length) } else { 0 };
     // fragments of another length in all are as many of a wrong length
     let fits = f.checked_mul(servers.len()) == Some(fragments.len());
     let piece = |k: usize| if fits { &fragments[k * f..(k + 1) * f] } else { &[][..] };
-    let given: Vec<(u8, &[u8])> = servers.iter().enumerate().map(|(k, &server)| (server, piece(k))).collect();
+    let given: Vec<(u8, &[u8])> = servers.iter().enumerate().map(|(k, &server)| (narrow(server), piece(k))).collect();
     answer(fragments::restore(t, length, &given, out))
 }

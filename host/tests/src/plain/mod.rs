@@ -26,6 +26,9 @@ pub use drill::drill;
 use cendrulas::Answer;
 use shelf::Refusal;
 
+/// The number that the library has for a lent buffer of a wrong size, where document 01's table has none; see crates/cluster/specs/Refusals.antt.
+const WRONG_SIZE: u8 = 255;
+
 /// The answer of an operation that writes bytes or is refused.
 fn answer(outcome: Result<usize, Refusal>) -> Answer {
     match outcome {

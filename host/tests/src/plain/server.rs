@@ -1,9 +1,6 @@
-use super::{answer, narrow};
+use super::{answer, narrow, WRONG_SIZE};
 use cendrulas::Answer;
 use shelf::boxes;
-
-/// A key of another size than 32 bytes.
-const WRONG_SIZE: u8 = 255;
 
 pub fn server_blank(memory: &mut [u8], t: usize, server: usize) -> Answer {
     answer(boxes::make_blank(memory, narrow(t), narrow(server)).map(|()| 0))

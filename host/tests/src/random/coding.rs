@@ -50,7 +50,7 @@ fn restore(run: &mut Run, source: &mut Source, t: usize, content: &[u8], room: u
         plain::restore(t, n, &servers, &pieces, &mut want),
     );
     run.same(
-        || format!("restore t {t} length {n} servers {} fragments {}, room {room}", hex(&servers), hex(&pieces)),
+        || format!("restore t {t} length {n} servers {servers:?} fragments {}, room {room}", hex(&pieces)),
         Seen { answer: answers.0, buffers: &[&got] },
         Seen { answer: answers.1, buffers: &[&want] },
     );
@@ -58,7 +58,7 @@ fn restore(run: &mut Run, source: &mut Source, t: usize, content: &[u8], room: u
 }
 
 /// Servers drawn with repetitions, and a fragment for each: its own, or any bytes, at times one too few.
-fn given(source: &mut Source, t: usize, content: &[u8]) -> (Vec<u8>, Vec<u8>) {
+fn given(source: &mut Source, t: usize, content: &[u8]) -> (Vec<usize>, Vec<u8>) {
     let legal = t.clamp(1, 4);
     let f = fragments::fragment_length(legal as u8, content.len());
     let mut all = vec![0; fragments::ALL_FRAGMENTS];
@@ -67,11 +67,11 @@ fn given(source: &mut Source, t: usize, content: &[u8]) -> (Vec<u8>, Vec<u8>) {
     let (mut servers, mut pieces) = (Vec::new(), Vec::new());
     for _ in 0..count {
         let server = source.within(1, 3 * legal + 1);
-        servers.push(server as u8);
+        servers.push(server);
         pieces.extend(if right { all[(server - 1) * f..server * f].to_vec() } else { source.bytes(f) });
     }
     if bad {
-        servers[count - 1] = *source.pick(&[0, 3 * legal as u8 + 2, 255]);
+        servers[count - 1] = *source.pick(&[0, 3 * legal + 2, 255, 257, usize::MAX]);
     }
     if source.once_in(20) {
         pieces.pop();

@@ -30,7 +30,7 @@ fn restore(run: &mut Run, folder: &Path) {
         let words = &line.left;
         let given: Vec<(usize, Vec<u8>)> =
             words[4..].iter().filter_map(|w| w.split_once(':')).map(|(s, f)| (number(s), raw(f))).collect();
-        let servers: Vec<u8> = given.iter().map(|(server, _)| u8::try_from(*server).unwrap_or(u8::MAX)).collect();
+        let servers: Vec<usize> = given.iter().map(|(server, _)| *server).collect();
         let fragments: Vec<u8> = given.iter().flat_map(|(_, fragment)| fragment.clone()).collect();
         let mut out = vec![FILLER; number(words[3])];
         let answer = cendrulas::restore(number(words[1]), number(words[2]), &servers, &fragments, &mut out);

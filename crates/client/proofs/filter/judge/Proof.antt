@@ -11,7 +11,7 @@ use Rattle.protocol.proofs.Room.{shelf-fits}
 use Rattle.decide.specs.declared.Decision.the-variants as decisions
 use Rattle.decide.specs.Decided.{decided}
 use Rattle.client.proofs.Printed.{part-short}
-use Rattle.client.proofs.Judged.{judged-wait, judged-blank, judged-found, found-range}
+use Rattle.client.proofs.Judged.{judged-refused, judged-wait, judged-blank, judged-found, found-range}
 use Rattle.client.proofs.filter.judge.Statement.{statement}
 use Rattle.client.proofs.filter.judge.Tie as tie
 
@@ -19,7 +19,7 @@ found-requires : tie.Need-found-requires
 found-requires c κs =
     let a = c .before .before .before .before .before .before .before .before .before .before .before .before .before .before .before .args in
     let p = c .before .before .before .before .before .before .before .before .before .before .before .before .before .before .before .pre in
-    let d = c .before .before .before .before .before .decision .given in
+    let d = c .before .before .before .before .before .decision2 .given in
     let F = shelf-fits (a .t) (p .0) (p .1 .0) .few in
     let l : length {A = ℕ} (replicate contentRoom 0) ≡ contentRoom = length-replicate {A = ℕ} contentRoom 0 in
     let e : decided (a .t) (a .call .tally .marks) (a .kept .now) (replicate contentRoom 0) .answer ≡ decisions.Found (d .0 .0) (d .0 .1 .0)
@@ -35,21 +35,28 @@ found-requires c κs =
 
 returns : tie.Need-returns
 returns c =
-    let a = c .before .before .before .before .before .before .before .before .before .before .before .args in
-    rw (c .more .ensures) (judged-wait (a .t) (a .call) (a .kept .now) (a .out .now)
-    (sym (c .before .before .before .before .decide .ensures .0) ∙ c .before .enum-told .given .1))
+    let a = c .before .before .before .before .before .before .before .before .before .before .before .before .args in
+    let d = c .before .before .decision .given in
+    rw (c .refused .ensures) (judged-refused (a .t) (a .call) (a .kept .now) (a .out .now) (d .0 .0)
+    (sym (c .before .before .before .before .before .decide .ensures .0) ∙ d .1))
 
 returns-2 : tie.Need-returns-2
 returns-2 c =
     let a = c .before .before .before .before .before .before .before .before .before .before .before .args in
-    rw (c .enter .ensures) (judged-blank (a .t) (a .call) (a .kept .now) (a .out .now)
-    (sym (c .before .before .before .before .decide .ensures .0) ∙ c .before .enum-told2 .given .1))
+    rw (c .more .ensures) (judged-wait (a .t) (a .call) (a .kept .now) (a .out .now)
+    (sym (c .before .before .before .before .decide .ensures .0) ∙ c .before .enum-told .given .1))
 
 returns-3 : tie.Need-returns-3
 returns-3 c =
+    let a = c .before .before .before .before .before .before .before .before .before .before .before .args in
+    rw (c .enter .ensures) (judged-blank (a .t) (a .call) (a .kept .now) (a .out .now)
+    (sym (c .before .before .before .before .decide .ensures .0) ∙ c .before .enum-told2 .given .1))
+
+returns-4 : tie.Need-returns-4
+returns-4 c =
     let a = c .before .before .before .before .before .before .before .before .before .before .before .before .before .before .before .before .before
     .before .before .before .args in
-    let d = c .before .before .before .before .before .before .before .before .before .before .decision .given in
+    let d = c .before .before .before .before .before .before .before .before .before .before .decision2 .given in
     c .before .before .before .before .found .ensures
     ∙ judged-found (a .t) (a .call) (a .kept .now) (a .out .now) (d .0 .0) (d .0 .1 .0) (d .0 .1 .1 .0)
     (c .before .before .before .before .before .before .before .part .result .now) (sym
@@ -59,5 +66,5 @@ returns-3 c =
 
 pub judge-spec : {M : Type 1} → statement M
 judge-spec = tie.close (tie.spec (λ c. search needs) (λ c κs. search needs) (λ c. search needs) (λ c κs. search needs) (λ c. search needs)
-    (λ c κs. search needs) (λ c. search needs) (λ c. search needs) (λ c κs. search needs) found-requires (λ c. search needs) returns
-    (λ c. search needs) returns-2 (λ c. search needs) (λ c. search needs) returns-3)
+    (λ c κs. search needs) (λ c. search needs) (λ c κs. search needs) (λ c. search needs) (λ c. search needs) (λ c κs. search needs) found-requires
+    (λ c. search needs) returns (λ c. search needs) returns-2 (λ c. search needs) returns-3 (λ c. search needs) (λ c. search needs) returns-4)

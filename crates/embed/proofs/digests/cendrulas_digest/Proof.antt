@@ -11,7 +11,7 @@ use Rattle.embed.proofs.digests.cendrulas_digest.Tie as tie
 returns : tie.Need-returns
 returns c =
     let a = c .before .before .before .before .args in
-    refused 14 _ _ (sha256 (a .message .now)) (a .out .now) (digest-short (a .out .now) (c .before .if1 .taken)) (c .pack .ensures)
+    refused 254 _ _ (sha256 (a .message .now)) (a .out .now) (digest-short (a .out .now) (c .before .if1 .taken)) (c .pack .ensures)
 
 returns-2 : tie.Need-returns-2
 returns-2 c =

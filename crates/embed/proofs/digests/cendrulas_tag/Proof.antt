@@ -21,7 +21,7 @@ returns c =
 returns-2 : tie.Need-returns-2
 returns-2 c =
     let a = c .before .before .before .before .before .before .args in
-    refused 14 _ _ (tagOf (a .key .now) (a .message .now)) (a .out .now)
+    refused 254 _ _ (tagOf (a .key .now) (a .message .now)) (a .out .now)
     (tag-short (a .key .now) (a .out .now) (c .before .before .if1 .left) (c .before .if2 .taken))
     (c .pack2 .ensures)
 

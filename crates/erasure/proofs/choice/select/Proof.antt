@@ -25,6 +25,12 @@ loop-holds : tie.Need-loop-holds Inv-loop μ-loop
 unfolding chosenOf
 loop-holds c = (search needs, refl, record { room = search needs; places-is = refl; servers-is = refl })
 
+cast-add-server : tie.Need-cast-add-server Inv-loop μ-loop
+cast-add-server c =
+    let start = c .before .before .before .before in
+    let few = start .pre .1 (c .before .before .loop .i) (search needs) in
+    omega (arith, few)
+
 add-server-requires : tie.Need-add-server-requires Inv-loop μ-loop
 add-server-requires c κs = (c .before .before .loop .inv .2 .room, search needs)
 
@@ -68,5 +74,5 @@ returns c =
     subst (λ (n : ℕ). Holds (start .args .k) bs (chosenOf (start .args .k) bs n) (at .c)) (omega arith) (at .inv .2)
 
 pub select-spec : {M : Type 1} → statement M
-select-spec = tie.close (tie.spec Inv-loop μ-loop loop-holds (λ c. search needs) add-server-requires (λ c. search needs) (λ c. search needs)
+select-spec = tie.close (tie.spec Inv-loop μ-loop loop-holds (λ c. search needs) (λ c. search needs) cast-add-server add-server-requires (λ c. search needs) (λ c. search needs)
     loop-again returns)
