@@ -84,8 +84,8 @@ module _ (s : System) (c : ℕ) where
   code cl p room = takeRefusal (s .config) c (some p) (cl .calls) (awaits (cl .hand)) (cl .marks)
       (highAt (s .P) (s .config) c (s .writers) (s .keys) cl) room
 
-  pub code-is : (cl : Client) (p : Packet) (room : ℕ) → badFaults (s .config) ≡ false → badClient (ofWrite (awaits (cl .hand))) c ≡ false → p .head .t ≡ s .config .t →
-      p .head .client ≡ c → isIdle (cl .hand) ≡ false → p .head .call ≡ cl .calls → kindOf (p .body) ≡ awaits (cl .hand) →
+  pub code-is : (cl : Client) (p : Packet) (room : ℕ) → badFaults (s .config) ≡ false → badClient (ofWrite (awaits (cl .hand))) c ≡ false →
+      p .head .t ≡ s .config .t → p .head .client ≡ c → isIdle (cl .hand) ≡ false → p .head .call ≡ cl .calls → kindOf (p .body) ≡ awaits (cl .hand) →
       code cl p room ≡ cond (cl .marks (p .head .server)) 12
       (cond (highAt (s .P) (s .config) c (s .writers) (s .keys) cl (p .head .server) (p .body)) 14 (cond (ltb room contentRoom) 15 0))
   unfolding takeRefusal isIdle

@@ -96,7 +96,8 @@ module _ (t : ℕ) (marks kept : List ℕ) (u : Usable t kept) (bytes : Bytes ke
   on-choice : (room : List ℕ) → contentRoom ≤ length room
       → decided t marks kept room ≡ decidedOn (shelf t) m g held room (live real (shelf t) m g listed) (choice real (shelf t) m g listed)
   unfolding decided decideRefusal
-  on-choice room l = rw (eq-eqb (length kept) keptSize (u .size), le-leb 1 t (u .low), le-leb t topFaults (u .high), le-ltb (length room) contentRoom l)
+  on-choice room l =
+      rw (eq-eqb (length kept) keptSize (u .size), le-leb 1 t (u .low), le-leb t topFaults (u .high), le-ltb (length room) contentRoom l)
 
   -- ---- a slot and its leader
 

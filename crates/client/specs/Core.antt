@@ -22,7 +22,8 @@ coreRead t client c kept = cond (eqb (length kept) keptSize) (beginRead t client
 
 unfoldable pub coreMake : ℕ → ℕ → ℕ → Call → List ℕ → List ℕ → Written
 coreMake t client b c kept output =
-    cond (eqb (length kept) keptSize) (clientMake t client b c kept output) (record { result = record { number = wrongSize; count = 0 }; output = output })
+    cond (eqb (length kept) keptSize) (clientMake t client b c kept output)
+    (record { result = record { number = wrongSize; count = 0 }; output = output })
 
 unfoldable pub coreTake : ℕ → ℕ → List ℕ → List (List ℕ) → Call → List ℕ → List ℕ → List ℕ → Took
 coreTake t client writers keys c kept reply output =

@@ -19,7 +19,8 @@ returns c =
     let a = c .before .before .before .args in
     let e = c .before .abort-refusal .ensures in
     let w : length (a .call .tally .marks) ≡ mostServers = search needs in
-    rw (same-abort (a .t) (a .client) (a .call) w, e, refused-is (abortRefusal (shelf (a .t)) (a .client) (awaited (a .call))) _ _ (λ z. c .if1 .taken (e ∙ z)))
+    let n = abortRefusal (shelf (a .t)) (a .client) (awaited (a .call)) in
+    rw (same-abort (a .t) (a .client) (a .call) w, e, refused-is n _ _ (λ z. c .if1 .taken (e ∙ z)))
 
 not-refused : (c : tie.Else1) → abortRefusal (shelf (c .before .before .before .args .t)) (c .before .before .before .args .client)
     (awaited (c .before .before .before .args .call)) ≡ 0

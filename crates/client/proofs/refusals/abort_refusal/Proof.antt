@@ -1,7 +1,6 @@
 -- `client::refusals::abort_refusal` meets its contract: the first test that applies gives its number. Assumes nothing.
 use mathlib.Core.Path.{_≡_, sym, _∙_}
 use mathlib.Core.Bool.{false}
-use lib.Dec.{eqb}
 use borrow.Author.Tests.{eq-eqb, ne-eqb}
 use Rattle.cluster.specs.Config.{shelf}
 use Rattle.protocol.specs.ClientBytes.{awaited}
@@ -25,7 +24,8 @@ returns c = rw (sym (c .before .outside .ensures) ∙ c .if1 .taken)
 returns-2 : tie.Need-returns-2
 unfolding abortRefusal shelf
 returns-2 c =
-    rw (past₁ (c .before .before), rw (c .before .before .before .before .awaited-kind .ensures) at (sym (c .before .bad-client .ensures) ∙ c .if2 .taken))
+    let kind = c .before .before .before .before .awaited-kind .ensures in
+    rw (past₁ (c .before .before), rw kind at (sym (c .before .bad-client .ensures) ∙ c .if2 .taken))
 
 returns-3 : tie.Need-returns-3
 unfolding abortRefusal shelf

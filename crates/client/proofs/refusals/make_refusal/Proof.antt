@@ -18,7 +18,8 @@ past₁ : (c : tie.Else1) → badFaults (shelf (c .before .before .before .args 
 unfolding shelf
 past₁ c = sym (c .before .outside .ensures) ∙ c .if1 .left
 
-past₂ : (c : tie.Else2) → let a = c .before .before .before .before .before .before .args in not (within 1 (shelf (a .t) .servers) (a .server)) ≡ false
+past₂ : (c : tie.Else2) → let a = c .before .before .before .before .before .before .args in
+    not (within 1 (shelf (a .t) .servers) (a .server)) ≡ false
 unfolding shelf
 past₂ c = rw (c .before .before .servers .ensures) at (sym (c .before .outside2 .ensures) ∙ c .if2 .left)
 

@@ -34,7 +34,8 @@ returns-3 : tie.Need-returns-3
 unfolding shelf
 returns-3 c =
     let a = c .before .before .before .before .before .before .before .before .before .before .args in
-    let w : badFaults (shelf (a .t)) ≡ false = sym (c .before .before .before .before .before .outside .ensures) ∙ c .before .before .before .before .if2 .left in
+    let w : badFaults (shelf (a .t)) ≡ false =
+    sym (c .before .before .before .before .before .outside .ensures) ∙ c .before .before .before .before .if2 .left in
     let v = rw (c .before .before .before .awaited-kind .ensures) at (sym (c .before .before .bad-client .ensures) ∙ c .before .if3 .taken) in
     taken-in (a .t) (a .client) (a .writers .now) (a .keys .now) (a .call) (a .kept .now) (a .reply .now) (a .out .now) (c .refused3 .result)
     (a .kept .now) (a .out .now) (wide (c .before .before .before .before .before .before .before .before .before .before))
@@ -48,7 +49,8 @@ unfolding shelf
 take-reply-requires c κs = (
   sym (c .before .before .before .before .before .before .outside .ensures) ∙ c .before .before .before .before .before .if2 .left,
   (
-    rw (c .before .before .before .before .awaited-kind .ensures) at (sym (c .before .before .before .bad-client .ensures) ∙ c .before .before .if3 .left),
+    rw (c .before .before .before .before .awaited-kind .ensures) at
+        (sym (c .before .before .before .bad-client .ensures) ∙ c .before .before .if3 .left),
     c .before .before .before .before .before .before .before .if1 .left,
   ),
 )

@@ -33,8 +33,8 @@ returns c = let a = c .before .before .before .before .args in
 returns-2 : tie.Need-returns-2
 returns-2 c =
     let a = c .before .before .before .before .before .before .args in
-    refuses-5 (a .t) (own-t (c .before .before .before .before .before .before)) (a .work .now) (a .client) (a .server) (server-in (c .before .before))
-    (is-out 1 topClient (a .client) (c .before .outside2 .ensures) (c .if2 .taken))
+    refuses-5 (a .t) (own-t (c .before .before .before .before .before .before)) (a .work .now) (a .client) (a .server)
+    (server-in (c .before .before)) (is-out 1 topClient (a .client) (c .before .outside2 .ensures) (c .if2 .taken))
 
 call-of-requires : tie.Need-call-of-requires
 call-of-requires c κs = client-in c
