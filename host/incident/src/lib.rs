@@ -4,9 +4,14 @@
 pub mod call;
 pub mod card;
 pub mod keys;
+pub mod kills;
 pub mod link;
+pub mod load;
+pub mod old_rule;
 pub mod random;
+pub mod search;
 pub mod serve;
+pub mod story;
 pub mod words;
 
 pub const CLIENTS: usize = 16;

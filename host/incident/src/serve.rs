@@ -3,9 +3,11 @@
 use crate::card::Card;
 use crate::keys::BoxKeys;
 use crate::link::{self, DATAGRAM};
+use crate::{servers, words};
 use cendrulas::{server_blank, server_take, PACKET_ROOM, SERVER_MEMORY};
 use std::io;
 use std::net::{SocketAddr, UdpSocket};
+use std::path::Path;
 use std::time::{Duration, Instant};
 
 /// How a box keeps its memory and sends a reply. The order of the two is what it promises.
@@ -22,6 +24,16 @@ impl Keep for Card {
         }
         send().unwrap_or_else(|e| eprintln!("box: a reply can't be sent: {e}"));
         Ok(())
+    }
+}
+
+/// A wrong box, for the test of kills: it replies first and keeps afterwards.
+pub struct Hasty(pub Card);
+
+impl Keep for Hasty {
+    fn reply(&mut self, changed: Option<&[u8]>, send: &mut dyn FnMut() -> io::Result<()>) -> Result<(), String> {
+        send().map_err(|e| e.to_string())?;
+        changed.map_or(Ok(()), |memory| self.0.replace(memory))
     }
 }
 
@@ -47,8 +59,22 @@ pub fn answer(keys: &BoxKeys, memory: &mut [u8], datagram: &[u8]) -> Result<Opti
     }
 }
 
-/// Serves until the time is over, or for ever.
-pub fn serve(socket: &UdpSocket, keys: &BoxKeys, mut memory: Vec<u8>, keep: &mut dyn Keep, time: Option<Duration>) -> Result<(), String> {
+/// Starts a box: reads keys and card, says where it listens, and serves until the time is over, or for ever.
+pub fn run<K: Keep>(card: &Path, key: &Path, address: &str, time: Option<Duration>, keep: impl FnOnce(Card) -> K) -> Result<(), String> {
+    let keys = BoxKeys::read(key)?;
+    let locked = Card::lock(card)?;
+    let memory = locked.read()?;
+    // The card says whose it is. The library would drop every packet of a shelf or a box that is not the memory's own.
+    if memory.get(..2) != Some(&[keys.t as u8, keys.number as u8]) {
+        return Err(format!("{}: it is not the card of box {} of {}", card.display(), keys.number, servers(keys.t)));
+    }
+    let socket = UdpSocket::bind(words::address(address)?).map_err(|e| format!("{address}: {e}"))?;
+    let at = socket.local_addr().map_err(|e| e.to_string())?;
+    println!("box {} of {} listens on {at}", keys.number, servers(keys.t));
+    serve(&socket, &keys, memory, &mut keep(locked), time)
+}
+
+fn serve(socket: &UdpSocket, keys: &BoxKeys, mut memory: Vec<u8>, keep: &mut dyn Keep, time: Option<Duration>) -> Result<(), String> {
     let end = time.map(|time| Instant::now() + time);
     let mut datagram = [0; DATAGRAM + 1];
     loop {

@@ -1,0 +1,134 @@
+//! Every order of the packets of the teacher's story, with each box in turn as the bad one, under our client and under the old rule.
+
+pub mod orders;
+mod quick;
+pub mod report;
+pub mod world;
+
+use orders::{Load, Orders, State, Step, Story};
+use quick::QuickMap;
+use std::collections::VecDeque;
+use world::{Id, World, BOXES};
+
+pub const OLD: u32 = 1;
+pub const NEW: u32 = 2;
+const WRITER: u8 = 1;
+/// Records 1 and 2: last week's and today's.
+const RECORDS: [&[u8]; 2] = [b"last week's trace", b"today's trace"];
+
+/// What a search found.
+#[derive(Default)]
+pub struct Found {
+    /// Different states that were reached.
+    pub states: usize,
+    /// Ways through these states from the first to a last one.
+    pub orders: u128,
+    /// Ways that end with an older record at table six than table four had shown.
+    pub older: u128,
+    /// Ways that end with a load that waits for ever.
+    pub waiting: u128,
+}
+
+/// Last week: the old record is saved on every box, and the new save has its number. Then its store packets are under way.
+pub fn first_state(orders: &mut Orders) -> State {
+    let world = &mut *orders.world;
+    let mut boxes: [Id; BOXES] = std::array::from_fn(|k| world.blank(k + 1));
+    let old = world.begun(WRITER, None, Some((RECORDS[0], 1)));
+    let saved = play(world, &mut boxes, old, 0);
+    let new = world.begun(WRITER, Some(saved), Some((RECORDS[1], 2)));
+    let writer = play(world, &mut boxes, new, 2);
+    let mut state = State { boxes, writer: Some(writer), loads: [Load::NotBegun; 2], flight: Vec::new() };
+    orders.send(&mut state, writer, 1);
+    orders.begin_next(&mut state);
+    state
+}
+
+/// Visits all boxes round by round until the call is in the given round (0: has ended).
+fn play(world: &mut World, boxes: &mut [Id; BOXES], mut client: Id, until: u8) -> Id {
+    for _round in 1..=3 {
+        let questions: Vec<Id> = (1..=BOXES).map(|server| world.make(client, server)).collect();
+        for (server, question) in questions.into_iter().enumerate() {
+            let (memory, reply) = world.serve(boxes[server], question);
+            boxes[server] = memory;
+            client = world.take(client, reply).client;
+        }
+        if world.round(client) == until {
+            return client;
+        }
+    }
+    unreachable!("a save has three rounds")
+}
+
+fn older(state: &State) -> bool {
+    matches!(state.loads, [Load::Shown(four), Load::Shown(six)] if six < four)
+}
+
+/// A story is over when table six shows a record, or when table four showed the old one: then there is none older.
+fn over(state: &State) -> bool {
+    matches!(state.loads, [Load::Shown(OLD), _] | [_, Load::Shown(_)])
+}
+
+/// Goes through every order.
+pub fn all(world: &mut World, story: Story) -> Found {
+    let mut orders = Orders { world, story };
+    let first = first_state(&mut orders);
+    let mut known = QuickMap::default();
+    let counted = count(&mut orders, first, &mut known);
+    Found { states: known.len(), orders: counted[0], older: counted[1], waiting: counted[2] }
+}
+
+/// The ways from a state to an end: all, those that show an older record, those that wait for ever.
+fn count(orders: &mut Orders, state: State, known: &mut QuickMap<State, [u128; 3]>) -> [u128; 3] {
+    if let Some(&counted) = known.get(&state) {
+        return counted;
+    }
+    let mut sum = [0; 3];
+    if over(&state) {
+        sum = [1, u128::from(older(&state)), 0];
+    } else {
+        let steps = orders.steps(&state);
+        if steps.is_empty() {
+            sum = [1, 0, 1];
+        }
+        for (_, after) in steps {
+            let counted = count(orders, after, known);
+            sum.iter_mut().zip(counted).for_each(|(sum, more)| *sum += more);
+        }
+    }
+    known.insert(state, sum);
+    sum
+}
+
+/// The fewest steps after which table six shows an older record than table four had shown.
+pub fn shortest(world: &mut World, story: Story) -> Option<Vec<Step>> {
+    let mut orders = Orders { world, story };
+    let first = first_state(&mut orders);
+    let mut came_from: QuickMap<State, Option<(State, Step)>> = QuickMap::default();
+    came_from.insert(first.clone(), None);
+    let mut next = VecDeque::from([first]);
+    while let Some(state) = next.pop_front() {
+        if older(&state) {
+            return Some(way(&came_from, state));
+        }
+        if over(&state) {
+            continue;
+        }
+        for (events, after) in orders.steps(&state) {
+            if !came_from.contains_key(&after) {
+                came_from.insert(after.clone(), Some((state.clone(), (events, after.clone()))));
+                next.push_back(after);
+            }
+        }
+    }
+    None
+}
+
+fn way(came_from: &QuickMap<State, Option<(State, Step)>>, mut state: State) -> Vec<Step> {
+    let mut steps = Vec::new();
+    while let Some((before, step)) = &came_from[&state] {
+        steps.push(step.clone());
+        state = before.clone();
+    }
+    steps.reverse();
+    steps
+}

@@ -1,0 +1,271 @@
+//! The story as a set of orders: what can happen next, after everything that has happened.
+//!
+//! A state is the boxes' memories, the clients' states and the packets under way. A packet under way can arrive at any time, or never.
+//! Four things make the search smaller, and none leaves out an order that a load could tell apart:
+//! - A question that changes nothing in its box is answered only when its reply arrives, or just before the box's memory changes. (In
+//!   between nothing could have made the answer another one.)
+//! - The writer gets replies at once: it can then send its next packets, and these may still be late.
+//! - A load of table six begins at once when table four's has shown its record: its questions may be late.
+//! - Packets that can have no effect any more are dropped: replies that their client refuses from now on, and questions whose reply nobody wants
+//!   and that cannot change their box.
+
+use super::world::{Id, World, BOXES};
+use crate::old_rule::{OldLoad, ASKS};
+
+/// Who decides what a load shows.
+#[derive(Clone, Copy, PartialEq, Eq)]
+pub enum Rule {
+    Ours,
+    Old,
+}
+
+#[derive(Clone, Copy, Debug, PartialEq, Eq, Hash)]
+pub enum Load {
+    NotBegun,
+    Ours(Id),
+    Old(OldLoad),
+    Shown(u32),
+}
+
+pub const TABLE_FOUR: u8 = 4;
+pub const TABLE_SIX: u8 = 6;
+const TABLES: [u8; 2] = [TABLE_FOUR, TABLE_SIX];
+const COLLECT: u8 = 7;
+
+#[derive(Clone, PartialEq, Eq, Hash)]
+pub struct State {
+    pub boxes: [Id; BOXES],
+    /// None when its save has ended.
+    pub writer: Option<Id>,
+    pub loads: [Load; 2],
+    /// Questions and replies, sorted.
+    pub flight: Vec<Id>,
+}
+
+/// What happens in a step.
+#[derive(Clone, Copy, Debug, PartialEq, Eq)]
+pub enum Event {
+    /// A question arrives at its box, and the reply is under way.
+    Acts { question: Id, reply: Id },
+    /// A reply that was under way arrives.
+    Arrives { reply: Id },
+    /// A bad box goes back to last week's state.
+    GoesBack { server: usize },
+}
+
+/// What the orders are those of.
+#[derive(Clone, Copy)]
+pub struct Story {
+    pub rule: Rule,
+    /// Which boxes can go back to last week's state, at any moments and as often as they like.
+    pub bad: [bool; BOXES],
+    pub last_week: [Id; BOXES],
+    /// Whether table four begins its load only when the save has ended.
+    pub save_first: bool,
+    /// How often our client sends a question of its second round; the boxes act on each. (Of other questions a second copy adds nothing.)
+    pub filters: usize,
+}
+
+pub struct Orders<'a> {
+    pub world: &'a mut World,
+    pub story: Story,
+}
+
+/// A step: what happens in it, one after the other, and the state afterwards.
+pub type Step = (Vec<Event>, State);
+
+impl Orders<'_> {
+    fn party(&self, packet: Id) -> u8 {
+        self.world.packet(packet)[1]
+    }
+
+    fn server(&self, packet: Id) -> usize {
+        usize::from(self.world.packet(packet)[2])
+    }
+
+    fn kind(&self, packet: Id) -> u8 {
+        self.world.packet(packet)[0]
+    }
+
+    /// Every step that can be next.
+    pub fn steps(&mut self, state: &State) -> Vec<Step> {
+        let mut steps = Vec::new();
+        let mut packets = state.flight.clone();
+        packets.dedup();
+        for packet in packets {
+            if self.kind(packet) % 2 == 0 {
+                let after = self.arrive(without(state, packet), packet);
+                steps.push((vec![Event::Arrives { reply: packet }], after));
+            } else {
+                self.question(state, packet, &mut steps);
+            }
+        }
+        for server in 1..=BOXES {
+            self.going_back(state, server, &mut steps);
+        }
+        steps
+    }
+
+    fn going_back(&mut self, state: &State, server: usize, steps: &mut Vec<Step>) {
+        let last_week = self.story.last_week[server - 1];
+        if !self.story.bad[server - 1] || state.boxes[server - 1] == last_week {
+            return;
+        }
+        for (mut events, mut after) in self.answered_before(state, server) {
+            events.push(Event::GoesBack { server });
+            after.boxes[server - 1] = last_week;
+            steps.push((events, self.pruned(after)));
+        }
+    }
+
+    fn question(&mut self, state: &State, question: Id, steps: &mut Vec<Step>) {
+        let server = self.server(question);
+        let memory = state.boxes[server - 1];
+        let (changed, reply) = self.world.serve(memory, question);
+        let acts = Event::Acts { question, reply };
+        if changed == memory {
+            let after = self.arrive(without(state, question), reply);
+            return steps.push((vec![acts, Event::Arrives { reply }], after));
+        }
+        for (mut events, mut after) in self.answered_before(&without(state, question), server) {
+            events.push(acts);
+            after.boxes[server - 1] = changed;
+            let after = if self.writes(reply) { self.arrive(after, reply) } else { self.pruned(with(after, reply)) };
+            steps.push((events, after));
+        }
+    }
+
+    fn writes(&self, packet: Id) -> bool {
+        !TABLES.contains(&self.party(packet))
+    }
+
+    /// Which of the questions that change nothing at a box it has answered before its memory changes: each choice. Copies of one question are
+    /// answered in any number.
+    fn answered_before(&mut self, state: &State, server: usize) -> Vec<Step> {
+        let mut choices = vec![(Vec::new(), state.clone())];
+        let memory = state.boxes[server - 1];
+        for &question in &state.flight {
+            if self.kind(question) % 2 == 0 || self.server(question) != server || self.writes(question) {
+                continue;
+            }
+            let (changed, reply) = self.world.serve(memory, question);
+            if changed != memory {
+                continue;
+            }
+            for k in 0..choices.len() {
+                let (mut events, before): Step = choices[k].clone();
+                events.push(Event::Acts { question, reply });
+                let choice = (events, with(without(&before, question), reply));
+                if !choices.iter().any(|(_, state)| *state == choice.1) {
+                    choices.push(choice);
+                }
+            }
+        }
+        choices
+    }
+
+    /// A client takes a reply and sends what it has to send then.
+    fn arrive(&mut self, mut state: State, reply: Id) -> State {
+        let party = self.party(reply);
+        let Some(table) = TABLES.iter().position(|&table| table == party) else { return self.write_on(state, reply) };
+        match state.loads[table] {
+            Load::Ours(client) => {
+                let taken = self.world.take(client, reply);
+                state.loads[table] = taken.ended.map_or(Load::Ours(taken.client), Load::Shown);
+                if taken.next_round {
+                    self.send(&mut state, taken.client, self.story.filters);
+                }
+            }
+            Load::Old(mut load) => {
+                let shown = load.take(self.world.packet(reply));
+                state.loads[table] = shown.map_or(Load::Old(load), Load::Shown);
+            }
+            Load::NotBegun | Load::Shown(_) => {}
+        }
+        self.begin_next(&mut state);
+        self.pruned(state)
+    }
+
+    fn write_on(&mut self, mut state: State, reply: Id) -> State {
+        if let Some(writer) = state.writer {
+            let taken = self.world.take(writer, reply);
+            state.writer = if taken.ended.is_some() { None } else { Some(taken.client) };
+            if taken.next_round {
+                self.send(&mut state, taken.client, 1);
+            }
+        }
+        self.begin_next(&mut state);
+        self.pruned(state)
+    }
+
+    /// The next table begins where it is its turn.
+    pub fn begin_next(&mut self, state: &mut State) {
+        let next = match state.loads {
+            [Load::NotBegun, _] if state.writer.is_none() || !self.story.save_first => 0,
+            [Load::Shown(_), Load::NotBegun] => 1,
+            _ => return,
+        };
+        let client = self.world.begun(TABLES[next], None, None);
+        let (load, copies) = match self.story.rule {
+            Rule::Ours => (Load::Ours(client), 1),
+            Rule::Old => (Load::Old(OldLoad::default()), ASKS),
+        };
+        state.loads[next] = load;
+        self.send(state, client, copies);
+    }
+
+    pub fn send(&mut self, state: &mut State, client: Id, copies: usize) {
+        for server in 1..=BOXES {
+            let packet = self.world.make(client, server);
+            state.flight.extend(std::iter::repeat_n(packet, copies));
+        }
+        state.flight.sort_unstable();
+    }
+
+    /// Without the packets that can have no effect any more.
+    fn pruned(&mut self, mut state: State) -> State {
+        let flight = std::mem::take(&mut state.flight);
+        state.flight = flight.into_iter().filter(|&packet| self.matters(&state, packet)).collect();
+        state
+    }
+
+    fn matters(&mut self, state: &State, packet: Id) -> bool {
+        if self.kind(packet) % 2 == 0 {
+            return self.wanted(state, packet);
+        }
+        let server = self.server(packet);
+        let (changed, reply) = self.world.serve(state.boxes[server - 1], packet);
+        // Complete and filter only raise a box's latest candidate, and clock and collect change nothing: of an honest box what does not change it
+        // now never will.
+        let may_change = changed != state.boxes[server - 1] || self.story.bad[server - 1] && ![1, COLLECT].contains(&self.kind(packet));
+        may_change || self.wanted(state, reply)
+    }
+
+    /// Whether a client would still take a reply.
+    fn wanted(&mut self, state: &State, reply: Id) -> bool {
+        let party = self.party(reply);
+        let client = match TABLES.iter().position(|&table| table == party) {
+            None => state.writer,
+            Some(table) => match state.loads[table] {
+                Load::Ours(client) => Some(client),
+                Load::Old(_) => return true,
+                Load::NotBegun | Load::Shown(_) => None,
+            },
+        };
+        client.is_some_and(|client| !self.world.take(client, reply).refused)
+    }
+}
+
+fn without(state: &State, packet: Id) -> State {
+    let mut state = state.clone();
+    let at = state.flight.binary_search(&packet).expect("the packet is under way");
+    state.flight.remove(at);
+    state
+}
+
+fn with(mut state: State, packet: Id) -> State {
+    let at = state.flight.partition_point(|&other| other < packet);
+    state.flight.insert(at, packet);
+    state
+}
+
