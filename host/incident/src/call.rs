@@ -132,8 +132,7 @@ impl Scope {
 
     /// Takes a reply. What is refused is dropped: it changes nothing.
     fn take(&mut self, datagram: &[u8], heard: &mut [bool]) -> Result<Option<Outcome>, String> {
-        let own = |scope, server| if scope == self.keys.number { self.keys.link(server) } else { None };
-        let Some(packet) = link::open(datagram, own) else { return Ok(None) };
+        let Some(packet) = opened(&self.keys, datagram) else { return Ok(None) };
         let replies = self.client.replies();
         let mut record = vec![0; CONTENT_ROOM];
         let answer = self.client.take(&self.keys.lent, packet, &mut record);
@@ -164,6 +163,11 @@ impl Scope {
     pub fn boxes(&self) -> usize {
         servers(self.keys.t)
     }
+}
+
+/// The packet in a datagram, if it is one for this scope and really from the box that it names.
+pub fn opened<'a>(keys: &ScopeKeys, datagram: &'a [u8]) -> Option<&'a [u8]> {
+    link::open(datagram, |scope, server| if scope == keys.number { keys.link(server) } else { None })
 }
 
 /// A scope's card: t, its number, and the client's state.

@@ -25,7 +25,7 @@ const KILLED: usize = 1;
 /// What a box can keep in its life.
 const SAVES: usize = 32;
 /// A kill comes within so many microseconds of the box's work.
-const MOMENT: u64 = 8_000;
+const MOMENT: u64 = 20_000;
 const PATIENCE: Duration = Duration::from_secs(5);
 const HELD: u8 = 10;
 

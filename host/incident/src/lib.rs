@@ -3,6 +3,7 @@
 
 pub mod call;
 pub mod card;
+pub mod forged;
 pub mod keys;
 pub mod kills;
 pub mod link;

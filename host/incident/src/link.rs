@@ -39,7 +39,7 @@ pub fn packet(datagram: &[u8]) -> Option<&[u8]> {
 }
 
 /// The packet in a datagram, if the pair's own key sealed it. `key_of` gives the key of the link with a scope and a box, where there is one.
-pub fn open<'a>(datagram: &'a [u8], key_of: impl FnOnce(usize, usize) -> Option<Key>) -> Option<&'a [u8]> {
+pub fn open(datagram: &[u8], key_of: impl FnOnce(usize, usize) -> Option<Key>) -> Option<&[u8]> {
     let (packet, sealed) = datagram.split_last_chunk::<TAG>()?;
     let (scope, server) = parties(packet)?;
     same(&tag(&key_of(scope, server)?, packet), sealed).then_some(packet)

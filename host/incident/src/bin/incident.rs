@@ -3,7 +3,7 @@
 use incident::search::report;
 use incident::serve::{self, Hasty};
 use incident::story::{self, listing};
-use incident::{kills, load, words};
+use incident::{forged, kills, load, words};
 use std::path::Path;
 use std::process::ExitCode;
 use std::time::Duration;
@@ -11,7 +11,8 @@ use std::time::Duration;
 const USAGE: &str = "usage: incident                    the story with its listing, then every order of its packets
        incident picture FILE        the story as an SVG
        incident kills TIMES SEED    a box is killed at random moments and must keep what it acknowledged
-       incident load                saves and loads per second";
+       incident forged              datagrams that bear a number falsely are dropped
+       incident load                saves and loads per second; the cards are in TMPDIR, else in /tmp";
 const LOAD_SECONDS: Duration = Duration::from_secs(1);
 
 fn main() -> ExitCode {
@@ -23,6 +24,10 @@ fn main() -> ExitCode {
         }
         ["kills", times, seed] => killed(times, seed, false),
         ["kills", times, seed, "hasty"] => killed(times, seed, true),
+        ["forged"] => {
+            println!("{} forged datagrams dropped", forged::forged()?);
+            Ok(())
+        }
         ["load"] => load::load(LOAD_SECONDS),
         ["hasty-box", card, key, address, seconds] => {
             serve::run(Path::new(card), Path::new(key), address, Some(words::seconds(seconds)?), Hasty)

@@ -3,10 +3,12 @@
 pub mod orders;
 mod quick;
 pub mod report;
+pub mod state;
 pub mod world;
 
-use orders::{Load, Orders, State, Step, Story};
+use orders::Orders;
 use quick::QuickMap;
+use state::{Load, State, Step, Story};
 use std::collections::VecDeque;
 use world::{Id, World, BOXES};
 

@@ -1,6 +1,7 @@
 //! What the search says, as text.
 
-use super::orders::{Event, Orders, Rule, Story, TABLE_FOUR, TABLE_SIX};
+use super::orders::Orders;
+use super::state::{Event, Rule, Story, TABLE_FOUR, TABLE_SIX};
 use super::world::{World, BOXES, T};
 use super::{all, first_state, shortest, Found};
 use crate::old_rule;
@@ -47,12 +48,14 @@ fn results(rows: &[Row]) -> Vec<Found> {
     let left = Mutex::new((0..rows.len()).collect::<Vec<_>>());
     let done = Mutex::new(Vec::new());
     let cores = std::thread::available_parallelism().map_or(1, usize::from);
-    let work = || loop {
-        let Some(k) = left.lock().ok().and_then(|mut left| left.pop()) else { break };
-        let mut world = World::new();
-        let story = story(&mut world, rows[k]);
-        let found = all(&mut world, story);
-        done.lock().expect("no thread has stopped").push((k, found));
+    let next = || left.lock().ok()?.pop();
+    let work = || {
+        while let Some(k) = next() {
+            let mut world = World::default();
+            let story = story(&mut world, rows[k]);
+            let found = all(&mut world, story);
+            done.lock().expect("no thread has stopped").push((k, found));
+        }
     };
     std::thread::scope(|threads| (0..cores).for_each(|_| drop(threads.spawn(work))));
     let mut done = done.into_inner().expect("no thread has stopped");
@@ -96,7 +99,7 @@ fn grouped(n: u128) -> String {
 pub fn shortest_order() -> Option<Vec<String>> {
     let mut lines = Vec::new();
     for bad in [[1], [2], [3], [4]].iter() {
-        let mut world = World::new();
+        let mut world = World::default();
         let story = story(&mut world, Row { rule: Rule::Old, bad, save_first: true });
         let steps = shortest(&mut world, story)?;
         lines.push(format!("The old rule's shortest order with box {} bad has {} steps.", bad[0], steps.len()));

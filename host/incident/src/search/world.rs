@@ -51,14 +51,17 @@ pub struct World {
     made: QuickMap<(Id, usize), Id>,
 }
 
-impl World {
-    pub fn new() -> Self {
-        let servers: Vec<u8> = (1..=13).flat_map(|server| [server; 32]).collect();
-        let keys = Keys { writers: [0xFF; 32], servers: servers.try_into().unwrap_or([0; SERVER_KEYS]) };
+/// A world with the drill's keys: box i's is 32 bytes of i, the writers' 32 bytes FFh.
+impl Default for World {
+    fn default() -> Self {
+        let servers: [u8; SERVER_KEYS] = std::array::from_fn(|k| (k / 32) as u8 + 1);
+        let keys = Keys { writers: [0xFF; 32], servers };
         let (memories, packets, clients) = Default::default();
         World { keys, memories, packets, clients, served: QuickMap::default(), taken: QuickMap::default(), made: QuickMap::default() }
     }
+}
 
+impl World {
     pub fn blank(&mut self, server: usize) -> Id {
         let mut memory = vec![0; SERVER_MEMORY];
         assert_eq!(server_blank(&mut memory, T, server).refusal, 0);

@@ -25,7 +25,7 @@ pub fn record_name(record: Record) -> &'static str {
 pub fn says_text(says: Says) -> String {
     match says {
         Says::Latest(record) => record_name(record).to_owned(),
-        Says::Filtered(record, true) => format!("{}+part", record_name(record)),
+        Says::Filtered(record, true) => format!("{} + part", record_name(record)),
         Says::Filtered(record, false) => record_name(record).to_owned(),
         Says::Done => "done".to_owned(),
     }
@@ -37,18 +37,16 @@ pub fn lines(told: &[Happening]) -> Vec<String> {
     let mut open = None;
     for happening in told {
         if let Happening::Visit { scope, kind, server, again, says } = happening {
-            if open != Some((*scope, *kind)) {
-                lines.push(format!("  {:<9}", round_name(*kind)));
-                open = Some((*scope, *kind));
+            let reply = format!("box {server}{}: {}", if *again { " again" } else { "" }, says_text(*says));
+            match lines.last_mut().filter(|_| open == Some((scope, kind))) {
+                Some(line) => *line = format!("{line}  {reply:<17}"),
+                None => lines.push(format!("  {:<9} {reply:<17}", round_name(*kind))),
             }
-            let name = format!("box {server}{}: {}", if *again { " again" } else { "" }, says_text(*says));
-            if let Some(line) = lines.last_mut() {
-                *line = format!("{line} {name:<17}").trim_end().to_owned() + " ";
-            }
-            continue;
+            open = Some((scope, kind));
+        } else {
+            open = None;
+            lines.extend(other(happening));
         }
-        open = None;
-        lines.extend(other(happening));
     }
     lines.into_iter().map(|line| line.trim_end().to_owned()).collect()
 }

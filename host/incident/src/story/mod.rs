@@ -1,6 +1,7 @@
 //! The teacher's case, on processes: four boxes, a desk that saves and two tables that load. The network carries packets in a fixed order. Beside
 //! each table's client the old rule looks at the same replies.
 
+mod frame;
 pub mod listing;
 pub mod network;
 pub mod picture;

@@ -3,19 +3,19 @@
 
 use super::listing::{record_name, round_name};
 use super::svg::{at, Drawing, Layer, Point, BAD, GREY, INK, NEW, OLD};
-use super::{Happening, Record, Says, Whose, BOXES, DESK, FOUR, SIX, WORN};
+use super::{Happening, Record, Says, Whose, BOXES, DESK, FOUR};
 
-const WIDTH: f64 = 1180.0;
-const TOP: f64 = 122.0;
+pub const WIDTH: f64 = 1180.0;
+pub const TOP: f64 = 122.0;
 const ROW: f64 = 25.0;
 /// A reply arrives so much lower than its box sent it.
 const FALL: f64 = 11.0;
 
-fn box_lane(server: usize) -> f64 {
+pub fn box_lane(server: usize) -> f64 {
     150.0 + 125.0 * server as f64
 }
 
-fn scope_lane(scope: usize) -> f64 {
+pub fn scope_lane(scope: usize) -> f64 {
     match scope {
         DESK => 120.0,
         FOUR => 780.0,
@@ -32,12 +32,12 @@ fn colour(record: Record) -> &'static str {
 }
 
 /// What has been drawn so far.
-struct Picture {
-    drawing: Drawing,
-    y: f64,
+pub struct Picture {
+    pub drawing: Drawing,
+    pub y: f64,
     /// Of every box: the record that it names, and from which height on.
-    named: [(Record, f64); BOXES],
-    worn_from: Option<f64>,
+    pub named: [(Record, f64); BOXES],
+    pub worn_from: Option<f64>,
     /// Where the present round's questions left, in the order of the copies, and what is counted of its replies.
     asked: Vec<Point>,
     boxes: Vec<usize>,
@@ -177,7 +177,7 @@ impl Picture {
         }
     }
 
-    fn lane(&mut self, server: usize, record: Record, from: f64) {
+    pub fn lane(&mut self, server: usize, record: Record, from: f64) {
         let x = box_lane(server);
         self.drawing.line(Layer::Back, at(x, from), at(x, self.y), &format!(r#"stroke="{}" stroke-width="7""#, colour(record)));
     }
@@ -217,55 +217,6 @@ impl Picture {
             self.drawing.text(at(lane - 96.0, self.y + 26.0), "end", &style, "older than at table four");
         }
         self.y += 44.0;
-    }
-
-    fn end(mut self) -> String {
-        self.y += 14.0;
-        let bottom = self.y;
-        let from = self.worn_from.unwrap_or(bottom);
-        let mut worn = Drawing::default();
-        worn.rect(Layer::Back, at(box_lane(WORN) - 15.0, from), 30.0, bottom - from, r#"fill="url(#worn)""#);
-        self.drawing = std::mem::take(&mut self.drawing).upon(worn);
-        for server in 1..=BOXES {
-            let (record, from) = self.named[server - 1];
-            self.lane(server, record, from);
-            let name = format!("box {server}");
-            let (ink, under) = if server == WORN { (BAD, "worn card") } else { (INK, "") };
-            self.head(box_lane(server), &name, under, ink);
-        }
-        for (scope, name, under) in [(DESK, "desk", "scope 1"), (FOUR, "table four", "scope 4"), (SIX, "table six", "scope 6")] {
-            let lane = scope_lane(scope);
-            self.drawing.line(Layer::Back, at(lane, TOP), at(lane, bottom), &format!(r#"stroke="{INK}" stroke-width="1.5""#));
-            self.head(lane, name, under, INK);
-        }
-        self.legend();
-        self.drawing.file(WIDTH, self.y, "The teacher's case: the old rule shows the new trace at table four and then the old one at table six; our client shows the new one at both.")
-    }
-
-    fn head(&mut self, x: f64, name: &str, under: &str, ink: &str) {
-        self.drawing.text(at(x, TOP - 22.0), "middle", &format!(r#"font-size="15" font-weight="bold" fill="{ink}""#), name);
-        self.drawing.text(at(x, TOP - 6.0), "middle", &format!(r#"font-size="11.5" fill="{ink}""#), under);
-    }
-
-    fn legend(&mut self) {
-        let title = format!(r#"font-size="21" font-weight="bold" fill="{INK}""#);
-        self.drawing.text(at(20.0, 36.0), "start", &title, "The teacher's case");
-        let small = format!(r#"font-size="12.5" fill="{INK}""#);
-        self.drawing.text(at(20.0, 60.0), "start", &small, "Four boxes, of which one may fail (t = 1). Time goes down. Both rules get the same packets.");
-        let y = self.y + 24.0;
-        self.drawing.line(Layer::Front, at(20.0, y - 14.0), at(WIDTH - 20.0, y - 14.0), &format!(r#"stroke="{GREY}""#));
-        for (x, colour, words) in [(24.0, OLD, "the box names the old trace as its latest"), (360.0, NEW, "the box names the new one")] {
-            self.drawing.line(Layer::Front, at(x, y + 10.0), at(x + 34.0, y + 10.0), &format!(r#"stroke="{colour}" stroke-width="7""#));
-            self.drawing.text(at(x + 44.0, y + 14.0), "start", &small, words);
-        }
-        self.drawing.cross(at(640.0, y + 10.0), 5.0);
-        self.drawing.text(at(656.0, y + 14.0), "start", &small, "a packet is lost or late; a card goes back");
-        self.drawing.arrow(at(20.0, y + 36.0), at(66.0, y + 36.0), GREY, 0.9);
-        self.drawing.text(at(68.0, y + 40.0), "start", &small, "a scope's question");
-        self.drawing.arrow(at(220.0, y + 36.0), at(266.0, y + 36.0), NEW, 1.9);
-        self.drawing.text(at(268.0, y + 40.0), "start", &small, "a box's reply, in the colour of the record that it names");
-        self.drawing.text(at(640.0, y + 40.0), "start", &small, "+ part: with a fragment; two parts prove a record");
-        self.y = y + 62.0;
     }
 }
 
