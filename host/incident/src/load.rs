@@ -13,19 +13,19 @@ const SAVES: usize = 32;
 const PATIENCE: Duration = Duration::from_secs(20);
 const RECORD: usize = 1_024;
 
-/// Prints a row for each t and for one scope and four at a time.
+/// Prints a row for each t, for one scope and for four at a time: calls per second, and how much longer one takes than with t = 1.
 pub fn load(seconds: Duration) -> Result<(), String> {
-    println!("{:>2} {:>6} {:>7} {:>10} {:>10} {:>12} {:>12}", "t", "boxes", "scopes", "saves/s", "loads/s", "ms for one", "ms for one");
-    println!("{:>49} {:>12}", "save", "load");
-    for (t, scopes) in (1..=4).flat_map(|t| [(t, 1), (t, 4)]) {
-        let (saves, loads) = measure(t, scopes, seconds)?;
-        let alone = |per_second: f64| 1_000.0 * scopes as f64 / per_second;
-        println!(
-            "{t:>2} {:>6} {scopes:>7} {saves:>10.1} {loads:>10.1} {:>12.2} {:>12.2}",
-            servers(t),
-            alone(saves),
-            alone(loads)
-        );
+    println!("cards and states in {}, records of {RECORD} bytes", std::env::temp_dir().display());
+    for scopes in [1, 4] {
+        println!("scopes  t  boxes  saves/s  loads/s  ms to save  ms to load  save to t = 1  load to t = 1");
+        let mut first = None;
+        for t in 1..=4 {
+            let (saves, loads) = measure(t, scopes, seconds)?;
+            let (to_save, to_load) = (1_000.0 * scopes as f64 / saves, 1_000.0 * scopes as f64 / loads);
+            let (save_1, load_1) = *first.get_or_insert((to_save, to_load));
+            let (boxes, save, load) = (servers(t), to_save / save_1, to_load / load_1);
+            println!("{scopes:>6} {t:>2} {boxes:>6} {saves:>8.0} {loads:>8.0} {to_save:>11.2} {to_load:>11.2} {save:>14.1} {load:>14.1}");
+        }
     }
     Ok(())
 }
