@@ -35,9 +35,9 @@ pub struct Found {
 pub fn first_state(orders: &mut Orders) -> State {
     let world = &mut *orders.world;
     let mut boxes: [Id; BOXES] = std::array::from_fn(|k| world.blank(k + 1));
-    let old = world.begun(WRITER, None, Some((RECORDS[0], 1)));
+    let old = world.begin_save(WRITER, None, RECORDS[0], 1);
     let saved = play(world, &mut boxes, old, 0);
-    let new = world.begun(WRITER, Some(saved), Some((RECORDS[1], 2)));
+    let new = world.begin_save(WRITER, Some(saved), RECORDS[1], 2);
     let writer = play(world, &mut boxes, new, 2);
     let mut state = State { boxes, writer: Some(writer), loads: [Load::NotBegun; 2], flight: Vec::new() };
     orders.send(&mut state, writer, 1);

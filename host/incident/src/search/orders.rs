@@ -14,6 +14,8 @@ use super::world::{Id, World, BOXES};
 use crate::old_rule::{OldLoad, ASKS};
 
 const COLLECT: u8 = 7;
+/// No client's number.
+const NOBODY: u8 = 0;
 
 pub struct Orders<'a> {
     pub world: &'a mut World,
@@ -60,7 +62,7 @@ impl Orders<'_> {
         for (mut events, mut after) in self.answered_before(state, server) {
             events.push(Event::GoesBack { server });
             after.boxes[server - 1] = last_week;
-            steps.push((events, self.pruned(after)));
+            steps.push((events, self.pruned(after, server, NOBODY)));
         }
     }
 
@@ -76,7 +78,7 @@ impl Orders<'_> {
         for (mut events, mut after) in self.answered_before(&without(state, question), server) {
             events.push(acts);
             after.boxes[server - 1] = changed;
-            let after = if self.writes(reply) { self.arrive(after, reply) } else { self.pruned(with(after, reply)) };
+            let after = if self.writes(reply) { self.arrive(after, reply) } else { self.pruned(with(after, reply), server, NOBODY) };
             steps.push((events, after));
         }
     }
@@ -129,7 +131,8 @@ impl Orders<'_> {
             Load::NotBegun | Load::Shown(_) => {}
         }
         self.begin_next(&mut state);
-        self.pruned(state)
+        let server = self.server(reply);
+        self.pruned(state, server, party)
     }
 
     fn write_on(&mut self, mut state: State, reply: Id) -> State {
@@ -141,7 +144,8 @@ impl Orders<'_> {
             }
         }
         self.begin_next(&mut state);
-        self.pruned(state)
+        let (server, party) = (self.server(reply), self.party(reply));
+        self.pruned(state, server, party)
     }
 
     /// The next table begins where it is its turn.
@@ -151,7 +155,7 @@ impl Orders<'_> {
             [Load::Shown(_), Load::NotBegun] => 1,
             _ => return,
         };
-        let client = self.world.begun(TABLES[next], None, None);
+        let client = self.world.begin_load(TABLES[next]);
         let (load, copies) = match self.story.rule {
             Rule::Ours => (Load::Ours(client), 1),
             Rule::Old => (Load::Old(OldLoad::default()), ASKS),
@@ -168,10 +172,11 @@ impl Orders<'_> {
         state.flight.sort_unstable();
     }
 
-    /// Without the packets that can have no effect any more.
-    fn pruned(&mut self, mut state: State) -> State {
-        let flight = std::mem::take(&mut state.flight);
-        state.flight = flight.into_iter().filter(|&packet| self.matters(&state, packet)).collect();
+    /// Without the packets that can have no effect any more, after a step of this box and this client. It can only have touched their packets.
+    fn pruned(&mut self, mut state: State, server: usize, party: u8) -> State {
+        let mut flight = std::mem::take(&mut state.flight);
+        flight.retain(|&packet| (self.server(packet) != server && self.party(packet) != party) || self.matters(&state, packet));
+        state.flight = flight;
         state
     }
 

@@ -2,7 +2,6 @@
 //! is computed once. So a search can go over millions of orders, and every step in it is still the library's own.
 
 use cendrulas::{server_blank, server_take, Answer, Client, Keys, CONTENT_ROOM, PACKET_ROOM, SERVER_KEYS, SERVER_MEMORY};
-use super::quick::QuickMap;
 use super::RECORDS;
 use std::collections::HashMap;
 
@@ -31,6 +30,23 @@ impl Table {
     }
 }
 
+/// What is known of pairs of numbers.
+struct Grid<T>(Vec<Vec<Option<T>>>);
+
+impl<T: Copy> Grid<T> {
+    fn get(&self, a: Id, b: Id) -> Option<T> {
+        *self.0.get(usize::from(a))?.get(usize::from(b))?
+    }
+
+    fn set(&mut self, a: Id, b: Id, value: T) {
+        let (a, b) = (usize::from(a), usize::from(b));
+        self.0.resize_with(self.0.len().max(a + 1), Vec::new);
+        let row = &mut self.0[a];
+        row.resize(row.len().max(b + 1), None);
+        row[b] = Some(value);
+    }
+}
+
 /// What a client's step led to.
 #[derive(Clone, Copy)]
 pub struct Taken {
@@ -46,9 +62,10 @@ pub struct World {
     memories: Table,
     packets: Table,
     clients: Table,
-    served: QuickMap<(Id, Id), (Id, Id)>,
-    taken: QuickMap<(Id, Id), Taken>,
-    made: QuickMap<(Id, usize), Id>,
+    served: Grid<(Id, Id)>,
+    taken: Grid<Taken>,
+    made: Grid<Id>,
+    loads: HashMap<u8, Id>,
 }
 
 /// A world with the drill's keys: box i's is 32 bytes of i, the writers' 32 bytes FFh.
@@ -57,7 +74,7 @@ impl Default for World {
         let servers: [u8; SERVER_KEYS] = std::array::from_fn(|k| (k / 32) as u8 + 1);
         let keys = Keys { writers: [0xFF; 32], servers };
         let (memories, packets, clients) = Default::default();
-        World { keys, memories, packets, clients, served: QuickMap::default(), taken: QuickMap::default(), made: QuickMap::default() }
+        World { keys, memories, packets, clients, served: Grid(vec![]), taken: Grid(vec![]), made: Grid(vec![]), loads: HashMap::new() }
     }
 }
 
@@ -82,15 +99,23 @@ impl World {
         self.clients.id(&[&[number], client.state()].concat())
     }
 
-    /// A client that was never used and begins: a save of a record, or a load.
-    pub fn begun(&mut self, number: u8, from: Option<Id>, save: Option<(&[u8], u8)>) -> Id {
+    /// A client begins a save of a record with a nonce of this byte. `from` is its state; none for one that was never used.
+    pub fn begin_save(&mut self, number: u8, from: Option<Id>, record: &[u8], nonce: u8) -> Id {
         let mut client = from.map_or_else(|| Client::new(T, usize::from(number)), |id| self.client(id));
-        let begun = match save {
-            Some((record, nonce)) => client.begin_write(record, &[nonce; 32]),
-            None => client.begin_read(),
-        };
-        assert_eq!(begun.refusal, 0);
+        assert_eq!(client.begin_write(record, &[nonce; 32]).refusal, 0);
         self.client_id(number, &client)
+    }
+
+    /// A client that was never used begins a load.
+    pub fn begin_load(&mut self, number: u8) -> Id {
+        if let Some(&begun) = self.loads.get(&number) {
+            return begun;
+        }
+        let mut client = Client::new(T, usize::from(number));
+        assert_eq!(client.begin_read().refusal, 0);
+        let begun = self.client_id(number, &client);
+        self.loads.insert(number, begun);
+        begun
     }
 
     pub fn round(&self, client: Id) -> u8 {
@@ -99,7 +124,7 @@ impl World {
 
     /// A box takes a question: its memory afterwards, and the reply.
     pub fn serve(&mut self, memory: Id, packet: Id) -> (Id, Id) {
-        if let Some(&done) = self.served.get(&(memory, packet)) {
+        if let Some(done) = self.served.get(memory, packet) {
             return done;
         }
         let mut bytes = self.memories.contents[usize::from(memory)].clone();
@@ -109,13 +134,13 @@ impl World {
         let answer = server_take(&mut bytes, &key, question, &mut reply);
         assert_eq!(answer.refusal, 0, "right scopes' packets are accepted");
         let done = (self.memories.id(&bytes), self.packets.id(&reply[..answer.count]));
-        self.served.insert((memory, packet), done);
+        self.served.set(memory, packet, done);
         done
     }
 
     /// A client takes a reply. The same reply once more is refused and changes nothing, so one copy of a reply is as good as many.
     pub fn take(&mut self, client: Id, packet: Id) -> Taken {
-        if let Some(&done) = self.taken.get(&(client, packet)) {
+        if let Some(done) = self.taken.get(client, packet) {
             return done;
         }
         let mut after = self.client(client);
@@ -130,20 +155,20 @@ impl World {
         let ended = (answer.result != 0).then_some(answer.number);
         let next_round = after.round() != round && ended.is_none();
         let done = Taken { client: self.client_id(number, &after), refused: answer.refusal != 0, ended, next_round };
-        self.taken.insert((client, packet), done);
+        self.taken.set(client, packet, done);
         done
     }
 
     /// The present round's packet for a box.
     pub fn make(&mut self, client: Id, server: usize) -> Id {
-        if let Some(&made) = self.made.get(&(client, server)) {
+        if let Some(made) = self.made.get(client, server as Id) {
             return made;
         }
         let mut packet = vec![0; PACKET_ROOM];
         let answer = self.client(client).make(server, &mut packet);
         assert_eq!(answer.refusal, 0, "a call is in hand");
         let made = self.packets.id(&packet[..answer.count]);
-        self.made.insert((client, server), made);
+        self.made.set(client, server as Id, made);
         made
     }
 }
