@@ -3,7 +3,7 @@
 //! What the scope has taken in is durable before a packet goes out and before a result is shown. Steps that are lost with the power in between
 //! have been seen by nobody: it is as if their packets had been late.
 
-use crate::card::Card;
+use crate::card::{Card, Durable};
 use crate::keys::ScopeKeys;
 use crate::link::{self, DATAGRAM};
 use crate::serve::received;
@@ -26,10 +26,10 @@ pub enum Outcome {
     GivenUp { round: &'static str, replies: usize, read_later: bool },
 }
 
-pub struct Scope {
+pub struct Scope<D = Card> {
     client: Client,
     keys: ScopeKeys,
-    card: Card,
+    card: D,
     /// Whether the client's state is newer than the card.
     ahead: bool,
 }
@@ -41,14 +41,16 @@ impl Scope {
         card.create(&content(&client, &keys))?;
         Ok(Scope { client, keys, card, ahead: false })
     }
+}
 
-    /// A scope as its card has it.
-    pub fn restore(card: Card, keys: ScopeKeys) -> Result<Self, String> {
+impl<D: Durable> Scope<D> {
+    /// A scope as its card has it. `durable` makes of the card what the scope keeps its state in: the card itself.
+    pub fn restore(card: Card, keys: ScopeKeys, durable: fn(Card) -> D) -> Result<Self, String> {
         let content = card.read()?;
         let own = content.strip_prefix(&[keys.t as u8, keys.number as u8][..]);
         let client = own.and_then(|state| Client::from_state(keys.t, keys.number, state));
         let client = client.ok_or_else(|| format!("the state is not that of scope {} with t = {}", keys.number, keys.t))?;
-        Ok(Scope { client, keys, card, ahead: false })
+        Ok(Scope { client, keys, card: durable(card), ahead: false })
     }
 
     pub fn begin_save(&mut self, record: &[u8]) -> Result<(), String> {

@@ -8,8 +8,15 @@ use std::io::{self, Write};
 use std::os::linux::net::SocketAddrExt;
 use std::os::unix::net::{SocketAddr, UnixDatagram};
 use std::path::{Path, PathBuf};
+use std::sync::mpsc::{channel, Sender};
 
 const DIGEST: usize = 32;
+
+/// What a box and a scope ask of their card.
+pub trait Durable {
+    /// Replaces the content; when this returns, it is durable.
+    fn replace(&self, content: &[u8]) -> Result<(), String>;
+}
 
 /// A card file that this program alone uses.
 pub struct Card {
@@ -74,14 +81,6 @@ impl Card {
         self.replace(content)
     }
 
-    /// Replaces the content; when this returns, it is durable.
-    pub fn replace(&self, content: &[u8]) -> Result<(), String> {
-        let mut beside = self.path.clone().into_os_string();
-        beside.push(".new");
-        let replaced = self.write(Path::new(&beside), content);
-        replaced.map_err(|e| format!("{}: it can't be kept: {e}", self.name))
-    }
-
     fn write(&self, beside: &Path, content: &[u8]) -> io::Result<()> {
         let mut file = OpenOptions::new().write(true).create(true).truncate(true).open(beside)?;
         file.write_all(content)?;
@@ -89,6 +88,32 @@ impl Card {
         file.sync_all()?;
         fs::rename(beside, &self.path)?;
         self.folder.sync_all()
+    }
+}
+
+impl Durable for Card {
+    fn replace(&self, content: &[u8]) -> Result<(), String> {
+        let mut beside = self.path.clone().into_os_string();
+        beside.push(".new");
+        let replaced = self.write(Path::new(&beside), content);
+        replaced.map_err(|e| format!("{}: it can't be kept: {e}", self.name))
+    }
+}
+
+/// A wrong card, for the tests of kills: it returns at once and is replaced a little later.
+pub struct Hasty(Sender<Vec<u8>>);
+
+impl Hasty {
+    pub fn new(card: Card) -> Self {
+        let (later, contents) = channel::<Vec<u8>>();
+        std::thread::spawn(move || contents.iter().try_for_each(|content| card.replace(&content)));
+        Hasty(later)
+    }
+}
+
+impl Durable for Hasty {
+    fn replace(&self, content: &[u8]) -> Result<(), String> {
+        self.0.send(content.to_vec()).map_err(|e| e.to_string())
     }
 }
 

@@ -4,7 +4,7 @@
 //! How a loss is seen. The test knows every reply that the box sent, those of its last moment too: they wait in the test's socket. After each
 //! kill it reads the card, and there every store that was acknowledged must be held (stored again it answers 10), and the latest candidate must be at
 //! least the last one whose complete was acknowledged. Then the box is started again and asked the same. A box that replies before the
-//! card is replaced fails (`Hasty`; host/test tries it). What a kill cannot show is a missing sync: the system keeps what a dead process had
+//! card is replaced fails (`Hasty` in card.rs; host/incident/test tries it). What a kill cannot show is a missing sync: the system keeps what a dead process had
 //! written; only a power cut could tell.
 
 use crate::call;

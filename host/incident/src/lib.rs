@@ -3,6 +3,7 @@
 
 pub mod call;
 pub mod card;
+pub mod cuts;
 pub mod forged;
 pub mod keys;
 pub mod kills;

@@ -1,6 +1,6 @@
 //! A box at work: packets come in, its memory changes, and once that is kept the reply goes out.
 
-use crate::card::Card;
+use crate::card::{Card, Durable};
 use crate::keys::BoxKeys;
 use crate::link::{self, DATAGRAM};
 use crate::{servers, words};
@@ -9,33 +9,6 @@ use std::io;
 use std::net::{SocketAddr, UdpSocket};
 use std::path::Path;
 use std::time::{Duration, Instant};
-
-/// How a box keeps its memory and sends a reply. The order of the two is what it promises.
-pub trait Keep {
-    /// Called with every reply, and with the memory where this packet has changed it.
-    fn reply(&mut self, changed: Option<&[u8]>, send: &mut dyn FnMut() -> io::Result<()>) -> Result<(), String>;
-}
-
-/// First the card, then the reply: whatever was acknowledged is on the card.
-impl Keep for Card {
-    fn reply(&mut self, changed: Option<&[u8]>, send: &mut dyn FnMut() -> io::Result<()>) -> Result<(), String> {
-        if let Some(memory) = changed {
-            self.replace(memory)?;
-        }
-        send().unwrap_or_else(|e| eprintln!("box: a reply can't be sent: {e}"));
-        Ok(())
-    }
-}
-
-/// A wrong box, for the test of kills: it replies first and keeps afterwards.
-pub struct Hasty(pub Card);
-
-impl Keep for Hasty {
-    fn reply(&mut self, changed: Option<&[u8]>, send: &mut dyn FnMut() -> io::Result<()>) -> Result<(), String> {
-        send().map_err(|e| e.to_string())?;
-        changed.map_or(Ok(()), |memory| self.0.replace(memory))
-    }
-}
 
 /// The memory of a box that was never used.
 pub fn blank(keys: &BoxKeys) -> Vec<u8> {
@@ -60,7 +33,8 @@ pub fn answer(keys: &BoxKeys, memory: &mut [u8], datagram: &[u8]) -> Result<Opti
 }
 
 /// Starts a box: reads keys and card, says where it listens, and serves until the time is over, or for ever.
-pub fn run<K: Keep>(card: &Path, key: &Path, address: &str, time: Option<Duration>, keep: impl FnOnce(Card) -> K) -> Result<(), String> {
+/// `durable` makes of the card what the box keeps its memory in: the card itself.
+pub fn run<D: Durable>(card: &Path, key: &Path, address: &str, time: Option<Duration>, durable: fn(Card) -> D) -> Result<(), String> {
     let keys = BoxKeys::read(key)?;
     let locked = Card::lock(card)?;
     let memory = locked.read()?;
@@ -71,10 +45,11 @@ pub fn run<K: Keep>(card: &Path, key: &Path, address: &str, time: Option<Duratio
     let socket = UdpSocket::bind(words::address(address)?).map_err(|e| format!("{address}: {e}"))?;
     let at = socket.local_addr().map_err(|e| e.to_string())?;
     println!("box {} of {} listens on {at}", keys.number, servers(keys.t));
-    serve(&socket, &keys, memory, &mut keep(locked), time)
+    serve(&socket, &keys, memory, &durable(locked), time)
 }
 
-fn serve(socket: &UdpSocket, keys: &BoxKeys, mut memory: Vec<u8>, keep: &mut dyn Keep, time: Option<Duration>) -> Result<(), String> {
+/// First the card, then the reply: whatever was acknowledged is on the card.
+fn serve(socket: &UdpSocket, keys: &BoxKeys, mut memory: Vec<u8>, card: &dyn Durable, time: Option<Duration>) -> Result<(), String> {
     let end = time.map(|time| Instant::now() + time);
     let mut datagram = [0; DATAGRAM + 1];
     loop {
@@ -86,8 +61,12 @@ fn serve(socket: &UdpSocket, keys: &BoxKeys, mut memory: Vec<u8>, keep: &mut dyn
         let Some((n, from)) = received(socket.recv_from(&mut datagram))? else { continue };
         let before = memory.clone();
         let Some(reply) = answer(keys, &mut memory, &datagram[..n])? else { continue };
-        let changed = (memory != before).then_some(&memory[..]);
-        keep.reply(changed, &mut || socket.send_to(&reply, from).map(|_| ()))?;
+        if memory != before {
+            card.replace(&memory)?;
+        }
+        if let Err(e) = socket.send_to(&reply, from) {
+            eprintln!("box: a reply can't be sent: {e}");
+        }
     }
 }
 

@@ -36,7 +36,7 @@ fn main() -> ExitCode {
 }
 
 fn open(state: &str, key: &str) -> Result<Scope, String> {
-    Scope::restore(Card::lock(Path::new(state))?, ScopeKeys::read(Path::new(key))?)
+    Scope::restore(Card::lock(Path::new(state))?, ScopeKeys::read(Path::new(key))?, |card| card)
 }
 
 fn in_hand(scope: &Scope) -> Result<(), String> {

@@ -121,9 +121,20 @@ impl Shelf {
         listening(command)
     }
 
+    /// Gives up the call in hand, if there is one.
+    pub fn give_up(&self, scope: usize) -> Result<(), String> {
+        let mut command = program("scope")?;
+        let done = command.arg("give-up").arg(self.state(scope)).arg(self.scope_key(scope)).output();
+        done.map(|_| ()).map_err(|e| e.to_string())
+    }
+
     /// Starts a scope's call: `save` with a record, `load` without.
     pub fn start_call(&self, scope: usize, boxes: &str, seconds: u64, record: Option<&[u8]>) -> Result<Running, String> {
-        let mut command = program("scope")?;
+        self.start_call_of(program("scope")?, scope, boxes, seconds, record)
+    }
+
+    /// Likewise with another program, which takes the same words.
+    pub fn start_call_of(&self, mut command: Command, scope: usize, boxes: &str, seconds: u64, record: Option<&[u8]>) -> Result<Running, String> {
         command.arg(if record.is_some() { "save" } else { "load" }).arg(self.state(scope)).arg(self.scope_key(scope));
         command.arg(boxes).arg(seconds.to_string());
         command.stdin(Stdio::piped()).stdout(Stdio::piped()).stderr(Stdio::piped());
