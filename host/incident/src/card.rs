@@ -3,6 +3,7 @@
 //! The new content goes to a second file, which is synced, takes the first one's name and is made known in its folder, all before `replace`
 //! returns. The digest at the end tells a damaged file. A lock keeps a second program off; the system lifts it when the holder ends, however it ends.
 
+use crate::words;
 use std::fs::{self, File, OpenOptions};
 use std::io::{self, Write};
 use std::os::linux::net::SocketAddrExt;
@@ -33,10 +34,6 @@ fn digest(bytes: &[u8]) -> [u8; DIGEST] {
     digest
 }
 
-fn hex(bytes: &[u8]) -> String {
-    bytes.iter().map(|byte| format!("{byte:02x}")).collect()
-}
-
 /// The place of a file that need not be there yet, by whatever way it was named.
 fn place(path: &Path) -> io::Result<(PathBuf, PathBuf)> {
     let folder = match path.parent() {
@@ -50,7 +47,7 @@ fn place(path: &Path) -> io::Result<(PathBuf, PathBuf)> {
 
 /// A name in the system's own space, bound for as long as this program runs.
 fn lock(path: &Path) -> io::Result<UnixDatagram> {
-    let name = format!("cendrulas {}", hex(&digest(path.as_os_str().as_encoded_bytes())));
+    let name = format!("cendrulas {}", words::hex(&digest(path.as_os_str().as_encoded_bytes())));
     UnixDatagram::bind_addr(&SocketAddr::from_abstract_name(name)?)
 }
 

@@ -8,6 +8,7 @@ use crate::call;
 use crate::card;
 use crate::keys::BoxKeys;
 use crate::link::{self, DATAGRAM};
+use crate::packet;
 use crate::random::Seeded;
 use crate::serve::{answer, blank};
 use crate::servers;
@@ -57,7 +58,7 @@ pub fn cuts(times: u64, seed: u64, hasty: bool) -> Result<usize, String> {
 
 /// How far a packet shows its scope to be.
 fn place(packet: &[u8]) -> Option<Place> {
-    Some((u32::from_be_bytes(packet.get(4..8)?.try_into().ok()?), packet[0]))
+    Some((packet::call(packet)?, packet[0]))
 }
 
 impl Test {
@@ -100,7 +101,7 @@ impl Test {
         self.socket.set_read_timeout(Some(wait.max(Duration::from_micros(1)))).map_err(|e| e.to_string())?;
         let Ok((n, from)) = self.socket.recv_from(&mut datagram) else { return Ok(false) };
         let packet = link::packet(&datagram[..n]).ok_or("a datagram is too short")?;
-        let (_, server) = link::parties(packet).ok_or("a packet is too short")?;
+        let (_, server) = packet::parties(packet).ok_or("a packet is too short")?;
         self.shown = self.shown.max(place(packet).ok_or("a packet is too short")?);
         self.packets += 1;
         let (keys, memory) = self.boxes.get_mut(server - 1).ok_or("a packet to no box")?;

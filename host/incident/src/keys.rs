@@ -10,6 +10,7 @@
 //! `key` is a box's key, `writers` the writers' key (document 01), `link` the key of the link with a scope or a box (link.rs).
 
 use crate::link::{Key, KEY};
+use crate::words::hex;
 use crate::{random, servers, words, CLIENTS, WRITERS};
 use cendrulas::{Keys, SERVER_KEYS};
 use std::fmt::Write;
@@ -116,10 +117,6 @@ fn unhex(word: &str) -> Option<Key> {
     let digits: Vec<u8> = word.chars().map(|c| c.to_digit(16).map(|digit| digit as u8)).collect::<Option<_>>()?;
     let bytes: Vec<u8> = digits.chunks_exact(2).map(|pair| 16 * pair[0] + pair[1]).collect();
     if digits.len() == 2 * KEY { bytes.try_into().ok() } else { None }
-}
-
-fn hex(key: &Key) -> String {
-    key.iter().map(|byte| format!("{byte:02x}")).collect()
 }
 
 /// The key files of a new shelf, each with its name: `box-1.key` and so on, and `scope-1.key` to `scope-16.key`.

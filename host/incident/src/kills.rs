@@ -2,15 +2,16 @@
 //! it acknowledged may be missing.
 //!
 //! How a loss is seen. The test knows every reply that the box sent, those of its last moment too: they wait in the test's socket. After each
-//! kill it reads the card, and there every store that was acknowledged must be held (stored again it answers 10), and the latest candidate must be at
-//! least the last one whose complete was acknowledged. Then the box is started again and asked the same. A box that replies before the
-//! card is replaced fails (`Hasty` in card.rs; host/incident/test tries it). What a kill cannot show is a missing sync: the system keeps what a dead process had
-//! written; only a power cut could tell.
+//! kill it reads the card, and there every store that was acknowledged must be held (stored again it answers 10), and the latest candidate
+//! must be at least the last one whose complete was acknowledged. Then the box is started again and asked the same. A box that replies before the
+//! card is replaced fails (`Hasty` in card.rs; host/incident/test tries it). What a kill cannot show is a missing sync: the system keeps
+//! what a dead process had written; only a power cut could tell.
 
 use crate::call;
 use crate::card;
 use crate::keys::{BoxKeys, ScopeKeys};
 use crate::link::{self, DATAGRAM};
+use crate::packet;
 use crate::random::{unguessable, Seeded};
 use crate::serve::{answer, blank};
 use crate::story::shelf::{program, Running, Shelf};
@@ -169,12 +170,12 @@ impl Test {
 
     fn has_all(&self, mut ask: impl FnMut(&[u8]) -> Result<Vec<u8>, String>) -> Result<(), String> {
         for (k, store) in self.packets[..self.acknowledged].iter().enumerate().step_by(2) {
-            if ask(store)?.get(8) != Some(&HELD) {
+            if packet::code(&ask(store)?) != Some(HELD) {
                 return Err(format!("save {} was acknowledged and is lost", k / 2 + 1));
             }
         }
         let completed = self.acknowledged / 2;
-        let latest = ask(&self.collect)?.get(8..12).and_then(|number| number.try_into().ok()).map_or(0, u32::from_be_bytes);
+        let latest = packet::stamp_number(&ask(&self.collect)?).unwrap_or(0);
         match latest as usize >= completed {
             true => Ok(()),
             false => Err(format!("save {completed} was completed, and the latest is {latest}")),

@@ -10,6 +10,7 @@ pub mod kills;
 pub mod link;
 pub mod load;
 pub mod old_rule;
+pub mod packet;
 pub mod random;
 pub mod search;
 pub mod serve;

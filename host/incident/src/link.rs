@@ -2,10 +2,11 @@
 //!
 //! A datagram is a packet and its tag under the link key of the pair of box and scope that the packet names. There is one key for each pair,
 //! and only these two hold it. So a lying box cannot speak as another box, and a wild scope not as another scope: neither holds the key. A packet
-//! names its scope (byte 1), its box (byte 2) and its direction (byte 0, the kind: odd from the scope, even from the box), and all three are under the tag.
+//! names its scope, its box and its direction (the kind: odd from the scope, even from the box), and all three are under the tag.
 //! A datagram that is sent back where it came from names the wrong direction, which the library refuses (9 at a box, 12 at a scope).
 //! Copies and delays pass: the protocol bears them, so a link needs no counter and remembers nothing.
 
+use crate::packet::parties;
 use cendrulas::PACKET_ROOM;
 
 pub const KEY: usize = 32;
@@ -25,12 +26,6 @@ fn tag(key: &Key, packet: &[u8]) -> [u8; TAG] {
 /// The datagram of a packet.
 pub fn seal(key: &Key, packet: &[u8]) -> Vec<u8> {
     [packet, &tag(key, packet)].concat()
-}
-
-/// The scope and the box that a packet names.
-pub fn parties(packet: &[u8]) -> Option<(usize, usize)> {
-    let [_, scope, server, ..] = packet else { return None };
-    Some((usize::from(*scope), usize::from(*server)))
 }
 
 /// The packet in a datagram, whoever sent it.

@@ -3,7 +3,7 @@
 use crate::card::{Card, Durable};
 use crate::keys::BoxKeys;
 use crate::link::{self, DATAGRAM};
-use crate::{servers, words};
+use crate::{packet, servers, words};
 use cendrulas::{server_blank, server_take, PACKET_ROOM, SERVER_MEMORY};
 use std::io;
 use std::net::{SocketAddr, UdpSocket};
@@ -25,7 +25,7 @@ pub fn answer(keys: &BoxKeys, memory: &mut [u8], datagram: &[u8]) -> Result<Opti
     let mut reply = [0; PACKET_ROOM];
     let answer = server_take(memory, &keys.key, packet, &mut reply);
     match answer.refusal {
-        0 => Ok(link::parties(packet).and_then(|(scope, _)| keys.link(scope)).map(|key| link::seal(&key, &reply[..answer.count]))),
+        0 => Ok(packet::parties(packet).and_then(|(scope, _)| keys.link(scope)).map(|key| link::seal(&key, &reply[..answer.count]))),
         2 => Err("the card does not hold a box's memory: this box is lost, and does not reply".to_owned()),
         7..=9 => Ok(None),
         other => Err(format!("a packet was refused with {other}")),

@@ -32,3 +32,7 @@ pub fn address(word: &str) -> Result<SocketAddr, String> {
     let mut found = word.to_socket_addrs().map_err(|e| format!("\"{word}\" is no address like 127.0.0.1:4101: {e}"))?;
     found.next().ok_or_else(|| format!("\"{word}\" names no address"))
 }
+
+pub fn hex(bytes: &[u8]) -> String {
+    bytes.iter().map(|byte| format!("{byte:02x}")).collect()
+}

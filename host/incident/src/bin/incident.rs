@@ -1,9 +1,9 @@
 //! The teacher's case on real processes, and tests of `box` and `scope`. docs/PAGE-41.md tells the story and has the listing.
 
 use incident::call::{self, Scope};
-use incident::search::report;
 use incident::card::{Card, Hasty};
 use incident::keys::ScopeKeys;
+use incident::search::report;
 use incident::serve;
 use incident::story::{self, listing};
 use incident::{cuts, forged, kills, load, words};

@@ -25,6 +25,8 @@ pub struct Found {
     pub states: usize,
     /// Ways through these states from the first to a last one.
     pub orders: u128,
+    /// Ways in which table four shows the old record.
+    pub old_at_four: u128,
     /// Ways that end with an older record at table six than table four had shown.
     pub older: u128,
     /// Ways that end with a load that waits for ever.
@@ -76,21 +78,22 @@ pub fn all(world: &mut World, story: Story) -> Found {
     let first = first_state(&mut orders);
     let mut known = QuickMap::default();
     let counted = count(&mut orders, first, &mut known);
-    Found { states: known.len(), orders: counted[0], older: counted[1], waiting: counted[2] }
+    Found { states: known.len(), orders: counted[0], old_at_four: counted[1], older: counted[2], waiting: counted[3] }
 }
 
-/// The ways from a state to an end: all, those that show an older record, those that wait for ever.
-fn count(orders: &mut Orders, state: State, known: &mut QuickMap<State, [u128; 3]>) -> [u128; 3] {
+/// The ways from a state to an end: all, those with the old record at table four, those with an older one at table six, those that wait for ever.
+fn count(orders: &mut Orders, state: State, known: &mut QuickMap<State, [u128; 4]>) -> [u128; 4] {
     if let Some(&counted) = known.get(&state) {
         return counted;
     }
-    let mut sum = [0; 3];
+    let mut sum = [0; 4];
     if over(&state) {
-        sum = [1, u128::from(older(&state)), 0];
+        let old_at_four = state.loads[0] == Load::Shown(OLD);
+        sum = [1, u128::from(old_at_four), u128::from(older(&state)), 0];
     } else {
         let steps = orders.steps(&state);
         if steps.is_empty() {
-            sum = [1, 0, 1];
+            sum = [1, 0, 0, 1];
         }
         for (_, after) in steps {
             let counted = count(orders, after, known);

@@ -12,8 +12,8 @@
 use super::state::{with, without, Event, Load, Rule, State, Step, Story, TABLES};
 use super::world::{Id, World, BOXES};
 use crate::old_rule::{OldLoad, ASKS};
+use crate::packet::{is_reply, CLOCK, COLLECT};
 
-const COLLECT: u8 = 7;
 /// No client's number.
 const NOBODY: u8 = 0;
 
@@ -41,7 +41,7 @@ impl Orders<'_> {
         let mut packets = state.flight.clone();
         packets.dedup();
         for packet in packets {
-            if self.kind(packet) % 2 == 0 {
+            if is_reply(self.world.packet(packet)) {
                 let after = self.arrive(without(state, packet), packet);
                 steps.push((vec![Event::Arrives { reply: packet }], after));
             } else {
@@ -93,7 +93,7 @@ impl Orders<'_> {
         let mut choices = vec![(Vec::new(), state.clone())];
         let memory = state.boxes[server - 1];
         for &question in &state.flight {
-            if self.kind(question) % 2 == 0 || self.server(question) != server || self.writes(question) {
+            if is_reply(self.world.packet(question)) || self.server(question) != server || self.writes(question) {
                 continue;
             }
             let (changed, reply) = self.world.serve(memory, question);
@@ -181,14 +181,14 @@ impl Orders<'_> {
     }
 
     fn matters(&mut self, state: &State, packet: Id) -> bool {
-        if self.kind(packet) % 2 == 0 {
+        if is_reply(self.world.packet(packet)) {
             return self.wanted(state, packet);
         }
         let server = self.server(packet);
         let (changed, reply) = self.world.serve(state.boxes[server - 1], packet);
         // Complete and filter only raise a box's latest candidate, and clock and collect change nothing: of an honest box what does not change it
         // now never will.
-        let may_change = changed != state.boxes[server - 1] || self.story.bad[server - 1] && ![1, COLLECT].contains(&self.kind(packet));
+        let may_change = changed != state.boxes[server - 1] || self.story.bad[server - 1] && ![CLOCK, COLLECT].contains(&self.kind(packet));
         may_change || self.wanted(state, reply)
     }
 

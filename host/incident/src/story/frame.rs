@@ -40,7 +40,8 @@ impl Picture {
         let title = format!(r#"font-size="21" font-weight="bold" fill="{INK}""#);
         self.drawing.text(at(20.0, 36.0), "start", &title, "The teacher's case");
         let small = format!(r#"font-size="12.5" fill="{INK}""#);
-        self.drawing.text(at(20.0, 60.0), "start", &small, "Four boxes, of which one may fail (t = 1). Time goes down. Both rules get the same packets.");
+        let below = "Four boxes, of which one may fail (t = 1). Time goes down. Both rules get the same packets.";
+        self.drawing.text(at(20.0, 60.0), "start", &small, below);
         let y = self.y + 24.0;
         self.drawing.line(Layer::Front, at(20.0, y - 14.0), at(WIDTH - 20.0, y - 14.0), &format!(r#"stroke="{GREY}""#));
         for (x, colour, words) in [(24.0, OLD, "the box names the old trace as its latest"), (360.0, NEW, "the box names the new one")] {

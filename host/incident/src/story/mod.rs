@@ -9,6 +9,7 @@ pub mod shelf;
 mod svg;
 
 use crate::old_rule::{self, OldLoad};
+use crate::packet::{self, CLOCK, COLLECT, COMPLETE, FILTER, STORE};
 use network::Network;
 use shelf::{Running, Shelf};
 use std::fs;
@@ -26,12 +27,6 @@ const SECONDS: u64 = 20;
 
 pub const OLD_RECORD: &[u8] = b"RC filter, reference trace of last week";
 pub const NEW_RECORD: &[u8] = b"RC filter, reference trace of today";
-
-const CLOCK: u8 = 1;
-const STORE: u8 = 3;
-const COMPLETE: u8 = 5;
-const COLLECT: u8 = 7;
-const FILTER: u8 = 9;
 
 /// What happened, in order.
 #[derive(Clone, Debug, PartialEq, Eq)]
@@ -78,12 +73,11 @@ impl Record {
     }
 }
 
-/// Reads a reply: of clock, collect and filter a stamp stands first, and in a filter's a byte after it.
-fn says(reply: &[u8]) -> Says {
-    let number = reply.get(8..12).and_then(|bytes| bytes.try_into().ok()).map_or(0, u32::from_be_bytes);
-    match reply[0] {
-        2 | 8 => Says::Latest(Record::of(number)),
-        10 => Says::Filtered(Record::of(number), reply.get(8 + 37) == Some(&1)),
+fn says(kind: u8, reply: &[u8]) -> Says {
+    let record = Record::of(packet::stamp_number(reply).unwrap_or(0));
+    match kind {
+        CLOCK | COLLECT => Says::Latest(record),
+        FILTER => Says::Filtered(record, packet::has_fragment(reply)),
         _ => Says::Done,
     }
 }
@@ -128,7 +122,7 @@ impl Play {
 
     fn visit(&mut self, scope: usize, kind: u8, server: usize, again: bool) -> Result<Vec<u8>, String> {
         let reply = self.network.visit(scope, kind, server)?;
-        self.told.push(Happening::Visit { scope, kind, server, again, says: says(&reply) });
+        self.told.push(Happening::Visit { scope, kind, server, again, says: says(kind, &reply) });
         Ok(reply)
     }
 

@@ -2,6 +2,7 @@
 //! can lose, delay and repeat, as networks do.
 
 use crate::link::{self, DATAGRAM};
+use crate::packet;
 use std::io;
 use std::net::{SocketAddr, UdpSocket};
 use std::time::{Duration, Instant};
@@ -58,7 +59,7 @@ impl Network {
     fn find(&self, scope: usize, kind: u8, server: usize) -> impl Iterator<Item = usize> + '_ {
         let wanted = move |question: &Question| {
             let packet = link::packet(&question.datagram).unwrap_or_default();
-            question.server == server && packet.first() == Some(&kind) && link::parties(packet) == Some((scope, server))
+            question.server == server && packet.first() == Some(&kind) && packet::parties(packet) == Some((scope, server))
         };
         self.held.iter().enumerate().filter(move |(_, question)| wanted(question)).map(|(k, _)| k)
     }

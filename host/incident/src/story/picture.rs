@@ -4,6 +4,7 @@
 use super::listing::{record_name, round_name};
 use super::svg::{at, Drawing, Layer, Point, BAD, GREY, INK, NEW, OLD};
 use super::{Happening, Record, Says, Whose, BOXES, DESK, FOUR};
+use crate::packet::{COMPLETE, FILTER};
 
 pub const WIDTH: f64 = 1180.0;
 pub const TOP: f64 = 122.0;
@@ -150,8 +151,8 @@ impl Picture {
         self.parts += usize::from(part);
         let ours = if again { "ours: refused".to_owned() } else { format!("ours: {} of 3", self.boxes.len().min(3)) };
         let words = match (kind, self.boxes.len()) {
-            (9, n) if n < 3 => ours,
-            (9, _) => format!("ours: {} of 2 parts", self.parts),
+            (FILTER, n) if n < 3 => ours,
+            (FILTER, _) => format!("ours: {} of 2 parts", self.parts),
             _ if self.matching > 3 => ours,
             _ => format!("{ours}, old rule: {} of 3", self.matching),
         };
@@ -161,10 +162,10 @@ impl Picture {
 
     /// A box's lane takes another colour where its latest record becomes another one.
     fn changes(&mut self, server: usize, kind: u8, record: Option<Record>) {
-        if kind == 5 {
+        if kind == COMPLETE {
             self.name(server, Record::New);
         }
-        if let (9, Some(record)) = (kind, record) {
+        if let (FILTER, Some(record)) = (kind, record) {
             self.name(server, record);
         }
     }

@@ -8,6 +8,11 @@ pub const OLD: &str = "#d9822b";
 pub const NEW: &str = "#1f6fb2";
 pub const BAD: &str = "#c0272d";
 
+/// The pattern behind a box that has gone bad.
+const WORN: &str = r##"<defs><pattern id="worn" width="8" height="8" patternUnits="userSpaceOnUse" patternTransform="rotate(45)">
+<rect width="8" height="8" fill="#fbecec"/><line x1="0" y1="0" x2="0" y2="8" stroke="#f0c9c9" stroke-width="3"/>
+</pattern></defs>"##;
+
 /// What lies lower is drawn first.
 #[derive(Clone, Copy)]
 pub enum Layer {
@@ -87,14 +92,17 @@ impl Drawing {
 
     /// The file, with the given title for readers that do not see it.
     pub fn file(&self, width: f64, height: f64, title: &str) -> String {
+        let size = format!(r#"viewBox="0 0 {width:.0} {height:.0}" width="{width:.0}" height="{height:.0}""#);
+        let font = r#"font-family="DejaVu Sans, Verdana, sans-serif""#;
+        let paper = format!(r##"<rect width="{width:.0}" height="{height:.0}" fill="#fff"/>"##);
+        let shapes = self.layers.concat();
         format!(
-            r##"<svg xmlns="http://www.w3.org/2000/svg" viewBox="0 0 {width:.0} {height:.0}" width="{width:.0}" height="{height:.0}" font-family="DejaVu Sans, Verdana, sans-serif" role="img">
+            r#"<svg xmlns="http://www.w3.org/2000/svg" {size} {font} role="img">
 <title>{title}</title>
-<defs><pattern id="worn" width="8" height="8" patternUnits="userSpaceOnUse" patternTransform="rotate(45)"><rect width="8" height="8" fill="#fbecec"/><line x1="0" y1="0" x2="0" y2="8" stroke="#f0c9c9" stroke-width="3"/></pattern></defs>
-<rect width="{width:.0}" height="{height:.0}" fill="#fff"/>
-{}</svg>
-"##,
-            self.layers.concat()
+{WORN}
+{paper}
+{shapes}</svg>
+"#
         )
     }
 }
