@@ -81,7 +81,7 @@ impl<D: Durable> Scope<D> {
             0 => Ok(()),
             5 => Err(format!("scope {} only loads", self.keys.number)),
             6 => Err(format!("a record has 1 to {CONTENT_ROOM} bytes")),
-            13 => Err("a call is in hand: finish it or give it up first".to_owned()),
+            13 => Err("a call is in hand: `scope finish` goes on with it, `scope give-up` gives it up".to_owned()),
             other => Err(format!("{what} was refused with {other}")),
         }
     }

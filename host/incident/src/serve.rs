@@ -39,7 +39,7 @@ pub fn run<D: Durable>(card: &Path, key: &Path, address: &str, time: Option<Dura
     let locked = Card::lock(card)?;
     let memory = locked.read()?;
     // The card says whose it is. The library would drop every packet of a shelf or a box that is not the memory's own.
-    if memory.get(..2) != Some(&[keys.t as u8, keys.number as u8]) {
+    if memory.len() != SERVER_MEMORY || memory[..2] != [keys.t as u8, keys.number as u8] {
         return Err(format!("{}: it is not the card of box {} of {}", card.display(), keys.number, servers(keys.t)));
     }
     let socket = UdpSocket::bind(words::address(address)?).map_err(|e| format!("{address}: {e}"))?;
