@@ -1,11 +1,13 @@
 //! Every order of the packets of the teacher's story, with each box in turn as the bad one, under our client and under the old rule.
 
+mod flight;
 pub mod orders;
 mod quick;
 pub mod report;
 pub mod state;
 pub mod world;
 
+use flight::Flight;
 use orders::Orders;
 use quick::QuickMap;
 use state::{Load, State, Step, Story};
@@ -41,7 +43,7 @@ pub fn first_state(orders: &mut Orders) -> State {
     let saved = play(world, &mut boxes, old, 0);
     let new = world.begin_save(WRITER, Some(saved), RECORDS[1], 2);
     let writer = play(world, &mut boxes, new, 2);
-    let mut state = State { boxes, writer: Some(writer), loads: [Load::NotBegun; 2], flight: Vec::new() };
+    let mut state = State { boxes, writer: Some(writer), loads: [Load::NotBegun; 2], flight: Flight::default() };
     orders.send(&mut state, writer, 1);
     orders.begin_next(&mut state);
     state
@@ -109,7 +111,7 @@ pub fn shortest(world: &mut World, story: Story) -> Option<Vec<Step>> {
     let mut orders = Orders { world, story };
     let first = first_state(&mut orders);
     let mut came_from: QuickMap<State, Option<(State, Step)>> = QuickMap::default();
-    came_from.insert(first.clone(), None);
+    came_from.insert(first, None);
     let mut next = VecDeque::from([first]);
     while let Some(state) = next.pop_front() {
         if older(&state) {
@@ -120,7 +122,7 @@ pub fn shortest(world: &mut World, story: Story) -> Option<Vec<Step>> {
         }
         for (events, after) in orders.steps(&state) {
             if !came_from.contains_key(&after) {
-                came_from.insert(after.clone(), Some((state.clone(), (events, after.clone()))));
+                came_from.insert(after, Some((state, (events, after))));
                 next.push_back(after);
             }
         }
@@ -132,7 +134,7 @@ fn way(came_from: &QuickMap<State, Option<(State, Step)>>, mut state: State) -> 
     let mut steps = Vec::new();
     while let Some((before, step)) = &came_from[&state] {
         steps.push(step.clone());
-        state = before.clone();
+        state = *before;
     }
     steps.reverse();
     steps

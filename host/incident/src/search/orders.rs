@@ -38,11 +38,11 @@ impl Orders<'_> {
     /// Every step that can be next.
     pub fn steps(&mut self, state: &State) -> Vec<Step> {
         let mut steps = Vec::new();
-        let mut packets = state.flight.clone();
+        let mut packets = state.flight.packets().to_vec();
         packets.dedup();
         for packet in packets {
             if is_reply(self.world.packet(packet)) {
-                let after = self.arrive(without(state, packet), packet);
+                let after = self.arrive(without(*state, packet), packet);
                 steps.push((vec![Event::Arrives { reply: packet }], after));
             } else {
                 self.question(state, packet, &mut steps);
@@ -72,10 +72,10 @@ impl Orders<'_> {
         let (changed, reply) = self.world.serve(memory, question);
         let acts = Event::Acts { question, reply };
         if changed == memory {
-            let after = self.arrive(without(state, question), reply);
+            let after = self.arrive(without(*state, question), reply);
             return steps.push((vec![acts, Event::Arrives { reply }], after));
         }
-        for (mut events, mut after) in self.answered_before(&without(state, question), server) {
+        for (mut events, mut after) in self.answered_before(&without(*state, question), server) {
             events.push(acts);
             after.boxes[server - 1] = changed;
             let after = if self.writes(reply) { self.arrive(after, reply) } else { self.pruned(with(after, reply), server, NOBODY) };
@@ -90,9 +90,9 @@ impl Orders<'_> {
     /// Which of the questions that change nothing at a box it has answered before its memory changes: each choice. Copies of one question are
     /// answered in any number.
     fn answered_before(&mut self, state: &State, server: usize) -> Vec<Step> {
-        let mut choices = vec![(Vec::new(), state.clone())];
+        let mut choices = vec![(Vec::new(), *state)];
         let memory = state.boxes[server - 1];
-        for &question in &state.flight {
+        for &question in state.flight.packets() {
             if is_reply(self.world.packet(question)) || self.server(question) != server || self.writes(question) {
                 continue;
             }
@@ -103,7 +103,7 @@ impl Orders<'_> {
             for k in 0..choices.len() {
                 let (mut events, before): Step = choices[k].clone();
                 events.push(Event::Acts { question, reply });
-                let choice = (events, with(without(&before, question), reply));
+                let choice = (events, with(without(before, question), reply));
                 if !choices.iter().any(|(_, state)| *state == choice.1) {
                     choices.push(choice);
                 }
@@ -167,16 +167,14 @@ impl Orders<'_> {
     pub fn send(&mut self, state: &mut State, client: Id, copies: usize) {
         for server in 1..=BOXES {
             let packet = self.world.make(client, server);
-            state.flight.extend(std::iter::repeat_n(packet, copies));
+            (0..copies).for_each(|_| state.flight.add(packet));
         }
-        state.flight.sort_unstable();
     }
 
     /// Without the packets that can have no effect any more, after a step of this box and this client. It can only have touched their packets.
     fn pruned(&mut self, mut state: State, server: usize, party: u8) -> State {
-        let mut flight = std::mem::take(&mut state.flight);
-        flight.retain(|&packet| (self.server(packet) != server && self.party(packet) != party) || self.matters(&state, packet));
-        state.flight = flight;
+        let touched = |orders: &Self, packet| orders.server(packet) == server || orders.party(packet) == party;
+        state.flight = state.flight.filtered(|packet| !touched(self, packet) || self.matters(&state, packet));
         state
     }
 

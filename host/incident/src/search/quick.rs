@@ -40,6 +40,6 @@ impl Hasher for Quick {
     }
 
     fn finish(&self) -> u64 {
-        self.0 ^ self.0 >> 29
+        self.0 ^ (self.0 >> 29)
     }
 }

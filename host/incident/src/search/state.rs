@@ -1,5 +1,6 @@
 //! What an order of the story is made of: states, and what happens between them.
 
+use super::flight::Flight;
 use super::world::{Id, BOXES};
 use crate::old_rule::OldLoad;
 
@@ -22,14 +23,14 @@ pub const TABLE_FOUR: u8 = 4;
 pub const TABLE_SIX: u8 = 6;
 pub const TABLES: [u8; 2] = [TABLE_FOUR, TABLE_SIX];
 
-#[derive(Clone, PartialEq, Eq, Hash)]
+#[derive(Clone, Copy, PartialEq, Eq, Hash)]
 pub struct State {
     pub boxes: [Id; BOXES],
     /// None when its save has ended.
     pub writer: Option<Id>,
     pub loads: [Load; 2],
-    /// Questions and replies, sorted.
-    pub flight: Vec<Id>,
+    /// Questions and replies.
+    pub flight: Flight,
 }
 
 /// What happens in a step.
@@ -59,16 +60,12 @@ pub struct Story {
 /// A step: what happens in it, one after the other, and the state afterwards.
 pub type Step = (Vec<Event>, State);
 
-pub fn without(state: &State, packet: Id) -> State {
-    let mut state = state.clone();
-    let at = state.flight.binary_search(&packet).expect("the packet is under way");
-    state.flight.remove(at);
+pub fn without(mut state: State, packet: Id) -> State {
+    state.flight.remove(packet);
     state
 }
 
 pub fn with(mut state: State, packet: Id) -> State {
-    let at = state.flight.partition_point(|&other| other < packet);
-    state.flight.insert(at, packet);
+    state.flight.add(packet);
     state
 }
-
