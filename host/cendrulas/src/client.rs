@@ -91,6 +91,26 @@ impl Client {
         Client { t, number, state: vec![0; CLIENT_STATE] }
     }
 
+    /// The client that left these bytes as its state; None where they are not of a state's length.
+    pub fn from_state(t: usize, number: usize, state: &[u8]) -> Option<Self> {
+        (state.len() == CLIENT_STATE).then(|| Client { t, number, state: state.to_vec() })
+    }
+
+    /// What the host makes durable before the next packet goes out.
+    pub fn state(&self) -> &[u8] {
+        &self.state
+    }
+
+    /// The round in hand: 0 none, 1 clock, 2 store, 3 complete, 4 collect, 5 filter, 6 repair.
+    pub fn round(&self) -> u8 {
+        self.state[14]
+    }
+
+    /// How many servers have replied in the round in hand.
+    pub fn replies(&self) -> usize {
+        usize::from(self.state[15])
+    }
+
     pub fn begin_write(&mut self, content: &[u8], nonce: &[u8; 32]) -> Answer {
         client_begin_write(&mut self.state, self.t, self.number, content, nonce)
     }
