@@ -1,6 +1,6 @@
 """Edits of the crates, copies to try them in, and what the prover says of them: for tools/edits and tools/theorem-edits.
 
-An edit file begins with what is wrong, in lines '# ..'; those of a crate's edit that changes a definition (specs/) begin with 'Changes a definition:'.
+An edit file begins with what is wrong, in lines '# ..'; where a crate's edit changes a definition (specs/), 'Changes a definition:' comes first.
 Blocks 'file:', 'old:', 'new:' follow; a text goes on over the next lines up to the next key; 'file:' holds for the pairs after it, and an old text
 stands in its file exactly once. Later lines '# ..' are remarks.
 """
