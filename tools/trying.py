@@ -1,7 +1,8 @@
 """Edits of the crates, copies to try them in, and what the prover says of them: for tools/edits and tools/theorem-edits.
 
-An edit file begins with what is wrong, in lines '# ..' (rt needs none). Blocks 'file:', 'old:', 'new:' follow; a text goes on over the next lines up to
-the next key; 'file:' holds for the pairs after it, and an old text stands in its file exactly once. Later lines '# ..' are remarks.
+An edit file begins with what is wrong, in lines '# ..'; where a crate's edit changes a definition (specs/), 'Changes a definition:' comes first.
+Blocks 'file:', 'old:', 'new:' follow; a text goes on over the next lines up to the next key; 'file:' holds for the pairs after it, and an old text
+stands in its file exactly once. Later lines '# ..' are remarks.
 """
 import itertools
 import os
@@ -23,13 +24,15 @@ class Wrong(Exception):
     """The edit does not show what it should; the text says why."""
 
 
+def crate_lines():
+    """The lines of crates.txt, by crate."""
+    lines = (line.split("#")[0].rstrip() for line in (ROOT / "crates.txt").read_text().splitlines())
+    return {line.partition(":")[0].strip(): line for line in lines if ":" in line}
+
+
 def needed(crate):
     """The lines of crates.txt that a crate needs, by crate, as they stand: rt takes a changed line for a changed crate."""
-    lines = {}
-    for line in (ROOT / "crates.txt").read_text().splitlines():
-        line = line.split("#")[0].rstrip()
-        if ":" in line:
-            lines[line.partition(":")[0].strip()] = line
+    lines = crate_lines()
     seen = set()
 
     def visit(name):
@@ -61,8 +64,10 @@ def read_edit(path):
         elif not line.startswith("#"):
             texts[key].append(line)
     close()
-    if not pairs or not (comment or path.parent.name == "must-fail"):
+    if not pairs or not comment:
         raise Wrong("it needs a comment and a pair of 'old:' and 'new:'")
+    if any(file.startswith("specs/") for file, _, _ in pairs) != comment[0].startswith("Changes a definition:"):
+        raise Wrong("its first line begins with 'Changes a definition:' if it changes one, and not otherwise")
     return comment, pairs
 
 
