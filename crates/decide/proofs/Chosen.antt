@@ -7,13 +7,14 @@ use native.Mathlib.Omega.{arith}
 use lib.Dec.{T, ltb, eqb}
 use borrow.Author.Tests.{ltb-true, ltb-false, eqb-true, not-true, lt-ltb, le-ltb, eq-eqb, ne-eqb}
 use Rattle.cluster.specs.Config.{Config}
-use Rattle.protocol.specs.Values.{Candidate, Held, sameCandidate, isBlank, below}
+use Rattle.protocol.specs.Values.{Candidate, Held, sameCandidate, isBlank, below, rank}
 use Rattle.protocol.specs.Primitives.{real}
 use Rattle.protocol.specs.Rules.{ByServer, any, keep, gather, live, highest}
 use Rattle.protocol.proofs.Equal.{test-ext}
 use Rattle.decide.specs.Listing.{enters}
-use Rattle.decide.specs.Steps.{rank, blankRank, stays, raised, topRank}
-use Rattle.decide.proofs.Ranks.{below-rank, blank-low, not-blank-high}
+use Rattle.decide.specs.Steps.{blankRank, stays, raised, topRank}
+use Rattle.protocol.proofs.Ranks.{below-rank}
+use Rattle.decide.proofs.Ranks.{blank-low, not-blank-high}
 use Rattle.decide.proofs.Tops.{keep-append, keep-keep, any-member, any-true, raise-law, isLive, live-stays, keep-gather, any-gather, top-least, top-most, top-stays}
 use Rattle.decide.proofs.Gathered.{any-append, gather-more, kept-out}
 

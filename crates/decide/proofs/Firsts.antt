@@ -11,7 +11,7 @@ use lib.Dec.{T, eqb}
 use borrow.Author.Tests.{lt-ltb, le-ltb, eq-eqb, ne-eqb}
 use Rattle.cluster.specs.Config.{shelf}
 use Rattle.cluster.proofs.Tests.{and-both}
-use Rattle.protocol.specs.Values.{Candidate, sameCandidate}
+use Rattle.protocol.specs.Values.{Candidate, sameCandidate, rank}
 use Rattle.protocol.specs.Primitives.{real}
 use Rattle.protocol.specs.Rules.{ByServer, keep, first, gather, leader, proven}
 use Rattle.protocol.specs.View.{marked, candidatesIn, repliesIn}
@@ -19,7 +19,7 @@ use Rattle.protocol.proofs.Equal.{candidate-same, candidate-refl}
 use Rattle.decide.specs.Decided.{slotOf}
 use Rattle.decide.specs.Listing.{enters}
 use Rattle.decide.specs.declared.leading.Group.{Group}
-use Rattle.decide.specs.Steps.{rank, leaderAt, GroupAs, triedAt, chosenAt, Hit, ChoiceAs}
+use Rattle.decide.specs.Steps.{leaderAt, GroupAs, triedAt, chosenAt, Hit, ChoiceAs}
 use Rattle.decide.proofs.Tops.{keep-append}
 use Rattle.decide.proofs.Gathered.{gather-more, enters-twin, entered}
 

@@ -9,9 +9,10 @@ use lib.ListN.{take}
 use borrow.Author.Tests.{eq-eqb, ne-eqb}
 use Rattle.cluster.specs.Config.{shelf}
 use Rattle.protocol.specs.View.{candidatesIn}
+use Rattle.protocol.specs.Values.{rank}
 use Rattle.decide.specs.Listing.{enters}
 use Rattle.decide.specs.declared.leading.Group.{Group}
-use Rattle.decide.specs.Steps.{rank, leadsAt, leaderAt, membersAt, GroupAs, triedAt}
+use Rattle.decide.specs.Steps.{leadsAt, leaderAt, membersAt, GroupAs, triedAt}
 use Rattle.decide.proofs.Groups.{leader-more, leader-kept}
 
 module _ (t : ℕ) (marks kept : List ℕ) (i : ℕ) where

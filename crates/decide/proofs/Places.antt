@@ -11,12 +11,12 @@ use lib.Seq.{take-nil, take-take, drop-drop, take-add, getD-take, getD-drop, len
 use borrow.Author.Tests.{lt-ltb, ltb-true, ltb-false}
 use Rattle.cluster.specs.Config.{Config}
 use Rattle.protocol.specs.Format.{Bytes, via, seq, number4, byte, run}
-use Rattle.protocol.specs.Values.{Candidate, sameList, sameStamp, sameCandidate, stampSize, nonceSize, tagsSize, candidateSize}
+use Rattle.protocol.specs.Values.{Candidate, sameList, sameStamp, sameCandidate, stampSize, nonceSize, tagsSize, candidateSize, rank}
 use Rattle.protocol.specs.Packet.{stampF}
 use Rattle.protocol.specs.View.{keptSize, part, stampAt, candidateAt, heldAt, candidatesIn, repliesIn, replySlotOf, marked, candidatesAt, candidateSlot}
 use Rattle.protocol.proofs.Formats.{print4-value}
 use Rattle.protocol.proofs.Equal.{same-printed}
-use Rattle.decide.specs.Steps.{rank, rankAt}
+use Rattle.decide.specs.Steps.{rankAt}
 use Rattle.hmac.specs.Hmac.{tagSize}
 use Rattle.cluster.specs.Ranges.{mostServers}
 
@@ -119,16 +119,17 @@ reply-in s ms kept i h e = rw (lt-ltb i mostServers h, e)
 
 -- the rank of a stamp in a slot
 pub stamp-rank : (d : List ℕ) (at n : ℕ) → 5 ≤ n → rank (stampAt (part d at n)) ≡ rankAt d at
-unfolding stampAt rankAt
+unfolding stampAt rankAt part
 stamp-rank d at n h =
+    let x = drop at d in
     rw (
-      getD-part d at n 0 (omega arith),
-      getD-part d at n 1 (omega arith),
-      getD-part d at n 2 (omega arith),
-      getD-part d at n 3 (omega arith),
-      getD-part d at n 4 (omega arith),
+      getD-take n x 0 0 (omega arith),
+      getD-take n x 1 0 (omega arith),
+      getD-take n x 2 0 (omega arith),
+      getD-take n x 3 0 (omega arith),
+      getD-take n x 4 0 (omega arith),
     )
-    (let e : at + 0 ≡ at = omega arith in rw e)
+    refl
 
 -- two slots of candidates, compared by as many bytes as a candidate has
 pub same-slots : (s : Config) (kept : List ℕ) (i j : ℕ) → s .servers ≤ mostServers → Bytes kept → length kept ≡ keptSize → i < mostServers → j <

@@ -1,5 +1,4 @@
--- Stamps of bytes are ordered by rank: the writer is below 256, so number and writer are the digits of one number. A stamp is blank where its rank is
--- at most 255. Ranks in slots are read off the kept bytes. Nothing is assumed.
+-- A stamp of bytes is blank, by its number, where its rank is at most 255. Ranks in slots are read off the kept bytes. Nothing is assumed.
 use mathlib.Core.Path.{_≡_, refl, sym, ap, _∙_}
 use mathlib.Core.Bool.{Bool, true, false, cond, not, _&&_, _||_}
 use mathlib.Core.List.{List}
@@ -12,32 +11,10 @@ use Rattle.cluster.specs.Config.{Config}
 use Rattle.cluster.specs.Ranges.{mostServers}
 use Rattle.protocol.specs.declared.Stamp.{Stamp}
 use Rattle.protocol.specs.Format.{Bytes}
-use Rattle.protocol.specs.Values.{Candidate, Held, noHeld, blankCandidate, isBlank, below}
+use Rattle.protocol.specs.Values.{Candidate, Held, noHeld, blankCandidate, isBlank, below, rank}
 use Rattle.protocol.specs.View.{part, stampAt, candidateAt, heldAt, candidateSlot, candidatesAt, repliesAt, replySlot, marked, candidatesIn, repliesIn, replySlotOf}
-use Rattle.protocol.proofs.Equal.{test-ext}
-use Rattle.decide.specs.Steps.{ranksBelow, rank, rankAt, blankRank}
+use Rattle.decide.specs.Steps.{ranksBelow, rankAt, blankRank}
 use Rattle.decide.proofs.Places.{bytes-part, candidate-in, reply-in, stamp-rank}
-
-pub below-rank : (a b : Stamp) → a .writer < 256 → b .writer < 256 → below a b ≡ ltb (rank a) (rank b)
-unfolding below
-below-rank a b h k = go (ltb (a .number) (b .number)) refl (eqb (a .number) (b .number)) refl
-  where
-    go : (p : Bool) → ltb (a .number) (b .number) ≡ p → (q : Bool) → eqb (a .number) (b .number) ≡ q
-        → (p || (q && ltb (a .writer) (b .writer))) ≡ ltb (rank a) (rank b)
-    go true e q f = let l = ltb-true (a .number) (b .number) e in sym (lt-ltb (rank a) (rank b) (omega arith))
-    go false e true f =
-        let n = eqb-true (a .number) (b .number) f in
-        test-ext (ltb (a .writer) (b .writer)) (ltb (rank a) (rank b))
-        (λ x. let l = ltb-true (a .writer) (b .writer) x in lt-ltb (rank a) (rank b) (omega arith))
-        (λ x. let l = ltb-true (rank a) (rank b) x in lt-ltb (a .writer) (b .writer) (omega arith))
-    go false e false f =
-        let n = eqb-false (a .number) (b .number) f in
-        let l = ltb-false (a .number) (b .number) e in
-        let m : b .number < a .number = less (a .number) (b .number) l n in
-        sym (le-ltb (rank a) (rank b) (omega arith))
-      where
-        less : (x y : ℕ) → y ≤ x → (x ≡ y → ⊥) → y < x
-        less x y p q = omega arith
 
 pub low-rank : (a : Stamp) → rank a ≤ blankRank → isBlank a ≡ true
 unfolding isBlank

@@ -8,13 +8,13 @@ use native.Mathlib.Omega.{arith}
 use lib.Dec.{T, ltb, eqb}
 use borrow.Author.Tests.{ltb-true, ltb-false, eqb-true, eqb-false, lt-ltb}
 use Rattle.cluster.specs.Config.{Config, quorum}
-use Rattle.protocol.specs.Values.{Candidate, Held, sameCandidate, isBlank, below}
+use Rattle.protocol.specs.Values.{Candidate, Held, sameCandidate, isBlank, below, rank}
 use Rattle.protocol.specs.Primitives.{real}
 use Rattle.protocol.specs.Rules.{ByServer, countTo, any, keep, gather, lower}
 use Rattle.protocol.proofs.Equal.{test-ext, candidate-same}
 use Rattle.decide.specs.Listing.{enters}
-use Rattle.decide.specs.Steps.{rank, blankRank, ranksBelow, stays, raised, topRank}
-use Rattle.decide.proofs.Ranks.{below-rank}
+use Rattle.decide.specs.Steps.{blankRank, ranksBelow, stays, raised, topRank}
+use Rattle.protocol.proofs.Ranks.{below-rank}
 use Rattle.decide.proofs.Counted.{count-ext}
 use Rattle.decide.proofs.Gathered.{any-append, gather-more, entered}
 

@@ -1,5 +1,5 @@
 -- The steps to a decision, one for each function of the code, in terms of the rules.
--- A stamp's rank is number and writer as one number: for bytes, stamps are ordered by it.
+-- Stamps are compared by their ranks.
 use mathlib.Core.Path.{_≡_}
 use mathlib.Core.Bool.{Bool, true, false, cond, _&&_}
 use mathlib.Core.List.{List, [], _∷_, _++_, map}
@@ -11,11 +11,11 @@ use Rattle.cluster.specs.Config.{Config, quorum, shelf}
 use Rattle.cluster.specs.Ranges.{within, leastLength, topLength, topFaults}
 use Rattle.sha256.specs.Sha256.{sha256}
 use Rattle.protocol.specs.declared.Stamp.{Stamp}
-use Rattle.protocol.specs.Format.{value2, value4}
-use Rattle.protocol.specs.Values.{Candidate, Share, Held, sameList, nth, digestSize, digestsSize, tagsSize, stampSize, sameStamp}
+use Rattle.protocol.specs.Format.{value2}
+use Rattle.protocol.specs.Values.{Candidate, Share, Held, sameList, nth, digestSize, digestsSize, tagsSize, stampSize, rank, sameStamp}
 use Rattle.protocol.specs.Primitives.{real}
 use Rattle.protocol.specs.Rules.{ByServer, countTo, keep, first, gather, proven, fits, agrees, leads, leader}
-use Rattle.protocol.specs.View.{keptSize, marked, candidatesIn, repliesIn, replySlotOf, repliesAt, replySlot, part, shareAt, heldAt}
+use Rattle.protocol.specs.View.{keptSize, marked, candidatesIn, repliesIn, replySlotOf, repliesAt, replySlot, part, stampAt, shareAt, heldAt}
 use Rattle.erasure.specs.Fragments.{Part, fragmentSize, restored}
 use Rattle.decide.specs.declared.leading.Members.{Members}
 use Rattle.decide.specs.declared.leading.Choice.{Choice}
@@ -39,11 +39,9 @@ bit false = 0
 
 -- ---- ranks
 
-abbrev pub rank : Stamp → ℕ
-rank a = 256 * a .number + a .writer
-
+-- the rank of the stamp at a place
 unfoldable pub rankAt : List ℕ → ℕ → ℕ
-rankAt d at = 256 * value4 (getD d at 0) (getD d (at + 1) 0) (getD d (at + 2) 0) (getD d (at + 3) 0) + getD d (at + 4) 0
+rankAt d at = rank (stampAt (drop at d))
 
 -- the ranks of blank stamps go up to this one
 abbrev pub blankRank : ℕ

@@ -60,17 +60,11 @@ pub(crate) fn wide(x: u8) -> u64
     x as u64
 }
 
-// The rank of the stamp at a place: number and writer as one number.
+// The rank of the stamp at a place.
 pub(crate) fn rank_at(kept: &[u8], at: usize) -> u64
-    requires { ⌜ at + 5 ≤ length (now kept) ⌝ }
     ensures { λ r. ⌜ r ≡ rankAt (now (kept .entry)) at ⌝ }
 {
-    let a = wide(kept[at]);
-    let b = wide(kept[at + 1]);
-    let c = wide(kept[at + 2]);
-    let d = wide(kept[at + 3]);
-    let e = wide(kept[at + 4]);
-    256 * (16777216 * a + 65536 * b + 256 * c + d) + e
+    wire::values::rank_at(wire::bytes::rest(kept, at))
 }
 
 // Copies src to a place of out.

@@ -24,11 +24,11 @@ fn weight(points: [u8; WIDTH], k: usize, j: usize, z: u8) -> u8
     let mut own = 1u8;
     let mut m: usize = 0;
     while m < k {
-        top = crate::bits::product(top, factor(points, j, z, m));
-        own = crate::bits::product(own, factor(points, j, x, m));
+        top = gf256::mul(top, factor(points, j, z, m));
+        own = gf256::mul(own, factor(points, j, x, m));
         m += 1;
     }
-    crate::bits::product(top, gf256::inverse(own))
+    gf256::mul(top, gf256::inverse(own))
 }
 
 // The weights of the k values at z.

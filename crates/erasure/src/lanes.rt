@@ -21,7 +21,7 @@ fn doubled(x: [u8; LANE]) -> [u8; LANE]
     let mut out = [0u8; LANE];
     let mut i: usize = 0;
     while i < LANE {
-        out[i] = crate::bits::double(x[i]);
+        out[i] = gf256::double(x[i]);
         i += 1;
     }
     out
@@ -32,7 +32,7 @@ fn added(sum: [u8; LANE], x: [u8; LANE], w: u8, b: u32) -> [u8; LANE]
     requires { ⌜ b < 8 ⌝ }
     ensures { λ r. ⌜ Lane r (λ i. bitXor (getD sum i 0) (bitOf w b * getD x i 0)) ⌝ }
 {
-    let m = crate::bits::mask(w, b);
+    let m = gf256::mask(w >> b);
     let mut out = [0u8; LANE];
     let mut i: usize = 0;
     while i < LANE {

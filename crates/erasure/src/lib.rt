@@ -10,7 +10,6 @@ ghost use Rattle.erasure.specs.Fragments.{fragmentSize};
 ghost use Rattle.erasure.specs.Steps.{each, fragmentRefusal, argumentChecks, fragmentStep, restoreStep};
 ghost use Rattle.erasure.specs.System.{width};
 
-mod bits;
 mod choice;
 mod direct;
 mod given;

@@ -18,7 +18,7 @@ fn powers_row(x: u8) -> [u8; WIDTH]
     let mut c: usize = 0;
     while c < WIDTH {
         out[c] = w;
-        w = crate::bits::product(w, x);
+        w = gf256::mul(w, x);
         c += 1;
     }
     out
@@ -29,11 +29,11 @@ fn turn_row(row: [u8; WIDTH], pivot: [u8; WIDTH], d: u8, p: usize) -> [u8; WIDTH
     requires { ⌜ p < width ⌝ }
     ensures { λ r. ⌜ RowTurned row pivot d p r ⌝ }
 {
-    let w = crate::bits::product(row[p], d);
+    let w = gf256::mul(row[p], d);
     let mut out = [0u8; WIDTH];
     let mut c: usize = 0;
     while c < WIDTH {
-        out[c] = row[c] ^ crate::bits::product(w, pivot[c]);
+        out[c] = row[c] ^ gf256::mul(w, pivot[c]);
         c += 1;
     }
     out[p] = w;
@@ -104,7 +104,7 @@ fn weight(a: [[u8; WIDTH]; WIDTH], powers: [u8; WIDTH], k: usize, j: usize) -> u
     let mut c: usize = 0;
     while c < k {
         let row = a[c];
-        acc = acc ^ crate::bits::product(powers[c], row[j]);
+        acc = acc ^ gf256::mul(powers[c], row[j]);
         c += 1;
     }
     acc

@@ -1,9 +1,9 @@
 -- The tables of the source, and their rule: entry i of `powers` is 03h to the power i, and entry a - 1 of `logs` is the logarithm of a.
 -- One computed test goes through each table. Nothing is assumed.
-use mathlib.Core.Path.{_≡_, refl, sym, ap, ap₂, _∙_, subst}
+use mathlib.Core.Path.{_≡_, refl, sym, ap, _∙_, subst}
 use mathlib.Core.Bool.{Bool}
 use mathlib.Core.List.{List, [], _∷_}
-use Prim.Native.Nat.{ℕ, zero, suc, _+_, _-_, _*_, _/_, _%_, _<_}
+use Prim.Native.Nat.{ℕ, zero, suc, _+_, _-_, _*_, _<_}
 use native.Mathlib.Nat.{add-zero, add-suc, mul-zero, mul-suc}
 use native.Mathlib.Omega.{arith}
 use lib.Dec.{T, eqb, eqb→eq, ltb, ltb→lt}
@@ -122,14 +122,6 @@ power-mul a i (suc j) h =
 pub power-round : power 3 255 ≡ 1
 power-round = sym (powers-at 255 (omega arith)) ∙ last
 
-pub power-mod : (n : ℕ) → power 3 (n % 255) ≡ power 3 n
-power-mod n =
-    sym (ap (power 3) (omega arith)
-    ∙ power-add 3 (255 * (n / 255)) (n % 255) (omega arith)
-    ∙ ap (λ (x : ℕ). times x (power 3 (n % 255))) (power-mul 3 255 (n / 255) (omega arith) ∙ ap (λ (x : ℕ). power x (n / 255)) power-round ∙ power-one
-    (n / 255))
-    ∙ one-times (power 3 (n % 255)) (power-lt 3 (n % 255) (omega arith)))
-
 -- ---- inverses
 
 pub inverse-lt : (a : ℕ) → a < 256 → inverse a < 256
@@ -161,9 +153,6 @@ inverse-unique a x ha hx e f =
     ∙ times-comm (inverse a) 1 (inverse-lt a ha) (omega arith) ∙ one-times (inverse a) (inverse-lt a ha)
 
 -- ---- what the code rests on
-
-pub times-of-logs : (a b i j : ℕ) → power 3 i ≡ a → power 3 j ≡ b → power 3 ((i + j) % 255) ≡ times a b
-times-of-logs a b i j p q = power-mod (i + j) ∙ power-add 3 i j (omega arith) ∙ ap₂ times p q
 
 pub inverse-of-log : (a i : ℕ) → 0 < a → a < 256 → i < 255 → power 3 i ≡ a → power 3 (255 - i) ≡ inverse a
 inverse-of-log (suc k) i h b l p =

@@ -1,20 +1,35 @@
-// The field of FIPS 197 on bytes, by tables of powers and logarithms of 03h.
+// The field of FIPS 197 on bytes. Its one product goes by doubling; the tables of powers and logarithms of 03h give the inverse.
 ghost use mathlib.Core.Path.{_≡_};
-ghost use Rattle.gf256.specs.Gf.{times, inverse as inverseOf};
+ghost use Prim.Native.Nat.{_*_, _%_};
+ghost use Rattle.gf256.specs.Gf.{xtime, times, inverse as inverseOf};
 
 mod logarithms;
 
-// The product.
+// The double of a byte.
+pub fn double(a: u8) -> u8
+    ensures { λ r. ⌜ r ≡ xtime a ⌝ }
+{
+    if a < 128 { a << 1 } else { (a << 1) ^ 27 }
+}
+
+// All bits set where the lowest bit of w is, and else none.
+pub fn mask(w: u8) -> u8
+    ensures { λ r. ⌜ r ≡ w % 2 * 255 ⌝ }
+{
+    (w & 1) * 255
+}
+
+// The product, from the highest bit of b down: without branches and without a look-up, since a constant table is copied whenever it is read.
 pub fn mul(a: u8, b: u8) -> u8
     ensures { λ r. ⌜ r ≡ times a b ⌝ }
 {
-    if a == 0 {
-        return 0;
+    let mut out = 0u8;
+    let mut n: u32 = 0;
+    while n < 8 {
+        out = double(out) ^ (a & mask(b >> (7 - n)));
+        n += 1;
     }
-    if b == 0 {
-        return 0;
-    }
-    logarithms::power_of((logarithms::log_of(a) + logarithms::log_of(b)) % 255)
+    out
 }
 
 // The inverse; that of 0 is 0.

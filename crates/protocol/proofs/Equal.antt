@@ -4,9 +4,10 @@ use mathlib.Core.Path.{_≡_, refl, sym, ap, _∙_, subst}
 use mathlib.Core.Bool.{Bool, true, false, cond, _&&_}
 use mathlib.Core.List.{List, [], _∷_, _++_}
 use mathlib.Core.Option.{Option, none, some}
-use Prim.Native.Nat.{ℕ, _/_, _%_}
+use Prim.Native.Nat.{ℕ, _/_, _%_, _<_}
 use lib.Dec.{T, eqb}
-use lib.ListN.{getD, drop}
+use lib.ListN.{length, getD, drop}
+use lib.Seq.{ext-getD}
 use borrow.Author.Tests.{eq-eqb, eqb-true}
 use Rattle.protocol.specs.declared.Stamp.{Stamp}
 use Rattle.protocol.specs.Format.{value4, via, seq, number4, byte, run}
@@ -44,6 +45,16 @@ same-true (x ∷ xs) (y ∷ ys) e =
 pub same-refl : (a : List ℕ) → sameList a a ≡ true
 same-refl [] = refl
 same-refl (x ∷ xs) = rw (eq-eqb x x refl) (same-refl xs)
+
+pub byte-differs : (a b : List ℕ) (i : ℕ) → (getD a i 0 ≡ getD b i 0 → ⊥) → sameList a b ≡ false
+byte-differs a b i h = by (sameList a b) refl
+  where
+    by : (t : Bool) → sameList a b ≡ t → t ≡ false
+    by true e = absurd (h (ap (λ (x : List ℕ). getD x i 0) (same-true a b e)))
+    by false e = refl
+
+pub same-by-places : (a b : List ℕ) → length a ≡ length b → ((i : ℕ) → i < length a → getD a i 0 ≡ getD b i 0) → sameList a b ≡ true
+same-by-places a b l h = subst (λ (x : List ℕ). sameList a x ≡ true) (ext-getD 0 a b l h) (same-refl a)
 
 -- ---- stamps and candidates
 

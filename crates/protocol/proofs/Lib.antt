@@ -7,6 +7,8 @@ pub mod Packets
 pub mod Bodies
 pub mod Whole
 pub mod Equal
+pub mod Blanks
+pub mod Ranks
 pub mod Walks
 pub mod Room
 pub mod Memories

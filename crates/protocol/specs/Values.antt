@@ -52,12 +52,20 @@ runOf (suc n) f = runOf n f ++ f (suc n)
 abbrev pub blankStamp : Stamp
 blankStamp = record { number = 0; writer = 0; tag = replicate tagSize 0 }
 
+-- by the number: the layout has no other stamp of number 0, and no other candidate with one (`blank-stamp` and `blank-candidate` of proofs/Blanks)
 unfoldable pub isBlank : Stamp → Bool
 isBlank a = eqb (a .number) 0
 
 -- order is by number, then writer: the tag has no part in it
 unfoldable pub below : Stamp → Stamp → Bool
 below a b = ltb (a .number) (b .number) || (eqb (a .number) (b .number) && ltb (a .writer) (b .writer))
+
+-- the same order as one number, since a writer is a byte (`below-rank` of proofs/Ranks)
+abbrev pub rankBy : ℕ → ℕ → ℕ
+rankBy number writer = 256 * number + writer
+
+abbrev pub rank : Stamp → ℕ
+rank a = rankBy (a .number) (a .writer)
 
 -- equality is of all three
 unfoldable pub sameStamp : Stamp → Stamp → Bool

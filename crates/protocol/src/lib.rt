@@ -1,6 +1,20 @@
 // The protocol's definitions stand in specs/, their laws in proofs/. The structs here are the values that definitions and code share.
 ghost use mathlib.Core.Path.{_≡_};
-ghost use Rattle.protocol.specs.Values.{blankStamp, isBlank, below};
+ghost use Rattle.protocol.specs.Values.{blankStamp, sameList, sameStamp, rankBy, below};
+
+// Whether two tags are the same.
+fn same_tag(a: [u8; hmac::TAG], b: [u8; hmac::TAG]) -> bool
+    ensures { λ r. ⌜ r ≡ sameList a b ⌝ }
+{
+    let mut i = 0;
+    while i < hmac::TAG {
+        if a[i] != b[i] {
+            return false;
+        }
+        i += 1;
+    }
+    true
+}
 
 // A stamp (timestamp): number, writer, and the writers'-key tag of both.
 pub struct Stamp {
@@ -32,23 +46,40 @@ impl Stamp {
         }
     }
 
-    pub fn is_blank(self) -> bool
-        ensures { λ r. ⌜ r ≡ isBlank self ⌝ }
+    // Equality is of all three: number, writer and tag.
+    pub fn same(self, other: Stamp) -> bool
+        ensures { λ r. ⌜ r ≡ sameStamp self other ⌝ }
     {
-        self.number == 0
+        if self.number != other.number {
+            return false;
+        }
+        if self.writer != other.writer {
+            return false;
+        }
+        let x = self.tag;
+        let y = other.tag;
+        same_tag(x, y)
+    }
+
+    // The blank stamp is all zero.
+    pub fn is_blank(self) -> bool
+        ensures { λ r. ⌜ r ≡ sameStamp self blankStamp ⌝ }
+    {
+        self.same(Stamp::BLANK)
+    }
+
+    // The place of a number and a writer in the order of stamps, as one number.
+    pub fn rank_of(number: u32, writer: u8) -> u64
+        ensures { λ r. ⌜ r ≡ rankBy number writer ⌝ }
+    {
+        256 * (number as u64) + (writer as u64)
     }
 
     // Order is by number, then writer.
     pub fn below(self, other: Stamp) -> bool
         ensures { λ r. ⌜ r ≡ below self other ⌝ }
     {
-        if self.number < other.number {
-            return true;
-        }
-        if other.number < self.number {
-            return false;
-        }
-        self.writer < other.writer
+        Stamp::rank_of(self.number, self.writer) < Stamp::rank_of(other.number, other.writer)
     }
 }
 

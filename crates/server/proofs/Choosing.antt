@@ -11,16 +11,15 @@ use borrow.Author.Tests.{ltb-true, ltb-false, lt-ltb}
 use Rattle.cluster.specs.Config.{Config}
 use Rattle.protocol.specs.declared.Stamp.{Stamp}
 use Rattle.protocol.specs.Format.{via, seq, number4, byte}
-use Rattle.protocol.specs.Values.{Candidate, below, blankStamp, blankCandidate}
+use Rattle.protocol.specs.Values.{Candidate, below, blankStamp, blankCandidate, rank}
 use Rattle.protocol.specs.Packet.{stampF, candidateF}
 use Rattle.protocol.specs.Primitives.{Primitives, real}
 use Rattle.protocol.specs.Server.{Server, valid, best}
 use Rattle.protocol.specs.View.{stampAt, candidateAt}
 use Rattle.wire.specs.Places.{candidateList}
-use Rattle.server.specs.Reads.{keyOf}
 use Rattle.server.specs.Ranks.{slotOf, rankOf}
 use Rattle.server.specs.Filter.{Listed}
-use Rattle.server.proofs.Raising.{below-key}
+use Rattle.protocol.proofs.Ranks.{below-rank}
 use Rattle.server.proofs.Ranking.{last-of, rank-inj, rank-higher, rank-earlier}
 
 clash : {b : Bool} → b ≡ true → b ≡ false → ⊥
@@ -67,11 +66,11 @@ module _ (s : Config) (key : List ℕ) (b : ℕ) (v : Server) (y : List ℕ) whe
   Kept m c = ((i : ℕ) × Best m c i) ⊎ None m c
 
   key-of : (m i : ℕ) → Listed s m y → i < m → (c : Candidate) → c ≡ cand i → (j : ℕ) → j < m
-      → below (c .stamp) (cand j .stamp) ≡ ltb (keyOf (stampAt (slotOf s y i))) (keyOf (stampAt (slotOf s y j)))
+      → below (c .stamp) (cand j .stamp) ≡ ltb (rank (stampAt (slotOf s y i))) (rank (stampAt (slotOf s y j)))
   unfolding candidateAt
   key-of m i l h c e j k =
       ap (λ (z : Candidate). below (z .stamp) (stampAt (slotOf s y j))) e
-      ∙ below-key (stampAt (slotOf s y i)) (stampAt (slotOf s y j)) (unfold candidateAt in (stamp-ranges s (cand i) (l .ok i h) .1))
+      ∙ below-rank (stampAt (slotOf s y i)) (stampAt (slotOf s y j)) (unfold candidateAt in (stamp-ranges s (cand i) (l .ok i h) .1))
       (unfold candidateAt in (stamp-ranges s (cand j) (l .ok j k) .1))
 
   module _ (m : ℕ) (few : m < 255) (l : Listed s (suc m) y) (c : Candidate) where
@@ -107,7 +106,7 @@ module _ (s : Config) (key : List ℕ) (b : ℕ) (v : Server) (y : List ℕ) whe
         more j (inr e) f = subst (λ (z : ℕ). rankOf s y z ≤ rankOf s y m) (sym e) (omega arith)
 
     -- a higher one
-    higher : good m ≡ true → (i : ℕ) → Best m c i → keyOf (stampAt (slotOf s y i)) < keyOf (stampAt (slotOf s y m)) → Best (suc m) (cand m) m
+    higher : good m ≡ true → (i : ℕ) → Best m c i → rank (stampAt (slotOf s y i)) < rank (stampAt (slotOf s y m)) → Best (suc m) (cand m) m
     higher g i h u = record { at = omega arith; is = refl; valid = g; top = λ j k f. more j (last-of j m k) f }
       where
         more : (j : ℕ) → (j < m) ⊎ (j ≡ m) → good j ≡ true → rankOf s y j ≤ rankOf s y m
@@ -115,7 +114,7 @@ module _ (s : Config) (key : List ℕ) (b : ℕ) (v : Server) (y : List ℕ) whe
         more j (inr e) f = subst (λ (z : ℕ). rankOf s y z ≤ rankOf s y m) (sym e) (omega arith)
 
     -- one that is not higher
-    lower : (i : ℕ) → Best m c i → keyOf (stampAt (slotOf s y m)) ≤ keyOf (stampAt (slotOf s y i)) → Best (suc m) c i
+    lower : (i : ℕ) → Best m c i → rank (stampAt (slotOf s y m)) ≤ rank (stampAt (slotOf s y i)) → Best (suc m) c i
     lower i h u = record { at = omega (arith, h .at); is = h .is; valid = h .valid; top = λ j k f. more j (last-of j m k) f }
       where
         more : (j : ℕ) → (j < m) ⊎ (j ≡ m) → good j ≡ true → rankOf s y j ≤ rankOf s y i
@@ -129,12 +128,12 @@ module _ (s : Config) (key : List ℕ) (b : ℕ) (v : Server) (y : List ℕ) whe
         next : good m ≡ true → Kept m c → Kept (suc m) (cond (below (c .stamp) (cand m .stamp)) (cand m) c)
         next g (inr h) = rw (ap (λ (z : Candidate). below (z .stamp) (cand m .stamp)) (h .is) ∙ above-blank (cand m .stamp)
             (stamp-ranges s (cand m) (l .ok m (omega arith)) .0)) (inl (m, start g h))
-        next g (inl (i, h)) = test (ltb (keyOf (stampAt (slotOf s y i))) (keyOf (stampAt (slotOf s y m)))) refl
+        next g (inl (i, h)) = test (ltb (rank (stampAt (slotOf s y i))) (rank (stampAt (slotOf s y m)))) refl
           where
-            same : below (c .stamp) (cand m .stamp) ≡ ltb (keyOf (stampAt (slotOf s y i))) (keyOf (stampAt (slotOf s y m)))
+            same : below (c .stamp) (cand m .stamp) ≡ ltb (rank (stampAt (slotOf s y i))) (rank (stampAt (slotOf s y m)))
             same = key-of (suc m) i l (omega (arith, h .at)) c (h .is) m (omega arith)
 
-            test : (q : Bool) → ltb (keyOf (stampAt (slotOf s y i))) (keyOf (stampAt (slotOf s y m))) ≡ q → Kept (suc m)
+            test : (q : Bool) → ltb (rank (stampAt (slotOf s y i))) (rank (stampAt (slotOf s y m))) ≡ q → Kept (suc m)
                 (cond (below (c .stamp) (cand m .stamp)) (cand m) c)
             test true e = rw (same ∙ e) (inl (m, higher g i h (ltb-true _ _ e)))
             test false e = rw (same ∙ e) (inl (i, lower i h (ltb-false _ _ e)))

@@ -22,7 +22,6 @@ use Rattle.protocol.specs.Primitives.{real}
 use Rattle.protocol.specs.Server.{memoryOf, Acted, Server, raise, best, act}
 use Rattle.protocol.specs.View.{part, stampAt, candidateAt}
 use Rattle.protocol.specs.ServerBytes.{serverIn, actedOn}
-use Rattle.protocol.proofs.Answers.{bytes-drop}
 use Rattle.protocol.proofs.Packets.{candidate-lengths, candidate-length}
 use Rattle.wire.specs.Places.{candidateList, packetAt, padded}
 use Rattle.wire.specs.Make.{packetStep}
@@ -35,7 +34,6 @@ use Rattle.server.specs.Answers.{memoryIn, replyHead, raisedBytes}
 use Rattle.server.specs.Ranks.{slotOf}
 use Rattle.server.specs.Filter.{ChosenIs, ChosenAs, HeldAs}
 use Rattle.server.proofs.Raising.{raised-memory}
-use Rattle.server.proofs.Ranking.{slot-bytes}
 use Rattle.server.proofs.Replies.{replied-as, unchanged}
 use Rattle.server.proofs.Listing.{countIn, listIn, filter-body, listed}
 
@@ -120,5 +118,4 @@ module _ {d : List ℕ} (bs : Bytes d) (key packet : List ℕ) (ps : Bytes packe
         let size : length X ≡ candidateSize s = ap length (C .made) ∙ candidate-length s (candidateAt s X) lengths in
         let stamp : a ≡ stampAt X = b ∙ ap (λ (l : List ℕ). stampAt (padded stampSize l)) same ∙ stamp-value X (omega (arith, size)) in
         answered (candidateAt s X) (C .best) (lengths .tag) stamp
-        (z ∙ ap (raisedBytes d) same ∙ raised-memory o bs X (slot-bytes s Y i (bytes-drop 1 (drop headSize packet) (bytes-drop headSize packet ps)))
-        (C .made) (C .ok)) w
+        (z ∙ ap (raisedBytes d) same ∙ raised-memory o bs X (C .made) (C .ok)) w

@@ -13,7 +13,7 @@ use Rattle.cluster.specs.Config.{Config}
 use Rattle.cluster.proofs.Tests.{untrue}
 use Rattle.protocol.specs.declared.Stamp.{Stamp}
 use Rattle.protocol.specs.Format.{orElse, via, seq, number4, byte, run}
-use Rattle.protocol.specs.Values.{Share, Write, sameList, sameStamp, stampSize}
+use Rattle.protocol.specs.Values.{Share, Write, sameList, sameStamp, stampSize, rank}
 use Rattle.protocol.specs.Packet.{stampF}
 use Rattle.protocol.specs.Memory.{held}
 use Rattle.protocol.specs.View.{part, stampAt}
@@ -23,7 +23,7 @@ use Rattle.protocol.proofs.Formats.{value4-print}
 use Rattle.server.specs.declared.memory.Top.{Top}
 use Rattle.server.specs.declared.memory.Found.{Found}
 use Rattle.server.specs.declared.memory.Found.the-variants as found
-use Rattle.server.specs.Reads.{Stored, firstWith, FindIs, SearchAs, FindAs, keyOf, maxOf, UpTo, TopOf, raisedTop}
+use Rattle.server.specs.Reads.{Stored, firstWith, FindIs, SearchAs, FindAs, maxOf, UpTo, TopOf, raisedTop}
 
 -- ---- keys
 
@@ -56,19 +56,19 @@ up-more top up [] l h = tt
 up-more top up (w ∷ ws) l h = (omega (arith, h .0), up-more top up ws l (h .1))
 
 -- the key of a printed stamp
-pub key-printed : (a : Stamp) → keyOf (stampAt (stampF .print a)) ≡ keyOf a
-unfolding keyOf stampAt stampF via seq number4 byte run
+pub key-printed : (a : Stamp) → rank (stampAt (stampF .print a)) ≡ rank a
+unfolding stampAt stampF via seq number4 byte run
 key-printed a = ap (λ (n : ℕ). 256 * n + a .writer) (value4-print (a .number))
 
 -- ---- what is found: nothing above all stamps, the highest at its place, and below it what a walk finds
 
-pub first-above : (key : List ℕ) (top : ℕ) (ws : List Write) → UpTo top ws → top < keyOf (stampAt key) → firstWith key ws ≡ none
+pub first-above : (key : List ℕ) (top : ℕ) (ws : List Write) → UpTo top ws → top < rank (stampAt key) → firstWith key ws ≡ none
 unfolding firstWith
 first-above key top [] h k = refl
 first-above key top (w ∷ ws) h k =
     let f : sameList (stampF .print (w .stamp)) key ≡ false =
     untrue _ (λ e.
-    let q : keyOf (w .stamp) ≡ keyOf (stampAt key) = sym (key-printed (w .stamp)) ∙ ap (λ (x : List ℕ). keyOf (stampAt x))
+    let q : rank (w .stamp) ≡ rank (stampAt key) = sym (key-printed (w .stamp)) ∙ ap (λ (x : List ℕ). rank (stampAt x))
     (same-true (stampF .print (w .stamp)) key e) in
     omega (arith, q, h .0, k)) in
     rw f (first-above key top ws (h .1) k)
@@ -88,7 +88,7 @@ module _ (s : Config) (n : ℕ) (top : Top) (d y : List ℕ) {x : List ℕ} (p :
   found-as : (r : Found) → ((ws : List Write) (e : ℕ) → Stored s n d ws e → TopOf s d top ws → FindIs s d (firstWith x ws) r) → FindAs s n top d y r
   found-as r f ws e m u = subst (λ (z : List ℕ). FindIs s d (firstWith z ws) r) p (f ws e m u)
 
-  pub find-above : {k : ℕ} → k ≡ keyOf (stampAt x) → top .key < k → FindAs s n top d y found.Nothing
+  pub find-above : {k : ℕ} → k ≡ rank (stampAt x) → top .key < k → FindAs s n top d y found.Nothing
   find-above q l = found-as found.Nothing (λ ws e m u. first-above x (top .key) ws (u .up) (omega (arith, q, l)))
 
   pub find-highest : (0 < top .at) × (sameList (part (drop (top .at) d) 0 stampSize) x ≡ true) → FindAs s n top d y (found.At (top .at))

@@ -12,7 +12,7 @@ use lib.ListN.{drop, take, length}
 use borrow.Author.Tests.{ltb-true, ltb-false}
 use Rattle.cluster.specs.Config.{Config}
 use Rattle.protocol.specs.Format.{Bytes, many}
-use Rattle.protocol.specs.Values.{Write, sameList, isSome, stampSize}
+use Rattle.protocol.specs.Values.{Write, sameList, isSome, stampSize, rank}
 use Rattle.protocol.specs.Packet.{stampF, writeF}
 use Rattle.protocol.specs.Memory.{held, freshAfter, distinct}
 use Rattle.protocol.specs.View.{part, stampAt}
@@ -26,7 +26,7 @@ use Rattle.server.specs.declared.memory.Top.{Top}
 use Rattle.server.specs.declared.memory.Found.{Found}
 use Rattle.server.specs.declared.memory.Found.the-variants as found
 use Rattle.server.specs.declared.memory.Writes.the-variants as writes
-use Rattle.server.specs.Reads.{writesPlace, Stored, firstWith, FindIs, FindAs, keyOf, TopOf, raisedTop, RepeatsAs, WritesAs}
+use Rattle.server.specs.Reads.{writesPlace, Stored, firstWith, FindIs, FindAs, TopOf, raisedTop, RepeatsAs, WritesAs}
 use Rattle.server.proofs.Walk.{stamp-bytes}
 use Rattle.server.proofs.Finding.{up-more, key-printed, first-above, first-append, shareIn, first-held}
 
@@ -55,17 +55,17 @@ module _ (s : Config) (n : ℕ) (top : Top) (d : List ℕ) (at : ℕ) (bs : Byte
 module _ (s : Config) {d : List ℕ} (bs : Bytes d) (top : Top) (seen : List Write) {at q : ℕ} (f : Leaves (writeF s) d at (writeAt s (drop at d)) q)
     (u : TopOf s d top seen) where
   -- a higher write is the only one with its stamp
-  above : {k : ℕ} → k ≡ keyOf (writeAt s (drop at d) .stamp) → top .key < k → TopOf s d (record { key = k; at = at })
+  above : {k : ℕ} → k ≡ rank (writeAt s (drop at d) .stamp) → top .key < k → TopOf s d (record { key = k; at = at })
       (seen ++ writeAt s (drop at d) ∷ [])
   unfolding firstWith part
   above {k} e l =
       let w : Write = writeAt s (drop at d) in
       record {
-        up = all-snoc (λ x. keyOf (x .stamp) ≤ k) seen w (up-more (top .key) k seen (omega arith) (u .up)) (omega arith);
+        up = all-snoc (λ x. rank (x .stamp) ≤ k) seen w (up-more (top .key) k seen (omega arith) (u .up)) (omega arith);
         first = λ _ key g.
             let b : take stampSize (drop at d) ≡ stampF .print (w .stamp) = unfold part in (stamp-bytes s f bs) in
             let a : stampF .print (w .stamp) ≡ key = sym b ∙ same-true (take stampSize (drop at d)) key g in
-            let m : keyOf (stampAt key) ≡ k = ap (λ (x : List ℕ). keyOf (stampAt x)) (sym a) ∙ key-printed (w .stamp) ∙ sym e in
+            let m : rank (stampAt key) ≡ k = ap (λ (x : List ℕ). rank (stampAt x)) (sym a) ∙ key-printed (w .stamp) ∙ sym e in
             record {
               next = q;
               there = f;
@@ -77,11 +77,11 @@ module _ (s : Config) {d : List ℕ} (bs : Bytes d) (top : Top) (seen : List Wri
             };
       }
 
-  below : {k : ℕ} → k ≡ keyOf (writeAt s (drop at d) .stamp) → k ≤ top .key → TopOf s d top (seen ++ writeAt s (drop at d) ∷ [])
+  below : {k : ℕ} → k ≡ rank (writeAt s (drop at d) .stamp) → k ≤ top .key → TopOf s d top (seen ++ writeAt s (drop at d) ∷ [])
   below {k} e l =
       let w : Write = writeAt s (drop at d) in
       record {
-        up = all-snoc (λ x. keyOf (x .stamp) ≤ top .key) seen w (u .up) (omega (arith, e, l));
+        up = all-snoc (λ x. rank (x .stamp) ≤ top .key) seen w (u .up) (omega (arith, e, l));
         first = λ p key g. let o = u .first p key g in record {
           next = o .next;
           there = o .there;
@@ -90,7 +90,7 @@ module _ (s : Config) {d : List ℕ} (bs : Bytes d) (top : Top) (seen : List Wri
         };
       }
 
-  top-more : {k : ℕ} → k ≡ keyOf (writeAt s (drop at d) .stamp) → TopOf s d (raisedTop top k at) (seen ++ writeAt s (drop at d) ∷ [])
+  top-more : {k : ℕ} → k ≡ rank (writeAt s (drop at d) .stamp) → TopOf s d (raisedTop top k at) (seen ++ writeAt s (drop at d) ∷ [])
   unfolding raisedTop
   top-more {k} e =
       at-cond (ltb (top .key) k) (record { key = k; at = at }) top (λ (z : Top). TopOf s d z (seen ++ writeAt s (drop at d) ∷ []))
@@ -132,9 +132,9 @@ module _ {s : Config} {n : ℕ} {d : List ℕ} {at i : ℕ} {top : Top} (h : Che
         many-stops (writeF s) (n - i) (n - (i + 1)) (omega arith) r f
 
     module _ {q : ℕ} (f : Leaves (writeF s) d at (writeAt s (drop at d)) q) where
-      last-key : {x : List ℕ} → x ≡ drop at d → {k : ℕ} → k ≡ keyOf (stampAt x) → k ≡ keyOf (writeAt s (drop at d) .stamp)
+      last-key : {x : List ℕ} → x ≡ drop at d → {k : ℕ} → k ≡ rank (stampAt x) → k ≡ rank (writeAt s (drop at d) .stamp)
       unfolding writeAt
-      last-key p e = e ∙ ap (λ (y : List ℕ). keyOf (stampAt y)) p
+      last-key p e = e ∙ ap (λ (y : List ℕ). rank (stampAt y)) p
 
       -- the stamps seen and then the others, where the first of these is known to be fresh or not
       fresh-next : (b : Bool) → RepeatsAs s i top d at b → (zs : List Write)
@@ -149,7 +149,7 @@ module _ {s : Config} {n : ℕ} {d : List ℕ} {at i : ℕ} {top : Top} (h : Che
           let z : true ≡ false = sym o ∙ p ∙ ap (freshAfter (h .seen)) u ∙ fresh-next b g zs ∙ rw t in
           subst T z tt
 
-      pub check-more : Bytes d → {x : List ℕ} → x ≡ drop at d → {k : ℕ} → k ≡ keyOf (stampAt x) → {up : Top} → up ≡ raisedTop top k at
+      pub check-more : Bytes d → {x : List ℕ} → x ≡ drop at d → {k : ℕ} → k ≡ rank (stampAt x) → {up : Top} → up ≡ raisedTop top k at
           → {b : Bool} → RepeatsAs s i top d at b → b ≡ false → Checking s n d q up (i + 1)
       check-more bs {x} p₀ {k} q₀ {up} v {b} g t =
           let w : Write = writeAt s (drop at d) in

@@ -1,20 +1,18 @@
--- The latest candidate raised: the keys of stamps are in the order of the stamps, and a higher candidate's bytes over the latest ones
+-- The latest candidate raised: heads read off bytes are in the order of their stamps, and a higher candidate's bytes over the latest ones
 -- are the memory of the raised server. Assumes nothing.
 use mathlib.Core.Path.{_≡_, refl, sym, ap, _∙_}
-use mathlib.Core.Bool.{Bool, true, false, cond, _&&_, _||_}
+use mathlib.Core.Bool.{Bool, true, false, cond}
 use mathlib.Core.List.{List}
-use Prim.Native.Nat.{ℕ, _+_, _*_, _≤_, _<_}
+use Prim.Native.Nat.{ℕ, _+_, _≤_, _<_}
 use native.Mathlib.Omega.{arith}
-use lib.Dec.{ltb, eqb}
-use lib.ListN.{length, drop}
-use borrow.Author.Tests.{ltb-true, ltb-false, eqb-true, eqb-false, lt-ltb, le-ltb, le-leb}
+use lib.ListN.{length, drop, getD}
+use borrow.Author.Tests.{le-leb}
 use Rattle.cluster.specs.Config.{shelf}
 use Rattle.cluster.specs.Ranges.{topFaults, memorySize}
 use Rattle.cluster.specs.declared.Outcome.{Outcome}
 use Rattle.protocol.specs.declared.Head.{Head}
-use Rattle.protocol.specs.declared.Stamp.{Stamp}
 use Rattle.protocol.specs.Format.{Bytes}
-use Rattle.protocol.specs.Values.{Candidate, below, candidateSize}
+use Rattle.protocol.specs.Values.{Candidate, below, stampSize, candidateSize}
 use Rattle.protocol.specs.Packet.{candidateF, anyCandidateF, complete, headSize}
 use Rattle.protocol.specs.Memory.{encodeMemory}
 use Rattle.protocol.specs.Server.{memoryOf, Server, raise, act}
@@ -25,44 +23,38 @@ use Rattle.protocol.proofs.Acts.{any-candidate}
 use Rattle.protocol.proofs.Answers.{bytes-drop}
 use Rattle.protocol.proofs.Changes.{latest-bytes}
 use Rattle.protocol.proofs.Packets.{any-print, any-candidate-length}
-use Rattle.wire.specs.Places.{bodyAt, packetAt}
+use Rattle.wire.specs.declared.values.CandidateHead.{CandidateHead}
+use Rattle.wire.specs.Places.{padded, headAt, bodyAt, packetAt}
 use Rattle.wire.specs.Make.{Placed, placed, packetStep}
+use Rattle.wire.proofs.Runs.{padded-get}
 use Rattle.server.specs.declared.memory.Top.{Top}
-use Rattle.server.specs.Reads.{latestPlace, Opened, keyOf}
+use Rattle.server.specs.Reads.{latestPlace, Opened}
 use Rattle.server.specs.Answers.{memoryIn, replyHead, raisedBytes, AnswersFor}
 use Rattle.server.proofs.Standing.{memory-bytes, memory-size-of, memory-fields}
 use Rattle.server.proofs.Replies.{body-of, replied, unchanged, part-none, alone, headed, sent-ok, sent-bytes}
 
-pub below-key : (a b : Stamp) → a .writer < 256 → b .writer < 256 → below a b ≡ ltb (keyOf a) (keyOf b)
-unfolding below keyOf
-below-key a b ha hb = go (ltb (a .number) (b .number)) (eqb (a .number) (b .number)) (ltb (a .writer) (b .writer)) refl refl refl
+-- a head read off bytes has the number and the writer that stand there
+head-below : (x y : List ℕ) → below (headAt x .stamp) (headAt y .stamp) ≡ below (stampAt x) (stampAt y)
+unfolding below headAt stampAt
+head-below x y = rw (five x 0 (omega arith), five x 1 (omega arith), five x 2 (omega arith), five x 3 (omega arith), five x 4 (omega arith), five y 0 (omega arith), five y 1 (omega arith), five y 2 (omega arith), five y 3 (omega arith), five y 4 (omega arith)) refl
   where
-    j : ℕ
-    j = 256 * a .number + a .writer
-
-    k : ℕ
-    k = 256 * b .number + b .writer
-
-    go : (x y z : Bool) → ltb (a .number) (b .number) ≡ x → eqb (a .number) (b .number) ≡ y → ltb (a .writer) (b .writer) ≡ z → (x || (y && z)) ≡ ltb
-        j k
-    go true y z p q r = sym (lt-ltb j k (omega (arith, ltb-true (a .number) (b .number) p)))
-    go false true true p q r = sym (lt-ltb j k (omega (arith, eqb-true (a .number) (b .number) q, ltb-true (a .writer) (b .writer) r)))
-    go false true false p q r = sym (le-ltb j k (omega (arith, eqb-true (a .number) (b .number) q, ltb-false (a .writer) (b .writer) r)))
-    go false false z p q r = sym (le-ltb j k (omega (arith, ltb-false (a .number) (b .number) p, eqb-false (a .number) (b .number) q)))
+    five : (z : List ℕ) (i : ℕ) → i < stampSize → getD (padded stampSize z) i 0 ≡ getD z i 0
+    five z i h = padded-get stampSize z i h
 
 -- ---- each way through the code
 
-module _ (d x : List ℕ) {y : List ℕ} (p : y ≡ drop latestPlace d) {j k : ℕ} (u : j ≡ keyOf (stampAt y)) (v : k ≡ keyOf (stampAt x)) where
-  keys : {b : Bool} → ltb j k ≡ b → ltb (keyOf (stampAt (drop latestPlace d))) (keyOf (stampAt x)) ≡ b
-  keys e = let w = u ∙ ap (λ (z : List ℕ). keyOf (stampAt z)) p in sym (λ i. ltb (w i) (v i)) ∙ e
+module _ (d x : List ℕ) {y : List ℕ} (p : y ≡ drop latestPlace d) {h g : CandidateHead} (u : h ≡ headAt y) (v : g ≡ headAt x) {b : Bool}
+    (w : b ≡ below (h .stamp) (g .stamp)) where
+  tested : b ≡ below (stampAt (drop latestPlace d)) (stampAt x)
+  tested = w ∙ (λ i. below ((u ∙ ap headAt p) i .stamp) (v i .stamp)) ∙ head-below (drop latestPlace d) x
 
-  pub raise-higher : j < k → {next : ℕ} {out : List ℕ} → record { next = next; output = out } ≡ placed d latestPlace x → out ≡ raisedBytes d x
+  pub raise-higher : b ≡ true → {next : ℕ} {out : List ℕ} → record { next = next; output = out } ≡ placed d latestPlace x → out ≡ raisedBytes d x
   unfolding raisedBytes
-  raise-higher h q = rw (keys (lt-ltb j k h)) (ap (λ (z : Placed). z .output) q)
+  raise-higher t q = rw (sym tested ∙ t) (ap (λ (z : Placed). z .output) q)
 
-  pub raise-other : k ≤ j → d ≡ raisedBytes d x
+  pub raise-other : b ≡ false → d ≡ raisedBytes d x
   unfolding raisedBytes
-  raise-other h = rw (keys (le-ltb j k h))
+  raise-other t = rw (sym tested ∙ t) refl
 
 -- ---- the bytes of the raised server
 
@@ -70,10 +62,6 @@ cond-memory : (t b : ℕ) (g : Bool) (p q : Server) (x y : List ℕ) → x ≡ e
     → cond g x y ≡ encodeMemory (memoryOf t b (cond g p q))
 cond-memory t b true p q x y e f = e
 cond-memory t b false p q x y e f = f
-
-writer-byte : (x : List ℕ) → Bytes x → stampAt x .writer < 256
-unfolding stampAt
-writer-byte x bs = bs 4
 
 pub placed-put : (d : List ℕ) (at : ℕ) (x : List ℕ) → at + length x ≤ length d → placed d at x .output ≡ put d at x
 unfolding placed
@@ -83,7 +71,7 @@ pub size-few : (t : ℕ) → t ≤ topFaults → latestPlace + candidateSize (sh
 unfolding shelf
 size-few t h = omega arith
 
-module _ {d : List ℕ} {t b n e : ℕ} {top : Top} (o : Opened d t b n e top) (bs : Bytes d) (x : List ℕ) (xs : Bytes x) where
+module _ {d : List ℕ} {t b n e : ℕ} {top : Top} (o : Opened d t b n e top) (bs : Bytes d) (x : List ℕ) where
   module _ (p : x ≡ candidateF (shelf t) .print (candidateAt (shelf t) x)) (ok : candidateF (shelf t) .Ok (candidateAt (shelf t) x)) where
     any-length : (c : Candidate) → anyCandidateF (shelf t) .Ok c → length (anyCandidateF (shelf t) .print c) ≡ candidateSize (shelf t)
     any-length c h = any-candidate-length (shelf t) c h
@@ -108,13 +96,9 @@ module _ {d : List ℕ} {t b n e : ℕ} {top : Top} (o : Opened d t b n e top) (
     pub raised-memory : raisedBytes d x ≡ encodeMemory (memoryOf t b (raise (candidateAt (shelf t) x) (serverIn (memoryIn o))))
     unfolding raisedBytes raise serverIn candidateAt
     raised-memory =
-        let a : Stamp = stampAt (drop latestPlace d) in
-        let q : below a (stampAt x) ≡ ltb (keyOf a) (keyOf (stampAt x)) =
-        below-key a (stampAt x) (writer-byte (drop latestPlace d) (bytes-drop latestPlace d bs)) (writer-byte x xs) in
         let v : Server = serverIn (memoryIn o) in
         let w : Server = record { latest = candidateAt (shelf t) x; history = o .writes } in
-        cond-memory t b (ltb (keyOf a) (keyOf (stampAt x))) w v (placed d latestPlace x .output) d placed-raised (unchanged o bs)
-        ∙ ap (λ (g : Bool). encodeMemory (memoryOf t b (cond g w v))) (sym q)
+        cond-memory t b (below (stampAt (drop latestPlace d)) (stampAt x)) w v (placed d latestPlace x .output) d placed-raised (unchanged o bs)
 
 -- ---- complete
 
@@ -128,6 +112,6 @@ module _ (d : List ℕ) (bs : Bytes d) (packet : List ℕ) (ps : Bytes packet) (
       let y : List ℕ = drop headSize packet in
       let b = body-of h packet 5 k in
       replied key packet output h o dec room (complete (candidateAt (shelf (h .t)) y)) b first second
-      (e ∙ ap (raisedBytes d) c ∙ raised-memory o bs y (bytes-drop headSize packet ps) (sent-bytes h packet dec b ps) (sent-ok h packet dec b))
+      (e ∙ ap (raisedBytes d) c ∙ raised-memory o bs y (sent-bytes h packet dec b ps) (sent-ok h packet dec b))
       (sym (f ∙ part-none packet 0) ∙ alone first (j ∙ part-none packet 0))
       (headed h 6 output first second q w)

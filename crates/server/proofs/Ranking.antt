@@ -13,10 +13,10 @@ use lib.ListN.{take, drop}
 use borrow.Author.Tests.{ltb-true, ltb-false, lt-ltb, le-ltb}
 use Rattle.cluster.specs.Config.{Config, shelf}
 use Rattle.protocol.specs.Format.{Bytes}
-use Rattle.protocol.specs.Values.{candidateSize}
+use Rattle.protocol.specs.Values.{candidateSize, rank}
 use Rattle.protocol.specs.View.{part, stampAt}
 use Rattle.protocol.proofs.Answers.{at-cond, bytes-drop}
-use Rattle.server.specs.Reads.{keyOf, maxOf}
+use Rattle.server.specs.Reads.{maxOf}
 use Rattle.server.specs.Ranks.{slotOf, rankOf, slotWith, under, nextRank}
 use Rattle.server.proofs.Finding.{max-left, max-right}
 
@@ -40,15 +40,15 @@ pub slot-bytes : (s : Config) (y : List ℕ) (i : ℕ) → Bytes y → Bytes (sl
 unfolding slotOf part
 slot-bytes s y i h = bytes-take (candidateSize s) (drop (candidateSize s * i) y) (bytes-drop (candidateSize s * i) y h)
 
-pub key-top : (x : List ℕ) → Bytes x → keyOf (stampAt x) < 1099511627776
-unfolding keyOf stampAt
+pub key-top : (x : List ℕ) → Bytes x → rank (stampAt x) < 1099511627776
+unfolding stampAt
 key-top x h = omega (arith, h 0, h 1, h 2, h 3, h 4)
 
-pub rank-made : (s : Config) (y : List ℕ) (i : ℕ) {x : List ℕ} {k : ℕ} → x ≡ slotOf s y i → k ≡ keyOf (stampAt x) → 256 * k + (255 - i) ≡ rankOf s y i
+pub rank-made : (s : Config) (y : List ℕ) (i : ℕ) {x : List ℕ} {k : ℕ} → x ≡ slotOf s y i → k ≡ rank (stampAt x) → 256 * k + (255 - i) ≡ rankOf s y i
 unfolding rankOf
-rank-made s y i p q = ap (λ (k : ℕ). 256 * k + (255 - i)) (q ∙ ap (λ (z : List ℕ). keyOf (stampAt z)) p)
+rank-made s y i p q = ap (λ (k : ℕ). 256 * k + (255 - i)) (q ∙ ap (λ (z : List ℕ). rank (stampAt z)) p)
 
-pub key-fits : (s : Config) (y : List ℕ) (i : ℕ) → Bytes y → {x : List ℕ} {k : ℕ} → x ≡ slotOf s y i → k ≡ keyOf (stampAt x) → k < 1099511627776
+pub key-fits : (s : Config) (y : List ℕ) (i : ℕ) → Bytes y → {x : List ℕ} {k : ℕ} → x ≡ slotOf s y i → k ≡ rank (stampAt x) → k < 1099511627776
 key-fits s y i h {x} {k} p q = omega (arith, q, key-top x (subst Bytes (sym p) (slot-bytes s y i h)))
 
 pub rank-top : (s : Config) (y : List ℕ) (i : ℕ) → Bytes y → rankOf s y i < 281474976710656
@@ -92,16 +92,16 @@ module _ (s : Config) (y : List ℕ) where
   pub rank-slot : (i : ℕ) → i < 255 → slotWith (rankOf s y i) ≡ i
   unfolding rankOf slotWith
   rank-slot i h =
-      let m : (256 * keyOf (stampAt (slotOf s y i)) + (255 - i)) % 256 ≡ 255 - i =
-      mul-add-mod-self-left 256 (keyOf (stampAt (slotOf s y i))) (255 - i) ∙ mod-eq-of-lt (omega arith) in
+      let m : (256 * rank (stampAt (slotOf s y i)) + (255 - i)) % 256 ≡ 255 - i =
+      mul-add-mod-self-left 256 (rank (stampAt (slotOf s y i))) (255 - i) ∙ mod-eq-of-lt (omega arith) in
       omega (arith, m)
 
   -- the higher key has the higher rank, and so has the earlier of equals
-  pub rank-higher : (i j : ℕ) → i < 255 → j < 255 → keyOf (stampAt (slotOf s y i)) < keyOf (stampAt (slotOf s y j)) → rankOf s y i < rankOf s y j
+  pub rank-higher : (i j : ℕ) → i < 255 → j < 255 → rank (stampAt (slotOf s y i)) < rank (stampAt (slotOf s y j)) → rankOf s y i < rankOf s y j
   unfolding rankOf
   rank-higher i j h k l = omega arith
 
-  pub rank-earlier : (i j : ℕ) → i < j → keyOf (stampAt (slotOf s y j)) ≤ keyOf (stampAt (slotOf s y i)) → rankOf s y j ≤ rankOf s y i
+  pub rank-earlier : (i j : ℕ) → i < j → rank (stampAt (slotOf s y j)) ≤ rank (stampAt (slotOf s y i)) → rankOf s y j ≤ rankOf s y i
   unfolding rankOf
   rank-earlier i j h l = omega arith
 

@@ -22,13 +22,13 @@ use Rattle.server.specs.Valid.{ValidAs, RaisedAs, AnswersWith}
 use Rattle.server.proofs.Raising.{raised-memory}
 use Rattle.server.proofs.Replies.{body-of, replied, unchanged, part-none, alone, headed, sent-ok, sent-bytes}
 
-module _ (d : List ℕ) (bs : Bytes d) (key : List ℕ) (t b n : ℕ) (top : Top) (x : List ℕ) (xs : Bytes x) {r : Bool}
+module _ (d : List ℕ) (bs : Bytes d) (key : List ℕ) (t b n : ℕ) (top : Top) (x : List ℕ) {r : Bool}
     (test : ValidAs d key t b n top x r) where
   pub raised-valid : r ≡ true → {m : List ℕ} → m ≡ raisedBytes d x → RaisedAs d key t b n top x m
   raised-valid i p e o made ok =
       let v : Server = serverIn (memoryIn o) in
       let c = candidateAt (shelf t) x in
-      p ∙ raised-memory o bs x xs made ok ∙ ap (λ (g : Bool). encodeMemory (memoryOf t b (cond g (raise c v) v))) (sym i ∙ test e o made ok)
+      p ∙ raised-memory o bs x made ok ∙ ap (λ (g : Bool). encodeMemory (memoryOf t b (cond g (raise c v) v))) (sym i ∙ test e o made ok)
 
   pub left-invalid : r ≡ false → RaisedAs d key t b n top x d
   left-invalid i e o made ok =

@@ -5,10 +5,10 @@ use mathlib.Core.Bool.{true, false, cond}
 use mathlib.Core.List.{List, [], _∷_}
 use mathlib.Core.Option.{some}
 use Prim.Native.Nat.{ℕ, _+_, _≤_}
-use lib.Dec.{ltb}
 use lib.ListN.{length, drop}
 use Rattle.cluster.specs.Config.{shelf}
 use Rattle.cluster.specs.Ranges.{packetRoom}
+use Rattle.protocol.specs.Values.{below}
 use Rattle.protocol.specs.declared.Head.{Head}
 use Rattle.protocol.specs.Packet.{Packet, decode}
 use Rattle.protocol.specs.Memory.{Memory}
@@ -19,7 +19,7 @@ use Rattle.protocol.specs.ServerBytes.{Served, actedOn}
 use Rattle.wire.specs.Places.{packetAt}
 use Rattle.wire.specs.Make.{placed}
 use Rattle.server.specs.declared.memory.Top.{Top}
-use Rattle.server.specs.Reads.{latestPlace, Opened, keyOf}
+use Rattle.server.specs.Reads.{latestPlace, Opened}
 
 -- the memory that opens
 abbrev pub memoryIn : {d : List ℕ} {t b n e : ℕ} {top : Top} → Opened d t b n e top → Memory
@@ -58,7 +58,7 @@ AnswersAny d key packet output h n e top r =
 
 -- the candidate's bytes c over the latest ones, if its stamp is higher
 unfoldable pub raisedBytes : List ℕ → List ℕ → List ℕ
-raisedBytes d c = cond (ltb (keyOf (stampAt (drop latestPlace d))) (keyOf (stampAt c))) (placed d latestPlace c .output) d
+raisedBytes d c = cond (below (stampAt (drop latestPlace d)) (stampAt c)) (placed d latestPlace c .output) d
 
 -- one more stored write after n, which reach up to the place e; the count stands before the latest candidate
 abbrev pub countPlace : ℕ

@@ -1,12 +1,12 @@
--- The slots of a list of candidates, and the order in which they are tried: by key from the highest down, the first among equals.
+-- The slots of a list of candidates, and the order in which they are tried: by rank from the highest down, the first among equals.
 use mathlib.Core.Bool.{cond}
 use mathlib.Core.List.{List}
 use Prim.Native.Nat.{ℕ, zero, suc, _+_, _-_, _*_, _%_}
 use lib.Dec.{ltb}
 use Rattle.cluster.specs.Config.{Config}
-use Rattle.protocol.specs.Values.{candidateSize}
+use Rattle.protocol.specs.Values.{rank, candidateSize}
 use Rattle.protocol.specs.View.{part, stampAt}
-use Rattle.server.specs.Reads.{keyOf, maxOf}
+use Rattle.server.specs.Reads.{maxOf}
 
 -- the bytes of slot i of a list
 unfoldable pub slotOf : Config → List ℕ → ℕ → List ℕ
@@ -14,14 +14,14 @@ slotOf s y i = part y (candidateSize s * i) (candidateSize s)
 
 -- the rank of slot i, at most 255: no two slots have one, and the earlier of equals is higher
 unfoldable pub rankOf : Config → List ℕ → ℕ → ℕ
-rankOf s y i = 256 * keyOf (stampAt (slotOf s y i)) + (255 - i)
+rankOf s y i = 256 * rank (stampAt (slotOf s y i)) + (255 - i)
 
 unfoldable pub slotWith : ℕ → ℕ
-slotWith rank = 255 - rank % 256
+slotWith r = 255 - r % 256
 
 -- a rank below bound, else 0
 unfoldable pub under : ℕ → ℕ → ℕ
-under rank bound = cond (ltb rank bound) rank 0
+under r bound = cond (ltb r bound) r 0
 
 -- the highest rank below bound among the first n slots, or 0
 unfoldable pub nextRank : Config → List ℕ → ℕ → ℕ → ℕ

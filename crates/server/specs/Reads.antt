@@ -7,9 +7,8 @@ use Prim.Native.Nat.{ℕ, _+_, _*_, _≤_, _<_}
 use lib.Dec.{ltb}
 use lib.ListN.{drop}
 use Rattle.cluster.specs.Config.{Config, shelf}
-use Rattle.protocol.specs.declared.Stamp.{Stamp}
 use Rattle.protocol.specs.Format.{All, many}
-use Rattle.protocol.specs.Values.{Write, sameList, isSome, stampSize, candidateSize}
+use Rattle.protocol.specs.Values.{Write, sameList, isSome, rank, stampSize, candidateSize}
 use Rattle.protocol.specs.Packet.{stampF, writeF}
 use Rattle.protocol.specs.Memory.{held, distinct, decodeMemory}
 use Rattle.protocol.specs.View.{part, stampAt, candidateAt}
@@ -56,12 +55,8 @@ FindIs s d o found.Nothing = o ≡ none
 abbrev pub SearchAs : Config → ℕ → List ℕ → List ℕ → Found → Type 0
 SearchAs s n d key r = (ws : List Write) (e : ℕ) → Stored s n d ws e → FindIs s d (firstWith key ws) r
 
--- the order of stamps as one number; writers are bytes
-unfoldable pub keyOf : Stamp → ℕ
-keyOf a = 256 * a .number + a .writer
-
 abbrev pub UpTo : ℕ → List Write → Type 0
-UpTo k ws = All (λ w. keyOf (w .stamp) ≤ k) ws
+UpTo k ws = All (λ w. rank (w .stamp) ≤ k) ws
 
 -- top is the highest of the writes: none is above its key, and a stamp whose bytes stand at its place is found there; place 0 is none
 pub record TopOf (s : Config) (d : List ℕ) (top : Top) (ws : List Write) : Type 0 where

@@ -45,8 +45,9 @@ pub(crate) fn collect(memory: &[u8], head: protocol::Head, out: &mut [u8]) -> cl
 pub(crate) fn raise(memory: &mut [u8], candidate: &[u8])
     ensures { λ r. ⌜ now (memory .exit) ≡ raisedBytes (now (memory .entry)) (now (candidate .entry)) ⌝ }
 {
-    let latest = crate::memory::key_at(wire::bytes::rest(memory, LATEST));
-    if latest < crate::memory::key_at(candidate) {
+    let latest = wire::values::head_at(wire::bytes::rest(memory, LATEST));
+    let next = wire::values::head_at(candidate);
+    if latest.below(next) {
         wire::make::put(memory, LATEST, candidate);
     }
 }

@@ -5,12 +5,13 @@ ghost use Prim.Native.Nat.{_≤_, _<_};
 ghost use lib.ListN.{length, drop};
 ghost use Rattle.cluster.specs.Config.{shelf};
 ghost use Rattle.protocol.specs.Values.{sameList, stampSize};
-ghost use Rattle.protocol.specs.View.{part, stampAt};
-ghost use Rattle.server.specs.Reads.{SearchAs, FindAs, RepeatsAs, WritesAs, MemoryAs, keyOf, maxOf, raisedTop, writesPlace};
+ghost use Rattle.protocol.specs.View.{part};
+ghost use Rattle.server.specs.Reads.{SearchAs, FindAs, RepeatsAs, WritesAs, MemoryAs, maxOf, raisedTop, writesPlace};
 use wire::bytes::part;
 use wire::bytes::rest;
 use wire::fields::Cursor;
 use wire::fields::Field;
+use wire::values::rank_at;
 
 // The place of the latest candidate.
 pub const LATEST: usize = 3;
@@ -44,13 +45,6 @@ pub(crate) fn writes_place(t: u8) -> usize
     ensures { λ r. ⌜ r ≡ writesPlace (shelf t) ⌝ }
 {
     LATEST + wire::sizes::candidate_size(t)
-}
-
-// A stamp's place in their order, as one number.
-pub(crate) fn key_at(stamp: &[u8]) -> u64
-    ensures { λ r. ⌜ r ≡ keyOf (stampAt (now (stamp .entry))) ⌝ }
-{
-    256 * (wire::bytes::number4(stamp) as u64) + (wire::bytes::byte_at(stamp, 4) as u64)
 }
 
 // The first of n stored writes whose stamp has these bytes. The writes were checked before, so each ends where its record length says:
@@ -92,7 +86,7 @@ pub(crate) fn find(memory: &[u8], t: u8, n: usize, top: Top, bytes: &[u8]) -> Fo
     ensures { λ r. ⌜ FindAs (shelf t) n top (now (memory .entry)) (now (bytes .entry)) r ⌝ }
 {
     let stamp = part(bytes, 0, wire::sizes::STAMP);
-    if top.key < key_at(stamp) {
+    if top.key < rank_at(stamp) {
         return Found::Nothing;
     }
     if stands_at(memory, top.at, stamp) {
@@ -145,7 +139,7 @@ fn check_writes(memory: &[u8], t: u8, n: usize) -> Writes
         if repeats(memory, t, i, top, at) {
             return Writes::Broken;
         }
-        top = raised(top, key_at(rest(memory, at)), at);
+        top = raised(top, rank_at(rest(memory, at)), at);
         at = next.at;
         i += 1;
     }

@@ -1,9 +1,8 @@
 // The order in which a list's candidates are tried: from the highest stamp down, the first among equals.
-// A rank is one number for the stamp's key and the slot, so that no two slots have one rank, and 0 is no slot's.
+// A slot's rank is one number for its stamp's rank and the slot, so that no two slots have one rank, and 0 is no slot's.
 ghost use mathlib.Core.Path.{_≡_};
 ghost use Rattle.cluster.specs.Config.{shelf};
 ghost use Rattle.server.specs.Ranks.{slotOf, rankOf, slotWith, under, nextRank};
-use crate::memory::key_at;
 use crate::memory::max_of;
 use wire::sizes::candidate_size;
 
@@ -21,7 +20,7 @@ pub(crate) fn slot(list: &[u8], t: u8, i: u8) -> &[u8]
 fn rank_at(list: &[u8], t: u8, i: u8) -> u64
     ensures { λ r. ⌜ r ≡ rankOf (shelf t) (now (list .entry)) i ⌝ }
 {
-    256 * key_at(slot(list, t, i)) + ((255 - i) as u64)
+    256 * wire::values::rank_at(slot(list, t, i)) + ((255 - i) as u64)
 }
 
 // The slot with a rank.

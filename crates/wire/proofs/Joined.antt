@@ -65,13 +65,6 @@ lengths-differ [] (y ∷ ys) h = refl
 lengths-differ (x ∷ xs) [] h = refl
 lengths-differ (x ∷ xs) (y ∷ ys) h = ap (λ (z : Bool). eqb x y && z) (lengths-differ xs ys (λ e. h (ap suc e))) ∙ and-false (eqb x y)
 
-pub byte-differs : (a b : List ℕ) (i : ℕ) → (getD a i 0 ≡ getD b i 0 → ⊥) → sameList a b ≡ false
-byte-differs a b i h = by (sameList a b) refl
-  where
-    by : (t : Bool) → sameList a b ≡ t → t ≡ false
-    by true e = absurd (h (ap (λ (x : List ℕ). getD x i 0) (same-true a b e)))
-    by false e = refl
-
 module _ (a b : List ℕ) (i : ℕ) where
   pub same-more : (all : ℕ) → i < length a → i < length b
       → eqb all 0 && sameList (drop i a) (drop i b) ≡ eqb (bitOr all (bitXor (getD a i 0) (getD b i 0))) 0 && sameList (drop (i + 1) a)

@@ -1,6 +1,6 @@
 -- What stands at the places of a packet. A packet that is let through is told by its head and its bytes alone:
 -- every field of its body is read by place, in the words of crate protocol's View.
-use mathlib.Core.Bool.{cond}
+use mathlib.Core.Bool.{Bool, cond, _&&_}
 use mathlib.Core.List.{List, [], _∷_, _++_}
 use mathlib.Core.Option.{Option, none, some}
 use Prim.Native.Nat.{ℕ, zero, suc, _+_, _*_}
@@ -9,7 +9,7 @@ use lib.ListN.{take, drop, getD, replicate}
 use Rattle.cluster.specs.Config.{Config, shelf}
 use Rattle.protocol.specs.declared.Head.{Head}
 use Rattle.protocol.specs.Format.{value2}
-use Rattle.protocol.specs.Values.{Candidate, Share, Write, blankStamp, nonceSize, stampSize, candidateSize}
+use Rattle.protocol.specs.Values.{Candidate, Share, Write, blankStamp, sameList, sameStamp, nonceSize, stampSize, candidateSize}
 use Rattle.protocol.specs.Packet.{Body, clock, clockReply, store, storeReply, complete, completeReply, collect, collectReply, filter, filterReply, repair, repairReply, Packet, headSize}
 unfoldable pub use Rattle.protocol.specs.Packet.{shareSize}
 use Rattle.protocol.specs.View.{part, stampAt, candidateAt, shareAt, heldAt}
@@ -18,9 +18,17 @@ use Rattle.wire.specs.declared.values.CandidateHead.{CandidateHead}
 abbrev pub blankHead : CandidateHead
 blankHead = record { stamp = blankStamp; nonce = replicate nonceSize 0 }
 
+-- equality of candidates without their tags
+unfoldable pub sameHead : CandidateHead → CandidateHead → Bool
+sameHead a b = sameStamp (a .stamp) (b .stamp) && sameList (a .nonce) (b .nonce)
+
 -- the first n bytes, 0 past the end
 unfoldable pub padded : ℕ → List ℕ → List ℕ
 padded n d = take n (d ++ replicate n 0)
+
+-- the candidate's head at the start of bytes
+unfoldable pub headAt : List ℕ → CandidateHead
+headAt d = record { stamp = stampAt (padded stampSize d); nonce = padded nonceSize (drop stampSize d) }
 
 -- the record length at the start of a share
 unfoldable pub lengthAt : List ℕ → ℕ

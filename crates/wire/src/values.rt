@@ -1,23 +1,8 @@
-// Stamps and candidates' heads by value. The type Stamp, its blank, its order and its blank test stand in crate protocol.
+// Stamps and candidates' heads by value. The type Stamp, its blank, its order and its tests stand in crate protocol.
 ghost use mathlib.Core.Path.{_≡_};
-ghost use Rattle.protocol.specs.Values.{isBlank, below, sameStamp, stampSize};
+ghost use Rattle.protocol.specs.Values.{rank, below, stampSize};
 ghost use Rattle.protocol.specs.View.{stampAt};
-ghost use Rattle.wire.specs.Places.{padded, blankHead};
-
-// All three: number, writer, tag.
-pub fn same_stamp(a: protocol::Stamp, b: protocol::Stamp) -> bool
-    ensures { λ r. ⌜ r ≡ sameStamp a b ⌝ }
-{
-    if a.number != b.number {
-        return false;
-    }
-    if a.writer != b.writer {
-        return false;
-    }
-    let x = a.tag;
-    let y = b.tag;
-    crate::bytes::same(&x, &y)
-}
+ghost use Rattle.wire.specs.Places.{padded, blankHead, sameHead, headAt};
 
 // The stamp of the first bytes.
 pub fn stamp_at(s: &[u8]) -> protocol::Stamp
@@ -31,6 +16,13 @@ pub fn stamp_at(s: &[u8]) -> protocol::Stamp
         writer,
         tag,
     }
+}
+
+// The rank of the stamp of the first bytes: its place in the order of stamps.
+pub fn rank_at(s: &[u8]) -> u64
+    ensures { λ r. ⌜ r ≡ rank (stampAt (now (s .entry))) ⌝ }
+{
+    protocol::Stamp::rank_of(crate::bytes::number4(s), crate::bytes::byte_at(s, 4))
 }
 
 // A candidate without its tags.
@@ -57,11 +49,17 @@ impl CandidateHead {
         CandidateHead { stamp, nonce }
     }
 
+    // A blank candidate is all zero, and so is its head.
     pub fn is_blank(self) -> bool
-        ensures { λ r. ⌜ r ≡ isBlank (self .stamp) ⌝ }
+        ensures { λ r. ⌜ r ≡ sameHead self blankHead ⌝ }
     {
         let stamp = self.stamp;
-        stamp.is_blank()
+        if !stamp.is_blank() {
+            return false;
+        }
+        let nonce = self.nonce;
+        let zero = [0u8; cluster::KEY];
+        crate::bytes::same(&nonce, &zero)
     }
 
     // Candidates are ordered by their stamps.
@@ -72,4 +70,13 @@ impl CandidateHead {
         let b = other.stamp;
         a.below(b)
     }
+}
+
+// The candidate's head of the first bytes.
+pub fn head_at(s: &[u8]) -> CandidateHead
+    ensures { λ r. ⌜ r ≡ headAt (now (s .entry)) ⌝ }
+{
+    let stamp = stamp_at(s);
+    let nonce = crate::bytes::nonce_of(crate::bytes::rest(s, crate::sizes::STAMP));
+    CandidateHead { stamp, nonce }
 }

@@ -25,9 +25,9 @@ loop-again c =
     let args = c .before .before .before .before .before .before .args in
     let x = getD (args .t1) (args .j) 0 in (
       search needs,
-      c .before .before .product .ensures ∙ productTo-more (l .m) (factorAt (args .t1) (args .j) (args .z)) (l .top)
+      c .before .before .mul .ensures ∙ productTo-more (l .m) (factorAt (args .t1) (args .j) (args .z)) (l .top)
           (c .before .before .before .factor .result) (l .inv .1) (c .before .before .before .factor .ensures),
-      c .product2 .ensures ∙ productTo-more (l .m) (factorAt (args .t1) (args .j) x) (l .own) (c .before .factor2 .result) (l .inv .2)
+      c .mul2 .ensures ∙ productTo-more (l .m) (factorAt (args .t1) (args .j) x) (l .own) (c .before .factor2 .result) (l .inv .2)
           (c .before .factor2 .ensures),
     )
 
@@ -37,7 +37,7 @@ returns c =
     let l = c .before .before .before .loop in
     let args = c .before .before .before .before .args in
     let e : l .m ≡ args .k = omega arith in
-    c .product3 .ensures
+    c .mul3 .ensures
     ∙ ap₂ times (l .inv .1 ∙ ap (λ (n : ℕ). productTo n (factorAt (args .t1) (args .j) (args .z))) e)
     (c .before .inverse .ensures ∙ ap inverse (l .inv .2 ∙ ap (λ (n : ℕ). productTo n (factorAt (args .t1) (args .j) (getD (args .t1) (args .j) 0)))
     e))

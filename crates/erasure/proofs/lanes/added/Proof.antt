@@ -8,7 +8,8 @@ use mir.Val.{Fits}
 use mir.Syntax.{w8}
 use Rattle.erasure.proofs.Fill.{Filled, filled-none, filled-more}
 use Rattle.erasure.specs.Lanes.{lane, bitOf}
-use Rattle.erasure.proofs.Horner.{masked, bit-lt}
+use Rattle.gf256.proofs.Doubling.{masked}
+use Rattle.erasure.proofs.Horner.{bit-lt}
 use borrow.Author.Needs.{needs}
 use Rattle.erasure.proofs.lanes.added.Statement.{statement}
 use Rattle.erasure.proofs.lanes.added.Tie as tie
@@ -35,5 +36,5 @@ returns c i h =
     (bit-lt (args .w) (args .b)) (f .fits))
 
 pub added-spec : {M : Type 1} → statement M
-added-spec = tie.close (tie.spec Inv-loop μ-loop (λ c κs. search needs) loop-holds (λ c. search needs) (λ c. search needs) (λ c. search needs)
-    (λ c. search needs) (λ c. search needs) loop-again returns)
+added-spec = tie.close (tie.spec Inv-loop μ-loop (λ c. search needs) (λ c. search needs) (λ c κs. search needs) loop-holds (λ c. search needs)
+    (λ c. search needs) (λ c. search needs) (λ c. search needs) (λ c. search needs) loop-again returns)

@@ -26,7 +26,7 @@ loop-again c =
     let at = c .before .before .loop in
     let x = c .before .before .before .args .x in (
       search needs,
-      c .product .ensures ∙ ap (λ (w : ℕ). times w x) (at .inv .1) ∙ ap (power x) (sym (add-one (at .c))),
+      c .mul .ensures ∙ ap (λ (w : ℕ). times w x) (at .inv .1) ∙ ap (power x) (sym (add-one (at .c))),
       filled-more (at .inv .2) (omega arith) _ (at .inv .1),
     )
 

@@ -25,18 +25,18 @@ loop-again : tie.Need-loop-again Inv-loop μ-loop
 loop-again c =
     let at = c .before .before .loop in
     let args = c .before .before .before .before .args in
-    (search needs, filled-more (at .inv .1) (omega arith) _ (ap (bitXor (getD (args .t1) (at .c) 0)) (c .product2 .ensures)))
+    (search needs, filled-more (at .inv .1) (omega arith) _ (ap (bitXor (getD (args .t1) (at .c) 0)) (c .mul2 .ensures)))
 
 returns : tie.Need-returns Inv-loop μ-loop
 returns c =
     let at = c .before .loop in
     let args = c .before .before .before .args in
-    let w = c .before .before .product .result in
+    let w = c .before .before .mul .result in
     record {
-      here = getD-set-same (at .out) (args .p) w 0 (omega arith) ∙ c .before .before .product .ensures;
+      here = getD-set-same (at .out) (args .p) w 0 (omega arith) ∙ c .before .before .mul .ensures;
       there = λ j h ne.
           getD-set-other (at .out) (args .p) j w 0 ne ∙ at .inv .1 .each j (omega arith)
-          ∙ ap (λ (u : ℕ). bitXor (getD (args .t1) j 0) (times u (getD (args .t2) j 0))) (c .before .before .product .ensures);
+          ∙ ap (λ (u : ℕ). bitXor (getD (args .t1) j 0) (times u (getD (args .t2) j 0))) (c .before .before .mul .ensures);
     }
 
 pub turn-row-spec : {M : Type 1} → statement M

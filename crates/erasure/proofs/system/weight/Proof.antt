@@ -24,8 +24,8 @@ loop-again c =
     let at = c .before .before .before .loop in
     let args = c .before .before .before .before .args in (
       search needs,
-      sumTo-more (at .c) (λ i. times (getD (args .t2) i 0) (entry (args .t1) i (args .j))) (at .acc) (c .product .result) (at .inv .1)
-          (c .product .ensures),
+      sumTo-more (at .c) (λ i. times (getD (args .t2) i 0) (entry (args .t1) i (args .j))) (at .acc) (c .mul .result) (at .inv .1)
+          (c .mul .ensures),
     )
 
 returns : tie.Need-returns Inv-loop μ-loop

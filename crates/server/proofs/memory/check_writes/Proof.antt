@@ -33,7 +33,7 @@ loop-again c =
       omega arith,
       check-more (c .before .before .before .before .before .before .before .before .before .before .loop .inv .1) (omega arith)
           (w .leaves) (λ i. c .before .before .before .before .before .before .before .before .before .before .before .before .shared-slice-known .given
-          i .fits) (c .before .before .rest .ensures) (c .before .key-at .ensures) (c .raised .ensures)
+          i .fits) (c .before .before .rest .ensures) (c .before .rank-at .ensures) (c .raised .ensures)
           (c .before .before .before .before .repeats .ensures) (c .before .before .before .if1 .left),
     )
 

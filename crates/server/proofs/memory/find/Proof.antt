@@ -7,7 +7,7 @@ use Rattle.server.proofs.memory.find.Tie as tie
 
 returns : tie.Need-returns
 returns c = let a = c .before .before .before .before .before .before .args in find-above (shelf (a .t)) (a .n) (a .top) (a .memory .now)
-    (a .bytes .now) (c .before .before .before .part .ensures) (c .before .before .key-at .ensures) (c .if1 .taken)
+    (a .bytes .now) (c .before .before .before .part .ensures) (c .before .before .rank-at .ensures) (c .if1 .taken)
 
 returns-2 : tie.Need-returns-2
 returns-2 c = let a = c .before .before .before .before .before .before .before .before .args in find-highest (shelf (a .t)) (a .n) (a .top)

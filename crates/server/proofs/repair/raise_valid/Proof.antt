@@ -13,7 +13,6 @@ returns c = raised-valid (c .before .before .before .before .before .before .bef
     (c .before .before .before .before .before .before .before .before .before .args .n)
     (c .before .before .before .before .before .before .before .before .before .args .top)
     (c .before .before .before .before .before .before .before .before .before .args .candidate .now)
-    (λ i. c .before .before .before .before .before .before .before .shared-slice-known .given i .fits)
     (c .before .before .before .before .before .valid .ensures) (c .before .before .before .before .if1 .taken) (c .before .before .raise .ensures)
 
 returns-2 : tie.Need-returns-2
@@ -21,7 +20,7 @@ returns-2 c = left-invalid (c .before .before .before .before .before .args .mem
     (λ i. c .before .before .before .before .slice-known .given i .fits) (c .before .before .before .before .before .args .key)
     (c .before .before .before .before .before .args .t) (c .before .before .before .before .before .args .server)
     (c .before .before .before .before .before .args .n) (c .before .before .before .before .before .args .top)
-    (c .before .before .before .before .before .args .candidate .now) (λ i. c .before .before .before .shared-slice-known .given i .fits)
+    (c .before .before .before .before .before .args .candidate .now)
     (c .before .valid .ensures) (c .if1 .left)
 
 pub raise-valid-spec : {M : Type 1} → statement M

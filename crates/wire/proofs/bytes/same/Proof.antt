@@ -8,7 +8,8 @@ use native.Mathlib.Omega.{arith}
 use lib.Dec.{eqb}
 use lib.ListN.{length, drop}
 use Rattle.protocol.specs.Values.{sameList}
-use Rattle.wire.proofs.Joined.{lengths-differ, byte-differs, same-more, same-end}
+use Rattle.protocol.proofs.Equal.{byte-differs}
+use Rattle.wire.proofs.Joined.{lengths-differ, same-more, same-end}
 use Rattle.wire.proofs.bytes.same.Statement.{statement}
 use Rattle.wire.proofs.bytes.same.Tie as tie
 

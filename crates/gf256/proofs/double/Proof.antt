@@ -1,8 +1,8 @@
 -- The two branches are the two cases of the top bit. Assumes nothing.
 use native.Mathlib.Omega.{arith}
-use Rattle.erasure.proofs.Horner.{double-low, double-high}
-use Rattle.erasure.proofs.bits.double.Statement.{statement}
-use Rattle.erasure.proofs.bits.double.Tie as tie
+use Rattle.gf256.proofs.Doubling.{double-low, double-high}
+use Rattle.gf256.proofs.double.Statement.{statement}
+use Rattle.gf256.proofs.double.Tie as tie
 
 returns : tie.Need-returns
 returns c = double-low (c .before .args .a) (omega arith)

@@ -5,10 +5,10 @@ use mathlib.Core.Path.{_≡_, _∙_}
 use mathlib.Core.Bool.{false}
 use native.Mathlib.Omega.{arith}
 use borrow.Author.Tests.{eq-eqb, ne-eqb}
 use Rattle.protocol.specs.declared.Stamp.{Stamp}
 use Rattle.protocol.specs.Values.{sameList, sameStamp}
-use Rattle.wire.proofs.values.same_stamp.Statement.{statement}
-use Rattle.wire.proofs.values.same_stamp.Tie as tie
+use Rattle.protocol.proofs.Stamp.same.Statement.{statement}
+use Rattle.protocol.proofs.Stamp.same.Tie as tie
 
 module _ (a b : Stamp) where
   other-number : (a .number ≡ b .number → ⊥) → false ≡ sameStamp a b
@@ -30,7 +30,7 @@ returns-2 : tie.Need-returns-2
 returns-2 c = other-writer _ _ (omega arith) (c .if2 .taken)
 
 returns-3 : tie.Need-returns-3
-returns-3 c = c .same .ensures ∙ by-tag _ _ (omega arith) (omega arith)
+returns-3 c = c .same-tag .ensures ∙ by-tag _ _ (omega arith) (omega arith)
 
-pub same-stamp-spec : {M : Type 1} → statement M
-same-stamp-spec = tie.close (tie.spec returns returns-2 (λ c. search needs) (λ c. search needs) (λ c κs. search needs) returns-3)
+pub same-spec : {M : Type 1} → statement M
+same-spec = tie.close (tie.spec returns returns-2 (λ c κs. search needs) returns-3)
