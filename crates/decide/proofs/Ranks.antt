@@ -1,17 +1,17 @@
 -- A stamp of bytes is blank, by its number, where its rank is at most 255. Ranks in slots are read off the kept bytes. Nothing is assumed.
-use mathlib.Core.Path.{_≡_, refl, sym, ap, _∙_}
-use mathlib.Core.Bool.{Bool, true, false, cond, not, _&&_, _||_}
+use mathlib.Core.Path.{_≡_, refl, ap, _∙_}
+use mathlib.Core.Bool.{Bool, true, false, cond, not, _&&_}
 use mathlib.Core.List.{List}
 use Prim.Native.Nat.{ℕ, zero, suc, _+_, _*_, _≤_, _<_}
 use native.Mathlib.Omega.{arith}
 use lib.Dec.{ltb, eqb}
 use lib.ListN.{getD, getD}
-use borrow.Author.Tests.{ltb-true, ltb-false, eqb-true, eqb-false, lt-ltb, le-ltb, eq-eqb, ne-eqb}
+use borrow.Author.Tests.{eqb-true, eqb-false, eq-eqb, ne-eqb}
 use Rattle.cluster.specs.Config.{Config}
 use Rattle.cluster.specs.Ranges.{mostServers}
 use Rattle.protocol.specs.declared.Stamp.{Stamp}
 use Rattle.protocol.specs.Format.{Bytes}
-use Rattle.protocol.specs.Values.{Candidate, Held, noHeld, blankCandidate, isBlank, below, rank}
+use Rattle.protocol.specs.Values.{Candidate, Held, noHeld, blankCandidate, isBlank, rank}
 use Rattle.protocol.specs.View.{part, stampAt, candidateAt, heldAt, candidateSlot, candidatesAt, repliesAt, replySlot, marked, candidatesIn, repliesIn, replySlotOf}
 use Rattle.decide.specs.Steps.{ranksBelow, rankAt, blankRank}
 use Rattle.decide.proofs.Places.{bytes-part, candidate-in, reply-in, stamp-rank}

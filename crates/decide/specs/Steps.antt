@@ -10,7 +10,6 @@ use lib.ListN.{length, take, drop, getD}
 use Rattle.cluster.specs.Config.{Config, quorum, shelf}
 use Rattle.cluster.specs.Ranges.{within, leastLength, topLength, topFaults}
 use Rattle.sha256.specs.Sha256.{sha256}
-use Rattle.protocol.specs.declared.Stamp.{Stamp}
 use Rattle.protocol.specs.Format.{value2}
 use Rattle.protocol.specs.Values.{Candidate, Share, Held, sameList, nth, digestSize, digestsSize, tagsSize, stampSize, rank, sameStamp}
 use Rattle.protocol.specs.Primitives.{real}

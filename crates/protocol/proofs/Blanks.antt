@@ -1,7 +1,7 @@
 -- Blank is all zero. The layout has no stamp of number 0 but the blank one, and no candidate with it but the blank one: so of what was decoded
 -- the number alone tells whether it is blank, which is what the rules test (`isBlank`). Nothing is assumed.
 use mathlib.Core.Path.{_≡_, refl, sym, ap, _∙_}
-use mathlib.Core.Bool.{Bool, false, _&&_}
+use mathlib.Core.Bool.{false}
 use mathlib.Core.Logic.{inl, inr}
 use native.Mathlib.Omega.{arith}
 use lib.Dec.{eqb}
@@ -31,5 +31,6 @@ blank-stamp a (inr h) = numbered a h ∙ sym (not-blank a h)
 pub blank-candidate : (s : Config) (c : Candidate) → anyCandidateF s .Ok c → isBlank (c .stamp) ≡ sameCandidate c (blankCandidate s)
 unfolding anyCandidateF candidateF orBlank isBlank sameCandidate via seq
 blank-candidate s c (inl e) =
-    ap (λ (x : Candidate). eqb (x .stamp .number) 0) e ∙ sym (ap (λ (x : Candidate). sameCandidate x (blankCandidate s)) e ∙ candidate-refl (blankCandidate s))
+    ap (λ (x : Candidate). eqb (x .stamp .number) 0) e
+    ∙ sym (ap (λ (x : Candidate). sameCandidate x (blankCandidate s)) e ∙ candidate-refl (blankCandidate s))
 blank-candidate s c (inr h) = numbered (c .stamp) (h .0) ∙ sym (rw (not-blank (c .stamp) (h .0)) refl)

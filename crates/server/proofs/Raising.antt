@@ -20,7 +20,6 @@ use Rattle.protocol.specs.View.{part, stampAt, candidateAt}
 use Rattle.protocol.specs.ClientBytes.{put}
 use Rattle.protocol.specs.ServerBytes.{serverIn}
 use Rattle.protocol.proofs.Acts.{any-candidate}
-use Rattle.protocol.proofs.Answers.{bytes-drop}
 use Rattle.protocol.proofs.Changes.{latest-bytes}
 use Rattle.protocol.proofs.Packets.{any-print, any-candidate-length}
 use Rattle.wire.specs.declared.values.CandidateHead.{CandidateHead}
@@ -34,12 +33,21 @@ use Rattle.server.proofs.Standing.{memory-bytes, memory-size-of, memory
 use Rattle.server.proofs.Replies.{body-of, replied, unchanged, part-none, alone, headed, sent-ok, sent-bytes}
 
 -- a head read off bytes has the number and the writer that stand there
+module _ (x : List ℕ) where
+  place : (i : ℕ) → i < stampSize → getD (padded stampSize x) i 0 ≡ getD x i 0
+  place i h = padded-get stampSize x i h
+
+  head-number : headAt x .stamp .number ≡ stampAt x .number
+  unfolding headAt stampAt
+  head-number = rw (place 0 (omega arith), place 1 (omega arith), place 2 (omega arith), place 3 (omega arith)) refl
+
+  head-writer : headAt x .stamp .writer ≡ stampAt x .writer
+  unfolding headAt stampAt
+  head-writer = place 4 (omega arith)
+
 head-below : (x y : List ℕ) → below (headAt x .stamp) (headAt y .stamp) ≡ below (stampAt x) (stampAt y)
-unfolding below headAt stampAt
-head-below x y = rw (five x 0 (omega arith), five x 1 (omega arith), five x 2 (omega arith), five x 3 (omega arith), five x 4 (omega arith), five y 0 (omega arith), five y 1 (omega arith), five y 2 (omega arith), five y 3 (omega arith), five y 4 (omega arith)) refl
-  where
-    five : (z : List ℕ) (i : ℕ) → i < stampSize → getD (padded stampSize z) i 0 ≡ getD z i 0
-    five z i h = padded-get stampSize z i h
+unfolding below
+head-below x y = rw (head-number x, head-number y, head-writer x, head-writer y) refl
 
 -- ---- each way through the code
 

@@ -14,7 +14,6 @@ use lib.Seq.{drop-cons, drop-drop}
 use borrow.Author.Tests.{eq-eqb, ne-eqb, eqb-true, eqb-false}
 use Rattle.protocol.specs.Format.{zeros}
 use Rattle.protocol.specs.Values.{sameList}
-use Rattle.protocol.proofs.Equal.{same-true}
 
 and-true : (p : Bool) → p && true ≡ p
 and-true true = refl

@@ -10,14 +10,16 @@ mul-result : tie.Need-mul-result
 mul-result c = omega (
   arith,
   key-fits (shelf (c .before .before .before .args .t)) (c .before .before .before .args .list .now)
-      (c .before .before .before .args .i) (λ i. c .before .before .shared-slice-known .given i .fits) (c .before .slot .ensures) (c .rank-at .ensures),
+      (c .before .before .before .args .i) (λ i. c .before .before .shared-slice-known .given i .fits) (c .before .slot .ensures)
+      (c .rank-at .ensures),
 )
 
 add-result : tie.Need-add-result
 add-result c = omega (
   arith,
   key-fits (shelf (c .before .before .before .args .t)) (c .before .before .before .args .list .now)
-      (c .before .before .before .args .i) (λ i. c .before .before .shared-slice-known .given i .fits) (c .before .slot .ensures) (c .rank-at .ensures),
+      (c .before .before .before .args .i) (λ i. c .before .before .shared-slice-known .given i .fits) (c .before .slot .ensures)
+      (c .rank-at .ensures),
 )
 
 returns : tie.Need-returns
