@@ -105,7 +105,7 @@ pub fn number4(s: &[u8]) -> u32
 }
 
 // The first bytes as a tag, by value, followed by zeros where they are fewer.
-pub fn tag_of(s: &[u8]) -> [u8; hmac::TAG]
+pub(crate) fn tag_of(s: &[u8]) -> [u8; hmac::TAG]
     ensures { λ r. ⌜ r ≡ padded tagSize (now (s .entry)) ⌝ }
 {
     let mut a = [0u8; hmac::TAG];

@@ -49,7 +49,7 @@ pub fn byte_field(s: &[u8], c: Cursor, lo: u32, hi: u32) -> Field
 }
 
 // A number of 2 bytes, from lo to hi.
-pub fn number2_field(s: &[u8], c: Cursor, lo: u32, hi: u32) -> Field
+pub(crate) fn number2_field(s: &[u8], c: Cursor, lo: u32, hi: u32) -> Field
     ensures { λ r. ⌜ FieldAs (number2L lo hi) (now (s .entry)) (c .at) r ⌝ }
 {
     let at = c.at;
@@ -61,7 +61,7 @@ pub fn number2_field(s: &[u8], c: Cursor, lo: u32, hi: u32) -> Field
 }
 
 // A number of 4 bytes, from lo to hi.
-pub fn number4_field(s: &[u8], c: Cursor, lo: u32, hi: u32) -> Field
+pub(crate) fn number4_field(s: &[u8], c: Cursor, lo: u32, hi: u32) -> Field
     ensures { λ r. ⌜ FieldAs (number4L lo hi) (now (s .entry)) (c .at) r ⌝ }
 {
     let at = c.at;
@@ -101,7 +101,7 @@ pub(crate) fn zero_run(s: &[u8], c: Cursor, n: usize) -> Run
 }
 
 // The answer to a store: 0, 10 or 11.
-pub fn code_field(s: &[u8], c: Cursor) -> Field
+pub(crate) fn code_field(s: &[u8], c: Cursor) -> Field
     ensures { λ r. ⌜ FieldAs codeL (now (s .entry)) (c .at) r ⌝ }
 {
     let Field::Value(v, c1) = byte_field(s, c, 0, 11) else {

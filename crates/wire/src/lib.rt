@@ -1,4 +1,5 @@
 // Packets in code. Every public function takes every argument, and its contract says by a definition what it answers and writes.
+// Readers that no other crate calls are the crate's own.
 //
 // sizes   servers, digests_size, tags_size, candidate_size, fragment_size: lengths for a shelf's t (protocol's Values, erasure's Fragments)
 // kept    the places in the bytes that a client keeps (protocol's View)

@@ -36,7 +36,7 @@ pub enum PacketRead {
 }
 
 // kind, client, server, t, call.
-pub fn head_field(s: &[u8]) -> HeadRead
+pub(crate) fn head_field(s: &[u8]) -> HeadRead
     ensures { λ r. ⌜ HeadAs (now (s .entry)) r ⌝ }
 {
     let Field::Value(kind, c1) = byte_field(s, Cursor { at: 0 }, 1, 12) else {
@@ -121,7 +121,7 @@ pub fn read_packet(packet: &[u8]) -> PacketRead
 }
 
 // The fragment in a share.
-pub fn share_fragment(share: &[u8], t: u8) -> &[u8]
+pub(crate) fn share_fragment(share: &[u8], t: u8) -> &[u8]
     ensures { λ r. ⌜ now r ≡ shareAt (shelf t) (now (share .entry)) .part ⌝ }
 {
     part(share, 2, crate::sizes::fragment_size(t, number2(share)))

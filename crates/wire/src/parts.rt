@@ -16,7 +16,7 @@ use crate::fields::run_field;
 use crate::fields::zero_run;
 
 // A stamp that is not blank: number, writer, tag.
-pub fn stamp_field(s: &[u8], c: Cursor) -> Field
+pub(crate) fn stamp_field(s: &[u8], c: Cursor) -> Field
     ensures { λ r. ⌜ FieldAs stampL (now (s .entry)) (c .at) r ⌝ }
 {
     let Field::Value(number, c1) = number4_field(s, c, 1, cluster::TOP_NUMBER as u32) else {
@@ -32,7 +32,7 @@ pub fn stamp_field(s: &[u8], c: Cursor) -> Field
 }
 
 // A stamp that may be blank.
-pub fn any_stamp_field(s: &[u8], c: Cursor) -> Field
+pub(crate) fn any_stamp_field(s: &[u8], c: Cursor) -> Field
     ensures { λ r. ⌜ FieldAs anyStampL (now (s .entry)) (c .at) r ⌝ }
 {
     let at = c.at;
@@ -51,7 +51,7 @@ pub fn any_stamp_field(s: &[u8], c: Cursor) -> Field
 }
 
 // A share: record length, fragment, S digests, nonce digest, S tags.
-pub fn share_field(s: &[u8], c: Cursor, t: u8) -> Field
+pub(crate) fn share_field(s: &[u8], c: Cursor, t: u8) -> Field
     ensures { λ r. ⌜ FieldAs (shareL (shelf t)) (now (s .entry)) (c .at) r ⌝ }
 {
     let Field::Value(n, c1) = number2_field(
@@ -91,7 +91,7 @@ pub fn write_field(s: &[u8], c: Cursor, t: u8) -> Field
 }
 
 // A candidate that is not blank: stamp, nonce, S tags.
-pub fn candidate_field(s: &[u8], c: Cursor, t: u8) -> Field
+pub(crate) fn candidate_field(s: &[u8], c: Cursor, t: u8) -> Field
     ensures { λ r. ⌜ FieldAs (candidateL (shelf t)) (now (s .entry)) (c .at) r ⌝ }
 {
     let Field::Value(number, c1) = stamp_field(s, c) else {
@@ -143,7 +143,7 @@ pub(crate) fn candidate_run(s: &[u8], c: Cursor, t: u8, n: u32) -> Run
 }
 
 // A count from 0 to S and so many candidates.
-pub fn candidates_field(s: &[u8], c: Cursor, t: u8) -> Field
+pub(crate) fn candidates_field(s: &[u8], c: Cursor, t: u8) -> Field
     ensures { λ r. ⌜ FieldAs (candidatesL (shelf t)) (now (s .entry)) (c .at) r ⌝ }
 {
     let Field::Value(n, c1) = byte_field(s, c, 0, cluster::servers(t) as u32) else {
@@ -163,7 +163,7 @@ fn held_most(number: u32) -> u32
 }
 
 // What a server holds for a stamp: the stamp, a byte 0 or 1 and, after 1, a share.
-pub fn held_field(s: &[u8], c: Cursor, t: u8) -> Field
+pub(crate) fn held_field(s: &[u8], c: Cursor, t: u8) -> Field
     ensures { λ r. ⌜ FieldAs (heldL (shelf t)) (now (s .entry)) (c .at) r ⌝ }
 {
     let Field::Value(number, c1) = any_stamp_field(s, c) else {
