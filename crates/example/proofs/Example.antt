@@ -69,7 +69,7 @@ module _ (first : ℕ → List ℕ) (sized : (c : ℕ) → length (first c) ≡ 
   calls-are = claimed real real-lengths desk (omega arith, omega arith) first sized
       (λ A. log A run ≡ theRead (some 57) (some content1) ∷ secondWrite true ∷ wrote ∷ []) (p25 realOnes .calls)
 
-  -- and each premise is really asked something: tags check, nonces are digested and shown, and a step is refused
+  -- and each premise is really asked something: packets are let in, a second write begins, tags check, nonces are digested and got, a step is refused
   pub happens-on-bytes : Happens realOnes (byBytes real desk first)
   unfolding real byValues
   happens-on-bytes = claimed real real-lengths desk (omega arith, omega arith) first sized (λ A. Happens realOnes A) (happens realOnes)

@@ -92,7 +92,7 @@ module _ (H : Hashing) where
   p1 = play-write H 1 content1 nonce1 content1-bytes nonce1-bytes nonce1-size false false [] (w0 H) [] p0 (λ y. y) refl refl (inl (refl, refl))
       (λ d b. b) (λ g. g)
 
-  p2 : Play H false x2 (w2 H) (firstWrite none none ∷ [])
+  pub p2 : Play H false x2 (w2 H) (firstWrite none none ∷ [])
   unfolding x1 x2 w0 w1 w2 upd begun awaits change clientChecks flat stampedFrom compared All highStamp
   p2 = play-lie H (w1 H) 1 ours _ _ (writes H .clock-1) false x1 _ p1
       (subst (λ (q : Bool). All (λ kb. Made H kb x1) (cond (q && true) ((s H .writers, stampMessage 99999998 2) ∷ []) []))

@@ -62,7 +62,7 @@ module _ (H : Hashing) where
         ∙ ap (λ (n : ℕ). onRefusal n (turned c (w .client c) q) (record { client = w .client c; result = refused n })) (k .lets)
         ∙ k .does
 
-    performed-on : perform (s H) w (take-reply c lent (encode q) contentBuffer) ≡ record { world = took w c t; result = t .result; sent = none }
+    pub performed-on : perform (s H) w (take-reply c lent (encode q) contentBuffer) ≡ record { world = took w c t; result = t .result; sent = none }
     unfolding doValues setClient
     performed-on = ap (λ (u : Turn). record { world = took w c u; result = u .result; sent = none }) stepped-on
 
