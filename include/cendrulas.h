@@ -1,14 +1,15 @@
-/* The proved shelf for C and C++. Link with libembed.a (x86-64), which `rt staticlib embed` writes to target/staticlib/.
+/* The proved shelf for C and C++. Link with libcendrulas.a (x86-64): host/library makes it, and `make install` puts both where pkg-config finds them.
  *
  * Every function is total: it accepts any numbers and any buffers, and what it answers and writes is proved equal to a
  * definition (crates/embed/specs). A caller owes only what C itself asks: a pointer and a length name memory that is really there, and a
- * buffer that is written overlaps no other argument. Where a length is 0 the pointer may be anything but NULL.
+ * buffer that is written overlaps no other argument. Where a length is 0 the pointer may be anything, NULL too: it is never followed.
  *
  * Words: t is the number of servers that may lie, 1 to 4; there are S = 3t+1 servers, numbered from 1; clients are 1 to 16, and only 1 to 8 write;
  * a content has 1 to 1,024 bytes. Document 01 says box for server and record for content.
  *
- * The library keeps nothing between calls and has no global state: a server is the bytes that it is lent, a client likewise. docs/EMBEDDING.md
- * says how to use it, with a whole example in C.
+ * The library keeps nothing between calls and has no global state: a server is the bytes that it is lent, a client likewise. A call with
+ * another t or client than the one before is not refused, so ordinary programs use cendrulas_parties.h, where a client keeps both
+ * beside its state. docs/EMBEDDING.md says how, with a whole example in C.
  */
 #ifndef CENDRULAS_H
 #define CENDRULAS_H
@@ -19,6 +20,10 @@
 #ifdef __cplusplus
 extern "C" {
 #endif
+
+/* Version 1.0.0, as major * 65536 + minor * 256 + patch: of this header, and of the archive that is linked. CHANGELOG.md says what changed. */
+#define CENDRULAS_VERSION 65536u
+uint32_t cendrulas_version(void);
 
 /* Bytes of what is lent. A packet and a content need so much output, however short they are. */
 #define CENDRULAS_SERVER_MEMORY 40960u
@@ -35,20 +40,25 @@ extern "C" {
 /* An answer is one number:
  *
  *   bits 56 to 63   refusal: 0 where the call was accepted, else document 01's number, or 255 (below)
- *   bits 48 to 55   result of a client's step
+ *   bits 52 to 55   writer of a stamp, 1 to 8; 0 where no stamp is told
+ *   bits 48 to 51   result
  *   bits 16 to 47   number of a stamp
  *   bits  0 to 15   count: bytes written at the front of `out`
  *
- * A refused call answers its refusal with all other parts 0 and writes nothing. Bytes of `out` past the count are never written.
- * If several refusals apply, the one that stands first in the function's list is given.
+ * A refused call answers its refusal with all other parts 0, writes nothing and changes nothing. Bytes of `out` past the count are never written.
+ * If several refusals apply, the one that stands first in the function's list is given. Two writes are the same if number and writer are.
  *
  * Refusal 255 stands in no document: a key, a nonce or a client's state was lent with another length than its size, or an output for a digest, a tag
  * or a fragment with less than theirs. It is tested before all others.
  */
 static inline unsigned cendrulas_refusal(uint64_t answer) { return (unsigned)(answer >> 56); }
-static inline unsigned cendrulas_result(uint64_t answer) { return (unsigned)(answer >> 48) & 0xFFu; }
+static inline unsigned cendrulas_writer(uint64_t answer) { return (unsigned)(answer >> 52) & 0xFu; }
+static inline unsigned cendrulas_result(uint64_t answer) { return (unsigned)(answer >> 48) & 0xFu; }
 static inline uint32_t cendrulas_number(uint64_t answer) { return (uint32_t)(answer >> 16); }
 static inline size_t cendrulas_count(uint64_t answer) { return (size_t)(answer & 0xFFFFu); }
+
+/* Whether a server's answer says that its memory changed: only then it is to be made durable before the reply goes out. */
+static inline int cendrulas_changed(uint64_t answer) { return cendrulas_result(answer) == 1u; }
 
 /* The drill's answer has the refusal in the same bits and the count in the 56 bits below: a listing can be long. */
 static inline size_t cendrulas_listing(uint64_t answer) { return (size_t)(answer & 0xFFFFFFFFFFFFFFu); }
@@ -60,6 +70,37 @@ static inline size_t cendrulas_listing(uint64_t answer) { return (size_t)(answer
 #define CENDRULAS_BLANK 3u
 #define CENDRULAS_ABORTED 4u
 #define CENDRULAS_ABORTED_IN_COMPLETE 5u
+
+/* Codes of a server's reply to a store (cendrulas_store_code). */
+#define CENDRULAS_KEPT 0u
+#define CENDRULAS_HELD 10u
+#define CENDRULAS_FULL 11u
+
+/* A refusal in words, for messages. 10 and 11 are no refusals but codes of a store's reply. */
+static inline const char *cendrulas_refusal_name(unsigned refusal) {
+    switch (refusal) {
+    case 0: return "accepted";
+    case 1: return "memory or work area of a wrong size";
+    case 2: return "memory that is no server's";
+    case 3: return "t outside 1 to 4";
+    case 4: return "server outside 1 to 3t+1";
+    case 5: return "client outside 1 to 16, or a write by 9 to 16";
+    case 6: return "content length outside 1 to 1,024";
+    case 7: return "bytes that are no packet";
+    case 8: return "packet for another t, server or client";
+    case 9: return "packet that no client may send here";
+    case 10: return "stored already";
+    case 11: return "server full";
+    case 12: return "no reply of this call and round, or a second one";
+    case 13: return "a call is in hand at a begin, or none is at another step";
+    case 14: return "call or stamp numbers used up";
+    case 15: return "output too small";
+    case 16: return "too few fragments, or of a wrong length";
+    case 17: return "drill line not of the form";
+    case 255: return "argument of a wrong size";
+    default: return "unknown";
+    }
+}
 
 /* SHA-256 (FIPS 180-4) of the message.
  * Refusals: 255 where out_len < 32. Writes the 32 bytes of the digest; count 32. */
@@ -87,6 +128,12 @@ uint64_t cendrulas_restore(size_t t, size_t length, const size_t *servers, size_
 /* Whether bytes are a packet. 7 where they break the layout. Writes nothing; count 0. */
 uint64_t cendrulas_packet_check(const uint8_t *packet, size_t packet_len);
 
+/* The code of a server's reply to a store, so that a host can tell a full shelf: a server keeps 32 writes in its life, and where more than t servers
+ * answer 11 (full) a write cannot end. The client takes such a reply and goes on waiting; only the reply tells.
+ * Refusals: 7 where the packet breaks the layout. Result 1 where it is a reply to a store, with its code as count: 0 kept, 10 held
+ * already, 11 full. Result 0 and count 0 for every other packet. Writes nothing. */
+uint64_t cendrulas_store_code(const uint8_t *packet, size_t packet_len);
+
 /* ---- A server: 40,960 bytes that it is lent with every call, and its key. */
 
 /* Makes a blank server of any 40,960 bytes. What they held is gone.
@@ -97,14 +144,19 @@ uint64_t cendrulas_server_blank(uint8_t *memory, size_t memory_len, size_t t, si
 /* The server takes a client's packet and replies.
  * Refusals: 255 where key_len is not 32; 1 where memory_len is not 40,960; 2 where the memory is no server's;
  * 7 where the packet breaks the layout; 8 where its t or its server is not this one's; 9 where it is a reply, or the client may not send it;
- * 15 where out_len < 6,400. Changes the memory as the protocol says and writes the reply; count its length. */
+ * 15 where out_len < 6,400. Changes the memory as the protocol says and writes the reply; count its length.
+ * Results: 1 where a byte of the memory changed, 0 where all are as before; cendrulas_changed reads it. */
 uint64_t cendrulas_server_take(uint8_t *memory, size_t memory_len, const uint8_t *key, size_t key_len,
                                const uint8_t *packet, size_t packet_len, uint8_t *out, size_t out_len);
 
 /* ---- A client: a state of 24,640 bytes that it is lent with every call. All 00h is a new client. One call is in hand at a time.
- * t and client are those of this client in every call; every value of the bytes has a meaning, so no state is refused.
- * state[14] is the round in hand (0 none, 1 clock, 2 store, 3 complete, 4 collect, 5 filter, 6 repair) and state[15] how many servers have replied
- * in it, after every accepted call; a round ends with replies of 2t+1, but a filter round may need more. */
+ * t and client are those of this client in every call; every value of the bytes has a meaning, so no state is refused, a damaged one neither:
+ * a host keeps a checksum beside it. */
+
+/* The round in hand, and which servers have replied in it; a round ends with replies of 2t+1, but a filter round may need more.
+ * Refusals: 255 where state_len is not 24,640. Result: the round, 0 none, 1 clock, 2 store, 3 complete, 4 collect, 5 filter, 6 repair.
+ * Number: bit i-1 is set where server i has replied. Count: how many have. Changes nothing. */
+uint64_t cendrulas_client_round(const uint8_t *state, size_t state_len);
 
 /* Begins a write. The nonce has 32 bytes that nobody can guess and that no other write of the shelf gets.
  * Refusals: 255 where state_len is not 24,640 or nonce_len is not 32; 3 where t is outside 1 to 4; 5 where client is outside 1 to 8;
@@ -131,8 +183,8 @@ uint64_t cendrulas_client_make(const uint8_t *state, size_t state_len, size_t t,
  * 1 to 16, or with a write in hand outside 1 to 8; 7 where the packet breaks the layout; 8 where its t or its client is not this one's; 13 where
  * no call is in hand; 12 where it is no reply of this call and round, or this server has replied in it; 14 where it would end the first round
  * and the stamps' numbers are used up; 15 where out_len < 1,024, whatever the reply. Changes the state.
- * Results: 0 the call goes on; 1 written, with the stamp's number; 2 read, with the stamp's number, the content at the front of `out` and its
- * length as count; 3 read blank: no write stands before this read. With 1, 2 and 3 the call has ended. */
+ * Results: 0 the call goes on; 1 written, with the stamp's number and writer; 2 read, with the stamp's number and writer, the content at the front
+ * of `out` and its length as count; 3 read blank: no write stands before this read. With 1, 2 and 3 the call has ended. */
 uint64_t cendrulas_client_take(uint8_t *state, size_t state_len, size_t t, size_t client,
                                const uint8_t *writers, size_t writers_len, const uint8_t *keys, size_t keys_len,
                                const uint8_t *packet, size_t packet_len, uint8_t *out, size_t out_len);

@@ -2,15 +2,10 @@
 
 mod digest;
 mod table;
-#[cfg(feature = "client")]
 mod calls;
-#[cfg(feature = "coding")]
 mod coding;
-#[cfg(feature = "drill")]
 mod drill;
-#[cfg(feature = "server")]
 mod server;
-#[cfg(feature = "client")]
 mod sides;
 
 use table::Table;
@@ -18,13 +13,9 @@ use table::Table;
 fn main() {
     let mut table = Table::new();
     digest::rows(&mut table);
-    #[cfg(feature = "coding")]
     coding::rows(&mut table);
-    #[cfg(feature = "server")]
     server::rows(&mut table);
-    #[cfg(feature = "client")]
     calls::rows(&mut table);
-    #[cfg(feature = "drill")]
     drill::rows(&mut table);
 }
 

@@ -1,5 +1,6 @@
 //! One client that writes, one that reads and S servers, of the proved library or of the plain shelf.
 
+use cendrulas::Taken;
 use shelf::client::{Client, Keys, Outcome};
 use shelf::{boxes, boxes_of, BOX_MEMORY, MAX_BOXES};
 
@@ -51,15 +52,15 @@ impl Side for Proved {
     }
 
     fn begin_write(&mut self, content: &[u8], nonce: &[u8; 32]) {
-        assert_eq!(self.writer.begin_write(content, nonce).refusal, 0);
+        self.writer.begin_write(content, nonce).expect("legal");
     }
 
     fn begin_read(&mut self) {
-        assert_eq!(self.reader.begin_read().refusal, 0);
+        self.reader.begin_read().expect("legal");
     }
 
     fn make(&mut self, writer: bool, server: usize, out: &mut [u8]) -> usize {
-        self.client(writer).make(server, out).count
+        self.client(writer).make(server, out).expect("legal")
     }
 
     fn serve(&mut self, server: usize, packet: &[u8], out: &mut [u8]) -> usize {
@@ -68,7 +69,12 @@ impl Side for Proved {
 
     fn take(&mut self, writer: bool, reply: &[u8], out: &mut [u8]) -> u8 {
         let client = if writer { &mut self.writer } else { &mut self.reader };
-        client.take(&self.keys, reply, out).result
+        match client.take(&self.keys, reply, out) {
+            Ok(Taken::Written(_)) => 1,
+            Ok(Taken::Read(..)) => 2,
+            Ok(Taken::Blank) => 3,
+            Ok(Taken::GoesOn) | Err(_) => 0,
+        }
     }
 }
 

@@ -23,7 +23,6 @@ impl Table {
     }
 
     /// Times two batches of `count` operations each, which say what they took without their preparation.
-    #[cfg(feature = "server")]
     pub fn batches(
         &mut self,
         name: &str,
@@ -65,7 +64,6 @@ fn repeated<R>(mut operation: impl FnMut() -> R) -> impl FnMut() -> f64 {
 }
 
 /// A measurement of batches: nanoseconds for one operation.
-#[cfg(feature = "server")]
 fn batched(count: usize, mut batch: impl FnMut() -> Duration) -> impl FnMut() -> f64 {
     move || {
         let (mut spent, mut batches) = (Duration::ZERO, 0);
@@ -78,7 +76,6 @@ fn batched(count: usize, mut batch: impl FnMut() -> Duration) -> impl FnMut() ->
 }
 
 /// What a part of a batch takes.
-#[cfg(feature = "server")]
 pub fn timed(part: impl FnOnce()) -> Duration {
     let begin = Instant::now();
     part();

@@ -1,6 +1,7 @@
-/* A shelf of four servers of which one may fail in any way (t = 1), all in one process. One scope writes a record, then a server loses
- * everything, and another scope still reads the record. docs/EMBEDDING.md has this file; host/test compiles and runs it. */
-#include "cendrulas.h"
+/* A shelf of four servers of which one may fail in any way (t = 1), all in one process. One scope writes a record, a server loses
+ * everything, and another scope still reads the record. Then the first scope writes until the shelf is full. Servers write their flash only where
+ * their memory changed; the scope keeps its client in flash with a checksum. docs/EMBEDDING.md has this file; host/test compiles and runs it. */
+#include "cendrulas_parties.h"
 
 #include <stdio.h>
 #include <stdlib.h>
@@ -8,19 +9,23 @@
 
 enum { T = 1, SERVERS = 3 * T + 1, PASSES = 8 };
 
-static uint8_t memories[SERVERS][CENDRULAS_SERVER_MEMORY];
-static uint8_t writers_key[CENDRULAS_KEY];
-static uint8_t server_keys[CENDRULAS_KEYS];
-static const uint8_t no_keys[CENDRULAS_KEYS] = {0}; /* clients 9 to 16 hold no keys: they lend 00h */
-
-struct scope {
-    size_t number;
-    const uint8_t *writers_key, *server_keys;
-    uint8_t state[CENDRULAS_CLIENT_STATE]; /* all 00h: a new client */
+/* What a scope keeps in its flash. */
+struct card {
+    struct cendrulas_client client;
+    uint32_t checksum;
 };
 
+struct scope {
+    struct cendrulas_client client;
+    struct cendrulas_keys keys; /* clients 9 to 16 hold none: they lend 00h */
+    struct card flash;
+};
+
+static struct cendrulas_server servers[SERVERS], server_flash[SERVERS];
+static unsigned packets, flash_writes;
+
 static void stop(const char *what, uint64_t answer) {
-    fprintf(stderr, "example: %s was refused with %u\n", what, cendrulas_refusal(answer));
+    fprintf(stderr, "example: %s: %s\n", what, cendrulas_refusal_name(cendrulas_refusal(answer)));
     exit(1);
 }
 
@@ -34,69 +39,132 @@ static void unguessable(uint8_t *bytes, size_t n) {
     fclose(source);
 }
 
-/* What a server does with a packet that came in over the network: act, and send the reply. 0 bytes: no reply. */
-static size_t serve(size_t server, const uint8_t *packet, size_t n, uint8_t *reply) {
-    uint64_t answer = cendrulas_server_take(memories[server - 1], CENDRULAS_SERVER_MEMORY, server_keys + 32 * (server - 1), CENDRULAS_KEY,
-                                            packet, n, reply, CENDRULAS_PACKET_ROOM);
-    return cendrulas_refusal(answer) == 0 ? cendrulas_count(answer) : 0;
-}
-
-/* The current round's packet to a server, its reply back to the scope. */
-static uint64_t visit(struct scope *scope, size_t server, uint8_t *content) {
-    static uint8_t packet[CENDRULAS_PACKET_ROOM], reply[CENDRULAS_PACKET_ROOM];
-    uint64_t made = cendrulas_client_make(scope->state, sizeof scope->state, T, scope->number, server, packet, sizeof packet);
-    if (cendrulas_refusal(made) != 0) {
-        stop("a packet", made);
+/* CRC-32. A damaged client would go on unnoticed, with numbers that it has used before. */
+static uint32_t checksum(const struct cendrulas_client *client) {
+    const uint8_t *bytes = (const uint8_t *)client;
+    uint32_t crc = 0xFFFFFFFFu;
+    for (size_t i = 0; i < sizeof *client; i++) {
+        crc ^= bytes[i];
+        for (int bit = 0; bit < 8; bit++) {
+            crc = crc >> 1 ^ (0xEDB88320u & (0u - (crc & 1u)));
+        }
     }
-    size_t n = serve(server, packet, cendrulas_count(made), reply);
-    return cendrulas_client_take(scope->state, sizeof scope->state, T, scope->number, scope->writers_key, CENDRULAS_KEY,
-                                 scope->server_keys, CENDRULAS_KEYS, reply, n, content, CENDRULAS_CONTENT_ROOM);
+    return ~crc;
 }
 
-/* Visits the servers by turns until the call in hand ends. A refused reply changes nothing: the next one is waited for. */
-static uint64_t finish(struct scope *scope, uint8_t *content) {
-    for (int k = 0; k < PASSES * SERVERS; k++) {
-        uint64_t answer = visit(scope, (size_t)(k % SERVERS) + 1, content);
+/* What the scope has taken in is durable before its next packet goes out. A refused step has changed nothing. */
+static uint64_t kept(struct scope *scope, uint64_t answer) {
+    if (cendrulas_refusal(answer) == 0) {
+        scope->flash.client = scope->client;
+        scope->flash.checksum = checksum(&scope->client);
+    }
+    return answer;
+}
+
+/* After a power cut. 0: the flash is damaged, and this client never comes back under its number. */
+static int restore(struct scope *scope) {
+    scope->client = scope->flash.client;
+    return checksum(&scope->client) == scope->flash.checksum;
+}
+
+/* What a server does with a packet that came in: act, make a changed memory durable, and send the reply. 0 bytes: no reply. */
+static void serve(size_t server, const struct cendrulas_packet *packet, struct cendrulas_packet *reply) {
+    uint64_t answer = cendrulas_serve(&servers[server - 1], packet->bytes, packet->length, reply);
+    packets++;
+    if (cendrulas_changed(answer)) {
+        server_flash[server - 1] = servers[server - 1];
+        flash_writes++;
+    }
+}
+
+/* Visits the servers by turns until the call in hand ends: the round's packet to each that has not replied in it, its reply back. A refused
+ * reply changes nothing. A write does not end while more than t servers are full: it is given up, and `full` says how many were seen. */
+static uint64_t finish(struct scope *scope, struct cendrulas_content *content, unsigned *full) {
+    static struct cendrulas_packet packet, reply;
+    *full = 0;
+    for (size_t k = 0; k < PASSES * SERVERS && *full <= T; k++) {
+        size_t server = k % SERVERS + 1;
+        if (cendrulas_has_replied(&scope->client, server)) {
+            continue;
+        }
+        uint64_t answer = cendrulas_make(&scope->client, server, &packet);
+        if (cendrulas_refusal(answer) != 0) {
+            stop("a packet", answer);
+        }
+        serve(server, &packet, &reply);
+        answer = kept(scope, cendrulas_take(&scope->client, &scope->keys, reply.bytes, reply.length, content));
         if (cendrulas_refusal(answer) == 0 && cendrulas_result(answer) != CENDRULAS_GOES_ON) {
             return answer;
         }
+        uint64_t code = cendrulas_store_code(reply.bytes, reply.length);
+        *full += cendrulas_result(code) == 1 && cendrulas_count(code) == CENDRULAS_FULL;
     }
-    return cendrulas_client_give_up(scope->state, sizeof scope->state, T, scope->number);
+    return kept(scope, cendrulas_give_up(&scope->client));
+}
+
+static uint64_t write_record(struct scope *scope, const char *record, unsigned *full) {
+    struct cendrulas_content none;
+    uint8_t nonce[CENDRULAS_NONCE];
+    unguessable(nonce, sizeof nonce);
+    uint64_t begun = kept(scope, cendrulas_begin_write(&scope->client, (const uint8_t *)record, strlen(record), nonce));
+    if (cendrulas_refusal(begun) != 0) {
+        stop("a write", begun);
+    }
+    return finish(scope, &none, full);
+}
+
+static uint64_t read_record(struct scope *scope, struct cendrulas_content *content) {
+    unsigned full;
+    uint64_t begun = kept(scope, cendrulas_begin_read(&scope->client));
+    if (cendrulas_refusal(begun) != 0) {
+        stop("a read", begun);
+    }
+    return finish(scope, content, &full);
+}
+
+static void show(const char *what, uint64_t answer) {
+    printf("%s number %lu of scope %u\n", what, (unsigned long)cendrulas_number(answer), cendrulas_writer(answer));
+}
+
+/* Scope 1 with all keys, scope 9 with none, and servers that were never used. */
+static void set_up(struct scope *writer, struct scope *reader) {
+    cendrulas_new_client(&writer->client, T, 1);
+    cendrulas_new_client(&reader->client, T, 9);
+    unguessable(writer->keys.writers, CENDRULAS_KEY);
+    unguessable(writer->keys.servers, CENDRULAS_KEYS);
+    for (size_t server = 1; server <= SERVERS; server++) {
+        memcpy(servers[server - 1].key, writer->keys.servers + CENDRULAS_KEY * (server - 1), CENDRULAS_KEY);
+        cendrulas_blank(&servers[server - 1], T, server);
+    }
 }
 
 int main(void) {
-    static struct scope writer = {.number = 1, .writers_key = writers_key, .server_keys = server_keys};
-    static struct scope reader = {.number = 9, .writers_key = no_keys, .server_keys = no_keys};
-    static const uint8_t record[] = "CH1 500 mV/div 20 us/div";
-    uint8_t nonce[CENDRULAS_NONCE], content[CENDRULAS_CONTENT_ROOM];
+    static struct scope writer, reader;
+    static struct cendrulas_content content;
+    static const char record[] = "CH1 500 mV/div 20 us/div";
+    unsigned full, writes = 1;
 
-    unguessable(writers_key, sizeof writers_key);
-    unguessable(server_keys, sizeof server_keys);
-    for (size_t server = 1; server <= SERVERS; server++) {
-        cendrulas_server_blank(memories[server - 1], CENDRULAS_SERVER_MEMORY, T, server);
-    }
-
-    unguessable(nonce, sizeof nonce);
-    uint64_t begun = cendrulas_client_begin_write(writer.state, sizeof writer.state, T, writer.number, record, sizeof record, nonce, sizeof nonce);
-    if (cendrulas_refusal(begun) != 0) {
-        stop("the write", begun);
-    }
-    uint64_t answer = finish(&writer, content);
-    if (cendrulas_result(answer) != CENDRULAS_WRITTEN) {
+    if (cendrulas_version() != CENDRULAS_VERSION) {
+        fputs("example: this header is not the archive's\n", stderr);
         return 1;
     }
-    printf("written with number %lu\n", (unsigned long)cendrulas_number(answer));
+    set_up(&writer, &reader);
+    show("written", write_record(&writer, record, &full));
+    cendrulas_blank(&servers[1], T, 2); /* server 2 loses everything */
+    uint64_t answer = read_record(&reader, &content);
+    show("read", answer);
+    printf("%.*s\n", (int)content.length, (const char *)content.bytes);
 
-    cendrulas_server_blank(memories[1], CENDRULAS_SERVER_MEMORY, T, 2); /* server 2 loses everything */
-
-    begun = cendrulas_client_begin_read(reader.state, sizeof reader.state, T, reader.number);
-    if (cendrulas_refusal(begun) != 0) {
-        stop("the read", begun);
-    }
-    answer = finish(&reader, content);
-    if (cendrulas_result(answer) != CENDRULAS_READ || cendrulas_count(answer) != sizeof record || memcmp(content, record, sizeof record) != 0) {
+    writer.flash.client.state[7] ^= 1;
+    printf("a damaged state is %s\n", restore(&writer) ? "taken" : "refused");
+    writer.flash.client.state[7] ^= 1;
+    if (!restore(&writer) || cendrulas_result(answer) != CENDRULAS_READ || content.length != strlen(record)) {
         return 1;
     }
-    printf("read number %lu: %s\n", (unsigned long)cendrulas_number(answer), (const char *)content);
+    while (cendrulas_result(answer = write_record(&writer, record, &full)) == CENDRULAS_WRITTEN) {
+        writes++;
+    }
+    printf("the shelf is full after %u writes: %u servers keep no more\n", writes, full);
+    printf("%u packets changed the memory of a server %u times\n", packets, flash_writes);
     return 0;
 }

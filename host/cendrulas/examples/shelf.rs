@@ -1,16 +1,13 @@
-//! A shelf of four servers of which one may fail in any way (t = 1), all in one process. One scope writes a record, then a server
-//! loses everything, and another scope still reads the record. docs/EMBEDDING.md has this file; host/test runs it.
+//! A shelf of four servers of which one may fail in any way (t = 1), all in one process. One scope writes a record, a server loses
+//! everything, and another scope still reads the record. Then the first scope writes until the shelf is full. Servers write their flash only where
+//! their memory changed; the scope keeps its state in flash with a checksum. docs/EMBEDDING.md has this file; host/test runs it.
 
-use cendrulas::{server_blank, server_take, Answer, Client, Keys, CONTENT_ROOM, PACKET_ROOM, SERVER_KEYS, SERVER_MEMORY};
+use cendrulas::{stored, Client, Keys, Label, Refusal, Server, Stored, Taken, CONTENT_ROOM, PACKET_ROOM, SERVER_KEYS};
 use std::io::Read;
 
 const T: usize = 1;
 const SERVERS: usize = 3 * T + 1;
 const PASSES: usize = 8;
-const WRITTEN: u8 = 1;
-const READ: u8 = 2;
-/// Clients 9 to 16 hold no keys: they lend 00h.
-const NO_KEYS: Keys = Keys { writers: [0; 32], servers: [0; SERVER_KEYS] };
 
 /// Bytes that nobody can guess. On a device: its random number generator.
 fn unguessable<const N: usize>() -> [u8; N] {
@@ -20,75 +17,136 @@ fn unguessable<const N: usize>() -> [u8; N] {
     bytes
 }
 
+/// CRC-32. A damaged state would go on unnoticed, with numbers that it has used before.
+fn checksum(state: &[u8]) -> u32 {
+    !state.iter().fold(!0, |crc, &byte| (0..8).fold(crc ^ u32::from(byte), |crc, _| crc >> 1 ^ (0xEDB8_8320 & (crc & 1).wrapping_neg())))
+}
+
 struct Scope {
+    number: usize,
     client: Client,
     keys: Keys,
+    /// State and checksum.
+    flash: (Vec<u8>, u32),
+}
+
+impl Scope {
+    fn new(number: usize, keys: Keys) -> Self {
+        Scope { number, client: Client::new(T, number), keys, flash: (Vec::new(), 0) }
+    }
+
+    /// What the scope has taken in is durable before its next packet goes out. A refused step has changed nothing.
+    fn kept<A>(&mut self, answer: Result<A, Refusal>) -> Result<A, Refusal> {
+        if answer.is_ok() {
+            self.flash = (self.client.state().to_vec(), checksum(self.client.state()));
+        }
+        answer
+    }
+
+    /// After a power cut. None: the flash is damaged, and this client never comes back under its number.
+    fn restore(&mut self) -> Option<()> {
+        let (state, kept) = &self.flash;
+        self.client = Client::from_state(T, self.number, state).filter(|_| checksum(state) == *kept)?;
+        Some(())
+    }
 }
 
 struct Shelf {
-    keys: Keys,
-    memories: Vec<Vec<u8>>,
+    servers: Vec<Server>,
+    flash: Vec<Vec<u8>>,
+    packets: usize,
+    flash_writes: usize,
+}
+
+/// How a call ended.
+enum Ended {
+    By(Taken),
+    /// Given up, with so many servers that keep no more.
+    Full(usize),
 }
 
 impl Shelf {
-    fn new() -> Self {
-        let mut shelf = Shelf {
-            keys: Keys { writers: unguessable(), servers: unguessable() },
-            memories: vec![vec![0; SERVER_MEMORY]; SERVERS],
-        };
-        (1..=SERVERS).for_each(|server| shelf.blank(server));
-        shelf
+    /// What a server does with a packet that came in: act, make a changed memory durable, and send the reply.
+    fn serve(&mut self, server: usize, packet: &[u8], reply: &mut [u8]) -> Result<usize, Refusal> {
+        let served = self.servers[server - 1].take(packet, reply)?;
+        self.packets += 1;
+        if served.changed {
+            self.flash[server - 1] = self.servers[server - 1].memory().to_vec();
+            self.flash_writes += 1;
+        }
+        Ok(served.count)
     }
 
-    /// A server with nothing in it, whatever it held.
-    fn blank(&mut self, server: usize) {
-        assert_eq!(server_blank(&mut self.memories[server - 1], T, server), Answer::wrote(0));
-    }
-
-    /// What a server does with a packet that came in over the network: act, and send the reply. None: no reply.
-    fn serve(&mut self, server: usize, packet: &[u8]) -> Option<Vec<u8>> {
-        let key = &self.keys.servers[32 * (server - 1)..32 * server];
-        let mut reply = vec![0; PACKET_ROOM];
-        let answer = server_take(&mut self.memories[server - 1], key, packet, &mut reply);
-        reply.truncate(answer.count);
-        (answer.refusal == 0).then_some(reply)
-    }
-
-    /// Visits the servers by turns until the scope's call in hand ends: the current round's packet to a server, its reply back.
-    /// A refused reply changes nothing: the next one is waited for.
-    fn finish(&mut self, scope: &mut Scope, content: &mut [u8]) -> Answer {
-        let mut packet = vec![0; PACKET_ROOM];
+    /// Visits the servers by turns until the call in hand ends: the round's packet to each that has not replied in it, its reply back. A refused
+    /// reply changes nothing. A write does not end while more than t servers are full: it is given up.
+    fn finish(&mut self, scope: &mut Scope, content: &mut [u8]) -> Result<Ended, Refusal> {
+        let (mut packet, mut reply, mut full) = (vec![0; PACKET_ROOM], vec![0; PACKET_ROOM], 0);
         for server in (1..=SERVERS).cycle().take(PASSES * SERVERS) {
-            let made = scope.client.make(server, &mut packet);
-            assert_eq!(made.refusal, 0, "a call is in hand");
-            let Some(reply) = self.serve(server, &packet[..made.count]) else { continue };
-            let answer = scope.client.take(&scope.keys, &reply, content);
-            if answer.refusal == 0 && answer.result != 0 {
-                return answer;
+            if scope.client.has_replied(server) {
+                continue;
+            }
+            let made = scope.client.make(server, &mut packet)?;
+            let Ok(count) = self.serve(server, &packet[..made], &mut reply) else { continue };
+            let taken = scope.client.take(&scope.keys, &reply[..count], content);
+            match scope.kept(taken) {
+                Ok(Taken::GoesOn) | Err(_) => full += (stored(&reply[..count]) == Some(Stored::Full)) as usize,
+                Ok(ended) => return Ok(Ended::By(ended)),
+            }
+            if full > T {
+                break;
             }
         }
-        scope.client.give_up()
+        let given_up = scope.client.give_up();
+        scope.kept(given_up).map(|_| Ended::Full(full))
+    }
+
+    fn write(&mut self, scope: &mut Scope, record: &[u8]) -> Result<Ended, Refusal> {
+        let begun = scope.client.begin_write(record, &unguessable());
+        scope.kept(begun)?;
+        self.finish(scope, &mut [0; CONTENT_ROOM])
+    }
+
+    fn read(&mut self, scope: &mut Scope, content: &mut [u8]) -> Result<Ended, Refusal> {
+        let begun = scope.client.begin_read();
+        scope.kept(begun)?;
+        self.finish(scope, content)
     }
 }
 
-fn main() {
-    let mut shelf = Shelf::new();
-    let mut writer = Scope { client: Client::new(T, 1), keys: shelf.keys.clone() };
-    let mut reader = Scope { client: Client::new(T, 9), keys: NO_KEYS };
+fn show(what: &str, label: Label) {
+    println!("{what} number {} of scope {}", label.number, label.writer);
+}
+
+fn main() -> Result<(), Refusal> {
+    let keys = Keys { writers: unguessable(), servers: unguessable() };
+    let key = |server: usize| keys.servers[32 * (server - 1)..32 * server].try_into().expect("32 bytes");
+    let servers = (1..=SERVERS).map(|server| Server::blank(T, server, key(server))).collect::<Result<Vec<_>, _>>()?;
+    let mut shelf = Shelf { servers, flash: vec![Vec::new(); SERVERS], packets: 0, flash_writes: 0 };
+    let mut writer = Scope::new(1, keys.clone());
+    let mut reader = Scope::new(9, Keys { writers: [0; 32], servers: [0; SERVER_KEYS] }); // clients 9 to 16 hold no keys
     let record = b"CH1 500 mV/div 20 us/div";
-    let mut content = vec![0; CONTENT_ROOM];
+    let mut content = [0; CONTENT_ROOM];
 
-    assert_eq!(writer.client.begin_write(record, &unguessable()).refusal, 0);
-    let answer = shelf.finish(&mut writer, &mut content);
-    assert_eq!(answer.result, WRITTEN);
-    println!("written with number {}", answer.number);
+    let Ended::By(Taken::Written(label)) = shelf.write(&mut writer, record)? else { panic!("not written") };
+    show("written", label);
+    shelf.servers[1] = Server::blank(T, 2, key(2))?; // server 2 loses everything
+    let Ended::By(Taken::Read(label, count)) = shelf.read(&mut reader, &mut content)? else { panic!("not read") };
+    show("read", label);
+    println!("{}", String::from_utf8_lossy(&content[..count]));
+    assert_eq!(&content[..count], record);
 
-    shelf.blank(2); // server 2 loses everything
-
-    assert_eq!(reader.client.begin_read().refusal, 0);
-    let answer = shelf.finish(&mut reader, &mut content);
-    assert_eq!(answer.result, READ);
-    let read = &content[..answer.count];
-    assert_eq!(read, record);
-    println!("read number {}: {}", answer.number, String::from_utf8_lossy(read));
+    writer.flash.0[7] ^= 1;
+    println!("a damaged state is {}", if writer.restore().is_some() { "taken" } else { "refused" });
+    writer.flash.0[7] ^= 1;
+    writer.restore().expect("a state that is whole");
+    let mut writes = 1;
+    let full = loop {
+        match shelf.write(&mut writer, record)? {
+            Ended::By(_) => writes += 1,
+            Ended::Full(full) => break full,
+        }
+    };
+    println!("the shelf is full after {writes} writes: {full} servers keep no more");
+    println!("{} packets changed the memory of a server {} times", shelf.packets, shelf.flash_writes);
+    Ok(())
 }

@@ -1,10 +1,8 @@
-//! The exported functions as include/cendrulas.h declares them. A slice is a pointer and a length.
+//! The exported functions as include/cendrulas.h declares them. A slice is a pointer and a length. build.rs names the archive to the linker.
 
-/// Named so that a library built anew is linked anew: a build only follows files that its sources name.
-const _: &[u8] = include_bytes!("../../../target/staticlib/libembed.a");
-
-#[link(name = "embed", kind = "static")]
 extern "C" {
+    pub fn cendrulas_version() -> u32;
+
     pub fn cendrulas_digest(message: *const u8, message_len: usize, out: *mut u8, out_len: usize) -> u64;
     pub fn cendrulas_tag(
         key: *const u8,
@@ -14,10 +12,7 @@ extern "C" {
         out: *mut u8,
         out_len: usize,
     ) -> u64;
-}
 
-#[cfg(feature = "coding")]
-extern "C" {
     pub fn cendrulas_fragment(
         t: usize,
         server: usize,
@@ -36,15 +31,10 @@ extern "C" {
         out: *mut u8,
         out_len: usize,
     ) -> u64;
-}
 
-#[cfg(feature = "wire")]
-extern "C" {
     pub fn cendrulas_packet_check(packet: *const u8, packet_len: usize) -> u64;
-}
+    pub fn cendrulas_store_code(packet: *const u8, packet_len: usize) -> u64;
 
-#[cfg(feature = "server")]
-extern "C" {
     pub fn cendrulas_server_blank(memory: *mut u8, memory_len: usize, t: usize, server: usize) -> u64;
     pub fn cendrulas_server_take(
         memory: *mut u8,
@@ -56,10 +46,8 @@ extern "C" {
         out: *mut u8,
         out_len: usize,
     ) -> u64;
-}
 
-#[cfg(feature = "client")]
-extern "C" {
+    pub fn cendrulas_client_round(state: *const u8, state_len: usize) -> u64;
     pub fn cendrulas_client_begin_write(
         state: *mut u8,
         state_len: usize,
@@ -95,10 +83,7 @@ extern "C" {
         out_len: usize,
     ) -> u64;
     pub fn cendrulas_client_give_up(state: *mut u8, state_len: usize, t: usize, client: usize) -> u64;
-}
 
-#[cfg(feature = "drill")]
-extern "C" {
     pub fn cendrulas_drill(
         sheet: *const u8,
         sheet_len: usize,

@@ -9,7 +9,7 @@ pub fn server_blank(memory: &mut [u8], t: usize, server: usize) -> Answer {
     Answer::unpack(unsafe { abi::cendrulas_server_blank(memory.as_mut_ptr(), memory.len(), t, server) })
 }
 
-/// The server takes a packet; its reply stands at the front of `out`.
+/// The server takes a packet; its reply stands at the front of `out`. Result 1 where the memory changed.
 pub fn server_take(memory: &mut [u8], key: &[u8], packet: &[u8], out: &mut [u8]) -> Answer {
     // SAFETY: pointers and lengths are those of live slices; `memory` and `out` are lent alone.
     Answer::unpack(unsafe {

@@ -8,22 +8,21 @@ use crate::keys::ScopeKeys;
 use crate::link::{self, DATAGRAM};
 use crate::serve::received;
 use crate::{quorum, random, servers};
-use cendrulas::{Answer, Client, CONTENT_ROOM, PACKET_ROOM};
+use cendrulas::{stored, Client, GivenUp, Label, Refusal, Round, Stored, Taken, CONTENT_ROOM, PACKET_ROOM};
 use std::net::{IpAddr, Ipv4Addr, Ipv6Addr, SocketAddr, UdpSocket};
 use std::time::{Duration, Instant};
 
 /// After so long without the end of a round, boxes that have not replied are asked again.
 pub const AGAIN: Duration = Duration::from_millis(200);
-const ROUNDS: [&str; 7] = ["none", "clock", "store", "complete", "collect", "filter", "repair"];
 
 /// How a call ended.
 #[derive(Debug, PartialEq, Eq)]
 pub enum Outcome {
-    Saved { number: u32 },
-    Shown { number: u32, record: Vec<u8> },
+    Saved(Label),
+    Shown(Label, Vec<u8>),
     Blank,
-    /// `read_later`: a later load may show this record or not; else it is never shown.
-    GivenUp { round: &'static str, replies: usize, read_later: bool },
+    /// `full`: how many boxes have said that they keep no more records.
+    GivenUp { round: Round, replies: usize, how: GivenUp, full: usize },
 }
 
 pub struct Scope<D = Card> {
@@ -32,6 +31,8 @@ pub struct Scope<D = Card> {
     card: D,
     /// Whether the client's state is newer than the card.
     ahead: bool,
+    /// The boxes that have said, in this call, that they are full.
+    full: Vec<u8>,
 }
 
 impl Scope {
@@ -39,7 +40,7 @@ impl Scope {
     pub fn create(card: Card, keys: ScopeKeys) -> Result<Self, String> {
         let client = Client::new(keys.t, keys.number);
         card.create(&content(&client, &keys))?;
-        Ok(Scope { client, keys, card, ahead: false })
+        Ok(Scope { client, keys, card, ahead: false, full: Vec::new() })
     }
 }
 
@@ -50,7 +51,7 @@ impl<D: Durable> Scope<D> {
         let own = content.strip_prefix(&[keys.t as u8, keys.number as u8][..]);
         let client = own.and_then(|state| Client::from_state(keys.t, keys.number, state));
         let client = client.ok_or_else(|| format!("the state is not that of scope {} with t = {}", keys.number, keys.t))?;
-        Ok(Scope { client, keys, card: durable(card), ahead: false })
+        Ok(Scope { client, keys, card: durable(card), ahead: false, full: Vec::new() })
     }
 
     pub fn begin_save(&mut self, record: &[u8]) -> Result<(), String> {
@@ -64,26 +65,25 @@ impl<D: Durable> Scope<D> {
     }
 
     pub fn in_hand(&self) -> bool {
-        self.client.round() != 0
+        self.client.round() != Round::None
     }
 
     pub fn give_up(&mut self) -> Result<Outcome, String> {
-        let (round, replies) = (ROUNDS[usize::from(self.client.round())], self.client.replies());
-        let answer = self.client.give_up();
-        self.accepted(answer, "giving up")?;
+        let (round, replies) = (self.client.round(), self.client.replies());
+        let given_up = self.client.give_up();
+        let how = self.accepted(given_up, "giving up")?;
         self.keep()?;
-        Ok(Outcome::GivenUp { round, replies, read_later: answer.result == 5 })
+        Ok(Outcome::GivenUp { round, replies, how, full: self.full.len() })
     }
 
-    fn accepted(&mut self, answer: Answer, what: &str) -> Result<(), String> {
-        self.ahead |= answer.refusal == 0;
-        match answer.refusal {
-            0 => Ok(()),
-            5 => Err(format!("scope {} only loads", self.keys.number)),
-            6 => Err(format!("a record has 1 to {CONTENT_ROOM} bytes")),
-            13 => Err("a call is in hand: `scope finish` goes on with it, `scope give-up` gives it up".to_owned()),
-            other => Err(format!("{what} was refused with {other}")),
-        }
+    fn accepted<A>(&mut self, answer: Result<A, Refusal>, what: &str) -> Result<A, String> {
+        self.ahead |= answer.is_ok();
+        answer.map_err(|refusal| match refusal {
+            Refusal::Client => format!("scope {} only loads", self.keys.number),
+            Refusal::ContentLength => format!("a record has 1 to {CONTENT_ROOM} bytes"),
+            Refusal::WrongMoment => "a call is in hand: `scope finish` goes on with it, `scope give-up` gives it up".to_owned(),
+            other => format!("{what} was refused: {other}"),
+        })
     }
 
     /// Makes the state durable.
@@ -95,63 +95,65 @@ impl<D: Durable> Scope<D> {
         Ok(())
     }
 
-    /// Carries the call in hand to its end, or gives it up when the time is over. Box i is at `boxes[i-1]`.
+    /// Carries the call in hand to its end, or gives it up when the time is over, or when so many boxes are full that it cannot end. Box i is
+    /// at `boxes[i-1]`.
     pub fn finish(&mut self, socket: &UdpSocket, boxes: &[SocketAddr], time: Duration) -> Result<Outcome, String> {
         let end = Instant::now() + time;
-        let mut heard = vec![false; boxes.len()];
         let mut datagram = [0; DATAGRAM + 1];
-        while Instant::now() < end {
-            self.ask(socket, boxes, &heard)?;
+        self.full.clear();
+        while Instant::now() < end && self.full.len() <= self.keys.t {
+            self.ask(socket, boxes)?;
             let again = end.min(Instant::now() + AGAIN);
             let round = self.client.round();
-            while self.client.round() == round && Instant::now() < again {
+            while self.client.round() == round && self.full.len() <= self.keys.t && Instant::now() < again {
                 let left = again.saturating_duration_since(Instant::now()).max(Duration::from_millis(1));
                 socket.set_read_timeout(Some(left)).map_err(|e| e.to_string())?;
                 let Some((n, _)) = received(socket.recv_from(&mut datagram))? else { continue };
-                if let Some(outcome) = self.take(&datagram[..n], &mut heard)? {
+                if let Some(outcome) = self.take(&datagram[..n])? {
                     return Ok(outcome);
                 }
-            }
-            if self.client.round() != round {
-                heard.fill(false);
             }
         }
         self.give_up()
     }
 
     /// The round's packet to every box that has not replied in it.
-    fn ask(&mut self, socket: &UdpSocket, boxes: &[SocketAddr], heard: &[bool]) -> Result<(), String> {
+    fn ask(&mut self, socket: &UdpSocket, boxes: &[SocketAddr]) -> Result<(), String> {
         self.keep()?;
         let mut packet = [0; PACKET_ROOM];
-        for (k, address) in boxes.iter().enumerate().filter(|&(k, _)| !heard[k]) {
-            let made = self.client.make(k + 1, &mut packet);
-            let key = self.keys.link(k + 1).filter(|_| made.refusal == 0).ok_or("no packet can be made for a box")?;
+        for (server, address) in (1..).zip(boxes) {
+            if self.client.has_replied(server) {
+                continue;
+            }
+            let made = self.client.make(server, &mut packet).map_err(|e| format!("no packet can be made for a box: {e}"))?;
+            let key = self.keys.link(server).ok_or("a box without a link")?;
             // A box that can't be reached now is asked again later, like one that is slow.
-            let _ = socket.send_to(&link::seal(&key, &packet[..made.count]), address);
+            let _ = socket.send_to(&link::seal(&key, &packet[..made]), address);
         }
         Ok(())
     }
 
     /// Takes a reply. What is refused is dropped: it changes nothing.
-    fn take(&mut self, datagram: &[u8], heard: &mut [bool]) -> Result<Option<Outcome>, String> {
+    fn take(&mut self, datagram: &[u8]) -> Result<Option<Outcome>, String> {
         let Some(packet) = opened(&self.keys, datagram) else { return Ok(None) };
-        let replies = self.client.replies();
         let mut record = vec![0; CONTENT_ROOM];
-        let answer = self.client.take(&self.keys.lent, packet, &mut record);
-        match answer.refusal {
-            0 => self.ahead = true,
-            14 => return Err("the stamps' numbers are used up: give up this save".to_owned()),
-            _ => return Ok(None),
+        let taken = match self.client.take(&self.keys.lent, packet, &mut record) {
+            Ok(taken) => taken,
+            Err(Refusal::NumbersUsedUp) => return Err("the stamps' numbers are used up: give up this save".to_owned()),
+            Err(_) => return Ok(None),
+        };
+        self.ahead = true;
+        if stored(packet) == Some(Stored::Full) && !self.full.contains(&packet[2]) {
+            self.full.push(packet[2]);
         }
-        if self.client.replies() > replies {
-            heard[usize::from(packet[2]) - 1] = true;
-        }
-        record.truncate(answer.count);
-        let outcome = match answer.result {
-            0 => return Ok(None),
-            1 => Outcome::Saved { number: answer.number },
-            2 => Outcome::Shown { number: answer.number, record },
-            _ => Outcome::Blank,
+        let outcome = match taken {
+            Taken::GoesOn => return Ok(None),
+            Taken::Written(label) => Outcome::Saved(label),
+            Taken::Read(label, count) => {
+                record.truncate(count);
+                Outcome::Shown(label, record)
+            }
+            Taken::Blank => Outcome::Blank,
         };
         self.keep()?;
         Ok(Some(outcome))

@@ -13,7 +13,7 @@ use crate::random::Seeded;
 use crate::serve::{answer, blank};
 use crate::servers;
 use crate::story::shelf::{program, Shelf};
-use cendrulas::{Client, PACKET_ROOM};
+use cendrulas::{Client, Round, PACKET_ROOM};
 use std::net::UdpSocket;
 use std::time::{Duration, Instant};
 
@@ -106,7 +106,7 @@ impl Test {
         self.packets += 1;
         let (keys, memory) = self.boxes.get_mut(server - 1).ok_or("a packet to no box")?;
         if let Some(reply) = answer(keys, memory, &datagram[..n])? {
-            self.socket.send_to(&reply, from).map_err(|e| e.to_string())?;
+            self.socket.send_to(&reply.datagram, from).map_err(|e| e.to_string())?;
         }
         Ok(true)
     }
@@ -115,13 +115,13 @@ impl Test {
     fn check(&self) -> Result<(), String> {
         let content = card::read(&self.shelf.state(SCOPE))?;
         let mut client = Client::from_state(T, SCOPE, &content[2..]).ok_or("no state")?;
-        let ended = client.round() == 0;
+        let ended = client.round() == Round::None;
         if ended {
-            client.begin_read();
+            client.begin_read().map_err(|e| e.to_string())?;
         }
         let mut packet = [0; PACKET_ROOM];
-        let made = client.make(1, &mut packet);
-        let (call, kind) = place(&packet[..made.count]).ok_or("no packet")?;
+        let made = client.make(1, &mut packet).map_err(|e| e.to_string())?;
+        let (call, kind) = place(&packet[..made]).ok_or("no packet")?;
         let kept = if ended { (call - 1, ENDED) } else { (call, kind) };
         match self.shown <= kept {
             true => Ok(()),

@@ -32,16 +32,17 @@ impl Test {
     fn pair(&mut self, scope: usize, server: usize) -> Result<(), String> {
         let link = self.scopes[scope].link(server + 1).ok_or("no link key")?;
         let mut client = Client::new(T, scope + 1);
-        client.begin_read();
+        client.begin_read().map_err(|e| e.to_string())?;
         let mut packet = [0; PACKET_ROOM];
-        let made = client.make(server + 1, &mut packet);
-        let question = link::seal(&link, &packet[..made.count]);
-        let reply = answer(&self.boxes[server], &mut blank(&self.boxes[server]), &question)?.ok_or("a right packet is not answered")?;
+        let made = client.make(server + 1, &mut packet).map_err(|e| e.to_string())?;
+        let question = link::seal(&link, &packet[..made]);
+        let answered = answer(&self.boxes[server], &mut blank(&self.boxes[server]), &question)?;
+        let reply = answered.ok_or("a right packet is not answered")?.datagram;
         if opened(&self.scopes[scope], &reply).is_none() {
             return Err("a right reply is not taken".to_owned());
         }
         for key in self.other_keys(scope, server) {
-            self.at_box(server, &link::seal(&key, &packet[..made.count]))?;
+            self.at_box(server, &link::seal(&key, &packet[..made]))?;
             self.at_scope(scope, &link::seal(&key, link::packet(&reply).unwrap_or_default()))?;
         }
         for byte in 0..question.len() {

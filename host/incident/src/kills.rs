@@ -15,7 +15,7 @@ use crate::packet;
 use crate::random::{unguessable, Seeded};
 use crate::serve::{answer, blank};
 use crate::story::shelf::{program, Running, Shelf};
-use cendrulas::{Client, CONTENT_ROOM, PACKET_ROOM};
+use cendrulas::{stored, Client, Stored, CONTENT_ROOM, PACKET_ROOM};
 use std::net::{SocketAddr, UdpSocket};
 use std::time::{Duration, Instant};
 
@@ -28,7 +28,6 @@ const SAVES: usize = 32;
 /// A kill comes within so many microseconds of the box's work.
 const MOMENT: u64 = 20_000;
 const PATIENCE: Duration = Duration::from_secs(5);
-const HELD: u8 = 10;
 
 /// The packets of a box's life, sealed: store and complete of each save, by turns.
 fn life(shelf: &Shelf) -> Result<Vec<Vec<u8>>, String> {
@@ -39,15 +38,15 @@ fn life(shelf: &Shelf) -> Result<Vec<Vec<u8>>, String> {
     let mut packets = Vec::new();
     for save in 1..=SAVES {
         let record = format!("record {save}").repeat(20);
-        assert_eq!(client.begin_write(record.as_bytes(), &unguessable()?).refusal, 0);
+        client.begin_write(record.as_bytes(), &unguessable()?).map_err(|e| e.to_string())?;
         for round in 1..=3 {
             if round > 1 {
                 packets.push(sealed(&client, &keys, KILLED)?);
             }
             for (keys_of_box, memory) in boxes.iter().zip(&mut memories) {
                 let reply = answer(keys_of_box, memory, &sealed(&client, &keys, keys_of_box.number)?)?.ok_or("no reply")?;
-                let packet = link::packet(&reply).ok_or("no packet")?;
-                client.take(&keys.lent, packet, &mut [0; CONTENT_ROOM]);
+                let packet = link::packet(&reply.datagram).ok_or("no packet")?;
+                client.take(&keys.lent, packet, &mut [0; CONTENT_ROOM]).map_err(|e| e.to_string())?;
             }
         }
     }
@@ -56,9 +55,8 @@ fn life(shelf: &Shelf) -> Result<Vec<Vec<u8>>, String> {
 
 fn sealed(client: &Client, keys: &ScopeKeys, server: usize) -> Result<Vec<u8>, String> {
     let mut packet = [0; PACKET_ROOM];
-    let made = client.make(server, &mut packet);
-    let key = keys.link(server).filter(|_| made.refusal == 0).ok_or("no packet can be made")?;
-    Ok(link::seal(&key, &packet[..made.count]))
+    let made = client.make(server, &mut packet).map_err(|e| e.to_string())?;
+    Ok(link::seal(&keys.link(server).ok_or("no such box")?, &packet[..made]))
 }
 
 struct Test {
@@ -94,7 +92,7 @@ impl Test {
         let shelf = Shelf::new(T)?;
         let packets = life(&shelf)?;
         let mut reader = Client::new(T, WRITER);
-        reader.begin_read();
+        reader.begin_read().map_err(|e| e.to_string())?;
         let collect = sealed(&reader, &ScopeKeys::read(&shelf.scope_key(WRITER))?, KILLED)?;
         let socket = call::socket(&[])?;
         let mut test = Test { shelf, packets, collect, socket, running: None, hasty, acknowledged: 0 };
@@ -159,7 +157,7 @@ impl Test {
         let mut memory = card::read(&self.shelf.card(KILLED))?;
         self.has_all(|datagram| {
             let reply = answer(&keys, &mut memory, datagram)?.ok_or("the card refuses a packet")?;
-            Ok(link::packet(&reply).unwrap_or_default().to_vec())
+            Ok(link::packet(&reply.datagram).unwrap_or_default().to_vec())
         })?;
         self.start()?;
         self.has_all(|datagram| {
@@ -170,7 +168,7 @@ impl Test {
 
     fn has_all(&self, mut ask: impl FnMut(&[u8]) -> Result<Vec<u8>, String>) -> Result<(), String> {
         for (k, store) in self.packets[..self.acknowledged].iter().enumerate().step_by(2) {
-            if packet::code(&ask(store)?) != Some(HELD) {
+            if stored(&ask(store)?) != Some(Stored::Held) {
                 return Err(format!("save {} was acknowledged and is lost", k / 2 + 1));
             }
         }

@@ -68,7 +68,7 @@ fn rate(scopes: &mut [Scope], calls: impl Fn(&mut Scope) -> Result<usize, String
 fn save(scope: &mut Scope, boxes: &[SocketAddr], k: usize) -> Result<(), String> {
     scope.begin_save(&[k as u8; RECORD])?;
     match scope.finish(&call::socket(boxes)?, boxes, PATIENCE)? {
-        Outcome::Saved { .. } => Ok(()),
+        Outcome::Saved(_) => Ok(()),
         other => Err(format!("a save ended as {other:?}")),
     }
 }
@@ -76,7 +76,7 @@ fn save(scope: &mut Scope, boxes: &[SocketAddr], k: usize) -> Result<(), String>
 fn load_once(scope: &mut Scope, boxes: &[SocketAddr]) -> Result<(), String> {
     scope.begin_load()?;
     match scope.finish(&call::socket(boxes)?, boxes, PATIENCE)? {
-        Outcome::Shown { record, .. } if record.len() == RECORD => Ok(()),
+        Outcome::Shown(_, record) if record.len() == RECORD => Ok(()),
         other => Err(format!("a load ended as {other:?}")),
     }
 }

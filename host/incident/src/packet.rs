@@ -40,11 +40,6 @@ pub fn stamp_number(reply: &[u8]) -> Option<u32> {
     four_bytes(reply, HEAD)
 }
 
-/// The code in a reply to store.
-pub fn code(reply: &[u8]) -> Option<u8> {
-    reply.get(HEAD).copied()
-}
-
 /// Whether a reply to filter brings along what the box holds.
 pub fn has_fragment(reply: &[u8]) -> bool {
     reply.get(HEAD + STAMP) == Some(&1)

@@ -4,7 +4,7 @@ use crate::card::{Card, Durable};
 use crate::keys::BoxKeys;
 use crate::link::{self, DATAGRAM};
 use crate::{packet, servers, words};
-use cendrulas::{server_blank, server_take, PACKET_ROOM, SERVER_MEMORY};
+use cendrulas::{server_blank, server_take, Refusal, PACKET_ROOM, SERVER_MEMORY};
 use std::io;
 use std::net::{SocketAddr, UdpSocket};
 use std::path::Path;
@@ -18,17 +18,25 @@ pub fn blank(keys: &BoxKeys) -> Vec<u8> {
     memory
 }
 
-/// What the box does with a datagram: the sealed reply, or none where nothing is to be sent.
-pub fn answer(keys: &BoxKeys, memory: &mut [u8], datagram: &[u8]) -> Result<Option<Vec<u8>>, String> {
+/// A sealed reply, and whether the memory must be kept before it goes out.
+pub struct Reply {
+    pub datagram: Vec<u8>,
+    pub changed: bool,
+}
+
+/// What the box does with a datagram: its reply, or none where nothing is to be sent.
+pub fn answer(keys: &BoxKeys, memory: &mut [u8], datagram: &[u8]) -> Result<Option<Reply>, String> {
     let key_of = |scope, server| if server == keys.number { keys.link(scope) } else { None };
     let Some(packet) = link::open(datagram, key_of) else { return Ok(None) };
     let mut reply = [0; PACKET_ROOM];
-    let answer = server_take(memory, &keys.key, packet, &mut reply);
-    match answer.refusal {
-        0 => Ok(packet::parties(packet).and_then(|(scope, _)| keys.link(scope)).map(|key| link::seal(&key, &reply[..answer.count]))),
-        2 => Err("the card does not hold a box's memory: this box is lost, and does not reply".to_owned()),
-        7..=9 => Ok(None),
-        other => Err(format!("a packet was refused with {other}")),
+    match server_take(memory, &keys.key, packet, &mut reply).accepted() {
+        Ok(answer) => {
+            let key = packet::parties(packet).and_then(|(scope, _)| keys.link(scope));
+            Ok(key.map(|key| Reply { datagram: link::seal(&key, &reply[..answer.count]), changed: answer.result == 1 }))
+        }
+        Err(Refusal::NoServer) => Err("the card does not hold a box's memory: this box is lost, and does not reply".to_owned()),
+        Err(Refusal::NoPacket | Refusal::NotMine | Refusal::NotAllowed) => Ok(None),
+        Err(other) => Err(format!("a packet was refused: {other}")),
     }
 }
 
@@ -59,12 +67,11 @@ fn serve(socket: &UdpSocket, keys: &BoxKeys, mut memory: Vec<u8>, card: &dyn Dur
         }
         socket.set_read_timeout(left).map_err(|e| e.to_string())?;
         let Some((n, from)) = received(socket.recv_from(&mut datagram))? else { continue };
-        let before = memory.clone();
         let Some(reply) = answer(keys, &mut memory, &datagram[..n])? else { continue };
-        if memory != before {
+        if reply.changed {
             card.replace(&memory)?;
         }
-        if let Err(e) = socket.send_to(&reply, from) {
+        if let Err(e) = socket.send_to(&reply.datagram, from) {
             eprintln!("box: a reply can't be sent: {e}");
         }
     }

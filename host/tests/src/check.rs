@@ -25,7 +25,6 @@ impl Run {
     }
 
     /// How many inputs were compared so far.
-    #[cfg(feature = "client")]
     pub fn inputs(&self) -> u64 {
         self.inputs
     }

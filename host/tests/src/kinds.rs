@@ -7,31 +7,34 @@ use std::collections::BTreeMap;
 #[derive(Default)]
 pub struct Kinds(BTreeMap<&'static str, BTreeMap<String, u64>>);
 
-/// Operations with their kinds of answers, of the parts that the library has.
-const DUE: &[(bool, &str, &str)] = &[
-    (true, "digest", "accepted,refused 255"),
-    (true, "tag", "accepted,refused 255"),
-    (cfg!(feature = "coding"), "fragment", "accepted,refused 3,refused 4,refused 6,refused 255"),
-    (cfg!(feature = "coding"), "restore", "accepted,refused 3,refused 4,refused 6,refused 15,refused 16"),
-    (cfg!(feature = "server"), "packet check", PACKETS),
-    (cfg!(feature = "server"), "server is made blank", "accepted,refused 1,refused 3,refused 4"),
-    (cfg!(feature = "server"), "server takes", SERVER),
-    (cfg!(feature = "client"), "client begins to write", BEGIN_WRITE),
-    (cfg!(feature = "client"), "client begins to read", BEGIN_READ),
-    (cfg!(feature = "client"), "client makes", MAKE),
-    (cfg!(feature = "client"), "client takes", TAKE),
-    (cfg!(feature = "client"), "client gives up", GIVE_UP),
-    (cfg!(feature = "client"), "any state begins to write", BEGIN_WRITE),
-    (cfg!(feature = "client"), "any state begins to read", BEGIN_READ),
-    (cfg!(feature = "client"), "any state makes", MAKE),
-    (cfg!(feature = "client"), "any state takes", TAKE),
-    (cfg!(feature = "client"), "any state gives up", GIVE_UP),
-    (cfg!(feature = "drill"), "drill", "accepted,refused 1,refused 15"),
-    (cfg!(feature = "drill"), "line of a listing", LISTING),
+/// Operations with their kinds of answers.
+const DUE: &[(&str, &str)] = &[
+    ("digest", "accepted,refused 255"),
+    ("tag", "accepted,refused 255"),
+    ("fragment", "accepted,refused 3,refused 4,refused 6,refused 255"),
+    ("restore", "accepted,refused 3,refused 4,refused 6,refused 15,refused 16"),
+    ("packet check", PACKETS),
+    ("store code", "code 0,code 10,code 11,none,refused 7"),
+    ("round in hand", "round 0,round 1,round 2,round 3,round 4,round 5,round 6,refused 255"),
+    ("server is made blank", "accepted,refused 1,refused 3,refused 4"),
+    ("server takes", SERVER),
+    ("client begins to write", BEGIN_WRITE),
+    ("client begins to read", BEGIN_READ),
+    ("client makes", MAKE),
+    ("client takes", TAKE),
+    ("client gives up", GIVE_UP),
+    ("any state begins to write", BEGIN_WRITE),
+    ("any state begins to read", BEGIN_READ),
+    ("any state makes", MAKE),
+    ("any state takes", TAKE),
+    ("any state gives up", GIVE_UP),
+    ("drill", "accepted,refused 1,refused 15"),
+    ("line of a listing", LISTING),
 ];
 
 const PACKETS: &str = "kind 1,kind 2,kind 3,kind 4,kind 5,kind 6,kind 7,kind 8,kind 9,kind 10,kind 11,kind 12,refused 7";
-const SERVER: &str = "clock,store: kept,store: held,store: full,complete,collect,filter: blank,filter: not held,filter: held,repair,\
+const SERVER: &str = "clock,store: kept,store: held,store: full,complete,complete: raised,collect,filter: blank,filter: not held,\
+    filter: not held: raised,filter: held,filter: held: raised,repair,repair: raised,\
     refused 1,refused 2,refused 7,refused 8,refused 9,refused 15,refused 255";
 const BEGIN_WRITE: &str = "accepted,refused 3,refused 5,refused 6,refused 13,refused 14,refused 255";
 const BEGIN_READ: &str = "accepted,refused 3,refused 5,refused 13,refused 14,refused 255";
@@ -55,29 +58,27 @@ pub fn plainly(answer: &Answer) -> String {
     kind(answer, || "accepted".into())
 }
 
-/// The kind of a server's reply.
-#[cfg(feature = "server")]
+/// The kind of a server's reply, and whether it has raised its latest candidate.
 pub fn reply(answer: &Answer, reply: &[u8]) -> String {
     kind(answer, || {
         let round = ROUNDS[reply[0] as usize / 2 - 1];
+        let raised = if answer.result == 1 { ": raised" } else { "" };
         match (reply[0], answer.count) {
             (4, _) => format!("store: {}", ["kept", "held", "full"][reply[8].saturating_sub(9) as usize]),
-            (10, _) if reply[8..45] == [0; 37] => "filter: blank".into(),
-            (10, 46) => "filter: not held".into(),
-            (10, _) => "filter: held".into(),
-            _ => round.into(),
+            (10, _) if reply[8..45] == [0; 37] => format!("filter: blank{raised}"),
+            (10, 46) => format!("filter: not held{raised}"),
+            (10, _) => format!("filter: held{raised}"),
+            _ => format!("{round}{raised}"),
         }
     })
 }
 
 /// The round of the packet that a client made.
-#[cfg(feature = "client")]
 pub fn made(answer: &Answer, packet: &[u8]) -> String {
     kind(answer, || ROUNDS[packet[0] as usize / 2].into())
 }
 
 /// What a taken reply led to.
-#[cfg(feature = "client")]
 pub fn taken(answer: &Answer, packet: &[u8]) -> String {
     kind(answer, || match (answer.result, packet[0]) {
         (0, 4) if packet[8] == 11 => "server is full".into(),
@@ -88,7 +89,6 @@ pub fn taken(answer: &Answer, packet: &[u8]) -> String {
     })
 }
 
-#[cfg(feature = "client")]
 pub fn given_up(answer: &Answer) -> String {
     kind(answer, || if answer.result == 5 { "in complete".into() } else { "before complete".into() })
 }
@@ -105,7 +105,7 @@ impl Kinds {
             println!("{operation}: {}", each.join(", "));
         }
         let none = BTreeMap::new();
-        for (_, operation, due) in DUE.iter().filter(|(there, ..)| *there) {
+        for (operation, due) in DUE {
             let seen = self.0.get(operation).unwrap_or(&none);
             if let Some(kind) = due.split(',').find(|&kind| !seen.contains_key(kind)) {
                 return Err(format!("{operation}: {kind} was never seen"));

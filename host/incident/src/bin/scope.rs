@@ -1,6 +1,6 @@
 //! A scope's side of the shelf: saves and loads over UDP, with its state in a file. docs/EMBEDDING.md says how to use it.
 
-use cendrulas::CONTENT_ROOM;
+use cendrulas::{GivenUp, Round, CONTENT_ROOM};
 use incident::call::{self, Outcome, Scope};
 use incident::card::Card;
 use incident::keys::ScopeKeys;
@@ -69,9 +69,9 @@ fn record() -> Result<Vec<u8>, String> {
 /// A record goes to standard output, what is said about it to standard error.
 fn show(scope: &Scope, outcome: Outcome) -> Result<(), String> {
     match outcome {
-        Outcome::Saved { number } => println!("saved on the shelf, number {number}"),
-        Outcome::Shown { number, record } => {
-            eprintln!("number {number}, {} bytes", record.len());
+        Outcome::Saved(label) => println!("saved on the shelf, number {}", label.number),
+        Outcome::Shown(label, record) => {
+            eprintln!("number {} of scope {}, {} bytes", label.number, label.writer, record.len());
             let mut stdout = io::stdout().lock();
             stdout.write_all(&record).and_then(|()| stdout.flush()).map_err(|e| format!("the record can't be shown: {e}"))?;
         }
@@ -82,11 +82,13 @@ fn show(scope: &Scope, outcome: Outcome) -> Result<(), String> {
 }
 
 fn given_up(scope: &Scope, outcome: &Outcome) -> String {
-    let Outcome::GivenUp { round, replies, read_later } = outcome else { return String::new() };
-    let kind = match (*round, read_later) {
-        (_, true) => "a later load may show this record or not",
-        ("clock" | "store", _) => "this record is never shown; it can be saved anew",
+    let Outcome::GivenUp { round, replies, how, full } = outcome else { return String::new() };
+    let kind = match (round, how) {
+        (_, GivenUp::InComplete) => "a later load may show this record or not",
+        _ if *full > 0 => "this record is never shown",
+        (Round::Clock | Round::Store, _) => "this record is never shown; it can be saved anew",
         _ => "nothing is shown",
     };
-    format!("given up in round {round}, with {replies} of {} replies: {kind}", scope.quorum())
+    let full = if *full > 0 { format!("; the shelf is full: {full} boxes keep no more records") } else { String::new() };
+    format!("given up in round {}, with {replies} of {} replies: {kind}{full}", round.name(), scope.quorum())
 }

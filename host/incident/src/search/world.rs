@@ -1,15 +1,13 @@
 //! The library's steps on numbers: every memory, packet and state of a client that comes up is kept once and named by a number, and each step
 //! is computed once. So a search can go over millions of orders, and every step in it is still the library's own.
 
-use cendrulas::{server_blank, server_take, Answer, Client, Keys, CONTENT_ROOM, PACKET_ROOM, SERVER_KEYS, SERVER_MEMORY};
+use cendrulas::{server_blank, server_take, Client, Keys, Refusal, Taken as Step, CONTENT_ROOM, PACKET_ROOM, SERVER_KEYS, SERVER_MEMORY};
 use super::RECORDS;
 use std::collections::HashMap;
 
 pub const T: usize = 1;
 pub const BOXES: usize = 3 * T + 1;
 pub type Id = u16;
-/// The result of a load that gave a record.
-const READ: u8 = 2;
 
 /// Contents, each named by its place.
 #[derive(Default)]
@@ -102,7 +100,7 @@ impl World {
     /// A client begins a save of a record with a nonce of this byte. `from` is its state; none for one that was never used.
     pub fn begin_save(&mut self, number: u8, from: Option<Id>, record: &[u8], nonce: u8) -> Id {
         let mut client = from.map_or_else(|| Client::new(T, usize::from(number)), |id| self.client(id));
-        assert_eq!(client.begin_write(record, &[nonce; 32]).refusal, 0);
+        client.begin_write(record, &[nonce; 32]).expect("a right save begins");
         self.client_id(number, &client)
     }
 
@@ -112,14 +110,14 @@ impl World {
             return begun;
         }
         let mut client = Client::new(T, usize::from(number));
-        assert_eq!(client.begin_read().refusal, 0);
+        client.begin_read().expect("a load begins");
         let begun = self.client_id(number, &client);
         self.loads.insert(number, begun);
         begun
     }
 
     pub fn round(&self, client: Id) -> u8 {
-        self.client(client).round()
+        self.client(client).round() as u8
     }
 
     /// A box takes a question: its memory afterwards, and the reply.
@@ -147,14 +145,18 @@ impl World {
         let reply = &self.packets.contents[usize::from(packet)];
         let number = reply[1];
         let (round, (answer, record)) = (after.round(), step(&mut after, &self.keys, reply));
-        if answer.result == READ {
-            assert_eq!(record, RECORDS[answer.number as usize - 1], "a load gives the record of its number, whole");
+        if let Ok(Step::Read(label, _)) = answer {
+            assert_eq!(record, RECORDS[label.number as usize - 1], "a load gives the record of its number, whole");
         }
         let kept = after.state().to_vec();
-        assert!(step(&mut after, &self.keys, reply).0.refusal != 0 && after.state() == kept, "a reply counts once");
-        let ended = (answer.result != 0).then_some(answer.number);
+        assert!(step(&mut after, &self.keys, reply).0.is_err() && after.state() == kept, "a reply counts once");
+        let ended = match answer {
+            Ok(Step::Written(label) | Step::Read(label, _)) => Some(label.number),
+            Ok(Step::Blank) => Some(0),
+            Ok(Step::GoesOn) | Err(_) => None,
+        };
         let next_round = after.round() != round && ended.is_none();
-        let done = Taken { client: self.client_id(number, &after), refused: answer.refusal != 0, ended, next_round };
+        let done = Taken { client: self.client_id(number, &after), refused: answer.is_err(), ended, next_round };
         self.taken.set(client, packet, done);
         done
     }
@@ -165,17 +167,16 @@ impl World {
             return made;
         }
         let mut packet = vec![0; PACKET_ROOM];
-        let answer = self.client(client).make(server, &mut packet);
-        assert_eq!(answer.refusal, 0, "a call is in hand");
-        let made = self.packets.id(&packet[..answer.count]);
+        let length = self.client(client).make(server, &mut packet).expect("a call is in hand");
+        let made = self.packets.id(&packet[..length]);
         self.made.set(client, server as Id, made);
         made
     }
 }
 
-fn step(client: &mut Client, keys: &Keys, reply: &[u8]) -> (Answer, Vec<u8>) {
+fn step(client: &mut Client, keys: &Keys, reply: &[u8]) -> (Result<Step, Refusal>, Vec<u8>) {
     let mut record = vec![0; CONTENT_ROOM];
     let answer = client.take(keys, reply, &mut record);
-    record.truncate(answer.count);
+    record.truncate(if let Ok(Step::Read(_, count)) = answer { count } else { 0 });
     (answer, record)
 }

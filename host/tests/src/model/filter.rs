@@ -110,7 +110,7 @@ impl Client<'_> {
     /// The content, or the repair round where the proven tags are others.
     fn conclude(&mut self, candidate: &[u8], content: Vec<u8>, tags: Vec<u8>, out: &mut [u8]) -> Answer {
         if tags == candidate[69..] {
-            self.deliver(four(candidate), &content, out)
+            self.deliver(candidate, &content, out)
         } else {
             put(self.state, LENGTH, &(content.len() as u16).to_be_bytes());
             put(self.state, CONTENT, &content);

@@ -17,6 +17,7 @@ const ROUND: usize = 14;
 const COUNT: usize = 15;
 const MARKS: usize = 16;
 const SMALL: usize = 29;
+const STAMP: usize = 37;
 const CONTENT: usize = 64;
 const NONCE: usize = CONTENT + 1_024;
 const CHOSEN: usize = NONCE + 32;
@@ -95,6 +96,16 @@ impl Client<'_> {
         put(self.state, 0, &(call + 1).to_be_bytes());
         self.enter(round);
         Ok(())
+    }
+
+    /// The round in hand and the servers that are marked in it, all 13 whatever t is.
+    pub fn hand(&self) -> Answer {
+        if self.state.len() != STATE {
+            return Answer::refused(WRONG_SIZE);
+        }
+        let marked: Vec<usize> = (0..13).filter(|&i| self.state[MARKS + i] != 0).collect();
+        let round = if self.in_hand() { self.round() } else { 0 };
+        Answer { result: round, number: marked.iter().map(|&i| 1 << i).sum(), ..Answer::wrote(marked.len()) }
     }
 
     pub fn begin_write(&mut self, content: &[u8], nonce: &[u8]) -> Answer {

@@ -1,6 +1,6 @@
 //! The client on its bytes takes a reply: refusals, and every round but filter.
 
-use super::{four, put, Client, CANDIDATES, CANDIDATE_SLOT, CHOSEN, COUNT, HIGH, LAST, MARKS, NONCE, REPLIES, REPLY_SLOT, STATE, WRONG_SIZE};
+use super::{four, put, Client, CANDIDATES, CANDIDATE_SLOT, CHOSEN, COUNT, HIGH, LAST, MARKS, NONCE, REPLIES, REPLY_SLOT, STAMP, STATE, WRONG_SIZE};
 use cendrulas::Answer;
 use shelf::hmac::tag;
 use shelf::packet::decode;
@@ -113,20 +113,25 @@ impl Client<'_> {
 
     /// The last reply of a round other than clock and filter.
     fn end(&mut self, round: u8, out: &mut [u8]) -> Answer {
-        let number = four(&self.state[CHOSEN..]);
+        let stamp = self.state[CHOSEN..CHOSEN + STAMP].to_vec();
         match round {
-            3 => Answer { result: 1, number, ..self.enter(0) },
+            3 => self.told(1, &stamp, 0),
             6 => {
                 let content = self.content().to_vec();
-                self.deliver(number, &content, out)
+                self.deliver(&stamp, &content, out)
             }
             _ => self.enter(round + 1),
         }
     }
 
-    pub(super) fn deliver(&mut self, number: u32, content: &[u8], out: &mut [u8]) -> Answer {
+    pub(super) fn deliver(&mut self, stamp: &[u8], content: &[u8], out: &mut [u8]) -> Answer {
         put(out, 0, content);
+        self.told(2, stamp, content.len())
+    }
+
+    /// The call has ended, and its stamp is told.
+    fn told(&mut self, result: u8, stamp: &[u8], count: usize) -> Answer {
         self.enter(0);
-        Answer { refusal: 0, result: 2, number, count: content.len() }
+        Answer { result, number: four(stamp), writer: stamp[4] % 16, ..Answer::wrote(count) }
     }
 }

@@ -28,10 +28,10 @@ impl Client {
 
     pub fn take(&mut self, packet: &[u8], out: &mut [u8]) -> Answer {
         match self.0.take(packet, out) {
-            Ok(Outcome::GoesOn) => with_result(0, 0, 0),
-            Ok(Outcome::Written { number }) => with_result(1, number, 0),
-            Ok(Outcome::Read { number, count }) => with_result(2, number, count),
-            Ok(Outcome::Blank) => with_result(3, 0, 0),
+            Ok(Outcome::GoesOn) => Answer::wrote(0),
+            Ok(Outcome::Written { number, writer }) => Answer { result: 1, number, writer, ..Answer::wrote(0) },
+            Ok(Outcome::Read { number, writer, count }) => Answer { result: 2, number, writer, ..Answer::wrote(count) },
+            Ok(Outcome::Blank) => Answer { result: 3, ..Answer::wrote(0) },
             Err(refusal) => Answer::refused(refusal as u8),
         }
     }
@@ -39,12 +39,8 @@ impl Client {
     pub fn give_up(&mut self) -> Answer {
         let given_up: Result<bool, Refusal> = self.0.give_up();
         match given_up {
-            Ok(in_complete) => with_result(4 + in_complete as u8, 0, 0),
+            Ok(in_complete) => Answer { result: 4 + in_complete as u8, ..Answer::wrote(0) },
             Err(refusal) => Answer::refused(refusal as u8),
         }
     }
-}
-
-fn with_result(result: u8, number: u32, count: usize) -> Answer {
-    Answer { refusal: 0, result, number, count }
 }

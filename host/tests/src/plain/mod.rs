@@ -3,24 +3,16 @@
 mod digest;
 pub use digest::{digest, tag};
 
-#[cfg(feature = "coding")]
 mod coding;
-#[cfg(feature = "coding")]
 pub use coding::{fragment, restore};
 
-#[cfg(feature = "server")]
 mod server;
-#[cfg(feature = "server")]
 pub use server::{server_blank, server_take};
 
-#[cfg(feature = "client")]
 mod client;
-#[cfg(feature = "client")]
 pub use client::Client;
 
-#[cfg(feature = "drill")]
 mod drill;
-#[cfg(feature = "drill")]
 pub use drill::drill;
 
 use cendrulas::Answer;

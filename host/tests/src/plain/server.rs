@@ -7,8 +7,8 @@ pub fn server_blank(memory: &mut [u8], t: usize, server: usize) -> Answer {
 }
 
 pub fn server_take(memory: &mut [u8], key: &[u8], packet: &[u8], out: &mut [u8]) -> Answer {
-    match key.try_into() {
-        Ok(key) => answer(boxes::take(memory, key, packet, out)),
-        Err(_) => Answer::refused(WRONG_SIZE),
-    }
+    let Ok(key) = key.try_into() else { return Answer::refused(WRONG_SIZE) };
+    let before = memory.to_vec();
+    let taken = answer(boxes::take(memory, key, packet, out));
+    Answer { result: (memory != before) as u8, ..taken }
 }

@@ -7,7 +7,7 @@ use crate::check::{Run, Seen};
 use crate::kinds::kind;
 use crate::text::hex;
 use cendrulas::Answer;
-use shelf::packet::decode;
+use shelf::packet::{decode, Body};
 
 /// Packets of one world of stamps.
 const LIFE: usize = 500;
@@ -26,8 +26,25 @@ pub fn all(run: &mut Run, source: &mut Source, inputs: usize) {
                 Seen { answer: due, buffers: &[] },
             );
             run.kinds.saw("packet check", kind(&answer, || format!("kind {}", packet[0])));
+            code(run, &packet);
         }
     }
+}
+
+/// What a reply to a store says, and that other packets say nothing.
+fn code(run: &mut Run, packet: &[u8]) {
+    let answer = cendrulas::store_code(packet);
+    let due = match decode(packet).map(|packet| packet.body) {
+        None => Answer::refused(7),
+        Some(Body::StoreReply(code)) => Answer { result: 1, ..Answer::wrote(code.into()) },
+        Some(_) => Answer::wrote(0),
+    };
+    run.also(
+        || format!("code of {}", hex(packet)),
+        Seen { answer, buffers: &[] },
+        Seen { answer: due, buffers: &[] },
+    );
+    run.kinds.saw("store code", kind(&answer, || if answer.result == 1 { format!("code {}", answer.count) } else { "none".into() }));
 }
 
 fn packet(source: &mut Source, world: &World, servers: u8) -> Vec<u8> {

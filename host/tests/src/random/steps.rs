@@ -1,7 +1,7 @@
 //! A step of a client as a value, to be taken by the library, by the model of its bytes and by the plain shelf.
 
 use crate::check::{Run, Seen, FILLER};
-use crate::kinds::{given_up, made, plainly, taken};
+use crate::kinds::{given_up, kind, made, plainly, taken};
 use crate::text::hex;
 use crate::{model, plain};
 use cendrulas::{Answer, Keys};
@@ -111,6 +111,14 @@ impl Step<'_> {
             Seen { answer, buffers: &[&got, state] },
             Seen { answer: modelled, buffers: &[&want, &due] },
         );
+        let hand = cendrulas::client_round(state);
+        let marked = model::Client { state, t: p.t, number: p.number }.hand();
+        run.also(
+            || format!("the round of state {}", hex(&before)),
+            Seen { answer: hand, buffers: &[] },
+            Seen { answer: marked, buffers: &[] },
+        );
+        run.kinds.saw("round in hand", kind(&hand, || format!("round {}", hand.result)));
         self.count(run, names, &answer, &got);
         (answer, got)
     }

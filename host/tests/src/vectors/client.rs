@@ -3,7 +3,9 @@
 use super::filled;
 use crate::check::{Run, Seen, FILLER};
 use crate::text::{each_line, number, raw, Line};
-use cendrulas::{Answer, Client, Keys};
+use cendrulas::{
+    client_begin_read, client_begin_write, client_give_up, client_make, client_round, client_take, Answer, Keys, CLIENT_STATE,
+};
 use std::path::Path;
 
 /// The keys of the examples and of a drill.
@@ -21,26 +23,28 @@ pub fn lent_to(client: usize) -> Keys {
 
 pub fn clients(run: &mut Run, folder: &Path) {
     let mut keys = lent_to(1);
-    let mut client = Client::new(1, 1);
+    let (mut t, mut client, mut state) = (1, 1, vec![0; CLIENT_STATE]);
     each_line(folder, "clients.txt", |line| {
         let words = &line.left;
         if words[0] == "CLIENT" {
-            client = Client::new(number(words[1]), number(words[2]));
-            keys = lent_to(number(words[2]));
+            (t, client, state) = (number(words[1]), number(words[2]), vec![0; CLIENT_STATE]);
+            keys = lent_to(client);
             return;
         }
         let room = if matches!(words[0], "M" | "T") { number(words[2]) } else { 0 };
         let mut out = vec![FILLER; room];
         let answer = match words[0] {
-            "W" => client.begin_write(&raw(words[1]), &raw(words[2]).try_into().expect("a nonce")),
-            "R" => client.begin_read(),
-            "G" => client.give_up(),
-            "M" => client.make(number(words[1]), &mut out),
-            _ => client.take(&keys, &raw(words[1]), &mut out),
+            "W" => client_begin_write(&mut state, t, client, &raw(words[1]), &raw(words[2])),
+            "R" => client_begin_read(&mut state, t, client),
+            "G" => client_give_up(&mut state, t, client),
+            "M" => client_make(&state, t, client, number(words[1]), &mut out),
+            _ => client_take(&mut state, t, client, &keys.writers, &keys.servers, &raw(words[1]), &mut out),
         };
         let (want, bytes) = due(line);
+        // the vectors tell no writer; the plain shelf does (random/)
+        let want = Answer { writer: answer.writer, ..want };
         let left = filled(&bytes, room);
-        let (round, due_round) = ([round(&client)], [number(line.right.last().expect("a round"))]);
+        let (round, due_round) = ([client_round(&state).result], [number(line.right.last().expect("a round"))]);
         run.same(
             || line.place.clone(),
             Seen { answer, buffers: &[&out, &round] },
@@ -65,14 +69,5 @@ fn due(line: &Line) -> (Answer, Vec<u8>) {
             (answer, content)
         }
         _ => (Answer::wrote(0), Vec::new()),
-    }
-}
-
-/// The round now: the kind of the packet that is made in it, 0 where none is.
-fn round(client: &Client) -> u8 {
-    let mut packet = vec![0; 6_400];
-    match client.make(1, &mut packet).refusal {
-        0 => packet[0].div_ceil(2),
-        _ => 0,
     }
 }

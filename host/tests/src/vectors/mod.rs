@@ -6,32 +6,21 @@ use cendrulas::Answer;
 use std::path::Path;
 
 mod tags;
-#[cfg(feature = "client")]
 mod client;
-#[cfg(feature = "coding")]
 mod coding;
-#[cfg(feature = "server")]
 mod server;
-#[cfg(feature = "drill")]
 mod sheets;
-#[cfg(feature = "wire")]
 mod packets;
 
-#[cfg(feature = "client")]
 pub use client::{drill_keys, lent_to};
 
 pub fn all(run: &mut Run, folder: &Path) {
     let vectors = folder.join("vectors");
     run.group("tags.txt", |run| tags::tags(run, &vectors));
-    #[cfg(feature = "coding")]
     coding::all(run, &vectors);
-    #[cfg(feature = "wire")]
     run.group("packets.txt", |run| packets::packets(run, &vectors));
-    #[cfg(feature = "server")]
     server::all(run, &vectors);
-    #[cfg(feature = "client")]
     run.group("clients.txt", |run| client::clients(run, &vectors));
-    #[cfg(feature = "drill")]
     run.group("sheets", |run| sheets::sheets(run, folder));
 }
 

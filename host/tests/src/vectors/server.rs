@@ -35,8 +35,11 @@ fn steps(run: &mut Run, folder: &Path) {
             return;
         }
         let mut out = vec![FILLER; number(line.left[2])];
+        let before = memory.clone();
         let answer = server_take(&mut memory, &[server; 32], &raw(line.left[1]), &mut out);
-        due(run, line, answer, &out);
+        let changed = (memory != before) as u8;
+        run.also(|| line.place.clone(), Seen { answer: answer.result, buffers: &[] }, Seen { answer: changed, buffers: &[] });
+        due(run, line, Answer { result: 0, ..answer }, &out);
         let digest = hex(&shelf::sha256::digest(&memory));
         let want = *line.right.last().expect("a digest");
         run.same(|| line.place.clone(), Seen { answer: &digest[..], buffers: &[] }, Seen { answer: want, buffers: &[] });
