@@ -5,11 +5,11 @@
 #include "cendrulas.h"
 
 enum { T = 4, SERVERS = 13, CANDIDATE = 485, WRITES = 32 };
-enum { NOTHING, DIGEST, TAG, FRAGMENT, RESTORE, CHECK, BLANK, SERVE, WRITE, READ, MAKE, TAKE, GIVE_UP, FUNCTIONS };
+enum { NOTHING, DIGEST, TAG, FRAGMENT, RESTORE, CHECK, CODE, BLANK, SERVE, ROUND, WRITE, READ, MAKE, TAKE, GIVE_UP, FUNCTIONS };
 
 static const char *const names[FUNCTIONS] = {
-    "a thread alone", "digest", "tag", "fragment", "restore", "packet_check", "server_blank", "server_take",
-    "client_begin_write", "client_begin_read", "client_make", "client_take", "client_give_up"};
+    "a thread alone", "digest", "tag", "fragment", "restore", "packet_check", "store_code", "server_blank", "server_take",
+    "client_round", "client_begin_write", "client_begin_read", "client_make", "client_take", "client_give_up"};
 static size_t deepest[FUNCTIONS];
 static unsigned seen_result[6], seen_kind[13], seen_full;
 
@@ -37,6 +37,8 @@ static void *call(void *which) {
     case FRAGMENT: answer = cendrulas_fragment(T, server, content, sizeof content, out, sizeof out); break;
     case RESTORE: answer = cendrulas_restore(T, sizeof content, numbers, 5, fragments, sizeof fragments, out, sizeof out); break;
     case CHECK: answer = cendrulas_packet_check(packet, packet_len); break;
+    case CODE: answer = cendrulas_store_code(reply, reply_len); break;
+    case ROUND: answer = cendrulas_client_round(s, size); break;
     case BLANK: answer = cendrulas_server_blank(memory, sizeof memories[0], T, server); break;
     case SERVE:
         answer = cendrulas_server_take(memory, sizeof memories[0], keys + 32 * (server - 1), CENDRULAS_KEY, packet, packet_len, reply, sizeof reply);
@@ -77,6 +79,7 @@ static unsigned kind_of_packet(void) {
     accepted(MAKE);
     packet_len = cendrulas_count(answer);
     accepted(CHECK);
+    accepted(ROUND);
     seen_kind[packet[0]] = 1;
     return packet[0];
 }
@@ -85,7 +88,8 @@ static unsigned kind_of_packet(void) {
 static unsigned deliver(void) {
     accepted(SERVE);
     reply_len = cendrulas_count(answer);
-    seen_full |= reply[0] == 4 && reply[8] == 11;
+    accepted(CODE);
+    seen_full |= cendrulas_count(answer) == CENDRULAS_FULL;
     unsigned result = accepted(TAKE);
     seen_result[result] = 1;
     return result;

@@ -7,7 +7,8 @@ use crate::Refusal;
 pub struct Answer {
     /// 0, or the number of the refusal.
     pub refusal: u8,
-    /// Of a client's step as a drill listing shows it: 0 goes on, 1 written, 2 read, 3 blank, 4 and 5 given up. Of a server's: 1 where its memory changed.
+    /// Of a client's step as a drill listing shows it: 0 goes on, 1 written, 2 read, 3 blank, 4 and 5 given up. Of a server's step: 1 where its
+    /// memory changed.
     pub result: u8,
     /// The stamp's writer and number, with a client's results 1 and 2.
     pub writer: u8,
