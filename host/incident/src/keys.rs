@@ -1,11 +1,13 @@
 //! Key files, one to a party, in lines of words:
 //!
-//!     cendrulas box              cendrulas scope
-//!     t 1                        t 1
-//!     number 4                   number 1
-//!     key HEX                    writers HEX        scopes 1 to 8 only
-//!     link SCOPE HEX ..          key BOX HEX ..     scopes 1 to 8 only
-//!                                link BOX HEX ..
+//! ```text
+//! cendrulas box              cendrulas scope
+//! t 1                        t 1
+//! number 4                   number 1
+//! key HEX                    writers HEX        scopes 1 to 8 only
+//! link SCOPE HEX ..          key BOX HEX ..     scopes 1 to 8 only
+//!                            link BOX HEX ..
+//! ```
 //!
 //! `key` is a box's key, `writers` the writers' key (document 01), `link` the key of the link with a scope or a box (link.rs).
 
