@@ -78,9 +78,10 @@ static void serve(size_t server, const struct cendrulas_packet *packet, struct c
 }
 
 /* Visits the servers by turns until the call in hand ends: the round's packet to each that has not replied in it, its reply back. A refused
- * reply changes nothing. A write does not end while more than t servers are full: it is given up, and `full` says how many were seen. */
+ * reply changes nothing. A write does not end while more than t servers are full: it is given up, and `full` says how many they are. */
 static uint64_t finish(struct scope *scope, struct cendrulas_content *content, unsigned *full) {
     static struct cendrulas_packet packet, reply;
+    int is_full[SERVERS + 1] = {0};
     *full = 0;
     for (size_t k = 0; k < PASSES * SERVERS && *full <= T; k++) {
         size_t server = k % SERVERS + 1;
@@ -97,7 +98,10 @@ static uint64_t finish(struct scope *scope, struct cendrulas_content *content, u
             return answer;
         }
         uint64_t code = cendrulas_store_code(reply.bytes, reply.length);
-        *full += cendrulas_result(code) == 1 && cendrulas_count(code) == CENDRULAS_FULL;
+        if (cendrulas_result(code) == 1 && cendrulas_count(code) == CENDRULAS_FULL && !is_full[server]) {
+            is_full[server] = 1; /* it is asked again, and counts once */
+            (*full)++;
+        }
     }
     return kept(scope, cendrulas_give_up(&scope->client));
 }

@@ -3,6 +3,7 @@
 //! their memory changed; the scope keeps its state in flash with a checksum. docs/EMBEDDING.md has this file; host/test runs it.
 
 use cendrulas::{stored, Client, Keys, Label, Refusal, Server, Stored, Taken, CONTENT_ROOM, PACKET_ROOM, SERVER_KEYS};
+use std::collections::BTreeSet;
 use std::io::Read;
 
 const T: usize = 1;
@@ -80,7 +81,8 @@ impl Shelf {
     /// Visits the servers by turns until the call in hand ends: the round's packet to each that has not replied in it, its reply back. A refused
     /// reply changes nothing. A write does not end while more than t servers are full: it is given up.
     fn finish(&mut self, scope: &mut Scope, content: &mut [u8]) -> Result<Ended, Refusal> {
-        let (mut packet, mut reply, mut full) = (vec![0; PACKET_ROOM], vec![0; PACKET_ROOM], 0);
+        let (mut packet, mut reply) = (vec![0; PACKET_ROOM], vec![0; PACKET_ROOM]);
+        let mut full = BTreeSet::new();
         for server in (1..=SERVERS).cycle().take(PASSES * SERVERS) {
             if scope.client.has_replied(server) {
                 continue;
@@ -89,15 +91,18 @@ impl Shelf {
             let Ok(count) = self.serve(server, &packet[..made], &mut reply) else { continue };
             let taken = scope.client.take(&scope.keys, &reply[..count], content);
             match scope.kept(taken) {
-                Ok(Taken::GoesOn) | Err(_) => full += (stored(&reply[..count]) == Some(Stored::Full)) as usize,
+                Ok(Taken::GoesOn) | Err(_) => {}
                 Ok(ended) => return Ok(Ended::By(ended)),
             }
-            if full > T {
+            if stored(&reply[..count]) == Some(Stored::Full) {
+                full.insert(server); // it is asked again, and counts once
+            }
+            if full.len() > T {
                 break;
             }
         }
         let given_up = scope.client.give_up();
-        scope.kept(given_up).map(|_| Ended::Full(full))
+        scope.kept(given_up).map(|_| Ended::Full(full.len()))
     }
 
     fn write(&mut self, scope: &mut Scope, record: &[u8]) -> Result<Ended, Refusal> {

@@ -84,7 +84,7 @@ fn show(scope: &Scope, outcome: Outcome) -> Result<(), String> {
 fn given_up(scope: &Scope, outcome: &Outcome) -> String {
     let Outcome::GivenUp { round, replies, how, full } = outcome else { return String::new() };
     let kind = match (round, how) {
-        (_, GivenUp::InComplete) => "a later load may show this record or not",
+        (_, GivenUp::InComplete) => "not confirmed: a later load may show this record; a further save that ends settles it",
         _ if *full > 0 => "this record is never shown",
         (Round::Clock | Round::Store, _) => "this record is never shown; it can be saved anew",
         _ => "nothing is shown",
