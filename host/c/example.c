@@ -94,7 +94,10 @@ static uint64_t finish(struct scope *scope, struct cendrulas_content *content, u
         }
         serve(server, &packet, &reply);
         answer = kept(scope, cendrulas_take(&scope->client, &scope->keys, reply.bytes, reply.length, content));
-        if (cendrulas_refusal(answer) == 0 && cendrulas_result(answer) != CENDRULAS_GOES_ON) {
+        if (cendrulas_refusal(answer) != 0) {
+            continue;
+        }
+        if (cendrulas_result(answer) != CENDRULAS_GOES_ON) {
             return answer;
         }
         uint64_t code = cendrulas_store_code(reply.bytes, reply.length);

@@ -91,8 +91,9 @@ impl Shelf {
             let Ok(count) = self.serve(server, &packet[..made], &mut reply) else { continue };
             let taken = scope.client.take(&scope.keys, &reply[..count], content);
             match scope.kept(taken) {
-                Ok(Taken::GoesOn) | Err(_) => {}
+                Ok(Taken::GoesOn) => {}
                 Ok(ended) => return Ok(Ended::By(ended)),
+                Err(_) => continue,
             }
             if stored(&reply[..count]) == Some(Stored::Full) {
                 full.insert(server); // it is asked again, and counts once
