@@ -1,0 +1,175 @@
+"""What the marked figures of the documents stand for: counted in the text of the repository, taken off a build, or measured. For tools/figures.
+
+COUNTED needs the repository and `rt`; BUILT needs what host/test leaves in target/; MEASURED are written from logs or by measuring alone.
+"""
+import os
+import pathlib
+import re
+import resource
+import subprocess
+import sys
+import tempfile
+import time
+
+from trying import ROOT, copy_of, crate_lines, needed, rt
+
+HEADER = ROOT / "include" / "cendrulas.h"
+EMBED = ROOT / "crates" / "embed" / "src"
+MEASURED = ("gate-passed", "gate-time", "loop", "load")
+
+
+def lines(folder, ending):
+    return sum(len(path.read_text().splitlines()) for path in folder.rglob("*" + ending))
+
+
+def of_crate(crate):
+    """Lines in src, specs and proofs, and the number of edits."""
+    folder = ROOT / "crates" / crate
+    edits = sum(len(list((folder / home).glob("*.edit"))) for home in ("must-fail", "edits"))
+    return [lines(folder / "src", ".rt"), lines(folder / "specs", ".antt"), lines(folder / "proofs", ".antt"), edits]
+
+
+def of_crates():
+    return [sum(column) for column in zip(*map(of_crate, crate_lines()))]
+
+
+def files(pattern):
+    return f"{len(list(ROOT.glob(pattern))):,}"
+
+
+def kit():
+    return "`" + subprocess.run(["rt", "version"], stdout=subprocess.PIPE, text=True, check=True).stdout.split()[0] + "`"
+
+
+def exports():
+    """The exported functions. The header declares the same ones."""
+    ours = {name for file in EMBED.glob("*.rt") for name in re.findall(r'^ *pub extern "C" fn (\w+)\(', file.read_text(), re.M)}
+    declared = set(re.findall(r"^(?!static)\w+ (cendrulas_\w+)\([^{]*?\);", HEADER.read_text(), re.M))
+    if ours != declared:
+        sys.exit("figures: the header and crate embed have different functions: " + " ".join(sorted(ours ^ declared)))
+    return f"{len(ours)}"
+
+
+def public():
+    """Public functions, as docs/CONTRACTS.md counts them."""
+    return re.search(r"^([\d,]+) functions;", (ROOT / "docs" / "CONTRACTS.md").read_text(), re.M).group(1)
+
+
+def sizes():
+    """The header's sizes, by name."""
+    return {f"size {name}": f"{int(value):,}" for name, value in re.findall(r"^#define CENDRULAS_(\w+) (\d+)u\b", HEADER.read_text(), re.M)}
+
+
+def counted():
+    code, definitions, proof, edits = of_crates()
+    whole = len(list(ROOT.glob("crates/*/must-fail/*.edit")))
+    return {
+        "kit": kit(),
+        "crates": f"{len(crate_lines())}",
+        "exports": exports(),
+        "public": public(),
+        "code": f"{code:,}",
+        "definitions": f"{definitions:,}",
+        "proof": f"{proof:,}",
+        "must-fail": f"{whole}",
+        "edits": f"{edits - whole:,}",
+        "all-edits": f"{edits:,}",
+        "theorem-edits": files("theorem-edits/*.edit"),
+        **sizes(),
+    }
+
+
+def archive():
+    """The archive that ships, or what rt writes where it is not there."""
+    folder = ROOT / "target" / "staticlib"
+    found = [folder / name for name in ("libcendrulas.a", "libembed.a") if (folder / name).is_file()]
+    if not found:
+        sys.exit("figures: no archive in target/staticlib; host/test makes it")
+    return found[0]
+
+
+def text_bytes(file):
+    """Code and constant tables of an archive or object, in bytes; there must be no other data."""
+    said = subprocess.run(["size", "-A", file], stdout=subprocess.PIPE, text=True, check=True).stdout
+    sections = [(name, int(n)) for name, n in re.findall(r"^(\.\S+(?: \S+)*?) +(\d+) +\d+$", said, re.M)]
+    if any(n for name, n in sections if re.match(r"\.t?(data|bss)\b", name)):
+        sys.exit(f"figures: {file} has writable data")
+    return sum(n for name, n in sections if re.match(r"\.(text|rodata)\b", name))
+
+
+def needed_by(part):
+    """The bytes that a program gets which calls the functions of one part and is linked with --gc-sections."""
+    names = sorted(set(re.findall(rf"\bcendrulas_{part}_\w+(?=\()", "".join(file.read_text() for file in EMBED.glob("*.rt")))))
+    with tempfile.TemporaryDirectory(prefix="figures-") as work:
+        linked = pathlib.Path(work) / "part.o"
+        roots = [word for name in names for word in ("-u", name)]
+        subprocess.run(["ld", "-r", "--gc-sections", *roots, "-e", names[0], archive(), "-o", linked], check=True)
+        return text_bytes(linked)
+
+
+def stack_rows():
+    """Rows of a table: what host/c/stack.c and host/c/drill.c print, each function with its depth."""
+    said = ""
+    for name in ("stack", "drill"):
+        program = ROOT / "target" / "c" / name
+        if not program.is_file():
+            sys.exit(f"figures: no target/c/{name}; host/test makes it")
+        said += subprocess.run([program], stdout=subprocess.PIPE, text=True, check=True).stdout
+    depths = re.findall(r"^stack of (\w+) +(\d+) bytes$", said, re.M)
+    rows = [f"| `cendrulas_{name}` | {int(depth):,} |" for name, depth in sorted(depths, key=lambda d: -int(d[1]))]
+    return "\n".join(["", "| function | bytes |", "|---|--:|", *rows, ""])
+
+
+def built():
+    return {
+        "archive": f"{text_bytes(archive()):,}",
+        "archive server": f"{needed_by('server'):,}",
+        "archive client": f"{needed_by('client'):,}",
+        "stack": stack_rows(),
+    }
+
+
+def machine():
+    model = re.search(r"^model name\s*: (.*)$", pathlib.Path("/proc/cpuinfo").read_text(), re.M)
+    return f"{os.cpu_count()} cores" + (f" ({model.group(1).strip()})" if model else "")
+
+
+def of_gate(log):
+    """From what `(time .ci/run) 2>&1` printed: the gate's last line, and how long it took."""
+    passed, took = re.findall(r"^\d+ passed, 0 failed$", log, re.M), re.search(r"^real\s+(\d+)m([\d.]+)s$", log, re.M)
+    if not passed or not took:
+        sys.exit("figures: the log has no line 'N passed, 0 failed' or no line 'real ..m..s'")
+    minutes = int(took.group(1)) + float(took.group(2)) / 60
+    return {"gate-passed": f"`{passed[-1]}`", "gate-time": f"{minutes:.0f} minutes on {machine()}"}
+
+
+def of_load(log):
+    """The table of saves and loads per second, from what `./incident load` printed."""
+    row = r"^ *(\d+) +(\d) +(\d+) +(\d+) +(\d+) +[\d.]+ +[\d.]+ +([\d.]+) +([\d.]+)$"
+    found = [f"| {t} | {boxes} | {scopes} | {int(saves):,} | {int(loads):,} | {save} | {load} |"
+             for scopes, t, boxes, saves, loads, save, load in re.findall(row, log, re.M)]
+    if not found:
+        sys.exit("figures: the log has no rows of `./incident load`")
+    head = "| t | boxes | scopes at a time | saves/s | loads/s | a save to one with t = 1 | a load to one with t = 1 |"
+    return {"load": "\n".join(["", head, "|--:" * 7 + "|", *found, ""])}
+
+
+def timed(what, run):
+    """A row: seconds by the clock, and of the processor."""
+    before, began = resource.getrusage(resource.RUSAGE_CHILDREN), time.monotonic()
+    run()
+    took, after = time.monotonic() - began, resource.getrusage(resource.RUSAGE_CHILDREN)
+    spent = after.ru_utime + after.ru_stime - before.ru_utime - before.ru_stime
+    return f"| {what} | {took:.0f} | {spent:.0f} |"
+
+
+def of_loop():
+    """A table of how long the loop of a change takes, measured now, over crates that are proved."""
+    rows = []
+    for crate, edit in (("server", "keeps_nothing"), ("client", "ends_before_quorum"), ("atomicity", "keeps_nothing")):
+        with tempfile.TemporaryDirectory(prefix="figures-") as work:
+            copy_of(needed(crate), pathlib.Path(work))
+            rows += [timed(f"`rt dev {crate}`, {when}", lambda: rt(work, "dev", crate)) for when in ("the first time", "again, nothing changed")]
+        tried = [ROOT / "tools" / "edits", f"{crate}/{edit}"]
+        rows.append(timed(f"`tools/edits {crate}/{edit}`", lambda: subprocess.run(tried, stdout=subprocess.DEVNULL, check=True)))
+    return {"loop": "\n".join(["", f"| on {machine()} | seconds | of processor time |", "|---|--:|--:|", *rows, ""])}
