@@ -1,6 +1,6 @@
 """What the marked figures of the documents stand for: counted in the text of the repository, taken off a build, or measured. For tools/figures.
 
-COUNTED needs the repository and `rt`; BUILT needs what host/test leaves in target/; MEASURED are written from logs or by measuring alone.
+`counted` needs the repository and `rt`, `built` what host/test leaves in target/; the others are read from a log, or measure.
 """
 import os
 import pathlib
@@ -15,6 +15,8 @@ from trying import ROOT, copy_of, crate_lines, needed, rt
 
 HEADER = ROOT / "include" / "cendrulas.h"
 EMBED = ROOT / "crates" / "embed" / "src"
+# those that are not counted: off a build, and measured
+BUILT = ("archive", "archive server", "archive client", "stack", "stack server", "stack client")
 MEASURED = ("gate-passed", "gate-time", "loop", "load")
 
 
@@ -107,17 +109,19 @@ def needed_by(part):
         return text_bytes(linked)
 
 
-def stack_rows():
-    """Rows of a table: what host/c/stack.c and host/c/drill.c print, each function with its depth."""
+def stacks():
+    """How deep each function goes, as host/c/stack.c and host/c/drill.c print it, and what does for a server and a client: a KiB more, in whole ones."""
     said = ""
     for name in ("stack", "drill"):
         program = ROOT / "target" / "c" / name
         if not program.is_file():
             sys.exit(f"figures: no target/c/{name}; host/test makes it")
         said += subprocess.run([program], stdout=subprocess.PIPE, text=True, check=True).stdout
-    depths = re.findall(r"^stack of (\w+) +(\d+) bytes$", said, re.M)
-    rows = [f"| `cendrulas_{name}` | {int(depth):,} |" for name, depth in sorted(depths, key=lambda d: -int(d[1]))]
-    return "\n".join(["", "| function | bytes |", "|---|--:|", *rows, ""])
+    depths = sorted(((int(depth), name) for name, depth in re.findall(r"^stack of (\w+) +(\d+) bytes$", said, re.M)), reverse=True)
+    rows = [f"| `cendrulas_{name}` | {depth:,} |" for depth, name in depths]
+    most = {part: max(depth for depth, name in depths if name.startswith(part)) for part in ("server", "client")}
+    enough = {f"stack {part}": f"{-(-depth // 1024) + 1} KiB" for part, depth in most.items()}
+    return {"stack": "\n".join(["", "| function | bytes |", "|---|--:|", *rows, ""]), **enough}
 
 
 def built():
@@ -125,7 +129,7 @@ def built():
         "archive": f"{text_bytes(archive()):,}",
         "archive server": f"{needed_by('server'):,}",
         "archive client": f"{needed_by('client'):,}",
-        "stack": stack_rows(),
+        **stacks(),
     }
 
 
@@ -155,21 +159,38 @@ def of_load(log):
 
 
 def timed(what, run):
-    """A row: seconds by the clock, and of the processor."""
+    """A row, which is said at once: seconds of the processor, and by the clock."""
     before, began = resource.getrusage(resource.RUSAGE_CHILDREN), time.monotonic()
     run()
     took, after = time.monotonic() - began, resource.getrusage(resource.RUSAGE_CHILDREN)
     spent = after.ru_utime + after.ru_stime - before.ru_utime - before.ru_stime
-    return f"| {what} | {took:.0f} | {spent:.0f} |"
+    row = f"| {what} | {spent:.0f} | {took:.0f} |"
+    print(row, file=sys.stderr, flush=True)
+    return row
+
+
+def loop_of(crate, proof):
+    """Rows of one crate: a first check, a second one, one with a changed proof, and a wrong program."""
+    with tempfile.TemporaryDirectory(prefix="figures-") as name:
+        work = pathlib.Path(name)
+        copy_of(needed(crate), work)
+
+        def check():
+            status, said = rt(work, "dev", crate)
+            if status != 0:
+                sys.exit(f"figures: {crate} is not accepted: {said[-300:]}")
+
+        rows = [timed(f"`rt dev {crate}`, the first time", check), timed(".. again, nothing changed", check)]
+        with (work / "crates" / crate / "proofs" / proof).open("a") as file:
+            file.write("\n-- one line more\n")
+        rows.append(timed(f".. again, with another text of proofs/{proof}", check))
+    edit = min((ROOT / "crates" / crate / "edits").glob("*.edit")).stem
+    tried = [ROOT / "tools" / "edits", f"{crate}/{edit}"]
+    return [*rows, timed(f"`tools/edits {crate}/{edit}`", lambda: subprocess.run(tried, stdout=subprocess.DEVNULL, check=True))]
 
 
 def of_loop():
     """A table of how long the loop of a change takes, measured now, over crates that are proved."""
-    rows = []
-    for crate, edit in (("server", "keeps_nothing"), ("client", "ends_before_quorum"), ("atomicity", "keeps_nothing")):
-        with tempfile.TemporaryDirectory(prefix="figures-") as work:
-            copy_of(needed(crate), pathlib.Path(work))
-            rows += [timed(f"`rt dev {crate}`, {when}", lambda: rt(work, "dev", crate)) for when in ("the first time", "again, nothing changed")]
-        tried = [ROOT / "tools" / "edits", f"{crate}/{edit}"]
-        rows.append(timed(f"`tools/edits {crate}/{edit}`", lambda: subprocess.run(tried, stdout=subprocess.DEVNULL, check=True)))
-    return {"loop": "\n".join(["", f"| on {machine()} | seconds | of processor time |", "|---|--:|--:|", *rows, ""])}
+    crates = (("server", "store/store/Proof.antt"), ("client", "taking/take_in/Proof.antt"), ("atomicity", "Turns.antt"))
+    rows = [row for crate, proof in crates for row in loop_of(crate, proof)]
+    return {"loop": "\n".join(["", f"| on {machine()} | seconds of the processor | by the clock |", "|---|--:|--:|", *rows, ""])}
