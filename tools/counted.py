@@ -62,6 +62,25 @@ def sizes():
     return {f"size {name}": f"{int(value):,}" for name, value in re.findall(r"^#define CENDRULAS_(\w+) (\d+)u\b", HEADER.read_text(), re.M)}
 
 
+def number(name, place):
+    """The number of a definition, as in memorySize of cluster/Ranges."""
+    crate, file = place.split("/")
+    return value(ROOT / "crates" / crate / "specs" / f"{file}.antt", rf"^{name} = (\d+)$")
+
+
+def constant(name, place):
+    """The number of a constant of the code, as in MEMORY of cluster/lib."""
+    crate, file = place.split("/")
+    return value(ROOT / "crates" / crate / "src" / f"{file}.rt", rf"^(?:pub(?:\(crate\))? )?const {name}: \w+ = (\d+);")
+
+
+def value(file, pattern):
+    found = re.findall(pattern, file.read_text(), re.M)
+    if len(found) != 1:
+        sys.exit(f"figures: {file.relative_to(ROOT)} has {len(found)} lines {pattern}")
+    return int(found[0])
+
+
 def counted():
     code, definitions, proof, edits = of_crates()
     whole = len(list(ROOT.glob("crates/*/must-fail/*.edit")))
