@@ -18,6 +18,15 @@ EMBED = ROOT / "crates" / "embed" / "src"
 # those that are not counted: off a build, and measured
 BUILT = ("archive", "archive server", "archive client", "stack", "stack server", "stack client")
 MEASURED = ("gate-passed", "gate-time", "loop", "load")
+# figures that stand in a text of the host's side: file, and the number in it
+SAID = {
+    "small stack": ("host/c/painted.h", r"SMALL = (\d+) \* 1024\b"),
+    "large stack": ("host/c/painted.h", r"LARGE = (\d+) \* 1024\b"),
+    "asked again": ("host/incident/src/call.rs", r"^pub const AGAIN: Duration = Duration::from_millis\((\d+)\);"),
+    "killed": ("host/incident/test", r'^ *"\$programs/incident" \$test (\d+) \d+$'),
+    "bench row": ("bench/src/table.rs", r"^const ROW: Duration = Duration::from_millis\(([\d_]+)\);"),
+    "bench sample": ("bench/src/table.rs", r"^const SAMPLE: Duration = Duration::from_micros\(([\d_]+)\);"),
+}
 
 
 def lines(folder, ending):
@@ -78,7 +87,7 @@ def value(file, pattern):
     found = re.findall(pattern, file.read_text(), re.M)
     if len(found) != 1:
         sys.exit(f"figures: {file.relative_to(ROOT)} has {len(found)} lines {pattern}")
-    return int(found[0])
+    return int(found[0].replace("_", ""))
 
 
 def counted():
@@ -97,6 +106,7 @@ def counted():
         "all-edits": f"{edits:,}",
         "theorem-edits": files("theorem-edits/*.edit"),
         **sizes(),
+        **{name: f"{value(ROOT / file, pattern):,}" for name, (file, pattern) in SAID.items()},
     }
 
 
@@ -129,7 +139,7 @@ def needed_by(part):
 
 
 def stacks():
-    """How deep each function goes, as host/c/stack.c and host/c/drill.c print it, and what does for a server and a client: a KiB more, in whole ones."""
+    """How deep each function goes, as host/c/stack.c and host/c/drill.c print it, and what does for a server and a client: one KiB more."""
     said = ""
     for name in ("stack", "drill"):
         program = ROOT / "target" / "c" / name

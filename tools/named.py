@@ -1,5 +1,5 @@
-"""Whether the names that documents give to definitions and theorems are there: `NAME`, `NAME` in crates/CRATE/proofs/FILE.antt, in CRATE/FILE (a file of
-specs/) or in CRATE/src; and the theorems of PROOFS' table. For tools/figures --check.
+"""Whether the names that documents give to definitions and theorems are there: `NAME`, `NAME` in crates/CRATE/proofs/FILE.antt, in CRATE/FILE (a file
+of specs/) or in CRATE/src; and the theorems of PROOFS' table. For tools/figures --check.
 """
 import re
 
