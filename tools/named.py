@@ -1,11 +1,12 @@
 """Whether the names that documents give to definitions and theorems are there: `NAME`, `NAME` in crates/CRATE/proofs/FILE.antt, in CRATE/FILE (a file
-of specs/) or in CRATE/src; and the theorems of PROOFS' table. For tools/figures --check.
+of specs/) or in CRATE/src; `NAME` (FILE.antt) and (`NAME`, FILE.antt), of any crate; and the theorems of PROOFS' table. For tools/figures --check.
 """
 import re
 
 from trying import ROOT
 
 NAMED = re.compile(r"((?:`[\w·.-]+`(?:, | and | )+)+)in ((?:crates/)?\w+/[\w/]*\w(?:\.antt|\.rt)?)")
+ASIDE = re.compile(r"(`[\w-]+`) \((\w+\.antt)\)|\(((?:`[\w-]+`, )+)(\w+\.antt)\)")
 THEOREM = re.compile(r"^\| (`[\w-]+`(?:, `[\w-]+`)*) \| (\w+/proofs/\w+\.antt(?:, \w+\.antt)*) \|", re.M)
 
 
@@ -31,6 +32,9 @@ def missing():
         for names, place in NAMED.findall(text):
             path = file_of(place)
             wrong += [f"{page.name}: {name} in {place}" for name in re.findall(r"`([^`]+)`", names) if not path.is_dir() and not has(path, name)]
+        for names, file in ((m[0] or m[2], m[1] or m[3]) for m in ASIDE.findall(text)):
+            paths = [*ROOT.glob(f"crates/*/proofs/{file}"), *ROOT.glob(f"crates/*/specs/{file}")]
+            wrong += [f"{page.name}: {name} in {file}" for name in re.findall(r"`([^`]+)`", names) if not any(has(p, name) for p in paths)]
         for names, places in THEOREM.findall(text):
             first, *others = places.split(", ")
             paths = [ROOT / "crates" / place for place in (first, *(f"{first.rpartition('/')[0]}/{other}" for other in others))]
