@@ -16,7 +16,7 @@ from trying import ROOT, copy_of, crate_lines, needed, rt
 HEADER = ROOT / "include" / "cendrulas.h"
 EMBED = ROOT / "crates" / "embed" / "src"
 # those that are not counted: off a build, and measured
-BUILT = ("archive", "archive server", "archive client", "stack", "stack server", "stack client")
+BUILT = ("archive", "archive needs", "archive server", "archive client", "stack", "stack server", "stack client")
 MEASURED = ("gate-passed", "gate-time", "loop", "load")
 # figures that stand in a text of the host's side: file, and the number in it
 SAID = {
@@ -128,6 +128,13 @@ def text_bytes(file):
     return sum(n for name, n in sections if re.match(r"\.(text|rodata)\b", name))
 
 
+def undefined():
+    """What the archive takes from the program, in words."""
+    said = subprocess.run(["nm", "-u", archive()], stdout=subprocess.PIPE, text=True, check=True).stdout
+    names = sorted({f"`{name}`" for name in re.findall(r"^ +U (\w+)$", said, re.M)})
+    return " and ".join(filter(None, [", ".join(names[:-1]), names[-1]]))
+
+
 def needed_by(part):
     """The bytes that a program gets which calls the functions of one part and is linked with --gc-sections."""
     names = sorted(set(re.findall(rf"\bcendrulas_{part}_\w+(?=\()", "".join(file.read_text() for file in EMBED.glob("*.rt")))))
@@ -156,6 +163,7 @@ def stacks():
 def built():
     return {
         "archive": f"{text_bytes(archive()):,}",
+        "archive needs": undefined(),
         "archive server": f"{needed_by('server'):,}",
         "archive client": f"{needed_by('client'):,}",
         **stacks(),
