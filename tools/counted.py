@@ -90,6 +90,13 @@ def value(file, pattern):
     return int(found[0].replace("_", ""))
 
 
+def first_run():
+    """Minutes that a first build takes, by the table of crates' seconds from which host/building.sh tells how far it is."""
+    table = ROOT / "host" / "building.sh"
+    seconds = sum(map(int, re.findall(r"\[\w+\]=(\d+)", table.read_text()))) if table.is_file() else 0
+    return {"first run": f"{-(-seconds // 60)}"} if seconds else {}
+
+
 def counted():
     code, definitions, proof, edits = of_crates()
     whole = len(list(ROOT.glob("crates/*/must-fail/*.edit")))
@@ -106,6 +113,7 @@ def counted():
         "all-edits": f"{edits:,}",
         "theorem-edits": files("theorem-edits/*.edit"),
         **sizes(),
+        **first_run(),
         **{name: f"{value(ROOT / file, pattern):,}" for name, (file, pattern) in SAID.items()},
     }
 
