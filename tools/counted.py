@@ -62,8 +62,9 @@ def exports():
 
 
 def public():
-    """Public functions, as docs/CONTRACTS.md counts them."""
-    return re.search(r"^([\d,]+) functions;", (ROOT / "docs" / "CONTRACTS.md").read_text(), re.M).group(1)
+    """Public functions, those that docs/CONTRACTS.md names."""
+    texts = (file.read_text() for crate in crate_lines() for file in (ROOT / "crates" / crate / "src").glob("*.rt"))
+    return f"{sum(len(re.findall(r'^ *pub (?:extern .C. )?fn ', text, re.M)) for text in texts)}"
 
 
 def sizes():
