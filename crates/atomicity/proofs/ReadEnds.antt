@@ -9,6 +9,7 @@ use Prim.Native.Nat.{ℕ}
 use native.Mathlib.Omega.{arith}
 use lib.ListN.{length}
 use Rattle.protocol.specs.declared.Stamp.{Stamp}
+use Rattle.protocol.specs.declared.Label.{Label}
 use Rattle.protocol.specs.Values.{Candidate, Held, below, blankStamp, sameList, isSome}
 use Rattle.protocol.specs.Rules.{ByServer, leader, tagsIn}
 use Rattle.protocol.specs.Client.{Client, Hand, gave, gaveBlank, idle, filtering, repairing, awaits}
@@ -47,7 +48,7 @@ module _ (K : Setup) (x : StepOf K) (xs : Steps K) (a : Logged) (σ : Stamp) (sa
     record { client = refl; number = refl; begun = refl; wrote = refl; reached = λ e. clash e (ap isSome (o .unreached)) },
   )
 
-  pub gave-ends : (h : Hand) (cl : Client) (n : ℕ) (v : List ℕ) → cl .hand ≡ idle → Open K xs a → a .wrote ≡ none →
+  pub gave-ends : (h : Hand) (cl : Client) (n : Label) (v : List ℕ) → cl .hand ≡ idle → Open K xs a → a .wrote ≡ none →
       Follows K x xs a σ h (record { client = cl; result = gave n v })
   unfolding Follows ResultOk Beats Cur Ever
   gave-ends h cl n v e o w k =

@@ -10,6 +10,7 @@ use Prim.Native.Nat.{ℕ, suc, _<_}
 use native.Mathlib.Omega.{arith}
 use lib.ListN.{length}
 use Rattle.protocol.specs.declared.Stamp.{Stamp}
+use Rattle.protocol.specs.declared.Label.{Label}
 use Rattle.protocol.specs.Values.{Candidate, Share, isSome}
 use Rattle.protocol.specs.Rules.{ByServer}
 use Rattle.protocol.specs.Client.{Client, Hand, more, written, idle, clocking, storing, completing, awaits, inComplete}
@@ -102,7 +103,7 @@ module _ (K : Setup) (x : StepOf K) (xs : Steps K) (a : Logged) (σ : Stamp) (sa
         record { client = refl; number = refl; begun = refl; wrote = refl; reached = λ e. clash e (ap isSome (c .0 .unreached)) },
       )
 
-  pub write-ends : (d : Candidate) (cl : Client) (n : ℕ) → cl .hand ≡ idle → Cur K xs a σ (completing d) →
+  pub write-ends : (d : Candidate) (cl : Client) (n : Label) → cl .hand ≡ idle → Cur K xs a σ (completing d) →
       Follows K x xs a σ (completing d) (record { client = cl; result = written n })
   unfolding Follows Cur ResultOk Ever
   write-ends d cl n e c kn =

@@ -10,6 +10,7 @@ use Rattle.cluster.specs.Config.{shelf, upTo, quorum}
 use Rattle.cluster.specs.Ranges.{packetRoom, contentRoom, capacity}
 use Rattle.hmac.specs.Hmac.{tagSize}
 use Rattle.erasure.specs.Fragments.{Part}
+use Rattle.protocol.specs.declared.Label.{Label}
 use Rattle.protocol.specs.Values.{Candidate, Write, digestSize, nth, runOf, isBlank, below, sameStamp, sameCandidate, noShare}
 use Rattle.protocol.specs.Packet.{Body, Packet, kindOf, store, storeReply, collectReply, filterReply}
 use Rattle.protocol.specs.Memory.{held}
@@ -123,18 +124,22 @@ misled =
 
 -- ---- what they give
 
+-- number and writer of the write's stamp
+abbrev label1 : Label
+label1 = record { number = 1; writer = 1 }
+
 record Shown : Type 0 where
-  write-ends : completed .result ≡ written 1
-  read-gives : readAfter .result ≡ gave 1 (65 ∷ 66 ∷ [])
+  write-ends : completed .result ≡ written label1
+  read-gives : readAfter .result ≡ gave label1 (65 ∷ 66 ∷ [])
   -- the content waits for the repair; after it the content is given, and server 4, which has no share of it, shows the candidate with tags that every
   -- server can check
   awaits-repair : awaits (filtered .client 9 .hand) ≡ 12
-  read-repaired : repaired .result ≡ gave 1 (65 ∷ 66 ∷ [])
+  read-repaired : repaired .result ≡ gave label1 (65 ∷ 66 ∷ [])
   tags-repaired : sameCandidate (repaired .server 4 .latest) (candidateMade toy (shelf 1) 1 writers keys (42 ∷ []) 1) ≡ true
   -- with two lower replies the round has its quorum and the invented one is still in the list; the third lower one is the S - t th: it leaves, and the
   -- write is read
   still-listed : asksAll 9 (2 ∷ 3 ∷ []) misled .result ≡ more
-  leaves-list : asksAll 9 (2 ∷ 3 ∷ 4 ∷ []) misled .result ≡ gave 1 (65 ∷ 66 ∷ [])
+  leaves-list : asksAll 9 (2 ∷ 3 ∷ 4 ∷ []) misled .result ≡ gave label1 (65 ∷ 66 ∷ [])
 
 shown : Shown
 unfolding completed stored readAfter spoilt filtered repaired invented misled asksAll asks hears writes reads new toy mix writers keys shelf upTo quorum

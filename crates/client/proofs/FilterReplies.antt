@@ -12,6 +12,7 @@ use Rattle.cluster.specs.Ranges.{contentRoom}
 use Rattle.protocol.specs.declared.Call.{Call}
 use Rattle.protocol.specs.declared.Head.{Head}
 use Rattle.protocol.specs.declared.Taken.the-variants as taken
+use Rattle.protocol.specs.Answers.{takenAnswer}
 use Rattle.protocol.specs.Format.{Bytes}
 use Rattle.protocol.specs.Values.{Candidate, Held}
 use Rattle.protocol.specs.Packet.{Body, BodyOk, headSize, printBody, heldF, filterReply}
@@ -45,7 +46,7 @@ on-filter : (t client : ℕ) (writers : List ℕ) (keys : ByServer (List ℕ)) (
     let cs = gather (candidatesIn (shelf t) k) (shelf t .servers) in
     cond (ends (shelf t) c (h .server)) (judgeIn real (shelf t) client writers keys c kept output c' m g k (live real (shelf t) m g cs)
     (choice real (shelf t) m g cs))
-    (record { answer = taken.More; call = c'; kept = k; output = output }))
+    (record { answer = takenAnswer taken.More; call = c'; kept = k; output = output }))
 unfolding takeOn takeFilter took
 on-filter t client writers keys c kept output h x d e = rw e
 
@@ -97,7 +98,7 @@ module _ (t client : ℕ) (c : Call) (reply : List ℕ) (h : Head) (y : Ready t 
           (choice real (shelf t) m g cs)
 
       took-filter : takeByRounds real t client writers keys c kept reply output
-          ≡ cond (ends (shelf t) c (h .server)) judged (record { answer = taken.More; call = then; kept = after; output = output })
+          ≡ cond (ends (shelf t) c (h .server)) judged (record { answer = takenAnswer taken.More; call = then; kept = after; output = output })
       unfolding takeByRounds
       took-filter =
           on-round t client writers (keyOf keys) c kept output reply h y room 5 e (λ z. (let q : ⊥ = omega (arith, z) in q))
@@ -105,7 +106,7 @@ module _ (t client : ℕ) (c : Call) (reply : List ℕ) (h : Head) (y : Ready t 
           ∙ on-filter t client writers (keyOf keys) c kept output h (filterReply (heldAt (shelf t) body)) body held-print)
 
       pub filter-more : ends (shelf t) c (h .server) ≡ false
-          → record { answer = taken.More; call = then; kept = after; output = output } ≡ takeByRounds real t client writers keys c kept reply output
+          → record { answer = takenAnswer taken.More; call = then; kept = after; output = output } ≡ takeByRounds real t client writers keys c kept reply output
       filter-more f = sym (took-filter ∙ rw f)
 
       pub filter-ends : length kept ≡ keptSize → Bytes after → ends (shelf t) c (h .server) ≡ true

@@ -17,6 +17,7 @@ use Rattle.erasure.specs.Fragments.{fragmentSize}
 use Rattle.protocol.specs.declared.Call.{Call}
 use Rattle.protocol.specs.declared.Tally.{Tally}
 use Rattle.protocol.specs.declared.Taken.the-variants as taken
+use Rattle.protocol.specs.Answers.{takenAnswer}
 use Rattle.protocol.specs.Format.{Bytes, via, seq, run}
 use Rattle.protocol.specs.Values.{Candidate, Share, Held, stampSize, nonceSize, digestSize, digestsSize, tagsSize}
 use Rattle.protocol.specs.Packet.{candidateF, shareSize}
@@ -42,16 +43,16 @@ use Rattle.client.specs.Filter.{tagsPlace, repairBytes, foundAt, judgedB
 
 module _ (t : ℕ) (c : Call) (kept output : List ℕ) where
   pub judged-refused : (n : ℕ) → decidedNow t c kept .answer ≡ decisions.Refused n
-      → record { answer = taken.Refused n; call = c; kept = kept; output = output } ≡ judgedIn t c kept output
+      → record { answer = takenAnswer (taken.Refused n); call = c; kept = kept; output = output } ≡ judgedIn t c kept output
   unfolding judgedIn judgedBy
   judged-refused n e = sym (ap (λ (d : Decision). judgedBy t c kept output d (decidedNow t c kept .output)) e)
 
-  pub judged-wait : decidedNow t c kept .answer ≡ decisions.Wait → record { answer = taken.More; call = c; kept = kept; output = output } ≡ judgedIn t c kept output
+  pub judged-wait : decidedNow t c kept .answer ≡ decisions.Wait → record { answer = takenAnswer taken.More; call = c; kept = kept; output = output } ≡ judgedIn t c kept output
   unfolding judgedIn judgedBy
   judged-wait e = sym (ap (λ (d : Decision). judgedBy t c kept output d (decidedNow t c kept .output)) e)
 
   pub judged-blank : decidedNow t c kept .answer ≡ decisions.Blank
-      → record { answer = taken.Blank; call = withTally c (fresh 0); kept = kept; output = output } ≡ judgedIn t c kept output
+      → record { answer = takenAnswer taken.Blank; call = withTally c (fresh 0); kept = kept; output = output } ≡ judgedIn t c kept output
   unfolding judgedIn judgedBy
   judged-blank e = sym (ap (λ (d : Decision). judgedBy t c kept output d (decidedNow t c kept .output)) e)
 

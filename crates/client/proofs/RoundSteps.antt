@@ -13,6 +13,7 @@ use Rattle.protocol.specs.declared.Tally.{Tally}
 use Rattle.protocol.specs.declared.Head.{Head}
 use Rattle.protocol.specs.declared.Taken.{Taken}
 use Rattle.protocol.specs.declared.Taken.the-variants as taken
+use Rattle.protocol.specs.Answers.{takenAnswer}
 use Rattle.protocol.specs.Packet.{Body, anyCandidateF}
 use Rattle.protocol.specs.Primitives.{real}
 use Rattle.protocol.specs.Rules.{ByServer}
@@ -20,6 +21,7 @@ use Rattle.protocol.specs.Client.{candidateIn, codeIn}
 use Rattle.protocol.specs.ServerBytes.{over}
 use Rattle.protocol.specs.View.{chosenOf, contentOf, candidatesAt, candidateSlot}
 use Rattle.protocol.specs.ClientBytes.{Took, put, fresh}
+use Rattle.client.specs.Answers.{writtenAs, readAs}
 use Rattle.client.specs.Rounds.{took, takeOn, takeStore, takeComplete, takeCollect, takeRepair, delivers, counted, noted, ends, withTally}
 
 module _ (t client : ℕ) (writers : List ℕ) (keys : ByServer (List ℕ)) (c : Call) (kept output : List ℕ) (h : Head) (x : Body) where
@@ -28,10 +30,10 @@ module _ (t client : ℕ) (writers : List ℕ) (keys : ByServer (List ℕ)) (c :
 
   -- the call goes on; it ends
   abbrev going : Call → List ℕ → Took
-  going c' k = record { answer = taken.More; call = c'; kept = k; output = output }
+  going c' k = record { answer = takenAnswer taken.More; call = c'; kept = k; output = output }
 
   abbrev ending : Taken → List ℕ → Took
-  ending a o = record { answer = a; call = withTally c (fresh 0); kept = kept; output = o }
+  ending a o = record { answer = takenAnswer a; call = withTally c (fresh 0); kept = kept; output = o }
 
   abbrev marks : Tally
   marks = noted (shelf t) (c .tally) (h .server)
@@ -51,7 +53,7 @@ module _ (t client : ℕ) (writers : List ℕ) (keys : ByServer (List ℕ)) (c :
   unfolding takeOn takeStore took
   on-store = stored (eqb (codeIn x) 11) (ends (shelf t) c (h .server)) (counted (shelf t) (c .tally)) (fresh 3) marks
 
-  pub on-complete : on 3 ≡ cond (ends (shelf t) c (h .server)) (ending (taken.Written (chosenOf (shelf t) kept .stamp .number)) output)
+  pub on-complete : on 3 ≡ cond (ends (shelf t) c (h .server)) (ending (writtenAs (chosenOf (shelf t) kept .stamp)) output)
       (going (withTally c marks) kept)
   unfolding takeOn takeComplete took
   on-complete = refl
@@ -64,7 +66,7 @@ module _ (t client : ℕ) (writers : List ℕ) (keys : ByServer (List ℕ)) (c :
       (anyCandidateF (shelf t) .print (candidateIn (shelf t) x)))
 
   pub on-repair : on 6
-      ≡ cond (ends (shelf t) c (h .server)) (ending (taken.Read (chosenOf (shelf t) kept .stamp .number) (length (contentOf c kept)))
+      ≡ cond (ends (shelf t) c (h .server)) (ending (readAs (chosenOf (shelf t) kept .stamp) (length (contentOf c kept)))
       (over (contentOf c kept) output)) (going (withTally c marks) kept)
   unfolding takeOn takeRepair delivers took
   on-repair = refl

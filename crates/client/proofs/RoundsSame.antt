@@ -10,7 +10,7 @@ use lib.ListN.{length, set}
 use Rattle.cluster.specs.Config.{Config}
 use Rattle.protocol.specs.declared.Call.{Call}
 use Rattle.protocol.specs.declared.Taken.the-variants as taken
-use Rattle.protocol.specs.Values.{Candidate, Held, sameList}
+use Rattle.protocol.specs.Values.{Candidate, Held, labelOf, sameList}
 use Rattle.protocol.specs.Packet.{Body, candidateF}
 use Rattle.protocol.specs.Primitives.{Primitives}
 use Rattle.protocol.specs.Rules.{ByServer, countTo, upd, nobody, gather, live, choice, leader, restoredBy, tagsIn}
@@ -102,9 +102,9 @@ module _ (P : Primitives) (client : ℕ) (writers : List ℕ) (keys : ByServer (
     where
       go : (z : Bool) (tags content : List ℕ)
           → tookBy s (C 5) kept k output
-          (cond z (record { client = onto (view s (C 5) kept) nobody idle; result = gave (d .stamp .number) content })
+          (cond z (record { client = onto (view s (C 5) kept) nobody idle; result = gave (labelOf (d .stamp)) content })
           (record { client = onto (view s (C 5) kept) nobody (repairing (record { stamp = d .stamp; nonce = d .nonce; tags = tags }) content); result = more }))
-          ≡ cond z (delivers P s client writers keys (C 5) kept output (d .stamp .number) content k)
+          ≡ cond z (delivers P s client writers keys (C 5) kept output (d .stamp) content k)
           (took P s client writers keys (C 5) kept output taken.More
           (record { number = c .number; last = c .last; high = c .high; length = length content; tally = fresh 6 })
           (put (put k 0 content) chosenAt (candidateF s .print (record { stamp = d .stamp; nonce = d .nonce; tags = tags }))))

@@ -16,21 +16,19 @@ use Rattle.protocol.specs.Format.{Bytes}
 use Rattle.protocol.specs.Packet.{headSize}
 use Rattle.protocol.specs.ServerBytes.{over}
 use Rattle.protocol.specs.View.{chosenOf, contentOf, candidatesAt, candidateSlot}
-use Rattle.protocol.specs.ClientBytes.{Took, keyOf, put, fresh}
+use Rattle.protocol.specs.ClientBytes.{keyOf, put, fresh}
 use Rattle.client.specs.Rounds.{takeByRounds, counted, noted, ends, withTally}
 use Rattle.client.specs.declared.answers.Answered.{Answered}
+use Rattle.client.specs.Answers.{answered, writtenAs, readAs}
 use Rattle.client.specs.Steps.{Ready, TakesAs}
 use Rattle.client.proofs.TakenReplies.{took-store, took-complete, took-collect, took-repair}
 
-abbrev whole : Answered → List ℕ → List ℕ → Took
-whole a kept output = record { answer = a .taken; call = a .call; kept = kept; output = output }
-
 -- an answer by a test, with and without an output by the same test
-by-test : (e : Bool) (a b : Answered) (kept output : List ℕ) → whole (cond e a b) kept output ≡ cond e (whole a kept output) (whole b kept output)
+by-test : (e : Bool) (a b : Answered) (kept output : List ℕ) → answered (cond e a b) kept output ≡ cond e (answered a kept output) (answered b kept output)
 by-test true a b kept output = refl
 by-test false a b kept output = refl
 
-by-both : (e : Bool) (a b : Answered) (kept o p : List ℕ) → whole (cond e a b) kept (cond e o p) ≡ cond e (whole a kept o) (whole b kept p)
+by-both : (e : Bool) (a b : Answered) (kept o p : List ℕ) → answered (cond e a b) kept (cond e o p) ≡ cond e (answered a kept o) (answered b kept p)
 by-both true a b kept o p = refl
 by-both false a b kept o p = refl
 
@@ -48,26 +46,26 @@ module _ (t client : ℕ) (writers : List ℕ) (keys : List (List ℕ)) (c : Cal
   noting = record { taken = taken.More; call = withTally c (noted (shelf t) (c .tally) (h .server)) }
 
   abbrev wrote : Answered
-  wrote = record { taken = taken.Written (chosenOf (shelf t) kept .stamp .number); call = withTally c (fresh 0) }
+  wrote = record { taken = writtenAs (chosenOf (shelf t) kept .stamp); call = withTally c (fresh 0) }
 
   abbrev collected : Answered
   collected = record { taken = taken.More; call = withTally c (cond (ends (shelf t) c (h .server)) (fresh 5) (noted (shelf t) (c .tally) (h .server))) }
 
   abbrev delivered : Answered
-  delivered = record { taken = taken.Read (chosenOf (shelf t) kept .stamp .number) (length (contentOf c kept)); call = withTally c (fresh 0) }
+  delivered = record { taken = readAs (chosenOf (shelf t) kept .stamp) (length (contentOf c kept)); call = withTally c (fresh 0) }
 
   pub takes-store : c .tally .round ≡ 2 → (code : ℕ) → code ≡ getD reply headSize 0 → (a : Answered) → a ≡ stored code → TakesAs t client writers keys
       c kept reply output a kept output
   unfolding takeByRounds
   takes-store e code d a r =
-      ap (λ (z : Answered). whole z kept output) (r ∙ ap stored (d ∙ sym (getD-drop headSize reply 0 0)))
+      ap (λ (z : Answered). answered z kept output) (r ∙ ap stored (d ∙ sym (getD-drop headSize reply 0 0)))
       ∙ sym (took-store t client writers (keyOf keys) c kept output reply h y room e)
 
   pub takes-complete : c .tally .round ≡ 3 → (a : Answered) → a ≡ cond (ends (shelf t) c (h .server)) wrote noting → TakesAs t client writers keys c kept reply
       output a kept output
   unfolding takeByRounds
   takes-complete e a r =
-      ap (λ (z : Answered). whole z kept output) r
+      ap (λ (z : Answered). answered z kept output) r
       ∙ (by-test (ends (shelf t) c (h .server)) wrote noting kept output ∙ sym (took-complete t client writers (keyOf keys) c kept output reply h y room e))
 
   pub takes-collect : c .tally .round ≡ 4 → Bytes reply → (body : List ℕ) → body ≡ drop headSize reply → (a : Answered) → a ≡ collected
@@ -75,8 +73,8 @@ module _ (t client : ℕ) (writers : List ℕ) (keys : List (List ℕ)) (c : Cal
       a kept' output
   unfolding takeByRounds
   takes-collect e bs body d a r kept' k =
-      ap (λ (z : Answered). whole z kept' output) r
-      ∙ (ap (λ (z : List ℕ). whole collected z output) (k ∙ ap (put kept (candidatesAt + candidateSlot * (h .server - 1))) d)
+      ap (λ (z : Answered). answered z kept' output) r
+      ∙ (ap (λ (z : List ℕ). answered collected z output) (k ∙ ap (put kept (candidatesAt + candidateSlot * (h .server - 1))) d)
       ∙ sym (took-collect t client writers (keyOf keys) c kept output reply h y room bs e))
 
   pub takes-repair : c .tally .round ≡ 6 → (a : Answered) → a ≡ cond (ends (shelf t) c (h .server)) delivered noting
@@ -84,7 +82,7 @@ module _ (t client : ℕ) (writers : List ℕ) (keys : List (List ℕ)) (c : Cal
       output a kept output'
   unfolding takeByRounds
   takes-repair e a r output' o =
-      ap (λ (z : Answered). whole z kept output') r
-      ∙ (ap (λ (z : List ℕ). whole (cond (ends (shelf t) c (h .server)) delivered noting) kept z) o
+      ap (λ (z : Answered). answered z kept output') r
+      ∙ (ap (λ (z : List ℕ). answered (cond (ends (shelf t) c (h .server)) delivered noting) kept z) o
       ∙ (by-both (ends (shelf t) c (h .server)) delivered noting kept (over (contentOf c kept) output) output
       ∙ sym (took-repair t client writers (keyOf keys) c kept output reply h y room e)))

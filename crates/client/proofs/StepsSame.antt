@@ -13,6 +13,7 @@ use Rattle.cluster.specs.Refusals.{onRefusal}
 use Rattle.cluster.proofs.Tests.{passes}
 use Rattle.protocol.specs.declared.Call.{Call}
 use Rattle.protocol.specs.declared.Aborted.the-variants as aborts
+use Rattle.protocol.specs.Answers.{abortedAnswer}
 use Rattle.protocol.specs.Values.{blankCandidate}
 use Rattle.protocol.specs.Packet.{encode}
 use Rattle.protocol.specs.Rules.{countTo, nobody}
@@ -107,20 +108,20 @@ module _ (t client : ℕ) (c : Call) (wide : length (c .tally .marks) ≡ mostSe
   unfolding giveUp abortByRounds abortStep
   same-abort =
       at-refusals gave-up _ (λ n. record { client = view s c []; result = refused n })
-      (λ n. record { answer = cond (eqb (c .tally .round) 3) aborts.InComplete aborts.Before; call = withTally c (fresh 0) })
-      (λ n. record { answer = aborts.Refused n; call = c }) _ _
+      (λ n. record { answer = abortedAnswer (cond (eqb (c .tally .round) 3) aborts.InComplete aborts.Before); call = withTally c (fresh 0) })
+      (λ n. record { answer = abortedAnswer (aborts.Refused n); call = c }) _ _
       (ap (abortRefusal s client) (awaits-is s c []))
       (λ e. end (abort-busy s client c e)) (λ k. unfold after in refl)
     where
       gave-up : Turn → GaveUp
       gave-up u =
           record {
-            answer = told (u .result) .aborted;
+            answer = told (u .result) .answer;
             call = after s c [] [] u .call;
           }
 
       end : inHand c ≡ true → gave-up (record { client = onto (view s c []) nobody idle; result = aborted (eqb (awaits (view s c [] .hand)) 6) })
-          ≡ record { answer = cond (eqb (c .tally .round) 3) aborts.InComplete aborts.Before; call = withTally c (fresh 0) }
+          ≡ record { answer = abortedAnswer (cond (eqb (c .tally .round) 3) aborts.InComplete aborts.Before); call = withTally c (fresh 0) }
       end p = unfold after putBack begins awaits onto fresh inHand view in rw (none-marked, none-counted, complete-is (c .tally .round) p, either)
 
 module _ (t client : ℕ) (c : Call) where

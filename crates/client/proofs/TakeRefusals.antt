@@ -15,6 +15,7 @@ use Rattle.cluster.proofs.Tests.{and-both, passes, refused-is, accepted-is}
 use Rattle.protocol.specs.declared.Call.{Call}
 use Rattle.protocol.specs.declared.Head.{Head}
 use Rattle.protocol.specs.declared.Taken.the-variants as taken
+use Rattle.protocol.specs.Answers.{takenAnswer}
 use Rattle.protocol.specs.Packet.{Body, Packet, kindOf}
 use Rattle.protocol.specs.Primitives.{real}
 use Rattle.protocol.specs.Rules.{ByServer}
@@ -73,7 +74,7 @@ module _ (t client : ℕ) (writers : List ℕ) (keys : ByServer (List ℕ)) (c :
   outcome = takeIn real (shelf t) client writers keys c kept output (some packet)
 
   abbrev refusedWith : ℕ → Took
-  refusedWith n = record { answer = taken.Refused n; call = c; kept = kept; output = output }
+  refusedWith n = record { answer = takenAnswer (taken.Refused n); call = c; kept = kept; output = output }
 
   module _ (faults : badFaults (shelf t) ≡ false) (reader : badClient (ofWrite (awaited c)) client ≡ false) (kind : kindOf x ≡ h .kind) where
     list : number

@@ -16,6 +16,7 @@ use Rattle.cluster.proofs.Tests.{inside, refused-is}
 use Rattle.protocol.specs.declared.Call.{Call}
 use Rattle.protocol.specs.declared.Head.{Head}
 use Rattle.protocol.specs.declared.Taken.the-variants as taken
+use Rattle.protocol.specs.Answers.{takenAnswer}
 use Rattle.protocol.specs.Format.{Bytes}
 use Rattle.protocol.specs.Packet.{Packet, Body, BodyOk, printBody, collectReply, anyCandidateF, decode, headSize}
 use Rattle.protocol.specs.Primitives.{real}
@@ -41,7 +42,7 @@ use Rattle.client.proofs.TakenReplies.{body-at, printed}
 
 -- a refusal, which changes nothing
 abbrev pub refusedWith : Call → List ℕ → List ℕ → ℕ → Took
-refusedWith c kept output n = record { answer = taken.Refused n; call = c; kept = kept; output = output }
+refusedWith c kept output n = record { answer = takenAnswer (taken.Refused n); call = c; kept = kept; output = output }
 
 -- the refusals before the packet's head: 3, 5, 7
 module _ (t client : ℕ) (calls kind : ℕ) (replied : ByServer Bool) (high : ℕ → Body → Bool) (room : ℕ) where
@@ -113,24 +114,13 @@ module _ (t client : ℕ) (writers : List ℕ) (keys : List (List ℕ)) (c : Cal
   -- what take answers, the relation gives
   pub taken-in : (a : Answered) (kept' output' : List ℕ) → length (c .tally .marks) ≡ mostServers → length kept ≡ keptSize
       → TakesAs t client writers keys c kept reply output a kept' output'
-      → (a ≡ answered (coreTake t client writers keys c kept reply output))
-      × ((kept' ≡ coreTake t client writers keys c kept reply output .kept) × (output' ≡ coreTake t client writers keys c kept reply output .output))
-  taken-in a kept' output' w h e =
-      let q = e ∙ sym (core-take h ∙ same-take real t client writers keys c kept reply output h w) in
-      (ap answered q, (ap (λ (k : Took). k .kept) q, ap (λ (k : Took). k .output) q))
-
-  pub core-answers : length kept ≡ keptSize → (a : Answered) (kept' output' : List ℕ)
-      → (a ≡ answered (coreTake t client writers keys c kept reply output))
-      × ((kept' ≡ coreTake t client writers keys c kept reply output .kept) × (output' ≡ coreTake t client writers keys c kept reply output .output))
-      → let one = clientTake real t client writers keys c kept reply output in (a ≡ answered one) × ((kept' ≡ one .kept) × (output' ≡ one .output))
-  core-answers h a kept' output' (e, (k, o)) =
-      let q = core-take h in
-      (e ∙ ap answered q, (k ∙ ap (λ (x : Took). x .kept) q, o ∙ ap (λ (x : Took). x .output) q))
+      → answered a kept' output' ≡ coreTake t client writers keys c kept reply output
+  taken-in a kept' output' w h e = e ∙ sym (core-take h ∙ same-take real t client writers keys c kept reply output h w)
 
   -- an answer that refuses, and nothing changed
   pub takes-refused : (a : Answered) (n : ℕ) → a ≡ record { taken = taken.Refused n; call = c } → whole ≡ refusedWith c kept output n → TakesAs t
       client writers keys c kept reply output a kept output
-  takes-refused a n r e = ap (λ (z : Answered). record { answer = z .taken; call = z .call; kept = kept; output = output }) r ∙ sym e
+  takes-refused a n r e = ap (λ (z : Answered). answered z kept output) r ∙ sym e
 
   -- past clock a short output is the last test
   pub round-short : (h : Head) → Ready t client c reply h → (c .tally .round ≡ 1 → ⊥) → length output < contentRoom → whole ≡ refusedWith c kept

@@ -15,6 +15,7 @@ use Rattle.protocol.specs.declared.Call.{Call}
 use Rattle.protocol.specs.declared.Head.{Head}
 use Rattle.protocol.specs.declared.Stamp.{Stamp}
 use Rattle.protocol.specs.declared.Taken.the-variants as taken
+use Rattle.protocol.specs.Answers.{takenAnswer}
 use Rattle.protocol.specs.Format.{Bytes}
 use Rattle.protocol.specs.Packet.{Body, Packet, decode, kindOf, headSize, printBody, anyCandidateF, candidateF, clockReply, storeReply, collectReply}
 use Rattle.protocol.specs.Primitives.{real}
@@ -23,6 +24,7 @@ use Rattle.protocol.specs.Client.{higher, candidateMade, sharesMade}
 use Rattle.protocol.specs.ServerBytes.{over}
 use Rattle.protocol.specs.View.{stampAt, candidateAt, chosenOf, contentOf, nonceOf, chosenAt, candidatesAt, candidateSlot}
 use Rattle.protocol.specs.ClientBytes.{Took, putShares, inHand, put, fresh, awaited}
+use Rattle.client.specs.Answers.{writtenAs, readAs}
 use Rattle.client.specs.Rounds.{highIn, takeIn, takeOn, takeClock, took, counted, noted, ends, withTally}
 use Rattle.protocol.proofs.Whole.{kind-decoded}
 use Rattle.wire.specs.Places.{bodyAt, packetAt}
@@ -72,7 +74,7 @@ module _ (t client : ℕ) (writers : List ℕ) (keys : ByServer (List ℕ)) (c :
 
   pub took-store : contentRoom ≤ length output → c .tally .round ≡ 2
       → all ≡ record {
-        answer = taken.More;
+        answer = takenAnswer taken.More;
         call = withTally c (cond (eqb (getD (drop headSize reply) 0 0) 11) (counted (shelf t) (c .tally))
             (cond (ends (shelf t) c (h .server)) (fresh 3) (noted (shelf t) (c .tally) (h .server))));
         kept = kept;
@@ -87,18 +89,18 @@ module _ (t client : ℕ) (writers : List ℕ) (keys : ByServer (List ℕ)) (c :
 
   pub took-complete : contentRoom ≤ length output → c .tally .round ≡ 3
       → all ≡ cond (ends (shelf t) c (h .server)) (record {
-        answer = taken.Written (chosenOf (shelf t) kept .stamp .number);
+        answer = takenAnswer (writtenAs (chosenOf (shelf t) kept .stamp));
         call = withTally c (fresh 0);
         kept =
             kept;
         output = output;
       })
-      (record { answer = taken.More; call = withTally c (noted (shelf t) (c .tally) (h .server)); kept = kept; output = output })
+      (record { answer = takenAnswer taken.More; call = withTally c (noted (shelf t) (c .tally) (h .server)); kept = kept; output = output })
   took-complete room e = on-round room 3 e (λ z. (let q : ⊥ = omega (arith, z) in q)) ∙ on-complete t client writers keys c kept output h body
 
   pub took-collect : contentRoom ≤ length output → Bytes reply → c .tally .round ≡ 4
       → all ≡ record {
-        answer = taken.More;
+        answer = takenAnswer taken.More;
         call = withTally c (cond (ends (shelf t) c (h .server)) (fresh 5) (noted (shelf t) (c .tally) (h .server)));
         kept = put kept (candidatesAt + candidateSlot * (h .server - 1)) (drop headSize reply);
         output = output;
@@ -112,7 +114,7 @@ module _ (t client : ℕ) (writers : List ℕ) (keys : ByServer (List ℕ)) (c :
       (some (record { head = h; body = x }))) b
       ∙ (on-collect t client writers keys c kept output h (collectReply (candidateAt (shelf t) d))
       ∙ ap (λ (z : List ℕ). record {
-        answer = taken.More;
+        answer = takenAnswer taken.More;
         call = withTally c (cond (ends (shelf t) c (h .server)) (fresh 5) (noted (shelf t) (c .tally) (h .server)));
         kept = put kept (candidatesAt + candidateSlot * (h .server - 1)) z;
         output = output;
@@ -121,12 +123,12 @@ module _ (t client : ℕ) (writers : List ℕ) (keys : ByServer (List ℕ)) (c :
   pub took-repair : contentRoom ≤ length output → c .tally .round ≡ 6
       → all ≡ cond (ends (shelf t) c (h .server))
       (record {
-        answer = taken.Read (chosenOf (shelf t) kept .stamp .number) (length (contentOf c kept));
+        answer = takenAnswer (readAs (chosenOf (shelf t) kept .stamp) (length (contentOf c kept)));
         call = withTally c (fresh 0);
         kept = kept;
         output = over (contentOf c kept) output;
       })
-      (record { answer = taken.More; call = withTally c (noted (shelf t) (c .tally) (h .server)); kept = kept; output = output })
+      (record { answer = takenAnswer taken.More; call = withTally c (noted (shelf t) (c .tally) (h .server)); kept = kept; output = output })
   took-repair room e = on-round room 6 e (λ z. (let q : ⊥ = omega (arith, z) in q)) ∙ on-repair t client writers keys c kept output h body
 
   -- ---- clock
@@ -152,7 +154,7 @@ module _ (t client : ℕ) (writers : List ℕ) (keys : ByServer (List ℕ)) (c :
     clockKind = let a = awaited-reply t client c h (y .awaited) in sym (a .ofKind ∙ kind-at c 1 clock refl)
 
     abbrev refusedWith : ℕ → Took
-    refusedWith n = record { answer = taken.Refused n; call = c; kept = kept; output = output }
+    refusedWith n = record { answer = takenAnswer (taken.Refused n); call = c; kept = kept; output = output }
 
     pub clock-too-high : ends (shelf t) c (h .server) ≡ true → leb topNumber highest ≡ true → all ≡ refusedWith 14
     clock-too-high e l = as-clock ∙ high-refused t client writers keys c kept output h (clockReply stamp) (y .faults) (y .reader) clockKind
@@ -176,7 +178,7 @@ module _ (t client : ℕ) (writers : List ℕ) (keys : ByServer (List ℕ)) (c :
 
       pub clock-goes : contentRoom ≤ length output → ends (shelf t) c (h .server) ≡ false
           → all ≡ record {
-            answer = taken.More;
+            answer = takenAnswer taken.More;
             call = record {
               number = c .number;
               last = c .last;
@@ -192,7 +194,7 @@ module _ (t client : ℕ) (writers : List ℕ) (keys : ByServer (List ℕ)) (c :
 
       pub clock-ends : contentRoom ≤ length output → ends (shelf t) c (h .server) ≡ true
           → all ≡ record {
-            answer = taken.More;
+            answer = takenAnswer taken.More;
             call = record { number = c .number; last = suc highest; high = c .high; length = c .length; tally = fresh 2 };
             kept = putShares (shelf t) (put kept chosenAt (candidateF (shelf t) .print
                 (candidateMade real (shelf t) client writers keys (nonceOf kept) (suc highest))))

@@ -7,6 +7,7 @@ use lib.ListN.{length}
 use Rattle.cluster.specs.Refusals.{wrongSize}
 use Rattle.protocol.specs.declared.Call.{Call}
 use Rattle.protocol.specs.declared.Taken.the-variants as taken
+use Rattle.protocol.specs.Answers.{takenAnswer}
 use Rattle.protocol.specs.Primitives.{real}
 use Rattle.protocol.specs.View.{keptSize}
 use Rattle.protocol.specs.ClientBytes.{Begun, Written, Took, beginWrite, beginRead, clientMake, clientTake}
@@ -28,4 +29,4 @@ coreMake t client b c kept output =
 unfoldable pub coreTake : ℕ → ℕ → List ℕ → List (List ℕ) → Call → List ℕ → List ℕ → List ℕ → Took
 coreTake t client writers keys c kept reply output =
     cond (eqb (length kept) keptSize) (clientTake real t client writers keys c kept reply output)
-    (record { answer = taken.Refused wrongSize; call = c; kept = kept; output = output })
+    (record { answer = takenAnswer (taken.Refused wrongSize); call = c; kept = kept; output = output })

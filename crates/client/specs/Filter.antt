@@ -9,9 +9,11 @@ use Rattle.erasure.specs.Fragments.{fragmentSize}
 use Rattle.protocol.specs.declared.Call.{Call}
 use Rattle.protocol.specs.declared.Taken.the-variants as taken
 use Rattle.protocol.specs.Values.{stampSize, nonceSize, digestSize, digestsSize, tagsSize}
+use Rattle.protocol.specs.Answers.{takenAnswer}
 use Rattle.protocol.specs.ServerBytes.{over}
 use Rattle.protocol.specs.View.{part, chosenAt, candidatesAt, candidateSlot, candidatesIn, repliesAt, replySlot}
 use Rattle.protocol.specs.ClientBytes.{Took, put, fresh}
+use Rattle.client.specs.Answers.{readAs}
 use Rattle.client.specs.Rounds.{withTally}
 use Rattle.decide.specs.declared.Decision.{Decision}
 use Rattle.decide.specs.declared.Decision.the-variants as decisions
@@ -36,13 +38,13 @@ unfoldable pub foundAt : ℕ → Call → List ℕ → List ℕ → ℕ → ℕ 
 foundAt t c kept output i b content =
     cond (sameTags t kept i b)
     (record {
-      answer = taken.Read (candidatesIn (shelf t) kept (suc i) .stamp .number) (length content);
+      answer = takenAnswer (readAs (candidatesIn (shelf t) kept (suc i) .stamp) (length content));
       call = withTally c (fresh 0);
       kept = kept;
       output = over content output;
     })
     (record {
-      answer = taken.More;
+      answer = takenAnswer taken.More;
       call = repairCall c (length content);
       kept = put (put kept 0 content) chosenAt (repairBytes t kept i b (length content));
       output = output;
@@ -50,9 +52,9 @@ foundAt t c kept output i b content =
 
 -- what a decision leads to; the content stands at the start of room
 unfoldable pub judgedBy : ℕ → Call → List ℕ → List ℕ → Decision → List ℕ → Took
-judgedBy t c kept output (decisions.Refused n) room = record { answer = taken.Refused n; call = c; kept = kept; output = output }
-judgedBy t c kept output decisions.Wait room = record { answer = taken.More; call = c; kept = kept; output = output }
-judgedBy t c kept output decisions.Blank room = record { answer = taken.Blank; call = withTally c (fresh 0); kept = kept; output = output }
+judgedBy t c kept output (decisions.Refused n) room = record { answer = takenAnswer (taken.Refused n); call = c; kept = kept; output = output }
+judgedBy t c kept output decisions.Wait room = record { answer = takenAnswer taken.More; call = c; kept = kept; output = output }
+judgedBy t c kept output decisions.Blank room = record { answer = takenAnswer taken.Blank; call = withTally c (fresh 0); kept = kept; output = output }
 judgedBy t c kept output (decisions.Found i b n) room = foundAt t c kept output i b (part room 0 n)
 
 -- the decision over the replies of the servers that the call marks, with room for a content

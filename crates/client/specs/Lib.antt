@@ -1,5 +1,5 @@
+pub mod Answers
 pub mod Rounds
 pub mod Core
-pub mod Answers
 pub mod Steps
 pub mod Filter

@@ -9,6 +9,7 @@ use lib.ListN.{length, set, replicate}
 use Rattle.cluster.specs.Config.{Config, shelf}
 use Rattle.cluster.specs.Ranges.{mostServers, topNumber}
 use Rattle.cluster.specs.Refusals.{onRefusal}
+use Rattle.protocol.specs.declared.Stamp.{Stamp}
 use Rattle.protocol.specs.declared.Call.{Call}
 use Rattle.protocol.specs.declared.Tally.{Tally}
 use Rattle.protocol.specs.declared.Taken.{Taken}
@@ -19,9 +20,11 @@ use Rattle.protocol.specs.Packet.{Body, Packet, decode, encode, anyCandidateF, 
 use Rattle.protocol.specs.Primitives.{Primitives}
 use Rattle.protocol.specs.Rules.{ByServer, upd, countTo, gather, live, choice, leader, restoredBy, tagsIn}
 use Rattle.protocol.specs.Client.{isFull, higher, stampIn, codeIn, candidateIn, heldIn, made, candidateMade, sharesMade, writeRefusal, readRefusal, makeRefusal, abortRefusal, takeRefusal}
+use Rattle.protocol.specs.Answers.{takenAnswer, abortedAnswer}
 use Rattle.protocol.specs.ServerBytes.{over}
 use Rattle.protocol.specs.View.{view, marked, contentOf, nonceOf, chosenOf, candidatesIn, repliesIn, nonceAt, chosenAt, candidateSlot, candidatesAt, repliesAt, replySlot}
 use Rattle.protocol.specs.ClientBytes.{put, putShares, keyOf, fresh, inHand, awaited, Begun, GaveUp, Written, Took}
+use Rattle.client.specs.Answers.{writtenAs, readAs}
 
 -- the count is that of the marks
 unfoldable pub counted : Config → Tally → Tally
@@ -65,8 +68,8 @@ readByRounds t client c kept =
 unfoldable pub abortByRounds : ℕ → ℕ → Call → GaveUp
 abortByRounds t client c =
     let n = abortRefusal (shelf t) client (awaited c) in
-    onRefusal n (record { answer = cond (eqb (c .tally .round) 3) aborts.InComplete aborts.Before; call = withTally c (fresh 0) })
-    (record { answer = aborts.Refused n; call = c })
+    onRefusal n (record { answer = abortedAnswer (cond (eqb (c .tally .round) 3) aborts.InComplete aborts.Before); call = withTally c (fresh 0) })
+    (record { answer = abortedAnswer (aborts.Refused n); call = c })
 
 unfoldable pub makeByRounds : ℕ → ℕ → ℕ → Call → List ℕ → List ℕ → Written
 makeByRounds t client b c kept output =
@@ -80,12 +83,12 @@ makeByRounds t client b c kept output =
 module _ (P : Primitives) (s : Config) (client : ℕ) (writers : List ℕ) (keys : ByServer (List ℕ)) (c : Call) (kept output : List ℕ) where
   -- the answer, with the call and the kept bytes after it, and the output as it was
   unfoldable pub took : Taken → Call → List ℕ → Took
-  took a c' k = record { answer = a; call = c'; kept = k; output = output }
+  took a c' k = record { answer = takenAnswer a; call = c'; kept = k; output = output }
 
   -- a content is delivered
-  unfoldable pub delivers : ℕ → List ℕ → List ℕ → Took
-  delivers number content k =
-      record { answer = taken.Read number (length content); call = withTally c (fresh 0); kept = k; output = over content output }
+  unfoldable pub delivers : Stamp → List ℕ → List ℕ → Took
+  delivers stamp content k =
+      record { answer = takenAnswer (readAs stamp (length content)); call = withTally c (fresh 0); kept = k; output = over content output }
 
   -- each round takes `e`: this reply is the one that makes a quorum
   unfoldable pub takeClock : Bool → ℕ → Body → Took
@@ -104,7 +107,7 @@ module _ (P : Primitives) (s : Config) (client : ℕ) (writers : List ℕ) (keys
 
   unfoldable pub takeComplete : Bool → ℕ → Took
   takeComplete e b =
-      cond e (took (taken.Written (chosenOf s kept .stamp .number)) (withTally c (fresh 0)) kept) (took taken.More (withTally c (noted s (c .tally) b)) kept)
+      cond e (took (writtenAs (chosenOf s kept .stamp)) (withTally c (fresh 0)) kept) (took taken.More (withTally c (noted s (c .tally) b)) kept)
 
   unfoldable pub takeCollect : Bool → ℕ → Body → Took
   takeCollect e b x =
@@ -115,7 +118,7 @@ module _ (P : Primitives) (s : Config) (client : ℕ) (writers : List ℕ) (keys
   foundIn m g k d b =
       let content = restoredBy P s m g d b (g b .share) in
       let tags = tagsIn P s d (g b .share) in
-      cond (sameList tags (d .tags)) (delivers (d .stamp .number) content k)
+      cond (sameList tags (d .tags)) (delivers (d .stamp) content k)
       (took taken.More (record { number = c .number; last = c .last; high = c .high; length = length content; tally = fresh 6 })
       (put (put k 0 content) chosenAt (candidateF s .print (record { stamp = d .stamp; nonce = d .nonce; tags = tags }))))
 
@@ -135,7 +138,7 @@ module _ (P : Primitives) (s : Config) (client : ℕ) (writers : List ℕ) (keys
 
   unfoldable pub takeRepair : Bool → ℕ → Took
   takeRepair e b =
-      cond e (delivers (chosenOf s kept .stamp .number) (contentOf c kept) kept) (took taken.More (withTally c (noted s (c .tally) b)) kept)
+      cond e (delivers (chosenOf s kept .stamp) (contentOf c kept) kept) (took taken.More (withTally c (noted s (c .tally) b)) kept)
 
   unfoldable pub takeOn : ℕ → Option Packet → Took
   takeOn r none = took taken.More c kept

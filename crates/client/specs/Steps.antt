@@ -22,6 +22,7 @@ use Rattle.protocol.specs.ServerBytes.{over}
 use Rattle.protocol.specs.View.{marked, part, repliesAt, replySlot, chosenAt, contentOf, nonceOf}
 use Rattle.protocol.specs.Primitives.{real}
 use Rattle.protocol.specs.ClientBytes.{Written, keyOf, put, putShares, awaited}
+use Rattle.client.specs.Answers.{answered}
 use Rattle.client.specs.Rounds.{takeByRounds}
 use Rattle.client.specs.declared.answers.Answered.{Answered}
 
@@ -82,4 +83,4 @@ pub record Ready (t client : ℕ) (c : Call) (reply : List ℕ) (h : Head) : Typ
 -- the answer a, kept bytes and output after it are those of the step that takes the reply
 abbrev pub TakesAs : ℕ → ℕ → List ℕ → List (List ℕ) → Call → List ℕ → List ℕ → List ℕ → Answered → List ℕ → List ℕ → Type 0
 TakesAs t client writers keys c kept reply output a kept' output' =
-    record { answer = a .taken; call = a .call; kept = kept'; output = output' } ≡ takeByRounds real t client writers keys c kept reply output
+    answered a kept' output' ≡ takeByRounds real t client writers keys c kept reply output

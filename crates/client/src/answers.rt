@@ -66,15 +66,20 @@ pub(crate) fn step(call: protocol::Call, t: usize, server: usize, next: u8) -> A
 }
 
 // A content is delivered, and the call has ended.
-pub(crate) fn deliver(call: protocol::Call, number: u32, content: &[u8], out: &mut [u8]) -> Answered
+pub(crate) fn deliver(
+    call: protocol::Call,
+    label: protocol::Label,
+    content: &[u8],
+    out: &mut [u8],
+) -> Answered
     requires { ⌜ (length (now content) ≤ topLength) × (contentRoom ≤ length (now out)) ⌝ }
-    ensures { λ r. ⌜ (r ≡ record { taken = taken.Read number (length (now (content .entry))); call = withTally call (fresh 0) })
+    ensures { λ r. ⌜ (r ≡ record { taken = taken.Read (label .number) (label .writer) (length (now (content .entry))); call = withTally call (fresh 0) })
         × (now (out .exit) ≡ over (now (content .entry)) (now (out .entry))) ⌝ }
 {
     kept::write_at(out, 0, content);
     let n = content.len() as u16;
     Answered {
-        taken: protocol::Taken::Read(number, n),
+        taken: protocol::Taken::Read(label.number, label.writer, n),
         call: enter(call, 0),
     }
 }

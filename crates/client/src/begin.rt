@@ -20,7 +20,7 @@ pub struct Stopped {
 
 // Giving up leaves no call in hand; the call number and the last stamp made stay.
 pub fn give_up_in(call: protocol::Call, t: usize, client: usize) -> Stopped
-    ensures { λ r. ⌜ r ≡ stopped (giveUp t client call) ⌝ }
+    ensures { λ r. ⌜ stopped r ≡ giveUp t client call ⌝ }
 {
     let tally = call.tally;
     let round = tally.round;

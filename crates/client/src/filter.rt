@@ -6,8 +6,10 @@ ghost use lib.ListN.{length};
 ghost use Rattle.cluster.specs.Config.{shelf};
 ghost use Rattle.cluster.specs.Ranges.{topFaults, topLength, mostServers, contentRoom};
 ghost use Rattle.protocol.specs.declared.Taken.the-variants as taken;
+ghost use Rattle.protocol.specs.Values.{labelOf};
 ghost use Rattle.protocol.specs.View.{keptSize, chosenAt, candidateSlot, candidatesIn, repliesAt, replySlot};
 ghost use Rattle.protocol.specs.ClientBytes.{put};
+ghost use Rattle.client.specs.Answers.{answered};
 ghost use Rattle.client.specs.Steps.{Ready, TakesAs};
 ghost use Rattle.client.specs.Filter.{tagsPlace, repairBytes, repairCall, foundAt, judgedIn};
 use crate::answers;
@@ -86,12 +88,12 @@ fn repair_with(
     repairing(call, content.len() as u16)
 }
 
-// The number of the stamp in slot i.
-fn number_in(kept: &[u8], t: usize, i: usize) -> u32
+// Number and writer of the stamp in slot i.
+fn label_in(kept: &[u8], t: usize, i: usize) -> protocol::Label
     requires { ⌜ i < mostServers ⌝ }
-    ensures { λ r. ⌜ r ≡ candidatesIn (shelf t) (now (kept .entry)) (suc i) .stamp .number ⌝ }
+    ensures { λ r. ⌜ r ≡ labelOf (candidatesIn (shelf t) (now (kept .entry)) (suc i) .stamp) ⌝ }
 {
-    wire::bytes::number4(wire::bytes::part(
+    kept::label(wire::bytes::part(
         kept,
         wire::kept::CANDIDATES + wire::kept::CANDIDATE_SLOT * i,
         wire::kept::CANDIDATE_SLOT,
@@ -110,12 +112,12 @@ fn found(
 ) -> Answered
     requires { ⌜ (t ≤ topFaults) × ((i < mostServers) × ((1 ≤ b) × ((b ≤ mostServers) × ((length (now kept) ≡ keptSize)
         × ((length (now content) ≤ topLength) × (contentRoom ≤ length (now out))))))) ⌝ }
-    ensures { λ r. ⌜ record { answer = r .taken; call = r .call; kept = now (kept .exit); output = now (out .exit) }
+    ensures { λ r. ⌜ answered r (now (kept .exit)) (now (out .exit))
         ≡ foundAt t call (now (kept .entry)) (now (out .entry)) i b (now (content .entry)) ⌝ }
 {
     if decide::same_tags(kept, t, i, b) {
-        let number = number_in(kept, t, i);
-        return answers::deliver(call, number, content, out);
+        let label = label_in(kept, t, i);
+        return answers::deliver(call, label, content, out);
     }
     repair_with(call, kept, t, i, b, content)
 }
@@ -123,7 +125,7 @@ fn found(
 // Lines 142 to 146: what the round has decided. The content stands apart until it is delivered, so that repair leaves the output as it was.
 fn judge(call: protocol::Call, kept: &mut [u8], t: usize, out: &mut [u8]) -> Answered
     requires { ⌜ (1 ≤ t) × ((t ≤ topFaults) × ((length (now kept) ≡ keptSize) × (contentRoom ≤ length (now out)))) ⌝ }
-    ensures { λ r. ⌜ record { answer = r .taken; call = r .call; kept = now (kept .exit); output = now (out .exit) }
+    ensures { λ r. ⌜ answered r (now (kept .exit)) (now (out .exit))
         ≡ judgedIn t call (now (kept .entry)) (now (out .entry)) ⌝ }
 {
     let tally = call.tally;

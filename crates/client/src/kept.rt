@@ -6,7 +6,8 @@ ghost use lib.Dec.{leb};
 ghost use lib.ListN.{length};
 ghost use Rattle.cluster.specs.Config.{shelf};
 ghost use Rattle.cluster.specs.Ranges.{topLength};
-ghost use Rattle.protocol.specs.View.{keptSize, chosenOf, contentOf, nonceOf};
+ghost use Rattle.protocol.specs.Values.{labelOf};
+ghost use Rattle.protocol.specs.View.{keptSize, stampAt, chosenOf, contentOf, nonceOf};
 ghost use Rattle.protocol.specs.ClientBytes.{put};
 
 // The bytes at a place where there is room for them.
@@ -17,11 +18,21 @@ pub(crate) fn write_at(kept: &mut [u8], at: usize, bytes: &[u8])
     let _ = wire::make::put(kept, at, bytes);
 }
 
-// The number of the stamp of the write or of repair.
-pub(crate) fn chosen_number(kept: &[u8], t: usize) -> u32
-    ensures { λ r. ⌜ r ≡ chosenOf (shelf t) (now (kept .entry)) .stamp .number ⌝ }
+// Number and writer of the stamp at the start of a candidate's slot.
+pub(crate) fn label(slot: &[u8]) -> protocol::Label
+    ensures { λ r. ⌜ r ≡ labelOf (stampAt (now (slot .entry))) ⌝ }
 {
-    wire::bytes::number4(wire::bytes::part(kept, wire::kept::CHOSEN, wire::kept::CANDIDATE_SLOT))
+    protocol::Label {
+        number: wire::bytes::number4(slot),
+        writer: wire::bytes::byte_at(slot, 4),
+    }
+}
+
+// Those of the stamp of the write or of repair.
+pub(crate) fn chosen_label(kept: &[u8], t: usize) -> protocol::Label
+    ensures { λ r. ⌜ r ≡ labelOf (chosenOf (shelf t) (now (kept .entry)) .stamp) ⌝ }
+{
+    label(wire::bytes::part(kept, wire::kept::CHOSEN, wire::kept::CANDIDATE_SLOT))
 }
 
 // The bytes of the content: no more than a content has.

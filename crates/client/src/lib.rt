@@ -2,6 +2,7 @@
 // A call's small state is lent as `protocol::Call`, its bulk as the kept bytes; every value of both has a meaning.
 ghost use mathlib.Core.Path.{_≡_};
 ghost use Rattle.protocol.specs.Primitives.{real};
+ghost use Rattle.protocol.specs.Answers.{takenAnswer, abortedAnswer};
 ghost use Rattle.protocol.specs.ClientBytes.{beginWrite, beginRead, clientMake, clientTake, giveUp};
 ghost use Rattle.protocol.specs.Runs.{newCall};
 
@@ -50,9 +51,8 @@ pub fn begin_write(
     content: &[u8],
     nonce: &[u8; cluster::KEY],
 ) -> cluster::Outcome
-    ensures { λ r. ⌜ (r ≡ beginWrite t client (now (call .entry)) (now (kept .entry)) (now (content .entry)) (now (nonce .entry)) .result)
-        × ((now (call .exit) ≡ beginWrite t client (now (call .entry)) (now (kept .entry)) (now (content .entry)) (now (nonce .entry)) .call)
-        × (now (kept .exit) ≡ beginWrite t client (now (call .entry)) (now (kept .entry)) (now (content .entry)) (now (nonce .entry)) .kept)) ⌝ }
+    ensures { λ r. ⌜ record { result = r; call = now (call .exit); kept = now (kept .exit) }
+        ≡ beginWrite t client (now (call .entry)) (now (kept .entry)) (now (content .entry)) (now (nonce .entry)) ⌝ }
 {
     let s = begin::write_by_value(*call, kept, t, client, content, nonce);
     *call = s.call;
@@ -66,9 +66,7 @@ pub fn begin_read(
     t: usize,
     client: usize,
 ) -> cluster::Outcome
-    ensures { λ r. ⌜ (r ≡ beginRead t client (now (call .entry)) (now (kept .entry)) .result)
-        × ((now (call .exit) ≡ beginRead t client (now (call .entry)) (now (kept .entry)) .call)
-        × (now (kept .exit) ≡ beginRead t client (now (call .entry)) (now (kept .entry)) .kept)) ⌝ }
+    ensures { λ r. ⌜ record { result = r; call = now (call .exit); kept = now (kept .exit) } ≡ beginRead t client (now (call .entry)) (now (kept .entry)) ⌝ }
 {
     let s = begin::read_by_value(*call, kept, t, client);
     *call = s.call;
@@ -86,10 +84,8 @@ pub fn take(
     reply: &[u8],
     out: &mut [u8],
 ) -> protocol::Taken
-    ensures { λ r. ⌜ (r ≡ clientTake real t client (now (writers .entry)) (now (keys .entry)) (now (call .entry)) (now (kept .entry)) (now (reply .entry)) (now (out .entry)) .answer)
-        × ((now (call .exit) ≡ clientTake real t client (now (writers .entry)) (now (keys .entry)) (now (call .entry)) (now (kept .entry)) (now (reply .entry)) (now (out .entry)) .call)
-        × ((now (kept .exit) ≡ clientTake real t client (now (writers .entry)) (now (keys .entry)) (now (call .entry)) (now (kept .entry)) (now (reply .entry)) (now (out .entry)) .kept)
-        × (now (out .exit) ≡ clientTake real t client (now (writers .entry)) (now (keys .entry)) (now (call .entry)) (now (kept .entry)) (now (reply .entry)) (now (out .entry)) .output))) ⌝ }
+    ensures { λ r. ⌜ record { answer = takenAnswer r; call = now (call .exit); kept = now (kept .exit); output = now (out .exit) }
+        ≡ clientTake real t client (now (writers .entry)) (now (keys .entry)) (now (call .entry)) (now (kept .entry)) (now (reply .entry)) (now (out .entry)) ⌝ }
 {
     let s = taking::take_by_value(*call, kept, t, client, writers, keys, reply, out);
     *call = s.call;
@@ -98,7 +94,7 @@ pub fn take(
 
 // The pending call is given up.
 pub fn give_up(call: &mut protocol::Call, t: usize, client: usize) -> protocol::Aborted
-    ensures { λ r. ⌜ (r ≡ giveUp t client (now (call .entry)) .answer) × (now (call .exit) ≡ giveUp t client (now (call .entry)) .call) ⌝ }
+    ensures { λ r. ⌜ record { answer = abortedAnswer r; call = now (call .exit) } ≡ giveUp t client (now (call .entry)) ⌝ }
 {
     let s = begin::give_up_in(*call, t, client);
     *call = s.call;

@@ -9,6 +9,7 @@ ghost use Rattle.protocol.specs.declared.Taken.the-variants as taken;
 ghost use Rattle.protocol.specs.ServerBytes.{over};
 ghost use Rattle.protocol.specs.View.{keptSize, candidatesAt, candidateSlot, chosenOf, contentOf};
 ghost use Rattle.protocol.specs.ClientBytes.{put, fresh};
+ghost use Rattle.client.specs.Answers.{readAs};
 ghost use Rattle.client.specs.Rounds.{noted, ends, withTally};
 use crate::answers;
 use crate::answers::Answered;
@@ -45,14 +46,14 @@ pub(crate) fn take_repair(
 ) -> Answered
     requires { ⌜ (t ≤ topFaults) × ((1 ≤ server) × ((server ≤ mostServers) × (contentRoom ≤ length (now out)))) ⌝ }
     ensures { λ r. ⌜ (r ≡ cond (ends (shelf t) call server)
-        (record { taken = taken.Read (chosenOf (shelf t) (now (kept .entry)) .stamp .number) (length (contentOf call (now (kept .entry)))); call = withTally call (fresh 0) })
+        (record { taken = readAs (chosenOf (shelf t) (now (kept .entry)) .stamp) (length (contentOf call (now (kept .entry)))); call = withTally call (fresh 0) })
         (record { taken = taken.More; call = withTally call (noted (shelf t) (call .tally) server) }))
         × (now (out .exit) ≡ cond (ends (shelf t) call server) (over (contentOf call (now (kept .entry))) (now (out .entry))) (now (out .entry))) ⌝ }
 {
     let noted = answers::note_reply(call, t, server);
     if rounds::is_full(t, noted.tally) {
-        let number = kept::chosen_number(kept, t);
-        return answers::deliver(call, number, kept::content(kept, call), out);
+        let label = kept::chosen_label(kept, t);
+        return answers::deliver(call, label, kept::content(kept, call), out);
     }
     answers::more(noted)
 }

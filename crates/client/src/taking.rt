@@ -146,9 +146,8 @@ pub fn take_in(
     reply: &[u8],
     out: &mut [u8],
 ) -> Answered
-    ensures { λ r. ⌜ (r ≡ answered (coreTake t client (now (writers .entry)) (now (keys .entry)) call (now (kept .entry)) (now (reply .entry)) (now (out .entry))))
-        × ((now (kept .exit) ≡ coreTake t client (now (writers .entry)) (now (keys .entry)) call (now (kept .entry)) (now (reply .entry)) (now (out .entry)) .kept)
-        × (now (out .exit) ≡ coreTake t client (now (writers .entry)) (now (keys .entry)) call (now (kept .entry)) (now (reply .entry)) (now (out .entry)) .output)) ⌝ }
+    ensures { λ r. ⌜ answered r (now (kept .exit)) (now (out .exit))
+        ≡ coreTake t client (now (writers .entry)) (now (keys .entry)) call (now (kept .entry)) (now (reply .entry)) (now (out .entry)) ⌝ }
 {
     if kept.len() != wire::kept::KEPT {
         return answers::refused(cluster::WRONG_SIZE, call);
@@ -173,9 +172,8 @@ pub(crate) fn take_by_value(
     reply: &[u8],
     out: &mut [u8],
 ) -> Answered
-    ensures { λ r. ⌜ (r ≡ answered (clientTake real t client (now (writers .entry)) (now (keys .entry)) call (now (kept .entry)) (now (reply .entry)) (now (out .entry))))
-        × ((now (kept .exit) ≡ clientTake real t client (now (writers .entry)) (now (keys .entry)) call (now (kept .entry)) (now (reply .entry)) (now (out .entry)) .kept)
-        × (now (out .exit) ≡ clientTake real t client (now (writers .entry)) (now (keys .entry)) call (now (kept .entry)) (now (reply .entry)) (now (out .entry)) .output)) ⌝ }
+    ensures { λ r. ⌜ answered r (now (kept .exit)) (now (out .exit))
+        ≡ clientTake real t client (now (writers .entry)) (now (keys .entry)) call (now (kept .entry)) (now (reply .entry)) (now (out .entry)) ⌝ }
 {
     take_in(call, kept, t, client, writers, keys, reply, out)
 }

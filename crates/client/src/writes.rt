@@ -8,6 +8,7 @@ ghost use Rattle.cluster.specs.Ranges.{topFaults, mostServers};
 ghost use Rattle.protocol.specs.declared.Taken.the-variants as taken;
 ghost use Rattle.protocol.specs.View.{chosenOf};
 ghost use Rattle.protocol.specs.ClientBytes.{fresh};
+ghost use Rattle.client.specs.Answers.{writtenAs};
 ghost use Rattle.client.specs.Rounds.{counted, noted, ends, withTally};
 use crate::answers;
 use crate::answers::Answered;
@@ -33,14 +34,14 @@ pub(crate) fn take_store(call: protocol::Call, t: usize, server: usize, code: u8
 pub(crate) fn take_complete(call: protocol::Call, kept: &[u8], t: usize, server: usize) -> Answered
     requires { ⌜ (t ≤ topFaults) × ((1 ≤ server) × (server ≤ mostServers)) ⌝ }
     ensures { λ r. ⌜ r ≡ cond (ends (shelf t) call server)
-        (record { taken = taken.Written (chosenOf (shelf t) (now (kept .entry)) .stamp .number); call = withTally call (fresh 0) })
+        (record { taken = writtenAs (chosenOf (shelf t) (now (kept .entry)) .stamp); call = withTally call (fresh 0) })
         (record { taken = taken.More; call = withTally call (noted (shelf t) (call .tally) server) }) ⌝ }
 {
     let noted = answers::note_reply(call, t, server);
     if rounds::is_full(t, noted.tally) {
-        let number = kept::chosen_number(kept, t);
+        let label = kept::chosen_label(kept, t);
         return Answered {
-            taken: protocol::Taken::Written(number),
+            taken: protocol::Taken::Written(label.number, label.writer),
             call: answers::enter(call, 0),
         };
     }

@@ -10,7 +10,7 @@ use borrow.Author.Tests.{eq-eqb}
 use Rattle.cluster.specs.Ranges.{topClient, mostServers}
 use Rattle.protocol.specs.declared.Call.{Call}
 use Rattle.protocol.specs.View.{part, keptSize}
-use Rattle.protocol.specs.ClientBytes.{Begun, put, beginWrite, beginRead, giveUp}
+use Rattle.protocol.specs.ClientBytes.{Begun, GaveUp, put, beginWrite, beginRead, giveUp}
 use Rattle.wire.specs.Make.{placed}
 use Rattle.wire.proofs.Put.{placed-wrote}
 use Rattle.state.specs.State.{stateSize, callBytes}
@@ -111,14 +111,14 @@ unfolding keptAt
 kept-place c e = ap (λ (z : ℕ). z + 64) e
 
 -- giving up
-pub stops-as : (w : List ℕ) (c t : ℕ) {x : Call} {out : List ℕ} {s : Stopped} → x ≡ callIn w c → s ≡ stopped (giveUp t c x) → out ≡ putCall w c
+pub stops-as : (w : List ℕ) (c t : ℕ) {x : Call} {out : List ℕ} {s : Stopped} → x ≡ callIn w c → stopped s ≡ giveUp t c x → out ≡ putCall w c
     (s .call)
     → length (s .call .tally .marks) ≡ mostServers → StopsAs (giveUp t c (callIn w c)) w c out (s .taken)
 stops-as w c t {x} {out} {s} ex es eo m =
-    let e : s ≡ stopped (giveUp t c (callIn w c)) = es ∙ ap (λ (z : Call). stopped (giveUp t c z)) ex in
-    let q : s .call ≡ giveUp t c (callIn w c) .call = ap (λ (z : Stopped). z .call) e in
+    let e : stopped s ≡ giveUp t c (callIn w c) = es ∙ ap (giveUp t c) ex in
+    let q : s .call ≡ giveUp t c (callIn w c) .call = ap (λ (z : GaveUp). z .call) e in
     record {
-      result = ap (λ (z : Stopped). z .taken) e;
+      result = ap (λ (z : GaveUp). z .answer) e;
       area = eo ∙ ap (putCall w c) q;
       marks = sym (ap (λ (z : Call). length (z .tally .marks)) q) ∙
           m;

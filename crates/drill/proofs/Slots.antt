@@ -79,24 +79,23 @@ module _ (w : List ℕ) (c : ℕ) (h : (1 ≤ c) × (c ≤ topClient)) (size : l
 
   pub takes-as : (F : Call → List ℕ → Took) (d : Took) (k : ℕ) {x : Call} {a : ℕ} {ks after out : List ℕ} {s : Answered} → F (callIn w c) (keptIn w c)
       ≡ d
-      → x ≡ callIn w c → a ≡ keptAt c → k ≡ keptSize → s ≡ answered (F x (take k (drop a w))) → ks ≡ F x (take k (drop a w)) .kept
-      → out ≡ F x (take k (drop a w)) .output → length ks ≡ length (take k (drop a w))
+      → x ≡ callIn w c → a ≡ keptAt c → k ≡ keptSize → answered s ks out ≡ F x (take k (drop a w)) → length ks ≡ length (take k (drop a w))
       → after ≡ putCall (take a w ++ (ks ++ drop k (drop a w))) c (s .call) → length (s .call .tally .marks) ≡ mostServers
       → TakesAs d w c after out (s .taken)
   unfolding putClient keptIn
-  takes-as F d k {x} {a} {ks} {after} {out} {s} e ex ea ek es eks eo l₀ ef m =
+  takes-as F d k {x} {a} {ks} {after} {out} {s} e ex ea ek es l₀ ef m =
       let y : take k (drop a w) ≡ part w (keptAt c) keptSize = rw ea (lent w (keptAt c) k keptSize ek) in
       let l : length ks ≡ keptSize = l₀ ∙ ap length y ∙ kept-size w c h size in
       let f : F x (take k (drop a w)) ≡ d = rw (ex, y) e in
-      let es' : s ≡ answered d = es ∙ ap answered f in
-      let ek' : ks ≡ d .kept = eks ∙ ap (λ (z : Took). z .kept) f in
-      let q : s .call ≡ d .call = ap (λ (z : Answered). z .call) es' in
+      let es' : answered s ks out ≡ d = es ∙ f in
+      let ek' : ks ≡ d .kept = ap (λ (z : Took). z .kept) es' in
+      let q : s .call ≡ d .call = ap (λ (z : Took). z .call) es' in
       let g : take a w ++ (ks ++ drop k (drop a w)) ≡ put w (keptAt c) (d .kept) = rw ea (back w (keptAt c) k ks (l ∙ sym ek)) ∙ ap (put w (keptAt c))
       ek' in
       record {
-        result = ap (λ (z : Answered). z .taken) es';
+        result = ap (λ (z : Took). z .answer) es';
         area = ef ∙ ap (λ (z : List ℕ). putCall z c (s .call)) g ∙ ap (putCall (put w (keptAt c) (d .kept)) c) q;
-        written = eo ∙ ap (λ (z : Took). z .output) f;
+        written = ap (λ (z : Took). z .output) es';
         size = sym (ap length ek') ∙ l;
         marks = sym (ap (λ (z : Call). length (z .tally .marks)) q) ∙ m;
       }

@@ -11,14 +11,16 @@ use Rattle.cluster.specs.Config.{shelf}
 use Rattle.cluster.specs.Ranges.{within, topFaults, topWriter, topClient, leastLength, topLength}
 use Rattle.cluster.proofs.Tests.{within-bounds}
 use Rattle.protocol.specs.declared.Call.{Call}
+use Rattle.protocol.specs.declared.Answer.{Answer}
 use Rattle.protocol.specs.declared.Aborted.{Aborted}
 use Rattle.protocol.specs.declared.Aborted.the-variants as aborts
+use Rattle.protocol.specs.Answers.{abortedAnswer}
 use Rattle.protocol.specs.Primitives.{real}
 use Rattle.protocol.specs.Client.{refused, writeStep, readStep, abortStep, writeRefusal, readRefusal, abortRefusal, ofWrite, awaits, accepted}
 use Rattle.protocol.specs.ClientBytes.{Begun, after, begunBy, beginWrite, beginRead, giveUp}
 use Rattle.protocol.specs.View.{view}
 use Rattle.protocol.proofs.LetIn.{no-client}
-use Rattle.protocol.specs.Runs.{Machines, read, give-up, resultOf, abortedOut, doBytes, setMachine}
+use Rattle.protocol.specs.Runs.{Machines, read, give-up, resultOf, resultBy, doBytes, setMachine}
 use Rattle.drill.specs.declared.shown.Shown.{Shown}
 use Rattle.drill.specs.Steps.{drillShelf, nonceFor, writeLine, shown}
 use Rattle.drill.specs.Area.{writeIn, readIn, giveUpIn, Stands, BeginsAs, StopsAs}
@@ -54,7 +56,7 @@ module _ (t c : ℕ) (ht : (1 ≤ t) × (t ≤ topFaults)) where
   unfolding beginRead begunBy after readStep readRefusal shelf
   no-reader x k h = rw (inside 1 topFaults t ht, h)
 
-  pub no-stopper : (x : Call) → within 1 topClient c ≡ false → giveUp t c x ≡ record { answer = aborts.Refused 5; call = x }
+  pub no-stopper : (x : Call) → within 1 topClient c ≡ false → giveUp t c x ≡ record { answer = abortedAnswer (aborts.Refused 5); call = x }
   unfolding giveUp after abortStep abortRefusal shelf
   no-stopper x h = rw (inside 1 topFaults t ht, no-client (ofWrite (awaits (view (shelf t) x [] .hand))) c h)
 
@@ -134,7 +136,7 @@ module _ (t c : ℕ) (ht : (1 ≤ t) × (t ≤ topFaults)) (w : List ℕ) where
       }
 
   pub stop-moves : (hc : (1 ≤ c) × (c ≤ topClient)) {after : List ℕ} {answer : Aborted} {x : Shown} → StopsAs (giveUpIn t w c) w c after answer → x ≡
-      shown (abortedOut answer)
+      shown (resultBy (abortedAnswer answer) [])
       → DoneIn t (λ m. doBytes real (drillShelf t) m (give-up c)) w after x
   unfolding doBytes setMachine drillShelf
   stop-moves hc {after} {answer} {x} e ex =
@@ -142,5 +144,5 @@ module _ (t c : ℕ) (ht : (1 ≤ t) × (t ≤ topFaults)) (w : List ℕ) where
       (st .calls c (inside 1 topClient c hc)) at e in
       record {
         stands = λ m st. rw (f m st .area) (call-put t w m (ht .1) st c (inside 1 topClient c hc) _ (f m st .marks));
-        shows = λ m st. ex ∙ ap (λ (z : Aborted). shown (abortedOut z)) (f m st .result);
+        shows = λ m st. ex ∙ ap (λ (z : Answer). shown (resultBy z [])) (f m st .result);
       }

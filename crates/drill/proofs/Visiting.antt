@@ -14,11 +14,12 @@ use Rattle.cluster.proofs.Legal.{upTo-length, upTo-at}
 use Rattle.cluster.proofs.Tests.{within-in}
 use Rattle.erasure.proofs.Lists.{getD-map}
 use Rattle.protocol.specs.declared.Taken.{Taken}
+use Rattle.protocol.specs.Answers.{takenAnswer}
 use Rattle.protocol.specs.Primitives.{real}
 use Rattle.protocol.specs.View.{part}
 use Rattle.protocol.specs.ServerBytes.{Served, serverTake}
 use Rattle.protocol.specs.ClientBytes.{Written, Took, keyOf, clientMake, clientTake}
-use Rattle.protocol.specs.Runs.{Shelf, Machines, Done, make, serve, take-reply, takenOut, doBytes, setMachine}
+use Rattle.protocol.specs.Runs.{Shelf, Machines, Done, make, serve, take-reply, resultBy, doBytes, setMachine}
 use Rattle.client.proofs.StampBytes.{key-at}
 use Rattle.drill.specs.declared.shown.Shown.{Shown}
 use Rattle.drill.specs.Steps.{drillShelf, lentTo, visited, shown}
@@ -102,7 +103,7 @@ module _ (t c b : ℕ) (w : List ℕ) (ht : t ≤ topFaults) (hc : (1 ≤ c) × 
           let f : TakesAs took w c w₁ o a = subst (λ (z : Took). TakesAs z w c w₁ o a) same-took e in
           rw (f .area) (client-put t w m ht st c hc (took .call) (took .kept) (f .marks) (f .size))
 
-      pub take-shows : takenOut a o ≡ doBytes real (drillShelf t) m (take-reply c (lentTo (drillShelf t) c) reply (replicate contentRoom 0)) .result
+      pub take-shows : resultBy (takenAnswer a) o ≡ doBytes real (drillShelf t) m (take-reply c (lentTo (drillShelf t) c) reply (replicate contentRoom 0)) .result
       unfolding doBytes setMachine took drillShelf
       take-shows =
           let f : TakesAs took w c w₁ o a = subst (λ (z : Took). TakesAs z w c w₁ o a) same-took e in
@@ -115,7 +116,7 @@ module _ (t c b : ℕ) (w : List ℕ) (ht : t ≤ topFaults) (hc : (1 ≤ c) × 
       → ServesAs (serverTake real (memoryIn w b) (replicate keySize b) p' (replicate packetRoom 0)) w b w₁ q r₂
       → q' ≡ part q 0 (r₂ .count)
       → TakesAs (takeIn t w₁ c q' (replicate contentRoom 0)) w₁ c w₂ o a
-      → (m : Machines) → Stands t w m → (Stands t w₂ (visited (drillShelf t) m c b .machines)) × (takenOut a o ≡ visited (drillShelf t) m c b .result)
+      → (m : Machines) → Stands t w m → (Stands t w₂ (visited (drillShelf t) m c b .machines)) × (resultBy (takenAnswer a) o ≡ visited (drillShelf t) m c b .result)
   unfolding visited
   visit-goes {r₁} {r₂} {p} {q} {o} {w₁} {w₂} {p'} {q'} {a} e₁ ep e₂ eq e₃ m st =
       let s = drillShelf t in
@@ -137,6 +138,6 @@ module _ (t c b : ℕ) (w : List ℕ) (ht : t ≤ topFaults) (hc : (1 ≤ c) × 
       → ServesAs (serverTake real (memoryIn w b) (replicate keySize b) p' (replicate packetRoom 0)) w b w₁ q r₂
       → q' ≡ part q 0 (r₂ .count)
       → TakesAs (takeIn t w₁ c q' (replicate contentRoom 0)) w₁ c w₂ o a
-      → x ≡ shown (takenOut a o) → DoneIn t (λ m. visited (drillShelf t) m c b) w w₂ x
+      → x ≡ shown (resultBy (takenAnswer a) o) → DoneIn t (λ m. visited (drillShelf t) m c b) w w₂ x
   visit-done e₁ ep e₂ eq e₃ ex =
       record { stands = λ m st. visit-goes e₁ ep e₂ eq e₃ m st .0; shows = λ m st. ex ∙ ap shown (visit-goes e₁ ep e₂ eq e₃ m st .1) }

@@ -10,6 +10,7 @@ use Rattle.protocol.specs.declared.Call.{Call}
 use Rattle.cluster.specs.declared.Outcome.{Outcome}
 use Rattle.protocol.specs.declared.Aborted.{Aborted}
 use Rattle.protocol.specs.declared.Taken.{Taken}
+use Rattle.protocol.specs.Answers.{takenAnswer, abortedAnswer}
 use Rattle.protocol.specs.Primitives.{real}
 use Rattle.protocol.specs.ServerBytes.{Served, Blanked}
 use Rattle.protocol.specs.View.{part, keptSize}
@@ -97,7 +98,7 @@ pub record BlanksAs (d : Blanked) (w : List ℕ) (b : ℕ) (after : List ℕ) : 
 
 -- a reply taken in the area w: its answer, the area and the output after it
 pub record TakesAs (d : Took) (w : List ℕ) (c : ℕ) (after output : List ℕ) (answer : Taken) : Type 0 where
-  pub result : answer ≡ d .answer
+  pub result : takenAnswer answer ≡ d .answer
   pub area : after ≡ putClient w c (d .call) (d .kept)
   pub written : output ≡ d .output
   pub size : length (d .kept) ≡ keptSize
@@ -105,6 +106,6 @@ pub record TakesAs (d : Took) (w : List ℕ) (c : ℕ) (after output : List ℕ)
 
 -- giving up in the area w: its answer, and the area after it
 pub record StopsAs (g : GaveUp) (w : List ℕ) (c : ℕ) (after : List ℕ) (answer : Aborted) : Type 0 where
-  pub result : answer ≡ g .answer
+  pub result : abortedAnswer answer ≡ g .answer
   pub area : after ≡ putCall w c (g .call)
   pub marks : length (g .call .tally .marks) ≡ mostServers

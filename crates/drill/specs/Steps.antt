@@ -7,12 +7,13 @@ use lib.ListN.{length, getD, replicate}
 use Rattle.cluster.specs.Config.{upTo}
 use Rattle.cluster.specs.Ranges.{within, mostServers, topWriter, topClient, keySize, packetRoom, contentRoom}
 use Rattle.cluster.specs.Refusals.{refuse, firstOf, onRefusal}
+use Rattle.protocol.specs.declared.Answer.{Answer}
 use Rattle.protocol.specs.Format.{print4}
 use Rattle.protocol.specs.Primitives.{real}
 use Rattle.protocol.specs.Rules.{upd}
-use Rattle.protocol.specs.Client.{Result, refused, more, written, gave, gaveBlank, aborted, accepted, makeRefusal}
+use Rattle.protocol.specs.Client.{Result, refused, more, accepted, makeRefusal}
 use Rattle.protocol.specs.View.{keptSize}
-use Rattle.protocol.specs.ClientBytes.{awaited}
+use Rattle.protocol.specs.ClientBytes.{told, awaited}
 use Rattle.server.specs.Blank.{blankLatest}
 use Rattle.protocol.specs.Runs.{Shelf, Lent, configOf, Machines, Done, write, read, make, take-reply, give-up, serve, doBytes, nowBytes}
 use Rattle.drill.specs.declared.sheet.Line.{Line}
@@ -99,15 +100,12 @@ module _ (s : Shelf) (w : Machines) where
 
 -- ---- what is shown
 
--- the number of the stamp with 1 and 2, length and first byte of the content with 2, else 0
+-- of an answer with its content: the result, the number of the stamp, length and first byte; 0 where there is none
+unfoldable pub shownAs : Answer → List ℕ → Shown
+shownAs a content = record { result = a .result; stamp = a .number; length = length content; first = getD content 0 0 }
+
 unfoldable pub shown : Result → Shown
-shown (refused n) = record { result = 100 + n; stamp = 0; length = 0; first = 0 }
-shown more = record { result = 0; stamp = 0; length = 0; first = 0 }
-shown (written k) = record { result = 1; stamp = k; length = 0; first = 0 }
-shown (gave k c) = record { result = 2; stamp = k; length = length c; first = getD c 0 0 }
-shown gaveBlank = record { result = 3; stamp = 0; length = 0; first = 0 }
-shown (aborted false) = record { result = 4; stamp = 0; length = 0; first = 0 }
-shown (aborted true) = record { result = 5; stamp = 0; length = 0; first = 0 }
+shown r = shownAs (told r .answer) (told r .content)
 
 -- the client's round, 0 where no client from 1 to 16 is named
 unfoldable pub roundOf : Machines → ℕ → ℕ

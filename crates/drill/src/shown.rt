@@ -1,11 +1,13 @@
-// What a row shows of a step: document 01's numbers for the answers.
+// What a row shows of a step: its answer, in document 01's numbers.
 ghost use mathlib.Core.Path.{_≡_};
+ghost use mathlib.Core.List.{[]};
 ghost use Prim.Native.Nat.{_≤_};
 ghost use lib.ListN.{length};
 ghost use Rattle.cluster.specs.Ranges.{contentRoom};
-ghost use Rattle.protocol.specs.Client.{refused, gave};
-ghost use Rattle.protocol.specs.Runs.{resultOf, takenOut, abortedOut};
-ghost use Rattle.drill.specs.Steps.{shown};
+ghost use Rattle.protocol.specs.Answers.{takenAnswer, abortedAnswer};
+ghost use Rattle.protocol.specs.Client.{refused};
+ghost use Rattle.protocol.specs.Runs.{resultOf, resultBy};
+ghost use Rattle.drill.specs.Steps.{shownAs, shown};
 
 // Result, stamp number, length, first byte.
 pub struct Shown {
@@ -15,15 +17,23 @@ pub struct Shown {
     pub first: u32,
 }
 
-fn only(result: u32) -> Shown
-    ensures { λ r. ⌜ r ≡ record { result = result; stamp = 0; length = 0; first = 0 } ⌝ }
+// An answer without a content.
+fn plain(a: protocol::Answer) -> Shown
+    ensures { λ r. ⌜ r ≡ shownAs a [] ⌝ }
 {
     Shown {
-        result,
-        stamp: 0,
+        result: a.result as u32,
+        stamp: a.number,
         length: 0,
         first: 0,
     }
+}
+
+pub(crate) fn refused(number: u8) -> Shown
+    ensures { λ r. ⌜ r ≡ shown (refused number) ⌝ }
+{
+    let a = protocol::Taken::Refused(number);
+    plain(a.answer())
 }
 
 // 0 goes on, another number is a refusal's.
@@ -31,54 +41,29 @@ pub(crate) fn begun(number: u8) -> Shown
     ensures { λ r. ⌜ r ≡ shown (resultOf number) ⌝ }
 {
     if number == 0 {
-        return only(0);
+        let a = protocol::Taken::More;
+        return plain(a.answer());
     }
-    only(100 + number as u32)
-}
-
-pub(crate) fn refused(number: u8) -> Shown
-    ensures { λ r. ⌜ r ≡ shown (refused number) ⌝ }
-{
-    only(100 + number as u32)
+    refused(number)
 }
 
 pub(crate) fn given_up(a: protocol::Aborted) -> Shown
-    ensures { λ r. ⌜ r ≡ shown (abortedOut a) ⌝ }
+    ensures { λ r. ⌜ r ≡ shown (resultBy (abortedAnswer a) []) ⌝ }
 {
-    match a {
-        protocol::Aborted::Refused(n) => refused(n),
-        protocol::Aborted::Before => only(4),
-        protocol::Aborted::InComplete => only(5),
-    }
+    plain(a.answer())
 }
 
 // A content is read from the output.
-fn content_read(number: u32, content: &[u8]) -> Shown
-    requires { ⌜ length (now content) ≤ contentRoom ⌝ }
-    ensures { λ r. ⌜ r ≡ shown (gave number (now (content .entry))) ⌝ }
+pub(crate) fn taken(t: protocol::Taken, out: &[u8]) -> Shown
+    requires { ⌜ length (now out) ≤ contentRoom ⌝ }
+    ensures { λ r. ⌜ r ≡ shown (resultBy (takenAnswer t) (now (out .entry))) ⌝ }
 {
+    let a = t.answer();
+    let content = wire::bytes::part(out, 0, a.length as usize);
     Shown {
-        result: 2,
-        stamp: number,
+        result: a.result as u32,
+        stamp: a.number,
         length: content.len() as u32,
         first: wire::bytes::byte_at(content, 0) as u32,
-    }
-}
-
-pub(crate) fn taken(a: protocol::Taken, out: &[u8]) -> Shown
-    requires { ⌜ length (now out) ≤ contentRoom ⌝ }
-    ensures { λ r. ⌜ r ≡ shown (takenOut a (now (out .entry))) ⌝ }
-{
-    match a {
-        protocol::Taken::Refused(n) => refused(n),
-        protocol::Taken::More => only(0),
-        protocol::Taken::Written(k) => Shown {
-            result: 1,
-            stamp: k,
-            length: 0,
-            first: 0,
-        },
-        protocol::Taken::Read(k, n) => content_read(k, wire::bytes::part(out, 0, n as usize)),
-        protocol::Taken::Blank => only(3),
     }
 }

@@ -1,4 +1,4 @@
--- What a step answers has room in one number: stamps' numbers go to 99,999,999, contents to 1,024 bytes, packets to 6,400, and a refusal isn't 0.
+-- What a step answers has room in one number: stamps' numbers go to 99,999,999, writers to 8, contents to 1,024 bytes, packets to 6,400, and a refusal isn't 0.
 -- By cases on the round: what a client holds is within the layout at every moment. Nothing is assumed but the primitives' lengths.
 use mathlib.Core.Path.{_≡_, refl, subst, _∙_}
 use mathlib.Core.Bool.{Bool, true}
@@ -9,11 +9,12 @@ use native.Mathlib.Omega.{arith}
 use lib.Dec.{eqb}
 use lib.ListN.{length, drop, length-append}
 use Rattle.cluster.specs.Config.{Config, shelf}
-use Rattle.cluster.specs.Ranges.{topNumber, topLength, memorySize}
+use Rattle.cluster.specs.Ranges.{topNumber, topWriter, topLength, memorySize}
 use Rattle.cluster.specs.Refusals.{onRefusal}
+use Rattle.protocol.specs.declared.Label.{Label}
 use Rattle.protocol.specs.declared.Call.{Call}
-use Rattle.protocol.specs.Format.{via, seq, number4}
-use Rattle.protocol.specs.Values.{Candidate, Held, sameList}
+use Rattle.protocol.specs.Format.{via, seq, byte, number4}
+use Rattle.protocol.specs.Values.{Candidate, Held, labelOf, sameList}
 use Rattle.protocol.specs.Packet.{Body, BodyOk, Packet, PacketOk, stampF, candidateF, heldF, decode}
 use Rattle.protocol.specs.Memory.{Memory, decodeMemory}
 use Rattle.protocol.specs.Primitives.{Primitives, Lengths}
@@ -29,11 +30,14 @@ use Rattle.protocol.proofs.Fine.{Fine}
 use Rattle.protocol.proofs.ServerLift.{body-ok}
 use Rattle.protocol.proofs.LetIn.{let-in, not-none, shelf-t}
 
+abbrev pub Short : Label → Type 0
+Short k = (k .number ≤ topNumber) × (k .writer ≤ topWriter)
+
 abbrev pub Small : Result → Type 0
 Small (refused n) = 1 ≤ n
 Small more = Unit {0}
-Small (written k) = k ≤ topNumber
-Small (gave k r) = (k ≤ topNumber) × (length r ≤ topLength)
+Small (written k) = Short k
+Small (gave k r) = Short k × (length r ≤ topLength)
 Small gaveBlank = Unit {0}
 Small (aborted b) = Unit {0}
 
@@ -42,9 +46,9 @@ by-refusal : {A : Type 0} (Q : A → Type 0) (n : ℕ) (x : A) (y : ℕ → A) �
 by-refusal Q zero x y f g = f refl
 by-refusal Q (suc n) x y f g = g n
 
-number-small : (s : Config) (d : Candidate) → candidateF s .Ok d → d .stamp .number ≤ topNumber
-unfolding candidateF stampF via seq number4
-number-small s d h = h .0 .0 .1
+label-short : (s : Config) (d : Candidate) → candidateF s .Ok d → Short (labelOf (d .stamp))
+unfolding candidateF stampF via seq number4 byte
+label-short s d h = (h .0 .0 .1, h .0 .1 .0 .1)
 
 module _ (P : Primitives) (law : Lengths P) (s : Config) (f : Fitting s) (client : ℕ) (writers : List ℕ) (keys : ByServer (List ℕ)) (cl : Client) where
   abbrev Q : Turn → Type 0
@@ -57,7 +61,7 @@ module _ (P : Primitives) (law : Lengths P) (s : Config) (f : Fitting s) (client
   judge-small m cs g (y ∷ l) none h k = tt
   judge-small m cs g (y ∷ l) (some d) h k =
       at-cond (sameList (tagsIn P s d (g (leader P s m g d (s .servers)) .share)) (d .tags)) _ _ Q
-      (λ e. (number-small s d (k d refl), content-short P law s m g h d _ f)) (λ e. tt)
+      (λ e. (label-short s d (k d refl), content-short P law s m g h d _ f)) (λ e. tt)
 
   update-small : (b : ℕ) (x : Body) (m : ByServer Bool) (full : Bool) (h : Hand) → HandOk s client h → BodyOk s x
       → Q (update P s client writers keys cl b x m full h)
@@ -66,13 +70,13 @@ module _ (P : Primitives) (law : Lengths P) (s : Config) (f : Fitting s) (client
   update-small b x m full (clocking r n a) h k = at-cond full _ _ Q (λ e. tt) (λ e. tt)
   update-small b x m full (storing d g) h k =
       at-cond (eqb (codeIn x) 11) _ _ Q (λ e. tt) (λ e. at-cond full _ _ Q (λ e. tt) (λ e. tt))
-  update-small b x m full (completing d) h k = at-cond full _ _ Q (λ e. number-small s d h) (λ e. tt)
+  update-small b x m full (completing d) h k = at-cond full _ _ Q (λ e. label-short s d h) (λ e. tt)
   update-small b x m full (collecting g) h k = at-cond full _ _ Q (λ e. tt) (λ e. tt)
   update-small b x m full (filtering cs g) h k =
       let g' = upd-ok (heldF s .Ok) g b (heldIn x) (h .1) (held-in s x k) in
       at-cond full _ _ Q
       (λ e. judge-small m cs (upd g b (heldIn x)) _ _ g' (choice-ok P law s m (upd g b (heldIn x)) g' cs (h .0 .0))) (λ e. tt)
-  update-small b x m full (repairing d r) h k = at-cond full _ _ Q (λ e. (number-small s d (h .0), h .1)) (λ e. tt)
+  update-small b x m full (repairing d r) h k = at-cond full _ _ Q (λ e. (label-short s d (h .0), h .1)) (λ e. tt)
 
 pub abort-small : (s : Config) (c : ℕ) (cl : Client) → Small (abortStep s c cl .result)
 unfolding abortStep

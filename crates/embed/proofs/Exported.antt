@@ -22,7 +22,7 @@ use Rattle.protocol.specs.ServerBytes.{over, serverTake}
 use Rattle.protocol.specs.Client.{Client, Result, abortStep, takeStep}
 use Rattle.protocol.specs.View.{view}
 use Rattle.protocol.specs.ClientBytes.{Machine, told, Begun, keyOf, beginWrite, beginRead, giveUp, clientMake, clientTake, tookBy}
-use Rattle.protocol.specs.Runs.{Shelf, configOf, Step, write, read, make, take-reply, give-up, serve, resultOf, takenOut, abortedOut, sentOf, Machines, Done, setMachine, doBytes, Fed}
+use Rattle.protocol.specs.Runs.{Shelf, configOf, Step, write, read, make, take-reply, give-up, serve, resultOf, resultBy, sentOf, Machines, Done, setMachine, doBytes, Fed}
 use Rattle.protocol.proofs.ValueRuns.{World, After, doValues}
 use Rattle.protocol.proofs.Primitive.{real-lengths}
 use Rattle.protocol.proofs.Bodies.{decode-ok}
@@ -32,12 +32,12 @@ use Rattle.protocol.proofs.ClientLift.{Sound}
 use Rattle.protocol.proofs.Fine.{Fine}
 use Rattle.protocol.proofs.RunLift.{Matches, Agrees}
 use Rattle.wire.proofs.Runs.{padded-length}
-use Rattle.embed.specs.Packing.{countIn}
-use Rattle.embed.specs.Clients.{clientSize, stateWith, Session, sized, sizedWith, sizedFor, begunIn, stoppedIn, abortedOf, takenOf, tookIn, Taking, Posted, madeOut, keysSize, keysIn, writeIn, readIn, giveUpIn, makeIn, takeIn}
+use Rattle.embed.specs.Packing.{countIn, packedAnswer}
+use Rattle.embed.specs.Clients.{clientSize, stateWith, Session, sized, sizedWith, sizedFor, begunIn, stoppedIn, tookIn, Taking, Posted, madeOut, keysSize, keysIn, writeIn, readIn, giveUpIn, makeIn, takeIn}
 use Rattle.embed.specs.Servers.{Exchange, keySized, servedOut, takeBy}
 use Rattle.embed.specs.Exports.{passedKey, passedKeys, KeysSized, Devices, said, setState, doExport}
 use Rattle.embed.proofs.Bounded.{take-small, abort-small, served-room, make-room}
-use Rattle.embed.proofs.Unpacked.{count-back, said-number, said-aborted, said-taken}
+use Rattle.embed.proofs.Unpacked.{count-back, said-number, said-answer}
 use Rattle.embed.proofs.PassedKeys.{passed-size, own-key, keys-read}
 use Rattle.embed.proofs.Stands.{Stands, Same, client-same, memory-same, at-self}
 
@@ -122,17 +122,17 @@ module _ (sh : Shelf) (tr : (1 ≤ sh .t) × (sh .t ≤ topFaults)) (keyed : Key
         (λ i. begunIn (w .state c) (beginRead (sh .t) c (st .call c i) (st .kept c i)))
 
     stop-same : (c : ℕ) → let g = giveUp (sh .t) c (m .client c .call) in
-        giveUpIn (w .state c) (sh .t) c ≡ record { answer = abortedOf (g .answer); state = stateWith (w .state c) (g .call) (m .client c .kept) }
+        giveUpIn (w .state c) (sh .t) c ≡ record { answer = packedAnswer (g .answer); state = stateWith (w .state c) (g .call) (m .client c .kept) }
     unfolding giveUpIn sized stoppedIn
     stop-same c = rw (eq-eqb (length (w .state c)) clientSize (st .size c))
         (λ i. let g = giveUp (sh .t) c (st .call c i) in
-        record { answer = abortedOf (g .answer); state = stateWith (w .state c) (g .call) (st .kept c i) })
+        record { answer = packedAnswer (g .answer); state = stateWith (w .state c) (g .call) (st .kept c i) })
 
-    stopped-said : (c : ℕ) → let g = giveUp (sh .t) c (m .client c .call) in said (abortedOf (g .answer)) [] ≡ abortedOut (g .answer)
+    stopped-said : (c : ℕ) → let g = giveUp (sh .t) c (m .client c .call) in said (packedAnswer (g .answer)) [] ≡ resultBy (g .answer) []
     unfolding giveUp
     stopped-said c =
         let cl : Client = view s (m .client c .call) [] in
-        said-aborted (abortStep s c cl .result) [] (abort-small s c cl)
+        said-answer (abortStep s c cl .result) [] (abort-small s c cl)
 
     make-same : (c b : ℕ) (o : List ℕ) → makeIn (w .state c) (sh .t) c b o ≡ madeOut (clientMake (sh .t) c b (m .client c .call) (m .client c .kept) o)
     unfolding makeIn sized
@@ -149,12 +149,12 @@ module _ (sh : Shelf) (tr : (1 ≤ sh .t) × (sh .t ≤ topFaults)) (keyed : Key
 
     taken-said : (c : ℕ) (writers : List ℕ) (ks : List (List ℕ)) (p o : List ℕ)
         → let d = clientTake real (sh .t) c writers ks (m .client c .call) (m .client c .kept) p o in
-        said (takenOf (d .answer)) (d .output) ≡ takenOut (d .answer) (d .output)
+        said (packedAnswer (d .answer)) (d .output) ≡ resultBy (d .answer) (d .output)
     unfolding clientTake tookBy
     taken-said c writers ks p o =
         let cl : Client = view s (m .client c .call) (m .client c .kept) in
         let r : Result = takeStep real s c writers (keyOf ks) cl (decode p) (length o) .result in
-        said-taken r (over (told r .content) o)
+        said-answer r (over (told r .content) o)
         (take-small real real-lengths (sh .t) (shelf-fits (sh .t) (tr .0) (tr .1)) c writers (keyOf ks) cl (fine-here c) (decode p)
         (λ q e. decode-ok p q e) (length o))
 

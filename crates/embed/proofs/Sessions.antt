@@ -13,6 +13,7 @@ use Rattle.cluster.specs.Ranges.{keySize, mostServers}
 use Rattle.cluster.specs.declared.Outcome.{Outcome}
 use Rattle.protocol.specs.declared.Call.{Call}
 use Rattle.protocol.specs.Values.{nonceSize}
+use Rattle.protocol.specs.Answers.{takenAnswer, abortedAnswer}
 use Rattle.protocol.specs.Primitives.{real}
 use Rattle.protocol.specs.View.{part, keptSize}
 use Rattle.protocol.specs.ClientBytes.{Begun, put, Took, beginWrite, beginRead, giveUp, clientMake, clientTake}
@@ -25,8 +26,8 @@ use Rattle.client.specs.declared.answers.Answered.{Answered}
 use Rattle.client.specs.Answers.{started, stopped, answered}
 use Rattle.client.specs.Core.{coreWrite, coreRead, coreMake, coreTake}
 use Rattle.cluster.specs.Refusals.{wrongSize}
-use Rattle.embed.specs.Packing.{packed}
-use Rattle.embed.specs.Clients.{clientSize, keptOf, stateWith, sized, sizedWith, begunIn, stoppedIn, abortedOf, writeIn, readIn, giveUpIn, Posted, madeOut, makeIn, takenOf, Taking, keysSize, keysIn, sizedFor, tookIn, takeIn}
+use Rattle.embed.specs.Packing.{packed, packedAnswer}
+use Rattle.embed.specs.Clients.{clientSize, keptOf, stateWith, sized, sizedWith, begunIn, stoppedIn, writeIn, readIn, giveUpIn, Posted, madeOut, makeIn, Taking, keysSize, keysIn, sizedFor, tookIn, takeIn}
 
 module _ (d : List ℕ) (size : length d ≡ clientSize) where
   -- what is lent is the kept bytes
@@ -99,11 +100,11 @@ module _ (d : List ℕ) (size : length d ≡ clientSize) where
   unfolding coreTake
   core-take t client writers keys packet out = rw lent (rw (eq-eqb (length (keptOf d)) keptSize kept-size))
 
-  pub taken-in : (b : Took) (r : Answered) (k after o : List ℕ) (x : ℕ) → r ≡ answered b → k ≡ b .kept → o ≡ b .output
-      → after ≡ callBytes (r .call) ++ drop stateSize (putMid keptPlace (length d - keptPlace) d k) → x ≡ takenOf (r .taken)
+  pub taken-in : (b : Took) (r : Answered) (k after o : List ℕ) (x : ℕ) → answered r k o ≡ b
+      → after ≡ callBytes (r .call) ++ drop stateSize (putMid keptPlace (length d - keptPlace) d k) → x ≡ packedAnswer (takenAnswer (r .taken))
       → record { answer = x; state = after; output = o } ≡ tookIn d b
   unfolding tookIn
-  taken-in b r k after o x e f g p q = rw (q, p, put-back k (r .call), e, f, g) refl
+  taken-in b r k after o x e p q = rw (q, p, put-back k (r .call)) (ap (tookIn d) e)
 
 -- ---- the exports, test by test
 
@@ -185,7 +186,8 @@ module _ (d : List ℕ) (t client : ℕ) (size : length d ≡ clientSize) where
       ap (λ (z : List ℕ). callBytes c ++ z) (sym (take-append-drop (keptPlace - stateSize) rest) ∙ ap
       (λ (z : List ℕ). take (keptPlace - stateSize) rest ++ z) (drop-drop (keptPlace - stateSize) stateSize d))
 
-  pub give-up-done : (x : Call) (s : Stopped) (r : ℕ) (after : List ℕ) → x ≡ callAt d → s ≡ stopped (giveUp t client x)
-      → after ≡ callBytes (s .call) ++ drop stateSize d → r ≡ abortedOf (s .taken) → record { answer = r; state = after } ≡ giveUpIn d t client
+  pub give-up-done : (x : Call) (s : Stopped) (r : ℕ) (after : List ℕ) → x ≡ callAt d → stopped s ≡ giveUp t client x
+      → after ≡ callBytes (s .call) ++ drop stateSize d → r ≡ packedAnswer (abortedAnswer (s .taken)) → record { answer = r; state = after } ≡ giveUpIn d t client
   unfolding giveUpIn sized stoppedIn
-  give-up-done x s r after c e p q = rw (eq-eqb (length d) clientSize size, q, p, stays (s .call), e, c) refl
+  give-up-done x s r after c e p q =
+      rw (eq-eqb (length d) clientSize size, q, p, stays (s .call)) (ap (stoppedIn d) (e ∙ ap (giveUp t client) c))

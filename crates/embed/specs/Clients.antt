@@ -9,16 +9,12 @@ use Rattle.cluster.specs.Config.{upTo}
 use Rattle.cluster.specs.Ranges.{keySize, mostServers}
 use Rattle.cluster.specs.Refusals.{wrongSize, refuse, firstOf, onRefusal}
 use Rattle.protocol.specs.declared.Call.{Call}
-use Rattle.protocol.specs.declared.Aborted.{Aborted}
-use Rattle.protocol.specs.declared.Aborted.the-variants as aborts
 use Rattle.protocol.specs.Values.{nonceSize}
 use Rattle.protocol.specs.View.{part, keptSize}
-use Rattle.protocol.specs.declared.Taken.{Taken}
-use Rattle.protocol.specs.declared.Taken.the-variants as taken
 use Rattle.protocol.specs.Primitives.{real}
 use Rattle.protocol.specs.ClientBytes.{Begun, GaveUp, Written, Took, beginWrite, beginRead, giveUp, clientMake, clientTake}
 use Rattle.state.specs.State.{stateSize, keptPlace, callAt, callBytes}
-use Rattle.embed.specs.Packing.{packed}
+use Rattle.embed.specs.Packing.{packed, packedAnswer}
 use Rattle.embed.specs.Coding.{outcomeOf}
 
 -- the bytes between the small state and the kept bytes are not looked at
@@ -58,14 +54,8 @@ writeIn d t client content nonce =
 unfoldable pub readIn : List ℕ → ℕ → ℕ → Session
 readIn d t client = let n = sized d in onRefusal n (begunIn d (beginRead t client (callAt d) (keptOf d))) (unsized n d)
 
--- giving up: the refusal, or the result that a drill shows
-unfoldable pub abortedOf : Aborted → ℕ
-abortedOf (aborts.Refused n) = packed n 0 0 0
-abortedOf aborts.Before = packed 0 4 0 0
-abortedOf aborts.InComplete = packed 0 5 0 0
-
 unfoldable pub stoppedIn : List ℕ → GaveUp → Session
-stoppedIn d g = record { answer = abortedOf (g .answer); state = stateWith d (g .call) (keptOf d) }
+stoppedIn d g = record { answer = packedAnswer (g .answer); state = stateWith d (g .call) (keptOf d) }
 
 unfoldable pub giveUpIn : List ℕ → ℕ → ℕ → Session
 giveUpIn d t client = let n = sized d in onRefusal n (stoppedIn d (giveUp t client (callAt d))) (unsized n d)
@@ -84,14 +74,7 @@ makeIn d t client server out =
     let n = sized d in
     onRefusal n (madeOut (clientMake t client server (callAt d) (keptOf d) out)) (record { answer = packed n 0 0 0; output = out })
 
--- ---- taking a packet: the result, the stamp's number and the content's length, as a drill shows them
-
-unfoldable pub takenOf : Taken → ℕ
-takenOf (taken.Refused n) = packed n 0 0 0
-takenOf taken.More = packed 0 0 0 0
-takenOf (taken.Written k) = packed 0 1 k 0
-takenOf (taken.Read k n) = packed 0 2 k n
-takenOf taken.Blank = packed 0 3 0 0
+-- ---- taking a packet
 
 pub record Taking : Type 0 where
   pub answer : ℕ
@@ -114,7 +97,7 @@ sizedFor d writers keys =
     ∷ [])
 
 unfoldable pub tookIn : List ℕ → Took → Taking
-tookIn d k = record { answer = takenOf (k .answer); state = stateWith d (k .call) (k .kept); output = k .output }
+tookIn d k = record { answer = packedAnswer (k .answer); state = stateWith d (k .call) (k .kept); output = k .output }
 
 unfoldable pub takeIn : List ℕ → ℕ → ℕ → List ℕ → List ℕ → List ℕ → List ℕ → Taking
 takeIn d t client writers keys packet out =

@@ -1,38 +1,30 @@
 -- Runs through the exported functions: a list of protocol's steps, newest first, each done by the definition that the C function's contract cites, on
 -- clients' states of 24,640 bytes and servers' memories. The answers are read as include/cendrulas.h says.
-use mathlib.Core.Bool.{true, false, cond}
+use mathlib.Core.Bool.{true, cond}
 use mathlib.Core.List.{List, [], _∷_, _++_, map}
 use mathlib.Core.Path.{_≡_}
 use Prim.Native.Nat.{ℕ}
-use lib.Dec.{eqb}
 use lib.ListN.{length, take, replicate}
 use Rattle.cluster.specs.Config.{upTo}
 use Rattle.cluster.specs.Ranges.{within, keySize, mostServers, memorySize}
-use Rattle.cluster.specs.Refusals.{onRefusal}
 use Rattle.protocol.specs.Memory.{decodeMemory}
 use Rattle.protocol.specs.Rules.{upd}
 use Rattle.protocol.specs.Server.{blankServer}
 use Rattle.protocol.specs.ServerBytes.{blankStep}
-use Rattle.protocol.specs.Client.{Result, refused, more, written, gave, gaveBlank, aborted}
+use Rattle.protocol.specs.Client.{Result}
 use Rattle.protocol.specs.View.{view}
 use Rattle.protocol.specs.ClientBytes.{keyOf}
-use Rattle.protocol.specs.Runs.{Shelf, configOf, Step, write, read, make, take-reply, give-up, serve, StepOn, steps, Account, serverOr}
+use Rattle.protocol.specs.Runs.{Shelf, configOf, Step, write, read, make, take-reply, give-up, serve, resultBy, StepOn, steps, Account, serverOr}
 use Rattle.wire.specs.Places.{padded}
 use Rattle.state.specs.State.{callAt}
-use Rattle.embed.specs.Packing.{refusalIn, resultIn, numberIn, countIn}
+use Rattle.embed.specs.Packing.{countIn, answerIn}
 use Rattle.embed.specs.Clients.{clientSize, keptOf, writeIn, readIn, giveUpIn, makeIn, takeIn}
 use Rattle.embed.specs.Servers.{takeBy}
 
 -- ---- what an answer says, with the output as the call left it
 
-abbrev pub resultBy : ℕ → ℕ → List ℕ → Result
-resultBy n stamp content =
-    cond (eqb n 0) more
-    (cond (eqb n 1) (written stamp) (cond (eqb n 2) (gave stamp content) (cond (eqb n 3) gaveBlank (cond (eqb n 4) (aborted false) (aborted true)))))
-
 unfoldable pub said : ℕ → List ℕ → Result
-said answer output =
-    let n = refusalIn answer in onRefusal n (resultBy (resultIn answer) (numberIn answer) (take (countIn answer) output)) (refused n)
+said answer output = resultBy (answerIn answer) output
 
 -- ---- the keys, as they are passed
 

@@ -3,12 +3,14 @@ use super::pack::array;
 use super::pack::pack;
 ghost use mathlib.Core.Path.{_≡_};
 ghost use mathlib.Core.List.{_++_};
+ghost use Prim.Native.Nat.{_≤_, _+_};
 ghost use lib.ListN.{length, drop};
+ghost use Rattle.protocol.specs.Answers.{refusals};
 ghost use Rattle.protocol.specs.Primitives.{real};
 ghost use Rattle.protocol.specs.ClientBytes.{beginWrite, beginRead, clientMake, clientTake};
 ghost use Rattle.state.specs.State.{stateSize, callAt, callBytes};
-ghost use Rattle.embed.specs.Packing.{packed};
-ghost use Rattle.embed.specs.Clients.{clientSize, keptOf, stateWith, writeIn, readIn, giveUpIn, abortedOf, madeOut, makeIn, takenOf, tookIn, takeIn};
+ghost use Rattle.embed.specs.Packing.{packed, packedAnswer};
+ghost use Rattle.embed.specs.Clients.{clientSize, keptOf, stateWith, writeIn, readIn, giveUpIn, madeOut, makeIn, tookIn, takeIn};
 
 // The bytes of a whole state.
 const CLIENT: usize = state::KEPT_PLACE + wire::kept::KEPT;
@@ -96,15 +98,21 @@ pub extern "C" fn cendrulas_client_begin_read(state: &mut [u8], t: usize, client
     outcome(begun)
 }
 
-// What giving up answers, in one number.
-fn aborted(a: protocol::Aborted) -> u64
-    ensures { λ r. ⌜ r ≡ abortedOf a ⌝ }
+// An answer in one number.
+fn pack_answer(a: protocol::Answer) -> u64
+    requires { ⌜ a .result ≤ refusals + 255 ⌝ }
+    ensures { λ r. ⌜ r ≡ packedAnswer a ⌝ }
 {
-    match a {
-        protocol::Aborted::Refused(n) => pack(n, 0, 0, 0),
-        protocol::Aborted::Before => pack(0, 4, 0, 0),
-        protocol::Aborted::InComplete => pack(0, 5, 0, 0),
+    let result = a.result;
+    if protocol::REFUSALS <= result {
+        return pack((result - protocol::REFUSALS) as u8, 0, 0, 0);
     }
+    pack(
+        0,
+        16 * (a.writer % 16) + (result % 16) as u8,
+        a.number,
+        a.length,
+    )
 }
 
 #[no_mangle]
@@ -117,8 +125,8 @@ pub extern "C" fn cendrulas_client_give_up(state: &mut [u8], t: usize, client: u
     let call = state::read(state);
     let stopped = client::begin::give_up_in(call, t, client);
     put_call(state, stopped.call);
-    let taken = stopped.taken;
-    aborted(taken)
+    let a = stopped.taken;
+    pack_answer(a.answer())
 }
 
 // The packet of the pending round, in a state of its size.
@@ -156,19 +164,6 @@ pub extern "C" fn cendrulas_client_make(
     make_packet(state, t, client, server, out)
 }
 
-// What a taken packet answers, in one number.
-fn taken(a: protocol::Taken) -> u64
-    ensures { λ r. ⌜ r ≡ takenOf a ⌝ }
-{
-    match a {
-        protocol::Taken::Refused(n) => pack(n, 0, 0, 0),
-        protocol::Taken::More => pack(0, 0, 0, 0),
-        protocol::Taken::Written(k) => pack(0, 1, k, 0),
-        protocol::Taken::Read(k, n) => pack(0, 2, k, n),
-        protocol::Taken::Blank => pack(0, 3, 0, 0),
-    }
-}
-
 // A packet is taken in a state of its size.
 fn take_packet(
     state: &mut [u8],
@@ -197,7 +192,7 @@ fn take_packet(
     );
     put_call(state, s.call);
     let a = s.taken;
-    taken(a)
+    pack_answer(a.answer())
 }
 
 #[no_mangle]

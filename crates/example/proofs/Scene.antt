@@ -18,6 +18,7 @@ use Rattle.gf256.specs.Gf.{xtime, timesBits, times, power, inverse, product}
 use Rattle.gf256.specs.Bytes.{bytes}
 use Rattle.gf256.specs.Poly.{eval, vanish, through}
 use Rattle.protocol.specs.declared.Stamp.{Stamp}
+use Rattle.protocol.specs.declared.Label.{Label}
 use Rattle.protocol.specs.Values.{Candidate, Share, Write, sameList, sameStamp, sameCandidate, nth, runOf, blankCandidate, isBlank, below}
 use Rattle.protocol.specs.Memory.{held}
 use Rattle.protocol.specs.Primitives.{stampMessage, candidateMessage}
@@ -57,6 +58,10 @@ differs a b h = untrue (sameList a b) (λ e. h (same-true a b e))
 -- the nonce twice
 unfoldable pub content1 : List ℕ
 content1 = replicate 64 42
+
+-- number and writer of its stamp
+abbrev pub label1 : Label
+label1 = record { number = 1; writer = 1 }
 
 unfoldable pub content2 : List ℕ
 content2 = 5 ∷ 6 ∷ []

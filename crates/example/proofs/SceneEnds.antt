@@ -28,7 +28,7 @@ use Rattle.example.proofs.Printed.{packet-bytes}
 use Rattle.example.proofs.ServeSteps.{makes-it, takes-it, contentBuffer}
 use Rattle.example.proofs.CallSteps.{reads-it, play-read, refused-does, play-refused}
 use Rattle.example.proofs.Talks.{exchanged, play-exchange, lie, lied, lie-ok, play-lie}
-use Rattle.example.proofs.Scene.{content1, pieces, cand, share, spoilt, holding, blankOne, by-history, by-tag, valid-held, best-held}
+use Rattle.example.proofs.Scene.{content1, label1, pieces, cand, share, spoilt, holding, blankOne, by-history, by-tag, valid-held, best-held}
 use Rattle.example.proofs.Scene.{best-tagged}
 use Rattle.example.proofs.SceneRead.{knows, sifted, marked, heard, choice-is, leader-is, parts-are}
 use Rattle.example.proofs.SceneWrites.{one, oneTwo, goes, ends, w0, w1, w2, w3, w4, w5, w6, w7, w8, w9, w10}
@@ -84,7 +84,7 @@ module _ (H : Hashing) where
   x24 = exchanged H (w23 H) 9 2 others (holding H 2) repairReply (goes 0 oneTwo (repairs H)) (reads H .repair-2) x23
 
   unfoldable pub x25 : Run (s H)
-  x25 = exchanged H (w24 H) 9 3 others (holding H 3) repairReply (ends 0 (gave 1 content1)) (reads H .repair-3) x24
+  x25 = exchanged H (w24 H) 9 3 others (holding H 3) repairReply (ends 0 (gave label1 content1)) (reads H .repair-3) x24
 
   -- ---- what servers judge, and which tags check
 

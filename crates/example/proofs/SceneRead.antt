@@ -14,7 +14,7 @@ use Rattle.cluster.specs.Config.{shelf, quorum}
 use Rattle.cluster.specs.Ranges.{within}
 use Rattle.erasure.specs.Fragments.{Part, fragment, restored}
 use Rattle.protocol.specs.Format.{Bytes}
-use Rattle.protocol.specs.Values.{Candidate, Held, sameList, sameStamp, sameCandidate, nth, digestSize, blankCandidate, noHeld, isBlank, below}
+use Rattle.protocol.specs.Values.{labelOf, Candidate, Held, sameList, sameStamp, sameCandidate, nth, digestSize, blankCandidate, noHeld, isBlank, below}
 use Rattle.protocol.specs.Primitives.{real}
 use Rattle.protocol.specs.Rules.{ByServer, upd, nobody, countTo, any, keep, first, gather, lower, live, fits, sameShare, agrees, leads, leader}
 use Rattle.protocol.specs.Rules.{highest, choice, proven, parts, restoredBy}
@@ -202,7 +202,7 @@ module _ (H : Hashing) where
   judged-is cl =
       (λ i. judge (functions H) (s H .config) 9 (s H .writers) (s H .keys) cl marked sifted heard (live-is i) (choice-is i))
       ∙ ap (found (functions H) (s H .config) 9 (s H .writers) (s H .keys) cl marked heard (spoilt H)) leader-is
-      ∙ (λ i. cond (tags-differ H i) (record { client = onto cl nobody idle; result = gave (spoilt H .stamp .number) (restored-is i) })
+      ∙ (λ i. cond (tags-differ H i) (record { client = onto cl nobody idle; result = gave (labelOf (spoilt H .stamp)) (restored-is i) })
       (record {
         client = onto cl nobody (repairing (record { stamp = spoilt H .stamp; nonce = spoilt H .nonce; tags = cand H .tags })
             (restored-is i));

@@ -27,7 +27,7 @@ use Rattle.example.proofs.ServeSteps.{Owned, served}
 use Rattle.example.proofs.TakeSteps.{took}
 use Rattle.example.proofs.CallSteps.{began, left}
 use Rattle.example.proofs.Talks.{Talk, talk-of, Lie, lie-of}
-use Rattle.example.proofs.Scene.{content1, content2, pieces, cand, share, stored, spoilt, holding, blankOne, stamp-checks, held-own}
+use Rattle.example.proofs.Scene.{content1, label1, content2, pieces, cand, share, stored, spoilt, holding, blankOne, stamp-checks, held-own}
 use Rattle.example.proofs.Scene.{best-held, best-tagged, valid-held}
 use Rattle.example.proofs.SceneRead.{gathered, knows, judged-is, sifted}
 use Rattle.example.proofs.SceneBytes.{stamp-bytes, cand-bytes, share-bytes, spoilt-bytes, spoilt-ok}
@@ -103,7 +103,7 @@ module _ (H : Hashing) where
   w24 = took H (served H w23 2 (holding H 2)) 9 (goes 0 oneTwo repairs)
 
   unfoldable pub w25 : World
-  w25 = took H (served H w24 3 (holding H 3)) 9 (ends 0 (gave 1 content1))
+  w25 = took H (served H w24 3 (holding H 3)) 9 (ends 0 (gave label1 content1))
 
   -- ---- what servers do
 
@@ -155,7 +155,7 @@ module _ (H : Hashing) where
     pub filter-4 : Talk H w21 9 4 others told (filterReply (record { stamp = cand H .stamp; share = none })) (goes 0 nobody repairs)
     pub repair-1 : Lie H w22 9 others repairReply (goes 0 one repairs)
     pub repair-2 : Talk H w23 9 2 others (holding H 2) repairReply (goes 0 oneTwo repairs)
-    pub repair-3 : Talk H w24 9 3 others (holding H 3) repairReply (ends 0 (gave 1 content1))
+    pub repair-3 : Talk H w24 9 3 others (holding H 3) repairReply (ends 0 (gave label1 content1))
 
   pub reads : Reads
   unfolding w0 w1 w2 w3 w4 w5 w6 w7 w8 w9 w10 w11 w12 w13 w14 w15 w16 w17 w18 w19 w20 w21 w22 w23 w24 upd nobody begun shelf quorum awaits isIdle made

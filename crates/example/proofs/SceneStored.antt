@@ -28,7 +28,7 @@ use Rattle.example.proofs.Printed.{bytes-of, bytes-ok}
 use Rattle.example.proofs.ServeSteps.{makes-it, sent-ok, made-sent, packetBuffer}
 use Rattle.example.proofs.CallSteps.{writing, play-write}
 use Rattle.example.proofs.Talks.{exchanged, play-exchange, lied, play-lie}
-use Rattle.example.proofs.Scene.{content1, pieces, cand, highStamp, high-unchecked, holding, blankOne}
+use Rattle.example.proofs.Scene.{content1, label1, pieces, cand, highStamp, high-unchecked, holding, blankOne}
 use Rattle.example.proofs.SceneWrites.{ours, one, oneTwo, goes, ends, clocks, stores, completes, keeping, w0, w1, w2, w3, w4, w5, w6, w7}
 use Rattle.example.proofs.SceneWrites.{w8, w9, w10, writes}
 
@@ -79,7 +79,7 @@ module _ (H : Hashing) where
   x9 = exchanged H (w8 H) 1 2 ours (holding H 2) completeReply (goes 1 oneTwo (completes H)) (writes H .complete-2) x8
 
   unfoldable pub x10 : Run (s H)
-  x10 = exchanged H (w9 H) 1 3 ours (holding H 3) completeReply (ends 1 (written 1)) (writes H .complete-3) x9
+  x10 = exchanged H (w9 H) 1 3 ours (holding H 3) completeReply (ends 1 (written label1)) (writes H .complete-3) x9
 
   -- ---- it meets the premises
 

@@ -24,7 +24,7 @@ use Rattle.example.proofs.ServeSteps.{served}
 use Rattle.example.proofs.TakeSteps.{took}
 use Rattle.example.proofs.CallSteps.{began}
 use Rattle.example.proofs.Talks.{Talk, talk-of, Lie, lie-of}
-use Rattle.example.proofs.Scene.{content1, pieces, cand, share, stored, highStamp, high-unchecked, holding, blankOne}
+use Rattle.example.proofs.Scene.{content1, label1, pieces, cand, share, stored, highStamp, high-unchecked, holding, blankOne}
 use Rattle.example.proofs.SceneBytes.{stamp-bytes, cand-bytes, share-bytes, high-bytes, high-ok}
 use Rattle.example.proofs.Printed.{StampBytes, bytes-ok}
 
@@ -100,7 +100,7 @@ module _ (H : Hashing) where
   w9 = took H (served H w8 2 (holding H 2)) 1 (goes 1 oneTwo completes)
 
   unfoldable pub w10 : World
-  w10 = took H (served H w9 3 (holding H 3)) 1 (ends 1 (written 1))
+  w10 = took H (served H w9 3 (holding H 3)) 1 (ends 1 (written label1))
 
   -- the exchanges of its rounds. The liar's clock reply has a high number, whose tag does not check
   pub record Writes : Type 0 where
@@ -112,7 +112,7 @@ module _ (H : Hashing) where
     pub store-3 : Talk H w6 1 3 ours (keeping 3) (storeReply 0) (goes 1 nobody completes)
     pub complete-1 : Lie H w7 1 ours completeReply (goes 1 one completes)
     pub complete-2 : Talk H w8 1 2 ours (holding H 2) completeReply (goes 1 oneTwo completes)
-    pub complete-3 : Talk H w9 1 3 ours (holding H 3) completeReply (ends 1 (written 1))
+    pub complete-3 : Talk H w9 1 3 ours (holding H 3) completeReply (ends 1 (written label1))
 
   pub writes : Writes
   unfolding w0 w1 w2 w3 w4 w5 w6 w7 w8 w9 upd nobody begun shelf quorum awaits isIdle

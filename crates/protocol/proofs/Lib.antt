@@ -35,6 +35,7 @@ pub mod Counts
 pub mod Noted
 pub mod WriteSeen
 pub mod ReadSeen
+pub mod Told
 pub mod TakeSeen
 pub mod StepLift
 pub mod ValueRuns

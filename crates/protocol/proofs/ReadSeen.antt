@@ -10,7 +10,7 @@ use lib.ListN.{length, set, replicate}
 use Rattle.cluster.specs.Config.{Config}
 use Rattle.cluster.specs.Ranges.{mostServers, topLength}
 use Rattle.protocol.specs.declared.Call.{Call}
-use Rattle.protocol.specs.Values.{Candidate, Held, sameList}
+use Rattle.protocol.specs.Values.{Candidate, Held, labelOf, sameList}
 use Rattle.protocol.specs.Packet.{Body, candidateF}
 use Rattle.protocol.specs.Primitives.{Primitives, Lengths}
 use Rattle.protocol.specs.Rules.{ByServer, countTo, upd, nobody, gather, live, choice, leader, restoredBy, tagsIn}
@@ -104,10 +104,10 @@ module _ (P : Primitives) (law : Lengths P) (client : ℕ) (writers : List ℕ) 
     where
       go : (y : Bool) (tags content : List ℕ) → CandidateLengths s (record { stamp = d .stamp; nonce = d .nonce; tags = tags }) → length content ≤ topLength
           → Take 5 k
-          (cond y (record { client = onto (view s (C 5) kept) nobody idle; result = gave (d .stamp .number) content })
+          (cond y (record { client = onto (view s (C 5) kept) nobody idle; result = gave (labelOf (d .stamp)) content })
           (record { client = onto (view s (C 5) kept) nobody (repairing (record { stamp = d .stamp; nonce = d .nonce; tags = tags }) content); result = more }))
       go true tags content z l =
-          record { result = ap (gave (d .stamp .number)) (over-start content output); client = unfold view onto in ended }
+          record { result = ap (gave (labelOf (d .stamp))) (over-start content output); client = unfold view onto in ended }
       go false tags content z l =
           let (w, e) = repair-kept (record { stamp = d .stamp; nonce = d .nonce; tags = tags }) content z l in
           record { result = refl; client = fresh-seen a (c .last) (c .high) (length content) 6 _ w _ (unfold handOf in e) }
@@ -147,7 +147,7 @@ module _ (P : Primitives) (law : Lengths P) (client : ℕ) (writers : List ℕ) 
   unfolding update view handOf onto tookBy after putBack begins awaits contentOf
   repair-turn true =
       record {
-        result = ap (gave (chosenOf s kept .stamp .number)) (over-start (contentOf (C 6) kept) output);
+        result = ap (gave (labelOf (chosenOf s kept .stamp))) (over-start (contentOf (C 6) kept) output);
         client = fresh-seen a (c .last) (c .high) (c .length) 0 kept (a .sound .size) _ (unfold handOf in refl);
       }
   repair-turn false = record { result = refl; client = noted-seen a (c .high) 6 kept (a .sound .size) _ (unfold handOf contentOf in refl) }

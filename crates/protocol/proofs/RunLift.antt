@@ -20,7 +20,7 @@ use Rattle.protocol.specs.ServerBytes.{Served, serverTake}
 use Rattle.protocol.specs.Client.{Client, Turn, Result, idle, newClient, writeStep, readStep, abortStep, takeStep, makeStep}
 use Rattle.protocol.specs.View.{handOf, view, keptSize}
 use Rattle.protocol.specs.ClientBytes.{fresh, keyOf, clientMake, clientTake}
-use Rattle.protocol.specs.Runs.{Shelf, configOf, Step, write, read, make, take-reply, give-up, serve, resultOf, takenOut, sentOf, Machine, Machines, Done, newCall, setMachine, doBytes, nowBytes, Fed}
+use Rattle.protocol.specs.Runs.{Shelf, configOf, Step, write, read, make, take-reply, give-up, serve, resultOf, resultBy, sentOf, Machine, Machines, Done, newCall, setMachine, doBytes, nowBytes, Fed}
 use Rattle.protocol.proofs.ValueRuns.{World, After, setClient, doValues, nowValues}
 use Rattle.protocol.proofs.LentKeys.{take-lent}
 use Rattle.protocol.proofs.Answers.{no-some}
@@ -150,7 +150,7 @@ module _ (P : Primitives) (law : Lengths P) (sh : Shelf) (tr : (1 ≤ sh .t) × 
     step-agrees (take-reply c lent reply output) f =
         let d = clientTake P (sh .t) c (lent .writers) (lent .keys) (w .client c .call) (w .client c .kept) reply output in
         at-client c (λ y. takeStep P s c (sh .writers) keys y (decode reply) (length output)) _ _
-        (subst (λ (u : Turn). Good s c u (record { call = d .call; kept = d .kept }) (takenOut (d .answer) (d .output)))
+        (subst (λ (u : Turn). Good s c u (record { call = d .call; kept = d .kept }) (resultBy (d .answer) (d .output)))
         (take-lent P s c (sh .writers) keys lent _ (decode reply) (length output) (here c) (f .1))
         (take-good (sh .t) c (w .client c .call) (w .client c .kept) tr fits (sound c) (here c) P law (lent .writers) (lent .keys) reply output))
     step-agrees (give-up c) f = at-client c (abortStep s c) _ _ (abort-good (sh .t) c (w .client c .call) (w .client c .kept) tr fits (sound c)

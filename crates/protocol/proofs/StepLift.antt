@@ -19,8 +19,9 @@ use Rattle.protocol.specs.Rules.{countTo, nobody}
 use Rattle.protocol.specs.Client.{Client, Turn, Result, idle, clocking, collecting, refused, more, aborted, awaits, isIdle, onto, begun, writeRefusal, readRefusal, makeRefusal, abortRefusal, badFaults, badClient, ofWrite, writeStep, readStep, abortStep, makeStep, Made, takeStep, made}
 use Rattle.protocol.specs.View.{view}
 use Rattle.protocol.specs.ClientBytes.{fresh, inHand, keyOf, Machine, sentOf, putMarks, begins, putBack, told, after, begunBy, beginWrite, beginRead, giveUp, clientMake, clientTake}
-use Rattle.protocol.specs.Runs.{resultOf, takenOut, abortedOut}
+use Rattle.protocol.specs.Runs.{resultOf, resultBy}
 use Rattle.protocol.proofs.Answers.{no-some}
+use Rattle.protocol.proofs.Told.{refused-back}
 use Rattle.protocol.proofs.Bodies.{decode-ok}
 use Rattle.protocol.proofs.Room.{Fitting}
 use Rattle.protocol.proofs.ServerLift.{over-start}
@@ -111,13 +112,13 @@ module _ (t c : ℕ) (call : Call) (kept : List ℕ) (tr : (1 ≤ t) × (t ≤ t
       → let u = onRefusal {A = Turn} k (record { client = onto (view s call []) nobody idle; result = aborted b })
       (record { client = view s call []; result = refused k }) in
       let v = onRefusal {A = Turn} k (record { client = onto cl nobody idle; result = aborted b }) (record { client = cl; result = refused k }) in
-      Lifted s (v .client) (after s call [] [] u .call) kept × (abortedOut (told (u .result) .aborted) ≡ v .result)
+      Lifted s (v .client) (after s call [] [] u .call) kept × (resultBy (told (u .result) .answer) [] ≡ v .result)
   unfolding after
   abort-as zero true = (abort-put, refl)
   abort-as zero false = (abort-put, refl)
-  abort-as (suc k) b = (unchanged, refl)
+  abort-as (suc k) b = (unchanged, refused-back (suc k) [])
 
-  pub abort-good : let d = giveUp t c call in Good s c (abortStep s c cl) (record { call = d .call; kept = kept }) (abortedOut (d .answer))
+  pub abort-good : let d = giveUp t c call in Good s c (abortStep s c cl) (record { call = d .call; kept = kept }) (resultBy (d .answer) [])
   unfolding abortStep giveUp isIdle
   abort-good =
       let x = abort-as (abortRefusal s c (awaits (cl .hand))) (eqb (awaits (cl .hand)) 6) in
@@ -128,7 +129,7 @@ module _ (t c : ℕ) (call : Call) (kept : List ℕ) (tr : (1 ≤ t) × (t ≤ t
   pub take-good : (P : Primitives) → Lengths P → (writers : List ℕ) (keys : List (List ℕ)) (reply output : List ℕ)
       → let d = clientTake P t c writers keys call kept reply output in
       Good s c (takeStep P s c writers (keyOf keys) cl (decode reply) (length output)) (record { call = d .call; kept = d .kept })
-      (takenOut (d .answer) (d .output))
+      (resultBy (d .answer) (d .output))
   unfolding clientTake
   take-good P law writers keys reply output =
       let x = take-seen P law t c writers (keyOf keys) call kept output sound (decode reply) (λ p e. decode-ok reply p e) in

@@ -2,7 +2,7 @@
 -- Round by round; a refused reply leaves every byte. Nothing is assumed but the primitives' lengths.
 use mathlib.Core.Path.{_≡_, refl, sym, _∙_, subst}
 use mathlib.Core.Bool.{Bool, true}
-use mathlib.Core.List.{List}
+use mathlib.Core.List.{List, []}
 use mathlib.Core.Option.{Option, none, some}
 use Prim.Native.Nat.{ℕ, zero, suc, _*_}
 use lib.Dec.{T}
@@ -15,8 +15,10 @@ use Rattle.protocol.specs.Packet.{Body, Packet, PacketOk}
 use Rattle.protocol.specs.Primitives.{Primitives, Lengths}
 use Rattle.protocol.specs.Rules.{ByServer}
 use Rattle.protocol.specs.Client.{Client, Turn, refused, awaits, isFull, update, takeRefusal, turnOn, highAt, takeStep}
+use Rattle.protocol.specs.ServerBytes.{over}
 use Rattle.protocol.specs.View.{marked, handOf, view}
 use Rattle.protocol.specs.ClientBytes.{putReply, after, tookBy}
+use Rattle.protocol.proofs.Told.{refused-back}
 use Rattle.protocol.proofs.ClientLift.{Sound, out-of-rounds, awaits-is}
 use Rattle.protocol.proofs.LetIn.{let-in, not-none}
 use Rattle.protocol.proofs.Noted.{Reply, inRound, withMark, keptWith, reply-of, round-of}
@@ -63,7 +65,7 @@ module _ (P : Primitives) (law : Lengths P) (t client : ℕ) (writers : List ℕ
 
   settle : (o : Option Packet) → ((p : Packet) → o ≡ some p → PacketOk p) → (n : ℕ) → code o ≡ n
       → Taken o (onRefusal n (turnOn P s client writers keys cl o) (record { client = cl; result = refused n }))
-  settle o ok (suc n) e = unfold tookBy after in record { result = refl; client = record { seen = refl; sound = h } }
+  settle o ok (suc n) e = unfold tookBy after in record { result = refused-back (suc n) (over [] output); client = record { seen = refl; sound = h } }
   settle (some p) ok zero e = accepted-turn p (ok p refl) e
   settle none ok zero e = absurd (not-none s client (cl .calls) (awaits (cl .hand)) (cl .marks) _ (length output) e)
 

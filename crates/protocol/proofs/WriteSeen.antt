@@ -17,7 +17,7 @@ use Rattle.protocol.specs.Rules.{ByServer, nobody}
 use Rattle.protocol.specs.Client.{Turn, more, storing, completing, awaits, onto, update, prepared, codeIn, candidateMade, sharesMade, shareMade}
 use Rattle.protocol.specs.View.{part, chosenOf, sharesIn, contentOf, nonceOf, candidateAt, handOf, view, keptSize, chosenAt, candidateSlot}
 use Rattle.protocol.specs.ClientBytes.{Took, put, putShares, begins, putBack, after, tookBy}
-use Rattle.protocol.specs.Runs.{takenOut}
+use Rattle.protocol.specs.Runs.{resultBy}
 use Rattle.protocol.proofs.Packets.{CandidateLengths, candidate-length}
 use Rattle.protocol.proofs.Room.{Fitting}
 use Rattle.protocol.proofs.Puts.{put-length}
@@ -31,7 +31,7 @@ use Rattle.protocol.proofs.Noted.{Reply, inRound, withMark, fresh-seen,
 
 -- what a taken reply leaves, by the turn on values; a content is read from the output buffer
 pub record Turned (s : Config) (u : Turn) (d : Took) : Type 0 where
-  pub result : takenOut (d .answer) (d .output) ≡ u .result
+  pub result : resultBy (d .answer) (d .output) ≡ u .result
   pub client : Lifted s (u .client) (d .call) (d .kept)
 
 -- a candidate at its place

@@ -9,7 +9,7 @@ use Rattle.cluster.specs.Config.{Config, quorum}
 use Rattle.cluster.specs.Ranges.{within, topFaults, topWriter, topClient, topNumber, leastLength, topLength, packetRoom, contentRoom}
 use Rattle.cluster.specs.Refusals.{refuse, firstOf, onRefusal}
 use Rattle.protocol.specs.declared.Stamp.{Stamp}
-use Rattle.protocol.specs.Values.{Candidate, Held, sameList, isBlank, blankCandidate, noHeld, isSome, ofSome}
+use Rattle.protocol.specs.Values.{Candidate, Held, sameList, isBlank, labelOf, blankCandidate, noHeld, isSome, ofSome}
 use Rattle.protocol.specs.Packet.{Body, Packet, kindOf}
 use Rattle.protocol.specs.Primitives.{Primitives, stampMessage}
 use Rattle.protocol.specs.Rules.{ByServer, upd, nobody, countTo, gather, live, choice, leader, restoredBy, tagsIn}
@@ -39,7 +39,7 @@ module _ (P : Primitives) (s : Config) (client : ℕ) (writers : List ℕ) (keys
   found cl m g c b =
       let content = restoredBy P s m g c b (g b .share) in
       let tags = tagsIn P s c (g b .share) in
-      cond (sameList tags (c .tags)) (record { client = onto cl nobody idle; result = gave (c .stamp .number) content })
+      cond (sameList tags (c .tags)) (record { client = onto cl nobody idle; result = gave (labelOf (c .stamp)) content })
       (record { client = onto cl nobody (repairing (record { stamp = c .stamp; nonce = c .nonce; tags = tags }) content); result = more })
 
   -- lines 142 to 146, of those still in the list and of the choice
@@ -63,7 +63,7 @@ module _ (P : Primitives) (s : Config) (client : ℕ) (writers : List ℕ) (keys
       (cond full (record { client = onto cl nobody (completing c); result = more }) (record { client = onto cl m (storing c h); result = more }))
   -- line 108
   update cl b x m full (completing c) =
-      cond full (record { client = onto cl nobody idle; result = written (c .stamp .number) }) (record { client = onto cl m (completing c); result = more })
+      cond full (record { client = onto cl nobody idle; result = written (labelOf (c .stamp)) }) (record { client = onto cl m (completing c); result = more })
   -- lines 148 to 150. Amended: filter is sent even when the list is empty
   update cl b x m full (collecting g) =
       let g' = upd g b (candidateIn s x) in
@@ -75,7 +75,7 @@ module _ (P : Primitives) (s : Config) (client : ℕ) (writers : List ℕ) (keys
       cond full (judge cl m cs g' (live P s m g' cs) (choice P s m g' cs)) (record { client = onto cl m (filtering cs g'); result = more })
   -- line 159
   update cl b x m full (repairing c r) =
-      cond full (record { client = onto cl nobody idle; result = gave (c .stamp .number) r }) (record { client = onto cl m (repairing c r); result = more })
+      cond full (record { client = onto cl nobody idle; result = gave (labelOf (c .stamp)) r }) (record { client = onto cl m (repairing c r); result = more })
 
 -- the stamp number would pass its top at the reply that would end clock
 unfoldable pub tooHigh : Primitives → List ℕ → Body → Bool → Hand → Bool

@@ -11,10 +11,9 @@ use Rattle.cluster.specs.Ranges.{within, mostServers}
 use Rattle.cluster.specs.Refusals.{onRefusal}
 use Rattle.protocol.specs.declared.Call.{Call}
 use Rattle.protocol.specs.declared.Tally.{Tally}
+use Rattle.protocol.specs.declared.Answer.{Answer}
 use Rattle.cluster.specs.declared.Outcome.{Outcome}
-use Rattle.protocol.specs.declared.Taken.{Taken}
 use Rattle.protocol.specs.declared.Taken.the-variants as taken
-use Rattle.protocol.specs.declared.Aborted.{Aborted}
 use Rattle.protocol.specs.declared.Aborted.the-variants as aborts
 use Rattle.protocol.specs.Values.{Share}
 use Rattle.protocol.specs.Packet.{Packet, kindOf, decode, encode, candidateF, anyCandidateF, shareF, heldF}
@@ -22,6 +21,7 @@ use Rattle.protocol.specs.Primitives.{Primitives}
 use Rattle.protocol.specs.Rules.{ByServer, countTo}
 use Rattle.protocol.specs.Client.{Client, Hand, idle, clocking, storing, completing, collecting, filtering, repairing, Result, refused, more, written, gave, gaveBlank, aborted, Turn, awaits, candidateIn, heldIn, writeStep, readStep, abortStep, makeStep, takeStep}
 use Rattle.protocol.specs.ServerBytes.{over}
+use Rattle.protocol.specs.Answers.{takenAnswer, abortedAnswer}
 use Rattle.protocol.specs.View.{view, nonceAt, chosenAt, candidateSlot, candidatesAt, repliesAt, replySlot}
 
 -- ---- what the operations give
@@ -32,7 +32,7 @@ pub record Begun : Type 0 where
   pub kept : List ℕ
 
 pub record GaveUp : Type 0 where
-  pub answer : Aborted
+  pub answer : Answer
   pub call : Call
 
 pub record Written : Type 0 where
@@ -40,7 +40,7 @@ pub record Written : Type 0 where
   pub output : List ℕ
 
 pub record Took : Type 0 where
-  pub answer : Taken
+  pub answer : Answer
   pub call : Call
   pub kept : List ℕ
   pub output : List ℕ
@@ -130,20 +130,19 @@ putBack s c kept cl =
 
 -- ---- results as the code tells them
 
--- the number of a refusal or 0, what a taken reply and giving up answer, and the content delivered; each operation reads its own
+-- the number of a refusal or 0, the answer, and the content delivered
 pub record Told : Type 0 where
   pub number : ℕ
-  pub taken : Taken
-  pub aborted : Aborted
+  pub answer : Answer
   pub content : List ℕ
 
 abbrev pub told : Result → Told
-told (refused n) = record { number = n; taken = taken.Refused n; aborted = aborts.Refused n; content = [] }
-told more = record { number = 0; taken = taken.More; aborted = aborts.Before; content = [] }
-told (written n) = record { number = 0; taken = taken.Written n; aborted = aborts.Before; content = [] }
-told (gave n r) = record { number = 0; taken = taken.Read n (length r); aborted = aborts.Before; content = r }
-told gaveBlank = record { number = 0; taken = taken.Blank; aborted = aborts.Before; content = [] }
-told (aborted b) = record { number = 0; taken = taken.More; aborted = cond b aborts.InComplete aborts.Before; content = [] }
+told (refused n) = record { number = n; answer = takenAnswer (taken.Refused n); content = [] }
+told more = record { number = 0; answer = takenAnswer taken.More; content = [] }
+told (written k) = record { number = 0; answer = takenAnswer (taken.Written (k .number) (k .writer)); content = [] }
+told (gave k r) = record { number = 0; answer = takenAnswer (taken.Read (k .number) (k .writer) (length r)); content = r }
+told gaveBlank = record { number = 0; answer = takenAnswer taken.Blank; content = [] }
+told (aborted b) = record { number = 0; answer = abortedAnswer (cond b aborts.InComplete aborts.Before); content = [] }
 
 -- ---- the operations
 
@@ -164,7 +163,7 @@ beginRead t client c kept = begunBy (shelf t) c kept (readStep (shelf t) client 
 -- the kept bytes have no part in it
 unfoldable pub giveUp : ℕ → ℕ → Call → GaveUp
 giveUp t client c =
-    let u = abortStep (shelf t) client (view (shelf t) c []) in record { answer = told (u .result) .aborted; call = after (shelf t) c [] [] u .call }
+    let u = abortStep (shelf t) client (view (shelf t) c []) in record { answer = told (u .result) .answer; call = after (shelf t) c [] [] u .call }
 
 abbrev pub sentOf : Option Packet → List ℕ
 sentOf none = []
@@ -178,7 +177,7 @@ clientMake t client b c kept output =
 unfoldable pub tookBy : Config → Call → List ℕ → List ℕ → List ℕ → Turn → Took
 tookBy s c kept k output u =
     let m = after s c kept k u in
-    record { answer = told (u .result) .taken; call = m .call; kept = m .kept; output = over (told (u .result) .content) output }
+    record { answer = told (u .result) .answer; call = m .call; kept = m .kept; output = over (told (u .result) .content) output }
 
 unfoldable pub clientTake : Primitives → ℕ → ℕ → List ℕ → List (List ℕ) → Call → List ℕ → List ℕ → List ℕ → Took
 clientTake P t client writers keys c kept reply output =

@@ -7,6 +7,7 @@ pub mod Server
 pub mod ServerBytes
 pub mod Rules
 pub mod Pending
+pub mod Answers
 pub mod Client
 pub mod View
 pub mod ClientBytes

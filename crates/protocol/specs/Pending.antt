@@ -8,6 +8,7 @@ use lib.ListN.{length}
 use Rattle.cluster.specs.Config.{Config}
 use Rattle.cluster.specs.Ranges.{within}
 use Rattle.protocol.specs.declared.Stamp.{Stamp}
+use Rattle.protocol.specs.declared.Label.{Label}
 use Rattle.protocol.specs.Values.{Candidate, Share, Held, runOf, blankStamp, blankCandidate, noHeld, noShare}
 use Rattle.protocol.specs.Packet.{Body, Packet, kindOf}
 use Rattle.protocol.specs.Packet.{clock, clockReply, store, storeReply, complete, completeReply, collect, collectReply, filter, filterReply, repair, repairReply}
@@ -70,10 +71,10 @@ isReading h = leb 8 (awaits h)
 pub data Result : Type 0 where
   refused : ℕ → Result
   more : Result
-  -- the stamp's number
-  written : ℕ → Result
-  -- the stamp's number, and the content
-  gave : ℕ → List ℕ → Result
+  -- the stamp's number and writer
+  written : Label → Result
+  -- those of the stamp read, and the content
+  gave : Label → List ℕ → Result
   gaveBlank : Result
   -- given up, and whether in the complete round
   aborted : Bool → Result
@@ -82,8 +83,8 @@ pub data Result : Type 0 where
 abbrev pub accepted : Result → Bool
 accepted (refused n) = false
 accepted more = true
-accepted (written n) = true
-accepted (gave n c) = true
+accepted (written k) = true
+accepted (gave k r) = true
 accepted gaveBlank = true
 accepted (aborted b) = true
 

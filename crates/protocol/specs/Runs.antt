@@ -4,16 +4,13 @@ use mathlib.Core.Bool.{Bool, true, false, cond}
 use mathlib.Core.List.{List, [], _∷_}
 use mathlib.Core.Option.{Option, none, some}
 use mathlib.Core.Path.{_≡_}
-use Prim.Native.Nat.{ℕ, zero, suc}
-use lib.Dec.{eqb}
+use Prim.Native.Nat.{ℕ, zero, suc, _-_}
+use lib.Dec.{leb, eqb}
 use lib.ListN.{length, take}
 use Rattle.cluster.specs.Config.{Config, shelf}
 use Rattle.cluster.specs.Ranges.{within, topWriter}
 use Rattle.protocol.specs.declared.Call.{Call}
-use Rattle.protocol.specs.declared.Taken.{Taken}
-use Rattle.protocol.specs.declared.Taken.the-variants as taken
-use Rattle.protocol.specs.declared.Aborted.{Aborted}
-use Rattle.protocol.specs.declared.Aborted.the-variants as aborts
+use Rattle.protocol.specs.declared.Answer.{Answer}
 use Rattle.protocol.specs.Format.{Bytes}
 use Rattle.protocol.specs.Values.{nonceSize}
 use Rattle.protocol.specs.Memory.{Memory, decodeMemory, encodeMemory, blankMemory}
@@ -22,6 +19,7 @@ use Rattle.protocol.specs.Rules.{ByServer, upd}
 use Rattle.protocol.specs.Server.{Server, blankServer}
 use Rattle.protocol.specs.ServerBytes.{serverIn, serverTake}
 use Rattle.protocol.specs.Client.{Client, Result, refused, more, written, gave, gaveBlank, aborted}
+use Rattle.protocol.specs.Answers.{refusals, labelIn}
 use Rattle.protocol.specs.View.{view}
 use Rattle.protocol.specs.ClientBytes.{fresh, keyOf, beginWrite, beginRead, giveUp, clientTake, clientMake}
 pub use Rattle.protocol.specs.ClientBytes.{Machine, sentOf}
@@ -84,18 +82,13 @@ resultOf (suc n) = refused (suc n)
 
 -- ---- on bytes
 
--- what a taken reply gave: a content is read from the output buffer
-abbrev pub takenOut : Taken → List ℕ → Result
-takenOut (taken.Refused n) o = refused n
-takenOut taken.More o = more
-takenOut (taken.Written k) o = written k
-takenOut (taken.Read k n) o = gave k (take n o)
-takenOut taken.Blank o = gaveBlank
-
-abbrev pub abortedOut : Aborted → Result
-abortedOut (aborts.Refused n) = refused n
-abortedOut aborts.Before = aborted false
-abortedOut aborts.InComplete = aborted true
+-- what an answer of a client says, by its number: a content is read from the output buffer
+abbrev pub resultBy : Answer → List ℕ → Result
+resultBy a output =
+    let n = a .result in
+    cond (leb refusals n) (refused (n - refusals))
+    (cond (eqb n 0) more (cond (eqb n 1) (written (labelIn a)) (cond (eqb n 2) (gave (labelIn a) (take (a .length) output))
+    (cond (eqb n 3) gaveBlank (aborted (eqb n 5))))))
 
 pub record Machines : Type 0 where
   pub client : ℕ → Machine
@@ -129,10 +122,10 @@ module _ (P : Primitives) (s : Shelf) where
       record { machines = w; result = resultOf (d .result .number); sent = take (d .result .count) (d .output) }
   doBytes w (take-reply c lent reply output) =
       let m = w .client c in let d = clientTake P (s .t) c (lent .writers) (lent .keys) (m .call) (m .kept) reply output in
-      setMachine w c (record { call = d .call; kept = d .kept }) (takenOut (d .answer) (d .output))
+      setMachine w c (record { call = d .call; kept = d .kept }) (resultBy (d .answer) (d .output))
   doBytes w (give-up c) =
       let m = w .client c in let d = giveUp (s .t) c (m .call) in
-      setMachine w c (record { call = d .call; kept = m .kept }) (abortedOut (d .answer))
+      setMachine w c (record { call = d .call; kept = m .kept }) (resultBy (d .answer) [])
   doBytes w (serve b packet output) =
       let d = serverTake P (w .memory b) (keyOf (s .keys) b) packet output in
       record {

@@ -9,6 +9,7 @@ use Rattle.cluster.specs.Config.{Config}
 use Rattle.cluster.specs.Ranges.{keySize}
 use Rattle.hmac.specs.Hmac.{tagSize}
 use Rattle.protocol.specs.declared.Stamp.{Stamp}
+use Rattle.protocol.specs.declared.Label.{Label}
 
 -- ---- lengths (document 01, "Digest, tag, fragment"): bytes of a digest and of a nonce; of a stamp; of S digests and of S tags; of a candidate
 
@@ -70,6 +71,10 @@ rank a = rankBy (a .number) (a .writer)
 -- equality is of all three
 unfoldable pub sameStamp : Stamp → Stamp → Bool
 sameStamp a b = eqb (a .number) (b .number) && (eqb (a .writer) (b .writer) && sameList (a .tag) (b .tag))
+
+-- number and writer: what is told of a stamp
+abbrev pub labelOf : Stamp → Label
+labelOf a = record { number = a .number; writer = a .writer }
 
 -- ---- candidates: a stamp, a nonce and S tags
 

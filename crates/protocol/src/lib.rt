@@ -1,6 +1,8 @@
 // The protocol's definitions stand in specs/, their laws in proofs/. The structs here are the values that definitions and code share.
 ghost use mathlib.Core.Path.{_≡_};
+ghost use Prim.Native.Nat.{_≤_, _+_};
 ghost use Rattle.protocol.specs.Values.{blankStamp, sameList, sameStamp, rankBy, below};
+ghost use Rattle.protocol.specs.Answers.{refusals, bare, takenAnswer, abortedAnswer};
 
 // Whether two tags are the same.
 fn same_tag(a: [u8; hmac::TAG], b: [u8; hmac::TAG]) -> bool
@@ -83,6 +85,12 @@ impl Stamp {
     }
 }
 
+// A stamp without its tag: what tells two writes of right writers apart.
+pub struct Label {
+    pub number: u32,
+    pub writer: u8,
+}
+
 // A packet's head. Document 01 says box for server.
 pub struct Head {
     pub kind: u8,
@@ -109,13 +117,60 @@ pub struct Call {
     pub tally: Tally,
 }
 
-// What a taken reply gives: a refusal, nothing yet, the number of the stamp written, that of the stamp read with the content's length, or blank.
+// An answer in document 01's numbers: a result; number and writer of a stamp with 1 and 2, the length of a content with 2, else 0.
+pub struct Answer {
+    pub result: u16,
+    pub number: u32,
+    pub writer: u8,
+    pub length: u16,
+}
+
+// Results above it tell a refusal.
+pub const REFUSALS: u16 = 100;
+
+fn bare(result: u16) -> Answer
+    ensures { λ r. ⌜ r ≡ bare result ⌝ }
+{
+    Answer {
+        result,
+        number: 0,
+        writer: 0,
+        length: 0,
+    }
+}
+
+// What a taken reply gives: a refusal, nothing yet, number and writer of the stamp written, those of the stamp read with the content's length,
+// or blank.
 pub enum Taken {
     Refused(u8),
     More,
-    Written(u32),
-    Read(u32, u16),
+    Written(u32, u8),
+    Read(u32, u8, u16),
     Blank,
+}
+
+impl Taken {
+    pub fn answer(self) -> Answer
+        ensures { λ r. ⌜ (r ≡ takenAnswer self) × (r .result ≤ refusals + 255) ⌝ }
+    {
+        match self {
+            Taken::Refused(n) => bare(REFUSALS + n as u16),
+            Taken::More => bare(0),
+            Taken::Written(k, w) => Answer {
+                result: 1,
+                number: k,
+                writer: w,
+                length: 0,
+            },
+            Taken::Read(k, w, n) => Answer {
+                result: 2,
+                number: k,
+                writer: w,
+                length: n,
+            },
+            Taken::Blank => bare(3),
+        }
+    }
 }
 
 // What giving up answers: a refusal, or whether the complete round had begun.
@@ -123,4 +178,16 @@ pub enum Aborted {
     Refused(u8),
     Before,
     InComplete,
+}
+
+impl Aborted {
+    pub fn answer(self) -> Answer
+        ensures { λ r. ⌜ (r ≡ abortedAnswer self) × (r .result ≤ refusals + 255) ⌝ }
+    {
+        match self {
+            Aborted::Refused(n) => bare(REFUSALS + n as u16),
+            Aborted::Before => bare(4),
+            Aborted::InComplete => bare(5),
+        }
+    }
 }

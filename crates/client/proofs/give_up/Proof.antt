@@ -93,7 +93,7 @@ module _ {M : Type 1} (𝓤 : URA M) (H : Heap 𝓤) (A : Atoms 𝓤) (W : Given
 
   -- what the callee ensures, at the result r and the last lists
   abbrev φ : Stopped → Type 0
-  φ r = r ≡ stopped (giveUp t client h)
+  φ r = stopped r ≡ giveUp t client h
 
   goes : Is T.the-row h (LL.vals T.the-type T′.the-laws h) → ent 𝓤 (sep 𝓤 (sem 𝓤 H A ftrue) (sem 𝓤 H A others)) (Callee 𝓤 H A at-mem run .pre to-callee)
   goes is =
@@ -108,7 +108,7 @@ module _ {M : Type 1} (𝓤 : URA M) (H : Heap 𝓤) (A : Atoms 𝓤) (W : Given
   exits r e is =
       qed W (‵ (fobs γ (T.the-row .coded .code (r .call))) ∷ ‵ (fbor κ (Body (mem T.the-row) b o γ)) ∷ ‵ (flft κ q) ∷ ‵ ftrue ∷ []) ∵
       suffices ! _ (ends-at 𝓤 H A self.ended stayed (self.clauses 𝓤 H A at-mem run) W (((κ, tt), (q, tt), tt, a, vals), tt) (taken-val r) (r .taken) (r .call, (tt, (tt, tt))) (tt, (tt, (tt, tt)))) $
-      says ! (ap (λ (m : Stopped). m .taken) e, ap (λ (m : Stopped). m .call) e) $ move ! (2 ∷ 3 ∷ []) $ join ! $ frame ! $
+      says ! e $ move ! (2 ∷ 3 ∷ []) $ join ! $ frame ! $
       feqI ! (List Val) (vptr b o ∷ []) (vptr b o ∷ []) refl $ fjoin3 ! $ nothing ! $ nothing ! $ fjoin ! $ nothing ! $ fjoin ! $ move ! (1 ∷ 0 ∷ []) $ fjoin ! $
       owned ! K.the-row (Is K.the-row) (EL.makes K.the-type K′.the-plain 𝓤 H A) (r .taken) _ is $ move ! (1 ∷ 0 ∷ []) $ done !
 

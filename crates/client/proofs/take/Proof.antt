@@ -96,7 +96,7 @@ module _ {M : Type 1} (𝓤 : URA M) (H : Heap 𝓤) (A : Atoms 𝓤) (W : Given
 
   -- what the callee ensures, at the result r and the last lists
   abbrev φ : Answered → List ℕ → List ℕ → Type 0
-  φ r kept′ out′ = (r ≡ answered (clientTake real t client (writers .now) (keys .now) h (kept .now) (reply .now) (out .now))) × ((kept′ ≡ clientTake real t client (writers .now) (keys .now) h (kept .now) (reply .now) (out .now) .kept) × (out′ ≡ clientTake real t client (writers .now) (keys .now) h (kept .now) (reply .now) (out .now) .output))
+  φ r kept′ out′ = answered r kept′ out′ ≡ clientTake real t client (writers .now) (keys .now) h (kept .now) (reply .now) (out .now)
 
   goes : Is T.the-row h (LL.vals T.the-type T′.the-laws h) → ent 𝓤 (sep 𝓤 (sep 𝓤 (A .lft κ₁ q₁) (sep 𝓤 (A .lft κ₂ q₂) (sep 𝓤 (A .lft κ₃ q₃) (sep 𝓤 (A .lft κ₄ q₄) (sep 𝓤 (A .lft κ₅ q₅) (sem 𝓤 H A ftrue)))))) (sem 𝓤 H A others)) (Callee 𝓤 H A at-mem run .pre to-callee)
   goes is =
@@ -111,7 +111,7 @@ module _ {M : Type 1} (𝓤 : URA M) (H : Heap 𝓤) (A : Atoms 𝓤) (W : Given
   exits r kept′ out′ e out-len is =
       qed W (‵ (fobs γ (T.the-row .coded .code (r .call))) ∷ ‵ (fbor κ (Body (mem T.the-row) b o γ)) ∷ ‵ (flft κ q) ∷ (‵ (flft κ₁ q₁) ⊛ ‵ (flft κ₂ q₂) ⊛ ‵ (flft κ₃ q₃) ⊛ ‵ (flft κ₄ q₄) ⊛ ‵ (flft κ₅ q₅) ⊛ ‵ ftrue) ∷ ‵ (finally u8 (out .name) out′) ∷ ‵ (fres (kept .name) (Array u8 tt 24576 .coded .code kept′)) ∷ []) ∵
       suffices ! _ (ends-at 𝓤 H A self.ended stayed (self.clauses 𝓤 H A at-mem run) W (((κ, (κ₁, (κ₂, (κ₃, (κ₄, (κ₅, tt)))))), (q, (q₁, (q₂, (q₃, (q₄, (q₅, tt)))))), tt, a, vals), tt) (taken-val r) (r .taken) (r .call, (kept′, (tt, (tt, (tt, (tt, (tt, (out′, tt)))))))) (tt, (tt, (tt, (tt, (tt, (tt, (tt, (out-len, tt))))))))) $
-      says ! (ap (λ (m : Answered). m .taken) (e .0), (ap (λ (m : Answered). m .call) (e .0), e .1)) $ move ! (2 ∷ 3 ∷ []) $ join ! $ frame ! $
+      says ! e $ move ! (2 ∷ 3 ∷ []) $ join ! $ frame ! $
       feqI ! (List Val) (vptr b o ∷ []) (vptr b o ∷ []) refl $ fjoin3 ! $ nothing ! $ move ! (2 ∷ 0 ∷ []) $ fjoin ! $ nothing ! $ fjoin ! $ nothing ! $ fjoin ! $ nothing ! $ fjoin ! $ nothing ! $ fjoin ! $ nothing ! $ fjoin ! $ move ! (2 ∷ 0 ∷ []) $ fjoin ! $ move ! (1 ∷ 0 ∷ []) $ fjoin ! $
       owned ! K.the-row (Is K.the-row) (EL.makes K.the-type K′.the-plain 𝓤 H A) (r .taken) _ is $ move ! (1 ∷ 0 ∷ []) $ done !
 

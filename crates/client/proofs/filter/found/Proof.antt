@@ -11,7 +11,7 @@ returns c =
     let e = sym (c .before .before .before .before .before .before .before .same-tags .ensures) ∙
     c .before .before .before .before .before .before .if1 .taken in
     let d = c .before .before .deliver .ensures in
-    rw (e, d .0, d .1, c .before .before .before .before .number-in .ensures)
+    rw (e, d .0, d .1, c .before .before .before .before .label-in .ensures)
 
 returns-2 : tie.Need-returns-2
 unfolding foundAt

@@ -25,7 +25,7 @@ returns c =
     let e = ended (q .before .before) _ (q .before .if1 .taken) in
     let d = c .before .before .deliver .ensures in
     let k = c .before .before .before .before .content .ensures .0 in
-    (rw (e, d .0, k, q .chosen-number .ensures), rw e (rw k at (d .1)))
+    (rw (e, d .0, k, q .chosen-label .ensures), rw e (rw k at (d .1)))
 
 returns-2 : tie.Need-returns-2
 returns-2 c =

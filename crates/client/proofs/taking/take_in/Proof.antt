@@ -18,7 +18,7 @@ returns c =
     let a = c .before .before .before .before .before .args in
     let e = take-length (a .t) (a .client) (a .writers .now) (a .keys .now) (a .call) (a .kept .now) (a .reply .now) (a .out .now)
     (c .before .if1 .taken) in
-    (rw (e, c .refused .ensures), (rw e, rw e))
+    rw (e, c .refused .ensures)
 
 returns-2 : tie.Need-returns-2
 unfolding shelf

@@ -20,7 +20,7 @@ module _ (c : tie.After-is-full) where
       (c .is-full .ensures) e
 
 returns : tie.Need-returns
-returns c = let e = ended (c .before .before .before) _ (c .before .before .if1 .taken) in rw (e, c .enter .ensures, c .before .chosen-number .ensures)
+returns c = let e = ended (c .before .before .before) _ (c .before .before .if1 .taken) in rw (e, c .enter .ensures, c .before .chosen-label .ensures)
 
 returns-2 : tie.Need-returns-2
 returns-2 c = let e = ended (c .before .before) _ (c .before .if1 .left) in rw (e, c .more .ensures, c .before .before .before .note-reply .ensures)

@@ -49,8 +49,8 @@ returns c =
     takes-as w (a .client) (s .pre .0) (s .pre .1)
     (λ x y. coreTake (a .t) (a .client) (k .before .writers-for .result) (k .keys-for .result) x y (a .reply .now) (a .out .now))
     (takeIn (a .t) w (a .client) (a .reply .now) (a .out .now)) (at .result + 24576 - at .result) (same-keys k)
-    (k .before .before .before .call-of .ensures) (at .ensures .0) (omega arith) (t .take-in .ensures .0) (t .take-in .ensures .1 .0)
-    (t .take-in .ensures .1 .1) (c .before .before .before .before .before .before .before .work .given .0) (c .before .before .put-call .ensures .0)
+    (k .before .before .before .call-of .ensures) (at .ensures .0) (omega arith) (t .take-in .ensures)
+    (c .before .before .before .before .before .before .before .work .given .0) (c .before .before .put-call .ensures .0)
     (c .before .before .put-call .ensures .1)
 
 pub take-spec : {M : Type 1} → statement M
