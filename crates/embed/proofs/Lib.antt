@@ -1,5 +1,7 @@
 pub mod Laws
 pub mod Layouts
+pub mod CodeTold
+pub mod RoundTold
 pub mod Coded
 pub mod Sessions
 pub mod Rooms

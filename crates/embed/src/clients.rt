@@ -11,7 +11,7 @@ ghost use Rattle.embed.specs.Packing.{packed};
 ghost use Rattle.embed.specs.Clients.{clientSize, keptOf, stateWith, writeIn, readIn, giveUpIn, abortedOf, madeOut, makeIn, takenOf, tookIn, takeIn};
 
 // The bytes of a whole state.
-const CLIENT: usize = state::KEPT_PLACE + wire::kept::KEPT;
+pub(crate) const CLIENT: usize = state::KEPT_PLACE + wire::kept::KEPT;
 
 // Bytes of all servers' keys.
 const KEYS: usize = cluster::KEY * cluster::MOST_SERVERS;
