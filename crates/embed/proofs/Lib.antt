@@ -4,6 +4,7 @@ pub mod CodeTold
 pub mod RoundTold
 pub mod Coded
 pub mod Sessions
+pub mod Altered
 pub mod Rooms
 pub mod Listings
 pub mod KeyRuns
