@@ -1,6 +1,6 @@
 -- Whether a packet changed a server's memory is told by two of its parts: the count of stored writes and the latest candidate's rank.
--- By the cases of `act`: a write that is kept adds one to the count, a candidate that is raised has a higher rank, and nothing else changes. A memory's
--- bytes are those of the record that it is, so that the same server has the same bytes. Assumes nothing but that the memory is bytes.
+-- By the cases of `act`: a write that is kept adds one to the count, a candidate that is raised has a higher rank, and nothing else changes.
+-- A memory's bytes are those of the record that it is, so that the same server has the same bytes. Assumes nothing.
 use mathlib.Core.Path.{_≡_, refl, sym, ap, _∙_}
 use mathlib.Core.Bool.{true, false, cond, _&&_, and-false}
 use mathlib.Core.List.{List, [], _∷_, _++_}
@@ -18,7 +18,8 @@ use Rattle.cluster.proofs.Tests.{untrue}
 use Rattle.protocol.specs.Format.{Bytes, keep, via, seq, byte, number4, orBlank, many}
 use Rattle.protocol.specs.Values.{Candidate, Write, rank, below, isSome, sameList}
 use Rattle.protocol.specs.Packet.{Packet, Body, stampF, candidateF, anyCandidateF, decode}
-use Rattle.protocol.specs.Packet.{clock, clockReply, store, storeReply, complete, completeReply, collect, collectReply, filter, filterReply, repair, repairReply}
+use Rattle.protocol.specs.Packet.{clock, clockReply, store, storeReply, complete, completeReply}
+use Rattle.protocol.specs.Packet.{collect, collectReply, filter, filterReply, repair, repairReply}
 use Rattle.protocol.specs.Memory.{Memory, memoryF, decodeMemory, encodeMemory, held}
 use Rattle.protocol.specs.Primitives.{Primitives}
 use Rattle.protocol.specs.Server.{Server, Acted, Stepped, memoryOf, raise, kept, valid, best, act, serverRefusal, answered, serverStep}

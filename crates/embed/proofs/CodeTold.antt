@@ -47,6 +47,7 @@ module _ (b : List ℕ) (h : Head) (e : decode b ≡ some (packetAt h b)) where
   unfolding codeTold packetAt
   code-other n = rw e (rw (other-kind (shelf (h .t)) (drop headSize b) (h .kind) n) refl)
 
-  pub code-store : h .kind ≡ storeReplyKind → codeTold (decode b) ≡ packed 0 1 0 (getD b headSize 0)
+  -- x: the byte after the head
+  pub code-store : h .kind ≡ storeReplyKind → (x r : ℕ) → x ≡ getD b headSize 0 → r ≡ packed 0 1 0 x → r ≡ codeTold (decode b)
   unfolding codeTold packetAt bodyAt
-  code-store k = rw (e, k) (ap (packed 0 1 0) (getD-drop headSize b 0 0))
+  code-store k x r there gives = gives ∙ rw (e, k) (ap (packed 0 1 0) (there ∙ sym (getD-drop headSize b 0 0)))

@@ -162,7 +162,8 @@ module _ (sh : Shelf) (tr : (1 ≤ sh .t) × (sh .t ≤ topFaults)) (keyed : Key
     serve-same : (b : ℕ) (p o : List ℕ) → within 1 (s .servers) b ≡ true → within 1 mostServers b ≡ true
         → takeBy (w .memory b) (keys b) p o ≡ servedOut (m .memory b) (serverTake real (m .memory b) (keys b) p o)
     unfolding takeBy keySized
-    serve-same b p o h k = rw (eq-eqb (length (keys b)) keySize (keyed .servers b k)) (λ i. servedOut (st .memory b h i) (serverTake real (st .memory b h i) (keys b) p o))
+    serve-same b p o h k = rw (eq-eqb (length (keys b)) keySize (keyed .servers b k))
+        (λ i. servedOut (st .memory b h i) (serverTake real (st .memory b h i) (keys b) p o))
 
     pub step-same : (x : Step) → Fed s (sh .writers) keys x
         → Agree (doValues real s (sh .writers) keys v (passedStep x)) (doBytes real sh m (passedStep x))

@@ -42,10 +42,11 @@ fn latest_rank(memory: &[u8]) -> u64
     wire::values::rank_at(wire::bytes::rest(memory, server::memory::LATEST))
 }
 
-// 1 where a memory has another count of stored writes than before, or another latest rank: a write that is kept adds one to the count, a candidate that
-// is raised has a higher rank, and nothing else changes a byte.
+// 1 where a memory has another count of stored writes than before, or another latest rank: a write that is kept adds one to the count,
+// a candidate that is raised has a higher rank, and nothing else changes a byte.
 fn changed(memory: &[u8], count: u8, latest: u64) -> u8
-    ensures { λ r. ⌜ r ≡ cond (eqb (getD (now (memory .entry)) countPlace 0) count && eqb (rank (stampAt (drop latestPlace (now (memory .entry))))) latest) 0 1 ⌝ }
+    ensures { λ r. ⌜ r ≡ cond (eqb (getD (now (memory .entry)) countPlace 0) count
+        && eqb (rank (stampAt (drop latestPlace (now (memory .entry))))) latest) 0 1 ⌝ }
 {
     if wire::bytes::byte_at(memory, server::store::COUNT) != count {
         return 1;

@@ -24,7 +24,9 @@ loop-holds c = (omega arith, (refl, sym (bits-none _)))
 
 -- what is added: the bit, or nothing
 added : (c : tie.After-for-mark Inv-loop μ-loop) → c .for-mark .result ≤ c .before .before .loop .bit
-added c = rw (c .for-mark .ensures) (for-le (not (eqb (getD (c .before .before .before .args .t1) (c .before .before .loop .i) 0) 0)) (c .before .before .loop .bit))
+added c =
+    let l = c .before .before .loop in
+    rw (c .for-mark .ensures) (for-le (not (eqb (getD (c .before .before .before .args .t1) (l .i) 0) 0)) (l .bit))
 
 room : (c : tie.After-for-mark Inv-loop μ-loop) → c .before .before .loop .bit ≤ 8192
 room c = let l = c .before .before .loop in rw (l .inv .1 .0) (bit-room (l .i) (l .inv .0))
@@ -42,7 +44,8 @@ loop-again : tie.Need-loop-again Inv-loop μ-loop
 loop-again c =
     let l = c .before .before .loop in
     let a = c .before .before .before .args in
-    let more = bits-more (a .t1) (l .i) (c .for-mark .result) (c .for-mark .ensures ∙ ap (λ (n : ℕ). cond (not (eqb (getD (a .t1) (l .i) 0) 0)) n 0) (l .inv .1 .0)) in
+    let more = bits-more (a .t1) (l .i) (c .for-mark .result)
+    (c .for-mark .ensures ∙ ap (λ (n : ℕ). cond (not (eqb (getD (a .t1) (l .i) 0) 0)) n 0) (l .inv .1 .0)) in
     (omega arith, (omega (arith, l .inv .1 .0, power-more (l .i)), omega (arith, l .inv .1 .1, more)))
 
 returns : tie.Need-returns Inv-loop μ-loop

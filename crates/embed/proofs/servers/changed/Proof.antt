@@ -36,7 +36,8 @@ returns-2 c =
 
 returns-3 : tie.Need-returns-3
 returns-3 c =
-    as-before _ _ _ _ _ _ (c .before .before .before .byte-at .ensures) (c .before .latest-rank .ensures) (c .before .before .if1 .left) (c .if2 .left)
+    as-before _ _ _ _ _ _ (c .before .before .before .byte-at .ensures) (c .before .latest-rank .ensures) (c .before .before .if1 .left)
+    (c .if2 .left)
 
 pub changed-spec : {M : Type 1} → statement M
 changed-spec = tie.close (tie.spec (λ c κs. search needs) returns (λ c κs. search needs) returns-2 returns-3)
