@@ -32,12 +32,13 @@ use Rattle.protocol.proofs.ClientLift.{Sound}
 use Rattle.protocol.proofs.Fine.{Fine}
 use Rattle.protocol.proofs.RunLift.{Matches, Agrees}
 use Rattle.wire.proofs.Runs.{padded-length}
-use Rattle.embed.specs.Packing.{countIn, packedAnswer}
+use Rattle.embed.specs.Packing.{refusalIn, countIn, packedAnswer}
 use Rattle.embed.specs.Clients.{clientSize, stateWith, Session, sized, sizedWith, sizedFor, begunIn, stoppedIn, tookIn, Taking, Posted, madeOut, keysSize, keysIn, writeIn, readIn, giveUpIn, makeIn, takeIn}
-use Rattle.embed.specs.Servers.{Exchange, keySized, servedOut, takeBy}
+use Rattle.embed.specs.Servers.{Exchange, keySized, changed, servedOut, takeBy}
 use Rattle.embed.specs.Exports.{passedKey, passedKeys, KeysSized, Devices, said, setState, doExport}
 use Rattle.embed.proofs.Bounded.{take-small, abort-small, served-room, make-room}
-use Rattle.embed.proofs.Unpacked.{count-back, said-number, said-answer}
+use Rattle.embed.proofs.Unpacked.{refusal-back, count-back, said-number, said-answer}
+use Rattle.embed.proofs.Altered.{changed-small}
 use Rattle.embed.proofs.PassedKeys.{passed-size, own-key, keys-read}
 use Rattle.embed.proofs.Stands.{Stands, Same, client-same, memory-same, at-self}
 
@@ -159,9 +160,10 @@ module _ (sh : Shelf) (tr : (1 ≤ sh .t) × (sh .t ≤ topFaults)) (keyed : Key
         (λ q e. decode-ok p q e) (length o))
 
     serve-same : (b : ℕ) (p o : List ℕ) → within 1 (s .servers) b ≡ true → within 1 mostServers b ≡ true
-        → takeBy (w .memory b) (keys b) p o ≡ servedOut (serverTake real (m .memory b) (keys b) p o)
+        → takeBy (w .memory b) (keys b) p o ≡ servedOut (m .memory b) (serverTake real (m .memory b) (keys b) p o)
     unfolding takeBy keySized
-    serve-same b p o h k = rw (eq-eqb (length (keys b)) keySize (keyed .servers b k)) (λ i. servedOut (serverTake real (st .memory b h i) (keys b) p o))
+    serve-same b p o h k = rw (eq-eqb (length (keys b)) keySize (keyed .servers b k))
+        (λ i. servedOut (st .memory b h i) (serverTake real (st .memory b h i) (keys b) p o))
 
     pub step-same : (x : Step) → Fed s (sh .writers) keys x
         → Agree (doValues real s (sh .writers) keys v (passedStep x)) (doBytes real sh m (passedStep x))
@@ -193,9 +195,12 @@ module _ (sh : Shelf) (tr : (1 ≤ sh .t) × (sh .t ≤ topFaults)) (keyed : Key
         let (lo, hi) = within-bounds 1 (s .servers) b (f .0) in
         let e = serve-same b p o (f .0) (within-in 1 mostServers b lo (omega (arith, hi, shelf-fits (sh .t) (tr .0) (tr .1) .few))) in
         let n = count-small (d .result .count) (d .output) (served-room real (m .memory b) (keys b) p o) (sent-small g) in
+        let f : ℕ = changed (m .memory b) (d .memory) in
+        let small : f < 256 = changed-small (m .memory b) (d .memory) in
         record {
           stands = memory-same sh w m st b _ _ (ap (λ (z : Exchange). z .memory) e);
-          result = ap (λ (z : Exchange). said (z .answer) []) e ∙ said-number (d .result .number) (d .result .count) [] n;
+          result = ap (λ (z : Exchange). resultOf (refusalIn (z .answer))) e
+              ∙ ap resultOf (refusal-back (d .result .number) f 0 (d .result .count) small (lit< tt) n);
           sent = ap (λ (z : Exchange). take (countIn (z .answer)) (z .output)) e
-              ∙ ap (λ (k : ℕ). take k (d .output)) (count-back (d .result .number) 0 0 (d .result .count) (lit< tt) (lit< tt) n);
+              ∙ ap (λ (k : ℕ). take k (d .output)) (count-back (d .result .number) f 0 (d .result .count) small (lit< tt) n);
         }

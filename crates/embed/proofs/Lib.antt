@@ -1,7 +1,10 @@
 pub mod Laws
 pub mod Layouts
+pub mod CodeTold
+pub mod RoundTold
 pub mod Coded
 pub mod Sessions
+pub mod Altered
 pub mod Rooms
 pub mod Listings
 pub mod KeyRuns

@@ -1,7 +1,7 @@
 -- Lending the first bytes of a buffer in place of all of it: where as many are lent as a packet needs, or all there are, an operation answers the same
 -- and leaves the same bytes, and its count is at most what was lent. The bytes past them are never written. Assumes nothing.
 use mathlib.Core.Path.{_≡_, refl, sym, ap, _∙_}
-use mathlib.Core.Bool.{Bool}
+use mathlib.Core.Bool.{Bool, cond, _&&_}
 use mathlib.Core.List.{List, _++_, append-assoc}
 use mathlib.Core.Option.{Option, none, some}
 use Prim.Native.Nat.{ℕ, zero, suc, _≤_}
@@ -9,13 +9,15 @@ use native.Mathlib.Omega.{arith}
 use mathlib.Core.Logic.{_≢_}
 use borrow.Author.Tests.{eq-eqb, ne-eqb}
 use lib.Dec.{ltb, eqb}
-use lib.ListN.{length, take, drop, length-append, length-drop, take-append-drop}
+use lib.ListN.{length, take, drop, getD, length-append, length-drop, take-append-drop}
 use lib.Seq.{length-take-le, drop-append-le}
 use Rattle.cluster.specs.Config.{shelf}
 use Rattle.cluster.specs.Ranges.{packetRoom, memorySize, keySize}
 use Rattle.cluster.specs.Refusals.{wrongSize, onRefusal}
 use Rattle.cluster.specs.declared.Outcome.{Outcome}
 use Rattle.protocol.specs.declared.Call.{Call}
+use Rattle.protocol.specs.Format.{Bytes}
+use Rattle.protocol.specs.Values.{rank}
 use Rattle.protocol.specs.Packet.{Packet, decode, encode}
 use Rattle.protocol.specs.Memory.{Memory, decodeMemory}
 use Rattle.protocol.specs.Primitives.{Primitives, real}
@@ -25,10 +27,13 @@ use Rattle.protocol.specs.Client.{made, makeRefusal}
 use Rattle.protocol.specs.ClientBytes.{Written, awaited, clientMake}
 use Rattle.client.specs.Rounds.{makeByRounds}
 use Rattle.client.proofs.StepsSame.{same-make}
-use Rattle.protocol.specs.View.{view}
+use Rattle.protocol.specs.View.{stampAt, view}
+use Rattle.server.specs.Reads.{latestPlace}
+use Rattle.server.specs.Answers.{countPlace}
 use Rattle.embed.specs.Packing.{packed}
 use Rattle.embed.specs.Clients.{madeOut}
-use Rattle.embed.specs.Servers.{Exchange, servedOut, keySized, takeBy}
+use Rattle.embed.specs.Servers.{Exchange, changed, servedOut, keySized, takeBy}
+use Rattle.embed.proofs.Altered.{changed-told}
 
 module _ (out : List ℕ) (n : ℕ) (in-out : n ≤ length out) where
   -- bytes over the part, which keeps its length, and the rest after them
@@ -92,6 +97,14 @@ module _ (out : List ℕ) (n : ℕ) (in-out : n ≤ length out) where
 
 -- ---- what the exports make of it, where what was lent is at most a packet's room
 
+-- the two parts that tell a change, as the code read them before and after
+abbrev byParts : List ℕ → ℕ → ℕ → ℕ
+byParts m count latest = cond (eqb (getD m countPlace 0) count && eqb (rank (stampAt (drop latestPlace m))) latest) 0 1
+
+pub told-by : (memory m : List ℕ) (count latest f : ℕ) → count ≡ getD memory countPlace 0 → latest ≡ rank (stampAt (drop latestPlace memory))
+    → f ≡ byParts m count latest → f ≡ byParts m (getD memory countPlace 0) (rank (stampAt (drop latestPlace memory)))
+told-by memory m count latest f p q e = e ∙ (λ i. byParts m (p i) (q i))
+
 module _ (memory key packet out : List ℕ) (n : ℕ) (in-out : n ≤ length out) (small : n ≤ packetRoom)
     (same : ltb (length out) packetRoom ≡ ltb n packetRoom)
     (o : Outcome) (m x : List ℕ) (e : record { result = o; memory = m; output = x } ≡ serverTake real memory key packet (take n out))
@@ -104,20 +117,25 @@ module _ (memory key packet out : List ℕ) (n : ℕ) (in-out : n ≤ length out
   pub served-count : o .count ≤ packetRoom
   served-count = omega (arith, through .count, small)
 
-  pub served-out : (r : ℕ) → r ≡ packed (o .number) 0 0 (o .count) → record { answer = r; memory = m; output = x ++ drop n out } ≡ servedOut
-      (serverTake real memory key packet out)
-  served-out r p = rw (p, through .result, through .memory, through .output) refl
+  -- f: whether the memory was changed
+  pub served-out : Bytes memory → (f r : ℕ)
+      → f ≡ byParts m (getD memory countPlace 0) (rank (stampAt (drop latestPlace memory)))
+      → r ≡ packed (o .number) f 0 (o .count)
+      → record { answer = r; memory = m; output = x ++ drop n out } ≡ servedOut memory (serverTake real memory key packet out)
+  served-out bs f r q p =
+      let told : f ≡ changed memory m = q ∙ changed-told real memory key packet (take n out) m bs (ap (λ (s : Served). s .memory) e) in
+      rw (p, told, through .result, through .memory, through .output) refl
 
 pub take-unsized : (memory key packet out : List ℕ) → length key ≢ keySize → record { answer = packed wrongSize 0 0 0; memory = memory; output = out }
     ≡ takeBy memory key packet out
 unfolding takeBy keySized
 take-unsized memory key packet out h = rw (ne-eqb (length key) keySize h) refl
 
-pub take-sized : (memory key packet out array : List ℕ) (x : Exchange) → length key ≡ keySize → array ≡ key → x ≡ servedOut
+pub take-sized : (memory key packet out array : List ℕ) (x : Exchange) → length key ≡ keySize → array ≡ key → x ≡ servedOut memory
     (serverTake real memory array packet out) → x ≡ takeBy memory key packet out
 unfolding takeBy keySized
 take-sized memory key packet out array x h same e = rw (eq-eqb (length key) keySize h)
-    (e ∙ ap (λ (k : List ℕ). servedOut (serverTake real memory k packet out)) same)
+    (e ∙ ap (λ (k : List ℕ). servedOut memory (serverTake real memory k packet out)) same)
 
 -- ---- a client makes a packet
 

@@ -14,10 +14,10 @@ use Rattle.protocol.specs.ServerBytes.{blankStep}
 use Rattle.protocol.specs.Client.{Result}
 use Rattle.protocol.specs.View.{view}
 use Rattle.protocol.specs.ClientBytes.{keyOf}
-use Rattle.protocol.specs.Runs.{Shelf, configOf, Step, write, read, make, take-reply, give-up, serve, resultBy, StepOn, steps, Account, serverOr}
+use Rattle.protocol.specs.Runs.{Shelf, configOf, Step, write, read, make, take-reply, give-up, serve, resultOf, resultBy, StepOn, steps, Account, serverOr}
 use Rattle.wire.specs.Places.{padded}
 use Rattle.state.specs.State.{callAt}
-use Rattle.embed.specs.Packing.{countIn, answerIn}
+use Rattle.embed.specs.Packing.{refusalIn, countIn, answerIn}
 use Rattle.embed.specs.Clients.{clientSize, keptOf, writeIn, readIn, giveUpIn, makeIn, takeIn}
 use Rattle.embed.specs.Servers.{takeBy}
 
@@ -72,11 +72,12 @@ module _ (s : Shelf) where
       let d = takeIn (w .state c) (s .t) c (passedKey (lent .writers)) (passedKeys (lent .keys)) reply output in
       setState w c (d .state) (said (d .answer) (d .output))
   doExport w (give-up c) = let d = giveUpIn (w .state c) (s .t) c in setState w c (d .state) (said (d .answer) [])
+  -- a server's answer tells its refusal; its result says whether the memory was changed
   doExport w (serve b packet output) =
       let d = takeBy (w .memory b) (keyOf (s .keys) b) packet output in
       record {
         devices = record { state = w .state; memory = upd (w .memory) b (d .memory) };
-        result = said (d .answer) [];
+        result = resultOf (refusalIn (d .answer));
         sent = take (countIn (d .answer)) (d .output);
       }
 

@@ -5,4 +5,7 @@ pub mod Clients
 pub mod Servers
 pub mod Drills
 pub mod Packets
+pub mod Replies
+pub mod Rounds
+pub mod Versions
 pub mod Exports

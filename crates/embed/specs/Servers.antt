@@ -1,15 +1,16 @@
--- A server for other languages: the operations of protocol's ServerBytes; `wrongSize` where the key is lent with another length.
-use mathlib.Core.Bool.{not}
+-- A server for other languages: the operations of protocol's ServerBytes, and whether the memory was changed, so that a host need not store it again;
+-- `wrongSize` where the key is lent with another length.
+use mathlib.Core.Bool.{cond, not}
 use mathlib.Core.List.{List, [], _∷_}
 use Prim.Native.Nat.{ℕ}
 use lib.Dec.{eqb}
 use lib.ListN.{length}
 use Rattle.cluster.specs.Ranges.{keySize}
 use Rattle.cluster.specs.Refusals.{wrongSize, refuse, firstOf, onRefusal}
+use Rattle.protocol.specs.Values.{sameList}
 use Rattle.protocol.specs.Primitives.{real}
 use Rattle.protocol.specs.ServerBytes.{Served, serverTake}
 use Rattle.embed.specs.Packing.{packed}
-use Rattle.embed.specs.Coding.{outcomeOf}
 
 -- an answer, and the memory and the output after it
 pub record Exchange : Type 0 where
@@ -20,10 +21,15 @@ pub record Exchange : Type 0 where
 unfoldable pub keySized : List ℕ → ℕ
 keySized key = firstOf (refuse wrongSize (not (eqb (length key) keySize)) ∷ [])
 
-abbrev pub servedOut : Served → Exchange
-servedOut s = record { answer = outcomeOf (s .result); memory = s .memory; output = s .output }
+-- the result: 1 where a byte of the memory is another
+unfoldable pub changed : List ℕ → List ℕ → ℕ
+changed old new = cond (sameList old new) 0 1
+
+abbrev pub servedOut : List ℕ → Served → Exchange
+servedOut memory s =
+    record { answer = packed (s .result .number) (changed memory (s .memory)) 0 (s .result .count); memory = s .memory; output = s .output }
 
 unfoldable pub takeBy : List ℕ → List ℕ → List ℕ → List ℕ → Exchange
 takeBy memory key packet out =
     let n = keySized key in
-    onRefusal n (servedOut (serverTake real memory key packet out)) (record { answer = packed n 0 0 0; memory = memory; output = out })
+    onRefusal n (servedOut memory (serverTake real memory key packet out)) (record { answer = packed n 0 0 0; memory = memory; output = out })

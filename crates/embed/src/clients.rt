@@ -13,7 +13,7 @@ ghost use Rattle.embed.specs.Packing.{packed, packedAnswer};
 ghost use Rattle.embed.specs.Clients.{clientSize, keptOf, stateWith, writeIn, readIn, giveUpIn, madeOut, makeIn, tookIn, takeIn};
 
 // The bytes of a whole state.
-const CLIENT: usize = state::KEPT_PLACE + wire::kept::KEPT;
+pub(crate) const CLIENT: usize = state::KEPT_PLACE + wire::kept::KEPT;
 
 // Bytes of all servers' keys.
 const KEYS: usize = cluster::KEY * cluster::MOST_SERVERS;

@@ -6,4 +6,7 @@ mod drills;
 mod keys;
 mod pack;
 mod packets;
+mod replies;
+mod rounds;
 mod servers;
+mod versions;

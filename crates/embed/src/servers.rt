@@ -2,11 +2,17 @@
 use super::pack::array;
 use super::pack::pack;
 ghost use mathlib.Core.Path.{_≡_};
+ghost use mathlib.Core.Bool.{cond, _&&_};
 ghost use Prim.Native.Nat.{_≤_};
-ghost use lib.Dec.{ltb};
+ghost use lib.Dec.{ltb, eqb};
+ghost use lib.ListN.{drop, getD};
 ghost use Rattle.cluster.specs.Ranges.{packetRoom};
+ghost use Rattle.protocol.specs.Values.{rank};
+ghost use Rattle.protocol.specs.View.{stampAt};
 ghost use Rattle.protocol.specs.Primitives.{real};
 ghost use Rattle.protocol.specs.ServerBytes.{blankStep, serverTake};
+ghost use Rattle.server.specs.Reads.{latestPlace};
+ghost use Rattle.server.specs.Answers.{countPlace};
 ghost use Rattle.embed.specs.Packing.{packed};
 ghost use Rattle.embed.specs.Servers.{servedOut, takeBy};
 
@@ -29,13 +35,39 @@ pub(crate) fn lent(room: usize) -> usize
     cluster::PACKET_ROOM
 }
 
-fn serve(memory: &mut [u8], key: [u8; cluster::KEY], packet: &[u8], out: &mut [u8]) -> u64
-    ensures { λ r. ⌜ record { answer = r; memory = now (memory .exit); output = now (out .exit) } ≡ servedOut (serverTake real (now (memory .entry)) key (now (packet .entry)) (now (out .entry))) ⌝ }
+// The rank of a memory's latest candidate.
+fn latest_rank(memory: &[u8]) -> u64
+    ensures { λ r. ⌜ r ≡ rank (stampAt (drop latestPlace (now (memory .entry)))) ⌝ }
 {
+    wire::values::rank_at(wire::bytes::rest(memory, server::memory::LATEST))
+}
+
+// 1 where a memory has another count of stored writes than before, or another latest rank: a write that is kept adds one to the count,
+// a candidate that is raised has a higher rank, and nothing else changes a byte.
+fn changed(memory: &[u8], count: u8, latest: u64) -> u8
+    ensures { λ r. ⌜ r ≡ cond (eqb (getD (now (memory .entry)) countPlace 0) count
+        && eqb (rank (stampAt (drop latestPlace (now (memory .entry))))) latest) 0 1 ⌝ }
+{
+    if wire::bytes::byte_at(memory, server::store::COUNT) != count {
+        return 1;
+    }
+    if latest_rank(memory) != latest {
+        return 1;
+    }
+    0
+}
+
+fn serve(memory: &mut [u8], key: [u8; cluster::KEY], packet: &[u8], out: &mut [u8]) -> u64
+    ensures { λ r. ⌜ record { answer = r; memory = now (memory .exit); output = now (out .exit) }
+        ≡ servedOut (now (memory .entry)) (serverTake real (now (memory .entry)) key (now (packet .entry)) (now (out .entry))) ⌝ }
+{
+    let writes = wire::bytes::byte_at(memory, server::store::COUNT);
+    let latest = latest_rank(memory);
     let n = lent(out.len());
     let o = server::take::take(memory, &key, packet, &mut out[..n]);
+    let result = changed(memory, writes, latest);
     let count = o.count;
-    pack(o.number, 0, 0, count as u16)
+    pack(o.number, result, 0, count as u16)
 }
 
 #[no_mangle]
