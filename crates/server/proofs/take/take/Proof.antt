@@ -12,13 +12,13 @@ returns-2 : tie.Need-returns-2
 returns-2 c =
     let a = c .before .before .before .before .before .before .before .before .before .args in
     take-broken (a .memory .now) (a .key .now) (a .packet .now) (a .out .now) (c .before .before .before .before .before .if1 .left)
-    (rw (c .before .enum-told .given .1) at (c .before .before .before .«open» .ensures)) (c .refused2 .ensures)
+    (rw (c .before .enum-told .given .1) at (c .before .before .before .«open» .ensures .1)) (c .refused2 .ensures)
 
 returns-3 : tie.Need-returns-3
 returns-3 c =
     let a = c .before .before .before .before .before .before .before .before .before .before .before .before .before .args in
     let m = rw (c .before .before .before .before .before .t .given .1) at
-    (c .before .before .before .before .before .before .before .«open» .ensures) in
+    (c .before .before .before .before .before .before .before .«open» .ensures .1) in
     take-unread (a .memory .now) (a .key .now) (a .packet .now) (a .out .now)
     (c .before .before .before .before .before .before .before .before .before .if1 .left) m
     (rw (c .before .enum-told2 .given .1) at (c .before .before .before .read-packet .ensures)) (c .refused3 .ensures)
@@ -27,7 +27,7 @@ returns-4 : tie.Need-returns-4
 returns-4 c =
     let a = c .before .before .before .before .before .before .before .before .before .before .before .before .before .before .before .before .args in
     let m = rw (c .before .before .before .before .before .before .before .before .t .given .1) at
-    (c .before .before .before .before .before .before .before .before .before .before .«open» .ensures) in
+    (c .before .before .before .before .before .before .before .before .before .before .«open» .ensures .1) in
     let p = rw (c .before .before .before .before .head .given .1) at (c .before .before .before .before .before .before .read-packet .ensures) in
     take-refused (a .memory .now) (a .key .now) (a .packet .now) (a .out .now)
     (c .before .before .before .before .before .before .before .before .before .before .before .before .if1 .left) m _ p
@@ -46,7 +46,7 @@ returns-5 c =
     .before .before .before .before .before .before .args in
     let m = rw (c .before .before .before .before .before .before .before .before .before .before .before .before .before .before .before .t .given
     .1) at (c .before .before .before .before .before .before .before .before .before .before .before .before .before .before .before .before .before
-    .«open» .ensures) in
+    .«open» .ensures .1) in
     let p = rw (c .before .before .before .before .before .before .before .before .before .before .before .head .given .1) at
     (c .before .before .before .before .before .before .before .before .before .before .before .before .before .read-packet .ensures) in
     take-answered (a .memory .now) (a .key .now) (a .packet .now) (a .out .now)
