@@ -77,6 +77,11 @@ module _ (s : Config) (d : List ℕ) where
         body-part (2 + fragmentSize (s .shares) n + digestsSize s + digestSize) (stampSize + 3 + fragmentSize (s .shares) n + digestsSize s +
         digestSize) (tagsSize s) (omega arith)
 
+  -- the fragment as the reader of shares hands it out
+  pub fragment-handed : shareAt s (drop (stampSize + 1) d) .part ≡ part d (stampSize + 3) (fragmentSize (s .shares) (sizeIn d))
+  unfolding shareAt
+  fragment-handed = rw (getD-drop (stampSize + 1) d 0 0, getD-drop (stampSize + 1) d 1 0) (fragment-in (sizeIn d))
+
   -- ---- naming a candidate
 
   pub names-none : (c : Candidate) (x : List ℕ) → eqb (getD d stampSize 0) 0 ≡ true → names c x (heldAt s d) ≡ false

@@ -13,11 +13,13 @@ use crate::NAME;
 use crate::sizes::digests_at;
 use crate::sizes::servers;
 use crate::sizes::size_of;
+use wire::bytes::rest;
 use wire::bytes::same;
 use wire::kept::CANDIDATE_SLOT;
 use wire::kept::CANDIDATES;
 use wire::kept::REPLIES;
 use wire::kept::REPLY_SLOT;
+use wire::packet::share_fragment;
 use wire::sizes::DIGEST;
 use wire::sizes::STAMP;
 
@@ -49,7 +51,7 @@ pub(crate) fn intact(reply: &[u8], t: usize, j: usize) -> bool
     ensures { λ r. ⌜ r ≡ intact (suc j) (heldAt (shelf t) (now (reply .entry)) .share) ⌝ }
 {
     let e = digests_at(t, size_of(reply));
-    let d = sha256::digest(&reply[STAMP + 3..e]);
+    let d = sha256::digest(share_fragment(rest(reply, STAMP + 1), t as u8));
     let at = e + DIGEST * j;
     same(&d, &reply[at..at + DIGEST])
 }

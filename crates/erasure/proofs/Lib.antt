@@ -9,6 +9,7 @@ pub mod Solved
 pub mod Weighed
 pub mod Choosing
 pub mod Refused
+pub mod Standing
 pub mod Placed
 pub mod Rebuilt
 pub mod Answers

@@ -3,4 +3,5 @@ pub mod Choice
 pub mod Steps
 pub mod System
 pub mod Lanes
+pub mod Standing
 pub mod Chosen

@@ -1,17 +1,17 @@
 // Which plain runs are among the fragments given: those are copied, and only for the others a system is solved.
-ghost use mathlib.Core.Bool.{true};
 ghost use mathlib.Core.Path.{_≡_};
 ghost use Prim.Native.Nat.{ℕ, _+_, _<_, _≤_};
-ghost use lib.ListN.{getD, length};
-ghost use Rattle.erasure.specs.System.{width, AllDifferent, Solves};
+ghost use lib.ListN.{getD, length, take};
+ghost use Rattle.erasure.specs.System.{width, AllDifferent};
 ghost use Rattle.erasure.specs.Lanes.{runAt, Written};
+ghost use Rattle.erasure.specs.Standing.{placeOf, allGiven, SystemAs};
 
 const WIDTH: usize = crate::system::WIDTH;
 
 // Where point z stands among the first k servers, or k where it does not.
 fn place_of(servers: [u8; WIDTH], k: usize, z: u8) -> usize
     requires { ⌜ k ≤ width ⌝ }
-    ensures { λ r. ⌜ (r < k → getD servers r 0 ≡ z) ⌝ }
+    ensures { λ r. ⌜ r ≡ placeOf z (take k servers) ⌝ }
 {
     let mut j: usize = 0;
     while j < k {
@@ -26,7 +26,7 @@ fn place_of(servers: [u8; WIDTH], k: usize, z: u8) -> usize
 // Where each of the k plain runs stands among the first k servers, or k where it does not.
 pub(crate) fn places_of(servers: [u8; WIDTH], k: usize) -> [usize; WIDTH]
     requires { ⌜ k ≤ width ⌝ }
-    ensures { λ r. ⌜ ((i : ℕ) → i < k → getD r i 0 < k → getD servers (getD r i 0) 0 ≡ i + 1) ⌝ }
+    ensures { λ r. ⌜ ((i : ℕ) → i < k → getD r i 0 ≡ placeOf (i + 1) (take k servers)) ⌝ }
 {
     let mut out = [0usize; WIDTH];
     let mut i: usize = 0;
@@ -40,7 +40,7 @@ pub(crate) fn places_of(servers: [u8; WIDTH], k: usize) -> [usize; WIDTH]
 // Whether each of the k plain runs is given.
 fn all_given(places: [usize; WIDTH], k: usize) -> bool
     requires { ⌜ k ≤ width ⌝ }
-    ensures { λ r. ⌜ (r ≡ true → (i : ℕ) → i < k → getD places i 0 < k) ⌝ }
+    ensures { λ r. ⌜ r ≡ allGiven k places ⌝ }
 {
     let mut i: usize = 0;
     while i < k {
@@ -59,7 +59,7 @@ pub(crate) fn system_of(
     k: usize,
 ) -> [[u8; WIDTH]; WIDTH]
     requires { ⌜ (k ≤ width) × AllDifferent k servers ⌝ }
-    ensures { λ r. ⌜ ((i : ℕ) → i < k → k ≤ getD places i 0 → Solves k servers r) ⌝ }
+    ensures { λ r. ⌜ SystemAs k servers places r ⌝ }
 {
     if all_given(places, k) {
         return [[0u8; WIDTH]; WIDTH];

@@ -1,7 +1,7 @@
 -- What a stamp's bytes find among the stored writes: nothing above the highest of them, that one at its place, else what a walk finds.
 -- Equal bytes have equal keys, so a stamp above all the others is none of them. Assumes nothing.
 use mathlib.Core.Path.{_≡_, refl, sym, ap, _∙_, subst}
-use mathlib.Core.Bool.{Bool, true, false, cond}
+use mathlib.Core.Bool.{Bool, true, false, cond, _&&_}
 use mathlib.Core.List.{List, [], _∷_, _++_}
 use mathlib.Core.Option.{Option, none, some}
 use Prim.Native.Nat.{ℕ, _+_, _-_, _*_, _≤_, _<_}
@@ -10,7 +10,7 @@ use lib.Dec.{ltb}
 use lib.ListN.{drop}
 use borrow.Author.Tests.{ltb-true, ltb-false, le-ltb, lt-ltb}
 use Rattle.cluster.specs.Config.{Config}
-use Rattle.cluster.proofs.Tests.{untrue}
+use Rattle.cluster.proofs.Tests.{untrue, and-both}
 use Rattle.protocol.specs.declared.Stamp.{Stamp}
 use Rattle.protocol.specs.Format.{orElse, via, seq, number4, byte, run}
 use Rattle.protocol.specs.Values.{Share, Write, sameList, sameStamp, stampSize, rank}
@@ -91,17 +91,24 @@ module _ (s : Config) (n : ℕ) (top : Top) (d y : List ℕ) {x : List ℕ} (p :
   pub find-above : {k : ℕ} → k ≡ rank (stampAt x) → top .key < k → FindAs s n top d y found.Nothing
   find-above q l = found-as found.Nothing (λ ws e m u. first-above x (top .key) ws (u .up) (omega (arith, q, l)))
 
-  pub find-highest : (0 < top .at) × (sameList (part (drop (top .at) d) 0 stampSize) x ≡ true) → FindAs s n top d y (found.At (top .at))
-  find-highest (l, f) = found-as (found.At (top .at)) (λ ws e m u. u .first l x f)
+  pub find-highest : {r : Bool} → r ≡ (ltb 0 (top .at) && sameList (part (drop (top .at) d) 0 stampSize) x) → r ≡ true
+      → FindAs s n top d y (found.At (top .at))
+  find-highest c e =
+      let both = and-both (ltb 0 (top .at)) (sameList (part (drop (top .at) d) 0 stampSize) x) (sym c ∙ e) in
+      found-as (found.At (top .at)) (λ ws e m u. u .first (ltb-true 0 (top .at) (both .0)) x (both .1))
 
   pub find-searched : (r : Found) → SearchAs s n d x r → FindAs s n top d y r
   find-searched r f = found-as r (λ ws e m u. f ws e m)
 
--- the bytes at a place, as the code compares them
-pub stands : (d key : List ℕ) (at : ℕ) {y x : List ℕ} {r : Bool} → y ≡ drop at d → x ≡ part y 0 stampSize → r ≡ sameList x key → r ≡ true
-    → sameList (part (drop at d) 0 stampSize) key ≡ true
-stands d key at p q c e =
-    ap (λ (z : List ℕ). sameList (part z 0 stampSize) key) (sym p) ∙ ap (λ (z : List ℕ). sameList z key) (sym q) ∙ sym c ∙ e
+-- the bytes at a place, as the code compares them; at place 0 none stand
+pub stands : (d key : List ℕ) (at : ℕ) {y x : List ℕ} {r : Bool} → y ≡ drop at d → x ≡ part y 0 stampSize → r ≡ sameList x key → 0 < at
+    → r ≡ (ltb 0 at && sameList (part (drop at d) 0 stampSize) key)
+stands d key at p q c l =
+    c ∙ ap (λ (z : List ℕ). sameList z key) (q ∙ ap (λ (z : List ℕ). part z 0 stampSize) p)
+    ∙ ap (λ (b : Bool). b && sameList (part (drop at d) 0 stampSize) key) (sym (lt-ltb 0 at l))
+
+pub none-stands : (d key : List ℕ) (at : ℕ) → at ≡ 0 → false ≡ (ltb 0 at && sameList (part (drop at d) 0 stampSize) key)
+none-stands d key at e = ap (λ (b : Bool). b && sameList (part (drop at d) 0 stampSize) key) (sym (le-ltb 0 at (omega (arith, e))))
 
 -- ---- what is found by a stamp's bytes is what is held for it
 

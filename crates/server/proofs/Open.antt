@@ -1,20 +1,21 @@
 -- The whole check of a memory: its fields one after another, writes of which no two have one stamp, and zeros to the end.
 -- Each part that breaks stops the layout there, and reading a memory ends as it says. Assumes nothing.
 use mathlib.Core.Path.{_≡_, refl, sym, ap, _∙_, subst}
-use mathlib.Core.Bool.{Bool, true, false}
-use mathlib.Core.List.{List}
+use mathlib.Core.Bool.{Bool, true, false, not}
+use mathlib.Core.List.{List, [], _∷_}
 use mathlib.Core.Logic.{_⊎_, inl, inr}
-use mathlib.Core.Option.{none, some}
+use mathlib.Core.Option.{Option, none, some}
 use Prim.Native.Nat.{ℕ, _≤_}
 use native.Mathlib.Omega.{arith}
 use lib.ListN.{drop, length}
 use Rattle.cluster.specs.Config.{shelf}
 use Rattle.cluster.specs.Ranges.{topFaults, mostServers, memorySize, capacity}
+use Rattle.cluster.specs.Refusals.{refuse, firstOf}
 use Rattle.cluster.proofs.Tests.{untrue}
 use Rattle.protocol.specs.Format.{Bytes, zeros, byte, many}
-use Rattle.protocol.specs.Values.{Write}
+use Rattle.protocol.specs.Values.{Write, isSome}
 use Rattle.protocol.specs.Packet.{writeF, anyCandidateF}
-use Rattle.protocol.specs.Memory.{distinct, memoryF, decodeMemory}
+use Rattle.protocol.specs.Memory.{Memory, distinct, memoryF, decodeMemory}
 use Rattle.protocol.specs.View.{candidateAt}
 use Rattle.protocol.specs.Reading.{Leaves, Stops}
 use Rattle.protocol.proofs.Leaves.{leaves-seq, leaves-via, leaves-keep, stops-first, stops-second, stops-via, stops-kept, stops-test}
@@ -26,7 +27,22 @@ use Rattle.wire.specs.Reads.{Took, byteL, anyCandidateL}
 use Rattle.server.specs.declared.memory.Top.{Top}
 use Rattle.server.specs.declared.memory.Writes.{Writes}
 use Rattle.server.specs.declared.memory.Writes.the-variants as writes
-use Rattle.server.specs.Reads.{latestPlace, writesPlace, Stored, Checked, WritesAs, Opened}
+use Rattle.server.specs.declared.memory.MemoryRead.the-variants as memories
+use Rattle.server.specs.Reads.{latestPlace, writesPlace, Stored, Checked, WritesAs, Opened, MemoryAs}
+
+-- ---- the answer and its number
+
+number-of : (d : List ℕ) {o : Option Memory} → decodeMemory d ≡ o
+    → firstOf (refuse 2 (not (isSome o)) ∷ []) ≡ firstOf (refuse 2 (not (isSome (decodeMemory d))) ∷ [])
+number-of d e = ap (λ (o : Option Memory). firstOf (refuse 2 (not (isSome o)) ∷ [])) (sym e)
+
+pub broken : (d : List ℕ) → decodeMemory d ≡ none → MemoryAs d memories.Broken
+broken d e = (number-of d e, e)
+
+pub opened : {d : List ℕ} {t b n e : ℕ} {top : Top} → Opened d t b n e top → MemoryAs d (memories.Value t b n e top)
+opened {d} o = (number-of d (o .decoded), o)
+
+-- ---- the parts
 
 -- the zeros after a place, as the code tells them
 tail : (d : List ℕ) (e : ℕ) {o : List ℕ} → o ≡ drop e d → {c : Bool} → c ≡ zeros o → {a : Bool} → c ≡ a → zeros (drop e d) ≡ a

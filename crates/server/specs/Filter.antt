@@ -41,6 +41,7 @@ pub record ChosenAt (s : Config) (y : List ℕ) (c : Candidate) (i : ℕ) : Type
   pub ok : candidateF s .Ok (candidateAt s (slotOf s y i))
   pub best : c ≡ candidateAt s (slotOf s y i)
 
+-- neither answer is a refusal: filter replies with the candidate's stamp, or with the blank one
 abbrev pub ChosenIs : Config → List ℕ → Candidate → Chosen → Type 0
 ChosenIs s y c (chosen.At i) = ChosenAt s y c i
 ChosenIs s y c chosen.Nothing = c ≡ blankCandidate s

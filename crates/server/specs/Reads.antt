@@ -1,12 +1,13 @@
 -- What each reader of a server's memory answers. The stored writes have no fixed length, so they are told by the places where they leave the bytes.
 use mathlib.Core.Path.{_≡_}
-use mathlib.Core.Bool.{Bool, true, cond}
+use mathlib.Core.Bool.{Bool, true, cond, not}
 use mathlib.Core.List.{List, [], _∷_}
 use mathlib.Core.Option.{Option, none, some}
 use Prim.Native.Nat.{ℕ, _+_, _≤_, _<_}
 use lib.Dec.{ltb}
 use lib.ListN.{drop}
 use Rattle.cluster.specs.Config.{Config, shelf}
+use Rattle.cluster.specs.Refusals.{refuse, firstOf}
 use Rattle.protocol.specs.Format.{All, many}
 use Rattle.protocol.specs.Values.{Write, sameList, isSome, rank, stampSize, candidateSize}
 use Rattle.protocol.specs.Packet.{stampF, writeF}
@@ -48,6 +49,7 @@ pub record FoundAt (s : Config) (d : List ℕ) (at : ℕ) (o : Option Write) : T
   pub there : Leaves (writeF s) d at (writeAt s (drop at d)) next
   pub first : o ≡ some (writeAt s (drop at d))
 
+-- neither answer is a refusal: to a store, `At` becomes the reply 10 and `Nothing` 0 or 11 (Server's kept)
 abbrev pub FindIs : Config → List ℕ → Option Write → Found → Type 0
 FindIs s d o (found.At at) = FoundAt s d at o
 FindIs s d o found.Nothing = o ≡ none
@@ -89,6 +91,7 @@ pub record Checked (s : Config) (n : ℕ) (d : List ℕ) (e : ℕ) (top : Top) :
   pub up : TopOf s d top writes
   pub once : distinct writes ≡ true
 
+-- `Broken` becomes refusal 2, as memoryNumber says
 abbrev pub WritesAs : Config → ℕ → List ℕ → Writes → Type 0
 WritesAs s n d (writes.Past e top) = Checked s n d e top
 WritesAs s n d writes.Broken = (ws : List Write) (e : ℕ) → Stored s n d ws e → distinct ws ≡ true → ⊥
@@ -101,6 +104,15 @@ pub record Opened (d : List ℕ) (t b n e : ℕ) (top : Top) : Type 0 where
   pub up : TopOf (shelf t) d top writes
   pub decoded : decodeMemory d ≡ some (record { t = t; server = b; latest = candidateAt (shelf t) (drop latestPlace d); writes = writes })
 
+-- document 01's number of each answer
+abbrev pub memoryNumber : MemoryRead → ℕ
+memoryNumber (memories.Value t b n e top) = 0
+memoryNumber memories.Broken = 2
+
+abbrev pub MemoryIs : List ℕ → MemoryRead → Type 0
+MemoryIs d (memories.Value t b n e top) = Opened d t b n e top
+MemoryIs d memories.Broken = decodeMemory d ≡ none
+
+-- the answer, with the number that the refusals give the bytes
 abbrev pub MemoryAs : List ℕ → MemoryRead → Type 0
-MemoryAs d (memories.Value t b n e top) = Opened d t b n e top
-MemoryAs d memories.Broken = decodeMemory d ≡ none
+MemoryAs d r = (memoryNumber r ≡ firstOf (refuse 2 (not (isSome (decodeMemory d))) ∷ [])) × MemoryIs d r

@@ -1,7 +1,8 @@
 // Reading a server's memory: the whole check of refusal 2, and the search of the history.
 ghost use mathlib.Core.Path.{_≡_};
-ghost use mathlib.Core.Bool.{true};
-ghost use Prim.Native.Nat.{_≤_, _<_};
+ghost use mathlib.Core.Bool.{_&&_};
+ghost use Prim.Native.Nat.{_≤_};
+ghost use lib.Dec.{ltb};
 ghost use lib.ListN.{length, drop};
 ghost use Rattle.cluster.specs.Config.{shelf};
 ghost use Rattle.protocol.specs.Values.{sameList, stampSize};
@@ -73,7 +74,7 @@ fn search(memory: &[u8], t: u8, n: usize, stamp: &[u8]) -> Found
 
 // Whether a stamp's bytes stand at a place; at place 0 none do.
 fn stands_at(memory: &[u8], at: usize, stamp: &[u8]) -> bool
-    ensures { λ r. ⌜ (r ≡ true → (0 < at) × (sameList (part (drop at (now (memory .entry))) 0 stampSize) (now (stamp .entry)) ≡ true)) ⌝ }
+    ensures { λ r. ⌜ r ≡ (ltb 0 at && sameList (part (drop at (now (memory .entry))) 0 stampSize) (now (stamp .entry))) ⌝ }
 {
     if at == 0 {
         return false;

@@ -1,28 +1,42 @@
 -- From a body's fields to the body of its kind, and from head and body to the packet.
 -- Assumes nothing.
-use mathlib.Core.Path.{_≡_, refl, sym, subst}
-use mathlib.Core.Bool.{Bool, true, false, cond}
-use mathlib.Core.List.{List, []}
-use mathlib.Core.Option.{none, some}
+use mathlib.Core.Path.{_≡_, refl, sym, ap, subst}
+use mathlib.Core.Bool.{Bool, true, false, cond, not}
+use mathlib.Core.List.{List, [], _∷_}
+use mathlib.Core.Option.{Option, none, some}
 use Prim.Native.Nat.{ℕ, _+_, _≤_, _<_}
 use native.Mathlib.Omega.{arith}
 use lib.Dec.{eqb}
 use lib.ListN.{length, drop, getD}
 use borrow.Author.Tests.{ne-eqb, eqb-true, eqb-false}
 use Rattle.cluster.specs.Config.{Config, shelf}
+use Rattle.cluster.specs.Refusals.{refuse, firstOf}
 use Rattle.protocol.specs.declared.Head.{Head}
 use Rattle.protocol.specs.Format.{byte, empty, seq, via, keep}
-use Rattle.protocol.specs.Values.{stampSize}
-use Rattle.protocol.specs.Packet.{Body, headF, headSize, bodyF, packetF, decode}
+use Rattle.protocol.specs.Values.{isSome, stampSize}
+use Rattle.protocol.specs.Packet.{Body, Packet, headF, headSize, bodyF, packetF, decode}
 use Rattle.protocol.specs.View.{shareAt, heldAt}
 use Rattle.protocol.specs.Reading.{Leaves, Stops}
 use Rattle.protocol.proofs.Leaves.{leaves-seq, leaves-via, stops-via, stops-second}
 use Rattle.protocol.proofs.Bodies.{Kind, clock-kind, complete-reply-kind, collect-kind, repair-reply-kind}
 use Rattle.protocol.proofs.Whole.{body-leaves, body-stops, decoded, refused, trailing}
 use Rattle.wire.specs.Places.{bodyAt, packetAt, writeAt, fragmentHeld, fragmentOf, fragmentIn}
-use Rattle.wire.specs.Reads.{Layout, Past, FieldAs, BodyAs}
+use Rattle.wire.specs.Reads.{Layout, Past, FieldAs, BodyAs, PacketAs}
 use Rattle.wire.specs.declared.fields.Field.{Field}
 use Rattle.wire.specs.declared.fields.Field.the-variants as field
+use Rattle.wire.specs.declared.packet.PacketRead.the-variants as packets
+
+-- ---- the answer for a packet and its number
+
+number-of : (s : List ℕ) {o : Option Packet} → decode s ≡ o
+    → firstOf (refuse 7 (not (isSome o)) ∷ []) ≡ firstOf (refuse 7 (not (isSome (decode s))) ∷ [])
+number-of s e = ap (λ (o : Option Packet). firstOf (refuse 7 (not (isSome o)) ∷ [])) (sym e)
+
+pub no-packet : (s : List ℕ) → decode s ≡ none → PacketAs s packets.Broken
+no-packet s e = (number-of s e, e)
+
+pub a-packet : (s : List ℕ) (h : Head) → decode s ≡ some (packetAt h s) → PacketAs s (packets.Value h)
+a-packet s h e = (number-of s e, e)
 
 -- ---- bodies
 

@@ -1,16 +1,18 @@
 -- What each reader's answer says of the bytes from a place on. A reader answers `Broken` exactly where its format takes nothing;
--- that is document 01's refusal 7. Otherwise it answers a number, and the cursor past the field: the field's value is known by its place.
+-- that is document 01's refusal 7, as packetNumber says of a whole packet. Otherwise it answers a number, and the cursor past the field: the
+-- field's value is known by its place.
 use mathlib.Core.Path.{_≡_}
-use mathlib.Core.List.{List}
+use mathlib.Core.List.{List, [], _∷_}
 use mathlib.Core.Logic.{_⊎_}
 use mathlib.Core.Option.{none, some}
-use mathlib.Core.Bool.{true, false}
+use mathlib.Core.Bool.{true, false, not}
 use Prim.Native.Nat.{ℕ, _+_, _-_, _*_, _≤_, _<_}
 use lib.ListN.{length, take, drop, getD}
 use Rattle.cluster.specs.Config.{Config}
+use Rattle.cluster.specs.Refusals.{refuse, firstOf}
 use Rattle.protocol.specs.declared.Stamp.{Stamp}
 use Rattle.protocol.specs.Format.{Fmt, zeros, value4, byte, number2, number4, run, many}
-use Rattle.protocol.specs.Values.{Candidate, Share, Write, Held, stampSize, candidateSize}
+use Rattle.protocol.specs.Values.{Candidate, Share, Write, Held, isSome, stampSize, candidateSize}
 use Rattle.protocol.specs.Packet.{headF, headSize, stampF, anyStampF, shareF, writeF, candidateF, anyCandidateF, candidatesF, heldF, codeF, bodyF, decode}
 use Rattle.protocol.specs.View.{part, stampAt, candidateAt, shareAt, heldAt}
 use Rattle.protocol.specs.Reading.{Leaves, Stops}
@@ -37,6 +39,7 @@ pub record Took {A : Type 0} (L : Layout A) (s : List ℕ) (at v next : ℕ) : T
   pub number : v ≡ L .number (drop at s)
   pub place : next ≡ at + L .size (drop at s)
 
+-- in a packet `Broken` becomes refusal 7, in a server's memory 2
 abbrev pub FieldAs : {A : Type 0} → Layout A → List ℕ → ℕ → Field → Type 0
 FieldAs L s at (field.Value v c) = Took L s at v (c .at)
 FieldAs L s at field.Broken = Stops (L .format) s at
@@ -118,6 +121,7 @@ pub record Past {A : Type 0} (F : Fmt A) (s : List ℕ) (at : ℕ) (a : A) (next
   pub leaves : Leaves F s at a next
   pub place : next ≡ at + n
 
+-- `Broken` becomes that of the field which the run is part of
 abbrev pub RunAs : ℕ → List ℕ → ℕ → Run → Type 0
 RunAs n s at (runs.Past c) = Past (run n) s at (part s at n) (c .at) n
 RunAs n s at runs.Broken = Stops (run n) s at
@@ -137,6 +141,7 @@ ManyAs c n s at runs.Broken = Stops (many n (candidateF c)) s at
 
 -- ---- heads, bodies, packets
 
+-- `Broken` becomes that of its packet
 abbrev pub HeadAs : List ℕ → HeadRead → Type 0
 HeadAs s (heads.Value h c) = Past headF s 0 h (c .at) headSize
 HeadAs s heads.Broken = Stops headF s 0
@@ -145,7 +150,16 @@ abbrev pub BodyAs : Config → ℕ → List ℕ → ℕ → Field → Type 0
 BodyAs c k s at (field.Value v p) = Leaves (bodyF c k) s at (bodyAt c k (drop at s)) (p .at)
 BodyAs c k s at field.Broken = Stops (bodyF c k) s at
 
--- the packet's head, which with the bytes tells the whole packet; or refusal 7
+-- document 01's number of each answer
+abbrev pub packetNumber : PacketRead → ℕ
+packetNumber (packets.Value h) = 0
+packetNumber packets.Broken = 7
+
+-- the packet's head, which with the bytes tells the whole packet; or no packet
+abbrev pub PacketIs : List ℕ → PacketRead → Type 0
+PacketIs s (packets.Value h) = decode s ≡ some (packetAt h s)
+PacketIs s packets.Broken = decode s ≡ none
+
+-- the answer, with the number that the refusals give the bytes
 abbrev pub PacketAs : List ℕ → PacketRead → Type 0
-PacketAs s (packets.Value h) = decode s ≡ some (packetAt h s)
-PacketAs s packets.Broken = decode s ≡ none
+PacketAs s r = (packetNumber r ≡ firstOf (refuse 7 (not (isSome (decode s))) ∷ [])) × PacketIs s r

@@ -120,8 +120,8 @@ pub fn read_packet(packet: &[u8]) -> PacketRead
     PacketRead::Value(head)
 }
 
-// The fragment in a share.
-pub(crate) fn share_fragment(share: &[u8], t: u8) -> &[u8]
+// The fragment in a share, as that part of the share.
+pub fn share_fragment(share: &[u8], t: u8) -> &[u8]
     ensures { λ r. ⌜ now r ≡ shareAt (shelf t) (now (share .entry)) .part ⌝ }
 {
     part(share, 2, crate::sizes::fragment_size(t, number2(share)))

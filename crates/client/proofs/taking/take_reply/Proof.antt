@@ -14,12 +14,12 @@ returns c =
     takes-refused (a .t) (a .client) (a .writers .now) (a .keys .now) (a .call) (a .kept .now) (a .reply .now) (a .out .now) (c .refused .result) 7
     (c .refused .ensures)
     (take-broken (a .t) (a .client) (a .writers .now) (a .keys .now) (a .call) (a .kept .now) (a .reply .now) (a .out .now) (p .0) (p .1 .0)
-    (rw (c .before .enum-told .given .1) at (c .before .before .before .read-packet .ensures)))
+    (rw (c .before .enum-told .given .1) at (c .before .before .before .read-packet .ensures .1)))
 
 reply-refusal-requires : tie.Need-reply-refusal-requires
 reply-refusal-requires c κs =
     let a = c .before .before .before .before .before .before .before .args in
-    server-range (a .reply .now) (c .before .head .given .0 .0) (rw (c .before .head .given .1) at (c .before .before .before .read-packet .ensures))
+    server-range (a .reply .now) (c .before .head .given .0 .0) (rw (c .before .head .given .1) at (c .before .before .before .read-packet .ensures .1))
 
 returns-2 : tie.Need-returns-2
 returns-2 c =
@@ -30,7 +30,7 @@ returns-2 c =
     (c .refused2 .ensures)
     (take-head (a .t) (a .client) (a .writers .now) (a .keys .now) (a .call) (a .kept .now) (a .reply .now) (a .out .now) (p .0) (p .1 .0)
     (c .before .before .before .before .head .given .0 .0) (rw (c .before .before .before .before .head .given .1) at
-    (c .before .before .before .before .before .before .read-packet .ensures)) (c .before .before .reply-refusal .result)
+    (c .before .before .before .before .before .before .read-packet .ensures .1)) (c .before .before .reply-refusal .result)
     (c .before .before .reply-refusal .ensures) (c .before .if1 .taken))
 
 take-round-requires : tie.Need-take-round-requires
@@ -40,7 +40,7 @@ take-round-requires c κs =
     let p = z .pre in (
       record {
         decoded = (rw (c .before .before .before .before .before .head .given .1) at
-            (c .before .before .before .before .before .before .before .read-packet .ensures));
+            (c .before .before .before .before .before .before .before .read-packet .ensures .1));
         faults = p .0;
         reader = p .1 .0;
         awaited = sym

@@ -9,9 +9,9 @@ use Rattle.cluster.specs.Config.{shelf}
 use Rattle.sha256.specs.Sha256.{sha256}
 use Rattle.erasure.specs.Fragments.{fragmentSize}
 use Rattle.protocol.specs.Values.{sameList, stampSize, digestSize}
-use Rattle.protocol.specs.View.{part}
+use Rattle.protocol.specs.View.{part, shareAt}
 use Rattle.decide.proofs.Places.{part-of}
-use Rattle.decide.proofs.Replies.{sizeIn, digestsIn, intact-in}
+use Rattle.decide.proofs.Replies.{sizeIn, digestsIn, fragment-handed, intact-in}
 use Rattle.decide.proofs.reply.intact.Statement.{statement}
 use Rattle.decide.proofs.reply.intact.Tie as tie
 
@@ -20,38 +20,33 @@ digests-at-requires c κs = let p = c .before .before .pre in (p .0, p .1, omega
 
 -- the digest of server j + 1's fragment ends within the reply
 fine : (c : tie.After-digests-at)
-    → (stampSize + 3 ≤ c .digests-at .result) × (c .digests-at .result + digestSize * c .before .before .before .args .j + digestSize ≤ length
-    (c .before .before .before .args .reply .now))
+    → c .digests-at .result + digestSize * c .before .before .before .args .j + digestSize ≤ length (c .before .before .before .args .reply .now)
 fine c =
-    let r = c .digests-at .ensures in
     let p = c .before .before .before .pre in
-    (omega (arith, r .place), omega (arith, r .room, p .2, p .4))
+    omega (arith, c .digests-at .ensures .room, p .2, p .4)
 
 returns : tie.Need-returns
 returns c =
-    let a = c .before .before .before .before .before .before .before .before .args in
-    let p = c .before .before .before .before .before .before .before .before .pre in
-    let n : ℕ = c .before .before .before .before .before .before .size-of .result in
+    let a = c .before .before .before .before .before .before .before .before .before .args in
+    let p = c .before .before .before .before .before .before .before .before .before .pre in
     let F : ℕ = fragmentSize (shelf (a .t) .shares) (sizeIn (a .reply .now)) in
-    let z = ap (fragmentSize (shelf (a .t) .shares)) (c .before .before .before .before .before .before .size-of .ensures) in
-    let e : c .before .before .before .before .before .digests-at .result ≡ digestsIn (shelf (a .t)) (a .reply .now) = omega
-    (arith, c .before .before .before .before .before .digests-at .ensures .place, z) in
-    let l : c .before .before .before .before .before .digests-at .result - (stampSize + 3) ≡ F = omega (arith, e) in
-    let at : ℕ = c .before .before .before .before .before .digests-at .result + 32 * a .j in
+    let z = ap (fragmentSize (shelf (a .t) .shares)) (c .before .before .before .before .before .before .before .size-of .ensures) in
+    let e : c .before .before .before .before .before .before .digests-at .result ≡ digestsIn (shelf (a .t)) (a .reply .now) = omega
+    (arith, c .before .before .before .before .before .before .digests-at .ensures .place, z) in
+    let handed = c .before .before .before .before .share-fragment .ensures
+    ∙ (ap (λ (d : List ℕ). shareAt (shelf (a .t)) d .part) (c .before .before .before .before .before .rest .ensures)
+    ∙ fragment-handed (shelf (a .t)) (a .reply .now)) in
+    let at : ℕ = c .before .before .before .before .before .before .digests-at .result + 32 * a .j in
     c .same .ensures
     ∙ ap (λ (x : List ℕ). sameList x (take (at + 32 - at) (drop at (a .reply .now))))
-    (c .before .before .before .digest .ensures ∙ ap sha256 (cut (a .reply .now) (stampSize + 3)
-    (c .before .before .before .before .before .digests-at .result - (stampSize + 3)) F l))
+    (c .before .before .before .digest .ensures ∙ ap sha256 handed)
     ∙ ap (sameList (sha256 (part (a .reply .now) (stampSize + 3) F)))
     (part-of (a .reply .now) at digestSize ∙ ap (λ (k : ℕ). part (a .reply .now) (k + 32 * a .j) digestSize) e)
     ∙ sym (intact-in (shelf (a .t)) (a .reply .now) (p .3) (a .j) (p .4))
-  where
-    cut : (d : List ℕ) (at n m : ℕ) → n ≡ m → take n (drop at d) ≡ part d at m
-    cut d at n m e = unfold part in ap (λ (k : ℕ). take k (drop at d)) e
 
 pub intact-spec : {M : Type 1} → statement M
-intact-spec = tie.close (tie.spec (λ c κs. search needs) digests-at-requires (λ c. search needs) (λ c. omega (arith, fine c))
-    (λ c. omega (arith, fine c)) (λ c. omega (arith, fine c)) (λ c κs. search needs) (λ c. omega (arith, fine (c .before .before)))
-    (λ c. omega (arith, fine (c .before .before))) (λ c. search needs) (λ c. omega (arith, fine (c .before .before .before)))
-    (λ c. omega (arith, fine (c .before .before .before))) (λ c. omega (arith, fine (c .before .before .before)))
-    (λ c. omega (arith, fine (c .before .before .before))) (λ c κs. search needs) returns)
+intact-spec = tie.close (tie.spec (λ c κs. search needs) digests-at-requires (λ c. search needs) (λ c κs. search needs) (λ c. search needs)
+    (λ c κs. search needs) (λ c κs. search needs) (λ c. omega (arith, fine (c .before .before .before)))
+    (λ c. omega (arith, fine (c .before .before .before))) (λ c. search needs) (λ c. omega (arith, fine (c .before .before .before .before)))
+    (λ c. omega (arith, fine (c .before .before .before .before))) (λ c. omega (arith, fine (c .before .before .before .before)))
+    (λ c. omega (arith, fine (c .before .before .before .before))) (λ c κs. search needs) returns)

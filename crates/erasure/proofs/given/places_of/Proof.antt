@@ -1,16 +1,17 @@
 -- Each entry is where its point stands. Assumes nothing.
 use mathlib.Core.Path.{_≡_, refl}
-use Prim.Native.Nat.{_+_, _-_, _<_, _≤_}
+use Prim.Native.Nat.{_+_, _-_, _≤_}
 use native.Mathlib.Omega.{arith}
 use borrow.Author.Needs.{needs}
-use lib.ListN.{getD}
+use lib.ListN.{take}
 use Rattle.erasure.proofs.Fill.{Filled, filled-none, filled-more}
+use Rattle.erasure.specs.Standing.{placeOf}
 use Rattle.erasure.specs.System.{width}
 use Rattle.erasure.proofs.given.places_of.Statement.{statement}
 use Rattle.erasure.proofs.given.places_of.Tie as tie
 
 abbrev Inv-loop : tie.InvT-loop
-Inv-loop servers k out₀ i₀ out i = (i ≤ k) × Filled 0 (λ j v. v < k → getD servers v 0 ≡ j + 1) width i out
+Inv-loop servers k out₀ i₀ out i = (i ≤ k) × Filled 0 (λ j v. v ≡ placeOf (j + 1) (take k servers)) width i out
 
 abbrev μ-loop : tie.MeasureT-loop
 μ-loop servers k out₀ i₀ out i = k - i

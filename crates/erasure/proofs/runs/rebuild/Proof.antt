@@ -5,12 +5,14 @@ use native.Mathlib.Nat.{add-mod-right, zero-mod}
 use native.Mathlib.Omega.{arith}
 use borrow.Author.Needs.{needs}
 use lib.ListN.{length, getD}
+use lib.Seq.{length-take-le}
 use mir.Val.{Fits}
 use mir.Syntax.{w8}
 use Rattle.erasure.specs.System.{width}
 use Rattle.erasure.specs.Lanes.{Written}
 use Rattle.erasure.proofs.Lists.{written-none}
 use Rattle.erasure.proofs.Rebuilt.{byteOf, run-point, run-more, rebuilt}
+use Rattle.erasure.proofs.Standing.{places-stand, one-missing}
 use Rattle.erasure.proofs.runs.rebuild.Statement.{statement}
 use Rattle.erasure.proofs.runs.rebuild.Tie as tie
 
@@ -95,9 +97,14 @@ returns c =
     let points : (j : ℕ) → j < args .k → getD (args .servers) j 0 < 256 = λ j h. (let f : Fits w8 (getD (args .servers) j 0) = search
     needs in f .fits) in
     let long : length (args .servers) ≡ width = search needs in
+    let wide : length (places .result) ≡ width = search needs in
+    let chosen = length-take-le (args .k) (args .servers) (omega (arith, long, start .pre .0)) in
+    let placed = length-take-le (args .k) (places .result) (omega (arith, wide, start .pre .0)) in
     rebuilt (args .k) (args .f) (args .n) (a .result) (places .result) (starts .result) fragments (args .at) (args .servers) old (l .out)
     (start .pre .0) (start .pre .1) (start .pre .2)
-    (start .pre .3) (omega (arith, long, start .pre .0)) (start .pre .4) points small (starts .ensures) (places .ensures) (a .ensures)
+    (start .pre .3) (omega (arith, long, start .pre .0)) (start .pre .4) points small (starts .ensures)
+    (places-stand (args .k) (args .servers) (places .result) chosen (places .ensures))
+    (λ i h past. a .ensures .solved (one-missing (args .k) (places .result) placed i h past))
     (subst (λ (n : ℕ). Written old (l .out) 0 n (byteOf (args .k) (args .f) (a .result) (places .result) (starts .result) fragments)) (omega arith)
     (l .inv .2))
 

@@ -9,14 +9,14 @@ returns c = rw (c .refused .ensures) (latest-size (c .before .before .before .ar
 
 returns-2 : tie.Need-returns-2
 returns-2 c =
-    let m = rw (c .before .enum-told .given .1) at (c .before .before .before .«open» .ensures) in
+    let m = rw (c .before .enum-told .given .1) at (c .before .before .before .«open» .ensures .1) in
     rw (c .refused2 .ensures) (latest-broken (c .before .before .before .before .before .before .before .args .memory .now)
     (c .before .before .before .before .before .if1 .left) m)
 
 returns-3 : tie.Need-returns-3
 returns-3 c =
     let m = rw (c .before .before .before .before .before .before .before .before .t .given .1) at
-    (c .before .before .before .before .before .before .before .before .before .before .«open» .ensures) in
+    (c .before .before .before .before .before .before .before .before .before .before .«open» .ensures .1) in
     latest-blanked (c .before .before .before .before .before .before .before .before .before .before .before .before .before .before .args .memory
     .now) (c .before .before .before .before .before .before .before .before .before .before .before .before .if1 .left)
     (λ i. c .before .before .before .before .before .before .before .before .before .before .before .before .before .slice-known .given i .fits) m

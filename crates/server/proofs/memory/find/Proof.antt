@@ -11,7 +11,7 @@ returns c = let a = c .before .before .before .before .before .before .args in f
 
 returns-2 : tie.Need-returns-2
 returns-2 c = let a = c .before .before .before .before .before .before .before .before .args in find-highest (shelf (a .t)) (a .n) (a .top)
-    (a .memory .now) (a .bytes .now) (c .before .before .before .before .before .part .ensures) (c .before .stands-at .ensures (c .if2 .taken))
+    (a .memory .now) (a .bytes .now) (c .before .before .before .before .before .part .ensures) (c .before .stands-at .ensures) (c .if2 .taken)
 
 returns-3 : tie.Need-returns-3
 returns-3 c = let a = c .before .before .before .before .before .before .before .before .before .args in find-searched (shelf (a .t)) (a .n) (a .top)

@@ -10,7 +10,7 @@ use Rattle.cluster.specs.Ranges.{topFaults, memorySize, capacity}
 use Rattle.protocol.proofs.Memories.{memory-size}
 use Rattle.wire.specs.Reads.{Took, byteL, anyCandidateL}
 use Rattle.wire.proofs.Heads.{byte-range}
-use Rattle.server.proofs.Open.{no-t, no-server, no-count, no-latest, writes-within, no-writes, opens, no-tail, servers-most}
+use Rattle.server.proofs.Open.{broken, opened, no-t, no-server, no-count, no-latest, writes-within, no-writes, opens, no-tail, servers-most}
 use Rattle.server.proofs.memory.open.Statement.{statement}
 use Rattle.server.proofs.memory.open.Tie as tie
 
@@ -71,10 +71,11 @@ module _ (c : tie.After-number) where
 -- ---- the needs
 
 returns : tie.Need-returns
-returns c = memory-size (c .before .before .args .memory .now) (c .if1 .taken)
+returns c = let d = c .before .before .args .memory .now in broken d (memory-size d (c .if1 .taken))
 
 returns-2 : tie.Need-returns-2
-returns-2 c = no-t (c .before .before .before .if1 .left) (rw (c .enum-told .given .1) at (c .before .before .byte-field .ensures))
+returns-2 c = broken (c .before .before .before .before .before .args .memory .now) (no-t (c .before .before .before .if1 .left)
+    (rw (c .enum-told .given .1) at (c .before .before .byte-field .ensures)))
 
 cast-servers : tie.Need-cast-servers
 cast-servers c = omega (arith, byte-range 1 topFaults (t-took (c .before)) .1)
@@ -85,12 +86,14 @@ cast-byte-field-2 c = omega (arith, servers-most (byte-range 1 topFaults (t-took
 returns-3 : tie.Need-returns-3
 returns-3 c =
     let p = c .before .before .before .before .before in
-    no-server (size-is p) (t-took p) (c .before .before .before .servers .ensures) (rw (c .enum-told2 .given .1) at (c .before .before .byte-field2 .ensures))
+    broken (memory p) (no-server (size-is p) (t-took p) (c .before .before .before .servers .ensures)
+    (rw (c .enum-told2 .given .1) at (c .before .before .byte-field2 .ensures)))
 
 returns-4 : tie.Need-returns-4
 returns-4 c =
     let s = c .before .before .before .before in
-    no-count (size-is (after-t s)) (t-took (after-t s)) (servers-are s) (server-took s) (rw (c .enum-told3 .given .1) at (c .before .before .byte-field3 .ensures))
+    broken (memory (after-t s)) (no-count (size-is (after-t s)) (t-took (after-t s)) (servers-are s) (server-took s)
+    (rw (c .enum-told3 .given .1) at (c .before .before .byte-field3 .ensures)))
 
 cast-any-candidate-field : tie.Need-cast-any-candidate-field
 cast-any-candidate-field c = omega (arith, byte-range 1 topFaults (t-took (c .before .before .before .before .before .before .before .before .before .before)) .1)
@@ -99,8 +102,8 @@ returns-5 : tie.Need-returns-5
 returns-5 c =
     let m = c .before .before .before .before in
     let s = after-server m in
-    no-latest (size-is (after-t s)) (t-took (after-t s)) (servers-are s) (server-took s) (n-took m)
-    (rw (c .enum-told4 .given .1) at (c .before .before .any-candidate-field .ensures))
+    broken (memory (after-t s)) (no-latest (size-is (after-t s)) (t-took (after-t s)) (servers-are s) (server-took s) (n-took m)
+    (rw (c .enum-told4 .given .1) at (c .before .before .any-candidate-field .ensures)))
 
 cast-check-writes : tie.Need-cast-check-writes
 cast-check-writes c = omega (arith, byte-range 1 topFaults (t-took (first (c .before))) .1)
@@ -115,8 +118,8 @@ returns-6 : tie.Need-returns-6
 returns-6 c =
     let l = c .before .before .before .before in
     let s = after-server (after-n l) in
-    no-writes (size-is (after-t s)) (t-took (after-t s)) (servers-are s) (server-took s) (n-took (after-n l)) (latest-took l)
-    (λ i. first l .before .before .before .before .shared-slice-known .given i .fits) (c .enum-told5 .given .1) (c .before .before .check-writes .ensures)
+    broken (memory (after-t s)) (no-writes (size-is (after-t s)) (t-took (after-t s)) (servers-are s) (server-took s) (n-took (after-n l)) (latest-took l)
+    (λ i. first l .before .before .before .before .shared-slice-known .given i .fits) (c .enum-told5 .given .1) (c .before .before .check-writes .ensures))
 
 cast-t25 : tie.Need-cast-t25
 cast-t25 c = omega (arith, byte-range 1 topFaults (t-took (first (c .before .before .before .before .before .before .before .before))) .1)
@@ -131,16 +134,16 @@ returns-7 c =
     let l = c .before .before .before .before .before .before .before .before in
     let s = after-server (after-n l) in
     let w = rw (c .before .before .before .before .end .given .1) at (c .before .before .before .before .before .before .check-writes .ensures) in
-    opens (size-is (after-t s)) (t-took (after-t s)) (servers-are s) (server-took s) (n-took (after-n l)) (latest-took l) w
-    (c .before .before .rest .ensures) (c .before .all-zero .ensures) (c .if2 .taken)
+    opened (opens (size-is (after-t s)) (t-took (after-t s)) (servers-are s) (server-took s) (n-took (after-n l)) (latest-took l) w
+    (c .before .before .rest .ensures) (c .before .all-zero .ensures) (c .if2 .taken))
 
 returns-8 : tie.Need-returns-8
 returns-8 c =
     let l = c .before .before .before .before .before .before .before .before in
     let s = after-server (after-n l) in
     let w = rw (c .before .before .before .before .end .given .1) at (c .before .before .before .before .before .before .check-writes .ensures) in
-    no-tail (size-is (after-t s)) (t-took (after-t s)) (servers-are s) (server-took s) (n-took (after-n l)) (latest-took l) w
-    (c .before .before .rest .ensures) (c .before .all-zero .ensures) (c .if2 .left)
+    broken (memory (after-t s)) (no-tail (size-is (after-t s)) (t-took (after-t s)) (servers-are s) (server-took s) (n-took (after-n l)) (latest-took l) w
+    (c .before .before .rest .ensures) (c .before .all-zero .ensures) (c .if2 .left))
 
 pub open-spec : {M : Type 1} → statement M
 open-spec = tie.close (tie.spec returns (λ c. search needs) (λ c κs. search needs) (λ c. search needs) (λ c. search needs) returns-2 cast-servers

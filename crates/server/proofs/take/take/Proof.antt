@@ -12,23 +12,23 @@ returns-2 : tie.Need-returns-2
 returns-2 c =
     let a = c .before .before .before .before .before .before .before .before .before .args in
     take-broken (a .memory .now) (a .key .now) (a .packet .now) (a .out .now) (c .before .before .before .before .before .if1 .left)
-    (rw (c .before .enum-told .given .1) at (c .before .before .before .«open» .ensures)) (c .refused2 .ensures)
+    (rw (c .before .enum-told .given .1) at (c .before .before .before .«open» .ensures .1)) (c .refused2 .ensures)
 
 returns-3 : tie.Need-returns-3
 returns-3 c =
     let a = c .before .before .before .before .before .before .before .before .before .before .before .before .before .args in
     let m = rw (c .before .before .before .before .before .t .given .1) at
-    (c .before .before .before .before .before .before .before .«open» .ensures) in
+    (c .before .before .before .before .before .before .before .«open» .ensures .1) in
     take-unread (a .memory .now) (a .key .now) (a .packet .now) (a .out .now)
     (c .before .before .before .before .before .before .before .before .before .if1 .left) m
-    (rw (c .before .enum-told2 .given .1) at (c .before .before .before .read-packet .ensures)) (c .refused3 .ensures)
+    (rw (c .before .enum-told2 .given .1) at (c .before .before .before .read-packet .ensures .1)) (c .refused3 .ensures)
 
 returns-4 : tie.Need-returns-4
 returns-4 c =
     let a = c .before .before .before .before .before .before .before .before .before .before .before .before .before .before .before .before .args in
     let m = rw (c .before .before .before .before .before .before .before .before .t .given .1) at
-    (c .before .before .before .before .before .before .before .before .before .before .«open» .ensures) in
-    let p = rw (c .before .before .before .before .head .given .1) at (c .before .before .before .before .before .before .read-packet .ensures) in
+    (c .before .before .before .before .before .before .before .before .before .before .«open» .ensures .1) in
+    let p = rw (c .before .before .before .before .head .given .1) at (c .before .before .before .before .before .before .read-packet .ensures .1) in
     take-refused (a .memory .now) (a .key .now) (a .packet .now) (a .out .now)
     (c .before .before .before .before .before .before .before .before .before .before .before .before .if1 .left) m _ p
     (c .before .before .refusal .ensures) (c .before .if2 .taken) (c .refused4 .ensures)
@@ -36,7 +36,7 @@ returns-4 c =
 answer-requires : tie.Need-answer-requires
 answer-requires c κs =
     let p = rw (c .before .before .before .before .before .before .head .given .1) at
-    (c .before .before .before .before .before .before .before .before .read-packet .ensures) in
+    (c .before .before .before .before .before .before .before .before .read-packet .ensures .1) in
     server-least _ (c .before .before .before .before .before .before .before .before .before .before .before .before .before .before .before .before
     .before .before .args .packet .now) p
 
@@ -46,9 +46,9 @@ returns-5 c =
     .before .before .before .before .before .before .args in
     let m = rw (c .before .before .before .before .before .before .before .before .before .before .before .before .before .before .before .t .given
     .1) at (c .before .before .before .before .before .before .before .before .before .before .before .before .before .before .before .before .before
-    .«open» .ensures) in
+    .«open» .ensures .1) in
     let p = rw (c .before .before .before .before .before .before .before .before .before .before .before .head .given .1) at
-    (c .before .before .before .before .before .before .before .before .before .before .before .before .before .read-packet .ensures) in
+    (c .before .before .before .before .before .before .before .before .before .before .before .before .before .read-packet .ensures .1) in
     take-answered (a .memory .now) (a .key .now) (a .packet .now) (a .out .now)
     (c .before .before .before .before .before .before .before .before .before .before .before .before .before .before .before .before .before .before
     .before .if1 .left) m _ p (c .before .before .before .before .before .before .before .before .before .refusal .ensures)

@@ -3,12 +3,13 @@
 use borrow.Author.Needs.{needs}
 use native.Mathlib.Omega.{arith}
 use Rattle.protocol.proofs.Whole.{refused, head-stops}
-use Rattle.wire.proofs.Whole.{kind-range, packet-decoded, packet-trailing, packet-broken}
+use Rattle.wire.proofs.Whole.{no-packet, a-packet, kind-range, packet-decoded, packet-trailing, packet-broken}
 use Rattle.wire.proofs.packet.read_packet.Statement.{statement}
 use Rattle.wire.proofs.packet.read_packet.Tie as tie
 
 returns : tie.Need-returns
-returns c = refused (head-stops (rw (c .enum-told .given .1) at (c .before .before .head-field .ensures)))
+returns c = no-packet (c .before .before .before .before .args .packet .now)
+    (refused (head-stops (rw (c .enum-told .given .1) at (c .before .before .head-field .ensures))))
 
 body-field-requires : tie.Need-body-field-requires
 body-field-requires c κs = (
@@ -19,19 +20,22 @@ body-field-requires c κs = (
 )
 
 returns-2 : tie.Need-returns-2
-returns-2 c = packet-broken (rw (c .before .before .before .before .head .given .1) at
+returns-2 c = no-packet (c .before .before .before .before .before .before .before .before .args .packet .now)
+    (packet-broken (rw (c .before .before .before .before .head .given .1) at
     (c .before .before .before .before .before .before .head-field .ensures)) (rw (c .enum-told2 .given .1) at
-    (c .before .before .body-field .ensures))
+    (c .before .before .body-field .ensures)))
 
 returns-3 : tie.Need-returns-3
-returns-3 c = packet-trailing (rw (c .before .before .before .before .before .before .head .given .1) at
+returns-3 c = no-packet (c .before .before .before .before .before .before .before .before .before .before .args .packet .now)
+    (packet-trailing (rw (c .before .before .before .before .before .before .head .given .1) at
     (c .before .before .before .before .before .before .before .before .head-field .ensures))
-    (rw (c .before .before .v .given .1) at (c .before .before .before .before .body-field .ensures)) (omega arith)
+    (rw (c .before .before .v .given .1) at (c .before .before .before .before .body-field .ensures)) (omega arith))
 
 returns-4 : tie.Need-returns-4
-returns-4 c = packet-decoded (rw (c .before .before .before .before .before .before .head .given .1) at
+returns-4 c = a-packet (c .before .before .before .before .before .before .before .before .before .before .args .packet .now) _
+    (packet-decoded (rw (c .before .before .before .before .before .before .head .given .1) at
     (c .before .before .before .before .before .before .before .before .head-field .ensures))
-    (rw (c .before .before .v .given .1) at (c .before .before .before .before .body-field .ensures)) (omega arith)
+    (rw (c .before .before .v .given .1) at (c .before .before .before .before .body-field .ensures)) (omega arith))
 
 pub read-packet-spec : {M : Type 1} → statement M
 read-packet-spec = tie.close (tie.spec (λ c κs. search needs) (λ c. search needs) (λ c. search needs) returns body-field-requires (λ c. search needs)
