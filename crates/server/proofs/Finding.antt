@@ -9,7 +9,7 @@ use native.Mathlib.Omega.{arith}
 use lib.Dec.{ltb}
 use lib.ListN.{drop}
 use borrow.Author.Tests.{ltb-true, ltb-false, le-ltb, lt-ltb}
-use Rattle.cluster.specs.Config.{Config}
+use Rattle.cluster.specs.Config.{shelf}
 use Rattle.cluster.proofs.Tests.{untrue, and-both}
 use Rattle.protocol.specs.declared.Stamp.{Stamp}
 use Rattle.protocol.specs.Format.{orElse, via, seq, number4, byte, run}
@@ -21,9 +21,10 @@ use Rattle.protocol.proofs.Answers.{at-cond}
 use Rattle.protocol.proofs.Equal.{same-true, same-printed}
 use Rattle.protocol.proofs.Formats.{value4-print}
 use Rattle.server.specs.declared.memory.Top.{Top}
+use Rattle.server.specs.declared.memory.Opened.{Opened}
 use Rattle.server.specs.declared.memory.Found.{Found}
 use Rattle.server.specs.declared.memory.Found.the-variants as found
-use Rattle.server.specs.Reads.{Stored, firstWith, FindIs, SearchAs, FindAs, maxOf, UpTo, TopOf, raisedTop}
+use Rattle.server.specs.Reads.{firstWith, FindIs, SearchAs, Holds, FindAs, maxOf, UpTo, raisedTop}
 
 -- ---- keys
 
@@ -84,21 +85,24 @@ first-append key (x ∷ xs) ys = go (sameList (stampF .print (x .stamp)) key) (f
     go true h = refl
     go false h = h
 
-module _ (s : Config) (n : ℕ) (top : Top) (d y : List ℕ) {x : List ℕ} (p : x ≡ part y 0 stampSize) where
-  found-as : (r : Found) → ((ws : List Write) (e : ℕ) → Stored s n d ws e → TopOf s d top ws → FindIs s d (firstWith x ws) r) → FindAs s n top d y r
-  found-as r f ws e m u = subst (λ (z : List ℕ). FindIs s d (firstWith z ws) r) p (f ws e m u)
+module _ (d : List ℕ) (told : Opened) (y : List ℕ) {x : List ℕ} (p : x ≡ part y 0 stampSize) where
+  abbrev top : Top
+  top = told .top
 
-  pub find-above : {k : ℕ} → k ≡ rank (stampAt x) → top .key < k → FindAs s n top d y found.Nothing
-  find-above q l = found-as found.Nothing (λ ws e m u. first-above x (top .key) ws (u .up) (omega (arith, q, l)))
+  found-as : (r : Found) → ((ws : List Write) → Holds d told ws → FindIs (shelf (told .t)) d (firstWith x ws) r) → FindAs d told y r
+  found-as r f ws h = subst (λ (z : List ℕ). FindIs (shelf (told .t)) d (firstWith z ws) r) p (f ws h)
+
+  pub find-above : {k : ℕ} → k ≡ rank (stampAt x) → top .key < k → FindAs d told y found.Nothing
+  find-above q l = found-as found.Nothing (λ ws h. first-above x (top .key) ws (h .up .up) (omega (arith, q, l)))
 
   pub find-highest : {r : Bool} → r ≡ (ltb 0 (top .at) && sameList (part (drop (top .at) d) 0 stampSize) x) → r ≡ true
-      → FindAs s n top d y (found.At (top .at))
+      → FindAs d told y (found.At (top .at))
   find-highest c e =
       let both = and-both (ltb 0 (top .at)) (sameList (part (drop (top .at) d) 0 stampSize) x) (sym c ∙ e) in
-      found-as (found.At (top .at)) (λ ws e m u. u .first (ltb-true 0 (top .at) (both .0)) x (both .1))
+      found-as (found.At (top .at)) (λ ws h. h .up .first (ltb-true 0 (top .at) (both .0)) x (both .1))
 
-  pub find-searched : (r : Found) → SearchAs s n d x r → FindAs s n top d y r
-  find-searched r f = found-as r (λ ws e m u. f ws e m)
+  pub find-searched : (r : Found) → SearchAs (shelf (told .t)) (told .count) d x r → FindAs d told y r
+  find-searched r f = found-as r (λ ws h. f ws (told .end) (h .there))
 
 -- the bytes at a place, as the code compares them; at place 0 none stand
 pub stands : (d key : List ℕ) (at : ℕ) {y x : List ℕ} {r : Bool} → y ≡ drop at d → x ≡ part y 0 stampSize → r ≡ sameList x key → 0 < at

@@ -25,7 +25,7 @@ use Rattle.protocol.proofs.Puts.{put-over, wrote-then, wrote-length}
 use Rattle.wire.specs.Places.{lengthAt, shareSize, writeAt}
 use Rattle.wire.specs.Make.{placed, writeStep, packetStep}
 use Rattle.wire.proofs.Put.{placed-wrote}
-use Rattle.server.specs.declared.memory.Top.{Top}
+use Rattle.server.specs.declared.memory.Opened.{Opened}
 use Rattle.server.specs.declared.memory.Found.{Found}
 use Rattle.server.specs.declared.memory.Found.the-variants as found
 use Rattle.server.specs.Reads.{firstWith, FindIs, FindAs}
@@ -102,8 +102,11 @@ held-some : (s : Config) (a : Stamp) (x : Share) → heldF s .print (record { st
 unfolding heldF anyStampF via seq orBlank optional
 held-some s a x = sym (append-assoc (stampF .print a) (1 ∷ []) (shareF s .print x))
 
-module _ (d : List ℕ) (bs : Bytes d) (h : Head) (n : ℕ) (top : Top) (a : Stamp) (output : List ℕ) {z : List ℕ}
+module _ (d : List ℕ) (bs : Bytes d) (h : Head) (told : Opened) (a : Stamp) (output : List ℕ) {z : List ℕ}
     (p : z ≡ stampF .print a ++ 0 ∷ []) where
+  abbrev s : Config
+  s = shelf (told .t)
+
   found-for : (ws : List Write) → length (a .tag) ≡ tagSize → shareIn (firstWith (part z 0 stampSize) ws) ≡ held a ws
   unfolding part
   found-for ws l =
@@ -112,28 +115,27 @@ module _ (d : List ℕ) (bs : Bytes d) (h : Head) (n : ℕ) (top : Top) (a : Sta
 
   replies : (ws : List Write) {w : Written} (o : Option Share) → held a ws ≡ o → (first second : List ℕ) {g : Head} → g ≡ replyHead h 10 → w ≡
       packetStep g first second output
-      → first ++ second ≡ heldF (shelf (h .t)) .print (record { stamp = a; share = o })
-      → w ≡ packetStep (replyHead h 10) (heldF (shelf (h .t)) .print (record { stamp = a; share = held a ws })) [] output
+      → first ++ second ≡ heldF s .print (record { stamp = a; share = o })
+      → w ≡ packetStep (replyHead h 10) (heldF s .print (record { stamp = a; share = held a ws })) [] output
   replies ws {w} o e first second i u v =
       headed h 10 output first second i u ∙ joined (replyHead h 10) first second output
-      ∙ ap (λ (y : List ℕ). packetStep (replyHead h 10) y [] output) (v ∙ ap (λ (y : Option Share). heldF (shelf (h .t)) .print
+      ∙ ap (λ (y : List ℕ). packetStep (replyHead h 10) y [] output) (v ∙ ap (λ (y : Option Share). heldF s .print
       (record { stamp = a; share = y })) (sym e))
 
-  pub held-nothing : (f : Found) → FindAs (shelf (h .t)) n top d z f → f ≡ found.Nothing → {second : List ℕ} → second ≡ part d 0 0
-      → {g : Head} {w : Written} → g ≡ replyHead h 10 → w ≡ packetStep g z second output → HeldAs d h n top a output w
-  held-nothing f find t {second} v i u ws e m up l =
-      let k : firstWith (part z 0 stampSize) ws ≡ none = subst (λ (y : Found). FindIs (shelf (h .t)) d (firstWith (part z 0 stampSize) ws) y) t
-      (find ws e m up) in
+  pub held-nothing : (f : Found) → FindAs d told z f → f ≡ found.Nothing → {second : List ℕ} → second ≡ part d 0 0
+      → {g : Head} {w : Written} → g ≡ replyHead h 10 → w ≡ packetStep g z second output → HeldAs d h told a output w
+  held-nothing f find t {second} v i u ws m l =
+      let k : firstWith (part z 0 stampSize) ws ≡ none = subst (λ (y : Found). FindIs s d (firstWith (part z 0 stampSize) ws) y) t
+      (find ws m) in
       replies ws none (sym (found-for ws l) ∙ ap shareIn k) z second i u
-      (ap (λ (y : List ℕ). z ++ y) (v ∙ part-none d 0) ∙ append-nil z ∙ p ∙ sym (held-none (shelf (h .t)) a))
+      (ap (λ (y : List ℕ). z ++ y) (v ∙ part-none d 0) ∙ append-nil z ∙ p ∙ sym (held-none s a))
 
-  pub held-share : (f : Found) → FindAs (shelf (h .t)) n top d z f → {at : ℕ} → f ≡ found.At at → {first second : List ℕ} → first ≡ stampF .print a ++
+  pub held-share : (f : Found) → FindAs d told z f → {at : ℕ} → f ≡ found.At at → {first second : List ℕ} → first ≡ stampF .print a ++
       1 ∷ []
-      → second ≡ shareBytes (shelf (h .t)) d at → {g : Head} {w : Written} → g ≡ replyHead h 10 → w ≡ packetStep g first second output → HeldAs d h n
-      top a output w
-  held-share f find {at} t {first} {second} y v i u ws e m up l =
-      let k = subst (λ (y : Found). FindIs (shelf (h .t)) d (firstWith (part z 0 stampSize) ws) y) t (find ws e m up) in
-      let x : Share = writeAt (shelf (h .t)) (drop at d) .share in
-      let b : second ≡ shareF (shelf (h .t)) .print x = v ∙ share-there (shelf (h .t)) (k .there) bs in
+      → second ≡ shareBytes s d at → {g : Head} {w : Written} → g ≡ replyHead h 10 → w ≡ packetStep g first second output → HeldAs d h told a output w
+  held-share f find {at} t {first} {second} y v i u ws m l =
+      let k = subst (λ (y : Found). FindIs s d (firstWith (part z 0 stampSize) ws) y) t (find ws m) in
+      let x : Share = writeAt s (drop at d) .share in
+      let b : second ≡ shareF s .print x = v ∙ share-there s (k .there) bs in
       replies ws (some x) (sym (found-for ws l) ∙ ap shareIn (k .first)) first second i u
-      ((λ j. y j ++ b j) ∙ sym (held-some (shelf (h .t)) a x))
+      ((λ j. y j ++ b j) ∙ sym (held-some s a x))

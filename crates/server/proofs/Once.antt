@@ -10,7 +10,7 @@ use native.Mathlib.Nat.{sub-zero}
 use lib.Dec.{T, ltb}
 use lib.ListN.{drop, take, length}
 use borrow.Author.Tests.{ltb-true, ltb-false}
-use Rattle.cluster.specs.Config.{Config}
+use Rattle.cluster.specs.Config.{Config, shelf}
 use Rattle.protocol.specs.Format.{Bytes, many}
 use Rattle.protocol.specs.Values.{Write, sameList, isSome, stampSize, rank}
 use Rattle.protocol.specs.Packet.{stampF, writeF}
@@ -23,16 +23,23 @@ use Rattle.protocol.proofs.Leaves.{leaves-none}
 use Rattle.protocol.proofs.Walks.{many-next, many-stops, many-none, all-snoc, many-snoc}
 use Rattle.wire.specs.Places.{writeAt}
 use Rattle.server.specs.declared.memory.Top.{Top}
+use Rattle.server.specs.declared.memory.Opened.{Opened}
 use Rattle.server.specs.declared.memory.Found.{Found}
 use Rattle.server.specs.declared.memory.Found.the-variants as found
 use Rattle.server.specs.declared.memory.Writes.the-variants as writes
-use Rattle.server.specs.Reads.{writesPlace, Stored, firstWith, FindIs, FindAs, TopOf, raisedTop, RepeatsAs, WritesAs}
+use Rattle.server.specs.Reads.{writesPlace, Stored, firstWith, FindIs, TopOf, FindAs, raisedTop, RepeatsAs, NoWrites, WritesAs}
 use Rattle.server.proofs.Walk.{stamp-bytes}
 use Rattle.server.proofs.Finding.{up-more, key-printed, first-above, first-append, shareIn, first-held}
 
 -- ---- whether a stamp stands before
 
-module _ (s : Config) (n : ℕ) (top : Top) (d : List ℕ) (at : ℕ) (bs : Bytes d) {x : List ℕ} (p : x ≡ drop at d) where
+module _ (d : List ℕ) (told : Opened) (bs : Bytes d) {x : List ℕ} (p : x ≡ drop (told .end) d) where
+  abbrev s : Config
+  s = shelf (told .t)
+
+  abbrev at : ℕ
+  at = told .end
+
   found-held : {next : ℕ} → Leaves (writeF s) d at (writeAt s (drop at d)) next → (ws : List Write) → shareIn (firstWith (part x 0 stampSize) ws) ≡
       held (stampAt (drop at d)) ws
   unfolding writeAt part
@@ -40,14 +47,14 @@ module _ (s : Config) (n : ℕ) (top : Top) (d : List ℕ) (at : ℕ) (bs : Byte
       ap (λ (k : List ℕ). shareIn (firstWith k ws)) (ap (take stampSize) p ∙ unfold part in (stamp-bytes s f bs)) ∙ first-held (stampAt (drop at d))
       ws
 
-  pub repeats-none : {r : Found} → r ≡ found.Nothing → FindAs s n top d x r → RepeatsAs s n top d at false
-  repeats-none t g ws e next m u f =
-      let o : firstWith (part x 0 stampSize) ws ≡ none = subst (λ (y : Found). FindIs s d (firstWith (part x 0 stampSize) ws) y) t (g ws e m u) in
+  pub repeats-none : {r : Found} → r ≡ found.Nothing → FindAs d told x r → RepeatsAs d told false
+  repeats-none t g ws next h f =
+      let o : firstWith (part x 0 stampSize) ws ≡ none = subst (λ (y : Found). FindIs s d (firstWith (part x 0 stampSize) ws) y) t (g ws h) in
       sym (ap isSome (sym (found-held f ws) ∙ ap shareIn o))
 
-  pub repeats-found : {r : Found} {k : ℕ} → r ≡ found.At k → FindAs s n top d x r → RepeatsAs s n top d at true
-  repeats-found t g ws e next m u f =
-      let o = subst (λ (y : Found). FindIs s d (firstWith (part x 0 stampSize) ws) y) t (g ws e m u) in
+  pub repeats-found : {r : Found} {k : ℕ} → r ≡ found.At k → FindAs d told x r → RepeatsAs d told true
+  repeats-found t g ws next h f =
+      let o = subst (λ (y : Found). FindIs s d (firstWith (part x 0 stampSize) ws) y) t (g ws h) in
       sym (ap isSome (sym (found-held f ws) ∙ ap shareIn (o .first)))
 
 -- ---- the highest of the writes, with one more
@@ -118,47 +125,57 @@ check-none s n d {at} p h = subst (λ (j : ℕ). Checking s n d j (record { key 
           rest = λ ws e m. (ws, subst (λ (j : ℕ). Leaves (many j (writeF s)) d (writesPlace s) ws e) (sym (sub-zero n)) m, refl);
         }
 
-module _ {s : Config} {n : ℕ} {d : List ℕ} {at i : ℕ} {top : Top} (h : Checking s n d at top i) where
-  pub check-end : i ≡ n → WritesAs s n d (writes.Past at top)
-  check-end e =
-      let m = subst (λ (j : ℕ). Stored s j d (h .seen) at) e (h .there) in
+-- what is told of the writes that were seen
+abbrev pub seenSo : ℕ → ℕ → ℕ → ℕ → Top → Opened
+seenSo t b i at top = record { t = t; server = b; count = i; end = at; top = top }
+
+module _ (t : ℕ) {n : ℕ} {d : List ℕ} {at i : ℕ} {top : Top} (h : Checking (shelf t) n d at top i) where
+  pub check-end : (b : ℕ) → i ≡ n → WritesAs t b n d (writes.Past at top)
+  check-end b e =
+      let m = subst (λ (j : ℕ). Stored (shelf t) j d (h .seen) at) e (h .there) in
       let (ys, r, p) = h .rest (h .seen) at m in
-      record { writes = h .seen; there = m; up = h .up; once = p ∙ ap (freshAfter (h .seen)) (many-none (writeF s) (n - i) (omega arith) r) }
+      record {
+        writes = h .seen;
+        holds = record { there = m; up = h .up };
+        once = p ∙ ap (freshAfter (h .seen))
+            (many-none (writeF (shelf t)) (n - i) (omega arith) r);
+      }
 
   module _ (l : i < n) where
-    pub check-stop : Stops (writeF s) d at → WritesAs s n d writes.Broken
+    pub check-stop : Stops (writeF (shelf t)) d at → NoWrites (shelf t) n d
     check-stop f ws e m o =
         let (ys, r, p) = h .rest ws e m in
-        many-stops (writeF s) (n - i) (n - (i + 1)) (omega arith) r f
+        many-stops (writeF (shelf t)) (n - i) (n - (i + 1)) (omega arith) r f
 
-    module _ {q : ℕ} (f : Leaves (writeF s) d at (writeAt s (drop at d)) q) where
-      last-key : {x : List ℕ} → x ≡ drop at d → {k : ℕ} → k ≡ rank (stampAt x) → k ≡ rank (writeAt s (drop at d) .stamp)
+    module _ {q : ℕ} (f : Leaves (writeF (shelf t)) d at (writeAt (shelf t) (drop at d)) q) where
+      last-key : {x : List ℕ} → x ≡ drop at d → {k : ℕ} → k ≡ rank (stampAt x) → k ≡ rank (writeAt (shelf t) (drop at d) .stamp)
       unfolding writeAt
       last-key p e = e ∙ ap (λ (y : List ℕ). rank (stampAt y)) p
 
       -- the stamps seen and then the others, where the first of these is known to be fresh or not
-      fresh-next : (b : Bool) → RepeatsAs s i top d at b → (zs : List Write)
-          → freshAfter (h .seen) (writeAt s (drop at d) ∷ zs) ≡ (not b && freshAfter (h .seen ++ writeAt s (drop at d) ∷ []) zs)
+      fresh-next : (b : ℕ) (r : Bool) → RepeatsAs d (seenSo t b i at top) r → (zs : List Write)
+          → freshAfter (h .seen) (writeAt (shelf t) (drop at d) ∷ zs) ≡ (not r && freshAfter (h .seen ++ writeAt (shelf t) (drop at d) ∷ []) zs)
       unfolding writeAt
-      fresh-next b g zs = rw (sym (g (h .seen) at q (h .there) (h .up) (unfold writeAt in f)))
+      fresh-next b r g zs = rw (sym (g (h .seen) q (record { there = h .there; up = h .up }) (unfold writeAt in f)))
 
-      pub check-held : {b : Bool} → RepeatsAs s i top d at b → b ≡ true → WritesAs s n d writes.Broken
-      check-held {b} g t ws e m o =
+      pub check-held : (b : ℕ) {v : Bool} → RepeatsAs d (seenSo t b i at top) v → v ≡ true → NoWrites (shelf t) n d
+      check-held b {v} g y ws e m o =
           let (ys, r, p) = h .rest ws e m in
-          let (zs, u, _) = many-next (writeF s) (n - i) (n - (i + 1)) (omega arith) r f in
-          let z : true ≡ false = sym o ∙ p ∙ ap (freshAfter (h .seen)) u ∙ fresh-next b g zs ∙ rw t in
+          let (zs, u, _) = many-next (writeF (shelf t)) (n - i) (n - (i + 1)) (omega arith) r f in
+          let z : true ≡ false = sym o ∙ p ∙ ap (freshAfter (h .seen)) u ∙ fresh-next b v g zs ∙ rw y in
           subst T z tt
 
       pub check-more : Bytes d → {x : List ℕ} → x ≡ drop at d → {k : ℕ} → k ≡ rank (stampAt x) → {up : Top} → up ≡ raisedTop top k at
-          → {b : Bool} → RepeatsAs s i top d at b → b ≡ false → Checking s n d q up (i + 1)
-      check-more bs {x} p₀ {k} q₀ {up} v {b} g t =
-          let w : Write = writeAt s (drop at d) in
+          → (b : ℕ) {c : Bool} → RepeatsAs d (seenSo t b i at top) c → c ≡ false → Checking (shelf t) n d q up (i + 1)
+      check-more bs {x} p₀ {k} q₀ {up} v b {c} g y =
+          let w : Write = writeAt (shelf t) (drop at d) in
           record {
             seen = h .seen ++ w ∷ [];
-            there = many-snoc (writeF s) i (h .there) f;
-            up = subst (λ (z : Top). TopOf s d z (h .seen ++ w ∷ [])) (sym v) (top-more s bs top (h .seen) f (h .up) (last-key p₀ q₀));
+            there = many-snoc (writeF (shelf t)) i (h .there) f;
+            up = subst (λ (z : Top). TopOf (shelf t) d z (h .seen ++ w ∷ [])) (sym v)
+                (top-more (shelf t) bs top (h .seen) f (h .up) (last-key p₀ q₀));
             rest = λ ws e m.
                 let (ys, r, p) = h .rest ws e m in
-                let (zs, u, r′) = many-next (writeF s) (n - i) (n - (i + 1)) (omega arith) r f in
-                (zs, r′, p ∙ ap (freshAfter (h .seen)) u ∙ fresh-next b g zs ∙ rw t);
+                let (zs, u, r′) = many-next (writeF (shelf t)) (n - i) (n - (i + 1)) (omega arith) r f in
+                (zs, r′, p ∙ ap (freshAfter (h .seen)) u ∙ fresh-next b c g zs ∙ rw y);
           }

@@ -25,10 +25,11 @@ use Rattle.protocol.proofs.Repeats.{many-law}
 use Rattle.protocol.proofs.Walks.{Reads, decide, leaves-moved, many-count}
 use Rattle.wire.specs.Reads.{Took, byteL, anyCandidateL}
 use Rattle.server.specs.declared.memory.Top.{Top}
+use Rattle.server.specs.declared.memory.Opened.{Opened}
 use Rattle.server.specs.declared.memory.Writes.{Writes}
 use Rattle.server.specs.declared.memory.Writes.the-variants as writes
 use Rattle.server.specs.declared.memory.MemoryRead.the-variants as memories
-use Rattle.server.specs.Reads.{latestPlace, writesPlace, Stored, Checked, WritesAs, Opened, MemoryAs}
+use Rattle.server.specs.Reads.{latestPlace, writesPlace, Stored, Checked, NoWrites, WritesAs, OpenedAs, MemoryAs}
 
 -- ---- the answer and its number
 
@@ -39,7 +40,7 @@ number-of d e = ap (λ (o : Option Memory). firstOf (refuse 2 (not (isSome o)) �
 pub broken : (d : List ℕ) → decodeMemory d ≡ none → MemoryAs d memories.Broken
 broken d e = (number-of d e, e)
 
-pub opened : {d : List ℕ} {t b n e : ℕ} {top : Top} → Opened d t b n e top → MemoryAs d (memories.Value t b n e top)
+pub opened : {d : List ℕ} {told : Opened} → OpenedAs d told → MemoryAs d (memories.Value told)
 opened {d} o = (number-of d (o .decoded), o)
 
 -- ---- the parts
@@ -126,25 +127,25 @@ module _ {d : List ℕ} (size : length d ≡ memorySize) where
               (stops-second _ _ (byte-there 1 topFaults x) (stops-second _ _ server-there
               (stops-second _ _ (byte-there 0 capacity z) (stops-second _ _ (l .leaves) g)))))
 
-          pub no-writes : Bytes d → {u : Writes} → u ≡ writes.Broken → WritesAs (shelf t) n d u → decodeMemory d ≡ none
+          pub no-writes : Bytes d → {u : Writes} → u ≡ writes.Broken → WritesAs t b n d u → decodeMemory d ≡ none
           no-writes bs broken w₀ = memory-stops d size (go (decide (many n (writeF (shelf t))) (many-law (writeF (shelf t)) (write-law (shelf t)) n) d
               (writesPlace (shelf t)) bs writes-within))
             where
-              w : WritesAs (shelf t) n d writes.Broken
-              w = subst (λ (o : Writes). WritesAs (shelf t) n d o) broken w₀
+              w : NoWrites (shelf t) n d
+              w = subst (λ (o : Writes). WritesAs t b n d o) broken w₀
 
               go : Reads (many n (writeF (shelf t))) d (writesPlace (shelf t)) ⊎ Stops (many n (writeF (shelf t))) d (writesPlace (shelf t)) → Stops
                   memoryF d 0
               go (inl o) = memory-twice (o .there) (untrue _ (w (o .value) (o .next) (o .there)))
               go (inr f) = memory-short f
 
-          module _ {e : ℕ} {top : Top} (w : Checked (shelf t) n d e top) where
-            pub opens : {o : List ℕ} → o ≡ drop e d → {c : Bool} → c ≡ zeros o → c ≡ true → Opened d t b n e top
+          module _ {e : ℕ} {top : Top} (w : Checked d (record { t = t; server = b; count = n; end = e; top = top })) where
+            pub opens : {o : List ℕ} → o ≡ drop e d → {c : Bool} → c ≡ zeros o → c ≡ true
+                → OpenedAs d (record { t = t; server = b; count = n; end = e; top = top })
             opens f g i =
                 record {
                   writes = w .writes;
-                  there = w .there;
-                  up = w .up;
+                  holds = w .holds;
                   decoded = subst (λ (j : ℕ). decodeMemory d ≡ some (record {
                     t = t;
                     server = b;
@@ -152,8 +153,8 @@ module _ {d : List ℕ} (size : length d ≡ memorySize) where
                     writes =
                         w .writes;
                   }))
-                      at-latest (memory-opens d size (memory-there (w .there) (w .once)) (tail d e f g i));
+                      at-latest (memory-opens d size (memory-there (w .holds .there) (w .once)) (tail d e f g i));
                 }
 
             pub no-tail : {o : List ℕ} → o ≡ drop e d → {c : Bool} → c ≡ zeros o → c ≡ false → decodeMemory d ≡ none
-            no-tail f g i = memory-tail d size (memory-there (w .there) (w .once)) (tail d e f g i)
+            no-tail f g i = memory-tail d size (memory-there (w .holds .there) (w .once)) (tail d e f g i)

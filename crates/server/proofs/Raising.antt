@@ -3,6 +3,7 @@
 use mathlib.Core.Path.{_≡_, refl, sym, ap, _∙_}
 use mathlib.Core.Bool.{Bool, true, false, cond}
 use mathlib.Core.List.{List}
+use mathlib.Core.Option.{some}
 use Prim.Native.Nat.{ℕ, _+_, _≤_, _<_}
 use native.Mathlib.Omega.{arith}
 use lib.ListN.{length, drop, getD}
@@ -13,12 +14,13 @@ use Rattle.cluster.specs.declared.Outcome.{Outcome}
 use Rattle.protocol.specs.declared.Head.{Head}
 use Rattle.protocol.specs.Format.{Bytes}
 use Rattle.protocol.specs.Values.{Candidate, below, stampSize, candidateSize}
-use Rattle.protocol.specs.Packet.{candidateF, anyCandidateF, complete, headSize}
+use Rattle.protocol.specs.Packet.{candidateF, anyCandidateF, complete, headSize, decode}
 use Rattle.protocol.specs.Memory.{encodeMemory}
+use Rattle.protocol.specs.Primitives.{real}
 use Rattle.protocol.specs.Server.{memoryOf, Server, raise, act}
 use Rattle.protocol.specs.View.{part, stampAt, candidateAt}
 use Rattle.protocol.specs.ClientBytes.{put}
-use Rattle.protocol.specs.ServerBytes.{serverIn}
+use Rattle.protocol.specs.ServerBytes.{Served, serverIn, actedOn}
 use Rattle.protocol.proofs.Acts.{any-candidate}
 use Rattle.protocol.proofs.Changes.{latest-bytes}
 use Rattle.protocol.proofs.Packets.{any-print, any-candidate-length}
@@ -26,11 +28,11 @@ use Rattle.wire.specs.declared.values.CandidateHead.{CandidateHead}
 use Rattle.wire.specs.Places.{padded, headAt, bodyAt, packetAt}
 use Rattle.wire.specs.Make.{Placed, placed, packetStep}
 use Rattle.wire.proofs.Runs.{padded-get}
-use Rattle.server.specs.declared.memory.Top.{Top}
-use Rattle.server.specs.Reads.{latestPlace, Opened}
+use Rattle.server.specs.declared.memory.Opened.{Opened}
+use Rattle.server.specs.Reads.{latestPlace, OpenedAs}
 use Rattle.server.specs.Answers.{memoryIn, replyHead, raisedBytes, AnswersFor}
 use Rattle.server.proofs.Standing.{memory-bytes, memory-size-of, memory-fields}
-use Rattle.server.proofs.Replies.{body-of, replied, unchanged, part-none, alone, headed, sent-ok, sent-bytes}
+use Rattle.server.proofs.Replies.{body-of, to-server, replied, unchanged, part-none, alone, headed, sent-ok, sent-bytes}
 
 -- a head read off bytes has the number and the writer that stand there
 module _ (x : List ℕ) where
@@ -79,7 +81,13 @@ pub size-few : (t : ℕ) → t ≤ topFaults → latestPlace + candidateSize (sh
 unfolding shelf
 size-few t h = omega arith
 
-module _ {d : List ℕ} {t b n e : ℕ} {top : Top} (o : Opened d t b n e top) (bs : Bytes d) (x : List ℕ) where
+module _ {d : List ℕ} {told : Opened} (o : OpenedAs d told) (bs : Bytes d) (x : List ℕ) where
+  abbrev t : ℕ
+  t = told .t
+
+  abbrev b : ℕ
+  b = told .server
+
   module _ (p : x ≡ candidateF (shelf t) .print (candidateAt (shelf t) x)) (ok : candidateF (shelf t) .Ok (candidateAt (shelf t) x)) where
     any-length : (c : Candidate) → anyCandidateF (shelf t) .Ok c → length (anyCandidateF (shelf t) .print c) ≡ candidateSize (shelf t)
     any-length c h = any-candidate-length (shelf t) c h
@@ -116,10 +124,12 @@ module _ (d : List ℕ) (bs : Bytes d) (packet : List ℕ) (ps : Bytes packet) (
       output
       → AnswersFor 5 d packet output h (record { result = r; memory = m; output = out })
   unfolding bodyAt act packetAt
-  complete-answers {x} {m} {out} {first} {second} c e f j q w key n z top o dec k room =
+  complete-answers {x} {m} {out} {first} {second} {g} {r} c e f j q w key told o own dec k room =
       let y : List ℕ = drop headSize packet in
       let b = body-of h packet 5 k in
-      replied key packet output h o dec room (complete (candidateAt (shelf (h .t)) y)) b first second
+      let answer : Served = record { result = r; memory = m; output = out } in
+      to-server h own (λ z. (o : OpenedAs d z) → answer ≡ actedOn real d key packet output (some (memoryIn o)) (decode packet))
+      (λ n z top o. replied key packet output h o dec room (complete (candidateAt (shelf (h .t)) y)) b first second
       (e ∙ ap (raisedBytes d) c ∙ raised-memory o bs y (sent-bytes h packet dec b ps) (sent-ok h packet dec b))
       (sym (f ∙ part-none packet 0) ∙ alone first (j ∙ part-none packet 0))
-      (headed h 6 output first second q w)
+      (headed h 6 output first second q w)) o

@@ -25,8 +25,9 @@ use Rattle.wire.specs.Places.{bodyAt, packetAt}
 use Rattle.wire.specs.Make.{packetStep}
 use Rattle.wire.proofs.Laws.{made-accepted, body-bytes}
 use Rattle.server.specs.declared.memory.Top.{Top}
-use Rattle.server.specs.Reads.{latestPlace, Opened}
-use Rattle.server.specs.Answers.{memoryIn, replyHead, AnswersAll}
+use Rattle.server.specs.declared.memory.Opened.{Opened}
+use Rattle.server.specs.Reads.{latestPlace, OpenedAs}
+use Rattle.server.specs.Answers.{memoryIn, ToServer, replyHead, AnswersAll}
 use Rattle.server.proofs.Standing.{memory-bytes, server-ok, latest-part, latest-stamp}
 
 -- the body of a packet of kind k
@@ -44,7 +45,17 @@ module _ (h : Head) (packet : List ℕ) (dec : decode packet ≡ some (packetAt 
   unfolding packetAt
   sent-bytes ps = body-bytes packet (packetAt h packet) dec ps ∙ ap (printBody (shelf (h .t))) body
 
-module _ {d : List ℕ} (key packet output : List ℕ) (h : Head) {n e : ℕ} {top : Top} (o : Opened d (h .t) (h .server) n e top) where
+-- what holds of all that is told of a server with t and server of the head h, holds where the packet is to this server
+abbrev pub toldTo : Head → ℕ → ℕ → Top → Opened
+toldTo h n e top = record { t = h .t; server = h .server; count = n; end = e; top = top }
+
+pub to-server : (h : Head) {told : Opened} → ToServer h told → (P : Opened → Type 0) → ((n e : ℕ) (top : Top) → P (toldTo h n e top)) → P told
+to-server h {told} own P f =
+    let q : _≡_ {A = Opened} (toldTo h (told .count) (told .end) (told .top)) told =
+    λ i. record { t = own .0 i; server = own .1 i; count = told .count; end = told .end; top = told .top } in
+    subst P q (f (told .count) (told .end) (told .top))
+
+module _ {d : List ℕ} (key packet output : List ℕ) (h : Head) {n e : ℕ} {top : Top} (o : OpenedAs d (toldTo h n e top)) where
   -- the server's step
   abbrev pub stepOf : Body → Acted
   stepOf x = act real (shelf (h .t)) key (h .server) (serverIn (memoryIn o)) x
@@ -102,7 +113,8 @@ module _ {d : List ℕ} (key packet output : List ℕ) (h : Head) {n e : ℕ} {t
         (w ∙ ap (λ (y : Acted). packetStep (replyHead h (kindOf (y .reply))) first second output) (sym q))
 
 -- the memory as it is
-pub unchanged : {d : List ℕ} {t b n e : ℕ} {top : Top} (o : Opened d t b n e top) → Bytes d → d ≡ encodeMemory (memoryOf t b (serverIn (memoryIn o)))
+pub unchanged : {d : List ℕ} {told : Opened} (o : OpenedAs d told) → Bytes d → d ≡ encodeMemory
+    (memoryOf (told .t) (told .server) (serverIn (memoryIn o)))
 unfolding serverIn
 unchanged o bs = sym (memory-bytes o bs)
 
@@ -128,16 +140,20 @@ module _ (d : List ℕ) (bs : Bytes d) (output : List ℕ) (h : Head) {first sec
       output
       → AnswersAll 1 d output h (record { result = r; memory = d; output = out })
   unfolding bodyAt act serverIn anyStampF orBlank candidateAt
-  clock-answers f q w packet key n e top o dec k room =
-      replied key packet output h o dec room clock (body-of h packet 1 k) first second (unchanged o bs)
+  clock-answers f q w packet key told o own dec k room =
+      let answer : Served = record { result = r; memory = d; output = out } in
+      to-server h own (λ z. (o : OpenedAs d z) → answer ≡ actedOn real d key packet output (some (memoryIn o)) (decode packet))
+      (λ n e top o. replied key packet output h o dec room clock (body-of h packet 1 k) first second (unchanged o bs)
       (sym (f ∙ latest-stamp o bs) ∙ alone first (nothing ∙ part-none d latestPlace))
-      (headed h 2 output first second q w)
+      (headed h 2 output first second q w)) o
 
   pub collect-answers : {z : ℕ} → z ≡ candidateSize (shelf (h .t)) → first ≡ part d latestPlace z → g ≡ replyHead h 8
       → record { result = r; output = out } ≡ packetStep g first second output → AnswersAll 7 d output h
       (record { result = r; memory = d; output = out })
   unfolding bodyAt act serverIn
-  collect-answers z f q w packet key n e top o dec k room =
-      replied key packet output h o dec room collect (body-of h packet 7 k) first second (unchanged o bs)
+  collect-answers z f q w packet key told o own dec k room =
+      let answer : Served = record { result = r; memory = d; output = out } in
+      to-server h own (λ z. (o : OpenedAs d z) → answer ≡ actedOn real d key packet output (some (memoryIn o)) (decode packet))
+      (λ n e top o. replied key packet output h o dec room collect (body-of h packet 7 k) first second (unchanged o bs)
       (sym (f ∙ ap (part d latestPlace) z ∙ latest-part o bs) ∙ alone first (nothing ∙ part-none d latestPlace))
-      (headed h 8 output first second q w)
+      (headed h 8 output first second q w)) o

@@ -17,8 +17,8 @@ use Rattle.protocol.specs.ServerBytes.{serverIn}
 use Rattle.protocol.proofs.Acts.{ServerOk}
 use Rattle.protocol.proofs.Memories.{Fields, fields, memory-length, decode-memory-ok, encode-decode-memory}
 use Rattle.protocol.proofs.Packets.{stamp-length, any-print, any-candidate-length, any-candidate-lengths}
-use Rattle.server.specs.declared.memory.Top.{Top}
-use Rattle.server.specs.Reads.{latestPlace, Opened}
+use Rattle.server.specs.declared.memory.Opened.{Opened}
+use Rattle.server.specs.Reads.{latestPlace, OpenedAs}
 use Rattle.server.specs.Answers.{memoryIn}
 
 -- a candidate's bytes begin with its stamp's
@@ -29,11 +29,14 @@ candidate-stamp s c l r =
     ap (take stampSize) (append-assoc (stampF .print (c .stamp)) (c .nonce ++ c .tags) r)
     ∙ take-at (stampF .print (c .stamp)) (c .nonce ++ c .tags ++ r) stampSize (stamp-length (c .stamp) l)
 
-module _ {d : List ℕ} {t b n e : ℕ} {top : Top} (o : Opened d t b n e top) where
+module _ {d : List ℕ} {told : Opened} (o : OpenedAs d told) where
+  abbrev s : Config
+  s = shelf (told .t)
+
   pub memory-fields : Fields (memoryIn o)
   memory-fields = fields (memoryIn o) (decode-memory-ok d (memoryIn o) (o .decoded))
 
-  pub server-ok : ServerOk (shelf t) (serverIn (memoryIn o))
+  pub server-ok : ServerOk s (serverIn (memoryIn o))
   unfolding serverIn
   server-ok = let f = memory-fields in record { few = f .few; latest = f .latest; writes = f .writes; once = f .once }
 
@@ -45,23 +48,23 @@ module _ {d : List ℕ} {t b n e : ℕ} {top : Top} (o : Opened d t b n e top) w
     memory-size-of = ap length (sym memory-bytes) ∙ memory-length (memoryIn o) (decode-memory-ok d (memoryIn o) (o .decoded))
 
     after : List ℕ
-    after = printMany (writeF (shelf t)) (o .writes) ++ replicate (memorySize - length (memoryF .print (memoryIn o))) 0
+    after = printMany (writeF s) (o .writes) ++ replicate (memorySize - length (memoryF .print (memoryIn o))) 0
 
-    latest-on : drop latestPlace d ≡ anyCandidateF (shelf t) .print (memoryIn o .latest) ++ after
+    latest-on : drop latestPlace d ≡ anyCandidateF s .print (memoryIn o .latest) ++ after
     unfolding encodeMemory memoryF keep via seq byte many after
     latest-on =
         ap (drop latestPlace) (sym memory-bytes)
-        ∙ append-assoc (anyCandidateF (shelf t) .print (memoryIn o .latest)) (printMany (writeF (shelf t)) (o .writes)) _
+        ∙ append-assoc (anyCandidateF s .print (memoryIn o .latest)) (printMany (writeF s) (o .writes)) _
 
-    pub latest-part : part d latestPlace (candidateSize (shelf t)) ≡ anyCandidateF (shelf t) .print (memoryIn o .latest)
+    pub latest-part : part d latestPlace (candidateSize s) ≡ anyCandidateF s .print (memoryIn o .latest)
     unfolding part
     latest-part =
-        ap (take (candidateSize (shelf t))) latest-on
-        ∙ take-at (anyCandidateF (shelf t) .print (memoryIn o .latest)) after (candidateSize (shelf t))
-        (any-candidate-length (shelf t) (memoryIn o .latest) (memory-fields .latest))
+        ap (take (candidateSize s)) latest-on
+        ∙ take-at (anyCandidateF s .print (memoryIn o .latest)) after (candidateSize s)
+        (any-candidate-length s (memoryIn o .latest) (memory-fields .latest))
 
     pub latest-stamp : part d latestPlace stampSize ≡ stampF .print (memoryIn o .latest .stamp)
     unfolding part
     latest-stamp =
-        ap (take stampSize) (latest-on ∙ ap (λ (y : List ℕ). y ++ after) (any-print (shelf t) (memoryIn o .latest)))
-        ∙ candidate-stamp (shelf t) (memoryIn o .latest) (any-candidate-lengths (shelf t) (memoryIn o .latest) (memory-fields .latest) .tag) after
+        ap (take stampSize) (latest-on ∙ ap (λ (y : List ℕ). y ++ after) (any-print s (memoryIn o .latest)))
+        ∙ candidate-stamp s (memoryIn o .latest) (any-candidate-lengths s (memoryIn o .latest) (memory-fields .latest) .tag) after

@@ -21,7 +21,7 @@ use Rattle.protocol.specs.Server.{memoryOf, Acted, Server, kept, act}
 use Rattle.protocol.specs.View.{part}
 use Rattle.protocol.specs.ClientBytes.{put, Written}
 use Rattle.protocol.specs.Primitives.{real}
-use Rattle.protocol.specs.ServerBytes.{serverIn, actedOn}
+use Rattle.protocol.specs.ServerBytes.{Served, serverIn, actedOn}
 use Rattle.protocol.proofs.Acts.{ServerOk, act-ok}
 use Rattle.protocol.proofs.Answers.{bytes-drop}
 use Rattle.protocol.proofs.Changes.{added, print-snoc, append-bytes}
@@ -33,13 +33,14 @@ use Rattle.protocol.proofs.Walks.{many-count}
 use Rattle.wire.specs.Places.{bodyAt, packetAt, writeAt}
 use Rattle.wire.specs.Make.{Placed, placed, packetStep}
 use Rattle.server.specs.declared.memory.Top.{Top}
+use Rattle.server.specs.declared.memory.Opened.{Opened}
 use Rattle.server.specs.declared.memory.Found.{Found}
 use Rattle.server.specs.declared.memory.Found.the-variants as found
-use Rattle.server.specs.Reads.{writesPlace, Opened, firstWith, FindIs, FindAs}
-use Rattle.server.specs.Answers.{memoryIn, replyHead, countPlace, keptBytes}
+use Rattle.server.specs.Reads.{writesPlace, firstWith, FindIs, FindAs, OpenedAs}
+use Rattle.server.specs.Answers.{memoryIn, ToServer, replyHead, countPlace, keptBytes}
 use Rattle.server.proofs.Finding.{shareIn, first-held}
 use Rattle.server.proofs.Raising.{size-few, placed-put}
-use Rattle.server.proofs.Replies.{body-of, replied-as, unchanged, part-none, headed, sent-ok, sent-bytes}
+use Rattle.server.proofs.Replies.{body-of, toldTo, to-server, replied-as, unchanged, part-none, headed, sent-ok, sent-bytes}
 use Rattle.server.proofs.Standing.{memory-bytes, memory-size-of, memory-fields, server-ok}
 
 -- a write's bytes begin with its stamp's
@@ -49,15 +50,25 @@ write-stamp s w ok =
     take-at (stampF .print (w .stamp)) (shareF s .print (w .share)) stampSize (stamp-length (w .stamp) (unfold stampF via seq run in (ok .0 .1 .1)))
 
 -- the length of a memory's fields
-printed : {d : List ℕ} {t b n e : ℕ} {top : Top} (o : Opened d t b n e top)
-    → length (memoryF .print (memoryIn o)) ≡ writesPlace (shelf t) + length (printMany (writeF (shelf t)) (o .writes))
+printed : {d : List ℕ} {told : Opened} (o : OpenedAs d told)
+    → length (memoryF .print (memoryIn o)) ≡ writesPlace (shelf (told .t)) + length (printMany (writeF (shelf (told .t))) (o .writes))
 unfolding memoryF keep via seq byte many
-printed {d} {t} o =
+printed {d} {told} o =
+    let t = told .t in
     let L : List ℕ = anyCandidateF (shelf t) .print (memoryIn o .latest) in
     let W : List ℕ = printMany (writeF (shelf t)) (o .writes) in
     omega (arith, length-append L W, any-candidate-length (shelf t) (memoryIn o .latest) (memory-fields o .latest))
 
-module _ {d : List ℕ} {t b n e : ℕ} {top : Top} (o : Opened d t b n e top) (bs : Bytes d) where
+module _ {d : List ℕ} {told : Opened} (o : OpenedAs d told) (bs : Bytes d) where
+  abbrev t : ℕ
+  t = told .t
+
+  abbrev n : ℕ
+  n = told .count
+
+  abbrev e : ℕ
+  e = told .end
+
   -- the place past the stored writes
   writes-end : e ≡ length (memoryF .print (memoryIn o))
   unfolding many
@@ -66,9 +77,19 @@ module _ {d : List ℕ} {t b n e : ℕ} {top : Top} (o : Opened d t b n e top) (
       let p : ℕ = writesPlace s in
       let W : List ℕ = printMany (writeF s) (o .writes) in
       let u : drop p d ≡ W ++ drop e d = many-law (writeF s) (write-law s) n .read (drop p d) (o .writes) (drop e d) (bytes-drop p d bs)
-      (o .there .parsed) in
+      (o .holds .there .parsed) in
       let l : length (drop p d) ≡ length W + length (drop e d) = ap length u ∙ length-append W (drop e d) in
-      omega (arith, l, length-drop p d, length-drop e d, o .there .within, printed o, memory-size-of o bs, size-few t (memory-fields o .t-range .1))
+      omega (
+        arith,
+        l,
+        length-drop p d,
+        length-drop e d,
+        o .holds .there .within,
+        printed o,
+        memory-size-of o bs,
+        size-few t
+            (memory-fields o .t-range .1),
+      )
 
   module _ (w : Write) (few : n < capacity) (ok : ServerOk (shelf t) (record { latest = memoryIn o .latest; history = o .writes ++ w ∷ [] })) where
     -- one more write fits
@@ -91,10 +112,10 @@ module _ {d : List ℕ} {t b n e : ℕ} {top : Top} (o : Opened d t b n e top) (
         let a = ap length (print-snoc (writeF (shelf t)) (o .writes) w) ∙ length-append W X in
         omega (arith, r, a, length-append L W, length-append L (printMany (writeF (shelf t)) (o .writes ++ w ∷ [])))
 
-    pub kept-memory : (x : List ℕ) → x ≡ writeF (shelf t) .print w → keptBytes d n e x ≡ encodeMemory (added (memoryIn o) w)
+    pub kept-memory : (x : List ℕ) → x ≡ writeF (shelf t) .print w → keptBytes d told x ≡ encodeMemory (added (memoryIn o) w)
     unfolding keptBytes
     kept-memory x p =
-        let c : n ≡ length (o .writes) = sym (many-count n (writeF (shelf t)) (o .there)) in
+        let c : n ≡ length (o .writes) = sym (many-count n (writeF (shelf t)) (o .holds .there)) in
         let size = memory-size-of o bs in
         let d₁ : List ℕ = set d 2 (n + 1) in
         let f : placed d 2 ((n + 1) ∷ []) .output ≡ d₁ = placed-put d 2 ((n + 1) ∷ []) (omega (arith, size)) ∙ sym
@@ -115,16 +136,16 @@ pub code-made : (h : Head) (c : ℕ) (output : List ℕ) {g : Head} {second : Li
 code-made h c output {g} {second} q p w =
     headed h 4 output (c ∷ []) second q w ∙ ap (λ (y : List ℕ). packetStep (replyHead h 4) (c ∷ []) y output) (p ∙ part-none (c ∷ []) 0)
 
-pub kept-made : (d : List ℕ) (n e : ℕ) (w : List ℕ) {j k : ℕ} {mid out : List ℕ} → record { next = j; output = mid } ≡ placed d countPlace
-    ((n + 1) ∷ [])
-    → record { next = k; output = out } ≡ placed mid e w → out ≡ keptBytes d n e w
+pub kept-made : (d : List ℕ) (told : Opened) (w : List ℕ) {j k : ℕ} {mid out : List ℕ}
+    → record { next = j; output = mid } ≡ placed d countPlace ((told .count + 1) ∷ [])
+    → record { next = k; output = out } ≡ placed mid (told .end) w → out ≡ keptBytes d told w
 unfolding keptBytes
-kept-made d n e w p q = ap (λ (z : Placed). z .output) q ∙ ap (λ (y : List ℕ). placed y e w .output) (ap (λ (z : Placed). z .output) p)
+kept-made d told w p q = ap (λ (z : Placed). z .output) q ∙ ap (λ (y : List ℕ). placed y (told .end) w .output) (ap (λ (z : Placed). z .output) p)
 
 -- ---- the answers
 
 module _ {d : List ℕ} (bs : Bytes d) (packet : List ℕ) (ps : Bytes packet) (output : List ℕ) (h : Head) {n e : ℕ} {top : Top} (key : List ℕ)
-    (o : Opened d (h .t) (h .server) n e top)
+    (o : OpenedAs d (toldTo h n e top))
     (dec : decode packet ≡ some (packetAt h packet)) (k : h .kind ≡ 3) (room : packetRoom ≤ length output) where
   abbrev written : Write
   written = writeAt (shelf (h .t)) (drop headSize packet)
@@ -149,7 +170,7 @@ module _ {d : List ℕ} (bs : Bytes d) (packet : List ℕ) (ps : Bytes packet) (
       ∙ first-held (written .stamp) (o .writes)
 
   count : length (o .writes) ≡ n
-  count = many-count n (writeF (shelf (h .t))) (o .there)
+  count = many-count n (writeF (shelf (h .t))) (o .holds .there)
 
   -- the step by what is held, and by the count
   module _ (g : Bool) (q : isSome (held (written .stamp) (o .writes)) ≡ g) where
@@ -172,37 +193,37 @@ module _ {d : List ℕ} (bs : Bytes d) (packet : List ℕ) (ps : Bytes packet) (
   unfolding codeF keep byte
   code-alone c = refl
 
-  module _ {x : List ℕ} (p : x ≡ drop headSize packet) {f : Found} (g : FindAs (shelf (h .t)) n top d x f) where
+  module _ {x : List ℕ} (p : x ≡ drop headSize packet) {f : Found} (g : FindAs d (toldTo h n e top) x f) where
     is-held : {at : ℕ} → f ≡ found.At at → isSome (held (written .stamp) (o .writes)) ≡ true
     is-held t =
         let i = subst (λ (y : Found). FindIs (shelf (h .t)) d (firstWith (part x 0 stampSize) (o .writes)) y) t
-        (g (o .writes) e (o .there) (o .up)) in
+        (g (o .writes) (o .holds)) in
         ap isSome (sym (found-held p) ∙ ap shareIn (i .first))
 
     is-new : f ≡ found.Nothing → isSome (held (written .stamp) (o .writes)) ≡ false
     is-new t =
         let i : firstWith (part x 0 stampSize) (o .writes) ≡ none = subst (λ (y : Found). FindIs (shelf (h .t)) d
-        (firstWith (part x 0 stampSize) (o .writes)) y) t (g (o .writes) e (o .there) (o .up)) in
+        (firstWith (part x 0 stampSize) (o .writes)) y) t (g (o .writes) (o .holds)) in
         ap isSome (sym (found-held p) ∙ ap shareIn i)
 
-    pub answer-held : {r : Outcome} {out : List ℕ} {at : ℕ} → f ≡ found.At at → record { result = r; output = out } ≡ packetStep (replyHead h 4)
+    held-here : {r : Outcome} {out : List ℕ} {at : ℕ} → f ≡ found.At at → record { result = r; output = out } ≡ packetStep (replyHead h 4)
         (10 ∷ []) [] output
         → record { result = r; memory = d; output = out } ≡ actedOn real d key packet output (some (memoryIn o)) (decode packet)
-    answer-held t w =
+    held-here t w =
         replied-as key packet output h o dec room (store written) the-body _ (step-held true (is-held t) refl) (10 ∷ []) [] (unchanged o bs)
         (code-alone 10) w
 
-    pub answer-full : {r : Outcome} {out : List ℕ} → f ≡ found.Nothing → capacity ≤ n → record { result = r; output = out } ≡ packetStep
+    full-here : {r : Outcome} {out : List ℕ} → f ≡ found.Nothing → capacity ≤ n → record { result = r; output = out } ≡ packetStep
         (replyHead h 4) (11 ∷ []) [] output
         → record { result = r; memory = d; output = out } ≡ actedOn real d key packet output (some (memoryIn o)) (decode packet)
-    answer-full t l w =
+    full-here t l w =
         replied-as key packet output h o dec room (store written) the-body _ (step-full false (is-new t) refl l) (11 ∷ []) [] (unchanged o bs)
         (code-alone 11) w
 
-    pub answer-kept : {r : Outcome} {out : List ℕ} → f ≡ found.Nothing → n < capacity → {m : List ℕ} → m ≡ keptBytes d n e x
+    kept-here : {r : Outcome} {out : List ℕ} → f ≡ found.Nothing → n < capacity → {m : List ℕ} → m ≡ keptBytes d (toldTo h n e top) x
         → record { result = r; output = out } ≡ packetStep (replyHead h 4) (0 ∷ []) [] output
         → record { result = r; memory = m; output = out } ≡ actedOn real d key packet output (some (memoryIn o)) (decode packet)
-    answer-kept t l u w =
+    kept-here t l u w =
         let a = step-kept false (is-new t) refl l in
         let ok = subst (λ (z : Acted). ServerOk (shelf (h .t)) (z .server)) a (act-ok real (shelf (h .t)) key (h .server) server (server-ok o)
         (store written) write-ok .server) in
@@ -212,6 +233,37 @@ module _ {d : List ℕ} (bs : Bytes d) (packet : List ℕ) (ps : Bytes packet) (
         as-memory : ServerOk (shelf (h .t)) (record { latest = memoryIn o .latest; history = o .writes ++ written ∷ [] }) → n < capacity →
             (y : List ℕ)
             → y ≡ writeF (shelf (h .t)) .print written
-            → keptBytes d n e y ≡ encodeMemory (memoryOf (h .t) (h .server) (record
+            → keptBytes d (toldTo h n e top) y ≡ encodeMemory (memoryOf (h .t) (h .server) (record
             { latest = memoryIn o .latest; history = o .writes ++ written ∷ [] }))
         as-memory ok l y q = kept-memory o bs written l ok y q
+
+-- ---- whatever is told of the server that the packet is to
+
+module _ {d : List ℕ} (bs : Bytes d) (packet : List ℕ) (ps : Bytes packet) (output : List ℕ) (h : Head) {told : Opened} (key : List ℕ)
+    (o : OpenedAs d told) (own : ToServer h told) (dec : decode packet ≡ some (packetAt h packet)) (k : h .kind ≡ 3)
+    (room : packetRoom ≤ length output) {x : List ℕ} (p : x ≡ drop headSize packet) {f : Found} (g : FindAs d told x f) where
+  pub answer-held : {r : Outcome} {out : List ℕ} {at : ℕ} → f ≡ found.At at
+      → record { result = r; output = out } ≡ packetStep (replyHead h 4) (10 ∷ []) [] output
+      → record { result = r; memory = d; output = out } ≡ actedOn real d key packet output (some (memoryIn o)) (decode packet)
+  answer-held {r} {out} t w =
+      let answer : Served = record { result = r; memory = d; output = out } in
+      to-server h own (λ z. FindAs d z x f → (o : OpenedAs d z) → answer ≡ actedOn real d key packet output (some (memoryIn o)) (decode packet))
+      (λ n e top g o. held-here bs packet ps output h key o dec k room p g t w) g o
+
+  pub answer-full : {r : Outcome} {out : List ℕ} → f ≡ found.Nothing → capacity ≤ told .count
+      → record { result = r; output = out } ≡ packetStep (replyHead h 4) (11 ∷ []) [] output
+      → record { result = r; memory = d; output = out } ≡ actedOn real d key packet output (some (memoryIn o)) (decode packet)
+  answer-full {r} {out} t l w =
+      let answer : Served = record { result = r; memory = d; output = out } in
+      to-server h own (λ z. FindAs d z x f → capacity ≤ z .count
+      → (o : OpenedAs d z) → answer ≡ actedOn real d key packet output (some (memoryIn o)) (decode packet))
+      (λ n e top g l o. full-here bs packet ps output h key o dec k room p g t l w) g l o
+
+  pub answer-kept : {r : Outcome} {out : List ℕ} → f ≡ found.Nothing → told .count < capacity → {m : List ℕ} → m ≡ keptBytes d told x
+      → record { result = r; output = out } ≡ packetStep (replyHead h 4) (0 ∷ []) [] output
+      → record { result = r; memory = m; output = out } ≡ actedOn real d key packet output (some (memoryIn o)) (decode packet)
+  answer-kept {r} {out} t l {m} u w =
+      let answer : Served = record { result = r; memory = m; output = out } in
+      to-server h own (λ z. FindAs d z x f → z .count < capacity → m ≡ keptBytes d z x
+      → (o : OpenedAs d z) → answer ≡ actedOn real d key packet output (some (memoryIn o)) (decode packet))
+      (λ n e top g l u o. kept-here bs packet ps output h key o dec k room p g t l u w) g l u o

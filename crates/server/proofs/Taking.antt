@@ -23,10 +23,10 @@ use Rattle.protocol.specs.View.{stampAt, candidateAt}
 use Rattle.protocol.specs.ServerBytes.{Served, serverIn, turnedDown, actedOn, serverTake}
 use Rattle.protocol.proofs.Answers.{at-cond}
 use Rattle.wire.specs.Places.{writeAt, bodyAt, packetAt}
-use Rattle.wire.proofs.Laws.{head-ranges}
-use Rattle.server.specs.declared.memory.Top.{Top}
-use Rattle.server.specs.Reads.{Opened}
-use Rattle.server.specs.Answers.{memoryIn, NumberAt, AnswersAny}
+use Rattle.server.specs.declared.memory.Opened.{Opened}
+use Rattle.server.specs.Reads.{OpenedAs}
+use Rattle.server.specs.Answers.{memoryIn, NumberAt, ToServer, AnswersAny}
+use Rattle.server.proofs.Standing.{memory-fields}
 
 -- ---- refusal 9
 
@@ -109,32 +109,38 @@ module _ (h : Head) (packet : List ℕ) where
 
 -- ---- refusals 8, 9 and 15
 
-module _ (h : Head) (t b : ℕ) (packet : List ℕ) (room : ℕ) where
-  pub other-t : (h .t ≡ t → ⊥) → NumberAt t b (packetAt h packet) room 8
+module _ (h : Head) (told : Opened) (packet : List ℕ) (room : ℕ) where
+  abbrev t : ℕ
+  t = told .t
+
+  abbrev b : ℕ
+  b = told .server
+
+  pub other-t : (h .t ≡ t → ⊥) → NumberAt told (packetAt h packet) room 8
   unfolding serverRefusal packetAt
   other-t e v = rw (ne-eqb (h .t) t e)
 
   module _ (p : h .t ≡ t) where
-    pub other-server : (h .server ≡ b → ⊥) → NumberAt t b (packetAt h packet) room 8
+    pub other-server : (h .server ≡ b → ⊥) → NumberAt told (packetAt h packet) room 8
     unfolding serverRefusal packetAt
     other-server e v = rw (eq-eqb (h .t) t p, ne-eqb (h .server) b e)
 
     module _ (q : h .server ≡ b) {r : Bool} (test : r ≡ barred (h .client) (packetAt h packet .body)) where
-      pub is-barred : r ≡ true → NumberAt t b (packetAt h packet) room 9
+      pub is-barred : r ≡ true → NumberAt told (packetAt h packet) room 9
       unfolding serverRefusal
       is-barred e v = rw (heads, eq-eqb (h .t) t p, eq-eqb (h .server) b q, sym test ∙ e)
         where
           heads : packetAt h packet .head ≡ h
           heads = unfold packetAt in refl
 
-      pub short : r ≡ false → room < packetRoom → NumberAt t b (packetAt h packet) room 15
+      pub short : r ≡ false → room < packetRoom → NumberAt told (packetAt h packet) room 15
       unfolding serverRefusal
       short e l v = rw (heads, eq-eqb (h .t) t p, eq-eqb (h .server) b q, sym test ∙ e, lt-ltb room packetRoom l)
         where
           heads : packetAt h packet .head ≡ h
           heads = unfold packetAt in refl
 
-      pub let-in : r ≡ false → packetRoom ≤ room → NumberAt t b (packetAt h packet) room 0
+      pub let-in : r ≡ false → packetRoom ≤ room → NumberAt told (packetAt h packet) room 0
       unfolding serverRefusal
       let-in e l v = rw (heads, eq-eqb (h .t) t p, eq-eqb (h .server) b q, sym test ∙ e, le-ltb room packetRoom l)
         where
@@ -142,32 +148,31 @@ module _ (h : Head) (t b : ℕ) (packet : List ℕ) (room : ℕ) where
           heads = unfold packetAt in refl
 
 -- what holds of a packet that is not refused
-pub record LetIn (h : Head) (t b : ℕ) (packet : List ℕ) (room : ℕ) : Type 0 where
-  pub t-own : h .t ≡ t
-  pub server-own : h .server ≡ b
+pub record LetIn (h : Head) (told : Opened) (packet : List ℕ) (room : ℕ) : Type 0 where
+  pub own : ToServer h told
   pub sent : barred (h .client) (packetAt h packet .body) ≡ false
   pub room-there : packetRoom ≤ room
 
-pub was-let-in : (h : Head) (t b : ℕ) (packet : List ℕ) (room : ℕ) (v : Server)
-    → serverRefusal true (some (memoryOf t b v)) (some (packetAt h packet)) room ≡ 0 → LetIn h t b packet room
+pub was-let-in : (h : Head) (told : Opened) (packet : List ℕ) (room : ℕ) (v : Server)
+    → serverRefusal true (some (memoryOf (told .t) (told .server) v)) (some (packetAt h packet)) room ≡ 0 → LetIn h told packet room
 unfolding serverRefusal packetAt
-was-let-in h t b packet room v e =
-    go (eqb (h .t) t && eqb (h .server) b) refl (barred (h .client) (packetAt h packet .body)) refl (ltb room packetRoom) refl e
+was-let-in h told packet room v e =
+    go (eqb (h .t) (told .t) && eqb (h .server) (told .server)) refl (barred (h .client) (packetAt h packet .body)) refl (ltb room packetRoom) refl e
   where
-    go : (x : Bool) → (eqb (h .t) t && eqb (h .server) b) ≡ x → (y : Bool) → barred (h .client) (packetAt h packet .body) ≡ y → (z : Bool) → ltb room
+    go : (x : Bool) → (eqb (h .t) (told .t) && eqb (h .server) (told .server)) ≡ x → (y : Bool) → barred (h .client) (packetAt h packet .body) ≡ y →
+        (z : Bool) → ltb room
         packetRoom ≡ z
-        → _≡_ {A = ℕ} (cond (not x) 8 (cond y 9 (cond z 15 0))) 0 → LetIn h t b packet room
+        → _≡_ {A = ℕ} (cond (not x) 8 (cond y 9 (cond z 15 0))) 0 → LetIn h told packet room
     go true p false q false r k =
-        let (i, j) = and-both (eqb (h .t) t) (eqb (h .server) b) p in
-        record { t-own = eqb-true (h .t) t i; server-own = eqb-true (h .server) b j; sent = q; room-there = ltb-false room packetRoom r }
+        let (i, j) = and-both (eqb (h .t) (told .t)) (eqb (h .server) (told .server)) p in
+        record { own = (eqb-true (h .t) (told .t) i, eqb-true (h .server) (told .server) j); sent = q; room-there = ltb-false room packetRoom r }
     go false p y q z r k = absurd (let n : _≡_ {A = ℕ} 8 0 = k in omega arith)
     go true p true q z r k = absurd (let n : _≡_ {A = ℕ} 9 0 = k in omega arith)
     go true p false q true r k = absurd (let n : _≡_ {A = ℕ} 15 0 = k in omega arith)
 
--- a packet names a server from 1 on
-pub server-least : (h : Head) (packet : List ℕ) → decode packet ≡ some (packetAt h packet) → 1 ≤ h .server
-unfolding packetAt
-server-least h packet dec = unfold packetAt in (head-ranges packet (packetAt h packet) dec .server .0)
+-- a memory that opens is that of a server from 1 on
+pub server-least : {d : List ℕ} {told : Opened} → OpenedAs d told → 1 ≤ told .server
+server-least o = memory-fields o .server-range .0
 
 -- ---- the whole
 
@@ -187,13 +192,13 @@ module _ (d key packet output : List ℕ) where
     unfolding serverTake serverRefusal turnedDown
     take-broken e p = rw (eq-eqb (length d) memorySize size, e) (ap down p)
 
-    module _ {t b n e : ℕ} {top : Top} (o : Opened d t b n e top) where
+    module _ {told : Opened} (o : OpenedAs d told) where
       pub take-unread : decode packet ≡ none → {z : Outcome} → z ≡ number 7 → down z ≡ serverTake real d key packet output
       unfolding serverTake serverRefusal turnedDown
       take-unread r p = rw (eq-eqb (length d) memorySize size, o .decoded, r) (ap down p)
 
       module _ (h : Head) (dec : decode packet ≡ some (packetAt h packet)) {k : ℕ}
-          (found : NumberAt t b (packetAt h packet) (length output) k) where
+          (found : NumberAt told (packetAt h packet) (length output) k) where
         whole : serverTake real d key packet output ≡ onRefusal k (actedOn real d key packet output (some (memoryIn o)) (decode packet)) (down (number k))
         unfolding serverTake turnedDown serverIn
         whole =
@@ -204,15 +209,9 @@ module _ (d key packet output : List ℕ) where
         pub take-refused : (k ≡ 0 → ⊥) → {z : Outcome} → z ≡ number k → down z ≡ serverTake real d key packet output
         take-refused h p = ap down p ∙ sym (whole ∙ refused-is k _ _ h)
 
-        pub take-answered : k ≡ 0 → {r : Served} → AnswersAny d key packet output h n e top r → r ≡ serverTake real d key packet output
+        pub take-answered : k ≡ 0 → {r : Served} → AnswersAny d key packet output h told r → r ≡ serverTake real d key packet output
         take-answered z {r} a =
             let v : Server = serverIn (memoryIn o) in
-            let l = was-let-in h t b packet (length output) v (sym (found v) ∙ z) in
-            moved (l .t-own) (l .server-own) (λ o₁. a o₁ dec (l .sent) (l .room-there)) o
+            let l = was-let-in h told packet (length output) v (sym (found v) ∙ z) in
+            a o (l .own) dec (l .sent) (l .room-there)
             ∙ sym (whole ∙ ap (λ (j : ℕ). onRefusal j (actedOn real d key packet output (some (memoryIn o)) (decode packet)) (down (number j))) z)
-          where
-            Q : ℕ → ℕ → Type 0
-            Q i j = (o₁ : Opened d i j n e top) → r ≡ actedOn real d key packet output (some (memoryIn o₁)) (decode packet)
-
-            moved : h .t ≡ t → h .server ≡ b → Q (h .t) (h .server) → Q t b
-            moved p q f = subst (λ (i : ℕ). Q i b) p (subst (λ (j : ℕ). Q (h .t) j) q f)

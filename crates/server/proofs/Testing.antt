@@ -26,12 +26,12 @@ use Rattle.protocol.specs.ServerBytes.{serverIn}
 use Rattle.protocol.proofs.Equal.{message-printed}
 use Rattle.protocol.proofs.Packets.{candidate-lengths}
 use Rattle.wire.specs.Places.{writeAt}
-use Rattle.server.specs.declared.memory.Top.{Top}
+use Rattle.server.specs.declared.memory.Opened.{Opened}
 use Rattle.server.specs.declared.memory.Found.{Found}
 use Rattle.server.specs.declared.memory.Found.the-variants as found
-use Rattle.server.specs.Reads.{Opened, firstWith, FindIs, FindAs}
+use Rattle.server.specs.Reads.{firstWith, FindIs, FindAs, OpenedAs}
 use Rattle.server.specs.Answers.{memoryIn}
-use Rattle.server.specs.Valid.{nonceHash, HistoryAs, tagChecks, ValidAs}
+use Rattle.server.specs.Valid.{nonceHash, HistoryAs, tagChecks, CandidateIn, ValidAs}
 use Rattle.server.proofs.Finding.{shareIn, first-held}
 use Rattle.server.proofs.Standing.{candidate-stamp}
 
@@ -48,58 +48,66 @@ digest-at s d {v} {f} {g} {x} {y} {z} a b c p q r =
 
 -- ---- by the history
 
-module _ (s : Config) (n : ℕ) (top : Top) (d x g : List ℕ) where
+module _ (d : List ℕ) (told : Opened) (x g : List ℕ) where
+  abbrev s : Config
+  s = shelf (told .t)
+
   found-for : (ws : List Write) (a : Stamp) → part x 0 stampSize ≡ stampF .print a → shareIn (firstWith (part x 0 stampSize) ws) ≡ held a ws
   found-for ws a q = ap (λ (z : List ℕ). shareIn (firstWith z ws)) q ∙ first-held a ws
 
-  pub history-none : {f : Found} → FindAs s n top d x f → f ≡ found.Nothing → HistoryAs s n top d x g false
-  history-none find t ws e m u a q =
-      let i : firstWith (part x 0 stampSize) ws ≡ none = subst (λ (z : Found). FindIs s d (firstWith (part x 0 stampSize) ws) z) t (find ws e m u) in
+  pub history-none : {f : Found} → FindAs d told x f → f ≡ found.Nothing → HistoryAs d told x g false
+  history-none find t ws h a q =
+      let i : firstWith (part x 0 stampSize) ws ≡ none = subst (λ (z : Found). FindIs s d (firstWith (part x 0 stampSize) ws) z) t (find ws h) in
       sym (ap (hasDigest g) (sym (found-for ws a q) ∙ ap shareIn i))
 
-  pub history-found : {f : Found} → FindAs s n top d x f → {at : ℕ} → f ≡ found.At at → {b c z : List ℕ} {r : Bool} → b ≡ drop at d → c ≡ drop
+  pub history-found : {f : Found} → FindAs d told x f → {at : ℕ} → f ≡ found.At at → {b c z : List ℕ} {r : Bool} → b ≡ drop at d → c ≡ drop
       stampSize b → z ≡ shareAt s c .nonceDigest → r ≡ sameList z g
-      → HistoryAs s n top d x g r
+      → HistoryAs d told x g r
   unfolding writeAt
-  history-found find {at} t {b} {c} {z} {r} u v w k ws e m up a q =
-      let i = subst (λ (j : Found). FindIs s d (firstWith (part x 0 stampSize) ws) j) t (find ws e m up) in
+  history-found find {at} t {b} {c} {z} {r} u v w k ws h a q =
+      let i = subst (λ (j : Found). FindIs s d (firstWith (part x 0 stampSize) ws) j) t (find ws h) in
       let l : held a ws ≡ some (shareAt s (drop stampSize (drop at d))) = sym (found-for ws a q) ∙ ap shareIn (i .first) in
       k ∙ ap (λ (j : List ℕ). sameList j g) (w ∙ ap (λ (j : List ℕ). shareAt s j .nonceDigest) (v ∙ ap (drop stampSize) u)) ∙ sym (ap (hasDigest g) l)
 
 -- ---- by the tag
 
-pub tag-made : (s : Config) (prepared : Prepared) (b : ℕ) (x g : List ℕ) {y u v z : List ℕ} {l : ℕ} {r : Bool} → y ≡ part x 0 stampSize → v ≡
-    preparedTag prepared (y ++ g)
-    → l ≡ tagsSize s → u ≡ part x (stampSize + nonceSize) l → z ≡ part u (tagSize * (b - 1)) tagSize → r ≡ sameList z v → r ≡ tagChecks s prepared b x
-    g
+pub tag-made : (prepared : Prepared) (told : Opened) (x g : List ℕ) {y u v z : List ℕ} {l : ℕ} {r : Bool} → y ≡ part x 0 stampSize
+    → v ≡ preparedTag prepared (y ++ g) → l ≡ tagsSize (shelf (told .t)) → u ≡ part x (stampSize + nonceSize) l
+    → z ≡ part u (tagSize * (told .server - 1)) tagSize → r ≡ sameList z v → r ≡ tagChecks prepared told x g
 unfolding tagChecks candidateAt nth part
-tag-made s prepared b x g p q k i j w =
+tag-made prepared told x g p q k i j w =
     let a = q ∙ ap (λ (o : List ℕ). preparedTag prepared (o ++ g)) p in
-    let c = j ∙ ap (λ (o : List ℕ). take tagSize (drop (tagSize * (b - 1)) o)) (i ∙ ap (λ (o : ℕ). take o (drop (stampSize + nonceSize) x)) k) in
+    let c = j ∙ ap (λ (o : List ℕ). take tagSize (drop (tagSize * (told .server - 1)) o))
+    (i ∙ ap (λ (o : ℕ). take o (drop (stampSize + nonceSize) x)) k) in
     w ∙ (λ o. sameList (c o) (a o))
 
 -- ---- both
 
-module _ (d key : List ℕ) (t b n : ℕ) (top : Top) (x : List ℕ) {g : List ℕ} (q : g ≡ nonceHash x) where
-  module _ {e : ℕ} (o : Opened d t b n e top) (made : x ≡ candidateF (shelf t) .print (candidateAt (shelf t) x))
-      (ok : candidateF (shelf t) .Ok (candidateAt (shelf t) x)) where
+module _ (d key : List ℕ) (told : Opened) (x : List ℕ) {g : List ℕ} (q : g ≡ nonceHash x) where
+  abbrev t : ℕ
+  t = told .t
+
+  abbrev b : ℕ
+  b = told .server
+
+  module _ (o : OpenedAs d told) (is : CandidateIn told x) where
     stamp-start : part x 0 stampSize ≡ stampF .print (candidateAt (shelf t) x .stamp)
     unfolding part
     stamp-start =
-        ap (take stampSize) (made ∙ sym (append-nil (candidateF (shelf t) .print (candidateAt (shelf t) x))))
-        ∙ candidate-stamp (shelf t) (candidateAt (shelf t) x) (candidate-lengths (shelf t) (candidateAt (shelf t) x) ok .tag) _
+        ap (take stampSize) (is .0 ∙ sym (append-nil (candidateF (shelf t) .print (candidateAt (shelf t) x))))
+        ∙ candidate-stamp (shelf t) (candidateAt (shelf t) x) (candidate-lengths (shelf t) (candidateAt (shelf t) x) (is .1) .tag) _
 
     digest-is : g ≡ real .digest (candidateAt (shelf t) x .nonce)
     unfolding real candidateAt
     digest-is = q
 
-    history-is : {r : Bool} → HistoryAs (shelf t) n top d x g r → r ≡ byHistory real (shelf t) key b (serverIn (memoryIn o)) (candidateAt (shelf t) x)
+    history-is : {r : Bool} → HistoryAs d told x g r → r ≡ byHistory real (shelf t) key b (serverIn (memoryIn o)) (candidateAt (shelf t) x)
     unfolding byHistory serverIn
     history-is h =
-        h (o .writes) e (o .there) (o .up) (candidateAt (shelf t) x .stamp) stamp-start ∙ ap
+        h (o .writes) (o .holds) (candidateAt (shelf t) x .stamp) stamp-start ∙ ap
         (λ (z : List ℕ). hasDigest z (held (candidateAt (shelf t) x .stamp) (o .writes))) digest-is
 
-    tag-is : tagChecks (shelf t) (preparedOf key) b x g ≡ byTag real (shelf t) key b (candidateAt (shelf t) x)
+    tag-is : tagChecks (preparedOf key) told x g ≡ byTag real (shelf t) key b (candidateAt (shelf t) x)
     unfolding tagChecks byTag real
     tag-is =
         let c = candidateAt (shelf t) x in
@@ -108,12 +116,11 @@ module _ (d key : List ℕ) (t b n : ℕ) (top : Top) (x : List ℕ) {g : List �
         (λ i. stamp-start i ++ v i) ∙ sym (message-printed (c .stamp) (sha256 (c .nonce))) in
         ap (sameList (nth tagSize (c .tags) b)) (prepared-tag key (part x 0 stampSize ++ g) ∙ ap (tagOf key) m)
 
-  pub valid-history : {r : Bool} → HistoryAs (shelf t) n top d x g r → r ≡ true → ValidAs d key t b n top x true
+  pub valid-history : {r : Bool} → HistoryAs d told x g r → r ≡ true → ValidAs d key told x true
   unfolding valid
-  valid-history h i e o made ok = rw (sym (history-is o made ok h) ∙ i)
+  valid-history h i o is = rw (sym (history-is o is h) ∙ i)
 
-  pub valid-tag : {r c : Bool} → HistoryAs (shelf t) n top d x g r → r ≡ false → {prepared : Prepared} → prepared ≡ preparedOf key → c ≡ tagChecks
-      (shelf t) prepared b x g
-      → ValidAs d key t b n top x c
+  pub valid-tag : {r c : Bool} → HistoryAs d told x g r → r ≡ false → {prepared : Prepared} → prepared ≡ preparedOf key
+      → c ≡ tagChecks prepared told x g → ValidAs d key told x c
   unfolding valid
-  valid-tag h i k j e o made ok = rw (sym (history-is o made ok h) ∙ i) (j ∙ ap (λ (z : Prepared). tagChecks (shelf t) z b x g) k ∙ tag-is o made ok)
+  valid-tag h i k j o is = rw (sym (history-is o is h) ∙ i) (j ∙ ap (λ (z : Prepared). tagChecks z told x g) k ∙ tag-is o is)

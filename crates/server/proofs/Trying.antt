@@ -16,8 +16,8 @@ use Rattle.protocol.specs.Primitives.{real}
 use Rattle.protocol.specs.Server.{valid}
 use Rattle.protocol.specs.View.{candidateAt}
 use Rattle.protocol.specs.ServerBytes.{serverIn}
-use Rattle.server.specs.declared.memory.Top.{Top}
-use Rattle.server.specs.Reads.{Opened}
+use Rattle.server.specs.declared.memory.Opened.{Opened}
+use Rattle.server.specs.Reads.{OpenedAs}
 use Rattle.server.specs.Answers.{memoryIn}
 use Rattle.server.specs.Valid.{nonceHash, HistoryAs, tagChecks, ValidAs}
 use Rattle.server.specs.Ranks.{slotOf, rankOf, slotWith, nextRank}
@@ -28,67 +28,73 @@ use Rattle.server.proofs.Ranking.{rank-top, rank-pos, rank-inj, rank-sl
 use Rattle.server.proofs.Choosing.{best-is, best-none}
 use Rattle.server.proofs.Testing.{valid-history, valid-tag}
 
-module _ (d key : List ℕ) (t b n : ℕ) (top : Top) (y : List ℕ) (m : ℕ) where
+module _ (d key : List ℕ) (told : Opened) (y : List ℕ) (m : ℕ) where
   pub record Trying (rank : ℕ) : Type 0 where
-    pub slot : 0 < rank → (i : ℕ) × (i < m) × (rank ≡ rankOf (shelf t) y i)
-    pub above : (e : ℕ) (o : Opened d t b n e top) → Listed (shelf t) m y → (j : ℕ) → j < m → rank < rankOf (shelf t) y j
-        → valid real (shelf t) key b (serverIn (memoryIn o)) (candidateAt (shelf t) (slotOf (shelf t) y j)) ≡ false
+    pub slot : 0 < rank → (i : ℕ) × (i < m) × (rank ≡ rankOf (shelf (told .t)) y i)
+    pub above : (o : OpenedAs d told) → Listed (shelf (told .t)) m y → (j : ℕ) → j < m → rank < rankOf (shelf (told .t)) y j
+        → valid real (shelf (told .t)) key (told .server) (serverIn (memoryIn o)) (candidateAt (shelf (told .t)) (slotOf (shelf (told .t)) y j)) ≡
+        false
 
-  none-above : Bytes y → NoneFrom d key t b n top y m 281474976710656
-  none-above bs e o l j k h = absurd (omega (arith, h, rank-top (shelf t) y j bs))
+  none-above : Bytes y → NoneFrom d key told y m 281474976710656
+  none-above bs o l j k h = absurd (omega (arith, h, rank-top (shelf (told .t)) y j bs))
 
-  pub try-under : {bound : ℕ} → NoneFrom d key t b n top y m bound → {rank : ℕ} → rank ≡ nextRank (shelf t) y m bound → Trying rank
+  pub try-under : {bound : ℕ} → NoneFrom d key told y m bound → {rank : ℕ} → rank ≡ nextRank (shelf (told .t)) y m bound → Trying rank
   try-under {bound} none {rank} p =
       record {
-        slot = λ h. let (i, k, q, r) = next-under (shelf t) y m bound (omega (arith, p, h)) in (i, k, p ∙ q);
-        above = λ e o l j k h. go e o l j k h (ltb (rankOf (shelf t) y j) bound) refl;
+        slot = λ h. let (i, k, q, r) = next-under (shelf (told .t)) y m bound (omega (arith, p, h)) in (i, k, p ∙ q);
+        above = λ o l j k h. go o l j k h (ltb (rankOf (shelf (told .t)) y j) bound) refl;
       }
     where
-      go : (e : ℕ) (o : Opened d t b n e top) → Listed (shelf t) m y → (j : ℕ) → j < m → rank < rankOf (shelf t) y j → (c : Bool) → ltb
-          (rankOf (shelf t) y j) bound ≡ c
-          → valid real (shelf t) key b (serverIn (memoryIn o)) (candidateAt (shelf t) (slotOf (shelf t) y j)) ≡ false
-      go e o l j k h true f = absurd (omega (arith, p, h, next-most (shelf t) y m bound j k (ltb-true (rankOf (shelf t) y j) bound f)))
-      go e o l j k h false f = none e o l j k (ltb-false (rankOf (shelf t) y j) bound f)
+      go : (o : OpenedAs d told) → Listed (shelf (told .t)) m y → (j : ℕ) → j < m → rank < rankOf (shelf (told .t)) y j → (c : Bool) → ltb
+          (rankOf (shelf (told .t)) y j) bound ≡ c
+          → valid real (shelf (told .t)) key (told .server) (serverIn (memoryIn o)) (candidateAt (shelf (told .t)) (slotOf (shelf (told .t)) y j)) ≡
+          false
+      go o l j k h true f = absurd (omega (arith, p, h, next-most (shelf (told .t)) y m bound j k (ltb-true (rankOf (shelf (told .t)) y j) bound f)))
+      go o l j k h false f = none o l j k (ltb-false (rankOf (shelf (told .t)) y j) bound f)
 
   module _ (few : m ≤ 255) where
-    pub try-none : {rank : ℕ} → Trying rank → rank ≤ 0 → ChosenAs d key t b n top y m chosen.Nothing
-    try-none w h e o l =
-        best-none (shelf t) key b (serverIn (memoryIn o)) y m few l
-        (λ j k. w .above e o l j k (omega (arith, h, rank-pos (shelf t) y j (omega arith))))
+    pub try-none : {rank : ℕ} → Trying rank → rank ≤ 0 → ChosenAs d key told y m chosen.Nothing
+    try-none w h o l =
+        best-none (shelf (told .t)) key (told .server) (serverIn (memoryIn o)) y m few l
+        (λ j k. w .above o l j k (omega (arith, h, rank-pos (shelf (told .t)) y j (omega arith))))
 
-    module _ {rank : ℕ} (w : Trying rank) (pos : 0 < rank) {i : ℕ} (p : i ≡ slotWith rank) {x : List ℕ} (q : x ≡ slotOf (shelf t) y i) {r : Bool}
-        (test : ValidAs d key t b n top x r) where
-      in-hand : (i < m) × (rank ≡ rankOf (shelf t) y i)
+    module _ {rank : ℕ} (w : Trying rank) (pos : 0 < rank) {i : ℕ} (p : i ≡ slotWith rank) {x : List ℕ}
+        (q : x ≡ slotOf (shelf (told .t)) y i) {r : Bool}
+        (test : ValidAs d key told x r) where
+      in-hand : (i < m) × (rank ≡ rankOf (shelf (told .t)) y i)
       in-hand =
           let (k, h, u) = w .slot pos in
-          let v : k ≡ i = sym (p ∙ ap slotWith u ∙ rank-slot (shelf t) y k (omega (arith, h, few))) in
-          (omega (arith, h, v), u ∙ ap (rankOf (shelf t) y) v)
+          let v : k ≡ i = sym (p ∙ ap slotWith u ∙ rank-slot (shelf (told .t)) y k (omega (arith, h, few))) in
+          (omega (arith, h, v), u ∙ ap (rankOf (shelf (told .t)) y) v)
 
-      tested : (e : ℕ) (o : Opened d t b n e top) → Listed (shelf t) m y
-          → r ≡ valid real (shelf t) key b (serverIn (memoryIn o)) (candidateAt (shelf t) (slotOf (shelf t) y i))
-      tested e o l = subst (λ (z : List ℕ). ValidAs d key t b n top z r) q test e o (l .made i (in-hand .0)) (l .ok i (in-hand .0))
+      tested : (o : OpenedAs d told) → Listed (shelf (told .t)) m y
+          → r ≡ valid real (shelf (told .t)) key (told .server) (serverIn (memoryIn o)) (candidateAt (shelf (told .t)) (slotOf (shelf (told .t)) y i))
+      tested o l = subst (λ (z : List ℕ). ValidAs d key told z r) q test o (l .made i (in-hand .0), l .ok i (in-hand .0))
 
-      pub try-found : r ≡ true → ChosenAs d key t b n top y m (chosen.At i)
-      try-found g e o l =
+      pub try-found : r ≡ true → ChosenAs d key told y m (chosen.At i)
+      try-found g o l =
           record {
             made = l .made i (in-hand .0);
             ok = l .ok i (in-hand .0);
             best =
-                best-is (shelf t) key b (serverIn (memoryIn o)) y m few l i (in-hand .0) (sym (tested e o l) ∙ g)
-                (λ j k h. w .above e o l j k (omega (arith, in-hand .1, h)));
+                best-is (shelf (told .t)) key (told .server) (serverIn (memoryIn o)) y m few l i (in-hand .0) (sym (tested o l) ∙ g)
+                (λ j k h. w .above o l j k (omega (arith, in-hand .1, h)));
           }
 
-      pub none-from : r ≡ false → NoneFrom d key t b n top y m rank
-      none-from g e o l j k h = go (ltb rank (rankOf (shelf t) y j)) refl
+      pub none-from : r ≡ false → NoneFrom d key told y m rank
+      none-from g o l j k h = go (ltb rank (rankOf (shelf (told .t)) y j)) refl
         where
-          go : (a : Bool) → ltb rank (rankOf (shelf t) y j) ≡ a
-              → valid real (shelf t) key b (serverIn (memoryIn o)) (candidateAt (shelf t) (slotOf (shelf t) y j)) ≡ false
-          go true z = w .above e o l j k (ltb-true rank (rankOf (shelf t) y j) z)
+          go : (a : Bool) → ltb rank (rankOf (shelf (told .t)) y j) ≡ a
+              → valid real (shelf (told .t)) key (told .server) (serverIn (memoryIn o)) (candidateAt (shelf (told .t)) (slotOf (shelf (told .t)) y j))
+              ≡ false
+          go true z = w .above o l j k (ltb-true rank (rankOf (shelf (told .t)) y j) z)
           go false z =
-              let v : rankOf (shelf t) y i ≡ rankOf (shelf t) y j = omega (arith, in-hand .1, h, ltb-false rank (rankOf (shelf t) y j) z) in
-              let s : i ≡ j = rank-inj (shelf t) y i j (omega (arith, in-hand .0, few)) (omega (arith, k, few)) v in
-              ap (λ (z : ℕ). valid real (shelf t) key b (serverIn (memoryIn o)) (candidateAt (shelf t) (slotOf (shelf t) y z))) (sym s) ∙ sym
-              (tested e o l) ∙ g
+              let v : rankOf (shelf (told .t)) y i ≡ rankOf (shelf (told .t)) y j = omega
+              (arith, in-hand .1, h, ltb-false rank (rankOf (shelf (told .t)) y j) z) in
+              let s : i ≡ j = rank-inj (shelf (told .t)) y i j (omega (arith, in-hand .0, few)) (omega (arith, k, few)) v in
+              ap (λ (z : ℕ). valid real (shelf (told .t)) key (told .server) (serverIn (memoryIn o))
+              (candidateAt (shelf (told .t)) (slotOf (shelf (told .t)) y z))) (sym s) ∙ sym
+              (tested o l) ∙ g
 
 pub next-less : (t : ℕ) (y : List ℕ) (m : ℕ) {rank next : ℕ} → 0 < rank → next ≡ nextRank (shelf t) y m rank → next < rank
 next-less t y m {rank} {next} pos u = go (ltb 0 (nextRank (shelf t) y m rank)) refl
@@ -99,23 +105,24 @@ next-less t y m {rank} {next} pos u = go (ltb 0 (nextRank (shelf t) y m rank)) r
 
 -- ---- the highest of all
 
-module _ (d key : List ℕ) (t b n : ℕ) (top : Top) (y : List ℕ) (m : ℕ) (few : m ≤ 255) (bs : Bytes y) {rank : ℕ}
-    (u : rank ≡ nextRank (shelf t) y m 281474976710656) where
-  highest : Trying d key t b n top y m rank
-  highest = try-under d key t b n top y m (none-above d key t b n top y m bs) u
+module _ (d key : List ℕ) (told : Opened) (y : List ℕ) (m : ℕ) (few : m ≤ 255) (bs : Bytes y) {rank : ℕ}
+    (u : rank ≡ nextRank (shelf (told .t)) y m 281474976710656) where
+  highest : Trying d key told y m rank
+  highest = try-under d key told y m (none-above d key told y m bs) u
 
-  pub highest-none : rank ≤ 0 → ChosenAs d key t b n top y m chosen.Nothing
-  highest-none h = try-none d key t b n top y m few highest h
+  pub highest-none : rank ≤ 0 → ChosenAs d key told y m chosen.Nothing
+  highest-none h = try-none d key told y m few highest h
 
-  module _ (pos : 0 < rank) {i : ℕ} (p : i ≡ slotWith rank) {x : List ℕ} (q : x ≡ slotOf (shelf t) y i) {g : List ℕ} (f : g ≡ nonceHash x) {r : Bool}
-      (past : HistoryAs (shelf t) n top d x g r) where
-    pub highest-held : r ≡ true → ChosenAs d key t b n top y m (chosen.At i)
-    highest-held h = try-found d key t b n top y m few highest pos p q (valid-history d key t b n top x f past h) refl
+  module _ (pos : 0 < rank) {i : ℕ} (p : i ≡ slotWith rank) {x : List ℕ} (q : x ≡ slotOf (shelf (told .t)) y i) {g : List ℕ}
+      (f : g ≡ nonceHash x) {r : Bool}
+      (past : HistoryAs d told x g r) where
+    pub highest-held : r ≡ true → ChosenAs d key told y m (chosen.At i)
+    highest-held h = try-found d key told y m few highest pos p q (valid-history d key told x f past h) refl
 
     module _ (unheld : r ≡ false) {prepared : Prepared} (k : prepared ≡ preparedOf key) {c : Bool}
-        (tag : c ≡ tagChecks (shelf t) prepared b x g) where
-      pub highest-tagged : c ≡ true → ChosenAs d key t b n top y m (chosen.At i)
-      highest-tagged h = try-found d key t b n top y m few highest pos p q (valid-tag d key t b n top x f past unheld k tag) h
+        (tag : c ≡ tagChecks prepared told x g) where
+      pub highest-tagged : c ≡ true → ChosenAs d key told y m (chosen.At i)
+      highest-tagged h = try-found d key told y m few highest pos p q (valid-tag d key told x f past unheld k tag) h
 
-      pub then-under : c ≡ false → (z : Chosen) → ChosenUnder d prepared t b n top y m rank z → ChosenAs d key t b n top y m z
-      then-under h z under = under key k (none-from d key t b n top y m few highest pos p q (valid-tag d key t b n top x f past unheld k tag) h)
+      pub then-under : c ≡ false → (z : Chosen) → ChosenUnder d prepared told y m rank z → ChosenAs d key told y m z
+      then-under h z under = under key k (none-from d key told y m few highest pos p q (valid-tag d key told x f past unheld k tag) h)

@@ -19,8 +19,8 @@ use Rattle.protocol.proofs.Changes.{raised, latest-bytes, blank-print}
 use Rattle.protocol.proofs.Packets.{any-candidate-length}
 use Rattle.protocol.proofs.Places.{part-zeros}
 use Rattle.wire.specs.Make.{Placed, placed}
-use Rattle.server.specs.declared.memory.Top.{Top}
-use Rattle.server.specs.Reads.{latestPlace, Opened}
+use Rattle.server.specs.declared.memory.Opened.{Opened}
+use Rattle.server.specs.Reads.{latestPlace, OpenedAs}
 use Rattle.server.specs.Answers.{memoryIn}
 use Rattle.server.specs.Blank.{blanked, latestBlanked, blankLatest}
 use Rattle.server.proofs.Raising.{placed-put, size-few}
@@ -41,7 +41,10 @@ module _ (d : List ℕ) where
     unfolding blankLatest latestBlanked
     latest-broken e = rw (eq-eqb (length d) memorySize size, e)
 
-    module _ (bs : Bytes d) {t b n e : ℕ} {top : Top} (o : Opened d t b n e top) where
+    module _ (bs : Bytes d) {told : Opened} (o : OpenedAs d told) where
+      abbrev t : ℕ
+      t = told .t
+
       abbrev zeros : ℕ → List ℕ
       zeros k = replicate k 0
 

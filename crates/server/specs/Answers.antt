@@ -18,51 +18,56 @@ use Rattle.protocol.specs.View.{stampAt, candidateAt}
 use Rattle.protocol.specs.ServerBytes.{Served, actedOn}
 use Rattle.wire.specs.Places.{packetAt}
 use Rattle.wire.specs.Make.{placed}
-use Rattle.server.specs.declared.memory.Top.{Top}
-use Rattle.server.specs.Reads.{latestPlace, Opened}
+use Rattle.server.specs.declared.memory.Opened.{Opened}
+use Rattle.server.specs.Reads.{latestPlace, OpenedAs}
 
 -- the memory that opens
-abbrev pub memoryIn : {d : List ℕ} {t b n e : ℕ} {top : Top} → Opened d t b n e top → Memory
-memoryIn {d} {t} {b} o = record { t = t; server = b; latest = candidateAt (shelf t) (drop latestPlace d); writes = o .writes }
+abbrev pub memoryIn : {d : List ℕ} {told : Opened} → OpenedAs d told → Memory
+memoryIn {d} {told} o =
+    record { t = told .t; server = told .server; latest = candidateAt (shelf (told .t)) (drop latestPlace d); writes = o .writes }
 
--- r is the number of a packet at the server b of t, whatever that holds
-abbrev pub NumberAt : ℕ → ℕ → Packet → ℕ → ℕ → Type 0
-NumberAt t b p room r = (v : Server) → r ≡ serverRefusal true (some (memoryOf t b v)) (some p) room
+-- r is the number of a packet at this server, whatever it holds
+abbrev pub NumberAt : Opened → Packet → ℕ → ℕ → Type 0
+NumberAt told p room r = (v : Server) → r ≡ serverRefusal true (some (memoryOf (told .t) (told .server) v)) (some p) room
+
+-- the head h is that of a packet to this server
+abbrev pub ToServer : Head → Opened → Type 0
+ToServer h told = (h .t ≡ told .t) × (h .server ≡ told .server)
 
 -- the head of a reply of kind k
 abbrev pub replyHead : Head → ℕ → Head
 replyHead h k = record { kind = k; client = h .client; server = h .server; t = h .t; call = h .call }
 
--- r is the step of a packet of kind k with the head h; n writes are stored, up to the place e, and top is the highest
-abbrev pub AnswersAs : ℕ → List ℕ → List ℕ → List ℕ → List ℕ → Head → ℕ → ℕ → Top → Served → Type 0
-AnswersAs k d key packet output h n e top r =
-    (o : Opened d (h .t) (h .server) n e top) → decode packet ≡ some (packetAt h packet) → h .kind ≡ k → packetRoom ≤ length output
+-- r is the step of a packet of kind k with the head h
+abbrev pub AnswersAs : ℕ → List ℕ → List ℕ → List ℕ → List ℕ → Head → Opened → Served → Type 0
+AnswersAs k d key packet output h told r =
+    (o : OpenedAs d told) → ToServer h told → decode packet ≡ some (packetAt h packet) → h .kind ≡ k → packetRoom ≤ length output
     → r ≡ actedOn real d key packet output (some (memoryIn o)) (decode packet)
 
 -- the same for every key
-abbrev pub AnswersOf : ℕ → List ℕ → List ℕ → List ℕ → Head → ℕ → ℕ → Top → Served → Type 0
-AnswersOf k d packet output h n e top r = (key : List ℕ) → AnswersAs k d key packet output h n e top r
+abbrev pub AnswersOf : ℕ → List ℕ → List ℕ → List ℕ → Head → Opened → Served → Type 0
+AnswersOf k d packet output h told r = (key : List ℕ) → AnswersAs k d key packet output h told r
 
--- the same for every key and every number of stored writes; and for every packet
+-- the same for every key and whatever is told; and for every packet
 abbrev pub AnswersFor : ℕ → List ℕ → List ℕ → List ℕ → Head → Served → Type 0
-AnswersFor k d packet output h r = (key : List ℕ) (n e : ℕ) (top : Top) → AnswersAs k d key packet output h n e top r
+AnswersFor k d packet output h r = (key : List ℕ) (told : Opened) → AnswersAs k d key packet output h told r
 
 abbrev pub AnswersAll : ℕ → List ℕ → List ℕ → Head → Served → Type 0
 AnswersAll k d output h r = (packet : List ℕ) → AnswersFor k d packet output h r
 
 -- r is the step of a packet of any kind that is not refused with 9
-abbrev pub AnswersAny : List ℕ → List ℕ → List ℕ → List ℕ → Head → ℕ → ℕ → Top → Served → Type 0
-AnswersAny d key packet output h n e top r =
-    (o : Opened d (h .t) (h .server) n e top) → decode packet ≡ some (packetAt h packet) → barred (h .client) (packetAt h packet .body) ≡ false → packetRoom ≤ length output
-    → r ≡ actedOn real d key packet output (some (memoryIn o)) (decode packet)
+abbrev pub AnswersAny : List ℕ → List ℕ → List ℕ → List ℕ → Head → Opened → Served → Type 0
+AnswersAny d key packet output h told r =
+    (o : OpenedAs d told) → ToServer h told → decode packet ≡ some (packetAt h packet) → barred (h .client) (packetAt h packet .body) ≡ false
+    → packetRoom ≤ length output → r ≡ actedOn real d key packet output (some (memoryIn o)) (decode packet)
 
 -- the candidate's bytes c over the latest ones, if its stamp is higher
 unfoldable pub raisedBytes : List ℕ → List ℕ → List ℕ
 raisedBytes d c = cond (below (stampAt (drop latestPlace d)) (stampAt c)) (placed d latestPlace c .output) d
 
--- one more stored write after n, which reach up to the place e; the count stands before the latest candidate
+-- one more stored write after the others; the count stands before the latest candidate
 abbrev pub countPlace : ℕ
 countPlace = 2
 
-unfoldable pub keptBytes : List ℕ → ℕ → ℕ → List ℕ → List ℕ
-keptBytes d n e w = placed (placed d countPlace ((n + 1) ∷ []) .output) e w .output
+unfoldable pub keptBytes : List ℕ → Opened → List ℕ → List ℕ
+keptBytes d told w = placed (placed d countPlace ((told .count + 1) ∷ []) .output) (told .end) w .output

@@ -20,8 +20,8 @@ use Rattle.protocol.specs.ClientBytes.{Written}
 use Rattle.protocol.specs.ServerBytes.{serverIn}
 use Rattle.wire.specs.Places.{candidateList, lengthAt, shareSize}
 use Rattle.wire.specs.Make.{packetStep}
-use Rattle.server.specs.declared.memory.Top.{Top}
-use Rattle.server.specs.Reads.{Stored, TopOf, Opened}
+use Rattle.server.specs.declared.memory.Opened.{Opened}
+use Rattle.server.specs.Reads.{Holds, OpenedAs}
 use Rattle.server.specs.Answers.{memoryIn, replyHead}
 use Rattle.server.specs.Ranks.{slotOf, rankOf}
 use Rattle.server.specs.declared.filter.Chosen.{Chosen}
@@ -46,21 +46,23 @@ abbrev pub ChosenIs : Config → List ℕ → Candidate → Chosen → Type 0
 ChosenIs s y c (chosen.At i) = ChosenAt s y c i
 ChosenIs s y c chosen.Nothing = c ≡ blankCandidate s
 
-abbrev pub ChosenAs : List ℕ → List ℕ → ℕ → ℕ → ℕ → Top → List ℕ → ℕ → Chosen → Type 0
-ChosenAs d key t b n top y m r =
-    (e : ℕ) (o : Opened d t b n e top) → Listed (shelf t) m y
-    → ChosenIs (shelf t) y (best real (shelf t) key b (serverIn (memoryIn o)) (blankCandidate (shelf t)) (candidateList (shelf t) m y)) r
+abbrev pub ChosenAs : List ℕ → List ℕ → Opened → List ℕ → ℕ → Chosen → Type 0
+ChosenAs d key told y m r =
+    let s = shelf (told .t) in
+    (o : OpenedAs d told) → Listed s m y
+    → ChosenIs s y (best real s key (told .server) (serverIn (memoryIn o)) (blankCandidate s) (candidateList s m y)) r
 
 -- of m candidates in y, none of rank bound or higher is valid
-abbrev pub NoneFrom : List ℕ → List ℕ → ℕ → ℕ → ℕ → Top → List ℕ → ℕ → ℕ → Type 0
-NoneFrom d key t b n top y m bound =
-    (e : ℕ) (o : Opened d t b n e top) → Listed (shelf t) m y → (j : ℕ) → j < m → bound ≤ rankOf (shelf t) y j
-    → valid real (shelf t) key b (serverIn (memoryIn o)) (candidateAt (shelf t) (slotOf (shelf t) y j)) ≡ false
+abbrev pub NoneFrom : List ℕ → List ℕ → Opened → List ℕ → ℕ → ℕ → Type 0
+NoneFrom d key told y m bound =
+    let s = shelf (told .t) in
+    (o : OpenedAs d told) → Listed s m y → (j : ℕ) → j < m → bound ≤ rankOf s y j
+    → valid real s key (told .server) (serverIn (memoryIn o)) (candidateAt s (slotOf s y j)) ≡ false
 
 -- the choice where none of rank bound or higher is valid, for every key that is prepared so
-abbrev pub ChosenUnder : List ℕ → Prepared → ℕ → ℕ → ℕ → Top → List ℕ → ℕ → ℕ → Chosen → Type 0
-ChosenUnder d prepared t b n top y m bound r =
-    (key : List ℕ) → prepared ≡ preparedOf key → NoneFrom d key t b n top y m bound → ChosenAs d key t b n top y m r
+abbrev pub ChosenUnder : List ℕ → Prepared → Opened → List ℕ → ℕ → ℕ → Chosen → Type 0
+ChosenUnder d prepared told y m bound r =
+    (key : List ℕ) → prepared ≡ preparedOf key → NoneFrom d key told y m bound → ChosenAs d key told y m r
 
 -- ---- the reply
 
@@ -68,8 +70,8 @@ ChosenUnder d prepared t b n top y m bound r =
 unfoldable pub shareBytes : Config → List ℕ → ℕ → List ℕ
 shareBytes s d at = let y = drop stampSize (drop at d) in take (shareSize s (lengthAt y)) y
 
--- w is the reply with what n stored writes, of which top is the highest, hold for the stamp a
-abbrev pub HeldAs : List ℕ → Head → ℕ → Top → Stamp → List ℕ → Written → Type 0
-HeldAs d h n top a output w =
-    (ws : List Write) (e : ℕ) → Stored (shelf (h .t)) n d ws e → TopOf (shelf (h .t)) d top ws → length (a .tag) ≡ tagSize
-    → w ≡ packetStep (replyHead h 10) (heldF (shelf (h .t)) .print (record { stamp = a; share = held a ws })) [] output
+-- w is the reply with what the stored writes hold for the stamp a
+abbrev pub HeldAs : List ℕ → Head → Opened → Stamp → List ℕ → Written → Type 0
+HeldAs d h told a output w =
+    (ws : List Write) → Holds d told ws → length (a .tag) ≡ tagSize
+    → w ≡ packetStep (replyHead h 10) (heldF (shelf (told .t)) .print (record { stamp = a; share = held a ws })) [] output

@@ -16,6 +16,7 @@ use Rattle.protocol.specs.View.{part, stampAt, candidateAt}
 use Rattle.protocol.specs.Reading.{Leaves}
 use Rattle.wire.specs.Places.{lengthAt, shareSize, writeAt}
 use Rattle.server.specs.declared.memory.Top.{Top}
+use Rattle.server.specs.declared.memory.Opened.{Opened}
 use Rattle.server.specs.declared.memory.Found.{Found}
 use Rattle.server.specs.declared.memory.Found.the-variants as found
 use Rattle.server.specs.declared.memory.Writes.{Writes}
@@ -65,9 +66,14 @@ pub record TopOf (s : Config) (d : List ℕ) (top : Top) (ws : List Write) : Typ
   pub up : UpTo (top .key) ws
   pub first : 0 < top .at → (key : List ℕ) → sameList (part (drop (top .at) d) 0 stampSize) key ≡ true → FoundAt s d (top .at) (firstWith key ws)
 
--- the first of n writes, of which top is the highest, whose stamp has the bytes that x begins with
-abbrev pub FindAs : Config → ℕ → Top → List ℕ → List ℕ → Found → Type 0
-FindAs s n top d x r = (ws : List Write) (e : ℕ) → Stored s n d ws e → TopOf s d top ws → FindIs s d (firstWith (part x 0 stampSize) ws) r
+-- the writes ws stand in the memory d as told: their count, the place past them, and the highest of them
+pub record Holds (d : List ℕ) (told : Opened) (ws : List Write) : Type 0 where
+  pub there : Stored (shelf (told .t)) (told .count) d ws (told .end)
+  pub up : TopOf (shelf (told .t)) d (told .top) ws
+
+-- the first of them whose stamp has the bytes that x begins with
+abbrev pub FindAs : List ℕ → Opened → List ℕ → Found → Type 0
+FindAs d told x r = (ws : List Write) → Holds d told ws → FindIs (shelf (told .t)) d (firstWith (part x 0 stampSize) ws) r
 
 -- ---- no stamp twice
 
@@ -78,39 +84,48 @@ maxOf a b = cond (ltb a b) b a
 unfoldable pub raisedTop : Top → ℕ → ℕ → Top
 raisedTop top k at = cond (ltb (top .key) k) (record { key = k; at = at }) top
 
--- whether the stamp of the write at a place is that of one of n writes, of which top is the highest
-abbrev pub RepeatsAs : Config → ℕ → Top → List ℕ → ℕ → Bool → Type 0
-RepeatsAs s n top d at r =
-    (ws : List Write) (e next : ℕ) → Stored s n d ws e → TopOf s d top ws → Leaves (writeF s) d at (writeAt s (drop at d)) next
-    → r ≡ isSome (held (stampAt (drop at d)) ws)
+-- whether the stamp of the write that stands past them is that of one of them
+abbrev pub RepeatsAs : List ℕ → Opened → Bool → Type 0
+RepeatsAs d told r =
+    let s = shelf (told .t) in
+    let x = drop (told .end) d in
+    (ws : List Write) (next : ℕ) → Holds d told ws → Leaves (writeF s) d (told .end) (writeAt s x) next → r ≡ isSome (held (stampAt x) ws)
 
--- n writes, top the highest, of which no two have one stamp; where there are none, no such writes stand there
-pub record Checked (s : Config) (n : ℕ) (d : List ℕ) (e : ℕ) (top : Top) : Type 0 where
+-- writes of which no two have one stamp
+pub record Checked (d : List ℕ) (told : Opened) : Type 0 where
   pub writes : List Write
-  pub there : Stored s n d writes e
-  pub up : TopOf s d top writes
+  pub holds : Holds d told writes
   pub once : distinct writes ≡ true
 
--- `Broken` becomes refusal 2, as memoryNumber says
-abbrev pub WritesAs : Config → ℕ → List ℕ → Writes → Type 0
-WritesAs s n d (writes.Past e top) = Checked s n d e top
-WritesAs s n d writes.Broken = (ws : List Write) (e : ℕ) → Stored s n d ws e → distinct ws ≡ true → ⊥
+abbrev pub NoWrites : Config → ℕ → List ℕ → Type 0
+NoWrites s n d = (ws : List Write) (e : ℕ) → Stored s n d ws e → distinct ws ≡ true → ⊥
+
+-- n writes of the server b of t; `Broken` becomes refusal 2, as memoryNumber says
+abbrev pub WritesAs : ℕ → ℕ → ℕ → List ℕ → Writes → Type 0
+WritesAs t b n d (writes.Past e top) = Checked d (record { t = t; server = b; count = n; end = e; top = top })
+WritesAs t b n d writes.Broken = NoWrites (shelf t) n d
 
 -- ---- the whole memory: what decodeMemory gives, by its numbers, the places of its parts, and the highest stored write; or refusal 2
 
-pub record Opened (d : List ℕ) (t b n e : ℕ) (top : Top) : Type 0 where
+pub record OpenedAs (d : List ℕ) (told : Opened) : Type 0 where
   pub writes : List Write
-  pub there : Stored (shelf t) n d writes e
-  pub up : TopOf (shelf t) d top writes
-  pub decoded : decodeMemory d ≡ some (record { t = t; server = b; latest = candidateAt (shelf t) (drop latestPlace d); writes = writes })
+  pub holds : Holds d told writes
+  pub decoded :
+      decodeMemory d ≡ some (record {
+        t = told .t;
+        server = told .server;
+        latest = candidateAt (shelf (told .t))
+            (drop latestPlace d);
+        writes = writes;
+      })
 
 -- document 01's number of each answer
 abbrev pub memoryNumber : MemoryRead → ℕ
-memoryNumber (memories.Value t b n e top) = 0
+memoryNumber (memories.Value told) = 0
 memoryNumber memories.Broken = 2
 
 abbrev pub MemoryIs : List ℕ → MemoryRead → Type 0
-MemoryIs d (memories.Value t b n e top) = Opened d t b n e top
+MemoryIs d (memories.Value told) = OpenedAs d told
 MemoryIs d memories.Broken = decodeMemory d ≡ none
 
 -- the answer, with the number that the refusals give the bytes

@@ -3,7 +3,9 @@ ghost use mathlib.Core.Path.{_≡_};
 ghost use lib.ListN.{length, replicate};
 ghost use Rattle.protocol.specs.ServerBytes.{blankStep};
 ghost use Rattle.server.specs.Blank.{blankLatest};
+use crate::memory::FAULTS;
 use crate::memory::MemoryRead;
+use crate::memory::SERVER;
 
 // No byte but 00h.
 pub fn clear(memory: &mut [u8])
@@ -30,8 +32,8 @@ pub fn blank(memory: &mut [u8], t: usize, server: usize) -> cluster::Outcome
         return cluster::refused(4);
     }
     clear(memory);
-    memory[0] = t as u8;
-    memory[1] = server as u8;
+    memory[FAULTS] = t as u8;
+    memory[SERVER] = server as u8;
     cluster::Outcome {
         number: 0,
         count: 0,
@@ -50,14 +52,14 @@ pub fn blank_latest(memory: &mut [u8]) -> cluster::Outcome
     if memory.len() != cluster::MEMORY {
         return cluster::refused(1);
     }
-    let MemoryRead::Value(t, server, n, end, top) = crate::memory::open(memory) else {
+    let MemoryRead::Value(opened) = crate::memory::open(memory) else {
         return cluster::refused(2);
     };
     let zeros = [0u8; CANDIDATE];
     wire::make::put(
         memory,
         crate::memory::LATEST,
-        wire::bytes::part(&zeros, 0, wire::sizes::candidate_size(t)),
+        wire::bytes::part(&zeros, 0, wire::sizes::candidate_size(opened.t)),
     );
     cluster::Outcome {
         number: 0,

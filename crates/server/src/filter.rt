@@ -5,10 +5,10 @@ ghost use Prim.Native.Nat.{_≤_};
 ghost use Rattle.cluster.specs.Config.{shelf};
 ghost use Rattle.protocol.specs.Packet.{stampF};
 ghost use Rattle.wire.specs.Places.{lengthAt, shareSize};
-ghost use Rattle.server.specs.Valid.{AnswersWith};
+ghost use Rattle.server.specs.Answers.{AnswersAs};
 ghost use Rattle.server.specs.Filter.{ChosenAs, ChosenUnder, shareBytes, HeldAs};
 use crate::memory::Found;
-use crate::memory::Top;
+use crate::memory::Opened;
 use crate::memory::find;
 use crate::rank::next_rank;
 use crate::rank::slot;
@@ -25,6 +25,9 @@ pub enum Chosen {
     Nothing,
 }
 
+// Bytes of a list's count, before its candidates.
+const COUNT: usize = 1;
+
 // A stamp and the byte after it.
 const HELD: usize = wire::sizes::STAMP + 1;
 
@@ -32,58 +35,46 @@ const HELD: usize = wire::sizes::STAMP + 1;
 fn choose_under(
     memory: &[u8],
     prepared: hmac::Prepared,
-    t: u8,
-    server: u8,
-    n: usize,
-    top: Top,
+    opened: Opened,
     list: &[u8],
     count: u8,
     bound: u64,
 ) -> Chosen
-    requires { ⌜ 1 ≤ server ⌝ }
-    ensures { λ r. ⌜ ChosenUnder (now (memory .entry)) prepared t server n top (now (list .entry)) count bound r ⌝ }
+    requires { ⌜ 1 ≤ opened .server ⌝ }
+    ensures { λ r. ⌜ ChosenUnder (now (memory .entry)) prepared opened (now (list .entry)) count bound r ⌝ }
 {
-    let mut rank = next_rank(list, t, count, bound);
+    let mut rank = next_rank(list, opened.t, count, bound);
     while 0 < rank {
         let i = slot_with(rank);
-        if crate::valid::valid_prepared(memory, prepared, t, server, n, top, slot(list, t, i)) {
+        if crate::valid::valid_prepared(memory, prepared, opened, slot(list, opened.t, i)) {
             return Chosen::At(i);
         }
-        rank = next_rank(list, t, count, rank);
+        rank = next_rank(list, opened.t, count, rank);
     }
     Chosen::Nothing
 }
 
 // Candidates are tested from the highest rank down, up to the first valid one: a test costs a digest and a tag. Where the highest is
 // held, no tag is needed; else the key is prepared, once for all of them.
-fn choose(
-    memory: &[u8],
-    key: [u8; 32],
-    t: u8,
-    server: u8,
-    n: usize,
-    top: Top,
-    list: &[u8],
-    count: u8,
-) -> Chosen
-    requires { ⌜ 1 ≤ server ⌝ }
-    ensures { λ r. ⌜ ChosenAs (now (memory .entry)) key t server n top (now (list .entry)) count r ⌝ }
+fn choose(memory: &[u8], key: [u8; cluster::KEY], opened: Opened, list: &[u8], count: u8) -> Chosen
+    requires { ⌜ 1 ≤ opened .server ⌝ }
+    ensures { λ r. ⌜ ChosenAs (now (memory .entry)) key opened (now (list .entry)) count r ⌝ }
 {
-    let rank = next_rank(list, t, count, crate::rank::ABOVE);
+    let rank = next_rank(list, opened.t, count, crate::rank::ABOVE);
     if rank == 0 {
         return Chosen::Nothing;
     }
     let i = slot_with(rank);
-    let candidate = slot(list, t, i);
+    let candidate = slot(list, opened.t, i);
     let digest = digest_nonce(candidate);
-    if by_history(memory, t, n, top, candidate, digest) {
+    if by_history(memory, opened, candidate, digest) {
         return Chosen::At(i);
     }
     let prepared = hmac::prepare(key);
-    if by_tag(prepared, t, server, candidate, digest) {
+    if by_tag(prepared, opened, candidate, digest) {
         return Chosen::At(i);
     }
-    choose_under(memory, prepared, t, server, n, top, list, count, rank)
+    choose_under(memory, prepared, opened, list, count, rank)
 }
 
 // A stamp and the byte that says whether a share follows.
@@ -111,19 +102,18 @@ fn share_bytes(memory: &[u8], at: usize, t: u8) -> &[u8]
     part(share, 0, share_size(share, t))
 }
 
-// The reply for a stamp: what n stored writes hold for it.
+// The reply for a stamp: what the stored writes hold for it.
 fn reply_held(
     memory: &[u8],
     head: protocol::Head,
-    n: usize,
-    top: Top,
+    opened: Opened,
     stamp: protocol::Stamp,
     out: &mut [u8],
 ) -> cluster::Outcome
-    ensures { λ r. ⌜ HeldAs (now (memory .entry)) head n top stamp (now (out .entry)) (record { result = r; output = now (out .exit) }) ⌝ }
+    ensures { λ r. ⌜ HeldAs (now (memory .entry)) head opened stamp (now (out .entry)) (record { result = r; output = now (out .exit) }) ⌝ }
 {
     let nothing = held_head(stamp, 0);
-    let Found::At(at) = find(memory, head.t, n, top, &nothing) else {
+    let Found::At(at) = find(memory, opened, &nothing) else {
         return wire::make::make_packet(
             crate::answers::reply_head(head, 10),
             &nothing,
@@ -135,7 +125,7 @@ fn reply_held(
     wire::make::make_packet(
         crate::answers::reply_head(head, 10),
         &bytes,
-        share_bytes(memory, at, head.t),
+        share_bytes(memory, at, opened.t),
         out,
     )
 }
@@ -143,24 +133,23 @@ fn reply_held(
 // The reply is made before the candidate is raised: the history is the same.
 pub(crate) fn filter(
     memory: &mut [u8],
-    key: [u8; 32],
+    key: [u8; cluster::KEY],
     head: protocol::Head,
     packet: &[u8],
-    n: usize,
-    top: Top,
+    opened: Opened,
     out: &mut [u8],
 ) -> cluster::Outcome
-    requires { ⌜ 1 ≤ head .server ⌝ }
-    ensures { λ r. ⌜ AnswersWith 9 (now (memory .entry)) key (now (packet .entry)) (now (out .entry)) head n top (record { result = r; memory = now (memory .exit); output = now (out .exit) }) ⌝ }
+    requires { ⌜ 1 ≤ opened .server ⌝ }
+    ensures { λ r. ⌜ AnswersAs 9 (now (memory .entry)) key (now (packet .entry)) (now (out .entry)) head opened (record { result = r; memory = now (memory .exit); output = now (out .exit) }) ⌝ }
 {
     let body = rest(packet, wire::sizes::HEAD);
-    let list = rest(body, 1);
+    let list = rest(body, COUNT);
     let count = wire::bytes::byte_at(body, 0);
-    let Chosen::At(i) = choose(memory, key, head.t, head.server, n, top, list, count) else {
-        return reply_held(memory, head, n, top, protocol::Stamp::blank(), out);
+    let Chosen::At(i) = choose(memory, key, opened, list, count) else {
+        return reply_held(memory, head, opened, protocol::Stamp::blank(), out);
     };
-    let chosen = slot(list, head.t, i);
-    let r = reply_held(memory, head, n, top, wire::values::stamp_at(chosen), out);
+    let chosen = slot(list, opened.t, i);
+    let r = reply_held(memory, head, opened, wire::values::stamp_at(chosen), out);
     crate::answers::raise(memory, chosen);
     r
 }

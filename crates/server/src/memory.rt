@@ -14,7 +14,13 @@ use wire::fields::Cursor;
 use wire::fields::Field;
 use wire::values::rank_at;
 
-// The place of the latest candidate.
+// The places of t, of the server's number, of the count of stored writes, and of the latest candidate.
+pub const FAULTS: usize = 0;
+
+pub const SERVER: usize = 1;
+
+pub const COUNT: usize = 2;
+
 pub const LATEST: usize = 3;
 
 // The place where a stored write begins.
@@ -29,15 +35,24 @@ pub struct Top {
     pub at: usize,
 }
 
+// What a server's memory tells: t, the server's number, how many writes are stored, the place past them, and the highest of them.
+pub struct Opened {
+    pub t: u8,
+    pub server: u8,
+    pub count: usize,
+    pub end: usize,
+    pub top: Top,
+}
+
 // The place past the stored writes, and the highest of them.
 pub enum Writes {
     Past(usize, Top),
     Broken,
 }
 
-// t, the server's number, how many writes are stored, the place past them, and the highest of them; or refusal 2.
+// What it tells, or refusal 2.
 pub enum MemoryRead {
-    Value(u8, u8, usize, usize, Top),
+    Value(Opened),
     Broken,
 }
 
@@ -82,18 +97,20 @@ fn stands_at(memory: &[u8], at: usize, stamp: &[u8]) -> bool
     wire::bytes::same(part(rest(memory, at), 0, wire::sizes::STAMP), stamp)
 }
 
-// The first of n stored writes whose stamp has the bytes that some begin with. A stamp above the highest of them needs no search, nor does that one's own, which is asked for most often.
-pub(crate) fn find(memory: &[u8], t: u8, n: usize, top: Top, bytes: &[u8]) -> Found
-    ensures { λ r. ⌜ FindAs (shelf t) n top (now (memory .entry)) (now (bytes .entry)) r ⌝ }
+// The first stored write whose stamp has the bytes that some begin with. A stamp above the highest of them needs no search, nor does that
+// one's own, which is asked for most often.
+pub(crate) fn find(memory: &[u8], opened: Opened, bytes: &[u8]) -> Found
+    ensures { λ r. ⌜ FindAs (now (memory .entry)) opened (now (bytes .entry)) r ⌝ }
 {
     let stamp = part(bytes, 0, wire::sizes::STAMP);
+    let top = opened.top;
     if top.key < rank_at(stamp) {
         return Found::Nothing;
     }
     if stands_at(memory, top.at, stamp) {
         return Found::At(top.at);
     }
-    search(memory, t, n, stamp)
+    search(memory, opened.t, opened.count, stamp)
 }
 
 pub(crate) fn max_of(a: u64, b: u64) -> u64
@@ -115,20 +132,20 @@ fn raised(top: Top, key: u64, at: usize) -> Top
     top
 }
 
-// Whether one of the first n stored writes, of which top is the highest, has the stamp at a place.
-fn repeats(memory: &[u8], t: u8, n: usize, top: Top, at: usize) -> bool
-    ensures { λ r. ⌜ RepeatsAs (shelf t) n top (now (memory .entry)) at r ⌝ }
+// Whether one of the stored writes that were read has the stamp at the place past them.
+fn repeats(memory: &[u8], read: Opened) -> bool
+    ensures { λ r. ⌜ RepeatsAs (now (memory .entry)) read r ⌝ }
 {
-    let Found::Nothing = find(memory, t, n, top, rest(memory, at)) else {
+    let Found::Nothing = find(memory, read, rest(memory, read.end)) else {
         return true;
     };
     false
 }
 
 // n stored writes, no two of one stamp.
-fn check_writes(memory: &[u8], t: u8, n: usize) -> Writes
+fn check_writes(memory: &[u8], t: u8, server: u8, n: usize) -> Writes
     requires { ⌜ writesPlace (shelf t) ≤ length (now memory) ⌝ }
-    ensures { λ r. ⌜ WritesAs (shelf t) n (now (memory .entry)) r ⌝ }
+    ensures { λ r. ⌜ WritesAs t server n (now (memory .entry)) r ⌝ }
 {
     let mut at = writes_place(t);
     let mut top = Top { key: 0, at: 0 };
@@ -137,7 +154,14 @@ fn check_writes(memory: &[u8], t: u8, n: usize) -> Writes
         let Field::Value(size, next) = wire::parts::write_field(memory, Cursor { at }, t) else {
             return Writes::Broken;
         };
-        if repeats(memory, t, i, top, at) {
+        let read = Opened {
+            t,
+            server,
+            count: i,
+            end: at,
+            top,
+        };
+        if repeats(memory, read) {
             return Writes::Broken;
         }
         top = raised(top, rank_at(rest(memory, at)), at);
@@ -156,7 +180,7 @@ pub(crate) fn open(memory: &[u8]) -> MemoryRead
     }
     let Field::Value(t, c1) = wire::fields::byte_field(
         memory,
-        Cursor { at: 0 },
+        Cursor { at: FAULTS },
         1,
         cluster::TOP_FAULTS as u32,
     ) else {
@@ -173,11 +197,17 @@ pub(crate) fn open(memory: &[u8]) -> MemoryRead
     let Field::Value(number, c4) = wire::parts::any_candidate_field(memory, c3, t as u8) else {
         return MemoryRead::Broken;
     };
-    let Writes::Past(end, top) = check_writes(memory, t as u8, n as usize) else {
+    let Writes::Past(end, top) = check_writes(memory, t as u8, server as u8, n as usize) else {
         return MemoryRead::Broken;
     };
     if wire::bytes::all_zero(rest(memory, end)) {
-        return MemoryRead::Value(t as u8, server as u8, n as usize, end, top);
+        return MemoryRead::Value(Opened {
+            t: t as u8,
+            server: server as u8,
+            count: n as usize,
+            end,
+            top,
+        });
     }
     MemoryRead::Broken
 }

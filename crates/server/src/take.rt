@@ -13,10 +13,13 @@ ghost use Rattle.protocol.specs.ServerBytes.{serverTake};
 ghost use Rattle.wire.specs.Places.{packetAt};
 ghost use Rattle.server.specs.Answers.{NumberAt, AnswersAny};
 use crate::memory::MemoryRead;
-use crate::memory::Top;
+use crate::memory::Opened;
 use crate::memory::open;
 use wire::packet::PacketRead;
 use wire::packet::read_packet;
+
+// The place of the writer in a stamp.
+const WRITER: usize = 4;
 
 // Whether a client may not send this store or complete: only a writer may, and only with a stamp of its own.
 fn foreign(client: u8, packet: &[u8]) -> bool
@@ -25,7 +28,7 @@ fn foreign(client: u8, packet: &[u8]) -> bool
     if cluster::TOP_WRITER < (client as usize) {
         return true;
     }
-    if wire::bytes::byte_at(wire::bytes::rest(packet, wire::sizes::HEAD), 4) == client {
+    if wire::bytes::byte_at(wire::bytes::rest(packet, wire::sizes::HEAD), WRITER) == client {
         return false;
     }
     true
@@ -59,13 +62,13 @@ fn barred(head: protocol::Head, packet: &[u8]) -> bool
 }
 
 // Refusals 8, 9 and 15 of a packet that was let through; 0 where none applies.
-fn refusal(head: protocol::Head, t: u8, server: u8, packet: &[u8], room: usize) -> u8
-    ensures { λ r. ⌜ NumberAt t server (packetAt head (now (packet .entry))) room r ⌝ }
+fn refusal(head: protocol::Head, opened: Opened, packet: &[u8], room: usize) -> u8
+    ensures { λ r. ⌜ NumberAt opened (packetAt head (now (packet .entry))) room r ⌝ }
 {
-    if head.t != t {
+    if head.t != opened.t {
         return 8;
     }
-    if head.server != server {
+    if head.server != opened.server {
         return 8;
     }
     if barred(head, packet) {
@@ -80,23 +83,21 @@ fn refusal(head: protocol::Head, t: u8, server: u8, packet: &[u8], room: usize) 
 // The answer by kind. Of the kinds that are not refused with 9, repair is left at the end.
 fn answer(
     memory: &mut [u8],
-    key: [u8; 32],
+    key: [u8; cluster::KEY],
     head: protocol::Head,
     packet: &[u8],
-    n: usize,
-    end: usize,
-    top: Top,
+    opened: Opened,
     out: &mut [u8],
 ) -> cluster::Outcome
-    requires { ⌜ 1 ≤ head .server ⌝ }
-    ensures { λ r. ⌜ AnswersAny (now (memory .entry)) key (now (packet .entry)) (now (out .entry)) head n end top (record { result = r; memory = now (memory .exit); output = now (out .exit) }) ⌝ }
+    requires { ⌜ 1 ≤ opened .server ⌝ }
+    ensures { λ r. ⌜ AnswersAny (now (memory .entry)) key (now (packet .entry)) (now (out .entry)) head opened (record { result = r; memory = now (memory .exit); output = now (out .exit) }) ⌝ }
 {
     let kind = head.kind;
     if kind == 1 {
         return crate::answers::clock(memory, head, out);
     }
     if kind == 3 {
-        return crate::store::store(memory, head, packet, n, end, top, out);
+        return crate::store::store(memory, head, packet, opened, out);
     }
     if kind == 5 {
         return crate::answers::complete(memory, head, packet, out);
@@ -105,9 +106,9 @@ fn answer(
         return crate::answers::collect(memory, head, out);
     }
     if kind == 9 {
-        return crate::filter::filter(memory, key, head, packet, n, top, out);
+        return crate::filter::filter(memory, key, head, packet, opened, out);
     }
-    crate::repair::repair(memory, key, head, packet, n, top, out)
+    crate::repair::repair(memory, key, head, packet, opened, out)
 }
 
 // A packet to this server, in its memory, with its key: 1, 2, 7, 8, 9, 15, or the reply.
@@ -117,15 +118,15 @@ pub fn take(memory: &mut [u8], key: &[u8; 32], packet: &[u8], out: &mut [u8]) ->
     if memory.len() != cluster::MEMORY {
         return cluster::refused(1);
     }
-    let MemoryRead::Value(t, server, n, end, top) = open(memory) else {
+    let MemoryRead::Value(opened) = open(memory) else {
         return cluster::refused(2);
     };
     let PacketRead::Value(head) = read_packet(packet) else {
         return cluster::refused(7);
     };
-    let number = refusal(head, t, server, packet, out.len());
+    let number = refusal(head, opened, packet, out.len());
     if number != 0 {
         return cluster::refused(number);
     }
-    answer(memory, *key, head, packet, n, end, top, out)
+    answer(memory, *key, head, packet, opened, out)
 }

@@ -15,7 +15,7 @@ returns-2 c =
 
 returns-3 : tie.Need-returns-3
 returns-3 c =
-    let m = rw (c .before .before .before .before .before .before .before .before .t .given .1) at
+    let m = rw (c .before .before .before .before .before .before .before .before .opened .given .1) at
     (c .before .before .before .before .before .before .before .before .before .before .«open» .ensures .1) in
     latest-blanked (c .before .before .before .before .before .before .before .before .before .before .before .before .before .before .args .memory
     .now) (c .before .before .before .before .before .before .before .before .before .before .before .before .if1 .left)

@@ -8,13 +8,13 @@ use Rattle.server.proofs.filter.choose.Tie as tie
 returns : tie.Need-returns
 returns c =
     let a = c .before .before .before .before .args in
-    highest-none (a .memory .now) (a .key) (a .t) (a .server) (a .n) (a .top) (a .list .now) (a .count) (omega arith)
+    highest-none (a .memory .now) (a .key) (a .opened) (a .list .now) (a .count) (omega arith)
     (λ i. c .before .before .shared-slice-known2 .given i .fits) (c .before .next-rank .ensures) (omega arith)
 
 returns-2 : tie.Need-returns-2
 returns-2 c =
     let a = c .before .before .before .before .before .before .before .before .before .args in
-    highest-held (a .memory .now) (a .key) (a .t) (a .server) (a .n) (a .top) (a .list .now) (a .count) (omega arith)
+    highest-held (a .memory .now) (a .key) (a .opened) (a .list .now) (a .count) (omega arith)
     (λ i. c .before .before .before .before .before .before .before .shared-slice-known2 .given i .fits)
     (c .before .before .before .before .before .before .next-rank .ensures) (omega (arith, c .before .before .before .before .before .if1 .left))
     (c .before .before .before .before .slot-with .ensures) (c .before .before .before .slot .ensures) (c .before .before .digest-nonce .ensures)
@@ -23,7 +23,7 @@ returns-2 c =
 returns-3 : tie.Need-returns-3
 returns-3 c =
     let a = c .before .before .before .before .before .before .before .before .before .before .before .before .args in
-    highest-tagged (a .memory .now) (a .key) (a .t) (a .server) (a .n) (a .top) (a .list .now) (a .count) (omega arith)
+    highest-tagged (a .memory .now) (a .key) (a .opened) (a .list .now) (a .count) (omega arith)
     (λ i. c .before .before .before .before .before .before .before .before .before .before .shared-slice-known2 .given i .fits)
     (c .before .before .before .before .before .before .before .before .before .next-rank .ensures)
     (omega (arith, c .before .before .before .before .before .before .before .before .if1 .left))
@@ -34,7 +34,7 @@ returns-3 c =
 returns-4 : tie.Need-returns-4
 returns-4 c =
     let a = c .before .before .before .before .before .before .before .before .before .before .before .before .before .args in
-    then-under (a .memory .now) (a .key) (a .t) (a .server) (a .n) (a .top) (a .list .now) (a .count)
+    then-under (a .memory .now) (a .key) (a .opened) (a .list .now) (a .count)
     (omega (arith, c .before .before .before .before .before .before .before .before .before .before .before .before .before .fits .count .fits))
     (λ i. c .before .before .before .before .before .before .before .before .before .before .before .shared-slice-known2 .given i .fits)
     (c .before .before .before .before .before .before .before .before .before .before .next-rank .ensures)

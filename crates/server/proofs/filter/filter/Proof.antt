@@ -6,12 +6,12 @@ use Rattle.server.proofs.filter.filter.Tie as tie
 
 returns : tie.Need-returns
 returns c =
-    λ e o dec k room.
+    λ o own dec k room.
     let a = c .before .before .before .before .before .before .before .before .before .before .before .before .before .before .before .before .args in
     filter-nothing (λ i. c .before .before .before .before .before .before .before .before .before .before .before .before .before .before .before
     .slice-known .given i .fits) (a .key) (a .packet .now)
     (λ i. c .before .before .before .before .before .before .before .before .before .before .before .before .before .before .shared-slice-known .given
-    i .fits) (a .out .now) (a .head) o dec k room
+    i .fits) (a .out .now) (a .head) o own dec k room
     (c .before .before .before .before .before .before .before .before .before .before .before .before .rest .ensures)
     (c .before .before .before .before .before .before .before .before .before .before .before .rest2 .ensures)
     (c .before .before .before .before .before .before .before .before .before .before .byte-at .ensures)
@@ -22,13 +22,13 @@ returns c =
 
 returns-2 : tie.Need-returns-2
 returns-2 c =
-    λ e o dec k room.
+    λ o own dec k room.
     let a = c .before .before .before .before .before .before .before .before .before .before .before .before .before .before .before .before .before
     .before .before .before .before .before .args in
     filter-chosen (λ i. c .before .before .before .before .before .before .before .before .before .before .before .before .before .before .before
     .before .before .before .before .before .before .slice-known .given i .fits) (a .key) (a .packet .now)
     (λ i. c .before .before .before .before .before .before .before .before .before .before .before .before .before .before .before .before .before
-    .before .before .before .shared-slice-known .given i .fits) (a .out .now) (a .head) o dec k room
+    .before .before .before .shared-slice-known .given i .fits) (a .out .now) (a .head) o own dec k room
     (c .before .before .before .before .before .before .before .before .before .before .before .before .before .before .before .before .before .before
     .rest .ensures) (c .before .before .before .before .before .before .before .before .before .before .before .before .before .before .before .before
     .before .rest2 .ensures)

@@ -9,7 +9,7 @@ returns c =
     let a = c .before .before .before .before .before .before .before .before .before .before .before .before .before .before .args in
     held-nothing (a .memory .now)
     (λ i. c .before .before .before .before .before .before .before .before .before .before .before .before .before .shared-slice-known .given
-    i .fits) (a .head) (a .n) (a .top) (a .stamp) (a .out .now)
+    i .fits) (a .head) (a .opened) (a .stamp) (a .out .now)
     (c .before .before .before .before .before .before .before .before .before .before .before .held-head .ensures)
     (c .before .before .before .before .before .before .before .before .before .find .result)
     (c .before .before .before .before .before .before .before .before .before .find .ensures)
@@ -21,7 +21,7 @@ returns-2 c =
     let a = c .before .before .before .before .before .before .before .before .before .before .before .before .before .before .before .before .args in
     held-share (a .memory .now)
     (λ i. c .before .before .before .before .before .before .before .before .before .before .before .before .before .before .before
-    .shared-slice-known .given i .fits) (a .head) (a .n) (a .top) (a .stamp) (a .out .now)
+    .shared-slice-known .given i .fits) (a .head) (a .opened) (a .stamp) (a .out .now)
     (c .before .before .before .before .before .before .before .before .before .before .before .before .before .held-head .ensures)
     (c .before .before .before .before .before .before .before .before .before .before .before .find .result)
     (c .before .before .before .before .before .before .before .before .before .before .before .find .ensures)

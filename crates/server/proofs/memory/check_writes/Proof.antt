@@ -8,22 +8,22 @@ use Rattle.server.proofs.memory.check_writes.Statement.{statement}
 use Rattle.server.proofs.memory.check_writes.Tie as tie
 
 abbrev Inv-loop : tie.InvT-loop
-Inv-loop memory t n at₀ top₀ i₀ at top i = (i ≤ n) × Checking (shelf t) n memory at top i
+Inv-loop memory t server n at₀ top₀ i₀ at top i = (i ≤ n) × Checking (shelf t) n memory at top i
 
 abbrev μ-loop : tie.MeasureT-loop
-μ-loop memory t n at₀ top₀ i₀ at top i = n - i
+μ-loop memory t server n at₀ top₀ i₀ at top i = n - i
 
 loop-holds : tie.Need-loop-holds Inv-loop μ-loop
 loop-holds c = (omega arith, check-none _ _ _ (c .writes-place .ensures) (omega arith))
 
 returns : tie.Need-returns Inv-loop μ-loop
-returns c = check-stop (c .before .before .before .before .loop .inv .1) (omega arith)
+returns c = check-stop _ (c .before .before .before .before .loop .inv .1) (omega arith)
     (rw (c .enum-told .given .1) at (c .before .before .write-field .ensures))
 
 returns-2 : tie.Need-returns-2 Inv-loop μ-loop
 returns-2 c =
     let w = rw (c .before .before .before .size .given .1) at (c .before .before .before .before .before .write-field .ensures) in
-    check-held (c .before .before .before .before .before .before .before .loop .inv .1) (omega arith) (w .leaves) (c .before .repeats .ensures)
+    check-held _ (c .before .before .before .before .before .before .before .loop .inv .1) (omega arith) (w .leaves) _ (c .before .repeats .ensures)
     (c .if1 .taken)
 
 loop-again : tie.Need-loop-again Inv-loop μ-loop
@@ -31,14 +31,14 @@ loop-again c =
     let w = rw (c .before .before .before .before .before .before .size .given .1) at
     (c .before .before .before .before .before .before .before .before .write-field .ensures) in (
       omega arith,
-      check-more (c .before .before .before .before .before .before .before .before .before .before .loop .inv .1) (omega arith)
+      check-more _ (c .before .before .before .before .before .before .before .before .before .before .loop .inv .1) (omega arith)
           (w .leaves) (λ i. c .before .before .before .before .before .before .before .before .before .before .before .before .shared-slice-known .given
           i .fits) (c .before .before .rest .ensures) (c .before .rank-at .ensures) (c .raised .ensures)
-          (c .before .before .before .before .repeats .ensures) (c .before .before .before .if1 .left),
+          _ (c .before .before .before .before .repeats .ensures) (c .before .before .before .if1 .left),
     )
 
 returns-3 : tie.Need-returns-3 Inv-loop μ-loop
-returns-3 c = check-end (c .before .loop .inv .1) (omega arith)
+returns-3 c = check-end _ (c .before .loop .inv .1) _ (omega arith)
 
 pub check-writes-spec : {M : Type 1} → statement M
 check-writes-spec = tie.close (tie.spec Inv-loop μ-loop (λ c κs. search needs) loop-holds (λ c κs. search needs) (λ c. search needs)

@@ -108,6 +108,11 @@ returns-5 c =
 cast-check-writes : tie.Need-cast-check-writes
 cast-check-writes c = omega (arith, byte-range 1 topFaults (t-took (first (c .before))) .1)
 
+cast-check-writes-2 : tie.Need-cast-check-writes-2
+cast-check-writes-2 c =
+    let s = after-server (after-n (c .before)) in
+    omega (arith, servers-most (byte-range 1 topFaults (t-took (after-t s)) .1) (servers-are s), byte-range 1 _ (server-took s) .1)
+
 check-writes-requires : tie.Need-check-writes-requires
 check-writes-requires c κs =
     let l = c .before in
@@ -121,11 +126,11 @@ returns-6 c =
     broken (memory (after-t s)) (no-writes (size-is (after-t s)) (t-took (after-t s)) (servers-are s) (server-took s) (n-took (after-n l)) (latest-took l)
     (λ i. first l .before .before .before .before .shared-slice-known .given i .fits) (c .enum-told5 .given .1) (c .before .before .check-writes .ensures))
 
-cast-t25 : tie.Need-cast-t25
-cast-t25 c = omega (arith, byte-range 1 topFaults (t-took (first (c .before .before .before .before .before .before .before .before))) .1)
-
 cast-t26 : tie.Need-cast-t26
-cast-t26 c =
+cast-t26 c = omega (arith, byte-range 1 topFaults (t-took (first (c .before .before .before .before .before .before .before .before))) .1)
+
+cast-t27 : tie.Need-cast-t27
+cast-t27 c =
     let s = after-server (after-n (c .before .before .before .before .before .before .before .before)) in
     omega (arith, servers-most (byte-range 1 topFaults (t-took (after-t s)) .1) (servers-are s), byte-range 1 _ (server-took s) .1)
 
@@ -149,5 +154,6 @@ pub open-spec : {M : Type 1} → statement M
 open-spec = tie.close (tie.spec returns (λ c. search needs) (λ c κs. search needs) (λ c. search needs) (λ c. search needs) returns-2 cast-servers
     (λ c κs. search needs) cast-byte-field-2 (λ c κs. search needs) (λ c. search needs) (λ c. search needs) returns-3 (λ c. search needs)
     (λ c κs. search needs) (λ c. search needs) (λ c. search needs) returns-4 cast-any-candidate-field (λ c κs. search needs) (λ c. search needs)
-    (λ c. search needs) returns-5 cast-check-writes (λ c. search needs) check-writes-requires (λ c. search needs) (λ c. search needs) returns-6
-    (λ c κs. search needs) (λ c κs. search needs) cast-t25 cast-t26 (λ c. search needs) returns-7 returns-8)
+    (λ c. search needs) returns-5 cast-check-writes cast-check-writes-2 (λ c. search needs) check-writes-requires (λ c. search needs)
+    (λ c. search needs) returns-6
+    (λ c κs. search needs) (λ c κs. search needs) cast-t26 cast-t27 (λ c. search needs) returns-7 returns-8)

@@ -1,17 +1,16 @@
 -- What is found for the bytes at the place. Assumes nothing.
 use borrow.Author.Needs.{needs}
-use Rattle.cluster.specs.Config.{shelf}
 use Rattle.server.proofs.Once.{repeats-none, repeats-found}
 use Rattle.server.proofs.memory.repeats.Statement.{statement}
 use Rattle.server.proofs.memory.repeats.Tie as tie
 
 returns : tie.Need-returns
-returns c = let a = c .before .before .before .before .before .args in repeats-found (shelf (a .t)) (a .n) (a .top) (a .memory .now) (a .at)
+returns c = let a = c .before .before .before .before .before .args in repeats-found (a .memory .now) (a .read)
     (λ i. c .before .before .before .before .shared-slice-known .given i .fits) (c .before .before .before .rest .ensures) (c .enum-told2 .given .1)
     (c .before .before .find .ensures)
 
 returns-2 : tie.Need-returns-2
-returns-2 c = let a = c .before .before .before .before .before .args in repeats-none (shelf (a .t)) (a .n) (a .top) (a .memory .now) (a .at)
+returns-2 c = let a = c .before .before .before .before .before .args in repeats-none (a .memory .now) (a .read)
     (λ i. c .before .before .before .before .shared-slice-known .given i .fits) (c .before .before .before .rest .ensures) (c .enum-told .given .1)
     (c .before .before .find .ensures)
 

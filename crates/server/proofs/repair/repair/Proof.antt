@@ -12,8 +12,7 @@ returns c = repair-answers
     (λ i. c .before .before .before .before .before .before .before .before .before .before .before .before .before .shared-slice-known .given
     i .fits) (c .before .before .before .before .before .before .before .before .before .before .before .before .before .before .before .args .out
     .now) (c .before .before .before .before .before .before .before .before .before .before .before .before .before .before .before .args .head)
-    (c .before .before .before .before .before .before .before .before .before .before .before .before .before .before .before .args .n)
-    (c .before .before .before .before .before .before .before .before .before .before .before .before .before .before .before .args .top)
+    (c .before .before .before .before .before .before .before .before .before .before .before .before .before .before .before .args .opened)
     (c .before .before .before .before .before .before .before .before .before .before .rest .ensures)
     (c .before .before .before .before .before .before .before .before .before .raise-valid .ensures)
     (c .before .before .before .before .before .part .ensures) (c .before .before .before .before .part2 .ensures)

@@ -5,11 +5,10 @@ use Rattle.server.proofs.store.keep_write.Statement.{statement}
 use Rattle.server.proofs.store.keep_write.Tie as tie
 
 returns : tie.Need-returns
-returns c = kept-made (c .before .before .before .before .before .before .before .before .before .before .args .memory .now)
-    (c .before .before .before .before .before .before .before .before .before .before .args .n)
-    (c .before .before .before .before .before .before .before .before .before .before .args .end)
-    (c .before .before .before .before .before .before .before .before .before .before .args .write .now)
-    (c .before .before .before .before .before .before .put-byte .ensures) (c .before .before .put .ensures)
+returns c =
+    let a = c .before .before .before .before .before .before .before .before .before .before .before .args in
+    kept-made (a .memory .now) (a .opened) (a .write .now) (c .before .before .before .before .before .before .put-byte .ensures)
+    (c .before .before .put .ensures)
 
 pub keep-write-spec : {M : Type 1} → statement M
 keep-write-spec = tie.close (tie.spec (λ c. search needs) (λ c. search needs) (λ c κs. search needs) (λ c κs. search needs) (λ c. search needs)

@@ -17,7 +17,7 @@ returns-2 c =
 returns-3 : tie.Need-returns-3
 returns-3 c =
     let a = c .before .before .before .before .before .before .before .before .before .before .before .before .before .args in
-    let m = rw (c .before .before .before .before .before .t .given .1) at
+    let m = rw (c .before .before .before .before .before .opened .given .1) at
     (c .before .before .before .before .before .before .before .«open» .ensures .1) in
     take-unread (a .memory .now) (a .key .now) (a .packet .now) (a .out .now)
     (c .before .before .before .before .before .before .before .before .before .if1 .left) m
@@ -26,7 +26,7 @@ returns-3 c =
 returns-4 : tie.Need-returns-4
 returns-4 c =
     let a = c .before .before .before .before .before .before .before .before .before .before .before .before .before .before .before .before .args in
-    let m = rw (c .before .before .before .before .before .before .before .before .t .given .1) at
+    let m = rw (c .before .before .before .before .before .before .before .before .opened .given .1) at
     (c .before .before .before .before .before .before .before .before .before .before .«open» .ensures .1) in
     let p = rw (c .before .before .before .before .head .given .1) at (c .before .before .before .before .before .before .read-packet .ensures .1) in
     take-refused (a .memory .now) (a .key .now) (a .packet .now) (a .out .now)
@@ -34,17 +34,15 @@ returns-4 c =
     (c .before .before .refusal .ensures) (c .before .if2 .taken) (c .refused4 .ensures)
 
 answer-requires : tie.Need-answer-requires
-answer-requires c κs =
-    let p = rw (c .before .before .before .before .before .before .head .given .1) at
-    (c .before .before .before .before .before .before .before .before .read-packet .ensures .1) in
-    server-least _ (c .before .before .before .before .before .before .before .before .before .before .before .before .before .before .before .before
-    .before .before .args .packet .now) p
+answer-requires c κs = server-least (rw (c .before .before .before .before .before .before .before .before .before .before .opened .given .1) at
+    (c .before .before .before .before .before .before .before .before .before .before .before .before .«open» .ensures .1))
 
 returns-5 : tie.Need-returns-5
 returns-5 c =
     let a = c .before .before .before .before .before .before .before .before .before .before .before .before .before .before .before .before .before
     .before .before .before .before .before .before .args in
-    let m = rw (c .before .before .before .before .before .before .before .before .before .before .before .before .before .before .before .t .given
+    let m = rw (c .before .before .before .before .before .before .before .before .before .before .before .before .before .before .before .opened
+    .given
     .1) at (c .before .before .before .before .before .before .before .before .before .before .before .before .before .before .before .before .before
     .«open» .ensures .1) in
     let p = rw (c .before .before .before .before .before .before .before .before .before .before .before .head .given .1) at

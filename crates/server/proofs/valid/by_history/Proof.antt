@@ -1,17 +1,17 @@
 -- Nothing found, or the nonce digest compared at its place. Assumes nothing.
 use borrow.Author.Needs.{needs}
-use Rattle.cluster.specs.Config.{shelf}
 use Rattle.server.proofs.Testing.{history-none, history-found}
 use Rattle.server.proofs.valid.by_history.Statement.{statement}
 use Rattle.server.proofs.valid.by_history.Tie as tie
 
 returns : tie.Need-returns
-returns c = let a = c .before .before .before .before .before .args in history-none (shelf (a .t)) (a .n) (a .top) (a .memory .now)
-    (a .candidate .now) (a .t6) (c .before .before .find .ensures) (c .enum-told .given .1)
+returns c = let a = c .before .before .before .before .before .args in history-none (a .memory .now) (a .opened)
+    (a .candidate .now) (a .t4) (c .before .before .find .ensures) (c .enum-told .given .1)
 
 returns-2 : tie.Need-returns-2
-returns-2 c = let a = c .before .before .before .before .before .before .before .before .before .before .before .args in history-found (shelf (a .t))
-    (a .n) (a .top) (a .memory .now) (a .candidate .now) (a .t6) (c .before .before .before .before .before .before .before .before .find .ensures)
+returns-2 c = let a = c .before .before .before .before .before .before .before .before .before .before .before .args in history-found
+    (a .memory .now)
+    (a .opened) (a .candidate .now) (a .t4) (c .before .before .before .before .before .before .before .before .find .ensures)
     (c .before .before .before .before .before .before .at .given .1) (c .before .before .before .before .rest .ensures)
     (c .before .before .before .rest2 .ensures) (c .before .before .nonce-digest .ensures) (c .same .ensures)
 

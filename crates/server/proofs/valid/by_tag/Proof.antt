@@ -1,21 +1,17 @@
 -- The tag at its place against the tag made. Assumes nothing.
 use borrow.Author.Needs.{needs}
 use native.Mathlib.Omega.{arith}
-use Rattle.cluster.specs.Config.{shelf}
 use Rattle.server.proofs.Testing.{tag-made}
 use Rattle.server.proofs.valid.by_tag.Statement.{statement}
 use Rattle.server.proofs.valid.by_tag.Tie as tie
 
 returns : tie.Need-returns
-returns c = tag-made (shelf (c .before .before .before .before .before .before .before .before .args .t))
-    (c .before .before .before .before .before .before .before .before .args .prepared)
-    (c .before .before .before .before .before .before .before .before .args .server)
-    (c .before .before .before .before .before .before .before .before .args .candidate .now)
-    (c .before .before .before .before .before .before .before .before .args .digest)
-    (c .before .before .before .before .before .before .part .ensures) (c .before .before .before .before .before .prepared-tag-with .ensures)
-    (c .before .before .before .before .tags-size .ensures) (c .before .before .before .part2 .ensures) (c .before .before .part3 .ensures)
-    (c .same .ensures)
+returns c =
+    let a = c .before .before .before .before .before .before .before .before .before .args in
+    tag-made (a .prepared) (a .opened) (a .candidate .now) (a .digest) (c .before .before .before .before .before .before .before .part .ensures)
+    (c .before .before .before .before .before .before .prepared-tag-with .ensures) (c .before .before .before .before .before .tags-size .ensures)
+    (c .before .before .before .before .part2 .ensures) (c .before .before .part3 .ensures) (c .same .ensures)
 
 pub by-tag-spec : {M : Type 1} → statement M
 by-tag-spec = tie.close (tie.spec (λ c κs. search needs) (λ c κs. search needs) (λ c. search needs) (λ c κs. search needs) (λ c κs. search needs)
-    (λ c. omega arith) (λ c. omega arith) (λ c κs. search needs) (λ c. search needs) (λ c κs. search needs) returns)
+    (λ c. search needs) (λ c. omega arith) (λ c. omega arith) (λ c κs. search needs) (λ c. search needs) (λ c κs. search needs) returns)

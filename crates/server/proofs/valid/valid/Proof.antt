@@ -7,13 +7,13 @@ use Rattle.server.proofs.valid.valid.Tie as tie
 returns : tie.Need-returns
 returns c =
     let a = c .before .before .before .before .before .args in
-    valid-history (a .memory .now) (a .key) (a .t) (a .server) (a .n) (a .top) (a .candidate .now) (c .before .before .digest-nonce .ensures)
+    valid-history (a .memory .now) (a .key) (a .opened) (a .candidate .now) (c .before .before .digest-nonce .ensures)
     (c .before .by-history .ensures) (c .if1 .taken)
 
 returns-2 : tie.Need-returns-2
 returns-2 c =
     let a = c .before .before .before .before .before .before .before .args in
-    valid-tag (a .memory .now) (a .key) (a .t) (a .server) (a .n) (a .top) (a .candidate .now)
+    valid-tag (a .memory .now) (a .key) (a .opened) (a .candidate .now)
     (c .before .before .before .before .digest-nonce .ensures) (c .before .before .before .by-history .ensures) (c .before .before .if1 .left)
     (c .before .prepare .ensures) (c .by-tag .ensures)
 
