@@ -77,9 +77,9 @@ round-high c h = rw (within-high 1 6 (c .tally .round) (omega arith) h) refl
 
 -- ---- the answer
 
-pub round-unsized : (d : List ℕ) → length d ≢ clientSize → roundIn d ≡ packed wrongSize 0 0 0
+pub round-unsized : (d : List ℕ) (r : ℕ) → length d ≢ clientSize → r ≡ packed wrongSize 0 0 0 → r ≡ roundIn d
 unfolding roundIn sized
-round-unsized d h = rw (ne-eqb (length d) clientSize h) refl
+round-unsized d r h e = rw (ne-eqb (length d) clientSize h) e
 
 pub round-sized : (d : List ℕ) → length d ≡ clientSize → roundIn d ≡ roundTold (callAt d)
 unfolding roundIn sized

@@ -1,5 +1,4 @@
 -- The size is tested, then the small state is read and told. Assumes nothing.
-use mathlib.Core.Path.{sym, _∙_}
 use native.Mathlib.Omega.{arith}
 use borrow.Author.Needs.{needs}
 use Rattle.cluster.specs.Ranges.{mostServers}
@@ -10,7 +9,7 @@ use Rattle.embed.proofs.rounds.cendrulas_client_round.Statement.{statem
 use Rattle.embed.proofs.rounds.cendrulas_client_round.Tie as tie
 
 returns : tie.Need-returns
-returns c = c .pack .ensures ∙ sym (round-unsized (c .before .before .before .args .state .now) (c .before .if1 .taken))
+returns c = round-unsized (c .before .before .before .args .state .now) _ (c .before .if1 .taken) (c .pack .ensures)
 
 cast-pack : tie.Need-cast-pack
 cast-pack c = omega (arith, c .count .ensures, count-le mostServers (marked (c .before .before .before .before .before .read .result .tally .marks)))
