@@ -106,7 +106,8 @@ module _ (t client : ℕ) (c : Call) (reply : List ℕ) (h : Head) (y : Ready t 
           ∙ on-filter t client writers (keyOf keys) c kept output h (filterReply (heldAt (shelf t) body)) body held-print)
 
       pub filter-more : ends (shelf t) c (h .server) ≡ false
-          → record { answer = takenAnswer taken.More; call = then; kept = after; output = output } ≡ takeByRounds real t client writers keys c kept reply output
+          → record { answer = takenAnswer taken.More; call = then; kept = after; output = output }
+          ≡ takeByRounds real t client writers keys c kept reply output
       filter-more f = sym (took-filter ∙ rw f)
 
       pub filter-ends : length kept ≡ keptSize → Bytes after → ends (shelf t) c (h .server) ≡ true

@@ -47,7 +47,8 @@ module _ (t : ℕ) (c : Call) (kept output : List ℕ) where
   unfolding judgedIn judgedBy
   judged-refused n e = sym (ap (λ (d : Decision). judgedBy t c kept output d (decidedNow t c kept .output)) e)
 
-  pub judged-wait : decidedNow t c kept .answer ≡ decisions.Wait → record { answer = takenAnswer taken.More; call = c; kept = kept; output = output } ≡ judgedIn t c kept output
+  pub judged-wait : decidedNow t c kept .answer ≡ decisions.Wait
+      → record { answer = takenAnswer taken.More; call = c; kept = kept; output = output } ≡ judgedIn t c kept output
   unfolding judgedIn judgedBy
   judged-wait e = sym (ap (λ (d : Decision). judgedBy t c kept output d (decidedNow t c kept .output)) e)
 

@@ -24,7 +24,8 @@ use Rattle.client.specs.Steps.{Ready, TakesAs}
 use Rattle.client.proofs.TakenReplies.{took-store, took-complete, took-collect, took-repair}
 
 -- an answer by a test, with and without an output by the same test
-by-test : (e : Bool) (a b : Answered) (kept output : List ℕ) → answered (cond e a b) kept output ≡ cond e (answered a kept output) (answered b kept output)
+by-test : (e : Bool) (a b : Answered) (kept output : List ℕ)
+    → answered (cond e a b) kept output ≡ cond e (answered a kept output) (answered b kept output)
 by-test true a b kept output = refl
 by-test false a b kept output = refl
 

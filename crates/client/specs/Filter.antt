@@ -54,7 +54,8 @@ foundAt t c kept output i b content =
 unfoldable pub judgedBy : ℕ → Call → List ℕ → List ℕ → Decision → List ℕ → Took
 judgedBy t c kept output (decisions.Refused n) room = record { answer = takenAnswer (taken.Refused n); call = c; kept = kept; output = output }
 judgedBy t c kept output decisions.Wait room = record { answer = takenAnswer taken.More; call = c; kept = kept; output = output }
-judgedBy t c kept output decisions.Blank room = record { answer = takenAnswer taken.Blank; call = withTally c (fresh 0); kept = kept; output = output }
+judgedBy t c kept output decisions.Blank room =
+    record { answer = takenAnswer taken.Blank; call = withTally c (fresh 0); kept = kept; output = output }
 judgedBy t c kept output (decisions.Found i b n) room = foundAt t c kept output i b (part room 0 n)
 
 -- the decision over the replies of the servers that the call marks, with room for a content

@@ -73,7 +73,10 @@ pub(crate) fn deliver(
     out: &mut [u8],
 ) -> Answered
     requires { ⌜ (length (now content) ≤ topLength) × (contentRoom ≤ length (now out)) ⌝ }
-    ensures { λ r. ⌜ (r ≡ record { taken = taken.Read (label .number) (label .writer) (length (now (content .entry))); call = withTally call (fresh 0) })
+    ensures { λ r. ⌜ (r ≡ record {
+      taken = taken.Read (label .number) (label .writer) (length (now (content .entry)));
+      call = withTally call (fresh 0);
+    })
         × (now (out .exit) ≡ over (now (content .entry)) (now (out .entry))) ⌝ }
 {
     kept::write_at(out, 0, content);

@@ -66,7 +66,8 @@ pub fn begin_read(
     t: usize,
     client: usize,
 ) -> cluster::Outcome
-    ensures { λ r. ⌜ record { result = r; call = now (call .exit); kept = now (kept .exit) } ≡ beginRead t client (now (call .entry)) (now (kept .entry)) ⌝ }
+    ensures { λ r. ⌜ record { result = r; call = now (call .exit); kept = now (kept .exit) }
+        ≡ beginRead t client (now (call .entry)) (now (kept .entry)) ⌝ }
 {
     let s = begin::read_by_value(*call, kept, t, client);
     *call = s.call;
@@ -85,7 +86,8 @@ pub fn take(
     out: &mut [u8],
 ) -> protocol::Taken
     ensures { λ r. ⌜ record { answer = takenAnswer r; call = now (call .exit); kept = now (kept .exit); output = now (out .exit) }
-        ≡ clientTake real t client (now (writers .entry)) (now (keys .entry)) (now (call .entry)) (now (kept .entry)) (now (reply .entry)) (now (out .entry)) ⌝ }
+        ≡ clientTake real t client (now (writers .entry)) (now (keys .entry)) (now (call .entry)) (now (kept .entry)) (now (reply .entry))
+        (now (out .entry)) ⌝ }
 {
     let s = taking::take_by_value(*call, kept, t, client, writers, keys, reply, out);
     *call = s.call;

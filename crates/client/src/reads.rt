@@ -46,7 +46,10 @@ pub(crate) fn take_repair(
 ) -> Answered
     requires { ⌜ (t ≤ topFaults) × ((1 ≤ server) × ((server ≤ mostServers) × (contentRoom ≤ length (now out)))) ⌝ }
     ensures { λ r. ⌜ (r ≡ cond (ends (shelf t) call server)
-        (record { taken = readAs (chosenOf (shelf t) (now (kept .entry)) .stamp) (length (contentOf call (now (kept .entry)))); call = withTally call (fresh 0) })
+        (record {
+          taken = readAs (chosenOf (shelf t) (now (kept .entry)) .stamp) (length (contentOf call (now (kept .entry))));
+          call = withTally call (fresh 0);
+        })
         (record { taken = taken.More; call = withTally call (noted (shelf t) (call .tally) server) }))
         × (now (out .exit) ≡ cond (ends (shelf t) call server) (over (contentOf call (now (kept .entry))) (now (out .entry))) (now (out .entry))) ⌝ }
 {

@@ -40,7 +40,8 @@ shown-aborted aborts.InComplete = refl
 
 -- the row of a taken reply, with the content read from the output
 pub row-taken : (x : Taken) (o : List ℕ) (a : Answer) (content : List ℕ) (first : ℕ) → a ≡ takenAnswer x → content ≡ part o 0 (a .length)
-    → first ≡ getD content 0 0 → record { result = a .result; stamp = a .number; length = length content; first = first } ≡ shown (resultBy (takenAnswer x) o)
+    → first ≡ getD content 0 0
+    → record { result = a .result; stamp = a .number; length = length content; first = first } ≡ shown (resultBy (takenAnswer x) o)
 unfolding shownAs part
 row-taken x o a content first e p f =
     rw f (ap (shownAs a) p ∙ ap (λ (z : Answer). shownAs z (take (z .length) o)) e ∙ sym (shown-taken x o))

@@ -103,7 +103,8 @@ module _ (t c b : ℕ) (w : List ℕ) (ht : t ≤ topFaults) (hc : (1 ≤ c) × 
           let f : TakesAs took w c w₁ o a = subst (λ (z : Took). TakesAs z w c w₁ o a) same-took e in
           rw (f .area) (client-put t w m ht st c hc (took .call) (took .kept) (f .marks) (f .size))
 
-      pub take-shows : resultBy (takenAnswer a) o ≡ doBytes real (drillShelf t) m (take-reply c (lentTo (drillShelf t) c) reply (replicate contentRoom 0)) .result
+      pub take-shows : resultBy (takenAnswer a) o
+          ≡ doBytes real (drillShelf t) m (take-reply c (lentTo (drillShelf t) c) reply (replicate contentRoom 0)) .result
       unfolding doBytes setMachine took drillShelf
       take-shows =
           let f : TakesAs took w c w₁ o a = subst (λ (z : Took). TakesAs z w c w₁ o a) same-took e in
@@ -116,7 +117,8 @@ module _ (t c b : ℕ) (w : List ℕ) (ht : t ≤ topFaults) (hc : (1 ≤ c) × 
       → ServesAs (serverTake real (memoryIn w b) (replicate keySize b) p' (replicate packetRoom 0)) w b w₁ q r₂
       → q' ≡ part q 0 (r₂ .count)
       → TakesAs (takeIn t w₁ c q' (replicate contentRoom 0)) w₁ c w₂ o a
-      → (m : Machines) → Stands t w m → (Stands t w₂ (visited (drillShelf t) m c b .machines)) × (resultBy (takenAnswer a) o ≡ visited (drillShelf t) m c b .result)
+      → (m : Machines) → Stands t w m → (Stands t w₂ (visited (drillShelf t) m c b .machines))
+      × (resultBy (takenAnswer a) o ≡ visited (drillShelf t) m c b .result)
   unfolding visited
   visit-goes {r₁} {r₂} {p} {q} {o} {w₁} {w₂} {p'} {q'} {a} e₁ ep e₂ eq e₃ m st =
       let s = drillShelf t in

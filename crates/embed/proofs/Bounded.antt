@@ -1,4 +1,5 @@
--- What a step answers has room in one number: stamps' numbers go to 99,999,999, writers to 8, contents to 1,024 bytes, packets to 6,400, and a refusal isn't 0.
+-- What a step answers has room in one number: stamps' numbers go to 99,999,999, writers to 8, contents to 1,024 bytes, packets to 6,400, and a refusal
+-- isn't 0.
 -- By cases on the round: what a client holds is within the layout at every moment. Nothing is assumed but the primitives' lengths.
 use mathlib.Core.Path.{_≡_, refl, subst, _∙_}
 use mathlib.Core.Bool.{Bool, true}

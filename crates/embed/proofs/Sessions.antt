@@ -187,7 +187,8 @@ module _ (d : List ℕ) (t client : ℕ) (size : length d ≡ clientSize) where
       (λ (z : List ℕ). take (keptPlace - stateSize) rest ++ z) (drop-drop (keptPlace - stateSize) stateSize d))
 
   pub give-up-done : (x : Call) (s : Stopped) (r : ℕ) (after : List ℕ) → x ≡ callAt d → stopped s ≡ giveUp t client x
-      → after ≡ callBytes (s .call) ++ drop stateSize d → r ≡ packedAnswer (abortedAnswer (s .taken)) → record { answer = r; state = after } ≡ giveUpIn d t client
+      → after ≡ callBytes (s .call) ++ drop stateSize d → r ≡ packedAnswer (abortedAnswer (s .taken))
+      → record { answer = r; state = after } ≡ giveUpIn d t client
   unfolding giveUpIn sized stoppedIn
   give-up-done x s r after c e p q =
       rw (eq-eqb (length d) clientSize size, q, p, stays (s .call)) (ap (stoppedIn d) (e ∙ ap (giveUp t client) c))
