@@ -6,7 +6,6 @@ use mathlib.Core.List.{List, [], _∷_}
 use mathlib.Core.Option.{some}
 use Prim.Native.Nat.{ℕ, _+_, _≤_}
 use lib.ListN.{length, drop}
-use Rattle.cluster.specs.Config.{shelf}
 use Rattle.cluster.specs.Ranges.{packetRoom}
 use Rattle.protocol.specs.Values.{below}
 use Rattle.protocol.specs.declared.Head.{Head}
@@ -14,17 +13,16 @@ use Rattle.protocol.specs.Packet.{Packet, decode}
 use Rattle.protocol.specs.Memory.{Memory}
 use Rattle.protocol.specs.Primitives.{real}
 use Rattle.protocol.specs.Server.{Server, memoryOf, barred, serverRefusal}
-use Rattle.protocol.specs.View.{stampAt, candidateAt}
+use Rattle.protocol.specs.View.{stampAt}
 use Rattle.protocol.specs.ServerBytes.{Served, actedOn}
 use Rattle.wire.specs.Places.{packetAt}
 use Rattle.wire.specs.Make.{placed}
 use Rattle.server.specs.declared.memory.Opened.{Opened}
-use Rattle.server.specs.Reads.{latestPlace, OpenedAs}
+use Rattle.server.specs.Reads.{latestPlace, memoryWith, OpenedAs}
 
 -- the memory that opens
 abbrev pub memoryIn : {d : List ℕ} {told : Opened} → OpenedAs d told → Memory
-memoryIn {d} {told} o =
-    record { t = told .t; server = told .server; latest = candidateAt (shelf (told .t)) (drop latestPlace d); writes = o .writes }
+memoryIn {d} {told} o = memoryWith d told (o .writes)
 
 -- r is the number of a packet at this server, whatever it holds
 abbrev pub NumberAt : Opened → Packet → ℕ → ℕ → Type 0

@@ -11,7 +11,7 @@ use Rattle.cluster.specs.Refusals.{refuse, firstOf}
 use Rattle.protocol.specs.Format.{All, many}
 use Rattle.protocol.specs.Values.{Write, sameList, isSome, rank, stampSize, candidateSize}
 use Rattle.protocol.specs.Packet.{stampF, writeF}
-use Rattle.protocol.specs.Memory.{held, distinct, decodeMemory}
+use Rattle.protocol.specs.Memory.{Memory, held, distinct, decodeMemory}
 use Rattle.protocol.specs.View.{part, stampAt, candidateAt}
 use Rattle.protocol.specs.Reading.{Leaves}
 use Rattle.wire.specs.Places.{lengthAt, shareSize, writeAt}
@@ -91,7 +91,7 @@ RepeatsAs d told r =
     let x = drop (told .end) d in
     (ws : List Write) (next : ℕ) → Holds d told ws → Leaves (writeF s) d (told .end) (writeAt s x) next → r ≡ isSome (held (stampAt x) ws)
 
--- writes of which no two have one stamp
+-- writes of which no two have one stamp; where there are none, no n such writes stand there
 pub record Checked (d : List ℕ) (told : Opened) : Type 0 where
   pub writes : List Write
   pub holds : Holds d told writes
@@ -107,17 +107,13 @@ WritesAs t b n d writes.Broken = NoWrites (shelf t) n d
 
 -- ---- the whole memory: what decodeMemory gives, by its numbers, the places of its parts, and the highest stored write; or refusal 2
 
+abbrev pub memoryWith : List ℕ → Opened → List Write → Memory
+memoryWith d told ws = record { t = told .t; server = told .server; latest = candidateAt (shelf (told .t)) (drop latestPlace d); writes = ws }
+
 pub record OpenedAs (d : List ℕ) (told : Opened) : Type 0 where
   pub writes : List Write
   pub holds : Holds d told writes
-  pub decoded :
-      decodeMemory d ≡ some (record {
-        t = told .t;
-        server = told .server;
-        latest = candidateAt (shelf (told .t))
-            (drop latestPlace d);
-        writes = writes;
-      })
+  pub decoded : decodeMemory d ≡ some (memoryWith d told writes)
 
 -- document 01's number of each answer
 abbrev pub memoryNumber : MemoryRead → ℕ

@@ -26,7 +26,7 @@ pub enum Chosen {
 }
 
 // Bytes of a list's count, before its candidates.
-const COUNT: usize = 1;
+const COUNT_SIZE: usize = 1;
 
 // A stamp and the byte after it.
 const HELD: usize = wire::sizes::STAMP + 1;
@@ -143,7 +143,7 @@ pub(crate) fn filter(
     ensures { λ r. ⌜ AnswersAs 9 (now (memory .entry)) key (now (packet .entry)) (now (out .entry)) head opened (record { result = r; memory = now (memory .exit); output = now (out .exit) }) ⌝ }
 {
     let body = rest(packet, wire::sizes::HEAD);
-    let list = rest(body, COUNT);
+    let list = rest(body, COUNT_SIZE);
     let count = wire::bytes::byte_at(body, 0);
     let Chosen::At(i) = choose(memory, key, opened, list, count) else {
         return reply_held(memory, head, opened, protocol::Stamp::blank(), out);

@@ -2,7 +2,7 @@
 //
 // take    take: serverTake, a packet to the server and its reply
 // blank   blank: blankStep, a new server; blank_latest: specs/Blank's blankLatest
-// memory  open: MemoryAs, decodeMemory's answer; find: FindAs, the history searched by a whole stamp
+// memory  open: MemoryAs, decodeMemory's answer, told as Opened; find: FindAs, the history searched by a whole stamp
 
 pub mod take; // taking a packet
 pub mod blank; // making a server blank

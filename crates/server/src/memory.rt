@@ -142,7 +142,7 @@ fn repeats(memory: &[u8], read: Opened) -> bool
     false
 }
 
-// n stored writes, no two of one stamp.
+// n stored writes, no two of one stamp, after the t and the server that were read.
 fn check_writes(memory: &[u8], t: u8, server: u8, n: usize) -> Writes
     requires { ⌜ writesPlace (shelf t) ≤ length (now memory) ⌝ }
     ensures { λ r. ⌜ WritesAs t server n (now (memory .entry)) r ⌝ }
