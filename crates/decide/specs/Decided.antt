@@ -18,6 +18,7 @@ use Rattle.decide.specs.declared.Decision.the-variants as decisions
 use Rattle.decide.specs.Listing.{usable}
 
 -- the answer, and the output buffer after it
+-- (`Refused n` is document 01's refusal n; the others refuse nothing: client's judgedIn says what each does to the call)
 pub record Decided : Type 0 where
   pub answer : Decision
   pub output : List ℕ

@@ -19,7 +19,8 @@ returns c =
 reply-refusal-requires : tie.Need-reply-refusal-requires
 reply-refusal-requires c κs =
     let a = c .before .before .before .before .before .before .before .args in
-    server-range (a .reply .now) (c .before .head .given .0 .0) (rw (c .before .head .given .1) at (c .before .before .before .read-packet .ensures .1))
+    server-range (a .reply .now) (c .before .head .given .0 .0)
+    (rw (c .before .head .given .1) at (c .before .before .before .read-packet .ensures .1))
 
 returns-2 : tie.Need-returns-2
 returns-2 c =

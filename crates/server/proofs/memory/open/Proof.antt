@@ -123,8 +123,9 @@ returns-6 : tie.Need-returns-6
 returns-6 c =
     let l = c .before .before .before .before in
     let s = after-server (after-n l) in
-    broken (memory (after-t s)) (no-writes (size-is (after-t s)) (t-took (after-t s)) (servers-are s) (server-took s) (n-took (after-n l)) (latest-took l)
-    (λ i. first l .before .before .before .before .shared-slice-known .given i .fits) (c .enum-told5 .given .1) (c .before .before .check-writes .ensures))
+    broken (memory (after-t s)) (no-writes (size-is (after-t s)) (t-took (after-t s)) (servers-are s) (server-took s) (n-took (after-n l))
+    (latest-took l) (λ i. first l .before .before .before .before .shared-slice-known .given i .fits) (c .enum-told5 .given .1)
+    (c .before .before .check-writes .ensures))
 
 cast-t26 : tie.Need-cast-t26
 cast-t26 c = omega (arith, byte-range 1 topFaults (t-took (first (c .before .before .before .before .before .before .before .before))) .1)
@@ -147,8 +148,8 @@ returns-8 c =
     let l = c .before .before .before .before .before .before .before .before in
     let s = after-server (after-n l) in
     let w = rw (c .before .before .before .before .end .given .1) at (c .before .before .before .before .before .before .check-writes .ensures) in
-    broken (memory (after-t s)) (no-tail (size-is (after-t s)) (t-took (after-t s)) (servers-are s) (server-took s) (n-took (after-n l)) (latest-took l) w
-    (c .before .before .rest .ensures) (c .before .all-zero .ensures) (c .if2 .left))
+    broken (memory (after-t s)) (no-tail (size-is (after-t s)) (t-took (after-t s)) (servers-are s) (server-took s) (n-took (after-n l))
+    (latest-took l) w (c .before .before .rest .ensures) (c .before .all-zero .ensures) (c .if2 .left))
 
 pub open-spec : {M : Type 1} → statement M
 open-spec = tie.close (tie.spec returns (λ c. search needs) (λ c κs. search needs) (λ c. search needs) (λ c. search needs) returns-2 cast-servers
