@@ -8,7 +8,7 @@ use Rattle.embed.proofs.replies.cendrulas_store_code.Tie as tie
 returns : tie.Need-returns
 returns c =
     let s = c .before .before .before .before .before .args .packet .now in
-    c .pack .ensures ∙ sym (code-broken s (rw (c .before .enum-told .given .1) at (c .before .before .before .read-packet .ensures)))
+    c .pack .ensures ∙ sym (code-broken s (rw (c .before .enum-told .given .1) at (c .before .before .before .read-packet .ensures .1)))
 
 returns-2 : tie.Need-returns-2
 returns-2 c =
@@ -16,14 +16,14 @@ returns-2 c =
     let s = past-head .before .before .before .before .args .packet .now in
     let h = past-head .head .given .0 .0 in
     c .pack2 .ensures
-    ∙ sym (code-other s h (rw (past-head .head .given .1) at (past-head .before .before .read-packet .ensures)) (c .before .if1 .taken))
+    ∙ sym (code-other s h (rw (past-head .head .given .1) at (past-head .before .before .read-packet .ensures .1)) (c .before .if1 .taken))
 
 returns-3 : tie.Need-returns-3
 returns-3 c =
     let past-head = c .before .before .before .before .before in
     let s = past-head .before .before .before .before .args .packet .now in
     let h = past-head .head .given .0 .0 in
-    code-store s h (rw (past-head .head .given .1) at (past-head .before .before .read-packet .ensures)) (c .before .before .if1 .left)
+    code-store s h (rw (past-head .head .given .1) at (past-head .before .before .read-packet .ensures .1)) (c .before .before .if1 .left)
     (c .before .byte-at .result) _ (c .before .byte-at .ensures) (c .pack3 .ensures)
 
 pub cendrulas-store-code-spec : {M : Type 1} → statement M
