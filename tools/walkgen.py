@@ -9,8 +9,8 @@ slice (&[u8]), mutslice (&mut [u8]), arr:N (&[u8; N]), arr:N:M (&[[u8; N]; M]), 
 
 usage: walkgen.py CRATE F G S R K enum|struct 'kinds,..' 'names,..' 'phi' ['use lines']
   phi: what G ensures, a type over r (G's result), h (the state at entry), NAME (a number) or NAME (a list at entry), NAME′ (a list at exit).
-  F's ensures must be (r ≡ .. .taken) × ((now (state .exit) ≡ .. .call) × REST) where G's is (r ≡ ..) × REST; with no &mut besides the state
-  (REST absent) G's is r ≡ .. and F's the pair of the first two.
+  FACT (environment): what F ensures, from e, what G ensures, with r .taken for F's result and r .call for the state at exit. It is e itself where both
+  say so of one record; for begin_write and begin_read it is λ i. record { result = e .0 i .taken; call = e .0 i .call; kept = e .1 i } in brackets.
 """
 import sys
 crate,F,G,S,R,K,kk,kinds,names,phi=sys.argv[1:11]
@@ -257,8 +257,7 @@ lenhyp=''.join(f' → length {nm(i)}′ ≡ length ({nm(i)} .now)' for i in lens
 lenargs=''.join(f' {nm(i)}-len' for i in lens)
 wsv=tup(['r .call']+[(f'{nm(i)}′' if mut[i] else 'tt') for i in range(n)])
 fits=tup(['tt']+[(f'{nm(i)}-len' if kinds[i]=='mutslice' else 'tt') for i in range(n)])
-rest=Kn>0
-fact='(ap (λ (m : %s). m .taken) (e .0), (ap (λ (m : %s). m .call) (e .0), e .1))'%(R,R) if rest else '(ap (λ (m : %s). m .taken) e, ap (λ (m : %s). m .call) e)'%(R,R)
+fact=os.environ.get('FACT','e')
 build=[]
 for i in range(n-1,-1,-1):
     build.append('move ! (2 ∷ 0 ∷ []) $ fjoin ! $' if mut[i] else 'nothing ! $ fjoin ! $')
