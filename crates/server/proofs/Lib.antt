@@ -6,6 +6,7 @@ pub mod Open
 pub mod Standing
 pub mod Replies
 pub mod Raising
+pub mod Keeping
 pub mod Storing
 pub mod Testing
 pub mod Repairing

@@ -45,10 +45,11 @@ module _ (h : Head) (packet : List ℕ) (dec : decode packet ≡ some (packetAt 
   unfolding packetAt
   sent-bytes ps = body-bytes packet (packetAt h packet) dec ps ∙ ap (printBody (shelf (h .t))) body
 
--- what holds of all that is told of a server with t and server of the head h, holds where the packet is to this server
+-- what is told of the server that the head h names
 abbrev pub toldTo : Head → ℕ → ℕ → Top → Opened
 toldTo h n e top = record { t = h .t; server = h .server; count = n; end = e; top = top }
 
+-- what holds of it holds of what was told, where the packet is to this server
 pub to-server : (h : Head) {told : Opened} → ToServer h told → (P : Opened → Type 0) → ((n e : ℕ) (top : Top) → P (toldTo h n e top)) → P told
 to-server h {told} own P f =
     let q : _≡_ {A = Opened} (toldTo h (told .count) (told .end) (told .top)) told =

@@ -1,6 +1,6 @@
 -- The count, then the write. Assumes nothing.
 use borrow.Author.Needs.{needs}
-use Rattle.server.proofs.Storing.{kept-made}
+use Rattle.server.proofs.Keeping.{kept-made}
 use Rattle.server.proofs.store.keep_write.Statement.{statement}
 use Rattle.server.proofs.store.keep_write.Tie as tie
 
