@@ -15,7 +15,7 @@ use Rattle.protocol.specs.Values.{Candidate, below, blankStamp, isSome}
 use Rattle.protocol.specs.Packet.{Packet, decode}
 use Rattle.protocol.specs.Client.{Client, Hand, Result, idle, clocking, storing, completing, collecting, filtering, repairing, begun, onto, accepted}
 use Rattle.protocol.specs.Runs.{Lent, take-reply}
-use Rattle.protocol.proofs.Answers.{at-cond}
+use Rattle.format.proofs.Answers.{at-cond}
 use Rattle.atomicity.specs.Lists.{Ever, In}
 use Rattle.atomicity.specs.Steps.{Stamped, stampedAt}
 use Rattle.atomicity.specs.Claim.{Logged}
@@ -73,7 +73,7 @@ module _ (K : Setup) where
     pub stamp-is : write .stamp ≡ σ
     pub since-when : MarkAt write t xs
 
-  pub record Written (xs : Steps K) (t : ℕ) (v : List ℕ) (σ : Stamp) : Type 0 where
+  pub record WriteOf (xs : Steps K) (t : ℕ) (v : List ℕ) (σ : Stamp) : Type 0 where
     pub floor : (b : Stamp) (e : ℕ) → Ends K b e xs → e < t → b .number < σ .number
     pub own : Own xs t v σ
 
@@ -95,7 +95,7 @@ module _ (K : Setup) where
     pub begun-lt : a .begun < length xs
     pub number-le : a .number ≤ calls K xs (a .client)
     pub ended : (e : ℕ) → a .over ≡ some e → (a .begun < e) × (e < length xs) × Ends K σ e xs
-    pub write : (v : List ℕ) → a .wrote ≡ some v → isSome (a .reached) ≡ true → Written xs (a .begun) v σ
+    pub write : (v : List ℕ) → a .wrote ≡ some v → isSome (a .reached) ≡ true → WriteOf xs (a .begun) v σ
     pub read : (e : ℕ) → a .wrote ≡ none → a .over ≡ some e → Read xs a e σ
     pub reaches : (v : List ℕ) (e : ℕ) → a .wrote ≡ some v → a .over ≡ some e → isSome (a .reached) ≡ true
     pub reach-lt : (k : ℕ) → a .reached ≡ some k → k < length xs
@@ -135,7 +135,7 @@ module _ (K : Setup) where
   own-up x xs t v σ o =
       record { write = o .write; content-is = o .content-is; stamp-is = o .stamp-is; since-when = inr (o .since-when) }
 
-  pub written-up : (x : StepOf K) (xs : Steps K) (t : ℕ) (v : List ℕ) (σ : Stamp) → t < length xs → Written xs t v σ → Written (x ∷ xs) t v σ
+  pub written-up : (x : StepOf K) (xs : Steps K) (t : ℕ) (v : List ℕ) (σ : Stamp) → t < length xs → WriteOf xs t v σ → WriteOf (x ∷ xs) t v σ
   written-up x xs t v σ l w =
       record { floor = λ b e k m. w .floor b e (ends-back x xs b e k (omega (arith, l, m))) m; own = own-up x xs t v σ (w .own) }
 

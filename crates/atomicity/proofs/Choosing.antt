@@ -102,7 +102,7 @@ module _ (K : Setup) where
   real ys z0 z1 cs g m fair F c b dig L =
       let A = agrees (K .s .P) (K .s .config) m g c b in
       let own = fit-view (K .s) m g c b (and-left (fits (K .s .P) (K .s .config) m g c b) _ L) in
-      let many : K .s .config .shares ≤ countTo (S K) A = leb-true _ _ (and-right (fits (K .s .P) (K .s .config) m g c b) _ L) in
+      let many : K .s .config .threshold ≤ countTo (S K) A = leb-true _ _ (and-right (fits (K .s .P) (K .s .config) m g c b) _ L) in
       let h = correct-in K ys A many in
       let j = h .0 in
       let f = member (K .s) m g c b j (own .share) (own .share-is) (h .4) in
@@ -113,12 +113,12 @@ module _ (K : Setup) where
       let digests : own .share .digests ≡ runOf (S K) (λ i. K .s .P .digest (fragmentFor (K .s) (w .content) i)) = f .1 .digests
       ∙ ap (λ (z : Share). z .digests) (P .share-is) in
       let each : (i : ℕ) → 1 ≤ i → i ≤ S K → A i ≡ true → (h : Share) × (g i .share ≡ some h)
-      × (h .part ≡ fragmentFor (K .s) (w .content) i) = λ i lo hi e.
+      × (h .fragment ≡ fragmentFor (K .s) (w .content) i) = λ i lo hi e.
       let t = member (K .s) m g c b i (own .share) (own .share-is) e in (
         t .0 .share,
         t .0 .share-is,
-        no-two K ys fair (t .0 .share .part) (fragmentFor (K .s) (w .content) i)
-            (dig _ (in-map (λ (p : Part). p .bytes) (parts (K .s .P) (K .s .config) m g c b (S K)) (record { server = i; bytes = t .0 .share .part })
+        no-two K ys fair (t .0 .share .fragment) (fragmentFor (K .s) (w .content) i)
+            (dig _ (in-map (λ (p : Part). p .bytes) (parts (K .s .P) (K .s .config) m g c b (S K)) (record { server = i; bytes = t .0 .share .fragment })
             (part-in (K .s) m g c b (S K) i (t .0 .share) lo hi e (t .0 .share-is))))
             (mark-digested (K .s) ys w (fragmentFor (K .s) (w .content) i) (P .origin .made)
             (inr (in-map (λ (i : ℕ). fragmentFor (K .s) (w .content) i) (upTo (S K)) i (upTo-in (S K) i lo hi))))
@@ -130,7 +130,7 @@ module _ (K : Setup) where
         digest-is = sym (ap (λ (z : Share). z .nonceDigest) (P .share-is)) ∙ f .0 .nonce-is;
         tags-is = ap (tagsIn (K .s .P) (K .s .config) c) (own .share-is) ∙ tags;
         gives = ap (restoredBy (K .s .P) (K .s .config) m g c b) (own .share-is)
-            ∙ ap₂ (λ (n : ℕ) (l : List Part). K .s .P .restored (K .s .config .points) (K .s .config .shares) n l) size
+            ∙ ap₂ (λ (n : ℕ) (l : List Part). K .s .P .restored (K .s .config .points) (K .s .config .threshold) n l) size
             (parts-are (K .s) m g c (fragmentFor (K .s) (w .content)) b (S K) each)
             ∙ K .laws .restores (w .content) (mark-bytes (K .s) ys w (P .origin .made)) (members A (S K)) (members-apart A (S K))
             (members-range A (S K)) (omega (arith, many, members-length A (S K)));

@@ -98,7 +98,7 @@ module _ (s : Config) (legal : Legal s) (correct : ℕ → Bool) (few : countTo 
   -- a quorum of correct replies and a store quorum share k correct servers, however many lie
   pub share-k : (a b : ℕ → Bool) → quorum s ≤ countTo (s .servers) (λ x. not (correct x) || a x) →
       quorum s ≤ countTo (s .servers) (λ x. correct x && b x) →
-      s .shares ≤ countTo (s .servers) (λ x. correct x && (a x && b x))
+      s .threshold ≤ countTo (s .servers) (λ x. correct x && (a x && b x))
   share-k a b ha hb = omega (
     arith,
     lies-count correct a (s .servers),
@@ -109,5 +109,5 @@ module _ (s : Config) (legal : Legal s) (correct : ℕ → Bool) (few : countTo 
   )
 
   -- k matching replies have a correct one
-  pub correct-one : (a : ℕ → Bool) → s .shares ≤ countTo (s .servers) a → (x : ℕ) × (1 ≤ x) × (x ≤ s .servers) × ((correct x && a x) ≡ true)
+  pub correct-one : (a : ℕ → Bool) → s .threshold ≤ countTo (s .servers) a → (x : ℕ) × (1 ≤ x) × (x ≤ s .servers) × ((correct x && a x) ≡ true)
   correct-one a h = found (λ x. correct x && a x) (s .servers) (omega (arith, part-count correct a (s .servers), legal .restores))

@@ -10,7 +10,7 @@ use lib.Dec.{eqb}
 use Rattle.protocol.specs.declared.Stamp.{Stamp}
 use Rattle.protocol.specs.Values.{Candidate, Share, Write, below, blankCandidate, isSome}
 use Rattle.protocol.specs.Packet.{store, filter}
-use Rattle.protocol.specs.Memory.{held}
+use Rattle.protocol.specs.Memory.{lookup}
 use Rattle.protocol.specs.Server.{Server, hasDigest, valid, byHistory, act}
 use Rattle.protocol.specs.Client.{codeIn, heldIn}
 use Rattle.atomicity.specs.Lists.{In}
@@ -26,24 +26,24 @@ use Rattle.atomicity.proofs.Histories.{history}
 
 module _ (K : Setup) where
   unfoldable pub Covers : Steps K → ℕ → Stamp → Bool
-  Covers xs j a = isSome (held a (hist K xs j))
+  Covers xs j a = isSome (lookup a (hist K xs j))
 
   -- what is covered is held
-  pub covers-held : (xs : Steps K) (j : ℕ) (a : Stamp) → Covers xs j a ≡ true → (f : Share) × (held a (hist K xs j) ≡ some f)
+  pub covers-held : (xs : Steps K) (j : ℕ) (a : Stamp) → Covers xs j a ≡ true → (f : Share) × (lookup a (hist K xs j) ≡ some f)
   unfolding Covers
-  covers-held xs j a h = is-some (held a (hist K xs j)) h
+  covers-held xs j a h = is-some (lookup a (hist K xs j)) h
 
   -- it stays covered
   pub covers-up : (x : StepOf K) (xs : Steps K) (j : ℕ) (a : Stamp) → Covers xs j a ≡ true → Covers (x ∷ xs) j a ≡ true
   unfolding Covers
-  covers-up x xs j a h = let f = is-some (held a (hist K xs j)) h in let e = held-some a (f .0) (hist K xs j) (f .1) in
+  covers-up x xs j a h = let f = is-some (lookup a (hist K xs j)) h in let e = held-some a (f .0) (hist K xs j) (f .1) in
       in-held a (hist K (x ∷ xs) j) (e .0) (history-keeps (K .s) x xs j (e .0) (e .1)) (e .2)
 
   -- what is acknowledged is covered
   pub covers-stored : (j : ℕ) (w : Write) (y : StepOf K) (ys : Steps K) → srv K (y ∷ ys) j ≡ acts (K .s) j (srv K ys j) (store w) .server →
       eqb (codeIn (acts (K .s) j (srv K ys j) (store w) .reply)) 11 ≡ false → Covers (y ∷ ys) j (w .stamp) ≡ true
   unfolding Covers
-  covers-stored j w y ys e k = subst (λ (z : Server). isSome (held (w .stamp) (z .history)) ≡ true) (sym e) (store-held (K .s) j (srv K ys j) w k)
+  covers-stored j w y ys e k = subst (λ (z : Server). isSome (lookup (w .stamp) (z .history)) ≡ true) (sym e) (store-held (K .s) j (srv K ys j) w k)
 
   covers-valid : (ys : Steps K) → Fair K ys → (j : ℕ) (d : Candidate) (m : Stamped) → In m (marks (K .s) ys) → m .stamp ≡ d .stamp →
       m .nonce ≡ d .nonce → Covers ys j (d .stamp) ≡ true → isValid (K .s) j (srv K ys j) d ≡ true

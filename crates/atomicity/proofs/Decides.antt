@@ -14,7 +14,7 @@ use lib.ListN.{length}
 use borrow.Author.Tests.{le-ltb, leb-true, leb-false, le-leb, eqb-false, eq-eqb, ne-eqb}
 use Rattle.protocol.specs.declared.Stamp.{Stamp}
 use Rattle.protocol.specs.Values.{Candidate, Share, Held, below, blankStamp, blankCandidate, isBlank, sameStamp}
-use Rattle.protocol.specs.Memory.{held}
+use Rattle.protocol.specs.Memory.{lookup}
 use Rattle.protocol.specs.Rules.{ByServer, any, countTo, lower, live, shareFits, fits, sameShare, agrees, leads, leader, proven, highest, choice}
 use Rattle.protocol.specs.Server.{act}
 use Rattle.protocol.proofs.Equal.{same-refl, stamp-refl}
@@ -163,7 +163,7 @@ module _ (K : Setup) (xs : Steps K) (fair : Fair K xs) (cs : List Candidate) (g 
         subst (λ (a : Stamp). below a (g j .stamp) ≡ false) is-top (top .4 j (r .low) (r .high) (r .tell)) in
         let sq : g j .stamp ≡ d .stamp = same-stamp j N (T .stamp-is) (high-then j r) low G (best-real K xs fair cs g m W j N) in
         let hs = covers-held K (N .ys) j (d .stamp) (covered-then j r) in
-        let fq : g j .share ≡ some (hs .0) = T .share-is ∙ ap (λ (a : Stamp). held a (hist K (N .ys) j)) (sym (T .stamp-is) ∙ sq) ∙ hs .1 in
+        let fq : g j .share ≡ some (hs .0) = T .share-is ∙ ap (λ (a : Stamp). lookup a (hist K (N .ys) j)) (sym (T .stamp-is) ∙ sq) ∙ hs .1 in
         let P = piece-of K (N .ys) (T .old) j d G (hs .0) (hs .1) in let O = P .origin in
         let pw : O .write ≡ gen .origin .write = by-stamp (K .s) xs (O .write) (gen .origin .write)
         (suf-up (λ (zs : Steps K). In (O .write) (marks (K .s) zs)) (marks-up (K .s) (O .write)) (N .ys) xs (before-now K xs fair cs g m W j N)
@@ -193,7 +193,7 @@ module _ (K : Setup) (xs : Steps K) (fair : Fair K xs) (cs : List Candidate) (g 
     abbrev voter : ℕ → Bool
     voter j = right K xs j && (holds j && m j)
 
-    many-voters : K .s .config .shares ≤ countTo (S K) voter
+    many-voters : K .s .config .threshold ≤ countTo (S K) voter
     many-voters = meets-k K xs holds m full0 enough
 
     reply-of : (j : ℕ) → 1 ≤ j → j ≤ S K → voter j ≡ true → Reply j
@@ -205,7 +205,7 @@ module _ (K : Setup) (xs : Steps K) (fair : Fair K xs) (cs : List Candidate) (g 
     is-proven =
         let w = found voter (S K) (omega (arith, many-voters, K .legal .restores)) in
         let r = reply-of (w .0) (w .1) (w .2) (w .3) in
-        let big : K .s .config .shares ≤ countTo (S K) (agrees (K .s .P) (K .s .config) m g d (w .0)) =
+        let big : K .s .config .threshold ≤ countTo (S K) (agrees (K .s .P) (K .s .config) m g d (w .0)) =
         omega (
           arith,
           many-voters,

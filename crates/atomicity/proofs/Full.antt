@@ -16,12 +16,12 @@ use Rattle.protocol.specs.Values.{Candidate, Share, Write, below, isSome, blank
 use Rattle.protocol.specs.Packet.{Body}
 use Rattle.protocol.specs.Packet.{clock, clockReply, store, storeReply, complete, completeReply, collect, collectReply, filter, filterReply, repair}
 use Rattle.protocol.specs.Packet.{repairReply}
-use Rattle.protocol.specs.Memory.{held}
+use Rattle.protocol.specs.Memory.{lookup}
 use Rattle.protocol.specs.Rules.{ByServer}
-use Rattle.protocol.specs.Server.{Server, Acted, raise, kept, act}
+use Rattle.protocol.specs.Server.{Server, Acted, raise, onStore, act}
 use Rattle.protocol.specs.Client.{storing, codeIn}
 use Rattle.protocol.proofs.ValueRuns.{nowValues}
-use Rattle.protocol.proofs.Answers.{at-cond}
+use Rattle.format.proofs.Answers.{at-cond}
 use Rattle.atomicity.specs.Lists.{Ever, In, AllPairs}
 use Rattle.atomicity.specs.Steps.{System, Stamped}
 use Rattle.atomicity.proofs.Util.{cond-both, clash, rise, ever-map, all-of, in-map, map-in}
@@ -47,9 +47,9 @@ unfolding raise Apart
 raise-apart c v h = cond-both Apart (below (v .latest .stamp) (c .stamp)) _ v h h
 
 act-apart : (s : System) (j : ℕ) (v : Server) (x : Body) → Apart v → Apart (acts s j v x .server)
-unfolding act kept Apart
+unfolding act onStore Apart
 act-apart s j v clock h = h
-act-apart s j v (store w) h = at-cond (isSome (held (w .stamp) (v .history))) _ _ (λ (a : Acted). Apart (a .server)) (λ e. h)
+act-apart s j v (store w) h = at-cond (isSome (lookup (w .stamp) (v .history))) _ _ (λ (a : Acted). Apart (a .server)) (λ e. h)
     (λ e. cond-both (λ (a : Acted). Apart (a .server)) (leb capacity (length (v .history))) _ _ h
     (pairs-snoc (λ (a b : Write). a .stamp ≡ b .stamp → ⊥) (v .history) w h
     (all-of (λ (a : Write). a .stamp ≡ w .stamp → ⊥) (v .history) (λ a i q. clash (in-held (w .stamp) (v .history) a i q) e))))
@@ -65,15 +65,15 @@ act-apart s j v (filterReply x) h = h
 act-apart s j v repairReply h = h
 
 store-full : (s : System) (j : ℕ) (v : Server) (w : Write) → codeIn (acts s j v (store w) .reply) ≡ 11 →
-    (isSome (held (w .stamp) (v .history)) ≡ false) × (capacity ≤ length (v .history))
-unfolding act kept
-store-full s j v w = go (isSome (held (w .stamp) (v .history))) refl (leb capacity (length (v .history))) refl
+    (isSome (lookup (w .stamp) (v .history)) ≡ false) × (capacity ≤ length (v .history))
+unfolding act onStore
+store-full s j v w = go (isSome (lookup (w .stamp) (v .history))) refl (leb capacity (length (v .history))) refl
   where
-    go : (u : Bool) → isSome (held (w .stamp) (v .history)) ≡ u → (t : Bool) → leb capacity (length (v .history)) ≡ t →
+    go : (u : Bool) → isSome (lookup (w .stamp) (v .history)) ≡ u → (t : Bool) → leb capacity (length (v .history)) ≡ t →
         codeIn ((cond {A = Acted} u (record { server = v; reply = storeReply 10 })
         (cond t (record { server = v; reply = storeReply 11 })
         (record { server = record { latest = v .latest; history = v .history ++ (w ∷ []) }; reply = storeReply 0 }))) .reply) ≡ 11 →
-        (isSome (held (w .stamp) (v .history)) ≡ false) × (capacity ≤ length (v .history))
+        (isSome (lookup (w .stamp) (v .history)) ≡ false) × (capacity ≤ length (v .history))
     go true p t q k = absurd (omega (arith, k))
     go false p true q k = (p, leb-true capacity (length (v .history)) q)
     go false p false q k = absurd (omega (arith, k))
@@ -94,7 +94,7 @@ module _ (K : Setup) where
     ys : Steps K
     kept-marks : (m : Stamped) → In m (marks (K .s) ys) → In m (marks (K .s) zs)
     fair-then : Fair K ys
-    not-held : isSome (held a (hist K ys j)) ≡ false
+    not-held : isSome (lookup a (hist K ys j)) ≡ false
     is-full : capacity ≤ length (hist K ys j)
 
   pub eleven : (c j : ℕ) (xs : Steps K) → (d : Candidate) (g : ByServer Share) → hand K xs c ≡ storing d g → (x : Body) → Ever (Heard K c j xs x) xs →

@@ -13,7 +13,7 @@ use Rattle.cluster.specs.Config.{upTo}
 use Rattle.protocol.specs.Values.{Candidate, sameCandidate, isBlank}
 use Rattle.protocol.specs.Rules.{ByServer, any, countTo, gather}
 use Rattle.protocol.proofs.Equal.{candidate-same}
-use Rattle.protocol.proofs.Answers.{at-cond}
+use Rattle.format.proofs.Answers.{at-cond}
 use Rattle.atomicity.specs.Lists.{All, In, AllPairs}
 use Rattle.atomicity.proofs.Util.{bool-case, cond-both, clash, or-cases, any-in, left-in, right-in, split-in, all-map}
 

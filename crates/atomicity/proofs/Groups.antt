@@ -20,7 +20,7 @@ use Rattle.protocol.specs.Rules.{ByServer, shareFits, fits, sameShare, agrees, 
 use Rattle.protocol.specs.Server.{byTag}
 use Rattle.protocol.specs.Client.{tagsOf}
 use Rattle.protocol.proofs.Equal.{same-true, stamp-same}
-use Rattle.protocol.proofs.Answers.{at-cond}
+use Rattle.format.proofs.Answers.{at-cond}
 use Rattle.atomicity.specs.Lists.{Always, All, In}
 use Rattle.atomicity.specs.Steps.{System, Stamped, digested, allDigested}
 use Rattle.atomicity.specs.Premises.{NoCollision}
@@ -41,7 +41,7 @@ module _ (s : System) (m : ByServer Bool) (g : ByServer Held) (c : Candidate) wh
     pub share-is : g i .share ≡ some share
     pub stamp-is : g i .stamp ≡ c .stamp
     pub nonce-is : share .nonceDigest ≡ s .P .digest (c .nonce)
-    pub digest-is : s .P .digest (share .part) ≡ nth digestSize (share .digests) i
+    pub digest-is : s .P .digest (share .fragment) ≡ nth digestSize (share .digests) i
 
   pub fit-view : (i : ℕ) → fits (s .P) (s .config) m g c i ≡ true → Fit i
   unfolding fits
@@ -122,7 +122,7 @@ module _ (s : System) (m : ByServer Bool) (g : ByServer Held) (c : Candidate) wh
 
   -- the fragments of b's group, if each is f of its server
   pub parts-are : (f : ℕ → List ℕ) (b n : ℕ) →
-      ((i : ℕ) → 1 ≤ i → i ≤ n → agrees (s .P) (s .config) m g c b i ≡ true → (h : Share) × (g i .share ≡ some h) × (h .part ≡ f i)) →
+      ((i : ℕ) → 1 ≤ i → i ≤ n → agrees (s .P) (s .config) m g c b i ≡ true → (h : Share) × (g i .share ≡ some h) × (h .fragment ≡ f i)) →
       parts (s .P) (s .config) m g c b n ≡ map {B = Part} (λ i. record { server = i; bytes = f i }) (members (agrees (s .P) (s .config) m g c b) n)
   unfolding parts members
   parts-are f b zero h = refl
@@ -141,20 +141,20 @@ module _ (s : System) (m : ByServer Bool) (g : ByServer Held) (c : Candidate) wh
 
   -- a member's fragment is among them
   pub part-in : (b n i : ℕ) (f : Share) → 1 ≤ i → i ≤ n → agrees (s .P) (s .config) m g c b i ≡ true → g i .share ≡ some f →
-      In {A = Part} (record { server = i; bytes = f .part }) (parts (s .P) (s .config) m g c b n)
+      In {A = Part} (record { server = i; bytes = f .fragment }) (parts (s .P) (s .config) m g c b n)
   unfolding parts In
   part-in b zero i f lo hi a e = absurd (omega arith)
   part-in b (suc n) i f lo hi a e = bool-case (leb i n)
       (λ t. left-in _ (parts (s .P) (s .config) m g c b n) _ (part-in b n i f lo (leb-true i n t) a e))
       (λ t. let z : i ≡ suc n = omega (arith, leb-false i n t) in
       right-in _ (parts (s .P) (s .config) m g c b n) _
-      (subst (λ (k : ℕ). In {A = Part} (record { server = i; bytes = f .part }) (cond (agrees (s .P) (s .config) m g c b k)
+      (subst (λ (k : ℕ). In {A = Part} (record { server = i; bytes = f .fragment }) (cond (agrees (s .P) (s .config) m g c b k)
       (partOf (s .P) (s .config) k (g k .share)) [])) z (here i a e)))
     where
-      here : (k : ℕ) → agrees (s .P) (s .config) m g c b k ≡ true → g k .share ≡ some f → In {A = Part} (record { server = k; bytes = f .part })
+      here : (k : ℕ) → agrees (s .P) (s .config) m g c b k ≡ true → g k .share ≡ some f → In {A = Part} (record { server = k; bytes = f .fragment })
           (cond (agrees (s .P) (s .config) m g c b k) (partOf (s .P) (s .config) k (g k .share)) [])
-      here k a e = subst (λ (t : Bool). In {A = Part} (record { server = k; bytes = f .part }) (cond t (partOf (s .P) (s .config) k (g k .share)) []))
-          (sym a) (subst (λ (o : Option Share). In {A = Part} (record { server = k; bytes = f .part }) (partOf (s .P) (s .config) k o)) (sym e)
+      here k a e = subst (λ (t : Bool). In {A = Part} (record { server = k; bytes = f .fragment }) (cond t (partOf (s .P) (s .config) k (g k .share)) []))
+          (sym a) (subst (λ (o : Option Share). In {A = Part} (record { server = k; bytes = f .fragment }) (partOf (s .P) (s .config) k o)) (sym e)
           (inl refl))
 
 -- ---- tags, and digests

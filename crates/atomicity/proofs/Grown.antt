@@ -20,7 +20,7 @@ use Rattle.protocol.specs.Client.{highAt, badFaults, badClient, ofWrite}
 use Rattle.protocol.specs.Client.{update, judge, found, onto, prepared, codeIn, takeRefusal, takeStep, turnOn}
 use Rattle.protocol.specs.Runs.{Lent, Step, take-reply}
 use Rattle.protocol.proofs.ValueRuns.{doValues, setClient}
-use Rattle.protocol.proofs.Answers.{at-cond}
+use Rattle.format.proofs.Answers.{at-cond}
 use Rattle.atomicity.specs.Steps.{StepIn, System}
 use Rattle.atomicity.proofs.Util.{cond-both, bool-case, clash, upd-here, upd-else}
 use Rattle.atomicity.proofs.Model.{Run, perform, now, clientAt, resultAt, updated, turn}

@@ -15,8 +15,8 @@ use Rattle.protocol.specs.Values.{below, isSome}
 use Rattle.protocol.specs.Packet.{Body, Packet, kindOf}
 use Rattle.protocol.specs.Packet.{clock, clockReply, store, storeReply, complete, completeReply, collect, collectReply, filter, filterReply, repair}
 use Rattle.protocol.specs.Packet.{repairReply}
-use Rattle.protocol.specs.Memory.{held}
-use Rattle.protocol.specs.Server.{Server, Acted, barred, replyTo, act, kept}
+use Rattle.protocol.specs.Memory.{lookup}
+use Rattle.protocol.specs.Server.{Server, Acted, barred, replyTo, act, onStore}
 use Rattle.protocol.specs.Client.{Hand, idle, clocking, storing, completing, collecting, filtering, repairing, awaits, isIdle, request, made}
 use Rattle.protocol.specs.Client.{accepted}
 use Rattle.atomicity.specs.Lists.{Ever, In}
@@ -77,9 +77,9 @@ module _ (K : Setup) where
 -- ---- kinds
 
 pub act-kind : (s : System) (j : ℕ) (v : Server) (c : ℕ) (x : Body) → barred c x ≡ false → kindOf (acts s j v x .reply) ≡ suc (kindOf x)
-unfolding act kept barred
+unfolding act onStore barred
 act-kind s j v c clock e = refl
-act-kind s j v c (store w) e = cond-both (λ (a : Acted). kindOf (a .reply) ≡ 4) (isSome (held (w .stamp) (v .history))) _ _ refl
+act-kind s j v c (store w) e = cond-both (λ (a : Acted). kindOf (a .reply) ≡ 4) (isSome (lookup (w .stamp) (v .history))) _ _ refl
     (cond-both (λ (a : Acted). kindOf (a .reply) ≡ 4) (leb capacity (length (v .history))) _ _ refl refl)
 act-kind s j v c (complete d) e = refl
 act-kind s j v c collect e = refl

@@ -19,7 +19,7 @@ use Rattle.protocol.specs.Client.{Client, Hand, Result, idle, clocking, storing
 use Rattle.protocol.specs.Client.{onto, made, heldIn, accepted}
 use Rattle.protocol.specs.Runs.{Lent, Step, write, read, make, take-reply, give-up, serve}
 use Rattle.protocol.proofs.ValueRuns.{nowValues}
-use Rattle.protocol.proofs.Answers.{at-cond}
+use Rattle.format.proofs.Answers.{at-cond}
 use Rattle.atomicity.specs.Lists.{Ever, Always, In, flat}
 use Rattle.atomicity.specs.Steps.{Stamped, packetIn, makes, stampedAt, ofPacket, proving, compared, digestsWith, digested, digestedBy}
 use Rattle.atomicity.specs.Steps.{allDigested}

@@ -12,7 +12,7 @@ use lib.ListN.{length}
 use Rattle.cluster.specs.Ranges.{within, topClient}
 use Rattle.hmac.specs.Hmac.{tagSize}
 use Rattle.protocol.specs.declared.Stamp.{Stamp}
-use Rattle.protocol.specs.Format.{Bytes}
+use Rattle.format.specs.Format.{Bytes}
 use Rattle.protocol.specs.Values.{Candidate, Share, Write, nth, runOf, digestSize, noShare}
 use Rattle.protocol.specs.Packet.{Body, Packet, decode}
 use Rattle.protocol.specs.Primitives.{stampMessage, candidateMessage}
@@ -112,7 +112,7 @@ module _ (s : System) where
   preparedFor c r n k = prepared (s .P) (s .config) c (s .writers) (s .keys) r n k
 
   abbrev pub fragmentFor : List ℕ → ℕ → List ℕ
-  fragmentFor r i = s .P .fragment (s .config .points) (s .config .shares) r i
+  fragmentFor r i = s .P .fragment (s .config .points) (s .config .threshold) r i
 
   -- ---- what a write that has its stamp sends
 
@@ -126,7 +126,7 @@ module _ (s : System) where
   shareFor m b =
       record {
         size = length (m .content);
-        part = fragmentFor (m .content) b;
+        fragment = fragmentFor (m .content) b;
         digests = runOf (s .config .servers) (λ i. s .P .digest (fragmentFor (m .content) i));
         nonceDigest = s .P .digest (m .nonce);
         tags = tagsFor m;
@@ -163,5 +163,5 @@ module _ (s : System) where
     pub apart : (a : Stamp) (m : List ℕ) (c d : ℕ) → candidateMessage a (s .P .digest m) ≡ stampMessage c d → ⊥
     -- k fragments of different servers give a content back
     pub restores : (r : List ℕ) → Bytes r → (is : List ℕ) → AllPairs (λ a b. eqb a b ≡ false) is → All (λ i. (1 ≤ i) × (i ≤ s .config .servers)) is →
-        s .config .shares ≤ length is
-        → s .P .restored (s .config .points) (s .config .shares) (length r) (map (λ i. record { server = i; bytes = fragmentFor r i }) is) ≡ r
+        s .config .threshold ≤ length is
+        → s .P .restored (s .config .points) (s .config .threshold) (length r) (map (λ i. record { server = i; bytes = fragmentFor r i }) is) ≡ r

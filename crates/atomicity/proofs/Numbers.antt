@@ -19,7 +19,7 @@ use Rattle.protocol.specs.Client.{Client, Hand, Turn, Result, idle, clocking, s
 use Rattle.protocol.specs.Client.{update, judge, found, onto, begun, prepared, candidateMade, higher, checks, stampIn, codeIn}
 use Rattle.protocol.specs.Runs.{Step}
 use Rattle.protocol.proofs.ValueRuns.{nowValues}
-use Rattle.protocol.proofs.Answers.{at-cond}
+use Rattle.format.proofs.Answers.{at-cond}
 use Rattle.atomicity.specs.Lists.{Ever, Always, In}
 use Rattle.atomicity.specs.Steps.{Stamped, ofPacket, stampedFrom, stampedBy, stampedAt, tagsWith, tagsMade, clientChecks, checkedBy}
 use Rattle.atomicity.specs.Steps.{tagsChecked}

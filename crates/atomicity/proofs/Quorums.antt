@@ -72,12 +72,12 @@ module _ (K : Setup) where
 
   -- of a quorum of correct servers, k are among the many
   pub meets-k : (xs : Steps K) (P m : ℕ → Bool) → Many xs P → Q ≤ countTo S (λ j. right K xs j && m j) →
-      K .s .config .shares ≤ countTo S (λ j. right K xs j && (P j && m j))
+      K .s .config .threshold ≤ countTo S (λ j. right K xs j && (P j && m j))
   unfolding Many
   meets-k xs P m p l = share-k (K .s .config) (K .legal) (right K xs) (few-liars K xs) P m p l
 
   -- k servers have a correct one
-  pub correct-in : (xs : Steps K) (m : ℕ → Bool) → K .s .config .shares ≤ countTo S m →
+  pub correct-in : (xs : Steps K) (m : ℕ → Bool) → K .s .config .threshold ≤ countTo S m →
       (j : ℕ) × (1 ≤ j) × (j ≤ S) × (right K xs j ≡ true) × (m j ≡ true)
   correct-in xs m l = let r = correct-one (K .s .config) (K .legal) (right K xs) (few-liars K xs) m l in
       (r .0, r .1, r .2, and-left (right K xs (r .0)) _ (r .3), and-right (right K xs (r .0)) _ (r .3))

@@ -14,7 +14,7 @@ use Rattle.protocol.specs.Values.{Candidate, Held, below, blankStamp, sameList,
 use Rattle.protocol.specs.Rules.{ByServer, leader, tagsIn}
 use Rattle.protocol.specs.Client.{Client, Hand, gave, gaveBlank, idle, filtering, repairing, awaits}
 use Rattle.protocol.specs.Client.{judge, found, onto}
-use Rattle.protocol.proofs.Answers.{at-cond}
+use Rattle.format.proofs.Answers.{at-cond}
 use Rattle.atomicity.specs.Lists.{Ever}
 use Rattle.atomicity.specs.Claim.{Logged, close}
 use Rattle.atomicity.proofs.Util.{clash, no-some}

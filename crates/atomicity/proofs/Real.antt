@@ -15,7 +15,7 @@ use Rattle.cluster.specs.Ranges.{topFaults, topClient}
 use Rattle.cluster.proofs.Legal.{legal-shelf}
 use Rattle.hmac.specs.Hmac.{tagSize}
 use Rattle.gf256.proofs.Apart.{Distinct, Apart}
-use Rattle.protocol.specs.Format.{Bytes, byte, number4, seq, via, keep}
+use Rattle.format.specs.Format.{Bytes, byte, number4, seq, via, keep}
 use Rattle.protocol.specs.Values.{digestSize}
 use Rattle.protocol.specs.Packet.{Packet, PacketOk, packetF, headF, decode}
 use Rattle.protocol.specs.Primitives.{Primitives, Lengths, real}
@@ -61,8 +61,8 @@ head-ranges b p e = let o = decode-ok b p e .0 in
 -- fragments of k or more different servers give a content back
 abbrev pub Restores : Primitives → Config → Type 0
 Restores P c =
-    (r : List ℕ) → Bytes r → (is : List ℕ) → AllPairs (λ a b. eqb a b ≡ false) is → All (λ i. (1 ≤ i) × (i ≤ c .servers)) is → c .shares ≤ length is
-    → P .restored (c .points) (c .shares) (length r) (map (λ i. record { server = i; bytes = P .fragment (c .points) (c .shares) r i }) is) ≡ r
+    (r : List ℕ) → Bytes r → (is : List ℕ) → AllPairs (λ a b. eqb a b ≡ false) is → All (λ i. (1 ≤ i) × (i ≤ c .servers)) is → c .threshold ≤ length is
+    → P .restored (c .points) (c .threshold) (length r) (map (λ i. record { server = i; bytes = P .fragment (c .points) (c .threshold) r i }) is) ≡ r
 
 pub real-restores : (t : ℕ) → 1 ≤ t → t ≤ topFaults → Restores real (shelf t)
 real-restores t lo hi r b is d a l =

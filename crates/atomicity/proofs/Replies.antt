@@ -11,7 +11,7 @@ use Rattle.protocol.specs.Packet.{Body}
 use Rattle.protocol.specs.Rules.{ByServer}
 use Rattle.protocol.specs.Client.{Client, Hand, idle, clocking, storing, completing, collecting, filtering, repairing, awaits, isIdle}
 use Rattle.protocol.specs.Client.{update, onto, higher, stampIn, codeIn}
-use Rattle.protocol.proofs.Answers.{at-cond}
+use Rattle.format.proofs.Answers.{at-cond}
 use Rattle.atomicity.specs.Claim.{Logged}
 use Rattle.atomicity.proofs.Util.{clash}
 use Rattle.atomicity.proofs.Model.{updated}

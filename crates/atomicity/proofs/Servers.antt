@@ -16,11 +16,11 @@ use Rattle.protocol.specs.Values.{Candidate, Share, Write, below, sameStamp, bl
 use Rattle.protocol.specs.Packet.{Body}
 use Rattle.protocol.specs.Packet.{clock, clockReply, store, storeReply, complete, completeReply, collect, collectReply, filter, filterReply, repair}
 use Rattle.protocol.specs.Packet.{repairReply}
-use Rattle.protocol.specs.Memory.{held}
-use Rattle.protocol.specs.Server.{Server, Acted, hasDigest, raise, kept, act}
+use Rattle.protocol.specs.Memory.{lookup}
+use Rattle.protocol.specs.Server.{Server, Acted, hasDigest, raise, onStore, act}
 use Rattle.protocol.specs.Client.{codeIn}
 use Rattle.protocol.proofs.Equal.{same-true, stamp-same, stamp-refl}
-use Rattle.protocol.proofs.Answers.{at-cond}
+use Rattle.format.proofs.Answers.{at-cond}
 use Rattle.atomicity.specs.Lists.{In}
 use Rattle.atomicity.specs.Steps.{StepIn, System, judged}
 use Rattle.atomicity.proofs.Util.{cond-both, clash, left-in, right-in, split-in}
@@ -31,34 +31,34 @@ use Rattle.atomicity.proofs.Best.{best-case, repair-judged}
 
 -- ---- lookups in a history
 
-pub held-some : (a : Stamp) (f : Share) (es : List Write) → held a es ≡ some f → (e : Write) × In e es × (e .stamp ≡ a) × (e .share ≡ f)
-unfolding held In
+pub held-some : (a : Stamp) (f : Share) (es : List Write) → lookup a es ≡ some f → (e : Write) × In e es × (e .stamp ≡ a) × (e .share ≡ f)
+unfolding lookup In
 held-some a f [] h = absurd (let z : _≡_ {A = ℕ} 0 1 = cc in omega arith)
 held-some a f (e ∷ es) h = go (sameStamp (e .stamp) a) refl h (λ k. held-some a f es k)
   where
-    go : (b : Bool) → sameStamp (e .stamp) a ≡ b → cond b (some (e .share)) (held a es) ≡ some f →
-        (held a es ≡ some f → (x : Write) × In x es × (x .stamp ≡ a) × (x .share ≡ f)) →
+    go : (b : Bool) → sameStamp (e .stamp) a ≡ b → cond b (some (e .share)) (lookup a es) ≡ some f →
+        (lookup a es ≡ some f → (x : Write) × In x es × (x .stamp ≡ a) × (x .share ≡ f)) →
         (x : Write) × In x (e ∷ es) × (x .stamp ≡ a) × (x .share ≡ f)
     go true q k r = (e, inl refl, stamp-same (e .stamp) a q, let z : e .share ≡ f = cc in z)
     go false q k r = let y = r k in (y .0, inr (y .1), y .2, y .3)
 
-pub in-held : (a : Stamp) (es : List Write) (e : Write) → In e es → e .stamp ≡ a → isSome (held a es) ≡ true
-unfolding held In
+pub in-held : (a : Stamp) (es : List Write) (e : Write) → In e es → e .stamp ≡ a → isSome (lookup a es) ≡ true
+unfolding lookup In
 in-held a [] e i q = absurd i
-in-held a (x ∷ es) e (inl p) q = subst (λ (b : Bool). isSome (cond b (some (x .share)) (held a es)) ≡ true)
+in-held a (x ∷ es) e (inl p) q = subst (λ (b : Bool). isSome (cond b (some (x .share)) (lookup a es)) ≡ true)
     (sym (subst (λ (y : Stamp). sameStamp y a ≡ true) (sym (ap (λ (y : Write). y .stamp) (sym p) ∙ q)) (stamp-refl a))) refl
 in-held a (x ∷ es) e (inr i) q = go (sameStamp (x .stamp) a) (in-held a es e i q)
   where
-    go : (b : Bool) → isSome (held a es) ≡ true → isSome (cond b (some (x .share)) (held a es)) ≡ true
+    go : (b : Bool) → isSome (lookup a es) ≡ true → isSome (cond b (some (x .share)) (lookup a es)) ≡ true
     go true k = refl
     go false k = k
 
 -- a write of the history behind a nonce digest
-pub held-digest : (a : Stamp) (d : List ℕ) (es : List Write) → hasDigest d (held a es) ≡ true → (e : Write) × In e es × (e .stamp ≡ a)
+pub held-digest : (a : Stamp) (d : List ℕ) (es : List Write) → hasDigest d (lookup a es) ≡ true → (e : Write) × In e es × (e .stamp ≡ a)
     × (e .share .nonceDigest ≡ d)
-held-digest a d es h = go (held a es) refl h
+held-digest a d es h = go (lookup a es) refl h
   where
-    go : (o : Option Share) → held a es ≡ o → hasDigest d o ≡ true → (e : Write) × In e es × (e .stamp ≡ a) × (e .share .nonceDigest ≡ d)
+    go : (o : Option Share) → lookup a es ≡ o → hasDigest d o ≡ true → (e : Write) × In e es × (e .stamp ≡ a) × (e .share .nonceDigest ≡ d)
     go none q k = clash k refl
     go (some f) q k = let r = held-some a f es q in (r .0, r .1, r .2, ap (λ (z : Share). z .nonceDigest) (r .3) ∙ same-true (f .nonceDigest) d k)
 
@@ -129,9 +129,9 @@ module _ (s : System) (j : ℕ) where
       go e (inr (inr z)) = absurd z
 
   pub act-grows : (v : Server) (x : Body) → Grows v x (acts s j v x .server)
-  unfolding act kept judged In
+  unfolding act onStore judged In
   act-grows v clock = unmoved v clock
-  act-grows v (store w) = cond-both (λ (a : Acted). Grows v (store w) (a .server)) (isSome (held (w .stamp) (v .history))) _ _ (unmoved v (store w))
+  act-grows v (store w) = cond-both (λ (a : Acted). Grows v (store w) (a .server)) (isSome (lookup (w .stamp) (v .history))) _ _ (unmoved v (store w))
       (cond-both (λ (a : Acted). Grows v (store w) (a .server)) (leb capacity (length (v .history))) _ _ (unmoved v (store w)) (stored v w))
   act-grows v (complete c) = raised v (complete c) c (λ up. inr (inr refl))
   act-grows v collect = unmoved v collect
@@ -154,15 +154,15 @@ module _ (s : System) (j : ℕ) where
 
 -- a reply other than 11 to a store means that the stamp is held
 pub store-held : (s : System) (j : ℕ) (v : Server) (w : Write) → eqb (codeIn (acts s j v (store w) .reply)) 11 ≡ false →
-    isSome (held (w .stamp) (acts s j v (store w) .server .history)) ≡ true
-unfolding act kept In
-store-held s j v w = go (isSome (held (w .stamp) (v .history))) refl (leb capacity (length (v .history)))
+    isSome (lookup (w .stamp) (acts s j v (store w) .server .history)) ≡ true
+unfolding act onStore In
+store-held s j v w = go (isSome (lookup (w .stamp) (v .history))) refl (leb capacity (length (v .history)))
   where
-    go : (u : Bool) → isSome (held (w .stamp) (v .history)) ≡ u → (t : Bool) →
+    go : (u : Bool) → isSome (lookup (w .stamp) (v .history)) ≡ u → (t : Bool) →
         let a = cond {A = Acted} u (record { server = v; reply = storeReply 10 })
         (cond t (record { server = v; reply = storeReply 11 })
         (record { server = record { latest = v .latest; history = v .history ++ (w ∷ []) }; reply = storeReply 0 })) in
-        eqb (codeIn (a .reply)) 11 ≡ false → isSome (held (w .stamp) (a .server .history)) ≡ true
+        eqb (codeIn (a .reply)) 11 ≡ false → isSome (lookup (w .stamp) (a .server .history)) ≡ true
     go true q t k = q
     go false q true k = clash refl k
     go false q false k = in-held (w .stamp) (v .history ++ (w ∷ [])) w (right-in w (v .history) (w ∷ []) (inl refl)) refl

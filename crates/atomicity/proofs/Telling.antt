@@ -14,11 +14,11 @@ use Rattle.protocol.specs.declared.Stamp.{Stamp}
 use Rattle.protocol.specs.Values.{Candidate, Share, Write, Held, below, blankCandidate, blankStamp}
 use Rattle.protocol.specs.Packet.{Body, Packet}
 use Rattle.protocol.specs.Packet.{clock, store, complete, collect, filter, repair}
-use Rattle.protocol.specs.Memory.{held}
+use Rattle.protocol.specs.Memory.{lookup}
 use Rattle.protocol.specs.Server.{Server, raise, valid, act}
 use Rattle.protocol.specs.Client.{Hand, idle, clocking, storing, completing, collecting, filtering, repairing, stampIn, codeIn, candidateIn, heldIn}
 use Rattle.protocol.specs.Client.{higher, checks, request}
-use Rattle.protocol.proofs.Answers.{at-cond}
+use Rattle.format.proofs.Answers.{at-cond}
 use Rattle.atomicity.specs.Lists.{Ever, In}
 use Rattle.atomicity.specs.Steps.{System, Stamped, judged}
 use Rattle.atomicity.proofs.Util.{clash, and-intro, or-right, ever-map, rise}
@@ -72,7 +72,7 @@ module _ (K : Setup) where
   -- ---- what a history holds
 
   -- a share under the stamp of a shown write
-  pub piece-of : (ys : Steps K) → Fair K ys → (j : ℕ) (d : Candidate) → Genuine K ys d → (f : Share) → held (d .stamp) (hist K ys j) ≡ some f →
+  pub piece-of : (ys : Steps K) → Fair K ys → (j : ℕ) (d : Candidate) → Genuine K ys d → (f : Share) → lookup (d .stamp) (hist K ys j) ≡ some f →
       Piece K ys j (d .stamp) f
   piece-of ys fair j d g f h =
       let e = held-some (d .stamp) f (hist K ys j) h in
@@ -85,7 +85,7 @@ module _ (K : Setup) where
       }
 
   -- nothing is held under the blank stamp
-  pub no-blank : (ys : Steps K) → Fair K ys → (j : ℕ) (f : Share) → held blankStamp (hist K ys j) ≡ some f → ⊥
+  pub no-blank : (ys : Steps K) → Fair K ys → (j : ℕ) (f : Share) → lookup blankStamp (hist K ys j) ≡ some f → ⊥
   no-blank ys fair j f h =
       let e = held-some blankStamp f (hist K ys j) h in
       let o = history K ys fair j (e .0) (e .1) in
@@ -100,9 +100,9 @@ module _ (K : Setup) where
   sifted c j xs cs x y ys t =
       let v = srv K ys j in
       let b = bestOf (K .s) j v (blankCandidate (K .s .config)) cs in
-      let rq : heldIn x ≡ record { stamp = b .stamp; share = held (b .stamp) (hist K ys j) } = ap heldIn (t .says) in
+      let rq : heldIn x ≡ record { stamp = b .stamp; share = lookup (b .stamp) (hist K ys j) } = ap heldIn (t .says) in
       let sq : heldIn x .stamp ≡ b .stamp = ap (λ (h : Held). h .stamp) rq in
-      let fq : heldIn x .share ≡ held (b .stamp) (hist K ys j) = ap (λ (h : Held). h .share) rq in
+      let fq : heldIn x .share ≡ lookup (b .stamp) (hist K ys j) = ap (λ (h : Held). h .share) rq in
       record {
         piece = λ f e. subst (λ (a : Stamp). Piece K (y ∷ ys) j a f) (sym sq)
             (go b f (sym fq ∙ e) (best-case (K .s) j v (filter cs)));
@@ -117,9 +117,9 @@ module _ (K : Setup) where
       tag-valid : (d : Candidate) → tagged (K .s) j d ≡ true → isValid (K .s) j (srv K ys j) d ≡ true
       tag-valid d e = or-right (vouched (K .s) j (srv K ys j) d) (tagged (K .s) j d) e
 
-      go : (b : Candidate) (f : Share) → held (b .stamp) (hist K ys j) ≡ some f → (b ≡ blankCandidate (K .s .config))
+      go : (b : Candidate) (f : Share) → lookup (b .stamp) (hist K ys j) ≡ some f → (b ≡ blankCandidate (K .s .config))
           ⊎ (In b (judged (K .s) j (srv K ys j) (filter cs)) × (In b cs × (isValid (K .s) j (srv K ys j) b ≡ true))) → Piece K (y ∷ ys) j (b .stamp) f
-      go b f h (inl e) = absurd (no-blank ys (t .old) j f (subst (λ (z : Candidate). held (z .stamp) (hist K ys j) ≡ some f) e h))
+      go b f h (inl e) = absurd (no-blank ys (t .old) j f (subst (λ (z : Candidate). lookup (z .stamp) (hist K ys j) ≡ some f) e h))
       go b f h (inr v) = piece-up K j (b .stamp) f y ys (piece-of ys (t .old) j b
           (genuine K y ys (t .old) j (t .ask) (t .judging) b
           (subst (λ (z : Body). In b (judged (K .s) j (srv K ys j) z)) (sym (t .asked)) (v .0)) (v .1 .1)) f h)

@@ -19,7 +19,7 @@ use Rattle.protocol.specs.Client.{collecting, filtering, repairing}
 use Rattle.protocol.specs.Client.{update, judge, found, onto, prepared, candidateMade, stampOf, higher, stampIn, codeIn, candidateIn, heldIn}
 use Rattle.protocol.proofs.Marks.{count-nobody}
 use Rattle.protocol.proofs.Equal.{same-true}
-use Rattle.protocol.proofs.Answers.{at-cond}
+use Rattle.format.proofs.Answers.{at-cond}
 use Rattle.atomicity.specs.Lists.{In}
 use Rattle.atomicity.specs.Steps.{proving}
 use Rattle.atomicity.proofs.Util.{bool-case, clash, not-f, upd-here, upd-else}

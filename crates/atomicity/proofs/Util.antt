@@ -14,7 +14,7 @@ use Rattle.cluster.proofs.Tests.{untrue}
 use Rattle.atomicity.specs.Lists.{Ever, Always, All, In, AllPairs, flat}
 use Rattle.protocol.specs.Values.{isSome}
 use Rattle.protocol.specs.Rules.{any, keep, upd}
-use Rattle.protocol.proofs.Answers.{at-cond}
+use Rattle.format.proofs.Answers.{at-cond}
 
 pub cond-both : {A : Type 0} (P : A → Type 0) (b : Bool) (x y : A) → P x → P y → P (cond b x y)
 cond-both P true x y f g = f

@@ -11,7 +11,7 @@ use lib.Dec.{eqb}
 use borrow.Author.Tests.{leb-false, eqb-true}
 use Rattle.protocol.specs.Values.{Candidate, Held, isBlank, sameList, blankCandidate}
 use Rattle.protocol.specs.Packet.{Body, Packet, filter}
-use Rattle.protocol.specs.Memory.{held}
+use Rattle.protocol.specs.Memory.{lookup}
 use Rattle.protocol.specs.Rules.{ByServer, upd, countTo, choice, leader, tagsIn}
 use Rattle.protocol.specs.Server.{act}
 use Rattle.protocol.specs.Client.{Client, Hand, Turn, Result, idle, clocking, storing, completing, collecting, filtering, repairing, isFull, accepted}
@@ -47,7 +47,7 @@ module _ (K : Setup) where
     pub judging : Judging K y ys j ask
     pub old : Fair K ys
     pub stamp-is : h .stamp ≡ best cs j ys .stamp
-    pub share-is : h .share ≡ held (best cs j ys .stamp) (hist K ys j)
+    pub share-is : h .share ≡ lookup (best cs j ys .stamp) (hist K ys j)
     -- seen from xs, in the same phase
     pub phase : Same K ys xs
 

@@ -102,7 +102,7 @@ module _ (s : System) where
       ∷ map (λ i. (s .keys i, candidateMessage (m .stamp) (s .P .digest (m .nonce)))) (upTo (s .config .servers))
 
   unfoldable pub digestsWith : Stamped → List (List ℕ)
-  digestsWith m = m .nonce ∷ map (λ i. s .P .fragment (s .config .points) (s .config .shares) (m .content) i) (upTo (s .config .servers))
+  digestsWith m = m .nonce ∷ map (λ i. s .P .fragment (s .config .points) (s .config .threshold) (m .content) i) (upTo (s .config .servers))
 
   -- the candidate on which server b's answer to a filter or a repair rests: the highest valid one, if there is one. The definition judges every
   -- candidate of a filter, the code those that are not lower: it is asked of this one alone

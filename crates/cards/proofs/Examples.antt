@@ -13,10 +13,10 @@ use Rattle.erasure.specs.Fragments.{Part}
 use Rattle.protocol.specs.declared.Label.{Label}
 use Rattle.protocol.specs.Values.{Candidate, Write, digestSize, nth, runOf, isBlank, below, sameStamp, sameCandidate, noShare}
 use Rattle.protocol.specs.Packet.{Body, Packet, kindOf, store, storeReply, collectReply, filterReply}
-use Rattle.protocol.specs.Memory.{held}
+use Rattle.protocol.specs.Memory.{lookup}
 use Rattle.protocol.specs.Primitives.{Primitives, stampMessage, candidateMessage}
 use Rattle.protocol.specs.Rules.{ByServer, upd, nobody, countTo, any, keep, first, gather, lower, live, fits, agrees, leads, leader, highest, choice, parts, restoredBy}
-use Rattle.protocol.specs.Server.{Server, blankServer, kept, raise, byHistory, byTag, valid, best, act, barred, replyTo, serverRefusal, answered, serverStep}
+use Rattle.protocol.specs.Server.{Server, blankServer, onStore, raise, byHistory, byTag, valid, best, act, barred, replyTo, serverRefusal, answered, serverStep}
 use Rattle.protocol.specs.Client.{Client, Result, more, written, gave, newClient, awaits, isIdle, stampOf, tagsOf, candidateMade, shareMade, sharesMade, prepared, made, onto, checks, higher, isFull, found, judge, update, tooHigh}
 use Rattle.protocol.specs.Client.{writeRefusal, readRefusal, makeRefusal, takeRefusal, begun, writeStep, readStep, makeStep, turnOn, highAt, takeStep}
 
@@ -143,8 +143,8 @@ record Shown : Type 0 where
 
 shown : Shown
 unfolding completed stored readAfter spoilt filtered repaired invented misled asksAll asks hears writes reads new toy mix writers keys shelf upTo quorum
-    nth runOf isBlank below sameStamp sameCandidate held stampMessage candidateMessage upd nobody countTo any keep first gather lower live fits agrees
-    leads leader highest choice parts restoredBy kept raise byHistory byTag valid best act barred replyTo serverRefusal answered serverStep awaits
+    nth runOf isBlank below sameStamp sameCandidate lookup stampMessage candidateMessage upd nobody countTo any keep first gather lower live fits agrees
+    leads leader highest choice parts restoredBy onStore raise byHistory byTag valid best act barred replyTo serverRefusal answered serverStep awaits
     isIdle stampOf tagsOf candidateMade shareMade sharesMade prepared made onto checks higher isFull found judge update tooHigh writeRefusal
     readRefusal makeRefusal takeRefusal begun writeStep readStep makeStep turnOn highAt takeStep
 shown = record {
@@ -171,5 +171,5 @@ filled (suc n) = act toy (shelf 1) (keys 1) 1 (filled n) (store (writeOf (suc n)
 full-history : (length (filled capacity .history) ≡ capacity)
     × (act toy (shelf 1) (keys 1) 1 (filled capacity) (store (writeOf (suc capacity))) .reply ≡ storeReply 11)
     × (act toy (shelf 1) (keys 1) 1 (filled capacity) (store (writeOf 5)) .reply ≡ storeReply 10)
-unfolding filled writeOf act kept held sameStamp
+unfolding filled writeOf act onStore lookup sameStamp
 full-history = (refl, refl, refl)

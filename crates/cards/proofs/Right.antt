@@ -6,7 +6,7 @@ use Rattle.gf256.specs.Gf.{times, timesBits, xtime, power, inverse}
 use Rattle.gf256.specs.Poly.{through, vanish}
 use Rattle.erasure.specs.Fragments.{table, fragmentSize, column, fragment}
 use Rattle.protocol.specs.Values.{below}
-use Rattle.protocol.specs.Format.{All}
+use Rattle.format.specs.Format.{All}
 use Rattle.cards.specs.Cards.{cards, Right}
 
 pub all-right : All Right cards

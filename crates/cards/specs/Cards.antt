@@ -22,7 +22,7 @@ pub record Card : Type 0 where
 
 -- the fragments of a content for servers 1 to S
 abbrev pub fragments : Config → List ℕ → List (List ℕ)
-fragments s content = map (fragment (s .points) (s .shares) content) (upTo (s .servers))
+fragments s content = map (fragment (s .points) (s .threshold) content) (upTo (s .servers))
 
 -- the stamp of a number by a writer; the tag has no part in the order
 abbrev pub by : ℕ → ℕ → Stamp
@@ -37,8 +37,8 @@ cards =
       given = byServer (fragments (shelf 1) (0x00 ∷ 0x00 ∷ 0x01 ∷ []));
       card = byServer ((0x00 ∷ 0x00 ∷ []) ∷ (0x01 ∷ 0x00 ∷ []) ∷ (0xf7 ∷ 0x00 ∷ []) ∷ (0x03 ∷ 0x00 ∷ []) ∷ []);
     }
-    ∷ record { given = number (fragmentSize (shelf 4 .shares) 1024); card = number 205 }
-    ∷ record { given = number (fragmentSize (shelf 4 .shares) 1); card = number 1 }
+    ∷ record { given = number (fragmentSize (shelf 4 .threshold) 1024); card = number 205 }
+    ∷ record { given = number (fragmentSize (shelf 4 .threshold) 1); card = number 1 }
     ∷ record { given = test (below (by 5 2) (by 5 3) && below (by 5 3) (by 6 1)); card = test true }
     ∷ record { given = number (quorum (shelf 1)); card = number 3 }
     ∷ record { given = number (quorum (shelf 4)); card = number 9 }

@@ -12,8 +12,9 @@ use Rattle.cluster.specs.Ranges.{within, mostServers, topNumber, topLength, lea
 use Rattle.cluster.proofs.Tests.{inside, passes, refused-is}
 use Rattle.protocol.specs.declared.Call.{Call}
 use Rattle.protocol.specs.Client.{badFaults, badClient, writeRefusal, readRefusal}
-use Rattle.protocol.specs.View.{keptSize, nonceAt, candidatesAt, candidateSlot}
-use Rattle.protocol.specs.ClientBytes.{inHand, put, fresh, beginWrite, beginRead}
+use Rattle.protocol.specs.View.{keptSize, noncePlace, candidatesPlace, candidateSlot}
+use Rattle.protocol.specs.ClientBytes.{inHand, fresh, beginWrite, beginRead}
+use Rattle.format.specs.Reading.{put}
 use Rattle.client.specs.Rounds.{writeByRounds, readByRounds}
 use Rattle.client.proofs.StepsSame.{same-write, same-read}
 use Rattle.client.specs.Core.{coreWrite, coreRead, notBegun}
@@ -44,7 +45,7 @@ module _ (t client : ℕ) (c : Call) (kept : List ℕ) where
                 length content;
             tally = fresh 1;
           };
-          kept = put (put kept 0 content) nonceAt nonce;
+          kept = put (put kept 0 content) noncePlace nonce;
         }
     unfolding coreWrite writeByRounds
     write-begins w h z = rw (eq-eqb (length kept) keptSize h, same-write t client c w kept content nonce, z)
@@ -83,7 +84,7 @@ module _ (t client : ℕ) (c : Call) (kept : List ℕ) where
               c .length;
           tally = fresh 4;
         };
-        kept = put kept candidatesAt (replicate (candidateSlot * mostServers) 0);
+        kept = put kept candidatesPlace (replicate (candidateSlot * mostServers) 0);
       }
   unfolding coreRead readByRounds
   read-begins w h z = rw (eq-eqb (length kept) keptSize h, same-read t client c w kept, z)

@@ -15,7 +15,7 @@ use Rattle.protocol.specs.declared.Call.{Call}
 use Rattle.protocol.specs.declared.Head.{Head}
 use Rattle.protocol.specs.declared.Stamp.{Stamp}
 use Rattle.protocol.specs.declared.Taken.the-variants as taken
-use Rattle.protocol.specs.Format.{Bytes, via, seq, orBlank}
+use Rattle.format.specs.Format.{Bytes, via, seq, orBlank}
 use Rattle.protocol.specs.Values.{stampSize}
 use Rattle.protocol.specs.Packet.{Body, BodyOk, clockReply, printBody, headSize, anyStampF, bodyF, packetF, PacketOk}
 use Rattle.protocol.specs.Primitives.{real}

@@ -13,18 +13,19 @@ use Rattle.protocol.specs.declared.Call.{Call}
 use Rattle.protocol.specs.declared.Head.{Head}
 use Rattle.protocol.specs.declared.Taken.the-variants as taken
 use Rattle.protocol.specs.Answers.{takenAnswer}
-use Rattle.protocol.specs.Format.{Bytes}
+use Rattle.format.specs.Format.{Bytes}
 use Rattle.protocol.specs.Values.{Candidate, Held}
 use Rattle.protocol.specs.Packet.{Body, BodyOk, headSize, printBody, heldF, filterReply}
 use Rattle.protocol.specs.Primitives.{real}
 use Rattle.protocol.specs.Rules.{ByServer, gather, live, choice}
 use Rattle.protocol.specs.Client.{heldIn}
-use Rattle.protocol.specs.View.{heldAt, keptSize, marked, candidatesIn, repliesIn, repliesAt, replySlot}
-use Rattle.protocol.specs.ClientBytes.{Took, put, keyOf}
+use Rattle.protocol.specs.View.{heldAt, keptSize, marked, candidatesIn, repliesIn, repliesPlace, replySlot}
+use Rattle.protocol.specs.ClientBytes.{Took, keyOf}
+use Rattle.format.specs.Reading.{put}
 use Rattle.client.specs.Rounds.{took, takeOn, takeFilter, judgeIn, noted, ends, withTally, takeByRounds}
 use Rattle.protocol.proofs.Bodies.{decode-ok}
 use Rattle.protocol.proofs.HandOk.{held-room}
-use Rattle.protocol.proofs.Puts.{put-length}
+use Rattle.format.proofs.Puts.{put-length}
 use Rattle.protocol.proofs.Room.{shelf-fits}
 use Rattle.protocol.proofs.ServerLift.{body-ok}
 use Rattle.wire.specs.Places.{bodyAt, packetAt}
@@ -40,7 +41,7 @@ on-filter : (t client : ℕ) (writers : List ℕ) (keys : ByServer (List ℕ)) (
     (shelf t) .print (heldIn x) ≡ d
     → takeOn real (shelf t) client writers keys c kept output 5 (some (record { head = h; body = x }))
     ≡ (let c' = withTally c (noted (shelf t) (c .tally) (h .server)) in
-    let k = put kept (repliesAt + replySlot * (h .server - 1)) d in
+    let k = put kept (repliesPlace + replySlot * (h .server - 1)) d in
     let m = marked (c' .tally .marks) in
     let g = repliesIn (shelf t) (c' .tally .marks) k in
     let cs = gather (candidatesIn (shelf t) k) (shelf t .servers) in
@@ -82,7 +83,7 @@ module _ (t client : ℕ) (c : Call) (reply : List ℕ) (h : Head) (y : Ready t 
       then = withTally c (noted (shelf t) (c .tally) (h .server))
 
       abbrev after : List ℕ
-      after = put kept (repliesAt + replySlot * (h .server - 1)) body
+      after = put kept (repliesPlace + replySlot * (h .server - 1)) body
 
       abbrev m : ByServer Bool
       m = marked (then .tally .marks)
@@ -116,7 +117,7 @@ module _ (t client : ℕ) (c : Call) (reply : List ℕ) (h : Head) (y : Ready t 
       filter-ends l bs f =
           let r = ready-faults t client c reply h y in
           let v = ready-server t client c reply h y in
-          let n : length after ≡ keptSize = put-length kept (repliesAt + replySlot * (h .server - 1)) body (omega (arith, l, body-fits, v .0, v .1)) ∙
+          let n : length after ≡ keptSize = put-length kept (repliesPlace + replySlot * (h .server - 1)) body (omega (arith, l, body-fits, v .0, v .1)) ∙
           l in
           let z : length {A = ℕ} (replicate contentRoom 0) ≡ contentRoom = length-replicate {A = ℕ} contentRoom 0 in
           judged-by t (then .tally .marks) after (record { low = r .0; high = r .1; size = n }) bs client writers (keyOf keys) c

@@ -18,13 +18,13 @@ use Rattle.protocol.specs.declared.Call.{Call}
 use Rattle.protocol.specs.declared.Tally.{Tally}
 use Rattle.protocol.specs.declared.Taken.the-variants as taken
 use Rattle.protocol.specs.Answers.{takenAnswer}
-use Rattle.protocol.specs.Format.{Bytes, via, seq, run}
+use Rattle.format.specs.Format.{Bytes, via, seq, run}
 use Rattle.protocol.specs.Values.{Candidate, Share, Held, stampSize, nonceSize, digestSize, digestsSize, tagsSize}
 use Rattle.protocol.specs.Packet.{candidateF, shareSize}
 use Rattle.protocol.specs.Primitives.{real}
 use Rattle.protocol.specs.Rules.{ByServer, gather, live, choice, leader, proven, parts, restoredBy, tagsIn}
-use Rattle.protocol.specs.ServerBytes.{over}
-use Rattle.protocol.specs.View.{part, candidateAt, shareOfSize, keptSize, marked, candidatesIn, repliesIn, replySlotOf, candidatesAt, candidateSlot, repliesAt, replySlot}
+use Rattle.format.specs.Reading.{over, bytesAt}
+use Rattle.protocol.specs.View.{candidateAt, shareOfSize, keptSize, marked, candidatesIn, repliesIn, replySlotOf, candidatesPlace, candidateSlot, repliesPlace, replySlot}
 use Rattle.protocol.specs.ClientBytes.{fresh}
 use Rattle.client.specs.Rounds.{took, delivers, foundIn, judgeIn, withTally}
 use Rattle.protocol.proofs.Primitive.{real-lengths}
@@ -57,24 +57,24 @@ module _ (t : ℕ) (c : Call) (kept output : List ℕ) where
   unfolding judgedIn judgedBy
   judged-blank e = sym (ap (λ (d : Decision). judgedBy t c kept output d (decidedNow t c kept .output)) e)
 
-  pub judged-found : (i b n : ℕ) (content : List ℕ) → decidedNow t c kept .answer ≡ decisions.Found i b n → content ≡ part (decidedNow t c kept .output) 0 n
+  pub judged-found : (i b n : ℕ) (content : List ℕ) → decidedNow t c kept .answer ≡ decisions.Found i b n → content ≡ bytesAt (decidedNow t c kept .output) 0 n
       → foundAt t c kept output i b content ≡ judgedIn t c kept output
   unfolding judgedIn judgedBy
   judged-found i b n content e f =
       ap (foundAt t c kept output i b) f ∙ sym (ap (λ (d : Decision). judgedBy t c kept output d (decidedNow t c kept .output)) e)
 
 -- the first bytes of what was written over
-cut-over : (x room : List ℕ) → part (over x room) 0 (length x) ≡ x
-unfolding part over
+cut-over : (x room : List ℕ) → bytesAt (over x room) 0 (length x) ≡ x
+unfolding bytesAt over
 cut-over x room = take-at x (drop (length x) room) (length x) refl
 
 name-printed : (s : Config) (d tags : List ℕ) → Bytes d → 5 ≤ length d
-    → candidateF s .print (record { stamp = candidateAt s d .stamp; nonce = candidateAt s d .nonce; tags = tags }) ≡ part d 0 (stampSize + nonceSize) ++ tags
+    → candidateF s .print (record { stamp = candidateAt s d .stamp; nonce = candidateAt s d .nonce; tags = tags }) ≡ bytesAt d 0 (stampSize + nonceSize) ++ tags
 unfolding candidateF via seq run candidateAt
 name-printed s d tags b h =
-    let j : part d 0 stampSize ++ part d (0 + stampSize) nonceSize ≡ part d 0 (stampSize + nonceSize) = sym (part-split d 0 stampSize nonceSize) in
-    ap (λ (x : List ℕ). x ++ (part d stampSize nonceSize ++ tags)) (stamp-bytes d b h)
-    ∙ (sym (append-assoc (part d 0 stampSize) (part d stampSize nonceSize) tags) ∙ ap (λ (x : List ℕ). x ++ tags) j)
+    let j : bytesAt d 0 stampSize ++ bytesAt d (0 + stampSize) nonceSize ≡ bytesAt d 0 (stampSize + nonceSize) = sym (part-split d 0 stampSize nonceSize) in
+    ap (λ (x : List ℕ). x ++ (bytesAt d stampSize nonceSize ++ tags)) (stamp-bytes d b h)
+    ∙ (sym (append-assoc (bytesAt d 0 stampSize) (bytesAt d stampSize nonceSize) tags) ∙ ap (λ (x : List ℕ). x ++ tags) j)
 
 module _ (t : ℕ) (marks kept : List ℕ) (u : Usable t kept) (bytes : Bytes kept) where
   abbrev held : ByServer Candidate
@@ -105,7 +105,7 @@ module _ (t : ℕ) (marks kept : List ℕ) (u : Usable t kept) (bytes : Bytes ke
 
   module _ (i b : ℕ) (slot : i < shelf t .servers) (led : leaderAt t marks kept i (shelf t .servers) ≡ suc b) where
     abbrev name : List ℕ
-    name = part kept (candidatesAt + candidateSlot * i) (stampSize + nonceSize)
+    name = bytesAt kept (candidatesPlace + candidateSlot * i) (stampSize + nonceSize)
 
     leads : (leadsAt t marks kept i b ≡ true) × (b < shelf t .servers)
     leads = leader-leads t marks kept i (shelf t .servers) b led
@@ -127,20 +127,20 @@ module _ (t : ℕ) (marks kept : List ℕ) (u : Usable t kept) (bytes : Bytes ke
     content-length : length (restoredBy real (shelf t) m g (held (suc i)) (suc b) (g (suc b) .share)) ≡ sizeIn (replySlotOf kept b)
     content-length =
         ap (λ (o : Option Share). length (restoredBy real (shelf t) m g (held (suc i)) (suc b) o)) shared
-        ∙ (unfold restoredBy shareOfSize in real-lengths .content (shelf t .points) (shelf t .shares) (sizeIn (replySlotOf kept b)) (parts real (shelf t) m g (held (suc i)) (suc b) (shelf t .servers)))
+        ∙ (unfold restoredBy shareOfSize in real-lengths .content (shelf t .points) (shelf t .threshold) (sizeIn (replySlotOf kept b)) (parts real (shelf t) m g (held (suc i)) (suc b) (shelf t .servers)))
 
     -- the group's tags stand in the leader's reply
     tags-are : tagsIn real (shelf t) (held (suc i)) (g (suc b) .share)
-        ≡ part kept (repliesAt + replySlot * (suc b - 1) + tagsPlace t (sizeIn (replySlotOf kept b))) (tagsSize (shelf t))
+        ≡ bytesAt kept (repliesPlace + replySlot * (suc b - 1) + tagsPlace t (sizeIn (replySlotOf kept b))) (tagsSize (shelf t))
     tags-are =
         let n : ℕ = sizeIn (replySlotOf kept b) in
         let z : b ≡ suc b - 1 = omega arith in
         let r : tagsPlace t n + tagsSize (shelf t) ≤ replySlot = room n (full .top) in
         ap (tagsIn real (shelf t) (held (suc i))) shared ∙ (tags-in (shelf t) (replySlotOf kept b) n ∙ (place n ∙ (slot-part kept b (tagsPlace t n) (tagsSize (shelf t)) r
-        ∙ ap (λ (k : ℕ). part kept (repliesAt + replySlot * k + tagsPlace t n) (tagsSize (shelf t))) z)))
+        ∙ ap (λ (k : ℕ). bytesAt kept (repliesPlace + replySlot * k + tagsPlace t n) (tagsSize (shelf t))) z)))
       where
-        place : (n : ℕ) → part (replySlotOf kept b) (stampSize + 3 + fragmentSize (shelf t .shares) n + digestsSize (shelf t) + digestSize) (tagsSize (shelf t))
-            ≡ part (replySlotOf kept b) (tagsPlace t n) (tagsSize (shelf t))
+        place : (n : ℕ) → bytesAt (replySlotOf kept b) (stampSize + 3 + fragmentSize (shelf t .threshold) n + digestsSize (shelf t) + digestSize) (tagsSize (shelf t))
+            ≡ bytesAt (replySlotOf kept b) (tagsPlace t n) (tagsSize (shelf t))
         place n = unfold tagsPlace in refl
 
         room : (n : ℕ) → n ≤ topLength → tagsPlace t n + tagsSize (shelf t) ≤ replySlot
@@ -150,12 +150,12 @@ module _ (t : ℕ) (marks kept : List ℕ) (u : Usable t kept) (bytes : Bytes ke
     named : (tags : List ℕ) → candidateF (shelf t) .print (record { stamp = held (suc i) .stamp; nonce = held (suc i) .nonce; tags = tags }) ≡ name ++ tags
     named tags =
         let few = shelf-fits t (u .low) (u .high) .few in
-        let D : List ℕ = part kept (candidatesAt + candidateSlot * i) candidateSlot in
-        let l : length D ≡ candidateSlot = part-length kept (candidatesAt + candidateSlot * i) candidateSlot (omega (arith, u .size)) in
-        let o : candidatesAt + candidateSlot * i + 0 ≡ candidatesAt + candidateSlot * i = omega arith in
+        let D : List ℕ = bytesAt kept (candidatesPlace + candidateSlot * i) candidateSlot in
+        let l : length D ≡ candidateSlot = part-length kept (candidatesPlace + candidateSlot * i) candidateSlot (omega (arith, u .size)) in
+        let o : candidatesPlace + candidateSlot * i + 0 ≡ candidatesPlace + candidateSlot * i = omega arith in
         ap (λ (x : Candidate). candidateF (shelf t) .print (record { stamp = x .stamp; nonce = x .nonce; tags = tags })) (candidate-in (shelf t) kept i (omega arith))
-        ∙ (name-printed (shelf t) D tags (bytes-part kept (candidatesAt + candidateSlot * i) candidateSlot bytes) (omega arith)
-        ∙ ap (λ (x : List ℕ). x ++ tags) (part-part kept (candidatesAt + candidateSlot * i) candidateSlot 0 (stampSize + nonceSize) (omega arith) ∙ ap (λ (k : ℕ). part kept k (stampSize + nonceSize)) o))
+        ∙ (name-printed (shelf t) D tags (bytes-part kept (candidatesPlace + candidateSlot * i) candidateSlot bytes) (omega arith)
+        ∙ ap (λ (x : List ℕ). x ++ tags) (part-part kept (candidatesPlace + candidateSlot * i) candidateSlot 0 (stampSize + nonceSize) (omega arith) ∙ ap (λ (k : ℕ). bytesAt kept k (stampSize + nonceSize)) o))
 
     repaired : (n : ℕ) → n ≡ sizeIn (replySlotOf kept b)
         → repairBytes t kept i (suc b) n ≡ candidateF (shelf t) .print (record { stamp = held (suc i) .stamp; nonce = held (suc i) .nonce; tags = tagsIn real (shelf t) (held (suc i)) (g (suc b) .share) })
@@ -180,7 +180,7 @@ module _ (t : ℕ) (marks kept : List ℕ) (u : Usable t kept) (bytes : Bytes ke
     led-by i (suc b) l e p = found-at i b l e client writers keys c y before output
 
     chosen : (x : Candidate) → choice real (shelf t) m g listed ≡ some x
-        → foundAt t (withTally c y) kept output (slotOf held x (shelf t .servers)) (leaderOf x) (part (over (contentOf x) room) 0 (length (contentOf x)))
+        → foundAt t (withTally c y) kept output (slotOf held x (shelf t .servers)) (leaderOf x) (bytesAt (over (contentOf x) room) 0 (length (contentOf x)))
         ≡ foundIn real (shelf t) client writers keys c before output m g kept x (leaderOf x)
     chosen x e =
         let i : ℕ = slotOf held x (shelf t .servers) in

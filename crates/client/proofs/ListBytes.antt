@@ -12,15 +12,14 @@ use borrow.Author.Tests.{le-leb, eq-eqb, lt-ltb}
 use Rattle.cluster.specs.Config.{Config, shelf}
 use Rattle.cluster.specs.Ranges.{topFaults, mostServers, packetRoom}
 use Rattle.protocol.specs.declared.Head.{Head}
-use Rattle.protocol.specs.Format.{Fmt, Bytes, printMany}
+use Rattle.format.specs.Format.{Fmt, Bytes, printMany}
 use Rattle.protocol.specs.Values.{Candidate, candidateSize, tagsSize, stampSize, nonceSize}
 use Rattle.protocol.specs.Packet.{candidateF, headF, headSize}
-use Rattle.protocol.specs.Reading.{Wrote}
+use Rattle.format.specs.Reading.{Wrote, put, bytesAt}
 use Rattle.protocol.specs.Rules.{ByServer, gather}
-use Rattle.protocol.specs.ClientBytes.{put}
-use Rattle.protocol.specs.View.{keptSize, part, stampAt, candidateAt, candidatesIn, candidatesAt, candidateSlot}
+use Rattle.protocol.specs.View.{keptSize, stampAt, candidateAt, candidatesIn, candidatesPlace, candidateSlot}
 use Rattle.protocol.proofs.Packets.{candidate-length, head-length}
-use Rattle.protocol.proofs.Puts.{put-over, wrote-then, wrote-length}
+use Rattle.format.proofs.Puts.{put-over, wrote-then, wrote-length}
 use Rattle.wire.specs.Make.{placed}
 use Rattle.wire.proofs.Put.{placed-then}
 use Rattle.decide.specs.Listing.{usable, enters, listedIn, listedCount}
@@ -38,19 +37,19 @@ wrote-none d at = record { bytes = sym (ap (λ (k : ℕ). take at d ++ drop k d)
 
 module _ (s : Config) (kept : List ℕ) (i : ℕ) (few : i < mostServers) (size : length kept ≡ keptSize) where
   abbrev slot : List ℕ
-  slot = part kept (candidatesAt + candidateSlot * i) candidateSlot
+  slot = bytesAt kept (candidatesPlace + candidateSlot * i) candidateSlot
 
   in-slot : candidatesIn s kept (suc i) ≡ candidateAt s slot
   unfolding candidatesIn
   in-slot = rw (lt-ltb i mostServers few)
 
   slot-length : length slot ≡ candidateSlot
-  slot-length = part-length kept (candidatesAt + candidateSlot * i) candidateSlot (omega (arith, size))
+  slot-length = part-length kept (candidatesPlace + candidateSlot * i) candidateSlot (omega (arith, size))
 
-  pub slot-back : Bytes kept → candidateF s .print (candidatesIn s kept (suc i)) ≡ part slot 0 (candidateSize s)
+  pub slot-back : Bytes kept → candidateF s .print (candidatesIn s kept (suc i)) ≡ bytesAt slot 0 (candidateSize s)
   slot-back b =
       ap (candidateF s .print) in-slot
-      ∙ candidate-back s slot (bytes-part kept (candidatesAt + candidateSlot * i) candidateSlot b) (omega (arith, slot-length))
+      ∙ candidate-back s slot (bytes-part kept (candidatesPlace + candidateSlot * i) candidateSlot b) (omega (arith, slot-length))
 
   pub slot-most : s .servers ≤ mostServers → length (candidateF s .print (candidatesIn s kept (suc i))) ≤ candidateSlot
   unfolding candidateAt stampAt

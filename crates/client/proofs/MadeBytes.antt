@@ -8,7 +8,7 @@ use borrow.Author.Tests.{le-leb}
 use Rattle.cluster.specs.Config.{shelf}
 use Rattle.protocol.specs.declared.Call.{Call}
 use Rattle.protocol.specs.declared.Head.{Head}
-use Rattle.protocol.specs.Format.{via, seq}
+use Rattle.format.specs.Format.{via, seq}
 use Rattle.protocol.specs.Packet.{encode, packetF, bodyF, headF, stampF, shareF, writeF, candidateF, candidatesF}
 use Rattle.protocol.specs.Client.{made}
 use Rattle.protocol.specs.Rules.{gather}

@@ -10,11 +10,12 @@ use Rattle.cluster.specs.Config.{Config, shelf}
 use Rattle.cluster.specs.Ranges.{packetRoom}
 use Rattle.erasure.specs.Fragments.{fragmentSize}
 use Rattle.protocol.specs.declared.Head.{Head}
-use Rattle.protocol.specs.Format.{Bytes, via, seq, number2, run, print2, value2}
+use Rattle.format.specs.Format.{Bytes, via, seq, number2, run, print2, value2}
 use Rattle.protocol.specs.Values.{stampSize, nonceSize, digestSize, digestsSize, tagsSize, candidateSize}
 use Rattle.protocol.specs.Packet.{shareF, candidateF, headF, headSize}
-use Rattle.protocol.specs.View.{part, candidateAt, shareAt, shareOfSize}
-use Rattle.protocol.proofs.Formats.{print2-value}
+use Rattle.protocol.specs.View.{candidateAt, shareAt, shareOfSize}
+use Rattle.format.specs.Reading.{bytesAt}
+use Rattle.format.proofs.Formats.{print2-value}
 use Rattle.protocol.proofs.Packets.{head-length}
 use Rattle.wire.proofs.Lengths.{fragment-few}
 use Rattle.wire.specs.Places.{shareSize, lengthAt}
@@ -23,28 +24,28 @@ use Rattle.client.specs.Steps.{wholePacket}
 use Rattle.decide.proofs.Places.{part-split, stamp-bytes}
 
 module _ (s : Config) (d : List ℕ) (b : Bytes d) (h : 5 ≤ length d) where
-  pub candidate-back : candidateF s .print (candidateAt s d) ≡ part d 0 (candidateSize s)
+  pub candidate-back : candidateF s .print (candidateAt s d) ≡ bytesAt d 0 (candidateSize s)
   unfolding candidateF via seq run candidateAt
   candidate-back =
-      let j : part d stampSize nonceSize ++ part d (stampSize + nonceSize) (tagsSize s) ≡ part d stampSize (nonceSize + tagsSize s) = sym
+      let j : bytesAt d stampSize nonceSize ++ bytesAt d (stampSize + nonceSize) (tagsSize s) ≡ bytesAt d stampSize (nonceSize + tagsSize s) = sym
       (part-split d stampSize nonceSize (tagsSize s)) in
-      let k : part d 0 stampSize ++ part d (0 + stampSize) (nonceSize + tagsSize s) ≡ part d 0 (stampSize + (nonceSize + tagsSize s)) = sym
+      let k : bytesAt d 0 stampSize ++ bytesAt d (0 + stampSize) (nonceSize + tagsSize s) ≡ bytesAt d 0 (stampSize + (nonceSize + tagsSize s)) = sym
       (part-split d 0 stampSize (nonceSize + tagsSize s)) in
       let e : stampSize + (nonceSize + tagsSize s) ≡ candidateSize s = omega arith in
-      rw (stamp-bytes d b h, j) (k ∙ ap (part d 0) e)
+      rw (stamp-bytes d b h, j) (k ∙ ap (bytesAt d 0) e)
 
-  length-back : print2 (lengthAt d) ≡ part d 0 2
-  unfolding lengthAt part
+  length-back : print2 (lengthAt d) ≡ bytesAt d 0 2
+  unfolding lengthAt bytesAt
   length-back = two d b h where
     two : (d : List ℕ) → Bytes d → 5 ≤ length d → print2 (value2 (getD d 0 0) (getD d 1 0)) ≡ take 2 (drop 0 d)
     two [] b h = let z : ⊥ = omega arith in absurd z
     two (x ∷ []) b h = let z : ⊥ = omega arith in absurd z
     two (x ∷ y ∷ d) b h = print2-value x y (b 1)
 
-  pub share-back : shareF s .print (shareAt s d) ≡ part d 0 (shareSize s (lengthAt d))
+  pub share-back : shareF s .print (shareAt s d) ≡ bytesAt d 0 (shareSize s (lengthAt d))
   unfolding shareF via seq run number2 shareAt shareOfSize lengthAt shareSize
   share-back =
-      let f : ℕ = fragmentSize (s .shares) (value2 (getD d 0 0) (getD d 1 0)) in
+      let f : ℕ = fragmentSize (s .threshold) (value2 (getD d 0 0) (getD d 1 0)) in
       let D : ℕ = digestsSize s in
       let T : ℕ = tagsSize s in
       let j₁ = sym (part-split d (2 + f + D) digestSize T) in
@@ -53,9 +54,9 @@ module _ (s : Config) (d : List ℕ) (b : Bytes d) (h : 5 ≤ length d) where
       let j₄ = sym (part-split d 0 2 (f + (D + (digestSize + T)))) in
       let e : 2 + (f + (D + (digestSize + T))) ≡ 2 + f + D + digestSize + T = omega arith in
       let N : List ℕ = print2 (value2 (getD d 0 0) (getD d 1 0)) in
-      ap (λ (x : List ℕ). N ++ (part d 2 f ++ (part d (2 + f) D ++ x))) j₁ ∙ (ap (λ (x : List ℕ). N ++ (part d 2 f ++ x)) j₂ ∙
+      ap (λ (x : List ℕ). N ++ (bytesAt d 2 f ++ (bytesAt d (2 + f) D ++ x))) j₁ ∙ (ap (λ (x : List ℕ). N ++ (bytesAt d 2 f ++ x)) j₂ ∙
       (ap (λ (x : List ℕ). N ++ x) j₃
-      ∙ (ap (λ (x : List ℕ). x ++ part d 2 (f + (D + (digestSize + T)))) length-back ∙ (j₄ ∙ ap (part d 0) e))))
+      ∙ (ap (λ (x : List ℕ). x ++ bytesAt d 2 (f + (D + (digestSize + T)))) length-back ∙ (j₄ ∙ ap (bytesAt d 0) e))))
 
 -- a packet whose body has no more bytes than a slot of each kind fits its buffer
 pub packet-fits : (h : Head) (a b output : List ℕ) → packetRoom ≤ length output → headSize + (length a + length b) ≤ packetRoom
@@ -73,9 +74,9 @@ packet-fits h a b output r l =
     rw (le-ltb (length output) packetRoom r, le-ltb (length output) (length (headF .print h ++ (a ++ b))) (omega arith))
 
 -- no more bytes than there are
-pub part-short : (d : List ℕ) (n : ℕ) → length (part d 0 n) ≤ length d
-unfolding part
+pub part-short : (d : List ℕ) (n : ℕ) → length (bytesAt d 0 n) ≤ length d
+unfolding bytesAt
 part-short d n = omega (arith, length-take n d)
 
-pub fragment-most : (t n r : ℕ) → r ≡ fragmentSize (shelf t .shares) n → r ≤ n + t
+pub fragment-most : (t n r : ℕ) → r ≡ fragmentSize (shelf t .threshold) n → r ≤ n + t
 fragment-most t n r e = omega (arith, e, fragment-few t n)

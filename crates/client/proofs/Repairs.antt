@@ -9,10 +9,10 @@ use Rattle.cluster.specs.Config.{shelf}
 use Rattle.cluster.specs.Ranges.{topFaults, topLength, mostServers}
 use Rattle.erasure.specs.Fragments.{fragmentSize}
 use Rattle.protocol.specs.Values.{stampSize, nonceSize, tagsSize, candidateSize}
-use Rattle.protocol.specs.View.{part, keptSize, candidatesAt, candidateSlot, repliesAt, replySlot}
-use Rattle.protocol.specs.ClientBytes.{put}
-use Rattle.protocol.proofs.Puts.{put-put}
-use Rattle.protocol.proofs.Places.{part-same}
+use Rattle.protocol.specs.View.{keptSize, candidatesPlace, candidateSlot, repliesPlace, replySlot}
+use Rattle.format.specs.Reading.{bytesAt, put}
+use Rattle.format.proofs.Puts.{put-put}
+use Rattle.format.proofs.Places.{part-same}
 use Rattle.client.specs.Filter.{tagsPlace, repairBytes}
 use Rattle.decide.proofs.Places.{part-length}
 use Rattle.client.proofs.Printed.{fragment-most}
@@ -25,16 +25,16 @@ tags-room t n h k = let f : fragmentSize (t + 1) n ≤ n + t = fragment-most t n
 module _ (t : ℕ) (kept : List ℕ) (i b n : ℕ) (top : t ≤ topFaults) (size : length kept ≡ keptSize) (slot : i < mostServers) (low : 1 ≤ b)
     (high : b ≤ mostServers) (short : n ≤ topLength) where
   abbrev name : List ℕ
-  name = part kept (candidatesAt + candidateSlot * i) (stampSize + nonceSize)
+  name = bytesAt kept (candidatesPlace + candidateSlot * i) (stampSize + nonceSize)
 
   abbrev tags : List ℕ
-  tags = part kept (repliesAt + replySlot * (b - 1) + tagsPlace t n) (tagsSize (shelf t))
+  tags = bytesAt kept (repliesPlace + replySlot * (b - 1) + tagsPlace t n) (tagsSize (shelf t))
 
   name-length : length name ≡ stampSize + nonceSize
-  name-length = part-length kept (candidatesAt + candidateSlot * i) (stampSize + nonceSize) (omega arith)
+  name-length = part-length kept (candidatesPlace + candidateSlot * i) (stampSize + nonceSize) (omega arith)
 
   tags-length : length tags ≡ tagsSize (shelf t)
-  tags-length = part-length kept (repliesAt + replySlot * (b - 1) + tagsPlace t n) (tagsSize (shelf t)) (omega (arith, tags-room t n top short))
+  tags-length = part-length kept (repliesPlace + replySlot * (b - 1) + tagsPlace t n) (tagsSize (shelf t)) (omega (arith, tags-room t n top short))
 
   pub repair-length : length (repairBytes t kept i b n) ≡ candidateSize (shelf t)
   unfolding repairBytes
@@ -51,10 +51,10 @@ module _ (t : ℕ) (kept : List ℕ) (i b n : ℕ) (top : t ≤ topFaults) (size
   repair-put bytes h = put-put bytes 0 (stampSize + nonceSize) name tags name-length (omega (arith, tags-length, few))
 
   -- and read back
-  pub repair-cut : (bytes : List ℕ) → candidateSlot ≤ length bytes → part (put bytes 0 (repairBytes t kept i b n)) 0 (candidateSize (shelf t)) ≡
+  pub repair-cut : (bytes : List ℕ) → candidateSlot ≤ length bytes → bytesAt (put bytes 0 (repairBytes t kept i b n)) 0 (candidateSize (shelf t)) ≡
       repairBytes t kept i b n
   repair-cut bytes h =
-      ap (part (put bytes 0 (repairBytes t kept i b n)) 0) (sym repair-length) ∙ part-same bytes 0 (repairBytes t kept i b n)
+      ap (bytesAt (put bytes 0 (repairBytes t kept i b n)) 0) (sym repair-length) ∙ part-same bytes 0 (repairBytes t kept i b n)
       (omega (arith, repair-length, few))
 
   -- the two parts fit their buffer

@@ -18,9 +18,9 @@ use Rattle.protocol.specs.Packet.{Body, anyCandidateF}
 use Rattle.protocol.specs.Primitives.{real}
 use Rattle.protocol.specs.Rules.{ByServer}
 use Rattle.protocol.specs.Client.{candidateIn, codeIn}
-use Rattle.protocol.specs.ServerBytes.{over}
-use Rattle.protocol.specs.View.{chosenOf, contentOf, candidatesAt, candidateSlot}
-use Rattle.protocol.specs.ClientBytes.{Took, put, fresh}
+use Rattle.format.specs.Reading.{over, put}
+use Rattle.protocol.specs.View.{chosenOf, contentOf, candidatesPlace, candidateSlot}
+use Rattle.protocol.specs.ClientBytes.{Took, fresh}
 use Rattle.client.specs.Answers.{writtenAs, readAs}
 use Rattle.client.specs.Rounds.{took, takeOn, takeStore, takeComplete, takeCollect, takeRepair, delivers, counted, noted, ends, withTally}
 
@@ -59,10 +59,10 @@ module _ (t client : ℕ) (writers : List ℕ) (keys : ByServer (List ℕ)) (c :
   on-complete = refl
 
   pub on-collect : on 4
-      ≡ going (withTally c (cond (ends (shelf t) c (h .server)) (fresh 5) marks)) (put kept (candidatesAt + candidateSlot * (h .server - 1))
+      ≡ going (withTally c (cond (ends (shelf t) c (h .server)) (fresh 5) marks)) (put kept (candidatesPlace + candidateSlot * (h .server - 1))
       (anyCandidateF (shelf t) .print (candidateIn (shelf t) x)))
   unfolding takeOn takeCollect took
-  on-collect = goes (ends (shelf t) c (h .server)) (fresh 5) marks (put kept (candidatesAt + candidateSlot * (h .server - 1))
+  on-collect = goes (ends (shelf t) c (h .server)) (fresh 5) marks (put kept (candidatesPlace + candidateSlot * (h .server - 1))
       (anyCandidateF (shelf t) .print (candidateIn (shelf t) x)))
 
   pub on-repair : on 6

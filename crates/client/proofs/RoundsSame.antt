@@ -15,9 +15,9 @@ use Rattle.protocol.specs.Packet.{Body, candidateF}
 use Rattle.protocol.specs.Primitives.{Primitives}
 use Rattle.protocol.specs.Rules.{ByServer, countTo, upd, nobody, gather, live, choice, leader, restoredBy, tagsIn}
 use Rattle.protocol.specs.Client.{more, gave, idle, storing, completing, repairing, awaits, onto, update, judge, found, prepared, codeIn, heldIn}
-use Rattle.protocol.specs.ServerBytes.{over}
-use Rattle.protocol.specs.View.{marked, chosenOf, sharesIn, candidatesIn, repliesIn, handOf, view, chosenAt}
-use Rattle.protocol.specs.ClientBytes.{put, fresh, Took, begins, putBack, after, tookBy}
+use Rattle.format.specs.Reading.{over, put}
+use Rattle.protocol.specs.View.{marked, chosenOf, sharesIn, candidatesIn, repliesIn, handOf, view, chosenPlace}
+use Rattle.protocol.specs.ClientBytes.{fresh, Took, begins, putBack, after, tookBy}
 use Rattle.protocol.proofs.Marks.{count-nobody}
 use Rattle.protocol.proofs.PutMarks.{marks-same}
 use Rattle.protocol.proofs.Noted.{Reply, inRound, withMark, collected, filtered, fresh-marks, noted-marks, marks-now, slots-now, replies-now}
@@ -107,7 +107,7 @@ module _ (P : Primitives) (client : ℕ) (writers : List ℕ) (keys : ByServer (
           ≡ cond z (delivers P s client writers keys (C 5) kept output (d .stamp) content k)
           (took P s client writers keys (C 5) kept output taken.More
           (record { number = c .number; last = c .last; high = c .high; length = length content; tally = fresh 6 })
-          (put (put k 0 content) chosenAt (candidateF s .print (record { stamp = d .stamp; nonce = d .nonce; tags = tags }))))
+          (put (put k 0 content) chosenPlace (candidateF s .print (record { stamp = d .stamp; nonce = d .nonce; tags = tags }))))
       go true tags content = rw (fresh-marks a, none-counted)
       go false tags content = rw (fresh-marks a, none-counted)
 

@@ -12,11 +12,11 @@ use Rattle.cluster.specs.Ranges.{contentRoom}
 use Rattle.protocol.specs.declared.Call.{Call}
 use Rattle.protocol.specs.declared.Head.{Head}
 use Rattle.protocol.specs.declared.Taken.the-variants as taken
-use Rattle.protocol.specs.Format.{Bytes}
+use Rattle.format.specs.Format.{Bytes}
 use Rattle.protocol.specs.Packet.{headSize}
-use Rattle.protocol.specs.ServerBytes.{over}
-use Rattle.protocol.specs.View.{chosenOf, contentOf, candidatesAt, candidateSlot}
-use Rattle.protocol.specs.ClientBytes.{keyOf, put, fresh}
+use Rattle.format.specs.Reading.{over, put}
+use Rattle.protocol.specs.View.{chosenOf, contentOf, candidatesPlace, candidateSlot}
+use Rattle.protocol.specs.ClientBytes.{keyOf, fresh}
 use Rattle.client.specs.Rounds.{takeByRounds, counted, noted, ends, withTally}
 use Rattle.client.specs.declared.answers.Answered.{Answered}
 use Rattle.client.specs.Answers.{answered, writtenAs, readAs}
@@ -70,12 +70,12 @@ module _ (t client : ℕ) (writers : List ℕ) (keys : List (List ℕ)) (c : Cal
       ∙ (by-test (ends (shelf t) c (h .server)) wrote noting kept output ∙ sym (took-complete t client writers (keyOf keys) c kept output reply h y room e))
 
   pub takes-collect : c .tally .round ≡ 4 → Bytes reply → (body : List ℕ) → body ≡ drop headSize reply → (a : Answered) → a ≡ collected
-      → (kept' : List ℕ) → kept' ≡ put kept (candidatesAt + candidateSlot * (h .server - 1)) body → TakesAs t client writers keys c kept reply output
+      → (kept' : List ℕ) → kept' ≡ put kept (candidatesPlace + candidateSlot * (h .server - 1)) body → TakesAs t client writers keys c kept reply output
       a kept' output
   unfolding takeByRounds
   takes-collect e bs body d a r kept' k =
       ap (λ (z : Answered). answered z kept' output) r
-      ∙ (ap (λ (z : List ℕ). answered collected z output) (k ∙ ap (put kept (candidatesAt + candidateSlot * (h .server - 1))) d)
+      ∙ (ap (λ (z : List ℕ). answered collected z output) (k ∙ ap (put kept (candidatesPlace + candidateSlot * (h .server - 1))) d)
       ∙ sym (took-collect t client writers (keyOf keys) c kept output reply h y room bs e))
 
   pub takes-repair : c .tally .round ≡ 6 → (a : Answered) → a ≡ cond (ends (shelf t) c (h .server)) delivered noting

@@ -18,10 +18,9 @@ use Rattle.erasure.specs.Fragments.{fragment, fragmentSize}
 use Rattle.erasure.specs.Steps.{fragmentStep, fragmentRefusal, fragmentBytes}
 use Rattle.protocol.specs.Values.{runOf, digestSize}
 use Rattle.protocol.specs.Primitives.{real}
-use Rattle.protocol.specs.View.{part}
-use Rattle.protocol.specs.ClientBytes.{put}
+use Rattle.format.specs.Reading.{bytesAt, put}
 use Rattle.protocol.proofs.Primitive.{real-lengths, run-length}
-use Rattle.protocol.proofs.Puts.{put-put}
+use Rattle.format.proofs.Puts.{put-put}
 use Rattle.client.specs.Steps.{fragmentRun, digestRun}
 
 -- one entry more
@@ -49,20 +48,20 @@ empty (x ∷ l) e = let z : ⊥ = omega arith in absurd z
 module _ (t i : ℕ) (content : List ℕ) (low : 1 ≤ t) (high : t ≤ topFaults) (within-s : suc i ≤ shelf t .servers)
     (short : length content ≤ topLength) where
   abbrev size : ℕ
-  size = fragmentSize (shelf t .shares) (length content)
+  size = fragmentSize (shelf t .threshold) (length content)
 
   abbrev piece : List ℕ
-  piece = fragment (shelf t .points) (shelf t .shares) content (suc i)
+  piece = fragment (shelf t .points) (shelf t .threshold) content (suc i)
 
   pub piece-length : length piece ≡ size
   unfolding real
-  piece-length = real-lengths .part (shelf t .points) (shelf t .shares) content (suc i)
+  piece-length = real-lengths .fragment (shelf t .points) (shelf t .threshold) content (suc i)
 
-  cut : (rest : List ℕ) → part (piece ++ rest) 0 size ≡ piece
-  unfolding part
+  cut : (rest : List ℕ) → bytesAt (piece ++ rest) 0 size ≡ piece
+  unfolding bytesAt
   cut rest = take-at piece rest size piece-length
 
-  full : 1 ≤ length content → (fragmentStep t (suc i) content .count ≡ size) × (part (fragmentStep t (suc i) content .bytes) 0
+  full : 1 ≤ length content → (fragmentStep t (suc i) content .count ≡ size) × (bytesAt (fragmentStep t (suc i) content .bytes) 0
       (fragmentStep t (suc i) content .count) ≡ piece)
   unfolding fragmentStep fragmentRefusal fragmentBytes
   full h =
@@ -77,15 +76,15 @@ module _ (t i : ℕ) (content : List ℕ) (low : 1 ≤ t) (high : t ≤ topFault
       )
       (refl, cut _)
 
-  no-size : fragmentSize (shelf t .shares) 0 ≡ 0
+  no-size : fragmentSize (shelf t .threshold) 0 ≡ 0
   unfolding fragmentSize shelf
   no-size = div-eq-of-lt (omega arith)
 
-  none : length content ≡ 0 → (fragmentStep t (suc i) content .count ≡ size) × (part (fragmentStep t (suc i) content .bytes) 0
+  none : length content ≡ 0 → (fragmentStep t (suc i) content .count ≡ size) × (bytesAt (fragmentStep t (suc i) content .bytes) 0
       (fragmentStep t (suc i) content .count) ≡ piece)
-  unfolding fragmentStep fragmentRefusal part
+  unfolding fragmentStep fragmentRefusal bytesAt
   none z =
-      let s : size ≡ 0 = ap (fragmentSize (shelf t .shares)) z ∙ no-size in
+      let s : size ≡ 0 = ap (fragmentSize (shelf t .threshold)) z ∙ no-size in
       let q : fragmentStep t (suc i) content .count ≡ 0 = rw (
         le-leb 1 t low,
         le-leb t topFaults high,
@@ -97,12 +96,12 @@ module _ (t i : ℕ) (content : List ℕ) (low : 1 ≤ t) (high : t ≤ topFault
       (q ∙ sym s, ap (λ (k : ℕ). take k (drop 0 (fragmentStep t (suc i) content .bytes))) q ∙ sym (empty piece (piece-length ∙ s)))
 
   -- a content without bytes has fragments without bytes, which is what a refusal leaves too
-  pub fragment-cut : (fragmentStep t (suc i) content .count ≡ size) × (part (fragmentStep t (suc i) content .bytes) 0
+  pub fragment-cut : (fragmentStep t (suc i) content .count ≡ size) × (bytesAt (fragmentStep t (suc i) content .bytes) 0
       (fragmentStep t (suc i) content .count) ≡ piece)
   fragment-cut = go (leb 1 (length content)) refl
     where
       go : (b : Bool) → leb 1 (length content) ≡ b → (fragmentStep t (suc i) content .count ≡ size) ×
-          (part (fragmentStep t (suc i) content .bytes) 0 (fragmentStep t (suc i) content .count) ≡ piece)
+          (bytesAt (fragmentStep t (suc i) content .bytes) 0 (fragmentStep t (suc i) content .count) ≡ piece)
       go true e = full (leb-true 1 (length content) e)
       go false e = let l = leb-false 1 (length content) e in none (omega arith)
 
@@ -113,40 +112,40 @@ times-more w i n h = let m = mul-le-mul-left {m = suc i} {n = n} w h in omega (a
 
 module _ (t : ℕ) (content : List ℕ) where
   abbrev width : ℕ
-  width = fragmentSize (shelf t .shares) (length content)
+  width = fragmentSize (shelf t .threshold) (length content)
 
-  lengths : (i : ℕ) → length (fragment (shelf t .points) (shelf t .shares) content i) ≡ width
+  lengths : (i : ℕ) → length (fragment (shelf t .points) (shelf t .threshold) content i) ≡ width
   unfolding real
-  lengths i = real-lengths .part (shelf t .points) (shelf t .shares) content i
+  lengths i = real-lengths .fragment (shelf t .points) (shelf t .threshold) content i
 
-  digests : (i : ℕ) → length (sha256 (fragment (shelf t .points) (shelf t .shares) content i)) ≡ digestSize
+  digests : (i : ℕ) → length (sha256 (fragment (shelf t .points) (shelf t .threshold) content i)) ≡ digestSize
   unfolding real
-  digests i = real-lengths .digest (fragment (shelf t .points) (shelf t .shares) content i)
+  digests i = real-lengths .digest (fragment (shelf t .points) (shelf t .threshold) content i)
 
   pub fragments-room : (i : ℕ) (d : List ℕ) → i ≤ shelf t .servers → width * shelf t .servers ≤ length d → 0 + length (fragmentRun t content i) ≤
       length d
   unfolding fragmentRun
   fragments-room i d h r =
       let m = mul-le-mul-left {m = i} {n = shelf t .servers} width h in
-      omega (arith, m, run-length width (fragment (shelf t .points) (shelf t .shares) content) lengths i)
+      omega (arith, m, run-length width (fragment (shelf t .points) (shelf t .threshold) content) lengths i)
 
   pub digests-room : (i : ℕ) (d : List ℕ) → i ≤ shelf t .servers → digestSize * shelf t .servers ≤ length d → 0 + length (digestRun t content i) ≤
       length d
   unfolding digestRun
   digests-room i d h r =
-      omega (arith, h, run-length digestSize (λ k. sha256 (fragment (shelf t .points) (shelf t .shares) content k)) digests i)
+      omega (arith, h, run-length digestSize (λ k. sha256 (fragment (shelf t .points) (shelf t .threshold) content k)) digests i)
 
   pub fragment-more : (d : List ℕ) (i : ℕ) → width * i + width ≤ length d
-      → put (put d 0 (fragmentRun t content i)) (width * i) (fragment (shelf t .points) (shelf t .shares) content (suc i)) ≡ put d 0
+      → put (put d 0 (fragmentRun t content i)) (width * i) (fragment (shelf t .points) (shelf t .threshold) content (suc i)) ≡ put d 0
       (fragmentRun t content (i + 1))
   unfolding fragmentRun
-  fragment-more d i h = run-more width (fragment (shelf t .points) (shelf t .shares) content) lengths d i h
+  fragment-more d i h = run-more width (fragment (shelf t .points) (shelf t .threshold) content) lengths d i h
 
   pub digest-more : (d : List ℕ) (i : ℕ) → digestSize * i + digestSize ≤ length d
-      → put (put d 0 (digestRun t content i)) (digestSize * i) (sha256 (fragment (shelf t .points) (shelf t .shares) content (suc i))) ≡ put d 0
+      → put (put d 0 (digestRun t content i)) (digestSize * i) (sha256 (fragment (shelf t .points) (shelf t .threshold) content (suc i))) ≡ put d 0
       (digestRun t content (i + 1))
   unfolding digestRun
-  digest-more d i h = run-more digestSize (λ k. sha256 (fragment (shelf t .points) (shelf t .shares) content k)) digests d i h
+  digest-more d i h = run-more digestSize (λ k. sha256 (fragment (shelf t .points) (shelf t .threshold) content k)) digests d i h
 
   -- what follows the digests
   pub digests-then : (d x : List ℕ) (n : ℕ) → digestSize * n + length x ≤ length d → put (put d 0 (digestRun t content n)) (digestSize * n) x ≡ put d
@@ -156,4 +155,4 @@ module _ (t : ℕ) (content : List ℕ) where
       let o : digestSize * n ≡ 0 + digestSize * n = omega arith in
       ap (λ (k : ℕ). put (put d 0 (digestRun t content n)) k x) o
       ∙ put-put d 0 (digestSize * n) (digestRun t content n) x (run-length digestSize
-      (λ k. sha256 (fragment (shelf t .points) (shelf t .shares) content k)) digests n) (omega arith)
+      (λ k. sha256 (fragment (shelf t .points) (shelf t .threshold) content k)) digests n) (omega arith)

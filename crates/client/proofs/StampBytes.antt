@@ -11,16 +11,16 @@ use lib.ListN.{length, drop, getD, length-append}
 use lib.Seq.{drop-length}
 use borrow.Author.Tests.{lt-ltb, le-ltb, ne-eqb}
 use Rattle.hmac.specs.Hmac.{tagOf, tagSize}
-use Rattle.protocol.specs.Format.{Bytes}
+use Rattle.format.specs.Format.{Bytes}
 use Rattle.protocol.specs.Values.{sameList, isBlank, runOf}
 use Rattle.protocol.specs.Primitives.{real, stampMessage}
 use Rattle.protocol.specs.Client.{higher, checks}
-use Rattle.protocol.specs.View.{part, stampAt, marked}
-use Rattle.protocol.specs.ServerBytes.{over}
-use Rattle.protocol.specs.ClientBytes.{put, keyOf}
-use Rattle.protocol.proofs.Formats.{print4-value}
+use Rattle.protocol.specs.View.{stampAt, marked}
+use Rattle.format.specs.Reading.{bytesAt, over, put}
+use Rattle.protocol.specs.ClientBytes.{keyOf}
+use Rattle.format.proofs.Formats.{print4-value}
 use Rattle.protocol.proofs.Primitive.{real-lengths, run-length}
-use Rattle.protocol.proofs.Puts.{put-put, put-over}
+use Rattle.format.proofs.Puts.{put-put, put-over}
 use Rattle.client.specs.Steps.{tagRun}
 
 pub marked-at : (ms : List ℕ) (b : ℕ) → 1 ≤ b → marked ms b ≡ not (eqb (getD ms (b - 1) 0) 0)
@@ -32,8 +32,8 @@ marked-at ms (suc i) h =
 
 -- ---- a clock reply
 
-pub message : (d : List ℕ) → Bytes d → 5 ≤ length d → part d 0 5 ≡ stampMessage (stampAt d .number) (stampAt d .writer)
-unfolding part stampMessage stampAt
+pub message : (d : List ℕ) → Bytes d → 5 ≤ length d → bytesAt d 0 5 ≡ stampMessage (stampAt d .number) (stampAt d .writer)
+unfolding bytesAt stampMessage stampAt
 message [] b h = let z : ⊥ = omega arith in absurd z
 message (p ∷ []) b h = let z : ⊥ = omega arith in absurd z
 message (p ∷ q ∷ []) b h = let z : ⊥ = omega arith in absurd z
@@ -47,15 +47,15 @@ module _ (writers d : List ℕ) (high : ℕ) where
   stays-low h = rw (le-ltb high (stampAt d .number) h, and-false (checks real writers (stampAt d)))
 
   module _ (bytes : Bytes d) (long : 5 ≤ length d) (up : high < stampAt d .number) where
-    same-checks : checks real writers (stampAt d) ≡ sameList (part d 5 tagSize) (tagOf writers (part d 0 5))
+    same-checks : checks real writers (stampAt d) ≡ sameList (bytesAt d 5 tagSize) (tagOf writers (bytesAt d 0 5))
     unfolding checks isBlank real stampAt
     same-checks = rw (ne-eqb (stampAt d .number) 0 (omega arith), message d bytes long)
 
-    pub raised : sameList (part d 5 tagSize) (tagOf writers (part d 0 5)) ≡ true → higher real writers high (stampAt d) ≡ stampAt d .number
+    pub raised : sameList (bytesAt d 5 tagSize) (tagOf writers (bytesAt d 0 5)) ≡ true → higher real writers high (stampAt d) ≡ stampAt d .number
     unfolding higher
     raised e = rw (same-checks, e, lt-ltb high (stampAt d .number) up)
 
-    pub not-raised : sameList (part d 5 tagSize) (tagOf writers (part d 0 5)) ≡ false → higher real writers high (stampAt d) ≡ high
+    pub not-raised : sameList (bytesAt d 5 tagSize) (tagOf writers (bytesAt d 0 5)) ≡ false → higher real writers high (stampAt d) ≡ high
     unfolding higher
     not-raised e = rw (same-checks, e)
 

@@ -18,9 +18,9 @@ use Rattle.protocol.specs.Values.{blankCandidate}
 use Rattle.protocol.specs.Packet.{encode}
 use Rattle.protocol.specs.Rules.{countTo, nobody}
 use Rattle.protocol.specs.Client.{Turn, Made, made, refused, more, aborted, idle, clocking, collecting, awaits, onto, begun, badFaults, badClient, ofWrite, writeRefusal, readRefusal, abortRefusal, makeRefusal, writeStep, readStep, abortStep, makeStep}
-use Rattle.protocol.specs.ServerBytes.{over}
-use Rattle.protocol.specs.View.{handOf, view, nonceAt, candidateSlot, candidatesAt}
-use Rattle.protocol.specs.ClientBytes.{put, fresh, inHand, awaited, Begun, GaveUp, Written, sentOf, putMarks, begins, putBack, told, after, begunBy, beginWrite, beginRead, giveUp, clientMake}
+use Rattle.format.specs.Reading.{over, put}
+use Rattle.protocol.specs.View.{handOf, view, noncePlace, candidateSlot, candidatesPlace}
+use Rattle.protocol.specs.ClientBytes.{fresh, inHand, awaited, Begun, GaveUp, Filled, sentOf, putMarks, begins, putBack, told, after, begunBy, beginWrite, beginRead, giveUp, clientMake}
 use Rattle.client.specs.Rounds.{withTally, writeByRounds, readByRounds, abortByRounds, makeByRounds}
 use Rattle.protocol.proofs.ClientLift.{out-of-rounds, busy-is, awaits-is, pending-is}
 use Rattle.protocol.proofs.LetIn.{write-idle, read-idle, other-round, either}
@@ -67,7 +67,7 @@ module _ (t client : ℕ) (c : Call) (wide : length (c .tally .marks) ≡ mostSe
           record {
             result = record { number = n; count = 0 };
             call = record { number = suc (c .number); last = c .last; high = c .last; length = length content; tally = fresh 1 };
-            kept = put (put kept 0 content) nonceAt nonce;
+            kept = put (put kept 0 content) noncePlace nonce;
           }
 
       begin : inHand c ≡ false → begunBy s c kept (record { client = begun (view s c kept) (clocking content nonce (c .last)); result = more }) ≡ done 0
@@ -86,7 +86,7 @@ module _ (t client : ℕ) (c : Call) (wide : length (c .tally .marks) ≡ mostSe
           record {
             result = record { number = n; count = 0 };
             call = record { number = suc (c .number); last = c .last; high = c .high; length = c .length; tally = fresh 4 };
-            kept = put kept candidatesAt (replicate (candidateSlot * mostServers) 0);
+            kept = put kept candidatesPlace (replicate (candidateSlot * mostServers) 0);
           }
 
       begin : inHand c ≡ false → begunBy s c kept (record { client = begun (view s c kept) (collecting (λ b. blankCandidate s)); result = more }) ≡ done 0
@@ -131,7 +131,7 @@ module _ (t client : ℕ) (c : Call) where
   pub same-make : (b : ℕ) (kept output : List ℕ) → clientMake t client b c kept output ≡ makeByRounds t client b c kept output
   unfolding clientMake makeByRounds makeStep shelf over
   same-make b kept output =
-      at-refusals {B = Written} (λ (d : Made). record {
+      at-refusals {B = Filled} (λ (d : Made). record {
         result = record { number = d .number; count = length (sentOf (d .packet)) };
         output = over (sentOf (d .packet)) output;
       }) (record { number = 0; packet = some (made t client (view sh c kept) b) }) (λ n. record { number = n; packet = none })

@@ -16,7 +16,7 @@ use Rattle.protocol.specs.Packet.{Body, Packet, PacketOk, decode}
 use Rattle.protocol.specs.Primitives.{Primitives}
 use Rattle.protocol.specs.Rules.{ByServer}
 use Rattle.protocol.specs.Client.{Client, refused, awaits, update, isFull, takeRefusal, turnOn, highAt, takeStep}
-use Rattle.protocol.specs.ServerBytes.{over}
+use Rattle.format.specs.Reading.{over}
 use Rattle.protocol.specs.View.{marked, handOf, view, keptSize}
 use Rattle.protocol.specs.ClientBytes.{keyOf, awaited, putReply, after, tookBy, clientTake}
 use Rattle.protocol.proofs.Bodies.{decode-ok}

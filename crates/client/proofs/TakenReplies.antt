@@ -16,14 +16,14 @@ use Rattle.protocol.specs.declared.Head.{Head}
 use Rattle.protocol.specs.declared.Stamp.{Stamp}
 use Rattle.protocol.specs.declared.Taken.the-variants as taken
 use Rattle.protocol.specs.Answers.{takenAnswer}
-use Rattle.protocol.specs.Format.{Bytes}
+use Rattle.format.specs.Format.{Bytes}
 use Rattle.protocol.specs.Packet.{Body, Packet, decode, kindOf, headSize, printBody, anyCandidateF, candidateF, clockReply, storeReply, collectReply}
 use Rattle.protocol.specs.Primitives.{real}
 use Rattle.protocol.specs.Rules.{ByServer}
 use Rattle.protocol.specs.Client.{higher, candidateMade, sharesMade}
-use Rattle.protocol.specs.ServerBytes.{over}
-use Rattle.protocol.specs.View.{stampAt, candidateAt, chosenOf, contentOf, nonceOf, chosenAt, candidatesAt, candidateSlot}
-use Rattle.protocol.specs.ClientBytes.{Took, putShares, inHand, put, fresh, awaited}
+use Rattle.format.specs.Reading.{over, put}
+use Rattle.protocol.specs.View.{stampAt, candidateAt, chosenOf, contentOf, nonceOf, chosenPlace, candidatesPlace, candidateSlot}
+use Rattle.protocol.specs.ClientBytes.{Took, putShares, inHand, fresh, awaited}
 use Rattle.client.specs.Answers.{writtenAs, readAs}
 use Rattle.client.specs.Rounds.{highIn, takeIn, takeOn, takeClock, took, counted, noted, ends, withTally}
 use Rattle.protocol.proofs.Whole.{kind-decoded}
@@ -102,7 +102,7 @@ module _ (t client : ℕ) (writers : List ℕ) (keys : ByServer (List ℕ)) (c :
       → all ≡ record {
         answer = takenAnswer taken.More;
         call = withTally c (cond (ends (shelf t) c (h .server)) (fresh 5) (noted (shelf t) (c .tally) (h .server)));
-        kept = put kept (candidatesAt + candidateSlot * (h .server - 1)) (drop headSize reply);
+        kept = put kept (candidatesPlace + candidateSlot * (h .server - 1)) (drop headSize reply);
         output = output;
       }
   unfolding bodyAt
@@ -116,7 +116,7 @@ module _ (t client : ℕ) (writers : List ℕ) (keys : ByServer (List ℕ)) (c :
       ∙ ap (λ (z : List ℕ). record {
         answer = takenAnswer taken.More;
         call = withTally c (cond (ends (shelf t) c (h .server)) (fresh 5) (noted (shelf t) (c .tally) (h .server)));
-        kept = put kept (candidatesAt + candidateSlot * (h .server - 1)) z;
+        kept = put kept (candidatesPlace + candidateSlot * (h .server - 1)) z;
         output = output;
       }) p))
 
@@ -196,7 +196,7 @@ module _ (t client : ℕ) (writers : List ℕ) (keys : ByServer (List ℕ)) (c :
           → all ≡ record {
             answer = takenAnswer taken.More;
             call = record { number = c .number; last = suc highest; high = c .high; length = c .length; tally = fresh 2 };
-            kept = putShares (shelf t) (put kept chosenAt (candidateF (shelf t) .print
+            kept = putShares (shelf t) (put kept chosenPlace (candidateF (shelf t) .print
                 (candidateMade real (shelf t) client writers keys (nonceOf kept) (suc highest))))
                 (sharesMade real (shelf t) client writers keys (contentOf c kept) (nonceOf kept) (suc highest)) (shelf t .servers);
             output = output;

@@ -10,7 +10,7 @@ use Rattle.protocol.specs.declared.Taken.the-variants as taken
 use Rattle.protocol.specs.Answers.{takenAnswer}
 use Rattle.protocol.specs.Primitives.{real}
 use Rattle.protocol.specs.View.{keptSize}
-use Rattle.protocol.specs.ClientBytes.{Begun, Written, Took, beginWrite, beginRead, clientMake, clientTake}
+use Rattle.protocol.specs.ClientBytes.{Begun, Filled, Took, beginWrite, beginRead, clientMake, clientTake}
 
 abbrev pub notBegun : Call → List ℕ → Begun
 notBegun c kept = record { result = record { number = wrongSize; count = 0 }; call = c; kept = kept }
@@ -21,7 +21,7 @@ coreWrite t client c kept content nonce = cond (eqb (length kept) keptSize) (beg
 unfoldable pub coreRead : ℕ → ℕ → Call → List ℕ → Begun
 coreRead t client c kept = cond (eqb (length kept) keptSize) (beginRead t client c kept) (notBegun c kept)
 
-unfoldable pub coreMake : ℕ → ℕ → ℕ → Call → List ℕ → List ℕ → Written
+unfoldable pub coreMake : ℕ → ℕ → ℕ → Call → List ℕ → List ℕ → Filled
 coreMake t client b c kept output =
     cond (eqb (length kept) keptSize) (clientMake t client b c kept output)
     (record { result = record { number = wrongSize; count = 0 }; output = output })

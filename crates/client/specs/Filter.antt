@@ -1,3 +1,4 @@
+-- What private functions promise each other; no public contract names these.
 -- The steps of the filter round, one for each function of the code. A slot is counted from 0, a server from 1.
 use mathlib.Core.Bool.{cond}
 use mathlib.Core.List.{List, _++_}
@@ -10,9 +11,9 @@ use Rattle.protocol.specs.declared.Call.{Call}
 use Rattle.protocol.specs.declared.Taken.the-variants as taken
 use Rattle.protocol.specs.Values.{stampSize, nonceSize, digestSize, digestsSize, tagsSize}
 use Rattle.protocol.specs.Answers.{takenAnswer}
-use Rattle.protocol.specs.ServerBytes.{over}
-use Rattle.protocol.specs.View.{part, chosenAt, candidatesAt, candidateSlot, candidatesIn, repliesAt, replySlot}
-use Rattle.protocol.specs.ClientBytes.{Took, put, fresh}
+use Rattle.format.specs.Reading.{over, bytesAt, put}
+use Rattle.protocol.specs.View.{chosenPlace, candidatesPlace, candidateSlot, candidatesIn, repliesPlace, replySlot}
+use Rattle.protocol.specs.ClientBytes.{Took, fresh}
 use Rattle.client.specs.Answers.{readAs}
 use Rattle.client.specs.Rounds.{withTally}
 use Rattle.decide.specs.declared.Decision.{Decision}
@@ -21,13 +22,13 @@ use Rattle.decide.specs.Decided.{Decided, sameTags, decided}
 
 -- where the tags stand in a reply of a content of n bytes: past stamp, byte, length, fragment, digests and nonce digest
 unfoldable pub tagsPlace : ℕ → ℕ → ℕ
-tagsPlace t n = stampSize + 3 + fragmentSize (shelf t .shares) n + digestsSize (shelf t) + digestSize
+tagsPlace t n = stampSize + 3 + fragmentSize (shelf t .threshold) n + digestsSize (shelf t) + digestSize
 
 -- the candidate of slot i with the tags in server b's reply, of a content of n bytes
 unfoldable pub repairBytes : ℕ → List ℕ → ℕ → ℕ → ℕ → List ℕ
 repairBytes t kept i b n =
-    part kept (candidatesAt + candidateSlot * i) (stampSize + nonceSize)
-    ++ part kept (repliesAt + replySlot * (b - 1) + tagsPlace t n) (tagsSize (shelf t))
+    bytesAt kept (candidatesPlace + candidateSlot * i) (stampSize + nonceSize)
+    ++ bytesAt kept (repliesPlace + replySlot * (b - 1) + tagsPlace t n) (tagsSize (shelf t))
 
 -- the call in its repair round, with a content of n bytes
 abbrev pub repairCall : Call → ℕ → Call
@@ -46,7 +47,7 @@ foundAt t c kept output i b content =
     (record {
       answer = takenAnswer taken.More;
       call = repairCall c (length content);
-      kept = put (put kept 0 content) chosenAt (repairBytes t kept i b (length content));
+      kept = put (put kept 0 content) chosenPlace (repairBytes t kept i b (length content));
       output = output;
     })
 
@@ -56,7 +57,7 @@ judgedBy t c kept output (decisions.Refused n) room = record { answer = takenAns
 judgedBy t c kept output decisions.Wait room = record { answer = takenAnswer taken.More; call = c; kept = kept; output = output }
 judgedBy t c kept output decisions.Blank room =
     record { answer = takenAnswer taken.Blank; call = withTally c (fresh 0); kept = kept; output = output }
-judgedBy t c kept output (decisions.Found i b n) room = foundAt t c kept output i b (part room 0 n)
+judgedBy t c kept output (decisions.Found i b n) room = foundAt t c kept output i b (bytesAt room 0 n)
 
 -- the decision over the replies of the servers that the call marks, with room for a content
 abbrev pub decidedNow : ℕ → Call → List ℕ → Decided

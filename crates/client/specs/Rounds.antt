@@ -1,3 +1,4 @@
+-- What private functions promise each other; no public contract names these.
 -- The client's operations by rounds on bytes: a step on the way to the definitions of crate protocol, which they equal
 -- for every state (`same-take` and the like in proofs/).
 use mathlib.Core.Bool.{Bool, true, cond, _&&_}
@@ -21,9 +22,9 @@ use Rattle.protocol.specs.Primitives.{Primitives}
 use Rattle.protocol.specs.Rules.{ByServer, upd, countTo, gather, live, choice, leader, restoredBy, tagsIn}
 use Rattle.protocol.specs.Client.{isFull, higher, stampIn, codeIn, candidateIn, heldIn, made, candidateMade, sharesMade, writeRefusal, readRefusal, makeRefusal, abortRefusal, takeRefusal}
 use Rattle.protocol.specs.Answers.{takenAnswer, abortedAnswer}
-use Rattle.protocol.specs.ServerBytes.{over}
-use Rattle.protocol.specs.View.{view, marked, contentOf, nonceOf, chosenOf, candidatesIn, repliesIn, nonceAt, chosenAt, candidateSlot, candidatesAt, repliesAt, replySlot}
-use Rattle.protocol.specs.ClientBytes.{put, putShares, keyOf, fresh, inHand, awaited, Begun, GaveUp, Written, Took}
+use Rattle.format.specs.Reading.{over, put}
+use Rattle.protocol.specs.View.{view, marked, contentOf, nonceOf, chosenOf, candidatesIn, repliesIn, noncePlace, chosenPlace, candidateSlot, candidatesPlace, repliesPlace, replySlot}
+use Rattle.protocol.specs.ClientBytes.{putShares, keyOf, fresh, inHand, awaited, Begun, GaveUp, Filled, Took}
 use Rattle.client.specs.Answers.{writtenAs, readAs}
 
 -- the count is that of the marks
@@ -50,7 +51,7 @@ writeByRounds t client c kept content nonce =
     (record {
       result = record { number = n; count = 0 };
       call = record { number = suc (c .number); last = c .last; high = c .last; length = length content; tally = fresh 1 };
-      kept = put (put kept 0 content) nonceAt nonce;
+      kept = put (put kept 0 content) noncePlace nonce;
     })
     (record { result = record { number = n; count = 0 }; call = c; kept = kept })
 
@@ -61,7 +62,7 @@ readByRounds t client c kept =
     (record {
       result = record { number = n; count = 0 };
       call = record { number = suc (c .number); last = c .last; high = c .high; length = c .length; tally = fresh 4 };
-      kept = put kept candidatesAt (replicate (candidateSlot * mostServers) 0);
+      kept = put kept candidatesPlace (replicate (candidateSlot * mostServers) 0);
     })
     (record { result = record { number = n; count = 0 }; call = c; kept = kept })
 
@@ -71,7 +72,7 @@ abortByRounds t client c =
     onRefusal n (record { answer = abortedAnswer (cond (eqb (c .tally .round) 3) aborts.InComplete aborts.Before); call = withTally c (fresh 0) })
     (record { answer = abortedAnswer (aborts.Refused n); call = c })
 
-unfoldable pub makeByRounds : ℕ → ℕ → ℕ → Call → List ℕ → List ℕ → Written
+unfoldable pub makeByRounds : ℕ → ℕ → ℕ → Call → List ℕ → List ℕ → Filled
 makeByRounds t client b c kept output =
     let n = makeRefusal (shelf t) client b (awaited c) (length output) in
     let bytes = encode (made t client (view (shelf t) c kept) b) in
@@ -96,7 +97,7 @@ module _ (P : Primitives) (s : Config) (client : ℕ) (writers : List ℕ) (keys
       let h = higher P writers (c .high) (stampIn x) in
       cond e
       (took taken.More (record { number = c .number; last = suc h; high = c .high; length = c .length; tally = fresh 2 })
-      (putShares s (put kept chosenAt (candidateF s .print (candidateMade P s client writers keys (nonceOf kept) (suc h))))
+      (putShares s (put kept chosenPlace (candidateF s .print (candidateMade P s client writers keys (nonceOf kept) (suc h))))
       (sharesMade P s client writers keys (contentOf c kept) (nonceOf kept) (suc h)) (s .servers)))
       (took taken.More (record { number = c .number; last = c .last; high = h; length = c .length; tally = noted s (c .tally) b }) kept)
 
@@ -111,7 +112,7 @@ module _ (P : Primitives) (s : Config) (client : ℕ) (writers : List ℕ) (keys
 
   unfoldable pub takeCollect : Bool → ℕ → Body → Took
   takeCollect e b x =
-      let k = put kept (candidatesAt + candidateSlot * (b - 1)) (anyCandidateF s .print (candidateIn s x)) in
+      let k = put kept (candidatesPlace + candidateSlot * (b - 1)) (anyCandidateF s .print (candidateIn s x)) in
       cond e (took taken.More (withTally c (fresh 5)) k) (took taken.More (withTally c (noted s (c .tally) b)) k)
 
   unfoldable pub foundIn : ByServer Bool → ByServer Held → List ℕ → Candidate → ℕ → Took
@@ -120,7 +121,7 @@ module _ (P : Primitives) (s : Config) (client : ℕ) (writers : List ℕ) (keys
       let tags = tagsIn P s d (g b .share) in
       cond (sameList tags (d .tags)) (delivers (d .stamp) content k)
       (took taken.More (record { number = c .number; last = c .last; high = c .high; length = length content; tally = fresh 6 })
-      (put (put k 0 content) chosenAt (candidateF s .print (record { stamp = d .stamp; nonce = d .nonce; tags = tags }))))
+      (put (put k 0 content) chosenPlace (candidateF s .print (record { stamp = d .stamp; nonce = d .nonce; tags = tags }))))
 
   unfoldable pub judgeIn : Call → ByServer Bool → ByServer Held → List ℕ → List Candidate → Option Candidate → Took
   judgeIn c' m g k [] o = took taken.Blank (withTally c (fresh 0)) k
@@ -129,7 +130,7 @@ module _ (P : Primitives) (s : Config) (client : ℕ) (writers : List ℕ) (keys
 
   unfoldable pub takeFilter : Bool → ℕ → Body → Took
   takeFilter e b x =
-      let k = put kept (repliesAt + replySlot * (b - 1)) (heldF s .print (heldIn x)) in
+      let k = put kept (repliesPlace + replySlot * (b - 1)) (heldF s .print (heldIn x)) in
       let c' = withTally c (noted s (c .tally) b) in
       let m = marked (c' .tally .marks) in
       let g = repliesIn s (c' .tally .marks) k in

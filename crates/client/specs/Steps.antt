@@ -1,3 +1,4 @@
+-- What private functions promise each other; no public contract names these.
 -- Steps of the code on the way to the definitions of crate protocol.
 use mathlib.Core.Path.{_≡_}
 use mathlib.Core.Option.{some}
@@ -14,14 +15,14 @@ use Rattle.erasure.specs.Fragments.{fragment, fragmentSize}
 use Rattle.protocol.specs.declared.Call.{Call}
 use Rattle.protocol.specs.declared.Head.{Head}
 use Rattle.protocol.specs.Values.{runOf}
-use Rattle.protocol.specs.Format.{print2}
+use Rattle.format.specs.Format.{print2}
 use Rattle.protocol.specs.Packet.{decode, candidateF}
 use Rattle.protocol.specs.Client.{badFaults, badClient, ofWrite, candidateMade, sharesMade}
 use Rattle.wire.specs.Places.{packetAt}
-use Rattle.protocol.specs.ServerBytes.{over}
-use Rattle.protocol.specs.View.{marked, part, repliesAt, replySlot, chosenAt, contentOf, nonceOf}
+use Rattle.format.specs.Reading.{over, bytesAt, put}
+use Rattle.protocol.specs.View.{marked, repliesPlace, replySlot, chosenPlace, contentOf, nonceOf}
 use Rattle.protocol.specs.Primitives.{real}
-use Rattle.protocol.specs.ClientBytes.{Written, keyOf, put, putShares, awaited}
+use Rattle.protocol.specs.ClientBytes.{Filled, keyOf, putShares, awaited}
 use Rattle.client.specs.Answers.{answered}
 use Rattle.client.specs.Rounds.{takeByRounds}
 use Rattle.client.specs.declared.answers.Answered.{Answered}
@@ -45,32 +46,32 @@ unfoldable pub tagRun : List (List ℕ) → List ℕ → List ℕ → ℕ → Li
 tagRun keys stamp d n = runOf n (λ i. tagOf (keyOf keys i) (stamp ++ d))
 
 -- a packet's bytes over the start of a buffer that has room for them
-unfoldable pub wholePacket : List ℕ → List ℕ → Written
+unfoldable pub wholePacket : List ℕ → List ℕ → Filled
 wholePacket bytes output = record { result = record { number = 0; count = length bytes }; output = over bytes output }
 
 -- the fragments of servers 1 to n, and their digests
 unfoldable pub fragmentRun : ℕ → List ℕ → ℕ → List ℕ
-fragmentRun t content n = runOf n (fragment (shelf t .points) (shelf t .shares) content)
+fragmentRun t content n = runOf n (fragment (shelf t .points) (shelf t .threshold) content)
 
 unfoldable pub digestRun : ℕ → List ℕ → ℕ → List ℕ
-digestRun t content n = runOf n (λ i. sha256 (fragment (shelf t .points) (shelf t .shares) content i))
+digestRun t content n = runOf n (λ i. sha256 (fragment (shelf t .points) (shelf t .threshold) content i))
 
 -- the shares of servers 1 to n in their slots: the length, the fragment out of a run of fragments of f bytes, and what is the same for all
 unfoldable pub shareRun : List ℕ → List ℕ → List ℕ → ℕ → List ℕ → ℕ → List ℕ
 shareRun kept size fragments f common zero = kept
 shareRun kept size fragments f common (suc n) =
-    put (shareRun kept size fragments f common n) (repliesAt + replySlot * n) (size ++ (part fragments (f * n) f ++ common))
+    put (shareRun kept size fragments f common n) (repliesPlace + replySlot * n) (size ++ (bytesAt fragments (f * n) f ++ common))
 
 -- the shares of a write of the content r in their slots, from the nonce's digest and the tags
 abbrev pub offered : ℕ → List ℕ → List ℕ → List ℕ → List ℕ → List ℕ
 offered t kept r digest tags =
-    shareRun kept (print2 (length r)) (fragmentRun t r (shelf t .servers)) (fragmentSize (shelf t .shares) (length r))
+    shareRun kept (print2 (length r)) (fragmentRun t r (shelf t .servers)) (fragmentSize (shelf t .threshold) (length r))
     (digestRun t r (shelf t .servers) ++ (digest ++ tags)) (shelf t .servers)
 
 -- the kept bytes at the end of clock: the candidate and the shares of the write, under the number k
 abbrev pub writeMade : ℕ → ℕ → List ℕ → List (List ℕ) → Call → List ℕ → ℕ → List ℕ
 writeMade t client writers keys c kept k =
-    putShares (shelf t) (put kept chosenAt (candidateF (shelf t) .print (candidateMade real (shelf t) client writers (keyOf keys) (nonceOf kept) k)))
+    putShares (shelf t) (put kept chosenPlace (candidateF (shelf t) .print (candidateMade real (shelf t) client writers (keyOf keys) (nonceOf kept) k)))
     (sharesMade real (shelf t) client writers (keyOf keys) (contentOf c kept) (nonceOf kept) k) (shelf t .servers)
 
 -- all that is known of a reply of the pending round

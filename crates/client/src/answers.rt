@@ -6,7 +6,7 @@ ghost use lib.ListN.{length};
 ghost use Rattle.cluster.specs.Config.{shelf};
 ghost use Rattle.cluster.specs.Ranges.{topFaults, topLength, contentRoom, mostServers};
 ghost use Rattle.protocol.specs.declared.Taken.the-variants as taken;
-ghost use Rattle.protocol.specs.ServerBytes.{over};
+ghost use Rattle.format.specs.Reading.{over};
 ghost use Rattle.protocol.specs.ClientBytes.{fresh};
 ghost use Rattle.client.specs.Rounds.{noted, ends, withTally};
 use crate::kept;

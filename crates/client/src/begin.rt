@@ -4,8 +4,9 @@ ghost use Prim.Native.Nat.{suc, _≤_, _+_, _*_};
 ghost use lib.ListN.{length, replicate};
 ghost use Rattle.cluster.specs.Ranges.{topLength, topNumber, mostServers};
 ghost use Rattle.protocol.specs.Values.{nonceSize};
-ghost use Rattle.protocol.specs.View.{nonceAt, candidatesAt, candidateSlot, keptSize};
-ghost use Rattle.protocol.specs.ClientBytes.{put, fresh, beginWrite, beginRead, giveUp};
+ghost use Rattle.protocol.specs.View.{noncePlace, candidatesPlace, candidateSlot, keptSize};
+ghost use Rattle.protocol.specs.ClientBytes.{fresh, beginWrite, beginRead, giveUp};
+ghost use Rattle.format.specs.Reading.{put};
 ghost use Rattle.client.specs.Answers.{stopped, started};
 ghost use Rattle.client.specs.Core.{coreWrite, coreRead};
 use crate::kept;
@@ -32,7 +33,7 @@ pub fn give_up_in(call: protocol::Call, t: usize, client: usize) -> Stopped
         };
     }
     let c = rounds::with_tally(call, rounds::fresh_tally(0));
-    if round == 3 {
+    if round == protocol::rounds::COMPLETE {
         return Stopped {
             taken: protocol::Aborted::InComplete,
             call: c,
@@ -91,7 +92,7 @@ fn next_call(call: protocol::Call, high: u32, length: u16, round: u8) -> Started
 // The content and the nonce of a write, into the kept bytes.
 fn keep_write(kept: &mut [u8], content: &[u8], nonce: &[u8])
     requires { ⌜ (length (now kept) ≡ keptSize) × ((length (now content) ≤ topLength) × (length (now nonce) ≡ nonceSize)) ⌝ }
-    ensures { λ _. ⌜ now (kept .exit) ≡ put (put (now (kept .entry)) 0 (now (content .entry))) nonceAt (now (nonce .entry)) ⌝ }
+    ensures { λ _. ⌜ now (kept .exit) ≡ put (put (now (kept .entry)) 0 (now (content .entry))) noncePlace (now (nonce .entry)) ⌝ }
 {
     kept::write_at(kept, 0, content);
     kept::write_at(kept, wire::kept::NONCE, nonce);
@@ -117,7 +118,12 @@ pub fn begin_write_in(
         return not_begun(n, call);
     }
     keep_write(kept, content, nonce);
-    next_call(call, call.last, content.len() as u16, 1)
+    next_call(
+        call,
+        call.last,
+        content.len() as u16,
+        protocol::rounds::CLOCK,
+    )
 }
 
 // The call goes on by value, the kept bytes by their array.
@@ -138,7 +144,7 @@ pub(crate) fn write_by_value(
 // Every candidate's slot becomes blank.
 fn clear_slots(kept: &mut [u8])
     requires { ⌜ length (now kept) ≡ keptSize ⌝ }
-    ensures { λ _. ⌜ now (kept .exit) ≡ put (now (kept .entry)) candidatesAt (replicate (candidateSlot * mostServers) 0) ⌝ }
+    ensures { λ _. ⌜ now (kept .exit) ≡ put (now (kept .entry)) candidatesPlace (replicate (candidateSlot * mostServers) 0) ⌝ }
 {
     let zeros = [0u8; wire::kept::CANDIDATE_SLOT * cluster::MOST_SERVERS];
     kept::write_at(kept, wire::kept::CANDIDATES, &zeros);
@@ -156,7 +162,7 @@ pub fn begin_read_in(call: protocol::Call, kept: &mut [u8], t: usize, client: us
         return not_begun(n, call);
     }
     clear_slots(kept);
-    next_call(call, call.high, call.length, 4)
+    next_call(call, call.high, call.length, protocol::rounds::COLLECT)
 }
 
 pub(crate) fn read_by_value(

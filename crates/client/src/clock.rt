@@ -31,7 +31,7 @@ fn enter_store(call: protocol::Call, high: u32) -> protocol::Call
     requires { ⌜ high < topNumber ⌝ }
     ensures { λ r. ⌜ r ≡ record { number = call .number; last = suc high; high = call .high; length = call .length; tally = fresh 2 } ⌝ }
 {
-    let tally = rounds::fresh_tally(2);
+    let tally = rounds::fresh_tally(protocol::rounds::STORE);
     protocol::Call {
         number: call.number,
         last: high + 1,
@@ -56,10 +56,10 @@ fn clock_refusal(ends: bool, high: u32, room: usize) -> u8
     ensures { λ r. ⌜ r ≡ firstOf (refuse 14 (ends && leb topNumber high) ∷ refuse 15 (ltb room contentRoom) ∷ []) ⌝ }
 {
     if is_over(ends, high) {
-        return 14;
+        return cluster::refusals::NUMBERS;
     }
     if room < cluster::CONTENT_ROOM {
-        return 15;
+        return cluster::refusals::ROOM;
     }
     0
 }

@@ -7,8 +7,8 @@ ghost use Rattle.cluster.specs.Config.{shelf};
 ghost use Rattle.cluster.specs.Ranges.{topFaults, topLength, mostServers, contentRoom};
 ghost use Rattle.protocol.specs.declared.Taken.the-variants as taken;
 ghost use Rattle.protocol.specs.Values.{labelOf};
-ghost use Rattle.protocol.specs.View.{keptSize, chosenAt, candidateSlot, candidatesIn, repliesAt, replySlot};
-ghost use Rattle.protocol.specs.ClientBytes.{put};
+ghost use Rattle.protocol.specs.View.{keptSize, chosenPlace, candidateSlot, candidatesIn, repliesPlace, replySlot};
+ghost use Rattle.format.specs.Reading.{put};
 ghost use Rattle.client.specs.Answers.{answered};
 ghost use Rattle.client.specs.Steps.{Ready, TakesAs};
 ghost use Rattle.client.specs.Filter.{tagsPlace, repairBytes, repairCall, foundAt, judgedIn};
@@ -20,7 +20,7 @@ use crate::rounds;
 // The reply's body at its server's slot.
 fn put_reply(kept: &mut [u8], server: usize, body: &[u8])
     requires { ⌜ (1 ≤ server) × ((server ≤ mostServers) × ((length (now kept) ≡ keptSize) × (length (now body) ≤ replySlot))) ⌝ }
-    ensures { λ _. ⌜ now (kept .exit) ≡ put (now (kept .entry)) (repliesAt + replySlot * (server - 1)) (now (body .entry)) ⌝ }
+    ensures { λ _. ⌜ now (kept .exit) ≡ put (now (kept .entry)) (repliesPlace + replySlot * (server - 1)) (now (body .entry)) ⌝ }
 {
     kept::write_at(
         kept,
@@ -64,7 +64,7 @@ fn repairing(call: protocol::Call, n: u16) -> Answered
 {
     let mut c = call;
     c.length = n;
-    answers::more(answers::enter(c, 6))
+    answers::more(answers::enter(c, protocol::rounds::REPAIR))
 }
 
 // Line 155. Amended: the content waits, and the candidate has the tags of the proven group.
@@ -78,7 +78,7 @@ fn repair_with(
 ) -> Answered
     requires { ⌜ (t ≤ topFaults) × ((i < mostServers) × ((1 ≤ b) × ((b ≤ mostServers) × ((length (now kept) ≡ keptSize) × (length (now content) ≤ topLength))))) ⌝ }
     ensures { λ r. ⌜ (r ≡ record { taken = taken.More; call = repairCall call (length (now (content .entry))) })
-        × (now (kept .exit) ≡ put (put (now (kept .entry)) 0 (now (content .entry))) chosenAt (repairBytes t (now (kept .entry)) i b (length (now (content .entry))))) ⌝ }
+        × (now (kept .exit) ≡ put (put (now (kept .entry)) 0 (now (content .entry))) chosenPlace (repairBytes t (now (kept .entry)) i b (length (now (content .entry))))) ⌝ }
 {
     let mut bytes = [0u8; wire::kept::CANDIDATE_SLOT];
     put_repair(&mut bytes, kept, t, i, b, content.len());

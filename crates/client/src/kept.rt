@@ -8,7 +8,7 @@ ghost use Rattle.cluster.specs.Config.{shelf};
 ghost use Rattle.cluster.specs.Ranges.{topLength};
 ghost use Rattle.protocol.specs.Values.{labelOf};
 ghost use Rattle.protocol.specs.View.{keptSize, stampAt, chosenOf, contentOf, nonceOf};
-ghost use Rattle.protocol.specs.ClientBytes.{put};
+ghost use Rattle.format.specs.Reading.{put};
 
 // The bytes at a place where there is room for them.
 pub(crate) fn write_at(kept: &mut [u8], at: usize, bytes: &[u8])

@@ -106,13 +106,13 @@ fn make_plain(
     let tally = call.tally;
     let round = tally.round;
     let head = head_of(call, 2 * round - 1, t, client, server);
-    if round == 2 {
+    if round == protocol::rounds::STORE {
         return make_store(head, kept, t, server, out);
     }
-    if round == 3 {
+    if round == protocol::rounds::COMPLETE {
         return make_chosen(head, kept, t, out);
     }
-    if round == 6 {
+    if round == protocol::rounds::REPAIR {
         return make_chosen(head, kept, t, out);
     }
     make_empty(head, out)
@@ -148,8 +148,13 @@ fn make_round(
 {
     let tally = call.tally;
     let round = tally.round;
-    if round == 5 {
-        return make_filter(head_of(call, 9, t, client, server), kept, t, out);
+    if round == protocol::rounds::FILTER {
+        return make_filter(
+            head_of(call, protocol::kinds::FILTER, t, client, server),
+            kept,
+            t,
+            out,
+        );
     }
     make_plain(call, kept, t, client, server, out)
 }

@@ -6,9 +6,9 @@ ghost use lib.ListN.{length};
 ghost use Rattle.cluster.specs.Config.{shelf};
 ghost use Rattle.cluster.specs.Ranges.{topFaults, mostServers, contentRoom};
 ghost use Rattle.protocol.specs.declared.Taken.the-variants as taken;
-ghost use Rattle.protocol.specs.ServerBytes.{over};
-ghost use Rattle.protocol.specs.View.{keptSize, candidatesAt, candidateSlot, chosenOf, contentOf};
-ghost use Rattle.protocol.specs.ClientBytes.{put, fresh};
+ghost use Rattle.format.specs.Reading.{over, put};
+ghost use Rattle.protocol.specs.View.{keptSize, candidatesPlace, candidateSlot, chosenOf, contentOf};
+ghost use Rattle.protocol.specs.ClientBytes.{fresh};
 ghost use Rattle.client.specs.Answers.{readAs};
 ghost use Rattle.client.specs.Rounds.{noted, ends, withTally};
 use crate::answers;
@@ -26,14 +26,14 @@ pub(crate) fn take_collect(
 ) -> Answered
     requires { ⌜ (t ≤ topFaults) × ((1 ≤ server) × ((server ≤ mostServers) × ((length (now kept) ≡ keptSize) × (length (now body) ≤ candidateSlot)))) ⌝ }
     ensures { λ r. ⌜ (r ≡ record { taken = taken.More; call = withTally call (cond (ends (shelf t) call server) (fresh 5) (noted (shelf t) (call .tally) server)) })
-        × (now (kept .exit) ≡ put (now (kept .entry)) (candidatesAt + candidateSlot * (server - 1)) (now (body .entry))) ⌝ }
+        × (now (kept .exit) ≡ put (now (kept .entry)) (candidatesPlace + candidateSlot * (server - 1)) (now (body .entry))) ⌝ }
 {
     kept::write_at(
         kept,
         wire::kept::CANDIDATES + wire::kept::CANDIDATE_SLOT * (server - 1),
         body,
     );
-    answers::step(call, t, server, 5)
+    answers::step(call, t, server, protocol::rounds::FILTER)
 }
 
 // Line 159.

@@ -44,19 +44,19 @@ pub(crate) fn write_refusal(t: usize, client: usize, n: usize, call: protocol::C
     ensures { λ r. ⌜ r ≡ writeRefusal (shelf t) client n (inHand call) (call .number) ⌝ }
 {
     if cluster::outside(1, cluster::TOP_FAULTS, t) {
-        return 3;
+        return cluster::refusals::FAULTS;
     }
     if cluster::outside(1, cluster::TOP_WRITER, client) {
-        return 5;
+        return cluster::refusals::CLIENT;
     }
     if cluster::outside(cluster::LEAST_LENGTH, cluster::TOP_LENGTH, n) {
-        return 6;
+        return cluster::refusals::LENGTH;
     }
     if is_pending(call) {
-        return 13;
+        return cluster::refusals::HAND;
     }
     if cluster::TOP_NUMBER <= call.number as usize {
-        return 14;
+        return cluster::refusals::NUMBERS;
     }
     0
 }
@@ -65,16 +65,16 @@ pub(crate) fn read_refusal(t: usize, client: usize, call: protocol::Call) -> u8
     ensures { λ r. ⌜ r ≡ readRefusal (shelf t) client (inHand call) (call .number) ⌝ }
 {
     if cluster::outside(1, cluster::TOP_FAULTS, t) {
-        return 3;
+        return cluster::refusals::FAULTS;
     }
     if cluster::outside(1, cluster::TOP_CLIENT, client) {
-        return 5;
+        return cluster::refusals::CLIENT;
     }
     if is_pending(call) {
-        return 13;
+        return cluster::refusals::HAND;
     }
     if cluster::TOP_NUMBER <= call.number as usize {
-        return 14;
+        return cluster::refusals::NUMBERS;
     }
     0
 }
@@ -93,19 +93,19 @@ pub fn make_refusal(t: usize, client: usize, server: usize, call: protocol::Call
 {
     let kind = awaited_kind(call);
     if cluster::outside(1, cluster::TOP_FAULTS, t) {
-        return 3;
+        return cluster::refusals::FAULTS;
     }
     if cluster::outside(1, servers(t), server) {
-        return 4;
+        return cluster::refusals::SERVER;
     }
     if bad_client(kind, client) {
-        return 5;
+        return cluster::refusals::CLIENT;
     }
     if kind == 0 {
-        return 13;
+        return cluster::refusals::HAND;
     }
     if room < cluster::PACKET_ROOM {
-        return 15;
+        return cluster::refusals::ROOM;
     }
     0
 }
@@ -115,13 +115,13 @@ pub(crate) fn abort_refusal(t: usize, client: usize, call: protocol::Call) -> u8
 {
     let kind = awaited_kind(call);
     if cluster::outside(1, cluster::TOP_FAULTS, t) {
-        return 3;
+        return cluster::refusals::FAULTS;
     }
     if bad_client(kind, client) {
-        return 5;
+        return cluster::refusals::CLIENT;
     }
     if kind == 0 {
-        return 13;
+        return cluster::refusals::HAND;
     }
     0
 }

@@ -55,14 +55,14 @@ pub(crate) fn reply_refusal(
     ensures { λ r. ⌜ r ≡ replyRefusal t client call head ⌝ }
 {
     if is_foreign(head, t, client) {
-        return 8;
+        return cluster::refusals::ADDRESSEE;
     }
     let kind = refusals::awaited_kind(call);
     if kind == 0 {
-        return 13;
+        return cluster::refusals::HAND;
     }
     if is_other(head, call, kind) {
-        return 12;
+        return cluster::refusals::REPLY;
     }
     0
 }

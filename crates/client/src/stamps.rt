@@ -10,7 +10,7 @@ ghost use Rattle.protocol.specs.Values.{stampSize};
 ghost use Rattle.protocol.specs.Primitives.{real, stampMessage};
 ghost use Rattle.protocol.specs.Client.{higher};
 ghost use Rattle.protocol.specs.View.{stampAt};
-ghost use Rattle.protocol.specs.ClientBytes.{put};
+ghost use Rattle.format.specs.Reading.{put};
 ghost use Rattle.client.specs.Steps.{tagRun};
 use crate::kept;
 use crate::refusals;

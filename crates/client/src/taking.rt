@@ -39,7 +39,7 @@ fn take_write_round(
     let tally = call.tally;
     let round = tally.round;
     let server = head.server as usize;
-    if round == 2 {
+    if round == protocol::rounds::STORE {
         return writes::take_store(
             call,
             t,
@@ -67,7 +67,7 @@ fn take_read_round(
     let tally = call.tally;
     let round = tally.round;
     let server = head.server as usize;
-    if round == 4 {
+    if round == protocol::rounds::COLLECT {
         return reads::take_collect(
             call,
             kept,
@@ -76,7 +76,7 @@ fn take_read_round(
             wire::bytes::rest(reply, wire::sizes::HEAD),
         );
     }
-    if round == 5 {
+    if round == protocol::rounds::FILTER {
         return filter::take_filter(call, kept, t, client, head, reply, out);
     }
     reads::take_repair(call, kept, t, server, out)
@@ -99,11 +99,11 @@ fn take_round(
 {
     let tally = call.tally;
     let round = tally.round;
-    if round == 1 {
+    if round == protocol::rounds::CLOCK {
         return clock::take_clock(call, kept, t, client, writers, keys, head, reply, out.len());
     }
     if out.len() < cluster::CONTENT_ROOM {
-        return answers::refused(15, call);
+        return answers::refused(cluster::refusals::ROOM, call);
     }
     if round < 4 {
         return take_write_round(call, kept, t, client, head, reply);
@@ -126,7 +126,7 @@ fn take_reply(
     ensures { λ r. ⌜ TakesAs t client (now (writers .entry)) (now (keys .entry)) call (now (kept .entry)) (now (reply .entry)) (now (out .entry)) r (now (kept .exit)) (now (out .exit)) ⌝ }
 {
     let wire::packet::PacketRead::Value(head) = wire::packet::read_packet(reply) else {
-        return answers::refused(7, call);
+        return answers::refused(cluster::refusals::LAYOUT, call);
     };
     let n = replies::reply_refusal(head, call, t, client);
     if n != 0 {
@@ -153,10 +153,10 @@ pub fn take_in(
         return answers::refused(cluster::WRONG_SIZE, call);
     }
     if cluster::outside(1, cluster::TOP_FAULTS, t) {
-        return answers::refused(3, call);
+        return answers::refused(cluster::refusals::FAULTS, call);
     }
     if refusals::bad_client(refusals::awaited_kind(call), client) {
-        return answers::refused(5, call);
+        return answers::refused(cluster::refusals::CLIENT, call);
     }
     take_reply(call, kept, t, client, writers, keys, reply, out)
 }

@@ -27,7 +27,7 @@ pub(crate) fn take_store(call: protocol::Call, t: usize, server: usize, code: u8
     if code == 11 {
         return answers::more(rounds::with_tally(call, rounds::recount(t, call.tally)));
     }
-    answers::step(call, t, server, 3)
+    answers::step(call, t, server, protocol::rounds::COMPLETE)
 }
 
 // Line 108.

@@ -13,7 +13,7 @@ pub record Config : Type 0 where
   -- S: how many servers there are, numbered from 1
   pub servers : ℕ
   -- k: how many fragments give a content back
-  pub shares : ℕ
+  pub threshold : ℕ
   -- the point of each server, a byte; those of servers 1 to k belong to the plain runs of a content
   pub points : List ℕ
 
@@ -24,7 +24,7 @@ upTo (suc n) = upTo n ++ (suc n ∷ [])
 
 -- document 01's shelf: S = 3t+1, k = t+1, and server i has the point i
 unfoldable pub shelf : ℕ → Config
-shelf t = record { t = t; servers = 3 * t + 1; shares = t + 1; points = upTo (3 * t + 1) }
+shelf t = record { t = t; servers = 3 * t + 1; threshold = t + 1; points = upTo (3 * t + 1) }
 
 -- how many replies end a round: S - t, which is document 01's 2t+1
 unfoldable pub quorum : Config → ℕ
@@ -38,8 +38,8 @@ pointOf points i = getD points (i - 1) 0
 pub record Legal (s : Config) : Type 0 where
   pub faulty : 1 ≤ s .t
   pub most : 3 * s .t + 1 ≤ s .servers
-  pub restores : s .t + 1 ≤ s .shares
-  pub covered : s .shares + 2 * s .t ≤ s .servers
+  pub restores : s .t + 1 ≤ s .threshold
+  pub covered : s .threshold + 2 * s .t ≤ s .servers
   pub few : s .servers ≤ mostServers
   pub table : length (s .points) ≡ s .servers
   pub bytes : (i : ℕ) → getD (s .points) i 0 < 256

@@ -4,6 +4,8 @@ ghost use mathlib.Core.Bool.{not};
 ghost use Rattle.cluster.specs.Config.{shelf};
 ghost use Rattle.cluster.specs.Ranges.{within};
 
+pub mod refusals; // refusals by name
+
 // The largest t, and the most servers that a shelf can have.
 pub const TOP_FAULTS: usize = 4;
 
@@ -59,8 +61,8 @@ pub fn servers(t: u8) -> usize
 }
 
 // k: how many fragments give a content back.
-pub fn shares(t: u8) -> usize
-    ensures { λ r. ⌜ r ≡ shelf t .shares ⌝ }
+pub fn threshold(t: u8) -> usize
+    ensures { λ r. ⌜ r ≡ shelf t .threshold ⌝ }
 {
     (t as usize) + 1
 }

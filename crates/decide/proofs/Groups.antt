@@ -18,7 +18,8 @@ use Rattle.sha256.specs.Sha256.{sha256}
 use Rattle.protocol.specs.Values.{Candidate, Share, Held, sameList, sameStamp, nth, stampSize, digestSize}
 use Rattle.protocol.specs.Primitives.{real}
 use Rattle.protocol.specs.Rules.{countTo, shareFits, fits, sameShare, agrees, leads, leader}
-use Rattle.protocol.specs.View.{part, shareOfSize, heldAt, marked, candidatesIn, repliesIn, replySlotOf}
+use Rattle.protocol.specs.View.{shareOfSize, heldAt, marked, candidatesIn, repliesIn, replySlotOf}
+use Rattle.format.specs.Reading.{bytesAt}
 use Rattle.protocol.proofs.Equal.{same-refl}
 use Rattle.decide.specs.Steps.{namesShare, names, intact, serversOf, fitsAt, agreesAt, leadsAt, leaderAt, slotHeld, Full, membersAt}
 use Rattle.decide.proofs.Counted.{servers-length}
@@ -35,7 +36,7 @@ module _ (s : Config) (c : Candidate) (d : List ℕ) (e : d ≡ sha256 (c .nonce
   share-fits i none = refl
   share-fits i (some h) =
       rw e (sym (and-assoc (within leastLength topLength (h .size)) (sameList (h .nonceDigest) (sha256 (c .nonce)))
-      (sameList (sha256 (h .part)) (nth digestSize (h .digests) i))))
+      (sameList (sha256 (h .fragment)) (nth digestSize (h .digests) i))))
 
   pub fits-in : (i : ℕ) (x : Held) → (sameStamp (x .stamp) (c .stamp) && shareFits real s c i (x .share)) ≡ (names c d x && intact i (x .share))
   unfolding names
@@ -127,13 +128,13 @@ module _ (t : ℕ) (ms kept : List ℕ) (i : ℕ) where
         (same-share-self (shareOfSize (shelf t) (sizeIn (replySlotOf kept b)) (drop (stampSize + 1) (replySlotOf kept b))))
 
   -- what agreeing tells: a mark, a share, and the leader's length
-  pub member-shares : (d : List ℕ) (e : d ≡ sha256 (candidatesIn (shelf t) kept (suc i) .nonce)) (b : ℕ) (small : b < mostServers)
+  pub member-threshold : (d : List ℕ) (e : d ≡ sha256 (candidatesIn (shelf t) kept (suc i) .nonce)) (b : ℕ) (small : b < mostServers)
       (fit : fitsAt t ms kept i b ≡ true) (j : ℕ) → j < mostServers
       → agreesAt t ms kept i b (suc j) ≡ true
       → (marked ms (suc j) ≡ true) × (eqb (getD (replySlotOf kept j) stampSize 0) 0 ≡ false) ×
       (sizeIn (replySlotOf kept j) ≡ sizeIn (replySlotOf kept b))
   unfolding slotHeld
-  member-shares d e b small fit j l h =
+  member-threshold d e b small fit j l h =
       let k = and-both (fitsAt t ms kept i j) (sameShare real (shelf t) (repliesIn (shelf t) ms kept (suc b) .share)
       (repliesIn (shelf t) ms kept (suc j) .share)) (sym (agrees-fits b j) ∙ h) in
       let w = fits-named d e j l (k .0) in
@@ -166,38 +167,38 @@ module _ (t : ℕ) (ms kept : List ℕ) (i : ℕ) where
   unfolding leadsAt leads fitsAt
   leads-unfit b h = rw h
 
-  members-length : (b : ℕ) → length (membersAt t ms kept i b) ≡ min (shelf t .shares) (countTo (shelf t .servers) (agreesAt t ms kept i b))
+  members-length : (b : ℕ) → length (membersAt t ms kept i b) ≡ min (shelf t .threshold) (countTo (shelf t .servers) (agreesAt t ms kept i b))
   unfolding membersAt
   members-length b =
-      length-take (shelf t .shares) (serversOf (shelf t .servers) (agreesAt t ms kept i b))
-      ∙ ap (min (shelf t .shares)) (servers-length (shelf t .servers) (agreesAt t ms kept i b))
+      length-take (shelf t .threshold) (serversOf (shelf t .servers) (agreesAt t ms kept i b))
+      ∙ ap (min (shelf t .threshold)) (servers-length (shelf t .servers) (agreesAt t ms kept i b))
 
-  pub members-most : (b : ℕ) → length (membersAt t ms kept i b) ≤ shelf t .shares
+  pub members-most : (b : ℕ) → length (membersAt t ms kept i b) ≤ shelf t .threshold
   members-most b = omega (arith, members-length b)
 
-  leads-count : (b : ℕ) → fitsAt t ms kept i b ≡ true → leadsAt t ms kept i b ≡ leb (shelf t .shares)
+  leads-count : (b : ℕ) → fitsAt t ms kept i b ≡ true → leadsAt t ms kept i b ≡ leb (shelf t .threshold)
       (countTo (shelf t .servers) (agreesAt t ms kept i b))
   unfolding leadsAt leads fitsAt agreesAt
   leads-count b h = rw h
 
-  pub leads-few : (b : ℕ) → fitsAt t ms kept i b ≡ true → length (membersAt t ms kept i b) < shelf t .shares → leadsAt t ms kept i b ≡ false
-  leads-few b h l = leads-count b h ∙ lt-leb (shelf t .shares) (countTo (shelf t .servers) (agreesAt t ms kept i b)) (omega (arith, members-length b))
+  pub leads-few : (b : ℕ) → fitsAt t ms kept i b ≡ true → length (membersAt t ms kept i b) < shelf t .threshold → leadsAt t ms kept i b ≡ false
+  leads-few b h l = leads-count b h ∙ lt-leb (shelf t .threshold) (countTo (shelf t .servers) (agreesAt t ms kept i b)) (omega (arith, members-length b))
 
-  pub leads-enough : (b : ℕ) → fitsAt t ms kept i b ≡ true → shelf t .shares ≤ length (membersAt t ms kept i b) → leadsAt t ms kept i b ≡ true
-  leads-enough b h l = leads-count b h ∙ le-leb (shelf t .shares) (countTo (shelf t .servers) (agreesAt t ms kept i b))
+  pub leads-enough : (b : ℕ) → fitsAt t ms kept i b ≡ true → shelf t .threshold ≤ length (membersAt t ms kept i b) → leadsAt t ms kept i b ≡ true
+  leads-enough b h l = leads-count b h ∙ le-leb (shelf t .threshold) (countTo (shelf t .servers) (agreesAt t ms kept i b))
       (omega (arith, members-length b))
 
   pub leads-fits : (b : ℕ) → leadsAt t ms kept i b ≡ true → (fitsAt t ms kept i b ≡ true) ×
-      (shelf t .shares ≤ length (serversOf (shelf t .servers) (agreesAt t ms kept i b)))
+      (shelf t .threshold ≤ length (serversOf (shelf t .servers) (agreesAt t ms kept i b)))
   unfolding leadsAt leads fitsAt agreesAt
   leads-fits b h =
       let k = and-both (fits real (shelf t) (marked ms) (repliesIn (shelf t) ms kept) (candidatesIn (shelf t) kept (suc i)) (suc b))
-      (leb (shelf t .shares) (countTo (shelf t .servers) (agrees real (shelf t) (marked ms) (repliesIn (shelf t) ms kept)
+      (leb (shelf t .threshold) (countTo (shelf t .servers) (agrees real (shelf t) (marked ms) (repliesIn (shelf t) ms kept)
       (candidatesIn (shelf t) kept (suc i)) (suc b)))) h in (
         k .0,
         omega (
           arith,
-          leb-true (shelf t .shares) (countTo (shelf t .servers) (agrees real (shelf t) (marked ms) (repliesIn (shelf t) ms kept)
+          leb-true (shelf t .threshold) (countTo (shelf t .servers) (agrees real (shelf t) (marked ms) (repliesIn (shelf t) ms kept)
               (candidatesIn (shelf t) kept (suc i)) (suc b))) (k .1),
           servers-length (shelf t .servers) (agrees real (shelf t) (marked ms) (repliesIn (shelf t) ms kept) (candidatesIn (shelf t) kept (suc i))
               (suc b)),

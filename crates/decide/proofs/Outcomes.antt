@@ -13,18 +13,18 @@ use Rattle.cluster.specs.Config.{shelf}
 use Rattle.cluster.specs.Ranges.{mostServers}
 use Rattle.cluster.proofs.Tests.{refused-is}
 use Rattle.sha256.specs.Sha256.{sha256}
-use Rattle.protocol.specs.Format.{Bytes}
+use Rattle.format.specs.Format.{Bytes}
 use Rattle.protocol.specs.Values.{Candidate}
 use Rattle.protocol.specs.Primitives.{real}
 use Rattle.protocol.specs.Rules.{any, first, gather, live, leader, proven, choice, restoredBy}
-use Rattle.protocol.specs.ServerBytes.{over}
+use Rattle.format.specs.Reading.{over}
 use Rattle.protocol.specs.View.{marked, candidatesIn, repliesIn, replySlotOf}
 use Rattle.protocol.specs.Packet.{shareSize}
 use Rattle.protocol.proofs.Room.{shelf-fits}
 use Rattle.decide.specs.declared.leading.Choice.{Choice}
 use Rattle.decide.specs.Decided.{slotOf, decidedOn, decideRefusal, decided}
 use Rattle.decide.specs.declared.Decision.the-variants as decisions
-use Rattle.decide.specs.Steps.{Usable, blankRank, serversOf, fitsAt, agreesAt, leadsAt, leaderAt, topAt, Full, membersAt, chosenAt, Hit, contentOf, Rising}
+use Rattle.decide.specs.Steps.{Usable, blankRank, serversOf, fitsAt, agreesAt, leadsAt, leaderAt, topAt, Full, membersAt, chosenPlace, Hit, contentOf, Rising}
 use Rattle.decide.proofs.Contents.{restored-members}
 use Rattle.decide.proofs.Ranks.{candidate-writer, reply-writer}
 use Rattle.decide.proofs.Groups.{leader-full, leads-fits, leader-leads}
@@ -41,7 +41,7 @@ module _ (t : ℕ) (marks kept : List ℕ) (u : Usable t kept) (key : ℕ) (r : 
   led = leader-leads t marks kept (r .slot) (shelf t .servers) b (k .leader)
 
   -- the leader's reply fits
-  hit-fits : (fitsAt t marks kept (r .slot) b ≡ true) × (shelf t .shares ≤ length (serversOf (shelf t .servers) (agreesAt t marks kept (r .slot) b)))
+  hit-fits : (fitsAt t marks kept (r .slot) b ≡ true) × (shelf t .threshold ≤ length (serversOf (shelf t .servers) (agreesAt t marks kept (r .slot) b)))
   hit-fits = leads-fits t marks kept (r .slot) b (led .0)
 
   pub hit-small : b < mostServers
@@ -55,7 +55,7 @@ module _ (t : ℕ) (marks kept : List ℕ) (u : Usable t kept) (key : ℕ) (r : 
 
   hit-content : restoredBy real (shelf t) (marked marks) (repliesIn (shelf t) marks kept) (candidatesIn (shelf t) kept (suc (r .slot))) (suc b)
       (repliesIn (shelf t) marks kept (suc b) .share)
-      ≡ contentOf t kept b (take (shelf t .shares) (r .servers))
+      ≡ contentOf t kept b (take (shelf t .threshold) (r .servers))
   unfolding shareSize
   hit-content =
       let f = shelf-fits t (u .low) (u .high) in
@@ -100,8 +100,8 @@ module _ (t : ℕ) (marks kept output : List ℕ) where
     -- the choice is what was looked for
     choice-is : blankRank < topAt t marks kept (shelf t .servers)
         → choice real (shelf t) (marked marks) (repliesIn (shelf t) marks kept) (gather (candidatesIn (shelf t) kept) (shelf t .servers))
-        ≡ chosenAt t marks kept (topAt t marks kept (shelf t .servers)) (shelf t .servers)
-    unfolding topAt choice chosenAt
+        ≡ chosenPlace t marks kept (topAt t marks kept (shelf t .servers)) (shelf t .servers)
+    unfolding topAt choice chosenPlace
     choice-is h =
         ap (first (proven real (shelf t) (marked marks) (repliesIn (shelf t) marks kept)))
         (highest-top (shelf t) (marked marks) (repliesIn (shelf t) marks kept) (candidatesIn (shelf t) kept) writers repliers h)
@@ -116,7 +116,7 @@ module _ (t : ℕ) (marks kept output : List ℕ) where
     by-choice (x ∷ xs) (some c) h y = refl
 
     chosen-on : blankRank < topAt t marks kept (shelf t .servers) → (o : Option Candidate)
-        → chosenAt t marks kept (topAt t marks kept (shelf t .servers)) (shelf t .servers) ≡ o
+        → chosenPlace t marks kept (topAt t marks kept (shelf t .servers)) (shelf t .servers) ≡ o
         → decided t marks kept output
         ≡ decidedOn (shelf t) (marked marks) (repliesIn (shelf t) marks kept) (candidatesIn (shelf t) kept) output
         (candidatesIn (shelf t) kept 0 ∷ []) o
@@ -129,7 +129,7 @@ module _ (t : ℕ) (marks kept output : List ℕ) where
         ∙ ap (decidedOn (shelf t) (marked marks) (repliesIn (shelf t) marks kept) (candidatesIn (shelf t) kept) output
         (candidatesIn (shelf t) kept 0 ∷ [])) (choice-is h ∙ q)
 
-    pub decided-none : blankRank < topAt t marks kept (shelf t .servers) → chosenAt t marks kept (topAt t marks kept (shelf t .servers))
+    pub decided-none : blankRank < topAt t marks kept (shelf t .servers) → chosenPlace t marks kept (topAt t marks kept (shelf t .servers))
         (shelf t .servers) ≡ none
         → decided t marks kept output ≡ record { answer = decisions.Wait; output = output }
     unfolding decidedOn
@@ -139,8 +139,8 @@ module _ (t : ℕ) (marks kept output : List ℕ) where
         → Hit t marks kept (topAt t marks kept (shelf t .servers)) r b
         → decided t marks kept output
         ≡ record {
-          answer = decisions.Found (r .slot) (suc b) (length (contentOf t kept b (take (shelf t .shares) (r .servers))));
-          output = over (contentOf t kept b (take (shelf t .shares) (r .servers))) output;
+          answer = decisions.Found (r .slot) (suc b) (length (contentOf t kept b (take (shelf t .threshold) (r .servers))));
+          output = over (contentOf t kept b (take (shelf t .threshold) (r .servers))) output;
         }
     unfolding decidedOn leaderAt
     decided-found u r b h k =

@@ -15,11 +15,12 @@ use Rattle.cluster.specs.Ranges.{within, leastLength, topLength, mostServers}
 use Rattle.cluster.proofs.Tests.{and-both}
 use Rattle.sha256.specs.Sha256.{sha256}
 use Rattle.erasure.specs.Fragments.{fragmentSize}
-use Rattle.protocol.specs.Format.{value2}
+use Rattle.format.specs.Format.{value2}
 use Rattle.protocol.specs.Values.{Candidate, Share, sameList, sameStamp, nth, stampSize, digestSize, digestsSize, tagsSize}
 use Rattle.protocol.specs.Primitives.{real}
 use Rattle.protocol.specs.Rules.{sameShare}
-use Rattle.protocol.specs.View.{part, stampAt, candidateAt, shareOfSize, shareAt, heldAt, repliesAt, replySlot, replySlotOf, keptSize}
+use Rattle.protocol.specs.View.{stampAt, candidateAt, shareOfSize, shareAt, heldAt, repliesPlace, replySlot, replySlotOf, keptSize}
+use Rattle.format.specs.Reading.{bytesAt}
 use Rattle.decide.specs.Decided.{shareOf}
 use Rattle.decide.specs.Steps.{namesShare, names, intact, Full}
 use Rattle.decide.proofs.Places.{part-part, same-parts, part-of, part-length}
@@ -30,7 +31,7 @@ sizeIn d = value2 (getD d (stampSize + 1) 0) (getD d (stampSize + 2) 0)
 
 -- where the digests begin
 abbrev pub digestsIn : Config → List ℕ → ℕ
-digestsIn s d = stampSize + 3 + fragmentSize (s .shares) (sizeIn d)
+digestsIn s d = stampSize + 3 + fragmentSize (s .threshold) (sizeIn d)
 
 named-range : (x : List ℕ) (h : Share) → namesShare x (some h) ≡ true → (leastLength ≤ h .size) × (h .size ≤ topLength)
 named-range x h e =
@@ -39,15 +40,15 @@ named-range x h e =
     (leb-true leastLength (h .size) (w .0), leb-true (h .size) topLength (w .1))
 
 -- an entry of a run within the slot
-pub nth-part : (d : List ℕ) (p n w j : ℕ) → w * j + w ≤ n → nth w (part d p n) (suc j) ≡ part d (p + w * j) w
-unfolding nth part
+pub nth-part : (d : List ℕ) (p n w j : ℕ) → w * j + w ≤ n → nth w (bytesAt d p n) (suc j) ≡ bytesAt d (p + w * j) w
+unfolding nth bytesAt
 nth-part d p n w j h =
     let e : suc j - 1 ≡ j = omega arith in
     ap (λ (k : ℕ). take w (drop (w * k) (take n (drop p d)))) e ∙ part-part d p n (w * j) w h
 
 module _ (s : Config) (d : List ℕ) where
-  body-part : (p q n : ℕ) → stampSize + 1 + p ≡ q → part (drop (stampSize + 1) d) p n ≡ part d q n
-  unfolding part
+  body-part : (p q n : ℕ) → stampSize + 1 + p ≡ q → bytesAt (drop (stampSize + 1) d) p n ≡ bytesAt d q n
+  unfolding bytesAt
   body-part p q n e = ap (take n) (drop-drop p (stampSize + 1) d ∙ ap (λ (k : ℕ). drop k d) e)
 
   pub held-share : eqb (getD d stampSize 0) 0 ≡ false → heldAt s d .share ≡ some (shareOfSize s (sizeIn d) (drop (stampSize + 1) d))
@@ -55,30 +56,30 @@ module _ (s : Config) (d : List ℕ) where
   held-share e = rw (e, getD-drop (stampSize + 1) d 0 0, getD-drop (stampSize + 1) d 1 0)
 
   module _ (n : ℕ) where
-    pub fragment-in : shareOfSize s n (drop (stampSize + 1) d) .part ≡ part d (stampSize + 3) (fragmentSize (s .shares) n)
+    pub fragment-in : shareOfSize s n (drop (stampSize + 1) d) .fragment ≡ bytesAt d (stampSize + 3) (fragmentSize (s .threshold) n)
     unfolding shareOfSize
-    fragment-in = body-part 2 (stampSize + 3) (fragmentSize (s .shares) n) refl
+    fragment-in = body-part 2 (stampSize + 3) (fragmentSize (s .threshold) n) refl
 
-    pub digests-in : shareOfSize s n (drop (stampSize + 1) d) .digests ≡ part d (stampSize + 3 + fragmentSize (s .shares) n) (digestsSize s)
+    pub digests-in : shareOfSize s n (drop (stampSize + 1) d) .digests ≡ bytesAt d (stampSize + 3 + fragmentSize (s .threshold) n) (digestsSize s)
     unfolding shareOfSize
-    digests-in = body-part (2 + fragmentSize (s .shares) n) (stampSize + 3 + fragmentSize (s .shares) n) (digestsSize s) (omega arith)
+    digests-in = body-part (2 + fragmentSize (s .threshold) n) (stampSize + 3 + fragmentSize (s .threshold) n) (digestsSize s) (omega arith)
 
-    pub nonce-digest-in : shareOfSize s n (drop (stampSize + 1) d) .nonceDigest ≡ part d (stampSize + 3 + fragmentSize (s .shares) n + digestsSize s)
+    pub nonce-digest-in : shareOfSize s n (drop (stampSize + 1) d) .nonceDigest ≡ bytesAt d (stampSize + 3 + fragmentSize (s .threshold) n + digestsSize s)
         digestSize
     unfolding shareOfSize
     nonce-digest-in =
-        body-part (2 + fragmentSize (s .shares) n + digestsSize s) (stampSize + 3 + fragmentSize (s .shares) n + digestsSize s) digestSize
+        body-part (2 + fragmentSize (s .threshold) n + digestsSize s) (stampSize + 3 + fragmentSize (s .threshold) n + digestsSize s) digestSize
         (omega arith)
 
-    pub tags-in : shareOfSize s n (drop (stampSize + 1) d) .tags ≡ part d (stampSize + 3 + fragmentSize (s .shares) n + digestsSize s + digestSize)
+    pub tags-in : shareOfSize s n (drop (stampSize + 1) d) .tags ≡ bytesAt d (stampSize + 3 + fragmentSize (s .threshold) n + digestsSize s + digestSize)
         (tagsSize s)
     unfolding shareOfSize
     tags-in =
-        body-part (2 + fragmentSize (s .shares) n + digestsSize s + digestSize) (stampSize + 3 + fragmentSize (s .shares) n + digestsSize s +
+        body-part (2 + fragmentSize (s .threshold) n + digestsSize s + digestSize) (stampSize + 3 + fragmentSize (s .threshold) n + digestsSize s +
         digestSize) (tagsSize s) (omega arith)
 
   -- the fragment as the reader of shares hands it out
-  pub fragment-handed : shareAt s (drop (stampSize + 1) d) .part ≡ part d (stampSize + 3) (fragmentSize (s .shares) (sizeIn d))
+  pub fragment-handed : shareAt s (drop (stampSize + 1) d) .fragment ≡ bytesAt d (stampSize + 3) (fragmentSize (s .threshold) (sizeIn d))
   unfolding shareAt
   fragment-handed = rw (getD-drop (stampSize + 1) d 0 0, getD-drop (stampSize + 1) d 1 0) (fragment-in (sizeIn d))
 
@@ -92,7 +93,7 @@ module _ (s : Config) (d : List ℕ) where
     names-some : eqb (getD d stampSize 0) 0 ≡ false
         → names (candidateAt s e) x (heldAt s d)
         ≡ (sameStamp (stampAt d) (stampAt e) && (within leastLength topLength (sizeIn d) && sameList
-        (part d (digestsIn s d + digestsSize s) digestSize) x))
+        (bytesAt d (digestsIn s d + digestsSize s) digestSize) x))
     unfolding names candidateAt
     names-some h =
         rw (held-share h)
@@ -112,7 +113,7 @@ module _ (s : Config) (d : List ℕ) where
     names-other h q = names-some h ∙ rw q
 
     pub names-last : Full d → sameStamp (stampAt d) (stampAt e) ≡ true
-        → names (candidateAt s e) x (heldAt s d) ≡ sameList (part d (digestsIn s d + digestsSize s) digestSize) x
+        → names (candidateAt s e) x (heldAt s d) ≡ sameList (bytesAt d (digestsIn s d + digestsSize s) digestSize) x
     names-last f q = names-some (f .flag) ∙ rw (q, le-leb leastLength (sizeIn d) (f .least), le-leb (sizeIn d) topLength (f .top))
 
   -- what naming tells of the slot
@@ -131,7 +132,7 @@ module _ (s : Config) (d : List ℕ) where
   -- ---- a fragment's own digest
   pub intact-in : Full d → (j : ℕ) → j < s .servers
       → intact (suc j) (heldAt s d .share)
-      ≡ sameList (sha256 (part d (stampSize + 3) (fragmentSize (s .shares) (sizeIn d)))) (part d (digestsIn s d + digestSize * j) digestSize)
+      ≡ sameList (sha256 (bytesAt d (stampSize + 3) (fragmentSize (s .threshold) (sizeIn d)))) (bytesAt d (digestsIn s d + digestSize * j) digestSize)
   intact-in f j h =
       rw (held-share (f .flag), fragment-in (sizeIn d), digests-in (sizeIn d), nth-part d (digestsIn s d) (digestsSize s) digestSize j (omega arith))
 
@@ -139,20 +140,20 @@ module _ (s : Config) (d : List ℕ) where
 
 -- as the code lends it
 abbrev pub lentSlot : List ℕ → ℕ → List ℕ
-lentSlot kept j = take (repliesAt + replySlot * j + replySlot - (repliesAt + replySlot * j)) (drop (repliesAt + replySlot * j) kept)
+lentSlot kept j = take (repliesPlace + replySlot * j + replySlot - (repliesPlace + replySlot * j)) (drop (repliesPlace + replySlot * j) kept)
 
 pub slot-lent : (kept : List ℕ) (j : ℕ) → lentSlot kept j ≡ replySlotOf kept j
 unfolding replySlotOf
-slot-lent kept j = part-of kept (repliesAt + replySlot * j) replySlot
+slot-lent kept j = part-of kept (repliesPlace + replySlot * j) replySlot
 
 pub lent-length : (kept : List ℕ) (j : ℕ) → length kept ≡ keptSize → j < mostServers → length (lentSlot kept j) ≡ replySlot
-lent-length kept j l h = ap length (part-of kept (repliesAt + replySlot * j) replySlot) ∙ part-length kept (repliesAt + replySlot * j) replySlot
+lent-length kept j l h = ap length (part-of kept (repliesPlace + replySlot * j) replySlot) ∙ part-length kept (repliesPlace + replySlot * j) replySlot
     (omega arith)
 
 -- a part of a slot, and the share in a slot
-pub slot-part : (kept : List ℕ) (j p n : ℕ) → p + n ≤ replySlot → part (replySlotOf kept j) p n ≡ part kept (repliesAt + replySlot * j + p) n
+pub slot-part : (kept : List ℕ) (j p n : ℕ) → p + n ≤ replySlot → bytesAt (replySlotOf kept j) p n ≡ bytesAt kept (repliesPlace + replySlot * j + p) n
 unfolding replySlotOf
-slot-part kept j p n h = part-part kept (repliesAt + replySlot * j) replySlot p n h
+slot-part kept j p n h = part-part kept (repliesPlace + replySlot * j) replySlot p n h
 
 pub share-in : (t : ℕ) (kept : List ℕ) (j : ℕ)
     → shareOf t kept (suc j) ≡ shareOfSize (shelf t) (sizeIn (replySlotOf kept j)) (drop (stampSize + 1) (replySlotOf kept j))
@@ -167,18 +168,18 @@ share-size t kept j = ap (λ (h : Share). h .size) (share-in t kept j)
 
 -- the tags of a reply in the kept bytes
 pub reply-tags : (t : ℕ) (kept : List ℕ) (j n at : ℕ) → n ≡ shareOf t kept (suc j) .size
-    → at ≡ repliesAt + replySlot * j + (stampSize + 3 + fragmentSize (shelf t .shares) n + digestsSize (shelf t) + digestSize)
-    → stampSize + 3 + fragmentSize (shelf t .shares) n + digestsSize (shelf t) + digestSize + tagsSize (shelf t) ≤ replySlot
-    → shareOf t kept (suc j) .tags ≡ part kept at (tagsSize (shelf t))
+    → at ≡ repliesPlace + replySlot * j + (stampSize + 3 + fragmentSize (shelf t .threshold) n + digestsSize (shelf t) + digestSize)
+    → stampSize + 3 + fragmentSize (shelf t .threshold) n + digestsSize (shelf t) + digestSize + tagsSize (shelf t) ≤ replySlot
+    → shareOf t kept (suc j) .tags ≡ bytesAt kept at (tagsSize (shelf t))
 reply-tags t kept j n at e q l =
     let w : shareOf t kept (suc j) ≡ shareOfSize (shelf t) n (drop (stampSize + 1) (replySlotOf kept j)) =
     share-in t kept j ∙ ap (λ (x : ℕ). shareOfSize (shelf t) x (drop (stampSize + 1) (replySlotOf kept j))) (sym (e ∙ share-size t kept j)) in
-    let p : part (replySlotOf kept j) (stampSize + 3 + fragmentSize (shelf t .shares) n + digestsSize (shelf t) + digestSize) (tagsSize (shelf t)) ≡
-    part kept (repliesAt + replySlot * j + (stampSize + 3 + fragmentSize (shelf t .shares) n + digestsSize (shelf t) + digestSize))
+    let p : bytesAt (replySlotOf kept j) (stampSize + 3 + fragmentSize (shelf t .threshold) n + digestsSize (shelf t) + digestSize) (tagsSize (shelf t)) ≡
+    bytesAt kept (repliesPlace + replySlot * j + (stampSize + 3 + fragmentSize (shelf t .threshold) n + digestsSize (shelf t) + digestSize))
     (tagsSize (shelf t)) =
-    slot-part kept j (stampSize + 3 + fragmentSize (shelf t .shares) n + digestsSize (shelf t) + digestSize) (tagsSize (shelf t)) l in
+    slot-part kept j (stampSize + 3 + fragmentSize (shelf t .threshold) n + digestsSize (shelf t) + digestSize) (tagsSize (shelf t)) l in
     ap (λ (h : Share). h .tags) w ∙ tags-in (shelf t) (replySlotOf kept j) n
-    ∙ p ∙ ap (λ (x : ℕ). part kept x (tagsSize (shelf t))) (sym q)
+    ∙ p ∙ ap (λ (x : ℕ). bytesAt kept x (tagsSize (shelf t))) (sym q)
 
 -- ---- two replies
 
@@ -190,22 +191,22 @@ module _ (s : Config) (a b : List ℕ) (f : Full a) (g : Full b) where
   module _ (D : ℕ) where
     -- the three runs, one after the other
     three-runs : (l : D + digestsSize s + digestSize + tagsSize s ≤ length a) (k : D + digestsSize s + digestSize + tagsSize s ≤ length b)
-        → sameList (part a D (digestsSize s + digestSize + tagsSize s)) (part b D (digestsSize s + digestSize + tagsSize s))
-        ≡ (sameList (part a D (digestsSize s)) (part b D (digestsSize s))
-        && (sameList (part a (D + digestsSize s) digestSize) (part b (D + digestsSize s) digestSize)
-        && sameList (part a (D + digestsSize s + digestSize) (tagsSize s)) (part b (D + digestsSize s + digestSize) (tagsSize s))))
+        → sameList (bytesAt a D (digestsSize s + digestSize + tagsSize s)) (bytesAt b D (digestsSize s + digestSize + tagsSize s))
+        ≡ (sameList (bytesAt a D (digestsSize s)) (bytesAt b D (digestsSize s))
+        && (sameList (bytesAt a (D + digestsSize s) digestSize) (bytesAt b (D + digestsSize s) digestSize)
+        && sameList (bytesAt a (D + digestsSize s + digestSize) (tagsSize s)) (bytesAt b (D + digestsSize s + digestSize) (tagsSize s))))
     three-runs l k =
         let e : D + (digestsSize s + digestSize) ≡ D + digestsSize s + digestSize = omega arith in
         same-parts a b D D (digestsSize s + digestSize) (tagsSize s) (omega arith) (omega arith)
         ∙ rw (same-parts a b D D (digestsSize s) digestSize (omega arith) (omega arith), e)
-        (and-assoc (sameList (part a D (digestsSize s)) (part b D (digestsSize s)))
-        (sameList (part a (D + digestsSize s) digestSize) (part b (D + digestsSize s) digestSize))
-        (sameList (part a (D + digestsSize s + digestSize) (tagsSize s)) (part b (D + digestsSize s + digestSize) (tagsSize s))))
+        (and-assoc (sameList (bytesAt a D (digestsSize s)) (bytesAt b D (digestsSize s)))
+        (sameList (bytesAt a (D + digestsSize s) digestSize) (bytesAt b (D + digestsSize s) digestSize))
+        (sameList (bytesAt a (D + digestsSize s + digestSize) (tagsSize s)) (bytesAt b (D + digestsSize s + digestSize) (tagsSize s))))
 
   pub alike-in : sizeIn b ≡ sizeIn a → digestsIn s a + digestsSize s + digestSize + tagsSize s ≤ length a → digestsIn s a + digestsSize s +
       digestSize + tagsSize s ≤ length b
       → sameShare real s (heldAt s a .share) (heldAt s b .share)
-      ≡ sameList (part a (digestsIn s a) (digestsSize s + digestSize + tagsSize s)) (part b (digestsIn s a) (digestsSize s + digestSize + tagsSize s))
+      ≡ sameList (bytesAt a (digestsIn s a) (digestsSize s + digestSize + tagsSize s)) (bytesAt b (digestsIn s a) (digestsSize s + digestSize + tagsSize s))
   alike-in e l k =
       let n : ℕ = sizeIn a in
       let p : heldAt s b .share ≡ some (shareOfSize s n (drop (stampSize + 1) b)) = held-share s b (g .flag) ∙ ap

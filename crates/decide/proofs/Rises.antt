@@ -63,12 +63,12 @@ servers-rise m (suc n) i j l h = go (m (suc n)) h (servers-rise m n i j l)
             rw (List·getD-append (serversOf n m) (suc n ∷ []) 0 i (omega arith), getD-at (serversOf n m) (suc n) [] 0 j e) (omega (arith, w .1))
 
 -- an array that begins with enough of them
-pub members-rise : (t : ℕ) (m : ByServer Bool) (servers : List ℕ) → take (shelf t .shares) servers ≡ take (shelf t .shares)
+pub members-rise : (t : ℕ) (m : ByServer Bool) (servers : List ℕ) → take (shelf t .threshold) servers ≡ take (shelf t .threshold)
     (serversOf (shelf t .servers) m)
-    → shelf t .shares ≤ length (serversOf (shelf t .servers) m) → Rising t servers
+    → shelf t .threshold ≤ length (serversOf (shelf t .servers) m) → Rising t servers
 members-rise t m servers e k =
-    let g : (i : ℕ) → i < shelf t .shares → getD servers i 0 ≡ getD (serversOf (shelf t .servers) m) i 0 =
-    λ i l. sym (getD-take (shelf t .shares) servers i 0 l) ∙ ap (λ (z : List ℕ). getD z i 0) e ∙ getD-take (shelf t .shares)
+    let g : (i : ℕ) → i < shelf t .threshold → getD servers i 0 ≡ getD (serversOf (shelf t .servers) m) i 0 =
+    λ i l. sym (getD-take (shelf t .threshold) servers i 0 l) ∙ ap (λ (z : List ℕ). getD z i 0) e ∙ getD-take (shelf t .threshold)
     (serversOf (shelf t .servers) m) i 0 l in
     record {
       lowest = λ i l. rw (g i l) (servers-in m (shelf t .servers) i (omega arith) .0);

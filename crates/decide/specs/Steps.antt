@@ -1,3 +1,4 @@
+-- What private functions promise each other; no public contract names these.
 -- The steps to a decision, one for each function of the code, in terms of the rules.
 -- Stamps are compared by their ranks.
 use mathlib.Core.Path.{_≡_}
@@ -10,11 +11,12 @@ use lib.ListN.{length, take, drop, getD}
 use Rattle.cluster.specs.Config.{Config, quorum, shelf}
 use Rattle.cluster.specs.Ranges.{within, leastLength, topLength, topFaults}
 use Rattle.sha256.specs.Sha256.{sha256}
-use Rattle.protocol.specs.Format.{value2}
+use Rattle.format.specs.Format.{value2}
 use Rattle.protocol.specs.Values.{Candidate, Share, Held, sameList, nth, digestSize, digestsSize, tagsSize, stampSize, rank, sameStamp}
 use Rattle.protocol.specs.Primitives.{real}
 use Rattle.protocol.specs.Rules.{ByServer, countTo, keep, first, gather, proven, fits, agrees, leads, leader}
-use Rattle.protocol.specs.View.{keptSize, marked, candidatesIn, repliesIn, replySlotOf, repliesAt, replySlot, part, stampAt, shareAt, heldAt}
+use Rattle.protocol.specs.View.{keptSize, marked, candidatesIn, repliesIn, replySlotOf, repliesPlace, replySlot, stampAt, shareAt, heldAt}
+use Rattle.format.specs.Reading.{bytesAt}
 use Rattle.erasure.specs.Fragments.{Part, fragmentSize, restored}
 use Rattle.decide.specs.declared.leading.Members.{Members}
 use Rattle.decide.specs.declared.leading.Choice.{Choice}
@@ -76,7 +78,7 @@ names c d x = sameStamp (x .stamp) (c .stamp) && namesShare d (x .share)
 -- server i's fragment has its own digest
 abbrev pub intact : ℕ → Option Share → Bool
 intact i none = false
-intact i (some h) = sameList (sha256 (h .part)) (nth digestSize (h .digests) i)
+intact i (some h) = sameList (sha256 (h .fragment)) (nth digestSize (h .digests) i)
 
 -- the marked ones of servers 1 to n, in order
 unfoldable pub serversOf : ℕ → ByServer Bool → List ℕ
@@ -111,12 +113,12 @@ pub record Full (reply : List ℕ) : Type 0 where
 
 -- the servers of b's group, as many as restore a content
 unfoldable pub membersAt : ℕ → List ℕ → List ℕ → ℕ → ℕ → List ℕ
-membersAt t marks kept i b = take (shelf t .shares) (serversOf (shelf t .servers) (agreesAt t marks kept i b))
+membersAt t marks kept i b = take (shelf t .threshold) (serversOf (shelf t .servers) (agreesAt t marks kept i b))
 
 -- ---- what the functions that answer with a group tell
 
 pub record DigestsAt (t n r : ℕ) : Type 0 where
-  pub place : r ≡ stampSize + 3 + fragmentSize (shelf t .shares) n
+  pub place : r ≡ stampSize + 3 + fragmentSize (shelf t .threshold) n
   pub room : r + digestsSize (shelf t) + digestSize + tagsSize (shelf t) ≤ replySlot
 
 -- the first servers of the array are the members
@@ -127,15 +129,15 @@ pub record MembersAs (t : ℕ) (marks kept : List ℕ) (i b : ℕ) (r : Members)
 -- the server n, or 0; where it is that of slot b, the members of its group
 pub record GroupAs (t : ℕ) (marks kept : List ℕ) (i n : ℕ) (r : Group) : Type 0 where
   pub server : r .server ≡ n
-  pub these : (b : ℕ) → n ≡ suc b → take (shelf t .shares) (r .servers) ≡ membersAt t marks kept i b
+  pub these : (b : ℕ) → n ≡ suc b → take (shelf t .threshold) (r .servers) ≡ membersAt t marks kept i b
 
 -- the candidate of slot i has this rank and is listed
 unfoldable pub triedAt : ℕ → List ℕ → ℕ → ℕ → Bool
 triedAt t kept key i = eqb (rank (candidatesIn (shelf t) kept (suc i) .stamp)) key && enters (candidatesIn (shelf t) kept) (suc i)
 
 -- the first proven candidate of this rank among those of servers 1 to n
-unfoldable pub chosenAt : ℕ → List ℕ → List ℕ → ℕ → ℕ → Option Candidate
-chosenAt t marks kept key n =
+unfoldable pub chosenPlace : ℕ → List ℕ → List ℕ → ℕ → ℕ → Option Candidate
+chosenPlace t marks kept key n =
     first (proven real (shelf t) (marked marks) (repliesIn (shelf t) marks kept))
     (keep (λ c. eqb (rank (c .stamp)) key) (gather (candidatesIn (shelf t) kept) n))
 
@@ -143,33 +145,33 @@ chosenAt t marks kept key n =
 pub record Hit (t : ℕ) (marks kept : List ℕ) (key : ℕ) (r : Choice) (b : ℕ) : Type 0 where
   pub slot : r .slot < shelf t .servers
   pub listed : enters (candidatesIn (shelf t) kept) (suc (r .slot)) ≡ true
-  pub chosen : chosenAt t marks kept key (shelf t .servers) ≡ some (candidatesIn (shelf t) kept (suc (r .slot)))
+  pub chosen : chosenPlace t marks kept key (shelf t .servers) ≡ some (candidatesIn (shelf t) kept (suc (r .slot)))
   pub leader : leaderAt t marks kept (r .slot) (shelf t .servers) ≡ suc b
-  pub members : take (shelf t .shares) (r .servers) ≡ membersAt t marks kept (r .slot) b
+  pub members : take (shelf t .threshold) (r .servers) ≡ membersAt t marks kept (r .slot) b
 
 pub record ChoiceAs (t : ℕ) (marks kept : List ℕ) (key : ℕ) (r : Choice) : Type 0 where
-  pub nothing : r .server ≡ 0 → chosenAt t marks kept key (shelf t .servers) ≡ none
+  pub nothing : r .server ≡ 0 → chosenPlace t marks kept key (shelf t .servers) ≡ none
   pub hit : (b : ℕ) → r .server ≡ suc b → Hit t marks kept key r b
 
 -- ---- restoring
 
 -- server i's fragment of f bytes, as it stands in its slot
 unfoldable pub fragmentOf : List ℕ → ℕ → ℕ → Part
-fragmentOf kept f i = record { server = i; bytes = part kept (repliesAt + replySlot * (i - 1) + (stampSize + 3)) f }
+fragmentOf kept f i = record { server = i; bytes = bytesAt kept (repliesPlace + replySlot * (i - 1) + (stampSize + 3)) f }
 
 -- the content that these servers' fragments give, of the length in slot b
 unfoldable pub contentOf : ℕ → List ℕ → ℕ → List ℕ → List ℕ
 contentOf t kept b servers =
     let n = shareAt (shelf t) (drop (stampSize + 1) (replySlotOf kept b)) .size in
-    restored (shelf t .points) (shelf t .shares) n (map (fragmentOf kept (fragmentSize (shelf t .shares) n)) servers)
+    restored (shelf t .points) (shelf t .threshold) n (map (fragmentOf kept (fragmentSize (shelf t .threshold) n)) servers)
 
 -- the first k servers of an array are servers, in rising order
 pub record Rising (t : ℕ) (servers : List ℕ) : Type 0 where
-  pub lowest : (i : ℕ) → i < shelf t .shares → 1 ≤ getD servers i 0
-  pub highest : (i : ℕ) → i < shelf t .shares → getD servers i 0 ≤ shelf t .servers
-  pub rising : (i j : ℕ) → i < j → j < shelf t .shares → getD servers i 0 < getD servers j 0
+  pub lowest : (i : ℕ) → i < shelf t .threshold → 1 ≤ getD servers i 0
+  pub highest : (i : ℕ) → i < shelf t .threshold → getD servers i 0 ≤ shelf t .servers
+  pub rising : (i j : ℕ) → i < j → j < shelf t .threshold → getD servers i 0 < getD servers j 0
 
 -- r holds the fragments of f bytes of the first k servers, one after the other
 pub record FragmentsAs (t : ℕ) (kept : List ℕ) (f : ℕ) (servers r : List ℕ) : Type 0 where
-  pub long : shelf t .shares * f ≤ length r
-  pub each : (p : ℕ) → p < shelf t .shares → part r (p * f) f ≡ fragmentOf kept f (getD servers p 0) .bytes
+  pub long : shelf t .threshold * f ≤ length r
+  pub each : (p : ℕ) → p < shelf t .threshold → bytesAt r (p * f) f ≡ fragmentOf kept f (getD servers p 0) .bytes

@@ -5,14 +5,14 @@ ghost use lib.ListN.{length, take};
 ghost use Rattle.cluster.specs.Config.{shelf};
 ghost use Rattle.cluster.specs.Ranges.{topLength, contentRoom, mostServers};
 ghost use Rattle.erasure.specs.Fragments.{fragmentSize};
-ghost use Rattle.protocol.specs.ServerBytes.{over};
+ghost use Rattle.format.specs.Reading.{over};
 ghost use Rattle.protocol.specs.View.{replySlotOf};
 ghost use Rattle.decide.specs.Steps.{Usable, Full, Rising, FragmentsAs, contentOf};
 use crate::FRAGMENTS;
 use crate::sizes::copy;
 use crate::sizes::fragment_size;
-use crate::sizes::shares;
 use crate::sizes::size_of;
+use crate::sizes::threshold;
 use wire::kept::REPLIES;
 use wire::kept::REPLY_SLOT;
 use wire::sizes::STAMP;
@@ -25,10 +25,10 @@ pub(crate) fn fragments_of(
     servers: [usize; cluster::MOST_SERVERS],
 ) -> [u8; FRAGMENTS]
     requires { ⌜ (Usable t (now kept)) × (n ≤ topLength) × (Rising t servers) ⌝ }
-    ensures { λ r. ⌜ FragmentsAs t (now (kept .entry)) (fragmentSize (shelf t .shares) n) servers r ⌝ }
+    ensures { λ r. ⌜ FragmentsAs t (now (kept .entry)) (fragmentSize (shelf t .threshold) n) servers r ⌝ }
 {
     let f = fragment_size(t, n);
-    let k = shares(t);
+    let k = threshold(t);
     let mut out = [0u8; FRAGMENTS];
     let mut p = 0;
     while p < k {
@@ -48,12 +48,12 @@ pub(crate) fn rebuild(
     out: &mut [u8],
 ) -> usize
     requires { ⌜ (Usable t (now kept)) × (b < mostServers) × (Full (replySlotOf (now kept) b)) × (Rising t servers) × (contentRoom ≤ length (now out)) ⌝ }
-    ensures { λ r. ⌜ (r ≡ length (contentOf t (now (kept .entry)) b (take (shelf t .shares) servers)))
-        × (now (out .exit) ≡ over (contentOf t (now (kept .entry)) b (take (shelf t .shares) servers)) (now (out .entry))) ⌝ }
+    ensures { λ r. ⌜ (r ≡ length (contentOf t (now (kept .entry)) b (take (shelf t .threshold) servers)))
+        × (now (out .exit) ≡ over (contentOf t (now (kept .entry)) b (take (shelf t .threshold) servers)) (now (out .entry))) ⌝ }
 {
     let y = REPLIES + REPLY_SLOT * b;
     let n = size_of(&kept[y..y + REPLY_SLOT]);
-    let k = shares(t);
+    let k = threshold(t);
     let end = k * fragment_size(t, n);
     let fragments = fragments_of(kept, t, n, servers);
     let r = erasure::restore(t, n, &servers[0..k], &fragments[0..end], out);

@@ -13,7 +13,7 @@ use crate::reply::intact_at;
 use crate::reply::names_at;
 use crate::sizes::rank_at;
 use crate::sizes::servers;
-use crate::sizes::shares;
+use crate::sizes::threshold;
 use wire::kept::CANDIDATE_SLOT;
 use wire::kept::CANDIDATES;
 use wire::sizes::DIGEST;
@@ -105,7 +105,7 @@ pub(crate) fn members_of(
     ensures { λ r. ⌜ MembersAs t marks (now (kept .entry)) i b r ⌝ }
 {
     let s = servers(t);
-    let k = shares(t);
+    let k = threshold(t);
     let mut out = [0usize; cluster::MOST_SERVERS];
     let mut n = 0;
     let mut j = 0;
@@ -152,7 +152,7 @@ pub(crate) fn group_of(
         return no_group();
     }
     let m = members_of(kept, marks, t, i, d, b);
-    if m.count < shares(t) {
+    if m.count < threshold(t) {
         return no_group();
     }
     let servers = m.servers;

@@ -105,10 +105,10 @@ fn decide_refusal(t: usize, size: usize, room: usize) -> u8
         return cluster::WRONG_SIZE;
     }
     if cluster::outside(1, cluster::TOP_FAULTS, t) {
-        return 3;
+        return cluster::refusals::FAULTS;
     }
     if room < cluster::CONTENT_ROOM {
-        return 15;
+        return cluster::refusals::ROOM;
     }
     0
 }

@@ -6,7 +6,7 @@ ghost use lib.Dec.{ltb, eqb};
 ghost use lib.ListN.{length};
 ghost use Rattle.cluster.specs.Config.{shelf};
 ghost use Rattle.cluster.specs.Ranges.{mostServers};
-ghost use Rattle.protocol.specs.View.{keptSize, repliesAt, replySlot, candidatesIn, repliesIn, marked};
+ghost use Rattle.protocol.specs.View.{keptSize, repliesPlace, replySlot, candidatesIn, repliesIn, marked};
 ghost use Rattle.decide.specs.Steps.{Usable, rankAt, bit, stays, raised, topAt};
 use crate::BLANK_RANK;
 use crate::sizes::rank_at;
@@ -19,7 +19,7 @@ use wire::kept::REPLY_SLOT;
 // 1 where the server of slot j replied with a stamp of a lower rank, else 0.
 pub(crate) fn is_lower(kept: &[u8], mark: u8, j: usize, key: u64) -> usize
     requires { ⌜ (length (now kept) ≡ keptSize) × (j < mostServers) ⌝ }
-    ensures { λ r. ⌜ r ≡ bit (not (eqb mark 0) && ltb (rankAt (now (kept .entry)) (repliesAt + replySlot * j)) key) ⌝ }
+    ensures { λ r. ⌜ r ≡ bit (not (eqb mark 0) && ltb (rankAt (now (kept .entry)) (repliesPlace + replySlot * j)) key) ⌝ }
 {
     if mark == 0 {
         return 0;

@@ -5,9 +5,9 @@ ghost use lib.ListN.{length, getD};
 ghost use Rattle.cluster.specs.Config.{shelf};
 ghost use Rattle.cluster.specs.Ranges.{topLength, topFaults};
 ghost use Rattle.erasure.specs.Fragments.{fragmentSize};
-ghost use Rattle.protocol.specs.Format.{value2};
+ghost use Rattle.format.specs.Format.{value2};
 ghost use Rattle.protocol.specs.Values.{stampSize};
-ghost use Rattle.protocol.specs.ClientBytes.{put};
+ghost use Rattle.format.specs.Reading.{put};
 ghost use Rattle.protocol.specs.View.{replySlot};
 ghost use Rattle.decide.specs.Steps.{rankAt, DigestsAt};
 use wire::sizes::STAMP;
@@ -21,17 +21,17 @@ pub(crate) fn servers(t: usize) -> usize
 }
 
 // How many fragments give a content back.
-pub(crate) fn shares(t: usize) -> usize
+pub(crate) fn threshold(t: usize) -> usize
     requires { ⌜ t ≤ topFaults ⌝ }
-    ensures { λ r. ⌜ (r ≡ shelf t .shares) × (r ≡ t + 1) ⌝ }
+    ensures { λ r. ⌜ (r ≡ shelf t .threshold) × (r ≡ t + 1) ⌝ }
 {
-    cluster::shares(t as u8)
+    cluster::threshold(t as u8)
 }
 
 // The length of a fragment of a content of n bytes.
 pub(crate) fn fragment_size(t: usize, n: usize) -> usize
     requires { ⌜ (1 ≤ t) × (t ≤ topFaults) × (n ≤ topLength) ⌝ }
-    ensures { λ r. ⌜ r ≡ fragmentSize (shelf t .shares) n ⌝ }
+    ensures { λ r. ⌜ r ≡ fragmentSize (shelf t .threshold) n ⌝ }
 {
     wire::sizes::fragment_size(t as u8, n as u32)
 }

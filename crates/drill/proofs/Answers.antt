@@ -11,7 +11,7 @@ use Rattle.protocol.specs.declared.Aborted.{Aborted}
 use Rattle.protocol.specs.declared.Aborted.the-variants as aborts
 use Rattle.protocol.specs.Answers.{takenAnswer, abortedAnswer}
 use Rattle.protocol.specs.Client.{refused}
-use Rattle.protocol.specs.View.{part}
+use Rattle.format.specs.Reading.{bytesAt}
 use Rattle.protocol.specs.Runs.{resultOf, resultBy}
 use Rattle.protocol.proofs.Told.{refused-back}
 use Rattle.drill.specs.Steps.{shownAs, shown}
@@ -39,10 +39,10 @@ shown-aborted aborts.Before = refl
 shown-aborted aborts.InComplete = refl
 
 -- the row of a taken reply, with the content read from the output
-pub row-taken : (x : Taken) (o : List ℕ) (a : Answer) (content : List ℕ) (first : ℕ) → a ≡ takenAnswer x → content ≡ part o 0 (a .length)
+pub row-taken : (x : Taken) (o : List ℕ) (a : Answer) (content : List ℕ) (first : ℕ) → a ≡ takenAnswer x → content ≡ bytesAt o 0 (a .length)
     → first ≡ getD content 0 0
     → record { result = a .result; stamp = a .number; length = length content; first = first } ≡ shown (resultBy (takenAnswer x) o)
-unfolding shownAs part
+unfolding shownAs bytesAt
 row-taken x o a content first e p f =
     rw f (ap (shownAs a) p ∙ ap (λ (z : Answer). shownAs z (take (z .length) o)) e ∙ sym (shown-taken x o))
 
@@ -53,6 +53,6 @@ take-copies zero n x h = refl
 take-copies (suc m) zero x h = absurd (omega arith)
 take-copies (suc m) (suc n) x h = ap (λ (z : List ℕ). x ∷ z) (take-copies m n x (omega arith))
 
-pub part-copies : (m n x : ℕ) → m ≤ n → part (replicate n x) 0 m ≡ replicate m x
-unfolding part
+pub part-copies : (m n x : ℕ) → m ≤ n → bytesAt (replicate n x) 0 m ≡ replicate m x
+unfolding bytesAt
 part-copies m n x h = take-copies m n x h

@@ -4,7 +4,7 @@ use mathlib.Core.List.{List, [], _∷_, _++_}
 use mathlib.Core.Option.{none, some}
 use Prim.Native.Nat.{ℕ}
 use lib.ListN.{length, replicate}
-use Rattle.protocol.specs.View.{part}
+use Rattle.format.specs.Reading.{bytesAt}
 use Rattle.drill.specs.Sheet.{lines, before, digits, number, column, columnAt, fields, readText, firstLine}
 use Rattle.drill.specs.Listing.{justified, columns, lastRow, listed, listing}
 
@@ -49,15 +49,15 @@ three-lines = refl
 
 -- a first line whose t alone is wrong; one with another fault; an unended one
 wrong-t : listing (line 0 5 0 0 0) ≡ lastRow 1 103
-unfolding listing listed lines before firstLine readText fields columnAt part column number digits line columns justified
+unfolding listing listed lines before firstLine readText fields columnAt bytesAt column number digits line columns justified
 wrong-t = refl
 
 wrong-first : listing (line 0 5 1 0 0) ≡ lastRow 1 117
-unfolding listing listed lines before firstLine readText fields columnAt part column number digits line columns justified
+unfolding listing listed lines before firstLine readText fields columnAt bytesAt column number digits line columns justified
 wrong-first = refl
 
 unended : listing (columns (0 ∷ 1 ∷ 0 ∷ 0 ∷ 0 ∷ [])) ≡ lastRow 1 117
-unfolding listing listed lines before firstLine readText fields columnAt part column number digits columns justified
+unfolding listing listed lines before firstLine readText fields columnAt bytesAt column number digits columns justified
 unended = refl
 
 nothing : listing [] ≡ []

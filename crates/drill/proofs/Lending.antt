@@ -9,8 +9,9 @@ use lib.Seq.{length-take-le, drop-drop, drop-append-le}
 use borrow.Author.Tests.{eq-eqb}
 use Rattle.cluster.specs.Ranges.{topClient, mostServers}
 use Rattle.protocol.specs.declared.Call.{Call}
-use Rattle.protocol.specs.View.{part, keptSize}
-use Rattle.protocol.specs.ClientBytes.{Begun, GaveUp, put, beginWrite, beginRead, giveUp}
+use Rattle.protocol.specs.View.{keptSize}
+use Rattle.format.specs.Reading.{bytesAt, put}
+use Rattle.protocol.specs.ClientBytes.{Begun, GaveUp, beginWrite, beginRead, giveUp}
 use Rattle.wire.specs.Make.{placed}
 use Rattle.wire.proofs.Put.{placed-wrote}
 use Rattle.state.specs.State.{stateSize, callBytes}
@@ -24,8 +25,8 @@ use Rattle.drill.specs.Area.{clientAt, keptAt, callIn, keptIn, putCall, 
 
 -- ---- a part of a list
 
-pub lent : (w : List ℕ) (a k n : ℕ) → k ≡ n → take k (drop a w) ≡ part w a n
-unfolding part
+pub lent : (w : List ℕ) (a k n : ℕ) → k ≡ n → take k (drop a w) ≡ bytesAt w a n
+unfolding bytesAt
 lent w a k n e = ap (λ (j : ℕ). take j (drop a w)) e
 
 pub back : (w : List ℕ) (a k : ℕ) (ys : List ℕ) → length ys ≡ k → take a w ++ (ys ++ drop k (drop a w)) ≡ put w a ys
@@ -53,7 +54,7 @@ module _ (w : List ℕ) (c : ℕ) (h : (1 ≤ c) × (c ≤ topClient)) (size : l
   kept-fits = omega arith
 
   pub kept-size : length (keptIn w c) ≡ keptSize
-  unfolding keptIn part
+  unfolding keptIn bytesAt
   kept-size = length-take-le keptSize (drop (keptAt c) w) (omega (arith, length-drop (keptAt c) w, kept-fits))
 
   pub core-write : (t : ℕ) (content nonce : List ℕ) → coreWrite t c (callIn w c) (keptIn w c) content nonce ≡ beginWrite t c (callIn w c) (keptIn w c)
@@ -73,7 +74,7 @@ module _ (w : List ℕ) (c : ℕ) (h : (1 ≤ c) × (c ≤ topClient)) (size : l
       → BeginsAs b w c out (s .taken .number)
   unfolding putClient keptIn
   begins-as F b k {x} {a} {ks} {out} {s} e ex ea ek es eks l₀ eo m =
-      let y : take k (drop a w) ≡ part w (keptAt c) keptSize = rw ea (lent w (keptAt c) k keptSize ek) in
+      let y : take k (drop a w) ≡ bytesAt w (keptAt c) keptSize = rw ea (lent w (keptAt c) k keptSize ek) in
       let l : length ks ≡ keptSize = l₀ ∙ ap length y ∙ kept-size in
       let f : F x (take k (drop a w)) ≡ b = rw (ex, y) e in
       let es' : s ≡ started b = es ∙ ap started f in

@@ -11,9 +11,8 @@ use lib.Dec.{ltb}
 use lib.ListN.{length, drop, replicate}
 use borrow.Author.Tests.{eq-eqb, ne-eqb, lt-ltb, le-ltb, ltb-true, ltb-false}
 use Rattle.cluster.specs.Ranges.{within, topFaults}
-use Rattle.protocol.specs.ServerBytes.{over}
-use Rattle.protocol.specs.ClientBytes.{put}
-use Rattle.protocol.proofs.Puts.{put-over}
+use Rattle.format.specs.Reading.{over, put}
+use Rattle.format.proofs.Puts.{put-over}
 use Rattle.drill.specs.declared.sheet.Line.{Line}
 use Rattle.drill.specs.Sheet.{lines, firstLine}
 use Rattle.drill.specs.Reads.{textAt, EndsAt, nextAt}

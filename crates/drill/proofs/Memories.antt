@@ -12,13 +12,13 @@ use borrow.Author.Tests.{eqb-true, eqb-false}
 use Rattle.cluster.specs.Config.{shelf}
 use Rattle.cluster.specs.Ranges.{within, mostServers, memorySize, topFaults}
 use Rattle.cluster.proofs.Tests.{within-bounds}
-use Rattle.protocol.specs.View.{part, keptSize}
-use Rattle.protocol.specs.ClientBytes.{put}
+use Rattle.protocol.specs.View.{keptSize}
+use Rattle.format.specs.Reading.{bytesAt, put}
 use Rattle.protocol.specs.Rules.{upd}
 use Rattle.protocol.specs.Runs.{Machines}
-use Rattle.protocol.proofs.Answers.{at-cond}
-use Rattle.protocol.proofs.Puts.{put-length}
-use Rattle.protocol.proofs.Places.{part-same, part-above, part-other, slots-apart}
+use Rattle.format.proofs.Answers.{at-cond}
+use Rattle.format.proofs.Puts.{put-length}
+use Rattle.format.proofs.Places.{part-same, part-above, part-other, slots-apart}
 use Rattle.state.specs.State.{stateSize, callAt}
 use Rattle.drill.specs.Listing.{workSize}
 use Rattle.drill.specs.Area.{serverAt, clientAt, keptAt, callIn, keptIn, memoryIn, putMemory, Stands}
@@ -44,7 +44,7 @@ module _ (w : List ℕ) (b : ℕ) (h : (1 ≤ b) × (b ≤ mostServers)) (size :
 
   pub memory-here : memoryIn (putMemory w b x) b ≡ x
   unfolding memoryIn putMemory
-  memory-here = ap (part (put w (serverAt b) x) (serverAt b)) (sym l) ∙ part-same w (serverAt b) x memory-room
+  memory-here = ap (bytesAt (put w (serverAt b) x) (serverAt b)) (sym l) ∙ part-same w (serverAt b) x memory-room
 
   pub memory-other : (i : ℕ) → 1 ≤ i → i ≢ b → memoryIn (putMemory w b x) i ≡ memoryIn w i
   unfolding memoryIn putMemory

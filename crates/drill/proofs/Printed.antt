@@ -10,8 +10,8 @@ use lib.Dec.{eqb}
 use lib.ListN.{length, getD, take, drop, set, replicate, length-append, length-replicate, length-set, take-append-drop}
 use lib.Seq.{take-suc, take-take, take-all, length-take-le, take-set-le, drop-set-lt, drop-cons, getD-set-same}
 use borrow.Author.Tests.{eq-eqb, ne-eqb}
-use Rattle.protocol.specs.ClientBytes.{put}
-use Rattle.protocol.proofs.Puts.{put-put, put-length}
+use Rattle.format.specs.Reading.{put}
+use Rattle.format.proofs.Puts.{put-put, put-length}
 use Rattle.wire.specs.Make.{placed}
 use Rattle.wire.proofs.Put.{placed-wrote}
 use Rattle.drill.specs.Sheet.{columnSize}

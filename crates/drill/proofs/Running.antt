@@ -12,14 +12,13 @@ use lib.ListN.{length, drop, replicate, length-append, drop-of-length-le}
 use borrow.Author.Tests.{ltb-true}
 use Rattle.cluster.specs.Ranges.{topNumber}
 use Rattle.protocol.specs.Primitives.{real}
-use Rattle.protocol.specs.ServerBytes.{over}
-use Rattle.protocol.specs.ClientBytes.{put}
+use Rattle.format.specs.Reading.{over, put}
 use Rattle.protocol.specs.Runs.{Shelf, Machines, write, doBytes}
-use Rattle.protocol.proofs.Answers.{at-cond}
-use Rattle.protocol.proofs.Puts.{put-put, put-over, put-length}
+use Rattle.format.proofs.Answers.{at-cond}
+use Rattle.format.proofs.Puts.{put-put, put-over, put-length}
 use Rattle.drill.specs.declared.sheet.Line.{Line}
 use Rattle.drill.specs.declared.shown.Shown.{Shown}
-use Rattle.protocol.specs.Format.{guard}
+use Rattle.format.specs.Format.{guard}
 use Rattle.protocol.specs.Client.{accepted}
 use Rattle.drill.specs.Sheet.{onSome, Text, lines, isStep, readText, stepLine}
 use Rattle.drill.specs.Reads.{textAt, EndsAt, nextAt}

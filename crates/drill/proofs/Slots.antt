@@ -11,9 +11,10 @@ use Rattle.cluster.specs.Ranges.{topClient, mostServers, memorySize}
 use Rattle.cluster.specs.declared.Outcome.{Outcome}
 use Rattle.protocol.specs.declared.Call.{Call}
 use Rattle.protocol.specs.Primitives.{real}
-use Rattle.protocol.specs.View.{part, keptSize}
+use Rattle.protocol.specs.View.{keptSize}
+use Rattle.format.specs.Reading.{bytesAt, put}
 use Rattle.protocol.specs.ServerBytes.{Served, Blanked}
-use Rattle.protocol.specs.ClientBytes.{Took, put, clientMake, clientTake}
+use Rattle.protocol.specs.ClientBytes.{Took, clientMake, clientTake}
 use Rattle.client.specs.declared.answers.Answered.{Answered}
 use Rattle.client.specs.Answers.{answered}
 use Rattle.client.specs.Core.{coreMake, coreTake}
@@ -29,7 +30,7 @@ module _ (w : List ℕ) (b : ℕ) (h : (1 ≤ b) × (b ≤ mostServers)) (size :
   memory-fits = omega arith
 
   pub memory-size : length (memoryIn w b) ≡ memorySize
-  unfolding memoryIn part
+  unfolding memoryIn bytesAt
   memory-size = length-take-le memorySize (drop (serverAt b) w) (omega (arith, length-drop (serverAt b) w, memory-fits))
 
   module _ (k : ℕ) {a : ℕ} (ea : a ≡ serverAt b) (ek : k ≡ memorySize) where
@@ -84,7 +85,7 @@ module _ (w : List ℕ) (c : ℕ) (h : (1 ≤ c) × (c ≤ topClient)) (size : l
       → TakesAs d w c after out (s .taken)
   unfolding putClient keptIn
   takes-as F d k {x} {a} {ks} {after} {out} {s} e ex ea ek es l₀ ef m =
-      let y : take k (drop a w) ≡ part w (keptAt c) keptSize = rw ea (lent w (keptAt c) k keptSize ek) in
+      let y : take k (drop a w) ≡ bytesAt w (keptAt c) keptSize = rw ea (lent w (keptAt c) k keptSize ek) in
       let l : length ks ≡ keptSize = l₀ ∙ ap length y ∙ kept-size w c h size in
       let f : F x (take k (drop a w)) ≡ d = rw (ex, y) e in
       let es' : answered s ks out ≡ d = es ∙ f in

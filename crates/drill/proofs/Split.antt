@@ -10,7 +10,7 @@ use lib.Dec.{ltb, eqb}
 use lib.ListN.{length, getD, take, drop, drop-of-length-le, length-drop}
 use lib.Seq.{drop-cons, take-suc, getD-drop}
 use borrow.Author.Tests.{eq-eqb, ne-eqb, lt-ltb, le-ltb, ltb-true, ltb-false}
-use Rattle.protocol.specs.View.{part}
+use Rattle.format.specs.Reading.{bytesAt}
 use Rattle.drill.specs.declared.sheet.Read.the-variants as reads
 use Rattle.drill.specs.Sheet.{Text, newline, before, lines, fields, readText}
 use Rattle.drill.specs.Reads.{readOf, textAt, EndsAt, nextAt}
@@ -38,15 +38,15 @@ glue-none x (y ∷ p) = ap (before x) (glue-none y p)
 pub record Passed (s : List ℕ) (at i : ℕ) : Type 0 where
   pub after : at ≤ i
   pub within : i ≤ length s
-  pub whole : lines (drop at s) ≡ glue (part s at (i - at)) (lines (drop i s))
+  pub whole : lines (drop at s) ≡ glue (bytesAt s at (i - at)) (lines (drop i s))
 
 module _ (s : List ℕ) (at : ℕ) (b : at < length s) where
   pub passed-none : Passed s at at
-  unfolding part
+  unfolding bytesAt
   passed-none = let e : at - at ≡ 0 = omega arith in record { after = omega arith; within = omega arith; whole = rw e }
 
-  one-more : (i : ℕ) → at ≤ i → i < length s → part s at (i + 1 - at) ≡ part s at (i - at) ++ (getD s i 0 ∷ [])
-  unfolding part
+  one-more : (i : ℕ) → at ≤ i → i < length s → bytesAt s at (i + 1 - at) ≡ bytesAt s at (i - at) ++ (getD s i 0 ∷ [])
+  unfolding bytesAt
   one-more i h k =
       let e : i + 1 - at ≡ suc (i - at) = omega arith in
       let g : at + (i - at) ≡ i = omega arith in
@@ -61,7 +61,7 @@ module _ (s : List ℕ) (at : ℕ) (b : at < length s) where
           after = omega (arith, p .after);
           within = omega arith;
           whole =
-              p .whole ∙ ap (glue (part s at (i - at))) l ∙ sym (glue-snoc (part s at (i - at)) (getD s i 0) (lines (drop (i + 1) s)))
+              p .whole ∙ ap (glue (bytesAt s at (i - at))) l ∙ sym (glue-snoc (bytesAt s at (i - at)) (getD s i 0) (lines (drop (i + 1) s)))
               ∙ ap (λ (z : List ℕ). glue z (lines (drop (i + 1) s))) (sym (one-more i (p .after) k));
         }
 
@@ -72,11 +72,11 @@ module _ (s : List ℕ) (at : ℕ) (b : at < length s) where
         record {
           after = p .after;
           within = p .within;
-          first = p .whole ∙ ap (glue (part s at (i - at))) l ∙ glue-end (part s at (i - at)) (lines (drop (i + 1) s)) ∙ rw (lt-ltb i (length s) k);
+          first = p .whole ∙ ap (glue (bytesAt s at (i - at))) l ∙ glue-end (bytesAt s at (i - at)) (lines (drop (i + 1) s)) ∙ rw (lt-ltb i (length s) k);
         }
 
     pub ends-last : length s ≤ i → EndsAt s at i
-    unfolding lines textAt part
+    unfolding lines textAt bytesAt
     ends-last k =
         let d : drop at s ≡ getD s at 0 ∷ drop (suc at) s = drop-cons s at 0 b in
         let e : i - at ≡ suc (i - suc at) = omega (arith, p .after) in
@@ -124,7 +124,7 @@ pub text-unended : (s : List ℕ) (at end : ℕ) → length s ≤ end → reads.
 unfolding readOf readText textAt
 text-unended s at end h = rw (le-ltb end (length s) h)
 
-pub text-ended : (s : List ℕ) (at end : ℕ) → end < length s → readOf (fields (part s at (end - at))) ≡ readOf (readText (textAt s at end))
+pub text-ended : (s : List ℕ) (at end : ℕ) → end < length s → readOf (fields (bytesAt s at (end - at))) ≡ readOf (readText (textAt s at end))
 unfolding readText textAt
 text-ended s at end h = rw (lt-ltb end (length s) h)
 

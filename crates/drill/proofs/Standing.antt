@@ -13,13 +13,13 @@ use Rattle.cluster.specs.Config.{shelf}
 use Rattle.cluster.specs.Ranges.{within, topClient, mostServers, memorySize, topFaults}
 use Rattle.cluster.proofs.Tests.{within-bounds}
 use Rattle.protocol.specs.declared.Call.{Call}
-use Rattle.protocol.specs.View.{part, keptSize}
-use Rattle.protocol.specs.ClientBytes.{put}
+use Rattle.protocol.specs.View.{keptSize}
+use Rattle.format.specs.Reading.{bytesAt, put}
 use Rattle.protocol.specs.Rules.{upd}
 use Rattle.protocol.specs.Runs.{Machine, Machines}
-use Rattle.protocol.proofs.Answers.{at-cond}
-use Rattle.protocol.proofs.Puts.{put-length}
-use Rattle.protocol.proofs.Places.{part-same, part-below, part-other, slots-apart}
+use Rattle.format.proofs.Answers.{at-cond}
+use Rattle.format.proofs.Puts.{put-length}
+use Rattle.format.proofs.Places.{part-same, part-below, part-other, slots-apart}
 use Rattle.state.specs.State.{stateSize, callAt, callBytes}
 use Rattle.state.proofs.Laws.{state-length, state-back}
 use Rattle.drill.specs.Listing.{workSize}
@@ -55,8 +55,8 @@ module _ (w : List ℕ) (c : ℕ) (hc : (1 ≤ c) × (c ≤ topClient)) (size : 
   pub call-here : callIn (putCall w c x) c ≡ x
   unfolding callIn putCall
   call-here =
-      let e : part (put w (clientAt c) (callBytes x)) (clientAt c) stateSize ≡ callBytes x =
-      ap (part (put w (clientAt c) (callBytes x)) (clientAt c)) (sym (state-length x l)) ∙ part-same w (clientAt c) (callBytes x) state-fits in
+      let e : bytesAt (put w (clientAt c) (callBytes x)) (clientAt c) stateSize ≡ callBytes x =
+      ap (bytesAt (put w (clientAt c) (callBytes x)) (clientAt c)) (sym (state-length x l)) ∙ part-same w (clientAt c) (callBytes x) state-fits in
       ap callAt (e ∙ sym (append-nil (callBytes x))) ∙ state-back x [] l
 
   pub call-there : (i : ℕ) → (1 ≤ i) × (i ≤ topClient) → i ≢ c → callIn (putCall w c x) i ≡ callIn w i
@@ -93,7 +93,7 @@ module _ (w : List ℕ) (c : ℕ) (hc : (1 ≤ c) × (c ≤ topClient)) (size : 
 
   pub kept-here : keptIn (put w (keptAt c) k) c ≡ k
   unfolding keptIn
-  kept-here = ap (part (put w (keptAt c) k) (keptAt c)) (sym l) ∙ part-same w (keptAt c) k kept-room
+  kept-here = ap (bytesAt (put w (keptAt c) k) (keptAt c)) (sym l) ∙ part-same w (keptAt c) k kept-room
 
   pub call-kept-there : (i : ℕ) → (1 ≤ i) × (i ≤ topClient) → i ≢ c → callIn (put w (keptAt c) k) i ≡ callIn w i
   unfolding callIn keptAt

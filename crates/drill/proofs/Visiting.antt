@@ -16,9 +16,9 @@ use Rattle.erasure.proofs.Lists.{getD-map}
 use Rattle.protocol.specs.declared.Taken.{Taken}
 use Rattle.protocol.specs.Answers.{takenAnswer}
 use Rattle.protocol.specs.Primitives.{real}
-use Rattle.protocol.specs.View.{part}
+use Rattle.format.specs.Reading.{bytesAt}
 use Rattle.protocol.specs.ServerBytes.{Served, serverTake}
-use Rattle.protocol.specs.ClientBytes.{Written, Took, keyOf, clientMake, clientTake}
+use Rattle.protocol.specs.ClientBytes.{Filled, Took, keyOf, clientMake, clientTake}
 use Rattle.protocol.specs.Runs.{Shelf, Machines, Done, make, serve, take-reply, resultBy, doBytes, setMachine}
 use Rattle.client.proofs.StampBytes.{key-at}
 use Rattle.drill.specs.declared.shown.Shown.{Shown}
@@ -46,8 +46,8 @@ make-stays : (s : Shelf) (m : Machines) (c b : ℕ) (o : List ℕ) → doBytes r
 unfolding doBytes
 make-stays s m c b o = refl
 
-part-take : (d : List ℕ) (n : ℕ) → part d 0 n ≡ take n d
-unfolding part
+part-take : (d : List ℕ) (n : ℕ) → bytesAt d 0 n ≡ take n d
+unfolding bytesAt
 part-take d n = refl
 
 module _ (t c b : ℕ) (w : List ℕ) (ht : t ≤ topFaults) (hc : (1 ≤ c) × (c ≤ topClient)) (hb : (1 ≤ b) × (b ≤ shelf t .servers)) where
@@ -61,9 +61,9 @@ module _ (t c b : ℕ) (w : List ℕ) (ht : t ≤ topFaults) (hc : (1 ≤ c) × 
 
     pub made-sent : {r : Outcome} {p : List ℕ} → record { result = r; output = p } ≡ clientMake t c b (callIn w c) (keptIn w c)
         (replicate packetRoom 0)
-        → part p 0 (r .count) ≡ doBytes real (drillShelf t) m (make c b (replicate packetRoom 0)) .sent
-    unfolding doBytes part drillShelf
-    made-sent {r} {p} e = part-take p (r .count) ∙ ap (λ (z : Written). take (z .result .count) (z .output)) (e ∙ same-made)
+        → bytesAt p 0 (r .count) ≡ doBytes real (drillShelf t) m (make c b (replicate packetRoom 0)) .sent
+    unfolding doBytes bytesAt drillShelf
+    made-sent {r} {p} e = part-take p (r .count) ∙ ap (λ (z : Filled). take (z .result .count) (z .output)) (e ∙ same-made)
 
     module _ {q : List ℕ} {r : Outcome} {w₁ : List ℕ} (sent : List ℕ)
         (e : ServesAs (serverTake real (memoryIn w b) (replicate keySize b) sent (replicate packetRoom 0)) w b w₁ q r) where
@@ -80,7 +80,7 @@ module _ (t c b : ℕ) (w : List ℕ) (ht : t ≤ topFaults) (hc : (1 ≤ c) × 
           let f : ServesAs served w b w₁ q r = subst (λ (z : Served). ServesAs z w b w₁ q r) same-served e in
           rw (f .area) (server-put t w m ht st b (inside 1 (shelf t .servers) b hb) (served .memory) (f .size))
 
-      pub serve-sent : part q 0 (r .count) ≡ doBytes real (drillShelf t) m (serve b sent (replicate packetRoom 0)) .sent
+      pub serve-sent : bytesAt q 0 (r .count) ≡ doBytes real (drillShelf t) m (serve b sent (replicate packetRoom 0)) .sent
       unfolding doBytes served
       serve-sent =
           let f : ServesAs served w b w₁ q r = subst (λ (z : Served). ServesAs z w b w₁ q r) same-served e in
@@ -113,9 +113,9 @@ module _ (t c b : ℕ) (w : List ℕ) (ht : t ≤ topFaults) (hc : (1 ≤ c) × 
 module _ (t c b : ℕ) (w : List ℕ) (ht : t ≤ topFaults) (hc : (1 ≤ c) × (c ≤ topClient)) (hb : (1 ≤ b) × (b ≤ shelf t .servers)) where
   visit-goes : {r₁ r₂ : Outcome} {p q o w₁ w₂ p' q' : List ℕ} {a : Taken} → record { result = r₁; output = p } ≡ clientMake t c b (callIn w c)
       (keptIn w c) (replicate packetRoom 0)
-      → p' ≡ part p 0 (r₁ .count)
+      → p' ≡ bytesAt p 0 (r₁ .count)
       → ServesAs (serverTake real (memoryIn w b) (replicate keySize b) p' (replicate packetRoom 0)) w b w₁ q r₂
-      → q' ≡ part q 0 (r₂ .count)
+      → q' ≡ bytesAt q 0 (r₂ .count)
       → TakesAs (takeIn t w₁ c q' (replicate contentRoom 0)) w₁ c w₂ o a
       → (m : Machines) → Stands t w m → (Stands t w₂ (visited (drillShelf t) m c b .machines))
       × (resultBy (takenAnswer a) o ≡ visited (drillShelf t) m c b .result)
@@ -136,9 +136,9 @@ module _ (t c b : ℕ) (w : List ℕ) (ht : t ≤ topFaults) (hc : (1 ≤ c) × 
 
   pub visit-done : {r₁ r₂ : Outcome} {p q o w₁ w₂ p' q' : List ℕ} {a : Taken} {x : Shown}
       → record { result = r₁; output = p } ≡ clientMake t c b (callIn w c) (keptIn w c) (replicate packetRoom 0)
-      → p' ≡ part p 0 (r₁ .count)
+      → p' ≡ bytesAt p 0 (r₁ .count)
       → ServesAs (serverTake real (memoryIn w b) (replicate keySize b) p' (replicate packetRoom 0)) w b w₁ q r₂
-      → q' ≡ part q 0 (r₂ .count)
+      → q' ≡ bytesAt q 0 (r₂ .count)
       → TakesAs (takeIn t w₁ c q' (replicate contentRoom 0)) w₁ c w₂ o a
       → x ≡ shown (resultBy (takenAnswer a) o) → DoneIn t (λ m. visited (drillShelf t) m c b) w w₂ x
   visit-done e₁ ep e₂ eq e₃ ex =

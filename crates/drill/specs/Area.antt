@@ -1,3 +1,4 @@
+-- What private functions promise each other; no public contract names these.
 -- Where a drill keeps its parties in the work area: the servers' memories one after another, and from 1,048,576 on a slot for each client.
 use mathlib.Core.Path.{_≡_}
 use mathlib.Core.Bool.{true}
@@ -13,8 +14,9 @@ use Rattle.protocol.specs.declared.Taken.{Taken}
 use Rattle.protocol.specs.Answers.{takenAnswer, abortedAnswer}
 use Rattle.protocol.specs.Primitives.{real}
 use Rattle.protocol.specs.ServerBytes.{Served, Blanked}
-use Rattle.protocol.specs.View.{part, keptSize}
-use Rattle.protocol.specs.ClientBytes.{Begun, GaveUp, Took, put, beginWrite, beginRead, giveUp, clientTake}
+use Rattle.protocol.specs.View.{keptSize}
+use Rattle.format.specs.Reading.{bytesAt, put}
+use Rattle.protocol.specs.ClientBytes.{Begun, GaveUp, Took, beginWrite, beginRead, giveUp, clientTake}
 use Rattle.protocol.specs.Runs.{Machines}
 use Rattle.state.specs.State.{stateSize, keptPlace, callAt, callBytes}
 use Rattle.drill.specs.Listing.{workSize}
@@ -37,13 +39,13 @@ unfoldable pub keptAt : ℕ → ℕ
 keptAt c = clientAt c + keptPlace
 
 unfoldable pub callIn : List ℕ → ℕ → Call
-callIn w c = callAt (part w (clientAt c) stateSize)
+callIn w c = callAt (bytesAt w (clientAt c) stateSize)
 
 unfoldable pub keptIn : List ℕ → ℕ → List ℕ
-keptIn w c = part w (keptAt c) keptSize
+keptIn w c = bytesAt w (keptAt c) keptSize
 
 unfoldable pub memoryIn : List ℕ → ℕ → List ℕ
-memoryIn w b = part w (serverAt b) memorySize
+memoryIn w b = bytesAt w (serverAt b) memorySize
 
 unfoldable pub putCall : List ℕ → ℕ → Call → List ℕ
 putCall w c call = put w (clientAt c) (callBytes call)

@@ -9,7 +9,7 @@ use lib.ListN.{length, replicate}
 use Rattle.cluster.specs.Ranges.{within, topFaults}
 use Rattle.cluster.specs.Refusals.{refuse, firstOf, onRefusal}
 use Rattle.cluster.specs.declared.Outcome.{Outcome}
-use Rattle.protocol.specs.ServerBytes.{over}
+use Rattle.format.specs.Reading.{over}
 use Rattle.protocol.specs.Runs.{Shelf}
 use Rattle.drill.specs.declared.sheet.Line.{Line}
 use Rattle.drill.specs.declared.shown.Shown.{Shown}

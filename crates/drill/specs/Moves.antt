@@ -1,3 +1,4 @@
+-- What private functions promise each other; no public contract names these.
 -- Steps done in the work area: whatever the parties hold, the area holds what they hold after the step, and what is shown is the step's.
 use mathlib.Core.Path.{_≡_}
 use mathlib.Core.List.{List}
@@ -5,8 +6,7 @@ use Prim.Native.Nat.{ℕ, _≤_}
 use Rattle.cluster.specs.Config.{shelf}
 use Rattle.cluster.specs.Ranges.{topClient}
 use lib.ListN.{length}
-use Rattle.protocol.specs.ServerBytes.{over}
-use Rattle.protocol.specs.ClientBytes.{put}
+use Rattle.format.specs.Reading.{over, put}
 use Rattle.protocol.specs.Runs.{Machines, Done}
 use Rattle.drill.specs.declared.sheet.Line.{Line}
 use Rattle.drill.specs.declared.shown.Shown.{Shown}

@@ -1,3 +1,4 @@
+-- What private functions promise each other; no public contract names these.
 -- The code's words for what it reads of a sheet.
 use mathlib.Core.Path.{_≡_}
 use mathlib.Core.Bool.{cond}
@@ -6,7 +7,7 @@ use mathlib.Core.Option.{Option, none, some}
 use Prim.Native.Nat.{ℕ, _+_, _-_, _≤_}
 use lib.Dec.{ltb}
 use lib.ListN.{length, drop}
-use Rattle.protocol.specs.View.{part}
+use Rattle.format.specs.Reading.{bytesAt}
 use Rattle.drill.specs.declared.sheet.Line.{Line}
 use Rattle.drill.specs.declared.sheet.Number.{Number}
 use Rattle.drill.specs.declared.sheet.Number.the-variants as numbers
@@ -24,7 +25,7 @@ readOf (some l) = reads.Line l
 
 -- the line of a sheet from a place to another
 unfoldable pub textAt : List ℕ → ℕ → ℕ → Text
-textAt s at end = record { bytes = part s at (end - at); ended = ltb end (length s) }
+textAt s at end = record { bytes = bytesAt s at (end - at); ended = ltb end (length s) }
 
 -- the line from a place on ends at another, and the other lines stand after it
 pub record EndsAt (s : List ℕ) (at end : ℕ) : Type 0 where

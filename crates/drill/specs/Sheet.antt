@@ -6,8 +6,8 @@ use Prim.Native.Nat.{ℕ, _+_, _-_, _*_}
 use lib.Dec.{leb, ltb, eqb}
 use lib.ListN.{length}
 use Rattle.cluster.specs.Ranges.{within, topNumber}
-use Rattle.protocol.specs.Format.{guard}
-use Rattle.protocol.specs.View.{part}
+use Rattle.format.specs.Format.{guard}
+use Rattle.format.specs.Reading.{bytesAt}
 use Rattle.drill.specs.declared.sheet.Line.{Line}
 
 -- ---- lines: what ends at 0Ah, and an unended rest
@@ -59,7 +59,7 @@ abbrev pub lineSize : ℕ
 lineSize = 40
 
 unfoldable pub columnAt : List ℕ → ℕ → Option ℕ
-columnAt b at = column (part b at columnSize)
+columnAt b at = column (bytesAt b at columnSize)
 
 unfoldable pub fields : List ℕ → Option Line
 fields b =

@@ -8,7 +8,7 @@ use Rattle.cluster.specs.Config.{upTo}
 use Rattle.cluster.specs.Ranges.{within, mostServers, topWriter, topClient, keySize, packetRoom, contentRoom}
 use Rattle.cluster.specs.Refusals.{refuse, firstOf, onRefusal}
 use Rattle.protocol.specs.declared.Answer.{Answer}
-use Rattle.protocol.specs.Format.{print4}
+use Rattle.format.specs.Format.{print4}
 use Rattle.protocol.specs.Primitives.{real}
 use Rattle.protocol.specs.Rules.{upd}
 use Rattle.protocol.specs.Client.{Result, refused, more, accepted, makeRefusal}

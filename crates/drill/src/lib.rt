@@ -2,6 +2,7 @@
 ghost use mathlib.Core.Path.{_≡_};
 ghost use Rattle.drill.specs.Listing.{rowsFor, drillOf};
 
+mod verbs; // the verbs by name
 pub mod sheet; // the numbers in the columns of a line
 mod lines; // the lines of a sheet
 mod area; // the parties in the work area
@@ -27,10 +28,10 @@ pub fn drill(sheet: &[u8], out: &mut [u8], work: &mut [u8]) -> cluster::Outcome
     ensures { λ r. ⌜ record { result = r; output = now (out .exit); work = now (work .exit) } ≡ drillOf (now (sheet .entry)) (now (out .entry)) (now (work .entry)) ⌝ }
 {
     if work.len() != area::WORK {
-        return cluster::refused(1);
+        return cluster::refused(cluster::refusals::MEMORY_SIZE);
     }
     if out.len() / rows::ROW < rows_for(lines::count_lines(sheet)) {
-        return cluster::refused(15);
+        return cluster::refused(cluster::refusals::ROOM);
     }
     server::blank::clear(work);
     let n = run::list(sheet, out, work);

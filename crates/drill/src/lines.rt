@@ -77,26 +77,26 @@ fn is_blanking(l: Line) -> bool
 fn is_first(l: Line) -> bool
     ensures { λ r. ⌜ r ≡ isFirst l ⌝ }
 {
-    (l.verb == 0) & is_alone(l)
+    (l.verb == crate::verbs::SHELF) & is_alone(l)
 }
 
 fn is_step(l: Line) -> bool
     ensures { λ r. ⌜ r ≡ isStep l ⌝ }
 {
     let verb = l.verb;
-    if verb == 1 {
+    if verb == crate::verbs::WRITE {
         return is_write(l);
     }
-    if verb == 2 {
+    if verb == crate::verbs::READ {
         return is_alone(l);
     }
-    if verb == 5 {
+    if verb == crate::verbs::STOP {
         return is_alone(l);
     }
-    if verb == 3 {
+    if verb == crate::verbs::VISIT {
         return no_content(l);
     }
-    if verb == 4 {
+    if verb == crate::verbs::UNLATEST {
         return is_blanking(l);
     }
     false

@@ -2,7 +2,7 @@
 ghost use mathlib.Core.Path.{_≡_};
 ghost use Prim.Native.Nat.{_+_, _≤_, _%_};
 ghost use lib.ListN.{length};
-ghost use Rattle.protocol.specs.ClientBytes.{put};
+ghost use Rattle.format.specs.Reading.{put};
 ghost use Rattle.drill.specs.Sheet.{columnSize};
 ghost use Rattle.drill.specs.Listing.{justified, columns, row, rowSize, stepRow, lastRow};
 use crate::sheet::Line;

@@ -62,7 +62,7 @@ pub(crate) fn blank_line(work: &mut [u8], t: usize, server: usize) -> Shown
     ensures { λ r. ⌜ DoneIn t (λ m. blankLine (drillShelf t) m server) (now (work .entry)) (now (work .exit)) r ⌝ }
 {
     if cluster::outside(1, cluster::servers(t as u8), server) {
-        return crate::shown::refused(4);
+        return crate::shown::refused(cluster::refusals::SERVER);
     }
     blank_latest(work, server);
     crate::shown::begun(0)

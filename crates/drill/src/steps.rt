@@ -37,13 +37,13 @@ fn write(work: &mut [u8], t: usize, begun: u32, client: usize, size: usize, fill
 {
     if cluster::outside(1, cluster::TOP_WRITER, client) {
         return Moved {
-            shown: shown::refused(5),
+            shown: shown::refused(cluster::refusals::CLIENT),
             begun,
         };
     }
     if cluster::TOP_LENGTH < size {
         return Moved {
-            shown: shown::refused(6),
+            shown: shown::refused(cluster::refusals::LENGTH),
             begun,
         };
     }
@@ -68,7 +68,7 @@ fn read(work: &mut [u8], t: usize, client: usize) -> Shown
     ensures { λ r. ⌜ DoneIn t (λ m. doBytes real (drillShelf t) m (read client)) (now (work .entry)) (now (work .exit)) r ⌝ }
 {
     if cluster::outside(1, cluster::TOP_CLIENT, client) {
-        return shown::refused(5);
+        return shown::refused(cluster::refusals::CLIENT);
     }
     shown::begun(area::begin_read(work, t, client))
 }
@@ -78,7 +78,7 @@ fn stop(work: &mut [u8], t: usize, client: usize) -> Shown
     ensures { λ r. ⌜ DoneIn t (λ m. doBytes real (drillShelf t) m (give-up client)) (now (work .entry)) (now (work .exit)) r ⌝ }
 {
     if cluster::outside(1, cluster::TOP_CLIENT, client) {
-        return shown::refused(5);
+        return shown::refused(cluster::refusals::CLIENT);
     }
     shown::given_up(area::give_up(work, t, client))
 }
@@ -91,18 +91,18 @@ pub(crate) fn step(work: &mut [u8], t: usize, begun: u32, l: Line) -> Moved
     let verb = l.verb;
     let client = l.client as usize;
     let server = l.server as usize;
-    if verb == 1 {
+    if verb == crate::verbs::WRITE {
         return write(work, t, begun, client, l.length as usize, l.fill as u8);
     }
-    if verb == 2 {
+    if verb == crate::verbs::READ {
         let s = read(work, t, client);
         return Moved { shown: s, begun };
     }
-    if verb == 3 {
+    if verb == crate::verbs::VISIT {
         let s = crate::visits::visit_line(work, t, client, server);
         return Moved { shown: s, begun };
     }
-    if verb == 4 {
+    if verb == crate::verbs::UNLATEST {
         let s = crate::servers::blank_line(work, t, server);
         return Moved { shown: s, begun };
     }

@@ -15,20 +15,20 @@ use Rattle.cluster.specs.Config.{Config, shelf}
 use Rattle.cluster.specs.Ranges.{memorySize, capacity}
 use Rattle.cluster.specs.Refusals.{onRefusal}
 use Rattle.cluster.proofs.Tests.{untrue}
-use Rattle.protocol.specs.Format.{Bytes, keep, via, seq, byte, number4, orBlank, many}
+use Rattle.format.specs.Format.{Bytes, keep, via, seq, byte, number4, orBlank, many}
 use Rattle.protocol.specs.Values.{Candidate, Write, rank, below, isSome, sameList}
 use Rattle.protocol.specs.Packet.{Packet, Body, stampF, candidateF, anyCandidateF, decode}
 use Rattle.protocol.specs.Packet.{clock, clockReply, store, storeReply, complete, completeReply}
 use Rattle.protocol.specs.Packet.{collect, collectReply, filter, filterReply, repair, repairReply}
-use Rattle.protocol.specs.Memory.{Memory, memoryF, decodeMemory, encodeMemory, held}
+use Rattle.protocol.specs.Memory.{Memory, memoryF, decodeMemory, encodeMemory, lookup}
 use Rattle.protocol.specs.Primitives.{Primitives}
-use Rattle.protocol.specs.Server.{Server, Acted, Stepped, memoryOf, raise, kept, valid, best, act, serverRefusal, answered, serverStep}
+use Rattle.protocol.specs.Server.{Server, Acted, Stepped, memoryOf, raise, onStore, valid, best, act, serverRefusal, answered, serverStep}
 use Rattle.protocol.specs.ServerBytes.{serverIn, turnedDown, actedOn, serverTake}
 use Rattle.protocol.specs.View.{stampAt}
-use Rattle.protocol.proofs.Answers.{at-cond, no-some}
+use Rattle.format.proofs.Answers.{at-cond, no-some}
 use Rattle.protocol.proofs.Acts.{ServerOk}
 use Rattle.protocol.proofs.Equal.{same-refl, same-true}
-use Rattle.protocol.proofs.Formats.{value4-print}
+use Rattle.format.proofs.Formats.{value4-print}
 use Rattle.protocol.proofs.Memories.{fields, decode-memory-ok, encode-decode-memory}
 use Rattle.protocol.proofs.Ranks.{below-rank}
 use Rattle.protocol.proofs.ServerLift.{Holds, Lifted, serve-lift}
@@ -50,10 +50,10 @@ raise-moves : (c : Candidate) (v : Server) → Moves v (raise c v)
 unfolding raise
 raise-moves c v = at-cond (below (v .latest .stamp) (c .stamp)) _ _ (Moves v) (λ e. inr (inr e)) (λ e. inl refl)
 
-keep-moves : (v : Server) (w : Write) → Moves v (kept v w .server)
-unfolding kept
+keep-moves : (v : Server) (w : Write) → Moves v (onStore v w .server)
+unfolding onStore
 keep-moves v w =
-    at-cond (isSome (held (w .stamp) (v .history))) _ _ (λ (a : Acted). Moves v (a .server)) (λ e. inl refl)
+    at-cond (isSome (lookup (w .stamp) (v .history))) _ _ (λ (a : Acted). Moves v (a .server)) (λ e. inl refl)
     (λ e. at-cond (leb capacity (length (v .history))) _ _ (λ (a : Acted). Moves v (a .server)) (λ e. inl refl)
     (λ e. inr (inl (record { latest = refl; history = omega (arith, length-append (v .history) (w ∷ [])) }))))
 

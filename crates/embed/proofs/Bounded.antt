@@ -14,17 +14,18 @@ use Rattle.cluster.specs.Ranges.{topNumber, topWriter, topLength, memorySize}
 use Rattle.cluster.specs.Refusals.{onRefusal}
 use Rattle.protocol.specs.declared.Label.{Label}
 use Rattle.protocol.specs.declared.Call.{Call}
-use Rattle.protocol.specs.Format.{via, seq, byte, number4}
+use Rattle.format.specs.Format.{via, seq, byte, number4}
 use Rattle.protocol.specs.Values.{Candidate, Held, labelOf, sameList}
 use Rattle.protocol.specs.Packet.{Body, BodyOk, Packet, PacketOk, stampF, candidateF, heldF, decode}
 use Rattle.protocol.specs.Memory.{Memory, decodeMemory}
 use Rattle.protocol.specs.Primitives.{Primitives, Lengths}
 use Rattle.protocol.specs.Rules.{ByServer, upd, tagsIn, leader}
 use Rattle.protocol.specs.Server.{serverRefusal}
-use Rattle.protocol.specs.ServerBytes.{Served, over, turnedDown, actedOn, serverTake}
+use Rattle.protocol.specs.ServerBytes.{Served, turnedDown, actedOn, serverTake}
+use Rattle.format.specs.Reading.{over}
 use Rattle.protocol.specs.ClientBytes.{clientMake}
 use Rattle.protocol.specs.Client.{Client, Hand, Turn, Result, refused, more, written, gave, gaveBlank, aborted, idle, clocking, storing, completing, collecting, filtering, repairing, update, judge, found, codeIn, heldIn, isFull, awaits, abortRefusal, abortStep, takeRefusal, turnOn, highAt, takeStep}
-use Rattle.protocol.proofs.Answers.{at-cond}
+use Rattle.format.proofs.Answers.{at-cond}
 use Rattle.protocol.proofs.Room.{Fitting}
 use Rattle.protocol.proofs.HandOk.{HandOk, held-in, upd-ok, choice-ok, content-short}
 use Rattle.protocol.proofs.Fine.{Fine}

@@ -35,13 +35,13 @@ module _ (t server : ℕ) (content : List ℕ) (made : FragmentOutcome) (is : ma
 
   pub made-count : made .number ≡ 0 → length (fragmentBytes t server content) ≡ made .count
   unfolding fragmentStep fragmentBytes
-  made-count none = rw is (rw (sym made-number ∙ none) (fragment-length (shelf t .points) (shelf t .shares) content server))
+  made-count none = rw is (rw (sym made-number ∙ none) (fragment-length (shelf t .points) (shelf t .threshold) content server))
 
   pub made-bytes : made .number ≡ 0 → take (made .count) (made .bytes) ≡ fragmentBytes t server content
   unfolding fragmentStep fragmentBytes
-  made-bytes none = rw is (rw (sym made-number ∙ none) (take-at _ _ _ (fragment-length (shelf t .points) (shelf t .shares) content server)))
+  made-bytes none = rw is (rw (sym made-number ∙ none) (take-at _ _ _ (fragment-length (shelf t .points) (shelf t .threshold) content server)))
 
-  made-size : made .number ≡ 0 → made .count ≡ fragmentSize (shelf t .shares) (length content)
+  made-size : made .number ≡ 0 → made .count ≡ fragmentSize (shelf t .threshold) (length content)
   unfolding fragmentStep
   made-size none = rw is (rw (sym made-number ∙ none) refl)
 
@@ -60,8 +60,8 @@ module _ (t server : ℕ) (content : List ℕ) (made : FragmentOutcome) (is : ma
   made-long none =
       rw is
       (rw (sym made-number ∙ none)
-      (rw (length-append (fragmentBytes t server content) (zeros (512 - fragmentSize (shelf t .shares) (length content))))
-      (omega (arith, fragment-length (shelf t .points) (shelf t .shares) content server))))
+      (rw (length-append (fragmentBytes t server content) (zeros (512 - fragmentSize (shelf t .threshold) (length content))))
+      (omega (arith, fragment-length (shelf t .points) (shelf t .threshold) content server))))
 
   -- where the output has room, the refusal is the operation's own
   pub own-refusal : (out : List ℕ) → fragmentRoom ≤ length out → exportRefusal t server content out ≡ made .number

@@ -18,7 +18,7 @@ use Rattle.protocol.specs.ServerBytes.{blankRefusal, blankStep}
 use Rattle.protocol.specs.View.{view, keptSize}
 use Rattle.protocol.specs.ClientBytes.{keyOf, fresh}
 use Rattle.protocol.specs.Runs.{Shelf, configOf, sentOf, Machines, newCall, doBytes, nowBytes, StepOn, steps, Account, serverOr, byBytes}
-use Rattle.protocol.proofs.Places.{drop-zeros}
+use Rattle.format.proofs.Places.{drop-zeros}
 use Rattle.protocol.proofs.ValueRuns.{World, After, doValues, nowValues, byValues}
 use Rattle.protocol.proofs.Primitive.{real-lengths}
 use Rattle.protocol.proofs.RunLift.{AllFed, run-matches, run-agrees}

@@ -18,7 +18,8 @@ use Rattle.protocol.specs.Values.{nonceSize}
 use Rattle.protocol.specs.Packet.{Packet, PacketOk, decode}
 use Rattle.protocol.specs.Primitives.{real}
 use Rattle.protocol.specs.Rules.{ByServer}
-use Rattle.protocol.specs.ServerBytes.{over, serverTake}
+use Rattle.protocol.specs.ServerBytes.{serverTake}
+use Rattle.format.specs.Reading.{over}
 use Rattle.protocol.specs.Client.{Client, Result, abortStep, takeStep}
 use Rattle.protocol.specs.View.{view}
 use Rattle.protocol.specs.ClientBytes.{Machine, told, Begun, keyOf, beginWrite, beginRead, giveUp, clientMake, clientTake, tookBy}

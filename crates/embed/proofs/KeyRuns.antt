@@ -8,12 +8,12 @@ use lib.ListN.{length, drop, set, replicate, length-append, length-drop}
 use lib.Seq.{set-at, append-snoc, length-take-le}
 use Rattle.cluster.specs.Config.{upTo}
 use Rattle.cluster.specs.Ranges.{keySize, mostServers}
-use Rattle.protocol.specs.View.{part}
+use Rattle.format.specs.Reading.{bytesAt}
 use Rattle.embed.specs.Clients.{keysSize, keysIn}
 
 module _ (d : List ℕ) where
   abbrev key : ℕ → List ℕ
-  key i = part d (keySize * (i - 1)) keySize
+  key i = bytesAt d (keySize * (i - 1)) keySize
 
   abbrev empty : List ℕ
   empty = replicate keySize 0
@@ -35,24 +35,24 @@ module _ (d : List ℕ) where
   unfolding upTo
   filled-none = refl
 
-  pub filled-more : (i : ℕ) → i < mostServers → set (filled i) i (part d (keySize * i) keySize) ≡ filled (i + 1)
+  pub filled-more : (i : ℕ) → i < mostServers → set (filled i) i (bytesAt d (keySize * i) keySize) ≡ filled (i + 1)
   unfolding upTo
   filled-more i h =
       let n : ℕ = mostServers - suc i in
       let e : mostServers - i ≡ suc n = omega arith in
       let s : i + 1 ≡ suc i = omega arith in
       let k : suc i - 1 ≡ i = omega arith in
-      let v : List ℕ = part d (keySize * i) keySize in
+      let v : List ℕ = bytesAt d (keySize * i) keySize in
       ap (λ (j : ℕ). set (map key (upTo i) ++ replicate j empty) i v) e
       ∙ (set-at (map key (upTo i)) empty (replicate n empty) v i (first-keys i)
       ∙ (sym (append-snoc (map key (upTo i)) v (replicate n empty))
-      ∙ (ap (λ (j : ℕ). (map key (upTo i) ++ (part d (keySize * j) keySize ∷ [])) ++ replicate n empty) (sym k)
+      ∙ (ap (λ (j : ℕ). (map key (upTo i) ++ (bytesAt d (keySize * j) keySize ∷ [])) ++ replicate n empty) (sym k)
       ∙ (ap (λ (l : List (List ℕ)). l ++ replicate n empty) (sym (map-append (upTo i) (suc i ∷ []))) ∙ ap filled (sym s)))))
 
   pub filled-all : filled mostServers ≡ keysIn d
   unfolding keysIn
   filled-all = append-nil (map key (upTo mostServers))
 
-  pub key-size : (i : ℕ) → length d ≡ keysSize → i < mostServers → length (part d (keySize * i) keySize) ≡ keySize
-  unfolding part
+  pub key-size : (i : ℕ) → length d ≡ keysSize → i < mostServers → length (bytesAt d (keySize * i) keySize) ≡ keySize
+  unfolding bytesAt
   key-size i l h = length-take-le keySize (drop (keySize * i) d) (omega (arith, l, length-drop (keySize * i) d))

@@ -11,10 +11,9 @@ use borrow.Author.Tests.{eq-eqb, ne-eqb, lt-ltb, le-ltb}
 use lib.Seq.{length-take-le, take-all}
 use Rattle.cluster.specs.Ranges.{keySize}
 use Rattle.hmac.specs.Hmac.{tagSize}
-use Rattle.protocol.specs.ServerBytes.{over}
+use Rattle.format.specs.Reading.{over, bytesAt}
 use Rattle.protocol.specs.Values.{digestSize}
-use Rattle.protocol.specs.View.{part}
-use Rattle.protocol.proofs.Puts.{put-over}
+use Rattle.format.proofs.Puts.{put-over}
 use Rattle.wire.specs.Make.{placed}
 use Rattle.wire.proofs.Put.{placed-wrote}
 use Rattle.cluster.specs.Refusals.{wrongSize}
@@ -22,10 +21,10 @@ use Rattle.embed.specs.Packing.{packed, answer, written}
 use Rattle.embed.specs.Digests.{digestRefusal, tagRefusal}
 
 -- the first n bytes over the front of a buffer
-pub copied-front : (s d : List ℕ) (n : ℕ) {b e : List ℕ} {k : ℕ} → n ≤ length s → n ≤ length d → b ≡ part s 0 n → record { next = k; output = e } ≡
+pub copied-front : (s d : List ℕ) (n : ℕ) {b e : List ℕ} {k : ℕ} → n ≤ length s → n ≤ length d → b ≡ bytesAt s 0 n → record { next = k; output = e } ≡
     placed d 0 b
     → e ≡ take n s ++ drop n d
-unfolding part over
+unfolding bytesAt over
 copied-front s d n {b} {e} in-s in-d q p =
     let l : length b ≡ n = ap length q ∙ length-take-le n s in-s in
     placed-wrote p (omega arith) .bytes ∙ put-over d b

@@ -16,7 +16,7 @@ use Rattle.cluster.specs.Ranges.{keySize, mostServers}
 use Rattle.cluster.proofs.Legal.{upTo-length, upTo-at}
 use Rattle.cluster.proofs.Tests.{within-in}
 use Rattle.erasure.proofs.Lists.{getD-map}
-use Rattle.protocol.specs.View.{part}
+use Rattle.format.specs.Reading.{bytesAt}
 use Rattle.protocol.specs.ClientBytes.{keyOf}
 use Rattle.protocol.specs.Runs.{Shelf}
 use Rattle.wire.proofs.Runs.{padded-length, padded-whole}
@@ -38,8 +38,8 @@ joined-length : (xs : List (List ℕ)) → Each xs → length (joined xs) ≡ ke
 joined-length [] h = refl
 joined-length (x ∷ xs) h = omega (arith, length-append x (joined xs), h .0, joined-length xs (h .1))
 
-joined-part : (xs : List (List ℕ)) → Each xs → (i : ℕ) → i < length xs → part (joined xs) (keySize * i) keySize ≡ getD xs i []
-unfolding part
+joined-part : (xs : List (List ℕ)) → Each xs → (i : ℕ) → i < length xs → bytesAt (joined xs) (keySize * i) keySize ≡ getD xs i []
+unfolding bytesAt
 joined-part [] h i l = absurd (omega arith)
 joined-part (x ∷ xs) h zero l = take-at x (joined xs) keySize (h .0)
 joined-part (x ∷ xs) h (suc i) l =
@@ -69,8 +69,8 @@ module _ (keys : List (List ℕ)) where
       let l : i < length (upTo mostServers) = omega (arith, upTo-length mostServers) in
       let e : getD (upTo mostServers) i 0 ≡ suc i = upTo-at mostServers i h ∙ add-one i in
       let f : getD (upTo mostServers) i 0 - 1 ≡ i = omega (arith, e) in
-      key-at (keysIn d) i ∙ getD-map (λ j. part d (keySize * (j - 1)) keySize) (upTo mostServers) i 0 [] l
-      ∙ ap (λ (j : ℕ). part d (keySize * j) keySize) f ∙ joined-part (map passed (upTo mostServers)) each i (omega (arith, many))
+      key-at (keysIn d) i ∙ getD-map (λ j. bytesAt d (keySize * (j - 1)) keySize) (upTo mostServers) i 0 [] l
+      ∙ ap (λ (j : ℕ). bytesAt d (keySize * j) keySize) f ∙ joined-part (map passed (upTo mostServers)) each i (omega (arith, many))
       ∙ getD-map passed (upTo mostServers) i 0 [] l ∙ ap passed e
 
   -- and no more
@@ -80,7 +80,7 @@ module _ (keys : List (List ℕ)) where
       let d : List ℕ = passedKeys keys in
       key-at (keysIn d) i
       ∙ List·getD-eq-default (keysIn d) []
-      (omega (arith, length-map (upTo mostServers) (λ j. part d (keySize * (j - 1)) keySize), upTo-length mostServers))
+      (omega (arith, length-map (upTo mostServers) (λ j. bytesAt d (keySize * (j - 1)) keySize), upTo-length mostServers))
 
 -- ---- the shelf's own
 

@@ -16,15 +16,16 @@ use Rattle.cluster.specs.Ranges.{packetRoom, memorySize, keySize}
 use Rattle.cluster.specs.Refusals.{wrongSize, onRefusal}
 use Rattle.cluster.specs.declared.Outcome.{Outcome}
 use Rattle.protocol.specs.declared.Call.{Call}
-use Rattle.protocol.specs.Format.{Bytes}
+use Rattle.format.specs.Format.{Bytes}
 use Rattle.protocol.specs.Values.{rank}
 use Rattle.protocol.specs.Packet.{Packet, decode, encode}
 use Rattle.protocol.specs.Memory.{Memory, decodeMemory}
 use Rattle.protocol.specs.Primitives.{Primitives, real}
 use Rattle.protocol.specs.Server.{act, replyTo, serverRefusal}
-use Rattle.protocol.specs.ServerBytes.{Served, over, serverIn, turnedDown, actedOn, serverTake}
+use Rattle.protocol.specs.ServerBytes.{Served, serverIn, turnedDown, actedOn, serverTake}
+use Rattle.format.specs.Reading.{over}
 use Rattle.protocol.specs.Client.{made, makeRefusal}
-use Rattle.protocol.specs.ClientBytes.{Written, awaited, clientMake}
+use Rattle.protocol.specs.ClientBytes.{Filled, awaited, clientMake}
 use Rattle.client.specs.Rounds.{makeByRounds}
 use Rattle.client.proofs.StepsSame.{same-make}
 use Rattle.protocol.specs.View.{stampAt, view}
@@ -142,7 +143,7 @@ take-sized memory key packet out array x h same e = rw (eq-eqb (length key) keyS
 module _ (out : List ℕ) (n : ℕ) (in-out : n ≤ length out) (small : n ≤ packetRoom) (same : ltb (length out) packetRoom ≡ ltb n packetRoom)
     (t client b : ℕ) (c : Call) (kept : List ℕ) (o : Outcome) (x : List ℕ)
     (e : record { result = o; output = x } ≡ clientMake t client b c kept (take n out)) (keeps : length x ≡ length (take n out)) where
-  pub record Makes (part all : Written) : Type 0 where
+  pub record Makes (part all : Filled) : Type 0 where
     pub result : all .result ≡ part .result
     pub output : all .output ≡ part .output ++ drop n out
     pub count : part .result .count ≤ n
@@ -151,7 +152,7 @@ module _ (out : List ℕ) (n : ℕ) (in-out : n ≤ length out) (small : n ≤ p
   bytes = encode (made t client (view (shelf t) c kept) b)
 
   by-refusal : (k : ℕ)
-      → length (onRefusal {A = Written} k (record { result = record { number = k; count = length bytes }; output = over bytes (take n out) })
+      → length (onRefusal {A = Filled} k (record { result = record { number = k; count = length bytes }; output = over bytes (take n out) })
       (record { result = record { number = k; count = 0 }; output = take n out }) .output) ≡ n
       → Makes (onRefusal k (record { result = record { number = k; count = length bytes }; output = over bytes (take n out) })
       (record { result = record { number = k; count = 0 }; output = take n out }))
@@ -168,7 +169,7 @@ module _ (out : List ℕ) (n : ℕ) (in-out : n ≤ length out) (small : n ≤ p
   unfolding makeByRounds
   made-part = rw (e ∙ same-make t client c b kept (take n out), same-make t client c b kept out, refusal-is)
       (by-refusal (makeRefusal (shelf t) client b (awaited c) (length (take n out)))
-      (sym (ap (λ (w : Written). length (w .output)) (e ∙ same-make t client c b kept (take n out))) ∙ keeps ∙ length-take-le n out in-out))
+      (sym (ap (λ (w : Filled). length (w .output)) (e ∙ same-make t client c b kept (take n out))) ∙ keeps ∙ length-take-le n out in-out))
 
   pub made-count : o .count ≤ packetRoom
   made-count = omega (arith, made-part .count, small)

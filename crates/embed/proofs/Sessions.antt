@@ -15,8 +15,9 @@ use Rattle.protocol.specs.declared.Call.{Call}
 use Rattle.protocol.specs.Values.{nonceSize}
 use Rattle.protocol.specs.Answers.{takenAnswer, abortedAnswer}
 use Rattle.protocol.specs.Primitives.{real}
-use Rattle.protocol.specs.View.{part, keptSize}
-use Rattle.protocol.specs.ClientBytes.{Begun, put, Took, beginWrite, beginRead, giveUp, clientMake, clientTake}
+use Rattle.protocol.specs.View.{keptSize}
+use Rattle.format.specs.Reading.{bytesAt, put}
+use Rattle.protocol.specs.ClientBytes.{Begun, Took, beginWrite, beginRead, giveUp, clientMake, clientTake}
 use Rattle.wire.specs.Make.{placed}
 use Rattle.state.specs.State.{keptPlace, stateSize, callAt, callBytes}
 use Rattle.state.proofs.Laws.{state-length}
@@ -40,8 +41,8 @@ module _ (d : List ℕ) (size : length d ≡ clientSize) where
   kept-size = length-drop keptPlace d ∙ omega arith
 
   -- the run with other kept bytes: the small state, the bytes up to the kept ones, and those
-  whole : (k : List ℕ) → putMid keptPlace (length d - keptPlace) d k ≡ take stateSize d ++ (part d stateSize (keptPlace - stateSize) ++ k)
-  unfolding part
+  whole : (k : List ℕ) → putMid keptPlace (length d - keptPlace) d k ≡ take stateSize d ++ (bytesAt d stateSize (keptPlace - stateSize) ++ k)
+  unfolding bytesAt
   whole k =
       let nothing : drop (length d - keptPlace) (drop keptPlace d) ≡ [] = drop-of-length-le (drop keptPlace d) {i = length d - keptPlace}
       (omega (arith, length-drop keptPlace d)) in
@@ -53,7 +54,7 @@ module _ (d : List ℕ) (size : length d ≡ clientSize) where
   unfolding stateWith
   put-back k c =
       let front : length (take stateSize d) ≡ stateSize = length-take-le stateSize d (omega (arith, size)) in
-      rw (whole k) (ap (λ (z : List ℕ). callBytes c ++ z) (drop-at (take stateSize d) (part d stateSize (keptPlace - stateSize) ++ k) stateSize
+      rw (whole k) (ap (λ (z : List ℕ). callBytes c ++ z) (drop-at (take stateSize d) (bytesAt d stateSize (keptPlace - stateSize) ++ k) stateSize
       front))
 
   -- the small state at the start: there is room for it
@@ -180,7 +181,7 @@ module _ (d : List ℕ) (t client : ℕ) (size : length d ≡ clientSize) where
 
   -- giving up leaves the kept bytes where they are
   stays : (c : Call) → callBytes c ++ drop stateSize d ≡ stateWith d c (keptOf d)
-  unfolding stateWith part keptOf
+  unfolding stateWith bytesAt keptOf
   stays c =
       let rest : List ℕ = drop stateSize d in
       ap (λ (z : List ℕ). callBytes c ++ z) (sym (take-append-drop (keptPlace - stateSize) rest) ∙ ap

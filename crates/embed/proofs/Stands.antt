@@ -15,7 +15,8 @@ use Rattle.protocol.specs.declared.Call.{Call}
 use Rattle.protocol.specs.Primitives.{real}
 use Rattle.protocol.specs.Rules.{upd}
 use Rattle.protocol.specs.Client.{Result}
-use Rattle.protocol.specs.View.{part, keptSize}
+use Rattle.protocol.specs.View.{keptSize}
+use Rattle.format.specs.Reading.{bytesAt}
 use Rattle.protocol.specs.ClientBytes.{Machine}
 use Rattle.protocol.specs.Runs.{Shelf, configOf, Machines, Done, setMachine}
 use Rattle.protocol.proofs.ClientLift.{Sound}
@@ -29,10 +30,10 @@ use Rattle.embed.specs.Exports.{Devices, Did, setState}
 module _ (d : List ℕ) (size : length d ≡ clientSize) (c : Call) (k : List ℕ) (kept : length k ≡ keptSize)
     (marks : length (c .tally .marks) ≡ mostServers) where
   abbrev between : List ℕ
-  between = part d stateSize (keptPlace - stateSize)
+  between = bytesAt d stateSize (keptPlace - stateSize)
 
   between-size : length between ≡ keptPlace - stateSize
-  unfolding part
+  unfolding bytesAt
   between-size = length-take-le (keptPlace - stateSize) (drop stateSize d) (omega (arith, length-drop stateSize d))
 
   pub call-back : callAt (stateWith d c k) ≡ c

@@ -10,9 +10,10 @@ use Rattle.cluster.specs.Ranges.{keySize, mostServers}
 use Rattle.cluster.specs.Refusals.{wrongSize, refuse, firstOf, onRefusal}
 use Rattle.protocol.specs.declared.Call.{Call}
 use Rattle.protocol.specs.Values.{nonceSize}
-use Rattle.protocol.specs.View.{part, keptSize}
+use Rattle.protocol.specs.View.{keptSize}
+use Rattle.format.specs.Reading.{bytesAt}
 use Rattle.protocol.specs.Primitives.{real}
-use Rattle.protocol.specs.ClientBytes.{Begun, GaveUp, Written, Took, beginWrite, beginRead, giveUp, clientMake, clientTake}
+use Rattle.protocol.specs.ClientBytes.{Begun, GaveUp, Filled, Took, beginWrite, beginRead, giveUp, clientMake, clientTake}
 use Rattle.state.specs.State.{stateSize, keptPlace, callAt, callBytes}
 use Rattle.embed.specs.Packing.{packed, packedAnswer}
 use Rattle.embed.specs.Coding.{outcomeOf}
@@ -26,7 +27,7 @@ keptOf d = drop keptPlace d
 
 -- the bytes d with another call and other kept bytes
 unfoldable pub stateWith : List ℕ → Call → List ℕ → List ℕ
-stateWith d c kept = callBytes c ++ (part d stateSize (keptPlace - stateSize) ++ kept)
+stateWith d c kept = callBytes c ++ (bytesAt d stateSize (keptPlace - stateSize) ++ kept)
 
 -- an answer, and the state after it
 pub record Session : Type 0 where
@@ -66,7 +67,7 @@ pub record Posted : Type 0 where
   pub answer : ℕ
   pub output : List ℕ
 
-abbrev pub madeOut : Written → Posted
+abbrev pub madeOut : Filled → Posted
 madeOut w = record { answer = outcomeOf (w .result); output = w .output }
 
 unfoldable pub makeIn : List ℕ → ℕ → ℕ → ℕ → List ℕ → Posted
@@ -86,7 +87,7 @@ abbrev pub keysSize : ℕ
 keysSize = keySize * mostServers
 
 unfoldable pub keysIn : List ℕ → List (List ℕ)
-keysIn d = map (λ i. part d (keySize * (i - 1)) keySize) (upTo mostServers)
+keysIn d = map (λ i. bytesAt d (keySize * (i - 1)) keySize) (upTo mostServers)
 
 unfoldable pub sizedFor : List ℕ → List ℕ → List ℕ → ℕ
 sizedFor d writers keys =

@@ -49,16 +49,16 @@ unfolding fragmentStep
 make-refused t server content x e h =
     let done : FragmentOutcome = record {
       number = 0;
-      count = fragmentSize (shelf t .shares) (length content);
-      bytes = fragmentBytes t server content ++ zeros (fragmentRoom - fragmentSize (shelf t .shares) (length content));
+      count = fragmentSize (shelf t .threshold) (length content);
+      bytes = fragmentBytes t server content ++ zeros (fragmentRoom - fragmentSize (shelf t .threshold) (length content));
     } in
     let no : ℕ → FragmentOutcome = λ y. record { number = y; count = 0; bytes = zeros fragmentRoom } in
     ap (λ (y : ℕ). onRefusal y done (no y)) (sym e) ∙ refused-is x done (no x) h
 
 pub make-accepted : (t server : ℕ) (content : List ℕ) → t ≤ topFaults → 1 ≤ server → server ≤ shelf t .servers → fragmentRefusal t server
     (length content) ≡ 0
-    → let f = fragmentSize (shelf t .shares) (length content) in
-    fragmentStep t server content ≡ record { number = 0; count = f; bytes = madeOf (shelf t .shares) f content server ++ zeros (fragmentRoom - f) }
+    → let f = fragmentSize (shelf t .threshold) (length content) in
+    fragmentStep t server content ≡ record { number = 0; count = f; bytes = madeOf (shelf t .threshold) f content server ++ zeros (fragmentRoom - f) }
 unfolding fragmentStep fragmentBytes fragment madeOf column shelf
 make-accepted t server content ht lo hi e =
     let k : ℕ = t + 1 in

@@ -39,7 +39,7 @@ module _ (t n : ℕ) (servers fragments output : List ℕ) where
 
   -- too few different servers
   abbrev few : Bool
-  few = ltb (length (firstDifferent (shelf t .shares) servers)) (shelf t .shares)
+  few = ltb (length (firstDifferent (shelf t .threshold) servers)) (shelf t .threshold)
 
   pub restore-refused : (x : ℕ) → restoreRefusal t n servers (length fragments) (length output) ≡ x → x ≢ 0
       → restoreStep t n servers fragments output ≡ (record { number = x; count = 0 }, output)
@@ -66,15 +66,15 @@ module _ (t n : ℕ) (servers fragments output : List ℕ) where
       first-of-second (argumentChecks t n servers (length fragments) (length output)) (refuse 16 few ∷ [])
       (suc-ne-zero 2, (suc-ne-zero 3, (suc-ne-zero 5, (suc-ne-zero 14, (suc-ne-zero 15, tt))))) e
 
-  pub refused-few : arguments ≡ 0 → length (firstDifferent (shelf t .shares) servers) < shelf t .shares
+  pub refused-few : arguments ≡ 0 → length (firstDifferent (shelf t .threshold) servers) < shelf t .threshold
       → restoreRefusal t n servers (length fragments) (length output) ≡ 16
-  refused-few e h = accepted-arguments e ∙ ap (λ (b : Bool). cond b 16 0) (lt-ltb (length (firstDifferent (shelf t .shares) servers))
-      (shelf t .shares) h)
+  refused-few e h = accepted-arguments e ∙ ap (λ (b : Bool). cond b 16 0) (lt-ltb (length (firstDifferent (shelf t .threshold) servers))
+      (shelf t .threshold) h)
 
-  pub refused-none : arguments ≡ 0 → shelf t .shares ≤ length (firstDifferent (shelf t .shares) servers)
+  pub refused-none : arguments ≡ 0 → shelf t .threshold ≤ length (firstDifferent (shelf t .threshold) servers)
       → restoreRefusal t n servers (length fragments) (length output) ≡ 0
-  refused-none e h = accepted-arguments e ∙ ap (λ (b : Bool). cond b 16 0) (le-ltb (length (firstDifferent (shelf t .shares) servers))
-      (shelf t .shares) h)
+  refused-none e h = accepted-arguments e ∙ ap (λ (b : Bool). cond b 16 0) (le-ltb (length (firstDifferent (shelf t .threshold) servers))
+      (shelf t .threshold) h)
 
 -- ---- what was chosen
 

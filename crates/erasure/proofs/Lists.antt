@@ -12,7 +12,7 @@ use lib.Seq.{ext-getD, length-take-le, getD-take, getD-drop, getD-append-add, ge
 use Rattle.gf256.proofs.Byte.{Small}
 use Rattle.gf256.proofs.Apart.{Apart, Distinct, apart-at}
 use Rattle.erasure.specs.Fragments.{table}
-use Rattle.erasure.specs.Lanes.{Written}
+use Rattle.erasure.specs.Lanes.{RunWritten}
 
 pub length-table : {A : Type 0} (n : ℕ) (g : ℕ → A) → length (table n g) ≡ n
 unfolding table
@@ -85,11 +85,11 @@ distinct-at (x ∷ xs) d (suc i) (suc j) l h = distinct-at xs (d .1) i j (le-of-
 
 -- ---- writing from a place on
 
-pub written-none : (old : List ℕ) (at : ℕ) (g : ℕ → ℕ) → Written old old at 0 g
+pub written-none : (old : List ℕ) (at : ℕ) (g : ℕ → ℕ) → RunWritten old old at 0 g
 written-none old at g = record { long = refl; here = λ i h. absurd (not-suc-le-zero h); below = λ i h. refl; above = λ i h. refl }
 
 -- a second piece behind the first
-pub written-on : (old mid new : List ℕ) (at n m : ℕ) (g : ℕ → ℕ) → Written old mid at n g → Written mid new (at + n) m (λ i. g (n + i)) → Written old
+pub written-on : (old mid new : List ℕ) (at n m : ℕ) (g : ℕ → ℕ) → RunWritten old mid at n g → RunWritten mid new (at + n) m (λ i. g (n + i)) → RunWritten old
     new at (n + m) g
 written-on old mid new at n m g a b = record {
   long = b .long ∙ a .long;
@@ -105,11 +105,11 @@ written-on old mid new at n m g a b = record {
         ap (λ (x : ℕ). getD new x 0) (omega arith) ∙ b .here (i - n) (omega arith) ∙ ap g e
 
 -- from the start on
-pub written-next : (old mid new : List ℕ) (n m : ℕ) (g : ℕ → ℕ) → Written old mid 0 n g → Written mid new n m (λ i. g (n + i)) → Written old new 0
+pub written-next : (old mid new : List ℕ) (n m : ℕ) (g : ℕ → ℕ) → RunWritten old mid 0 n g → RunWritten mid new n m (λ i. g (n + i)) → RunWritten old new 0
     (n + m) g
-written-next old mid new n m g a b = written-on old mid new 0 n m g a (subst (λ (x : ℕ). Written mid new x m (λ i. g (n + i))) (sym (zero-add n)) b)
+written-next old mid new n m g a b = written-on old mid new 0 n m g a (subst (λ (x : ℕ). RunWritten mid new x m (λ i. g (n + i))) (sym (zero-add n)) b)
 
-written-one : (old : List ℕ) (at v : ℕ) → at < length old → Written old (set old at v) at 1 (λ i. v)
+written-one : (old : List ℕ) (at v : ℕ) → at < length old → RunWritten old (set old at v) at 1 (λ i. v)
 written-one old at v h = record {
   long = length-set old at v;
   here = λ i l. ap (λ (x : ℕ). getD (set old at v) x 0) (omega arith) ∙ getD-set-same old at v 0 h;
@@ -118,19 +118,19 @@ written-one old at v h = record {
 }
 
 -- one byte more
-pub written-more : (old mid : List ℕ) (at i : ℕ) (g : ℕ → ℕ) (v : ℕ) → at + i < length mid → v ≡ g i → Written old mid at i g
-    → Written old (set mid (at + i) v) at (i + 1) g
+pub written-more : (old mid : List ℕ) (at i : ℕ) (g : ℕ → ℕ) (v : ℕ) → at + i < length mid → v ≡ g i → RunWritten old mid at i g
+    → RunWritten old (set mid (at + i) v) at (i + 1) g
 written-more old mid at i g v h e w =
-    let one : Written mid (set mid (at + i) v) (at + i) 1 (λ j. v) = written-one mid (at + i) v h in
+    let one : RunWritten mid (set mid (at + i) v) (at + i) 1 (λ j. v) = written-one mid (at + i) v h in
     written-on old mid (set mid (at + i) v) at i 1 g w
     (record { long = one .long; here = λ j l. one .here j l ∙ e ∙ ap g (omega arith); below = one .below; above = one .above })
 
 -- a buffer whose first n bytes were written
-pub written-first : (old new : List ℕ) (n : ℕ) (g : ℕ → ℕ) → n ≤ length old → Written old new 0 n g → new ≡ table n g ++ drop n old
+pub written-first : (old new : List ℕ) (n : ℕ) (g : ℕ → ℕ) → n ≤ length old → RunWritten old new 0 n g → new ≡ table n g ++ drop n old
 written-first old new n g h w =
     written new old n g (w .long) h (λ i b. ap (λ (x : ℕ). getD new x 0) (sym (zero-add i)) ∙ w .here i b)
     (λ i b. w .above i (omega arith))
 
 -- the same bytes, told otherwise
-pub written-as : (old new : List ℕ) (at m : ℕ) (g h : ℕ → ℕ) → ((i : ℕ) → i < m → g i ≡ h i) → Written old new at m g → Written old new at m h
+pub written-as : (old new : List ℕ) (at m : ℕ) (g h : ℕ → ℕ) → ((i : ℕ) → i < m → g i ≡ h i) → RunWritten old new at m g → RunWritten old new at m h
 written-as old new at m g h e w = record { long = w .long; here = λ i l. w .here i l ∙ e i l; below = w .below; above = w .above }

@@ -17,7 +17,7 @@ use Rattle.cluster.proofs.Legal.{upTo-length, upTo-at}
 use Rattle.erasure.specs.Fragments.{table}
 use Rattle.erasure.specs.Steps.{zeros, fragmentRoom}
 use Rattle.erasure.specs.System.{width, AllDifferent, Weighs}
-use Rattle.erasure.specs.Lanes.{sumAt, Written, madeOf, plainOf}
+use Rattle.erasure.specs.Lanes.{sumAt, RunWritten, madeOf, plainOf}
 use Rattle.erasure.proofs.Lists.{length-table, getD-table, table-is, small-of, distinct-of, take-is, written-as, written-first}
 use Rattle.erasure.proofs.Sums.{sumTo-ext}
 
@@ -85,7 +85,7 @@ drop-zeros n f h =
 pub made : (k f room z : ℕ) (w content starts at xs old out : List ℕ) (v : ℕ → ℕ) → old ≡ zeros room → k ≤ width → f ≤ room → Weighs k xs v z → take k
     xs ≡ upTo k
     → ((j : ℕ) → j < k → getD w j 0 ≡ v j) → ((j : ℕ) → j < k → getD starts j 0 ≡ getD at j 0 * f) → ((j : ℕ) → j < width → getD at j 0 ≡ j)
-    → ((j : ℕ) → getD content j 0 < 256) → Written old out 0 f (sumAt k w content starts) → out ≡ madeOf k f content z ++ zeros (room - f)
+    → ((j : ℕ) → getD content j 0 < 256) → RunWritten old out 0 f (sumAt k w content starts) → out ≡ madeOf k f content z ++ zeros (room - f)
 unfolding madeOf
 made k f room z w content starts at xs old out v eo kw fr weighs ex ew es ea small wr =
     let long : length old ≡ room = ap length eo ∙ length-zeros room in
@@ -100,7 +100,7 @@ made k f room z w content starts at xs old out v eo kw fr weighs ex ew es ea sma
 
 -- a plain run, of which the first m bytes are there and were copied; past the content's end it is 00h, as the room was
 pub copied : (f j m room : ℕ) (content old out : List ℕ) → old ≡ zeros room → f ≤ room → m ≤ f → (m < length content - j * f → m ≡ f)
-    → Written old out 0 m (λ i. getD content (j * f + i) 0) → out ≡ plainOf f j content ++ zeros (room - f)
+    → RunWritten old out 0 m (λ i. getD content (j * f + i) 0) → out ≡ plainOf f j content ++ zeros (room - f)
 unfolding plainOf
 copied f j m room content old out eo fr hm end wr =
     let long : length old ≡ room = ap length eo ∙ length-zeros room in

@@ -15,7 +15,7 @@ use Rattle.gf256.specs.Poly.{through}
 use Rattle.gf256.specs.Bytes.{bytes}
 use Rattle.erasure.specs.Fragments.{table}
 use Rattle.erasure.specs.System.{width, sumTo, weightAt, AllDifferent, Solves}
-use Rattle.erasure.specs.Lanes.{sumAt, Written, runAt, rebuiltOf}
+use Rattle.erasure.specs.Lanes.{sumAt, RunWritten, runAt, rebuiltOf}
 use Rattle.erasure.proofs.Lists.{written-next, written-as, written-first}
 use Rattle.erasure.proofs.Placed.{value-at}
 use Rattle.erasure.proofs.Sums.{sumTo-ext}
@@ -92,8 +92,8 @@ byteOf k f a places starts fragments m = runAt k a places starts fragments (m / 
 
 -- one run more
 pub run-more : (k f d m : ℕ) (a : List (List ℕ)) (places starts fragments old mid new : List ℕ) → 0 < f → d % f ≡ 0 → m ≤ f
-    → Written old mid 0 d (byteOf k f a places starts fragments) → Written mid new d m (runAt k a places starts fragments (d / f))
-    → Written old new 0 (d + m) (byteOf k f a places starts fragments)
+    → RunWritten old mid 0 d (byteOf k f a places starts fragments) → RunWritten mid new d m (runAt k a places starts fragments (d / f))
+    → RunWritten old new 0 (d + m) (byteOf k f a places starts fragments)
 run-more k f d m a places starts fragments old mid new hf e hm before piece =
     written-next old mid new d m (byteOf k f a places starts fragments) before
     (written-as mid new d m (runAt k a places starts fragments (d / f)) (λ i. byteOf k f a places starts fragments (d + i))
@@ -107,7 +107,7 @@ pub rebuilt : (k f n : ℕ) (a : List (List ℕ)) (places starts fragments at se
     k ≤ length servers
     → AllDifferent k servers → ((j : ℕ) → j < k → getD servers j 0 < 256) → ((j : ℕ) → getD fragments j 0 < 256)
     → ((j : ℕ) → j < k → getD starts j 0 ≡ getD at j 0 * f) → ((i : ℕ) → i < k → getD places i 0 < k → getD servers (getD places i 0) 0 ≡ i + 1)
-    → ((i : ℕ) → i < k → k ≤ getD places i 0 → Solves k servers a) → Written old new 0 n (byteOf k f a places starts fragments)
+    → ((i : ℕ) → i < k → k ≤ getD places i 0 → Solves k servers a) → RunWritten old new 0 n (byteOf k f a places starts fragments)
     → new ≡ rebuiltOf k f n servers at fragments ++ drop n old
 unfolding rebuiltOf
 rebuilt k f n a places starts fragments at servers old new kw hf hn ho kl d points small es given solved wr =

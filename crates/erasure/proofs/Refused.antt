@@ -87,7 +87,7 @@ makes t server n e = go (not (within 1 topFaults t)) (not (within 1 (shelf t .se
 
 module _ (t n : ℕ) (servers : List ℕ) (given room : ℕ) where
   pub argument-tests : (a b c d e : Bool) → not (within 1 topFaults t) ≡ a → not (each (within 1 (shelf t .servers)) servers) ≡ b
-      → not (within leastLength topLength n) ≡ c → ltb room contentRoom ≡ d → not (eqb given (length servers * fragmentSize (shelf t .shares) n)) ≡ e
+      → not (within leastLength topLength n) ≡ c → ltb room contentRoom ≡ d → not (eqb given (length servers * fragmentSize (shelf t .threshold) n)) ≡ e
       → firstOf (argumentChecks t n servers given room) ≡ cond a 3 (cond b 4 (cond c 6 (cond d 15 (cond e 16 0))))
   unfolding argumentChecks
   argument-tests a b c d e p q r s u = λ i. cond (p i) 3 (cond (q i) 4 (cond (r i) 6 (cond (s i) 15 (cond (u i) 16 0))))
@@ -97,15 +97,15 @@ module _ (t n : ℕ) (servers : List ℕ) (given room : ℕ) where
     pub numbers : (i : ℕ) → i < length servers → (1 ≤ getD servers i 0) × (getD servers i 0 ≤ shelf t .servers)
     pub bytes : (leastLength ≤ n) × (n ≤ topLength)
     pub fits : contentRoom ≤ room
-    pub whole : given ≡ length servers * fragmentSize (shelf t .shares) n
+    pub whole : given ≡ length servers * fragmentSize (shelf t .threshold) n
 
   pub restores : firstOf (argumentChecks t n servers given room) ≡ 0 → Restores
   restores e = go (not (within 1 topFaults t)) (not (each (within 1 (shelf t .servers)) servers)) (not (within leastLength topLength n))
       (ltb room contentRoom)
-      (not (eqb given (length servers * fragmentSize (shelf t .shares) n))) refl refl refl refl refl
+      (not (eqb given (length servers * fragmentSize (shelf t .threshold) n))) refl refl refl refl refl
     where
       go : (a b c d f : Bool) → not (within 1 topFaults t) ≡ a → not (each (within 1 (shelf t .servers)) servers) ≡ b
-          → not (within leastLength topLength n) ≡ c → ltb room contentRoom ≡ d → not (eqb given (length servers * fragmentSize (shelf t .shares) n))
+          → not (within leastLength topLength n) ≡ c → ltb room contentRoom ≡ d → not (eqb given (length servers * fragmentSize (shelf t .threshold) n))
           ≡ f → Restores
       go true b c d f p q r s u = absurd (suc-ne-zero 2 (sym (argument-tests true b c d f p q r s u) ∙ e))
       go false true c d f p q r s u = absurd (suc-ne-zero 3 (sym (argument-tests false true c d f p q r s u) ∙ e))
@@ -118,8 +118,8 @@ module _ (t n : ℕ) (servers : List ℕ) (given room : ℕ) where
             (each-at (within 1 (shelf t .servers)) servers (not-false (each (within 1 (shelf t .servers)) servers) q) i h);
         bytes = within-bounds leastLength topLength n (not-false (within leastLength topLength n) r);
         fits = ltb-false room contentRoom s;
-        whole = eqb-true given (length servers * fragmentSize (shelf t .shares) n) (not-false
-            (eqb given (length servers * fragmentSize (shelf t .shares) n)) u);
+        whole = eqb-true given (length servers * fragmentSize (shelf t .threshold) n) (not-false
+            (eqb given (length servers * fragmentSize (shelf t .threshold) n)) u);
       }
 
 -- ---- one list of tests behind another

@@ -64,7 +64,7 @@ madeBy t content server = take (fragmentStep t server content .count) (fragmentS
 
 module _ (t : ℕ) (content : List ℕ) (faults : (1 ≤ t) × (t ≤ topFaults)) (bytes : (leastLength ≤ length content) × (length content ≤ topLength)) where
   abbrev k : ℕ
-  k = shelf t .shares
+  k = shelf t .threshold
 
   abbrev s : ℕ
   s = shelf t .servers

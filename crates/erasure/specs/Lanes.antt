@@ -29,7 +29,7 @@ unfoldable pub sumAt : (k : ℕ) (weights src starts : List ℕ) → ℕ → ℕ
 sumAt k weights src starts i = sumTo k (λ j. times (getD src (getD starts j 0 + i) 0) (getD weights j 0))
 
 -- new is old, with g 0, .., g (m - 1) written from place at on
-pub record Written (old new : List ℕ) (at m : ℕ) (g : ℕ → ℕ) : Type 0 where
+pub record RunWritten (old new : List ℕ) (at m : ℕ) (g : ℕ → ℕ) : Type 0 where
   pub long : length new ≡ length old
   pub here : (i : ℕ) → i < m → getD new (at + i) 0 ≡ g i
   pub below : (i : ℕ) → i < at → getD new i 0 ≡ getD old i 0

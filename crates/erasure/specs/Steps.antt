@@ -35,7 +35,7 @@ fragmentRefusal t server n =
     ∷ [])
 
 unfoldable pub fragmentBytes : (t server : ℕ) → List ℕ → List ℕ
-fragmentBytes t server content = fragment (shelf t .points) (shelf t .shares) content server
+fragmentBytes t server content = fragment (shelf t .points) (shelf t .threshold) content server
 
 -- the fragment and its length, padded with 00h to its room; or a refusal
 unfoldable pub fragmentStep : (t server : ℕ) → List ℕ → FragmentOutcome
@@ -43,8 +43,8 @@ fragmentStep t server content =
     onRefusal (fragmentRefusal t server (length content))
     (record {
       number = 0;
-      count = fragmentSize (shelf t .shares) (length content);
-      bytes = fragmentBytes t server content ++ zeros (fragmentRoom - fragmentSize (shelf t .shares) (length content));
+      count = fragmentSize (shelf t .threshold) (length content);
+      bytes = fragmentBytes t server content ++ zeros (fragmentRoom - fragmentSize (shelf t .threshold) (length content));
     })
     (record { number = fragmentRefusal t server (length content); count = 0; bytes = zeros fragmentRoom })
 
@@ -57,7 +57,7 @@ argumentChecks t n servers given room =
     ∷ refuse 4 (not (each (within 1 (shelf t .servers)) servers))
     ∷ refuse 6 (not (within leastLength topLength n))
     ∷ refuse 15 (ltb room contentRoom)
-    ∷ refuse 16 (not (eqb given (length servers * fragmentSize (shelf t .shares) n)))
+    ∷ refuse 16 (not (eqb given (length servers * fragmentSize (shelf t .threshold) n)))
     ∷ []
 
 -- and of the choice: k different servers
@@ -65,13 +65,13 @@ unfoldable pub restoreRefusal : (t n : ℕ) (servers : List ℕ) (given room : �
 restoreRefusal t n servers given room =
     firstOf
     (argumentChecks t n servers given room
-    ++ (refuse 16 (ltb (length (firstDifferent (shelf t .shares) servers)) (shelf t .shares)) ∷ []))
+    ++ (refuse 16 (ltb (length (firstDifferent (shelf t .threshold) servers)) (shelf t .threshold)) ∷ []))
 
 -- the content that the first k different servers' fragments give
 unfoldable pub restoredBytes : (t n : ℕ) (servers fragments : List ℕ) → List ℕ
 restoredBytes t n servers fragments =
-    restored (shelf t .points) (shelf t .shares) n
-    (partsAt (fragmentSize (shelf t .shares) n) servers fragments (firstDifferent (shelf t .shares) servers))
+    restored (shelf t .points) (shelf t .threshold) n
+    (partsAt (fragmentSize (shelf t .threshold) n) servers fragments (firstDifferent (shelf t .threshold) servers))
 
 -- the answer, and the output buffer, which keeps what stands past the content; a refusal leaves it as it was
 unfoldable pub restoreStep : (t n : ℕ) (servers fragments output : List ℕ) → Outcome × List ℕ

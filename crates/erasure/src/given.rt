@@ -3,7 +3,7 @@ ghost use mathlib.Core.Path.{_≡_};
 ghost use Prim.Native.Nat.{ℕ, _+_, _<_, _≤_};
 ghost use lib.ListN.{getD, length, take};
 ghost use Rattle.erasure.specs.System.{width, AllDifferent};
-ghost use Rattle.erasure.specs.Lanes.{runAt, Written};
+ghost use Rattle.erasure.specs.Lanes.{runAt, RunWritten};
 ghost use Rattle.erasure.specs.Standing.{placeOf, allGiven, SystemAs};
 
 const WIDTH: usize = crate::system::WIDTH;
@@ -80,7 +80,7 @@ pub(crate) fn run(
     m: usize,
 )
     requires { ⌜ (k ≤ width) × (i < k) × ((j : ℕ) → j < k → getD starts j 0 + m ≤ length (now fragments)) × (at + m ≤ length (now out)) ⌝ }
-    ensures { λ _. ⌜ Written (now (out .entry)) (now (out .exit)) at m (runAt k a places starts (now (fragments .entry)) i) ⌝ }
+    ensures { λ _. ⌜ RunWritten (now (out .entry)) (now (out .exit)) at m (runAt k a places starts (now (fragments .entry)) i) ⌝ }
 {
     let j = places[i];
     if j < k {

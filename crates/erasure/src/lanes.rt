@@ -7,7 +7,7 @@ ghost use lib.ListN.{getD, length};
 ghost use mathlib.Core.List.{[]};
 ghost use Rattle.gf256.specs.Gf.{xtime, times};
 ghost use Rattle.erasure.specs.System.{width, entry, sumTo};
-ghost use Rattle.erasure.specs.Lanes.{lane, bitOf, Lane, sumAt, Written};
+ghost use Rattle.erasure.specs.Lanes.{lane, bitOf, Lane, sumAt, RunWritten};
 
 // How many places are worked on together.
 const LANE: usize = 64;
@@ -140,7 +140,7 @@ fn gather(src: &[u8], starts: [usize; WIDTH], q: usize, k: usize) -> [[u8; LANE]
 // The first m bytes of a lane, written from place at on.
 fn store(out: &mut [u8], at: usize, m: usize, x: [u8; LANE])
     requires { ⌜ (m ≤ lane) × (at + m ≤ length (now out)) ⌝ }
-    ensures { λ _. ⌜ Written (now (out .entry)) (now (out .exit)) at m (λ i. getD x i 0) ⌝ }
+    ensures { λ _. ⌜ RunWritten (now (out .entry)) (now (out .exit)) at m (λ i. getD x i 0) ⌝ }
 {
     let mut i: usize = 0;
     while i < m {
@@ -167,7 +167,7 @@ pub(crate) fn combine(
     m: usize,
 )
     requires { ⌜ (k ≤ width) × ((j : ℕ) → j < k → getD starts j 0 + m ≤ length (now src) + 4096) × (at + m ≤ length (now out)) ⌝ }
-    ensures { λ _. ⌜ Written (now (out .entry)) (now (out .exit)) at m (sumAt k weights (now (src .entry)) starts) ⌝ }
+    ensures { λ _. ⌜ RunWritten (now (out .entry)) (now (out .exit)) at m (sumAt k weights (now (src .entry)) starts) ⌝ }
 {
     let mut q: usize = 0;
     while q < m {
@@ -182,7 +182,7 @@ pub(crate) fn combine(
 // The m bytes of src from place `from` on, written from place at on.
 pub(crate) fn copy(src: &[u8], from: usize, out: &mut [u8], at: usize, m: usize)
     requires { ⌜ (from + m ≤ length (now src)) × (at + m ≤ length (now out)) ⌝ }
-    ensures { λ _. ⌜ Written (now (out .entry)) (now (out .exit)) at m (λ i. getD (now (src .entry)) (from + i) 0) ⌝ }
+    ensures { λ _. ⌜ RunWritten (now (out .entry)) (now (out .exit)) at m (λ i. getD (now (src .entry)) (from + i) 0) ⌝ }
 {
     let mut i: usize = 0;
     while i < m {

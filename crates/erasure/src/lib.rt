@@ -38,11 +38,11 @@ fn servers_of(t: usize) -> usize
 }
 
 // k: how many fragments give a content back.
-fn shares_of(t: usize) -> usize
+fn threshold_of(t: usize) -> usize
     requires { ⌜ t ≤ topFaults ⌝ }
-    ensures { λ r. ⌜ r ≡ shelf t .shares ⌝ }
+    ensures { λ r. ⌜ r ≡ shelf t .threshold ⌝ }
 {
-    cluster::shares(t as u8)
+    cluster::threshold(t as u8)
 }
 
 // The length of each fragment of a content of n bytes.
@@ -84,13 +84,13 @@ fn fragment_refusal(t: usize, server: usize, n: usize) -> u8
     ensures { λ r. ⌜ r ≡ fragmentRefusal t server n ⌝ }
 {
     if cluster::outside(1, cluster::TOP_FAULTS, t) {
-        return 3;
+        return cluster::refusals::FAULTS;
     }
     if cluster::outside(1, servers_of(t), server) {
-        return 4;
+        return cluster::refusals::SERVER;
     }
     if cluster::outside(cluster::LEAST_LENGTH, cluster::TOP_LENGTH, n) {
-        return 6;
+        return cluster::refusals::LENGTH;
     }
     0
 }
@@ -100,19 +100,19 @@ fn restore_refusal(t: usize, n: usize, servers: &[usize], given: usize, room: us
     ensures { λ r. ⌜ r ≡ firstOf (argumentChecks t n (now (servers .entry)) given room) ⌝ }
 {
     if cluster::outside(1, cluster::TOP_FAULTS, t) {
-        return 3;
+        return cluster::refusals::FAULTS;
     }
     if server_outside(servers, servers_of(t)) {
-        return 4;
+        return cluster::refusals::SERVER;
     }
     if cluster::outside(cluster::LEAST_LENGTH, cluster::TOP_LENGTH, n) {
-        return 6;
+        return cluster::refusals::LENGTH;
     }
     if room < cluster::CONTENT_ROOM {
-        return 15;
+        return cluster::refusals::ROOM;
     }
-    if miscounted(given, servers.len(), size(shares_of(t), n)) {
-        return 16;
+    if miscounted(given, servers.len(), size(threshold_of(t), n)) {
+        return cluster::refusals::FRAGMENTS;
     }
     0
 }
@@ -131,7 +131,7 @@ pub fn fragment(t: usize, server: usize, content: &[u8]) -> FragmentOutcome
             bytes: runs::blank(),
         };
     }
-    let k = shares_of(t);
+    let k = threshold_of(t);
     let f = size(k, content.len());
     if server <= k {
         let run = runs::plain(f, server - 1, content);
@@ -163,13 +163,13 @@ pub fn restore(
     if number != 0 {
         return cluster::refused(number);
     }
-    let k = shares_of(t);
+    let k = threshold_of(t);
     let c = choice::select(servers, k);
     let chosen = c.servers;
     let at = c.at;
     let count = c.count;
     if count < k {
-        return cluster::refused(16);
+        return cluster::refused(cluster::refusals::FRAGMENTS);
     }
     runs::rebuild(chosen, at, fragments, k, size(k, length), length, out);
     cluster::Outcome {

@@ -10,7 +10,7 @@ use native.Mathlib.Omega.{arith}
 use lib.ListN.{length}
 use Rattle.cluster.specs.Ranges.{contentRoom}
 use Rattle.cluster.specs.Refusals.{onRefusal}
-use Rattle.protocol.specs.Format.{Bytes}
+use Rattle.format.specs.Format.{Bytes}
 use Rattle.protocol.specs.Values.{nonceSize, blankCandidate}
 use Rattle.protocol.specs.Packet.{Packet, PacketOk, encode}
 use Rattle.protocol.specs.Rules.{nobody}

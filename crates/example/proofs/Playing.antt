@@ -13,7 +13,7 @@ use Rattle.cluster.specs.Ranges.{within, keySize}
 use Rattle.cluster.proofs.Tests.{inside}
 use Rattle.hmac.specs.Hmac.{tagSize}
 use Rattle.erasure.specs.Fragments.{fragment, restored}
-use Rattle.protocol.specs.Format.{Bytes}
+use Rattle.format.specs.Format.{Bytes}
 use Rattle.protocol.specs.Values.{digestSize, nonceSize}
 use Rattle.protocol.specs.Primitives.{Primitives, Lengths, real}
 use Rattle.protocol.specs.Rules.{ByServer, countTo}
@@ -46,7 +46,7 @@ functions H = record { digest = H .digest; tag = H .tag; fragment = fragment; re
 
 pub function-lengths : (H : Hashing) → Lengths (functions H)
 unfolding real
-function-lengths H = record { digest = H .digest-size; tag = H .tag-size; part = real-lengths .part; content = real-lengths .content }
+function-lengths H = record { digest = H .digest-size; tag = H .tag-size; fragment = real-lengths .fragment; content = real-lengths .content }
 
 -- ---- the shelf and its parties: server 1 lies, client 16 is wild
 

@@ -12,7 +12,7 @@ use borrow.Author.Tests.{ltb-true, leb-true}
 use Rattle.cluster.specs.Config.{Config, shelf}
 use Rattle.cluster.specs.Ranges.{topNumber}
 use Rattle.protocol.specs.declared.Stamp.{Stamp}
-use Rattle.protocol.specs.Format.{Bytes, byte, number2, number4, run, seq, via, keep, orBlank, many, optional, printMany, print4}
+use Rattle.format.specs.Format.{Bytes, byte, number2, number4, run, seq, via, keep, orBlank, many, optional, printMany, print4}
 use Rattle.protocol.specs.Values.{Candidate, Share, Held, runOf}
 use Rattle.protocol.specs.Packet.{Body, Packet, stampF, anyStampF, shareF, writeF, candidateF, anyCandidateF, candidatesF, heldF, codeF, printBody}
 use Rattle.protocol.specs.Packet.{bodyF, headF, packetF, encode}
@@ -73,7 +73,7 @@ pub record CandidateBytes (c : Candidate) : Type 0 where
 
 pub record ShareBytes (h : Share) : Type 0 where
   pub size : h .size < 65536
-  pub part : Byted (h .part)
+  pub fragment : Byted (h .fragment)
   pub digests : Byted (h .digests)
   pub nonceDigest : Byted (h .nonceDigest)
   pub tags : Byted (h .tags)
@@ -106,7 +106,7 @@ module _ (s : Config) where
   unfolding shareF via seq number2 run
   share-bytes h b =
       next {x = h .size / 256} (omega (arith, b .size)) (next {x = h .size % 256} (omega arith)
-      (row (b .part) (row (b .digests) (row (b .nonceDigest) (b .tags)))))
+      (row (b .fragment) (row (b .digests) (row (b .nonceDigest) (b .tags)))))
 
   candidate-bytes : (c : Candidate) → CandidateBytes c → Byted (candidateF s .print c)
   unfolding candidateF via seq run

@@ -20,7 +20,7 @@ use Rattle.gf256.specs.Poly.{eval, vanish, through}
 use Rattle.protocol.specs.declared.Stamp.{Stamp}
 use Rattle.protocol.specs.declared.Label.{Label}
 use Rattle.protocol.specs.Values.{Candidate, Share, Write, sameList, sameStamp, sameCandidate, nth, runOf, blankCandidate, isBlank, below}
-use Rattle.protocol.specs.Memory.{held}
+use Rattle.protocol.specs.Memory.{lookup}
 use Rattle.protocol.specs.Primitives.{stampMessage, candidateMessage}
 use Rattle.protocol.specs.Server.{Server, hasDigest, byHistory, byTag, valid, best}
 use Rattle.protocol.specs.Client.{checks, stampOf, tagsOf, candidateMade, shareMade}
@@ -181,8 +181,8 @@ module _ (H : Hashing) where
   abbrev pub holding : ℕ → Server
   holding b = record { latest = cand; history = stored b ∷ [] }
 
-  pub held-own : (b : ℕ) → held (cand .stamp) (stored b ∷ []) ≡ some (share b)
-  unfolding held
+  pub held-own : (b : ℕ) → lookup (cand .stamp) (stored b ∷ []) ≡ some (share b)
+  unfolding lookup
   held-own b = ap (λ (q : Bool). cond q (some (share b)) none) (stamp-refl (cand .stamp))
 
   -- it vouches for every candidate of this stamp and nonce, and not for the made-up one
@@ -216,11 +216,11 @@ module _ (H : Hashing) where
   blankOne = record { latest = blankCandidate (s H .config); history = [] }
 
   spoilt-invalid : (b : ℕ) → 1 ≤ b → b ≤ s H .config .servers → valid (functions H) (s H .config) (s H .keys b) b blankOne spoilt ≡ false
-  unfolding valid byHistory held spoilt
+  unfolding valid byHistory lookup spoilt
   spoilt-invalid b lo hi = not-by-tag (cand .stamp) nonce1 b lo hi
 
   cand-valid : (b : ℕ) → 1 ≤ b → b ≤ s H .config .servers → valid (functions H) (s H .config) (s H .keys b) b blankOne cand ≡ true
-  unfolding valid byHistory held
+  unfolding valid byHistory lookup
   cand-valid b lo hi = by-tag b lo hi
 
   pub best-tagged : (b : ℕ) → 1 ≤ b → b ≤ s H .config .servers → bestOf b blankOne (spoilt ∷ cand ∷ []) ≡ cand
@@ -231,7 +231,7 @@ module _ (H : Hashing) where
       ∙ ap (λ (q : Bool). cond (q && true) cand (blankCandidate (s H .config))) (cand-valid b lo hi)
 
   made-up-invalid : (b : ℕ) → 1 ≤ b → b ≤ s H .config .servers → valid (functions H) (s H .config) (s H .keys b) b (holding b) madeUp ≡ false
-  unfolding valid byHistory held madeUp sameStamp cand candidateMade stampOf
+  unfolding valid byHistory lookup madeUp sameStamp cand candidateMade stampOf
   made-up-invalid b lo hi = not-by-tag stamp7 nonce3 b lo hi
 
   pub best-made-up : (b : ℕ) → 1 ≤ b → b ≤ s H .config .servers → bestOf b (holding b) (madeUp ∷ []) ≡ blankCandidate (s H .config)

@@ -12,7 +12,7 @@ use Rattle.cluster.specs.Config.{shelf}
 use Rattle.hmac.specs.Hmac.{tagSize}
 use Rattle.erasure.specs.Fragments.{fragment}
 use Rattle.protocol.specs.declared.Stamp.{Stamp}
-use Rattle.protocol.specs.Format.{byte, number4, run, seq, via, keep, orBlank, many}
+use Rattle.format.specs.Format.{byte, number4, run, seq, via, keep, orBlank, many}
 use Rattle.protocol.specs.Values.{nonceSize}
 use Rattle.protocol.specs.Packet.{Packet, PacketOk, stampF, anyStampF, candidateF, anyCandidateF, candidatesF, bodyF, headF, packetF, filter}
 use Rattle.protocol.specs.Primitives.{stampMessage, candidateMessage}
@@ -77,12 +77,12 @@ module _ (H : Hashing) where
       }
 
   -- a share whose fragment is the nonce
-  pub share-bytes : (b : ℕ) → fragment (s H .config .points) (s H .config .shares) content1 b ≡ nonce1 → ShareBytes (share H b)
+  pub share-bytes : (b : ℕ) → fragment (s H .config .points) (s H .config .threshold) content1 b ≡ nonce1 → ShareBytes (share H b)
   unfolding share shareMade content1 tagsOf cand candidateMade
   share-bytes b e =
       record {
         size = omega arith;
-        part = subst Byted (sym e) nonce1-bytes;
+        fragment = subst Byted (sym e) nonce1-bytes;
         digests = run-bytes (s H .config .servers) _ (λ i. byted _ (H .digest-bytes _));
         nonceDigest = byted _ (H .digest-bytes nonce1);
         tags = tags-bytes;

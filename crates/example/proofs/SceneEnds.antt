@@ -12,7 +12,7 @@ use Rattle.cluster.specs.Config.{shelf, quorum}
 use Rattle.erasure.specs.Fragments.{Part}
 use Rattle.protocol.specs.Values.{Candidate, blankCandidate, noHeld, below}
 use Rattle.protocol.specs.Packet.{Body, Packet, collectReply, filter, filterReply, repair, repairReply, encode}
-use Rattle.protocol.specs.Memory.{held}
+use Rattle.protocol.specs.Memory.{lookup}
 use Rattle.protocol.specs.Primitives.{candidateMessage}
 use Rattle.protocol.specs.Rules.{upd, nobody, countTo, parts}
 use Rattle.protocol.specs.Server.{replyTo, byHistory, byTag, best}
@@ -105,7 +105,7 @@ module _ (H : Hashing) where
   judged-tagged = ap nonblank (best-tagged H 4 (omega arith) (omega arith))
 
   pub tag-checks-4 : serverChecks (s H) 4 (blankOne H) (cand H) ≡ (s H .keys 4, candidateMessage (cand H .stamp) (H .digest nonce1)) ∷ []
-  unfolding serverChecks byHistory held cand candidateMade shelf
+  unfolding serverChecks byHistory lookup cand candidateMade shelf
   tag-checks-4 = ap (λ (q : Bool). cond q ((s H .keys 4, candidateMessage (cand H .stamp) (H .digest nonce1)) ∷ []) [])
       (by-tag H 4 (omega arith) (omega arith))
 

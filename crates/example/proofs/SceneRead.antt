@@ -13,7 +13,7 @@ use borrow.Author.Tests.{eq-eqb}
 use Rattle.cluster.specs.Config.{shelf, quorum}
 use Rattle.cluster.specs.Ranges.{within}
 use Rattle.erasure.specs.Fragments.{Part, fragment, restored}
-use Rattle.protocol.specs.Format.{Bytes}
+use Rattle.format.specs.Format.{Bytes}
 use Rattle.protocol.specs.Values.{labelOf, Candidate, Held, sameList, sameStamp, sameCandidate, nth, digestSize, blankCandidate, noHeld, isBlank, below}
 use Rattle.protocol.specs.Primitives.{real}
 use Rattle.protocol.specs.Rules.{ByServer, upd, nobody, countTo, any, keep, first, gather, lower, live, fits, sameShare, agrees, leads, leader}
@@ -66,13 +66,13 @@ module _ (H : Hashing) where
   abbrev pub marked : ByServer Bool
   marked = upd (upd (upd nobody 2 true) 3 true) 4 true
 
-  digest-at : (b : ℕ) → 1 ≤ b → b ≤ s H .config .servers → sameList (H .digest (share H b .part)) (nth digestSize (share H b .digests) b) ≡ true
+  digest-at : (b : ℕ) → 1 ≤ b → b ≤ s H .config .servers → sameList (H .digest (share H b .fragment)) (nth digestSize (share H b .digests) b) ≡ true
   unfolding share shareMade
   digest-at b lo hi =
-      ap (sameList (H .digest (share H b .part)))
-      (nth-run digestSize (λ i. H .digest (fragment (s H .config .points) (s H .config .shares) content1 i)) (λ i. H .digest-size _)
+      ap (sameList (H .digest (share H b .fragment)))
+      (nth-run digestSize (λ i. H .digest (fragment (s H .config .points) (s H .config .threshold) content1 i)) (λ i. H .digest-size _)
       (s H .config .servers) b lo hi)
-      ∙ same-refl (H .digest (share H b .part))
+      ∙ same-refl (H .digest (share H b .fragment))
 
   size-in : (b : ℕ) → within 1 1024 (share H b .size) ≡ true
   unfolding share shareMade content1
@@ -86,7 +86,7 @@ module _ (H : Hashing) where
   proves : (b : ℕ) → 1 ≤ b → b ≤ s H .config .servers →
       sameStamp (cand H .stamp) (spoilt H .stamp)
       && (within 1 1024 (share H b .size) && (sameList (share H b .nonceDigest) (H .digest (spoilt H .nonce))
-      && sameList (H .digest (share H b .part)) (nth digestSize (share H b .digests) b))) ≡ true
+      && sameList (H .digest (share H b .fragment)) (nth digestSize (share H b .digests) b))) ≡ true
   unfolding spoilt
   proves b lo hi = λ i. stamp-refl (cand H .stamp) i && (size-in b i && (nonce-in b i && digest-at b lo hi i))
 
@@ -176,7 +176,7 @@ module _ (H : Hashing) where
   -- ---- what is read
 
   abbrev pub part : ℕ → Part
-  part b = record { server = b; bytes = share H b .part }
+  part b = record { server = b; bytes = share H b .fragment }
 
   pub parts-are : parts (functions H) (s H .config) marked heard (spoilt H) 2 (s H .config .servers) ≡ part 2 ∷ part 3 ∷ []
   unfolding parts shelf upd
@@ -189,7 +189,7 @@ module _ (H : Hashing) where
 
   restored-is : restoredBy (functions H) (s H .config) marked heard (spoilt H) 2 (some (share H 2)) ≡ content1
   unfolding restoredBy share shareMade real shelf AllPairs All
-  restored-is = ap (λ (ps : List Part). restored (s H .config .points) (s H .config .shares) (length content1) ps) parts-are
+  restored-is = ap (λ (ps : List Part). restored (s H .config .points) (s H .config .threshold) (length content1) ps) parts-are
       ∙ real-restores 1 (omega arith) (omega arith) content1 content-bytes (2 ∷ 3 ∷ []) ((refl, tt), (tt, tt))
       ((omega arith, omega arith), ((omega arith, omega arith), tt))
       (omega arith)

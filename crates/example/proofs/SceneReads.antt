@@ -12,7 +12,7 @@ use Rattle.cluster.specs.Config.{shelf, quorum}
 use Rattle.cluster.specs.Ranges.{keySize, contentRoom}
 use Rattle.protocol.specs.Values.{Candidate, Share, blankCandidate, noHeld, below}
 use Rattle.protocol.specs.Packet.{Body, clockReply, collectReply, filter, filterReply, repair, repairReply}
-use Rattle.protocol.specs.Memory.{held}
+use Rattle.protocol.specs.Memory.{lookup}
 use Rattle.protocol.specs.Rules.{ByServer, upd, nobody, countTo}
 use Rattle.protocol.specs.Server.{Server, Acted, raise, act, barred, replyTo, serverRefusal}
 use Rattle.protocol.specs.Client.{Hand, refused, gave, clocking, collecting, filtering, repairing, awaits, isIdle, stampOf, candidateMade, made}
@@ -116,7 +116,7 @@ module _ (H : Hashing) where
       ap (λ (c : Candidate). record {
         server = raise c (holding H b);
         reply = filterReply
-            (record { stamp = c .stamp; share = held (c .stamp) (stored H b ∷ []) });
+            (record { stamp = c .stamp; share = lookup (c .stamp) (stored H b ∷ []) });
       })
       (best-held H b)
       ∙ ap (λ (o : Option Share). record { server = holding H b; reply = filterReply (record { stamp = cand H .stamp; share = o }) }) (held-own H b)
@@ -126,9 +126,9 @@ module _ (H : Hashing) where
     reply = filterReply
         (record { stamp = cand H .stamp; share = none });
   }
-  unfolding act raise below held cand candidateMade stampOf shelf
+  unfolding act raise below lookup cand candidateMade stampOf shelf
   filter-tagged =
-      ap (λ (c : Candidate). record { server = raise c (blankOne H); reply = filterReply (record { stamp = c .stamp; share = held (c .stamp) [] }) })
+      ap (λ (c : Candidate). record { server = raise c (blankOne H); reply = filterReply (record { stamp = c .stamp; share = lookup (c .stamp) [] }) })
       (best-tagged H 4 (omega arith) (omega arith))
 
   repair-held : (b : ℕ) → actsOn b (holding H b) (repair (cand H)) ≡ record { server = holding H b; reply = repairReply }

@@ -11,10 +11,10 @@ use Prim.Native.Nat.{ℕ}
 use native.Mathlib.Omega.{arith}
 use lib.ListN.{length, getD, length-replicate}
 use Rattle.cluster.specs.Config.{shelf}
-use Rattle.protocol.specs.Format.{Bytes}
+use Rattle.format.specs.Format.{Bytes}
 use Rattle.protocol.specs.Values.{Candidate, nonceSize, noHeld, below, sameStamp}
 use Rattle.protocol.specs.Packet.{clockReply, filterReply}
-use Rattle.protocol.specs.Memory.{held}
+use Rattle.protocol.specs.Memory.{lookup}
 use Rattle.protocol.specs.Primitives.{stampMessage, candidateMessage}
 use Rattle.protocol.specs.Rules.{upd}
 use Rattle.protocol.specs.Server.{best, raise, act, barred, serverRefusal}
@@ -67,7 +67,7 @@ module _ (H : Hashing) where
   x13 = gives-up H 2 ∷ x12
 
   pub wild : Serves H (w13 H) 2 (wildPacket H) (holding H 2) (filterReply noHeld)
-  unfolding w0 w1 w2 w3 w4 w5 w6 w7 w8 w9 w10 w11 w12 w13 upd shelf serverRefusal barred wildPacket act raise below held sameStamp cand candidateMade
+  unfolding w0 w1 w2 w3 w4 w5 w6 w7 w8 w9 w10 w11 w12 w13 upd shelf serverRefusal barred wildPacket act raise below lookup sameStamp cand candidateMade
       stampOf
   wild =
       record {
@@ -80,7 +80,7 @@ module _ (H : Hashing) where
         does = ap (λ (c : Candidate). record {
           server = raise c (holding H 2);
           reply = filterReply
-              (record { stamp = c .stamp; share = held (c .stamp) (stored H 2 ∷ []) });
+              (record { stamp = c .stamp; share = lookup (c .stamp) (stored H 2 ∷ []) });
         })
             (best-made-up H 2 (omega arith) (omega arith));
       }

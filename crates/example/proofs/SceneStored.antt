@@ -8,7 +8,7 @@ use mathlib.Core.Logic.{inl, inr}
 use Prim.Native.Nat.{ℕ}
 use lib.ListN.{length, length-replicate}
 use Rattle.cluster.specs.Config.{shelf, upTo}
-use Rattle.protocol.specs.Format.{Bytes}
+use Rattle.format.specs.Format.{Bytes}
 use Rattle.protocol.specs.Values.{nonceSize, blankStamp, isBlank, below}
 use Rattle.protocol.specs.Packet.{Packet, decode, clockReply, storeReply, completeReply}
 use Rattle.protocol.specs.Primitives.{stampMessage, candidateMessage}

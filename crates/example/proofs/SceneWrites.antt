@@ -8,12 +8,12 @@ use mathlib.Core.List.{[], _∷_}
 use Prim.Native.Nat.{ℕ}
 use native.Mathlib.Omega.{arith}
 use Rattle.cluster.specs.Config.{shelf, quorum}
-use Rattle.protocol.specs.Format.{byte, keep as keepF}
+use Rattle.format.specs.Format.{byte, keep as keepF}
 use Rattle.protocol.specs.Values.{blankStamp, blankCandidate, isBlank, below}
 use Rattle.protocol.specs.Packet.{clockReply, storeReply, completeReply, codeF}
-use Rattle.protocol.specs.Memory.{held}
+use Rattle.protocol.specs.Memory.{lookup}
 use Rattle.protocol.specs.Rules.{ByServer, upd, nobody, countTo}
-use Rattle.protocol.specs.Server.{Server, kept, raise, act, barred, replyTo, serverRefusal, blankServer}
+use Rattle.protocol.specs.Server.{Server, onStore, raise, act, barred, replyTo, serverRefusal, blankServer}
 use Rattle.protocol.specs.Client.{Hand, Turn, Result, newClient, more, written, idle, clocking, storing, completing, awaits, isIdle, stampOf}
 use Rattle.protocol.specs.Client.{candidateMade, sharesMade, prepared, made, onto, checks, higher, isFull, update, tooHigh, makeRefusal}
 use Rattle.protocol.specs.Client.{takeRefusal, turnOn, highAt, begun}
@@ -116,7 +116,7 @@ module _ (H : Hashing) where
 
   pub writes : Writes
   unfolding w0 w1 w2 w3 w4 w5 w6 w7 w8 w9 upd nobody begun shelf quorum awaits isIdle
-      made makeRefusal takeRefusal serverRefusal barred act kept held raise below turnOn highAt update tooHigh isFull countTo higher checks
+      made makeRefusal takeRefusal serverRefusal barred act onStore lookup raise below turnOn highAt update tooHigh isFull countTo higher checks
       isBlank onto replyTo prepared cand candidateMade stampOf sharesMade share highStamp codeF keepF byte
   writes =
       record {

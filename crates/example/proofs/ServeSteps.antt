@@ -11,7 +11,7 @@ use native.Mathlib.Omega.{arith}
 use lib.ListN.{length, replicate, length-replicate}
 use Rattle.cluster.specs.Ranges.{within, topWriter, packetRoom, contentRoom}
 use Rattle.cluster.specs.Refusals.{onRefusal}
-use Rattle.protocol.specs.Format.{Bytes}
+use Rattle.format.specs.Format.{Bytes}
 use Rattle.protocol.specs.Values.{Candidate}
 use Rattle.protocol.specs.Packet.{Body, Packet, PacketOk, kindOf, encode, decode}
 use Rattle.protocol.specs.Rules.{upd}

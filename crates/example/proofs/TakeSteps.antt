@@ -10,7 +10,7 @@ use native.Mathlib.Omega.{arith}
 use lib.ListN.{length}
 use Rattle.cluster.specs.Ranges.{contentRoom}
 use Rattle.cluster.specs.Refusals.{onRefusal}
-use Rattle.protocol.specs.Format.{Bytes}
+use Rattle.format.specs.Format.{Bytes}
 use Rattle.protocol.specs.Packet.{Packet, PacketOk, kindOf, encode, decode}
 use Rattle.protocol.specs.Rules.{upd}
 use Rattle.protocol.specs.Client.{Client, Turn, refused, accepted, takeRefusal, takeStep, turnOn, highAt, awaits, inComplete}

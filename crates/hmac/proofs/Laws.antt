@@ -16,7 +16,7 @@ use borrow.Author.Tests.{le-leb}
 use Rattle.sha256.specs.Sha256.{tab, sha256}
 use Rattle.sha256.proofs.Laws.{sha-length, sha-bytes, tab-length, tab-at, tab-ext}
 use Rattle.sha256.proofs.Hashed.{digest-after}
-use Rattle.hmac.specs.Hmac.{hmacSha256, keyOf, maskedOf, tagOf, tagSize}
+use Rattle.hmac.specs.Hmac.{hmacSha256, keyBlock, maskedOf, tagOf, tagSize}
 use Rattle.hmac.specs.PreparedKey.{preparedOf, preparedHmac, preparedTag}
 
 pub hmac-length : (k m : List ℕ) → length (hmacSha256 k m) ≡ 32
@@ -35,8 +35,8 @@ tag-bytes k m i = go (decLt i tagSize)
     go (yes p) = rw (getD-take tagSize (hmacSha256 k m) i 0 p) (sha-bytes _ i)
     go (no p) = rw (List·getD-eq-default (take tagSize (hmacSha256 k m)) 0 {n = i} (omega (arith, tag-length k m))) (omega arith)
 
-pub short-key : (k : List ℕ) → length k ≡ 32 → keyOf k ≡ k
-unfolding keyOf
+pub short-key : (k : List ℕ) → length k ≡ 32 → keyBlock k ≡ k
+unfolding keyBlock
 short-key k h = rw (le-leb (length k) 64 (omega arith))
 
 -- a copy of one byte more
@@ -103,10 +103,10 @@ masked-length k x = tab-length 64 _
 pub prepared-hmac : (k m : List ℕ) → preparedHmac (preparedOf k) m ≡ hmacSha256 k m
 unfolding preparedHmac preparedOf hmacSha256
 prepared-hmac k m =
-    let outer : List ℕ = maskedOf (keyOf k) 0x5c in
-    let inner : List ℕ = maskedOf (keyOf k) 0x36 in
-    digest-after outer _ (masked-length (keyOf k) 0x5c)
-    ∙ ap (λ (x : List ℕ). sha256 (outer ++ x)) (digest-after inner m (masked-length (keyOf k) 0x36))
+    let outer : List ℕ = maskedOf (keyBlock k) 0x5c in
+    let inner : List ℕ = maskedOf (keyBlock k) 0x36 in
+    digest-after outer _ (masked-length (keyBlock k) 0x5c)
+    ∙ ap (λ (x : List ℕ). sha256 (outer ++ x)) (digest-after inner m (masked-length (keyBlock k) 0x36))
 
 pub prepared-tag : (k m : List ℕ) → preparedTag (preparedOf k) m ≡ tagOf k m
 unfolding preparedTag tagOf

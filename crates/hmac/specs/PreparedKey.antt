@@ -6,11 +6,11 @@ use lib.ListN.{take}
 use Rattle.sha256.specs.Sha256.{initial, hashed}
 use Rattle.sha256.specs.FirstBlock.{digestAfter}
 use Rattle.hmac.specs.declared.Prepared.{Prepared}
-use Rattle.hmac.specs.Hmac.{keyOf, maskedOf, tagSize}
+use Rattle.hmac.specs.Hmac.{keyBlock, maskedOf, tagSize}
 
 -- the hash values after the key's two blocks
 unfoldable pub preparedOf : List ℕ → Prepared
-preparedOf k = record { inner = hashed initial 1 (maskedOf (keyOf k) 0x36); outer = hashed initial 1 (maskedOf (keyOf k) 0x5c) }
+preparedOf k = record { inner = hashed initial 1 (maskedOf (keyBlock k) 0x36); outer = hashed initial 1 (maskedOf (keyBlock k) 0x5c) }
 
 -- what follows a block each time: the message, then the digest of it
 unfoldable pub preparedHmac : Prepared → List ℕ → List ℕ

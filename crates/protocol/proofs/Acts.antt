@@ -13,16 +13,16 @@ use borrow.Author.Tests.{ne-eqb, leb-false}
 use Rattle.cluster.specs.Config.{Config}
 use Rattle.cluster.specs.Ranges.{capacity}
 use Rattle.protocol.specs.declared.Stamp.{Stamp}
-use Rattle.protocol.specs.Format.{All, via, seq, keep, orBlank, many, optional, number4, byte}
+use Rattle.format.specs.Format.{All, via, seq, keep, orBlank, many, optional, number4, byte}
 use Rattle.protocol.specs.Values.{Candidate, Share, Write, below, sameStamp, isSome, blankCandidate}
 use Rattle.protocol.specs.Packet.{Body, BodyOk, stampF, anyStampF, writeF, shareF, candidateF, anyCandidateF, candidatesF, heldF, heldMost, codeF}
 use Rattle.protocol.specs.Packet.{clock, clockReply, store, storeReply, complete, completeReply, collect, collectReply, filter, filterReply, repair, repairReply}
-use Rattle.protocol.specs.Memory.{held, freshAfter, distinct}
+use Rattle.protocol.specs.Memory.{lookup, freshAfter, distinct}
 use Rattle.protocol.specs.Primitives.{Primitives}
-use Rattle.protocol.specs.Server.{Server, Acted, kept, raise, valid, best, act, blankServer}
-use Rattle.protocol.proofs.Answers.{no-some, at-cond}
+use Rattle.protocol.specs.Server.{Server, Acted, onStore, raise, valid, best, act, blankServer}
+use Rattle.format.proofs.Answers.{no-some, at-cond}
 use Rattle.protocol.proofs.Equal.{stamp-same}
-use Rattle.protocol.proofs.Walks.{all-snoc}
+use Rattle.format.proofs.Walks.{all-snoc}
 
 -- what a memory's layout asks of the server in it
 pub record ServerOk (s : Config) (v : Server) : Type 0 where
@@ -35,7 +35,7 @@ pub record ServerOk (s : Config) (v : Server) : Type 0 where
 
 -- the write w is new among ws
 abbrev isNew : Write → List Write → Bool
-isNew w ws = not (isSome (held (w .stamp) ws))
+isNew w ws = not (isSome (lookup (w .stamp) ws))
 
 fresh-snoc : (seen ws : List Write) (w : Write) → freshAfter seen (ws ++ w ∷ []) ≡ (freshAfter seen ws && isNew w (seen ++ ws))
 fresh-snoc seen [] w = and-true _ ∙ ap (isNew w) (sym (append-nil seen))
@@ -74,13 +74,13 @@ module _ (s : Config) where
   write-share w h = h .1
 
   -- what the history holds for a stamp: a share in its ranges, and the stamp is not blank
-  pub held-ok : (a : Stamp) (ws : List Write) → All (writeF s .Ok) ws → (x : Share) → held a ws ≡ some x → (1 ≤ a .number) × shareF s .Ok x
-  unfolding held
+  pub held-ok : (a : Stamp) (ws : List Write) → All (writeF s .Ok) ws → (x : Share) → lookup a ws ≡ some x → (1 ≤ a .number) × shareF s .Ok x
+  unfolding lookup
   held-ok a [] h x e = no-some x e
   held-ok a (w ∷ ws) h x e = go (sameStamp (w .stamp) a) refl e (held-ok a ws (h .1) x)
     where
-      go : (b : Bool) → sameStamp (w .stamp) a ≡ b → cond b (some (w .share)) (held a ws) ≡ some x
-          → (held a ws ≡ some x → (1 ≤ a .number) × shareF s .Ok x) → (1 ≤ a .number) × shareF s .Ok x
+      go : (b : Bool) → sameStamp (w .stamp) a ≡ b → cond b (some (w .share)) (lookup a ws) ≡ some x
+          → (lookup a ws ≡ some x → (1 ≤ a .number) × shareF s .Ok x) → (1 ≤ a .number) × shareF s .Ok x
       go true p q r =
           let k : w .stamp ≡ a = stamp-same (w .stamp) a p in (
             subst (λ (z : Stamp). 1 ≤ z .number) k (stamp-pos w (h .0)),
@@ -108,7 +108,7 @@ module _ (P : Primitives) (s : Config) (key : List ℕ) (b : ℕ) (v : Server) (
       best-ok _ ds
       (at-cond (valid P s key b v d && below (c .stamp) (d .stamp)) d c (anyCandidateF s .Ok) (λ e. any-candidate s d (k .0)) (λ e. h)) (k .1)
 
-  store-ok : (w : Write) → writeF s .Ok w → isSome (held (w .stamp) (v .history)) ≡ false → leb capacity (length (v .history)) ≡ false
+  store-ok : (w : Write) → writeF s .Ok w → isSome (lookup (w .stamp) (v .history)) ≡ false → leb capacity (length (v .history)) ≡ false
       → ServerOk s (record { latest = v .latest; history = v .history ++ w ∷ [] })
   store-ok w h new room =
       let e : distinct (v .history ++ w ∷ []) ≡ true = fresh-snoc [] (v .history) w ∙ rw (ok .once, new) in
@@ -120,9 +120,9 @@ module _ (P : Primitives) (s : Config) (key : List ℕ) (b : ℕ) (v : Server) (
         once = e;
       }
 
-  held-reply : (c : Candidate) → anyCandidateF s .Ok c → heldF s .Ok (record { stamp = c .stamp; share = held (c .stamp) (v .history) })
+  held-reply : (c : Candidate) → anyCandidateF s .Ok c → heldF s .Ok (record { stamp = c .stamp; share = lookup (c .stamp) (v .history) })
   unfolding heldF via seq optional
-  held-reply c h = (any-stamp s c h, go (held (c .stamp) (v .history)) (λ x e. held-ok s (c .stamp) (v .history) (ok .writes) x e))
+  held-reply c h = (any-stamp s c h, go (lookup (c .stamp) (v .history)) (λ x e. held-ok s (c .stamp) (v .history) (ok .writes) x e))
     where
       go : (o : Option Share) → ((x : Share) → o ≡ some x → (1 ≤ c .stamp .number) × shareF s .Ok x) → optional (heldMost (c .stamp)) (shareF s) .Ok o
       go none k = tt
@@ -141,10 +141,10 @@ module _ (P : Primitives) (s : Config) (key : List ℕ) (b : ℕ) (v : Server) (
   code-ok n e h = (e, (omega arith, h))
 
   pub act-ok : (x : Body) → BodyOk s x → Right (act P s key b v x)
-  unfolding act kept
+  unfolding act onStore
   act-ok clock h = record { server = ok; reply = any-stamp s (v .latest) (ok .latest) }
   act-ok (store w) h =
-      at-cond (isSome (held (w .stamp) (v .history))) _ _ Right
+      at-cond (isSome (lookup (w .stamp) (v .history))) _ _ Right
       (λ e. record { server = ok; reply = code-ok _ refl (lit≤ tt) })
       (λ e.
       at-cond (leb capacity (length (v .history))) _ _ Right

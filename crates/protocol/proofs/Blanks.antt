@@ -8,7 +8,7 @@ use lib.Dec.{eqb}
 use borrow.Author.Tests.{ne-eqb}
 use Rattle.cluster.specs.Config.{Config}
 use Rattle.protocol.specs.declared.Stamp.{Stamp}
-use Rattle.protocol.specs.Format.{via, seq, number4, orBlank}
+use Rattle.format.specs.Format.{via, seq, number4, orBlank}
 use Rattle.protocol.specs.Values.{Candidate, blankStamp, blankCandidate, isBlank, sameStamp, sameCandidate}
 use Rattle.protocol.specs.Packet.{stampF, anyStampF, candidateF, anyCandidateF}
 use Rattle.protocol.proofs.Equal.{stamp-refl, candidate-refl}

@@ -8,12 +8,12 @@ use Prim.Native.Nat.{ℕ}
 use lib.Dec.{eqb}
 use borrow.Author.Tests.{eqb-true}
 use Rattle.cluster.specs.Config.{Config, shelf}
-use Rattle.protocol.specs.Format.{Fmt, Lawful, Bytes, andThen, whole, empty}
+use Rattle.format.specs.Format.{Fmt, Lawful, Bytes, andThen, whole, empty}
 use Rattle.protocol.specs.Packet.{Body, Packet, kindOf, printBody, parseBody, BodyOk, bodyF, headF, packetF, decode, encode, PacketOk}
 use Rattle.protocol.specs.Packet.{anyStampF, writeF, codeF, candidateF, anyCandidateF, candidatesF, heldF}
 use Rattle.protocol.specs.Packet.{clock, clockReply, store, storeReply, complete, completeReply, collect, collectReply, filter, filterReply, repair, repairReply}
-use Rattle.protocol.proofs.Answers.{no-some, same-value, same-rest, andThen-some, whole-some}
-use Rattle.protocol.proofs.Formats.{empty-law, seq-law, via-law}
+use Rattle.format.proofs.Answers.{no-some, same-value, same-rest, andThen-some, whole-some}
+use Rattle.format.proofs.Formats.{empty-law, seq-law, via-law}
 use Rattle.protocol.proofs.Packets.{any-stamp-law, write-law, candidate-law, any-candidate-law, candidates-law, held-law, code-law, head-law}
 
 -- bodies of kind k: con makes one of parts in the format F

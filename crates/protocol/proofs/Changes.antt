@@ -8,11 +8,11 @@ use lib.ListN.{length, drop, set, replicate, length-append, length-replicate, re
 use lib.Seq.{take-at, drop-at, drop-append-add}
 use Rattle.cluster.specs.Config.{Config, shelf}
 use Rattle.cluster.specs.Ranges.{memorySize}
-use Rattle.protocol.specs.Format.{Fmt, printMany, byte, number4, run, seq, via, keep, orBlank, many}
+use Rattle.format.specs.Format.{Fmt, printMany, byte, number4, run, seq, via, keep, orBlank, many}
 use Rattle.protocol.specs.Values.{Candidate, Write, blankCandidate, stampSize, nonceSize, tagsSize, candidateSize}
 use Rattle.protocol.specs.Packet.{stampF, writeF, candidateF, anyCandidateF}
 use Rattle.protocol.specs.Memory.{Memory, memoryF, encodeMemory, blankMemory}
-use Rattle.protocol.specs.ClientBytes.{put}
+use Rattle.format.specs.Reading.{put}
 
 -- n zeros
 abbrev pub noughts : ℕ → List ℕ

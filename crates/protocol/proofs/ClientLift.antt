@@ -16,10 +16,11 @@ use Rattle.protocol.specs.declared.Tally.{Tally}
 use Rattle.protocol.specs.Values.{blankCandidate, nonceSize}
 use Rattle.protocol.specs.Rules.{nobody}
 use Rattle.protocol.specs.Client.{Client, idle, clocking, collecting, begun, onto, awaits, isIdle}
-use Rattle.protocol.specs.View.{part, contentOf, nonceOf, handOf, view, keptSize, nonceAt, candidateSlot, candidatesAt}
-use Rattle.protocol.specs.ClientBytes.{put, fresh, inHand, awaited}
-use Rattle.protocol.proofs.Puts.{put-length}
-use Rattle.protocol.proofs.Places.{part-same, part-below}
+use Rattle.protocol.specs.View.{contentOf, nonceOf, handOf, view, keptSize, noncePlace, candidateSlot, candidatesPlace}
+use Rattle.format.specs.Reading.{bytesAt, put}
+use Rattle.protocol.specs.ClientBytes.{fresh, inHand, awaited}
+use Rattle.format.proofs.Puts.{put-length}
+use Rattle.format.proofs.Places.{part-same, part-below}
 use Rattle.protocol.proofs.Marks.{marked-fresh}
 use Rattle.protocol.proofs.Slots.{slots-zero}
 
@@ -99,7 +100,7 @@ fresh-sound s r c kept e k =
     }
 
 -- a content at the start is what the view reads there
-pub content-read : (c : Call) (kept content : List ℕ) → c .length ≡ length content → length content ≤ topLength → part kept 0 (length content) ≡
+pub content-read : (c : Call) (kept content : List ℕ) → c .length ≡ length content → length content ≤ topLength → bytesAt kept 0 (length content) ≡
     content
     → contentOf c kept ≡ content
 unfolding contentOf
@@ -110,28 +111,28 @@ module _ (s : Config) (c : Call) (kept : List ℕ) (h : Sound s c kept) where
   pub write-begun : (content nonce : List ℕ) → length content ≤ topLength → length nonce ≡ nonceSize
       → Lifted s (begun (view s c kept) (clocking content nonce (c .last)))
       (record { number = suc (c .number); last = c .last; high = c .last; length = length content; tally = fresh 1 })
-      (put (put kept 0 content) nonceAt nonce)
+      (put (put kept 0 content) noncePlace nonce)
   unfolding view handOf nonceOf fresh begun
   write-begun content nonce small l =
       let k : List ℕ = put kept 0 content in
-      let K : List ℕ = put k nonceAt nonce in
+      let K : List ℕ = put k noncePlace nonce in
       let c' : Call = record { number = suc (c .number); last = c .last; high = c .last; length = length content; tally = fresh 1 } in
       let s1 : length k ≡ keptSize = put-length kept 0 content (omega (arith, h .size)) ∙ h .size in
-      let room : nonceAt + length nonce ≤ length k = omega arith in
-      let e : part K nonceAt nonceSize ≡ nonce = ap (part K nonceAt) (sym l) ∙ part-same k nonceAt nonce room in
-      let f : part K 0 (length content) ≡ content =
-      part-below k nonceAt nonce room 0 (length content) (omega arith) ∙ part-same kept 0 content (omega (arith, h .size)) in
+      let room : noncePlace + length nonce ≤ length k = omega arith in
+      let e : bytesAt K noncePlace nonceSize ≡ nonce = ap (bytesAt K noncePlace) (sym l) ∙ part-same k noncePlace nonce room in
+      let f : bytesAt K 0 (length content) ≡ content =
+      part-below k noncePlace nonce room 0 (length content) (omega arith) ∙ part-same kept 0 content (omega (arith, h .size)) in
       let g : contentOf c' K ≡ content = content-read c' K content refl small f in
       record {
         seen = λ i. record { calls = suc (c .number); last = c .last; marks = marked-fresh i; hand = clocking (g i) (e i) (c .last) };
-        sound = fresh-sound s 1 c' K (unfold fresh in refl) (put-length k nonceAt nonce room ∙ s1);
+        sound = fresh-sound s 1 c' K (unfold fresh in refl) (put-length k noncePlace nonce room ∙ s1);
       }
 
   -- begin a read
   pub read-begun : s .servers ≤ mostServers
       → Lifted s (begun (view s c kept) (collecting (λ b. blankCandidate s)))
       (record { number = suc (c .number); last = c .last; high = c .high; length = c .length; tally = fresh 4 })
-      (put kept candidatesAt (replicate (candidateSlot * mostServers) 0))
+      (put kept candidatesPlace (replicate (candidateSlot * mostServers) 0))
   unfolding view handOf fresh begun
   read-begun few =
       let z = slots-zero s few kept (h .size) in
@@ -141,7 +142,7 @@ module _ (s : Config) (c : Call) (kept : List ℕ) (h : Sound s c kept) where
         seen = λ i. record { calls = suc (c .number); last = c .last; marks = marked-fresh i; hand = collecting (z i) };
         sound =
             fresh-sound s 4 _ _ (unfold fresh in refl)
-            (put-length kept candidatesAt (replicate (candidateSlot * mostServers) 0) (omega (arith, h .size, n)) ∙ h .size);
+            (put-length kept candidatesPlace (replicate (candidateSlot * mostServers) 0) (omega (arith, h .size, n)) ∙ h .size);
       }
 
   -- giving up, or the end of a call

@@ -10,12 +10,12 @@ use lib.ListN.{length, getD, drop}
 use lib.Seq.{ext-getD}
 use borrow.Author.Tests.{eq-eqb, eqb-true}
 use Rattle.protocol.specs.declared.Stamp.{Stamp}
-use Rattle.protocol.specs.Format.{value4, via, seq, number4, byte, run}
+use Rattle.format.specs.Format.{value4, via, seq, number4, byte, run}
 use Rattle.protocol.specs.Values.{Candidate, Share, Write, sameList, sameStamp, sameCandidate}
 use Rattle.protocol.specs.Packet.{stampF}
 use Rattle.protocol.specs.Primitives.{stampMessage, candidateMessage}
-use Rattle.protocol.specs.Memory.{held}
-use Rattle.protocol.proofs.Formats.{value4-print}
+use Rattle.protocol.specs.Memory.{lookup}
+use Rattle.format.proofs.Formats.{value4-print}
 use Rattle.cluster.proofs.Tests.{and-both}
 
 -- two tests that imply each other are one
@@ -114,8 +114,8 @@ foundBy key [] = none
 foundBy key (w ∷ ws) = cond (sameList (stampF .print (w .stamp)) key) (some (w .share)) (foundBy key ws)
 
 -- what the history holds, by printed stamp and by value
-pub found-held : (a : Stamp) (ws : List Write) → foundBy (stampF .print a) ws ≡ held a ws
-unfolding foundBy held
+pub found-held : (a : Stamp) (ws : List Write) → foundBy (stampF .print a) ws ≡ lookup a ws
+unfolding foundBy lookup
 found-held a [] = refl
 found-held a (w ∷ ws) = rw (same-printed (w .stamp) a, found-held a ws)
 

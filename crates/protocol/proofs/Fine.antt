@@ -18,7 +18,7 @@ use Rattle.protocol.specs.Packet.{Body, BodyOk, Packet, PacketOk}
 use Rattle.protocol.specs.Primitives.{Primitives, Lengths}
 use Rattle.protocol.specs.Rules.{ByServer, upd, nobody, leader, tagsIn}
 use Rattle.protocol.specs.Client.{Client, Hand, Turn, onto, begun, idle, clocking, storing, completing, collecting, filtering, repairing, update, judge, found, codeIn, isFull, isIdle, awaits, newClient, badFaults, writeRefusal, readRefusal, abortRefusal, takeRefusal, writeStep, readStep, abortStep, turnOn, highAt, takeStep}
-use Rattle.protocol.proofs.Answers.{at-cond}
+use Rattle.format.proofs.Answers.{at-cond}
 use Rattle.protocol.proofs.Room.{Fitting}
 use Rattle.protocol.proofs.Acts.{blank-candidate}
 use Rattle.protocol.proofs.ServerLift.{body-ok}

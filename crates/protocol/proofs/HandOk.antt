@@ -12,7 +12,7 @@ use lib.ListN.{length, length-append}
 use Rattle.cluster.specs.Config.{Config}
 use Rattle.cluster.specs.Ranges.{topWriter, topNumber, leastLength, topLength}
 use Rattle.cluster.proofs.Tests.{or-none}
-use Rattle.protocol.specs.Format.{All, via, seq, run, orBlank, optional}
+use Rattle.format.specs.Format.{All, via, seq, run, orBlank, optional}
 use Rattle.protocol.specs.Values.{Candidate, Share, Held, noHeld, isBlank, sameCandidate, nonceSize, tagsSize}
 use Rattle.protocol.specs.Packet.{Body, BodyOk, stampF, anyStampF, candidateF, anyCandidateF, shareF, heldF, heldMost}
 use Rattle.protocol.specs.Packet.{clock, clockReply, store, storeReply, complete, completeReply, collect, collectReply, filter, filterReply, repair, repairReply}
@@ -20,11 +20,11 @@ use Rattle.protocol.specs.Primitives.{Primitives, Lengths}
 use Rattle.protocol.specs.Rules.{ByServer, upd, any, keep, first, gather, live, highest, choice, proven, parts, restoredBy, tagsIn}
 use Rattle.protocol.specs.Client.{Hand, idle, clocking, storing, completing, collecting, filtering, repairing, stampIn, candidateIn, heldIn}
 use Rattle.protocol.specs.View.{replySlot}
-use Rattle.protocol.proofs.Answers.{no-some, at-cond}
+use Rattle.format.proofs.Answers.{no-some, at-cond}
 use Rattle.protocol.proofs.Packets.{stamp-length, candidate-lengths, share-lengths}
 use Rattle.protocol.proofs.Room.{Fitting, share-room, share-size}
 use Rattle.protocol.proofs.Readers.{held-lengths, share-held}
-use Rattle.protocol.proofs.Walks.{all-snoc}
+use Rattle.format.proofs.Walks.{all-snoc}
 
 -- a writer's content and nonce
 pub record WriteOk (c : ℕ) (r n : List ℕ) : Type 0 where
@@ -179,7 +179,7 @@ module _ (P : Primitives) (law : Lengths P) (s : Config) (m : ByServer Bool) (g 
       go (some q) k =
           unfold restoredBy in omega (
             arith,
-            law .content (s .points) (s .shares) (q .size) (parts P s m g d n (s .servers)),
+            law .content (s .points) (s .threshold) (q .size) (parts P s m g d n (s .servers)),
             share-size s f q
                 (k q refl),
           )

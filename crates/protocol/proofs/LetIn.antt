@@ -12,7 +12,7 @@ use Rattle.cluster.specs.Config.{Config, shelf}
 use Rattle.cluster.specs.Ranges.{within, topWriter, topClient, topNumber, leastLength, topLength}
 use Rattle.cluster.proofs.Tests.{untrue, and-both, or-none, and-rest, within-in, within-bounds, inside, passes}
 use Rattle.protocol.specs.declared.Call.{Call}
-use Rattle.protocol.specs.Format.{via, seq, keep, byte}
+use Rattle.format.specs.Format.{via, seq, keep, byte}
 use Rattle.protocol.specs.Packet.{Body, Packet, PacketOk, packetF, headF, kindOf}
 use Rattle.protocol.specs.Primitives.{Primitives}
 use Rattle.protocol.specs.Rules.{ByServer}

@@ -6,7 +6,7 @@ use native.Mathlib.Omega.{arith}
 use borrow.Author.Tests.{le-leb}
 use Rattle.cluster.specs.Config.{Config, shelf}
 use Rattle.cluster.specs.Ranges.{topFaults, topClient, topNumber}
-use Rattle.protocol.specs.Format.{via, seq, keep, byte, number4, many}
+use Rattle.format.specs.Format.{via, seq, keep, byte, number4, many}
 use Rattle.protocol.specs.Packet.{Body, BodyOk, PacketOk, packetF, headF, bodyF, candidateF, candidatesF, writeF}
 use Rattle.protocol.specs.Client.{Client, Hand, idle, clocking, storing, completing, collecting, filtering, repairing, request, made}
 use Rattle.protocol.proofs.Room.{Fitting}

@@ -11,13 +11,13 @@ use lib.Dec.{eqb}
 use borrow.Author.Tests.{eq-eqb, ne-eqb, eqb-true}
 use Rattle.cluster.specs.Config.{Config, shelf}
 use Rattle.cluster.specs.Ranges.{topFaults, memorySize, capacity}
-use Rattle.protocol.specs.Format.{Lawful, Bytes, All, zeros, printMany, byte, seq, via, keep, many}
+use Rattle.format.specs.Format.{Lawful, Bytes, All, zeros, printMany, byte, seq, via, keep, many}
 use Rattle.protocol.specs.Packet.{writeF, anyCandidateF}
 use Rattle.protocol.specs.Memory.{Memory, distinct, memoryF, zeroTail, decodeMemory, encodeMemory, MemoryOk}
-use Rattle.protocol.specs.Reading.{Leaves, Stops}
-use Rattle.protocol.proofs.Answers.{guard-some, no-some, zeros-replicate, zeros-only}
-use Rattle.protocol.proofs.Formats.{byte-law, seq-law, via-law, keep-law}
-use Rattle.protocol.proofs.Repeats.{many-law}
+use Rattle.format.specs.Reading.{Leaves, Stops}
+use Rattle.format.proofs.Answers.{guard-some, no-some, zeros-replicate, zeros-only}
+use Rattle.format.proofs.Formats.{byte-law, seq-law, via-law, keep-law}
+use Rattle.format.proofs.Repeats.{many-law}
 use Rattle.protocol.proofs.Packets.{write-law, any-candidate-law, any-candidate-length}
 use Rattle.protocol.proofs.Room.{Fitting, shelf-fits, writes-room}
 

@@ -14,11 +14,12 @@ use Rattle.protocol.specs.declared.Call.{Call}
 use Rattle.protocol.specs.Packet.{Body, BodyOk, Packet, PacketOk, kindOf, anyCandidateF, heldF}
 use Rattle.protocol.specs.Rules.{ByServer, countTo, upd, nobody}
 use Rattle.protocol.specs.Client.{Hand, candidateIn, heldIn}
-use Rattle.protocol.specs.View.{marked, candidatesIn, repliesIn, handOf, contentOf, view, keptSize, candidateSlot, candidatesAt, repliesAt, replySlot}
-use Rattle.protocol.specs.ClientBytes.{put, awaited, inHand, putMarks}
+use Rattle.protocol.specs.View.{marked, candidatesIn, repliesIn, handOf, contentOf, view, keptSize, candidateSlot, candidatesPlace, repliesPlace, replySlot}
+use Rattle.protocol.specs.ClientBytes.{awaited, inHand, putMarks}
+use Rattle.format.specs.Reading.{put}
 use Rattle.protocol.proofs.Packets.{CandidateLengths, candidate-length, any-print, any-candidate-lengths}
 use Rattle.protocol.proofs.Room.{Fitting, shelf-fits}
-use Rattle.protocol.proofs.Puts.{put-length}
+use Rattle.format.proofs.Puts.{put-length}
 use Rattle.protocol.proofs.Readers.{held-lengths}
 use Rattle.protocol.proofs.Marks.{marked-fresh, marked-set}
 use Rattle.protocol.proofs.Slots.{slots-put, slots-past, replies-put}
@@ -47,10 +48,10 @@ withMark c b = upd (marked (c .tally .marks)) b true
 
 -- the kept bytes with a reply to collect, with one to filter, and with a reply of any kind
 abbrev pub collected : Config → List ℕ → ℕ → Body → List ℕ
-collected s kept b x = put kept (candidatesAt + candidateSlot * (b - 1)) (anyCandidateF s .print (candidateIn s x))
+collected s kept b x = put kept (candidatesPlace + candidateSlot * (b - 1)) (anyCandidateF s .print (candidateIn s x))
 
 abbrev pub filtered : Config → List ℕ → ℕ → Body → List ℕ
-filtered s kept b x = put kept (repliesAt + replySlot * (b - 1)) (heldF s .print (heldIn x))
+filtered s kept b x = put kept (repliesPlace + replySlot * (b - 1)) (heldF s .print (heldIn x))
 
 abbrev pub keptWith : Config → List ℕ → ℕ → Body → ℕ → List ℕ
 keptWith s kept b x kind = cond (eqb kind 8) (collected s kept b x) (cond (eqb kind 10) (filtered s kept b x) kept)
@@ -112,7 +113,7 @@ module _ {s : Config} {c : Call} {kept : List ℕ} {b : ℕ} {x : Body} (a : Rep
 
   pub collected-size : length (collected s kept b x) ≡ keptSize
   collected-size =
-      put-length kept (candidatesAt + candidateSlot * (b - 1)) (anyCandidateF s .print (candidateIn s x))
+      put-length kept (candidatesPlace + candidateSlot * (b - 1)) (anyCandidateF s .print (candidateIn s x))
       (omega (arith, ap length (any-print s (candidateIn s x)), candidate-length s _ candidate-lengths, a .fits .few, a .hi, a .sound .size))
       ∙ a .sound .size
 
@@ -129,11 +130,11 @@ module _ {s : Config} {c : Call} {kept : List ℕ} {b : ℕ} {x : Body} (a : Rep
 
   pub filtered-size : length (filtered s kept b x) ≡ keptSize
   filtered-size =
-      put-length kept (repliesAt + replySlot * (b - 1)) (heldF s .print (heldIn x)) (omega (arith, held-most, below-most, a .sound .size)) ∙ a .sound .size
+      put-length kept (repliesPlace + replySlot * (b - 1)) (heldF s .print (heldIn x)) (omega (arith, held-most, below-most, a .sound .size)) ∙ a .sound .size
 
   pub slots-now : candidatesIn s (filtered s kept b x) ≡ candidatesIn s kept
   slots-now =
-      slots-past s (a .fits .few) kept (a .sound .size) (repliesAt + replySlot * (b - 1)) (heldF s .print (heldIn x)) (omega arith)
+      slots-past s (a .fits .few) kept (a .sound .size) (repliesPlace + replySlot * (b - 1)) (heldF s .print (heldIn x)) (omega arith)
       (omega (arith, held-most, below-most))
 
   pub replies-now : repliesIn s (set ms (b - 1) 1) (filtered s kept b x) ≡ upd (repliesIn s ms kept) b (heldIn x)

@@ -9,7 +9,7 @@ use lib.ListN.{length, length-append}
 use Rattle.cluster.specs.Config.{Config, shelf}
 use Rattle.cluster.specs.Ranges.{topFaults, mostServers, packetRoom}
 use Rattle.protocol.specs.declared.Stamp.{Stamp}
-use Rattle.protocol.specs.Format.{All, printMany, via, seq, keep, byte, orBlank, many}
+use Rattle.format.specs.Format.{All, printMany, via, seq, keep, byte, orBlank, many}
 use Rattle.protocol.specs.Values.{Candidate, stampSize}
 use Rattle.protocol.specs.Packet.{Body, BodyOk, Packet, PacketOk, printBody, packetF, headF, bodyF, headSize, encode, anyStampF, codeF, candidateF, candidatesF}
 use Rattle.protocol.specs.Packet.{clock, clockReply, store, storeReply, complete, completeReply, collect, collectReply, filter, filterReply, repair, repairReply}

@@ -13,11 +13,11 @@ use Rattle.hmac.specs.Hmac.{tagSize}
 use Rattle.erasure.specs.Fragments.{fragmentSize}
 use Rattle.protocol.specs.declared.Stamp.{Stamp}
 use Rattle.protocol.specs.declared.Head.{Head}
-use Rattle.protocol.specs.Format.{Lawful, byte, number2, number4, run, seq, via, keep, orBlank, many}
+use Rattle.format.specs.Format.{Lawful, byte, number2, number4, run, seq, via, keep, orBlank, many}
 use Rattle.protocol.specs.Values.{Candidate, Share, Write, blankStamp, blankCandidate, digestSize, nonceSize, stampSize, digestsSize, tagsSize, candidateSize}
 use Rattle.protocol.specs.Packet.{stampF, anyStampF, shareF, writeF, candidateF, anyCandidateF, candidatesF, heldMost, heldF, codeF, headF, headSize, shareSize}
-use Rattle.protocol.proofs.Formats.{byte-law, number2-law, number4-law, run-law, seq-law, via-law, keep-law}
-use Rattle.protocol.proofs.Repeats.{orBlank-law, many-law, optional-law}
+use Rattle.format.proofs.Formats.{byte-law, number2-law, number4-law, run-law, seq-law, via-law, keep-law}
+use Rattle.format.proofs.Repeats.{orBlank-law, many-law, optional-law}
 
 -- ---- stamps
 
@@ -103,7 +103,7 @@ stamp-length a e = rw e
 module _ (s : Config) where
   -- the lengths within a share, and within a candidate, that the layout takes
   pub record ShareLengths (h : Share) : Type 0 where
-    pub part : length (h .part) ≡ fragmentSize (s .shares) (h .size)
+    pub fragment : length (h .fragment) ≡ fragmentSize (s .threshold) (h .size)
     pub digests : length (h .digests) ≡ digestsSize s
     pub nonceDigest : length (h .nonceDigest) ≡ digestSize
     pub tags : length (h .tags) ≡ tagsSize s
@@ -115,17 +115,17 @@ module _ (s : Config) where
 
   pub share-lengths : (h : Share) → shareF s .Ok h → ShareLengths h
   unfolding shareF via seq run
-  share-lengths h (o, (p, (d, (e, g)))) = record { part = p; digests = d; nonceDigest = e; tags = g }
+  share-lengths h (o, (p, (d, (e, g)))) = record { fragment = p; digests = d; nonceDigest = e; tags = g }
 
   pub share-length : (h : Share) → ShareLengths h → length (shareF s .print h) ≡ shareSize s (h .size)
   unfolding shareF via seq number2 run shareSize
   share-length h l =
       omega (
         arith,
-        length-append (h .part) (h .digests ++ (h .nonceDigest ++ h .tags)),
+        length-append (h .fragment) (h .digests ++ (h .nonceDigest ++ h .tags)),
         length-append (h .digests) (h .nonceDigest ++ h .tags),
         length-append (h .nonceDigest) (h .tags),
-        l .part,
+        l .fragment,
         l .digests,
         l .nonceDigest,
         l .tags,

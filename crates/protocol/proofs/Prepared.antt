@@ -9,7 +9,7 @@ use Rattle.cluster.specs.Config.{Config}
 use Rattle.cluster.specs.Ranges.{topNumber, topLength}
 use Rattle.hmac.specs.Hmac.{tagSize}
 use Rattle.protocol.specs.declared.Stamp.{Stamp}
-use Rattle.protocol.specs.Format.{via, seq, run, byte, number2, number4}
+use Rattle.format.specs.Format.{via, seq, run, byte, number2, number4}
 use Rattle.protocol.specs.Values.{digestSize, nonceSize, tagsSize}
 use Rattle.protocol.specs.Packet.{stampF, candidateF, shareF}
 use Rattle.protocol.specs.Primitives.{Primitives, Lengths, stampMessage, candidateMessage}
@@ -40,8 +40,8 @@ module _ (P : Primitives) (law : Lengths P) (s : Config) (client : ℕ) (writers
     unfolding shareMade
     share-made b =
         record {
-          part = law .part (s .points) (s .shares) r b;
-          digests = run-length digestSize _ (λ i. law .digest (P .fragment (s .points) (s .shares) r i)) (s .servers);
+          fragment = law .fragment (s .points) (s .threshold) r b;
+          digests = run-length digestSize _ (λ i. law .digest (P .fragment (s .points) (s .threshold) r i)) (s .servers);
           nonceDigest = law .digest n;
           tags = tags-length _ n;
         }
@@ -60,7 +60,7 @@ module _ (P : Primitives) (law : Lengths P) (s : Config) (client : ℕ) (writers
 
     share-ok : (b : ℕ) → shareF s .Ok (shareMade P s client writers keys r n k b)
     unfolding shareF via seq run number2 shareMade
-    share-ok b = let l = share-made r n k (w .high) (w .nonce) b in ((w .low, w .high), (l .part, (l .digests, (l .nonceDigest, l .tags))))
+    share-ok b = let l = share-made r n k (w .high) (w .nonce) b in ((w .low, w .high), (l .fragment, (l .digests, (l .nonceDigest, l .tags))))
 
     pub prepared-ok : (1 ≤ k) × (k ≤ topNumber) → HandOk s client (prepared P s client writers keys r n k)
     unfolding HandOk prepared

@@ -18,16 +18,16 @@ use Rattle.gf256.proofs.Apart.{Distinct}
 use Rattle.erasure.proofs.Laws.{legal-table, fragment-length, restored-length, Servers, restores}
 use Rattle.erasure.proofs.Lists.{small-of}
 use Rattle.protocol.specs.declared.Stamp.{Stamp}
-use Rattle.protocol.specs.Format.{Bytes, value4, print4}
+use Rattle.format.specs.Format.{Bytes, value4, print4}
 use Rattle.protocol.specs.Values.{nth, runOf, digestSize}
 use Rattle.protocol.specs.Primitives.{Lengths, real, stampMessage, candidateMessage}
-use Rattle.protocol.proofs.Formats.{value4-print}
+use Rattle.format.proofs.Formats.{value4-print}
 
 -- ---- lengths
 
 pub real-lengths : Lengths real
 unfolding real
-real-lengths = record { digest = sha-length; tag = tag-length; part = fragment-length; content = restored-length }
+real-lengths = record { digest = sha-length; tag = tag-length; fragment = fragment-length; content = restored-length }
 
 -- ---- the tagged bytes
 
@@ -102,10 +102,10 @@ bytes-small r b = small-of r (λ i h. b i)
 
 -- fragments of k or more different servers give back a content of bytes
 pub restores-parts : (s : Config) → Legal s → (r : List ℕ) → Bytes r → (is : List ℕ)
-    → ((i : ℕ) → i < length is → (1 ≤ getD is i 0) × (getD is i 0 ≤ s .servers)) → Distinct is → s .shares ≤ length is
-    → real .restored (s .points) (s .shares) (length r) (map (λ i. record { server = i; bytes = real .fragment (s .points) (s .shares) r i }) is) ≡ r
+    → ((i : ℕ) → i < length is → (1 ≤ getD is i 0) × (getD is i 0 ≤ s .servers)) → Distinct is → s .threshold ≤ length is
+    → real .restored (s .points) (s .threshold) (length r) (map (λ i. record { server = i; bytes = real .fragment (s .points) (s .threshold) r i }) is) ≡ r
 unfolding real
 restores-parts s l r b is at d k =
     let e : length (s .points) ≡ s .servers = l .table in
     let servers : Servers (s .points) is = λ i h. (at i h .0, omega (arith, at i h .1)) in
-    restores (s .points) (s .shares) r (legal-table l) (omega (arith, l .restores)) (omega (arith, l .covered)) (bytes-small r b) is servers d k
+    restores (s .points) (s .threshold) r (legal-table l) (omega (arith, l .restores)) (omega (arith, l .covered)) (bytes-small r b) is servers d k

@@ -15,11 +15,12 @@ use Rattle.protocol.specs.Packet.{Body, candidateF}
 use Rattle.protocol.specs.Primitives.{Primitives, Lengths}
 use Rattle.protocol.specs.Rules.{ByServer, countTo, upd, nobody, gather, live, choice, leader, restoredBy, tagsIn}
 use Rattle.protocol.specs.Client.{Turn, more, gave, idle, collecting, filtering, repairing, awaits, onto, update, judge, found, heldIn}
-use Rattle.protocol.specs.View.{part, chosenOf, contentOf, candidatesIn, repliesIn, handOf, view, keptSize, chosenAt}
-use Rattle.protocol.specs.ClientBytes.{put, putMarks, begins, putBack, after, tookBy}
+use Rattle.protocol.specs.View.{chosenOf, contentOf, candidatesIn, repliesIn, handOf, view, keptSize, chosenPlace}
+use Rattle.format.specs.Reading.{bytesAt, put}
+use Rattle.protocol.specs.ClientBytes.{putMarks, begins, putBack, after, tookBy}
 use Rattle.protocol.proofs.Packets.{CandidateLengths, candidate-length}
-use Rattle.protocol.proofs.Puts.{put-length}
-use Rattle.protocol.proofs.Places.{part-same, part-below}
+use Rattle.format.proofs.Puts.{put-length}
+use Rattle.format.proofs.Places.{part-same, part-below}
 use Rattle.protocol.proofs.Slots.{replies-fresh}
 use Rattle.protocol.proofs.ServerLift.{over-start}
 use Rattle.protocol.proofs.Sized.{Sized, candidates-sized, replies-sized, choice-sized, tags-sized, content-sized}
@@ -80,21 +81,21 @@ module _ (P : Primitives) (law : Lengths P) (client : ℕ) (writers : List ℕ) 
 
   -- a content and a candidate kept for repair
   repair-kept : (d : Candidate) (content : List ℕ) → CandidateLengths s d → length content ≤ topLength
-      → let K = put (put k 0 content) chosenAt (candidateF s .print d) in
+      → let K = put (put k 0 content) chosenPlace (candidateF s .print d) in
       let c' = call (length content) 6 nobody (replicate mostServers 0) in
       (length K ≡ keptSize) × (repairing (chosenOf s K) (contentOf c' K) ≡ repairing d content)
   unfolding chosenOf
   repair-kept d content z l =
       let B : List ℕ = candidateF s .print d in
       let k1 : List ℕ = put k 0 content in
-      let K : List ℕ = put k1 chosenAt B in
+      let K : List ℕ = put k1 chosenPlace B in
       let s1 : length k1 ≡ keptSize = put-length k 0 content (omega (arith, filtered-size a)) ∙ filtered-size a in
-      let room : chosenAt + length B ≤ length k1 = omega (arith, candidate-length s d z, a .fits .few) in
-      let p : part K 0 (length content) ≡ content =
-      part-below k1 chosenAt B room 0 (length content) (omega arith) ∙ part-same k 0 content (omega (arith, filtered-size a)) in
+      let room : chosenPlace + length B ≤ length k1 = omega (arith, candidate-length s d z, a .fits .few) in
+      let p : bytesAt K 0 (length content) ≡ content =
+      part-below k1 chosenPlace B room 0 (length content) (omega arith) ∙ part-same k 0 content (omega (arith, filtered-size a)) in
       let c' : Call = call (length content) 6 nobody (replicate mostServers 0) in
       let e : contentOf c' K ≡ content = content-read c' K content refl l p in
-      (put-length k1 chosenAt B room ∙ s1, λ i. repairing (chosen-read s (a .fits) k1 s1 d z i) (e i))
+      (put-length k1 chosenPlace B room ∙ s1, λ i. repairing (chosen-read s (a .fits) k1 s1 d z i) (e i))
 
   found-turn : (d : Candidate) (n : ℕ) → CandidateLengths s (record { stamp = d .stamp; nonce = d .nonce; tags = tagsIn P s d (g n .share) })
       → length (restoredBy P s m g d n (g n .share)) ≤ topLength

@@ -14,14 +14,15 @@ use Rattle.cluster.specs.Ranges.{mostServers}
 use Rattle.hmac.specs.Hmac.{tagSize}
 use Rattle.erasure.specs.Fragments.{fragmentSize}
 use Rattle.protocol.specs.declared.Stamp.{Stamp}
-use Rattle.protocol.specs.Format.{via, seq, orBlank, optional, number4, number2, byte, run, value2}
+use Rattle.format.specs.Format.{via, seq, orBlank, optional, number4, number2, byte, run, value2}
 use Rattle.protocol.specs.Values.{Candidate, Share, Held, blankCandidate, digestSize, nonceSize, stampSize, digestsSize, tagsSize}
 use Rattle.protocol.specs.Packet.{stampF, anyStampF, candidateF, shareF, heldF, heldMost}
-use Rattle.protocol.specs.View.{part, stampAt, candidateAt, shareOfSize, shareAt, heldAt, candidateSlot}
-use Rattle.protocol.proofs.Answers.{no-some}
-use Rattle.protocol.proofs.Formats.{value2-print, value4-print}
+use Rattle.protocol.specs.View.{stampAt, candidateAt, shareOfSize, shareAt, heldAt, candidateSlot}
+use Rattle.format.specs.Reading.{bytesAt}
+use Rattle.format.proofs.Answers.{no-some}
+use Rattle.format.proofs.Formats.{value2-print, value4-print}
 use Rattle.protocol.proofs.Packets.{stamp-length, any-stamp-tag, CandidateLengths, ShareLengths, share-lengths}
-use Rattle.protocol.proofs.Places.{part-zeros}
+use Rattle.format.proofs.Places.{part-zeros}
 
 -- ---- runs in a row
 
@@ -34,7 +35,7 @@ third-run a b c n m h k = sym (drop-drop m n (a ++ (b ++ c))) ∙ ap (drop m) (d
 -- ---- stamps
 
 pub stamp-read : (a : Stamp) (r : List ℕ) → length (a .tag) ≡ tagSize → stampAt (stampF .print a ++ r) ≡ a
-unfolding stampAt part stampF via seq number4 byte run
+unfolding stampAt bytesAt stampF via seq number4 byte run
 stamp-read a r l =
     let e = value4-print (a .number) in
     let f = take-at (a .tag) r tagSize l in
@@ -46,10 +47,10 @@ module _ (s : Config) where
   pub blank-read : s .servers ≤ mostServers → candidateAt s (replicate candidateSlot 0) ≡ blankCandidate s
   unfolding candidateAt stampAt
   blank-read h =
-      let a : part (replicate candidateSlot 0) 5 tagSize ≡ replicate tagSize 0 = part-zeros candidateSlot 5 tagSize (omega arith) in
-      let b : part (replicate candidateSlot 0) stampSize nonceSize ≡ replicate nonceSize 0 = part-zeros candidateSlot stampSize nonceSize
+      let a : bytesAt (replicate candidateSlot 0) 5 tagSize ≡ replicate tagSize 0 = part-zeros candidateSlot 5 tagSize (omega arith) in
+      let b : bytesAt (replicate candidateSlot 0) stampSize nonceSize ≡ replicate nonceSize 0 = part-zeros candidateSlot stampSize nonceSize
       (omega arith) in
-      let c : part (replicate candidateSlot 0) (stampSize + nonceSize) (tagsSize s) ≡ replicate (tagsSize s) 0 =
+      let c : bytesAt (replicate candidateSlot 0) (stampSize + nonceSize) (tagsSize s) ≡ replicate (tagsSize s) 0 =
       part-zeros candidateSlot (stampSize + nonceSize) (tagsSize s) (omega arith) in
       λ i. record { stamp = record { number = 0; writer = 0; tag = a i }; nonce = b i; tags = c i }
 
@@ -58,7 +59,7 @@ module _ (s : Config) where
   candidate-print c = refl
 
   pub candidate-read : (c : Candidate) (r : List ℕ) → CandidateLengths s c → candidateAt s (candidateF s .print c ++ r) ≡ c
-  unfolding candidateAt part
+  unfolding candidateAt bytesAt
   candidate-read c r h =
       let S : List ℕ = stampF .print (c .stamp) in
       let X : List ℕ = S ++ (c .nonce ++ (c .tags ++ r)) in
@@ -67,22 +68,22 @@ module _ (s : Config) where
       ap (λ (z : List ℕ). z ++ r) (candidate-print c) ∙ append-assoc S (c .nonce ++ c .tags) r
       ∙ ap (λ (z : List ℕ). S ++ z) (append-assoc (c .nonce) (c .tags) r) in
       let e : stampAt X ≡ c .stamp = stamp-read (c .stamp) _ (h .tag) in
-      let f : part X stampSize nonceSize ≡ c .nonce = second-run S (c .nonce) (c .tags ++ r) stampSize nonceSize l (h .nonce) in
-      let g : part X (stampSize + nonceSize) (tagsSize s) ≡ c .tags =
+      let f : bytesAt X stampSize nonceSize ≡ c .nonce = second-run S (c .nonce) (c .tags ++ r) stampSize nonceSize l (h .nonce) in
+      let g : bytesAt X (stampSize + nonceSize) (tagsSize s) ≡ c .tags =
       ap (take (tagsSize s)) (third-run S (c .nonce) (c .tags ++ r) stampSize nonceSize l (h .nonce)) ∙ take-at (c .tags) r (tagsSize s) (h .tags) in
       ap (candidateAt s) p ∙ (λ i. record { stamp = e i; nonce = f i; tags = g i })
 
   -- ---- shares
 
   pub share-read : (h : Share) (r : List ℕ) → ShareLengths s h → shareAt s (shareF s .print h ++ r) ≡ h
-  unfolding shareAt shareOfSize part shareF via seq run number2
+  unfolding shareAt shareOfSize bytesAt shareF via seq run number2
   share-read h r l =
       let N : List ℕ = h .size / 256 ∷ h .size % 256 ∷ [] in
       let X : List ℕ = shareF s .print h ++ r in
-      let f : ℕ = fragmentSize (s .shares) (h .size) in
+      let f : ℕ = fragmentSize (s .threshold) (h .size) in
       let d : ℕ = digestsSize s in
       let w : ℕ = tagsSize s in
-      let P : List ℕ = h .part in
+      let P : List ℕ = h .fragment in
       let D : List ℕ = h .digests in
       let E : List ℕ = h .nonceDigest in
       let G : List ℕ = h .tags in
@@ -91,10 +92,10 @@ module _ (s : Config) where
       let p2 : X ≡ (N ++ P) ++ (D ++ (E ++ (G ++ r))) = simp append-assoc in
       let p3 : X ≡ (N ++ P ++ D) ++ (E ++ (G ++ r)) = simp append-assoc in
       let p4 : X ≡ (N ++ P ++ D ++ E) ++ (G ++ r) = simp append-assoc in
-      let l2 : length (N ++ P) ≡ 2 + f = omega (arith, length-append N P, l .part) in
+      let l2 : length (N ++ P) ≡ 2 + f = omega (arith, length-append N P, l .fragment) in
       let l3 : length (N ++ P ++ D) ≡ 2 + f + d = omega (arith, length-append (N ++ P) D, l .digests, l2) in
       let l4 : length (N ++ P ++ D ++ E) ≡ 2 + f + d + digestSize = omega (arith, length-append (N ++ P ++ D) E, l .nonceDigest, l3) in
-      let f1 : take f (drop 2 X) ≡ P = ap (λ (z : List ℕ). take f (drop 2 z)) p1 ∙ second-run N P (D ++ (E ++ (G ++ r))) 2 f refl (l .part) in
+      let f1 : take f (drop 2 X) ≡ P = ap (λ (z : List ℕ). take f (drop 2 z)) p1 ∙ second-run N P (D ++ (E ++ (G ++ r))) 2 f refl (l .fragment) in
       let f2 : take d (drop (2 + f) X) ≡ D = ap (λ (z : List ℕ). take d (drop (2 + f) z)) p2 ∙ second-run (N ++ P) D (E ++ (G ++ r)) (2 + f) d l2
       (l .digests) in
       let f3 : take digestSize (drop (2 + f + d) X) ≡ E =
@@ -102,7 +103,7 @@ module _ (s : Config) where
       let f4 : take w (drop (2 + f + d + digestSize) X) ≡ G =
       ap (λ (z : List ℕ). take w (drop (2 + f + d + digestSize) z)) p4
       ∙ second-run (N ++ P ++ D ++ E) G r (2 + f + d + digestSize) w l4 (l .tags) in
-      ap (λ (n : ℕ). shareOfSize s n X) e ∙ (λ i. record { size = h .size; part = f1 i; digests = f2 i; nonceDigest = f3 i; tags = f4 i })
+      ap (λ (n : ℕ). shareOfSize s n X) e ∙ (λ i. record { size = h .size; fragment = f1 i; digests = f2 i; nonceDigest = f3 i; tags = f4 i })
 
   -- ---- a held share or none
 

@@ -7,7 +7,7 @@ use lib.ListN.{length, length-append}
 use Rattle.cluster.specs.Config.{Config, shelf}
 use Rattle.cluster.specs.Ranges.{topFaults, mostServers, topLength}
 use Rattle.erasure.specs.Fragments.{fragmentSize}
-use Rattle.protocol.specs.Format.{All, printMany, via, seq, number2}
+use Rattle.format.specs.Format.{All, printMany, via, seq, number2}
 use Rattle.protocol.specs.Values.{Share, Write, stampSize}
 use Rattle.protocol.specs.Packet.{shareF, shareSize, writeF}
 use Rattle.protocol.specs.View.{replySlot}

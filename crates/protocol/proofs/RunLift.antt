@@ -11,7 +11,7 @@ use borrow.Author.Tests.{eqb-true, leb-true}
 use Rattle.cluster.specs.Config.{Config, shelf}
 use Rattle.cluster.specs.Ranges.{topFaults}
 use Rattle.cluster.proofs.Tests.{and-both}
-use Rattle.protocol.specs.Format.{via, seq, keep, byte}
+use Rattle.format.specs.Format.{via, seq, keep, byte}
 use Rattle.protocol.specs.Packet.{Packet, PacketOk, packetF, headF, decode, encode}
 use Rattle.protocol.specs.Primitives.{Primitives, Lengths}
 use Rattle.protocol.specs.Rules.{ByServer, upd}
@@ -23,7 +23,7 @@ use Rattle.protocol.specs.ClientBytes.{fresh, keyOf, clientMake, clientT
 use Rattle.protocol.specs.Runs.{Shelf, configOf, Step, write, read, make, take-reply, give-up, serve, resultOf, resultBy, sentOf, Machine, Machines, Done, newCall, setMachine, doBytes, nowBytes, Fed}
 use Rattle.protocol.proofs.ValueRuns.{World, After, setClient, doValues, nowValues}
 use Rattle.protocol.proofs.LentKeys.{take-lent}
-use Rattle.protocol.proofs.Answers.{no-some}
+use Rattle.format.proofs.Answers.{no-some}
 use Rattle.protocol.proofs.Bodies.{decode-encode}
 use Rattle.protocol.proofs.Room.{Fitting, shelf-fits}
 use Rattle.protocol.proofs.ServerLift as server

@@ -14,14 +14,15 @@ use Rattle.cluster.specs.Config.{Config, shelf}
 use Rattle.cluster.specs.Ranges.{topFaults, memorySize, packetRoom}
 use Rattle.cluster.specs.Refusals.{onRefusal}
 use Rattle.cluster.proofs.Tests.{and-both}
-use Rattle.protocol.specs.Format.{via, seq, keep, byte}
+use Rattle.format.specs.Format.{via, seq, keep, byte}
 use Rattle.protocol.specs.Packet.{Packet, Body, BodyOk, PacketOk, packetF, headF, bodyF, kindOf, decode, encode}
 use Rattle.protocol.specs.Packet.{clock, clockReply, store, storeReply, complete, completeReply, collect, collectReply, filter, filterReply, repair, repairReply}
 use Rattle.protocol.specs.Memory.{Memory, MemoryOk, decodeMemory, encodeMemory, blankMemory}
 use Rattle.protocol.specs.Primitives.{Primitives}
 use Rattle.protocol.specs.Server.{Server, memoryOf, Acted, act, barred, Stepped, replyTo, serverRefusal, answered, serverStep, blankServer}
-use Rattle.protocol.specs.ServerBytes.{Served, serverIn, over, turnedDown, actedOn, serverTake}
-use Rattle.protocol.proofs.Answers.{no-some}
+use Rattle.protocol.specs.ServerBytes.{Served, serverIn, turnedDown, actedOn, serverTake}
+use Rattle.format.specs.Reading.{over}
+use Rattle.format.proofs.Answers.{no-some}
 use Rattle.protocol.proofs.Bodies.{decode-ok}
 use Rattle.protocol.proofs.Memories.{of-fields, memory-length, decode-encode-memory}
 use Rattle.protocol.proofs.Acts.{ServerOk, Right, act-ok, blank-ok}

@@ -17,21 +17,22 @@ use Rattle.cluster.proofs.Tests.{and-both}
 use Rattle.hmac.specs.Hmac.{tagSize}
 use Rattle.erasure.specs.Fragments.{fragmentSize}
 use Rattle.protocol.specs.declared.Call.{Call}
-use Rattle.protocol.specs.Format.{All, value2}
+use Rattle.format.specs.Format.{All, value2}
 use Rattle.protocol.specs.Values.{Candidate, Share, Held, sameList, nth, sameStamp, blankCandidate, isBlank, sameCandidate, nonceSize, stampSize, digestSize, digestsSize, tagsSize}
 use Rattle.protocol.specs.Packet.{heldF, shareSize}
 use Rattle.protocol.specs.Primitives.{Primitives, Lengths}
 use Rattle.protocol.specs.Rules.{ByServer, any, gather, choice, live, highest, proven, leader, leads, fits, shareFits, restoredBy, tagsIn, parts}
-use Rattle.protocol.specs.View.{part, stampAt, candidateAt, shareOfSize, shareAt, heldAt, contentOf, nonceOf, marked, candidatesIn, repliesIn, replySlotOf, keptSize, nonceAt, candidateSlot, candidatesAt, repliesAt, replySlot}
-use Rattle.protocol.proofs.Answers.{no-some, at-cond}
+use Rattle.protocol.specs.View.{stampAt, candidateAt, shareOfSize, shareAt, heldAt, contentOf, nonceOf, marked, candidatesIn, repliesIn, replySlotOf, keptSize, noncePlace, candidateSlot, candidatesPlace, repliesPlace, replySlot}
+use Rattle.format.specs.Reading.{bytesAt}
+use Rattle.format.proofs.Answers.{no-some, at-cond}
 use Rattle.protocol.proofs.Packets.{CandidateLengths, ShareLengths}
 use Rattle.protocol.proofs.Room.{Fitting}
 use Rattle.protocol.proofs.Readers.{held-lengths}
 use Rattle.protocol.proofs.HandOk.{keep-all, first-all}
-use Rattle.protocol.proofs.Walks.{all-snoc}
+use Rattle.format.proofs.Walks.{all-snoc}
 
-pub part-length : (d : List ℕ) (at n : ℕ) → at + n ≤ length d → length (part d at n) ≡ n
-unfolding part
+pub part-length : (d : List ℕ) (at n : ℕ) → at + n ≤ length d → length (bytesAt d at n) ≡ n
+unfolding bytesAt
 part-length d at n h = length-take-le n (drop at d) (omega (arith, length-drop at d))
 
 take-most : (n : ℕ) (d : List ℕ) → length (take n d) ≤ n
@@ -42,14 +43,14 @@ take-most (suc n) (x ∷ d) = omega (arith, take-most n d)
 -- ---- content and nonce
 
 pub content-most : (c : Call) (kept : List ℕ) → length (contentOf c kept) ≤ topLength
-unfolding contentOf part
+unfolding contentOf bytesAt
 content-most c kept =
     at-cond (leb (c .length) topLength) (c .length) topLength (λ n. length (take n (drop 0 kept)) ≤ topLength)
     (λ e. omega (arith, take-most (c .length) (drop 0 kept), leb-true (c .length) topLength e)) (λ e. take-most topLength (drop 0 kept))
 
 pub nonce-long : (kept : List ℕ) → length kept ≡ keptSize → length (nonceOf kept) ≡ nonceSize
 unfolding nonceOf
-nonce-long kept e = part-length kept nonceAt nonceSize (omega arith)
+nonce-long kept e = part-length kept noncePlace nonceSize (omega arith)
 
 -- a held share has its lengths if its length is in its range
 abbrev pub Sized : Config → Held → Type 0
@@ -83,8 +84,8 @@ module _ (s : Config) (f : Fitting s) where
         at-cond (ltb i mostServers) _ _ (CandidateLengths s)
         (λ e.
         let l : i < mostServers = ltb-true i mostServers e in
-        candidate-sized (part kept (candidatesAt + candidateSlot * i) candidateSlot)
-        (part-length kept (candidatesAt + candidateSlot * i) candidateSlot (omega arith)))
+        candidate-sized (bytesAt kept (candidatesPlace + candidateSlot * i) candidateSlot)
+        (part-length kept (candidatesPlace + candidateSlot * i) candidateSlot (omega arith)))
         (λ e. blank-sized)
 
   -- ---- shares
@@ -92,12 +93,12 @@ module _ (s : Config) (f : Fitting s) where
   share-sized : (n : ℕ) (d : List ℕ) → stampSize + 1 + length d ≡ replySlot → n ≤ topLength → ShareLengths s (shareOfSize s n d)
   unfolding shareOfSize shareSize
   share-sized n d e l =
-      let r : stampSize + 1 + (2 + fragmentSize (s .shares) n + digestsSize s + digestSize + tagsSize s) ≤ replySlot = unfold shareSize in f .room n l in
+      let r : stampSize + 1 + (2 + fragmentSize (s .threshold) n + digestsSize s + digestSize + tagsSize s) ≤ replySlot = unfold shareSize in f .room n l in
       record {
-        part = part-length d 2 (fragmentSize (s .shares) n) (omega arith);
-        digests = part-length d (2 + fragmentSize (s .shares) n) (digestsSize s) (omega arith);
-        nonceDigest = part-length d (2 + fragmentSize (s .shares) n + digestsSize s) digestSize (omega arith);
-        tags = part-length d (2 + fragmentSize (s .shares) n + digestsSize s + digestSize) (tagsSize s) (omega arith);
+        fragment = part-length d 2 (fragmentSize (s .threshold) n) (omega arith);
+        digests = part-length d (2 + fragmentSize (s .threshold) n) (digestsSize s) (omega arith);
+        nonceDigest = part-length d (2 + fragmentSize (s .threshold) n + digestsSize s) digestSize (omega arith);
+        tags = part-length d (2 + fragmentSize (s .threshold) n + digestsSize s + digestSize) (tagsSize s) (omega arith);
       }
 
   held-sized : (d : List ℕ) → length d ≡ replySlot → Sized s (heldAt s d)
@@ -119,7 +120,7 @@ module _ (s : Config) (f : Fitting s) where
       at-cond (ltb i mostServers && marked ms (suc i)) _ _ (λ (x : Held). (q : Share) → x .share ≡ some q → q .size ≤ topLength → ShareLengths s q)
       (λ e.
       let l : i < mostServers = ltb-true i mostServers (and-both (ltb i mostServers) (marked ms (suc i)) e .0) in
-      held-sized (part kept (repliesAt + replySlot * i) replySlot) (part-length kept (repliesAt + replySlot * i) replySlot (omega arith)))
+      held-sized (bytesAt kept (repliesPlace + replySlot * i) replySlot) (part-length kept (repliesPlace + replySlot * i) replySlot (omega arith)))
       (λ e q y l. no-some q y)
 
   pub reply-sized : (x : Held) → heldF s .Ok x → Sized s x
@@ -165,7 +166,7 @@ module _ (P : Primitives) (law : Lengths P) (s : Config) (m : ByServer Bool) (g 
       of none i e t = no-some q e
       of (some h) i e t =
           subst (λ (z : Share). z .size ≤ topLength) (Option·some-injective h q e)
-          (range h (sameList (h .nonceDigest) (P .digest (d .nonce)) && sameList (P .digest (h .part)) (nth digestSize (h .digests) i)) t)
+          (range h (sameList (h .nonceDigest) (P .digest (d .nonce)) && sameList (P .digest (h .fragment)) (nth digestSize (h .digests) i)) t)
 
       go : (leader P s m g d (s .servers) ≡ 0) ⊎ (fits P s m g d (leader P s m g d (s .servers)) ≡ true) → q .size ≤ topLength
       go (inl z) = no-some q (sym none-0 ∙ ap (λ (i : ℕ). g i .share) (sym z) ∙ e)
@@ -190,4 +191,4 @@ module _ (P : Primitives) (law : Lengths P) (s : Config) (m : ByServer Bool) (g 
       where
         go : (o : Option Share) → ((q : Share) → o ≡ some q → q .size ≤ topLength) → length (restoredBy P s m g d at o) ≤ topLength
         go none k = unfold restoredBy in lit≤ tt
-        go (some q) k = unfold restoredBy in omega (arith, law .content (s .points) (s .shares) (q .size) (parts P s m g d at (s .servers)), k q refl)
+        go (some q) k = unfold restoredBy in omega (arith, law .content (s .points) (s .threshold) (q .size) (parts P s m g d at (s .servers)), k q refl)

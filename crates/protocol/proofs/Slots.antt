@@ -15,10 +15,10 @@ use Rattle.cluster.specs.Ranges.{mostServers}
 use Rattle.protocol.specs.Values.{Candidate, Held, blankCandidate, noHeld}
 use Rattle.protocol.specs.Packet.{anyCandidateF, heldF}
 use Rattle.protocol.specs.Rules.{ByServer, upd, nobody}
-use Rattle.protocol.specs.View.{part, marked, candidatesIn, repliesIn, replySlotOf, candidateAt, heldAt, keptSize, candidateSlot, candidatesAt, repliesAt, replySlot}
-use Rattle.protocol.specs.ClientBytes.{put}
+use Rattle.protocol.specs.View.{marked, candidatesIn, repliesIn, replySlotOf, candidateAt, heldAt, keptSize, candidateSlot, candidatesPlace, repliesPlace, replySlot}
+use Rattle.format.specs.Reading.{bytesAt, put}
 use Rattle.protocol.proofs.Packets.{CandidateLengths, candidate-length, any-print}
-use Rattle.protocol.proofs.Places.{part-put, part-below, part-inside, part-other, part-zeros, slots-apart}
+use Rattle.format.proofs.Places.{part-put, part-below, part-inside, part-other, part-zeros, slots-apart}
 use Rattle.protocol.proofs.Readers.{blank-read, candidate-read, HeldLengths, held-read}
 use Rattle.protocol.proofs.Marks.{marked-fresh}
 
@@ -30,30 +30,30 @@ module _ (s : Config) (few : s .servers ≤ mostServers) (kept : List ℕ) (size
   blanks = replicate (candidateSlot * mostServers) 0
 
   -- a read begins with blank slots
-  pub slots-zero : candidatesIn s (put kept candidatesAt (replicate (candidateSlot * mostServers) 0)) ≡ (λ b. blankCandidate s)
+  pub slots-zero : candidatesIn s (put kept candidatesPlace (replicate (candidateSlot * mostServers) 0)) ≡ (λ b. blankCandidate s)
   unfolding candidatesIn
   slots-zero = λ k b. at b k
     where
       n : _≡_ {A = ℕ} (length {A = ℕ} (replicate (candidateSlot * mostServers) 0)) (candidateSlot * mostServers)
       n = length-replicate {A = ℕ} (candidateSlot * mostServers) 0
 
-      at : (b : ℕ) → candidatesIn s (put kept candidatesAt blanks) b ≡ blankCandidate s
+      at : (b : ℕ) → candidatesIn s (put kept candidatesPlace blanks) b ≡ blankCandidate s
       at zero = refl
       at (suc i) = go (ltb i mostServers) refl
         where
           go : (b : Bool) → ltb i mostServers ≡ b
-              → cond b (candidateAt s (part (put kept candidatesAt blanks) (candidatesAt + candidateSlot * i) candidateSlot)) (blankCandidate s) ≡
+              → cond b (candidateAt s (bytesAt (put kept candidatesPlace blanks) (candidatesPlace + candidateSlot * i) candidateSlot)) (blankCandidate s) ≡
               blankCandidate s
           go false e = refl
           go true e =
               let l : i < mostServers = ltb-true i mostServers e in
               ap (candidateAt s)
-              (part-inside kept candidatesAt blanks (omega (arith, n)) (candidateSlot * i) candidateSlot (omega (arith, n))
+              (part-inside kept candidatesPlace blanks (omega (arith, n)) (candidateSlot * i) candidateSlot (omega (arith, n))
               ∙ part-zeros (candidateSlot * mostServers) (candidateSlot * i) candidateSlot (omega arith))
               ∙ blank-read s few
 
   pub slots-put : (i : ℕ) (c : Candidate) → i < mostServers → CandidateLengths s c
-      → candidatesIn s (put kept (candidatesAt + candidateSlot * i) (anyCandidateF s .print c)) ≡ upd (candidatesIn s kept) (suc i) c
+      → candidatesIn s (put kept (candidatesPlace + candidateSlot * i) (anyCandidateF s .print c)) ≡ upd (candidatesIn s kept) (suc i) c
   unfolding candidatesIn upd
   slots-put i c small h = λ k b. at b k
     where
@@ -63,33 +63,33 @@ module _ (s : Config) (few : s .servers ≤ mostServers) (kept : List ℕ) (size
       l : length (anyCandidateF s .print c) ≤ candidateSlot
       l = omega (arith, ap length (any-print s c), candidate-length s c h, few)
 
-      room : candidatesAt + candidateSlot * i + length (anyCandidateF s .print c) ≤ length kept
+      room : candidatesPlace + candidateSlot * i + length (anyCandidateF s .print c) ≤ length kept
       room = omega (arith, l, small, size)
 
       read : (r : List ℕ) → candidateAt s (anyCandidateF s .print c ++ r) ≡ c
       read r = ap (λ (z : List ℕ). candidateAt s (z ++ r)) (any-print s c) ∙ candidate-read s c r h
 
-      at : (b : ℕ) → candidatesIn s (put kept (candidatesAt + candidateSlot * i) (anyCandidateF s .print c)) b ≡ cond (eqb b (suc i)) c
+      at : (b : ℕ) → candidatesIn s (put kept (candidatesPlace + candidateSlot * i) (anyCandidateF s .print c)) b ≡ cond (eqb b (suc i)) c
           (candidatesIn s kept b)
       at zero = rw (ne-eqb 0 (suc i) (λ e. omega arith))
       at (suc j) = go (eqb (suc j) (suc i)) refl
         where
           go : (b : Bool) → eqb (suc j) (suc i) ≡ b
               → cond (ltb j mostServers)
-              (candidateAt s (part (put kept (candidatesAt + candidateSlot * i) (anyCandidateF s .print c)) (candidatesAt + candidateSlot * j)
+              (candidateAt s (bytesAt (put kept (candidatesPlace + candidateSlot * i) (anyCandidateF s .print c)) (candidatesPlace + candidateSlot * j)
               candidateSlot)) (blankCandidate s)
-              ≡ cond b c (cond (ltb j mostServers) (candidateAt s (part kept (candidatesAt + candidateSlot * j) candidateSlot)) (blankCandidate s))
+              ≡ cond b c (cond (ltb j mostServers) (candidateAt s (bytesAt kept (candidatesPlace + candidateSlot * j) candidateSlot)) (blankCandidate s))
           go true e =
               let q : j ≡ i = omega (arith, eqb-true (suc j) (suc i) e) in
               rw (q, lt-ltb i mostServers small)
-              (ap (candidateAt s) (part-put kept (candidatesAt + candidateSlot * i) (anyCandidateF s .print c) room candidateSlot l) ∙ read _)
+              (ap (candidateAt s) (part-put kept (candidatesPlace + candidateSlot * i) (anyCandidateF s .print c) room candidateSlot l) ∙ read _)
           go false e =
               ap (λ (z : List ℕ). cond (ltb j mostServers) (candidateAt s z) (blankCandidate s))
-              (part-other kept (candidatesAt + candidateSlot * i) (anyCandidateF s .print c) room (candidatesAt + candidateSlot * j) candidateSlot
-              (slots-apart candidatesAt candidateSlot i j (length (anyCandidateF s .print c)) l (λ q. eqb-false (suc j) (suc i) e (ap suc q))))
+              (part-other kept (candidatesPlace + candidateSlot * i) (anyCandidateF s .print c) room (candidatesPlace + candidateSlot * j) candidateSlot
+              (slots-apart candidatesPlace candidateSlot i j (length (anyCandidateF s .print c)) l (λ q. eqb-false (suc j) (suc i) e (ap suc q))))
 
   -- another place past the slots of candidates
-  pub slots-past : (p : ℕ) (b : List ℕ) → repliesAt ≤ p → p + length b ≤ keptSize → candidatesIn s (put kept p b) ≡ candidatesIn s kept
+  pub slots-past : (p : ℕ) (b : List ℕ) → repliesPlace ≤ p → p + length b ≤ keptSize → candidatesIn s (put kept p b) ≡ candidatesIn s kept
   unfolding candidatesIn
   slots-past p b lo hi = λ k j. at j k
     where
@@ -98,43 +98,43 @@ module _ (s : Config) (few : s .servers ≤ mostServers) (kept : List ℕ) (size
       at (suc j) = go (ltb j mostServers) refl
         where
           go : (x : Bool) → ltb j mostServers ≡ x
-              → cond x (candidateAt s (part (put kept p b) (candidatesAt + candidateSlot * j) candidateSlot)) (blankCandidate s)
-              ≡ cond x (candidateAt s (part kept (candidatesAt + candidateSlot * j) candidateSlot)) (blankCandidate s)
+              → cond x (candidateAt s (bytesAt (put kept p b) (candidatesPlace + candidateSlot * j) candidateSlot)) (blankCandidate s)
+              ≡ cond x (candidateAt s (bytesAt kept (candidatesPlace + candidateSlot * j) candidateSlot)) (blankCandidate s)
           go false e = refl
           go true e =
               let m = ltb-true j mostServers e in
-              ap (candidateAt s) (part-below kept p b (omega (arith, size)) (candidatesAt + candidateSlot * j) candidateSlot (omega arith))
+              ap (candidateAt s) (part-below kept p b (omega (arith, size)) (candidatesPlace + candidateSlot * j) candidateSlot (omega arith))
 
   -- ---- replies
 
   pub replies-put : (ms : List ℕ) (i : ℕ) (x : Held) → i < mostServers → length ms ≡ mostServers → HeldLengths s x → length (heldF s .print x) ≤
       replySlot
-      → repliesIn s (set ms i 1) (put kept (repliesAt + replySlot * i) (heldF s .print x)) ≡ upd (repliesIn s ms kept) (suc i) x
+      → repliesIn s (set ms i 1) (put kept (repliesPlace + replySlot * i) (heldF s .print x)) ≡ upd (repliesIn s ms kept) (suc i) x
   unfolding repliesIn replySlotOf upd marked
   replies-put ms i x small wide h l = λ k b. at b k
     where
-      room : repliesAt + replySlot * i + length (heldF s .print x) ≤ length kept
+      room : repliesPlace + replySlot * i + length (heldF s .print x) ≤ length kept
       room = omega (arith, l, small, size)
 
-      at : (b : ℕ) → repliesIn s (set ms i 1) (put kept (repliesAt + replySlot * i) (heldF s .print x)) b ≡ cond (eqb b (suc i)) x
+      at : (b : ℕ) → repliesIn s (set ms i 1) (put kept (repliesPlace + replySlot * i) (heldF s .print x)) b ≡ cond (eqb b (suc i)) x
           (repliesIn s ms kept b)
       at zero = rw (ne-eqb 0 (suc i) (λ e. omega arith))
       at (suc j) = go (eqb (suc j) (suc i)) refl
         where
           go : (b : Bool) → eqb (suc j) (suc i) ≡ b
               → cond (ltb j mostServers && not (eqb (getD (set ms i 1) j 0) 0))
-              (heldAt s (part (put kept (repliesAt + replySlot * i) (heldF s .print x)) (repliesAt + replySlot * j) replySlot)) noHeld
-              ≡ cond b x (cond (ltb j mostServers && not (eqb (getD ms j 0) 0)) (heldAt s (part kept (repliesAt + replySlot * j) replySlot)) noHeld)
+              (heldAt s (bytesAt (put kept (repliesPlace + replySlot * i) (heldF s .print x)) (repliesPlace + replySlot * j) replySlot)) noHeld
+              ≡ cond b x (cond (ltb j mostServers && not (eqb (getD ms j 0) 0)) (heldAt s (bytesAt kept (repliesPlace + replySlot * j) replySlot)) noHeld)
           go true e =
               let q : j ≡ i = omega (arith, eqb-true (suc j) (suc i) e) in
               rw (q, lt-ltb i mostServers small, getD-set-same ms i 1 0 (omega arith))
-              (ap (heldAt s) (part-put kept (repliesAt + replySlot * i) (heldF s .print x) room replySlot l) ∙ held-read s x _ h)
+              (ap (heldAt s) (part-put kept (repliesPlace + replySlot * i) (heldF s .print x) room replySlot l) ∙ held-read s x _ h)
           go false e =
               let d : j ≢ i = λ q. eqb-false (suc j) (suc i) e (ap suc q) in
               rw (getD-set-other ms i j 1 0 d)
               (ap (λ (z : List ℕ). cond (ltb j mostServers && not (eqb (getD ms j 0) 0)) (heldAt s z) noHeld)
-              (part-other kept (repliesAt + replySlot * i) (heldF s .print x) room (repliesAt + replySlot * j) replySlot
-              (slots-apart repliesAt replySlot i j (length (heldF s .print x)) l d)))
+              (part-other kept (repliesPlace + replySlot * i) (heldF s .print x) room (repliesPlace + replySlot * j) replySlot
+              (slots-apart repliesPlace replySlot i j (length (heldF s .print x)) l d)))
 
 -- nobody has replied in a new round
 pub replies-fresh : (s : Config) (kept : List ℕ) → repliesIn s (replicate mostServers 0) kept ≡ (λ b. noHeld)

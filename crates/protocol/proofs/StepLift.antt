@@ -20,7 +20,7 @@ use Rattle.protocol.specs.Client.{Client, Turn, Result, idle, clocking, 
 use Rattle.protocol.specs.View.{view}
 use Rattle.protocol.specs.ClientBytes.{fresh, inHand, keyOf, Machine, sentOf, putMarks, begins, putBack, told, after, begunBy, beginWrite, beginRead, giveUp, clientMake, clientTake}
 use Rattle.protocol.specs.Runs.{resultOf, resultBy}
-use Rattle.protocol.proofs.Answers.{no-some}
+use Rattle.format.proofs.Answers.{no-some}
 use Rattle.protocol.proofs.Told.{refused-back}
 use Rattle.protocol.proofs.Bodies.{decode-ok}
 use Rattle.protocol.proofs.Room.{Fitting}

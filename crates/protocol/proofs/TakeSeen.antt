@@ -15,7 +15,7 @@ use Rattle.protocol.specs.Packet.{Body, Packet, PacketOk}
 use Rattle.protocol.specs.Primitives.{Primitives, Lengths}
 use Rattle.protocol.specs.Rules.{ByServer}
 use Rattle.protocol.specs.Client.{Client, Turn, refused, awaits, isFull, update, takeRefusal, turnOn, highAt, takeStep}
-use Rattle.protocol.specs.ServerBytes.{over}
+use Rattle.format.specs.Reading.{over}
 use Rattle.protocol.specs.View.{marked, handOf, view}
 use Rattle.protocol.specs.ClientBytes.{putReply, after, tookBy}
 use Rattle.protocol.proofs.Told.{refused-back}

@@ -13,13 +13,13 @@ use Rattle.cluster.specs.Config.{Config}
 use Rattle.cluster.specs.Ranges.{topNumber}
 use Rattle.cluster.proofs.Tests.{and-rest}
 use Rattle.protocol.specs.declared.Stamp.{Stamp}
-use Rattle.protocol.specs.Format.{via, seq, orBlank, number4}
+use Rattle.format.specs.Format.{via, seq, orBlank, number4}
 use Rattle.protocol.specs.Values.{Candidate, Held, sameList}
 use Rattle.protocol.specs.Packet.{Body, BodyOk, stampF, anyStampF, candidateF, anyCandidateF, heldF}
 use Rattle.protocol.specs.Primitives.{Primitives, Lengths}
 use Rattle.protocol.specs.Rules.{ByServer, upd, nobody, restoredBy, tagsIn}
 use Rattle.protocol.specs.Client.{Client, Hand, Turn, onto, idle, clocking, storing, completing, collecting, filtering, repairing, update, judge, found, higher, checks, stampIn, codeIn, candidateIn, heldIn, tooHigh}
-use Rattle.protocol.proofs.Answers.{at-cond}
+use Rattle.format.proofs.Answers.{at-cond}
 use Rattle.protocol.proofs.Room.{Fitting}
 use Rattle.protocol.proofs.HandOk.{HandOk, stamp-in, candidate-in, held-in, no-held, gather-ok, upd-ok, choice-ok, with-tags, content-short}
 use Rattle.protocol.proofs.Prepared.{prepared-ok}

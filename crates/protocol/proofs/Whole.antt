@@ -7,10 +7,10 @@ use Prim.Native.Nat.{ℕ, _≤_, _<_}
 use lib.ListN.{length, drop, drop-of-length-le}
 use lib.Seq.{drop-cons}
 use Rattle.cluster.specs.Config.{Config}
-use Rattle.protocol.specs.Format.{Fmt, seq, via}
+use Rattle.format.specs.Format.{Fmt, seq, via}
 use Rattle.protocol.specs.Packet.{Body, Packet, kindOf, bodyF, headF, packetF, decode, PacketOk}
-use Rattle.protocol.specs.Reading.{Leaves, Stops}
-use Rattle.protocol.proofs.Leaves.{stops-first, stops-via}
+use Rattle.format.specs.Reading.{Leaves, Stops}
+use Rattle.format.proofs.Leaves.{stops-first, stops-via}
 use Rattle.protocol.proofs.Bodies.{Kind, decode-ok}
 
 -- ---- the whole of the bytes

@@ -15,13 +15,14 @@ use Rattle.protocol.specs.Packet.{Body, candidateF}
 use Rattle.protocol.specs.Primitives.{Primitives, Lengths}
 use Rattle.protocol.specs.Rules.{ByServer, nobody}
 use Rattle.protocol.specs.Client.{Turn, more, storing, completing, awaits, onto, update, prepared, codeIn, candidateMade, sharesMade, shareMade}
-use Rattle.protocol.specs.View.{part, chosenOf, sharesIn, contentOf, nonceOf, candidateAt, handOf, view, keptSize, chosenAt, candidateSlot}
-use Rattle.protocol.specs.ClientBytes.{Took, put, putShares, begins, putBack, after, tookBy}
+use Rattle.protocol.specs.View.{chosenOf, sharesIn, contentOf, nonceOf, candidateAt, handOf, view, keptSize, chosenPlace, candidateSlot}
+use Rattle.format.specs.Reading.{bytesAt, put}
+use Rattle.protocol.specs.ClientBytes.{Took, putShares, begins, putBack, after, tookBy}
 use Rattle.protocol.specs.Runs.{resultBy}
 use Rattle.protocol.proofs.Packets.{CandidateLengths, candidate-length}
 use Rattle.protocol.proofs.Room.{Fitting}
-use Rattle.protocol.proofs.Puts.{put-length}
-use Rattle.protocol.proofs.Places.{part-put}
+use Rattle.format.proofs.Puts.{put-length}
+use Rattle.format.proofs.Places.{part-put}
 use Rattle.protocol.proofs.Readers.{candidate-read}
 use Rattle.protocol.proofs.Kept.{puts-length, puts-below, shares-put}
 use Rattle.protocol.proofs.Prepared.{candidate-made, shares-made}
@@ -36,10 +37,10 @@ pub record Turned (s : Config) (u : Turn) (d : Took) : Type 0 where
 
 -- a candidate at its place
 pub chosen-read : (s : Config) → Fitting s → (k : List ℕ) → length k ≡ keptSize → (d : Candidate) → CandidateLengths s d
-    → candidateAt s (part (put k chosenAt (candidateF s .print d)) chosenAt candidateSlot) ≡ d
+    → candidateAt s (bytesAt (put k chosenPlace (candidateF s .print d)) chosenPlace candidateSlot) ≡ d
 chosen-read s f k size d l =
     let n = candidate-length s d l in
-    ap (candidateAt s) (part-put k chosenAt (candidateF s .print d) (omega (arith, f .few)) candidateSlot (omega (arith, f .few)))
+    ap (candidateAt s) (part-put k chosenPlace (candidateF s .print d) (omega (arith, f .few)) candidateSlot (omega (arith, f .few)))
     ∙ candidate-read s d _ l
 
 module _ (P : Primitives) (law : Lengths P) (client : ℕ) (writers : List ℕ) (keys : ByServer (List ℕ)) (output : List ℕ)
@@ -60,7 +61,7 @@ module _ (P : Primitives) (law : Lengths P) (client : ℕ) (writers : List ℕ) 
   -- clock ends: the candidate and every share are made and kept
   clock-ends : (n : ℕ) → let d = candidateMade P s client writers keys (nonceOf kept) n in
       let g = sharesMade P s client writers keys (contentOf (C 1) kept) (nonceOf kept) n in
-      let K = putShares s (put kept chosenAt (candidateF s .print d)) g (s .servers) in
+      let K = putShares s (put kept chosenPlace (candidateF s .print d)) g (s .servers) in
       (length K ≡ keptSize) × (storing (chosenOf s K) (sharesIn s K) ≡ storing d g)
   unfolding chosenOf
   clock-ends n =
@@ -70,12 +71,12 @@ module _ (P : Primitives) (law : Lengths P) (client : ℕ) (writers : List ℕ) 
       let d : Candidate = candidateMade P s client writers keys (nonceOf kept) n in
       let g : ByServer Share = sharesMade P s client writers keys r (nonceOf kept) n in
       let l : CandidateLengths s d = candidate-made P law s client writers keys r (nonceOf kept) n (content-most (C 1) kept) (nonce-long kept size) in
-      let k : List ℕ = put kept chosenAt (candidateF s .print d) in
-      let z : length k ≡ keptSize = put-length kept chosenAt (candidateF s .print d) (omega (arith, candidate-length s d l, f .few)) ∙ size in
+      let k : List ℕ = put kept chosenPlace (candidateF s .print d) in
+      let z : length k ≡ keptSize = put-length kept chosenPlace (candidateF s .print d) (omega (arith, candidate-length s d l, f .few)) ∙ size in
       let ok = shares-made P law s client writers keys r (nonceOf kept) n (content-most (C 1) kept) (nonce-long kept size) in
       let K : List ℕ = putShares s k g (s .servers) in
-      let e : candidateAt s (part K chosenAt candidateSlot) ≡ d =
-      ap (candidateAt s) (puts-below s f k z g ok (s .servers) (omega arith) chosenAt candidateSlot (omega arith)) ∙ chosen-read s f kept size d l in
+      let e : candidateAt s (bytesAt K chosenPlace candidateSlot) ≡ d =
+      ap (candidateAt s) (puts-below s f k z g ok (s .servers) (omega arith) chosenPlace candidateSlot (omega arith)) ∙ chosen-read s f kept size d l in
       let p : sharesIn s K ≡ g = shares-put s f k z g ok ∙ cut-twice r (nonceOf kept) n in
       (puts-length s f k z g ok (s .servers) (omega arith), λ i. storing (e i) (p i))
     where

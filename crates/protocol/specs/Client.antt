@@ -34,7 +34,7 @@ unfoldable pub isFull : Config → ByServer Bool → Bool
 isFull s m = leb (quorum s) (countTo (s .servers) m)
 
 module _ (P : Primitives) (s : Config) (client : ℕ) (writers : List ℕ) (keys : ByServer (List ℕ)) where
-  -- lines 143 to 145: c is chosen, server b leads its group. Amended: with other tags than the group's it is repaired first, and the content waits
+  -- lines 143 to 147: c is chosen, server b leads its group; with other tags than the group's it is repaired first, and the content waits
   unfoldable pub found : Client → ByServer Bool → ByServer Held → Candidate → ℕ → Turn
   found cl m g c b =
       let content = restoredBy P s m g c b (g b .share) in
@@ -48,44 +48,51 @@ module _ (P : Primitives) (s : Config) (client : ℕ) (writers : List ℕ) (keys
   judge cl m cs g (l ∷ ls) none = record { client = onto cl m (filtering cs g); result = more }
   judge cl m cs g (l ∷ ls) (some c) = found cl m g c (leader P s m g c (s .servers))
 
-  -- an accepted reply x of server b; m are the marks with b's, and full tells that they are a quorum
+  -- an accepted reply of a server, with what it holds; marks: with that server's; full: they are a quorum
   unfoldable pub update : Client → ℕ → Body → ByServer Bool → Bool → Hand → Turn
-  update cl b x m full idle = record { client = cl; result = more }
+  update cl server reply marks full idle = record { client = cl; result = more }
   -- lines 94 to 100
-  update cl b x m full (clocking r n h) =
-      let h' = higher P writers h (stampIn x) in
+  update cl server reply marks full (clocking content nonce high) =
+      let top = higher P writers high (stampIn reply) in
       cond full
-      (record { client = record { calls = cl .calls; last = suc h'; marks = nobody; hand = prepared P s client writers keys r n (suc h') }; result = more })
-      (record { client = onto cl m (clocking r n h'); result = more })
+      (record {
+        client = record { calls = cl .calls; last = suc top; marks = nobody; hand = prepared P s client writers keys content nonce (suc top) };
+        result = more;
+      })
+      (record { client = onto cl marks (clocking content nonce top); result = more })
   -- line 105. Amended: 11 changes nothing and isn't counted
-  update cl b x m full (storing c h) =
-      cond (eqb (codeIn x) 11) (record { client = cl; result = more })
-      (cond full (record { client = onto cl nobody (completing c); result = more }) (record { client = onto cl m (storing c h); result = more }))
+  update cl server reply marks full (storing candidate shares) =
+      cond (eqb (codeIn reply) 11) (record { client = cl; result = more })
+      (cond full (record { client = onto cl nobody (completing candidate); result = more })
+      (record { client = onto cl marks (storing candidate shares); result = more }))
   -- line 108
-  update cl b x m full (completing c) =
-      cond full (record { client = onto cl nobody idle; result = written (labelOf (c .stamp)) }) (record { client = onto cl m (completing c); result = more })
-  -- lines 148 to 150. Amended: filter is sent even when the list is empty
-  update cl b x m full (collecting g) =
-      let g' = upd g b (candidateIn s x) in
-      cond full (record { client = onto cl nobody (filtering (gather g' (s .servers)) (λ i. noHeld)); result = more })
-      (record { client = onto cl m (collecting g'); result = more })
+  update cl server reply marks full (completing candidate) =
+      cond full (record { client = onto cl nobody idle; result = written (labelOf (candidate .stamp)) })
+      (record { client = onto cl marks (completing candidate); result = more })
+  -- lines 148 to 150; filter is sent even when the list is empty
+  update cl server reply marks full (collecting sent) =
+      let now = upd sent server (candidateIn s reply) in
+      cond full (record { client = onto cl nobody (filtering (gather now (s .servers)) (λ i. noHeld)); result = more })
+      (record { client = onto cl marks (collecting now); result = more })
   -- lines 151 to 153
-  update cl b x m full (filtering cs g) =
-      let g' = upd g b (heldIn x) in
-      cond full (judge cl m cs g' (live P s m g' cs) (choice P s m g' cs)) (record { client = onto cl m (filtering cs g'); result = more })
+  update cl server reply marks full (filtering list replies) =
+      let now = upd replies server (heldIn reply) in
+      cond full (judge cl marks list now (live P s marks now list) (choice P s marks now list))
+      (record { client = onto cl marks (filtering list now); result = more })
   -- line 159
-  update cl b x m full (repairing c r) =
-      cond full (record { client = onto cl nobody idle; result = gave (labelOf (c .stamp)) r }) (record { client = onto cl m (repairing c r); result = more })
+  update cl server reply marks full (repairing candidate content) =
+      cond full (record { client = onto cl nobody idle; result = gave (labelOf (candidate .stamp)) content })
+      (record { client = onto cl marks (repairing candidate content); result = more })
 
 -- the stamp number would pass its top at the reply that would end clock
 unfoldable pub tooHigh : Primitives → List ℕ → Body → Bool → Hand → Bool
-tooHigh P writers x full idle = false
-tooHigh P writers x full (clocking r n h) = full && leb topNumber (higher P writers h (stampIn x))
-tooHigh P writers x full (storing c h) = false
-tooHigh P writers x full (completing c) = false
-tooHigh P writers x full (collecting g) = false
-tooHigh P writers x full (filtering cs g) = false
-tooHigh P writers x full (repairing c r) = false
+tooHigh P writers reply full idle = false
+tooHigh P writers reply full (clocking content nonce high) = full && leb topNumber (higher P writers high (stampIn reply))
+tooHigh P writers reply full (storing candidate shares) = false
+tooHigh P writers reply full (completing candidate) = false
+tooHigh P writers reply full (collecting sent) = false
+tooHigh P writers reply full (filtering list replies) = false
+tooHigh P writers reply full (repairing candidate content) = false
 
 -- ---- refusals, in document 01's order
 

@@ -20,9 +20,9 @@ use Rattle.protocol.specs.Packet.{Packet, kindOf, decode, encode, candid
 use Rattle.protocol.specs.Primitives.{Primitives}
 use Rattle.protocol.specs.Rules.{ByServer, countTo}
 use Rattle.protocol.specs.Client.{Client, Hand, idle, clocking, storing, completing, collecting, filtering, repairing, Result, refused, more, written, gave, gaveBlank, aborted, Turn, awaits, candidateIn, heldIn, writeStep, readStep, abortStep, makeStep, takeStep}
-use Rattle.protocol.specs.ServerBytes.{over}
+use Rattle.format.specs.Reading.{put, over}
 use Rattle.protocol.specs.Answers.{takenAnswer, abortedAnswer}
-use Rattle.protocol.specs.View.{view, nonceAt, chosenAt, candidateSlot, candidatesAt, repliesAt, replySlot}
+use Rattle.protocol.specs.View.{view, noncePlace, chosenPlace, candidateSlot, candidatesPlace, repliesPlace, replySlot}
 
 -- ---- what the operations give
 
@@ -35,7 +35,7 @@ pub record GaveUp : Type 0 where
   pub answer : Answer
   pub call : Call
 
-pub record Written : Type 0 where
+pub record Filled : Type 0 where
   pub result : Outcome
   pub output : List ℕ
 
@@ -47,14 +47,10 @@ pub record Took : Type 0 where
 
 -- ---- places, keys and marks
 
--- d with the bytes b from the place at on
-unfoldable pub put : List ℕ → ℕ → List ℕ → List ℕ
-put d at b = take at d ++ (b ++ drop (at + length b) d)
-
 -- the shares of servers 1 to n in their slots
 unfoldable pub putShares : Config → List ℕ → ByServer Share → ℕ → List ℕ
 putShares s kept h zero = kept
-putShares s kept h (suc n) = put (putShares s kept h n) (repliesAt + replySlot * n) (shareF s .print (h (suc n)))
+putShares s kept h (suc n) = put (putShares s kept h n) (repliesPlace + replySlot * n) (shareF s .print (h (suc n)))
 
 -- the key of server i in a table of keys
 unfoldable pub keyOf : List (List ℕ) → ByServer (List ℕ)
@@ -91,8 +87,8 @@ unfoldable pub putReply : Config → List ℕ → Option Packet → List ℕ
 putReply s kept none = kept
 putReply s kept (some p) =
     let i = p .head .server - 1 in
-    cond (eqb (kindOf (p .body)) 8) (put kept (candidatesAt + candidateSlot * i) (anyCandidateF s .print (candidateIn s (p .body))))
-    (cond (eqb (kindOf (p .body)) 10) (put kept (repliesAt + replySlot * i) (heldF s .print (heldIn (p .body)))) kept)
+    cond (eqb (kindOf (p .body)) 8) (put kept (candidatesPlace + candidateSlot * i) (anyCandidateF s .print (candidateIn s (p .body))))
+    (cond (eqb (kindOf (p .body)) 10) (put kept (repliesPlace + replySlot * i) (heldF s .print (heldIn (p .body)))) kept)
 
 -- what a round writes when it begins; complete and filter use what store and collect left
 pub record Bulk : Type 0 where
@@ -102,14 +98,14 @@ pub record Bulk : Type 0 where
 
 unfoldable pub begins : Config → Bulk → Hand → Bulk
 begins s w idle = w
-begins s w (clocking r n h) = record { high = h; length = length r; kept = put (put (w .kept) 0 r) nonceAt n }
+begins s w (clocking r n h) = record { high = h; length = length r; kept = put (put (w .kept) 0 r) noncePlace n }
 begins s w (storing d g) =
-    record { high = w .high; length = w .length; kept = putShares s (put (w .kept) chosenAt (candidateF s .print d)) g (s .servers) }
+    record { high = w .high; length = w .length; kept = putShares s (put (w .kept) chosenPlace (candidateF s .print d)) g (s .servers) }
 begins s w (completing d) = w
 begins s w (collecting g) =
-    record { high = w .high; length = w .length; kept = put (w .kept) candidatesAt (replicate (candidateSlot * mostServers) 0) }
+    record { high = w .high; length = w .length; kept = put (w .kept) candidatesPlace (replicate (candidateSlot * mostServers) 0) }
 begins s w (filtering l g) = w
-begins s w (repairing d r) = record { high = w .high; length = length r; kept = put (put (w .kept) 0 r) chosenAt (candidateF s .print d) }
+begins s w (repairing d r) = record { high = w .high; length = length r; kept = put (put (w .kept) 0 r) chosenPlace (candidateF s .print d) }
 
 -- within a round the highest number, the marks and their count change, and no more. The count is there to be shown: no step looks at it
 unfoldable pub putBack : Config → Call → List ℕ → Client → Machine
@@ -169,7 +165,7 @@ abbrev pub sentOf : Option Packet → List ℕ
 sentOf none = []
 sentOf (some p) = encode p
 
-unfoldable pub clientMake : ℕ → ℕ → ℕ → Call → List ℕ → List ℕ → Written
+unfoldable pub clientMake : ℕ → ℕ → ℕ → Call → List ℕ → List ℕ → Filled
 clientMake t client b c kept output =
     let d = makeStep (shelf t) client (view (shelf t) c kept) b (length output) in
     record { result = record { number = d .number; count = length (sentOf (d .packet)) }; output = over (sentOf (d .packet)) output }

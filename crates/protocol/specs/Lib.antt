@@ -1,4 +1,3 @@
-pub mod Format
 pub mod Values
 pub mod Packet
 pub mod Memory
@@ -11,5 +10,4 @@ pub mod Answers
 pub mod Client
 pub mod View
 pub mod ClientBytes
-pub mod Reading
 pub mod Runs

@@ -8,7 +8,7 @@ use lib.Dec.{eqb}
 use Rattle.cluster.specs.Config.{shelf}
 use Rattle.cluster.specs.Ranges.{topFaults, memorySize, capacity}
 use Rattle.protocol.specs.declared.Stamp.{Stamp}
-use Rattle.protocol.specs.Format.{Fmt, guard, zeros, byte, seq, via, keep, many}
+use Rattle.format.specs.Format.{Fmt, guard, zeros, byte, seq, via, keep, many}
 use Rattle.protocol.specs.Values.{Candidate, Share, Write, sameStamp, isSome, blankCandidate}
 use Rattle.protocol.specs.Packet.{writeF, anyCandidateF}
 
@@ -20,14 +20,14 @@ pub record Memory : Type 0 where
   pub writes : List Write
 
 -- what the stored writes hold for a stamp, found by the whole stamp
-unfoldable pub held : Stamp → List Write → Option Share
-held a [] = none
-held a (w ∷ ws) = cond (sameStamp (w .stamp) a) (some (w .share)) (held a ws)
+unfoldable pub lookup : Stamp → List Write → Option Share
+lookup a [] = none
+lookup a (w ∷ ws) = cond (sameStamp (w .stamp) a) (some (w .share)) (lookup a ws)
 
 -- no write's stamp is that of one seen before it
 abbrev pub freshAfter : List Write → List Write → Bool
 freshAfter seen [] = true
-freshAfter seen (w ∷ ws) = not (isSome (held (w .stamp) seen)) && freshAfter (seen ++ (w ∷ [])) ws
+freshAfter seen (w ∷ ws) = not (isSome (lookup (w .stamp) seen)) && freshAfter (seen ++ (w ∷ [])) ws
 
 abbrev pub distinct : List Write → Bool
 distinct ws = freshAfter [] ws

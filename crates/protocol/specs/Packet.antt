@@ -13,7 +13,7 @@ use Rattle.hmac.specs.Hmac.{tagSize}
 use Rattle.erasure.specs.Fragments.{fragmentSize}
 use Rattle.protocol.specs.declared.Stamp.{Stamp}
 use Rattle.protocol.specs.declared.Head.{Head}
-use Rattle.protocol.specs.Format.{Fmt, andThen, whole, empty, byte, number2, number4, run, seq, via, keep, orBlank, many, optional}
+use Rattle.format.specs.Format.{Fmt, andThen, whole, empty, byte, number2, number4, run, seq, via, keep, orBlank, many, optional}
 use Rattle.protocol.specs.Values.{Candidate, Share, Write, Held, blankStamp, blankCandidate, digestSize, nonceSize, stampSize, digestsSize, tagsSize, candidateSize}
 
 -- ---- the layouts of the parts
@@ -31,14 +31,14 @@ anyStampF = orBlank stampSize blankStamp stampF
 unfoldable pub shareF : Config → Fmt Share
 shareF s =
     via
-    (λ x. record { size = x .0; part = x .1 .0; digests = x .1 .1 .0; nonceDigest = x .1 .1 .1 .0; tags = x .1 .1 .1 .1 })
-    (λ h. (h .size, (h .part, (h .digests, (h .nonceDigest, h .tags)))))
+    (λ x. record { size = x .0; fragment = x .1 .0; digests = x .1 .1 .0; nonceDigest = x .1 .1 .1 .0; tags = x .1 .1 .1 .1 })
+    (λ h. (h .size, (h .fragment, (h .digests, (h .nonceDigest, h .tags)))))
     (seq (number2 leastLength topLength)
-    (λ n. seq (run (fragmentSize (s .shares) n)) (λ p. seq (run (digestsSize s)) (λ d. seq (run digestSize) (λ e. run (tagsSize s))))))
+    (λ n. seq (run (fragmentSize (s .threshold) n)) (λ p. seq (run (digestsSize s)) (λ d. seq (run digestSize) (λ e. run (tagsSize s))))))
 
 -- the bytes of a share of a content of n bytes
 unfoldable pub shareSize : Config → ℕ → ℕ
-shareSize s n = 2 + fragmentSize (s .shares) n + digestsSize s + digestSize + tagsSize s
+shareSize s n = 2 + fragmentSize (s .threshold) n + digestsSize s + digestSize + tagsSize s
 
 -- a stored write: its stamp and its share
 unfoldable pub writeF : Config → Fmt Write

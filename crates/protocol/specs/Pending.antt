@@ -20,17 +20,17 @@ use Rattle.protocol.specs.Rules.{ByServer, nobody}
 -- a pending call by its round
 pub data Hand : Type 0 where
   idle : Hand
-  -- content, nonce, highest number so far
-  clocking : List ℕ → List ℕ → ℕ → Hand
+  -- high: the highest number so far
+  clocking : (content nonce : List ℕ) → (high : ℕ) → Hand
   -- the candidate that the write will show, and each server's share
-  storing : Candidate → ByServer Share → Hand
-  completing : Candidate → Hand
+  storing : (candidate : Candidate) → (shares : ByServer Share) → Hand
+  completing : (candidate : Candidate) → Hand
   -- what each server sent
-  collecting : ByServer Candidate → Hand
+  collecting : (sent : ByServer Candidate) → Hand
   -- the list as collect left it, and what each server replied
-  filtering : List Candidate → ByServer Held → Hand
+  filtering : (list : List Candidate) → (replies : ByServer Held) → Hand
   -- the candidate with the proven tags, and the content read
-  repairing : Candidate → List ℕ → Hand
+  repairing : (candidate : Candidate) → (content : List ℕ) → Hand
 
 pub record Client : Type 0 where
   -- the number of the last call. Amended: one counter for writes and reads takes the place of ts and tsr in every packet
@@ -47,12 +47,12 @@ newClient = record { calls = 0; last = 0; marks = nobody; hand = idle }
 -- the kind of the replies that a round awaits: twice the round's number
 unfoldable pub awaits : Hand → ℕ
 awaits idle = 0
-awaits (clocking r n m) = 2
-awaits (storing c h) = 4
-awaits (completing c) = 6
-awaits (collecting g) = 8
-awaits (filtering cs g) = 10
-awaits (repairing c r) = 12
+awaits (clocking content nonce high) = 2
+awaits (storing candidate shares) = 4
+awaits (completing candidate) = 6
+awaits (collecting sent) = 8
+awaits (filtering list replies) = 10
+awaits (repairing candidate content) = 12
 
 unfoldable pub isIdle : Hand → Bool
 isIdle h = eqb (awaits h) 0
@@ -112,8 +112,8 @@ module _ (P : Primitives) (s : Config) (client : ℕ) (writers : List ℕ) (keys
   shareMade r nonce k b =
       record {
         size = length r;
-        part = P .fragment (s .points) (s .shares) r b;
-        digests = runOf (s .servers) (λ i. P .digest (P .fragment (s .points) (s .shares) r i));
+        fragment = P .fragment (s .points) (s .threshold) r b;
+        digests = runOf (s .servers) (λ i. P .digest (P .fragment (s .points) (s .threshold) r i));
         nonceDigest = P .digest nonce;
         tags = tagsOf (stampOf k) nonce;
       }
@@ -128,13 +128,13 @@ module _ (P : Primitives) (s : Config) (client : ℕ) (writers : List ℕ) (keys
 
 abbrev pub request : Hand → ℕ → Body
 request idle b = collect
-request (clocking r n h) b = clock
-request (storing c h) b = store (record { stamp = c .stamp; share = h b })
-request (completing c) b = complete c
-request (collecting g) b = collect
+request (clocking content nonce high) b = clock
+request (storing candidate shares) b = store (record { stamp = candidate .stamp; share = shares b })
+request (completing candidate) b = complete candidate
+request (collecting sent) b = collect
 -- the list as collect left it, whoever has left it since
-request (filtering cs g) b = filter cs
-request (repairing c r) b = repair c
+request (filtering list replies) b = filter list
+request (repairing candidate content) b = repair candidate
 
 unfoldable pub made : ℕ → ℕ → Client → ℕ → Packet
 made t client cl b =
@@ -143,58 +143,29 @@ made t client cl b =
 
 -- ---- what a reply of the awaited kind holds
 
+-- of a clock, store, collect or filter reply what f, g, h or k makes of what it holds; d of any other body
+abbrev pub onReply : {A : Type 0} → (Stamp → A) → (ℕ → A) → (Candidate → A) → (Held → A) → A → Body → A
+onReply f g h k d (clockReply x) = f x
+onReply f g h k d (storeReply x) = g x
+onReply f g h k d (collectReply x) = h x
+onReply f g h k d (filterReply x) = k x
+onReply f g h k d clock = d
+onReply f g h k d (store x) = d
+onReply f g h k d (complete x) = d
+onReply f g h k d completeReply = d
+onReply f g h k d collect = d
+onReply f g h k d (filter x) = d
+onReply f g h k d (repair x) = d
+onReply f g h k d repairReply = d
+
 abbrev pub stampIn : Body → Stamp
-stampIn (clockReply x) = x
-stampIn clock = blankStamp
-stampIn (store x) = blankStamp
-stampIn (storeReply x) = blankStamp
-stampIn (complete x) = blankStamp
-stampIn completeReply = blankStamp
-stampIn collect = blankStamp
-stampIn (collectReply x) = blankStamp
-stampIn (filter x) = blankStamp
-stampIn (filterReply x) = blankStamp
-stampIn (repair x) = blankStamp
-stampIn repairReply = blankStamp
+stampIn x = onReply (λ a. a) (λ a. blankStamp) (λ a. blankStamp) (λ a. blankStamp) blankStamp x
 
 abbrev pub codeIn : Body → ℕ
-codeIn (storeReply x) = x
-codeIn clock = 0
-codeIn (clockReply x) = 0
-codeIn (store x) = 0
-codeIn (complete x) = 0
-codeIn completeReply = 0
-codeIn collect = 0
-codeIn (collectReply x) = 0
-codeIn (filter x) = 0
-codeIn (filterReply x) = 0
-codeIn (repair x) = 0
-codeIn repairReply = 0
+codeIn x = onReply (λ a. 0) (λ a. a) (λ a. 0) (λ a. 0) 0 x
 
 abbrev pub candidateIn : Config → Body → Candidate
-candidateIn s (collectReply x) = x
-candidateIn s clock = blankCandidate s
-candidateIn s (clockReply x) = blankCandidate s
-candidateIn s (store x) = blankCandidate s
-candidateIn s (storeReply x) = blankCandidate s
-candidateIn s (complete x) = blankCandidate s
-candidateIn s completeReply = blankCandidate s
-candidateIn s collect = blankCandidate s
-candidateIn s (filter x) = blankCandidate s
-candidateIn s (filterReply x) = blankCandidate s
-candidateIn s (repair x) = blankCandidate s
-candidateIn s repairReply = blankCandidate s
+candidateIn s x = onReply (λ a. blankCandidate s) (λ a. blankCandidate s) (λ a. a) (λ a. blankCandidate s) (blankCandidate s) x
 
 abbrev pub heldIn : Body → Held
-heldIn (filterReply x) = x
-heldIn clock = noHeld
-heldIn (clockReply x) = noHeld
-heldIn (store x) = noHeld
-heldIn (storeReply x) = noHeld
-heldIn (complete x) = noHeld
-heldIn completeReply = noHeld
-heldIn collect = noHeld
-heldIn (collectReply x) = noHeld
-heldIn (filter x) = noHeld
-heldIn (repair x) = noHeld
-heldIn repairReply = noHeld
+heldIn x = onReply (λ a. noHeld) (λ a. noHeld) (λ a. noHeld) (λ a. a) noHeld x

@@ -7,7 +7,7 @@ use Rattle.sha256.specs.Sha256.{sha256}
 use Rattle.hmac.specs.Hmac.{tagOf, tagSize}
 use Rattle.erasure.specs.Fragments.{Part, fragment, fragmentSize, restored}
 use Rattle.protocol.specs.declared.Stamp.{Stamp}
-use Rattle.protocol.specs.Format.{print4}
+use Rattle.format.specs.Format.{print4}
 use Rattle.protocol.specs.Values.{digestSize}
 
 pub record Primitives : Type 0 where
@@ -27,7 +27,7 @@ real = record { digest = sha256; tag = tagOf; fragment = fragment; restored = re
 pub record Lengths (P : Primitives) : Type 0 where
   pub digest : (m : List ℕ) → length (P .digest m) ≡ digestSize
   pub tag : (k m : List ℕ) → length (P .tag k m) ≡ tagSize
-  pub part : (points : List ℕ) (k : ℕ) (r : List ℕ) (i : ℕ) → length (P .fragment points k r i) ≡ fragmentSize k (length r)
+  pub fragment : (points : List ℕ) (k : ℕ) (r : List ℕ) (i : ℕ) → length (P .fragment points k r i) ≡ fragmentSize k (length r)
   pub content : (points : List ℕ) (k n : ℕ) (ps : List Part) → length (P .restored points k n ps) ≡ n
 
 -- what the writers' key tags: number (4 bytes) and writer

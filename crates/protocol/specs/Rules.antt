@@ -64,9 +64,9 @@ module _ (P : Primitives) (s : Config) where
   shareFits c i none = false
   shareFits c i (some h) =
       within leastLength topLength (h .size)
-      && (sameList (h .nonceDigest) (P .digest (c .nonce)) && sameList (P .digest (h .part)) (nth digestSize (h .digests) i))
+      && (sameList (h .nonceDigest) (P .digest (c .nonce)) && sameList (P .digest (h .fragment)) (nth digestSize (h .digests) i))
 
-  -- line 161, of one reply: the candidate's stamp and, amended, byte 1, a nonce digest that is the nonce's, and a fragment that has its own digest
+  -- line 161, of one reply: the candidate's stamp, and a fragment that has its own digest; amended: byte 1, and a nonce digest that is the nonce's
   unfoldable pub fits : ByServer Bool → ByServer Held → Candidate → ByServer Bool
   fits m g c i = m i && (sameStamp (g i .stamp) (c .stamp) && shareFits c i (g i .share))
 
@@ -83,7 +83,7 @@ module _ (P : Primitives) (s : Config) where
 
   -- k replies of its group: b's own fits too, so that a spoilt reply leads none
   unfoldable pub leads : ByServer Bool → ByServer Held → Candidate → ℕ → Bool
-  leads m g c b = fits m g c b && leb (s .shares) (countTo (s .servers) (agrees m g c b))
+  leads m g c b = fits m g c b && leb (s .threshold) (countTo (s .servers) (agrees m g c b))
 
   -- the lowest server of 1 to n whose group is large enough, or 0. Amended: of two groups the one with the lowest server counts
   unfoldable pub leader : ByServer Bool → ByServer Held → Candidate → ℕ → ℕ
@@ -106,7 +106,7 @@ module _ (P : Primitives) (s : Config) where
 
   abbrev pub partOf : ℕ → Option Share → List Part
   partOf i none = []
-  partOf i (some h) = record { server = i; bytes = h .part } ∷ []
+  partOf i (some h) = record { server = i; bytes = h .fragment } ∷ []
 
   -- the fragments of b's group among servers 1 to n
   unfoldable pub parts : ByServer Bool → ByServer Held → Candidate → ℕ → ℕ → List Part
@@ -115,7 +115,7 @@ module _ (P : Primitives) (s : Config) where
 
   unfoldable pub restoredBy : ByServer Bool → ByServer Held → Candidate → ℕ → Option Share → List ℕ
   restoredBy m g c b none = []
-  restoredBy m g c b (some h) = P .restored (s .points) (s .shares) (h .size) (parts m g c b (s .servers))
+  restoredBy m g c b (some h) = P .restored (s .points) (s .threshold) (h .size) (parts m g c b (s .servers))
 
   -- line 155. Amended: the tags of the proven group
   abbrev pub tagsIn : Candidate → Option Share → List ℕ

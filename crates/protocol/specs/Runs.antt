@@ -11,7 +11,7 @@ use Rattle.cluster.specs.Config.{Config, shelf}
 use Rattle.cluster.specs.Ranges.{within, topWriter}
 use Rattle.protocol.specs.declared.Call.{Call}
 use Rattle.protocol.specs.declared.Answer.{Answer}
-use Rattle.protocol.specs.Format.{Bytes}
+use Rattle.format.specs.Format.{Bytes}
 use Rattle.protocol.specs.Values.{nonceSize}
 use Rattle.protocol.specs.Memory.{Memory, decodeMemory, encodeMemory, blankMemory}
 use Rattle.protocol.specs.Primitives.{Primitives}

@@ -13,7 +13,7 @@ use Rattle.hmac.specs.Hmac.{tagSize}
 use Rattle.protocol.specs.Values.{Candidate, Share, Write, sameList, nth, below, blankCandidate, isSome, ofSome}
 use Rattle.protocol.specs.Packet.{Body, Packet, kindOf}
 use Rattle.protocol.specs.Packet.{clock, clockReply, store, storeReply, complete, completeReply, collect, collectReply, filter, filterReply, repair, repairReply}
-use Rattle.protocol.specs.Memory.{Memory, held}
+use Rattle.protocol.specs.Memory.{Memory, lookup}
 use Rattle.protocol.specs.Primitives.{Primitives, candidateMessage}
 
 -- lines 110, 111: lc, and Hist in order of arrival (document 01: at most 32 stored writes)
@@ -42,16 +42,16 @@ unfoldable pub raise : Candidate → Server → Server
 raise c v = cond (below (v .latest .stamp) (c .stamp)) (record { latest = c; history = v .history }) v
 
 -- lines 114 to 116. Amended: a held stamp is answered 10 and left as it is, a full history 11, and 0 means kept
-unfoldable pub kept : Server → Write → Acted
-kept v w =
-    cond (isSome (held (w .stamp) (v .history))) (record { server = v; reply = storeReply 10 })
+unfoldable pub onStore : Server → Write → Acted
+onStore v w =
+    cond (isSome (lookup (w .stamp) (v .history))) (record { server = v; reply = storeReply 10 })
     (cond (leb capacity (length (v .history))) (record { server = v; reply = storeReply 11 })
     (record { server = record { latest = v .latest; history = v .history ++ (w ∷ []) }; reply = storeReply 0 }))
 
 module _ (P : Primitives) (s : Config) (key : List ℕ) (number : ℕ) where
   -- line 131: the history holds its stamp with the digest of its nonce, or its tag of this server checks
   unfoldable pub byHistory : Server → Candidate → Bool
-  byHistory v c = hasDigest (P .digest (c .nonce)) (held (c .stamp) (v .history))
+  byHistory v c = hasDigest (P .digest (c .nonce)) (lookup (c .stamp) (v .history))
 
   unfoldable pub byTag : Candidate → Bool
   byTag c = sameList (nth tagSize (c .tags) number) (P .tag key (candidateMessage (c .stamp) (P .digest (c .nonce))))
@@ -67,7 +67,7 @@ module _ (P : Primitives) (s : Config) (key : List ℕ) (number : ℕ) where
   unfoldable pub act : Server → Body → Acted
   -- lines 112, 113
   act v clock = record { server = v; reply = clockReply (v .latest .stamp) }
-  act v (store w) = kept v w
+  act v (store w) = onStore v w
   -- lines 117 to 119: higher only, and no test of validity
   act v (complete c) = record { server = raise c v; reply = completeReply }
   -- lines 120, 121
@@ -75,7 +75,7 @@ module _ (P : Primitives) (s : Config) (key : List ℕ) (number : ℕ) where
   -- lines 122 to 126. Amended: the answer has length and nonce digest too, and says where nothing is held
   act v (filter cs) =
       let c = best v (blankCandidate s) cs in
-      record { server = raise c v; reply = filterReply (record { stamp = c .stamp; share = held (c .stamp) (v .history) }) }
+      record { server = raise c v; reply = filterReply (record { stamp = c .stamp; share = lookup (c .stamp) (v .history) }) }
   -- lines 127 to 129
   act v (repair c) = record { server = cond (valid v c) (raise c v) v; reply = repairReply }
   -- a reply is no request: refused with 9 before

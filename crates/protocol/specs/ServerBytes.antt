@@ -9,14 +9,11 @@ use Rattle.cluster.specs.Config.{shelf}
 use Rattle.cluster.specs.Ranges.{within, topFaults, memorySize}
 use Rattle.cluster.specs.Refusals.{refuse, firstOf, onRefusal}
 use Rattle.cluster.specs.declared.Outcome.{Outcome}
+use Rattle.format.specs.Reading.{over}
 use Rattle.protocol.specs.Packet.{Packet, decode, encode}
 use Rattle.protocol.specs.Memory.{Memory, decodeMemory, encodeMemory, blankMemory}
 use Rattle.protocol.specs.Primitives.{Primitives}
 use Rattle.protocol.specs.Server.{Server, memoryOf, act, replyTo, serverRefusal}
-
--- bytes written at the start of the output buffer, the rest untouched
-unfoldable pub over : List ℕ → List ℕ → List ℕ
-over new old = new ++ drop (length new) old
 
 unfoldable pub serverIn : Memory → Server
 serverIn m = record { latest = m .latest; history = m .writes }

@@ -93,13 +93,13 @@ sameCandidate a b = sameStamp (a .stamp) (b .stamp) && (sameList (a .nonce) (b .
 
 pub record Share : Type 0 where
   pub size : ℕ
-  pub part : List ℕ
+  pub fragment : List ℕ
   pub digests : List ℕ
   pub nonceDigest : List ℕ
   pub tags : List ℕ
 
 abbrev pub noShare : Share
-noShare = record { size = 0; part = []; digests = []; nonceDigest = []; tags = [] }
+noShare = record { size = 0; fragment = []; digests = []; nonceDigest = []; tags = [] }
 
 pub record Write : Type 0 where
   pub stamp : Stamp

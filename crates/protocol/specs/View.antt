@@ -11,33 +11,30 @@ use Rattle.hmac.specs.Hmac.{tagSize}
 use Rattle.erasure.specs.Fragments.{fragmentSize}
 use Rattle.protocol.specs.declared.Stamp.{Stamp}
 use Rattle.protocol.specs.declared.Call.{Call}
-use Rattle.protocol.specs.Format.{value2, value4}
+use Rattle.format.specs.Format.{value2}
+use Rattle.format.specs.Reading.{bytesAt, number4At}
 use Rattle.protocol.specs.Values.{Candidate, Share, Held, blankCandidate, noHeld, noShare, digestSize, nonceSize, stampSize, digestsSize, tagsSize}
 use Rattle.protocol.specs.Rules.{ByServer, gather}
 use Rattle.protocol.specs.Client.{Client, Hand, idle, clocking, storing, completing, collecting, filtering, repairing}
 
 -- ---- readers by place
 
--- n bytes from the place at on
-unfoldable pub part : List ℕ → ℕ → ℕ → List ℕ
-part d at n = take n (drop at d)
-
 unfoldable pub stampAt : List ℕ → Stamp
-stampAt d = record { number = value4 (getD d 0 0) (getD d 1 0) (getD d 2 0) (getD d 3 0); writer = getD d 4 0; tag = part d 5 tagSize }
+stampAt d = record { number = number4At d; writer = getD d 4 0; tag = bytesAt d 5 tagSize }
 
 unfoldable pub candidateAt : Config → List ℕ → Candidate
-candidateAt s d = record { stamp = stampAt d; nonce = part d stampSize nonceSize; tags = part d (stampSize + nonceSize) (tagsSize s) }
+candidateAt s d = record { stamp = stampAt d; nonce = bytesAt d stampSize nonceSize; tags = bytesAt d (stampSize + nonceSize) (tagsSize s) }
 
 -- a share of a content of n bytes
 unfoldable pub shareOfSize : Config → ℕ → List ℕ → Share
 shareOfSize s n d =
-    let f = fragmentSize (s .shares) n in
+    let f = fragmentSize (s .threshold) n in
     record {
       size = n;
-      part = part d 2 f;
-      digests = part d (2 + f) (digestsSize s);
-      nonceDigest = part d (2 + f + digestsSize s) digestSize;
-      tags = part d (2 + f + digestsSize s + digestSize) (tagsSize s);
+      fragment = bytesAt d 2 f;
+      digests = bytesAt d (2 + f) (digestsSize s);
+      nonceDigest = bytesAt d (2 + f + digestsSize s) digestSize;
+      tags = bytesAt d (2 + f + digestsSize s + digestSize) (tagsSize s);
     }
 
 unfoldable pub shareAt : Config → List ℕ → Share
@@ -52,35 +49,35 @@ abbrev pub keptSize : ℕ
 keptSize = 24576
 
 -- the places and sizes of its parts, for the most servers
-abbrev pub nonceAt : ℕ
-nonceAt = topLength
+abbrev pub noncePlace : ℕ
+noncePlace = topLength
 
-abbrev pub chosenAt : ℕ
-chosenAt = nonceAt + nonceSize
+abbrev pub chosenPlace : ℕ
+chosenPlace = noncePlace + nonceSize
 
 abbrev pub candidateSlot : ℕ
 candidateSlot = stampSize + nonceSize + tagSize * mostServers
 
-abbrev pub candidatesAt : ℕ
-candidatesAt = chosenAt + candidateSlot
+abbrev pub candidatesPlace : ℕ
+candidatesPlace = chosenPlace + candidateSlot
 
-abbrev pub repliesAt : ℕ
-repliesAt = candidatesAt + candidateSlot * mostServers
+abbrev pub repliesPlace : ℕ
+repliesPlace = candidatesPlace + candidateSlot * mostServers
 
 abbrev pub replySlot : ℕ
 replySlot = 1120
 
 unfoldable pub contentOf : Call → List ℕ → List ℕ
-contentOf c kept = part kept 0 (cond (leb (c .length) topLength) (c .length) topLength)
+contentOf c kept = bytesAt kept 0 (cond (leb (c .length) topLength) (c .length) topLength)
 
 unfoldable pub nonceOf : List ℕ → List ℕ
-nonceOf kept = part kept nonceAt nonceSize
+nonceOf kept = bytesAt kept noncePlace nonceSize
 
 unfoldable pub chosenOf : Config → List ℕ → Candidate
-chosenOf s kept = candidateAt s (part kept chosenAt candidateSlot)
+chosenOf s kept = candidateAt s (bytesAt kept chosenPlace candidateSlot)
 
 unfoldable pub replySlotOf : List ℕ → ℕ → List ℕ
-replySlotOf kept i = part kept (repliesAt + replySlot * i) replySlot
+replySlotOf kept i = bytesAt kept (repliesPlace + replySlot * i) replySlot
 
 unfoldable pub marked : List ℕ → ByServer Bool
 marked ms zero = false
@@ -89,7 +86,7 @@ marked ms (suc i) = not (eqb (getD ms i 0) 0)
 -- past the servers there is nothing
 unfoldable pub candidatesIn : Config → List ℕ → ByServer Candidate
 candidatesIn s kept zero = blankCandidate s
-candidatesIn s kept (suc i) = cond (ltb i mostServers) (candidateAt s (part kept (candidatesAt + candidateSlot * i) candidateSlot)) (blankCandidate s)
+candidatesIn s kept (suc i) = cond (ltb i mostServers) (candidateAt s (bytesAt kept (candidatesPlace + candidateSlot * i) candidateSlot)) (blankCandidate s)
 
 unfoldable pub repliesIn : Config → List ℕ → List ℕ → ByServer Held
 repliesIn s ms kept zero = noHeld

@@ -4,6 +4,10 @@ ghost use Prim.Native.Nat.{_≤_, _+_};
 ghost use Rattle.protocol.specs.Values.{blankStamp, sameList, sameStamp, rankBy, below};
 ghost use Rattle.protocol.specs.Answers.{refusals, bare, takenAnswer, abortedAnswer};
 
+pub mod kinds; // kinds of packets
+pub mod rounds; // rounds of a call
+pub mod codes; // what a reply to store says
+
 // Whether two tags are the same.
 fn same_tag(a: [u8; hmac::TAG], b: [u8; hmac::TAG]) -> bool
     ensures { λ r. ⌜ r ≡ sameList a b ⌝ }

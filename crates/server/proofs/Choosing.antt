@@ -10,7 +10,7 @@ use lib.Dec.{T, ltb}
 use borrow.Author.Tests.{ltb-true, ltb-false, lt-ltb}
 use Rattle.cluster.specs.Config.{Config}
 use Rattle.protocol.specs.declared.Stamp.{Stamp}
-use Rattle.protocol.specs.Format.{via, seq, number4, byte}
+use Rattle.format.specs.Format.{via, seq, number4, byte}
 use Rattle.protocol.specs.Values.{Candidate, below, blankStamp, blankCandidate, rank}
 use Rattle.protocol.specs.Packet.{stampF, candidateF}
 use Rattle.protocol.specs.Primitives.{Primitives, real}

@@ -14,13 +14,14 @@ use Rattle.cluster.specs.declared.Outcome.{Outcome}
 use Rattle.hmac.specs.Hmac.{tagSize}
 use Rattle.protocol.specs.declared.Head.{Head}
 use Rattle.protocol.specs.declared.Stamp.{Stamp}
-use Rattle.protocol.specs.Format.{Bytes}
+use Rattle.format.specs.Format.{Bytes}
 use Rattle.protocol.specs.Values.{Candidate, below, blankStamp, blankCandidate, stampSize, candidateSize}
 use Rattle.protocol.specs.Packet.{heldF, filter, filterReply, headSize, decode}
-use Rattle.protocol.specs.Memory.{held, encodeMemory}
+use Rattle.protocol.specs.Memory.{lookup, encodeMemory}
 use Rattle.protocol.specs.Primitives.{real}
 use Rattle.protocol.specs.Server.{memoryOf, Acted, Server, raise, best, act}
-use Rattle.protocol.specs.View.{part, stampAt, candidateAt}
+use Rattle.protocol.specs.View.{stampAt, candidateAt}
+use Rattle.format.specs.Reading.{bytesAt}
 use Rattle.protocol.specs.ServerBytes.{Served, serverIn, actedOn}
 use Rattle.protocol.proofs.Packets.{candidate-lengths, candidate-length}
 use Rattle.wire.specs.Places.{candidateList, packetAt, padded}
@@ -40,10 +41,10 @@ use Rattle.server.proofs.Listing.{countIn, listIn, filter-body, listed}
 
 -- a stamp by value, where the bytes are long enough
 stamp-value : (x : List ℕ) → stampSize ≤ length x → stampAt (padded stampSize x) ≡ stampAt x
-unfolding stampAt part
+unfolding stampAt bytesAt
 stamp-value x h =
-    let e : padded tagSize (drop 5 x) ≡ part x 5 tagSize = unfold part in padded-whole tagSize (drop 5 x) (omega (arith, length-drop 5 x)) in
-    sym (unfold stampAt part in stamp-padded x) ∙ (λ i. record { number = stampAt x .number; writer = stampAt x .writer; tag = e i })
+    let e : padded tagSize (drop 5 x) ≡ bytesAt x 5 tagSize = unfold bytesAt in padded-whole tagSize (drop 5 x) (omega (arith, length-drop 5 x)) in
+    sym (unfold stampAt bytesAt in stamp-padded x) ∙ (λ i. record { number = stampAt x .number; writer = stampAt x .writer; tag = e i })
 
 -- the blank raises nothing
 blank-raises : (s : Config) (v : Server) → raise (blankCandidate s) v ≡ v
@@ -70,7 +71,7 @@ module _ {d : List ℕ} (bs : Bytes d) (key packet : List ℕ) (ps : Bytes packe
   kept = best real s key (h .server) server (blankCandidate s) (candidateList s M Y)
 
   abbrev acted : Candidate → Acted
-  acted c = record { server = raise c server; reply = filterReply (record { stamp = c .stamp; share = held (c .stamp) (o .writes) }) }
+  acted c = record { server = raise c server; reply = filterReply (record { stamp = c .stamp; share = lookup (c .stamp) (o .writes) }) }
 
   step-is : (c : Candidate) → kept ≡ c → act real s key (h .server) server (filter (candidateList s M Y)) ≡ acted c
   unfolding act serverIn
@@ -81,11 +82,11 @@ module _ {d : List ℕ} (bs : Bytes d) (key packet : List ℕ) (ps : Bytes packe
       → HeldAs d h (toldTo h n e top) a output (record { result = r; output = out })
       → record { result = r; memory = m; output = out } ≡ actedOn real d key packet output (some (memoryIn o)) (decode packet)
   answered c p l {a} q u w =
-      let H : List ℕ = heldF s .print (record { stamp = c .stamp; share = held (c .stamp) (o .writes) }) in
+      let H : List ℕ = heldF s .print (record { stamp = c .stamp; share = lookup (c .stamp) (o .writes) }) in
       replied-as key packet output h o dec room (filter (candidateList s M Y)) (filter-body h packet dec k) (acted c) (step-is c p) H [] u
       (sym (append-nil H))
       (w (o .writes) (o .holds) (ap (λ (z : Stamp). length (z .tag)) q ∙ l) ∙ ap
-      (λ (z : Stamp). packetStep (replyHead h 10) (heldF s .print (record { stamp = z; share = held z (o .writes) })) [] output) q)
+      (λ (z : Stamp). packetStep (replyHead h 10) (heldF s .print (record { stamp = z; share = lookup z (o .writes) })) [] output) q)
 
   module _ {u v : List ℕ} {m : ℕ} (p : u ≡ drop headSize packet) (q : v ≡ drop 1 u) (c : m ≡ getD u 0 0) (f : Chosen)
       (g : ChosenAs d key (toldTo h n e top) v m f) where

@@ -12,14 +12,15 @@ use borrow.Author.Tests.{ltb-true, ltb-false, le-ltb, lt-ltb}
 use Rattle.cluster.specs.Config.{shelf}
 use Rattle.cluster.proofs.Tests.{untrue, and-both}
 use Rattle.protocol.specs.declared.Stamp.{Stamp}
-use Rattle.protocol.specs.Format.{orElse, via, seq, number4, byte, run}
+use Rattle.format.specs.Format.{orElse, via, seq, number4, byte, run}
 use Rattle.protocol.specs.Values.{Share, Write, sameList, sameStamp, stampSize, rank}
 use Rattle.protocol.specs.Packet.{stampF}
-use Rattle.protocol.specs.Memory.{held}
-use Rattle.protocol.specs.View.{part, stampAt}
-use Rattle.protocol.proofs.Answers.{at-cond}
+use Rattle.protocol.specs.Memory.{lookup}
+use Rattle.protocol.specs.View.{stampAt}
+use Rattle.format.specs.Reading.{bytesAt}
+use Rattle.format.proofs.Answers.{at-cond}
 use Rattle.protocol.proofs.Equal.{same-true, same-printed}
-use Rattle.protocol.proofs.Formats.{value4-print}
+use Rattle.format.proofs.Formats.{value4-print}
 use Rattle.server.specs.declared.memory.Top.{Top}
 use Rattle.server.specs.declared.memory.Opened.{Opened}
 use Rattle.server.specs.declared.memory.Found.{Found}
@@ -85,7 +86,7 @@ first-append key (x ∷ xs) ys = go (sameList (stampF .print (x .stamp)) key) (f
     go true h = refl
     go false h = h
 
-module _ (d : List ℕ) (told : Opened) (y : List ℕ) {x : List ℕ} (p : x ≡ part y 0 stampSize) where
+module _ (d : List ℕ) (told : Opened) (y : List ℕ) {x : List ℕ} (p : x ≡ bytesAt y 0 stampSize) where
   abbrev top : Top
   top = told .top
 
@@ -95,24 +96,24 @@ module _ (d : List ℕ) (told : Opened) (y : List ℕ) {x : List ℕ} (p : x ≡
   pub find-above : {k : ℕ} → k ≡ rank (stampAt x) → top .key < k → FindAs d told y found.Nothing
   find-above q l = found-as found.Nothing (λ ws h. first-above x (top .key) ws (h .up .up) (omega (arith, q, l)))
 
-  pub find-highest : {r : Bool} → r ≡ (ltb 0 (top .at) && sameList (part (drop (top .at) d) 0 stampSize) x) → r ≡ true
+  pub find-highest : {r : Bool} → r ≡ (ltb 0 (top .at) && sameList (bytesAt (drop (top .at) d) 0 stampSize) x) → r ≡ true
       → FindAs d told y (found.At (top .at))
   find-highest c e =
-      let both = and-both (ltb 0 (top .at)) (sameList (part (drop (top .at) d) 0 stampSize) x) (sym c ∙ e) in
+      let both = and-both (ltb 0 (top .at)) (sameList (bytesAt (drop (top .at) d) 0 stampSize) x) (sym c ∙ e) in
       found-as (found.At (top .at)) (λ ws h. h .up .first (ltb-true 0 (top .at) (both .0)) x (both .1))
 
   pub find-searched : (r : Found) → SearchAs (shelf (told .t)) (told .count) d x r → FindAs d told y r
   find-searched r f = found-as r (λ ws h. f ws (told .end) (h .there))
 
 -- the bytes at a place, as the code compares them; at place 0 none stand
-pub stands : (d key : List ℕ) (at : ℕ) {y x : List ℕ} {r : Bool} → y ≡ drop at d → x ≡ part y 0 stampSize → r ≡ sameList x key → 0 < at
-    → r ≡ (ltb 0 at && sameList (part (drop at d) 0 stampSize) key)
+pub stands : (d key : List ℕ) (at : ℕ) {y x : List ℕ} {r : Bool} → y ≡ drop at d → x ≡ bytesAt y 0 stampSize → r ≡ sameList x key → 0 < at
+    → r ≡ (ltb 0 at && sameList (bytesAt (drop at d) 0 stampSize) key)
 stands d key at p q c l =
-    c ∙ ap (λ (z : List ℕ). sameList z key) (q ∙ ap (λ (z : List ℕ). part z 0 stampSize) p)
-    ∙ ap (λ (b : Bool). b && sameList (part (drop at d) 0 stampSize) key) (sym (lt-ltb 0 at l))
+    c ∙ ap (λ (z : List ℕ). sameList z key) (q ∙ ap (λ (z : List ℕ). bytesAt z 0 stampSize) p)
+    ∙ ap (λ (b : Bool). b && sameList (bytesAt (drop at d) 0 stampSize) key) (sym (lt-ltb 0 at l))
 
-pub none-stands : (d key : List ℕ) (at : ℕ) → at ≡ 0 → false ≡ (ltb 0 at && sameList (part (drop at d) 0 stampSize) key)
-none-stands d key at e = ap (λ (b : Bool). b && sameList (part (drop at d) 0 stampSize) key) (sym (le-ltb 0 at (omega (arith, e))))
+pub none-stands : (d key : List ℕ) (at : ℕ) → at ≡ 0 → false ≡ (ltb 0 at && sameList (bytesAt (drop at d) 0 stampSize) key)
+none-stands d key at e = ap (λ (b : Bool). b && sameList (bytesAt (drop at d) 0 stampSize) key) (sym (le-ltb 0 at (omega (arith, e))))
 
 -- ---- what is found by a stamp's bytes is what is held for it
 
@@ -124,7 +125,7 @@ share-cond : (b : Bool) (w : Write) (o : Option Write) (p : Option Share) → sh
 share-cond true w o p e = refl
 share-cond false w o p e = e
 
-pub first-held : (a : Stamp) (ws : List Write) → shareIn (firstWith (stampF .print a) ws) ≡ held a ws
-unfolding firstWith held
+pub first-held : (a : Stamp) (ws : List Write) → shareIn (firstWith (stampF .print a) ws) ≡ lookup a ws
+unfolding firstWith lookup
 first-held a [] = refl
 first-held a (w ∷ ws) = rw (same-printed (w .stamp) a) (share-cond (sameStamp (w .stamp) a) w _ _ (first-held a ws))

@@ -11,17 +11,16 @@ use Rattle.cluster.specs.Config.{Config, shelf}
 use Rattle.hmac.specs.Hmac.{tagSize}
 use Rattle.protocol.specs.declared.Head.{Head}
 use Rattle.protocol.specs.declared.Stamp.{Stamp}
-use Rattle.protocol.specs.Format.{Bytes, value2, via, seq, orBlank, optional, run}
+use Rattle.format.specs.Format.{Bytes, value2, via, seq, orBlank, optional, run}
 use Rattle.protocol.specs.Values.{Write, Share, stampSize}
 use Rattle.protocol.specs.Packet.{stampF, anyStampF, shareF, writeF, heldF, headF}
-use Rattle.protocol.specs.Memory.{held}
-use Rattle.protocol.specs.Reading.{Leaves, Wrote}
-use Rattle.protocol.specs.View.{part, shareAt, shareOfSize}
-use Rattle.protocol.specs.ClientBytes.{Written}
-use Rattle.protocol.specs.ServerBytes.{over}
-use Rattle.protocol.proofs.Answers.{bytes-drop}
+use Rattle.protocol.specs.Memory.{lookup}
+use Rattle.format.specs.Reading.{Leaves, Wrote, bytesAt, over}
+use Rattle.protocol.specs.View.{shareAt, shareOfSize}
+use Rattle.protocol.specs.ClientBytes.{Filled}
+use Rattle.format.proofs.Answers.{bytes-drop}
 use Rattle.protocol.proofs.Packets.{write-law, stamp-length, share-lengths, share-length}
-use Rattle.protocol.proofs.Puts.{put-over, wrote-then, wrote-length}
+use Rattle.format.proofs.Puts.{put-over, wrote-then, wrote-length}
 use Rattle.wire.specs.Places.{lengthAt, shareSize, writeAt}
 use Rattle.wire.specs.Make.{placed, writeStep, packetStep}
 use Rattle.wire.proofs.Put.{placed-wrote}
@@ -60,9 +59,9 @@ unfolding lengthAt
 size-made t d p q = q ∙ ap (shareSize (shelf t)) p
 
 pub bytes-made : (s : Config) (d : List ℕ) (at : ℕ) {b x z : List ℕ} {k : ℕ} → b ≡ drop at d → x ≡ drop stampSize b → k ≡ shareSize s (lengthAt x) → z
-    ≡ part x 0 k
+    ≡ bytesAt x 0 k
     → z ≡ shareBytes s d at
-unfolding shareBytes part
+unfolding shareBytes bytesAt
 bytes-made s d at p q r u =
     let e = q ∙ ap (drop stampSize) p in
     u ∙ (λ i. take (r i) (e i)) ∙ ap (λ (z : List ℕ). take (shareSize s (lengthAt z)) (drop stampSize (drop at d))) e
@@ -107,34 +106,34 @@ module _ (d : List ℕ) (bs : Bytes d) (h : Head) (told : Opened) (a : Stamp) (o
   abbrev s : Config
   s = shelf (told .t)
 
-  found-for : (ws : List Write) → length (a .tag) ≡ tagSize → shareIn (firstWith (part z 0 stampSize) ws) ≡ held a ws
-  unfolding part
+  found-for : (ws : List Write) → length (a .tag) ≡ tagSize → shareIn (firstWith (bytesAt z 0 stampSize) ws) ≡ lookup a ws
+  unfolding bytesAt
   found-for ws l =
       let searched : take stampSize z ≡ stampF .print a = ap (take stampSize) p ∙ take-at (stampF .print a) (0 ∷ []) stampSize (stamp-length a l) in
       ap (λ (y : List ℕ). shareIn (firstWith y ws)) searched ∙ first-held a ws
 
-  replies : (ws : List Write) {w : Written} (o : Option Share) → held a ws ≡ o → (first second : List ℕ) {g : Head} → g ≡ replyHead h 10 → w ≡
+  replies : (ws : List Write) {w : Filled} (o : Option Share) → lookup a ws ≡ o → (first second : List ℕ) {g : Head} → g ≡ replyHead h 10 → w ≡
       packetStep g first second output
       → first ++ second ≡ heldF s .print (record { stamp = a; share = o })
-      → w ≡ packetStep (replyHead h 10) (heldF s .print (record { stamp = a; share = held a ws })) [] output
+      → w ≡ packetStep (replyHead h 10) (heldF s .print (record { stamp = a; share = lookup a ws })) [] output
   replies ws {w} o e first second i u v =
       headed h 10 output first second i u ∙ joined (replyHead h 10) first second output
       ∙ ap (λ (y : List ℕ). packetStep (replyHead h 10) y [] output) (v ∙ ap (λ (y : Option Share). heldF s .print
       (record { stamp = a; share = y })) (sym e))
 
-  pub held-nothing : (f : Found) → FindAs d told z f → f ≡ found.Nothing → {second : List ℕ} → second ≡ part d 0 0
-      → {g : Head} {w : Written} → g ≡ replyHead h 10 → w ≡ packetStep g z second output → HeldAs d h told a output w
+  pub held-nothing : (f : Found) → FindAs d told z f → f ≡ found.Nothing → {second : List ℕ} → second ≡ bytesAt d 0 0
+      → {g : Head} {w : Filled} → g ≡ replyHead h 10 → w ≡ packetStep g z second output → HeldAs d h told a output w
   held-nothing f find t {second} v i u ws m l =
-      let k : firstWith (part z 0 stampSize) ws ≡ none = subst (λ (y : Found). FindIs s d (firstWith (part z 0 stampSize) ws) y) t
+      let k : firstWith (bytesAt z 0 stampSize) ws ≡ none = subst (λ (y : Found). FindIs s d (firstWith (bytesAt z 0 stampSize) ws) y) t
       (find ws m) in
       replies ws none (sym (found-for ws l) ∙ ap shareIn k) z second i u
       (ap (λ (y : List ℕ). z ++ y) (v ∙ part-none d 0) ∙ append-nil z ∙ p ∙ sym (held-none s a))
 
   pub held-share : (f : Found) → FindAs d told z f → {at : ℕ} → f ≡ found.At at → {first second : List ℕ} → first ≡ stampF .print a ++
       1 ∷ []
-      → second ≡ shareBytes s d at → {g : Head} {w : Written} → g ≡ replyHead h 10 → w ≡ packetStep g first second output → HeldAs d h told a output w
+      → second ≡ shareBytes s d at → {g : Head} {w : Filled} → g ≡ replyHead h 10 → w ≡ packetStep g first second output → HeldAs d h told a output w
   held-share f find {at} t {first} {second} y v i u ws m l =
-      let k = subst (λ (y : Found). FindIs s d (firstWith (part z 0 stampSize) ws) y) t (find ws m) in
+      let k = subst (λ (y : Found). FindIs s d (firstWith (bytesAt z 0 stampSize) ws) y) t (find ws m) in
       let x : Share = writeAt s (drop at d) .share in
       let b : second ≡ shareF s .print x = v ∙ share-there s (k .there) bs in
       replies ws (some x) (sym (found-for ws l) ∙ ap shareIn (k .first)) first second i u

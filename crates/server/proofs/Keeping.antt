@@ -7,19 +7,19 @@ use native.Mathlib.Omega.{arith}
 use lib.ListN.{length, drop, set, length-append, length-drop, length-set}
 use Rattle.cluster.specs.Config.{Config, shelf}
 use Rattle.cluster.specs.Ranges.{memorySize, capacity}
-use Rattle.protocol.specs.Format.{Bytes, printMany, byte, keep, via, seq, many}
+use Rattle.format.specs.Format.{Bytes, printMany, byte, keep, via, seq, many}
 use Rattle.protocol.specs.Values.{Write}
 use Rattle.protocol.specs.Packet.{writeF, anyCandidateF}
 use Rattle.protocol.specs.Memory.{Memory, memoryF, encodeMemory}
-use Rattle.protocol.specs.ClientBytes.{put}
+use Rattle.format.specs.Reading.{put}
 use Rattle.protocol.proofs.Acts.{ServerOk}
-use Rattle.protocol.proofs.Answers.{bytes-drop}
+use Rattle.format.proofs.Answers.{bytes-drop}
 use Rattle.protocol.proofs.Changes.{added, print-snoc, append-bytes}
 use Rattle.protocol.proofs.Memories.{of-fields, memory-room}
 use Rattle.protocol.proofs.Packets.{write-law, any-candidate-length}
-use Rattle.protocol.proofs.Puts.{wrote-byte}
-use Rattle.protocol.proofs.Repeats.{many-law}
-use Rattle.protocol.proofs.Walks.{many-count}
+use Rattle.format.proofs.Puts.{wrote-byte}
+use Rattle.format.proofs.Repeats.{many-law}
+use Rattle.format.proofs.Walks.{many-count}
 use Rattle.wire.specs.Make.{Placed, placed}
 use Rattle.server.specs.declared.memory.Opened.{Opened}
 use Rattle.server.specs.Reads.{writesPlace, OpenedAs}

@@ -11,10 +11,11 @@ use lib.ListN.{length, take, drop, getD, length-append}
 use lib.Seq.{take-at, drop-at}
 use Rattle.cluster.specs.Config.{Config, shelf}
 use Rattle.protocol.specs.declared.Head.{Head}
-use Rattle.protocol.specs.Format.{Bytes, All, printMany, via, seq, byte, many}
+use Rattle.format.specs.Format.{Bytes, All, printMany, via, seq, byte, many}
 use Rattle.protocol.specs.Values.{Candidate, candidateSize}
 use Rattle.protocol.specs.Packet.{candidateF, candidatesF, filter, headSize, decode}
-use Rattle.protocol.specs.View.{part, candidateAt}
+use Rattle.protocol.specs.View.{candidateAt}
+use Rattle.format.specs.Reading.{bytesAt}
 use Rattle.protocol.proofs.Changes.{print-snoc}
 use Rattle.protocol.proofs.Packets.{candidate-lengths, candidate-length}
 use Rattle.protocol.proofs.Readers.{candidate-read}
@@ -64,7 +65,7 @@ module _ (s : Config) (y : List ℕ) where
   -- the bytes of a slot
   slot-here : (n : ℕ) → All (candidateF s .Ok) (candidateList s n y) → candidateF s .Ok (at n) → (r : List ℕ)
       → y ≡ printMany (candidateF s) (candidateList s n y) ++ (candidateF s .print (at n) ++ r) → slotOf s y n ≡ candidateF s .print (at n)
-  unfolding slotOf part
+  unfolding slotOf bytesAt
   slot-here n h k r e =
       let A : List ℕ = printMany (candidateF s) (candidateList s n y) in
       let B : List ℕ = candidateF s .print (at n) in

@@ -11,16 +11,16 @@ use lib.Dec.{T, ltb}
 use lib.ListN.{drop, take, length}
 use borrow.Author.Tests.{ltb-true, ltb-false}
 use Rattle.cluster.specs.Config.{Config, shelf}
-use Rattle.protocol.specs.Format.{Bytes, many}
+use Rattle.format.specs.Format.{Bytes, many}
 use Rattle.protocol.specs.Values.{Write, sameList, isSome, stampSize, rank}
 use Rattle.protocol.specs.Packet.{stampF, writeF}
-use Rattle.protocol.specs.Memory.{held, freshAfter, distinct}
-use Rattle.protocol.specs.View.{part, stampAt}
-use Rattle.protocol.specs.Reading.{Leaves, Stops}
-use Rattle.protocol.proofs.Answers.{at-cond}
+use Rattle.protocol.specs.Memory.{lookup, freshAfter, distinct}
+use Rattle.protocol.specs.View.{stampAt}
+use Rattle.format.specs.Reading.{bytesAt, Leaves, Stops}
+use Rattle.format.proofs.Answers.{at-cond}
 use Rattle.protocol.proofs.Equal.{same-true}
-use Rattle.protocol.proofs.Leaves.{leaves-none}
-use Rattle.protocol.proofs.Walks.{many-next, many-stops, many-none, all-snoc, many-snoc}
+use Rattle.format.proofs.Leaves.{leaves-none}
+use Rattle.format.proofs.Walks.{many-next, many-stops, many-none, all-snoc, many-snoc}
 use Rattle.wire.specs.Places.{writeAt}
 use Rattle.server.specs.declared.memory.Top.{Top}
 use Rattle.server.specs.declared.memory.Opened.{Opened}
@@ -40,21 +40,21 @@ module _ (d : List ℕ) (told : Opened) (bs : Bytes d) {x : List ℕ} (p : x ≡
   abbrev at : ℕ
   at = told .end
 
-  found-held : {next : ℕ} → Leaves (writeF s) d at (writeAt s (drop at d)) next → (ws : List Write) → shareIn (firstWith (part x 0 stampSize) ws) ≡
-      held (stampAt (drop at d)) ws
-  unfolding writeAt part
+  found-held : {next : ℕ} → Leaves (writeF s) d at (writeAt s (drop at d)) next → (ws : List Write) → shareIn (firstWith (bytesAt x 0 stampSize) ws) ≡
+      lookup (stampAt (drop at d)) ws
+  unfolding writeAt bytesAt
   found-held f ws =
-      ap (λ (k : List ℕ). shareIn (firstWith k ws)) (ap (take stampSize) p ∙ unfold part in (stamp-bytes s f bs)) ∙ first-held (stampAt (drop at d))
+      ap (λ (k : List ℕ). shareIn (firstWith k ws)) (ap (take stampSize) p ∙ unfold bytesAt in (stamp-bytes s f bs)) ∙ first-held (stampAt (drop at d))
       ws
 
   pub repeats-none : {r : Found} → r ≡ found.Nothing → FindAs d told x r → RepeatsAs d told false
   repeats-none t g ws next h f =
-      let o : firstWith (part x 0 stampSize) ws ≡ none = subst (λ (y : Found). FindIs s d (firstWith (part x 0 stampSize) ws) y) t (g ws h) in
+      let o : firstWith (bytesAt x 0 stampSize) ws ≡ none = subst (λ (y : Found). FindIs s d (firstWith (bytesAt x 0 stampSize) ws) y) t (g ws h) in
       sym (ap isSome (sym (found-held f ws) ∙ ap shareIn o))
 
   pub repeats-found : {r : Found} {k : ℕ} → r ≡ found.At k → FindAs d told x r → RepeatsAs d told true
   repeats-found t g ws next h f =
-      let o = subst (λ (y : Found). FindIs s d (firstWith (part x 0 stampSize) ws) y) t (g ws h) in
+      let o = subst (λ (y : Found). FindIs s d (firstWith (bytesAt x 0 stampSize) ws) y) t (g ws h) in
       sym (ap isSome (sym (found-held f ws) ∙ ap shareIn (o .first)))
 
 -- ---- the highest of the writes, with one more
@@ -64,13 +64,13 @@ module _ (s : Config) {d : List ℕ} (bs : Bytes d) (top : Top) (seen : List Wri
   -- a higher write is the only one with its stamp
   above : {k : ℕ} → k ≡ rank (writeAt s (drop at d) .stamp) → top .key < k → TopOf s d (record { key = k; at = at })
       (seen ++ writeAt s (drop at d) ∷ [])
-  unfolding firstWith part
+  unfolding firstWith bytesAt
   above {k} e l =
       let w : Write = writeAt s (drop at d) in
       record {
         up = all-snoc (λ x. rank (x .stamp) ≤ k) seen w (up-more (top .key) k seen (omega arith) (u .up)) (omega arith);
         first = λ _ key g.
-            let b : take stampSize (drop at d) ≡ stampF .print (w .stamp) = unfold part in (stamp-bytes s f bs) in
+            let b : take stampSize (drop at d) ≡ stampF .print (w .stamp) = unfold bytesAt in (stamp-bytes s f bs) in
             let a : stampF .print (w .stamp) ≡ key = sym b ∙ same-true (take stampSize (drop at d)) key g in
             let m : rank (stampAt key) ≡ k = ap (λ (x : List ℕ). rank (stampAt x)) (sym a) ∙ key-printed (w .stamp) ∙ sym e in
             record {

@@ -12,17 +12,17 @@ use Rattle.cluster.specs.Config.{shelf}
 use Rattle.cluster.specs.Ranges.{topFaults, mostServers, memorySize, capacity}
 use Rattle.cluster.specs.Refusals.{refuse, firstOf}
 use Rattle.cluster.proofs.Tests.{untrue}
-use Rattle.protocol.specs.Format.{Bytes, zeros, byte, many}
+use Rattle.format.specs.Format.{Bytes, zeros, byte, many}
 use Rattle.protocol.specs.Values.{Write, isSome}
 use Rattle.protocol.specs.Packet.{writeF, anyCandidateF}
 use Rattle.protocol.specs.Memory.{Memory, distinct, memoryF, decodeMemory}
 use Rattle.protocol.specs.View.{candidateAt}
-use Rattle.protocol.specs.Reading.{Leaves, Stops}
-use Rattle.protocol.proofs.Leaves.{leaves-seq, leaves-via, leaves-keep, stops-first, stops-second, stops-via, stops-kept, stops-test}
+use Rattle.format.specs.Reading.{Leaves, Stops}
+use Rattle.format.proofs.Leaves.{leaves-seq, leaves-via, leaves-keep, stops-first, stops-second, stops-via, stops-kept, stops-test}
 use Rattle.protocol.proofs.Memories.{memory-stops, memory-tail, memory-opens}
 use Rattle.protocol.proofs.Packets.{write-law}
-use Rattle.protocol.proofs.Repeats.{many-law}
-use Rattle.protocol.proofs.Walks.{Reads, decide, leaves-moved, many-count}
+use Rattle.format.proofs.Repeats.{many-law}
+use Rattle.format.proofs.Walks.{Reads, decide, leaves-moved, many-count}
 use Rattle.wire.specs.Reads.{Took, byteL, anyCandidateL}
 use Rattle.server.specs.declared.memory.Top.{Top}
 use Rattle.server.specs.declared.memory.Opened.{Opened}

@@ -12,14 +12,14 @@ use Rattle.cluster.specs.Config.{shelf}
 use Rattle.cluster.specs.Ranges.{topFaults, memorySize}
 use Rattle.cluster.specs.declared.Outcome.{Outcome}
 use Rattle.protocol.specs.declared.Head.{Head}
-use Rattle.protocol.specs.Format.{Bytes}
+use Rattle.format.specs.Format.{Bytes}
 use Rattle.protocol.specs.Values.{Candidate, below, stampSize, candidateSize}
 use Rattle.protocol.specs.Packet.{candidateF, anyCandidateF, complete, headSize, decode}
 use Rattle.protocol.specs.Memory.{encodeMemory}
 use Rattle.protocol.specs.Primitives.{real}
 use Rattle.protocol.specs.Server.{memoryOf, Server, raise, act}
-use Rattle.protocol.specs.View.{part, stampAt, candidateAt}
-use Rattle.protocol.specs.ClientBytes.{put}
+use Rattle.protocol.specs.View.{stampAt, candidateAt}
+use Rattle.format.specs.Reading.{bytesAt, put}
 use Rattle.protocol.specs.ServerBytes.{Served, serverIn, actedOn}
 use Rattle.protocol.proofs.Acts.{any-candidate}
 use Rattle.protocol.proofs.Changes.{latest-bytes}
@@ -120,7 +120,7 @@ module _ {d : List ℕ} {told : Opened} (o : OpenedAs d told) (bs : Bytes d) (x 
 
 module _ (d : List ℕ) (bs : Bytes d) (packet : List ℕ) (ps : Bytes packet) (output : List ℕ) (h : Head) where
   pub complete-answers : {x m out first second : List ℕ} {g : Head} {r : Outcome} → x ≡ drop headSize packet → m ≡ raisedBytes d x
-      → first ≡ part packet 0 0 → second ≡ part packet 0 0 → g ≡ replyHead h 6 → record { result = r; output = out } ≡ packetStep g first second
+      → first ≡ bytesAt packet 0 0 → second ≡ bytesAt packet 0 0 → g ≡ replyHead h 6 → record { result = r; output = out } ≡ packetStep g first second
       output
       → AnswersFor 5 d packet output h (record { result = r; memory = m; output = out })
   unfolding bodyAt act packetAt

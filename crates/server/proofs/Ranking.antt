@@ -12,10 +12,11 @@ use lib.Dec.{ltb}
 use lib.ListN.{take, drop}
 use borrow.Author.Tests.{ltb-true, ltb-false, lt-ltb, le-ltb}
 use Rattle.cluster.specs.Config.{Config, shelf}
-use Rattle.protocol.specs.Format.{Bytes}
+use Rattle.format.specs.Format.{Bytes}
 use Rattle.protocol.specs.Values.{candidateSize, rank}
-use Rattle.protocol.specs.View.{part, stampAt}
-use Rattle.protocol.proofs.Answers.{at-cond, bytes-drop}
+use Rattle.protocol.specs.View.{stampAt}
+use Rattle.format.specs.Reading.{bytesAt}
+use Rattle.format.proofs.Answers.{at-cond, bytes-drop}
 use Rattle.server.specs.Reads.{maxOf}
 use Rattle.server.specs.Ranks.{slotOf, rankOf, slotWith, under, nextRank}
 use Rattle.server.proofs.Finding.{max-left, max-right}
@@ -37,7 +38,7 @@ bytes-take (suc n) (x ∷ xs) h zero = h 0
 bytes-take (suc n) (x ∷ xs) h (suc i) = bytes-take n xs (λ j. h (suc j)) i
 
 pub slot-bytes : (s : Config) (y : List ℕ) (i : ℕ) → Bytes y → Bytes (slotOf s y i)
-unfolding slotOf part
+unfolding slotOf bytesAt
 slot-bytes s y i h = bytes-take (candidateSize s) (drop (candidateSize s * i) y) (bytes-drop (candidateSize s * i) y h)
 
 pub key-top : (x : List ℕ) → Bytes x → rank (stampAt x) < 1099511627776
@@ -73,10 +74,10 @@ place-fits t i h k {z} e =
     let m : z * i ≤ 32768 * i = mul-le-mul-right i l in
     omega (arith, m)
 
-pub slot-made : (s : Config) (y : List ℕ) (i : ℕ) {a b : ℕ} {x : List ℕ} → a ≡ candidateSize s → b ≡ candidateSize s → x ≡ part y (a * i) b → x ≡
+pub slot-made : (s : Config) (y : List ℕ) (i : ℕ) {a b : ℕ} {x : List ℕ} → a ≡ candidateSize s → b ≡ candidateSize s → x ≡ bytesAt y (a * i) b → x ≡
     slotOf s y i
 unfolding slotOf
-slot-made s y i p q r = r ∙ (λ j. part y (p j * i) (q j))
+slot-made s y i p q r = r ∙ (λ j. bytesAt y (p j * i) (q j))
 
 -- ---- a rank tells its slot
 

@@ -9,12 +9,13 @@ use lib.ListN.{drop}
 use Rattle.cluster.specs.Config.{shelf}
 use Rattle.cluster.specs.declared.Outcome.{Outcome}
 use Rattle.protocol.specs.declared.Head.{Head}
-use Rattle.protocol.specs.Format.{Bytes}
+use Rattle.format.specs.Format.{Bytes}
 use Rattle.protocol.specs.Packet.{repair, headSize, decode}
 use Rattle.protocol.specs.Memory.{encodeMemory}
 use Rattle.protocol.specs.Primitives.{real}
 use Rattle.protocol.specs.Server.{memoryOf, Server, raise, act}
-use Rattle.protocol.specs.View.{part, candidateAt}
+use Rattle.protocol.specs.View.{candidateAt}
+use Rattle.format.specs.Reading.{bytesAt}
 use Rattle.protocol.specs.ServerBytes.{Served, serverIn, actedOn}
 use Rattle.wire.specs.Places.{bodyAt, packetAt}
 use Rattle.wire.specs.Make.{packetStep}
@@ -46,7 +47,7 @@ module _ (d : List ℕ) (bs : Bytes d) (key : List ℕ) (told : Opened) (x : Lis
 
 module _ (d key packet : List ℕ) (ps : Bytes packet) (output : List ℕ) (h : Head) (told : Opened) where
   pub repair-answers : {x m out first second : List ℕ} {g : Head} {r : Outcome} → x ≡ drop headSize packet → RaisedAs d key told x m
-      → first ≡ part packet 0 0 → second ≡ part packet 0 0 → g ≡ replyHead h 12 → record { result = r; output = out } ≡ packetStep g first second
+      → first ≡ bytesAt packet 0 0 → second ≡ bytesAt packet 0 0 → g ≡ replyHead h 12 → record { result = r; output = out } ≡ packetStep g first second
       output
       → AnswersAs 11 d key packet output h told (record { result = r; memory = m; output = out })
   unfolding bodyAt act packetAt

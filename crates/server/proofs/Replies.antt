@@ -9,15 +9,16 @@ use Rattle.cluster.specs.Config.{shelf}
 use Rattle.cluster.specs.Ranges.{packetRoom}
 use Rattle.cluster.specs.declared.Outcome.{Outcome}
 use Rattle.protocol.specs.declared.Head.{Head}
-use Rattle.protocol.specs.Format.{Bytes, orBlank}
+use Rattle.format.specs.Format.{Bytes, orBlank}
 use Rattle.protocol.specs.Values.{stampSize, candidateSize}
 use Rattle.protocol.specs.Packet.{Body, Packet, BodyOk, PacketOk, clock, collect, kindOf, printBody, anyStampF, headSize, decode, encode}
 use Rattle.protocol.specs.Memory.{encodeMemory}
 use Rattle.protocol.specs.Primitives.{real}
 use Rattle.protocol.specs.Server.{memoryOf, Acted, act, replyTo}
-use Rattle.protocol.specs.View.{part, candidateAt}
-use Rattle.protocol.specs.ClientBytes.{Written}
-use Rattle.protocol.specs.ServerBytes.{Served, serverIn, over, actedOn}
+use Rattle.protocol.specs.View.{candidateAt}
+use Rattle.format.specs.Reading.{bytesAt, over}
+use Rattle.protocol.specs.ClientBytes.{Filled}
+use Rattle.protocol.specs.ServerBytes.{Served, serverIn, actedOn}
 use Rattle.protocol.proofs.Acts.{act-ok}
 use Rattle.protocol.proofs.Bodies.{decode-ok}
 use Rattle.protocol.proofs.ServerLift.{body-ok, reply-ok}
@@ -94,7 +95,7 @@ module _ {d : List ℕ} (key packet output : List ℕ) (h : Head) {n e : ℕ} {t
         → record { result = r; memory = m; output = out } ≡ actedOn real d key packet output (some (memoryIn o)) (decode packet)
     unfolding served
     replied first second {r} {m} {out} e p w =
-        let q : _≡_ {A = Written} (record { result = r; output = out }) (record {
+        let q : _≡_ {A = Filled} (record { result = r; output = out }) (record {
           result = served (packetAt h packet) x .result;
           output = served
               (packetAt h packet) x .output;
@@ -120,8 +121,8 @@ unfolding serverIn
 unchanged o bs = sym (memory-bytes o bs)
 
 -- no bytes of a run
-pub part-none : (d : List ℕ) (at : ℕ) → part d at 0 ≡ []
-unfolding part
+pub part-none : (d : List ℕ) (at : ℕ) → bytesAt d at 0 ≡ []
+unfolding bytesAt
 part-none d at = refl
 
 -- a run with nothing after it
@@ -129,15 +130,15 @@ pub alone : (first : List ℕ) {second : List ℕ} → second ≡ [] → first �
 alone first n = sym (append-nil first) ∙ ap (λ (y : List ℕ). first ++ y) (sym n)
 
 -- the head made is the reply's
-pub headed : (h : Head) (k : ℕ) (output first second : List ℕ) {g : Head} {w : Written} → g ≡ replyHead h k → w ≡ packetStep g first second output
+pub headed : (h : Head) (k : ℕ) (output first second : List ℕ) {g : Head} {w : Filled} → g ≡ replyHead h k → w ≡ packetStep g first second output
     → w ≡ packetStep (replyHead h k) first second output
 headed h k output first second q w = w ∙ ap (λ (y : Head). packetStep y first second output) q
 
 -- ---- clock and collect
 
-module _ (d : List ℕ) (bs : Bytes d) (output : List ℕ) (h : Head) {first second : List ℕ} (nothing : second ≡ part d latestPlace 0) {g : Head}
+module _ (d : List ℕ) (bs : Bytes d) (output : List ℕ) (h : Head) {first second : List ℕ} (nothing : second ≡ bytesAt d latestPlace 0) {g : Head}
     {r : Outcome} {out : List ℕ} where
-  pub clock-answers : first ≡ part d latestPlace stampSize → g ≡ replyHead h 2 → record { result = r; output = out } ≡ packetStep g first second
+  pub clock-answers : first ≡ bytesAt d latestPlace stampSize → g ≡ replyHead h 2 → record { result = r; output = out } ≡ packetStep g first second
       output
       → AnswersAll 1 d output h (record { result = r; memory = d; output = out })
   unfolding bodyAt act serverIn anyStampF orBlank candidateAt
@@ -148,7 +149,7 @@ module _ (d : List ℕ) (bs : Bytes d) (output : List ℕ) (h : Head) {first sec
       (sym (f ∙ latest-stamp o bs) ∙ alone first (nothing ∙ part-none d latestPlace))
       (headed h 2 output first second q w)) o
 
-  pub collect-answers : {z : ℕ} → z ≡ candidateSize (shelf (h .t)) → first ≡ part d latestPlace z → g ≡ replyHead h 8
+  pub collect-answers : {z : ℕ} → z ≡ candidateSize (shelf (h .t)) → first ≡ bytesAt d latestPlace z → g ≡ replyHead h 8
       → record { result = r; output = out } ≡ packetStep g first second output → AnswersAll 7 d output h
       (record { result = r; memory = d; output = out })
   unfolding bodyAt act serverIn
@@ -156,5 +157,5 @@ module _ (d : List ℕ) (bs : Bytes d) (output : List ℕ) (h : Head) {first sec
       let answer : Served = record { result = r; memory = d; output = out } in
       to-server h own (λ z. (o : OpenedAs d z) → answer ≡ actedOn real d key packet output (some (memoryIn o)) (decode packet))
       (λ n e top o. replied key packet output h o dec room collect (body-of h packet 7 k) first second (unchanged o bs)
-      (sym (f ∙ ap (part d latestPlace) z ∙ latest-part o bs) ∙ alone first (nothing ∙ part-none d latestPlace))
+      (sym (f ∙ ap (bytesAt d latestPlace) z ∙ latest-part o bs) ∙ alone first (nothing ∙ part-none d latestPlace))
       (headed h 8 output first second q w)) o

@@ -8,11 +8,11 @@ use lib.Seq.{take-at}
 use Rattle.cluster.specs.Config.{Config, shelf}
 use Rattle.cluster.specs.Ranges.{memorySize}
 use Rattle.hmac.specs.Hmac.{tagSize}
-use Rattle.protocol.specs.Format.{Bytes, printMany, byte, keep, via, seq, run, many}
+use Rattle.format.specs.Format.{Bytes, printMany, byte, keep, via, seq, run, many}
 use Rattle.protocol.specs.Values.{Candidate, stampSize, candidateSize}
 use Rattle.protocol.specs.Packet.{stampF, candidateF, writeF, anyCandidateF}
 use Rattle.protocol.specs.Memory.{memoryF, encodeMemory}
-use Rattle.protocol.specs.View.{part}
+use Rattle.format.specs.Reading.{bytesAt}
 use Rattle.protocol.specs.ServerBytes.{serverIn}
 use Rattle.protocol.proofs.Acts.{ServerOk}
 use Rattle.protocol.proofs.Memories.{Fields, fields, memory-length, decode-memory-ok, encode-decode-memory}
@@ -56,15 +56,15 @@ module _ {d : List ℕ} {told : Opened} (o : OpenedAs d told) where
         ap (drop latestPlace) (sym memory-bytes)
         ∙ append-assoc (anyCandidateF s .print (memoryIn o .latest)) (printMany (writeF s) (o .writes)) _
 
-    pub latest-part : part d latestPlace (candidateSize s) ≡ anyCandidateF s .print (memoryIn o .latest)
-    unfolding part
+    pub latest-part : bytesAt d latestPlace (candidateSize s) ≡ anyCandidateF s .print (memoryIn o .latest)
+    unfolding bytesAt
     latest-part =
         ap (take (candidateSize s)) latest-on
         ∙ take-at (anyCandidateF s .print (memoryIn o .latest)) after (candidateSize s)
         (any-candidate-length s (memoryIn o .latest) (memory-fields .latest))
 
-    pub latest-stamp : part d latestPlace stampSize ≡ stampF .print (memoryIn o .latest .stamp)
-    unfolding part
+    pub latest-stamp : bytesAt d latestPlace stampSize ≡ stampF .print (memoryIn o .latest .stamp)
+    unfolding bytesAt
     latest-stamp =
         ap (take stampSize) (latest-on ∙ ap (λ (y : List ℕ). y ++ after) (any-print s (memoryIn o .latest)))
         ∙ candidate-stamp s (memoryIn o .latest) (any-candidate-lengths s (memoryIn o .latest) (memory-fields .latest) .tag) after

@@ -13,18 +13,18 @@ use Rattle.cluster.specs.Config.{Config, shelf}
 use Rattle.cluster.specs.Ranges.{capacity, packetRoom}
 use Rattle.cluster.specs.declared.Outcome.{Outcome}
 use Rattle.protocol.specs.declared.Head.{Head}
-use Rattle.protocol.specs.Format.{Bytes, byte, keep, via, seq, run}
+use Rattle.format.specs.Format.{Bytes, byte, keep, via, seq, run}
 use Rattle.protocol.specs.Values.{Write, isSome, stampSize}
 use Rattle.protocol.specs.Packet.{stampF, shareF, writeF, codeF, store, storeReply, printBody, headSize, decode}
-use Rattle.protocol.specs.Memory.{encodeMemory, held}
-use Rattle.protocol.specs.Server.{memoryOf, Acted, Server, kept, act}
-use Rattle.protocol.specs.View.{part}
-use Rattle.protocol.specs.ClientBytes.{Written}
+use Rattle.protocol.specs.Memory.{encodeMemory, lookup}
+use Rattle.protocol.specs.Server.{memoryOf, Acted, Server, onStore, act}
+use Rattle.format.specs.Reading.{bytesAt}
+use Rattle.protocol.specs.ClientBytes.{Filled}
 use Rattle.protocol.specs.Primitives.{real}
 use Rattle.protocol.specs.ServerBytes.{Served, serverIn, actedOn}
 use Rattle.protocol.proofs.Acts.{ServerOk, act-ok}
 use Rattle.protocol.proofs.Packets.{stamp-length}
-use Rattle.protocol.proofs.Walks.{many-count}
+use Rattle.format.proofs.Walks.{many-count}
 use Rattle.wire.specs.Places.{bodyAt, packetAt, writeAt}
 use Rattle.wire.specs.Make.{packetStep}
 use Rattle.server.specs.declared.memory.Top.{Top}
@@ -46,7 +46,7 @@ write-stamp s w ok =
 
 -- ---- what the code makes
 
-pub code-made : (h : Head) (c : ℕ) (output : List ℕ) {g : Head} {second : List ℕ} {w : Written} → g ≡ replyHead h 4 → second ≡ part (c ∷ []) 0 0
+pub code-made : (h : Head) (c : ℕ) (output : List ℕ) {g : Head} {second : List ℕ} {w : Filled} → g ≡ replyHead h 4 → second ≡ bytesAt (c ∷ []) 0 0
     → w ≡ packetStep g (c ∷ []) second output → w ≡ packetStep (replyHead h 4) (c ∷ []) [] output
 code-made h c output {g} {second} q p w =
     headed h 4 output (c ∷ []) second q w ∙ ap (λ (y : List ℕ). packetStep (replyHead h 4) (c ∷ []) y output) (p ∙ part-none (c ∷ []) 0)
@@ -72,8 +72,8 @@ module _ {d : List ℕ} (bs : Bytes d) (packet : List ℕ) (ps : Bytes packet) (
   write-bytes : drop headSize packet ≡ writeF (shelf (h .t)) .print written
   write-bytes = sent-bytes h packet dec the-body ps
 
-  found-held : {x : List ℕ} → x ≡ drop headSize packet → shareIn (firstWith (part x 0 stampSize) (o .writes)) ≡ held (written .stamp) (o .writes)
-  unfolding part
+  found-held : {x : List ℕ} → x ≡ drop headSize packet → shareIn (firstWith (bytesAt x 0 stampSize) (o .writes)) ≡ lookup (written .stamp) (o .writes)
+  unfolding bytesAt
   found-held p =
       ap (λ (z : List ℕ). shareIn (firstWith z (o .writes))) (ap (take stampSize) (p ∙ write-bytes) ∙ write-stamp (shelf (h .t)) written write-ok)
       ∙ first-held (written .stamp) (o .writes)
@@ -82,20 +82,20 @@ module _ {d : List ℕ} (bs : Bytes d) (packet : List ℕ) (ps : Bytes packet) (
   count = many-count n (writeF (shelf (h .t))) (o .holds .there)
 
   -- the step by what is held, and by the count
-  module _ (g : Bool) (q : isSome (held (written .stamp) (o .writes)) ≡ g) where
+  module _ (g : Bool) (q : isSome (lookup (written .stamp) (o .writes)) ≡ g) where
     step-held : g ≡ true → act real (shelf (h .t)) key (h .server) server (store written) ≡ record { server = server; reply = storeReply 10 }
-    unfolding act kept serverIn
+    unfolding act onStore serverIn
     step-held t = rw (q ∙ t)
 
     step-full : g ≡ false → capacity ≤ n → act real (shelf (h .t)) key (h .server) server (store written) ≡ record
         { server = server; reply = storeReply 11 }
-    unfolding act kept serverIn
+    unfolding act onStore serverIn
     step-full t l = rw (q ∙ t, le-leb capacity (length (o .writes)) (omega (arith, count, l)))
 
     step-kept : g ≡ false → n < capacity
         → act real (shelf (h .t)) key (h .server) server (store written)
         ≡ record { server = record { latest = memoryIn o .latest; history = o .writes ++ written ∷ [] }; reply = storeReply 0 }
-    unfolding act kept serverIn
+    unfolding act onStore serverIn
     step-kept t l = rw (q ∙ t, lt-leb capacity (length (o .writes)) (omega (arith, count, l)))
 
   code-alone : (c : ℕ) → printBody (shelf (h .t)) (storeReply c) ≡ (c ∷ []) ++ []
@@ -103,16 +103,16 @@ module _ {d : List ℕ} (bs : Bytes d) (packet : List ℕ) (ps : Bytes packet) (
   code-alone c = refl
 
   module _ {x : List ℕ} (p : x ≡ drop headSize packet) {f : Found} (g : FindAs d (toldTo h n e top) x f) where
-    is-held : {at : ℕ} → f ≡ found.At at → isSome (held (written .stamp) (o .writes)) ≡ true
+    is-held : {at : ℕ} → f ≡ found.At at → isSome (lookup (written .stamp) (o .writes)) ≡ true
     is-held t =
-        let i = subst (λ (y : Found). FindIs (shelf (h .t)) d (firstWith (part x 0 stampSize) (o .writes)) y) t
+        let i = subst (λ (y : Found). FindIs (shelf (h .t)) d (firstWith (bytesAt x 0 stampSize) (o .writes)) y) t
         (g (o .writes) (o .holds)) in
         ap isSome (sym (found-held p) ∙ ap shareIn (i .first))
 
-    is-new : f ≡ found.Nothing → isSome (held (written .stamp) (o .writes)) ≡ false
+    is-new : f ≡ found.Nothing → isSome (lookup (written .stamp) (o .writes)) ≡ false
     is-new t =
-        let i : firstWith (part x 0 stampSize) (o .writes) ≡ none = subst (λ (y : Found). FindIs (shelf (h .t)) d
-        (firstWith (part x 0 stampSize) (o .writes)) y) t (g (o .writes) (o .holds)) in
+        let i : firstWith (bytesAt x 0 stampSize) (o .writes) ≡ none = subst (λ (y : Found). FindIs (shelf (h .t)) d
+        (firstWith (bytesAt x 0 stampSize) (o .writes)) y) t (g (o .writes) (o .holds)) in
         ap isSome (sym (found-held p) ∙ ap shareIn i)
 
     held-here : {r : Outcome} {out : List ℕ} {at : ℕ} → f ≡ found.At at → record { result = r; output = out } ≡ packetStep (replyHead h 4)

@@ -21,7 +21,7 @@ use Rattle.protocol.specs.Primitives.{real}
 use Rattle.protocol.specs.Server.{Server, memoryOf, barred, serverRefusal}
 use Rattle.protocol.specs.View.{stampAt, candidateAt}
 use Rattle.protocol.specs.ServerBytes.{Served, serverIn, turnedDown, actedOn, serverTake}
-use Rattle.protocol.proofs.Answers.{at-cond}
+use Rattle.format.proofs.Answers.{at-cond}
 use Rattle.wire.specs.Places.{writeAt, bodyAt, packetAt}
 use Rattle.server.specs.declared.memory.Opened.{Opened}
 use Rattle.server.specs.Reads.{OpenedAs}

@@ -11,7 +11,7 @@ use borrow.Author.Tests.{ltb-true, ltb-false}
 use Rattle.cluster.specs.Config.{shelf}
 use Rattle.hmac.specs.declared.Prepared.{Prepared}
 use Rattle.hmac.specs.PreparedKey.{preparedOf}
-use Rattle.protocol.specs.Format.{Bytes}
+use Rattle.format.specs.Format.{Bytes}
 use Rattle.protocol.specs.Primitives.{real}
 use Rattle.protocol.specs.Server.{valid}
 use Rattle.protocol.specs.View.{candidateAt}

@@ -9,15 +9,14 @@ use borrow.Author.Tests.{eq-eqb, ne-eqb}
 use Rattle.cluster.specs.Config.{shelf}
 use Rattle.cluster.specs.Ranges.{topFaults, mostServers, memorySize}
 use Rattle.hmac.specs.Hmac.{tagSize}
-use Rattle.protocol.specs.Format.{Bytes}
+use Rattle.format.specs.Format.{Bytes}
 use Rattle.protocol.specs.Values.{blankCandidate, stampSize, nonceSize, candidateSize}
 use Rattle.protocol.specs.Packet.{anyCandidateF}
 use Rattle.protocol.specs.Memory.{decodeMemory, encodeMemory}
-use Rattle.protocol.specs.View.{part}
-use Rattle.protocol.specs.ClientBytes.{put}
+use Rattle.format.specs.Reading.{bytesAt, put}
 use Rattle.protocol.proofs.Changes.{raised, latest-bytes, blank-print}
 use Rattle.protocol.proofs.Packets.{any-candidate-length}
-use Rattle.protocol.proofs.Places.{part-zeros}
+use Rattle.format.proofs.Places.{part-zeros}
 use Rattle.wire.specs.Make.{Placed, placed}
 use Rattle.server.specs.declared.memory.Opened.{Opened}
 use Rattle.server.specs.Reads.{latestPlace, OpenedAs}
@@ -57,14 +56,14 @@ module _ (d : List ℕ) where
           (λ i. put (sym (memory-bytes o bs) i) latestPlace (sym (blank-print (shelf t)) i)) ∙ latest-bytes (memoryIn o) (blankCandidate (shelf t))
           (old ∙ sym new)
 
-      pub latest-blanked : {k : ℕ} {x : List ℕ} {j : ℕ} {out : List ℕ} → k ≡ candidateSize (shelf t) → x ≡ part
+      pub latest-blanked : {k : ℕ} {x : List ℕ} {j : ℕ} {out : List ℕ} → k ≡ candidateSize (shelf t) → x ≡ bytesAt
           (zeros (stampSize + nonceSize + tagSize * mostServers)) 0 k
           → record { next = j; output = out } ≡ placed d latestPlace x → blanked 0 out ≡ blankLatest d
       unfolding blankLatest latestBlanked
       latest-blanked {k} {x} p q r =
           let t-few : t ≤ topFaults = memory-fields o .t-range .1 in
           let c : ℕ = candidateSize (shelf t) in
-          let z : x ≡ zeros c = q ∙ ap (part (zeros (stampSize + nonceSize + tagSize * mostServers)) 0) p ∙ part-zeros
+          let z : x ≡ zeros c = q ∙ ap (bytesAt (zeros (stampSize + nonceSize + tagSize * mostServers)) 0) p ∙ part-zeros
           (stampSize + nonceSize + tagSize * mostServers) 0 c (omega (arith, candidate-most t t-few)) in
           let l : latestPlace + length (zeros c) ≤ length d = omega (arith, length-replicate {A = ℕ} c 0, memory-size-of o bs, size-few t t-few) in
           rw (eq-eqb (length d) memorySize size, o .decoded)

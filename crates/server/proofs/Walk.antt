@@ -14,16 +14,16 @@ use borrow.Author.Tests.{ltb-true, ltb-false}
 use Rattle.cluster.specs.Config.{Config, shelf}
 use Rattle.erasure.specs.Fragments.{fragmentSize}
 use Rattle.hmac.specs.Hmac.{tagSize}
-use Rattle.protocol.specs.Format.{Bytes, value2, many, via, seq, run}
+use Rattle.format.specs.Format.{Bytes, value2, many, via, seq, run}
 use Rattle.protocol.specs.Values.{Write, sameList, stampSize}
 use Rattle.protocol.specs.Packet.{stampF, shareF, writeF}
-use Rattle.protocol.specs.View.{part, stampAt, shareAt, shareOfSize}
-use Rattle.protocol.specs.Reading.{Leaves, Stops}
-use Rattle.protocol.proofs.Answers.{bytes-drop}
-use Rattle.protocol.proofs.Leaves.{stops-via, stops-first}
+use Rattle.protocol.specs.View.{stampAt, shareAt, shareOfSize}
+use Rattle.format.specs.Reading.{bytesAt, Leaves, Stops}
+use Rattle.format.proofs.Answers.{bytes-drop}
+use Rattle.format.proofs.Leaves.{stops-via, stops-first}
 use Rattle.protocol.proofs.Packets.{write-law, stamp-length, ShareLengths, share-lengths, share-length}
 use Rattle.protocol.proofs.Readers.{stamp-read, share-read}
-use Rattle.protocol.proofs.Walks.{Reads, decide, leaves-moved, many-next, many-stops, many-none}
+use Rattle.format.proofs.Walks.{Reads, decide, leaves-moved, many-next, many-stops, many-none}
 use Rattle.wire.specs.Places.{lengthAt, shareSize, writeAt}
 use Rattle.wire.proofs.Through.{past-stamp}
 use Rattle.server.specs.declared.memory.Found.the-variants as found
@@ -54,8 +54,8 @@ module _ (s : Config) {d : List ℕ} {at q : ℕ} {w : Write} (f : Leaves (write
   share-bytes = ap (drop stampSize) write-bytes ∙ drop-at (stampF .print (w .stamp)) (shareF s .print (w .share) ++ drop q d) stampSize stamp-there
 
   -- its stamp's
-  pub stamp-bytes : part d at stampSize ≡ stampF .print (w .stamp)
-  unfolding part
+  pub stamp-bytes : bytesAt d at stampSize ≡ stampF .print (w .stamp)
+  unfolding bytesAt
   stamp-bytes = ap (take stampSize) write-bytes ∙ take-at (stampF .print (w .stamp)) (shareF s .print (w .share) ++ drop q d) stampSize stamp-there
 
   -- they tell it
@@ -77,8 +77,8 @@ module _ (s : Config) {d : List ℕ} {at q : ℕ} {w : Write} (f : Leaves (write
       let A : List ℕ = stampF .print (w .stamp) in
       let B : List ℕ = shareF s .print (w .share) in
       let l : length (drop at d) ≡ length A + length (B ++ drop q d) = ap length write-bytes ∙ length-append A (B ++ drop q d) in
-      let m : fragmentSize (s .shares) (w .share .size) ≡ fragmentSize (s .shares) (lengthAt (drop stampSize (drop at d))) = ap
-      (fragmentSize (s .shares)) size-is in
+      let m : fragmentSize (s .threshold) (w .share .size) ≡ fragmentSize (s .threshold) (lengthAt (drop stampSize (drop at d))) = ap
+      (fragmentSize (s .threshold)) size-is in
       omega (
         arith,
         l,
@@ -93,17 +93,17 @@ module _ (s : Config) {d : List ℕ} {at q : ℕ} {w : Write} (f : Leaves (write
       )
 
 -- no content, no fragment
-pub no-fragment : (t : ℕ) → fragmentSize (shelf t .shares) 0 ≡ 0
+pub no-fragment : (t : ℕ) → fragmentSize (shelf t .threshold) 0 ≡ 0
 unfolding fragmentSize shelf
 no-fragment t = div-eq-of-lt (omega arith)
 
 -- where the next write ends, by the lengths that the code adds up
 pub size-told : (t : ℕ) (d : List ℕ) (at : ℕ) {y x : List ℕ} {v f g : ℕ} → y ≡ drop at d → x ≡ drop stampSize y → v ≡ value2 (getD x 0 0) (getD x 1 0)
-    → f ≡ shareSize (shelf t) 0 → g ≡ fragmentSize (shelf t .shares) v → stampSize + f + g ≡ writeSize (shelf t) (drop at d)
+    → f ≡ shareSize (shelf t) 0 → g ≡ fragmentSize (shelf t .threshold) v → stampSize + f + g ≡ writeSize (shelf t) (drop at d)
 unfolding lengthAt shareSize
 size-told t d at {y} {x} p q r a b =
     let e : x ≡ drop stampSize (drop at d) = q ∙ ap (drop stampSize) p in
-    let l : fragmentSize (shelf t .shares) _ ≡ fragmentSize (shelf t .shares) _ = ap (fragmentSize (shelf t .shares))
+    let l : fragmentSize (shelf t .threshold) _ ≡ fragmentSize (shelf t .threshold) _ = ap (fragmentSize (shelf t .threshold))
     (r ∙ ap (λ (z : List ℕ). value2 (getD z 0 0) (getD z 1 0)) e) in
     omega (arith, no-fragment t)
 
@@ -162,10 +162,10 @@ module _ {s : Config} {n : ℕ} {d key : List ℕ} {at i : ℕ} (h : Walking s n
       pub walk-short : {z : ℕ} → z ≡ writeSize s (drop at d) → length y < z → SearchAs s n d key found.Nothing
       walk-short v k ws e m = absurd (omega (arith, v, k, ap length u, length-drop at d, there m .within))
 
-      module _ {x : List ℕ} (p : x ≡ part y 0 stampSize) {b : Bool} (c : b ≡ sameList x key) where
+      module _ {x : List ℕ} (p : x ≡ bytesAt y 0 stampSize) {b : Bool} (c : b ≡ sameList x key) where
         compared : {ws : List Write} {e : ℕ} → Stored s n d ws e → sameList (stampF .print (writeAt s (drop at d) .stamp)) key ≡ b
-        unfolding part
-        compared m = ap (λ (z : List ℕ). sameList z key) (sym (p ∙ ap (take stampSize) u ∙ unfold part in (stamp-bytes s (there m) bs))) ∙ sym c
+        unfolding bytesAt
+        compared m = ap (λ (z : List ℕ). sameList z key) (sym (p ∙ ap (take stampSize) u ∙ unfold bytesAt in (stamp-bytes s (there m) bs))) ∙ sym c
 
         pub walk-found : b ≡ true → SearchAs s n d key (found.At at)
         unfolding firstWith

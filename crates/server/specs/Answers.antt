@@ -1,3 +1,4 @@
+-- What private functions promise each other; no public contract names these.
 -- What the answer to each kind of request leaves, where the memory opens, the packet was let through, and the buffer has room:
 -- the server's step on values, in the bytes of memory and output.
 use mathlib.Core.Path.{_≡_}

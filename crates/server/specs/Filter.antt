@@ -1,3 +1,4 @@
+-- What private functions promise each other; no public contract names these.
 -- What filter chooses from a list of candidates, and what it replies, where the memory opens.
 use mathlib.Core.Path.{_≡_}
 use mathlib.Core.Bool.{false}
@@ -12,11 +13,11 @@ use Rattle.protocol.specs.declared.Head.{Head}
 use Rattle.protocol.specs.declared.Stamp.{Stamp}
 use Rattle.protocol.specs.Values.{Candidate, Write, stampSize, candidateSize, blankCandidate}
 use Rattle.protocol.specs.Packet.{candidateF, heldF}
-use Rattle.protocol.specs.Memory.{held}
+use Rattle.protocol.specs.Memory.{lookup}
 use Rattle.protocol.specs.Primitives.{real}
 use Rattle.protocol.specs.Server.{valid, best}
 use Rattle.protocol.specs.View.{candidateAt}
-use Rattle.protocol.specs.ClientBytes.{Written}
+use Rattle.protocol.specs.ClientBytes.{Filled}
 use Rattle.protocol.specs.ServerBytes.{serverIn}
 use Rattle.wire.specs.Places.{candidateList, lengthAt, shareSize}
 use Rattle.wire.specs.Make.{packetStep}
@@ -71,7 +72,7 @@ unfoldable pub shareBytes : Config → List ℕ → ℕ → List ℕ
 shareBytes s d at = let y = drop stampSize (drop at d) in take (shareSize s (lengthAt y)) y
 
 -- w is the reply with what the stored writes hold for the stamp a
-abbrev pub HeldAs : List ℕ → Head → Opened → Stamp → List ℕ → Written → Type 0
+abbrev pub HeldAs : List ℕ → Head → Opened → Stamp → List ℕ → Filled → Type 0
 HeldAs d h told a output w =
     (ws : List Write) → Holds d told ws → length (a .tag) ≡ tagSize
-    → w ≡ packetStep (replyHead h 10) (heldF (shelf (told .t)) .print (record { stamp = a; share = held a ws })) [] output
+    → w ≡ packetStep (replyHead h 10) (heldF (shelf (told .t)) .print (record { stamp = a; share = lookup a ws })) [] output

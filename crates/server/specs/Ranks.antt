@@ -1,3 +1,4 @@
+-- What private functions promise each other; no public contract names these.
 -- The slots of a list of candidates, and the order in which they are tried: by rank from the highest down, the first among equals.
 use mathlib.Core.Bool.{cond}
 use mathlib.Core.List.{List}
@@ -5,12 +6,13 @@ use Prim.Native.Nat.{ℕ, zero, suc, _+_, _-_, _*_, _%_}
 use lib.Dec.{ltb}
 use Rattle.cluster.specs.Config.{Config}
 use Rattle.protocol.specs.Values.{rank, candidateSize}
-use Rattle.protocol.specs.View.{part, stampAt}
+use Rattle.protocol.specs.View.{stampAt}
+use Rattle.format.specs.Reading.{bytesAt}
 use Rattle.server.specs.Reads.{maxOf}
 
 -- the bytes of slot i of a list
 unfoldable pub slotOf : Config → List ℕ → ℕ → List ℕ
-slotOf s y i = part y (candidateSize s * i) (candidateSize s)
+slotOf s y i = bytesAt y (candidateSize s * i) (candidateSize s)
 
 -- the rank of slot i, at most 255: no two slots have one, and the earlier of equals is higher
 unfoldable pub rankOf : Config → List ℕ → ℕ → ℕ

@@ -1,3 +1,4 @@
+-- What private functions promise each other; no public contract names these.
 -- What each reader of a server's memory answers. The stored writes have no fixed length, so they are told by the places where they leave the bytes.
 use mathlib.Core.Path.{_≡_}
 use mathlib.Core.Bool.{Bool, true, cond, not}
@@ -8,12 +9,12 @@ use lib.Dec.{ltb}
 use lib.ListN.{drop}
 use Rattle.cluster.specs.Config.{Config, shelf}
 use Rattle.cluster.specs.Refusals.{refuse, firstOf}
-use Rattle.protocol.specs.Format.{All, many}
+use Rattle.format.specs.Format.{All, many}
 use Rattle.protocol.specs.Values.{Write, sameList, isSome, rank, stampSize, candidateSize}
 use Rattle.protocol.specs.Packet.{stampF, writeF}
-use Rattle.protocol.specs.Memory.{Memory, held, distinct, decodeMemory}
-use Rattle.protocol.specs.View.{part, stampAt, candidateAt}
-use Rattle.protocol.specs.Reading.{Leaves}
+use Rattle.protocol.specs.Memory.{Memory, lookup, distinct, decodeMemory}
+use Rattle.protocol.specs.View.{stampAt, candidateAt}
+use Rattle.format.specs.Reading.{bytesAt, Leaves}
 use Rattle.wire.specs.Places.{lengthAt, shareSize, writeAt}
 use Rattle.server.specs.declared.memory.Top.{Top}
 use Rattle.server.specs.declared.memory.Opened.{Opened}
@@ -64,7 +65,7 @@ UpTo k ws = All (λ w. rank (w .stamp) ≤ k) ws
 -- top is the highest of the writes: none is above its key, and a stamp whose bytes stand at its place is found there; place 0 is none
 pub record TopOf (s : Config) (d : List ℕ) (top : Top) (ws : List Write) : Type 0 where
   pub up : UpTo (top .key) ws
-  pub first : 0 < top .at → (key : List ℕ) → sameList (part (drop (top .at) d) 0 stampSize) key ≡ true → FoundAt s d (top .at) (firstWith key ws)
+  pub first : 0 < top .at → (key : List ℕ) → sameList (bytesAt (drop (top .at) d) 0 stampSize) key ≡ true → FoundAt s d (top .at) (firstWith key ws)
 
 -- the writes ws stand in the memory d as told: their count, the place past them, and the highest of them
 pub record Holds (d : List ℕ) (told : Opened) (ws : List Write) : Type 0 where
@@ -73,7 +74,7 @@ pub record Holds (d : List ℕ) (told : Opened) (ws : List Write) : Type 0 where
 
 -- the first of them whose stamp has the bytes that x begins with
 abbrev pub FindAs : List ℕ → Opened → List ℕ → Found → Type 0
-FindAs d told x r = (ws : List Write) → Holds d told ws → FindIs (shelf (told .t)) d (firstWith (part x 0 stampSize) ws) r
+FindAs d told x r = (ws : List Write) → Holds d told ws → FindIs (shelf (told .t)) d (firstWith (bytesAt x 0 stampSize) ws) r
 
 -- ---- no stamp twice
 
@@ -89,7 +90,7 @@ abbrev pub RepeatsAs : List ℕ → Opened → Bool → Type 0
 RepeatsAs d told r =
     let s = shelf (told .t) in
     let x = drop (told .end) d in
-    (ws : List Write) (next : ℕ) → Holds d told ws → Leaves (writeF s) d (told .end) (writeAt s x) next → r ≡ isSome (held (stampAt x) ws)
+    (ws : List Write) (next : ℕ) → Holds d told ws → Leaves (writeF s) d (told .end) (writeAt s x) next → r ≡ isSome (lookup (stampAt x) ws)
 
 -- writes of which no two have one stamp; where there are none, no n such writes stand there
 pub record Checked (d : List ℕ) (told : Opened) : Type 0 where

@@ -1,3 +1,4 @@
+-- What private functions promise each other; no public contract names these.
 -- What the test of a candidate answers, where the memory opens and the candidate's bytes are those of a candidate.
 use mathlib.Core.Path.{_≡_}
 use mathlib.Core.Bool.{Bool, cond}
@@ -11,10 +12,11 @@ use Rattle.hmac.specs.PreparedKey.{preparedOf, preparedTag}
 use Rattle.protocol.specs.declared.Stamp.{Stamp}
 use Rattle.protocol.specs.Values.{Candidate, Write, sameList, nth, stampSize, nonceSize}
 use Rattle.protocol.specs.Packet.{stampF, candidateF}
-use Rattle.protocol.specs.Memory.{held, encodeMemory}
+use Rattle.protocol.specs.Memory.{lookup, encodeMemory}
 use Rattle.protocol.specs.Primitives.{real}
 use Rattle.protocol.specs.Server.{memoryOf, Server, hasDigest, valid, raise}
-use Rattle.protocol.specs.View.{part, candidateAt}
+use Rattle.protocol.specs.View.{candidateAt}
+use Rattle.format.specs.Reading.{bytesAt}
 use Rattle.protocol.specs.ServerBytes.{serverIn}
 use Rattle.server.specs.declared.memory.Opened.{Opened}
 use Rattle.server.specs.Reads.{Holds, OpenedAs}
@@ -22,16 +24,16 @@ use Rattle.server.specs.Answers.{memoryIn}
 
 -- the digest of the candidate x's nonce
 abbrev pub nonceHash : List ℕ → List ℕ
-nonceHash x = sha256 (part x stampSize nonceSize)
+nonceHash x = sha256 (bytesAt x stampSize nonceSize)
 
 -- whether the stored writes hold the stamp at the start of x, with the nonce digest g
 abbrev pub HistoryAs : List ℕ → Opened → List ℕ → List ℕ → Bool → Type 0
-HistoryAs d told x g r = (ws : List Write) → Holds d told ws → (a : Stamp) → part x 0 stampSize ≡ stampF .print a → r ≡ hasDigest g (held a ws)
+HistoryAs d told x g r = (ws : List Write) → Holds d told ws → (a : Stamp) → bytesAt x 0 stampSize ≡ stampF .print a → r ≡ hasDigest g (lookup a ws)
 
 -- whether this server's tag in the candidate x is the prepared key's tag of its stamp's bytes and the nonce digest g
 unfoldable pub tagChecks : Prepared → Opened → List ℕ → List ℕ → Bool
 tagChecks prepared told x g =
-    sameList (nth tagSize (candidateAt (shelf (told .t)) x .tags) (told .server)) (preparedTag prepared (part x 0 stampSize ++ g))
+    sameList (nth tagSize (candidateAt (shelf (told .t)) x .tags) (told .server)) (preparedTag prepared (bytesAt x 0 stampSize ++ g))
 
 -- the bytes x are those of a candidate
 abbrev pub CandidateIn : Opened → List ℕ → Type 0

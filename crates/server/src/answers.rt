@@ -22,7 +22,7 @@ pub(crate) fn clock(memory: &[u8], head: protocol::Head, out: &mut [u8]) -> clus
     ensures { λ r. ⌜ AnswersAll 1 (now (memory .entry)) (now (out .entry)) head (record { result = r; memory = now (memory .entry); output = now (out .exit) }) ⌝ }
 {
     wire::make::make_packet(
-        reply_head(head, 2),
+        reply_head(head, protocol::kinds::CLOCK_REPLY),
         part(memory, LATEST, wire::sizes::STAMP),
         part(memory, LATEST, 0),
         out,
@@ -34,7 +34,7 @@ pub(crate) fn collect(memory: &[u8], head: protocol::Head, out: &mut [u8]) -> cl
     ensures { λ r. ⌜ AnswersAll 7 (now (memory .entry)) (now (out .entry)) head (record { result = r; memory = now (memory .entry); output = now (out .exit) }) ⌝ }
 {
     wire::make::make_packet(
-        reply_head(head, 8),
+        reply_head(head, protocol::kinds::COLLECT_REPLY),
         part(memory, LATEST, wire::sizes::candidate_size(head.t)),
         part(memory, LATEST, 0),
         out,
@@ -63,7 +63,7 @@ pub(crate) fn complete(
 {
     raise(memory, wire::bytes::rest(packet, wire::sizes::HEAD));
     wire::make::make_packet(
-        reply_head(head, 6),
+        reply_head(head, protocol::kinds::COMPLETE_REPLY),
         part(packet, 0, 0),
         part(packet, 0, 0),
         out,

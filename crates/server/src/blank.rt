@@ -23,13 +23,13 @@ pub fn blank(memory: &mut [u8], t: usize, server: usize) -> cluster::Outcome
     ensures { λ r. ⌜ record { result = r; memory = now (memory .exit) } ≡ blankStep (now (memory .entry)) t server ⌝ }
 {
     if memory.len() != cluster::MEMORY {
-        return cluster::refused(1);
+        return cluster::refused(cluster::refusals::MEMORY_SIZE);
     }
     if cluster::outside(1, cluster::TOP_FAULTS, t) {
-        return cluster::refused(3);
+        return cluster::refused(cluster::refusals::FAULTS);
     }
     if cluster::outside(1, cluster::servers(t as u8), server) {
-        return cluster::refused(4);
+        return cluster::refused(cluster::refusals::SERVER);
     }
     clear(memory);
     memory[FAULTS] = t as u8;
@@ -50,10 +50,10 @@ pub fn blank_latest(memory: &mut [u8]) -> cluster::Outcome
     ensures { λ r. ⌜ record { result = r; memory = now (memory .exit) } ≡ blankLatest (now (memory .entry)) ⌝ }
 {
     if memory.len() != cluster::MEMORY {
-        return cluster::refused(1);
+        return cluster::refused(cluster::refusals::MEMORY_SIZE);
     }
     let MemoryRead::Value(opened) = crate::memory::open(memory) else {
-        return cluster::refused(2);
+        return cluster::refused(cluster::refusals::MEMORY);
     };
     let zeros = [0u8; CANDIDATE];
     wire::make::put(

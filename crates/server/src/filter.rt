@@ -115,7 +115,7 @@ fn reply_held(
     let nothing = held_head(stamp, 0);
     let Found::At(at) = find(memory, opened, &nothing) else {
         return wire::make::make_packet(
-            crate::answers::reply_head(head, 10),
+            crate::answers::reply_head(head, protocol::kinds::FILTER_REPLY),
             &nothing,
             part(memory, 0, 0),
             out,
@@ -123,7 +123,7 @@ fn reply_held(
     };
     let bytes = held_head(stamp, 1);
     wire::make::make_packet(
-        crate::answers::reply_head(head, 10),
+        crate::answers::reply_head(head, protocol::kinds::FILTER_REPLY),
         &bytes,
         share_bytes(memory, at, opened.t),
         out,

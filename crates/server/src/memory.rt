@@ -6,7 +6,7 @@ ghost use lib.Dec.{ltb};
 ghost use lib.ListN.{length, drop};
 ghost use Rattle.cluster.specs.Config.{shelf};
 ghost use Rattle.protocol.specs.Values.{sameList, stampSize};
-ghost use Rattle.protocol.specs.View.{part};
+ghost use Rattle.format.specs.Reading.{bytesAt};
 ghost use Rattle.server.specs.Reads.{SearchAs, FindAs, RepeatsAs, WritesAs, MemoryAs, maxOf, raisedTop, writesPlace};
 use wire::bytes::part;
 use wire::bytes::rest;
@@ -89,7 +89,7 @@ fn search(memory: &[u8], t: u8, n: usize, stamp: &[u8]) -> Found
 
 // Whether a stamp's bytes stand at a place; at place 0 none do.
 fn stands_at(memory: &[u8], at: usize, stamp: &[u8]) -> bool
-    ensures { λ r. ⌜ r ≡ (ltb 0 at && sameList (part (drop at (now (memory .entry))) 0 stampSize) (now (stamp .entry))) ⌝ }
+    ensures { λ r. ⌜ r ≡ (ltb 0 at && sameList (bytesAt (drop at (now (memory .entry))) 0 stampSize) (now (stamp .entry))) ⌝ }
 {
     if at == 0 {
         return false;

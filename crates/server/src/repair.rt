@@ -29,7 +29,7 @@ pub(crate) fn repair(
 {
     raise_valid(memory, key, opened, rest(packet, wire::sizes::HEAD));
     wire::make::make_packet(
-        crate::answers::reply_head(head, 12),
+        crate::answers::reply_head(head, protocol::kinds::REPAIR_REPLY),
         part(packet, 0, 0),
         part(packet, 0, 0),
         out,

@@ -18,7 +18,7 @@ fn store_reply(head: protocol::Head, code: u8, out: &mut [u8]) -> cluster::Outco
 {
     let bytes = [code];
     wire::make::make_packet(
-        crate::answers::reply_head(head, 4),
+        crate::answers::reply_head(head, protocol::kinds::STORE_REPLY),
         &bytes,
         part(&bytes, 0, 0),
         out,
@@ -45,10 +45,10 @@ pub(crate) fn store(
 {
     let write = rest(packet, wire::sizes::HEAD);
     let Found::Nothing = find(memory, opened, write) else {
-        return store_reply(head, 10, out);
+        return store_reply(head, protocol::codes::HELD, out);
     };
     if cluster::CAPACITY <= opened.count {
-        return store_reply(head, 11, out);
+        return store_reply(head, protocol::codes::FULL, out);
     }
     keep_write(memory, opened, write);
     store_reply(head, 0, out)

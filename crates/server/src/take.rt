@@ -40,22 +40,22 @@ fn barred(head: protocol::Head, packet: &[u8]) -> bool
 {
     let kind = head.kind;
     let client = head.client;
-    if kind == 7 {
+    if kind == protocol::kinds::COLLECT {
         return false;
     }
-    if kind == 9 {
+    if kind == protocol::kinds::FILTER {
         return false;
     }
-    if kind == 11 {
+    if kind == protocol::kinds::REPAIR {
         return false;
     }
-    if kind == 1 {
+    if kind == protocol::kinds::CLOCK {
         return cluster::TOP_WRITER < (client as usize);
     }
-    if kind == 3 {
+    if kind == protocol::kinds::STORE {
         return foreign(client, packet);
     }
-    if kind == 5 {
+    if kind == protocol::kinds::COMPLETE {
         return foreign(client, packet);
     }
     true
@@ -66,16 +66,16 @@ fn refusal(head: protocol::Head, opened: Opened, packet: &[u8], room: usize) -> 
     ensures { λ r. ⌜ NumberAt opened (packetAt head (now (packet .entry))) room r ⌝ }
 {
     if head.t != opened.t {
-        return 8;
+        return cluster::refusals::ADDRESSEE;
     }
     if head.server != opened.server {
-        return 8;
+        return cluster::refusals::ADDRESSEE;
     }
     if barred(head, packet) {
-        return 9;
+        return cluster::refusals::SENDER;
     }
     if room < cluster::PACKET_ROOM {
-        return 15;
+        return cluster::refusals::ROOM;
     }
     0
 }
@@ -93,19 +93,19 @@ fn answer(
     ensures { λ r. ⌜ AnswersAny (now (memory .entry)) key (now (packet .entry)) (now (out .entry)) head opened (record { result = r; memory = now (memory .exit); output = now (out .exit) }) ⌝ }
 {
     let kind = head.kind;
-    if kind == 1 {
+    if kind == protocol::kinds::CLOCK {
         return crate::answers::clock(memory, head, out);
     }
-    if kind == 3 {
+    if kind == protocol::kinds::STORE {
         return crate::store::store(memory, head, packet, opened, out);
     }
-    if kind == 5 {
+    if kind == protocol::kinds::COMPLETE {
         return crate::answers::complete(memory, head, packet, out);
     }
-    if kind == 7 {
+    if kind == protocol::kinds::COLLECT {
         return crate::answers::collect(memory, head, out);
     }
-    if kind == 9 {
+    if kind == protocol::kinds::FILTER {
         return crate::filter::filter(memory, key, head, packet, opened, out);
     }
     crate::repair::repair(memory, key, head, packet, opened, out)
@@ -116,13 +116,13 @@ pub fn take(memory: &mut [u8], key: &[u8; 32], packet: &[u8], out: &mut [u8]) ->
     ensures { λ r. ⌜ record { result = r; memory = now (memory .exit); output = now (out .exit) } ≡ serverTake real (now (memory .entry)) (now (key .entry)) (now (packet .entry)) (now (out .entry)) ⌝ }
 {
     if memory.len() != cluster::MEMORY {
-        return cluster::refused(1);
+        return cluster::refused(cluster::refusals::MEMORY_SIZE);
     }
     let MemoryRead::Value(opened) = open(memory) else {
-        return cluster::refused(2);
+        return cluster::refused(cluster::refusals::MEMORY);
     };
     let PacketRead::Value(head) = read_packet(packet) else {
-        return cluster::refused(7);
+        return cluster::refused(cluster::refusals::LAYOUT);
     };
     let number = refusal(head, opened, packet, out.len());
     if number != 0 {

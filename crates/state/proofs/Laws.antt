@@ -8,7 +8,7 @@ use lib.ListN.{length, length-append}
 use lib.Seq.{take-at}
 use Rattle.cluster.specs.Ranges.{mostServers}
 use Rattle.protocol.specs.declared.Call.{Call}
-use Rattle.protocol.proofs.Formats.{value2-print, value4-print}
+use Rattle.format.proofs.Formats.{value2-print, value4-print}
 use Rattle.wire.specs.Places.{padded}
 use Rattle.wire.specs.Make.{Placed, placed}
 use Rattle.wire.proofs.Put.{none-placed, placed-then, wrote-placed}

@@ -6,7 +6,8 @@ use Rattle.cluster.specs.Ranges.{mostServers}
 use Rattle.protocol.specs.declared.Call.{Call}
 use Rattle.protocol.specs.declared.Tally.{Tally}
 use Rattle.wire.specs.Places.{padded}
-use Rattle.protocol.specs.Format.{print2, print4, value2, value4}
+use Rattle.format.specs.Format.{print2, print4, value2}
+use Rattle.format.specs.Reading.{number4At}
 
 -- bytes before the marks, and of the whole
 abbrev pub numbersSize : ℕ
@@ -27,9 +28,6 @@ unfoldable pub callBytes : Call → List ℕ
 callBytes c = numbers c ++ c .tally .marks
 
 -- ---- reading: a byte past the end is 0
-
-abbrev pub number4At : List ℕ → ℕ
-number4At d = value4 (getD d 0 0) (getD d 1 0) (getD d 2 0) (getD d 3 0)
 
 unfoldable pub lengthAt : List ℕ → ℕ
 lengthAt d = value2 (getD d 12 0) (getD d 13 0)

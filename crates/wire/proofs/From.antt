@@ -9,19 +9,20 @@ use lib.ListN.{length, take, drop, getD, replicate, take-append-drop, getD-repli
 use lib.Seq.{drop-drop, getD-drop, getD-take, length-take-le, drop-append-le, take-append-le}
 use Rattle.hmac.specs.Hmac.{tagSize}
 use Rattle.cluster.specs.Config.{Config}
-use Rattle.protocol.specs.Format.{zeros}
+use Rattle.format.specs.Format.{zeros}
 use Rattle.protocol.specs.Values.{stampSize, nonceSize, tagsSize, candidateSize, blankStamp, blankCandidate}
-use Rattle.protocol.specs.View.{part, stampAt, candidateAt}
-use Rattle.protocol.proofs.Answers.{zeros-only}
-use Rattle.protocol.proofs.Places.{part-zeros}
+use Rattle.protocol.specs.View.{stampAt, candidateAt}
+use Rattle.format.specs.Reading.{bytesAt}
+use Rattle.format.proofs.Answers.{zeros-only}
+use Rattle.format.proofs.Places.{part-zeros}
 use Rattle.wire.specs.Reads.{first}
 
 module _ (s : List ℕ) (at : ℕ) where
   pub drop-from : {k : ℕ} (n : ℕ) → k ≡ at + n → drop k s ≡ drop n (drop at s)
   drop-from n e = ap (λ (j : ℕ). drop j s) e ∙ sym (drop-drop n at s)
 
-  pub part-from : {k : ℕ} (n m : ℕ) → k ≡ at + n → part s k m ≡ part (drop at s) n m
-  unfolding part
+  pub part-from : {k : ℕ} (n m : ℕ) → k ≡ at + n → bytesAt s k m ≡ bytesAt (drop at s) n m
+  unfolding bytesAt
   part-from n m e = ap (take m) (drop-from n e)
 
   pub first-from : {k : ℕ} (n : ℕ) → k ≡ at + n → first (drop k s) ≡ getD (drop at s) n 0
@@ -38,8 +39,8 @@ module _ (n : ℕ) (d : List ℕ) (h : n ≤ length d) (z : zeros (take n d) ≡
   nought : (i : ℕ) → i < n → getD d i 0 ≡ 0
   nought i k = sym (getD-take n d i 0 k) ∙ ap (λ (x : List ℕ). getD x i 0) noughts ∙ getD-replicate n i 0 0 k
 
-  nought-part : (p m : ℕ) → p + m ≤ n → part d p m ≡ replicate m 0
-  unfolding part
+  nought-part : (p m : ℕ) → p + m ≤ n → bytesAt d p m ≡ replicate m 0
+  unfolding bytesAt
   nought-part p m k =
       let l : length (take n d) ≡ n = length-take-le n d h in
       ap (λ (x : List ℕ). take m (drop p x)) (sym (take-append-drop n d))

@@ -7,10 +7,10 @@ use native.Mathlib.Omega.{arith}
 use borrow.Author.Tests.{le-leb, lt-leb}
 use Rattle.cluster.specs.Config.{shelf}
 use Rattle.cluster.specs.Ranges.{topClient, mostServers, topFaults, topNumber}
-use Rattle.protocol.specs.Format.{Fmt, byte}
+use Rattle.format.specs.Format.{Fmt, byte}
 use Rattle.protocol.specs.Packet.{headF, headSize}
-use Rattle.protocol.specs.Reading.{Leaves, Stops}
-use Rattle.protocol.proofs.Leaves.{leaves-seq, leaves-via, leaves-keep, stops-test}
+use Rattle.format.specs.Reading.{Leaves, Stops}
+use Rattle.format.proofs.Leaves.{leaves-seq, leaves-via, leaves-keep, stops-test}
 use Rattle.wire.specs.Reads.{Took, Past, numberL, byteL, number4L}
 
 -- a number that was let through

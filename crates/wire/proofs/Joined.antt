@@ -12,7 +12,7 @@ use lib.Dec.{eqb}
 use lib.ListN.{length, getD, take, drop, drop-of-length-le, take-append-drop}
 use lib.Seq.{drop-cons, drop-drop}
 use borrow.Author.Tests.{eq-eqb, ne-eqb, eqb-true, eqb-false}
-use Rattle.protocol.specs.Format.{zeros}
+use Rattle.format.specs.Format.{zeros}
 use Rattle.protocol.specs.Values.{sameList}
 
 and-true : (p : Bool) → p && true ≡ p

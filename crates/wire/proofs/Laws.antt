@@ -12,9 +12,9 @@ use borrow.Author.Tests.{leb-true, le-ltb}
 use Rattle.cluster.specs.Config.{Config, shelf}
 use Rattle.cluster.specs.Ranges.{topClient, topFaults, topNumber, packetRoom}
 use Rattle.protocol.specs.declared.Head.{Head}
-use Rattle.protocol.specs.Format.{Bytes, keep, via, seq, byte, number4, many, optional, printMany, printOptional}
+use Rattle.format.specs.Format.{Bytes, keep, via, seq, byte, number4, many, optional, printMany, printOptional}
 use Rattle.protocol.specs.Packet.{stampF, anyStampF, shareF, writeF, candidateF, anyCandidateF, candidatesF, heldF, codeF, Body, clock, clockReply, store, storeReply, complete, completeReply, collect, collectReply, filter, filterReply, repair, repairReply, Packet, printBody, headF, headSize, bodyF, packetF, decode, encode, PacketOk}
-use Rattle.protocol.specs.ServerBytes.{over}
+use Rattle.format.specs.Reading.{over}
 use Rattle.protocol.proofs.Bodies.{decode-ok, encode-decode}
 use Rattle.protocol.proofs.Packets.{head-length}
 use Rattle.protocol.proofs.PacketRoom.{packet-room}

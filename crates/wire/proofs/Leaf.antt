@@ -12,11 +12,10 @@ use lib.ListN.{length, getD, drop, length-drop}
 use lib.Seq.{drop-drop, length-take-le, getD-drop}
 use lib.Dec.{leb}
 use borrow.Author.Tests.{le-leb, lt-leb}
-use Rattle.protocol.specs.Format.{Fmt, guard, ranged, parseByte, parse2, parse4, value2, run, byte, number2, number4}
-use Rattle.protocol.specs.View.{part}
-use Rattle.protocol.specs.Reading.{Leaves, Stops}
+use Rattle.format.specs.Format.{Fmt, guard, ranged, parseByte, parse2, parse4, value2, run, byte, number2, number4}
+use Rattle.format.specs.Reading.{bytesAt, Leaves, Stops, number4At}
 use Rattle.wire.specs.Places.{lengthAt}
-use Rattle.wire.specs.Reads.{Past, FieldAs, RangedAs, numberL, first, four}
+use Rattle.wire.specs.Reads.{Past, FieldAs, RangedAs, numberL, first}
 use Rattle.wire.specs.declared.fields.Field.{Field}
 use Rattle.wire.specs.declared.fields.Field.the-variants as field
 
@@ -85,7 +84,7 @@ module _ (lo hi : ℕ) where
       long (x ∷ []) h = absurd (omega arith)
       long (x ∷ y ∷ d) h = refl
 
-  pub number4-numbered : Numbered (number4 lo hi) lo hi 4 four
+  pub number4-numbered : Numbered (number4 lo hi) lo hi 4 number4At
   unfolding number4
   number4-numbered = record { some-bytes = omega arith; short = short; long = long; ok = λ x l k. (l, k) }
     where
@@ -96,7 +95,7 @@ module _ (lo hi : ℕ) where
       short (x ∷ y ∷ z ∷ []) h = refl
       short (x ∷ y ∷ z ∷ w ∷ d) h = absurd (omega arith)
 
-      long : (d : List ℕ) → 4 ≤ length d → parse4 lo hi d ≡ ranged lo hi (four d) (drop 4 d)
+      long : (d : List ℕ) → 4 ≤ length d → parse4 lo hi d ≡ ranged lo hi (number4At d) (drop 4 d)
       long [] h = absurd (omega arith)
       long (x ∷ []) h = absurd (omega arith)
       long (x ∷ y ∷ []) h = absurd (omega arith)
@@ -110,8 +109,8 @@ module _ (n : ℕ) {s : List ℕ} {at : ℕ} where
   unfolding run
   run-past h = record { stopped = simp (lt-leb n (length (drop at s)) (omega (arith, length-drop at s))) }
 
-  pub run-in : at + n ≤ length s → Past (run n) s at (part s at n) (at + n) n
-  unfolding run part
+  pub run-in : at + n ≤ length s → Past (run n) s at (bytesAt s at n) (at + n) n
+  unfolding run bytesAt
   run-in h =
       let k : n ≤ length (drop at s) = omega (arith, length-drop at s) in
       record {

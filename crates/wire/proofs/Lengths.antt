@@ -5,6 +5,6 @@ use native.Mathlib.Omega.{arith}
 use Rattle.cluster.specs.Config.{shelf}
 use Rattle.erasure.specs.Fragments.{fragmentSize}
 
-pub fragment-few : (t n : ℕ) → fragmentSize (shelf t .shares) n ≤ n + t
+pub fragment-few : (t n : ℕ) → fragmentSize (shelf t .threshold) n ≤ n + t
 unfolding fragmentSize shelf
 fragment-few t n = omega (arith, div-le-self (n + (t + 1) - 1) (t + 1))

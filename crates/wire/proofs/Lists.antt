@@ -10,14 +10,14 @@ use native.Mathlib.Nat.{mul-suc}
 use native.Mathlib.Numerals.{add-one}
 use lib.ListN.{length, drop}
 use Rattle.cluster.specs.Config.{Config}
-use Rattle.protocol.specs.Format.{Fmt, andThen, parseMany, byte, many}
+use Rattle.format.specs.Format.{Fmt, andThen, parseMany, byte, many}
 use Rattle.protocol.specs.Values.{Candidate, candidateSize}
 use Rattle.protocol.specs.Packet.{candidateF, candidatesF}
 use Rattle.protocol.specs.View.{candidateAt}
-use Rattle.protocol.specs.Reading.{Leaves, Stops}
-use Rattle.protocol.proofs.Answers.{same-rest, andThen-some}
-use Rattle.protocol.proofs.Leaves.{leaves-none, leaves-seq, leaves-via, stops-via, stops-first, stops-second}
-use Rattle.protocol.proofs.Walks.{many-count, many-snoc}
+use Rattle.format.specs.Reading.{Leaves, Stops}
+use Rattle.format.proofs.Answers.{same-rest, andThen-some}
+use Rattle.format.proofs.Leaves.{leaves-none, leaves-seq, leaves-via, stops-via, stops-first, stops-second}
+use Rattle.format.proofs.Walks.{many-count, many-snoc}
 use Rattle.wire.specs.Places.{candidateList}
 use Rattle.wire.specs.Reads.{Took, Past, first, byteL, candidateL, candidatesL}
 use Rattle.wire.proofs.From.{drop-from}

@@ -10,12 +10,12 @@ use lib.Dec.{leb, eqb}
 use lib.ListN.{drop, getD}
 use borrow.Author.Tests.{eq-eqb, ne-eqb, le-leb, lt-leb}
 use Rattle.cluster.specs.Config.{Config}
-use Rattle.protocol.specs.Format.{byte}
+use Rattle.format.specs.Format.{byte}
 use Rattle.protocol.specs.Values.{Held, stampSize}
 use Rattle.protocol.specs.Packet.{shareF, heldF, heldMost, codeF}
 use Rattle.protocol.specs.View.{stampAt, shareAt, heldAt}
-use Rattle.protocol.specs.Reading.{Leaves, Stops}
-use Rattle.protocol.proofs.Leaves.{leaves-seq, leaves-via, stops-via, stops-second, leaves-keep, stops-test, leaves-absent, leaves-present, stops-flag, stops-present}
+use Rattle.format.specs.Reading.{Leaves, Stops}
+use Rattle.format.proofs.Leaves.{leaves-seq, leaves-via, stops-via, stops-second, leaves-keep, stops-test, leaves-absent, leaves-present, stops-flag, stops-present}
 use Rattle.protocol.proofs.Packets.{held-most}
 use Rattle.wire.specs.Places.{lengthAt, shareSize, heldSize}
 use Rattle.wire.specs.Reads.{Took, byteL, anyStampL, shareL, heldL, codeL}

@@ -10,14 +10,12 @@ use Rattle.cluster.specs.Ranges.{packetRoom}
 use Rattle.protocol.specs.declared.Head.{Head}
 use Rattle.hmac.specs.Hmac.{tagSize}
 use Rattle.protocol.specs.declared.Stamp.{Stamp}
-use Rattle.protocol.specs.Format.{print4, via, seq, number4, byte, run}
+use Rattle.format.specs.Format.{print4, via, seq, number4, byte, run}
 use Rattle.protocol.specs.Values.{stampSize}
 use Rattle.protocol.specs.Packet.{stampF, headF, headSize}
-use Rattle.protocol.specs.ServerBytes.{over}
-use Rattle.protocol.specs.ClientBytes.{put}
-use Rattle.protocol.specs.Reading.{Wrote}
+use Rattle.format.specs.Reading.{over, put, Wrote}
 use Rattle.protocol.proofs.Packets.{head-length, stamp-length}
-use Rattle.protocol.proofs.Puts.{put-over, wrote-then, wrote-length}
+use Rattle.format.proofs.Puts.{put-over, wrote-then, wrote-length}
 use Rattle.wire.specs.Make.{Placed, placed, writeStep, packetStep}
 
 module _ {d e : List ℕ} {at n : ℕ} {b : List ℕ} where

@@ -8,11 +8,11 @@ use native.Mathlib.Nat.{zero-add}
 use lib.ListN.{length, getD, take, drop, replicate, length-append, length-drop, drop-of-length-le, length-replicate}
 use lib.Seq.{take-all, take-nil, take-append-le, take-append-add, length-take-le, getD-take, getD-drop, ext-getD}
 use Rattle.hmac.specs.Hmac.{tagSize}
-use Rattle.protocol.specs.Format.{value4}
+use Rattle.format.specs.Format.{value4}
 use Rattle.protocol.specs.Values.{stampSize}
-use Rattle.protocol.specs.View.{part, stampAt}
-use Rattle.protocol.specs.ClientBytes.{put}
-use Rattle.protocol.proofs.Places.{take-zeros, drop-zeros}
+use Rattle.protocol.specs.View.{stampAt}
+use Rattle.format.specs.Reading.{bytesAt, put}
+use Rattle.format.proofs.Places.{take-zeros, drop-zeros}
 use Rattle.wire.specs.Places.{padded}
 use Rattle.wire.specs.Make.{placed}
 use Rattle.wire.proofs.Put.{placed-wrote}
@@ -30,21 +30,21 @@ module _ (s : List ℕ) (at : ℕ) where
   pub rest-whole : (n : ℕ) → length s - at ≡ n → take n (drop at s) ≡ drop at s
   rest-whole n e = take-all n (drop at s) (omega (arith, length-drop at s))
 
-  pub part-past : (n : ℕ) → length s ≤ at → [] ≡ part s at n
-  unfolding part
+  pub part-past : (n : ℕ) → length s ≤ at → [] ≡ bytesAt s at n
+  unfolding bytesAt
   part-past n h = rw (drop-of-length-le s h, take-nil n)
 
-  pub part-short : (n m : ℕ) → length s - at ≤ n → length s - at ≤ m → take n (drop at s) ≡ part s at m
-  unfolding part
+  pub part-short : (n m : ℕ) → length s - at ≤ n → length s - at ≤ m → take n (drop at s) ≡ bytesAt s at m
+  unfolding bytesAt
   part-short n m h k =
       take-all n (drop at s) (omega (arith, length-drop at s)) ∙ sym (take-all m (drop at s) (omega (arith, length-drop at s)))
 
-  pub part-whole : (m n : ℕ) → m ≡ n → take m (drop at s) ≡ part s at n
-  unfolding part
+  pub part-whole : (m n : ℕ) → m ≡ n → take m (drop at s) ≡ bytesAt s at n
+  unfolding bytesAt
   part-whole m n e = ap (λ (k : ℕ). take k (drop at s)) e
 
-pub part-most : (s : List ℕ) (at n : ℕ) → length (part s at n) ≤ n
-unfolding part
+pub part-most : (s : List ℕ) (at n : ℕ) → length (bytesAt s at n) ≤ n
+unfolding bytesAt
 part-most s at n = take-most n (drop at s)
   where
     take-most : (n : ℕ) (l : List ℕ) → length (take n l) ≤ n
@@ -73,8 +73,8 @@ unfolding padded
 padded-length n d = length-take-le n (d ++ replicate n 0) (omega (arith, length-append d (replicate n 0), length-replicate {A = ℕ} n 0))
 
 -- of the padded bytes, a part is the padded part
-pub padded-part : (a n : ℕ) (d : List ℕ) → part (padded (a + n) d) a n ≡ padded n (drop a d)
-unfolding part
+pub padded-part : (a n : ℕ) (d : List ℕ) → bytesAt (padded (a + n) d) a n ≡ padded n (drop a d)
+unfolding bytesAt
 padded-part a n d =
     let m : List ℕ = padded (a + n) d in
     let l : length (take n (drop a m)) ≡ n = length-take-le n (drop a m) (omega (arith, length-drop a m, padded-length (a + n) d)) in
@@ -85,8 +85,8 @@ padded-part a n d =
     (padded-get n (drop a d) i k))
 
 -- no more than the part is needed
-pub padded-cut : (n : ℕ) (d : List ℕ) → padded n (part d 0 n) ≡ padded n d
-unfolding part
+pub padded-cut : (n : ℕ) (d : List ℕ) → padded n (bytesAt d 0 n) ≡ padded n d
+unfolding bytesAt
 padded-cut n d =
     ext-getD 0 (padded n (take n d)) (padded n d) (padded-length n (take n d) ∙ sym (padded-length n d))
     (λ i h.
@@ -105,10 +105,10 @@ put-padded n s h =
     (take-zeros (n - length s) n (omega arith)) in
     rw (zero-add (length s)) (ap (λ (y : List ℕ). s ++ y) (drop-zeros (length s) n) ∙ sym p)
 
-pub placed-padded : (n : ℕ) (d : List ℕ) (at : ℕ) {b e : List ℕ} {k : ℕ} → b ≡ part d at n → record { next = k; output = e } ≡ placed (replicate n 0)
+pub placed-padded : (n : ℕ) (d : List ℕ) (at : ℕ) {b e : List ℕ} {k : ℕ} → b ≡ bytesAt d at n → record { next = k; output = e } ≡ placed (replicate n 0)
     0 b
     → e ≡ padded n (drop at d)
-unfolding part
+unfolding bytesAt
 placed-padded n d at {b} q p =
     let l : length b ≤ n = rw q (part-most d at n) in
     placed-wrote p (omega (arith, length-replicate {A = ℕ} n 0)) .bytes ∙ put-padded n b l ∙ ap (padded n) q ∙ padded-cut n (drop at d)

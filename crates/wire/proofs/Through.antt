@@ -13,27 +13,27 @@ use Rattle.cluster.specs.Ranges.{topNumber, topWriter, leastLength, topLength}
 use Rattle.hmac.specs.Hmac.{tagSize}
 use Rattle.erasure.specs.Fragments.{fragmentSize}
 use Rattle.protocol.specs.declared.Stamp.{Stamp}
-use Rattle.protocol.specs.Format.{zeros, run}
+use Rattle.format.specs.Format.{zeros, run}
 use Rattle.protocol.specs.Values.{Candidate, Share, stampSize, nonceSize, digestSize, digestsSize, tagsSize, candidateSize, blankStamp, blankCandidate}
 use Rattle.protocol.specs.Packet.{stampF, anyStampF, shareF, writeF, candidateF, anyCandidateF}
-use Rattle.protocol.specs.View.{part, stampAt, candidateAt, shareAt, shareOfSize}
-use Rattle.protocol.specs.Reading.{Leaves, Stops}
-use Rattle.protocol.proofs.Leaves.{leaves-seq, leaves-via, stops-via, stops-first, stops-second, leaves-some, leaves-blank, stops-short}
+use Rattle.protocol.specs.View.{stampAt, candidateAt, shareAt, shareOfSize}
+use Rattle.format.specs.Reading.{bytesAt, Leaves, Stops, number4At}
+use Rattle.format.proofs.Leaves.{leaves-seq, leaves-via, stops-via, stops-first, stops-second, leaves-some, leaves-blank, stops-short}
 use Rattle.wire.specs.Places.{lengthAt, shareSize, writeAt}
-use Rattle.wire.specs.Reads.{Took, Past, four, byteL, number2L, number4L, stampL, anyStampL, shareL, writeL, candidateL, anyCandidateL}
+use Rattle.wire.specs.Reads.{Took, Past, byteL, number2L, number4L, stampL, anyStampL, shareL, writeL, candidateL, anyCandidateL}
 use Rattle.wire.proofs.Leaf.{ends, number4-numbered}
 use Rattle.wire.proofs.From.{drop-from, part-from, first-from, blank-stamp, blank-candidate}
 
 -- m bytes, from the place p to q
 abbrev pub Ran : ℕ → List ℕ → ℕ → ℕ → Type 0
-Ran m s p q = Past (run m) s p (part s p m) q m
+Ran m s p q = Past (run m) s p (bytesAt s p m) q m
 
 module _ {s : List ℕ} {at : ℕ} where
   pub stamp-took : {v p w q e : ℕ} → Took (number4L 1 topNumber) s at v p → Took (byteL 1 topWriter) s p w q → Ran tagSize s q e
       → Took stampL s at v e
   unfolding stampF stampAt
   stamp-took {v} {p} {w} {q} {e} a b r =
-      let stamp : ℕ → List ℕ → Stamp = λ w t. record { number = four (drop at s); writer = w; tag = t } in
+      let stamp : ℕ → List ℕ → Stamp = λ w t. record { number = number4At (drop at s); writer = w; tag = t } in
       let same = ap₂ stamp (first-from s at 4 (a .place)) (part-from s at {k = q} 5 tagSize (omega (arith, a .place, b .place))) in
       record {
         leaves = subst (λ (x : Stamp). Leaves stampF s at x e) same (leaves-via _ _ _ refl
@@ -69,7 +69,7 @@ module _ {s : List ℕ} {at : ℕ} where
 
 -- the fragment of a content of n bytes
 abbrev pub Fragment : Config → List ℕ → ℕ → ℕ → ℕ → Type 0
-Fragment c s n p q = Ran (fragmentSize (c .shares) n) s p q
+Fragment c s n p q = Ran (fragmentSize (c .threshold) n) s p q
 
 module _ (c : Config) {s : List ℕ} {at : ℕ} where
   pub share-took : {n p q d g e : ℕ} → Took (number2L leastLength topLength) s at n p
@@ -78,18 +78,18 @@ module _ (c : Config) {s : List ℕ} {at : ℕ} where
   unfolding shareF shareAt shareOfSize lengthAt shareSize
   share-took {n} {p} {q} {d} {g} {e} a b₀ x y z =
       let m : ℕ = lengthAt (drop at s) in
-      let f : ℕ = fragmentSize (c .shares) m in
+      let f : ℕ = fragmentSize (c .threshold) m in
       let b = subst (λ (k : ℕ). Fragment c s k p q) (a .number) b₀ in
-      let share : List ℕ → List ℕ → List ℕ → List ℕ → Share = λ u v w z. record { size = m; part = u; digests = v; nonceDigest = w; tags = z } in
-      let e1 : part s p f ≡ part (drop at s) 2 f = part-from s at 2 f (a .place) in
-      let e2 : part s q (digestsSize c) ≡ part (drop at s) (2 + f) (digestsSize c) = part-from s at {k = q} (2 + f) (digestsSize c)
+      let share : List ℕ → List ℕ → List ℕ → List ℕ → Share = λ u v w z. record { size = m; fragment = u; digests = v; nonceDigest = w; tags = z } in
+      let e1 : bytesAt s p f ≡ bytesAt (drop at s) 2 f = part-from s at 2 f (a .place) in
+      let e2 : bytesAt s q (digestsSize c) ≡ bytesAt (drop at s) (2 + f) (digestsSize c) = part-from s at {k = q} (2 + f) (digestsSize c)
       (omega (arith, a .place, b .place)) in
-      let e3 : part s d digestSize ≡ part (drop at s) (2 + f + digestsSize c) digestSize =
+      let e3 : bytesAt s d digestSize ≡ bytesAt (drop at s) (2 + f + digestsSize c) digestSize =
       part-from s at {k = d} (2 + f + digestsSize c) digestSize (omega (arith, a .place, b .place, x .place)) in
-      let e4 : part s g (tagsSize c) ≡ part (drop at s) (2 + f + digestsSize c + digestSize) (tagsSize c) =
+      let e4 : bytesAt s g (tagsSize c) ≡ bytesAt (drop at s) (2 + f + digestsSize c + digestSize) (tagsSize c) =
       part-from s at {k = g} (2 + f + digestsSize c + digestSize) (tagsSize c) (omega (arith, a .place, b .place, x .place, y .place)) in
-      let same = ap₂ (λ u v. share u v (part s d digestSize) (part s g (tagsSize c))) e1 e2 ∙ ap₂
-      (share (part (drop at s) 2 f) (part (drop at s) (2 + f) (digestsSize c))) e3 e4 in
+      let same = ap₂ (λ u v. share u v (bytesAt s d digestSize) (bytesAt s g (tagsSize c))) e1 e2 ∙ ap₂
+      (share (bytesAt (drop at s) 2 f) (bytesAt (drop at s) (2 + f) (digestsSize c))) e3 e4 in
       record {
         leaves =
             subst (λ (h : Share). Leaves (shareF c) s at h e) same
@@ -101,14 +101,14 @@ module _ (c : Config) {s : List ℕ} {at : ℕ} where
 
   -- the fragment's length is told by the length that stands there
   sized : {n p q : ℕ} → Took (number2L leastLength topLength) s at n p → Fragment c s n p q
-      → Leaves (run (fragmentSize (c .shares) (lengthAt (drop at s)))) s p (part s p (fragmentSize (c .shares) (lengthAt (drop at s)))) q
-  sized {n} {p} {q} a b = subst (λ (k : ℕ). Leaves (run (fragmentSize (c .shares) k)) s p (part s p (fragmentSize (c .shares) k)) q) (a .number)
+      → Leaves (run (fragmentSize (c .threshold) (lengthAt (drop at s)))) s p (bytesAt s p (fragmentSize (c .threshold) (lengthAt (drop at s)))) q
+  sized {n} {p} {q} a b = subst (λ (k : ℕ). Leaves (run (fragmentSize (c .threshold) k)) s p (bytesAt s p (fragmentSize (c .threshold) k)) q) (a .number)
       (b .leaves)
 
-  pub share-stops1 : {n p : ℕ} → Took (number2L leastLength topLength) s at n p → Stops (run (fragmentSize (c .shares) n)) s p → Stops (shareF c) s at
+  pub share-stops1 : {n p : ℕ} → Took (number2L leastLength topLength) s at n p → Stops (run (fragmentSize (c .threshold) n)) s p → Stops (shareF c) s at
   unfolding shareF
   share-stops1 {n} {p} a z =
-      stops-via _ _ _ (stops-second _ _ (a .leaves) (stops-first _ _ (subst (λ (k : ℕ). Stops (run (fragmentSize (c .shares) k)) s p) (a .number) z)))
+      stops-via _ _ _ (stops-second _ _ (a .leaves) (stops-first _ _ (subst (λ (k : ℕ). Stops (run (fragmentSize (c .threshold) k)) s p) (a .number) z)))
 
   pub share-stops2 : {n p q : ℕ} → Took (number2L leastLength topLength) s at n p → Fragment c s n p q → Stops (run (digestsSize c)) s q → Stops
       (shareF c) s at

@@ -12,12 +12,12 @@ use borrow.Author.Tests.{ne-eqb, eqb-true, eqb-false}
 use Rattle.cluster.specs.Config.{Config, shelf}
 use Rattle.cluster.specs.Refusals.{refuse, firstOf}
 use Rattle.protocol.specs.declared.Head.{Head}
-use Rattle.protocol.specs.Format.{byte, empty, seq, via, keep}
+use Rattle.format.specs.Format.{byte, empty, seq, via, keep}
 use Rattle.protocol.specs.Values.{isSome, stampSize}
 use Rattle.protocol.specs.Packet.{Body, Packet, headF, headSize, bodyF, packetF, decode}
 use Rattle.protocol.specs.View.{shareAt, heldAt}
-use Rattle.protocol.specs.Reading.{Leaves, Stops}
-use Rattle.protocol.proofs.Leaves.{leaves-seq, leaves-via, stops-via, stops-second}
+use Rattle.format.specs.Reading.{Leaves, Stops}
+use Rattle.format.proofs.Leaves.{leaves-seq, leaves-via, stops-via, stops-second}
 use Rattle.protocol.proofs.Bodies.{Kind, clock-kind, complete-reply-kind, collect-kind, repair-reply-kind}
 use Rattle.protocol.proofs.Whole.{body-leaves, body-stops, decoded, refused, trailing}
 use Rattle.wire.specs.Places.{bodyAt, packetAt, writeAt, fragmentHeld, fragmentOf, fragmentIn}
@@ -125,7 +125,7 @@ module _ (c : Config) (d : List ℕ) where
       (neither (eqb k 7) _ _ refl
       (neither (eqb k 8) _ _ refl (neither (eqb k 9) _ _ refl (rw (ne-eqb k 10 m) (neither (eqb k 11) _ _ refl refl))))))))))
 
-  pub fragment-store : (k : ℕ) → k ≡ 3 → shareAt c (drop stampSize d) .part ≡ fragmentOf (bodyAt c k d)
+  pub fragment-store : (k : ℕ) → k ≡ 3 → shareAt c (drop stampSize d) .fragment ≡ fragmentOf (bodyAt c k d)
   unfolding bodyAt fragmentOf writeAt
   fragment-store k e = rw e
 
@@ -133,7 +133,7 @@ module _ (c : Config) (d : List ℕ) where
   unfolding bodyAt fragmentOf heldAt fragmentHeld
   fragment-absent k e z = rw (e, z)
 
-  pub fragment-present : (k : ℕ) → k ≡ 10 → (getD d stampSize 0 ≡ 0 → ⊥) → shareAt c (drop (stampSize + 1) d) .part ≡ fragmentOf (bodyAt c k d)
+  pub fragment-present : (k : ℕ) → k ≡ 10 → (getD d stampSize 0 ≡ 0 → ⊥) → shareAt c (drop (stampSize + 1) d) .fragment ≡ fragmentOf (bodyAt c k d)
   unfolding bodyAt fragmentOf heldAt fragmentHeld
   fragment-present k e n = rw e (simp (ne-eqb (getD d stampSize 0) 0 n))
 

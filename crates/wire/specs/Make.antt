@@ -8,8 +8,8 @@ use Rattle.cluster.specs.Ranges.{packetRoom}
 use Rattle.cluster.specs.Refusals.{refuse, firstOf, onRefusal}
 use Rattle.protocol.specs.declared.Head.{Head}
 use Rattle.protocol.specs.Packet.{headF}
-use Rattle.protocol.specs.ServerBytes.{over}
-use Rattle.protocol.specs.ClientBytes.{put, Written}
+use Rattle.format.specs.Reading.{over, put}
+use Rattle.protocol.specs.ClientBytes.{Filled}
 
 -- the place past what was written, and the buffer
 pub record Placed : Type 0 where
@@ -21,12 +21,12 @@ unfoldable pub placed : List ℕ → ℕ → List ℕ → Placed
 placed d at b = cond (leb (at + length b) (length d)) (record { next = at + length b; output = put d at b }) (record { next = at; output = d })
 
 -- a packet's bytes over the start of a buffer: 15 where it is below its least length, or too short for them
-unfoldable pub writeStep : List ℕ → List ℕ → Written
+unfoldable pub writeStep : List ℕ → List ℕ → Filled
 writeStep bytes output =
     let n = firstOf (refuse 15 (ltb (length output) packetRoom || ltb (length output) (length bytes)) ∷ []) in
     onRefusal n (record { result = record { number = n; count = length bytes }; output = over bytes output })
     (record { result = record { number = n; count = 0 }; output = output })
 
 -- a packet of a head, and of a body in two runs
-unfoldable pub packetStep : Head → List ℕ → List ℕ → List ℕ → Written
+unfoldable pub packetStep : Head → List ℕ → List ℕ → List ℕ → Filled
 packetStep h first second output = writeStep (headF .print h ++ (first ++ second)) output

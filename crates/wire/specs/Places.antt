@@ -8,11 +8,12 @@ use lib.Dec.{eqb}
 use lib.ListN.{take, drop, getD, replicate}
 use Rattle.cluster.specs.Config.{Config, shelf}
 use Rattle.protocol.specs.declared.Head.{Head}
-use Rattle.protocol.specs.Format.{value2}
+use Rattle.format.specs.Format.{value2}
 use Rattle.protocol.specs.Values.{Candidate, Share, Write, blankStamp, sameList, sameStamp, nonceSize, stampSize, candidateSize}
 use Rattle.protocol.specs.Packet.{Body, clock, clockReply, store, storeReply, complete, completeReply, collect, collectReply, filter, filterReply, repair, repairReply, Packet, headSize}
 unfoldable pub use Rattle.protocol.specs.Packet.{shareSize}
-use Rattle.protocol.specs.View.{part, stampAt, candidateAt, shareAt, heldAt}
+use Rattle.protocol.specs.View.{stampAt, candidateAt, shareAt, heldAt}
+use Rattle.format.specs.Reading.{bytesAt}
 use Rattle.wire.specs.declared.values.CandidateHead.{CandidateHead}
 
 abbrev pub blankHead : CandidateHead
@@ -67,12 +68,12 @@ packetAt h b = record { head = h; body = bodyAt (shelf (h .t)) (h .kind) (drop h
 -- the fragment of a packet of kind 3 or 10; none in a broken packet and in any other
 unfoldable pub fragmentHeld : Option Share → List ℕ
 fragmentHeld none = []
-fragmentHeld (some h) = h .part
+fragmentHeld (some h) = h .fragment
 
 unfoldable pub fragmentOf : Body → List ℕ
 fragmentOf clock = []
 fragmentOf (clockReply x) = []
-fragmentOf (store x) = x .share .part
+fragmentOf (store x) = x .share .fragment
 fragmentOf (storeReply x) = []
 fragmentOf (complete x) = []
 fragmentOf completeReply = []

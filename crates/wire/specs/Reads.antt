@@ -11,11 +11,11 @@ use lib.ListN.{length, take, drop, getD}
 use Rattle.cluster.specs.Config.{Config}
 use Rattle.cluster.specs.Refusals.{refuse, firstOf}
 use Rattle.protocol.specs.declared.Stamp.{Stamp}
-use Rattle.protocol.specs.Format.{Fmt, zeros, value4, byte, number2, number4, run, many}
+use Rattle.format.specs.Format.{Fmt, zeros, byte, number2, number4, run, many}
 use Rattle.protocol.specs.Values.{Candidate, Share, Write, Held, isSome, stampSize, candidateSize}
 use Rattle.protocol.specs.Packet.{headF, headSize, stampF, anyStampF, shareF, writeF, candidateF, anyCandidateF, candidatesF, heldF, codeF, bodyF, decode}
-use Rattle.protocol.specs.View.{part, stampAt, candidateAt, shareAt, heldAt}
-use Rattle.protocol.specs.Reading.{Leaves, Stops}
+use Rattle.protocol.specs.View.{stampAt, candidateAt, shareAt, heldAt}
+use Rattle.format.specs.Reading.{bytesAt, Leaves, Stops, number4At}
 use Rattle.wire.specs.Places.{lengthAt, shareSize, writeAt, candidateList, heldSize, bodyAt, packetAt}
 use Rattle.wire.specs.declared.fields.Field.{Field}
 use Rattle.wire.specs.declared.fields.Field.the-variants as field
@@ -58,9 +58,6 @@ numberL F x w = record { format = F; value = x; number = x; size = λ d. w }
 abbrev pub first : List ℕ → ℕ
 first d = getD d 0 0
 
-abbrev pub four : List ℕ → ℕ
-four d = value4 (getD d 0 0) (getD d 1 0) (getD d 2 0) (getD d 3 0)
-
 abbrev pub byteL : ℕ → ℕ → Layout ℕ
 byteL lo hi = numberL (byte lo hi) first 1
 
@@ -68,7 +65,7 @@ abbrev pub number2L : ℕ → ℕ → Layout ℕ
 number2L lo hi = numberL (number2 lo hi) lengthAt 2
 
 abbrev pub number4L : ℕ → ℕ → Layout ℕ
-number4L lo hi = numberL (number4 lo hi) four 4
+number4L lo hi = numberL (number4 lo hi) number4At 4
 
 -- an answer to store
 abbrev pub codeL : Layout ℕ
@@ -123,7 +120,7 @@ pub record Past {A : Type 0} (F : Fmt A) (s : List ℕ) (at : ℕ) (a : A) (next
 
 -- `Broken` becomes that of the field which the run is part of
 abbrev pub RunAs : ℕ → List ℕ → ℕ → Run → Type 0
-RunAs n s at (runs.Past c) = Past (run n) s at (part s at n) (c .at) n
+RunAs n s at (runs.Past c) = Past (run n) s at (bytesAt s at n) (c .at) n
 RunAs n s at runs.Broken = Stops (run n) s at
 
 pub record Zeros (n : ℕ) (s : List ℕ) (at next : ℕ) : Type 0 where

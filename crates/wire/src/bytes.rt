@@ -2,9 +2,9 @@
 ghost use mathlib.Core.Path.{_≡_};
 ghost use lib.ListN.{drop, getD};
 ghost use Rattle.hmac.specs.Hmac.{tagSize};
-ghost use Rattle.protocol.specs.Format.{zeros, value2, value4};
+ghost use Rattle.format.specs.Format.{zeros, value2, value4};
 ghost use Rattle.protocol.specs.Values.{sameList, nonceSize};
-ghost use Rattle.protocol.specs.View.{part};
+ghost use Rattle.format.specs.Reading.{bytesAt};
 ghost use Rattle.wire.specs.Places.{padded};
 
 // No byte but 00h. All bytes are joined and none ends the loop, so that it runs on vectors.
@@ -69,7 +69,7 @@ pub fn rest(s: &[u8], at: usize) -> &[u8]
 
 // At most n bytes from the place at on.
 pub fn part(s: &[u8], at: usize, n: usize) -> &[u8]
-    ensures { λ r. ⌜ now r ≡ part (now (s .entry)) at n ⌝ }
+    ensures { λ r. ⌜ now r ≡ bytesAt (now (s .entry)) at n ⌝ }
 {
     if s.len() <= at {
         return &s[..0];

@@ -3,10 +3,10 @@ ghost use mathlib.Core.Path.{_≡_};
 ghost use mathlib.Core.List.{[], _∷_};
 ghost use Prim.Native.Nat.{_+_, _≤_};
 ghost use lib.ListN.{length};
-ghost use Rattle.protocol.specs.Format.{print2, print4};
+ghost use Rattle.format.specs.Format.{print2, print4};
 ghost use Rattle.protocol.specs.Packet.{headF, stampF};
 ghost use Rattle.wire.specs.Make.{placed, packetStep};
-ghost use Rattle.protocol.specs.Reading.{Wrote};
+ghost use Rattle.format.specs.Reading.{Wrote};
 
 // The bytes written at a place where there is room for them.
 fn copy(out: &mut [u8], at: usize, bytes: &[u8]) -> usize
@@ -102,13 +102,13 @@ pub fn make_packet(
     ensures { λ r. ⌜ record { result = r; output = now (out .exit) } ≡ packetStep head (now (first .entry)) (now (second .entry)) (now (out .entry)) ⌝ }
 {
     if out.len() < cluster::PACKET_ROOM {
-        return cluster::refused(15);
+        return cluster::refused(cluster::refusals::ROOM);
     }
     if out.len() - crate::sizes::HEAD < first.len() {
-        return cluster::refused(15);
+        return cluster::refused(cluster::refusals::ROOM);
     }
     if out.len() - crate::sizes::HEAD - first.len() < second.len() {
-        return cluster::refused(15);
+        return cluster::refused(cluster::refusals::ROOM);
     }
     let a = put_head(out, 0, head);
     let b = put(out, a, first);

@@ -74,28 +74,28 @@ fn body_field(s: &[u8], c: Cursor, kind: u8, t: u8) -> Field
     requires { ⌜ (1 ≤ kind) × (kind ≤ 12) × (c .at ≤ length (now s)) ⌝ }
     ensures { λ r. ⌜ BodyAs (shelf t) kind (now (s .entry)) (c .at) r ⌝ }
 {
-    if kind == 2 {
+    if kind == protocol::kinds::CLOCK_REPLY {
         return any_stamp_field(s, c); // clock reply: a stamp, or the blank
     }
-    if kind == 3 {
+    if kind == protocol::kinds::STORE {
         return write_field(s, c, t); // store: a stored write
     }
-    if kind == 4 {
+    if kind == protocol::kinds::STORE_REPLY {
         return code_field(s, c); // store reply: 0, 10 or 11
     }
-    if kind == 8 {
+    if kind == protocol::kinds::COLLECT_REPLY {
         return any_candidate_field(s, c, t); // collect reply: a candidate, or the blank
     }
-    if kind == 5 {
+    if kind == protocol::kinds::COMPLETE {
         return candidate_field(s, c, t); // complete: a candidate
     }
-    if kind == 9 {
+    if kind == protocol::kinds::FILTER {
         return candidates_field(s, c, t); // filter: a list of candidates
     }
-    if kind == 10 {
+    if kind == protocol::kinds::FILTER_REPLY {
         return held_field(s, c, t); // filter reply: what is held for a stamp, or the blank
     }
-    if kind == 11 {
+    if kind == protocol::kinds::REPAIR {
         return candidate_field(s, c, t); // repair: a candidate
     }
     Field::Value(0, c)
@@ -122,7 +122,7 @@ pub fn read_packet(packet: &[u8]) -> PacketRead
 
 // The fragment in a share, as that part of the share.
 pub fn share_fragment(share: &[u8], t: u8) -> &[u8]
-    ensures { λ r. ⌜ now r ≡ shareAt (shelf t) (now (share .entry)) .part ⌝ }
+    ensures { λ r. ⌜ now r ≡ shareAt (shelf t) (now (share .entry)) .fragment ⌝ }
 {
     part(share, 2, crate::sizes::fragment_size(t, number2(share)))
 }
@@ -136,10 +136,10 @@ pub fn fragment(packet: &[u8]) -> &[u8]
     };
     let kind = head.kind;
     let t = head.t;
-    if kind == 3 {
+    if kind == protocol::kinds::STORE {
         return share_fragment(rest(packet, crate::sizes::HEAD + crate::sizes::STAMP), t);
     }
-    if kind != 10 {
+    if kind != protocol::kinds::FILTER_REPLY {
         return &packet[..0];
     }
     if byte_at(packet, crate::sizes::HEAD + crate::sizes::STAMP) == 0 {

@@ -34,7 +34,7 @@ pub fn candidate_size(t: u8) -> usize
 
 // Bytes of a fragment of a content of n bytes. Each t has its own divisor, which the compiler then knows.
 pub fn fragment_size(t: u8, n: u32) -> usize
-    ensures { λ r. ⌜ r ≡ fragmentSize (shelf t .shares) n ⌝ }
+    ensures { λ r. ⌜ r ≡ fragmentSize (shelf t .threshold) n ⌝ }
 {
     let size = n as usize;
     if t == 1 {

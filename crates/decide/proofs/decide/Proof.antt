@@ -8,11 +8,11 @@ use borrow.Author.Needs.{needs}
 use lib.ListN.{length}
 use Rattle.cluster.specs.Config.{shelf}
 use Rattle.cluster.specs.Ranges.{contentRoom}
-use Rattle.protocol.specs.Format.{Bytes}
+use Rattle.format.specs.Format.{Bytes}
 use Rattle.decide.specs.declared.leading.Choice.{Choice}
 use Rattle.decide.specs.Decided.{Decided, decideRefusal}
 use Rattle.decide.specs.declared.Decision.the-variants as decisions
-use Rattle.decide.specs.Steps.{Usable, topAt, chosenAt, Hit, ChoiceAs}
+use Rattle.decide.specs.Steps.{Usable, topAt, chosenPlace, Hit, ChoiceAs}
 use Rattle.decide.proofs.Outcomes.{decided-refused, decided-blank, decided-none, hit-small, hit-full, hit-rises, decided-found}
 use Rattle.decide.proofs.Arguments.{allowed}
 use Rattle.decide.proofs.decide.Statement.{statement}
@@ -66,8 +66,8 @@ returns-3 : tie.Need-returns-3
 returns-3 c =
     let p = c .before .before .before .before .before in
     let q = c .before .before .before .before .top .ensures in
-    let n : chosenAt (t p) (marks p) (kept p) (topAt (t p) (marks p) (kept p) (shelf (t p) .servers)) (shelf (t p) .servers) ≡ none =
-    ap (λ (x : ℕ). chosenAt (t p) (marks p) (kept p) x (shelf (t p) .servers)) (sym q) ∙ c .before .before .find .ensures .nothing (c .if3 .taken) in
+    let n : chosenPlace (t p) (marks p) (kept p) (topAt (t p) (marks p) (kept p) (shelf (t p) .servers)) (shelf (t p) .servers) ≡ none =
+    ap (λ (x : ℕ). chosenPlace (t p) (marks p) (kept p) x (shelf (t p) .servers)) (sym q) ∙ c .before .before .find .ensures .nothing (c .if3 .taken) in
     told (decided-none (t p) (marks p) (kept p) (out p) (not-refused p) (bytes p) (omega (arith, c .before .before .before .if2 .left, q)) n)
 
 -- a server was found

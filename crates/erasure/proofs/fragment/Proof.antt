@@ -33,9 +33,9 @@ module _ (c : tie.Else1) where
   ok : Makes t server (length content)
   ok = makes t server (length content) none-applies
 
-shares-are : (c : tie.After-shares-of) → c .shares-of .result ≡ t (c .before) + 1
+threshold-are : (c : tie.After-threshold-of) → c .threshold-of .result ≡ t (c .before) + 1
 unfolding shelf
-shares-are c = c .shares-of .ensures
+threshold-are c = c .threshold-of .ensures
 
 module _ (c : tie.After-size) where
   abbrev past : tie.Else1
@@ -44,16 +44,16 @@ module _ (c : tie.After-size) where
   size-most : c .size .result ≤ fragmentRoom
   size-most =
       subst (λ (x : ℕ). x ≤ fragmentRoom) (sym (c .size .ensures))
-      (size-fits (c .before .shares-of .result) (length (content past)) (omega (arith, shares-are (c .before), ok past .faults .0))
+      (size-fits (c .before .threshold-of .result) (length (content past)) (omega (arith, threshold-are (c .before), ok past .faults .0))
       (ok past .bytes .1))
 
   -- bytes that are the sums, or a run, are the fragment
-  done : (b : List ℕ) → b ≡ madeOf (c .before .shares-of .result) (c .size .result) (content past) (server past) ++ zeros
+  done : (b : List ℕ) → b ≡ madeOf (c .before .threshold-of .result) (c .size .result) (content past) (server past) ++ zeros
       (fragmentRoom - c .size .result)
       → record { number = 0; count = c .size .result; bytes = b } ≡ fragmentStep (t past) (server past) (content past)
   done b e =
-      let shares = c .before .shares-of in
-      let f = c .size .ensures ∙ ap (λ (k : ℕ). fragmentSize k (length (content past))) (shares .ensures) in
+      let threshold = c .before .threshold-of in
+      let f = c .size .ensures ∙ ap (λ (k : ℕ). fragmentSize k (length (content past))) (threshold .ensures) in
       let outcome : ℕ → ℕ → FragmentOutcome = λ k x. record {
         number = 0;
         count = x;
@@ -61,7 +61,7 @@ module _ (c : tie.After-size) where
             (fragmentRoom - x);
       } in
       ap (λ (b : List ℕ). record { number = 0; count = c .size .result; bytes = b }) e
-      ∙ ap₂ outcome (shares .ensures) f
+      ∙ ap₂ outcome (threshold .ensures) f
       ∙ sym (make-accepted (t past) (server past) (content past) (ok past .faults .1) (ok past .number .0) (ok past .number .1) (none-applies past))
 
 -- ---- the needs
@@ -73,11 +73,11 @@ returns c =
     sym (make-refused (args .t) (args .server) (denote.Ref.now (args .content)) (r .result) (r .ensures) (c .before .if1 .taken)
     ∙ ap (λ (b : List ℕ). record { number = r .result; count = 0; bytes = b }) (sym (c .blank .ensures)))
 
-shares-of-requires : tie.Need-shares-of-requires
-shares-of-requires c κs = ok c .faults .1
+threshold-of-requires : tie.Need-threshold-of-requires
+threshold-of-requires c κs = ok c .faults .1
 
 size-requires : tie.Need-size-requires
-size-requires c κs = (omega (arith, shares-are c), omega (arith, shares-are c, ok (c .before) .faults .1), ok (c .before) .bytes .1)
+size-requires c κs = (omega (arith, threshold-are c), omega (arith, threshold-are c, ok (c .before) .faults .1), ok (c .before) .bytes .1)
 
 sub-plain : tie.Need-sub-plain
 sub-plain c = omega (arith, ok (c .before .before .before) .number .0)
@@ -85,7 +85,7 @@ sub-plain c = omega (arith, ok (c .before .before .before) .number .0)
 plain-requires : tie.Need-plain-requires
 plain-requires c κs =
     let r = ok (c .before .before .before) in
-    (size-most (c .before), omega (arith, shares-are (c .before .before), r .faults .1, r .number .0, c .if2 .taken))
+    (size-most (c .before), omega (arith, threshold-are (c .before .before), r .faults .1, r .number .0, c .if2 .taken))
 
 returns-2 : tie.Need-returns-2
 returns-2 c =
@@ -97,8 +97,8 @@ returns-2 c =
     done (c .before .before) _
     (c .plain .ensures
     ∙ ap (λ (l : List ℕ). l ++ zeros (fragmentRoom - size))
-    (run-made (c .before .before .before .shares-of .result) size (server past) (content past)
-    (omega (arith, shares-are (c .before .before .before), r .faults .1)) (r .number .0) (c .before .if2 .taken) small))
+    (run-made (c .before .before .before .threshold-of .result) size (server past) (content past)
+    (omega (arith, threshold-are (c .before .before .before), r .faults .1)) (r .number .0) (c .before .if2 .taken) small))
 
 cast-make : tie.Need-cast-make
 unfolding shelf
@@ -108,11 +108,11 @@ cast-make c =
     omega (arith, s, r .faults .1)
 
 make-requires : tie.Need-make-requires
-make-requires c κs = (omega (arith, shares-are (c .before .before), ok (c .before .before .before) .faults .1), size-most (c .before))
+make-requires c κs = (omega (arith, threshold-are (c .before .before), ok (c .before .before .before) .faults .1), size-most (c .before))
 
 returns-3 : tie.Need-returns-3
 returns-3 c = done (c .before .before) _ (c .make .ensures)
 
 pub fragment-spec : {M : Type 1} → statement M
-fragment-spec = tie.close (tie.spec (λ c κs. search needs) (λ c κs. search needs) returns shares-of-requires size-requires sub-plain plain-requires
+fragment-spec = tie.close (tie.spec (λ c κs. search needs) (λ c κs. search needs) returns threshold-of-requires size-requires sub-plain plain-requires
     returns-2 cast-make make-requires returns-3)

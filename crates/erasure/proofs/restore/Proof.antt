@@ -44,9 +44,9 @@ module _ (c : tie.Else1) where
   ok : Restores t n servers (length fragments) (length out)
   ok = restores t n servers (length fragments) (length out) none-applies
 
-shares-are : (c : tie.After-shares-of) → c .shares-of .result ≡ t (c .before) + 1
+threshold-are : (c : tie.After-threshold-of) → c .threshold-of .result ≡ t (c .before) + 1
 unfolding shelf
-shares-are c = c .shares-of .ensures
+threshold-are c = c .threshold-of .ensures
 
 -- ---- k servers are chosen, or fewer
 
@@ -55,13 +55,13 @@ module _ (c : tie.After-at) where
   past = c .before .before .before .before
 
   abbrev k : ℕ
-  k = c .before .before .before .shares-of .result
+  k = c .before .before .before .threshold-of .result
 
   abbrev chosen : Chosen
   chosen = c .before .before .select .result
 
   k-is : k ≡ t past + 1
-  k-is = shares-are (c .before .before .before)
+  k-is = threshold-are (c .before .before .before)
 
   k-most : k ≤ width
   k-most = omega (arith, k-is, ok past .faults .1)
@@ -88,20 +88,20 @@ returns c =
     rw (c .refused .ensures) (sym (restore-refused (args .t) (args .length) servers fragments out (r .result)
     (refused-arguments (args .t) (args .length) servers fragments out (r .result) (r .ensures) taken) taken))
 
-shares-of-requires : tie.Need-shares-of-requires
-shares-of-requires c κs = ok c .faults .1
+threshold-of-requires : tie.Need-threshold-of-requires
+threshold-of-requires c κs = ok c .faults .1
 
 select-requires : tie.Need-select-requires
 unfolding shelf
 select-requires c κs =
     let p = c .before in
-    (omega (arith, shares-are c, ok p .faults .1), λ i h. omega (arith, ok p .faults .1, ok p .numbers i h .1))
+    (omega (arith, threshold-are c, ok p .faults .1), λ i h. omega (arith, ok p .faults .1, ok p .numbers i h .1))
 
 returns-2 : tie.Need-returns-2
 returns-2 c =
     let p = past (c .before .before) in
-    let few : length (firstDifferent (shelf (t p) .shares) (servers p)) < shelf (t p) .shares =
-    subst (λ (x : ℕ). length (firstDifferent x (servers p)) < x) (c .before .before .before .before .before .shares-of .ensures)
+    let few : length (firstDifferent (shelf (t p) .threshold) (servers p)) < shelf (t p) .threshold =
+    subst (λ (x : ℕ). length (firstDifferent x (servers p)) < x) (c .before .before .before .before .before .threshold-of .ensures)
     (omega (arith, counted-is (c .before .before), c .before .if2 .taken)) in
     rw (c .refused2 .ensures) (sym (restore-refused (t p) (n p) (servers p) (fragments p) (out p) 16
     (refused-few (t p) (n p) (servers p) (fragments p) (out p) (none-applies p) few) (suc-ne-zero 15)))
@@ -116,8 +116,8 @@ rebuild-requires c κs =
     let chosen-as = a .before .before .select .ensures in
     let size = c .before .size in
     let full : k a ≤ chosen a .count = search needs in
-    let f : size .result ≡ fragmentSize (shelf (t p) .shares) (n p) = size .ensures ∙ ap (λ (x : ℕ). fragmentSize x (n p))
-    (a .before .before .before .shares-of .ensures) in (
+    let f : size .result ≡ fragmentSize (shelf (t p) .threshold) (n p) = size .ensures ∙ ap (λ (x : ℕ). fragmentSize x (n p))
+    (a .before .before .before .threshold-of .ensures) in (
       k-most a,
       subst (λ (x : ℕ). 0 < x) (sym (size .ensures)) (size-pos (k a) (n p) (ok p .bytes .0) (omega (arith, k-is a))),
       subst (λ (x : ℕ). n p ≤ k a * x) (sym (size .ensures)) (runs-cover (k a) (n p) (omega (arith, k-is a))),
@@ -135,7 +135,7 @@ returns-3 c =
     let s = 3 * t p + 1 in
     let size = c .before .before .before .before .size in
     let full : k a ≤ chosen a .count = search needs in
-    let enough : shelf (t p) .shares ≤ length (firstDifferent (shelf (t p) .shares) (servers p)) =
+    let enough : shelf (t p) .threshold ≤ length (firstDifferent (shelf (t p) .threshold) (servers p)) =
     subst (λ (x : ℕ). x ≤ length (firstDifferent x (servers p))) (k-is a) (omega (arith, counted-is a, full)) in
     let bytes : rebuiltOf (k a) (size .result) (n p) (chosen a .servers) (chosen a .at) (fragments p) ≡ restoredBytes (t p) (n p) (servers p)
     (fragments p) =
@@ -149,6 +149,6 @@ returns-3 c =
     enough))
 
 pub restore-spec : {M : Type 1} → statement M
-restore-spec = tie.close (tie.spec (λ c κs. search needs) (λ c κs. search needs) returns shares-of-requires select-requires (λ c κs. search needs)
+restore-spec = tie.close (tie.spec (λ c κs. search needs) (λ c κs. search needs) returns threshold-of-requires select-requires (λ c κs. search needs)
     returns-2 size-requires rebuild-requires
     (λ c. search needs) returns-3)

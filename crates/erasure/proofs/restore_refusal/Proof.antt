@@ -54,7 +54,7 @@ module _ (c : tie.Else2) where
   past = c .before .before .before
 
   other-tests : (d e f : Bool) → not (within leastLength topLength (n past)) ≡ d → ltb (room past) contentRoom ≡ e
-      → not (eqb (given past) (length (servers past) * fragmentSize (shelf (t past) .shares) (n past))) ≡ f
+      → not (eqb (given past) (length (servers past) * fragmentSize (shelf (t past) .threshold) (n past))) ≡ f
       → firstOf (argumentChecks (t past) (n past) (servers past) (given past) (room past)) ≡ cond d 6 (cond e 15 (cond f 16 0))
   other-tests d e f =
       argument-tests (t past) (n past) (servers past) (given past) (room past) false false d e f (faults-in past)
@@ -67,21 +67,21 @@ module _ (c : tie.Else3) where
   lengths : (leastLength ≤ n (past (c .before .before))) × (n (past (c .before .before)) ≤ topLength)
   lengths = within-bounds leastLength topLength _ (not-false _ length-in)
 
-module _ (c : tie.After-shares-of) where
+module _ (c : tie.After-threshold-of) where
   abbrev second : tie.Else2
   second = c .before .before .before .before
 
-  shares-are : c .shares-of .result ≡ t (past second) + 1
+  threshold-are : c .threshold-of .result ≡ t (past second) + 1
   unfolding shelf
-  shares-are = c .shares-of .ensures
+  threshold-are = c .threshold-of .ensures
 
 last-test : (c : tie.After-miscounted) (b : Bool) → c .miscounted .result ≡ b
     → let p = past (second (c .before .before)) in firstOf (argumentChecks (t p) (n p) (servers p) (given p) (room p)) ≡ cond b 16 0
 last-test c b e =
     let s = second (c .before .before) in
     let p = past s in
-    let f : c .before .size .result ≡ fragmentSize (shelf (t p) .shares) (n p) =
-    c .before .size .ensures ∙ ap (λ (k : ℕ). fragmentSize k (n p)) (c .before .before .shares-of .ensures) in
+    let f : c .before .size .result ≡ fragmentSize (shelf (t p) .threshold) (n p) =
+    c .before .size .ensures ∙ ap (λ (k : ℕ). fragmentSize k (n p)) (c .before .before .threshold-of .ensures) in
     other-tests s false false b (length-in (c .before .before .before .before)) (le-ltb (room p) contentRoom (c .before .before .before .if4 .left))
     (ap (λ (x : ℕ). not (eqb (given p) (length (servers p) * x))) (sym f) ∙ sym (c .miscounted .ensures) ∙ e)
 
@@ -111,17 +111,17 @@ returns-4 c =
     let s = c .before .before .before in
     sym (other-tests s false true _ (length-in (c .before)) (lt-ltb (room (past s)) contentRoom (c .if4 .taken)) refl)
 
-shares-of-requires : tie.Need-shares-of-requires
-shares-of-requires c κs = faults (past (c .before .before .before)) .1
+threshold-of-requires : tie.Need-threshold-of-requires
+threshold-of-requires c κs = faults (past (c .before .before .before)) .1
 
 size-requires : tie.Need-size-requires
-size-requires c κs = (omega (arith, shares-are c), omega (arith, shares-are c, faults (past (second c)) .1), lengths (c .before .before) .1)
+size-requires c κs = (omega (arith, threshold-are c), omega (arith, threshold-are c, faults (past (second c)) .1), lengths (c .before .before) .1)
 
 miscounted-requires : tie.Need-miscounted-requires
 miscounted-requires c κs =
     subst (λ (x : ℕ). 0 < x) (sym (c .size .ensures))
-    (size-pos (c .before .shares-of .result) (n (past (second (c .before)))) (lengths (c .before .before .before) .0)
-    (omega (arith, shares-are (c .before))))
+    (size-pos (c .before .threshold-of .result) (n (past (second (c .before)))) (lengths (c .before .before .before) .0)
+    (omega (arith, threshold-are (c .before))))
 
 returns-5 : tie.Need-returns-5
 returns-5 c = sym (last-test (c .before) true (c .if5 .taken))
@@ -131,4 +131,4 @@ returns-6 c = sym (last-test (c .before) false (c .if5 .left))
 
 pub restore-refusal-spec : {M : Type 1} → statement M
 restore-refusal-spec = tie.close (tie.spec (λ c κs. search needs) returns servers-of-requires (λ c κs. search needs) returns-2 (λ c κs. search needs)
-    returns-3 returns-4 shares-of-requires size-requires miscounted-requires returns-5 returns-6)
+    returns-3 returns-4 threshold-of-requires size-requires miscounted-requires returns-5 returns-6)

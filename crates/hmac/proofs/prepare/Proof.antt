@@ -1,6 +1,6 @@
 -- `hmac::prepare` meets its contract: the hash value after each of the key's blocks. Assumes nothing.
 use mathlib.Core.Path.{_≡_}
-use Rattle.hmac.specs.Hmac.{keyOf}
+use Rattle.hmac.specs.Hmac.{keyBlock}
 use Rattle.hmac.specs.PreparedKey.{preparedOf}
 use Rattle.hmac.proofs.Laws.{short-key}
 use borrow.Author.Needs.{needs}
@@ -11,7 +11,7 @@ returns : tie.Need-returns
 unfolding preparedOf
 returns c =
     let key = c .before .before .before .before .args .key in
-    let e : keyOf key ≡ key = short-key key (search needs) in
+    let e : keyBlock key ≡ key = short-key key (search needs) in
     cc
 
 pub prepare-spec : {M : Type 1} → statement M

@@ -1,6 +1,6 @@
 -- `client::answers::deliver` meets its contract, by those of the functions that it calls. Assumes nothing.
 use mathlib.Core.Path.{_∙_}
-use Rattle.protocol.proofs.Puts.{put-over}
+use Rattle.format.proofs.Puts.{put-over}
 use borrow.Author.Needs.{needs}
 use Rattle.client.proofs.answers.deliver.Statement.{statement}
 use Rattle.client.proofs.answers.deliver.Tie as tie

@@ -6,7 +6,7 @@ use mathlib.Core.List.{List}
 use Prim.Native.Nat.{ℕ, _≤_}
 use lib.ListN.{length, replicate, length-replicate}
 use Rattle.cluster.specs.Ranges.{contentRoom}
-use Rattle.protocol.specs.View.{part}
+use Rattle.format.specs.Reading.{bytesAt}
 use Rattle.protocol.proofs.Room.{shelf-fits}
 use Rattle.decide.specs.declared.Decision.the-variants as decisions
 use Rattle.decide.specs.Decided.{decided}
@@ -61,7 +61,7 @@ returns-4 c =
     ∙ judged-found (a .t) (a .call) (a .kept .now) (a .out .now) (d .0 .0) (d .0 .1 .0) (d .0 .1 .1 .0)
     (c .before .before .before .before .before .before .before .part .result .now) (sym
     (c .before .before .before .before .before .before .before .before .before .before .before .before .before .decide .ensures .0) ∙ d .1)
-    (c .before .before .before .before .before .before .before .part .ensures ∙ ap (λ (x : List ℕ). part x 0 (d .0 .1 .1 .0))
+    (c .before .before .before .before .before .before .before .part .ensures ∙ ap (λ (x : List ℕ). bytesAt x 0 (d .0 .1 .1 .0))
     (c .before .before .before .before .before .before .before .before .before .before .before .before .before .decide .ensures .1))
 
 pub judge-spec : {M : Type 1} → statement M

@@ -2,7 +2,7 @@
 use borrow.Author.Needs.{needs}
 use native.Mathlib.Omega.{arith}
 use mathlib.Core.Path.{_∙_}
-use Rattle.protocol.specs.View.{part}
+use Rattle.format.specs.Reading.{bytesAt}
 use Rattle.client.proofs.Repairs.{repair-put, name-fits, tags-fit}
 use Rattle.client.proofs.filter.put_repair.Statement.{statement}
 use Rattle.client.proofs.filter.put_repair.Tie as tie

@@ -7,8 +7,8 @@ use Prim.Native.Nat.{ℕ, _+_, _*_, _≤_}
 use lib.ListN.{length, replicate, length-replicate}
 use Rattle.cluster.specs.Config.{shelf}
 use Rattle.protocol.specs.Values.{candidateSize}
-use Rattle.protocol.specs.View.{part, candidateSlot}
-use Rattle.protocol.specs.ClientBytes.{put}
+use Rattle.protocol.specs.View.{candidateSlot}
+use Rattle.format.specs.Reading.{bytesAt, put}
 use Rattle.wire.proofs.Runs.{part-most}
 use Rattle.client.specs.Filter.{repairBytes}
 use Rattle.client.proofs.Repairs.{repair-cut}
@@ -41,9 +41,9 @@ returns c =
     (replicate candidateSlot 0) 0 R =
     c .before .before .before .before .before .before .before .before .before .before .before .before .before .put-repair .ensures in
     let l : length {A = ℕ} (replicate candidateSlot 0) ≡ candidateSlot = length-replicate {A = ℕ} candidateSlot 0 in
-    let k : part (c .before .before .before .before .before .before .before .before .before .before .before .before .before .put-repair .last .0) 0
+    let k : bytesAt (c .before .before .before .before .before .before .before .before .before .before .before .before .before .put-repair .last .0) 0
     (candidateSize (shelf (a .t))) ≡ R =
-    ap (λ (x : List ℕ). part x 0 (candidateSize (shelf (a .t)))) e
+    ap (λ (x : List ℕ). bytesAt x 0 (candidateSize (shelf (a .t)))) e
     ∙ repair-cut (a .t) (a .kept .now) (a .i) (a .b) (length (a .content .now)) (p .0) (p .1 .1 .1 .1 .0) (p .1 .0) (p .1 .1 .0) (p .1 .1 .1 .0)
     (p .1 .1 .1 .1 .1) (replicate candidateSlot 0) (omega (arith, l)) in (
       c .repairing .ensures,

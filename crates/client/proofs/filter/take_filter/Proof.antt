@@ -8,10 +8,10 @@ use mathlib.Core.Path.{_≡_, ap, _∙_, subst}
 use Prim.Native.Nat.{ℕ, _+_, _-_, _*_}
 use lib.ListN.{drop}
 use Rattle.protocol.specs.declared.Call.{Call}
-use Rattle.protocol.specs.Format.{Bytes}
+use Rattle.format.specs.Format.{Bytes}
 use Rattle.protocol.specs.Packet.{headSize}
-use Rattle.protocol.specs.View.{repliesAt, replySlot}
-use Rattle.protocol.specs.ClientBytes.{put}
+use Rattle.protocol.specs.View.{repliesPlace, replySlot}
+use Rattle.format.specs.Reading.{put}
 use Rattle.client.proofs.ReadyRanges.{ready-faults, ready-server}
 use Rattle.client.proofs.Tallies.{ends-by}
 use Rattle.client.proofs.FilterReplies.{body-fits, filter-more, filter-ends}
@@ -66,7 +66,7 @@ returns c =
     c .before .before .before .before .before .before .before .before .before .before .before .before .before .before .before .before .before
     .shared-slice-known .given k .fits in
     let e = ended (c .before .before .before .before .before .before .before .before) _ (c .before .before .before .before .before .before .before .if1 .taken) in
-    let at : ℕ = repliesAt + replySlot * (a .head .server - 1) in
+    let at : ℕ = repliesPlace + replySlot * (a .head .server - 1) in
     let N : Bytes (c .before .before .before .before .before .before .before .before .before .before .before .before .put-reply .last .0) = λ k.
     c .before .before .before .before .before .before .before .before .before .before .slice-known3 .given k .fits in
     let K : Bytes (put (a .kept .now) at (drop headSize (a .reply .now))) = subst Bytes

@@ -7,9 +7,10 @@ use Prim.Native.Nat.{ℕ, _≤_, _+_, _*_}
 use lib.ListN.{length}
 use borrow.Author.Tests.{not-true, not-false}
 use Rattle.cluster.specs.Config.{shelf}
-use Rattle.protocol.specs.Format.{Bytes}
+use Rattle.format.specs.Format.{Bytes}
 use Rattle.protocol.specs.Values.{candidateSize}
-use Rattle.protocol.specs.View.{part, candidatesAt, candidateSlot}
+use Rattle.protocol.specs.View.{candidatesPlace, candidateSlot}
+use Rattle.format.specs.Reading.{bytesAt}
 use Rattle.wire.proofs.Put.{placed-wrote}
 use Rattle.wire.proofs.Runs.{part-most}
 use Rattle.decide.specs.Listing.{listedIn}
@@ -34,8 +35,8 @@ returns-2 c =
     let e : listedIn (a .t) (a .kept .now) (a .i) ≡ true = sym (c .before .before .before .before .before .before .before .before .listed .ensures) ∙
     not-false (c .before .before .before .before .before .before .before .before .listed .result)
     (c .before .before .before .before .before .before .before .if1 .left) in
-    let D : List ℕ = part (a .kept .now) (candidatesAt + candidateSlot * a .i) candidateSlot in
-    let x : List ℕ = part D 0 (candidateSize (shelf (a .t))) in
+    let D : List ℕ = bytesAt (a .kept .now) (candidatesPlace + candidateSlot * a .i) candidateSlot in
+    let x : List ℕ = bytesAt D 0 (candidateSize (shelf (a .t))) in
     let l : length x ≤ candidateSlot = omega (arith, part-most D 0 (candidateSize (shelf (a .t))), p .0) in
     let q = rw (
       c .before .before .before .part2 .ensures,

@@ -3,12 +3,12 @@ use native.Mathlib.Omega.{arith}
 use mathlib.Core.Path.{_≡_}
 use Prim.Native.Nat.{_≤_, _-_, _*_}
 use Rattle.cluster.specs.Config.{shelf}
-use Rattle.protocol.specs.Format.{printMany}
+use Rattle.format.specs.Format.{printMany}
 use Rattle.protocol.specs.Packet.{candidateF}
-use Rattle.protocol.specs.Reading.{Wrote}
+use Rattle.format.specs.Reading.{Wrote}
 use Rattle.protocol.specs.Rules.{gather}
 use Rattle.protocol.specs.View.{candidatesIn, candidateSlot}
-use Rattle.protocol.proofs.Puts.{wrote-length}
+use Rattle.format.proofs.Puts.{wrote-length}
 use Rattle.client.proofs.ListBytes.{wrote-none, list-room, list-entry}
 use borrow.Author.Needs.{needs}
 use Rattle.client.proofs.Offered.{servers-few}

@@ -8,7 +8,8 @@ use lib.ListN.{length}
 use Rattle.cluster.specs.Config.{shelf}
 use Rattle.protocol.specs.Values.{candidateSize}
 use Rattle.protocol.specs.Packet.{headF, candidateF}
-use Rattle.protocol.specs.View.{part, chosenOf, chosenAt, candidateSlot, candidateAt}
+use Rattle.protocol.specs.View.{chosenOf, chosenPlace, candidateSlot, candidateAt}
+use Rattle.format.specs.Reading.{bytesAt}
 use Rattle.wire.proofs.Runs.{part-most}
 use Rattle.client.specs.Steps.{wholePacket}
 use Rattle.client.proofs.Printed.{packet-fits, candidate-back}
@@ -24,18 +25,18 @@ unfolding chosenOf shelf
 returns c =
     let a = c .before .before .before .before .before .before .before .before .before .before .args in
     let p = c .before .before .before .before .before .before .before .before .before .before .pre in
-    let D : List ℕ = part (a .kept .now) chosenAt candidateSlot in
-    let y = bytes-part (a .kept .now) chosenAt candidateSlot
+    let D : List ℕ = bytesAt (a .kept .now) chosenPlace candidateSlot in
+    let y = bytes-part (a .kept .now) chosenPlace candidateSlot
     (λ k. c .before .before .before .before .before .before .before .before .before .shared-slice-known .given k .fits) in
-    let l : length D ≡ candidateSlot = part-length (a .kept .now) chosenAt candidateSlot (omega (arith, p .1 .0)) in
-    let e : part D 0 (candidateSize (shelf (a .t))) ≡ candidateF (shelf (a .t)) .print (candidateAt (shelf (a .t)) D) = sym
+    let l : length D ≡ candidateSlot = part-length (a .kept .now) chosenPlace candidateSlot (omega (arith, p .1 .0)) in
+    let e : bytesAt D 0 (candidateSize (shelf (a .t))) ≡ candidateF (shelf (a .t)) .print (candidateAt (shelf (a .t)) D) = sym
     (candidate-back (shelf (a .t)) D y (omega (arith, l))) in
     let m = part-most D 0 (candidateSize (shelf (a .t))) in
     c .before .before .make-packet .ensures ∙ rw (
       c .before .before .before .before .before .part2 .ensures,
       c .before .before .before .before .before .before .before .part .ensures,
       c .before .before .before .before .before .before .candidate-size .ensures,
-    ) (packet-fits (a .head) (part D 0 (candidateSize (shelf (a .t)))) []
+    ) (packet-fits (a .head) (bytesAt D 0 (candidateSize (shelf (a .t)))) []
     (a .out .now) (p .1 .1) (omega (arith, m, p .0))
     ∙ ap (λ (x : List ℕ). wholePacket (headF .print (a .head) ++ (x ++ [])) (a .out .now)) e)
 

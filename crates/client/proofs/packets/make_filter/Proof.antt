@@ -4,7 +4,7 @@ use mathlib.Core.Path.{_≡_, _∙_}
 use mathlib.Core.List.{List}
 use lib.ListN.{length}
 use Rattle.cluster.specs.Config.{shelf}
-use Rattle.protocol.specs.Format.{printMany, via, seq, byte, many}
+use Rattle.format.specs.Format.{printMany, via, seq, byte, many}
 use Rattle.protocol.specs.Values.{Candidate}
 use Rattle.protocol.specs.Packet.{candidateF, candidatesF}
 use Rattle.protocol.specs.Rules.{gather}

@@ -6,10 +6,11 @@ use mathlib.Core.List.{List, _++_}
 use Prim.Native.Nat.{ℕ, _-_, _+_, _*_}
 use lib.ListN.{length}
 use Rattle.cluster.specs.Config.{shelf}
-use Rattle.protocol.specs.Format.{Bytes}
+use Rattle.format.specs.Format.{Bytes}
 use Rattle.protocol.specs.Values.{stampSize}
 use Rattle.protocol.specs.Packet.{headF, stampF}
-use Rattle.protocol.specs.View.{part, chosenOf, chosenAt, candidateSlot, candidateAt, stampAt, replySlotOf, repliesAt, replySlot}
+use Rattle.protocol.specs.View.{chosenOf, chosenPlace, candidateSlot, candidateAt, stampAt, replySlotOf, repliesPlace, replySlot}
+use Rattle.format.specs.Reading.{bytesAt}
 use Rattle.wire.specs.Places.{shareSize, lengthAt}
 use Rattle.wire.proofs.Runs.{part-most}
 use Rattle.client.specs.Steps.{wholePacket}
@@ -38,13 +39,13 @@ returns c =
     let K : Bytes (a .kept .now) = λ k.
     c .before .before .before .before .before .before .before .before .before .before .before .shared-slice-known .given k .fits in
     let i : ℕ = a .server - 1 in
-    let D : List ℕ = part (a .kept .now) chosenAt candidateSlot in
-    let E : List ℕ = part (a .kept .now) (repliesAt + replySlot * i) replySlot in
-    let ld : length D ≡ candidateSlot = part-length (a .kept .now) chosenAt candidateSlot (omega (arith, p .1 .1 .1 .0)) in
-    let le : length E ≡ replySlot = part-length (a .kept .now) (repliesAt + replySlot * i) replySlot
+    let D : List ℕ = bytesAt (a .kept .now) chosenPlace candidateSlot in
+    let E : List ℕ = bytesAt (a .kept .now) (repliesPlace + replySlot * i) replySlot in
+    let ld : length D ≡ candidateSlot = part-length (a .kept .now) chosenPlace candidateSlot (omega (arith, p .1 .1 .1 .0)) in
+    let le : length E ≡ replySlot = part-length (a .kept .now) (repliesPlace + replySlot * i) replySlot
     (omega (arith, p .1 .1 .1 .0, p .1 .1 .0, p .1 .0)) in
-    let s = stamp-bytes D (bytes-part (a .kept .now) chosenAt candidateSlot K) (omega (arith, ld)) in
-    let h = share-back (shelf (a .t)) E (bytes-part (a .kept .now) (repliesAt + replySlot * i) replySlot K) (omega (arith, le)) in
+    let s = stamp-bytes D (bytes-part (a .kept .now) chosenPlace candidateSlot K) (omega (arith, ld)) in
+    let h = share-back (shelf (a .t)) E (bytes-part (a .kept .now) (repliesPlace + replySlot * i) replySlot K) (omega (arith, le)) in
     let m = part-most D 0 stampSize in
     let n = part-short E (shareSize (shelf (a .t)) (lengthAt E)) in
     c .before .before .make-packet .ensures ∙ rw (
@@ -55,9 +56,9 @@ returns c =
       c .before .before .before .before .before .before .before .before .part2 .ensures,
       c .before .before .before .before .before .before .before .before .before .part .ensures,
     )
-    (packet-fits (a .head) (part D 0 stampSize) (part E 0 (shareSize (shelf (a .t)) (lengthAt E))) (a .out .now) (p .1 .1 .1 .1)
+    (packet-fits (a .head) (bytesAt D 0 stampSize) (bytesAt E 0 (shareSize (shelf (a .t)) (lengthAt E))) (a .out .now) (p .1 .1 .1 .1)
     (omega (arith, m, n, le))
-    ∙ (ap (λ (x : List ℕ). wholePacket (headF .print (a .head) ++ (x ++ part E 0 (shareSize (shelf (a .t)) (lengthAt E)))) (a .out .now)) (sym s)
+    ∙ (ap (λ (x : List ℕ). wholePacket (headF .print (a .head) ++ (x ++ bytesAt E 0 (shareSize (shelf (a .t)) (lengthAt E)))) (a .out .now)) (sym s)
     ∙ ap (λ (x : List ℕ). wholePacket (headF .print (a .head) ++ (stampF .print (stampAt D) ++ x)) (a .out .now)) (sym h)))
 
 pub make-store-spec : {M : Type 1} → statement M

@@ -3,7 +3,7 @@ use borrow.Author.Needs.{needs}
 use native.Mathlib.Omega.{arith}
 use mathlib.Core.Path.{_∙_}
 use Rattle.protocol.specs.Values.{stampSize, nonceSize}
-use Rattle.protocol.specs.View.{chosenAt}
+use Rattle.protocol.specs.View.{chosenPlace}
 use Rattle.client.proofs.ShareBytes.{three-puts}
 use Rattle.client.proofs.prepare.put_candidate.Statement.{statement}
 use Rattle.client.proofs.prepare.put_candidate.Tie as tie
@@ -26,7 +26,7 @@ returns c =
       c .before .before .before .before .before .before .write-at2 .ensures,
       c .before .before .before .before .before .before .before .before .before .before .write-at .ensures,
     )
-    (three-puts (a .kept .now) chosenAt stampSize nonceSize (a .stamp .now) (a .nonce .now) (a .tags .now) (p .1 .0) (p .1 .1 .0)
+    (three-puts (a .kept .now) chosenPlace stampSize nonceSize (a .stamp .now) (a .nonce .now) (a .tags .now) (p .1 .0) (p .1 .1 .0)
     (omega (arith, p .0, p .1 .1 .1)))
 
 pub put-candidate-spec : {M : Type 1} → statement M

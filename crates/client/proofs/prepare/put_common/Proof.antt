@@ -4,7 +4,7 @@ use native.Mathlib.Omega.{arith}
 use mathlib.Core.Path.{_≡_, _∙_}
 use lib.ListN.{length}
 use Rattle.protocol.specs.Values.{digestSize}
-use Rattle.protocol.proofs.Puts.{put-put}
+use Rattle.format.proofs.Puts.{put-put}
 use Rattle.client.proofs.prepare.put_common.Statement.{statement}
 use Rattle.client.proofs.prepare.put_common.Tie as tie
 

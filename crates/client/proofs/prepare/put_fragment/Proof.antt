@@ -11,7 +11,7 @@ use Rattle.erasure.specs.Fragments.{fragment, fragmentSize}
 use Rattle.erasure.specs.Steps.{fragmentStep}
 use Rattle.protocol.specs.Values.{digestSize}
 use Rattle.protocol.specs.Primitives.{real}
-use Rattle.protocol.specs.View.{part}
+use Rattle.format.specs.Reading.{bytesAt}
 use Rattle.client.proofs.ShareBytes.{fragment-cut, piece-length}
 use Rattle.client.proofs.prepare.put_fragment.Statement.{statement}
 use Rattle.client.proofs.prepare.put_fragment.Tie as tie
@@ -25,13 +25,13 @@ mul-write-at c =
     let a = c .before .before .before .before .before .before .before .before .before .args in
     let p = c .before .before .before .before .before .before .before .before .before .pre in
     let cut = fragment-cut (a .t) (a .i) (a .content .now) (p .0) (p .1 .0) (p .1 .1 .0) (p .1 .1 .1 .0) in
-    let size : ℕ = fragmentSize (shelf (a .t) .shares) (length (a .content .now)) in
+    let size : ℕ = fragmentSize (shelf (a .t) .threshold) (length (a .content .now)) in
     let e : c .before .before .before .before .before .fragment .result ≡ fragmentStep (a .t) (suc (a .i)) (a .content .now) =
     c .before .before .before .before .before .fragment .ensures ∙ ap (λ (k : ℕ). fragmentStep (a .t) k (a .content .now)) (add-one (a .i)) in
     let n : c .before .before .before .before .before .fragment .result .count ≡ size = ap (λ (x : FragmentOutcome). x .count) e ∙ cut .0 in
-    let q : part (c .before .before .before .before .before .fragment .result .bytes) 0
-    (c .before .before .before .before .before .fragment .result .count) ≡ fragment (shelf (a .t) .points) (shelf (a .t) .shares) (a .content .now)
-    (suc (a .i)) = ap (λ (x : FragmentOutcome). part (x .bytes) 0 (x .count)) e ∙ cut .1 in
+    let q : bytesAt (c .before .before .before .before .before .fragment .result .bytes) 0
+    (c .before .before .before .before .before .fragment .result .count) ≡ fragment (shelf (a .t) .points) (shelf (a .t) .threshold) (a .content .now)
+    (suc (a .i)) = ap (λ (x : FragmentOutcome). bytesAt (x .bytes) 0 (x .count)) e ∙ cut .1 in
     let m : c .before .before .before .before .before .fragment .result .count * a .i ≡ size * a .i = ap (λ (k : ℕ). k * a .i) n in
     let l = piece-length (a .t) (a .i) (a .content .now) (p .0) (p .1 .0) (p .1 .1 .0) (p .1 .1 .1 .0) in
     omega (arith, m, p .1 .1 .1 .1 .0)
@@ -41,18 +41,18 @@ write-at-requires c κs =
     let a = c .before .before .before .before .before .before .before .before .before .before .before .args in
     let p = c .before .before .before .before .before .before .before .before .before .before .before .pre in
     let cut = fragment-cut (a .t) (a .i) (a .content .now) (p .0) (p .1 .0) (p .1 .1 .0) (p .1 .1 .1 .0) in
-    let size : ℕ = fragmentSize (shelf (a .t) .shares) (length (a .content .now)) in
+    let size : ℕ = fragmentSize (shelf (a .t) .threshold) (length (a .content .now)) in
     let e : c .before .before .before .before .before .before .before .fragment .result ≡ fragmentStep (a .t) (suc (a .i)) (a .content .now) =
     c .before .before .before .before .before .before .before .fragment .ensures ∙ ap (λ (k : ℕ). fragmentStep (a .t) k (a .content .now))
     (add-one (a .i)) in
     let n : c .before .before .before .before .before .before .before .fragment .result .count ≡ size = ap (λ (x : FragmentOutcome). x .count) e ∙
     cut .0 in
-    let q : part (c .before .before .before .before .before .before .before .fragment .result .bytes) 0
-    (c .before .before .before .before .before .before .before .fragment .result .count) ≡ fragment (shelf (a .t) .points) (shelf (a .t) .shares)
-    (a .content .now) (suc (a .i)) = ap (λ (x : FragmentOutcome). part (x .bytes) 0 (x .count)) e ∙ cut .1 in
+    let q : bytesAt (c .before .before .before .before .before .before .before .fragment .result .bytes) 0
+    (c .before .before .before .before .before .before .before .fragment .result .count) ≡ fragment (shelf (a .t) .points) (shelf (a .t) .threshold)
+    (a .content .now) (suc (a .i)) = ap (λ (x : FragmentOutcome). bytesAt (x .bytes) 0 (x .count)) e ∙ cut .1 in
     let m : c .before .before .before .before .before .before .before .fragment .result .count * a .i ≡ size * a .i = ap (λ (k : ℕ). k * a .i) n in
     let l = piece-length (a .t) (a .i) (a .content .now) (p .0) (p .1 .0) (p .1 .1 .0) (p .1 .1 .1 .0) in
-    let k : length (part (c .before .before .before .before .before .before .before .fragment .result .bytes) 0
+    let k : length (bytesAt (c .before .before .before .before .before .before .before .fragment .result .bytes) 0
     (c .before .before .before .before .before .before .before .fragment .result .count)) ≡ size = ap length q ∙ l in
     rw (c .part2 .ensures) (omega (arith, m, k, p .1 .1 .1 .1 .0))
 
@@ -81,17 +81,17 @@ returns c =
     let p = c .before .before .before .before .before .before .before .before .before .before .before .before .before .before .before .before .before
     .before .before .pre in
     let cut = fragment-cut (a .t) (a .i) (a .content .now) (p .0) (p .1 .0) (p .1 .1 .0) (p .1 .1 .1 .0) in
-    let size : ℕ = fragmentSize (shelf (a .t) .shares) (length (a .content .now)) in
+    let size : ℕ = fragmentSize (shelf (a .t) .threshold) (length (a .content .now)) in
     let e : c .before .before .before .before .before .before .before .before .before .before .before .before .before .before .before .fragment
     .result ≡ fragmentStep (a .t) (suc (a .i)) (a .content .now) =
     c .before .before .before .before .before .before .before .before .before .before .before .before .before .before .before .fragment .ensures ∙ ap
     (λ (k : ℕ). fragmentStep (a .t) k (a .content .now)) (add-one (a .i)) in
     let n : c .before .before .before .before .before .before .before .before .before .before .before .before .before .before .before .fragment
     .result .count ≡ size = ap (λ (x : FragmentOutcome). x .count) e ∙ cut .0 in
-    let q : part (c .before .before .before .before .before .before .before .before .before .before .before .before .before .before .before .fragment
+    let q : bytesAt (c .before .before .before .before .before .before .before .before .before .before .before .before .before .before .before .fragment
     .result .bytes) 0 (c .before .before .before .before .before .before .before .before .before .before .before .before .before .before .before
-    .fragment .result .count) ≡ fragment (shelf (a .t) .points) (shelf (a .t) .shares) (a .content .now) (suc (a .i)) = ap
-    (λ (x : FragmentOutcome). part (x .bytes) 0 (x .count)) e ∙ cut .1 in
+    .fragment .result .count) ≡ fragment (shelf (a .t) .points) (shelf (a .t) .threshold) (a .content .now) (suc (a .i)) = ap
+    (λ (x : FragmentOutcome). bytesAt (x .bytes) 0 (x .count)) e ∙ cut .1 in
     let m : c .before .before .before .before .before .before .before .before .before .before .before .before .before .before .before .fragment
     .result .count * a .i ≡ size * a .i = ap (λ (k : ℕ). k * a .i) n in
     let l = piece-length (a .t) (a .i) (a .content .now) (p .0) (p .1 .0) (p .1 .1 .0) (p .1 .1 .1 .0) in (

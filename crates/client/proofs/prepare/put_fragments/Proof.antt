@@ -7,8 +7,8 @@ use lib.ListN.{length}
 use Rattle.cluster.specs.Config.{shelf}
 use Rattle.erasure.specs.Fragments.{fragmentSize}
 use Rattle.protocol.specs.Values.{runOf, digestSize}
-use Rattle.protocol.specs.ClientBytes.{put}
-use Rattle.protocol.proofs.Puts.{put-length}
+use Rattle.format.specs.Reading.{put}
+use Rattle.format.proofs.Puts.{put-length}
 use Rattle.client.specs.Steps.{fragmentRun, digestRun}
 use Rattle.client.proofs.StampBytes.{put-none}
 use Rattle.client.proofs.ShareBytes.{times-more, fragment-more, digest-more, fragments-room, digests-room}
@@ -53,7 +53,7 @@ lengths c =
 rooms : (c : tie.In-loop Inv-loop μ-loop)
     → let a = c .before .before .before .before .before .before .args in
     let i = c .before .loop .i in
-    (suc i ≤ shelf (a .t) .servers) × (fragmentSize (shelf (a .t) .shares) (length (a .content .now)) * i + fragmentSize (shelf (a .t) .shares)
+    (suc i ≤ shelf (a .t) .servers) × (fragmentSize (shelf (a .t) .threshold) (length (a .content .now)) * i + fragmentSize (shelf (a .t) .threshold)
     (length (a .content .now)) ≤ length (a .fragments .now))
     × (digestSize * i + digestSize ≤ length (a .digests .now))
 rooms c =
@@ -62,7 +62,7 @@ rooms c =
     let i = c .before .loop .i in
     let s : suc i ≤ shelf (a .t) .servers = omega (arith, c .loop-test .taken, c .before .before .servers .ensures) in (
       s,
-      omega (arith, times-more (fragmentSize (shelf (a .t) .shares) (length (a .content .now))) i (shelf (a .t) .servers) s, p .1 .1 .1 .0),
+      omega (arith, times-more (fragmentSize (shelf (a .t) .threshold) (length (a .content .now))) i (shelf (a .t) .servers) s, p .1 .1 .1 .0),
       omega (arith, times-more digestSize i (shelf (a .t) .servers) s, p .1 .1 .1 .1),
     )
 

@@ -4,7 +4,7 @@ use native.Mathlib.Omega.{arith}
 use mathlib.Core.Path.{_≡_, refl, _∙_}
 use Prim.Native.Nat.{_+_, _*_}
 use lib.ListN.{length}
-use Rattle.protocol.specs.View.{repliesAt, replySlot}
+use Rattle.protocol.specs.View.{repliesPlace, replySlot}
 use Rattle.client.proofs.ShareBytes.{three-puts}
 use Rattle.client.proofs.prepare.put_share.Statement.{statement}
 use Rattle.client.proofs.prepare.put_share.Tie as tie
@@ -44,7 +44,7 @@ returns c =
       c .before .before .before .before .before .before .write-at2 .ensures,
       c .before .before .before .before .before .before .before .before .before .before .write-at .ensures,
     )
-    (three-puts (a .kept .now) (repliesAt + replySlot * a .i) 2 (length (a .fragment .now)) (a .t3) (a .fragment .now) (a .common .now) z refl
+    (three-puts (a .kept .now) (repliesPlace + replySlot * a .i) 2 (length (a .fragment .now)) (a .t3) (a .fragment .now) (a .common .now) z refl
     (omega (arith, p .0, p .1 .0, p .1 .1)))
 
 pub put-share-spec : {M : Type 1} → statement M

@@ -5,7 +5,8 @@ use Prim.Native.Nat.{_<_}
 use native.Mathlib.Omega.{arith}
 use Rattle.hmac.specs.Hmac.{tagOf, tagSize}
 use Rattle.protocol.specs.Values.{sameList}
-use Rattle.protocol.specs.View.{part, stampAt}
+use Rattle.protocol.specs.View.{stampAt}
+use Rattle.format.specs.Reading.{bytesAt}
 use Rattle.client.proofs.StampBytes.{stays-low, raised, not-raised}
 use Rattle.client.proofs.stamps.higher.Statement.{statement}
 use Rattle.client.proofs.stamps.higher.Tie as tie
@@ -24,7 +25,7 @@ up c = rw (c .before .number4 .ensures) at (c .if1 .left)
 
 tags : (c : tie.After-same)
     → let a = c .before .before .before .before .before .before .before .before .before .args in c .same .result ≡ sameList
-    (part (a .body .now) 5 tagSize) (tagOf (a .writers .now) (part (a .body .now) 0 5))
+    (bytesAt (a .body .now) 5 tagSize) (tagOf (a .writers .now) (bytesAt (a .body .now) 0 5))
 tags c = c .same .ensures ∙ rw (
   c .before .before .part2 .ensures,
   c .before .before .before .tag .ensures,

@@ -7,8 +7,8 @@ use lib.ListN.{length}
 use Rattle.cluster.specs.Config.{shelf}
 use Rattle.hmac.specs.Hmac.{tagSize}
 use Rattle.protocol.specs.Values.{runOf}
-use Rattle.protocol.specs.ClientBytes.{put}
-use Rattle.protocol.proofs.Puts.{put-length}
+use Rattle.format.specs.Reading.{put}
+use Rattle.format.proofs.Puts.{put-length}
 use Rattle.client.specs.Steps.{tagRun}
 use Rattle.client.proofs.StampBytes.{put-none, tag-run-length, key-at, tag-more}
 use Rattle.cluster.specs.Ranges.{mostServers}

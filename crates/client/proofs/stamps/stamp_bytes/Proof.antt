@@ -6,7 +6,7 @@ use native.Mathlib.Omega.{arith}
 use lib.ListN.{length, replicate}
 use mathlib.Core.List.{List, _++_}
 use Rattle.hmac.specs.Hmac.{tagOf, tagSize}
-use Rattle.protocol.specs.ClientBytes.{put}
+use Rattle.format.specs.Reading.{put}
 use Rattle.protocol.specs.Primitives.{real, stampMessage}
 use Rattle.protocol.proofs.Primitive.{real-lengths}
 use Rattle.client.proofs.StampBytes.{two-puts}

@@ -7,7 +7,8 @@ use lib.ListN.{length, getD}
 use borrow.Author.Needs.{needs}
 use Rattle.cluster.specs.Config.{shelf}
 use Rattle.protocol.specs.Values.{stampSize}
-use Rattle.protocol.specs.View.{part, repliesAt, replySlot}
+use Rattle.protocol.specs.View.{repliesPlace, replySlot}
+use Rattle.format.specs.Reading.{bytesAt}
 use Rattle.decide.specs.Steps.{fragmentOf}
 use Rattle.decide.proofs.Restoring.{fragmentsRoom, Turn, fragments-room, turn, source-length, fragments-more}
 use Rattle.decide.proofs.content.fragments_of.Statement.{statement}
@@ -15,7 +16,7 @@ use Rattle.decide.proofs.content.fragments_of.Tie as tie
 
 abbrev Inv-loop : tie.InvT-loop
 Inv-loop kept t n servers f k out₀ p₀ out p =
-    (p ≤ k) × (length out ≡ fragmentsRoom) × ((q : ℕ) → q < p → part out (q * f) f ≡ fragmentOf kept f (getD servers q 0) .bytes)
+    (p ≤ k) × (length out ≡ fragmentsRoom) × ((q : ℕ) → q < p → bytesAt out (q * f) f ≡ fragmentOf kept f (getD servers q 0) .bytes)
 
 abbrev μ-loop : tie.MeasureT-loop
 μ-loop kept t n servers f k out₀ p₀ out p = k - p
@@ -23,14 +24,14 @@ abbrev μ-loop : tie.MeasureT-loop
 fragment-size-requires : tie.Need-fragment-size-requires Inv-loop μ-loop
 fragment-size-requires c κs = let p = c .before .pre in (p .0 .low, p .0 .high, p .1)
 
-shares-requires : tie.Need-shares-requires Inv-loop μ-loop
-shares-requires c κs = c .before .before .pre .0 .high
+threshold-requires : tie.Need-threshold-requires Inv-loop μ-loop
+threshold-requires c κs = c .before .before .pre .0 .high
 
 loop-holds : tie.Need-loop-holds Inv-loop μ-loop
 loop-holds c = (omega arith, refl, λ q l. absurd (omega arith))
 
 array-read-at : tie.Need-array-read-at Inv-loop μ-loop
-array-read-at c = omega (arith, c .before .before .shares .ensures .1, c .before .before .before .before .before .pre .0 .high)
+array-read-at c = omega (arith, c .before .before .threshold .ensures .1, c .before .before .before .before .before .pre .0 .high)
 
 -- what every number of a turn rests on, at the top of the loop's body
 fine : (c : tie.In-loop Inv-loop μ-loop)
@@ -41,15 +42,15 @@ fine c =
     let a = c .before .before .before .before .before .args in
     let p = c .before .before .before .before .before .pre in
     turn (a .t) (a .kept .now) (a .t4) (a .n) (p .0) (p .1) (p .2) (c .before .before .before .fragment-size .result) (c .before .loop .p)
-    (c .before .before .before .fragment-size .ensures) (omega (arith, c .before .before .shares .ensures .0))
+    (c .before .before .before .fragment-size .ensures) (omega (arith, c .before .before .threshold .ensures .0))
 
 copy-requires : tie.Need-copy-requires Inv-loop μ-loop
 copy-requires c κs =
     let a = c .before .before .before .before .before .before .before .args in
     let p = c .before .before .before .before .before .before .before .pre in
     let f = c .before .before .before .before .before .fragment-size in
-    let l : c .before .before .before .loop .p < shelf (a .t) .shares = omega (arith, c .before .before .before .before .shares .ensures .0) in
-    let at : ℕ = repliesAt + replySlot * (getD (a .t4) (c .before .before .before .loop .p) 0 - 1) + (stampSize + 3) in
+    let l : c .before .before .before .loop .p < shelf (a .t) .threshold = omega (arith, c .before .before .before .before .threshold .ensures .0) in
+    let at : ℕ = repliesPlace + replySlot * (getD (a .t4) (c .before .before .before .loop .p) 0 - 1) + (stampSize + 3) in
     omega (
       arith,
       source-length (a .t) (a .kept .now) (a .t4) (a .n) (p .0) (p .1) (p .2) (f .result) (c .before .before .before .loop .p) at (f .ensures) l refl,
@@ -62,9 +63,9 @@ loop-again c =
     let a = c .before .before .before .before .before .before .before .before .before .args in
     let p = c .before .before .before .before .before .before .before .before .before .pre in
     let v = c .before .before .before .before .before .loop .inv in
-    let l : c .before .before .before .before .before .loop .p < shelf (a .t) .shares = omega
-    (arith, c .before .before .before .before .before .before .shares .ensures .0) in
-    let at : ℕ = repliesAt + replySlot * (getD (a .t4) (c .before .before .before .before .before .loop .p) 0 - 1) + (stampSize + 3) in
+    let l : c .before .before .before .before .before .loop .p < shelf (a .t) .threshold = omega
+    (arith, c .before .before .before .before .before .before .threshold .ensures .0) in
+    let at : ℕ = repliesPlace + replySlot * (getD (a .t4) (c .before .before .before .before .before .loop .p) 0 - 1) + (stampSize + 3) in
     let w =
     fragments-more (a .t) (a .kept .now) (a .t4) (a .n) (p .0) (p .1) (p .2) (c .before .before .before .before .before .loop .out)
     (c .before .copy .last .0) (c .before .before .before .before .before .before .before .fragment-size .result)
@@ -80,12 +81,12 @@ returns c =
     record {
       long = omega (arith, fragments-room (a .t) (a .n) (p .0 .low) (p .0 .high) (p .1), c .before .loop .inv .1);
       each = λ q l. subst
-          (λ (f : ℕ). part (c .before .loop .out) (q * f) f ≡ fragmentOf (a .kept .now) f (getD (a .t4) q 0) .bytes) e
-          (c .before .loop .inv .2 q (omega (arith, c .before .before .shares .ensures .0)));
+          (λ (f : ℕ). bytesAt (c .before .loop .out) (q * f) f ≡ fragmentOf (a .kept .now) f (getD (a .t4) q 0) .bytes) e
+          (c .before .loop .inv .2 q (omega (arith, c .before .before .threshold .ensures .0)));
     }
 
 pub fragments-of-spec : {M : Type 1} → statement M
-fragments-of-spec = tie.close (tie.spec Inv-loop μ-loop fragment-size-requires shares-requires loop-holds (λ c. omega (arith, array-read-at c))
+fragments-of-spec = tie.close (tie.spec Inv-loop μ-loop fragment-size-requires threshold-requires loop-holds (λ c. omega (arith, array-read-at c))
     array-read-at (λ c. omega (arith, fine c)) (λ c. omega (arith, fine c)) (λ c. omega (arith, fine c)) (λ c. omega (arith, fine c)) (λ c. omega (arith, fine c))
     (λ c. search needs) (λ c. omega (arith, fine (c .before))) (λ c. omega (arith, fine (c .before))) (λ c. omega (arith, fine (c .before)))
     (λ c. omega (arith, fine (c .before))) (λ c. omega (arith, fine (c .before))) copy-requires

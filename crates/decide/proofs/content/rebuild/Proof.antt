@@ -23,8 +23,8 @@ size-of-requires c κs = let a = c .before .before .before .args in let p = c .b
 size : (kept : List ℕ) (b n : ℕ) → n ≡ sizeIn (lentSlot kept b) → n ≡ sizeIn (replySlotOf kept b)
 size kept b n e = e ∙ ap sizeIn (slot-lent kept b)
 
-shares-requires : tie.Need-shares-requires
-shares-requires c κs = c .before .before .before .before .pre .0 .high
+threshold-requires : tie.Need-threshold-requires
+threshold-requires c κs = c .before .before .before .before .pre .0 .high
 
 fragment-size-requires : tie.Need-fragment-size-requires
 fragment-size-requires c κs =
@@ -33,7 +33,7 @@ fragment-size-requires c κs =
     (p .0 .low, p .0 .high, omega (arith, p .2 .top, size (a .kept .now) (a .b) (c .before .size-of .result) (c .before .size-of .ensures)))
 
 -- the fragments' room, by what was read
-room : (t n k f : ℕ) → 1 ≤ t → t ≤ topFaults → n ≤ topLength → k ≡ shelf t .shares → f ≡ fragmentSize (shelf t .shares) n → k * f ≤ fragmentsRoom
+room : (t n k f : ℕ) → 1 ≤ t → t ≤ topFaults → n ≤ topLength → k ≡ shelf t .threshold → f ≡ fragmentSize (shelf t .threshold) n → k * f ≤ fragmentsRoom
 room t n k f l h m e q = rw (e, q) (fragments-room t n l h m)
 
 mul-end : tie.Need-mul-end
@@ -42,9 +42,9 @@ mul-end c =
     let p = c .before .before .before .before .before .before .pre in
     omega (
       arith,
-      room (a .t) (c .before .before .size-of .result) (c .before .shares .result) (c .fragment-size .result) (p .0 .low) (p .0 .high)
+      room (a .t) (c .before .before .size-of .result) (c .before .threshold .result) (c .fragment-size .result) (p .0 .low) (p .0 .high)
           (omega (arith, p .2 .top, size (a .kept .now) (a .b) (c .before .before .size-of .result) (c .before .before .size-of .ensures)))
-          (c .before .shares .ensures .0) (c .fragment-size .ensures),
+          (c .before .threshold .ensures .0) (c .fragment-size .ensures),
     )
 
 fragments-of-requires : tie.Need-fragments-of-requires
@@ -56,7 +56,7 @@ fragments-of-requires c κs =
 part-restore-end : tie.Need-part-restore-end
 part-restore-end c = omega (
   arith,
-  c .before .before .before .shares .ensures .1,
+  c .before .before .before .threshold .ensures .1,
   c .before .before .before .before .before .before .before .before .pre .0 .high,
   c .before .before .before .before .before .before .before .before .good .1 .1 .1 .0 .1 .0 .1,
 )
@@ -69,11 +69,11 @@ part-restore-end-2 c =
     omega (
       arith,
       c .before .before .before .fragments-of .ensures .long,
-      products (c .before .before .before .before .before .shares .result)
-          (shelf (c .before .before .before .before .before .before .before .before .before .before .args .t) .shares)
+      products (c .before .before .before .before .before .threshold .result)
+          (shelf (c .before .before .before .before .before .before .before .before .before .before .args .t) .threshold)
           (c .before .before .before .before .fragment-size .result) (fragmentSize (shelf
-          (c .before .before .before .before .before .before .before .before .before .before .args .t) .shares)
-          (c .before .before .before .before .before .before .size-of .result)) (c .before .before .before .before .before .shares .ensures .0)
+          (c .before .before .before .before .before .before .before .before .before .before .args .t) .threshold)
+          (c .before .before .before .before .before .before .size-of .result)) (c .before .before .before .before .before .threshold .ensures .0)
           (c .before .before .before .before .fragment-size .ensures),
     )
 
@@ -91,7 +91,7 @@ returns c =
     let p = c .before .before .before .before .before .before .before .before .before .before .before .before .before .before .before .pre in
     let n = size (a .kept .now) (a .b) (c .before .before .before .before .before .before .before .before .before .before .before .size-of .result)
     (c .before .before .before .before .before .before .before .before .before .before .before .size-of .ensures) in
-    let k = c .before .before .before .before .before .before .before .before .before .before .shares .ensures .0 in
+    let k = c .before .before .before .before .before .before .before .before .before .before .threshold .ensures .0 in
     let f = c .before .before .before .before .before .before .before .before .before .fragment-size .ensures in
     rebuilt (a .t) (a .kept .now) (a .t4) (c .before .before .before .before .before .before .before .before .before .before .before .size-of .result)
     (p .0) (omega (arith, p .2 .top, n)) (p .3) (a .b) (c .before .before .before .before .before .before .before .before .fragments-of .result)
@@ -101,14 +101,14 @@ returns c =
     .1) (c .before .before .before .before .before .before .before .before .fragments-of .ensures) (p .4)
     (c .before .before .restore .ensures
     ∙ lent (a .t) (c .before .before .before .before .before .before .before .before .before .before .before .size-of .result)
-    (c .before .before .before .before .before .before .before .before .before .before .shares .result) (shelf (a .t) .shares)
+    (c .before .before .before .before .before .before .before .before .before .before .threshold .result) (shelf (a .t) .threshold)
     (c .before .before .before .before .before .before .before .before .before .fragment-size .result)
-    (fragmentSize (shelf (a .t) .shares) (c .before .before .before .before .before .before .before .before .before .before .before .size-of .result))
+    (fragmentSize (shelf (a .t) .threshold) (c .before .before .before .before .before .before .before .before .before .before .before .size-of .result))
     (a .t4) (c .before .before .before .before .before .before .before .before .fragments-of .result) (a .out .now) k f)
 
 pub rebuild-spec : {M : Type 1} → statement M
 rebuild-spec = tie.close (tie.spec (λ c. omega (arith, c .before .before .pre .0 .size)) (λ c. omega (arith, c .before .before .pre .0 .size))
     (λ c. omega (arith, c .before .before .pre .0 .size)) (λ c. omega (arith, c .before .before .pre .0 .size))
-    (λ c. omega (arith, c .before .before .pre .0 .size)) (λ c. omega (arith, c .before .before .pre .0 .size)) size-of-requires shares-requires
+    (λ c. omega (arith, c .before .before .pre .0 .size)) (λ c. omega (arith, c .before .before .pre .0 .size)) size-of-requires threshold-requires
     fragment-size-requires mul-end fragments-of-requires (λ c. omega arith) (λ c. omega arith) part-restore-end (λ c. omega arith) (λ c. omega arith)
     part-restore-end-2 (λ c κs. search needs) (λ c. search needs) returns)

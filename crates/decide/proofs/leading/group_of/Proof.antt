@@ -34,8 +34,8 @@ members-of-requires c κs = let p = c .before .before .before .before .pre in (
       (c .before .fits2 .result) (c .if1 .left),
 )
 
-shares-requires : tie.Need-shares-requires
-shares-requires c κs = c .before .before .before .before .before .pre .0 .high
+threshold-requires : tie.Need-threshold-requires
+threshold-requires c κs = c .before .before .before .before .before .pre .0 .high
 
 returns-2 : tie.Need-returns-2
 returns-2 c =
@@ -47,16 +47,16 @@ returns-2 c =
       arith,
       c .before .if2 .taken,
       c .before .before .before .before .members-of .ensures .count,
-      c .before .before .before .shares .ensures .0,
+      c .before .before .before .threshold .ensures .0,
     )))
 
 returns-3 : tie.Need-returns-3
 returns-3 c =
     let a = c .before .before .before .before .before .before .before .before .before .args in
     let m = c .before .before .before .before .members-of .ensures in
-    let l : shelf (a .t) .shares ≤ length (membersAt (a .t) (a .marks) (a .kept .now) (a .i) (a .b)) = omega
-    (arith, c .before .if2 .left, m .count, c .before .before .before .shares .ensures .0) in
-    let k : shelf (a .t) .shares ≡ c .before .before .before .before .members-of .result .count = omega
+    let l : shelf (a .t) .threshold ≤ length (membersAt (a .t) (a .marks) (a .kept .now) (a .i) (a .b)) = omega
+    (arith, c .before .if2 .left, m .count, c .before .before .before .threshold .ensures .0) in
+    let k : shelf (a .t) .threshold ≡ c .before .before .before .before .members-of .result .count = omega
     (arith, l, m .count, members-most (a .t) (a .marks) (a .kept .now) (a .i) (a .b)) in
     slot-leads (a .t) (a .marks) (a .kept .now) (a .i) (a .b) _ (add-one (a .b))
     (leads-enough (a .t) (a .marks) (a .kept .now) (a .i) (a .b) (sym (c .before .before .before .before .before .before .fits2 .ensures) ∙ not-false
@@ -64,5 +64,5 @@ returns-3 c =
     (ap (λ (x : ℕ). take x (c .before .before .before .before .members-of .result .servers)) k ∙ m .these)
 
 pub group-of-spec : {M : Type 1} → statement M
-group-of-spec = tie.close (tie.spec fits-requires (λ c κs. search needs) returns members-of-requires shares-requires (λ c κs. search needs) returns-2
+group-of-spec = tie.close (tie.spec fits-requires (λ c κs. search needs) returns members-of-requires threshold-requires (λ c κs. search needs) returns-2
     (λ c. let p = c .before .before .before .before .before .before .before .before .before .pre in omega (arith, p .2, few (p .0))) returns-3)

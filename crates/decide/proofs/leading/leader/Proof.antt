@@ -7,7 +7,7 @@ use borrow.Author.Needs.{needs}
 use Rattle.cluster.specs.Config.{shelf}
 use Rattle.sha256.specs.Sha256.{sha256}
 use Rattle.protocol.specs.Values.{stampSize, digestSize}
-use Rattle.protocol.specs.View.{candidateSlot, candidatesAt}
+use Rattle.protocol.specs.View.{candidateSlot, candidatesPlace}
 use Rattle.decide.specs.Steps.{leaderAt}
 use Rattle.decide.proofs.Groups.{leader-none, leader-more}
 use Rattle.decide.proofs.Led.{no-group, first-leads}
@@ -35,7 +35,7 @@ group-of-requires c κs =
       p .1,
       omega (arith, c .before .before .before .servers .ensures .0),
       c .before .before .before .before .digest .ensures ∙ ap sha256
-          (part-of (a .kept .now) (candidatesAt + candidateSlot * a .i + stampSize) digestSize ∙ sym
+          (part-of (a .kept .now) (candidatesPlace + candidateSlot * a .i + stampSize) digestSize ∙ sym
           (nonce-in (shelf (a .t)) (a .kept .now) (a .i) (p .1))),
     )
 

@@ -24,17 +24,17 @@ abbrev μ-loop : tie.MeasureT-loop
 μ-loop kept marks t i d b s k out₀ n₀ j₀ out n j = s - j
 
 -- as many as are needed, and all of them
-enough : (t : ℕ) (marks kept : List ℕ) (i b : ℕ) (r : Members) (j : ℕ) → j ≤ shelf t .servers → shelf t .shares ≡ r .count
+enough : (t : ℕ) (marks kept : List ℕ) (i b : ℕ) (r : Members) (j : ℕ) → j ≤ shelf t .servers → shelf t .threshold ≡ r .count
     → r .count ≡ length (serversOf j (agreesAt t marks kept i b)) → take (r .count) (r .servers) ≡ serversOf j (agreesAt t marks kept i b) → MembersAs
     t marks kept i b r
 unfolding membersAt
 enough t marks kept i b r j h k e f =
-    let m : take (shelf t .shares) (serversOf (shelf t .servers) (agreesAt t marks kept i b)) ≡ serversOf j (agreesAt t marks kept i b) =
+    let m : take (shelf t .threshold) (serversOf (shelf t .servers) (agreesAt t marks kept i b)) ≡ serversOf j (agreesAt t marks kept i b) =
     ap (λ (x : ℕ). take x (serversOf (shelf t .servers) (agreesAt t marks kept i b))) (k ∙ e) ∙ servers-first (agreesAt t marks kept i b) j
     (shelf t .servers) h in
     record { count = e ∙ sym (ap length m); these = f ∙ sym m }
 
-every : (t : ℕ) (marks kept : List ℕ) (i b : ℕ) (r : Members) (j : ℕ) → j ≡ shelf t .servers → r .count ≤ shelf t .shares
+every : (t : ℕ) (marks kept : List ℕ) (i b : ℕ) (r : Members) (j : ℕ) → j ≡ shelf t .servers → r .count ≤ shelf t .threshold
     → r .count ≡ length (serversOf j (agreesAt t marks kept i b)) → take (r .count) (r .servers) ≡ serversOf j (agreesAt t marks kept i b) → MembersAs
     t marks kept i b r
 unfolding membersAt
@@ -42,16 +42,16 @@ every t marks kept i b r j h k e f =
     let q = serversOf (shelf t .servers) (agreesAt t marks kept i b) in
     let w : serversOf j (agreesAt t marks kept i b) ≡ serversOf (shelf t .servers) (agreesAt t marks kept i b) = ap
     (λ (x : ℕ). serversOf x (agreesAt t marks kept i b)) h in
-    let m : take (shelf t .shares) (serversOf (shelf t .servers) (agreesAt t marks kept i b)) ≡ serversOf (shelf t .servers)
+    let m : take (shelf t .threshold) (serversOf (shelf t .servers) (agreesAt t marks kept i b)) ≡ serversOf (shelf t .servers)
     (agreesAt t marks kept i b) =
-    take-all (shelf t .shares) (serversOf (shelf t .servers) (agreesAt t marks kept i b)) (omega (arith, ap length w, e, k)) in
+    take-all (shelf t .threshold) (serversOf (shelf t .servers) (agreesAt t marks kept i b)) (omega (arith, ap length w, e, k)) in
     record { count = e ∙ ap length w ∙ sym (ap length m); these = f ∙ w ∙ sym m }
 
 servers-requires : tie.Need-servers-requires Inv-loop μ-loop
 servers-requires c κs = c .before .before .pre .0 .high
 
-shares-requires : tie.Need-shares-requires Inv-loop μ-loop
-shares-requires c κs = c .before .before .before .pre .0 .high
+threshold-requires : tie.Need-threshold-requires Inv-loop μ-loop
+threshold-requires c κs = c .before .before .before .pre .0 .high
 
 loop-holds : tie.Need-loop-holds Inv-loop μ-loop
 unfolding serversOf
@@ -65,7 +65,7 @@ returns c =
     (c .before .before .loop .j)
     (omega (arith, c .before .before .before .before .servers .ensures .0)) (omega (
       arith,
-      c .before .before .before .shares .ensures .0,
+      c .before .before .before .threshold .ensures .0,
       c .if1 .taken,
     )) (v .3) (v .4)
 
@@ -74,7 +74,7 @@ array-write-out c = let v = c .before .before .loop .inv in omega (
   arith,
   v .1,
   v .2,
-  c .before .before .before .shares .ensures .1,
+  c .before .before .before .threshold .ensures .1,
   c .before .before .before .before .before .before .before .pre .0 .high,
 )
 
@@ -98,7 +98,7 @@ add-n c =
       c .agrees .ensures,
       bit-le
           (agreesAt (a .t) (a .marks) (a .kept .now) (a .i) (a .b) (suc (c .before .before .before .loop .j))),
-      c .before .before .before .before .shares .ensures .1,
+      c .before .before .before .before .threshold .ensures .1,
       c .before .before .before .before .before .before .before .before .pre .0 .high,
     )
 
@@ -114,7 +114,7 @@ loop-again c =
     let a = c .before .before .before .before .before .before .before .before .args in
     let v = c .before .before .before .loop .inv in
     let p = agreesAt (a .t) (a .marks) (a .kept .now) (a .i) (a .b) in
-    let k = c .before .before .before .before .shares .ensures .1 in
+    let k = c .before .before .before .before .threshold .ensures .1 in
     let w = servers-step p (c .before .before .before .loop .j) (c .before .before .before .loop .n) (c .before .before .before .loop .out) (v .3)
     (v .4) (omega (arith, v .1, v .2, k, c .before .before .before .before .before .before .before .before .pre .0 .high)) in (
       omega arith,
@@ -129,8 +129,8 @@ returns-2 c =
     let a = c .before .before .before .before .before .before .args in
     let v = c .before .loop .inv in
     every (a .t) (a .marks) (a .kept .now) (a .i) (a .b) (record { count = c .before .loop .n; servers = c .before .loop .out }) (c .before .loop .j)
-    (omega (arith, c .before .before .before .servers .ensures .0)) (omega (arith, v .1, c .before .before .shares .ensures .0)) (v .3) (v .4)
+    (omega (arith, c .before .before .before .servers .ensures .0)) (omega (arith, v .1, c .before .before .threshold .ensures .0)) (v .3) (v .4)
 
 pub members-of-spec : {M : Type 1} → statement M
-members-of-spec = tie.close (tie.spec Inv-loop μ-loop servers-requires shares-requires loop-holds returns (λ c. search needs) (λ c. search needs)
+members-of-spec = tie.close (tie.spec Inv-loop μ-loop servers-requires threshold-requires loop-holds returns (λ c. search needs) (λ c. search needs)
     array-write-out agrees-requires add-n add-j (λ c. omega arith) loop-again returns-2)

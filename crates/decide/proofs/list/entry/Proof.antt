@@ -9,10 +9,10 @@ use lib.Dec.{eqb}
 use borrow.Author.Needs.{needs}
 use borrow.Author.Tests.{eqb-true, eqb-false}
 use Rattle.cluster.specs.Config.{shelf}
-use Rattle.protocol.specs.Format.{Bytes}
+use Rattle.format.specs.Format.{Bytes}
 use Rattle.protocol.specs.Values.{sameCandidate, isBlank}
 use Rattle.protocol.specs.Rules.{fits}
-use Rattle.protocol.specs.View.{candidateSlot, candidatesAt, candidatesIn}
+use Rattle.protocol.specs.View.{candidateSlot, candidatesPlace, candidatesIn}
 use Rattle.decide.specs.Steps.{rankAt, blankRank}
 use Rattle.decide.proofs.Ranks.{low-rank, high-rank, candidate-rank, candidate-writer}
 use Rattle.decide.proofs.Gathered.{enters-blank, enters-twin, enters-new}
@@ -27,7 +27,7 @@ abbrev μ-loop : tie.MeasureT-loop
 μ-loop kept t i j₀ j = i - j
 
 -- the candidate's stamp, by what was read
-stamp : (t : ℕ) (kept : List ℕ) (i r : ℕ) → Bytes kept → i < 13 → r ≡ rankAt kept (candidatesAt + candidateSlot * i) → blankRank < r
+stamp : (t : ℕ) (kept : List ℕ) (i r : ℕ) → Bytes kept → i < 13 → r ≡ rankAt kept (candidatesPlace + candidateSlot * i) → blankRank < r
     → isBlank (candidatesIn (shelf t) kept (suc i) .stamp) ≡ false
 stamp t kept i r b h e l =
     high-rank (candidatesIn (shelf t) kept (suc i) .stamp) (candidate-writer (shelf t) kept b (suc i))

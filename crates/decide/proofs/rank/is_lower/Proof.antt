@@ -3,7 +3,7 @@ use Prim.Native.Nat.{_+_, _*_}
 use native.Mathlib.Omega.{arith}
 use borrow.Author.Needs.{needs}
 use borrow.Author.Tests.{lt-ltb, le-ltb, eq-eqb, ne-eqb}
-use Rattle.protocol.specs.View.{repliesAt, replySlot}
+use Rattle.protocol.specs.View.{repliesPlace, replySlot}
 use Rattle.decide.specs.Steps.{rankAt}
 use Rattle.decide.proofs.rank.is_lower.Statement.{statement}
 use Rattle.decide.proofs.rank.is_lower.Tie as tie
@@ -16,7 +16,7 @@ returns-2 c =
     let a = c .before .before .before .before .args in
     rw (
       ne-eqb (a .mark) 0 (c .before .before .if1 .left),
-      lt-ltb (rankAt (a .kept .now) (repliesAt + replySlot * a .j)) (a .key)
+      lt-ltb (rankAt (a .kept .now) (repliesPlace + replySlot * a .j)) (a .key)
           (omega (arith, c .before .rank-at .ensures)),
     )
 
@@ -25,7 +25,7 @@ returns-3 c =
     let a = c .before .before .before .before .args in
     rw (
       ne-eqb (a .mark) 0 (c .before .before .if1 .left),
-      le-ltb (rankAt (a .kept .now) (repliesAt + replySlot * a .j)) (a .key)
+      le-ltb (rankAt (a .kept .now) (repliesPlace + replySlot * a .j)) (a .key)
           (omega (arith, c .before .rank-at .ensures)),
     )
 

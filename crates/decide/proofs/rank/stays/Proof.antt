@@ -10,7 +10,7 @@ use borrow.Author.Needs.{needs}
 use Rattle.cluster.specs.Config.{shelf}
 use Rattle.cluster.specs.Ranges.{mostServers}
 use Rattle.protocol.specs.Rules.{countTo}
-use Rattle.protocol.specs.View.{repliesAt, replySlot, marked, repliesIn}
+use Rattle.protocol.specs.View.{repliesPlace, replySlot, marked, repliesIn}
 use Rattle.decide.specs.Steps.{bit, rankAt, ranksBelow, stays}
 use Rattle.decide.proofs.Ranks.{below-slot}
 use Rattle.protocol.proofs.Marks.{count-le}
@@ -59,7 +59,7 @@ add-n c =
       c .before .before .before .before .before .pre .high,
       c .before .before .before .servers .ensures .1,
       bit-le (not (eqb (getD (a .t2) (c .before .before .loop .j) 0) 0) && ltb (rankAt (a .kept .now)
-          (repliesAt + replySlot * c .before .before .loop .j)) (a .key)),
+          (repliesPlace + replySlot * c .before .before .loop .j)) (a .key)),
     )
 
 add-j : tie.Need-add-j Inv-loop μ-loop

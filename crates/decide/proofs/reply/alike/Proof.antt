@@ -8,7 +8,8 @@ use borrow.Author.Needs.{needs}
 use Rattle.cluster.specs.Config.{shelf}
 use Rattle.erasure.specs.Fragments.{fragmentSize}
 use Rattle.protocol.specs.Values.{sameList, digestSize, digestsSize, tagsSize}
-use Rattle.protocol.specs.View.{part, replySlot}
+use Rattle.protocol.specs.View.{replySlot}
+use Rattle.format.specs.Reading.{bytesAt}
 use Rattle.decide.proofs.Replies.{digestsIn, alike-not, alike-in}
 use Rattle.hmac.specs.Hmac.{tagSize}
 use Rattle.decide.proofs.reply.alike.Statement.{statement}
@@ -50,7 +51,7 @@ returns-2 c =
     let p = c .before .before .before .before .before .before .before .before .before .before .before .pre in
     let s = shelf (a .t) in
     let r = c .before .before .before .before .before .digests-at .ensures in
-    let z = ap (fragmentSize (shelf (a .t) .shares)) (c .before .before .before .before .before .before .before .before .size-of .ensures) in
+    let z = ap (fragmentSize (shelf (a .t) .threshold)) (c .before .before .before .before .before .before .before .before .size-of .ensures) in
     let at : ℕ = c .before .before .before .before .before .digests-at .result in
     let m : ℕ = c .before .before .before .before .servers .result in
     let o : ℕ = c .before .before .before .servers2 .result in
@@ -65,8 +66,8 @@ returns-2 c =
     ∙ c .before .before .before .before .before .before .before .before .size-of .ensures)
     (omega (arith, r .room, e, p .2)) (omega (arith, r .room, e, p .3)))
   where
-    cuts : (a b : List ℕ) (x y n m : ℕ) → x ≡ y → n ≡ m → sameList (take n (drop x a)) (take n (drop x b)) ≡ sameList (part a y m) (part b y m)
-    cuts a b x y n m e l = unfold part in rw (e, l)
+    cuts : (a b : List ℕ) (x y n m : ℕ) → x ≡ y → n ≡ m → sameList (take n (drop x a)) (take n (drop x b)) ≡ sameList (bytesAt a y m) (bytesAt b y m)
+    cuts a b x y n m e l = unfold bytesAt in rw (e, l)
 
 pub alike-spec : {M : Type 1} → statement M
 alike-spec = tie.close (tie.spec (λ c κs. search needs) (λ c κs. search needs) returns digests-at-requires servers-requires

@@ -9,7 +9,8 @@ use Rattle.cluster.specs.Config.{shelf}
 use Rattle.sha256.specs.Sha256.{sha256}
 use Rattle.erasure.specs.Fragments.{fragmentSize}
 use Rattle.protocol.specs.Values.{sameList, stampSize, digestSize}
-use Rattle.protocol.specs.View.{part, shareAt}
+use Rattle.protocol.specs.View.{shareAt}
+use Rattle.format.specs.Reading.{bytesAt}
 use Rattle.decide.proofs.Places.{part-of}
 use Rattle.decide.proofs.Replies.{sizeIn, digestsIn, fragment-handed, intact-in}
 use Rattle.decide.proofs.reply.intact.Statement.{statement}
@@ -29,19 +30,19 @@ returns : tie.Need-returns
 returns c =
     let a = c .before .before .before .before .before .before .before .before .before .args in
     let p = c .before .before .before .before .before .before .before .before .before .pre in
-    let F : ℕ = fragmentSize (shelf (a .t) .shares) (sizeIn (a .reply .now)) in
-    let z = ap (fragmentSize (shelf (a .t) .shares)) (c .before .before .before .before .before .before .before .size-of .ensures) in
+    let F : ℕ = fragmentSize (shelf (a .t) .threshold) (sizeIn (a .reply .now)) in
+    let z = ap (fragmentSize (shelf (a .t) .threshold)) (c .before .before .before .before .before .before .before .size-of .ensures) in
     let e : c .before .before .before .before .before .before .digests-at .result ≡ digestsIn (shelf (a .t)) (a .reply .now) = omega
     (arith, c .before .before .before .before .before .before .digests-at .ensures .place, z) in
     let handed = c .before .before .before .before .share-fragment .ensures
-    ∙ (ap (λ (d : List ℕ). shareAt (shelf (a .t)) d .part) (c .before .before .before .before .before .rest .ensures)
+    ∙ (ap (λ (d : List ℕ). shareAt (shelf (a .t)) d .fragment) (c .before .before .before .before .before .rest .ensures)
     ∙ fragment-handed (shelf (a .t)) (a .reply .now)) in
     let at : ℕ = c .before .before .before .before .before .before .digests-at .result + 32 * a .j in
     c .same .ensures
     ∙ ap (λ (x : List ℕ). sameList x (take (at + 32 - at) (drop at (a .reply .now))))
     (c .before .before .before .digest .ensures ∙ ap sha256 handed)
-    ∙ ap (sameList (sha256 (part (a .reply .now) (stampSize + 3) F)))
-    (part-of (a .reply .now) at digestSize ∙ ap (λ (k : ℕ). part (a .reply .now) (k + 32 * a .j) digestSize) e)
+    ∙ ap (sameList (sha256 (bytesAt (a .reply .now) (stampSize + 3) F)))
+    (part-of (a .reply .now) at digestSize ∙ ap (λ (k : ℕ). bytesAt (a .reply .now) (k + 32 * a .j) digestSize) e)
     ∙ sym (intact-in (shelf (a .t)) (a .reply .now) (p .3) (a .j) (p .4))
 
 pub intact-spec : {M : Type 1} → statement M

@@ -11,7 +11,8 @@ use Rattle.cluster.specs.Config.{shelf}
 use Rattle.erasure.specs.Fragments.{fragmentSize}
 use Rattle.protocol.specs.Values.{sameList, sameStamp, stampSize, digestSize, digestsSize}
 use Rattle.protocol.specs.Rules.{fits}
-use Rattle.protocol.specs.View.{part, stampAt, candidateAt}
+use Rattle.protocol.specs.View.{stampAt, candidateAt}
+use Rattle.format.specs.Reading.{bytesAt}
 use Rattle.decide.specs.Steps.{Full}
 use Rattle.decide.proofs.Places.{part-of, same-heads}
 use Rattle.decide.proofs.Replies.{digestsIn, names-none, names-short, names-long, names-other, names-last}
@@ -94,10 +95,10 @@ returns-5 c =
       c .before .before .before .digests-at .ensures .place,
       c .before .before .servers .ensures .0,
       ap
-          (fragmentSize (shelf (a .t) .shares)) (c .before .before .before .before .before .before .before .before .before .before .size-of .ensures),
+          (fragmentSize (shelf (a .t) .threshold)) (c .before .before .before .before .before .before .before .before .before .before .size-of .ensures),
     ) in
     c .same2 .ensures ∙ ap (λ (z : List ℕ). sameList z (a .d .now)) (part-of (a .reply .now) at digestSize ∙ ap
-    (λ (k : ℕ). part (a .reply .now) k digestSize) e)
+    (λ (k : ℕ). bytesAt (a .reply .now) k digestSize) e)
     ∙ sym (names-last (shelf (a .t)) (a .reply .now) (a .candidate .now) (a .d .now) f q)
 
 pub names-spec : {M : Type 1} → statement M

@@ -4,7 +4,7 @@ use Prim.Native.Nat.{_+_, _*_}
 use native.Mathlib.Omega.{arith}
 use lib.ListN.{length}
 use Rattle.cluster.specs.Config.{shelf}
-use Rattle.protocol.specs.View.{candidateSlot, candidatesAt}
+use Rattle.protocol.specs.View.{candidateSlot, candidatesPlace}
 use Rattle.decide.specs.Steps.{names, slotHeld}
 use Rattle.decide.proofs.Places.{part-length, part-of, candidate-in}
 use Rattle.decide.proofs.Replies.{lent-length, slot-lent}
@@ -18,8 +18,8 @@ names-requires c κs =
       p .0 .low,
       p .0 .high,
       lent-length (a .kept .now) (a .j) (p .0 .size) (p .2),
-      ap length (part-of (a .kept .now) (candidatesAt + candidateSlot * a .i) candidateSlot) ∙ part-length (a .kept .now)
-          (candidatesAt + candidateSlot * a .i) candidateSlot (omega (arith, p .0 .size)),
+      ap length (part-of (a .kept .now) (candidatesPlace + candidateSlot * a .i) candidateSlot) ∙ part-length (a .kept .now)
+          (candidatesPlace + candidateSlot * a .i) candidateSlot (omega (arith, p .0 .size)),
     )
 
 returns : tie.Need-returns

@@ -10,7 +10,8 @@ use borrow.Author.Tests.{le-leb, lt-leb}
 use Rattle.cluster.specs.Config.{shelf}
 use Rattle.cluster.specs.Ranges.{leastLength, topLength, mostServers}
 use Rattle.protocol.specs.Values.{sameList, stampSize, nonceSize, tagsSize, digestSize}
-use Rattle.protocol.specs.View.{part, candidateSlot, candidatesAt, repliesAt, replySlot, keptSize}
+use Rattle.protocol.specs.View.{candidateSlot, candidatesPlace, repliesPlace, replySlot, keptSize}
+use Rattle.format.specs.Reading.{bytesAt}
 use Rattle.decide.specs.Decided.{shareOf, sameTagsAt}
 use Rattle.decide.proofs.Places.{part-of, candidate-tags}
 use Rattle.decide.proofs.Replies.{reply-tags, sizeIn, lent-length, lentSlot, slot-lent, share-size}
@@ -27,8 +28,8 @@ size-of-requires c κs = let a = c .before .before .args in let p = c .before .b
 size : (t : ℕ) (kept : List ℕ) (j n : ℕ) → n ≡ sizeIn (lentSlot kept j) → n ≡ shareOf t kept (suc j) .size
 size t kept j n e = e ∙ ap sizeIn (slot-lent kept j) ∙ sym (share-size t kept j)
 
-both : (kept : List ℕ) (x y n m : ℕ) → n ≡ m → sameList (take (x + n - x) (drop x kept)) (take (y + n - y) (drop y kept)) ≡ sameList (part kept x m)
-    (part kept y m)
+both : (kept : List ℕ) (x y n m : ℕ) → n ≡ m → sameList (take (x + n - x) (drop x kept)) (take (y + n - y) (drop y kept)) ≡ sameList (bytesAt kept x m)
+    (bytesAt kept y m)
 both kept x y n m e = rw (part-of kept x n, part-of kept y n, e)
 
 returns : tie.Need-returns
@@ -81,7 +82,7 @@ returns-3 c =
     let n = c .before .before .before .before .before .before .before .size-of .result in
     let z = size (a .t) (a .kept .now) (a .j) (c .before .before .before .before .before .before .before .size-of .result)
     (c .before .before .before .before .before .before .before .size-of .ensures) in
-    let at : ℕ = repliesAt + replySlot * a .j + c .before .before .before .digests-at .result + 32 *
+    let at : ℕ = repliesPlace + replySlot * a .j + c .before .before .before .digests-at .result + 32 *
     c .before .before .before .before .servers .result + 32 in
     let w : ℕ = 32 * c .before .before .before .before .servers .result in
     let e : w ≡ tagsSize (shelf (a .t)) = omega (arith, c .before .before .before .before .servers .ensures .0) in
@@ -91,8 +92,8 @@ returns-3 c =
       le-leb (shareOf (a .t) (a .kept .now) (suc (a .j)) .size) topLength
           (omega (arith, c .before .before .before .before .before .if2 .left, z)),
     )
-    (c .same .ensures ∙ both (a .kept .now) at (candidatesAt + candidateSlot * a .i + (stampSize + nonceSize)) w (tagsSize (shelf (a .t))) e
-    ∙ ap (λ (x : List ℕ). sameList x (part (a .kept .now) (candidatesAt + candidateSlot * a .i + (stampSize + nonceSize)) (tagsSize (shelf (a .t)))))
+    (c .same .ensures ∙ both (a .kept .now) at (candidatesPlace + candidateSlot * a .i + (stampSize + nonceSize)) w (tagsSize (shelf (a .t))) e
+    ∙ ap (λ (x : List ℕ). sameList x (bytesAt (a .kept .now) (candidatesPlace + candidateSlot * a .i + (stampSize + nonceSize)) (tagsSize (shelf (a .t)))))
     (sym (reply-tags (a .t) (a .kept .now) (a .j) (c .before .before .before .before .before .before .before .size-of .result) at z
     (omega (arith, c .before .before .before .digests-at .ensures .place, c .before .before .before .before .servers .ensures .0))
     (omega (arith, c .before .before .before .digests-at .ensures .room, c .before .before .before .digests-at .ensures .place))))

@@ -1,7 +1,7 @@
 -- What stands at the client's place. Assumes nothing.
 use Rattle.drill.specs.Area.{callIn}
 use Rattle.state.specs.State.{callAt}
-use Rattle.protocol.specs.View.{part}
+use Rattle.format.specs.Reading.{bytesAt}
 use Prim.Native.Nat.{ℕ}
 use mathlib.Core.Path.{ap, _∙_}
 use borrow.Author.Needs.{needs}
@@ -10,7 +10,7 @@ use Rattle.drill.proofs.area.call_of.Tie as tie
 
 returns : tie.Need-returns
 unfolding callIn
-returns c = c .read .ensures ∙ ap callAt (c .before .part .ensures ∙ ap (λ (a : ℕ). part (c .before .before .before .before .args .work .now) a 29)
+returns c = c .read .ensures ∙ ap callAt (c .before .part .ensures ∙ ap (λ (a : ℕ). bytesAt (c .before .before .before .before .args .work .now) a 29)
     (c .before .before .client-at .ensures .0))
 
 pub call-of-spec : {M : Type 1} → statement M

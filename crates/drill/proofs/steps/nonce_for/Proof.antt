@@ -5,8 +5,8 @@ use native.Mathlib.Omega.{arith}
 use lib.ListN.{replicate}
 use borrow.Author.Needs.{needs}
 use Rattle.cluster.specs.Ranges.{keySize}
-use Rattle.protocol.specs.Format.{print4}
-use Rattle.protocol.specs.ClientBytes.{put}
+use Rattle.format.specs.Format.{print4}
+use Rattle.format.specs.Reading.{put}
 use Rattle.wire.proofs.Put.{placed-wrote}
 use Rattle.drill.specs.Steps.{nonceFor}
 use Rattle.drill.proofs.steps.nonce_for.Statement.{statement}

@@ -5,7 +5,7 @@ use native.Mathlib.Omega.{arith}
 use lib.ListN.{getD}
 use Rattle.gf256.specs.Gf.{times}
 use Rattle.erasure.specs.System.{entry}
-use Rattle.erasure.specs.Lanes.{lane, sumAt, Written}
+use Rattle.erasure.specs.Lanes.{lane, sumAt, RunWritten}
 use Rattle.erasure.proofs.Lists.{written-none, written-on, written-as}
 use Rattle.erasure.proofs.Sums.{sumTo-ext}
 use borrow.Author.Needs.{needs}
@@ -13,7 +13,7 @@ use Rattle.erasure.proofs.lanes.combine.Statement.{statement}
 use Rattle.erasure.proofs.lanes.combine.Tie as tie
 
 abbrev Inv-loop : tie.InvT-loop
-Inv-loop weights src starts k out₀ at m q₀ out q = (q ≤ m) × Written out₀ out at q (sumAt k weights src starts)
+Inv-loop weights src starts k out₀ at m q₀ out q = (q ≤ m) × RunWritten out₀ out at q (sumAt k weights src starts)
 
 abbrev μ-loop : tie.MeasureT-loop
 μ-loop weights src starts k out₀ at m q₀ out q = m - q
@@ -80,7 +80,7 @@ returns : tie.Need-returns Inv-loop μ-loop
 returns c =
     let l = c .before .loop in
     let args = c .before .before .before .before .args in
-    subst (λ (n : ℕ). Written (denote.Ref.now (args .out)) (l .out) (args .at) n (sumAt (args .k) (args .weights) (denote.Ref.now (args .src))
+    subst (λ (n : ℕ). RunWritten (denote.Ref.now (args .out)) (l .out) (args .at) n (sumAt (args .k) (args .weights) (denote.Ref.now (args .src))
     (args .starts))) (omega arith) (l .inv .1)
 
 pub combine-spec : {M : Type 1} → statement M

@@ -3,14 +3,14 @@ use mathlib.Core.Path.{refl, subst}
 use Prim.Native.Nat.{ℕ, _+_, _-_, _≤_}
 use native.Mathlib.Omega.{arith}
 use lib.ListN.{getD}
-use Rattle.erasure.specs.Lanes.{Written}
+use Rattle.erasure.specs.Lanes.{RunWritten}
 use Rattle.erasure.proofs.Lists.{written-none, written-more}
 use borrow.Author.Needs.{needs}
 use Rattle.erasure.proofs.lanes.copy.Statement.{statement}
 use Rattle.erasure.proofs.lanes.copy.Tie as tie
 
 abbrev Inv-loop : tie.InvT-loop
-Inv-loop src from out₀ at m i₀ out i = (i ≤ m) × Written out₀ out at i (λ j. getD src (from + j) 0)
+Inv-loop src from out₀ at m i₀ out i = (i ≤ m) × RunWritten out₀ out at i (λ j. getD src (from + j) 0)
 
 abbrev μ-loop : tie.MeasureT-loop
 μ-loop src from out₀ at m i₀ out i = m - i
@@ -32,7 +32,7 @@ returns : tie.Need-returns Inv-loop μ-loop
 returns c =
     let l = c .before .loop in
     let args = c .before .before .args in
-    subst (λ (n : ℕ). Written (denote.Ref.now (args .out)) (l .out) (args .at) n (λ j. getD (denote.Ref.now (args .src)) (args .from + j) 0))
+    subst (λ (n : ℕ). RunWritten (denote.Ref.now (args .out)) (l .out) (args .at) n (λ j. getD (denote.Ref.now (args .src)) (args .from + j) 0))
     (omega arith) (l .inv .1)
 
 pub copy-spec : {M : Type 1} → statement M

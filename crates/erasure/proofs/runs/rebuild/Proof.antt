@@ -9,7 +9,7 @@ use lib.Seq.{length-take-le}
 use mir.Val.{Fits}
 use mir.Syntax.{w8}
 use Rattle.erasure.specs.System.{width}
-use Rattle.erasure.specs.Lanes.{Written}
+use Rattle.erasure.specs.Lanes.{RunWritten}
 use Rattle.erasure.proofs.Lists.{written-none}
 use Rattle.erasure.proofs.Rebuilt.{byteOf, run-point, run-more, rebuilt}
 use Rattle.erasure.proofs.Standing.{places-stand, one-missing}
@@ -17,7 +17,7 @@ use Rattle.erasure.proofs.runs.rebuild.Statement.{statement}
 use Rattle.erasure.proofs.runs.rebuild.Tie as tie
 
 abbrev Inv-loop : tie.InvT-loop
-Inv-loop fragments k f n out₀ places a starts done₀ out done = (done ≤ n) × (done < n → done % f ≡ 0) × Written out₀ out 0 done
+Inv-loop fragments k f n out₀ places a starts done₀ out done = (done ≤ n) × (done < n → done % f ≡ 0) × RunWritten out₀ out 0 done
     (byteOf k f a places starts fragments)
 
 abbrev μ-loop : tie.MeasureT-loop
@@ -105,7 +105,7 @@ returns c =
     (start .pre .3) (omega (arith, long, start .pre .0)) (start .pre .4) points small (starts .ensures)
     (places-stand (args .k) (args .servers) (places .result) chosen (places .ensures))
     (λ i h past. a .ensures .solved (one-missing (args .k) (places .result) placed i h past))
-    (subst (λ (n : ℕ). Written old (l .out) 0 n (byteOf (args .k) (args .f) (a .result) (places .result) (starts .result) fragments)) (omega arith)
+    (subst (λ (n : ℕ). RunWritten old (l .out) 0 n (byteOf (args .k) (args .f) (a .result) (places .result) (starts .result) fragments)) (omega arith)
     (l .inv .2))
 
 pub rebuild-spec : {M : Type 1} → statement M

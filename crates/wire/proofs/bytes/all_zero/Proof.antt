@@ -5,7 +5,7 @@ use Prim.Native.Nat.{ℕ, _≤_, _+_, _-_}
 use native.Mathlib.Omega.{arith}
 use lib.ListN.{length, drop, length-drop}
 use lib.Seq.{take-all}
-use Rattle.protocol.specs.Format.{zeros}
+use Rattle.format.specs.Format.{zeros}
 use Rattle.wire.proofs.Joined.{chunk-zero, chunk-other}
 use Rattle.wire.proofs.bytes.all_zero.Statement.{statement}
 use Rattle.wire.proofs.bytes.all_zero.Tie as tie

@@ -6,7 +6,7 @@ use Prim.Native.Nat.{_≤_, _-_}
 use native.Mathlib.Omega.{arith}
 use lib.Dec.{eqb}
 use lib.ListN.{length, drop}
-use Rattle.protocol.specs.Format.{zeros}
+use Rattle.format.specs.Format.{zeros}
 use Rattle.wire.proofs.Joined.{zeros-more, zeros-end}
 use Rattle.wire.proofs.bytes.joined_zero.Statement.{statement}
 use Rattle.wire.proofs.bytes.joined_zero.Tie as tie

@@ -1,7 +1,7 @@
 -- An answer to a store is a byte up to 11 that is 0 or at least 10.
 -- Assumes nothing.
 use borrow.Author.Needs.{needs}
-use Rattle.protocol.proofs.Leaves.{stops-kept}
+use Rattle.format.proofs.Leaves.{stops-kept}
 use native.Mathlib.Omega.{arith}
 use Rattle.protocol.specs.Packet.{codeF}
 use Rattle.wire.proofs.Optional.{code-zero, code-high, code-stops}

@@ -7,7 +7,7 @@ use lib.ListN.{length, set, getD}
 use lib.Seq.{paste, paste-zero, paste-suc, length-paste}
 use native.Mathlib.Numerals.{add-one}
 use mathlib.Core.List.{List}
-use Rattle.protocol.proofs.Puts.{wrote-copy}
+use Rattle.format.proofs.Puts.{wrote-copy}
 use Rattle.wire.proofs.make.copy.Statement.{statement}
 use Rattle.wire.proofs.make.copy.Tie as tie
 

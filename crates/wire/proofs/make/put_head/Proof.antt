@@ -1,7 +1,7 @@
 -- A head is written as its eight bytes.
 -- Assumes nothing.
 use borrow.Author.Needs.{needs}
-use Rattle.protocol.specs.Format.{keep, via, seq, byte, number4}
+use Rattle.format.specs.Format.{keep, via, seq, byte, number4}
 use Rattle.protocol.specs.Packet.{headF}
 use Rattle.wire.proofs.make.put_head.Statement.{statement}
 use Rattle.wire.proofs.make.put_head.Tie as tie

@@ -23,7 +23,7 @@ returns-2 : tie.Need-returns-2
 returns-2 c = let s = c .before .before .before .before .before .before .before .before .args .packet .now in let h =
     c .before .before .before .before .head .given .0 .0 in fragment-read s h (rw (c .before .before .before .before .head .given .1) at
     (c .before .before .before .before .before .before .read-packet .ensures .1)) (c .share-fragment .ensures ∙ ap
-    (λ (d : List ℕ). shareAt (shelf (h .t)) d .part) (c .before .rest .ensures ∙ sym (drop-drop stampSize headSize s)) ∙ fragment-store (shelf (h .t))
+    (λ (d : List ℕ). shareAt (shelf (h .t)) d .fragment) (c .before .rest .ensures ∙ sym (drop-drop stampSize headSize s)) ∙ fragment-store (shelf (h .t))
     (drop headSize s) (h .kind) (omega arith))
 
 returns-3 : tie.Need-returns-3
@@ -45,7 +45,7 @@ returns-5 c = let s = c .before .before .before .before .before .before .before 
     c .before .before .before .before .before .before .before .head .given .0 .0 in fragment-read s h
     (rw (c .before .before .before .before .before .before .before .head .given .1) at
     (c .before .before .before .before .before .before .before .before .before .read-packet .ensures .1))
-    (c .share-fragment2 .ensures ∙ ap (λ (d : List ℕ). shareAt (shelf (h .t)) d .part)
+    (c .share-fragment2 .ensures ∙ ap (λ (d : List ℕ). shareAt (shelf (h .t)) d .fragment)
     (c .before .rest2 .ensures ∙ sym (drop-drop (stampSize + 1) headSize s)) ∙ fragment-present (shelf (h .t)) (drop headSize s) (h .kind)
     (omega arith) (λ e. c .before .before .if3 .left (c .before .before .before .byte-at .ensures ∙ sym (getD-drop headSize s stampSize 0) ∙ e)))
 

@@ -5,7 +5,7 @@ use native.Mathlib.Omega.{arith}
 use mathlib.Core.List.{List}
 use Prim.Native.Nat.{ℕ, _≤_}
 use Rattle.cluster.specs.Ranges.{topClient, mostServers, topFaults, topNumber}
-use Rattle.protocol.proofs.Leaves.{stops-first, stops-second, stops-via, stops-kept}
+use Rattle.format.proofs.Leaves.{stops-first, stops-second, stops-via, stops-kept}
 use Rattle.protocol.specs.Packet.{headF}
 use Rattle.wire.specs.Reads.{Took, byteL, number4L}
 use Rattle.wire.proofs.Heads.{head-took, head-outside, byte-range}

@@ -1,7 +1,8 @@
 -- The fragment stands after the length, which tells how long it is.
 -- Assumes nothing.
 use borrow.Author.Needs.{needs}
-use Rattle.protocol.specs.View.{part, shareAt, shareOfSize}
+use Rattle.protocol.specs.View.{shareAt, shareOfSize}
+use Rattle.format.specs.Reading.{bytesAt}
 use Rattle.wire.proofs.packet.share_fragment.Statement.{statement}
 use Rattle.wire.proofs.packet.share_fragment.Tie as tie
 

@@ -2,7 +2,7 @@
 -- Assumes nothing.
 use borrow.Author.Needs.{needs}
 use mathlib.Core.Logic.{⊎-elim}
-use Rattle.protocol.proofs.Leaves.{stops-short, stops-blank}
+use Rattle.format.proofs.Leaves.{stops-short, stops-blank}
 use native.Mathlib.Omega.{arith}
 use Rattle.protocol.specs.Packet.{anyStampF}
 use Rattle.wire.proofs.Through.{past-any-stamp, any-stamp-took, blank-stamp-took}

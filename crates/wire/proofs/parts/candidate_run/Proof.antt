@@ -6,7 +6,7 @@ use Prim.Native.Nat.{ℕ, _≤_, _-_, _*_}
 use native.Mathlib.Omega.{arith}
 use lib.ListN.{drop}
 use Rattle.cluster.specs.Config.{shelf}
-use Rattle.protocol.specs.Format.{many}
+use Rattle.format.specs.Format.{many}
 use Rattle.protocol.specs.Values.{candidateSize}
 use Rattle.protocol.specs.Packet.{candidateF}
 use Rattle.wire.specs.Places.{candidateList}

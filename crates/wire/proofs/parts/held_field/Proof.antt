@@ -5,7 +5,7 @@ use native.Mathlib.Omega.{arith}
 use mathlib.Core.List.{List}
 use Prim.Native.Nat.{ℕ}
 use Rattle.cluster.specs.Config.{Config, shelf}
-use Rattle.protocol.proofs.Leaves.{stops-first, stops-via}
+use Rattle.format.proofs.Leaves.{stops-first, stops-via}
 use Rattle.protocol.specs.Packet.{heldF}
 use Rattle.wire.specs.Reads.{Took, anyStampL, byteL}
 use Rattle.wire.proofs.Optional.{held-absent, held-present, held-flag-stops, held-share-stops}

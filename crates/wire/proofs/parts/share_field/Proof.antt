@@ -7,7 +7,7 @@ use Rattle.cluster.specs.Config.{Config, shelf}
 use Rattle.cluster.specs.Ranges.{leastLength, topLength}
 use Rattle.protocol.specs.Values.{digestSize, digestsSize, tagsSize}
 use Rattle.protocol.specs.Packet.{shareF}
-use Rattle.protocol.proofs.Leaves.{stops-first, stops-via}
+use Rattle.format.proofs.Leaves.{stops-first, stops-via}
 use Rattle.wire.specs.Reads.{Took, number2L}
 use Rattle.wire.proofs.Through.{Ran, Fragment, share-took, share-stops1, share-stops2, share-stops3, share-stops4}
 use Rattle.wire.proofs.parts.share_field.Statement.{statement}

@@ -4,7 +4,7 @@ use borrow.Author.Needs.{needs}
 use mathlib.Core.List.{List}
 use Prim.Native.Nat.{ℕ}
 use Rattle.cluster.specs.Ranges.{topNumber, topWriter}
-use Rattle.protocol.proofs.Leaves.{stops-first, stops-second, stops-via}
+use Rattle.format.proofs.Leaves.{stops-first, stops-second, stops-via}
 use Rattle.protocol.specs.Packet.{stampF}
 use Rattle.wire.specs.Reads.{Took, number4L, byteL}
 use Rattle.wire.proofs.Through.{stamp-took}

@@ -1,7 +1,7 @@
 -- A stored write is a stamp and a share.
 -- Assumes nothing.
 use borrow.Author.Needs.{needs}
-use Rattle.protocol.proofs.Leaves.{stops-first, stops-second, stops-via}
+use Rattle.format.proofs.Leaves.{stops-first, stops-second, stops-via}
 use Rattle.cluster.specs.Config.{shelf}
 use Rattle.protocol.specs.Packet.{writeF}
 use Rattle.wire.proofs.Through.{write-took}

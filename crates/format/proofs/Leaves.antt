@@ -10,8 +10,8 @@ use native.Mathlib.Omega.{arith}
 use lib.ListN.{length, take, drop, length-drop}
 use lib.Seq.{drop-drop}
 use borrow.Author.Tests.{le-leb, lt-leb}
-use Rattle.protocol.specs.Format.{Fmt, zeros, byte, seq, via, keep, orBlank, many, optional}
-use Rattle.protocol.specs.Reading.{Leaves, Stops}
+use Rattle.format.specs.Format.{Fmt, zeros, byte, seq, via, keep, orBlank, many, optional}
+use Rattle.format.specs.Reading.{Leaves, Stops}
 
 module _ {A B : Type 0} (F : Fmt A) (G : A → Fmt B) {s : List ℕ} {at : ℕ} where
   pub leaves-seq : {a : A} {b : B} {k n : ℕ} → Leaves F s at a k → Leaves (G a) s k b n → Leaves (seq F G) s at (a, b) n

@@ -11,10 +11,10 @@ use lib.ListN.{length, take, drop, replicate, take-append-drop, length-replicate
 use lib.Seq.{take-at, drop-at, length-take-le}
 use lib.Dec.{leb, eqb}
 use borrow.Author.Tests.{le-leb, leb-true, eqb-true, eqb-false}
-use Rattle.protocol.specs.Format.{Fmt, Lawful, Bytes, guard, andThen, zeros, parseBlank, orBlank, All, parseMany, printMany, many}
-use Rattle.protocol.specs.Format.{parseByte, printOptional, OkOptional, parsePresent, optional}
-use Rattle.protocol.proofs.Answers.{guard-some, same-value, same-rest, andThen-some, orElse-some, cond-some, bytes-rest, zeros-replicate, zeros-only}
-use Rattle.protocol.proofs.Formats.{byte-read}
+use Rattle.format.specs.Format.{Fmt, Lawful, Bytes, guard, andThen, zeros, parseBlank, orBlank, All, parseMany, printMany, many}
+use Rattle.format.specs.Format.{parseByte, printOptional, OkOptional, parsePresent, optional}
+use Rattle.format.proofs.Answers.{guard-some, same-value, same-rest, andThen-some, orElse-some, cond-some, bytes-rest, zeros-replicate, zeros-only}
+use Rattle.format.proofs.Formats.{byte-read}
 
 -- ---- n zeros for the blank value
 

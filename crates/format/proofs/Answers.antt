@@ -10,7 +10,7 @@ use lib.ListN.{length, drop, replicate}
 use lib.Seq.{drop-at, getD-drop}
 use lib.Dec.{leb, eqb}
 use borrow.Author.Tests.{leb-true, eqb-true}
-use Rattle.protocol.specs.Format.{Bytes, guard, ranged, andThen, orElse, zeros, whole, atEnd}
+use Rattle.format.specs.Format.{Bytes, guard, ranged, andThen, orElse, zeros, whole, atEnd}
 use Rattle.cluster.proofs.Tests.{and-both}
 
 -- ---- tests

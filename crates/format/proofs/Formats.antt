@@ -10,9 +10,9 @@ use lib.ListN.{length, take, drop, take-append-drop, length-append}
 use lib.Seq.{take-at, drop-at, length-take-le}
 use lib.Dec.{leb}
 use borrow.Author.Tests.{le-leb, leb-true}
-use Rattle.protocol.specs.Format.{Fmt, Lawful, Bytes, guard, andThen, parseByte, parse2, parse4, value2, value4, print2, print4}
-use Rattle.protocol.specs.Format.{empty, byte, number2, number4, run, seq, via, keep}
-use Rattle.protocol.proofs.Answers.{guard-some, ranged-some, no-some, same-value, same-rest, andThen-some, bytes-rest}
+use Rattle.format.specs.Format.{Fmt, Lawful, Bytes, guard, andThen, parseByte, parse2, parse4, value2, value4, print2, print4}
+use Rattle.format.specs.Format.{empty, byte, number2, number4, run, seq, via, keep}
+use Rattle.format.proofs.Answers.{guard-some, ranged-some, no-some, same-value, same-rest, andThen-some, bytes-rest}
 
 -- ---- one byte from lo to hi
 

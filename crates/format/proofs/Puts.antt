@@ -7,9 +7,7 @@ use native.Mathlib.Omega.{arith}
 use native.Mathlib.Numerals.{add-one}
 use lib.ListN.{length, take, drop, set, length-append, length-drop}
 use lib.Seq.{length-take-le, take-at, drop-append-add, drop-drop, set-split, paste, take-length}
-use Rattle.protocol.specs.ClientBytes.{put}
-use Rattle.protocol.specs.ServerBytes.{over}
-use Rattle.protocol.specs.Reading.{Wrote}
+use Rattle.format.specs.Reading.{put, over, Wrote}
 
 pub put-length : (d : List ℕ) (at : ℕ) (b : List ℕ) → at + length b ≤ length d → length (put d at b) ≡ length d
 unfolding put

@@ -11,32 +11,31 @@ use lib.Dec.{ltb}
 use lib.ListN.{length, take, drop, replicate, take-append-drop, length-append, length-drop}
 use lib.Seq.{drop-at, length-take-le, drop-drop, drop-append-add, take-append-add, take-append-le, drop-append-le}
 use borrow.Author.Tests.{ltb-true, ltb-false}
-use Rattle.protocol.specs.View.{part}
-use Rattle.protocol.specs.ClientBytes.{put}
+use Rattle.format.specs.Reading.{bytesAt, put}
 
 take-past : (b x : List ℕ) (n : ℕ) → length b ≤ n → take n (b ++ x) ≡ b ++ take (n - length b) x
 take-past b x n h =
     let e : n ≡ length b + (n - length b) = omega arith in
     ap (λ (k : ℕ). take k (b ++ x)) e ∙ take-append-add b x (n - length b)
 
-nothing-more : (d b : List ℕ) (p : ℕ) → b ++ part d p (length b - length b) ≡ b
-unfolding part
+nothing-more : (d b : List ℕ) (p : ℕ) → b ++ bytesAt d p (length b - length b) ≡ b
+unfolding bytesAt
 nothing-more d b p = let e : length b - length b ≡ 0 = omega arith in rw e (append-nil b)
 
 module _ (d : List ℕ) (at : ℕ) (b : List ℕ) (fits : at + length b ≤ length d) where
   -- from the place on: the bytes put, then what was there
-  pub part-put : (n : ℕ) → length b ≤ n → part (put d at b) at n ≡ b ++ part d (at + length b) (n - length b)
-  unfolding part put
+  pub part-put : (n : ℕ) → length b ≤ n → bytesAt (put d at b) at n ≡ b ++ bytesAt d (at + length b) (n - length b)
+  unfolding bytesAt put
   part-put n h =
       ap (take n) (drop-at (take at d) (b ++ drop (at + length b) d) at (length-take-le at d (omega arith)))
       ∙ take-past b (drop (at + length b) d) n h
 
   -- the bytes put and no more
-  pub part-same : part (put d at b) at (length b) ≡ b
+  pub part-same : bytesAt (put d at b) at (length b) ≡ b
   part-same = part-put (length b) (omega arith) ∙ nothing-more d b (at + length b)
 
-  pub part-below : (p n : ℕ) → p + n ≤ at → part (put d at b) p n ≡ part d p n
-  unfolding part put
+  pub part-below : (p n : ℕ) → p + n ≤ at → bytesAt (put d at b) p n ≡ bytesAt d p n
+  unfolding bytesAt put
   part-below p n h =
       let L : List ℕ = take at d in
       let l : length L ≡ at = length-take-le at d (omega arith) in
@@ -44,8 +43,8 @@ module _ (d : List ℕ) (at : ℕ) (b : List ℕ) (fits : at + length b ≤ leng
       λ y. ap (take n) (drop-append-le p L y (omega arith)) ∙ take-append-le n (drop p L) y (omega (arith, length-drop p L)) in
       cut (b ++ drop (at + length b) d) ∙ sym (cut (drop at d)) ∙ ap (λ (z : List ℕ). take n (drop p z)) (take-append-drop at d)
 
-  pub part-above : (p n : ℕ) → at + length b ≤ p → part (put d at b) p n ≡ part d p n
-  unfolding part put
+  pub part-above : (p n : ℕ) → at + length b ≤ p → bytesAt (put d at b) p n ≡ bytesAt d p n
+  unfolding bytesAt put
   part-above p n h =
       let X : List ℕ = take at d ++ b in
       let Y : List ℕ = drop (at + length b) d in
@@ -58,12 +57,12 @@ module _ (d : List ℕ) (at : ℕ) (b : List ℕ) (fits : at + length b ≤ leng
       ap (λ (z : List ℕ). take n (drop p z)) (sym (append-assoc (take at d) b Y)) ∙ ap (take n) f
 
   -- another place is not touched
-  pub part-other : (p n : ℕ) → (p + n ≤ at) ⊎ (at + length b ≤ p) → part (put d at b) p n ≡ part d p n
+  pub part-other : (p n : ℕ) → (p + n ≤ at) ⊎ (at + length b ≤ p) → bytesAt (put d at b) p n ≡ bytesAt d p n
   part-other p n (inl k) = part-below p n k
   part-other p n (inr k) = part-above p n k
 
-  pub part-inside : (j n : ℕ) → j + n ≤ length b → part (put d at b) (at + j) n ≡ part b j n
-  unfolding part put
+  pub part-inside : (j n : ℕ) → j + n ≤ length b → bytesAt (put d at b) (at + j) n ≡ bytesAt b j n
+  unfolding bytesAt put
   part-inside j n h =
       let Y : List ℕ = drop (at + length b) d in
       ap (take n)
@@ -83,8 +82,8 @@ drop-zeros zero n = let e : n ≡ n - 0 = omega arith in ap (λ (k : ℕ). repli
 drop-zeros (suc p) zero = let e : 0 ≡ 0 - suc p = omega arith in ap (λ (k : ℕ). replicate k 0) e
 drop-zeros (suc p) (suc n) = let e : n - p ≡ suc n - suc p = omega arith in drop-zeros p n ∙ ap (λ (k : ℕ). replicate k 0) e
 
-pub part-zeros : (n p m : ℕ) → p + m ≤ n → part (replicate n 0) p m ≡ replicate m 0
-unfolding part
+pub part-zeros : (n p m : ℕ) → p + m ≤ n → bytesAt (replicate n 0) p m ≡ replicate m 0
+unfolding bytesAt
 part-zeros n p m h = ap (take m) (drop-zeros p n) ∙ take-zeros m (n - p) (omega arith)
 
 -- ---- slots of w bytes from a place on

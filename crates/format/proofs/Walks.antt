@@ -10,9 +10,9 @@ use native.Mathlib.Numerals.{add-one}
 use native.Mathlib.Nat.{suc-inj}
 use lib.ListN.{length, drop, length-append, length-drop}
 use lib.Seq.{drop-drop, drop-at}
-use Rattle.protocol.specs.Format.{Fmt, Lawful, Bytes, All, andThen, parseMany, many}
-use Rattle.protocol.specs.Reading.{Leaves, Stops}
-use Rattle.protocol.proofs.Answers.{andThen-some, same-value, same-rest, bytes-drop}
+use Rattle.format.specs.Format.{Fmt, Lawful, Bytes, All, andThen, parseMany, many}
+use Rattle.format.specs.Reading.{Leaves, Stops}
+use Rattle.format.proofs.Answers.{andThen-some, same-value, same-rest, bytes-drop}
 
 -- F reads something there, or nothing
 pub record Reads {A : Type 0} (F : Fmt A) (s : List ℕ) (at : ℕ) : Type 0 where

@@ -1,0 +1,4 @@
+// How values stand in bytes: the definitions stand in specs/, their laws in proofs/.
+pub struct Nothing {
+    pub nothing: u8,
+}
