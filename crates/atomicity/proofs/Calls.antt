@@ -66,16 +66,17 @@ module _ (K : Setup) where
 
   -- ---- a call of the log, with its stamp
 
-  -- the mark of a write that began after t steps, with content v and stamp σ
-  pub record Own (xs : Steps K) (t : ℕ) (v : List ℕ) (σ : Stamp) : Type 0 where
+  -- the mark of client c's write that began after t steps, with content v and stamp σ
+  pub record Own (xs : Steps K) (c t : ℕ) (v : List ℕ) (σ : Stamp) : Type 0 where
     pub write : Stamped
+    pub client-is : write .client ≡ c
     pub content-is : write .content ≡ v
     pub stamp-is : write .stamp ≡ σ
     pub since-when : MarkAt write t xs
 
-  pub record WriteOf (xs : Steps K) (t : ℕ) (v : List ℕ) (σ : Stamp) : Type 0 where
+  pub record WriteOf (xs : Steps K) (c t : ℕ) (v : List ℕ) (σ : Stamp) : Type 0 where
     pub floor : (b : Stamp) (e : ℕ) → Ends K b e xs → e < t → b .number < σ .number
-    pub own : Own xs t v σ
+    pub own : Own xs c t v σ
 
   -- the write had shown its nonce when a step was done that e steps came before
   abbrev pub ShownBy : ℕ → Stamped → Steps K → Type 0
@@ -95,7 +96,7 @@ module _ (K : Setup) where
     pub begun-lt : a .begun < length xs
     pub number-le : a .number ≤ calls K xs (a .client)
     pub ended : (e : ℕ) → a .over ≡ some e → (a .begun < e) × (e < length xs) × Ends K σ e xs
-    pub write : (v : List ℕ) → a .wrote ≡ some v → isSome (a .reached) ≡ true → WriteOf xs (a .begun) v σ
+    pub write : (v : List ℕ) → a .wrote ≡ some v → isSome (a .reached) ≡ true → WriteOf xs (a .client) (a .begun) v σ
     pub read : (e : ℕ) → a .wrote ≡ none → a .over ≡ some e → Read xs a e σ
     pub reaches : (v : List ℕ) (e : ℕ) → a .wrote ≡ some v → a .over ≡ some e → isSome (a .reached) ≡ true
     pub reach-lt : (k : ℕ) → a .reached ≡ some k → k < length xs
@@ -112,7 +113,7 @@ module _ (K : Setup) where
   pub record Writing (xs : Steps K) (a : Logged) (σ : Stamp) (d : Candidate) : Type 0 where
     pub content : List ℕ
     pub content-is : a .wrote ≡ some content
-    pub own : Own xs (a .begun) content σ
+    pub own : Own xs (a .client) (a .begun) content σ
     pub hand-is : d .stamp ≡ σ
 
   unfoldable pub Cur : Steps K → Logged → Stamp → Hand → Type 0
@@ -130,14 +131,15 @@ module _ (K : Setup) where
 
   -- ---- what lasts
 
-  own-up : (x : StepOf K) (xs : Steps K) (t : ℕ) (v : List ℕ) (σ : Stamp) → Own xs t v σ → Own (x ∷ xs) t v σ
+  own-up : (x : StepOf K) (xs : Steps K) (c t : ℕ) (v : List ℕ) (σ : Stamp) → Own xs c t v σ → Own (x ∷ xs) c t v σ
   unfolding Ever
-  own-up x xs t v σ o =
-      record { write = o .write; content-is = o .content-is; stamp-is = o .stamp-is; since-when = inr (o .since-when) }
+  own-up x xs c t v σ o =
+      record { write = o .write; client-is = o .client-is; content-is = o .content-is; stamp-is = o .stamp-is; since-when = inr (o .since-when) }
 
-  pub written-up : (x : StepOf K) (xs : Steps K) (t : ℕ) (v : List ℕ) (σ : Stamp) → t < length xs → WriteOf xs t v σ → WriteOf (x ∷ xs) t v σ
-  written-up x xs t v σ l w =
-      record { floor = λ b e k m. w .floor b e (ends-back x xs b e k (omega (arith, l, m))) m; own = own-up x xs t v σ (w .own) }
+  pub written-up : (x : StepOf K) (xs : Steps K) (c t : ℕ) (v : List ℕ) (σ : Stamp) → t < length xs → WriteOf xs c t v σ
+      → WriteOf (x ∷ xs) c t v σ
+  written-up x xs c t v σ l w =
+      record { floor = λ b e k m. w .floor b e (ends-back x xs b e k (omega (arith, l, m))) m; own = own-up x xs c t v σ (w .own) }
 
   pub base-up : (x : StepOf K) (xs : Steps K) (a : Logged) (σ : Stamp) → calls K xs (a .client) ≤ calls K (x ∷ xs) (a .client) → Base xs a σ →
       Base (x ∷ xs) a σ
@@ -146,7 +148,7 @@ module _ (K : Setup) where
     begun-lt = omega (arith, h .begun-lt);
     number-le = omega (arith, h .number-le, l);
     ended = λ e q. let r = h .ended e q in (r .0, omega (arith, r .1), inr (r .2));
-    write = λ v p q. written-up x xs (a .begun) v σ (h .begun-lt) (h .write v p q);
+    write = λ v p q. written-up x xs (a .client) (a .begun) v σ (h .begun-lt) (h .write v p q);
     read = λ e p q. let r = h .read e p q in
         record { floor = λ b i k m. r .floor b i (ends-back x xs b i k (omega (arith, m, h .begun-lt))) m; value = go e (r .value) };
     reaches = h .reaches;
@@ -170,7 +172,7 @@ module _ (K : Setup) where
   writing-up x xs a σ d h = record {
     content = h .content;
     content-is = h .content-is;
-    own = own-up x xs (a .begun) (h .content) σ (h .own);
+    own = own-up x xs (a .client) (a .begun) (h .content) σ (h .own);
     hand-is = h .hand-is;
   }
 

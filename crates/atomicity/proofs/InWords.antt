@@ -3,13 +3,14 @@
 -- correct replies.
 -- Assumes nothing.
 use mathlib.Core.Path.{_≡_, refl, sym, ap, _∙_, subst}
-use mathlib.Core.Bool.{true, false, cond}
+use mathlib.Core.Bool.{Bool, true, false, cond}
 use mathlib.Core.List.{List, [], _∷_}
 use mathlib.Core.Option.{Option, none, some}
 use mathlib.Core.Logic.{_⊎_, inl, inr}
-use Prim.Native.Nat.{ℕ, zero, suc, _+_, _≤_}
+use Prim.Native.Nat.{ℕ, zero, suc, _+_, _≤_, _<_}
 use native.Mathlib.Omega.{arith}
-use borrow.Author.Tests.{eq-eqb}
+use lib.Dec.{eqb}
+use borrow.Author.Tests.{eq-eqb, ltb-true}
 use Rattle.cluster.specs.Config.{Legal}
 use Rattle.cluster.proofs.Legal.{legal-shelf}
 use Rattle.protocol.specs.Values.{isSome}
@@ -22,15 +23,30 @@ use Rattle.atomicity.specs.Lists.{Always, Once, In, AllPairs}
 use Rattle.atomicity.specs.Steps.{StepIn, System}
 use Rattle.atomicity.specs.Premises.{Correct, Parties, Premise}
 use Rattle.atomicity.specs.Claim.{InTime, Logged, before, holds, Replay, Answered, Progress, systemOf, OneOrder}
-use Rattle.atomicity.specs.Page41.{Version, versions, NeverOlder, Ended, Page41, Page41Of}
-use Rattle.atomicity.proofs.Util.{no-some, unfalse, clash, or-cases, all-in}
+use Rattle.atomicity.specs.Page41.{Version, versions, NeverOlder, earlierOwn, Superseded, Ended, Page41, Page41Of}
+use Rattle.atomicity.proofs.Util.{no-some, unfalse, clash, and-left, and-right, or-cases, all-in}
 use Rattle.atomicity.proofs.Model.{Laws, account}
 use Rattle.atomicity.proofs.Setup.{Setup, Steps, Fair, hand, calls}
 use Rattle.atomicity.proofs.Shape.{Log}
 use Rattle.atomicity.proofs.Settled.{Settled, all-settled}
 use Rattle.atomicity.proofs.OneServer.{known-call, progress}
+use Rattle.atomicity.proofs.Ordering.{InTurn}
 use Rattle.atomicity.proofs.Safety.{ordered}
 use Rattle.atomicity.proofs.Real.{real-laws}
+
+-- ---- what it says that a write is an earlier one of the same client
+
+own-less : (a b : Logged) → earlierOwn a b ≡ true → a ≡ b → ⊥
+unfolding earlierOwn
+own-less a b e q = omega (
+  arith,
+  ltb-true (a .begun) (b .begun) (and-right (isSome (b .wrote)) _ (and-right (isSome (a .wrote)) _ (and-right (eqb (a .client) (b .client)) _ e))),
+  ap (λ (z : Logged). z .begun) q,
+)
+
+own-wrote : (a b : Logged) → earlierOwn a b ≡ true → isSome (b .wrote) ≡ true
+unfolding earlierOwn
+own-wrote a b e = and-left (isSome (b .wrote)) _ (and-right (isSome (a .wrote)) _ (and-right (eqb (a .client) (b .client)) _ e))
 
 -- ---- versions along an order
 
@@ -53,6 +69,29 @@ rising n m (c ∷ cs) t a r (inr i) (inl q) b = clash (subst (λ (z : Logged). b
     (all-in (λ x. before x c ≡ false) cs (t .0) (a .call) (version-in (n + cond (isSome (c .wrote)) 1 0) (holds m (c .wrote)) cs a i .0))
 rising n m (c ∷ cs) t a r (inr i) (inr j) b = rising (n + cond (isSome (c .wrote)) 1 0) (holds m (c .wrote)) cs (t .1) a r i j b
 
+-- a write's version is newer than those before it
+newer : (n : ℕ) (m : Option (List ℕ)) (cs : List Logged) (v : Version) → In v (versions n m cs) → isSome (v .call .wrote) ≡ true → n < v .number
+unfolding versions In
+newer n m [] v i w = absurd i
+newer n m (c ∷ cs) v (inl e) w = omega (
+  arith,
+  ap (λ (z : Version). z .number) e,
+  ap {B = ℕ} (λ (b : Bool). cond b 1 0) (ap (λ (z : Version). isSome (z .call .wrote)) (sym e) ∙ w),
+)
+newer n m (c ∷ cs) v (inr i) w = omega (arith, newer (n + cond (isSome (c .wrote)) 1 0) (holds m (c .wrote)) cs v i w)
+
+-- a client's later write has a newer version than its earlier ones
+turned : (n : ℕ) (m : Option (List ℕ)) (cs : List Logged) → InTurn cs → (a b : Version) → In a (versions n m cs) →
+    In b (versions n m cs) → earlierOwn (a .call) (b .call) ≡ true → isSome (b .call .wrote) ≡ true → a .number < b .number
+unfolding versions In AllPairs
+turned n m [] t a b i j e w = absurd i
+turned n m (c ∷ cs) t a b (inl p) (inl q) e w = absurd (own-less (a .call) (b .call) e (ap (λ (z : Version). z .call) (p ∙ sym q)))
+turned n m (c ∷ cs) t a b (inl p) (inr j) e w =
+    omega (arith, ap (λ (z : Version). z .number) p, newer (n + cond (isSome (c .wrote)) 1 0) (holds m (c .wrote)) cs b j w)
+turned n m (c ∷ cs) t a b (inr i) (inl q) e w = clash (subst (λ (z : Logged). earlierOwn (a .call) z ≡ true) (ap (λ (z : Version). z .call) q) e)
+    (all-in (λ x. earlierOwn x c ≡ false) cs (t .0) (a .call) (version-in (n + cond (isSome (c .wrote)) 1 0) (holds m (c .wrote)) cs a i .0))
+turned n m (c ∷ cs) t a b (inr i) (inr j) e w = turned (n + cond (isSome (c .wrote)) 1 0) (holds m (c .wrote)) cs (t .1) a b i j e w
+
 -- a read gives the content of its version
 shown : (n : ℕ) (m : Option (List ℕ)) (cs : List Logged) → Replay m cs → (r : Version) → In r (versions n m cs) → r .call .wrote ≡ none →
     r .call .answer ≡ r .content
@@ -69,6 +108,14 @@ shown n m (c ∷ cs) h r (inr i) w = shown (n + cond (isSome (c .wrote)) 1 0) (h
 pub never-older : (cs : List Logged) (o : OneOrder cs) → NeverOlder (o .order)
 unfolding NeverOlder
 never-older cs o r i = (shown 0 none (o .order) (o .legal) r i, λ a j b. rising 0 none (o .order) (o .time) a r j i b)
+
+pub superseded : (cs : List Logged) (o : OneOrder cs) → InTurn (o .order) → Superseded (o .order)
+unfolding Superseded
+superseded cs o t a b r i j k e l = omega (
+  arith,
+  turned 0 none (o .order) t a b i j e (own-wrote (a .call) (b .call) e),
+  rising 0 none (o .order) (o .time) b r j k l,
+)
 
 -- ---- a call has ended
 
@@ -112,7 +159,13 @@ unfolding byValues
 on-values s legal laws correct parties l fair =
     let K : Setup = record { s = s; legal = legal; laws = laws; correct = correct; parties = parties } in
     let o = ordered K l fair in
-    record { one = o .0; older = never-older (Log K l) (o .0); sourced = o .1; ended = ended K l fair }
+    record {
+      one = o .0;
+      older = never-older (Log K l) (o .0);
+      sourced = o .1 .0;
+      superseded = superseded (Log K l) (o .0) (o .1 .1);
+      ended = ended K l fair;
+    }
 
 pub page-41 : Page41
 unfolding Page41

@@ -8,9 +8,9 @@ use mathlib.Core.Option.{Option, none, some}
 use mathlib.Core.Logic.{_⊎_, inl, inr}
 use Prim.Native.Nat.{ℕ, _≤_}
 use Rattle.protocol.specs.Rules.{keep}
-use Rattle.atomicity.specs.Page41.{Sourced}
+use Rattle.atomicity.specs.Page41.{earlierOwn, Sourced}
 use Rattle.atomicity.specs.Lists.{All, In, AllPairs, Perm, nil, skip, swap, trans}
-use Rattle.atomicity.specs.Claim.{InTime, Logged, before, counted, holds, Replay, OneOrder}
+use Rattle.atomicity.specs.Claim.{Logged, before, counted, holds, Replay, OneOrder}
 use Rattle.atomicity.proofs.Util.{no-some, all-in, all-map, in-map}
 use Rattle.atomicity.proofs.Sorting.{sort, perm-sort, all-sort, sort-sorted}
 use Rattle.cluster.proofs.Tests.{untrue}
@@ -40,6 +40,10 @@ perm-map f (trans p q) = trans (perm-map f p) (perm-map f q)
 -- the complete round of call w had begun when call c ended
 abbrev pub ReachedBy : Logged → Logged → Type 0
 ReachedBy w c = (n : ℕ) × (e : ℕ) × (w .reached ≡ some n) × (c .over ≡ some e) × (n ≤ e)
+
+-- no write stands ahead of one that its client had begun before it
+abbrev pub InTurn : List Logged → Type 0
+InTurn order = AllPairs (λ a b. earlierOwn b a ≡ false) order
 
 module _ {A : Type 0} (call : A → Logged) (less : A → A → Bool)
     (chain : (a b c : A) → less a b ≡ true → less b c ≡ true → less a c ≡ true)
@@ -115,16 +119,17 @@ module _ {A : Type 0} (call : A → Logged) (less : A → A → Bool)
       go none e f g = (λ q. mine q (h c (inl refl) q), f e)
       go (some v) e f g = (λ q. absurd (no-some (sym q ∙ e)), g v e)
 
-  pub timely : (cs : List A) → ((a b : A) → In a cs → In b cs → before (call a) (call b) ≡ true → less a b ≡ true) →
-      Sorted cs → InTime (map call cs)
+  -- where a relation goes with the order, whoever stands ahead in a sorted list does not come after by it
+  pub timely : (R : Logged → Logged → Bool) (cs : List A) → ((a b : A) → In a cs → In b cs → R (call a) (call b) ≡ true → less a b ≡ true) →
+      Sorted cs → AllPairs (λ a b. R b a ≡ false) (map call cs)
   unfolding Sorted AllPairs In All
-  timely [] t s = tt
-  timely (c ∷ cs) t s = (each cs (λ x i. i) (s .0), timely cs (λ a b i j. t a b (inr i) (inr j)) (s .1))
+  timely R [] t s = tt
+  timely R (c ∷ cs) t s = (each cs (λ x i. i) (s .0), timely R cs (λ a b i j. t a b (inr i) (inr j)) (s .1))
     where
-      each : (xs : List A) → ((x : A) → In x xs → In x cs) → All (λ x. less c x ≡ true) xs → All (λ x. before x (call c) ≡ false) (map call xs)
+      each : (xs : List A) → ((x : A) → In x xs → In x cs) → All (λ x. less c x ≡ true) xs → All (λ x. R x (call c) ≡ false) (map call xs)
       each [] sub h = tt
       each (x ∷ xs) sub h = (
-        untrue (before (call x) (call c)) (λ b. asym c x (h .0) (t x c (inr (sub x (inl refl))) (inl refl) b)),
+        untrue (R (call x) (call c)) (λ b. asym c x (h .0) (t x c (inr (sub x (inl refl))) (inl refl) b)),
         each xs (λ y i. sub y (inr i)) (h .1),
       )
 
@@ -195,21 +200,25 @@ module _ {A : Type 0} (call : A → Logged) (less : A → A → Bool)
           move w (inr (inl e)) = inl (inl e)
           move w (inr (inr i)) = inr i
 
-  -- the one order, from four facts about the calls that count
+  -- the one order, from five facts about the calls that count
   pub one-order : (cs : List A) →
       AllPairs (λ a b. (less a b ≡ true) ⊎ (less b a ≡ true)) (count-in cs) →
       ((a b : A) → In a (count-in cs) → In b (count-in cs) → before (call a) (call b) ≡ true → less a b ≡ true) →
-      Reads none (count-in cs) → Sources (count-in cs) → (o : OneOrder (map call cs)) × Sourced [] (o .order)
+      ((a b : A) → In a (count-in cs) → In b (count-in cs) → earlierOwn (call a) (call b) ≡ true → less a b ≡ true) →
+      Reads none (count-in cs) → Sources (count-in cs) → (o : OneOrder (map call cs)) × (Sourced [] (o .order) × InTurn (o .order))
   unfolding Sorted
-  one-order cs apart fits reads sources =
+  one-order cs apart fits turns reads sources =
       let xs = count-in cs in
       let o = sort-sorted less chain xs apart in (
         record {
           order = map call (sort less xs);
           exact = subst (Perm (map call (sort less xs))) (sym (keep-call cs)) (perm-map call (perm-sort less xs));
-          time = timely (sort less xs) (λ a b i j. fits a b (from-sort xs a i) (from-sort xs b j)) o;
+          time = timely before (sort less xs) (λ a b i j. fits a b (from-sort xs a i) (from-sort xs b j)) o;
           legal = replays none (sort less xs) o (reads-sort none xs reads);
         },
-        sourced [] (sort less xs) o
-            (λ r i v w a. let k = sources r (from-sort xs r i) v w a in (k .0, inr (into-sort xs (k .0) (k .1)), k .2, k .3, k .4)),
+        (
+          sourced [] (sort less xs) o
+              (λ r i v w a. let k = sources r (from-sort xs r i) v w a in (k .0, inr (into-sort xs (k .0) (k .1)), k .2, k .3, k .4)),
+          timely earlierOwn (sort less xs) (λ a b i j. turns a b (from-sort xs a i) (from-sort xs b j)) o,
+        ),
       )

@@ -9,33 +9,35 @@ use mathlib.Core.Option.{Option, none, some}
 use mathlib.Core.Logic.{_⊎_, inl, inr}
 use Prim.Native.Nat.{ℕ, _≤_, _<_, suc}
 use native.Mathlib.Omega.{arith}
-use lib.Dec.{ltb}
+use lib.Dec.{ltb, eqb}
 use lib.ListN.{length}
-use borrow.Author.Tests.{ltb-true, ltb-false, lt-ltb}
+use native.Mathlib.Nat.{le-trans}
+use borrow.Author.Tests.{eqb-true, ltb-true, ltb-false, lt-ltb}
 use Rattle.protocol.specs.declared.Stamp.{Stamp}
 use Rattle.protocol.specs.Values.{isSome}
 use Rattle.protocol.specs.Rules.{keep}
+use Rattle.format.proofs.Answers.{at-cond}
 use Rattle.atomicity.proofs.Genuine.{Revealed}
-use Rattle.atomicity.specs.Page41.{Sourced}
+use Rattle.atomicity.specs.Page41.{earlierOwn, Sourced}
 use Rattle.atomicity.specs.Lists.{Ever, In, AllPairs}
 use Rattle.atomicity.specs.Steps.{Stamped}
 use Rattle.atomicity.specs.Claim.{Logged, endedBy, before, counted, OneOrder}
 use Rattle.atomicity.proofs.Util.{bool-case, clash, and-left, and-right, and-intro, or-cases, or-right, keep-in, in-keep, keep-pairs}
 use Rattle.atomicity.proofs.Util.{all-map, is-some, no-some}
 use Rattle.atomicity.proofs.Stamps.{le-view}
-use Rattle.atomicity.proofs.Setup.{Setup, Steps, Fair}
+use Rattle.atomicity.proofs.Setup.{Setup, Steps, Fair, calls}
 use Rattle.atomicity.proofs.Positions.{since}
 use Rattle.atomicity.proofs.Marks.{mark-num, mark-who, mark-source}
 use Rattle.atomicity.proofs.Rising.{above}
 use Rattle.atomicity.proofs.Nonces.{by-nonce}
-use Rattle.atomicity.proofs.Calls.{MarkAt, mark-at, Grounded, ShownBy}
+use Rattle.atomicity.proofs.Calls.{MarkAt, mark-at, since-length, Grounded, ShownBy}
 use Rattle.atomicity.proofs.Shape.{Log}
 use Rattle.atomicity.proofs.Logs.{Signed}
 use Rattle.atomicity.proofs.Story.{story, story-log, story-pairs}
 use Rattle.atomicity.proofs.Shown.{Counts, shown-then}
 use Rattle.atomicity.proofs.Keys.{lex-lt, lex-eq, lex-view, part, part-write, part-read, wrote-case, lesser, less, less-chain, less-asym}
 use Rattle.atomicity.proofs.Keys.{less-total, Rest, less-rest, between}
-use Rattle.atomicity.proofs.Ordering.{Clear, Last, Explained, Reads, one-order, ReachedBy}
+use Rattle.atomicity.proofs.Ordering.{Clear, Last, Explained, Reads, one-order, ReachedBy, InTurn}
 
 module _ (K : Setup) where
   -- a mark tells when its call began
@@ -49,6 +51,30 @@ module _ (K : Setup) where
   mark-when (x ∷ xs) m k t u w n (inr h) (inl i) =
       absurd (omega (arith, n, above (K .s) x xs k m (sym w) (mark-source (K .s) x xs k (i .0)) (mark-at K m t xs h)))
   mark-when (x ∷ xs) m k t u w n (inr h) (inr i) = mark-when xs m k t u w n h i
+
+  -- a mark's call began no later than its client's present call
+  mark-begun : (xs : Steps K) (m : Stamped) (t : ℕ) → MarkAt K m t xs → t ≤ length (since (K .s) (m .client) xs)
+  unfolding Ever since
+  mark-begun [] m t h = absurd h
+  mark-begun (x ∷ xs) m t h = at-cond (eqb (calls K xs (m .client)) (calls K (x ∷ xs) (m .client))) (since (K .s) (m .client) xs) xs
+      (λ (z : Steps K). t ≤ length z) (λ e. now h (mark-begun xs m t)) (λ e. le-trans (now h (mark-begun xs m t)) (since-length K (m .client) xs))
+    where
+      now : MarkAt K m t (x ∷ xs) → (MarkAt K m t xs → t ≤ length (since (K .s) (m .client) xs)) → t ≤ length (since (K .s) (m .client) xs)
+      now (inl k) f = omega (arith, k .1)
+      now (inr k) f = f k
+
+  -- of two marks of one client, the one whose call began first has the lower number
+  mark-turns : (xs : Steps K) (m k : Stamped) (t u : ℕ) → m .client ≡ k .client → t < u → MarkAt K m t xs → MarkAt K k u xs
+      → m .stamp .number < k .stamp .number
+  unfolding Ever
+  mark-turns [] m k t u w l h i = absurd h
+  mark-turns (x ∷ xs) m k t u w l (inl h) (inl i) =
+      absurd (omega (arith, l, h .1, i .1, ap (λ (c : ℕ). length (since (K .s) c xs)) w))
+  mark-turns (x ∷ xs) m k t u w l (inl h) (inr i) =
+      absurd (omega (arith, l, h .1, mark-begun xs k u i, ap (λ (c : ℕ). length (since (K .s) c xs)) w))
+  mark-turns (x ∷ xs) m k t u w l (inr h) (inl i) =
+      above (K .s) x xs k m (sym w) (mark-source (K .s) x xs k (i .0)) (mark-at K m t xs h)
+  mark-turns (x ∷ xs) m k t u w l (inr h) (inr i) = mark-turns xs m k t u w l h i
 
   module _ (xs : Steps K) (fair : Fair K xs) where
     abbrev callOf : Signed K xs → Logged
@@ -117,6 +143,27 @@ module _ (K : Setup) where
         go : (o : Option ℕ) → a .call .over ≡ o → endedBy o (b .call .begun) ≡ true → keyless a b ≡ true
         go none q k = clash k refl
         go (some e) q k = ended e q (ltb-true e (b .call .begun) k)
+
+    -- a client's writes have stamps in the order in which it began them
+    turns : (a b : Signed K xs) → In a gs → In b gs → earlierOwn (a .call) (b .call) ≡ true → keyless a b ≡ true
+    unfolding earlierOwn less
+    turns a b i j h =
+        let z = and-right (eqb (a .call .client) (b .call .client)) _ h in
+        let y = and-right (isSome (a .call .wrote)) _ z in
+        let v = is-some (a .call .wrote) (and-left (isSome (a .call .wrote)) _ z) in
+        let u = is-some (b .call .wrote) (and-left (isSome (b .call .wrote)) _ y) in
+        let X = a .ok .base .write (v .0) (v .1) (write-reached a i (v .0) (v .1)) .own in
+        let W = b .ok .base .write (u .0) (u .1) (write-reached b j (u .0) (u .1)) .own in
+        let one : X .write .client ≡ W .write .client = X .client-is
+        ∙ eqb-true (a .call .client) (b .call .client) (and-left (eqb (a .call .client) (b .call .client)) _ h) ∙ sym (W .client-is) in
+        let l : a .call .begun < b .call .begun = ltb-true _ _ (and-right (isSome (b .call .wrote)) _ y) in
+        lex-lt (a .stamp .number) (b .stamp .number) _
+        (omega (
+          arith,
+          mark-turns xs (X .write) (W .write) (a .call .begun) (b .call .begun) one l (X .since-when) (W .since-when),
+          ap (λ (s : Stamp). s .number) (X .stamp-is),
+          ap (λ (s : Stamp). s .number) (W .stamp-is),
+        ))
 
     -- the write that a read's content comes from
     record From (r : Signed K xs) (e : ℕ) : Type 0 where
@@ -243,7 +290,7 @@ module _ (K : Setup) where
           weaken l (h .1),
         )
 
-    -- the order, and where in it a read's content comes from
-    pub ordered : (o : OneOrder (Log K xs)) × Sourced [] (o .order)
-    ordered = subst (λ (l : List Logged). (o : OneOrder l) × Sourced [] (o .order)) (story-log K xs fair)
-        (one-order callOf keyless chain asym (story K xs fair) apart fits reads sources)
+    -- the order, where in it a read's content comes from, and a client's writes in their turn
+    pub ordered : (o : OneOrder (Log K xs)) × (Sourced [] (o .order) × InTurn (o .order))
+    ordered = subst (λ (l : List Logged). (o : OneOrder l) × (Sourced [] (o .order) × InTurn (o .order))) (story-log K xs fair)
+        (one-order callOf keyless chain asym (story K xs fair) apart fits turns reads sources)

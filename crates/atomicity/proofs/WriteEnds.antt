@@ -62,6 +62,7 @@ module _ (K : Setup) (x : StepOf K) (xs : Steps K) (a : Logged) (σ : Stamp) (sa
             content-is = c .1;
             own = record {
               write = m;
+              client-is = refl;
               content-is = refl;
               stamp-is = refl;
               since-when = subst (λ (t : ℕ). MarkAt K m t (x ∷ xs)) (sym (c .0 .began)) at;
@@ -87,7 +88,7 @@ module _ (K : Setup) (x : StepOf K) (xs : Steps K) (a : Logged) (σ : Stamp) (sa
           ended = λ t q. absurd (no-some (sym (c .0 .going) ∙ q));
           write = λ v p q. record {
             floor = λ b i h l. subst (λ (z : Stamp). b .number < z .number) (w .hand-is) (beats b (low K x xs a σ same base b i h (c .0 .began) l));
-            own = subst (λ (u : List ℕ). Own K (x ∷ xs) (a .begun) u σ) (Option·some-injective _ _ (sym (w .content-is) ∙ p)) (w .own);
+            own = subst (λ (u : List ℕ). Own K (x ∷ xs) (a .client) (a .begun) u σ) (Option·some-injective _ _ (sym (w .content-is) ∙ p)) (w .own);
           };
           read = λ t p q. absurd (no-some (sym p ∙ w .content-is));
           reaches = λ v t p q. won;
@@ -116,7 +117,7 @@ module _ (K : Setup) (x : StepOf K) (xs : Steps K) (a : Logged) (σ : Stamp) (sa
           number-le = omega (arith, base .number-le, same);
           ended = λ t q. let z : length xs ≡ t = cc in
               (omega (arith, base .begun-lt, z), omega (arith, z), subst (λ (i : ℕ). Ends K σ i (x ∷ xs)) z (inl (refl, top)));
-          write = λ v p q. written-up K x xs (a .begun) v σ (base .begun-lt) (base .write v p q);
+          write = λ v p q. written-up K x xs (a .client) (a .begun) v σ (base .begun-lt) (base .write v p q);
           read = λ t p q. absurd (no-some (sym p ∙ c .0 .content-is));
           reaches = λ v t p q. c .3;
           reach-lt = λ k q. omega (arith, base .reach-lt k q);

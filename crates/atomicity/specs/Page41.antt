@@ -1,9 +1,10 @@
 -- The claim in the user's words.
 use mathlib.Core.Path.{_≡_}
-use mathlib.Core.Bool.{true, false, cond}
+use mathlib.Core.Bool.{Bool, true, false, cond, _&&_}
 use mathlib.Core.List.{List, [], _∷_}
 use mathlib.Core.Option.{Option, none, some}
-use Prim.Native.Nat.{ℕ, suc, _+_, _≤_}
+use Prim.Native.Nat.{ℕ, suc, _+_, _≤_, _<_}
+use lib.Dec.{ltb, eqb}
 use Rattle.cluster.specs.Ranges.{capacity}
 use Rattle.protocol.specs.Values.{isSome}
 use Rattle.protocol.specs.Client.{awaits}
@@ -33,6 +34,17 @@ NeverOlder order =
     → (r .call .wrote ≡ none → r .call .answer ≡ r .content)
     × ((a : Version) → In a (versions 0 none order) → before (a .call) (r .call) ≡ true → a .number ≤ r .number)
 
+-- a and b are writes of one client, and a began first
+unfoldable pub earlierOwn : Logged → Logged → Bool
+earlierOwn a b = eqb (a .client) (b .client) && (isSome (a .wrote) && (isSome (b .wrote) && ltb (a .begun) (b .begun)))
+
+-- a write that was given up, or that waits, is settled by a later write of the same client: once that one has ended, every call that begins
+-- afterwards has a newer version than the earlier write's
+unfoldable pub Superseded : List Logged → Type 0
+Superseded order =
+    (a b r : Version) → In a (versions 0 none order) → In b (versions 0 none order) → In r (versions 0 none order)
+    → earlierOwn (a .call) (b .call) ≡ true → before (b .call) (r .call) ≡ true → a .number < r .number
+
 -- "If a write is given up before its complete round, that record is never read": whatever content a read gave was written by a write ahead of it in
 -- the order, whose complete round had begun by then. ahead: those passed so far
 unfoldable pub Sourced : List Logged → List Logged → Type 0
@@ -52,11 +64,13 @@ module _ (s : System) (A : Account (StepIn s)) (correct : Correct) where
       → Answered s A correct l (a .client) (a .number) (suc k))
       → isSome (a .over) ≡ true
 
-  -- page 41, of the calls of a run: they have one order, and in it nothing older is given, nothing is read that was not written, and calls end
+  -- page 41, of the calls of a run: they have one order, and in it nothing older is given, nothing is read that was not written, a client's later
+  -- write settles its earlier ones, and calls end
   pub record Page41Of (l : List (StepIn s)) : Type 0 where
     pub one : OneOrder (log A l)
     pub older : NeverOlder (one .order)
     pub sourced : Sourced [] (one .order)
+    pub superseded : Superseded (one .order)
     pub ended : Ended l
 
 unfoldable pub Page41 : Type 0
