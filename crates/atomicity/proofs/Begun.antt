@@ -129,7 +129,8 @@ module _ (s : System) where
   opened-client : (xs : Run s) (c : ℕ) (r n : List ℕ) → Ever (Opening c r n) xs → c ≤ topWriter
   unfolding doValues setClient
   opened-client xs c r n ev = ever-out (Opening c r n) xs
-      (λ y ys o. write-client (s .config) c (clientAt s ys c) r n (subst (λ (st : Step). accepted (perform s (now s ys) st .result) ≡ true) (o .0) (o .1))) ev
+      (λ y ys o. write-client (s .config) c (clientAt s ys c) r n (subst (λ (st : Step). accepted (perform s (now s ys) st .result) ≡ true) (o .0)
+      (o .1))) ev
 
   -- a write in hand is a writer's, so 5 does not refuse its rounds
   pub hand-writer : (xs : Run s) (c : ℕ) → ofWrite (awaits (handAt s xs c)) ≡ true → c ≤ topWriter

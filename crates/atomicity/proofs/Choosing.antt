@@ -118,7 +118,8 @@ module _ (K : Setup) where
         t .0 .share,
         t .0 .share-is,
         no-two K ys fair (t .0 .share .fragment) (fragmentFor (K .s) (w .content) i)
-            (dig _ (in-map (λ (p : Part). p .bytes) (parts (K .s .P) (K .s .config) m g c b (S K)) (record { server = i; bytes = t .0 .share .fragment })
+            (dig _ (in-map (λ (p : Part). p .bytes) (parts (K .s .P) (K .s .config) m g c b (S K))
+            (record { server = i; bytes = t .0 .share .fragment })
             (part-in (K .s) m g c b (S K) i (t .0 .share) lo hi e (t .0 .share-is))))
             (mark-digested (K .s) ys w (fragmentFor (K .s) (w .content) i) (P .origin .made)
             (inr (in-map (λ (i : ℕ). fragmentFor (K .s) (w .content) i) (upTo (S K)) i (upTo-in (S K) i lo hi))))

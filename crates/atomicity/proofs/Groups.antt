@@ -153,7 +153,8 @@ module _ (s : System) (m : ByServer Bool) (g : ByServer Held) (c : Candidate) wh
     where
       here : (k : ℕ) → agrees (s .P) (s .config) m g c b k ≡ true → g k .share ≡ some f → In {A = Part} (record { server = k; bytes = f .fragment })
           (cond (agrees (s .P) (s .config) m g c b k) (partOf (s .P) (s .config) k (g k .share)) [])
-      here k a e = subst (λ (t : Bool). In {A = Part} (record { server = k; bytes = f .fragment }) (cond t (partOf (s .P) (s .config) k (g k .share)) []))
+      here k a e = subst (λ (t : Bool). In {A = Part} (record { server = k; bytes = f .fragment })
+          (cond t (partOf (s .P) (s .config) k (g k .share)) []))
           (sym a) (subst (λ (o : Option Share). In {A = Part} (record { server = k; bytes = f .fragment }) (partOf (s .P) (s .config) k o)) (sym e)
           (inl refl))
 

@@ -61,7 +61,8 @@ head-ranges b p e = let o = decode-ok b p e .0 in
 -- fragments of k or more different servers give a content back
 abbrev pub Restores : Primitives → Config → Type 0
 Restores P c =
-    (r : List ℕ) → Bytes r → (is : List ℕ) → AllPairs (λ a b. eqb a b ≡ false) is → All (λ i. (1 ≤ i) × (i ≤ c .servers)) is → c .threshold ≤ length is
+    (r : List ℕ) → Bytes r → (is : List ℕ) → AllPairs (λ a b. eqb a b ≡ false) is → All (λ i. (1 ≤ i) × (i ≤ c .servers)) is
+    → c .threshold ≤ length is
     → P .restored (c .points) (c .threshold) (length r) (map (λ i. record { server = i; bytes = P .fragment (c .points) (c .threshold) r i }) is) ≡ r
 
 pub real-restores : (t : ℕ) → 1 ≤ t → t ≤ topFaults → Restores real (shelf t)

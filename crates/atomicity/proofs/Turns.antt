@@ -221,7 +221,10 @@ module _ (K : Setup) where
     turn-ok lo hi full yes-full no-full (storing d g) e ok say = at-cond (eqb (codeIn y) 11) _ _ (Outcome x xs z0 z1 (storing d g))
         (λ q. same-outcome x xs z0 z1 (storing d g) cl e ok)
         (λ k. at-cond full _ _ (Outcome x xs z0 z1 (storing d g))
-        (λ q. (record { short = none-short; full = many-marks K (x ∷ xs) _ m' (yes-full q) (store-on d g ok say k); high = λ j h i. unmarked j i }, tt))
+        (λ q. (
+          record { short = none-short; full = many-marks K (x ∷ xs) _ m' (yes-full q) (store-on d g ok say k); high = λ j h i. unmarked j i },
+          tt,
+        ))
         (λ q. (record { short = no-full q; beats = ok .beats; holds = store-on d g ok say k }, tt)))
     turn-ok lo hi true yes-full no-full (completing d) e ok say =
         (tt, (d, refl, many-marks K (x ∷ xs) _ m' (yes-full refl) (λ j h i. not-f _ (complete-on d ok say j h i))))
@@ -244,7 +247,14 @@ module _ (K : Setup) where
         judged x xs z0 z1 cs g (upd g b (heldIn y)) m' p0 p1 fair (filter-on cs g ok say)
         (yes-full refl) c cl _ refl _ (dig cs g e (yes-full refl)) refl
     turn-ok lo hi false yes-full no-full (filtering cs g) e ok say = (filter-on cs g ok say, tt)
-    turn-ok lo hi true yes-full no-full (repairing d r) e ok say =
-        (tt, (d, many-marks K (x ∷ xs) _ m' (yes-full refl) (λ j h i. not-f _ (repair-on d r lo hi ok say j h i)), proved-up K z0 d r x xs (ok .proved)))
+    turn-ok lo hi true yes-full no-full (repairing d r) e ok say = (
+      tt,
+      (
+        d,
+        many-marks K (x ∷ xs) _ m' (yes-full refl) (λ j h i. not-f _ (repair-on d r lo hi ok say j h i)),
+        proved-up K z0 d r x xs
+            (ok .proved),
+      ),
+    )
     turn-ok lo hi false yes-full no-full (repairing d r) e ok say =
         (record { short = no-full refl; proved = proved-up K z0 d r x xs (ok .proved); tagged = ok .tagged; high = repair-on d r lo hi ok say }, tt)

@@ -1,5 +1,6 @@
 -- Runs computed from protocol's definitions, on values, with toy primitives that can be followed by eye: t = 1, four servers, quorum 3, k = 2.
--- Each holds by computation alone. They stand in no crate below the theorem, so that a wrong shelf that they refuse reaches the theorem. Assumes nothing.
+-- Each holds by computation alone. They stand in no crate below the theorem, so that a wrong shelf that they refuse reaches the theorem. Assumes
+-- nothing.
 use mathlib.Core.Path.{_≡_, refl}
 use mathlib.Core.Bool.{true}
 use mathlib.Core.List.{List, [], _∷_, _++_}
@@ -136,14 +137,15 @@ record Shown : Type 0 where
   awaits-repair : awaits (filtered .client 9 .hand) ≡ 12
   read-repaired : repaired .result ≡ gave label1 (65 ∷ 66 ∷ [])
   tags-repaired : sameCandidate (repaired .server 4 .latest) (candidateMade toy (shelf 1) 1 writers keys (42 ∷ []) 1) ≡ true
-  -- with two lower replies the round has its quorum and the invented one is still in the list; the third lower one is the S - t th: it leaves, and the
-  -- write is read
+  -- with two lower replies the round has its quorum and the invented one is still in the list; the third lower one is the S - t th: it leaves, and
+  -- the write is read
   still-listed : asksAll 9 (2 ∷ 3 ∷ []) misled .result ≡ more
   leaves-list : asksAll 9 (2 ∷ 3 ∷ 4 ∷ []) misled .result ≡ gave label1 (65 ∷ 66 ∷ [])
 
 shown : Shown
 unfolding completed stored readAfter spoilt filtered repaired invented misled asksAll asks hears writes reads new toy mix writers keys shelf upTo quorum
-    nth runOf isBlank below sameStamp sameCandidate lookup stampMessage candidateMessage upd nobody countTo any keep first gather lower live fits agrees
+    nth runOf isBlank below sameStamp sameCandidate lookup stampMessage candidateMessage upd nobody countTo any keep first gather lower live fits
+    agrees
     leads leader highest choice parts restoredBy onStore raise byHistory byTag valid best act barred replyTo serverRefusal answered serverStep awaits
     isIdle stampOf tagsOf candidateMade shareMade sharesMade prepared made onto checks higher isFull found judge update tooHigh writeRefusal
     readRefusal makeRefusal takeRefusal begun writeStep readStep makeStep turnOn highAt takeStep

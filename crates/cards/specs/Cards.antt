@@ -32,7 +32,11 @@ unfoldable pub cards : List Card
 cards =
     record { given = number (times 0x57 0x83); card = number 0xc1 }
     ∷ record { given = number (times 0x03 0xf6); card = number 0x01 }
-    ∷ record { given = byServer (fragments (shelf 1) (0x00 ∷ 0x01 ∷ [])); card = byServer ((0x00 ∷ []) ∷ (0x01 ∷ []) ∷ (0xf7 ∷ []) ∷ (0x03 ∷ []) ∷ []) }
+    ∷ record {
+      given = byServer (fragments (shelf 1) (0x00 ∷ 0x01 ∷ []));
+      card = byServer
+          ((0x00 ∷ []) ∷ (0x01 ∷ []) ∷ (0xf7 ∷ []) ∷ (0x03 ∷ []) ∷ []);
+    }
     ∷ record {
       given = byServer (fragments (shelf 1) (0x00 ∷ 0x00 ∷ 0x01 ∷ []));
       card = byServer ((0x00 ∷ 0x00 ∷ []) ∷ (0x01 ∷ 0x00 ∷ []) ∷ (0xf7 ∷ 0x00 ∷ []) ∷ (0x03 ∷ 0x00 ∷ []) ∷ []);

@@ -1,5 +1,5 @@
--- What a begin does in each of its cases: kept bytes of another length, a refusal, or a call that begins; and what an accepted begin tells of its arguments.
--- Each is the definition with the case's tests put in. Assumes nothing.
+-- What a begin does in each of its cases: kept bytes of another length, a refusal, or a call that begins; and what an accepted begin tells of its
+-- arguments. Each is the definition with the case's tests put in. Assumes nothing.
 use mathlib.Core.Path.{_≡_, _∙_}
 use mathlib.Core.Bool.{true, false, not}
 use mathlib.Core.List.{List}
@@ -31,7 +31,12 @@ module _ (t client : ℕ) (c : Call) (kept : List ℕ) where
     pub write-refused : length (c .tally .marks) ≡ mostServers → length kept ≡ keptSize → (n : ℕ) → n ≡ no → (n ≡ 0 → ⊥)
         → coreWrite t client c kept content nonce ≡ record { result = record { number = n; count = 0 }; call = c; kept = kept }
     unfolding coreWrite writeByRounds
-    write-refused w h n e ne = rw (eq-eqb (length kept) keptSize h, same-write t client c w kept content nonce, refused-is no _ _ (λ z. ne (e ∙ z)), e)
+    write-refused w h n e ne = rw (
+      eq-eqb (length kept) keptSize h,
+      same-write t client c w kept content nonce,
+      refused-is no _ _ (λ z. ne (e ∙ z)),
+      e,
+    )
 
     pub write-begins : length (c .tally .marks) ≡ mostServers → length kept ≡ keptSize → no ≡ 0
         → coreWrite t client c kept content nonce

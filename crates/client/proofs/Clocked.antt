@@ -63,12 +63,14 @@ module _ (t client : ℕ) (c : Call) (reply : List ℕ) (h : Head) (y : Ready t 
     refused-as false true f g n e ne = rw e (sym (clock-short t client writers (keyOf keys) c kept output reply h y clock f g))
     refused-as false false f g n e ne = absurd (ne e)
 
-    pub clock-refused : (n room high : ℕ) → n ≡ firstOf (refuse 14 (ends (shelf t) c (h .server) && leb topNumber high) ∷ refuse 15 (ltb room contentRoom) ∷ []) →
+    pub clock-refused : (n room high : ℕ) → n ≡ firstOf (refuse 14 (ends (shelf t) c (h .server) && leb topNumber high)
+        ∷ refuse 15 (ltb room contentRoom) ∷ []) →
         (n ≡ 0 → ⊥)
         → high ≡ top → length output ≡ room → Takes (record { taken = taken.Refused n; call = c }) kept
     clock-refused n room high e ne m l = refused-as over (ltb (length output) contentRoom) refl refl n (rw (m, ← l) at e) ne
 
-    module _ (n room high : ℕ) (e : n ≡ firstOf (refuse 14 (ends (shelf t) c (h .server) && leb topNumber high) ∷ refuse 15 (ltb room contentRoom) ∷ []))
+    module _ (n room high : ℕ) (e : n ≡ firstOf (refuse 14 (ends (shelf t) c (h .server) && leb topNumber high) ∷ refuse 15 (ltb room contentRoom)
+        ∷ []))
         (z : n ≡ 0) (m : high ≡ top) where
       fine : over ≡ false
       fine = rw m at (passes (ends (shelf t) c (h .server) && leb topNumber high) 13 (cond (ltb room contentRoom) 15 0) (sym e ∙ z) .0)

@@ -1,5 +1,6 @@
 -- A reply of the filter round: its body's bytes go to the server's slot, which has room for them, and the round goes on or is judged.
--- The head is in its ranges and the body in its layout, as in every packet that is let through. Assumes nothing but that the reply and the kept bytes are bytes.
+-- The head is in its ranges and the body in its layout, as in every packet that is let through. Assumes nothing but that the reply and the kept bytes
+-- are bytes.
 use mathlib.Core.Path.{_≡_, refl, sym, ap, _∙_, subst}
 use mathlib.Core.Bool.{Bool, true, false, cond}
 use mathlib.Core.List.{List, []}
@@ -117,7 +118,8 @@ module _ (t client : ℕ) (c : Call) (reply : List ℕ) (h : Head) (y : Ready t 
       filter-ends l bs f =
           let r = ready-faults t client c reply h y in
           let v = ready-server t client c reply h y in
-          let n : length after ≡ keptSize = put-length kept (repliesPlace + replySlot * (h .server - 1)) body (omega (arith, l, body-fits, v .0, v .1)) ∙
+          let n : length after ≡ keptSize = put-length kept (repliesPlace + replySlot * (h .server - 1)) body
+          (omega (arith, l, body-fits, v .0, v .1)) ∙
           l in
           let z : length {A = ℕ} (replicate contentRoom 0) ≡ contentRoom = length-replicate {A = ℕ} contentRoom 0 in
           judged-by t (then .tally .marks) after (record { low = r .0; high = r .1; size = n }) bs client writers (keyOf keys) c

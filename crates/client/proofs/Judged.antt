@@ -1,5 +1,6 @@
--- What a decision leads to is the definition's judgement. By its three cases: the slot told holds the chosen candidate, its leader's reply has the group's tags
--- and the content's length, and the candidate for repair is that slot's name with those tags. Assumes nothing but that the kept bytes are bytes.
+-- What a decision leads to is the definition's judgement. By its three cases: the slot told holds the chosen candidate, its leader's reply has the
+-- group's tags and the content's length, and the candidate for repair is that slot's name with those tags. Assumes nothing but that the kept bytes
+-- are bytes.
 use mathlib.Core.Path.{_≡_, refl, sym, ap, _∙_, subst}
 use mathlib.Core.Bool.{Bool, true, not}
 use mathlib.Core.List.{List, [], _∷_, _++_, append-assoc}
@@ -57,7 +58,8 @@ module _ (t : ℕ) (c : Call) (kept output : List ℕ) where
   unfolding judgedIn judgedBy
   judged-blank e = sym (ap (λ (d : Decision). judgedBy t c kept output d (decidedNow t c kept .output)) e)
 
-  pub judged-found : (i b n : ℕ) (content : List ℕ) → decidedNow t c kept .answer ≡ decisions.Found i b n → content ≡ bytesAt (decidedNow t c kept .output) 0 n
+  pub judged-found : (i b n : ℕ) (content : List ℕ) → decidedNow t c kept .answer ≡ decisions.Found i b n → content
+      ≡ bytesAt (decidedNow t c kept .output) 0 n
       → foundAt t c kept output i b content ≡ judgedIn t c kept output
   unfolding judgedIn judgedBy
   judged-found i b n content e f =
@@ -69,10 +71,12 @@ unfolding bytesAt over
 cut-over x room = take-at x (drop (length x) room) (length x) refl
 
 name-printed : (s : Config) (d tags : List ℕ) → Bytes d → 5 ≤ length d
-    → candidateF s .print (record { stamp = candidateAt s d .stamp; nonce = candidateAt s d .nonce; tags = tags }) ≡ bytesAt d 0 (stampSize + nonceSize) ++ tags
+    → candidateF s .print (record { stamp = candidateAt s d .stamp; nonce = candidateAt s d .nonce; tags = tags })
+    ≡ bytesAt d 0 (stampSize + nonceSize) ++ tags
 unfolding candidateF via seq run candidateAt
 name-printed s d tags b h =
-    let j : bytesAt d 0 stampSize ++ bytesAt d (0 + stampSize) nonceSize ≡ bytesAt d 0 (stampSize + nonceSize) = sym (part-split d 0 stampSize nonceSize) in
+    let j : bytesAt d 0 stampSize ++ bytesAt d (0 + stampSize) nonceSize
+    ≡ bytesAt d 0 (stampSize + nonceSize) = sym (part-split d 0 stampSize nonceSize) in
     ap (λ (x : List ℕ). x ++ (bytesAt d stampSize nonceSize ++ tags)) (stamp-bytes d b h)
     ∙ (sym (append-assoc (bytesAt d 0 stampSize) (bytesAt d stampSize nonceSize) tags) ∙ ap (λ (x : List ℕ). x ++ tags) j)
 
@@ -121,13 +125,15 @@ module _ (t : ℕ) (marks kept : List ℕ) (u : Usable t kept) (bytes : Bytes ke
 
     shared : g (suc b) .share ≡ some (shareOfSize (shelf t) (sizeIn (replySlotOf kept b)) (drop (stampSize + 1) (replySlotOf kept b)))
     shared =
-        ap (λ (x : Held). x .share) (reply-in (shelf t) marks kept b small (fits-named t marks kept i (sha256 (held (suc i) .nonce)) refl b small fit .0))
+        ap (λ (x : Held). x .share) (reply-in (shelf t) marks kept b small
+        (fits-named t marks kept i (sha256 (held (suc i) .nonce)) refl b small fit .0))
         ∙ held-share (shelf t) (replySlotOf kept b) (full .flag)
 
     content-length : length (restoredBy real (shelf t) m g (held (suc i)) (suc b) (g (suc b) .share)) ≡ sizeIn (replySlotOf kept b)
     content-length =
         ap (λ (o : Option Share). length (restoredBy real (shelf t) m g (held (suc i)) (suc b) o)) shared
-        ∙ (unfold restoredBy shareOfSize in real-lengths .content (shelf t .points) (shelf t .threshold) (sizeIn (replySlotOf kept b)) (parts real (shelf t) m g (held (suc i)) (suc b) (shelf t .servers)))
+        ∙ (unfold restoredBy shareOfSize in real-lengths .content (shelf t .points) (shelf t .threshold) (sizeIn (replySlotOf kept b))
+        (parts real (shelf t) m g (held (suc i)) (suc b) (shelf t .servers)))
 
     -- the group's tags stand in the leader's reply
     tags-are : tagsIn real (shelf t) (held (suc i)) (g (suc b) .share)
@@ -136,10 +142,12 @@ module _ (t : ℕ) (marks kept : List ℕ) (u : Usable t kept) (bytes : Bytes ke
         let n : ℕ = sizeIn (replySlotOf kept b) in
         let z : b ≡ suc b - 1 = omega arith in
         let r : tagsPlace t n + tagsSize (shelf t) ≤ replySlot = room n (full .top) in
-        ap (tagsIn real (shelf t) (held (suc i))) shared ∙ (tags-in (shelf t) (replySlotOf kept b) n ∙ (place n ∙ (slot-part kept b (tagsPlace t n) (tagsSize (shelf t)) r
+        ap (tagsIn real (shelf t) (held (suc i))) shared ∙ (tags-in (shelf t) (replySlotOf kept b) n
+        ∙ (place n ∙ (slot-part kept b (tagsPlace t n) (tagsSize (shelf t)) r
         ∙ ap (λ (k : ℕ). bytesAt kept (repliesPlace + replySlot * k + tagsPlace t n) (tagsSize (shelf t))) z)))
       where
-        place : (n : ℕ) → bytesAt (replySlotOf kept b) (stampSize + 3 + fragmentSize (shelf t .threshold) n + digestsSize (shelf t) + digestSize) (tagsSize (shelf t))
+        place : (n : ℕ) → bytesAt (replySlotOf kept b) (stampSize + 3 + fragmentSize (shelf t .threshold) n + digestsSize (shelf t) + digestSize)
+            (tagsSize (shelf t))
             ≡ bytesAt (replySlotOf kept b) (tagsPlace t n) (tagsSize (shelf t))
         place n = unfold tagsPlace in refl
 
@@ -147,18 +155,22 @@ module _ (t : ℕ) (marks kept : List ℕ) (u : Usable t kept) (bytes : Bytes ke
         room n h = unfold tagsPlace shareSize in omega (arith, shelf-fits t (u .low) (u .high) .room n h)
 
     -- a candidate with the slot's stamp and nonce is printed with the slot's first bytes
-    named : (tags : List ℕ) → candidateF (shelf t) .print (record { stamp = held (suc i) .stamp; nonce = held (suc i) .nonce; tags = tags }) ≡ name ++ tags
+    named : (tags : List ℕ) → candidateF (shelf t) .print (record { stamp = held (suc i) .stamp; nonce = held (suc i) .nonce; tags = tags }) ≡ name
+        ++ tags
     named tags =
         let few = shelf-fits t (u .low) (u .high) .few in
         let D : List ℕ = bytesAt kept (candidatesPlace + candidateSlot * i) candidateSlot in
         let l : length D ≡ candidateSlot = part-length kept (candidatesPlace + candidateSlot * i) candidateSlot (omega (arith, u .size)) in
         let o : candidatesPlace + candidateSlot * i + 0 ≡ candidatesPlace + candidateSlot * i = omega arith in
-        ap (λ (x : Candidate). candidateF (shelf t) .print (record { stamp = x .stamp; nonce = x .nonce; tags = tags })) (candidate-in (shelf t) kept i (omega arith))
+        ap (λ (x : Candidate). candidateF (shelf t) .print (record { stamp = x .stamp; nonce = x .nonce; tags = tags }))
+        (candidate-in (shelf t) kept i (omega arith))
         ∙ (name-printed (shelf t) D tags (bytes-part kept (candidatesPlace + candidateSlot * i) candidateSlot bytes) (omega arith)
-        ∙ ap (λ (x : List ℕ). x ++ tags) (part-part kept (candidatesPlace + candidateSlot * i) candidateSlot 0 (stampSize + nonceSize) (omega arith) ∙ ap (λ (k : ℕ). bytesAt kept k (stampSize + nonceSize)) o))
+        ∙ ap (λ (x : List ℕ). x ++ tags) (part-part kept (candidatesPlace + candidateSlot * i) candidateSlot 0 (stampSize + nonceSize) (omega arith)
+        ∙ ap (λ (k : ℕ). bytesAt kept k (stampSize + nonceSize)) o))
 
     repaired : (n : ℕ) → n ≡ sizeIn (replySlotOf kept b)
-        → repairBytes t kept i (suc b) n ≡ candidateF (shelf t) .print (record { stamp = held (suc i) .stamp; nonce = held (suc i) .nonce; tags = tagsIn real (shelf t) (held (suc i)) (g (suc b) .share) })
+        → repairBytes t kept i (suc b) n ≡ candidateF (shelf t) .print
+        (record { stamp = held (suc i) .stamp; nonce = held (suc i) .nonce; tags = tagsIn real (shelf t) (held (suc i)) (g (suc b) .share) })
     unfolding repairBytes
     repaired n e = rw e (sym (named (tagsIn real (shelf t) (held (suc i)) (g (suc b) .share)) ∙ ap (λ (x : List ℕ). name ++ x) tags-are))
 
@@ -167,7 +179,11 @@ module _ (t : ℕ) (marks kept : List ℕ) (u : Usable t kept) (bytes : Bytes ke
         ≡ foundIn real (shelf t) client writers keys c before output m g kept (held (suc i)) (suc b)
     unfolding foundAt foundIn delivers took
     found-at client writers keys c y before output =
-        rw (found-tags t marks kept i b u slot led, repaired (length (restoredBy real (shelf t) m g (held (suc i)) (suc b) (g (suc b) .share))) content-length)
+        rw (
+          found-tags t marks kept i b u slot led,
+          repaired (length (restoredBy real (shelf t) m g (held (suc i)) (suc b) (g (suc b) .share)))
+              content-length,
+        )
 
   -- ---- the cases of a decision
 
@@ -180,14 +196,17 @@ module _ (t : ℕ) (marks kept : List ℕ) (u : Usable t kept) (bytes : Bytes ke
     led-by i (suc b) l e p = found-at i b l e client writers keys c y before output
 
     chosen : (x : Candidate) → choice real (shelf t) m g listed ≡ some x
-        → foundAt t (withTally c y) kept output (slotOf held x (shelf t .servers)) (leaderOf x) (bytesAt (over (contentOf x) room) 0 (length (contentOf x)))
+        → foundAt t (withTally c y) kept output (slotOf held x (shelf t .servers)) (leaderOf x)
+        (bytesAt (over (contentOf x) room) 0 (length (contentOf x)))
         ≡ foundIn real (shelf t) client writers keys c before output m g kept x (leaderOf x)
     chosen x e =
         let i : ℕ = slotOf held x (shelf t .servers) in
         let k = chosen-slot (shelf t) m g held x e in
         ap (foundAt t (withTally c y) kept output i (leaderOf x)) (cut-over (contentOf x) room)
-        ∙ subst (λ (z : Candidate). foundAt t (withTally c y) kept output i (leaderOf z) (contentOf z) ≡ foundIn real (shelf t) client writers keys c before output m g kept z (leaderOf z)) (k .1)
-        (led-by i (leaderOf (held (suc i))) (k .0) (unfold leaderAt in refl) (subst (λ (z : Candidate). proven real (shelf t) m g z ≡ true) (sym (k .1)) (k .2)))
+        ∙ subst (λ (z : Candidate). foundAt t (withTally c y) kept output i (leaderOf z) (contentOf z)
+        ≡ foundIn real (shelf t) client writers keys c before output m g kept z (leaderOf z)) (k .1)
+        (led-by i (leaderOf (held (suc i))) (k .0) (unfold leaderAt in refl)
+        (subst (λ (z : Candidate). proven real (shelf t) m g z ≡ true) (sym (k .1)) (k .2)))
 
     judged-on : (ls : List Candidate) (o : Option Candidate) → choice real (shelf t) m g listed ≡ o
         → judgedBy t (withTally c y) kept output (decidedOn (shelf t) m g held room ls o .answer) (decidedOn (shelf t) m g held room ls o .output)
@@ -199,7 +218,8 @@ module _ (t : ℕ) (marks kept : List ℕ) (u : Usable t kept) (bytes : Bytes ke
 
     pub judged-by : contentRoom ≤ length room
         → judgedBy t (withTally c y) kept output (decided t marks kept room .answer) (decided t marks kept room .output)
-        ≡ judgeIn real (shelf t) client writers keys c before output (withTally c y) m g kept (live real (shelf t) m g listed) (choice real (shelf t) m g listed)
+        ≡ judgeIn real (shelf t) client writers keys c before output (withTally c y) m g kept (live real (shelf t) m g listed)
+        (choice real (shelf t) m g listed)
     judged-by l =
         ap (λ (d : Decided). judgedBy t (withTally c y) kept output (d .answer) (d .output)) (on-choice room l)
         ∙ judged-on (live real (shelf t) m g listed) (choice real (shelf t) m g listed) refl
@@ -228,4 +248,5 @@ module _ (t : ℕ) (marks kept : List ℕ) (u : Usable t kept) (bytes : Bytes ke
   pub found-range : (room : List ℕ) → contentRoom ≤ length room → (i b n : ℕ) → decided t marks kept room .answer ≡ decisions.Found i b n
       → (i < shelf t .servers) × ((1 ≤ b) × (b ≤ shelf t .servers))
   found-range room l i b n q =
-      range-on room i b n (live real (shelf t) m g listed) (choice real (shelf t) m g listed) refl (ap (λ (d : Decided). d .answer) (sym (on-choice room l)) ∙ q)
+      range-on room i b n (live real (shelf t) m g listed) (choice real (shelf t) m g listed) refl
+      (ap (λ (d : Decided). d .answer) (sym (on-choice room l)) ∙ q)

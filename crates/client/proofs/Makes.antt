@@ -1,5 +1,5 @@
--- What making a packet does in each of its cases: kept bytes of another length, a refusal, or the round's packet; and what an accepted one tells of its arguments.
--- Each is the definition with the case's tests put in. Assumes nothing.
+-- What making a packet does in each of its cases: kept bytes of another length, a refusal, or the round's packet; and what an accepted one tells of
+-- its arguments. Each is the definition with the case's tests put in. Assumes nothing.
 use mathlib.Core.Path.{_≡_, sym, ap, _∙_}
 use mathlib.Core.Bool.{true, not}
 use mathlib.Core.List.{List}

@@ -1,5 +1,6 @@
 -- What the end of clock writes is what the definition of a write makes: the candidate, and below it a share of the content for each server.
--- Fragments and what is the same in all shares fit their arrays for every t, and bytes put at the start of an array are read back from it. Assumes nothing.
+-- Fragments and what is the same in all shares fit their arrays for every t, and bytes put at the start of an array are read back from it. Assumes
+-- nothing.
 use mathlib.Core.Path.{_≡_, refl, sym, ap, _∙_}
 use mathlib.Core.Bool.{Bool, true, false, cond}
 use mathlib.Core.List.{List, _++_}
@@ -89,7 +90,8 @@ content-short c kept =
     omega (arith, part-most kept 0 n, least (c .length))
 
 -- the candidate stands past the content
-pub content-stays : (c : Call) (kept b : List ℕ) → length kept ≡ keptSize → length b ≤ candidateSlot → contentOf c (put kept chosenPlace b) ≡ contentOf c
+pub content-stays : (c : Call) (kept b : List ℕ) → length kept ≡ keptSize → length b ≤ candidateSlot → contentOf c (put kept chosenPlace b)
+    ≡ contentOf c
     kept
 unfolding contentOf
 content-stays c kept b h l =

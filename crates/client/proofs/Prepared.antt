@@ -1,5 +1,5 @@
--- The shares that the code writes are those of the definition: each server's own fragment, and for all of them the same digests, nonce digest and tags.
--- By induction on the servers; an entry of a run stands at its place. Assumes nothing.
+-- The shares that the code writes are those of the definition: each server's own fragment, and for all of them the same digests, nonce digest and
+-- tags. By induction on the servers; an entry of a run stands at its place. Assumes nothing.
 use mathlib.Core.Path.{_≡_, refl, ap, _∙_}
 use mathlib.Core.List.{List, _++_}
 use Prim.Native.Nat.{ℕ, zero, suc, _+_, _-_, _*_, _≤_}
@@ -55,7 +55,8 @@ unfolding real
 lengths t r i = real-lengths .fragment (shelf t .points) (shelf t .threshold) r i
 
 pub piece-at : (t : ℕ) (r d : List ℕ) (m : ℕ) → suc m ≤ shelf t .servers → fragmentSize (shelf t .threshold) (length r) * shelf t .servers ≤ length d
-    → bytesAt (put d 0 (fragmentRun t r (shelf t .servers))) (fragmentSize (shelf t .threshold) (length r) * m) (fragmentSize (shelf t .threshold) (length r))
+    → bytesAt (put d 0 (fragmentRun t r (shelf t .servers))) (fragmentSize (shelf t .threshold) (length r) * m)
+    (fragmentSize (shelf t .threshold) (length r))
     ≡ fragment (shelf t .points) (shelf t .threshold) r (suc m)
 unfolding fragmentRun nth bytesAt
 piece-at t r d m l h =

@@ -103,7 +103,11 @@ module _ (P : Primitives) (client : ℕ) (writers : List ℕ) (keys : ByServer (
       go : (z : Bool) (tags content : List ℕ)
           → tookBy s (C 5) kept k output
           (cond z (record { client = onto (view s (C 5) kept) nobody idle; result = gave (labelOf (d .stamp)) content })
-          (record { client = onto (view s (C 5) kept) nobody (repairing (record { stamp = d .stamp; nonce = d .nonce; tags = tags }) content); result = more }))
+          (record {
+            client = onto (view s (C 5) kept) nobody (repairing (record { stamp = d .stamp; nonce = d .nonce; tags = tags }) content);
+            result
+                = more;
+          }))
           ≡ cond z (delivers P s client writers keys (C 5) kept output (d .stamp) content k)
           (took P s client writers keys (C 5) kept output taken.More
           (record { number = c .number; last = c .last; high = c .high; length = length content; tally = fresh 6 })

@@ -50,7 +50,11 @@ module _ (t client : ℕ) (writers : List ℕ) (keys : List (List ℕ)) (c : Cal
   wrote = record { taken = writtenAs (chosenOf (shelf t) kept .stamp); call = withTally c (fresh 0) }
 
   abbrev collected : Answered
-  collected = record { taken = taken.More; call = withTally c (cond (ends (shelf t) c (h .server)) (fresh 5) (noted (shelf t) (c .tally) (h .server))) }
+  collected = record {
+    taken = taken.More;
+    call = withTally c (cond (ends (shelf t) c (h .server)) (fresh 5)
+        (noted (shelf t) (c .tally) (h .server)));
+  }
 
   abbrev delivered : Answered
   delivered = record { taken = readAs (chosenOf (shelf t) kept .stamp) (length (contentOf c kept)); call = withTally c (fresh 0) }
@@ -62,15 +66,18 @@ module _ (t client : ℕ) (writers : List ℕ) (keys : List (List ℕ)) (c : Cal
       ap (λ (z : Answered). answered z kept output) (r ∙ ap stored (d ∙ sym (getD-drop headSize reply 0 0)))
       ∙ sym (took-store t client writers (keyOf keys) c kept output reply h y room e)
 
-  pub takes-complete : c .tally .round ≡ 3 → (a : Answered) → a ≡ cond (ends (shelf t) c (h .server)) wrote noting → TakesAs t client writers keys c kept reply
+  pub takes-complete : c .tally .round ≡ 3 → (a : Answered) → a ≡ cond (ends (shelf t) c (h .server)) wrote noting
+      → TakesAs t client writers keys c kept reply
       output a kept output
   unfolding takeByRounds
   takes-complete e a r =
       ap (λ (z : Answered). answered z kept output) r
-      ∙ (by-test (ends (shelf t) c (h .server)) wrote noting kept output ∙ sym (took-complete t client writers (keyOf keys) c kept output reply h y room e))
+      ∙ (by-test (ends (shelf t) c (h .server)) wrote noting kept output
+      ∙ sym (took-complete t client writers (keyOf keys) c kept output reply h y room e))
 
   pub takes-collect : c .tally .round ≡ 4 → Bytes reply → (body : List ℕ) → body ≡ drop headSize reply → (a : Answered) → a ≡ collected
-      → (kept' : List ℕ) → kept' ≡ put kept (candidatesPlace + candidateSlot * (h .server - 1)) body → TakesAs t client writers keys c kept reply output
+      → (kept' : List ℕ) → kept' ≡ put kept (candidatesPlace + candidateSlot * (h .server - 1)) body
+      → TakesAs t client writers keys c kept reply output
       a kept' output
   unfolding takeByRounds
   takes-collect e bs body d a r kept' k =
@@ -79,7 +86,8 @@ module _ (t client : ℕ) (writers : List ℕ) (keys : List (List ℕ)) (c : Cal
       ∙ sym (took-collect t client writers (keyOf keys) c kept output reply h y room bs e))
 
   pub takes-repair : c .tally .round ≡ 6 → (a : Answered) → a ≡ cond (ends (shelf t) c (h .server)) delivered noting
-      → (output' : List ℕ) → output' ≡ cond (ends (shelf t) c (h .server)) (over (contentOf c kept) output) output → TakesAs t client writers keys c kept reply
+      → (output' : List ℕ) → output' ≡ cond (ends (shelf t) c (h .server)) (over (contentOf c kept) output) output
+      → TakesAs t client writers keys c kept reply
       output a kept output'
   unfolding takeByRounds
   takes-repair e a r output' o =

@@ -1,5 +1,5 @@
--- Begins, giving up and making a packet, by the call's own fields on bytes, are those that look at the bytes as a client and put it back: for every state.
--- Refusals are one list; what an accepted step writes is the same. The width of the marks is that of their type. Nothing is assumed.
+-- Begins, giving up and making a packet, by the call's own fields on bytes, are those that look at the bytes as a client and put it back: for every
+-- state. Refusals are one list; what an accepted step writes is the same. The width of the marks is that of their type. Nothing is assumed.
 use mathlib.Core.Path.{_≡_, refl, sym, ap, _∙_, subst}
 use mathlib.Core.Bool.{Bool, true, false, cond, not}
 use mathlib.Core.List.{List, []}
@@ -70,8 +70,10 @@ module _ (t client : ℕ) (c : Call) (wide : length (c .tally .marks) ≡ mostSe
             kept = put (put kept 0 content) noncePlace nonce;
           }
 
-      begin : inHand c ≡ false → begunBy s c kept (record { client = begun (view s c kept) (clocking content nonce (c .last)); result = more }) ≡ done 0
-      begin p = unfold begunBy after putBack begins awaits begun fresh inHand in rw (none-marked, none-counted, other-round (c .tally .round) 1 p refl)
+      begin : inHand c ≡ false → begunBy s c kept (record { client = begun (view s c kept) (clocking content nonce (c .last)); result = more })
+          ≡ done 0
+      begin p = unfold begunBy after putBack begins awaits begun fresh inHand
+          in rw (none-marked, none-counted, other-round (c .tally .round) 1 p refl)
 
   pub same-read : (kept : List ℕ) → beginRead t client c kept ≡ readByRounds t client c kept
   unfolding beginRead readByRounds readStep view
@@ -89,8 +91,10 @@ module _ (t client : ℕ) (c : Call) (wide : length (c .tally .marks) ≡ mostSe
             kept = put kept candidatesPlace (replicate (candidateSlot * mostServers) 0);
           }
 
-      begin : inHand c ≡ false → begunBy s c kept (record { client = begun (view s c kept) (collecting (λ b. blankCandidate s)); result = more }) ≡ done 0
-      begin p = unfold begunBy after putBack begins awaits begun fresh inHand in rw (none-marked, none-counted, other-round (c .tally .round) 4 p refl)
+      begin : inHand c ≡ false → begunBy s c kept (record { client = begun (view s c kept) (collecting (λ b. blankCandidate s)); result = more })
+          ≡ done 0
+      begin p = unfold begunBy after putBack begins awaits begun fresh inHand
+          in rw (none-marked, none-counted, other-round (c .tally .round) 4 p refl)
 
   -- complete is round 3
   complete-is : (r : ℕ) → within 1 6 r ≡ true → eqb (awaits (handOf s r c [])) 6 ≡ eqb r 3

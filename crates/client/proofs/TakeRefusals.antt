@@ -114,6 +114,7 @@ module _ (t client : ℕ) (writers : List ℕ) (keys : ByServer (List ℕ)) (c :
   unfolding highIn
   never-high ne = rw (ne-eqb (c .tally .round) 1 ne)
 
-  pub clock-high : c .tally .round ≡ 1 → high (h .server) x ≡ (ends (shelf t) c (h .server) && leb topNumber (higher real writers (c .high) (stampIn x)))
+  pub clock-high : c .tally .round ≡ 1 → high (h .server) x ≡ (ends (shelf t) c (h .server)
+      && leb topNumber (higher real writers (c .high) (stampIn x)))
   unfolding highIn
   clock-high e = rw (eq-eqb (c .tally .round) 1 e)

@@ -43,55 +43,59 @@ round-one P client writers keys output a q (suc (suc (suc (suc (suc zero))))) i 
 round-one P client writers keys output a q (suc (suc (suc (suc (suc (suc zero)))))) i = repair-one P client writers keys output a q
 round-one P client writers keys output a q (suc (suc (suc (suc (suc (suc (suc n))))))) i = absurd (subst T (sym i ∙ out-of-rounds n) tt)
 
-module _ (P : Primitives) (t client : ℕ) (writers : List ℕ) (keys : ByServer (List ℕ)) (c : Call) (kept output : List ℕ) (h : Sound (shelf t) c kept) where
-  abbrev s : Config
-  s = shelf t
+module _ (P : Primitives) (t client : ℕ) (writers : List ℕ) (keys : ByServer (List ℕ)) (c : Call) (kept output : List ℕ) (h : Sound (shelf t) c kept)
+  where
+    abbrev s : Config
+    s = shelf t
 
-  abbrev cl : Client
-  cl = view (shelf t) c kept
+    abbrev cl : Client
+    cl = view (shelf t) c kept
 
-  abbrev high : ℕ → Body → Bool
-  high = highIn P s client writers keys c kept output
+    abbrev high : ℕ → Body → Bool
+    high = highIn P s client writers keys c kept output
 
-  abbrev code : Option Packet → ℕ
-  code o = takeRefusal s client o (c .number) (awaited c) (marked (c .tally .marks)) high (length output)
+    abbrev code : Option Packet → ℕ
+    code o = takeRefusal s client o (c .number) (awaited c) (marked (c .tally .marks)) high (length output)
 
-  high-same : highAt P s client writers keys cl ≡ high
-  unfolding highIn highAt view ends
-  high-same = λ i b x. high-is P writers s (c .tally .round) c kept x (isFull s (withMark c b)) i
+    high-same : highAt P s client writers keys cl ≡ high
+    unfolding highIn highAt view ends
+    high-same = λ i b x. high-is P writers s (c .tally .round) c kept x (isFull s (withMark c b)) i
 
-  code-is : (o : Option Packet)
-      → takeRefusal s client o (cl .calls) (awaits (cl .hand)) (cl .marks) (highAt P s client writers keys cl) (length output) ≡ code o
-  unfolding view
-  code-is o =
-      λ i. takeRefusal s client o (c .number) (unfold view in awaits-is s c kept i) (marked (c .tally .marks)) (unfold view in high-same i) (length output)
+    code-is : (o : Option Packet)
+        → takeRefusal s client o (cl .calls) (awaits (cl .hand)) (cl .marks) (highAt P s client writers keys cl) (length output) ≡ code o
+    unfolding view
+    code-is o =
+        λ i. takeRefusal s client o (c .number) (unfold view in awaits-is s c kept i) (marked (c .tally .marks)) (unfold view in high-same i)
+        (length output)
 
-  -- an accepted reply
-  accepted-one : (p : Packet) → PacketOk p → code (some p) ≡ 0
-      → tookBy s c kept (putReply s kept (some p)) output (turnOn P s client writers keys cl (some p))
-      ≡ takeOn P s client writers keys c kept output (c .tally .round) (some p)
-  unfolding turnOn takeOn view ends putReply
-  accepted-one p ok e =
-      let a = let-in s client p (c .number) (awaited c) (marked (c .tally .marks)) high (length output) e in
-      let (i, k) = round-of t client c kept p (awaited c) high a refl in
-      rw k
-      (round-one P client writers keys output (reply-of t client c kept p (awaited c) high a h ok) (isFull s (withMark c (p .head .server))) (c .tally .round) i)
+    -- an accepted reply
+    accepted-one : (p : Packet) → PacketOk p → code (some p) ≡ 0
+        → tookBy s c kept (putReply s kept (some p)) output (turnOn P s client writers keys cl (some p))
+        ≡ takeOn P s client writers keys c kept output (c .tally .round) (some p)
+    unfolding turnOn takeOn view ends putReply
+    accepted-one p ok e =
+        let a = let-in s client p (c .number) (awaited c) (marked (c .tally .marks)) high (length output) e in
+        let (i, k) = round-of t client c kept p (awaited c) high a refl in
+        rw k
+        (round-one P client writers keys output (reply-of t client c kept p (awaited c) high a h ok) (isFull s (withMark c (p .head .server)))
+        (c .tally .round) i)
 
-  settle : (o : Option Packet) → ((p : Packet) → o ≡ some p → PacketOk p) → (n : ℕ) → code o ≡ n
-      → tookBy s c kept (putReply s kept o) output (onRefusal n (turnOn P s client writers keys cl o) (record { client = cl; result = refused n }))
-      ≡ onRefusal n (takeOn P s client writers keys c kept output (c .tally .round) o)
-      (took P s client writers keys c kept output (taken.Refused n) c kept)
-  settle o ok (suc n) e = unfold tookBy took after over in refl
-  settle (some p) ok zero e = accepted-one p (ok p refl) e
-  settle none ok zero e = absurd (not-none s client (c .number) (awaited c) (marked (c .tally .marks)) _ (length output) e)
+    settle : (o : Option Packet) → ((p : Packet) → o ≡ some p → PacketOk p) → (n : ℕ) → code o ≡ n
+        → tookBy s c kept (putReply s kept o) output (onRefusal n (turnOn P s client writers keys cl o) (record { client = cl; result = refused n }))
+        ≡ onRefusal n (takeOn P s client writers keys c kept output (c .tally .round) o)
+        (took P s client writers keys c kept output (taken.Refused n) c kept)
+    settle o ok (suc n) e = unfold tookBy took after over in refl
+    settle (some p) ok zero e = accepted-one p (ok p refl) e
+    settle none ok zero e = absurd (not-none s client (c .number) (awaited c) (marked (c .tally .marks)) _ (length output) e)
 
-  take-one : (o : Option Packet) → ((p : Packet) → o ≡ some p → PacketOk p)
-      → tookBy s c kept (putReply s kept o) output (takeStep P s client writers keys cl o (length output)) ≡ takeIn P s client writers keys c kept output o
-  unfolding takeStep takeIn
-  take-one o ok =
-      ap (λ (n : ℕ). tookBy s c kept (putReply s kept o) output
-      (onRefusal n (turnOn P s client writers keys cl o) (record { client = cl; result = refused n }))) (code-is o)
-      ∙ settle o ok (code o) refl
+    take-one : (o : Option Packet) → ((p : Packet) → o ≡ some p → PacketOk p)
+        → tookBy s c kept (putReply s kept o) output (takeStep P s client writers keys cl o (length output))
+        ≡ takeIn P s client writers keys c kept output o
+    unfolding takeStep takeIn
+    take-one o ok =
+        ap (λ (n : ℕ). tookBy s c kept (putReply s kept o) output
+        (onRefusal n (turnOn P s client writers keys cl o) (record { client = cl; result = refused n }))) (code-is o)
+        ∙ settle o ok (code o) refl
 
 pub same-take : (P : Primitives) (t client : ℕ) (writers : List ℕ) (keys : List (List ℕ)) (c : Call) (kept reply output : List ℕ)
     → length kept ≡ keptSize → length (c .tally .marks) ≡ mostServers

@@ -1,5 +1,5 @@
--- What take's tests leave of its definition: a refusal with the first test's number, which changes nothing; and what a reply that no test refuses tells.
--- Each is the ordered list of tests with the known ones put in. Assumes nothing.
+-- What take's tests leave of its definition: a refusal with the first test's number, which changes nothing; and what a reply that no test refuses
+-- tells. Each is the ordered list of tests with the known ones put in. Assumes nothing.
 use mathlib.Core.Path.{_≡_, refl, sym, ap, subst, _∙_}
 use mathlib.Core.Bool.{Bool, true, false, cond, true≢false}
 use mathlib.Core.List.{List, []}
@@ -107,7 +107,8 @@ module _ (t client : ℕ) (writers : List ℕ) (keys : List (List ℕ)) (c : Cal
   unfolding coreTake
   take-length h = rw (ne-eqb (length kept) keptSize h)
 
-  pub core-take : length kept ≡ keptSize → coreTake t client writers keys c kept reply output ≡ clientTake real t client writers keys c kept reply output
+  pub core-take : length kept ≡ keptSize → coreTake t client writers keys c kept reply output
+      ≡ clientTake real t client writers keys c kept reply output
   unfolding coreTake
   core-take h = rw (eq-eqb (length kept) keptSize h)
 

@@ -169,7 +169,8 @@ module _ (t client : ℕ) (writers : List ℕ) (keys : ByServer (List ℕ)) (c :
       clock-short l = as-clock ∙ short-refused t client writers keys c kept output h (clockReply stamp) (y .faults) (y .reader) clockKind (y .awaited)
           not-high l
 
-      clock-on : contentRoom ≤ length output → all ≡ takeClock real (shelf t) client writers keys c kept output (ends (shelf t) c (h .server)) (h .server)
+      clock-on : contentRoom ≤ length output → all ≡ takeClock real (shelf t) client writers keys c kept output (ends (shelf t) c (h .server))
+          (h .server)
           (clockReply stamp)
       unfolding takeOn
       clock-on room = as-clock ∙ (taken-reply t client writers keys c kept output h (clockReply stamp) (y .faults) (y .reader) clockKind (y .awaited)

@@ -71,7 +71,8 @@ offered t kept r digest tags =
 -- the kept bytes at the end of clock: the candidate and the shares of the write, under the number k
 abbrev pub writeMade : ℕ → ℕ → List ℕ → List (List ℕ) → Call → List ℕ → ℕ → List ℕ
 writeMade t client writers keys c kept k =
-    putShares (shelf t) (put kept chosenPlace (candidateF (shelf t) .print (candidateMade real (shelf t) client writers (keyOf keys) (nonceOf kept) k)))
+    putShares (shelf t) (put kept chosenPlace (candidateF (shelf t) .print
+    (candidateMade real (shelf t) client writers (keyOf keys) (nonceOf kept) k)))
     (sharesMade real (shelf t) client writers (keyOf keys) (contentOf c kept) (nonceOf kept) k) (shelf t .servers)
 
 -- all that is known of a reply of the pending round

@@ -56,7 +56,11 @@ pub(crate) fn enter(call: protocol::Call, round: u8) -> protocol::Call
 // The reply is noted, or it ends its round and the next one begins.
 pub(crate) fn step(call: protocol::Call, t: usize, server: usize, next: u8) -> Answered
     requires { ⌜ (t ≤ topFaults) × ((1 ≤ server) × (server ≤ mostServers)) ⌝ }
-    ensures { λ r. ⌜ r ≡ record { taken = taken.More; call = withTally call (cond (ends (shelf t) call server) (fresh next) (noted (shelf t) (call .tally) server)) } ⌝ }
+    ensures { λ r. ⌜ r ≡ record {
+      taken = taken.More;
+      call = withTally call
+          (cond (ends (shelf t) call server) (fresh next) (noted (shelf t) (call .tally) server));
+    } ⌝ }
 {
     let noted = note_reply(call, t, server);
     if rounds::is_full(t, noted.tally) {

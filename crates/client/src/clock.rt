@@ -75,7 +75,17 @@ fn end_clock(
     high: u32,
 ) -> Answered
     requires { ⌜ (1 ≤ t) × ((t ≤ topFaults) × ((client ≤ topClient) × ((length (now kept) ≡ keptSize) × (high < topNumber)))) ⌝ }
-    ensures { λ r. ⌜ (r ≡ record { taken = taken.More; call = record { number = call .number; last = suc high; high = call .high; length = call .length; tally = fresh 2 } })
+    ensures { λ r. ⌜ (r ≡ record {
+      taken = taken.More;
+      call = record {
+        number = call .number;
+        last = suc high;
+        high = call .high;
+        length =
+            call .length;
+        tally = fresh 2;
+      };
+    })
         × (now (kept .exit) ≡ writeMade t client (now (writers .entry)) (now (keys .entry)) call (now (kept .entry)) (suc high)) ⌝ }
 {
     prepare::prepare(kept, call, t, client, writers, keys, high + 1);
@@ -95,7 +105,8 @@ pub(crate) fn take_clock(
     room: usize,
 ) -> Answered
     requires { ⌜ Ready t client call (now reply) head × ((call .tally .round ≡ 1) × (length (now kept) ≡ keptSize)) ⌝ }
-    ensures { λ r. ⌜ ((output : List ℕ) → length output ≡ room → TakesAs t client (now (writers .entry)) (now (keys .entry)) call (now (kept .entry)) (now (reply .entry)) output r (now (kept .exit)) output) ⌝ }
+    ensures { λ r. ⌜ ((output : List ℕ) → length output ≡ room → TakesAs t client (now (writers .entry)) (now (keys .entry)) call (now (kept .entry))
+        (now (reply .entry)) output r (now (kept .exit)) output) ⌝ }
 {
     let body = wire::bytes::rest(reply, wire::sizes::HEAD);
     let high = stamps::higher(writers, call.high, body);

@@ -19,7 +19,8 @@ use crate::refusals;
 fn put_entry(out: &mut [u8], at: usize, kept: &[u8], t: usize, i: usize) -> usize
     requires { ⌜ (t ≤ topFaults) × ((i < mostServers) × ((length (now kept) ≡ keptSize) × (at + candidateSlot ≤ length (now out)))) ⌝ }
     ensures { λ r. ⌜ Wrote (now (out .entry)) at
-        (cond (listedIn t (now (kept .entry)) i) (candidateF (shelf t) .print (candidatesIn (shelf t) (now (kept .entry)) (suc i))) []) (now (out .exit)) r ⌝ }
+        (cond (listedIn t (now (kept .entry)) i) (candidateF (shelf t) .print (candidatesIn (shelf t) (now (kept .entry)) (suc i))) [])
+        (now (out .exit)) r ⌝ }
 {
     if !decide::listed(kept, t, i) {
         return at;

@@ -101,7 +101,8 @@ fn make_plain(
 ) -> cluster::Outcome
     requires { ⌜ (t ≤ topFaults) × ((client ≤ topClient) × ((1 ≤ server) × ((server ≤ shelf t .servers) × ((length (now kept) ≡ keptSize)
         × ((packetRoom ≤ length (now out)) × ((inHand call ≡ true) × (call .tally .round ≡ 5 → ⊥))))))) ⌝ }
-    ensures { λ r. ⌜ record { result = r; output = now (out .exit) } ≡ wholePacket (encode (made t client (view (shelf t) call (now (kept .entry))) server)) (now (out .entry)) ⌝ }
+    ensures { λ r. ⌜ record { result = r; output = now (out .exit) } ≡ wholePacket
+        (encode (made t client (view (shelf t) call (now (kept .entry))) server)) (now (out .entry)) ⌝ }
 {
     let tally = call.tally;
     let round = tally.round;
@@ -122,7 +123,8 @@ fn make_plain(
 fn make_filter(head: protocol::Head, kept: &[u8], t: usize, out: &mut [u8]) -> cluster::Outcome
     requires { ⌜ (1 ≤ t) × ((t ≤ topFaults) × ((length (now kept) ≡ keptSize) × (packetRoom ≤ length (now out)))) ⌝ }
     ensures { λ r. ⌜ record { result = r; output = now (out .exit) }
-        ≡ wholePacket (headF .print head ++ candidatesF (shelf t) .print (gather (candidatesIn (shelf t) (now (kept .entry))) (shelf t .servers))) (now (out .entry)) ⌝ }
+        ≡ wholePacket (headF .print head ++ candidatesF (shelf t) .print (gather (candidatesIn (shelf t) (now (kept .entry))) (shelf t .servers)))
+        (now (out .entry)) ⌝ }
 {
     let a = wire::make::put_head(out, 0, head);
     let b = wire::make::put_byte(out, a, decide::count_listed(kept, t));
@@ -144,7 +146,8 @@ fn make_round(
 ) -> cluster::Outcome
     requires { ⌜ (1 ≤ t) × ((t ≤ topFaults) × ((client ≤ topClient) × ((1 ≤ server) × ((server ≤ shelf t .servers) × ((length (now kept) ≡ keptSize)
         × ((packetRoom ≤ length (now out)) × (inHand call ≡ true))))))) ⌝ }
-    ensures { λ r. ⌜ record { result = r; output = now (out .exit) } ≡ wholePacket (encode (made t client (view (shelf t) call (now (kept .entry))) server)) (now (out .entry)) ⌝ }
+    ensures { λ r. ⌜ record { result = r; output = now (out .exit) } ≡ wholePacket
+        (encode (made t client (view (shelf t) call (now (kept .entry))) server)) (now (out .entry)) ⌝ }
 {
     let tally = call.tally;
     let round = tally.round;

@@ -20,10 +20,13 @@ use crate::stamps;
 // The fragment of server i + 1 and its digest, each after those before it.
 fn put_fragment(fragments: &mut [u8], digests: &mut [u8], t: usize, i: usize, content: &[u8])
     requires { ⌜ (1 ≤ t) × ((t ≤ topFaults) × ((suc i ≤ shelf t .servers) × ((length (now content) ≤ topLength)
-        × ((fragmentSize (shelf t .threshold) (length (now content)) * i + fragmentSize (shelf t .threshold) (length (now content)) ≤ length (now fragments))
+        × ((fragmentSize (shelf t .threshold) (length (now content)) * i + fragmentSize (shelf t .threshold) (length (now content)) ≤ length
+        (now fragments))
         × (digestSize * i + digestSize ≤ length (now digests)))))) ⌝ }
-    ensures { λ _. ⌜ (now (fragments .exit) ≡ put (now (fragments .entry)) (fragmentSize (shelf t .threshold) (length (now (content .entry))) * i) (fragment (shelf t .points) (shelf t .threshold) (now (content .entry)) (suc i)))
-        × (now (digests .exit) ≡ put (now (digests .entry)) (digestSize * i) (sha256 (fragment (shelf t .points) (shelf t .threshold) (now (content .entry)) (suc i)))) ⌝ }
+    ensures { λ _. ⌜ (now (fragments .exit) ≡ put (now (fragments .entry)) (fragmentSize (shelf t .threshold) (length (now (content .entry))) * i)
+        (fragment (shelf t .points) (shelf t .threshold) (now (content .entry)) (suc i)))
+        × (now (digests .exit) ≡ put (now (digests .entry)) (digestSize * i)
+        (sha256 (fragment (shelf t .points) (shelf t .threshold) (now (content .entry)) (suc i)))) ⌝ }
 {
     let made = erasure::fragment(t, i + 1, content);
     let bytes = made.bytes;
@@ -52,7 +55,8 @@ pub(crate) fn put_fragments(fragments: &mut [u8], digests: &mut [u8], t: usize, 
 // A share at its slot: the length, the fragment, and what is the same for all servers.
 fn put_share(kept: &mut [u8], i: usize, size: [u8; 2], fragment: &[u8], common: &[u8])
     requires { ⌜ (suc i ≤ mostServers) × ((length (now kept) ≡ keptSize) × (2 + (length (now fragment) + length (now common)) ≤ replySlot)) ⌝ }
-    ensures { λ _. ⌜ now (kept .exit) ≡ put (now (kept .entry)) (repliesPlace + replySlot * i) (size ++ (now (fragment .entry) ++ now (common .entry))) ⌝ }
+    ensures { λ _. ⌜ now (kept .exit) ≡ put (now (kept .entry)) (repliesPlace + replySlot * i)
+        (size ++ (now (fragment .entry) ++ now (common .entry))) ⌝ }
 {
     let at = wire::kept::REPLIES + wire::kept::REPLY_SLOT * i;
     kept::write_at(kept, at, &size);
@@ -88,7 +92,8 @@ pub(crate) fn put_shares(
 
 // Line 90: the candidate that complete will show.
 pub(crate) fn put_candidate(kept: &mut [u8], stamp: &[u8], nonce: &[u8], tags: &[u8])
-    requires { ⌜ (length (now kept) ≡ keptSize) × ((length (now stamp) ≡ stampSize) × ((length (now nonce) ≡ nonceSize) × (length (now tags) ≤ tagSize * mostServers))) ⌝ }
+    requires { ⌜ (length (now kept) ≡ keptSize) × ((length (now stamp) ≡ stampSize)
+        × ((length (now nonce) ≡ nonceSize) × (length (now tags) ≤ tagSize * mostServers))) ⌝ }
     ensures { λ _. ⌜ now (kept .exit) ≡ put (now (kept .entry)) chosenPlace (now (stamp .entry) ++ (now (nonce .entry) ++ now (tags .entry))) ⌝ }
 {
     kept::write_at(kept, wire::kept::CHOSEN, stamp);
@@ -127,11 +132,13 @@ fn put_parts(
     digest: [u8; cluster::KEY],
     tags: &[u8],
 ) -> usize
-    requires { ⌜ (1 ≤ t) × ((t ≤ topFaults) × ((fragmentSize (shelf t .threshold) (length (contentOf call (now kept))) * shelf t .servers ≤ length (now fragments))
+    requires { ⌜ (1 ≤ t) × ((t ≤ topFaults) × ((fragmentSize (shelf t .threshold) (length (contentOf call (now kept))) * shelf t .servers ≤ length
+        (now fragments))
         × (digestSize * shelf t .servers + digestSize + length (now tags) ≤ length (now common)))) ⌝ }
     ensures { λ r. ⌜ (r ≡ length (contentOf call (now (kept .entry))))
         × ((now (fragments .exit) ≡ put (now (fragments .entry)) 0 (fragmentRun t (contentOf call (now (kept .entry))) (shelf t .servers)))
-        × (now (common .exit) ≡ put (now (common .entry)) 0 (digestRun t (contentOf call (now (kept .entry))) (shelf t .servers) ++ (digest ++ now (tags .entry))))) ⌝ }
+        × (now (common .exit) ≡ put (now (common .entry)) 0 (digestRun t (contentOf call (now (kept .entry))) (shelf t .servers)
+        ++ (digest ++ now (tags .entry))))) ⌝ }
 {
     let content = kept::content(kept, call);
     put_fragments(fragments, common, t, content);
@@ -148,8 +155,10 @@ const COMMON: usize = cluster::KEY * cluster::MOST_SERVERS
 
 // The shares of a content of n bytes at their slots.
 fn put_sized(kept: &mut [u8], t: usize, n: usize, fragments: &[u8], common: &[u8])
-    requires { ⌜ (t ≤ topFaults) × ((n ≤ topLength) × ((length (now kept) ≡ keptSize) × (2 + (fragmentSize (shelf t .threshold) n + length (now common)) ≤ replySlot))) ⌝ }
-    ensures { λ _. ⌜ now (kept .exit) ≡ shareRun (now (kept .entry)) (print2 n) (now (fragments .entry)) (fragmentSize (shelf t .threshold) n) (now (common .entry)) (shelf t .servers) ⌝ }
+    requires { ⌜ (t ≤ topFaults) × ((n ≤ topLength) × ((length (now kept) ≡ keptSize)
+        × (2 + (fragmentSize (shelf t .threshold) n + length (now common)) ≤ replySlot))) ⌝ }
+    ensures { λ _. ⌜ now (kept .exit) ≡ shareRun (now (kept .entry)) (print2 n) (now (fragments .entry)) (fragmentSize (shelf t .threshold) n)
+        (now (common .entry)) (shelf t .servers) ⌝ }
 {
     let f = wire::sizes::fragment_size(t as u8, n as u32);
     put_shares(kept, t, size_bytes(n), fragments, f, common);
@@ -185,7 +194,8 @@ fn put_write(
 )
     requires { ⌜ (1 ≤ t) × ((t ≤ topFaults) × ((length (now kept) ≡ keptSize)
         × ((length (now stamp) ≡ stampSize) × ((length (now nonce) ≡ nonceSize) × (length (now tags) ≡ tagSize * shelf t .servers))))) ⌝ }
-    ensures { λ _. ⌜ now (kept .exit) ≡ offered t (put (now (kept .entry)) chosenPlace (now (stamp .entry) ++ (now (nonce .entry) ++ now (tags .entry))))
+    ensures { λ _. ⌜ now (kept .exit) ≡ offered t (put (now (kept .entry)) chosenPlace
+        (now (stamp .entry) ++ (now (nonce .entry) ++ now (tags .entry))))
         (contentOf call (now (kept .entry))) digest (now (tags .entry)) ⌝ }
 {
     put_candidate(kept, stamp, nonce, tags);

@@ -24,8 +24,13 @@ pub(crate) fn take_collect(
     server: usize,
     body: &[u8],
 ) -> Answered
-    requires { ⌜ (t ≤ topFaults) × ((1 ≤ server) × ((server ≤ mostServers) × ((length (now kept) ≡ keptSize) × (length (now body) ≤ candidateSlot)))) ⌝ }
-    ensures { λ r. ⌜ (r ≡ record { taken = taken.More; call = withTally call (cond (ends (shelf t) call server) (fresh 5) (noted (shelf t) (call .tally) server)) })
+    requires { ⌜ (t ≤ topFaults) × ((1 ≤ server) × ((server ≤ mostServers) × ((length (now kept) ≡ keptSize) × (length (now body) ≤ candidateSlot))))
+        ⌝ }
+    ensures { λ r. ⌜ (r ≡ record {
+      taken = taken.More;
+      call = withTally call
+          (cond (ends (shelf t) call server) (fresh 5) (noted (shelf t) (call .tally) server));
+    })
         × (now (kept .exit) ≡ put (now (kept .entry)) (candidatesPlace + candidateSlot * (server - 1)) (now (body .entry))) ⌝ }
 {
     kept::write_at(

@@ -60,7 +60,8 @@ fn take_read_round(
     reply: &[u8],
     out: &mut [u8],
 ) -> Answered
-    requires { ⌜ Ready t client call (now reply) head × ((4 ≤ call .tally .round) × ((length (now kept) ≡ keptSize) × (contentRoom ≤ length (now out)))) ⌝ }
+    requires { ⌜ Ready t client call (now reply) head × ((4 ≤ call .tally .round)
+        × ((length (now kept) ≡ keptSize) × (contentRoom ≤ length (now out)))) ⌝ }
     ensures { λ r. ⌜ ((writers : List ℕ) (keys : List (List ℕ))
         → TakesAs t client writers keys call (now (kept .entry)) (now (reply .entry)) (now (out .entry)) r (now (kept .exit)) (now (out .exit))) ⌝ }
 {
@@ -95,7 +96,8 @@ fn take_round(
     out: &mut [u8],
 ) -> Answered
     requires { ⌜ Ready t client call (now reply) head × (length (now kept) ≡ keptSize) ⌝ }
-    ensures { λ r. ⌜ TakesAs t client (now (writers .entry)) (now (keys .entry)) call (now (kept .entry)) (now (reply .entry)) (now (out .entry)) r (now (kept .exit)) (now (out .exit)) ⌝ }
+    ensures { λ r. ⌜ TakesAs t client (now (writers .entry)) (now (keys .entry)) call (now (kept .entry)) (now (reply .entry)) (now (out .entry)) r
+        (now (kept .exit)) (now (out .exit)) ⌝ }
 {
     let tally = call.tally;
     let round = tally.round;
@@ -123,7 +125,8 @@ fn take_reply(
     out: &mut [u8],
 ) -> Answered
     requires { ⌜ (badFaults (shelf t) ≡ false) × ((badClient (ofWrite (awaited call)) client ≡ false) × (length (now kept) ≡ keptSize)) ⌝ }
-    ensures { λ r. ⌜ TakesAs t client (now (writers .entry)) (now (keys .entry)) call (now (kept .entry)) (now (reply .entry)) (now (out .entry)) r (now (kept .exit)) (now (out .exit)) ⌝ }
+    ensures { λ r. ⌜ TakesAs t client (now (writers .entry)) (now (keys .entry)) call (now (kept .entry)) (now (reply .entry)) (now (out .entry)) r
+        (now (kept .exit)) (now (out .exit)) ⌝ }
 {
     let wire::packet::PacketRead::Value(head) = wire::packet::read_packet(reply) else {
         return answers::refused(cluster::refusals::LAYOUT, call);

@@ -1,5 +1,5 @@
--- The content of the rules is the one that the first members' fragments give: a member's fragment stands in its slot, and the leader's length is theirs.
--- Nothing is assumed.
+-- The content of the rules is the one that the first members' fragments give: a member's fragment stands in its slot, and the leader's length is
+-- theirs. Nothing is assumed.
 use mathlib.Core.Path.{_≡_, refl, sym, ap, _∙_}
 use mathlib.Core.Bool.{Bool, true, false, cond}
 use mathlib.Core.List.{List, [], _∷_, _++_, map, map-append}
@@ -63,7 +63,8 @@ module _ (t : ℕ) (ms kept : List ℕ) (i : ℕ) (d : List ℕ) (e : d ≡ sha2
       fragment-in (shelf t) (replySlotOf kept j) (sizeIn (replySlotOf kept j)) ∙ ap
       (λ (x : ℕ). bytesAt (replySlotOf kept j) (stampSize + 3) (fragmentSize (shelf t .threshold) x)) q
       ∙ slot-part kept j (stampSize + 3) (fragmentSize (shelf t .threshold) (sizeIn (replySlotOf kept b))) room
-      ∙ ap (λ (x : ℕ). bytesAt kept (repliesPlace + replySlot * x + (stampSize + 3)) (fragmentSize (shelf t .threshold) (sizeIn (replySlotOf kept b))))
+      ∙ ap (λ (x : ℕ). bytesAt kept (repliesPlace + replySlot * x + (stampSize + 3))
+      (fragmentSize (shelf t .threshold) (sizeIn (replySlotOf kept b))))
       (sym z) in
       ap (partOf real (shelf t) (suc j)) s ∙ ap (λ (x : List ℕ). record { server = suc j; bytes = x } ∷ []) f
 
@@ -90,13 +91,15 @@ module _ (t : ℕ) (ms kept : List ℕ) (i : ℕ) (d : List ℕ) (e : d ≡ sha2
           (ap (λ (y : Bool). cond y (partOf real (shelf t) (suc n) (repliesIn (shelf t) ms kept (suc n) .share)) [])
           (agrees-at t ms kept i b (suc n) ∙ q)
           ∙ member-part n (omega arith) q
-          ∙ sym (ap (λ (y : Bool). map (fragmentOf kept (fragmentSize (shelf t .threshold) (sizeIn (replySlotOf kept b)))) (cond y (suc n ∷ []) [])) q))
+          ∙ sym (ap (λ (y : Bool). map (fragmentOf kept (fragmentSize (shelf t .threshold) (sizeIn (replySlotOf kept b)))) (cond y (suc n ∷ []) []))
+          q))
       go false q =
           ap (λ (z : List Part). map (fragmentOf kept (fragmentSize (shelf t .threshold) (sizeIn (replySlotOf kept b))))
           (serversOf n (agreesAt t ms kept i b)) ++ z)
           (ap (λ (y : Bool). cond y (partOf real (shelf t) (suc n) (repliesIn (shelf t) ms kept (suc n) .share)) [])
           (agrees-at t ms kept i b (suc n) ∙ q)
-          ∙ sym (ap (λ (y : Bool). map (fragmentOf kept (fragmentSize (shelf t .threshold) (sizeIn (replySlotOf kept b)))) (cond y (suc n ∷ []) [])) q))
+          ∙ sym (ap (λ (y : Bool). map (fragmentOf kept (fragmentSize (shelf t .threshold) (sizeIn (replySlotOf kept b)))) (cond y (suc n ∷ []) []))
+          q))
 
   pub restored-members : restoredBy real (shelf t) (marked ms) (repliesIn (shelf t) ms kept) (candidatesIn (shelf t) kept (suc i)) (suc b)
       (repliesIn (shelf t) ms kept (suc b) .share)

@@ -1,5 +1,5 @@
--- The first proven candidate, one slot more at a time: a slot that is not tried, or has no leader, changes nothing; the first other one is the choice, and
--- stays it. The slot that holds the choice is the first that does. Nothing is assumed.
+-- The first proven candidate, one slot more at a time: a slot that is not tried, or has no leader, changes nothing; the first other one is the
+-- choice, and stays it. The slot that holds the choice is the first that does. Nothing is assumed.
 use mathlib.Core.Path.{_≡_, refl, sym, ap, _∙_, subst}
 use mathlib.Core.Bool.{Bool, true, false, cond, not, _&&_}
 use mathlib.Core.List.{List, [], _∷_, _++_}
@@ -93,7 +93,8 @@ module _ (t : ℕ) (marks kept : List ℕ) (key : ℕ) where
 
   -- the slot is passed
   pub chosen-passed : (n : ℕ) (r : Group) → chosenPlace t marks kept key n ≡ none
-      → GroupAs t marks kept n (cond (triedAt t kept key n) (leaderAt t marks kept n (shelf t .servers)) 0) r → r .server ≡ 0 → chosenPlace t marks kept
+      → GroupAs t marks kept n (cond (triedAt t kept key n) (leaderAt t marks kept n (shelf t .servers)) 0) r → r .server ≡ 0
+      → chosenPlace t marks kept
       key (n + 1) ≡ none
   chosen-passed n r h g e =
       ap (chosenPlace t marks kept key) (add-one n) ∙ chosen-more n h ∙ go (triedAt t kept key n) (leaderAt t marks kept n (shelf t .servers))

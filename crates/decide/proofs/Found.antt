@@ -1,5 +1,5 @@
--- What a caller learns of a found slot: the choice stands in the slot told, it has a leader, and comparing tags as the code does is the rule's comparison.
--- Nothing is assumed.
+-- What a caller learns of a found slot: the choice stands in the slot told, it has a leader, and comparing tags as the code does is the rule's
+-- comparison. Nothing is assumed.
 use mathlib.Core.Path.{_≡_, refl, sym, ap, _∙_, subst}
 use mathlib.Core.Bool.{Bool, true, false, cond, not, _||_, or-true}
 use mathlib.Core.List.{List, [], _∷_, _++_}

@@ -1,5 +1,5 @@
--- The list of candidates is that of the slots that enter it, in order: by induction on the servers. An equal one before is a slot's or a listed one's, which
--- is the same for a candidate that is not blank. Nothing is assumed.
+-- The list of candidates is that of the slots that enter it, in order: by induction on the servers. An equal one before is a slot's or a listed
+-- one's, which is the same for a candidate that is not blank. Nothing is assumed.
 use mathlib.Core.Path.{_≡_, refl, sym, ap, _∙_, subst}
 use mathlib.Core.Bool.{Bool, true, false, cond, not, _||_}
 use mathlib.Core.List.{List, [], _∷_, _++_}

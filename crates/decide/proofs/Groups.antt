@@ -1,5 +1,5 @@
--- Groups, as the code finds them: a reply fits where it names the candidate and its fragment has its own digest, cheap tests first; it agrees where it also
--- agrees with the leader's; and a leader that fits agrees with itself. Nothing is assumed.
+-- Groups, as the code finds them: a reply fits where it names the candidate and its fragment has its own digest, cheap tests first; it agrees where
+-- it also agrees with the leader's; and a leader that fits agrees with itself. Nothing is assumed.
 use mathlib.Core.Path.{_≡_, refl, sym, ap, _∙_, subst}
 use mathlib.Core.Bool.{Bool, true, false, cond, _&&_, and-assoc, and-false, and-true}
 use mathlib.Core.List.{List}
@@ -182,7 +182,8 @@ module _ (t : ℕ) (ms kept : List ℕ) (i : ℕ) where
   leads-count b h = rw h
 
   pub leads-few : (b : ℕ) → fitsAt t ms kept i b ≡ true → length (membersAt t ms kept i b) < shelf t .threshold → leadsAt t ms kept i b ≡ false
-  leads-few b h l = leads-count b h ∙ lt-leb (shelf t .threshold) (countTo (shelf t .servers) (agreesAt t ms kept i b)) (omega (arith, members-length b))
+  leads-few b h l = leads-count b h ∙ lt-leb (shelf t .threshold) (countTo (shelf t .servers) (agreesAt t ms kept i b))
+      (omega (arith, members-length b))
 
   pub leads-enough : (b : ℕ) → fitsAt t ms kept i b ≡ true → shelf t .threshold ≤ length (membersAt t ms kept i b) → leadsAt t ms kept i b ≡ true
   leads-enough b h l = leads-count b h ∙ le-leb (shelf t .threshold) (countTo (shelf t .servers) (agreesAt t ms kept i b))

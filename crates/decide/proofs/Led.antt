@@ -23,7 +23,8 @@ module _ (t : ℕ) (marks kept : List ℕ) (i : ℕ) where
       (cond (leadsAt t marks kept i b) (suc b) 0) r
   nobody-leads b r e k = no-group (cond (leadsAt t marks kept i b) (suc b) 0) r e (rw k)
 
-  pub slot-leads : (b : ℕ) (r : Group) → r .server ≡ suc b → leadsAt t marks kept i b ≡ true → take (shelf t .threshold) (r .servers) ≡ membersAt t marks
+  pub slot-leads : (b : ℕ) (r : Group) → r .server ≡ suc b → leadsAt t marks kept i b ≡ true → take (shelf t .threshold) (r .servers)
+      ≡ membersAt t marks
       kept i b
       → GroupAs t marks kept i (cond (leadsAt t marks kept i b) (suc b) 0) r
   slot-leads b r e k m =

@@ -1,5 +1,5 @@
--- What is decided, by the highest rank that stays and by what was found: a refusal of other arguments, blank where the rank is the blank one, nothing yet
--- where no slot was found, and else the slot, the leader and the content that its members' fragments give. Nothing is assumed.
+-- What is decided, by the highest rank that stays and by what was found: a refusal of other arguments, blank where the rank is the blank one, nothing
+-- yet where no slot was found, and else the slot, the leader and the content that its members' fragments give. Nothing is assumed.
 use mathlib.Core.Path.{_≡_, refl, sym, ap, _∙_, subst}
 use mathlib.Core.Bool.{true}
 use mathlib.Core.Logic.{_≢_}
@@ -41,7 +41,8 @@ module _ (t : ℕ) (marks kept : List ℕ) (u : Usable t kept) (key : ℕ) (r : 
   led = leader-leads t marks kept (r .slot) (shelf t .servers) b (k .leader)
 
   -- the leader's reply fits
-  hit-fits : (fitsAt t marks kept (r .slot) b ≡ true) × (shelf t .threshold ≤ length (serversOf (shelf t .servers) (agreesAt t marks kept (r .slot) b)))
+  hit-fits : (fitsAt t marks kept (r .slot) b ≡ true) × (shelf t .threshold ≤ length
+      (serversOf (shelf t .servers) (agreesAt t marks kept (r .slot) b)))
   hit-fits = leads-fits t marks kept (r .slot) b (led .0)
 
   pub hit-small : b < mostServers

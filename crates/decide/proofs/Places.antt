@@ -1,5 +1,5 @@
--- The slots of the kept bytes: a part of a part is a part, comparing slots is comparing the stamps and candidates in them, and a stamp's rank is read off
--- its first five bytes. Comparing needs bytes: numbers of four bytes tell them only then. Nothing else is assumed.
+-- The slots of the kept bytes: a part of a part is a part, comparing slots is comparing the stamps and candidates in them, and a stamp's rank is read
+-- off its first five bytes. Comparing needs bytes: numbers of four bytes tell them only then. Nothing else is assumed.
 use mathlib.Core.Path.{_≡_, refl, sym, ap, _∙_}
 use mathlib.Core.Bool.{Bool, true, false, _&&_, and-assoc}
 use mathlib.Core.List.{List, [], _∷_, _++_}
@@ -70,9 +70,11 @@ same-append (x ∷ xs) b (y ∷ ys) d h =
 
 -- parts one after the other
 pub same-parts : (a b : List ℕ) (p q n m : ℕ) → p + n ≤ length a → q + n ≤ length b
-    → sameList (bytesAt a p (n + m)) (bytesAt b q (n + m)) ≡ (sameList (bytesAt a p n) (bytesAt b q n) && sameList (bytesAt a (p + n) m) (bytesAt b (q + n) m))
+    → sameList (bytesAt a p (n + m)) (bytesAt b q (n + m)) ≡ (sameList (bytesAt a p n) (bytesAt b q n)
+    && sameList (bytesAt a (p + n) m) (bytesAt b (q + n) m))
 same-parts a b p q n m h k =
-    ap (λ (z : List ℕ). sameList z (bytesAt b q (n + m))) (part-split a p n m) ∙ ap (sameList (bytesAt a p n ++ bytesAt a (p + n) m)) (part-split b q n m)
+    ap (λ (z : List ℕ). sameList z (bytesAt b q (n + m))) (part-split a p n m)
+    ∙ ap (sameList (bytesAt a p n ++ bytesAt a (p + n) m)) (part-split b q n m)
     ∙ same-append (bytesAt a p n) (bytesAt a (p + n) m) (bytesAt b q n) (bytesAt b (q + n) m) (part-length a p n h ∙ sym (part-length b q n k))
 
 -- a stamp of bytes is printed as it was read
@@ -102,7 +104,8 @@ same-candidates s a b p q h k =
     same-parts a b 0 0 (stampSize + nonceSize) (tagsSize s) (omega arith) (omega arith)
     ∙ ap (λ (z : Bool). z && sameList (bytesAt a (stampSize + nonceSize) (tagsSize s)) (bytesAt b (stampSize + nonceSize) (tagsSize s)))
     (same-parts a b 0 0 stampSize nonceSize (omega arith) (omega arith)
-    ∙ ap (λ (z : Bool). z && sameList (bytesAt a stampSize nonceSize) (bytesAt b stampSize nonceSize)) (same-stamps a b p q (omega arith) (omega arith)))
+    ∙ ap (λ (z : Bool). z && sameList (bytesAt a stampSize nonceSize) (bytesAt b stampSize nonceSize))
+    (same-stamps a b p q (omega arith) (omega arith)))
     ∙ and-assoc (sameStamp (stampAt a) (stampAt b)) (sameList (bytesAt a stampSize nonceSize) (bytesAt b stampSize nonceSize))
     (sameList (bytesAt a (stampSize + nonceSize) (tagsSize s)) (bytesAt b (stampSize + nonceSize) (tagsSize s)))
 
@@ -135,7 +138,8 @@ stamp-rank d at n h =
 -- two slots of candidates, compared by as many bytes as a candidate has
 pub same-slots : (s : Config) (kept : List ℕ) (i j : ℕ) → s .servers ≤ mostServers → Bytes kept → length kept ≡ keptSize → i < mostServers → j <
     mostServers
-    → sameList (bytesAt kept (candidatesPlace + candidateSlot * i) (candidateSize s)) (bytesAt kept (candidatesPlace + candidateSlot * j) (candidateSize s))
+    → sameList (bytesAt kept (candidatesPlace + candidateSlot * i) (candidateSize s))
+    (bytesAt kept (candidatesPlace + candidateSlot * j) (candidateSize s))
     ≡ sameCandidate (candidatesIn s kept (suc i)) (candidatesIn s kept (suc j))
 same-slots s kept i j few b l h k =
     let n : ℕ = candidatesPlace + candidateSlot * i in
@@ -147,14 +151,16 @@ same-slots s kept i j few b l h k =
     part-part kept m candidateSlot 0 (candidateSize s) (omega arith) ∙ (let e : m + 0 ≡ m = omega arith in ap
     (λ (x : ℕ). bytesAt kept x (candidateSize s)) e) in
     rw (← p, ← q, candidate-in s kept i h, candidate-in s kept j k)
-    (same-candidates s (bytesAt kept n candidateSlot) (bytesAt kept m candidateSlot) (bytes-part kept n candidateSlot b) (bytes-part kept m candidateSlot b)
+    (same-candidates s (bytesAt kept n candidateSlot) (bytesAt kept m candidateSlot) (bytes-part kept n candidateSlot b)
+    (bytes-part kept m candidateSlot b)
     (omega (arith, part-length kept n candidateSlot (omega arith))) (omega (arith, part-length kept m candidateSlot (omega arith))))
 
 pub nonce-in : (s : Config) (kept : List ℕ) (i : ℕ) → i < mostServers
     → candidatesIn s kept (suc i) .nonce ≡ bytesAt kept (candidatesPlace + candidateSlot * i + stampSize) nonceSize
 unfolding candidateAt
 nonce-in s kept i h =
-    ap (λ (c : Candidate). c .nonce) (candidate-in s kept i h) ∙ part-part kept (candidatesPlace + candidateSlot * i) candidateSlot stampSize nonceSize
+    ap (λ (c : Candidate). c .nonce) (candidate-in s kept i h) ∙ part-part kept (candidatesPlace + candidateSlot * i) candidateSlot stampSize
+    nonceSize
     (omega arith)
 
 pub candidate-tags : (s : Config) (kept : List ℕ) (i : ℕ) → i < mostServers → s .servers ≤ mostServers

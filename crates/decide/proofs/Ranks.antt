@@ -54,7 +54,8 @@ module _ (s : Config) (kept : List ℕ) where
   candidate-writer b zero = omega arith
   candidate-writer b (suc i) = go (ltb i mostServers)
     where
-      go : (y : Bool) → cond y (candidateAt s (bytesAt kept (candidatesPlace + candidateSlot * i) candidateSlot)) (blankCandidate s) .stamp .writer < 256
+      go : (y : Bool) → cond y (candidateAt s (bytesAt kept (candidatesPlace + candidateSlot * i) candidateSlot)) (blankCandidate s) .stamp .writer <
+          256
       go true = stamp-writer kept (candidatesPlace + candidateSlot * i) candidateSlot b
       go false = omega arith
 
@@ -76,7 +77,8 @@ module _ (s : Config) (kept : List ℕ) where
 
     -- a lower reply, as it is read
     pub below-slot : (key i : ℕ) → i < mostServers
-        → ranksBelow (marked ms) (repliesIn s ms kept) key (suc i) ≡ (not (eqb (getD ms i 0) 0) && ltb (rankAt kept (repliesPlace + replySlot * i)) key)
+        → ranksBelow (marked ms) (repliesIn s ms kept) key (suc i) ≡ (not (eqb (getD ms i 0) 0)
+        && ltb (rankAt kept (repliesPlace + replySlot * i)) key)
     unfolding marked
     below-slot key i h = go (not (eqb (getD ms i 0) 0)) refl
       where

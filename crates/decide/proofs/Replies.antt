@@ -1,5 +1,5 @@
--- A reply's slot read by place: its share's fields stand one after the other past the stamp and the byte, so that naming a candidate, having its own digest
--- and agreeing with another reply are comparisons of parts of slots. Stamps are compared by their bytes. Nothing is assumed.
+-- A reply's slot read by place: its share's fields stand one after the other past the stamp and the byte, so that naming a candidate, having its own
+-- digest and agreeing with another reply are comparisons of parts of slots. Stamps are compared by their bytes. Nothing is assumed.
 use mathlib.Core.Path.{_≡_, refl, sym, ap, _∙_, subst}
 use mathlib.Core.Bool.{Bool, true, false, _&&_, and-assoc, and-false}
 use mathlib.Core.List.{List}
@@ -64,14 +64,16 @@ module _ (s : Config) (d : List ℕ) where
     unfolding shareOfSize
     digests-in = body-part (2 + fragmentSize (s .threshold) n) (stampSize + 3 + fragmentSize (s .threshold) n) (digestsSize s) (omega arith)
 
-    pub nonce-digest-in : shareOfSize s n (drop (stampSize + 1) d) .nonceDigest ≡ bytesAt d (stampSize + 3 + fragmentSize (s .threshold) n + digestsSize s)
+    pub nonce-digest-in : shareOfSize s n (drop (stampSize + 1) d) .nonceDigest
+        ≡ bytesAt d (stampSize + 3 + fragmentSize (s .threshold) n + digestsSize s)
         digestSize
     unfolding shareOfSize
     nonce-digest-in =
         body-part (2 + fragmentSize (s .threshold) n + digestsSize s) (stampSize + 3 + fragmentSize (s .threshold) n + digestsSize s) digestSize
         (omega arith)
 
-    pub tags-in : shareOfSize s n (drop (stampSize + 1) d) .tags ≡ bytesAt d (stampSize + 3 + fragmentSize (s .threshold) n + digestsSize s + digestSize)
+    pub tags-in : shareOfSize s n (drop (stampSize + 1) d) .tags ≡ bytesAt d
+        (stampSize + 3 + fragmentSize (s .threshold) n + digestsSize s + digestSize)
         (tagsSize s)
     unfolding shareOfSize
     tags-in =
@@ -174,7 +176,8 @@ pub reply-tags : (t : ℕ) (kept : List ℕ) (j n at : ℕ) → n ≡ shareOf t 
 reply-tags t kept j n at e q l =
     let w : shareOf t kept (suc j) ≡ shareOfSize (shelf t) n (drop (stampSize + 1) (replySlotOf kept j)) =
     share-in t kept j ∙ ap (λ (x : ℕ). shareOfSize (shelf t) x (drop (stampSize + 1) (replySlotOf kept j))) (sym (e ∙ share-size t kept j)) in
-    let p : bytesAt (replySlotOf kept j) (stampSize + 3 + fragmentSize (shelf t .threshold) n + digestsSize (shelf t) + digestSize) (tagsSize (shelf t)) ≡
+    let p : bytesAt (replySlotOf kept j) (stampSize + 3 + fragmentSize (shelf t .threshold) n + digestsSize (shelf t) + digestSize)
+    (tagsSize (shelf t)) ≡
     bytesAt kept (repliesPlace + replySlot * j + (stampSize + 3 + fragmentSize (shelf t .threshold) n + digestsSize (shelf t) + digestSize))
     (tagsSize (shelf t)) =
     slot-part kept j (stampSize + 3 + fragmentSize (shelf t .threshold) n + digestsSize (shelf t) + digestSize) (tagsSize (shelf t)) l in
@@ -206,7 +209,8 @@ module _ (s : Config) (a b : List ℕ) (f : Full a) (g : Full b) where
   pub alike-in : sizeIn b ≡ sizeIn a → digestsIn s a + digestsSize s + digestSize + tagsSize s ≤ length a → digestsIn s a + digestsSize s +
       digestSize + tagsSize s ≤ length b
       → sameShare real s (heldAt s a .share) (heldAt s b .share)
-      ≡ sameList (bytesAt a (digestsIn s a) (digestsSize s + digestSize + tagsSize s)) (bytesAt b (digestsIn s a) (digestsSize s + digestSize + tagsSize s))
+      ≡ sameList (bytesAt a (digestsIn s a) (digestsSize s + digestSize + tagsSize s))
+      (bytesAt b (digestsIn s a) (digestsSize s + digestSize + tagsSize s))
   alike-in e l k =
       let n : ℕ = sizeIn a in
       let p : heldAt s b .share ≡ some (shareOfSize s n (drop (stampSize + 1) b)) = held-share s b (g .flag) ∙ ap

@@ -79,7 +79,8 @@ threshold-few : (t : ℕ) → t ≤ topFaults → shelf t .threshold ≤ mostSer
 unfolding shelf
 threshold-few t h = omega arith
 
-pub restores : (t n : ℕ) (ss frs out : List ℕ) (g : ℕ → Part) → 1 ≤ t → t ≤ topFaults → leastLength ≤ n → n ≤ topLength → length ss ≡ shelf t .threshold
+pub restores : (t n : ℕ) (ss frs out : List ℕ) (g : ℕ → Part) → 1 ≤ t → t ≤ topFaults → leastLength ≤ n → n ≤ topLength → length ss
+    ≡ shelf t .threshold
     → ((i : ℕ) → i < length ss → (1 ≤ getD ss i 0) × (getD ss i 0 ≤ shelf t .servers)) →
     ((i j : ℕ) → i < j → j < length ss → getD ss i 0 < getD ss j 0)
     → length frs ≡ length ss * fragmentSize (shelf t .threshold) n → contentRoom ≤ length out
@@ -92,7 +93,8 @@ pub restores : (t n : ℕ) (ss frs out : List ℕ) (g : ℕ → Part) → 1 ≤ 
 unfolding restoreStep restoreRefusal argumentChecks restoredBytes
 restores t n ss frs out g lo hi least most size within-range rise given room each-part =
     let d : firstDifferent (shelf t .threshold) ss ≡ places (length ss) = ap (λ (k : ℕ). firstDifferent k ss) (sym size) ∙ all-chosen ss rise in
-    let w : length (firstDifferent (shelf t .threshold) ss) ≡ shelf t .threshold = ap (λ (k : ℕ). length (firstDifferent k ss)) (sym size) ∙ chosen-length
+    let w : length (firstDifferent (shelf t .threshold) ss) ≡ shelf t .threshold = ap (λ (k : ℕ). length (firstDifferent k ss)) (sym size)
+    ∙ chosen-length
     ss rise ∙ size in
     let p : partsAt (fragmentSize (shelf t .threshold) n) ss frs (firstDifferent (shelf t .threshold) ss) ≡ map g ss =
     ap (partsAt (fragmentSize (shelf t .threshold) n) ss frs) d ∙ parts-all (fragmentSize (shelf t .threshold) n) ss frs g each-part in
@@ -134,7 +136,12 @@ module _ (t : ℕ) (kept servers : List ℕ) (n : ℕ) (u : Usable t kept) (most
         lowest = r .lowest p l;
         highest = omega (arith, w .few, r .highest p l);
         inside = omega (arith, u .size, w .few, w .room n most, r .lowest p l, r .highest p l);
-        room = rw e (omega (arith, place-room p (shelf t .threshold) (fragmentSize (shelf t .threshold) n) l, fragments-room t n (u .low) (u .high) most));
+        room = rw e (omega (
+          arith,
+          place-room p (shelf t .threshold) (fragmentSize (shelf t .threshold) n) l,
+          fragments-room t n (u .low) (u .high)
+              most,
+        ));
       }
 
   -- a server's fragment is lent whole
@@ -143,7 +150,8 @@ module _ (t : ℕ) (kept servers : List ℕ) (n : ℕ) (u : Usable t kept) (most
       → length (take (at + f - at) (drop at kept)) ≡ f
   source-length f p at e l q = ap length (part-of kept at f) ∙ part-length kept at f (omega (arith, turn f p e l .inside))
 
-  pub fragments-more : (out out' : List ℕ) (f p at : ℕ) → f ≡ fragmentSize (shelf t .threshold) n → p < shelf t .threshold → at ≡ repliesPlace + replySlot *
+  pub fragments-more : (out out' : List ℕ) (f p at : ℕ) → f ≡ fragmentSize (shelf t .threshold) n → p < shelf t .threshold → at
+      ≡ repliesPlace + replySlot *
       (getD servers p 0 - 1) + (stampSize + 3)
       → length out ≡ fragmentsRoom → ((q : ℕ) → q < p → bytesAt out (q * f) f ≡ fragmentOf kept f (getD servers q 0) .bytes) → out' ≡ put out (p * f)
       (take (at + f - at) (drop at kept))
@@ -171,7 +179,8 @@ module _ (t : ℕ) (kept servers : List ℕ) (n : ℕ) (u : Usable t kept) (most
   rebuilt b frs out out' o least size wide each room h =
       let c : shelf t .threshold ≤ mostServers = threshold-few t (u .high) in
       let l : length (take (shelf t .threshold) servers) ≡ shelf t .threshold = length-take-le (shelf t .threshold) servers (omega arith) in
-      let v : length (take (shelf t .threshold * fragmentSize (shelf t .threshold) n) frs) ≡ shelf t .threshold * fragmentSize (shelf t .threshold) n =
+      let v : length (take (shelf t .threshold * fragmentSize (shelf t .threshold) n) frs)
+      ≡ shelf t .threshold * fragmentSize (shelf t .threshold) n =
       length-take-le (shelf t .threshold * fragmentSize (shelf t .threshold) n) frs (each .long) in
       let at : (i : ℕ) → i < length (take (shelf t .threshold) servers) → getD (take (shelf t .threshold) servers) i 0 ≡ getD servers i 0 =
       λ i q. getD-take (shelf t .threshold) servers i 0 (omega arith) in

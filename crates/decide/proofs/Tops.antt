@@ -1,5 +1,6 @@
 -- The highest rank that stays decides: no live candidate is left where it is the blank one, and the highest live candidates are those of that rank.
--- A rank is below it where some live candidate's is higher: by induction on the servers; a twin raises nothing, since its rank was passed. Nothing is assumed.
+-- A rank is below it where some live candidate's is higher: by induction on the servers; a twin raises nothing, since its rank was passed. Nothing is
+-- assumed.
 use mathlib.Core.Path.{_≡_, refl, sym, ap, _∙_, subst}
 use mathlib.Core.Bool.{Bool, true, false, cond, _&&_, _||_, or-true, and-false, or-false}
 use mathlib.Core.List.{List, [], _∷_, _++_}

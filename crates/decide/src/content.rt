@@ -47,7 +47,8 @@ pub(crate) fn rebuild(
     servers: [usize; cluster::MOST_SERVERS],
     out: &mut [u8],
 ) -> usize
-    requires { ⌜ (Usable t (now kept)) × (b < mostServers) × (Full (replySlotOf (now kept) b)) × (Rising t servers) × (contentRoom ≤ length (now out)) ⌝ }
+    requires { ⌜ (Usable t (now kept)) × (b < mostServers) × (Full (replySlotOf (now kept) b)) × (Rising t servers)
+        × (contentRoom ≤ length (now out)) ⌝ }
     ensures { λ r. ⌜ (r ≡ length (contentOf t (now (kept .entry)) b (take (shelf t .threshold) servers)))
         × (now (out .exit) ≡ over (contentOf t (now (kept .entry)) b (take (shelf t .threshold) servers)) (now (out .entry))) ⌝ }
 {

@@ -47,7 +47,8 @@ pub(crate) fn fits(
     d: &[u8],
     j: usize,
 ) -> bool
-    requires { ⌜ (Usable t (now kept)) × (i < mostServers) × (j < shelf t .servers) × (now d ≡ sha256 (candidatesIn (shelf t) (now kept) (suc i) .nonce)) ⌝ }
+    requires { ⌜ (Usable t (now kept)) × (i < mostServers) × (j < shelf t .servers)
+        × (now d ≡ sha256 (candidatesIn (shelf t) (now kept) (suc i) .nonce)) ⌝ }
     ensures { λ r. ⌜ r ≡ fitsAt t marks (now (kept .entry)) i j ⌝ }
 {
     if marks[j] == 0 {
@@ -145,7 +146,8 @@ pub(crate) fn group_of(
     d: &[u8],
     b: usize,
 ) -> Group
-    requires { ⌜ (Usable t (now kept)) × (i < mostServers) × (b < shelf t .servers) × (now d ≡ sha256 (candidatesIn (shelf t) (now kept) (suc i) .nonce)) ⌝ }
+    requires { ⌜ (Usable t (now kept)) × (i < mostServers) × (b < shelf t .servers)
+        × (now d ≡ sha256 (candidatesIn (shelf t) (now kept) (suc i) .nonce)) ⌝ }
     ensures { λ r. ⌜ GroupAs t marks (now (kept .entry)) i (cond (leadsAt t marks (now (kept .entry)) i b) (suc b) 0) r ⌝ }
 {
     if !fits(kept, marks, t, i, d, b) {
@@ -190,7 +192,8 @@ pub(crate) fn tried(
     i: usize,
 ) -> Group
     requires { ⌜ (Usable t (now kept)) × (i < mostServers) ⌝ }
-    ensures { λ r. ⌜ GroupAs t marks (now (kept .entry)) i (cond (triedAt t (now (kept .entry)) key i) (leaderAt t marks (now (kept .entry)) i (shelf t .servers)) 0) r ⌝ }
+    ensures { λ r. ⌜ GroupAs t marks (now (kept .entry)) i (cond (triedAt t (now (kept .entry)) key i)
+        (leaderAt t marks (now (kept .entry)) i (shelf t .servers)) 0) r ⌝ }
 {
     if rank_at(kept, CANDIDATES + CANDIDATE_SLOT * i) != key {
         return no_group();

@@ -54,7 +54,8 @@ pub(crate) fn raised(
     top: u64,
 ) -> u64
     requires { ⌜ (Usable t (now kept)) × (i < mostServers) ⌝ }
-    ensures { λ r. ⌜ r ≡ raised (shelf t) (marked marks) (repliesIn (shelf t) marks (now (kept .entry))) (candidatesIn (shelf t) (now (kept .entry)) (suc i)) top ⌝ }
+    ensures { λ r. ⌜ r ≡ raised (shelf t) (marked marks) (repliesIn (shelf t) marks (now (kept .entry)))
+        (candidatesIn (shelf t) (now (kept .entry)) (suc i)) top ⌝ }
 {
     let key = rank_at(kept, CANDIDATES + CANDIDATE_SLOT * i);
     if key <= top {

@@ -91,7 +91,8 @@ pub(crate) fn intact_at(kept: &[u8], t: usize, j: usize) -> bool
 
 // The replies in slots b and j agree.
 pub(crate) fn alike_at(kept: &[u8], t: usize, b: usize, j: usize) -> bool
-    requires { ⌜ (Usable t (now kept)) × (b < mostServers) × (j < mostServers) × (Full (replySlotOf (now kept) b)) × (Full (replySlotOf (now kept) j)) ⌝ }
+    requires { ⌜ (Usable t (now kept)) × (b < mostServers) × (j < mostServers) × (Full (replySlotOf (now kept) b))
+        × (Full (replySlotOf (now kept) j)) ⌝ }
     ensures { λ r. ⌜ r ≡ sameShare real (shelf t) (slotHeld t (now (kept .entry)) b .share) (slotHeld t (now (kept .entry)) j .share) ⌝ }
 {
     let x = REPLIES + REPLY_SLOT * b;

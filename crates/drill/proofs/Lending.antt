@@ -1,5 +1,5 @@
--- A part of the work area is lent and comes back: the whole then has the new bytes at the part's place. So a client's step on its slot is a put there.
--- The list is what stands before the part, the part, and what stands after it. Assumes nothing.
+-- A part of the work area is lent and comes back: the whole then has the new bytes at the part's place. So a client's step on its slot is a put
+-- there. The list is what stands before the part, the part, and what stands after it. Assumes nothing.
 use mathlib.Core.Path.{_≡_, refl, ap, sym, _∙_}
 use mathlib.Core.List.{List, _++_, append-assoc}
 use Prim.Native.Nat.{ℕ, _+_, _≤_}

@@ -1,5 +1,5 @@
--- A number is printed from its last digit on: what has been printed stands at the end of its columns, spaces before it, and the rest of the number is due there.
--- Columns are put one after another. By induction on the columns. Assumes nothing.
+-- A number is printed from its last digit on: what has been printed stands at the end of its columns, spaces before it, and the rest of the number is
+-- due there. Columns are put one after another. By induction on the columns. Assumes nothing.
 use mathlib.Core.Path.{_≡_, refl, ap, sym, _∙_}
 use mathlib.Core.Bool.{Bool, true, false, cond}
 use mathlib.Core.List.{List, [], _∷_, _++_, append-assoc, append-nil}

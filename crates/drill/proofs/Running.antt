@@ -1,5 +1,5 @@
--- A sheet is run line by line: the rows printed and those that are due from the place on are the whole listing, and the area holds what the parties hold.
--- By one line more. Assumes nothing.
+-- A sheet is run line by line: the rows printed and those that are due from the place on are the whole listing, and the area holds what the parties
+-- hold. By one line more. Assumes nothing.
 use mathlib.Core.Path.{_≡_, refl, ap, sym, _∙_, subst}
 use mathlib.Core.Bool.{Bool, true, false, cond}
 use mathlib.Core.List.{List, [], _∷_, _++_, append-assoc, append-nil}

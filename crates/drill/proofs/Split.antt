@@ -72,7 +72,8 @@ module _ (s : List ℕ) (at : ℕ) (b : at < length s) where
         record {
           after = p .after;
           within = p .within;
-          first = p .whole ∙ ap (glue (bytesAt s at (i - at))) l ∙ glue-end (bytesAt s at (i - at)) (lines (drop (i + 1) s)) ∙ rw (lt-ltb i (length s) k);
+          first = p .whole ∙ ap (glue (bytesAt s at (i - at))) l ∙ glue-end (bytesAt s at (i - at)) (lines (drop (i + 1) s))
+              ∙ rw (lt-ltb i (length s) k);
         }
 
     pub ends-last : length s ≤ i → EndsAt s at i

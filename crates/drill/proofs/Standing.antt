@@ -1,5 +1,5 @@
--- What is put at one party's place of the work area stands there, and every other party's place is untouched: the area goes on holding what the parties hold.
--- The places are apart by their ranges. Assumes nothing.
+-- What is put at one party's place of the work area stands there, and every other party's place is untouched: the area goes on holding what the
+-- parties hold. The places are apart by their ranges. Assumes nothing.
 use mathlib.Core.Path.{_≡_, refl, ap, sym, _∙_}
 use mathlib.Core.Bool.{true}
 use mathlib.Core.List.{List, [], append-nil}

@@ -98,5 +98,10 @@ unfoldable pub drillOf : List ℕ → List ℕ → List ℕ → Drilled
 drillOf sheet output work =
     let n = drillRefusal sheet output work in
     onRefusal n
-    (record { result = record { number = n; count = length (listing sheet) }; output = over (listing sheet) output; work = replicate (length work) 0 })
+    (record {
+      result = record { number = n; count = length (listing sheet) };
+      output = over (listing sheet) output;
+      work = replicate (length work)
+          0;
+    })
     (record { result = record { number = n; count = 0 }; output = output; work = work })

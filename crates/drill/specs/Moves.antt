@@ -38,7 +38,8 @@ pub record RoundIn (w : List ℕ) (client round : ℕ) : Type 0 where
 pub record RowIn (t k n : ℕ) (l : Line) (w after output : List ℕ) (at : ℕ) (printed : List ℕ) (begun : ℕ) : Type 0 where
   pub stands : (m : Machines) → Stands t w m → Stands t after (stepOf (drillShelf t) m k l .state .machines)
   pub row : (m : Machines) → Stands t w m
-      → printed ≡ put output at (stepRow n l (roundOf (stepOf (drillShelf t) m k l .state .machines) (l .client)) (shown (stepOf (drillShelf t) m k l .result)))
+      → printed ≡ put output at (stepRow n l (roundOf (stepOf (drillShelf t) m k l .state .machines) (l .client))
+      (shown (stepOf (drillShelf t) m k l .result)))
   pub counts : (m : Machines) → Stands t w m → begun ≡ stepOf (drillShelf t) m k l .state .begun
 
 -- the rows of the lines after the first, over the start of the output

@@ -83,7 +83,11 @@ module _ (s : Shelf) (w : Machines) where
   blankLine server =
       let n = firstOf (refuse 4 (not (within 1 (configOf s .servers) server)) ∷ []) in
       onRefusal n
-      (record { machines = record { client = w .client; memory = upd (w .memory) server (blankLatest (w .memory server) .memory) }; result = more; sent = [] })
+      (record {
+        machines = record { client = w .client; memory = upd (w .memory) server (blankLatest (w .memory server) .memory) };
+        result = more;
+        sent = [];
+      })
       (staying (refused n))
 
   -- as many writes have begun

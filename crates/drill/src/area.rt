@@ -64,7 +64,8 @@ pub(crate) fn begin_write(
     nonce: &[u8; cluster::KEY],
 ) -> u8
     requires { ⌜ ((1 ≤ client) × (client ≤ topClient)) × (length (now work) ≡ workSize) ⌝ }
-    ensures { λ r. ⌜ BeginsAs (writeIn t (now (work .entry)) client (now (content .entry)) (now (nonce .entry))) (now (work .entry)) client (now (work .exit)) r ⌝ }
+    ensures { λ r. ⌜ BeginsAs (writeIn t (now (work .entry)) client (now (content .entry)) (now (nonce .entry))) (now (work .entry)) client
+        (now (work .exit)) r ⌝ }
 {
     let call = call_of(work, client);
     let a = kept_at(client);

@@ -25,7 +25,8 @@ fn rows_for(lines: usize) -> usize
 
 // Runs a sheet and prints its listing at the start of the output. The work area is cleared first, and left all 00h.
 pub fn drill(sheet: &[u8], out: &mut [u8], work: &mut [u8]) -> cluster::Outcome
-    ensures { λ r. ⌜ record { result = r; output = now (out .exit); work = now (work .exit) } ≡ drillOf (now (sheet .entry)) (now (out .entry)) (now (work .entry)) ⌝ }
+    ensures { λ r. ⌜ record { result = r; output = now (out .exit); work = now (work .exit) }
+        ≡ drillOf (now (sheet .entry)) (now (out .entry)) (now (work .entry)) ⌝ }
 {
     if work.len() != area::WORK {
         return cluster::refused(cluster::refusals::MEMORY_SIZE);

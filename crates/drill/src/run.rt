@@ -39,7 +39,8 @@ fn one_line(
     begun: u32,
     l: Line,
 ) -> u32
-    requires { ⌜ ((((1 ≤ t) × (t ≤ topFaults)) × (length (now work) ≡ workSize)) × (begun < topNumber)) × ((isStep l ≡ true) × (at + rowSize ≤ length (now out))) ⌝ }
+    requires { ⌜ ((((1 ≤ t) × (t ≤ topFaults)) × (length (now work) ≡ workSize)) × (begun < topNumber))
+        × ((isStep l ≡ true) × (at + rowSize ≤ length (now out))) ⌝ }
     ensures { λ r. ⌜ RowIn t begun n l (now (work .entry)) (now (work .exit)) (now (out .entry)) at (now (out .exit)) r ⌝ }
 {
     let s = crate::steps::step(work, t, begun, l);
@@ -80,7 +81,8 @@ pub(crate) fn rows_from(
 
 // The listing of a sheet in a cleared work area. Answers how many bytes it has.
 pub(crate) fn list(sheet: &[u8], out: &mut [u8], work: &mut [u8]) -> usize
-    requires { ⌜ ((length (now work) ≡ workSize) × (now work ≡ replicate (length (now work)) 0)) × (rowSize * rowsFor (length (lines (now sheet))) ≤ length (now out)) ⌝ }
+    requires { ⌜ ((length (now work) ≡ workSize) × (now work ≡ replicate (length (now work)) 0))
+        × (rowSize * rowsFor (length (lines (now sheet))) ≤ length (now out)) ⌝ }
     ensures { λ r. ⌜ ListsAs (now (sheet .entry)) (now (out .entry)) (now (out .exit)) r ⌝ }
 {
     if sheet.len() == 0 {

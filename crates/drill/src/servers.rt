@@ -28,7 +28,8 @@ pub(crate) fn serve(
     out: &mut [u8],
 ) -> cluster::Outcome
     requires { ⌜ ((1 ≤ server) × (server ≤ mostServers)) × (length (now work) ≡ workSize) ⌝ }
-    ensures { λ r. ⌜ ServesAs (serverTake real (memoryIn (now (work .entry)) server) (replicate keySize server) (now (packet .entry)) (now (out .entry))) (now (work .entry)) server (now (work .exit)) (now (out .exit)) r ⌝ }
+    ensures { λ r. ⌜ ServesAs (serverTake real (memoryIn (now (work .entry)) server) (replicate keySize server) (now (packet .entry))
+        (now (out .entry))) (now (work .entry)) server (now (work .exit)) (now (out .exit)) r ⌝ }
 {
     let a = server_at(server);
     let e = a + cluster::MEMORY;

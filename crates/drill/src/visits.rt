@@ -57,7 +57,8 @@ fn keys_for(client: usize) -> [[u8; cluster::KEY]; cluster::MOST_SERVERS]
 // The packet of a client's round for a server.
 fn make(work: &[u8], t: usize, client: usize, server: usize, out: &mut [u8]) -> cluster::Outcome
     requires { ⌜ ((1 ≤ client) × (client ≤ topClient)) × (length (now work) ≡ workSize) ⌝ }
-    ensures { λ r. ⌜ record { result = r; output = now (out .exit) } ≡ clientMake t client server (callIn (now (work .entry)) client) (keptIn (now (work .entry)) client) (now (out .entry)) ⌝ }
+    ensures { λ r. ⌜ record { result = r; output = now (out .exit) } ≡ clientMake t client server (callIn (now (work .entry)) client)
+        (keptIn (now (work .entry)) client) (now (out .entry)) ⌝ }
 {
     let call = area::call_of(work, client);
     client::packets::make_in(call, area::kept_of(work, client), t, client, server, out)
@@ -66,7 +67,8 @@ fn make(work: &[u8], t: usize, client: usize, server: usize, out: &mut [u8]) -> 
 // A client takes a reply.
 fn take(work: &mut [u8], t: usize, client: usize, reply: &[u8], out: &mut [u8]) -> protocol::Taken
     requires { ⌜ ((1 ≤ client) × (client ≤ topClient)) × (length (now work) ≡ workSize) ⌝ }
-    ensures { λ r. ⌜ TakesAs (takeIn t (now (work .entry)) client (now (reply .entry)) (now (out .entry))) (now (work .entry)) client (now (work .exit)) (now (out .exit)) r ⌝ }
+    ensures { λ r. ⌜ TakesAs (takeIn t (now (work .entry)) client (now (reply .entry)) (now (out .entry))) (now (work .entry)) client
+        (now (work .exit)) (now (out .exit)) r ⌝ }
 {
     let call = area::call_of(work, client);
     let a = area::kept_at(client);
@@ -89,7 +91,8 @@ fn take(work: &mut [u8], t: usize, client: usize, reply: &[u8], out: &mut [u8]) 
 
 // The packet to the server, and its reply back. The server has acted even if the client refuses.
 pub(crate) fn visit(work: &mut [u8], t: usize, client: usize, server: usize) -> Shown
-    requires { ⌜ ((t ≤ topFaults) × (length (now work) ≡ workSize)) × (((1 ≤ client) × (client ≤ topClient)) × ((1 ≤ server) × (server ≤ shelf t .servers))) ⌝ }
+    requires { ⌜ ((t ≤ topFaults) × (length (now work) ≡ workSize)) × (((1 ≤ client) × (client ≤ topClient))
+        × ((1 ≤ server) × (server ≤ shelf t .servers))) ⌝ }
     ensures { λ r. ⌜ DoneIn t (λ m. visited (drillShelf t) m client server) (now (work .entry)) (now (work .exit)) r ⌝ }
 {
     let mut packet = [0u8; cluster::PACKET_ROOM];

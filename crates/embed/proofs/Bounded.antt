@@ -1,5 +1,5 @@
--- What a step answers has room in one number: stamps' numbers go to 99,999,999, writers to 8, contents to 1,024 bytes, packets to 6,400, and a refusal
--- isn't 0.
+-- What a step answers has room in one number: stamps' numbers go to 99,999,999, writers to 8, contents to 1,024 bytes, packets to 6,400, and a
+-- refusal isn't 0.
 -- By cases on the round: what a client holds is within the layout at every moment. Nothing is assumed but the primitives' lengths.
 use mathlib.Core.Path.{_≡_, refl, subst, _∙_}
 use mathlib.Core.Bool.{Bool, true}
@@ -52,33 +52,34 @@ label-short : (s : Config) (d : Candidate) → candidateF s .Ok d → Short (lab
 unfolding candidateF stampF via seq number4 byte
 label-short s d h = (h .0 .0 .1, h .0 .1 .0 .1)
 
-module _ (P : Primitives) (law : Lengths P) (s : Config) (f : Fitting s) (client : ℕ) (writers : List ℕ) (keys : ByServer (List ℕ)) (cl : Client) where
-  abbrev Q : Turn → Type 0
-  Q u = Small (u .result)
+module _ (P : Primitives) (law : Lengths P) (s : Config) (f : Fitting s) (client : ℕ) (writers : List ℕ) (keys : ByServer (List ℕ)) (cl : Client)
+  where
+    abbrev Q : Turn → Type 0
+    Q u = Small (u .result)
 
-  judge-small : (m : ByServer Bool) (cs : List Candidate) (g : ByServer Held) (l : List Candidate) (o : Option Candidate)
-      → ((i : ℕ) → heldF s .Ok (g i)) → ((d : Candidate) → o ≡ some d → candidateF s .Ok d) → Q (judge P s client writers keys cl m cs g l o)
-  unfolding judge found
-  judge-small m cs g [] o h k = tt
-  judge-small m cs g (y ∷ l) none h k = tt
-  judge-small m cs g (y ∷ l) (some d) h k =
-      at-cond (sameList (tagsIn P s d (g (leader P s m g d (s .servers)) .share)) (d .tags)) _ _ Q
-      (λ e. (label-short s d (k d refl), content-short P law s m g h d _ f)) (λ e. tt)
+    judge-small : (m : ByServer Bool) (cs : List Candidate) (g : ByServer Held) (l : List Candidate) (o : Option Candidate)
+        → ((i : ℕ) → heldF s .Ok (g i)) → ((d : Candidate) → o ≡ some d → candidateF s .Ok d) → Q (judge P s client writers keys cl m cs g l o)
+    unfolding judge found
+    judge-small m cs g [] o h k = tt
+    judge-small m cs g (y ∷ l) none h k = tt
+    judge-small m cs g (y ∷ l) (some d) h k =
+        at-cond (sameList (tagsIn P s d (g (leader P s m g d (s .servers)) .share)) (d .tags)) _ _ Q
+        (λ e. (label-short s d (k d refl), content-short P law s m g h d _ f)) (λ e. tt)
 
-  update-small : (b : ℕ) (x : Body) (m : ByServer Bool) (full : Bool) (h : Hand) → HandOk s client h → BodyOk s x
-      → Q (update P s client writers keys cl b x m full h)
-  unfolding update HandOk
-  update-small b x m full idle h k = tt
-  update-small b x m full (clocking r n a) h k = at-cond full _ _ Q (λ e. tt) (λ e. tt)
-  update-small b x m full (storing d g) h k =
-      at-cond (eqb (codeIn x) 11) _ _ Q (λ e. tt) (λ e. at-cond full _ _ Q (λ e. tt) (λ e. tt))
-  update-small b x m full (completing d) h k = at-cond full _ _ Q (λ e. label-short s d h) (λ e. tt)
-  update-small b x m full (collecting g) h k = at-cond full _ _ Q (λ e. tt) (λ e. tt)
-  update-small b x m full (filtering cs g) h k =
-      let g' = upd-ok (heldF s .Ok) g b (heldIn x) (h .1) (held-in s x k) in
-      at-cond full _ _ Q
-      (λ e. judge-small m cs (upd g b (heldIn x)) _ _ g' (choice-ok P law s m (upd g b (heldIn x)) g' cs (h .0 .0))) (λ e. tt)
-  update-small b x m full (repairing d r) h k = at-cond full _ _ Q (λ e. (label-short s d (h .0), h .1)) (λ e. tt)
+    update-small : (b : ℕ) (x : Body) (m : ByServer Bool) (full : Bool) (h : Hand) → HandOk s client h → BodyOk s x
+        → Q (update P s client writers keys cl b x m full h)
+    unfolding update HandOk
+    update-small b x m full idle h k = tt
+    update-small b x m full (clocking r n a) h k = at-cond full _ _ Q (λ e. tt) (λ e. tt)
+    update-small b x m full (storing d g) h k =
+        at-cond (eqb (codeIn x) 11) _ _ Q (λ e. tt) (λ e. at-cond full _ _ Q (λ e. tt) (λ e. tt))
+    update-small b x m full (completing d) h k = at-cond full _ _ Q (λ e. label-short s d h) (λ e. tt)
+    update-small b x m full (collecting g) h k = at-cond full _ _ Q (λ e. tt) (λ e. tt)
+    update-small b x m full (filtering cs g) h k =
+        let g' = upd-ok (heldF s .Ok) g b (heldIn x) (h .1) (held-in s x k) in
+        at-cond full _ _ Q
+        (λ e. judge-small m cs (upd g b (heldIn x)) _ _ g' (choice-ok P law s m (upd g b (heldIn x)) g' cs (h .0 .0))) (λ e. tt)
+    update-small b x m full (repairing d r) h k = at-cond full _ _ Q (λ e. (label-short s d (h .0), h .1)) (λ e. tt)
 
 pub abort-small : (s : Config) (c : ℕ) (cl : Client) → Small (abortStep s c cl .result)
 unfolding abortStep
@@ -104,7 +105,8 @@ module _ (P : Primitives) (law : Lengths P) (t : ℕ) (f : Fitting (shelf t)) (c
   unfolding takeStep
   take-small none ok room =
       by-refusal (λ (u : Turn). Small (u .result)) _ _ (λ k. record { client = cl; result = refused k })
-      (λ e. absurd (not-none (shelf t) c (cl .calls) (awaits (cl .hand)) (cl .marks) (highAt P (shelf t) c writers keys cl) room e)) (λ j. omega arith)
+      (λ e. absurd (not-none (shelf t) c (cl .calls) (awaits (cl .hand)) (cl .marks) (highAt P (shelf t) c writers keys cl) room e))
+      (λ j. omega arith)
   take-small (some p) ok room =
       by-refusal (λ (u : Turn). Small (u .result)) _ _ (λ k. record { client = cl; result = refused k })
       (λ e. turn-small p (ok p refl) room e) (λ j. omega arith)
@@ -134,7 +136,8 @@ module _ (P : Primitives) (memory key packet output : List ℕ) where
   unfolding serverTake
   served-room = go (serverRefusal (eqb (length memory) memorySize) (decodeMemory memory) (decode packet) (length output))
     where
-      go : (n : ℕ) → Fits (onRefusal n (actedOn P memory key packet output (decodeMemory memory) (decode packet)) (turnedDown P memory key packet output n))
+      go : (n : ℕ) → Fits (onRefusal n (actedOn P memory key packet output (decodeMemory memory) (decode packet))
+          (turnedDown P memory key packet output n))
       go zero = done (decodeMemory memory) (decode packet)
       go (suc n) = down (suc n)
 

@@ -136,7 +136,8 @@ module _ (sh : Shelf) (tr : (1 ≤ sh .t) × (sh .t ≤ topFaults)) (keyed : Key
         let cl : Client = view s (m .client c .call) [] in
         said-answer (abortStep s c cl .result) [] (abort-small s c cl)
 
-    make-same : (c b : ℕ) (o : List ℕ) → makeIn (w .state c) (sh .t) c b o ≡ madeOut (clientMake (sh .t) c b (m .client c .call) (m .client c .kept) o)
+    make-same : (c b : ℕ) (o : List ℕ) → makeIn (w .state c) (sh .t) c b o
+        ≡ madeOut (clientMake (sh .t) c b (m .client c .call) (m .client c .kept) o)
     unfolding makeIn sized
     make-same c b o = rw (eq-eqb (length (w .state c)) clientSize (st .size c))
         (λ i. madeOut (clientMake (sh .t) c b (st .call c i) (st .kept c i) o))

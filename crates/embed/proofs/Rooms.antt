@@ -1,5 +1,5 @@
--- Lending the first bytes of a buffer in place of all of it: where as many are lent as a packet needs, or all there are, an operation answers the same
--- and leaves the same bytes, and its count is at most what was lent. The bytes past them are never written. Assumes nothing.
+-- Lending the first bytes of a buffer in place of all of it: where as many are lent as a packet needs, or all there are, an operation answers the
+-- same and leaves the same bytes, and its count is at most what was lent. The bytes past them are never written. Assumes nothing.
 use mathlib.Core.Path.{_≡_, refl, sym, ap, _∙_}
 use mathlib.Core.Bool.{Bool, cond, _&&_}
 use mathlib.Core.List.{List, _++_, append-assoc}

@@ -95,5 +95,6 @@ byExports s =
       client = λ xs c. let d = nowExport s (steps xs) .state c in view (configOf s) (callAt d) (keptOf d);
       server =
           λ xs b.
-          cond (within 1 (configOf s .servers) b) (serverOr (configOf s) (decodeMemory (nowExport s (steps xs) .memory b))) (blankServer (configOf s));
+          cond (within 1 (configOf s .servers) b) (serverOr (configOf s) (decodeMemory (nowExport s (steps xs) .memory b)))
+          (blankServer (configOf s));
     }

@@ -36,7 +36,8 @@ fn write_in(
 ) -> cluster::Outcome
     requires { ⌜ length (now state) ≡ clientSize ⌝ }
     ensures { λ r. ⌜ (r ≡ beginWrite t client (callAt (now (state .entry))) (keptOf (now (state .entry))) (now (content .entry)) nonce .result)
-        × (now (state .exit) ≡ stateWith (now (state .entry)) (beginWrite t client (callAt (now (state .entry))) (keptOf (now (state .entry))) (now (content .entry)) nonce .call)
+        × (now (state .exit) ≡ stateWith (now (state .entry)) (beginWrite t client (callAt (now (state .entry))) (keptOf (now (state .entry)))
+        (now (content .entry)) nonce .call)
         (beginWrite t client (callAt (now (state .entry))) (keptOf (now (state .entry))) (now (content .entry)) nonce .kept)) ⌝ }
 {
     let call = state::read(state);
@@ -75,7 +76,8 @@ pub extern "C" fn cendrulas_client_begin_write(
     content: &[u8],
     nonce: &[u8],
 ) -> u64
-    ensures { λ r. ⌜ record { answer = r; state = now (state .exit) } ≡ writeIn (now (state .entry)) t client (now (content .entry)) (now (nonce .entry)) ⌝ }
+    ensures { λ r. ⌜ record { answer = r; state = now (state .exit) } ≡ writeIn (now (state .entry)) t client (now (content .entry))
+        (now (nonce .entry)) ⌝ }
 {
     if state.len() != CLIENT {
         return pack(cluster::WRONG_SIZE, 0, 0, 0);
@@ -132,7 +134,8 @@ pub extern "C" fn cendrulas_client_give_up(state: &mut [u8], t: usize, client: u
 // The packet of the pending round, in a state of its size.
 fn make_packet(state: &[u8], t: usize, client: usize, server: usize, out: &mut [u8]) -> u64
     requires { ⌜ length (now state) ≡ clientSize ⌝ }
-    ensures { λ r. ⌜ record { answer = r; output = now (out .exit) } ≡ madeOut (clientMake t client server (callAt (now (state .entry))) (keptOf (now (state .entry))) (now (out .entry))) ⌝ }
+    ensures { λ r. ⌜ record { answer = r; output = now (out .exit) } ≡ madeOut
+        (clientMake t client server (callAt (now (state .entry))) (keptOf (now (state .entry))) (now (out .entry))) ⌝ }
 {
     let call = state::read(state);
     let n = super::servers::lent(out.len());
@@ -176,7 +179,8 @@ fn take_packet(
 ) -> u64
     requires { ⌜ length (now state) ≡ clientSize ⌝ }
     ensures { λ r. ⌜ record { answer = r; state = now (state .exit); output = now (out .exit) }
-        ≡ tookIn (now (state .entry)) (clientTake real t client (now (writers .entry)) (now (keys .entry)) (callAt (now (state .entry))) (keptOf (now (state .entry))) (now (packet .entry)) (now (out .entry))) ⌝ }
+        ≡ tookIn (now (state .entry)) (clientTake real t client (now (writers .entry)) (now (keys .entry)) (callAt (now (state .entry)))
+        (keptOf (now (state .entry))) (now (packet .entry)) (now (out .entry))) ⌝ }
 {
     let call = state::read(state);
     let at = state::KEPT_PLACE;

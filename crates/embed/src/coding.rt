@@ -12,7 +12,8 @@ const FRAGMENT_ROOM: usize = 512;
 #[no_mangle]
 pub extern "C" fn cendrulas_fragment(t: usize, server: usize, content: &[u8], out: &mut [u8]) -> u64
     ensures { λ r. ⌜ r ≡ answer (exportRefusal t server (now (content .entry)) (now (out .entry))) (fragmentBytes t server (now (content .entry))) ⌝ }
-    ensures { λ _. ⌜ now (out .exit) ≡ written (exportRefusal t server (now (content .entry)) (now (out .entry))) (fragmentBytes t server (now (content .entry))) (now (out .entry)) ⌝ }
+    ensures { λ _. ⌜ now (out .exit) ≡ written (exportRefusal t server (now (content .entry)) (now (out .entry)))
+        (fragmentBytes t server (now (content .entry))) (now (out .entry)) ⌝ }
 {
     if out.len() < FRAGMENT_ROOM {
         return pack(cluster::WRONG_SIZE, 0, 0, 0);

@@ -24,7 +24,8 @@ pub extern "C" fn cendrulas_digest(message: &[u8], out: &mut [u8]) -> u64
 #[no_mangle]
 pub extern "C" fn cendrulas_tag(key: &[u8], message: &[u8], out: &mut [u8]) -> u64
     ensures { λ r. ⌜ r ≡ answer (tagRefusal (now (key .entry)) (now (out .entry))) (tagOf (now (key .entry)) (now (message .entry))) ⌝ }
-    ensures { λ _. ⌜ now (out .exit) ≡ written (tagRefusal (now (key .entry)) (now (out .entry))) (tagOf (now (key .entry)) (now (message .entry))) (now (out .entry)) ⌝ }
+    ensures { λ _. ⌜ now (out .exit) ≡ written (tagRefusal (now (key .entry)) (now (out .entry))) (tagOf (now (key .entry)) (now (message .entry)))
+        (now (out .entry)) ⌝ }
 {
     if key.len() != cluster::KEY {
         return pack(cluster::WRONG_SIZE, 0, 0, 0);

@@ -89,7 +89,8 @@ pub written-none : (old : List ℕ) (at : ℕ) (g : ℕ → ℕ) → RunWritten 
 written-none old at g = record { long = refl; here = λ i h. absurd (not-suc-le-zero h); below = λ i h. refl; above = λ i h. refl }
 
 -- a second piece behind the first
-pub written-on : (old mid new : List ℕ) (at n m : ℕ) (g : ℕ → ℕ) → RunWritten old mid at n g → RunWritten mid new (at + n) m (λ i. g (n + i)) → RunWritten old
+pub written-on : (old mid new : List ℕ) (at n m : ℕ) (g : ℕ → ℕ) → RunWritten old mid at n g → RunWritten mid new (at + n) m (λ i. g (n + i))
+    → RunWritten old
     new at (n + m) g
 written-on old mid new at n m g a b = record {
   long = b .long ∙ a .long;
@@ -105,9 +106,11 @@ written-on old mid new at n m g a b = record {
         ap (λ (x : ℕ). getD new x 0) (omega arith) ∙ b .here (i - n) (omega arith) ∙ ap g e
 
 -- from the start on
-pub written-next : (old mid new : List ℕ) (n m : ℕ) (g : ℕ → ℕ) → RunWritten old mid 0 n g → RunWritten mid new n m (λ i. g (n + i)) → RunWritten old new 0
+pub written-next : (old mid new : List ℕ) (n m : ℕ) (g : ℕ → ℕ) → RunWritten old mid 0 n g → RunWritten mid new n m (λ i. g (n + i))
+    → RunWritten old new 0
     (n + m) g
-written-next old mid new n m g a b = written-on old mid new 0 n m g a (subst (λ (x : ℕ). RunWritten mid new x m (λ i. g (n + i))) (sym (zero-add n)) b)
+written-next old mid new n m g a b = written-on old mid new 0 n m g a (subst (λ (x : ℕ). RunWritten mid new x m (λ i. g (n + i))) (sym (zero-add n))
+    b)
 
 written-one : (old : List ℕ) (at v : ℕ) → at < length old → RunWritten old (set old at v) at 1 (λ i. v)
 written-one old at v h = record {

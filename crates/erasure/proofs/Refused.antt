@@ -87,7 +87,8 @@ makes t server n e = go (not (within 1 topFaults t)) (not (within 1 (shelf t .se
 
 module _ (t n : ℕ) (servers : List ℕ) (given room : ℕ) where
   pub argument-tests : (a b c d e : Bool) → not (within 1 topFaults t) ≡ a → not (each (within 1 (shelf t .servers)) servers) ≡ b
-      → not (within leastLength topLength n) ≡ c → ltb room contentRoom ≡ d → not (eqb given (length servers * fragmentSize (shelf t .threshold) n)) ≡ e
+      → not (within leastLength topLength n) ≡ c → ltb room contentRoom ≡ d → not (eqb given (length servers * fragmentSize (shelf t .threshold) n))
+      ≡ e
       → firstOf (argumentChecks t n servers given room) ≡ cond a 3 (cond b 4 (cond c 6 (cond d 15 (cond e 16 0))))
   unfolding argumentChecks
   argument-tests a b c d e p q r s u = λ i. cond (p i) 3 (cond (q i) 4 (cond (r i) 6 (cond (s i) 15 (cond (u i) 16 0))))
@@ -105,7 +106,8 @@ module _ (t n : ℕ) (servers : List ℕ) (given room : ℕ) where
       (not (eqb given (length servers * fragmentSize (shelf t .threshold) n))) refl refl refl refl refl
     where
       go : (a b c d f : Bool) → not (within 1 topFaults t) ≡ a → not (each (within 1 (shelf t .servers)) servers) ≡ b
-          → not (within leastLength topLength n) ≡ c → ltb room contentRoom ≡ d → not (eqb given (length servers * fragmentSize (shelf t .threshold) n))
+          → not (within leastLength topLength n) ≡ c → ltb room contentRoom ≡ d
+          → not (eqb given (length servers * fragmentSize (shelf t .threshold) n))
           ≡ f → Restores
       go true b c d f p q r s u = absurd (suc-ne-zero 2 (sym (argument-tests true b c d f p q r s u) ∙ e))
       go false true c d f p q r s u = absurd (suc-ne-zero 3 (sym (argument-tests false true c d f p q r s u) ∙ e))

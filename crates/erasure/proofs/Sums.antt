@@ -1,4 +1,5 @@
--- Laws of sums over 0 to k - 1, taken by exclusive or: how a loop adds a term, equal terms, and the bound. Each by induction on k; nothing is assumed.
+-- Laws of sums over 0 to k - 1, taken by exclusive or: how a loop adds a term, equal terms, and the bound. Each by induction on k; nothing is
+-- assumed.
 use mathlib.Core.Path.{_≡_, refl, sym, ap, ap₂, _∙_}
 use Prim.Native.Nat.{ℕ, zero, suc, _+_, _<_}
 use native.Mathlib.Nat.{zero-lt-suc, le-refl, le-suc, le-trans}

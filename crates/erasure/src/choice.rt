@@ -35,7 +35,9 @@ fn holds(servers: [u8; WIDTH], count: usize, s: u8) -> bool
 // One server more, unless k are chosen or this one is.
 fn add_server(c: Chosen, k: usize, s: u8, i: usize) -> Chosen
     requires { ⌜ (c .count ≤ k) × (k ≤ width) ⌝ }
-    ensures { λ r. ⌜ (r .count ≤ k) × (take (r .count) (r .at) ≡ more (ltb (c .count) k) (among s (take (c .count) (c .servers))) (take (c .count) (c .at)) i) × (take (r .count) (r .servers) ≡ more (ltb (c .count) k) (among s (take (c .count) (c .servers))) (take (c .count) (c .servers)) s) ⌝ }
+    ensures { λ r. ⌜ (r .count ≤ k) × (take (r .count) (r .at) ≡ more (ltb (c .count) k) (among s (take (c .count) (c .servers)))
+        (take (c .count) (c .at)) i) × (take (r .count) (r .servers) ≡ more (ltb (c .count) k) (among s (take (c .count) (c .servers)))
+        (take (c .count) (c .servers)) s) ⌝ }
 {
     let servers = c.servers;
     let at = c.at;

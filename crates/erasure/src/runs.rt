@@ -104,7 +104,8 @@ pub(crate) fn rebuild(
     n: usize,
     out: &mut [u8],
 )
-    requires { ⌜ (k ≤ width) × (0 < f) × (n ≤ k * f) × (n ≤ length (now out)) × AllDifferent k servers × ((j : ℕ) → j < k → getD at j 0 * f + f ≤ length (now fragments)) ⌝ }
+    requires { ⌜ (k ≤ width) × (0 < f) × (n ≤ k * f) × (n ≤ length (now out)) × AllDifferent k servers
+        × ((j : ℕ) → j < k → getD at j 0 * f + f ≤ length (now fragments)) ⌝ }
     ensures { λ _. ⌜ now (out .exit) ≡ rebuiltOf k f n servers at (now (fragments .entry)) ++ drop n (now (out .entry)) ⌝ }
 {
     let places = crate::given::places_of(servers, k);

@@ -1,5 +1,5 @@
--- Where the example asks something of each premise: at which steps a packet of a correct party is let in, a second write begins, a tag checks, something
--- is digested, a server gets a nonce, a reply is refused.
+-- Where the example asks something of each premise: at which steps a packet of a correct party is let in, a second write begins, a tag checks,
+-- something is digested, a server gets a nonce, a reply is refused.
 -- Assumes nothing.
 use mathlib.Core.Path.{_≡_, refl, ap, _∙_}
 use mathlib.Core.Bool.{Bool, true, false, cond}

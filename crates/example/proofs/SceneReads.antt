@@ -128,7 +128,11 @@ module _ (H : Hashing) where
   }
   unfolding act raise below lookup cand candidateMade stampOf shelf
   filter-tagged =
-      ap (λ (c : Candidate). record { server = raise c (blankOne H); reply = filterReply (record { stamp = c .stamp; share = lookup (c .stamp) [] }) })
+      ap (λ (c : Candidate). record {
+        server = raise c (blankOne H);
+        reply = filterReply
+            (record { stamp = c .stamp; share = lookup (c .stamp) [] });
+      })
       (best-tagged H 4 (omega arith) (omega arith))
 
   repair-held : (b : ℕ) → actsOn b (holding H b) (repair (cand H)) ≡ record { server = holding H b; reply = repairReply }

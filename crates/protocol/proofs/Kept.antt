@@ -58,7 +58,8 @@ module _ (s : Config) (f : Fitting s) (kept : List ℕ) (size : length kept ≡ 
       ∙ puts-below n (omega arith) p w k
 
   -- the share of server j + 1 among those of servers 1 to n
-  puts-slot : (n : ℕ) → n ≤ s .servers → (j : ℕ) → j < n → shareAt s (bytesAt (putShares s kept h n) (repliesPlace + replySlot * j) replySlot) ≡ h (suc j)
+  puts-slot : (n : ℕ) → n ≤ s .servers → (j : ℕ) → j < n → shareAt s (bytesAt (putShares s kept h n) (repliesPlace + replySlot * j) replySlot)
+      ≡ h (suc j)
   unfolding putShares
   puts-slot zero l j k = absurd (omega arith)
   puts-slot (suc n) l j k = go (eqb j n) refl (puts-slot n (omega arith) j)
@@ -91,7 +92,8 @@ module _ (s : Config) (f : Fitting s) (kept : List ℕ) (size : length kept ≡ 
       at b = go (within 1 (s .servers) b) refl
         where
           go : (x : Bool) → within 1 (s .servers) b ≡ x
-              → cond x (shareAt s (bytesAt (putShares s kept h (s .servers)) (repliesPlace + replySlot * (b - 1)) replySlot)) noShare ≡ cond x (h b) noShare
+              → cond x (shareAt s (bytesAt (putShares s kept h (s .servers)) (repliesPlace + replySlot * (b - 1)) replySlot)) noShare
+              ≡ cond x (h b) noShare
           go false e = refl
           go true e =
               let (lo, hi) = and-both _ _ e in

@@ -66,7 +66,8 @@ module _ (P : Primitives) (s : Config) (c : ℕ) (w w' : List ℕ) (ks ks' : ByS
       onRefusal k (turn-alike o q i) (record { client = cl; result = refused k })
 
 -- what a client in its range is lent makes no difference: a writer is lent the shelf's keys, and a reader is never in clock
-pub take-lent : (P : Primitives) (s : Config) (c : ℕ) (writers : List ℕ) (keys : ByServer (List ℕ)) (lent : Lent) (cl : Client) (o : Option Packet) (room : ℕ)
+pub take-lent : (P : Primitives) (s : Config) (c : ℕ) (writers : List ℕ) (keys : ByServer (List ℕ)) (lent : Lent) (cl : Client) (o : Option Packet)
+    (room : ℕ)
     → Fine s c cl → (within 1 topWriter c ≡ true → (lent .writers ≡ writers) × (keyOf (lent .keys) ≡ keys))
     → takeStep P s c (lent .writers) (keyOf (lent .keys)) cl o room ≡ takeStep P s c writers keys cl o room
 unfolding HandOk

@@ -130,7 +130,8 @@ module _ {s : Config} {c : Call} {kept : List ℕ} {b : ℕ} {x : Body} (a : Rep
 
   pub filtered-size : length (filtered s kept b x) ≡ keptSize
   filtered-size =
-      put-length kept (repliesPlace + replySlot * (b - 1)) (heldF s .print (heldIn x)) (omega (arith, held-most, below-most, a .sound .size)) ∙ a .sound .size
+      put-length kept (repliesPlace + replySlot * (b - 1)) (heldF s .print (heldIn x)) (omega (arith, held-most, below-most, a .sound .size))
+      ∙ a .sound .size
 
   pub slots-now : candidatesIn s (filtered s kept b x) ≡ candidatesIn s kept
   slots-now =
@@ -159,7 +160,8 @@ module _ {s : Config} {c : Call} {kept : List ℕ} {b : ℕ} {x : Body} (a : Rep
       rw e (record { seen = λ i. record { calls = c .number; last = l; marks = o i; hand = g i }; sound = record { size = size; width = z } })
 
   -- in a new round, or in none; with one more mark in the round; with the same marks
-  pub fresh-seen : (l h w r : ℕ) (k : List ℕ) → length k ≡ keptSize → (hand : Hand) → handOf s r (call l h w r nobody (replicate mostServers 0)) k ≡ hand
+  pub fresh-seen : (l h w r : ℕ) (k : List ℕ) → length k ≡ keptSize → (hand : Hand) → handOf s r (call l h w r nobody (replicate mostServers 0)) k
+      ≡ hand
       → Lifted s (record { calls = c .number; last = l; marks = nobody; hand = hand }) (call l h w r nobody (putMarks 0 ms nobody)) k
   fresh-seen l h w r k z hand g =
       seen l h w r nobody (replicate mostServers 0) k fresh-marks (length-replicate {A = ℕ} mostServers 0) marked-fresh z hand g

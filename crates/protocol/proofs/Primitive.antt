@@ -1,5 +1,5 @@
--- The laws of the functions that the protocol rests on: lengths, tagged bytes that tell their fields, entries of a run, and fragments that give a content back.
--- The first byte of a printed number is not reduced, so the tagged bytes tell every number. Nothing is assumed.
+-- The laws of the functions that the protocol rests on: lengths, tagged bytes that tell their fields, entries of a run, and fragments that give a
+-- content back. The first byte of a printed number is not reduced, so the tagged bytes tell every number. Nothing is assumed.
 use mathlib.Core.Path.{_≡_, refl, sym, ap, _∙_}
 use mathlib.Core.Bool.{Bool, true, false}
 use mathlib.Core.List.{List, [], _++_, map, append-nil}
@@ -103,7 +103,8 @@ bytes-small r b = small-of r (λ i h. b i)
 -- fragments of k or more different servers give back a content of bytes
 pub restores-parts : (s : Config) → Legal s → (r : List ℕ) → Bytes r → (is : List ℕ)
     → ((i : ℕ) → i < length is → (1 ≤ getD is i 0) × (getD is i 0 ≤ s .servers)) → Distinct is → s .threshold ≤ length is
-    → real .restored (s .points) (s .threshold) (length r) (map (λ i. record { server = i; bytes = real .fragment (s .points) (s .threshold) r i }) is) ≡ r
+    → real .restored (s .points) (s .threshold) (length r) (map (λ i. record { server = i; bytes = real .fragment (s .points) (s .threshold) r i })
+    is) ≡ r
 unfolding real
 restores-parts s l r b is at d k =
     let e : length (s .points) ≡ s .servers = l .table in

@@ -59,7 +59,8 @@ marks-one ms i l new =
     m : ByServer Bool
     m = upd (marked ms) (suc i) true
 
-    at : (j : ℕ) → cond (cond (eqb (suc j) (suc i)) true (not (eqb (getD ms j 0) 0))) (cond (eqb (getD ms j 0) 0) 1 (getD ms j 0)) 0 ≡ getD (set ms i 1) j 0
+    at : (j : ℕ) → cond (cond (eqb (suc j) (suc i)) true (not (eqb (getD ms j 0) 0))) (cond (eqb (getD ms j 0) 0) 1 (getD ms j 0)) 0
+        ≡ getD (set ms i 1) j 0
     at j = go (eqb (suc j) (suc i)) refl
       where
         zero-is : getD ms i 0 ≡ 0

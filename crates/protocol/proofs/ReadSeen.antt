@@ -72,7 +72,14 @@ module _ (P : Primitives) (law : Lengths P) (client : ℕ) (writers : List ℕ) 
   -- the call after it: a content of w bytes, and round r with the marks m'
   abbrev call : ℕ → ℕ → ByServer Bool → List ℕ → Call
   call w r m' zs =
-      record { number = c .number; last = c .last; high = c .high; length = w; tally = record { round = r; count = countTo (s .servers) m'; marks = zs } }
+      record {
+        number = c .number;
+        last = c .last;
+        high = c .high;
+        length = w;
+        tally = record
+            { round = r; count = countTo (s .servers) m'; marks = zs };
+      }
 
   -- the read is over
   ended : Lifted s (onto (view s (C 5) kept) nobody idle) (call (c .length) 0 nobody (putMarks 0 (c .tally .marks) nobody)) k
@@ -103,10 +110,15 @@ module _ (P : Primitives) (law : Lengths P) (client : ℕ) (writers : List ℕ) 
   unfolding found view onto tookBy after putBack begins awaits
   found-turn d n z l = go (sameList (tagsIn P s d (g n .share)) (d .tags)) (tagsIn P s d (g n .share)) (restoredBy P s m g d n (g n .share)) z l
     where
-      go : (y : Bool) (tags content : List ℕ) → CandidateLengths s (record { stamp = d .stamp; nonce = d .nonce; tags = tags }) → length content ≤ topLength
+      go : (y : Bool) (tags content : List ℕ) → CandidateLengths s (record { stamp = d .stamp; nonce = d .nonce; tags = tags })
+          → length content ≤ topLength
           → Take 5 k
           (cond y (record { client = onto (view s (C 5) kept) nobody idle; result = gave (labelOf (d .stamp)) content })
-          (record { client = onto (view s (C 5) kept) nobody (repairing (record { stamp = d .stamp; nonce = d .nonce; tags = tags }) content); result = more }))
+          (record {
+            client = onto (view s (C 5) kept) nobody (repairing (record { stamp = d .stamp; nonce = d .nonce; tags = tags }) content);
+            result
+                = more;
+          }))
       go true tags content z l =
           record { result = ap (gave (labelOf (d .stamp))) (over-start content output); client = unfold view onto in ended }
       go false tags content z l =
@@ -117,7 +129,8 @@ module _ (P : Primitives) (law : Lengths P) (client : ℕ) (writers : List ℕ) 
   filter-more : Lifted s (onto (view s (C 5) kept) m (filtering cs g))
       (call (c .length) 5 m (putMarks 0 (c .tally .marks) m)) k
   unfolding view onto
-  filter-more = noted-seen a (c .high) 5 k (filtered-size a) _ (unfold handOf in (λ i. filtering (gather (slots-now a i) (s .servers)) (replies-now a i)))
+  filter-more = noted-seen a (c .high) 5 k (filtered-size a) _ (unfold handOf
+      in (λ i. filtering (gather (slots-now a i) (s .servers)) (replies-now a i)))
 
   judge-turn : (l : List Candidate) (o : Option Candidate) → ((d : Candidate) → o ≡ some d → CandidateLengths s d)
       → Take 5 k (judge P s client writers keys (view s (C 5) kept) m cs g l o)
@@ -125,7 +138,8 @@ module _ (P : Primitives) (law : Lengths P) (client : ℕ) (writers : List ℕ) 
   judge-turn [] o z = record { result = refl; client = unfold view onto in ended }
   judge-turn (y ∷ l) none z = record { result = refl; client = unfold view onto in filter-more }
   judge-turn (y ∷ l) (some d) z =
-      found-turn d (leader P s m g d (s .servers)) (tags-sized P law s m g none-0 sized d (z d refl)) (content-sized P law s m g none-0 sized d (z d refl))
+      found-turn d (leader P s m g d (s .servers)) (tags-sized P law s m g none-0 sized d (z d refl))
+      (content-sized P law s m g none-0 sized d (z d refl))
     where
       none-0 : g 0 .share ≡ none
       none-0 = ap (λ (t : ByServer Held). t 0 .share) (sym (replies-now a)) ∙ unfold repliesIn in refl

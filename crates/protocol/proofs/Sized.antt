@@ -93,7 +93,8 @@ module _ (s : Config) (f : Fitting s) where
   share-sized : (n : ℕ) (d : List ℕ) → stampSize + 1 + length d ≡ replySlot → n ≤ topLength → ShareLengths s (shareOfSize s n d)
   unfolding shareOfSize shareSize
   share-sized n d e l =
-      let r : stampSize + 1 + (2 + fragmentSize (s .threshold) n + digestsSize s + digestSize + tagsSize s) ≤ replySlot = unfold shareSize in f .room n l in
+      let r : stampSize + 1 + (2 + fragmentSize (s .threshold) n + digestsSize s + digestSize + tagsSize s) ≤ replySlot = unfold shareSize
+      in f .room n l in
       record {
         fragment = part-length d 2 (fragmentSize (s .threshold) n) (omega arith);
         digests = part-length d (2 + fragmentSize (s .threshold) n) (digestsSize s) (omega arith);
@@ -191,4 +192,9 @@ module _ (P : Primitives) (law : Lengths P) (s : Config) (m : ByServer Bool) (g 
       where
         go : (o : Option Share) → ((q : Share) → o ≡ some q → q .size ≤ topLength) → length (restoredBy P s m g d at o) ≤ topLength
         go none k = unfold restoredBy in lit≤ tt
-        go (some q) k = unfold restoredBy in omega (arith, law .content (s .points) (s .threshold) (q .size) (parts P s m g d at (s .servers)), k q refl)
+        go (some q) k = unfold restoredBy in omega (
+          arith,
+          law .content (s .points) (s .threshold) (q .size) (parts P s m g d at (s .servers)),
+          k q
+              refl,
+        )

@@ -42,7 +42,8 @@ module _ (s : Config) (few : s .servers ≤ mostServers) (kept : List ℕ) (size
       at (suc i) = go (ltb i mostServers) refl
         where
           go : (b : Bool) → ltb i mostServers ≡ b
-              → cond b (candidateAt s (bytesAt (put kept candidatesPlace blanks) (candidatesPlace + candidateSlot * i) candidateSlot)) (blankCandidate s) ≡
+              → cond b (candidateAt s (bytesAt (put kept candidatesPlace blanks) (candidatesPlace + candidateSlot * i) candidateSlot))
+              (blankCandidate s) ≡
               blankCandidate s
           go false e = refl
           go true e =
@@ -76,16 +77,19 @@ module _ (s : Config) (few : s .servers ≤ mostServers) (kept : List ℕ) (size
         where
           go : (b : Bool) → eqb (suc j) (suc i) ≡ b
               → cond (ltb j mostServers)
-              (candidateAt s (bytesAt (put kept (candidatesPlace + candidateSlot * i) (anyCandidateF s .print c)) (candidatesPlace + candidateSlot * j)
+              (candidateAt s (bytesAt (put kept (candidatesPlace + candidateSlot * i) (anyCandidateF s .print c))
+              (candidatesPlace + candidateSlot * j)
               candidateSlot)) (blankCandidate s)
-              ≡ cond b c (cond (ltb j mostServers) (candidateAt s (bytesAt kept (candidatesPlace + candidateSlot * j) candidateSlot)) (blankCandidate s))
+              ≡ cond b c (cond (ltb j mostServers) (candidateAt s (bytesAt kept (candidatesPlace + candidateSlot * j) candidateSlot))
+              (blankCandidate s))
           go true e =
               let q : j ≡ i = omega (arith, eqb-true (suc j) (suc i) e) in
               rw (q, lt-ltb i mostServers small)
               (ap (candidateAt s) (part-put kept (candidatesPlace + candidateSlot * i) (anyCandidateF s .print c) room candidateSlot l) ∙ read _)
           go false e =
               ap (λ (z : List ℕ). cond (ltb j mostServers) (candidateAt s z) (blankCandidate s))
-              (part-other kept (candidatesPlace + candidateSlot * i) (anyCandidateF s .print c) room (candidatesPlace + candidateSlot * j) candidateSlot
+              (part-other kept (candidatesPlace + candidateSlot * i) (anyCandidateF s .print c) room (candidatesPlace + candidateSlot * j)
+              candidateSlot
               (slots-apart candidatesPlace candidateSlot i j (length (anyCandidateF s .print c)) l (λ q. eqb-false (suc j) (suc i) e (ap suc q))))
 
   -- another place past the slots of candidates
@@ -124,7 +128,8 @@ module _ (s : Config) (few : s .servers ≤ mostServers) (kept : List ℕ) (size
           go : (b : Bool) → eqb (suc j) (suc i) ≡ b
               → cond (ltb j mostServers && not (eqb (getD (set ms i 1) j 0) 0))
               (heldAt s (bytesAt (put kept (repliesPlace + replySlot * i) (heldF s .print x)) (repliesPlace + replySlot * j) replySlot)) noHeld
-              ≡ cond b x (cond (ltb j mostServers && not (eqb (getD ms j 0) 0)) (heldAt s (bytesAt kept (repliesPlace + replySlot * j) replySlot)) noHeld)
+              ≡ cond b x (cond (ltb j mostServers && not (eqb (getD ms j 0) 0)) (heldAt s (bytesAt kept (repliesPlace + replySlot * j) replySlot))
+              noHeld)
           go true e =
               let q : j ≡ i = omega (arith, eqb-true (suc j) (suc i) e) in
               rw (q, lt-ltb i mostServers small, getD-set-same ms i 1 0 (omega arith))

@@ -58,7 +58,8 @@ module _ (t c : ℕ) (call : Call) (kept : List ℕ) (tr : (1 ≤ t) × (t ≤ t
 
   -- a begin: accepted, the new hand stands in the bytes; refused, nothing changed
   abbrev Begins : Turn → Type 0
-  Begins u = Lifted s (u .client) (after s call kept kept u .call) (after s call kept kept u .kept) × (resultOf (told (u .result) .number) ≡ u .result)
+  Begins u = Lifted s (u .client) (after s call kept kept u .call) (after s call kept kept u .kept)
+      × (resultOf (told (u .result) .number) ≡ u .result)
 
   begins-as : (k : ℕ) (y : Client) → (k ≡ 0 → Lifted s y (putBack s call kept y .call) (putBack s call kept y .kept))
       → Begins (onRefusal k (record { client = y; result = more }) (record { client = cl; result = refused k }))
@@ -157,7 +158,8 @@ module _ (t c : ℕ) (call : Call) (kept : List ℕ) (tr : (1 ≤ t) × (t ≤ t
       (inside 1 (s .servers) b x, (client-range (ofWrite kind) c y, z))
 
   sent-ok : (b room k : ℕ) → makeRefusal s c b (awaits (cl .hand)) room ≡ k → (p : Packet)
-      → onRefusal {A = Made} k (record { number = 0; packet = some (made t c cl b) }) (record { number = k; packet = none }) .packet ≡ some p → PacketOk p
+      → onRefusal {A = Made} k (record { number = 0; packet = some (made t c cl b) }) (record { number = k; packet = none }) .packet ≡ some p
+      → PacketOk p
   sent-ok b room (suc k) e p q = no-some p q
   sent-ok b room zero e p q =
       let (br, (cr, i)) = make-ranges b room _ e in

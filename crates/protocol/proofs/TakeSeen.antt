@@ -61,7 +61,8 @@ module _ (P : Primitives) (law : Lengths P) (t client : ℕ) (writers : List ℕ
       let a = let-in s client p (c .number) kind (marked (c .tally .marks)) _ (length output) e in
       let (i, k) = round-of t client c kept p kind _ a (unfold view in awaits-is s c kept) in
       rw k
-      (round-turn P law client writers keys output (reply-of t client c kept p kind _ a h ok) (isFull s (withMark c (p .head .server))) (c .tally .round) i)
+      (round-turn P law client writers keys output (reply-of t client c kept p kind _ a h ok) (isFull s (withMark c (p .head .server)))
+      (c .tally .round) i)
 
   settle : (o : Option Packet) → ((p : Packet) → o ≡ some p → PacketOk p) → (n : ℕ) → code o ≡ n
       → Taken o (onRefusal n (turnOn P s client writers keys cl o) (record { client = cl; result = refused n }))

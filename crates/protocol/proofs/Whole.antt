@@ -1,5 +1,5 @@
--- What the parts of a packet say of the whole, for every kind: its readers leave the packet, a part that stops refuses it, and so does a byte too many.
--- By the kinds of Bodies and the composition of Leaves. Nothing is assumed.
+-- What the parts of a packet say of the whole, for every kind: its readers leave the packet, a part that stops refuses it, and so does a byte too
+-- many. By the kinds of Bodies and the composition of Leaves. Nothing is assumed.
 use mathlib.Core.Path.{_≡_, _∙_}
 use mathlib.Core.Option.{none, some}
 use mathlib.Core.List.{List}

@@ -76,7 +76,8 @@ module _ (P : Primitives) (law : Lengths P) (client : ℕ) (writers : List ℕ) 
       let ok = shares-made P law s client writers keys r (nonceOf kept) n (content-most (C 1) kept) (nonce-long kept size) in
       let K : List ℕ = putShares s k g (s .servers) in
       let e : candidateAt s (bytesAt K chosenPlace candidateSlot) ≡ d =
-      ap (candidateAt s) (puts-below s f k z g ok (s .servers) (omega arith) chosenPlace candidateSlot (omega arith)) ∙ chosen-read s f kept size d l in
+      ap (candidateAt s) (puts-below s f k z g ok (s .servers) (omega arith) chosenPlace candidateSlot (omega arith))
+      ∙ chosen-read s f kept size d l in
       let p : sharesIn s K ≡ g = shares-put s f k z g ok ∙ cut-twice r (nonceOf kept) n in
       (puts-length s f k z g ok (s .servers) (omega arith), λ i. storing (e i) (p i))
     where
@@ -105,10 +106,18 @@ module _ (P : Primitives) (law : Lengths P) (client : ℕ) (writers : List ℕ) 
           (cond q (record { client = onto (view s (C 2) kept) nobody (completing (chosenOf s kept)); result = more })
           (record { client = onto (view s (C 2) kept) m (storing (chosenOf s kept) (sharesIn s kept)); result = more })))
       go true q = record { result = refl; client = unfold view handOf in same-seen a 2 }
-      go false true = record { result = refl; client = fresh-seen a (c .last) (c .high) (c .length) 3 kept (a .sound .size) _ (unfold handOf in refl) }
+      go false true = record {
+        result = refl;
+        client = fresh-seen a (c .last) (c .high) (c .length) 3 kept (a .sound .size) _
+            (unfold handOf in refl);
+      }
       go false false = record { result = refl; client = noted-seen a (c .high) 2 kept (a .sound .size) _ (unfold handOf in refl) }
 
   pub complete-turn : (q : Bool) → Take 3 (turn 3 q)
   unfolding update view handOf onto tookBy after putBack begins awaits
-  complete-turn true = record { result = refl; client = fresh-seen a (c .last) (c .high) (c .length) 0 kept (a .sound .size) _ (unfold handOf in refl) }
+  complete-turn true = record {
+    result = refl;
+    client = fresh-seen a (c .last) (c .high) (c .length) 0 kept (a .sound .size) _
+        (unfold handOf in refl);
+  }
   complete-turn false = record { result = refl; client = noted-seen a (c .high) 3 kept (a .sound .size) _ (unfold handOf in refl) }

@@ -181,5 +181,6 @@ byBytes P s first =
       result = λ x xs. doBytes P s (nowBytes P s first (steps xs)) (x .step) .result;
       sent = λ x xs. doBytes P s (nowBytes P s first (steps xs)) (x .step) .sent;
       client = λ xs c. view (configOf s) (nowBytes P s first (steps xs) .client c .call) (nowBytes P s first (steps xs) .client c .kept);
-      server = λ xs b. cond (within 1 (configOf s .servers) b) (serverOr (configOf s) (decodeMemory (nowBytes P s first (steps xs) .memory b))) (blankServer (configOf s));
+      server = λ xs b. cond (within 1 (configOf s .servers) b) (serverOr (configOf s) (decodeMemory (nowBytes P s first (steps xs) .memory b)))
+          (blankServer (configOf s));
     }

@@ -56,7 +56,12 @@ module _ (P : Primitives) (memory key packet output : List ℕ) where
   actedOn (some m) (some p) =
       let a = act P (shelf (m .t)) key (m .server) (serverIn m) (p .body) in
       let bytes = encode (replyTo p (a .reply)) in
-      record { result = record { number = 0; count = length bytes }; memory = encodeMemory (memoryOf (m .t) (m .server) (a .server)); output = over bytes output }
+      record {
+        result = record { number = 0; count = length bytes };
+        memory = encodeMemory (memoryOf (m .t) (m .server) (a .server));
+        output = over
+            bytes output;
+      }
 
   unfoldable pub serverTake : Served
   serverTake =

@@ -43,7 +43,8 @@ shareAt s d = shareOfSize s (value2 (getD d 0 0) (getD d 1 0)) d
 unfoldable pub heldAt : Config → List ℕ → Held
 heldAt s d = record { stamp = stampAt d; share = cond (eqb (getD d stampSize 0) 0) none (some (shareAt s (drop (stampSize + 1) d))) }
 
--- ---- the kept bytes: content, nonce, candidate of the write or of repair, a slot for each server's candidate, a slot for each server's share or reply
+-- ---- the kept bytes: content, nonce, candidate of the write or of repair, a slot for each server's candidate, a slot for each server's share or
+-- reply
 
 abbrev pub keptSize : ℕ
 keptSize = 24576
@@ -86,7 +87,8 @@ marked ms (suc i) = not (eqb (getD ms i 0) 0)
 -- past the servers there is nothing
 unfoldable pub candidatesIn : Config → List ℕ → ByServer Candidate
 candidatesIn s kept zero = blankCandidate s
-candidatesIn s kept (suc i) = cond (ltb i mostServers) (candidateAt s (bytesAt kept (candidatesPlace + candidateSlot * i) candidateSlot)) (blankCandidate s)
+candidatesIn s kept (suc i) = cond (ltb i mostServers) (candidateAt s (bytesAt kept (candidatesPlace + candidateSlot * i) candidateSlot))
+    (blankCandidate s)
 
 unfoldable pub repliesIn : Config → List ℕ → List ℕ → ByServer Held
 repliesIn s ms kept zero = noHeld

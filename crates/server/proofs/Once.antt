@@ -44,7 +44,8 @@ module _ (d : List ℕ) (told : Opened) (bs : Bytes d) {x : List ℕ} (p : x ≡
       lookup (stampAt (drop at d)) ws
   unfolding writeAt bytesAt
   found-held f ws =
-      ap (λ (k : List ℕ). shareIn (firstWith k ws)) (ap (take stampSize) p ∙ unfold bytesAt in (stamp-bytes s f bs)) ∙ first-held (stampAt (drop at d))
+      ap (λ (k : List ℕ). shareIn (firstWith k ws)) (ap (take stampSize) p ∙ unfold bytesAt in (stamp-bytes s f bs))
+      ∙ first-held (stampAt (drop at d))
       ws
 
   pub repeats-none : {r : Found} → r ≡ found.Nothing → FindAs d told x r → RepeatsAs d told false

@@ -47,7 +47,8 @@ module _ (d : List ℕ) (bs : Bytes d) (key : List ℕ) (told : Opened) (x : Lis
 
 module _ (d key packet : List ℕ) (ps : Bytes packet) (output : List ℕ) (h : Head) (told : Opened) where
   pub repair-answers : {x m out first second : List ℕ} {g : Head} {r : Outcome} → x ≡ drop headSize packet → RaisedAs d key told x m
-      → first ≡ bytesAt packet 0 0 → second ≡ bytesAt packet 0 0 → g ≡ replyHead h 12 → record { result = r; output = out } ≡ packetStep g first second
+      → first ≡ bytesAt packet 0 0 → second ≡ bytesAt packet 0 0 → g ≡ replyHead h 12 → record { result = r; output = out }
+      ≡ packetStep g first second
       output
       → AnswersAs 11 d key packet output h told (record { result = r; memory = m; output = out })
   unfolding bodyAt act packetAt

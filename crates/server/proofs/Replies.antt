@@ -87,7 +87,8 @@ module _ {d : List ℕ} (key packet output : List ℕ) (h : Head) {n e : ℕ} {t
 
     to-accepted : served (packetAt h packet) x ≡ actedOn real d key packet output (some (memoryIn o)) (decode packet)
     unfolding actedOn served packetAt
-    to-accepted = ap (served (packetAt h packet)) (sym body) ∙ ap (λ (q : Option Packet). actedOn real d key packet output (some (memoryIn o)) q) (sym dec)
+    to-accepted = ap (served (packetAt h packet)) (sym body) ∙ ap (λ (q : Option Packet). actedOn real d key packet output (some (memoryIn o)) q)
+        (sym dec)
 
     pub replied : (first second : List ℕ) {r : Outcome} {m out : List ℕ} → m ≡ encodeMemory (memoryOf (h .t) (h .server) (stepOf x .server))
         → printBody (shelf (h .t)) (stepOf x .reply) ≡ first ++ second

@@ -199,7 +199,8 @@ module _ (d key packet output : List ℕ) where
 
       module _ (h : Head) (dec : decode packet ≡ some (packetAt h packet)) {k : ℕ}
           (found : NumberAt told (packetAt h packet) (length output) k) where
-        whole : serverTake real d key packet output ≡ onRefusal k (actedOn real d key packet output (some (memoryIn o)) (decode packet)) (down (number k))
+        whole : serverTake real d key packet output ≡ onRefusal k (actedOn real d key packet output (some (memoryIn o)) (decode packet))
+            (down (number k))
         unfolding serverTake turnedDown serverIn
         whole =
             rw (eq-eqb (length d) memorySize size, o .decoded)

@@ -58,7 +58,8 @@ module _ (d : List ℕ) (told : Opened) (x g : List ℕ) where
 
   pub history-none : {f : Found} → FindAs d told x f → f ≡ found.Nothing → HistoryAs d told x g false
   history-none find t ws h a q =
-      let i : firstWith (bytesAt x 0 stampSize) ws ≡ none = subst (λ (z : Found). FindIs s d (firstWith (bytesAt x 0 stampSize) ws) z) t (find ws h) in
+      let i : firstWith (bytesAt x 0 stampSize) ws ≡ none = subst (λ (z : Found). FindIs s d (firstWith (bytesAt x 0 stampSize) ws) z) t (find ws h)
+      in
       sym (ap (hasDigest g) (sym (found-for ws a q) ∙ ap shareIn i))
 
   pub history-found : {f : Found} → FindAs d told x f → {at : ℕ} → f ≡ found.At at → {b c z : List ℕ} {r : Bool} → b ≡ drop at d → c ≡ drop

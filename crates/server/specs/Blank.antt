@@ -17,7 +17,13 @@ blanked n m = record { result = record { number = n; count = 0 }; memory = m }
 
 unfoldable pub latestBlanked : List ℕ → Option Memory → Blanked
 latestBlanked memory none = blanked 2 memory
-latestBlanked memory (some m) = blanked 0 (encodeMemory (record { t = m .t; server = m .server; latest = blankCandidate (shelf (m .t)); writes = m .writes }))
+latestBlanked memory (some m) = blanked 0 (encodeMemory (record {
+  t = m .t;
+  server = m .server;
+  latest = blankCandidate (shelf (m .t));
+  writes =
+      m .writes;
+}))
 
 unfoldable pub blankLatest : List ℕ → Blanked
 blankLatest memory = cond (eqb (length memory) memorySize) (latestBlanked memory (decodeMemory memory)) (blanked 1 memory)

@@ -19,7 +19,8 @@ pub(crate) fn reply_head(head: protocol::Head, kind: u8) -> protocol::Head
 
 // Clock: the latest candidate's stamp.
 pub(crate) fn clock(memory: &[u8], head: protocol::Head, out: &mut [u8]) -> cluster::Outcome
-    ensures { λ r. ⌜ AnswersAll 1 (now (memory .entry)) (now (out .entry)) head (record { result = r; memory = now (memory .entry); output = now (out .exit) }) ⌝ }
+    ensures { λ r. ⌜ AnswersAll 1 (now (memory .entry)) (now (out .entry)) head
+        (record { result = r; memory = now (memory .entry); output = now (out .exit) }) ⌝ }
 {
     wire::make::make_packet(
         reply_head(head, protocol::kinds::CLOCK_REPLY),
@@ -31,7 +32,8 @@ pub(crate) fn clock(memory: &[u8], head: protocol::Head, out: &mut [u8]) -> clus
 
 // Collect: the latest candidate.
 pub(crate) fn collect(memory: &[u8], head: protocol::Head, out: &mut [u8]) -> cluster::Outcome
-    ensures { λ r. ⌜ AnswersAll 7 (now (memory .entry)) (now (out .entry)) head (record { result = r; memory = now (memory .entry); output = now (out .exit) }) ⌝ }
+    ensures { λ r. ⌜ AnswersAll 7 (now (memory .entry)) (now (out .entry)) head
+        (record { result = r; memory = now (memory .entry); output = now (out .exit) }) ⌝ }
 {
     wire::make::make_packet(
         reply_head(head, protocol::kinds::COLLECT_REPLY),
@@ -59,7 +61,8 @@ pub(crate) fn complete(
     packet: &[u8],
     out: &mut [u8],
 ) -> cluster::Outcome
-    ensures { λ r. ⌜ AnswersFor 5 (now (memory .entry)) (now (packet .entry)) (now (out .entry)) head (record { result = r; memory = now (memory .exit); output = now (out .exit) }) ⌝ }
+    ensures { λ r. ⌜ AnswersFor 5 (now (memory .entry)) (now (packet .entry)) (now (out .entry)) head
+        (record { result = r; memory = now (memory .exit); output = now (out .exit) }) ⌝ }
 {
     raise(memory, wire::bytes::rest(packet, wire::sizes::HEAD));
     wire::make::make_packet(

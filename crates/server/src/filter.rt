@@ -140,7 +140,8 @@ pub(crate) fn filter(
     out: &mut [u8],
 ) -> cluster::Outcome
     requires { ⌜ 1 ≤ opened .server ⌝ }
-    ensures { λ r. ⌜ AnswersAs 9 (now (memory .entry)) key (now (packet .entry)) (now (out .entry)) head opened (record { result = r; memory = now (memory .exit); output = now (out .exit) }) ⌝ }
+    ensures { λ r. ⌜ AnswersAs 9 (now (memory .entry)) key (now (packet .entry)) (now (out .entry)) head opened
+        (record { result = r; memory = now (memory .exit); output = now (out .exit) }) ⌝ }
 {
     let body = rest(packet, wire::sizes::HEAD);
     let list = rest(body, COUNT_SIZE);

@@ -25,7 +25,8 @@ pub(crate) fn repair(
     out: &mut [u8],
 ) -> cluster::Outcome
     requires { ⌜ 1 ≤ opened .server ⌝ }
-    ensures { λ r. ⌜ AnswersAs 11 (now (memory .entry)) key (now (packet .entry)) (now (out .entry)) head opened (record { result = r; memory = now (memory .exit); output = now (out .exit) }) ⌝ }
+    ensures { λ r. ⌜ AnswersAs 11 (now (memory .entry)) key (now (packet .entry)) (now (out .entry)) head opened
+        (record { result = r; memory = now (memory .exit); output = now (out .exit) }) ⌝ }
 {
     raise_valid(memory, key, opened, rest(packet, wire::sizes::HEAD));
     wire::make::make_packet(

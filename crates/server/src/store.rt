@@ -41,7 +41,8 @@ pub(crate) fn store(
     opened: Opened,
     out: &mut [u8],
 ) -> cluster::Outcome
-    ensures { λ r. ⌜ AnswersOf 3 (now (memory .entry)) (now (packet .entry)) (now (out .entry)) head opened (record { result = r; memory = now (memory .exit); output = now (out .exit) }) ⌝ }
+    ensures { λ r. ⌜ AnswersOf 3 (now (memory .entry)) (now (packet .entry)) (now (out .entry)) head opened
+        (record { result = r; memory = now (memory .exit); output = now (out .exit) }) ⌝ }
 {
     let write = rest(packet, wire::sizes::HEAD);
     let Found::Nothing = find(memory, opened, write) else {

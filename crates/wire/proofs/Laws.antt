@@ -1,5 +1,5 @@
--- For callers of the packet reader and of the packet maker: a packet that was let through is its head's bytes and its body's, its head is in its ranges,
--- and what is made of a head and a body's bytes is the packet's encoding. By the round-trip laws of crate protocol.
+-- For callers of the packet reader and of the packet maker: a packet that was let through is its head's bytes and its body's, its head is in its
+-- ranges, and what is made of a head and a body's bytes is the packet's encoding. By the round-trip laws of crate protocol.
 -- Assumes nothing.
 use mathlib.Core.Path.{_≡_, refl, sym, ap, _∙_}
 use mathlib.Core.List.{List, [], _∷_, _++_, append-nil}

@@ -1,5 +1,5 @@
--- A total writer wrote its bytes where there is room for them, and nothing where there is none; and a packet is its head and its body written one after the other.
--- Assumes nothing.
+-- A total writer wrote its bytes where there is room for them, and nothing where there is none; and a packet is its head and its body written one
+-- after the other. Assumes nothing.
 use mathlib.Core.Path.{_≡_, ap, _∙_}
 use mathlib.Core.List.{List, [], _∷_, _++_}
 use Prim.Native.Nat.{ℕ, _+_, _≤_, _<_}

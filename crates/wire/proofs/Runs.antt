@@ -105,7 +105,8 @@ put-padded n s h =
     (take-zeros (n - length s) n (omega arith)) in
     rw (zero-add (length s)) (ap (λ (y : List ℕ). s ++ y) (drop-zeros (length s) n) ∙ sym p)
 
-pub placed-padded : (n : ℕ) (d : List ℕ) (at : ℕ) {b e : List ℕ} {k : ℕ} → b ≡ bytesAt d at n → record { next = k; output = e } ≡ placed (replicate n 0)
+pub placed-padded : (n : ℕ) (d : List ℕ) (at : ℕ) {b e : List ℕ} {k : ℕ} → b ≡ bytesAt d at n → record { next = k; output = e }
+    ≡ placed (replicate n 0)
     0 b
     → e ≡ padded n (drop at d)
 unfolding bytesAt

@@ -102,13 +102,16 @@ module _ (c : Config) {s : List ℕ} {at : ℕ} where
   -- the fragment's length is told by the length that stands there
   sized : {n p q : ℕ} → Took (number2L leastLength topLength) s at n p → Fragment c s n p q
       → Leaves (run (fragmentSize (c .threshold) (lengthAt (drop at s)))) s p (bytesAt s p (fragmentSize (c .threshold) (lengthAt (drop at s)))) q
-  sized {n} {p} {q} a b = subst (λ (k : ℕ). Leaves (run (fragmentSize (c .threshold) k)) s p (bytesAt s p (fragmentSize (c .threshold) k)) q) (a .number)
+  sized {n} {p} {q} a b = subst (λ (k : ℕ). Leaves (run (fragmentSize (c .threshold) k)) s p (bytesAt s p (fragmentSize (c .threshold) k)) q)
+      (a .number)
       (b .leaves)
 
-  pub share-stops1 : {n p : ℕ} → Took (number2L leastLength topLength) s at n p → Stops (run (fragmentSize (c .threshold) n)) s p → Stops (shareF c) s at
+  pub share-stops1 : {n p : ℕ} → Took (number2L leastLength topLength) s at n p → Stops (run (fragmentSize (c .threshold) n)) s p
+      → Stops (shareF c) s at
   unfolding shareF
   share-stops1 {n} {p} a z =
-      stops-via _ _ _ (stops-second _ _ (a .leaves) (stops-first _ _ (subst (λ (k : ℕ). Stops (run (fragmentSize (c .threshold) k)) s p) (a .number) z)))
+      stops-via _ _ _ (stops-second _ _ (a .leaves) (stops-first _ _ (subst (λ (k : ℕ). Stops (run (fragmentSize (c .threshold) k)) s p) (a .number)
+      z)))
 
   pub share-stops2 : {n p q : ℕ} → Took (number2L leastLength topLength) s at n p → Fragment c s n p q → Stops (run (digestsSize c)) s q → Stops
       (shareF c) s at

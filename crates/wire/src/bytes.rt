@@ -38,7 +38,8 @@ pub fn all_zero(s: &[u8]) -> bool
     joined_zero(&s[at..])
 }
 
-// The same bytes. Byte 3 is looked at first, where stamps differ most often: it is the last of their number. No difference ends the loop, as in all_zero.
+// The same bytes. Byte 3 is looked at first, where stamps differ most often: it is the last of their number. No difference ends the loop, as in
+// all_zero.
 pub fn same(a: &[u8], b: &[u8]) -> bool
     ensures { λ r. ⌜ r ≡ sameList (now (a .entry)) (now (b .entry)) ⌝ }
 {

@@ -99,7 +99,8 @@ pub fn make_packet(
     second: &[u8],
     out: &mut [u8],
 ) -> cluster::Outcome
-    ensures { λ r. ⌜ record { result = r; output = now (out .exit) } ≡ packetStep head (now (first .entry)) (now (second .entry)) (now (out .entry)) ⌝ }
+    ensures { λ r. ⌜ record { result = r; output = now (out .exit) } ≡ packetStep head (now (first .entry)) (now (second .entry)) (now (out .entry))
+        ⌝ }
 {
     if out.len() < cluster::PACKET_ROOM {
         return cluster::refused(cluster::refusals::ROOM);

@@ -1,4 +1,5 @@
--- `decide::decide` meets its contract: the arguments, the highest rank that stays, and what is found among its slots, one after the other. Nothing is assumed.
+-- `decide::decide` meets its contract: the arguments, the highest rank that stays, and what is found among its slots, one after the other. Nothing is
+-- assumed.
 use mathlib.Core.Path.{_≡_, refl, sym, ap, _∙_, subst}
 use mathlib.Core.List.{List}
 use mathlib.Core.Option.{none}
@@ -67,7 +68,8 @@ returns-3 c =
     let p = c .before .before .before .before .before in
     let q = c .before .before .before .before .top .ensures in
     let n : chosenPlace (t p) (marks p) (kept p) (topAt (t p) (marks p) (kept p) (shelf (t p) .servers)) (shelf (t p) .servers) ≡ none =
-    ap (λ (x : ℕ). chosenPlace (t p) (marks p) (kept p) x (shelf (t p) .servers)) (sym q) ∙ c .before .before .find .ensures .nothing (c .if3 .taken) in
+    ap (λ (x : ℕ). chosenPlace (t p) (marks p) (kept p) x (shelf (t p) .servers)) (sym q)
+    ∙ c .before .before .find .ensures .nothing (c .if3 .taken) in
     told (decided-none (t p) (marks p) (kept p) (out p) (not-refused p) (bytes p) (omega (arith, c .before .before .before .if2 .left, q)) n)
 
 -- a server was found

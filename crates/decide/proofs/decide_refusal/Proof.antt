@@ -28,11 +28,21 @@ returns-2 c = rw (past₁ (c .before .before), sym (c .before .outside .ensures)
 
 returns-3 : tie.Need-returns-3
 unfolding decideRefusal
-returns-3 c = rw (past₁ (c .before .before .before), past₂ (c .before), lt-ltb (c .before .before .before .before .args .room) contentRoom (omega arith))
+returns-3 c = rw (
+  past₁ (c .before .before .before),
+  past₂ (c .before),
+  lt-ltb (c .before .before .before .before .args .room) contentRoom
+      (omega arith),
+)
 
 returns-4 : tie.Need-returns-4
 unfolding decideRefusal
-returns-4 c = rw (past₁ (c .before .before .before), past₂ (c .before), le-ltb (c .before .before .before .before .args .room) contentRoom (omega arith))
+returns-4 c = rw (
+  past₁ (c .before .before .before),
+  past₂ (c .before),
+  le-ltb (c .before .before .before .before .args .room) contentRoom
+      (omega arith),
+)
 
 pub decide-refusal-spec : {M : Type 1} → statement M
 decide-refusal-spec = tie.close (tie.spec returns (λ c κs. search needs) returns-2 returns-3 returns-4)

@@ -1,4 +1,5 @@
--- `hmac::prepared_hmac_with` meets its contract: a digest of the message and the digest, then one of that digest, each behind a block of the key. Assumes nothing.
+-- `hmac::prepared_hmac_with` meets its contract: a digest of the message and the digest, then one of that digest, each behind a block of the key.
+-- Assumes nothing.
 use Rattle.hmac.specs.PreparedKey.{preparedHmac}
 use borrow.Author.Needs.{needs}
 use Rattle.hmac.proofs.prepared_hmac_with.Statement.{statement}

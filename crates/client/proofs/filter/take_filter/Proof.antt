@@ -65,7 +65,8 @@ returns c =
     let Y : Bytes (a .reply .now) = λ k.
     c .before .before .before .before .before .before .before .before .before .before .before .before .before .before .before .before .before
     .shared-slice-known .given k .fits in
-    let e = ended (c .before .before .before .before .before .before .before .before) _ (c .before .before .before .before .before .before .before .if1 .taken) in
+    let e = ended (c .before .before .before .before .before .before .before .before) _
+    (c .before .before .before .before .before .before .before .if1 .taken) in
     let at : ℕ = repliesPlace + replySlot * (a .head .server - 1) in
     let N : Bytes (c .before .before .before .before .before .before .before .before .before .before .before .before .put-reply .last .0) = λ k.
     c .before .before .before .before .before .before .before .before .before .before .slice-known3 .given k .fits in

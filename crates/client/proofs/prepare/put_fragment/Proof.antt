@@ -88,7 +88,8 @@ returns c =
     (λ (k : ℕ). fragmentStep (a .t) k (a .content .now)) (add-one (a .i)) in
     let n : c .before .before .before .before .before .before .before .before .before .before .before .before .before .before .before .fragment
     .result .count ≡ size = ap (λ (x : FragmentOutcome). x .count) e ∙ cut .0 in
-    let q : bytesAt (c .before .before .before .before .before .before .before .before .before .before .before .before .before .before .before .fragment
+    let q : bytesAt
+    (c .before .before .before .before .before .before .before .before .before .before .before .before .before .before .before .fragment
     .result .bytes) 0 (c .before .before .before .before .before .before .before .before .before .before .before .before .before .before .before
     .fragment .result .count) ≡ fragment (shelf (a .t) .points) (shelf (a .t) .threshold) (a .content .now) (suc (a .i)) = ap
     (λ (x : FragmentOutcome). bytesAt (x .bytes) 0 (x .count)) e ∙ cut .1 in

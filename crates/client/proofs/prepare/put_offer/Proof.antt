@@ -46,7 +46,8 @@ put-sized-requires c κs =
         (
           p .1 .1 .0,
           share-room (a .t) (c .before .before .before .before .before .before .before .put-parts .result)
-              (digestSize * c .before .before .before .before .servers .result + digestSize + length (a .tags .now)) (length (c .part .result .now)) (p .0)
+              (digestSize * c .before .before .before .before .servers .result + digestSize + length (a .tags .now)) (length (c .part .result .now))
+              (p .0)
               (p .1 .0) n (omega (arith, s, p .1 .1 .1)) k,
         ),
       ),

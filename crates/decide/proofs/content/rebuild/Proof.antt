@@ -33,7 +33,8 @@ fragment-size-requires c κs =
     (p .0 .low, p .0 .high, omega (arith, p .2 .top, size (a .kept .now) (a .b) (c .before .size-of .result) (c .before .size-of .ensures)))
 
 -- the fragments' room, by what was read
-room : (t n k f : ℕ) → 1 ≤ t → t ≤ topFaults → n ≤ topLength → k ≡ shelf t .threshold → f ≡ fragmentSize (shelf t .threshold) n → k * f ≤ fragmentsRoom
+room : (t n k f : ℕ) → 1 ≤ t → t ≤ topFaults → n ≤ topLength → k ≡ shelf t .threshold → f ≡ fragmentSize (shelf t .threshold) n
+    → k * f ≤ fragmentsRoom
 room t n k f l h m e q = rw (e, q) (fragments-room t n l h m)
 
 mul-end : tie.Need-mul-end
@@ -103,7 +104,8 @@ returns c =
     ∙ lent (a .t) (c .before .before .before .before .before .before .before .before .before .before .before .size-of .result)
     (c .before .before .before .before .before .before .before .before .before .before .threshold .result) (shelf (a .t) .threshold)
     (c .before .before .before .before .before .before .before .before .before .fragment-size .result)
-    (fragmentSize (shelf (a .t) .threshold) (c .before .before .before .before .before .before .before .before .before .before .before .size-of .result))
+    (fragmentSize (shelf (a .t) .threshold)
+    (c .before .before .before .before .before .before .before .before .before .before .before .size-of .result))
     (a .t4) (c .before .before .before .before .before .before .before .before .fragments-of .result) (a .out .now) k f)
 
 pub rebuild-spec : {M : Type 1} → statement M

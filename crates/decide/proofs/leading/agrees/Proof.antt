@@ -1,4 +1,5 @@
--- `decide::agrees` meets its contract: the leader itself; then the mark, what names the candidate, the same share, and last the digest of the fragment. Nothing is assumed.
+-- `decide::agrees` meets its contract: the leader itself; then the mark, what names the candidate, the same share, and last the digest of the
+-- fragment. Nothing is assumed.
 use mathlib.Core.Path.{_≡_, sym, _∙_}
 use Prim.Native.Nat.{suc, _<_}
 use native.Mathlib.Omega.{arith}

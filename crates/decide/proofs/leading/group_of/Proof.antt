@@ -64,5 +64,6 @@ returns-3 c =
     (ap (λ (x : ℕ). take x (c .before .before .before .before .members-of .result .servers)) k ∙ m .these)
 
 pub group-of-spec : {M : Type 1} → statement M
-group-of-spec = tie.close (tie.spec fits-requires (λ c κs. search needs) returns members-of-requires threshold-requires (λ c κs. search needs) returns-2
+group-of-spec = tie.close (tie.spec fits-requires (λ c κs. search needs) returns members-of-requires threshold-requires (λ c κs. search needs)
+    returns-2
     (λ c. let p = c .before .before .before .before .before .before .before .before .before .pre in omega (arith, p .2, few (p .0))) returns-3)

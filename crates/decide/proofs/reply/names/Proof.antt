@@ -1,4 +1,5 @@
--- `decide::names` meets its contract: each test that fails says no, and the last one decides. Stamps of bytes are compared by their bytes. Nothing is assumed.
+-- `decide::names` meets its contract: each test that fails says no, and the last one decides. Stamps of bytes are compared by their bytes. Nothing is
+-- assumed.
 use mathlib.Core.Path.{_≡_, sym, ap, _∙_}
 use mathlib.Core.Bool.{true}
 use mathlib.Core.List.{List}

@@ -28,7 +28,8 @@ size-of-requires c κs = let a = c .before .before .args in let p = c .before .b
 size : (t : ℕ) (kept : List ℕ) (j n : ℕ) → n ≡ sizeIn (lentSlot kept j) → n ≡ shareOf t kept (suc j) .size
 size t kept j n e = e ∙ ap sizeIn (slot-lent kept j) ∙ sym (share-size t kept j)
 
-both : (kept : List ℕ) (x y n m : ℕ) → n ≡ m → sameList (take (x + n - x) (drop x kept)) (take (y + n - y) (drop y kept)) ≡ sameList (bytesAt kept x m)
+both : (kept : List ℕ) (x y n m : ℕ) → n ≡ m → sameList (take (x + n - x) (drop x kept)) (take (y + n - y) (drop y kept))
+    ≡ sameList (bytesAt kept x m)
     (bytesAt kept y m)
 both kept x y n m e = rw (part-of kept x n, part-of kept y n, e)
 
@@ -93,7 +94,8 @@ returns-3 c =
           (omega (arith, c .before .before .before .before .before .if2 .left, z)),
     )
     (c .same .ensures ∙ both (a .kept .now) at (candidatesPlace + candidateSlot * a .i + (stampSize + nonceSize)) w (tagsSize (shelf (a .t))) e
-    ∙ ap (λ (x : List ℕ). sameList x (bytesAt (a .kept .now) (candidatesPlace + candidateSlot * a .i + (stampSize + nonceSize)) (tagsSize (shelf (a .t)))))
+    ∙ ap (λ (x : List ℕ). sameList x (bytesAt (a .kept .now) (candidatesPlace + candidateSlot * a .i + (stampSize + nonceSize))
+    (tagsSize (shelf (a .t)))))
     (sym (reply-tags (a .t) (a .kept .now) (a .j) (c .before .before .before .before .before .before .before .size-of .result) at z
     (omega (arith, c .before .before .before .digests-at .ensures .place, c .before .before .before .before .servers .ensures .0))
     (omega (arith, c .before .before .before .digests-at .ensures .room, c .before .before .before .digests-at .ensures .place))))

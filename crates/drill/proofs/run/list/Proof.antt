@@ -65,10 +65,12 @@ rows-from-requires c κs =
       (
         rw (c .next-line .ensures) n,
         rw (c .next-line .ensures)
-            (rows-room s (c .before .before .before .before .before .before .before .before .before .before .before .before .before .before .before .before
+            (rows-room s
+            (c .before .before .before .before .before .before .before .before .before .before .before .before .before .before .before .before
             .before .before .before .args .out .now)
             (c .before .before .before .before .before .before .before .before .before .before .before .before .before .before .before .before .before .before
-            .before .pre .1) (c .before .before .before .before .before .before .before .before .before .before .before .before .before .before .line-end
+            .before .pre .1)
+            (c .before .before .before .before .before .before .before .before .before .before .before .before .before .before .line-end
             .result) e),
       ),
     )

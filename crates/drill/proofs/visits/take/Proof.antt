@@ -27,7 +27,8 @@ module _ (c : tie.After-keys-for) where
   same-keys =
       let a = start .args in
       let w = a .work .now in
-      ap (λ (z : List ℕ). coreTake (a .t) (a .client) z (c .keys-for .result) (callIn w (a .client)) (keptIn w (a .client)) (a .reply .now) (a .out .now))
+      ap (λ (z : List ℕ). coreTake (a .t) (a .client) z (c .keys-for .result) (callIn w (a .client)) (keptIn w (a .client)) (a .reply .now)
+      (a .out .now))
       (c .before .writers-for .ensures)
       ∙ ap (λ (z : List (List ℕ)). coreTake (a .t) (a .client) (lent .writers) z (callIn w (a .client)) (keptIn w (a .client)) (a .reply .now)
       (a .out .now)) (c .keys-for .ensures)
@@ -55,4 +56,5 @@ returns c =
 
 pub take-spec : {M : Type 1} → statement M
 take-spec = tie.close (tie.spec (λ c κs. search needs) (λ c κs. search needs) (λ c. search needs) (λ c κs. search needs) (λ c κs. search needs)
-    (λ c. search needs) (λ c. search needs) (λ c. search needs) (λ c κs. search needs) put-call-requires (λ c. search needs) (λ c. search needs) returns)
+    (λ c. search needs) (λ c. search needs) (λ c. search needs) (λ c κs. search needs) put-call-requires (λ c. search needs) (λ c. search needs)
+    returns)

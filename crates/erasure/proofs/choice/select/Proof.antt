@@ -74,5 +74,6 @@ returns c =
     subst (λ (n : ℕ). Holds (start .args .k) bs (chosenOf (start .args .k) bs n) (at .c)) (omega arith) (at .inv .2)
 
 pub select-spec : {M : Type 1} → statement M
-select-spec = tie.close (tie.spec Inv-loop μ-loop loop-holds (λ c. search needs) (λ c. search needs) cast-add-server add-server-requires (λ c. search needs) (λ c. search needs)
+select-spec = tie.close (tie.spec Inv-loop μ-loop loop-holds (λ c. search needs) (λ c. search needs) cast-add-server add-server-requires
+    (λ c. search needs) (λ c. search needs)
     loop-again returns)

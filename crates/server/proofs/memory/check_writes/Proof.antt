@@ -32,7 +32,8 @@ loop-again c =
     (c .before .before .before .before .before .before .before .before .write-field .ensures) in (
       omega arith,
       check-more _ (c .before .before .before .before .before .before .before .before .before .before .loop .inv .1) (omega arith)
-          (w .leaves) (λ i. c .before .before .before .before .before .before .before .before .before .before .before .before .shared-slice-known .given
+          (w .leaves)
+          (λ i. c .before .before .before .before .before .before .before .before .before .before .before .before .shared-slice-known .given
           i .fits) (c .before .before .rest .ensures) (c .before .rank-at .ensures) (c .raised .ensures)
           _ (c .before .before .before .before .repeats .ensures) (c .before .before .before .if1 .left),
     )

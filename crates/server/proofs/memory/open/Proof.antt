@@ -96,7 +96,11 @@ returns-4 c =
     (rw (c .enum-told3 .given .1) at (c .before .before .byte-field3 .ensures)))
 
 cast-any-candidate-field : tie.Need-cast-any-candidate-field
-cast-any-candidate-field c = omega (arith, byte-range 1 topFaults (t-took (c .before .before .before .before .before .before .before .before .before .before)) .1)
+cast-any-candidate-field c = omega (
+  arith,
+  byte-range 1 topFaults (t-took
+      (c .before .before .before .before .before .before .before .before .before .before)) .1,
+)
 
 returns-5 : tie.Need-returns-5
 returns-5 c =

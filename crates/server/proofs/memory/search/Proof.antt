@@ -1,4 +1,5 @@
--- The walk over the stored writes ends at the first with the stamp's bytes, at a write that is longer than what is left, or past the last. Assumes nothing.
+-- The walk over the stored writes ends at the first with the stamp's bytes, at a write that is longer than what is left, or past the last. Assumes
+-- nothing.
 use borrow.Author.Needs.{needs}
 use Prim.Native.Nat.{_+_, _≤_, _-_}
 use native.Mathlib.Omega.{arith}
@@ -50,7 +51,8 @@ add-size c = omega (
   c .before .before .before .before .before .before .before .before .before .before .share-size .ensures,
   c .fragment-size .ensures,
   fragment-few
-      (c .before .before .before .before .before .before .before .before .before .before .before .before .before .args .t) (c .before .number2 .result),
+      (c .before .before .before .before .before .before .before .before .before .before .before .before .before .args .t)
+      (c .before .number2 .result),
   no-fragment (c .before .before .before .before .before .before .before .before .before .before .before .before .before .args .t),
 )
 

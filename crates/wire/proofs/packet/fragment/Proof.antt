@@ -23,7 +23,8 @@ returns-2 : tie.Need-returns-2
 returns-2 c = let s = c .before .before .before .before .before .before .before .before .args .packet .now in let h =
     c .before .before .before .before .head .given .0 .0 in fragment-read s h (rw (c .before .before .before .before .head .given .1) at
     (c .before .before .before .before .before .before .read-packet .ensures .1)) (c .share-fragment .ensures ∙ ap
-    (λ (d : List ℕ). shareAt (shelf (h .t)) d .fragment) (c .before .rest .ensures ∙ sym (drop-drop stampSize headSize s)) ∙ fragment-store (shelf (h .t))
+    (λ (d : List ℕ). shareAt (shelf (h .t)) d .fragment) (c .before .rest .ensures ∙ sym (drop-drop stampSize headSize s))
+    ∙ fragment-store (shelf (h .t))
     (drop headSize s) (h .kind) (omega arith))
 
 returns-3 : tie.Need-returns-3
