@@ -1,5 +1,4 @@
--- The client (Algorithms 4 and 6 as document 01, "The client", amends them): what a reply does to a pending call, the refusals, and the steps, on
--- values.
+-- The client (Algorithms 4 and 6 as document 01, "The client", amends them), on values: what a reply does to a pending call, refusals, and steps.
 use mathlib.Core.Bool.{Bool, true, false, cond, not, _&&_, _||_}
 use mathlib.Core.List.{List, [], _∷_}
 use mathlib.Core.Option.{Option, none, some}

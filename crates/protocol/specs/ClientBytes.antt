@@ -1,11 +1,11 @@
 -- The client's operations on bytes: what the contracts of the code cite. The bytes are looked at as a client (View), the step is that of Client,
 -- and the client after it is put back. No rule of the protocol stands here: this file says only which bytes a client is kept in.
 use mathlib.Core.Bool.{Bool, cond}
-use mathlib.Core.List.{List, [], _∷_, _++_}
+use mathlib.Core.List.{List, [], _∷_}
 use mathlib.Core.Option.{Option, none, some}
 use Prim.Native.Nat.{ℕ, zero, suc, _+_, _-_, _*_, _/_}
 use lib.Dec.{eqb}
-use lib.ListN.{length, take, drop, replicate}
+use lib.ListN.{length, replicate}
 use Rattle.cluster.specs.Config.{Config, shelf}
 use Rattle.cluster.specs.Ranges.{within, mostServers}
 use Rattle.cluster.specs.Refusals.{onRefusal}

@@ -27,8 +27,6 @@ unfoldable pub countTo : ℕ → ByServer Bool → ℕ
 countTo zero m = 0
 countTo (suc n) m = cond (m (suc n)) 1 0 + countTo n m
 
--- ---- lists
-
 unfoldable pub any : {A : Type 0} → (A → Bool) → List A → Bool
 any p [] = false
 any p (x ∷ xs) = p x || any p xs

@@ -11,8 +11,7 @@ use Rattle.cluster.specs.Ranges.{capacity, topWriter, packetRoom}
 use Rattle.cluster.specs.Refusals.{refuse, firstOf, onRefusal}
 use Rattle.hmac.specs.Hmac.{tagSize}
 use Rattle.protocol.specs.Values.{Candidate, Share, Write, sameList, nth, below, blankCandidate, isSome, ofSome}
-use Rattle.protocol.specs.Packet.{Body, Packet, kindOf}
-use Rattle.protocol.specs.Packet.{clock, clockReply, store, storeReply, complete, completeReply, collect, collectReply, filter, filterReply, repair, repairReply}
+use Rattle.protocol.specs.Packet.{Body, Packet, kindOf, clock, clockReply, store, storeReply, complete, completeReply, collect, collectReply, filter, filterReply, repair, repairReply}
 use Rattle.protocol.specs.Memory.{Memory, lookup}
 use Rattle.protocol.specs.Primitives.{Primitives, candidateMessage}
 

@@ -1,10 +1,10 @@
 -- The server's operations on bytes: what the contracts of the code cite.
 use mathlib.Core.Bool.{not}
-use mathlib.Core.List.{List, [], _∷_, _++_}
+use mathlib.Core.List.{List, [], _∷_}
 use mathlib.Core.Option.{Option, none, some}
 use Prim.Native.Nat.{ℕ}
 use lib.Dec.{eqb}
-use lib.ListN.{length, drop}
+use lib.ListN.{length}
 use Rattle.cluster.specs.Config.{shelf}
 use Rattle.cluster.specs.Ranges.{within, topFaults, memorySize}
 use Rattle.cluster.specs.Refusals.{refuse, firstOf, onRefusal}
@@ -59,8 +59,7 @@ module _ (P : Primitives) (memory key packet output : List ℕ) where
       record {
         result = record { number = 0; count = length bytes };
         memory = encodeMemory (memoryOf (m .t) (m .server) (a .server));
-        output = over
-            bytes output;
+        output = over bytes output;
       }
 
   unfoldable pub serverTake : Served

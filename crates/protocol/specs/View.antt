@@ -4,7 +4,7 @@ use mathlib.Core.List.{List}
 use mathlib.Core.Option.{none, some}
 use Prim.Native.Nat.{ℕ, zero, suc, _+_, _-_, _*_}
 use lib.Dec.{leb, ltb, eqb}
-use lib.ListN.{take, drop, getD}
+use lib.ListN.{drop, getD}
 use Rattle.cluster.specs.Config.{Config}
 use Rattle.cluster.specs.Ranges.{within, mostServers, topLength}
 use Rattle.hmac.specs.Hmac.{tagSize}
@@ -43,8 +43,7 @@ shareAt s d = shareOfSize s (value2 (getD d 0 0) (getD d 1 0)) d
 unfoldable pub heldAt : Config → List ℕ → Held
 heldAt s d = record { stamp = stampAt d; share = cond (eqb (getD d stampSize 0) 0) none (some (shareAt s (drop (stampSize + 1) d))) }
 
--- ---- the kept bytes: content, nonce, candidate of the write or of repair, a slot for each server's candidate, a slot for each server's share or
--- reply
+-- ---- the kept bytes: content, nonce, the write's or repair's candidate, and for each server a slot for its candidate and one for its share or reply
 
 abbrev pub keptSize : ℕ
 keptSize = 24576
