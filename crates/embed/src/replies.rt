@@ -12,7 +12,7 @@ pub extern "C" fn cendrulas_store_code(packet: &[u8]) -> u64
     ensures { λ r. ⌜ r ≡ codeTold (decode (now (packet .entry))) ⌝ }
 {
     let wire::packet::PacketRead::Value(head) = wire::packet::read_packet(packet) else {
-        return pack(7, 0, 0, 0);
+        return pack(cluster::refusals::LAYOUT, 0, 0, 0);
     };
     if head.kind != STORE_REPLY {
         return pack(0, 0, 0, 0);

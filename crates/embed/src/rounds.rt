@@ -8,9 +8,6 @@ ghost use Rattle.protocol.specs.Rules.{countTo};
 ghost use Rattle.protocol.specs.View.{marked};
 ghost use Rattle.embed.specs.Rounds.{bitsTo, roundOf, roundIn};
 
-// The last of the rounds 1 to 6.
-const REPAIR: u8 = 6;
-
 // n for a mark.
 fn for_mark(mark: u8, n: u32) -> u32
     ensures { λ r. ⌜ r ≡ cond (not (eqb mark 0)) n 0 ⌝ }
@@ -55,7 +52,7 @@ fn round_of(call: protocol::Call) -> u8
 {
     let tally = call.tally;
     let round = tally.round;
-    if round <= REPAIR {
+    if round <= protocol::rounds::REPAIR {
         return round;
     }
     0
