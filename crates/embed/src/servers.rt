@@ -48,7 +48,7 @@ fn changed(memory: &[u8], count: u8, latest: u64) -> u8
     ensures { λ r. ⌜ r ≡ cond (eqb (getD (now (memory .entry)) countPlace 0) count
         && eqb (rank (stampAt (drop latestPlace (now (memory .entry))))) latest) 0 1 ⌝ }
 {
-    if wire::bytes::byte_at(memory, server::store::COUNT) != count {
+    if wire::bytes::byte_at(memory, server::memory::COUNT) != count {
         return 1;
     }
     if latest_rank(memory) != latest {
@@ -61,7 +61,7 @@ fn serve(memory: &mut [u8], key: [u8; cluster::KEY], packet: &[u8], out: &mut [u
     ensures { λ r. ⌜ record { answer = r; memory = now (memory .exit); output = now (out .exit) }
         ≡ servedOut (now (memory .entry)) (serverTake real (now (memory .entry)) key (now (packet .entry)) (now (out .entry))) ⌝ }
 {
-    let writes = wire::bytes::byte_at(memory, server::store::COUNT);
+    let writes = wire::bytes::byte_at(memory, server::memory::COUNT);
     let latest = latest_rank(memory);
     let n = lent(out.len());
     let o = server::take::take(memory, &key, packet, &mut out[..n]);
