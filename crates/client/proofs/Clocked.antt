@@ -55,7 +55,7 @@ module _ (t client : ℕ) (c : Call) (reply : List ℕ) (h : Head) (y : Ready t 
     over = ends (shelf t) c (h .server) && leb topNumber top
 
     refused-as : (p q : Bool) → over ≡ p → ltb (length output) contentRoom ≡ q → (n : ℕ) → n ≡ cond p 14 (cond q 15 0) → (n ≡ 0 → ⊥)
-        → Takes (record { taken = taken.Refused n; call = c }) kept
+        → Takes (record { answer = taken.Refused n; call = c }) kept
     unfolding takeByRounds
     refused-as true q f g n e ne =
         let w = and-both (ends (shelf t) c (h .server)) (leb topNumber top) f in
@@ -66,7 +66,7 @@ module _ (t client : ℕ) (c : Call) (reply : List ℕ) (h : Head) (y : Ready t 
     pub clock-refused : (n room high : ℕ) → n ≡ firstOf (refuse 14 (ends (shelf t) c (h .server) && leb topNumber high)
         ∷ refuse 15 (ltb room contentRoom) ∷ []) →
         (n ≡ 0 → ⊥)
-        → high ≡ top → length output ≡ room → Takes (record { taken = taken.Refused n; call = c }) kept
+        → high ≡ top → length output ≡ room → Takes (record { answer = taken.Refused n; call = c }) kept
     clock-refused n room high e ne m l = refused-as over (ltb (length output) contentRoom) refl refl n (rw (m, ← l) at e) ne
 
     module _ (n room high : ℕ) (e : n ≡ firstOf (refuse 14 (ends (shelf t) c (h .server) && leb topNumber high) ∷ refuse 15 (ltb room contentRoom)
@@ -85,7 +85,7 @@ module _ (t client : ℕ) (c : Call) (reply : List ℕ) (h : Head) (y : Ready t 
 
       pub clock-noted : length output ≡ room → ends (shelf t) c (h .server) ≡ false
           → Takes (record {
-            taken = taken.More;
+            answer = taken.More;
             call = record {
               number = c .number;
               last = c .last;
@@ -99,7 +99,7 @@ module _ (t client : ℕ) (c : Call) (reply : List ℕ) (h : Head) (y : Ready t 
 
       pub clock-ended : length output ≡ room → ends (shelf t) c (h .server) ≡ true
           → Takes (record {
-            taken = taken.More;
+            answer = taken.More;
             call = record {
               number = c .number;
               last = suc high;

@@ -38,26 +38,26 @@ module _ (t client : ℕ) (writers : List ℕ) (keys : List (List ℕ)) (c : Cal
   -- the call after a reply to store, by the code in it
   abbrev stored : ℕ → Answered
   stored code = record {
-    taken = taken.More;
+    answer = taken.More;
     call = withTally c (cond (eqb code 11) (counted (shelf t) (c .tally))
         (cond (ends (shelf t) c (h .server)) (fresh 3) (noted (shelf t) (c .tally) (h .server))));
   }
 
   abbrev noting : Answered
-  noting = record { taken = taken.More; call = withTally c (noted (shelf t) (c .tally) (h .server)) }
+  noting = record { answer = taken.More; call = withTally c (noted (shelf t) (c .tally) (h .server)) }
 
   abbrev wrote : Answered
-  wrote = record { taken = writtenAs (chosenOf (shelf t) kept .stamp); call = withTally c (fresh 0) }
+  wrote = record { answer = writtenAs (chosenOf (shelf t) kept .stamp); call = withTally c (fresh 0) }
 
   abbrev collected : Answered
   collected = record {
-    taken = taken.More;
+    answer = taken.More;
     call = withTally c (cond (ends (shelf t) c (h .server)) (fresh 5)
         (noted (shelf t) (c .tally) (h .server)));
   }
 
   abbrev delivered : Answered
-  delivered = record { taken = readAs (chosenOf (shelf t) kept .stamp) (length (contentOf c kept)); call = withTally c (fresh 0) }
+  delivered = record { answer = readAs (chosenOf (shelf t) kept .stamp) (length (contentOf c kept)); call = withTally c (fresh 0) }
 
   pub takes-store : c .tally .round ≡ 2 → (code : ℕ) → code ≡ getD reply headSize 0 → (a : Answered) → a ≡ stored code → TakesAs t client writers keys
       c kept reply output a kept output

@@ -119,7 +119,7 @@ module _ (t client : ℕ) (writers : List ℕ) (keys : List (List ℕ)) (c : Cal
   taken-in a kept' output' w h e = e ∙ sym (core-take h ∙ same-take real t client writers keys c kept reply output h w)
 
   -- an answer that refuses, and nothing changed
-  pub takes-refused : (a : Answered) (n : ℕ) → a ≡ record { taken = taken.Refused n; call = c } → whole ≡ refusedWith c kept output n → TakesAs t
+  pub takes-refused : (a : Answered) (n : ℕ) → a ≡ record { answer = taken.Refused n; call = c } → whole ≡ refusedWith c kept output n → TakesAs t
       client writers keys c kept reply output a kept output
   takes-refused a n r e = ap (λ (z : Answered). answered z kept output) r ∙ sym e
 

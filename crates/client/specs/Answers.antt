@@ -11,14 +11,14 @@ use Rattle.client.specs.declared.begin.Started.{Started}
 use Rattle.client.specs.declared.answers.Answered.{Answered}
 
 abbrev pub stopped : Stopped → GaveUp
-stopped s = record { answer = abortedAnswer (s .taken); call = s .call }
+stopped s = record { answer = abortedAnswer (s .answer); call = s .call }
 
 abbrev pub started : Begun → Started
-started b = record { taken = b .result; call = b .call }
+started b = record { answer = b .result; call = b .call }
 
 -- with the kept bytes and the output as they are left
 abbrev pub answered : Answered → List ℕ → List ℕ → Took
-answered a kept output = record { answer = takenAnswer (a .taken); call = a .call; kept = kept; output = output }
+answered a kept output = record { answer = takenAnswer (a .answer); call = a .call; kept = kept; output = output }
 
 -- a write and a read of a stamp
 abbrev pub writtenAs : Stamp → Taken

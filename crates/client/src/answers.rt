@@ -14,26 +14,26 @@ use crate::rounds;
 
 // The answer to a reply, and the call after it.
 pub struct Answered {
-    pub taken: protocol::Taken,
+    pub answer: protocol::Taken,
     pub call: protocol::Call,
 }
 
 // A refusal changes nothing.
 pub(crate) fn refused(number: u8, call: protocol::Call) -> Answered
-    ensures { λ r. ⌜ r ≡ record { taken = taken.Refused number; call = call } ⌝ }
+    ensures { λ r. ⌜ r ≡ record { answer = taken.Refused number; call = call } ⌝ }
 {
     Answered {
-        taken: protocol::Taken::Refused(number),
+        answer: protocol::Taken::Refused(number),
         call: call,
     }
 }
 
 // The call goes on.
 pub(crate) fn more(call: protocol::Call) -> Answered
-    ensures { λ r. ⌜ r ≡ record { taken = taken.More; call = call } ⌝ }
+    ensures { λ r. ⌜ r ≡ record { answer = taken.More; call = call } ⌝ }
 {
     Answered {
-        taken: protocol::Taken::More,
+        answer: protocol::Taken::More,
         call: call,
     }
 }
@@ -57,7 +57,7 @@ pub(crate) fn enter(call: protocol::Call, round: u8) -> protocol::Call
 pub(crate) fn step(call: protocol::Call, t: usize, server: usize, next: u8) -> Answered
     requires { ⌜ (t ≤ topFaults) × ((1 ≤ server) × (server ≤ mostServers)) ⌝ }
     ensures { λ r. ⌜ r ≡ record {
-      taken = taken.More;
+      answer = taken.More;
       call = withTally call
           (cond (ends (shelf t) call server) (fresh next) (noted (shelf t) (call .tally) server));
     } ⌝ }
@@ -78,7 +78,7 @@ pub(crate) fn deliver(
 ) -> Answered
     requires { ⌜ (length (now content) ≤ topLength) × (contentRoom ≤ length (now out)) ⌝ }
     ensures { λ r. ⌜ (r ≡ record {
-      taken = taken.Read (label .number) (label .writer) (length (now (content .entry)));
+      answer = taken.Read (label .number) (label .writer) (length (now (content .entry)));
       call = withTally call (fresh 0);
     })
         × (now (out .exit) ≡ over (now (content .entry)) (now (out .entry))) ⌝ }
@@ -86,7 +86,7 @@ pub(crate) fn deliver(
     kept::write_at(out, 0, content);
     let n = content.len() as u16;
     Answered {
-        taken: protocol::Taken::Read(label.number, label.writer, n),
+        answer: protocol::Taken::Read(label.number, label.writer, n),
         call: enter(call, 0),
     }
 }

@@ -15,7 +15,7 @@ use crate::rounds;
 
 // What giving up answers, and the call after it.
 pub struct Stopped {
-    pub taken: protocol::Aborted,
+    pub answer: protocol::Aborted,
     pub call: protocol::Call,
 }
 
@@ -28,35 +28,35 @@ pub fn give_up_in(call: protocol::Call, t: usize, client: usize) -> Stopped
     let n = refusals::abort_refusal(t, client, call);
     if n != 0 {
         return Stopped {
-            taken: protocol::Aborted::Refused(n),
+            answer: protocol::Aborted::Refused(n),
             call: call,
         };
     }
     let c = rounds::with_tally(call, rounds::fresh_tally(0));
     if round == protocol::rounds::COMPLETE {
         return Stopped {
-            taken: protocol::Aborted::InComplete,
+            answer: protocol::Aborted::InComplete,
             call: c,
         };
     }
     Stopped {
-        taken: protocol::Aborted::Before,
+        answer: protocol::Aborted::Before,
         call: c,
     }
 }
 
 // What beginning a call answers, and the call after it.
 pub struct Started {
-    pub taken: cluster::Outcome,
+    pub answer: cluster::Outcome,
     pub call: protocol::Call,
 }
 
 // A refusal, which changes nothing.
 fn not_begun(number: u8, call: protocol::Call) -> Started
-    ensures { λ r. ⌜ r ≡ record { taken = record { number = number; count = 0 }; call = call } ⌝ }
+    ensures { λ r. ⌜ r ≡ record { answer = record { number = number; count = 0 }; call = call } ⌝ }
 {
     Started {
-        taken: cluster::Outcome {
+        answer: cluster::Outcome {
             number: number,
             count: 0,
         },
@@ -68,7 +68,7 @@ fn not_begun(number: u8, call: protocol::Call) -> Started
 fn next_call(call: protocol::Call, high: u32, length: u16, round: u8) -> Started
     requires { ⌜ call .number + 1 ≤ topNumber ⌝ }
     ensures { λ r. ⌜ r ≡ record {
-      taken = record { number = 0; count = 0 };
+      answer = record { number = 0; count = 0 };
       call = record { number = suc (call .number); last = call .last; high = high; length = length; tally = fresh round };
     } ⌝ }
 {
@@ -81,7 +81,7 @@ fn next_call(call: protocol::Call, high: u32, length: u16, round: u8) -> Started
         tally: tally,
     };
     Started {
-        taken: cluster::Outcome {
+        answer: cluster::Outcome {
             number: 0,
             count: 0,
         },

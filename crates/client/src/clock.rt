@@ -76,7 +76,7 @@ fn end_clock(
 ) -> Answered
     requires { ⌜ (1 ≤ t) × ((t ≤ topFaults) × ((client ≤ topClient) × ((length (now kept) ≡ keptSize) × (high < topNumber)))) ⌝ }
     ensures { λ r. ⌜ (r ≡ record {
-      taken = taken.More;
+      answer = taken.More;
       call = record {
         number = call .number;
         last = suc high;

@@ -60,7 +60,7 @@ fn put_repair(bytes: &mut [u8], kept: &[u8], t: usize, i: usize, b: usize, n: us
 
 // The repair round of a call, with a content of n bytes.
 fn repairing(call: protocol::Call, n: u16) -> Answered
-    ensures { λ r. ⌜ r ≡ record { taken = taken.More; call = repairCall call n } ⌝ }
+    ensures { λ r. ⌜ r ≡ record { answer = taken.More; call = repairCall call n } ⌝ }
 {
     let mut c = call;
     c.length = n;
@@ -77,7 +77,7 @@ fn repair_with(
     content: &[u8],
 ) -> Answered
     requires { ⌜ (t ≤ topFaults) × ((i < mostServers) × ((1 ≤ b) × ((b ≤ mostServers) × ((length (now kept) ≡ keptSize) × (length (now content) ≤ topLength))))) ⌝ }
-    ensures { λ r. ⌜ (r ≡ record { taken = taken.More; call = repairCall call (length (now (content .entry))) })
+    ensures { λ r. ⌜ (r ≡ record { answer = taken.More; call = repairCall call (length (now (content .entry))) })
         × (now (kept .exit) ≡ put (put (now (kept .entry)) 0 (now (content .entry))) chosenPlace (repairBytes t (now (kept .entry)) i b (length (now (content .entry))))) ⌝ }
 {
     let mut bytes = [0u8; wire::kept::CANDIDATE_SLOT];
@@ -136,7 +136,7 @@ fn judge(call: protocol::Call, kept: &mut [u8], t: usize, out: &mut [u8]) -> Ans
         decide::Decision::Refused(n) => answers::refused(n, call),
         decide::Decision::Wait => answers::more(call),
         decide::Decision::Blank => Answered {
-            taken: protocol::Taken::Blank,
+            answer: protocol::Taken::Blank,
             call: answers::enter(call, 0),
         },
         decide::Decision::Found(slot, server, n) => {

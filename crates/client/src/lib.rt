@@ -56,7 +56,7 @@ pub fn begin_write(
 {
     let s = begin::write_by_value(*call, kept, t, client, content, nonce);
     *call = s.call;
-    s.taken
+    s.answer
 }
 
 // A read begins.
@@ -71,7 +71,7 @@ pub fn begin_read(
 {
     let s = begin::read_by_value(*call, kept, t, client);
     *call = s.call;
-    s.taken
+    s.answer
 }
 
 // A reply is taken.
@@ -91,7 +91,7 @@ pub fn take(
 {
     let s = taking::take_by_value(*call, kept, t, client, writers, keys, reply, out);
     *call = s.call;
-    s.taken
+    s.answer
 }
 
 // The pending call is given up.
@@ -100,7 +100,7 @@ pub fn give_up(call: &mut protocol::Call, t: usize, client: usize) -> protocol::
 {
     let s = begin::give_up_in(*call, t, client);
     *call = s.call;
-    s.taken
+    s.answer
 }
 
 // The packet of the pending round for a server.

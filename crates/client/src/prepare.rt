@@ -147,7 +147,8 @@ fn put_parts(
 }
 
 // Bytes of all fragments of a content, and of what is the same in all shares, for every t.
-const FRAGMENTS: usize = 2665;
+const FRAGMENTS: usize = cluster::MOST_SERVERS
+    * ((cluster::TOP_LENGTH + cluster::TOP_FAULTS) / (cluster::TOP_FAULTS + 1));
 
 const COMMON: usize = cluster::KEY * cluster::MOST_SERVERS
     + cluster::KEY

@@ -27,7 +27,7 @@ pub(crate) fn take_collect(
     requires { ⌜ (t ≤ topFaults) × ((1 ≤ server) × ((server ≤ mostServers) × ((length (now kept) ≡ keptSize) × (length (now body) ≤ candidateSlot))))
         ⌝ }
     ensures { λ r. ⌜ (r ≡ record {
-      taken = taken.More;
+      answer = taken.More;
       call = withTally call
           (cond (ends (shelf t) call server) (fresh 5) (noted (shelf t) (call .tally) server));
     })
@@ -52,10 +52,10 @@ pub(crate) fn take_repair(
     requires { ⌜ (t ≤ topFaults) × ((1 ≤ server) × ((server ≤ mostServers) × (contentRoom ≤ length (now out)))) ⌝ }
     ensures { λ r. ⌜ (r ≡ cond (ends (shelf t) call server)
         (record {
-          taken = readAs (chosenOf (shelf t) (now (kept .entry)) .stamp) (length (contentOf call (now (kept .entry))));
+          answer = readAs (chosenOf (shelf t) (now (kept .entry)) .stamp) (length (contentOf call (now (kept .entry))));
           call = withTally call (fresh 0);
         })
-        (record { taken = taken.More; call = withTally call (noted (shelf t) (call .tally) server) }))
+        (record { answer = taken.More; call = withTally call (noted (shelf t) (call .tally) server) }))
         × (now (out .exit) ≡ cond (ends (shelf t) call server) (over (contentOf call (now (kept .entry))) (now (out .entry))) (now (out .entry))) ⌝ }
 {
     let noted = answers::note_reply(call, t, server);

@@ -19,7 +19,7 @@ use crate::rounds;
 pub(crate) fn take_store(call: protocol::Call, t: usize, server: usize, code: u8) -> Answered
     requires { ⌜ (t ≤ topFaults) × ((1 ≤ server) × (server ≤ mostServers)) ⌝ }
     ensures { λ r. ⌜ r ≡ record {
-      taken = taken.More;
+      answer = taken.More;
       call = withTally call (cond (eqb code 11) (counted (shelf t) (call .tally))
           (cond (ends (shelf t) call server) (fresh 3) (noted (shelf t) (call .tally) server)));
     } ⌝ }
@@ -34,14 +34,14 @@ pub(crate) fn take_store(call: protocol::Call, t: usize, server: usize, code: u8
 pub(crate) fn take_complete(call: protocol::Call, kept: &[u8], t: usize, server: usize) -> Answered
     requires { ⌜ (t ≤ topFaults) × ((1 ≤ server) × (server ≤ mostServers)) ⌝ }
     ensures { λ r. ⌜ r ≡ cond (ends (shelf t) call server)
-        (record { taken = writtenAs (chosenOf (shelf t) (now (kept .entry)) .stamp); call = withTally call (fresh 0) })
-        (record { taken = taken.More; call = withTally call (noted (shelf t) (call .tally) server) }) ⌝ }
+        (record { answer = writtenAs (chosenOf (shelf t) (now (kept .entry)) .stamp); call = withTally call (fresh 0) })
+        (record { answer = taken.More; call = withTally call (noted (shelf t) (call .tally) server) }) ⌝ }
 {
     let noted = answers::note_reply(call, t, server);
     if rounds::is_full(t, noted.tally) {
         let label = kept::chosen_label(kept, t);
         return Answered {
-            taken: protocol::Taken::Written(label.number, label.writer),
+            answer: protocol::Taken::Written(label.number, label.writer),
             call: answers::enter(call, 0),
         };
     }

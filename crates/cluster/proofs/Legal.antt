@@ -52,6 +52,13 @@ legal-shelf t l h =
       covered = omega arith;
       few = omega arith;
       table = upTo-length S;
-      bytes = λ i. omega (arith, point-le S i);
-      different = λ i j p q n e. n (omega (arith, e, upTo-at S i p, upTo-at S j q));
+      apart = record {
+        bytes = λ i. omega (arith, point-le S i);
+        different = λ i j p q n e. n (omega (
+          arith,
+          e,
+          upTo-at S i (omega (arith, p, upTo-length S)),
+          upTo-at S j (omega (arith, q, upTo-length S)),
+        ));
+      };
     }

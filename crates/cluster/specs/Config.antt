@@ -34,6 +34,11 @@ quorum s = s .servers - s .t
 unfoldable pub pointOf : List ℕ → ℕ → ℕ
 pointOf points i = getD points (i - 1) 0
 
+-- what a table of points must be: bytes, all different
+pub record PointTable (points : List ℕ) : Type 0 where
+  pub bytes : (i : ℕ) → getD points i 0 < 256
+  pub different : (i j : ℕ) → i < length points → j < length points → i ≢ j → getD points i 0 ≢ getD points j 0
+
 -- all that proofs use of the numbers
 pub record Legal (s : Config) : Type 0 where
   pub faulty : 1 ≤ s .t
@@ -42,5 +47,4 @@ pub record Legal (s : Config) : Type 0 where
   pub covered : s .threshold + 2 * s .t ≤ s .servers
   pub few : s .servers ≤ mostServers
   pub table : length (s .points) ≡ s .servers
-  pub bytes : (i : ℕ) → getD (s .points) i 0 < 256
-  pub different : (i j : ℕ) → i < s .servers → j < s .servers → i ≢ j → getD (s .points) i 0 ≢ getD (s .points) j 0
+  pub apart : PointTable (s .points)

@@ -82,7 +82,7 @@ module _ (w : List ℕ) (c : ℕ) (h : (1 ≤ c) × (c ≤ topClient)) (size : l
       ≡ d
       → x ≡ callIn w c → a ≡ keptAt c → k ≡ keptSize → answered s ks out ≡ F x (take k (drop a w)) → length ks ≡ length (take k (drop a w))
       → after ≡ putCall (take a w ++ (ks ++ drop k (drop a w))) c (s .call) → length (s .call .tally .marks) ≡ mostServers
-      → TakesAs d w c after out (s .taken)
+      → TakesAs d w c after out (s .answer)
   unfolding putClient keptIn
   takes-as F d k {x} {a} {ks} {after} {out} {s} e ex ea ek es l₀ ef m =
       let y : take k (drop a w) ≡ bytesAt w (keptAt c) keptSize = rw ea (lent w (keptAt c) k keptSize ek) in

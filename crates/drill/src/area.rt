@@ -72,7 +72,7 @@ pub(crate) fn begin_write(
     let e = a + wire::kept::KEPT;
     let s = client::begin::begin_write_in(call, &mut work[a..e], t, client, content, nonce);
     put_call(work, client, s.call);
-    let taken = s.taken;
+    let taken = s.answer;
     taken.number
 }
 
@@ -86,7 +86,7 @@ pub(crate) fn begin_read(work: &mut [u8], t: usize, client: usize) -> u8
     let e = a + wire::kept::KEPT;
     let s = client::begin::begin_read_in(call, &mut work[a..e], t, client);
     put_call(work, client, s.call);
-    let taken = s.taken;
+    let taken = s.answer;
     taken.number
 }
 
@@ -97,5 +97,5 @@ pub(crate) fn give_up(work: &mut [u8], t: usize, client: usize) -> protocol::Abo
 {
     let s = client::begin::give_up_in(call_of(work, client), t, client);
     put_call(work, client, s.call);
-    s.taken
+    s.answer
 }

@@ -86,7 +86,7 @@ fn take(work: &mut [u8], t: usize, client: usize, reply: &[u8], out: &mut [u8]) 
         out,
     );
     area::put_call(work, client, s.call);
-    s.taken
+    s.answer
 }
 
 // The packet to the server, and its reply back. The server has acted even if the client refuses.

@@ -6,7 +6,7 @@ use Prim.Native.Nat.{ℕ, zero, suc, _+_, _-_, _/_, _≤_, _<_}
 use native.Mathlib.Nat.{div-lt-iff-lt-mul}
 use native.Mathlib.Decide.{ℕ-discrete}
 use native.Mathlib.Omega.{arith}
-use lib.ListN.{length, take, length-append}
+use lib.ListN.{length, take, length-append, replicate}
 use lib.Seq.{take-at}
 use borrow.Author.Tests.{lt-ltb, le-ltb}
 use Rattle.cluster.specs.Config.{shelf}
@@ -15,7 +15,7 @@ use Rattle.cluster.specs.Refusals.{wrongSize, onRefusal, firstOf}
 use Rattle.cluster.specs.declared.Outcome.{Outcome}
 use Rattle.erasure.specs.declared.FragmentOutcome.{FragmentOutcome}
 use Rattle.erasure.specs.Fragments.{fragmentSize}
-use Rattle.erasure.specs.Steps.{zeros, fragmentRoom, fragmentRefusal, fragmentBytes, fragmentStep, restoreRefusal, argumentChecks, restoreStep}
+use Rattle.erasure.specs.Steps.{fragmentRoom, fragmentRefusal, fragmentBytes, fragmentStep, restoreRefusal, argumentChecks, restoreStep}
 use Rattle.erasure.proofs.Laws.{fragment-length}
 use Rattle.erasure.proofs.Refused.{makes, restores, first-of-first}
 use Rattle.embed.specs.Coding.{exportRefusal, outcomeOf}
@@ -60,7 +60,7 @@ module _ (t server : ℕ) (content : List ℕ) (made : FragmentOutcome) (is : ma
   made-long none =
       rw is
       (rw (sym made-number ∙ none)
-      (rw (length-append (fragmentBytes t server content) (zeros (512 - fragmentSize (shelf t .threshold) (length content))))
+      (rw (length-append (fragmentBytes t server content) (replicate (512 - fragmentSize (shelf t .threshold) (length content)) 0))
       (omega (arith, fragment-length (shelf t .points) (shelf t .threshold) content server))))
 
   -- where the output has room, the refusal is the operation's own

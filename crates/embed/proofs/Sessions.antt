@@ -87,9 +87,9 @@ module _ (d : List ℕ) (size : length d ≡ clientSize) where
   -- what the core answered and left, put back
   pub began : (b : Begun) (r : Started) (k after : List ℕ) → r ≡ started b → k ≡ b .kept → after ≡ callBytes (r .call) ++ drop stateSize
       (putMid keptPlace (length d - keptPlace) d k)
-      → (r .taken ≡ b .result) × (after ≡ stateWith d (b .call) (b .kept))
+      → (r .answer ≡ b .result) × (after ≡ stateWith d (b .call) (b .kept))
   began b r k after e f p = (
-    ap (λ (x : Started). x .taken) e,
+    ap (λ (x : Started). x .answer) e,
     p ∙ put-back k (r .call) ∙ ap (λ (x : Started). stateWith d (x .call) k) e ∙ ap (stateWith d (b .call)) f,
   )
 
@@ -102,7 +102,7 @@ module _ (d : List ℕ) (size : length d ≡ clientSize) where
   core-take t client writers keys packet out = rw lent (rw (eq-eqb (length (keptOf d)) keptSize kept-size))
 
   pub taken-in : (b : Took) (r : Answered) (k after o : List ℕ) (x : ℕ) → answered r k o ≡ b
-      → after ≡ callBytes (r .call) ++ drop stateSize (putMid keptPlace (length d - keptPlace) d k) → x ≡ packedAnswer (takenAnswer (r .taken))
+      → after ≡ callBytes (r .call) ++ drop stateSize (putMid keptPlace (length d - keptPlace) d k) → x ≡ packedAnswer (takenAnswer (r .answer))
       → record { answer = x; state = after; output = o } ≡ tookIn d b
   unfolding tookIn
   taken-in b r k after o x e p q = rw (q, p, put-back k (r .call)) (ap (tookIn d) e)
@@ -188,7 +188,7 @@ module _ (d : List ℕ) (t client : ℕ) (size : length d ≡ clientSize) where
       (λ (z : List ℕ). take (keptPlace - stateSize) rest ++ z) (drop-drop (keptPlace - stateSize) stateSize d))
 
   pub give-up-done : (x : Call) (s : Stopped) (r : ℕ) (after : List ℕ) → x ≡ callAt d → stopped s ≡ giveUp t client x
-      → after ≡ callBytes (s .call) ++ drop stateSize d → r ≡ packedAnswer (abortedAnswer (s .taken))
+      → after ≡ callBytes (s .call) ++ drop stateSize d → r ≡ packedAnswer (abortedAnswer (s .answer))
       → record { answer = r; state = after } ≡ giveUpIn d t client
   unfolding giveUpIn sized stoppedIn
   give-up-done x s r after c e p q =

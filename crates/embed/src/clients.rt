@@ -44,7 +44,7 @@ fn write_in(
     let at = state::KEPT_PLACE;
     let begun = client::begin::begin_write_in(call, &mut state[at..], t, client, content, &nonce);
     put_call(state, begun.call);
-    begun.taken
+    begun.answer
 }
 
 // A read begins in a state of its size.
@@ -58,7 +58,7 @@ fn read_in(state: &mut [u8], t: usize, client: usize) -> cluster::Outcome
     let at = state::KEPT_PLACE;
     let begun = client::begin::begin_read_in(call, &mut state[at..], t, client);
     put_call(state, begun.call);
-    begun.taken
+    begun.answer
 }
 
 // An outcome in one number. A begin writes no output.
@@ -127,7 +127,7 @@ pub extern "C" fn cendrulas_client_give_up(state: &mut [u8], t: usize, client: u
     let call = state::read(state);
     let stopped = client::begin::give_up_in(call, t, client);
     put_call(state, stopped.call);
-    let a = stopped.taken;
+    let a = stopped.answer;
     pack_answer(a.answer())
 }
 
@@ -195,7 +195,7 @@ fn take_packet(
         out,
     );
     put_call(state, s.call);
-    let a = s.taken;
+    let a = s.answer;
     pack_answer(a.answer())
 }
 

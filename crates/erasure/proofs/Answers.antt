@@ -6,7 +6,7 @@ use mathlib.Core.List.{List, _++_}
 use Prim.Native.Nat.{ℕ, _+_, _-_, _*_, _/_, _<_, _≤_}
 use native.Mathlib.Nat.{div-lt-iff-lt-mul}
 use native.Mathlib.Omega.{arith}
-use lib.ListN.{length, getD, take}
+use lib.ListN.{length, getD, take, replicate}
 use Rattle.gf256.specs.Poly.{through}
 use Rattle.gf256.specs.Bytes.{bytes}
 use Rattle.cluster.specs.Config.{shelf, upTo, pointOf}
@@ -16,7 +16,7 @@ use Rattle.cluster.specs.Refusals.{onRefusal}
 use Rattle.cluster.proofs.Tests.{refused-is}
 use Rattle.erasure.specs.declared.FragmentOutcome.{FragmentOutcome}
 use Rattle.erasure.specs.Fragments.{fragmentSize, column, fragment}
-use Rattle.erasure.specs.Steps.{zeros, fragmentRoom, fragmentRefusal, fragmentBytes, fragmentStep}
+use Rattle.erasure.specs.Steps.{fragmentRoom, fragmentRefusal, fragmentBytes, fragmentStep}
 use Rattle.erasure.specs.System.{width}
 use Rattle.erasure.specs.Lanes.{madeOf, plainOf}
 use Rattle.erasure.proofs.Lists.{take-is}
@@ -44,28 +44,28 @@ size-fits k n hk hn =
 -- ---- making a fragment
 
 pub make-refused : (t server : ℕ) (content : List ℕ) (x : ℕ) → x ≡ fragmentRefusal t server (length content) → x ≢ 0
-    → fragmentStep t server content ≡ record { number = x; count = 0; bytes = zeros fragmentRoom }
+    → fragmentStep t server content ≡ record { number = x; count = 0; bytes = replicate fragmentRoom 0 }
 unfolding fragmentStep
 make-refused t server content x e h =
     let done : FragmentOutcome = record {
       number = 0;
       count = fragmentSize (shelf t .threshold) (length content);
-      bytes = fragmentBytes t server content ++ zeros (fragmentRoom - fragmentSize (shelf t .threshold) (length content));
+      bytes = fragmentBytes t server content ++ replicate (fragmentRoom - fragmentSize (shelf t .threshold) (length content)) 0;
     } in
-    let no : ℕ → FragmentOutcome = λ y. record { number = y; count = 0; bytes = zeros fragmentRoom } in
+    let no : ℕ → FragmentOutcome = λ y. record { number = y; count = 0; bytes = replicate fragmentRoom 0 } in
     ap (λ (y : ℕ). onRefusal y done (no y)) (sym e) ∙ refused-is x done (no x) h
 
 pub make-accepted : (t server : ℕ) (content : List ℕ) → t ≤ topFaults → 1 ≤ server → server ≤ shelf t .servers → fragmentRefusal t server
     (length content) ≡ 0
     → let f = fragmentSize (shelf t .threshold) (length content) in
-    fragmentStep t server content ≡ record { number = 0; count = f; bytes = madeOf (shelf t .threshold) f content server ++ zeros (fragmentRoom - f) }
+    fragmentStep t server content ≡ record { number = 0; count = f; bytes = madeOf (shelf t .threshold) f content server ++ replicate (fragmentRoom - f) 0 }
 unfolding fragmentStep fragmentBytes fragment madeOf column shelf
 make-accepted t server content ht lo hi e =
     let k : ℕ = t + 1 in
     let f : ℕ = fragmentSize k (length content) in
     let s : ℕ = 3 * t + 1 in
-    let make : List ℕ → FragmentOutcome = λ b. record { number = 0; count = f; bytes = b ++ zeros (fragmentRoom - f) } in
-    let no : ℕ → FragmentOutcome = λ y. record { number = y; count = 0; bytes = zeros fragmentRoom } in
+    let make : List ℕ → FragmentOutcome = λ b. record { number = 0; count = f; bytes = b ++ replicate (fragmentRoom - f) 0 } in
+    let no : ℕ → FragmentOutcome = λ y. record { number = y; count = 0; bytes = replicate fragmentRoom 0 } in
     ap (λ (y : ℕ). onRefusal y (make (fragmentBytes t server content)) (no y)) e
     ∙ ap make
     (table-ext f (λ q. through bytes (take k (upTo s)) (column k content q) (pointOf (upTo s) server))

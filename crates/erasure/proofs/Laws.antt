@@ -13,8 +13,8 @@ use Rattle.gf256.specs.Poly.{eval, through}
 use Rattle.gf256.specs.Bytes.{bytes}
 use Rattle.gf256.proofs.Apart.{Distinct}
 use Rattle.gf256.proofs.Byte.{Small, restored-bytes, getD-small, through-value, the-one as one-through, there-is as one-exists}
-use Rattle.cluster.specs.Config.{Config, Legal, pointOf}
-use Rattle.erasure.specs.Fragments.{table, fragmentSize, column, fragment, Part, restored, PointTable}
+use Rattle.cluster.specs.Config.{Config, Legal, pointOf, PointTable}
+use Rattle.erasure.specs.Fragments.{table, fragmentSize, column, fragment, Part, restored}
 use Rattle.erasure.proofs.Lists.{length-table, getD-table, getD-map, small-of, distinct-of, distinct-at}
 
 -- ---- the runs cover the content: a place m below n stands in one of the k runs
@@ -52,12 +52,6 @@ pub take-map : {A B : Type 0} (f : A → B) (k : ℕ) (xs : List A) → take k (
 take-map f zero xs = refl
 take-map f (suc k) [] = refl
 take-map {A} {B} f (suc k) (x ∷ xs) = ap (λ (z : List B). f x ∷ z) (take-map f k xs)
-
--- the points of a legal shelf are bytes and all different
-pub legal-table : {s : Config} → Legal s → PointTable (s .points)
-legal-table {s} l =
-    let e : length (s .points) ≡ s .servers = l .table in
-    record { bytes = l .bytes; different = λ i j x y. l .different i j (omega arith) (omega arith) }
 
 -- these servers stand in the table
 abbrev pub Servers : List ℕ → List ℕ → Type 0

@@ -2,11 +2,11 @@
 -- byte: so a fragment is made, by weights that `Weighed` shows right, or by a copy. Nothing is assumed.
 use mathlib.Core.Path.{_≡_, refl, sym, ap, ap₂, subst, _∙_}
 use mathlib.Core.List.{List, _++_}
-use Prim.Native.Nat.{ℕ, _+_, _-_, _*_, _<_, _≤_}
+use Prim.Native.Nat.{ℕ, suc, zero, _+_, _-_, _*_, _<_, _≤_}
 use native.Mathlib.Nat.{zero-add, mul-le-mul}
 use native.Mathlib.Decide.{decLt}
 use native.Mathlib.Omega.{arith}
-use lib.ListN.{length, getD, take, drop, length-drop, List·getD-eq-default}
+use lib.ListN.{length, getD, take, drop, length-drop, List·getD-eq-default, replicate, length-replicate, getD-replicate}
 use lib.Seq.{length-take-le, getD-take, getD-drop}
 use Rattle.gf256.specs.Gf.{times}
 use Rattle.gf256.specs.Poly.{through}
@@ -15,7 +15,7 @@ use Rattle.gf256.proofs.Byte.{through-value}
 use Rattle.cluster.specs.Config.{upTo}
 use Rattle.cluster.proofs.Legal.{upTo-length, upTo-at}
 use Rattle.erasure.specs.Fragments.{table}
-use Rattle.erasure.specs.Steps.{zeros, fragmentRoom}
+use Rattle.erasure.specs.Steps.{fragmentRoom}
 use Rattle.erasure.specs.System.{width, AllDifferent, Weighs}
 use Rattle.erasure.specs.Lanes.{sumAt, RunWritten, madeOf, plainOf}
 use Rattle.erasure.proofs.Lists.{length-table, getD-table, table-is, small-of, distinct-of, take-is, written-as, written-first}
@@ -68,27 +68,19 @@ value-at k xs y kx sx sy d j h =
 
 -- ---- a fragment
 
-pub length-zeros : (n : ℕ) → length (zeros n) ≡ n
-unfolding zeros
-length-zeros n = length-table n _
+drop-zeros : (n f : ℕ) → f ≤ n → drop {A = ℕ} f (replicate n 0) ≡ replicate (n - f) 0
+drop-zeros n zero h = let z : n ≡ n - 0 = omega arith in ap (λ (m : ℕ). replicate {A = ℕ} m 0) z
+drop-zeros zero (suc f) h = absurd (omega (arith, h))
+drop-zeros (suc n) (suc f) h = let z : n - f ≡ suc n - suc f = omega arith in
+    drop-zeros n f (omega (arith, h)) ∙ ap (λ (m : ℕ). replicate {A = ℕ} m 0) z
 
-getD-zeros : (n i : ℕ) → i < n → getD (zeros n) i 0 ≡ 0
-unfolding zeros
-getD-zeros n i h = getD-table n (λ i. 0) i 0 h
-
-drop-zeros : (n f : ℕ) → f ≤ n → drop f (zeros n) ≡ zeros (n - f)
-unfolding zeros
-drop-zeros n f h =
-    table-is (n - f) (drop f (table n (λ i. 0))) (λ i. 0) (length-drop f (table n (λ i. 0)) ∙ ap (λ (x : ℕ). x - f) (length-table n (λ i. 0)))
-    (λ i b. getD-drop f (table n (λ i. 0)) i 0 ∙ getD-table n (λ i. 0) (f + i) 0 (omega arith))
-
-pub made : (k f room z : ℕ) (w content starts at xs old out : List ℕ) (v : ℕ → ℕ) → old ≡ zeros room → k ≤ width → f ≤ room → Weighs k xs v z → take k
+pub made : (k f room z : ℕ) (w content starts at xs old out : List ℕ) (v : ℕ → ℕ) → old ≡ replicate room 0 → k ≤ width → f ≤ room → Weighs k xs v z → take k
     xs ≡ upTo k
     → ((j : ℕ) → j < k → getD w j 0 ≡ v j) → ((j : ℕ) → j < k → getD starts j 0 ≡ getD at j 0 * f) → ((j : ℕ) → j < width → getD at j 0 ≡ j)
-    → ((j : ℕ) → getD content j 0 < 256) → RunWritten old out 0 f (sumAt k w content starts) → out ≡ madeOf k f content z ++ zeros (room - f)
+    → ((j : ℕ) → getD content j 0 < 256) → RunWritten old out 0 f (sumAt k w content starts) → out ≡ madeOf k f content z ++ replicate (room - f) 0
 unfolding madeOf
 made k f room z w content starts at xs old out v eo kw fr weighs ex ew es ea small wr =
-    let long : length old ≡ room = ap length eo ∙ length-zeros room in
+    let long : length old ≡ room = ap length eo ∙ length-replicate room 0 in
     written-first old out f (λ q. through bytes (upTo k) (table k (λ j. getD content (j * f + q) 0)) z) (omega arith)
     (written-as old out 0 f (sumAt k w content starts) (λ q. through bytes (upTo k) (table k (λ j. getD content (j * f + q) 0)) z)
     (λ i h.
@@ -99,11 +91,11 @@ made k f room z w content starts at xs old out v eo kw fr weighs ex ew es ea sma
     ∙ ap (λ (u : List ℕ). madeOf k f content z ++ u) (ap (drop f) eo ∙ drop-zeros room f fr)
 
 -- a plain run, of which the first m bytes are there and were copied; past the content's end it is 00h, as the room was
-pub copied : (f j m room : ℕ) (content old out : List ℕ) → old ≡ zeros room → f ≤ room → m ≤ f → (m < length content - j * f → m ≡ f)
-    → RunWritten old out 0 m (λ i. getD content (j * f + i) 0) → out ≡ plainOf f j content ++ zeros (room - f)
+pub copied : (f j m room : ℕ) (content old out : List ℕ) → old ≡ replicate room 0 → f ≤ room → m ≤ f → (m < length content - j * f → m ≡ f)
+    → RunWritten old out 0 m (λ i. getD content (j * f + i) 0) → out ≡ plainOf f j content ++ replicate (room - f) 0
 unfolding plainOf
 copied f j m room content old out eo fr hm end wr =
-    let long : length old ≡ room = ap length eo ∙ length-zeros room in
+    let long : length old ≡ room = ap length eo ∙ length-replicate room 0 in
     written-first old out f (λ q. getD content (j * f + q) 0) (omega arith)
     (record {
       long = wr .long;
@@ -120,7 +112,7 @@ copied f j m room content old out eo fr hm end wr =
     entry : (i : ℕ) → i < f → Dec (i < m) → getD out (0 + i) 0 ≡ getD content (j * f + i) 0
     entry i h (yes b) = wr .here i b
     entry i h (no nb) =
-        ap (λ (x : ℕ). getD out x 0) (zero-add i) ∙ wr .above i (omega arith) ∙ ap (λ (l : List ℕ). getD l i 0) eo ∙ getD-zeros room i (omega arith)
+        ap (λ (x : ℕ). getD out x 0) (zero-add i) ∙ wr .above i (omega arith) ∙ ap (λ (l : List ℕ). getD l i 0) eo ∙ getD-replicate room i 0 0 (omega arith)
         ∙ sym (List·getD-eq-default content 0 (all (decLt m (length content - j * f)) i h (omega arith)))
 
 -- is the fragment at its point

@@ -8,7 +8,7 @@ use Prim.Native.Nat.{ℕ, zero, suc, _+_, _-_, _*_, _<_, _≤_, suc-le-suc}
 use native.Mathlib.Nat.{zero-lt-suc, le-of-suc-le-suc, not-suc-le-zero, suc-mul, zero-mul}
 use native.Mathlib.Omega.{arith}
 use borrow.Author.Tests.{le-ltb, eq-eqb}
-use lib.ListN.{length, getD, take, drop, length-append, length-map}
+use lib.ListN.{length, getD, take, drop, length-append, length-map, replicate}
 use lib.Seq.{take-at, drop-at, drop-drop}
 use Rattle.gf256.proofs.Byte.{Small}
 use Rattle.gf256.proofs.Apart.{Distinct}
@@ -20,9 +20,9 @@ use Rattle.cluster.proofs.Tests.{within-in}
 use Rattle.erasure.specs.declared.FragmentOutcome.{FragmentOutcome}
 use Rattle.erasure.specs.Fragments.{fragmentSize, Part, restored}
 use Rattle.erasure.specs.Choice.{serversAt, firstDifferent, partsAt}
-use Rattle.erasure.specs.Steps.{fragmentRefusal, fragmentBytes, fragmentStep, zeros, fragmentRoom, argumentChecks, restoredBytes, restoreStep}
+use Rattle.erasure.specs.Steps.{fragmentRefusal, fragmentBytes, fragmentStep, fragmentRoom, argumentChecks, restoredBytes, restoreStep}
 use Rattle.erasure.proofs.Lists.{getD-map, distinct-of}
-use Rattle.erasure.proofs.Laws.{legal-table, partOf, Servers, fragment-length, restores}
+use Rattle.erasure.proofs.Laws.{partOf, Servers, fragment-length, restores}
 use Rattle.erasure.proofs.Choosing.{chosen-lt, chosen-ordered}
 use Rattle.erasure.proofs.Enough.{Stands, enough}
 use Rattle.erasure.proofs.Refused.{each-holds, fragment-tests, argument-tests}
@@ -84,10 +84,10 @@ module _ (t : ℕ) (content : List ℕ) (faults : (1 ≤ t) × (t ≤ topFaults)
       fragment-tests t server (length content) false false false (ap not (within-in 1 topFaults t (faults .0) (faults .1)))
       (ap not (within-in 1 s server lo hi))
       (ap not (within-in leastLength topLength (length content) (bytes .0) (bytes .1))) in
-      let done : FragmentOutcome = record { number = 0; count = f; bytes = fragmentBytes t server content ++ zeros (fragmentRoom - f) } in
-      ap (λ (x : ℕ). (let o : FragmentOutcome = onRefusal x done (record { number = x; count = 0; bytes = zeros fragmentRoom }) in take (o .count)
+      let done : FragmentOutcome = record { number = 0; count = f; bytes = fragmentBytes t server content ++ replicate (fragmentRoom - f) 0 } in
+      ap (λ (x : ℕ). (let o : FragmentOutcome = onRefusal x done (record { number = x; count = 0; bytes = replicate fragmentRoom 0 }) in take (o .count)
       (o .bytes))) e
-      ∙ take-at (fragmentBytes t server content) (zeros (fragmentRoom - f)) f (made-length server)
+      ∙ take-at (fragmentBytes t server content) (replicate (fragmentRoom - f) 0) f (made-length server)
 
   module _ (servers ds output : List ℕ) (numbers : (i : ℕ) → i < length servers → (1 ≤ getD servers i 0) × (getD servers i 0 ≤ s))
       (different : Distinct ds) (many : k ≤ length ds) (stand : (i : ℕ) → i < length ds → Stands (getD ds i 0) servers)
@@ -133,7 +133,7 @@ module _ (t : ℕ) (content : List ℕ) (faults : (1 ≤ t) × (t ≤ topFaults)
     unfolding restoredBytes shelf places firstDifferent
     restored-is =
         ap (restored (shelf t .points) k (length content)) (parts-are places place-lt)
-        ∙ restores (shelf t .points) k content (legal-table (legal-shelf t (faults .0) (faults .1))) (omega arith)
+        ∙ restores (shelf t .points) k content (legal-shelf t (faults .0) (faults .1) .apart) (omega arith)
         (omega (arith, upTo-length (3 * t + 1))) small (serversAt servers places) chosen-in
         (distinct-of (serversAt servers places) (chosen-ordered k servers (length servers)))
         (omega (arith, enough-chosen, length-map places (λ p. getD servers p 0)))

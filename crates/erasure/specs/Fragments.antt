@@ -40,8 +40,3 @@ restored points k n parts =
     (λ m.
     through bytes (map (λ p. pointOf points (p .server)) (take k parts)) (map (λ p. getD (p .bytes) (m % fragmentSize k n) 0) (take k parts))
     (pointOf points (m / fragmentSize k n + 1)))
-
--- what a table of points must be: bytes, all different
-pub record PointTable (points : List ℕ) : Type 0 where
-  pub bytes : (i : ℕ) → getD points i 0 < 256
-  pub different : (i j : ℕ) → i < length points → j < length points → i ≢ j → getD points i 0 ≢ getD points j 0

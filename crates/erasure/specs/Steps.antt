@@ -3,7 +3,7 @@ use mathlib.Core.Bool.{Bool, true, not, _&&_}
 use mathlib.Core.List.{List, [], _∷_, _++_}
 use Prim.Native.Nat.{ℕ, _-_, _*_}
 use lib.Dec.{eqb, ltb}
-use lib.ListN.{length, drop}
+use lib.ListN.{length, drop, replicate}
 use Rattle.cluster.specs.Config.{shelf}
 use Rattle.cluster.specs.Ranges.{within, leastLength, topLength, topFaults, contentRoom}
 use Rattle.cluster.specs.Refusals.{Check, refuse, firstOf, onRefusal}
@@ -15,10 +15,6 @@ use Rattle.erasure.specs.Choice.{firstDifferent, partsAt}
 -- room for the longest fragment: k is at least 2
 abbrev pub fragmentRoom : ℕ
 fragmentRoom = 512
-
--- n bytes 00h
-unfoldable pub zeros : ℕ → List ℕ
-zeros n = table n (λ i. 0)
 
 unfoldable pub each : (ℕ → Bool) → List ℕ → Bool
 each f [] = true
@@ -44,9 +40,9 @@ fragmentStep t server content =
     (record {
       number = 0;
       count = fragmentSize (shelf t .threshold) (length content);
-      bytes = fragmentBytes t server content ++ zeros (fragmentRoom - fragmentSize (shelf t .threshold) (length content));
+      bytes = fragmentBytes t server content ++ replicate (fragmentRoom - fragmentSize (shelf t .threshold) (length content)) 0;
     })
-    (record { number = fragmentRefusal t server (length content); count = 0; bytes = zeros fragmentRoom })
+    (record { number = fragmentRefusal t server (length content); count = 0; bytes = replicate fragmentRoom 0 })
 
 -- ---- restoring
 

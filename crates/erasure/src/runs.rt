@@ -2,8 +2,8 @@
 ghost use mathlib.Core.Path.{_≡_};
 ghost use mathlib.Core.List.{_++_};
 ghost use Prim.Native.Nat.{ℕ, _+_, _-_, _*_, _<_, _≤_};
-ghost use lib.ListN.{getD, length, drop};
-ghost use Rattle.erasure.specs.Steps.{zeros, fragmentRoom};
+ghost use lib.ListN.{getD, length, drop, replicate};
+ghost use Rattle.erasure.specs.Steps.{fragmentRoom};
 ghost use Rattle.erasure.specs.System.{width, AllDifferent};
 ghost use Rattle.erasure.specs.Lanes.{madeOf, plainOf, rebuiltOf};
 
@@ -55,7 +55,7 @@ fn starts_of(at: [usize; WIDTH], f: usize, k: usize) -> [usize; WIDTH]
 
 // All 00h.
 pub(crate) fn blank() -> [u8; ROOM]
-    ensures { λ r. ⌜ r ≡ zeros fragmentRoom ⌝ }
+    ensures { λ r. ⌜ r ≡ replicate fragmentRoom 0 ⌝ }
 {
     [0u8; ROOM]
 }
@@ -63,7 +63,7 @@ pub(crate) fn blank() -> [u8; ROOM]
 // The fragment at point z of the content whose k runs have f bytes, padded with 00h.
 pub(crate) fn make(k: usize, f: usize, z: u8, content: &[u8]) -> [u8; ROOM]
     requires { ⌜ (k ≤ width) × (f ≤ fragmentRoom) ⌝ }
-    ensures { λ r. ⌜ r ≡ madeOf k f (now (content .entry)) z ++ zeros (fragmentRoom - f) ⌝ }
+    ensures { λ r. ⌜ r ≡ madeOf k f (now (content .entry)) z ++ replicate (fragmentRoom - f) 0 ⌝ }
 {
     let weights = crate::direct::weights(plain_points(), k, z);
     let starts = starts_of(plain_places(), f, k);
@@ -82,7 +82,7 @@ fn at_most(f: usize, left: usize) -> usize
 // The plain run j of a content, padded with 00h.
 pub(crate) fn plain(f: usize, j: usize, content: &[u8]) -> [u8; ROOM]
     requires { ⌜ (f ≤ fragmentRoom) × (j < width) ⌝ }
-    ensures { λ r. ⌜ r ≡ plainOf f j (now (content .entry)) ++ zeros (fragmentRoom - f) ⌝ }
+    ensures { λ r. ⌜ r ≡ plainOf f j (now (content .entry)) ++ replicate (fragmentRoom - f) 0 ⌝ }
 {
     let from = j * f;
     let mut bytes = blank();

@@ -15,7 +15,7 @@ use Rattle.sha256.proofs.Laws.{sha-length}
 use Rattle.hmac.proofs.Laws.{tag-length}
 use Rattle.gf256.proofs.Byte.{Small}
 use Rattle.gf256.proofs.Apart.{Distinct}
-use Rattle.erasure.proofs.Laws.{legal-table, fragment-length, restored-length, Servers, restores}
+use Rattle.erasure.proofs.Laws.{fragment-length, restored-length, Servers, restores}
 use Rattle.erasure.proofs.Lists.{small-of}
 use Rattle.protocol.specs.declared.Stamp.{Stamp}
 use Rattle.format.specs.Format.{Bytes, value4, print4}
@@ -109,4 +109,4 @@ unfolding real
 restores-parts s l r b is at d k =
     let e : length (s .points) ≡ s .servers = l .table in
     let servers : Servers (s .points) is = λ i h. (at i h .0, omega (arith, at i h .1)) in
-    restores (s .points) (s .threshold) r (legal-table l) (omega (arith, l .restores)) (omega (arith, l .covered)) (bytes-small r b) is servers d k
+    restores (s .points) (s .threshold) r (l .apart) (omega (arith, l .restores)) (omega (arith, l .covered)) (bytes-small r b) is servers d k

@@ -108,7 +108,7 @@ pub struct Head {
 pub struct Tally {
     pub round: u8,
     pub count: u8,
-    pub marks: [u8; 13],
+    pub marks: [u8; cluster::MOST_SERVERS],
 }
 
 // A client's small state: the last call's number, the number of the last stamp made, the highest number seen in clock,

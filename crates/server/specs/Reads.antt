@@ -51,7 +51,7 @@ pub record FoundAt (s : Config) (d : List ℕ) (at : ℕ) (o : Option Write) : T
   pub there : Leaves (writeF s) d at (writeAt s (drop at d)) next
   pub first : o ≡ some (writeAt s (drop at d))
 
--- neither answer is a refusal: to a store, `At` becomes the reply 10 and `Nothing` 0 or 11 (Server's kept)
+-- neither answer is a refusal: to a store, `At` becomes the reply 10 and `Nothing` 0 or 11 (Server's onStore)
 abbrev pub FindIs : Config → List ℕ → Option Write → Found → Type 0
 FindIs s d o (found.At at) = FoundAt s d at o
 FindIs s d o found.Nothing = o ≡ none

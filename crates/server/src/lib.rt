@@ -7,9 +7,9 @@
 pub mod take; // taking a packet
 pub mod blank; // making a server blank
 pub mod memory; // reading a server's memory
-pub mod answers; // the answers to requests
-pub mod store; // the answer to store
-pub mod valid; // the test of candidates
-pub mod repair; // the answer to repair
-pub mod rank; // the order in which candidates are tried
-pub mod filter; // the answer to filter
+mod answers; // the answers to requests
+mod store; // the answer to store
+mod valid; // the test of candidates
+mod repair; // the answer to repair
+mod rank; // the order in which candidates are tried
+mod filter; // the answer to filter

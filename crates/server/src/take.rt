@@ -112,7 +112,12 @@ fn answer(
 }
 
 // A packet to this server, in its memory, with its key: 1, 2, 7, 8, 9, 15, or the reply.
-pub fn take(memory: &mut [u8], key: &[u8; 32], packet: &[u8], out: &mut [u8]) -> cluster::Outcome
+pub fn take(
+    memory: &mut [u8],
+    key: &[u8; cluster::KEY],
+    packet: &[u8],
+    out: &mut [u8],
+) -> cluster::Outcome
     ensures { λ r. ⌜ record { result = r; memory = now (memory .exit); output = now (out .exit) } ≡ serverTake real (now (memory .entry)) (now (key .entry)) (now (packet .entry)) (now (out .entry)) ⌝ }
 {
     if memory.len() != cluster::MEMORY {

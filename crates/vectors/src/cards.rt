@@ -87,7 +87,7 @@ fn begun(n: usize) -> u64 {
         wire::bytes::part(&content, 0, n),
         &nonce,
     );
-    let taken = started.taken;
+    let taken = started.answer;
     taken.number as u64
 }
 

@@ -102,20 +102,20 @@ module _ {M : Type 1} (𝓤 : URA M) (H : Heap 𝓤) (A : Atoms 𝓤) (W : Given
       qed W (‵ ftrue ∷ ‵ others ∷ []) ∵ move ! (1 ∷ []) $ owned ! T.the-row (Is T.the-row) (LL.makes T.the-type T′.the-plain 𝓤 H A) h _ is $ fjoin ! $
       move ! (1 ∷ 0 ∷ []) $ join ! $ frame ! $ done !
 
-  abbrev taken-val : Stopped → Val
-  taken-val r = EL.val K.the-type K′.the-laws (r .taken)
+  abbrev answer-val : Stopped → Val
+  answer-val r = EL.val K.the-type K′.the-laws (r .answer)
 
-  exits : (r : Stopped) → φ r → Is K.the-row (r .taken) (taken-val r ∷ [])
+  exits : (r : Stopped) → φ r → Is K.the-row (r .answer) (answer-val r ∷ [])
       → ent 𝓤 (⋆ 𝓤 H A (‵ (fobs γ (T.the-row .coded .code (r .call))) ∷ ‵ (fbor κ (Body (mem T.the-row) b o γ)) ∷ ‵ (flft κ q) ∷ ‵ ftrue ∷ []))
-      (Post (taken-val r))
+      (Post (answer-val r))
   exits r e is =
       qed W (‵ (fobs γ (T.the-row .coded .code (r .call))) ∷ ‵ (fbor κ (Body (mem T.the-row) b o γ)) ∷ ‵ (flft κ q) ∷ ‵ ftrue ∷ []) ∵
-      suffices ! _ (ends-at 𝓤 H A self.ended stayed (self.clauses 𝓤 H A at-mem run) W (((κ, tt), (q, tt), tt, a, vals), tt) (taken-val r) (r .taken)
+      suffices ! _ (ends-at 𝓤 H A self.ended stayed (self.clauses 𝓤 H A at-mem run) W (((κ, tt), (q, tt), tt, a, vals), tt) (answer-val r) (r .answer)
       (r .call, (tt, (tt, tt))) (tt, (tt, (tt, tt)))) $
       says ! e $ move ! (2 ∷ 3 ∷ []) $ join ! $ frame ! $
       feqI ! (List Val) (vptr b o ∷ []) (vptr b o ∷ []) refl $ fjoin3 ! $ nothing ! $ nothing ! $ fjoin ! $ nothing ! $ fjoin ! $ move ! (1 ∷ 0 ∷ [])
       $ fjoin ! $
-      owned ! K.the-row (Is K.the-row) (EL.makes K.the-type K′.the-plain 𝓤 H A) (r .taken) _ is $ move ! (1 ∷ 0 ∷ []) $ done !
+      owned ! K.the-row (Is K.the-row) (EL.makes K.the-type K′.the-plain 𝓤 H A) (r .answer) _ is $ move ! (1 ∷ 0 ∷ []) $ done !
 
   module _ (C : Calls 𝓤 H) (Λ : Loops 𝓤 H) (fm : FmC 𝓤 H (W .laws) C) (known : Triple 𝓤 (C #callee) (Callee 𝓤 H A at-mem run)) where
     walk : ent 𝓤 (onEntry 𝓤 H A self.signature (κ, tt) (q, tt) a vals)
@@ -153,7 +153,7 @@ module _ {M : Type 1} (𝓤 : URA M) (H : Heap 𝓤) (A : Atoms 𝓤) (W : Given
         (store-in ! 2 (whole !) (T′.the-field-laws .lawful 𝓤 H A W .typed (T.the-field .into (r .call)) _
         (LL.owed R.the-type R′.the-laws r _ is .1 .0) .0)) $
         assigns ! (of-opd ! (load ! (from ! (fld ! refl (stop !))) (look-in ! 9 (sub ! 0 refl (whole !))))) (from ! (stop !))
-        (init ! 17 refl (K′.the-field-laws .lawful 𝓤 H A W .typed (K.the-field .into (r .taken)) _ (LL.owed R.the-type R′.the-laws r _ is .0) .0))
+        (init ! 17 refl (K′.the-field-laws .lawful 𝓤 H A W .typed (K.the-field .into (r .answer)) _ (LL.owed R.the-type R′.the-laws r _ is .0) .0))
         $
         -- the borrow is closed at the new record
         drop ! $ move ! (1 ∷ []) $ use1 W (‵ (cellAt fullShare (T.the-row .mir) (LL.vals T.the-type T′.the-laws (r .call)) b o))

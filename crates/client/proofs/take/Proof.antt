@@ -208,25 +208,25 @@ module _ {M : Type 1} (𝓤 : URA M) (H : Heap 𝓤) (A : Atoms 𝓤) (W : Given
       ! T.the-row (Is T.the-row) (LL.makes T.the-type T′.the-plain 𝓤 H A) h _ is $ fjoin ! $
       move ! (1 ∷ 0 ∷ []) $ join ! $ frame ! $ done !
 
-  abbrev taken-val : Answered → Val
-  taken-val r = EL.val K.the-type K′.the-laws (r .taken)
+  abbrev answer-val : Answered → Val
+  answer-val r = EL.val K.the-type K′.the-laws (r .answer)
 
-  exits : (r : Answered) (kept′ out′ : List ℕ) → φ r kept′ out′ → length out′ ≡ length (out .now) → Is K.the-row (r .taken) (taken-val r ∷ [])
+  exits : (r : Answered) (kept′ out′ : List ℕ) → φ r kept′ out′ → length out′ ≡ length (out .now) → Is K.the-row (r .answer) (answer-val r ∷ [])
       → ent 𝓤 (⋆ 𝓤 H A (‵ (fobs γ (T.the-row .coded .code (r .call))) ∷ ‵ (fbor κ (Body (mem T.the-row) b o γ)) ∷ ‵ (flft κ q)
       ∷ (‵ (flft κ₁ q₁) ⊛ ‵ (flft κ₂ q₂) ⊛ ‵ (flft κ₃ q₃) ⊛ ‵ (flft κ₄ q₄) ⊛ ‵ (flft κ₅ q₅) ⊛ ‵ ftrue) ∷ ‵ (finally u8 (out .name) out′)
-      ∷ ‵ (fres (kept .name) (Array u8 tt 24576 .coded .code kept′)) ∷ [])) (Post (taken-val r))
+      ∷ ‵ (fres (kept .name) (Array u8 tt 24576 .coded .code kept′)) ∷ [])) (Post (answer-val r))
   exits r kept′ out′ e out-len is =
       qed W (‵ (fobs γ (T.the-row .coded .code (r .call))) ∷ ‵ (fbor κ (Body (mem T.the-row) b o γ)) ∷ ‵ (flft κ q)
       ∷ (‵ (flft κ₁ q₁) ⊛ ‵ (flft κ₂ q₂) ⊛ ‵ (flft κ₃ q₃) ⊛ ‵ (flft κ₄ q₄) ⊛ ‵ (flft κ₅ q₅) ⊛ ‵ ftrue) ∷ ‵ (finally u8 (out .name) out′)
       ∷ ‵ (fres (kept .name) (Array u8 tt 24576 .coded .code kept′)) ∷ []) ∵
       suffices ! _ (ends-at 𝓤 H A self.ended stayed (self.clauses 𝓤 H A at-mem run) W
-      (((κ, (κ₁, (κ₂, (κ₃, (κ₄, (κ₅, tt)))))), (q, (q₁, (q₂, (q₃, (q₄, (q₅, tt)))))), tt, a, vals), tt) (taken-val r) (r .taken)
+      (((κ, (κ₁, (κ₂, (κ₃, (κ₄, (κ₅, tt)))))), (q, (q₁, (q₂, (q₃, (q₄, (q₅, tt)))))), tt, a, vals), tt) (answer-val r) (r .answer)
       (r .call, (kept′, (tt, (tt, (tt, (tt, (tt, (out′, tt)))))))) (tt, (tt, (tt, (tt, (tt, (tt, (tt, (out-len, tt))))))))) $
       says ! e $ move ! (2 ∷ 3 ∷ []) $ join ! $ frame ! $
       feqI ! (List Val) (vptr b o ∷ []) (vptr b o ∷ []) refl $ fjoin3 ! $ nothing ! $ move ! (2 ∷ 0 ∷ []) $ fjoin ! $ nothing ! $ fjoin ! $ nothing !
       $ fjoin ! $ nothing ! $ fjoin ! $ nothing ! $ fjoin ! $ nothing ! $ fjoin ! $ move ! (2 ∷ 0 ∷ []) $ fjoin ! $ move ! (1 ∷ 0 ∷ []) $ fjoin !
       $
-      owned ! K.the-row (Is K.the-row) (EL.makes K.the-type K′.the-plain 𝓤 H A) (r .taken) _ is $ move ! (1 ∷ 0 ∷ []) $ done !
+      owned ! K.the-row (Is K.the-row) (EL.makes K.the-type K′.the-plain 𝓤 H A) (r .answer) _ is $ move ! (1 ∷ 0 ∷ []) $ done !
 
   module _ (C : Calls 𝓤 H) (Λ : Loops 𝓤 H) (fm : FmC 𝓤 H (W .laws) C) (known : Triple 𝓤 (C #callee) (Callee 𝓤 H A at-mem run)) where
     walk : ent 𝓤 (onEntry 𝓤 H A self.signature (κ, (κ₁, (κ₂, (κ₃, (κ₄, (κ₅, tt)))))) (q, (q₁, (q₂, (q₃, (q₄, (q₅, tt)))))) a vals)
@@ -283,7 +283,7 @@ module _ {M : Type 1} (𝓤 : URA M) (H : Heap 𝓤) (A : Atoms 𝓤) (W : Given
         (from ! (hop ! (look ! 33 refl) (stop !))) (store-in ! 4 (whole !)
         (T′.the-field-laws .lawful 𝓤 H A W .typed (T.the-field .into (r .call)) _ (LL.owed R.the-type R′.the-laws r _ is .1 .0) .0)) $
         assigns ! (of-opd ! (load ! (from ! (fld ! refl (stop !))) (look-in ! 17 (sub ! 0 refl (whole !))))) (from ! (stop !))
-        (init ! 35 refl (K′.the-field-laws .lawful 𝓤 H A W .typed (K.the-field .into (r .taken)) _ (LL.owed R.the-type R′.the-laws r _ is .0) .0))
+        (init ! 35 refl (K′.the-field-laws .lawful 𝓤 H A W .typed (K.the-field .into (r .answer)) _ (LL.owed R.the-type R′.the-laws r _ is .0) .0))
         $
         -- the borrow is closed at the new record
         drop ! $ move ! (3 ∷ []) $ use1 W (‵ (cellAt fullShare (T.the-row .mir) (LL.vals T.the-type T′.the-laws (r .call)) b o))

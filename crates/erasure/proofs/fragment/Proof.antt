@@ -3,10 +3,10 @@ use mathlib.Core.Path.{_≡_, sym, ap, ap₂, subst, _∙_}
 use mathlib.Core.List.{List, _++_}
 use Prim.Native.Nat.{ℕ, _+_, _-_, _*_, _<_, _≤_}
 use native.Mathlib.Omega.{arith}
-use lib.ListN.{length, getD}
+use lib.ListN.{length, getD, replicate}
 use Rattle.cluster.specs.Config.{shelf}
 use Rattle.erasure.specs.Fragments.{fragmentSize}
-use Rattle.erasure.specs.Steps.{zeros, fragmentRoom, fragmentRefusal, fragmentStep}
+use Rattle.erasure.specs.Steps.{fragmentRoom, fragmentRefusal, fragmentStep}
 use Rattle.erasure.specs.Lanes.{madeOf}
 use Rattle.erasure.specs.declared.FragmentOutcome.{FragmentOutcome}
 use Rattle.erasure.proofs.Answers.{size-fits, make-refused, make-accepted, run-made}
@@ -48,8 +48,8 @@ module _ (c : tie.After-size) where
       (ok past .bytes .1))
 
   -- bytes that are the sums, or a run, are the fragment
-  done : (b : List ℕ) → b ≡ madeOf (c .before .threshold-of .result) (c .size .result) (content past) (server past) ++ zeros
-      (fragmentRoom - c .size .result)
+  done : (b : List ℕ) → b ≡ madeOf (c .before .threshold-of .result) (c .size .result) (content past) (server past) ++ replicate
+      (fragmentRoom - c .size .result) 0
       → record { number = 0; count = c .size .result; bytes = b } ≡ fragmentStep (t past) (server past) (content past)
   done b e =
       let threshold = c .before .threshold-of in
@@ -57,8 +57,8 @@ module _ (c : tie.After-size) where
       let outcome : ℕ → ℕ → FragmentOutcome = λ k x. record {
         number = 0;
         count = x;
-        bytes = madeOf k x (content past) (server past) ++ zeros
-            (fragmentRoom - x);
+        bytes = madeOf k x (content past) (server past) ++ replicate
+            (fragmentRoom - x) 0;
       } in
       ap (λ (b : List ℕ). record { number = 0; count = c .size .result; bytes = b }) e
       ∙ ap₂ outcome (threshold .ensures) f
@@ -96,7 +96,7 @@ returns-2 c =
     j .fits) in
     done (c .before .before) _
     (c .plain .ensures
-    ∙ ap (λ (l : List ℕ). l ++ zeros (fragmentRoom - size))
+    ∙ ap (λ (l : List ℕ). l ++ replicate (fragmentRoom - size) 0)
     (run-made (c .before .before .before .threshold-of .result) size (server past) (content past)
     (omega (arith, threshold-are (c .before .before .before), r .faults .1)) (r .number .0) (c .before .if2 .taken) small))
 
