@@ -38,6 +38,7 @@ pub mod Shown
 pub mod Sorting
 pub mod Keys
 pub mod Ordering
+pub mod RealTime
 pub mod Safety
 pub mod Listed
 pub mod Bounds
