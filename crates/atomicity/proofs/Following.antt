@@ -18,7 +18,7 @@ use Rattle.atomicity.proofs.Util.{clash}
 use Rattle.atomicity.proofs.Setup.{Setup, Steps, StepOf, calls}
 use Rattle.atomicity.proofs.Positions.{since}
 use Rattle.atomicity.proofs.Quorums.{TopAt}
-use Rattle.atomicity.proofs.Turns.{ResultOk}
+use Rattle.atomicity.proofs.Results.{ResultOk}
 use Rattle.atomicity.proofs.Invariant.{Ends, ends-top}
 use Rattle.atomicity.proofs.Calls.{MarkAt, ends-since, ends-back, Base, Cur, base-up, cur-up, Keeps, keeps-refl}
 

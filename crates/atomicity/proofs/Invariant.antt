@@ -43,7 +43,8 @@ use Rattle.atomicity.proofs.Heard.{heard, same-since, same-from}
 use Rattle.atomicity.proofs.States.{HandOk, ok-up, says-up}
 use Rattle.atomicity.proofs.Quorums.{S, Q, Many, FullAt, TopAt, full-up, top-up}
 use Rattle.atomicity.proofs.Telling.{says}
-use Rattle.atomicity.proofs.Turns.{Outcome, turn-ok, none-short, unmarked}
+use Rattle.atomicity.proofs.Results.{Outcome, none-short, unmarked}
+use Rattle.atomicity.proofs.Turns.{turn-ok}
 
 module _ (K : Setup) where
   unfoldable pub Hands : Steps K → Type 0

@@ -24,6 +24,7 @@ pub mod Telling
 pub mod Gathered
 pub mod Groups
 pub mod Choosing
+pub mod Results
 pub mod Turns
 pub mod Invariant
 pub mod Calls

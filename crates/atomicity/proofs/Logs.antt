@@ -26,7 +26,7 @@ use Rattle.atomicity.proofs.Moves.{Fits, kept, wbegan, rbegan, quit, to
 use Rattle.atomicity.proofs.Rounds.{turn-turned}
 use Rattle.atomicity.proofs.Positions.{since, from}
 use Rattle.atomicity.proofs.Invariant.{Hands, hands-all, outcome}
-use Rattle.atomicity.proofs.Turns.{Outcome}
+use Rattle.atomicity.proofs.Results.{Outcome}
 use Rattle.atomicity.proofs.Calls.{Cur, CallOk, Keeps, keeps-refl, carry}
 use Rattle.atomicity.proofs.Replies.{call-follows}
 use Rattle.atomicity.proofs.Following.{Follows}

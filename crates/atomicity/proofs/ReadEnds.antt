@@ -21,7 +21,7 @@ use Rattle.atomicity.proofs.Util.{clash, no-some}
 use Rattle.atomicity.proofs.Setup.{Setup, Steps, StepOf, calls}
 use Rattle.atomicity.proofs.Positions.{since}
 use Rattle.atomicity.proofs.Quorums.{TopAt, Beats}
-use Rattle.atomicity.proofs.Turns.{ResultOk}
+use Rattle.atomicity.proofs.Results.{ResultOk}
 use Rattle.atomicity.proofs.Invariant.{Ends, top-blank}
 use Rattle.atomicity.proofs.Calls.{Grounded, Base, Open, Cur, Keeps}
 use Rattle.atomicity.proofs.Following.{Follows, unreach, stays, low}

@@ -2,27 +2,23 @@
 -- what is known after it; a quorum of replies, less the liars, is so many correct servers.
 -- Assumes nothing.
 use mathlib.Core.Path.{_≡_, refl, sym, ap, _∙_, subst}
-use mathlib.Core.Bool.{Bool, true, false, cond, not}
-use mathlib.Core.List.{List, [], _∷_}
-use mathlib.Core.Option.{Option, none, some}
+use mathlib.Core.Bool.{Bool, true, false, not}
+use mathlib.Core.List.{List, _∷_}
 use mathlib.Core.Logic.{_⊎_, inl, inr}
 use Prim.Native.Nat.{ℕ, suc, _≤_, _<_}
 use native.Mathlib.Omega.{arith}
 use lib.Dec.{eqb}
-use borrow.Author.Tests.{eq-eqb, ne-eqb, eqb-true, not-true}
+use borrow.Author.Tests.{ne-eqb, eqb-true, not-true}
 use Rattle.protocol.specs.declared.Stamp.{Stamp}
-use Rattle.protocol.specs.Values.{Candidate, Share, Held, below, blankStamp, blankCandidate, sameList, isBlank}
+use Rattle.protocol.specs.Values.{Candidate, Share, Held, below, blankCandidate, isBlank}
 use Rattle.protocol.specs.Packet.{Body}
-use Rattle.protocol.specs.Rules.{ByServer, upd, nobody, countTo, gather, choice, leader, tagsIn}
-use Rattle.protocol.specs.Client.{Client, Hand, Turn, Result, refused, more, written, gave, gaveBlank, aborted, idle, clocking, storing, completing}
-use Rattle.protocol.specs.Client.{collecting, filtering, repairing}
-use Rattle.protocol.specs.Client.{update, judge, found, onto, prepared, candidateMade, stampOf, higher, stampIn, codeIn, candidateIn, heldIn}
-use Rattle.protocol.proofs.Marks.{count-nobody}
-use Rattle.protocol.proofs.Equal.{same-true}
+use Rattle.protocol.specs.Rules.{ByServer, upd, countTo, gather, choice}
+use Rattle.protocol.specs.Client.{Client, Hand, idle, clocking, storing, completing, collecting, filtering, repairing}
+use Rattle.protocol.specs.Client.{update, onto, prepared, candidateMade, stampOf, higher, stampIn, codeIn, candidateIn, heldIn}
 use Rattle.format.proofs.Answers.{at-cond}
 use Rattle.atomicity.specs.Lists.{In}
 use Rattle.atomicity.specs.Steps.{proving}
-use Rattle.atomicity.proofs.Util.{bool-case, clash, not-f, upd-here, upd-else}
+use Rattle.atomicity.proofs.Util.{bool-case, not-f, upd-here, upd-else}
 use Rattle.atomicity.proofs.Stamps.{num-le}
 use Rattle.atomicity.proofs.Model.{updated}
 use Rattle.atomicity.proofs.Setup.{Setup, Steps, StepOf, Fair, right, right-range, Same, same-right, right-step, lat}
@@ -32,46 +28,13 @@ use Rattle.atomicity.proofs.Marks.{mark-num}
 use Rattle.atomicity.proofs.Genuine.{Genuine}
 use Rattle.atomicity.proofs.Covers.{Covers, covers-up}
 use Rattle.atomicity.proofs.Heard.{lat-up}
-use Rattle.atomicity.proofs.States.{Coll, coll-up, Sift, sift-up, Proved, proved-up, Filters, HandOk, Says, ok-up}
-use Rattle.atomicity.proofs.Quorums.{S, Q, FullAt, TopAt, WBeats, Beats, many-marks, meets-marks, full-up}
+use Rattle.atomicity.proofs.States.{Coll, coll-up, Sift, sift-up, proved-up, Filters, HandOk, Says}
+use Rattle.atomicity.proofs.Quorums.{S, Q, FullAt, WBeats, many-marks, meets-marks, full-up}
 use Rattle.atomicity.proofs.Gathered.{in-gather}
-use Rattle.atomicity.proofs.Groups.{tagged-of}
-use Rattle.atomicity.proofs.Choosing.{q-pos, reached, Live, chosen, Digests}
+use Rattle.atomicity.proofs.Choosing.{Digests}
+use Rattle.atomicity.proofs.Results.{ResultOk, Outcome, same-outcome, none-short, unmarked, judged}
 
 module _ (K : Setup) where
-  -- what a call that ends gives; h was the hand
-  unfoldable pub ResultOk : Steps K → Steps K → Hand → Result → Type 0
-  ResultOk ys z0 h (refused n) = Unit {0}
-  ResultOk ys z0 h more = Unit {0}
-  ResultOk ys z0 h (written n) = (d : Candidate) × (h ≡ completing d) × TopAt K ys (d .stamp)
-  ResultOk ys z0 h (gave n r) = (d : Candidate) × TopAt K ys (d .stamp) × Proved K ys z0 d r
-  ResultOk ys z0 h gaveBlank = Beats K z0 blankStamp
-  ResultOk ys z0 h (aborted b) = Unit {0}
-
-  unfoldable pub Outcome : StepOf K → Steps K → Steps K → Steps K → Hand → Turn → Type 0
-  Outcome x xs z0 z1 h u = HandOk K (x ∷ xs) z0 (cond (eqb (stage h) (stage (u .client .hand))) z1 (x ∷ xs)) (u .client .marks) (u .client .hand)
-      × ResultOk (x ∷ xs) z0 h (u .result)
-
-  -- nothing but time went on
-  same-outcome : (x : StepOf K) (xs z0 z1 : Steps K) (h : Hand) (cl : Client) → cl .hand ≡ h → HandOk K xs z0 z1 (cl .marks) h →
-      Outcome x xs z0 z1 h (record { client = cl; result = more })
-  unfolding Outcome ResultOk
-  same-outcome x xs z0 z1 h cl e k = (
-    subst (λ (g : Hand). HandOk K (x ∷ xs) z0 (cond (eqb (stage h) (stage g)) z1 (x ∷ xs)) (cl .marks) g) (sym e)
-        (subst (λ (b : Bool). HandOk K (x ∷ xs) z0 (cond b z1 (x ∷ xs)) (cl .marks) h) (sym (eq-eqb (stage h) (stage h) refl))
-        (ok-up K z0 z1 (cl .marks) h x xs k)),
-    tt,
-  )
-
-  -- ---- marks
-
-  pub none-short : countTo (S K) nobody < Q K
-  none-short = omega (arith, q-pos K, count-nobody (S K))
-
-  pub unmarked : {P : Type 0} (j : ℕ) → nobody j ≡ true → P
-  unfolding nobody
-  unmarked j e = clash e refl
-
   -- b replied v: what holds of v, and held of the replies g before, holds of all
   on-replies : {A : Type 0} (x : StepOf K) (xs : Steps K) (P : ℕ → A → Type 0) (m : ByServer Bool) (g : ByServer A) (b : ℕ) (v : A) →
       (right K (x ∷ xs) b ≡ true → P b v) → ((j : ℕ) → right K xs j ≡ true → m j ≡ true → P j (g j)) →
@@ -84,54 +47,6 @@ module _ (K : Setup) where
   on-marks : (x : StepOf K) (xs : Steps K) (P : ℕ → Type 0) (m : ByServer Bool) (b : ℕ) → (right K (x ∷ xs) b ≡ true → P b) →
       ((j : ℕ) → right K xs j ≡ true → m j ≡ true → P j) → (j : ℕ) → right K (x ∷ xs) j ≡ true → upd m b true j ≡ true → P j
   on-marks x xs P m b = on-replies x xs (λ j u. P j) m m b true
-
-  -- ---- the ends of a filter round
-
-  finished : (x : StepOf K) (xs z0 z1 : Steps K) (cs : List Candidate) (old g : ByServer Held) (m : ByServer Bool) → Same K z0 (x ∷ xs) →
-      Same K z1 (x ∷ xs) → Fair K (x ∷ xs) → Filters K (x ∷ xs) z0 z1 cs g m → Q K ≤ countTo (S K) m → (c : ℕ) (cl : Client) (d : Candidate) →
-      Digests K (x ∷ xs) (proving (K .s) m g (some d)) → choice (K .s .P) (K .s .config) m g cs ≡ some d → Outcome x xs z0 z1 (filtering cs old)
-      (found (K .s .P) (K .s .config) c (K .s .writers) (K .s .keys) cl m g d (leader (K .s .P) (K .s .config) m g d (S K)))
-  unfolding found Outcome ResultOk HandOk stage onto
-  finished x xs z0 z1 cs old g m p0 p1 fair F l c cl d dig ch =
-      let C = chosen K (x ∷ xs) z0 z1 cs g m p0 p1 fair F d dig ch in
-      let R = C .real in
-      let b = leader (K .s .P) (K .s .config) m g d (S K) in
-      at-cond (sameList (tagsIn (K .s .P) (K .s .config) d (g b .share)) (d .tags)) _ _ (Outcome x xs z0 z1 (filtering cs old))
-      (λ q. (
-        tt,
-        (
-          d,
-          many-marks K (x ∷ xs) _ m l
-              (λ j h i. let rg = right-range K (x ∷ xs) j h in
-              not-f _ (F .sift j h i .tags d (C .among)
-              (tagged-of K d (R .origin .write) (sym (same-true _ _ q) ∙ R .tags-is) (R .origin .stamp-is) (R .digest-is) j (rg .0) (rg .1)))),
-          record { origin = R .origin; content-is = R .gives; beats = C .beats },
-        ),
-      ))
-      (λ q. (
-        record {
-          short = none-short;
-          proved = record { origin = R .origin; content-is = R .gives; beats = C .beats };
-          tagged = tagged-of K _ (R .origin .write) (R .tags-is) (R .origin .stamp-is) (R .digest-is);
-          high = λ j h i. unmarked j i;
-        },
-        tt,
-      ))
-
-  judged : (x : StepOf K) (xs z0 z1 : Steps K) (cs : List Candidate) (old g : ByServer Held) (m : ByServer Bool) → Same K z0 (x ∷ xs) →
-      Same K z1 (x ∷ xs) → Fair K (x ∷ xs) → Filters K (x ∷ xs) z0 z1 cs g m → Q K ≤ countTo (S K) m → (c : ℕ) (cl : Client)
-      (ls : List Candidate) → Live K m g cs ≡ ls → (o : Option Candidate) → Digests K (x ∷ xs) (proving (K .s) m g o) →
-      choice (K .s .P) (K .s .config) m g cs ≡ o →
-      Outcome x xs z0 z1 (filtering cs old) (judge (K .s .P) (K .s .config) c (K .s .writers) (K .s .keys) cl m cs g ls o)
-  unfolding judge Outcome ResultOk HandOk stage onto Beats In
-  judged x xs z0 z1 cs old g m p0 p1 fair F l c cl [] e o dig q = (tt, λ b top. go b (reached K (x ∷ xs) z0 z1 cs g m p0 p1 F b top))
-    where
-      go : (b : Stamp) → (below blankStamp b ≡ false) ⊎ ((d : Candidate) × In d (Live K m g cs) × (below (d .stamp) b ≡ false)) →
-          below blankStamp b ≡ false
-      go b (inl z) = z
-      go b (inr d) = absurd (subst (λ (z : List Candidate). In (d .0) z) e (d .1))
-  judged x xs z0 z1 cs old g m p0 p1 fair F l c cl (a ∷ ls) e none dig q = (F, tt)
-  judged x xs z0 z1 cs old g m p0 p1 fair F l c cl (a ∷ ls) e (some d) dig q = finished x xs z0 z1 cs old g m p0 p1 fair F l c cl d dig q
 
   -- ---- a reply y of server b to the hand h
 
@@ -212,17 +127,17 @@ module _ (K : Setup) where
     }
 
     pub turn-ok : 1 ≤ b → b ≤ S K → (full : Bool) → (full ≡ true → Q K ≤ countTo (S K) m') → (full ≡ false → countTo (S K) m' < Q K) → (h : Hand) →
-        cl .hand ≡ h → HandOk K xs z0 z1 m h → Said h → Outcome x xs z0 z1 h (updated (K .s) c cl b y m' full h)
+        cl .hand ≡ h → HandOk K xs z0 z1 m h → Said h → Outcome K x xs z0 z1 h (updated (K .s) c cl b y m' full h)
     unfolding update Outcome ResultOk HandOk stage onto prepared candidateMade stampOf
-    turn-ok lo hi full yes-full no-full idle e ok say = same-outcome x xs z0 z1 idle cl e tt
+    turn-ok lo hi full yes-full no-full idle e ok say = same-outcome K x xs z0 z1 idle cl e tt
     turn-ok lo hi true yes-full no-full (clocking r n k) e ok say =
-        (record { short = none-short; beats = clock-beats r n k ok say (yes-full refl) _ refl; holds = λ j h i. unmarked j i }, tt)
+        (record { short = none-short K; beats = clock-beats r n k ok say (yes-full refl) _ refl; holds = λ j h i. unmarked K j i }, tt)
     turn-ok lo hi false yes-full no-full (clocking r n k) e ok say = (record { short = no-full refl; low = clock-on r n k ok say }, tt)
-    turn-ok lo hi full yes-full no-full (storing d g) e ok say = at-cond (eqb (codeIn y) 11) _ _ (Outcome x xs z0 z1 (storing d g))
-        (λ q. same-outcome x xs z0 z1 (storing d g) cl e ok)
-        (λ k. at-cond full _ _ (Outcome x xs z0 z1 (storing d g))
+    turn-ok lo hi full yes-full no-full (storing d g) e ok say = at-cond (eqb (codeIn y) 11) _ _ (Outcome K x xs z0 z1 (storing d g))
+        (λ q. same-outcome K x xs z0 z1 (storing d g) cl e ok)
+        (λ k. at-cond full _ _ (Outcome K x xs z0 z1 (storing d g))
         (λ q. (
-          record { short = none-short; full = many-marks K (x ∷ xs) _ m' (yes-full q) (store-on d g ok say k); high = λ j h i. unmarked j i },
+          record { short = none-short K; full = many-marks K (x ∷ xs) _ m' (yes-full q) (store-on d g ok say k); high = λ j h i. unmarked K j i },
           tt,
         ))
         (λ q. (record { short = no-full q; beats = ok .beats; holds = store-on d g ok say k }, tt)))
@@ -238,13 +153,13 @@ module _ (K : Setup) where
           enough = yes-full refl;
           each = λ j h i. let t = collect-on g ok say j h i in (t .high, listed (upd g b sent) j h (t .real));
         };
-        sift = λ j h i. unmarked j i;
+        sift = λ j h i. unmarked K j i;
       },
       tt,
     )
     turn-ok lo hi false yes-full no-full (collecting g) e ok say = (record { short = no-full refl; coll = collect-on g ok say }, tt)
     turn-ok lo hi true yes-full no-full (filtering cs g) e ok say =
-        judged x xs z0 z1 cs g (upd g b (heldIn y)) m' p0 p1 fair (filter-on cs g ok say)
+        judged K x xs z0 z1 cs g (upd g b (heldIn y)) m' p0 p1 fair (filter-on cs g ok say)
         (yes-full refl) c cl _ refl _ (dig cs g e (yes-full refl)) refl
     turn-ok lo hi false yes-full no-full (filtering cs g) e ok say = (filter-on cs g ok say, tt)
     turn-ok lo hi true yes-full no-full (repairing d r) e ok say = (

@@ -32,7 +32,7 @@ use Rattle.atomicity.proofs.Quorums.{S, Q}
 use Rattle.atomicity.proofs.Telling.{at-step}
 use Rattle.atomicity.proofs.Gathered.{gather-blank}
 use Rattle.atomicity.proofs.Choosing.{Live}
-use Rattle.atomicity.proofs.Turns.{none-short, unmarked}
+use Rattle.atomicity.proofs.Results.{none-short, unmarked}
 use Rattle.atomicity.proofs.Invariant.{awaits-even}
 use Rattle.atomicity.proofs.Story.{past, meets}
 

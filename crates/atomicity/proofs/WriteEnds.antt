@@ -23,7 +23,7 @@ use Rattle.atomicity.proofs.Model.{stampFor, preparedFor}
 use Rattle.atomicity.proofs.Setup.{Setup, Steps, StepOf, calls}
 use Rattle.atomicity.proofs.Positions.{since}
 use Rattle.atomicity.proofs.Quorums.{TopAt, WBeats}
-use Rattle.atomicity.proofs.Turns.{ResultOk}
+use Rattle.atomicity.proofs.Results.{ResultOk}
 use Rattle.atomicity.proofs.Invariant.{Ends}
 use Rattle.atomicity.proofs.Calls.{MarkAt, Own, Base, Open, Cur, open-up, written-up, writing-up}
 use Rattle.atomicity.proofs.Following.{Stands, Follows, unreach, low}
