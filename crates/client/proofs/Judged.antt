@@ -3,7 +3,7 @@
 -- are bytes.
 use mathlib.Core.Path.{_≡_, refl, sym, ap, _∙_, subst}
 use mathlib.Core.Bool.{Bool, true, not}
-use mathlib.Core.List.{List, [], _∷_, _++_, append-assoc}
+use mathlib.Core.List.{List, [], _∷_, _++_}
 use mathlib.Core.Option.{Option, none, some}
 use Prim.Native.Nat.{ℕ, zero, suc, _+_, _-_, _*_, _≤_, _<_}
 use native.Mathlib.Omega.{arith}
@@ -11,7 +11,7 @@ use lib.Dec.{T, eqb}
 use lib.ListN.{length, drop}
 use lib.Seq.{take-at}
 use borrow.Author.Tests.{le-leb, le-ltb, eq-eqb}
-use Rattle.cluster.specs.Config.{Config, shelf}
+use Rattle.cluster.specs.Config.{shelf}
 use Rattle.cluster.specs.Ranges.{topFaults, contentRoom, mostServers, topLength}
 use Rattle.sha256.specs.Sha256.{sha256}
 use Rattle.erasure.specs.Fragments.{fragmentSize}
@@ -19,13 +19,14 @@ use Rattle.protocol.specs.declared.Call.{Call}
 use Rattle.protocol.specs.declared.Tally.{Tally}
 use Rattle.protocol.specs.declared.Taken.the-variants as taken
 use Rattle.protocol.specs.Answers.{takenAnswer}
-use Rattle.format.specs.Format.{Bytes, via, seq, run}
+use Rattle.format.specs.Format.{Bytes}
 use Rattle.protocol.specs.Values.{Candidate, Share, Held, stampSize, nonceSize, digestSize, digestsSize, tagsSize}
 use Rattle.protocol.specs.Packet.{candidateF, shareSize}
 use Rattle.protocol.specs.Primitives.{real}
 use Rattle.protocol.specs.Rules.{ByServer, gather, live, choice, leader, proven, parts, restoredBy, tagsIn}
 use Rattle.format.specs.Reading.{over, bytesAt}
-use Rattle.protocol.specs.View.{candidateAt, shareOfSize, keptSize, marked, candidatesIn, repliesIn, replySlotOf, candidatesPlace, candidateSlot, repliesPlace, replySlot}
+use Rattle.protocol.specs.View.{shareOfSize, keptSize, marked, candidatesIn, repliesIn, replySlotOf, candidatesPlace, candidateSlot}
+use Rattle.protocol.specs.View.{repliesPlace, replySlot}
 use Rattle.protocol.specs.ClientBytes.{fresh}
 use Rattle.client.specs.Rounds.{took, delivers, foundIn, judgeIn, withTally}
 use Rattle.protocol.proofs.Primitive.{real-lengths}
@@ -34,11 +35,12 @@ use Rattle.decide.specs.declared.Decision.{Decision}
 use Rattle.decide.specs.declared.Decision.the-variants as decisions
 use Rattle.decide.specs.Decided.{Decided, slotOf, decidedOn, decideRefusal, decided}
 use Rattle.decide.specs.Steps.{Usable, Full, leaderAt, fitsAt, leadsAt}
-use Rattle.decide.proofs.Places.{part-part, candidate-in, reply-in, part-length, part-split, bytes-part, stamp-bytes}
+use Rattle.decide.proofs.Places.{part-part, candidate-in, reply-in, part-length, bytes-part}
 use Rattle.decide.proofs.Replies.{sizeIn, held-share, tags-in, slot-part}
 use Rattle.decide.proofs.Groups.{leader-leads, leads-fits, leader-full, fits-named}
 use Rattle.decide.proofs.Found.{chosen-slot, found-tags}
 use Rattle.client.specs.Filter.{tagsPlace, repairBytes, foundAt, judgedBy, judgedIn, decidedNow}
+use Rattle.client.proofs.Printed.{name-printed}
 
 -- ---- by the decision's answer
 
@@ -69,16 +71,6 @@ module _ (t : ℕ) (c : Call) (kept output : List ℕ) where
 cut-over : (x room : List ℕ) → bytesAt (over x room) 0 (length x) ≡ x
 unfolding bytesAt over
 cut-over x room = take-at x (drop (length x) room) (length x) refl
-
-name-printed : (s : Config) (d tags : List ℕ) → Bytes d → 5 ≤ length d
-    → candidateF s .print (record { stamp = candidateAt s d .stamp; nonce = candidateAt s d .nonce; tags = tags })
-    ≡ bytesAt d 0 (stampSize + nonceSize) ++ tags
-unfolding candidateF via seq run candidateAt
-name-printed s d tags b h =
-    let j : bytesAt d 0 stampSize ++ bytesAt d (0 + stampSize) nonceSize
-    ≡ bytesAt d 0 (stampSize + nonceSize) = sym (part-split d 0 stampSize nonceSize) in
-    ap (λ (x : List ℕ). x ++ (bytesAt d stampSize nonceSize ++ tags)) (stamp-bytes d b h)
-    ∙ (sym (append-assoc (bytesAt d 0 stampSize) (bytesAt d stampSize nonceSize) tags) ∙ ap (λ (x : List ℕ). x ++ tags) j)
 
 module _ (t : ℕ) (marks kept : List ℕ) (u : Usable t kept) (bytes : Bytes kept) where
   abbrev held : ByServer Candidate

@@ -1,7 +1,7 @@
 -- What stands in a slot is printed back as it stands, garbage too: reading by place and printing gives the slot's own first bytes.
 -- A number's bytes print back as they were, and neighbouring parts join. Assumes nothing but that the slot holds bytes.
 use mathlib.Core.Path.{_≡_, sym, ap, _∙_}
-use mathlib.Core.List.{List, [], _∷_, _++_}
+use mathlib.Core.List.{List, [], _∷_, _++_, append-assoc}
 use Prim.Native.Nat.{ℕ, _+_, _-_, _≤_}
 use native.Mathlib.Omega.{arith}
 use lib.ListN.{length, take, drop, getD, length-take, length-append}
@@ -57,6 +57,17 @@ module _ (s : Config) (d : List ℕ) (b : Bytes d) (h : 5 ≤ length d) where
       ap (λ (x : List ℕ). N ++ (bytesAt d 2 f ++ (bytesAt d (2 + f) D ++ x))) j₁ ∙ (ap (λ (x : List ℕ). N ++ (bytesAt d 2 f ++ x)) j₂ ∙
       (ap (λ (x : List ℕ). N ++ x) j₃
       ∙ (ap (λ (x : List ℕ). x ++ bytesAt d 2 (f + (D + (digestSize + T)))) length-back ∙ (j₄ ∙ ap (bytesAt d 0) e))))
+
+-- a candidate of a slot's stamp and nonce, with tags of its own
+pub name-printed : (s : Config) (d tags : List ℕ) → Bytes d → 5 ≤ length d
+    → candidateF s .print (record { stamp = candidateAt s d .stamp; nonce = candidateAt s d .nonce; tags = tags })
+    ≡ bytesAt d 0 (stampSize + nonceSize) ++ tags
+unfolding candidateF via seq run candidateAt
+name-printed s d tags b h =
+    let j : bytesAt d 0 stampSize ++ bytesAt d (0 + stampSize) nonceSize
+    ≡ bytesAt d 0 (stampSize + nonceSize) = sym (part-split d 0 stampSize nonceSize) in
+    ap (λ (x : List ℕ). x ++ (bytesAt d stampSize nonceSize ++ tags)) (stamp-bytes d b h)
+    ∙ (sym (append-assoc (bytesAt d 0 stampSize) (bytesAt d stampSize nonceSize) tags) ∙ ap (λ (x : List ℕ). x ++ tags) j)
 
 -- a packet whose body has no more bytes than a slot of each kind fits its buffer
 pub packet-fits : (h : Head) (a b output : List ℕ) → packetRoom ≤ length output → headSize + (length a + length b) ≤ packetRoom
