@@ -4,9 +4,11 @@ pub mod ServeSteps
 pub mod TakeSteps
 pub mod CallSteps
 pub mod Talks
+pub mod Lies
 pub mod Scene
 pub mod SceneBytes
 pub mod SceneRead
+pub mod SceneChecks
 pub mod SceneWrites
 pub mod SceneStored
 pub mod SceneReads

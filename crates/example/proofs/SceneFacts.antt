@@ -36,8 +36,8 @@ use Rattle.example.proofs.SceneWrites.{writes, w0, w1, w2, w3, w4, w5, 
 use Rattle.example.proofs.SceneReads.{others, reads, w11, w12, w13, w14, w15, w16, w17, w18, w19, w20, w21}
 use Rattle.example.proofs.SceneStored.{x1, x2, x3, x4, x5, x6, x7, x8, x9, x10, p2, p3, p8, p10}
 use Rattle.example.proofs.SceneShown.{x11, x12, x13, x14, p11, p13, wild, tag-checks}
-use Rattle.example.proofs.SceneEnds.{x15, x16, x17, x18, x19, x20, x21, x22, x23, x24, x25, p16, p21, judged-tagged, tag-checks-4, theLie}
-use Rattle.example.proofs.SceneEnds.{again}
+use Rattle.example.proofs.SceneChecks.{judged-tagged, tag-checks-4}
+use Rattle.example.proofs.SceneEnds.{x15, x16, x17, x18, x19, x20, x21, x22, x23, x24, x25, p16, p21, theLie, again}
 
 -- what some earlier step had, some step had
 pub ever-later : {X : Type 0} (P : X → List X → Type 0) (n : ℕ) (xs : List X) → Ever P (drop n xs) → Ever P xs

@@ -26,7 +26,8 @@ use Rattle.example.proofs.Playing.{Hashing, functions, s, nonce2}
 use Rattle.example.proofs.ServeSteps.{Owned, served}
 use Rattle.example.proofs.TakeSteps.{took}
 use Rattle.example.proofs.CallSteps.{began, left}
-use Rattle.example.proofs.Talks.{Talk, talk-of, Lie, lie-of}
+use Rattle.example.proofs.Talks.{Talk, talk-of}
+use Rattle.example.proofs.Lies.{Lie, lie-of}
 use Rattle.example.proofs.Scene.{content1, label1, content2, pieces, cand, share, stored, spoilt, holding, blankOne, stamp-checks, held-own}
 use Rattle.example.proofs.Scene.{best-held, best-tagged, valid-held}
 use Rattle.example.proofs.SceneRead.{gathered, knows, judged-is, sifted}

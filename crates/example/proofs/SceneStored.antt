@@ -27,7 +27,8 @@ use Rattle.example.proofs.Playing.{Hashing, s, A, nonce1, Shown, Made, 
 use Rattle.example.proofs.Printed.{bytes-of, bytes-ok}
 use Rattle.example.proofs.ServeSteps.{makes-it, sent-ok, made-sent, packetBuffer}
 use Rattle.example.proofs.CallSteps.{writing, play-write}
-use Rattle.example.proofs.Talks.{exchanged, play-exchange, lied, play-lie}
+use Rattle.example.proofs.Talks.{exchanged, play-exchange}
+use Rattle.example.proofs.Lies.{lied, play-lie}
 use Rattle.example.proofs.Scene.{content1, label1, pieces, cand, highStamp, high-unchecked, holding, blankOne}
 use Rattle.example.proofs.SceneWrites.{ours, one, oneTwo, goes, ends, clocks, stores, completes, keeping, w0, w1, w2, w3, w4, w5, w6, w7}
 use Rattle.example.proofs.SceneWrites.{w8, w9, w10, writes}

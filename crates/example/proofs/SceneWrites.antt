@@ -23,7 +23,8 @@ use Rattle.example.proofs.Playing.{Hashing, functions, desk, s, nonce1}
 use Rattle.example.proofs.ServeSteps.{served}
 use Rattle.example.proofs.TakeSteps.{took}
 use Rattle.example.proofs.CallSteps.{began}
-use Rattle.example.proofs.Talks.{Talk, talk-of, Lie, lie-of}
+use Rattle.example.proofs.Talks.{Talk, talk-of}
+use Rattle.example.proofs.Lies.{Lie, lie-of}
 use Rattle.example.proofs.Scene.{content1, label1, pieces, cand, share, stored, highStamp, high-unchecked, holding, blankOne}
 use Rattle.example.proofs.SceneBytes.{stamp-bytes, cand-bytes, share-bytes, high-bytes, high-ok}
 use Rattle.example.proofs.Printed.{StampBytes, bytes-ok}
