@@ -15,6 +15,8 @@ use Rattle.cluster.specs.Refusals.{onRefusal}
 use Rattle.cluster.specs.declared.Outcome.{Outcome}
 use Rattle.cluster.proofs.Tests.{and-both, refused-is}
 use Rattle.protocol.specs.declared.Head.{Head}
+use Rattle.protocol.specs.declared.Stamp.{Stamp}
+use Rattle.protocol.specs.Values.{stampSize}
 use Rattle.protocol.specs.Packet.{Body, headSize, decode}
 use Rattle.protocol.specs.Memory.{decodeMemory}
 use Rattle.protocol.specs.Primitives.{real}
@@ -22,7 +24,8 @@ use Rattle.protocol.specs.Server.{Server, memoryOf, barred, serverRefusal}
 use Rattle.protocol.specs.View.{stampAt, candidateAt}
 use Rattle.protocol.specs.ServerBytes.{Served, serverIn, turnedDown, actedOn, serverTake}
 use Rattle.format.proofs.Answers.{at-cond}
-use Rattle.wire.specs.Places.{writeAt, bodyAt, packetAt}
+use Rattle.wire.specs.Places.{padded, writeAt, bodyAt, packetAt}
+use Rattle.wire.proofs.Runs.{padded-get}
 use Rattle.server.specs.declared.memory.Opened.{Opened}
 use Rattle.server.specs.Reads.{OpenedAs}
 use Rattle.server.specs.Answers.{memoryIn, NumberAt, ToServer, AnswersAny}
@@ -34,16 +37,13 @@ module _ (client : ℕ) (packet : List ℕ) where
   pub foreign-reader : topWriter < client → true ≡ (ltb topWriter client || not (eqb (stampAt (drop headSize packet) .writer) client))
   foreign-reader h = rw (lt-ltb topWriter client h)
 
-  module _ (h : client ≤ topWriter) {x : List ℕ} {w : ℕ} (p : x ≡ drop headSize packet) (q : w ≡ getD x 4 0) where
-    writer-is : stampAt (drop headSize packet) .writer ≡ w
-    unfolding stampAt
-    writer-is = sym (q ∙ ap (λ (y : List ℕ). getD y 4 0) p)
-
-    pub foreign-own : w ≡ client → false ≡ (ltb topWriter client || not (eqb (stampAt (drop headSize packet) .writer) client))
-    foreign-own e = rw (le-ltb topWriter client h, eq-eqb (stampAt (drop headSize packet) .writer) client (writer-is ∙ e))
-
-    pub foreign-other : (w ≡ client → ⊥) → true ≡ (ltb topWriter client || not (eqb (stampAt (drop headSize packet) .writer) client))
-    foreign-other e = rw (le-ltb topWriter client h, ne-eqb (stampAt (drop headSize packet) .writer) client (λ z. e (sym writer-is ∙ z)))
+  pub foreign-stamp : client ≤ topWriter → {x : List ℕ} {a : Stamp} → x ≡ drop headSize packet → a ≡ stampAt (padded stampSize x)
+      → not (eqb (a .writer) client) ≡ (ltb topWriter client || not (eqb (stampAt (drop headSize packet) .writer) client))
+  unfolding stampAt
+  foreign-stamp h {x} {a} p q =
+      let w : a .writer ≡ getD (drop headSize packet) 4 0 =
+      ap (λ (y : Stamp). y .writer) q ∙ padded-get stampSize x 4 (omega arith) ∙ ap (λ (y : List ℕ). getD y 4 0) p in
+      rw (le-ltb topWriter client h, w)
 
 module _ (h : Head) (packet : List ℕ) where
   of-kind : (k : ℕ) → h .kind ≡ k → barred (h .client) (packetAt h packet .body) ≡ barred (h .client) (bodyAt (shelf (h .t)) k (drop headSize packet))

@@ -18,9 +18,6 @@ use crate::memory::open;
 use wire::packet::PacketRead;
 use wire::packet::read_packet;
 
-// The place of the writer in a stamp.
-const WRITER: usize = 4;
-
 // Whether a client may not send this store or complete: only a writer may, and only with a stamp of its own.
 fn foreign(client: u8, packet: &[u8]) -> bool
     ensures { λ r. ⌜ r ≡ (ltb topWriter client || not (eqb (stampAt (drop headSize (now (packet .entry))) .writer) client)) ⌝ }
@@ -28,10 +25,8 @@ fn foreign(client: u8, packet: &[u8]) -> bool
     if cluster::TOP_WRITER < (client as usize) {
         return true;
     }
-    if wire::bytes::byte_at(wire::bytes::rest(packet, wire::sizes::HEAD), WRITER) == client {
-        return false;
-    }
-    true
+    let stamp = wire::values::stamp_at(wire::bytes::rest(packet, wire::sizes::HEAD));
+    stamp.writer != client
 }
 
 // Refusal 9: replies, and requests that only a writer may send.

@@ -12,6 +12,9 @@ const STORE: usize = wire::sizes::HEAD
     + wire::sizes::DIGEST
     + 4 * hmac::TAG;
 
+// Bytes of a complete: head, stamp, nonce, 4 tags.
+const COMPLETE: usize = wire::sizes::HEAD + wire::sizes::STAMP + wire::sizes::NONCE + 4 * hmac::TAG;
+
 // A card's name, what was answered, and whether that is what the card says.
 fn show(name: &[u8], got: u64, card: u64) {
     io::write_all(STDOUT_FILENO, name);
@@ -23,16 +26,21 @@ fn show(name: &[u8], got: u64, card: u64) {
     }
 }
 
-// A store by client 1 to server 1 at t = 1, with the stamp of a number. Store tests no tag and no digest, so that these are zeros.
-fn put_store(packet: &mut [u8], number: u32) {
+// A packet's head by client 1 to server 1 at t = 1.
+fn put_kind(packet: &mut [u8], kind: u8) -> usize {
     let head = protocol::Head {
-        kind: 3,
+        kind,
         client: 1,
         server: 1,
         t: 1,
         call: 1,
     };
-    let a = wire::make::put_head(packet, 0, head);
+    wire::make::put_head(packet, 0, head)
+}
+
+// A store by client 1 to server 1 at t = 1, with the stamp of a number. Store tests no tag and no digest, so that these are zeros.
+fn put_store(packet: &mut [u8], number: u32) {
+    let a = put_kind(packet, protocol::kinds::STORE);
     let stamp = protocol::Stamp::new(number, 1, [0; hmac::TAG]);
     let b = wire::make::put_stamp(packet, a, stamp);
     wire::make::put_number2(packet, b, cluster::TOP_LENGTH as u16);
@@ -74,6 +82,52 @@ fn history() {
     show(b"store 32 again: ", answer(&mut memory, 32), 10);
 }
 
+// The bytes of the fragment that a store hands out: half of the longest content.
+fn handed() {
+    let mut packet = [0u8; STORE];
+    put_store(&mut packet, 1);
+    let fragment = wire::packet::fragment(&packet);
+    show(b"fragment in a store: ", fragment.len() as u64, 512);
+}
+
+// The server completes a write with a stamp of client 1, which it does without a test.
+fn complete(memory: &mut [u8]) {
+    let mut packet = [0u8; COMPLETE];
+    let a = put_kind(&mut packet, protocol::kinds::COMPLETE);
+    let stamp = protocol::Stamp::new(1, 1, [0; hmac::TAG]);
+    wire::make::put_stamp(&mut packet, a, stamp);
+    let mut out = [0u8; cluster::PACKET_ROOM];
+    let key = [1u8; 32];
+    server::take::take(memory, &key, &packet, &mut out);
+}
+
+// Whether the candidate that a server collects is blank.
+fn collected(memory: &mut [u8]) -> u64 {
+    let mut packet = [0u8; wire::sizes::HEAD];
+    put_kind(&mut packet, protocol::kinds::COLLECT);
+    let mut out = [0u8; cluster::PACKET_ROOM];
+    let key = [1u8; 32];
+    server::take::take(memory, &key, &packet, &mut out);
+    let head = wire::values::head_at(wire::bytes::rest(&out, wire::sizes::HEAD));
+    if head.is_blank() {
+        return 1;
+    }
+    0
+}
+
+// A blank server's candidate is blank, and a completed write's is not.
+fn candidates() {
+    let mut memory = [0u8; cluster::MEMORY];
+    server::blank::blank(&mut memory, 1, 1);
+    show(
+        b"blank server's candidate blank: ",
+        collected(&mut memory),
+        1,
+    );
+    complete(&mut memory);
+    show(b"completed candidate blank: ", collected(&mut memory), 0);
+}
+
 // What a new client, a writer, answers to the begin of a write of n bytes.
 fn begun(n: usize) -> u64 {
     let content = [7u8; cluster::TOP_LENGTH];
@@ -102,4 +156,6 @@ fn lengths() {
 pub(crate) fn run() {
     history();
     lengths();
+    handed();
+    candidates();
 }

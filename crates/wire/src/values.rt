@@ -11,11 +11,7 @@ pub fn stamp_at(s: &[u8]) -> protocol::Stamp
     let number = crate::bytes::number4(s);
     let writer = crate::bytes::byte_at(s, 4);
     let tag = crate::bytes::tag_of(crate::bytes::rest(s, 5));
-    protocol::Stamp {
-        number,
-        writer,
-        tag,
-    }
+    protocol::Stamp::new(number, writer, tag)
 }
 
 // The rank of the stamp of the first bytes: its place in the order of stamps.
@@ -58,8 +54,9 @@ impl CandidateHead {
             return false;
         }
         let nonce = self.nonce;
-        let zero = [0u8; cluster::KEY];
-        crate::bytes::same(&nonce, &zero)
+        let blank = CandidateHead::blank();
+        let zeros = blank.nonce;
+        crate::bytes::same(&nonce, &zeros)
     }
 
     // Candidates are ordered by their stamps.
@@ -78,5 +75,5 @@ pub fn head_at(s: &[u8]) -> CandidateHead
 {
     let stamp = stamp_at(s);
     let nonce = crate::bytes::nonce_of(crate::bytes::rest(s, crate::sizes::STAMP));
-    CandidateHead { stamp, nonce }
+    CandidateHead::new(stamp, nonce)
 }

@@ -29,22 +29,28 @@ servers-requires : tie.Need-servers-requires Inv-loop μ-loop
 servers-requires c κs = known (c .before .is-usable .ensures) (c .if1 .left) .high
 
 loop-holds : tie.Need-loop-holds Inv-loop μ-loop
-loop-holds c = (
-  omega arith,
-  sym (count-none (enters (candidatesIn (shelf (c .before .before .before .before .args .t))
-      (c .before .before .before .before .args .kept .now)))),
-)
+loop-holds c =
+    let at-else1 = c .before in (
+      omega arith,
+      sym (count-none (enters (candidatesIn (shelf (at-else1 .before .before .before .args .t))
+          (at-else1 .before .before .before .args .kept .now)))),
+    )
 
 entry-requires : tie.Need-entry-requires Inv-loop μ-loop
 entry-requires c κs =
     let u = known (c .before .before .before .before .is-usable .ensures) (c .before .before .before .if1 .left) in
     (u, omega (arith, c .before .before .servers .ensures .1, u .high, c .before .loop .inv .0))
 
+-- Places far back, each named once: the place, and from where it is seen.
+abbrev else1-from-entry : tie.After-entry Inv-loop μ-loop → tie.Else1 Inv-loop μ-loop
+else1-from-entry c = c .before .before .before .before
+
 add-n : tie.Need-add-n Inv-loop μ-loop
 add-n c =
-    let a = c .before .before .before .before .before .before .before .args in
+    let at-else1 = else1-from-entry c in
+    let a = at-else1 .before .before .before .args in
     let p = enters (candidatesIn (shelf (a .t)) (a .kept .now)) in
-    let u = known (c .before .before .before .before .before .is-usable .ensures) (c .before .before .before .before .if1 .left) in
+    let u = known (at-else1 .before .is-usable .ensures) (at-else1 .if1 .left) in
     omega (
       arith,
       c .before .before .loop .inv .1,
@@ -58,21 +64,24 @@ add-n c =
     )
 
 add-i : tie.Need-add-i Inv-loop μ-loop
-add-i c = let u = known (c .before .before .before .before .before .is-usable .ensures) (c .before .before .before .before .if1 .left) in omega
+add-i c =
+    let at-else1 = else1-from-entry c in
+    let u = known (at-else1 .before .is-usable .ensures) (at-else1 .if1 .left) in omega
     (arith, c .before .before .before .servers .ensures .1, u .high)
 
 loop-again : tie.Need-loop-again Inv-loop μ-loop
 loop-again c =
-    let a = c .before .before .before .before .before .before .before .args in
+    let a = else1-from-entry c .before .before .before .args in
     let p = enters (candidatesIn (shelf (a .t)) (a .kept .now)) in
     (omega arith, omega (arith, c .before .before .loop .inv .1, count-more (c .before .before .loop .i) p, c .entry .ensures))
 
 returns-2 : tie.Need-returns-2 Inv-loop μ-loop
 unfolding listedCount
 returns-2 c =
-    let a = c .before .before .before .before .before .before .args in
+    let at-else1 = c .before .before .before in
+    let a = at-else1 .before .before .before .args in
     let e : c .before .loop .i ≡ shelf (a .t) .servers = omega (arith, c .before .before .servers .ensures .0) in
-    rw (is-usable (c .before .before .before .before .is-usable .ensures) (c .before .before .before .if1 .left))
+    rw (is-usable (at-else1 .before .is-usable .ensures) (c .before .before .before .if1 .left))
     (c .before .loop .inv .1 ∙ ap (λ (k : ℕ). countTo k (enters (candidatesIn (shelf (a .t)) (a .kept .now)))) e
     ∙ sym (gather-count (candidatesIn (shelf (a .t)) (a .kept .now)) (shelf (a .t) .servers)))
 

@@ -23,19 +23,23 @@ use Rattle.decide.proofs.decide.Tie as tie
 told : {d r : Decided} → d ≡ r → (r .answer ≡ d .answer) × (r .output ≡ d .output)
 told e = (sym (ap (λ (x : Decided). x .answer) e), sym (ap (λ (x : Decided). x .output) e))
 
+-- Places far back, each named once: the place, and from where it is seen.
+abbrev start-from-else1 : tie.Else1 → tie.Start
+start-from-else1 c = c .before .before .before .before
+
 -- past the refusal
 module _ (c : tie.Else1) where
   abbrev t : ℕ
-  t = c .before .before .before .before .args .t
+  t = start-from-else1 c .args .t
 
   abbrev marks : List ℕ
-  marks = c .before .before .before .before .args .marks
+  marks = start-from-else1 c .args .marks
 
   abbrev kept : List ℕ
-  kept = c .before .before .before .before .args .kept .now
+  kept = start-from-else1 c .args .kept .now
 
   abbrev out : List ℕ
-  out = c .before .before .before .before .args .out .now
+  out = start-from-else1 c .args .out .now
 
   not-refused : decideRefusal t (length kept) (length out) ≡ 0
   not-refused = sym (c .before .decide-refusal .ensures) ∙ c .if1 .left
@@ -65,8 +69,9 @@ find-requires c κs = known (c .before .before) .0
 
 returns-3 : tie.Need-returns-3
 returns-3 c =
-    let p = c .before .before .before .before .before in
-    let q = c .before .before .before .before .top .ensures in
+    let at-top = c .before .before .before .before in
+    let p = at-top .before in
+    let q = at-top .top .ensures in
     let n : chosenPlace (t p) (marks p) (kept p) (topAt (t p) (marks p) (kept p) (shelf (t p) .servers)) (shelf (t p) .servers) ≡ none =
     ap (λ (x : ℕ). chosenPlace (t p) (marks p) (kept p) x (shelf (t p) .servers)) (sym q)
     ∙ c .before .before .find .ensures .nothing (c .if3 .taken) in
@@ -89,9 +94,11 @@ hit t marks kept key r e k l =
 
 rebuild-requires : tie.Need-rebuild-requires
 rebuild-requires c κs =
-    let p = c .before .before .before .before .before .before in
+    let at-else3 = c .before in
+    let at-top = at-else3 .before .before .before .before in
+    let p = at-top .before in
     let r = c .before .before .before .find .result in
-    let top = c .before .before .before .before .before .top in
+    let top = at-top .top in
     let key = topAt (t p) (marks p) (kept p) (shelf (t p) .servers) in
     let u = known p .0 in
     let k = hit (t p) (marks p) (kept p) (top .result) r (top .ensures) (c .before .before .before .find .ensures) (c .before .if3 .left) in (

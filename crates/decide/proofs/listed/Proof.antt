@@ -36,9 +36,10 @@ entry-requires c κs =
 returns-3 : tie.Need-returns-3
 unfolding listedIn
 returns-3 c =
-    let a = c .before .before .before .before .before .before .args in
+    let at-is-usable = c .before .before .before .before in
+    let a = at-is-usable .before .before .args in
     rw (
-      is-usable (c .before .before .before .before .is-usable .ensures) (c .before .before .before .if1 .left),
+      is-usable (at-is-usable .is-usable .ensures) (c .before .before .before .if1 .left),
       lt-ltb (a .i)
           (shelf (a .t) .servers) (omega (arith, c .before .before .servers .ensures .0)),
       c .entry .ensures,

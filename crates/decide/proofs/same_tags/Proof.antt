@@ -19,10 +19,14 @@ returns c = rw (unusable (c .before .is-usable .ensures) (c .if1 .taken))
 servers-requires : tie.Need-servers-requires
 servers-requires c κs = known (c .before .is-usable .ensures) (c .if1 .left) .high
 
+-- Places far back, each named once: the place, and from where it is seen.
+abbrev start-from-servers : tie.After-servers → tie.Start
+start-from-servers c = c .before .before .before .before
+
 returns-2 : tie.Need-returns-2
 unfolding sameTags
 returns-2 c =
-    let a = c .before .before .before .before .before .args in
+    let a = start-from-servers (c .before) .args in
     rw (
       is-usable (c .before .before .before .is-usable .ensures) (c .before .before .if1 .left),
       le-ltb (a .i) (shelf (a .t) .servers)
@@ -32,9 +36,10 @@ returns-2 c =
 returns-3 : tie.Need-returns-3
 unfolding sameTags
 returns-3 c =
-    let a = c .before .before .before .before .before .before .args in
+    let at-servers = c .before .before in
+    let a = start-from-servers at-servers .args in
     rw (
-      is-usable (c .before .before .before .before .is-usable .ensures) (c .before .before .before .if1 .left),
+      is-usable (at-servers .before .before .is-usable .ensures) (c .before .before .before .if1 .left),
       lt-leb 1 (a .b) (c .if3 .taken),
       and-false (ltb (a .i) (shelf (a .t) .servers)),
     )
@@ -45,9 +50,10 @@ servers-requires-2 c κs = known (c .before .before .before .before .is-usable .
 returns-4 : tie.Need-returns-4
 unfolding sameTags
 returns-4 c =
-    let a = c .before .before .before .before .before .before .before .before .args in
+    let at-servers = c .before .before .before .before in
+    let a = start-from-servers at-servers .args in
     rw (
-      is-usable (c .before .before .before .before .before .before .is-usable .ensures) (c .before .before .before .before .before .if1 .left),
+      is-usable (at-servers .before .before .is-usable .ensures) (at-servers .before .if1 .left),
       lt-leb (a .b) (shelf (a .t) .servers) (omega (arith, c .if4 .taken, c .before .servers2 .ensures .0)),
       and-false (leb 1 (a .b)),
       and-false
@@ -56,19 +62,21 @@ returns-4 c =
 
 tags-alike-requires : tie.Need-tags-alike-requires
 tags-alike-requires c κs =
-    let u = known (c .before .before .before .before .before .before .is-usable .ensures) (c .before .before .before .before .before .if1 .left) in
-    (u, omega (arith, c .before .before .before .before .servers .ensures .1, u .high), omega (arith, c .before .servers2 .ensures .1, u .high))
+    let at-servers = c .before .before .before .before in
+    let u = known (at-servers .before .before .is-usable .ensures) (at-servers .before .if1 .left) in
+    (u, omega (arith, at-servers .servers .ensures .1, u .high), omega (arith, c .before .servers2 .ensures .1, u .high))
 
 returns-5 : tie.Need-returns-5
 unfolding sameTags
 returns-5 c =
-    let a = c .before .before .before .before .before .before .before .before .before .args in
+    let at-servers = c .before .before .before .before .before in
+    let a = start-from-servers at-servers .args in
     let e : suc (a .b - 1) ≡ a .b = omega (arith, c .before .before .before .if3 .left) in
     rw (
-      is-usable (c .before .before .before .before .before .before .before .is-usable .ensures)
-          (c .before .before .before .before .before .before .if1 .left),
+      is-usable (at-servers .before .before .is-usable .ensures)
+          (at-servers .before .if1 .left),
       lt-ltb (a .i) (shelf (a .t) .servers)
-          (omega (arith, c .before .before .before .before .before .servers .ensures .0)),
+          (omega (arith, at-servers .servers .ensures .0)),
       le-leb 1 (a .b)
           (omega (arith, c .before .before .before .if3 .left)),
       le-leb (a .b) (shelf (a .t) .servers)

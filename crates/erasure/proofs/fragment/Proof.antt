@@ -89,11 +89,11 @@ plain-requires c κs =
 
 returns-2 : tie.Need-returns-2
 returns-2 c =
+    let at-else1 = c .before .before .before .before in
     let size = c .before .before .size .result in
-    let past = c .before .before .before .before in
+    let past = at-else1 in
     let r = ok past in
-    let small : (j : ℕ) → getD (content past) j 0 < 256 = λ j. (c .before .before .before .before .before .before .shared-slice-known .given
-    j .fits) in
+    let small : (j : ℕ) → getD (content past) j 0 < 256 = λ j. (at-else1 .before .before .shared-slice-known .given j .fits) in
     done (c .before .before) _
     (c .plain .ensures
     ∙ ap (λ (l : List ℕ). l ++ replicate (fragmentRoom - size) 0)

@@ -23,11 +23,16 @@ server-tested c =
     ap (λ (s : ℕ). not (within 1 s (c .before .before .before .before .args .server))) (sym (c .before .servers-of .ensures)) ∙ sym
     (c .outside2 .ensures)
 
+-- Places far back, each named once: the place, and from where it is seen.
+abbrev else1-from-outside3 : tie.After-outside3 → tie.Else1
+else1-from-outside3 c = c .before .before .before .before
+
 last-test : (c : tie.After-outside3) (b : Bool) → c .outside3 .result ≡ b
-    → let args = c .before .before .before .before .before .before .args in fragmentRefusal (args .t) (args .server) (args .n) ≡ cond b 6 0
+    → let args = else1-from-outside3 c .before .before .args in fragmentRefusal (args .t) (args .server) (args .n) ≡ cond b 6 0
 last-test c b e =
-    let args = c .before .before .before .before .before .before .args in
-    fragment-tests (args .t) (args .server) (args .n) false false b (faults-in (c .before .before .before .before))
+    let at-else1 = else1-from-outside3 c in
+    let args = at-else1 .before .before .args in
+    fragment-tests (args .t) (args .server) (args .n) false false b (faults-in (at-else1))
     (server-tested (c .before .before) ∙ c .before .if2 .left) (sym (c .outside3 .ensures) ∙ e)
 
 -- ---- the needs

@@ -22,21 +22,25 @@ use Rattle.erasure.proofs.restore.Tie as tie
 
 -- ---- past the refusal
 
+-- Places far back, each named once: the place, and from where it is seen.
+abbrev start-from-else1 : tie.Else1 → tie.Start
+start-from-else1 c = c .before .before .before .before .before
+
 module _ (c : tie.Else1) where
   abbrev t : ℕ
-  t = c .before .before .before .before .before .args .t
+  t = start-from-else1 c .args .t
 
   abbrev n : ℕ
-  n = c .before .before .before .before .before .args .length
+  n = start-from-else1 c .args .length
 
   abbrev servers : List ℕ
-  servers = denote.Ref.now (c .before .before .before .before .before .args .servers)
+  servers = denote.Ref.now (start-from-else1 c .args .servers)
 
   abbrev fragments : List ℕ
-  fragments = denote.Ref.now (c .before .before .before .before .before .args .fragments)
+  fragments = denote.Ref.now (start-from-else1 c .args .fragments)
 
   abbrev out : List ℕ
-  out = denote.Ref.now (c .before .before .before .before .before .args .out)
+  out = denote.Ref.now (start-from-else1 c .args .out)
 
   none-applies : firstOf (argumentChecks t n servers (length fragments) (length out)) ≡ 0
   none-applies = sym (c .before .restore-refusal .ensures) ∙ c .if1 .left
@@ -130,10 +134,11 @@ rebuild-requires c κs =
 returns-3 : tie.Need-returns-3
 unfolding shelf restoredBytes
 returns-3 c =
-    let a = c .before .before .before .before .before .before in
+    let at-size = c .before .before .before .before in
+    let a = at-size .before .before in
     let p = past a in
     let s = 3 * t p + 1 in
-    let size = c .before .before .before .before .size in
+    let size = at-size .size in
     let full : k a ≤ chosen a .count = search needs in
     let enough : shelf (t p) .threshold ≤ length (firstDifferent (shelf (t p) .threshold) (servers p)) =
     subst (λ (x : ℕ). x ≤ length (firstDifferent x (servers p))) (k-is a) (omega (arith, counted-is a, full)) in

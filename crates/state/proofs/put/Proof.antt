@@ -9,19 +9,21 @@ use Rattle.state.proofs.Laws.{no-state, state-put}
 use Rattle.state.proofs.put.Statement.{statement}
 use Rattle.state.proofs.put.Tie as tie
 
+wide : (c : tie.Start) → length (c .args .call .tally .marks) ≡ mostServers
+wide c = search needs
+
 returns : tie.Need-returns
 returns c =
     let a = c .before .before .args in
-    let l : length (a .call .tally .marks) ≡ mostServers = search needs in
-    no-state (a .bytes .now) (a .call) l (omega arith)
+    no-state (a .bytes .now) (a .call) (wide (c .before .before)) (omega arith)
 
 returns-2 : tie.Need-returns-2
 returns-2 c =
-    let a = c .before .before .before .before .before .before .before .before .before .before .before .before .before .before .before .args in
-    let l : length (a .call .tally .marks) ≡ mostServers = search needs in
-    state-put (a .bytes .now) (a .call) l (omega arith)
-    (rw (sym (c .before .before .before .before .before .before .before .before .before .before .before .before .numbers-of .ensures))
-    (c .before .before .before .before .before .before .before .put .ensures)) (c .before .before .put2 .ensures)
+    let at-put = c .before .before .before .before .before .before .before in
+    let at-numbers-of = at-put .before .before .before .before .before in
+    let at-start = at-numbers-of .before .before .before in
+    let a = at-start .args in
+    state-put (a .bytes .now) (a .call) (wide at-start) (omega arith) (rw (sym (at-numbers-of .numbers-of .ensures)) (at-put .put .ensures)) (c .before .before .put2 .ensures)
 
 pub put-spec : {M : Type 1} → statement M
 put-spec = tie.close (tie.spec returns (λ c κs. search needs) (λ c. search needs) (λ c κs. search needs) (λ c. search needs) (λ c κs. search needs)

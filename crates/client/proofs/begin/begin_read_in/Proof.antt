@@ -19,25 +19,31 @@ returns c =
 
 returns-2 : tie.Need-returns-2
 returns-2 c =
-    let a = c .before .before .before .before .before .args in
-    let e = read-refused (a .t) (a .client) (a .call) (a .kept .now) (wide (c .before .before .before .before .before))
-    (c .before .before .before .if1 .left) _
+    let at-start = c .before .before .before .before .before in
+    let a = at-start .args in
+    let e = read-refused (a .t) (a .client) (a .call) (a .kept .now) (wide (at-start)) (c .before .before .before .if1 .left) _
     (c .before .before .read-refusal .ensures) (c .before .if2 .taken) in
     (rw (e, c .not-begun2 .ensures), rw e)
 
+-- Places far back, each named once: the place, and from where it is seen.
+abbrev start-from-else2 : tie.Else2 → tie.Start
+start-from-else2 c = c .before .before .before .before
+
 next-call-requires : tie.Need-next-call-requires
 next-call-requires c κs =
-    let a = c .before .before .before .before .before .before .before .before .args in
-    let z = sym (c .before .before .before .before .before .read-refusal .ensures) ∙ c .before .before .before .before .if2 .left in
+    let at-else2 = c .before .before .before .before in
+    let a = start-from-else2 at-else2 .args in
+    let z = sym (at-else2 .before .read-refusal .ensures) ∙ at-else2 .if2 .left in
     let f = read-fits (a .t) (a .client) (a .call) (a .kept .now) z in
     omega arith
 
 returns-3 : tie.Need-returns-3
 returns-3 c =
-    let a = c .before .before .before .before .before .before .before .before .before .args in
-    let z = sym (c .before .before .before .before .before .before .read-refusal .ensures) ∙ c .before .before .before .before .before .if2 .left in
-    let e = read-begins (a .t) (a .client) (a .call) (a .kept .now) (wide (c .before .before .before .before .before .before .before .before .before))
-    (c .before .before .before .before .before .before .before .if1 .left) z in
+    let at-else2 = c .before .before .before .before .before in
+    let at-start = start-from-else2 at-else2 in
+    let a = at-start .args in
+    let z = sym (at-else2 .before .read-refusal .ensures) ∙ at-else2 .if2 .left in
+    let e = read-begins (a .t) (a .client) (a .call) (a .kept .now) (wide (at-start)) (at-else2 .before .before .if1 .left) z in
     (rw (e, c .next-call .ensures), rw e (c .before .before .before .clear-slots .ensures))
 
 pub begin-read-in-spec : {M : Type 1} → statement M

@@ -13,14 +13,16 @@ use borrow.Author.Needs.{needs}
 use Rattle.client.proofs.begin.give_up_in.Statement.{statement}
 use Rattle.client.proofs.begin.give_up_in.Tie as tie
 
+wide : (c : tie.Start) → length (c .args .call .tally .marks) ≡ mostServers
+wide c = search needs
+
 returns : tie.Need-returns
 unfolding abortByRounds
 returns c =
     let a = c .before .before .before .args in
     let e = c .before .abort-refusal .ensures in
-    let w : length (a .call .tally .marks) ≡ mostServers = search needs in
     let n = abortRefusal (shelf (a .t)) (a .client) (awaited (a .call)) in
-    rw (same-abort (a .t) (a .client) (a .call) w, e, refused-is n _ _ (λ z. c .if1 .taken (e ∙ z)))
+    rw (same-abort (a .t) (a .client) (a .call) (wide (c .before .before .before)), e, refused-is n _ _ (λ z. c .if1 .taken (e ∙ z)))
 
 not-refused : (c : tie.Else1) → abortRefusal (shelf (c .before .before .before .args .t)) (c .before .before .before .args .client)
     (awaited (c .before .before .before .args .call)) ≡ 0
@@ -29,13 +31,12 @@ not-refused c = sym (c .before .abort-refusal .ensures) ∙ c .if1 .left
 returns-2 : tie.Need-returns-2
 unfolding abortByRounds
 returns-2 c =
-    let a = c .before .before .before .before .before .before .args in
-    let w : length (a .call .tally .marks) ≡ mostServers = search needs in
+    let at-start = c .before .before .before .before .before .before in
+    let a = at-start .args in
     rw (
-      same-abort (a .t) (a .client) (a .call) w,
+      same-abort (a .t) (a .client) (a .call) (wide at-start),
       not-refused (c .before .before .before),
-      eq-eqb (c .before .before .before .before .before .before .args .call .tally .round) 3
-          (c .if2 .taken),
+      eq-eqb (a .call .tally .round) 3 (c .if2 .taken),
       c .before .with-tally .ensures,
       c .before .before .fresh-tally .ensures,
     )
@@ -43,13 +44,12 @@ returns-2 c =
 returns-3 : tie.Need-returns-3
 unfolding abortByRounds
 returns-3 c =
-    let a = c .before .before .before .before .before .before .args in
-    let w : length (a .call .tally .marks) ≡ mostServers = search needs in
+    let at-start = c .before .before .before .before .before .before in
+    let a = at-start .args in
     rw (
-      same-abort (a .t) (a .client) (a .call) w,
+      same-abort (a .t) (a .client) (a .call) (wide at-start),
       not-refused (c .before .before .before),
-      ne-eqb (c .before .before .before .before .before .before .args .call .tally .round) 3
-          (c .if2 .left),
+      ne-eqb (a .call .tally .round) 3 (c .if2 .left),
       c .before .with-tally .ensures,
       c .before .before .fresh-tally .ensures,
     )

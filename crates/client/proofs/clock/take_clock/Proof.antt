@@ -32,9 +32,13 @@ higher-requires c κs =
           (λ k. c .before .shared-slice-known .given k .fits) (p .1 .0),
     ))
 
+-- Places far back, each named once: the place, and from where it is seen.
+abbrev start-from-higher : tie.After-higher → tie.Start
+start-from-higher c = c .before .before .before .before
+
 note-reply-requires : tie.Need-note-reply-requires
 note-reply-requires c κs =
-    let q = c .before .before .before .before .before .before in
+    let q = start-from-higher (c .before .before) in
     let a = q .args in (
       ready-faults (a .t) (a .client) (a .call) (a .reply .now) (a .head) (q .pre .0) .1,
       ready-server (a .t) (a .client) (a .call) (a .reply .now) (a .head) (q .pre .0),
@@ -42,23 +46,26 @@ note-reply-requires c κs =
 
 is-full-requires : tie.Need-is-full-requires
 is-full-requires c κs =
-    let q = c .before .before .before .before .before .before .before in
+    let q = start-from-higher (c .before .before .before) in
     let a = q .args in
     ready-faults (a .t) (a .client) (a .call) (a .reply .now) (a .head) (q .pre .0) .1
+
+abbrev higher-from-clock-refusal : tie.After-clock-refusal → tie.After-higher
+higher-from-clock-refusal c = c .before .before .before .before .before
 
 -- what is known once the refusals are tested: the highest number, and whether the reply ends the round
 module _ (c : tie.After-clock-refusal) where
   abbrev start : tie.Start
-  start = c .before .before .before .before .before .before .before .before .before
+  start = start-from-higher (higher-from-clock-refusal c)
 
   abbrev high : ℕ
-  high = c .before .before .before .before .before .higher .result
+  high = higher-from-clock-refusal c .higher .result
 
   high-is : high ≡ higher real (start .args .writers .now) (start .args .call .high) (stampAt (drop headSize (start .args .reply .now)))
   high-is =
-      c .before .before .before .before .before .higher .ensures
-      ∙ ap (λ (d : List ℕ). higher real (start .args .writers .now) (start .args .call .high) (stampAt d))
-      (c .before .before .before .before .before .before .rest .ensures)
+      let at-higher = higher-from-clock-refusal c in
+      at-higher .higher .ensures ∙ ap (λ (d : List ℕ). higher real (start .args .writers .now) (start .args .call .high) (stampAt d))
+      (at-higher .before .rest .ensures)
 
   ended : (v : Bool) → c .before .is-full .result ≡ v → ends (shelf (start .args .t)) (start .args .call) (start .args .head .server) ≡ v
   ended v e =

@@ -8,15 +8,16 @@ use Rattle.client.proofs.filter.found.Tie as tie
 returns : tie.Need-returns
 unfolding foundAt
 returns c =
-    let e = sym (c .before .before .before .before .before .before .before .same-tags .ensures) ∙
-    c .before .before .before .before .before .before .if1 .taken in
+    let at-label-in = c .before .before .before .before in
+    let e = sym (at-label-in .before .before .before .same-tags .ensures) ∙ at-label-in .before .before .if1 .taken in
     let d = c .before .before .deliver .ensures in
-    rw (e, d .0, d .1, c .before .before .before .before .label-in .ensures)
+    rw (e, d .0, d .1, at-label-in .label-in .ensures)
 
 returns-2 : tie.Need-returns-2
 unfolding foundAt
 returns-2 c =
-    let e = sym (c .before .before .before .before .before .same-tags .ensures) ∙ c .before .before .before .before .if1 .left in
+    let at-else1 = c .before .before .before .before in
+    let e = sym (at-else1 .before .same-tags .ensures) ∙ at-else1 .if1 .left in
     let d = c .before .before .repair-with .ensures in
     rw (e, d .0, d .1)
 

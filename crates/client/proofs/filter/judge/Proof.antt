@@ -15,54 +15,60 @@ use Rattle.client.proofs.Judged.{judged-refused, judged-wait, judged-bl
 use Rattle.client.proofs.filter.judge.Statement.{statement}
 use Rattle.client.proofs.filter.judge.Tie as tie
 
+-- Places far back, each named once: the place, and from where it is seen.
+abbrev slice-known-from-decide : tie.After-decide → tie.After-slice-known
+slice-known-from-decide c = c .before .before .before .before .before .before
+
 found-requires : tie.Need-found-requires
 found-requires c κs =
-    let a = c .before .before .before .before .before .before .before .before .before .before .before .before .before .before .before .args in
-    let p = c .before .before .before .before .before .before .before .before .before .before .before .before .before .before .before .pre in
-    let d = c .before .before .before .before .before .decision2 .given in
+    let at-decision2 = c .before .before .before .before .before in
+    let at-decide = at-decision2 .before .before .before in
+    let at-slice-known = slice-known-from-decide at-decide in
+    let a = at-slice-known .before .args in
+    let p = at-slice-known .before .pre in
+    let d = at-decision2 .decision2 .given in
     let F = shelf-fits (a .t) (p .0) (p .1 .0) .few in
     let l : length {A = ℕ} (replicate contentRoom 0) ≡ contentRoom = length-replicate {A = ℕ} contentRoom 0 in
     let e : decided (a .t) (a .call .tally .marks) (a .kept .now) (replicate contentRoom 0) .answer ≡ decisions.Found (d .0 .0) (d .0 .1 .0)
-    (d .0 .1 .1 .0) = sym (c .before .before .before .before .before .before .before .before .decide .ensures .0) ∙ d .1 in
+    (d .0 .1 .1 .0) = sym (at-decide .decide .ensures .0) ∙ d .1 in
     let r = found-range (a .t) (a .call .tally .marks) (a .kept .now) (record { low = p .0; high = p .1 .0; size = p .1 .1 .0 })
-    (λ k. c .before .before .before .before .before .before .before .before .before .before .before .before .before .before .slice-known .given
-    k .fits) (replicate contentRoom 0) (omega (arith, l)) (d .0 .0) (d .0 .1 .0) (d .0 .1 .1 .0) e in
-    let z : length (c .before .before .before .before .before .before .before .before .decide .last .1 .1 .1 .0) ≡ 1024 = search needs in
-    let q : length (c .before .before .part .result .now) ≤ length
-    (c .before .before .before .before .before .before .before .before .decide .last .1 .1 .1 .0) = rw (c .before .before .part .ensures)
-    (part-short (c .before .before .before .before .before .before .before .before .decide .last .1 .1 .1 .0) (d .0 .1 .1 .0)) in
+    (λ k. at-slice-known .slice-known .given k .fits) (replicate contentRoom 0) (omega (arith, l)) (d .0 .0) (d .0 .1 .0) (d .0 .1 .1 .0) e in
+    let z : length (at-decide .decide .last .1 .1 .1 .0) ≡ 1024 = search needs in
+    let q : length (c .before .before .part .result .now) ≤ length (at-decide .decide .last .1 .1 .1 .0) = rw (c .before .before .part .ensures)
+    (part-short (at-decide .decide .last .1 .1 .1 .0) (d .0 .1 .1 .0)) in
     (p .1 .0, (omega (arith, r .0), (r .1 .0, (omega (arith, r .1 .1), (p .1 .1 .0, (omega (arith, q, z), p .1 .1 .1))))))
 
 returns : tie.Need-returns
 returns c =
-    let a = c .before .before .before .before .before .before .before .before .before .before .before .before .args in
+    let at-decide = c .before .before .before .before .before in
+    let a = slice-known-from-decide at-decide .before .args in
     let d = c .before .before .decision .given in
-    rw (c .refused .ensures) (judged-refused (a .t) (a .call) (a .kept .now) (a .out .now) (d .0 .0)
-    (sym (c .before .before .before .before .before .decide .ensures .0) ∙ d .1))
+    rw (c .refused .ensures) (judged-refused (a .t) (a .call) (a .kept .now) (a .out .now) (d .0 .0) (sym (at-decide .decide .ensures .0) ∙ d .1))
 
 returns-2 : tie.Need-returns-2
 returns-2 c =
-    let a = c .before .before .before .before .before .before .before .before .before .before .before .args in
+    let at-decide = c .before .before .before .before in
+    let a = slice-known-from-decide at-decide .before .args in
     rw (c .more .ensures) (judged-wait (a .t) (a .call) (a .kept .now) (a .out .now)
-    (sym (c .before .before .before .before .decide .ensures .0) ∙ c .before .enum-told .given .1))
+    (sym (at-decide .decide .ensures .0) ∙ c .before .enum-told .given .1))
 
 returns-3 : tie.Need-returns-3
 returns-3 c =
-    let a = c .before .before .before .before .before .before .before .before .before .before .before .args in
+    let at-decide = c .before .before .before .before in
+    let a = slice-known-from-decide at-decide .before .args in
     rw (c .enter .ensures) (judged-blank (a .t) (a .call) (a .kept .now) (a .out .now)
-    (sym (c .before .before .before .before .decide .ensures .0) ∙ c .before .enum-told2 .given .1))
+    (sym (at-decide .decide .ensures .0) ∙ c .before .enum-told2 .given .1))
 
 returns-4 : tie.Need-returns-4
 returns-4 c =
-    let a = c .before .before .before .before .before .before .before .before .before .before .before .before .before .before .before .before .before
-    .before .before .before .args in
-    let d = c .before .before .before .before .before .before .before .before .before .before .decision2 .given in
-    c .before .before .before .before .found .ensures
-    ∙ judged-found (a .t) (a .call) (a .kept .now) (a .out .now) (d .0 .0) (d .0 .1 .0) (d .0 .1 .1 .0)
-    (c .before .before .before .before .before .before .before .part .result .now) (sym
-    (c .before .before .before .before .before .before .before .before .before .before .before .before .before .decide .ensures .0) ∙ d .1)
-    (c .before .before .before .before .before .before .before .part .ensures ∙ ap (λ (x : List ℕ). bytesAt x 0 (d .0 .1 .1 .0))
-    (c .before .before .before .before .before .before .before .before .before .before .before .before .before .decide .ensures .1))
+    let at-found = c .before .before .before .before in
+    let at-decision2 = at-found .before .before .before .before .before .before in
+    let at-decide = at-decision2 .before .before .before in
+    let a = slice-known-from-decide at-decide .before .args in
+    let d = at-decision2 .decision2 .given in
+    at-found .found .ensures ∙ judged-found (a .t) (a .call) (a .kept .now) (a .out .now) (d .0 .0) (d .0 .1 .0) (d .0 .1 .1 .0)
+    (at-found .before .before .before .part .result .now) (sym (at-decide .decide .ensures .0) ∙ d .1)
+    (at-found .before .before .before .part .ensures ∙ ap (λ (x : List ℕ). bytesAt x 0 (d .0 .1 .1 .0)) (at-decide .decide .ensures .1))
 
 pub judge-spec : {M : Type 1} → statement M
 judge-spec = tie.close (tie.spec (λ c. search needs) (λ c κs. search needs) (λ c. search needs) (λ c κs. search needs) (λ c. search needs)

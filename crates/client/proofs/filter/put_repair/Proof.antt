@@ -7,21 +7,30 @@ use Rattle.client.proofs.Repairs.{repair-put, name-fits, tags-fit}
 use Rattle.client.proofs.filter.put_repair.Statement.{statement}
 use Rattle.client.proofs.filter.put_repair.Tie as tie
 
+-- Places far back, each named once: the place, and from where it is seen.
+abbrev start-from-tags-at : tie.After-tags-at → tie.Start
+start-from-tags-at c = c .before .before .before .before
+
 write-at-requires : tie.Need-write-at-requires
 write-at-requires c κs =
-    let a = c .before .before .before .before .before .before .before .args in
-    let p = c .before .before .before .before .before .before .before .pre in
-    rw (c .before .before .before .before .part .ensures) (name-fits (a .t) (a .kept .now) (a .i) (a .b) (a .n) (p .0) (p .1 .1 .1 .1 .1 .0) (p .1 .0)
+    let at-tags-at = c .before .before .before in
+    let at-start = start-from-tags-at at-tags-at in
+    let a = at-start .args in
+    let p = at-start .pre in
+    rw (at-tags-at .before .part .ensures) (name-fits (a .t) (a .kept .now) (a .i) (a .b) (a .n) (p .0) (p .1 .1 .1 .1 .1 .0) (p .1 .0)
     (p .1 .1 .0) (p .1 .1 .1 .0) (p .1 .1 .1 .1 .0) (a .bytes .now) (p .1 .1 .1 .1 .1 .1))
 
 write-at-requires-2 : tie.Need-write-at-requires-2
 write-at-requires-2 c κs =
-    let a = c .before .before .before .before .before .before .before .before .before .before .before .args in
-    let p = c .before .before .before .before .before .before .before .before .before .before .before .pre in
+    let at-write-at = c .before .before .before in
+    let at-tags-at = at-write-at .before .before .before .before in
+    let at-start = start-from-tags-at at-tags-at in
+    let a = at-start .args in
+    let p = at-start .pre in
     rw (
-      c .before .before .before .before .before .part2 .ensures,
-      c .before .before .before .before .before .before .tags-size .ensures,
-      c .before .before .before .before .before .before .before .tags-at .ensures .0,
+      at-write-at .before .before .part2 .ensures,
+      at-write-at .before .before .before .tags-size .ensures,
+      at-tags-at .tags-at .ensures .0,
     )
     (omega (
       arith,
@@ -31,15 +40,18 @@ write-at-requires-2 c κs =
 
 returns : tie.Need-returns
 returns c =
-    let a = c .before .before .before .before .before .before .before .before .before .before .before .before .before .before .args in
-    let p = c .before .before .before .before .before .before .before .before .before .before .before .before .before .before .pre in
+    let at-write-at = c .before .before .before .before .before .before in
+    let at-tags-at = at-write-at .before .before .before .before in
+    let at-start = start-from-tags-at at-tags-at in
+    let a = at-start .args in
+    let p = at-start .pre in
     c .before .before .write-at2 .ensures
     ∙ rw (
-      c .before .before .before .before .before .before .write-at .ensures,
-      c .before .before .before .before .before .before .before .before .part2 .ensures,
-      c .before .before .before .before .before .before .before .before .before .tags-size .ensures,
-      c .before .before .before .before .before .before .before .before .before .before .tags-at .ensures .0,
-      c .before .before .before .before .before .before .before .before .before .before .before .part .ensures,
+      at-write-at .write-at .ensures,
+      at-write-at .before .before .part2 .ensures,
+      at-write-at .before .before .before .tags-size .ensures,
+      at-tags-at .tags-at .ensures .0,
+      at-tags-at .before .part .ensures,
     )
     (repair-put (a .t) (a .kept .now) (a .i) (a .b) (a .n) (p .0) (p .1 .1 .1 .1 .1 .0) (p .1 .0) (p .1 .1 .0) (p .1 .1 .1 .0) (p .1 .1 .1 .1 .0)
     (a .bytes .now) (p .1 .1 .1 .1 .1 .1))

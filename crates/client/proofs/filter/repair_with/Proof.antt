@@ -15,42 +15,45 @@ use Rattle.client.proofs.Repairs.{repair-cut}
 use Rattle.client.proofs.filter.repair_with.Statement.{statement}
 use Rattle.client.proofs.filter.repair_with.Tie as tie
 
+-- Places far back, each named once: the place, and from where it is seen.
+abbrev start-from-write-at : tie.After-write-at → tie.Start
+start-from-write-at c = c .before .before .before .before .before .before .before .before
+
 write-at-requires-2 : tie.Need-write-at-requires-2
 unfolding shelf
 write-at-requires-2 c κs =
+    let at-write-at = c .before .before .before .before .before .before in
+    let at-start = start-from-write-at at-write-at in
     let n = c .before .before .before .candidate-size .result in
-    let z : n ≡ 69 + 32 *
-    (3 * c .before .before .before .before .before .before .before .before .before .before .before .before .before .before .args .t + 1) =
+    let z : n ≡ 69 + 32 * (3 * at-start .args .t + 1) =
     c .before .before .before .candidate-size .ensures in
-    let q : length (c .part .result .now) ≤ n = rw (c .part .ensures)
-    (part-most (c .before .before .before .before .before .before .before .before .before .put-repair .last .0) 0 n) in
+    let q : length (c .part .result .now) ≤ n = rw (c .part .ensures) (part-most (at-write-at .before .before .before .put-repair .last .0) 0 n) in
     omega (
       arith,
-      c .before .before .before .before .before .before .before .before .before .before .before .before .before .before .pre .0,
-      c .before .before .before .before .before .before .before .before .before .before .before .before .before .before .pre .1 .1 .1 .1 .0,
+      at-start .pre .0,
+      at-start .pre .1 .1 .1 .1 .0,
     )
 
 returns : tie.Need-returns
 returns c =
-    let a = c .before .before .before .before .before .before .before .before .before .before .before .before .before .before .before .before .before
-    .before .args in
-    let p = c .before .before .before .before .before .before .before .before .before .before .before .before .before .before .before .before .before
-    .before .pre in
+    let at-part = c .before .before .before .before in
+    let at-write-at = at-part .before .before .before .before .before .before in
+    let at-start = start-from-write-at at-write-at in
+    let a = at-start .args in
+    let p = at-start .pre in
     let R : List ℕ = repairBytes (a .t) (a .kept .now) (a .i) (a .b) (length (a .content .now)) in
-    let e : c .before .before .before .before .before .before .before .before .before .before .before .before .before .put-repair .last .0 ≡ put
-    (replicate candidateSlot 0) 0 R =
-    c .before .before .before .before .before .before .before .before .before .before .before .before .before .put-repair .ensures in
+    let e : at-write-at .before .before .before .put-repair .last .0 ≡ put (replicate candidateSlot 0) 0 R =
+    at-write-at .before .before .before .put-repair .ensures in
     let l : length {A = ℕ} (replicate candidateSlot 0) ≡ candidateSlot = length-replicate {A = ℕ} candidateSlot 0 in
-    let k : bytesAt (c .before .before .before .before .before .before .before .before .before .before .before .before .before .put-repair .last .0) 0
-    (candidateSize (shelf (a .t))) ≡ R =
+    let k : bytesAt (at-write-at .before .before .before .put-repair .last .0) 0 (candidateSize (shelf (a .t))) ≡ R =
     ap (λ (x : List ℕ). bytesAt x 0 (candidateSize (shelf (a .t)))) e
     ∙ repair-cut (a .t) (a .kept .now) (a .i) (a .b) (length (a .content .now)) (p .0) (p .1 .1 .1 .1 .0) (p .1 .0) (p .1 .1 .0) (p .1 .1 .1 .0)
     (p .1 .1 .1 .1 .1) (replicate candidateSlot 0) (omega (arith, l)) in (
       c .repairing .ensures,
       c .before .before .before .write-at2 .ensures ∙ rw (
-        c .before .before .before .before .part .ensures,
-        c .before .before .before .before .before .before .before .candidate-size .ensures,
-        c .before .before .before .before .before .before .before .before .before .before .write-at .ensures,
+        at-part .part .ensures,
+        at-part .before .before .before .candidate-size .ensures,
+        at-write-at .write-at .ensures,
         k,
       ),
     )

@@ -20,28 +20,36 @@ use Rattle.client.proofs.filter.take_filter.Tie as tie
 
 put-reply-requires : tie.Need-put-reply-requires
 put-reply-requires c κs =
-    let a = c .before .before .before .before .before .before .args in
-    let p = c .before .before .before .before .before .before .pre in
-    let Y : Bytes (a .reply .now) = λ k. c .before .before .before .before .shared-slice-known .given k .fits in
+    let at-shared-slice-known = c .before .before .before .before in
+    let a = at-shared-slice-known .before .before .args in
+    let p = at-shared-slice-known .before .before .pre in
+    let Y : Bytes (a .reply .now) = λ k. at-shared-slice-known .shared-slice-known .given k .fits in
     let v = ready-server (a .t) (a .client) (a .call) (a .reply .now) (a .head) (p .0) in
     (v .0, (v .1, (p .1 .1 .0, rw (c .rest .ensures) (body-fits (a .t) (a .client) (a .call) (a .reply .now) (a .head) (p .0) (p .1 .0) Y))))
 
+-- Places far back, each named once: the place, and from where it is seen.
+abbrev shared-slice-known-from-put-reply : tie.After-put-reply → tie.After-shared-slice-known
+shared-slice-known-from-put-reply c = c .before .before .before .before .before
+
 note-reply-requires : tie.Need-note-reply-requires
 note-reply-requires c κs =
-    let q = c .before .before .before .before .before .before .before .before .before in
+    let q = shared-slice-known-from-put-reply (c .before .before) .before .before in
     let a = q .args in
     let y = q .pre .0 in
     (ready-faults (a .t) (a .client) (a .call) (a .reply .now) (a .head) y .1, ready-server (a .t) (a .client) (a .call) (a .reply .now) (a .head) y)
 
 is-full-requires : tie.Need-is-full-requires
 is-full-requires c κs =
-    let q = c .before .before .before .before .before .before .before .before .before .before in
+    let q = shared-slice-known-from-put-reply (c .before .before .before) .before .before in
     let a = q .args in
     ready-faults (a .t) (a .client) (a .call) (a .reply .now) (a .head) (q .pre .0) .1
 
+abbrev put-reply-from-is-full : tie.After-is-full → tie.After-put-reply
+put-reply-from-is-full c = c .before .before .before .before
+
 module _ (c : tie.After-is-full) where
   abbrev start : tie.Start
-  start = c .before .before .before .before .before .before .before .before .before .before .before
+  start = shared-slice-known-from-put-reply (put-reply-from-is-full c) .before .before
 
   -- the test of the code tells whether the reply ends the round
   ended : (v : Bool) → c .is-full .result ≡ v → ends (shelf (start .args .t)) (start .args .call) (start .args .head .server) ≡ v
@@ -51,51 +59,51 @@ module _ (c : tie.After-is-full) where
 
 judge-requires : tie.Need-judge-requires
 judge-requires c κs =
-    let a = c .before .before .before .before .before .before .before .before .before .before .before .before .before .before .args in
-    let p = c .before .before .before .before .before .before .before .before .before .before .before .before .before .before .pre in
+    let at-is-full = c .before .before .before in
+    let at-put-reply = put-reply-from-is-full at-is-full in
+    let at-shared-slice-known = shared-slice-known-from-put-reply at-put-reply in
+    let a = at-shared-slice-known .before .before .args in
+    let p = at-shared-slice-known .before .before .pre in
     let r = ready-faults (a .t) (a .client) (a .call) (a .reply .now) (a .head) (p .0) in
     (r .0, (r .1, (omega (arith, p .1 .1 .0), p .1 .1 .1)))
 
 returns : tie.Need-returns
 returns c =
-    let a = c .before .before .before .before .before .before .before .before .before .before .before .before .before .before .before .before .before
-    .before .before .args in
-    let p = c .before .before .before .before .before .before .before .before .before .before .before .before .before .before .before .before .before
-    .before .before .pre in
-    let Y : Bytes (a .reply .now) = λ k.
-    c .before .before .before .before .before .before .before .before .before .before .before .before .before .before .before .before .before
-    .shared-slice-known .given k .fits in
-    let e = ended (c .before .before .before .before .before .before .before .before) _
-    (c .before .before .before .before .before .before .before .if1 .taken) in
+    let at-judge = c .before .before .before .before in
+    let at-is-full = at-judge .before .before .before .before in
+    let at-put-reply = at-is-full .before .before .before .before in
+    let at-shared-slice-known = shared-slice-known-from-put-reply at-put-reply in
+    let a = at-shared-slice-known .before .before .args in
+    let p = at-shared-slice-known .before .before .pre in
+    let Y : Bytes (a .reply .now) = λ k. at-shared-slice-known .shared-slice-known .given k .fits in
+    let e = ended (at-is-full) _ (at-judge .before .before .before .if1 .taken) in
     let at : ℕ = repliesPlace + replySlot * (a .head .server - 1) in
-    let N : Bytes (c .before .before .before .before .before .before .before .before .before .before .before .before .put-reply .last .0) = λ k.
-    c .before .before .before .before .before .before .before .before .before .before .slice-known3 .given k .fits in
-    let K : Bytes (put (a .kept .now) at (drop headSize (a .reply .now))) = subst Bytes
-    (c .before .before .before .before .before .before .before .before .before .before .before .before .put-reply .ensures ∙ ap
-    (put (a .kept .now) at)
-    (c .before .before .before .before .before .before .before .before .before .before .before .before .before .rest .ensures)) N in
-    λ writers keys.
-    c .before .before .before .before .judge .ensures ∙ rw (
-      c .before .before .before .before .before .before .before .before .before .note-reply .ensures,
-      c .before .before .before .before .before .before .before .before .before .before .before .before .put-reply .ensures,
-      c .before .before .before .before .before .before .before .before .before .before .before .before .before .rest .ensures,
+    let N : Bytes (at-put-reply .put-reply .last .0) = λ k. at-is-full .before .before .slice-known3 .given k .fits in
+    let K : Bytes (put (a .kept .now) at (drop headSize (a .reply .now))) = subst Bytes (at-put-reply .put-reply .ensures ∙ ap
+    (put (a .kept .now) at) (at-put-reply .before .rest .ensures)) N in
+    λ writers keys. at-judge .judge .ensures ∙ rw (
+      at-is-full .before .note-reply .ensures,
+      at-put-reply .put-reply .ensures,
+      at-put-reply .before .rest .ensures,
     )
     (filter-ends (a .t) (a .client) (a .call) (a .reply .now) (a .head) (p .0) (p .1 .0) Y writers keys (a .kept .now) (a .out .now) (p .1 .1 .1)
     (p .1 .1 .0) K e)
 
 returns-2 : tie.Need-returns-2
 returns-2 c =
-    let a = c .before .before .before .before .before .before .before .before .before .before .before .before .before .args in
-    let p = c .before .before .before .before .before .before .before .before .before .before .before .before .before .pre in
-    let Y : Bytes (a .reply .now) = λ k.
-    c .before .before .before .before .before .before .before .before .before .before .before .shared-slice-known .given k .fits in
+    let at-is-full = c .before .before in
+    let at-put-reply = at-is-full .before .before .before .before in
+    let at-shared-slice-known = shared-slice-known-from-put-reply at-put-reply in
+    let a = at-shared-slice-known .before .before .args in
+    let p = at-shared-slice-known .before .before .pre in
+    let Y : Bytes (a .reply .now) = λ k. at-shared-slice-known .shared-slice-known .given k .fits in
     let e = ended (c .before .before) _ (c .before .if1 .left) in
     λ writers keys.
     rw (
       c .more .ensures,
       c .before .before .before .note-reply .ensures,
-      c .before .before .before .before .before .before .put-reply .ensures,
-      c .before .before .before .before .before .before .before .rest .ensures,
+      at-put-reply .put-reply .ensures,
+      at-put-reply .before .rest .ensures,
     )
     (filter-more (a .t) (a .client) (a .call) (a .reply .now) (a .head) (p .0) (p .1 .0) Y writers keys (a .kept .now) (a .out .now) (p .1 .1 .1) e)
 

@@ -28,20 +28,20 @@ returns c =
 returns-2 : tie.Need-returns-2
 unfolding shelf
 returns-2 c =
-    let a = c .before .before .before .before .before .before .before .before .before .before .before .args in
-    let p = c .before .before .before .before .before .before .before .before .before .before .before .pre in
-    let K : Bytes (a .kept .now) = λ k. c .before .before .before .before .before .before .before .before .before .shared-slice-known .given
-    k .fits in
-    let e : listedIn (a .t) (a .kept .now) (a .i) ≡ true = sym (c .before .before .before .before .before .before .before .before .listed .ensures) ∙
-    not-false (c .before .before .before .before .before .before .before .before .listed .result)
-    (c .before .before .before .before .before .before .before .if1 .left) in
+    let at-candidate-size = c .before .before .before .before .before in
+    let at-shared-slice-known = at-candidate-size .before .before .before .before in
+    let a = at-shared-slice-known .before .before .args in
+    let p = at-shared-slice-known .before .before .pre in
+    let K : Bytes (a .kept .now) = λ k. at-shared-slice-known .shared-slice-known .given k .fits in
+    let e : listedIn (a .t) (a .kept .now) (a .i) ≡ true = sym (at-candidate-size .before .before .before .listed .ensures) ∙
+    not-false (at-candidate-size .before .before .before .listed .result) (at-candidate-size .before .before .if1 .left) in
     let D : List ℕ = bytesAt (a .kept .now) (candidatesPlace + candidateSlot * a .i) candidateSlot in
     let x : List ℕ = bytesAt D 0 (candidateSize (shelf (a .t))) in
     let l : length x ≤ candidateSlot = omega (arith, part-most D 0 (candidateSize (shelf (a .t))), p .0) in
     let q = rw (
       c .before .before .before .part2 .ensures,
-      c .before .before .before .before .before .before .part .ensures,
-      c .before .before .before .before .before .candidate-size .ensures,
+      at-candidate-size .before .part .ensures,
+      at-candidate-size .candidate-size .ensures,
     ) at (c .before .before .put .ensures) in
     rw (e, slot-back (shelf (a .t)) (a .kept .now) (a .i) (p .1 .0) (p .1 .1 .0) K) (placed-wrote {b = x} q (omega (arith, p .1 .1 .1)))
 

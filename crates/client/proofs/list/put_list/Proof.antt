@@ -28,15 +28,20 @@ loop-holds : tie.Need-loop-holds Inv-loop μ-loop
 unfolding gather
 loop-holds c = let a = c .before .before .before .args in (omega arith, wrote-none (a .out .now) (a .at))
 
+-- Places far back, each named once: the place, and from where it is seen.
+abbrev start-from-at-loop : tie.At-loop Inv-loop μ-loop → tie.Start Inv-loop μ-loop
+start-from-at-loop c = c .before .before .before .before
+
 -- the list so far has room, and the buffer keeps its length
 room : (c : tie.At-loop Inv-loop μ-loop)
-    → let a = c .before .before .before .before .args in
+    → let a = start-from-at-loop c .args in
     let i = c .loop .i in
     (i ≤ mostServers) × (length (printMany (candidateF (shelf (a .t))) (gather (candidatesIn (shelf (a .t)) (a .kept .now)) i)) ≤ candidateSlot * i) ×
     (length (c .loop .out) ≡ length (a .out .now))
 room c =
-    let a = c .before .before .before .before .args in
-    let p = c .before .before .before .before .pre in
+    let at-start = start-from-at-loop c in
+    let a = at-start .args in
+    let p = at-start .pre in
     let i = c .loop .i in
     let v = c .loop .inv in
     let w : i ≤ mostServers = omega (arith, v .0, c .before .servers .ensures, servers-few (a .t) (p .1 .0)) in
@@ -45,8 +50,10 @@ room c =
 
 put-entry-requires : tie.Need-put-entry-requires Inv-loop μ-loop
 put-entry-requires c κs =
-    let a = c .before .before .before .before .before .before .args in
-    let p = c .before .before .before .before .before .before .pre in
+    let at-at-loop = c .before .before in
+    let at-start = start-from-at-loop at-at-loop in
+    let a = at-start .args in
+    let p = at-start .pre in
     let v = c .before .before .loop .inv in
     let r = room (c .before .before) in (
       p .1 .0,
@@ -58,18 +65,20 @@ put-entry-requires c κs =
 
 loop-again : tie.Need-loop-again Inv-loop μ-loop
 loop-again c =
-    let a = c .before .before .before .before .before .before .before .before .before .args in
-    let p = c .before .before .before .before .before .before .before .before .before .pre in
-    let i = c .before .before .before .before .before .loop .i in
-    let v = c .before .before .before .before .before .loop .inv in (
+    let at-at-loop = c .before .before .before .before .before in
+    let at-start = start-from-at-loop at-at-loop in
+    let a = at-start .args in
+    let p = at-start .pre in
+    let i = at-at-loop .loop .i in
+    let v = at-at-loop .loop .inv in (
       omega arith,
       list-entry (a .t) (a .kept .now) (p .0) (p .1 .0) (p .1 .1 .0) i (omega
-          (arith, c .before .before .before .before .before .before .servers .ensures)) (p .1 .1 .1) (v .1) (c .before .before .put-entry .ensures),
+          (arith, at-at-loop .before .servers .ensures)) (p .1 .1 .1) (v .1) (c .before .before .put-entry .ensures),
     )
 
 returns : tie.Need-returns Inv-loop μ-loop
 returns c =
-    let a = c .before .before .before .before .before .args in
+    let a = start-from-at-loop (c .before) .args in
     let q : c .before .loop .i ≡ shelf (a .t) .servers = omega (arith, c .before .before .servers .ensures) in
     rw q at (c .before .loop .inv .1)
 

@@ -23,19 +23,20 @@ cast-candidate-size c = omega (arith, c .before .before .before .pre .0)
 returns : tie.Need-returns
 unfolding chosenOf shelf
 returns c =
-    let a = c .before .before .before .before .before .before .before .before .before .before .args in
-    let p = c .before .before .before .before .before .before .before .before .before .before .pre in
+    let at-part2 = c .before .before .before .before .before in
+    let at-shared-slice-known = at-part2 .before .before .before .before in
+    let a = at-shared-slice-known .before .args in
+    let p = at-shared-slice-known .before .pre in
     let D : List ℕ = bytesAt (a .kept .now) chosenPlace candidateSlot in
-    let y = bytes-part (a .kept .now) chosenPlace candidateSlot
-    (λ k. c .before .before .before .before .before .before .before .before .before .shared-slice-known .given k .fits) in
+    let y = bytes-part (a .kept .now) chosenPlace candidateSlot (λ k. at-shared-slice-known .shared-slice-known .given k .fits) in
     let l : length D ≡ candidateSlot = part-length (a .kept .now) chosenPlace candidateSlot (omega (arith, p .1 .0)) in
     let e : bytesAt D 0 (candidateSize (shelf (a .t))) ≡ candidateF (shelf (a .t)) .print (candidateAt (shelf (a .t)) D) = sym
     (candidate-back (shelf (a .t)) D y (omega (arith, l))) in
     let m = part-most D 0 (candidateSize (shelf (a .t))) in
     c .before .before .make-packet .ensures ∙ rw (
-      c .before .before .before .before .before .part2 .ensures,
-      c .before .before .before .before .before .before .before .part .ensures,
-      c .before .before .before .before .before .before .candidate-size .ensures,
+      at-part2 .part2 .ensures,
+      at-part2 .before .before .part .ensures,
+      at-part2 .before .candidate-size .ensures,
     ) (packet-fits (a .head) (bytesAt D 0 (candidateSize (shelf (a .t)))) []
     (a .out .now) (p .1 .1) (omega (arith, m, p .0))
     ∙ ap (λ (x : List ℕ). wholePacket (headF .print (a .head) ++ (x ++ [])) (a .out .now)) e)

@@ -9,9 +9,9 @@ use Rattle.client.proofs.packets.make_empty.Tie as tie
 
 returns : tie.Need-returns
 returns c =
-    let a = c .before .before .before .before .before .before .before .args in
-    c .before .before .make-packet .ensures ∙ packet-fits (a .head) [] [] (a .out .now)
-    (c .before .before .before .before .before .before .before .pre) (omega arith)
+    let at-start = c .before .before .before .before .before .before .before in
+    let a = at-start .args in
+    c .before .before .make-packet .ensures ∙ packet-fits (a .head) [] [] (a .out .now) (at-start .pre) (omega arith)
 
 pub make-empty-spec : {M : Type 1} → statement M
 make-empty-spec = tie.close (tie.spec (λ c. search needs) (λ c. search needs) (λ c κs. search needs) (λ c. search needs) returns)

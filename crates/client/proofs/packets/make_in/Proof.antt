@@ -17,9 +17,13 @@ returns-2 c =
     (sym (make-refused (a .t) (a .client) (a .server) (a .call) (a .kept .now) (a .out .now) (c .before .before .before .if1 .left)
     (c .before .before .make-refusal .result) (c .before .before .make-refusal .ensures) (c .before .if2 .taken)))
 
+-- Places far back, each named once: the place, and from where it is seen.
+abbrev start-from-else2 : tie.Else2 → tie.Start
+start-from-else2 c = c .before .before .before .before .before
+
 make-round-requires : tie.Need-make-round-requires
 make-round-requires c κs =
-    let a = c .before .before .before .before .before .before .args in
+    let a = start-from-else2 (c .before) .args in
     let f = make-fits (a .t) (a .client) (a .server) (a .call) (a .kept .now) (a .out .now)
     (sym (c .before .before .make-refusal .ensures) ∙ c .before .if2 .left) in (
       f .0,
@@ -43,10 +47,10 @@ make-round-requires c κs =
 
 returns-3 : tie.Need-returns-3
 returns-3 c =
-    let a = c .before .before .before .before .before .before .before .before .before .args in
+    let at-else2 = c .before .before .before .before in
+    let a = start-from-else2 at-else2 .args in
     c .before .before .make-round .ensures ∙ sym (make-goes (a .t) (a .client) (a .server) (a .call) (a .kept .now) (a .out .now)
-    (c .before .before .before .before .before .before .if1 .left) (sym (c .before .before .before .before .before .make-refusal .ensures) ∙
-    c .before .before .before .before .if2 .left))
+    (at-else2 .before .before .if1 .left) (sym (at-else2 .before .make-refusal .ensures) ∙ at-else2 .if2 .left))
 
 pub make-in-spec : {M : Type 1} → statement M
 make-in-spec = tie.close (tie.spec (λ c κs. search needs) returns (λ c κs. search needs) (λ c κs. search needs) returns-2 make-round-requires

@@ -14,18 +14,20 @@ use Rattle.client.proofs.packets.make_round.Tie as tie
 head-of-requires : tie.Need-head-of-requires
 unfolding shelf
 head-of-requires c κs =
-    let a = c .before .before .before .before .args in
-    let p = c .before .before .before .before .pre in
+    let at-start = c .before .before .before .before in
+    let a = at-start .args in
+    let p = at-start .pre in
     let s : a .server ≤ mostServers = omega (arith, p .1 .0, p .1 .1 .1 .1 .0) in (p .1 .0, (p .1 .1 .0, s))
 
 returns : tie.Need-returns
 returns c =
-    let a = c .before .before .before .before .before .before .before .before .before .args in
-    let p = c .before .before .before .before .before .before .before .before .before .pre in
-    let q = round-bytes (a .t) (a .client) (a .server) (a .call) (a .kept .now) 5 (c .before .before .before .before .before .if1 .taken) ∙
+    let at-head-of = c .before .before .before .before in
+    let at-start = at-head-of .before .before .before .before .before in
+    let a = at-start .args in
+    let p = at-start .pre in
+    let q = round-bytes (a .t) (a .client) (a .server) (a .call) (a .kept .now) 5 (at-head-of .before .if1 .taken) ∙
     filter-bytes (a .t) (a .client) (a .server) (a .call) (a .kept .now) in
-    (rw (c .before .before .before .before .head-of .ensures) at (c .before .before .make-filter .ensures)) ∙ ap
-    (λ (x : List ℕ). wholePacket x (a .out .now)) (sym q)
+    (rw (at-head-of .head-of .ensures) at (c .before .before .make-filter .ensures)) ∙ ap (λ (x : List ℕ). wholePacket x (a .out .now)) (sym q)
 
 make-plain-requires : tie.Need-make-plain-requires
 make-plain-requires c κs =

@@ -28,16 +28,22 @@ mul-part c = omega (arith, c .before .before .before .pre .1 .0, c .before .befo
 add-part : tie.Need-add-part
 add-part c = omega (arith, c .before .before .before .pre .1 .0, c .before .before .before .pre .1 .1 .0)
 
+-- Places far back, each named once: the place, and from where it is seen.
+abbrev start-from-part2 : tie.After-part2 → tie.Start
+start-from-part2 c = c .before .before .before .before
+
 share-size-requires : tie.Need-share-size-requires
-share-size-requires c κs = c .before .before .before .before .before .pre .0
+share-size-requires c κs = start-from-part2 (c .before) .pre .0
 
 returns : tie.Need-returns
 unfolding chosenOf replySlotOf lengthAt candidateAt stampAt
 returns c =
-    let a = c .before .before .before .before .before .before .before .before .before .before .before .before .args in
-    let p = c .before .before .before .before .before .before .before .before .before .before .before .before .pre in
-    let K : Bytes (a .kept .now) = λ k.
-    c .before .before .before .before .before .before .before .before .before .before .before .shared-slice-known .given k .fits in
+    let at-part4 = c .before .before .before .before in
+    let at-part2 = at-part4 .before .before .before .before in
+    let at-start = start-from-part2 at-part2 in
+    let a = at-start .args in
+    let p = at-start .pre in
+    let K : Bytes (a .kept .now) = λ k. at-part2 .before .before .before .shared-slice-known .given k .fits in
     let i : ℕ = a .server - 1 in
     let D : List ℕ = bytesAt (a .kept .now) chosenPlace candidateSlot in
     let E : List ℕ = bytesAt (a .kept .now) (repliesPlace + replySlot * i) replySlot in
@@ -49,12 +55,12 @@ returns c =
     let m = part-most D 0 stampSize in
     let n = part-short E (shareSize (shelf (a .t)) (lengthAt E)) in
     c .before .before .make-packet .ensures ∙ rw (
-      c .before .before .before .before .before .part3 .ensures,
-      c .before .before .before .before .part4 .ensures,
-      c .before .before .before .before .before .before .share-size .ensures,
-      c .before .before .before .before .before .before .before .number2 .ensures,
-      c .before .before .before .before .before .before .before .before .part2 .ensures,
-      c .before .before .before .before .before .before .before .before .before .part .ensures,
+      at-part4 .before .part3 .ensures,
+      at-part4 .part4 .ensures,
+      at-part4 .before .before .share-size .ensures,
+      at-part4 .before .before .before .number2 .ensures,
+      at-part2 .part2 .ensures,
+      at-part2 .before .part .ensures,
     )
     (packet-fits (a .head) (bytesAt D 0 stampSize) (bytesAt E 0 (shareSize (shelf (a .t)) (lengthAt E))) (a .out .now) (p .1 .1 .1 .1)
     (omega (arith, m, n, le))

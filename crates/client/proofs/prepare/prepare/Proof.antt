@@ -7,11 +7,13 @@ use Rattle.client.proofs.prepare.prepare.Tie as tie
 
 returns : tie.Need-returns
 returns c =
-    let a = c .before .before .before .before .before .before .before .before .before .args in
-    let p = c .before .before .before .before .before .before .before .before .before .pre in
+    let at-stamp-bytes = c .before .before .before .before .before in
+    let at-start = at-stamp-bytes .before .before .before .before in
+    let a = at-start .args in
+    let p = at-start .pre in
     c .before .before .put-tagged .ensures ∙ rw (
-      c .before .before .before .before .before .stamp-bytes .ensures,
-      c .before .before .before .before .before .before .nonce .ensures,
+      at-stamp-bytes .stamp-bytes .ensures,
+      at-stamp-bytes .before .nonce .ensures,
     ) (offered-made (a .t) (a .client) (a .writers .now) (a .keys .now) (a .call)
     (a .kept .now) (a .number))
 

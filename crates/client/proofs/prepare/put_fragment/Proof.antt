@@ -20,87 +20,103 @@ add-fragment : tie.Need-add-fragment
 unfolding shelf
 add-fragment c = omega (arith, c .before .before .before .pre .1 .0, c .before .before .before .pre .1 .1 .0)
 
+-- Places far back, each named once: the place, and from where it is seen.
+abbrev start-from-fragment : tie.After-fragment → tie.Start
+start-from-fragment c = c .before .before .before .before
+
+abbrev fragment-from-digest : tie.After-digest → tie.After-fragment
+fragment-from-digest c = c .before .before .before .before
+
 mul-write-at : tie.Need-mul-write-at
 mul-write-at c =
-    let a = c .before .before .before .before .before .before .before .before .before .args in
-    let p = c .before .before .before .before .before .before .before .before .before .pre in
+    let at-digest = c .before in
+    let at-fragment = fragment-from-digest at-digest in
+    let at-start = start-from-fragment at-fragment in
+    let a = at-start .args in
+    let p = at-start .pre in
     let cut = fragment-cut (a .t) (a .i) (a .content .now) (p .0) (p .1 .0) (p .1 .1 .0) (p .1 .1 .1 .0) in
     let size : ℕ = fragmentSize (shelf (a .t) .threshold) (length (a .content .now)) in
-    let e : c .before .before .before .before .before .fragment .result ≡ fragmentStep (a .t) (suc (a .i)) (a .content .now) =
-    c .before .before .before .before .before .fragment .ensures ∙ ap (λ (k : ℕ). fragmentStep (a .t) k (a .content .now)) (add-one (a .i)) in
-    let n : c .before .before .before .before .before .fragment .result .count ≡ size = ap (λ (x : FragmentOutcome). x .count) e ∙ cut .0 in
-    let q : bytesAt (c .before .before .before .before .before .fragment .result .bytes) 0
-    (c .before .before .before .before .before .fragment .result .count) ≡ fragment (shelf (a .t) .points) (shelf (a .t) .threshold) (a .content .now)
+    let e : at-fragment .fragment .result ≡ fragmentStep (a .t) (suc (a .i)) (a .content .now) =
+    at-fragment .fragment .ensures ∙ ap (λ (k : ℕ). fragmentStep (a .t) k (a .content .now)) (add-one (a .i)) in
+    let n : at-fragment .fragment .result .count ≡ size = ap (λ (x : FragmentOutcome). x .count) e ∙ cut .0 in
+    let q : bytesAt (at-fragment .fragment .result .bytes) 0
+    (at-fragment .fragment .result .count) ≡ fragment (shelf (a .t) .points) (shelf (a .t) .threshold) (a .content .now)
     (suc (a .i)) = ap (λ (x : FragmentOutcome). bytesAt (x .bytes) 0 (x .count)) e ∙ cut .1 in
-    let m : c .before .before .before .before .before .fragment .result .count * a .i ≡ size * a .i = ap (λ (k : ℕ). k * a .i) n in
+    let m : at-fragment .fragment .result .count * a .i ≡ size * a .i = ap (λ (k : ℕ). k * a .i) n in
     let l = piece-length (a .t) (a .i) (a .content .now) (p .0) (p .1 .0) (p .1 .1 .0) (p .1 .1 .1 .0) in
     omega (arith, m, p .1 .1 .1 .1 .0)
 
 write-at-requires : tie.Need-write-at-requires
 write-at-requires c κs =
-    let a = c .before .before .before .before .before .before .before .before .before .before .before .args in
-    let p = c .before .before .before .before .before .before .before .before .before .before .before .pre in
+    let at-digest = c .before .before .before in
+    let at-fragment = fragment-from-digest at-digest in
+    let at-start = start-from-fragment at-fragment in
+    let a = at-start .args in
+    let p = at-start .pre in
     let cut = fragment-cut (a .t) (a .i) (a .content .now) (p .0) (p .1 .0) (p .1 .1 .0) (p .1 .1 .1 .0) in
     let size : ℕ = fragmentSize (shelf (a .t) .threshold) (length (a .content .now)) in
-    let e : c .before .before .before .before .before .before .before .fragment .result ≡ fragmentStep (a .t) (suc (a .i)) (a .content .now) =
-    c .before .before .before .before .before .before .before .fragment .ensures ∙ ap (λ (k : ℕ). fragmentStep (a .t) k (a .content .now))
-    (add-one (a .i)) in
-    let n : c .before .before .before .before .before .before .before .fragment .result .count ≡ size = ap (λ (x : FragmentOutcome). x .count) e ∙
-    cut .0 in
-    let q : bytesAt (c .before .before .before .before .before .before .before .fragment .result .bytes) 0
-    (c .before .before .before .before .before .before .before .fragment .result .count) ≡ fragment (shelf (a .t) .points) (shelf (a .t) .threshold)
+    let e : at-fragment .fragment .result ≡ fragmentStep (a .t) (suc (a .i)) (a .content .now) =
+    at-fragment .fragment .ensures ∙ ap (λ (k : ℕ). fragmentStep (a .t) k (a .content .now)) (add-one (a .i)) in
+    let n : at-fragment .fragment .result .count ≡ size = ap (λ (x : FragmentOutcome). x .count) e ∙ cut .0 in
+    let q : bytesAt (at-fragment .fragment .result .bytes) 0
+    (at-fragment .fragment .result .count) ≡ fragment (shelf (a .t) .points) (shelf (a .t) .threshold)
     (a .content .now) (suc (a .i)) = ap (λ (x : FragmentOutcome). bytesAt (x .bytes) 0 (x .count)) e ∙ cut .1 in
-    let m : c .before .before .before .before .before .before .before .fragment .result .count * a .i ≡ size * a .i = ap (λ (k : ℕ). k * a .i) n in
+    let m : at-fragment .fragment .result .count * a .i ≡ size * a .i = ap (λ (k : ℕ). k * a .i) n in
     let l = piece-length (a .t) (a .i) (a .content .now) (p .0) (p .1 .0) (p .1 .1 .0) (p .1 .1 .1 .0) in
-    let k : length (bytesAt (c .before .before .before .before .before .before .before .fragment .result .bytes) 0
-    (c .before .before .before .before .before .before .before .fragment .result .count)) ≡ size = ap length q ∙ l in
+    let k : length (bytesAt (at-fragment .fragment .result .bytes) 0 (at-fragment .fragment .result .count)) ≡ size = ap length q ∙ l in
     rw (c .part2 .ensures) (omega (arith, m, k, p .1 .1 .1 .1 .0))
+
+abbrev digest-from-write-at : tie.After-write-at → tie.After-digest
+digest-from-write-at c = c .before .before .before .before
 
 mul-write-at-2 : tie.Need-mul-write-at-2
 unfolding shelf
-mul-write-at-2 c = omega (
-  arith,
-  c .before .before .before .before .before .before .before .before .before .before .before .before .before .before .before .pre .1 .0,
-  c .before .before .before .before .before .before .before .before .before .before .before .before .before .before .before .pre .1 .1 .0,
-)
+mul-write-at-2 c =
+    let at-write-at = c .before .before .before in
+    let at-digest = digest-from-write-at at-write-at in
+    let at-fragment = fragment-from-digest at-digest in
+    let at-start = start-from-fragment at-fragment in
+    omega (
+      arith,
+      at-start .pre .1 .0,
+      at-start .pre .1 .1 .0,
+    )
 
 write-at-requires-2 : tie.Need-write-at-requires-2
-write-at-requires-2 c κs = let d : length (c .before .before .before .before .before .before .before .before .digest .result) ≡ digestSize = search
-    needs in omega (
+write-at-requires-2 c κs =
+    let at-write-at = c .before .before .before .before in
+    let at-digest = digest-from-write-at at-write-at in
+    let d : length (at-digest .digest .result) ≡ digestSize = search needs in omega (
       arith,
       d,
-      c .before .before .before .before .before .before .before .before .before .before .before .before .before .before .before .before .pre .1 .1 .1 .1
+      start-from-fragment (fragment-from-digest at-digest) .pre .1 .1 .1 .1
           .1,
     )
 
 returns : tie.Need-returns
 unfolding real
 returns c =
-    let a = c .before .before .before .before .before .before .before .before .before .before .before .before .before .before .before .before .before
-    .before .before .args in
-    let p = c .before .before .before .before .before .before .before .before .before .before .before .before .before .before .before .before .before
-    .before .before .pre in
+    let at-write-at = c .before .before .before .before .before .before .before in
+    let at-digest = at-write-at .before .before .before .before in
+    let at-fragment = fragment-from-digest at-digest in
+    let at-start = start-from-fragment at-fragment in
+    let a = at-start .args in
+    let p = at-start .pre in
     let cut = fragment-cut (a .t) (a .i) (a .content .now) (p .0) (p .1 .0) (p .1 .1 .0) (p .1 .1 .1 .0) in
     let size : ℕ = fragmentSize (shelf (a .t) .threshold) (length (a .content .now)) in
-    let e : c .before .before .before .before .before .before .before .before .before .before .before .before .before .before .before .fragment
-    .result ≡ fragmentStep (a .t) (suc (a .i)) (a .content .now) =
-    c .before .before .before .before .before .before .before .before .before .before .before .before .before .before .before .fragment .ensures ∙ ap
-    (λ (k : ℕ). fragmentStep (a .t) k (a .content .now)) (add-one (a .i)) in
-    let n : c .before .before .before .before .before .before .before .before .before .before .before .before .before .before .before .fragment
-    .result .count ≡ size = ap (λ (x : FragmentOutcome). x .count) e ∙ cut .0 in
-    let q : bytesAt
-    (c .before .before .before .before .before .before .before .before .before .before .before .before .before .before .before .fragment
-    .result .bytes) 0 (c .before .before .before .before .before .before .before .before .before .before .before .before .before .before .before
+    let e : at-fragment .fragment .result ≡ fragmentStep (a .t) (suc (a .i)) (a .content .now) =
+    at-fragment .fragment .ensures ∙ ap (λ (k : ℕ). fragmentStep (a .t) k (a .content .now)) (add-one (a .i)) in
+    let n : at-fragment .fragment .result .count ≡ size = ap (λ (x : FragmentOutcome). x .count) e ∙ cut .0 in
+    let q : bytesAt (at-fragment .fragment .result .bytes) 0 (at-fragment
     .fragment .result .count) ≡ fragment (shelf (a .t) .points) (shelf (a .t) .threshold) (a .content .now) (suc (a .i)) = ap
     (λ (x : FragmentOutcome). bytesAt (x .bytes) 0 (x .count)) e ∙ cut .1 in
-    let m : c .before .before .before .before .before .before .before .before .before .before .before .before .before .before .before .fragment
-    .result .count * a .i ≡ size * a .i = ap (λ (k : ℕ). k * a .i) n in
+    let m : at-fragment .fragment .result .count * a .i ≡ size * a .i = ap (λ (k : ℕ). k * a .i) n in
     let l = piece-length (a .t) (a .i) (a .content .now) (p .0) (p .1 .0) (p .1 .1 .0) (p .1 .1 .1 .0) in (
-      c .before .before .before .before .before .before .before .write-at .ensures ∙ rw
-          (c .before .before .before .before .before .before .before .before .part2 .ensures, q, m),
+      at-write-at .write-at .ensures ∙ rw
+          (at-write-at .before .part2 .ensures, q, m),
       c .before .before .write-at2 .ensures ∙ rw (
-        c .before .before .before .before .before .before .before .before .before .before .before .digest .ensures,
-        c .before .before .before .before .before .before .before .before .before .before .before .before .part .ensures,
+        at-digest .digest .ensures,
+        at-digest .before .part .ensures,
         q,
       ),
     )

@@ -24,22 +24,28 @@ abbrev μ-loop : tie.MeasureT-loop
 
 loop-holds : tie.Need-loop-holds Inv-loop μ-loop
 unfolding fragmentRun digestRun runOf
-loop-holds c = (
-  omega arith,
-  (
-    put-none (c .before .before .before .before .args .fragments .now),
-    put-none
-        (c .before .before .before .before .args .digests .now),
-  ),
-)
+loop-holds c =
+    let at-start = c .before .before .before .before in (
+      omega arith,
+      (
+        put-none (at-start .args .fragments .now),
+        put-none
+            (at-start .args .digests .now),
+      ),
+    )
+
+-- Places far back, each named once: the place, and from where it is seen.
+abbrev start-from-at-loop : tie.At-loop Inv-loop μ-loop → tie.Start Inv-loop μ-loop
+start-from-at-loop c = c .before .before .before .before .before
 
 -- the arrays keep their lengths
 lengths : (c : tie.At-loop Inv-loop μ-loop)
-    → let a = c .before .before .before .before .before .args in (length (c .loop .fragments) ≡ length (a .fragments .now)) ×
+    → let a = start-from-at-loop c .args in (length (c .loop .fragments) ≡ length (a .fragments .now)) ×
     (length (c .loop .digests) ≡ length (a .digests .now))
 lengths c =
-    let a = c .before .before .before .before .before .args in
-    let p = c .before .before .before .before .before .pre in
+    let at-start = start-from-at-loop c in
+    let a = at-start .args in
+    let p = at-start .pre in
     let i = c .loop .i in
     let v = c .loop .inv in
     let w : i ≤ shelf (a .t) .servers = omega (arith, v .0, c .before .servers .ensures) in (
@@ -51,14 +57,16 @@ lengths c =
 
 -- one more server's fit
 rooms : (c : tie.In-loop Inv-loop μ-loop)
-    → let a = c .before .before .before .before .before .before .args in
+    → let a = start-from-at-loop (c .before) .args in
     let i = c .before .loop .i in
     (suc i ≤ shelf (a .t) .servers) × (fragmentSize (shelf (a .t) .threshold) (length (a .content .now)) * i + fragmentSize (shelf (a .t) .threshold)
     (length (a .content .now)) ≤ length (a .fragments .now))
     × (digestSize * i + digestSize ≤ length (a .digests .now))
 rooms c =
-    let a = c .before .before .before .before .before .before .args in
-    let p = c .before .before .before .before .before .before .pre in
+    let at-at-loop = c .before in
+    let at-start = start-from-at-loop at-at-loop in
+    let a = at-start .args in
+    let p = at-start .pre in
     let i = c .before .loop .i in
     let s : suc i ≤ shelf (a .t) .servers = omega (arith, c .loop-test .taken, c .before .before .servers .ensures) in (
       s,
@@ -68,18 +76,20 @@ rooms c =
 
 put-fragment-requires : tie.Need-put-fragment-requires Inv-loop μ-loop
 put-fragment-requires c κs =
-    let p = c .before .before .before .before .before .before .before .before .pre in
+    let p = start-from-at-loop (c .before .before .before) .pre in
     let l = lengths (c .before .before .before) in
     let r = rooms (c .before .before) in
     (p .0, (p .1 .0, (r .0, (p .1 .1 .0, (omega (arith, l .0, r .1), omega (arith, l .1, r .2))))))
 
 loop-again : tie.Need-loop-again Inv-loop μ-loop
 loop-again c =
-    let a = c .before .before .before .before .before .before .before .before .before .before .before .before .before .args in
-    let i = c .before .before .before .before .before .before .before .before .loop .i in
-    let v = c .before .before .before .before .before .before .before .before .loop .inv in
-    let r = rooms (c .before .before .before .before .before .before .before) in
-    let e = c .before .before .before .before .put-fragment .ensures in (
+    let at-put-fragment = c .before .before .before .before in
+    let at-at-loop = at-put-fragment .before .before .before .before in
+    let a = start-from-at-loop at-at-loop .args in
+    let i = at-at-loop .loop .i in
+    let v = at-at-loop .loop .inv in
+    let r = rooms (at-put-fragment .before .before .before) in
+    let e = at-put-fragment .put-fragment .ensures in (
       omega arith,
       (
         e .0 ∙ rw (v .1 .0) (fragment-more (a .t) (a .content .now) (a .fragments .now) i (omega (arith, r .1))),
@@ -90,7 +100,7 @@ loop-again c =
 
 returns : tie.Need-returns Inv-loop μ-loop
 returns c =
-    let a = c .before .before .before .before .before .before .args in
+    let a = start-from-at-loop (c .before) .args in
     let q : c .before .loop .i ≡ shelf (a .t) .servers = omega (arith, c .before .before .servers .ensures) in
     (rw q at (c .before .loop .inv .1 .0), rw q at (c .before .loop .inv .1 .1))
 

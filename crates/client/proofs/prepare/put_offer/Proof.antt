@@ -17,37 +17,43 @@ use Rattle.client.proofs.prepare.put_offer.Tie as tie
 put-parts-requires : tie.Need-put-parts-requires
 unfolding shelf
 put-parts-requires c κs =
-    let a = c .before .before .before .before .before .args in
-    let p = c .before .before .before .before .before .pre in
+    let at-start = c .before .before .before .before .before in
+    let a = at-start .args in
+    let p = at-start .pre in
     let r = rooms (a .t) (length (contentOf (a .call) (a .kept .now))) (p .0) (p .1 .0) (content-short (a .call) (a .kept .now)) in
     (p .0, (p .1 .0, (r .0, omega (arith, p .1 .0, p .1 .1 .1))))
 
+-- Places far back, each named once: the place, and from where it is seen.
+abbrev start-from-servers : tie.After-servers → tie.Start
+start-from-servers c = c .before .before .before .before .before .before .before .before .before
+
 -- there are few servers, and each has its tag
 few : (c : tie.After-servers) → (c .servers .result ≤ mostServers) ×
-    (length (c .before .before .before .before .before .before .before .before .before .args .tags .now) ≤ tagSize * mostServers)
+    (length (start-from-servers c .args .tags .now) ≤ tagSize * mostServers)
 few c =
-    let p = c .before .before .before .before .before .before .before .before .before .pre in
-    let l = servers-few (c .before .before .before .before .before .before .before .before .before .args .t) (p .1 .0) in
+    let at-start = start-from-servers c in
+    let p = at-start .pre in
+    let l = servers-few (at-start .args .t) (p .1 .0) in
     (omega (arith, c .servers .ensures, l), omega (arith, p .1 .1 .1, l))
 
 put-sized-requires : tie.Need-put-sized-requires
 put-sized-requires c κs =
-    let a = c .before .before .before .before .before .before .before .before .before .before .before .before .before .args in
-    let p = c .before .before .before .before .before .before .before .before .before .before .before .before .before .pre in
-    let e = c .before .before .before .before .before .before .before .put-parts .ensures .0 in
-    let s = c .before .before .before .before .servers .ensures in
-    let n : c .before .before .before .before .before .before .before .put-parts .result ≤ topLength = rw e
-    (content-short (a .call) (a .kept .now)) in
-    let k : length (c .part .result .now) ≤ digestSize * c .before .before .before .before .servers .result + digestSize + length (a .tags .now) = rw
+    let at-servers = c .before .before .before .before in
+    let at-start = start-from-servers at-servers in
+    let a = at-start .args in
+    let p = at-start .pre in
+    let e = at-servers .before .before .before .put-parts .ensures .0 in
+    let s = at-servers .servers .ensures in
+    let n : at-servers .before .before .before .put-parts .result ≤ topLength = rw e (content-short (a .call) (a .kept .now)) in
+    let k : length (c .part .result .now) ≤ digestSize * at-servers .servers .result + digestSize + length (a .tags .now) = rw
     (c .part .ensures) (part-most _ 0 _) in (
       p .1 .0,
       (
         n,
         (
           p .1 .1 .0,
-          share-room (a .t) (c .before .before .before .before .before .before .before .put-parts .result)
-              (digestSize * c .before .before .before .before .servers .result + digestSize + length (a .tags .now)) (length (c .part .result .now))
-              (p .0)
+          share-room (a .t) (at-servers .before .before .before .put-parts .result)
+              (digestSize * at-servers .servers .result + digestSize + length (a .tags .now)) (length (c .part .result .now)) (p .0)
               (p .1 .0) n (omega (arith, s, p .1 .1 .1)) k,
         ),
       ),
@@ -55,18 +61,18 @@ put-sized-requires c κs =
 
 returns : tie.Need-returns
 returns c =
-    let a = c .before .before .before .before .before .before .before .before .before .before .before .before .before .before .before .before .args in
-    let p = c .before .before .before .before .before .before .before .before .before .before .before .before .before .before .before .before .pre in
-    let e = c .before .before .before .before .before .before .before .before .before .before .put-parts .ensures in
-    let s = c .before .before .before .before .before .before .before .servers .ensures in
-    let z : length (a .digest) ≡ digestSize =
-    c .before .before .before .before .before .before .before .before .before .before .before .before .before .before .before .before .good .1 .1 .1
-    .0 .1 .0 .1 in
+    let at-servers = c .before .before .before .before .before .before .before in
+    let at-start = at-servers .before .before .before .before .before .before .before .before .before in
+    let a = at-start .args in
+    let p = at-start .pre in
+    let e = at-servers .before .before .before .put-parts .ensures in
+    let s = at-servers .servers .ensures in
+    let z : length (a .digest) ≡ digestSize = at-start .good .1 .1 .1 .0 .1 .0 .1 in
     let r = rooms (a .t) (length (contentOf (a .call) (a .kept .now))) (p .0) (p .1 .0) (content-short (a .call) (a .kept .now)) in
     c .before .before .put-sized .ensures ∙ rw (c .before .before .before .part .ensures, e .1 .0, e .1 .1)
     (offered-run (a .t) (a .kept .now) (contentOf (a .call) (a .kept .now)) (a .digest) (a .tags .now) (replicate fragmentsRoom 0)
-    (replicate commonRoom 0) (c .before .before .before .before .before .before .before .before .before .before .put-parts .result)
-    (digestSize * c .before .before .before .before .before .before .before .servers .result + digestSize + length (a .tags .now)) (e .0) (rw s) z
+    (replicate commonRoom 0) (at-servers .before .before .before .put-parts .result)
+    (digestSize * at-servers .servers .result + digestSize + length (a .tags .now)) (e .0) (rw s) z
     (omega (arith, r .0, length-replicate {A = ℕ} fragmentsRoom 0)) (omega (
       arith,
       servers-few (a .t) (p .1 .0),

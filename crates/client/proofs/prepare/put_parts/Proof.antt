@@ -18,31 +18,38 @@ put-fragments-requires c κs =
     let k = c .before .before .content .ensures in
     (p .0, (p .1 .0, (k .1, (rw (k .0) (p .1 .1 .0), omega (arith, p .1 .1 .1)))))
 
+-- Places far back, each named once: the place, and from where it is seen.
+abbrev start-from-put-fragments : tie.After-put-fragments → tie.Start
+start-from-put-fragments c = c .before .before .before .before .before .before .before .before
+
 servers-requires : tie.Need-servers-requires
-servers-requires c κs = c .before .before .before .before .before .before .before .before .before .before .before .before .before .pre .1 .0
+servers-requires c κs = start-from-put-fragments (c .before .before .before .before .before) .pre .1 .0
+
+abbrev put-fragments-from-servers : tie.After-servers → tie.After-put-fragments
+put-fragments-from-servers c = c .before .before .before .before .before .before
 
 mul-put-common : tie.Need-mul-put-common
 unfolding shelf
-mul-put-common c = let e : c .servers .result ≡ 3 *
-    c .before .before .before .before .before .before .before .before .before .before .before .before .before .before .args .t + 1 =
-    c .servers .ensures in omega
-    (arith, c .before .before .before .before .before .before .before .before .before .before .before .before .before .before .pre .1 .0)
+mul-put-common c =
+    let at-put-fragments = put-fragments-from-servers c in
+    let at-start = start-from-put-fragments at-put-fragments in
+    let e : c .servers .result ≡ 3 * at-start .args .t + 1 =
+    c .servers .ensures in omega (arith, at-start .pre .1 .0)
 
 put-common-requires : tie.Need-put-common-requires
 put-common-requires c κs = rw (c .servers .ensures)
-    (omega (arith, c .before .before .before .before .before .before .before .before .before .before .before .before .before .before .pre .1 .1 .1))
+    (omega (arith, start-from-put-fragments (put-fragments-from-servers c) .pre .1 .1 .1))
 
 returns : tie.Need-returns
 returns c =
-    let a = c .before .before .before .before .before .before .before .before .before .before .before .before .before .before .before .before .before
-    .args in
-    let p = c .before .before .before .before .before .before .before .before .before .before .before .before .before .before .before .before .before
-    .pre in
-    let k = c .before .before .before .before .before .before .before .before .before .before .before .before .content .ensures .0 in
-    let f = c .before .before .before .before .before .before .before .before .before .put-fragments .ensures in
+    let at-put-fragments = c .before .before .before .before .before .before .before .before .before in
+    let at-start = start-from-put-fragments at-put-fragments in
+    let a = at-start .args in
+    let p = at-start .pre in
+    let k = at-put-fragments .before .before .before .content .ensures .0 in
+    let f = at-put-fragments .put-fragments .ensures in
     let z : length (a .digest) ≡ digestSize =
-    c .before .before .before .before .before .before .before .before .before .before .before .before .before .before .before .before .before .good .1
-    .1 .1 .1 .1 .0 .1 .0 .1 in
+    at-start .good .1 .1 .1 .1 .1 .0 .1 .0 .1 in
     let l = length-append (a .digest) (a .tags .now) in (
       rw k,
       (

@@ -23,11 +23,17 @@ loop-holds : tie.Need-loop-holds Inv-loop μ-loop
 unfolding shareRun
 loop-holds c = (omega arith, (refl, c .before .before .before .before .pre .1 .0))
 
+-- Places far back, each named once: the place, and from where it is seen.
+abbrev start-from-at-loop : tie.At-loop Inv-loop μ-loop → tie.Start Inv-loop μ-loop
+start-from-at-loop c = c .before .before .before .before .before
+
 mul-part : tie.Need-mul-part Inv-loop μ-loop
 unfolding shelf
 mul-part c =
-    let a = c .before .before .before .before .before .before .before .args in
-    let p = c .before .before .before .before .before .before .before .pre in
+    let at-at-loop = c .before .before in
+    let at-start = start-from-at-loop at-at-loop in
+    let a = at-start .args in
+    let p = at-start .pre in
     let e : c .before .before .before .servers .result ≡ 3 * a .t + 1 = c .before .before .before .servers .ensures in
     let m = mul-le-mul {n₁ = a .f} {m₁ = c .before .before .loop .i} {n₂ = 1120} {m₂ = 13} (omega (arith, p .1 .1)) (omega (arith, p .0)) in
     omega (arith, m)
@@ -35,35 +41,39 @@ mul-part c =
 put-share-requires : tie.Need-put-share-requires Inv-loop μ-loop
 unfolding shelf
 put-share-requires c κs =
-    let a = c .before .before .before .before .before .before .before .before .args in
-    let p = c .before .before .before .before .before .before .before .before .pre in
-    let e : c .before .before .before .before .servers .result ≡ 3 * a .t + 1 = c .before .before .before .before .servers .ensures in
+    let at-at-loop = c .before .before .before in
+    let at-start = start-from-at-loop at-at-loop in
+    let a = at-start .args in
+    let p = at-start .pre in
+    let e : at-at-loop .before .servers .result ≡ 3 * a .t + 1 = at-at-loop .before .servers .ensures in
     let m = part-most (a .fragments .now) (a .f * c .before .before .before .loop .i) (a .f) in
     (omega (arith, p .0), (c .before .before .before .loop .inv .1 .1, rw (c .part .ensures) (omega (arith, m, p .1 .1))))
 
 loop-again : tie.Need-loop-again Inv-loop μ-loop
 unfolding shareRun shelf
 loop-again c =
-    let a = c .before .before .before .before .before .before .before .before .before .before .before .args in
-    let p = c .before .before .before .before .before .before .before .before .before .before .before .pre in
-    let i = c .before .before .before .before .before .before .loop .i in
-    let v = c .before .before .before .before .before .before .loop .inv in
+    let at-at-loop = c .before .before .before .before .before .before in
+    let at-start = start-from-at-loop at-at-loop in
+    let a = at-start .args in
+    let p = at-start .pre in
+    let i = at-at-loop .loop .i in
+    let v = at-at-loop .loop .inv in
     let e = c .before .before .put-share .ensures in
     let g = c .before .before .before .part .ensures in (
       omega arith,
       (
         e ∙ rw (g, v .1 .0) (ap (shareRun (a .kept .now) (a .size) (a .fragments .now) (a .f) (a .common .now)) (sym (add-one i))),
-        (let z : length (c .before .before .put-share .last .0) ≡ length (c .before .before .before .before .before .before .loop .kept) = search
+        (let z : length (c .before .before .put-share .last .0) ≡ length (at-at-loop .loop .kept) = search
             needs in z ∙ v .1 .1),
       ),
     )
 
 same-length : tie.Need-same-length Inv-loop μ-loop
-same-length c = c .before .loop .inv .1 .1 ∙ sym (c .before .before .before .before .before .before .pre .1 .0)
+same-length c = c .before .loop .inv .1 .1 ∙ sym (start-from-at-loop (c .before) .pre .1 .0)
 
 returns : tie.Need-returns Inv-loop μ-loop
 returns c =
-    let a = c .before .before .before .before .before .before .args in
+    let a = start-from-at-loop (c .before) .args in
     let q : c .before .loop .i ≡ shelf (a .t) .servers = omega (arith, c .before .before .servers .ensures) in
     rw q at (c .before .loop .inv .1 .0)
 

@@ -12,19 +12,22 @@ use Rattle.client.proofs.prepare.put_write.Tie as tie
 put-candidate-requires : tie.Need-put-candidate-requires
 unfolding shelf
 put-candidate-requires c κs =
-    let a = c .before .before .before .before .before .args in
-    let p = c .before .before .before .before .before .pre in
+    let at-start = c .before .before .before .before .before in
+    let a = at-start .args in
+    let p = at-start .pre in
     (p .1 .1 .0, (p .1 .1 .1 .0, (p .1 .1 .1 .1 .0, omega (arith, p .1 .0, p .1 .1 .1 .1 .1))))
 
 returns : tie.Need-returns
 unfolding shelf
 returns c =
-    let a = c .before .before .before .before .before .before .before .before .before .before .before .before .args in
-    let p = c .before .before .before .before .before .before .before .before .before .before .before .before .pre in
+    let at-put-candidate = c .before .before .before .before .before .before in
+    let at-start = at-put-candidate .before .before .before .before .before .before in
+    let a = at-start .args in
+    let p = at-start .pre in
     let l = length-append (a .stamp .now) (a .nonce .now ++ a .tags .now) in
     let k = length-append (a .nonce .now) (a .tags .now) in
     c .before .before .put-offer .ensures ∙ rw (
-      c .before .before .before .before .before .before .put-candidate .ensures,
+      at-put-candidate .put-candidate .ensures,
       content-stays (a .call)
           (a .kept .now) (a .stamp .now ++ (a .nonce .now ++ a .tags .now)) (p .1 .1 .0) (omega
           (arith, l, k, p .1 .0, p .1 .1 .1 .0, p .1 .1 .1 .1 .0, p .1 .1 .1 .1 .1)),

@@ -21,10 +21,11 @@ module _ (c : tie.After-is-full) where
 
 returns : tie.Need-returns
 returns c =
-    let q = c .before .before .before .before .before in
+    let at-content = c .before .before .before .before in
+    let q = at-content .before in
     let e = ended (q .before .before) _ (q .before .if1 .taken) in
     let d = c .before .before .deliver .ensures in
-    let k = c .before .before .before .before .content .ensures .0 in
+    let k = at-content .content .ensures .0 in
     (rw (e, d .0, k, q .chosen-label .ensures), rw e (rw k at (d .1)))
 
 returns-2 : tie.Need-returns-2

@@ -18,19 +18,23 @@ past₁ : (c : tie.Else1) → badFaults (shelf (c .before .before .before .args 
 unfolding shelf
 past₁ c = sym (c .before .outside .ensures) ∙ c .if1 .left
 
-past₂ : (c : tie.Else2) → let a = c .before .before .before .before .before .before .args in
+-- Places far back, each named once: the place, and from where it is seen.
+abbrev awaited-kind-from-else2 : tie.Else2 → tie.After-awaited-kind
+awaited-kind-from-else2 c = c .before .before .before .before .before
+
+past₂ : (c : tie.Else2) → let a = awaited-kind-from-else2 c .before .args in
     not (within 1 (shelf (a .t) .servers) (a .server)) ≡ false
 unfolding shelf
 past₂ c = rw (c .before .before .servers .ensures) at (sym (c .before .outside2 .ensures) ∙ c .if2 .left)
 
-past₃ : (c : tie.Else3) → let a = c .before .before .before .before .before .before .before .before .args in
+past₃ : (c : tie.Else3) → let a = awaited-kind-from-else2 (c .before .before) .before .args in
     badClient (ofWrite (awaited (a .call))) (a .client) ≡ false
 past₃ c =
     rw (c .before .before .before .before .before .before .before .awaited-kind .ensures) at (sym (c .before .bad-client .ensures) ∙ c .if3 .left)
 
-past₄ : (c : tie.Else4) → eqb (awaited (c .before .before .before .before .before .before .before .before .before .args .call)) 0 ≡ false
+past₄ : (c : tie.Else4) → eqb (awaited (awaited-kind-from-else2 (c .before .before .before) .before .args .call)) 0 ≡ false
 past₄ c =
-    let kind = c .before .before .before .before .before .before .before .before .awaited-kind .ensures in
+    let kind = awaited-kind-from-else2 (c .before .before .before) .awaited-kind .ensures in
     ne-eqb _ 0 (λ z. c .if4 .left (kind ∙ z))
 
 returns : tie.Need-returns
@@ -47,41 +51,48 @@ returns-2 c = rw (past₁ (c .before .before .before), rw (c .before .before .se
 
 returns-3 : tie.Need-returns-3
 unfolding makeRefusal shelf
-returns-3 c = rw (
-  past₁ (c .before .before .before .before .before),
-  past₂ (c .before .before),
-  rw (c .before .before .before .before .before .before .before .awaited-kind .ensures) at (sym (c .before .bad-client .ensures) ∙ c .if3 .taken),
-)
+returns-3 c =
+    let at-else2 = c .before .before in
+    rw (
+      past₁ (at-else2 .before .before .before),
+      past₂ (c .before .before),
+      rw (at-else2 .before .before .before .before .before .awaited-kind .ensures) at (sym (c .before .bad-client .ensures) ∙ c .if3 .taken),
+    )
 
 returns-4 : tie.Need-returns-4
 unfolding makeRefusal shelf
 returns-4 c =
-    let none = sym (c .before .before .before .before .before .before .before .before .awaited-kind .ensures) ∙ c .if4 .taken in
-    rw (past₁ (c .before .before .before .before .before .before), past₂ (c .before .before .before), past₃ (c .before), eq-eqb _ 0 none)
+    let at-else2 = c .before .before .before in
+    let none = sym (awaited-kind-from-else2 at-else2 .awaited-kind .ensures) ∙ c .if4 .taken in
+    rw (past₁ (at-else2 .before .before .before), past₂ (c .before .before .before), past₃ (c .before), eq-eqb _ 0 none)
 
 module _ (c : tie.Else4) where
   abbrev start : tie.Start
-  start = c .before .before .before .before .before .before .before .before .before
+  start = awaited-kind-from-else2 (c .before .before .before) .before
 
 returns-5 : tie.Need-returns-5
 unfolding makeRefusal shelf
-returns-5 c = rw (
-  past₁ (c .before .before .before .before .before .before .before),
-  past₂ (c .before .before .before .before),
-  past₃ (c .before .before),
-  past₄ (c .before),
-  lt-ltb (start (c .before) .args .room) packetRoom (omega arith),
-)
+returns-5 c =
+    let at-else2 = c .before .before .before .before in
+    rw (
+      past₁ (at-else2 .before .before .before),
+      past₂ (at-else2),
+      past₃ (c .before .before),
+      past₄ (c .before),
+      lt-ltb (start (c .before) .args .room) packetRoom (omega arith),
+    )
 
 returns-6 : tie.Need-returns-6
 unfolding makeRefusal shelf
-returns-6 c = rw (
-  past₁ (c .before .before .before .before .before .before .before),
-  past₂ (c .before .before .before .before),
-  past₃ (c .before .before),
-  past₄ (c .before),
-  le-ltb (start (c .before) .args .room) packetRoom (omega arith),
-)
+returns-6 c =
+    let at-else2 = c .before .before .before .before in
+    rw (
+      past₁ (at-else2 .before .before .before),
+      past₂ (at-else2),
+      past₃ (c .before .before),
+      past₄ (c .before),
+      le-ltb (start (c .before) .args .room) packetRoom (omega arith),
+    )
 
 pub make-refusal-spec : {M : Type 1} → statement M
 make-refusal-spec = tie.close (tie.spec (λ c κs. search needs) (λ c κs. search needs) returns servers-requires (λ c κs. search needs) returns-2

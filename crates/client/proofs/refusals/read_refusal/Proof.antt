@@ -16,10 +16,14 @@ past₁ : (c : tie.Else1) → badFaults (shelf (c .before .before .args .t)) ≡
 unfolding shelf
 past₁ c = sym (c .before .outside .ensures) ∙ c .if1 .left
 
-past₂ : (c : tie.Else2) → not (within 1 topClient (c .before .before .before .before .args .client)) ≡ false
+-- Places far back, each named once: the place, and from where it is seen.
+abbrev start-from-else2 : tie.Else2 → tie.Start
+start-from-else2 c = c .before .before .before .before
+
+past₂ : (c : tie.Else2) → not (within 1 topClient (start-from-else2 c .args .client)) ≡ false
 past₂ c = sym (c .before .outside2 .ensures) ∙ c .if2 .left
 
-past₃ : (c : tie.Else3) → inHand (c .before .before .before .before .before .before .args .call) ≡ false
+past₃ : (c : tie.Else3) → inHand (start-from-else2 (c .before .before) .args .call) ≡ false
 past₃ c = sym (c .before .is-pending .ensures) ∙ c .if3 .left
 
 returns : tie.Need-returns
@@ -36,21 +40,25 @@ returns-3 c = rw (past₁ (c .before .before .before .before), past₂ (c .befor
 
 returns-4 : tie.Need-returns-4
 unfolding readRefusal shelf
-returns-4 c = rw (
-  past₁ (c .before .before .before .before .before .before),
-  past₂ (c .before .before .before .before),
-  past₃ (c .before .before),
-  le-leb topNumber (c .before .before .before .before .before .before .before .before .args .call .number) (omega arith),
-)
+returns-4 c =
+    let at-else2 = c .before .before .before .before in
+    rw (
+      past₁ (at-else2 .before .before),
+      past₂ (at-else2),
+      past₃ (c .before .before),
+      le-leb topNumber (at-else2 .before .before .before .before .args .call .number) (omega arith),
+    )
 
 returns-5 : tie.Need-returns-5
 unfolding readRefusal shelf
-returns-5 c = rw (
-  past₁ (c .before .before .before .before .before .before),
-  past₂ (c .before .before .before .before),
-  past₃ (c .before .before),
-  lt-leb topNumber (c .before .before .before .before .before .before .before .before .args .call .number) (omega arith),
-)
+returns-5 c =
+    let at-else2 = c .before .before .before .before in
+    rw (
+      past₁ (at-else2 .before .before),
+      past₂ (at-else2),
+      past₃ (c .before .before),
+      lt-leb topNumber (at-else2 .before .before .before .before .args .call .number) (omega arith),
+    )
 
 pub read-refusal-spec : {M : Type 1} → statement M
 read-refusal-spec = tie.close (tie.spec (λ c κs. search needs) returns (λ c κs. search needs) returns-2 (λ c κs. search needs) returns-3

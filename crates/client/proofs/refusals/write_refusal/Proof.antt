@@ -19,10 +19,14 @@ past₁ c = sym (c .before .outside .ensures) ∙ c .if1 .left
 past₂ : (c : tie.Else2) → not (within 1 topWriter (c .before .before .before .before .args .client)) ≡ false
 past₂ c = sym (c .before .outside2 .ensures) ∙ c .if2 .left
 
-past₃ : (c : tie.Else3) → not (within leastLength topLength (c .before .before .before .before .before .before .args .n)) ≡ false
+-- Places far back, each named once: the place, and from where it is seen.
+abbrev else1-from-else3 : tie.Else3 → tie.Else1
+else1-from-else3 c = c .before .before .before .before
+
+past₃ : (c : tie.Else3) → not (within leastLength topLength (else1-from-else3 c .before .before .args .n)) ≡ false
 past₃ c = sym (c .before .outside3 .ensures) ∙ c .if3 .left
 
-past₄ : (c : tie.Else4) → inHand (c .before .before .before .before .before .before .before .before .args .call) ≡ false
+past₄ : (c : tie.Else4) → inHand (else1-from-else3 (c .before .before) .before .before .args .call) ≡ false
 past₄ c = sym (c .before .is-pending .ensures) ∙ c .if4 .left
 
 returns : tie.Need-returns
@@ -39,37 +43,45 @@ returns-3 c = rw (past₁ (c .before .before .before .before), past₂ (c .befor
 
 returns-4 : tie.Need-returns-4
 unfolding writeRefusal shelf
-returns-4 c = rw (
-  past₁ (c .before .before .before .before .before .before),
-  past₂ (c .before .before .before .before),
-  past₃ (c .before .before),
-  sym
-      (c .before .is-pending .ensures) ∙ c .if4 .taken,
-)
+returns-4 c =
+    let at-else3 = c .before .before in
+    rw (
+      past₁ (at-else3 .before .before .before .before),
+      past₂ (at-else3 .before .before),
+      past₃ (c .before .before),
+      sym
+          (c .before .is-pending .ensures) ∙ c .if4 .taken,
+    )
 
 returns-5 : tie.Need-returns-5
 unfolding writeRefusal shelf
-returns-5 c = rw (
-  past₁ (c .before .before .before .before .before .before .before .before),
-  past₂
-      (c .before .before .before .before .before .before),
-  past₃ (c .before .before .before .before),
-  past₄ (c .before .before),
-  le-leb topNumber
-      (c .before .before .before .before .before .before .before .before .before .before .args .call .number) (omega arith),
-)
+returns-5 c =
+    let at-else3 = c .before .before .before .before in
+    let at-else1 = at-else3 .before .before .before .before in
+    rw (
+      past₁ (at-else1),
+      past₂
+          (at-else3 .before .before),
+      past₃ (at-else3),
+      past₄ (c .before .before),
+      le-leb topNumber
+          (at-else1 .before .before .args .call .number) (omega arith),
+    )
 
 returns-6 : tie.Need-returns-6
 unfolding writeRefusal shelf
-returns-6 c = rw (
-  past₁ (c .before .before .before .before .before .before .before .before),
-  past₂
-      (c .before .before .before .before .before .before),
-  past₃ (c .before .before .before .before),
-  past₄ (c .before .before),
-  lt-leb topNumber
-      (c .before .before .before .before .before .before .before .before .before .before .args .call .number) (omega arith),
-)
+returns-6 c =
+    let at-else3 = c .before .before .before .before in
+    let at-else1 = at-else3 .before .before .before .before in
+    rw (
+      past₁ (at-else1),
+      past₂
+          (at-else3 .before .before),
+      past₃ (at-else3),
+      past₄ (c .before .before),
+      lt-leb topNumber
+          (at-else1 .before .before .args .call .number) (omega arith),
+    )
 
 pub write-refusal-spec : {M : Type 1} → statement M
 write-refusal-spec = tie.close (tie.spec (λ c κs. search needs) returns (λ c κs. search needs) returns-2 (λ c κs. search needs) returns-3

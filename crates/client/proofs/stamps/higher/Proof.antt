@@ -23,6 +23,10 @@ up : (c : tie.Else1) → c .before .before .before .args .high < stampAt (c .bef
 unfolding stampAt
 up c = rw (c .before .number4 .ensures) at (c .if1 .left)
 
+-- Places far back, each named once: the place, and from where it is seen.
+abbrev shared-slice-known-from-part : tie.After-part → tie.After-shared-slice-known
+shared-slice-known-from-part c = c .before .before .before .before
+
 tags : (c : tie.After-same)
     → let a = c .before .before .before .before .before .before .before .before .before .args in c .same .result ≡ sameList
     (bytesAt (a .body .now) 5 tagSize) (tagOf (a .writers .now) (bytesAt (a .body .now) 0 5))
@@ -35,20 +39,20 @@ tags c = c .same .ensures ∙ rw (
 returns-2 : tie.Need-returns-2
 unfolding stampAt
 returns-2 c =
-    let a = c .before .before .before .before .before .before .before .before .before .before .args in
-    c .before .before .before .before .before .before .before .before .number4 .ensures ∙ sym
-    (raised (a .writers .now) (a .body .now) (a .high)
-    (λ k. c .before .before .before .before .before .before .before .before .before .shared-slice-known .given k .fits)
-    (omega (arith, c .before .before .before .before .before .before .before .before .before .before .pre))
-    (up (c .before .before .before .before .before .before .before)) (sym (tags (c .before)) ∙ c .if2 .taken))
+    let at-part = c .before .before .before .before .before in
+    let at-shared-slice-known = shared-slice-known-from-part at-part in
+    let a = at-shared-slice-known .before .args in
+    at-part .before .before .before .number4 .ensures ∙ sym (raised (a .writers .now) (a .body .now) (a .high)
+    (λ k. at-shared-slice-known .shared-slice-known .given k .fits) (omega (arith, at-shared-slice-known .before .pre))
+    (up (at-part .before .before)) (sym (tags (c .before)) ∙ c .if2 .taken))
 
 returns-3 : tie.Need-returns-3
 returns-3 c =
-    let a = c .before .before .before .before .before .before .before .before .before .before .args in
-    sym (not-raised (a .writers .now) (a .body .now) (a .high)
-    (λ k. c .before .before .before .before .before .before .before .before .before .shared-slice-known .given k .fits)
-    (omega (arith, c .before .before .before .before .before .before .before .before .before .before .pre))
-    (up (c .before .before .before .before .before .before .before)) (sym (tags (c .before)) ∙ c .if2 .left))
+    let at-part = c .before .before .before .before .before in
+    let at-shared-slice-known = shared-slice-known-from-part at-part in
+    let a = at-shared-slice-known .before .args in
+    sym (not-raised (a .writers .now) (a .body .now) (a .high) (λ k. at-shared-slice-known .shared-slice-known .given k .fits)
+    (omega (arith, at-shared-slice-known .before .pre)) (up (at-part .before .before)) (sym (tags (c .before)) ∙ c .if2 .left))
 
 pub higher-spec : {M : Type 1} → statement M
 higher-spec = tie.close (tie.spec (λ c κs. search needs) returns (λ c κs. search needs) (λ c κs. search needs) (λ c κs. search needs)

@@ -26,14 +26,19 @@ loop-holds : tie.Need-loop-holds Inv-loop μ-loop
 unfolding tagRun runOf
 loop-holds c = (omega arith, put-none (c .before .before .before .args .tags .now))
 
+-- Places far back, each named once: the place, and from where it is seen.
+abbrev start-from-at-loop : tie.At-loop Inv-loop μ-loop → tie.Start Inv-loop μ-loop
+start-from-at-loop c = c .before .before .before .before
+
 -- there are few servers, the tags so far have room, and the buffer keeps its length
 room : (c : tie.At-loop Inv-loop μ-loop)
-    → let a = c .before .before .before .before .args in
+    → let a = start-from-at-loop c .args in
     (c .before .servers .result ≤ mostServers) × (tagSize * c .before .servers .result ≤ length (a .tags .now)) ×
     (length (c .loop .tags) ≡ length (a .tags .now))
 room c =
-    let a = c .before .before .before .before .args in
-    let p = c .before .before .before .before .pre in
+    let at-start = start-from-at-loop c in
+    let a = at-start .args in
+    let p = at-start .pre in
     let e = c .before .servers .ensures in
     let l : tagSize * c .before .servers .result ≤ length (a .tags .now) = omega (arith, e, p .1) in (
       omega (arith, e, servers-few (a .t) (p .0)),
@@ -49,16 +54,16 @@ write-at-requires c κs =
 
 loop-again : tie.Need-loop-again Inv-loop μ-loop
 loop-again c =
-    let a = c .before .before .before .before .before .before .before .before .before .before .before .before .args in
-    let i = c .before .before .before .before .before .before .before .before .loop .i in
+    let at-tag-with = c .before .before .before .before .before in
+    let a = at-tag-with .before .before .before .before .before .before .before .args in
+    let i = at-tag-with .before .before .before .loop .i in
     let k = key-at (a .keys .now) i in (
       omega arith,
       c .before .before .write-at .ensures
           ∙ rw (
-            c .before .before .before .before .before .before .before .before .loop .inv .1,
-            c .before .before .before .before .before .tag-with .ensures,
-          ) (tag-more (a .tags .now) (a .keys .now) (a .stamp .now) (a .digest) i _ k
-          (omega (arith, room (c .before .before .before .before .before .before .before .before)))),
+            at-tag-with .before .before .before .loop .inv .1,
+            at-tag-with .tag-with .ensures,
+          ) (tag-more (a .tags .now) (a .keys .now) (a .stamp .now) (a .digest) i _ k (omega (arith, room (at-tag-with .before .before .before)))),
     )
 
 returns : tie.Need-returns Inv-loop μ-loop

@@ -16,18 +16,18 @@ use Rattle.client.proofs.stamps.stamp_bytes.Tie as tie
 returns : tie.Need-returns
 unfolding stampMessage real
 returns c =
+    let at-write-at = c .before .before .before .before .before in
+    let at-stamp-message = at-write-at .before .before .before .before .before .before in
     let z = c .before .write-at2 .ensures in
-    let y = c .before .before .before .before .before .write-at .ensures in
-    let m = c .before .before .before .before .before .before .before .before .before .before .before .stamp-message .ensures in
-    let g = c .before .before .before .before .before .before .before .before .tag .ensures in
-    let lm : length (c .before .before .before .before .before .before .before .before .before .before .before .stamp-message .result) ≡ 5 = ap length
-    m in
-    let lg : length (c .before .before .before .before .before .before .before .before .tag .result) ≡ tagSize = ap length g ∙ real-lengths .tag _
-    _ in
+    let y = at-write-at .write-at .ensures in
+    let m = at-stamp-message .stamp-message .ensures in
+    let g = at-write-at .before .before .before .tag .ensures in
+    let lm : length (at-stamp-message .stamp-message .result) ≡ 5 = ap length m in
+    let lg : length (at-write-at .before .before .before .tag .result) ≡ tagSize = ap length g ∙ real-lengths .tag _ _ in
     let lz : length {A = ℕ} (replicate (5 + tagSize) 0) ≡ 5 + tagSize = refl in
-    let a = c .before .before .before .before .before .before .before .before .before .before .before .before .args in
-    let M : List ℕ = c .before .before .before .before .before .before .before .before .before .before .before .stamp-message .result in
-    let G : List ℕ = c .before .before .before .before .before .before .before .before .tag .result in
+    let a = at-stamp-message .before .args in
+    let M : List ℕ = at-stamp-message .stamp-message .result in
+    let G : List ℕ = at-write-at .before .before .before .tag .result in
     let v : c .before .write-at2 .last .0 ≡ M ++ G = z ∙ (ap (λ (x : List ℕ). put x 5 G) y ∙ two-puts (replicate (5 + tagSize) 0) M G 5 lm
     (omega (arith, lm, lg, lz))) in
     let q : M ++ G ≡ stampMessage (a .number) (a .writer) ++ tagOf (a .writers .now) (stampMessage (a .number) (a .writer)) = rw (g, m) in

@@ -23,46 +23,54 @@ returns c =
 returns-2 : tie.Need-returns-2
 unfolding shelf
 returns-2 c =
-    let a = c .before .before .before .before .before .before .before .args in
+    let at-start = c .before .before .before .before .before .before .before in
+    let a = at-start .args in
     let w : badFaults (shelf (a .t)) ≡ true = sym (c .before .before .outside .ensures) ∙ c .before .if2 .taken in
     taken-in (a .t) (a .client) (a .writers .now) (a .keys .now) (a .call) (a .kept .now) (a .reply .now) (a .out .now) (c .refused2 .result)
-    (a .kept .now) (a .out .now) (wide (c .before .before .before .before .before .before .before)) (c .before .before .before .if1 .left)
+    (a .kept .now) (a .out .now) (wide (at-start)) (c .before .before .before .if1 .left)
     (takes-refused (a .t) (a .client) (a .writers .now) (a .keys .now) (a .call) (a .kept .now) (a .reply .now) (a .out .now) (c .refused2 .result) 3
     (c .refused2 .ensures) (take-faults (a .t) (a .client) (a .writers .now) (a .keys .now) (a .call) (a .kept .now) (a .reply .now) (a .out .now) w))
+
+-- Places far back, each named once: the place, and from where it is seen.
+abbrev start-from-awaited-kind : tie.After-awaited-kind → tie.Start
+start-from-awaited-kind c = c .before .before .before .before .before .before .before
 
 returns-3 : tie.Need-returns-3
 unfolding shelf
 returns-3 c =
-    let a = c .before .before .before .before .before .before .before .before .before .before .args in
+    let at-awaited-kind = c .before .before .before in
+    let at-start = start-from-awaited-kind at-awaited-kind in
+    let a = at-start .args in
     let w : badFaults (shelf (a .t)) ≡ false =
-    sym (c .before .before .before .before .before .outside .ensures) ∙ c .before .before .before .before .if2 .left in
+    sym (at-awaited-kind .before .before .outside .ensures) ∙ at-awaited-kind .before .if2 .left in
     let v = rw (c .before .before .before .awaited-kind .ensures) at (sym (c .before .before .bad-client .ensures) ∙ c .before .if3 .taken) in
     taken-in (a .t) (a .client) (a .writers .now) (a .keys .now) (a .call) (a .kept .now) (a .reply .now) (a .out .now) (c .refused3 .result)
-    (a .kept .now) (a .out .now) (wide (c .before .before .before .before .before .before .before .before .before .before))
-    (c .before .before .before .before .before .before .if1 .left)
+    (a .kept .now) (a .out .now) (wide (at-start)) (at-awaited-kind .before .before .before .if1 .left)
     (takes-refused (a .t) (a .client) (a .writers .now) (a .keys .now) (a .call) (a .kept .now) (a .reply .now) (a .out .now) (c .refused3 .result) 5
     (c .refused3 .ensures) (take-reader (a .t) (a .client) (a .writers .now) (a .keys .now) (a .call) (a .kept .now) (a .reply .now) (a .out .now) w
     v))
 
 take-reply-requires : tie.Need-take-reply-requires
 unfolding shelf
-take-reply-requires c κs = (
-  sym (c .before .before .before .before .before .before .outside .ensures) ∙ c .before .before .before .before .before .if2 .left,
-  (
-    rw (c .before .before .before .before .awaited-kind .ensures) at
-        (sym (c .before .before .before .bad-client .ensures) ∙ c .before .before .if3 .left),
-    c .before .before .before .before .before .before .before .if1 .left,
-  ),
-)
+take-reply-requires c κs =
+    let at-awaited-kind = c .before .before .before .before in (
+      sym (at-awaited-kind .before .before .outside .ensures) ∙ at-awaited-kind .before .if2 .left,
+      (
+        rw (at-awaited-kind .awaited-kind .ensures) at
+            (sym (c .before .before .before .bad-client .ensures) ∙ c .before .before .if3 .left),
+        at-awaited-kind .before .before .before .if1 .left,
+      ),
+    )
 
 returns-4 : tie.Need-returns-4
 returns-4 c =
-    let a = c .before .before .before .before .before .before .before .before .before .before .before .before .before .before .before .before .args in
+    let at-take-reply = c .before .before .before .before in
+    let at-awaited-kind = at-take-reply .before .before .before .before .before in
+    let at-start = start-from-awaited-kind at-awaited-kind in
+    let a = at-start .args in
     taken-in (a .t) (a .client) (a .writers .now) (a .keys .now) (a .call) (a .kept .now) (a .reply .now) (a .out .now)
-    (c .before .before .before .before .take-reply .result) _ _
-    (wide (c .before .before .before .before .before .before .before .before .before .before .before .before .before .before .before .before))
-    (c .before .before .before .before .before .before .before .before .before .before .before .before .if1 .left)
-    (c .before .before .before .before .take-reply .ensures)
+    (at-take-reply .take-reply .result) _ _ (wide (at-start)) (at-awaited-kind .before .before .before .if1 .left)
+    (at-take-reply .take-reply .ensures)
 
 pub take-in-spec : {M : Type 1} → statement M
 take-in-spec = tie.close (tie.spec (λ c κs. search needs) returns (λ c κs. search needs) (λ c κs. search needs) returns-2 (λ c κs. search needs)

@@ -12,34 +12,44 @@ use borrow.Author.Needs.{needs}
 use Rattle.client.proofs.taking.take_read_round.Statement.{statement}
 use Rattle.client.proofs.taking.take_read_round.Tie as tie
 
+-- Places far back, each named once: the place, and from where it is seen.
+abbrev shared-slice-known-from-then1 : tie.Then1 → tie.After-shared-slice-known
+shared-slice-known-from-then1 c = c .before .before .before .before
+
 take-collect-requires : tie.Need-take-collect-requires
 take-collect-requires c κs =
-    let z = c .before .before .before .before .before .before .before .before in
+    let at-then1 = c .before .before in
+    let at-shared-slice-known = shared-slice-known-from-then1 at-then1 in
+    let z = at-shared-slice-known .before .before in
     let a = z .args in
     let p = z .pre in
     let f = ready-faults (a .t) (a .client) (a .call) (a .reply .now) (a .head) (p .0) in
     let r = ready-server (a .t) (a .client) (a .call) (a .reply .now) (a .head) (p .0) in
     let l : length (drop headSize (a .reply .now)) ≤ candidateSlot = collect-length (a .t) (a .client) (a .call) (a .reply .now) (a .head) (p .0)
-    (λ k. c .before .before .before .before .before .before .shared-slice-known .given k .fits) (c .before .before .if1 .taken) in
+    (λ k. at-shared-slice-known .shared-slice-known .given k .fits) (c .before .before .if1 .taken) in
     (f .1, (r .0, (r .1, (p .1 .1 .0, rw (c .rest .ensures) l))))
 
 returns : tie.Need-returns
 returns c =
-    let z = c .before .before .before .before .before .before .before .before .before .before .before in
+    let at-then1 = c .before .before .before .before .before in
+    let at-shared-slice-known = shared-slice-known-from-then1 at-then1 in
+    let z = at-shared-slice-known .before .before in
     let a = z .args in
     let p = z .pre in
     λ writers keys. takes-collect (a .t) (a .client) writers keys (a .call) (a .kept .now) (a .reply .now) (a .out .now) (a .head) (p .0) (p .1 .1 .1)
-    (c .before .before .before .before .before .if1 .taken)
-    (λ k. c .before .before .before .before .before .before .before .before .before .shared-slice-known .given k .fits) _
+    (at-then1 .if1 .taken) (λ k. at-shared-slice-known .shared-slice-known .given k .fits) _
     (c .before .before .before .rest .ensures) (c .before .before .take-collect .result) (c .before .before .take-collect .ensures .0) _
     (c .before .before .take-collect .ensures .1)
 
 returns-2 : tie.Need-returns-2
 returns-2 c = search needs
 
+abbrev shared-slice-known-from-else2 : tie.Else2 → tie.After-shared-slice-known
+shared-slice-known-from-else2 c = c .before .before .before .before .before
+
 take-repair-requires : tie.Need-take-repair-requires
 take-repair-requires c κs =
-    let z = c .before .before .before .before .before .before .before .before .before in
+    let z = shared-slice-known-from-else2 (c .before .before) .before .before in
     let a = z .args in
     let p = z .pre in
     let f = ready-faults (a .t) (a .client) (a .call) (a .reply .now) (a .head) (p .0) in
@@ -48,15 +58,16 @@ take-repair-requires c κs =
 
 returns-3 : tie.Need-returns-3
 returns-3 c =
-    let z = c .before .before .before .before .before .before .before .before .before .before .before .before in
+    let at-else2 = c .before .before .before .before .before in
+    let z = shared-slice-known-from-else2 at-else2 .before .before in
     let a = z .args in
     let p = z .pre in
     let q = ready-round (a .t) (a .client) (a .call) (a .reply .now) (a .head) (p .0) in
     let e : a .call .tally .round ≡ 6 = omega (
       arith,
       p .1 .0,
-      c .before .before .before .before .before .before .if1 .left,
-      c .before .before .before .before .before .if2 .left,
+      at-else2 .before .if1 .left,
+      at-else2 .if2 .left,
     ) in
     λ writers keys. takes-repair (a .t) (a .client) writers keys (a .call) (a .kept .now) (a .reply .now) (a .out .now) (a .head) (p .0) (p .1 .1 .1)
     e

@@ -16,32 +16,38 @@ returns c =
     (take-broken (a .t) (a .client) (a .writers .now) (a .keys .now) (a .call) (a .kept .now) (a .reply .now) (a .out .now) (p .0) (p .1 .0)
     (rw (c .before .enum-told .given .1) at (c .before .before .before .read-packet .ensures .1)))
 
+-- Places far back, each named once: the place, and from where it is seen.
+abbrev start-from-head : tie.After-head → tie.Start
+start-from-head c = c .before .before .before .before .before .before
+
 reply-refusal-requires : tie.Need-reply-refusal-requires
 reply-refusal-requires c κs =
-    let a = c .before .before .before .before .before .before .before .args in
+    let a = start-from-head (c .before) .args in
     server-range (a .reply .now) (c .before .head .given .0 .0)
     (rw (c .before .head .given .1) at (c .before .before .before .read-packet .ensures .1))
 
 returns-2 : tie.Need-returns-2
 returns-2 c =
-    let z = c .before .before .before .before .before .before .before .before .before .before in
+    let at-head = c .before .before .before .before in
+    let z = start-from-head at-head in
     let a = z .args in
     let p = z .pre in
     takes-refused (a .t) (a .client) (a .writers .now) (a .keys .now) (a .call) (a .kept .now) (a .reply .now) (a .out .now) (c .refused2 .result) _
     (c .refused2 .ensures)
     (take-head (a .t) (a .client) (a .writers .now) (a .keys .now) (a .call) (a .kept .now) (a .reply .now) (a .out .now) (p .0) (p .1 .0)
-    (c .before .before .before .before .head .given .0 .0) (rw (c .before .before .before .before .head .given .1) at
-    (c .before .before .before .before .before .before .read-packet .ensures .1)) (c .before .before .reply-refusal .result)
+    (at-head .head .given .0 .0) (rw (at-head .head .given .1) at
+    (at-head .before .before .read-packet .ensures .1)) (c .before .before .reply-refusal .result)
     (c .before .before .reply-refusal .ensures) (c .before .if1 .taken))
 
 take-round-requires : tie.Need-take-round-requires
 take-round-requires c κs =
-    let z = c .before .before .before .before .before .before .before .before .before .before .before in
+    let at-head = c .before .before .before .before .before in
+    let z = start-from-head at-head in
     let a = z .args in
     let p = z .pre in (
       record {
-        decoded = (rw (c .before .before .before .before .before .head .given .1) at
-            (c .before .before .before .before .before .before .before .read-packet .ensures .1));
+        decoded = (rw (at-head .head .given .1) at
+            (at-head .before .before .read-packet .ensures .1));
         faults = p .0;
         reader = p .1 .0;
         awaited = sym

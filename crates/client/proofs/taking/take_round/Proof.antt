@@ -36,8 +36,9 @@ returns-3 c =
 
 returns-4 : tie.Need-returns-4
 returns-4 c =
-    let a = c .before .before .before .before .before .before .before .before .before .before .before .before .before .before .args in
-    c .before .before .before .before .take-read-round .ensures (a .writers .now) (a .keys .now)
+    let at-take-read-round = c .before .before .before .before in
+    let a = at-take-read-round .before .before .before .before .before .before .before .before .before .before .args in
+    at-take-read-round .take-read-round .ensures (a .writers .now) (a .keys .now)
 
 pub take-round-spec : {M : Type 1} → statement M
 take-round-spec = tie.close (tie.spec (λ c κs. search needs) (λ c. search needs) returns (λ c κs. search needs) returns-2 take-write-round-requires

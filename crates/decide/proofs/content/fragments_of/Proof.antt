@@ -30,26 +30,33 @@ threshold-requires c κs = c .before .before .pre .0 .high
 loop-holds : tie.Need-loop-holds Inv-loop μ-loop
 loop-holds c = (omega arith, refl, λ q l. absurd (omega arith))
 
+-- Places far back, each named once: the place, and from where it is seen.
+abbrev start-from-at-loop : tie.At-loop Inv-loop μ-loop → tie.Start Inv-loop μ-loop
+start-from-at-loop c = c .before .before .before .before
+
 array-read-at : tie.Need-array-read-at Inv-loop μ-loop
-array-read-at c = omega (arith, c .before .before .threshold .ensures .1, c .before .before .before .before .before .pre .0 .high)
+array-read-at c = omega (arith, c .before .before .threshold .ensures .1, start-from-at-loop (c .before) .pre .0 .high)
 
 -- what every number of a turn rests on, at the top of the loop's body
 fine : (c : tie.In-loop Inv-loop μ-loop)
-    → Turn (c .before .before .before .before .before .args .kept .now) (getD (c .before .before .before .before .before .args .t4)
-    (c .before .loop .p) 0)
+    → Turn (start-from-at-loop (c .before) .args .kept .now) (getD (start-from-at-loop (c .before) .args .t4) (c .before .loop .p) 0)
     (c .before .before .before .fragment-size .result) (c .before .loop .p)
 fine c =
-    let a = c .before .before .before .before .before .args in
-    let p = c .before .before .before .before .before .pre in
+    let at-at-loop = c .before in
+    let at-start = start-from-at-loop at-at-loop in
+    let a = at-start .args in
+    let p = at-start .pre in
     turn (a .t) (a .kept .now) (a .t4) (a .n) (p .0) (p .1) (p .2) (c .before .before .before .fragment-size .result) (c .before .loop .p)
     (c .before .before .before .fragment-size .ensures) (omega (arith, c .before .before .threshold .ensures .0))
 
 copy-requires : tie.Need-copy-requires Inv-loop μ-loop
 copy-requires c κs =
-    let a = c .before .before .before .before .before .before .before .args in
-    let p = c .before .before .before .before .before .before .before .pre in
-    let f = c .before .before .before .before .before .fragment-size in
-    let l : c .before .before .before .loop .p < shelf (a .t) .threshold = omega (arith, c .before .before .before .before .threshold .ensures .0) in
+    let at-at-loop = c .before .before .before in
+    let at-start = start-from-at-loop at-at-loop in
+    let a = at-start .args in
+    let p = at-start .pre in
+    let f = at-at-loop .before .before .fragment-size in
+    let l : c .before .before .before .loop .p < shelf (a .t) .threshold = omega (arith, at-at-loop .before .threshold .ensures .0) in
     let at : ℕ = repliesPlace + replySlot * (getD (a .t4) (c .before .before .before .loop .p) 0 - 1) + (stampSize + 3) in
     omega (
       arith,
@@ -60,24 +67,26 @@ copy-requires c κs =
 
 loop-again : tie.Need-loop-again Inv-loop μ-loop
 loop-again c =
-    let a = c .before .before .before .before .before .before .before .before .before .args in
-    let p = c .before .before .before .before .before .before .before .before .before .pre in
-    let v = c .before .before .before .before .before .loop .inv in
-    let l : c .before .before .before .before .before .loop .p < shelf (a .t) .threshold = omega
-    (arith, c .before .before .before .before .before .before .threshold .ensures .0) in
-    let at : ℕ = repliesPlace + replySlot * (getD (a .t4) (c .before .before .before .before .before .loop .p) 0 - 1) + (stampSize + 3) in
+    let at-at-loop = c .before .before .before .before .before in
+    let at-start = start-from-at-loop at-at-loop in
+    let a = at-start .args in
+    let p = at-start .pre in
+    let v = at-at-loop .loop .inv in
+    let l : at-at-loop .loop .p < shelf (a .t) .threshold = omega (arith, at-at-loop .before .threshold .ensures .0) in
+    let at : ℕ = repliesPlace + replySlot * (getD (a .t4) (at-at-loop .loop .p) 0 - 1) + (stampSize + 3) in
     let w =
-    fragments-more (a .t) (a .kept .now) (a .t4) (a .n) (p .0) (p .1) (p .2) (c .before .before .before .before .before .loop .out)
-    (c .before .copy .last .0) (c .before .before .before .before .before .before .before .fragment-size .result)
-    (c .before .before .before .before .before .loop .p) at
-    (c .before .before .before .before .before .before .before .fragment-size .ensures) l refl (v .1) (v .2) (c .before .copy .ensures) in
+    fragments-more (a .t) (a .kept .now) (a .t4) (a .n) (p .0) (p .1) (p .2) (at-at-loop .loop .out)
+    (c .before .copy .last .0) (at-at-loop .before .before .fragment-size .result) (at-at-loop .loop .p) at
+    (at-at-loop .before .before .fragment-size .ensures) l refl (v .1) (v .2) (c .before .copy .ensures) in
     (omega arith, w .0, w .1)
 
 returns : tie.Need-returns Inv-loop μ-loop
 returns c =
-    let a = c .before .before .before .before .before .args in
+    let at-at-loop = c .before in
+    let at-start = start-from-at-loop at-at-loop in
+    let a = at-start .args in
     let e = c .before .before .before .fragment-size .ensures in
-    let p = c .before .before .before .before .before .pre in
+    let p = at-start .pre in
     record {
       long = omega (arith, fragments-room (a .t) (a .n) (p .0 .low) (p .0 .high) (p .1), c .before .loop .inv .1);
       each = λ q l. subst

@@ -28,8 +28,9 @@ threshold-requires c κs = c .before .before .before .before .pre .0 .high
 
 fragment-size-requires : tie.Need-fragment-size-requires
 fragment-size-requires c κs =
-    let a = c .before .before .before .before .before .args in
-    let p = c .before .before .before .before .before .pre in
+    let at-start = c .before .before .before .before .before in
+    let a = at-start .args in
+    let p = at-start .pre in
     (p .0 .low, p .0 .high, omega (arith, p .2 .top, size (a .kept .now) (a .b) (c .before .size-of .result) (c .before .size-of .ensures)))
 
 -- the fragments' room, by what was read
@@ -37,10 +38,15 @@ room : (t n k f : ℕ) → 1 ≤ t → t ≤ topFaults → n ≤ topLength → k
     → k * f ≤ fragmentsRoom
 room t n k f l h m e q = rw (e, q) (fragments-room t n l h m)
 
+-- Places far back, each named once: the place, and from where it is seen.
+abbrev start-from-fragment-size : tie.After-fragment-size → tie.Start
+start-from-fragment-size c = c .before .before .before .before .before .before
+
 mul-end : tie.Need-mul-end
 mul-end c =
-    let a = c .before .before .before .before .before .before .args in
-    let p = c .before .before .before .before .before .before .pre in
+    let at-start = start-from-fragment-size c in
+    let a = at-start .args in
+    let p = at-start .pre in
     omega (
       arith,
       room (a .t) (c .before .before .size-of .result) (c .before .threshold .result) (c .fragment-size .result) (p .0 .low) (p .0 .high)
@@ -50,32 +56,40 @@ mul-end c =
 
 fragments-of-requires : tie.Need-fragments-of-requires
 fragments-of-requires c κs =
-    let a = c .before .before .before .before .before .before .args in
-    let p = c .before .before .before .before .before .before .pre in
+    let at-start = start-from-fragment-size c in
+    let a = at-start .args in
+    let p = at-start .pre in
     (p .0, omega (arith, p .2 .top, size (a .kept .now) (a .b) (c .before .before .size-of .result) (c .before .before .size-of .ensures)), p .3)
 
+abbrev start-from-fragments-of : tie.After-fragments-of → tie.Start
+start-from-fragments-of c = c .before .before .before .before .before .before .before
+
 part-restore-end : tie.Need-part-restore-end
-part-restore-end c = omega (
-  arith,
-  c .before .before .before .threshold .ensures .1,
-  c .before .before .before .before .before .before .before .before .pre .0 .high,
-  c .before .before .before .before .before .before .before .before .good .1 .1 .1 .0 .1 .0 .1,
-)
+part-restore-end c =
+    let at-fragments-of = c .before in
+    let at-start = start-from-fragments-of at-fragments-of in
+    omega (
+      arith,
+      c .before .before .before .threshold .ensures .1,
+      at-start .pre .0 .high,
+      at-start .good .1 .1 .1 .0 .1 .0 .1,
+    )
 
 products : (k l f g : ℕ) → k ≡ l → f ≡ g → k * f ≡ l * g
 products k l f g e q = rw (e, q)
 
 part-restore-end-2 : tie.Need-part-restore-end-2
 part-restore-end-2 c =
+    let at-fragments-of = c .before .before .before in
+    let at-start = start-from-fragments-of at-fragments-of in
     omega (
       arith,
       c .before .before .before .fragments-of .ensures .long,
-      products (c .before .before .before .before .before .threshold .result)
-          (shelf (c .before .before .before .before .before .before .before .before .before .before .args .t) .threshold)
-          (c .before .before .before .before .fragment-size .result) (fragmentSize (shelf
-          (c .before .before .before .before .before .before .before .before .before .before .args .t) .threshold)
-          (c .before .before .before .before .before .before .size-of .result)) (c .before .before .before .before .before .threshold .ensures .0)
-          (c .before .before .before .before .fragment-size .ensures),
+      products (at-fragments-of .before .before .threshold .result)
+          (shelf (at-start .args .t) .threshold) (at-fragments-of .before .fragment-size .result) (fragmentSize (shelf
+          (at-start .args .t) .threshold)
+          (at-fragments-of .before .before .before .size-of .result)) (at-fragments-of .before .before .threshold .ensures .0)
+          (at-fragments-of .before .fragment-size .ensures),
     )
 
 -- what is lent to restoring
@@ -88,25 +102,23 @@ lent t n k l f g servers frs out e q =
 
 returns : tie.Need-returns
 returns c =
-    let a = c .before .before .before .before .before .before .before .before .before .before .before .before .before .before .before .args in
-    let p = c .before .before .before .before .before .before .before .before .before .before .before .before .before .before .before .pre in
-    let n = size (a .kept .now) (a .b) (c .before .before .before .before .before .before .before .before .before .before .before .size-of .result)
-    (c .before .before .before .before .before .before .before .before .before .before .before .size-of .ensures) in
-    let k = c .before .before .before .before .before .before .before .before .before .before .threshold .ensures .0 in
-    let f = c .before .before .before .before .before .before .before .before .before .fragment-size .ensures in
-    rebuilt (a .t) (a .kept .now) (a .t4) (c .before .before .before .before .before .before .before .before .before .before .before .size-of .result)
-    (p .0) (omega (arith, p .2 .top, n)) (p .3) (a .b) (c .before .before .before .before .before .before .before .before .fragments-of .result)
+    let at-fragments-of = c .before .before .before .before .before .before .before .before in
+    let at-start = start-from-fragments-of at-fragments-of in
+    let a = at-start .args in
+    let p = at-start .pre in
+    let n = size (a .kept .now) (a .b) (at-fragments-of .before .before .before .size-of .result)
+    (at-fragments-of .before .before .before .size-of .ensures) in
+    let k = at-fragments-of .before .before .threshold .ensures .0 in
+    let f = at-fragments-of .before .fragment-size .ensures in
+    rebuilt (a .t) (a .kept .now) (a .t4) (at-fragments-of .before .before .before .size-of .result)
+    (p .0) (omega (arith, p .2 .top, n)) (p .3) (a .b) (at-fragments-of .fragments-of .result)
     (a .out .now) (c .before .before .restore .last .1 .1 .1 .1 .0)
-    (c .before .before .restore .result) (omega (arith, p .2 .least, n)) n
-    (c .before .before .before .before .before .before .before .before .before .before .before .before .before .before .before .good .1 .1 .1 .0 .1 .0
-    .1) (c .before .before .before .before .before .before .before .before .fragments-of .ensures) (p .4)
-    (c .before .before .restore .ensures
-    ∙ lent (a .t) (c .before .before .before .before .before .before .before .before .before .before .before .size-of .result)
-    (c .before .before .before .before .before .before .before .before .before .before .threshold .result) (shelf (a .t) .threshold)
-    (c .before .before .before .before .before .before .before .before .before .fragment-size .result)
-    (fragmentSize (shelf (a .t) .threshold)
-    (c .before .before .before .before .before .before .before .before .before .before .before .size-of .result))
-    (a .t4) (c .before .before .before .before .before .before .before .before .fragments-of .result) (a .out .now) k f)
+    (c .before .before .restore .result) (omega (arith, p .2 .least, n)) n (at-start .good .1 .1 .1 .0 .1 .0
+    .1) (at-fragments-of .fragments-of .ensures) (p .4) (c .before .before .restore .ensures
+    ∙ lent (a .t) (at-fragments-of .before .before .before .size-of .result)
+    (at-fragments-of .before .before .threshold .result) (shelf (a .t) .threshold) (at-fragments-of .before .fragment-size .result)
+    (fragmentSize (shelf (a .t) .threshold) (at-fragments-of .before .before .before .size-of .result))
+    (a .t4) (at-fragments-of .fragments-of .result) (a .out .now) k f)
 
 pub rebuild-spec : {M : Type 1} → statement M
 rebuild-spec = tie.close (tie.spec (λ c. omega (arith, c .before .before .pre .0 .size)) (λ c. omega (arith, c .before .before .pre .0 .size))

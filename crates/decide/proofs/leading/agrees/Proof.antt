@@ -30,13 +30,21 @@ returns-2 c = let a = c .before .before .before .before .args in rw (agrees-unma
     (c .if2 .taken))
 
 names-at-requires : tie.Need-names-at-requires
-names-at-requires c κs = let a = c .before .before .before .before .args in let p =
-    c .before .before .before .before .pre in (p .0, p .1, omega (arith, p .3, few (p .0)))
+names-at-requires c κs =
+    let at-start = c .before .before .before .before in
+    let a = at-start .args in let p =
+    at-start .pre in (p .0, p .1, omega (arith, p .3, few (p .0)))
+
+-- Places far back, each named once: the place, and from where it is seen.
+abbrev start-from-names-at : tie.After-names-at → tie.Start
+start-from-names-at c = c .before .before .before .before .before
 
 returns-3 : tie.Need-returns-3
 returns-3 c =
-    let a = c .before .before .before .before .before .before .args in
-    let p = c .before .before .before .before .before .before .pre in
+    let at-names-at = c .before in
+    let at-start = start-from-names-at at-names-at in
+    let a = at-start .args in
+    let p = at-start .pre in
     let l : a .j < mostServers = omega (arith, p .3, few (p .0)) in
     let k : a .b < mostServers = omega (arith, p .2, few (p .0)) in
     rw (agrees-nameless (a .t) (a .t2) (a .kept .now) (a .i) (a .d .now) (p .4) (a .b) k (p .5) (a .j) l
@@ -46,8 +54,10 @@ returns-3 c =
 alike-at-requires : tie.Need-alike-at-requires
 unfolding slotHeld
 alike-at-requires c κs =
-    let a = c .before .before .before .before .before .before .args in
-    let p = c .before .before .before .before .before .before .pre in
+    let at-names-at = c .before in
+    let at-start = start-from-names-at at-names-at in
+    let a = at-start .args in
+    let p = at-start .pre in
     let l : a .j < mostServers = omega (arith, p .3, few (p .0)) in
     let k : a .b < mostServers = omega (arith, p .2, few (p .0)) in (
       p .0,
@@ -60,19 +70,23 @@ alike-at-requires c κs =
 
 returns-4 : tie.Need-returns-4
 returns-4 c =
-    let a = c .before .before .before .before .before .before .before .before .args in
-    let p = c .before .before .before .before .before .before .before .before .pre in
+    let at-names-at = c .before .before .before in
+    let at-start = start-from-names-at at-names-at in
+    let a = at-start .args in
+    let p = at-start .pre in
     let l : a .j < mostServers = omega (arith, p .3, few (p .0)) in
     let k : a .b < mostServers = omega (arith, p .2, few (p .0)) in
     rw (agrees-unlike (a .t) (a .t2) (a .kept .now) (a .i) (a .d .now) (p .4) (a .b) k (p .5) (a .j) l
-    (is-marked (a .t2) (a .j) (c .before .before .before .before .if2 .left))
+    (is-marked (a .t2) (a .j) (at-names-at .before .if2 .left))
     (sym (c .before .alike-at .ensures) ∙ not-true (c .before .alike-at .result) (c .if4 .taken)))
 
 intact-at-requires : tie.Need-intact-at-requires
 unfolding slotHeld
 intact-at-requires c κs =
-    let a = c .before .before .before .before .before .before .before .before .args in
-    let p = c .before .before .before .before .before .before .before .before .pre in (
+    let at-names-at = c .before .before .before in
+    let at-start = start-from-names-at at-names-at in
+    let a = at-start .args in
+    let p = at-start .pre in (
       p .0,
       p .3,
       names-full (shelf (a .t)) (replySlotOf (a .kept .now) (a .j)) (candidatesIn (shelf (a .t)) (a .kept .now) (suc (a .i))) (a .d .now)
@@ -80,18 +94,22 @@ intact-at-requires c κs =
           (c .before .before .if3 .left)),
     )
 
+abbrev names-at-from-intact-at : tie.After-intact-at → tie.After-names-at
+names-at-from-intact-at c = c .before .before .before .before
+
 -- of a slot that is marked, names and is alike, the digest decides
 last : (c : tie.After-intact-at)
-    → let a = c .before .before .before .before .before .before .before .before .before .args in agreesAt (a .t) (a .t2) (a .kept .now) (a .i) (a .b)
+    → let a = start-from-names-at (names-at-from-intact-at c) .args in agreesAt (a .t) (a .t2) (a .kept .now) (a .i) (a .b)
     (suc (a .j)) ≡ c .intact-at .result
 last c =
-    let a = c .before .before .before .before .before .before .before .before .before .args in
-    let p = c .before .before .before .before .before .before .before .before .before .pre in
+    let at-names-at = names-at-from-intact-at c in
+    let at-start = start-from-names-at at-names-at in
+    let a = at-start .args in
+    let p = at-start .pre in
     let l : a .j < mostServers = omega (arith, p .3, few (p .0)) in
     let k : a .b < mostServers = omega (arith, p .2, few (p .0)) in
     agrees-last (a .t) (a .t2) (a .kept .now) (a .i) (a .d .now) (p .4) (a .b) k (p .5) (a .j) l
-    (is-marked (a .t2) (a .j) (c .before .before .before .before .before .if2 .left))
-    (sym (c .before .before .before .before .names-at .ensures) ∙ not-false (c .before .before .before .before .names-at .result)
+    (is-marked (a .t2) (a .j) (at-names-at .before .if2 .left)) (sym (at-names-at .names-at .ensures) ∙ not-false (at-names-at .names-at .result)
     (c .before .before .before .if3 .left))
     (sym (c .before .before .alike-at .ensures) ∙ not-false (c .before .before .alike-at .result) (c .before .if4 .left))
     ∙ sym (c .intact-at .ensures)

@@ -29,8 +29,9 @@ names-at-requires c κs = let a = c .before .before .before .args in let p = c .
 
 returns-2 : tie.Need-returns-2
 returns-2 c =
-    let a = c .before .before .before .before .before .args in
-    let p = c .before .before .before .before .before .pre in
+    let at-start = c .before .before .before .before .before in
+    let a = at-start .args in
+    let p = at-start .pre in
     let l : a .j < mostServers = omega (arith, p .2, few (p .0)) in
     sym (fits-marked (a .t) (a .t2) (a .kept .now) (a .i) (a .d .now) (p .3) (a .j) l (is-marked (a .t2) (a .j) (c .before .before .if1 .left))
     ∙ rw (sym (c .before .names-at .ensures) ∙ not-true (c .before .names-at .result) (c .if2 .taken)))
@@ -38,8 +39,9 @@ returns-2 c =
 intact-at-requires : tie.Need-intact-at-requires
 unfolding slotHeld
 intact-at-requires c κs =
-    let a = c .before .before .before .before .before .args in
-    let p = c .before .before .before .before .before .pre in (
+    let at-start = c .before .before .before .before .before in
+    let a = at-start .args in
+    let p = at-start .pre in (
       p .0,
       p .2,
       names-full (shelf (a .t)) (replySlotOf (a .kept .now) (a .j)) (candidatesIn (shelf (a .t)) (a .kept .now) (suc (a .i))) (a .d .now)
@@ -48,8 +50,9 @@ intact-at-requires c κs =
 
 returns-3 : tie.Need-returns-3
 returns-3 c =
-    let a = c .before .before .before .before .before .before .args in
-    let p = c .before .before .before .before .before .before .pre in
+    let at-start = c .before .before .before .before .before .before in
+    let a = at-start .args in
+    let p = at-start .pre in
     let l : a .j < mostServers = omega (arith, p .2, few (p .0)) in
     c .intact-at .ensures
     ∙ sym (fits-marked (a .t) (a .t2) (a .kept .now) (a .i) (a .d .now) (p .3) (a .j) l

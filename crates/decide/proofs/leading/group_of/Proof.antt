@@ -34,34 +34,39 @@ members-of-requires c κs = let p = c .before .before .before .before .pre in (
       (c .before .fits2 .result) (c .if1 .left),
 )
 
+-- Places far back, each named once: the place, and from where it is seen.
+abbrev start-from-members-of : tie.After-members-of → tie.Start
+start-from-members-of c = c .before .before .before .before .before
+
 threshold-requires : tie.Need-threshold-requires
-threshold-requires c κs = c .before .before .before .before .before .pre .0 .high
+threshold-requires c κs = start-from-members-of c .pre .0 .high
 
 returns-2 : tie.Need-returns-2
 returns-2 c =
-    let a = c .before .before .before .before .before .before .before .before .before .args in
+    let at-members-of = c .before .before .before .before in
+    let a = start-from-members-of at-members-of .args in
     nobody-leads (a .t) (a .marks) (a .kept .now) (a .i) (a .b) _ (c .no-group2 .ensures)
-    (leads-few (a .t) (a .marks) (a .kept .now) (a .i) (a .b) (sym (c .before .before .before .before .before .before .fits2 .ensures) ∙ not-false
-    (c .before .before .before .before .before .before .fits2 .result) (c .before .before .before .before .before .if1 .left))
-    (omega (
+    (leads-few (a .t) (a .marks) (a .kept .now) (a .i) (a .b) (sym (at-members-of .before .before .fits2 .ensures) ∙ not-false
+    (at-members-of .before .before .fits2 .result) (at-members-of .before .if1 .left)) (omega (
       arith,
       c .before .if2 .taken,
-      c .before .before .before .before .members-of .ensures .count,
+      at-members-of .members-of .ensures .count,
       c .before .before .before .threshold .ensures .0,
     )))
 
 returns-3 : tie.Need-returns-3
 returns-3 c =
-    let a = c .before .before .before .before .before .before .before .before .before .args in
-    let m = c .before .before .before .before .members-of .ensures in
+    let at-members-of = c .before .before .before .before in
+    let a = start-from-members-of at-members-of .args in
+    let m = at-members-of .members-of .ensures in
     let l : shelf (a .t) .threshold ≤ length (membersAt (a .t) (a .marks) (a .kept .now) (a .i) (a .b)) = omega
     (arith, c .before .if2 .left, m .count, c .before .before .before .threshold .ensures .0) in
-    let k : shelf (a .t) .threshold ≡ c .before .before .before .before .members-of .result .count = omega
+    let k : shelf (a .t) .threshold ≡ at-members-of .members-of .result .count = omega
     (arith, l, m .count, members-most (a .t) (a .marks) (a .kept .now) (a .i) (a .b)) in
     slot-leads (a .t) (a .marks) (a .kept .now) (a .i) (a .b) _ (add-one (a .b))
-    (leads-enough (a .t) (a .marks) (a .kept .now) (a .i) (a .b) (sym (c .before .before .before .before .before .before .fits2 .ensures) ∙ not-false
-    (c .before .before .before .before .before .before .fits2 .result) (c .before .before .before .before .before .if1 .left)) l)
-    (ap (λ (x : ℕ). take x (c .before .before .before .before .members-of .result .servers)) k ∙ m .these)
+    (leads-enough (a .t) (a .marks) (a .kept .now) (a .i) (a .b) (sym (at-members-of .before .before .fits2 .ensures) ∙ not-false
+    (at-members-of .before .before .fits2 .result) (at-members-of .before .if1 .left)) l)
+    (ap (λ (x : ℕ). take x (at-members-of .members-of .result .servers)) k ∙ m .these)
 
 pub group-of-spec : {M : Type 1} → statement M
 group-of-spec = tie.close (tie.spec fits-requires (λ c κs. search needs) returns members-of-requires threshold-requires (λ c κs. search needs)

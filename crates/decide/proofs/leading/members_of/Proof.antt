@@ -57,13 +57,17 @@ loop-holds : tie.Need-loop-holds Inv-loop μ-loop
 unfolding serversOf
 loop-holds c = (omega arith, omega arith, refl, refl, refl)
 
+-- Places far back, each named once: the place, and from where it is seen.
+abbrev start-from-threshold : tie.After-threshold Inv-loop μ-loop → tie.Start Inv-loop μ-loop
+start-from-threshold c = c .before .before .before .before
+
 returns : tie.Need-returns Inv-loop μ-loop
 returns c =
-    let a = c .before .before .before .before .before .before .before .args in
+    let at-threshold = c .before .before .before in
+    let a = start-from-threshold at-threshold .args in
     let v = c .before .before .loop .inv in
     enough (a .t) (a .marks) (a .kept .now) (a .i) (a .b) (record { count = c .before .before .loop .n; servers = c .before .before .loop .out })
-    (c .before .before .loop .j)
-    (omega (arith, c .before .before .before .before .servers .ensures .0)) (omega (
+    (c .before .before .loop .j) (omega (arith, at-threshold .before .servers .ensures .0)) (omega (
       arith,
       c .before .before .before .threshold .ensures .0,
       c .if1 .taken,
@@ -75,48 +79,59 @@ array-write-out c = let v = c .before .before .loop .inv in omega (
   v .1,
   v .2,
   c .before .before .before .threshold .ensures .1,
-  c .before .before .before .before .before .before .before .pre .0 .high,
+  start-from-threshold (c .before .before .before) .pre .0 .high,
 )
 
 agrees-requires : tie.Need-agrees-requires Inv-loop μ-loop
-agrees-requires c κs = let p = c .before .before .before .before .before .before .before .pre in (
-  p .0,
-  p .1,
-  p .2,
-  omega
-      (arith, c .before .before .before .before .servers .ensures .0),
-  p .3,
-  p .4,
-)
+agrees-requires c κs =
+    let at-threshold = c .before .before .before in
+    let p = start-from-threshold at-threshold .pre in (
+      p .0,
+      p .1,
+      p .2,
+      omega
+          (arith, at-threshold .before .servers .ensures .0),
+      p .3,
+      p .4,
+    )
+
+abbrev threshold-from-agrees : tie.After-agrees Inv-loop μ-loop → tie.After-threshold Inv-loop μ-loop
+threshold-from-agrees c = c .before .before .before .before
 
 add-n : tie.Need-add-n Inv-loop μ-loop
 add-n c =
-    let a = c .before .before .before .before .before .before .before .before .args in
+    let at-threshold = threshold-from-agrees c in
+    let at-start = start-from-threshold at-threshold in
+    let a = at-start .args in
     omega (
       arith,
       c .before .before .before .loop .inv .1,
       c .agrees .ensures,
       bit-le
           (agreesAt (a .t) (a .marks) (a .kept .now) (a .i) (a .b) (suc (c .before .before .before .loop .j))),
-      c .before .before .before .before .threshold .ensures .1,
-      c .before .before .before .before .before .before .before .before .pre .0 .high,
+      at-threshold .threshold .ensures .1,
+      at-start .pre .0 .high,
     )
 
 add-j : tie.Need-add-j Inv-loop μ-loop
-add-j c = omega (
-  arith,
-  c .before .before .before .before .before .servers .ensures .1,
-  c .before .before .before .before .before .before .before .before .pre .0 .high,
-)
+add-j c =
+    let at-threshold = threshold-from-agrees c in
+    omega (
+      arith,
+      at-threshold .before .servers .ensures .1,
+      start-from-threshold at-threshold .pre .0 .high,
+    )
 
 loop-again : tie.Need-loop-again Inv-loop μ-loop
 loop-again c =
-    let a = c .before .before .before .before .before .before .before .before .args in
+    let at-threshold = threshold-from-agrees c in
+    let at-start = start-from-threshold at-threshold in
+    let a = at-start .args in
     let v = c .before .before .before .loop .inv in
     let p = agreesAt (a .t) (a .marks) (a .kept .now) (a .i) (a .b) in
-    let k = c .before .before .before .before .threshold .ensures .1 in
+    let k = at-threshold .threshold .ensures .1 in
     let w = servers-step p (c .before .before .before .loop .j) (c .before .before .before .loop .n) (c .before .before .before .loop .out) (v .3)
-    (v .4) (omega (arith, v .1, v .2, k, c .before .before .before .before .before .before .before .before .pre .0 .high)) in (
+    (v .4) (omega (arith, v .1, v .2, k, at-start .pre .0 .high)) in (
       omega arith,
       omega (arith, v .1, c .before .if1 .left, c .agrees .ensures, bit-le (p (suc (c .before .before .before .loop .j)))),
       length-set (c .before .before .before .loop .out) (c .before .before .before .loop .n) (c .before .before .before .loop .j + 1) ∙ v .2,
@@ -126,7 +141,7 @@ loop-again c =
 
 returns-2 : tie.Need-returns-2 Inv-loop μ-loop
 returns-2 c =
-    let a = c .before .before .before .before .before .before .args in
+    let a = start-from-threshold (c .before .before) .args in
     let v = c .before .loop .inv in
     every (a .t) (a .marks) (a .kept .now) (a .i) (a .b) (record { count = c .before .loop .n; servers = c .before .loop .out }) (c .before .loop .j)
     (omega (arith, c .before .before .before .servers .ensures .0)) (omega (arith, v .1, c .before .before .threshold .ensures .0)) (v .3) (v .4)

@@ -16,12 +16,12 @@ use Rattle.decide.proofs.leading.tried.Tie as tie
 
 returns : tie.Need-returns
 returns c =
-    let a = c .before .before .before .before .args in
+    let at-rank-at = c .before .before in
+    let a = at-rank-at .before .before .args in
     let n = leaderAt (a .t) (a .marks) (a .kept .now) (a .i) (shelf (a .t) .servers) in
     no-group (a .t) (a .marks) (a .kept .now) (a .i) (cond (triedAt (a .t) (a .kept .now) (a .key) (a .i)) n 0) _ (c .no-group .ensures)
     (rw (other-rank (a .t) (a .kept .now) (a .key) (a .i) (λ e. c .before .if1 .taken
-    (c .before .before .rank-at .ensures ∙ sym (candidate-rank (shelf (a .t)) (a .kept .now) (a .i) (c .before .before .before .before .pre .1)) ∙
-    e))))
+    (c .before .before .rank-at .ensures ∙ sym (candidate-rank (shelf (a .t)) (a .kept .now) (a .i) (at-rank-at .before .before .pre .1)) ∙ e))))
 
 returns-2 : tie.Need-returns-2
 returns-2 c =
@@ -33,10 +33,10 @@ returns-2 c =
 
 returns-3 : tie.Need-returns-3
 returns-3 c =
-    let a = c .before .before .before .before .before .before .args in
+    let at-rank-at = c .before .before .before .before in
+    let a = at-rank-at .before .before .args in
     rw (is-tried (a .t) (a .kept .now) (a .key) (a .i) (candidate-rank (shelf (a .t)) (a .kept .now) (a .i)
-    (c .before .before .before .before .before .before .pre .1) ∙ sym (c .before .before .before .before .rank-at .ensures) ∙
-    c .before .before .before .if1 .left)
+    (at-rank-at .before .before .pre .1) ∙ sym (at-rank-at .rank-at .ensures) ∙ c .before .before .before .if1 .left)
     (bit-here (enters (candidatesIn (shelf (a .t)) (a .kept .now)) (suc (a .i))) (λ e. c .before .if2 .left (c .before .before .entry .ensures ∙ e))))
     (c .leader .ensures)
 

@@ -10,11 +10,12 @@ use Rattle.decide.proofs.list.twins.Tie as tie
 
 returns : tie.Need-returns
 returns c =
-    let a = c .before .before .before .before .before .args in
-    let p = c .before .before .before .before .before .pre in
+    let at-shared-slice-known = c .before .before .before .before in
+    let a = at-shared-slice-known .before .args in
+    let p = at-shared-slice-known .before .pre in
     let s = c .before .before .before .servers .ensures in
     c .same .ensures ∙ rw (part-of, part-of, s .0)
-    (same-slots (shelf (a .t)) (a .kept .now) (a .i) (a .j) (omega arith) (λ k. c .before .before .before .before .shared-slice-known .given k .fits)
+    (same-slots (shelf (a .t)) (a .kept .now) (a .i) (a .j) (omega arith) (λ k. at-shared-slice-known .shared-slice-known .given k .fits)
     (p .0 .size) (p .1) (p .2))
 
 pub twins-spec : {M : Type 1} → statement M

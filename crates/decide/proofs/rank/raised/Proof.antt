@@ -22,9 +22,10 @@ returns c =
 returns-2 : tie.Need-returns-2
 unfolding raised
 returns-2 c =
-    let a = c .before .before .before .before .before .args in
+    let at-start = c .before .before .before .before .before in
+    let a = at-start .args in
     rw (
-      candidate-rank (shelf (a .t)) (a .kept .now) (a .i) (c .before .before .before .before .before .pre .1),
+      candidate-rank (shelf (a .t)) (a .kept .now) (a .i) (at-start .pre .1),
       ←
           c .before .before .before .rank-at .ensures,
       lt-ltb (a .top) (c .before .before .before .rank-at .result) (omega arith),
@@ -36,9 +37,10 @@ returns-2 c =
 returns-3 : tie.Need-returns-3
 unfolding raised
 returns-3 c =
-    let a = c .before .before .before .before .before .args in
+    let at-start = c .before .before .before .before .before in
+    let a = at-start .args in
     rw (
-      candidate-rank (shelf (a .t)) (a .kept .now) (a .i) (c .before .before .before .before .before .pre .1),
+      candidate-rank (shelf (a .t)) (a .kept .now) (a .i) (at-start .pre .1),
       ←
           c .before .before .before .rank-at .ensures,
       lt-ltb (a .top) (c .before .before .before .rank-at .result) (omega arith),

@@ -29,26 +29,35 @@ loop-holds c =
     let a = c .before .before .args in
     (omega arith, sym (count-none (ranksBelow (marked (a .t2)) (repliesIn (shelf (a .t)) (a .t2) (a .kept .now)) (a .key))))
 
+-- Places far back, each named once: the place, and from where it is seen.
+abbrev start-from-in-loop : tie.In-loop Inv-loop μ-loop → tie.Start Inv-loop μ-loop
+start-from-in-loop c = c .before .before .before .before
+
 array-read-is-lower : tie.Need-array-read-is-lower Inv-loop μ-loop
-array-read-is-lower c = omega (arith, c .before .before .servers .ensures .1, c .before .before .before .before .pre .high)
+array-read-is-lower c = omega (arith, c .before .before .servers .ensures .1, start-from-in-loop c .pre .high)
 
 is-lower-requires : tie.Need-is-lower-requires Inv-loop μ-loop
-is-lower-requires c κs = (
-  c .before .before .before .before .pre .size,
-  omega (
-    arith,
-    c .before .before .servers .ensures .1,
-    c .before .before .before .before .pre .high,
-  ),
-)
+is-lower-requires c κs =
+    let at-start = start-from-in-loop c in (
+      at-start .pre .size,
+      omega (
+        arith,
+        c .before .before .servers .ensures .1,
+        at-start .pre .high,
+      ),
+    )
+
+abbrev start-from-is-lower : tie.After-is-lower Inv-loop μ-loop → tie.Start Inv-loop μ-loop
+start-from-is-lower c = c .before .before .before .before .before
 
 -- the slot that is looked at is one of the array's
 slot-low : (c : tie.After-is-lower Inv-loop μ-loop) → c .before .before .loop .j < mostServers
-slot-low c = omega (arith, c .before .before .before .servers .ensures .1, c .before .before .before .before .before .pre .high)
+slot-low c = omega (arith, c .before .before .before .servers .ensures .1, start-from-is-lower c .pre .high)
 
 add-n : tie.Need-add-n Inv-loop μ-loop
 add-n c =
-    let a = c .before .before .before .before .before .args in
+    let at-start = start-from-is-lower c in
+    let a = at-start .args in
     let p = ranksBelow (marked (a .t2)) (repliesIn (shelf (a .t)) (a .t2) (a .kept .now)) (a .key) in
     let j = slot-low c in
     omega (
@@ -56,18 +65,18 @@ add-n c =
       c .before .before .loop .inv .1,
       count-le (c .before .before .loop .j) p,
       c .is-lower .ensures,
-      c .before .before .before .before .before .pre .high,
+      at-start .pre .high,
       c .before .before .before .servers .ensures .1,
       bit-le (not (eqb (getD (a .t2) (c .before .before .loop .j) 0) 0) && ltb (rankAt (a .kept .now)
           (repliesPlace + replySlot * c .before .before .loop .j)) (a .key)),
     )
 
 add-j : tie.Need-add-j Inv-loop μ-loop
-add-j c = omega (arith, c .before .before .before .servers .ensures .1, c .before .before .before .before .before .pre .high)
+add-j c = omega (arith, c .before .before .before .servers .ensures .1, start-from-is-lower c .pre .high)
 
 loop-again : tie.Need-loop-again Inv-loop μ-loop
 loop-again c =
-    let a = c .before .before .before .before .before .args in
+    let a = start-from-is-lower c .args in
     let p = ranksBelow (marked (a .t2)) (repliesIn (shelf (a .t)) (a .t2) (a .kept .now)) (a .key) in
     let j = slot-low c in
     let e : c .is-lower .result ≡ bit (p (suc (c .before .before .loop .j))) = c .is-lower .ensures ∙ ap bit

@@ -21,14 +21,15 @@ unfolding topAt topRank
 loop-holds c = (omega arith, refl)
 
 raised-requires : tie.Need-raised-requires Inv-loop μ-loop
-raised-requires c κs = (
-  c .before .before .before .before .pre,
-  omega (
-    arith,
-    c .before .before .servers .ensures .1,
-    c .before .before .before .before .pre .high,
-  ),
-)
+raised-requires c κs =
+    let at-start = c .before .before .before .before in (
+      at-start .pre,
+      omega (
+        arith,
+        c .before .before .servers .ensures .1,
+        at-start .pre .high,
+      ),
+    )
 
 add-i : tie.Need-add-i Inv-loop μ-loop
 add-i c = omega (arith, c .before .before .before .servers .ensures .1, c .before .before .before .before .before .pre .high)
@@ -38,10 +39,11 @@ unfolding topAt topRank
 loop-again c = (omega arith, rw (add-one, ← c .before .before .loop .inv .1) (c .raised .ensures))
 
 returns : tie.Need-returns Inv-loop μ-loop
-returns c = let e : c .before .loop .i ≡ shelf (c .before .before .before .before .args .t) .servers = omega
-    (arith, c .before .before .servers .ensures .0) in c .before .loop .inv .1 ∙ ap
-    (λ (k : ℕ). topAt (c .before .before .before .before .args .t) (c .before .before .before .before .args .marks)
-    (c .before .before .before .before .args .kept .now) k) e
+returns c =
+    let at-start = c .before .before .before .before in
+    let e : c .before .loop .i ≡ shelf (at-start .args .t) .servers = omega
+    (arith, c .before .before .servers .ensures .0) in c .before .loop .inv .1 ∙ ap (λ (k : ℕ). topAt (at-start .args .t) (at-start .args .marks)
+    (at-start .args .kept .now) k) e
 
 pub top-spec : {M : Type 1} → statement M
 top-spec = tie.close (tie.spec Inv-loop μ-loop (λ c κs. search needs) loop-holds raised-requires add-i (λ c. omega arith) loop-again returns)

@@ -17,8 +17,9 @@ use Rattle.decide.proofs.reply.alike.Tie as tie
 
 returns : tie.Need-returns
 returns c =
-    let a = c .before .before .before .before .before .args in
-    let p = c .before .before .before .before .before .pre in
+    let at-size-of = c .before .before in
+    let a = at-size-of .before .before .before .args in
+    let p = at-size-of .before .before .before .pre in
     sym (alike-not (shelf (a .t)) (a .a .now) (a .b .now) (p .4) (p .5) (λ e. c .if1 .taken
     (c .before .size-of2 .ensures ∙ e ∙ sym (c .before .before .size-of .ensures))))
 
@@ -33,37 +34,42 @@ digests-at-requires c κs = let p = c .before .before .before .before .before .p
 servers-requires : tie.Need-servers-requires
 servers-requires c κs = c .before .before .before .before .before .before .pre .1
 
+-- Places far back, each named once: the place, and from where it is seen.
+abbrev size-of-from-servers : tie.After-servers → tie.After-size-of
+size-of-from-servers c = c .before .before .before .before
+
 servers-requires-2 : tie.Need-servers-requires-2
-servers-requires-2 c κs = c .before .before .before .before .before .before .before .pre .1
+servers-requires-2 c κs = size-of-from-servers c .before .before .before .pre .1
 
 -- the runs end within both replies
 fine : (c : tie.After-servers2)
-    → (length (c .before .before .before .before .before .before .before .before .args .a .now) ≡ replySlot)
-    × (length (c .before .before .before .before .before .before .before .before .args .b .now) ≡ replySlot)
+    → (length (size-of-from-servers (c .before) .before .before .before .args .a .now) ≡ replySlot)
+    × (length (size-of-from-servers (c .before) .before .before .before .args .b .now) ≡ replySlot)
     × (c .before .before .digests-at .result + digestSize * c .before .servers .result + digestSize + tagSize * c .servers2 .result ≤ replySlot)
 fine c =
-    let p = c .before .before .before .before .before .before .before .before .pre in
+    let p = size-of-from-servers (c .before) .before .before .before .pre in
     (p .2, p .3, omega (arith, c .before .before .digests-at .ensures .room, c .before .servers .ensures .0, c .servers2 .ensures .0))
 
 returns-2 : tie.Need-returns-2
 returns-2 c =
-    let a = c .before .before .before .before .before .before .before .before .before .before .before .args in
-    let p = c .before .before .before .before .before .before .before .before .before .before .before .pre in
+    let at-servers = c .before .before .before .before in
+    let at-size-of = size-of-from-servers at-servers in
+    let a = at-size-of .before .before .before .args in
+    let p = at-size-of .before .before .before .pre in
     let s = shelf (a .t) in
-    let r = c .before .before .before .before .before .digests-at .ensures in
-    let z = ap (fragmentSize (shelf (a .t) .threshold)) (c .before .before .before .before .before .before .before .before .size-of .ensures) in
-    let at : ℕ = c .before .before .before .before .before .digests-at .result in
-    let m : ℕ = c .before .before .before .before .servers .result in
+    let r = at-servers .before .digests-at .ensures in
+    let z = ap (fragmentSize (shelf (a .t) .threshold)) (at-size-of .size-of .ensures) in
+    let at : ℕ = at-servers .before .digests-at .result in
+    let m : ℕ = at-servers .servers .result in
     let o : ℕ = c .before .before .before .servers2 .result in
     let e : at ≡ digestsIn (shelf (a .t)) (a .a .now) = omega (arith, r .place, z) in
     let l : at + 32 * m + 32 + 32 * o - at ≡ digestsSize (shelf (a .t)) + digestSize + tagsSize (shelf (a .t)) = omega
-    (arith, c .before .before .before .before .servers .ensures .0, c .before .before .before .servers2 .ensures .0) in
+    (arith, at-servers .servers .ensures .0, c .before .before .before .servers2 .ensures .0) in
     c .same .ensures
     ∙ cuts (a .a .now) (a .b .now) at (digestsIn (shelf (a .t)) (a .a .now)) (at + 32 * m + 32 + 32 * o - at)
     (digestsSize (shelf (a .t)) + digestSize + tagsSize (shelf (a .t))) e l
     ∙ sym (alike-in (shelf (a .t)) (a .a .now) (a .b .now) (p .4) (p .5)
-    (sym (c .before .before .before .before .before .before .before .size-of2 .ensures) ∙ c .before .before .before .before .before .before .if1 .left
-    ∙ c .before .before .before .before .before .before .before .before .size-of .ensures)
+    (sym (at-servers .before .before .before .size-of2 .ensures) ∙ at-servers .before .before .if1 .left ∙ at-size-of .size-of .ensures)
     (omega (arith, r .room, e, p .2)) (omega (arith, r .room, e, p .3)))
   where
     cuts : (a b : List ℕ) (x y n m : ℕ) → x ≡ y → n ≡ m → sameList (take n (drop x a)) (take n (drop x b)) ≡ sameList (bytesAt a y m) (bytesAt b y m)

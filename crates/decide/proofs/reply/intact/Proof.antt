@@ -28,16 +28,18 @@ fine c =
 
 returns : tie.Need-returns
 returns c =
-    let a = c .before .before .before .before .before .before .before .before .before .args in
-    let p = c .before .before .before .before .before .before .before .before .before .pre in
+    let at-share-fragment = c .before .before .before .before in
+    let at-start = at-share-fragment .before .before .before .before .before in
+    let a = at-start .args in
+    let p = at-start .pre in
     let F : ℕ = fragmentSize (shelf (a .t) .threshold) (sizeIn (a .reply .now)) in
-    let z = ap (fragmentSize (shelf (a .t) .threshold)) (c .before .before .before .before .before .before .before .size-of .ensures) in
-    let e : c .before .before .before .before .before .before .digests-at .result ≡ digestsIn (shelf (a .t)) (a .reply .now) = omega
-    (arith, c .before .before .before .before .before .before .digests-at .ensures .place, z) in
-    let handed = c .before .before .before .before .share-fragment .ensures
-    ∙ (ap (λ (d : List ℕ). shareAt (shelf (a .t)) d .fragment) (c .before .before .before .before .before .rest .ensures)
+    let z = ap (fragmentSize (shelf (a .t) .threshold)) (at-share-fragment .before .before .before .size-of .ensures) in
+    let e : at-share-fragment .before .before .digests-at .result ≡ digestsIn (shelf (a .t)) (a .reply .now) = omega
+    (arith, at-share-fragment .before .before .digests-at .ensures .place, z) in
+    let handed = at-share-fragment .share-fragment .ensures
+    ∙ (ap (λ (d : List ℕ). shareAt (shelf (a .t)) d .fragment) (at-share-fragment .before .rest .ensures)
     ∙ fragment-handed (shelf (a .t)) (a .reply .now)) in
-    let at : ℕ = c .before .before .before .before .before .before .digests-at .result + 32 * a .j in
+    let at : ℕ = at-share-fragment .before .before .digests-at .result + 32 * a .j in
     c .same .ensures
     ∙ ap (λ (x : List ℕ). sameList x (take (at + 32 - at) (drop at (a .reply .now))))
     (c .before .before .before .digest .ensures ∙ ap sha256 handed)

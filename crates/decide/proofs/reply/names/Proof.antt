@@ -26,69 +26,75 @@ returns c =
     sym (names-none (shelf (a .t)) (a .reply .now) (candidateAt (shelf (a .t)) (a .candidate .now)) (a .d .now)
     (eq-eqb (getD (a .reply .now) stampSize 0) 0 (c .if1 .taken)))
 
+-- Places far back, each named once: the place, and from where it is seen.
+abbrev shared-slice-known2-from-size-of : tie.After-size-of → tie.After-shared-slice-known2
+shared-slice-known2-from-size-of c = c .before .before .before .before
+
 returns-2 : tie.Need-returns-2
 returns-2 c =
-    let a = c .before .before .before .before .before .before .before .args in
+    let a = shared-slice-known2-from-size-of (c .before) .before .before .args in
     sym (names-short (shelf (a .t)) (a .reply .now) (a .candidate .now) (a .d .now)
     (ne-eqb (getD (a .reply .now) stampSize 0) 0 (c .before .before .if1 .left)) (omega (arith, c .before .size-of .ensures)))
 
 returns-3 : tie.Need-returns-3
 returns-3 c =
-    let a = c .before .before .before .before .before .before .before .before .args in
+    let a = shared-slice-known2-from-size-of (c .before .before) .before .before .args in
     sym (names-long (shelf (a .t)) (a .reply .now) (a .candidate .now) (a .d .now) (ne-eqb (getD (a .reply .now) stampSize 0) 0
     (c .before .before .before .if1 .left)) (omega (arith, c .before .before .size-of .ensures)))
 
 returns-4 : tie.Need-returns-4
 returns-4 c =
-    let a = c .before .before .before .before .before .before .before .before .before .before .before .before .args in
-    let p = c .before .before .before .before .before .before .before .before .before .before .before .before .pre in
+    let at-size-of = c .before .before .before .before .before .before in
+    let at-shared-slice-known2 = shared-slice-known2-from-size-of at-size-of in
+    let a = at-shared-slice-known2 .before .before .args in
+    let p = at-shared-slice-known2 .before .before .pre in
     sym (names-other (shelf (a .t)) (a .reply .now) (a .candidate .now) (a .d .now)
-    (ne-eqb (getD (a .reply .now) stampSize 0) 0 (c .before .before .before .before .before .before .before .if1 .left))
-    (sym (same-heads (a .reply .now) (a .candidate .now)
-    (λ k. c .before .before .before .before .before .before .before .before .before .before .before .shared-slice-known .given k .fits)
-    (λ k. c .before .before .before .before .before .before .before .before .before .before .shared-slice-known2 .given k .fits) (omega (arith, p .2))
-    (omega (arith, p .3)))
+    (ne-eqb (getD (a .reply .now) stampSize 0) 0 (at-size-of .before .if1 .left)) (sym (same-heads (a .reply .now) (a .candidate .now)
+    (λ k. at-shared-slice-known2 .before .shared-slice-known .given k .fits)
+    (λ k. at-shared-slice-known2 .shared-slice-known2 .given k .fits) (omega (arith, p .2)) (omega (arith, p .3)))
     ∙ sym (c .before .same .ensures) ∙ not-true (c .before .same .result) (c .if4 .taken)))
 
+abbrev size-of-from-else4 : tie.Else4 → tie.After-size-of
+size-of-from-else4 c = c .before .before .before .before .before .before
+
 digests-at-requires : tie.Need-digests-at-requires
-digests-at-requires c κs = let p = c .before .before .before .before .before .before .before .before .before .before .before .before .pre in (
+digests-at-requires c κs = let p = shared-slice-known2-from-size-of (size-of-from-else4 c) .before .before .pre in (
   p .0,
   p .1,
   omega arith,
 )
 
 servers-requires : tie.Need-servers-requires
-servers-requires c κs = c .before .before .before .before .before .before .before .before .before .before .before .before .before .pre .1
+servers-requires c κs = shared-slice-known2-from-size-of (size-of-from-else4 (c .before)) .before .before .pre .1
 
 part-same-end-3 : tie.Need-part-same-end-3
 part-same-end-3 c = let r = c .before .digests-at .ensures .room in omega (
   arith,
   r,
   c .servers .ensures .0,
-  c .before .before .before .before .before .before .before .before .before .before .before .before .before .before .pre .2,
+  shared-slice-known2-from-size-of (size-of-from-else4 (c .before .before)) .before .before .pre .2,
 )
 
 returns-5 : tie.Need-returns-5
 returns-5 c =
-    let a = c .before .before .before .before .before .before .before .before .before .before .before .before .before .before .before .before .args in
-    let p = c .before .before .before .before .before .before .before .before .before .before .before .before .before .before .before .before .pre in
+    let at-else4 = c .before .before .before .before in
+    let at-size-of = size-of-from-else4 at-else4 in
+    let at-shared-slice-known2 = shared-slice-known2-from-size-of at-size-of in
+    let a = at-shared-slice-known2 .before .before .args in
+    let p = at-shared-slice-known2 .before .before .pre in
     let f : Full (a .reply .now) =
     record {
       flag = ne-eqb (getD (a .reply .now) stampSize 0) 0
-          (c .before .before .before .before .before .before .before .before .before .before .before .if1 .left);
+          (at-size-of .before .if1 .left);
       least = omega
-          (arith, c .before .before .before .before .before .before .before .before .before .before .size-of .ensures);
+          (arith, at-size-of .size-of .ensures);
       top = omega
-          (arith, c .before .before .before .before .before .before .before .before .before .before .size-of .ensures);
+          (arith, at-size-of .size-of .ensures);
     } in
     let q : sameStamp (stampAt (a .reply .now)) (stampAt (a .candidate .now)) ≡ true =
-    sym (same-heads (a .reply .now) (a .candidate .now)
-    (λ k. c .before .before .before .before .before .before .before .before .before .before .before .before .before .before .before
-    .shared-slice-known .given k .fits)
-    (λ k. c .before .before .before .before .before .before .before .before .before .before .before .before .before .before .shared-slice-known2
-    .given k .fits) (omega (arith, p .2)) (omega (arith, p .3)))
-    ∙ sym (c .before .before .before .before .before .same .ensures) ∙ not-false (c .before .before .before .before .before .same .result)
-    (c .before .before .before .before .if4 .left) in
+    sym (same-heads (a .reply .now) (a .candidate .now) (λ k. at-shared-slice-known2 .before .shared-slice-known .given k .fits)
+    (λ k. at-shared-slice-known2 .shared-slice-known2 .given k .fits) (omega (arith, p .2)) (omega (arith, p .3)))
+    ∙ sym (at-else4 .before .same .ensures) ∙ not-false (at-else4 .before .same .result) (at-else4 .if4 .left) in
     let at : ℕ = c .before .before .before .digests-at .result + 32 * c .before .before .servers .result in
     let e : at ≡ digestsIn (shelf (a .t)) (a .reply .now) + digestsSize (shelf (a .t)) =
     omega (
@@ -96,7 +102,7 @@ returns-5 c =
       c .before .before .before .digests-at .ensures .place,
       c .before .before .servers .ensures .0,
       ap
-          (fragmentSize (shelf (a .t) .threshold)) (c .before .before .before .before .before .before .before .before .before .before .size-of .ensures),
+          (fragmentSize (shelf (a .t) .threshold)) (at-size-of .size-of .ensures),
     ) in
     c .same2 .ensures ∙ ap (λ (z : List ℕ). sameList z (a .d .now)) (part-of (a .reply .now) at digestSize ∙ ap
     (λ (k : ℕ). bytesAt (a .reply .now) k digestSize) e)

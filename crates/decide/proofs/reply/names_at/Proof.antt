@@ -13,8 +13,9 @@ use Rattle.decide.proofs.reply.names_at.Tie as tie
 
 names-requires : tie.Need-names-requires
 names-requires c κs =
-    let a = c .before .before .before .before .args in
-    let p = c .before .before .before .before .pre in (
+    let at-start = c .before .before .before .before in
+    let a = at-start .args in
+    let p = at-start .pre in (
       p .0 .low,
       p .0 .high,
       lent-length (a .kept .now) (a .j) (p .0 .size) (p .2),
@@ -25,8 +26,9 @@ names-requires c κs =
 returns : tie.Need-returns
 unfolding slotHeld
 returns c =
-    let a = c .before .before .before .before .before .args in
-    let p = c .before .before .before .before .before .pre in
+    let at-start = c .before .before .before .before .before in
+    let a = at-start .args in
+    let p = at-start .pre in
     c .names .ensures ∙ rw (slot-lent, part-of, candidate-in (shelf (a .t)) (a .kept .now) (a .i) (p .1))
 
 pub names-at-spec : {M : Type 1} → statement M

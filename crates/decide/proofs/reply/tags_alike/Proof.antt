@@ -58,8 +58,12 @@ returns-2 c =
 servers-requires : tie.Need-servers-requires
 servers-requires c κs = c .before .before .before .before .before .pre .0 .high
 
+-- Places far back, each named once: the place, and from where it is seen.
+abbrev start-from-servers : tie.After-servers → tie.Start
+start-from-servers c = c .before .before .before .before .before .before
+
 digests-at-requires : tie.Need-digests-at-requires
-digests-at-requires c κs = let p = c .before .before .before .before .before .before .pre in (
+digests-at-requires c κs = let p = start-from-servers c .pre in (
   p .0 .low,
   p .0 .high,
   omega
@@ -68,36 +72,36 @@ digests-at-requires c κs = let p = c .before .before .before .before .before .b
 
 -- the tags of both end within their slots
 fine : (c : tie.After-digests-at)
-    → (length (c .before .before .before .before .before .before .before .args .kept .now) ≡ keptSize) × (c .before .servers .result ≤ mostServers)
+    → (length (start-from-servers (c .before) .args .kept .now) ≡ keptSize) × (c .before .servers .result ≤ mostServers)
     × (c .digests-at .result + digestSize * c .before .servers .result + digestSize + tagSize * c .before .servers .result ≤ replySlot)
 fine c =
-    let u = c .before .before .before .before .before .before .before .pre .0 in
+    let u = start-from-servers (c .before) .pre .0 in
     let e = c .before .servers .ensures .0 in
     (u .size, omega (arith, e, few u), omega (arith, e, c .digests-at .ensures .room))
 
 returns-3 : tie.Need-returns-3
 unfolding sameTagsAt
 returns-3 c =
-    let a = c .before .before .before .before .before .before .before .before .before .before .args in
-    let p = c .before .before .before .before .before .before .before .before .before .before .pre in
-    let n = c .before .before .before .before .before .before .before .size-of .result in
-    let z = size (a .t) (a .kept .now) (a .j) (c .before .before .before .before .before .before .before .size-of .result)
-    (c .before .before .before .before .before .before .before .size-of .ensures) in
-    let at : ℕ = repliesPlace + replySlot * a .j + c .before .before .before .digests-at .result + 32 *
-    c .before .before .before .before .servers .result + 32 in
-    let w : ℕ = 32 * c .before .before .before .before .servers .result in
-    let e : w ≡ tagsSize (shelf (a .t)) = omega (arith, c .before .before .before .before .servers .ensures .0) in
+    let at-servers = c .before .before .before .before in
+    let at-start = start-from-servers at-servers in
+    let a = at-start .args in
+    let p = at-start .pre in
+    let n = at-servers .before .before .before .size-of .result in
+    let z = size (a .t) (a .kept .now) (a .j) (at-servers .before .before .before .size-of .result)
+    (at-servers .before .before .before .size-of .ensures) in
+    let at : ℕ = repliesPlace + replySlot * a .j + c .before .before .before .digests-at .result + 32 * at-servers .servers .result + 32 in
+    let w : ℕ = 32 * at-servers .servers .result in
+    let e : w ≡ tagsSize (shelf (a .t)) = omega (arith, at-servers .servers .ensures .0) in
     rw (
       le-leb leastLength (shareOf (a .t) (a .kept .now) (suc (a .j)) .size) (omega
-          (arith, c .before .before .before .before .before .before .if1 .left, z)),
+          (arith, at-servers .before .before .if1 .left, z)),
       le-leb (shareOf (a .t) (a .kept .now) (suc (a .j)) .size) topLength
-          (omega (arith, c .before .before .before .before .before .if2 .left, z)),
+          (omega (arith, at-servers .before .if2 .left, z)),
     )
     (c .same .ensures ∙ both (a .kept .now) at (candidatesPlace + candidateSlot * a .i + (stampSize + nonceSize)) w (tagsSize (shelf (a .t))) e
     ∙ ap (λ (x : List ℕ). sameList x (bytesAt (a .kept .now) (candidatesPlace + candidateSlot * a .i + (stampSize + nonceSize))
-    (tagsSize (shelf (a .t)))))
-    (sym (reply-tags (a .t) (a .kept .now) (a .j) (c .before .before .before .before .before .before .before .size-of .result) at z
-    (omega (arith, c .before .before .before .digests-at .ensures .place, c .before .before .before .before .servers .ensures .0))
+    (tagsSize (shelf (a .t))))) (sym (reply-tags (a .t) (a .kept .now) (a .j) (at-servers .before .before .before .size-of .result) at z
+    (omega (arith, c .before .before .before .digests-at .ensures .place, at-servers .servers .ensures .0))
     (omega (arith, c .before .before .before .digests-at .ensures .room, c .before .before .before .digests-at .ensures .place))))
     ∙ ap (sameList (shareOf (a .t) (a .kept .now) (suc (a .j)) .tags)) (sym (candidate-tags (shelf (a .t)) (a .kept .now) (a .i) (p .1)
     (few (p .0)))))

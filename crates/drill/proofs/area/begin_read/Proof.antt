@@ -11,20 +11,16 @@ use Rattle.drill.proofs.area.begin_read.Tie as tie
 
 returns : tie.Need-returns
 returns c =
-    let a = c .before .before .before .before .before .before .before .before .before .before .before .before .before .args in
+    let at-work = c .before .before .before .before .before .before in
+    let at-call-of = at-work .before .before .before .before in
+    let a = at-call-of .before .before .before .args in
     let w = a .work .now in
-    begins-as w (a .client) (c .before .before .before .before .before .before .before .before .before .before .before .before .before .pre .0)
-    (c .before .before .before .before .before .before .before .before .before .before .before .before .before .pre .1)
+    begins-as w (a .client) (at-call-of .before .before .before .pre .0) (at-call-of .before .before .before .pre .1)
     (λ x y. coreRead (a .t) (a .client) x y) (beginRead (a .t) (a .client) (callIn w (a .client)) (keptIn w (a .client)))
-    (c .before .before .before .before .before .before .before .before .before .kept-at .result + 24576 -
-    c .before .before .before .before .before .before .before .before .before .kept-at .result)
-    (core-read w (a .client) (c .before .before .before .before .before .before .before .before .before .before .before .before .before .pre .0)
-    (c .before .before .before .before .before .before .before .before .before .before .before .before .before .pre .1) (a .t))
-    (c .before .before .before .before .before .before .before .before .before .before .call-of .ensures)
-    (c .before .before .before .before .before .before .before .before .before .kept-at .ensures .0) (omega arith)
-    (c .before .before .before .before .before .before .before .begin-read-in .ensures .0)
-    (c .before .before .before .before .before .before .before .begin-read-in .ensures .1)
-    (c .before .before .before .before .before .before .work .given .0) (c .before .before .before .put-call .ensures .0)
+    (at-work .before .before .before .kept-at .result + 24576 - at-work .before .before .before .kept-at .result)
+    (core-read w (a .client) (at-call-of .before .before .before .pre .0) (at-call-of .before .before .before .pre .1) (a .t))
+    (at-call-of .call-of .ensures) (at-work .before .before .before .kept-at .ensures .0) (omega arith) (at-work .before .begin-read-in .ensures .0)
+    (at-work .before .begin-read-in .ensures .1) (at-work .work .given .0) (c .before .before .before .put-call .ensures .0)
     (c .before .before .before .put-call .ensures .1)
 
 pub begin-read-spec : {M : Type 1} → statement M

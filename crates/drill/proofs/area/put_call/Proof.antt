@@ -10,12 +10,12 @@ use Rattle.drill.proofs.area.put_call.Tie as tie
 
 returns : tie.Need-returns
 returns c =
-    let m : length (c .before .before .before .before .before .before .args .call .tally .marks) ≡ 13 = search needs in (
-      put-as (c .before .before .before .before .before .before .args .work .now) (c .before .before .before .before .before .before .args .client)
-          (c .before .before .before .before .before .before .pre .0) (c .before .before .before .before .before .before .pre .1)
-          (c .before .before .before .before .before .before .args .call) (c .before .before .before .before .client-at .result + 64 -
-          c .before .before .before .before .client-at .result) (c .before .before .before .before .client-at .ensures .0) (omega arith) m
-          (c .before .before .put .ensures),
+    let at-client-at = c .before .before .before .before in
+    let m : length (at-client-at .before .before .args .call .tally .marks) ≡ 13 = search needs in (
+      put-as (at-client-at .before .before .args .work .now) (at-client-at .before .before .args .client)
+          (at-client-at .before .before .pre .0) (at-client-at .before .before .pre .1)
+          (at-client-at .before .before .args .call) (at-client-at .client-at .result + 64 -
+          at-client-at .client-at .result) (at-client-at .client-at .ensures .0) (omega arith) m (c .before .before .put .ensures),
       m,
     )
 

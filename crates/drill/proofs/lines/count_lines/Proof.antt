@@ -16,22 +16,26 @@ abbrev μ-loop : tie.MeasureT-loop
 loop-holds : tie.Need-loop-holds Inv-loop μ-loop
 loop-holds c = record { within = omega arith; whole = omega arith }
 
+-- Places far back, each named once: the place, and from where it is seen.
+abbrev start-from-next-line : tie.After-next-line Inv-loop μ-loop → tie.Start Inv-loop μ-loop
+start-from-next-line c = c .before .before .before .before .before
+
 add-n : tie.Need-add-n Inv-loop μ-loop
-add-n c = let h = counted-room (c .before .before .before .before .before .args .sheet .now) (c .before .before .before .loop .at)
+add-n c = let h = counted-room (start-from-next-line c .args .sheet .now) (c .before .before .before .loop .at)
     (c .before .before .before .loop .n) (c .before .line-end .result) (c .before .before .before .loop .inv) (c .before .line-end .ensures) in omega
     arith
 
 loop-less : tie.Need-loop-less Inv-loop μ-loop
 loop-less c =
     let e = c .before .line-end .ensures in
-    let h = next-later (c .before .before .before .before .before .args .sheet .now) (c .before .line-end .result)
+    let h = next-later (start-from-next-line c .args .sheet .now) (c .before .line-end .result)
     (c .before .before .before .loop .at) (e .after) (e .within) (omega arith) in
     let r = c .next-line .ensures in
     omega arith
 
 loop-again : tie.Need-loop-again Inv-loop μ-loop
 loop-again c =
-    rw (c .next-line .ensures) (counted-more (c .before .before .before .before .before .args .sheet .now) (c .before .before .before .loop .at)
+    rw (c .next-line .ensures) (counted-more (start-from-next-line c .args .sheet .now) (c .before .before .before .loop .at)
     (c .before .before .before .loop .n) (c .before .line-end .result) (omega arith) (c .before .before .before .loop .inv)
     (c .before .line-end .ensures))
 

@@ -31,9 +31,10 @@ returns-4 c = rw (
 returns-5 : tie.Need-returns-5
 unfolding isStep
 returns-5 c =
+    let at-else2 = c .before .before .before .before in
     rw (
-      ne-eqb _ _ (c .before .before .before .before .before .if1 .left),
-      ne-eqb _ _ (c .before .before .before .before .if2 .left),
+      ne-eqb _ _ (at-else2 .before .if1 .left),
+      ne-eqb _ _ (at-else2 .if2 .left),
       ne-eqb _ _
           (c .before .before .before .if3 .left),
       ne-eqb _ _ (c .before .before .if4 .left),

@@ -17,12 +17,16 @@ loop-holds : tie.Need-loop-holds Inv-loop μ-loop
 loop-holds c = passed-none (c .args .sheet .now) (c .args .at) (c .pre)
 
 returns : tie.Need-returns Inv-loop μ-loop
-returns c = ends-here (c .before .before .before .before .args .sheet .now) (c .before .before .before .before .args .at)
-    (c .before .before .before .before .pre) (c .before .before .before .loop .i) (c .before .before .before .loop .inv) (omega arith) (c .if1 .taken)
+returns c =
+    let at-start = c .before .before .before .before in
+    ends-here (at-start .args .sheet .now) (at-start .args .at)
+    (at-start .pre) (c .before .before .before .loop .i) (c .before .before .before .loop .inv) (omega arith) (c .if1 .taken)
 
 loop-again : tie.Need-loop-again Inv-loop μ-loop
-loop-again c = passed-more (c .before .before .before .before .args .sheet .now) (c .before .before .before .before .args .at)
-    (c .before .before .before .before .pre) (c .before .before .before .loop .i) (c .before .before .before .loop .inv) (omega arith) (c .if1 .left)
+loop-again c =
+    let at-start = c .before .before .before .before in
+    passed-more (at-start .args .sheet .now) (at-start .args .at)
+    (at-start .pre) (c .before .before .before .loop .i) (c .before .before .before .loop .inv) (omega arith) (c .if1 .left)
 
 returns-2 : tie.Need-returns-2 Inv-loop μ-loop
 returns-2 c = ends-last (c .before .before .args .sheet .now) (c .before .before .args .at) (c .before .before .pre) (c .before .loop .i)

@@ -15,16 +15,16 @@ returns-2 c = no-step-text _ (c .before .before .before .before .before .args .n
     (read-broken _ (sym (c .before .before .text-at .ensures) ∙ c .enum-told .given .1))
 
 returns-3 : tie.Need-returns-3
-returns-3 c = is-step-line _ (c .before .before .before .before .before .before .before .before .args .n)
-    (c .before .before .before .before .before .before .if1 .left) _ (read-line _ _
-    (sym (c .before .before .before .before .before .text-at .ensures) ∙ c .before .before .before .l .given .1))
-    (sym (c .before .is-step .ensures) ∙ c .if2 .taken)
+returns-3 c =
+    let at-text-at = c .before .before .before .before .before in
+    is-step-line _ (at-text-at .before .before .before .args .n) (at-text-at .before .if1 .left) _ (read-line _ _
+    (sym (at-text-at .text-at .ensures) ∙ c .before .before .before .l .given .1)) (sym (c .before .is-step .ensures) ∙ c .if2 .taken)
 
 returns-4 : tie.Need-returns-4
-returns-4 c = no-step-line _ (c .before .before .before .before .before .before .before .before .args .n)
-    (c .before .before .before .before .before .before .if1 .left) _ (read-line _ _
-    (sym (c .before .before .before .before .before .text-at .ensures) ∙ c .before .before .before .l .given .1))
-    (sym (c .before .is-step .ensures) ∙ c .if2 .left)
+returns-4 c =
+    let at-text-at = c .before .before .before .before .before in
+    no-step-line _ (at-text-at .before .before .before .args .n) (at-text-at .before .if1 .left) _ (read-line _ _
+    (sym (at-text-at .text-at .ensures) ∙ c .before .before .before .l .given .1)) (sym (c .before .is-step .ensures) ∙ c .if2 .left)
 
 pub step-line-spec : {M : Type 1} → statement M
 step-line-spec = tie.close (tie.spec returns (λ c κs. search needs) (λ c. search needs) (λ c. search needs) returns-2 (λ c κs. search needs) returns-3

@@ -13,9 +13,10 @@ returns : tie.Need-returns
 returns c = text-unended (c .before .before .args .sheet .now) (c .before .before .args .at) (c .before .before .args .end) (c .if1 .taken)
 
 returns-2 : tie.Need-returns-2
-returns-2 c = c .fields-of .ensures ∙ ap (λ (z : List ℕ). readOf (fields z)) (c .before .part .ensures) ∙ text-ended
-    (c .before .before .before .before .args .sheet .now) (c .before .before .before .before .args .at) (c .before .before .before .before .args .end)
-    (c .before .before .if1 .left)
+returns-2 c =
+    let at-start = c .before .before .before .before in
+    c .fields-of .ensures ∙ ap (λ (z : List ℕ). readOf (fields z)) (c .before .part .ensures) ∙ text-ended
+    (at-start .args .sheet .now) (at-start .args .at) (at-start .args .end) (c .before .before .if1 .left)
 
 pub text-at-spec : {M : Type 1} → statement M
 text-at-spec = tie.close (tie.spec returns (λ c. search needs) (λ c κs. search needs) (λ c κs. search needs) returns-2)

@@ -18,20 +18,22 @@ loop-holds c = printing-none (c .args .v)
 
 returns : tie.Need-returns Inv-loop μ-loop
 returns c =
+    let at-start = c .before .before .before .before in
     let i = c .before .before .before .loop .i in
     let e : i ≡ suc (i - 1) = omega arith in
-    let p = subst (λ (k : ℕ). Printing (c .before .before .before .before .args .v) k (c .before .before .before .loop .rest)
+    let p = subst (λ (k : ℕ). Printing (at-start .args .v) k (c .before .before .before .loop .rest)
     (c .before .before .before .loop .a)) e (c .before .before .before .loop .inv) in
-    rw (c .before .digit-of .ensures) (printing-last (c .before .before .before .before .args .v) (i - 1) (c .before .before .before .loop .rest)
+    rw (c .before .digit-of .ensures) (printing-last (at-start .args .v) (i - 1) (c .before .before .before .loop .rest)
     (c .before .before .before .loop .a) p (c .if1 .taken))
 
 loop-again : tie.Need-loop-again Inv-loop μ-loop
 loop-again c =
+    let at-start = c .before .before .before .before in
     let i = c .before .before .before .loop .i in
     let e : i ≡ suc (i - 1) = omega arith in
-    let p = subst (λ (k : ℕ). Printing (c .before .before .before .before .args .v) k (c .before .before .before .loop .rest)
+    let p = subst (λ (k : ℕ). Printing (at-start .args .v) k (c .before .before .before .loop .rest)
     (c .before .before .before .loop .a)) e (c .before .before .before .loop .inv) in
-    rw (c .before .digit-of .ensures) (printing-more (c .before .before .before .before .args .v) (i - 1) (c .before .before .before .loop .rest)
+    rw (c .before .digit-of .ensures) (printing-more (at-start .args .v) (i - 1) (c .before .before .before .loop .rest)
     (c .before .before .before .loop .a) p (c .if1 .left))
 
 returns-2 : tie.Need-returns-2 Inv-loop μ-loop

@@ -17,13 +17,12 @@ loop-holds : tie.Need-loop-holds Inv-loop μ-loop
 loop-holds c = put-none (c .before .args .out .now) (c .before .args .at) (c .before .args .t3) (search needs) (c .before .pre)
 
 loop-again : tie.Need-loop-again Inv-loop μ-loop
-loop-again c = put-one-more (c .before .before .before .before .before .before .before .before .before .args .out .now)
-    (c .before .before .before .before .before .before .before .before .before .args .at)
-    (c .before .before .before .before .before .before .before .before .before .args .t3) (search needs)
-    (c .before .before .before .before .before .before .before .before .before .pre)
-    (c .before .before .before .before .before .before .before .loop .out) (c .before .before .before .before .before .before .before .loop .j)
-    (c .before .before .before .before .before .before .before .loop .inv) (omega arith)
-    (c .before .before .before .before .before .column-of .ensures) (c .before .before .put .ensures)
+loop-again c =
+    let at-column-of = c .before .before .before .before .before in
+    let at-start = at-column-of .before .before .before .before in
+    put-one-more (at-start .args .out .now) (at-start .args .at) (at-start .args .t3) (search needs) (at-start .pre)
+    (at-column-of .before .before .loop .out) (at-column-of .before .before .loop .j) (at-column-of .before .before .loop .inv) (omega arith)
+    (at-column-of .column-of .ensures) (c .before .before .put .ensures)
 
 same-length : tie.Need-same-length Inv-loop μ-loop
 same-length c = same-size (c .before .before .before .args .out .now) (c .before .before .before .args .at) (c .before .before .before .args .t3)

@@ -20,27 +20,34 @@ loop-holds c = ready-none (c .before .before .args .t) (c .before .before .args 
 
 blank-requires : tie.Need-blank-requires Inv-loop μ-loop
 blank-requires c κs =
+    let at-at-loop = c .before .before in
     let e = c .before .before .before .servers .ensures in (
-      few-servers (c .before .before .before .before .before .args .t) (c .before .before .loop .b)
-          (c .before .before .before .before .before .pre .0 .1) (c .before .before .loop .inv .low, omega arith),
+      few-servers (at-at-loop .before .before .before .args .t) (c .before .before .loop .b)
+          (at-at-loop .before .before .before .pre .0 .1) (c .before .before .loop .inv .low, omega arith),
       c .before .before .loop .inv .size,
     )
 
+-- Places far back, each named once: the place, and from where it is seen.
+abbrev at-loop-from-slice-known2 : tie.After-slice-known2 Inv-loop μ-loop → tie.At-loop Inv-loop μ-loop
+at-loop-from-slice-known2 c = c .before .before .before .before .before
+
 add-b : tie.Need-add-b Inv-loop μ-loop
-add-b c = let e = c .before .before .before .before .before .before .servers .ensures in let h = few-servers
-    (c .before .before .before .before .before .before .before .before .args .t) (c .before .before .before .before .before .loop .b)
-    (c .before .before .before .before .before .before .before .before .pre .0 .1) (
-      c .before .before .before .before .before .loop .inv .low,
+add-b c =
+    let at-at-loop = at-loop-from-slice-known2 c in
+    let e = at-at-loop .before .servers .ensures in let h = few-servers (at-at-loop .before .before .before .args .t) (at-at-loop .loop .b)
+    (at-at-loop .before .before .before .pre .0 .1) (
+      at-at-loop .loop .inv .low,
       omega
           arith,
     ) in omega arith
 
 loop-again : tie.Need-loop-again Inv-loop μ-loop
 loop-again c =
-    let e = c .before .before .before .before .before .before .servers .ensures in
-    ready-more (c .before .before .before .before .before .before .before .before .args .t) (c .before .before .before .before .before .loop .b)
-    (c .before .before .before .before .before .loop .work) _ (c .before .before .before .before .before .before .before .before .pre .0)
-    (omega arith) (c .before .before .before .before .before .loop .inv) (c .before .before .blank .ensures)
+    let at-at-loop = at-loop-from-slice-known2 c in
+    let e = at-at-loop .before .servers .ensures in
+    ready-more (at-at-loop .before .before .before .args .t) (at-at-loop .loop .b)
+    (at-at-loop .loop .work) _ (at-at-loop .before .before .before .pre .0)
+    (omega arith) (at-at-loop .loop .inv) (c .before .before .blank .ensures)
 
 same-length : tie.Need-same-length Inv-loop μ-loop
 same-length c = c .before .loop .inv .size ∙ sym (c .before .before .before .before .pre .1 .0)

@@ -20,18 +20,22 @@ abbrev μ-loop : tie.MeasureT-loop
 
 -- ---- before a line
 
+-- Places far back, each named once: the place, and from where it is seen.
+abbrev start-from-line-end : tie.After-line-end Inv-loop μ-loop → tie.Start Inv-loop μ-loop
+start-from-line-end c = c .before .before .before .before .before .before
+
 module _ (c : tie.After-line-end Inv-loop μ-loop) where
   abbrev t : ℕ
-  t = c .before .before .before .before .before .before .args .t
+  t = start-from-line-end c .args .t
 
   abbrev sheet : List ℕ
-  sheet = c .before .before .before .before .before .before .args .sheet .now
+  sheet = start-from-line-end c .args .sheet .now
 
   abbrev given : List ℕ
-  given = c .before .before .before .before .before .before .args .out .now
+  given = start-from-line-end c .args .out .now
 
   abbrev start : ℕ
-  start = c .before .before .before .before .before .before .args .from
+  start = start-from-line-end c .args .from
 
   abbrev out : List ℕ
   out = c .before .before .loop .out
@@ -72,48 +76,61 @@ step-line-requires c κs = c .line-end .ensures .after
 put-last-requires : tie.Need-put-last-requires Inv-loop μ-loop
 put-last-requires c κs = room (c .before .before .before .before)
 
+abbrev enum-told-from-slice-known3 : tie.After-slice-known3 Inv-loop μ-loop → tie.After-enum-told Inv-loop μ-loop
+enum-told-from-slice-known3 c = c .before .before .before .before
+
 add-result : tie.Need-add-result Inv-loop μ-loop
-add-result c = let h = room (c .before .before .before .before .before .before .before) in omega arith
+add-result c = let h = room (enum-told-from-slice-known3 c .before .before .before) in omega arith
 
 same-length : tie.Need-same-length Inv-loop μ-loop
-same-length c = c .before .out .given ∙ size-is (c .before .before .before .before .before .before .before)
+same-length c = c .before .out .given ∙ size-is (enum-told-from-slice-known3 c .before .before .before)
 
 same-length-2 : tie.Need-same-length-2 Inv-loop μ-loop
-same-length-2 c = going (c .before .before .before .before .before .before .before) .stands .size ∙ sym
-    (c .before .before .before .before .before .before .before .before .before .before .before .before .before .pre .0 .1 .size)
+same-length-2 c =
+    let at-enum-told = enum-told-from-slice-known3 c in
+    going (at-enum-told .before .before .before) .stands .size ∙ sym
+    (at-enum-told .before .before .before .before .before .before .before .before .before .pre .0 .1 .size)
 
 returns : tie.Need-returns Inv-loop μ-loop
 returns c =
-    let p = c .before .before .before .before .before .before .before in
+    let at-enum-told = enum-told-from-slice-known3 c in
+    let p = at-enum-told .before .before .before in
     going-last (t p) (sheet p) (given p) (start p) (out p) (work p) (place p) (n p) (begun p) (done p) (going p) (p .line-end .result)
-    (p .line-end .ensures)
-    (read-broken _ (sym (c .before .before .before .before .before .before .step-line .ensures) ∙
-    c .before .before .before .before .enum-told .given .1)) (c .before .before .put-last .ensures)
+    (p .line-end .ensures) (read-broken _ (sym (at-enum-told .before .before .step-line .ensures) ∙
+    at-enum-told .enum-told .given .1)) (c .before .before .put-last .ensures)
 
 one-line-requires : tie.Need-one-line-requires Inv-loop μ-loop
 one-line-requires c κs =
-    let o = read-line _ _ (sym (c .before .before .before .before .before .step-line .ensures) ∙ c .before .before .before .l .given .1) in
-    let g = going (c .before .before .before .before .before .before) in
+    let at-l = c .before .before .before in
+    let o = read-line _ _ (sym (at-l .before .before .step-line .ensures) ∙ c .before .before .before .l .given .1) in
+    let g = going (at-l .before .before .before) in
     let h = line-number _ _ _ o in (
       (
-        (c .before .before .before .before .before .before .before .before .before .before .before .before .pre .0 .0, g .stands .size),
+        (at-l .before .before .before .before .before .before .before .before .before .pre .0 .0, g .stands .size),
         omega
             (arith, g .few),
       ),
-      (line-form _ _ _ o, room (c .before .before .before .before .before .before)),
+      (line-form _ _ _ o, room (at-l .before .before .before)),
     )
 
+abbrev l-from-one-line : tie.After-one-line Inv-loop μ-loop → tie.After-l Inv-loop μ-loop
+l-from-one-line c = c .before .before .before .before
+
+abbrev one-line-from-next-line : tie.After-next-line Inv-loop μ-loop → tie.After-one-line Inv-loop μ-loop
+one-line-from-next-line c = c .before .before .before .before .before
+
 add-n : tie.Need-add-n Inv-loop μ-loop
-add-n c = let h = line-number _ _ _
-    (read-line _ _ (sym (c .before .before .before .before .before .before .before .before .before .before .before .step-line .ensures) ∙
-    c .before .before .before .before .before .before .before .before .before .l .given .1)) in omega arith
+add-n c =
+    let at-one-line = one-line-from-next-line c in
+    let at-l = l-from-one-line at-one-line in
+    let h = line-number _ _ _ (read-line _ _ (sym (at-l .before .before .step-line .ensures) ∙ at-l .l .given .1)) in omega arith
 
 add-done : tie.Need-add-done Inv-loop μ-loop
-add-done c = let h = room (c .before .before .before .before .before .before .before .before .before .before .before .before) in omega arith
+add-done c = let h = room (l-from-one-line (one-line-from-next-line c) .before .before .before) in omega arith
 
 loop-less : tie.Need-loop-less Inv-loop μ-loop
 loop-less c =
-    let p = c .before .before .before .before .before .before .before .before .before .before .before .before in
+    let p = l-from-one-line (one-line-from-next-line c) .before .before .before in
     let e = p .line-end .ensures in
     let h = next-later (sheet p) (p .line-end .result) (place p) (e .after) (e .within) (omega arith) in
     let r = c .next-line .ensures in
@@ -121,25 +138,30 @@ loop-less c =
 
 loop-again : tie.Need-loop-again Inv-loop μ-loop
 loop-again c =
-    let p = c .before .before .before .before .before .before .before .before .before .before .before .before in
+    let at-one-line = one-line-from-next-line c in
+    let at-l = l-from-one-line at-one-line in
+    let p = at-l .before .before .before in
     rw (c .next-line .ensures)
     (going-more (t p) (sheet p) (given p) (start p) (out p) (work p) (place p) (n p) (begun p) (done p) (going p) (p .line-end .result)
-    (p .line-end .ensures)
-    (read-line _ _ (sym (c .before .before .before .before .before .before .before .before .before .before .before .step-line .ensures) ∙
-    c .before .before .before .before .before .before .before .before .before .l .given .1))
-    (c .before .before .before .before .before .one-line .ensures) (omega arith))
+    (p .line-end .ensures) (read-line _ _ (sym (at-l .before .before .step-line .ensures) ∙ at-l .l .given .1))
+    (at-one-line .one-line .ensures) (omega arith))
+
+abbrev start-from-loop : tie.After-loop Inv-loop μ-loop → tie.Start Inv-loop μ-loop
+start-from-loop c = c .before .before .before .before .before
 
 same-length-3 : tie.Need-same-length-3 Inv-loop μ-loop
-same-length-3 c = going-size (c .before .before .before .before .before .args .t) (c .before .before .before .before .before .args .sheet .now)
-    (c .before .before .before .before .before .args .out .now) (c .before .before .before .before .before .args .from) (c .before .loop .out)
+same-length-3 c =
+    let at-start = start-from-loop c in
+    going-size (at-start .args .t) (at-start .args .sheet .now) (at-start .args .out .now) (at-start .args .from) (c .before .loop .out)
     (c .before .loop .work) (c .before .loop .at) (c .before .loop .n) (c .before .loop .begun) (c .before .loop .done) (c .before .loop .inv)
 
 same-length-4 : tie.Need-same-length-4 Inv-loop μ-loop
-same-length-4 c = c .before .loop .inv .stands .size ∙ sym (c .before .before .before .before .before .pre .0 .1 .size)
+same-length-4 c = c .before .loop .inv .stands .size ∙ sym (start-from-loop c .pre .0 .1 .size)
 
 returns-2 : tie.Need-returns-2 Inv-loop μ-loop
-returns-2 c = going-all (c .before .before .before .before .before .args .t) (c .before .before .before .before .before .args .sheet .now)
-    (c .before .before .before .before .before .args .out .now) (c .before .before .before .before .before .args .from) (c .before .loop .out)
+returns-2 c =
+    let at-start = start-from-loop c in
+    going-all (at-start .args .t) (at-start .args .sheet .now) (at-start .args .out .now) (at-start .args .from) (c .before .loop .out)
     (c .before .loop .work) (c .before .loop .at) (c .before .loop .n) (c .before .loop .begun) (c .before .loop .done) (c .before .loop .inv)
     (omega arith)
 

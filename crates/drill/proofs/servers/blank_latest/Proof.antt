@@ -9,10 +9,11 @@ use Rattle.drill.proofs.servers.blank_latest.Tie as tie
 
 returns : tie.Need-returns
 returns c =
-    let a = c .before .before .before .before .before .before .args in
-    blanks-as (a .work .now) (a .server) (c .before .before .before .before .before .before .pre .0)
-    (c .before .before .before .before .before .before .pre .1) (c .before .before .before .before .server-at .result + 40960 -
-    c .before .before .before .before .server-at .result) (c .before .before .before .before .server-at .ensures .0) (omega arith)
+    let at-server-at = c .before .before .before .before in
+    let a = at-server-at .before .before .args in
+    blanks-as (a .work .now) (a .server) (at-server-at .before .before .pre .0)
+    (at-server-at .before .before .pre .1) (at-server-at .server-at .result + 40960 -
+    at-server-at .server-at .result) (at-server-at .server-at .ensures .0) (omega arith)
     blankLatest (c .before .work .given .0) (c .before .before .blank-latest .ensures)
 
 pub blank-latest-spec : {M : Type 1} → statement M

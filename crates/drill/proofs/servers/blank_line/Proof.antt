@@ -14,8 +14,12 @@ use Rattle.drill.proofs.servers.blank_line.Tie as tie
 tested : (c : tie.After-outside) → let a = c .before .before .before .args in c .outside .result ≡ not (within 1 (shelf (a .t) .servers) (a .server))
 tested c = c .outside .ensures ∙ ap (λ (n : ℕ). not (within 1 n (c .before .before .before .args .server))) (c .before .servers .ensures)
 
-server-in : (c : tie.Else1) → let a = c .before .before .before .before .args in (1 ≤ a .server) × (a .server ≤ shelf (a .t) .servers)
-server-in c = let a = c .before .before .before .before .args in is-in 1 (shelf (a .t) .servers) (a .server) (tested (c .before)) (c .if1 .left)
+-- Places far back, each named once: the place, and from where it is seen.
+abbrev start-from-else1 : tie.Else1 → tie.Start
+start-from-else1 c = c .before .before .before .before
+
+server-in : (c : tie.Else1) → let a = start-from-else1 c .args in (1 ≤ a .server) × (a .server ≤ shelf (a .t) .servers)
+server-in c = let a = start-from-else1 c .args in is-in 1 (shelf (a .t) .servers) (a .server) (tested (c .before)) (c .if1 .left)
 
 returns : tie.Need-returns
 returns c =
@@ -24,17 +28,22 @@ returns c =
     (c .before .if1 .taken)) (c .refused .ensures)
 
 blank-latest-requires : tie.Need-blank-latest-requires
-blank-latest-requires c κs = let a = c .before .before .before .before .before .args in (
-  few-servers (a .t) (a .server)
-      (c .before .before .before .before .before .pre .0 .1) (server-in (c .before)),
-  c .before .before .before .before .before .pre .1,
-)
+blank-latest-requires c κs =
+    let at-else1 = c .before in
+    let at-start = start-from-else1 at-else1 in
+    let a = at-start .args in (
+      few-servers (a .t) (a .server)
+          (at-start .pre .0 .1) (server-in (c .before)),
+      at-start .pre .1,
+    )
 
 returns-2 : tie.Need-returns-2
 returns-2 c =
-    let a = c .before .before .before .before .before .before .before .before .before .args in
-    blank-moves (a .t) (a .work .now) (a .server) (c .before .before .before .before .before .before .before .before .before .pre .0 .1)
-    (server-in (c .before .before .before .before .before)) (c .before .before .before .blank-latest .ensures) (c .begun .ensures)
+    let at-else1 = c .before .before .before .before .before in
+    let at-start = start-from-else1 at-else1 in
+    let a = at-start .args in
+    blank-moves (a .t) (a .work .now) (a .server) (at-start .pre .0 .1)
+    (server-in (at-else1)) (c .before .before .before .blank-latest .ensures) (c .begun .ensures)
 
 pub blank-line-spec : {M : Type 1} → statement M
 blank-line-spec = tie.close (tie.spec (λ c. search needs) (λ c κs. search needs) (λ c κs. search needs) (λ c κs. search needs) returns

@@ -13,16 +13,19 @@ returns c = ap numberOf (sym (number-end (c .before .before .args .s .now) (c .b
 
 returns-2 : tie.Need-returns-2
 unfolding numberOf
-returns-2 c = ap numberOf (sym (number-zero (c .before .before .before .before .before .args .s .now)
-    (c .before .before .before .before .before .args .at) (omega arith) (c .if3 .taken)))
+returns-2 c =
+    let at-start = c .before .before .before .before .before in
+    ap numberOf (sym (number-zero (at-start .args .s .now) (at-start .args .at) (omega arith) (c .if3 .taken)))
 
 returns-3 : tie.Need-returns-3
-returns-3 c = c .digits-from .ensures ∙ ap numberOf (sym (number-more (c .before .before .before .before .before .before .args .s .now)
-    (c .before .before .before .before .before .before .args .at) (omega arith) (c .before .if3 .left)))
+returns-3 c =
+    let at-start = c .before .before .before .before .before .before in
+    c .digits-from .ensures ∙ ap numberOf (sym (number-more (at-start .args .s .now) (at-start .args .at) (omega arith) (c .before .if3 .left)))
 
 returns-4 : tie.Need-returns-4
-returns-4 c = c .digits-from2 .ensures ∙ ap numberOf (sym (number-one (c .before .before .before .before .args .s .now)
-    (c .before .before .before .before .args .at) (omega arith) (omega arith)))
+returns-4 c =
+    let at-start = c .before .before .before .before in
+    c .digits-from2 .ensures ∙ ap numberOf (sym (number-one (at-start .args .s .now) (at-start .args .at) (omega arith) (omega arith)))
 
 pub number-from-spec : {M : Type 1} → statement M
 number-from-spec = tie.close (tie.spec returns (λ c. search needs) (λ c. search needs) returns-2 (λ c κs. search needs) returns-3

@@ -17,9 +17,10 @@ cast-t7 c =
 
 returns : tie.Need-returns
 returns c =
-    let s = c .before .before .before .before .before .before in
-    row-taken (s .args .t) (s .args .out .now) (c .before .before .before .before .answer .result) _ _
-    (c .before .before .before .before .answer .ensures .0) (c .before .before .part .ensures) (c .byte-at .ensures)
+    let at-answer = c .before .before .before .before in
+    let s = at-answer .before .before in
+    row-taken (s .args .t) (s .args .out .now) (at-answer .answer .result) _ _
+    (at-answer .answer .ensures .0) (c .before .before .part .ensures) (c .byte-at .ensures)
 
 pub taken-spec : {M : Type 1} → statement M
 taken-spec = tie.close (tie.spec (λ c κs. search needs) (λ c. search needs) (λ c κs. search needs) (λ c. search needs) cast-t7 (λ c κs. search needs)

@@ -10,15 +10,19 @@ client-in : (c : tie.Else1) → (1 ≤ c .before .before .before .args .client) 
 client-in c = is-in 1 topClient _ (c .before .outside .ensures) (c .if1 .left)
 
 returns : tie.Need-returns
-returns c = let a = c .before .before .before .before .args in stop-stays (a .t) (a .client) (c .before .before .before .before .pre .0)
+returns c =
+    let at-start = c .before .before .before .before in
+    let a = at-start .args in stop-stays (a .t) (a .client) (at-start .pre .0)
     (a .work .now) (is-out 1 topClient (a .client) (c .before .before .outside .ensures) (c .before .if1 .taken)) (c .refused .ensures)
 
 give-up-requires : tie.Need-give-up-requires
 give-up-requires c κs = (client-in (c .before), c .before .before .before .before .pre .1)
 
 returns-2 : tie.Need-returns-2
-returns-2 c = let a = c .before .before .before .before .before .before .before .before .args in stop-moves (a .t) (a .client)
-    (c .before .before .before .before .before .before .before .before .pre .0) (a .work .now) (client-in (c .before .before .before .before .before))
+returns-2 c =
+    let at-else1 = c .before .before .before .before .before in
+    let at-start = at-else1 .before .before .before in
+    let a = at-start .args in stop-moves (a .t) (a .client) (at-start .pre .0) (a .work .now) (client-in (at-else1))
     (c .before .before .before .give-up .ensures) (c .given-up .ensures)
 
 pub stop-spec : {M : Type 1} → statement M

@@ -34,25 +34,30 @@ module _ (c : tie.After-keys-for) where
       (a .out .now)) (c .keys-for .ensures)
       ∙ core-take w (a .client) (start .pre .0) (start .pre .1) (a .t) (lent .writers) (lent .keys) (a .reply .now) (a .out .now)
 
+-- Places far back, each named once: the place, and from where it is seen.
+abbrev keys-for-from-work : tie.After-work → tie.After-keys-for
+keys-for-from-work c = c .before .before .before .before .before .before
+
 put-call-requires : tie.Need-put-call-requires
 put-call-requires c κs =
-    let s = start (c .before .before .before .before .before .before .before .before .before .before) in
-    (s .pre .0, c .before .before .before .before .work .given .1 ∙ s .pre .1)
+    let at-work = c .before .before .before .before in
+    let s = start (keys-for-from-work at-work) in
+    (s .pre .0, at-work .work .given .1 ∙ s .pre .1)
 
 returns : tie.Need-returns
 returns c =
-    let k : tie.After-keys-for = c .before .before .before .before .before .before .before .before .before .before .before .before .before in
+    let at-work = c .before .before .before .before .before .before .before in
+    let k : tie.After-keys-for = keys-for-from-work at-work in
     let s : tie.Start = start k in
     let a = s .args in
     let w = a .work .now in
     let at = k .before .before .kept-at in
-    let t : tie.After-take-in = c .before .before .before .before .before .before .before .before in
+    let t : tie.After-take-in = at-work .before in
     takes-as w (a .client) (s .pre .0) (s .pre .1)
     (λ x y. coreTake (a .t) (a .client) (k .before .writers-for .result) (k .keys-for .result) x y (a .reply .now) (a .out .now))
     (takeIn (a .t) w (a .client) (a .reply .now) (a .out .now)) (at .result + 24576 - at .result) (same-keys k)
     (k .before .before .before .call-of .ensures) (at .ensures .0) (omega arith) (t .take-in .ensures)
-    (c .before .before .before .before .before .before .before .work .given .0) (c .before .before .put-call .ensures .0)
-    (c .before .before .put-call .ensures .1)
+    (at-work .work .given .0) (c .before .before .put-call .ensures .0) (c .before .before .put-call .ensures .1)
 
 pub take-spec : {M : Type 1} → statement M
 take-spec = tie.close (tie.spec (λ c κs. search needs) (λ c κs. search needs) (λ c. search needs) (λ c κs. search needs) (λ c κs. search needs)

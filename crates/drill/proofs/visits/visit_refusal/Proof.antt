@@ -18,22 +18,30 @@ own-t c = c .pre
 tested : (c : tie.After-outside) → let a = c .before .before .before .args in c .outside .result ≡ not (within 1 (shelf (a .t) .servers) (a .server))
 tested c = c .outside .ensures ∙ ap (λ (n : ℕ). not (within 1 n (c .before .before .before .args .server))) (c .before .servers .ensures)
 
-server-in : (c : tie.Else1) → let a = c .before .before .before .before .args in (1 ≤ a .server) × (a .server ≤ shelf (a .t) .servers)
-server-in c = let a = c .before .before .before .before .args in is-in 1 (shelf (a .t) .servers) (a .server) (tested (c .before)) (c .if1 .left)
+-- Places far back, each named once: the place, and from where it is seen.
+abbrev start-from-else1 : tie.Else1 → tie.Start
+start-from-else1 c = c .before .before .before .before
 
-client-in : (c : tie.Else2) → (1 ≤ c .before .before .before .before .before .before .args .client) ×
-    (c .before .before .before .before .before .before .args .client ≤ topClient)
+server-in : (c : tie.Else1) → let a = start-from-else1 c .args in (1 ≤ a .server) × (a .server ≤ shelf (a .t) .servers)
+server-in c = let a = start-from-else1 c .args in is-in 1 (shelf (a .t) .servers) (a .server) (tested (c .before)) (c .if1 .left)
+
+client-in : (c : tie.Else2) → (1 ≤ (start-from-else1 (c .before .before)) .args .client) ×
+    (start-from-else1 (c .before .before) .args .client ≤ topClient)
 client-in c = is-in 1 topClient _ (c .before .outside2 .ensures) (c .if2 .left)
 
 returns : tie.Need-returns
-returns c = let a = c .before .before .before .before .args in
-    refuses-4 (a .t) (own-t (c .before .before .before .before)) (a .work .now) (a .client) (a .server)
+returns c =
+    let at-start = c .before .before .before .before in
+    let a = at-start .args in
+    refuses-4 (a .t) (own-t (at-start)) (a .work .now) (a .client) (a .server)
     (is-out 1 (shelf (a .t) .servers) (a .server) (tested (c .before)) (c .if1 .taken))
 
 returns-2 : tie.Need-returns-2
 returns-2 c =
-    let a = c .before .before .before .before .before .before .args in
-    refuses-5 (a .t) (own-t (c .before .before .before .before .before .before)) (a .work .now) (a .client) (a .server)
+    let at-else1 = c .before .before in
+    let at-start = start-from-else1 at-else1 in
+    let a = at-start .args in
+    refuses-5 (a .t) (own-t (at-start)) (a .work .now) (a .client) (a .server)
     (server-in (c .before .before)) (is-out 1 topClient (a .client) (c .before .outside2 .ensures) (c .if2 .taken))
 
 call-of-requires : tie.Need-call-of-requires
@@ -41,9 +49,10 @@ call-of-requires c κs = client-in c
 
 returns-3 : tie.Need-returns-3
 returns-3 c =
-    let a = c .before .before .before .before .before .before .before .before .args in
-    refuses-as (a .t) (own-t (c .before .before .before .before .before .before .before .before)) (a .work .now) (a .client) (a .server)
-    (server-in (c .before .before .before .before)) (client-in (c .before .before))
+    let at-else1 = c .before .before .before .before in
+    let at-start = start-from-else1 at-else1 in
+    let a = at-start .args in
+    refuses-as (a .t) (own-t (at-start)) (a .work .now) (a .client) (a .server) (server-in (at-else1)) (client-in (c .before .before))
     (c .make-refusal .ensures ∙ ap (λ x. makeRefusal (shelf (a .t)) (a .client) (a .server) (awaited x) packetRoom) (c .before .call-of .ensures))
 
 pub visit-refusal-spec : {M : Type 1} → statement M

@@ -12,8 +12,9 @@ returns c =
 
 returns-2 : tie.Need-returns-2
 returns-2 c =
-    let a = c .before .before .before .before .before .before .before .args in
-    read-done (a .state .now) (a .t) (a .client) (c .before .before .before .before .before .if1 .left) (c .before .before .before .read-in .result) _
+    let at-else1 = c .before .before .before .before .before in
+    let a = at-else1 .before .before .args in
+    read-done (a .state .now) (a .t) (a .client) (at-else1 .if1 .left) (c .before .before .before .read-in .result) _
     _ (c .before .before .before .read-in .ensures) (c .outcome .ensures)
 
 pub cendrulas-client-begin-read-spec : {M : Type 1} → statement M

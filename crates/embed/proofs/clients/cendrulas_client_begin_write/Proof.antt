@@ -18,10 +18,11 @@ returns-2 c =
 
 returns-3 : tie.Need-returns-3
 returns-3 c =
-    let a = c .before .before .before .before .before .before .before .before .before .before .before .args in
-    write-done (a .state .now) (a .t) (a .client) (c .before .before .before .before .before .before .before .if1 .left) (a .content .now)
-    (a .nonce .now) _ (c .before .before .before .write-in .result) _ _ (c .before .before .before .before .before .before .if2 .left)
-    (c .before .before .before .before .array .ensures) (c .before .before .before .write-in .ensures) (c .outcome .ensures)
+    let at-array = c .before .before .before .before in
+    let a = at-array .before .before .before .before .before .before .before .args in
+    write-done (a .state .now) (a .t) (a .client) (at-array .before .before .before .if1 .left) (a .content .now)
+    (a .nonce .now) _ (c .before .before .before .write-in .result) _ _ (at-array .before .before .if2 .left)
+    (at-array .array .ensures) (c .before .before .before .write-in .ensures) (c .outcome .ensures)
 
 pub cendrulas-client-begin-write-spec : {M : Type 1} → statement M
 cendrulas-client-begin-write-spec = tie.close (tie.spec (λ c κs. search needs) returns (λ c κs. search needs) returns-2 (λ c κs. search needs)

@@ -10,9 +10,10 @@ use Rattle.embed.proofs.clients.put_call.Tie as tie
 
 returns : tie.Need-returns
 returns c =
-    let a = c .before .before .before .before .before .args in
+    let at-start = c .before .before .before .before .before in
+    let a = at-start .args in
     let m : length (a .call .tally .marks) ≡ mostServers = search needs in
-    c .before .before .put .ensures ∙ put-first (a .state .now) (c .before .before .before .before .before .pre) (a .call) m
+    c .before .before .put .ensures ∙ put-first (a .state .now) (at-start .pre) (a .call) m
 
 pub put-call-spec : {M : Type 1} → statement M
 put-call-spec = tie.close (tie.spec (λ c κs. search needs) (λ c. search needs) returns)

@@ -12,15 +12,16 @@ use Rattle.embed.proofs.clients.read_in.Tie as tie
 
 returns : tie.Need-returns
 returns c =
-    let begun = c .before .before .before .before .before .before .before in
-    let a = c .before .before .before .before .before .before .before .before .before .before .before .before .args in
+    let at-begin-read-in = c .before .before .before .before .before .before .before in
+    let at-start = at-begin-read-in .before .before .before .before .before in
+    let begun = at-begin-read-in in
+    let a = at-start .args in
     let d = a .state .now in
-    let e = core-read d (c .before .before .before .before .before .before .before .before .before .before .before .before .pre) (a .t) (a .client) in
-    began d (c .before .before .before .before .before .before .before .before .before .before .before .before .pre)
-    (beginRead (a .t) (a .client) (callAt d) (keptOf d)) (begun .begin-read-in .result) (begun .begin-read-in .last .1 .0)
+    let e = core-read d (at-start .pre) (a .t) (a .client) in
+    began d (at-start .pre) (beginRead (a .t) (a .client) (callAt d) (keptOf d)) (begun .begin-read-in .result) (begun .begin-read-in .last .1 .0)
     (c .before .before .before .put-call .last .0)
-    (begun .begin-read-in .ensures .0 ∙ rw (c .before .before .before .before .before .before .before .before .before .read .ensures) (ap started e))
-    (begun .begin-read-in .ensures .1 ∙ rw (c .before .before .before .before .before .before .before .before .before .read .ensures)
+    (begun .begin-read-in .ensures .0 ∙ rw (at-begin-read-in .before .before .read .ensures) (ap started e))
+    (begun .begin-read-in .ensures .1 ∙ rw (at-begin-read-in .before .before .read .ensures)
     (ap (λ (b : Begun). b .kept) e)) (c .before .before .before .put-call .ensures)
 
 pub read-in-spec : {M : Type 1} → statement M

@@ -22,8 +22,9 @@ part-requires : tie.Need-part-requires Inv-loop μ-loop
 part-requires c κs = tt
 
 array-requires : tie.Need-array-requires Inv-loop μ-loop
-array-requires c κs = ap length (c .part .ensures) ∙ key-size (c .before .before .before .before .args .flat .now) (c .before .before .loop .i)
-    (c .before .before .before .before .pre) (omega arith)
+array-requires c κs =
+    let at-start = c .before .before .before .before in
+    ap length (c .part .ensures) ∙ key-size (at-start .args .flat .now) (c .before .before .loop .i) (at-start .pre) (omega arith)
 
 loop-again : tie.Need-loop-again Inv-loop μ-loop
 loop-again c =

@@ -6,8 +6,9 @@ use Rattle.embed.proofs.pack.put.Tie as tie
 
 returns : tie.Need-returns
 returns c =
-    let a = c .before .before .before .before .before .before .before .args in
-    let p = c .before .before .before .before .before .before .before .pre in
+    let at-start = c .before .before .before .before .before .before .before in
+    let a = at-start .args in
+    let p = at-start .pre in
     copied-front (a .src .now) (a .dst .now) (a .n) (p .0) (p .1) (c .before .before .before .part .ensures) (c .before .before .put .ensures)
 
 pub put-spec : {M : Type 1} → statement M

@@ -12,10 +12,11 @@ returns c =
 
 returns-2 : tie.Need-returns-2
 returns-2 c =
-    let a = c .before .before .before .before .before .before .before .before .before .before .before .before .before .args in
-    take-sized (a .memory .now) (a .key .now) (a .packet .now) (a .out .now) _ _
-    (c .before .before .before .before .before .before .before .before .if1 .left) (c .before .before .before .before .before .before .array .ensures)
-    (c .before .before .before .before .serve .ensures)
+    let at-serve = c .before .before .before .before in
+    let at-else1 = at-serve .before .before .before .before in
+    let a = at-else1 .before .before .before .before .before .args in
+    take-sized (a .memory .now) (a .key .now) (a .packet .now) (a .out .now) _ _ (at-else1 .if1 .left) (at-serve .before .before .array .ensures)
+    (at-serve .serve .ensures)
 
 pub cendrulas-server-take-spec : {M : Type 1} → statement M
 cendrulas-server-take-spec = tie.close (tie.spec (λ c κs. search needs) returns (λ c κs. search needs) (λ c κs. search needs) (λ c. search needs)

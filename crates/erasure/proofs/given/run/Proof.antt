@@ -17,29 +17,34 @@ copy-requires c κs =
 
 returns : tie.Need-returns
 returns c =
-    let args = c .before .before .before .before .before .before .before .args in
+    let at-then1 = c .before .before .before .before in
+    let args = at-then1 .before .before .before .args in
     let fragments = denote.Ref.now (args .fragments) in
     written-as _ _ (args .at) (args .m) (λ q. getD fragments (getD (args .t3) (getD (args .t2) (args .i) 0) 0 + q) 0)
     (runAt (args .k) (args .a) (args .t2) (args .t3) fragments (args .i))
-    (λ q h. sym (run-copied (args .k) (args .a) (args .t2) (args .t3) fragments (args .i) q (c .before .before .before .before .if1 .taken)))
+    (λ q h. sym (run-copied (args .k) (args .a) (args .t2) (args .t3) fragments (args .i) q (at-then1 .if1 .taken)))
     (c .before .before .copy .ensures)
+
+-- Places far back, each named once: the place, and from where it is seen.
+abbrev start-from-weights : tie.After-weights → tie.Start
+start-from-weights c = c .before .before .before .before
 
 combine-requires : tie.Need-combine-requires
 combine-requires c κs =
-    let start = c .before .before .before .before .before in
+    let start = start-from-weights (c .before) in
     (start .pre .0, λ j h. omega (arith, start .pre .2 j h), start .pre .3)
 
 returns-2 : tie.Need-returns-2
 returns-2 c =
-    let start = c .before .before .before .before .before .before .before .before in
+    let at-weights = c .before .before .before .before in
+    let start = start-from-weights at-weights in
     let args = start .args in
     let fragments = denote.Ref.now (args .fragments) in
-    let w = c .before .before .before .before .weights in
+    let w = at-weights .weights in
     written-as _ _ (args .at) (args .m) (sumAt (args .k) (w .result) fragments (args .t3))
     (runAt (args .k) (args .a) (args .t2) (args .t3) fragments (args .i))
     (λ q h. summed-as (args .k) (args .i) q (args .a) (w .result) (args .t2) (args .t3) fragments (start .pre .0) (w .ensures)
-    (c .before .before .before .before .before .if1 .left))
-    (c .before .before .combine .ensures)
+    (at-weights .before .if1 .left)) (c .before .before .combine .ensures)
 
 pub run-spec : {M : Type 1} → statement M
 run-spec = tie.close (tie.spec (λ c. search needs) (λ c. search needs) (λ c. search needs) (λ c. search needs) copy-requires (λ c. search needs)

@@ -24,9 +24,10 @@ loop-holds c = (search needs, λ i h. sym (ap (bitXor (getD (c .doubled .result)
 
 loop-again : tie.Need-loop-again Inv-loop μ-loop
 loop-again c =
+    let at-doubled = c .before .before .before .before in
     let l = c .before .before .before .loop in
-    let args = c .before .before .before .before .before .args in
-    let begun = c .before .before .before .before .doubled .result in
+    let args = at-doubled .before .args in
+    let begun = at-doubled .doubled .result in
     let term : ℕ → ℕ → ℕ = λ i m. bitOf (getD (args .t3) m 0) (args .b) * entry (denote.Ref.now (args .lanes)) m i in (
       search needs,
       λ i h.

@@ -26,40 +26,55 @@ gather-requires c κs =
     let start = c .before .before .before .before .before in
     (search needs, λ j h. omega (arith, start .pre .1 j h))
 
+-- Places far back, each named once: the place, and from where it is seen.
+abbrev at-loop-from-lane-sum : tie.After-lane-sum Inv-loop μ-loop → tie.At-loop Inv-loop μ-loop
+at-loop-from-lane-sum c = c .before .before .before .before
+
 add-store : tie.Need-add-store Inv-loop μ-loop
 add-store c =
-    let start = c .before .before .before .before .before .before .before .before in
-    let l = c .before .before .before .before .before .loop in
+    let at-lane-sum = c .before in
+    let at-at-loop = at-loop-from-lane-sum at-lane-sum in
+    let start = at-at-loop .before .before .before in
+    let l = at-at-loop .loop in
     omega (arith, l .inv .1 .long, start .pre .2)
 
 store-requires : tie.Need-store-requires Inv-loop μ-loop
 store-requires c κs =
-    let start = c .before .before .before .before .before .before .before .before in
-    let l = c .before .before .before .before .before .loop in
+    let at-lane-sum = c .before in
+    let at-at-loop = at-loop-from-lane-sum at-lane-sum in
+    let start = at-at-loop .before .before .before in
+    let l = at-at-loop .loop in
     let n = c .before .before .before .at-most-lane in
     (n .ensures .1, omega (arith, l .inv .1 .long, start .pre .2, n .ensures .0))
 
+abbrev lane-sum-from-slice-known2 : tie.After-slice-known2 Inv-loop μ-loop → tie.After-lane-sum Inv-loop μ-loop
+lane-sum-from-slice-known2 c = c .before .before .before .before
+
 add-q : tie.Need-add-q Inv-loop μ-loop
 add-q c =
-    let start = c .before .before .before .before .before .before .before .before .before .before .before in
-    let l = c .before .before .before .before .before .before .before .before .loop in
-    let n = c .before .before .before .before .before .before .at-most-lane in
+    let at-lane-sum = lane-sum-from-slice-known2 c in
+    let at-at-loop = at-loop-from-lane-sum at-lane-sum in
+    let start = at-at-loop .before .before .before in
+    let l = at-at-loop .loop in
+    let n = at-lane-sum .before .before .at-most-lane in
     omega (arith, n .ensures .0)
 
 loop-less : tie.Need-loop-less Inv-loop μ-loop
 loop-less c =
-    let n = c .before .before .before .before .before .before .at-most-lane in
+    let n = lane-sum-from-slice-known2 c .before .before .at-most-lane in
     let h : 0 < n .result = n .ensures .2 (omega arith) in
     omega (arith, n .ensures .0, h)
 
 loop-again : tie.Need-loop-again Inv-loop μ-loop
 unfolding sumAt
 loop-again c =
-    let args = c .before .before .before .before .before .before .before .before .before .before .before .args in
-    let l = c .before .before .before .before .before .before .before .before .loop in
-    let n = c .before .before .before .before .before .before .at-most-lane in
-    let lanes = c .before .before .before .before .before .gather in
-    let sum = c .before .before .before .before .lane-sum in
+    let at-lane-sum = lane-sum-from-slice-known2 c in
+    let at-at-loop = at-loop-from-lane-sum at-lane-sum in
+    let args = at-at-loop .before .before .before .args in
+    let l = at-at-loop .loop in
+    let n = at-lane-sum .before .before .at-most-lane in
+    let lanes = at-lane-sum .before .gather in
+    let sum = at-lane-sum .lane-sum in
     let src = denote.Ref.now (args .src) in
     let old = denote.Ref.now (args .out) in
     let g : ℕ → ℕ = sumAt (args .k) (args .weights) src (args .starts) in

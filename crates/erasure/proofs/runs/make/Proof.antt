@@ -15,8 +15,9 @@ use Rattle.erasure.proofs.runs.make.Tie as tie
 
 starts-of-requires : tie.Need-starts-of-requires
 starts-of-requires c κs =
-    let args = c .before .before .before .before .args in
-    let pre = c .before .before .before .before .pre in (
+    let at-shared-slice-known = c .before .before .before in
+    let args = at-shared-slice-known .before .args in
+    let pre = at-shared-slice-known .before .pre in (
       search needs,
       λ j h. omega (
         arith,
@@ -25,10 +26,16 @@ starts-of-requires c κs =
       ),
     )
 
+-- Places far back, each named once: the place, and from where it is seen.
+abbrev shared-slice-known-from-starts-of : tie.After-starts-of → tie.After-shared-slice-known
+shared-slice-known-from-starts-of c = c .before .before .before .before
+
 combine-requires : tie.Need-combine-requires
 combine-requires c κs =
-    let args = c .before .before .before .before .before .before .before .args in
-    let pre = c .before .before .before .before .before .before .before .pre in
+    let at-starts-of = c .before .before in
+    let at-shared-slice-known = shared-slice-known-from-starts-of at-starts-of in
+    let args = at-shared-slice-known .before .args in
+    let pre = at-shared-slice-known .before .pre in
     let places = c .before .before .before .plain-places in (
       search needs,
       λ j h. omega (
@@ -42,16 +49,17 @@ combine-requires c κs =
 
 returns : tie.Need-returns
 returns c =
-    let start = c .before .before .before .before .before .before .before .before .before in
+    let at-starts-of = c .before .before .before .before in
+    let at-shared-slice-known = shared-slice-known-from-starts-of at-starts-of in
+    let start = at-shared-slice-known .before in
     let args = start .args in
     let pre = start .pre in
-    let xs = c .before .before .before .before .before .before .before .plain-points in
-    let w = c .before .before .before .before .before .before .weights in
-    let at = c .before .before .before .before .before .plain-places in
-    let starts = c .before .before .before .before .starts-of in
+    let xs = at-starts-of .before .before .before .plain-points in
+    let w = at-starts-of .before .before .weights in
+    let at = at-starts-of .before .plain-places in
+    let starts = at-starts-of .starts-of in
     let content = denote.Ref.now (args .content) in
-    let small : (j : ℕ) → getD content j 0 < 256 = λ j. (c .before .before .before .before .before .before .before .before .shared-slice-known .given
-    j .fits) in
+    let small : (j : ℕ) → getD content j 0 < 256 = λ j. (at-shared-slice-known .shared-slice-known .given j .fits) in
     let bytes : (j : ℕ) → getD (xs .result) j 0 < 256 = λ j. (let f : Fits w8 (getD (xs .result) j 0) = search needs in f .fits) in
     let long : length (xs .result) ≡ width = search needs in
     made (args .k) (args .f) fragmentRoom (args .z) (w .result) content (starts .result) (at .result) (xs .result) _ _

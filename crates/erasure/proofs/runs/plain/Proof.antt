@@ -27,12 +27,12 @@ returns c =
 
 returns-2 : tie.Need-returns-2
 returns-2 c =
-    let start = c .before .before .before .before .before .before .before in
+    let at-blank = c .before .before .before .before .before in
+    let start = at-blank .before .before in
     let args = start .args in
     let m = c .before .before .before .at-most in
     copied (args .f) (args .j) (m .result) fragmentRoom (denote.Ref.now (args .content)) _ _
-    (c .before .before .before .before .before .blank .ensures) (start .pre .0) (m .ensures .1)
-    (m .ensures .3) (c .before .copy .ensures)
+    (at-blank .blank .ensures) (start .pre .0) (m .ensures .1) (m .ensures .3) (c .before .copy .ensures)
 
 pub plain-spec : {M : Type 1} → statement M
 plain-spec = tie.close (tie.spec mul-from (λ c κs. search needs) returns (λ c. search needs) (λ c κs. search needs) (λ c. search needs)

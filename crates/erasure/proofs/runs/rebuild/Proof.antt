@@ -29,48 +29,64 @@ places-of-requires c κs = c .before .before .pre .0
 system-of-requires : tie.Need-system-of-requires Inv-loop μ-loop
 system-of-requires c κs = (c .before .before .before .pre .0, c .before .before .before .pre .4)
 
+-- Places far back, each named once: the place, and from where it is seen.
+abbrev start-from-system-of : tie.After-system-of Inv-loop μ-loop → tie.Start Inv-loop μ-loop
+start-from-system-of c = c .before .before .before .before
+
 starts-of-requires : tie.Need-starts-of-requires Inv-loop μ-loop
-starts-of-requires c κs = (c .before .before .before .before .pre .0, λ j h. omega (arith, c .before .before .before .before .pre .5 j h))
+starts-of-requires c κs =
+    let at-start = start-from-system-of c in
+    (at-start .pre .0, λ j h. omega (arith, at-start .pre .5 j h))
 
 loop-holds : tie.Need-loop-holds Inv-loop μ-loop
 loop-holds c = (search needs, λ h. zero-mod _, written-none _ _ _)
 
+abbrev system-of-from-at-most : tie.After-at-most Inv-loop μ-loop → tie.After-system-of Inv-loop μ-loop
+system-of-from-at-most c = c .before .before .before .before
+
 div-run : tie.Need-div-run Inv-loop μ-loop
-div-run c = c .before .before .before .before .before .before .before .before .pre .1
+div-run c = start-from-system-of (system-of-from-at-most c) .pre .1
 
 run-requires : tie.Need-run-requires Inv-loop μ-loop
 run-requires c κs =
-    let start = c .before .before .before .before .before .before .before .before .before in
+    let at-at-most = c .before in
+    let start = start-from-system-of (system-of-from-at-most at-at-most) in
     let args = start .args in
     let l = c .before .before .before .loop in
     let m = c .before .at-most in (
       start .pre .0,
       run-point (args .k) (args .f) (args .n) (l .done) (start .pre .1) (start .pre .2) (omega arith),
-      λ j h. omega (arith, c .before .before .before .before .starts-of .ensures j h, start .pre .5 j h, m .ensures .1),
+      λ j h. omega (arith, at-at-most .before .before .before .starts-of .ensures j h, start .pre .5 j h, m .ensures .1),
       omega (arith, m .ensures .0, l .inv .2 .long, start .pre .3),
     )
 
+abbrev at-most-from-slice-known2 : tie.After-slice-known2 Inv-loop μ-loop → tie.After-at-most Inv-loop μ-loop
+at-most-from-slice-known2 c = c .before .before .before .before
+
 add-done : tie.Need-add-done Inv-loop μ-loop
 add-done c =
-    let m = c .before .before .before .before .at-most in
+    let m = at-most-from-slice-known2 c .at-most in
     omega (arith, m .ensures .0)
 
 loop-less : tie.Need-loop-less Inv-loop μ-loop
 loop-less c =
-    let start = c .before .before .before .before .before .before .before .before .before .before .before .before in
-    let m = c .before .before .before .before .at-most in
+    let at-at-most = at-most-from-slice-known2 c in
+    let start = start-from-system-of (system-of-from-at-most at-at-most) in
+    let m = at-at-most .at-most in
     let h : 0 < m .result = m .ensures .2 (omega arith) (start .pre .1) in
     omega (arith, m .ensures .0, h)
 
 loop-again : tie.Need-loop-again Inv-loop μ-loop
 loop-again c =
-    let start = c .before .before .before .before .before .before .before .before .before .before .before .before in
+    let at-at-most = at-most-from-slice-known2 c in
+    let at-system-of = system-of-from-at-most at-at-most in
+    let start = start-from-system-of at-system-of in
     let args = start .args in
-    let l = c .before .before .before .before .before .before .loop in
-    let m = c .before .before .before .before .at-most in
-    let starts = c .before .before .before .before .before .before .before .starts-of in
-    let a = c .before .before .before .before .before .before .before .before .system-of in
-    let places = c .before .before .before .before .before .before .before .before .before .places-of in
+    let l = at-at-most .before .before .loop in
+    let m = at-at-most .at-most in
+    let starts = at-at-most .before .before .before .starts-of in
+    let a = at-system-of .system-of in
+    let places = at-system-of .before .places-of in
     let e : l .done % args .f ≡ 0 = l .inv .1 (omega arith) in (
       omega (arith, m .ensures .0),
       λ h. (let q : m .result ≡ args .f = m .ensures .3 (omega arith) in ap (λ (x : ℕ). (l .done + x) % args .f) q ∙ add-mod-right (l .done) (args .f)
@@ -85,15 +101,16 @@ same-length c = c .before .loop .inv .2 .long
 
 returns : tie.Need-returns Inv-loop μ-loop
 returns c =
-    let start = c .before .before .before .before .before .before .before in
+    let at-system-of = c .before .before .before in
+    let start = start-from-system-of at-system-of in
     let args = start .args in
     let l = c .before .loop in
     let starts = c .before .before .starts-of in
     let a = c .before .before .before .system-of in
-    let places = c .before .before .before .before .places-of in
+    let places = at-system-of .before .places-of in
     let fragments = denote.Ref.now (args .fragments) in
     let old = denote.Ref.now (args .out) in
-    let small : (j : ℕ) → getD fragments j 0 < 256 = λ j. (c .before .before .before .before .before .before .shared-slice-known .given j .fits) in
+    let small : (j : ℕ) → getD fragments j 0 < 256 = λ j. (at-system-of .before .before .before .shared-slice-known .given j .fits) in
     let points : (j : ℕ) → j < args .k → getD (args .servers) j 0 < 256 = λ j h. (let f : Fits w8 (getD (args .servers) j 0) = search
     needs in f .fits) in
     let long : length (args .servers) ≡ width = search needs in

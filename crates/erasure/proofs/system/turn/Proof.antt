@@ -25,10 +25,11 @@ loop-holds c = (search needs, filled-none (search needs), λ j h. refl)
 
 loop-again : tie.Need-loop-again Inv-loop μ-loop
 loop-again c =
+    let at-inverse = c .before .before .before .before .before in
     let at = c .before .before .before .loop in
-    let args = c .before .before .before .before .before .before .before .args in
+    let args = at-inverse .before .before .args in
     let pivot = getD (args .t1) (args .p) [] in
-    let d = c .before .before .before .before .before .inverse .result in (
+    let d = at-inverse .inverse .result in (
       search needs,
       filled-more (at .inv .1) (omega arith) _
           (subst (λ (x : List ℕ). RowTurned x pivot d (args .p) (c .turn-row .result)) (at .inv .2 (at .r) (omega arith)) (c .turn-row .ensures)),

@@ -5,13 +5,13 @@ use Rattle.server.proofs.answers.collect.Statement.{statement}
 use Rattle.server.proofs.answers.collect.Tie as tie
 
 returns : tie.Need-returns
-returns c = collect-answers (c .before .before .before .before .before .before .before .before .before .before .args .memory .now)
-    (λ i. c .before .before .before .before .before .before .before .before .before .shared-slice-known .given i .fits)
-    (c .before .before .before .before .before .before .before .before .before .before .args .out .now)
-    (c .before .before .before .before .before .before .before .before .before .before .args .head)
-    (c .before .before .before .before .part2 .ensures) (c .before .before .before .before .before .before .candidate-size .ensures)
-    (c .before .before .before .before .before .part .ensures) (c .before .before .before .before .before .before .before .reply-head .ensures)
-    (c .before .before .make-packet .ensures)
+returns c =
+    let at-part2 = c .before .before .before .before in
+    let at-shared-slice-known = at-part2 .before .before .before .before .before in
+    collect-answers (at-shared-slice-known .before .args .memory .now) (λ i. at-shared-slice-known .shared-slice-known .given i .fits)
+    (at-shared-slice-known .before .args .out .now) (at-shared-slice-known .before .args .head)
+    (at-part2 .part2 .ensures) (at-part2 .before .before .candidate-size .ensures)
+    (at-part2 .before .part .ensures) (at-part2 .before .before .before .reply-head .ensures) (c .before .before .make-packet .ensures)
 
 pub collect-spec : {M : Type 1} → statement M
 collect-spec = tie.close (tie.spec (λ c κs. search needs) (λ c κs. search needs) (λ c κs. search needs) (λ c κs. search needs) (λ c κs. search needs)

@@ -5,17 +5,15 @@ use Rattle.server.proofs.answers.complete.Statement.{statement}
 use Rattle.server.proofs.answers.complete.Tie as tie
 
 returns : tie.Need-returns
-returns c = complete-answers
-    (c .before .before .before .before .before .before .before .before .before .before .before .before .before .before .before .args .memory .now)
-    (λ i. c .before .before .before .before .before .before .before .before .before .before .before .before .before .before .slice-known .given
-    i .fits) (c .before .before .before .before .before .before .before .before .before .before .before .before .before .before .before .args .packet
-    .now) (λ i. c .before .before .before .before .before .before .before .before .before .before .before .before .before .shared-slice-known .given
-    i .fits) (c .before .before .before .before .before .before .before .before .before .before .before .before .before .before .before .args .out
-    .now) (c .before .before .before .before .before .before .before .before .before .before .before .before .before .before .before .args .head)
-    (c .before .before .before .before .before .before .before .before .before .before .rest .ensures)
-    (c .before .before .before .before .before .before .before .before .before .raise .ensures)
-    (c .before .before .before .before .before .part .ensures) (c .before .before .before .before .part2 .ensures)
-    (c .before .before .before .before .before .before .reply-head .ensures) (c .before .before .make-packet .ensures)
+returns c =
+    let at-part2 = c .before .before .before .before in
+    let at-raise = at-part2 .before .before .before .before .before in
+    let at-shared-slice-known = at-raise .before .before .before .before in
+    complete-answers (at-shared-slice-known .before .before .args .memory .now) (λ i. at-shared-slice-known .before .slice-known .given
+    i .fits) (at-shared-slice-known .before .before .args .packet .now) (λ i. at-shared-slice-known .shared-slice-known .given
+    i .fits) (at-shared-slice-known .before .before .args .out .now) (at-shared-slice-known .before .before .args .head)
+    (at-raise .before .rest .ensures) (at-raise .raise .ensures) (at-part2 .before .part .ensures) (at-part2 .part2 .ensures)
+    (at-part2 .before .before .reply-head .ensures) (c .before .before .make-packet .ensures)
 
 pub complete-spec : {M : Type 1} → statement M
 complete-spec = tie.close (tie.spec (λ c κs. search needs) (λ c κs. search needs) (λ c κs. search needs) (λ c κs. search needs) (λ c κs. search needs)

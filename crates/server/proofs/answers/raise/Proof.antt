@@ -6,11 +6,11 @@ use Rattle.server.proofs.answers.raise.Tie as tie
 
 returns : tie.Need-returns
 returns c =
-    let b = c .before .before .before .before .before .before .before in
+    let at-then1 = c .before .before .before .before in
+    let b = at-then1 .before .before .before in
     let a = b .before .before .before .before .before .args in
     raise-higher (a .memory .now) (a .candidate .now) (b .before .rest .ensures) (b .head-at .ensures)
-    (c .before .before .before .before .before .before .head-at2 .ensures) (c .before .before .before .before .before .below .ensures)
-    (c .before .before .before .before .if1 .taken) (c .before .before .put .ensures)
+    (at-then1 .before .before .head-at2 .ensures) (at-then1 .before .below .ensures) (at-then1 .if1 .taken) (c .before .before .put .ensures)
 
 returns-2 : tie.Need-returns-2
 returns-2 c =

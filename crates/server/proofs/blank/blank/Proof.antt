@@ -12,15 +12,19 @@ use Rattle.server.proofs.blank.blank.Tie as tie
 
 -- ---- what the tests say, at their places in the code
 
-faults-in : (c : tie.Else2) → not (within 1 topFaults (c .before .before .before .before .args .t)) ≡ false
+-- Places far back, each named once: the place, and from where it is seen.
+abbrev start-from-else2 : tie.Else2 → tie.Start
+start-from-else2 c = c .before .before .before .before
+
+faults-in : (c : tie.Else2) → not (within 1 topFaults (start-from-else2 c .args .t)) ≡ false
 faults-in c = sym (c .before .outside .ensures) ∙ c .if2 .left
 
-server-tested : (c : tie.After-outside2) → let a = c .before .before .before .before .before .before .args in not
+server-tested : (c : tie.After-outside2) → let a = start-from-else2 (c .before .before) .args in not
     (within 1 (shelf (a .t) .servers) (a .server)) ≡ c .outside2 .result
-server-tested c = ap (λ (n : ℕ). not (within 1 n (c .before .before .before .before .before .before .args .server)))
+server-tested c = ap (λ (n : ℕ). not (within 1 n (start-from-else2 (c .before .before) .args .server)))
     (sym (c .before .servers .ensures)) ∙ sym (c .outside2 .ensures)
 
-server-in : (c : tie.Else3) → let a = c .before .before .before .before .before .before .before .args in not
+server-in : (c : tie.Else3) → let a = start-from-else2 (c .before .before .before) .args in not
     (within 1 (shelf (a .t) .servers) (a .server)) ≡ false
 server-in c = server-tested (c .before) ∙ c .if3 .left
 
@@ -38,36 +42,45 @@ returns-2 c =
     (sym (c .before .before .outside .ensures) ∙ c .before .if2 .taken))
 
 cast-servers : tie.Need-cast-servers
-cast-servers c = omega (arith, faults-byte (c .before .before .before .before .args .t) (faults-in c))
+cast-servers c = omega (arith, faults-byte (start-from-else2 c .args .t) (faults-in c))
 
 returns-3 : tie.Need-returns-3
 returns-3 c =
-    let a = c .before .before .before .before .before .before .before .before .args in
-    rw (c .refused3 .ensures)
-    (blank-server (a .memory .now) (a .t) (a .server) (c .before .before .before .before .before .before .if1 .left)
-    (faults-in (c .before .before .before .before)) (server-tested (c .before .before) ∙ c .before .if3 .taken))
+    let at-else2 = c .before .before .before .before in
+    let a = start-from-else2 at-else2 .args in
+    rw (c .refused3 .ensures) (blank-server (a .memory .now) (a .t) (a .server) (at-else2 .before .before .if1 .left)
+    (faults-in (at-else2)) (server-tested (c .before .before) ∙ c .before .if3 .taken))
+
+abbrev else3-from-slice-known2 : tie.After-slice-known2 → tie.Else3
+else3-from-slice-known2 c = c .before .before .before .before
 
 cast-memory : tie.Need-cast-memory
-cast-memory c = omega (
-  arith,
-  faults-byte (c .before .before .before .before .before .before .before .before .before .before .before .args .t)
-      (faults-in (c .before .before .before .before .before .before .before)),
-)
+cast-memory c =
+    let at-else3 = else3-from-slice-known2 c in
+    let at-else2 = at-else3 .before .before .before in
+    omega (
+      arith,
+      faults-byte (start-from-else2 at-else2 .args .t)
+          (faults-in (at-else2)),
+    )
 
 cast-memory-2 : tie.Need-cast-memory-2
 cast-memory-2 c =
-    let a = c .before .before .before .before .before .before .before .before .before .before .before .args in
+    let at-else3 = else3-from-slice-known2 c in
+    let at-else2 = at-else3 .before .before .before in
+    let a = start-from-else2 at-else2 .args in
     omega (
       arith,
-      server-byte (a .t) (a .server) (faults-in (c .before .before .before .before .before .before .before))
-          (server-in (c .before .before .before .before)),
+      server-byte (a .t) (a .server) (faults-in (at-else2))
+          (server-in (at-else3)),
     )
 
 returns-4 : tie.Need-returns-4
 returns-4 c =
-    let a = c .before .before .before .before .before .before .before .before .before .before .before .args in
-    blank-made (a .memory .now) (a .t) (a .server) (c .before .before .before .before .before .before .before .before .before .if1 .left)
-    (faults-in (c .before .before .before .before .before .before .before)) (server-in (c .before .before .before .before))
+    let at-else3 = else3-from-slice-known2 c in
+    let at-else2 = at-else3 .before .before .before in
+    let a = start-from-else2 at-else2 .args in
+    blank-made (a .memory .now) (a .t) (a .server) (at-else2 .before .before .if1 .left) (faults-in (at-else2)) (server-in (at-else3))
     (c .before .before .clear .ensures)
 
 pub blank-spec : {M : Type 1} → statement M

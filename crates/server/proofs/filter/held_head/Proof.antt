@@ -8,8 +8,10 @@ use Rattle.server.proofs.filter.held_head.Statement.{statement}
 use Rattle.server.proofs.filter.held_head.Tie as tie
 
 returns : tie.Need-returns
-returns c = let a = c .before .before .before .before .before .before .args in let l : length (a .stamp .tag) ≡ tagSize = search needs in head-made
-    (a .stamp) (a .flag) l (c .before .before .before .before .put-stamp .ensures) (c .before .put-byte .ensures)
+returns c =
+    let at-put-stamp = c .before .before .before .before in
+    let a = at-put-stamp .before .before .args in let l : length (a .stamp .tag) ≡ tagSize = search needs in head-made
+    (a .stamp) (a .flag) l (at-put-stamp .put-stamp .ensures) (c .before .put-byte .ensures)
 
 pub held-head-spec : {M : Type 1} → statement M
 held-head-spec = tie.close (tie.spec (λ c. search needs) (λ c κs. search needs) (λ c. search needs) (λ c κs. search needs) returns)

@@ -6,8 +6,10 @@ use Rattle.server.proofs.filter.share_bytes.Statement.{statement}
 use Rattle.server.proofs.filter.share_bytes.Tie as tie
 
 returns : tie.Need-returns
-returns c = bytes-made (shelf (c .before .before .before .before .before .args .t)) (c .before .before .before .before .before .args .memory .now)
-    (c .before .before .before .before .before .args .at) (c .before .before .before .rest .ensures) (c .before .before .rest2 .ensures)
+returns c =
+    let at-start = c .before .before .before .before .before in
+    bytes-made (shelf (at-start .args .t)) (at-start .args .memory .now)
+    (at-start .args .at) (c .before .before .before .rest .ensures) (c .before .before .rest2 .ensures)
     (c .before .share-size .ensures) (c .part .ensures)
 
 pub share-bytes-spec : {M : Type 1} → statement M

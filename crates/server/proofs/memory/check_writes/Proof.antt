@@ -22,20 +22,21 @@ returns c = check-stop _ (c .before .before .before .before .loop .inv .1) (omeg
 
 returns-2 : tie.Need-returns-2 Inv-loop μ-loop
 returns-2 c =
-    let w = rw (c .before .before .before .size .given .1) at (c .before .before .before .before .before .write-field .ensures) in
-    check-held _ (c .before .before .before .before .before .before .before .loop .inv .1) (omega arith) (w .leaves) _ (c .before .repeats .ensures)
-    (c .if1 .taken)
+    let at-repeats = c .before in
+    let at-write-field = at-repeats .before .before .before .before in
+    let w = rw (c .before .before .before .size .given .1) at (at-write-field .write-field .ensures) in
+    check-held _ (at-write-field .before .before .loop .inv .1) (omega arith) (w .leaves) _ (c .before .repeats .ensures) (c .if1 .taken)
 
 loop-again : tie.Need-loop-again Inv-loop μ-loop
 loop-again c =
-    let w = rw (c .before .before .before .before .before .before .size .given .1) at
-    (c .before .before .before .before .before .before .before .before .write-field .ensures) in (
+    let at-repeats = c .before .before .before .before in
+    let at-write-field = at-repeats .before .before .before .before in
+    let w = rw (at-repeats .before .before .size .given .1) at (at-write-field .write-field .ensures) in (
       omega arith,
-      check-more _ (c .before .before .before .before .before .before .before .before .before .before .loop .inv .1) (omega arith)
-          (w .leaves)
-          (λ i. c .before .before .before .before .before .before .before .before .before .before .before .before .shared-slice-known .given
+      check-more _ (at-write-field .before .before .loop .inv .1) (omega arith)
+          (w .leaves) (λ i. at-write-field .before .before .before .before .shared-slice-known .given
           i .fits) (c .before .before .rest .ensures) (c .before .rank-at .ensures) (c .raised .ensures)
-          _ (c .before .before .before .before .repeats .ensures) (c .before .before .before .if1 .left),
+          _ (at-repeats .repeats .ensures) (c .before .before .before .if1 .left),
     )
 
 returns-3 : tie.Need-returns-3 Inv-loop μ-loop

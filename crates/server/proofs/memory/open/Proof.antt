@@ -32,9 +32,13 @@ module _ (c : tie.After-t) where
   t-took : Took (byteL 1 topFaults) memory 0 t past-t
   t-took = rw (c .t .given .1) at (c .before .before .byte-field .ensures)
 
+-- Places far back, each named once: the place, and from where it is seen.
+abbrev t-from-server : tie.After-server → tie.After-t
+t-from-server c = c .before .before .before .before .before
+
 module _ (c : tie.After-server) where
   abbrev after-t : tie.After-t
-  after-t = c .before .before .before .before .before
+  after-t = t-from-server c
 
   abbrev servers : ℕ
   servers = c .before .before .before .servers .result
@@ -48,9 +52,12 @@ module _ (c : tie.After-server) where
   server-took : Took (byteL 1 servers) (memory after-t) (past-t after-t) (c .server .given .0 .0) past-server
   server-took = rw (c .server .given .1) at (c .before .before .byte-field2 .ensures)
 
+abbrev server-from-n : tie.After-n → tie.After-server
+server-from-n c = c .before .before .before .before
+
 module _ (c : tie.After-n) where
   abbrev after-server : tie.After-server
-  after-server = c .before .before .before .before
+  after-server = server-from-n c
 
   abbrev past-n : ℕ
   past-n = c .n .given .0 .1 .0 .at
@@ -99,7 +106,7 @@ cast-any-candidate-field : tie.Need-cast-any-candidate-field
 cast-any-candidate-field c = omega (
   arith,
   byte-range 1 topFaults (t-took
-      (c .before .before .before .before .before .before .before .before .before .before)) .1,
+      (t-from-server (server-from-n (c .before)))) .1,
 )
 
 returns-5 : tie.Need-returns-5
@@ -131,27 +138,35 @@ returns-6 c =
     (latest-took l) (λ i. first l .before .before .before .before .shared-slice-known .given i .fits) (c .enum-told5 .given .1)
     (c .before .before .check-writes .ensures))
 
+abbrev number-from-end : tie.After-end → tie.After-number
+number-from-end c = c .before .before .before .before
+
+abbrev end-from-then2 : tie.Then2 → tie.After-end
+end-from-then2 c = c .before .before .before .before
+
 cast-t26 : tie.Need-cast-t26
-cast-t26 c = omega (arith, byte-range 1 topFaults (t-took (first (c .before .before .before .before .before .before .before .before))) .1)
+cast-t26 c = omega (arith, byte-range 1 topFaults (t-took (first (number-from-end (end-from-then2 c)))) .1)
 
 cast-t27 : tie.Need-cast-t27
 cast-t27 c =
-    let s = after-server (after-n (c .before .before .before .before .before .before .before .before)) in
+    let s = after-server (after-n (number-from-end (end-from-then2 c))) in
     omega (arith, servers-most (byte-range 1 topFaults (t-took (after-t s)) .1) (servers-are s), byte-range 1 _ (server-took s) .1)
 
 returns-7 : tie.Need-returns-7
 returns-7 c =
-    let l = c .before .before .before .before .before .before .before .before in
+    let at-end = c .before .before .before .before in
+    let l = number-from-end at-end in
     let s = after-server (after-n l) in
-    let w = rw (c .before .before .before .before .end .given .1) at (c .before .before .before .before .before .before .check-writes .ensures) in
+    let w = rw (at-end .end .given .1) at (at-end .before .before .check-writes .ensures) in
     opened (opens (size-is (after-t s)) (t-took (after-t s)) (servers-are s) (server-took s) (n-took (after-n l)) (latest-took l) w
     (c .before .before .rest .ensures) (c .before .all-zero .ensures) (c .if2 .taken))
 
 returns-8 : tie.Need-returns-8
 returns-8 c =
-    let l = c .before .before .before .before .before .before .before .before in
+    let at-end = c .before .before .before .before in
+    let l = number-from-end at-end in
     let s = after-server (after-n l) in
-    let w = rw (c .before .before .before .before .end .given .1) at (c .before .before .before .before .before .before .check-writes .ensures) in
+    let w = rw (at-end .end .given .1) at (at-end .before .before .check-writes .ensures) in
     broken (memory (after-t s)) (no-tail (size-is (after-t s)) (t-took (after-t s)) (servers-are s) (server-took s) (n-took (after-n l))
     (latest-took l) w (c .before .before .rest .ensures) (c .before .all-zero .ensures) (c .if2 .left))
 

@@ -5,13 +5,17 @@ use Rattle.server.proofs.memory.repeats.Statement.{statement}
 use Rattle.server.proofs.memory.repeats.Tie as tie
 
 returns : tie.Need-returns
-returns c = let a = c .before .before .before .before .before .args in repeats-found (a .memory .now) (a .read)
-    (λ i. c .before .before .before .before .shared-slice-known .given i .fits) (c .before .before .before .rest .ensures) (c .enum-told2 .given .1)
+returns c =
+    let at-shared-slice-known = c .before .before .before .before in
+    let a = at-shared-slice-known .before .args in repeats-found (a .memory .now) (a .read)
+    (λ i. at-shared-slice-known .shared-slice-known .given i .fits) (c .before .before .before .rest .ensures) (c .enum-told2 .given .1)
     (c .before .before .find .ensures)
 
 returns-2 : tie.Need-returns-2
-returns-2 c = let a = c .before .before .before .before .before .args in repeats-none (a .memory .now) (a .read)
-    (λ i. c .before .before .before .before .shared-slice-known .given i .fits) (c .before .before .before .rest .ensures) (c .enum-told .given .1)
+returns-2 c =
+    let at-shared-slice-known = c .before .before .before .before in
+    let a = at-shared-slice-known .before .args in repeats-none (a .memory .now) (a .read)
+    (λ i. at-shared-slice-known .shared-slice-known .given i .fits) (c .before .before .before .rest .ensures) (c .enum-told .given .1)
     (c .before .before .find .ensures)
 
 pub repeats-spec : {M : Type 1} → statement M

@@ -27,65 +27,83 @@ add-frame c = omega (arith, c .share-size .ensures, no-fragment (c .before .befo
 loop-holds : tie.Need-loop-holds Inv-loop μ-loop
 loop-holds c = (omega arith, walk-none _ _ _ _ (c .writes-place .ensures))
 
+-- Places far back, each named once: the place, and from where it is seen.
+abbrev shared-slice-known-from-at-loop : tie.At-loop Inv-loop μ-loop → tie.After-shared-slice-known Inv-loop μ-loop
+shared-slice-known-from-at-loop c = c .before .before .before .before
+
+abbrev at-loop-from-else1 : tie.Else1 Inv-loop μ-loop → tie.At-loop Inv-loop μ-loop
+at-loop-from-else1 c = c .before .before .before .before .before
+
 -- the bytes of the write at the place that the walk has reached
 size-is : (c : tie.After-fragment-size Inv-loop μ-loop)
-    → stampSize + c .before .before .before .before .before .before .before .before .before .before .share-size .result + c .fragment-size .result ≡
-    writeSize (shelf (c .before .before .before .before .before .before .before .before .before .before .before .before .before .args .t))
-    (drop (c .before .before .before .before .before .before .before .before .loop .at)
-    (c .before .before .before .before .before .before .before .before .before .before .before .before .before .args .memory .now))
-size-is c = size-told (c .before .before .before .before .before .before .before .before .before .before .before .before .before .args .t)
-    (c .before .before .before .before .before .before .before .before .before .before .before .before .before .args .memory .now)
-    (c .before .before .before .before .before .before .before .before .loop .at) (c .before .before .before .before .before .before .rest .ensures)
-    (c .before .before .rest2 .ensures) (c .before .number2 .ensures)
-    (c .before .before .before .before .before .before .before .before .before .before .share-size .ensures) (c .fragment-size .ensures)
+    → stampSize + (at-loop-from-else1 (c .before .before .before) .before .before) .share-size .result + c .fragment-size .result ≡
+    writeSize (shelf (shared-slice-known-from-at-loop (at-loop-from-else1 (c .before .before .before)) .before .args .t))
+    (drop (at-loop-from-else1 (c .before .before .before) .loop .at)
+    (shared-slice-known-from-at-loop (at-loop-from-else1 (c .before .before .before)) .before .args .memory .now))
+size-is c =
+    let at-else1 = c .before .before .before in
+    let at-at-loop = at-loop-from-else1 at-else1 in
+    let at-shared-slice-known = shared-slice-known-from-at-loop at-at-loop in
+    size-told (at-shared-slice-known .before .args .t) (at-shared-slice-known .before .args .memory .now)
+    (at-at-loop .loop .at) (at-else1 .before .before .before .rest .ensures) (c .before .before .rest2 .ensures) (c .before .number2 .ensures)
+    (at-at-loop .before .before .share-size .ensures) (c .fragment-size .ensures)
 
 returns : tie.Need-returns Inv-loop μ-loop
-returns c = walk-found (c .before .before .before .before .before .loop .inv .1) (λ i.
-    c .before .before .before .before .before .before .before .before .before .shared-slice-known .given i .fits) (omega arith)
+returns c =
+    let at-at-loop = c .before .before .before .before .before in
+    walk-found (at-at-loop .loop .inv .1) (λ i. shared-slice-known-from-at-loop at-at-loop .shared-slice-known .given i .fits) (omega arith)
     (c .before .before .before .rest .ensures) (c .before .before .part .ensures) (c .before .same .ensures) (c .if1 .taken)
 
 add-size : tie.Need-add-size Inv-loop μ-loop
 unfolding shareSize shelf
-add-size c = omega (
-  arith,
-  c .before .before .before .before .before .before .before .before .before .before .share-size .ensures,
-  c .fragment-size .ensures,
-  fragment-few
-      (c .before .before .before .before .before .before .before .before .before .before .before .before .before .args .t)
-      (c .before .number2 .result),
-  no-fragment (c .before .before .before .before .before .before .before .before .before .before .before .before .before .args .t),
-)
+add-size c =
+    let at-else1 = c .before .before .before in
+    let at-at-loop = at-loop-from-else1 at-else1 in
+    let at-shared-slice-known = shared-slice-known-from-at-loop at-at-loop in
+    omega (
+      arith,
+      at-at-loop .before .before .share-size .ensures,
+      c .fragment-size .ensures,
+      fragment-few
+          (at-shared-slice-known .before .args .t) (c .before .number2 .result),
+      no-fragment (at-shared-slice-known .before .args .t),
+    )
 
 returns-2 : tie.Need-returns-2 Inv-loop μ-loop
 returns-2 c =
-    walk-short (c .before .before .before .before .before .before .before .before .before .loop .inv .1)
-    (λ i. c .before .before .before .before .before .before .before .before .before .before .before .before .before .shared-slice-known .given
-    i .fits) (omega arith) (c .before .before .before .before .before .before .before .rest .ensures)
-    (size-is (c .before)) (c .if2 .taken)
+    let at-else1 = c .before .before .before .before in
+    let at-at-loop = at-loop-from-else1 at-else1 in
+    walk-short (at-at-loop .loop .inv .1) (λ i. shared-slice-known-from-at-loop at-at-loop .shared-slice-known .given
+    i .fits) (omega arith) (at-else1 .before .before .before .rest .ensures) (size-is (c .before)) (c .if2 .taken)
+
+abbrev else1-from-else2 : tie.Else2 Inv-loop μ-loop → tie.Else1 Inv-loop μ-loop
+else1-from-else2 c = c .before .before .before .before
 
 add-at : tie.Need-add-at Inv-loop μ-loop
 unfolding shareSize shelf
-add-at c = omega (
-  arith,
-  c .before .before .before .before .before .before .before .before .before .before .before .share-size .ensures,
-  ap length
-      (c .before .before .before .before .before .before .before .rest .ensures),
-  length-drop
-      (c .before .before .before .before .before .before .before .before .before .loop .at)
-      (c .before .before .before .before .before .before .before .before .before .before .before .before .before .before .args .memory .now),
-  c .if2 .left,
-)
+add-at c =
+    let at-else1 = else1-from-else2 c in
+    let at-at-loop = at-loop-from-else1 at-else1 in
+    omega (
+      arith,
+      at-at-loop .before .before .share-size .ensures,
+      ap length
+          (at-else1 .before .before .before .rest .ensures),
+      length-drop
+          (at-at-loop .loop .at) (shared-slice-known-from-at-loop at-at-loop .before .args .memory .now),
+      c .if2 .left,
+    )
 
 loop-again : tie.Need-loop-again Inv-loop μ-loop
-loop-again c = (
-  omega arith,
-  walk-more (c .before .before .before .before .before .before .before .before .before .loop .inv .1)
-      (λ i. c .before .before .before .before .before .before .before .before .before .before .before .before .before .shared-slice-known .given
-      i .fits) (omega arith) (c .before .before .before .before .before .before .before .rest .ensures)
-      (c .before .before .before .before .before .before .part .ensures) (c .before .before .before .before .before .same .ensures)
-      (c .before .before .before .before .if1 .left)
-      (size-is (c .before)),
-)
+loop-again c =
+    let at-else1 = else1-from-else2 c in
+    let at-at-loop = at-loop-from-else1 at-else1 in (
+      omega arith,
+      walk-more (at-at-loop .loop .inv .1)
+          (λ i. shared-slice-known-from-at-loop at-at-loop .shared-slice-known .given
+          i .fits) (omega arith) (at-else1 .before .before .before .rest .ensures)
+          (at-else1 .before .before .part .ensures) (at-else1 .before .same .ensures) (at-else1 .if1 .left) (size-is (c .before)),
+    )
 
 returns-3 : tie.Need-returns-3 Inv-loop μ-loop
 returns-3 c = walk-end (c .before .loop .inv .1) (omega arith)

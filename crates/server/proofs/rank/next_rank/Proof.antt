@@ -20,13 +20,13 @@ unfolding nextRank
 loop-holds c = (omega arith, refl)
 
 loop-again : tie.Need-loop-again Inv-loop μ-loop
-loop-again c = (
-  omega arith,
-  next-more (shelf (c .before .before .before .before .before .before .args .t))
-      (c .before .before .before .before .before .before .args .list .now) (c .before .before .before .before .loop .i)
-      (c .before .before .before .before .before .before .args .bound) (c .before .before .before .before .loop .inv .1)
-      (c .before .before .rank-at .ensures) (c .before .under .ensures) (c .max-of .ensures),
-)
+loop-again c =
+    let at-at-loop = c .before .before .before .before in (
+      omega arith,
+      next-more (shelf (at-at-loop .before .before .args .t))
+          (at-at-loop .before .before .args .list .now) (at-at-loop .loop .i) (at-at-loop .before .before .args .bound) (at-at-loop .loop .inv .1)
+          (c .before .before .rank-at .ensures) (c .before .under .ensures) (c .max-of .ensures),
+    )
 
 returns : tie.Need-returns Inv-loop μ-loop
 returns c = let e : c .before .loop .i ≡ c .before .before .before .args .n = omega arith in subst

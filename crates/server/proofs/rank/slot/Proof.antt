@@ -13,8 +13,10 @@ mul-part c = record {
 }
 
 returns : tie.Need-returns
-returns c = slot-made (shelf (c .before .before .before .before .args .t)) (c .before .before .before .before .args .list .now)
-    (c .before .before .before .before .args .i) (c .before .before .candidate-size .ensures) (c .before .candidate-size2 .ensures) (c .part .ensures)
+returns c =
+    let at-start = c .before .before .before .before in
+    slot-made (shelf (at-start .args .t)) (at-start .args .list .now)
+    (at-start .args .i) (c .before .before .candidate-size .ensures) (c .before .candidate-size2 .ensures) (c .part .ensures)
 
 pub slot-spec : {M : Type 1} → statement M
 slot-spec = tie.close (tie.spec (λ c κs. search needs) mul-part (λ c κs. search needs) (λ c κs. search needs) returns)

@@ -1,7 +1,7 @@
--- A reader, its own stamp, or another's. Assumes nothing.
+-- A reader, or the writer of the stamp. Assumes nothing.
 use borrow.Author.Needs.{needs}
 use native.Mathlib.Omega.{arith}
-use Rattle.server.proofs.Taking.{foreign-reader, foreign-own, foreign-other}
+use Rattle.server.proofs.Taking.{foreign-reader, foreign-stamp}
 use Rattle.server.proofs.take.foreign.Statement.{statement}
 use Rattle.server.proofs.take.foreign.Tie as tie
 
@@ -9,12 +9,9 @@ returns : tie.Need-returns
 returns c = foreign-reader (c .before .before .args .client) (c .before .before .args .packet .now) (omega arith)
 
 returns-2 : tie.Need-returns-2
-returns-2 c = foreign-own (c .before .before .before .before .before .args .client) (c .before .before .before .before .before .args .packet .now)
-    (omega arith) (c .before .before .rest .ensures) (c .before .byte-at .ensures) (c .if2 .taken)
-
-returns-3 : tie.Need-returns-3
-returns-3 c = foreign-other (c .before .before .before .before .before .args .client) (c .before .before .before .before .before .args .packet .now)
-    (omega arith) (c .before .before .rest .ensures) (c .before .byte-at .ensures) (c .if2 .left)
+returns-2 c =
+    let a = c .before .before .before .before .before .args in
+    foreign-stamp (a .client) (a .packet .now) (omega arith) (c .before .before .rest .ensures) (c .before .stamp-at .ensures)
 
 pub foreign-spec : {M : Type 1} → statement M
-foreign-spec = tie.close (tie.spec returns (λ c κs. search needs) (λ c κs. search needs) returns-2 returns-3)
+foreign-spec = tie.close (tie.spec returns (λ c κs. search needs) (λ c κs. search needs) returns-2)

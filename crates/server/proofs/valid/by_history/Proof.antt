@@ -11,10 +11,11 @@ returns c =
 
 returns-2 : tie.Need-returns-2
 returns-2 c =
-    let a = c .before .before .before .before .before .before .before .before .before .before .before .args in
-    history-found (a .memory .now) (a .opened) (a .candidate .now) (a .t4)
-    (c .before .before .before .before .before .before .before .before .find .ensures) (c .before .before .before .before .before .before .at .given .1)
-    (c .before .before .before .before .rest .ensures) (c .before .before .before .rest2 .ensures) (c .before .before .nonce-digest .ensures) (c .same .ensures)
+    let at-rest = c .before .before .before .before in
+    let at-find = at-rest .before .before .before .before in
+    let a = at-find .before .before .before .args in
+    history-found (a .memory .now) (a .opened) (a .candidate .now) (a .t4) (at-find .find .ensures) (at-rest .before .before .at .given .1)
+    (at-rest .rest .ensures) (c .before .before .before .rest2 .ensures) (c .before .before .nonce-digest .ensures) (c .same .ensures)
 
 pub by-history-spec : {M : Type 1} → statement M
 by-history-spec = tie.close (tie.spec (λ c κs. search needs) (λ c. search needs) (λ c. search needs) returns (λ c κs. search needs)

@@ -12,9 +12,10 @@ returns c =
 
 returns-2 : tie.Need-returns-2
 returns-2 c =
-    let a = c .before .before .before .before .before .before .before .args in
+    let at-digest-nonce = c .before .before .before .before in
+    let a = at-digest-nonce .before .before .before .args in
     valid-tag (a .memory .now) (a .key) (a .opened) (a .candidate .now)
-    (c .before .before .before .before .digest-nonce .ensures) (c .before .before .before .by-history .ensures) (c .before .before .if1 .left)
+    (at-digest-nonce .digest-nonce .ensures) (c .before .before .before .by-history .ensures) (c .before .before .if1 .left)
     (c .before .prepare .ensures) (c .by-tag .ensures)
 
 pub valid-spec : {M : Type 1} → statement M

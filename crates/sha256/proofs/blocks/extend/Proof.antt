@@ -22,13 +22,14 @@ loop-holds c = (omega arith, omega arith, refl, search needs, refl)
 
 loop-again : tie.Need-loop-again Inv-loop μ-loop
 loop-again c =
-    let at = c .before .before .before .before .before .before .before .before .before .loop in
+    let at-next2 = c .before .before .before .before in
+    let at-at-loop = at-next2 .before .before .before .before .before in
+    let at = at-at-loop .loop in
     let t = at .t in
-    let b = length-take-le 16 (c .before .before .before .before .before .before .before .before .before .before .args .w .now) (omega arith) in
-    let w1 = grow-next t (t + 1) _ (at .w) _ b (omega arith) (omega arith) (omega arith) (at .inv .4)
-    (c .before .before .before .before .before .before .next .ensures) in
+    let b = length-take-le 16 (at-at-loop .before .args .w .now) (omega arith) in
+    let w1 = grow-next t (t + 1) _ (at .w) _ b (omega arith) (omega arith) (omega arith) (at .inv .4) (at-next2 .before .before .next .ensures) in
     let w2 = grow-next (t + 1) (t + 2) _ (set (at .w) t _) _ b (omega arith) (simp length-set (omega arith)) (omega arith) w1
-    (c .before .before .before .before .next2 .ensures) in
+    (at-next2 .next2 .ensures) in
     let w3 = grow-next (t + 2) (t + 3) _ (set (set (at .w) t _) (t + 1) _) _ b (omega arith) (simp length-set (omega arith)) (omega arith) w2
     (c .before .before .next3 .ensures) in
     let w4 = grow-next (t + 3) (t + 4) _ (set (set (set (at .w) t _) (t + 1) _) (t + 2) _) _ b (omega arith) (simp length-set (omega arith))

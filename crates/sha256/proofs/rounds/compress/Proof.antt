@@ -29,13 +29,15 @@ loop-holds c = (omega arith, refl, refl, refl, refl)
 
 loop-again : tie.Need-loop-again Inv-loop μ-loop
 loop-again c =
-    let w = c .before .before .before .before .before .before .before .before .before .before .args .w .now in
-    let s = start (c .before .before .before .before .before .before .before .before .before .before .args .t1) in
-    let at = c .before .before .before .before .before .before .before .before .before .loop in
+    let at-round2 = c .before .before .before .before in
+    let at-at-loop = at-round2 .before .before .before .before .before in
+    let w = at-at-loop .before .args .w .now in
+    let s = start (at-at-loop .before .args .t1) in
+    let at = at-at-loop .loop in
     let t = at .t in
     let k = at .inv .2 in
-    let v1 = rounds-next (t + 1) t _ w s _ _ k (omega arith) (at .inv .4) (c .before .before .before .before .before .before .round .ensures) in
-    let v2 = rounds-next (t + 2) (t + 1) _ w s _ _ k (omega arith) v1 (c .before .before .before .before .round2 .ensures) in
+    let v1 = rounds-next (t + 1) t _ w s _ _ k (omega arith) (at .inv .4) (at-round2 .before .before .round .ensures) in
+    let v2 = rounds-next (t + 2) (t + 1) _ w s _ _ k (omega arith) v1 (at-round2 .round2 .ensures) in
     let v3 = rounds-next (t + 3) (t + 2) _ w s _ _ k (omega arith) v2 (c .before .before .round3 .ensures) in
     let v4 = rounds-next (t + 4) (t + 3) _ w s _ _ k (omega arith) v3 (c .round4 .ensures) in
     (omega arith, omega arith, k, at .inv .3, v4)

@@ -19,10 +19,12 @@ returns-3 c = let a = c .before .before .before .before .before .before .before 
     (short-room (a .head) (a .first .now) (a .second .now) (a .out .now) (omega arith) (omega arith))
 
 returns-4 : tie.Need-returns-4
-returns-4 c = let a = c .before .before .before .before .before .before .before .before .before .before .before .before .before .before .before
-    .before .before .before .args in packet-made (a .head) (a .first .now) (a .second .now) (a .out .now) (omega arith) (omega arith)
-    (c .before .before .before .before .before .before .before .before .before .before .put-head .ensures)
-    (c .before .before .before .before .before .before .put .ensures) (c .before .before .put2 .ensures)
+returns-4 c =
+    let at-put = c .before .before .before .before .before .before in
+    let at-put-head = at-put .before .before .before .before in
+    let a = at-put-head .before .before .before .before .before .before .before .before .args in packet-made (a .head) (a .first .now) (a .second
+    .now) (a .out .now) (omega arith) (omega arith)
+    (at-put-head .put-head .ensures) (at-put .put .ensures) (c .before .before .put2 .ensures)
 
 pub make-packet-spec : {M : Type 1} → statement M
 make-packet-spec = tie.close (tie.spec (λ c κs. search needs) returns (λ c. search needs) (λ c κs. search needs) returns-2 (λ c. search needs)

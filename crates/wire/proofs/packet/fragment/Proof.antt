@@ -19,33 +19,40 @@ returns : tie.Need-returns
 returns c = fragment-broken (c .before .before .before .before .before .args .packet .now)
     (rw (c .before .enum-told .given .1) at (c .before .before .before .read-packet .ensures .1))
 
+-- Places far back, each named once: the place, and from where it is seen.
+abbrev start-from-head : tie.After-head → tie.Start
+start-from-head c = c .before .before .before .before
+
 returns-2 : tie.Need-returns-2
-returns-2 c = let s = c .before .before .before .before .before .before .before .before .args .packet .now in let h =
-    c .before .before .before .before .head .given .0 .0 in fragment-read s h (rw (c .before .before .before .before .head .given .1) at
-    (c .before .before .before .before .before .before .read-packet .ensures .1)) (c .share-fragment .ensures ∙ ap
+returns-2 c =
+    let at-head = c .before .before .before .before in
+    let s = start-from-head at-head .args .packet .now in let h =
+    at-head .head .given .0 .0 in fragment-read s h (rw (at-head .head .given .1) at
+    (at-head .before .before .read-packet .ensures .1)) (c .share-fragment .ensures ∙ ap
     (λ (d : List ℕ). shareAt (shelf (h .t)) d .fragment) (c .before .rest .ensures ∙ sym (drop-drop stampSize headSize s))
     ∙ fragment-store (shelf (h .t))
     (drop headSize s) (h .kind) (omega arith))
 
 returns-3 : tie.Need-returns-3
-returns-3 c = let s = c .before .before .before .before .before .before .before .before .args .packet .now in let h =
-    c .before .before .before .before .head .given .0 .0 in fragment-read s h (rw (c .before .before .before .before .head .given .1) at
-    (c .before .before .before .before .before .before .read-packet .ensures .1)) (sym
+returns-3 c =
+    let at-head = c .before .before .before .before in
+    let s = start-from-head at-head .args .packet .now in let h =
+    at-head .head .given .0 .0 in fragment-read s h (rw (at-head .head .given .1) at (at-head .before .before .read-packet .ensures .1)) (sym
     (fragment-none (shelf (h .t)) (drop headSize s) (h .kind) (c .before .before .if1 .left) (c .before .if2 .taken)))
 
 returns-4 : tie.Need-returns-4
-returns-4 c = let s = c .before .before .before .before .before .before .before .before .before .before .args .packet .now in let h =
-    c .before .before .before .before .before .before .head .given .0 .0 in fragment-read s h
-    (rw (c .before .before .before .before .before .before .head .given .1) at
-    (c .before .before .before .before .before .before .before .before .read-packet .ensures .1))
+returns-4 c =
+    let at-head = c .before .before .before .before .before .before in
+    let s = start-from-head at-head .args .packet .now in let h =
+    at-head .head .given .0 .0 in fragment-read s h (rw (at-head .head .given .1) at (at-head .before .before .read-packet .ensures .1))
     (sym (fragment-absent (shelf (h .t)) (drop headSize s) (h .kind) (omega arith) (getD-drop headSize s stampSize 0 ∙ sym
     (c .before .before .byte-at .ensures) ∙ omega arith)))
 
 returns-5 : tie.Need-returns-5
-returns-5 c = let s = c .before .before .before .before .before .before .before .before .before .before .before .args .packet .now in let h =
-    c .before .before .before .before .before .before .before .head .given .0 .0 in fragment-read s h
-    (rw (c .before .before .before .before .before .before .before .head .given .1) at
-    (c .before .before .before .before .before .before .before .before .before .read-packet .ensures .1))
+returns-5 c =
+    let at-head = c .before .before .before .before .before .before .before in
+    let s = start-from-head at-head .args .packet .now in let h =
+    at-head .head .given .0 .0 in fragment-read s h (rw (at-head .head .given .1) at (at-head .before .before .read-packet .ensures .1))
     (c .share-fragment2 .ensures ∙ ap (λ (d : List ℕ). shareAt (shelf (h .t)) d .fragment)
     (c .before .rest2 .ensures ∙ sym (drop-drop (stampSize + 1) headSize s)) ∙ fragment-present (shelf (h .t)) (drop headSize s) (h .kind)
     (omega arith) (λ e. c .before .before .if3 .left (c .before .before .before .byte-at .ensures ∙ sym (getD-drop headSize s stampSize 0) ∙ e)))

@@ -20,22 +20,25 @@ body-field-requires c κs = (
 )
 
 returns-2 : tie.Need-returns-2
-returns-2 c = no-packet (c .before .before .before .before .before .before .before .before .args .packet .now)
-    (packet-broken (rw (c .before .before .before .before .head .given .1) at
-    (c .before .before .before .before .before .before .head-field .ensures)) (rw (c .enum-told2 .given .1) at
-    (c .before .before .body-field .ensures)))
+returns-2 c =
+    let at-body-field = c .before .before in
+    let at-head-field = at-body-field .before .before .before .before in
+    no-packet (at-head-field .before .before .args .packet .now) (packet-broken (rw (at-body-field .before .before .head .given .1) at
+    (at-head-field .head-field .ensures)) (rw (c .enum-told2 .given .1) at (c .before .before .body-field .ensures)))
 
 returns-3 : tie.Need-returns-3
-returns-3 c = no-packet (c .before .before .before .before .before .before .before .before .before .before .args .packet .now)
-    (packet-trailing (rw (c .before .before .before .before .before .before .head .given .1) at
-    (c .before .before .before .before .before .before .before .before .head-field .ensures))
-    (rw (c .before .before .v .given .1) at (c .before .before .before .before .body-field .ensures)) (omega arith))
+returns-3 c =
+    let at-body-field = c .before .before .before .before in
+    let at-head-field = at-body-field .before .before .before .before in
+    no-packet (at-head-field .before .before .args .packet .now) (packet-trailing (rw (at-body-field .before .before .head .given .1) at
+    (at-head-field .head-field .ensures)) (rw (c .before .before .v .given .1) at (at-body-field .body-field .ensures)) (omega arith))
 
 returns-4 : tie.Need-returns-4
-returns-4 c = a-packet (c .before .before .before .before .before .before .before .before .before .before .args .packet .now) _
-    (packet-decoded (rw (c .before .before .before .before .before .before .head .given .1) at
-    (c .before .before .before .before .before .before .before .before .head-field .ensures))
-    (rw (c .before .before .v .given .1) at (c .before .before .before .before .body-field .ensures)) (omega arith))
+returns-4 c =
+    let at-body-field = c .before .before .before .before in
+    let at-head-field = at-body-field .before .before .before .before in
+    a-packet (at-head-field .before .before .args .packet .now) _ (packet-decoded (rw (at-body-field .before .before .head .given .1) at
+    (at-head-field .head-field .ensures)) (rw (c .before .before .v .given .1) at (at-body-field .body-field .ensures)) (omega arith))
 
 pub read-packet-spec : {M : Type 1} → statement M
 read-packet-spec = tie.close (tie.spec (λ c κs. search needs) (λ c. search needs) (λ c. search needs) returns body-field-requires (λ c. search needs)

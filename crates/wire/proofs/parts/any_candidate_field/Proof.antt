@@ -15,10 +15,12 @@ returns c = past-any-candidate (shelf (c .before .before .args .t)) (omega arith
 
 returns-2 : tie.Need-returns-2
 unfolding anyCandidateF
-returns-2 c = ⊎-elim (λ h. stops-short _ _ _ (rw (c .before .before .before .before .enum-told .given .1) at
-    (c .before .before .before .before .before .before .candidate-field .ensures)) h)
-    (λ h. stops-blank _ _ _ (rw (c .before .before .before .before .enum-told .given .1) at
-    (c .before .before .before .before .before .before .candidate-field .ensures)) (h .0) (h .1))
+returns-2 c =
+    let at-candidate-size = c .before .before .before in
+    ⊎-elim (λ h. stops-short _ _ _ (rw (at-candidate-size .before .enum-told .given .1) at
+    (at-candidate-size .before .before .before .candidate-field .ensures)) h)
+    (λ h. stops-blank _ _ _ (rw (at-candidate-size .before .enum-told .given .1) at
+    (at-candidate-size .before .before .before .candidate-field .ensures)) (h .0) (h .1))
     (rw (c .before .before .before .candidate-size .ensures) at (rw (c .enum-told2 .given .1) at (c .before .before .zero-run .ensures)))
 
 returns-3 : tie.Need-returns-3
@@ -26,14 +28,14 @@ returns-3 c = any-candidate-took (shelf (c .before .before .before .before .befo
     (rw (c .before .number .given .1) at (c .before .before .before .candidate-field .ensures))
 
 returns-4 : tie.Need-returns-4
-returns-4 c = blank-candidate-took (shelf (c .before .before .before .before .before .before .before .before .before .before .args .t))
-    (rw (c .before .before .before .before .before .enum-told .given .1) at
-    (c .before .before .before .before .before .before .before .candidate-field .ensures))
-    ((rw (c .before .before .before .before .candidate-size .ensures) at (rw (c .before .c1 .given .1) at
-    (c .before .before .before .zero-run .ensures))) .within) ((rw (c .before .before .before .before .candidate-size .ensures) at
+returns-4 c =
+    let at-candidate-size = c .before .before .before .before in
+    blank-candidate-took (shelf (at-candidate-size .before .before .before .before .before .before .args .t))
+    (rw (at-candidate-size .before .enum-told .given .1) at (at-candidate-size .before .before .before .candidate-field .ensures))
+    ((rw (at-candidate-size .candidate-size .ensures) at (rw (c .before .c1 .given .1) at
+    (c .before .before .before .zero-run .ensures))) .within) ((rw (at-candidate-size .candidate-size .ensures) at
     (rw (c .before .c1 .given .1) at (c .before .before .before .zero-run .ensures))) .zero)
-    ((rw (c .before .before .before .before .candidate-size .ensures) at (rw (c .before .c1 .given .1) at
-    (c .before .before .before .zero-run .ensures))) .place)
+    ((rw (at-candidate-size .candidate-size .ensures) at (rw (c .before .c1 .given .1) at (c .before .before .before .zero-run .ensures))) .place)
 
 pub any-candidate-field-spec : {M : Type 1} → statement M
 any-candidate-field-spec = tie.close (tie.spec returns (λ c κs. search needs) (λ c. search needs) (λ c. search needs) (λ c κs. search needs)

@@ -14,17 +14,21 @@ returns c = past-any-stamp (omega arith)
 
 returns-2 : tie.Need-returns-2
 unfolding anyStampF
-returns-2 c = ⊎-elim (λ h. stops-short _ _ _ (rw (c .before .before .before .enum-told .given .1) at
-    (c .before .before .before .before .before .stamp-field .ensures)) h) (λ h. stops-blank _ _ _
-    (rw (c .before .before .before .enum-told .given .1) at (c .before .before .before .before .before .stamp-field .ensures)) (h .0) (h .1))
+returns-2 c =
+    let at-enum-told = c .before .before .before in
+    ⊎-elim (λ h. stops-short _ _ _ (rw (c .before .before .before .enum-told .given .1) at
+    (at-enum-told .before .before .stamp-field .ensures)) h) (λ h. stops-blank _ _ _
+    (rw (c .before .before .before .enum-told .given .1) at (at-enum-told .before .before .stamp-field .ensures)) (h .0) (h .1))
     (rw (c .enum-told2 .given .1) at (c .before .before .zero-run .ensures))
 
 returns-3 : tie.Need-returns-3
 returns-3 c = any-stamp-took (rw (c .before .number .given .1) at (c .before .before .before .stamp-field .ensures))
 
 returns-4 : tie.Need-returns-4
-returns-4 c = blank-stamp-took (rw (c .before .before .before .before .enum-told .given .1) at
-    (c .before .before .before .before .before .before .stamp-field .ensures)) ((rw (c .before .c1 .given .1) at
+returns-4 c =
+    let at-enum-told = c .before .before .before .before in
+    blank-stamp-took (rw (at-enum-told .enum-told .given .1) at
+    (at-enum-told .before .before .stamp-field .ensures)) ((rw (c .before .c1 .given .1) at
     (c .before .before .before .zero-run .ensures)) .within) ((rw (c .before .c1 .given .1) at (c .before .before .before .zero-run .ensures)) .zero)
     ((rw (c .before .c1 .given .1) at (c .before .before .before .zero-run .ensures)) .place)
 

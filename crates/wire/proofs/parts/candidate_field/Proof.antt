@@ -14,14 +14,18 @@ use Rattle.wire.proofs.parts.candidate_field.Tie as tie
 
 -- ---- the fields that were let through, and the place past each
 
+-- Places far back, each named once: the place, and from where it is seen.
+abbrev start-from-number : tie.After-number → tie.Start
+start-from-number c = c .before .before .before .before
+
 module _ (c : tie.After-number) where
   abbrev s : List ℕ
-  s = c .before .before .before .before .args .s .now
+  s = start-from-number c .args .s .now
 
   abbrev p1 : ℕ
   p1 = c .number .given .0 .1 .0 .at
 
-  stamp-past : Took stampL s (c .before .before .before .before .args .c .at) (c .number .given .0 .0) p1
+  stamp-past : Took stampL s (start-from-number c .args .c .at) (c .number .given .0 .0) p1
   stamp-past = rw (c .number .given .1) at (c .before .before .stamp-field .ensures)
 
 module _ (c : tie.After-c2) where
@@ -60,9 +64,10 @@ returns-3 c =
 
 returns-4 : tie.Need-returns-4
 returns-4 c =
-    let n = c .before .before .before .before .before .before in
+    let at-tags-size = c .before .before .before .before in
+    let n = at-tags-size .before .before in
     candidate-took (shelf (first n .before .before .before .before .args .t)) (stamp-past (first n)) (nonce-ran n)
-    (rw (c .before .before .before .before .tags-size .ensures) at (rw (c .before .c3 .given .1) at (c .before .before .before .run-field2 .ensures)))
+    (rw (at-tags-size .tags-size .ensures) at (rw (c .before .c3 .given .1) at (c .before .before .before .run-field2 .ensures)))
 
 pub candidate-field-spec : {M : Type 1} → statement M
 candidate-field-spec = tie.close (tie.spec (λ c κs. search needs) (λ c. search needs) (λ c. search needs) returns run-field-requires

@@ -26,17 +26,19 @@ loop-holds : tie.Need-loop-holds Inv-loop μ-loop
 loop-holds c = (omega arith, run-none (shelf (c .before .args .t)) (omega arith))
 
 returns : tie.Need-returns Inv-loop μ-loop
-returns c = many-broken (candidateF (shelf (c .before .before .before .before .before .before .args .t))) (c .before .before .before .before .loop .i)
-    (c .before .before .before .before .before .before .args .n) (omega arith) (c .before .before .before .before .loop .inv .1 .leaves)
+returns c =
+    let at-at-loop = c .before .before .before .before in
+    many-broken (candidateF (shelf (at-at-loop .before .before .args .t))) (at-at-loop .loop .i)
+    (at-at-loop .before .before .args .n) (omega arith) (at-at-loop .loop .inv .1 .leaves)
     (rw (c .enum-told .given .1) at (c .before .before .candidate-field .ensures))
 
 loop-again : tie.Need-loop-again Inv-loop μ-loop
-loop-again c = (
-  omega arith,
-  run-more (shelf (c .before .before .before .before .before .before .before .args .t))
-      (c .before .before .before .before .before .loop .i) (c .before .before .before .before .before .loop .inv .1)
-      (rw (c .before .number .given .1) at (c .before .before .before .candidate-field .ensures)),
-)
+loop-again c =
+    let at-at-loop = c .before .before .before .before .before in (
+      omega arith,
+      run-more (shelf (at-at-loop .before .before .args .t))
+          (at-at-loop .loop .i) (at-at-loop .loop .inv .1) (rw (c .before .number .given .1) at (c .before .before .before .candidate-field .ensures)),
+    )
 
 returns-2 : tie.Need-returns-2 Inv-loop μ-loop
 returns-2 c = let e : c .before .loop .i ≡ c .before .before .before .args .n = omega arith in subst

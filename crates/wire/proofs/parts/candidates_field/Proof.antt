@@ -18,18 +18,22 @@ returns c = list-stops (shelf (c .before .before .before .before .before .args .
 candidate-run-requires : tie.Need-candidate-run-requires
 candidate-run-requires c κs = (rw (c .before .n .given .1) at (c .before .before .before .byte-field .ensures)) .leaves .within
 
+-- Places far back, each named once: the place, and from where it is seen.
+abbrev start-from-n : tie.After-n → tie.Start
+start-from-n c = c .before .before .before .before .before
+
 returns-2 : tie.Need-returns-2
-returns-2 c = list-breaks (shelf (c .before .before .before .before .before .before .before .before .before .args .t))
-    (c .before .before .before .before .before .before .before .servers .result)
-    (c .before .before .before .before .before .before .before .servers .ensures) (rw (c .before .before .before .before .n .given .1) at
-    (c .before .before .before .before .before .before .byte-field .ensures)) (rw (c .enum-told2 .given .1) at
-    (c .before .before .candidate-run .ensures))
+returns-2 c =
+    let at-n = c .before .before .before .before in
+    list-breaks (shelf (start-from-n at-n .args .t)) (at-n .before .before .before .servers .result)
+    (at-n .before .before .before .servers .ensures) (rw (at-n .n .given .1) at
+    (at-n .before .before .byte-field .ensures)) (rw (c .enum-told2 .given .1) at (c .before .before .candidate-run .ensures))
 
 returns-3 : tie.Need-returns-3
-returns-3 c = list-took (shelf (c .before .before .before .before .before .before .before .before .before .before .args .t))
-    (c .before .before .before .before .before .before .before .before .servers .result)
-    (c .before .before .before .before .before .before .before .before .servers .ensures)
-    (rw (c .before .before .before .before .before .n .given .1) at (c .before .before .before .before .before .before .before .byte-field .ensures))
+returns-3 c =
+    let at-n = c .before .before .before .before .before in
+    list-took (shelf (start-from-n at-n .args .t)) (at-n .before .before .before .servers .result) (at-n .before .before .before .servers .ensures)
+    (rw (at-n .n .given .1) at (at-n .before .before .byte-field .ensures))
     (rw (c .before .c2 .given .1) at (c .before .before .before .candidate-run .ensures))
 
 pub candidates-field-spec : {M : Type 1} → statement M

@@ -14,17 +14,21 @@ use Rattle.wire.proofs.parts.held_field.Tie as tie
 
 -- ---- the fields that were let through, and the place past each
 
+-- Places far back, each named once: the place, and from where it is seen.
+abbrev start-from-number : tie.After-number → tie.Start
+start-from-number c = c .before .before .before .before
+
 module _ (c : tie.After-number) where
   abbrev s : List ℕ
-  s = c .before .before .before .before .args .s .now
+  s = start-from-number c .args .s .now
 
   abbrev form : Config
-  form = shelf (c .before .before .before .before .args .t)
+  form = shelf (start-from-number c .args .t)
 
   abbrev p1 : ℕ
   p1 = c .number .given .0 .1 .0 .at
 
-  stamp-took : Took anyStampL s (c .before .before .before .before .args .c .at) (c .number .given .0 .0) p1
+  stamp-took : Took anyStampL s (start-from-number c .args .c .at) (c .number .given .0 .0) p1
   stamp-took = rw (c .number .given .1) at (c .before .before .any-stamp-field .ensures)
 
 module _ (c : tie.After-flag) where
@@ -65,9 +69,10 @@ returns-4 c =
 
 returns-5 : tie.Need-returns-5
 returns-5 c =
-    let f = c .before .before .before .before .before .before in
+    let at-else1 = c .before .before .before .before in
+    let f = at-else1 .before .before in
     let l = limit f .held-most in
-    held-present (form (stamp f)) (l .result) (stamp-took (stamp f)) (l .ensures) (flag-took f) (c .before .before .before .before .if1 .left)
+    held-present (form (stamp f)) (l .result) (stamp-took (stamp f)) (l .ensures) (flag-took f) (at-else1 .if1 .left)
     (rw (c .before .n .given .1) at (c .before .before .before .share-field .ensures))
 
 pub held-field-spec : {M : Type 1} → statement M

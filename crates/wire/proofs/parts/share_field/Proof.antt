@@ -15,15 +15,19 @@ use Rattle.wire.proofs.parts.share_field.Tie as tie
 
 -- ---- the fields that were let through, and the place past each
 
+-- Places far back, each named once: the place, and from where it is seen.
+abbrev start-from-n : tie.After-n → tie.Start
+start-from-n c = c .before .before .before .before
+
 module _ (c : tie.After-n) where
   abbrev s : List ℕ
-  s = c .before .before .before .before .args .s .now
+  s = start-from-n c .args .s .now
 
   abbrev at : ℕ
-  at = c .before .before .before .before .args .c .at
+  at = start-from-n c .args .c .at
 
   abbrev form : Config
-  form = shelf (c .before .before .before .before .args .t)
+  form = shelf (start-from-n c .args .t)
 
   abbrev size : ℕ
   size = c .n .given .0 .0

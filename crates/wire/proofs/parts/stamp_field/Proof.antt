@@ -13,14 +13,18 @@ use Rattle.wire.proofs.parts.stamp_field.Tie as tie
 
 -- ---- the fields that were let through, and the place past each
 
+-- Places far back, each named once: the place, and from where it is seen.
+abbrev start-from-number : tie.After-number → tie.Start
+start-from-number c = c .before .before .before .before
+
 module _ (c : tie.After-number) where
   abbrev s : List ℕ
-  s = c .before .before .before .before .args .s .now
+  s = start-from-number c .args .s .now
 
   abbrev p1 : ℕ
   p1 = c .number .given .0 .1 .0 .at
 
-  number-took : Took (number4L 1 topNumber) s (c .before .before .before .before .args .c .at) (c .number .given .0 .0) p1
+  number-took : Took (number4L 1 topNumber) s (start-from-number c .args .c .at) (c .number .given .0 .0) p1
   number-took = rw (c .number .given .1) at (c .before .before .number4-field .ensures)
 
 module _ (c : tie.After-writer) where

@@ -25,8 +25,9 @@ returns-3 c = rw (c .if3 .taken) (ap (λ (z : ℕ). z / 4) (let e : c .before .b
 
 returns-4 : tie.Need-returns-4
 unfolding shelf fragmentSize
-returns-4 c = rw (c .if4 .taken) (ap (λ (z : ℕ). z / 5) (let e : c .before .before .before .before .args .n + 4 ≡
-    c .before .before .before .before .args .n + 5 - 1 = omega arith in e))
+returns-4 c =
+    let at-start = c .before .before .before .before in
+    rw (c .if4 .taken) (ap (λ (z : ℕ). z / 5) (let e : at-start .args .n + 4 ≡ at-start .args .n + 5 - 1 = omega arith in e))
 
 returns-5 : tie.Need-returns-5
 unfolding shelf fragmentSize

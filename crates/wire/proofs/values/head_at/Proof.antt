@@ -8,11 +8,11 @@ use Rattle.wire.proofs.values.head_at.Tie as tie
 
 returns : tie.Need-returns
 unfolding headAt
-returns c i =
-    record {
-      stamp = c .before .before .stamp-at .ensures i;
-      nonce = (c .nonce-of .ensures ∙ ap (padded nonceSize) (c .before .rest .ensures)) i;
+returns c =
+    c .new .ensures ∙ λ i. record {
+      stamp = c .before .before .before .stamp-at .ensures i;
+      nonce = (c .before .nonce-of .ensures ∙ ap (padded nonceSize) (c .before .before .rest .ensures)) i;
     }
 
 pub head-at-spec : {M : Type 1} → statement M
-head-at-spec = tie.close (tie.spec (λ c κs. search needs) (λ c κs. search needs) (λ c κs. search needs) returns)
+head-at-spec = tie.close (tie.spec (λ c κs. search needs) (λ c κs. search needs) (λ c κs. search needs) (λ c κs. search needs) returns)

@@ -1,5 +1,5 @@
 -- A head is blank where its stamp is and its nonce is all zero. Assumes nothing.
-use mathlib.Core.Path.{_≡_, refl, sym, _∙_}
+use mathlib.Core.Path.{_≡_, refl, sym, ap, _∙_}
 use mathlib.Core.Bool.{Bool, true, false}
 use Rattle.protocol.specs.Values.{blankStamp, sameList, sameStamp}
 use Rattle.wire.specs.declared.values.CandidateHead.{CandidateHead}
@@ -24,9 +24,12 @@ returns c = other-stamp (c .before .before .before .args .self) (c .before .is-b
 
 returns-2 : tie.Need-returns-2
 returns-2 c =
-    let b = c .before .before .before .before .before .is-blank in
-    c .same .ensures ∙ by-nonce (c .before .before .before .before .before .before .before .args .self) (b .result) (b .ensures)
-    (not-false (b .result) (c .before .before .before .before .if1 .left))
+    let at-blank = c .before .before .before .before in
+    let at-else1 = at-blank .before .before in
+    let b = at-else1 .before .is-blank in
+    c .same .ensures ∙ ap (λ (h : CandidateHead). sameList (at-else1 .before .before .before .args .self .nonce) (h .nonce)) (at-blank .blank .ensures)
+    ∙ by-nonce (at-else1 .before .before .before .args .self) (b .result) (b .ensures) (not-false (b .result) (at-else1 .if1 .left))
 
 pub is-blank-spec : {M : Type 1} → statement M
-is-blank-spec = tie.close (tie.spec (λ c κs. search needs) returns (λ c. search needs) (λ c. search needs) (λ c κs. search needs) returns-2)
+is-blank-spec = tie.close (tie.spec (λ c κs. search needs) returns (λ c κs. search needs) (λ c. search needs) (λ c. search needs)
+    (λ c κs. search needs) returns-2)
