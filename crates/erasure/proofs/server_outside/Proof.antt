@@ -23,17 +23,17 @@ loop-holds c = (search needs, λ j h. absurd (omega arith))
 
 returns : tie.Need-returns Inv-loop μ-loop
 returns c =
-    let at-at-loop = c .before .before .before .before in
-    let args = at-at-loop .before .before .args in
-    let i = at-at-loop .loop .i in
+    let at-loop = c .before .before .before .before in
+    let args = at-loop .before .before .args in
+    let i = at-loop .loop .i in
     let ss = denote.Ref.now (args .servers) in
     sym (ap not (each-fails (within 1 (args .most)) ss i (search needs) (not-true _ (sym (c .before .outside .ensures) ∙ c .if1 .taken))))
 
 loop-again : tie.Need-loop-again Inv-loop μ-loop
 loop-again c =
-    let at-at-loop = c .before .before .before .before in
-    let args = at-at-loop .before .before .args in
-    let l = at-at-loop .loop in
+    let at-loop = c .before .before .before .before in
+    let args = at-loop .before .before .args in
+    let l = at-loop .loop in
     let ss = denote.Ref.now (args .servers) in (
       search needs,
       below-more (λ (j : ℕ). within 1 (args .most) (getD ss j 0) ≡ true) (l .i) (l .inv .1)

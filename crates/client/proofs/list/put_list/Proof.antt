@@ -50,8 +50,8 @@ room c =
 
 put-entry-requires : tie.Need-put-entry-requires Inv-loop μ-loop
 put-entry-requires c κs =
-    let at-at-loop = c .before .before in
-    let at-start = start-from-at-loop at-at-loop in
+    let at-loop = c .before .before in
+    let at-start = start-from-at-loop at-loop in
     let a = at-start .args in
     let p = at-start .pre in
     let v = c .before .before .loop .inv in
@@ -65,15 +65,15 @@ put-entry-requires c κs =
 
 loop-again : tie.Need-loop-again Inv-loop μ-loop
 loop-again c =
-    let at-at-loop = c .before .before .before .before .before in
-    let at-start = start-from-at-loop at-at-loop in
+    let at-loop = c .before .before .before .before .before in
+    let at-start = start-from-at-loop at-loop in
     let a = at-start .args in
     let p = at-start .pre in
-    let i = at-at-loop .loop .i in
-    let v = at-at-loop .loop .inv in (
+    let i = at-loop .loop .i in
+    let v = at-loop .loop .inv in (
       omega arith,
       list-entry (a .t) (a .kept .now) (p .0) (p .1 .0) (p .1 .1 .0) i (omega
-          (arith, at-at-loop .before .servers .ensures)) (p .1 .1 .1) (v .1) (c .before .before .put-entry .ensures),
+          (arith, at-loop .before .servers .ensures)) (p .1 .1 .1) (v .1) (c .before .before .put-entry .ensures),
     )
 
 returns : tie.Need-returns Inv-loop μ-loop

@@ -63,8 +63,8 @@ rooms : (c : tie.In-loop Inv-loop μ-loop)
     (length (a .content .now)) ≤ length (a .fragments .now))
     × (digestSize * i + digestSize ≤ length (a .digests .now))
 rooms c =
-    let at-at-loop = c .before in
-    let at-start = start-from-at-loop at-at-loop in
+    let at-loop = c .before in
+    let at-start = start-from-at-loop at-loop in
     let a = at-start .args in
     let p = at-start .pre in
     let i = c .before .loop .i in
@@ -84,10 +84,10 @@ put-fragment-requires c κs =
 loop-again : tie.Need-loop-again Inv-loop μ-loop
 loop-again c =
     let at-put-fragment = c .before .before .before .before in
-    let at-at-loop = at-put-fragment .before .before .before .before in
-    let a = start-from-at-loop at-at-loop .args in
-    let i = at-at-loop .loop .i in
-    let v = at-at-loop .loop .inv in
+    let at-loop = at-put-fragment .before .before .before .before in
+    let a = start-from-at-loop at-loop .args in
+    let i = at-loop .loop .i in
+    let v = at-loop .loop .inv in
     let r = rooms (at-put-fragment .before .before .before) in
     let e = at-put-fragment .put-fragment .ensures in (
       omega arith,

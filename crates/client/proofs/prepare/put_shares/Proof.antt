@@ -30,8 +30,8 @@ start-from-at-loop c = c .before .before .before .before .before
 mul-part : tie.Need-mul-part Inv-loop μ-loop
 unfolding shelf
 mul-part c =
-    let at-at-loop = c .before .before in
-    let at-start = start-from-at-loop at-at-loop in
+    let at-loop = c .before .before in
+    let at-start = start-from-at-loop at-loop in
     let a = at-start .args in
     let p = at-start .pre in
     let e : c .before .before .before .servers .result ≡ 3 * a .t + 1 = c .before .before .before .servers .ensures in
@@ -41,29 +41,29 @@ mul-part c =
 put-share-requires : tie.Need-put-share-requires Inv-loop μ-loop
 unfolding shelf
 put-share-requires c κs =
-    let at-at-loop = c .before .before .before in
-    let at-start = start-from-at-loop at-at-loop in
+    let at-loop = c .before .before .before in
+    let at-start = start-from-at-loop at-loop in
     let a = at-start .args in
     let p = at-start .pre in
-    let e : at-at-loop .before .servers .result ≡ 3 * a .t + 1 = at-at-loop .before .servers .ensures in
+    let e : at-loop .before .servers .result ≡ 3 * a .t + 1 = at-loop .before .servers .ensures in
     let m = part-most (a .fragments .now) (a .f * c .before .before .before .loop .i) (a .f) in
     (omega (arith, p .0), (c .before .before .before .loop .inv .1 .1, rw (c .part .ensures) (omega (arith, m, p .1 .1))))
 
 loop-again : tie.Need-loop-again Inv-loop μ-loop
 unfolding shareRun shelf
 loop-again c =
-    let at-at-loop = c .before .before .before .before .before .before in
-    let at-start = start-from-at-loop at-at-loop in
+    let at-loop = c .before .before .before .before .before .before in
+    let at-start = start-from-at-loop at-loop in
     let a = at-start .args in
     let p = at-start .pre in
-    let i = at-at-loop .loop .i in
-    let v = at-at-loop .loop .inv in
+    let i = at-loop .loop .i in
+    let v = at-loop .loop .inv in
     let e = c .before .before .put-share .ensures in
     let g = c .before .before .before .part .ensures in (
       omega arith,
       (
         e ∙ rw (g, v .1 .0) (ap (shareRun (a .kept .now) (a .size) (a .fragments .now) (a .f) (a .common .now)) (sym (add-one i))),
-        (let z : length (c .before .before .put-share .last .0) ≡ length (at-at-loop .loop .kept) = search
+        (let z : length (c .before .before .put-share .last .0) ≡ length (at-loop .loop .kept) = search
             needs in z ∙ v .1 .1),
       ),
     )

@@ -42,8 +42,8 @@ fine : (c : tie.In-loop Inv-loop μ-loop)
     → Turn (start-from-at-loop (c .before) .args .kept .now) (getD (start-from-at-loop (c .before) .args .t4) (c .before .loop .p) 0)
     (c .before .before .before .fragment-size .result) (c .before .loop .p)
 fine c =
-    let at-at-loop = c .before in
-    let at-start = start-from-at-loop at-at-loop in
+    let at-loop = c .before in
+    let at-start = start-from-at-loop at-loop in
     let a = at-start .args in
     let p = at-start .pre in
     turn (a .t) (a .kept .now) (a .t4) (a .n) (p .0) (p .1) (p .2) (c .before .before .before .fragment-size .result) (c .before .loop .p)
@@ -51,12 +51,12 @@ fine c =
 
 copy-requires : tie.Need-copy-requires Inv-loop μ-loop
 copy-requires c κs =
-    let at-at-loop = c .before .before .before in
-    let at-start = start-from-at-loop at-at-loop in
+    let at-loop = c .before .before .before in
+    let at-start = start-from-at-loop at-loop in
     let a = at-start .args in
     let p = at-start .pre in
-    let f = at-at-loop .before .before .fragment-size in
-    let l : c .before .before .before .loop .p < shelf (a .t) .threshold = omega (arith, at-at-loop .before .threshold .ensures .0) in
+    let f = at-loop .before .before .fragment-size in
+    let l : c .before .before .before .loop .p < shelf (a .t) .threshold = omega (arith, at-loop .before .threshold .ensures .0) in
     let at : ℕ = repliesPlace + replySlot * (getD (a .t4) (c .before .before .before .loop .p) 0 - 1) + (stampSize + 3) in
     omega (
       arith,
@@ -67,23 +67,23 @@ copy-requires c κs =
 
 loop-again : tie.Need-loop-again Inv-loop μ-loop
 loop-again c =
-    let at-at-loop = c .before .before .before .before .before in
-    let at-start = start-from-at-loop at-at-loop in
+    let at-loop = c .before .before .before .before .before in
+    let at-start = start-from-at-loop at-loop in
     let a = at-start .args in
     let p = at-start .pre in
-    let v = at-at-loop .loop .inv in
-    let l : at-at-loop .loop .p < shelf (a .t) .threshold = omega (arith, at-at-loop .before .threshold .ensures .0) in
-    let at : ℕ = repliesPlace + replySlot * (getD (a .t4) (at-at-loop .loop .p) 0 - 1) + (stampSize + 3) in
+    let v = at-loop .loop .inv in
+    let l : at-loop .loop .p < shelf (a .t) .threshold = omega (arith, at-loop .before .threshold .ensures .0) in
+    let at : ℕ = repliesPlace + replySlot * (getD (a .t4) (at-loop .loop .p) 0 - 1) + (stampSize + 3) in
     let w =
-    fragments-more (a .t) (a .kept .now) (a .t4) (a .n) (p .0) (p .1) (p .2) (at-at-loop .loop .out)
-    (c .before .copy .last .0) (at-at-loop .before .before .fragment-size .result) (at-at-loop .loop .p) at
-    (at-at-loop .before .before .fragment-size .ensures) l refl (v .1) (v .2) (c .before .copy .ensures) in
+    fragments-more (a .t) (a .kept .now) (a .t4) (a .n) (p .0) (p .1) (p .2) (at-loop .loop .out)
+    (c .before .copy .last .0) (at-loop .before .before .fragment-size .result) (at-loop .loop .p) at
+    (at-loop .before .before .fragment-size .ensures) l refl (v .1) (v .2) (c .before .copy .ensures) in
     (omega arith, w .0, w .1)
 
 returns : tie.Need-returns Inv-loop μ-loop
 returns c =
-    let at-at-loop = c .before in
-    let at-start = start-from-at-loop at-at-loop in
+    let at-loop = c .before in
+    let at-start = start-from-at-loop at-loop in
     let a = at-start .args in
     let e = c .before .before .before .fragment-size .ensures in
     let p = at-start .pre in

@@ -24,22 +24,22 @@ loop-holds c = let a = c .before .before .args in (omega arith, chosen-none (a .
 
 tried-requires : tie.Need-tried-requires Inv-loop μ-loop
 tried-requires c κs =
-    let at-at-loop = c .before in (
-      at-at-loop .before .before .before .pre,
+    let at-loop = c .before in (
+      at-loop .before .before .before .pre,
       omega (
         arith,
         c .before .before .servers .ensures .1,
-        at-at-loop .before .before .before .pre .high,
+        at-loop .before .before .before .pre .high,
       ),
     )
 
 returns : tie.Need-returns Inv-loop μ-loop
 returns c =
-    let at-at-loop = c .before .before .before .before .before in
-    let a = at-at-loop .before .before .before .args in
-    chosen-here (a .t) (a .marks) (a .kept .now) (a .key) (at-at-loop .loop .i)
-    (c .before .before .before .tried .result) (omega (arith, at-at-loop .before .servers .ensures .0))
-    (at-at-loop .loop .inv .1) (c .before .before .before .tried .ensures) (c .before .if1 .taken)
+    let at-loop = c .before .before .before .before .before in
+    let a = at-loop .before .before .before .args in
+    chosen-here (a .t) (a .marks) (a .kept .now) (a .key) (at-loop .loop .i)
+    (c .before .before .before .tried .result) (omega (arith, at-loop .before .servers .ensures .0))
+    (at-loop .loop .inv .1) (c .before .before .before .tried .ensures) (c .before .if1 .taken)
 
 -- Places far back, each named once: the place, and from where it is seen.
 abbrev at-loop-from-else1 : tie.Else1 Inv-loop μ-loop → tie.At-loop Inv-loop μ-loop
@@ -47,20 +47,20 @@ at-loop-from-else1 c = c .before .before .before .before
 
 add-i : tie.Need-add-i Inv-loop μ-loop
 add-i c =
-    let at-at-loop = at-loop-from-else1 c in
+    let at-loop = at-loop-from-else1 c in
     omega (
       arith,
-      at-at-loop .before .servers .ensures .1,
-      at-at-loop .before .before .before .pre .high,
+      at-loop .before .servers .ensures .1,
+      at-loop .before .before .before .pre .high,
     )
 
 loop-again : tie.Need-loop-again Inv-loop μ-loop
 loop-again c =
-    let at-at-loop = at-loop-from-else1 c in
-    let a = at-at-loop .before .before .before .args in (
+    let at-loop = at-loop-from-else1 c in
+    let a = at-loop .before .before .before .args in (
       omega arith,
-      chosen-passed (a .t) (a .marks) (a .kept .now) (a .key) (at-at-loop .loop .i)
-          (c .before .before .tried .result) (at-at-loop .loop .inv .1) (c .before .before .tried .ensures) (c .if1 .left),
+      chosen-passed (a .t) (a .marks) (a .kept .now) (a .key) (at-loop .loop .i)
+          (c .before .before .tried .result) (at-loop .loop .inv .1) (c .before .before .tried .ensures) (c .if1 .left),
     )
 
 returns-2 : tie.Need-returns-2 Inv-loop μ-loop

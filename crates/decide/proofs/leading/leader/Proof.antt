@@ -33,48 +33,48 @@ start-from-at-loop c = c .before .before .before .before .before
 
 group-of-requires : tie.Need-group-of-requires Inv-loop μ-loop
 group-of-requires c κs =
-    let at-at-loop = c .before .before in
-    let at-start = start-from-at-loop at-at-loop in
+    let at-loop = c .before .before in
+    let at-start = start-from-at-loop at-loop in
     let a = at-start .args in
     let p = at-start .pre in (
       p .0,
       p .1,
       omega (arith, c .before .before .before .servers .ensures .0),
-      at-at-loop .before .before .digest .ensures ∙ ap sha256
+      at-loop .before .before .digest .ensures ∙ ap sha256
           (part-of (a .kept .now) (candidatesPlace + candidateSlot * a .i + stampSize) digestSize ∙ sym
           (nonce-in (shelf (a .t)) (a .kept .now) (a .i) (p .1))),
     )
 
 returns : tie.Need-returns Inv-loop μ-loop
 returns c =
-    let at-at-loop = c .before .before .before .before .before in
-    let a = start-from-at-loop at-at-loop .args in
-    let j = at-at-loop .loop .b in
-    let v = at-at-loop .loop .inv in
+    let at-loop = c .before .before .before .before .before in
+    let a = start-from-at-loop at-loop .args in
+    let j = at-loop .loop .b in
+    let v = at-loop .loop .inv in
     let g = c .before .before .group-of .ensures in
-    first-leads (a .t) (a .marks) (a .kept .now) (a .i) (at-at-loop .loop .b) (c .before .before .group-of .result)
-    (omega (arith, at-at-loop .before .servers .ensures .0)) (v .1) g (c .if1 .taken)
+    first-leads (a .t) (a .marks) (a .kept .now) (a .i) (at-loop .loop .b) (c .before .before .group-of .result)
+    (omega (arith, at-loop .before .servers .ensures .0)) (v .1) g (c .if1 .taken)
 
 abbrev at-loop-from-else1 : tie.Else1 Inv-loop μ-loop → tie.At-loop Inv-loop μ-loop
 at-loop-from-else1 c = c .before .before .before .before .before
 
 add-b : tie.Need-add-b Inv-loop μ-loop
 add-b c =
-    let at-at-loop = at-loop-from-else1 c in
+    let at-loop = at-loop-from-else1 c in
     omega (
       arith,
-      at-at-loop .before .servers .ensures .1,
-      start-from-at-loop at-at-loop .pre .0 .high,
+      at-loop .before .servers .ensures .1,
+      start-from-at-loop at-loop .pre .0 .high,
     )
 
 loop-again : tie.Need-loop-again Inv-loop μ-loop
 loop-again c =
-    let at-at-loop = at-loop-from-else1 c in
-    let a = start-from-at-loop at-at-loop .args in
+    let at-loop = at-loop-from-else1 c in
+    let a = start-from-at-loop at-loop .args in
     let g = c .before .before .group-of .ensures in (
       omega arith,
-      leader-more (a .t) (a .marks) (a .kept .now) (a .i) (at-at-loop .loop .b)
-          (at-at-loop .loop .inv .1) ∙ sym (g .server) ∙ c .if1 .left,
+      leader-more (a .t) (a .marks) (a .kept .now) (a .i) (at-loop .loop .b)
+          (at-loop .loop .inv .1) ∙ sym (g .server) ∙ c .if1 .left,
     )
 
 returns-2 : tie.Need-returns-2 Inv-loop μ-loop

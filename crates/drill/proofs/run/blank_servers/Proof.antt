@@ -20,10 +20,10 @@ loop-holds c = ready-none (c .before .before .args .t) (c .before .before .args 
 
 blank-requires : tie.Need-blank-requires Inv-loop μ-loop
 blank-requires c κs =
-    let at-at-loop = c .before .before in
+    let at-loop = c .before .before in
     let e = c .before .before .before .servers .ensures in (
-      few-servers (at-at-loop .before .before .before .args .t) (c .before .before .loop .b)
-          (at-at-loop .before .before .before .pre .0 .1) (c .before .before .loop .inv .low, omega arith),
+      few-servers (at-loop .before .before .before .args .t) (c .before .before .loop .b)
+          (at-loop .before .before .before .pre .0 .1) (c .before .before .loop .inv .low, omega arith),
       c .before .before .loop .inv .size,
     )
 
@@ -33,21 +33,21 @@ at-loop-from-slice-known2 c = c .before .before .before .before .before
 
 add-b : tie.Need-add-b Inv-loop μ-loop
 add-b c =
-    let at-at-loop = at-loop-from-slice-known2 c in
-    let e = at-at-loop .before .servers .ensures in let h = few-servers (at-at-loop .before .before .before .args .t) (at-at-loop .loop .b)
-    (at-at-loop .before .before .before .pre .0 .1) (
-      at-at-loop .loop .inv .low,
+    let at-loop = at-loop-from-slice-known2 c in
+    let e = at-loop .before .servers .ensures in let h = few-servers (at-loop .before .before .before .args .t) (at-loop .loop .b)
+    (at-loop .before .before .before .pre .0 .1) (
+      at-loop .loop .inv .low,
       omega
           arith,
     ) in omega arith
 
 loop-again : tie.Need-loop-again Inv-loop μ-loop
 loop-again c =
-    let at-at-loop = at-loop-from-slice-known2 c in
-    let e = at-at-loop .before .servers .ensures in
-    ready-more (at-at-loop .before .before .before .args .t) (at-at-loop .loop .b)
-    (at-at-loop .loop .work) _ (at-at-loop .before .before .before .pre .0)
-    (omega arith) (at-at-loop .loop .inv) (c .before .before .blank .ensures)
+    let at-loop = at-loop-from-slice-known2 c in
+    let e = at-loop .before .servers .ensures in
+    ready-more (at-loop .before .before .before .args .t) (at-loop .loop .b)
+    (at-loop .loop .work) _ (at-loop .before .before .before .pre .0)
+    (omega arith) (at-loop .loop .inv) (c .before .before .blank .ensures)
 
 same-length : tie.Need-same-length Inv-loop μ-loop
 same-length c = c .before .loop .inv .size ∙ sym (c .before .before .before .before .pre .1 .0)

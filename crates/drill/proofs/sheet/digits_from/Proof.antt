@@ -32,33 +32,29 @@ returns c =
 returns-2 : tie.Need-returns-2 Inv-loop μ-loop
 unfolding numberOf
 returns-2 c =
-    let at-at-loop = c .before .before .before .before in
-    let s = at-at-loop .before .before .args .s .now in
-    ap numberOf (sym (at-at-loop .loop .inv .0 ∙ digits-high s (at-at-loop .loop .i) (omega arith)
-    (at-at-loop .loop .v) (c .before .if1 .left) (c .if2 .taken)))
+    let at-loop = c .before .before .before .before in
+    let s = at-loop .before .before .args .s .now in
+    ap numberOf (sym (at-loop .loop .inv .0 ∙ digits-high s (at-loop .loop .i) (omega arith)
+    (at-loop .loop .v) (c .before .if1 .left) (c .if2 .taken)))
 
 mul-v : tie.Need-mul-v Inv-loop μ-loop
 mul-v c = let f = tens-fits (c .before .before .before .before .loop .i) (omega arith) in omega arith
 
--- Places far back, each named once: the place, and from where it is seen.
-abbrev at-loop-from-wide : tie.After-wide Inv-loop μ-loop → tie.At-loop Inv-loop μ-loop
-at-loop-from-wide c = c .before .before .before .before .before
-
 add-v : tie.Need-add-v Inv-loop μ-loop
 add-v c =
-    let at-at-loop = at-loop-from-wide c in
-    let f = tens-fits (at-at-loop .loop .i + 1) (omega arith) in
-    let g = tens-more (at-at-loop .loop .v) (at-at-loop .loop .i) (getD (at-at-loop .before .before .args .s .now) (at-at-loop .loop .i) 0 - 48)
-    (at-at-loop .loop .inv .1) (omega arith) in omega arith
+    let at-loop = c .before .before .before .before .before in
+    let f = tens-fits (at-loop .loop .i + 1) (omega arith) in
+    let g = tens-more (at-loop .loop .v) (at-loop .loop .i) (getD (at-loop .before .before .args .s .now) (at-loop .loop .i) 0 - 48)
+    (at-loop .loop .inv .1) (omega arith) in omega arith
 
 loop-again : tie.Need-loop-again Inv-loop μ-loop
 loop-again c =
-    let at-at-loop = at-loop-from-wide c in
-    let s = at-at-loop .before .before .args .s .now in
-    let i = at-at-loop .loop .i in
-    let g = tens-more (at-at-loop .loop .v) i (getD s i 0 - 48) (at-at-loop .loop .inv .1) (omega arith) in
+    let at-loop = c .before .before .before .before .before in
+    let s = at-loop .before .before .args .s .now in
+    let i = at-loop .loop .i in
+    let g = tens-more (at-loop .loop .v) i (getD s i 0 - 48) (at-loop .loop .inv .1) (omega arith) in
     let e : c .wide .result ≡ getD s i 0 - 48 = c .wide .ensures in (
-      at-at-loop .loop .inv .0 ∙ digits-more s i (omega arith) (at-at-loop .loop .v)
+      at-loop .loop .inv .0 ∙ digits-more s i (omega arith) (at-loop .loop .v)
           (c .before .before .if1 .left) (c .before .if2 .left) ∙ rw e,
       rw e g,
     )

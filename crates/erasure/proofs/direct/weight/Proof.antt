@@ -21,9 +21,9 @@ loop-holds c = (search needs, sym (productTo-none _), sym (productTo-none _))
 
 loop-again : tie.Need-loop-again Inv-loop μ-loop
 loop-again c =
-    let at-at-loop = c .before .before .before .before .before in
-    let l = at-at-loop .loop in
-    let args = at-at-loop .before .args in
+    let at-loop = c .before .before .before .before .before in
+    let l = at-loop .loop in
+    let args = at-loop .before .args in
     let x = getD (args .t1) (args .j) 0 in (
       search needs,
       c .before .before .mul .ensures ∙ productTo-more (l .m) (factorAt (args .t1) (args .j) (args .z)) (l .top)

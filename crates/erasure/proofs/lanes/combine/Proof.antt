@@ -33,17 +33,17 @@ at-loop-from-lane-sum c = c .before .before .before .before
 add-store : tie.Need-add-store Inv-loop μ-loop
 add-store c =
     let at-lane-sum = c .before in
-    let at-at-loop = at-loop-from-lane-sum at-lane-sum in
-    let start = at-at-loop .before .before .before in
-    let l = at-at-loop .loop in
+    let at-loop = at-loop-from-lane-sum at-lane-sum in
+    let start = at-loop .before .before .before in
+    let l = at-loop .loop in
     omega (arith, l .inv .1 .long, start .pre .2)
 
 store-requires : tie.Need-store-requires Inv-loop μ-loop
 store-requires c κs =
     let at-lane-sum = c .before in
-    let at-at-loop = at-loop-from-lane-sum at-lane-sum in
-    let start = at-at-loop .before .before .before in
-    let l = at-at-loop .loop in
+    let at-loop = at-loop-from-lane-sum at-lane-sum in
+    let start = at-loop .before .before .before in
+    let l = at-loop .loop in
     let n = c .before .before .before .at-most-lane in
     (n .ensures .1, omega (arith, l .inv .1 .long, start .pre .2, n .ensures .0))
 
@@ -53,9 +53,9 @@ lane-sum-from-slice-known2 c = c .before .before .before .before
 add-q : tie.Need-add-q Inv-loop μ-loop
 add-q c =
     let at-lane-sum = lane-sum-from-slice-known2 c in
-    let at-at-loop = at-loop-from-lane-sum at-lane-sum in
-    let start = at-at-loop .before .before .before in
-    let l = at-at-loop .loop in
+    let at-loop = at-loop-from-lane-sum at-lane-sum in
+    let start = at-loop .before .before .before in
+    let l = at-loop .loop in
     let n = at-lane-sum .before .before .at-most-lane in
     omega (arith, n .ensures .0)
 
@@ -69,9 +69,9 @@ loop-again : tie.Need-loop-again Inv-loop μ-loop
 unfolding sumAt
 loop-again c =
     let at-lane-sum = lane-sum-from-slice-known2 c in
-    let at-at-loop = at-loop-from-lane-sum at-lane-sum in
-    let args = at-at-loop .before .before .before .args in
-    let l = at-at-loop .loop in
+    let at-loop = at-loop-from-lane-sum at-lane-sum in
+    let args = at-loop .before .before .before .args in
+    let l = at-loop .loop in
     let n = at-lane-sum .before .before .at-most-lane in
     let lanes = at-lane-sum .before .gather in
     let sum = at-lane-sum .lane-sum in

@@ -49,14 +49,14 @@ div-run c = start-from-system-of (system-of-from-at-most c) .pre .1
 
 run-requires : tie.Need-run-requires Inv-loop μ-loop
 run-requires c κs =
-    let at-at-most = c .before in
-    let start = start-from-system-of (system-of-from-at-most at-at-most) in
+    let at-most = c .before in
+    let start = start-from-system-of (system-of-from-at-most at-most) in
     let args = start .args in
     let l = c .before .before .before .loop in
     let m = c .before .at-most in (
       start .pre .0,
       run-point (args .k) (args .f) (args .n) (l .done) (start .pre .1) (start .pre .2) (omega arith),
-      λ j h. omega (arith, at-at-most .before .before .before .starts-of .ensures j h, start .pre .5 j h, m .ensures .1),
+      λ j h. omega (arith, at-most .before .before .before .starts-of .ensures j h, start .pre .5 j h, m .ensures .1),
       omega (arith, m .ensures .0, l .inv .2 .long, start .pre .3),
     )
 
@@ -70,21 +70,21 @@ add-done c =
 
 loop-less : tie.Need-loop-less Inv-loop μ-loop
 loop-less c =
-    let at-at-most = at-most-from-slice-known2 c in
-    let start = start-from-system-of (system-of-from-at-most at-at-most) in
-    let m = at-at-most .at-most in
+    let at-most = at-most-from-slice-known2 c in
+    let start = start-from-system-of (system-of-from-at-most at-most) in
+    let m = at-most .at-most in
     let h : 0 < m .result = m .ensures .2 (omega arith) (start .pre .1) in
     omega (arith, m .ensures .0, h)
 
 loop-again : tie.Need-loop-again Inv-loop μ-loop
 loop-again c =
-    let at-at-most = at-most-from-slice-known2 c in
-    let at-system-of = system-of-from-at-most at-at-most in
+    let at-most = at-most-from-slice-known2 c in
+    let at-system-of = system-of-from-at-most at-most in
     let start = start-from-system-of at-system-of in
     let args = start .args in
-    let l = at-at-most .before .before .loop in
-    let m = at-at-most .at-most in
-    let starts = at-at-most .before .before .before .starts-of in
+    let l = at-most .before .before .loop in
+    let m = at-most .at-most in
+    let starts = at-most .before .before .before .starts-of in
     let a = at-system-of .system-of in
     let places = at-system-of .before .places-of in
     let e : l .done % args .f ≡ 0 = l .inv .1 (omega arith) in (

@@ -42,27 +42,27 @@ size-is : (c : tie.After-fragment-size Inv-loop μ-loop)
     (shared-slice-known-from-at-loop (at-loop-from-else1 (c .before .before .before)) .before .args .memory .now))
 size-is c =
     let at-else1 = c .before .before .before in
-    let at-at-loop = at-loop-from-else1 at-else1 in
-    let at-shared-slice-known = shared-slice-known-from-at-loop at-at-loop in
+    let at-loop = at-loop-from-else1 at-else1 in
+    let at-shared-slice-known = shared-slice-known-from-at-loop at-loop in
     size-told (at-shared-slice-known .before .args .t) (at-shared-slice-known .before .args .memory .now)
-    (at-at-loop .loop .at) (at-else1 .before .before .before .rest .ensures) (c .before .before .rest2 .ensures) (c .before .number2 .ensures)
-    (at-at-loop .before .before .share-size .ensures) (c .fragment-size .ensures)
+    (at-loop .loop .at) (at-else1 .before .before .before .rest .ensures) (c .before .before .rest2 .ensures) (c .before .number2 .ensures)
+    (at-loop .before .before .share-size .ensures) (c .fragment-size .ensures)
 
 returns : tie.Need-returns Inv-loop μ-loop
 returns c =
-    let at-at-loop = c .before .before .before .before .before in
-    walk-found (at-at-loop .loop .inv .1) (λ i. shared-slice-known-from-at-loop at-at-loop .shared-slice-known .given i .fits) (omega arith)
+    let at-loop = c .before .before .before .before .before in
+    walk-found (at-loop .loop .inv .1) (λ i. shared-slice-known-from-at-loop at-loop .shared-slice-known .given i .fits) (omega arith)
     (c .before .before .before .rest .ensures) (c .before .before .part .ensures) (c .before .same .ensures) (c .if1 .taken)
 
 add-size : tie.Need-add-size Inv-loop μ-loop
 unfolding shareSize shelf
 add-size c =
     let at-else1 = c .before .before .before in
-    let at-at-loop = at-loop-from-else1 at-else1 in
-    let at-shared-slice-known = shared-slice-known-from-at-loop at-at-loop in
+    let at-loop = at-loop-from-else1 at-else1 in
+    let at-shared-slice-known = shared-slice-known-from-at-loop at-loop in
     omega (
       arith,
-      at-at-loop .before .before .share-size .ensures,
+      at-loop .before .before .share-size .ensures,
       c .fragment-size .ensures,
       fragment-few
           (at-shared-slice-known .before .args .t) (c .before .number2 .result),
@@ -72,8 +72,8 @@ add-size c =
 returns-2 : tie.Need-returns-2 Inv-loop μ-loop
 returns-2 c =
     let at-else1 = c .before .before .before .before in
-    let at-at-loop = at-loop-from-else1 at-else1 in
-    walk-short (at-at-loop .loop .inv .1) (λ i. shared-slice-known-from-at-loop at-at-loop .shared-slice-known .given
+    let at-loop = at-loop-from-else1 at-else1 in
+    walk-short (at-loop .loop .inv .1) (λ i. shared-slice-known-from-at-loop at-loop .shared-slice-known .given
     i .fits) (omega arith) (at-else1 .before .before .before .rest .ensures) (size-is (c .before)) (c .if2 .taken)
 
 abbrev else1-from-else2 : tie.Else2 Inv-loop μ-loop → tie.Else1 Inv-loop μ-loop
@@ -83,24 +83,24 @@ add-at : tie.Need-add-at Inv-loop μ-loop
 unfolding shareSize shelf
 add-at c =
     let at-else1 = else1-from-else2 c in
-    let at-at-loop = at-loop-from-else1 at-else1 in
+    let at-loop = at-loop-from-else1 at-else1 in
     omega (
       arith,
-      at-at-loop .before .before .share-size .ensures,
+      at-loop .before .before .share-size .ensures,
       ap length
           (at-else1 .before .before .before .rest .ensures),
       length-drop
-          (at-at-loop .loop .at) (shared-slice-known-from-at-loop at-at-loop .before .args .memory .now),
+          (at-loop .loop .at) (shared-slice-known-from-at-loop at-loop .before .args .memory .now),
       c .if2 .left,
     )
 
 loop-again : tie.Need-loop-again Inv-loop μ-loop
 loop-again c =
     let at-else1 = else1-from-else2 c in
-    let at-at-loop = at-loop-from-else1 at-else1 in (
+    let at-loop = at-loop-from-else1 at-else1 in (
       omega arith,
-      walk-more (at-at-loop .loop .inv .1)
-          (λ i. shared-slice-known-from-at-loop at-at-loop .shared-slice-known .given
+      walk-more (at-loop .loop .inv .1)
+          (λ i. shared-slice-known-from-at-loop at-loop .shared-slice-known .given
           i .fits) (omega arith) (at-else1 .before .before .before .rest .ensures)
           (at-else1 .before .before .part .ensures) (at-else1 .before .same .ensures) (at-else1 .if1 .left) (size-is (c .before)),
     )

@@ -21,10 +21,10 @@ loop-holds c = (omega arith, refl)
 
 loop-again : tie.Need-loop-again Inv-loop μ-loop
 loop-again c =
-    let at-at-loop = c .before .before .before .before in (
+    let at-loop = c .before .before .before .before in (
       omega arith,
-      next-more (shelf (at-at-loop .before .before .args .t))
-          (at-at-loop .before .before .args .list .now) (at-at-loop .loop .i) (at-at-loop .before .before .args .bound) (at-at-loop .loop .inv .1)
+      next-more (shelf (at-loop .before .before .args .t))
+          (at-loop .before .before .args .list .now) (at-loop .loop .i) (at-loop .before .before .args .bound) (at-loop .loop .inv .1)
           (c .before .before .rank-at .ensures) (c .before .under .ensures) (c .max-of .ensures),
     )
 

@@ -23,10 +23,10 @@ loop-holds c = (omega arith, omega arith, refl, search needs, refl)
 loop-again : tie.Need-loop-again Inv-loop μ-loop
 loop-again c =
     let at-next2 = c .before .before .before .before in
-    let at-at-loop = at-next2 .before .before .before .before .before in
-    let at = at-at-loop .loop in
+    let at-loop = at-next2 .before .before .before .before .before in
+    let at = at-loop .loop in
     let t = at .t in
-    let b = length-take-le 16 (at-at-loop .before .args .w .now) (omega arith) in
+    let b = length-take-le 16 (at-loop .before .args .w .now) (omega arith) in
     let w1 = grow-next t (t + 1) _ (at .w) _ b (omega arith) (omega arith) (omega arith) (at .inv .4) (at-next2 .before .before .next .ensures) in
     let w2 = grow-next (t + 1) (t + 2) _ (set (at .w) t _) _ b (omega arith) (simp length-set (omega arith)) (omega arith) w1
     (at-next2 .next2 .ensures) in

@@ -30,10 +30,10 @@ loop-holds c = (omega arith, refl, refl, refl, refl)
 loop-again : tie.Need-loop-again Inv-loop μ-loop
 loop-again c =
     let at-round2 = c .before .before .before .before in
-    let at-at-loop = at-round2 .before .before .before .before .before in
-    let w = at-at-loop .before .args .w .now in
-    let s = start (at-at-loop .before .args .t1) in
-    let at = at-at-loop .loop in
+    let at-loop = at-round2 .before .before .before .before .before in
+    let w = at-loop .before .args .w .now in
+    let s = start (at-loop .before .args .t1) in
+    let at = at-loop .loop in
     let t = at .t in
     let k = at .inv .2 in
     let v1 = rounds-next (t + 1) t _ w s _ _ k (omega arith) (at .inv .4) (at-round2 .before .before .round .ensures) in

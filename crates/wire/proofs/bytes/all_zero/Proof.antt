@@ -25,17 +25,17 @@ joined-zero-requires c κs = tt
 
 returns : tie.Need-returns Inv-loop μ-loop
 returns c =
-    let at-at-loop = c .before .before .before .before in
-    let s = at-at-loop .before .before .args .s .now in
-    let l = at-at-loop .loop in
+    let at-loop = c .before .before .before .before in
+    let s = at-loop .before .before .args .s .now in
+    let l = at-loop .loop in
     sym (l .inv .1 ∙ chunk-other s (l .at) (l .at + 256 - l .at) (sym (c .before .joined-zero .ensures) ∙ not-true (c .before .joined-zero .result)
     (c .if1 .taken)))
 
 loop-again : tie.Need-loop-again Inv-loop μ-loop
 loop-again c =
-    let at-at-loop = c .before .before .before .before in
-    let s = at-at-loop .before .before .args .s .now in
-    let l = at-at-loop .loop in
+    let at-loop = c .before .before .before .before in
+    let s = at-loop .before .before .args .s .now in
+    let l = at-loop .loop in
     let e : l .at + (l .at + 256 - l .at) ≡ l .at + 256 = omega arith in (
       omega arith,
       l .inv .1 ∙ (chunk-zero s (l .at) (l .at + 256 - l .at) (sym (c .before .joined-zero .ensures) ∙ not-false

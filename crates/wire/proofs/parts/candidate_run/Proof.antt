@@ -27,17 +27,17 @@ loop-holds c = (omega arith, run-none (shelf (c .before .args .t)) (omega arith)
 
 returns : tie.Need-returns Inv-loop μ-loop
 returns c =
-    let at-at-loop = c .before .before .before .before in
-    many-broken (candidateF (shelf (at-at-loop .before .before .args .t))) (at-at-loop .loop .i)
-    (at-at-loop .before .before .args .n) (omega arith) (at-at-loop .loop .inv .1 .leaves)
+    let at-loop = c .before .before .before .before in
+    many-broken (candidateF (shelf (at-loop .before .before .args .t))) (at-loop .loop .i)
+    (at-loop .before .before .args .n) (omega arith) (at-loop .loop .inv .1 .leaves)
     (rw (c .enum-told .given .1) at (c .before .before .candidate-field .ensures))
 
 loop-again : tie.Need-loop-again Inv-loop μ-loop
 loop-again c =
-    let at-at-loop = c .before .before .before .before .before in (
+    let at-loop = c .before .before .before .before .before in (
       omega arith,
-      run-more (shelf (at-at-loop .before .before .args .t))
-          (at-at-loop .loop .i) (at-at-loop .loop .inv .1) (rw (c .before .number .given .1) at (c .before .before .before .candidate-field .ensures)),
+      run-more (shelf (at-loop .before .before .args .t))
+          (at-loop .loop .i) (at-loop .loop .inv .1) (rw (c .before .number .given .1) at (c .before .before .before .candidate-field .ensures)),
     )
 
 returns-2 : tie.Need-returns-2 Inv-loop μ-loop
