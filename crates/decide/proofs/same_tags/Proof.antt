@@ -73,10 +73,8 @@ returns-5 c =
     let a = start-from-servers at-servers .args in
     let e : suc (a .b - 1) ≡ a .b = omega (arith, c .before .before .before .if3 .left) in
     rw (
-      is-usable (at-servers .before .before .is-usable .ensures)
-          (at-servers .before .if1 .left),
-      lt-ltb (a .i) (shelf (a .t) .servers)
-          (omega (arith, at-servers .servers .ensures .0)),
+      is-usable (at-servers .before .before .is-usable .ensures) (at-servers .before .if1 .left),
+      lt-ltb (a .i) (shelf (a .t) .servers) (omega (arith, at-servers .servers .ensures .0)),
       le-leb 1 (a .b)
           (omega (arith, c .before .before .before .if3 .left)),
       le-leb (a .b) (shelf (a .t) .servers)

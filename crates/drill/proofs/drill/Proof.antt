@@ -40,8 +40,7 @@ list-requires c κs =
         c .before .before .before .work .given ∙ at-rows-for .before .before .if1 .left,
         at-work .before .clear .ensures ∙ ap (λ (n : ℕ). replicate n 0) (sym (c .before .before .before .work .given)),
       ),
-      room-fits
-          (length (a .out .now)) _ (rw m at (at-work .before .before .before .if2 .left)),
+      room-fits (length (a .out .now)) _ (rw m at (at-work .before .before .before .if2 .left)),
     )
 
 returns-3 : tie.Need-returns-3

@@ -32,7 +32,7 @@ last-test : (c : tie.After-outside3) (b : Bool) → c .outside3 .result ≡ b
 last-test c b e =
     let at-else1 = else1-from-outside3 c in
     let args = at-else1 .before .before .args in
-    fragment-tests (args .t) (args .server) (args .n) false false b (faults-in (at-else1))
+    fragment-tests (args .t) (args .server) (args .n) false false b (faults-in at-else1)
     (server-tested (c .before .before) ∙ c .before .if2 .left) (sym (c .outside3 .ensures) ∙ e)
 
 -- ---- the needs

@@ -21,7 +21,7 @@ returns-2 : tie.Need-returns-2
 returns-2 c =
     let at-start = c .before .before .before .before .before in
     let a = at-start .args in
-    let e = read-refused (a .t) (a .client) (a .call) (a .kept .now) (wide (at-start)) (c .before .before .before .if1 .left) _
+    let e = read-refused (a .t) (a .client) (a .call) (a .kept .now) (wide at-start) (c .before .before .before .if1 .left) _
     (c .before .before .read-refusal .ensures) (c .before .if2 .taken) in
     (rw (e, c .not-begun2 .ensures), rw e)
 
@@ -43,7 +43,7 @@ returns-3 c =
     let at-start = start-from-else2 at-else2 in
     let a = at-start .args in
     let z = sym (at-else2 .before .read-refusal .ensures) ∙ at-else2 .if2 .left in
-    let e = read-begins (a .t) (a .client) (a .call) (a .kept .now) (wide (at-start)) (at-else2 .before .before .if1 .left) z in
+    let e = read-begins (a .t) (a .client) (a .call) (a .kept .now) (wide at-start) (at-else2 .before .before .if1 .left) z in
     (rw (e, c .next-call .ensures), rw e (c .before .before .before .clear-slots .ensures))
 
 pub begin-read-in-spec : {M : Type 1} → statement M

@@ -22,7 +22,7 @@ returns-2 c =
     let at-start = c .before .before .before .before .before .before in
     let a = at-start .args in
     let e = write-refused (a .t) (a .client) (a .call) (a .kept .now) (a .content .now) (a .nonce .now)
-    (wide (at-start)) (c .before .before .before .if1 .left) _ (c .before .before .write-refusal .ensures) (c .before .if2 .taken) in
+    (wide at-start) (c .before .before .before .if1 .left) _ (c .before .before .write-refusal .ensures) (c .before .if2 .taken) in
     (rw (e, c .not-begun2 .ensures), rw e)
 
 -- Places far back, each named once: the place, and from where it is seen.
@@ -62,7 +62,7 @@ returns-3 c =
     let at-start = start-from-else2 at-else2 in
     let a = at-start .args in
     let z = sym (at-else2 .before .write-refusal .ensures) ∙ at-else2 .if2 .left in
-    let e = write-begins (a .t) (a .client) (a .call) (a .kept .now) (a .content .now) (a .nonce .now) (wide (at-start))
+    let e = write-begins (a .t) (a .client) (a .call) (a .kept .now) (a .content .now) (a .nonce .now) (wide at-start)
     (at-else2 .before .before .if1 .left) z in
     (rw (e, c .next-call .ensures), rw e (c .before .before .before .keep-write .ensures))
 

@@ -9,8 +9,7 @@ returns : tie.Need-returns
 returns c =
     let at-prepare = c .before .before .before .before in (
       c .more .ensures ∙ rw (c .before .enter-store .ensures),
-      at-prepare .prepare .ensures ∙ rw
-          (add-one (at-prepare .before .before .before .args .high)),
+      at-prepare .prepare .ensures ∙ rw (add-one (at-prepare .before .before .before .args .high)),
     )
 
 pub end-clock-spec : {M : Type 1} → statement M

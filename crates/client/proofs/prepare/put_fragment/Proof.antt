@@ -89,8 +89,7 @@ write-at-requires-2 c κs =
     let d : length (at-digest .digest .result) ≡ digestSize = search needs in omega (
       arith,
       d,
-      start-from-fragment (fragment-from-digest at-digest) .pre .1 .1 .1 .1
-          .1,
+      start-from-fragment (fragment-from-digest at-digest) .pre .1 .1 .1 .1 .1,
     )
 
 returns : tie.Need-returns
@@ -112,8 +111,7 @@ returns c =
     (λ (x : FragmentOutcome). bytesAt (x .bytes) 0 (x .count)) e ∙ cut .1 in
     let m : at-fragment .fragment .result .count * a .i ≡ size * a .i = ap (λ (k : ℕ). k * a .i) n in
     let l = piece-length (a .t) (a .i) (a .content .now) (p .0) (p .1 .0) (p .1 .1 .0) (p .1 .1 .1 .0) in (
-      at-write-at .write-at .ensures ∙ rw
-          (at-write-at .before .part2 .ensures, q, m),
+      at-write-at .write-at .ensures ∙ rw (at-write-at .before .part2 .ensures, q, m),
       c .before .before .write-at2 .ensures ∙ rw (
         at-digest .digest .ensures,
         at-digest .before .part .ensures,

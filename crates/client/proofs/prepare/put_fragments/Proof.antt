@@ -29,8 +29,7 @@ loop-holds c =
       omega arith,
       (
         put-none (at-start .args .fragments .now),
-        put-none
-            (at-start .args .digests .now),
+        put-none (at-start .args .digests .now),
       ),
     )
 

@@ -63,8 +63,7 @@ loop-again c =
       omega arith,
       (
         e ∙ rw (g, v .1 .0) (ap (shareRun (a .kept .now) (a .size) (a .fragments .now) (a .f) (a .common .now)) (sym (add-one i))),
-        (let z : length (c .before .before .put-share .last .0) ≡ length (at-loop .loop .kept) = search
-            needs in z ∙ v .1 .1),
+        (let z : length (c .before .before .put-share .last .0) ≡ length (at-loop .loop .kept) = search needs in z ∙ v .1 .1),
       ),
     )
 

@@ -76,7 +76,7 @@ returns-5 c =
     let at-else2 = c .before .before .before .before in
     rw (
       past₁ (at-else2 .before .before .before),
-      past₂ (at-else2),
+      past₂ at-else2,
       past₃ (c .before .before),
       past₄ (c .before),
       lt-ltb (start (c .before) .args .room) packetRoom (omega arith),
@@ -88,7 +88,7 @@ returns-6 c =
     let at-else2 = c .before .before .before .before in
     rw (
       past₁ (at-else2 .before .before .before),
-      past₂ (at-else2),
+      past₂ at-else2,
       past₃ (c .before .before),
       past₄ (c .before),
       le-ltb (start (c .before) .args .room) packetRoom (omega arith),

@@ -44,7 +44,7 @@ returns-4 c =
     let at-else2 = c .before .before .before .before in
     rw (
       past₁ (at-else2 .before .before),
-      past₂ (at-else2),
+      past₂ at-else2,
       past₃ (c .before .before),
       le-leb topNumber (at-else2 .before .before .before .before .args .call .number) (omega arith),
     )
@@ -55,7 +55,7 @@ returns-5 c =
     let at-else2 = c .before .before .before .before in
     rw (
       past₁ (at-else2 .before .before),
-      past₂ (at-else2),
+      past₂ at-else2,
       past₃ (c .before .before),
       lt-leb topNumber (at-else2 .before .before .before .before .args .call .number) (omega arith),
     )

@@ -49,8 +49,7 @@ returns-4 c =
       past₁ (at-else3 .before .before .before .before),
       past₂ (at-else3 .before .before),
       past₃ (c .before .before),
-      sym
-          (c .before .is-pending .ensures) ∙ c .if4 .taken,
+      sym (c .before .is-pending .ensures) ∙ c .if4 .taken,
     )
 
 returns-5 : tie.Need-returns-5
@@ -59,13 +58,11 @@ returns-5 c =
     let at-else3 = c .before .before .before .before in
     let at-else1 = at-else3 .before .before .before .before in
     rw (
-      past₁ (at-else1),
-      past₂
-          (at-else3 .before .before),
-      past₃ (at-else3),
+      past₁ at-else1,
+      past₂ (at-else3 .before .before),
+      past₃ at-else3,
       past₄ (c .before .before),
-      le-leb topNumber
-          (at-else1 .before .before .args .call .number) (omega arith),
+      le-leb topNumber (at-else1 .before .before .args .call .number) (omega arith),
     )
 
 returns-6 : tie.Need-returns-6
@@ -74,13 +71,11 @@ returns-6 c =
     let at-else3 = c .before .before .before .before in
     let at-else1 = at-else3 .before .before .before .before in
     rw (
-      past₁ (at-else1),
-      past₂
-          (at-else3 .before .before),
-      past₃ (at-else3),
+      past₁ at-else1,
+      past₂ (at-else3 .before .before),
+      past₃ at-else3,
       past₄ (c .before .before),
-      lt-leb topNumber
-          (at-else1 .before .before .args .call .number) (omega arith),
+      lt-leb topNumber (at-else1 .before .before .args .call .number) (omega arith),
     )
 
 pub write-refusal-spec : {M : Type 1} → statement M

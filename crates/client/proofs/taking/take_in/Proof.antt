@@ -27,7 +27,7 @@ returns-2 c =
     let a = at-start .args in
     let w : badFaults (shelf (a .t)) ≡ true = sym (c .before .before .outside .ensures) ∙ c .before .if2 .taken in
     taken-in (a .t) (a .client) (a .writers .now) (a .keys .now) (a .call) (a .kept .now) (a .reply .now) (a .out .now) (c .refused2 .result)
-    (a .kept .now) (a .out .now) (wide (at-start)) (c .before .before .before .if1 .left)
+    (a .kept .now) (a .out .now) (wide at-start) (c .before .before .before .if1 .left)
     (takes-refused (a .t) (a .client) (a .writers .now) (a .keys .now) (a .call) (a .kept .now) (a .reply .now) (a .out .now) (c .refused2 .result) 3
     (c .refused2 .ensures) (take-faults (a .t) (a .client) (a .writers .now) (a .keys .now) (a .call) (a .kept .now) (a .reply .now) (a .out .now) w))
 
@@ -45,7 +45,7 @@ returns-3 c =
     sym (at-awaited-kind .before .before .outside .ensures) ∙ at-awaited-kind .before .if2 .left in
     let v = rw (c .before .before .before .awaited-kind .ensures) at (sym (c .before .before .bad-client .ensures) ∙ c .before .if3 .taken) in
     taken-in (a .t) (a .client) (a .writers .now) (a .keys .now) (a .call) (a .kept .now) (a .reply .now) (a .out .now) (c .refused3 .result)
-    (a .kept .now) (a .out .now) (wide (at-start)) (at-awaited-kind .before .before .before .if1 .left)
+    (a .kept .now) (a .out .now) (wide at-start) (at-awaited-kind .before .before .before .if1 .left)
     (takes-refused (a .t) (a .client) (a .writers .now) (a .keys .now) (a .call) (a .kept .now) (a .reply .now) (a .out .now) (c .refused3 .result) 5
     (c .refused3 .ensures) (take-reader (a .t) (a .client) (a .writers .now) (a .keys .now) (a .call) (a .kept .now) (a .reply .now) (a .out .now) w
     v))
@@ -56,8 +56,7 @@ take-reply-requires c κs =
     let at-awaited-kind = c .before .before .before .before in (
       sym (at-awaited-kind .before .before .outside .ensures) ∙ at-awaited-kind .before .if2 .left,
       (
-        rw (at-awaited-kind .awaited-kind .ensures) at
-            (sym (c .before .before .before .bad-client .ensures) ∙ c .before .before .if3 .left),
+        rw (at-awaited-kind .awaited-kind .ensures) at (sym (c .before .before .before .bad-client .ensures) ∙ c .before .before .if3 .left),
         at-awaited-kind .before .before .before .if1 .left,
       ),
     )
@@ -69,7 +68,7 @@ returns-4 c =
     let at-start = start-from-awaited-kind at-awaited-kind in
     let a = at-start .args in
     taken-in (a .t) (a .client) (a .writers .now) (a .keys .now) (a .call) (a .kept .now) (a .reply .now) (a .out .now)
-    (at-take-reply .take-reply .result) _ _ (wide (at-start)) (at-awaited-kind .before .before .before .if1 .left)
+    (at-take-reply .take-reply .result) _ _ (wide at-start) (at-awaited-kind .before .before .before .if1 .left)
     (at-take-reply .take-reply .ensures)
 
 pub take-in-spec : {M : Type 1} → statement M

@@ -46,8 +46,7 @@ take-round-requires c κs =
     let a = z .args in
     let p = z .pre in (
       record {
-        decoded = (rw (at-head .head .given .1) at
-            (at-head .before .before .read-packet .ensures .1));
+        decoded = (rw (at-head .head .given .1) at (at-head .before .before .read-packet .ensures .1));
         faults = p .0;
         reader = p .1 .0;
         awaited = sym

@@ -73,8 +73,7 @@ loop-again c =
     let a = start-from-at-loop at-loop .args in
     let g = c .before .before .group-of .ensures in (
       omega arith,
-      leader-more (a .t) (a .marks) (a .kept .now) (a .i) (at-loop .loop .b)
-          (at-loop .loop .inv .1) ∙ sym (g .server) ∙ c .if1 .left,
+      leader-more (a .t) (a .marks) (a .kept .now) (a .i) (at-loop .loop .b) (at-loop .loop .inv .1) ∙ sym (g .server) ∙ c .if1 .left,
     )
 
 returns-2 : tie.Need-returns-2 Inv-loop μ-loop

@@ -89,8 +89,7 @@ agrees-requires c κs =
       p .0,
       p .1,
       p .2,
-      omega
-          (arith, at-threshold .before .servers .ensures .0),
+      omega (arith, at-threshold .before .servers .ensures .0),
       p .3,
       p .4,
     )

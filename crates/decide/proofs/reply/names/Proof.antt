@@ -84,12 +84,9 @@ returns-5 c =
     let p = at-shared-slice-known2 .before .before .pre in
     let f : Full (a .reply .now) =
     record {
-      flag = ne-eqb (getD (a .reply .now) stampSize 0) 0
-          (at-size-of .before .if1 .left);
-      least = omega
-          (arith, at-size-of .size-of .ensures);
-      top = omega
-          (arith, at-size-of .size-of .ensures);
+      flag = ne-eqb (getD (a .reply .now) stampSize 0) 0 (at-size-of .before .if1 .left);
+      least = omega (arith, at-size-of .size-of .ensures);
+      top = omega (arith, at-size-of .size-of .ensures);
     } in
     let q : sameStamp (stampAt (a .reply .now)) (stampAt (a .candidate .now)) ≡ true =
     sym (same-heads (a .reply .now) (a .candidate .now) (λ k. at-shared-slice-known2 .before .shared-slice-known .given k .fits)
@@ -101,8 +98,7 @@ returns-5 c =
       arith,
       c .before .before .before .digests-at .ensures .place,
       c .before .before .servers .ensures .0,
-      ap
-          (fragmentSize (shelf (a .t) .threshold)) (at-size-of .size-of .ensures),
+      ap (fragmentSize (shelf (a .t) .threshold)) (at-size-of .size-of .ensures),
     ) in
     c .same2 .ensures ∙ ap (λ (z : List ℕ). sameList z (a .d .now)) (part-of (a .reply .now) at digestSize ∙ ap
     (λ (k : ℕ). bytesAt (a .reply .now) k digestSize) e)

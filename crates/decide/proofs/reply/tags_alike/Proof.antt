@@ -93,10 +93,8 @@ returns-3 c =
     let w : ℕ = 32 * at-servers .servers .result in
     let e : w ≡ tagsSize (shelf (a .t)) = omega (arith, at-servers .servers .ensures .0) in
     rw (
-      le-leb leastLength (shareOf (a .t) (a .kept .now) (suc (a .j)) .size) (omega
-          (arith, at-servers .before .before .if1 .left, z)),
-      le-leb (shareOf (a .t) (a .kept .now) (suc (a .j)) .size) topLength
-          (omega (arith, at-servers .before .if2 .left, z)),
+      le-leb leastLength (shareOf (a .t) (a .kept .now) (suc (a .j)) .size) (omega (arith, at-servers .before .before .if1 .left, z)),
+      le-leb (shareOf (a .t) (a .kept .now) (suc (a .j)) .size) topLength (omega (arith, at-servers .before .if2 .left, z)),
     )
     (c .same .ensures ∙ both (a .kept .now) at (candidatesPlace + candidateSlot * a .i + (stampSize + nonceSize)) w (tagsSize (shelf (a .t))) e
     ∙ ap (λ (x : List ℕ). sameList x (bytesAt (a .kept .now) (candidatesPlace + candidateSlot * a .i + (stampSize + nonceSize))

@@ -75,14 +75,12 @@ rows-from-requires c κs =
     let e = at-l .before .before .before .line-end .ensures in
     let n = next-later s (at-l .before .before .before .line-end .result) 0 (omega arith) (e .within) (omega arith) .1 in (
       (
-        is-in 1 topFaults _ (at-blank-servers .before .before .before .outside .ensures)
-            (at-blank-servers .before .before .if2 .left),
+        is-in 1 topFaults _ (at-blank-servers .before .before .before .outside .ensures) (at-blank-servers .before .before .if2 .left),
         at-blank-servers .blank-servers .ensures,
       ),
       (
         rw (c .next-line .ensures) n,
-        rw (c .next-line .ensures)
-            (rows-room s (at-start .args .out .now) (at-start .pre .1) (at-l .before .before .before .line-end .result) e),
+        rw (c .next-line .ensures) (rows-room s (at-start .args .out .now) (at-start .pre .1) (at-l .before .before .before .line-end .result) e),
       ),
     )
 

@@ -32,8 +32,7 @@ blank-latest-requires c κs =
     let at-else1 = c .before in
     let at-start = start-from-else1 at-else1 in
     let a = at-start .args in (
-      few-servers (a .t) (a .server)
-          (at-start .pre .0 .1) (server-in (c .before)),
+      few-servers (a .t) (a .server) (at-start .pre .0 .1) (server-in (c .before)),
       at-start .pre .1,
     )
 
@@ -43,7 +42,7 @@ returns-2 c =
     let at-start = start-from-else1 at-else1 in
     let a = at-start .args in
     blank-moves (a .t) (a .work .now) (a .server) (at-start .pre .0 .1)
-    (server-in (at-else1)) (c .before .before .before .blank-latest .ensures) (c .begun .ensures)
+    (server-in at-else1) (c .before .before .before .blank-latest .ensures) (c .begun .ensures)
 
 pub blank-line-spec : {M : Type 1} → statement M
 blank-line-spec = tie.close (tie.spec (λ c. search needs) (λ c κs. search needs) (λ c κs. search needs) (λ c κs. search needs) returns

@@ -54,8 +54,7 @@ loop-again c =
     let i = at-loop .loop .i in
     let g = tens-more (at-loop .loop .v) i (getD s i 0 - 48) (at-loop .loop .inv .1) (omega arith) in
     let e : c .wide .result ≡ getD s i 0 - 48 = c .wide .ensures in (
-      at-loop .loop .inv .0 ∙ digits-more s i (omega arith) (at-loop .loop .v)
-          (c .before .before .if1 .left) (c .before .if2 .left) ∙ rw e,
+      at-loop .loop .inv .0 ∙ digits-more s i (omega arith) (at-loop .loop .v) (c .before .before .if1 .left) (c .before .if2 .left) ∙ rw e,
       rw e g,
     )
 

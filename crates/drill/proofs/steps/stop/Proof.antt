@@ -22,7 +22,7 @@ returns-2 : tie.Need-returns-2
 returns-2 c =
     let at-else1 = c .before .before .before .before .before in
     let at-start = at-else1 .before .before .before in
-    let a = at-start .args in stop-moves (a .t) (a .client) (at-start .pre .0) (a .work .now) (client-in (at-else1))
+    let a = at-start .args in stop-moves (a .t) (a .client) (at-start .pre .0) (a .work .now) (client-in at-else1)
     (c .before .before .before .give-up .ensures) (c .given-up .ensures)
 
 pub stop-spec : {M : Type 1} → statement M

@@ -13,8 +13,7 @@ serve-requires : tie.Need-serve-requires
 serve-requires c κs =
     let at-make = c .before .before .before .before .before in
     let at-start = start-from-make at-make in (
-      few-servers (at-start .args .t)
-          (at-start .args .server) (at-start .pre .0 .0) (at-start .pre .1 .1),
+      few-servers (at-start .args .t) (at-start .args .server) (at-start .pre .0 .0) (at-start .pre .1 .1),
       at-start .pre .0 .1,
     )
 

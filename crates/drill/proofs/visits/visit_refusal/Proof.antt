@@ -33,7 +33,7 @@ returns : tie.Need-returns
 returns c =
     let at-start = c .before .before .before .before in
     let a = at-start .args in
-    refuses-4 (a .t) (own-t (at-start)) (a .work .now) (a .client) (a .server)
+    refuses-4 (a .t) (own-t at-start) (a .work .now) (a .client) (a .server)
     (is-out 1 (shelf (a .t) .servers) (a .server) (tested (c .before)) (c .if1 .taken))
 
 returns-2 : tie.Need-returns-2
@@ -41,7 +41,7 @@ returns-2 c =
     let at-else1 = c .before .before in
     let at-start = start-from-else1 at-else1 in
     let a = at-start .args in
-    refuses-5 (a .t) (own-t (at-start)) (a .work .now) (a .client) (a .server)
+    refuses-5 (a .t) (own-t at-start) (a .work .now) (a .client) (a .server)
     (server-in (c .before .before)) (is-out 1 topClient (a .client) (c .before .outside2 .ensures) (c .if2 .taken))
 
 call-of-requires : tie.Need-call-of-requires
@@ -52,7 +52,7 @@ returns-3 c =
     let at-else1 = c .before .before .before .before in
     let at-start = start-from-else1 at-else1 in
     let a = at-start .args in
-    refuses-as (a .t) (own-t (at-start)) (a .work .now) (a .client) (a .server) (server-in (at-else1)) (client-in (c .before .before))
+    refuses-as (a .t) (own-t at-start) (a .work .now) (a .client) (a .server) (server-in at-else1) (client-in (c .before .before))
     (c .make-refusal .ensures ∙ ap (λ x. makeRefusal (shelf (a .t)) (a .client) (a .server) (awaited x) packetRoom) (c .before .call-of .ensures))
 
 pub visit-refusal-spec : {M : Type 1} → statement M

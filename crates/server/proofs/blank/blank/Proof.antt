@@ -49,7 +49,7 @@ returns-3 c =
     let at-else2 = c .before .before .before .before in
     let a = start-from-else2 at-else2 .args in
     rw (c .refused3 .ensures) (blank-server (a .memory .now) (a .t) (a .server) (at-else2 .before .before .if1 .left)
-    (faults-in (at-else2)) (server-tested (c .before .before) ∙ c .before .if3 .taken))
+    (faults-in at-else2) (server-tested (c .before .before) ∙ c .before .if3 .taken))
 
 abbrev else3-from-slice-known2 : tie.After-slice-known2 → tie.Else3
 else3-from-slice-known2 c = c .before .before .before .before
@@ -60,8 +60,7 @@ cast-memory c =
     let at-else2 = at-else3 .before .before .before in
     omega (
       arith,
-      faults-byte (start-from-else2 at-else2 .args .t)
-          (faults-in (at-else2)),
+      faults-byte (start-from-else2 at-else2 .args .t) (faults-in at-else2),
     )
 
 cast-memory-2 : tie.Need-cast-memory-2
@@ -71,8 +70,7 @@ cast-memory-2 c =
     let a = start-from-else2 at-else2 .args in
     omega (
       arith,
-      server-byte (a .t) (a .server) (faults-in (at-else2))
-          (server-in (at-else3)),
+      server-byte (a .t) (a .server) (faults-in at-else2) (server-in at-else3),
     )
 
 returns-4 : tie.Need-returns-4
@@ -80,7 +78,7 @@ returns-4 c =
     let at-else3 = else3-from-slice-known2 c in
     let at-else2 = at-else3 .before .before .before in
     let a = start-from-else2 at-else2 .args in
-    blank-made (a .memory .now) (a .t) (a .server) (at-else2 .before .before .if1 .left) (faults-in (at-else2)) (server-in (at-else3))
+    blank-made (a .memory .now) (a .t) (a .server) (at-else2 .before .before .if1 .left) (faults-in at-else2) (server-in at-else3)
     (c .before .before .clear .ensures)
 
 pub blank-spec : {M : Type 1} → statement M

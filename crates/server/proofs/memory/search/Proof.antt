@@ -64,8 +64,7 @@ add-size c =
       arith,
       at-loop .before .before .share-size .ensures,
       c .fragment-size .ensures,
-      fragment-few
-          (at-shared-slice-known .before .args .t) (c .before .number2 .result),
+      fragment-few (at-shared-slice-known .before .args .t) (c .before .number2 .result),
       no-fragment (at-shared-slice-known .before .args .t),
     )
 
@@ -87,10 +86,8 @@ add-at c =
     omega (
       arith,
       at-loop .before .before .share-size .ensures,
-      ap length
-          (at-else1 .before .before .before .rest .ensures),
-      length-drop
-          (at-loop .loop .at) (shared-slice-known-from-at-loop at-loop .before .args .memory .now),
+      ap length (at-else1 .before .before .before .rest .ensures),
+      length-drop (at-loop .loop .at) (shared-slice-known-from-at-loop at-loop .before .args .memory .now),
       c .if2 .left,
     )
 
@@ -99,8 +96,7 @@ loop-again c =
     let at-else1 = else1-from-else2 c in
     let at-loop = at-loop-from-else1 at-else1 in (
       omega arith,
-      walk-more (at-loop .loop .inv .1)
-          (λ i. shared-slice-known-from-at-loop at-loop .shared-slice-known .given
+      walk-more (at-loop .loop .inv .1) (λ i. shared-slice-known-from-at-loop at-loop .shared-slice-known .given
           i .fits) (omega arith) (at-else1 .before .before .before .rest .ensures)
           (at-else1 .before .before .part .ensures) (at-else1 .before .same .ensures) (at-else1 .if1 .left) (size-is (c .before)),
     )
