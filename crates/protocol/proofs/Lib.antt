@@ -9,6 +9,7 @@ pub mod Memories
 pub mod Changes
 pub mod Primitive
 pub mod Readers
+pub mod Lengths
 pub mod Marks
 pub mod Slots
 pub mod Kept

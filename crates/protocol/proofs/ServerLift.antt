@@ -23,7 +23,7 @@ use Rattle.protocol.specs.Server.{Server, memoryOf, Acted, act, barred, 
 use Rattle.protocol.specs.ServerBytes.{Served, serverIn, turnedDown, actedOn, serverTake}
 use Rattle.format.specs.Reading.{over}
 use Rattle.format.proofs.Answers.{no-some}
-use Rattle.protocol.proofs.Bodies.{decode-ok}
+use Rattle.protocol.proofs.Bodies.{decode-ok, body-ok}
 use Rattle.protocol.proofs.Memories.{of-fields, memory-length, decode-encode-memory}
 use Rattle.protocol.proofs.Acts.{ServerOk, Right, act-ok, blank-ok}
 
@@ -78,10 +78,6 @@ kind-range (filter x) = (lit≤ tt, lit≤ tt)
 kind-range (filterReply x) = (lit≤ tt, lit≤ tt)
 kind-range (repair x) = (lit≤ tt, lit≤ tt)
 kind-range repairReply = (lit≤ tt, lit≤ tt)
-
-pub body-ok : (p : Packet) → PacketOk p → BodyOk (shelf (p .head .t)) (p .body)
-unfolding PacketOk packetF via seq bodyF
-body-ok p h = h .1 .1
 
 pub reply-ok : (p : Packet) (x : Body) → PacketOk p → BodyOk (shelf (p .head .t)) x → PacketOk (replyTo p x)
 unfolding PacketOk packetF replyTo headF keep via seq bodyF byte
