@@ -15,6 +15,7 @@ pub mod Slots
 pub mod Kept
 pub mod Acts
 pub mod ServerLift
+pub mod ReplyLengths
 pub mod HandOk
 pub mod PacketRoom
 pub mod Prepared
@@ -35,4 +36,6 @@ pub mod StepLift
 pub mod ValueRuns
 pub mod LentKeys
 pub mod RunLift
+pub mod ContentLengths
+pub mod RequestLengths
 pub mod Accounts

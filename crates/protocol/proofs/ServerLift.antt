@@ -94,7 +94,7 @@ pub record Lifted (t b : ℕ) (u : Stepped) (d : Served) : Type 0 where
   pub silent : u .reply ≡ none → d .result .count ≡ 0
 
 -- no refusal: there is a packet, and its t is the server's
-accepted-t : (m : Memory) (p : Packet) (room : ℕ) → serverRefusal true (some m) (some p) room ≡ 0 → p .head .t ≡ m .t
+pub accepted-t : (m : Memory) (p : Packet) (room : ℕ) → serverRefusal true (some m) (some p) room ≡ 0 → p .head .t ≡ m .t
 unfolding serverRefusal
 accepted-t m p room e = go (eqb (p .head .t) (m .t) && eqb (p .head .server) (m .server)) refl e
   where
