@@ -16,6 +16,8 @@ pub mod Kept
 pub mod Acts
 pub mod ServerLift
 pub mod ReplyLengths
+pub mod MemoryLengths
+pub mod Stored
 pub mod HandOk
 pub mod PacketRoom
 pub mod Prepared

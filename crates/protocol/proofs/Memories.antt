@@ -54,7 +54,7 @@ of-fields m f =
 
 -- ---- room
 
-print-length : (m : Memory) → length (memoryF .print m)
+pub print-length : (m : Memory) → length (memoryF .print m)
     ≡ 3 + (length (anyCandidateF (shelf (m .t)) .print (m .latest)) + length (printMany (writeF (shelf (m .t))) (m .writes)))
 unfolding memoryF keep via seq byte many
 print-length m =

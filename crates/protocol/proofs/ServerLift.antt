@@ -41,7 +41,7 @@ pub record Holds (t b : ℕ) (v : Server) (memory : List ℕ) : Type 0 where
   pub bytes : memory ≡ encodeMemory (memoryOf t b v)
 
 module _ {t b : ℕ} {v : Server} {memory : List ℕ} (h : Holds t b v memory) where
-  memory-ok : MemoryOk (memoryOf t b v)
+  pub memory-ok : MemoryOk (memoryOf t b v)
   memory-ok =
       of-fields _
       (record {
