@@ -6,6 +6,7 @@ pub mod Moves
 pub mod Serving
 pub mod Rounds
 pub mod Positions
+pub mod Through
 pub mod Setup
 pub mod Marks
 pub mod Rising
