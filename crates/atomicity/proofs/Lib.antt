@@ -53,5 +53,7 @@ pub mod Highest
 pub mod Decides
 pub mod OneServer
 pub mod Real
+pub mod Asked
+pub mod Requests
 pub mod Settled
 pub mod InWords

@@ -14,12 +14,8 @@ use Rattle.protocol.specs.Packet.{Body}
 use Rattle.protocol.specs.Rules.{ByServer, nobody, leader, tagsIn}
 use Rattle.protocol.specs.Client.{Client, Hand, Turn, Result, refused, more, written, gave, gaveBlank, aborted, accepted, idle, clocking, storing, completing}
 use Rattle.protocol.specs.Client.{collecting, filtering, repairing, awaits, isIdle, onto, begun, prepared, update, judge, found, codeIn}
-use Rattle.protocol.specs.Primitives.{real}
 use Rattle.protocol.specs.Runs.{Lent, take-reply, Account}
-use Rattle.protocol.proofs.ValueRuns.{nowValues, byValues}
-use Rattle.protocol.proofs.Primitive.{real-lengths}
-use Rattle.protocol.proofs.Accounts.{claimed}
-use Rattle.atomicity.specs.Claim.{systemOf, OnBytes}
+use Rattle.protocol.proofs.ValueRuns.{nowValues}
 use Rattle.atomicity.specs.Steps.{StepIn, System}
 use Rattle.atomicity.proofs.Util.{cond-both, clash}
 use Rattle.atomicity.proofs.Model.{Run, account, clientAt, handAt, callsAt, resultAt, updated, turn}
@@ -241,10 +237,6 @@ module _ (s : System) (c : ℕ) (x : StepIn s) (xs : Run s) where
           over-same (clientAt s (x ∷ xs) c) n h (wentThrough s (account s) c xs) ∙ gone s c xs (fits .busy) ∙ z .rounds
           ∙ ap (λ (y : Result). roundsBy y (awaits (cl .hand))) (sym r)
 
-by-rounds : (s : System) → ByRounds s (byValues (s .P) (s .config) (s .writers) (s .keys))
-unfolding ByRounds byValues
-by-rounds s c x xs = unfold byValues in ended s c x xs
-
--- on bytes, with the real functions: the runs of demand 3
-pub finished-rounds : OnBytes ByRounds
-finished-rounds sh lo hi first sized = claimed real real-lengths sh (lo, hi) first sized (ByRounds (systemOf sh)) (by-rounds (systemOf sh))
+pub by-rounds : (s : System) → ByRounds s (account s)
+unfolding ByRounds
+by-rounds s c x xs = ended s c x xs

@@ -70,8 +70,9 @@ module _ (P : Primitives) (s : Config) (key : List ℕ) (b : ℕ) (v : Server) w
   act-history (store w) =
       let kept : Acted = record { server = record { latest = v .latest; history = v .history ++ (w ∷ []) }; reply = storeReply 0 } in
       let full : Acted = record { server = v; reply = storeReply 11 } in
-      at-cond (isSome (lookup (w .stamp) (v .history))) (record { server = v; reply = storeReply 10 }) (cond (leb capacity (length (v .history))) full kept)
-      (Grown (store w)) (λ e. same) (λ e. at-cond (leb capacity (length (v .history))) full kept (Grown (store w)) (λ f. same) (λ f. refl))
+      let held : Acted = record { server = v; reply = storeReply 10 } in
+      at-cond (isSome (lookup (w .stamp) (v .history))) held (cond (leb capacity (length (v .history))) full kept) (Grown (store w)) (λ e. same)
+      (λ e. at-cond (leb capacity (length (v .history))) full kept (Grown (store w)) (λ f. same) (λ f. refl))
   act-history (complete c) = raised c
   act-history collect = same
   act-history (filter cs) = raised (best P s key b v (blankCandidate s) cs)
@@ -104,8 +105,8 @@ module _ (P : Primitives) (t b : ℕ) (v : Server) (memory key packet output : L
   d = serverTake P memory key packet output
 
   -- no reply: nothing was added
-  silent-history : (u : Stepped) → u .server ≡ v → Lifted t b u d → u .reply ≡ none → u .server .history ≡ v .history ++ keptBy (decode packet) (decode
-      (replyOf d))
+  silent-history : (u : Stepped) → u .server ≡ v → Lifted t b u d → u .reply ≡ none
+      → u .server .history ≡ v .history ++ keptBy (decode packet) (decode (replyOf d))
   silent-history u e l z =
       let r : decode (replyOf d) ≡ none = ap (λ (n : ℕ). decode (take n (d .output))) (l .silent z) ∙ decode-nothing in
       ap (λ (y : Server). y .history) e ∙ sym (append-nil (v .history))
