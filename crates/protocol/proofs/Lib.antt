@@ -15,9 +15,6 @@ pub mod Slots
 pub mod Kept
 pub mod Acts
 pub mod ServerLift
-pub mod ReplyLengths
-pub mod MemoryLengths
-pub mod Stored
 pub mod HandOk
 pub mod PacketRoom
 pub mod Prepared

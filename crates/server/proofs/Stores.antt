@@ -12,22 +12,23 @@ use Rattle.cluster.specs.Config.{Config, shelf}
 use Rattle.cluster.specs.Ranges.{topFaults, memorySize, capacity}
 use Rattle.cluster.specs.Refusals.{onRefusal}
 use Rattle.format.specs.Format.{All}
 use Rattle.protocol.specs.Values.{Candidate, Write, stampSize, candidateSize, blankCandidate, below, isSome}
 use Rattle.protocol.specs.Packet.{Body, Packet, kindOf, shareSize, decode}
 use Rattle.protocol.specs.Packet.{clock, clockReply, store, storeReply, complete, completeReply, collect, collectReply, filter, filterReply, repair, repairReply}
 use Rattle.protocol.specs.Memory.{Memory, memoryF, lookup, decodeMemory, encodeMemory, blankMemory}
 use Rattle.protocol.specs.Primitives.{Primitives}
 use Rattle.protocol.specs.Server.{Server, Acted, memoryOf, onStore, raise, valid, best, act, replyTo, Stepped, serverRefusal, answered, serverStep}
 use Rattle.protocol.specs.Pending.{codeIn}
 use Rattle.protocol.specs.ServerBytes.{Served, serverTake}
 use Rattle.format.proofs.Answers.{at-cond}
 use Rattle.protocol.proofs.Bodies.{decode-encode, decode-nothing}
 use Rattle.protocol.proofs.Memories.{fields}
 use Rattle.protocol.proofs.ServerLift.{Holds, Lifted, memory-ok, holds-decodes, blank-holds, serve-lift}
 use Rattle.protocol.specs.Server.{blankServer}
-use Rattle.protocol.proofs.MemoryLengths.{writesSize, fieldsSize, fields-length, same-size}
+use Rattle.protocol.proofs.Memories.{writesSize, fieldsSize, fields-length, same-size}
 use Rattle.protocol.proofs.Changes.{noughts}
 use Rattle.format.proofs.Walks.{all-snoc}
+use Rattle.server.specs.Reads.{writesPlace}
 
 -- ---- what one act adds
 
@@ -229,10 +230,10 @@ module _ (P : Primitives) (t b : ℕ) where
   module _ (tr : (1 ≤ t) × (t ≤ topFaults)) (br : (1 ≤ b) × (b ≤ shelf t .servers)) where
     -- after m of them m writes of this length stand in the memory, and its fields take so many bytes
     pub stores-filled : (n : ℕ) (xs : List Given) → AllKept n xs
-        → Filled (memoryAfter xs) (storedAfter xs) (3 + candidateSize (shelf t) + length xs * (stampSize + shareSize (shelf t) n))
+        → Filled (memoryAfter xs) (storedAfter xs) (writesPlace (shelf t) + length xs * (stampSize + shareSize (shelf t) n))
     stores-filled n xs h =
         let s : Config = shelf t in
         let (l, a) = kept-all n xs h in
         let e : writesSize s (storedAfter xs) ≡ length xs * (stampSize + shareSize s n) =
         same-size s n (storedAfter xs) a ∙ ap (λ (k : ℕ). k * (stampSize + shareSize s n)) l in
-        subst (λ (k : ℕ). Filled (memoryAfter xs) (storedAfter xs) (3 + candidateSize s + k)) e (memory-filled tr br xs)
+        subst (λ (k : ℕ). Filled (memoryAfter xs) (storedAfter xs) (writesPlace s + k)) e (memory-filled tr br xs)
