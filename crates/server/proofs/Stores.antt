@@ -12,19 +12,17 @@ use Rattle.cluster.specs.Config.{Config, shelf}
 use Rattle.cluster.specs.Ranges.{topFaults, memorySize, capacity}
 use Rattle.cluster.specs.Refusals.{onRefusal}
 use Rattle.format.specs.Format.{All}
-use Rattle.protocol.specs.Values.{Candidate, Write, stampSize, candidateSize, blankCandidate, below, isSome}
+use Rattle.protocol.specs.Values.{Candidate, Write, stampSize, blankCandidate, below, isSome}
 use Rattle.protocol.specs.Packet.{Body, Packet, kindOf, shareSize, decode}
 use Rattle.protocol.specs.Packet.{clock, clockReply, store, storeReply, complete, completeReply, collect, collectReply, filter, filterReply, repair, repairReply}
 use Rattle.protocol.specs.Memory.{Memory, memoryF, lookup, decodeMemory, encodeMemory, blankMemory}
 use Rattle.protocol.specs.Primitives.{Primitives}
-use Rattle.protocol.specs.Server.{Server, Acted, memoryOf, onStore, raise, valid, best, act, replyTo, Stepped, serverRefusal, answered, serverStep}
+use Rattle.protocol.specs.Server.{Server, blankServer, Acted, memoryOf, onStore, raise, valid, best, act, replyTo, Stepped, serverRefusal, answered, serverStep}
 use Rattle.protocol.specs.Pending.{codeIn}
 use Rattle.protocol.specs.ServerBytes.{Served, serverTake}
 use Rattle.format.proofs.Answers.{at-cond}
 use Rattle.protocol.proofs.Bodies.{decode-encode, decode-nothing}
-use Rattle.protocol.proofs.Memories.{fields}
 use Rattle.protocol.proofs.ServerLift.{Holds, Lifted, memory-ok, holds-decodes, blank-holds, serve-lift}
-use Rattle.protocol.specs.Server.{blankServer}
 use Rattle.protocol.proofs.Memories.{writesSize, fieldsSize, fields-length, same-size}
 use Rattle.protocol.proofs.Changes.{noughts}
 use Rattle.format.proofs.Walks.{all-snoc}
