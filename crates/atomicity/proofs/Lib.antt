@@ -6,6 +6,7 @@ pub mod Moves
 pub mod Serving
 pub mod Rounds
 pub mod Positions
+pub mod Through
 pub mod Setup
 pub mod Marks
 pub mod Rising
@@ -54,5 +55,7 @@ pub mod Highest
 pub mod Decides
 pub mod OneServer
 pub mod Real
+pub mod Asked
+pub mod Requests
 pub mod Settled
 pub mod InWords

@@ -24,11 +24,10 @@ use Rattle.protocol.specs.View.{heldAt, keptSize, marked, candidatesIn, replies
 use Rattle.protocol.specs.ClientBytes.{Took, keyOf}
 use Rattle.format.specs.Reading.{put}
 use Rattle.client.specs.Rounds.{took, takeOn, takeFilter, judgeIn, noted, ends, withTally, takeByRounds}
-use Rattle.protocol.proofs.Bodies.{decode-ok}
+use Rattle.protocol.proofs.Bodies.{decode-ok, body-ok}
 use Rattle.protocol.proofs.HandOk.{held-room}
 use Rattle.format.proofs.Puts.{put-length}
 use Rattle.protocol.proofs.Room.{shelf-fits}
-use Rattle.protocol.proofs.ServerLift.{body-ok}
 use Rattle.wire.specs.Places.{bodyAt, packetAt}
 use Rattle.client.specs.Steps.{Ready}
 use Rattle.client.specs.Filter.{judgedIn}

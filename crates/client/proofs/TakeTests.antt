@@ -27,10 +27,9 @@ use Rattle.protocol.specs.ClientBytes.{Took, keyOf, inHand, awaited, clientTake
 use Rattle.client.specs.Rounds.{took, takeIn, highIn, takeByRounds}
 use Rattle.client.proofs.TakeSame.{same-take}
 use Rattle.protocol.proofs.Whole.{kind-decoded}
-use Rattle.protocol.proofs.Bodies.{decode-ok}
+use Rattle.protocol.proofs.Bodies.{decode-ok, body-ok}
 use Rattle.protocol.proofs.Packets.{any-candidate-length}
 use Rattle.protocol.proofs.Room.{shelf-fits}
-use Rattle.protocol.proofs.ServerLift.{body-ok}
 use Rattle.wire.specs.Places.{packetAt, bodyAt}
 use Rattle.client.specs.declared.answers.Answered.{Answered}
 use Rattle.client.specs.Answers.{answered}

@@ -29,7 +29,7 @@ use Rattle.format.proofs.Answers.{at-cond}
 use Rattle.protocol.proofs.Room.{Fitting}
 use Rattle.protocol.proofs.HandOk.{HandOk, held-in, upd-ok, choice-ok, content-short}
 use Rattle.protocol.proofs.Fine.{Fine}
-use Rattle.protocol.proofs.ServerLift.{body-ok}
+use Rattle.protocol.proofs.Bodies.{body-ok}
 use Rattle.protocol.proofs.LetIn.{let-in, not-none, shelf-t}
 
 abbrev pub Short : Label → Type 0

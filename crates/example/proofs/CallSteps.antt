@@ -18,8 +18,7 @@ use Rattle.protocol.specs.Client.{Client, Hand, Turn, refused, more, aborted, a
 use Rattle.protocol.specs.Client.{readRefusal, abortRefusal, writeStep, readStep, abortStep, isIdle, inComplete, clocking, collecting, idle, begun}
 use Rattle.protocol.specs.Client.{onto}
 use Rattle.protocol.specs.Runs.{Lent, Step, write, read, give-up, take-reply}
-use Rattle.protocol.proofs.Bodies.{decode-encode}
-use Rattle.protocol.proofs.RunLift.{decode-nothing}
+use Rattle.protocol.proofs.Bodies.{decode-encode, decode-nothing}
 use Rattle.protocol.proofs.ValueRuns.{World, After, doValues, setClient, nowValues}
 use Rattle.atomicity.specs.Lists.{All}
 use Rattle.atomicity.specs.Steps.{StepIn, stampedBy, checkedBy, digestedBy, noncesBy}

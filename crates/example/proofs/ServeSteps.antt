@@ -20,8 +20,8 @@ use Rattle.protocol.specs.Client.{awaits, Made as Making, accepted, made, makeR
 use Rattle.protocol.specs.ClientBytes.{keyOf}
 use Rattle.protocol.specs.View.{keptSize}
 use Rattle.protocol.specs.Runs.{Lent, write, make, take-reply, serve, resultOf, steps}
-use Rattle.protocol.proofs.Bodies.{decode-encode}
-use Rattle.protocol.proofs.RunLift.{AllFed, run-agrees, decode-nothing}
+use Rattle.protocol.proofs.Bodies.{decode-encode, decode-nothing}
+use Rattle.protocol.proofs.RunLift.{AllFed, run-agrees}
 use Rattle.protocol.proofs.ValueRuns.{World, After, doValues}
 use Rattle.atomicity.specs.Lists.{All, flat}
 use Rattle.atomicity.specs.Steps.{StepIn, makes, serves, ofPacket, offered, serverChecks, judged, checkedBy, digestedBy, noncesBy}

@@ -8,7 +8,7 @@ use Prim.Native.Nat.{ℕ}
 use lib.Dec.{eqb}
 use borrow.Author.Tests.{eqb-true}
 use Rattle.cluster.specs.Config.{Config, shelf}
-use Rattle.format.specs.Format.{Fmt, Lawful, Bytes, andThen, whole, empty}
+use Rattle.format.specs.Format.{Fmt, Lawful, Bytes, andThen, whole, empty, seq, via, keep, byte}
 use Rattle.protocol.specs.Packet.{Body, Packet, kindOf, printBody, parseBody, BodyOk, bodyF, headF, packetF, decode, encode, PacketOk}
 use Rattle.protocol.specs.Packet.{anyStampF, writeF, codeF, candidateF, anyCandidateF, candidatesF, heldF}
 use Rattle.protocol.specs.Packet.{clock, clockReply, store, storeReply, complete, completeReply, collect, collectReply, filter, filterReply, repair, repairReply}
@@ -158,6 +158,14 @@ decode-encode p h = ap (λ (z : List ℕ). whole (packetF .parse z)) (sym (appen
 pub decode-ok : (b : List ℕ) (p : Packet) → decode b ≡ some p → PacketOk p
 unfolding decode PacketOk
 decode-ok b p e = packet-law .fits b p [] (whole-some (packetF .parse b) p e)
+
+pub decode-nothing : decode [] ≡ none
+unfolding decode packetF headF keep via seq byte
+decode-nothing = refl
+
+pub body-ok : (p : Packet) → PacketOk p → BodyOk (shelf (p .head .t)) (p .body)
+unfolding PacketOk packetF via seq bodyF
+body-ok p h = h .1 .1
 
 pub encode-decode : (b : List ℕ) (p : Packet) → Bytes b → decode b ≡ some p → encode p ≡ b
 unfolding decode encode

@@ -21,7 +21,7 @@ use Rattle.protocol.specs.Client.{Client, Hand, Turn, onto, begun, idle,
 use Rattle.format.proofs.Answers.{at-cond}
 use Rattle.protocol.proofs.Room.{Fitting}
 use Rattle.protocol.proofs.Acts.{blank-candidate}
-use Rattle.protocol.proofs.ServerLift.{body-ok}
+use Rattle.protocol.proofs.Bodies.{body-ok}
 use Rattle.protocol.proofs.HandOk.{WriteOk, HandOk}
 use Rattle.protocol.proofs.Updates.{ClientOk, update-ok}
 use Rattle.protocol.proofs.LetIn.{let-in, not-none, shelf-t}

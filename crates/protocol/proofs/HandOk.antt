@@ -5,7 +5,7 @@ use mathlib.Core.Bool.{Bool, true, false, cond, _||_}
 use mathlib.Core.List.{List, [], _∷_, _++_}
 use mathlib.Core.Option.{Option, none, some, Option·some-injective}
 use mathlib.Core.Logic.{inl, inr}
-use Prim.Native.Nat.{ℕ, zero, suc, _≤_}
+use Prim.Native.Nat.{ℕ, zero, suc, _+_, _≤_}
 use native.Mathlib.Omega.{arith}
 use lib.Dec.{T, eqb, lit≤}
 use lib.ListN.{length, length-append}
@@ -13,17 +13,18 @@ use Rattle.cluster.specs.Config.{Config}
 use Rattle.cluster.specs.Ranges.{topWriter, topNumber, leastLength, topLength}
 use Rattle.cluster.proofs.Tests.{or-none}
 use Rattle.format.specs.Format.{All, via, seq, run, orBlank, optional}
-use Rattle.protocol.specs.Values.{Candidate, Share, Held, noHeld, isBlank, sameCandidate, nonceSize, tagsSize}
-use Rattle.protocol.specs.Packet.{Body, BodyOk, stampF, anyStampF, candidateF, anyCandidateF, shareF, heldF, heldMost}
+use Rattle.protocol.specs.Values.{Candidate, Share, Held, noHeld, isBlank, sameCandidate, nonceSize, stampSize, tagsSize}
+use Rattle.protocol.specs.Packet.{Body, BodyOk, anyStampF, candidateF, anyCandidateF, shareF, heldF}
 use Rattle.protocol.specs.Packet.{clock, clockReply, store, storeReply, complete, completeReply, collect, collectReply, filter, filterReply, repair, repairReply}
 use Rattle.protocol.specs.Primitives.{Primitives, Lengths}
 use Rattle.protocol.specs.Rules.{ByServer, upd, any, keep, first, gather, live, highest, choice, proven, parts, restoredBy, tagsIn}
 use Rattle.protocol.specs.Client.{Hand, idle, clocking, storing, completing, collecting, filtering, repairing, stampIn, candidateIn, heldIn}
 use Rattle.protocol.specs.View.{replySlot}
 use Rattle.format.proofs.Answers.{no-some, at-cond}
-use Rattle.protocol.proofs.Packets.{stamp-length, candidate-lengths, share-lengths}
+use Rattle.protocol.proofs.Packets.{candidate-lengths, share-lengths}
 use Rattle.protocol.proofs.Room.{Fitting, share-room, share-size}
-use Rattle.protocol.proofs.Readers.{held-lengths, share-held}
+use Rattle.protocol.proofs.Readers.{share-held}
+use Rattle.protocol.proofs.Lengths.{heldSize, held-length}
 use Rattle.format.proofs.Walks.{all-snoc}
 
 -- a writer's content and nonce
@@ -95,19 +96,11 @@ held-in s repairReply h = no-held s
 
 -- a held reply fits its slot
 pub held-room : (s : Config) → Fitting s → (x : Held) → heldF s .Ok x → length (heldF s .print x) ≤ replySlot
-unfolding heldF via seq optional anyStampF orBlank
-held-room s f x o = go (x .share) (λ h e. share-held s x o h e)
+held-room s f x o = omega (arith, held-length s x o, go (x .share) (share-held s x o))
   where
-    go : (y : Option Share) → ((h : Share) → y ≡ some h → shareF s .Ok h)
-        → length (stampF .print (x .stamp) ++ optional (heldMost (x .stamp)) (shareF s) .print y) ≤ replySlot
-    go none k = omega (arith, length-append (stampF .print (x .stamp)) (0 ∷ []), stamp-length (x .stamp) (held-lengths s x o .tag))
-    go (some h) k =
-        omega (
-          arith,
-          length-append (stampF .print (x .stamp)) (1 ∷ shareF s .print h),
-          stamp-length (x .stamp) (held-lengths s x o .tag),
-          share-room s f h (k h refl),
-        )
+    go : (y : Option Share) → ((h : Share) → y ≡ some h → shareF s .Ok h) → stampSize + 1 + heldSize s y ≤ replySlot
+    go none k = lit≤ tt
+    go (some h) k = share-room s f h (k h refl)
 
 -- ---- lists and tables
 

@@ -9,6 +9,7 @@ pub mod Memories
 pub mod Changes
 pub mod Primitive
 pub mod Readers
+pub mod Lengths
 pub mod Marks
 pub mod Slots
 pub mod Kept
@@ -34,4 +35,6 @@ pub mod StepLift
 pub mod ValueRuns
 pub mod LentKeys
 pub mod RunLift
+pub mod ContentLengths
+pub mod RequestLengths
 pub mod Accounts

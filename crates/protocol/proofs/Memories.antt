@@ -3,8 +3,9 @@
 use mathlib.Core.Path.{_≡_, refl, sym, ap, _∙_}
 use mathlib.Core.Bool.{true, false}
 use mathlib.Core.Option.{Option, none, some, Option·some-injective}
-use mathlib.Core.List.{List, _++_}
-use Prim.Native.Nat.{ℕ, _+_, _-_, _≤_}
+use mathlib.Core.List.{List, [], _∷_, _++_}
+use Prim.Native.Nat.{ℕ, _+_, _-_, _*_, _≤_}
+use native.Mathlib.Nat.{suc-mul}
 use native.Mathlib.Omega.{arith}
 use lib.ListN.{length, drop, replicate, length-append, length-replicate}
 use lib.Dec.{eqb}
@@ -12,13 +13,14 @@ use borrow.Author.Tests.{eq-eqb, ne-eqb, eqb-true}
 use Rattle.cluster.specs.Config.{Config, shelf}
 use Rattle.cluster.specs.Ranges.{topFaults, memorySize, capacity}
 use Rattle.format.specs.Format.{Lawful, Bytes, All, zeros, printMany, byte, seq, via, keep, many}
-use Rattle.protocol.specs.Packet.{writeF, anyCandidateF}
+use Rattle.protocol.specs.Values.{Write, stampSize, candidateSize}
+use Rattle.protocol.specs.Packet.{writeF, anyCandidateF, shareSize}
 use Rattle.protocol.specs.Memory.{Memory, distinct, memoryF, zeroTail, decodeMemory, encodeMemory, MemoryOk}
 use Rattle.format.specs.Reading.{Leaves, Stops}
 use Rattle.format.proofs.Answers.{guard-some, no-some, zeros-replicate, zeros-only}
 use Rattle.format.proofs.Formats.{byte-law, seq-law, via-law, keep-law}
 use Rattle.format.proofs.Repeats.{many-law}
-use Rattle.protocol.proofs.Packets.{write-law, any-candidate-law, any-candidate-length}
+use Rattle.protocol.proofs.Packets.{write-law, write-length, any-candidate-law, any-candidate-length}
 use Rattle.protocol.proofs.Room.{Fitting, shelf-fits, writes-room}
 
 pub memory-law : Lawful memoryF
@@ -59,6 +61,36 @@ print-length : (m : Memory) → length (memoryF .print m)
 unfolding memoryF keep via seq byte many
 print-length m =
     omega (arith, length-append (anyCandidateF (shelf (m .t)) .print (m .latest)) (printMany (writeF (shelf (m .t))) (m .writes)))
+
+-- the bytes of stored writes, and of all fields: t, server and count (1 byte each), the latest candidate, the writes
+abbrev pub writesSize : Config → List Write → ℕ
+writesSize s [] = 0
+writesSize s (w ∷ ws) = stampSize + shareSize s (w .share .size) + writesSize s ws
+
+abbrev pub fieldsSize : Config → List Write → ℕ
+fieldsSize s ws = 3 + candidateSize s + writesSize s ws
+
+writes-length : (s : Config) (ws : List Write) → All (writeF s .Ok) ws → length (printMany (writeF s) ws) ≡ writesSize s ws
+writes-length s [] h = refl
+writes-length s (w ∷ ws) h =
+    omega (arith, length-append (writeF s .print w) (printMany (writeF s) ws), write-length s w (h .0), writes-length s ws (h .1))
+
+pub fields-length : (m : Memory) → MemoryOk m → length (memoryF .print m) ≡ fieldsSize (shelf (m .t)) (m .writes)
+fields-length m h =
+    let f = fields m h in
+    let s : Config = shelf (m .t) in
+    omega (arith, print-length m, any-candidate-length s (m .latest) (f .latest), writes-length s (m .writes) (f .writes))
+
+-- writes of one length
+pub same-size : (s : Config) (n : ℕ) (ws : List Write) → All (λ w. w .share .size ≡ n) ws → writesSize s ws ≡ length ws * (stampSize + shareSize s n)
+same-size s n [] h = omega arith
+same-size s n (w ∷ ws) h =
+    omega (
+      arith,
+      same-size s n ws (h .1),
+      ap (shareSize s) (h .0),
+      suc-mul (length ws) (stampSize + shareSize s n),
+    )
 
 pub memory-room : (m : Memory) → MemoryOk m → length (memoryF .print m) ≤ memorySize
 memory-room m h =

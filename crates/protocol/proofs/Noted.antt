@@ -23,7 +23,7 @@ use Rattle.format.proofs.Puts.{put-length}
 use Rattle.protocol.proofs.Readers.{held-lengths}
 use Rattle.protocol.proofs.Marks.{marked-fresh, marked-set}
 use Rattle.protocol.proofs.Slots.{slots-put, slots-past, replies-put}
-use Rattle.protocol.proofs.ServerLift.{body-ok}
+use Rattle.protocol.proofs.Bodies.{body-ok}
 use Rattle.protocol.proofs.HandOk.{candidate-in, held-in, held-room}
 use Rattle.protocol.proofs.ClientLift.{Sound, Lifted, in-round}
 use Rattle.protocol.proofs.LetIn.{LetIn, server-range, shelf-t}

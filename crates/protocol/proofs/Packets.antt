@@ -131,9 +131,10 @@ module _ (s : Config) where
         l .tags,
       )
 
-  pub write-length : (w : Write) → writeF s .Ok w → length (writeF s .print w) ≡ stampSize + length (shareF s .print (w .share))
+  pub write-length : (w : Write) → writeF s .Ok w → length (writeF s .print w) ≡ stampSize + shareSize s (w .share .size)
   unfolding writeF stampF via seq number4 byte run
-  write-length w ((n, (c, g)), h) = omega (arith, length-append (w .stamp .tag) (shareF s .print (w .share)), g)
+  write-length w ((n, (c, g)), h) =
+      omega (arith, length-append (w .stamp .tag) (shareF s .print (w .share)), g, share-length (w .share) (share-lengths (w .share) h))
 
   pub candidate-lengths : (c : Candidate) → candidateF s .Ok c → CandidateLengths c
   unfolding candidateF stampF via seq run

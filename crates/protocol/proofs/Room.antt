@@ -11,7 +11,7 @@ use Rattle.format.specs.Format.{All, printMany, via, seq, number2}
 use Rattle.protocol.specs.Values.{Share, Write, stampSize}
 use Rattle.protocol.specs.Packet.{shareF, shareSize, writeF}
 use Rattle.protocol.specs.View.{replySlot}
-use Rattle.protocol.proofs.Packets.{ShareLengths, share-lengths, share-length, write-length}
+use Rattle.protocol.proofs.Packets.{ShareLengths, share-length, write-length}
 
 -- the numbers of s fit the kept bytes: the slots are for the most servers, and a slot holds a stamp, a byte and a share
 pub record Fitting (s : Config) : Type 0 where
@@ -35,8 +35,8 @@ module _ (s : Config) (f : Fitting s) where
   pub share-fits : (h : Share) → ShareLengths s h → h .size ≤ topLength → stampSize + 1 + length (shareF s .print h) ≤ replySlot
   share-fits h l o = omega (arith, share-length s h l, f .room (h .size) o)
 
-  pub share-room : (h : Share) → shareF s .Ok h → stampSize + 1 + length (shareF s .print h) ≤ replySlot
-  share-room h o = share-fits h (share-lengths s h o) (share-size h o)
+  pub share-room : (h : Share) → shareF s .Ok h → stampSize + 1 + shareSize s (h .size) ≤ replySlot
+  share-room h o = f .room (h .size) (share-size h o)
 
   pub write-room : (w : Write) → writeF s .Ok w → length (writeF s .print w) < replySlot
   write-room w o = omega (arith, write-length s w o, share-room (w .share) (share-of w o))

@@ -11,8 +11,7 @@ use borrow.Author.Tests.{eqb-true, leb-true}
 use Rattle.cluster.specs.Config.{Config, shelf}
 use Rattle.cluster.specs.Ranges.{topFaults}
 use Rattle.cluster.proofs.Tests.{and-both}
-use Rattle.format.specs.Format.{via, seq, keep, byte}
-use Rattle.protocol.specs.Packet.{Packet, PacketOk, packetF, headF, decode, encode}
+use Rattle.protocol.specs.Packet.{Packet, PacketOk, decode, encode}
 use Rattle.protocol.specs.Primitives.{Primitives, Lengths}
 use Rattle.protocol.specs.Rules.{ByServer, upd}
 use Rattle.protocol.specs.Server.{Stepped, serverStep}
@@ -24,7 +23,7 @@ use Rattle.protocol.specs.Runs.{Shelf, configOf, Step, write, read, make
 use Rattle.protocol.proofs.ValueRuns.{World, After, setClient, doValues, nowValues}
 use Rattle.protocol.proofs.LentKeys.{take-lent}
 use Rattle.format.proofs.Answers.{no-some}
-use Rattle.protocol.proofs.Bodies.{decode-encode}
+use Rattle.protocol.proofs.Bodies.{decode-encode, decode-nothing}
 use Rattle.protocol.proofs.Room.{Fitting, shelf-fits}
 use Rattle.protocol.proofs.ServerLift as server
 use Rattle.protocol.proofs.ServerLift.{Holds, blank-holds, serve-lift}
@@ -32,10 +31,6 @@ use Rattle.protocol.proofs.Marks.{marked-fresh}
 use Rattle.protocol.proofs.ClientLift.{Sound, Lifted, fresh-sound}
 use Rattle.protocol.proofs.Fine.{Fine, start-fine}
 use Rattle.protocol.proofs.StepLift.{Good, write-good, read-good, abort-good, take-good, make-good}
-
-pub decode-nothing : decode [] ≡ none
-unfolding decode packetF headF keep via seq byte
-decode-nothing = refl
 
 module _ (P : Primitives) (law : Lengths P) (sh : Shelf) (tr : (1 ≤ sh .t) × (sh .t ≤ topFaults)) where
   abbrev s : Config

@@ -23,7 +23,7 @@ use Rattle.protocol.specs.Server.{Server, memoryOf, Acted, act, barred, 
 use Rattle.protocol.specs.ServerBytes.{Served, serverIn, turnedDown, actedOn, serverTake}
 use Rattle.format.specs.Reading.{over}
 use Rattle.format.proofs.Answers.{no-some}
-use Rattle.protocol.proofs.Bodies.{decode-ok}
+use Rattle.protocol.proofs.Bodies.{decode-ok, body-ok}
 use Rattle.protocol.proofs.Memories.{of-fields, memory-length, decode-encode-memory}
 use Rattle.protocol.proofs.Acts.{ServerOk, Right, act-ok, blank-ok}
 
@@ -41,7 +41,7 @@ pub record Holds (t b : ℕ) (v : Server) (memory : List ℕ) : Type 0 where
   pub bytes : memory ≡ encodeMemory (memoryOf t b v)
 
 module _ {t b : ℕ} {v : Server} {memory : List ℕ} (h : Holds t b v memory) where
-  memory-ok : MemoryOk (memoryOf t b v)
+  pub memory-ok : MemoryOk (memoryOf t b v)
   memory-ok =
       of-fields _
       (record {
@@ -79,10 +79,6 @@ kind-range (filterReply x) = (lit≤ tt, lit≤ tt)
 kind-range (repair x) = (lit≤ tt, lit≤ tt)
 kind-range repairReply = (lit≤ tt, lit≤ tt)
 
-pub body-ok : (p : Packet) → PacketOk p → BodyOk (shelf (p .head .t)) (p .body)
-unfolding PacketOk packetF via seq bodyF
-body-ok p h = h .1 .1
-
 pub reply-ok : (p : Packet) (x : Body) → PacketOk p → BodyOk (shelf (p .head .t)) x → PacketOk (replyTo p x)
 unfolding PacketOk packetF replyTo headF keep via seq bodyF byte
 reply-ok p x h k = ((h .0 .0, (kind-range x, h .0 .1 .1)), (refl, k))
@@ -98,7 +94,7 @@ pub record Lifted (t b : ℕ) (u : Stepped) (d : Served) : Type 0 where
   pub silent : u .reply ≡ none → d .result .count ≡ 0
 
 -- no refusal: there is a packet, and its t is the server's
-accepted-t : (m : Memory) (p : Packet) (room : ℕ) → serverRefusal true (some m) (some p) room ≡ 0 → p .head .t ≡ m .t
+pub accepted-t : (m : Memory) (p : Packet) (room : ℕ) → serverRefusal true (some m) (some p) room ≡ 0 → p .head .t ≡ m .t
 unfolding serverRefusal
 accepted-t m p room e = go (eqb (p .head .t) (m .t) && eqb (p .head .server) (m .server)) refl e
   where

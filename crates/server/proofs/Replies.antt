@@ -20,8 +20,8 @@ use Rattle.format.specs.Reading.{bytesAt, over}
 use Rattle.protocol.specs.ClientBytes.{Filled}
 use Rattle.protocol.specs.ServerBytes.{Served, serverIn, actedOn}
 use Rattle.protocol.proofs.Acts.{act-ok}
-use Rattle.protocol.proofs.Bodies.{decode-ok}
-use Rattle.protocol.proofs.ServerLift.{body-ok, reply-ok}
+use Rattle.protocol.proofs.Bodies.{decode-ok, body-ok}
+use Rattle.protocol.proofs.ServerLift.{reply-ok}
 use Rattle.wire.specs.Places.{bodyAt, packetAt}
 use Rattle.wire.specs.Make.{packetStep}
 use Rattle.wire.proofs.Laws.{made-accepted, body-bytes}

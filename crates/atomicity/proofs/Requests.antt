@@ -1,0 +1,82 @@
+-- Rounds, requests and replies of calls in the runs of demand 3, on bytes with the real functions: the rounds that a finished call went through, how
+-- many requests it makes, that no request is outside its rounds and servers, that kind and server tell the packet, and that a reply is to one
+-- request. What is shown of the account by values goes over. Assumes nothing; it holds of every list of steps, whoever lies.
+use mathlib.Core.Path.{_≡_, ap, _∙_}
+use mathlib.Core.Bool.{true}
+use mathlib.Core.List.{List, _∷_}
+use mathlib.Core.Option.{some}
+use Prim.Native.Nat.{ℕ, suc, _*_, _≤_}
+use lib.ListN.{length}
+use Rattle.protocol.specs.Packet.{Packet, kindOf, decode}
+use Rattle.protocol.specs.Primitives.{real}
+use Rattle.protocol.specs.Server.{replyTo}
+use Rattle.protocol.specs.Client.{awaits}
+use Rattle.protocol.specs.Runs.{Lent, take-reply, Account}
+use Rattle.protocol.proofs.ValueRuns.{byValues}
+use Rattle.protocol.proofs.Primitive.{real-lengths}
+use Rattle.protocol.proofs.Accounts.{claimed}
+use Rattle.atomicity.specs.Lists.{Always, In}
+use Rattle.atomicity.specs.Steps.{StepIn, System, serves, packetIn}
+use Rattle.atomicity.specs.Claim.{systemOf, OnBytes}
+use Rattle.atomicity.proofs.Model.{Run, Laws, account, serverAt}
+use Rattle.atomicity.proofs.Serving.{BehindAt, answer}
+use Rattle.atomicity.proofs.Heard.{act-kind}
+use Rattle.atomicity.proofs.Through.{wentThrough, roundsBy, finishes, ByRounds, by-rounds}
+use Rattle.atomicity.proofs.Asked.{asks, asked, requests, EachAsked, requests-most, requests-of, asked-within, same-packet}
+use Rattle.atomicity.proofs.Real.{real-laws}
+
+-- r answers the request q
+pub record Answers (q r : Packet) : Type 0 where
+  pub kind : kindOf (r .body) ≡ suc (kindOf (q .body))
+  pub client : r .head .client ≡ q .head .client
+  pub server : r .head .server ≡ q .head .server
+  pub call : r .head .call ≡ q .head .call
+
+-- of an account of runs
+pub record ByRequests (s : System) (A : Account (StepIn s)) : Type 0 where
+  -- at any moment of a call, and at its end if each round went to all servers
+  pub most : (c : ℕ) (l : List (StepIn s)) → requests s A c l ≤ length (wentThrough s A c l) * s .config .servers
+  pub finished : (c : ℕ) (x : StepIn s) (xs : List (StepIn s)) (lent : Lent) (reply output : List ℕ) → x .step ≡ take-reply c lent reply output
+      → finishes (A .result x xs) ≡ true → EachAsked s A c (x ∷ xs)
+      → requests s A c (x ∷ xs) ≡ length (roundsBy (A .result x xs) (awaits (A .client xs c .hand))) * s .config .servers
+  -- a request is of one of the call's rounds, to one of the servers
+  pub inside : (c : ℕ) (l : List (StepIn s)) (k b : ℕ) → asked s A c l k b ≡ true → In k (wentThrough s A c l)
+      × ((1 ≤ b) × (b ≤ s .config .servers))
+  -- made again within the call it is the same packet
+  pub same : (c k b : ℕ) (x : StepIn s) (xs : List (StepIn s)) → asks s A c k b x xs ≡ true
+      → Always (λ y ys. asks s A c k b y ys ≡ true → A .client ys c .calls ≡ A .client xs c .calls → A .sent y ys ≡ A .sent x xs) xs
+  -- what a server sends is the answer to the request that it took
+  pub replies : (b : ℕ) (x : StepIn s) (xs : List (StepIn s)) (r : Packet) → serves b (x .step) ≡ true → decode (A .sent x xs) ≡ some r
+      → (q : Packet) × ((packetIn (x .step) ≡ some q) × Answers q r)
+
+module _ (s : System) (laws : Laws s) where
+  answers : (b : ℕ) (x : StepIn s) (xs : Run s) (r : Packet) (h : BehindAt s b x xs r) → Answers (h .ask) r
+  unfolding replyTo
+  answers b x xs r h =
+      record {
+        kind = ap (λ (p : Packet). kindOf (p .body)) (h .reply)
+            ∙ act-kind s b (serverAt s xs b) (h .ask .head .client) (h .ask .body) (h .asked .allowed);
+        client = ap (λ (p : Packet). p .head .client) (h .reply);
+        server = ap (λ (p : Packet). p .head .server) (h .reply);
+        call = ap (λ (p : Packet). p .head .call) (h .reply);
+      }
+
+  by-requests : ByRequests s (account s)
+  by-requests =
+      record {
+        most = requests-most s (account s);
+        finished = requests-of s (account s) (by-rounds s);
+        inside = asked-within s laws;
+        same = same-packet s laws;
+        replies = λ b x xs r e d. let h = answer s b x xs r e (laws .reads x xs r d) in (h .ask, (h .got, answers b x xs r h));
+      }
+
+-- ---- on bytes, with the real functions
+
+pub finished-rounds : OnBytes ByRounds
+finished-rounds sh lo hi first sized =
+    claimed real real-lengths sh (lo, hi) first sized (ByRounds (systemOf sh)) (unfold byValues in by-rounds (systemOf sh))
+
+pub counted-requests : OnBytes ByRequests
+counted-requests sh lo hi first sized =
+    claimed real real-lengths sh (lo, hi) first sized (ByRequests (systemOf sh)) (unfold byValues in by-requests (systemOf sh) (real-laws sh lo hi))
