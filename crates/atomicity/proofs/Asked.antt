@@ -26,7 +26,7 @@ use Rattle.atomicity.proofs.Model.{Run, Laws, account, clientAt, handAt
 use Rattle.atomicity.proofs.Serving.{Making, making}
 use Rattle.atomicity.proofs.Positions.{pos, stage-awaits, Before, before-one, before-trans}
 use Rattle.atomicity.proofs.Heard.{request-kind}
-use Rattle.atomicity.proofs.Through.{entered, wentThrough, trail, roundsBy, finishes, gone, ByRounds}
+use Rattle.atomicity.proofs.Through.{withRound, wentThrough, trail, roundsBy, finishes, gone, ByRounds}
 
 -- a packet is the request to server b in the round that awaits k
 abbrev pub isAsk : ℕ → ℕ → Option Packet → Bool
@@ -107,8 +107,8 @@ trail-in (filtering cs g) e = inr (inl refl)
 trail-in (repairing d r) e = inr (inr (inl refl))
 
 -- a round stays among those of the call
-entered-in : (k was is : ℕ) (rounds : List ℕ) → In k rounds → In k (entered true was is rounds)
-entered-in k was is rounds i =
+with-round-in : (k was is : ℕ) (rounds : List ℕ) → In k rounds → In k (withRound true was is rounds)
+with-round-in k was is rounds i =
     at-cond (eqb is 0 || eqb was is) rounds (rounds ++ (is ∷ [])) (In k) (λ e. i) (λ e. left-in k rounds (is ∷ []) i)
 
 made-server : (t c : ℕ) (cl : Client) (b : ℕ) → made t c cl b .head .server ≡ b
@@ -167,13 +167,13 @@ module _ (s : System) (laws : Laws s) (c : ℕ) where
       go (and-left same _ e) (or-cases (asks s (account s) c k b x xs) _ (and-right same _ e)) (asked-within xs k b)
     where
       grown : eqb (callsAt s xs c) (callsAt s (x ∷ xs) c) ≡ true → In k (wentThrough s (account s) c xs)
-          → In k (entered (eqb (callsAt s xs c) (callsAt s (x ∷ xs) c)) (awaits (handAt s xs c)) (awaits (handAt s (x ∷ xs) c))
+          → In k (withRound (eqb (callsAt s xs c) (callsAt s (x ∷ xs) c)) (awaits (handAt s xs c)) (awaits (handAt s (x ∷ xs) c))
           (wentThrough s (account s) c xs))
-      grown q i = rw q (entered-in k (awaits (handAt s xs c)) (awaits (handAt s (x ∷ xs) c)) (wentThrough s (account s) c xs) i)
+      grown q i = rw q (with-round-in k (awaits (handAt s xs c)) (awaits (handAt s (x ∷ xs) c)) (wentThrough s (account s) c xs) i)
 
       go : eqb (callsAt s xs c) (callsAt s (x ∷ xs) c) ≡ true → (asks s (account s) c k b x xs ≡ true) ⊎ (asked s (account s) c xs k b ≡ true)
           → (asked s (account s) c xs k b ≡ true → Within xs k b)
-          → In k (entered (eqb (callsAt s xs c) (callsAt s (x ∷ xs) c)) (awaits (handAt s xs c)) (awaits (handAt s (x ∷ xs) c))
+          → In k (withRound (eqb (callsAt s xs c) (callsAt s (x ∷ xs) c)) (awaits (handAt s xs c)) (awaits (handAt s (x ∷ xs) c))
           (wentThrough s (account s) c xs)) × ((1 ≤ b) × (b ≤ s .config .servers))
       go q (inr h) f = let z = f h in (grown q (z .0), z .1)
       go q (inl h) f =

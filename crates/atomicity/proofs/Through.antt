@@ -35,16 +35,16 @@ readRounds = 8 ∷ 10 ∷ []
 abbrev pub repairedRounds : List ℕ
 repairedRounds = 8 ∷ 10 ∷ 12 ∷ []
 
--- the rounds of a call after a step: a new call's is its first; of the same call one that is entered comes after the others. 0 is no round
-abbrev pub entered : Bool → ℕ → ℕ → List ℕ → List ℕ
-entered same was is rounds = cond same (cond (eqb is 0 || eqb was is) rounds (rounds ++ (is ∷ []))) (is ∷ [])
+-- the rounds of a call after a step: a new call's is its first; of the same call one that is withRound comes after the others. 0 is no round
+abbrev pub withRound : Bool → ℕ → ℕ → List ℕ → List ℕ
+withRound same was is rounds = cond same (cond (eqb is 0 || eqb was is) rounds (rounds ++ (is ∷ []))) (is ∷ [])
 
 module _ (s : System) (A : Account (StepIn s)) where
   -- the rounds of client c's last call, oldest first
   unfoldable pub wentThrough : ℕ → List (StepIn s) → List ℕ
   wentThrough c [] = []
   wentThrough c (x ∷ xs) =
-      entered (eqb (A .client xs c .calls) (A .client (x ∷ xs) c .calls)) (awaits (A .client xs c .hand)) (awaits (A .client (x ∷ xs) c .hand))
+      withRound (eqb (A .client xs c .calls) (A .client (x ∷ xs) c .calls)) (awaits (A .client xs c .hand)) (awaits (A .client (x ∷ xs) c .hand))
       (wentThrough c xs)
 
 -- what a finished call went through, by its result and the kind of the reply that gave it: a read was repaired if it is repair's
@@ -80,7 +80,7 @@ trail (repairing d r) = repairedRounds
 abbrev Gone : List ℕ → Hand → Type 0
 Gone rounds h = isIdle h ≡ false → rounds ≡ trail h
 
-stay : (n a : ℕ) (rounds : List ℕ) → entered (eqb n n) a a rounds ≡ rounds
+stay : (n a : ℕ) (rounds : List ℕ) → withRound (eqb n n) a a rounds ≡ rounds
 stay n a rounds = rw (eq-eqb n n refl, eq-eqb a a refl) (go (eqb a 0))
   where
     go : (b : Bool) → cond (b || true) rounds (rounds ++ (a ∷ [])) ≡ rounds
@@ -88,7 +88,7 @@ stay n a rounds = rw (eq-eqb n n refl, eq-eqb a a refl) (go (eqb a 0))
     go false = refl
 
 next-gone : (s : System) (c : ℕ) (h : Hand) (l : ℕ) (h' : Hand) (l' : ℕ) → Next s c h l h' l' → (rounds : List ℕ) → Gone rounds h →
-    Gone (entered true (awaits h) (awaits h') rounds) h'
+    Gone (withRound true (awaits h) (awaits h') rounds) h'
 unfolding awaits isIdle prepared
 next-gone s c h l h' l' (stays a _) rounds g i =
     unfold awaits in stay 0 (awaits a) rounds ∙ g i
@@ -107,7 +107,7 @@ module _ (s : System) (c : ℕ) where
 
   -- the rounds after a step that leaves the client cl'
   abbrev GoneTo : Client → List ℕ → Client → Type 0
-  GoneTo cl rounds cl' = Gone (entered (eqb (cl .calls) (cl' .calls)) (awaits (cl .hand)) (awaits (cl' .hand)) rounds) (cl' .hand)
+  GoneTo cl rounds cl' = Gone (withRound (eqb (cl .calls) (cl' .calls)) (awaits (cl .hand)) (awaits (cl' .hand)) rounds) (cl' .hand)
 
   begun-gone : (cl : Client) (h : Hand) (rounds : List ℕ) → trail h ≡ awaits h ∷ [] → GoneTo cl rounds (begun cl h)
   unfolding begun
@@ -115,9 +115,9 @@ module _ (s : System) (c : ℕ) where
       rw (ne-eqb (cl .calls) (suc (cl .calls)) (λ q. omega (arith, q))) (sym e)
 
   same-gone : (cl cl' : Client) (rounds : List ℕ) → cl' .calls ≡ cl .calls
-      → Gone (entered true (awaits (cl .hand)) (awaits (cl' .hand)) rounds) (cl' .hand) → GoneTo cl rounds cl'
+      → Gone (withRound true (awaits (cl .hand)) (awaits (cl' .hand)) rounds) (cl' .hand) → GoneTo cl rounds cl'
   same-gone cl cl' rounds e g i =
-      ap (λ (b : Bool). entered b (awaits (cl .hand)) (awaits (cl' .hand)) rounds) (eq-eqb (cl .calls) (cl' .calls) (sym e)) ∙ g i
+      ap (λ (b : Bool). withRound b (awaits (cl .hand)) (awaits (cl' .hand)) rounds) (eq-eqb (cl .calls) (cl' .calls) (sym e)) ∙ g i
 
   write-gone : (cl : Client) (r n : List ℕ) (k : ℕ) (rounds : List ℕ) → GoneTo cl rounds (begun cl (clocking r n k))
   write-gone cl r n k rounds = begun-gone cl (clocking r n k) rounds (unfold awaits in refl)
@@ -204,7 +204,7 @@ ByRounds s A =
 
 module _ (s : System) (c : ℕ) (x : StepIn s) (xs : Run s) where
   over-same : (cl' : Client) → cl' .calls ≡ callsAt s xs c → cl' .hand ≡ idle → (rounds : List ℕ)
-      → entered (eqb (callsAt s xs c) (cl' .calls)) (awaits (handAt s xs c)) (awaits (cl' .hand)) rounds ≡ rounds
+      → withRound (eqb (callsAt s xs c) (cl' .calls)) (awaits (handAt s xs c)) (awaits (cl' .hand)) rounds ≡ rounds
   unfolding awaits
   over-same cl' e h rounds = rw (e, h, eq-eqb (callsAt s xs c) (callsAt s xs c) refl)
 
@@ -222,7 +222,7 @@ module _ (s : System) (c : ℕ) (x : StepIn s) (xs : Run s) where
       ends-not : (r : Result) → R ≡ r → finishes r ≡ false → ⊥
       ends-not r q z = clash (subst (λ (y : Result). finishes y ≡ true) q f) z
 
-      go : MovedAt s c x xs → entered (eqb (cl .calls) (clientAt s (x ∷ xs) c .calls)) (awaits (cl .hand)) (awaits (clientAt s (x ∷ xs) c .hand))
+      go : MovedAt s c x xs → withRound (eqb (cl .calls) (clientAt s (x ∷ xs) c .calls)) (awaits (cl .hand)) (awaits (clientAt s (x ∷ xs) c .hand))
           (wentThrough s (account s) c xs) ≡ roundsBy R (awaits (cl .hand))
       go (kept q k) =
           absurd (clash (finishes-done R f) (k (ap (acting c) e ∙ eq-eqb c c refl)))

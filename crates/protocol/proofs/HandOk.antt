@@ -24,7 +24,7 @@ use Rattle.format.proofs.Answers.{no-some, at-cond}
 use Rattle.protocol.proofs.Packets.{candidate-lengths, share-lengths}
 use Rattle.protocol.proofs.Room.{Fitting, share-room, share-size}
 use Rattle.protocol.proofs.Readers.{share-held}
-use Rattle.protocol.proofs.Lengths.{heldSize, held-length}
+use Rattle.protocol.proofs.Lengths.{heldShareSize, held-length}
 use Rattle.format.proofs.Walks.{all-snoc}
 
 -- a writer's content and nonce
@@ -98,7 +98,7 @@ held-in s repairReply h = no-held s
 pub held-room : (s : Config) → Fitting s → (x : Held) → heldF s .Ok x → length (heldF s .print x) ≤ replySlot
 held-room s f x o = omega (arith, held-length s x o, go (x .share) (share-held s x o))
   where
-    go : (y : Option Share) → ((h : Share) → y ≡ some h → shareF s .Ok h) → stampSize + 1 + heldSize s y ≤ replySlot
+    go : (y : Option Share) → ((h : Share) → y ≡ some h → shareF s .Ok h) → stampSize + 1 + heldShareSize s y ≤ replySlot
     go none k = lit≤ tt
     go (some h) k = share-room s f h (k h refl)
 

@@ -18,9 +18,9 @@ use Rattle.protocol.proofs.Bodies.{body-ok}
 use Rattle.protocol.proofs.Readers.{held-lengths}
 
 -- what follows the byte of a held reply: a share, or nothing
-abbrev pub heldSize : Config → Option Share → ℕ
-heldSize s none = 0
-heldSize s (some h) = shareSize s (h .size)
+abbrev pub heldShareSize : Config → Option Share → ℕ
+heldShareSize s none = 0
+heldShareSize s (some h) = shareSize s (h .size)
 
 abbrev pub bodySize : Config → Body → ℕ
 bodySize s clock = 0
@@ -32,7 +32,7 @@ bodySize s completeReply = 0
 bodySize s collect = 0
 bodySize s (collectReply x) = candidateSize s
 bodySize s (filter x) = 1 + length x * candidateSize s
-bodySize s (filterReply x) = stampSize + 1 + heldSize s (x .share)
+bodySize s (filterReply x) = stampSize + 1 + heldShareSize s (x .share)
 bodySize s (repair x) = candidateSize s
 bodySize s repairReply = 0
 
@@ -61,12 +61,12 @@ module _ (s : Config) where
   unfolding candidatesF via seq byte many
   candidates-length cs h = omega (arith, list-length cs (h .1 .1))
 
-  pub held-length : (x : Held) → heldF s .Ok x → length (heldF s .print x) ≡ stampSize + 1 + heldSize s (x .share)
+  pub held-length : (x : Held) → heldF s .Ok x → length (heldF s .print x) ≡ stampSize + 1 + heldShareSize s (x .share)
   unfolding heldF via seq optional anyStampF orBlank
   held-length x o = go (x .share) (held-lengths s x o .share)
     where
       go : (y : Option Share) → ((h : Share) → y ≡ some h → ShareLengths s h)
-          → length (stampF .print (x .stamp) ++ optional (heldMost (x .stamp)) (shareF s) .print y) ≡ stampSize + 1 + heldSize s y
+          → length (stampF .print (x .stamp) ++ optional (heldMost (x .stamp)) (shareF s) .print y) ≡ stampSize + 1 + heldShareSize s y
       go none k = omega (arith, length-append (stampF .print (x .stamp)) (0 ∷ []), stamp-length (x .stamp) (held-lengths s x o .tag))
       go (some h) k =
           omega (

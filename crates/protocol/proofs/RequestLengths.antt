@@ -44,19 +44,19 @@ requestSize s n (filterReply x) = 0
 requestSize s n repairReply = 0
 
 -- a request's list of candidates is that of filter
-abbrev pub listIn : Body → List Candidate
-listIn (filter cs) = cs
-listIn clock = []
-listIn (clockReply x) = []
-listIn (store x) = []
-listIn (storeReply x) = []
-listIn (complete x) = []
-listIn completeReply = []
-listIn collect = []
-listIn (collectReply x) = []
-listIn (filterReply x) = []
-listIn (repair x) = []
-listIn repairReply = []
+abbrev pub listAsked : Body → List Candidate
+listAsked (filter cs) = cs
+listAsked clock = []
+listAsked (clockReply x) = []
+listAsked (store x) = []
+listAsked (storeReply x) = []
+listAsked (complete x) = []
+listAsked completeReply = []
+listAsked collect = []
+listAsked (collectReply x) = []
+listAsked (filterReply x) = []
+listAsked (repair x) = []
+listAsked repairReply = []
 
 -- ---- a packet that is made
 
@@ -70,7 +70,7 @@ request-size s n (collecting g) b lo hi h = refl
 request-size s n (filtering cs g) b lo hi h = refl
 request-size s n (repairing d r) b lo hi h = refl
 
-list-most : (s : Config) (c : ℕ) (h : Hand) (b : ℕ) → HandOk s c h → length (listIn (request h b)) ≤ s .servers
+list-most : (s : Config) (c : ℕ) (h : Hand) (b : ℕ) → HandOk s c h → length (listAsked (request h b)) ≤ s .servers
 unfolding HandOk
 list-most s c idle b h = omega arith
 list-most s c (clocking r m k) b h = omega arith
@@ -95,7 +95,7 @@ pub record Requested (s : Config) (n : ℕ) (h : Hand) (b : ℕ) (sent : List �
   pub read : decode sent ≡ some packet
   pub asks : packet .body ≡ request h b
   pub size : length sent ≡ headSize + requestSize s n (packet .body)
-  pub few : length (listIn (packet .body)) ≤ s .servers
+  pub few : length (listAsked (packet .body)) ≤ s .servers
 
 module _ (P : Primitives) (law : Lengths P) (sh : Shelf) (tr : (1 ≤ sh .t) × (sh .t ≤ topFaults)) (first : ℕ → List ℕ)
     (sized : (c : ℕ) → length (first c) ≡ keptSize) where

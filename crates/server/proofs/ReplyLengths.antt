@@ -20,7 +20,7 @@ use Rattle.protocol.specs.Server.{Server, Acted, best, act, onStore, replyTo, s
 use Rattle.protocol.specs.ServerBytes.{Served, serverIn, turnedDown, actedOn, serverTake}
 use Rattle.format.proofs.Answers.{at-cond}
 use Rattle.protocol.proofs.Bodies.{decode-ok, body-ok}
-use Rattle.protocol.proofs.Lengths.{heldSize, bodySize, packet-size}
+use Rattle.protocol.proofs.Lengths.{heldShareSize, bodySize, packet-size}
 use Rattle.protocol.proofs.Memories.{fields, decode-memory-ok}
 use Rattle.protocol.proofs.Acts.{ServerOk, Right, act-ok}
 use Rattle.protocol.proofs.ServerLift.{over-start, reply-ok, accepted-t}
@@ -31,7 +31,7 @@ answerSize s o clock = stampSize
 answerSize s o (store w) = 1
 answerSize s o (complete c) = 0
 answerSize s o collect = candidateSize s
-answerSize s o (filter cs) = stampSize + 1 + heldSize s o
+answerSize s o (filter cs) = stampSize + 1 + heldShareSize s o
 answerSize s o (repair c) = 0
 -- a reply is no request: refused with 9
 answerSize s o (clockReply x) = 0

@@ -31,26 +31,26 @@ use Rattle.server.specs.Reads.{writesPlace}
 -- ---- what one act adds
 
 -- the write in a request
-abbrev pub writeIn : Body → List Write
-writeIn (store w) = w ∷ []
-writeIn clock = []
-writeIn (clockReply x) = []
-writeIn (storeReply x) = []
-writeIn (complete x) = []
-writeIn completeReply = []
-writeIn collect = []
-writeIn (collectReply x) = []
-writeIn (filter x) = []
-writeIn (filterReply x) = []
-writeIn (repair x) = []
-writeIn repairReply = []
+abbrev pub writeAsked : Body → List Write
+writeAsked (store w) = w ∷ []
+writeAsked clock = []
+writeAsked (clockReply x) = []
+writeAsked (storeReply x) = []
+writeAsked (complete x) = []
+writeAsked completeReply = []
+writeAsked collect = []
+writeAsked (collectReply x) = []
+writeAsked (filter x) = []
+writeAsked (filterReply x) = []
+writeAsked (repair x) = []
+writeAsked repairReply = []
 
 -- a reply that says of a store that it was kept: kind 4, byte 0
 abbrev pub saysKept : Body → Bool
 saysKept y = eqb (kindOf y) 4 && eqb (codeIn y) 0
 
 abbrev pub addedBy : Body → Body → List Write
-addedBy x y = cond (saysKept y) (writeIn x) []
+addedBy x y = cond (saysKept y) (writeAsked x) []
 
 module _ (P : Primitives) (s : Config) (key : List ℕ) (b : ℕ) (v : Server) where
   same : v .history ≡ v .history ++ []
@@ -60,18 +60,18 @@ module _ (P : Primitives) (s : Config) (key : List ℕ) (b : ℕ) (v : Server) w
   unfolding raise
   raised c = at-cond (below (v .latest .stamp) (c .stamp)) _ v (λ (y : Server). y .history ≡ v .history ++ []) (λ e. same) (λ e. same)
 
-  abbrev Grown : Body → Acted → Type 0
-  Grown x a = a .server .history ≡ v .history ++ addedBy x (a .reply)
+  abbrev Adds : Body → Acted → Type 0
+  Adds x a = a .server .history ≡ v .history ++ addedBy x (a .reply)
 
-  act-history : (x : Body) → Grown x (act P s key b v x)
+  act-history : (x : Body) → Adds x (act P s key b v x)
   unfolding act onStore
   act-history clock = same
   act-history (store w) =
       let kept : Acted = record { server = record { latest = v .latest; history = v .history ++ (w ∷ []) }; reply = storeReply 0 } in
       let full : Acted = record { server = v; reply = storeReply 11 } in
       let held : Acted = record { server = v; reply = storeReply 10 } in
-      at-cond (isSome (lookup (w .stamp) (v .history))) held (cond (leb capacity (length (v .history))) full kept) (Grown (store w)) (λ e. same)
-      (λ e. at-cond (leb capacity (length (v .history))) full kept (Grown (store w)) (λ f. same) (λ f. refl))
+      at-cond (isSome (lookup (w .stamp) (v .history))) held (cond (leb capacity (length (v .history))) full kept) (Adds (store w)) (λ e. same)
+      (λ e. at-cond (leb capacity (length (v .history))) full kept (Adds (store w)) (λ f. same) (λ f. refl))
   act-history (complete c) = raised c
   act-history collect = same
   act-history (filter cs) = raised (best P s key b v (blankCandidate s) cs)
@@ -137,7 +137,7 @@ pub record Given : Type 0 where
   pub output : List ℕ
 
 -- a memory whose fields, with the writes ws, take so many bytes, and which is zero after them
-pub record Filled (memory : List ℕ) (ws : List Write) (bytesTaken : ℕ) : Type 0 where
+pub record FilledTo (memory : List ℕ) (ws : List Write) (bytesTaken : ℕ) : Type 0 where
   pub fields : Memory
   pub opened : decodeMemory memory ≡ some fields
   pub writes : fields .writes ≡ ws
@@ -160,17 +160,17 @@ module _ (P : Primitives) (t b : ℕ) where
   storedAfter (x ∷ xs) = storedAfter xs ++ keptBy (decode (x .packet)) (decode (replyOf (served x xs)))
 
   -- the memory holds just these
-  pub record Stands (xs : List Given) : Type 0 where
+  pub record HoldsJust (xs : List Given) : Type 0 where
     pub server : Server
     pub holds : Holds t b server (memoryAfter xs)
     pub history : server .history ≡ storedAfter xs
 
   module _ (tr : (1 ≤ t) × (t ≤ topFaults)) (br : (1 ≤ b) × (b ≤ shelf t .servers)) where
-    stands : (xs : List Given) → Stands xs
+    stands : (xs : List Given) → HoldsJust xs
     unfolding memoryAfter storedAfter
     stands [] = record { server = blankServer (shelf t); holds = blank-holds t b tr br; history = refl }
     stands (x ∷ xs) =
-        let w : Stands xs = unfold memoryAfter storedAfter in stands xs in
+        let w : HoldsJust xs = unfold memoryAfter storedAfter in stands xs in
         let v : Server = w .server in
         let h : Holds t b v (memoryAfter xs) = w .holds in
         record {
@@ -181,10 +181,10 @@ module _ (P : Primitives) (t b : ℕ) where
               ∙ ap (λ (y : List Write). y ++ keptBy (decode (x .packet)) (decode (replyOf (served x xs)))) (w .history);
         }
 
-    pub memory-filled : (xs : List Given) → Filled (memoryAfter xs) (storedAfter xs) (fieldsSize (shelf t) (storedAfter xs))
+    pub memory-filled : (xs : List Given) → FilledTo (memoryAfter xs) (storedAfter xs) (fieldsSize (shelf t) (storedAfter xs))
     unfolding encodeMemory
     memory-filled xs =
-        let w : Stands xs = stands xs in
+        let w : HoldsJust xs = stands xs in
         let m : Memory = memoryOf t b (w .server) in
         let l : length (memoryF .print m) ≡ fieldsSize (shelf t) (storedAfter xs) =
         fields-length m (memory-ok (w .holds)) ∙ ap (fieldsSize (shelf t)) (w .history) in
@@ -228,10 +228,10 @@ module _ (P : Primitives) (t b : ℕ) where
   module _ (tr : (1 ≤ t) × (t ≤ topFaults)) (br : (1 ≤ b) × (b ≤ shelf t .servers)) where
     -- after m of them m writes of this length stand in the memory, and its fields take so many bytes
     pub stores-filled : (n : ℕ) (xs : List Given) → AllKept n xs
-        → Filled (memoryAfter xs) (storedAfter xs) (writesPlace (shelf t) + length xs * (stampSize + shareSize (shelf t) n))
+        → FilledTo (memoryAfter xs) (storedAfter xs) (writesPlace (shelf t) + length xs * (stampSize + shareSize (shelf t) n))
     stores-filled n xs h =
         let s : Config = shelf t in
         let (l, a) = kept-all n xs h in
         let e : writesSize s (storedAfter xs) ≡ length xs * (stampSize + shareSize s n) =
         same-size s n (storedAfter xs) a ∙ ap (λ (k : ℕ). k * (stampSize + shareSize s n)) l in
-        subst (λ (k : ℕ). Filled (memoryAfter xs) (storedAfter xs) (writesPlace s + k)) e (memory-filled tr br xs)
+        subst (λ (k : ℕ). FilledTo (memoryAfter xs) (storedAfter xs) (writesPlace s + k)) e (memory-filled tr br xs)
