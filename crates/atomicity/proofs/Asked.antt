@@ -1,6 +1,6 @@
 -- How many different requests a call makes, read off an account of a run by the packets sent: at most one for each of its rounds and each server, and
--- just that many if each round goes to all servers. So a finished write makes 3 * S, a read 2 * S, a repaired read 3 * S, and honest servers
--- give as many replies. A request is told by its kind and its server: made again within the call it is the same packet.
+-- just that many if each round goes to all servers. So a finished write then makes 3 * S, a read 2 * S, a repaired read 3 * S. A request is told by
+-- its kind and its server: made again within the call it is the same packet, and packets of another kind or server are others.
 -- Assumes the laws of packets (Laws), which the real functions have.
 use mathlib.Core.Path.{_≡_, refl, sym, ap, _∙_, subst}
 use mathlib.Core.Bool.{Bool, true, false, cond, _&&_, _||_}
@@ -32,6 +32,16 @@ use Rattle.atomicity.proofs.Through.{withRound, wentThrough, trail, rou
 abbrev pub isAsk : ℕ → ℕ → Option Packet → Bool
 isAsk k b none = false
 isAsk k b (some p) = eqb (suc (kindOf (p .body))) k && eqb (p .head .server) b
+
+-- one packet is the request of one round to one server
+pub ask-apart : (k b k' b' : ℕ) (o : Option Packet) → isAsk k b o ≡ true → isAsk k' b' o ≡ true → (k ≡ k') × (b ≡ b')
+ask-apart k b k' b' none e f = clash e refl
+ask-apart k b k' b' (some p) e f =
+    let j : ℕ = suc (kindOf (p .body)) in
+    let i : ℕ = p .head .server in (
+      sym (eqb-true j k (and-left (eqb j k) (eqb i b) e)) ∙ eqb-true j k' (and-left (eqb j k') (eqb i b') f),
+      sym (eqb-true i b (and-right (eqb j k) (eqb i b) e)) ∙ eqb-true i b' (and-right (eqb j k') (eqb i b') f),
+    )
 
 count-all : (n : ℕ) (p : ℕ → Bool) → ((b : ℕ) → 1 ≤ b → b ≤ n → p b ≡ true) → countTo n p ≡ n
 unfolding countTo

@@ -1,7 +1,7 @@
 -- Rounds, requests and replies of calls in the runs of demand 3, on bytes with the real functions: the rounds that a finished call went through, how
 -- many requests it makes, that no request is outside its rounds and servers, that kind and server tell the packet, and that a reply is to one
 -- request. What is shown of the account by values goes over. Assumes nothing; it holds of every list of steps, whoever lies.
-use mathlib.Core.Path.{_≡_, ap, _∙_}
+use mathlib.Core.Path.{_≡_, sym, ap, _∙_, subst}
 use mathlib.Core.Bool.{true}
 use mathlib.Core.List.{List, _∷_}
 use mathlib.Core.Option.{some}
@@ -16,13 +16,14 @@ use Rattle.protocol.proofs.ValueRuns.{byValues}
 use Rattle.protocol.proofs.Primitive.{real-lengths}
 use Rattle.protocol.proofs.Accounts.{claimed}
 use Rattle.atomicity.specs.Lists.{Always, In}
-use Rattle.atomicity.specs.Steps.{StepIn, System, serves, packetIn}
+use Rattle.atomicity.specs.Steps.{StepIn, System, makes, serves, packetIn}
 use Rattle.atomicity.specs.Claim.{systemOf, OnBytes}
+use Rattle.atomicity.proofs.Util.{and-right}
 use Rattle.atomicity.proofs.Model.{Run, Laws, account, serverAt}
 use Rattle.atomicity.proofs.Serving.{BehindAt, answer}
 use Rattle.atomicity.proofs.Heard.{act-kind}
 use Rattle.atomicity.proofs.Through.{wentThrough, roundsBy, finishes, ByRounds, by-rounds}
-use Rattle.atomicity.proofs.Asked.{asks, asked, requests, EachAsked, requests-most, requests-of, asked-within, same-packet}
+use Rattle.atomicity.proofs.Asked.{isAsk, ask-apart, asks, asked, requests, EachAsked, requests-most, requests-of, asked-within, same-packet}
 use Rattle.atomicity.proofs.Real.{real-laws}
 
 -- r answers the request q
@@ -45,6 +46,9 @@ pub record ByRequests (s : System) (A : Account (StepIn s)) : Type 0 where
   -- made again within the call it is the same packet
   pub same : (c k b : ℕ) (x : StepIn s) (xs : List (StepIn s)) → asks s A c k b x xs ≡ true
       → Always (λ y ys. asks s A c k b y ys ≡ true → A .client ys c .calls ≡ A .client xs c .calls → A .sent y ys ≡ A .sent x xs) xs
+  -- and of another round or server it is another packet
+  pub other : (c k b k' b' : ℕ) (x y : StepIn s) (xs ys : List (StepIn s)) → asks s A c k b x xs ≡ true → asks s A c k' b' y ys ≡ true
+      → A .sent x xs ≡ A .sent y ys → (k ≡ k') × (b ≡ b')
   -- what a server sends is the answer to the request that it took
   pub replies : (b : ℕ) (x : StepIn s) (xs : List (StepIn s)) (r : Packet) → serves b (x .step) ≡ true → decode (A .sent x xs) ≡ some r
       → (q : Packet) × ((packetIn (x .step) ≡ some q) × Answers q r)
@@ -61,6 +65,13 @@ module _ (s : System) (laws : Laws s) where
         call = ap (λ (p : Packet). p .head .call) (h .reply);
       }
 
+  others : (c k b k' b' : ℕ) (x y : StepIn s) (xs ys : Run s) → asks s (account s) c k b x xs ≡ true → asks s (account s) c k' b' y ys ≡ true
+      → account s .sent x xs ≡ account s .sent y ys → (k ≡ k') × (b ≡ b')
+  others c k b k' b' x y xs ys e f g =
+      let q : isAsk k' b' (decode (account s .sent y ys)) ≡ true = and-right (makes c (y .step)) _ f in
+      ask-apart k b k' b' (decode (account s .sent x xs)) (and-right (makes c (x .step)) _ e)
+      (subst (λ (z : List ℕ). isAsk k' b' (decode z) ≡ true) (sym g) q)
+
   by-requests : ByRequests s (account s)
   by-requests =
       record {
@@ -68,6 +79,7 @@ module _ (s : System) (laws : Laws s) where
         finished = requests-of s (account s) (by-rounds s);
         inside = asked-within s laws;
         same = same-packet s laws;
+        other = others;
         replies = λ b x xs r e d. let h = answer s b x xs r e (laws .reads x xs r d) in (h .ask, (h .got, answers b x xs r h));
       }
 
