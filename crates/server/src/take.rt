@@ -35,25 +35,12 @@ fn barred(head: protocol::Head, packet: &[u8]) -> bool
 {
     let kind = head.kind;
     let client = head.client;
-    if kind == protocol::kinds::COLLECT {
-        return false;
+    match kind {
+        protocol::kinds::COLLECT | protocol::kinds::FILTER | protocol::kinds::REPAIR => false,
+        protocol::kinds::CLOCK => cluster::TOP_WRITER < (client as usize),
+        protocol::kinds::STORE | protocol::kinds::COMPLETE => foreign(client, packet),
+        _ => true,
     }
-    if kind == protocol::kinds::FILTER {
-        return false;
-    }
-    if kind == protocol::kinds::REPAIR {
-        return false;
-    }
-    if kind == protocol::kinds::CLOCK {
-        return cluster::TOP_WRITER < (client as usize);
-    }
-    if kind == protocol::kinds::STORE {
-        return foreign(client, packet);
-    }
-    if kind == protocol::kinds::COMPLETE {
-        return foreign(client, packet);
-    }
-    true
 }
 
 // Refusals 8, 9 and 15 of a packet that was let through; 0 where none applies.
