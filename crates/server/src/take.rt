@@ -75,22 +75,14 @@ fn answer(
     ensures { λ r. ⌜ AnswersAny (now (memory .entry)) key (now (packet .entry)) (now (out .entry)) head opened (record { result = r; memory = now (memory .exit); output = now (out .exit) }) ⌝ }
 {
     let kind = head.kind;
-    if kind == protocol::kinds::CLOCK {
-        return crate::answers::clock(memory, head, out);
+    match kind {
+        protocol::kinds::CLOCK => crate::answers::clock(memory, head, out),
+        protocol::kinds::STORE => crate::store::store(memory, head, packet, opened, out),
+        protocol::kinds::COMPLETE => crate::answers::complete(memory, head, packet, out),
+        protocol::kinds::COLLECT => crate::answers::collect(memory, head, out),
+        protocol::kinds::FILTER => crate::filter::filter(memory, key, head, packet, opened, out),
+        _ => crate::repair::repair(memory, key, head, packet, opened, out),
     }
-    if kind == protocol::kinds::STORE {
-        return crate::store::store(memory, head, packet, opened, out);
-    }
-    if kind == protocol::kinds::COMPLETE {
-        return crate::answers::complete(memory, head, packet, out);
-    }
-    if kind == protocol::kinds::COLLECT {
-        return crate::answers::collect(memory, head, out);
-    }
-    if kind == protocol::kinds::FILTER {
-        return crate::filter::filter(memory, key, head, packet, opened, out);
-    }
-    crate::repair::repair(memory, key, head, packet, opened, out)
 }
 
 // A packet to this server, in its memory, with its key: 1, 2, 7, 8, 9, 15, or the reply.
