@@ -121,17 +121,15 @@ pub fn fragment(packet: &[u8]) -> &[u8]
     };
     let kind = head.kind;
     let t = head.t;
-    if kind == protocol::kinds::STORE {
-        return share_fragment(rest(packet, crate::sizes::HEAD + crate::sizes::STAMP), t);
+    let at = crate::sizes::HEAD + crate::sizes::STAMP;
+    match kind {
+        protocol::kinds::STORE => share_fragment(rest(packet, at), t),
+        protocol::kinds::FILTER_REPLY => {
+            if byte_at(packet, at) == 0 {
+                return &packet[..0];
+            }
+            share_fragment(rest(packet, at + 1), t)
+        }
+        _ => &packet[..0],
     }
-    if kind != protocol::kinds::FILTER_REPLY {
-        return &packet[..0];
-    }
-    if byte_at(packet, crate::sizes::HEAD + crate::sizes::STAMP) == 0 {
-        return &packet[..0];
-    }
-    share_fragment(
-        rest(packet, crate::sizes::HEAD + crate::sizes::STAMP + 1),
-        t,
-    )
 }
