@@ -4,32 +4,36 @@ use Rattle.server.proofs.Taking.{is-repair}
 use Rattle.server.proofs.take.answer.Statement.{statement}
 use Rattle.server.proofs.take.answer.Tie as tie
 
+-- Places far back, each named once: the place, and from where it is seen.
+abbrev start-from-known : tie.After-slice-known2 → tie.Start
+start-from-known c = c .before .before .before
+
 returns : tie.Need-returns
 returns c =
     let at-clock = c .before .before in
     let at-arm = at-clock .before .before .before in
-    let a = at-arm .before .before .before .before .args in
+    let a = start-from-known (at-arm .before) .args in
     λ o own dec sent room. at-clock .clock .ensures (a .packet .now) (a .key) (a .opened) o own dec (at-arm .match .keys1) room
 
 returns-2 : tie.Need-returns-2
 returns-2 c =
     let at-store = c .before .before .before .before in
     let at-arm = at-store .before .before .before in
-    let a = at-arm .before .before .before .before .args in
+    let a = start-from-known (at-arm .before) .args in
     λ o own dec sent room. at-store .store .ensures (a .key) o own dec (at-arm .match .keys2) room
 
 returns-3 : tie.Need-returns-3
 returns-3 c =
     let at-complete = c .before .before .before .before in
     let at-arm = at-complete .before .before .before in
-    let a = at-arm .before .before .before .before .args in
+    let a = start-from-known (at-arm .before) .args in
     λ o own dec sent room. at-complete .complete .ensures (a .key) (a .opened) o own dec (at-arm .match .keys3) room
 
 returns-4 : tie.Need-returns-4
 returns-4 c =
     let at-collect = c .before .before in
     let at-arm = at-collect .before .before .before in
-    let a = at-arm .before .before .before .before .args in
+    let a = start-from-known (at-arm .before) .args in
     λ o own dec sent room. at-collect .collect .ensures (a .packet .now) (a .key) (a .opened) o own dec (at-arm .match .keys4) room
 
 returns-5 : tie.Need-returns-5
@@ -41,7 +45,7 @@ returns-6 : tie.Need-returns-6
 returns-6 c =
     let at-repair = c .before .before .before .before in
     let at-arm = at-repair .before .before .before in
-    let a = at-arm .before .before .before .before .args in
+    let a = start-from-known (at-arm .before) .args in
     let rest = at-arm .match .rest in
     λ o own dec sent room. at-repair .repair .ensures o own dec
     (is-repair (a .head) (a .packet .now) (rest .0 .0 .0 .0 .1) (rest .0 .0 .0 .1) (rest .0 .0 .1) (rest .0 .1) (rest .1) sent) room
