@@ -1,6 +1,7 @@
 -- Taking a packet: one equation for each way through the refusals, and the packets that none of them applies to.
 -- The refusals are an ordered list, so each test that was passed strikes its entry out. Assumes nothing.
 use mathlib.Core.Path.{_≡_, refl, sym, ap, _∙_, subst}
+use mathlib.Core.Logic.{_⊎_, inl, inr, ⊎-elim}
 use mathlib.Core.Bool.{Bool, true, false, cond, not, _&&_, _||_}
 use mathlib.Core.List.{List}
 use mathlib.Core.Option.{none, some}
@@ -8,7 +9,7 @@ use Prim.Native.Nat.{ℕ, _≤_, _<_}
 use native.Mathlib.Omega.{arith}
 use lib.Dec.{T, ltb, eqb}
 use lib.ListN.{length, drop, getD}
-use borrow.Author.Tests.{eq-eqb, ne-eqb, eqb-true, lt-ltb, le-ltb, ltb-false}
+use borrow.Author.Tests.{eq-eqb, ne-eqb, eqb-true, eqb-false, lt-ltb, le-ltb, ltb-false}
 use Rattle.cluster.specs.Config.{shelf}
 use Rattle.cluster.specs.Ranges.{topWriter, memorySize, packetRoom}
 use Rattle.cluster.specs.Refusals.{onRefusal}
@@ -50,62 +51,55 @@ module _ (h : Head) (packet : List ℕ) where
   unfolding packetAt
   of-kind k e = ap (λ (j : ℕ). barred (h .client) (bodyAt (shelf (h .t)) j (drop headSize packet))) e
 
-  pub barred-collect : h .kind ≡ 7 → false ≡ barred (h .client) (packetAt h packet .body)
+  pub barred-reader : (h .kind ≡ 7) ⊎ ((h .kind ≡ 9) ⊎ (h .kind ≡ 11)) → false ≡ barred (h .client) (packetAt h packet .body)
   unfolding bodyAt barred
-  barred-collect e = sym (of-kind 7 e)
-
-  pub barred-filter : h .kind ≡ 9 → false ≡ barred (h .client) (packetAt h packet .body)
-  unfolding bodyAt barred
-  barred-filter e = sym (of-kind 9 e)
-
-  pub barred-repair : h .kind ≡ 11 → false ≡ barred (h .client) (packetAt h packet .body)
-  unfolding bodyAt barred
-  barred-repair e = sym (of-kind 11 e)
+  barred-reader (inl e) = sym (of-kind 7 e)
+  barred-reader (inr (inl e)) = sym (of-kind 9 e)
+  barred-reader (inr (inr e)) = sym (of-kind 11 e)
 
   pub barred-clock : h .kind ≡ 1 → ltb topWriter (h .client) ≡ barred (h .client) (packetAt h packet .body)
   unfolding bodyAt barred
   barred-clock e = sym (of-kind 1 e)
 
-  pub barred-store : h .kind ≡ 3 → {r : Bool} → r ≡ (ltb topWriter (h .client) || not (eqb (stampAt (drop headSize packet) .writer) (h .client)))
+  pub barred-stamp : (h .kind ≡ 3) ⊎ (h .kind ≡ 5) → {r : Bool}
+      → r ≡ (ltb topWriter (h .client) || not (eqb (stampAt (drop headSize packet) .writer) (h .client)))
       → r ≡ barred (h .client) (packetAt h packet .body)
-  unfolding bodyAt barred writeAt
-  barred-store e p = p ∙ sym (of-kind 3 e)
+  unfolding bodyAt barred writeAt candidateAt
+  barred-stamp (inl e) p = p ∙ sym (of-kind 3 e)
+  barred-stamp (inr e) p = p ∙ sym (of-kind 5 e)
 
-  pub barred-complete : h .kind ≡ 5 → {r : Bool} → r ≡ (ltb topWriter (h .client) || not (eqb (stampAt (drop headSize packet) .writer) (h .client)))
-      → r ≡ barred (h .client) (packetAt h packet .body)
-  unfolding bodyAt barred candidateAt
-  barred-complete e p = p ∙ sym (of-kind 5 e)
+  -- every other kind is a reply
+  pub barred-other : (h .kind ≡ 1 → ⊥) → ((h .kind ≡ 3) ⊎ (h .kind ≡ 5) → ⊥) → ((h .kind ≡ 7) ⊎ ((h .kind ≡ 9) ⊎ (h .kind ≡ 11)) → ⊥)
+      → true ≡ barred (h .client) (packetAt h packet .body)
+  unfolding packetAt bodyAt barred
+  barred-other not1 not-stamp not-reader =
+      rw (
+        ne-eqb (h .kind) 1 not1,
+        ne-eqb (h .kind) 3 (λ e. not-stamp (inl e)),
+        ne-eqb (h .kind) 5 (λ e. not-stamp (inr e)),
+        ne-eqb (h .kind) 7 (λ e. not-reader (inl e)),
+        ne-eqb (h .kind) 9 (λ e. not-reader (inr (inl e))),
+        ne-eqb (h .kind) 11 (λ e. not-reader (inr (inr e))),
+      )
+      (at-cond (eqb (h .kind) 2) _ _ Q (λ e. refl)
+      (λ e. at-cond (eqb (h .kind) 4) _ _ Q (λ e. refl)
+      (λ e. at-cond (eqb (h .kind) 6) _ _ Q (λ e. refl)
+      (λ e. at-cond (eqb (h .kind) 8) _ _ Q (λ e. refl)
+      (λ e. at-cond (eqb (h .kind) 10) _ _ Q (λ e. refl) (λ e. refl))))))
+    where
+      Q : Body → Type 0
+      Q x = true ≡ barred (h .client) x
 
-  module _ (not1 : h .kind ≡ 1 → ⊥) (not3 : h .kind ≡ 3 → ⊥) (not5 : h .kind ≡ 5 → ⊥) (not7 : h .kind ≡ 7 → ⊥) (not9 : h .kind ≡ 9 → ⊥) where
-    -- every other kind is a reply
-    pub barred-other : (h .kind ≡ 11 → ⊥) → true ≡ barred (h .client) (packetAt h packet .body)
-    unfolding packetAt bodyAt barred
-    barred-other not11 =
-        rw (
-          ne-eqb (h .kind) 1 not1,
-          ne-eqb (h .kind) 3 not3,
-          ne-eqb (h .kind) 5 not5,
-          ne-eqb (h .kind) 7 not7,
-          ne-eqb (h .kind) 9 not9,
-          ne-eqb
-              (h .kind) 11 not11,
-        )
-        (at-cond (eqb (h .kind) 2) _ _ Q (λ e. refl)
-        (λ e. at-cond (eqb (h .kind) 4) _ _ Q (λ e. refl)
-        (λ e. at-cond (eqb (h .kind) 6) _ _ Q (λ e. refl)
-        (λ e. at-cond (eqb (h .kind) 8) _ _ Q (λ e. refl)
-        (λ e. at-cond (eqb (h .kind) 10) _ _ Q (λ e. refl) (λ e. refl))))))
-      where
-        Q : Body → Type 0
-        Q x = true ≡ barred (h .client) x
-
-    -- so what is left is repair
-    pub is-repair : barred (h .client) (packetAt h packet .body) ≡ false → h .kind ≡ 11
-    is-repair p = go (eqb (h .kind) 11) refl
-      where
-        go : (b : Bool) → eqb (h .kind) 11 ≡ b → h .kind ≡ 11
-        go true e = eqb-true (h .kind) 11 e
-        go false e = absurd (subst T (barred-other (λ z. subst T (sym (eq-eqb (h .kind) 11 z) ∙ e) tt) ∙ p) tt)
+  -- so what is left is repair
+  pub is-repair : (h .kind ≡ 1 → ⊥) → (h .kind ≡ 3 → ⊥) → (h .kind ≡ 5 → ⊥) → (h .kind ≡ 7 → ⊥) → (h .kind ≡ 9 → ⊥)
+      → barred (h .client) (packetAt h packet .body) ≡ false → h .kind ≡ 11
+  is-repair not1 not3 not5 not7 not9 p = go (eqb (h .kind) 11) refl
+    where
+      go : (b : Bool) → eqb (h .kind) 11 ≡ b → h .kind ≡ 11
+      go true e = eqb-true (h .kind) 11 e
+      go false e =
+          let other = barred-other not1 (⊎-elim not3 not5) (⊎-elim not7 (⊎-elim not9 (eqb-false (h .kind) 11 e))) in
+          absurd (subst T (other ∙ p) tt)
 
 -- ---- refusals 8, 9 and 15
 

@@ -35,25 +35,12 @@ fn barred(head: protocol::Head, packet: &[u8]) -> bool
 {
     let kind = head.kind;
     let client = head.client;
-    if kind == protocol::kinds::COLLECT {
-        return false;
+    match kind {
+        protocol::kinds::COLLECT | protocol::kinds::FILTER | protocol::kinds::REPAIR => false,
+        protocol::kinds::CLOCK => cluster::TOP_WRITER < (client as usize),
+        protocol::kinds::STORE | protocol::kinds::COMPLETE => foreign(client, packet),
+        _ => true,
     }
-    if kind == protocol::kinds::FILTER {
-        return false;
-    }
-    if kind == protocol::kinds::REPAIR {
-        return false;
-    }
-    if kind == protocol::kinds::CLOCK {
-        return cluster::TOP_WRITER < (client as usize);
-    }
-    if kind == protocol::kinds::STORE {
-        return foreign(client, packet);
-    }
-    if kind == protocol::kinds::COMPLETE {
-        return foreign(client, packet);
-    }
-    true
 }
 
 // Refusals 8, 9 and 15 of a packet that was let through; 0 where none applies.
@@ -88,22 +75,14 @@ fn answer(
     ensures { λ r. ⌜ AnswersAny (now (memory .entry)) key (now (packet .entry)) (now (out .entry)) head opened (record { result = r; memory = now (memory .exit); output = now (out .exit) }) ⌝ }
 {
     let kind = head.kind;
-    if kind == protocol::kinds::CLOCK {
-        return crate::answers::clock(memory, head, out);
+    match kind {
+        protocol::kinds::CLOCK => crate::answers::clock(memory, head, out),
+        protocol::kinds::STORE => crate::store::store(memory, head, packet, opened, out),
+        protocol::kinds::COMPLETE => crate::answers::complete(memory, head, packet, out),
+        protocol::kinds::COLLECT => crate::answers::collect(memory, head, out),
+        protocol::kinds::FILTER => crate::filter::filter(memory, key, head, packet, opened, out),
+        _ => crate::repair::repair(memory, key, head, packet, opened, out),
     }
-    if kind == protocol::kinds::STORE {
-        return crate::store::store(memory, head, packet, opened, out);
-    }
-    if kind == protocol::kinds::COMPLETE {
-        return crate::answers::complete(memory, head, packet, out);
-    }
-    if kind == protocol::kinds::COLLECT {
-        return crate::answers::collect(memory, head, out);
-    }
-    if kind == protocol::kinds::FILTER {
-        return crate::filter::filter(memory, key, head, packet, opened, out);
-    }
-    crate::repair::repair(memory, key, head, packet, opened, out)
 }
 
 // A packet to this server, in its memory, with its key: 1, 2, 7, 8, 9, 15, or the reply.

@@ -1,6 +1,7 @@
 -- From a body's fields to the body of its kind, and from head and body to the packet.
 -- Assumes nothing.
 use mathlib.Core.Path.{_≡_, refl, sym, ap, subst}
+use mathlib.Core.Logic.{_⊎_, inl, inr}
 use mathlib.Core.Bool.{Bool, true, false, cond, not}
 use mathlib.Core.List.{List, [], _∷_}
 use mathlib.Core.Option.{Option, none, some}
@@ -66,11 +67,10 @@ module _ (c : Config) (s : List ℕ) (at : ℕ) where
       subst (λ (i : ℕ). Leaves (bodyF c i) s at (bodyAt c i (drop at s)) at) (sym ej)
       (subst (λ (b : Body). Leaves (bodyF c k) s at b at) e (body-leaves d (nothing h)))
 
-  pub bare-as : at ≤ length s → (j : ℕ) → 1 ≤ j → j ≤ 12 → (j ≡ 2 → ⊥) → (j ≡ 3 → ⊥) → (j ≡ 4 → ⊥) → (j ≡ 5 → ⊥) → (j ≡ 8 → ⊥) → (j ≡ 9 → ⊥) →
-      (j ≡ 10 → ⊥)
-      → (j ≡ 11 → ⊥) → Leaves (bodyF c j) s at (bodyAt c j (drop at s)) at
+  pub bare-as : at ≤ length s → (j : ℕ) → 1 ≤ j → j ≤ 12 → (j ≡ 2 → ⊥) → (j ≡ 3 → ⊥) → (j ≡ 4 → ⊥) → (j ≡ 8 → ⊥) → ((j ≡ 5) ⊎ (j ≡ 11) → ⊥)
+      → (j ≡ 9 → ⊥) → (j ≡ 10 → ⊥) → Leaves (bodyF c j) s at (bodyAt c j (drop at s)) at
   unfolding bodyAt
-  bare-as h j l u n2 n3 n4 n5 n8 n9 n10 n11 = go (eqb j 1) (eqb j 6) (eqb j 7) refl refl refl
+  bare-as h j l u n2 n3 n4 n8 n5-11 n9 n10 = go (eqb j 1) (eqb j 6) (eqb j 7) refl refl refl
     where
       go : (x y z : Bool) → eqb j 1 ≡ x → eqb j 6 ≡ y → eqb j 7 ≡ z → Leaves (bodyF c j) s at (bodyAt c j (drop at s)) at
       go true y z ex ey ez = bare 1 (clock-kind c) refl h j (eqb-true j 1 ex)
@@ -78,7 +78,8 @@ module _ (c : Config) (s : List ℕ) (at : ℕ) where
       go false false true ex ey ez = bare 7 (collect-kind c) refl h j (eqb-true j 7 ez)
       go false false false ex ey ez = bare 12 (repair-reply-kind c) refl h j (twelve j u
           (over 11 j (over 10 j (over 9 j (over 8 j (over 7 j (over 6 j (over 5 j (over 4 j
-          (over 3 j (over 2 j (over 1 j l (eqb-false j 1 ex)) n2) n3) n4) n5) (eqb-false j 6 ey)) (eqb-false j 7 ez)) n8) n9) n10) n11))
+          (over 3 j (over 2 j (over 1 j l (eqb-false j 1 ex)) n2) n3) n4) (λ e. n5-11 (inl e))) (eqb-false j 6 ey)) (eqb-false j 7 ez)) n8) n9) n10)
+          (λ e. n5-11 (inr e))))
 
 -- ---- packets
 

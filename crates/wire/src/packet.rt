@@ -74,31 +74,16 @@ fn body_field(s: &[u8], c: Cursor, kind: u8, t: u8) -> Field
     requires { ⌜ (1 ≤ kind) × (kind ≤ 12) × (c .at ≤ length (now s)) ⌝ }
     ensures { λ r. ⌜ BodyAs (shelf t) kind (now (s .entry)) (c .at) r ⌝ }
 {
-    if kind == protocol::kinds::CLOCK_REPLY {
-        return any_stamp_field(s, c); // clock reply: a stamp, or the blank
+    match kind {
+        protocol::kinds::CLOCK_REPLY => any_stamp_field(s, c), // clock reply: a stamp, or the blank
+        protocol::kinds::STORE => write_field(s, c, t), // store: a stored write
+        protocol::kinds::STORE_REPLY => code_field(s, c), // store reply: 0, 10 or 11
+        protocol::kinds::COLLECT_REPLY => any_candidate_field(s, c, t), // collect reply: a candidate, or the blank
+        protocol::kinds::COMPLETE | protocol::kinds::REPAIR => candidate_field(s, c, t), // complete, repair: a candidate
+        protocol::kinds::FILTER => candidates_field(s, c, t), // filter: a list of candidates
+        protocol::kinds::FILTER_REPLY => held_field(s, c, t), // filter reply: what is held for a stamp, or the blank
+        _ => Field::Value(0, c),
     }
-    if kind == protocol::kinds::STORE {
-        return write_field(s, c, t); // store: a stored write
-    }
-    if kind == protocol::kinds::STORE_REPLY {
-        return code_field(s, c); // store reply: 0, 10 or 11
-    }
-    if kind == protocol::kinds::COLLECT_REPLY {
-        return any_candidate_field(s, c, t); // collect reply: a candidate, or the blank
-    }
-    if kind == protocol::kinds::COMPLETE {
-        return candidate_field(s, c, t); // complete: a candidate
-    }
-    if kind == protocol::kinds::FILTER {
-        return candidates_field(s, c, t); // filter: a list of candidates
-    }
-    if kind == protocol::kinds::FILTER_REPLY {
-        return held_field(s, c, t); // filter reply: what is held for a stamp, or the blank
-    }
-    if kind == protocol::kinds::REPAIR {
-        return candidate_field(s, c, t); // repair: a candidate
-    }
-    Field::Value(0, c)
 }
 
 // A whole packet of any kind.
@@ -136,17 +121,15 @@ pub fn fragment(packet: &[u8]) -> &[u8]
     };
     let kind = head.kind;
     let t = head.t;
-    if kind == protocol::kinds::STORE {
-        return share_fragment(rest(packet, crate::sizes::HEAD + crate::sizes::STAMP), t);
+    let at = crate::sizes::HEAD + crate::sizes::STAMP;
+    match kind {
+        protocol::kinds::STORE => share_fragment(rest(packet, at), t),
+        protocol::kinds::FILTER_REPLY => {
+            if byte_at(packet, at) == 0 {
+                return &packet[..0];
+            }
+            share_fragment(rest(packet, at + 1), t)
+        }
+        _ => &packet[..0],
     }
-    if kind != protocol::kinds::FILTER_REPLY {
-        return &packet[..0];
-    }
-    if byte_at(packet, crate::sizes::HEAD + crate::sizes::STAMP) == 0 {
-        return &packet[..0];
-    }
-    share_fragment(
-        rest(packet, crate::sizes::HEAD + crate::sizes::STAMP + 1),
-        t,
-    )
 }
