@@ -5,7 +5,8 @@ use mathlib.Core.Path.{_≡_, sym, ap, ap₂, _∙_}
 use mathlib.Core.Bool.{Bool, cond}
 use mathlib.Core.List.{List, _++_}
 use Prim.Native.Nat.{ℕ, _+_, _*_, _/_, _%_, _<_, _≤_}
-use native.Mathlib.Nat.{lt-of-lt-of-le, div-lt-iff-lt-mul, div-add-mod', mul-add-div-right, mul-add-mod-self-right, add-zero, mod-eq-of-lt, div-eq-of-lt}
+use native.Mathlib.Nat.{lt-of-lt-of-le, lt-of-mul-lt-mul-left, add-zero}
+use native.Mathlib.Nat.{div-lt-iff-lt-mul, div-add-mod', mul-add-div-right, mul-add-mod-self-right, mod-eq-of-lt, div-eq-of-lt}
 use native.Mathlib.Decide.{decLt}
 use native.Mathlib.Omega.{arith}
 use borrow.Author.Tests.{lt-ltb, le-ltb}
@@ -22,18 +23,22 @@ use Rattle.erasure.proofs.Sums.{sumTo-ext}
 
 -- ---- which run a byte stands in, and where
 
-run-div : (f d i : ℕ) → 0 < f → d % f ≡ 0 → i < f → (d + i) / f ≡ d / f
-run-div f d i hf e hi =
+run-div : (f d i : ℕ) → d % f ≡ 0 → i < f → (d + i) / f ≡ d / f
+run-div f d i e hi =
     let q : d / f * f ≡ d = sym (add-zero (d / f * f)) ∙ ap (λ (x : ℕ). d / f * f + x) (sym e) ∙ div-add-mod' d f in
-    ap (λ (x : ℕ). (x + i) / f) (sym q) ∙ mul-add-div-right hf (d / f) i ∙ ap (λ (x : ℕ). d / f + x) (div-eq-of-lt hi) ∙ add-zero (d / f)
+    ap (λ (x : ℕ). (x + i) / f) (sym q) ∙ mul-add-div-right (omega arith) (d / f) i ∙ ap (λ (x : ℕ). d / f + x) (div-eq-of-lt hi) ∙ add-zero (d / f)
 
 run-mod : (f d i : ℕ) → d % f ≡ 0 → i < f → (d + i) % f ≡ i
 run-mod f d i e hi =
     let q : d / f * f ≡ d = sym (add-zero (d / f * f)) ∙ ap (λ (x : ℕ). d / f * f + x) (sym e) ∙ div-add-mod' d f in
     ap (λ (x : ℕ). (x + i) % f) (sym q) ∙ mul-add-mod-self-right (d / f) f i ∙ mod-eq-of-lt hi
 
-pub run-point : (k f n d : ℕ) → 0 < f → n ≤ k * f → d < n → d / f < k
-run-point k f n d hf hn hd = div-lt-iff-lt-mul hf .1 (lt-of-lt-of-le hd hn)
+-- a run has a byte where the content has one
+pub run-pos : (k f n d : ℕ) → n ≤ k * f → d < n → 0 < f
+run-pos k f n d hn hd = lt-of-mul-lt-mul-left k (omega arith)
+
+pub run-point : (k f n d : ℕ) → n ≤ k * f → d < n → d / f < k
+run-point k f n d hn hd = div-lt-iff-lt-mul (run-pos k f n d hn hd) .1 (lt-of-lt-of-le hd hn)
 
 -- ---- one byte of a run
 
@@ -91,31 +96,31 @@ abbrev pub byteOf : (k f : ℕ) (a : List (List ℕ)) (places starts fragments :
 byteOf k f a places starts fragments m = runAt k a places starts fragments (m / f) (m % f)
 
 -- one run more
-pub run-more : (k f d m : ℕ) (a : List (List ℕ)) (places starts fragments old mid new : List ℕ) → 0 < f → d % f ≡ 0 → m ≤ f
+pub run-more : (k f d m : ℕ) (a : List (List ℕ)) (places starts fragments old mid new : List ℕ) → d % f ≡ 0 → m ≤ f
     → RunWritten old mid 0 d (byteOf k f a places starts fragments) → RunWritten mid new d m (runAt k a places starts fragments (d / f))
     → RunWritten old new 0 (d + m) (byteOf k f a places starts fragments)
-run-more k f d m a places starts fragments old mid new hf e hm before piece =
+run-more k f d m a places starts fragments old mid new e hm before piece =
     written-next old mid new d m (byteOf k f a places starts fragments) before
     (written-as mid new d m (runAt k a places starts fragments (d / f)) (λ i. byteOf k f a places starts fragments (d + i))
     (λ i h.
     let hi : i < f = omega arith in
-    ap₂ (runAt k a places starts fragments) (sym (run-div f d i hf e hi)) (sym (run-mod f d i e hi)))
+    ap₂ (runAt k a places starts fragments) (sym (run-div f d i e hi)) (sym (run-mod f d i e hi)))
     piece)
 
 -- after the last
-pub rebuilt : (k f n : ℕ) (a : List (List ℕ)) (places starts fragments at servers old new : List ℕ) → k ≤ width → 0 < f → n ≤ k * f → n ≤ length old →
+pub rebuilt : (k f n : ℕ) (a : List (List ℕ)) (places starts fragments at servers old new : List ℕ) → k ≤ width → n ≤ k * f → n ≤ length old →
     k ≤ length servers
     → AllDifferent k servers → ((j : ℕ) → j < k → getD servers j 0 < 256) → ((j : ℕ) → getD fragments j 0 < 256)
     → ((j : ℕ) → j < k → getD starts j 0 ≡ getD at j 0 * f) → ((i : ℕ) → i < k → getD places i 0 < k → getD servers (getD places i 0) 0 ≡ i + 1)
     → ((i : ℕ) → i < k → k ≤ getD places i 0 → Solves k servers a) → RunWritten old new 0 n (byteOf k f a places starts fragments)
     → new ≡ rebuiltOf k f n servers at fragments ++ drop n old
 unfolding rebuiltOf
-rebuilt k f n a places starts fragments at servers old new kw hf hn ho kl d points small es given solved wr =
+rebuilt k f n a places starts fragments at servers old new kw hn ho kl d points small es given solved wr =
     written-first old new n _ ho
     (written-as old new 0 n (byteOf k f a places starts fragments)
     (λ m. through bytes (take k servers) (table k (λ j. getD fragments (getD at j 0 * f + m % f) 0)) (m / f + 1))
     (λ m h.
-    let hi : m / f < k = run-point k f n m hf hn h in
+    let hi : m / f < k = run-point k f n m hn h in
     run-value k a places starts fragments (m / f) (m % f) f at servers kw kl hi d points small es (given (m / f) hi) (solved (m / f) hi)
     (decLt (getD places (m / f) 0) k))
     wr)

@@ -5,7 +5,7 @@ use mathlib.Core.Logic.{_≢_}
 use mathlib.Core.Bool.{Bool, true, false, not, cond, _&&_}
 use mathlib.Core.List.{List, [], _∷_, _++_}
 use Prim.Native.Nat.{ℕ, zero, suc, _+_, _*_, _/_, _%_, _<_, _≤_, suc-le-suc}
-use native.Mathlib.Nat.{zero-lt-suc, le-of-suc-le-suc, not-suc-le-zero, suc-ne-zero, mul-mod-left, mul-div-cancel, div-add-mod', add-zero}
+use native.Mathlib.Nat.{zero-lt-suc, le-of-suc-le-suc, not-suc-le-zero, suc-ne-zero, mul-mod-left, mul-div-cancel, mul-zero, div-add-mod', add-zero}
 use native.Mathlib.Decide.{ℕ-discrete}
 use lib.Dec.{eqb, ltb}
 use lib.ListN.{length, getD}
@@ -39,6 +39,10 @@ unfolding each
 each-at f [] e i h = absurd (not-suc-le-zero h)
 each-at f (x ∷ xs) e zero h = and-both (f x) (each f xs) e .0
 each-at f (x ∷ xs) e (suc i) h = each-at f xs (and-both (f x) (each f xs) e .1) i (le-of-suc-le-suc h)
+
+-- fragments of no bytes, however many, have none together
+pub none-counted : (given f k : ℕ) → f ≡ 0 → not (eqb given 0) ≡ not (eqb given (k * f))
+none-counted given f k e = ap (λ (x : ℕ). not (eqb given x)) (sym (mul-zero k) ∙ ap (λ (x : ℕ). k * x) (sym e))
 
 -- a length is a whole number of fragments, as many as servers
 pub counted : (given f k : ℕ) → given % f ≡ 0 → given / f ≡ k → eqb given (k * f) ≡ true

@@ -1,7 +1,7 @@
 // Fragments of a content, and the content from fragments.
 ghost use mathlib.Core.Bool.{not};
 ghost use mathlib.Core.Path.{_≡_};
-ghost use Prim.Native.Nat.{_*_, _<_, _≤_};
+ghost use Prim.Native.Nat.{_*_, _≤_};
 ghost use lib.Dec.{eqb};
 ghost use Rattle.cluster.specs.Config.{shelf};
 ghost use Rattle.cluster.specs.Ranges.{within, topFaults, topLength};
@@ -70,10 +70,13 @@ fn server_outside(servers: &[usize], most: usize) -> bool
 }
 
 // Whether given is not count times f. The product is not made: it could pass the largest number.
+// Fragments of no bytes have none together, however many they are.
 fn miscounted(given: usize, count: usize, f: usize) -> bool
-    requires { ⌜ 0 < f ⌝ }
     ensures { λ r. ⌜ r ≡ not (eqb given (count * f)) ⌝ }
 {
+    if f == 0 {
+        return given != 0;
+    }
     if given % f != 0 {
         return true;
     }

@@ -104,7 +104,7 @@ pub(crate) fn rebuild(
     n: usize,
     out: &mut [u8],
 )
-    requires { ⌜ (k ≤ width) × (0 < f) × (n ≤ k * f) × (n ≤ length (now out)) × AllDifferent k servers
+    requires { ⌜ (k ≤ width) × (n ≤ k * f) × (n ≤ length (now out)) × AllDifferent k servers
         × ((j : ℕ) → j < k → getD at j 0 * f + f ≤ length (now fragments)) ⌝ }
     ensures { λ _. ⌜ now (out .exit) ≡ rebuiltOf k f n servers at (now (fragments .entry)) ++ drop n (now (out .entry)) ⌝ }
 {

@@ -13,7 +13,7 @@ use Rattle.erasure.specs.Steps.{argumentChecks, restoredBytes}
 use Rattle.erasure.specs.System.{width}
 use Rattle.erasure.specs.Lanes.{rebuiltOf}
 use Rattle.erasure.specs.declared.choice.Chosen.{Chosen}
-use Rattle.erasure.proofs.Laws.{size-pos, runs-cover}
+use Rattle.erasure.proofs.Laws.{runs-cover}
 use Rattle.erasure.proofs.Refused.{Restores, restores}
 use Rattle.erasure.proofs.Chosen.{restore-refused, restore-accepted, refused-arguments, refused-few, refused-none, counted, differ, fit, rebuilt-is}
 use borrow.Author.Needs.{needs}
@@ -123,7 +123,6 @@ rebuild-requires c κs =
     let f : size .result ≡ fragmentSize (shelf (t p) .threshold) (n p) = size .ensures ∙ ap (λ (x : ℕ). fragmentSize x (n p))
     (a .before .before .before .threshold-of .ensures) in (
       k-most a,
-      subst (λ (x : ℕ). 0 < x) (sym (size .ensures)) (size-pos (k a) (n p) (ok p .bytes .0) (omega (arith, k-is a))),
       subst (λ (x : ℕ). n p ≤ k a * x) (sym (size .ensures)) (runs-cover (k a) (n p) (omega (arith, k-is a))),
       omega (arith, ok p .bytes .1, ok p .fits),
       differ (k a) (servers p) (chosen a) chosen-as (k-most a) (at-length a) (servers-length a) full,

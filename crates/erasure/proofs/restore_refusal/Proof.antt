@@ -1,6 +1,6 @@
 -- Each way out is the first test that applies. Assumes nothing.
-use mathlib.Core.Path.{_≡_, refl, sym, ap, subst, _∙_}
-use Prim.Native.Nat.{ℕ, _+_, _*_, _<_, _≤_}
+use mathlib.Core.Path.{_≡_, refl, sym, ap, _∙_}
+use Prim.Native.Nat.{ℕ, _+_, _*_, _≤_}
 use native.Mathlib.Omega.{arith}
 use lib.ListN.{length}
 use mathlib.Core.Bool.{Bool, true, false, not, cond}
@@ -13,7 +13,6 @@ use Rattle.cluster.specs.Refusals.{firstOf}
 use Rattle.cluster.proofs.Tests.{within-bounds}
 use Rattle.erasure.specs.Fragments.{fragmentSize}
 use Rattle.erasure.specs.Steps.{each, argumentChecks}
-use Rattle.erasure.proofs.Laws.{size-pos}
 use Rattle.erasure.proofs.Refused.{argument-tests}
 use borrow.Author.Needs.{needs}
 use Rattle.erasure.proofs.restore_refusal.Statement.{statement}
@@ -117,12 +116,6 @@ threshold-of-requires c κs = faults (past (c .before .before .before)) .1
 size-requires : tie.Need-size-requires
 size-requires c κs = (omega (arith, threshold-are c), omega (arith, threshold-are c, faults (past (second c)) .1), lengths (c .before .before) .1)
 
-miscounted-requires : tie.Need-miscounted-requires
-miscounted-requires c κs =
-    subst (λ (x : ℕ). 0 < x) (sym (c .size .ensures))
-    (size-pos (c .before .threshold-of .result) (n (past (second (c .before)))) (lengths (c .before .before .before) .0)
-    (omega (arith, threshold-are (c .before))))
-
 returns-5 : tie.Need-returns-5
 returns-5 c = sym (last-test (c .before) true (c .if5 .taken))
 
@@ -131,4 +124,4 @@ returns-6 c = sym (last-test (c .before) false (c .if5 .left))
 
 pub restore-refusal-spec : {M : Type 1} → statement M
 restore-refusal-spec = tie.close (tie.spec (λ c κs. search needs) returns servers-of-requires (λ c κs. search needs) returns-2 (λ c κs. search needs)
-    returns-3 returns-4 threshold-of-requires size-requires miscounted-requires returns-5 returns-6)
+    returns-3 returns-4 threshold-of-requires size-requires (λ c κs. search needs) returns-5 returns-6)

@@ -11,7 +11,7 @@ use mir.Syntax.{w8}
 use Rattle.erasure.specs.System.{width}
 use Rattle.erasure.specs.Lanes.{RunWritten}
 use Rattle.erasure.proofs.Lists.{written-none}
-use Rattle.erasure.proofs.Rebuilt.{byteOf, run-point, run-more, rebuilt}
+use Rattle.erasure.proofs.Rebuilt.{byteOf, run-pos, run-point, run-more, rebuilt}
 use Rattle.erasure.proofs.Standing.{places-stand, one-missing}
 use Rattle.erasure.proofs.runs.rebuild.Statement.{statement}
 use Rattle.erasure.proofs.runs.rebuild.Tie as tie
@@ -27,7 +27,7 @@ places-of-requires : tie.Need-places-of-requires Inv-loop μ-loop
 places-of-requires c κs = c .before .before .pre .0
 
 system-of-requires : tie.Need-system-of-requires Inv-loop μ-loop
-system-of-requires c κs = (c .before .before .before .pre .0, c .before .before .before .pre .4)
+system-of-requires c κs = (c .before .before .before .pre .0, c .before .before .before .pre .3)
 
 -- Places far back, each named once: the place, and from where it is seen.
 abbrev start-from-system-of : tie.After-system-of Inv-loop μ-loop → tie.Start Inv-loop μ-loop
@@ -36,7 +36,7 @@ start-from-system-of c = c .before .before .before .before
 starts-of-requires : tie.Need-starts-of-requires Inv-loop μ-loop
 starts-of-requires c κs =
     let at-start = start-from-system-of c in
-    (at-start .pre .0, λ j h. omega (arith, at-start .pre .5 j h))
+    (at-start .pre .0, λ j h. omega (arith, at-start .pre .4 j h))
 
 loop-holds : tie.Need-loop-holds Inv-loop μ-loop
 loop-holds c = (search needs, λ h. zero-mod _, written-none _ _ _)
@@ -44,8 +44,12 @@ loop-holds c = (search needs, λ h. zero-mod _, written-none _ _ _)
 abbrev system-of-from-at-most : tie.After-at-most Inv-loop μ-loop → tie.After-system-of Inv-loop μ-loop
 system-of-from-at-most c = c .before .before .before .before
 
-div-run : tie.Need-div-run Inv-loop μ-loop
-div-run c = start-from-system-of (system-of-from-at-most c) .pre .1
+-- past the loop's test there is a byte to write, so a run has one
+run-has : (c : tie.After-at-most Inv-loop μ-loop) → 0 < start-from-system-of (system-of-from-at-most c) .args .f
+run-has c =
+    let start = start-from-system-of (system-of-from-at-most c) in
+    let args = start .args in
+    run-pos (args .k) (args .f) (args .n) (c .before .before .loop .done) (start .pre .1) (omega arith)
 
 run-requires : tie.Need-run-requires Inv-loop μ-loop
 run-requires c κs =
@@ -55,9 +59,9 @@ run-requires c κs =
     let l = c .before .before .before .loop in
     let m = c .before .at-most in (
       start .pre .0,
-      run-point (args .k) (args .f) (args .n) (l .done) (start .pre .1) (start .pre .2) (omega arith),
-      λ j h. omega (arith, at-most .before .before .before .starts-of .ensures j h, start .pre .5 j h, m .ensures .1),
-      omega (arith, m .ensures .0, l .inv .2 .long, start .pre .3),
+      run-point (args .k) (args .f) (args .n) (l .done) (start .pre .1) (omega arith),
+      λ j h. omega (arith, at-most .before .before .before .starts-of .ensures j h, start .pre .4 j h, m .ensures .1),
+      omega (arith, m .ensures .0, l .inv .2 .long, start .pre .2),
     )
 
 abbrev at-most-from-slice-known2 : tie.After-slice-known2 Inv-loop μ-loop → tie.After-at-most Inv-loop μ-loop
@@ -71,9 +75,8 @@ add-done c =
 loop-less : tie.Need-loop-less Inv-loop μ-loop
 loop-less c =
     let at-most = at-most-from-slice-known2 c in
-    let start = start-from-system-of (system-of-from-at-most at-most) in
     let m = at-most .at-most in
-    let h : 0 < m .result = m .ensures .2 (omega arith) (start .pre .1) in
+    let h : 0 < m .result = m .ensures .2 (omega arith) (run-has at-most) in
     omega (arith, m .ensures .0, h)
 
 loop-again : tie.Need-loop-again Inv-loop μ-loop
@@ -92,7 +95,7 @@ loop-again c =
       λ h. (let q : m .result ≡ args .f = m .ensures .3 (omega arith) in ap (λ (x : ℕ). (l .done + x) % args .f) q ∙ add-mod-right (l .done) (args .f)
           ∙ e),
       run-more (args .k) (args .f) (l .done) (m .result) (a .result) (places .result) (starts .result) (denote.Ref.now (args .fragments))
-          (denote.Ref.now (args .out)) (l .out) _ (start .pre .1) e
+          (denote.Ref.now (args .out)) (l .out) _ e
           (m .ensures .1) (l .inv .2) (c .before .before .run .ensures),
     )
 
@@ -119,7 +122,7 @@ returns c =
     let placed = length-take-le (args .k) (places .result) (omega (arith, wide, start .pre .0)) in
     rebuilt (args .k) (args .f) (args .n) (a .result) (places .result) (starts .result) fragments (args .at) (args .servers) old (l .out)
     (start .pre .0) (start .pre .1) (start .pre .2)
-    (start .pre .3) (omega (arith, long, start .pre .0)) (start .pre .4) points small (starts .ensures)
+    (omega (arith, long, start .pre .0)) (start .pre .3) points small (starts .ensures)
     (places-stand (args .k) (args .servers) (places .result) chosen (places .ensures))
     (λ i h past. a .ensures .solved (one-missing (args .k) (places .result) placed i h past))
     (subst (λ (n : ℕ). RunWritten old (l .out) 0 n (byteOf (args .k) (args .f) (a .result) (places .result) (starts .result) fragments)) (omega arith)
@@ -127,4 +130,4 @@ returns c =
 
 pub rebuild-spec : {M : Type 1} → statement M
 rebuild-spec = tie.close (tie.spec Inv-loop μ-loop places-of-requires system-of-requires starts-of-requires loop-holds (λ c. search needs)
-    (λ c κs. search needs) div-run run-requires add-done loop-less loop-again same-length returns)
+    (λ c κs. search needs) run-has run-requires add-done loop-less loop-again same-length returns)
