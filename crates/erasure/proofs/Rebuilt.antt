@@ -5,7 +5,8 @@ use mathlib.Core.Path.{_≡_, sym, ap, ap₂, _∙_}
 use mathlib.Core.Bool.{Bool, cond}
 use mathlib.Core.List.{List, _++_}
 use Prim.Native.Nat.{ℕ, _+_, _*_, _/_, _%_, _<_, _≤_}
-use native.Mathlib.Nat.{lt-of-lt-of-le, lt-of-mul-lt-mul-left, div-lt-iff-lt-mul, div-add-mod', mul-add-div-right, mul-add-mod-self-right, add-zero, mod-eq-of-lt, div-eq-of-lt}
+use native.Mathlib.Nat.{lt-of-lt-of-le, lt-of-mul-lt-mul-left, add-zero}
+use native.Mathlib.Nat.{div-lt-iff-lt-mul, div-add-mod', mul-add-div-right, mul-add-mod-self-right, mod-eq-of-lt, div-eq-of-lt}
 use native.Mathlib.Decide.{decLt}
 use native.Mathlib.Omega.{arith}
 use borrow.Author.Tests.{lt-ltb, le-ltb}
