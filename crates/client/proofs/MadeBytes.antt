@@ -1,6 +1,7 @@
 -- The bytes of the round's packet: the head, and the kept bytes that its body is made of.
 -- The encoding of what the view of the kept bytes requests, with the round put in. Assumes nothing.
 use mathlib.Core.Path.{_≡_, refl, sym, ap}
+use mathlib.Core.Logic.{_⊎_, ⊎-elim}
 use mathlib.Core.List.{List, [], _++_, append-nil}
 use Prim.Native.Nat.{ℕ, zero, suc, _-_, _*_, _≤_}
 use native.Mathlib.Omega.{arith}
@@ -37,23 +38,26 @@ module _ (t client b : ℕ) (c : Call) (kept : List ℕ) where
   unfolding encode packetF via seq bodyF made handOf
   collect-bytes = refl
 
-  pub complete-bytes : bytes 3 ≡ headF .print (head 5) ++ (chosen ++ [])
+  complete-bytes : bytes 3 ≡ headF .print (head 5) ++ (chosen ++ [])
   unfolding encode packetF via seq bodyF made handOf
   complete-bytes = ap (λ (x : List ℕ). headF .print (head 5) ++ x) (sym (append-nil chosen))
 
-  pub repair-bytes : bytes 6 ≡ headF .print (head 11) ++ (chosen ++ [])
+  repair-bytes : bytes 6 ≡ headF .print (head 11) ++ (chosen ++ [])
   unfolding encode packetF via seq bodyF made handOf
   repair-bytes = ap (λ (x : List ℕ). headF .print (head 11) ++ x) (sym (append-nil chosen))
+
+  pub chosen-bytes : (r : ℕ) → (r ≡ 3) ⊎ (r ≡ 6) → bytes r ≡ headF .print (head (2 * r - 1)) ++ (chosen ++ [])
+  chosen-bytes r = ⊎-elim (λ e. rw e complete-bytes) (λ e. rw e repair-bytes)
 
   pub filter-bytes : bytes 5 ≡ headF .print (head 9) ++ candidatesF (shelf t) .print (gather (candidatesIn (shelf t) kept) (shelf t .servers))
   unfolding encode packetF via seq bodyF made handOf
   filter-bytes = refl
 
-  pub store-bytes : 1 ≤ b → b ≤ shelf t .servers
-      → bytes 2 ≡ headF .print (head 3) ++ (stampF .print (chosenOf (shelf t) kept .stamp) ++ shareF (shelf t) .print
+  pub store-bytes : (r : ℕ) → r ≡ 2 → 1 ≤ b → b ≤ shelf t .servers
+      → bytes r ≡ headF .print (head (2 * r - 1)) ++ (stampF .print (chosenOf (shelf t) kept .stamp) ++ shareF (shelf t) .print
       (shareAt (shelf t) (replySlotOf kept (b - 1))))
   unfolding encode packetF writeF via seq bodyF made handOf sharesIn
-  store-bytes lo hi = rw (le-leb 1 b lo, le-leb b (shelf t .servers) hi)
+  store-bytes r e lo hi = rw (e, le-leb 1 b lo, le-leb b (shelf t .servers) hi)
 
   pub empty-bytes : (r : ℕ) → 1 ≤ r → r ≤ 6 → (r ≡ 2 → ⊥) → (r ≡ 3 → ⊥) → (r ≡ 5 → ⊥) → (r ≡ 6 → ⊥) → bytes r ≡ headF .print (head (2 * r - 1)) ++
       ([] ++ [])

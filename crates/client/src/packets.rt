@@ -107,16 +107,11 @@ fn make_plain(
     let tally = call.tally;
     let round = tally.round;
     let head = head_of(call, 2 * round - 1, t, client, server);
-    if round == protocol::rounds::STORE {
-        return make_store(head, kept, t, server, out);
+    match round {
+        protocol::rounds::STORE => make_store(head, kept, t, server, out),
+        protocol::rounds::COMPLETE | protocol::rounds::REPAIR => make_chosen(head, kept, t, out),
+        _ => make_empty(head, out),
     }
-    if round == protocol::rounds::COMPLETE {
-        return make_chosen(head, kept, t, out);
-    }
-    if round == protocol::rounds::REPAIR {
-        return make_chosen(head, kept, t, out);
-    }
-    make_empty(head, out)
 }
 
 // The list as collect left it.

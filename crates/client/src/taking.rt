@@ -68,19 +68,17 @@ fn take_read_round(
     let tally = call.tally;
     let round = tally.round;
     let server = head.server as usize;
-    if round == protocol::rounds::COLLECT {
-        return reads::take_collect(
+    match round {
+        protocol::rounds::COLLECT => reads::take_collect(
             call,
             kept,
             t,
             server,
             wire::bytes::rest(reply, wire::sizes::HEAD),
-        );
+        ),
+        protocol::rounds::FILTER => filter::take_filter(call, kept, t, client, head, reply, out),
+        _ => reads::take_repair(call, kept, t, server, out),
     }
-    if round == protocol::rounds::FILTER {
-        return filter::take_filter(call, kept, t, client, head, reply, out);
-    }
-    reads::take_repair(call, kept, t, server, out)
 }
 
 // A reply that the pending round awaits. Clock tests the output's room itself, after the stamp's number.

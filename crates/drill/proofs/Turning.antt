@@ -116,9 +116,9 @@ module _ (t k : ℕ) (l : Line) (w v : List ℕ) {x : Shown} where
       → StepsIn t (λ m. stepOf (drillShelf t) m k l) w v x k'
   unfolding stepOf
   step-write e d = record {
-    stands = λ m st. rw (eq-eqb (l .verb) 1 e) (d .stands m st);
-    shows = λ m st. rw (eq-eqb (l .verb) 1 e) (d .shows m st);
-    counts = λ m st. rw (eq-eqb (l .verb) 1 e) (d .counts m st);
+    stands = λ m st. rw e (d .stands m st);
+    shows = λ m st. rw e (d .shows m st);
+    counts = λ m st. rw e (d .counts m st);
   }
 
   as-done : (f : Machines → Done) → ((m : Machines) → stepOf (drillShelf t) m k l ≡ after (drillShelf t) m k (f m)) → DoneIn t f w v x → StepsIn t
@@ -126,23 +126,22 @@ module _ (t k : ℕ) (l : Line) (w v : List ℕ) {x : Shown} where
   as-done f e d =
       record { stands = λ m st. rw (e m) (d .stands m st); shows = λ m st. rw (e m) (d .shows m st); counts = λ m st. rw (e m) }
 
-  pub step-read : (l .verb ≡ 1 → ⊥) → l .verb ≡ 2 → DoneIn t (λ m. doBytes real (drillShelf t) m (read (l .client))) w v x → StepsIn t
+  pub step-read : l .verb ≡ 2 → DoneIn t (λ m. doBytes real (drillShelf t) m (read (l .client))) w v x → StepsIn t
       (λ m. stepOf (drillShelf t) m k l) w v x k
   unfolding stepOf
-  step-read n e d = as-done _ (λ m. rw (ne-eqb (l .verb) 1 n, eq-eqb (l .verb) 2 e)) d
+  step-read e d = as-done _ (λ m. rw e) d
 
-  module _ (n1 : l .verb ≡ 1 → ⊥) (n2 : l .verb ≡ 2 → ⊥) where
-    pub step-visit : l .verb ≡ 3 → DoneIn t (λ m. visitLine (drillShelf t) m (l .client) (l .server)) w v x → StepsIn t
-        (λ m. stepOf (drillShelf t) m k l) w v x k
-    unfolding stepOf
-    step-visit e d = as-done _ (λ m. rw (ne-eqb (l .verb) 1 n1, ne-eqb (l .verb) 2 n2, eq-eqb (l .verb) 3 e)) d
+  pub step-visit : l .verb ≡ 3 → DoneIn t (λ m. visitLine (drillShelf t) m (l .client) (l .server)) w v x → StepsIn t
+      (λ m. stepOf (drillShelf t) m k l) w v x k
+  unfolding stepOf
+  step-visit e d = as-done _ (λ m. rw e) d
 
-    pub step-blank : (l .verb ≡ 3 → ⊥) → l .verb ≡ 4 → DoneIn t (λ m. blankLine (drillShelf t) m (l .server)) w v x → StepsIn t
-        (λ m. stepOf (drillShelf t) m k l) w v x k
-    unfolding stepOf
-    step-blank n3 e d = as-done _ (λ m. rw (ne-eqb (l .verb) 1 n1, ne-eqb (l .verb) 2 n2, ne-eqb (l .verb) 3 n3, eq-eqb (l .verb) 4 e)) d
+  pub step-blank : l .verb ≡ 4 → DoneIn t (λ m. blankLine (drillShelf t) m (l .server)) w v x → StepsIn t
+      (λ m. stepOf (drillShelf t) m k l) w v x k
+  unfolding stepOf
+  step-blank e d = as-done _ (λ m. rw e) d
 
-    pub step-stop : (l .verb ≡ 3 → ⊥) → (l .verb ≡ 4 → ⊥) → DoneIn t (λ m. doBytes real (drillShelf t) m (give-up (l .client))) w v x
-        → StepsIn t (λ m. stepOf (drillShelf t) m k l) w v x k
-    unfolding stepOf
-    step-stop n3 n4 d = as-done _ (λ m. rw (ne-eqb (l .verb) 1 n1, ne-eqb (l .verb) 2 n2, ne-eqb (l .verb) 3 n3, ne-eqb (l .verb) 4 n4)) d
+  pub step-stop : (l .verb ≡ 1 → ⊥) → (l .verb ≡ 2 → ⊥) → (l .verb ≡ 3 → ⊥) → (l .verb ≡ 4 → ⊥)
+      → DoneIn t (λ m. doBytes real (drillShelf t) m (give-up (l .client))) w v x → StepsIn t (λ m. stepOf (drillShelf t) m k l) w v x k
+  unfolding stepOf
+  step-stop n1 n2 n3 n4 d = as-done _ (λ m. rw (ne-eqb (l .verb) 1 n1, ne-eqb (l .verb) 2 n2, ne-eqb (l .verb) 3 n3, ne-eqb (l .verb) 4 n4)) d

@@ -84,22 +84,13 @@ fn is_step(l: Line) -> bool
     ensures { λ r. ⌜ r ≡ isStep l ⌝ }
 {
     let verb = l.verb;
-    if verb == crate::verbs::WRITE {
-        return is_write(l);
+    match verb {
+        crate::verbs::WRITE => is_write(l),
+        crate::verbs::READ | crate::verbs::STOP => is_alone(l),
+        crate::verbs::VISIT => no_content(l),
+        crate::verbs::UNLATEST => is_blanking(l),
+        _ => false,
     }
-    if verb == crate::verbs::READ {
-        return is_alone(l);
-    }
-    if verb == crate::verbs::STOP {
-        return is_alone(l);
-    }
-    if verb == crate::verbs::VISIT {
-        return no_content(l);
-    }
-    if verb == crate::verbs::UNLATEST {
-        return is_blanking(l);
-    }
-    false
 }
 
 // The numbers of the line from a place to another, if 0Ah ended it.

@@ -91,22 +91,15 @@ pub(crate) fn step(work: &mut [u8], t: usize, begun: u32, l: Line) -> Moved
     let verb = l.verb;
     let client = l.client as usize;
     let server = l.server as usize;
-    if verb == crate::verbs::WRITE {
-        return write(work, t, begun, client, l.length as usize, l.fill as u8);
-    }
-    if verb == crate::verbs::READ {
-        let s = read(work, t, client);
-        return Moved { shown: s, begun };
-    }
-    if verb == crate::verbs::VISIT {
-        let s = crate::visits::visit_line(work, t, client, server);
-        return Moved { shown: s, begun };
-    }
-    if verb == crate::verbs::UNLATEST {
-        let s = crate::servers::blank_line(work, t, server);
-        return Moved { shown: s, begun };
-    }
-    let s = stop(work, t, client);
+    let s = match verb {
+        crate::verbs::WRITE => {
+            return write(work, t, begun, client, l.length as usize, l.fill as u8);
+        }
+        crate::verbs::READ => read(work, t, client),
+        crate::verbs::VISIT => crate::visits::visit_line(work, t, client, server),
+        crate::verbs::UNLATEST => crate::servers::blank_line(work, t, server),
+        _ => stop(work, t, client),
+    };
     Moved { shown: s, begun }
 }
 

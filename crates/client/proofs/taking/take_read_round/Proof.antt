@@ -13,43 +13,40 @@ use Rattle.client.proofs.taking.take_read_round.Statement.{statement}
 use Rattle.client.proofs.taking.take_read_round.Tie as tie
 
 -- Places far back, each named once: the place, and from where it is seen.
-abbrev shared-slice-known-from-then1 : tie.Then1 → tie.After-shared-slice-known
-shared-slice-known-from-then1 c = c .before .before .before .before
+abbrev shared-slice-known-from-struct-known : tie.After-struct-known → tie.After-shared-slice-known
+shared-slice-known-from-struct-known c = c .before .before .before
 
 take-collect-requires : tie.Need-take-collect-requires
 take-collect-requires c κs =
-    let at-then1 = c .before .before in
-    let at-shared-slice-known = shared-slice-known-from-then1 at-then1 in
+    let at-match = c .before .before in
+    let at-shared-slice-known = shared-slice-known-from-struct-known (at-match .before) in
     let z = at-shared-slice-known .before .before in
     let a = z .args in
     let p = z .pre in
     let f = ready-faults (a .t) (a .client) (a .call) (a .reply .now) (a .head) (p .0) in
     let r = ready-server (a .t) (a .client) (a .call) (a .reply .now) (a .head) (p .0) in
     let l : length (drop headSize (a .reply .now)) ≤ candidateSlot = collect-length (a .t) (a .client) (a .call) (a .reply .now) (a .head) (p .0)
-    (λ k. at-shared-slice-known .shared-slice-known .given k .fits) (c .before .before .if1 .taken) in
+    (λ k. at-shared-slice-known .shared-slice-known .given k .fits) (at-match .match .keys1) in
     (f .1, (r .0, (r .1, (p .1 .1 .0, rw (c .rest .ensures) l))))
 
 returns : tie.Need-returns
 returns c =
-    let at-then1 = c .before .before .before .before .before in
-    let at-shared-slice-known = shared-slice-known-from-then1 at-then1 in
+    let at-match = c .before .before .before .before .before in
+    let at-shared-slice-known = shared-slice-known-from-struct-known (at-match .before) in
     let z = at-shared-slice-known .before .before in
     let a = z .args in
     let p = z .pre in
     λ writers keys. takes-collect (a .t) (a .client) writers keys (a .call) (a .kept .now) (a .reply .now) (a .out .now) (a .head) (p .0) (p .1 .1 .1)
-    (at-then1 .if1 .taken) (λ k. at-shared-slice-known .shared-slice-known .given k .fits) _
+    (at-match .match .keys1) (λ k. at-shared-slice-known .shared-slice-known .given k .fits) _
     (c .before .before .before .rest .ensures) (c .before .before .take-collect .result) (c .before .before .take-collect .ensures .0) _
     (c .before .before .take-collect .ensures .1)
 
 returns-2 : tie.Need-returns-2
 returns-2 c = search needs
 
-abbrev shared-slice-known-from-else2 : tie.Else2 → tie.After-shared-slice-known
-shared-slice-known-from-else2 c = c .before .before .before .before .before
-
 take-repair-requires : tie.Need-take-repair-requires
 take-repair-requires c κs =
-    let z = shared-slice-known-from-else2 (c .before .before) .before .before in
+    let z = shared-slice-known-from-struct-known (c .before .before .before) .before .before in
     let a = z .args in
     let p = z .pre in
     let f = ready-faults (a .t) (a .client) (a .call) (a .reply .now) (a .head) (p .0) in
@@ -58,21 +55,16 @@ take-repair-requires c κs =
 
 returns-3 : tie.Need-returns-3
 returns-3 c =
-    let at-else2 = c .before .before .before .before .before in
-    let z = shared-slice-known-from-else2 at-else2 .before .before in
+    let at-match = c .before .before .before .before .before in
+    let z = shared-slice-known-from-struct-known (at-match .before) .before .before in
     let a = z .args in
     let p = z .pre in
     let q = ready-round (a .t) (a .client) (a .call) (a .reply .now) (a .head) (p .0) in
-    let e : a .call .tally .round ≡ 6 = omega (
-      arith,
-      p .1 .0,
-      at-else2 .before .if1 .left,
-      at-else2 .if2 .left,
-    ) in
+    let e : a .call .tally .round ≡ 6 = omega (arith, p .1 .0, at-match .match .rest .0 .1, at-match .match .rest .1) in
     λ writers keys. takes-repair (a .t) (a .client) writers keys (a .call) (a .kept .now) (a .reply .now) (a .out .now) (a .head) (p .0) (p .1 .1 .1)
-    e
-    (c .before .before .take-repair .result) (c .before .before .take-repair .ensures .0) _ (c .before .before .take-repair .ensures .1)
+    e (c .before .before .take-repair .result) (c .before .before .take-repair .ensures .0) _ (c .before .before .take-repair .ensures .1)
 
 pub take-read-round-spec : {M : Type 1} → statement M
-take-read-round-spec = tie.close (tie.spec (λ c. search needs) (λ c κs. search needs) take-collect-requires (λ c. search needs) returns
-    (λ c κs. search needs) (λ c. search needs) (λ c. search needs) returns-2 take-repair-requires (λ c. search needs) (λ c. search needs) returns-3)
+take-read-round-spec = tie.close (tie.spec (λ c. search needs) (λ c κs. search needs) take-collect-requires (λ c κs. search needs)
+    take-repair-requires (λ c. search needs) returns (λ c. search needs) (λ c. search needs) returns-2 (λ c. search needs) (λ c. search needs)
+    returns-3)
