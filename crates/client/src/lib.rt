@@ -9,7 +9,7 @@ ghost use Rattle.protocol.specs.Runs.{newCall};
 pub mod refusals; // which number refuses a step
 mod rounds; // the tally of a round
 mod kept; // the kept bytes: what is read and written there
-pub mod answers; // what a reply leads to
+mod answers; // what a reply leads to
 mod replies; // whether a packet is an awaited reply
 mod stamps; // stamps and tags
 mod list; // the list of filter

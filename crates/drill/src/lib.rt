@@ -3,7 +3,7 @@ ghost use mathlib.Core.Path.{_≡_};
 ghost use Rattle.drill.specs.Listing.{rowsFor, drillOf};
 
 mod verbs; // the verbs by name
-pub mod sheet; // the numbers in the columns of a line
+mod sheet; // the numbers in the columns of a line
 mod lines; // the lines of a sheet
 mod area; // the parties in the work area
 mod servers; // the steps of servers in the work area
@@ -11,7 +11,7 @@ mod visits; // a packet to a server, and its reply back
 mod rows; // the rows of a listing
 mod run; // a sheet is run
 mod steps; // one line's step
-pub mod shown; // what a row shows of a step
+mod shown; // what a row shows of a step
 
 // Rows for which there must be room.
 fn rows_for(lines: usize) -> usize
