@@ -7,21 +7,20 @@ use mathlib.Core.Bool.{Bool, true, false, cond, _&&_, _||_}
 use mathlib.Core.List.{List, [], _∷_, _++_}
 use mathlib.Core.Option.{Option, none, some}
 use mathlib.Core.Logic.{_⊎_, inl, inr}
-use Prim.Native.Nat.{ℕ, zero, suc, _+_, _*_, _≤_}
-use native.Mathlib.Nat.{suc-mul, le-refl}
+use Prim.Native.Nat.{ℕ, suc, _*_, _≤_}
+use native.Mathlib.Nat.{le-refl}
 use native.Mathlib.Omega.{arith}
 use lib.Dec.{eqb}
 use lib.ListN.{length}
 use borrow.Author.Tests.{eqb-true}
 use Rattle.protocol.specs.Packet.{Body, Packet, kindOf, decode}
-use Rattle.protocol.specs.Rules.{countTo}
 use Rattle.protocol.specs.Client.{Client, Hand, idle, clocking, storing, completing, collecting, filtering, repairing, awaits, isIdle, request, made}
 use Rattle.protocol.specs.Runs.{Lent, take-reply, Account, sentOf}
 use Rattle.format.proofs.Answers.{at-cond}
 use Rattle.atomicity.specs.Lists.{Always, In}
 use Rattle.atomicity.specs.Steps.{StepIn, System, makes}
 use Rattle.atomicity.proofs.Util.{clash, and-left, and-right, or-cases, left-in}
-use Rattle.atomicity.proofs.Counting.{split-count}
+use Rattle.atomicity.proofs.PerRound.{overRounds, EachRound, most-rounds, all-rounds}
 use Rattle.atomicity.proofs.Model.{Run, Laws, account, clientAt, handAt, callsAt, sentAt}
 use Rattle.atomicity.proofs.Serving.{Making, making}
 use Rattle.atomicity.proofs.Positions.{pos, stage-awaits, Before, before-one, before-trans}
@@ -43,12 +42,6 @@ ask-apart k b k' b' (some p) e f =
       sym (eqb-true i b (and-right (eqb j k) (eqb i b) e)) ∙ eqb-true i b' (and-right (eqb j k') (eqb i b') f),
     )
 
-count-all : (n : ℕ) (p : ℕ → Bool) → ((b : ℕ) → 1 ≤ b → b ≤ n → p b ≡ true) → countTo n p ≡ n
-unfolding countTo
-count-all zero p h = refl
-count-all (suc n) p h =
-    omega (arith, count-all n p (λ b lo hi. h b lo (omega arith)), ap {B = ℕ} (λ (b : Bool). cond b 1 0) (h (suc n) (omega arith) (omega arith)))
-
 module _ (s : System) (A : Account (StepIn s)) where
   -- with the step x, after xs, client c makes it
   abbrev pub asks : ℕ → ℕ → ℕ → StepIn s → List (StepIn s) → Bool
@@ -59,42 +52,18 @@ module _ (s : System) (A : Account (StepIn s)) where
   asked c [] k b = false
   asked c (x ∷ xs) k b = eqb (A .client xs c .calls) (A .client (x ∷ xs) c .calls) && (asks c k b x xs || asked c xs k b)
 
-  -- how many servers it asked in these rounds, and in all rounds of the call
-  abbrev pub askedIn : ℕ → List (StepIn s) → List ℕ → ℕ
-  askedIn c l [] = 0
-  askedIn c l (k ∷ ks) = countTo (s .config .servers) (asked c l k) + askedIn c l ks
-
+  -- how many requests it has made, in all rounds of the call
   abbrev pub requests : ℕ → List (StepIn s) → ℕ
-  requests c l = askedIn c l (wentThrough s A c l)
+  requests c l = overRounds (s .config .servers) (asked c l) (wentThrough s A c l)
 
   -- each round went to all servers
   abbrev pub EachAsked : ℕ → List (StepIn s) → Type 0
-  EachAsked c l = (k : ℕ) → In k (wentThrough s A c l) → (b : ℕ) → 1 ≤ b → b ≤ s .config .servers → asked c l k b ≡ true
+  EachAsked c l = EachRound (s .config .servers) (asked c l) (wentThrough s A c l)
 
   -- ---- counts
 
-  asked-most : (c : ℕ) (l : List (StepIn s)) (ks : List ℕ) → askedIn c l ks ≤ length ks * s .config .servers
-  asked-most c l [] = omega arith
-  asked-most c l (k ∷ ks) =
-      omega (arith, asked-most c l ks, split-count (asked c l k) (s .config .servers), suc-mul (length ks) (s .config .servers))
-
   pub requests-most : (c : ℕ) (l : List (StepIn s)) → requests c l ≤ length (wentThrough s A c l) * s .config .servers
-  requests-most c l = asked-most c l (wentThrough s A c l)
-
-  asked-all : (c : ℕ) (l : List (StepIn s)) (ks : List ℕ) → ((k : ℕ) → In k ks → (b : ℕ) → 1 ≤ b → b ≤ s .config .servers → asked c l k b ≡ true)
-      → askedIn c l ks ≡ length ks * s .config .servers
-  unfolding In
-  asked-all c l [] h = omega arith
-  asked-all c l (k ∷ ks) h =
-      omega (
-        arith,
-        asked-all c l ks (λ j i. h j (inr i)),
-        count-all (s .config .servers) (asked c l k) (h k (inl refl)),
-        suc-mul (length ks) (s .config .servers),
-      )
-
-  pub requests-all : (c : ℕ) (l : List (StepIn s)) → EachAsked c l → requests c l ≡ length (wentThrough s A c l) * s .config .servers
-  requests-all c l h = asked-all c l (wentThrough s A c l) h
+  requests-most c l = most-rounds (s .config .servers) (asked c l) (wentThrough s A c l)
 
   -- a finished call, each of whose rounds went to all servers
   pub requests-of : ByRounds s A → (c : ℕ) (x : StepIn s) (xs : List (StepIn s)) (lent : Lent) (reply output : List ℕ)
@@ -102,7 +71,7 @@ module _ (s : System) (A : Account (StepIn s)) where
       → requests c (x ∷ xs) ≡ length (roundsBy (A .result x xs) (awaits (A .client xs c .hand))) * s .config .servers
   unfolding ByRounds
   requests-of h c x xs lent reply output e f g =
-      requests-all c (x ∷ xs) g ∙ ap (λ (ks : List ℕ). length ks * s .config .servers) (h c x xs lent reply output e f)
+      all-rounds (s .config .servers) (asked c (x ∷ xs)) (wentThrough s A c (x ∷ xs)) g ∙ ap (λ (ks : List ℕ). length ks * s .config .servers) (h c x xs lent reply output e f)
 
 -- ---- no other request is made
 

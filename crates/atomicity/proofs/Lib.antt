@@ -55,7 +55,9 @@ pub mod Highest
 pub mod Decides
 pub mod OneServer
 pub mod Real
+pub mod PerRound
 pub mod Asked
+pub mod Replied
 pub mod Requests
 pub mod Settled
 pub mod InWords

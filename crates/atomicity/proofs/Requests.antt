@@ -24,6 +24,7 @@ use Rattle.atomicity.proofs.Serving.{BehindAt, answer}
 use Rattle.atomicity.proofs.Heard.{act-kind}
 use Rattle.atomicity.proofs.Through.{wentThrough, roundsBy, finishes, ByRounds, by-rounds}
 use Rattle.atomicity.proofs.Asked.{isAsk, ask-apart, asks, asked, requests, EachAsked, requests-most, requests-of, asked-within, same-packet}
+use Rattle.atomicity.proofs.Replied.{ByReplies, by-replies}
 use Rattle.atomicity.proofs.Real.{real-laws}
 
 -- r answers the request q
@@ -88,6 +89,10 @@ module _ (s : System) (laws : Laws s) where
 pub finished-rounds : OnBytes ByRounds
 finished-rounds sh lo hi first sized =
     claimed real real-lengths sh (lo, hi) first sized (ByRounds (systemOf sh)) (unfold byValues in by-rounds (systemOf sh))
+
+pub counted-replies : OnBytes ByReplies
+counted-replies sh lo hi first sized =
+    claimed real real-lengths sh (lo, hi) first sized (ByReplies (systemOf sh)) (unfold byValues in by-replies (systemOf sh))
 
 pub counted-requests : OnBytes ByRequests
 counted-requests sh lo hi first sized =

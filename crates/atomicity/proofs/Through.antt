@@ -80,7 +80,7 @@ trail (repairing d r) = repairedRounds
 abbrev Gone : List ℕ → Hand → Type 0
 Gone rounds h = isIdle h ≡ false → rounds ≡ trail h
 
-stay : (n a : ℕ) (rounds : List ℕ) → withRound (eqb n n) a a rounds ≡ rounds
+pub stay : (n a : ℕ) (rounds : List ℕ) → withRound (eqb n n) a a rounds ≡ rounds
 stay n a rounds = rw (eq-eqb n n refl, eq-eqb a a refl) (go (eqb a 0))
   where
     go : (b : Bool) → cond (b || true) rounds (rounds ++ (a ∷ [])) ≡ rounds
@@ -208,10 +208,14 @@ module _ (s : System) (c : ℕ) (x : StepIn s) (xs : Run s) where
   unfolding awaits
   over-same cl' e h rounds = rw (e, h, eq-eqb (callsAt s xs c) (callsAt s xs c) refl)
 
-  ended : (lent : Lent) (reply output : List ℕ) → x .step ≡ take-reply c lent reply output → finishes (resultAt s x xs) ≡ true
-      → wentThrough s (account s) c (x ∷ xs) ≡ roundsBy (resultAt s x xs) (awaits (handAt s xs c))
+  -- no call is in hand then, and the rounds are those of the result
+  pub record CallOver : Type 0 where
+    pub idles : handAt s (x ∷ xs) c ≡ idle
+    pub rounds : wentThrough s (account s) c (x ∷ xs) ≡ roundsBy (resultAt s x xs) (awaits (handAt s xs c))
+
+  pub call-over : (lent : Lent) (reply output : List ℕ) → x .step ≡ take-reply c lent reply output → finishes (resultAt s x xs) ≡ true → CallOver
   unfolding wentThrough
-  ended lent reply output e f = go (moved s c x xs)
+  call-over lent reply output e f = go (moved s c x xs)
     where
       R : Result
       R = resultAt s x xs
@@ -222,8 +226,7 @@ module _ (s : System) (c : ℕ) (x : StepIn s) (xs : Run s) where
       ends-not : (r : Result) → R ≡ r → finishes r ≡ false → ⊥
       ends-not r q z = clash (subst (λ (y : Result). finishes y ≡ true) q f) z
 
-      go : MovedAt s c x xs → withRound (eqb (cl .calls) (clientAt s (x ∷ xs) c .calls)) (awaits (cl .hand)) (awaits (clientAt s (x ∷ xs) c .hand))
-          (wentThrough s (account s) c xs) ≡ roundsBy R (awaits (cl .hand))
+      go : MovedAt s c x xs → CallOver
       go (kept q k) =
           absurd (clash (finishes-done R f) (k (ap (acting c) e ∙ eq-eqb c c refl)))
       go (wbegan r n a b d l q) = absurd (ends-not more b refl)
@@ -234,9 +237,12 @@ module _ (s : System) (c : ℕ) (x : StepIn s) (xs : Run s) where
           let z : Ending (cl .hand) u = ends s c cl _ _ _ _ (cl .hand) (subst (λ (y : Result). finishes y ≡ true) r f) in
           let n : clientAt s (x ∷ xs) c .calls ≡ cl .calls = ap (λ (y : Client). y .calls) q ∙ turn-turned s c cl p .calls in
           let h : handAt s (x ∷ xs) c ≡ idle = ap (λ (y : Client). y .hand) q ∙ z .over in
-          over-same (clientAt s (x ∷ xs) c) n h (wentThrough s (account s) c xs) ∙ gone s c xs (fits .busy) ∙ z .rounds
-          ∙ ap (λ (y : Result). roundsBy y (awaits (cl .hand))) (sym r)
+          record {
+            idles = h;
+            rounds = over-same (clientAt s (x ∷ xs) c) n h (wentThrough s (account s) c xs) ∙ gone s c xs (fits .busy) ∙ z .rounds
+                ∙ ap (λ (y : Result). roundsBy y (awaits (cl .hand))) (sym r);
+          }
 
 pub by-rounds : (s : System) → ByRounds s (account s)
 unfolding ByRounds
-by-rounds s c x xs = ended s c x xs
+by-rounds s c x xs lent reply output e f = call-over s c x xs lent reply output e f .rounds
