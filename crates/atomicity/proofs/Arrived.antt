@@ -22,7 +22,7 @@ use Rattle.protocol.specs.Server.{act}
 use Rattle.protocol.specs.Client.{Client, Hand, Turn, refused, idle, clocking, storing, completing, collecting, filtering, repairing, awaits, isIdle}
 use Rattle.protocol.specs.Client.{isFull, tooHigh, highAt, badFaults, badClient, ofWrite, accepted}
 use Rattle.protocol.specs.Client.{onto, begun, higher, stampIn, codeIn}
-use Rattle.protocol.specs.Runs.{Lent, take-reply}
+use Rattle.runs.specs.Runs.{Lent, take-reply}
 use Rattle.atomicity.specs.Lists.{Ever}
 use Rattle.atomicity.specs.Steps.{serves, stampedAt}
 use Rattle.atomicity.specs.Claim.{cameIn, Arrives}

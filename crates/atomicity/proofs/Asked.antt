@@ -15,7 +15,7 @@ use lib.ListN.{length}
 use borrow.Author.Tests.{eqb-true}
 use Rattle.protocol.specs.Packet.{Body, Packet, kindOf, decode}
 use Rattle.protocol.specs.Client.{Client, Hand, idle, clocking, storing, completing, collecting, filtering, repairing, awaits, isIdle, request, made}
-use Rattle.protocol.specs.Runs.{Lent, take-reply, Account, sentOf}
+use Rattle.runs.specs.Runs.{Lent, take-reply, Account, sentOf}
 use Rattle.format.proofs.Answers.{at-cond}
 use Rattle.atomicity.specs.Lists.{Always, In}
 use Rattle.atomicity.specs.Steps.{StepIn, System, makes}

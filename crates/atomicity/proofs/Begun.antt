@@ -13,8 +13,8 @@ use Rattle.format.specs.Format.{Bytes}
 use Rattle.protocol.specs.Packet.{decode}
 use Rattle.protocol.specs.Client.{Client, Hand, Result, Turn, awaits, isIdle, ofWrite, writeRefusal, writeStep, idle, clocking, storing, completing}
 use Rattle.protocol.specs.Client.{collecting, filtering, repairing, begun, onto, prepared, candidateMade, shareMade, sharesMade, stampOf, accepted}
-use Rattle.protocol.specs.Runs.{Step, write, take-reply, Fed}
-use Rattle.protocol.proofs.ValueRuns.{nowValues, doValues, setClient}
+use Rattle.runs.specs.Runs.{Step, write, take-reply, Fed}
+use Rattle.runs.proofs.ValueRuns.{nowValues, doValues, setClient}
 use Rattle.protocol.proofs.Fine.{at-refusal}
 use Rattle.atomicity.specs.Lists.{Ever, In, flat}
 use Rattle.atomicity.specs.Steps.{StepIn, System, Stamped, stampedFrom, stampedBy, stampedAt, digestsWith, digestedBy, digested, compared}

@@ -11,7 +11,7 @@ use lib.ListN.{length, length-append, length-map}
 use Rattle.protocol.specs.Values.{isSome}
 use Rattle.protocol.specs.Rules.{keep}
 use Rattle.protocol.specs.Client.{Client, accepted}
-use Rattle.protocol.specs.Runs.{Step, write, read, make, take-reply, give-up, serve}
+use Rattle.runs.specs.Runs.{Step, write, read, make, take-reply, give-up, serve}
 use Rattle.atomicity.specs.Lists.{Ever, In, AllPairs}
 use Rattle.atomicity.specs.Steps.{Stamped, stampedFrom, stampedBy, stampedAt}
 use Rattle.atomicity.specs.Premises.{Begins}

@@ -14,7 +14,7 @@ use Rattle.protocol.specs.declared.Stamp.{Stamp}
 use Rattle.protocol.specs.Values.{Candidate, below, blankStamp, isSome}
 use Rattle.protocol.specs.Packet.{Packet, decode}
 use Rattle.protocol.specs.Client.{Client, Hand, Result, idle, clocking, storing, completing, collecting, filtering, repairing, begun, onto, accepted}
-use Rattle.protocol.specs.Runs.{Lent, take-reply}
+use Rattle.runs.specs.Runs.{Lent, take-reply}
 use Rattle.format.proofs.Answers.{at-cond}
 use Rattle.atomicity.specs.Lists.{Ever, In}
 use Rattle.atomicity.specs.Steps.{Stamped, stampedAt}

@@ -20,7 +20,7 @@ use Rattle.protocol.specs.Memory.{lookup}
 use Rattle.protocol.specs.Rules.{ByServer}
 use Rattle.protocol.specs.Server.{Server, Acted, raise, onStore, act}
 use Rattle.protocol.specs.Client.{storing, codeIn}
-use Rattle.protocol.proofs.ValueRuns.{nowValues}
+use Rattle.runs.proofs.ValueRuns.{nowValues}
 use Rattle.format.proofs.Answers.{at-cond}
 use Rattle.atomicity.specs.Lists.{Ever, In, AllPairs}
 use Rattle.atomicity.specs.Steps.{System, Stamped}

@@ -14,8 +14,8 @@ use Rattle.protocol.specs.Packet.{complete}
 use Rattle.protocol.specs.Primitives.{candidateMessage}
 use Rattle.protocol.specs.Server.{Server, blankServer, valid, barred}
 use Rattle.protocol.specs.Client.{made, accepted}
-use Rattle.protocol.specs.Runs.{Step, serve}
-use Rattle.protocol.proofs.ValueRuns.{nowValues}
+use Rattle.runs.specs.Runs.{Step, serve}
+use Rattle.runs.proofs.ValueRuns.{nowValues}
 use Rattle.atomicity.specs.Lists.{Ever, Always, All, In, flat}
 use Rattle.atomicity.specs.Steps.{Stamped, packetIn, makes, serves, offered, isComplete, judged, ofPacket, stampedAt, digestsWith, tagsMade}
 use Rattle.atomicity.specs.Steps.{tagsChecked, checkedBy, serverChecks, digested, digestedBy, allDigested, noncesGot, noncesBy}

@@ -18,8 +18,8 @@ use Rattle.protocol.specs.Server.{replyTo}
 use Rattle.protocol.specs.Client.{Client, Hand, Turn, refused, idle, clocking, storing, completing, collecting, filtering, repairing, awaits, isIdle}
 use Rattle.protocol.specs.Client.{highAt, badFaults, badClient, ofWrite}
 use Rattle.protocol.specs.Client.{update, judge, found, onto, prepared, codeIn, takeRefusal, takeStep, turnOn}
-use Rattle.protocol.specs.Runs.{Lent, Step, take-reply}
-use Rattle.protocol.proofs.ValueRuns.{doValues, setClient}
+use Rattle.runs.specs.Runs.{Lent, Step, take-reply}
+use Rattle.runs.proofs.ValueRuns.{doValues, setClient}
 use Rattle.format.proofs.Answers.{at-cond}
 use Rattle.atomicity.specs.Steps.{StepIn, System}
 use Rattle.atomicity.proofs.Util.{cond-both, bool-case, clash, upd-here, upd-else}

@@ -14,7 +14,7 @@ use Rattle.protocol.specs.Packet.{store}
 use Rattle.protocol.specs.Primitives.{candidateMessage}
 use Rattle.protocol.specs.Server.{Server, byHistory, barred}
 use Rattle.protocol.specs.Client.{made}
-use Rattle.protocol.proofs.ValueRuns.{nowValues}
+use Rattle.runs.proofs.ValueRuns.{nowValues}
 use Rattle.atomicity.specs.Lists.{Ever, Always, In}
 use Rattle.atomicity.specs.Steps.{Stamped, makes, stampedAt, tagsWith, tagsMade}
 use Rattle.atomicity.proofs.Util.{left-in, right-in, in-flat, map-in, ever-map, within-in}

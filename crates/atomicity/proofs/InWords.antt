@@ -16,9 +16,9 @@ use Rattle.cluster.proofs.Legal.{legal-shelf}
 use Rattle.protocol.specs.Values.{isSome}
 use Rattle.protocol.specs.Primitives.{real}
 use Rattle.protocol.specs.Client.{Hand, awaits, isIdle}
-use Rattle.protocol.proofs.ValueRuns.{byValues}
+use Rattle.runs.proofs.ValueRuns.{byValues}
 use Rattle.protocol.proofs.Primitive.{real-lengths}
-use Rattle.protocol.proofs.Accounts.{claimed}
+use Rattle.runs.proofs.Accounts.{claimed}
 use Rattle.atomicity.specs.Lists.{Always, Once, In, AllPairs}
 use Rattle.atomicity.specs.Steps.{StepIn, System}
 use Rattle.atomicity.specs.Premises.{Correct, Parties, Premise}

@@ -17,8 +17,8 @@ use Rattle.protocol.specs.Server.{Server}
 use Rattle.protocol.specs.Rules.{upd, countTo, ByServer, choice}
 use Rattle.protocol.specs.Client.{Client, Hand, Result, idle, clocking, storing, completing, collecting, filtering, repairing, isFull, awaits, begun}
 use Rattle.protocol.specs.Client.{onto, made, heldIn, accepted}
-use Rattle.protocol.specs.Runs.{Lent, Step, write, read, make, take-reply, give-up, serve}
-use Rattle.protocol.proofs.ValueRuns.{nowValues}
+use Rattle.runs.specs.Runs.{Lent, Step, write, read, make, take-reply, give-up, serve}
+use Rattle.runs.proofs.ValueRuns.{nowValues}
 use Rattle.format.proofs.Answers.{at-cond}
 use Rattle.atomicity.specs.Lists.{Ever, Always, In, flat}
 use Rattle.atomicity.specs.Steps.{Stamped, packetIn, makes, stampedAt, ofPacket, proving, compared, digestsWith, digested, digestedBy}

@@ -14,7 +14,7 @@ use Rattle.protocol.specs.Values.{blankStamp}
 use Rattle.protocol.specs.Packet.{Packet, decode}
 use Rattle.protocol.specs.Client.{Client, Hand, Result, idle, clocking, storing, completing, collecting, filtering, repairing, onto, awaits, isIdle}
 use Rattle.protocol.specs.Client.{accepted, inComplete}
-use Rattle.protocol.specs.Runs.{Lent, Step, write, read, make, take-reply, give-up, serve}
+use Rattle.runs.specs.Runs.{Lent, Step, write, read, make, take-reply, give-up, serve}
 use Rattle.atomicity.specs.Lists.{Ever, Always, In}
 use Rattle.atomicity.specs.Steps.{Stamped, stampedFrom, stampedBy, stampedAt}
 use Rattle.atomicity.specs.Premises.{PartyOf}

@@ -13,7 +13,7 @@ use Rattle.protocol.specs.Values.{sameList, isBlank}
 use Rattle.protocol.specs.Primitives.{stampMessage}
 use Rattle.protocol.specs.Client.{Client, Hand, awaits, Result, idle, clocking, storing, completing, collecting, filtering, repairing, prepared}
 use Rattle.protocol.specs.Client.{candidateMade, stampOf, checks, accepted}
-use Rattle.protocol.specs.Runs.{Lent, Step, write, read, make, take-reply, give-up, serve}
+use Rattle.runs.specs.Runs.{Lent, Step, write, read, make, take-reply, give-up, serve}
 use Rattle.protocol.proofs.Equal.{same-refl}
 use Rattle.atomicity.specs.Lists.{In}
 use Rattle.atomicity.specs.Steps.{StepIn, System, Stamped, stampedFrom, stampedBy, stampedAt}

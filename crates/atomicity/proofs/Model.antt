@@ -19,8 +19,8 @@ use Rattle.protocol.specs.Primitives.{stampMessage, candidateMessage}
 use Rattle.protocol.specs.Rules.{ByServer, upd}
 use Rattle.protocol.specs.Server.{Server, Acted, blankServer, byHistory, byTag, valid, best, act}
 use Rattle.protocol.specs.Client.{Client, Hand, Result, Turn, isFull, update, stampOf, tagsOf, prepared}
-use Rattle.protocol.specs.Runs.{Step, Account, steps, sentOf}
-use Rattle.protocol.proofs.ValueRuns.{World, After, doValues, nowValues}
+use Rattle.runs.specs.Runs.{Step, Account, steps, sentOf}
+use Rattle.runs.proofs.ValueRuns.{World, After, doValues, nowValues}
 use Rattle.atomicity.specs.Lists.{All, AllPairs}
 use Rattle.atomicity.specs.Steps.{StepIn, System, Stamped, stampedAt}
 

@@ -19,8 +19,8 @@ use Rattle.protocol.specs.Rules.{nobody}
 use Rattle.protocol.specs.Client.{Client, Turn, Result, more, aborted, idle, clocking, collecting, awaits, isIdle, highAt, onto, begun, badFaults}
 use Rattle.protocol.specs.Client.{badClient, ofWrite, accepted, inComplete}
 use Rattle.protocol.specs.Client.{writeRefusal, readRefusal, abortRefusal, takeRefusal, writeStep, readStep, abortStep, takeStep, turnOn}
-use Rattle.protocol.specs.Runs.{Lent, Step, write, read, make, take-reply, give-up, serve}
-use Rattle.protocol.proofs.ValueRuns.{World, doValues, nowValues, setClient}
+use Rattle.runs.specs.Runs.{Lent, Step, write, read, make, take-reply, give-up, serve}
+use Rattle.runs.proofs.ValueRuns.{World, doValues, nowValues, setClient}
 use Rattle.protocol.proofs.Fine.{at-refusal}
 use Rattle.atomicity.specs.Steps.{StepIn, System}
 use Rattle.atomicity.proofs.Util.{and-left, and-right, upd-case, clash}

@@ -8,8 +8,8 @@ use Prim.Native.Nat.{ℕ, suc}
 use native.Mathlib.Omega.{arith}
 use Rattle.protocol.specs.Client.{Client, Hand, Result, idle, clocking, storing, completing, collecting, filtering, repairing, begun, onto, prepared}
 use Rattle.protocol.specs.Client.{accepted}
-use Rattle.protocol.specs.Runs.{write}
-use Rattle.protocol.proofs.ValueRuns.{nowValues}
+use Rattle.runs.specs.Runs.{write}
+use Rattle.runs.proofs.ValueRuns.{nowValues}
 use Rattle.atomicity.specs.Lists.{Ever, Always, In}
 use Rattle.atomicity.specs.Steps.{Stamped, stampedAt}
 use Rattle.atomicity.specs.Premises.{Begins, FreshNonce}

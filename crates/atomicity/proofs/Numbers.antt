@@ -17,8 +17,8 @@ use Rattle.protocol.specs.Primitives.{stampMessage, candidateMessage}
 use Rattle.protocol.specs.Rules.{ByServer, leader, tagsIn}
 use Rattle.protocol.specs.Client.{Client, Hand, Turn, Result, idle, clocking, storing, completing, collecting, filtering, repairing, awaits, accepted}
 use Rattle.protocol.specs.Client.{update, judge, found, onto, begun, prepared, candidateMade, higher, checks, stampIn, codeIn}
-use Rattle.protocol.specs.Runs.{Step}
-use Rattle.protocol.proofs.ValueRuns.{nowValues}
+use Rattle.runs.specs.Runs.{Step}
+use Rattle.runs.proofs.ValueRuns.{nowValues}
 use Rattle.format.proofs.Answers.{at-cond}
 use Rattle.atomicity.specs.Lists.{Ever, Always, In}
 use Rattle.atomicity.specs.Steps.{Stamped, ofPacket, stampedFrom, stampedBy, stampedAt, tagsWith, tagsMade, clientChecks, checkedBy}

@@ -14,7 +14,7 @@ use Rattle.cluster.specs.Config.{Legal}
 use Rattle.cluster.specs.Ranges.{capacity}
 use Rattle.protocol.specs.Rules.{ByServer, countTo}
 use Rattle.protocol.specs.Client.{Hand, idle, clocking, storing, completing, collecting, filtering, repairing, awaits, isIdle}
-use Rattle.protocol.proofs.ValueRuns.{byValues}
+use Rattle.runs.proofs.ValueRuns.{byValues}
 use Rattle.atomicity.specs.Lists.{In}
 use Rattle.atomicity.specs.Steps.{System}
 use Rattle.atomicity.specs.Claim.{Logged, CameTo, Room, Answered, Progress, OneServer}

@@ -21,11 +21,11 @@ use Rattle.protocol.specs.Packet.{Packet, PacketOk, packetF, headF, decode}
 use Rattle.protocol.specs.Primitives.{Primitives, Lengths, real}
 use Rattle.protocol.specs.View.{keptSize}
 use Rattle.protocol.specs.ClientBytes.{keyOf}
-use Rattle.protocol.specs.Runs.{Shelf, configOf, steps, sentOf}
+use Rattle.runs.specs.Runs.{Shelf, configOf, steps, sentOf}
 use Rattle.protocol.proofs.Bodies.{decode-ok}
 use Rattle.protocol.proofs.Primitive.{real-lengths, stamp-inj, cand-inj, apart, nth-run, restores-parts}
-use Rattle.protocol.proofs.RunLift.{AllFed, run-agrees, sent-value}
-use Rattle.protocol.proofs.Accounts.{claimed}
+use Rattle.runs.proofs.RunLift.{AllFed, run-agrees, sent-value}
+use Rattle.runs.proofs.Accounts.{claimed}
 use Rattle.atomicity.specs.Lists.{All, AllPairs}
 use Rattle.atomicity.specs.Steps.{System}
 use Rattle.atomicity.specs.Claim.{OneServer, systemOf, Demand3}

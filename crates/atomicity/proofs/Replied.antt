@@ -13,7 +13,7 @@ use lib.Dec.{eqb}
 use lib.ListN.{length}
 use Rattle.protocol.specs.Packet.{Packet, kindOf, decode}
 use Rattle.protocol.specs.Client.{Client, idle, awaits, isIdle, begun}
-use Rattle.protocol.specs.Runs.{Lent, take-reply, Account}
+use Rattle.runs.specs.Runs.{Lent, take-reply, Account}
 use Rattle.atomicity.specs.Steps.{StepIn, System, serves}
 use Rattle.atomicity.proofs.Util.{clash}
 use Rattle.atomicity.proofs.Model.{Run, account, clientAt, handAt, callsAt}

@@ -11,10 +11,10 @@ use Rattle.protocol.specs.Packet.{Packet, kindOf, decode}
 use Rattle.protocol.specs.Primitives.{real}
 use Rattle.protocol.specs.Server.{replyTo}
 use Rattle.protocol.specs.Client.{awaits}
-use Rattle.protocol.specs.Runs.{Lent, take-reply, Account}
-use Rattle.protocol.proofs.ValueRuns.{byValues}
+use Rattle.runs.specs.Runs.{Lent, take-reply, Account}
+use Rattle.runs.proofs.ValueRuns.{byValues}
 use Rattle.protocol.proofs.Primitive.{real-lengths}
-use Rattle.protocol.proofs.Accounts.{claimed}
+use Rattle.runs.proofs.Accounts.{claimed}
 use Rattle.atomicity.specs.Lists.{Always, In}
 use Rattle.atomicity.specs.Steps.{StepIn, System, makes, serves, packetIn}
 use Rattle.atomicity.specs.Claim.{systemOf, OnBytes}

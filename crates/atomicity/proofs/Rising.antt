@@ -8,7 +8,7 @@ use native.Mathlib.Nat.{le-refl}
 use native.Mathlib.Omega.{arith}
 use Rattle.protocol.specs.declared.Stamp.{Stamp}
 use Rattle.protocol.specs.Client.{Client, Hand, idle, clocking, storing, completing, collecting, filtering, repairing, begun, onto, prepared, stampOf}
-use Rattle.protocol.proofs.ValueRuns.{nowValues}
+use Rattle.runs.proofs.ValueRuns.{nowValues}
 use Rattle.atomicity.specs.Lists.{In}
 use Rattle.atomicity.specs.Steps.{StepIn, System, Stamped, stampedAt}
 use Rattle.atomicity.proofs.Util.{split-in}

@@ -18,8 +18,8 @@ use Rattle.protocol.specs.Rules.{upd}
 use Rattle.protocol.specs.Server.{Server, memoryOf, Stepped, barred, replyTo, serverRefusal, serverStep, answered}
 use Rattle.protocol.specs.Client.{Client, Result, Made, awaits, isIdle, made, badFaults, badClient, ofWrite, accepted}
 use Rattle.protocol.specs.Client.{makeRefusal, makeStep}
-use Rattle.protocol.specs.Runs.{Step, write, read, make, take-reply, give-up, serve, resultOf}
-use Rattle.protocol.proofs.ValueRuns.{World, doValues, nowValues, setClient}
+use Rattle.runs.specs.Runs.{Step, write, read, make, take-reply, give-up, serve, resultOf}
+use Rattle.runs.proofs.ValueRuns.{World, doValues, nowValues, setClient}
 use Rattle.atomicity.specs.Steps.{StepIn, System, makes, serves, packetIn}
 use Rattle.atomicity.proofs.Util.{no-some, and-left, and-right, upd-case, upd-here, clash}
 use Rattle.atomicity.proofs.Model.{Run, perform, now, clientAt, serverAt, resultAt, sentAt, acts}

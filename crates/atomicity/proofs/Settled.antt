@@ -15,7 +15,7 @@ use Rattle.protocol.specs.Rules.{ByServer, leader, tagsIn}
 use Rattle.protocol.specs.Client.{Client, Hand, Turn, Result, refused, more, written, gave, gaveBlank, aborted, idle, clocking, storing, completing}
 use Rattle.protocol.specs.Client.{collecting, filtering, repairing, awaits, isIdle, accepted}
 use Rattle.protocol.specs.Client.{update, judge, found, onto, begun, prepared, codeIn, inComplete}
-use Rattle.protocol.specs.Runs.{Step, write, read, make, take-reply, give-up, serve}
+use Rattle.runs.specs.Runs.{Step, write, read, make, take-reply, give-up, serve}
 use Rattle.atomicity.specs.Lists.{In}
 use Rattle.atomicity.specs.Steps.{System}
 use Rattle.atomicity.specs.Claim.{Logged, follow}

@@ -11,7 +11,7 @@ use lib.ListN.{length}
 use borrow.Author.Tests.{eqb-true, eq-eqb}
 use Rattle.protocol.specs.Values.{blankStamp}
 use Rattle.protocol.specs.Client.{Client, Hand, Result, refused, more, written, gave, gaveBlank, aborted, begun, accepted, inComplete}
-use Rattle.protocol.specs.Runs.{Step, write, read, make, take-reply, give-up, serve}
+use Rattle.runs.specs.Runs.{Step, write, read, make, take-reply, give-up, serve}
 use Rattle.format.proofs.Answers.{at-cond}
 use Rattle.atomicity.specs.Claim.{Logged, change, follow, note, log}
 use Rattle.atomicity.proofs.Util.{clash, no-some, and-left, and-right, and-intro}

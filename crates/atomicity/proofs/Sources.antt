@@ -18,7 +18,7 @@ use Rattle.protocol.specs.Packet.{repairReply}
 use Rattle.protocol.specs.Rules.{ByServer}
 use Rattle.protocol.specs.Server.{barred, replyTo}
 use Rattle.protocol.specs.Client.{Hand, idle, clocking, storing, completing, collecting, filtering, repairing, request, accepted}
-use Rattle.protocol.specs.Runs.{Step, write, read, make, take-reply, give-up, serve, sentOf}
+use Rattle.runs.specs.Runs.{Step, write, read, make, take-reply, give-up, serve, sentOf}
 use Rattle.atomicity.specs.Lists.{Ever}
 use Rattle.atomicity.specs.Steps.{bytesIn, packetIn, makes, serves}
 use Rattle.atomicity.specs.Premises.{Authentic, PartyOf, odd}

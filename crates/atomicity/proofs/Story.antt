@@ -8,7 +8,7 @@ use native.Mathlib.Omega.{arith}
 use lib.ListN.{length}
 use Rattle.protocol.specs.Values.{blankStamp}
 use Rattle.protocol.specs.Client.{accepted}
-use Rattle.protocol.specs.Runs.{Step, write, read, make, take-reply, give-up, serve}
+use Rattle.runs.specs.Runs.{Step, write, read, make, take-reply, give-up, serve}
 use Rattle.atomicity.specs.Lists.{Always, All, In, AllPairs}
 use Rattle.atomicity.specs.Claim.{Logged, log}
 use Rattle.atomicity.proofs.Util.{right-in, in-map, map-in, all-of}

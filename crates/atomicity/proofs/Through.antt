@@ -14,8 +14,8 @@ use Rattle.protocol.specs.Packet.{Body}
 use Rattle.protocol.specs.Rules.{ByServer, nobody, leader, tagsIn}
 use Rattle.protocol.specs.Client.{Client, Hand, Turn, Result, refused, more, written, gave, gaveBlank, aborted, accepted, idle, clocking, storing, completing}
 use Rattle.protocol.specs.Client.{collecting, filtering, repairing, awaits, isIdle, onto, begun, prepared, update, judge, found, codeIn}
-use Rattle.protocol.specs.Runs.{Lent, take-reply, Account}
-use Rattle.protocol.proofs.ValueRuns.{nowValues}
+use Rattle.runs.specs.Runs.{Lent, take-reply, Account}
+use Rattle.runs.proofs.ValueRuns.{nowValues}
 use Rattle.atomicity.specs.Steps.{StepIn, System}
 use Rattle.atomicity.proofs.Util.{cond-both, clash}
 use Rattle.atomicity.proofs.Model.{Run, account, clientAt, handAt, callsAt, resultAt, updated, turn}

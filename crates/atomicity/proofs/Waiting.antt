@@ -16,7 +16,7 @@ use Rattle.protocol.specs.Rules.{ByServer, upd, countTo, choice, leader, tagsIn
 use Rattle.protocol.specs.Server.{act}
 use Rattle.protocol.specs.Client.{Client, Hand, Turn, Result, idle, clocking, storing, completing, collecting, filtering, repairing, isFull, accepted}
 use Rattle.protocol.specs.Client.{update, judge, found, onto, begun, prepared, codeIn, candidateIn, heldIn}
-use Rattle.protocol.proofs.ValueRuns.{nowValues}
+use Rattle.runs.proofs.ValueRuns.{nowValues}
 use Rattle.atomicity.specs.Lists.{Ever, In}
 use Rattle.atomicity.specs.Steps.{packetIn}
 use Rattle.atomicity.specs.Premises.{odd}

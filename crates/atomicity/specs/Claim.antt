@@ -17,7 +17,7 @@ use Rattle.protocol.specs.Rules.{ByServer, keep}
 use Rattle.protocol.specs.Client.{Hand, Result, refused, more, written, gave, gaveBlank, aborted, awaits, isIdle, inComplete, isReading, accepted}
 use Rattle.protocol.specs.View.{keptSize}
 use Rattle.protocol.specs.ClientBytes.{keyOf}
-use Rattle.protocol.specs.Runs.{Shelf, configOf, Lent, Step, write, read, make, take-reply, give-up, serve, Typed, Account, byBytes}
+use Rattle.runs.specs.Runs.{Shelf, configOf, Lent, Step, write, read, make, take-reply, give-up, serve, Typed, Account, byBytes}
 use Rattle.atomicity.specs.Lists.{Ever, Always, All, AllPairs, Perm}
 use Rattle.atomicity.specs.Steps.{System, StepIn, serves}
 use Rattle.atomicity.specs.Premises.{Correct, Parties, correctAt, Sent, Premise}

@@ -8,7 +8,7 @@ use lib.Dec.{ltb, eqb}
 use Rattle.cluster.specs.Ranges.{capacity}
 use Rattle.protocol.specs.Values.{isSome}
 use Rattle.protocol.specs.Client.{awaits}
-use Rattle.protocol.specs.Runs.{Account}
+use Rattle.runs.specs.Runs.{Account}
 use Rattle.atomicity.specs.Lists.{Once, In}
 use Rattle.atomicity.specs.Steps.{System, StepIn}
 use Rattle.atomicity.specs.Premises.{Correct}

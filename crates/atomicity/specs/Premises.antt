@@ -9,7 +9,7 @@ use Rattle.cluster.specs.Ranges.{topWriter, topClient}
 use Rattle.protocol.specs.Values.{Candidate}
 use Rattle.protocol.specs.Packet.{Packet, kindOf, decode, complete}
 use Rattle.protocol.specs.Rules.{countTo}
-use Rattle.protocol.specs.Runs.{Step, write, read, make, take-reply, give-up, serve, Account}
+use Rattle.runs.specs.Runs.{Step, write, read, make, take-reply, give-up, serve, Account}
 use Rattle.atomicity.specs.Lists.{Ever, All, In}
 use Rattle.atomicity.specs.Steps.{System, StepIn, bytesIn, packetIn, makes, serves, ok, tagsMade, tagsChecked, digested, allDigested, noncesGot}
 

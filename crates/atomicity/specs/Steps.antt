@@ -15,9 +15,9 @@ use Rattle.protocol.specs.Rules.{ByServer, upd, choice, leader, parts}
 use Rattle.protocol.specs.Server.{Server, byHistory, byTag, best}
 use Rattle.protocol.specs.Client.{Client, Hand, checks, isFull, stampIn, heldIn, accepted}
 use Rattle.protocol.specs.Client.{idle, clocking, storing, completing, collecting, filtering, repairing}
-use Rattle.protocol.specs.Runs.{Step, Typed, Account, onTaken}
+use Rattle.runs.specs.Runs.{Step, Typed, Account, onTaken}
 -- passed on to those who import the steps
-pub use Rattle.protocol.specs.Runs.{bytesIn, makes, serves}
+pub use Rattle.runs.specs.Runs.{bytesIn, makes, serves}
 use Rattle.atomicity.specs.Lists.{flat}
 
 -- the functions, the shelf's numbers, the writers' key and the servers' keys

@@ -4,7 +4,7 @@ ghost use mathlib.Core.Path.{_≡_};
 ghost use Rattle.protocol.specs.Primitives.{real};
 ghost use Rattle.protocol.specs.Answers.{takenAnswer, abortedAnswer};
 ghost use Rattle.protocol.specs.ClientBytes.{beginWrite, beginRead, clientMake, clientTake, giveUp};
-ghost use Rattle.protocol.specs.Runs.{newCall};
+ghost use Rattle.protocol.specs.ClientBytes.{newCall};
 
 pub mod refusals; // which number refuses a step
 mod rounds; // the tally of a round

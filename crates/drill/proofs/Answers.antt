@@ -12,7 +12,7 @@ use Rattle.protocol.specs.declared.Aborted.the-variants as aborts
 use Rattle.protocol.specs.Answers.{takenAnswer, abortedAnswer}
 use Rattle.protocol.specs.Client.{refused}
 use Rattle.format.specs.Reading.{bytesAt}
-use Rattle.protocol.specs.Runs.{resultOf, resultBy}
+use Rattle.runs.specs.Runs.{resultOf, resultBy}
 use Rattle.protocol.proofs.Told.{refused-back}
 use Rattle.drill.specs.Steps.{shownAs, shown}
 

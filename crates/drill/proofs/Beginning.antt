@@ -15,7 +15,7 @@ use Rattle.protocol.specs.View.{keptSize}
 use Rattle.protocol.specs.Memory.{encodeMemory, blankMemory}
 use Rattle.protocol.specs.ServerBytes.{blankRefusal, blankStep}
 use Rattle.protocol.specs.ClientBytes.{fresh}
-use Rattle.protocol.specs.Runs.{newCall, nowBytes}
+use Rattle.runs.specs.Runs.{newCall, nowBytes}
 use Rattle.format.proofs.Places.{part-zeros}
 use Rattle.wire.specs.Places.{padded}
 use Rattle.state.specs.State.{callAt, tallyAt, marksAt, lengthAt}

@@ -15,7 +15,7 @@ use Rattle.cluster.proofs.Tests.{within-bounds}
 use Rattle.protocol.specs.View.{keptSize}
 use Rattle.format.specs.Reading.{bytesAt, put}
 use Rattle.protocol.specs.Rules.{upd}
-use Rattle.protocol.specs.Runs.{Machines}
+use Rattle.runs.specs.Runs.{Machines}
 use Rattle.format.proofs.Answers.{at-cond}
 use Rattle.format.proofs.Puts.{put-length}
 use Rattle.format.proofs.Places.{part-same, part-above, part-other, slots-apart}

@@ -13,7 +13,7 @@ use borrow.Author.Tests.{ltb-true}
 use Rattle.cluster.specs.Ranges.{topNumber}
 use Rattle.protocol.specs.Primitives.{real}
 use Rattle.format.specs.Reading.{over, put}
-use Rattle.protocol.specs.Runs.{Shelf, Machines, write, doBytes}
+use Rattle.runs.specs.Runs.{Shelf, Machines, write, doBytes}
 use Rattle.format.proofs.Answers.{at-cond}
 use Rattle.format.proofs.Puts.{put-put, put-over, put-length}
 use Rattle.drill.specs.declared.sheet.Line.{Line}

@@ -13,7 +13,7 @@ use Rattle.protocol.specs.View.{marked, candidatesIn, handOf, view}
 use Rattle.format.specs.Reading.{put, bytesAt, over}
 use Rattle.protocol.specs.ServerBytes.{serverIn, turnedDown, actedOn, serverTake}
 use Rattle.protocol.specs.ClientBytes as bytes
-use Rattle.protocol.specs.Runs.{setMachine, doBytes, nowBytes}
+use Rattle.runs.specs.Runs.{setMachine, doBytes, nowBytes}
 use Rattle.drill.specs.Sheet as sheets
 use Rattle.drill.specs.Steps as steps
 use Rattle.drill.specs.Listing.{justified, columns, row, stepRow, rows, listed, listing}

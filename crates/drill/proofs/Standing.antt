@@ -16,7 +16,7 @@ use Rattle.protocol.specs.declared.Call.{Call}
 use Rattle.protocol.specs.View.{keptSize}
 use Rattle.format.specs.Reading.{bytesAt, put}
 use Rattle.protocol.specs.Rules.{upd}
-use Rattle.protocol.specs.Runs.{Machine, Machines}
+use Rattle.runs.specs.Runs.{Machine, Machines}
 use Rattle.format.proofs.Answers.{at-cond}
 use Rattle.format.proofs.Puts.{put-length}
 use Rattle.format.proofs.Places.{part-same, part-below, part-other, slots-apart}

@@ -20,7 +20,7 @@ use Rattle.protocol.specs.Client.{refused, writeStep, readStep, abortStep, writ
 use Rattle.protocol.specs.ClientBytes.{Begun, after, begunBy, beginWrite, beginRead, giveUp}
 use Rattle.protocol.specs.View.{view}
 use Rattle.protocol.proofs.LetIn.{no-client}
-use Rattle.protocol.specs.Runs.{Machines, read, give-up, resultOf, resultBy, doBytes, setMachine}
+use Rattle.runs.specs.Runs.{Machines, read, give-up, resultOf, resultBy, doBytes, setMachine}
 use Rattle.drill.specs.declared.shown.Shown.{Shown}
 use Rattle.drill.specs.Steps.{drillShelf, nonceFor, writeLine, shown}
 use Rattle.drill.specs.Area.{writeIn, readIn, giveUpIn, Stands, BeginsAs, StopsAs}

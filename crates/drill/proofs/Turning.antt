@@ -15,7 +15,7 @@ use Rattle.protocol.specs.Primitives.{real}
 use Rattle.protocol.specs.Client.{ofWrite, makeRefusal, refused}
 use Rattle.protocol.specs.ClientBytes.{awaited}
 use Rattle.protocol.proofs.LetIn.{no-client}
-use Rattle.protocol.specs.Runs.{Machines, Done, read, give-up, resultOf, doBytes}
+use Rattle.runs.specs.Runs.{Machines, Done, read, give-up, resultOf, doBytes}
 use Rattle.server.specs.Blank.{blankLatest}
 use Rattle.drill.specs.declared.sheet.Line.{Line}
 use Rattle.drill.specs.declared.shown.Shown.{Shown}

@@ -19,7 +19,7 @@ use Rattle.protocol.specs.Primitives.{real}
 use Rattle.format.specs.Reading.{bytesAt}
 use Rattle.protocol.specs.ServerBytes.{Served, serverTake}
 use Rattle.protocol.specs.ClientBytes.{Filled, Took, keyOf, clientMake, clientTake}
-use Rattle.protocol.specs.Runs.{Shelf, Machines, Done, make, serve, take-reply, resultBy, doBytes, setMachine}
+use Rattle.runs.specs.Runs.{Shelf, Machines, Done, make, serve, take-reply, resultBy, doBytes, setMachine}
 use Rattle.client.proofs.StampBytes.{key-at}
 use Rattle.drill.specs.declared.shown.Shown.{Shown}
 use Rattle.drill.specs.Steps.{drillShelf, lentTo, visited, shown}

@@ -17,7 +17,7 @@ use Rattle.protocol.specs.ServerBytes.{Served, Blanked}
 use Rattle.protocol.specs.View.{keptSize}
 use Rattle.format.specs.Reading.{bytesAt, put}
 use Rattle.protocol.specs.ClientBytes.{Begun, GaveUp, Took, beginWrite, beginRead, giveUp, clientTake}
-use Rattle.protocol.specs.Runs.{Machines}
+use Rattle.runs.specs.Runs.{Machines}
 use Rattle.state.specs.State.{stateSize, keptPlace, callAt, callBytes}
 use Rattle.drill.specs.Listing.{workSize}
 use Rattle.drill.specs.Steps.{drillShelf, lentTo}

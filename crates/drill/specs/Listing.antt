@@ -10,7 +10,7 @@ use Rattle.cluster.specs.Ranges.{within, topFaults}
 use Rattle.cluster.specs.Refusals.{refuse, firstOf, onRefusal}
 use Rattle.cluster.specs.declared.Outcome.{Outcome}
 use Rattle.format.specs.Reading.{over}
-use Rattle.protocol.specs.Runs.{Shelf}
+use Rattle.runs.specs.Runs.{Shelf}
 use Rattle.drill.specs.declared.sheet.Line.{Line}
 use Rattle.drill.specs.declared.shown.Shown.{Shown}
 use Rattle.drill.specs.Sheet.{Text, lines, newline, columnSize, firstLine, stepLine}

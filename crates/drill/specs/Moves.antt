@@ -7,7 +7,7 @@ use Rattle.cluster.specs.Config.{shelf}
 use Rattle.cluster.specs.Ranges.{topClient}
 use lib.ListN.{length}
 use Rattle.format.specs.Reading.{over, put}
-use Rattle.protocol.specs.Runs.{Machines, Done}
+use Rattle.runs.specs.Runs.{Machines, Done}
 use Rattle.drill.specs.declared.sheet.Line.{Line}
 use Rattle.drill.specs.declared.shown.Shown.{Shown}
 use Rattle.drill.specs.Sheet.{Text}

@@ -15,7 +15,7 @@ use Rattle.protocol.specs.Client.{Result, refused, more, accepted, makeRefusal}
 use Rattle.protocol.specs.View.{keptSize}
 use Rattle.protocol.specs.ClientBytes.{told, awaited}
 use Rattle.server.specs.Blank.{blankLatest}
-use Rattle.protocol.specs.Runs.{Shelf, Lent, configOf, Machines, Done, write, read, make, take-reply, give-up, serve, doBytes, nowBytes}
+use Rattle.runs.specs.Runs.{Shelf, Lent, configOf, Machines, Done, write, read, make, take-reply, give-up, serve, doBytes, nowBytes}
 use Rattle.drill.specs.declared.sheet.Line.{Line}
 use Rattle.drill.specs.declared.shown.Shown.{Shown}
 

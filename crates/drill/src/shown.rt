@@ -6,7 +6,7 @@ ghost use lib.ListN.{length};
 ghost use Rattle.cluster.specs.Ranges.{contentRoom};
 ghost use Rattle.protocol.specs.Answers.{takenAnswer, abortedAnswer};
 ghost use Rattle.protocol.specs.Client.{refused};
-ghost use Rattle.protocol.specs.Runs.{resultOf, resultBy};
+ghost use Rattle.runs.specs.Runs.{resultOf, resultBy};
 ghost use Rattle.drill.specs.Steps.{shownAs, shown};
 
 // Result, stamp number, length, first byte.

@@ -5,7 +5,7 @@ ghost use Prim.Native.Nat.{_≤_, _<_};
 ghost use lib.ListN.{length};
 ghost use Rattle.cluster.specs.Ranges.{topNumber, topFaults};
 ghost use Rattle.protocol.specs.Primitives.{real};
-ghost use Rattle.protocol.specs.Runs.{doBytes, read, give-up};
+ghost use Rattle.runs.specs.Runs.{doBytes, read, give-up};
 ghost use Rattle.drill.specs.Sheet.{isStep};
 ghost use Rattle.drill.specs.Listing.{workSize};
 ghost use Rattle.drill.specs.Steps.{drillShelf, nonceFor, writeLine, stepOf};

@@ -17,12 +17,12 @@ use Rattle.protocol.specs.Server.{blankServer}
 use Rattle.protocol.specs.ServerBytes.{blankRefusal, blankStep}
 use Rattle.protocol.specs.View.{view, keptSize}
 use Rattle.protocol.specs.ClientBytes.{keyOf, fresh}
-use Rattle.protocol.specs.Runs.{Shelf, configOf, sentOf, Machines, newCall, doBytes, nowBytes, StepOn, steps, Account, serverOr, byBytes}
+use Rattle.runs.specs.Runs.{Shelf, configOf, sentOf, Machines, newCall, doBytes, nowBytes, StepOn, steps, Account, serverOr, byBytes}
 use Rattle.format.proofs.Places.{drop-zeros}
-use Rattle.protocol.proofs.ValueRuns.{World, After, doValues, nowValues, byValues}
+use Rattle.runs.proofs.ValueRuns.{World, After, doValues, nowValues, byValues}
 use Rattle.protocol.proofs.Primitive.{real-lengths}
-use Rattle.protocol.proofs.RunLift.{AllFed, run-matches, run-agrees}
-use Rattle.protocol.proofs.Accounts.{accounts}
+use Rattle.runs.proofs.RunLift.{AllFed, run-matches, run-agrees}
+use Rattle.runs.proofs.Accounts.{accounts}
 use Rattle.state.specs.State.{keptPlace, callAt, tallyAt, marksAt, lengthAt}
 use Rattle.wire.specs.Places.{padded}
 use Rattle.embed.specs.Clients.{clientSize, keptOf}

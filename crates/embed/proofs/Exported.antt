@@ -23,15 +23,15 @@ use Rattle.format.specs.Reading.{over}
 use Rattle.protocol.specs.Client.{Client, Result, abortStep, takeStep}
 use Rattle.protocol.specs.View.{view}
 use Rattle.protocol.specs.ClientBytes.{Machine, told, Begun, keyOf, beginWrite, beginRead, giveUp, clientMake, clientTake, tookBy}
-use Rattle.protocol.specs.Runs.{Shelf, configOf, Step, write, read, make, take-reply, give-up, serve, resultOf, resultBy, sentOf, Machines, Done, setMachine, doBytes, Fed}
-use Rattle.protocol.proofs.ValueRuns.{World, After, doValues}
+use Rattle.runs.specs.Runs.{Shelf, configOf, Step, write, read, make, take-reply, give-up, serve, resultOf, resultBy, sentOf, Machines, Done, setMachine, doBytes, Fed}
+use Rattle.runs.proofs.ValueRuns.{World, After, doValues}
 use Rattle.protocol.proofs.Primitive.{real-lengths}
 use Rattle.protocol.proofs.Bodies.{decode-ok}
 use Rattle.protocol.proofs.Room.{shelf-fits}
 use Rattle.protocol.proofs.PacketRoom.{packet-room}
 use Rattle.protocol.proofs.ClientLift.{Sound}
 use Rattle.protocol.proofs.Fine.{Fine}
-use Rattle.protocol.proofs.RunLift.{Matches, Agrees}
+use Rattle.runs.proofs.RunLift.{Matches, Agrees}
 use Rattle.wire.proofs.Runs.{padded-length}
 use Rattle.embed.specs.Packing.{refusalIn, countIn, packedAnswer}
 use Rattle.embed.specs.Clients.{clientSize, stateWith, Session, sized, sizedWith, sizedFor, begunIn, stoppedIn, tookIn, Taking, Posted, madeOut, keysSize, keysIn, writeIn, readIn, giveUpIn, makeIn, takeIn}

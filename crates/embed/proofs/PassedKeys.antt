@@ -18,7 +18,7 @@ use Rattle.cluster.proofs.Tests.{within-in}
 use Rattle.erasure.proofs.Lists.{getD-map}
 use Rattle.format.specs.Reading.{bytesAt}
 use Rattle.protocol.specs.ClientBytes.{keyOf}
-use Rattle.protocol.specs.Runs.{Shelf}
+use Rattle.runs.specs.Runs.{Shelf}
 use Rattle.wire.proofs.Runs.{padded-length, padded-whole}
 use Rattle.client.proofs.StampBytes.{key-at}
 use Rattle.embed.specs.Clients.{keysSize, keysIn}

@@ -18,7 +18,7 @@ use Rattle.protocol.specs.Client.{Result}
 use Rattle.protocol.specs.View.{keptSize}
 use Rattle.format.specs.Reading.{bytesAt}
 use Rattle.protocol.specs.ClientBytes.{Machine}
-use Rattle.protocol.specs.Runs.{Shelf, configOf, Machines, Done, setMachine}
+use Rattle.runs.specs.Runs.{Shelf, configOf, Machines, Done, setMachine}
 use Rattle.protocol.proofs.ClientLift.{Sound}
 use Rattle.state.specs.State.{stateSize, keptPlace, callAt, callBytes}
 use Rattle.state.proofs.Laws.{state-length, state-back}

@@ -12,7 +12,7 @@ use Rattle.protocol.specs.declared.Answer.{Answer}
 use Rattle.protocol.specs.Answers.{refusals, bare}
 use Rattle.protocol.specs.Client.{Result, refused, more, written, gave, gaveBlank, aborted}
 use Rattle.protocol.specs.ClientBytes.{told}
-use Rattle.protocol.specs.Runs.{resultOf, resultBy}
+use Rattle.runs.specs.Runs.{resultOf, resultBy}
 use Rattle.protocol.proofs.Told.{refused-back}
 use Rattle.embed.specs.Packing.{packed, refusalIn, writerIn, resultIn, numberIn, countIn, packedAnswer, answerIn}
 use Rattle.embed.specs.Exports.{said}

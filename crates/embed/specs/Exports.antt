@@ -14,7 +14,7 @@ use Rattle.protocol.specs.ServerBytes.{blankStep}
 use Rattle.protocol.specs.Client.{Result}
 use Rattle.protocol.specs.View.{view}
 use Rattle.protocol.specs.ClientBytes.{keyOf}
-use Rattle.protocol.specs.Runs.{Shelf, configOf, Step, write, read, make, take-reply, give-up, serve, resultOf, resultBy, StepOn, steps, Account, serverOr}
+use Rattle.runs.specs.Runs.{Shelf, configOf, Step, write, read, make, take-reply, give-up, serve, resultOf, resultBy, StepOn, steps, Account, serverOr}
 use Rattle.wire.specs.Places.{padded}
 use Rattle.state.specs.State.{callAt}
 use Rattle.embed.specs.Packing.{refusalIn, countIn, answerIn}

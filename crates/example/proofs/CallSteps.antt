@@ -17,9 +17,9 @@ use Rattle.protocol.specs.Rules.{nobody}
 use Rattle.protocol.specs.Client.{Client, Hand, Turn, refused, more, aborted, accepted, takeRefusal, takeStep, highAt, awaits, writeRefusal}
 use Rattle.protocol.specs.Client.{readRefusal, abortRefusal, writeStep, readStep, abortStep, isIdle, inComplete, clocking, collecting, idle, begun}
 use Rattle.protocol.specs.Client.{onto}
-use Rattle.protocol.specs.Runs.{Lent, Step, write, read, give-up, take-reply}
+use Rattle.runs.specs.Runs.{Lent, Step, write, read, give-up, take-reply}
 use Rattle.protocol.proofs.Bodies.{decode-encode, decode-nothing}
-use Rattle.protocol.proofs.ValueRuns.{World, After, doValues, setClient, nowValues}
+use Rattle.runs.proofs.ValueRuns.{World, After, doValues, setClient, nowValues}
 use Rattle.atomicity.specs.Lists.{All}
 use Rattle.atomicity.specs.Steps.{StepIn, stampedBy, checkedBy, digestedBy, noncesBy}
 use Rattle.atomicity.specs.Premises.{PartyOf, Authentic, Begins, FreshNonce}

@@ -28,10 +28,10 @@ use Rattle.hmac.specs.Hmac.{tagOf}
 use Rattle.hmac.proofs.Laws.{tag-length, tag-bytes}
 use Rattle.protocol.specs.Primitives.{real}
 use Rattle.protocol.specs.View.{keptSize}
-use Rattle.protocol.specs.Runs.{StepOn, byBytes}
+use Rattle.runs.specs.Runs.{StepOn, byBytes}
 use Rattle.protocol.proofs.Primitive.{real-lengths}
-use Rattle.protocol.proofs.ValueRuns.{byValues}
-use Rattle.protocol.proofs.Accounts.{claimed}
+use Rattle.runs.proofs.ValueRuns.{byValues}
+use Rattle.runs.proofs.Accounts.{claimed}
 use Rattle.atomicity.specs.Lists.{Always}
 use Rattle.atomicity.specs.Premises.{Premise}
 use Rattle.atomicity.specs.Claim.{log, systemOf}

@@ -16,8 +16,8 @@ use Rattle.protocol.specs.Packet.{Body, BodyOk, Packet, PacketOk, kindOf}
 use Rattle.protocol.proofs.ServerLift.{reply-ok}
 use Rattle.protocol.specs.Server.{replyTo}
 use Rattle.protocol.specs.Client.{Turn, made, makeRefusal, takeRefusal, highAt, awaits}
-use Rattle.protocol.specs.Runs.{Lent}
-use Rattle.protocol.proofs.ValueRuns.{World}
+use Rattle.runs.specs.Runs.{Lent}
+use Rattle.runs.proofs.ValueRuns.{World}
 use Rattle.atomicity.specs.Lists.{Ever, All, flat}
 use Rattle.atomicity.specs.Steps.{stampedFrom, clientChecks, compared, digestsWith}
 use Rattle.atomicity.specs.Premises.{odd}

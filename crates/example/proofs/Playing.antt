@@ -20,9 +20,9 @@ use Rattle.protocol.specs.Rules.{ByServer, countTo}
 use Rattle.protocol.specs.Server.{Server, blankServer}
 use Rattle.protocol.specs.Client.{accepted}
 use Rattle.protocol.specs.ClientBytes.{keyOf}
-use Rattle.protocol.specs.Runs.{Step, Shelf, configOf, Account}
+use Rattle.runs.specs.Runs.{Step, Shelf, configOf, Account}
 use Rattle.protocol.proofs.Primitive.{real-lengths}
-use Rattle.protocol.proofs.ValueRuns.{World, nowValues}
+use Rattle.runs.proofs.ValueRuns.{World, nowValues}
 use Rattle.atomicity.specs.Lists.{Ever, Always, All, In}
 use Rattle.atomicity.specs.Steps.{System, StepIn, stampedBy, tagsMade, digested, allDigested, noncesGot, checkedBy, digestedBy, noncesBy}
 use Rattle.atomicity.specs.Premises.{Correct, Parties, PartyOf, Authentic, Begins, Shows, FreshNonce, NoEarlyNonce, NoForgery, NoCollision}

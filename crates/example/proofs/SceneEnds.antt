@@ -14,7 +14,7 @@ use Rattle.protocol.specs.Primitives.{candidateMessage}
 use Rattle.protocol.specs.Rules.{upd, nobody, countTo}
 use Rattle.protocol.specs.Server.{replyTo, best}
 use Rattle.protocol.specs.Client.{refused, gave, collecting, filtering, awaits, isIdle, isFull, candidateMade, made, readRefusal, begun}
-use Rattle.protocol.specs.Runs.{take-reply}
+use Rattle.runs.specs.Runs.{take-reply}
 use Rattle.atomicity.specs.Lists.{Ever, All, flat}
 use Rattle.atomicity.specs.Steps.{judged, clientChecks, proving, stampedFrom, compared}
 use Rattle.atomicity.specs.Claim.{Logged, change}

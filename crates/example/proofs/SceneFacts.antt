@@ -14,9 +14,9 @@ use Rattle.protocol.specs.Primitives.{stampMessage, candidateMessage}
 use Rattle.protocol.specs.Rules.{upd}
 use Rattle.protocol.specs.Server.{Server, replyTo}
 use Rattle.protocol.specs.Client.{Turn, accepted, refused, awaits, isIdle, writeRefusal, writeStep, begun, made, candidateMade}
-use Rattle.protocol.specs.Runs.{Lent, Account, write, take-reply, serve}
+use Rattle.runs.specs.Runs.{Lent, Account, write, take-reply, serve}
 use Rattle.protocol.proofs.Bodies.{decode-encode}
-use Rattle.protocol.proofs.ValueRuns.{World, After, doValues, nowValues, setClient}
+use Rattle.runs.proofs.ValueRuns.{World, After, doValues, nowValues, setClient}
 use Rattle.atomicity.specs.Lists.{Ever, flat}
 use Rattle.atomicity.specs.Steps.{System, packetIn, StepIn, tagsChecked, digested, noncesGot, offered, judged, serverChecks, clientChecks}
 use Rattle.atomicity.specs.Steps.{stampedFrom}

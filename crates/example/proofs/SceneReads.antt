@@ -17,8 +17,8 @@ use Rattle.protocol.specs.Rules.{ByServer, upd, nobody, countTo}
 use Rattle.protocol.specs.Server.{Server, Acted, raise, act, barred, replyTo, serverRefusal}
 use Rattle.protocol.specs.Client.{Hand, refused, gave, clocking, collecting, filtering, repairing, awaits, isIdle, stampOf, candidateMade, made}
 use Rattle.protocol.specs.Client.{onto, higher, isFull, update, tooHigh, makeRefusal, takeRefusal, turnOn, highAt, begun}
-use Rattle.protocol.specs.Runs.{Lent}
-use Rattle.protocol.proofs.ValueRuns.{World}
+use Rattle.runs.specs.Runs.{Lent}
+use Rattle.runs.proofs.ValueRuns.{World}
 use Rattle.atomicity.specs.Lists.{All}
 use Rattle.atomicity.proofs.Util.{clash}
 use Rattle.example.proofs.Printed.{bare, full}

@@ -15,9 +15,9 @@ use Rattle.protocol.specs.Primitives.{stampMessage, candidateMessage}
 use Rattle.protocol.specs.Rules.{upd, nobody}
 use Rattle.protocol.specs.Server.{best}
 use Rattle.protocol.specs.Client.{checks, made, written, candidateMade, stampOf, writeRefusal, isIdle, awaits, begun}
-use Rattle.protocol.specs.Runs.{make, sentOf}
+use Rattle.runs.specs.Runs.{make, sentOf}
 use Rattle.protocol.proofs.Bodies.{decode-encode}
-use Rattle.protocol.proofs.ValueRuns.{World, nowValues, doValues}
+use Rattle.runs.proofs.ValueRuns.{World, nowValues, doValues}
 use Rattle.atomicity.specs.Lists.{Always, Ever, All, In, flat}
 use Rattle.atomicity.specs.Steps.{allDigested, stampedFrom, stampedBy, tagsWith, digestsWith, judged, clientChecks, compared}
 use Rattle.atomicity.specs.Premises.{Shows}

@@ -17,8 +17,8 @@ use Rattle.protocol.specs.Server.{Server, onStore, raise, act, barred, replyTo,
 use Rattle.protocol.specs.Client.{Hand, Turn, Result, newClient, more, written, idle, clocking, storing, completing, awaits, isIdle, stampOf}
 use Rattle.protocol.specs.Client.{candidateMade, sharesMade, prepared, made, onto, checks, higher, isFull, update, tooHigh, makeRefusal}
 use Rattle.protocol.specs.Client.{takeRefusal, turnOn, highAt, begun}
-use Rattle.protocol.specs.Runs.{Lent}
-use Rattle.protocol.proofs.ValueRuns.{World}
+use Rattle.runs.specs.Runs.{Lent}
+use Rattle.runs.proofs.ValueRuns.{World}
 use Rattle.example.proofs.Playing.{Hashing, functions, desk, s, nonce1}
 use Rattle.example.proofs.ServeSteps.{served}
 use Rattle.example.proofs.TakeSteps.{took}

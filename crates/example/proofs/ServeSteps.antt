@@ -19,10 +19,10 @@ use Rattle.protocol.specs.Server.{memoryOf, Server, Acted, Stepped, blankServer
 use Rattle.protocol.specs.Client.{awaits, Made as Making, accepted, made, makeRefusal, makeStep}
 use Rattle.protocol.specs.ClientBytes.{keyOf}
 use Rattle.protocol.specs.View.{keptSize}
-use Rattle.protocol.specs.Runs.{Lent, write, make, take-reply, serve, resultOf, steps}
+use Rattle.runs.specs.Runs.{Lent, write, make, take-reply, serve, resultOf, steps}
 use Rattle.protocol.proofs.Bodies.{decode-encode, decode-nothing}
-use Rattle.protocol.proofs.RunLift.{AllFed, run-agrees}
-use Rattle.protocol.proofs.ValueRuns.{World, After, doValues}
+use Rattle.runs.proofs.RunLift.{AllFed, run-agrees}
+use Rattle.runs.proofs.ValueRuns.{World, After, doValues}
 use Rattle.atomicity.specs.Lists.{All, flat}
 use Rattle.atomicity.specs.Steps.{StepIn, makes, serves, ofPacket, offered, serverChecks, judged, checkedBy, digestedBy, noncesBy}
 use Rattle.atomicity.specs.Premises.{Authentic, Begins, FreshNonce, Sent, odd}

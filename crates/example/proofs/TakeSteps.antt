@@ -14,9 +14,9 @@ use Rattle.format.specs.Format.{Bytes}
 use Rattle.protocol.specs.Packet.{Packet, PacketOk, kindOf, encode, decode}
 use Rattle.protocol.specs.Rules.{upd}
 use Rattle.protocol.specs.Client.{Client, Turn, refused, accepted, takeRefusal, takeStep, turnOn, highAt, awaits, inComplete}
-use Rattle.protocol.specs.Runs.{Lent, write, take-reply}
+use Rattle.runs.specs.Runs.{Lent, write, take-reply}
 use Rattle.protocol.proofs.Bodies.{decode-encode}
-use Rattle.protocol.proofs.ValueRuns.{World, After, doValues, setClient, nowValues}
+use Rattle.runs.proofs.ValueRuns.{World, After, doValues, setClient, nowValues}
 use Rattle.atomicity.specs.Lists.{All, flat}
 use Rattle.atomicity.specs.Steps.{StepIn, makes, serves, ofPacket, stampedFrom, stampedBy, clientChecks, compared, digestsWith, checkedBy}
 use Rattle.atomicity.specs.Steps.{digestedBy, noncesBy}

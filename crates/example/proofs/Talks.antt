@@ -14,8 +14,8 @@ use Rattle.cluster.specs.Ranges.{within, packetRoom, contentRoom}
 use Rattle.protocol.specs.Packet.{Body, Packet, kindOf, encode}
 use Rattle.protocol.specs.Server.{memoryOf, Server, replyTo, serverRefusal}
 use Rattle.protocol.specs.Client.{Turn, made, makeRefusal, takeRefusal, highAt, awaits}
-use Rattle.protocol.specs.Runs.{Lent, make, serve, sentOf}
-use Rattle.protocol.proofs.ValueRuns.{World}
+use Rattle.runs.specs.Runs.{Lent, make, serve, sentOf}
+use Rattle.runs.proofs.ValueRuns.{World}
 use Rattle.atomicity.specs.Lists.{Ever, All, flat}
 use Rattle.atomicity.specs.Steps.{offered, stampedFrom, serverChecks, clientChecks, judged, compared, digestsWith}
 use Rattle.atomicity.specs.Premises.{odd}

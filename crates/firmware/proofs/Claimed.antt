@@ -4,7 +4,7 @@ use mathlib.Core.List.{List}
 use Prim.Native.Nat.{ℕ}
 use lib.ListN.{replicate, length-replicate}
 use Rattle.protocol.specs.View.{keptSize}
-use Rattle.protocol.specs.Runs.{StepOn}
+use Rattle.runs.specs.Runs.{StepOn}
 use Rattle.atomicity.specs.Lists.{Always}
 use Rattle.atomicity.specs.Premises.{Premise}
 use Rattle.atomicity.specs.Claim.{OneServer, systemOf, Demand3}

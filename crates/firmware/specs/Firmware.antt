@@ -2,7 +2,7 @@
 -- (crates/embed/specs/Exports.antt), from client states of 00h and servers made blank, on a shelf whose keys have 32 bytes.
 use Prim.Native.Nat.{_≤_}
 use Rattle.cluster.specs.Ranges.{topFaults}
-use Rattle.protocol.specs.Runs.{Shelf}
+use Rattle.runs.specs.Runs.{Shelf}
 use Rattle.atomicity.specs.Claim.{EveryRun, OneServer, systemOf}
 use Rattle.atomicity.specs.Page41.{Page41Of}
 use Rattle.embed.specs.Exports.{KeysSized, byExports}

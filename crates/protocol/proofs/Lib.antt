@@ -32,9 +32,3 @@ pub mod ReadSeen
 pub mod Told
 pub mod TakeSeen
 pub mod StepLift
-pub mod ValueRuns
-pub mod LentKeys
-pub mod RunLift
-pub mod ContentLengths
-pub mod RequestLengths
-pub mod Accounts

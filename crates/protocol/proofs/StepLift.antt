@@ -19,7 +19,7 @@ use Rattle.protocol.specs.Rules.{countTo, nobody}
 use Rattle.protocol.specs.Client.{Client, Turn, Result, idle, clocking, collecting, refused, more, aborted, awaits, isIdle, onto, begun, writeRefusal, readRefusal, makeRefusal, abortRefusal, badFaults, badClient, ofWrite, writeStep, readStep, abortStep, makeStep, Made, takeStep, made}
 use Rattle.protocol.specs.View.{view}
 use Rattle.protocol.specs.ClientBytes.{fresh, inHand, keyOf, Machine, sentOf, putMarks, begins, putBack, told, after, begunBy, beginWrite, beginRead, giveUp, clientMake, clientTake}
-use Rattle.protocol.specs.Runs.{resultOf, resultBy}
+use Rattle.protocol.specs.Answers.{resultOf, resultBy}
 use Rattle.format.proofs.Answers.{no-some}
 use Rattle.protocol.proofs.Told.{refused-back}
 use Rattle.protocol.proofs.Bodies.{decode-ok}

@@ -14,7 +14,7 @@ use Rattle.protocol.specs.declared.Aborted.{Aborted}
 use Rattle.protocol.specs.declared.Aborted.the-variants as aborts
 use Rattle.protocol.specs.Answers.{bare, refusals, takenAnswer, abortedAnswer}
 use Rattle.protocol.specs.Client.{refused}
-use Rattle.protocol.specs.Runs.{resultBy}
+use Rattle.protocol.specs.Answers.{resultBy}
 
 refusal-back : (n : ℕ) → refusals + n - refusals ≡ n
 refusal-back n = omega arith

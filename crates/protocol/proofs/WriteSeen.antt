@@ -18,7 +18,7 @@ use Rattle.protocol.specs.Client.{Turn, more, storing, completing, await
 use Rattle.protocol.specs.View.{chosenOf, sharesIn, contentOf, nonceOf, candidateAt, handOf, view, keptSize, chosenPlace, candidateSlot}
 use Rattle.format.specs.Reading.{bytesAt, put}
 use Rattle.protocol.specs.ClientBytes.{Took, putShares, begins, putBack, after, tookBy}
-use Rattle.protocol.specs.Runs.{resultBy}
+use Rattle.protocol.specs.Answers.{resultBy}
 use Rattle.protocol.proofs.Packets.{CandidateLengths, candidate-length}
 use Rattle.protocol.proofs.Room.{Fitting}
 use Rattle.format.proofs.Puts.{put-length}

@@ -1,12 +1,17 @@
 -- Answers in document 01's numbers ("Drill sheets"): for each case of an enum that code answers, its result and the values told with it.
 -- The contracts, a drill's listing and the exported functions use these tables, and no other.
-use Prim.Native.Nat.{ℕ, _+_}
+use mathlib.Core.Bool.{cond}
+use mathlib.Core.List.{List}
+use Prim.Native.Nat.{ℕ, zero, suc, _+_, _-_}
+use lib.Dec.{leb, eqb}
+use lib.ListN.{take}
 use Rattle.protocol.specs.declared.Label.{Label}
 use Rattle.protocol.specs.declared.Answer.{Answer}
 use Rattle.protocol.specs.declared.Taken.{Taken}
 use Rattle.protocol.specs.declared.Taken.the-variants as taken
 use Rattle.protocol.specs.declared.Aborted.{Aborted}
 use Rattle.protocol.specs.declared.Aborted.the-variants as aborts
+use Rattle.protocol.specs.Pending.{Result, refused, more, written, gave, gaveBlank, aborted}
 
 -- a result without values: 0 stands for each
 abbrev pub bare : ℕ → Answer
@@ -33,3 +38,17 @@ abbrev pub abortedAnswer : Aborted → Answer
 abortedAnswer (aborts.Refused n) = bare (refusals + n)
 abortedAnswer aborts.Before = bare 4
 abortedAnswer aborts.InComplete = bare 5
+
+-- ---- what an answer says of a step
+
+abbrev pub resultOf : ℕ → Result
+resultOf zero = more
+resultOf (suc n) = refused (suc n)
+
+-- what an answer of a client says, by its number: a content is read from the output buffer
+abbrev pub resultBy : Answer → List ℕ → Result
+resultBy a output =
+    let n = a .result in
+    cond (leb refusals n) (refused (n - refusals))
+    (cond (eqb n 0) more (cond (eqb n 1) (written (labelIn a)) (cond (eqb n 2) (gave (labelIn a) (take (a .length) output))
+    (cond (eqb n 3) gaveBlank (aborted (eqb n 5))))))

@@ -63,6 +63,10 @@ keyOf (k ∷ ks) (suc (suc i)) = keyOf ks (suc i)
 unfoldable pub fresh : ℕ → Tally
 fresh r = record { round = r; count = 0; marks = replicate mostServers 0 }
 
+-- a client that has begun no call
+abbrev pub newCall : Call
+newCall = record { number = 0; last = 0; high = 0; length = 0; tally = fresh 0 }
+
 unfoldable pub inHand : Call → Bool
 inHand c = within 1 6 (c .tally .round)
 

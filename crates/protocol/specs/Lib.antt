@@ -10,4 +10,3 @@ pub mod Answers
 pub mod Client
 pub mod View
 pub mod ClientBytes
-pub mod Runs

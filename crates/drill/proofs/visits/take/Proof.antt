@@ -4,7 +4,7 @@ use mathlib.Core.List.{List}
 use Prim.Native.Nat.{ℕ, _+_, _-_}
 use native.Mathlib.Omega.{arith}
 use Rattle.client.specs.Core.{coreTake}
-use Rattle.protocol.specs.Runs.{Lent}
+use Rattle.runs.specs.Runs.{Lent}
 use Rattle.drill.specs.Steps.{drillShelf, lentTo}
 use Rattle.drill.specs.Area.{callIn, keptIn, takeIn}
 use Rattle.drill.proofs.Slots.{core-take, takes-as}

@@ -11,26 +11,26 @@ use borrow.Author.Tests.{eqb-true, leb-true}
 use Rattle.cluster.specs.Config.{Config, shelf}
 use Rattle.cluster.specs.Ranges.{topFaults}
 use Rattle.cluster.proofs.Tests.{and-both}
 use Rattle.protocol.specs.Packet.{Packet, PacketOk, decode, encode}
 use Rattle.protocol.specs.Primitives.{Primitives, Lengths}
 use Rattle.protocol.specs.Rules.{ByServer, upd}
 use Rattle.protocol.specs.Server.{Stepped, serverStep}
 use Rattle.protocol.specs.ServerBytes.{Served, serverTake}
 use Rattle.protocol.specs.Client.{Client, Turn, Result, idle, newClient, writeStep, readStep, abortStep, takeStep, makeStep}
 use Rattle.protocol.specs.View.{handOf, view, keptSize}
 use Rattle.protocol.specs.ClientBytes.{fresh, keyOf, clientMake, clientTake}
-use Rattle.protocol.specs.Runs.{Shelf, configOf, Step, write, read, make, take-reply, give-up, serve, resultOf, resultBy, sentOf, Machine, Machines, Done, newCall, setMachine, doBytes, nowBytes, Fed}
-use Rattle.protocol.proofs.ValueRuns.{World, After, setClient, doValues, nowValues}
-use Rattle.protocol.proofs.LentKeys.{take-lent}
+use Rattle.runs.specs.Runs.{Shelf, configOf, Step, write, read, make, take-reply, give-up, serve, resultOf, resultBy, sentOf, Machine, Machines, Done, newCall, setMachine, doBytes, nowBytes, Fed}
+use Rattle.runs.proofs.ValueRuns.{World, After, setClient, doValues, nowValues}
+use Rattle.runs.proofs.LentKeys.{take-lent}
 use Rattle.format.proofs.Answers.{no-some}
 use Rattle.protocol.proofs.Bodies.{decode-encode, decode-nothing}
 use Rattle.protocol.proofs.Room.{Fitting, shelf-fits}
 use Rattle.protocol.proofs.ServerLift as server
 use Rattle.protocol.proofs.ServerLift.{Holds, blank-holds, serve-lift}
 use Rattle.protocol.proofs.Marks.{marked-fresh}
 use Rattle.protocol.proofs.ClientLift.{Sound, Lifted, fresh-sound}
 use Rattle.protocol.proofs.Fine.{Fine, start-fine}
 use Rattle.protocol.proofs.StepLift.{Good, write-good, read-good, abort-good, take-good, make-good}
 
 module _ (P : Primitives) (law : Lengths P) (sh : Shelf) (tr : (1 ≤ sh .t) × (sh .t ≤ topFaults)) where
   abbrev s : Config

@@ -4,25 +4,23 @@ use mathlib.Core.Bool.{Bool, true, false, cond}
 use mathlib.Core.List.{List, [], _∷_}
 use mathlib.Core.Option.{Option, none, some}
 use mathlib.Core.Path.{_≡_}
-use Prim.Native.Nat.{ℕ, zero, suc, _-_}
-use lib.Dec.{leb, eqb}
+use Prim.Native.Nat.{ℕ}
+use lib.Dec.{eqb}
 use lib.ListN.{length, take}
 use Rattle.cluster.specs.Config.{Config, shelf}
 use Rattle.cluster.specs.Ranges.{within, topWriter}
-use Rattle.protocol.specs.declared.Call.{Call}
-use Rattle.protocol.specs.declared.Answer.{Answer}
 use Rattle.format.specs.Format.{Bytes}
 use Rattle.protocol.specs.Values.{nonceSize}
 use Rattle.protocol.specs.Memory.{Memory, decodeMemory, encodeMemory, blankMemory}
 use Rattle.protocol.specs.Primitives.{Primitives}
 use Rattle.protocol.specs.Rules.{ByServer, upd}
 use Rattle.protocol.specs.Server.{Server, blankServer}
 use Rattle.protocol.specs.ServerBytes.{serverIn, serverTake}
-use Rattle.protocol.specs.Client.{Client, Result, refused, more, written, gave, gaveBlank, aborted}
-use Rattle.protocol.specs.Answers.{refusals, labelIn}
+use Rattle.protocol.specs.Client.{Client, Result}
 use Rattle.protocol.specs.View.{view}
-use Rattle.protocol.specs.ClientBytes.{fresh, keyOf, beginWrite, beginRead, giveUp, clientTake, clientMake}
-pub use Rattle.protocol.specs.ClientBytes.{Machine, sentOf}
+use Rattle.protocol.specs.ClientBytes.{keyOf, beginWrite, beginRead, giveUp, clientTake, clientMake}
+pub use Rattle.protocol.specs.ClientBytes.{Machine, sentOf, newCall}
+pub use Rattle.protocol.specs.Answers.{resultOf, resultBy}
 
 -- a shelf's t, its writers' key, and the servers' keys
 pub record Shelf : Type 0 where
@@ -76,19 +74,7 @@ serves b (take-reply c lent p o) = false
 serves b (give-up c) = false
 serves b (serve e p o) = eqb b e
 
-abbrev pub resultOf : ℕ → Result
-resultOf zero = more
-resultOf (suc n) = refused (suc n)
-
--- ---- on bytes
-
--- what an answer of a client says, by its number: a content is read from the output buffer
-abbrev pub resultBy : Answer → List ℕ → Result
-resultBy a output =
-    let n = a .result in
-    cond (leb refusals n) (refused (n - refusals))
-    (cond (eqb n 0) more (cond (eqb n 1) (written (labelIn a)) (cond (eqb n 2) (gave (labelIn a) (take (a .length) output))
-    (cond (eqb n 3) gaveBlank (aborted (eqb n 5))))))
+-- ---- what a step does on bytes
 
 pub record Machines : Type 0 where
   pub client : ℕ → Machine
@@ -100,9 +86,6 @@ pub record Done : Type 0 where
   pub sent : List ℕ
 
 -- a client that has begun no call, whatever bytes it is lent to keep things in
-abbrev pub newCall : Call
-newCall = record { number = 0; last = 0; high = 0; length = 0; tally = fresh 0 }
-
 abbrev pub newMachine : List ℕ → Machine
 newMachine kept = record { call = newCall; kept = kept }
 

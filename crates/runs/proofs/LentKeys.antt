@@ -9,15 +9,15 @@ use Rattle.cluster.specs.Config.{Config}
 use Rattle.cluster.specs.Ranges.{within, topWriter}
 use Rattle.cluster.specs.Refusals.{onRefusal}
 use Rattle.cluster.proofs.Tests.{within-in}
 use Rattle.protocol.specs.Values.{Candidate, Held}
 use Rattle.protocol.specs.Packet.{Body, Packet}
 use Rattle.protocol.specs.Primitives.{Primitives}
 use Rattle.protocol.specs.Rules.{ByServer, upd}
 use Rattle.protocol.specs.Client.{Client, Hand, idle, clocking, storing, completing, collecting, filtering, repairing, refused, update, judge, found, tooHigh, isFull, awaits, takeRefusal, turnOn, highAt, takeStep}
-use Rattle.protocol.specs.Runs.{Lent}
+use Rattle.runs.specs.Runs.{Lent}
 use Rattle.protocol.specs.ClientBytes.{keyOf}
 use Rattle.protocol.proofs.HandOk.{HandOk}
 use Rattle.protocol.proofs.Fine.{Fine}
 
 abbrev Quiet : Hand → Type 0
 Quiet h = (r n : List ℕ) (k : ℕ) → h ≡ clocking r n k → ⊥

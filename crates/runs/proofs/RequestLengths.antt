@@ -10,22 +10,22 @@ use lib.ListN.{length}
 use Rattle.cluster.specs.Config.{Config, shelf}
 use Rattle.cluster.specs.Ranges.{topFaults}
 use Rattle.cluster.specs.Refusals.{onRefusal}
 use Rattle.protocol.specs.Values.{Candidate, stampSize, candidateSize}
 use Rattle.protocol.specs.Packet.{Body, Packet, PacketOk, headSize, shareSize, decode, encode}
 use Rattle.protocol.specs.Packet.{clock, clockReply, store, storeReply, complete, completeReply, collect, collectReply, filter, filterReply, repair, repairReply}
 use Rattle.protocol.specs.Primitives.{Primitives, Lengths}
 use Rattle.protocol.specs.Rules.{ByServer}
 use Rattle.protocol.specs.Client.{Client, Hand, more, idle, clocking, storing, completing, collecting, filtering, repairing, request, made, awaits, makeRefusal, Made, makeStep}
 use Rattle.protocol.specs.View.{view, keptSize}
 use Rattle.protocol.specs.ClientBytes.{keyOf}
-use Rattle.protocol.specs.Runs.{Shelf, configOf, Step, make, Done, resultOf, sentOf, nowBytes}
+use Rattle.runs.specs.Runs.{Shelf, configOf, Step, make, Done, resultOf, sentOf, nowBytes}
 use Rattle.protocol.proofs.Bodies.{decode-encode}
 use Rattle.protocol.proofs.Lengths.{bodySize, packet-size}
 use Rattle.protocol.proofs.HandOk.{HandOk}
 use Rattle.protocol.proofs.LetIn.{server-range}
-use Rattle.protocol.proofs.ValueRuns.{After, doValues, nowValues}
-use Rattle.protocol.proofs.RunLift.{AllFed, Agrees, run-matches, run-agrees}
-use Rattle.protocol.proofs.ContentLengths.{OfLength, done, lengthOf, of-length}
+use Rattle.runs.proofs.ValueRuns.{After, doValues, nowValues}
+use Rattle.runs.proofs.RunLift.{AllFed, Agrees, run-matches, run-agrees}
+use Rattle.runs.proofs.ContentLengths.{OfLength, done, lengthOf, of-length}
 
 -- the bytes of a request's body; n: the length of the content that is written
 abbrev pub requestSize : Config → ℕ → Body → ℕ

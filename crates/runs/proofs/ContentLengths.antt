@@ -11,19 +11,19 @@ use lib.ListN.{length}
 use borrow.Author.Tests.{eqb-true}
 use Rattle.cluster.specs.Config.{Config}
 use Rattle.cluster.specs.Ranges.{topFaults}
 use Rattle.protocol.specs.Values.{Candidate, Held, sameList}
 use Rattle.protocol.specs.Packet.{Body, Packet, decode}
 use Rattle.protocol.specs.Primitives.{Primitives, Lengths}
 use Rattle.protocol.specs.Rules.{ByServer, upd, leader, tagsIn}
 use Rattle.protocol.specs.Client.{Client, Hand, Turn, Result, accepted, idle, clocking, storing, completing, collecting, filtering, repairing, shareMade, prepared, codeIn, onto, begun, update, judge, found, isIdle, awaits, writeRefusal, readRefusal, abortRefusal, takeRefusal, writeStep, readStep, abortStep, turnOn, highAt, takeStep}
 use Rattle.protocol.specs.View.{keptSize}
 use Rattle.protocol.specs.ClientBytes.{keyOf}
-use Rattle.protocol.specs.Runs.{Shelf, configOf, Step, write, read, make, take-reply, give-up, serve, Done, doBytes, nowBytes}
+use Rattle.runs.specs.Runs.{Shelf, configOf, Step, write, read, make, take-reply, give-up, serve, Done, doBytes, nowBytes}
 use Rattle.format.proofs.Answers.{at-cond}
 use Rattle.protocol.proofs.Prepared.{shares-in}
 use Rattle.protocol.proofs.Fine.{at-refusal}
-use Rattle.protocol.proofs.ValueRuns.{World, doValues, nowValues, setClient}
-use Rattle.protocol.proofs.RunLift.{AllFed, run-agrees}
+use Rattle.runs.proofs.ValueRuns.{World, doValues, nowValues, setClient}
+use Rattle.runs.proofs.RunLift.{AllFed, run-agrees}
 
 -- what is in hand of a write is of a content of n bytes
 abbrev pub OfLength : Config → ℕ → Hand → Type 0

@@ -8,12 +8,12 @@ use Prim.Native.Nat.{ℕ}
 use lib.ListN.{length}
 use Rattle.cluster.specs.Config.{Config}
 use Rattle.cluster.specs.Ranges.{within}
 use Rattle.protocol.specs.Packet.{Packet, decode}
 use Rattle.protocol.specs.Primitives.{Primitives}
 use Rattle.protocol.specs.Rules.{ByServer, upd}
 use Rattle.protocol.specs.Server.{Server, blankServer, serverStep}
 use Rattle.protocol.specs.Client.{Client, Turn, Result, newClient, writeStep, readStep, abortStep, makeStep, takeStep}
-use Rattle.protocol.specs.Runs.{Step, write, read, make, take-reply, give-up, serve, resultOf, sentOf, Typed, steps, Account}
+use Rattle.runs.specs.Runs.{Step, write, read, make, take-reply, give-up, serve, resultOf, sentOf, Typed, steps, Account}
 
 pub record World : Type 0 where
   pub client : ℕ → Client

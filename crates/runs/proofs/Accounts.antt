@@ -9,16 +9,16 @@ use borrow.Author.Tests.{leb-true}
 use Rattle.cluster.specs.Config.{Config, shelf}
 use Rattle.cluster.specs.Ranges.{within, topFaults}
 use Rattle.cluster.proofs.Tests.{and-both}
 use Rattle.protocol.specs.Memory.{decodeMemory}
 use Rattle.protocol.specs.Primitives.{Primitives, Lengths}
 use Rattle.protocol.specs.Server.{Server, blankServer}
 use Rattle.protocol.specs.ServerBytes.{serverIn}
 use Rattle.protocol.specs.ClientBytes.{keyOf}
-use Rattle.protocol.specs.Runs.{Shelf, configOf, StepOn, steps, Account, serverOr, byBytes, doBytes, nowBytes}
+use Rattle.runs.specs.Runs.{Shelf, configOf, StepOn, steps, Account, serverOr, byBytes, doBytes, nowBytes}
 use Rattle.protocol.specs.View.{keptSize}
-use Rattle.protocol.proofs.ValueRuns.{byValues, doValues, nowValues}
+use Rattle.runs.proofs.ValueRuns.{byValues, doValues, nowValues}
 use Rattle.protocol.proofs.ServerLift.{Holds, holds-decodes}
-use Rattle.protocol.proofs.RunLift.{Matches, Agrees, AllFed, run-matches, run-agrees}
+use Rattle.runs.proofs.RunLift.{Matches, Agrees, AllFed, run-matches, run-agrees}
 
 module _ (P : Primitives) (law : Lengths P) (sh : Shelf) (tr : (1 ≤ sh .t) × (sh .t ≤ topFaults)) (first : ℕ → List ℕ)
     (sized : (c : ℕ) → length (first c) ≡ keptSize) where
