@@ -5,10 +5,10 @@ use mathlib.Core.Bool.{Bool, true, cond, not}
 use mathlib.Core.List.{List, [], _∷_}
 use mathlib.Core.Option.{Option, none, some}
 use Prim.Native.Nat.{ℕ, _+_, _≤_, _<_}
-use lib.Dec.{ltb}
+use lib.Dec.{ltb, eqb}
 use lib.ListN.{drop}
 use Rattle.cluster.specs.Config.{Config, shelf}
-use Rattle.cluster.specs.Refusals.{refuse, firstOf}
+use Rattle.cluster.specs.Refusals.{refuse, firstOf, Where, ByNumber}
 use Rattle.format.specs.Format.{All, many}
 use Rattle.protocol.specs.Values.{Write, sameList, isSome, rank, stampSize, candidateSize}
 use Rattle.protocol.specs.Packet.{stampF, writeF}
@@ -51,10 +51,22 @@ pub record FoundAt (s : Config) (d : List ℕ) (at : ℕ) (o : Option Write) : T
   pub there : Leaves (writeF s) d at (writeAt s (drop at d)) next
   pub first : o ≡ some (writeAt s (drop at d))
 
--- neither answer is a refusal: to a store, `At` becomes the reply 10 and `Nothing` 0 or 11 (Server's onStore)
+-- document 01's number, and the value: the place of the write, if there is one. Neither answer refuses anything: to a store, a place becomes
+-- the reply 10, and none 0 or 11 (Server's onStore)
+pub record FoundAnswer : Type 0 where
+  pub number : ℕ
+  pub place : Option ℕ
+
+abbrev pub foundAnswer : Found → FoundAnswer
+foundAnswer (found.At at) = record { number = 0; place = some at }
+foundAnswer found.Nothing = record { number = 0; place = none }
+
+abbrev pub PlaceAs : Config → List ℕ → Option Write → Option ℕ → Type 0
+PlaceAs s d o (some at) = FoundAt s d at o
+PlaceAs s d o none = o ≡ none
+
 abbrev pub FindIs : Config → List ℕ → Option Write → Found → Type 0
-FindIs s d o (found.At at) = FoundAt s d at o
-FindIs s d o found.Nothing = o ≡ none
+FindIs s d o r = let a = foundAnswer r in Where (eqb (a .number) 0) (PlaceAs s d o (a .place))
 
 abbrev pub SearchAs : Config → ℕ → List ℕ → List ℕ → Found → Type 0
 SearchAs s n d key r = (ws : List Write) (e : ℕ) → Stored s n d ws e → FindIs s d (firstWith key ws) r
@@ -101,10 +113,21 @@ pub record Checked (d : List ℕ) (told : Opened) : Type 0 where
 abbrev pub NoWrites : Config → ℕ → List ℕ → Type 0
 NoWrites s n d = (ws : List Write) (e : ℕ) → Stored s n d ws e → distinct ws ≡ true → ⊥
 
--- n writes of the server b of t; `Broken` becomes refusal 2, as memoryNumber says
+-- document 01's number, and the values: the place past the writes, and the highest of them
+pub record WritesAnswer : Type 0 where
+  pub number : ℕ
+  pub end : ℕ
+  pub top : Top
+
+abbrev pub writesAnswer : Writes → WritesAnswer
+writesAnswer (writes.Past e top) = record { number = 0; end = e; top = top }
+writesAnswer writes.Broken = record { number = 2; end = 0; top = record { key = 0; at = 0 } }
+
+-- n writes of the server b of t
 abbrev pub WritesAs : ℕ → ℕ → ℕ → List ℕ → Writes → Type 0
-WritesAs t b n d (writes.Past e top) = Checked d (record { t = t; server = b; count = n; end = e; top = top })
-WritesAs t b n d writes.Broken = NoWrites (shelf t) n d
+WritesAs t b n d r =
+    let a = writesAnswer r in
+    ByNumber 2 (Checked d (record { t = t; server = b; count = n; end = a .end; top = a .top })) (NoWrites (shelf t) n d) (a .number)
 
 -- ---- the whole memory: what decodeMemory gives, by its numbers, the places of its parts, and the highest stored write; or refusal 2
 

@@ -1,6 +1,6 @@
--- What each reader's answer says of the bytes from a place on. A reader answers `Broken` exactly where its format takes nothing;
--- that is document 01's refusal 7, as packetNumber says of a whole packet. Otherwise it answers a number, and the cursor past the field: the
--- field's value is known by its place.
+-- What each reader's answer says of the bytes from a place on. Each enum has one definition by cases, document 01's number and the values, and
+-- every promise goes by it: 0 where the format takes bytes there, with a number and the cursor past the field, whose value is known by its place;
+-- refusal 7 exactly where the format takes nothing. (In a server's memory the same is refusal 2, as memoryNumber says.)
 use mathlib.Core.Path.{_≡_}
 use mathlib.Core.List.{List, [], _∷_}
 use mathlib.Core.Logic.{_⊎_}
@@ -9,7 +9,8 @@ use mathlib.Core.Bool.{true, false, not}
 use Prim.Native.Nat.{ℕ, _+_, _-_, _*_, _≤_, _<_}
 use lib.ListN.{length, take, drop, getD}
 use Rattle.cluster.specs.Config.{Config}
-use Rattle.cluster.specs.Refusals.{refuse, firstOf}
+use Rattle.cluster.specs.Refusals.{refuse, firstOf, ByNumber}
+use Rattle.protocol.specs.declared.Head.{Head}
 use Rattle.protocol.specs.declared.Stamp.{Stamp}
 use Rattle.format.specs.Format.{Fmt, zeros, byte, number2, number4, run, many}
 use Rattle.protocol.specs.Values.{Candidate, Share, Write, Held, isSome, stampSize, candidateSize}
@@ -39,17 +40,28 @@ pub record Took {A : Type 0} (L : Layout A) (s : List ℕ) (at v next : ℕ) : T
   pub number : v ≡ L .number (drop at s)
   pub place : next ≡ at + L .size (drop at s)
 
--- in a packet `Broken` becomes refusal 7, in a server's memory 2
+-- document 01's number, and the values: the number that was read, and the place past the field; a refusal has none, and 0 stands for each
+pub record FieldAnswer : Type 0 where
+  pub number : ℕ
+  pub value : ℕ
+  pub next : ℕ
+
+abbrev pub fieldAnswer : Field → FieldAnswer
+fieldAnswer (field.Value v c) = record { number = 0; value = v; next = c .at }
+fieldAnswer field.Broken = record { number = 7; value = 0; next = 0 }
+
 abbrev pub FieldAs : {A : Type 0} → Layout A → List ℕ → ℕ → Field → Type 0
-FieldAs L s at (field.Value v c) = Took L s at v (c .at)
-FieldAs L s at field.Broken = Stops (L .format) s at
+FieldAs L s at r =
+    let a = fieldAnswer r in
+    ByNumber 7 (Took L s at (a .value) (a .next)) (Stops (L .format) s at) (a .number)
 
 -- ---- the fields
 
 -- a number from lo to hi
 abbrev pub RangedAs : ℕ → ℕ → ℕ → ℕ → Field → Type 0
-RangedAs lo hi v next (field.Value x c) = (x ≡ v) × (lo ≤ v) × (v ≤ hi) × (c .at ≡ next)
-RangedAs lo hi v next field.Broken = (v < lo) ⊎ (hi < v)
+RangedAs lo hi v next r =
+    let a = fieldAnswer r in
+    ByNumber 7 ((a .value ≡ v) × (lo ≤ v) × (v ≤ hi) × (a .next ≡ next)) ((v < lo) ⊎ (hi < v)) (a .number)
 
 -- a number of w bytes
 abbrev pub numberL : Fmt ℕ → (List ℕ → ℕ) → ℕ → Layout ℕ
@@ -118,10 +130,17 @@ pub record Past {A : Type 0} (F : Fmt A) (s : List ℕ) (at : ℕ) (a : A) (next
   pub leaves : Leaves F s at a next
   pub place : next ≡ at + n
 
--- `Broken` becomes that of the field which the run is part of
+-- document 01's number, and the place past the run
+pub record RunAnswer : Type 0 where
+  pub number : ℕ
+  pub next : ℕ
+
+abbrev pub runAnswer : Run → RunAnswer
+runAnswer (runs.Past c) = record { number = 0; next = c .at }
+runAnswer runs.Broken = record { number = 7; next = 0 }
+
 abbrev pub RunAs : ℕ → List ℕ → ℕ → Run → Type 0
-RunAs n s at (runs.Past c) = Past (run n) s at (bytesAt s at n) (c .at) n
-RunAs n s at runs.Broken = Stops (run n) s at
+RunAs n s at r = let a = runAnswer r in ByNumber 7 (Past (run n) s at (bytesAt s at n) (a .next) n) (Stops (run n) s at) (a .number)
 
 pub record Zeros (n : ℕ) (s : List ℕ) (at next : ℕ) : Type 0 where
   pub zero : zeros (take n (drop at s)) ≡ true
@@ -129,23 +148,35 @@ pub record Zeros (n : ℕ) (s : List ℕ) (at next : ℕ) : Type 0 where
   pub place : next ≡ at + n
 
 abbrev pub ZeroAs : ℕ → List ℕ → ℕ → Run → Type 0
-ZeroAs n s at (runs.Past c) = Zeros n s at (c .at)
-ZeroAs n s at runs.Broken = (length s - at < n) ⊎ ((at + n ≤ length s) × (zeros (take n (drop at s)) ≡ false))
+ZeroAs n s at r =
+    let a = runAnswer r in
+    ByNumber 7 (Zeros n s at (a .next)) ((length s - at < n) ⊎ ((at + n ≤ length s) × (zeros (take n (drop at s)) ≡ false))) (a .number)
 
 abbrev pub ManyAs : Config → ℕ → List ℕ → ℕ → Run → Type 0
-ManyAs c n s at (runs.Past p) = Past (many n (candidateF c)) s at (candidateList c n (drop at s)) (p .at) (candidateSize c * n)
-ManyAs c n s at runs.Broken = Stops (many n (candidateF c)) s at
+ManyAs c n s at r =
+    let a = runAnswer r in
+    ByNumber 7 (Past (many n (candidateF c)) s at (candidateList c n (drop at s)) (a .next) (candidateSize c * n)) (Stops (many n (candidateF c)) s at)
+    (a .number)
 
 -- ---- heads, bodies, packets
 
--- `Broken` becomes that of its packet
+-- document 01's number, the head, and the place past it
+pub record HeadAnswer : Type 0 where
+  pub number : ℕ
+  pub head : Head
+  pub next : ℕ
+
+abbrev pub headAnswer : HeadRead → HeadAnswer
+headAnswer (heads.Value h c) = record { number = 0; head = h; next = c .at }
+headAnswer heads.Broken = record { number = 7; head = record { kind = 0; client = 0; server = 0; t = 0; call = 0 }; next = 0 }
+
 abbrev pub HeadAs : List ℕ → HeadRead → Type 0
-HeadAs s (heads.Value h c) = Past headF s 0 h (c .at) headSize
-HeadAs s heads.Broken = Stops headF s 0
+HeadAs s r = let a = headAnswer r in ByNumber 7 (Past headF s 0 (a .head) (a .next) headSize) (Stops headF s 0) (a .number)
 
 abbrev pub BodyAs : Config → ℕ → List ℕ → ℕ → Field → Type 0
-BodyAs c k s at (field.Value v p) = Leaves (bodyF c k) s at (bodyAt c k (drop at s)) (p .at)
-BodyAs c k s at field.Broken = Stops (bodyF c k) s at
+BodyAs c k s at r =
+    let a = fieldAnswer r in
+    ByNumber 7 (Leaves (bodyF c k) s at (bodyAt c k (drop at s)) (a .next)) (Stops (bodyF c k) s at) (a .number)
 
 -- document 01's number of each answer
 abbrev pub packetNumber : PacketRead → ℕ
