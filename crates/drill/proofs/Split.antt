@@ -3,6 +3,7 @@
 use mathlib.Core.Path.{_≡_, refl, ap, sym, _∙_}
 use mathlib.Core.Bool.{Bool, true, false, cond}
 use mathlib.Core.List.{List, [], _∷_, _++_}
+use mathlib.Core.Option.{none}
 use Prim.Native.Nat.{ℕ, suc, _+_, _-_, _≤_, _<_}
 use native.Mathlib.Omega.{arith}
 use native.Mathlib.Numerals.{add-one}
@@ -11,9 +12,8 @@ use lib.ListN.{length, getD, take, drop, drop-of-length-le, length-drop}
 use lib.Seq.{drop-cons, take-suc, getD-drop}
 use borrow.Author.Tests.{eq-eqb, ne-eqb, lt-ltb, le-ltb, ltb-true, ltb-false}
 use Rattle.format.specs.Reading.{bytesAt}
-use Rattle.drill.specs.declared.sheet.Read.the-variants as reads
 use Rattle.drill.specs.Sheet.{Text, newline, before, lines, fields, readText}
-use Rattle.drill.specs.Reads.{readOf, textAt, EndsAt, nextAt}
+use Rattle.drill.specs.Reads.{textAt, EndsAt, nextAt}
 
 -- characters before the first line, the last one first
 abbrev glue : List ℕ → List Text → List Text
@@ -121,11 +121,11 @@ module _ (s : List ℕ) (end : ℕ) where
 
 -- ---- a line's text
 
-pub text-unended : (s : List ℕ) (at end : ℕ) → length s ≤ end → reads.Broken ≡ readOf (readText (textAt s at end))
-unfolding readOf readText textAt
+pub text-unended : (s : List ℕ) (at end : ℕ) → length s ≤ end → readText (textAt s at end) ≡ none
+unfolding readText textAt
 text-unended s at end h = rw (le-ltb end (length s) h)
 
-pub text-ended : (s : List ℕ) (at end : ℕ) → end < length s → readOf (fields (bytesAt s at (end - at))) ≡ readOf (readText (textAt s at end))
+pub text-ended : (s : List ℕ) (at end : ℕ) → end < length s → readText (textAt s at end) ≡ fields (bytesAt s at (end - at))
 unfolding readText textAt
 text-ended s at end h = rw (lt-ltb end (length s) h)
 

@@ -10,10 +10,11 @@ use Rattle.cluster.specs.Ranges.{within, topFaults}
 use Rattle.cluster.specs.Refusals.{refuse, firstOf, onRefusal}
 use Rattle.cluster.specs.declared.Outcome.{Outcome}
 use Rattle.format.specs.Reading.{over}
+use Rattle.protocol.specs.Answers.{refusals}
 use Rattle.runs.specs.Runs.{Shelf}
 use Rattle.drill.specs.declared.sheet.Line.{Line}
 use Rattle.drill.specs.declared.shown.Shown.{Shown}
-use Rattle.drill.specs.Sheet.{Text, lines, newline, columnSize, firstLine, stepLine}
+use Rattle.drill.specs.Sheet.{Text, lines, newline, columnSize, badLine, firstLine, stepLine}
 use Rattle.drill.specs.Steps.{State, drillShelf, start, stepOf, shown, roundOf}
 
 -- ---- rows
@@ -53,7 +54,7 @@ onLine (some l) broken go = go l
 unfoldable pub rows : Shelf → ℕ → State → List Text → List ℕ
 rows s n d [] = []
 rows s n d (x ∷ xs) =
-    onLine (stepLine n x) (lastRow n 117)
+    onLine (stepLine n x) (lastRow n (refusals + badLine))
     (λ l. let e = stepOf s (d .machines) (d .begun) l in
     stepRow n l (roundOf (e .state .machines) (l .client)) (shown (e .result)) ++ rows s (suc n) (e .state) xs)
 
@@ -61,8 +62,8 @@ rows s n d (x ∷ xs) =
 unfoldable pub listed : List Text → List ℕ
 listed [] = []
 listed (x ∷ xs) =
-    onLine (firstLine x) (lastRow 1 117)
-    (λ l. cond (within 1 topFaults (l .client)) (rows (drillShelf (l .client)) 2 (start (drillShelf (l .client))) xs) (lastRow 1 103))
+    onLine (firstLine x) (lastRow 1 (refusals + badLine))
+    (λ l. cond (within 1 topFaults (l .client)) (rows (drillShelf (l .client)) 2 (start (drillShelf (l .client))) xs) (lastRow 1 (refusals + 3)))
 
 unfoldable pub listing : List ℕ → List ℕ
 listing sheet = listed (lines sheet)

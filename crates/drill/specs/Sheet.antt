@@ -102,6 +102,10 @@ isStep l =
     (cond (eqb (l .verb) 3) (noContent l)
     (cond (eqb (l .verb) 4) (isBlanking l) false))))
 
+-- the refusal of a line that has another form, is not ended, or is line 99,999,999
+abbrev pub badLine : ℕ
+badLine = 17
+
 unfoldable pub firstLine : Text → Option Line
 firstLine x = onSome (readText x) (λ l. guard (isFirst l) (some l))
 

@@ -3,7 +3,7 @@ ghost use mathlib.Core.Path.{_≡_};
 ghost use Prim.Native.Nat.{_≤_, _<_};
 ghost use lib.ListN.{length};
 ghost use Rattle.drill.specs.Sheet.{readText, isFirst, isStep, isWrite, isAlone, isBlanking, noContent, firstLine, stepLine, lines};
-ghost use Rattle.drill.specs.Reads.{readOf, textAt, EndsAt, nextAt};
+ghost use Rattle.drill.specs.Reads.{readAnswer, sheetAnswer, textAt, EndsAt, nextAt};
 use crate::sheet::Line;
 use crate::sheet::Read;
 
@@ -96,7 +96,7 @@ fn is_step(l: Line) -> bool
 // The numbers of the line from a place to another, if 0Ah ended it.
 fn text_at(sheet: &[u8], at: usize, end: usize) -> Read
     requires { ⌜ at ≤ end ⌝ }
-    ensures { λ r. ⌜ r ≡ readOf (readText (textAt (now (sheet .entry)) at end)) ⌝ }
+    ensures { λ r. ⌜ readAnswer r ≡ sheetAnswer (readText (textAt (now (sheet .entry)) at end)) ⌝ }
 {
     if sheet.len() <= end {
         return Read::Broken;
@@ -105,7 +105,7 @@ fn text_at(sheet: &[u8], at: usize, end: usize) -> Read
 }
 
 pub(crate) fn first_line(sheet: &[u8], end: usize) -> Read
-    ensures { λ r. ⌜ r ≡ readOf (firstLine (textAt (now (sheet .entry)) 0 end)) ⌝ }
+    ensures { λ r. ⌜ readAnswer r ≡ sheetAnswer (firstLine (textAt (now (sheet .entry)) 0 end)) ⌝ }
 {
     let Read::Line(l) = text_at(sheet, 0, end) else {
         return Read::Broken;
@@ -119,7 +119,7 @@ pub(crate) fn first_line(sheet: &[u8], end: usize) -> Read
 // Line n of the sheet, after the first.
 pub(crate) fn step_line(sheet: &[u8], at: usize, end: usize, n: u32) -> Read
     requires { ⌜ at ≤ end ⌝ }
-    ensures { λ r. ⌜ r ≡ readOf (stepLine n (textAt (now (sheet .entry)) at end)) ⌝ }
+    ensures { λ r. ⌜ readAnswer r ≡ sheetAnswer (stepLine n (textAt (now (sheet .entry)) at end)) ⌝ }
 {
     if cluster::TOP_NUMBER <= n as usize {
         return Read::Broken;

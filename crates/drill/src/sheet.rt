@@ -3,7 +3,7 @@ ghost use mathlib.Core.Path.{_≡_};
 ghost use Prim.Native.Nat.{_≤_};
 ghost use lib.ListN.{length, drop};
 ghost use Rattle.drill.specs.Sheet.{column, number, digits, columnAt, columnSize, fields};
-ghost use Rattle.drill.specs.Reads.{numberOf, readOf};
+ghost use Rattle.drill.specs.Reads.{numberAnswer, readAnswer, sheetAnswer};
 
 // The five numbers of a line. Document 01 says box for server.
 pub struct Line {
@@ -60,7 +60,7 @@ fn wide(b: u8) -> u32
 // The value of the digits from a place on; eight at most, so that it fits.
 fn digits_from(s: &[u8], from: usize) -> Number
     requires { ⌜ length (now s) ≤ columnSize ⌝ }
-    ensures { λ r. ⌜ r ≡ numberOf (digits 0 (drop from (now (s .entry)))) ⌝ }
+    ensures { λ r. ⌜ numberAnswer r ≡ sheetAnswer (digits 0 (drop from (now (s .entry)))) ⌝ }
 {
     let mut v = 0u32;
     let mut i = from;
@@ -81,7 +81,7 @@ fn digits_from(s: &[u8], from: usize) -> Number
 // At least one digit, and no leading zero.
 fn number_from(s: &[u8], at: usize) -> Number
     requires { ⌜ length (now s) ≤ columnSize ⌝ }
-    ensures { λ r. ⌜ r ≡ numberOf (number (drop at (now (s .entry)))) ⌝ }
+    ensures { λ r. ⌜ numberAnswer r ≡ sheetAnswer (number (drop at (now (s .entry)))) ⌝ }
 {
     if s.len() <= at {
         return Number::Broken;
@@ -97,7 +97,7 @@ fn number_from(s: &[u8], at: usize) -> Number
 
 // The number in the column at a place.
 fn column_at(text: &[u8], at: usize) -> Number
-    ensures { λ r. ⌜ r ≡ numberOf (columnAt (now (text .entry)) at) ⌝ }
+    ensures { λ r. ⌜ numberAnswer r ≡ sheetAnswer (columnAt (now (text .entry)) at) ⌝ }
 {
     let s = wire::bytes::part(text, at, COLUMN);
     number_from(s, skip_spaces(s))
@@ -105,7 +105,7 @@ fn column_at(text: &[u8], at: usize) -> Number
 
 // Five columns.
 pub(crate) fn fields_of(text: &[u8]) -> Read
-    ensures { λ r. ⌜ r ≡ readOf (fields (now (text .entry))) ⌝ }
+    ensures { λ r. ⌜ readAnswer r ≡ sheetAnswer (fields (now (text .entry))) ⌝ }
 {
     if text.len() != LINE {
         return Read::Broken;

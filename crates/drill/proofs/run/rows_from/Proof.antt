@@ -1,13 +1,16 @@
 -- Line after line: what holds before a line is told once, at its place. Assumes nothing.
 use Rattle.drill.proofs.Running.{Going, going-none, going-size, going-all, going-last, going-more, row-room, line-number, line-form}
 use Rattle.drill.proofs.Split.{next-later}
-use Rattle.drill.proofs.Parsed.{read-line, read-broken}
+use Rattle.drill.proofs.Parsed.{line-told}
 use lib.ListN.{length}
 use native.Mathlib.Omega.{arith}
+use Rattle.drill.specs.Sheet.{Text, stepLine}
+use Rattle.drill.specs.Reads.{textAt}
 use Rattle.drill.specs.Listing.{rowSize}
 use Prim.Native.Nat.{ℕ, _+_, _-_, _≤_}
 use mathlib.Core.Path.{_≡_, sym, _∙_}
 use mathlib.Core.List.{List}
+use mathlib.Core.Option.{some}
 use borrow.Author.Needs.{needs}
 use Rattle.drill.proofs.run.rows_from.Statement.{statement}
 use Rattle.drill.proofs.run.rows_from.Tie as tie
@@ -21,96 +24,114 @@ abbrev μ-loop : tie.MeasureT-loop
 -- ---- before a line
 
 -- Places far back, each named once: the place, and from where it is seen.
-abbrev start-from-line-end : tie.After-line-end Inv-loop μ-loop → tie.Start Inv-loop μ-loop
-start-from-line-end c = c .before .before .before .before .before .before
+abbrev start-from-loop : tie.At-loop Inv-loop μ-loop → tie.Start Inv-loop μ-loop
+start-from-loop c = c .before .before .before .before
 
-module _ (c : tie.After-line-end Inv-loop μ-loop) where
+module _ (c : tie.At-loop Inv-loop μ-loop) where
   abbrev t : ℕ
-  t = start-from-line-end c .args .t
+  t = start-from-loop c .args .t
 
   abbrev sheet : List ℕ
-  sheet = start-from-line-end c .args .sheet .now
+  sheet = start-from-loop c .args .sheet .now
 
   abbrev given : List ℕ
-  given = start-from-line-end c .args .out .now
+  given = start-from-loop c .args .out .now
 
   abbrev start : ℕ
-  start = start-from-line-end c .args .from
+  start = start-from-loop c .args .from
 
   abbrev out : List ℕ
-  out = c .before .before .loop .out
+  out = c .loop .out
 
   abbrev work : List ℕ
-  work = c .before .before .loop .work
+  work = c .loop .work
 
   abbrev place : ℕ
-  place = c .before .before .loop .at
+  place = c .loop .at
 
   abbrev n : ℕ
-  n = c .before .before .loop .n
+  n = c .loop .n
 
   abbrev begun : ℕ
-  begun = c .before .before .loop .begun
+  begun = c .loop .begun
 
   abbrev done : ℕ
-  done = c .before .before .loop .done
+  done = c .loop .done
 
   going : Going t sheet given start out work place n begun done
-  going = c .before .before .loop .inv
-
-  room : done + rowSize ≤ length out
-  room = row-room t sheet given start out work place n begun done going (c .line-end .result) (c .line-end .ensures)
+  going = c .loop .inv
 
   size-is : length out ≡ length given
   size-is = going-size t sheet given start out work place n begun done going
 
+  work-is : length work ≡ length (start-from-loop c .args .work .now)
+  work-is = going .stands .size ∙ sym (start-from-loop c .pre .0 .1 .size)
+
+-- ---- at a line
+
+abbrev line-end-from-enum-told : tie.After-enum-told Inv-loop μ-loop → tie.After-line-end Inv-loop μ-loop
+line-end-from-enum-told c = c .before .before .before
+
+abbrev line-end-from-l : tie.After-l Inv-loop μ-loop → tie.After-line-end Inv-loop μ-loop
+line-end-from-l c = c .before .before .before
+
+module _ (c : tie.After-line-end Inv-loop μ-loop) where
+  abbrev line : Text
+  line = textAt (sheet (c .before .before)) (place (c .before .before)) (c .line-end .result)
+
+  room : done (c .before .before) + rowSize ≤ length (out (c .before .before))
+  room =
+      let p = c .before .before in
+      row-room (t p) (sheet p) (given p) (start p) (out p) (work p) (place p) (n p) (begun p) (done p) (going p) (c .line-end .result)
+      (c .line-end .ensures)
+
+step-is : (c : tie.After-l Inv-loop μ-loop) → stepLine (n (line-end-from-l c .before .before)) (line (line-end-from-l c)) ≡ some (c .l .given .0 .0)
+step-is c = line-told (c .before .before .step-line .ensures) (c .l .given .1)
+
 -- ---- the needs
 
 loop-holds : tie.Need-loop-holds Inv-loop μ-loop
-loop-holds c = let a = c .before .before .before .args in going-none (a .t) (a .sheet .now) (a .out .now) (a .from) (a .work .now)
-    (c .before .before .before .pre .0 .1) (c .before .before .before .pre .1 .0) (c .before .before .before .pre .1 .1)
+loop-holds c =
+    let at-start = c .before .before .before in
+    let a = at-start .args in
+    going-none (a .t) (a .sheet .now) (a .out .now) (a .from) (a .work .now) (at-start .pre .0 .1) (at-start .pre .1 .0) (at-start .pre .1 .1)
 
 step-line-requires : tie.Need-step-line-requires Inv-loop μ-loop
 step-line-requires c κs = c .line-end .ensures .after
 
 put-last-requires : tie.Need-put-last-requires Inv-loop μ-loop
-put-last-requires c κs = room (c .before .before .before .before)
+put-last-requires c κs = room (line-end-from-enum-told (c .before))
 
 abbrev enum-told-from-slice-known3 : tie.After-slice-known3 Inv-loop μ-loop → tie.After-enum-told Inv-loop μ-loop
 enum-told-from-slice-known3 c = c .before .before .before .before
 
 add-result : tie.Need-add-result Inv-loop μ-loop
-add-result c = let h = room (enum-told-from-slice-known3 c .before .before .before) in omega arith
+add-result c = let h = room (line-end-from-enum-told (enum-told-from-slice-known3 c)) in omega arith
 
 same-length : tie.Need-same-length Inv-loop μ-loop
-same-length c = c .before .out .given ∙ size-is (enum-told-from-slice-known3 c .before .before .before)
+same-length c = c .before .out .given ∙ size-is (line-end-from-enum-told (enum-told-from-slice-known3 c) .before .before)
 
 same-length-2 : tie.Need-same-length-2 Inv-loop μ-loop
-same-length-2 c =
-    let at-enum-told = enum-told-from-slice-known3 c in
-    going (at-enum-told .before .before .before) .stands .size ∙ sym
-    (at-enum-told .before .before .before .before .before .before .before .before .before .pre .0 .1 .size)
+same-length-2 c = work-is (line-end-from-enum-told (enum-told-from-slice-known3 c) .before .before)
 
 returns : tie.Need-returns Inv-loop μ-loop
 returns c =
     let at-enum-told = enum-told-from-slice-known3 c in
-    let p = at-enum-told .before .before .before in
-    going-last (t p) (sheet p) (given p) (start p) (out p) (work p) (place p) (n p) (begun p) (done p) (going p) (p .line-end .result)
-    (p .line-end .ensures) (read-broken _ (sym (at-enum-told .before .before .step-line .ensures) ∙
-    at-enum-told .enum-told .given .1)) (c .before .before .put-last .ensures)
+    let at-line-end = line-end-from-enum-told at-enum-told in
+    let p = at-line-end .before .before in
+    going-last (t p) (sheet p) (given p) (start p) (out p) (work p) (place p) (n p) (begun p) (done p) (going p) (at-line-end .line-end .result)
+    (at-line-end .line-end .ensures) (line-told (at-enum-told .before .before .step-line .ensures) (at-enum-told .enum-told .given .1))
+    (c .before .before .put-last .ensures)
 
 one-line-requires : tie.Need-one-line-requires Inv-loop μ-loop
 one-line-requires c κs =
     let at-l = c .before .before .before in
-    let o = read-line _ _ (sym (at-l .before .before .step-line .ensures) ∙ c .before .before .before .l .given .1) in
-    let g = going (at-l .before .before .before) in
-    let h = line-number _ _ _ o in (
-      (
-        (at-l .before .before .before .before .before .before .before .before .before .pre .0 .0, g .stands .size),
-        omega
-            (arith, g .few),
-      ),
-      (line-form _ _ _ o, room (at-l .before .before .before)),
+    let at-line-end = line-end-from-l at-l in
+    let p = at-line-end .before .before in
+    let h = line-number (n p) (line at-line-end) _ (step-is at-l) in
+    let few = going p .few in (
+      ((start-from-loop p .pre .0 .0, going p .stands .size), omega arith),
+      (line-form (n p) (line at-line-end) _ (step-is at-l), room at-line-end),
     )
 
 abbrev l-from-one-line : tie.After-one-line Inv-loop μ-loop → tie.After-l Inv-loop μ-loop
@@ -121,18 +142,18 @@ one-line-from-next-line c = c .before .before .before .before .before
 
 add-n : tie.Need-add-n Inv-loop μ-loop
 add-n c =
-    let at-one-line = one-line-from-next-line c in
-    let at-l = l-from-one-line at-one-line in
-    let h = line-number _ _ _ (read-line _ _ (sym (at-l .before .before .step-line .ensures) ∙ at-l .l .given .1)) in omega arith
+    let at-l = l-from-one-line (one-line-from-next-line c) in
+    let h = line-number _ (line (line-end-from-l at-l)) _ (step-is at-l) in omega arith
 
 add-done : tie.Need-add-done Inv-loop μ-loop
-add-done c = let h = room (l-from-one-line (one-line-from-next-line c) .before .before .before) in omega arith
+add-done c = let h = room (line-end-from-l (l-from-one-line (one-line-from-next-line c))) in omega arith
 
 loop-less : tie.Need-loop-less Inv-loop μ-loop
 loop-less c =
-    let p = l-from-one-line (one-line-from-next-line c) .before .before .before in
-    let e = p .line-end .ensures in
-    let h = next-later (sheet p) (p .line-end .result) (place p) (e .after) (e .within) (omega arith) in
+    let at-line-end = line-end-from-l (l-from-one-line (one-line-from-next-line c)) in
+    let p = at-line-end .before .before in
+    let e = at-line-end .line-end .ensures in
+    let h = next-later (sheet p) (at-line-end .line-end .result) (place p) (e .after) (e .within) (omega arith) in
     let r = c .next-line .ensures in
     omega arith
 
@@ -140,30 +161,22 @@ loop-again : tie.Need-loop-again Inv-loop μ-loop
 loop-again c =
     let at-one-line = one-line-from-next-line c in
     let at-l = l-from-one-line at-one-line in
-    let p = at-l .before .before .before in
+    let at-line-end = line-end-from-l at-l in
+    let p = at-line-end .before .before in
     rw (c .next-line .ensures)
-    (going-more (t p) (sheet p) (given p) (start p) (out p) (work p) (place p) (n p) (begun p) (done p) (going p) (p .line-end .result)
-    (p .line-end .ensures) (read-line _ _ (sym (at-l .before .before .step-line .ensures) ∙ at-l .l .given .1))
-    (at-one-line .one-line .ensures) (omega arith))
-
-abbrev start-from-loop : tie.After-loop Inv-loop μ-loop → tie.Start Inv-loop μ-loop
-start-from-loop c = c .before .before .before .before .before
+    (going-more (t p) (sheet p) (given p) (start p) (out p) (work p) (place p) (n p) (begun p) (done p) (going p) (at-line-end .line-end .result)
+    (at-line-end .line-end .ensures) (step-is at-l) (at-one-line .one-line .ensures) (omega arith))
 
 same-length-3 : tie.Need-same-length-3 Inv-loop μ-loop
-same-length-3 c =
-    let at-start = start-from-loop c in
-    going-size (at-start .args .t) (at-start .args .sheet .now) (at-start .args .out .now) (at-start .args .from) (c .before .loop .out)
-    (c .before .loop .work) (c .before .loop .at) (c .before .loop .n) (c .before .loop .begun) (c .before .loop .done) (c .before .loop .inv)
+same-length-3 c = size-is (c .before)
 
 same-length-4 : tie.Need-same-length-4 Inv-loop μ-loop
-same-length-4 c = c .before .loop .inv .stands .size ∙ sym (start-from-loop c .pre .0 .1 .size)
+same-length-4 c = work-is (c .before)
 
 returns-2 : tie.Need-returns-2 Inv-loop μ-loop
 returns-2 c =
-    let at-start = start-from-loop c in
-    going-all (at-start .args .t) (at-start .args .sheet .now) (at-start .args .out .now) (at-start .args .from) (c .before .loop .out)
-    (c .before .loop .work) (c .before .loop .at) (c .before .loop .n) (c .before .loop .begun) (c .before .loop .done) (c .before .loop .inv)
-    (omega arith)
+    let p = c .before in
+    going-all (t p) (sheet p) (given p) (start p) (out p) (work p) (place p) (n p) (begun p) (done p) (going p) (omega arith)
 
 pub rows-from-spec : {M : Type 1} → statement M
 rows-from-spec = tie.close (tie.spec Inv-loop μ-loop loop-holds (λ c κs. search needs) step-line-requires (λ c. search needs) (λ c. search needs)

@@ -1,13 +1,9 @@
 -- What is left to read stays the same over digits, whose value is below 10 to the power of their places. Assumes nothing.
-use lib.ListN.{getD}
-use Prim.Native.Nat.{_+_}
-use mathlib.Core.Path.{sym}
-use mathlib.Core.Path.{_≡_, refl, ap, _∙_}
-use Prim.Native.Nat.{_<_, _-_}
+use lib.ListN.{length, getD, drop}
+use Prim.Native.Nat.{_+_, _-_, _<_}
+use mathlib.Core.Path.{_≡_, refl, _∙_}
 use native.Mathlib.Omega.{arith}
-use lib.ListN.{length, drop}
 use Rattle.drill.specs.Sheet.{digits}
-use Rattle.drill.specs.Reads.{numberOf}
 use Rattle.drill.proofs.Numbers.{tens, tens-pos, tens-more, tens-fits, digits-more, digits-low, digits-high, digits-end}
 use borrow.Author.Needs.{needs}
 use Rattle.drill.proofs.sheet.digits_from.Statement.{statement}
@@ -23,19 +19,16 @@ loop-holds : tie.Need-loop-holds Inv-loop μ-loop
 loop-holds c = (refl, tens-pos (c .before .args .from))
 
 returns : tie.Need-returns Inv-loop μ-loop
-unfolding numberOf
 returns c =
-    let s = c .before .before .before .before .before .args .s .now in
-    ap numberOf (sym (c .before .before .before .loop .inv .0 ∙ digits-low s (c .before .before .before .loop .i) (omega arith)
-    (c .before .before .before .loop .v) (c .if1 .taken)))
+    let at-loop = c .before .before .before in
+    let s = at-loop .before .before .args .s .now in
+    rw (at-loop .loop .inv .0, digits-low s (at-loop .loop .i) (omega arith) (at-loop .loop .v) (c .if1 .taken))
 
 returns-2 : tie.Need-returns-2 Inv-loop μ-loop
-unfolding numberOf
 returns-2 c =
     let at-loop = c .before .before .before .before in
     let s = at-loop .before .before .args .s .now in
-    ap numberOf (sym (at-loop .loop .inv .0 ∙ digits-high s (at-loop .loop .i) (omega arith)
-    (at-loop .loop .v) (c .before .if1 .left) (c .if2 .taken)))
+    rw (at-loop .loop .inv .0, digits-high s (at-loop .loop .i) (omega arith) (at-loop .loop .v) (c .before .if1 .left) (c .if2 .taken))
 
 mul-v : tie.Need-mul-v Inv-loop μ-loop
 mul-v c = let f = tens-fits (c .before .before .before .before .loop .i) (omega arith) in omega arith
@@ -59,10 +52,10 @@ loop-again c =
     )
 
 returns-3 : tie.Need-returns-3 Inv-loop μ-loop
-unfolding numberOf
 returns-3 c =
-    let s = c .before .before .before .args .s .now in
-    ap numberOf (sym (c .before .loop .inv .0 ∙ digits-end s (c .before .loop .i) (c .before .loop .v) (omega arith)))
+    let at-loop = c .before in
+    let s = at-loop .before .before .args .s .now in
+    rw (at-loop .loop .inv .0, digits-end s (at-loop .loop .i) (at-loop .loop .v) (omega arith))
 
 pub digits-from-spec : {M : Type 1} → statement M
 digits-from-spec = tie.close (tie.spec Inv-loop μ-loop loop-holds (λ c. search needs) returns returns-2 mul-v (λ c κs. search needs) add-v
