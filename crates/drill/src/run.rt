@@ -16,6 +16,11 @@ use crate::lines::step_line;
 use crate::sheet::Line;
 use crate::sheet::Read;
 
+// The results of a line that ends the run: its form is another, or only its t is wrong.
+const BAD_LINE: u32 = (protocol::REFUSALS + cluster::refusals::LINE as u16) as u32;
+
+const BAD_FAULTS: u32 = (protocol::REFUSALS + cluster::refusals::FAULTS as u16) as u32;
+
 // Every server of the shelf is made blank.
 pub(crate) fn blank_servers(work: &mut [u8], t: usize)
     requires { ⌜ ((1 ≤ t) × (t ≤ topFaults)) × ((length (now work) ≡ workSize) × (now work ≡ replicate (length (now work)) 0)) ⌝ }
@@ -68,7 +73,7 @@ pub(crate) fn rows_from(
     while at < sheet.len() {
         let end = line_end(sheet, at);
         let Read::Line(l) = step_line(sheet, at, end, n) else {
-            crate::rows::put_last(out, done, n, 117);
+            crate::rows::put_last(out, done, n, BAD_LINE);
             return done + crate::rows::ROW;
         };
         begun = one_line(out, work, t, done, n, begun, l);
@@ -90,12 +95,12 @@ pub(crate) fn list(sheet: &[u8], out: &mut [u8], work: &mut [u8]) -> usize
     }
     let end = line_end(sheet, 0);
     let Read::Line(l) = first_line(sheet, end) else {
-        crate::rows::put_last(out, 0, 1, 117);
+        crate::rows::put_last(out, 0, 1, BAD_LINE);
         return crate::rows::ROW;
     };
     let t = l.client as usize;
     if cluster::outside(1, cluster::TOP_FAULTS, t) {
-        crate::rows::put_last(out, 0, 1, 103);
+        crate::rows::put_last(out, 0, 1, BAD_FAULTS);
         return crate::rows::ROW;
     }
     blank_servers(work, t);
