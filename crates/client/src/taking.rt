@@ -126,7 +126,7 @@ fn take_reply(
     ensures { λ r. ⌜ TakesAs t client (now (writers .entry)) (now (keys .entry)) call (now (kept .entry)) (now (reply .entry)) (now (out .entry)) r
         (now (kept .exit)) (now (out .exit)) ⌝ }
 {
-    let wire::packet::PacketRead::Value(head) = wire::packet::read_packet(reply) else {
+    let wire::packet::PacketRead::Value(head, _) = wire::packet::read_packet(reply) else {
         return answers::refused(cluster::refusals::LAYOUT, call);
     };
     let n = replies::reply_refusal(head, call, t, client);

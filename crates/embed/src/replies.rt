@@ -11,7 +11,7 @@ const STORE_REPLY: u8 = 4;
 pub extern "C" fn cendrulas_store_code(packet: &[u8]) -> u64
     ensures { λ r. ⌜ r ≡ codeTold (decode (now (packet .entry))) ⌝ }
 {
-    let wire::packet::PacketRead::Value(head) = wire::packet::read_packet(packet) else {
+    let wire::packet::PacketRead::Value(head, _) = wire::packet::read_packet(packet) else {
         return pack(cluster::refusals::LAYOUT, 0, 0, 0);
     };
     if head.kind != STORE_REPLY {

@@ -12,7 +12,8 @@ use lib.ListN.{drop, take, length}
 use borrow.Author.Tests.{ltb-true, ltb-false}
 use Rattle.cluster.specs.Config.{Config, shelf}
 use Rattle.format.specs.Format.{Bytes, many}
-use Rattle.protocol.specs.Values.{Write, sameList, isSome, stampSize, rank}
+use Rattle.protocol.specs.declared.Label.{Label}
+use Rattle.protocol.specs.Values.{Write, labelOf, sameList, isSome, stampSize, rankBy, rank}
 use Rattle.protocol.specs.Packet.{stampF, writeF}
 use Rattle.protocol.specs.Memory.{lookup, freshAfter, distinct}
 use Rattle.protocol.specs.View.{stampAt}
@@ -149,9 +150,10 @@ module _ (t : ℕ) {n : ℕ} {d : List ℕ} {at i : ℕ} {top : Top} (h : Checki
         many-stops (writeF (shelf t)) (n - i) (n - (i + 1)) (omega arith) r f
 
     module _ {q : ℕ} (f : Leaves (writeF (shelf t)) d at (writeAt (shelf t) (drop at d)) q) where
-      last-key : {x : List ℕ} → x ≡ drop at d → {k : ℕ} → k ≡ rank (stampAt x) → k ≡ rank (writeAt (shelf t) (drop at d) .stamp)
+      last-key : {l : Label} → l ≡ labelOf (stampAt (drop at d)) → {k : ℕ} → k ≡ rankBy (l .number) (l .writer)
+          → k ≡ rank (writeAt (shelf t) (drop at d) .stamp)
       unfolding writeAt
-      last-key p e = e ∙ ap (λ (y : List ℕ). rank (stampAt y)) p
+      last-key p e = e ∙ ap (λ (y : Label). rankBy (y .number) (y .writer)) p
 
       -- the stamps seen and then the others, where the first of these is known to be fresh or not
       fresh-next : (b : ℕ) (r : Bool) → RepeatsAs d (seenSo t b i at top) r → (zs : List Write)
@@ -166,9 +168,9 @@ module _ (t : ℕ) {n : ℕ} {d : List ℕ} {at i : ℕ} {top : Top} (h : Checki
           let z : true ≡ false = sym o ∙ p ∙ ap (freshAfter (h .seen)) u ∙ fresh-next b v g zs ∙ rw y in
           subst T z tt
 
-      pub check-more : Bytes d → {x : List ℕ} → x ≡ drop at d → {k : ℕ} → k ≡ rank (stampAt x) → {up : Top} → up ≡ raisedTop top k at
-          → (b : ℕ) {c : Bool} → RepeatsAs d (seenSo t b i at top) c → c ≡ false → Checking (shelf t) n d q up (i + 1)
-      check-more bs {x} p₀ {k} q₀ {up} v b {c} g y =
+      pub check-more : Bytes d → {l : Label} → l ≡ labelOf (stampAt (drop at d)) → {k : ℕ} → k ≡ rankBy (l .number) (l .writer)
+          → {up : Top} → up ≡ raisedTop top k at → (b : ℕ) {c : Bool} → RepeatsAs d (seenSo t b i at top) c → c ≡ false → Checking (shelf t) n d q up (i + 1)
+      check-more bs p₀ q₀ v b {c} g y =
           let w : Write = writeAt (shelf t) (drop at d) in
           record {
             seen = h .seen ++ w ∷ [];

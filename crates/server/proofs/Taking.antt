@@ -8,7 +8,7 @@ use mathlib.Core.Option.{none, some}
 use Prim.Native.Nat.{ℕ, _≤_, _<_}
 use native.Mathlib.Omega.{arith}
 use lib.Dec.{T, ltb, eqb}
-use lib.ListN.{length, drop, getD}
+use lib.ListN.{length, drop}
 use borrow.Author.Tests.{eq-eqb, ne-eqb, eqb-true, eqb-false, lt-ltb, le-ltb, ltb-false}
 use Rattle.cluster.specs.Config.{shelf}
 use Rattle.cluster.specs.Ranges.{topWriter, memorySize, packetRoom}
@@ -16,17 +16,14 @@ use Rattle.cluster.specs.Refusals.{onRefusal}
 use Rattle.cluster.specs.declared.Outcome.{Outcome}
 use Rattle.cluster.proofs.Tests.{and-both, refused-is}
 use Rattle.protocol.specs.declared.Head.{Head}
-use Rattle.protocol.specs.declared.Stamp.{Stamp}
-use Rattle.protocol.specs.Values.{stampSize}
+use Rattle.protocol.specs.declared.Label.{Label}
 use Rattle.protocol.specs.Packet.{Body, headSize, decode}
 use Rattle.protocol.specs.Memory.{decodeMemory}
 use Rattle.protocol.specs.Primitives.{real}
 use Rattle.protocol.specs.Server.{Server, memoryOf, barred, serverRefusal}
-use Rattle.protocol.specs.View.{stampAt, candidateAt}
 use Rattle.protocol.specs.ServerBytes.{Served, serverIn, turnedDown, actedOn, serverTake}
 use Rattle.format.proofs.Answers.{at-cond}
-use Rattle.wire.specs.Places.{padded, writeAt, bodyAt, packetAt}
-use Rattle.wire.proofs.Runs.{padded-get}
+use Rattle.wire.specs.Places.{bodyAt, packetAt, bodyLabel}
 use Rattle.server.specs.declared.memory.Opened.{Opened}
 use Rattle.server.specs.Reads.{OpenedAs}
 use Rattle.server.specs.Answers.{memoryIn, NumberAt, ToServer, AnswersAny}
@@ -34,17 +31,16 @@ use Rattle.server.proofs.Standing.{memory-fields}
 
 -- ---- refusal 9
 
-module _ (client : ℕ) (packet : List ℕ) where
-  pub foreign-reader : topWriter < client → true ≡ (ltb topWriter client || not (eqb (stampAt (drop headSize packet) .writer) client))
+-- whether a stamp of this writer is not one of the client's own
+abbrev foreign : ℕ → ℕ → Bool
+foreign client writer = ltb topWriter client || not (eqb writer client)
+
+module _ (client writer : ℕ) where
+  pub foreign-reader : topWriter < client → true ≡ foreign client writer
   foreign-reader h = rw (lt-ltb topWriter client h)
 
-  pub foreign-stamp : client ≤ topWriter → {x : List ℕ} {a : Stamp} → x ≡ drop headSize packet → a ≡ stampAt (padded stampSize x)
-      → not (eqb (a .writer) client) ≡ (ltb topWriter client || not (eqb (stampAt (drop headSize packet) .writer) client))
-  unfolding stampAt
-  foreign-stamp h {x} {a} p q =
-      let w : a .writer ≡ getD (drop headSize packet) 4 0 =
-      ap (λ (y : Stamp). y .writer) q ∙ padded-get stampSize x 4 (omega arith) ∙ ap (λ (y : List ℕ). getD y 4 0) p in
-      rw (le-ltb topWriter client h, w)
+  pub foreign-stamp : client ≤ topWriter → not (eqb writer client) ≡ foreign client writer
+  foreign-stamp h = rw (le-ltb topWriter client h)
 
 module _ (h : Head) (packet : List ℕ) where
   of-kind : (k : ℕ) → h .kind ≡ k → barred (h .client) (packetAt h packet .body) ≡ barred (h .client) (bodyAt (shelf (h .t)) k (drop headSize packet))
@@ -61,12 +57,18 @@ module _ (h : Head) (packet : List ℕ) where
   unfolding bodyAt barred
   barred-clock e = sym (of-kind 1 e)
 
-  pub barred-stamp : (h .kind ≡ 3) ⊎ (h .kind ≡ 5) → {r : Bool}
-      → r ≡ (ltb topWriter (h .client) || not (eqb (stampAt (drop headSize packet) .writer) (h .client)))
-      → r ≡ barred (h .client) (packetAt h packet .body)
-  unfolding bodyAt barred writeAt candidateAt
-  barred-stamp (inl e) p = p ∙ sym (of-kind 3 e)
-  barred-stamp (inr e) p = p ∙ sym (of-kind 5 e)
+  -- the label's writer is that of the stamp that the body of kind k begins with
+  writer-of : (k : ℕ) → h .kind ≡ k → {l : Label} → l ≡ bodyLabel (packetAt h packet .body)
+      → l .writer ≡ bodyLabel (bodyAt (shelf (h .t)) k (drop headSize packet)) .writer
+  unfolding packetAt
+  writer-of k e f =
+      ap (λ (x : Label). x .writer) f ∙ ap (λ (j : ℕ). bodyLabel (bodyAt (shelf (h .t)) j (drop headSize packet)) .writer) e
+
+  pub barred-stamp : (h .kind ≡ 3) ⊎ (h .kind ≡ 5) → {l : Label} → l ≡ bodyLabel (packetAt h packet .body) → {r : Bool}
+      → r ≡ foreign (h .client) (l .writer) → r ≡ barred (h .client) (packetAt h packet .body)
+  unfolding bodyAt bodyLabel barred
+  barred-stamp (inl e) f p = p ∙ ap (foreign (h .client)) (writer-of 3 e f) ∙ sym (of-kind 3 e)
+  barred-stamp (inr e) f p = p ∙ ap (foreign (h .client)) (writer-of 5 e f) ∙ sym (of-kind 5 e)
 
   -- every other kind is a reply
   pub barred-other : (h .kind ≡ 1 → ⊥) → ((h .kind ≡ 3) ⊎ (h .kind ≡ 5) → ⊥) → ((h .kind ≡ 7) ⊎ ((h .kind ≡ 9) ⊎ (h .kind ≡ 11)) → ⊥)

@@ -10,13 +10,14 @@ use lib.ListN.{length, drop}
 use Rattle.cluster.specs.Ranges.{packetRoom}
 use Rattle.protocol.specs.Values.{below}
 use Rattle.protocol.specs.declared.Head.{Head}
+use Rattle.protocol.specs.declared.Label.{Label}
 use Rattle.protocol.specs.Packet.{Packet, decode}
 use Rattle.protocol.specs.Memory.{Memory}
 use Rattle.protocol.specs.Primitives.{real}
 use Rattle.protocol.specs.Server.{Server, memoryOf, barred, serverRefusal}
 use Rattle.protocol.specs.View.{stampAt}
 use Rattle.protocol.specs.ServerBytes.{Served, actedOn}
-use Rattle.wire.specs.Places.{packetAt}
+use Rattle.wire.specs.Places.{packetAt, bodyLabel}
 use Rattle.wire.specs.Make.{placed}
 use Rattle.server.specs.declared.memory.Opened.{Opened}
 use Rattle.server.specs.Reads.{latestPlace, memoryWith, OpenedAs}
@@ -24,6 +25,10 @@ use Rattle.server.specs.Reads.{latestPlace, memoryWith, OpenedAs}
 -- the memory that opens
 abbrev pub memoryIn : {d : List ℕ} {told : Opened} → OpenedAs d told → Memory
 memoryIn {d} {told} o = memoryWith d told (o .writes)
+
+-- P of every packet with the head h and the label l, which is all that its reader tells of it
+abbrev pub EveryPacket : Head → Label → (Packet → Type 0) → Type 0
+EveryPacket h l P = (packet : List ℕ) → l ≡ bodyLabel (packetAt h packet .body) → P (packetAt h packet)
 
 -- r is the number of a packet at this server, whatever it holds
 abbrev pub NumberAt : Opened → Packet → ℕ → ℕ → Type 0

@@ -12,6 +12,7 @@ use wire::bytes::part;
 use wire::bytes::rest;
 use wire::fields::Cursor;
 use wire::fields::Field;
+use wire::parts::Labelled;
 use wire::values::rank_at;
 
 // The places of t, of the server's number, of the count of stored writes, and of the latest candidate.
@@ -151,7 +152,8 @@ fn check_writes(memory: &[u8], t: u8, server: u8, n: usize) -> Writes
     let mut top = Top { key: 0, at: 0 };
     let mut i = 0;
     while i < n {
-        let Field::Value(size, next) = wire::parts::write_field(memory, Cursor { at }, t) else {
+        let Labelled::Value(label, _, next) = wire::parts::write_field(memory, Cursor { at }, t)
+        else {
             return Writes::Broken;
         };
         let read = Opened {
@@ -164,7 +166,8 @@ fn check_writes(memory: &[u8], t: u8, server: u8, n: usize) -> Writes
         if repeats(memory, read) {
             return Writes::Broken;
         }
-        top = raised(top, rank_at(rest(memory, at)), at);
+        let key = protocol::Stamp::rank_of(label.number, label.writer);
+        top = raised(top, key, at);
         at = next.at;
         i += 1;
     }
@@ -194,7 +197,7 @@ pub(crate) fn open(memory: &[u8]) -> MemoryRead
     else {
         return MemoryRead::Broken;
     };
-    let Field::Value(number, c4) = wire::parts::any_candidate_field(memory, c3, t as u8) else {
+    let Labelled::Value(_, _, c4) = wire::parts::any_candidate_field(memory, c3, t as u8) else {
         return MemoryRead::Broken;
     };
     let Writes::Past(end, top) = check_writes(memory, t as u8, server as u8, n as usize) else {

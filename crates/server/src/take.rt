@@ -3,49 +3,44 @@ ghost use mathlib.Core.Path.{_≡_};
 ghost use mathlib.Core.Bool.{not, _||_};
 ghost use Prim.Native.Nat.{_≤_};
 ghost use lib.Dec.{ltb, eqb};
-ghost use lib.ListN.{drop};
 ghost use Rattle.cluster.specs.Ranges.{topWriter};
-ghost use Rattle.protocol.specs.Packet.{headSize};
 ghost use Rattle.protocol.specs.Server.{barred};
-ghost use Rattle.protocol.specs.View.{stampAt};
 ghost use Rattle.protocol.specs.Primitives.{real};
 ghost use Rattle.protocol.specs.ServerBytes.{serverTake};
-ghost use Rattle.wire.specs.Places.{packetAt};
-ghost use Rattle.server.specs.Answers.{NumberAt, AnswersAny};
+ghost use Rattle.server.specs.Answers.{EveryPacket, NumberAt, AnswersAny};
 use crate::memory::MemoryRead;
 use crate::memory::Opened;
 use crate::memory::open;
 use wire::packet::PacketRead;
 use wire::packet::read_packet;
 
-// Whether a client may not send this store or complete: only a writer may, and only with a stamp of its own.
-fn foreign(client: u8, packet: &[u8]) -> bool
-    ensures { λ r. ⌜ r ≡ (ltb topWriter client || not (eqb (stampAt (drop headSize (now (packet .entry))) .writer) client)) ⌝ }
+// Whether a client may not send a store or complete of this stamp: only a writer may, and only with a stamp of its own.
+fn foreign(client: u8, label: protocol::Label) -> bool
+    ensures { λ r. ⌜ r ≡ (ltb topWriter client || not (eqb (label .writer) client)) ⌝ }
 {
     if cluster::TOP_WRITER < (client as usize) {
         return true;
     }
-    let stamp = wire::values::stamp_at(wire::bytes::rest(packet, wire::sizes::HEAD));
-    stamp.writer != client
+    label.writer != client
 }
 
 // Refusal 9: replies, and requests that only a writer may send.
-fn barred(head: protocol::Head, packet: &[u8]) -> bool
-    ensures { λ r. ⌜ r ≡ barred (head .client) (packetAt head (now (packet .entry)) .body) ⌝ }
+fn barred(head: protocol::Head, label: protocol::Label) -> bool
+    ensures { λ r. ⌜ EveryPacket head label (λ p. r ≡ barred (head .client) (p .body)) ⌝ }
 {
     let kind = head.kind;
     let client = head.client;
     match kind {
         protocol::kinds::COLLECT | protocol::kinds::FILTER | protocol::kinds::REPAIR => false,
         protocol::kinds::CLOCK => cluster::TOP_WRITER < (client as usize),
-        protocol::kinds::STORE | protocol::kinds::COMPLETE => foreign(client, packet),
+        protocol::kinds::STORE | protocol::kinds::COMPLETE => foreign(client, label),
         _ => true,
     }
 }
 
 // Refusals 8, 9 and 15 of a packet that was let through; 0 where none applies.
-fn refusal(head: protocol::Head, opened: Opened, packet: &[u8], room: usize) -> u8
-    ensures { λ r. ⌜ NumberAt opened (packetAt head (now (packet .entry))) room r ⌝ }
+fn refusal(head: protocol::Head, label: protocol::Label, opened: Opened, room: usize) -> u8
+    ensures { λ r. ⌜ EveryPacket head label (λ p. NumberAt opened p room r) ⌝ }
 {
     if head.t != opened.t {
         return cluster::refusals::ADDRESSEE;
@@ -53,7 +48,7 @@ fn refusal(head: protocol::Head, opened: Opened, packet: &[u8], room: usize) -> 
     if head.server != opened.server {
         return cluster::refusals::ADDRESSEE;
     }
-    if barred(head, packet) {
+    if barred(head, label) {
         return cluster::refusals::SENDER;
     }
     if room < cluster::PACKET_ROOM {
@@ -100,10 +95,10 @@ pub fn take(
     let MemoryRead::Value(opened) = open(memory) else {
         return cluster::refused(cluster::refusals::MEMORY);
     };
-    let PacketRead::Value(head) = read_packet(packet) else {
+    let PacketRead::Value(head, label) = read_packet(packet) else {
         return cluster::refused(cluster::refusals::LAYOUT);
     };
-    let number = refusal(head, opened, packet, out.len());
+    let number = refusal(head, label, opened, out.len());
     if number != 0 {
         return cluster::refused(number);
     }

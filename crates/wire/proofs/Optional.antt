@@ -10,6 +10,8 @@ use lib.Dec.{leb, eqb}
 use lib.ListN.{drop, getD}
 use borrow.Author.Tests.{eq-eqb, ne-eqb, le-leb, lt-leb}
 use Rattle.cluster.specs.Config.{Config}
+use Rattle.protocol.specs.declared.Label.{Label}
+use Rattle.protocol.specs.declared.Stamp.{Stamp}
 use Rattle.format.specs.Format.{byte}
 use Rattle.protocol.specs.Values.{Held, stampSize}
 use Rattle.protocol.specs.Packet.{shareF, heldF, heldMost, codeF}
@@ -18,7 +20,7 @@ use Rattle.format.specs.Reading.{Leaves, Stops}
 use Rattle.format.proofs.Leaves.{leaves-seq, leaves-via, stops-via, stops-second, leaves-keep, stops-test, leaves-absent, leaves-present, stops-flag, stops-present}
 use Rattle.protocol.proofs.Packets.{held-most}
 use Rattle.wire.specs.Places.{lengthAt, shareSize, heldSize}
-use Rattle.wire.specs.Reads.{Took, byteL, anyStampL, shareL, heldL, codeL}
+use Rattle.wire.specs.Reads.{Took, TookLabelled, byteL, anyStampL, shareL, heldL, codeL}
 use Rattle.wire.proofs.From.{drop-from, first-from}
 
 -- ---- a byte that is at most 1
@@ -31,76 +33,83 @@ one (suc (suc x)) h n = absurd (omega arith)
 abbrev heldBy : Config → List ℕ → ℕ → List ℕ → Held
 heldBy c d f e = record { stamp = stampAt d; share = cond (eqb f 0) none (some (shareAt c e)) }
 
-flag-one : (hi v : ℕ) {s : List ℕ} {p f q : ℕ} → hi ≡ cond (eqb v 0) 0 1 → Took (byteL 0 hi) s p f q → (f ≡ 0 → ⊥) → f ≡ 1
+flag-one : (hi : ℕ) (a : Stamp) {s : List ℕ} {p f q : ℕ} → hi ≡ heldMost a → Took (byteL 0 hi) s p f q → (f ≡ 0 → ⊥) → f ≡ 1
 unfolding byte
-flag-one hi v {s} {p} {f} {q} e b n =
+flag-one hi a {f = f} e b n =
     let o = b .leaves .ok in
-    one f (omega (arith, b .number, o .1, e, held-most (eqb v 0))) n
+    one f (omega (arith, b .number, o .1, e, held-most (eqb (a .number) 0))) n
 
-module _ (c : Config) {s : List ℕ} {at : ℕ} where
-  -- the byte after the stamp, with the limit that the stamp sets
-  flag-at : (hi : ℕ) {v p f q : ℕ} → Took anyStampL s at v p → hi ≡ cond (eqb v 0) 0 1 → Took (byteL 0 hi) s p f q → Leaves
-      (byte 0 (heldMost (stampAt (drop at s)))) s p f q
-  flag-at hi {v} {p} {f} {q} a e b =
-      let m : hi ≡ heldMost (stampAt (drop at s)) = e ∙ ap (λ (x : ℕ). cond (eqb x 0) 0 1) (a .number) in
-      subst (λ (k : ℕ). Leaves (byte 0 k) s p f q) m (subst (λ (x : ℕ). Leaves (byte 0 hi) s p x q) (sym (b .number)) (b .leaves))
+module _ (c : Config) {s : List ℕ} {at : ℕ} {l : Label} {v p : ℕ} (x : TookLabelled anyStampL s at l v p) (hi : ℕ)
+    (limit : hi ≡ cond (eqb (l .number) 0) 0 1) where
+  abbrev d : List ℕ
+  d = drop at s
 
-  flag-place : (hi : ℕ) {v p f q : ℕ} → Took anyStampL s at v p → Took (byteL 0 hi) s p f q → f ≡ getD (drop at s) stampSize 0
-  flag-place hi a b = b .number ∙ first-from s at stampSize (a .place)
+  abbrev a : Took anyStampL s at v p
+  a = x .took
 
-  pub held-absent : (hi : ℕ) {v p f q : ℕ} → Took anyStampL s at v p → hi ≡ cond (eqb v 0) 0 1 → Took (byteL 0 hi) s p f q → f ≡ 0 → Took (heldL c) s
-      at f q
-  unfolding heldF heldAt heldSize
-  held-absent hi {v} {p} {f} {q} a e b z =
-      let d : List ℕ = drop at s in
-      let g : getD d stampSize 0 ≡ 0 = sym (flag-place hi a b) ∙ z in
-      let l = leaves-via _ _ _ refl (leaves-seq _ _ (a .leaves) (leaves-absent _ _ (subst (λ (x : ℕ). Leaves (byte 0 (heldMost (stampAt d))) s p x q)
-      z (flag-at hi a e b)))) in
-      let w : q ≡ at + (stampSize + 1 + 0) = omega (arith, a .place, b .place) in
-      record {
-        leaves = subst (λ (x : ℕ). Leaves (heldF c) s at (heldBy c d x (drop (stampSize + 1) d)) q) (sym g) l;
-        number = flag-place hi a b;
-        place = w ∙ ap (λ (x : ℕ). at + (stampSize + 1 + cond (eqb x 0) 0 (shareSize c (lengthAt (drop (stampSize + 1) d))))) (sym g);
-      }
+  -- the limit that the stamp sets
+  most : hi ≡ heldMost (stampAt d)
+  most = limit ∙ ap (λ (y : Label). cond (eqb (y .number) 0) 0 1) (x .label)
 
-  pub held-flag-stops : (hi : ℕ) {v p : ℕ} → Took anyStampL s at v p → hi ≡ cond (eqb v 0) 0 1 → Stops (byte 0 hi) s p → Stops (heldF c) s at
+  pub held-flag-stops : Stops (byte 0 hi) s p → Stops (heldF c) s at
   unfolding heldF
-  held-flag-stops hi {v} {p} a e z =
-      let m : hi ≡ heldMost (stampAt (drop at s)) = e ∙ ap (λ (x : ℕ). cond (eqb x 0) 0 1) (a .number) in
-      stops-via _ _ _ (stops-second _ _ (a .leaves) (stops-flag _ _ (subst (λ (k : ℕ). Stops (byte 0 k) s p) m z)))
+  held-flag-stops z = stops-via _ _ _ (stops-second _ _ (a .leaves) (stops-flag _ _ (subst (λ (k : ℕ). Stops (byte 0 k) s p) most z)))
 
-  pub held-share-stops : (hi : ℕ) {v p f q : ℕ} → Took anyStampL s at v p → hi ≡ cond (eqb v 0) 0 1 → Took (byteL 0 hi) s p f q → (f ≡ 0 → ⊥)
-      → Stops (shareF c) s q → Stops (heldF c) s at
-  unfolding heldF
-  held-share-stops hi {v} {p} {f} {q} a e b n z =
-      let d : List ℕ = drop at s in
-      stops-via _ _ _
-      (stops-second _ _ (a .leaves)
-      (stops-present _ _ (subst (λ (x : ℕ). Leaves (byte 0 (heldMost (stampAt d))) s p x q) (flag-one hi v e b n) (flag-at hi a e b)) z))
+  module _ {f q : ℕ} (b : Took (byteL 0 hi) s p f q) where
+    -- the byte after the stamp
+    flag-at : Leaves (byte 0 (heldMost (stampAt d))) s p f q
+    flag-at = subst (λ (k : ℕ). Leaves (byte 0 k) s p f q) most (subst (λ (y : ℕ). Leaves (byte 0 hi) s p y q) (sym (b .number)) (b .leaves))
 
-  pub held-present : (hi : ℕ) {v p f q n u : ℕ} → Took anyStampL s at v p → hi ≡ cond (eqb v 0) 0 1 → Took (byteL 0 hi) s p f q → (f ≡ 0 → ⊥)
-      → Took (shareL c) s q n u → Took (heldL c) s at f u
-  unfolding heldF heldAt heldSize
-  held-present hi {v} {p} {f} {q} {n} {u} a e b x r =
-      let d : List ℕ = drop at s in
-      let g : getD d stampSize 0 ≡ 1 = sym (flag-place hi a b) ∙ flag-one hi v e b x in
-      let w : q ≡ at + (stampSize + 1) = omega (arith, a .place, b .place) in
-      let t : drop q s ≡ drop (stampSize + 1) d = drop-from s at (stampSize + 1) w in
-      let l =
-      leaves-via _ _ _ refl
-      (leaves-seq _ _ (a .leaves)
-      (leaves-present _ _ (subst (λ (y : ℕ). Leaves (byte 0 (heldMost (stampAt d))) s p y q) (flag-one hi v e b x) (flag-at hi a e b))
-      (r .leaves))) in
-      let z : ℕ = shareSize c (lengthAt (drop (stampSize + 1) d)) in
-      let k : u ≡ q + z = r .place ∙ ap (λ (y : List ℕ). q + shareSize c (lengthAt y)) t in
-      let j : u ≡ at + (stampSize + 1 + z) = omega (arith, k, w) in
-      record {
-        leaves =
-            subst (λ (y : ℕ). Leaves (heldF c) s at (heldBy c d y (drop (stampSize + 1) d)) u) (sym g)
-            (subst (λ (y : List ℕ). Leaves (heldF c) s at (heldBy c d 1 y) u) t l);
-        number = flag-place hi a b;
-        place = j ∙ ap (λ (y : ℕ). at + (stampSize + 1 + cond (eqb y 0) 0 z)) (sym g);
-      }
+    flag-place : f ≡ getD d stampSize 0
+    flag-place = b .number ∙ first-from s at stampSize (a .place)
+
+    pub held-absent : f ≡ 0 → TookLabelled (heldL c) s at l f q
+    unfolding heldF heldAt heldSize
+    held-absent z =
+        let g : getD d stampSize 0 ≡ 0 = sym flag-place ∙ z in
+        let w : q ≡ at + (stampSize + 1 + 0) = omega (arith, a .place, b .place) in
+        let r = leaves-via _ _ _ refl (leaves-seq _ _ (a .leaves) (leaves-absent _ _
+        (subst (λ (y : ℕ). Leaves (byte 0 (heldMost (stampAt d))) s p y q) z flag-at))) in
+        record {
+          took = record {
+            leaves = subst (λ (y : ℕ). Leaves (heldF c) s at (heldBy c d y (drop (stampSize + 1) d)) q) (sym g) r;
+            number = flag-place;
+            place = w ∙ ap (λ (y : ℕ). at + (stampSize + 1 + cond (eqb y 0) 0 (shareSize c (lengthAt (drop (stampSize + 1) d))))) (sym g);
+          };
+          label = x .label;
+        }
+
+    module _ (n : f ≡ 0 → ⊥) where
+      flag-is-one : f ≡ 1
+      flag-is-one = flag-one hi (stampAt d) most b n
+
+      flag-there : Leaves (byte 0 (heldMost (stampAt d))) s p 1 q
+      flag-there = subst (λ (y : ℕ). Leaves (byte 0 (heldMost (stampAt d))) s p y q) flag-is-one flag-at
+
+      pub held-share-stops : Stops (shareF c) s q → Stops (heldF c) s at
+      unfolding heldF
+      held-share-stops z = stops-via _ _ _ (stops-second _ _ (a .leaves) (stops-present _ _ flag-there z))
+
+      pub held-present : {m u : ℕ} → Took (shareL c) s q m u → TookLabelled (heldL c) s at l f u
+      unfolding heldF heldAt heldSize
+      held-present {u = u} r =
+          let g : getD d stampSize 0 ≡ 1 = sym flag-place ∙ flag-is-one in
+          let w : q ≡ at + (stampSize + 1) = omega (arith, a .place, b .place) in
+          let t : drop q s ≡ drop (stampSize + 1) d = drop-from s at (stampSize + 1) w in
+          let z : ℕ = shareSize c (lengthAt (drop (stampSize + 1) d)) in
+          let k : u ≡ q + z = r .place ∙ ap (λ (y : List ℕ). q + shareSize c (lengthAt y)) t in
+          let j : u ≡ at + (stampSize + 1 + z) = omega (arith, k, w) in
+          let y = leaves-via _ _ _ refl (leaves-seq _ _ (a .leaves) (leaves-present _ _ flag-there (r .leaves))) in
+          record {
+            took = record {
+              leaves =
+                  subst (λ (y : ℕ). Leaves (heldF c) s at (heldBy c d y (drop (stampSize + 1) d)) u) (sym g)
+                  (subst (λ (y : List ℕ). Leaves (heldF c) s at (heldBy c d 1 y) u) t y);
+              number = flag-place;
+              place = j ∙ ap (λ (y : ℕ). at + (stampSize + 1 + cond (eqb y 0) 0 z)) (sym g);
+            };
+            label = x .label;
+          }
 
 -- ---- the answers to a store
 

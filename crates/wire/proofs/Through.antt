@@ -12,15 +12,16 @@ use Rattle.cluster.specs.Config.{Config}
 use Rattle.cluster.specs.Ranges.{topNumber, topWriter, leastLength, topLength}
 use Rattle.hmac.specs.Hmac.{tagSize}
 use Rattle.erasure.specs.Fragments.{fragmentSize}
+use Rattle.protocol.specs.declared.Label.{Label}
 use Rattle.protocol.specs.declared.Stamp.{Stamp}
 use Rattle.format.specs.Format.{zeros, run}
-use Rattle.protocol.specs.Values.{Candidate, Share, stampSize, nonceSize, digestSize, digestsSize, tagsSize, candidateSize, blankStamp, blankCandidate}
+use Rattle.protocol.specs.Values.{Candidate, Share, labelOf, stampSize, nonceSize, digestSize, digestsSize, tagsSize, candidateSize, blankStamp, blankCandidate}
 use Rattle.protocol.specs.Packet.{stampF, anyStampF, shareF, writeF, candidateF, anyCandidateF}
 use Rattle.protocol.specs.View.{stampAt, candidateAt, shareAt, shareOfSize}
 use Rattle.format.specs.Reading.{bytesAt, Leaves, Stops, number4At}
 use Rattle.format.proofs.Leaves.{leaves-seq, leaves-via, stops-via, stops-first, stops-second, leaves-some, leaves-blank, stops-short}
-use Rattle.wire.specs.Places.{lengthAt, shareSize, writeAt}
-use Rattle.wire.specs.Reads.{Took, Past, byteL, number2L, number4L, stampL, anyStampL, shareL, writeL, candidateL, anyCandidateL}
+use Rattle.wire.specs.Places.{lengthAt, shareSize, writeAt, noLabel}
+use Rattle.wire.specs.Reads.{Took, TookLabelled, Past, byteL, number2L, number4L, stampL, anyStampL, shareL, writeL, candidateL, anyCandidateL}
 use Rattle.wire.proofs.Leaf.{ends, number4-numbered}
 use Rattle.wire.proofs.From.{drop-from, part-from, first-from, blank-stamp, blank-candidate}
 
@@ -30,21 +31,27 @@ Ran m s p q = Past (run m) s p (bytesAt s p m) q m
 
 module _ {s : List ℕ} {at : ℕ} where
   pub stamp-took : {v p w q e : ℕ} → Took (number4L 1 topNumber) s at v p → Took (byteL 1 topWriter) s p w q → Ran tagSize s q e
-      → Took stampL s at v e
+      → TookLabelled stampL s at (record { number = v; writer = w }) 0 e
   unfolding stampF stampAt
   stamp-took {v} {p} {w} {q} {e} a b r =
       let stamp : ℕ → List ℕ → Stamp = λ w t. record { number = number4At (drop at s); writer = w; tag = t } in
-      let same = ap₂ stamp (first-from s at 4 (a .place)) (part-from s at {k = q} 5 tagSize (omega (arith, a .place, b .place))) in
+      let writer = first-from s at 4 (a .place) in
+      let same = ap₂ stamp writer (part-from s at {k = q} 5 tagSize (omega (arith, a .place, b .place))) in
       record {
-        leaves = subst (λ (x : Stamp). Leaves stampF s at x e) same (leaves-via _ _ _ refl
-            (leaves-seq _ _ (a .leaves) (leaves-seq _ _ (b .leaves) (r .leaves))));
-        number = a .number;
-        place = omega (arith, a .place, b .place, r .place);
+        took = record {
+          leaves = subst (λ (x : Stamp). Leaves stampF s at x e) same (leaves-via _ _ _ refl
+              (leaves-seq _ _ (a .leaves) (leaves-seq _ _ (b .leaves) (r .leaves))));
+          number = refl;
+          place = omega (arith, a .place, b .place, r .place);
+        };
+        label = ap₂ (λ (n w : ℕ). record { number = n; writer = w }) (a .number) (b .number ∙ writer);
       }
 
-  pub any-stamp-took : {v e : ℕ} → Took stampL s at v e → Took anyStampL s at v e
+  pub any-stamp-took : {l : Label} {v e : ℕ} → TookLabelled stampL s at l v e → TookLabelled anyStampL s at l v e
   unfolding anyStampF
-  any-stamp-took t = record { leaves = leaves-some _ _ _ (t .leaves); number = t .number; place = t .place }
+  any-stamp-took x =
+      let t = x .took in
+      record { took = record { leaves = leaves-some _ _ _ (t .leaves); number = t .number; place = t .place }; label = x .label }
 
   -- past the end
   pub past-stamp : length s ≤ at → Stops stampF s at
@@ -56,15 +63,18 @@ module _ {s : List ℕ} {at : ℕ} where
   past-any-stamp h = stops-short _ _ _ (past-stamp h) (omega arith)
 
   pub blank-stamp-took : {e : ℕ} → Stops stampF s at → at + stampSize ≤ length s → zeros (take stampSize (drop at s)) ≡ true → e ≡ at + stampSize
-      → Took anyStampL s at 0 e
+      → TookLabelled anyStampL s at noLabel 0 e
   unfolding anyStampF
   blank-stamp-took {e} n h z p =
       let b : stampAt (drop at s) ≡ blankStamp = blank-stamp stampSize (drop at s) (omega (arith, length-drop at s)) z (omega arith) in
       record {
-        leaves = subst (λ (k : ℕ). Leaves anyStampF s at (stampAt (drop at s)) k) (sym p)
-            (subst (λ (x : Stamp). Leaves anyStampF s at x (at + stampSize)) (sym b) (leaves-blank _ _ _ n h z));
-        number = sym (ap (λ (x : Stamp). x .number) b);
-        place = p;
+        took = record {
+          leaves = subst (λ (k : ℕ). Leaves anyStampF s at (stampAt (drop at s)) k) (sym p)
+              (subst (λ (x : Stamp). Leaves anyStampF s at x (at + stampSize)) (sym b) (leaves-blank _ _ _ n h z));
+          number = refl;
+          place = p;
+        };
+        label = ap labelOf (sym b);
       }
 
 -- the fragment of a content of n bytes
@@ -131,54 +141,67 @@ module _ (c : Config) {s : List ℕ} {at : ℕ} where
   share-stops4 a b x y z =
       stops-via _ _ _ (stops-second _ _ (a .leaves) (stops-second _ _ (sized a b) (stops-second _ _ (x .leaves) (stops-second _ _ (y .leaves) z))))
 
-  pub write-took : {v p n e : ℕ} → Took stampL s at v p → Took (shareL c) s p n e → Took (writeL c) s at n e
+  pub write-took : {l : Label} {v p n e : ℕ} → TookLabelled stampL s at l v p → Took (shareL c) s p n e → TookLabelled (writeL c) s at l n e
   unfolding writeF writeAt
-  write-took {v} {p} {n} {e} a b =
+  write-took {p = p} {e = e} x b =
+      let a = x .took in
       let r : drop p s ≡ drop stampSize (drop at s) = drop-from s at stampSize (a .place) in
       record {
-        leaves =
-            subst (λ (h : List ℕ). Leaves (writeF c) s at (record { stamp = stampAt (drop at s); share = shareAt c h }) e) r
-            (leaves-via _ _ _ refl (leaves-seq _ _ (a .leaves) (b .leaves)));
-        number = b .number ∙ ap lengthAt r;
-        place = b .place ∙ ap₂ (λ (k : ℕ) (h : List ℕ). k + shareSize c (lengthAt h)) (a .place) r ∙ add-assoc at stampSize
-            (shareSize c (lengthAt (drop stampSize (drop at s))));
+        took = record {
+          leaves =
+              subst (λ (h : List ℕ). Leaves (writeF c) s at (record { stamp = stampAt (drop at s); share = shareAt c h }) e) r
+              (leaves-via _ _ _ refl (leaves-seq _ _ (a .leaves) (b .leaves)));
+          number = b .number ∙ ap lengthAt r;
+          place = b .place ∙ ap₂ (λ (k : ℕ) (h : List ℕ). k + shareSize c (lengthAt h)) (a .place) r ∙ add-assoc at stampSize
+              (shareSize c (lengthAt (drop stampSize (drop at s))));
+        };
+        label = x .label;
       }
 
-  pub candidate-took : {v p q e : ℕ} → Took stampL s at v p → Ran nonceSize s p q
-      → Ran (tagsSize c) s q e → Took (candidateL c) s at v e
+  pub candidate-took : {l : Label} {v p q e : ℕ} → TookLabelled stampL s at l v p → Ran nonceSize s p q
+      → Ran (tagsSize c) s q e → TookLabelled (candidateL c) s at l 0 e
   unfolding candidateF candidateAt
-  candidate-took {v} {p} {q} {e} a b r =
+  candidate-took {q = q} {e = e} x b r =
+      let a = x .took in
       let candidate : List ℕ → List ℕ → Candidate = λ n t. record { stamp = stampAt (drop at s); nonce = n; tags = t } in
       let same =
       ap₂ candidate (part-from s at stampSize nonceSize (a .place))
       (part-from s at {k = q} (stampSize + nonceSize) (tagsSize c) (omega (arith, a .place, b .place))) in
       record {
-        leaves =
-            subst (λ (x : Candidate). Leaves (candidateF c) s at x e) same
-            (leaves-via _ _ _ refl (leaves-seq _ _ (a .leaves) (leaves-seq _ _ (b .leaves) (r .leaves))));
-        number = a .number;
-        place = omega (arith, a .place, b .place, r .place);
+        took = record {
+          leaves =
+              subst (λ (x : Candidate). Leaves (candidateF c) s at x e) same
+              (leaves-via _ _ _ refl (leaves-seq _ _ (a .leaves) (leaves-seq _ _ (b .leaves) (r .leaves))));
+          number = refl;
+          place = omega (arith, a .place, b .place, r .place);
+        };
+        label = x .label;
       }
 
-  pub any-candidate-took : {v e : ℕ} → Took (candidateL c) s at v e → Took (anyCandidateL c) s at v e
+  pub any-candidate-took : {l : Label} {v e : ℕ} → TookLabelled (candidateL c) s at l v e → TookLabelled (anyCandidateL c) s at l v e
   unfolding anyCandidateF
-  any-candidate-took t = record { leaves = leaves-some _ _ _ (t .leaves); number = t .number; place = t .place }
+  any-candidate-took x =
+      let t = x .took in
+      record { took = record { leaves = leaves-some _ _ _ (t .leaves); number = t .number; place = t .place }; label = x .label }
 
   pub past-any-candidate : length s ≤ at → Stops (anyCandidateF c) s at
   unfolding anyCandidateF candidateF
   past-any-candidate h = stops-short _ _ _ (stops-via _ _ _ (stops-first _ _ (past-stamp h))) (omega arith)
 
   pub blank-candidate-took : {e : ℕ} → Stops (candidateF c) s at → at + candidateSize c ≤ length s → zeros (take (candidateSize c) (drop at s)) ≡ true
-      → e ≡ at + candidateSize c → Took (anyCandidateL c) s at 0 e
+      → e ≡ at + candidateSize c → TookLabelled (anyCandidateL c) s at noLabel 0 e
   unfolding anyCandidateF
   blank-candidate-took {e} n h z p =
       let l : candidateSize c ≤ length (drop at s) = omega (arith, length-drop at s) in
       let b : candidateAt c (drop at s) ≡ blankCandidate c = blank-candidate (candidateSize c) (drop at s) l z c (omega arith) in
       let a : stampAt (drop at s) ≡ blankStamp = blank-stamp (candidateSize c) (drop at s) l z (omega arith) in
       record {
-        leaves =
-            subst (λ (k : ℕ). Leaves (anyCandidateF c) s at (candidateAt c (drop at s)) k) (sym p)
-            (subst (λ (x : Candidate). Leaves (anyCandidateF c) s at x (at + candidateSize c)) (sym b) (leaves-blank _ _ _ n h z));
-        number = sym (ap (λ (x : Stamp). x .number) a);
-        place = p;
+        took = record {
+          leaves =
+              subst (λ (k : ℕ). Leaves (anyCandidateF c) s at (candidateAt c (drop at s)) k) (sym p)
+              (subst (λ (x : Candidate). Leaves (anyCandidateF c) s at x (at + candidateSize c)) (sym b) (leaves-blank _ _ _ n h z));
+          number = refl;
+          place = p;
+        };
+        label = ap labelOf (sym a);
       }

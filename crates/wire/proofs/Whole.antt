@@ -1,6 +1,6 @@
 -- From a body's fields to the body of its kind, and from head and body to the packet.
 -- Assumes nothing.
-use mathlib.Core.Path.{_≡_, refl, sym, ap, subst}
+use mathlib.Core.Path.{_≡_, refl, sym, ap, _∙_, subst}
 use mathlib.Core.Logic.{_⊎_, inl, inr}
 use mathlib.Core.Bool.{Bool, true, false, cond, not}
 use mathlib.Core.List.{List, [], _∷_}
@@ -13,18 +13,21 @@ use borrow.Author.Tests.{ne-eqb, eqb-true, eqb-false}
 use Rattle.cluster.specs.Config.{Config, shelf}
 use Rattle.cluster.specs.Refusals.{refuse, firstOf}
 use Rattle.protocol.specs.declared.Head.{Head}
+use Rattle.protocol.specs.declared.Label.{Label}
 use Rattle.format.specs.Format.{byte, empty, seq, via, keep}
-use Rattle.protocol.specs.Values.{isSome, stampSize}
+use Rattle.protocol.specs.Values.{isSome, labelOf, stampSize}
 use Rattle.protocol.specs.Packet.{Body, Packet, headF, headSize, bodyF, packetF, decode}
-use Rattle.protocol.specs.View.{shareAt, heldAt}
+use Rattle.protocol.specs.View.{stampAt, shareAt, heldAt}
 use Rattle.format.specs.Reading.{Leaves, Stops}
 use Rattle.format.proofs.Leaves.{leaves-seq, leaves-via, stops-via, stops-second}
 use Rattle.protocol.proofs.Bodies.{Kind, clock-kind, complete-reply-kind, collect-kind, repair-reply-kind}
 use Rattle.protocol.proofs.Whole.{body-leaves, body-stops, decoded, refused, trailing}
-use Rattle.wire.specs.Places.{bodyAt, packetAt, writeAt, fragmentHeld, fragmentOf, fragmentIn}
-use Rattle.wire.specs.Reads.{Layout, Past, FieldAs, BodyAs, PacketAs}
+use Rattle.wire.specs.Places.{bodyAt, packetAt, writeAt, noLabel, bodyLabel, fragmentHeld, fragmentOf, fragmentIn}
+use Rattle.wire.specs.Reads.{Layout, Past, FieldAs, LabelledAs, withoutLabel, BodyAs, PacketAs}
 use Rattle.wire.specs.declared.fields.Field.{Field}
 use Rattle.wire.specs.declared.fields.Field.the-variants as field
+use Rattle.wire.specs.declared.parts.Labelled.{Labelled}
+use Rattle.wire.specs.declared.parts.Labelled.the-variants as labelled
 use Rattle.wire.specs.declared.packet.PacketRead.the-variants as packets
 
 -- ---- the answer for a packet and its number
@@ -34,10 +37,11 @@ number-of : (s : List ℕ) {o : Option Packet} → decode s ≡ o
 number-of s e = ap (λ (o : Option Packet). firstOf (refuse 7 (not (isSome o)) ∷ [])) (sym e)
 
 pub no-packet : (s : List ℕ) → decode s ≡ none → PacketAs s packets.Broken
-no-packet s e = (number-of s e, e)
+no-packet s e = (number-of s e, e, tt)
 
-pub a-packet : (s : List ℕ) (h : Head) → decode s ≡ some (packetAt h s) → PacketAs s (packets.Value h)
-a-packet s h e = (number-of s e, e)
+pub a-packet : (s : List ℕ) (h : Head) {l : Label} → decode s ≡ some (packetAt h s) → l ≡ bodyLabel (packetAt h s .body)
+    → PacketAs s (packets.Value h l)
+a-packet s h e f = (number-of s e, e, f)
 
 -- ---- bodies
 
@@ -48,35 +52,54 @@ twelve : (j : ℕ) → j ≤ 12 → 12 ≤ j → j ≡ 12
 twelve j h k = omega arith
 
 module _ (c : Config) (s : List ℕ) (at : ℕ) where
+  -- the body of kind j was let through, up to the place p, and l is its label
+  abbrev There : ℕ → Label → ℕ → Type 0
+  There j l p = Leaves (bodyF c j) s at (bodyAt c j (drop at s)) p × (l ≡ bodyLabel (bodyAt c j (drop at s)))
+
   -- a body of one field: what the field's reader answers, the body's reader answers
-  pub of-field : {A : Type 0} (L : Layout A) {con : A → Body} {k : ℕ} → Kind c k (L .format) con → ((d : List ℕ) → con (L .value d) ≡ bodyAt c k d)
-      → {j : ℕ} → j ≡ k → (f : Field) → FieldAs L s at f → BodyAs c j s at f
-  of-field L {con} {k} d e {j} ej (field.Value v p) t =
-      subst (λ (i : ℕ). BodyAs c i s at (field.Value v p)) (sym ej) (subst (λ (b : Body). Leaves (bodyF c k) s at b (p .at)) (e (drop at s))
-      (body-leaves d (t .leaves)))
-  of-field L d e ej field.Broken z = subst (λ (i : ℕ). Stops (bodyF c i) s at) (sym ej) (body-stops d z)
+  module _ {A : Type 0} (L : Layout A) {con : A → Body} {k : ℕ} (d : Kind c k (L .format) con) (e : (x : List ℕ) → con (L .value x) ≡ bodyAt c k x)
+      {j : ℕ} (ej : j ≡ k) where
+    there : {l : Label} {p : ℕ} → Leaves (L .format) s at (L .value (drop at s)) p → l ≡ bodyLabel (bodyAt c k (drop at s)) → There j l p
+    there {l} {p} t f =
+        subst (λ (i : ℕ). There i l p) (sym ej)
+        (subst (λ (b : Body). Leaves (bodyF c k) s at b p) (e (drop at s)) (body-leaves d t), f)
+
+    broken : Stops (L .format) s at → Stops (bodyF c j) s at
+    broken z = subst (λ (i : ℕ). Stops (bodyF c i) s at) (sym ej) (body-stops d z)
+
+    pub of-part : ((x : List ℕ) → labelOf (stampAt x) ≡ bodyLabel (bodyAt c k x)) → (r : Labelled) → LabelledAs L s at r → BodyAs c j s at r
+    of-part f (labelled.Value l v p) t = there (t .took .leaves) (t .label ∙ f (drop at s))
+    of-part f labelled.Broken z = broken z
+
+    of-plain : ((x : List ℕ) → noLabel ≡ bodyLabel (bodyAt c k x)) → (y : Field) → FieldAs L s at y → BodyAs c j s at (withoutLabel y)
+    of-plain f (field.Value v p) t = there (t .leaves) (f (drop at s))
+    of-plain f field.Broken z = broken z
+
+    pub of-field : ((x : List ℕ) → noLabel ≡ bodyLabel (bodyAt c k x)) → (y : Field) → FieldAs L s at y → {r : Labelled} → r ≡ withoutLabel y
+        → BodyAs c j s at r
+    of-field f y t er = subst (BodyAs c j s at) (sym er) (of-plain f y t)
 
   -- a body of no field
   nothing : at ≤ length s → Leaves empty s at tt at
   unfolding empty
   nothing h = record { parsed = refl; within = h; ok = tt }
 
-  bare : {con : Body} (k : ℕ) → Kind c k empty (λ x. con) → con ≡ bodyAt c k (drop at s) → at ≤ length s → (j : ℕ) → j ≡ k → Leaves (bodyF c j) s at
-      (bodyAt c j (drop at s)) at
-  bare k d e h j ej =
-      subst (λ (i : ℕ). Leaves (bodyF c i) s at (bodyAt c i (drop at s)) at) (sym ej)
-      (subst (λ (b : Body). Leaves (bodyF c k) s at b at) e (body-leaves d (nothing h)))
+  bare : {con : Body} (k : ℕ) → Kind c k empty (λ x. con) → con ≡ bodyAt c k (drop at s) → noLabel ≡ bodyLabel con → at ≤ length s
+      → (j : ℕ) → j ≡ k → There j noLabel at
+  bare k d e f h j ej =
+      subst (λ (i : ℕ). There i noLabel at) (sym ej)
+      (subst (λ (b : Body). Leaves (bodyF c k) s at b at) e (body-leaves d (nothing h)), f ∙ ap bodyLabel e)
 
   pub bare-as : at ≤ length s → (j : ℕ) → 1 ≤ j → j ≤ 12 → (j ≡ 2 → ⊥) → (j ≡ 3 → ⊥) → (j ≡ 4 → ⊥) → (j ≡ 8 → ⊥) → ((j ≡ 5) ⊎ (j ≡ 11) → ⊥)
-      → (j ≡ 9 → ⊥) → (j ≡ 10 → ⊥) → Leaves (bodyF c j) s at (bodyAt c j (drop at s)) at
-  unfolding bodyAt
+      → (j ≡ 9 → ⊥) → (j ≡ 10 → ⊥) → There j noLabel at
+  unfolding bodyAt bodyLabel
   bare-as h j l u n2 n3 n4 n8 n5-11 n9 n10 = go (eqb j 1) (eqb j 6) (eqb j 7) refl refl refl
     where
-      go : (x y z : Bool) → eqb j 1 ≡ x → eqb j 6 ≡ y → eqb j 7 ≡ z → Leaves (bodyF c j) s at (bodyAt c j (drop at s)) at
-      go true y z ex ey ez = bare 1 (clock-kind c) refl h j (eqb-true j 1 ex)
-      go false true z ex ey ez = bare 6 (complete-reply-kind c) refl h j (eqb-true j 6 ey)
-      go false false true ex ey ez = bare 7 (collect-kind c) refl h j (eqb-true j 7 ez)
-      go false false false ex ey ez = bare 12 (repair-reply-kind c) refl h j (twelve j u
+      go : (x y z : Bool) → eqb j 1 ≡ x → eqb j 6 ≡ y → eqb j 7 ≡ z → There j noLabel at
+      go true y z ex ey ez = bare 1 (clock-kind c) refl refl h j (eqb-true j 1 ex)
+      go false true z ex ey ez = bare 6 (complete-reply-kind c) refl refl h j (eqb-true j 6 ey)
+      go false false true ex ey ez = bare 7 (collect-kind c) refl refl h j (eqb-true j 7 ez)
+      go false false false ex ey ez = bare 12 (repair-reply-kind c) refl refl h j (twelve j u
           (over 11 j (over 10 j (over 9 j (over 8 j (over 7 j (over 6 j (over 5 j (over 4 j
           (over 3 j (over 2 j (over 1 j l (eqb-false j 1 ex)) n2) n3) n4) (λ e. n5-11 (inl e))) (eqb-false j 6 ey)) (eqb-false j 7 ez)) n8) n9) n10)
           (λ e. n5-11 (inr e))))
@@ -88,11 +111,17 @@ module _ {s : List ℕ} {h : Head} {p : ℕ} (f : Past headF s 0 h p headSize) w
   unfolding headF keep via seq byte
   kind-range = f .leaves .ok .1 .0
 
+  head-past : p ≡ headSize
+  head-past = omega (arith, f .place)
+
+  pub packet-label : {l : Label} → l ≡ bodyLabel (bodyAt (shelf (h .t)) (h .kind) (drop p s)) → l ≡ bodyLabel (packetAt h s .body)
+  unfolding packetAt
+  packet-label e = e ∙ ap (λ (k : ℕ). bodyLabel (bodyAt (shelf (h .t)) (h .kind) (drop k s))) head-past
+
   took : {e : ℕ} → Leaves (bodyF (shelf (h .t)) (h .kind)) s p (bodyAt (shelf (h .t)) (h .kind) (drop p s)) e → Leaves packetF s 0 (packetAt h s) e
   unfolding packetF packetAt
   took {e} b =
-      let r : p ≡ headSize = omega (arith, f .place) in
-      subst (λ (k : ℕ). Leaves packetF s 0 (record { head = h; body = bodyAt (shelf (h .t)) (h .kind) (drop k s) }) e) r
+      subst (λ (k : ℕ). Leaves packetF s 0 (record { head = h; body = bodyAt (shelf (h .t)) (h .kind) (drop k s) }) e) head-past
       (leaves-via _ _ _ refl (leaves-seq _ _ (f .leaves) b))
 
   pub packet-decoded : {e : ℕ} → Leaves (bodyF (shelf (h .t)) (h .kind)) s p (bodyAt (shelf (h .t)) (h .kind) (drop p s)) e → length s ≤ e → decode s

@@ -8,12 +8,12 @@ use lib.Dec.{eqb}
 use lib.ListN.{take, drop, getD, replicate}
 use Rattle.cluster.specs.Config.{Config, shelf}
 use Rattle.protocol.specs.declared.Head.{Head}
+use Rattle.protocol.specs.declared.Label.{Label}
 use Rattle.format.specs.Format.{value2}
-use Rattle.protocol.specs.Values.{Candidate, Share, Write, blankStamp, sameList, sameStamp, nonceSize, stampSize, candidateSize}
+use Rattle.protocol.specs.Values.{Candidate, Share, Write, blankStamp, labelOf, sameList, sameStamp, nonceSize, stampSize, candidateSize}
 use Rattle.protocol.specs.Packet.{Body, clock, clockReply, store, storeReply, complete, completeReply, collect, collectReply, filter, filterReply, repair, repairReply, Packet, headSize}
 unfoldable pub use Rattle.protocol.specs.Packet.{shareSize}
 use Rattle.protocol.specs.View.{stampAt, candidateAt, shareAt, heldAt}
-use Rattle.format.specs.Reading.{bytesAt}
 use Rattle.wire.specs.declared.values.CandidateHead.{CandidateHead}
 
 abbrev pub blankHead : CandidateHead
@@ -64,6 +64,24 @@ bodyAt s k d =
 
 unfoldable pub packetAt : Head → List ℕ → Packet
 packetAt h b = record { head = h; body = bodyAt (shelf (h .t)) (h .kind) (drop headSize b) }
+
+-- number and writer of the stamp that a body begins with; those of the blank stamp, 0 and 0, where it begins with none
+abbrev pub noLabel : Label
+noLabel = labelOf blankStamp
+
+unfoldable pub bodyLabel : Body → Label
+bodyLabel clock = noLabel
+bodyLabel (clockReply x) = labelOf x
+bodyLabel (store x) = labelOf (x .stamp)
+bodyLabel (storeReply x) = noLabel
+bodyLabel (complete x) = labelOf (x .stamp)
+bodyLabel completeReply = noLabel
+bodyLabel collect = noLabel
+bodyLabel (collectReply x) = labelOf (x .stamp)
+bodyLabel (filter x) = noLabel
+bodyLabel (filterReply x) = labelOf (x .stamp)
+bodyLabel (repair x) = labelOf (x .stamp)
+bodyLabel repairReply = noLabel
 
 -- the fragment of a packet of kind 3 or 10; none in a broken packet and in any other
 unfoldable pub fragmentHeld : Option Share → List ℕ

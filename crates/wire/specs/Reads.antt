@@ -11,17 +11,20 @@ use lib.ListN.{length, take, drop, getD}
 use Rattle.cluster.specs.Config.{Config}
 use Rattle.cluster.specs.Refusals.{refuse, firstOf, ByNumber}
 use Rattle.protocol.specs.declared.Head.{Head}
+use Rattle.protocol.specs.declared.Label.{Label}
 use Rattle.protocol.specs.declared.Stamp.{Stamp}
 use Rattle.format.specs.Format.{Fmt, zeros, byte, number2, number4, run, many}
-use Rattle.protocol.specs.Values.{Candidate, Share, Write, Held, isSome, stampSize, candidateSize}
+use Rattle.protocol.specs.Values.{Candidate, Share, Write, Held, labelOf, isSome, stampSize, candidateSize}
 use Rattle.protocol.specs.Packet.{headF, headSize, stampF, anyStampF, shareF, writeF, candidateF, anyCandidateF, candidatesF, heldF, codeF, bodyF, decode}
 use Rattle.protocol.specs.View.{stampAt, candidateAt, shareAt, heldAt}
 use Rattle.format.specs.Reading.{bytesAt, Leaves, Stops, number4At}
-use Rattle.wire.specs.Places.{lengthAt, shareSize, writeAt, candidateList, heldSize, bodyAt, packetAt}
+use Rattle.wire.specs.Places.{lengthAt, shareSize, writeAt, candidateList, heldSize, bodyAt, packetAt, noLabel, bodyLabel}
 use Rattle.wire.specs.declared.fields.Field.{Field}
 use Rattle.wire.specs.declared.fields.Field.the-variants as field
 use Rattle.wire.specs.declared.fields.Run.{Run}
 use Rattle.wire.specs.declared.fields.Run.the-variants as runs
+use Rattle.wire.specs.declared.parts.Labelled.{Labelled}
+use Rattle.wire.specs.declared.parts.Labelled.the-variants as labelled
 use Rattle.wire.specs.declared.packet.HeadRead.{HeadRead}
 use Rattle.wire.specs.declared.packet.HeadRead.the-variants as heads
 use Rattle.wire.specs.declared.packet.PacketRead.{PacketRead}
@@ -55,6 +58,33 @@ FieldAs L s at r =
     let a = fieldAnswer r in
     ByNumber 7 (Took L s at (a .value) (a .next)) (Stops (L .format) s at) (a .number)
 
+-- ---- parts that begin with a stamp, whose number and writer are answered too
+
+pub record TookLabelled {A : Type 0} (L : Layout A) (s : List ℕ) (at : ℕ) (l : Label) (v next : ℕ) : Type 0 where
+  pub took : Took L s at v next
+  pub label : l ≡ labelOf (stampAt (drop at s))
+
+-- document 01's number, and the values, as for a field
+pub record LabelledAnswer : Type 0 where
+  pub number : ℕ
+  pub label : Label
+  pub value : ℕ
+  pub next : ℕ
+
+abbrev pub labelledAnswer : Labelled → LabelledAnswer
+labelledAnswer (labelled.Value l v c) = record { number = 0; label = l; value = v; next = c .at }
+labelledAnswer labelled.Broken = record { number = 7; label = noLabel; value = 0; next = 0 }
+
+abbrev pub LabelledAs : {A : Type 0} → Layout A → List ℕ → ℕ → Labelled → Type 0
+LabelledAs L s at r =
+    let a = labelledAnswer r in
+    ByNumber 7 (TookLabelled L s at (a .label) (a .value) (a .next)) (Stops (L .format) s at) (a .number)
+
+-- a field that begins with no stamp
+abbrev pub withoutLabel : Field → Labelled
+withoutLabel (field.Value v c) = labelled.Value noLabel v c
+withoutLabel field.Broken = labelled.Broken
+
 -- ---- the fields
 
 -- a number from lo to hi
@@ -83,17 +113,18 @@ number4L lo hi = numberL (number4 lo hi) number4At 4
 abbrev pub codeL : Layout ℕ
 codeL = numberL codeF first 1
 
--- a stamp answers its number, which is 0 for the blank one
+-- no number follows a stamp
 abbrev pub stampL : Layout Stamp
-stampL = record { format = stampF; value = stampAt; number = λ d. stampAt d .number; size = λ d. stampSize }
+stampL = record { format = stampF; value = stampAt; number = λ d. 0; size = λ d. stampSize }
 
 abbrev pub anyStampL : Layout Stamp
-anyStampL = record { format = anyStampF; value = stampAt; number = λ d. stampAt d .number; size = λ d. stampSize }
+anyStampL = record { format = anyStampF; value = stampAt; number = λ d. 0; size = λ d. stampSize }
 
 -- a share answers the record length
 abbrev pub shareL : Config → Layout Share
 shareL s = record { format = shareF s; value = shareAt s; number = lengthAt; size = λ d. shareSize s (lengthAt d) }
 
+-- a stored write answers its share's
 abbrev pub writeL : Config → Layout Write
 writeL s =
     record {
@@ -103,12 +134,12 @@ writeL s =
       size = λ d. stampSize + shareSize s (lengthAt (drop stampSize d));
     }
 
--- a candidate answers its stamp's number
+-- no number follows a candidate's stamp
 abbrev pub candidateL : Config → Layout Candidate
-candidateL s = record { format = candidateF s; value = candidateAt s; number = λ d. stampAt d .number; size = λ d. candidateSize s }
+candidateL s = record { format = candidateF s; value = candidateAt s; number = λ d. 0; size = λ d. candidateSize s }
 
 abbrev pub anyCandidateL : Config → Layout Candidate
-anyCandidateL s = record { format = anyCandidateF s; value = candidateAt s; number = λ d. stampAt d .number; size = λ d. candidateSize s }
+anyCandidateL s = record { format = anyCandidateF s; value = candidateAt s; number = λ d. 0; size = λ d. candidateSize s }
 
 -- a list answers its count
 abbrev pub candidatesL : Config → Layout (List Candidate)
@@ -173,21 +204,27 @@ headAnswer heads.Broken = record { number = 7; head = record { kind = 0; client 
 abbrev pub HeadAs : List ℕ → HeadRead → Type 0
 HeadAs s r = let a = headAnswer r in ByNumber 7 (Past headF s 0 (a .head) (a .next) headSize) (Stops headF s 0) (a .number)
 
-abbrev pub BodyAs : Config → ℕ → List ℕ → ℕ → Field → Type 0
+abbrev pub BodyAs : Config → ℕ → List ℕ → ℕ → Labelled → Type 0
 BodyAs c k s at r =
-    let a = fieldAnswer r in
-    ByNumber 7 (Leaves (bodyF c k) s at (bodyAt c k (drop at s)) (a .next)) (Stops (bodyF c k) s at) (a .number)
+    let a = labelledAnswer r in
+    let body = bodyAt c k (drop at s) in
+    ByNumber 7 (Leaves (bodyF c k) s at body (a .next) × (a .label ≡ bodyLabel body)) (Stops (bodyF c k) s at) (a .number)
 
 -- document 01's number of each answer
 abbrev pub packetNumber : PacketRead → ℕ
-packetNumber (packets.Value h) = 0
+packetNumber (packets.Value h l) = 0
 packetNumber packets.Broken = 7
 
 -- the packet's head, which with the bytes tells the whole packet; or no packet
 abbrev pub PacketIs : List ℕ → PacketRead → Type 0
-PacketIs s (packets.Value h) = decode s ≡ some (packetAt h s)
+PacketIs s (packets.Value h l) = decode s ≡ some (packetAt h s)
 PacketIs s packets.Broken = decode s ≡ none
+
+-- number and writer of the stamp that the packet's body begins with; a broken packet has none
+abbrev pub LabelIs : List ℕ → PacketRead → Type 0
+LabelIs s (packets.Value h l) = l ≡ bodyLabel (packetAt h s .body)
+LabelIs s packets.Broken = Unit {0}
 
 -- the answer, with the number that the refusals give the bytes
 abbrev pub PacketAs : List ℕ → PacketRead → Type 0
-PacketAs s r = (packetNumber r ≡ firstOf (refuse 7 (not (isSome (decode s))) ∷ [])) × PacketIs s r
+PacketAs s r = (packetNumber r ≡ firstOf (refuse 7 (not (isSome (decode s))) ∷ [])) × PacketIs s r × LabelIs s r

@@ -16,11 +16,14 @@ use crate::fields::Field;
 use crate::fields::byte_field;
 use crate::fields::code_field;
 use crate::fields::number4_field;
+use crate::parts::Labelled;
+use crate::parts::NO_LABEL;
 use crate::parts::any_candidate_field;
 use crate::parts::any_stamp_field;
 use crate::parts::candidate_field;
 use crate::parts::candidates_field;
 use crate::parts::held_field;
+use crate::parts::unlabelled;
 use crate::parts::write_field;
 
 // A packet's head, and the cursor past it.
@@ -29,9 +32,9 @@ pub enum HeadRead {
     Broken,
 }
 
-// A packet that was let through; or refusal 7.
+// A packet that was let through: its head, and number and writer of the stamp that its body begins with; or refusal 7.
 pub enum PacketRead {
-    Value(protocol::Head),
+    Value(protocol::Head, protocol::Label),
     Broken,
 }
 
@@ -69,20 +72,20 @@ pub(crate) fn head_field(s: &[u8]) -> HeadRead
     )
 }
 
-// The body of a packet of a kind from 1 to 12; kinds 1, 6, 7 and 12 have none.
-fn body_field(s: &[u8], c: Cursor, kind: u8, t: u8) -> Field
+// The body of a packet of a kind from 1 to 12; kinds 1, 6, 7 and 12 have none. A body that begins with no stamp has number and writer 0.
+fn body_field(s: &[u8], c: Cursor, kind: u8, t: u8) -> Labelled
     requires { ⌜ (1 ≤ kind) × (kind ≤ 12) × (c .at ≤ length (now s)) ⌝ }
     ensures { λ r. ⌜ BodyAs (shelf t) kind (now (s .entry)) (c .at) r ⌝ }
 {
     match kind {
         protocol::kinds::CLOCK_REPLY => any_stamp_field(s, c), // clock reply: a stamp, or the blank
         protocol::kinds::STORE => write_field(s, c, t), // store: a stored write
-        protocol::kinds::STORE_REPLY => code_field(s, c), // store reply: 0, 10 or 11
+        protocol::kinds::STORE_REPLY => unlabelled(code_field(s, c)), // store reply: 0, 10 or 11
         protocol::kinds::COLLECT_REPLY => any_candidate_field(s, c, t), // collect reply: a candidate, or the blank
         protocol::kinds::COMPLETE | protocol::kinds::REPAIR => candidate_field(s, c, t), // complete, repair: a candidate
-        protocol::kinds::FILTER => candidates_field(s, c, t), // filter: a list of candidates
+        protocol::kinds::FILTER => unlabelled(candidates_field(s, c, t)), // filter: a list of candidates
         protocol::kinds::FILTER_REPLY => held_field(s, c, t), // filter reply: what is held for a stamp, or the blank
-        _ => Field::Value(0, c),
+        _ => Labelled::Value(NO_LABEL, 0, c),
     }
 }
 
@@ -95,14 +98,14 @@ pub fn read_packet(packet: &[u8]) -> PacketRead
     };
     let kind = head.kind;
     let t = head.t;
-    let Field::Value(v, c2) = body_field(packet, c1, kind, t) else {
+    let Labelled::Value(label, _, c2) = body_field(packet, c1, kind, t) else {
         return PacketRead::Broken;
     };
     let end = c2.at;
     if end < packet.len() {
         return PacketRead::Broken;
     }
-    PacketRead::Value(head)
+    PacketRead::Value(head, label)
 }
 
 // The fragment in a share, as that part of the share.
@@ -116,7 +119,7 @@ pub fn share_fragment(share: &[u8], t: u8) -> &[u8]
 pub fn fragment(packet: &[u8]) -> &[u8]
     ensures { λ r. ⌜ now r ≡ fragmentIn (decode (now (packet .entry))) ⌝ }
 {
-    let PacketRead::Value(head) = read_packet(packet) else {
+    let PacketRead::Value(head, _) = read_packet(packet) else {
         return &packet[..0];
     };
     let kind = head.kind;

@@ -1,11 +1,13 @@
 // Readers of the parts of packets: each lets its fields through one after another.
+// A part that begins with a stamp answers the stamp's number and writer too, so that nobody reads them again by their place.
 ghost use mathlib.Core.Path.{_≡_};
 ghost use mathlib.Core.Bool.{cond};
 ghost use Prim.Native.Nat.{_≤_};
 ghost use lib.Dec.{eqb};
 ghost use lib.ListN.{length};
 ghost use Rattle.cluster.specs.Config.{shelf};
-ghost use Rattle.wire.specs.Reads.{FieldAs, stampL, anyStampL, shareL, writeL, candidateL, anyCandidateL, candidatesL, heldL, ManyAs};
+ghost use Rattle.wire.specs.Reads.{FieldAs, LabelledAs, stampL, anyStampL, shareL, writeL, candidateL, anyCandidateL, candidatesL, heldL};
+ghost use Rattle.wire.specs.Reads.{ManyAs, withoutLabel};
 use crate::fields::Cursor;
 use crate::fields::Field;
 use crate::fields::Run;
@@ -15,37 +17,64 @@ use crate::fields::number4_field;
 use crate::fields::run_field;
 use crate::fields::zero_run;
 
+// A part that was let through: number and writer of the stamp that it begins with, 0 and 0 where that is blank; the number that follows the stamp, 0
+// where none does; and the cursor past the part.
+pub enum Labelled {
+    Value(protocol::Label, u32, Cursor),
+    Broken,
+}
+
+// What is told of a blank stamp, and where there is none.
+pub(crate) const NO_LABEL: protocol::Label = protocol::Label {
+    number: 0,
+    writer: 0,
+};
+
+// The answer of a field that begins with no stamp.
+pub(crate) fn unlabelled(field: Field) -> Labelled
+    ensures { λ r. ⌜ r ≡ withoutLabel field ⌝ }
+{
+    match field {
+        Field::Value(v, c) => Labelled::Value(NO_LABEL, v, c),
+        Field::Broken => Labelled::Broken,
+    }
+}
+
 // A stamp that is not blank: number, writer, tag.
-pub(crate) fn stamp_field(s: &[u8], c: Cursor) -> Field
-    ensures { λ r. ⌜ FieldAs stampL (now (s .entry)) (c .at) r ⌝ }
+pub(crate) fn stamp_field(s: &[u8], c: Cursor) -> Labelled
+    ensures { λ r. ⌜ LabelledAs stampL (now (s .entry)) (c .at) r ⌝ }
 {
     let Field::Value(number, c1) = number4_field(s, c, 1, cluster::TOP_NUMBER as u32) else {
-        return Field::Broken;
+        return Labelled::Broken;
     };
     let Field::Value(writer, c2) = byte_field(s, c1, 1, cluster::TOP_WRITER as u32) else {
-        return Field::Broken;
+        return Labelled::Broken;
     };
     let Run::Past(c3) = run_field(s, c2, hmac::TAG) else {
-        return Field::Broken;
+        return Labelled::Broken;
     };
-    Field::Value(number, c3)
+    let label = protocol::Label {
+        number,
+        writer: writer as u8,
+    };
+    Labelled::Value(label, 0, c3)
 }
 
 // A stamp that may be blank.
-pub(crate) fn any_stamp_field(s: &[u8], c: Cursor) -> Field
-    ensures { λ r. ⌜ FieldAs anyStampL (now (s .entry)) (c .at) r ⌝ }
+pub(crate) fn any_stamp_field(s: &[u8], c: Cursor) -> Labelled
+    ensures { λ r. ⌜ LabelledAs anyStampL (now (s .entry)) (c .at) r ⌝ }
 {
     let at = c.at;
     if s.len() < at {
-        return Field::Broken;
+        return Labelled::Broken;
     }
     match stamp_field(s, c) {
-        Field::Value(number, c1) => Field::Value(number, c1),
-        Field::Broken => {
+        Labelled::Value(label, n, c1) => Labelled::Value(label, n, c1),
+        Labelled::Broken => {
             let Run::Past(c1) = zero_run(s, c, crate::sizes::STAMP) else {
-                return Field::Broken;
+                return Labelled::Broken;
             };
-            Field::Value(0, c1)
+            Labelled::Value(NO_LABEL, 0, c1)
         }
     }
 }
@@ -78,49 +107,49 @@ pub(crate) fn share_field(s: &[u8], c: Cursor, t: u8) -> Field
 }
 
 // A stored write: its stamp and its share.
-pub fn write_field(s: &[u8], c: Cursor, t: u8) -> Field
-    ensures { λ r. ⌜ FieldAs (writeL (shelf t)) (now (s .entry)) (c .at) r ⌝ }
+pub fn write_field(s: &[u8], c: Cursor, t: u8) -> Labelled
+    ensures { λ r. ⌜ LabelledAs (writeL (shelf t)) (now (s .entry)) (c .at) r ⌝ }
 {
-    let Field::Value(number, c1) = stamp_field(s, c) else {
-        return Field::Broken;
+    let Labelled::Value(label, _, c1) = stamp_field(s, c) else {
+        return Labelled::Broken;
     };
     let Field::Value(n, c2) = share_field(s, c1, t) else {
-        return Field::Broken;
+        return Labelled::Broken;
     };
-    Field::Value(n, c2)
+    Labelled::Value(label, n, c2)
 }
 
 // A candidate that is not blank: stamp, nonce, S tags.
-pub(crate) fn candidate_field(s: &[u8], c: Cursor, t: u8) -> Field
-    ensures { λ r. ⌜ FieldAs (candidateL (shelf t)) (now (s .entry)) (c .at) r ⌝ }
+pub(crate) fn candidate_field(s: &[u8], c: Cursor, t: u8) -> Labelled
+    ensures { λ r. ⌜ LabelledAs (candidateL (shelf t)) (now (s .entry)) (c .at) r ⌝ }
 {
-    let Field::Value(number, c1) = stamp_field(s, c) else {
-        return Field::Broken;
+    let Labelled::Value(label, _, c1) = stamp_field(s, c) else {
+        return Labelled::Broken;
     };
     let Run::Past(c2) = run_field(s, c1, crate::sizes::NONCE) else {
-        return Field::Broken;
+        return Labelled::Broken;
     };
     let Run::Past(c3) = run_field(s, c2, crate::sizes::tags_size(t)) else {
-        return Field::Broken;
+        return Labelled::Broken;
     };
-    Field::Value(number, c3)
+    Labelled::Value(label, 0, c3)
 }
 
 // A candidate that may be blank, which is then all zero.
-pub fn any_candidate_field(s: &[u8], c: Cursor, t: u8) -> Field
-    ensures { λ r. ⌜ FieldAs (anyCandidateL (shelf t)) (now (s .entry)) (c .at) r ⌝ }
+pub fn any_candidate_field(s: &[u8], c: Cursor, t: u8) -> Labelled
+    ensures { λ r. ⌜ LabelledAs (anyCandidateL (shelf t)) (now (s .entry)) (c .at) r ⌝ }
 {
     let at = c.at;
     if s.len() < at {
-        return Field::Broken;
+        return Labelled::Broken;
     }
     match candidate_field(s, c, t) {
-        Field::Value(number, c1) => Field::Value(number, c1),
-        Field::Broken => {
+        Labelled::Value(label, n, c1) => Labelled::Value(label, n, c1),
+        Labelled::Broken => {
             let Run::Past(c1) = zero_run(s, c, crate::sizes::candidate_size(t)) else {
-                return Field::Broken;
+                return Labelled::Broken;
             };
-            Field::Value(0, c1)
+            Labelled::Value(NO_LABEL, 0, c1)
         }
     }
 }
@@ -133,7 +162,7 @@ pub(crate) fn candidate_run(s: &[u8], c: Cursor, t: u8, n: u32) -> Run
     let mut at = c.at;
     let mut i = 0;
     while i < n {
-        let Field::Value(number, next) = candidate_field(s, Cursor { at }, t) else {
+        let Labelled::Value(label, _, next) = candidate_field(s, Cursor { at }, t) else {
             return Run::Broken;
         };
         at = next.at;
@@ -163,20 +192,20 @@ fn held_most(number: u32) -> u32
 }
 
 // What a server holds for a stamp: the stamp, a byte 0 or 1 and, after 1, a share.
-pub(crate) fn held_field(s: &[u8], c: Cursor, t: u8) -> Field
-    ensures { λ r. ⌜ FieldAs (heldL (shelf t)) (now (s .entry)) (c .at) r ⌝ }
+pub(crate) fn held_field(s: &[u8], c: Cursor, t: u8) -> Labelled
+    ensures { λ r. ⌜ LabelledAs (heldL (shelf t)) (now (s .entry)) (c .at) r ⌝ }
 {
-    let Field::Value(number, c1) = any_stamp_field(s, c) else {
-        return Field::Broken;
+    let Labelled::Value(label, _, c1) = any_stamp_field(s, c) else {
+        return Labelled::Broken;
     };
-    let Field::Value(flag, c2) = byte_field(s, c1, 0, held_most(number)) else {
-        return Field::Broken;
+    let Field::Value(flag, c2) = byte_field(s, c1, 0, held_most(label.number)) else {
+        return Labelled::Broken;
     };
     if flag == 0 {
-        return Field::Value(flag, c2);
+        return Labelled::Value(label, flag, c2);
     }
     let Field::Value(n, c3) = share_field(s, c2, t) else {
-        return Field::Broken;
+        return Labelled::Broken;
     };
-    Field::Value(flag, c3)
+    Labelled::Value(label, flag, c3)
 }

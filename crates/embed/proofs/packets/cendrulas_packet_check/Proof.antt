@@ -10,14 +10,14 @@ use Rattle.embed.proofs.packets.cendrulas_packet_check.Tie as tie
 returns : tie.Need-returns
 returns c =
     let s = c .before .before .before .before .before .args .packet .now in
-    c .pack .ensures ∙ ap (λ (n : ℕ). packed n 0 0 0) (sym (layout-broken s (rw (c .before .enum-told .given .1) at
+    c .pack .ensures ∙ ap (λ (n : ℕ). packed n 0 0 0) (sym (layout-broken s (rw (c .before .enum-told2 .given .1) at
     (c .before .before .before .read-packet .ensures .1))))
 
 returns-2 : tie.Need-returns-2
 returns-2 c =
-    let at-read-packet = c .before .before .before .before in
+    let at-read-packet = c .before .before .before in
     let s = at-read-packet .before .before .args .packet .now in
-    c .pack2 .ensures ∙ ap (λ (n : ℕ). packed n 0 0 0) (sym (layout-kept s _ (rw (c .before .before .head .given .1) at
+    c .pack2 .ensures ∙ ap (λ (n : ℕ). packed n 0 0 0) (sym (layout-kept s _ (rw (c .before .enum-told .given .1) at
     (at-read-packet .read-packet .ensures .1))))
 
 pub cendrulas-packet-check-spec : {M : Type 1} → statement M

@@ -24,19 +24,18 @@ returns-2 : tie.Need-returns-2 Inv-loop μ-loop
 returns-2 c =
     let at-repeats = c .before in
     let at-write-field = at-repeats .before .before .before .before in
-    let w = rw (c .before .before .before .size .given .1) at (at-write-field .write-field .ensures) in
-    check-held _ (at-write-field .before .before .loop .inv .1) (omega arith) (w .leaves) _ (c .before .repeats .ensures) (c .if1 .taken)
+    let w = rw (c .before .before .before .label .given .1) at (at-write-field .write-field .ensures) in
+    check-held _ (at-write-field .before .before .loop .inv .1) (omega arith) (w .took .leaves) _ (c .before .repeats .ensures) (c .if1 .taken)
 
 loop-again : tie.Need-loop-again Inv-loop μ-loop
 loop-again c =
-    let at-repeats = c .before .before .before .before in
+    let at-repeats = c .before .before .before in
     let at-write-field = at-repeats .before .before .before .before in
-    let w = rw (at-repeats .before .before .size .given .1) at (at-write-field .write-field .ensures) in (
+    let w = rw (at-repeats .before .before .label .given .1) at (at-write-field .write-field .ensures) in (
       omega arith,
       check-more _ (at-write-field .before .before .loop .inv .1) (omega arith)
-          (w .leaves) (λ i. at-write-field .before .before .before .before .shared-slice-known .given
-          i .fits) (c .before .before .rest .ensures) (c .before .rank-at .ensures) (c .raised .ensures)
-          _ (at-repeats .repeats .ensures) (c .before .before .before .if1 .left),
+          (w .took .leaves) (λ i. at-write-field .before .before .before .before .shared-slice-known .given i .fits)
+          (w .label) (c .before .rank-of .ensures) (c .raised .ensures) _ (at-repeats .repeats .ensures) (c .before .before .if1 .left),
     )
 
 returns-3 : tie.Need-returns-3 Inv-loop μ-loop
@@ -44,5 +43,5 @@ returns-3 c = check-end _ (c .before .loop .inv .1) _ (omega arith)
 
 pub check-writes-spec : {M : Type 1} → statement M
 check-writes-spec = tie.close (tie.spec Inv-loop μ-loop (λ c κs. search needs) loop-holds (λ c κs. search needs) (λ c. search needs)
-    (λ c. search needs) returns (λ c κs. search needs) returns-2 (λ c κs. search needs) (λ c κs. search needs) (λ c κs. search needs)
+    (λ c. search needs) returns (λ c κs. search needs) returns-2 (λ c κs. search needs) (λ c κs. search needs)
     (λ c. omega arith) (λ c. omega arith) loop-again returns-3)

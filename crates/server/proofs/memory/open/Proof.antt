@@ -8,7 +8,7 @@ use lib.ListN.{length}
 use Rattle.cluster.specs.Config.{shelf}
 use Rattle.cluster.specs.Ranges.{topFaults, memorySize, capacity}
 use Rattle.protocol.proofs.Memories.{memory-size}
-use Rattle.wire.specs.Reads.{Took, byteL, anyCandidateL}
+use Rattle.wire.specs.Reads.{Took, TookLabelled, byteL, anyCandidateL}
 use Rattle.wire.proofs.Heads.{byte-range}
 use Rattle.server.proofs.Open.{broken, opened, no-t, no-server, no-count, no-latest, writes-within, no-writes, opens, no-tail, servers-most}
 use Rattle.server.proofs.memory.open.Statement.{statement}
@@ -65,15 +65,16 @@ module _ (c : tie.After-n) where
   n-took : Took (byteL 0 capacity) (memory (after-t after-server)) (past-server after-server) (c .n .given .0 .0) past-n
   n-took = rw (c .n .given .1) at (c .before .before .byte-field3 .ensures)
 
-module _ (c : tie.After-number) where
+module _ (c : tie.After-c4) where
   abbrev after-n : tie.After-n
   after-n = c .before .before .before .before
 
   abbrev first : tie.After-t
   first = after-t (after-server after-n)
 
-  latest-took : Took (anyCandidateL (shelf (t first))) (memory first) (past-n after-n) (c .number .given .0 .0) (c .number .given .0 .1 .0 .at)
-  latest-took = rw (c .number .given .1) at (c .before .before .any-candidate-field .ensures)
+  latest-took : TookLabelled (anyCandidateL (shelf (t first))) (memory first) (past-n after-n) (c .c4 .given .0 .0) (c .c4 .given .0 .1 .0)
+      (c .c4 .given .0 .1 .1 .0 .at)
+  latest-took = rw (c .c4 .given .1) at (c .before .before .any-candidate-field .ensures)
 
 -- ---- the needs
 
@@ -128,47 +129,47 @@ check-writes-requires : tie.Need-check-writes-requires
 check-writes-requires c κs =
     let l = c .before in
     let s = after-server (after-n l) in
-    writes-within (size-is (after-t s)) (t-took (after-t s)) (servers-are s) (server-took s) (n-took (after-n l)) (latest-took l)
+    writes-within (size-is (after-t s)) (t-took (after-t s)) (servers-are s) (server-took s) (n-took (after-n l)) (latest-took l .took)
 
 returns-6 : tie.Need-returns-6
 returns-6 c =
     let l = c .before .before .before .before in
     let s = after-server (after-n l) in
     broken (memory (after-t s)) (no-writes (size-is (after-t s)) (t-took (after-t s)) (servers-are s) (server-took s) (n-took (after-n l))
-    (latest-took l) (λ i. first l .before .before .before .before .shared-slice-known .given i .fits) (c .enum-told5 .given .1)
+    (latest-took l .took) (λ i. first l .before .before .before .before .shared-slice-known .given i .fits) (c .enum-told5 .given .1)
     (c .before .before .check-writes .ensures))
 
-abbrev number-from-end : tie.After-end → tie.After-number
-number-from-end c = c .before .before .before .before
+abbrev c4-from-end : tie.After-end → tie.After-c4
+c4-from-end c = c .before .before .before .before
 
 abbrev end-from-then2 : tie.Then2 → tie.After-end
 end-from-then2 c = c .before .before .before .before
 
-cast-t26 : tie.Need-cast-t26
-cast-t26 c = omega (arith, byte-range 1 topFaults (t-took (first (number-from-end (end-from-then2 c)))) .1)
+cast-t25 : tie.Need-cast-t25
+cast-t25 c = omega (arith, byte-range 1 topFaults (t-took (first (c4-from-end (end-from-then2 c)))) .1)
 
-cast-t27 : tie.Need-cast-t27
-cast-t27 c =
-    let s = after-server (after-n (number-from-end (end-from-then2 c))) in
+cast-t26 : tie.Need-cast-t26
+cast-t26 c =
+    let s = after-server (after-n (c4-from-end (end-from-then2 c))) in
     omega (arith, servers-most (byte-range 1 topFaults (t-took (after-t s)) .1) (servers-are s), byte-range 1 _ (server-took s) .1)
 
 returns-7 : tie.Need-returns-7
 returns-7 c =
     let at-end = c .before .before .before .before in
-    let l = number-from-end at-end in
+    let l = c4-from-end at-end in
     let s = after-server (after-n l) in
     let w = rw (at-end .end .given .1) at (at-end .before .before .check-writes .ensures) in
-    opened (opens (size-is (after-t s)) (t-took (after-t s)) (servers-are s) (server-took s) (n-took (after-n l)) (latest-took l) w
+    opened (opens (size-is (after-t s)) (t-took (after-t s)) (servers-are s) (server-took s) (n-took (after-n l)) (latest-took l .took) w
     (c .before .before .rest .ensures) (c .before .all-zero .ensures) (c .if2 .taken))
 
 returns-8 : tie.Need-returns-8
 returns-8 c =
     let at-end = c .before .before .before .before in
-    let l = number-from-end at-end in
+    let l = c4-from-end at-end in
     let s = after-server (after-n l) in
     let w = rw (at-end .end .given .1) at (at-end .before .before .check-writes .ensures) in
     broken (memory (after-t s)) (no-tail (size-is (after-t s)) (t-took (after-t s)) (servers-are s) (server-took s) (n-took (after-n l))
-    (latest-took l) w (c .before .before .rest .ensures) (c .before .all-zero .ensures) (c .if2 .left))
+    (latest-took l .took) w (c .before .before .rest .ensures) (c .before .all-zero .ensures) (c .if2 .left))
 
 pub open-spec : {M : Type 1} → statement M
 open-spec = tie.close (tie.spec returns (λ c. search needs) (λ c κs. search needs) (λ c. search needs) (λ c. search needs) returns-2 cast-servers
@@ -176,4 +177,4 @@ open-spec = tie.close (tie.spec returns (λ c. search needs) (λ c κs. search n
     (λ c κs. search needs) (λ c. search needs) (λ c. search needs) returns-4 cast-any-candidate-field (λ c κs. search needs) (λ c. search needs)
     (λ c. search needs) returns-5 cast-check-writes cast-check-writes-2 (λ c. search needs) check-writes-requires (λ c. search needs)
     (λ c. search needs) returns-6
-    (λ c κs. search needs) (λ c κs. search needs) cast-t26 cast-t27 (λ c. search needs) returns-7 returns-8)
+    (λ c κs. search needs) (λ c κs. search needs) cast-t25 cast-t26 (λ c. search needs) returns-7 returns-8)

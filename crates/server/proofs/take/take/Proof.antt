@@ -38,9 +38,9 @@ returns-4 c =
     let at-else1 = else1-from-opened at-opened in
     let a = start-from-else1 at-else1 .args in
     let m = rw (at-opened .opened .given .1) at (at-opened .before .before .«open» .ensures .1) in
-    let p = rw (at-head .head .given .1) at (at-head .before .before .read-packet .ensures .1) in
-    take-refused (a .memory .now) (a .key .now) (a .packet .now) (a .out .now) (at-else1 .if1 .left) m _ p
-    (c .before .before .refusal .ensures) (c .before .if2 .taken) (c .refused4 .ensures)
+    let p = rw (at-head .head .given .1) at (at-head .before .before .read-packet .ensures) in
+    take-refused (a .memory .now) (a .key .now) (a .packet .now) (a .out .now) (at-else1 .if1 .left) m _ (p .1)
+    (c .before .before .refusal .ensures (a .packet .now) (p .2)) (c .before .if2 .taken) (c .refused4 .ensures)
 
 answer-requires : tie.Need-answer-requires
 answer-requires c κs =
@@ -58,8 +58,9 @@ returns-5 c =
     let at-else1 = else1-from-opened at-opened in
     let a = start-from-else1 at-else1 .args in
     let m = rw (at-opened .opened .given .1) at (at-opened .before .before .«open» .ensures .1) in
-    let p = rw (at-head .head .given .1) at (at-head .before .before .read-packet .ensures .1) in
-    take-answered (a .memory .now) (a .key .now) (a .packet .now) (a .out .now) (at-else1 .if1 .left) m _ p (at-else2 .before .refusal .ensures)
+    let p = rw (at-head .head .given .1) at (at-head .before .before .read-packet .ensures) in
+    take-answered (a .memory .now) (a .key .now) (a .packet .now) (a .out .now) (at-else1 .if1 .left) m _ (p .1)
+    (at-else2 .before .refusal .ensures (a .packet .now) (p .2))
     (at-else2 .if2 .left) (at-answer .answer .ensures)
 
 pub take-spec : {M : Type 1} → statement M

@@ -3,7 +3,7 @@
 use borrow.Author.Needs.{needs}
 use native.Mathlib.Omega.{arith}
 use Rattle.protocol.proofs.Whole.{refused, head-stops}
-use Rattle.wire.proofs.Whole.{no-packet, a-packet, kind-range, packet-decoded, packet-trailing, packet-broken}
+use Rattle.wire.proofs.Whole.{no-packet, a-packet, packet-label, kind-range, packet-decoded, packet-trailing, packet-broken}
 use Rattle.wire.proofs.packet.read_packet.Statement.{statement}
 use Rattle.wire.proofs.packet.read_packet.Tie as tie
 
@@ -31,14 +31,15 @@ returns-3 c =
     let at-body-field = c .before .before .before .before in
     let at-head-field = at-body-field .before .before .before .before in
     no-packet (at-head-field .before .before .args .packet .now) (packet-trailing (rw (at-body-field .before .before .head .given .1) at
-    (at-head-field .head-field .ensures)) (rw (c .before .before .v .given .1) at (at-body-field .body-field .ensures)) (omega arith))
+    (at-head-field .head-field .ensures)) ((rw (c .before .before .label .given .1) at (at-body-field .body-field .ensures)) .0) (omega arith))
 
 returns-4 : tie.Need-returns-4
 returns-4 c =
     let at-body-field = c .before .before .before .before in
     let at-head-field = at-body-field .before .before .before .before in
-    a-packet (at-head-field .before .before .args .packet .now) _ (packet-decoded (rw (at-body-field .before .before .head .given .1) at
-    (at-head-field .head-field .ensures)) (rw (c .before .before .v .given .1) at (at-body-field .body-field .ensures)) (omega arith))
+    let head = rw (at-body-field .before .before .head .given .1) at (at-head-field .head-field .ensures) in
+    let body = rw (c .before .before .label .given .1) at (at-body-field .body-field .ensures) in
+    a-packet (at-head-field .before .before .args .packet .now) _ (packet-decoded head (body .0) (omega arith)) (packet-label head (body .1))
 
 pub read-packet-spec : {M : Type 1} → statement M
 read-packet-spec = tie.close (tie.spec (λ c κs. search needs) (λ c. search needs) (λ c. search needs) returns body-field-requires (λ c. search needs)

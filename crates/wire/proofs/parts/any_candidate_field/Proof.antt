@@ -25,7 +25,7 @@ returns-2 c =
 
 returns-3 : tie.Need-returns-3
 returns-3 c = any-candidate-took (shelf (c .before .before .before .before .before .before .args .t))
-    (rw (c .before .number .given .1) at (c .before .before .before .candidate-field .ensures))
+    (rw (c .before .label .given .1) at (c .before .before .before .candidate-field .ensures))
 
 returns-4 : tie.Need-returns-4
 returns-4 c =

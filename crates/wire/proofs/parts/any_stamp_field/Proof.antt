@@ -22,7 +22,7 @@ returns-2 c =
     (rw (c .enum-told2 .given .1) at (c .before .before .zero-run .ensures))
 
 returns-3 : tie.Need-returns-3
-returns-3 c = any-stamp-took (rw (c .before .number .given .1) at (c .before .before .before .stamp-field .ensures))
+returns-3 c = any-stamp-took (rw (c .before .label .given .1) at (c .before .before .before .stamp-field .ensures))
 
 returns-4 : tie.Need-returns-4
 returns-4 c =

@@ -3,10 +3,12 @@
 use borrow.Author.Needs.{needs}
 use mathlib.Core.List.{List}
 use Prim.Native.Nat.{ℕ}
+use native.Mathlib.Omega.{arith}
 use Rattle.cluster.specs.Ranges.{topNumber, topWriter}
 use Rattle.format.proofs.Leaves.{stops-first, stops-second, stops-via}
 use Rattle.protocol.specs.Packet.{stampF}
 use Rattle.wire.specs.Reads.{Took, number4L, byteL}
+use Rattle.wire.proofs.Heads.{byte-range}
 use Rattle.wire.proofs.Through.{stamp-took}
 use Rattle.wire.proofs.parts.stamp_field.Statement.{statement}
 use Rattle.wire.proofs.parts.stamp_field.Tie as tie
@@ -58,6 +60,9 @@ returns-3 c =
     (stops-second _ _ (number-took (first w) .leaves)
     (stops-second _ _ (writer-took w .leaves) (rw (c .enum-told3 .given .1) at (c .before .before .run-field .ensures))))
 
+cast-t13 : tie.Need-cast-t13
+cast-t13 c = omega (arith, byte-range 1 topWriter (writer-took (c .before .before .before .before .before)) .1)
+
 returns-4 : tie.Need-returns-4
 returns-4 c =
     let w = c .before .before .before .before .before in
@@ -66,4 +71,4 @@ returns-4 c =
 pub stamp-field-spec : {M : Type 1} → statement M
 stamp-field-spec = tie.close (tie.spec (λ c. search needs) (λ c κs. search needs) (λ c. search needs) (λ c. search needs) returns (λ c. search needs)
     (λ c κs. search needs) (λ c. search needs) (λ c. search needs) returns-2 run-field-requires (λ c. search needs) (λ c. search needs) returns-3
-    returns-4)
+    cast-t13 returns-4)

@@ -15,15 +15,15 @@ returns c = stops-via _ _ _ (stops-first _ _ (rw (c .enum-told .given .1) at (c 
 returns-2 : tie.Need-returns-2
 unfolding writeF
 returns-2 c =
-    let at-number = c .before .before .before .before in
-    stops-via _ _ _ (stops-second _ _ ((rw (at-number .number .given .1) at (at-number .before .before .stamp-field .ensures)) .leaves)
+    let at-label = c .before .before .before .before in
+    stops-via _ _ _ (stops-second _ _ ((rw (at-label .label .given .1) at (at-label .before .before .stamp-field .ensures)) .took .leaves)
     (rw (c .enum-told2 .given .1) at (c .before .before .share-field .ensures)))
 
 returns-3 : tie.Need-returns-3
 returns-3 c =
-    let at-number = c .before .before .before .before .before in
-    write-took (shelf (at-number .before .before .before .before .args .t)) (rw (at-number .number .given .1) at
-    (at-number .before .before .stamp-field .ensures)) (rw (c .before .n .given .1) at (c .before .before .before .share-field .ensures))
+    let at-label = c .before .before .before .before .before in
+    write-took (shelf (at-label .before .before .before .before .args .t)) (rw (at-label .label .given .1) at
+    (at-label .before .before .stamp-field .ensures)) (rw (c .before .n .given .1) at (c .before .before .before .share-field .ensures))
 
 pub write-field-spec : {M : Type 1} → statement M
 write-field-spec = tie.close (tie.spec (λ c κs. search needs) (λ c. search needs) (λ c. search needs) returns (λ c κs. search needs)
