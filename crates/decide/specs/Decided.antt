@@ -9,6 +9,7 @@ use Rattle.cluster.specs.Config.{Config, shelf}
 use Rattle.cluster.specs.Ranges.{within, topFaults, leastLength, topLength, contentRoom}
 use Rattle.cluster.specs.Refusals.{wrongSize, refuse, firstOf, onRefusal}
 use Rattle.protocol.specs.Values.{Candidate, Share, Held, sameList, sameCandidate, stampSize}
+use Rattle.protocol.specs.Answers.{refusals}
 use Rattle.protocol.specs.Primitives.{real}
 use Rattle.protocol.specs.Rules.{ByServer, gather, live, choice, leader, restoredBy}
 use Rattle.format.specs.Reading.{over}
@@ -17,8 +18,25 @@ use Rattle.decide.specs.declared.Decision.{Decision}
 use Rattle.decide.specs.declared.Decision.the-variants as decisions
 use Rattle.decide.specs.Listing.{usable}
 
+-- a decision in document 01's numbers ("Drill sheets"): the result and, of what is found, the slot of the candidate, the server that leads its group
+-- and the content's length; 0 stands for a value that is not told
+pub record Verdict : Type 0 where
+  pub result : ℕ
+  pub slot : ℕ
+  pub server : ℕ
+  pub length : ℕ
+
+abbrev bareVerdict : ℕ → Verdict
+bareVerdict n = record { result = n; slot = 0; server = 0; length = 0 }
+
+-- a refusal, goes on, blank, read (client's judgedIn says what each does to the call)
+abbrev pub decisionAnswer : Decision → Verdict
+decisionAnswer (decisions.Refused n) = bareVerdict (refusals + n)
+decisionAnswer decisions.Wait = bareVerdict 0
+decisionAnswer decisions.Blank = bareVerdict 3
+decisionAnswer (decisions.Found i b n) = record { result = 2; slot = i; server = b; length = n }
+
 -- the answer, and the output buffer after it
--- (`Refused n` is document 01's refusal n; the others refuse nothing: client's judgedIn says what each does to the call)
 pub record Decided : Type 0 where
   pub answer : Decision
   pub output : List ℕ

@@ -19,6 +19,13 @@ use wire::kept::CANDIDATES;
 use wire::sizes::DIGEST;
 use wire::sizes::STAMP;
 
+// What a filter round is asked of one candidate: who replied, the shelf's t, and the slot of the candidate that its replies are to prove.
+pub(crate) struct Sought {
+    pub(crate) marks: [u8; cluster::MOST_SERVERS],
+    pub(crate) t: usize,
+    pub(crate) slot: usize,
+}
+
 // A group's servers: how many, and which.
 pub(crate) struct Members {
     pub(crate) count: usize,
@@ -38,75 +45,55 @@ pub(crate) struct Choice {
     pub(crate) servers: [usize; cluster::MOST_SERVERS],
 }
 
-// The reply of slot j fits the candidate of slot i, whose nonce has the digest d.
-pub(crate) fn fits(
-    kept: &[u8],
-    marks: [u8; cluster::MOST_SERVERS],
-    t: usize,
-    i: usize,
-    d: &[u8],
-    j: usize,
-) -> bool
-    requires { ⌜ (Usable t (now kept)) × (i < mostServers) × (j < shelf t .servers)
-        × (now d ≡ sha256 (candidatesIn (shelf t) (now kept) (suc i) .nonce)) ⌝ }
-    ensures { λ r. ⌜ r ≡ fitsAt t marks (now (kept .entry)) i j ⌝ }
+// The reply of slot j fits the sought candidate, whose nonce has the digest d.
+pub(crate) fn fits(kept: &[u8], sought: Sought, d: &[u8], j: usize) -> bool
+    requires { ⌜ (Usable (sought .t) (now kept)) × (sought .slot < mostServers) × (j < shelf (sought .t) .servers)
+        × (now d ≡ sha256 (candidatesIn (shelf (sought .t)) (now kept) (suc (sought .slot)) .nonce)) ⌝ }
+    ensures { λ r. ⌜ r ≡ fitsAt (sought .t) (sought .marks) (now (kept .entry)) (sought .slot) j ⌝ }
 {
-    if marks[j] == 0 {
+    if sought.marks[j] == 0 {
         return false;
     }
-    if !names_at(kept, t, i, d, j) {
+    if !names_at(kept, sought.t, sought.slot, d, j) {
         return false;
     }
-    intact_at(kept, t, j)
+    intact_at(kept, sought.t, j)
 }
 
 // 1 where the reply of slot j is of the group of slot b's, which fits; else 0. The fragment is digested last.
-pub(crate) fn agrees(
-    kept: &[u8],
-    marks: [u8; cluster::MOST_SERVERS],
-    t: usize,
-    i: usize,
-    d: &[u8],
-    b: usize,
-    j: usize,
-) -> usize
-    requires { ⌜ (Usable t (now kept)) × (i < mostServers) × (b < shelf t .servers) × (j < shelf t .servers)
-        × (now d ≡ sha256 (candidatesIn (shelf t) (now kept) (suc i) .nonce)) × (fitsAt t marks (now kept) i b ≡ true) ⌝ }
-    ensures { λ r. ⌜ r ≡ bit (agreesAt t marks (now (kept .entry)) i b (suc j)) ⌝ }
+pub(crate) fn agrees(kept: &[u8], sought: Sought, d: &[u8], b: usize, j: usize) -> usize
+    requires { ⌜ (Usable (sought .t) (now kept)) × (sought .slot < mostServers) × (b < shelf (sought .t) .servers) × (j < shelf (sought .t) .servers)
+        × (now d ≡ sha256 (candidatesIn (shelf (sought .t)) (now kept) (suc (sought .slot)) .nonce))
+        × (fitsAt (sought .t) (sought .marks) (now kept) (sought .slot) b ≡ true) ⌝ }
+    ensures { λ r. ⌜ r ≡ bit (agreesAt (sought .t) (sought .marks) (now (kept .entry)) (sought .slot) b (suc j)) ⌝ }
 {
     if j == b {
         return 1;
     }
-    if marks[j] == 0 {
+    if sought.marks[j] == 0 {
         return 0;
     }
-    if !names_at(kept, t, i, d, j) {
+    if !names_at(kept, sought.t, sought.slot, d, j) {
         return 0;
     }
-    if !alike_at(kept, t, b, j) {
+    if !alike_at(kept, sought.t, b, j) {
         return 0;
     }
-    if intact_at(kept, t, j) {
+    if intact_at(kept, sought.t, j) {
         return 1;
     }
     0
 }
 
 // The members of the group of slot b's reply, until there are enough.
-pub(crate) fn members_of(
-    kept: &[u8],
-    marks: [u8; cluster::MOST_SERVERS],
-    t: usize,
-    i: usize,
-    d: &[u8],
-    b: usize,
-) -> Members
-    requires { ⌜ (Usable t (now kept)) × (i < mostServers) × (b < shelf t .servers)
-        × (now d ≡ sha256 (candidatesIn (shelf t) (now kept) (suc i) .nonce)) × (fitsAt t marks (now kept) i b ≡ true) ⌝ }
-    ensures { λ r. ⌜ MembersAs t marks (now (kept .entry)) i b r ⌝ }
+pub(crate) fn members_of(kept: &[u8], sought: Sought, d: &[u8], b: usize) -> Members
+    requires { ⌜ (Usable (sought .t) (now kept)) × (sought .slot < mostServers) × (b < shelf (sought .t) .servers)
+        × (now d ≡ sha256 (candidatesIn (shelf (sought .t)) (now kept) (suc (sought .slot)) .nonce))
+        × (fitsAt (sought .t) (sought .marks) (now kept) (sought .slot) b ≡ true) ⌝ }
+    ensures { λ r. ⌜ MembersAs (sought .t) (sought .marks) (now (kept .entry)) (sought .slot) b r ⌝ }
 {
-    let s = servers(t);
-    let k = threshold(t);
+    let s = servers(sought.t);
+    let k = threshold(sought.t);
     let mut out = [0usize; cluster::MOST_SERVERS];
     let mut n = 0;
     let mut j = 0;
@@ -118,7 +105,7 @@ pub(crate) fn members_of(
             };
         }
         out[n] = j + 1;
-        n += agrees(kept, marks, t, i, d, b, j);
+        n += agrees(kept, sought, d, b, j);
         j += 1;
     }
     Members {
@@ -138,23 +125,17 @@ fn no_group() -> Group
 }
 
 // Slot b's group, where it leads one.
-pub(crate) fn group_of(
-    kept: &[u8],
-    marks: [u8; cluster::MOST_SERVERS],
-    t: usize,
-    i: usize,
-    d: &[u8],
-    b: usize,
-) -> Group
-    requires { ⌜ (Usable t (now kept)) × (i < mostServers) × (b < shelf t .servers)
-        × (now d ≡ sha256 (candidatesIn (shelf t) (now kept) (suc i) .nonce)) ⌝ }
-    ensures { λ r. ⌜ GroupAs t marks (now (kept .entry)) i (cond (leadsAt t marks (now (kept .entry)) i b) (suc b) 0) r ⌝ }
+pub(crate) fn group_of(kept: &[u8], sought: Sought, d: &[u8], b: usize) -> Group
+    requires { ⌜ (Usable (sought .t) (now kept)) × (sought .slot < mostServers) × (b < shelf (sought .t) .servers)
+        × (now d ≡ sha256 (candidatesIn (shelf (sought .t)) (now kept) (suc (sought .slot)) .nonce)) ⌝ }
+    ensures { λ r. ⌜ GroupAs (sought .t) (sought .marks) (now (kept .entry)) (sought .slot)
+        (cond (leadsAt (sought .t) (sought .marks) (now (kept .entry)) (sought .slot) b) (suc b) 0) r ⌝ }
 {
-    if !fits(kept, marks, t, i, d, b) {
+    if !fits(kept, sought, d, b) {
         return no_group();
     }
-    let m = members_of(kept, marks, t, i, d, b);
-    if m.count < threshold(t) {
+    let m = members_of(kept, sought, d, b);
+    if m.count < threshold(sought.t) {
         return no_group();
     }
     let servers = m.servers;
@@ -164,17 +145,18 @@ pub(crate) fn group_of(
     }
 }
 
-// The lowest server that leads a group of slot i's candidate.
-pub(crate) fn leader(kept: &[u8], marks: [u8; cluster::MOST_SERVERS], t: usize, i: usize) -> Group
-    requires { ⌜ (Usable t (now kept)) × (i < mostServers) ⌝ }
-    ensures { λ r. ⌜ GroupAs t marks (now (kept .entry)) i (leaderAt t marks (now (kept .entry)) i (shelf t .servers)) r ⌝ }
+// The lowest server that leads a group of the sought candidate.
+pub(crate) fn leader(kept: &[u8], sought: Sought) -> Group
+    requires { ⌜ (Usable (sought .t) (now kept)) × (sought .slot < mostServers) ⌝ }
+    ensures { λ r. ⌜ GroupAs (sought .t) (sought .marks) (now (kept .entry)) (sought .slot)
+        (leaderAt (sought .t) (sought .marks) (now (kept .entry)) (sought .slot) (shelf (sought .t) .servers)) r ⌝ }
 {
-    let at = CANDIDATES + CANDIDATE_SLOT * i + STAMP;
+    let at = CANDIDATES + CANDIDATE_SLOT * sought.slot + STAMP;
     let d = sha256::digest(&kept[at..at + DIGEST]);
-    let s = servers(t);
+    let s = servers(sought.t);
     let mut b = 0;
     while b < s {
-        let g = group_of(kept, marks, t, i, &d, b);
+        let g = group_of(kept, sought, &d, b);
         if g.server != 0 {
             return g;
         }
@@ -183,25 +165,20 @@ pub(crate) fn leader(kept: &[u8], marks: [u8; cluster::MOST_SERVERS], t: usize, 
     no_group()
 }
 
-// The same, where slot i is listed and has this rank; else none.
-pub(crate) fn tried(
-    kept: &[u8],
-    marks: [u8; cluster::MOST_SERVERS],
-    t: usize,
-    key: u64,
-    i: usize,
-) -> Group
-    requires { ⌜ (Usable t (now kept)) × (i < mostServers) ⌝ }
-    ensures { λ r. ⌜ GroupAs t marks (now (kept .entry)) i (cond (triedAt t (now (kept .entry)) key i)
-        (leaderAt t marks (now (kept .entry)) i (shelf t .servers)) 0) r ⌝ }
+// The same, where the candidate is listed and has this rank; else none.
+pub(crate) fn tried(kept: &[u8], sought: Sought, key: u64) -> Group
+    requires { ⌜ (Usable (sought .t) (now kept)) × (sought .slot < mostServers) ⌝ }
+    ensures { λ r. ⌜ GroupAs (sought .t) (sought .marks) (now (kept .entry)) (sought .slot)
+        (cond (triedAt (sought .t) (now (kept .entry)) key (sought .slot))
+        (leaderAt (sought .t) (sought .marks) (now (kept .entry)) (sought .slot) (shelf (sought .t) .servers)) 0) r ⌝ }
 {
-    if rank_at(kept, CANDIDATES + CANDIDATE_SLOT * i) != key {
+    if rank_at(kept, CANDIDATES + CANDIDATE_SLOT * sought.slot) != key {
         return no_group();
     }
-    if entry(kept, t, i) == 0 {
+    if entry(kept, sought.t, sought.slot) == 0 {
         return no_group();
     }
-    leader(kept, marks, t, i)
+    leader(kept, sought)
 }
 
 // The first slot that is listed, has this rank, and has a leader.
@@ -212,7 +189,8 @@ pub(crate) fn find(kept: &[u8], marks: [u8; cluster::MOST_SERVERS], t: usize, ke
     let s = servers(t);
     let mut i = 0;
     while i < s {
-        let g = tried(kept, marks, t, key, i);
+        let sought = Sought { marks, t, slot: i };
+        let g = tried(kept, sought, key);
         if g.server != 0 {
             let group = g.servers;
             return Choice {

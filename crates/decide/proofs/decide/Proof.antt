@@ -11,7 +11,7 @@ use Rattle.cluster.specs.Config.{shelf}
 use Rattle.cluster.specs.Ranges.{contentRoom}
 use Rattle.format.specs.Format.{Bytes}
 use Rattle.decide.specs.declared.leading.Choice.{Choice}
-use Rattle.decide.specs.Decided.{Decided, decideRefusal}
+use Rattle.decide.specs.Decided.{Decided, decideRefusal, decisionAnswer}
 use Rattle.decide.specs.declared.Decision.the-variants as decisions
 use Rattle.decide.specs.Steps.{Usable, topAt, chosenPlace, Hit, ChoiceAs}
 use Rattle.decide.proofs.Outcomes.{decided-refused, decided-blank, decided-none, hit-small, hit-full, hit-rises, decided-found}
@@ -20,8 +20,8 @@ use Rattle.decide.proofs.decide.Statement.{statement}
 use Rattle.decide.proofs.decide.Tie as tie
 
 -- the answer and the output, out of what is decided
-told : {d r : Decided} → d ≡ r → (r .answer ≡ d .answer) × (r .output ≡ d .output)
-told e = (sym (ap (λ (x : Decided). x .answer) e), sym (ap (λ (x : Decided). x .output) e))
+told : {d r : Decided} → d ≡ r → (decisionAnswer (r .answer) ≡ decisionAnswer (d .answer)) × (r .output ≡ d .output)
+told e = (sym (ap (λ (x : Decided). decisionAnswer (x .answer)) e), sym (ap (λ (x : Decided). x .output) e))
 
 -- Places far back, each named once: the place, and from where it is seen.
 abbrev start-from-else1 : tie.Else1 → tie.Start
@@ -120,7 +120,7 @@ returns-4 c =
     (omega (arith, at .before .before .before .if2 .left, top .ensures)) k) in
     let e : r .server ≡ suc (r .server - 1) = omega (arith, some-server (r .server) (at .if3 .left)) in
     let w = c .before .before .rebuild .ensures in
-    ((λ i. decisions.Found (r .slot) (e i) (w .0 i)) ∙ d .0, w .1 ∙ d .1)
+    ((λ i. decisionAnswer (decisions.Found (r .slot) (e i) (w .0 i))) ∙ d .0, w .1 ∙ d .1)
 
 pub decide-spec : {M : Type 1} → statement M
 decide-spec = tie.close (tie.spec (λ c κs. search needs) returns top-requires returns-2 find-requires returns-3 sub-rebuild rebuild-requires

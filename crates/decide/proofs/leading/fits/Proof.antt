@@ -13,14 +13,17 @@ use Rattle.cluster.specs.Ranges.{mostServers}
 use Rattle.decide.proofs.leading.fits.Statement.{statement}
 use Rattle.decide.proofs.leading.fits.Tie as tie
 
-array-read-if1 : tie.Need-array-read-if1
-array-read-if1 c = let a = c .before .before .args in let p = c .before .before .pre in omega (arith, p .2, few (p .0))
+element-copy-out-if1 : tie.Need-element-copy-out-if1
+element-copy-out-if1 c = let p = c .before .before .pre in omega (arith, p .2, few (p .0))
 
 returns : tie.Need-returns
-returns c = let a = c .before .before .before .args in sym (fits-unmarked (a .t) (a .t2) (a .kept .now) (a .i) (a .j) (c .if1 .taken))
+returns c =
+    let a = c .before .before .before .before .args in
+    let q = a .t2 in
+    sym (fits-unmarked (q .t) (q .marks) (a .kept .now) (q .slot) (a .j) (c .if1 .taken))
 
 names-at-requires : tie.Need-names-at-requires
-names-at-requires c κs = let a = c .before .before .before .args in let p = c .before .before .before .pre in (
+names-at-requires c κs = let p = c .before .before .before .before .pre in (
   p .0,
   p .1,
   omega
@@ -29,35 +32,39 @@ names-at-requires c κs = let a = c .before .before .before .args in let p = c .
 
 returns-2 : tie.Need-returns-2
 returns-2 c =
-    let at-start = c .before .before .before .before .before in
+    let at-start = c .before .before .before .before .before .before in
     let a = at-start .args in
+    let q = a .t2 in
     let p = at-start .pre in
     let l : a .j < mostServers = omega (arith, p .2, few (p .0)) in
-    sym (fits-marked (a .t) (a .t2) (a .kept .now) (a .i) (a .d .now) (p .3) (a .j) l (is-marked (a .t2) (a .j) (c .before .before .if1 .left))
+    sym (fits-marked (q .t) (q .marks) (a .kept .now) (q .slot) (a .d .now) (p .3) (a .j) l (is-marked (q .marks) (a .j)
+    (c .before .before .if1 .left))
     ∙ rw (sym (c .before .names-at .ensures) ∙ not-true (c .before .names-at .result) (c .if2 .taken)))
 
 intact-at-requires : tie.Need-intact-at-requires
 unfolding slotHeld
 intact-at-requires c κs =
-    let at-start = c .before .before .before .before .before in
+    let at-start = c .before .before .before .before .before .before in
     let a = at-start .args in
+    let q = a .t2 in
     let p = at-start .pre in (
       p .0,
       p .2,
-      names-full (shelf (a .t)) (replySlotOf (a .kept .now) (a .j)) (candidatesIn (shelf (a .t)) (a .kept .now) (suc (a .i))) (a .d .now)
+      names-full (shelf (q .t)) (replySlotOf (a .kept .now) (a .j)) (candidatesIn (shelf (q .t)) (a .kept .now) (suc (q .slot))) (a .d .now)
           (sym (c .before .names-at .ensures) ∙ not-false (c .before .names-at .result) (c .if2 .left)),
     )
 
 returns-3 : tie.Need-returns-3
 returns-3 c =
-    let at-start = c .before .before .before .before .before .before in
+    let at-start = c .before .before .before .before .before .before .before in
     let a = at-start .args in
+    let q = a .t2 in
     let p = at-start .pre in
     let l : a .j < mostServers = omega (arith, p .2, few (p .0)) in
     c .intact-at .ensures
-    ∙ sym (fits-marked (a .t) (a .t2) (a .kept .now) (a .i) (a .d .now) (p .3) (a .j) l
-    (is-marked (a .t2) (a .j) (c .before .before .before .if1 .left))
+    ∙ sym (fits-marked (q .t) (q .marks) (a .kept .now) (q .slot) (a .d .now) (p .3) (a .j) l
+    (is-marked (q .marks) (a .j) (c .before .before .before .if1 .left))
     ∙ rw (sym (c .before .before .names-at .ensures) ∙ not-false (c .before .before .names-at .result) (c .before .if2 .left)))
 
 pub fits-spec : {M : Type 1} → statement M
-fits-spec = tie.close (tie.spec array-read-if1 returns names-at-requires returns-2 intact-at-requires returns-3)
+fits-spec = tie.close (tie.spec element-copy-out-if1 returns names-at-requires returns-2 intact-at-requires returns-3)

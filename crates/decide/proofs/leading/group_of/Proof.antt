@@ -20,8 +20,10 @@ fits-requires c κs = let p = c .before .before .pre in (p .0, p .1, p .2, p .3)
 returns : tie.Need-returns
 returns c =
     let a = c .before .before .before .before .before .args in
-    nobody-leads (a .t) (a .marks) (a .kept .now) (a .i) (a .b) _ (c .no-group .ensures)
-    (leads-unfit (a .t) (a .marks) (a .kept .now) (a .i) (a .b) (sym (c .before .before .fits2 .ensures) ∙ not-true (c .before .before .fits2 .result)
+    let q = a .sought in
+    nobody-leads (q .t) (q .marks) (a .kept .now) (q .slot) (a .b) _ (c .no-group .ensures)
+    (leads-unfit (q .t) (q .marks) (a .kept .now) (q .slot) (a .b) (sym (c .before .before .fits2 .ensures) ∙ not-true
+    (c .before .before .fits2 .result)
     (c .before .if1 .taken)))
 
 members-of-requires : tie.Need-members-of-requires
@@ -45,8 +47,9 @@ returns-2 : tie.Need-returns-2
 returns-2 c =
     let at-members-of = c .before .before .before .before in
     let a = start-from-members-of at-members-of .args in
-    nobody-leads (a .t) (a .marks) (a .kept .now) (a .i) (a .b) _ (c .no-group2 .ensures)
-    (leads-few (a .t) (a .marks) (a .kept .now) (a .i) (a .b) (sym (at-members-of .before .before .fits2 .ensures) ∙ not-false
+    let q = a .sought in
+    nobody-leads (q .t) (q .marks) (a .kept .now) (q .slot) (a .b) _ (c .no-group2 .ensures)
+    (leads-few (q .t) (q .marks) (a .kept .now) (q .slot) (a .b) (sym (at-members-of .before .before .fits2 .ensures) ∙ not-false
     (at-members-of .before .before .fits2 .result) (at-members-of .before .if1 .left)) (omega (
       arith,
       c .before .if2 .taken,
@@ -58,13 +61,14 @@ returns-3 : tie.Need-returns-3
 returns-3 c =
     let at-members-of = c .before .before .before .before in
     let a = start-from-members-of at-members-of .args in
+    let q = a .sought in
     let m = at-members-of .members-of .ensures in
-    let l : shelf (a .t) .threshold ≤ length (membersAt (a .t) (a .marks) (a .kept .now) (a .i) (a .b)) = omega
+    let l : shelf (q .t) .threshold ≤ length (membersAt (q .t) (q .marks) (a .kept .now) (q .slot) (a .b)) = omega
     (arith, c .before .if2 .left, m .count, c .before .before .before .threshold .ensures .0) in
-    let k : shelf (a .t) .threshold ≡ at-members-of .members-of .result .count = omega
-    (arith, l, m .count, members-most (a .t) (a .marks) (a .kept .now) (a .i) (a .b)) in
-    slot-leads (a .t) (a .marks) (a .kept .now) (a .i) (a .b) _ (add-one (a .b))
-    (leads-enough (a .t) (a .marks) (a .kept .now) (a .i) (a .b) (sym (at-members-of .before .before .fits2 .ensures) ∙ not-false
+    let k : shelf (q .t) .threshold ≡ at-members-of .members-of .result .count = omega
+    (arith, l, m .count, members-most (q .t) (q .marks) (a .kept .now) (q .slot) (a .b)) in
+    slot-leads (q .t) (q .marks) (a .kept .now) (q .slot) (a .b) _ (add-one (a .b))
+    (leads-enough (q .t) (q .marks) (a .kept .now) (q .slot) (a .b) (sym (at-members-of .before .before .fits2 .ensures) ∙ not-false
     (at-members-of .before .before .fits2 .result) (at-members-of .before .if1 .left)) l)
     (ap (λ (x : ℕ). take x (at-members-of .members-of .result .servers)) k ∙ m .these)
 

@@ -17,27 +17,32 @@ use Rattle.decide.proofs.leading.tried.Tie as tie
 returns : tie.Need-returns
 returns c =
     let at-rank-at = c .before .before in
-    let a = at-rank-at .before .before .args in
-    let n = leaderAt (a .t) (a .marks) (a .kept .now) (a .i) (shelf (a .t) .servers) in
-    no-group (a .t) (a .marks) (a .kept .now) (a .i) (cond (triedAt (a .t) (a .kept .now) (a .key) (a .i)) n 0) _ (c .no-group .ensures)
-    (rw (other-rank (a .t) (a .kept .now) (a .key) (a .i) (λ e. c .before .if1 .taken
-    (c .before .before .rank-at .ensures ∙ sym (candidate-rank (shelf (a .t)) (a .kept .now) (a .i) (at-rank-at .before .before .pre .1)) ∙ e))))
+    let a = at-rank-at .before .before .before .args in
+    let q = a .sought in
+    let n = leaderAt (q .t) (q .marks) (a .kept .now) (q .slot) (shelf (q .t) .servers) in
+    no-group (q .t) (q .marks) (a .kept .now) (q .slot) (cond (triedAt (q .t) (a .kept .now) (a .key) (q .slot)) n 0) _ (c .no-group .ensures)
+    (rw (other-rank (q .t) (a .kept .now) (a .key) (q .slot) (λ e. c .before .if1 .taken
+    (c .before .before .rank-at .ensures ∙ sym (candidate-rank (shelf (q .t)) (a .kept .now) (q .slot)
+    (at-rank-at .before .before .before .pre .1)) ∙ e))))
 
 returns-2 : tie.Need-returns-2
 returns-2 c =
-    let a = c .before .before .before .before .before .before .args in
-    let n = leaderAt (a .t) (a .marks) (a .kept .now) (a .i) (shelf (a .t) .servers) in
-    no-group (a .t) (a .marks) (a .kept .now) (a .i) (cond (triedAt (a .t) (a .kept .now) (a .key) (a .i)) n 0) _ (c .no-group2 .ensures)
-    (rw (not-listed (a .t) (a .kept .now) (a .key) (a .i) (bit-some (enters (candidatesIn (shelf (a .t)) (a .kept .now)) (suc (a .i)))
+    let a = c .before .before .before .before .before .before .before .args in
+    let q = a .sought in
+    let n = leaderAt (q .t) (q .marks) (a .kept .now) (q .slot) (shelf (q .t) .servers) in
+    no-group (q .t) (q .marks) (a .kept .now) (q .slot) (cond (triedAt (q .t) (a .kept .now) (a .key) (q .slot)) n 0) _ (c .no-group2 .ensures)
+    (rw (not-listed (q .t) (a .kept .now) (a .key) (q .slot) (bit-some (enters (candidatesIn (shelf (q .t)) (a .kept .now)) (suc (q .slot)))
     (sym (c .before .before .entry .ensures) ∙ c .before .if2 .taken))))
 
 returns-3 : tie.Need-returns-3
 returns-3 c =
     let at-rank-at = c .before .before .before .before in
-    let a = at-rank-at .before .before .args in
-    rw (is-tried (a .t) (a .kept .now) (a .key) (a .i) (candidate-rank (shelf (a .t)) (a .kept .now) (a .i)
-    (at-rank-at .before .before .pre .1) ∙ sym (at-rank-at .rank-at .ensures) ∙ c .before .before .before .if1 .left)
-    (bit-here (enters (candidatesIn (shelf (a .t)) (a .kept .now)) (suc (a .i))) (λ e. c .before .if2 .left (c .before .before .entry .ensures ∙ e))))
+    let a = at-rank-at .before .before .before .args in
+    let q = a .sought in
+    rw (is-tried (q .t) (a .kept .now) (a .key) (q .slot) (candidate-rank (shelf (q .t)) (a .kept .now) (q .slot)
+    (at-rank-at .before .before .before .pre .1) ∙ sym (at-rank-at .rank-at .ensures) ∙ c .before .before .before .if1 .left)
+    (bit-here (enters (candidatesIn (shelf (q .t)) (a .kept .now)) (suc (q .slot))) (λ e. c .before .if2 .left
+    (c .before .before .entry .ensures ∙ e))))
     (c .leader .ensures)
 
 pub tried-spec : {M : Type 1} → statement M
