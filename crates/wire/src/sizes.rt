@@ -5,14 +5,26 @@ ghost use Rattle.erasure.specs.Fragments.{fragmentSize};
 ghost use Rattle.protocol.specs.Packet.{shareSize};
 ghost use Rattle.protocol.specs.Values.{digestsSize, tagsSize, candidateSize};
 
-// Bytes of a digest, of a nonce, of a stamp and of a packet's head.
+// Bytes of a digest, of a nonce and of a packet's head.
 pub const DIGEST: usize = cluster::KEY;
 
 pub const NONCE: usize = cluster::KEY;
 
-pub const STAMP: usize = 5 + hmac::TAG;
-
 pub const HEAD: usize = 8;
+
+// Bytes of a stamp's number, of its number and writer, and of the stamp.
+pub const NUMBER: usize = 4;
+
+pub const LABEL: usize = NUMBER + 1;
+
+pub const STAMP: usize = LABEL + hmac::TAG;
+
+// Bytes of the record length that a share begins with; of a stamp and the byte that says whether a share follows; and of these and that length.
+pub const LENGTH: usize = 2;
+
+pub const HELD: usize = STAMP + 1;
+
+pub const HELD_LENGTH: usize = HELD + LENGTH;
 
 pub fn digests_size(t: u8) -> usize
     ensures { λ r. ⌜ r ≡ digestsSize (shelf t) ⌝ }
@@ -56,5 +68,5 @@ pub fn fragment_size(t: u8, n: u32) -> usize
 pub fn share_size(t: u8, n: u32) -> usize
     ensures { λ r. ⌜ r ≡ shareSize (shelf t) n ⌝ }
 {
-    2 + fragment_size(t, n) + digests_size(t) + DIGEST + tags_size(t)
+    LENGTH + fragment_size(t, n) + digests_size(t) + DIGEST + tags_size(t)
 }

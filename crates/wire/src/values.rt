@@ -9,8 +9,8 @@ pub fn stamp_at(s: &[u8]) -> protocol::Stamp
     ensures { λ r. ⌜ r ≡ stampAt (padded stampSize (now (s .entry))) ⌝ }
 {
     let number = crate::bytes::number4(s);
-    let writer = crate::bytes::byte_at(s, 4);
-    let tag = crate::bytes::tag_of(crate::bytes::rest(s, 5));
+    let writer = crate::bytes::byte_at(s, crate::sizes::NUMBER);
+    let tag = crate::bytes::tag_of(crate::bytes::rest(s, crate::sizes::LABEL));
     protocol::Stamp::new(number, writer, tag)
 }
 
@@ -18,7 +18,7 @@ pub fn stamp_at(s: &[u8]) -> protocol::Stamp
 pub fn rank_at(s: &[u8]) -> u64
     ensures { λ r. ⌜ r ≡ rank (stampAt (now (s .entry))) ⌝ }
 {
-    protocol::Stamp::rank_of(crate::bytes::number4(s), crate::bytes::byte_at(s, 4))
+    protocol::Stamp::rank_of(crate::bytes::number4(s), crate::bytes::byte_at(s, crate::sizes::NUMBER))
 }
 
 // A candidate without its tags.
