@@ -35,11 +35,10 @@ fn tags_at(t: usize, n: usize) -> usize
     ensures { λ r. ⌜ (r ≡ tagsPlace t n) × (r ≤ 2048) ⌝ }
 {
     let u = t as u8;
-    wire::sizes::STAMP
-        + 3
+    wire::sizes::HELD_LENGTH
         + wire::sizes::fragment_size(u, n as u32)
         + wire::sizes::digests_size(u)
-        + cluster::KEY
+        + wire::sizes::DIGEST
 }
 
 // The candidate of slot i with the tags in server b's reply.

@@ -24,7 +24,7 @@ pub(crate) fn label(slot: &[u8]) -> protocol::Label
 {
     protocol::Label {
         number: wire::bytes::number4(slot),
-        writer: wire::bytes::byte_at(slot, 4),
+        writer: wire::bytes::byte_at(slot, wire::sizes::NUMBER),
     }
 }
 

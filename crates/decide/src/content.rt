@@ -15,7 +15,7 @@ use crate::sizes::size_of;
 use crate::sizes::threshold;
 use wire::kept::REPLIES;
 use wire::kept::REPLY_SLOT;
-use wire::sizes::STAMP;
+use wire::sizes::HELD_LENGTH;
 
 // The fragments of the first servers of the array, one after the other, of a content of n bytes.
 pub(crate) fn fragments_of(
@@ -32,7 +32,7 @@ pub(crate) fn fragments_of(
     let mut out = [0u8; FRAGMENTS];
     let mut p = 0;
     while p < k {
-        let at = REPLIES + REPLY_SLOT * (servers[p] - 1) + (STAMP + 3);
+        let at = REPLIES + REPLY_SLOT * (servers[p] - 1) + HELD_LENGTH;
         copy(&mut out, p * f, &kept[at..at + f]);
         p += 1;
     }

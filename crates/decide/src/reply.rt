@@ -21,6 +21,7 @@ use wire::kept::REPLIES;
 use wire::kept::REPLY_SLOT;
 use wire::packet::share_fragment;
 use wire::sizes::DIGEST;
+use wire::sizes::HELD;
 use wire::sizes::STAMP;
 
 // Whether a reply names the candidate: its stamp, a share, a length in its range, and the nonce's digest d. No fragment is digested.
@@ -51,7 +52,7 @@ pub(crate) fn intact(reply: &[u8], t: usize, j: usize) -> bool
     ensures { λ r. ⌜ r ≡ intact (suc j) (heldAt (shelf t) (now (reply .entry)) .share) ⌝ }
 {
     let e = digests_at(t, size_of(reply));
-    let d = sha256::digest(share_fragment(rest(reply, STAMP + 1), t as u8));
+    let d = sha256::digest(share_fragment(rest(reply, HELD), t as u8));
     let at = e + DIGEST * j;
     same(&d, &reply[at..at + DIGEST])
 }

@@ -10,7 +10,8 @@ ghost use Rattle.protocol.specs.Values.{stampSize};
 ghost use Rattle.format.specs.Reading.{put};
 ghost use Rattle.protocol.specs.View.{replySlot};
 ghost use Rattle.decide.specs.Steps.{rankAt, DigestsAt};
-use wire::sizes::STAMP;
+use wire::sizes::HELD;
+use wire::sizes::HELD_LENGTH;
 
 // How many servers there are.
 pub(crate) fn servers(t: usize) -> usize
@@ -41,7 +42,7 @@ pub(crate) fn digests_at(t: usize, n: usize) -> usize
     requires { ⌜ (1 ≤ t) × (t ≤ topFaults) × (n ≤ topLength) ⌝ }
     ensures { λ r. ⌜ DigestsAt t n r ⌝ }
 {
-    STAMP + 3 + fragment_size(t, n)
+    HELD_LENGTH + fragment_size(t, n)
 }
 
 // The length of a reply's content.
@@ -49,9 +50,7 @@ pub(crate) fn size_of(reply: &[u8]) -> usize
     requires { ⌜ length (now reply) ≡ replySlot ⌝ }
     ensures { λ r. ⌜ r ≡ value2 (getD (now (reply .entry)) (stampSize + 1) 0) (getD (now (reply .entry)) (stampSize + 2) 0) ⌝ }
 {
-    let a = wide(reply[STAMP + 1]) as usize;
-    let b = wide(reply[STAMP + 2]) as usize;
-    256 * a + b
+    wire::bytes::number2(wire::bytes::rest(reply, HELD)) as usize
 }
 
 pub(crate) fn wide(x: u8) -> u64

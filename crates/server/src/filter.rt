@@ -28,9 +28,6 @@ pub enum Chosen {
 // Bytes of a list's count, before its candidates.
 const COUNT_SIZE: usize = 1;
 
-// A stamp and the byte after it.
-const HELD: usize = wire::sizes::STAMP + 1;
-
 // The rest of the walk: the ranks below a bound, with a key that is prepared.
 fn choose_under(
     memory: &[u8],
@@ -78,10 +75,10 @@ fn choose(memory: &[u8], key: [u8; cluster::KEY], opened: Opened, list: &[u8], c
 }
 
 // A stamp and the byte that says whether a share follows.
-fn held_head(stamp: protocol::Stamp, flag: u8) -> [u8; HELD]
+fn held_head(stamp: protocol::Stamp, flag: u8) -> [u8; wire::sizes::HELD]
     ensures { λ r. ⌜ r ≡ stampF .print stamp ++ flag ∷ [] ⌝ }
 {
-    let mut bytes = [0u8; HELD];
+    let mut bytes = [0u8; wire::sizes::HELD];
     wire::make::put_stamp(&mut bytes, 0, stamp);
     wire::make::put_byte(&mut bytes, wire::sizes::STAMP, flag);
     bytes

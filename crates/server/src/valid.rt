@@ -10,16 +10,13 @@ use crate::memory::find;
 use wire::bytes::part;
 use wire::bytes::rest;
 
-// Bytes of a share's record length.
-const LENGTH: usize = 2;
-
 // The nonce digest in a share.
 fn nonce_digest(share: &[u8], t: u8) -> &[u8]
     ensures { λ r. ⌜ now r ≡ shareAt (shelf t) (now (share .entry)) .nonceDigest ⌝ }
 {
     let size = wire::sizes::fragment_size(t, wire::bytes::number2(share));
     part(
-        rest(rest(share, LENGTH), size),
+        rest(rest(share, wire::sizes::LENGTH), size),
         wire::sizes::digests_size(t),
         wire::sizes::DIGEST,
     )

@@ -112,7 +112,11 @@ pub fn read_packet(packet: &[u8]) -> PacketRead
 pub fn share_fragment(share: &[u8], t: u8) -> &[u8]
     ensures { λ r. ⌜ now r ≡ shareAt (shelf t) (now (share .entry)) .fragment ⌝ }
 {
-    part(share, crate::sizes::LENGTH, crate::sizes::fragment_size(t, number2(share)))
+    part(
+        share,
+        crate::sizes::LENGTH,
+        crate::sizes::fragment_size(t, number2(share)),
+    )
 }
 
 // The fragment in a packet of kind 3 or 10, as that part of the packet; the empty part where the packet is broken or has none.

@@ -18,7 +18,10 @@ pub fn stamp_at(s: &[u8]) -> protocol::Stamp
 pub fn rank_at(s: &[u8]) -> u64
     ensures { λ r. ⌜ r ≡ rank (stampAt (now (s .entry))) ⌝ }
 {
-    protocol::Stamp::rank_of(crate::bytes::number4(s), crate::bytes::byte_at(s, crate::sizes::NUMBER))
+    protocol::Stamp::rank_of(
+        crate::bytes::number4(s),
+        crate::bytes::byte_at(s, crate::sizes::NUMBER),
+    )
 }
 
 // A candidate without its tags.

@@ -22,8 +22,8 @@ short c =
           (arith, p .0, c .digests-size .ensures),
     )
 
-add-result-2 : tie.Need-add-result-2
-add-result-2 c =
+add-result : tie.Need-add-result
+add-result c =
     omega (
       arith,
       c .before .pre .0,
@@ -37,5 +37,5 @@ unfolding tagsPlace
 returns c = (rw (c .digests-size .ensures, c .before .fragment-size .ensures), omega (arith, short c))
 
 pub tags-at-spec : {M : Type 1} → statement M
-tags-at-spec = tie.close (tie.spec (λ c. search needs) (λ c. search needs) (λ c. search needs) (λ c κs. search needs) add-result-2
+tags-at-spec = tie.close (tie.spec (λ c. search needs) (λ c. search needs) (λ c κs. search needs) add-result
     (λ c κs. search needs) (λ c. omega (arith, short c)) (λ c. omega (arith, short c)) returns)

@@ -97,7 +97,6 @@ returns c =
 pub fragments-of-spec : {M : Type 1} → statement M
 fragments-of-spec = tie.close (tie.spec Inv-loop μ-loop fragment-size-requires threshold-requires loop-holds (λ c. omega (arith, array-read-at c))
     array-read-at (λ c. omega (arith, fine c)) (λ c. omega (arith, fine c)) (λ c. omega (arith, fine c)) (λ c. omega (arith, fine c))
-    (λ c. omega (arith, fine c))
     (λ c. search needs) (λ c. omega (arith, fine (c .before))) (λ c. omega (arith, fine (c .before))) (λ c. omega (arith, fine (c .before)))
     (λ c. omega (arith, fine (c .before))) (λ c. omega (arith, fine (c .before))) copy-requires
     (λ c. omega (arith, fine (c .before .before .before .before))) (λ c. omega arith) loop-again returns)

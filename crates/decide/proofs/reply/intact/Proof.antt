@@ -48,7 +48,7 @@ returns c =
     ∙ sym (intact-in (shelf (a .t)) (a .reply .now) (p .3) (a .j) (p .4))
 
 pub intact-spec : {M : Type 1} → statement M
-intact-spec = tie.close (tie.spec (λ c κs. search needs) digests-at-requires (λ c. search needs) (λ c κs. search needs) (λ c. search needs)
+intact-spec = tie.close (tie.spec (λ c κs. search needs) digests-at-requires (λ c κs. search needs) (λ c. search needs)
     (λ c κs. search needs) (λ c κs. search needs) (λ c. omega (arith, fine (c .before .before .before)))
     (λ c. omega (arith, fine (c .before .before .before))) (λ c. search needs) (λ c. omega (arith, fine (c .before .before .before .before)))
     (λ c. omega (arith, fine (c .before .before .before .before))) (λ c. omega (arith, fine (c .before .before .before .before)))

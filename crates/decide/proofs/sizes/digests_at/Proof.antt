@@ -6,9 +6,9 @@ use Rattle.protocol.proofs.Room.{shelf-fits}
 use Rattle.decide.proofs.sizes.digests_at.Statement.{statement}
 use Rattle.decide.proofs.sizes.digests_at.Tie as tie
 
-add-result-2 : tie.Need-add-result-2
+add-result : tie.Need-add-result
 unfolding shareSize
-add-result-2 c = let p = c .before .pre in omega (
+add-result c = let p = c .before .pre in omega (
   arith,
   shelf-fits (c .before .args .t) (p .0) (p .1) .room (c .before .args .n) (p .2),
   c .fragment-size .ensures,
@@ -22,4 +22,4 @@ returns c =
     record { place = omega (arith, c .fragment-size .ensures); room = omega (arith, c .fragment-size .ensures, f) }
 
 pub digests-at-spec : {M : Type 1} → statement M
-digests-at-spec = tie.close (tie.spec (λ c. search needs) (λ c κs. search needs) add-result-2 returns)
+digests-at-spec = tie.close (tie.spec (λ c κs. search needs) add-result returns)
