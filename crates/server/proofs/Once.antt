@@ -169,7 +169,8 @@ module _ (t : ℕ) {n : ℕ} {d : List ℕ} {at i : ℕ} {top : Top} (h : Checki
           subst T z tt
 
       pub check-more : Bytes d → {l : Label} → l ≡ labelOf (stampAt (drop at d)) → {k : ℕ} → k ≡ rankBy (l .number) (l .writer)
-          → {up : Top} → up ≡ raisedTop top k at → (b : ℕ) {c : Bool} → RepeatsAs d (seenSo t b i at top) c → c ≡ false → Checking (shelf t) n d q up (i + 1)
+          → {up : Top} → up ≡ raisedTop top k at → (b : ℕ) {c : Bool} → RepeatsAs d (seenSo t b i at top) c → c ≡ false
+          → Checking (shelf t) n d q up (i + 1)
       check-more bs p₀ q₀ v b {c} g y =
           let w : Write = writeAt (shelf t) (drop at d) in
           record {

@@ -26,13 +26,15 @@ returns-4 : tie.Need-returns-4
 returns-4 c packet label =
     let at-else1 = c .before .before .before .before .before .before in
     let a = start-from-else1 at-else1 .args in short (a .head) (a .opened) packet (a .room)
-    (at-else1 .if1 .left) (c .before .before .before .if2 .left) (c .before .before .barred .ensures packet label) (c .before .if3 .left) (omega arith)
+    (at-else1 .if1 .left) (c .before .before .before .if2 .left) (c .before .before .barred .ensures packet label)
+    (c .before .if3 .left) (omega arith)
 
 returns-5 : tie.Need-returns-5
 returns-5 c packet label =
     let at-else1 = c .before .before .before .before .before .before in
     let a = start-from-else1 at-else1 .args in let-in (a .head) (a .opened) packet (a .room)
-    (at-else1 .if1 .left) (c .before .before .before .if2 .left) (c .before .before .barred .ensures packet label) (c .before .if3 .left) (omega arith)
+    (at-else1 .if1 .left) (c .before .before .before .if2 .left) (c .before .before .barred .ensures packet label)
+    (c .before .if3 .left) (omega arith)
 
 pub refusal-spec : {M : Type 1} → statement M
 refusal-spec = tie.close (tie.spec returns returns-2 (λ c κs. search needs) returns-3 returns-4 returns-5)

@@ -50,8 +50,10 @@ returns-5 c =
     let a = c .before .before .before .args in
     let s = shelf (a .t) in
     ⊎-elim
-    (λ e. of-part s (a .s .now) (a .c .at) (candidateL s) (complete-kind s) (λ d. refl) e (λ d. refl) (c .candidate-field .result) (c .candidate-field .ensures))
-    (λ e. of-part s (a .s .now) (a .c .at) (candidateL s) (repair-kind s) (λ d. refl) e (λ d. refl) (c .candidate-field .result) (c .candidate-field .ensures))
+    (λ e. of-part s (a .s .now) (a .c .at) (candidateL s) (complete-kind s) (λ d. refl) e (λ d. refl)
+    (c .candidate-field .result) (c .candidate-field .ensures))
+    (λ e. of-part s (a .s .now) (a .c .at) (candidateL s) (repair-kind s) (λ d. refl) e (λ d. refl)
+    (c .candidate-field .result) (c .candidate-field .ensures))
     (c .before .match .keys5)
 
 returns-6 : tie.Need-returns-6

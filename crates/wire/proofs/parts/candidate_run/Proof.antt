@@ -37,7 +37,8 @@ loop-again c =
     let at-loop = c .before .before .before .before .before in (
       omega arith,
       run-more (shelf (at-loop .before .before .args .t))
-          (at-loop .loop .i) (at-loop .loop .inv .1) ((rw (c .before .label .given .1) at (c .before .before .before .candidate-field .ensures)) .took),
+          (at-loop .loop .i) (at-loop .loop .inv .1)
+          ((rw (c .before .label .given .1) at (c .before .before .before .candidate-field .ensures)) .took),
     )
 
 returns-2 : tie.Need-returns-2 Inv-loop μ-loop
