@@ -4,7 +4,7 @@
     pub fn F(state: &mut S, p1: .., .., pn: ..) -> K { let s = G(*state, p1, .., pn); *state = s.call; s.answer }
 
 where G is covered (proved), takes S by value first and then the SAME parameters in the same order, and returns a struct
-R { answer: K, call: S } (field 0 the answer, field 1 the new state). Parameter kinds: u8 u16 u32 u64 usize,
+R { answer: K, call: S } (field 0 the answer, field 1 the new state). Parameter kinds: u8 u16 u32 u64 usize, struct:NAME (one struct by value),
 slice (&[u8]), mutslice (&mut [u8]), arr:N (&[u8; N]), arr:N:M (&[[u8; N]; M]), mutarr:N (&mut [u8; N]). What G is lent by &mut it is given for good.
 
 usage: walkgen.py CRATE F G S R K enum|struct 'kinds,..' 'names,..' 'phi' ['use lines']
@@ -34,7 +34,10 @@ n=len(kinds)
 Fd,Gd=F.replace('_','-'),G.replace('_','-')
 last=lambda: None
 W={'u8':'w8','u16':'w16','u32':'w32','u64':'w64','usize':'w64'}; B={'u8':8,'u16':16,'u32':32,'u64':64,'usize':64}
-isref=[not k in W for k in kinds]
+isstruct=[k.startswith('struct:') for k in kinds]
+isref=[not (k in W or k.startswith('struct:')) for k in kinds]
+structs=list(dict.fromkeys(k.split(':')[1] for k in kinds if k.startswith('struct:')))
+assert len(structs)<=1
 mut=[k.startswith('mut') for k in kinds]
 # lifetimes: 0 is the state's
 lf={}; j=1
@@ -61,15 +64,17 @@ def tupT(xs):
 qs=['q']+[f'q{sub(lf[i])}' for i in range(n) if isref[i]]
 x=[f'«{names[i]}»' for i in range(n)]
 nm=lambda i:names[i]
-dty=['ℕ' if not isref[i] else 'RefT (List (List ℕ))' if kinds[i].count(':')==2 else 'RefT (List ℕ)' for i in range(n)]
+dty=[kinds[i].split(':')[1] if isstruct[i] else 'ℕ' if not isref[i] else 'RefT (List (List ℕ))' if kinds[i].count(':')==2 else 'RefT (List ℕ)' for i in range(n)]
 def val(i):
     k=kinds[i]
     if k in W: return f'vint {W[k]} {nm(i)}'
+    if isstruct[i]: return f'LL.val P.the-type P′.the-laws {nm(i)}'
     if k in('slice','mutslice'): return f'sliceVal ({nm(i)} .ptr) (length ({nm(i)} .now))'
     return f'vptr ({nm(i)} .ptr .0) ({nm(i)} .ptr .1)'
 def slot(i):
     k=kinds[i]; jj=lf.get(i)
     if k in W: return f'(plain (λ _. {k}))'
+    if isstruct[i]: return '(plain (λ _. P.the-row))'
     if k=='slice': return f'(shrSliceOf ({jj} ∷ []) tt (plain (λ _. u8)))'
     if k=='mutslice': return f'({jj} ∷ []) tt (plain (λ _. u8))'
     if k.startswith('arr'): return f'(shrRefTo ({jj} ∷ []) tt {arrOf(k)})'
@@ -87,6 +92,7 @@ def goes(i):
 def row(i):
     k=kinds[i]; jj=lf.get(i)
     if k in W: return k
+    if isstruct[i]: return 'P.the-row'
     kap=f'κ{sub(jj)}'
     return {'slice':f'ShrSlice (named {jj}) {kap} u8','mutslice':f'MutSlice (named {jj}) {kap} u8'}.get(k) or (f'{"MutRef" if mut[i] else "ShrRef"} (named {jj}) {kap} {arrRow(k)}')
 def rowκ(i):
@@ -94,18 +100,22 @@ def rowκ(i):
 def spell(i):
     k=kinds[i]
     if k in W: return f'uint-vals {W[k]}'
+    if isstruct[i]: return 'LL.vals P.the-type P′.the-laws'
     return 'slice-vals' if 'slice' in k else 'ptr-vals'
 def tell(i):
     k=kinds[i]
     if k in W: return f'uint-tells {W[k]}'
+    if isstruct[i]: return 'LL.tells P.the-type P′.the-laws'
     return {'slice':'shr-slice-tells','mutslice':'mut-slice-tells'}.get(k,'mut-tells' if mut[i] else 'shr-tells')+' '+rowκ(i).split(' ',1)[1]
 hyps=[]  # facts of parameters
 for i in range(n):
     if kinds[i] in W: hyps.append((f'{nm(i)}-fits : {nm(i)} < 2 ^ {B[kinds[i]]}',f'(are{" .1"*(i+1)} .0 .1)'))
+    elif isstruct[i]: hyps.append((f'{nm(i)}-is : Is P.the-row {nm(i)} (LL.vals P.the-type P′.the-laws {nm(i)})',f'(are{" .1"*(i+1)} .0)'))
     elif 'slice' in kinds[i]: hyps.append((f'{nm(i)}-room : Room u8 (length ({nm(i)} .now))',f'(are{" .1"*(i+1)} .0 .0 .1)'))
 def wt(i):
     k=kinds[i]
     if k in W: return f'(tt, record {{ fits = {nm(i)}-fits }})'
+    if isstruct[i]: return f'(LL.lawful P.the-type P′.the-laws 𝓤 H A W .typed {nm(i)} _ {nm(i)}-is .0)'
     if 'slice' in k: return f'(tt, (tt, (record {{ fits = {nm(i)}-room .0 }}, tt)))'
     return '(tt, tt)'
 # locals: 0 result, 1 state, 2..n+1 params, n+2 s, n+3 the state's copy, then temporaries
@@ -180,9 +190,9 @@ use denote.Triple.Table.{entered, cited}
 use denote.Triple.Walked.{says, Stays, stay-ref, stay-dropped, gave-slice, gave-ref, walkOf, goes-ref, goes-dropped, goes-gave-slice, goes-gave-ref, Walks, ends-at, walked, walk-meets}
 use denote.Exit.{yes}
 use denote.Signature.{plain, shrSliceOf, shrRefTo}""")
-for D in dict.fromkeys([S,R]+([fd[1]] if fd else [])): P(f"use {declared(D)}.{{{D}}}")
+for D in dict.fromkeys([S,R]+([fd[1]] if fd else [])+structs): P(f"use {declared(D)}.{{{D}}}")
 if uses: P(uses.replace('\\n','\n'))
-for D,a in ((S,'T'),(R,'R'),(K,'K'))+(((fd[1],'Y'),) if fd else ()):
+for D,a in ((S,'T'),(R,'R'),(K,'K'))+(((fd[1],'Y'),) if fd else ())+tuple((D,'P') for D in structs):
     P(f"use {proofs(D)} as {a}"); P(f"use {proofs(D)}.Laws as {a}′")
 GQ=f"{Q}.{GM}.{G}" if GM else f"{Q}.{G}"
 P(f"""use {GQ} as callee

@@ -9,6 +9,7 @@ ghost use Rattle.protocol.specs.ClientBytes.{fresh, beginWrite, beginRead, give
 ghost use Rattle.format.specs.Reading.{put};
 ghost use Rattle.client.specs.Answers.{stopped, started};
 ghost use Rattle.client.specs.Core.{coreWrite, coreRead};
+use crate::Party;
 use crate::kept;
 use crate::refusals;
 use crate::rounds;
@@ -20,12 +21,12 @@ pub struct Stopped {
 }
 
 // Giving up leaves no call in hand; the call number and the last stamp made stay.
-pub fn give_up_in(call: protocol::Call, t: usize, client: usize) -> Stopped
-    ensures { λ r. ⌜ stopped r ≡ giveUp t client call ⌝ }
+pub fn give_up_in(call: protocol::Call, party: Party) -> Stopped
+    ensures { λ r. ⌜ stopped r ≡ giveUp (party .t) (party .client) call ⌝ }
 {
     let tally = call.tally;
     let round = tally.round;
-    let n = refusals::abort_refusal(t, client, call);
+    let n = refusals::abort_refusal(party, call);
     if n != 0 {
         return Stopped {
             answer: protocol::Aborted::Refused(n),
@@ -102,18 +103,17 @@ fn keep_write(kept: &mut [u8], content: &[u8], nonce: &[u8])
 pub fn begin_write_in(
     call: protocol::Call,
     kept: &mut [u8],
-    t: usize,
-    client: usize,
+    party: Party,
     content: &[u8],
     nonce: &[u8; cluster::KEY],
 ) -> Started
-    ensures { λ r. ⌜ (r ≡ started (coreWrite t client call (now (kept .entry)) (now (content .entry)) (now (nonce .entry))))
-        × (now (kept .exit) ≡ coreWrite t client call (now (kept .entry)) (now (content .entry)) (now (nonce .entry)) .kept) ⌝ }
+    ensures { λ r. ⌜ (r ≡ started (coreWrite (party .t) (party .client) call (now (kept .entry)) (now (content .entry)) (now (nonce .entry))))
+        × (now (kept .exit) ≡ coreWrite (party .t) (party .client) call (now (kept .entry)) (now (content .entry)) (now (nonce .entry)) .kept) ⌝ }
 {
     if kept.len() != wire::kept::KEPT {
         return not_begun(cluster::WRONG_SIZE, call);
     }
-    let n = refusals::write_refusal(t, client, content.len(), call);
+    let n = refusals::write_refusal(party, content.len(), call);
     if n != 0 {
         return not_begun(n, call);
     }
@@ -130,15 +130,14 @@ pub fn begin_write_in(
 pub(crate) fn write_by_value(
     call: protocol::Call,
     kept: &mut [u8; wire::kept::KEPT],
-    t: usize,
-    client: usize,
+    party: Party,
     content: &[u8],
     nonce: &[u8; cluster::KEY],
 ) -> Started
-    ensures { λ r. ⌜ (r ≡ started (beginWrite t client call (now (kept .entry)) (now (content .entry)) (now (nonce .entry))))
-        × (now (kept .exit) ≡ beginWrite t client call (now (kept .entry)) (now (content .entry)) (now (nonce .entry)) .kept) ⌝ }
+    ensures { λ r. ⌜ (r ≡ started (beginWrite (party .t) (party .client) call (now (kept .entry)) (now (content .entry)) (now (nonce .entry))))
+        × (now (kept .exit) ≡ beginWrite (party .t) (party .client) call (now (kept .entry)) (now (content .entry)) (now (nonce .entry)) .kept) ⌝ }
 {
-    begin_write_in(call, kept, t, client, content, nonce)
+    begin_write_in(call, kept, party, content, nonce)
 }
 
 // Every candidate's slot becomes blank.
@@ -151,13 +150,14 @@ fn clear_slots(kept: &mut [u8])
 }
 
 // Lines 137 to 140.
-pub fn begin_read_in(call: protocol::Call, kept: &mut [u8], t: usize, client: usize) -> Started
-    ensures { λ r. ⌜ (r ≡ started (coreRead t client call (now (kept .entry)))) × (now (kept .exit) ≡ coreRead t client call (now (kept .entry)) .kept) ⌝ }
+pub fn begin_read_in(call: protocol::Call, kept: &mut [u8], party: Party) -> Started
+    ensures { λ r. ⌜ (r ≡ started (coreRead (party .t) (party .client) call (now (kept .entry))))
+        × (now (kept .exit) ≡ coreRead (party .t) (party .client) call (now (kept .entry)) .kept) ⌝ }
 {
     if kept.len() != wire::kept::KEPT {
         return not_begun(cluster::WRONG_SIZE, call);
     }
-    let n = refusals::read_refusal(t, client, call);
+    let n = refusals::read_refusal(party, call);
     if n != 0 {
         return not_begun(n, call);
     }
@@ -168,10 +168,10 @@ pub fn begin_read_in(call: protocol::Call, kept: &mut [u8], t: usize, client: us
 pub(crate) fn read_by_value(
     call: protocol::Call,
     kept: &mut [u8; wire::kept::KEPT],
-    t: usize,
-    client: usize,
+    party: Party,
 ) -> Started
-    ensures { λ r. ⌜ (r ≡ started (beginRead t client call (now (kept .entry)))) × (now (kept .exit) ≡ beginRead t client call (now (kept .entry)) .kept) ⌝ }
+    ensures { λ r. ⌜ (r ≡ started (beginRead (party .t) (party .client) call (now (kept .entry))))
+        × (now (kept .exit) ≡ beginRead (party .t) (party .client) call (now (kept .entry)) .kept) ⌝ }
 {
-    begin_read_in(call, kept, t, client)
+    begin_read_in(call, kept, party)
 }

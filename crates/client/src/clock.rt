@@ -11,6 +11,7 @@ ghost use Rattle.protocol.specs.declared.Taken.the-variants as taken;
 ghost use Rattle.protocol.specs.View.{keptSize};
 ghost use Rattle.protocol.specs.ClientBytes.{fresh};
 ghost use Rattle.client.specs.Steps.{writeMade, Ready, TakesAs};
+use crate::Party;
 use crate::answers;
 use crate::answers::Answered;
 use crate::prepare;
@@ -68,13 +69,12 @@ fn clock_refusal(ends: bool, high: u32, room: usize) -> u8
 fn end_clock(
     call: protocol::Call,
     kept: &mut [u8],
-    t: usize,
-    client: usize,
+    party: Party,
     writers: &[u8; cluster::KEY],
     keys: &[[u8; cluster::KEY]; cluster::MOST_SERVERS],
     high: u32,
 ) -> Answered
-    requires { ⌜ (1 ≤ t) × ((t ≤ topFaults) × ((client ≤ topClient) × ((length (now kept) ≡ keptSize) × (high < topNumber)))) ⌝ }
+    requires { ⌜ (1 ≤ party .t) × ((party .t ≤ topFaults) × ((party .client ≤ topClient) × ((length (now kept) ≡ keptSize) × (high < topNumber)))) ⌝ }
     ensures { λ r. ⌜ (r ≡ record {
       answer = taken.More;
       call = record {
@@ -86,9 +86,9 @@ fn end_clock(
         tally = fresh 2;
       };
     })
-        × (now (kept .exit) ≡ writeMade t client (now (writers .entry)) (now (keys .entry)) call (now (kept .entry)) (suc high)) ⌝ }
+        × (now (kept .exit) ≡ writeMade (party .t) (party .client) (now (writers .entry)) (now (keys .entry)) call (now (kept .entry)) (suc high)) ⌝ }
 {
-    prepare::prepare(kept, call, t, client, writers, keys, high + 1);
+    prepare::prepare(kept, call, party, writers, keys, high + 1);
     answers::more(enter_store(call, high))
 }
 
@@ -96,29 +96,29 @@ fn end_clock(
 pub(crate) fn take_clock(
     call: protocol::Call,
     kept: &mut [u8],
-    t: usize,
-    client: usize,
+    party: Party,
     writers: &[u8; cluster::KEY],
     keys: &[[u8; cluster::KEY]; cluster::MOST_SERVERS],
     head: protocol::Head,
     reply: &[u8],
     room: usize,
 ) -> Answered
-    requires { ⌜ Ready t client call (now reply) head × ((call .tally .round ≡ 1) × (length (now kept) ≡ keptSize)) ⌝ }
-    ensures { λ r. ⌜ ((output : List ℕ) → length output ≡ room → TakesAs t client (now (writers .entry)) (now (keys .entry)) call (now (kept .entry))
-        (now (reply .entry)) output r (now (kept .exit)) output) ⌝ }
+    requires { ⌜ Ready (party .t) (party .client) call (now reply) head × ((call .tally .round ≡ 1) × (length (now kept) ≡ keptSize)) ⌝ }
+    ensures { λ r. ⌜ ((output : List ℕ) → length output ≡ room
+        → TakesAs (party .t) (party .client) (now (writers .entry)) (now (keys .entry)) call (now (kept .entry)) (now (reply .entry))
+        output r (now (kept .exit)) output) ⌝ }
 {
     let body = wire::bytes::rest(reply, wire::sizes::HEAD);
     let high = stamps::higher(writers, call.high, body);
     let server = head.server as usize;
-    let noted = answers::note_reply(with_high(call, high), t, server);
-    let ends = rounds::is_full(t, noted.tally);
+    let noted = answers::note_reply(with_high(call, high), party.t, server);
+    let ends = rounds::is_full(party.t, noted.tally);
     let n = clock_refusal(ends, high, room);
     if n != 0 {
         return answers::refused(n, call);
     }
     if ends {
-        return end_clock(call, kept, t, client, writers, keys, high);
+        return end_clock(call, kept, party, writers, keys, high);
     }
     answers::more(noted)
 }

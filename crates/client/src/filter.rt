@@ -12,6 +12,7 @@ ghost use Rattle.format.specs.Reading.{put};
 ghost use Rattle.client.specs.Answers.{answered};
 ghost use Rattle.client.specs.Steps.{Ready, TakesAs};
 ghost use Rattle.client.specs.Filter.{tagsPlace, repairBytes, repairCall, foundAt, judgedIn};
+use crate::Party;
 use crate::answers;
 use crate::answers::Answered;
 use crate::kept;
@@ -149,20 +150,22 @@ fn judge(call: protocol::Call, kept: &mut [u8], t: usize, out: &mut [u8]) -> Ans
 pub(crate) fn take_filter(
     call: protocol::Call,
     kept: &mut [u8],
-    t: usize,
-    client: usize,
+    party: Party,
     head: protocol::Head,
     reply: &[u8],
     out: &mut [u8],
 ) -> Answered
-    requires { ⌜ Ready t client call (now reply) head × ((call .tally .round ≡ 5) × ((length (now kept) ≡ keptSize) × (contentRoom ≤ length (now out)))) ⌝ }
-    ensures { λ r. ⌜ ((writers : List ℕ) (keys : List (List ℕ)) → TakesAs t client writers keys call (now (kept .entry)) (now (reply .entry)) (now (out .entry)) r (now (kept .exit)) (now (out .exit))) ⌝ }
+    requires { ⌜ Ready (party .t) (party .client) call (now reply) head × ((call .tally .round ≡ 5) × ((length (now kept) ≡ keptSize)
+        × (contentRoom ≤ length (now out)))) ⌝ }
+    ensures { λ r. ⌜ ((writers : List ℕ) (keys : List (List ℕ))
+        → TakesAs (party .t) (party .client) writers keys call (now (kept .entry)) (now (reply .entry)) (now (out .entry)) r (now (kept .exit))
+        (now (out .exit))) ⌝ }
 {
     let server = head.server as usize;
     put_reply(kept, server, wire::bytes::rest(reply, wire::sizes::HEAD));
-    let noted = answers::note_reply(call, t, server);
-    if rounds::is_full(t, noted.tally) {
-        return judge(noted, kept, t, out);
+    let noted = answers::note_reply(call, party.t, server);
+    if rounds::is_full(party.t, noted.tally) {
+        return judge(noted, kept, party.t, out);
     }
     answers::more(noted)
 }

@@ -22,6 +22,12 @@ mod filter; // the filter round
 pub mod begin; // beginning a call and giving it up
 pub mod taking; // a reply is taken
 
+// Which client takes a step: document 01's "Each step gets the shelf's t, its party's number".
+pub struct Party {
+    pub t: usize,
+    pub client: usize,
+}
+
 // The state of a client that has begun no call.
 const NEW: protocol::Call = protocol::Call {
     number: 0,
@@ -46,15 +52,14 @@ pub fn new_call() -> protocol::Call
 pub fn begin_write(
     call: &mut protocol::Call,
     kept: &mut [u8; wire::kept::KEPT],
-    t: usize,
-    client: usize,
+    party: Party,
     content: &[u8],
     nonce: &[u8; cluster::KEY],
 ) -> cluster::Outcome
     ensures { λ r. ⌜ record { result = r; call = now (call .exit); kept = now (kept .exit) }
-        ≡ beginWrite t client (now (call .entry)) (now (kept .entry)) (now (content .entry)) (now (nonce .entry)) ⌝ }
+        ≡ beginWrite (party .t) (party .client) (now (call .entry)) (now (kept .entry)) (now (content .entry)) (now (nonce .entry)) ⌝ }
 {
-    let s = begin::write_by_value(*call, kept, t, client, content, nonce);
+    let s = begin::write_by_value(*call, kept, party, content, nonce);
     *call = s.call;
     s.answer
 }
@@ -63,13 +68,12 @@ pub fn begin_write(
 pub fn begin_read(
     call: &mut protocol::Call,
     kept: &mut [u8; wire::kept::KEPT],
-    t: usize,
-    client: usize,
+    party: Party,
 ) -> cluster::Outcome
     ensures { λ r. ⌜ record { result = r; call = now (call .exit); kept = now (kept .exit) }
-        ≡ beginRead t client (now (call .entry)) (now (kept .entry)) ⌝ }
+        ≡ beginRead (party .t) (party .client) (now (call .entry)) (now (kept .entry)) ⌝ }
 {
-    let s = begin::read_by_value(*call, kept, t, client);
+    let s = begin::read_by_value(*call, kept, party);
     *call = s.call;
     s.answer
 }
@@ -78,27 +82,26 @@ pub fn begin_read(
 pub fn take(
     call: &mut protocol::Call,
     kept: &mut [u8; wire::kept::KEPT],
-    t: usize,
-    client: usize,
+    party: Party,
     writers: &[u8; cluster::KEY],
     keys: &[[u8; cluster::KEY]; cluster::MOST_SERVERS],
     reply: &[u8],
     out: &mut [u8],
 ) -> protocol::Taken
     ensures { λ r. ⌜ record { answer = takenAnswer r; call = now (call .exit); kept = now (kept .exit); output = now (out .exit) }
-        ≡ clientTake real t client (now (writers .entry)) (now (keys .entry)) (now (call .entry)) (now (kept .entry)) (now (reply .entry))
-        (now (out .entry)) ⌝ }
+        ≡ clientTake real (party .t) (party .client) (now (writers .entry)) (now (keys .entry)) (now (call .entry)) (now (kept .entry))
+        (now (reply .entry)) (now (out .entry)) ⌝ }
 {
-    let s = taking::take_by_value(*call, kept, t, client, writers, keys, reply, out);
+    let s = taking::take_by_value(*call, kept, party, writers, keys, reply, out);
     *call = s.call;
     s.answer
 }
 
 // The pending call is given up.
-pub fn give_up(call: &mut protocol::Call, t: usize, client: usize) -> protocol::Aborted
-    ensures { λ r. ⌜ record { answer = abortedAnswer r; call = now (call .exit) } ≡ giveUp t client (now (call .entry)) ⌝ }
+pub fn give_up(call: &mut protocol::Call, party: Party) -> protocol::Aborted
+    ensures { λ r. ⌜ record { answer = abortedAnswer r; call = now (call .exit) } ≡ giveUp (party .t) (party .client) (now (call .entry)) ⌝ }
 {
-    let s = begin::give_up_in(*call, t, client);
+    let s = begin::give_up_in(*call, party);
     *call = s.call;
     s.answer
 }
@@ -107,12 +110,12 @@ pub fn give_up(call: &mut protocol::Call, t: usize, client: usize) -> protocol::
 pub fn make(
     call: protocol::Call,
     kept: &[u8; wire::kept::KEPT],
-    t: usize,
-    client: usize,
+    party: Party,
     server: usize,
     out: &mut [u8],
 ) -> cluster::Outcome
-    ensures { λ r. ⌜ record { result = r; output = now (out .exit) } ≡ clientMake t client server call (now (kept .entry)) (now (out .entry)) ⌝ }
+    ensures { λ r. ⌜ record { result = r; output = now (out .exit) }
+        ≡ clientMake (party .t) (party .client) server call (now (kept .entry)) (now (out .entry)) ⌝ }
 {
-    packets::make_in(call, kept, t, client, server, out)
+    packets::make_in(call, kept, party, server, out)
 }

@@ -14,20 +14,21 @@ ghost use Rattle.protocol.specs.View.{keptSize, view, chosenOf, shareAt, replyS
 ghost use Rattle.wire.specs.Places.{shareSize};
 ghost use Rattle.client.specs.Core.{coreMake};
 ghost use Rattle.client.specs.Steps.{wholePacket};
+use crate::Party;
 use crate::kept;
 use crate::list;
 use crate::refusals;
 
 // The head of a packet of a kind.
-fn head_of(call: protocol::Call, kind: u8, t: usize, client: usize, server: usize) -> protocol::Head
-    requires { ⌜ (t ≤ topFaults) × ((client ≤ topClient) × (server ≤ mostServers)) ⌝ }
-    ensures { λ r. ⌜ r ≡ record { kind = kind; client = client; server = server; t = t; call = call .number } ⌝ }
+fn head_of(call: protocol::Call, kind: u8, party: Party, server: usize) -> protocol::Head
+    requires { ⌜ (party .t ≤ topFaults) × ((party .client ≤ topClient) × (server ≤ mostServers)) ⌝ }
+    ensures { λ r. ⌜ r ≡ record { kind = kind; client = party .client; server = server; t = party .t; call = call .number } ⌝ }
 {
     protocol::Head {
         kind: kind,
-        client: client as u8,
+        client: party.client as u8,
         server: server as u8,
-        t: t as u8,
+        t: party.t as u8,
         call: call.number,
     }
 }
@@ -94,22 +95,26 @@ fn make_store(
 fn make_plain(
     call: protocol::Call,
     kept: &[u8],
-    t: usize,
-    client: usize,
+    party: Party,
     server: usize,
     out: &mut [u8],
 ) -> cluster::Outcome
-    requires { ⌜ (t ≤ topFaults) × ((client ≤ topClient) × ((1 ≤ server) × ((server ≤ shelf t .servers) × ((length (now kept) ≡ keptSize)
-        × ((packetRoom ≤ length (now out)) × ((inHand call ≡ true) × (call .tally .round ≡ 5 → ⊥))))))) ⌝ }
+    requires { ⌜ (party .t ≤ topFaults) × ((party .client ≤ topClient) × ((1 ≤ server) × ((server ≤ shelf (party .t) .servers)
+        × ((length (now kept) ≡ keptSize) × ((packetRoom ≤ length (now out)) × ((inHand call ≡ true) × (call .tally .round ≡ 5 → ⊥))))))) ⌝ }
     ensures { λ r. ⌜ record { result = r; output = now (out .exit) } ≡ wholePacket
-        (encode (made t client (view (shelf t) call (now (kept .entry))) server)) (now (out .entry)) ⌝ }
+        (encode (made (party .t) (party .client) (view (shelf (party .t)) call (now (kept .entry))) server)) (now (out .entry)) ⌝ }
 {
     let tally = call.tally;
     let round = tally.round;
-    let head = head_of(call, 2 * round - 1, t, client, server);
+    let head = head_of(call, 2 * round - 1, party, server);
     match round {
-        protocol::rounds::STORE => make_store(head, kept, t, server, out),
-        protocol::rounds::COMPLETE | protocol::rounds::REPAIR => make_chosen(head, kept, t, out),
+        protocol::rounds::STORE => make_store(head, kept, party.t, server, out),
+        protocol::rounds::COMPLETE | protocol::rounds::REPAIR => make_chosen(
+            head,
+            kept,
+            party.t,
+            out,
+        ),
         _ => make_empty(head, out),
     }
 }
@@ -134,46 +139,45 @@ fn make_filter(head: protocol::Head, kept: &[u8], t: usize, out: &mut [u8]) -> c
 fn make_round(
     call: protocol::Call,
     kept: &[u8],
-    t: usize,
-    client: usize,
+    party: Party,
     server: usize,
     out: &mut [u8],
 ) -> cluster::Outcome
-    requires { ⌜ (1 ≤ t) × ((t ≤ topFaults) × ((client ≤ topClient) × ((1 ≤ server) × ((server ≤ shelf t .servers) × ((length (now kept) ≡ keptSize)
-        × ((packetRoom ≤ length (now out)) × (inHand call ≡ true))))))) ⌝ }
+    requires { ⌜ (1 ≤ party .t) × ((party .t ≤ topFaults) × ((party .client ≤ topClient) × ((1 ≤ server) × ((server ≤ shelf (party .t) .servers)
+        × ((length (now kept) ≡ keptSize) × ((packetRoom ≤ length (now out)) × (inHand call ≡ true))))))) ⌝ }
     ensures { λ r. ⌜ record { result = r; output = now (out .exit) } ≡ wholePacket
-        (encode (made t client (view (shelf t) call (now (kept .entry))) server)) (now (out .entry)) ⌝ }
+        (encode (made (party .t) (party .client) (view (shelf (party .t)) call (now (kept .entry))) server)) (now (out .entry)) ⌝ }
 {
     let tally = call.tally;
     let round = tally.round;
     if round == protocol::rounds::FILTER {
         return make_filter(
-            head_of(call, protocol::kinds::FILTER, t, client, server),
+            head_of(call, protocol::kinds::FILTER, party, server),
             kept,
-            t,
+            party.t,
             out,
         );
     }
-    make_plain(call, kept, t, client, server, out)
+    make_plain(call, kept, party, server, out)
 }
 
 // A refusal, which writes nothing; or the packet.
 pub fn make_in(
     call: protocol::Call,
     kept: &[u8],
-    t: usize,
-    client: usize,
+    party: Party,
     server: usize,
     out: &mut [u8],
 ) -> cluster::Outcome
-    ensures { λ r. ⌜ record { result = r; output = now (out .exit) } ≡ coreMake t client server call (now (kept .entry)) (now (out .entry)) ⌝ }
+    ensures { λ r. ⌜ record { result = r; output = now (out .exit) }
+        ≡ coreMake (party .t) (party .client) server call (now (kept .entry)) (now (out .entry)) ⌝ }
 {
     if kept.len() != wire::kept::KEPT {
         return cluster::refused(cluster::WRONG_SIZE);
     }
-    let n = refusals::make_refusal(t, client, server, call, out.len());
+    let n = refusals::make_refusal(party, server, call, out.len());
     if n != 0 {
         return cluster::refused(n);
     }
-    make_round(call, kept, t, client, server, out)
+    make_round(call, kept, party, server, out)
 }

@@ -13,6 +13,7 @@ ghost use Rattle.protocol.specs.Values.{digestSize, stampSize, nonceSize};
 ghost use Rattle.protocol.specs.View.{repliesPlace, replySlot, keptSize, chosenPlace, contentOf};
 ghost use Rattle.format.specs.Reading.{put};
 ghost use Rattle.client.specs.Steps.{tagRun, fragmentRun, digestRun, shareRun, offered, writeMade};
+use crate::Party;
 use crate::kept;
 use crate::refusals;
 use crate::stamps;
@@ -228,16 +229,16 @@ fn put_tagged(
 pub(crate) fn prepare(
     kept: &mut [u8],
     call: protocol::Call,
-    t: usize,
-    client: usize,
+    party: Party,
     writers: &[u8; cluster::KEY],
     keys: &[[u8; cluster::KEY]; cluster::MOST_SERVERS],
     number: u32,
 )
-    requires { ⌜ (1 ≤ t) × ((t ≤ topFaults) × ((client ≤ topClient) × (length (now kept) ≡ keptSize))) ⌝ }
-    ensures { λ _. ⌜ now (kept .exit) ≡ writeMade t client (now (writers .entry)) (now (keys .entry)) call (now (kept .entry)) number ⌝ }
+    requires { ⌜ (1 ≤ party .t) × ((party .t ≤ topFaults) × ((party .client ≤ topClient) × (length (now kept) ≡ keptSize))) ⌝ }
+    ensures { λ _. ⌜ now (kept .exit)
+        ≡ writeMade (party .t) (party .client) (now (writers .entry)) (now (keys .entry)) call (now (kept .entry)) number ⌝ }
 {
     let nonce = kept::nonce(kept);
-    let stamp = stamps::stamp_bytes(writers, number, client as u8);
-    put_tagged(kept, call, t, keys, &stamp, nonce);
+    let stamp = stamps::stamp_bytes(writers, number, party.client as u8);
+    put_tagged(kept, call, party.t, keys, &stamp, nonce);
 }

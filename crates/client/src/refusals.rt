@@ -5,6 +5,7 @@ ghost use Rattle.cluster.specs.Config.{shelf};
 ghost use Rattle.cluster.specs.Ranges.{topFaults};
 ghost use Rattle.protocol.specs.Client.{badClient, ofWrite, writeRefusal, readRefusal, makeRefusal, abortRefusal};
 ghost use Rattle.protocol.specs.ClientBytes.{inHand, awaited};
+use crate::Party;
 
 // A call is in hand.
 pub(crate) fn is_pending(call: protocol::Call) -> bool
@@ -40,13 +41,13 @@ pub(crate) fn bad_client(kind: u8, client: usize) -> bool
     cluster::outside(1, cluster::TOP_WRITER, client)
 }
 
-pub(crate) fn write_refusal(t: usize, client: usize, n: usize, call: protocol::Call) -> u8
-    ensures { λ r. ⌜ r ≡ writeRefusal (shelf t) client n (inHand call) (call .number) ⌝ }
+pub(crate) fn write_refusal(party: Party, n: usize, call: protocol::Call) -> u8
+    ensures { λ r. ⌜ r ≡ writeRefusal (shelf (party .t)) (party .client) n (inHand call) (call .number) ⌝ }
 {
-    if cluster::outside(1, cluster::TOP_FAULTS, t) {
+    if cluster::outside(1, cluster::TOP_FAULTS, party.t) {
         return cluster::refusals::FAULTS;
     }
-    if cluster::outside(1, cluster::TOP_WRITER, client) {
+    if cluster::outside(1, cluster::TOP_WRITER, party.client) {
         return cluster::refusals::CLIENT;
     }
     if cluster::outside(cluster::LEAST_LENGTH, cluster::TOP_LENGTH, n) {
@@ -61,13 +62,13 @@ pub(crate) fn write_refusal(t: usize, client: usize, n: usize, call: protocol::C
     0
 }
 
-pub(crate) fn read_refusal(t: usize, client: usize, call: protocol::Call) -> u8
-    ensures { λ r. ⌜ r ≡ readRefusal (shelf t) client (inHand call) (call .number) ⌝ }
+pub(crate) fn read_refusal(party: Party, call: protocol::Call) -> u8
+    ensures { λ r. ⌜ r ≡ readRefusal (shelf (party .t)) (party .client) (inHand call) (call .number) ⌝ }
 {
-    if cluster::outside(1, cluster::TOP_FAULTS, t) {
+    if cluster::outside(1, cluster::TOP_FAULTS, party.t) {
         return cluster::refusals::FAULTS;
     }
-    if cluster::outside(1, cluster::TOP_CLIENT, client) {
+    if cluster::outside(1, cluster::TOP_CLIENT, party.client) {
         return cluster::refusals::CLIENT;
     }
     if is_pending(call) {
@@ -88,17 +89,17 @@ pub(crate) fn servers(t: usize) -> usize
 }
 
 // What refuses the packet of the pending round for a server.
-pub fn make_refusal(t: usize, client: usize, server: usize, call: protocol::Call, room: usize) -> u8
-    ensures { λ r. ⌜ r ≡ makeRefusal (shelf t) client server (awaited call) room ⌝ }
+pub fn make_refusal(party: Party, server: usize, call: protocol::Call, room: usize) -> u8
+    ensures { λ r. ⌜ r ≡ makeRefusal (shelf (party .t)) (party .client) server (awaited call) room ⌝ }
 {
     let kind = awaited_kind(call);
-    if cluster::outside(1, cluster::TOP_FAULTS, t) {
+    if cluster::outside(1, cluster::TOP_FAULTS, party.t) {
         return cluster::refusals::FAULTS;
     }
-    if cluster::outside(1, servers(t), server) {
+    if cluster::outside(1, servers(party.t), server) {
         return cluster::refusals::SERVER;
     }
-    if bad_client(kind, client) {
+    if bad_client(kind, party.client) {
         return cluster::refusals::CLIENT;
     }
     if kind == 0 {
@@ -110,14 +111,14 @@ pub fn make_refusal(t: usize, client: usize, server: usize, call: protocol::Call
     0
 }
 
-pub(crate) fn abort_refusal(t: usize, client: usize, call: protocol::Call) -> u8
-    ensures { λ r. ⌜ r ≡ abortRefusal (shelf t) client (awaited call) ⌝ }
+pub(crate) fn abort_refusal(party: Party, call: protocol::Call) -> u8
+    ensures { λ r. ⌜ r ≡ abortRefusal (shelf (party .t)) (party .client) (awaited call) ⌝ }
 {
     let kind = awaited_kind(call);
-    if cluster::outside(1, cluster::TOP_FAULTS, t) {
+    if cluster::outside(1, cluster::TOP_FAULTS, party.t) {
         return cluster::refusals::FAULTS;
     }
-    if bad_client(kind, client) {
+    if bad_client(kind, party.client) {
         return cluster::refusals::CLIENT;
     }
     if kind == 0 {

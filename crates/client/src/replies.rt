@@ -4,16 +4,17 @@ ghost use Prim.Native.Nat.{_≤_};
 ghost use Rattle.cluster.specs.Ranges.{mostServers};
 ghost use Rattle.protocol.specs.View.{marked};
 ghost use Rattle.client.specs.Steps.{foreign, other, replyRefusal};
+use crate::Party;
 use crate::refusals;
 
 // Another shelf's packet, or another client's.
-fn is_foreign(head: protocol::Head, t: usize, client: usize) -> bool
-    ensures { λ r. ⌜ r ≡ foreign t client head ⌝ }
+fn is_foreign(head: protocol::Head, party: Party) -> bool
+    ensures { λ r. ⌜ r ≡ foreign (party .t) (party .client) head ⌝ }
 {
-    if head.t as usize != t {
+    if head.t as usize != party.t {
         return true;
     }
-    if head.client as usize != client {
+    if head.client as usize != party.client {
         return true;
     }
     false
@@ -45,16 +46,11 @@ fn is_other(head: protocol::Head, call: protocol::Call, kind: u8) -> bool
 }
 
 // 8, 12, 13.
-pub(crate) fn reply_refusal(
-    head: protocol::Head,
-    call: protocol::Call,
-    t: usize,
-    client: usize,
-) -> u8
+pub(crate) fn reply_refusal(head: protocol::Head, call: protocol::Call, party: Party) -> u8
     requires { ⌜ (1 ≤ head .server) × (head .server ≤ mostServers) ⌝ }
-    ensures { λ r. ⌜ r ≡ replyRefusal t client call head ⌝ }
+    ensures { λ r. ⌜ r ≡ replyRefusal (party .t) (party .client) call head ⌝ }
 {
-    if is_foreign(head, t, client) {
+    if is_foreign(head, party) {
         return cluster::refusals::ADDRESSEE;
     }
     let kind = refusals::awaited_kind(call);

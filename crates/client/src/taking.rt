@@ -13,6 +13,7 @@ ghost use Rattle.protocol.specs.ClientBytes.{awaited, clientTake};
 ghost use Rattle.client.specs.Answers.{answered};
 ghost use Rattle.client.specs.Core.{coreTake};
 ghost use Rattle.client.specs.Steps.{Ready, TakesAs};
+use crate::Party;
 use crate::answers;
 use crate::answers::Answered;
 use crate::clock;
@@ -27,14 +28,13 @@ use crate::writes;
 fn take_write_round(
     call: protocol::Call,
     kept: &[u8],
-    t: usize,
-    client: usize,
+    party: Party,
     head: protocol::Head,
     reply: &[u8],
 ) -> Answered
-    requires { ⌜ Ready t client call (now reply) head × ((1 < call .tally .round) × (call .tally .round < 4)) ⌝ }
+    requires { ⌜ Ready (party .t) (party .client) call (now reply) head × ((1 < call .tally .round) × (call .tally .round < 4)) ⌝ }
     ensures { λ r. ⌜ ((writers : List ℕ) (keys : List (List ℕ)) (output : List ℕ) → contentRoom ≤ length output
-        → TakesAs t client writers keys call (now (kept .entry)) (now (reply .entry)) output r (now (kept .entry)) output) ⌝ }
+        → TakesAs (party .t) (party .client) writers keys call (now (kept .entry)) (now (reply .entry)) output r (now (kept .entry)) output) ⌝ }
 {
     let tally = call.tally;
     let round = tally.round;
@@ -42,28 +42,28 @@ fn take_write_round(
     if round == protocol::rounds::STORE {
         return writes::take_store(
             call,
-            t,
+            party.t,
             server,
             wire::bytes::byte_at(reply, wire::sizes::HEAD),
         );
     }
-    writes::take_complete(call, kept, t, server)
+    writes::take_complete(call, kept, party.t, server)
 }
 
 // The rounds of a read: collect, filter and repair.
 fn take_read_round(
     call: protocol::Call,
     kept: &mut [u8],
-    t: usize,
-    client: usize,
+    party: Party,
     head: protocol::Head,
     reply: &[u8],
     out: &mut [u8],
 ) -> Answered
-    requires { ⌜ Ready t client call (now reply) head × ((4 ≤ call .tally .round)
+    requires { ⌜ Ready (party .t) (party .client) call (now reply) head × ((4 ≤ call .tally .round)
         × ((length (now kept) ≡ keptSize) × (contentRoom ≤ length (now out)))) ⌝ }
     ensures { λ r. ⌜ ((writers : List ℕ) (keys : List (List ℕ))
-        → TakesAs t client writers keys call (now (kept .entry)) (now (reply .entry)) (now (out .entry)) r (now (kept .exit)) (now (out .exit))) ⌝ }
+        → TakesAs (party .t) (party .client) writers keys call (now (kept .entry)) (now (reply .entry)) (now (out .entry)) r (now (kept .exit))
+        (now (out .exit))) ⌝ }
 {
     let tally = call.tally;
     let round = tally.round;
@@ -72,12 +72,12 @@ fn take_read_round(
         protocol::rounds::COLLECT => reads::take_collect(
             call,
             kept,
-            t,
+            party.t,
             server,
             wire::bytes::rest(reply, wire::sizes::HEAD),
         ),
-        protocol::rounds::FILTER => filter::take_filter(call, kept, t, client, head, reply, out),
-        _ => reads::take_repair(call, kept, t, server, out),
+        protocol::rounds::FILTER => filter::take_filter(call, kept, party, head, reply, out),
+        _ => reads::take_repair(call, kept, party.t, server, out),
     }
 }
 
@@ -85,96 +85,95 @@ fn take_read_round(
 fn take_round(
     call: protocol::Call,
     kept: &mut [u8],
-    t: usize,
-    client: usize,
+    party: Party,
     writers: &[u8; cluster::KEY],
     keys: &[[u8; cluster::KEY]; cluster::MOST_SERVERS],
     head: protocol::Head,
     reply: &[u8],
     out: &mut [u8],
 ) -> Answered
-    requires { ⌜ Ready t client call (now reply) head × (length (now kept) ≡ keptSize) ⌝ }
-    ensures { λ r. ⌜ TakesAs t client (now (writers .entry)) (now (keys .entry)) call (now (kept .entry)) (now (reply .entry)) (now (out .entry)) r
-        (now (kept .exit)) (now (out .exit)) ⌝ }
+    requires { ⌜ Ready (party .t) (party .client) call (now reply) head × (length (now kept) ≡ keptSize) ⌝ }
+    ensures { λ r. ⌜ TakesAs (party .t) (party .client) (now (writers .entry)) (now (keys .entry)) call (now (kept .entry)) (now (reply .entry))
+        (now (out .entry)) r (now (kept .exit)) (now (out .exit)) ⌝ }
 {
     let tally = call.tally;
     let round = tally.round;
     if round == protocol::rounds::CLOCK {
-        return clock::take_clock(call, kept, t, client, writers, keys, head, reply, out.len());
+        return clock::take_clock(call, kept, party, writers, keys, head, reply, out.len());
     }
     if out.len() < cluster::CONTENT_ROOM {
         return answers::refused(cluster::refusals::ROOM, call);
     }
     if round < 4 {
-        return take_write_round(call, kept, t, client, head, reply);
+        return take_write_round(call, kept, party, head, reply);
     }
-    take_read_round(call, kept, t, client, head, reply, out)
+    take_read_round(call, kept, party, head, reply, out)
 }
 
 // 7, 8, 12, 13; then the round's step.
 fn take_reply(
     call: protocol::Call,
     kept: &mut [u8],
-    t: usize,
-    client: usize,
+    party: Party,
     writers: &[u8; cluster::KEY],
     keys: &[[u8; cluster::KEY]; cluster::MOST_SERVERS],
     reply: &[u8],
     out: &mut [u8],
 ) -> Answered
-    requires { ⌜ (badFaults (shelf t) ≡ false) × ((badClient (ofWrite (awaited call)) client ≡ false) × (length (now kept) ≡ keptSize)) ⌝ }
-    ensures { λ r. ⌜ TakesAs t client (now (writers .entry)) (now (keys .entry)) call (now (kept .entry)) (now (reply .entry)) (now (out .entry)) r
-        (now (kept .exit)) (now (out .exit)) ⌝ }
+    requires { ⌜ (badFaults (shelf (party .t)) ≡ false) × ((badClient (ofWrite (awaited call)) (party .client) ≡ false)
+        × (length (now kept) ≡ keptSize)) ⌝ }
+    ensures { λ r. ⌜ TakesAs (party .t) (party .client) (now (writers .entry)) (now (keys .entry)) call (now (kept .entry)) (now (reply .entry))
+        (now (out .entry)) r (now (kept .exit)) (now (out .exit)) ⌝ }
 {
     let wire::packet::PacketRead::Value(head, _) = wire::packet::read_packet(reply) else {
         return answers::refused(cluster::refusals::LAYOUT, call);
     };
-    let n = replies::reply_refusal(head, call, t, client);
+    let n = replies::reply_refusal(head, call, party);
     if n != 0 {
         return answers::refused(n, call);
     }
-    take_round(call, kept, t, client, writers, keys, head, reply, out)
+    take_round(call, kept, party, writers, keys, head, reply, out)
 }
 
 // A reply is taken, or refused: then nothing changes.
 pub fn take_in(
     call: protocol::Call,
     kept: &mut [u8],
-    t: usize,
-    client: usize,
+    party: Party,
     writers: &[u8; cluster::KEY],
     keys: &[[u8; cluster::KEY]; cluster::MOST_SERVERS],
     reply: &[u8],
     out: &mut [u8],
 ) -> Answered
     ensures { λ r. ⌜ answered r (now (kept .exit)) (now (out .exit))
-        ≡ coreTake t client (now (writers .entry)) (now (keys .entry)) call (now (kept .entry)) (now (reply .entry)) (now (out .entry)) ⌝ }
+        ≡ coreTake (party .t) (party .client) (now (writers .entry)) (now (keys .entry)) call (now (kept .entry)) (now (reply .entry))
+        (now (out .entry)) ⌝ }
 {
     if kept.len() != wire::kept::KEPT {
         return answers::refused(cluster::WRONG_SIZE, call);
     }
-    if cluster::outside(1, cluster::TOP_FAULTS, t) {
+    if cluster::outside(1, cluster::TOP_FAULTS, party.t) {
         return answers::refused(cluster::refusals::FAULTS, call);
     }
-    if refusals::bad_client(refusals::awaited_kind(call), client) {
+    if refusals::bad_client(refusals::awaited_kind(call), party.client) {
         return answers::refused(cluster::refusals::CLIENT, call);
     }
-    take_reply(call, kept, t, client, writers, keys, reply, out)
+    take_reply(call, kept, party, writers, keys, reply, out)
 }
 
 // The call goes on by value, the kept bytes by their array.
 pub(crate) fn take_by_value(
     call: protocol::Call,
     kept: &mut [u8; wire::kept::KEPT],
-    t: usize,
-    client: usize,
+    party: Party,
     writers: &[u8; cluster::KEY],
     keys: &[[u8; cluster::KEY]; cluster::MOST_SERVERS],
     reply: &[u8],
     out: &mut [u8],
 ) -> Answered
     ensures { λ r. ⌜ answered r (now (kept .exit)) (now (out .exit))
-        ≡ clientTake real t client (now (writers .entry)) (now (keys .entry)) call (now (kept .entry)) (now (reply .entry)) (now (out .entry)) ⌝ }
+        ≡ clientTake real (party .t) (party .client) (now (writers .entry)) (now (keys .entry)) call (now (kept .entry)) (now (reply .entry))
+        (now (out .entry)) ⌝ }
 {
-    take_in(call, kept, t, client, writers, keys, reply, out)
+    take_in(call, kept, party, writers, keys, reply, out)
 }

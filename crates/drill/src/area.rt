@@ -70,7 +70,13 @@ pub(crate) fn begin_write(
     let call = call_of(work, client);
     let a = kept_at(client);
     let e = a + wire::kept::KEPT;
-    let s = client::begin::begin_write_in(call, &mut work[a..e], t, client, content, nonce);
+    let s = client::begin::begin_write_in(
+        call,
+        &mut work[a..e],
+        client::Party { t, client },
+        content,
+        nonce,
+    );
     put_call(work, client, s.call);
     let taken = s.answer;
     taken.number
@@ -84,7 +90,7 @@ pub(crate) fn begin_read(work: &mut [u8], t: usize, client: usize) -> u8
     let call = call_of(work, client);
     let a = kept_at(client);
     let e = a + wire::kept::KEPT;
-    let s = client::begin::begin_read_in(call, &mut work[a..e], t, client);
+    let s = client::begin::begin_read_in(call, &mut work[a..e], client::Party { t, client });
     put_call(work, client, s.call);
     let taken = s.answer;
     taken.number
@@ -95,7 +101,7 @@ pub(crate) fn give_up(work: &mut [u8], t: usize, client: usize) -> protocol::Abo
     requires { ⌜ ((1 ≤ client) × (client ≤ topClient)) × (length (now work) ≡ workSize) ⌝ }
     ensures { λ r. ⌜ StopsAs (giveUpIn t (now (work .entry)) client) (now (work .entry)) client (now (work .exit)) r ⌝ }
 {
-    let s = client::begin::give_up_in(call_of(work, client), t, client);
+    let s = client::begin::give_up_in(call_of(work, client), client::Party { t, client });
     put_call(work, client, s.call);
     s.answer
 }

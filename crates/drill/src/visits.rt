@@ -61,7 +61,13 @@ fn make(work: &[u8], t: usize, client: usize, server: usize, out: &mut [u8]) -> 
         (keptIn (now (work .entry)) client) (now (out .entry)) ⌝ }
 {
     let call = area::call_of(work, client);
-    client::packets::make_in(call, area::kept_of(work, client), t, client, server, out)
+    client::packets::make_in(
+        call,
+        area::kept_of(work, client),
+        client::Party { t, client },
+        server,
+        out,
+    )
 }
 
 // A client takes a reply.
@@ -78,8 +84,7 @@ fn take(work: &mut [u8], t: usize, client: usize, reply: &[u8], out: &mut [u8]) 
     let s = client::taking::take_in(
         call,
         &mut work[a..e],
-        t,
-        client,
+        client::Party { t, client },
         &writers,
         &keys,
         reply,
@@ -116,8 +121,7 @@ fn visit_refusal(work: &[u8], t: usize, client: usize, server: usize) -> u8
         return 5;
     }
     client::refusals::make_refusal(
-        t,
-        client,
+        client::Party { t, client },
         server,
         area::call_of(work, client),
         cluster::PACKET_ROOM,

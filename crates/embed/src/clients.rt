@@ -42,7 +42,13 @@ fn write_in(
 {
     let call = state::read(state);
     let at = state::KEPT_PLACE;
-    let begun = client::begin::begin_write_in(call, &mut state[at..], t, client, content, &nonce);
+    let begun = client::begin::begin_write_in(
+        call,
+        &mut state[at..],
+        client::Party { t, client },
+        content,
+        &nonce,
+    );
     put_call(state, begun.call);
     begun.answer
 }
@@ -56,7 +62,7 @@ fn read_in(state: &mut [u8], t: usize, client: usize) -> cluster::Outcome
 {
     let call = state::read(state);
     let at = state::KEPT_PLACE;
-    let begun = client::begin::begin_read_in(call, &mut state[at..], t, client);
+    let begun = client::begin::begin_read_in(call, &mut state[at..], client::Party { t, client });
     put_call(state, begun.call);
     begun.answer
 }
@@ -125,7 +131,7 @@ pub extern "C" fn cendrulas_client_give_up(state: &mut [u8], t: usize, client: u
         return pack(cluster::WRONG_SIZE, 0, 0, 0);
     }
     let call = state::read(state);
-    let stopped = client::begin::give_up_in(call, t, client);
+    let stopped = client::begin::give_up_in(call, client::Party { t, client });
     put_call(state, stopped.call);
     let a = stopped.answer;
     pack_answer(a.answer())
@@ -142,8 +148,7 @@ fn make_packet(state: &[u8], t: usize, client: usize, server: usize, out: &mut [
     let o = client::packets::make_in(
         call,
         wire::bytes::rest(state, state::KEPT_PLACE),
-        t,
-        client,
+        client::Party { t, client },
         server,
         &mut out[..n],
     );
@@ -187,8 +192,7 @@ fn take_packet(
     let s = client::taking::take_in(
         call,
         &mut state[at..],
-        t,
-        client,
+        client::Party { t, client },
         writers,
         keys,
         packet,

@@ -136,8 +136,7 @@ fn begun(n: usize) -> u64 {
     let started = client::begin::begin_write_in(
         client::new_call(),
         &mut kept,
-        1,
-        1,
+        client::Party { t: 1, client: 1 },
         wire::bytes::part(&content, 0, n),
         &nonce,
     );

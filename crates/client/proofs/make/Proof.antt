@@ -8,7 +8,7 @@ use Rattle.client.proofs.make.Tie as tie
 returns : tie.Need-returns
 returns c =
     let a = c .before .before .before .before .before .before .args in
-    c .before .before .make-in .ensures ∙ core-make (a .t) (a .client) (a .server) (a .call) (a .kept .now) (a .out .now) (search needs)
+    c .before .before .make-in .ensures ∙ core-make (a .party .t) (a .party .client) (a .server) (a .call) (a .kept .now) (a .out .now) (search needs)
 
 pub make-spec : {M : Type 1} → statement M
 make-spec = tie.close (tie.spec (λ c κs. search needs) (λ c. search needs) returns)

@@ -14,14 +14,14 @@ wide c = search needs
 returns : tie.Need-returns
 returns c =
     let a = c .before .before .before .args in
-    let e = read-short (a .t) (a .client) (a .call) (a .kept .now) (c .before .if1 .taken) in
+    let e = read-short (a .party .t) (a .party .client) (a .call) (a .kept .now) (c .before .if1 .taken) in
     (rw (e, c .not-begun .ensures), rw e)
 
 returns-2 : tie.Need-returns-2
 returns-2 c =
     let at-start = c .before .before .before .before .before in
     let a = at-start .args in
-    let e = read-refused (a .t) (a .client) (a .call) (a .kept .now) (wide at-start) (c .before .before .before .if1 .left) _
+    let e = read-refused (a .party .t) (a .party .client) (a .call) (a .kept .now) (wide at-start) (c .before .before .before .if1 .left) _
     (c .before .before .read-refusal .ensures) (c .before .if2 .taken) in
     (rw (e, c .not-begun2 .ensures), rw e)
 
@@ -34,7 +34,7 @@ next-call-requires c κs =
     let at-else2 = c .before .before .before .before in
     let a = start-from-else2 at-else2 .args in
     let z = sym (at-else2 .before .read-refusal .ensures) ∙ at-else2 .if2 .left in
-    let f = read-fits (a .t) (a .client) (a .call) (a .kept .now) z in
+    let f = read-fits (a .party .t) (a .party .client) (a .call) (a .kept .now) z in
     omega arith
 
 returns-3 : tie.Need-returns-3
@@ -43,7 +43,7 @@ returns-3 c =
     let at-start = start-from-else2 at-else2 in
     let a = at-start .args in
     let z = sym (at-else2 .before .read-refusal .ensures) ∙ at-else2 .if2 .left in
-    let e = read-begins (a .t) (a .client) (a .call) (a .kept .now) (wide at-start) (at-else2 .before .before .if1 .left) z in
+    let e = read-begins (a .party .t) (a .party .client) (a .call) (a .kept .now) (wide at-start) (at-else2 .before .before .if1 .left) z in
     (rw (e, c .next-call .ensures), rw e (c .before .before .before .clear-slots .ensures))
 
 pub begin-read-in-spec : {M : Type 1} → statement M

@@ -14,14 +14,14 @@ wide c = search needs
 returns : tie.Need-returns
 returns c =
     let a = c .before .before .before .before .args in
-    let e = write-short (a .t) (a .client) (a .call) (a .kept .now) (a .content .now) (a .nonce .now) (c .before .if1 .taken) in
+    let e = write-short (a .party .t) (a .party .client) (a .call) (a .kept .now) (a .content .now) (a .nonce .now) (c .before .if1 .taken) in
     (rw (e, c .not-begun .ensures), rw e)
 
 returns-2 : tie.Need-returns-2
 returns-2 c =
     let at-start = c .before .before .before .before .before .before in
     let a = at-start .args in
-    let e = write-refused (a .t) (a .client) (a .call) (a .kept .now) (a .content .now) (a .nonce .now)
+    let e = write-refused (a .party .t) (a .party .client) (a .call) (a .kept .now) (a .content .now) (a .nonce .now)
     (wide at-start) (c .before .before .before .if1 .left) _ (c .before .before .write-refusal .ensures) (c .before .if2 .taken) in
     (rw (e, c .not-begun2 .ensures), rw e)
 
@@ -34,7 +34,7 @@ keep-write-requires c κs =
     let at-else2 = c .before .before in
     let a = start-from-else2 at-else2 .args in
     let z = sym (c .before .before .before .write-refusal .ensures) ∙ c .before .before .if2 .left in
-    let f = write-fits (a .t) (a .client) (a .call) (a .kept .now) (a .content .now) (a .nonce .now) z in
+    let f = write-fits (a .party .t) (a .party .client) (a .call) (a .kept .now) (a .content .now) (a .nonce .now) z in
     (at-else2 .before .before .if1 .left, (f .0, search needs))
 
 abbrev else2-from-slice-known2 : tie.After-slice-known2 → tie.Else2
@@ -45,7 +45,7 @@ cast-next-call c =
     let at-else2 = else2-from-slice-known2 c in
     let a = start-from-else2 at-else2 .args in
     let z = sym (at-else2 .before .write-refusal .ensures) ∙ at-else2 .if2 .left in
-    let f = write-fits (a .t) (a .client) (a .call) (a .kept .now) (a .content .now) (a .nonce .now) z in
+    let f = write-fits (a .party .t) (a .party .client) (a .call) (a .kept .now) (a .content .now) (a .nonce .now) z in
     omega arith
 
 next-call-requires : tie.Need-next-call-requires
@@ -53,7 +53,7 @@ next-call-requires c κs =
     let at-else2 = else2-from-slice-known2 c in
     let a = start-from-else2 at-else2 .args in
     let z = sym (at-else2 .before .write-refusal .ensures) ∙ at-else2 .if2 .left in
-    let f = write-fits (a .t) (a .client) (a .call) (a .kept .now) (a .content .now) (a .nonce .now) z in
+    let f = write-fits (a .party .t) (a .party .client) (a .call) (a .kept .now) (a .content .now) (a .nonce .now) z in
     omega arith
 
 returns-3 : tie.Need-returns-3
@@ -62,7 +62,7 @@ returns-3 c =
     let at-start = start-from-else2 at-else2 in
     let a = at-start .args in
     let z = sym (at-else2 .before .write-refusal .ensures) ∙ at-else2 .if2 .left in
-    let e = write-begins (a .t) (a .client) (a .call) (a .kept .now) (a .content .now) (a .nonce .now) (wide at-start)
+    let e = write-begins (a .party .t) (a .party .client) (a .call) (a .kept .now) (a .content .now) (a .nonce .now) (wide at-start)
     (at-else2 .before .before .if1 .left) z in
     (rw (e, c .next-call .ensures), rw e (c .before .before .before .keep-write .ensures))
 

@@ -21,10 +21,10 @@ unfolding abortByRounds
 returns c =
     let a = c .before .before .before .args in
     let e = c .before .abort-refusal .ensures in
-    let n = abortRefusal (shelf (a .t)) (a .client) (awaited (a .call)) in
-    rw (same-abort (a .t) (a .client) (a .call) (wide (c .before .before .before)), e, refused-is n _ _ (λ z. c .if1 .taken (e ∙ z)))
+    let n = abortRefusal (shelf (a .party .t)) (a .party .client) (awaited (a .call)) in
+    rw (same-abort (a .party .t) (a .party .client) (a .call) (wide (c .before .before .before)), e, refused-is n _ _ (λ z. c .if1 .taken (e ∙ z)))
 
-not-refused : (c : tie.Else1) → abortRefusal (shelf (c .before .before .before .args .t)) (c .before .before .before .args .client)
+not-refused : (c : tie.Else1) → abortRefusal (shelf (c .before .before .before .args .party .t)) (c .before .before .before .args .party .client)
     (awaited (c .before .before .before .args .call)) ≡ 0
 not-refused c = sym (c .before .abort-refusal .ensures) ∙ c .if1 .left
 
@@ -34,7 +34,7 @@ returns-2 c =
     let at-start = c .before .before .before .before .before .before in
     let a = at-start .args in
     rw (
-      same-abort (a .t) (a .client) (a .call) (wide at-start),
+      same-abort (a .party .t) (a .party .client) (a .call) (wide at-start),
       not-refused (c .before .before .before),
       eq-eqb (a .call .tally .round) 3 (c .if2 .taken),
       c .before .with-tally .ensures,
@@ -47,7 +47,7 @@ returns-3 c =
     let at-start = c .before .before .before .before .before .before in
     let a = at-start .args in
     rw (
-      same-abort (a .t) (a .client) (a .call) (wide at-start),
+      same-abort (a .party .t) (a .party .client) (a .call) (wide at-start),
       not-refused (c .before .before .before),
       ne-eqb (a .call .tally .round) 3 (c .if2 .left),
       c .before .with-tally .ensures,

@@ -28,7 +28,7 @@ higher-requires c κs =
     let p = c .before .before .before .pre in
     rw (c .rest .ensures) (omega (
       arith,
-      clock-long (a .t) (a .client) (a .call) (a .reply .now) (a .head) (p .0)
+      clock-long (a .party .t) (a .party .client) (a .call) (a .reply .now) (a .head) (p .0)
           (λ k. c .before .shared-slice-known .given k .fits) (p .1 .0),
     ))
 
@@ -40,15 +40,15 @@ note-reply-requires : tie.Need-note-reply-requires
 note-reply-requires c κs =
     let q = start-from-higher (c .before .before) in
     let a = q .args in (
-      ready-faults (a .t) (a .client) (a .call) (a .reply .now) (a .head) (q .pre .0) .1,
-      ready-server (a .t) (a .client) (a .call) (a .reply .now) (a .head) (q .pre .0),
+      ready-faults (a .party .t) (a .party .client) (a .call) (a .reply .now) (a .head) (q .pre .0) .1,
+      ready-server (a .party .t) (a .party .client) (a .call) (a .reply .now) (a .head) (q .pre .0),
     )
 
 is-full-requires : tie.Need-is-full-requires
 is-full-requires c κs =
     let q = start-from-higher (c .before .before .before) in
     let a = q .args in
-    ready-faults (a .t) (a .client) (a .call) (a .reply .now) (a .head) (q .pre .0) .1
+    ready-faults (a .party .t) (a .party .client) (a .call) (a .reply .now) (a .head) (q .pre .0) .1
 
 abbrev higher-from-clock-refusal : tie.After-clock-refusal → tie.After-higher
 higher-from-clock-refusal c = c .before .before .before .before .before
@@ -67,15 +67,16 @@ module _ (c : tie.After-clock-refusal) where
       at-higher .higher .ensures ∙ ap (λ (d : List ℕ). higher real (start .args .writers .now) (start .args .call .high) (stampAt d))
       (at-higher .before .rest .ensures)
 
-  ended : (v : Bool) → c .before .is-full .result ≡ v → ends (shelf (start .args .t)) (start .args .call) (start .args .head .server) ≡ v
+  ended : (v : Bool) → c .before .is-full .result ≡ v → ends (shelf (start .args .party .t)) (start .args .call) (start .args .head .server) ≡ v
   ended v e =
-      ends-by (start .args .t) (start .args .call) (start .args .head .server) _
+      ends-by (start .args .party .t) (start .args .call) (start .args .head .server) _
       (ap (λ (z : Call). z .tally) (c .before .before .note-reply .ensures)
-      ∙ ap (λ (z : Call). noted (shelf (start .args .t)) (z .tally) (start .args .head .server)) (c .before .before .before .with-high .ensures)) _ v
+      ∙ ap (λ (z : Call). noted (shelf (start .args .party .t)) (z .tally) (start .args .head .server))
+      (c .before .before .before .with-high .ensures)) _ v
       (c .before .is-full .ensures) e
 
   refusal-is : c .clock-refusal .result
-      ≡ firstOf (refuse 14 (ends (shelf (start .args .t)) (start .args .call) (start .args .head .server) && leb topNumber high)
+      ≡ firstOf (refuse 14 (ends (shelf (start .args .party .t)) (start .args .call) (start .args .head .server) && leb topNumber high)
       ∷ refuse 15 (ltb (start .args .room) contentRoom) ∷ [])
   refusal-is = rw (ended _ refl) (c .clock-refusal .ensures)
 
@@ -85,7 +86,7 @@ returns c =
     let a = start q .args in
     let p = start q .pre in
     λ output l. rw (c .refused .ensures)
-    (clock-refused (a .t) (a .client) (a .call) (a .reply .now) (a .head) (p .0) (a .writers .now) (a .keys .now)
+    (clock-refused (a .party .t) (a .party .client) (a .call) (a .reply .now) (a .head) (p .0) (a .writers .now) (a .keys .now)
     (a .kept .now) output (p .1 .0) (q .clock-refusal .result) (a .room) (high q) (refusal-is q) (c .before .if1 .taken) (high-is q) l)
 
 end-clock-requires : tie.Need-end-clock-requires
@@ -93,11 +94,12 @@ end-clock-requires c κs =
     let q = c .before .before .before in
     let a = start q .args in
     let p = start q .pre in
-    let f = ready-faults (a .t) (a .client) (a .call) (a .reply .now) (a .head) (p .0) in
+    let f = ready-faults (a .party .t) (a .party .client) (a .call) (a .reply .now) (a .head) (p .0) in
     let b =
-    clock-below (a .t) (a .client) (a .call) (a .reply .now) (a .head) (p .0) (a .writers .now) (a .keys .now) (a .kept .now) [] (p .1 .0)
+    clock-below (a .party .t) (a .party .client) (a .call) (a .reply .now) (a .head) (p .0) (a .writers .now) (a .keys .now) (a .kept .now) []
+    (p .1 .0)
     (q .clock-refusal .result) (a .room) (high q) (refusal-is q) (c .before .before .if1 .left) (high-is q) (ended q _ (c .before .if2 .taken)) in
-    (f .0, (f .1, (ready-client (a .t) (a .client) (a .call) (a .reply .now) (a .head) (p .0) .1, (p .1 .1, b))))
+    (f .0, (f .1, (ready-client (a .party .t) (a .party .client) (a .call) (a .reply .now) (a .head) (p .0) .1, (p .1 .1, b))))
 
 returns-2 : tie.Need-returns-2
 returns-2 c =
@@ -106,7 +108,8 @@ returns-2 c =
     let a = start q .args in
     let p = start q .pre in
     λ output l. rw (d .end-clock .ensures .0, d .end-clock .ensures .1)
-    (clock-ended (a .t) (a .client) (a .call) (a .reply .now) (a .head) (p .0) (a .writers .now) (a .keys .now) (a .kept .now) output (p .1 .0)
+    (clock-ended (a .party .t) (a .party .client) (a .call) (a .reply .now) (a .head) (p .0) (a .writers .now) (a .keys .now) (a .kept .now) output
+    (p .1 .0)
     (q .clock-refusal .result) (a .room) (high q) (refusal-is q) (d .before .before .before .if1 .left) (high-is q) l
     (ended q _ (d .before .before .if2 .taken)))
 
@@ -116,7 +119,8 @@ returns-3 c =
     let a = start q .args in
     let p = start q .pre in
     λ output l. rw (c .more .ensures, q .before .before .note-reply .ensures, q .before .before .before .with-high .ensures)
-    (clock-noted (a .t) (a .client) (a .call) (a .reply .now) (a .head) (p .0) (a .writers .now) (a .keys .now) (a .kept .now) output (p .1 .0)
+    (clock-noted (a .party .t) (a .party .client) (a .call) (a .reply .now) (a .head) (p .0) (a .writers .now) (a .keys .now) (a .kept .now) output
+    (p .1 .0)
     (q .clock-refusal .result) (a .room) (high q) (refusal-is q) (c .before .before .if1 .left) (high-is q) l (ended q _ (c .before .if2 .left)))
 
 pub take-clock-spec : {M : Type 1} → statement M

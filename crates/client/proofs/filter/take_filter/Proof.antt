@@ -24,8 +24,17 @@ put-reply-requires c κs =
     let a = at-shared-slice-known .before .before .args in
     let p = at-shared-slice-known .before .before .pre in
     let Y : Bytes (a .reply .now) = λ k. at-shared-slice-known .shared-slice-known .given k .fits in
-    let v = ready-server (a .t) (a .client) (a .call) (a .reply .now) (a .head) (p .0) in
-    (v .0, (v .1, (p .1 .1 .0, rw (c .rest .ensures) (body-fits (a .t) (a .client) (a .call) (a .reply .now) (a .head) (p .0) (p .1 .0) Y))))
+    let v = ready-server (a .party .t) (a .party .client) (a .call) (a .reply .now) (a .head) (p .0) in (
+      v .0,
+      (
+        v .1,
+        (
+          p .1 .1 .0,
+          rw (c .rest .ensures) (body-fits (a .party .t) (a .party .client) (a .call) (a .reply .now) (a .head) (p .0)
+              (p .1 .0) Y),
+        ),
+      ),
+    )
 
 -- Places far back, each named once: the place, and from where it is seen.
 abbrev shared-slice-known-from-put-reply : tie.After-put-reply → tie.After-shared-slice-known
@@ -35,14 +44,17 @@ note-reply-requires : tie.Need-note-reply-requires
 note-reply-requires c κs =
     let q = shared-slice-known-from-put-reply (c .before .before) .before .before in
     let a = q .args in
-    let y = q .pre .0 in
-    (ready-faults (a .t) (a .client) (a .call) (a .reply .now) (a .head) y .1, ready-server (a .t) (a .client) (a .call) (a .reply .now) (a .head) y)
+    let y = q .pre .0 in (
+      ready-faults (a .party .t) (a .party .client) (a .call) (a .reply .now) (a .head) y .1,
+      ready-server (a .party .t) (a .party .client) (a .call)
+          (a .reply .now) (a .head) y,
+    )
 
 is-full-requires : tie.Need-is-full-requires
 is-full-requires c κs =
     let q = shared-slice-known-from-put-reply (c .before .before .before) .before .before in
     let a = q .args in
-    ready-faults (a .t) (a .client) (a .call) (a .reply .now) (a .head) (q .pre .0) .1
+    ready-faults (a .party .t) (a .party .client) (a .call) (a .reply .now) (a .head) (q .pre .0) .1
 
 abbrev put-reply-from-is-full : tie.After-is-full → tie.After-put-reply
 put-reply-from-is-full c = c .before .before .before .before
@@ -52,9 +64,10 @@ module _ (c : tie.After-is-full) where
   start = shared-slice-known-from-put-reply (put-reply-from-is-full c) .before .before
 
   -- the test of the code tells whether the reply ends the round
-  ended : (v : Bool) → c .is-full .result ≡ v → ends (shelf (start .args .t)) (start .args .call) (start .args .head .server) ≡ v
+  ended : (v : Bool) → c .is-full .result ≡ v → ends (shelf (start .args .party .t)) (start .args .call) (start .args .head .server) ≡ v
   ended v e =
-      ends-by (start .args .t) (start .args .call) (start .args .head .server) _ (ap (λ (z : Call). z .tally) (c .before .note-reply .ensures)) _ v
+      ends-by (start .args .party .t) (start .args .call) (start .args .head .server) _ (ap (λ (z : Call). z .tally)
+      (c .before .note-reply .ensures)) _ v
       (c .is-full .ensures) e
 
 judge-requires : tie.Need-judge-requires
@@ -64,7 +77,7 @@ judge-requires c κs =
     let at-shared-slice-known = shared-slice-known-from-put-reply at-put-reply in
     let a = at-shared-slice-known .before .before .args in
     let p = at-shared-slice-known .before .before .pre in
-    let r = ready-faults (a .t) (a .client) (a .call) (a .reply .now) (a .head) (p .0) in
+    let r = ready-faults (a .party .t) (a .party .client) (a .call) (a .reply .now) (a .head) (p .0) in
     (r .0, (r .1, (omega (arith, p .1 .1 .0), p .1 .1 .1)))
 
 returns : tie.Need-returns
@@ -86,7 +99,8 @@ returns c =
       at-put-reply .put-reply .ensures,
       at-put-reply .before .rest .ensures,
     )
-    (filter-ends (a .t) (a .client) (a .call) (a .reply .now) (a .head) (p .0) (p .1 .0) Y writers keys (a .kept .now) (a .out .now) (p .1 .1 .1)
+    (filter-ends (a .party .t) (a .party .client) (a .call) (a .reply .now) (a .head) (p .0) (p .1 .0) Y writers keys (a .kept .now) (a .out .now)
+    (p .1 .1 .1)
     (p .1 .1 .0) K e)
 
 returns-2 : tie.Need-returns-2
@@ -105,7 +119,8 @@ returns-2 c =
       at-put-reply .put-reply .ensures,
       at-put-reply .before .rest .ensures,
     )
-    (filter-more (a .t) (a .client) (a .call) (a .reply .now) (a .head) (p .0) (p .1 .0) Y writers keys (a .kept .now) (a .out .now) (p .1 .1 .1) e)
+    (filter-more (a .party .t) (a .party .client) (a .call) (a .reply .now) (a .head) (p .0) (p .1 .0) Y writers keys (a .kept .now) (a .out .now)
+    (p .1 .1 .1) e)
 
 pub take-filter-spec : {M : Type 1} → statement M
 take-filter-spec = tie.close (tie.spec (λ c. search needs) (λ c κs. search needs) put-reply-requires note-reply-requires is-full-requires

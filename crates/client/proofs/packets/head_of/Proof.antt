@@ -8,5 +8,6 @@ returns : tie.Need-returns
 returns c = search needs
 
 pub head-of-spec : {M : Type 1} → statement M
-head-of-spec = tie.close (tie.spec (λ c. omega (arith, c .pre .0, c .pre .1 .0, c .pre .1 .1))
-    (λ c. omega (arith, c .pre .0, c .pre .1 .0, c .pre .1 .1)) (λ c. omega (arith, c .pre .0, c .pre .1 .0, c .pre .1 .1)) returns)
+head-of-spec = tie.close (tie.spec (λ c. omega (arith, c .before .pre .0, c .before .pre .1 .0, c .before .pre .1 .1))
+    (λ c. omega (arith, c .before .pre .0, c .before .pre .1 .0, c .before .pre .1 .1))
+    (λ c. omega (arith, c .before .before .pre .0, c .before .before .pre .1 .0, c .before .before .pre .1 .1)) returns)

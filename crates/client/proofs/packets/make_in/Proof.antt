@@ -8,13 +8,14 @@ use Rattle.client.proofs.packets.make_in.Tie as tie
 returns : tie.Need-returns
 returns c =
     let a = c .before .before .before .before .args in
-    rw (c .refused .ensures) (sym (make-short (a .t) (a .client) (a .server) (a .call) (a .kept .now) (a .out .now) (c .before .if1 .taken)))
+    rw (c .refused .ensures) (sym (make-short (a .party .t) (a .party .client) (a .server) (a .call) (a .kept .now) (a .out .now)
+    (c .before .if1 .taken)))
 
 returns-2 : tie.Need-returns-2
 returns-2 c =
     let a = c .before .before .before .before .before .before .args in
     rw (c .refused2 .ensures)
-    (sym (make-refused (a .t) (a .client) (a .server) (a .call) (a .kept .now) (a .out .now) (c .before .before .before .if1 .left)
+    (sym (make-refused (a .party .t) (a .party .client) (a .server) (a .call) (a .kept .now) (a .out .now) (c .before .before .before .if1 .left)
     (c .before .before .make-refusal .result) (c .before .before .make-refusal .ensures) (c .before .if2 .taken)))
 
 -- Places far back, each named once: the place, and from where it is seen.
@@ -24,7 +25,7 @@ start-from-else2 c = c .before .before .before .before .before
 make-round-requires : tie.Need-make-round-requires
 make-round-requires c κs =
     let a = start-from-else2 (c .before) .args in
-    let f = make-fits (a .t) (a .client) (a .server) (a .call) (a .kept .now) (a .out .now)
+    let f = make-fits (a .party .t) (a .party .client) (a .server) (a .call) (a .kept .now) (a .out .now)
     (sym (c .before .before .make-refusal .ensures) ∙ c .before .if2 .left) in (
       f .0,
       (
@@ -49,7 +50,7 @@ returns-3 : tie.Need-returns-3
 returns-3 c =
     let at-else2 = c .before .before .before .before in
     let a = start-from-else2 at-else2 .args in
-    c .before .before .make-round .ensures ∙ sym (make-goes (a .t) (a .client) (a .server) (a .call) (a .kept .now) (a .out .now)
+    c .before .before .make-round .ensures ∙ sym (make-goes (a .party .t) (a .party .client) (a .server) (a .call) (a .kept .now) (a .out .now)
     (at-else2 .before .before .if1 .left) (sym (at-else2 .before .make-refusal .ensures) ∙ at-else2 .if2 .left))
 
 pub make-in-spec : {M : Type 1} → statement M

@@ -48,7 +48,8 @@ returns c =
     let at-start = start-from-head-of (at-match .before) in
     let a = at-start .args in
     let p = at-start .pre in
-    let q = round-bytes (a .t) (a .client) (a .server) (a .call) (a .kept .now) (a .call .tally .round) refl ∙ store-bytes (a .t) (a .client)
+    let q = round-bytes (a .party .t) (a .party .client) (a .server) (a .call) (a .kept .now) (a .call .tally .round) refl ∙ store-bytes
+    (a .party .t) (a .party .client)
     (a .server) (a .call) (a .kept .now) (a .call .tally .round) (at-match .match .keys1) (p .1 .1 .0) (p .1 .1 .1 .0) in
     (rw (at-match .before .head-of .ensures) at (c .before .before .make-store .ensures)) ∙ ap (λ (x : List ℕ). wholePacket x (a .out .now)) (sym q)
 
@@ -56,7 +57,8 @@ returns-2 : tie.Need-returns-2
 returns-2 c =
     let at-match = c .before .before .before .before in
     let a = start-from-head-of (at-match .before) .args in
-    let q = round-bytes (a .t) (a .client) (a .server) (a .call) (a .kept .now) (a .call .tally .round) refl ∙ chosen-bytes (a .t) (a .client)
+    let q = round-bytes (a .party .t) (a .party .client) (a .server) (a .call) (a .kept .now) (a .call .tally .round) refl ∙ chosen-bytes
+    (a .party .t) (a .party .client)
     (a .server) (a .call) (a .kept .now) (a .call .tally .round) (at-match .match .keys2) in
     (rw (at-match .before .head-of .ensures) at (c .before .before .make-chosen .ensures)) ∙ ap (λ (x : List ℕ). wholePacket x (a .out .now)) (sym q)
 
@@ -68,7 +70,8 @@ returns-3 c =
     let p = at-start .pre in
     let r = hand-round (a .call) (p .1 .1 .1 .1 .1 .1 .0) in
     let none = at-match .match .rest in
-    let q = round-bytes (a .t) (a .client) (a .server) (a .call) (a .kept .now) (a .call .tally .round) refl ∙ empty-bytes (a .t) (a .client)
+    let q = round-bytes (a .party .t) (a .party .client) (a .server) (a .call) (a .kept .now) (a .call .tally .round) refl ∙ empty-bytes
+    (a .party .t) (a .party .client)
     (a .server) (a .call) (a .kept .now) (a .call .tally .round) (r .0) (r .1) (none .0 .1) (λ e. none .1 (inl e)) (p .1 .1 .1 .1 .1 .1 .1)
     (λ e. none .1 (inr e)) in
     (rw (at-match .before .head-of .ensures) at (c .before .before .make-empty .ensures)) ∙ ap (λ (x : List ℕ). wholePacket x (a .out .now)) (sym q)

@@ -25,8 +25,8 @@ returns c =
     let at-start = at-head-of .before .before .before .before .before in
     let a = at-start .args in
     let p = at-start .pre in
-    let q = round-bytes (a .t) (a .client) (a .server) (a .call) (a .kept .now) 5 (at-head-of .before .if1 .taken) ∙
-    filter-bytes (a .t) (a .client) (a .server) (a .call) (a .kept .now) in
+    let q = round-bytes (a .party .t) (a .party .client) (a .server) (a .call) (a .kept .now) 5 (at-head-of .before .if1 .taken) ∙
+    filter-bytes (a .party .t) (a .party .client) (a .server) (a .call) (a .kept .now) in
     (rw (at-head-of .head-of .ensures) at (c .before .before .make-filter .ensures)) ∙ ap (λ (x : List ℕ). wholePacket x (a .out .now)) (sym q)
 
 make-plain-requires : tie.Need-make-plain-requires

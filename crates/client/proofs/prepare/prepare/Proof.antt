@@ -8,13 +8,13 @@ use Rattle.client.proofs.prepare.prepare.Tie as tie
 returns : tie.Need-returns
 returns c =
     let at-stamp-bytes = c .before .before .before .before .before in
-    let at-start = at-stamp-bytes .before .before .before .before in
+    let at-start = at-stamp-bytes .before .before .before .before .before in
     let a = at-start .args in
     let p = at-start .pre in
     c .before .before .put-tagged .ensures ∙ rw (
       at-stamp-bytes .stamp-bytes .ensures,
-      at-stamp-bytes .before .nonce .ensures,
-    ) (offered-made (a .t) (a .client) (a .writers .now) (a .keys .now) (a .call)
+      at-stamp-bytes .before .before .nonce .ensures,
+    ) (offered-made (a .party .t) (a .party .client) (a .writers .now) (a .keys .now) (a .call)
     (a .kept .now) (a .number))
 
 pub prepare-spec : {M : Type 1} → statement M

@@ -10,11 +10,12 @@ use Rattle.client.proofs.refusals.abort_refusal.Statement.{statement}
 use Rattle.client.proofs.refusals.abort_refusal.Tie as tie
 
 -- the tests that do not apply
-past₁ : (c : tie.Else1) → badFaults (shelf (c .before .before .before .args .t)) ≡ false
+past₁ : (c : tie.Else1) → badFaults (shelf (c .before .before .before .args .party .t)) ≡ false
 unfolding shelf
 past₁ c = sym (c .before .outside .ensures) ∙ c .if1 .left
 
-past₂ : (c : tie.Else2) → let a = c .before .before .before .before .before .args in badClient (ofWrite (awaited (a .call))) (a .client) ≡ false
+past₂ : (c : tie.Else2) → let a = c .before .before .before .before .before .args in badClient (ofWrite (awaited (a .call)))
+    (a .party .client) ≡ false
 past₂ c = rw (c .before .before .before .before .awaited-kind .ensures) at (sym (c .before .bad-client .ensures) ∙ c .if2 .left)
 
 returns : tie.Need-returns

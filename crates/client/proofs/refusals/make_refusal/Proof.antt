@@ -14,7 +14,7 @@ use Rattle.client.proofs.refusals.make_refusal.Statement.{statement}
 use Rattle.client.proofs.refusals.make_refusal.Tie as tie
 
 -- the tests that do not apply
-past₁ : (c : tie.Else1) → badFaults (shelf (c .before .before .before .args .t)) ≡ false
+past₁ : (c : tie.Else1) → badFaults (shelf (c .before .before .before .args .party .t)) ≡ false
 unfolding shelf
 past₁ c = sym (c .before .outside .ensures) ∙ c .if1 .left
 
@@ -23,12 +23,12 @@ abbrev awaited-kind-from-else2 : tie.Else2 → tie.After-awaited-kind
 awaited-kind-from-else2 c = c .before .before .before .before .before
 
 past₂ : (c : tie.Else2) → let a = awaited-kind-from-else2 c .before .args in
-    not (within 1 (shelf (a .t) .servers) (a .server)) ≡ false
+    not (within 1 (shelf (a .party .t) .servers) (a .server)) ≡ false
 unfolding shelf
 past₂ c = rw (c .before .before .servers .ensures) at (sym (c .before .outside2 .ensures) ∙ c .if2 .left)
 
 past₃ : (c : tie.Else3) → let a = awaited-kind-from-else2 (c .before .before) .before .args in
-    badClient (ofWrite (awaited (a .call))) (a .client) ≡ false
+    badClient (ofWrite (awaited (a .call))) (a .party .client) ≡ false
 past₃ c =
     rw (c .before .before .before .before .before .before .before .awaited-kind .ensures) at (sym (c .before .bad-client .ensures) ∙ c .if3 .left)
 
@@ -43,7 +43,7 @@ returns c = rw (sym (c .before .outside .ensures) ∙ c .if1 .taken)
 
 servers-requires : tie.Need-servers-requires
 unfolding shelf
-servers-requires c κs = inside 1 topFaults (c .before .before .before .args .t) (past₁ c) .1
+servers-requires c κs = inside 1 topFaults (c .before .before .before .args .party .t) (past₁ c) .1
 
 returns-2 : tie.Need-returns-2
 unfolding makeRefusal shelf

@@ -12,7 +12,7 @@ use Rattle.client.proofs.refusals.read_refusal.Statement.{statement}
 use Rattle.client.proofs.refusals.read_refusal.Tie as tie
 
 -- the tests that do not apply
-past₁ : (c : tie.Else1) → badFaults (shelf (c .before .before .args .t)) ≡ false
+past₁ : (c : tie.Else1) → badFaults (shelf (c .before .before .args .party .t)) ≡ false
 unfolding shelf
 past₁ c = sym (c .before .outside .ensures) ∙ c .if1 .left
 
@@ -20,7 +20,7 @@ past₁ c = sym (c .before .outside .ensures) ∙ c .if1 .left
 abbrev start-from-else2 : tie.Else2 → tie.Start
 start-from-else2 c = c .before .before .before .before
 
-past₂ : (c : tie.Else2) → not (within 1 topClient (start-from-else2 c .args .client)) ≡ false
+past₂ : (c : tie.Else2) → not (within 1 topClient (start-from-else2 c .args .party .client)) ≡ false
 past₂ c = sym (c .before .outside2 .ensures) ∙ c .if2 .left
 
 past₃ : (c : tie.Else3) → inHand (start-from-else2 (c .before .before) .args .call) ≡ false

@@ -12,11 +12,11 @@ use Rattle.client.proofs.refusals.write_refusal.Statement.{statement}
 use Rattle.client.proofs.refusals.write_refusal.Tie as tie
 
 -- the tests that do not apply
-past₁ : (c : tie.Else1) → badFaults (shelf (c .before .before .args .t)) ≡ false
+past₁ : (c : tie.Else1) → badFaults (shelf (c .before .before .args .party .t)) ≡ false
 unfolding shelf
 past₁ c = sym (c .before .outside .ensures) ∙ c .if1 .left
 
-past₂ : (c : tie.Else2) → not (within 1 topWriter (c .before .before .before .before .args .client)) ≡ false
+past₂ : (c : tie.Else2) → not (within 1 topWriter (c .before .before .before .before .args .party .client)) ≡ false
 past₂ c = sym (c .before .outside2 .ensures) ∙ c .if2 .left
 
 -- Places far back, each named once: the place, and from where it is seen.

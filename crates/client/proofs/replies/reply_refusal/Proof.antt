@@ -10,7 +10,7 @@ use Rattle.client.proofs.replies.reply_refusal.Statement.{statement}
 use Rattle.client.proofs.replies.reply_refusal.Tie as tie
 
 -- the tests that do not apply
-past₁ : (c : tie.Else1) → foreign (c .before .before .args .t) (c .before .before .args .client) (c .before .before .args .head) ≡ false
+past₁ : (c : tie.Else1) → foreign (c .before .before .args .party .t) (c .before .before .args .party .client) (c .before .before .args .head) ≡ false
 past₁ c = sym (c .before .is-foreign .ensures) ∙ c .if1 .left
 
 past₂ : (c : tie.Else2) → eqb (awaited (c .before .before .before .before .args .call)) 0 ≡ false

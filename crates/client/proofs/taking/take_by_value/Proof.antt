@@ -9,7 +9,8 @@ returns : tie.Need-returns
 returns c =
     let a = c .before .before .before .before .before .before .before .args in
     c .before .before .take-in .ensures
-    ∙ core-take (a .t) (a .client) (a .writers .now) (a .keys .now) (a .call) (a .kept .now) (a .reply .now) (a .out .now) (search needs)
+    ∙ core-take (a .party .t) (a .party .client) (a .writers .now) (a .keys .now) (a .call) (a .kept .now) (a .reply .now) (a .out .now)
+    (search needs)
 
 pub take-by-value-spec : {M : Type 1} → statement M
 take-by-value-spec = tie.close (tie.spec (λ c κs. search needs) (λ c. search needs) returns)

@@ -16,7 +16,7 @@ wide c = search needs
 returns : tie.Need-returns
 returns c =
     let a = c .before .before .before .before .before .args in
-    let e = take-length (a .t) (a .client) (a .writers .now) (a .keys .now) (a .call) (a .kept .now) (a .reply .now) (a .out .now)
+    let e = take-length (a .party .t) (a .party .client) (a .writers .now) (a .keys .now) (a .call) (a .kept .now) (a .reply .now) (a .out .now)
     (c .before .if1 .taken) in
     rw (e, c .refused .ensures)
 
@@ -25,11 +25,14 @@ unfolding shelf
 returns-2 c =
     let at-start = c .before .before .before .before .before .before .before in
     let a = at-start .args in
-    let w : badFaults (shelf (a .t)) ≡ true = sym (c .before .before .outside .ensures) ∙ c .before .if2 .taken in
-    taken-in (a .t) (a .client) (a .writers .now) (a .keys .now) (a .call) (a .kept .now) (a .reply .now) (a .out .now) (c .refused2 .result)
+    let w : badFaults (shelf (a .party .t)) ≡ true = sym (c .before .before .outside .ensures) ∙ c .before .if2 .taken in
+    taken-in (a .party .t) (a .party .client) (a .writers .now) (a .keys .now) (a .call) (a .kept .now) (a .reply .now) (a .out .now)
+    (c .refused2 .result)
     (a .kept .now) (a .out .now) (wide at-start) (c .before .before .before .if1 .left)
-    (takes-refused (a .t) (a .client) (a .writers .now) (a .keys .now) (a .call) (a .kept .now) (a .reply .now) (a .out .now) (c .refused2 .result) 3
-    (c .refused2 .ensures) (take-faults (a .t) (a .client) (a .writers .now) (a .keys .now) (a .call) (a .kept .now) (a .reply .now) (a .out .now) w))
+    (takes-refused (a .party .t) (a .party .client) (a .writers .now) (a .keys .now) (a .call) (a .kept .now) (a .reply .now) (a .out .now)
+    (c .refused2 .result) 3
+    (c .refused2 .ensures) (take-faults (a .party .t) (a .party .client) (a .writers .now) (a .keys .now) (a .call) (a .kept .now) (a .reply .now)
+    (a .out .now) w))
 
 -- Places far back, each named once: the place, and from where it is seen.
 abbrev start-from-awaited-kind : tie.After-awaited-kind → tie.Start
@@ -41,13 +44,16 @@ returns-3 c =
     let at-awaited-kind = c .before .before .before in
     let at-start = start-from-awaited-kind at-awaited-kind in
     let a = at-start .args in
-    let w : badFaults (shelf (a .t)) ≡ false =
+    let w : badFaults (shelf (a .party .t)) ≡ false =
     sym (at-awaited-kind .before .before .outside .ensures) ∙ at-awaited-kind .before .if2 .left in
     let v = rw (c .before .before .before .awaited-kind .ensures) at (sym (c .before .before .bad-client .ensures) ∙ c .before .if3 .taken) in
-    taken-in (a .t) (a .client) (a .writers .now) (a .keys .now) (a .call) (a .kept .now) (a .reply .now) (a .out .now) (c .refused3 .result)
+    taken-in (a .party .t) (a .party .client) (a .writers .now) (a .keys .now) (a .call) (a .kept .now) (a .reply .now) (a .out .now)
+    (c .refused3 .result)
     (a .kept .now) (a .out .now) (wide at-start) (at-awaited-kind .before .before .before .if1 .left)
-    (takes-refused (a .t) (a .client) (a .writers .now) (a .keys .now) (a .call) (a .kept .now) (a .reply .now) (a .out .now) (c .refused3 .result) 5
-    (c .refused3 .ensures) (take-reader (a .t) (a .client) (a .writers .now) (a .keys .now) (a .call) (a .kept .now) (a .reply .now) (a .out .now) w
+    (takes-refused (a .party .t) (a .party .client) (a .writers .now) (a .keys .now) (a .call) (a .kept .now) (a .reply .now) (a .out .now)
+    (c .refused3 .result) 5
+    (c .refused3 .ensures) (take-reader (a .party .t) (a .party .client) (a .writers .now) (a .keys .now) (a .call) (a .kept .now) (a .reply .now)
+    (a .out .now) w
     v))
 
 take-reply-requires : tie.Need-take-reply-requires
@@ -67,7 +73,7 @@ returns-4 c =
     let at-awaited-kind = at-take-reply .before .before .before .before .before in
     let at-start = start-from-awaited-kind at-awaited-kind in
     let a = at-start .args in
-    taken-in (a .t) (a .client) (a .writers .now) (a .keys .now) (a .call) (a .kept .now) (a .reply .now) (a .out .now)
+    taken-in (a .party .t) (a .party .client) (a .writers .now) (a .keys .now) (a .call) (a .kept .now) (a .reply .now) (a .out .now)
     (at-take-reply .take-reply .result) _ _ (wide at-start) (at-awaited-kind .before .before .before .if1 .left)
     (at-take-reply .take-reply .ensures)
 

@@ -23,9 +23,10 @@ take-collect-requires c κs =
     let z = at-shared-slice-known .before .before in
     let a = z .args in
     let p = z .pre in
-    let f = ready-faults (a .t) (a .client) (a .call) (a .reply .now) (a .head) (p .0) in
-    let r = ready-server (a .t) (a .client) (a .call) (a .reply .now) (a .head) (p .0) in
-    let l : length (drop headSize (a .reply .now)) ≤ candidateSlot = collect-length (a .t) (a .client) (a .call) (a .reply .now) (a .head) (p .0)
+    let f = ready-faults (a .party .t) (a .party .client) (a .call) (a .reply .now) (a .head) (p .0) in
+    let r = ready-server (a .party .t) (a .party .client) (a .call) (a .reply .now) (a .head) (p .0) in
+    let l : length (drop headSize (a .reply .now)) ≤ candidateSlot = collect-length (a .party .t) (a .party .client) (a .call) (a .reply .now)
+    (a .head) (p .0)
     (λ k. at-shared-slice-known .shared-slice-known .given k .fits) (at-match .match .keys1) in
     (f .1, (r .0, (r .1, (p .1 .1 .0, rw (c .rest .ensures) l))))
 
@@ -36,7 +37,8 @@ returns c =
     let z = at-shared-slice-known .before .before in
     let a = z .args in
     let p = z .pre in
-    λ writers keys. takes-collect (a .t) (a .client) writers keys (a .call) (a .kept .now) (a .reply .now) (a .out .now) (a .head) (p .0) (p .1 .1 .1)
+    λ writers keys. takes-collect (a .party .t) (a .party .client) writers keys (a .call) (a .kept .now) (a .reply .now) (a .out .now) (a .head)
+    (p .0) (p .1 .1 .1)
     (at-match .match .keys1) (λ k. at-shared-slice-known .shared-slice-known .given k .fits) _
     (c .before .before .before .rest .ensures) (c .before .before .take-collect .result) (c .before .before .take-collect .ensures .0) _
     (c .before .before .take-collect .ensures .1)
@@ -49,8 +51,8 @@ take-repair-requires c κs =
     let z = shared-slice-known-from-struct-known (c .before .before .before) .before .before in
     let a = z .args in
     let p = z .pre in
-    let f = ready-faults (a .t) (a .client) (a .call) (a .reply .now) (a .head) (p .0) in
-    let r = ready-server (a .t) (a .client) (a .call) (a .reply .now) (a .head) (p .0) in
+    let f = ready-faults (a .party .t) (a .party .client) (a .call) (a .reply .now) (a .head) (p .0) in
+    let r = ready-server (a .party .t) (a .party .client) (a .call) (a .reply .now) (a .head) (p .0) in
     (f .1, (r .0, (r .1, p .1 .1 .1)))
 
 returns-3 : tie.Need-returns-3
@@ -59,9 +61,10 @@ returns-3 c =
     let z = shared-slice-known-from-struct-known (at-match .before) .before .before in
     let a = z .args in
     let p = z .pre in
-    let q = ready-round (a .t) (a .client) (a .call) (a .reply .now) (a .head) (p .0) in
+    let q = ready-round (a .party .t) (a .party .client) (a .call) (a .reply .now) (a .head) (p .0) in
     let e : a .call .tally .round ≡ 6 = omega (arith, p .1 .0, at-match .match .rest .0 .1, at-match .match .rest .1) in
-    λ writers keys. takes-repair (a .t) (a .client) writers keys (a .call) (a .kept .now) (a .reply .now) (a .out .now) (a .head) (p .0) (p .1 .1 .1)
+    λ writers keys. takes-repair (a .party .t) (a .party .client) writers keys (a .call) (a .kept .now) (a .reply .now) (a .out .now) (a .head)
+    (p .0) (p .1 .1 .1)
     e (c .before .before .take-repair .result) (c .before .before .take-repair .ensures .0) _ (c .before .before .take-repair .ensures .1)
 
 pub take-read-round-spec : {M : Type 1} → statement M

@@ -11,9 +11,11 @@ returns c =
     let z = c .before .before .before .before .before .before .before in
     let a = z .args in
     let p = z .pre in
-    takes-refused (a .t) (a .client) (a .writers .now) (a .keys .now) (a .call) (a .kept .now) (a .reply .now) (a .out .now) (c .refused .result) 7
+    takes-refused (a .party .t) (a .party .client) (a .writers .now) (a .keys .now) (a .call) (a .kept .now) (a .reply .now) (a .out .now)
+    (c .refused .result) 7
     (c .refused .ensures)
-    (take-broken (a .t) (a .client) (a .writers .now) (a .keys .now) (a .call) (a .kept .now) (a .reply .now) (a .out .now) (p .0) (p .1 .0)
+    (take-broken (a .party .t) (a .party .client) (a .writers .now) (a .keys .now) (a .call) (a .kept .now) (a .reply .now) (a .out .now) (p .0)
+    (p .1 .0)
     (rw (c .before .enum-told .given .1) at (c .before .before .before .read-packet .ensures .1)))
 
 -- Places far back, each named once: the place, and from where it is seen.
@@ -32,9 +34,11 @@ returns-2 c =
     let z = start-from-head at-head in
     let a = z .args in
     let p = z .pre in
-    takes-refused (a .t) (a .client) (a .writers .now) (a .keys .now) (a .call) (a .kept .now) (a .reply .now) (a .out .now) (c .refused2 .result) _
+    takes-refused (a .party .t) (a .party .client) (a .writers .now) (a .keys .now) (a .call) (a .kept .now) (a .reply .now) (a .out .now)
+    (c .refused2 .result) _
     (c .refused2 .ensures)
-    (take-head (a .t) (a .client) (a .writers .now) (a .keys .now) (a .call) (a .kept .now) (a .reply .now) (a .out .now) (p .0) (p .1 .0)
+    (take-head (a .party .t) (a .party .client) (a .writers .now) (a .keys .now) (a .call) (a .kept .now) (a .reply .now) (a .out .now) (p .0)
+    (p .1 .0)
     (at-head .head .given .0 .0) (rw (at-head .head .given .1) at
     (at-head .before .before .read-packet .ensures .1)) (c .before .before .reply-refusal .result)
     (c .before .before .reply-refusal .ensures) (c .before .if1 .taken))

@@ -16,9 +16,11 @@ returns-2 c =
     let z = c .before .before .before .before .before .before .before in
     let a = z .args in
     let p = z .pre in
-    takes-refused (a .t) (a .client) (a .writers .now) (a .keys .now) (a .call) (a .kept .now) (a .reply .now) (a .out .now) (c .refused .result) 15
+    takes-refused (a .party .t) (a .party .client) (a .writers .now) (a .keys .now) (a .call) (a .kept .now) (a .reply .now) (a .out .now)
+    (c .refused .result) 15
     (c .refused .ensures)
-    (round-short (a .t) (a .client) (a .writers .now) (a .keys .now) (a .call) (a .kept .now) (a .reply .now) (a .out .now) (a .head) (p .0)
+    (round-short (a .party .t) (a .party .client) (a .writers .now) (a .keys .now) (a .call) (a .kept .now) (a .reply .now) (a .out .now) (a .head)
+    (p .0)
     (c .before .before .if1 .left) (omega (arith, c .before .if2 .taken)))
 
 take-write-round-requires : tie.Need-take-write-round-requires
@@ -26,7 +28,7 @@ take-write-round-requires c κs =
     let z = c .before .before .before .before .before .before .before .before in
     let a = z .args in
     let p = z .pre in
-    let q = ready-round (a .t) (a .client) (a .call) (a .reply .now) (a .head) (p .0) in
+    let q = ready-round (a .party .t) (a .party .client) (a .call) (a .reply .now) (a .head) (p .0) in
     (p .0, (omega (arith, c .before .before .before .if1 .left), c .before .if3 .taken))
 
 returns-3 : tie.Need-returns-3

@@ -12,8 +12,8 @@ take-store-requires c κs =
     let z = c .before .before .before .before .before .before in
     let a = z .args in
     let p = z .pre in (
-      ready-faults (a .t) (a .client) (a .call) (a .reply .now) (a .head) (p .0) .1,
-      ready-server (a .t) (a .client) (a .call) (a .reply .now)
+      ready-faults (a .party .t) (a .party .client) (a .call) (a .reply .now) (a .head) (p .0) .1,
+      ready-server (a .party .t) (a .party .client) (a .call) (a .reply .now)
           (a .head) (p .0),
     )
 
@@ -22,7 +22,8 @@ returns c =
     let z = c .before .before .before .before .before .before .before in
     let a = z .args in
     let p = z .pre in
-    λ writers keys output room. takes-store (a .t) (a .client) writers keys (a .call) (a .kept .now) (a .reply .now) output (a .head) (p .0) room
+    λ writers keys output room. takes-store (a .party .t) (a .party .client) writers keys (a .call) (a .kept .now) (a .reply .now) output (a .head)
+    (p .0) room
     (c .before .before .if1 .taken) _ (c .before .byte-at .ensures) (c .take-store .result) (c .take-store .ensures)
 
 take-complete-requires : tie.Need-take-complete-requires
@@ -30,8 +31,8 @@ take-complete-requires c κs =
     let z = c .before .before .before .before .before in
     let a = z .args in
     let p = z .pre in (
-      ready-faults (a .t) (a .client) (a .call) (a .reply .now) (a .head) (p .0) .1,
-      ready-server (a .t) (a .client) (a .call) (a .reply .now)
+      ready-faults (a .party .t) (a .party .client) (a .call) (a .reply .now) (a .head) (p .0) .1,
+      ready-server (a .party .t) (a .party .client) (a .call) (a .reply .now)
           (a .head) (p .0),
     )
 
@@ -41,7 +42,8 @@ returns-2 c =
     let a = z .args in
     let p = z .pre in
     let e : a .call .tally .round ≡ 3 = omega (arith, p .1, c .before .if1 .left) in
-    λ writers keys output room. takes-complete (a .t) (a .client) writers keys (a .call) (a .kept .now) (a .reply .now) output (a .head) (p .0) room e
+    λ writers keys output room. takes-complete (a .party .t) (a .party .client) writers keys (a .call) (a .kept .now) (a .reply .now) output
+    (a .head) (p .0) room e
     (c .take-complete .result) (c .take-complete .ensures)
 
 pub take-write-round-spec : {M : Type 1} → statement M

@@ -33,7 +33,7 @@ cast-pack c =
     let e = m .ensures ∙ core-made d (at-start .pre) (a .t) (a .client) (a .server)
     (at-rest .before .before .read .result) _ (take (l .result) (a .out .now)) (at-rest .before .before .read .ensures) (at-rest .rest .ensures) in
     let n : m .result .count ≤ packetRoom = made-count (a .out .now) (l .result) (l .ensures .0) (l .ensures .1 .0) (l .ensures .1 .1) (a .t)
-    (a .client) (a .server) (callAt d) (keptOf d) (m .result) (m .last .1 .1 .1 .1 .1 .0) e (m .kept .1 .1 .1 .1 .1 .0) in omega (arith, n)
+    (a .client) (a .server) (callAt d) (keptOf d) (m .result) (m .last .1 .1 .1 .1 .0) e (m .kept .1 .1 .1 .1 .0) in omega (arith, n)
 
 returns : tie.Need-returns
 returns c =
@@ -47,7 +47,7 @@ returns c =
     (a .server) (at-rest .before .before .read .result) _ (take (l .result) (a .out .now))
     (at-rest .before .before .read .ensures) (at-rest .rest .ensures) in
     made-out (a .out .now) (l .result) (l .ensures .0) (l .ensures .1 .0) (l .ensures .1 .1) (a .t) (a .client) (a .server) (callAt d) (keptOf d)
-    (m .result) (m .last .1 .1 .1 .1 .1 .0) e (m .kept .1 .1 .1 .1 .1 .0) _ (c .pack .ensures)
+    (m .result) (m .last .1 .1 .1 .1 .0) e (m .kept .1 .1 .1 .1 .0) _ (c .pack .ensures)
 
 pub make-packet-spec : {M : Type 1} → statement M
 make-packet-spec = tie.close (tie.spec (λ c κs. search needs) (λ c κs. search needs) (λ c κs. search needs) (λ c. search needs)

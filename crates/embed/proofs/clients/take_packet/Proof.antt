@@ -21,7 +21,7 @@ returns c =
     let d = a .state .now in
     let e = core-take d (z .pre) (a .t) (a .client) (a .writers .now) (a .keys .now) (a .packet .now) (a .out .now) in
     taken-in d (z .pre) (clientTake real (a .t) (a .client) (a .writers .now) (a .keys .now) (callAt d) (keptOf d) (a .packet .now) (a .out .now))
-    (m .result) (m .last .1 .0) (p .put-call .last .0) (m .last .1 .1 .1 .1 .1 .1 .1 .0) (c .pack-answer .result)
+    (m .result) (m .last .1 .0) (p .put-call .last .0) (m .last .1 .1 .1 .1 .1 .1 .0) (c .pack-answer .result)
     (m .ensures ∙ rw (q .read .ensures) e) (p .put-call .ensures) (c .pack-answer .ensures ∙ ap packedAnswer (c .before .answer .ensures .0))
 
 pub take-packet-spec : {M : Type 1} → statement M
