@@ -54,22 +54,28 @@ pub(crate) fn put_fragments(fragments: &mut [u8], digests: &mut [u8], t: usize, 
 }
 
 // A share at its slot: the length, the fragment, and what is the same for all servers.
-fn put_share(kept: &mut [u8], i: usize, size: [u8; 2], fragment: &[u8], common: &[u8])
+fn put_share(
+    kept: &mut [u8],
+    i: usize,
+    size: [u8; wire::sizes::LENGTH],
+    fragment: &[u8],
+    common: &[u8],
+)
     requires { ⌜ (suc i ≤ mostServers) × ((length (now kept) ≡ keptSize) × (2 + (length (now fragment) + length (now common)) ≤ replySlot)) ⌝ }
     ensures { λ _. ⌜ now (kept .exit) ≡ put (now (kept .entry)) (repliesPlace + replySlot * i)
         (size ++ (now (fragment .entry) ++ now (common .entry))) ⌝ }
 {
     let at = wire::kept::REPLIES + wire::kept::REPLY_SLOT * i;
     kept::write_at(kept, at, &size);
-    kept::write_at(kept, at + 2, fragment);
-    kept::write_at(kept, at + 2 + fragment.len(), common);
+    kept::write_at(kept, at + wire::sizes::LENGTH, fragment);
+    kept::write_at(kept, at + wire::sizes::LENGTH + fragment.len(), common);
 }
 
 // The shares of all servers at their slots.
 pub(crate) fn put_shares(
     kept: &mut [u8],
     t: usize,
-    size: [u8; 2],
+    size: [u8; wire::sizes::LENGTH],
     fragments: &[u8],
     f: usize,
     common: &[u8],
@@ -116,11 +122,11 @@ fn put_common(common: &mut [u8], at: usize, digest: [u8; cluster::KEY], tags: &[
 }
 
 // A content's length in 2 bytes.
-fn size_bytes(n: usize) -> [u8; 2]
+fn size_bytes(n: usize) -> [u8; wire::sizes::LENGTH]
     requires { ⌜ n ≤ topLength ⌝ }
     ensures { λ r. ⌜ r ≡ print2 n ⌝ }
 {
-    [(n / 256) as u8, (n % 256) as u8]
+    wire::bytes::bytes2(n as u16)
 }
 
 // The fragments of the content, and what is the same in all shares: the digests, the nonce's digest and the tags. Answers the content's length.

@@ -24,24 +24,21 @@ pub(crate) fn higher(writers: &[u8; cluster::KEY], high: u32, body: &[u8]) -> u3
     if number <= high {
         return high;
     }
-    let tag = hmac::tag(*writers, wire::bytes::part(body, 0, 5));
-    if wire::bytes::same(wire::bytes::part(body, 5, hmac::TAG), &tag) {
+    let tag = hmac::tag(*writers, wire::bytes::part(body, 0, wire::sizes::LABEL));
+    if wire::bytes::same(wire::bytes::part(body, wire::sizes::LABEL, hmac::TAG), &tag) {
         return number;
     }
     high
 }
 
 // What the writers' key tags: number and writer.
-fn stamp_message(number: u32, writer: u8) -> [u8; 5]
+fn stamp_message(number: u32, writer: u8) -> [u8; wire::sizes::LABEL]
     ensures { λ r. ⌜ r ≡ stampMessage number writer ⌝ }
 {
-    [
-        (number / 16777216) as u8,
-        (number / 65536 % 256) as u8,
-        (number / 256 % 256) as u8,
-        (number % 256) as u8,
-        writer,
-    ]
+    let mut message = [0u8; wire::sizes::LABEL];
+    let n = wire::make::put_number4(&mut message, 0, number);
+    wire::make::put_byte(&mut message, n, writer);
+    message
 }
 
 // Line 96: a stamp's bytes.
@@ -56,7 +53,7 @@ pub(crate) fn stamp_bytes(
     let tag = hmac::tag(*writers, &message);
     let mut bytes = [0u8; wire::sizes::STAMP];
     kept::write_at(&mut bytes, 0, &message);
-    kept::write_at(&mut bytes, 5, &tag);
+    kept::write_at(&mut bytes, wire::sizes::LABEL, &tag);
     bytes
 }
 

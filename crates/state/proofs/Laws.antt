@@ -1,13 +1,15 @@
 -- What is put is read: the state's bytes, whatever follows them, give the state back. By computation on the places, and by the digits of a number.
 -- Assumes nothing.
 use mathlib.Core.Path.{_≡_, refl, ap, _∙_}
-use mathlib.Core.List.{List, _++_}
+use mathlib.Core.List.{List, [], _∷_, _++_}
 use Prim.Native.Nat.{ℕ, _≤_, _<_}
 use native.Mathlib.Omega.{arith}
-use lib.ListN.{length, length-append}
-use lib.Seq.{take-at}
+use lib.ListN.{length, getD, drop, replicate, length-append}
+use lib.Seq.{take-at, getD-drop}
 use Rattle.cluster.specs.Ranges.{mostServers}
 use Rattle.protocol.specs.declared.Call.{Call}
+use Rattle.format.specs.Format.{Bytes, print2, print4, value2}
+use Rattle.format.specs.Reading.{put}
 use Rattle.format.proofs.Formats.{value2-print, value4-print}
 use Rattle.wire.specs.Places.{padded}
 use Rattle.wire.specs.Make.{Placed, placed}
@@ -30,6 +32,34 @@ state-back c r l =
 pub numbers-length : (c : Call) → length (numbers c) ≡ numbersSize
 unfolding numbers
 numbers-length c = refl
+
+-- ---- the length: the number of the first 2 bytes from its place on
+
+module _ (d : List ℕ) {r : List ℕ} {v : ℕ} (p : r ≡ drop 12 d) (q : v ≡ value2 (getD r 0 0) (getD r 1 0)) where
+  pub length-told : v ≡ lengthAt d
+  unfolding lengthAt
+  length-told = q ∙ rw (p, getD-drop 12 d 0 0, getD-drop 12 d 1 0)
+
+  pub length-small : Bytes d → v < 65536
+  unfolding lengthAt
+  length-small b = omega (arith, length-told, b 12, b 13)
+
+-- ---- the numbers, each put at its place over zeros
+
+pub numbers-made : (c : Call) {a b d e f g : List ℕ} {h i j k l m : ℕ} → record { next = h; output = a } ≡ placed (replicate numbersSize 0) 0
+    (print4 (c .number))
+    → record { next = i; output = b } ≡ placed a 4 (print4 (c .last)) → record { next = j; output = d } ≡ placed b 8 (print4 (c .high))
+    → record { next = k; output = e } ≡ placed d 12 (print2 (c .length)) → record { next = l; output = f } ≡ placed e 14 (c .tally .round ∷ [])
+    → record { next = m; output = g } ≡ placed f 15 (c .tally .count ∷ []) → g ≡ numbers c
+unfolding placed put numbers
+numbers-made c p q r s t u =
+    let out : Placed → List ℕ = λ x. x .output in
+    let then : (at : ℕ) (b : List ℕ) → List ℕ → List ℕ = λ at b x. placed x at b .output in
+    let q' = ap out q ∙ ap (then 4 (print4 (c .last))) (ap out p) in
+    let r' = ap out r ∙ ap (then 8 (print4 (c .high))) q' in
+    let s' = ap out s ∙ ap (then 12 (print2 (c .length))) r' in
+    let t' = ap out t ∙ ap (then 14 (c .tally .round ∷ [])) s' in
+    ap out u ∙ ap (then 15 (c .tally .count ∷ [])) t'
 
 -- ---- putting: no room, or the numbers and then the marks
 

@@ -10,8 +10,19 @@ pub const SIZE: usize = NUMBERS + cluster::MOST_SERVERS;
 
 pub const KEPT_PLACE: usize = 64;
 
-// Bytes before the marks: three numbers of 4 bytes, the length in 2, round and count.
-const NUMBERS: usize = 16;
+// The call's number stands first; the places of the last stamp's number, of the highest one seen, of the content's length, of the round and of the
+// count of replies; and the bytes of all these, which the marks follow.
+const LAST_PLACE: usize = wire::sizes::NUMBER;
+
+const HIGH_PLACE: usize = LAST_PLACE + wire::sizes::NUMBER;
+
+const LENGTH_PLACE: usize = HIGH_PLACE + wire::sizes::NUMBER;
+
+const ROUND_PLACE: usize = LENGTH_PLACE + wire::sizes::LENGTH;
+
+const COUNT_PLACE: usize = ROUND_PLACE + 1;
+
+const NUMBERS: usize = COUNT_PLACE + 1;
 
 // Which servers have replied.
 fn marks_at(bytes: &[u8]) -> [u8; cluster::MOST_SERVERS]
@@ -30,14 +41,14 @@ fn marks_at(bytes: &[u8]) -> [u8; cluster::MOST_SERVERS]
 fn length_at(bytes: &[u8]) -> u16
     ensures { λ r. ⌜ r ≡ lengthAt (now (bytes .entry)) ⌝ }
 {
-    256 * (wire::bytes::byte_at(bytes, 12) as u16) + (wire::bytes::byte_at(bytes, 13) as u16)
+    wire::bytes::number2(wire::bytes::rest(bytes, LENGTH_PLACE)) as u16
 }
 
 fn tally_at(bytes: &[u8]) -> protocol::Tally
     ensures { λ r. ⌜ r ≡ tallyAt (now (bytes .entry)) ⌝ }
 {
-    let round = wire::bytes::byte_at(bytes, 14);
-    let count = wire::bytes::byte_at(bytes, 15);
+    let round = wire::bytes::byte_at(bytes, ROUND_PLACE);
+    let count = wire::bytes::byte_at(bytes, COUNT_PLACE);
     protocol::Tally {
         round: round,
         count: count,
@@ -50,8 +61,8 @@ pub fn read(bytes: &[u8]) -> protocol::Call
     ensures { λ r. ⌜ r ≡ callAt (now (bytes .entry)) ⌝ }
 {
     let number = wire::bytes::number4(bytes);
-    let last = wire::bytes::number4(wire::bytes::rest(bytes, 4));
-    let high = wire::bytes::number4(wire::bytes::rest(bytes, 8));
+    let last = wire::bytes::number4(wire::bytes::rest(bytes, LAST_PLACE));
+    let high = wire::bytes::number4(wire::bytes::rest(bytes, HIGH_PLACE));
     let length = length_at(bytes);
     protocol::Call {
         number: number,
@@ -66,29 +77,15 @@ pub fn read(bytes: &[u8]) -> protocol::Call
 fn numbers_of(call: protocol::Call) -> [u8; NUMBERS]
     ensures { λ r. ⌜ r ≡ numbers call ⌝ }
 {
-    let n = call.number;
-    let last = call.last;
-    let high = call.high;
-    let length = call.length;
     let tally = call.tally;
-    [
-        (n / 16777216) as u8,
-        (n / 65536 % 256) as u8,
-        (n / 256 % 256) as u8,
-        (n % 256) as u8,
-        (last / 16777216) as u8,
-        (last / 65536 % 256) as u8,
-        (last / 256 % 256) as u8,
-        (last % 256) as u8,
-        (high / 16777216) as u8,
-        (high / 65536 % 256) as u8,
-        (high / 256 % 256) as u8,
-        (high % 256) as u8,
-        (length / 256) as u8,
-        (length % 256) as u8,
-        tally.round,
-        tally.count,
-    ]
+    let mut bytes = [0u8; NUMBERS];
+    wire::make::put_number4(&mut bytes, 0, call.number);
+    wire::make::put_number4(&mut bytes, LAST_PLACE, call.last);
+    wire::make::put_number4(&mut bytes, HIGH_PLACE, call.high);
+    wire::make::put_number2(&mut bytes, LENGTH_PLACE, call.length);
+    wire::make::put_byte(&mut bytes, ROUND_PLACE, tally.round);
+    wire::make::put_byte(&mut bytes, COUNT_PLACE, tally.count);
+    bytes
 }
 
 // The state's bytes at the start of others; nothing where there is no room.

@@ -10,7 +10,7 @@ use Rattle.cluster.specs.Ranges.{packetRoom}
 use Rattle.protocol.specs.declared.Head.{Head}
 use Rattle.hmac.specs.Hmac.{tagSize}
 use Rattle.protocol.specs.declared.Stamp.{Stamp}
-use Rattle.format.specs.Format.{print4, via, seq, number4, byte, run}
+use Rattle.format.specs.Format.{print4, keep, via, seq, number4, byte, run}
 use Rattle.protocol.specs.Values.{stampSize}
 use Rattle.protocol.specs.Packet.{stampF, headF, headSize}
 use Rattle.format.specs.Reading.{over, put, Wrote}
@@ -59,6 +59,19 @@ module _ (x : Stamp) (d : List ℕ) (at : ℕ) (l : length (x .tag) ≡ tagSize)
       let l₁ = wrote-length w₁ (omega arith) in
       let w₂ = placed-then (x .writer ∷ []) (x .tag) q r (omega (arith, w₁ .place)) in
       wrote-placed (wrote-then w₁ w₂ (omega arith)) (omega arith)
+
+-- ---- heads
+
+module _ (h : Head) (d : List ℕ) (at : ℕ) where
+  pub no-head : length d < at + headSize → record { next = at; output = d } ≡ placed d at (headF .print h)
+  no-head l = none-placed d at (headF .print h) (omega (arith, head-length h))
+
+  pub head-placed : {e f : List ℕ} {a n : ℕ} → at + headSize ≤ length d
+      → record { next = a; output = e } ≡ placed d at (h .kind ∷ h .client ∷ h .server ∷ h .t ∷ [])
+      → record { next = n; output = f } ≡ placed e a (print4 (h .call)) → record { next = n; output = f } ≡ placed d at (headF .print h)
+  unfolding headF keep via seq byte number4
+  head-placed l p q =
+      wrote-placed (placed-then (h .kind ∷ h .client ∷ h .server ∷ h .t ∷ []) (print4 (h .call)) p q (omega arith)) (omega arith)
 
 -- ---- packets
 

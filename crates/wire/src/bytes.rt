@@ -2,7 +2,7 @@
 ghost use mathlib.Core.Path.{_≡_};
 ghost use lib.ListN.{drop, getD};
 ghost use Rattle.hmac.specs.Hmac.{tagSize};
-ghost use Rattle.format.specs.Format.{zeros, value2, value4};
+ghost use Rattle.format.specs.Format.{zeros, value2, value4, print2, print4};
 ghost use Rattle.protocol.specs.Values.{sameList, nonceSize};
 ghost use Rattle.format.specs.Reading.{bytesAt};
 ghost use Rattle.wire.specs.Places.{padded};
@@ -103,6 +103,25 @@ pub fn number4(s: &[u8]) -> u32
         + 65536 * (byte_at(s, 1) as u32)
         + 256 * (byte_at(s, 2) as u32)
         + (byte_at(s, 3) as u32)
+}
+
+// A number's 2 bytes, the highest first.
+pub fn bytes2(v: u16) -> [u8; crate::sizes::LENGTH]
+    ensures { λ r. ⌜ r ≡ print2 v ⌝ }
+{
+    [(v / 256) as u8, (v % 256) as u8]
+}
+
+// A number's 4 bytes, the highest first.
+pub fn bytes4(v: u32) -> [u8; crate::sizes::NUMBER]
+    ensures { λ r. ⌜ r ≡ print4 v ⌝ }
+{
+    [
+        (v / 16777216) as u8,
+        (v / 65536 % 256) as u8,
+        (v / 256 % 256) as u8,
+        (v % 256) as u8,
+    ]
 }
 
 // The first bytes as a tag, by value, followed by zeros where they are fewer.

@@ -3,7 +3,8 @@
 //
 // sizes   servers, digests_size, tags_size, candidate_size, fragment_size: lengths for a shelf's t (protocol's Values, erasure's Fragments)
 // kept    the places in the bytes that a client keeps (protocol's View)
-// bytes   all_zero: zeros; same: sameList; rest: drop; part: View's part; byte_at: getD; number2, number4: value2, value4; tag_of, nonce_of: padded
+// bytes   all_zero: zeros; same: sameList; rest: drop; part: View's part; byte_at: getD; number2, number4: value2, value4;
+//         bytes2, bytes4: print2, print4; tag_of, nonce_of: padded
 // values  stamp_at: stampAt, padded; rank_at: rank; head_at: headAt; CandidateHead::{BLANK, blank, new, is_blank, below};
 //         Stamp's own functions stand in crate protocol
 // fields  byte_field, number2_field, number4_field, code_field: Reads' FieldAs, a number and the cursor past it, or Broken where nothing is taken

@@ -44,19 +44,14 @@ pub fn put_byte(out: &mut [u8], at: usize, v: u8) -> usize
 pub fn put_number2(out: &mut [u8], at: usize, v: u16) -> usize
     ensures { λ r. ⌜ record { next = r; output = now (out .exit) } ≡ placed (now (out .entry)) at (print2 v) ⌝ }
 {
-    let bytes = [(v / 256) as u8, (v % 256) as u8];
+    let bytes = crate::bytes::bytes2(v);
     put(out, at, &bytes)
 }
 
 pub fn put_number4(out: &mut [u8], at: usize, v: u32) -> usize
     ensures { λ r. ⌜ record { next = r; output = now (out .exit) } ≡ placed (now (out .entry)) at (print4 v) ⌝ }
 {
-    let bytes = [
-        (v / 16777216) as u8,
-        (v / 65536 % 256) as u8,
-        (v / 256 % 256) as u8,
-        (v % 256) as u8,
-    ];
+    let bytes = crate::bytes::bytes4(v);
     put(out, at, &bytes)
 }
 
@@ -78,18 +73,15 @@ pub fn put_stamp(out: &mut [u8], at: usize, stamp: protocol::Stamp) -> usize
 pub fn put_head(out: &mut [u8], at: usize, head: protocol::Head) -> usize
     ensures { λ r. ⌜ record { next = r; output = now (out .exit) } ≡ placed (now (out .entry)) at (headF .print head) ⌝ }
 {
-    let n = head.call;
-    let bytes = [
-        head.kind,
-        head.client,
-        head.server,
-        head.t,
-        (n / 16777216) as u8,
-        (n / 65536 % 256) as u8,
-        (n / 256 % 256) as u8,
-        (n % 256) as u8,
-    ];
-    put(out, at, &bytes)
+    if out.len() < at {
+        return at;
+    }
+    if out.len() - at < crate::sizes::HEAD {
+        return at;
+    }
+    let first = [head.kind, head.client, head.server, head.t];
+    let a = put(out, at, &first);
+    put_number4(out, a, head.call)
 }
 
 // A packet of a head and of a body in two runs: refused with 15, or its bytes over the start of the buffer and their count.

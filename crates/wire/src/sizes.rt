@@ -12,7 +12,7 @@ pub const NONCE: usize = cluster::KEY;
 
 pub const HEAD: usize = 8;
 
-// Bytes of a stamp's number, of its number and writer, and of the stamp.
+// Bytes of a call's or a stamp's number, of a stamp's number and writer, and of the stamp.
 pub const NUMBER: usize = 4;
 
 pub const LABEL: usize = NUMBER + 1;

@@ -8,4 +8,4 @@ returns : tie.Need-returns
 returns c = search needs
 
 pub size-bytes-spec : {M : Type 1} → statement M
-size-bytes-spec = tie.close (tie.spec (λ c. omega (arith, c .pre)) (λ c. omega (arith, c .pre)) returns)
+size-bytes-spec = tie.close (tie.spec (λ c. omega (arith, c .pre)) (λ c κs. search needs) returns)
