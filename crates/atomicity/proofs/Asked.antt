@@ -71,7 +71,8 @@ module _ (s : System) (A : Account (StepIn s)) where
       → requests c (x ∷ xs) ≡ length (roundsBy (A .result x xs) (awaits (A .client xs c .hand))) * s .config .servers
   unfolding ByRounds
   requests-of h c x xs lent reply output e f g =
-      all-rounds (s .config .servers) (asked c (x ∷ xs)) (wentThrough s A c (x ∷ xs)) g ∙ ap (λ (ks : List ℕ). length ks * s .config .servers) (h c x xs lent reply output e f)
+      all-rounds (s .config .servers) (asked c (x ∷ xs)) (wentThrough s A c (x ∷ xs)) g
+      ∙ ap (λ (ks : List ℕ). length ks * s .config .servers) (h c x xs lent reply output e f)
 
 -- ---- no other request is made
 

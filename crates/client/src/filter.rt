@@ -44,7 +44,8 @@ fn tags_at(t: usize, n: usize) -> usize
 
 // The candidate of slot i with the tags in server b's reply.
 fn put_repair(bytes: &mut [u8], kept: &[u8], t: usize, i: usize, b: usize, n: usize)
-    requires { ⌜ (t ≤ topFaults) × ((i < mostServers) × ((1 ≤ b) × ((b ≤ mostServers) × ((n ≤ topLength) × ((length (now kept) ≡ keptSize) × (candidateSlot ≤ length (now bytes))))))) ⌝ }
+    requires { ⌜ (t ≤ topFaults) × ((i < mostServers) × ((1 ≤ b) × ((b ≤ mostServers) × ((n ≤ topLength)
+        × ((length (now kept) ≡ keptSize) × (candidateSlot ≤ length (now bytes))))))) ⌝ }
     ensures { λ _. ⌜ now (bytes .exit) ≡ put (now (bytes .entry)) 0 (repairBytes t (now (kept .entry)) i b n) ⌝ }
 {
     let name = wire::bytes::part(
@@ -76,9 +77,11 @@ fn repair_with(
     b: usize,
     content: &[u8],
 ) -> Answered
-    requires { ⌜ (t ≤ topFaults) × ((i < mostServers) × ((1 ≤ b) × ((b ≤ mostServers) × ((length (now kept) ≡ keptSize) × (length (now content) ≤ topLength))))) ⌝ }
+    requires { ⌜ (t ≤ topFaults) × ((i < mostServers) × ((1 ≤ b) × ((b ≤ mostServers)
+        × ((length (now kept) ≡ keptSize) × (length (now content) ≤ topLength))))) ⌝ }
     ensures { λ r. ⌜ (r ≡ record { answer = taken.More; call = repairCall call (length (now (content .entry))) })
-        × (now (kept .exit) ≡ put (put (now (kept .entry)) 0 (now (content .entry))) chosenPlace (repairBytes t (now (kept .entry)) i b (length (now (content .entry))))) ⌝ }
+        × (now (kept .exit) ≡ put (put (now (kept .entry)) 0 (now (content .entry))) chosenPlace
+        (repairBytes t (now (kept .entry)) i b (length (now (content .entry))))) ⌝ }
 {
     let mut bytes = [0u8; wire::kept::CANDIDATE_SLOT];
     put_repair(&mut bytes, kept, t, i, b, content.len());

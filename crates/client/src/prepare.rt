@@ -221,7 +221,8 @@ fn put_tagged(
 )
     requires { ⌜ (1 ≤ t) × ((t ≤ topFaults) × ((length (now kept) ≡ keptSize) × (length (now stamp) ≡ stampSize))) ⌝ }
     ensures { λ _. ⌜ now (kept .exit) ≡ offered t
-        (put (now (kept .entry)) chosenPlace (now (stamp .entry) ++ (nonce ++ tagRun (now (keys .entry)) (now (stamp .entry)) (sha256 nonce) (shelf t .servers))))
+        (put (now (kept .entry)) chosenPlace
+        (now (stamp .entry) ++ (nonce ++ tagRun (now (keys .entry)) (now (stamp .entry)) (sha256 nonce) (shelf t .servers))))
         (contentOf call (now (kept .entry))) (sha256 nonce) (tagRun (now (keys .entry)) (now (stamp .entry)) (sha256 nonce) (shelf t .servers)) ⌝ }
 {
     let digest = sha256::digest(&nonce);

@@ -33,7 +33,8 @@ fn nonce_for(k: u32) -> [u8; cluster::KEY]
 // A write of length copies of a byte; it uses a nonce only if it begins.
 fn write(work: &mut [u8], t: usize, begun: u32, client: usize, size: usize, fill: u8) -> Moved
     requires { ⌜ (((1 ≤ t) × (t ≤ topFaults)) × (length (now work) ≡ workSize)) × (begun < topNumber) ⌝ }
-    ensures { λ r. ⌜ StepsIn t (λ m. writeLine (drillShelf t) m begun client size fill) (now (work .entry)) (now (work .exit)) (r .shown) (r .begun) ⌝ }
+    ensures { λ r. ⌜ StepsIn t (λ m. writeLine (drillShelf t) m begun client size fill) (now (work .entry)) (now (work .exit))
+        (r .shown) (r .begun) ⌝ }
 {
     if cluster::outside(1, cluster::TOP_WRITER, client) {
         return Moved {

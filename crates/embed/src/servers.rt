@@ -77,7 +77,8 @@ pub extern "C" fn cendrulas_server_take(
     packet: &[u8],
     out: &mut [u8],
 ) -> u64
-    ensures { λ r. ⌜ record { answer = r; memory = now (memory .exit); output = now (out .exit) } ≡ takeBy (now (memory .entry)) (now (key .entry)) (now (packet .entry)) (now (out .entry)) ⌝ }
+    ensures { λ r. ⌜ record { answer = r; memory = now (memory .exit); output = now (out .exit) }
+        ≡ takeBy (now (memory .entry)) (now (key .entry)) (now (packet .entry)) (now (out .entry)) ⌝ }
 {
     if key.len() != cluster::KEY {
         return pack(cluster::WRONG_SIZE, 0, 0, 0);

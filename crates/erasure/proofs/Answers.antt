@@ -58,7 +58,8 @@ make-refused t server content x e h =
 pub make-accepted : (t server : ℕ) (content : List ℕ) → t ≤ topFaults → 1 ≤ server → server ≤ shelf t .servers → fragmentRefusal t server
     (length content) ≡ 0
     → let f = fragmentSize (shelf t .threshold) (length content) in
-    fragmentStep t server content ≡ record { number = 0; count = f; bytes = madeOf (shelf t .threshold) f content server ++ replicate (fragmentRoom - f) 0 }
+    fragmentStep t server content
+    ≡ record { number = 0; count = f; bytes = madeOf (shelf t .threshold) f content server ++ replicate (fragmentRoom - f) 0 }
 unfolding fragmentStep fragmentBytes fragment madeOf column shelf
 make-accepted t server content ht lo hi e =
     let k : ℕ = t + 1 in

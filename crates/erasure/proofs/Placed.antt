@@ -74,7 +74,8 @@ drop-zeros zero (suc f) h = absurd (omega (arith, h))
 drop-zeros (suc n) (suc f) h = let z : n - f ≡ suc n - suc f = omega arith in
     drop-zeros n f (omega (arith, h)) ∙ ap (λ (m : ℕ). replicate {A = ℕ} m 0) z
 
-pub made : (k f room z : ℕ) (w content starts at xs old out : List ℕ) (v : ℕ → ℕ) → old ≡ replicate room 0 → k ≤ width → f ≤ room → Weighs k xs v z → take k
+pub made : (k f room z : ℕ) (w content starts at xs old out : List ℕ) (v : ℕ → ℕ) → old ≡ replicate room 0 → k ≤ width
+    → f ≤ room → Weighs k xs v z → take k
     xs ≡ upTo k
     → ((j : ℕ) → j < k → getD w j 0 ≡ v j) → ((j : ℕ) → j < k → getD starts j 0 ≡ getD at j 0 * f) → ((j : ℕ) → j < width → getD at j 0 ≡ j)
     → ((j : ℕ) → getD content j 0 < 256) → RunWritten old out 0 f (sumAt k w content starts) → out ≡ madeOf k f content z ++ replicate (room - f) 0
@@ -112,7 +113,8 @@ copied f j m room content old out eo fr hm end wr =
     entry : (i : ℕ) → i < f → Dec (i < m) → getD out (0 + i) 0 ≡ getD content (j * f + i) 0
     entry i h (yes b) = wr .here i b
     entry i h (no nb) =
-        ap (λ (x : ℕ). getD out x 0) (zero-add i) ∙ wr .above i (omega arith) ∙ ap (λ (l : List ℕ). getD l i 0) eo ∙ getD-replicate room i 0 0 (omega arith)
+        ap (λ (x : ℕ). getD out x 0) (zero-add i) ∙ wr .above i (omega arith) ∙ ap (λ (l : List ℕ). getD l i 0) eo
+        ∙ getD-replicate room i 0 0 (omega arith)
         ∙ sym (List·getD-eq-default content 0 (all (decLt m (length content - j * f)) i h (omega arith)))
 
 -- is the fragment at its point

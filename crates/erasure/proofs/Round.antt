@@ -85,8 +85,8 @@ module _ (t : ℕ) (content : List ℕ) (faults : (1 ≤ t) × (t ≤ topFaults)
       (ap not (within-in 1 s server lo hi))
       (ap not (within-in leastLength topLength (length content) (bytes .0) (bytes .1))) in
       let done : FragmentOutcome = record { number = 0; count = f; bytes = fragmentBytes t server content ++ replicate (fragmentRoom - f) 0 } in
-      ap (λ (x : ℕ). (let o : FragmentOutcome = onRefusal x done (record { number = x; count = 0; bytes = replicate fragmentRoom 0 }) in take (o .count)
-      (o .bytes))) e
+      ap (λ (x : ℕ). (let o : FragmentOutcome = onRefusal x done (record { number = x; count = 0; bytes = replicate fragmentRoom 0 }) in
+      take (o .count) (o .bytes))) e
       ∙ take-at (fragmentBytes t server content) (replicate (fragmentRoom - f) 0) f (made-length server)
 
   module _ (servers ds output : List ℕ) (numbers : (i : ℕ) → i < length servers → (1 ≤ getD servers i 0) × (getD servers i 0 ≤ s))

@@ -67,7 +67,8 @@ fn answer(
     out: &mut [u8],
 ) -> cluster::Outcome
     requires { ⌜ 1 ≤ opened .server ⌝ }
-    ensures { λ r. ⌜ AnswersAny (now (memory .entry)) key (now (packet .entry)) (now (out .entry)) head opened (record { result = r; memory = now (memory .exit); output = now (out .exit) }) ⌝ }
+    ensures { λ r. ⌜ AnswersAny (now (memory .entry)) key (now (packet .entry)) (now (out .entry)) head opened
+        (record { result = r; memory = now (memory .exit); output = now (out .exit) }) ⌝ }
 {
     let kind = head.kind;
     match kind {
@@ -87,7 +88,8 @@ pub fn take(
     packet: &[u8],
     out: &mut [u8],
 ) -> cluster::Outcome
-    ensures { λ r. ⌜ record { result = r; memory = now (memory .exit); output = now (out .exit) } ≡ serverTake real (now (memory .entry)) (now (key .entry)) (now (packet .entry)) (now (out .entry)) ⌝ }
+    ensures { λ r. ⌜ record { result = r; memory = now (memory .exit); output = now (out .exit) }
+        ≡ serverTake real (now (memory .entry)) (now (key .entry)) (now (packet .entry)) (now (out .entry)) ⌝ }
 {
     if memory.len() != cluster::MEMORY {
         return cluster::refused(cluster::refusals::MEMORY_SIZE);

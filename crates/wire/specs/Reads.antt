@@ -186,8 +186,8 @@ ZeroAs n s at r =
 abbrev pub ManyAs : Config → ℕ → List ℕ → ℕ → Run → Type 0
 ManyAs c n s at r =
     let a = runAnswer r in
-    ByNumber 7 (Past (many n (candidateF c)) s at (candidateList c n (drop at s)) (a .next) (candidateSize c * n)) (Stops (many n (candidateF c)) s at)
-    (a .number)
+    ByNumber 7 (Past (many n (candidateF c)) s at (candidateList c n (drop at s)) (a .next) (candidateSize c * n))
+    (Stops (many n (candidateF c)) s at) (a .number)
 
 -- ---- heads, bodies, packets
 

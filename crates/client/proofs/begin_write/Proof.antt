@@ -253,7 +253,13 @@ module _ {M : Type 1} (𝓤 : URA M) (H : Heap 𝓤) (A : Atoms 𝓤) (W : Given
         mut-tells (named 0) (κs .0) T.the-row,
         (
           mut-tells (named 1) (κs .1 .0) (Array u8 tt 24576),
-          (LL.tells P.the-type P′.the-laws, (shr-slice-tells (named 2) (κs .1 .1 .0) u8, (shr-tells (named 3) (κs .1 .1 .1 .0) (Array u8 tt 32), tt))),
+          (
+            LL.tells P.the-type P′.the-laws,
+            (
+              shr-slice-tells (named 2) (κs .1 .1 .0) u8,
+              (shr-tells (named 3) (κs .1 .1 .1 .0) (Array u8 tt 32), tt),
+            ),
+          ),
         ),
       ))
       (λ κs qs bounds a g are. via 𝓤 _ (fst∗ 𝓤 _ (emp 𝓤))

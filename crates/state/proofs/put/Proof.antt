@@ -23,7 +23,8 @@ returns-2 c =
     let at-numbers-of = at-put .before .before .before .before .before in
     let at-start = at-numbers-of .before .before .before in
     let a = at-start .args in
-    state-put (a .bytes .now) (a .call) (wide at-start) (omega arith) (rw (sym (at-numbers-of .numbers-of .ensures)) (at-put .put .ensures)) (c .before .before .put2 .ensures)
+    state-put (a .bytes .now) (a .call) (wide at-start) (omega arith)
+    (rw (sym (at-numbers-of .numbers-of .ensures)) (at-put .put .ensures)) (c .before .before .put2 .ensures)
 
 pub put-spec : {M : Type 1} → statement M
 put-spec = tie.close (tie.spec returns (λ c κs. search needs) (λ c. search needs) (λ c κs. search needs) (λ c. search needs) (λ c κs. search needs)

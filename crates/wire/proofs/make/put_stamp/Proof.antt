@@ -16,7 +16,9 @@ returns : tie.Need-returns
 returns c = let a = c .before .before .args in no-stamp (a .stamp) (a .out .now) (a .at) (tag-size (c .before .before)) (omega arith)
 
 returns-2 : tie.Need-returns-2
-returns-2 c = let a = c .before .before .before .args in no-stamp (a .stamp) (a .out .now) (a .at) (tag-size (c .before .before .before)) (omega arith)
+returns-2 c =
+    let a = c .before .before .before .args in
+    no-stamp (a .stamp) (a .out .now) (a .at) (tag-size (c .before .before .before)) (omega arith)
 
 returns-3 : tie.Need-returns-3
 returns-3 c =

@@ -27,7 +27,8 @@ returns-2 c =
     let at-blank = c .before .before .before .before in
     let at-else1 = at-blank .before .before in
     let b = at-else1 .before .is-blank in
-    c .same .ensures ∙ ap (λ (h : CandidateHead). sameList (at-else1 .before .before .before .args .self .nonce) (h .nonce)) (at-blank .blank .ensures)
+    c .same .ensures
+    ∙ ap (λ (h : CandidateHead). sameList (at-else1 .before .before .before .args .self .nonce) (h .nonce)) (at-blank .blank .ensures)
     ∙ by-nonce (at-else1 .before .before .before .args .self) (b .result) (b .ensures) (not-false (b .result) (at-else1 .if1 .left))
 
 pub is-blank-spec : {M : Type 1} → statement M
