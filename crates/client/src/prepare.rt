@@ -220,8 +220,7 @@ fn put_tagged(
     nonce: [u8; cluster::KEY],
 )
     requires { ⌜ (1 ≤ t) × ((t ≤ topFaults) × ((length (now kept) ≡ keptSize) × (length (now stamp) ≡ stampSize))) ⌝ }
-    ensures { λ _. ⌜ now (kept .exit) ≡ offered t
-        (put (now (kept .entry)) chosenPlace
+    ensures { λ _. ⌜ now (kept .exit) ≡ offered t (put (now (kept .entry)) chosenPlace
         (now (stamp .entry) ++ (nonce ++ tagRun (now (keys .entry)) (now (stamp .entry)) (sha256 nonce) (shelf t .servers))))
         (contentOf call (now (kept .entry))) (sha256 nonce) (tagRun (now (keys .entry)) (now (stamp .entry)) (sha256 nonce) (shelf t .servers)) ⌝ }
 {
