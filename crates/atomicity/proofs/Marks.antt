@@ -149,11 +149,9 @@ module _ (s : System) where
   mark-who xs m i = ap (λ (a : Stamp). a .writer) (mark-form xs m i)
 
   pub mark-checks : (xs : Run s) (m : Stamped) → In m (marks s xs) → checks (s .P) (s .writers) (m .stamp) ≡ true
-  unfolding checks isBlank stampOf
-  mark-checks xs m i = subst (λ (a : Stamp).
-      (not (eqb (a .number) 0) && sameList (a .tag) (s .P .tag (s .writers) (stampMessage (a .number) (a .writer)))) ≡ true) (sym (mark-form xs m i))
-      (and-intro _ _ (not-f _ (ne-eqb (m .stamp .number) 0 (λ e. omega (arith, e, mark-num xs m i))))
-      (same-refl (s .P .tag (s .writers) (stampMessage (m .stamp .number) (m .client)))))
+  unfolding checks stampOf
+  mark-checks xs m i = subst (λ (a : Stamp). sameList (a .tag) (s .P .tag (s .writers) (stampMessage (a .number) (a .writer))) ≡ true)
+      (sym (mark-form xs m i)) (same-refl (s .P .tag (s .writers) (stampMessage (m .stamp .number) (m .client))))
 
   pub marks-up : (m : Stamped) (x : StepIn s) (xs : Run s) → In m (marks s xs) → In m (marks s (x ∷ xs))
   unfolding marks

@@ -46,9 +46,9 @@ module _ (K : Setup) where
   highSoFar (filtering cs g) = 0
   highSoFar (repairing d r) = 0
 
-  -- a number that clock takes over: its stamp's tag checks, and it is above the highest so far
+  -- a number that clock takes over: it is above the highest so far, and its stamp's tag checks
   abbrev pub Rises : ℕ → Stamp → Bool
-  Rises m a = checks (K .s .P) (K .s .writers) a && ltb m (a .number)
+  Rises m a = ltb m (a .number) && checks (K .s .P) (K .s .writers) a
 
   pub higher-low : (N m : ℕ) (a : Stamp) → m ≤ N → (Rises m a ≡ true → a .number ≤ N) → higher (K .s .P) (K .s .writers) m a ≤ N
   unfolding higher

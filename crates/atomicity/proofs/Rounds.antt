@@ -16,7 +16,7 @@ use Rattle.protocol.specs.Rules.{ByServer, leader, tagsIn}
 use Rattle.protocol.specs.Client.{Client, Hand, Turn, idle, clocking, storing, completing, collecting, filtering, repairing, accepted}
 use Rattle.protocol.specs.Client.{update, judge, found, onto, higher, checks, stampIn, codeIn}
 use Rattle.atomicity.specs.Steps.{System}
-use Rattle.atomicity.proofs.Util.{cond-both, and-right}
+use Rattle.atomicity.proofs.Util.{cond-both, and-left}
 use Rattle.atomicity.proofs.Model.{updated, turn, preparedFor}
 
 -- hand and last stamp's number before, and after
@@ -33,10 +33,10 @@ pub data Next (s : System) (c : ℕ) : Hand → ℕ → Hand → ℕ → Type 0 
 
 pub higher-le : (s : System) (k : ℕ) (a : Stamp) → k ≤ higher (s .P) (s .writers) k a
 unfolding higher
-higher-le s k a = go (checks (s .P) (s .writers) a && ltb k (a .number)) refl
+higher-le s k a = go (ltb k (a .number) && checks (s .P) (s .writers) a) refl
   where
-    go : (b : Bool) → (checks (s .P) (s .writers) a && ltb k (a .number)) ≡ b → k ≤ cond b (a .number) k
-    go true e = omega (arith, ltb-true k (a .number) (and-right (checks (s .P) (s .writers) a) _ e))
+    go : (b : Bool) → (ltb k (a .number) && checks (s .P) (s .writers) a) ≡ b → k ≤ cond b (a .number) k
+    go true e = omega (arith, ltb-true k (a .number) (and-left (ltb k (a .number)) _ e))
     go false e = le-refl k
 
 -- ---- a reply that is let in

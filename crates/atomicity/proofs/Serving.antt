@@ -15,7 +15,8 @@ use Rattle.cluster.specs.Refusals.{onRefusal}
 use Rattle.cluster.proofs.Tests.{inside, passes}
 use Rattle.protocol.specs.Packet.{Packet, decode}
 use Rattle.protocol.specs.Rules.{upd}
-use Rattle.protocol.specs.Server.{Server, memoryOf, Stepped, barred, replyTo, serverRefusal, serverStep, answered}
+use Rattle.protocol.specs.Server.{Server, memoryOf, barred, replyTo, serverRefusal}
+use Rattle.protocol.proofs.ServerStep.{Stepped, serverStep, answered}
 use Rattle.protocol.specs.Client.{Client, Result, Made, awaits, isIdle, made, badFaults, badClient, ofWrite, accepted}
 use Rattle.protocol.specs.Client.{makeRefusal, makeStep}
 use Rattle.runs.specs.Runs.{Step, write, read, make, take-reply, give-up, serve, resultOf}

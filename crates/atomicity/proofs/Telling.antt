@@ -39,8 +39,8 @@ use Rattle.cluster.proofs.Tests.{untrue}
 
 pub higher-checked : (s : System) (k : ℕ) (a : Stamp) → checks (s .P) (s .writers) a ≡ true → a .number ≤ higher (s .P) (s .writers) k a
 unfolding higher
-higher-checked s k a h = at-cond (checks (s .P) (s .writers) a && ltb k (a .number)) _ k (λ (v : ℕ). a .number ≤ v) (λ e. le-refl _)
-    (λ e. ltb-false k (a .number) (untrue _ (λ z. clash (and-intro _ _ h z) e)))
+higher-checked s k a h = at-cond (ltb k (a .number) && checks (s .P) (s .writers) a) _ k (λ (v : ℕ). a .number ≤ v) (λ e. le-refl _)
+    (λ e. ltb-false k (a .number) (untrue _ (λ z. clash (and-intro _ _ z h) e)))
 
 module _ (K : Setup) where
   -- one step of server j, on the request q, with the reply x, in c's present round

@@ -120,7 +120,7 @@ module _ (s : System) where
   clientChecks idle x = []
   clientChecks (clocking r n h) x =
       let a = stampIn x in
-      cond (checks (s .P) (s .writers) a && ltb h (a .number)) ((s .writers, stampMessage (a .number) (a .writer)) ∷ []) []
+      cond (ltb h (a .number) && checks (s .P) (s .writers) a) ((s .writers, stampMessage (a .number) (a .writer)) ∷ []) []
   clientChecks (storing d h) x = []
   clientChecks (completing d) x = []
   clientChecks (collecting g) x = []

@@ -17,7 +17,8 @@ use Rattle.protocol.specs.Packet.{Body, Packet, kindOf, store, storeReply, coll
 use Rattle.protocol.specs.Memory.{lookup}
 use Rattle.protocol.specs.Primitives.{Primitives, stampMessage, candidateMessage}
 use Rattle.protocol.specs.Rules.{ByServer, upd, nobody, countTo, any, keep, first, gather, lower, live, fits, agrees, leads, leader, highest, choice, parts, restoredBy}
-use Rattle.protocol.specs.Server.{Server, blankServer, onStore, raise, byHistory, byTag, valid, best, act, barred, replyTo, serverRefusal, answered, serverStep}
+use Rattle.protocol.specs.Server.{Server, blankServer, onStore, raise, byHistory, byTag, valid, best, act, barred, replyTo, serverRefusal}
+use Rattle.protocol.proofs.ServerStep.{answered, serverStep}
 use Rattle.protocol.specs.Client.{Client, Result, more, written, gave, newClient, awaits, isIdle, stampOf, tagsOf, candidateMade, shareMade, sharesMade, prepared, made, onto, checks, higher, isFull, found, judge, update, tooHigh}
 use Rattle.protocol.specs.Client.{writeRefusal, readRefusal, makeRefusal, takeRefusal, begun, writeStep, readStep, makeStep, turnOn, highAt, takeStep}
 

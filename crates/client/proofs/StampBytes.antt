@@ -44,20 +44,20 @@ message (p ∷ q ∷ r ∷ s ∷ w ∷ d) b h = sym (ap (λ (x : List ℕ). x ++
 module _ (writers d : List ℕ) (high : ℕ) where
   pub stays-low : stampAt d .number ≤ high → higher real writers high (stampAt d) ≡ high
   unfolding higher
-  stays-low h = rw (le-ltb high (stampAt d .number) h, and-false (checks real writers (stampAt d)))
+  stays-low h = rw (le-ltb high (stampAt d .number) h)
 
   module _ (bytes : Bytes d) (long : 5 ≤ length d) (up : high < stampAt d .number) where
     same-checks : checks real writers (stampAt d) ≡ sameList (bytesAt d 5 tagSize) (tagOf writers (bytesAt d 0 5))
-    unfolding checks isBlank real stampAt
-    same-checks = rw (ne-eqb (stampAt d .number) 0 (omega arith), message d bytes long)
+    unfolding checks real stampAt
+    same-checks = rw (message d bytes long)
 
     pub raised : sameList (bytesAt d 5 tagSize) (tagOf writers (bytesAt d 0 5)) ≡ true → higher real writers high (stampAt d) ≡ stampAt d .number
     unfolding higher
-    raised e = rw (same-checks, e, lt-ltb high (stampAt d .number) up)
+    raised e = rw (lt-ltb high (stampAt d .number) up, same-checks, e)
 
     pub not-raised : sameList (bytesAt d 5 tagSize) (tagOf writers (bytesAt d 0 5)) ≡ false → higher real writers high (stampAt d) ≡ high
     unfolding higher
-    not-raised e = rw (same-checks, e)
+    not-raised e = rw (lt-ltb high (stampAt d .number) up, same-checks, e)
 
 -- ---- runs that are written one entry after another
 

@@ -1,4 +1,4 @@
--- The ranges and sizes of document 01. Each number stands here once.
+-- The ranges and sizes of document 01 that several crates need. Each stands here once.
 use mathlib.Core.Bool.{Bool, _&&_}
 use Prim.Native.Nat.{ℕ}
 use lib.Dec.{leb}

@@ -22,7 +22,8 @@ use Rattle.protocol.specs.Packet.{clock, clockReply, store, storeReply, complet
 use Rattle.protocol.specs.Packet.{collect, collectReply, filter, filterReply, repair, repairReply}
 use Rattle.protocol.specs.Memory.{Memory, memoryF, decodeMemory, encodeMemory, lookup}
 use Rattle.protocol.specs.Primitives.{Primitives}
-use Rattle.protocol.specs.Server.{Server, Acted, Stepped, memoryOf, raise, onStore, valid, best, act, serverRefusal, answered, serverStep}
+use Rattle.protocol.specs.Server.{Server, Acted, memoryOf, raise, onStore, valid, best, act, serverRefusal}
+use Rattle.protocol.proofs.ServerStep.{Stepped, answered, serverStep}
 use Rattle.protocol.specs.ServerBytes.{serverIn, turnedDown, actedOn, serverTake}
 use Rattle.protocol.specs.View.{stampAt}
 use Rattle.format.proofs.Answers.{at-cond, no-some}

@@ -169,7 +169,7 @@ module _ (H : Hashing) where
   reads =
       record {
         clock-2 = talk-of H w11 2 2 ours (holding H 2) (clockReply (cand H .stamp)) _ refl (λ own. (refl, refl)) tt (stamp-bytes H) refl
-            (ap (λ (q : Bool). goes 0 two (clocking content2 nonce2 (cond (q && true) 1 0))) (stamp-checks H));
+            (ap (λ (q : Bool). goes 0 two (clocking content2 nonce2 (cond q 1 0))) (stamp-checks H));
         collect-1 = lie-of H w15 9 others (collectReply (spoilt H)) _ refl unowned (spoilt-ok H) (spoilt-bytes H) refl;
         again = refl;
         collect-2 = talk-of H w17 9 2 others (holding H 2) (collectReply (cand H)) _ refl unowned tt (cand-bytes H) refl refl;

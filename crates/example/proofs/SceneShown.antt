@@ -115,7 +115,7 @@ module _ (H : Hashing) where
   -- the reply's stamp has a number above the highest so far, and its tag checks
   pub tag-checks : clientChecks (s H) (w11 H .client 2 .hand) (clockReply (cand H .stamp)) ≡ (s H .writers, stampMessage 1 1) ∷ []
   unfolding w11 upd begun clientChecks cand candidateMade stampOf
-  tag-checks = ap (λ (q : Bool). cond (q && true) ((s H .writers, stampMessage 1 1) ∷ []) []) (stamp-checks H)
+  tag-checks = ap (λ (q : Bool). cond q ((s H .writers, stampMessage 1 1) ∷ []) []) (stamp-checks H)
 
   p12 : Play H true x12 (w12 H) (secondWrite false ∷ wrote ∷ [])
   unfolding x12 w0 w1 w2 w3 w4 w5 w6 w7 w8 w9 w10 w11 w12 upd begun awaits made change judged best below flat stampedFrom compared All Ever x11

@@ -96,7 +96,7 @@ module _ (H : Hashing) where
   pub p2 : Play H false x2 (w2 H) (firstWrite none none ∷ [])
   unfolding x1 x2 w0 w1 w2 upd begun awaits change clientChecks flat stampedFrom compared All highStamp
   p2 = play-lie H (w1 H) 1 ours _ _ (writes H .clock-1) false x1 _ p1
-      (subst (λ (q : Bool). All (λ kb. Made H kb x1) (cond (q && true) ((s H .writers, stampMessage 99999998 2) ∷ []) []))
+      (subst (λ (q : Bool). All (λ kb. Made H kb x1) (cond q ((s H .writers, stampMessage 99999998 2) ∷ []) []))
       (sym (high-unchecked H)) tt) tt
 
   pub p3 : Play H false x3 (w3 H) (firstWrite none none ∷ [])

@@ -122,7 +122,7 @@ module _ (H : Hashing) where
   writes =
       record {
         clock-1 = lie-of H w1 1 ours _ _ refl (λ own. (refl, refl)) (high-ok H) (high-bytes H)
-            (ap (λ (q : Bool). goes 0 one (clocking content1 nonce1 (cond (q && true) 99999998 0))) (high-unchecked H));
+            (ap (λ (q : Bool). goes 0 one (clocking content1 nonce1 (cond q 99999998 0))) (high-unchecked H));
         clock-2 = talk-of H w2 1 2 ours (blankOne H) _ _ refl (λ own. (refl, refl)) tt blank-bytes refl refl;
         clock-3 = talk-of H w3 1 3 ours (blankOne H) _ _ refl (λ own. (refl, refl)) tt blank-bytes refl refl;
         store-1 = lie-of H w4 1 ours (storeReply 0) _ refl (λ own. (refl, refl)) (refl, (omega arith, omega arith)) (omega arith) refl;

@@ -15,7 +15,8 @@ use Rattle.format.specs.Format.{Bytes}
 use Rattle.protocol.specs.Values.{Candidate}
 use Rattle.protocol.specs.Packet.{Body, Packet, PacketOk, kindOf, encode, decode}
 use Rattle.protocol.specs.Rules.{upd}
-use Rattle.protocol.specs.Server.{memoryOf, Server, Acted, Stepped, blankServer, act, answered, replyTo, serverRefusal, serverStep}
+use Rattle.protocol.specs.Server.{memoryOf, Server, Acted, blankServer, act, replyTo, serverRefusal}
+use Rattle.protocol.proofs.ServerStep.{Stepped, answered, serverStep}
 use Rattle.protocol.specs.Client.{awaits, Made as Making, accepted, made, makeRefusal, makeStep}
 use Rattle.protocol.specs.ClientBytes.{keyOf}
 use Rattle.protocol.specs.View.{keptSize}

@@ -14,6 +14,7 @@ pub mod Marks
 pub mod Slots
 pub mod Kept
 pub mod Acts
+pub mod ServerStep
 pub mod ServerLift
 pub mod HandOk
 pub mod PacketRoom

@@ -19,7 +19,8 @@ use Rattle.protocol.specs.Packet.{Packet, Body, BodyOk, PacketOk, packet
 use Rattle.protocol.specs.Packet.{clock, clockReply, store, storeReply, complete, completeReply, collect, collectReply, filter, filterReply, repair, repairReply}
 use Rattle.protocol.specs.Memory.{Memory, MemoryOk, decodeMemory, encodeMemory, blankMemory}
 use Rattle.protocol.specs.Primitives.{Primitives}
-use Rattle.protocol.specs.Server.{Server, memoryOf, Acted, act, barred, Stepped, replyTo, serverRefusal, answered, serverStep, blankServer}
+use Rattle.protocol.specs.Server.{Server, memoryOf, Acted, act, barred, replyTo, serverRefusal, blankServer}
+use Rattle.protocol.proofs.ServerStep.{Stepped, answered, serverStep}
 use Rattle.protocol.specs.ServerBytes.{Served, serverIn, turnedDown, actedOn, serverTake}
 use Rattle.format.specs.Reading.{over}
 use Rattle.format.proofs.Answers.{no-some}

@@ -38,7 +38,7 @@ module _ (P : Primitives) (law : Lengths P) (s : Config) (f : Fitting s) (client
     (cl : Client) (last : cl .last ≤ topNumber) where
   higher-most : (m : ℕ) (a : Stamp) → m ≤ topNumber → anyStampF .Ok a → higher P writers m a ≤ topNumber
   unfolding higher
-  higher-most m a h k = at-cond (checks P writers a && ltb m (a .number)) (a .number) m (λ z. z ≤ topNumber) (λ e. number-most a k) (λ e. h)
+  higher-most m a h k = at-cond (ltb m (a .number) && checks P writers a) (a .number) m (λ z. z ≤ topNumber) (λ e. number-most a k) (λ e. h)
 
   abbrev Good : Turn → Type 0
   Good u = ClientOk s client (u .client)

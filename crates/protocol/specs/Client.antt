@@ -9,7 +9,7 @@ use Rattle.cluster.specs.Config.{Config, quorum}
 use Rattle.cluster.specs.Ranges.{within, topFaults, topWriter, topClient, topNumber, leastLength, topLength, packetRoom, contentRoom}
 use Rattle.cluster.specs.Refusals.{refuse, firstOf, onRefusal}
 use Rattle.protocol.specs.declared.Stamp.{Stamp}
-use Rattle.protocol.specs.Values.{Candidate, Held, sameList, isBlank, labelOf, blankCandidate, noHeld, isSome, ofSome}
+use Rattle.protocol.specs.Values.{Candidate, Held, sameList, labelOf, blankCandidate, noHeld, isSome, ofSome}
 use Rattle.protocol.specs.Packet.{Body, Packet, kindOf}
 use Rattle.protocol.specs.Primitives.{Primitives, stampMessage}
 use Rattle.protocol.specs.Rules.{ByServer, upd, nobody, countTo, gather, live, choice, leader, restoredBy, tagsIn}
@@ -22,19 +22,21 @@ unfoldable pub use Rattle.protocol.specs.Pending.{awaits, isIdle, stampO
 unfoldable pub onto : Client → ByServer Bool → Hand → Client
 onto cl m h = record { calls = cl .calls; last = cl .last; marks = m; hand = h }
 
--- line 100: the tag of a stamp checks; the blank stamp has none
+-- line 100: the tag of a stamp checks (verify)
 unfoldable pub checks : Primitives → List ℕ → Stamp → Bool
-checks P writers a = not (isBlank a) && sameList (a .tag) (P .tag writers (stampMessage (a .number) (a .writer)))
+checks P writers a = sameList (a .tag) (P .tag writers (stampMessage (a .number) (a .writer)))
 
+-- line 100. Amended: by the number alone, which is all that the new stamp takes over
 unfoldable pub higher : Primitives → List ℕ → ℕ → Stamp → ℕ
-higher P writers h a = cond (checks P writers a && ltb h (a .number)) (a .number) h
+higher P writers h a = cond (ltb h (a .number) && checks P writers a) (a .number) h
 
--- lines 94, 105, 108, 159: S - t servers have replied
+-- lines 94, 105, 108, 159, and 59 and 66 of Algorithm 3: S - t servers have replied
 unfoldable pub isFull : Config → ByServer Bool → Bool
 isFull s m = leb (quorum s) (countTo (s .servers) m)
 
 module _ (P : Primitives) (s : Config) (client : ℕ) (writers : List ℕ) (keys : ByServer (List ℕ)) where
-  -- lines 143 to 147: c is chosen, server b leads its group; with other tags than the group's it is repaired first, and the content waits
+  -- lines 143 to 145, 147 and 154 to 158: c is chosen, and server b leads its group. With other tags than the group's it is repaired first;
+  -- the content waits
   unfoldable pub found : Client → ByServer Bool → ByServer Held → Candidate → ℕ → Turn
   found cl m g c b =
       let content = restoredBy P s m g c b (g b .share) in
@@ -42,7 +44,7 @@ module _ (P : Primitives) (s : Config) (client : ℕ) (writers : List ℕ) (keys
       cond (sameList tags (c .tags)) (record { client = onto cl nobody idle; result = gave (labelOf (c .stamp)) content })
       (record { client = onto cl nobody (repairing (record { stamp = c .stamp; nonce = c .nonce; tags = tags }) content); result = more })
 
-  -- lines 142 to 146, of those still in the list and of the choice
+  -- lines 141, 142 and 146, of those still in the list and of the choice; without a choice the wait of line 66 goes on
   unfoldable pub judge : Client → ByServer Bool → List Candidate → ByServer Held → List Candidate → Option Candidate → Turn
   judge cl m cs g [] o = record { client = onto cl nobody idle; result = gaveBlank }
   judge cl m cs g (l ∷ ls) none = record { client = onto cl m (filtering cs g); result = more }
@@ -141,7 +143,7 @@ takeRefusal s client o calls kind replied high room =
 unfoldable pub begun : Client → Hand → Client
 begun cl h = record { calls = suc (cl .calls); last = cl .last; marks = nobody; hand = h }
 
--- lines 83, 84, 93
+-- lines 83 to 86, 92 and 93. Amended: the nonce of line 86 is given at the begin
 unfoldable pub writeStep : Config → ℕ → Client → List ℕ → List ℕ → Turn
 writeStep s client cl r n =
     let k = writeRefusal s client (length r) (not (isIdle (cl .hand))) (cl .calls) in

@@ -106,7 +106,7 @@ module _ (P : Primitives) (s : Config) (client : ℕ) (writers : List ℕ) (keys
   unfoldable pub candidateMade : List ℕ → ℕ → Candidate
   candidateMade nonce k = record { stamp = stampOf k; nonce = nonce; tags = tagsOf (stampOf k) nonce }
 
-  -- what store sends to server b (lines 102 to 104)
+  -- what store sends to server b (lines 87, 102 to 104)
   unfoldable pub shareMade : List ℕ → List ℕ → ℕ → ℕ → Share
   shareMade r nonce k b =
       record {
@@ -123,7 +123,7 @@ module _ (P : Primitives) (s : Config) (client : ℕ) (writers : List ℕ) (keys
   unfoldable pub prepared : List ℕ → List ℕ → ℕ → Hand
   prepared r nonce k = storing (candidateMade nonce k) (sharesMade r nonce k)
 
--- ---- the packet of the round
+-- ---- the packet of the round: lines 93, 104, 107, 140, 141, 158
 
 abbrev pub request : Hand → ℕ → Body
 request idle b = collect

@@ -39,7 +39,7 @@ unfoldable pub first : {A : Type 0} → (A → Bool) → List A → Option A
 first p [] = none
 first p (x ∷ xs) = cond (p x) (some x) (first p xs)
 
--- line 150. Amended: the set C is a list by server number, equal ones once; this is that of servers 1 to n
+-- line 150. Amended: the set C is a list by server number, with equal ones once as in a set; this is that of servers 1 to n
 unfoldable pub gather : ByServer Candidate → ℕ → List Candidate
 gather g zero = []
 gather g (suc n) =

@@ -8,14 +8,14 @@ use lib.Dec.{leb, ltb, eqb}
 use lib.ListN.{length}
 use Rattle.cluster.specs.Config.{Config}
 use Rattle.cluster.specs.Ranges.{capacity, topWriter, packetRoom}
-use Rattle.cluster.specs.Refusals.{refuse, firstOf, onRefusal}
+use Rattle.cluster.specs.Refusals.{refuse, firstOf}
 use Rattle.hmac.specs.Hmac.{tagSize}
 use Rattle.protocol.specs.Values.{Candidate, Share, Write, sameList, nth, below, blankCandidate, isSome, ofSome}
 use Rattle.protocol.specs.Packet.{Body, Packet, kindOf, clock, clockReply, store, storeReply, complete, completeReply, collect, collectReply, filter, filterReply, repair, repairReply}
 use Rattle.protocol.specs.Memory.{Memory, lookup}
 use Rattle.protocol.specs.Primitives.{Primitives, candidateMessage}
 
--- lines 110, 111: lc, and Hist in order of arrival (document 01: at most 32 stored writes)
+-- lines 110, 111: lc and Hist. Amended: Hist is in order of arrival and has at most 32 stored writes
 pub record Server : Type 0 where
   pub latest : Candidate
   pub history : List Write
@@ -85,7 +85,7 @@ module _ (P : Primitives) (s : Config) (key : List ℕ) (number : ℕ) where
   act v (filterReply x) = record { server = v; reply = completeReply }
   act v repairReply = record { server = v; reply = completeReply }
 
--- refusal 9 of a packet from client c: lines 112, 114 and 117 take requests of writers only, and a write only from its stamp's writer
+-- refusal 9 of a packet from client c: lines 112, 114 and 117 take requests of writers only. Amended: and a write only from its stamp's writer
 unfoldable pub barred : ℕ → Body → Bool
 barred c clock = ltb topWriter c
 barred c (store w) = ltb topWriter c || not (eqb (w .stamp .writer) c)
@@ -100,7 +100,7 @@ barred c (collectReply x) = true
 barred c (filterReply x) = true
 barred c repairReply = true
 
--- ---- the whole step: a packet that breaks the layout is `none`, and room is the output buffer's length
+-- ---- reply and refusals: a packet that breaks the layout is `none`, and room is the output buffer's length
 
 -- the reply to a packet, of the same call
 unfoldable pub replyTo : Packet → Body → Packet
@@ -115,19 +115,3 @@ serverRefusal sized m o room =
     ∷ refuse 8 (ofSome m (λ k. ofSome o (λ p. not (eqb (p .head .t) (k .t) && eqb (p .head .server) (k .server)))))
     ∷ refuse 9 (ofSome o (λ p. barred (p .head .client) (p .body)))
     ∷ refuse 15 (ltb room packetRoom) ∷ [])
-
-pub record Stepped : Type 0 where
-  -- 0, or the refusal
-  pub number : ℕ
-  pub server : Server
-  pub reply : Option Packet
-
-module _ (P : Primitives) (s : Config) (key : List ℕ) (number : ℕ) (v : Server) (room : ℕ) where
-  unfoldable pub answered : Option Packet → Stepped
-  answered none = record { number = 0; server = v; reply = none }
-  answered (some p) = let a = act P s key number v (p .body) in record { number = 0; server = a .server; reply = some (replyTo p (a .reply)) }
-
-  unfoldable pub serverStep : Option Packet → Stepped
-  serverStep o =
-      let n = serverRefusal true (some (memoryOf (s .t) number v)) o room in
-      onRefusal n (answered o) (record { number = n; server = v; reply = none })

@@ -49,7 +49,7 @@ runOf (suc n) f = runOf n f ++ f (suc n)
 
 -- ---- stamps
 
--- the blank stamp is all zero and lowest
+-- the blank stamp is all zero and lowest: ts_0 of line 110
 abbrev pub blankStamp : Stamp
 blankStamp = record { number = 0; writer = 0; tag = replicate tagSize 0 }
 
@@ -83,6 +83,7 @@ pub record Candidate : Type 0 where
   pub nonce : List ℕ
   pub tags : List ℕ
 
+-- c_0 of line 110. Amended: zeros stand for NULL
 abbrev pub blankCandidate : Config → Candidate
 blankCandidate s = record { stamp = blankStamp; nonce = replicate nonceSize 0; tags = replicate (tagsSize s) 0 }
 

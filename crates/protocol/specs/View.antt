@@ -1,4 +1,5 @@
--- A client's bytes, and the client that they stand for. Every value of the bytes stands for one: they are read by place, and no range is tested.
+-- A client's bytes, and the client that they stand for. Every value of the bytes stands for one: they are read by place, and none is refused.
+-- A length above 1,024 counts as 1,024, any byte but 0 as 1, and of a number past the servers nothing is told.
 use mathlib.Core.Bool.{Bool, false, cond, not, _&&_}
 use mathlib.Core.List.{List}
 use mathlib.Core.Option.{none, some}
@@ -48,7 +49,7 @@ heldAt s d = record { stamp = stampAt d; share = cond (eqb (getD d stampSize 0) 
 abbrev pub keptSize : ℕ
 keptSize = 24576
 
--- the places and sizes of its parts, for the most servers
+-- the places and sizes of its parts, for the most servers; a reply's slot takes the longest reply of any shelf (`shelf-fits` of proofs/Room)
 abbrev pub noncePlace : ℕ
 noncePlace = topLength
 

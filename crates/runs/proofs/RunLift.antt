@@ -14,7 +14,7 @@ use Rattle.cluster.proofs.Tests.{and-both}
 use Rattle.protocol.specs.Packet.{Packet, PacketOk, decode, encode}
 use Rattle.protocol.specs.Primitives.{Primitives, Lengths}
 use Rattle.protocol.specs.Rules.{ByServer, upd}
-use Rattle.protocol.specs.Server.{Stepped, serverStep}
+use Rattle.protocol.proofs.ServerStep.{Stepped, serverStep}
 use Rattle.protocol.specs.ServerBytes.{Served, serverTake}
 use Rattle.protocol.specs.Client.{Client, Turn, Result, idle, newClient, writeStep, readStep, abortStep, takeStep, makeStep}
 use Rattle.protocol.specs.View.{handOf, view, keptSize}

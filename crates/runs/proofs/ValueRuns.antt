@@ -11,7 +11,8 @@ use Rattle.cluster.specs.Ranges.{within}
 use Rattle.protocol.specs.Packet.{Packet, decode}
 use Rattle.protocol.specs.Primitives.{Primitives}
 use Rattle.protocol.specs.Rules.{ByServer, upd}
-use Rattle.protocol.specs.Server.{Server, blankServer, serverStep}
+use Rattle.protocol.specs.Server.{Server, blankServer}
+use Rattle.protocol.proofs.ServerStep.{serverStep}
 use Rattle.protocol.specs.Client.{Client, Turn, Result, newClient, writeStep, readStep, abortStep, makeStep, takeStep}
 use Rattle.runs.specs.Runs.{Step, write, read, make, take-reply, give-up, serve, resultOf, sentOf, Typed, steps, Account}
 

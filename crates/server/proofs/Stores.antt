@@ -17,7 +17,8 @@ use Rattle.protocol.specs.Packet.{Body, Packet, kindOf, shareSize, decode}
 use Rattle.protocol.specs.Packet.{clock, clockReply, store, storeReply, complete, completeReply, collect, collectReply, filter, filterReply, repair, repairReply}
 use Rattle.protocol.specs.Memory.{Memory, memoryF, lookup, decodeMemory, encodeMemory, blankMemory}
 use Rattle.protocol.specs.Primitives.{Primitives}
-use Rattle.protocol.specs.Server.{Server, blankServer, Acted, memoryOf, onStore, raise, valid, best, act, replyTo, Stepped, serverRefusal, answered, serverStep}
+use Rattle.protocol.specs.Server.{Server, blankServer, Acted, memoryOf, onStore, raise, valid, best, act, replyTo, serverRefusal}
+use Rattle.protocol.proofs.ServerStep.{Stepped, answered, serverStep}
 use Rattle.protocol.specs.Pending.{codeIn}
 use Rattle.protocol.specs.ServerBytes.{Served, serverTake}
 use Rattle.format.proofs.Answers.{at-cond}
