@@ -11,6 +11,7 @@ import sys
 import tempfile
 import time
 
+import promised
 from trying import ROOT, copy_of, crate_lines, needed, rt
 
 HEADER = ROOT / "include" / "cendrulas.h"
@@ -106,6 +107,7 @@ def counted():
         "crates": f"{len(crate_lines())}",
         "exports": exports(),
         "public": public(),
+        "operations": promised.operations(),
         "code": f"{code:,}",
         "definitions": f"{definitions:,}",
         "proof": f"{proof:,}",

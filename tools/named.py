@@ -1,13 +1,24 @@
 """Whether the names that documents give to definitions and theorems are there: `NAME`, `NAME` in crates/CRATE/proofs/FILE.antt, in CRATE/FILE (a file
-of specs/) or in CRATE/src; `NAME` (FILE.antt) and (`NAME`, FILE.antt), of any crate; and the theorems of PROOFS' table. For tools/figures --check.
+of specs/) or in CRATE/src; `NAME` (FILE.antt) and (`NAME`, FILE.antt), of any crate; the theorems of PROOFS' table; and every `CRATE::..`, a module, a
+type or a function of that crate's code. For tools/figures --check.
 """
 import re
 
-from trying import ROOT
+from trying import ROOT, crate_lines
 
 NAMED = re.compile(r"((?:`[\w·.-]+`(?:, | and | )+)+)in ((?:crates/)?\w+/[\w/]*\w(?:\.antt|\.rt)?)")
 ASIDE = re.compile(r"(`[\w-]+`) \((\w+\.antt)\)|\(((?:`[\w-]+`, )+)(\w+\.antt)\)")
 THEOREM = re.compile(r"^\| (`[\w-]+`(?:, `[\w-]+`)*) \| (\w+/proofs/\w+\.antt(?:, \w+\.antt)*) \|", re.M)
+
+PATH = re.compile(r"`(\w+)((?:::\w+)+)`")
+
+
+def in_code(crate, parts):
+    """Whether a crate's code has these: a module is a file, and what is last is a function, a type, a constant or a case of an enum."""
+    files = list((ROOT / "crates" / crate / "src").glob("*.rt"))
+    texts = [file.read_text() for file in files if file.stem == parts[0]] or [file.read_text() for file in files]
+    name = re.escape(parts[-1])
+    return any(file.stem == parts[-1] for file in files) or any(re.search(rf"(?:fn|struct|enum|const) {name}\b|^ +{name}\b", t, re.M) for t in texts)
 
 
 def file_of(place):
@@ -29,6 +40,7 @@ def missing():
     wrong = []
     for page in sorted((ROOT / "docs").glob("*.md")):
         text = page.read_text()
+        wrong += [f"{page.name}: {crate}{path}" for crate, path in PATH.findall(text) if crate in crate_lines() and not in_code(crate, path[2:].split("::"))]
         for names, place in NAMED.findall(text):
             path = file_of(place)
             wrong += [f"{page.name}: {name} in {place}" for name in re.findall(r"`([^`]+)`", names) if not path.is_dir() and not has(path, name)]
