@@ -3,7 +3,7 @@
 -- Assumes nothing.
 use mathlib.Core.Path.{_≡_, refl, sym, subst}
 use mathlib.Core.Bool.{Bool, true, cond, not}
-use mathlib.Core.List.{List, [], _∷_, _++_}
+use mathlib.Core.List.{List, [], _∷_, _++_, flatMap}
 use mathlib.Core.Logic.{_⊎_, inl, inr}
 use Prim.Native.Nat.{ℕ, suc, _≤_}
 use lib.ListN.{length}
@@ -16,7 +16,7 @@ use Rattle.protocol.specs.Client.{collecting, filtering, repairing, begun, onto
 use Rattle.runs.specs.Runs.{Step, write, take-reply, Fed}
 use Rattle.runs.proofs.ValueRuns.{nowValues, doValues, setClient}
 use Rattle.protocol.proofs.Fine.{at-refusal}
-use Rattle.atomicity.specs.Lists.{Ever, In, flat}
+use Rattle.atomicity.specs.Lists.{Ever, In}
 use Rattle.atomicity.specs.Steps.{StepIn, System, Stamped, stampedFrom, stampedBy, stampedAt, digestsWith, digestedBy, digested, compared}
 use Rattle.atomicity.specs.Steps.{allDigested, ofPacket}
 use Rattle.atomicity.proofs.Util.{clash, left-in, right-in, split-in, flat-in, ever-out}
@@ -168,6 +168,6 @@ module _ (s : System) where
           by : Step → List (List ℕ)
           by = digestedBy s (clientAt s xs) (account s .server xs) (stampedAt s (account s) x xs)
 
-          here : In u (flat (digestsWith s) (stampedAt s (account s) x xs)) → In u (by (take-reply (m .client) (t .lent) (t .packet) (t .output)))
-          here j = left-in u (flat (digestsWith s) (stampedAt s (account s) x xs))
+          here : In u (flatMap (digestsWith s) (stampedAt s (account s) x xs)) → In u (by (take-reply (m .client) (t .lent) (t .packet) (t .output)))
+          here j = left-in u (flatMap (digestsWith s) (stampedAt s (account s) x xs))
               (ofPacket (compared s (clientAt s xs (m .client)) (handAt s xs (m .client))) (decode (t .packet))) j

@@ -3,7 +3,7 @@
 -- Assumes nothing.
 use mathlib.Core.Path.{_≡_, refl, sym, ap, _∙_, subst}
 use mathlib.Core.Bool.{Bool, true, false, cond, not, _&&_, _||_}
-use mathlib.Core.List.{List, [], _∷_, _++_}
+use mathlib.Core.List.{List, [], _∷_, _++_, flatMap}
 use mathlib.Core.Option.{Option, some}
 use mathlib.Core.Logic.{_⊎_, inl, inr}
 use Prim.Native.Nat.{ℕ}
@@ -16,7 +16,7 @@ use Rattle.protocol.specs.Server.{Server, blankServer, valid, barred}
 use Rattle.protocol.specs.Client.{made, accepted}
 use Rattle.runs.specs.Runs.{Step, serve}
 use Rattle.runs.proofs.ValueRuns.{nowValues}
-use Rattle.atomicity.specs.Lists.{Ever, Always, All, In, flat}
+use Rattle.atomicity.specs.Lists.{Ever, Always, All, In}
 use Rattle.atomicity.specs.Steps.{Stamped, packetIn, makes, serves, offered, isComplete, judged, ofPacket, stampedAt, digestsWith, tagsMade}
 use Rattle.atomicity.specs.Steps.{tagsChecked, checkedBy, serverChecks, digested, digestedBy, allDigested, noncesGot, noncesBy}
 use Rattle.atomicity.specs.Premises.{NoForgery, NoCollision, NoEarlyNonce, Shows}
@@ -70,7 +70,7 @@ module _ (K : Setup) where
   forged x xs j p t c i e k =
       all-in (λ kb. Ever (λ y ys. In kb (tagsMade (K .s) (account (K .s)) y ys)) xs) (tagsChecked (K .s) (account (K .s)) x xs) (t .prem .unforged) _
       (at-serve _ x xs j p t (checkedBy (K .s) (account (K .s) .client xs) (account (K .s) .server xs))
-      (λ b o d. subst (λ (q : Option Packet). In kb (ofPacket (λ z. flat (serverChecks (K .s) j v) (judged (K .s) j v (z .body))) q)) (sym d)
+      (λ b o d. subst (λ (q : Option Packet). In kb (ofPacket (λ z. flatMap (serverChecks (K .s) j v) (judged (K .s) j v (z .body))) q)) (sym d)
       (flat-in (serverChecks (K .s) j v) (judged (K .s) j v (p .body)) c kb
       (subst (λ (u : Server). In c (judged (K .s) j u (p .body))) (sym (told x xs j p t)) i) one)))
     where

@@ -3,7 +3,7 @@
 -- Assumes nothing.
 use mathlib.Core.Path.{_≡_, refl, sym, ap, _∙_, subst}
 use mathlib.Core.Bool.{Bool, true, false, cond, not, _&&_}
-use mathlib.Core.List.{List, [], _∷_}
+use mathlib.Core.List.{List, [], _∷_, flatMap}
 use mathlib.Core.Option.{Option, some}
 use Prim.Native.Nat.{ℕ, _≤_, _<_}
 use native.Mathlib.Omega.{arith}
@@ -20,7 +20,7 @@ use Rattle.protocol.specs.Client.{onto, made, heldIn, accepted}
 use Rattle.runs.specs.Runs.{Lent, Step, write, read, make, take-reply, give-up, serve}
 use Rattle.runs.proofs.ValueRuns.{nowValues}
 use Rattle.format.proofs.Answers.{at-cond}
-use Rattle.atomicity.specs.Lists.{Ever, Always, In, flat}
+use Rattle.atomicity.specs.Lists.{Ever, Always, In}
 use Rattle.atomicity.specs.Steps.{Stamped, packetIn, makes, stampedAt, ofPacket, proving, compared, digestsWith, digested, digestedBy}
 use Rattle.atomicity.specs.Steps.{allDigested}
 use Rattle.atomicity.specs.Premises.{Shows, PartyOf, odd}
@@ -165,7 +165,7 @@ module _ (K : Setup) where
       compares cs g e l u i =
           subst (λ (t : Bool). In u (cond t (digestedBy (K .s) w v ms (x .step)) [])) (sym fine)
           (subst (λ (y : Step). In u (digestedBy (K .s) w v ms y)) (sym st)
-          (right-in u (flat (digestsWith (K .s)) ms) (ofPacket (compared (K .s) (w c) (hand K xs c)) (decode b))
+          (right-in u (flatMap (digestsWith (K .s)) ms) (ofPacket (compared (K .s) (w c) (hand K xs c)) (decode b))
           (subst (λ (q : Option Packet). In u (ofPacket (compared (K .s) (w c) (hand K xs c)) q)) (sym rd)
           (subst (λ (h : Hand). In u (compared (K .s) (w c) h p)) (sym e)
           (subst (λ (t : Bool). In u (cond t (proving (K .s) m g' (choice (K .s .P) (K .s .config) m g' cs)) [])) (sym (le-leb (Q K) _ l)) i)))))

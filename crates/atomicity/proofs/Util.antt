@@ -2,7 +2,7 @@
 -- Assumes nothing.
 use mathlib.Core.Path.{_≡_, refl, sym, ap, _∙_, subst}
 use mathlib.Core.Bool.{Bool, true, false, cond, not, _&&_, _||_, true≢false}
-use mathlib.Core.List.{List, [], _∷_, _++_, map}
+use mathlib.Core.List.{List, [], _∷_, _++_, map, flatMap}
 use mathlib.Core.Option.{none, some, Option}
 use mathlib.Core.Logic.{_⊎_, inl, inr}
 use Prim.Native.Nat.{ℕ, _≤_}
@@ -11,7 +11,7 @@ use lib.Dec.{eqb, leb}
 use borrow.Author.Tests.{eqb-true, eq-eqb, le-leb}
 use Rattle.cluster.specs.Ranges.{within}
 use Rattle.cluster.proofs.Tests.{untrue}
-use Rattle.atomicity.specs.Lists.{Ever, Always, All, In, AllPairs, flat}
+use Rattle.atomicity.specs.Lists.{Ever, Always, All, In, AllPairs}
 use Rattle.protocol.specs.Values.{isSome}
 use Rattle.protocol.specs.Rules.{any, keep, upd}
 use Rattle.format.proofs.Answers.{at-cond}
@@ -202,18 +202,18 @@ module _ {A : Type 0} where
   rise P f (x ∷ xs) (inr e) = f x xs (rise P f xs e)
 
 module _ {A B : Type 0} where
-  pub flat-in : (f : A → List B) (cs : List A) (c : A) (b : B) → In c cs → In b (f c) → In b (flat f cs)
-  unfolding flat In
+  pub flat-in : (f : A → List B) (cs : List A) (c : A) (b : B) → In c cs → In b (f c) → In b (flatMap f cs)
+  unfolding flatMap In
   flat-in f [] c b i j = absurd i
-  flat-in f (x ∷ cs) c b (inl e) j = left-in b (f x) (flat f cs) (subst (λ (y : A). In b (f y)) e j)
-  flat-in f (x ∷ cs) c b (inr i) j = right-in b (f x) (flat f cs) (flat-in f cs c b i j)
+  flat-in f (x ∷ cs) c b (inl e) j = left-in b (f x) (flatMap f cs) (subst (λ (y : A). In b (f y)) e j)
+  flat-in f (x ∷ cs) c b (inr i) j = right-in b (f x) (flatMap f cs) (flat-in f cs c b i j)
 
-  pub in-flat : (f : A → List B) (cs : List A) (b : B) → In b (flat f cs) → (c : A) × In c cs × In b (f c)
-  unfolding flat In
+  pub in-flat : (f : A → List B) (cs : List A) (b : B) → In b (flatMap f cs) → (c : A) × In c cs × In b (f c)
+  unfolding flatMap In
   in-flat f [] b i = absurd i
-  in-flat f (x ∷ cs) b i = go (split-in b (f x) (flat f cs) i) (λ k. in-flat f cs b k)
+  in-flat f (x ∷ cs) b i = go (split-in b (f x) (flatMap f cs) i) (λ k. in-flat f cs b k)
     where
-      go : In b (f x) ⊎ In b (flat f cs) → (In b (flat f cs) → (c : A) × In c cs × In b (f c)) → (c : A) × In c (x ∷ cs) × In b (f c)
+      go : In b (f x) ⊎ In b (flatMap f cs) → (In b (flatMap f cs) → (c : A) × In c cs × In b (f c)) → (c : A) × In c (x ∷ cs) × In b (f c)
       go (inl k) r = (x, inl refl, k)
       go (inr k) r = let q = r k in (q .0, inr (q .1), q .2)
 

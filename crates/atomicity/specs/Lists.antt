@@ -1,6 +1,6 @@
 -- Lists of steps, newest first: a moment is a tail of the list. And lists of calls.
 use mathlib.Core.Path.{_≡_}
-use mathlib.Core.List.{List, [], _∷_, _++_}
+use mathlib.Core.List.{List, [], _∷_}
 use mathlib.Core.Logic.{_⊎_}
 
 module _ {A : Type 0} where
@@ -38,7 +38,3 @@ module _ {A : Type 0} where
     skip : (x : A) {xs ys : List A} → Perm xs ys → Perm (x ∷ xs) (x ∷ ys)
     swap : (x y : A) (xs : List A) → Perm (x ∷ y ∷ xs) (y ∷ x ∷ xs)
     trans : {xs ys zs : List A} → Perm xs ys → Perm ys zs → Perm xs zs
-
-unfoldable pub flat : {A B : Type 0} → (A → List B) → List A → List B
-flat f [] = []
-flat f (x ∷ xs) = f x ++ flat f xs

@@ -1,7 +1,7 @@
 -- What a step gets, makes, checks, digests and shows (document 01, "What the contracts owe", 5). All of it is read off an account of runs:
 -- the step, its result, the bytes sent, and the clients and servers before and after it.
 use mathlib.Core.Bool.{Bool, true, cond, not, _&&_}
-use mathlib.Core.List.{List, [], _∷_, _++_, map}
+use mathlib.Core.List.{List, [], _∷_, _++_, map, flatMap}
 use mathlib.Core.Option.{Option, none, some}
 use Prim.Native.Nat.{ℕ}
 use lib.Dec.{ltb, eqb}
@@ -18,7 +18,7 @@ use Rattle.protocol.specs.Client.{idle, clocking, storing, completing, collecti
 use Rattle.runs.specs.Runs.{Step, Typed, Account, onTaken}
 -- passed on to those who import the steps
 pub use Rattle.runs.specs.Runs.{bytesIn, makes, serves}
-use Rattle.atomicity.specs.Lists.{flat}
+
 
 -- the functions, the shelf's numbers, the writers' key and the servers' keys
 pub record System : Type 0 where
@@ -131,7 +131,7 @@ module _ (s : System) where
   unfoldable pub checkedBy : (ℕ → Client) → (ℕ → Server) → Step → List (List ℕ × List ℕ)
   checkedBy w v =
       onTaken (λ c p. ofPacket (λ q. clientChecks (w c .hand) (q .body)) (decode p))
-      (λ b p. ofPacket (λ q. flat (serverChecks b (v b)) (judged b (v b) (q .body))) (decode p))
+      (λ b p. ofPacket (λ q. flatMap (serverChecks b (v b)) (judged b (v b) (q .body))) (decode p))
 
   -- the fragments that prove the candidate chosen: those of the leader's group. More are digested: it is asked of these alone
   unfoldable pub proving : ByServer Bool → ByServer Held → Option Candidate → List (List ℕ)
@@ -155,7 +155,7 @@ module _ (s : System) where
   -- with the stamps that the step makes
   unfoldable pub digestedBy : (ℕ → Client) → (ℕ → Server) → List Stamped → Step → List (List ℕ)
   digestedBy w v ms =
-      onTaken (λ c p. flat digestsWith ms ++ ofPacket (compared (w c) (w c .hand)) (decode p))
+      onTaken (λ c p. flatMap digestsWith ms ++ ofPacket (compared (w c) (w c .hand)) (decode p))
       (λ b p. map (λ c. c .nonce) (ofPacket (λ q. judged b (v b) (q .body)) (decode p)))
 
   unfoldable pub noncesBy : Step → List (List ℕ)
@@ -170,7 +170,7 @@ module _ (s : System) where
     stampedAt x xs = stampedBy (A .client xs) (A .client (x ∷ xs)) (x .step)
 
     abbrev pub tagsMade : StepIn s → List (StepIn s) → List (List ℕ × List ℕ)
-    tagsMade x xs = flat tagsWith (stampedAt x xs)
+    tagsMade x xs = flatMap tagsWith (stampedAt x xs)
 
     abbrev pub tagsChecked : StepIn s → List (StepIn s) → List (List ℕ × List ℕ)
     tagsChecked x xs = cond (ok x xs) (checkedBy (A .client xs) (A .server xs) (x .step)) []

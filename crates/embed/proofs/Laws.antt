@@ -17,7 +17,7 @@ use Rattle.format.proofs.Puts.{put-over}
 use Rattle.wire.specs.Make.{placed}
 use Rattle.wire.proofs.Put.{placed-wrote}
 use Rattle.cluster.specs.Refusals.{wrongSize}
-use Rattle.embed.specs.Packing.{packed, answer, written}
+use Rattle.embed.specs.Packing.{packed, answer, writtenBy}
 use Rattle.embed.specs.Digests.{digestRefusal, tagRefusal}
 
 -- the first n bytes over the front of a buffer
@@ -35,18 +35,19 @@ pub all-of : (n : ℕ) (made bytes : List ℕ) → made ≡ bytes → length byt
 all-of n made bytes e long = ap (λ (d : List ℕ). take n d) e ∙ take-all n bytes (le-of-eq long)
 
 pub refused : (n q r : ℕ) (bytes out : List ℕ) → q ≡ suc n → r ≡ packed (suc n) 0 0 0
-    → (r ≡ answer q bytes) × (out ≡ written q bytes out)
+    → (r ≡ answer q bytes) × (out ≡ writtenBy q bytes out)
 refused n q r bytes out e gives = rw e (gives, refl)
 
 -- the same for a number that is only known not to be 0
 pub refused-with : (m q r : ℕ) (bytes out : List ℕ) → q ≡ m → m ≢ 0 → r ≡ packed m 0 0 0
-    → (r ≡ answer q bytes) × (out ≡ written q bytes out)
+    → (r ≡ answer q bytes) × (out ≡ writtenBy q bytes out)
 refused-with zero q r bytes out e some gives = absurd (some refl)
 refused-with (suc n) q r bytes out e some gives = refused n q r bytes out e gives
 
 pub carried-out : (n q r : ℕ) (bytes made out after : List ℕ) → q ≡ 0 → r ≡ packed 0 0 0 n
     → take n made ≡ bytes → length bytes ≡ n → after ≡ take n made ++ drop n out
-    → (r ≡ answer q bytes) × (after ≡ written q bytes out)
+    → (r ≡ answer q bytes) × (after ≡ writtenBy q bytes out)
+unfolding over
 carried-out n q r bytes made out after e gives same long puts =
     rw e (
       gives ∙ ap (λ (k : ℕ). packed 0 0 0 k) (sym long),

@@ -20,7 +20,7 @@ use Rattle.protocol.specs.ClientBytes.{inHand}
 use Rattle.state.specs.State.{callAt}
 use Rattle.embed.specs.Packing.{packed}
 use Rattle.embed.specs.Clients.{clientSize, sized}
-use Rattle.embed.specs.Rounds.{bitsTo, roundOf, roundTold, roundIn}
+use Rattle.embed.specs.Rounds.{bitsTo, roundNow, roundTold, roundIn}
 
 -- ---- bits and counts, one more server at a time
 
@@ -63,16 +63,16 @@ bits-below (suc n) m = omega (arith, bits-below n m, for-le (m (suc n)) (2 ^ n),
 
 -- ---- the round
 
-pub round-low : (c : Call) → c .tally .round ≤ 6 → roundOf c ≡ c .tally .round
-unfolding roundOf inHand
+pub round-low : (c : Call) → c .tally .round ≤ 6 → roundNow c ≡ c .tally .round
+unfolding roundNow inHand
 round-low c h = go (c .tally .round) h
   where
     go : (r : ℕ) → r ≤ 6 → cond (within 1 6 r) r 0 ≡ r
     go zero k = refl
     go (suc r) k = rw (within-in 1 6 (suc r) (omega arith) k) refl
 
-pub round-high : (c : Call) → 6 < c .tally .round → roundOf c ≡ 0
-unfolding roundOf inHand
+pub round-high : (c : Call) → 6 < c .tally .round → roundNow c ≡ 0
+unfolding roundNow inHand
 round-high c h = rw (within-high 1 6 (c .tally .round) (omega arith) h) refl
 
 -- ---- the answer
@@ -85,7 +85,7 @@ pub round-sized : (d : List ℕ) → length d ≡ clientSize → roundIn d ≡ r
 unfolding roundIn sized
 round-sized d h = rw (eq-eqb (length d) clientSize h) refl
 
-pub round-told : (d : List ℕ) (c : Call) (a x n r : ℕ) → length d ≡ clientSize → c ≡ callAt d → a ≡ roundOf c
+pub round-told : (d : List ℕ) (c : Call) (a x n r : ℕ) → length d ≡ clientSize → c ≡ callAt d → a ≡ roundNow c
     → x ≡ bitsTo mostServers (marked (c .tally .marks)) → n ≡ countTo mostServers (marked (c .tally .marks))
     → r ≡ packed 0 a x n → r ≡ roundIn d
 unfolding roundTold

@@ -5,11 +5,11 @@ use Rattle.cluster.specs.Refusals.{onRefusal}
 use Rattle.drill.specs.Listing.{Drilled}
 use Rattle.embed.specs.Packing.{packed}
 
-pub record Listed : Type 0 where
+pub record PackedDrill : Type 0 where
   pub answer : ℕ
   pub output : List ℕ
   pub work : List ℕ
 
-unfoldable pub listed : Drilled → Listed
-listed d =
+unfoldable pub packedDrill : Drilled → PackedDrill
+packedDrill d =
     record { answer = onRefusal (d .result .number) (d .result .count) (packed (d .result .number) 0 0 0); output = d .output; work = d .work }

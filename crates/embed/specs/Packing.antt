@@ -5,11 +5,12 @@
 --   bits 16 to 47   a stamp's number
 --   bits  0 to 15   how many bytes of the output were written
 use mathlib.Core.Bool.{cond}
-use mathlib.Core.List.{List, _++_}
+use mathlib.Core.List.{List}
 use Prim.Native.Nat.{ℕ, _+_, _-_, _*_, _^_, _/_, _%_}
 use lib.Dec.{leb}
-use lib.ListN.{length, drop}
+use lib.ListN.{length}
 use Rattle.cluster.specs.Refusals.{onRefusal}
+use Rattle.format.specs.Reading.{over}
 use Rattle.protocol.specs.declared.Answer.{Answer}
 use Rattle.protocol.specs.Answers.{refusals, bare}
 
@@ -50,5 +51,5 @@ answerIn x =
 abbrev pub answer : ℕ → List ℕ → ℕ
 answer refusal bytes = packed refusal 0 0 (onRefusal refusal (length bytes) 0)
 
-abbrev pub written : ℕ → List ℕ → List ℕ → List ℕ
-written refusal bytes out = onRefusal refusal (bytes ++ drop (length bytes) out) out
+abbrev pub writtenBy : ℕ → List ℕ → List ℕ → List ℕ
+writtenBy refusal bytes out = onRefusal refusal (over bytes out) out

@@ -18,11 +18,11 @@ bitsTo zero m = 0
 bitsTo (suc n) m = cond (m (suc n)) (2 ^ n) 0 + bitsTo n m
 
 -- 1 clock, 2 store, 3 complete, 4 collect, 5 filter, 6 repair; 0 where no call is in hand
-unfoldable pub roundOf : Call → ℕ
-roundOf c = cond (inHand c) (c .tally .round) 0
+unfoldable pub roundNow : Call → ℕ
+roundNow c = cond (inHand c) (c .tally .round) 0
 
 unfoldable pub roundTold : Call → ℕ
-roundTold c = let m = marked (c .tally .marks) in packed 0 (roundOf c) (bitsTo mostServers m) (countTo mostServers m)
+roundTold c = let m = marked (c .tally .marks) in packed 0 (roundNow c) (bitsTo mostServers m) (countTo mostServers m)
 
 unfoldable pub roundIn : List ℕ → ℕ
 roundIn d = let n = sized d in onRefusal n (roundTold (callAt d)) (packed n 0 0 0)

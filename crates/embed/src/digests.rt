@@ -5,13 +5,13 @@ use crate::pack::put;
 ghost use mathlib.Core.Path.{_≡_};
 ghost use Rattle.sha256.specs.Sha256.{sha256};
 ghost use Rattle.hmac.specs.Hmac.{tagOf};
-ghost use Rattle.embed.specs.Packing.{answer, written};
+ghost use Rattle.embed.specs.Packing.{answer, writtenBy};
 ghost use Rattle.embed.specs.Digests.{digestRefusal, tagRefusal};
 
 #[no_mangle]
 pub extern "C" fn cendrulas_digest(message: &[u8], out: &mut [u8]) -> u64
     ensures { λ r. ⌜ r ≡ answer (digestRefusal (now (out .entry))) (sha256 (now (message .entry))) ⌝ }
-    ensures { λ _. ⌜ now (out .exit) ≡ written (digestRefusal (now (out .entry))) (sha256 (now (message .entry))) (now (out .entry)) ⌝ }
+    ensures { λ _. ⌜ now (out .exit) ≡ writtenBy (digestRefusal (now (out .entry))) (sha256 (now (message .entry))) (now (out .entry)) ⌝ }
 {
     if out.len() < 32 {
         return pack(cluster::WRONG_SIZE, 0, 0, 0);
@@ -24,7 +24,7 @@ pub extern "C" fn cendrulas_digest(message: &[u8], out: &mut [u8]) -> u64
 #[no_mangle]
 pub extern "C" fn cendrulas_tag(key: &[u8], message: &[u8], out: &mut [u8]) -> u64
     ensures { λ r. ⌜ r ≡ answer (tagRefusal (now (key .entry)) (now (out .entry))) (tagOf (now (key .entry)) (now (message .entry))) ⌝ }
-    ensures { λ _. ⌜ now (out .exit) ≡ written (tagRefusal (now (key .entry)) (now (out .entry))) (tagOf (now (key .entry)) (now (message .entry)))
+    ensures { λ _. ⌜ now (out .exit) ≡ writtenBy (tagRefusal (now (key .entry)) (now (out .entry))) (tagOf (now (key .entry)) (now (message .entry)))
         (now (out .entry)) ⌝ }
 {
     if key.len() != cluster::KEY {

@@ -6,7 +6,7 @@ ghost use lib.Dec.{eqb};
 ghost use Rattle.cluster.specs.Ranges.{mostServers};
 ghost use Rattle.protocol.specs.Rules.{countTo};
 ghost use Rattle.protocol.specs.View.{marked};
-ghost use Rattle.embed.specs.Rounds.{bitsTo, roundOf, roundIn};
+ghost use Rattle.embed.specs.Rounds.{bitsTo, roundNow, roundIn};
 
 // n for a mark.
 fn for_mark(mark: u8, n: u32) -> u32
@@ -48,7 +48,7 @@ fn count(marks: [u8; cluster::MOST_SERVERS]) -> u32
 
 // The round in hand, or 0.
 fn round_of(call: protocol::Call) -> u8
-    ensures { λ r. ⌜ r ≡ roundOf call ⌝ }
+    ensures { λ r. ⌜ r ≡ roundNow call ⌝ }
 {
     let tally = call.tally;
     let round = tally.round;

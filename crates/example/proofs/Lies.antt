@@ -3,7 +3,7 @@
 -- Assumes nothing.
 use mathlib.Core.Path.{_≡_, refl}
 use mathlib.Core.Bool.{Bool, true, false, not, _&&_}
-use mathlib.Core.List.{List, _∷_, _++_}
+use mathlib.Core.List.{List, _∷_, _++_, flatMap}
 use mathlib.Core.Option.{some}
 use mathlib.Core.Logic.{inr}
 use Prim.Native.Nat.{ℕ, suc}
@@ -18,7 +18,7 @@ use Rattle.protocol.specs.Server.{replyTo}
 use Rattle.protocol.specs.Client.{Turn, made, makeRefusal, takeRefusal, highAt, awaits}
 use Rattle.runs.specs.Runs.{Lent}
 use Rattle.runs.proofs.ValueRuns.{World}
-use Rattle.atomicity.specs.Lists.{Ever, All, flat}
+use Rattle.atomicity.specs.Lists.{Ever, All}
 use Rattle.atomicity.specs.Steps.{stampedFrom, clientChecks, compared, digestsWith}
 use Rattle.atomicity.specs.Premises.{odd}
 use Rattle.atomicity.specs.Claim.{Logged}
@@ -58,7 +58,7 @@ module _ (H : Hashing) where
     pub play-lie : (two : Bool) (xs : Run (s H)) (cs : List Logged) → Play H two xs w cs →
         All (λ kb. Made H kb xs) (clientChecks (s H) (w .client c .hand) x) →
         All (λ u. u ≡ nonce1)
-        (flat (digestsWith (s H)) (stampedFrom c (w .client c .hand) (t .client .hand)) ++ compared (s H) (w .client c) (w .client c .hand) lie) →
+        (flatMap (digestsWith (s H)) (stampedFrom c (w .client c .hand) (t .client .hand)) ++ compared (s H) (w .client c) (w .client c .hand) lie) →
         Play H two (lied xs) (took H w c t) (followed H w c t (suc (length xs)) cs)
     unfolding Ever replyTo made
     play-lie two xs cs p tags digests =

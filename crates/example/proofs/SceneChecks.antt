@@ -3,7 +3,7 @@
 -- Assumes nothing.
 use mathlib.Core.Path.{_≡_, refl, sym, ap, subst}
 use mathlib.Core.Bool.{Bool, true, cond, not, _&&_}
-use mathlib.Core.List.{List, [], _∷_, _++_, map}
+use mathlib.Core.List.{List, [], _∷_, _++_, map, flatMap}
 use mathlib.Core.Option.{some}
 use mathlib.Core.Logic.{inl, inr}
 use Prim.Native.Nat.{ℕ}
@@ -17,7 +17,7 @@ use Rattle.protocol.specs.Primitives.{candidateMessage}
 use Rattle.protocol.specs.Rules.{parts}
 use Rattle.protocol.specs.Server.{byHistory, byTag, best}
 use Rattle.protocol.specs.Client.{candidateMade, shareMade, stampOf}
-use Rattle.atomicity.specs.Lists.{Ever, All, flat}
+use Rattle.atomicity.specs.Lists.{Ever, All}
 use Rattle.atomicity.specs.Steps.{nonblank, judged, serverChecks, proving}
 use Rattle.atomicity.proofs.Model.{Run}
 use Rattle.example.proofs.Playing.{Hashing, functions, s, nonce1, Shown, Made, Timely}
@@ -56,19 +56,19 @@ module _ (H : Hashing) where
   -- what filter and repair ask of the premises at server b, which holds the write
   pub none-checked : (b : ℕ) (c : Candidate) (tags : List ℕ) (xs : Run (s H)) (x : Body) → judged (s H) b (holding H b) x ≡ c ∷ [] →
       c ≡ record { stamp = cand H .stamp; nonce = nonce1; tags = tags } →
-      All (λ kb. Made H kb xs) (flat (serverChecks (s H) b (holding H b)) (judged (s H) b (holding H b) x))
-  unfolding flat All
+      All (λ kb. Made H kb xs) (flatMap (serverChecks (s H) b (holding H b)) (judged (s H) b (holding H b) x))
+  unfolding flatMap All
   none-checked b c tags xs x e k =
-      subst (λ (l : List Candidate). All (λ kb. Made H kb xs) (flat (serverChecks (s H) b (holding H b)) l)) (sym e)
+      subst (λ (l : List Candidate). All (λ kb. Made H kb xs) (flatMap (serverChecks (s H) b (holding H b)) l)) (sym e)
       (subst (λ (d : Candidate). All (λ kb. Made H kb xs) (serverChecks (s H) b (holding H b) d ++ [])) (sym k)
       (subst (λ (l : List (List ℕ × List ℕ)). All (λ kb. Made H kb xs) (l ++ [])) (sym (unchecked b tags)) tt))
 
   -- at server 4 filter asks that its own tag was made
   pub one-checked : (xs : Run (s H)) → Made H (s H .keys 4, candidateMessage (cand H .stamp) (H .digest nonce1)) xs →
-      All (λ kb. Made H kb xs) (flat (serverChecks (s H) 4 (blankOne H)) (judged (s H) 4 (blankOne H) (filter (sifted H))))
-  unfolding flat All
+      All (λ kb. Made H kb xs) (flatMap (serverChecks (s H) 4 (blankOne H)) (judged (s H) 4 (blankOne H) (filter (sifted H))))
+  unfolding flatMap All
   one-checked xs made =
-      subst (λ (l : List Candidate). All (λ kb. Made H kb xs) (flat (serverChecks (s H) 4 (blankOne H)) l)) (sym judged-tagged)
+      subst (λ (l : List Candidate). All (λ kb. Made H kb xs) (flatMap (serverChecks (s H) 4 (blankOne H)) l)) (sym judged-tagged)
       (subst (λ (l : List (List ℕ × List ℕ)). All (λ kb. Made H kb xs) (l ++ [])) (sym tag-checks-4) (made, tt))
 
   -- ---- the nonces that are digested, and those that a server gets

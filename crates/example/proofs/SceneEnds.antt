@@ -3,7 +3,7 @@
 -- Assumes nothing.
 use mathlib.Core.Path.{_≡_, refl, sym, subst}
 use mathlib.Core.Bool.{true, false}
-use mathlib.Core.List.{List, [], _∷_}
+use mathlib.Core.List.{List, [], _∷_, flatMap}
 use mathlib.Core.Option.{Option, none, some}
 use mathlib.Core.Logic.{inl, inr}
 use Prim.Native.Nat.{ℕ}
@@ -15,7 +15,7 @@ use Rattle.protocol.specs.Rules.{upd, nobody, countTo}
 use Rattle.protocol.specs.Server.{replyTo, best}
 use Rattle.protocol.specs.Client.{refused, gave, collecting, filtering, awaits, isIdle, isFull, candidateMade, made, readRefusal, begun}
 use Rattle.runs.specs.Runs.{take-reply}
-use Rattle.atomicity.specs.Lists.{Ever, All, flat}
+use Rattle.atomicity.specs.Lists.{Ever, All}
 use Rattle.atomicity.specs.Steps.{judged, clientChecks, proving, stampedFrom, compared}
 use Rattle.atomicity.specs.Claim.{Logged, change}
 use Rattle.atomicity.proofs.Model.{Run, perform}
@@ -92,7 +92,7 @@ module _ (H : Hashing) where
   p15 = play-read H 9 true (x14 H) (w14 H) _ (p14 H) refl refl
 
   pub p16 : Play H true x16 (w16 H) (theRead none none ∷ secondWrite true ∷ wrote ∷ [])
-  unfolding x16 w0 w1 w2 w3 w4 w5 w6 w7 w8 w9 w10 w11 w12 w13 w14 w15 w16 upd begun awaits change clientChecks flat stampedFrom compared All
+  unfolding x16 w0 w1 w2 w3 w4 w5 w6 w7 w8 w9 w10 w11 w12 w13 w14 w15 w16 upd begun awaits change clientChecks flatMap stampedFrom compared All
   p16 = play-lie H (w15 H) 9 others _ _ (reads H .collect-1) true x15 _ p15 tt tt
 
   pub again : perform (s H) (w16 H) (take-reply 9 others (encode theLie) contentBuffer) ≡ record { world = w17 H; result = refused 12; sent = none }
@@ -104,12 +104,12 @@ module _ (H : Hashing) where
   p17 = play-refused H 11 9 others theLie (w16 H) _ _ true x16 _ p16 refl again
 
   p18 : Play H true x18 (w18 H) (theRead none none ∷ secondWrite true ∷ wrote ∷ [])
-  unfolding x18 w0 w1 w2 w3 w4 w5 w6 w7 w8 w9 w10 w11 w12 w13 w14 w15 w16 w17 w18 upd awaits made change clientChecks judged best below flat
+  unfolding x18 w0 w1 w2 w3 w4 w5 w6 w7 w8 w9 w10 w11 w12 w13 w14 w15 w16 w17 w18 upd awaits made change clientChecks judged best below flatMap
       stampedFrom compared All
   p18 = play-exchange H (w17 H) 9 2 others _ _ _ (reads H .collect-2) true x17 _ p17 tt tt (inl refl) tt tt
 
   p19 : Play H true x19 (w19 H) (theRead none none ∷ secondWrite true ∷ wrote ∷ [])
-  unfolding x19 w0 w1 w2 w3 w4 w5 w6 w7 w8 w9 w10 w11 w12 w13 w14 w15 w16 w17 w18 w19 upd awaits made change clientChecks judged best below flat
+  unfolding x19 w0 w1 w2 w3 w4 w5 w6 w7 w8 w9 w10 w11 w12 w13 w14 w15 w16 w17 w18 w19 upd awaits made change clientChecks judged best below flatMap
       stampedFrom compared All
   p19 = play-exchange H (w18 H) 9 3 others _ _ _ (reads H .collect-3) true x18 _ p18 tt tt (inl refl) tt tt
 
@@ -119,7 +119,7 @@ module _ (H : Hashing) where
   shown-19 = inr (inr (inr (inr (inr (inr (inr (inr (inr (inr (shown-14 H))))))))))
 
   p20 : Play H true x20 (w20 H) (theRead none none ∷ secondWrite true ∷ wrote ∷ [])
-  unfolding x20 w0 w1 w2 w3 w4 w5 w6 w7 w8 w9 w10 w11 w12 w13 w14 w15 w16 w17 w18 w19 w20 upd nobody awaits made change clientChecks flat stampedFrom
+  unfolding x20 w0 w1 w2 w3 w4 w5 w6 w7 w8 w9 w10 w11 w12 w13 w14 w15 w16 w17 w18 w19 w20 upd nobody awaits made change clientChecks flatMap stampedFrom
       compared replyTo isFull countTo quorum shelf All Ever spoilt
   p20 = play-exchange H (w19 H) 9 2 others _ _ _ (reads H .filter-2) true x19 _ p19
       (none-checked H 2 (spoilt H) (spoilt H .tags) x19 (filter (sifted H)) (judged-held H 2) refl)
@@ -130,7 +130,7 @@ module _ (H : Hashing) where
   shown-20 = inr (inr (inr shown-19))
 
   pub p21 : Play H true x21 (w21 H) (theRead none none ∷ secondWrite true ∷ wrote ∷ [])
-  unfolding x21 w0 w1 w2 w3 w4 w5 w6 w7 w8 w9 w10 w11 w12 w13 w14 w15 w16 w17 w18 w19 w20 w21 upd nobody awaits made change clientChecks flat
+  unfolding x21 w0 w1 w2 w3 w4 w5 w6 w7 w8 w9 w10 w11 w12 w13 w14 w15 w16 w17 w18 w19 w20 w21 upd nobody awaits made change clientChecks flatMap
       stampedFrom compared replyTo isFull countTo quorum shelf All Ever spoilt
   p21 = play-exchange H (w20 H) 9 3 others _ _ _ (reads H .filter-3) true x20 _ p20
       (none-checked H 3 (spoilt H) (spoilt H .tags) x20 (filter (sifted H)) (judged-held H 3) refl)
@@ -146,7 +146,7 @@ module _ (H : Hashing) where
 
   -- server 4 checks its own tag, and the client compares the fragments that prove its choice
   p22 : Play H true x22 (w22 H) (theRead none none ∷ secondWrite true ∷ wrote ∷ [])
-  unfolding x22 w0 w1 w2 w3 w4 w5 w6 w7 w8 w9 w10 w11 w12 w13 w14 w15 w16 w17 w18 w19 w20 w21 w22 upd nobody awaits made change clientChecks flat
+  unfolding x22 w0 w1 w2 w3 w4 w5 w6 w7 w8 w9 w10 w11 w12 w13 w14 w15 w16 w17 w18 w19 w20 w21 w22 upd nobody awaits made change clientChecks flatMap
       stampedFrom compared replyTo isFull countTo quorum shelf All Ever cand candidateMade
   p22 = play-exchange H (w21 H) 9 4 others _ _ _ (reads H .filter-4) true x21 _ p21
       (one-checked H x21 tag-made-21)
@@ -154,7 +154,7 @@ module _ (H : Hashing) where
       (subst (λ (o : Option Candidate). All (λ u. u ≡ nonce1) (proving (s H) (marked H) (heard H) o)) (sym (choice-is H)) (proving-is H))
 
   p23 : Play H true x23 (w23 H) (theRead none none ∷ secondWrite true ∷ wrote ∷ [])
-  unfolding x23 w0 w1 w2 w3 w4 w5 w6 w7 w8 w9 w10 w11 w12 w13 w14 w15 w16 w17 w18 w19 w20 w21 w22 w23 upd awaits change clientChecks flat stampedFrom
+  unfolding x23 w0 w1 w2 w3 w4 w5 w6 w7 w8 w9 w10 w11 w12 w13 w14 w15 w16 w17 w18 w19 w20 w21 w22 w23 upd awaits change clientChecks flatMap stampedFrom
       compared All
   p23 = play-lie H (w22 H) 9 others _ _ (reads H .repair-1) true x22 _ p22 tt tt
 
@@ -163,7 +163,7 @@ module _ (H : Hashing) where
   shown-23 = inr (inr (inr (inr (inr shown-21))))
 
   p24 : Play H true x24 (w24 H) (theRead none none ∷ secondWrite true ∷ wrote ∷ [])
-  unfolding x24 w0 w1 w2 w3 w4 w5 w6 w7 w8 w9 w10 w11 w12 w13 w14 w15 w16 w17 w18 w19 w20 w21 w22 w23 w24 upd awaits made change clientChecks flat
+  unfolding x24 w0 w1 w2 w3 w4 w5 w6 w7 w8 w9 w10 w11 w12 w13 w14 w15 w16 w17 w18 w19 w20 w21 w22 w23 w24 upd awaits made change clientChecks flatMap
       stampedFrom compared All Ever cand candidateMade
   p24 = play-exchange H (w23 H) 9 2 others _ _ _ (reads H .repair-2) true x23 _ p23
       (none-checked H 2 (cand H) (cand H .tags) x23 (repair (cand H)) (judged-repair H 2) refl)
@@ -176,7 +176,7 @@ module _ (H : Hashing) where
   -- the read gives what was written
   pub p25 : Play H true x25 (w25 H) (theRead (some 57) (some content1) ∷ secondWrite true ∷ wrote ∷ [])
   unfolding x1 x2 x3 x4 x5 x6 x7 x8 x9 x10 x11 x12 x13 x14 x15 x16 x17 x18 x19 x20 x21 x22 x23 x24 x25 w0 w1 w2 w3 w4 w5 w6 w7 w8 w9 w10 w11 w12 w13
-      w14 w15 w16 w17 w18 w19 w20 w21 w22 w23 w24 w25 upd awaits made change clientChecks flat stampedFrom compared All Ever cand candidateMade
+      w14 w15 w16 w17 w18 w19 w20 w21 w22 w23 w24 w25 upd awaits made change clientChecks flatMap stampedFrom compared All Ever cand candidateMade
   p25 = play-exchange H (w24 H) 9 3 others _ _ _ (reads H .repair-3) true x24 _ p24
       (none-checked H 3 (cand H) (cand H .tags) x24 (repair (cand H)) (judged-repair H 3) refl)
       (nonce-digested H (judged (s H) 3 (holding H 3) (repair (cand H))) (cand H) (judged-repair H 3) refl) (repair-timely H 3 x24 shown-24) tt tt

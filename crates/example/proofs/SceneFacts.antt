@@ -3,7 +3,7 @@
 -- Assumes nothing.
 use mathlib.Core.Path.{_≡_, refl, ap, _∙_}
 use mathlib.Core.Bool.{Bool, true, false, cond}
-use mathlib.Core.List.{List, [], _∷_, _++_, map}
+use mathlib.Core.List.{List, [], _∷_, _++_, map, flatMap}
 use mathlib.Core.Logic.{inl, inr}
 use mathlib.Core.Option.{some}
 use Prim.Native.Nat.{ℕ, zero, suc}
@@ -17,7 +17,7 @@ use Rattle.protocol.specs.Client.{Turn, accepted, refused, awaits, isIdle, writ
 use Rattle.runs.specs.Runs.{Lent, Account, write, take-reply, serve}
 use Rattle.protocol.proofs.Bodies.{decode-encode}
 use Rattle.runs.proofs.ValueRuns.{World, After, doValues, nowValues, setClient}
-use Rattle.atomicity.specs.Lists.{Ever, flat}
+use Rattle.atomicity.specs.Lists.{Ever}
 use Rattle.atomicity.specs.Steps.{System, packetIn, StepIn, tagsChecked, digested, noncesGot, offered, judged, serverChecks, clientChecks}
 use Rattle.atomicity.specs.Steps.{stampedFrom}
 use Rattle.atomicity.specs.Steps.{compared, digestsWith}
@@ -69,7 +69,7 @@ module _ (H : Hashing) where
     reply = answered H w c b lent v r t k
 
     ask-checks : checkedIn H (now (s H) (makes-it H c b ∷ xs)) (serve b (encode request) packetBuffer)
-        ≡ flat (serverChecks (s H) b (w .server b)) (judged (s H) b (w .server b) (request .body))
+        ≡ flatMap (serverChecks (s H) b (w .server b)) (judged (s H) b (w .server b) (request .body))
     ask-checks =
         ap (λ (u : World). checkedIn H u (serve b (encode request) packetBuffer)) (making H w c b lent v r t k two xs cs p .here)
         ∙ serve-checks H w b request v r (serves H w c b lent v r t k two xs cs p)
@@ -94,7 +94,7 @@ module _ (H : Hashing) where
 
     answer-digests : digestedIn H (now (s H) (serves-it H b request (k .inside) (packet-bytes request (k .ask-bytes)) ∷ makes-it H c b ∷ xs))
         (take-reply c lent (encode reply) contentBuffer) ≡ cond (accepted (t .result))
-        (flat (digestsWith (s H)) (stampedFrom c (w .client c .hand) (t .client .hand)) ++ compared (s H) (w .client c) (w .client c .hand) reply) []
+        (flatMap (digestsWith (s H)) (stampedFrom c (w .client c .hand) (t .client .hand)) ++ compared (s H) (w .client c) (w .client c .hand) reply) []
     answer-digests =
         ap (λ (u : World). digestedIn H u (take-reply c lent (encode reply) contentBuffer)) answer-here
         ∙ take-digests H (served H w b v) c lent reply t (takes H w c b lent v r t k two xs cs p)
@@ -142,7 +142,7 @@ module _ (H : Hashing) where
 
   -- the end of the first write's clock digests its nonce five times
   at-8 : Ever (λ x xs. digested (s H) (A H) x xs ≡ nonce1 ∷ nonce1 ∷ nonce1 ∷ nonce1 ∷ nonce1 ∷ []) (x4 H)
-  unfolding Ever x4 w0 w1 w2 w3 upd begun stampedFrom flat digestsWith upTo shelf compared nowValues
+  unfolding Ever x4 w0 w1 w2 w3 upd begun stampedFrom flatMap digestsWith upTo shelf compared nowValues
   at-8 = inl (answer-digests (w3 H) 1 3 _ _ _ _ (writes H .clock-3) false (x3 H) _ (p3 H)
       ∙ (λ i. nonce1 ∷ pieces .0 i ∷ pieces .1 i ∷ pieces .2 i ∷ pieces .3 i ∷ []))
 
@@ -179,9 +179,9 @@ module _ (H : Hashing) where
 
   -- server 4 checks its tag of the candidate, and the client digests the two fragments that prove it
   at-48 : Ever (λ x xs. tagsChecked (s H) (A H) x xs ≡ (s H .keys 4, candidateMessage (cand H .stamp) (H .digest nonce1)) ∷ []) (x22 H)
-  unfolding Ever x22 w0 w1 w2 w3 w4 w5 w6 w7 w8 w9 w10 w11 w12 w13 w14 w15 w16 w17 w18 w19 w20 w21 upd made flat
+  unfolding Ever x22 w0 w1 w2 w3 w4 w5 w6 w7 w8 w9 w10 w11 w12 w13 w14 w15 w16 w17 w18 w19 w20 w21 upd made flatMap
   at-48 = inr (inl (ask-checks (w21 H) 9 4 _ _ _ _ (reads H .filter-4) true (x21 H) _ (p21 H)
-      ∙ ap (flat (serverChecks (s H) 4 (blankOne H))) (judged-tagged H) ∙ ap (λ (l : List (List ℕ × List ℕ)). l ++ []) (tag-checks-4 H)))
+      ∙ ap (flatMap (serverChecks (s H) 4 (blankOne H))) (judged-tagged H) ∙ ap (λ (l : List (List ℕ × List ℕ)). l ++ []) (tag-checks-4 H)))
 
   -- ---- all of it, of the whole run
 

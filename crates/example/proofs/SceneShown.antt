@@ -4,7 +4,7 @@
 -- Assumes nothing.
 use mathlib.Core.Path.{_≡_, refl, sym, ap, subst}
 use mathlib.Core.Bool.{Bool, true, false, cond, _&&_}
-use mathlib.Core.List.{List, [], _∷_, map}
+use mathlib.Core.List.{List, [], _∷_, map, flatMap}
 use mathlib.Core.Option.{none, some}
 use mathlib.Core.Logic.{_⊎_, inl, inr}
 use Prim.Native.Nat.{ℕ}
@@ -19,7 +19,7 @@ use Rattle.protocol.specs.Primitives.{stampMessage, candidateMessage}
 use Rattle.protocol.specs.Rules.{upd}
 use Rattle.protocol.specs.Server.{best, raise, act, barred, serverRefusal}
 use Rattle.protocol.specs.Client.{clocking, awaits, isIdle, candidateMade, stampOf, made, onto, writeRefusal, abortRefusal, begun}
-use Rattle.atomicity.specs.Lists.{Ever, All, flat}
+use Rattle.atomicity.specs.Lists.{Ever, All}
 use Rattle.atomicity.specs.Steps.{nonblank, judged, serverChecks, clientChecks, stampedFrom, compared}
 use Rattle.atomicity.specs.Claim.{Logged, change}
 use Rattle.atomicity.proofs.Util.{clash}
@@ -118,7 +118,7 @@ module _ (H : Hashing) where
   tag-checks = ap (λ (q : Bool). cond q ((s H .writers, stampMessage 1 1) ∷ []) []) (stamp-checks H)
 
   p12 : Play H true x12 (w12 H) (secondWrite false ∷ wrote ∷ [])
-  unfolding x12 w0 w1 w2 w3 w4 w5 w6 w7 w8 w9 w10 w11 w12 upd begun awaits made change judged best below flat stampedFrom compared All Ever x11
+  unfolding x12 w0 w1 w2 w3 w4 w5 w6 w7 w8 w9 w10 w11 w12 upd begun awaits made change judged best below flatMap stampedFrom compared All Ever x11
   p12 = play-exchange H (w11 H) 2 2 ours _ _ _ (reads H .clock-2) true x11 _ p11 tt tt (inl refl)
       (subst (All (λ kb. Made H kb x11)) (sym (tag-checks)) (inr (stamp-made H), tt)) tt
 
@@ -136,9 +136,9 @@ module _ (H : Hashing) where
   wild-judged = ap nonblank (best-made-up H 2 (omega arith) (omega arith))
 
   pub p14 : Play H true x14 (w14 H) (secondWrite true ∷ wrote ∷ [])
-  unfolding x14 w14 wildPacket madeUp flat All
+  unfolding x14 w14 wildPacket madeUp flatMap All
   p14 = play-serve H (w13 H) 2 (wildPacket H) (holding H 2) (filterReply noHeld) wild true x13 _ p13 (λ y. clash y refl)
-      (subst (λ (l : List Candidate). All (λ kb. Made H kb x13) (flat (serverChecks (s H) 2 (w13 H .server 2)) l)) (sym wild-judged) tt)
+      (subst (λ (l : List Candidate). All (λ kb. Made H kb x13) (flatMap (serverChecks (s H) 2 (w13 H .server 2)) l)) (sym wild-judged) tt)
       (subst (λ (l : List Candidate). All (λ u. u ≡ nonce1) (map (λ (d : Candidate). d .nonce) l)) (sym wild-judged) tt)
       (inr (shown-13, (inr refl, tt)))
 

@@ -2,7 +2,7 @@
 -- Assumes nothing.
 use mathlib.Core.Path.{_≡_, refl, sym, ap, _∙_, subst}
 use mathlib.Core.Bool.{Bool, true, false, cond, _&&_}
-use mathlib.Core.List.{List, [], _∷_}
+use mathlib.Core.List.{List, [], _∷_, flatMap}
 use mathlib.Core.Option.{Option, none, some}
 use mathlib.Core.Logic.{inl, inr}
 use Prim.Native.Nat.{ℕ}
@@ -18,7 +18,7 @@ use Rattle.protocol.specs.Client.{checks, made, written, candidateMade, stampOf
 use Rattle.runs.specs.Runs.{make, sentOf}
 use Rattle.protocol.proofs.Bodies.{decode-encode}
 use Rattle.runs.proofs.ValueRuns.{World, nowValues, doValues}
-use Rattle.atomicity.specs.Lists.{Always, Ever, All, In, flat}
+use Rattle.atomicity.specs.Lists.{Always, Ever, All, In}
 use Rattle.atomicity.specs.Steps.{allDigested, stampedFrom, stampedBy, tagsWith, digestsWith, judged, clientChecks, compared}
 use Rattle.atomicity.specs.Premises.{Shows}
 use Rattle.atomicity.specs.Claim.{Logged, log, change}
@@ -94,36 +94,36 @@ module _ (H : Hashing) where
       (λ d b. b) (λ g. g)
 
   pub p2 : Play H false x2 (w2 H) (firstWrite none none ∷ [])
-  unfolding x1 x2 w0 w1 w2 upd begun awaits change clientChecks flat stampedFrom compared All highStamp
+  unfolding x1 x2 w0 w1 w2 upd begun awaits change clientChecks flatMap stampedFrom compared All highStamp
   p2 = play-lie H (w1 H) 1 ours _ _ (writes H .clock-1) false x1 _ p1
       (subst (λ (q : Bool). All (λ kb. Made H kb x1) (cond q ((s H .writers, stampMessage 99999998 2) ∷ []) []))
       (sym (high-unchecked H)) tt) tt
 
   pub p3 : Play H false x3 (w3 H) (firstWrite none none ∷ [])
-  unfolding x3 w0 w1 w2 w3 upd begun awaits made change clientChecks checks isBlank judged best below flat stampedFrom compared All
+  unfolding x3 w0 w1 w2 w3 upd begun awaits made change clientChecks checks isBlank judged best below flatMap stampedFrom compared All
   p3 = play-exchange H (w2 H) 1 2 ours _ _ _ (writes H .clock-2) false x2 _ p2 tt tt (inl refl) tt tt
 
   -- the end of clock digests the nonce five times: as itself, and as each fragment
   p4 : Play H false x4 (w4 H) (firstWrite none none ∷ [])
-  unfolding x4 w0 w1 w2 w3 w4 upd begun awaits made change clientChecks checks isBlank judged best below flat stampedFrom compared digestsWith upTo
+  unfolding x4 w0 w1 w2 w3 w4 upd begun awaits made change clientChecks checks isBlank judged best below flatMap stampedFrom compared digestsWith upTo
       shelf All
   p4 = play-exchange H (w3 H) 1 3 ours _ _ _ (writes H .clock-3) false x3 _ p3 tt tt (inl refl) tt
       (refl, (pieces .0, (pieces .1, (pieces .2, (pieces .3, tt)))))
 
   p5 : Play H false x5 (w5 H) (firstWrite none none ∷ [])
-  unfolding x5 w0 w1 w2 w3 w4 w5 upd awaits change clientChecks flat stampedFrom compared All
+  unfolding x5 w0 w1 w2 w3 w4 w5 upd awaits change clientChecks flatMap stampedFrom compared All
   p5 = play-lie H (w4 H) 1 ours _ _ (writes H .store-1) false x4 _ p4 tt tt
 
   p6 : Play H false x6 (w6 H) (firstWrite none none ∷ [])
-  unfolding x6 w4 w5 w6 upd awaits made change clientChecks judged best below flat stampedFrom compared All
+  unfolding x6 w4 w5 w6 upd awaits made change clientChecks judged best below flatMap stampedFrom compared All
   p6 = play-exchange H (w5 H) 1 2 ours _ _ _ (writes H .store-2) false x5 _ p5 tt tt (inl refl) tt tt
 
   p7 : Play H false x7 (w7 H) (firstWrite (some 16) none ∷ [])
-  unfolding x1 x2 x3 x4 x5 x6 x7 w4 w5 w6 w7 upd awaits made change clientChecks judged best below flat stampedFrom compared All
+  unfolding x1 x2 x3 x4 x5 x6 x7 w4 w5 w6 w7 upd awaits made change clientChecks judged best below flatMap stampedFrom compared All
   p7 = play-exchange H (w6 H) 1 3 ours _ _ _ (writes H .store-3) false x6 _ p6 tt tt (inl refl) tt tt
 
   pub p8 : Play H false x8 (w8 H) (firstWrite (some 16) none ∷ [])
-  unfolding x8 w4 w5 w6 w7 w8 upd awaits change clientChecks flat stampedFrom compared All
+  unfolding x8 w4 w5 w6 w7 w8 upd awaits change clientChecks flatMap stampedFrom compared All
   p8 = play-lie H (w7 H) 1 ours _ _ (writes H .complete-1) false x7 _ p7 tt tt
 
   -- the packet to server 2 is the first to show the nonce
@@ -142,7 +142,7 @@ module _ (H : Hashing) where
       sent = made-sent H 1 2 x8 (w8 H) (p8 .here) (writes H .complete-2 .makes-on)
 
   p9 : Play H false x9 (w9 H) (firstWrite (some 16) none ∷ [])
-  unfolding x9 w4 w5 w6 w7 w8 w9 upd awaits made change clientChecks judged best below flat stampedFrom compared All cand candidateMade
+  unfolding x9 w4 w5 w6 w7 w8 w9 upd awaits made change clientChecks judged best below flatMap stampedFrom compared All cand candidateMade
   p9 = play-exchange H (w8 H) 1 2 ours _ _ _ (writes H .complete-2) false x8 _ p8 tt tt (inr (shown-8, (inl refl, tt))) tt tt
 
   shown-9 : Shown H 1 nonce1 x9
@@ -150,7 +150,7 @@ module _ (H : Hashing) where
   shown-9 = inr (inr shown-8)
 
   pub p10 : Play H false x10 (w10 H) (firstWrite (some 16) (some 24) ∷ [])
-  unfolding x1 x2 x3 x4 x5 x6 x7 x8 x9 x10 w4 w5 w6 w7 w8 w9 w10 upd awaits made change clientChecks judged best below flat stampedFrom compared All
+  unfolding x1 x2 x3 x4 x5 x6 x7 x8 x9 x10 w4 w5 w6 w7 w8 w9 w10 upd awaits made change clientChecks judged best below flatMap stampedFrom compared All
       cand candidateMade Ever
   p10 = play-exchange H (w9 H) 1 3 ours _ _ _ (writes H .complete-3) false x9 _ p9 tt tt (inr (inr shown-9, (inl refl, tt))) tt tt
 
@@ -161,10 +161,10 @@ module _ (H : Hashing) where
   shown-10 = inr (inr (inr shown-9))
 
   -- the tags of the stamp and of the candidate were made when clock ended
-  made-4 : (kb : List ℕ × List ℕ) → In kb (flat (tagsWith (s H)) (stampedFrom 1 clocks (stores H))) → Made H kb x4
+  made-4 : (kb : List ℕ × List ℕ) → In kb (flatMap (tagsWith (s H)) (stampedFrom 1 clocks (stores H))) → Made H kb x4
   unfolding Ever x4 stampedBy nowValues doValues w3 w4 upd
   made-4 kb i =
-      inl (subst (λ (v : World × World). In kb (flat (tagsWith (s H)) (stampedFrom 1 (v .0 .client 1 .hand) (v .1 .client 1 .hand)))) (sym both) i)
+      inl (subst (λ (v : World × World). In kb (flatMap (tagsWith (s H)) (stampedFrom 1 (v .0 .client 1 .hand) (v .1 .client 1 .hand)))) (sym both) i)
     where
       both : _≡_ {A = World × World} (now (s H) x3, now (s H) x4) (w3 H, w4 H)
       both = λ i. (p3 .here i, p4 .here i)
@@ -174,9 +174,9 @@ module _ (H : Hashing) where
   made-10 kb h = inr (inr (inr (inr (inr (inr (inr (inr (inr (inr (inr (inr (inr (inr (inr (inr h)))))))))))))))
 
   pub stamp-made : Made H (s H .writers, stampMessage 1 1) x10
-  unfolding stampedFrom flat tagsWith In cand candidateMade stampOf
+  unfolding stampedFrom flatMap tagsWith In cand candidateMade stampOf
   stamp-made = made-10 _ (made-4 _ (inl refl))
 
   pub tag-made : Made H (s H .keys 4, candidateMessage (cand H .stamp) (H .digest nonce1)) x10
-  unfolding stampedFrom flat tagsWith In upTo shelf cand candidateMade
+  unfolding stampedFrom flatMap tagsWith In upTo shelf cand candidateMade
   tag-made = made-10 _ (made-4 _ (inr (inr (inr (inr (inl refl))))))

@@ -3,7 +3,7 @@
 -- Assumes nothing.
 use mathlib.Core.Path.{_≡_, refl, sym, ap, _∙_, subst}
 use mathlib.Core.Bool.{Bool, true, false, cond}
-use mathlib.Core.List.{List, [], _∷_, map}
+use mathlib.Core.List.{List, [], _∷_, map, flatMap}
 use mathlib.Core.Option.{none, some, Option·some-injective}
 use mathlib.Core.Logic.{inl}
 use Prim.Native.Nat.{ℕ}
@@ -24,7 +24,7 @@ use Rattle.runs.specs.Runs.{Lent, write, make, take-reply, serve, resultOf, ste
 use Rattle.protocol.proofs.Bodies.{decode-encode, decode-nothing}
 use Rattle.runs.proofs.RunLift.{AllFed, run-agrees}
 use Rattle.runs.proofs.ValueRuns.{World, After, doValues}
-use Rattle.atomicity.specs.Lists.{All, flat}
+use Rattle.atomicity.specs.Lists.{All}
 use Rattle.atomicity.specs.Steps.{StepIn, makes, serves, ofPacket, offered, serverChecks, judged, checkedBy, digestedBy, noncesBy}
 use Rattle.atomicity.specs.Premises.{Authentic, Begins, FreshNonce, Sent, odd}
 use Rattle.atomicity.specs.Claim.{Logged, log, note}
@@ -185,9 +185,9 @@ module _ (H : Hashing) where
     done = ap (λ (a : After). accepted (a .result)) performed
 
     pub serve-checks : checkedIn H w (serve b (encode p) packetBuffer)
-        ≡ flat (serverChecks (s H) b (w .server b)) (judged (s H) b (w .server b) (p .body))
+        ≡ flatMap (serverChecks (s H) b (w .server b)) (judged (s H) b (w .server b) (p .body))
     unfolding checkedBy
-    serve-checks = λ i. cond (done i) (ofPacket (λ q. flat (serverChecks (s H) b (there i)) (judged (s H) b (there i) (q .body))) (reads i)) []
+    serve-checks = λ i. cond (done i) (ofPacket (λ q. flatMap (serverChecks (s H) b (there i)) (judged (s H) b (there i) (q .body))) (reads i)) []
 
     pub serve-digests : digestedIn H w (serve b (encode p) packetBuffer) ≡ map (λ c. c .nonce) (judged (s H) b (w .server b) (p .body))
     unfolding digestedBy
@@ -200,7 +200,7 @@ module _ (H : Hashing) where
     -- it is its client's own, unless the client is wild; tags that check have been made; and it digests and gets known nonces
     pub play-serve : (two : Bool) (xs : Run (s H)) (cs : List Logged) → Play H two xs w cs →
         (who .client (p .head .client) ≡ true → Sent (s H) (A H) (makes (p .head .client)) (encode p) xs) →
-        All (λ kb. Made H kb xs) (flat (serverChecks (s H) b (w .server b)) (judged (s H) b (w .server b) (p .body))) →
+        All (λ kb. Made H kb xs) (flatMap (serverChecks (s H) b (w .server b)) (judged (s H) b (w .server b) (p .body))) →
         All (λ u. u ≡ nonce1) (map (λ c. c .nonce) (judged (s H) b (w .server b) (p .body))) →
         Timely H xs (map (λ c. c .nonce) (offered (p .body))) →
         Play H two (serving ∷ xs) (served w b v) cs

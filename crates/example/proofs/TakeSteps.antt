@@ -2,7 +2,7 @@
 -- Assumes nothing.
 use mathlib.Core.Path.{_≡_, sym, ap, _∙_, subst}
 use mathlib.Core.Bool.{Bool, true, false, cond}
-use mathlib.Core.List.{List, [], _∷_, _++_}
+use mathlib.Core.List.{List, [], _∷_, _++_, flatMap}
 use mathlib.Core.Option.{none, some, Option·some-injective}
 use mathlib.Core.Logic.{inl}
 use Prim.Native.Nat.{ℕ}
@@ -17,7 +17,7 @@ use Rattle.protocol.specs.Client.{Client, Turn, refused, accepted, takeRefusal,
 use Rattle.runs.specs.Runs.{Lent, write, take-reply}
 use Rattle.protocol.proofs.Bodies.{decode-encode}
 use Rattle.runs.proofs.ValueRuns.{World, After, doValues, setClient, nowValues}
-use Rattle.atomicity.specs.Lists.{All, flat}
+use Rattle.atomicity.specs.Lists.{All}
 use Rattle.atomicity.specs.Steps.{StepIn, makes, serves, ofPacket, stampedFrom, stampedBy, clientChecks, compared, digestsWith, checkedBy}
 use Rattle.atomicity.specs.Steps.{digestedBy, noncesBy}
 use Rattle.atomicity.specs.Premises.{Authentic, Begins, FreshNonce, Sent, odd}
@@ -80,9 +80,9 @@ module _ (H : Hashing) where
 
     pub take-digests : digestedIn H w (take-reply c lent (encode q) contentBuffer)
         ≡ cond (accepted (t .result))
-        (flat (digestsWith (s H)) (stampedFrom c (w .client c .hand) (t .client .hand)) ++ compared (s H) (w .client c) (w .client c .hand) q) []
+        (flatMap (digestsWith (s H)) (stampedFrom c (w .client c .hand) (t .client .hand)) ++ compared (s H) (w .client c) (w .client c .hand) q) []
     unfolding digestedBy stampedBy
-    take-digests = λ i. cond (accepted (performed-on i .result)) (flat (digestsWith (s H)) (stampedFrom c (w .client c .hand) (hand-on i))
+    take-digests = λ i. cond (accepted (performed-on i .result)) (flatMap (digestsWith (s H)) (stampedFrom c (w .client c .hand) (hand-on i))
         ++ ofPacket (compared (s H) (w .client c) (w .client c .hand)) (reads-on i)) []
 
     -- it is its server's own, unless the server lies; tags that check have been made; and it digests the first nonce alone
@@ -90,7 +90,7 @@ module _ (H : Hashing) where
         (who .server (q .head .server) ≡ true → Sent (s H) (A H) (serves (q .head .server)) (encode q) xs) →
         All (λ kb. Made H kb xs) (clientChecks (s H) (w .client c .hand) (q .body)) →
         All (λ u. u ≡ nonce1)
-        (flat (digestsWith (s H)) (stampedFrom c (w .client c .hand) (t .client .hand)) ++ compared (s H) (w .client c) (w .client c .hand) q) →
+        (flatMap (digestsWith (s H)) (stampedFrom c (w .client c .hand) (t .client .hand)) ++ compared (s H) (w .client c) (w .client c .hand) q) →
         Play H two (taking ∷ xs) (took w c t) (followed w c t (length xs) cs)
     unfolding log note Authentic FreshNonce noncesBy nowValues
     play-take two xs cs pl source tags digs = play-on H two two xs w cs taking (took w c t) (followed w c t (length xs) cs) pl (λ y. y) (record {

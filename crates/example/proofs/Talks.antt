@@ -3,7 +3,7 @@
 -- Assumes nothing.
 use mathlib.Core.Path.{_≡_, refl, ap}
 use mathlib.Core.Bool.{Bool, true, false, not, _&&_}
-use mathlib.Core.List.{List, _∷_, _++_, map}
+use mathlib.Core.List.{List, _∷_, _++_, map, flatMap}
 use mathlib.Core.Option.{some}
 use mathlib.Core.Logic.{inl, inr}
 use Prim.Native.Nat.{ℕ, suc}
@@ -16,7 +16,7 @@ use Rattle.protocol.specs.Server.{memoryOf, Server, replyTo, serverRefusal}
 use Rattle.protocol.specs.Client.{Turn, made, makeRefusal, takeRefusal, highAt, awaits}
 use Rattle.runs.specs.Runs.{Lent, make, serve, sentOf}
 use Rattle.runs.proofs.ValueRuns.{World}
-use Rattle.atomicity.specs.Lists.{Ever, All, flat}
+use Rattle.atomicity.specs.Lists.{Ever, All}
 use Rattle.atomicity.specs.Steps.{offered, stampedFrom, serverChecks, clientChecks, judged, compared, digestsWith}
 use Rattle.atomicity.specs.Premises.{odd}
 use Rattle.atomicity.specs.Claim.{Logged}
@@ -99,7 +99,7 @@ module _ (H : Hashing) where
           }
 
       -- tags that check have been made before; nonces that the server gets are timely
-      pub play-asked : All (λ kb. Made H kb xs) (flat (serverChecks (s H) b (w .server b)) (judged (s H) b (w .server b) (asked .body))) →
+      pub play-asked : All (λ kb. Made H kb xs) (flatMap (serverChecks (s H) b (w .server b)) (judged (s H) b (w .server b) (asked .body))) →
           All (λ u. u ≡ nonce1) (map (λ d. d .nonce) (judged (s H) b (w .server b) (asked .body))) →
           Timely H (makes-it H c b ∷ xs) (map (λ d. d .nonce) (offered (asked .body))) →
           Play H two (serves-it H b asked (k .inside) (packet-bytes asked (k .ask-bytes)) ∷ makes-it H c b ∷ xs) (served H w b v) cs
@@ -110,7 +110,7 @@ module _ (H : Hashing) where
       pub play-answered : Play H two (serves-it H b asked (k .inside) (packet-bytes asked (k .ask-bytes)) ∷ makes-it H c b ∷ xs) (served H w b v) cs →
           All (λ kb. Made H kb xs) (clientChecks (s H) (w .client c .hand) r) →
           All (λ u. u ≡ nonce1)
-          (flat (digestsWith (s H)) (stampedFrom c (w .client c .hand) (t .client .hand)) ++ compared (s H) (w .client c)
+          (flatMap (digestsWith (s H)) (stampedFrom c (w .client c .hand) (t .client .hand)) ++ compared (s H) (w .client c)
           (w .client c .hand) answered) →
           Play H two (exchanged xs) (took H (served H w b v) c t) (followed H w c t (suc (suc (length xs))) cs)
       unfolding Ever replyTo made takes
@@ -118,12 +118,12 @@ module _ (H : Hashing) where
           (λ y. inl (eq-eqb b b refl, ap sentOf back)) (all-map _ _ (λ kb h. inr (inr h)) _ tags) digests
 
     pub play-exchange : (two : Bool) (xs : Run (s H)) (cs : List Logged) → Play H two xs w cs →
-        All (λ kb. Made H kb xs) (flat (serverChecks (s H) b (w .server b)) (judged (s H) b (w .server b) (asked .body))) →
+        All (λ kb. Made H kb xs) (flatMap (serverChecks (s H) b (w .server b)) (judged (s H) b (w .server b) (asked .body))) →
         All (λ u. u ≡ nonce1) (map (λ d. d .nonce) (judged (s H) b (w .server b) (asked .body))) →
         Timely H (makes-it H c b ∷ xs) (map (λ d. d .nonce) (offered (asked .body))) →
         All (λ kb. Made H kb xs) (clientChecks (s H) (w .client c .hand) r) →
         All (λ u. u ≡ nonce1)
-        (flat (digestsWith (s H)) (stampedFrom c (w .client c .hand) (t .client .hand)) ++ compared (s H) (w .client c) (w .client c .hand) answered)
+        (flatMap (digestsWith (s H)) (stampedFrom c (w .client c .hand) (t .client .hand)) ++ compared (s H) (w .client c) (w .client c .hand) answered)
         →
         Play H two (exchanged xs) (took H (served H w b v) c t) (followed H w c t (suc (suc (length xs))) cs)
     play-exchange two xs cs p served-tags served-digests timely taken-tags taken-digests =
