@@ -32,9 +32,17 @@ pub enum HeadRead {
     Broken,
 }
 
-// A packet that was let through: its head, and number and writer of the stamp that its body begins with; or refusal 7.
+// What is told of a packet that was let through, so that nobody reads it again by its place: its head, number and writer of the stamp that its body
+// begins with, and the number that the body's reader read (a store's record length, its reply's code, a filter's count, its reply's byte).
+pub struct Passed {
+    pub head: protocol::Head,
+    pub label: protocol::Label,
+    pub number: u32,
+}
+
+// A packet that was let through, or refusal 7.
 pub enum PacketRead {
-    Value(protocol::Head, protocol::Label),
+    Value(Passed),
     Broken,
 }
 
@@ -98,14 +106,18 @@ pub fn read_packet(packet: &[u8]) -> PacketRead
     };
     let kind = head.kind;
     let t = head.t;
-    let Labelled::Value(label, _, c2) = body_field(packet, c1, kind, t) else {
+    let Labelled::Value(label, number, c2) = body_field(packet, c1, kind, t) else {
         return PacketRead::Broken;
     };
     let end = c2.at;
     if end < packet.len() {
         return PacketRead::Broken;
     }
-    PacketRead::Value(head, label)
+    PacketRead::Value(Passed {
+        head,
+        label,
+        number,
+    })
 }
 
 // The fragment in a share, as that part of the share.
@@ -123,9 +135,10 @@ pub fn share_fragment(share: &[u8], t: u8) -> &[u8]
 pub fn fragment(packet: &[u8]) -> &[u8]
     ensures { λ r. ⌜ now r ≡ fragmentIn (decode (now (packet .entry))) ⌝ }
 {
-    let PacketRead::Value(head, _) = read_packet(packet) else {
+    let PacketRead::Value(passed) = read_packet(packet) else {
         return &packet[..0];
     };
+    let head = passed.head;
     let kind = head.kind;
     let t = head.t;
     let at = crate::sizes::HEAD + crate::sizes::STAMP;
