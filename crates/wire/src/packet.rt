@@ -7,7 +7,6 @@ ghost use Rattle.protocol.specs.Packet.{decode};
 ghost use Rattle.protocol.specs.View.{shareAt};
 ghost use Rattle.wire.specs.Places.{fragmentIn};
 ghost use Rattle.wire.specs.Reads.{HeadAs, BodyAs, PacketAs};
-use crate::bytes::byte_at;
 use crate::bytes::number2;
 use crate::bytes::part;
 use crate::bytes::rest;
@@ -145,7 +144,7 @@ pub fn fragment(packet: &[u8]) -> &[u8]
     match kind {
         protocol::kinds::STORE => share_fragment(rest(packet, at), t),
         protocol::kinds::FILTER_REPLY => {
-            if byte_at(packet, at) == 0 {
+            if passed.number == 0 {
                 return &packet[..0];
             }
             share_fragment(rest(packet, at + 1), t)
