@@ -26,7 +26,7 @@ use crate::parts::unlabelled;
 use crate::parts::write_field;
 
 // A packet's head, and the cursor past it.
-pub enum HeadRead {
+pub(crate) enum HeadRead {
     Value(protocol::Head, Cursor),
     Broken,
 }
@@ -49,7 +49,12 @@ pub enum PacketRead {
 pub(crate) fn head_field(s: &[u8]) -> HeadRead
     ensures { λ r. ⌜ HeadAs (now (s .entry)) r ⌝ }
 {
-    let Field::Value(kind, c1) = byte_field(s, Cursor { at: 0 }, 1, 12) else {
+    let Field::Value(kind, c1) = byte_field(
+        s,
+        Cursor { at: 0 },
+        protocol::kinds::CLOCK as u32,
+        protocol::kinds::REPAIR_REPLY as u32,
+    ) else {
         return HeadRead::Broken;
     };
     let Field::Value(client, c2) = byte_field(s, c1, 1, cluster::TOP_CLIENT as u32) else {
@@ -64,7 +69,7 @@ pub(crate) fn head_field(s: &[u8]) -> HeadRead
     let Field::Value(call, c5) = number4_field(s, c4, 1, cluster::TOP_NUMBER as u32) else {
         return HeadRead::Broken;
     };
-    if 3 * t + 1 < server {
+    if cluster::servers(t as u8) < (server as usize) {
         return HeadRead::Broken;
     }
     HeadRead::Value(
