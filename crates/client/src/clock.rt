@@ -10,6 +10,7 @@ ghost use Rattle.cluster.specs.Ranges.{topFaults, topClient, topNumber, content
 ghost use Rattle.protocol.specs.declared.Taken.the-variants as taken;
 ghost use Rattle.protocol.specs.View.{keptSize};
 ghost use Rattle.protocol.specs.ClientBytes.{fresh};
+ghost use Rattle.wire.specs.Reads.{TookPacket};
 ghost use Rattle.client.specs.Steps.{writeMade, Ready, TakesAs};
 use crate::Party;
 use crate::answers;
@@ -99,17 +100,20 @@ pub(crate) fn take_clock(
     party: Party,
     writers: &[u8; cluster::KEY],
     keys: &[[u8; cluster::KEY]; cluster::MOST_SERVERS],
-    head: protocol::Head,
+    passed: wire::packet::Passed,
     reply: &[u8],
     room: usize,
 ) -> Answered
-    requires { ⌜ Ready (party .t) (party .client) call (now reply) head × ((call .tally .round ≡ 1) × (length (now kept) ≡ keptSize)) ⌝ }
+    requires { ⌜ Ready (party .t) (party .client) call (now reply) (passed .head) × ((call .tally .round ≡ 1) × ((length (now kept) ≡ keptSize)
+        × TookPacket (now reply) (passed .head) (passed .label) (passed .number))) ⌝ }
     ensures { λ r. ⌜ ((output : List ℕ) → length output ≡ room
         → TakesAs (party .t) (party .client) (now (writers .entry)) (now (keys .entry)) call (now (kept .entry)) (now (reply .entry))
         output r (now (kept .exit)) output) ⌝ }
 {
     let body = wire::bytes::rest(reply, wire::sizes::HEAD);
-    let high = stamps::higher(writers, call.high, body);
+    let label = passed.label;
+    let high = stamps::higher(writers, call.high, label.number, body);
+    let head = passed.head;
     let server = head.server as usize;
     let noted = answers::note_reply(with_high(call, high), party.t, server);
     let ends = rounds::is_full(party.t, noted.tally);

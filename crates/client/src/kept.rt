@@ -22,10 +22,7 @@ pub(crate) fn write_at(kept: &mut [u8], at: usize, bytes: &[u8])
 pub(crate) fn label(slot: &[u8]) -> protocol::Label
     ensures { λ r. ⌜ r ≡ labelOf (stampAt (now (slot .entry))) ⌝ }
 {
-    protocol::Label {
-        number: wire::bytes::number4(slot),
-        writer: wire::bytes::byte_at(slot, wire::sizes::NUMBER),
-    }
+    wire::values::label_at(slot)
 }
 
 // Those of the stamp of the write or of repair.

@@ -16,11 +16,10 @@ use crate::kept;
 use crate::refusals;
 
 // Line 100: the higher of a number and a stamp's, if its tag checks. The tag is made only for a higher number.
-pub(crate) fn higher(writers: &[u8; cluster::KEY], high: u32, body: &[u8]) -> u32
-    requires { ⌜ stampSize ≤ length (now body) ⌝ }
+pub(crate) fn higher(writers: &[u8; cluster::KEY], high: u32, number: u32, body: &[u8]) -> u32
+    requires { ⌜ (stampSize ≤ length (now body)) × (number ≡ stampAt (now body) .number) ⌝ }
     ensures { λ r. ⌜ r ≡ higher real (now (writers .entry)) high (stampAt (now (body .entry))) ⌝ }
 {
-    let number = wire::bytes::number4(body);
     if number <= high {
         return high;
     }

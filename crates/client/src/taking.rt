@@ -10,6 +10,7 @@ ghost use Rattle.protocol.specs.Client.{badFaults, badClient, ofWrite};
 ghost use Rattle.protocol.specs.Primitives.{real};
 ghost use Rattle.protocol.specs.View.{keptSize};
 ghost use Rattle.protocol.specs.ClientBytes.{awaited, clientTake};
+ghost use Rattle.wire.specs.Reads.{TookPacket};
 ghost use Rattle.client.specs.Answers.{answered};
 ghost use Rattle.client.specs.Core.{coreTake};
 ghost use Rattle.client.specs.Steps.{Ready, TakesAs};
@@ -23,29 +24,28 @@ use crate::reads;
 use crate::refusals;
 use crate::replies;
 use crate::writes;
+use wire::packet::PacketRead;
+use wire::packet::Passed;
 
 // The rounds of a write past clock: store, and complete.
 fn take_write_round(
     call: protocol::Call,
     kept: &[u8],
     party: Party,
-    head: protocol::Head,
+    passed: Passed,
     reply: &[u8],
 ) -> Answered
-    requires { ⌜ Ready (party .t) (party .client) call (now reply) head × ((1 < call .tally .round) × (call .tally .round < 4)) ⌝ }
+    requires { ⌜ Ready (party .t) (party .client) call (now reply) (passed .head) × ((1 < call .tally .round) × ((call .tally .round < 4)
+        × TookPacket (now reply) (passed .head) (passed .label) (passed .number))) ⌝ }
     ensures { λ r. ⌜ ((writers : List ℕ) (keys : List (List ℕ)) (output : List ℕ) → contentRoom ≤ length output
         → TakesAs (party .t) (party .client) writers keys call (now (kept .entry)) (now (reply .entry)) output r (now (kept .entry)) output) ⌝ }
 {
     let tally = call.tally;
     let round = tally.round;
+    let head = passed.head;
     let server = head.server as usize;
     if round == protocol::rounds::STORE {
-        return writes::take_store(
-            call,
-            party.t,
-            server,
-            wire::bytes::byte_at(reply, wire::sizes::HEAD),
-        );
+        return writes::take_store(call, party.t, server, passed.number as u8);
     }
     writes::take_complete(call, kept, party.t, server)
 }
@@ -88,26 +88,27 @@ fn take_round(
     party: Party,
     writers: &[u8; cluster::KEY],
     keys: &[[u8; cluster::KEY]; cluster::MOST_SERVERS],
-    head: protocol::Head,
+    passed: Passed,
     reply: &[u8],
     out: &mut [u8],
 ) -> Answered
-    requires { ⌜ Ready (party .t) (party .client) call (now reply) head × (length (now kept) ≡ keptSize) ⌝ }
+    requires { ⌜ Ready (party .t) (party .client) call (now reply) (passed .head) × ((length (now kept) ≡ keptSize)
+        × TookPacket (now reply) (passed .head) (passed .label) (passed .number)) ⌝ }
     ensures { λ r. ⌜ TakesAs (party .t) (party .client) (now (writers .entry)) (now (keys .entry)) call (now (kept .entry)) (now (reply .entry))
         (now (out .entry)) r (now (kept .exit)) (now (out .exit)) ⌝ }
 {
     let tally = call.tally;
     let round = tally.round;
     if round == protocol::rounds::CLOCK {
-        return clock::take_clock(call, kept, party, writers, keys, head, reply, out.len());
+        return clock::take_clock(call, kept, party, writers, keys, passed, reply, out.len());
     }
     if out.len() < cluster::CONTENT_ROOM {
         return answers::refused(cluster::refusals::ROOM, call);
     }
-    if round < 4 {
-        return take_write_round(call, kept, party, head, reply);
+    if round < protocol::rounds::COLLECT {
+        return take_write_round(call, kept, party, passed, reply);
     }
-    take_read_round(call, kept, party, head, reply, out)
+    take_read_round(call, kept, party, passed.head, reply, out)
 }
 
 // 7, 8, 12, 13; then the round's step.
@@ -125,14 +126,14 @@ fn take_reply(
     ensures { λ r. ⌜ TakesAs (party .t) (party .client) (now (writers .entry)) (now (keys .entry)) call (now (kept .entry)) (now (reply .entry))
         (now (out .entry)) r (now (kept .exit)) (now (out .exit)) ⌝ }
 {
-    let wire::packet::PacketRead::Value(head, _) = wire::packet::read_packet(reply) else {
+    let PacketRead::Value(passed) = wire::packet::read_packet(reply) else {
         return answers::refused(cluster::refusals::LAYOUT, call);
     };
-    let n = replies::reply_refusal(head, call, party);
+    let n = replies::reply_refusal(passed.head, call, party);
     if n != 0 {
         return answers::refused(n, call);
     }
-    take_round(call, kept, party, writers, keys, head, reply, out)
+    take_round(call, kept, party, writers, keys, passed, reply, out)
 }
 
 // A reply is taken, or refused: then nothing changes.

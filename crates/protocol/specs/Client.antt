@@ -10,7 +10,7 @@ use Rattle.cluster.specs.Ranges.{within, topFaults, topWriter, topClient, topNu
 use Rattle.cluster.specs.Refusals.{refuse, firstOf, onRefusal}
 use Rattle.protocol.specs.declared.Stamp.{Stamp}
 use Rattle.protocol.specs.Values.{Candidate, Held, sameList, labelOf, blankCandidate, noHeld, isSome, ofSome}
-use Rattle.protocol.specs.Packet.{Body, Packet, kindOf}
+use Rattle.protocol.specs.Packet.{Body, Packet, kindOf, brokenPacket}
 use Rattle.protocol.specs.Primitives.{Primitives, stampMessage}
 use Rattle.protocol.specs.Rules.{ByServer, upd, nobody, countTo, gather, live, choice, leader, restoredBy, tagsIn}
 -- passed on to those who import the client
@@ -130,7 +130,7 @@ abortRefusal s client kind = firstOf (refuse 3 (badFaults s) ∷ refuse 5 (badCl
 unfoldable pub takeRefusal : Config → ℕ → Option Packet → ℕ → ℕ → ByServer Bool → (ℕ → Body → Bool) → ℕ → ℕ
 takeRefusal s client o calls kind replied high room =
     firstOf
-    (refuse 3 (badFaults s) ∷ refuse 5 (badClient (ofWrite kind) client) ∷ refuse 7 (not (isSome o))
+    (refuse 3 (badFaults s) ∷ refuse 5 (badClient (ofWrite kind) client) ∷ refuse brokenPacket (not (isSome o))
     ∷ refuse 8 (ofSome o (λ p. not (eqb (p .head .t) (s .t) && eqb (p .head .client) client)))
     ∷ refuse 12
     (ofSome o (λ p. not (eqb kind 0) && (not (eqb (p .head .call) calls && eqb (kindOf (p .body)) kind) || replied (p .head .server))))

@@ -49,6 +49,10 @@ zeroTail (some x) = guard (zeros (x .1)) (some (x .0))
 unfoldable pub decodeMemory : List ℕ → Option Memory
 decodeMemory b = guard (eqb (length b) memorySize) (zeroTail (memoryF .parse b))
 
+-- the refusal of bytes that are no server's record
+abbrev pub noRecord : ℕ
+noRecord = 2
+
 unfoldable pub encodeMemory : Memory → List ℕ
 encodeMemory m = memoryF .print m ++ replicate (memorySize - length (memoryF .print m)) 0
 

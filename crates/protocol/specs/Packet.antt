@@ -168,6 +168,10 @@ packetF = via (λ x. record { head = x .0; body = x .1 }) (λ p. (p .head, p .bo
 unfoldable pub decode : List ℕ → Option Packet
 decode b = whole (packetF .parse b)
 
+-- the refusal of bytes that are no packet
+abbrev pub brokenPacket : ℕ
+brokenPacket = 7
+
 unfoldable pub encode : Packet → List ℕ
 encode p = packetF .print p
 

@@ -11,8 +11,8 @@ use Rattle.cluster.specs.Ranges.{capacity, topWriter, packetRoom}
 use Rattle.cluster.specs.Refusals.{refuse, firstOf}
 use Rattle.hmac.specs.Hmac.{tagSize}
 use Rattle.protocol.specs.Values.{Candidate, Share, Write, sameList, nth, below, blankCandidate, isSome, ofSome}
-use Rattle.protocol.specs.Packet.{Body, Packet, kindOf, clock, clockReply, store, storeReply, complete, completeReply, collect, collectReply, filter, filterReply, repair, repairReply}
-use Rattle.protocol.specs.Memory.{Memory, lookup}
+use Rattle.protocol.specs.Packet.{Body, Packet, kindOf, brokenPacket, clock, clockReply, store, storeReply, complete, completeReply, collect, collectReply, filter, filterReply, repair, repairReply}
+use Rattle.protocol.specs.Memory.{Memory, lookup, noRecord}
 use Rattle.protocol.specs.Primitives.{Primitives, candidateMessage}
 
 -- lines 110, 111: lc and Hist. Amended: Hist is in order of arrival and has at most 32 stored writes
@@ -111,7 +111,7 @@ replyTo p x =
 unfoldable pub serverRefusal : Bool → Option Memory → Option Packet → ℕ → ℕ
 serverRefusal sized m o room =
     firstOf
-    (refuse 1 (not sized) ∷ refuse 2 (not (isSome m)) ∷ refuse 7 (not (isSome o))
+    (refuse 1 (not sized) ∷ refuse noRecord (not (isSome m)) ∷ refuse brokenPacket (not (isSome o))
     ∷ refuse 8 (ofSome m (λ k. ofSome o (λ p. not (eqb (p .head .t) (k .t) && eqb (p .head .server) (k .server)))))
     ∷ refuse 9 (ofSome o (λ p. barred (p .head .client) (p .body)))
     ∷ refuse 15 (ltb room packetRoom) ∷ [])

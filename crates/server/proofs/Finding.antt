@@ -8,6 +8,7 @@ use Prim.Native.Nat.{ℕ, _+_, _-_, _*_, _≤_, _<_}
 use native.Mathlib.Omega.{arith}
 use lib.Dec.{ltb}
 use lib.ListN.{drop}
+use lib.Seq.{getD-take}
 use borrow.Author.Tests.{ltb-true, ltb-false, le-ltb, lt-ltb}
 use Rattle.cluster.specs.Config.{shelf}
 use Rattle.cluster.proofs.Tests.{untrue, and-both}
@@ -25,7 +26,7 @@ use Rattle.server.specs.declared.memory.Top.{Top}
 use Rattle.server.specs.declared.memory.Opened.{Opened}
 use Rattle.server.specs.declared.memory.Found.{Found}
 use Rattle.server.specs.declared.memory.Found.the-variants as found
-use Rattle.server.specs.Reads.{firstWith, FindIs, SearchAs, Holds, FindAs, maxOf, UpTo, raisedTop}
+use Rattle.server.specs.Reads.{firstWith, FindIs, SearchAs, Holds, FindAs, maxOf, highestOf, raisedTop}
 
 -- ---- keys
 
@@ -53,27 +54,47 @@ pub raised-same : (top : Top) (k at : ℕ) → k ≤ top .key → raisedTop top 
 unfolding raisedTop
 raised-same top k at h = rw (le-ltb (top .key) k h)
 
-pub up-more : (top up : ℕ) (ws : List Write) → top ≤ up → UpTo top ws → UpTo up ws
-up-more top up [] l h = tt
-up-more top up (w ∷ ws) l h = (omega (arith, h .0), up-more top up ws l (h .1))
+-- the highest rank of writes, from k on: at least k, and with one more write the higher of it and that write's
+highest-least : (k : ℕ) (ws : List Write) → k ≤ highestOf k ws
+unfolding highestOf
+highest-least k [] = omega arith
+highest-least k (w ∷ ws) = omega (arith, max-left k (rank (w .stamp)), highest-least (maxOf k (rank (w .stamp))) ws)
+
+pub highest-more : (k : ℕ) (ws : List Write) (w : Write) → highestOf k (ws ++ w ∷ []) ≡ maxOf (highestOf k ws) (rank (w .stamp))
+unfolding highestOf
+highest-more k [] w = refl
+highest-more k (v ∷ ws) w = highest-more (maxOf k (rank (v .stamp))) ws w
 
 -- the key of a printed stamp
 pub key-printed : (a : Stamp) → rank (stampAt (stampF .print a)) ≡ rank a
 unfolding stampAt stampF via seq number4 byte run
 key-printed a = ap (λ (n : ℕ). 256 * n + a .writer) (value4-print (a .number))
 
+-- the key of the stamp that bytes begin with
+rank-part : (y : List ℕ) → rank (stampAt (bytesAt y 0 stampSize)) ≡ rank (stampAt y)
+unfolding stampAt bytesAt
+rank-part y =
+    rw (
+      getD-take stampSize y 0 0 (omega arith),
+      getD-take stampSize y 1 0 (omega arith),
+      getD-take stampSize y 2 0 (omega arith),
+      getD-take stampSize y 3 0 (omega arith),
+      getD-take stampSize y 4 0 (omega arith),
+    )
+
 -- ---- what is found: nothing above all stamps, the highest at its place, and below it what a walk finds
 
-pub first-above : (key : List ℕ) (top : ℕ) (ws : List Write) → UpTo top ws → top < rank (stampAt key) → firstWith key ws ≡ none
-unfolding firstWith
-first-above key top [] h k = refl
-first-above key top (w ∷ ws) h k =
+pub first-above : (key : List ℕ) (k : ℕ) (ws : List Write) → highestOf k ws < rank (stampAt key) → firstWith key ws ≡ none
+unfolding firstWith highestOf
+first-above key k [] h = refl
+first-above key k (w ∷ ws) h =
+    let m : ℕ = maxOf k (rank (w .stamp)) in
     let f : sameList (stampF .print (w .stamp)) key ≡ false =
     untrue _ (λ e.
     let q : rank (w .stamp) ≡ rank (stampAt key) = sym (key-printed (w .stamp)) ∙ ap (λ (x : List ℕ). rank (stampAt x))
     (same-true (stampF .print (w .stamp)) key e) in
-    omega (arith, q, h .0, k)) in
-    rw f (first-above key top ws (h .1) k)
+    omega (arith, q, h, max-right k (rank (w .stamp)), highest-least m ws)) in
+    rw f (first-above key m ws h)
 
 -- the first of two lists' writes
 pub first-append : (key : List ℕ) (xs ys : List Write) → firstWith key (xs ++ ys) ≡ orElse (firstWith key xs) (firstWith key ys)
@@ -93,8 +114,10 @@ module _ (d : List ℕ) (told : Opened) (y : List ℕ) {x : List ℕ} (p : x ≡
   found-as : (r : Found) → ((ws : List Write) → Holds d told ws → FindIs (shelf (told .t)) d (firstWith x ws) r) → FindAs d told y r
   found-as r f ws h = subst (λ (z : List ℕ). FindIs (shelf (told .t)) d (firstWith z ws) r) p (f ws h)
 
-  pub find-above : {k : ℕ} → k ≡ rank (stampAt x) → top .key < k → FindAs d told y found.Nothing
-  find-above q l = found-as found.Nothing (λ ws h. first-above x (top .key) ws (h .up .up) (omega (arith, q, l)))
+  pub find-above : {k : ℕ} → k ≡ rank (stampAt y) → top .key < k → FindAs d told y found.Nothing
+  find-above {k} q l =
+      let e : k ≡ rank (stampAt x) = q ∙ sym (rank-part y) ∙ ap (λ (z : List ℕ). rank (stampAt z)) (sym p) in
+      found-as found.Nothing (λ ws h. first-above x 0 ws (omega (arith, e, l, h .up .key)))
 
   pub find-highest : {r : Bool} → r ≡ (ltb 0 (top .at) && sameList (bytesAt (drop (top .at) d) 0 stampSize) x) → r ≡ true
       → FindAs d told y (found.At (top .at))

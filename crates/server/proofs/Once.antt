@@ -21,16 +21,16 @@ use Rattle.format.specs.Reading.{bytesAt, Leaves, Stops}
 use Rattle.format.proofs.Answers.{at-cond}
 use Rattle.protocol.proofs.Equal.{same-true}
 use Rattle.format.proofs.Leaves.{leaves-none}
-use Rattle.format.proofs.Walks.{many-next, many-stops, many-none, all-snoc, many-snoc}
+use Rattle.format.proofs.Walks.{many-next, many-stops, many-none, many-snoc}
 use Rattle.wire.specs.Places.{writeAt}
 use Rattle.server.specs.declared.memory.Top.{Top}
 use Rattle.server.specs.declared.memory.Opened.{Opened}
 use Rattle.server.specs.declared.memory.Found.{Found}
 use Rattle.server.specs.declared.memory.Found.the-variants as found
 use Rattle.server.specs.declared.memory.Writes.the-variants as writes
-use Rattle.server.specs.Reads.{writesPlace, Stored, firstWith, FindIs, TopOf, FindAs, raisedTop, RepeatsAs, NoWrites, WritesAs}
+use Rattle.server.specs.Reads.{writesPlace, Stored, firstWith, FindIs, highestOf, TopOf, noTop, FindAs, raisedTop, RepeatsAs, NoWrites, WritesAs}
 use Rattle.server.proofs.Walk.{stamp-bytes}
-use Rattle.server.proofs.Finding.{up-more, key-printed, first-above, first-append, shareIn, first-held}
+use Rattle.server.proofs.Finding.{max-is-left, max-is-right, highest-more, key-printed, first-above, first-append, shareIn, first-held}
 
 -- ---- whether a stamp stands before
 
@@ -70,7 +70,8 @@ module _ (s : Config) {d : List ℕ} (bs : Bytes d) (top : Top) (seen : List Wri
   above {k} e l =
       let w : Write = writeAt s (drop at d) in
       record {
-        up = all-snoc (λ x. rank (x .stamp) ≤ k) seen w (up-more (top .key) k seen (omega arith) (u .up)) (omega arith);
+        key = sym (highest-more 0 seen w ∙ max-is-right (highestOf 0 seen) (rank (w .stamp)) (omega (arith, u .key, e, l)) ∙ sym e);
+        place = λ _. sym e;
         first = λ _ key g.
             let b : take stampSize (drop at d) ≡ stampF .print (w .stamp) = unfold bytesAt in (stamp-bytes s f bs) in
             let a : stampF .print (w .stamp) ≡ key = sym b ∙ same-true (take stampSize (drop at d)) key g in
@@ -79,7 +80,7 @@ module _ (s : Config) {d : List ℕ} (bs : Bytes d) (top : Top) (seen : List Wri
               next = q;
               there = f;
               first = first-append key seen (w ∷ []) ∙ rw (
-                first-above key (top .key) seen (u .up) (omega (arith, m, l)),
+                first-above key 0 seen (omega (arith, m, l, u .key)),
                 ap
                     (λ (x : List ℕ). sameList x key) (sym b) ∙ g,
               );
@@ -90,7 +91,8 @@ module _ (s : Config) {d : List ℕ} (bs : Bytes d) (top : Top) (seen : List Wri
   below {k} e l =
       let w : Write = writeAt s (drop at d) in
       record {
-        up = all-snoc (λ x. rank (x .stamp) ≤ top .key) seen w (u .up) (omega (arith, e, l));
+        key = sym (highest-more 0 seen w ∙ max-is-left (highestOf 0 seen) (rank (w .stamp)) (omega (arith, u .key, e, l)) ∙ sym (u .key));
+        place = u .place;
         first = λ p key g. let o = u .first p key g in record {
           next = o .next;
           there = o .there;
@@ -114,18 +116,22 @@ pub record Checking (s : Config) (n : ℕ) (d : List ℕ) (at : ℕ) (top : Top)
   pub rest : (ws : List Write) (e : ℕ) → Stored s n d ws e
       → (ys : List Write) × Leaves (many (n - i) (writeF s)) d at ys e × (distinct ws ≡ freshAfter seen ys)
 
-pub check-none : (s : Config) (n : ℕ) (d : List ℕ) {at : ℕ} → at ≡ writesPlace s → writesPlace s ≤ length d → Checking s n d at
-    (record { key = 0; at = 0 }) 0
-check-none s n d {at} p h = subst (λ (j : ℕ). Checking s n d j (record { key = 0; at = 0 }) 0) (sym p) start
+pub check-none : (s : Config) (n : ℕ) (d : List ℕ) {at : ℕ} → at ≡ writesPlace s → at ≤ length d → Checking s n d at noTop 0
+unfolding highestOf
+check-none s n d {at} p h = subst (λ (j : ℕ). Checking s n d j noTop 0) (sym p) start
   where
-    start : Checking s n d (writesPlace s) (record { key = 0; at = 0 }) 0
+    start : Checking s n d (writesPlace s) noTop 0
     start =
         record {
           seen = [];
-          there = leaves-none (writeF s) 0 h;
-          up = record { up = tt; first = λ l. absurd (omega arith) };
+          there = leaves-none (writeF s) 0 (omega (arith, p, h));
+          up = record { key = refl; place = λ l. absurd (omega arith); first = λ l. absurd (omega arith) };
           rest = λ ws e m. (ws, subst (λ (j : ℕ). Leaves (many j (writeF s)) d (writesPlace s) ws e) (sym (sub-zero n)) m, refl);
         }
+
+-- the rank of a write's stamp, by its label
+pub last-rank : (d : List ℕ) {l : Label} → l ≡ labelOf (stampAt d) → {k : ℕ} → k ≡ rankBy (l .number) (l .writer) → k ≡ rank (stampAt d)
+last-rank d p e = e ∙ ap (λ (y : Label). rankBy (y .number) (y .writer)) p
 
 -- what is told of the writes that were seen
 abbrev pub seenSo : ℕ → ℕ → ℕ → ℕ → Top → Opened
@@ -150,11 +156,6 @@ module _ (t : ℕ) {n : ℕ} {d : List ℕ} {at i : ℕ} {top : Top} (h : Checki
         many-stops (writeF (shelf t)) (n - i) (n - (i + 1)) (omega arith) r f
 
     module _ {q : ℕ} (f : Leaves (writeF (shelf t)) d at (writeAt (shelf t) (drop at d)) q) where
-      last-key : {l : Label} → l ≡ labelOf (stampAt (drop at d)) → {k : ℕ} → k ≡ rankBy (l .number) (l .writer)
-          → k ≡ rank (writeAt (shelf t) (drop at d) .stamp)
-      unfolding writeAt
-      last-key p e = e ∙ ap (λ (y : Label). rankBy (y .number) (y .writer)) p
-
       -- the stamps seen and then the others, where the first of these is known to be fresh or not
       fresh-next : (b : ℕ) (r : Bool) → RepeatsAs d (seenSo t b i at top) r → (zs : List Write)
           → freshAfter (h .seen) (writeAt (shelf t) (drop at d) ∷ zs) ≡ (not r && freshAfter (h .seen ++ writeAt (shelf t) (drop at d) ∷ []) zs)
@@ -168,16 +169,16 @@ module _ (t : ℕ) {n : ℕ} {d : List ℕ} {at i : ℕ} {top : Top} (h : Checki
           let z : true ≡ false = sym o ∙ p ∙ ap (freshAfter (h .seen)) u ∙ fresh-next b v g zs ∙ rw y in
           subst T z tt
 
-      pub check-more : Bytes d → {l : Label} → l ≡ labelOf (stampAt (drop at d)) → {k : ℕ} → k ≡ rankBy (l .number) (l .writer)
-          → {up : Top} → up ≡ raisedTop top k at → (b : ℕ) {c : Bool} → RepeatsAs d (seenSo t b i at top) c → c ≡ false
-          → Checking (shelf t) n d q up (i + 1)
-      check-more bs p₀ q₀ v b {c} g y =
+      pub check-more : Bytes d → {k : ℕ} → k ≡ rank (stampAt (drop at d)) → {up : Top} → up ≡ raisedTop top k at → (b : ℕ) {c : Bool}
+          → RepeatsAs d (seenSo t b i at top) c → c ≡ false → Checking (shelf t) n d q up (i + 1)
+      unfolding writeAt
+      check-more bs q₀ v b {c} g y =
           let w : Write = writeAt (shelf t) (drop at d) in
           record {
             seen = h .seen ++ w ∷ [];
             there = many-snoc (writeF (shelf t)) i (h .there) f;
             up = subst (λ (z : Top). TopOf (shelf t) d z (h .seen ++ w ∷ [])) (sym v)
-                (top-more (shelf t) bs top (h .seen) f (h .up) (last-key p₀ q₀));
+                (top-more (shelf t) bs top (h .seen) (unfold writeAt in f) (h .up) q₀);
             rest = λ ws e m.
                 let (ys, r, p) = h .rest ws e m in
                 let (zs, u, r′) = many-next (writeF (shelf t)) (n - i) (n - (i + 1)) (omega arith) r f in

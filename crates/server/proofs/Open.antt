@@ -1,21 +1,20 @@
 -- The whole check of a memory: its fields one after another, writes of which no two have one stamp, and zeros to the end.
 -- Each part that breaks stops the layout there, and reading a memory ends as it says. Assumes nothing.
 use mathlib.Core.Path.{_≡_, refl, sym, ap, _∙_, subst}
-use mathlib.Core.Bool.{Bool, true, false, not}
-use mathlib.Core.List.{List, [], _∷_}
+use mathlib.Core.Bool.{Bool, true, false}
+use mathlib.Core.List.{List}
 use mathlib.Core.Logic.{_⊎_, inl, inr}
-use mathlib.Core.Option.{Option, none, some}
+use mathlib.Core.Option.{none, some}
 use Prim.Native.Nat.{ℕ, _≤_}
 use native.Mathlib.Omega.{arith}
 use lib.ListN.{drop, length}
 use Rattle.cluster.specs.Config.{shelf}
 use Rattle.cluster.specs.Ranges.{topFaults, mostServers, memorySize, capacity}
-use Rattle.cluster.specs.Refusals.{refuse, firstOf}
 use Rattle.cluster.proofs.Tests.{untrue}
 use Rattle.format.specs.Format.{Bytes, zeros, byte, many}
-use Rattle.protocol.specs.Values.{Write, isSome}
+use Rattle.protocol.specs.Values.{Write}
 use Rattle.protocol.specs.Packet.{writeF, anyCandidateF}
-use Rattle.protocol.specs.Memory.{Memory, distinct, memoryF, decodeMemory}
+use Rattle.protocol.specs.Memory.{distinct, memoryF, decodeMemory}
 use Rattle.protocol.specs.View.{candidateAt}
 use Rattle.format.specs.Reading.{Leaves, Stops}
 use Rattle.format.proofs.Leaves.{leaves-seq, leaves-via, leaves-keep, stops-first, stops-second, stops-via, stops-kept, stops-test}
@@ -25,23 +24,9 @@ use Rattle.format.proofs.Repeats.{many-law}
 use Rattle.format.proofs.Walks.{Reads, decide, leaves-moved, many-count}
 use Rattle.wire.specs.Reads.{Took, byteL, anyCandidateL}
 use Rattle.server.specs.declared.memory.Top.{Top}
-use Rattle.server.specs.declared.memory.Opened.{Opened}
 use Rattle.server.specs.declared.memory.Writes.{Writes}
 use Rattle.server.specs.declared.memory.Writes.the-variants as writes
-use Rattle.server.specs.declared.memory.MemoryRead.the-variants as memories
-use Rattle.server.specs.Reads.{latestPlace, writesPlace, Stored, Checked, NoWrites, WritesAs, OpenedAs, MemoryAs}
-
--- ---- the answer and its number
-
-number-of : (d : List ℕ) {o : Option Memory} → decodeMemory d ≡ o
-    → firstOf (refuse 2 (not (isSome o)) ∷ []) ≡ firstOf (refuse 2 (not (isSome (decodeMemory d))) ∷ [])
-number-of d e = ap (λ (o : Option Memory). firstOf (refuse 2 (not (isSome o)) ∷ [])) (sym e)
-
-pub broken : (d : List ℕ) → decodeMemory d ≡ none → MemoryAs d memories.Broken
-broken d e = (number-of d e, e)
-
-pub opened : {d : List ℕ} {told : Opened} → OpenedAs d told → MemoryAs d (memories.Value told)
-opened {d} o = (number-of d (o .decoded), o)
+use Rattle.server.specs.Reads.{latestPlace, writesPlace, Stored, Checked, NoWrites, WritesAs, OpenedAs}
 
 -- ---- the parts
 
@@ -92,7 +77,7 @@ module _ {d : List ℕ} (size : length d ≡ memorySize) where
         at-latest = omega (arith, x .place, y .place, z .place)
 
         module _ {v k : ℕ} (l : Took (anyCandidateL (shelf t)) d r v k) where
-          at-writes : k ≡ writesPlace (shelf t)
+          pub at-writes : k ≡ writesPlace (shelf t)
           at-writes = omega (arith, l .place, at-latest)
 
           pub writes-within : writesPlace (shelf t) ≤ length d

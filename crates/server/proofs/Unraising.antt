@@ -12,7 +12,7 @@ use Rattle.hmac.specs.Hmac.{tagSize}
 use Rattle.format.specs.Format.{Bytes}
 use Rattle.protocol.specs.Values.{blankCandidate, stampSize, nonceSize, candidateSize}
 use Rattle.protocol.specs.Packet.{anyCandidateF}
-use Rattle.protocol.specs.Memory.{decodeMemory, encodeMemory}
+use Rattle.protocol.specs.Memory.{decodeMemory, encodeMemory, noRecord}
 use Rattle.format.specs.Reading.{bytesAt, put}
 use Rattle.protocol.proofs.Changes.{raised, latest-bytes, blank-print}
 use Rattle.protocol.proofs.Packets.{any-candidate-length}
@@ -21,7 +21,7 @@ use Rattle.wire.specs.Make.{Placed, placed}
 use Rattle.server.specs.declared.memory.Opened.{Opened}
 use Rattle.server.specs.Reads.{latestPlace, OpenedAs}
 use Rattle.server.specs.Answers.{memoryIn}
-use Rattle.server.specs.Blank.{blanked, latestBlanked, blankLatest}
+use Rattle.server.specs.Blank.{blanked, unraised, latestRefusal, blankLatest}
 use Rattle.server.proofs.Raising.{placed-put, size-few}
 use Rattle.server.proofs.Standing.{memory-bytes, memory-size-of, memory-fields}
 
@@ -32,12 +32,12 @@ candidate-most t h = omega arith
 
 module _ (d : List ℕ) where
   pub latest-size : (length d ≡ memorySize → ⊥) → blanked 1 d ≡ blankLatest d
-  unfolding blankLatest
+  unfolding blankLatest latestRefusal
   latest-size h = rw (ne-eqb (length d) memorySize h)
 
   module _ (size : length d ≡ memorySize) where
-    pub latest-broken : decodeMemory d ≡ none → blanked 2 d ≡ blankLatest d
-    unfolding blankLatest latestBlanked
+    pub latest-broken : decodeMemory d ≡ none → blanked noRecord d ≡ blankLatest d
+    unfolding blankLatest latestRefusal
     latest-broken e = rw (eq-eqb (length d) memorySize size, e)
 
     module _ (bs : Bytes d) {told : Opened} (o : OpenedAs d told) where
@@ -59,7 +59,7 @@ module _ (d : List ℕ) where
       pub latest-blanked : {k : ℕ} {x : List ℕ} {j : ℕ} {out : List ℕ} → k ≡ candidateSize (shelf t) → x ≡ bytesAt
           (zeros (stampSize + nonceSize + tagSize * mostServers)) 0 k
           → record { next = j; output = out } ≡ placed d latestPlace x → blanked 0 out ≡ blankLatest d
-      unfolding blankLatest latestBlanked
+      unfolding blankLatest latestRefusal unraised
       latest-blanked {k} {x} p q r =
           let t-few : t ≤ topFaults = memory-fields o .t-range .1 in
           let c : ℕ = candidateSize (shelf t) in

@@ -5,10 +5,8 @@ use mathlib.Core.Bool.{false}
 use mathlib.Core.List.{List, []}
 use mathlib.Core.Option.{Option, none, some}
 use Prim.Native.Nat.{ℕ, _*_, _≤_, _<_}
-use lib.Dec.{eqb}
 use lib.ListN.{length, take, drop}
 use Rattle.cluster.specs.Config.{Config, shelf}
-use Rattle.cluster.specs.Refusals.{Where}
 use Rattle.hmac.specs.declared.Prepared.{Prepared}
 use Rattle.hmac.specs.Hmac.{tagSize}
 use Rattle.hmac.specs.PreparedKey.{preparedOf}
@@ -45,8 +43,8 @@ pub record ChosenAt (s : Config) (y : List ℕ) (c : Candidate) (i : ℕ) : Type
   pub ok : candidateF s .Ok (candidateAt s (slotOf s y i))
   pub best : c ≡ candidateAt s (slotOf s y i)
 
--- document 01's number, and the value: the candidate's slot, if one is valid. Neither answer refuses anything: filter replies with the
--- candidate's stamp, or with the blank one
+-- document 01's number, and the value: the candidate's slot, if one is valid. Neither answer refuses anything, so that the value alone tells
+-- them apart: filter replies with the candidate's stamp, or with the blank one
 pub record ChosenAnswer : Type 0 where
   pub number : ℕ
   pub slot : Option ℕ
@@ -60,7 +58,7 @@ SlotAs s y c (some i) = ChosenAt s y c i
 SlotAs s y c none = c ≡ blankCandidate s
 
 abbrev pub ChosenIs : Config → List ℕ → Candidate → Chosen → Type 0
-ChosenIs s y c r = let a = chosenAnswer r in Where (eqb (a .number) 0) (SlotAs s y c (a .slot))
+ChosenIs s y c r = SlotAs s y c (chosenAnswer r .slot)
 
 abbrev pub ChosenAs : List ℕ → List ℕ → Opened → List ℕ → ℕ → Chosen → Type 0
 ChosenAs d key told y m r =

@@ -40,11 +40,6 @@ pub fn blank(memory: &mut [u8], t: usize, server: usize) -> cluster::Outcome
     }
 }
 
-// Bytes of the longest candidate.
-const CANDIDATE: usize = wire::sizes::STAMP
-    + wire::sizes::NONCE
-    + hmac::TAG * cluster::MOST_SERVERS;
-
 // The latest candidate becomes blank, and the history stays.
 pub fn blank_latest(memory: &mut [u8]) -> cluster::Outcome
     ensures { λ r. ⌜ record { result = r; memory = now (memory .exit) } ≡ blankLatest (now (memory .entry)) ⌝ }
@@ -55,7 +50,7 @@ pub fn blank_latest(memory: &mut [u8]) -> cluster::Outcome
     let MemoryRead::Value(opened) = crate::memory::open(memory) else {
         return cluster::refused(cluster::refusals::MEMORY);
     };
-    let zeros = [0u8; CANDIDATE];
+    let zeros = [0u8; wire::kept::CANDIDATE_SLOT];
     wire::make::put(
         memory,
         crate::memory::LATEST,

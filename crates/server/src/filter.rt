@@ -3,7 +3,8 @@ ghost use mathlib.Core.Path.{_≡_};
 ghost use mathlib.Core.List.{[], _∷_, _++_};
 ghost use Prim.Native.Nat.{_≤_};
 ghost use Rattle.cluster.specs.Config.{shelf};
-ghost use Rattle.protocol.specs.Packet.{stampF};
+ghost use lib.ListN.{drop, getD};
+ghost use Rattle.protocol.specs.Packet.{stampF, headSize};
 ghost use Rattle.wire.specs.Places.{lengthAt, shareSize};
 ghost use Rattle.server.specs.Answers.{AnswersAs};
 ghost use Rattle.server.specs.Filter.{ChosenAs, ChosenUnder, shareBytes, HeldAs};
@@ -20,7 +21,7 @@ use wire::bytes::part;
 use wire::bytes::rest;
 
 // The slot of a list's highest valid candidate.
-pub enum Chosen {
+pub(crate) enum Chosen {
     At(u8),
     Nothing,
 }
@@ -131,18 +132,18 @@ fn reply_held(
 pub(crate) fn filter(
     memory: &mut [u8],
     key: [u8; cluster::KEY],
-    head: protocol::Head,
+    passed: wire::packet::Passed,
     packet: &[u8],
     opened: Opened,
     out: &mut [u8],
 ) -> cluster::Outcome
-    requires { ⌜ 1 ≤ opened .server ⌝ }
-    ensures { λ r. ⌜ AnswersAs 9 (now (memory .entry)) key (now (packet .entry)) (now (out .entry)) head opened
+    requires { ⌜ (1 ≤ opened .server) × (passed .number ≡ getD (drop headSize (now packet)) 0 0) ⌝ }
+    ensures { λ r. ⌜ AnswersAs 9 (now (memory .entry)) key (now (packet .entry)) (now (out .entry)) (passed .head) opened
         (record { result = r; memory = now (memory .exit); output = now (out .exit) }) ⌝ }
 {
-    let body = rest(packet, wire::sizes::HEAD);
-    let list = rest(body, COUNT_SIZE);
-    let count = wire::bytes::byte_at(body, 0);
+    let head = passed.head;
+    let list = rest(rest(packet, wire::sizes::HEAD), COUNT_SIZE);
+    let count = passed.number as u8;
     let Chosen::At(i) = choose(memory, key, opened, list, count) else {
         return reply_held(memory, head, opened, protocol::Stamp::blank(), out);
     };

@@ -5,7 +5,9 @@ ghost use Prim.Native.Nat.{_≤_};
 ghost use lib.Dec.{ltb};
 ghost use lib.ListN.{length, drop};
 ghost use Rattle.cluster.specs.Config.{shelf};
-ghost use Rattle.protocol.specs.Values.{sameList, stampSize};
+ghost use Rattle.cluster.specs.Ranges.{memorySize};
+ghost use Rattle.protocol.specs.Values.{rank, sameList, stampSize};
+ghost use Rattle.protocol.specs.View.{stampAt};
 ghost use Rattle.format.specs.Reading.{bytesAt};
 ghost use Rattle.server.specs.Reads.{SearchAs, FindAs, RepeatsAs, WritesAs, MemoryAs, maxOf, raisedTop, writesPlace};
 use wire::bytes::part;
@@ -25,19 +27,19 @@ pub const COUNT: usize = 2;
 pub const LATEST: usize = 3;
 
 // The place where a stored write begins.
-pub enum Found {
+pub(crate) enum Found {
     At(usize),
     Nothing,
 }
 
 // The highest of the stored writes: its stamp in their order, and its place; 0 and 0 where none is stored.
-pub struct Top {
+pub(crate) struct Top {
     pub key: u64,
     pub at: usize,
 }
 
 // What a server's memory tells: t, the server's number, how many writes are stored, the place past them, and the highest of them.
-pub struct Opened {
+pub(crate) struct Opened {
     pub t: u8,
     pub server: u8,
     pub count: usize,
@@ -46,13 +48,13 @@ pub struct Opened {
 }
 
 // The place past the stored writes, and the highest of them.
-pub enum Writes {
+pub(crate) enum Writes {
     Past(usize, Top),
     Broken,
 }
 
 // What it tells, or refusal 2.
-pub enum MemoryRead {
+pub(crate) enum MemoryRead {
     Value(Opened),
     Broken,
 }
@@ -98,20 +100,27 @@ fn stands_at(memory: &[u8], at: usize, stamp: &[u8]) -> bool
     wire::bytes::same(part(rest(memory, at), 0, wire::sizes::STAMP), stamp)
 }
 
-// The first stored write whose stamp has the bytes that some begin with. A stamp above the highest of them needs no search, nor does that
-// one's own, which is asked for most often.
-pub(crate) fn find(memory: &[u8], opened: Opened, bytes: &[u8]) -> Found
+// The first stored write whose stamp has the bytes that some begin with; key is that stamp's rank. A stamp above the highest of them needs no search,
+// nor does that one's own, which is asked for most often.
+fn find_ranked(memory: &[u8], opened: Opened, key: u64, bytes: &[u8]) -> Found
+    requires { ⌜ key ≡ rank (stampAt (now bytes)) ⌝ }
     ensures { λ r. ⌜ FindAs (now (memory .entry)) opened (now (bytes .entry)) r ⌝ }
 {
     let stamp = part(bytes, 0, wire::sizes::STAMP);
     let top = opened.top;
-    if top.key < rank_at(stamp) {
+    if top.key < key {
         return Found::Nothing;
     }
     if stands_at(memory, top.at, stamp) {
         return Found::At(top.at);
     }
     search(memory, opened.t, opened.count, stamp)
+}
+
+pub(crate) fn find(memory: &[u8], opened: Opened, bytes: &[u8]) -> Found
+    ensures { λ r. ⌜ FindAs (now (memory .entry)) opened (now (bytes .entry)) r ⌝ }
+{
+    find_ranked(memory, opened, rank_at(bytes), bytes)
 }
 
 pub(crate) fn max_of(a: u64, b: u64) -> u64
@@ -133,22 +142,23 @@ fn raised(top: Top, key: u64, at: usize) -> Top
     top
 }
 
-// Whether one of the stored writes that were read has the stamp at the place past them.
-fn repeats(memory: &[u8], read: Opened) -> bool
+// Whether one of the stored writes that were read has the stamp at the place past them, whose rank is key.
+fn repeats(memory: &[u8], read: Opened, key: u64) -> bool
+    requires { ⌜ key ≡ rank (stampAt (drop (read .end) (now memory))) ⌝ }
     ensures { λ r. ⌜ RepeatsAs (now (memory .entry)) read r ⌝ }
 {
-    let Found::Nothing = find(memory, read, rest(memory, read.end)) else {
+    let Found::Nothing = find_ranked(memory, read, key, rest(memory, read.end)) else {
         return true;
     };
     false
 }
 
-// n stored writes, no two of one stamp, after the t and the server that were read.
-fn check_writes(memory: &[u8], t: u8, server: u8, n: usize) -> Writes
-    requires { ⌜ writesPlace (shelf t) ≤ length (now memory) ⌝ }
+// n stored writes, no two of one stamp, from their place on, after the t and the server that were read.
+fn check_writes(memory: &[u8], t: u8, server: u8, n: usize, place: usize) -> Writes
+    requires { ⌜ (place ≡ writesPlace (shelf t)) × (place ≤ length (now memory)) ⌝ }
     ensures { λ r. ⌜ WritesAs t server n (now (memory .entry)) r ⌝ }
 {
-    let mut at = writes_place(t);
+    let mut at = place;
     let mut top = Top { key: 0, at: 0 };
     let mut i = 0;
     while i < n {
@@ -156,6 +166,7 @@ fn check_writes(memory: &[u8], t: u8, server: u8, n: usize) -> Writes
         else {
             return Writes::Broken;
         };
+        let key = protocol::Stamp::rank_of(label.number, label.writer);
         let read = Opened {
             t,
             server,
@@ -163,10 +174,9 @@ fn check_writes(memory: &[u8], t: u8, server: u8, n: usize) -> Writes
             end: at,
             top,
         };
-        if repeats(memory, read) {
+        if repeats(memory, read, key) {
             return Writes::Broken;
         }
-        let key = protocol::Stamp::rank_of(label.number, label.writer);
         top = raised(top, key, at);
         at = next.at;
         i += 1;
@@ -176,11 +186,9 @@ fn check_writes(memory: &[u8], t: u8, server: u8, n: usize) -> Writes
 
 // The whole memory. All bytes after the last write are joined.
 pub(crate) fn open(memory: &[u8]) -> MemoryRead
+    requires { ⌜ length (now memory) ≡ memorySize ⌝ }
     ensures { λ r. ⌜ MemoryAs (now (memory .entry)) r ⌝ }
 {
-    if memory.len() != cluster::MEMORY {
-        return MemoryRead::Broken;
-    }
     let Field::Value(t, c1) = wire::fields::byte_field(
         memory,
         Cursor { at: FAULTS },
@@ -200,7 +208,8 @@ pub(crate) fn open(memory: &[u8]) -> MemoryRead
     let Labelled::Value(_, _, c4) = wire::parts::any_candidate_field(memory, c3, t as u8) else {
         return MemoryRead::Broken;
     };
-    let Writes::Past(end, top) = check_writes(memory, t as u8, server as u8, n as usize) else {
+    let Writes::Past(end, top) = check_writes(memory, t as u8, server as u8, n as usize, c4.at)
+    else {
         return MemoryRead::Broken;
     };
     if wire::bytes::all_zero(rest(memory, end)) {

@@ -7,11 +7,13 @@ ghost use Rattle.cluster.specs.Ranges.{topWriter};
 ghost use Rattle.protocol.specs.Server.{barred};
 ghost use Rattle.protocol.specs.Primitives.{real};
 ghost use Rattle.protocol.specs.ServerBytes.{serverTake};
+ghost use Rattle.wire.specs.Places.{packetAt, bodyNumber};
 ghost use Rattle.server.specs.Answers.{EveryPacket, NumberAt, AnswersAny};
 use crate::memory::MemoryRead;
 use crate::memory::Opened;
 use crate::memory::open;
 use wire::packet::PacketRead;
+use wire::packet::Passed;
 use wire::packet::read_packet;
 
 // Whether a client may not send a store or complete of this stamp: only a writer may, and only with a stamp of its own.
@@ -61,22 +63,23 @@ fn refusal(head: protocol::Head, label: protocol::Label, opened: Opened, room: u
 fn answer(
     memory: &mut [u8],
     key: [u8; cluster::KEY],
-    head: protocol::Head,
+    passed: Passed,
     packet: &[u8],
     opened: Opened,
     out: &mut [u8],
 ) -> cluster::Outcome
-    requires { ⌜ 1 ≤ opened .server ⌝ }
-    ensures { λ r. ⌜ AnswersAny (now (memory .entry)) key (now (packet .entry)) (now (out .entry)) head opened
+    requires { ⌜ (1 ≤ opened .server) × (passed .number ≡ bodyNumber (packetAt (passed .head) (now packet) .body)) ⌝ }
+    ensures { λ r. ⌜ AnswersAny (now (memory .entry)) key (now (packet .entry)) (now (out .entry)) (passed .head) opened
         (record { result = r; memory = now (memory .exit); output = now (out .exit) }) ⌝ }
 {
+    let head = passed.head;
     let kind = head.kind;
     match kind {
         protocol::kinds::CLOCK => crate::answers::clock(memory, head, out),
         protocol::kinds::STORE => crate::store::store(memory, head, packet, opened, out),
         protocol::kinds::COMPLETE => crate::answers::complete(memory, head, packet, out),
         protocol::kinds::COLLECT => crate::answers::collect(memory, head, out),
-        protocol::kinds::FILTER => crate::filter::filter(memory, key, head, packet, opened, out),
+        protocol::kinds::FILTER => crate::filter::filter(memory, key, passed, packet, opened, out),
         _ => crate::repair::repair(memory, key, head, packet, opened, out),
     }
 }
@@ -97,12 +100,12 @@ pub fn take(
     let MemoryRead::Value(opened) = open(memory) else {
         return cluster::refused(cluster::refusals::MEMORY);
     };
-    let PacketRead::Value(head, label) = read_packet(packet) else {
+    let PacketRead::Value(passed) = read_packet(packet) else {
         return cluster::refused(cluster::refusals::LAYOUT);
     };
-    let number = refusal(head, label, opened, out.len());
+    let number = refusal(passed.head, passed.label, opened, out.len());
     if number != 0 {
         return cluster::refused(number);
     }
-    answer(memory, *key, head, packet, opened, out)
+    answer(memory, *key, passed, packet, opened, out)
 }

@@ -59,7 +59,7 @@ pub(crate) fn by_tag(
     let tag = hmac::prepared_tag_with(prepared, stamp, digest);
     let tags = part(
         candidate,
-        wire::sizes::STAMP + wire::sizes::NONCE,
+        wire::sizes::NAME,
         wire::sizes::tags_size(opened.t),
     );
     wire::bytes::same(

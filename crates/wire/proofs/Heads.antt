@@ -2,7 +2,7 @@
 -- Assumes nothing.
 use mathlib.Core.Path.{refl, sym, subst}
 use mathlib.Core.List.{List}
-use Prim.Native.Nat.{ℕ, _+_, _*_, _≤_, _<_}
+use Prim.Native.Nat.{ℕ, _≤_, _<_}
 use native.Mathlib.Omega.{arith}
 use borrow.Author.Tests.{le-leb, lt-leb}
 use Rattle.cluster.specs.Config.{shelf}
@@ -20,25 +20,25 @@ at-value {F} {X} {w} {s} {at} {v} {next} t = subst (λ (x : ℕ). Leaves F s at 
 module _ {s : List ℕ} {k p c q b r t u n e : ℕ} (x : Took (byteL 1 12) s 0 k p) (y : Took (byteL 1 topClient) s p c q)
     (z : Took (byteL 1 mostServers) s q b r)
     (w : Took (byteL 1 topFaults) s r t u) (v : Took (number4L 1 topNumber) s u n e) where
-  pub head-took : b ≤ 3 * t + 1 → Past headF s 0 (record { kind = k; client = c; server = b; t = t; call = n }) e headSize
-  unfolding headF shelf
+  pub head-took : b ≤ shelf t .servers → Past headF s 0 (record { kind = k; client = c; server = b; t = t; call = n }) e headSize
+  unfolding headF
   head-took h =
       record {
         leaves =
             leaves-keep _ _
             (leaves-via _ _ _ refl
             (leaves-seq _ _ (at-value x) (leaves-seq _ _ (at-value y) (leaves-seq _ _ (at-value z) (leaves-seq _ _ (at-value w) (at-value v))))))
-            (le-leb b (3 * t + 1) h);
+            (le-leb b (shelf t .servers) h);
         place = omega (arith, x .place, y .place, z .place, w .place, v .place);
       }
 
-  pub head-outside : 3 * t + 1 < b → Stops headF s 0
-  unfolding headF shelf
+  pub head-outside : shelf t .servers < b → Stops headF s 0
+  unfolding headF
   head-outside h =
       stops-test _ _
       (leaves-via _ _ _ refl
       (leaves-seq _ _ (at-value x) (leaves-seq _ _ (at-value y) (leaves-seq _ _ (at-value z) (leaves-seq _ _ (at-value w) (at-value v))))))
-      (lt-leb b (3 * t + 1) h)
+      (lt-leb b (shelf t .servers) h)
 
 -- a number is in its range
 pub byte-range : (lo hi : ℕ) {s : List ℕ} {at v next : ℕ} → Took (byteL lo hi) s at v next → (lo ≤ v) × (v ≤ hi)

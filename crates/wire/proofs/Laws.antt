@@ -1,12 +1,13 @@
 -- For callers of the packet reader and of the packet maker: a packet that was let through is its head's bytes and its body's, its head is in its
--- ranges, and what is made of a head and a body's bytes is the packet's encoding. By the round-trip laws of crate protocol.
+-- ranges, what is told of its body stands at its place, and what is made of a head and a body's bytes is the packet's encoding. By the round-trip
+-- laws of crate protocol.
 -- Assumes nothing.
 use mathlib.Core.Path.{_≡_, refl, sym, ap, _∙_}
 use mathlib.Core.List.{List, [], _∷_, _++_, append-nil}
 use mathlib.Core.Option.{some}
 use Prim.Native.Nat.{ℕ, _≤_}
 use native.Mathlib.Omega.{arith}
-use lib.ListN.{length, drop}
+use lib.ListN.{length, drop, getD}
 use lib.Seq.{drop-at}
 use borrow.Author.Tests.{leb-true, le-ltb}
 use Rattle.cluster.specs.Config.{Config, shelf}
@@ -18,7 +19,11 @@ use Rattle.format.specs.Reading.{over}
 use Rattle.protocol.proofs.Bodies.{decode-ok, encode-decode}
 use Rattle.protocol.proofs.Packets.{head-length}
 use Rattle.protocol.proofs.PacketRoom.{packet-room}
+use Rattle.protocol.specs.Values.{labelOf}
+use Rattle.protocol.specs.View.{stampAt}
+use Rattle.wire.specs.Places.{bodyAt, packetAt, bodyLabel, bodyNumber}
 use Rattle.wire.specs.Make.{writeStep, packetStep}
+use Rattle.wire.proofs.Whole.{count-of}
 
 -- ---- what was let through
 
@@ -95,3 +100,18 @@ body-runs s repairReply = refl
 pub made-of : (p : Packet) (output : List ℕ)
     → packetStep (p .head) (runs (shelf (p .head .t)) (p .body) .0) (runs (shelf (p .head .t)) (p .body) .1) output ≡ writeStep (encode p) output
 made-of p output = made-encode p _ _ output (body-runs (shelf (p .head .t)) (p .body))
+
+-- ---- what is told of a packet's body, by its place
+
+module _ (h : Head) (s : List ℕ) where
+  pub told-stamp : h .kind ≡ 2 → bodyLabel (packetAt h s .body) ≡ labelOf (stampAt (drop headSize s))
+  unfolding packetAt bodyAt bodyLabel
+  told-stamp e = rw e
+
+  pub told-code : h .kind ≡ 4 → bodyNumber (packetAt h s .body) ≡ getD (drop headSize s) 0 0
+  unfolding packetAt bodyAt bodyNumber
+  told-code e = rw e
+
+  pub told-count : h .kind ≡ 9 → bodyNumber (packetAt h s .body) ≡ getD (drop headSize s) 0 0
+  unfolding packetAt bodyAt bodyNumber
+  told-count e = rw e (count-of (shelf (h .t)) (getD (drop headSize s) 0 0) (drop 1 (drop headSize s)))

@@ -73,7 +73,7 @@ module _ (c : Config) {s : List ℕ} {at : ℕ} {l : Label} {v p : ℕ} (x : Too
         record {
           took = record {
             leaves = subst (λ (y : ℕ). Leaves (heldF c) s at (heldBy c d y (drop (stampSize + 1) d)) q) (sym g) r;
-            number = flag-place;
+            number = z ∙ ap (λ (y : ℕ). cond (eqb y 0) 0 1) (sym g);
             place = w ∙ ap (λ (y : ℕ). at + (stampSize + 1 + cond (eqb y 0) 0 (shareSize c (lengthAt (drop (stampSize + 1) d))))) (sym g);
           };
           label = x .label;
@@ -105,7 +105,7 @@ module _ (c : Config) {s : List ℕ} {at : ℕ} {l : Label} {v p : ℕ} (x : Too
               leaves =
                   subst (λ (y : ℕ). Leaves (heldF c) s at (heldBy c d y (drop (stampSize + 1) d)) u) (sym g)
                   (subst (λ (y : List ℕ). Leaves (heldF c) s at (heldBy c d 1 y) u) t y);
-              number = flag-place;
+              number = flag-is-one ∙ ap (λ (y : ℕ). cond (eqb y 0) 0 1) (sym g);
               place = j ∙ ap (λ (y : ℕ). at + (stampSize + 1 + cond (eqb y 0) 0 z)) (sym g);
             };
             label = x .label;

@@ -7,6 +7,7 @@ use native.Mathlib.Omega.{arith}
 use lib.ListN.{length, length-append}
 use borrow.Author.Tests.{le-leb, lt-leb, lt-ltb, le-ltb}
 use Rattle.cluster.specs.Ranges.{packetRoom}
+use Rattle.cluster.specs.Refusals.{wrongSize}
 use Rattle.protocol.specs.declared.Head.{Head}
 use Rattle.hmac.specs.Hmac.{tagSize}
 use Rattle.protocol.specs.declared.Stamp.{Stamp}
@@ -85,7 +86,7 @@ module _ (h : Head) (first second output : List ℕ) where
   short-buffer l = simp (lt-ltb (length output) packetRoom l)
 
   pub short-room : packetRoom ≤ length output → length output < headSize + length first + length second
-      → record { result = record { number = 15; count = 0 }; output = output } ≡ packetStep h first second output
+      → record { result = record { number = wrongSize; count = 0 }; output = output } ≡ packetStep h first second output
   unfolding packetStep writeStep
   short-room l k =
       simp (le-ltb (length output) packetRoom l, lt-ltb (length output) (length (headF .print h ++ (first ++ second))) (omega (arith, size)))

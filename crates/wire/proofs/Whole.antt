@@ -2,46 +2,42 @@
 -- Assumes nothing.
 use mathlib.Core.Path.{_≡_, refl, sym, ap, _∙_, subst}
 use mathlib.Core.Logic.{_⊎_, inl, inr}
-use mathlib.Core.Bool.{Bool, true, false, cond, not}
+use mathlib.Core.Bool.{Bool, true, false, cond}
 use mathlib.Core.List.{List, [], _∷_}
-use mathlib.Core.Option.{Option, none, some}
-use Prim.Native.Nat.{ℕ, _+_, _≤_, _<_}
+use mathlib.Core.Option.{none, some}
+use Prim.Native.Nat.{ℕ, zero, suc, _+_, _*_, _≤_, _<_}
 use native.Mathlib.Omega.{arith}
 use lib.Dec.{eqb}
-use lib.ListN.{length, drop, getD}
+use lib.ListN.{length, drop, getD, length-append}
 use borrow.Author.Tests.{ne-eqb, eqb-true, eqb-false}
 use Rattle.cluster.specs.Config.{Config, shelf}
-use Rattle.cluster.specs.Refusals.{refuse, firstOf}
 use Rattle.protocol.specs.declared.Head.{Head}
 use Rattle.protocol.specs.declared.Label.{Label}
 use Rattle.format.specs.Format.{byte, empty, seq, via, keep}
-use Rattle.protocol.specs.Values.{isSome, labelOf, stampSize}
-use Rattle.protocol.specs.Packet.{Body, Packet, headF, headSize, bodyF, packetF, decode}
-use Rattle.protocol.specs.View.{stampAt, shareAt, heldAt}
+use Rattle.protocol.specs.Values.{isSome, labelOf, stampSize, candidateSize}
+use Rattle.protocol.specs.Packet.{Body, headF, headSize, bodyF, packetF, decode}
+use Rattle.protocol.specs.View.{stampAt, candidateAt, shareAt, heldAt}
 use Rattle.format.specs.Reading.{Leaves, Stops}
 use Rattle.format.proofs.Leaves.{leaves-seq, leaves-via, stops-via, stops-second}
 use Rattle.protocol.proofs.Bodies.{Kind, clock-kind, complete-reply-kind, collect-kind, repair-reply-kind}
 use Rattle.protocol.proofs.Whole.{body-leaves, body-stops, decoded, refused, trailing}
-use Rattle.wire.specs.Places.{bodyAt, packetAt, writeAt, noLabel, bodyLabel, fragmentHeld, fragmentOf, fragmentIn}
-use Rattle.wire.specs.Reads.{Layout, Past, FieldAs, LabelledAs, withoutLabel, BodyAs, PacketAs}
+use Rattle.wire.specs.Places.{bodyAt, packetAt, writeAt, candidateList, noLabel, bodyLabel, bodyNumber, fragmentHeld, fragmentOf, fragmentIn}
+use Rattle.wire.specs.Reads.{Layout, Took, Past, FieldAs, LabelledAs, withoutLabel, TookBody, BodyAs, TookPacket}
 use Rattle.wire.specs.declared.fields.Field.{Field}
 use Rattle.wire.specs.declared.fields.Field.the-variants as field
 use Rattle.wire.specs.declared.parts.Labelled.{Labelled}
 use Rattle.wire.specs.declared.parts.Labelled.the-variants as labelled
-use Rattle.wire.specs.declared.packet.PacketRead.the-variants as packets
 
--- ---- the answer for a packet and its number
+-- ---- the numbers of a list and of what is held
 
-number-of : (s : List ℕ) {o : Option Packet} → decode s ≡ o
-    → firstOf (refuse 7 (not (isSome o)) ∷ []) ≡ firstOf (refuse 7 (not (isSome (decode s))) ∷ [])
-number-of s e = ap (λ (o : Option Packet). firstOf (refuse 7 (not (isSome o)) ∷ [])) (sym e)
+pub count-of : (c : Config) (n : ℕ) (d : List ℕ) → length (candidateList c n d) ≡ n
+unfolding candidateList
+count-of c zero d = refl
+count-of c (suc n) d = omega (arith, length-append (candidateList c n d) (candidateAt c (drop (candidateSize c * n) d) ∷ []), count-of c n d)
 
-pub no-packet : (s : List ℕ) → decode s ≡ none → PacketAs s packets.Broken
-no-packet s e = (number-of s e, e, tt)
-
-pub a-packet : (s : List ℕ) (h : Head) {l : Label} → decode s ≡ some (packetAt h s) → l ≡ bodyLabel (packetAt h s .body)
-    → PacketAs s (packets.Value h l)
-a-packet s h e f = (number-of s e, e, f)
+pub flag-of : {A : Type 0} (t : Bool) (x : A) → _≡_ {A = ℕ} (cond t 0 1) (cond (isSome (cond t none (some x))) 1 0)
+flag-of true x = refl
+flag-of false x = refl
 
 -- ---- bodies
 
@@ -52,27 +48,27 @@ twelve : (j : ℕ) → j ≤ 12 → 12 ≤ j → j ≡ 12
 twelve j h k = omega arith
 
 module _ (c : Config) (s : List ℕ) (at : ℕ) where
-  -- the body of kind j was let through, up to the place p, and l is its label
-  abbrev There : ℕ → Label → ℕ → Type 0
-  There j l p = Leaves (bodyF c j) s at (bodyAt c j (drop at s)) p × (l ≡ bodyLabel (bodyAt c j (drop at s)))
-
   -- a body of one field: what the field's reader answers, the body's reader answers
   module _ {A : Type 0} (L : Layout A) {con : A → Body} {k : ℕ} (d : Kind c k (L .format) con) (e : (x : List ℕ) → con (L .value x) ≡ bodyAt c k x)
-      {j : ℕ} (ej : j ≡ k) where
-    there : {l : Label} {p : ℕ} → Leaves (L .format) s at (L .value (drop at s)) p → l ≡ bodyLabel (bodyAt c k (drop at s)) → There j l p
-    there {l} {p} t f =
-        subst (λ (i : ℕ). There i l p) (sym ej)
-        (subst (λ (b : Body). Leaves (bodyF c k) s at b p) (e (drop at s)) (body-leaves d t), f)
+      (m : (x : List ℕ) → L .number x ≡ bodyNumber (bodyAt c k x)) {j : ℕ} (ej : j ≡ k) where
+    there : {l : Label} {v p : ℕ} → Took L s at v p → l ≡ bodyLabel (bodyAt c k (drop at s)) → TookBody c j s at l v p
+    there {l} {v} {p} t f =
+        subst (λ (i : ℕ). TookBody c i s at l v p) (sym ej)
+        (record {
+          leaves = subst (λ (b : Body). Leaves (bodyF c k) s at b p) (e (drop at s)) (body-leaves d (t .leaves));
+          label = f;
+          number = t .number ∙ m (drop at s);
+        })
 
     broken : Stops (L .format) s at → Stops (bodyF c j) s at
     broken z = subst (λ (i : ℕ). Stops (bodyF c i) s at) (sym ej) (body-stops d z)
 
     pub of-part : ((x : List ℕ) → labelOf (stampAt x) ≡ bodyLabel (bodyAt c k x)) → (r : Labelled) → LabelledAs L s at r → BodyAs c j s at r
-    of-part f (labelled.Value l v p) t = there (t .took .leaves) (t .label ∙ f (drop at s))
+    of-part f (labelled.Value l v p) t = there (t .took) (t .label ∙ f (drop at s))
     of-part f labelled.Broken z = broken z
 
     of-plain : ((x : List ℕ) → noLabel ≡ bodyLabel (bodyAt c k x)) → (y : Field) → FieldAs L s at y → BodyAs c j s at (withoutLabel y)
-    of-plain f (field.Value v p) t = there (t .leaves) (f (drop at s))
+    of-plain f (field.Value v p) t = there t (f (drop at s))
     of-plain f field.Broken z = broken z
 
     pub of-field : ((x : List ℕ) → noLabel ≡ bodyLabel (bodyAt c k x)) → (y : Field) → FieldAs L s at y → {r : Labelled} → r ≡ withoutLabel y
@@ -84,22 +80,26 @@ module _ (c : Config) (s : List ℕ) (at : ℕ) where
   unfolding empty
   nothing h = record { parsed = refl; within = h; ok = tt }
 
-  bare : {con : Body} (k : ℕ) → Kind c k empty (λ x. con) → con ≡ bodyAt c k (drop at s) → noLabel ≡ bodyLabel con → at ≤ length s
-      → (j : ℕ) → j ≡ k → There j noLabel at
-  bare k d e f h j ej =
-      subst (λ (i : ℕ). There i noLabel at) (sym ej)
-      (subst (λ (b : Body). Leaves (bodyF c k) s at b at) e (body-leaves d (nothing h)), f ∙ ap bodyLabel e)
+  bare : {con : Body} (k : ℕ) → Kind c k empty (λ x. con) → con ≡ bodyAt c k (drop at s) → noLabel ≡ bodyLabel con → 0 ≡ bodyNumber con
+      → at ≤ length s → (j : ℕ) → j ≡ k → TookBody c j s at noLabel 0 at
+  bare k d e f g h j ej =
+      subst (λ (i : ℕ). TookBody c i s at noLabel 0 at) (sym ej)
+      (record {
+        leaves = subst (λ (b : Body). Leaves (bodyF c k) s at b at) e (body-leaves d (nothing h));
+        label = f ∙ ap bodyLabel e;
+        number = g ∙ ap bodyNumber e;
+      })
 
   pub bare-as : at ≤ length s → (j : ℕ) → 1 ≤ j → j ≤ 12 → (j ≡ 2 → ⊥) → (j ≡ 3 → ⊥) → (j ≡ 4 → ⊥) → (j ≡ 8 → ⊥) → ((j ≡ 5) ⊎ (j ≡ 11) → ⊥)
-      → (j ≡ 9 → ⊥) → (j ≡ 10 → ⊥) → There j noLabel at
-  unfolding bodyAt bodyLabel
+      → (j ≡ 9 → ⊥) → (j ≡ 10 → ⊥) → TookBody c j s at noLabel 0 at
+  unfolding bodyAt bodyLabel bodyNumber
   bare-as h j l u n2 n3 n4 n8 n5-11 n9 n10 = go (eqb j 1) (eqb j 6) (eqb j 7) refl refl refl
     where
-      go : (x y z : Bool) → eqb j 1 ≡ x → eqb j 6 ≡ y → eqb j 7 ≡ z → There j noLabel at
-      go true y z ex ey ez = bare 1 (clock-kind c) refl refl h j (eqb-true j 1 ex)
-      go false true z ex ey ez = bare 6 (complete-reply-kind c) refl refl h j (eqb-true j 6 ey)
-      go false false true ex ey ez = bare 7 (collect-kind c) refl refl h j (eqb-true j 7 ez)
-      go false false false ex ey ez = bare 12 (repair-reply-kind c) refl refl h j (twelve j u
+      go : (x y z : Bool) → eqb j 1 ≡ x → eqb j 6 ≡ y → eqb j 7 ≡ z → TookBody c j s at noLabel 0 at
+      go true y z ex ey ez = bare 1 (clock-kind c) refl refl refl h j (eqb-true j 1 ex)
+      go false true z ex ey ez = bare 6 (complete-reply-kind c) refl refl refl h j (eqb-true j 6 ey)
+      go false false true ex ey ez = bare 7 (collect-kind c) refl refl refl h j (eqb-true j 7 ez)
+      go false false false ex ey ez = bare 12 (repair-reply-kind c) refl refl refl h j (twelve j u
           (over 11 j (over 10 j (over 9 j (over 8 j (over 7 j (over 6 j (over 5 j (over 4 j
           (over 3 j (over 2 j (over 1 j l (eqb-false j 1 ex)) n2) n3) n4) (λ e. n5-11 (inl e))) (eqb-false j 6 ey)) (eqb-false j 7 ez)) n8) n9) n10)
           (λ e. n5-11 (inr e))))
@@ -114,19 +114,23 @@ module _ {s : List ℕ} {h : Head} {p : ℕ} (f : Past headF s 0 h p headSize) w
   head-past : p ≡ headSize
   head-past = omega (arith, f .place)
 
-  pub packet-label : {l : Label} → l ≡ bodyLabel (bodyAt (shelf (h .t)) (h .kind) (drop p s)) → l ≡ bodyLabel (packetAt h s .body)
-  unfolding packetAt
-  packet-label e = e ∙ ap (λ (k : ℕ). bodyLabel (bodyAt (shelf (h .t)) (h .kind) (drop k s))) head-past
-
   took : {e : ℕ} → Leaves (bodyF (shelf (h .t)) (h .kind)) s p (bodyAt (shelf (h .t)) (h .kind) (drop p s)) e → Leaves packetF s 0 (packetAt h s) e
   unfolding packetF packetAt
   took {e} b =
       subst (λ (k : ℕ). Leaves packetF s 0 (record { head = h; body = bodyAt (shelf (h .t)) (h .kind) (drop k s) }) e) head-past
       (leaves-via _ _ _ refl (leaves-seq _ _ (f .leaves) b))
 
-  pub packet-decoded : {e : ℕ} → Leaves (bodyF (shelf (h .t)) (h .kind)) s p (bodyAt (shelf (h .t)) (h .kind) (drop p s)) e → length s ≤ e → decode s
-      ≡ some (packetAt h s)
-  packet-decoded b k = decoded (took b) k
+  at-head : {A : Type 0} (f : Body → A) {a : A} → a ≡ f (bodyAt (shelf (h .t)) (h .kind) (drop p s)) → a ≡ f (packetAt h s .body)
+  unfolding packetAt
+  at-head f e = e ∙ ap (λ (k : ℕ). f (bodyAt (shelf (h .t)) (h .kind) (drop k s))) head-past
+
+  pub took-packet : {l : Label} {v e : ℕ} → TookBody (shelf (h .t)) (h .kind) s p l v e → length s ≤ e → TookPacket s h l v
+  took-packet b k =
+      record {
+        packet = decoded (took (b .leaves)) k;
+        label = at-head bodyLabel (b .label);
+        number = at-head bodyNumber (b .number);
+      }
 
   pub packet-trailing : {e : ℕ} → Leaves (bodyF (shelf (h .t)) (h .kind)) s p (bodyAt (shelf (h .t)) (h .kind) (drop p s)) e → e < length s → decode s
       ≡ none
@@ -159,13 +163,27 @@ module _ (c : Config) (d : List ℕ) where
   unfolding bodyAt fragmentOf writeAt
   fragment-store k e = rw e
 
-  pub fragment-absent : (k : ℕ) → k ≡ 10 → getD d stampSize 0 ≡ 0 → fragmentOf (bodyAt c k d) ≡ []
-  unfolding bodyAt fragmentOf heldAt fragmentHeld
-  fragment-absent k e z = rw (e, z)
+  -- of a filter's reply, by its number
+  held-number : (k : ℕ) → k ≡ 10 → bodyNumber (bodyAt c k d) ≡ cond (eqb (getD d stampSize 0) 0) 0 1
+  unfolding bodyAt bodyNumber heldAt
+  held-number k e = rw e (sym (flag-of (eqb (getD d stampSize 0) 0) (shareAt c (drop (stampSize + 1) d))))
 
-  pub fragment-present : (k : ℕ) → k ≡ 10 → (getD d stampSize 0 ≡ 0 → ⊥) → shareAt c (drop (stampSize + 1) d) .fragment ≡ fragmentOf (bodyAt c k d)
+  pub fragment-absent : (k : ℕ) → k ≡ 10 → bodyNumber (bodyAt c k d) ≡ 0 → fragmentOf (bodyAt c k d) ≡ []
   unfolding bodyAt fragmentOf heldAt fragmentHeld
-  fragment-present k e n = rw e (simp (ne-eqb (getD d stampSize 0) 0 n))
+  fragment-absent k e z = by (eqb (getD d stampSize 0) 0) refl
+    where
+      by : (t : Bool) → eqb (getD d stampSize 0) 0 ≡ t → fragmentOf (bodyAt c k d) ≡ []
+      by true q = rw (e, q)
+      by false q = absurd (omega (arith, sym (held-number k e) ∙ z, ap {B = ℕ} (λ (t : Bool). cond t 0 1) q))
+
+  pub fragment-present : (k : ℕ) → k ≡ 10 → (bodyNumber (bodyAt c k d) ≡ 0 → ⊥) → shareAt c (drop (stampSize + 1) d) .fragment ≡ fragmentOf
+      (bodyAt c k d)
+  unfolding bodyAt fragmentOf heldAt fragmentHeld
+  fragment-present k e n = by (eqb (getD d stampSize 0) 0) refl
+    where
+      by : (t : Bool) → eqb (getD d stampSize 0) 0 ≡ t → shareAt c (drop (stampSize + 1) d) .fragment ≡ fragmentOf (bodyAt c k d)
+      by true q = absurd (n (held-number k e ∙ ap (λ (t : Bool). cond t 0 1) q))
+      by false q = rw (e, q)
 
 pub fragment-broken : (s : List ℕ) → decode s ≡ none → [] ≡ fragmentIn (decode s)
 unfolding fragmentIn

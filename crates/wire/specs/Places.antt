@@ -5,12 +5,12 @@ use mathlib.Core.List.{List, [], _∷_, _++_}
 use mathlib.Core.Option.{Option, none, some}
 use Prim.Native.Nat.{ℕ, zero, suc, _+_, _*_}
 use lib.Dec.{eqb}
-use lib.ListN.{take, drop, getD, replicate}
+use lib.ListN.{length, take, drop, getD, replicate}
 use Rattle.cluster.specs.Config.{Config, shelf}
 use Rattle.protocol.specs.declared.Head.{Head}
 use Rattle.protocol.specs.declared.Label.{Label}
 use Rattle.format.specs.Format.{value2}
-use Rattle.protocol.specs.Values.{Candidate, Share, Write, blankStamp, labelOf, sameList, sameStamp, nonceSize, stampSize, candidateSize}
+use Rattle.protocol.specs.Values.{Candidate, Share, Write, blankStamp, isSome, labelOf, sameList, sameStamp, nonceSize, stampSize, candidateSize}
 use Rattle.protocol.specs.Packet.{Body, clock, clockReply, store, storeReply, complete, completeReply, collect, collectReply, filter, filterReply, repair, repairReply, Packet, headSize}
 unfoldable pub use Rattle.protocol.specs.Packet.{shareSize}
 use Rattle.protocol.specs.View.{stampAt, candidateAt, shareAt, heldAt}
@@ -82,6 +82,22 @@ bodyLabel (filter x) = noLabel
 bodyLabel (filterReply x) = labelOf (x .stamp)
 bodyLabel (repair x) = labelOf (x .stamp)
 bodyLabel repairReply = noLabel
+
+-- the number that a body's reader reads: the record length of a store's share, the code of its reply, the count of a filter, and of its reply the byte
+-- that says whether a share follows; 0 where there is none
+unfoldable pub bodyNumber : Body → ℕ
+bodyNumber clock = 0
+bodyNumber (clockReply x) = 0
+bodyNumber (store x) = x .share .size
+bodyNumber (storeReply x) = x
+bodyNumber (complete x) = 0
+bodyNumber completeReply = 0
+bodyNumber collect = 0
+bodyNumber (collectReply x) = 0
+bodyNumber (filter x) = length x
+bodyNumber (filterReply x) = cond (isSome (x .share)) 1 0
+bodyNumber (repair x) = 0
+bodyNumber repairReply = 0
 
 -- the fragment of a packet of kind 3 or 10; none in a broken packet and in any other
 unfoldable pub fragmentHeld : Option Share → List ℕ

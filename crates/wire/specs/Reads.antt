@@ -1,24 +1,25 @@
 -- What each reader's answer says of the bytes from a place on. Each enum has one definition by cases, document 01's number and the values, and
 -- every promise goes by it: 0 where the format takes bytes there, with a number and the cursor past the field, whose value is known by its place;
--- refusal 7 exactly where the format takes nothing. (In a server's memory the same is refusal 2, as memoryNumber says.)
+-- refusal 7 exactly where the format takes nothing. (In a server's memory the same is refusal 2, as crate server's memoryAnswer says.)
 use mathlib.Core.Path.{_≡_}
-use mathlib.Core.List.{List, [], _∷_}
+use mathlib.Core.List.{List}
 use mathlib.Core.Logic.{_⊎_}
 use mathlib.Core.Option.{none, some}
-use mathlib.Core.Bool.{true, false, not}
+use mathlib.Core.Bool.{true, false, cond}
 use Prim.Native.Nat.{ℕ, _+_, _-_, _*_, _≤_, _<_}
+use lib.Dec.{eqb}
 use lib.ListN.{length, take, drop, getD}
 use Rattle.cluster.specs.Config.{Config}
-use Rattle.cluster.specs.Refusals.{refuse, firstOf, ByNumber}
+use Rattle.cluster.specs.Refusals.{ByNumber}
 use Rattle.protocol.specs.declared.Head.{Head}
 use Rattle.protocol.specs.declared.Label.{Label}
 use Rattle.protocol.specs.declared.Stamp.{Stamp}
 use Rattle.format.specs.Format.{Fmt, zeros, byte, number2, number4, run, many}
-use Rattle.protocol.specs.Values.{Candidate, Share, Write, Held, labelOf, isSome, stampSize, candidateSize}
-use Rattle.protocol.specs.Packet.{headF, headSize, stampF, anyStampF, shareF, writeF, candidateF, anyCandidateF, candidatesF, heldF, codeF, bodyF, decode}
+use Rattle.protocol.specs.Values.{Candidate, Share, Write, Held, labelOf, stampSize, candidateSize}
+use Rattle.protocol.specs.Packet.{headF, headSize, stampF, anyStampF, shareF, writeF, candidateF, anyCandidateF, candidatesF, heldF, codeF, bodyF, decode, brokenPacket}
 use Rattle.protocol.specs.View.{stampAt, candidateAt, shareAt, heldAt}
 use Rattle.format.specs.Reading.{bytesAt, Leaves, Stops, number4At}
-use Rattle.wire.specs.Places.{lengthAt, shareSize, writeAt, candidateList, heldSize, bodyAt, packetAt, noLabel, bodyLabel}
+use Rattle.wire.specs.Places.{lengthAt, shareSize, writeAt, candidateList, heldSize, bodyAt, packetAt, noLabel, bodyLabel, bodyNumber}
 use Rattle.wire.specs.declared.fields.Field.{Field}
 use Rattle.wire.specs.declared.fields.Field.the-variants as field
 use Rattle.wire.specs.declared.fields.Run.{Run}
@@ -51,12 +52,12 @@ pub record FieldAnswer : Type 0 where
 
 abbrev pub fieldAnswer : Field → FieldAnswer
 fieldAnswer (field.Value v c) = record { number = 0; value = v; next = c .at }
-fieldAnswer field.Broken = record { number = 7; value = 0; next = 0 }
+fieldAnswer field.Broken = record { number = brokenPacket; value = 0; next = 0 }
 
 abbrev pub FieldAs : {A : Type 0} → Layout A → List ℕ → ℕ → Field → Type 0
 FieldAs L s at r =
     let a = fieldAnswer r in
-    ByNumber 7 (Took L s at (a .value) (a .next)) (Stops (L .format) s at) (a .number)
+    ByNumber brokenPacket (Took L s at (a .value) (a .next)) (Stops (L .format) s at) (a .number)
 
 -- ---- parts that begin with a stamp, whose number and writer are answered too
 
@@ -73,12 +74,12 @@ pub record LabelledAnswer : Type 0 where
 
 abbrev pub labelledAnswer : Labelled → LabelledAnswer
 labelledAnswer (labelled.Value l v c) = record { number = 0; label = l; value = v; next = c .at }
-labelledAnswer labelled.Broken = record { number = 7; label = noLabel; value = 0; next = 0 }
+labelledAnswer labelled.Broken = record { number = brokenPacket; label = noLabel; value = 0; next = 0 }
 
 abbrev pub LabelledAs : {A : Type 0} → Layout A → List ℕ → ℕ → Labelled → Type 0
 LabelledAs L s at r =
     let a = labelledAnswer r in
-    ByNumber 7 (TookLabelled L s at (a .label) (a .value) (a .next)) (Stops (L .format) s at) (a .number)
+    ByNumber brokenPacket (TookLabelled L s at (a .label) (a .value) (a .next)) (Stops (L .format) s at) (a .number)
 
 -- a field that begins with no stamp
 abbrev pub withoutLabel : Field → Labelled
@@ -91,7 +92,7 @@ withoutLabel field.Broken = labelled.Broken
 abbrev pub RangedAs : ℕ → ℕ → ℕ → ℕ → Field → Type 0
 RangedAs lo hi v next r =
     let a = fieldAnswer r in
-    ByNumber 7 ((a .value ≡ v) × (lo ≤ v) × (v ≤ hi) × (a .next ≡ next)) ((v < lo) ⊎ (hi < v)) (a .number)
+    ByNumber brokenPacket ((a .value ≡ v) × (lo ≤ v) × (v ≤ hi) × (a .next ≡ next)) ((v < lo) ⊎ (hi < v)) (a .number)
 
 -- a number of w bytes
 abbrev pub numberL : Fmt ℕ → (List ℕ → ℕ) → ℕ → Layout ℕ
@@ -153,7 +154,7 @@ candidatesL s =
 
 -- what a server holds for a stamp answers the byte after the stamp
 abbrev pub heldL : Config → Layout Held
-heldL s = record { format = heldF s; value = heldAt s; number = λ d. getD d stampSize 0; size = heldSize s }
+heldL s = record { format = heldF s; value = heldAt s; number = λ d. cond (eqb (getD d stampSize 0) 0) 0 1; size = heldSize s }
 
 -- ---- runs of bytes, which have no number
 
@@ -168,10 +169,10 @@ pub record RunAnswer : Type 0 where
 
 abbrev pub runAnswer : Run → RunAnswer
 runAnswer (runs.Past c) = record { number = 0; next = c .at }
-runAnswer runs.Broken = record { number = 7; next = 0 }
+runAnswer runs.Broken = record { number = brokenPacket; next = 0 }
 
 abbrev pub RunAs : ℕ → List ℕ → ℕ → Run → Type 0
-RunAs n s at r = let a = runAnswer r in ByNumber 7 (Past (run n) s at (bytesAt s at n) (a .next) n) (Stops (run n) s at) (a .number)
+RunAs n s at r = let a = runAnswer r in ByNumber brokenPacket (Past (run n) s at (bytesAt s at n) (a .next) n) (Stops (run n) s at) (a .number)
 
 pub record Zeros (n : ℕ) (s : List ℕ) (at next : ℕ) : Type 0 where
   pub zero : zeros (take n (drop at s)) ≡ true
@@ -181,12 +182,12 @@ pub record Zeros (n : ℕ) (s : List ℕ) (at next : ℕ) : Type 0 where
 abbrev pub ZeroAs : ℕ → List ℕ → ℕ → Run → Type 0
 ZeroAs n s at r =
     let a = runAnswer r in
-    ByNumber 7 (Zeros n s at (a .next)) ((length s - at < n) ⊎ ((at + n ≤ length s) × (zeros (take n (drop at s)) ≡ false))) (a .number)
+    ByNumber brokenPacket (Zeros n s at (a .next)) ((length s - at < n) ⊎ ((at + n ≤ length s) × (zeros (take n (drop at s)) ≡ false))) (a .number)
 
 abbrev pub ManyAs : Config → ℕ → List ℕ → ℕ → Run → Type 0
 ManyAs c n s at r =
     let a = runAnswer r in
-    ByNumber 7 (Past (many n (candidateF c)) s at (candidateList c n (drop at s)) (a .next) (candidateSize c * n))
+    ByNumber brokenPacket (Past (many n (candidateF c)) s at (candidateList c n (drop at s)) (a .next) (candidateSize c * n))
     (Stops (many n (candidateF c)) s at) (a .number)
 
 -- ---- heads, bodies, packets
@@ -197,34 +198,46 @@ pub record HeadAnswer : Type 0 where
   pub head : Head
   pub next : ℕ
 
+-- a broken packet has no head
+abbrev pub noHead : Head
+noHead = record { kind = 0; client = 0; server = 0; t = 0; call = 0 }
+
 abbrev pub headAnswer : HeadRead → HeadAnswer
 headAnswer (heads.Value h c) = record { number = 0; head = h; next = c .at }
-headAnswer heads.Broken = record { number = 7; head = record { kind = 0; client = 0; server = 0; t = 0; call = 0 }; next = 0 }
+headAnswer heads.Broken = record { number = brokenPacket; head = noHead; next = 0 }
 
 abbrev pub HeadAs : List ℕ → HeadRead → Type 0
-HeadAs s r = let a = headAnswer r in ByNumber 7 (Past headF s 0 (a .head) (a .next) headSize) (Stops headF s 0) (a .number)
+HeadAs s r = let a = headAnswer r in ByNumber brokenPacket (Past headF s 0 (a .head) (a .next) headSize) (Stops headF s 0) (a .number)
+
+-- the body of kind k was let through, up to the place next: its label, and its number
+pub record TookBody (c : Config) (k : ℕ) (s : List ℕ) (at : ℕ) (l : Label) (v next : ℕ) : Type 0 where
+  pub leaves : Leaves (bodyF c k) s at (bodyAt c k (drop at s)) next
+  pub label : l ≡ bodyLabel (bodyAt c k (drop at s))
+  pub number : v ≡ bodyNumber (bodyAt c k (drop at s))
 
 abbrev pub BodyAs : Config → ℕ → List ℕ → ℕ → Labelled → Type 0
 BodyAs c k s at r =
     let a = labelledAnswer r in
-    let body = bodyAt c k (drop at s) in
-    ByNumber 7 (Leaves (bodyF c k) s at body (a .next) × (a .label ≡ bodyLabel body)) (Stops (bodyF c k) s at) (a .number)
+    ByNumber brokenPacket (TookBody c k s at (a .label) (a .value) (a .next)) (Stops (bodyF c k) s at) (a .number)
 
--- document 01's number of each answer
-abbrev pub packetNumber : PacketRead → ℕ
-packetNumber (packets.Value h l) = 0
-packetNumber packets.Broken = 7
+-- the packet was let through: its head, which with the bytes tells the whole packet; its body's label, and its number
+pub record TookPacket (s : List ℕ) (h : Head) (l : Label) (v : ℕ) : Type 0 where
+  pub packet : decode s ≡ some (packetAt h s)
+  pub label : l ≡ bodyLabel (packetAt h s .body)
+  pub number : v ≡ bodyNumber (packetAt h s .body)
 
--- the packet's head, which with the bytes tells the whole packet; or no packet
-abbrev pub PacketIs : List ℕ → PacketRead → Type 0
-PacketIs s (packets.Value h l) = decode s ≡ some (packetAt h s)
-PacketIs s packets.Broken = decode s ≡ none
+-- document 01's number, and the values
+pub record PacketAnswer : Type 0 where
+  pub number : ℕ
+  pub head : Head
+  pub label : Label
+  pub value : ℕ
 
--- number and writer of the stamp that the packet's body begins with; a broken packet has none
-abbrev pub LabelIs : List ℕ → PacketRead → Type 0
-LabelIs s (packets.Value h l) = l ≡ bodyLabel (packetAt h s .body)
-LabelIs s packets.Broken = Unit {0}
+abbrev pub packetAnswer : PacketRead → PacketAnswer
+packetAnswer (packets.Value p) = record { number = 0; head = p .head; label = p .label; value = p .number }
+packetAnswer packets.Broken = record { number = brokenPacket; head = noHead; label = noLabel; value = 0 }
 
--- the answer, with the number that the refusals give the bytes
 abbrev pub PacketAs : List ℕ → PacketRead → Type 0
-PacketAs s r = (packetNumber r ≡ firstOf (refuse 7 (not (isSome (decode s))) ∷ [])) × PacketIs s r × LabelIs s r
+PacketAs s r =
+    let a = packetAnswer r in
+    ByNumber brokenPacket (TookPacket s (a .head) (a .label) (a .value)) (decode s ≡ none) (a .number)

@@ -113,7 +113,7 @@ pub fn bytes2(v: u16) -> [u8; crate::sizes::LENGTH]
 }
 
 // A number's 4 bytes, the highest first.
-pub fn bytes4(v: u32) -> [u8; crate::sizes::NUMBER]
+pub(crate) fn bytes4(v: u32) -> [u8; crate::sizes::NUMBER]
     ensures { λ r. ⌜ r ≡ print4 v ⌝ }
 {
     [

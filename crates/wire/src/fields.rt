@@ -19,7 +19,7 @@ pub enum Field {
 }
 
 // A run of bytes that is there: the cursor past it.
-pub enum Run {
+pub(crate) enum Run {
     Past(Cursor),
     Broken,
 }
@@ -54,10 +54,10 @@ pub(crate) fn number2_field(s: &[u8], c: Cursor, lo: u32, hi: u32) -> Field
 {
     let at = c.at;
     let b = rest(s, at);
-    if b.len() < 2 {
+    if b.len() < crate::sizes::LENGTH {
         return Field::Broken;
     }
-    ranged(number2(b), lo, hi, at + 2)
+    ranged(number2(b), lo, hi, at + crate::sizes::LENGTH)
 }
 
 // A number of 4 bytes, from lo to hi.
@@ -66,10 +66,10 @@ pub(crate) fn number4_field(s: &[u8], c: Cursor, lo: u32, hi: u32) -> Field
 {
     let at = c.at;
     let b = rest(s, at);
-    if b.len() < 4 {
+    if b.len() < crate::sizes::NUMBER {
         return Field::Broken;
     }
-    ranged(number4(b), lo, hi, at + 4)
+    ranged(number4(b), lo, hi, at + crate::sizes::NUMBER)
 }
 
 // n bytes.
@@ -104,13 +104,13 @@ pub(crate) fn zero_run(s: &[u8], c: Cursor, n: usize) -> Run
 pub(crate) fn code_field(s: &[u8], c: Cursor) -> Field
     ensures { λ r. ⌜ FieldAs codeL (now (s .entry)) (c .at) r ⌝ }
 {
-    let Field::Value(v, c1) = byte_field(s, c, 0, 11) else {
+    let Field::Value(v, c1) = byte_field(s, c, 0, protocol::codes::FULL as u32) else {
         return Field::Broken;
     };
     if v == 0 {
         return Field::Value(v, c1);
     }
-    if v < 10 {
+    if v < (protocol::codes::HELD as u32) {
         return Field::Broken;
     }
     Field::Value(v, c1)

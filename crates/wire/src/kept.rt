@@ -5,11 +5,9 @@ pub const KEPT: usize = 24576;
 
 pub const NONCE: usize = cluster::TOP_LENGTH;
 
-pub const CHOSEN: usize = NONCE + cluster::KEY;
+pub const CHOSEN: usize = NONCE + crate::sizes::NONCE;
 
-pub const CANDIDATE_SLOT: usize = crate::sizes::STAMP
-    + cluster::KEY
-    + hmac::TAG * cluster::MOST_SERVERS;
+pub const CANDIDATE_SLOT: usize = crate::sizes::NAME + hmac::TAG * cluster::MOST_SERVERS;
 
 pub const CANDIDATES: usize = CHOSEN + CANDIDATE_SLOT;
 

@@ -84,7 +84,8 @@ pub fn put_head(out: &mut [u8], at: usize, head: protocol::Head) -> usize
     put_number4(out, a, head.call)
 }
 
-// A packet of a head and of a body in two runs: refused with 15, or its bytes over the start of the buffer and their count.
+// A packet of a head and of a body in two runs: refused, or its bytes over the start of the buffer and their count.
+// Runs that a buffer for every packet has no room for are no packet's body: 255.
 pub fn make_packet(
     head: protocol::Head,
     first: &[u8],
@@ -98,10 +99,10 @@ pub fn make_packet(
         return cluster::refused(cluster::refusals::ROOM);
     }
     if out.len() - crate::sizes::HEAD < first.len() {
-        return cluster::refused(cluster::refusals::ROOM);
+        return cluster::refused(cluster::WRONG_SIZE);
     }
     if out.len() - crate::sizes::HEAD - first.len() < second.len() {
-        return cluster::refused(cluster::refusals::ROOM);
+        return cluster::refused(cluster::WRONG_SIZE);
     }
     let a = put_head(out, 0, head);
     let b = put(out, a, first);

@@ -7,7 +7,6 @@ ghost use Rattle.protocol.specs.Packet.{decode};
 ghost use Rattle.protocol.specs.View.{shareAt};
 ghost use Rattle.wire.specs.Places.{fragmentIn};
 ghost use Rattle.wire.specs.Reads.{HeadAs, BodyAs, PacketAs};
-use crate::bytes::byte_at;
 use crate::bytes::number2;
 use crate::bytes::part;
 use crate::bytes::rest;
@@ -27,14 +26,22 @@ use crate::parts::unlabelled;
 use crate::parts::write_field;
 
 // A packet's head, and the cursor past it.
-pub enum HeadRead {
+pub(crate) enum HeadRead {
     Value(protocol::Head, Cursor),
     Broken,
 }
 
-// A packet that was let through: its head, and number and writer of the stamp that its body begins with; or refusal 7.
+// What is told of a packet that was let through, so that nobody reads it again by its place: its head, number and writer of the stamp that its body
+// begins with, and the number that the body's reader read (a store's record length, its reply's code, a filter's count, its reply's byte).
+pub struct Passed {
+    pub head: protocol::Head,
+    pub label: protocol::Label,
+    pub number: u32,
+}
+
+// A packet that was let through, or refusal 7.
 pub enum PacketRead {
-    Value(protocol::Head, protocol::Label),
+    Value(Passed),
     Broken,
 }
 
@@ -42,7 +49,12 @@ pub enum PacketRead {
 pub(crate) fn head_field(s: &[u8]) -> HeadRead
     ensures { λ r. ⌜ HeadAs (now (s .entry)) r ⌝ }
 {
-    let Field::Value(kind, c1) = byte_field(s, Cursor { at: 0 }, 1, 12) else {
+    let Field::Value(kind, c1) = byte_field(
+        s,
+        Cursor { at: 0 },
+        protocol::kinds::CLOCK as u32,
+        protocol::kinds::REPAIR_REPLY as u32,
+    ) else {
         return HeadRead::Broken;
     };
     let Field::Value(client, c2) = byte_field(s, c1, 1, cluster::TOP_CLIENT as u32) else {
@@ -57,7 +69,7 @@ pub(crate) fn head_field(s: &[u8]) -> HeadRead
     let Field::Value(call, c5) = number4_field(s, c4, 1, cluster::TOP_NUMBER as u32) else {
         return HeadRead::Broken;
     };
-    if 3 * t + 1 < server {
+    if cluster::servers(t as u8) < (server as usize) {
         return HeadRead::Broken;
     }
     HeadRead::Value(
@@ -98,14 +110,18 @@ pub fn read_packet(packet: &[u8]) -> PacketRead
     };
     let kind = head.kind;
     let t = head.t;
-    let Labelled::Value(label, _, c2) = body_field(packet, c1, kind, t) else {
+    let Labelled::Value(label, number, c2) = body_field(packet, c1, kind, t) else {
         return PacketRead::Broken;
     };
     let end = c2.at;
     if end < packet.len() {
         return PacketRead::Broken;
     }
-    PacketRead::Value(head, label)
+    PacketRead::Value(Passed {
+        head,
+        label,
+        number,
+    })
 }
 
 // The fragment in a share, as that part of the share.
@@ -123,16 +139,17 @@ pub fn share_fragment(share: &[u8], t: u8) -> &[u8]
 pub fn fragment(packet: &[u8]) -> &[u8]
     ensures { λ r. ⌜ now r ≡ fragmentIn (decode (now (packet .entry))) ⌝ }
 {
-    let PacketRead::Value(head, _) = read_packet(packet) else {
+    let PacketRead::Value(passed) = read_packet(packet) else {
         return &packet[..0];
     };
+    let head = passed.head;
     let kind = head.kind;
     let t = head.t;
     let at = crate::sizes::HEAD + crate::sizes::STAMP;
     match kind {
         protocol::kinds::STORE => share_fragment(rest(packet, at), t),
         protocol::kinds::FILTER_REPLY => {
-            if byte_at(packet, at) == 0 {
+            if passed.number == 0 {
                 return &packet[..0];
             }
             share_fragment(rest(packet, at + 1), t)

@@ -162,7 +162,7 @@ pub(crate) fn candidate_run(s: &[u8], c: Cursor, t: u8, n: u32) -> Run
     let mut at = c.at;
     let mut i = 0;
     while i < n {
-        let Labelled::Value(label, _, next) = candidate_field(s, Cursor { at }, t) else {
+        let Labelled::Value(_, _, next) = candidate_field(s, Cursor { at }, t) else {
             return Run::Broken;
         };
         at = next.at;
@@ -204,7 +204,7 @@ pub(crate) fn held_field(s: &[u8], c: Cursor, t: u8) -> Labelled
     if flag == 0 {
         return Labelled::Value(label, flag, c2);
     }
-    let Field::Value(n, c3) = share_field(s, c2, t) else {
+    let Field::Value(_, c3) = share_field(s, c2, t) else {
         return Labelled::Broken;
     };
     Labelled::Value(label, flag, c3)

@@ -19,6 +19,9 @@ pub const LABEL: usize = NUMBER + 1;
 
 pub const STAMP: usize = LABEL + hmac::TAG;
 
+// Bytes of a candidate without its tags.
+pub const NAME: usize = STAMP + NONCE;
+
 // Bytes of the record length that a share begins with; of a stamp and the byte that says whether a share follows; and of these and that length.
 pub const LENGTH: usize = 2;
 
@@ -41,7 +44,7 @@ pub fn tags_size(t: u8) -> usize
 pub fn candidate_size(t: u8) -> usize
     ensures { λ r. ⌜ r ≡ candidateSize (shelf t) ⌝ }
 {
-    STAMP + NONCE + hmac::TAG * cluster::servers(t)
+    NAME + tags_size(t)
 }
 
 // Bytes of a fragment of a content of n bytes. Each t has its own divisor, which the compiler then knows.
@@ -49,19 +52,13 @@ pub fn fragment_size(t: u8, n: u32) -> usize
     ensures { λ r. ⌜ r ≡ fragmentSize (shelf t .threshold) n ⌝ }
 {
     let size = n as usize;
-    if t == 1 {
-        return (size + 1) / 2;
+    match t {
+        1 => (size + 1) / 2,
+        2 => (size + 2) / 3,
+        3 => (size + 3) / 4,
+        4 => (size + 4) / 5,
+        _ => (size + (t as usize)) / ((t as usize) + 1),
     }
-    if t == 2 {
-        return (size + 2) / 3;
-    }
-    if t == 3 {
-        return (size + 3) / 4;
-    }
-    if t == 4 {
-        return (size + 4) / 5;
-    }
-    (size + (t as usize)) / ((t as usize) + 1)
 }
 
 // Bytes of a share of a content of n bytes.

@@ -1,27 +1,34 @@
 // Stamps and candidates' heads by value. The type Stamp, its blank, its order and its tests stand in crate protocol.
 ghost use mathlib.Core.Path.{_≡_};
-ghost use Rattle.protocol.specs.Values.{rank, below, stampSize};
+ghost use Rattle.protocol.specs.Values.{labelOf, rank, below, stampSize};
 ghost use Rattle.protocol.specs.View.{stampAt};
 ghost use Rattle.wire.specs.Places.{padded, blankHead, sameHead, headAt};
+
+// Number and writer of the stamp of the first bytes.
+pub fn label_at(s: &[u8]) -> protocol::Label
+    ensures { λ r. ⌜ r ≡ labelOf (stampAt (now (s .entry))) ⌝ }
+{
+    protocol::Label {
+        number: crate::bytes::number4(s),
+        writer: crate::bytes::byte_at(s, crate::sizes::NUMBER),
+    }
+}
 
 // The stamp of the first bytes.
 pub fn stamp_at(s: &[u8]) -> protocol::Stamp
     ensures { λ r. ⌜ r ≡ stampAt (padded stampSize (now (s .entry))) ⌝ }
 {
-    let number = crate::bytes::number4(s);
-    let writer = crate::bytes::byte_at(s, crate::sizes::NUMBER);
+    let label = label_at(s);
     let tag = crate::bytes::tag_of(crate::bytes::rest(s, crate::sizes::LABEL));
-    protocol::Stamp::new(number, writer, tag)
+    protocol::Stamp::new(label.number, label.writer, tag)
 }
 
 // The rank of the stamp of the first bytes: its place in the order of stamps.
 pub fn rank_at(s: &[u8]) -> u64
     ensures { λ r. ⌜ r ≡ rank (stampAt (now (s .entry))) ⌝ }
 {
-    protocol::Stamp::rank_of(
-        crate::bytes::number4(s),
-        crate::bytes::byte_at(s, crate::sizes::NUMBER),
-    )
+    let label = label_at(s);
+    protocol::Stamp::rank_of(label.number, label.writer)
 }
 
 // A candidate without its tags.

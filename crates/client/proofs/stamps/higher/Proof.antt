@@ -12,24 +12,27 @@ use Rattle.client.proofs.stamps.higher.Statement.{statement}
 use Rattle.client.proofs.stamps.higher.Tie as tie
 
 returns : tie.Need-returns
-unfolding stampAt
 returns c =
-    let a = c .before .before .before .args in
-    let e = c .before .number4 .ensures in
+    let z = c .before .before in
+    let a = z .args in
+    let e = z .pre .1 in
     sym (stays-low (a .writers .now) (a .body .now) (a .high) (rw e at (c .if1 .taken)))
 
 -- the number is higher, and the tags compared are the stamp's and the one that the writers' key gives
-up : (c : tie.Else1) → c .before .before .before .args .high < stampAt (c .before .before .before .args .body .now) .number
-unfolding stampAt
-up c = rw (c .before .number4 .ensures) at (c .if1 .left)
+up : (c : tie.Else1) → c .before .before .args .high < stampAt (c .before .before .args .body .now) .number
+up c = let e = c .before .before .pre .1 in rw e at (c .if1 .left)
 
 -- Places far back, each named once: the place, and from where it is seen.
 abbrev shared-slice-known-from-part : tie.After-part → tie.After-shared-slice-known
-shared-slice-known-from-part c = c .before .before .before .before
+shared-slice-known-from-part c = c .before .before .before
+
+abbrev part-from-same : tie.After-same → tie.After-part
+part-from-same c = c .before .before .before .before
 
 tags : (c : tie.After-same)
-    → let a = c .before .before .before .before .before .before .before .before .before .args in c .same .result ≡ sameList
-    (bytesAt (a .body .now) 5 tagSize) (tagOf (a .writers .now) (bytesAt (a .body .now) 0 5))
+    → let at-part = c .before .before .before .before in
+    let a = at-part .before .before .before .before .args in
+    c .same .result ≡ sameList (bytesAt (a .body .now) 5 tagSize) (tagOf (a .writers .now) (bytesAt (a .body .now) 0 5))
 tags c = c .same .ensures ∙ rw (
   c .before .before .part2 .ensures,
   c .before .before .before .tag .ensures,
@@ -37,23 +40,24 @@ tags c = c .same .ensures ∙ rw (
 )
 
 returns-2 : tie.Need-returns-2
-unfolding stampAt
 returns-2 c =
-    let at-part = c .before .before .before .before .before in
+    let at-part = part-from-same (c .before) in
     let at-shared-slice-known = shared-slice-known-from-part at-part in
-    let a = at-shared-slice-known .before .args in
-    at-part .before .before .before .number4 .ensures ∙ sym (raised (a .writers .now) (a .body .now) (a .high)
-    (λ k. at-shared-slice-known .shared-slice-known .given k .fits) (omega (arith, at-shared-slice-known .before .pre))
+    let z = at-shared-slice-known .before in
+    let a = z .args in
+    z .pre .1 ∙ sym (raised (a .writers .now) (a .body .now) (a .high)
+    (λ k. at-shared-slice-known .shared-slice-known .given k .fits) (omega (arith, z .pre .0))
     (up (at-part .before .before)) (sym (tags (c .before)) ∙ c .if2 .taken))
 
 returns-3 : tie.Need-returns-3
 returns-3 c =
-    let at-part = c .before .before .before .before .before in
+    let at-part = part-from-same (c .before) in
     let at-shared-slice-known = shared-slice-known-from-part at-part in
-    let a = at-shared-slice-known .before .args in
+    let z = at-shared-slice-known .before in
+    let a = z .args in
     sym (not-raised (a .writers .now) (a .body .now) (a .high) (λ k. at-shared-slice-known .shared-slice-known .given k .fits)
-    (omega (arith, at-shared-slice-known .before .pre)) (up (at-part .before .before)) (sym (tags (c .before)) ∙ c .if2 .left))
+    (omega (arith, z .pre .0)) (up (at-part .before .before)) (sym (tags (c .before)) ∙ c .if2 .left))
 
 pub higher-spec : {M : Type 1} → statement M
-higher-spec = tie.close (tie.spec (λ c κs. search needs) returns (λ c κs. search needs) (λ c κs. search needs) (λ c κs. search needs)
-    (λ c. search needs) (λ c κs. search needs) returns-2 returns-3)
+higher-spec = tie.close (tie.spec returns (λ c κs. search needs) (λ c κs. search needs) (λ c κs. search needs) (λ c. search needs)
+    (λ c κs. search needs) returns-2 returns-3)

@@ -10,7 +10,7 @@ returns c = rw (c .refused .ensures) (latest-size (c .before .before .before .ar
 returns-2 : tie.Need-returns-2
 returns-2 c =
     let at-else1 = c .before .before .before .before .before in
-    let m = rw (c .before .enum-told .given .1) at (c .before .before .before .«open» .ensures .1) in
+    let m = rw (c .before .enum-told .given .1) at (c .before .before .before .«open» .ensures) in
     rw (c .refused2 .ensures) (latest-broken (at-else1 .before .before .args .memory .now) (at-else1 .if1 .left) m)
 
 returns-3 : tie.Need-returns-3
@@ -18,7 +18,7 @@ returns-3 c =
     let at-candidate-size = c .before .before .before .before in
     let at-opened = at-candidate-size .before .before .before .before in
     let at-else1 = at-opened .before .before .before .before in
-    let m = rw (at-opened .opened .given .1) at (at-opened .before .before .«open» .ensures .1) in
+    let m = rw (at-opened .opened .given .1) at (at-opened .before .before .«open» .ensures) in
     latest-blanked (at-else1 .before .before .args .memory .now) (at-else1 .if1 .left) (λ i. at-else1 .before .slice-known .given i .fits) m
     (at-candidate-size .candidate-size .ensures) (c .before .before .before .part .ensures) (c .before .before .put .ensures)
 

@@ -7,10 +7,9 @@ use native.Mathlib.Omega.{arith}
 use lib.ListN.{length}
 use Rattle.cluster.specs.Config.{shelf}
 use Rattle.cluster.specs.Ranges.{topFaults, memorySize, capacity}
-use Rattle.protocol.proofs.Memories.{memory-size}
 use Rattle.wire.specs.Reads.{Took, TookLabelled, byteL, anyCandidateL}
 use Rattle.wire.proofs.Heads.{byte-range}
-use Rattle.server.proofs.Open.{broken, opened, no-t, no-server, no-count, no-latest, writes-within, no-writes, opens, no-tail, servers-most}
+use Rattle.server.proofs.Open.{no-t, no-server, no-count, no-latest, at-writes, no-writes, opens, no-tail, servers-most}
 use Rattle.server.proofs.memory.open.Statement.{statement}
 use Rattle.server.proofs.memory.open.Tie as tie
 
@@ -18,7 +17,7 @@ use Rattle.server.proofs.memory.open.Tie as tie
 
 module _ (c : tie.After-t) where
   abbrev memory : List ℕ
-  memory = c .before .before .before .before .before .args .memory .now
+  memory = c .before .before .before .before .args .memory .now
 
   abbrev t : ℕ
   t = c .t .given .0 .0
@@ -27,7 +26,7 @@ module _ (c : tie.After-t) where
   past-t = c .t .given .0 .1 .0 .at
 
   size-is : length memory ≡ memorySize
-  size-is = c .before .before .before .if1 .left
+  size-is = c .before .before .before .before .pre
 
   t-took : Took (byteL 1 topFaults) memory 0 t past-t
   t-took = rw (c .t .given .1) at (c .before .before .byte-field .ensures)
@@ -79,11 +78,7 @@ module _ (c : tie.After-c4) where
 -- ---- the needs
 
 returns : tie.Need-returns
-returns c = let d = c .before .before .args .memory .now in broken d (memory-size d (c .if1 .taken))
-
-returns-2 : tie.Need-returns-2
-returns-2 c = broken (c .before .before .before .before .before .args .memory .now) (no-t (c .before .before .before .if1 .left)
-    (rw (c .enum-told .given .1) at (c .before .before .byte-field .ensures)))
+returns c = no-t (c .before .before .before .before .pre) (rw (c .enum-told .given .1) at (c .before .before .byte-field .ensures))
 
 cast-servers : tie.Need-cast-servers
 cast-servers c = omega (arith, byte-range 1 topFaults (t-took (c .before)) .1)
@@ -91,16 +86,16 @@ cast-servers c = omega (arith, byte-range 1 topFaults (t-took (c .before)) .1)
 cast-byte-field-2 : tie.Need-cast-byte-field-2
 cast-byte-field-2 c = omega (arith, servers-most (byte-range 1 topFaults (t-took (c .before .before)) .1) (c .servers .ensures))
 
-returns-3 : tie.Need-returns-3
-returns-3 c =
+returns-2 : tie.Need-returns-2
+returns-2 c =
     let p = c .before .before .before .before .before in
-    broken (memory p) (no-server (size-is p) (t-took p) (c .before .before .before .servers .ensures)
+    (no-server (size-is p) (t-took p) (c .before .before .before .servers .ensures)
     (rw (c .enum-told2 .given .1) at (c .before .before .byte-field2 .ensures)))
 
-returns-4 : tie.Need-returns-4
-returns-4 c =
+returns-3 : tie.Need-returns-3
+returns-3 c =
     let s = c .before .before .before .before in
-    broken (memory (after-t s)) (no-count (size-is (after-t s)) (t-took (after-t s)) (servers-are s) (server-took s)
+    (no-count (size-is (after-t s)) (t-took (after-t s)) (servers-are s) (server-took s)
     (rw (c .enum-told3 .given .1) at (c .before .before .byte-field3 .ensures)))
 
 cast-any-candidate-field : tie.Need-cast-any-candidate-field
@@ -110,11 +105,11 @@ cast-any-candidate-field c = omega (
       (t-from-server (server-from-n (c .before)))) .1,
 )
 
-returns-5 : tie.Need-returns-5
-returns-5 c =
+returns-4 : tie.Need-returns-4
+returns-4 c =
     let m = c .before .before .before .before in
     let s = after-server m in
-    broken (memory (after-t s)) (no-latest (size-is (after-t s)) (t-took (after-t s)) (servers-are s) (server-took s) (n-took m)
+    (no-latest (size-is (after-t s)) (t-took (after-t s)) (servers-are s) (server-took s) (n-took m)
     (rw (c .enum-told4 .given .1) at (c .before .before .any-candidate-field .ensures)))
 
 cast-check-writes : tie.Need-cast-check-writes
@@ -129,29 +124,41 @@ check-writes-requires : tie.Need-check-writes-requires
 check-writes-requires c κs =
     let l = c .before in
     let s = after-server (after-n l) in
-    writes-within (size-is (after-t s)) (t-took (after-t s)) (servers-are s) (server-took s) (n-took (after-n l)) (latest-took l .took)
+    (
+      at-writes (size-is (after-t s)) (t-took (after-t s)) (servers-are s) (server-took s) (n-took (after-n l)) (latest-took l .took),
+      latest-took l .took .leaves .within,
+    )
 
-returns-6 : tie.Need-returns-6
-returns-6 c =
+returns-5 : tie.Need-returns-5
+returns-5 c =
     let l = c .before .before .before .before in
     let s = after-server (after-n l) in
-    broken (memory (after-t s)) (no-writes (size-is (after-t s)) (t-took (after-t s)) (servers-are s) (server-took s) (n-took (after-n l))
-    (latest-took l .took) (λ i. first l .before .before .before .before .shared-slice-known .given i .fits) (c .enum-told5 .given .1)
+    (no-writes (size-is (after-t s)) (t-took (after-t s)) (servers-are s) (server-took s) (n-took (after-n l))
+    (latest-took l .took) (λ i. first l .before .before .before .shared-slice-known .given i .fits) (c .enum-told5 .given .1)
     (c .before .before .check-writes .ensures))
 
 abbrev c4-from-end : tie.After-end → tie.After-c4
 c4-from-end c = c .before .before .before .before
 
-abbrev end-from-then2 : tie.Then2 → tie.After-end
-end-from-then2 c = c .before .before .before .before
+abbrev end-from-then1 : tie.Then1 → tie.After-end
+end-from-then1 c = c .before .before .before .before
+
+cast-t24 : tie.Need-cast-t24
+cast-t24 c = omega (arith, byte-range 1 topFaults (t-took (first (c4-from-end (end-from-then1 c)))) .1)
 
 cast-t25 : tie.Need-cast-t25
-cast-t25 c = omega (arith, byte-range 1 topFaults (t-took (first (c4-from-end (end-from-then2 c)))) .1)
-
-cast-t26 : tie.Need-cast-t26
-cast-t26 c =
-    let s = after-server (after-n (c4-from-end (end-from-then2 c))) in
+cast-t25 c =
+    let s = after-server (after-n (c4-from-end (end-from-then1 c))) in
     omega (arith, servers-most (byte-range 1 topFaults (t-took (after-t s)) .1) (servers-are s), byte-range 1 _ (server-took s) .1)
+
+returns-6 : tie.Need-returns-6
+returns-6 c =
+    let at-end = c .before .before .before .before in
+    let l = c4-from-end at-end in
+    let s = after-server (after-n l) in
+    let w = rw (at-end .end .given .1) at (at-end .before .before .check-writes .ensures) in
+    (opens (size-is (after-t s)) (t-took (after-t s)) (servers-are s) (server-took s) (n-took (after-n l)) (latest-took l .took) w
+    (c .before .before .rest .ensures) (c .before .all-zero .ensures) (c .if1 .taken))
 
 returns-7 : tie.Need-returns-7
 returns-7 c =
@@ -159,22 +166,13 @@ returns-7 c =
     let l = c4-from-end at-end in
     let s = after-server (after-n l) in
     let w = rw (at-end .end .given .1) at (at-end .before .before .check-writes .ensures) in
-    opened (opens (size-is (after-t s)) (t-took (after-t s)) (servers-are s) (server-took s) (n-took (after-n l)) (latest-took l .took) w
-    (c .before .before .rest .ensures) (c .before .all-zero .ensures) (c .if2 .taken))
-
-returns-8 : tie.Need-returns-8
-returns-8 c =
-    let at-end = c .before .before .before .before in
-    let l = c4-from-end at-end in
-    let s = after-server (after-n l) in
-    let w = rw (at-end .end .given .1) at (at-end .before .before .check-writes .ensures) in
-    broken (memory (after-t s)) (no-tail (size-is (after-t s)) (t-took (after-t s)) (servers-are s) (server-took s) (n-took (after-n l))
-    (latest-took l .took) w (c .before .before .rest .ensures) (c .before .all-zero .ensures) (c .if2 .left))
+    (no-tail (size-is (after-t s)) (t-took (after-t s)) (servers-are s) (server-took s) (n-took (after-n l))
+    (latest-took l .took) w (c .before .before .rest .ensures) (c .before .all-zero .ensures) (c .if1 .left))
 
 pub open-spec : {M : Type 1} → statement M
-open-spec = tie.close (tie.spec returns (λ c. search needs) (λ c κs. search needs) (λ c. search needs) (λ c. search needs) returns-2 cast-servers
-    (λ c κs. search needs) cast-byte-field-2 (λ c κs. search needs) (λ c. search needs) (λ c. search needs) returns-3 (λ c. search needs)
-    (λ c κs. search needs) (λ c. search needs) (λ c. search needs) returns-4 cast-any-candidate-field (λ c κs. search needs) (λ c. search needs)
-    (λ c. search needs) returns-5 cast-check-writes cast-check-writes-2 (λ c. search needs) check-writes-requires (λ c. search needs)
-    (λ c. search needs) returns-6
-    (λ c κs. search needs) (λ c κs. search needs) cast-t25 cast-t26 (λ c. search needs) returns-7 returns-8)
+open-spec = tie.close (tie.spec (λ c. search needs) (λ c κs. search needs) (λ c. search needs) (λ c. search needs) returns cast-servers
+    (λ c κs. search needs) cast-byte-field-2 (λ c κs. search needs) (λ c. search needs) (λ c. search needs) returns-2 (λ c. search needs)
+    (λ c κs. search needs) (λ c. search needs) (λ c. search needs) returns-3 cast-any-candidate-field (λ c κs. search needs) (λ c. search needs)
+    (λ c. search needs) returns-4 cast-check-writes cast-check-writes-2 (λ c. search needs) check-writes-requires (λ c. search needs)
+    (λ c. search needs) returns-5
+    (λ c κs. search needs) (λ c κs. search needs) cast-t24 cast-t25 (λ c. search needs) returns-6 returns-7)

@@ -14,5 +14,5 @@ returns c =
     (at-part2 .part2 .ensures) (c .before .before .part3 .ensures) (c .same .ensures)
 
 pub by-tag-spec : {M : Type 1} → statement M
-by-tag-spec = tie.close (tie.spec (λ c κs. search needs) (λ c κs. search needs) (λ c. search needs) (λ c κs. search needs) (λ c κs. search needs)
-    (λ c. search needs) (λ c. omega arith) (λ c. omega arith) (λ c κs. search needs) (λ c. search needs) (λ c κs. search needs) returns)
+by-tag-spec = tie.close (tie.spec (λ c κs. search needs) (λ c κs. search needs) (λ c κs. search needs) (λ c κs. search needs) (λ c. search needs)
+    (λ c. omega arith) (λ c. omega arith) (λ c κs. search needs) (λ c. search needs) (λ c κs. search needs) returns)

@@ -19,6 +19,12 @@ Inv-loop a b all₀ i₀ all i = (i ≤ length a) × (sameList a b ≡ eqb all 0
 abbrev μ-loop : tie.MeasureT-loop
 μ-loop a b all₀ i₀ all i = length a - i
 
+-- The loop's place, and the start from there.
+abbrev start-from-loop : tie.At-loop Inv-loop μ-loop → tie.Start Inv-loop μ-loop
+start-from-loop c =
+    let at-if1 = c .before .before .before .before in
+    at-if1 .before .before .before
+
 returns : tie.Need-returns Inv-loop μ-loop
 returns c = let a = c .before .before .before .args in sym (lengths-differ (a .a .now) (a .b .now) (c .if1 .taken))
 
@@ -31,13 +37,14 @@ loop-holds c = (omega arith, refl)
 
 loop-again : tie.Need-loop-again Inv-loop μ-loop
 loop-again c =
-    let a = c .before .before .before .before .before .before .before .before .before .before .args in
-    let l = c .before .before .before .loop in
+    let at-loop = c .before .before .before in
+    let a = start-from-loop at-loop .args in
+    let l = at-loop .loop in
     (omega arith, l .inv .1 ∙ same-more (a .a .now) (a .b .now) (l .i) (l .all) (omega arith) (omega arith))
 
 returns-3 : tie.Need-returns-3 Inv-loop μ-loop
 returns-3 c =
-    let a = c .before .before .before .before .before .before .before .before .args in
+    let a = start-from-loop (c .before) .args in
     let l = c .before .loop in
     sym (l .inv .1 ∙ same-end (a .a .now) (a .b .now) (l .i) (l .all) (omega arith) (omega arith))
 

@@ -24,4 +24,5 @@ returns-4 c = code-high (rw (c .before .before .before .v .given .1) at (c .befo
     (c .before .if1 .left) (omega arith)
 
 pub code-field-spec : {M : Type 1} → statement M
-code-field-spec = tie.close (tie.spec (λ c κs. search needs) (λ c. search needs) (λ c. search needs) returns returns-2 returns-3 returns-4)
+code-field-spec = tie.close (tie.spec (λ c. search needs) (λ c κs. search needs) (λ c. search needs) (λ c. search needs) returns returns-2
+    (λ c. search needs) returns-3 returns-4)

@@ -22,8 +22,9 @@ returns-4 : tie.Need-returns-4
 returns-4 c =
     let at-put = c .before .before .before .before .before .before in
     let at-put-head = at-put .before .before .before .before in
-    let a = at-put-head .before .before .before .before .before .before .before .before .args in packet-made (a .head) (a .first .now) (a .second
-    .now) (a .out .now) (omega arith) (omega arith)
+    let at-if1 = at-put-head .before .before .before .before in
+    let a = at-if1 .before .before .before .before .args in
+    packet-made (a .head) (a .first .now) (a .second .now) (a .out .now) (omega arith) (omega arith)
     (at-put-head .put-head .ensures) (at-put .put .ensures) (c .before .before .put2 .ensures)
 
 pub make-packet-spec : {M : Type 1} → statement M

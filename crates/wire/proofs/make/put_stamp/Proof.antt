@@ -22,12 +22,13 @@ returns-2 c =
 
 returns-3 : tie.Need-returns-3
 returns-3 c =
-    let at-put-byte = c .before .before .before .before .before .before .before .before in
+    let at-put = c .before .before in
+    let at-put-byte = at-put .before .before .before .before .before .before in
     let at-put-number4 = at-put-byte .before .before .before .before in
     let at-start = at-put-number4 .before .before .before .before .before in
     let a = at-start .args in
     stamp-placed (a .stamp) (a .out .now) (a .at) (tag-size at-start) (omega arith) (at-put-number4 .put-number4 .ensures)
-    (at-put-byte .put-byte .ensures) (c .before .before .put .ensures)
+    (at-put-byte .put-byte .ensures) (at-put .put .ensures)
 
 pub put-stamp-spec : {M : Type 1} → statement M
 put-stamp-spec = tie.close (tie.spec returns (λ c. search needs) returns-2 (λ c κs. search needs) (λ c κs. search needs) (λ c. search needs)

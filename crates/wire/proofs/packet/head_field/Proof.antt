@@ -101,42 +101,44 @@ returns-5 c =
 t-most : (c : tie.After-call) → t-at c .t .given .0 .0 ≤ topFaults
 t-most c = byte-range 1 topFaults (t-took (t-at c)) .1
 
-mul-if1 : tie.Need-mul-if1
-mul-if1 c = omega (arith, t-most (c .before))
-
-add-if1 : tie.Need-add-if1
-add-if1 c = omega (arith, t-most (c .before))
+cast-servers : tie.Need-cast-servers
+cast-servers c = omega (arith, t-most (c .before))
 
 returns-6 : tie.Need-returns-6
 returns-6 c =
-    let v = c .before .before in
+    let v = c .before .before .before in
     let w = t-at v in
     let z = server-at w in
     let y = client-at z in
-    head-outside (kind-took (kind-at y)) (client-took y) (server-took z) (t-took w) (call-took v) (omega arith)
+    head-outside (kind-took (kind-at y)) (client-took y) (server-took z) (t-took w) (call-took v) (omega (arith, c .before .servers .ensures))
+
+-- the place past the last field, from the end
+abbrev call-at : tie.Else1 → tie.After-call
+call-at c = c .before .before .before
 
 cast-t21 : tie.Need-cast-t21
-cast-t21 c = omega (arith, byte-range 1 12 (kind-took (kind-at (client-at (server-at (t-at (c .before .before)))))) .1)
-
-cast-t22 : tie.Need-cast-t22
-cast-t22 c = omega (arith, byte-range 1 topClient (client-took (client-at (server-at (t-at (c .before .before))))) .1)
-
-cast-t23 : tie.Need-cast-t23
-cast-t23 c = omega (arith, byte-range 1 mostServers (server-took (server-at (t-at (c .before .before)))) .1)
+cast-t21 c = omega (arith, byte-range 1 12 (kind-took (kind-at (client-at (server-at (t-at (call-at c)))))) .1)
 
 cast-t24 : tie.Need-cast-t24
-cast-t24 c = omega (arith, t-most (c .before .before))
+cast-t24 c = omega (arith, byte-range 1 topClient (client-took (client-at (server-at (t-at (call-at c))))) .1)
+
+cast-t25 : tie.Need-cast-t25
+cast-t25 c = omega (arith, byte-range 1 mostServers (server-took (server-at (t-at (call-at c)))) .1)
+
+cast-t26 : tie.Need-cast-t26
+cast-t26 c = omega (arith, t-most (call-at c))
 
 returns-7 : tie.Need-returns-7
 returns-7 c =
-    let v = c .before .before in
+    let v = call-at c in
     let w = t-at v in
     let z = server-at w in
     let y = client-at z in
-    head-took (kind-took (kind-at y)) (client-took y) (server-took z) (t-took w) (call-took v) (omega arith)
+    head-took (kind-took (kind-at y)) (client-took y) (server-took z) (t-took w) (call-took v) (omega (arith, c .before .servers .ensures))
 
 pub head-field-spec : {M : Type 1} → statement M
-head-field-spec = tie.close (tie.spec (λ c κs. search needs) (λ c. search needs) (λ c. search needs) returns (λ c. search needs)
-    (λ c κs. search needs) (λ c. search needs) (λ c. search needs) returns-2 (λ c. search needs) (λ c κs. search needs) (λ c. search needs)
-    (λ c. search needs) returns-3 (λ c. search needs) (λ c κs. search needs) (λ c. search needs) (λ c. search needs) returns-4 (λ c. search needs)
-    (λ c κs. search needs) (λ c. search needs) (λ c. search needs) returns-5 mul-if1 add-if1 returns-6 cast-t21 cast-t22 cast-t23 cast-t24 returns-7)
+head-field-spec = tie.close (tie.spec (λ c. search needs) (λ c. search needs) (λ c κs. search needs) (λ c. search needs) (λ c. search needs) returns
+    (λ c. search needs) (λ c κs. search needs) (λ c. search needs) (λ c. search needs) returns-2 (λ c. search needs) (λ c κs. search needs)
+    (λ c. search needs) (λ c. search needs) returns-3 (λ c. search needs) (λ c κs. search needs) (λ c. search needs) (λ c. search needs) returns-4
+    (λ c. search needs) (λ c κs. search needs) (λ c. search needs) (λ c. search needs) returns-5 cast-servers (λ c κs. search needs)
+    (λ c. search needs) returns-6 cast-t21 cast-t24 cast-t25 cast-t26 returns-7)

@@ -3,13 +3,12 @@
 use borrow.Author.Needs.{needs}
 use native.Mathlib.Omega.{arith}
 use Rattle.protocol.proofs.Whole.{refused, head-stops}
-use Rattle.wire.proofs.Whole.{no-packet, a-packet, packet-label, kind-range, packet-decoded, packet-trailing, packet-broken}
+use Rattle.wire.proofs.Whole.{took-packet, kind-range, packet-trailing, packet-broken}
 use Rattle.wire.proofs.packet.read_packet.Statement.{statement}
 use Rattle.wire.proofs.packet.read_packet.Tie as tie
 
 returns : tie.Need-returns
-returns c = no-packet (c .before .before .before .before .args .packet .now)
-    (refused (head-stops (rw (c .enum-told .given .1) at (c .before .before .head-field .ensures))))
+returns c = refused (head-stops (rw (c .enum-told .given .1) at (c .before .before .head-field .ensures)))
 
 body-field-requires : tie.Need-body-field-requires
 body-field-requires c κs = (
@@ -23,15 +22,15 @@ returns-2 : tie.Need-returns-2
 returns-2 c =
     let at-body-field = c .before .before in
     let at-head-field = at-body-field .before .before .before .before in
-    no-packet (at-head-field .before .before .args .packet .now) (packet-broken (rw (at-body-field .before .before .head .given .1) at
-    (at-head-field .head-field .ensures)) (rw (c .enum-told2 .given .1) at (c .before .before .body-field .ensures)))
+    packet-broken (rw (at-body-field .before .before .head .given .1) at (at-head-field .head-field .ensures))
+    (rw (c .enum-told2 .given .1) at (c .before .before .body-field .ensures))
 
 returns-3 : tie.Need-returns-3
 returns-3 c =
     let at-body-field = c .before .before .before .before in
     let at-head-field = at-body-field .before .before .before .before in
-    no-packet (at-head-field .before .before .args .packet .now) (packet-trailing (rw (at-body-field .before .before .head .given .1) at
-    (at-head-field .head-field .ensures)) ((rw (c .before .before .label .given .1) at (at-body-field .body-field .ensures)) .0) (omega arith))
+    packet-trailing (rw (at-body-field .before .before .head .given .1) at (at-head-field .head-field .ensures))
+    ((rw (c .before .before .label .given .1) at (at-body-field .body-field .ensures)) .leaves) (omega arith)
 
 returns-4 : tie.Need-returns-4
 returns-4 c =
@@ -39,7 +38,7 @@ returns-4 c =
     let at-head-field = at-body-field .before .before .before .before in
     let head = rw (at-body-field .before .before .head .given .1) at (at-head-field .head-field .ensures) in
     let body = rw (c .before .before .label .given .1) at (at-body-field .body-field .ensures) in
-    a-packet (at-head-field .before .before .args .packet .now) _ (packet-decoded head (body .0) (omega arith)) (packet-label head (body .1))
+    took-packet head body (omega arith)
 
 pub read-packet-spec : {M : Type 1} → statement M
 read-packet-spec = tie.close (tie.spec (λ c κs. search needs) (λ c. search needs) (λ c. search needs) returns body-field-requires (λ c. search needs)

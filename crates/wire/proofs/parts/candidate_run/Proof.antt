@@ -38,7 +38,7 @@ loop-again c =
       omega arith,
       run-more (shelf (at-loop .before .before .args .t))
           (at-loop .loop .i) (at-loop .loop .inv .1)
-          ((rw (c .before .label .given .1) at (c .before .before .before .candidate-field .ensures)) .took),
+          ((rw (c .before .next .given .1) at (c .before .before .before .candidate-field .ensures)) .took),
     )
 
 returns-2 : tie.Need-returns-2 Inv-loop μ-loop

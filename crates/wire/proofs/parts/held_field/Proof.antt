@@ -73,7 +73,7 @@ returns-5 c =
     let f = at-else1 .before .before in
     let l = limit f .held-most in
     held-present (form (stamp f)) (stamp-took (stamp f)) (l .result) (l .ensures) (flag-took f) (at-else1 .if1 .left)
-    (rw (c .before .n .given .1) at (c .before .before .before .share-field .ensures))
+    (rw (c .before .c3 .given .1) at (c .before .before .before .share-field .ensures))
 
 pub held-field-spec : {M : Type 1} → statement M
 held-field-spec = tie.close (tie.spec (λ c κs. search needs) (λ c. search needs) (λ c. search needs) returns (λ c κs. search needs)

@@ -1,21 +1,17 @@
 -- A length, as the definitions give it for the shelf of t.
 -- Assumes nothing.
+use native.Mathlib.Omega.{arith}
 use borrow.Author.Needs.{needs}
 use Rattle.cluster.specs.Config.{shelf}
 use Rattle.wire.proofs.sizes.candidate_size.Statement.{statement}
 use Rattle.wire.proofs.sizes.candidate_size.Tie as tie
 
-mul-result : tie.Need-mul-result
+add-result : tie.Need-add-result
 unfolding shelf
-mul-result c = search needs
-
-add-result-2 : tie.Need-add-result-2
-unfolding shelf
-add-result-2 c = search needs
+add-result c = omega (arith, c .tags-size .ensures)
 
 returns : tie.Need-returns
-unfolding shelf
-returns c = search needs
+returns c = omega (arith, c .tags-size .ensures)
 
 pub candidate-size-spec : {M : Type 1} → statement M
-candidate-size-spec = tie.close (tie.spec (λ c. search needs) (λ c κs. search needs) mul-result add-result-2 returns)
+candidate-size-spec = tie.close (tie.spec (λ c κs. search needs) add-result returns)
