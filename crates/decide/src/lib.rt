@@ -115,7 +115,7 @@ fn decide_refusal(t: usize, size: usize, room: usize) -> u8
 
 // What the filter round has decided; where a candidate is found, its content at the start of out.
 pub fn decide(kept: &[u8], marks: [u8; cluster::MOST_SERVERS], t: usize, out: &mut [u8]) -> Decision
-    ensures { λ r. ⌜ (decisionAnswer r ≡ decisionAnswer (decided t marks (now (kept .entry)) (now (out .entry)) .answer))
+    ensures { λ r. ⌜ (decisionAnswer r ≡ decided t marks (now (kept .entry)) (now (out .entry)) .answer)
         × (now (out .exit) ≡ decided t marks (now (kept .entry)) (now (out .entry)) .output) ⌝ }
 {
     let n = decide_refusal(t, kept.len(), out.len());
