@@ -5,6 +5,7 @@ ghost use Rattle.decide.specs.Listing.{listedIn, listedCount};
 ghost use Rattle.decide.specs.Steps.{UsableAs};
 ghost use Rattle.decide.specs.Decided.{sameTags, decideRefusal, decisionAnswer, decided};
 use crate::content::rebuild;
+use crate::leading::Replied;
 use crate::leading::find;
 use crate::list::entry;
 use crate::rank::top;
@@ -17,9 +18,6 @@ mod list;
 mod rank;
 mod reply;
 mod sizes;
-
-// Bytes of a candidate's stamp and nonce.
-pub(crate) const NAME: usize = wire::sizes::STAMP + wire::sizes::NONCE;
 
 // The bytes of k fragments are at most k - 1 more than a content's.
 pub(crate) const FRAGMENTS: usize = cluster::TOP_LENGTH + cluster::TOP_FAULTS;
@@ -122,11 +120,12 @@ pub fn decide(kept: &[u8], marks: [u8; cluster::MOST_SERVERS], t: usize, out: &m
     if n != 0 {
         return Decision::Refused(n);
     }
-    let key = top(kept, marks, t);
+    let replied = Replied { marks, t };
+    let key = top(kept, replied);
     if key <= BLANK_RANK {
         return Decision::Blank;
     }
-    let c = find(kept, marks, t, key);
+    let c = find(kept, replied, key);
     let slot = c.slot;
     let server = c.server;
     let group = c.servers;

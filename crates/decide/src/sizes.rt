@@ -1,6 +1,6 @@
 // Lengths for a shelf, and runs of bytes.
 ghost use mathlib.Core.Path.{_≡_};
-ghost use Prim.Native.Nat.{_+_, _*_, _<_, _≤_};
+ghost use Prim.Native.Nat.{_+_, _*_, _≤_};
 ghost use lib.ListN.{length, getD};
 ghost use Rattle.cluster.specs.Config.{shelf};
 ghost use Rattle.cluster.specs.Ranges.{topLength, topFaults};
@@ -51,12 +51,6 @@ pub(crate) fn size_of(reply: &[u8]) -> usize
     ensures { λ r. ⌜ r ≡ value2 (getD (now (reply .entry)) (stampSize + 1) 0) (getD (now (reply .entry)) (stampSize + 2) 0) ⌝ }
 {
     wire::bytes::number2(wire::bytes::rest(reply, HELD)) as usize
-}
-
-pub(crate) fn wide(x: u8) -> u64
-    ensures { λ r. ⌜ (r ≡ x) × (r < 256) ⌝ }
-{
-    x as u64
 }
 
 // The rank of the stamp at a place.

@@ -19,6 +19,9 @@ pub const LABEL: usize = NUMBER + 1;
 
 pub const STAMP: usize = LABEL + hmac::TAG;
 
+// Bytes of a candidate's stamp and nonce.
+pub const NAME: usize = STAMP + NONCE;
+
 // Bytes of the record length that a share begins with; of a stamp and the byte that says whether a share follows; and of these and that length.
 pub const LENGTH: usize = 2;
 

@@ -21,8 +21,8 @@ returns : tie.Need-returns
 returns c =
     let a = c .before .before .before .before .before .args in
     let q = a .sought in
-    nobody-leads (q .t) (q .marks) (a .kept .now) (q .slot) (a .b) _ (c .no-group .ensures)
-    (leads-unfit (q .t) (q .marks) (a .kept .now) (q .slot) (a .b) (sym (c .before .before .fits2 .ensures) ∙ not-true
+    nobody-leads (q .replied .t) (q .replied .marks) (a .kept .now) (q .slot) (a .b) _ (c .no-group .ensures)
+    (leads-unfit (q .replied .t) (q .replied .marks) (a .kept .now) (q .slot) (a .b) (sym (c .before .before .fits2 .ensures) ∙ not-true
     (c .before .before .fits2 .result)
     (c .before .if1 .taken)))
 
@@ -48,8 +48,8 @@ returns-2 c =
     let at-members-of = c .before .before .before .before in
     let a = start-from-members-of at-members-of .args in
     let q = a .sought in
-    nobody-leads (q .t) (q .marks) (a .kept .now) (q .slot) (a .b) _ (c .no-group2 .ensures)
-    (leads-few (q .t) (q .marks) (a .kept .now) (q .slot) (a .b) (sym (at-members-of .before .before .fits2 .ensures) ∙ not-false
+    nobody-leads (q .replied .t) (q .replied .marks) (a .kept .now) (q .slot) (a .b) _ (c .no-group2 .ensures)
+    (leads-few (q .replied .t) (q .replied .marks) (a .kept .now) (q .slot) (a .b) (sym (at-members-of .before .before .fits2 .ensures) ∙ not-false
     (at-members-of .before .before .fits2 .result) (at-members-of .before .if1 .left)) (omega (
       arith,
       c .before .if2 .taken,
@@ -63,12 +63,12 @@ returns-3 c =
     let a = start-from-members-of at-members-of .args in
     let q = a .sought in
     let m = at-members-of .members-of .ensures in
-    let l : shelf (q .t) .threshold ≤ length (membersAt (q .t) (q .marks) (a .kept .now) (q .slot) (a .b)) = omega
+    let l : shelf (q .replied .t) .threshold ≤ length (membersAt (q .replied .t) (q .replied .marks) (a .kept .now) (q .slot) (a .b)) = omega
     (arith, c .before .if2 .left, m .count, c .before .before .before .threshold .ensures .0) in
-    let k : shelf (q .t) .threshold ≡ at-members-of .members-of .result .count = omega
-    (arith, l, m .count, members-most (q .t) (q .marks) (a .kept .now) (q .slot) (a .b)) in
-    slot-leads (q .t) (q .marks) (a .kept .now) (q .slot) (a .b) _ (add-one (a .b))
-    (leads-enough (q .t) (q .marks) (a .kept .now) (q .slot) (a .b) (sym (at-members-of .before .before .fits2 .ensures) ∙ not-false
+    let k : shelf (q .replied .t) .threshold ≡ at-members-of .members-of .result .count = omega
+    (arith, l, m .count, members-most (q .replied .t) (q .replied .marks) (a .kept .now) (q .slot) (a .b)) in
+    slot-leads (q .replied .t) (q .replied .marks) (a .kept .now) (q .slot) (a .b) _ (add-one (a .b))
+    (leads-enough (q .replied .t) (q .replied .marks) (a .kept .now) (q .slot) (a .b) (sym (at-members-of .before .before .fits2 .ensures) ∙ not-false
     (at-members-of .before .before .fits2 .result) (at-members-of .before .if1 .left)) l)
     (ap (λ (x : ℕ). take x (at-members-of .members-of .result .servers)) k ∙ m .these)
 
