@@ -8,7 +8,8 @@ use lib.ListN.{length, drop}
 use Rattle.cluster.specs.Config.{Config, shelf}
 use Rattle.cluster.specs.Ranges.{within, topFaults, leastLength, topLength, contentRoom}
 use Rattle.cluster.specs.Refusals.{wrongSize, refuse, firstOf, onRefusal}
-use Rattle.protocol.specs.Values.{Candidate, Share, Held, sameList, sameCandidate, stampSize}
+use Rattle.erasure.specs.Fragments.{fragmentSize}
+use Rattle.protocol.specs.Values.{Candidate, Share, Held, sameList, sameCandidate, stampSize, digestSize, digestsSize}
 use Rattle.protocol.specs.declared.Taken.the-variants as taken
 use Rattle.protocol.specs.Answers.{takenAnswer}
 use Rattle.protocol.specs.Primitives.{real}
@@ -74,6 +75,10 @@ decided t marks kept output =
     let n = decideRefusal t (length kept) (length output) in
     onRefusal n (decidedOn s m g (candidatesIn s kept) output (live real s m g cs) (choice real s m g cs))
     (record { answer = decisionAnswer (decisions.Refused n); output = output })
+
+-- where the tags stand in a reply of a content of n bytes: past stamp, byte, length, fragment, digests and nonce digest
+abbrev pub tagsPlace : ℕ → ℕ → ℕ
+tagsPlace t n = stampSize + 3 + fragmentSize (shelf t .threshold) n + digestsSize (shelf t) + digestSize
 
 -- the share in server b's reply, whatever its byte and its mark say
 unfoldable pub shareOf : ℕ → List ℕ → ℕ → Share

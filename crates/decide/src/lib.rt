@@ -3,7 +3,7 @@
 ghost use mathlib.Core.Path.{_≡_};
 ghost use Rattle.decide.specs.Listing.{listedIn, listedCount};
 ghost use Rattle.decide.specs.Steps.{UsableAs};
-ghost use Rattle.decide.specs.Decided.{sameTags, decideRefusal, decisionAnswer, decided};
+ghost use Rattle.decide.specs.Decided.{tagsPlace, sameTags, decideRefusal, decisionAnswer, decided};
 use crate::content::rebuild;
 use crate::leading::Replied;
 use crate::leading::find;
@@ -66,6 +66,16 @@ pub fn count_listed(kept: &[u8], t: usize) -> u8
         i += 1;
     }
     n
+}
+
+// Where the tags stand in a reply of a content of n bytes.
+pub fn tags_at(t: u8, n: u32) -> usize
+    ensures { λ r. ⌜ r ≡ tagsPlace t n ⌝ }
+{
+    wire::sizes::HELD_LENGTH
+        + wire::sizes::fragment_size(t, n)
+        + wire::sizes::digests_size(t)
+        + wire::sizes::DIGEST
 }
 
 // Whether server b's tags are those of the candidate in slot i.

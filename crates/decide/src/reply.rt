@@ -12,6 +12,7 @@ ghost use Rattle.decide.specs.Decided.{sameTagsAt};
 use crate::sizes::digests_at;
 use crate::sizes::servers;
 use crate::sizes::size_of;
+use crate::sizes::tags_place;
 use wire::bytes::rest;
 use wire::bytes::same;
 use wire::kept::CANDIDATE_SLOT;
@@ -67,7 +68,7 @@ fn alike(a: &[u8], b: &[u8], t: usize) -> bool
         return false;
     }
     let at = digests_at(t, n);
-    let e = at + DIGEST * servers(t) + DIGEST + hmac::TAG * servers(t);
+    let e = tags_place(t, n) + hmac::TAG * servers(t);
     same(&a[at..e], &b[at..e])
 }
 
@@ -116,6 +117,6 @@ pub(crate) fn tags_alike(kept: &[u8], t: usize, i: usize, j: usize) -> bool
         return false;
     }
     let s = servers(t);
-    let at = y + digests_at(t, n) + DIGEST * s + DIGEST;
+    let at = y + tags_place(t, n);
     same(&kept[at..at + hmac::TAG * s], &kept[a..a + hmac::TAG * s])
 }

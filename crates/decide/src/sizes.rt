@@ -9,7 +9,7 @@ ghost use Rattle.format.specs.Format.{value2};
 ghost use Rattle.protocol.specs.Values.{stampSize};
 ghost use Rattle.format.specs.Reading.{put};
 ghost use Rattle.protocol.specs.View.{replySlot};
-ghost use Rattle.decide.specs.Steps.{rankAt, DigestsAt};
+ghost use Rattle.decide.specs.Steps.{rankAt, DigestsAt, TagsAt};
 use wire::sizes::HELD;
 use wire::sizes::HELD_LENGTH;
 
@@ -43,6 +43,14 @@ pub(crate) fn digests_at(t: usize, n: usize) -> usize
     ensures { λ r. ⌜ DigestsAt t n r ⌝ }
 {
     HELD_LENGTH + fragment_size(t, n)
+}
+
+// Where its tags stand, with room for them behind it.
+pub(crate) fn tags_place(t: usize, n: usize) -> usize
+    requires { ⌜ (1 ≤ t) × (t ≤ topFaults) × (n ≤ topLength) ⌝ }
+    ensures { λ r. ⌜ TagsAt t n r ⌝ }
+{
+    crate::tags_at(t as u8, n as u32)
 }
 
 // The length of a reply's content.

@@ -1,11 +1,12 @@
 -- `decide::group_of` meets its contract: a slot that does not fit leads none; else its members decide. Nothing is assumed.
 use mathlib.Core.Path.{_≡_, sym, ap, _∙_}
-use Prim.Native.Nat.{ℕ, _≤_}
+use Prim.Native.Nat.{ℕ, _≤_, _<_}
 use native.Mathlib.Numerals.{add-one}
 use native.Mathlib.Omega.{arith}
 use lib.ListN.{length, take}
 use borrow.Author.Tests.{not-true, not-false}
 use Rattle.cluster.specs.Config.{shelf}
+use Rattle.cluster.specs.Ranges.{mostServers}
 use Rattle.decide.specs.Steps.{membersAt}
 use Rattle.decide.proofs.Groups.{leads-unfit, members-most, leads-few, leads-enough}
 use Rattle.decide.proofs.Led.{nobody-leads, slot-leads}
@@ -57,6 +58,10 @@ returns-2 c =
       c .before .before .before .threshold .ensures .0,
     )))
 
+-- the slot is one of few
+slot-low : (c : tie.After-members-of) → start-from-members-of c .args .b < mostServers
+slot-low c = let p = start-from-members-of c .pre in omega (arith, p .2, few (p .0))
+
 returns-3 : tie.Need-returns-3
 returns-3 c =
     let at-members-of = c .before .before .before .before in
@@ -75,4 +80,4 @@ returns-3 c =
 pub group-of-spec : {M : Type 1} → statement M
 group-of-spec = tie.close (tie.spec fits-requires (λ c κs. search needs) returns members-of-requires threshold-requires (λ c κs. search needs)
     returns-2
-    (λ c. let p = c .before .before .before .before .before .before .before .before .before .pre in omega (arith, p .2, few (p .0))) returns-3)
+    (λ c. omega (arith, slot-low (c .before .before .before .before))) returns-3)
