@@ -32,13 +32,13 @@ use Rattle.client.specs.Rounds.{took, delivers, foundIn, judgeIn, withTa
 use Rattle.protocol.proofs.Primitive.{real-lengths}
 use Rattle.protocol.proofs.Room.{shelf-fits}
 use Rattle.decide.specs.declared.Decision.the-variants as decisions
-use Rattle.decide.specs.Decided.{Verdict, decisionAnswer, Decided, slotOf, decidedOn, decideRefusal, decided}
+use Rattle.decide.specs.Decided.{Verdict, decisionAnswer, Decided, tagsPlace, slotOf, decidedOn, decideRefusal, decided}
 use Rattle.decide.specs.Steps.{Usable, Full, leaderAt, fitsAt, leadsAt}
 use Rattle.decide.proofs.Places.{part-part, candidate-in, reply-in, part-length, bytes-part}
 use Rattle.decide.proofs.Replies.{sizeIn, held-share, tags-in, slot-part}
 use Rattle.decide.proofs.Groups.{leader-leads, leads-fits, leader-full, fits-named}
 use Rattle.decide.proofs.Found.{chosen-slot, found-tags}
-use Rattle.client.specs.Filter.{tagsPlace, repairBytes, foundAt, judgedBy, judgedIn, decidedNow}
+use Rattle.client.specs.Filter.{repairBytes, foundAt, judgedBy, judgedIn, decidedNow}
 use Rattle.client.proofs.Printed.{name-printed}
 
 -- ---- by the decision's answer
@@ -152,10 +152,10 @@ module _ (t : ℕ) (marks kept : List ℕ) (u : Usable t kept) (bytes : Bytes ke
         place : (n : ℕ) → bytesAt (replySlotOf kept b) (stampSize + 3 + fragmentSize (shelf t .threshold) n + digestsSize (shelf t) + digestSize)
             (tagsSize (shelf t))
             ≡ bytesAt (replySlotOf kept b) (tagsPlace t n) (tagsSize (shelf t))
-        place n = unfold tagsPlace in refl
+        place n = refl
 
         room : (n : ℕ) → n ≤ topLength → tagsPlace t n + tagsSize (shelf t) ≤ replySlot
-        room n h = unfold tagsPlace shareSize in omega (arith, shelf-fits t (u .low) (u .high) .room n h)
+        room n h = unfold shareSize in omega (arith, shelf-fits t (u .low) (u .high) .room n h)
 
     -- a candidate with the slot's stamp and nonce is printed with the slot's first bytes
     named : (tags : List ℕ) → candidateF (shelf t) .print (record { stamp = held (suc i) .stamp; nonce = held (suc i) .nonce; tags = tags }) ≡ name

@@ -7,10 +7,9 @@ use lib.Dec.{eqb}
 use lib.ListN.{length, replicate}
 use Rattle.cluster.specs.Config.{shelf}
 use Rattle.cluster.specs.Ranges.{contentRoom}
-use Rattle.erasure.specs.Fragments.{fragmentSize}
 use Rattle.protocol.specs.declared.Call.{Call}
 use Rattle.protocol.specs.declared.Taken.the-variants as taken
-use Rattle.protocol.specs.Values.{stampSize, nonceSize, digestSize, digestsSize, tagsSize}
+use Rattle.protocol.specs.Values.{stampSize, nonceSize, tagsSize}
 use Rattle.protocol.specs.Answers.{bare, takenAnswer}
 use Rattle.format.specs.Reading.{over, bytesAt, put}
 use Rattle.protocol.specs.View.{chosenPlace, candidatesPlace, candidateSlot, candidatesIn, repliesPlace, replySlot}
@@ -18,11 +17,7 @@ use Rattle.protocol.specs.ClientBytes.{Took, fresh}
 use Rattle.client.specs.Answers.{readAs}
 use Rattle.client.specs.Rounds.{withTally}
 use Rattle.decide.specs.declared.Decision.the-variants as decisions
-use Rattle.decide.specs.Decided.{Verdict, decisionAnswer, Decided, sameTags, decided}
-
--- where the tags stand in a reply of a content of n bytes: past stamp, byte, length, fragment, digests and nonce digest
-unfoldable pub tagsPlace : ℕ → ℕ → ℕ
-tagsPlace t n = stampSize + 3 + fragmentSize (shelf t .threshold) n + digestsSize (shelf t) + digestSize
+use Rattle.decide.specs.Decided.{Verdict, decisionAnswer, Decided, tagsPlace, sameTags, decided}
 
 -- the candidate of slot i with the tags in server b's reply, of a content of n bytes
 unfoldable pub repairBytes : ℕ → List ℕ → ℕ → ℕ → ℕ → List ℕ
