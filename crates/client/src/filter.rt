@@ -58,9 +58,7 @@ fn put_repair(bytes: &mut [u8], kept: &[u8], led: Led, n: usize)
         wire::kept::CANDIDATES + wire::kept::CANDIDATE_SLOT * led.slot,
         wire::sizes::NAME,
     );
-    let at = wire::kept::REPLIES
-        + wire::kept::REPLY_SLOT * (led.server - 1)
-        + tags_at(led.t, n);
+    let at = wire::kept::REPLIES + wire::kept::REPLY_SLOT * (led.server - 1) + tags_at(led.t, n);
     let tags = wire::bytes::part(kept, at, wire::sizes::tags_size(led.t as u8));
     kept::write_at(bytes, 0, name);
     kept::write_at(bytes, wire::sizes::NAME, tags);
@@ -76,12 +74,7 @@ fn repairing(call: protocol::Call, n: u16) -> Answered
 }
 
 // Line 155. Amended: the content waits, and the candidate has the tags of the proven group.
-fn repair_with(
-    call: protocol::Call,
-    kept: &mut [u8],
-    led: Led,
-    content: &[u8],
-) -> Answered
+fn repair_with(call: protocol::Call, kept: &mut [u8], led: Led, content: &[u8]) -> Answered
     requires { ⌜ (led .t ≤ topFaults) × ((led .slot < mostServers) × ((1 ≤ led .server) × ((led .server ≤ mostServers)
         × ((length (now kept) ≡ keptSize) × (length (now content) ≤ topLength))))) ⌝ }
     ensures { λ r. ⌜ (r ≡ record { answer = taken.More; call = repairCall call (length (now (content .entry))) })

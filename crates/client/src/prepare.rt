@@ -105,11 +105,7 @@ fn put_candidate(kept: &mut [u8], stamp: &[u8], nonce: &[u8], tags: &[u8])
 {
     kept::write_at(kept, wire::kept::CHOSEN, stamp);
     kept::write_at(kept, wire::kept::CHOSEN + wire::sizes::STAMP, nonce);
-    kept::write_at(
-        kept,
-        wire::kept::CHOSEN + wire::sizes::NAME,
-        tags,
-    );
+    kept::write_at(kept, wire::kept::CHOSEN + wire::sizes::NAME, tags);
 }
 
 // What follows the digests in each share: the nonce's digest and the tags.
@@ -146,7 +142,12 @@ fn put_parts(
         ++ (digest ++ now (tags .entry)))) ⌝ }
 {
     put_fragments(fragments, common, t, content);
-    put_common(common, wire::sizes::DIGEST * refusals::servers(t), digest, tags);
+    put_common(
+        common,
+        wire::sizes::DIGEST * refusals::servers(t),
+        digest,
+        tags,
+    );
 }
 
 // Bytes of all fragments of a content, and of what is the same in all shares, for every t.
