@@ -230,7 +230,8 @@ module _ (t : ℕ) (marks kept : List ℕ) (u : Usable t kept) (bytes : Bytes ke
   -- ---- where a decision points
 
   range-on : (room : List ℕ) (i b n : ℕ) (ls : List Candidate) (o : Option Candidate) → choice real (shelf t) m g listed ≡ o
-      → decidedOn (shelf t) m g held room ls o .answer ≡ decisionAnswer (decisions.Found i b n) → (i < shelf t .servers) × ((1 ≤ b) × (b ≤ shelf t .servers))
+      → decidedOn (shelf t) m g held room ls o .answer ≡ decisionAnswer (decisions.Found i b n)
+      → (i < shelf t .servers) × ((1 ≤ b) × (b ≤ shelf t .servers))
   unfolding decidedOn
   range-on room i b n [] o e q = absurd (omega (arith, ap (λ (v : Verdict). v .result) q))
   range-on room i b n (l ∷ ls) none e q = absurd (omega (arith, ap (λ (v : Verdict). v .result) q))
@@ -248,7 +249,8 @@ module _ (t : ℕ) (marks kept : List ℕ) (u : Usable t kept) (bytes : Bytes ke
       led-range i zero f p = absurd (subst T (sym p) tt)
       led-range i (suc b) f p = (omega arith, omega (arith, leader-leads t marks kept i (shelf t .servers) b f .1))
 
-  pub found-range : (room : List ℕ) → contentRoom ≤ length room → (i b n : ℕ) → decided t marks kept room .answer ≡ decisionAnswer (decisions.Found i b n)
+  pub found-range : (room : List ℕ) → contentRoom ≤ length room → (i b n : ℕ)
+      → decided t marks kept room .answer ≡ decisionAnswer (decisions.Found i b n)
       → (i < shelf t .servers) × ((1 ≤ b) × (b ≤ shelf t .servers))
   found-range room l i b n q =
       range-on room i b n (live real (shelf t) m g listed) (choice real (shelf t) m g listed) refl

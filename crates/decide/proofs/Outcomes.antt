@@ -76,9 +76,12 @@ module _ (t : ℕ) (marks kept output : List ℕ) where
   abbrev number : ℕ
   number = decideRefusal t (length kept) (length output)
 
-  pub decided-refused : (n : ℕ) → n ≡ number → n ≢ 0 → decided t marks kept output ≡ record { answer = decisionAnswer (decisions.Refused n); output = output }
+  pub decided-refused : (n : ℕ) → n ≡ number → n ≢ 0 → decided t marks kept output
+      ≡ record { answer = decisionAnswer (decisions.Refused n); output = output }
   unfolding decided
-  decided-refused n e ne = refused-is number _ _ (λ z. ne (e ∙ z)) ∙ ap (λ (k : ℕ). record { answer = decisionAnswer (decisions.Refused k); output = output }) (sym e)
+  decided-refused n e ne =
+      refused-is number _ _ (λ z. ne (e ∙ z))
+      ∙ ap (λ (k : ℕ). record { answer = decisionAnswer (decisions.Refused k); output = output }) (sym e)
 
   module _ (e : number ≡ 0) (bytes : Bytes kept) where
     writers : (i : ℕ) → candidatesIn (shelf t) kept i .stamp .writer < 256

@@ -68,7 +68,8 @@ fn fits(kept: &[u8], sought: Sought, d: &[u8], j: usize) -> bool
 
 // 1 where the reply of slot j is of the group of slot b's, which fits; else 0. The fragment is digested last.
 fn agrees(kept: &[u8], sought: Sought, d: &[u8], b: usize, j: usize) -> usize
-    requires { ⌜ (Usable (sought .replied .t) (now kept)) × (sought .slot < mostServers) × (b < shelf (sought .replied .t) .servers) × (j < shelf (sought .replied .t) .servers)
+    requires { ⌜ (Usable (sought .replied .t) (now kept)) × (sought .slot < mostServers)
+        × (b < shelf (sought .replied .t) .servers) × (j < shelf (sought .replied .t) .servers)
         × (now d ≡ sha256 (candidatesIn (shelf (sought .replied .t)) (now kept) (suc (sought .slot)) .nonce))
         × (fitsAt (sought .replied .t) (sought .replied .marks) (now kept) (sought .slot) b ≡ true) ⌝ }
     ensures { λ r. ⌜ r ≡ bit (agreesAt (sought .replied .t) (sought .replied .marks) (now (kept .entry)) (sought .slot) b (suc j)) ⌝ }

@@ -35,7 +35,8 @@ fn is_lower(kept: &[u8], mark: u8, j: usize, key: u64) -> usize
 // Whether a candidate of this rank is still in the list: fewer than a quorum replied with a lower stamp.
 fn stays(kept: &[u8], replied: Replied, key: u64) -> bool
     requires { ⌜ Usable (replied .t) (now kept) ⌝ }
-    ensures { λ r. ⌜ r ≡ stays (shelf (replied .t)) (marked (replied .marks)) (repliesIn (shelf (replied .t)) (replied .marks) (now (kept .entry))) key ⌝ }
+    ensures { λ r. ⌜ r ≡ stays (shelf (replied .t)) (marked (replied .marks))
+        (repliesIn (shelf (replied .t)) (replied .marks) (now (kept .entry))) key ⌝ }
 {
     let s = servers(replied.t);
     let mut n = 0;

@@ -17,7 +17,8 @@ write-at-requires c κs =
     let at-start = start-from-tags-at at-tags-at in
     let a = at-start .args in
     let p = at-start .pre in
-    rw (at-tags-at .before .before .part .ensures) (name-fits (a .led .t) (a .kept .now) (a .led .slot) (a .led .server) (a .n) (p .0) (p .1 .1 .1 .1 .1 .0) (p .1 .0)
+    rw (at-tags-at .before .before .part .ensures) (name-fits (a .led .t) (a .kept .now) (a .led .slot) (a .led .server) (a .n) (p .0)
+    (p .1 .1 .1 .1 .1 .0) (p .1 .0)
     (p .1 .1 .0) (p .1 .1 .1 .0) (p .1 .1 .1 .1 .0) (a .bytes .now) (p .1 .1 .1 .1 .1 .1))
 
 write-at-requires-2 : tie.Need-write-at-requires-2
@@ -53,7 +54,8 @@ returns c =
       at-tags-at .tags-at .ensures .0,
       at-tags-at .before .before .part .ensures,
     )
-    (repair-put (a .led .t) (a .kept .now) (a .led .slot) (a .led .server) (a .n) (p .0) (p .1 .1 .1 .1 .1 .0) (p .1 .0) (p .1 .1 .0) (p .1 .1 .1 .0) (p .1 .1 .1 .1 .0)
+    (repair-put (a .led .t) (a .kept .now) (a .led .slot) (a .led .server) (a .n) (p .0) (p .1 .1 .1 .1 .1 .0) (p .1 .0) (p .1 .1 .0)
+    (p .1 .1 .1 .0) (p .1 .1 .1 .1 .0)
     (a .bytes .now) (p .1 .1 .1 .1 .1 .1))
 
 pub put-repair-spec : {M : Type 1} → statement M

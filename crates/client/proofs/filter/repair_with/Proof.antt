@@ -49,7 +49,8 @@ returns c =
     let l : length {A = ℕ} (replicate candidateSlot 0) ≡ candidateSlot = length-replicate {A = ℕ} candidateSlot 0 in
     let k : bytesAt (at-put-repair .put-repair .last .0) 0 (candidateSize (shelf (a .led .t))) ≡ R =
     ap (λ (x : List ℕ). bytesAt x 0 (candidateSize (shelf (a .led .t)))) e
-    ∙ repair-cut (a .led .t) (a .kept .now) (a .led .slot) (a .led .server) (length (a .content .now)) (p .0) (p .1 .1 .1 .1 .0) (p .1 .0) (p .1 .1 .0) (p .1 .1 .1 .0)
+    ∙ repair-cut (a .led .t) (a .kept .now) (a .led .slot) (a .led .server) (length (a .content .now)) (p .0) (p .1 .1 .1 .1 .0) (p .1 .0)
+    (p .1 .1 .0) (p .1 .1 .1 .0)
     (p .1 .1 .1 .1 .1) (replicate candidateSlot 0) (omega (arith, l)) in (
       c .repairing .ensures,
       c .before .before .before .write-at2 .ensures ∙ rw (

@@ -57,7 +57,8 @@ returns c =
     let q = round-bytes (a .party .t) (a .party .client) (a .server) (a .call) (a .kept .now) (a .call .tally .round) refl ∙ store-bytes
     (a .party .t) (a .party .client)
     (a .server) (a .call) (a .kept .now) (a .call .tally .round) (at-match .match .keys1) (p .1 .1 .0) (p .1 .1 .1 .0) in
-    (rw (at-match .before .head-of .ensures, at-match .before .before .request-kind .ensures) at (c .before .before .make-store .ensures)) ∙ ap (λ (x : List ℕ). wholePacket x (a .out .now)) (sym q)
+    (rw (at-match .before .head-of .ensures, at-match .before .before .request-kind .ensures) at (c .before .before .make-store .ensures))
+    ∙ ap (λ (x : List ℕ). wholePacket x (a .out .now)) (sym q)
 
 returns-2 : tie.Need-returns-2
 returns-2 c =
@@ -66,7 +67,8 @@ returns-2 c =
     let q = round-bytes (a .party .t) (a .party .client) (a .server) (a .call) (a .kept .now) (a .call .tally .round) refl ∙ chosen-bytes
     (a .party .t) (a .party .client)
     (a .server) (a .call) (a .kept .now) (a .call .tally .round) (at-match .match .keys2) in
-    (rw (at-match .before .head-of .ensures, at-match .before .before .request-kind .ensures) at (c .before .before .make-chosen .ensures)) ∙ ap (λ (x : List ℕ). wholePacket x (a .out .now)) (sym q)
+    (rw (at-match .before .head-of .ensures, at-match .before .before .request-kind .ensures) at (c .before .before .make-chosen .ensures))
+    ∙ ap (λ (x : List ℕ). wholePacket x (a .out .now)) (sym q)
 
 returns-3 : tie.Need-returns-3
 returns-3 c =
@@ -80,7 +82,8 @@ returns-3 c =
     (a .party .t) (a .party .client)
     (a .server) (a .call) (a .kept .now) (a .call .tally .round) (r .0) (r .1) (none .0 .1) (λ e. none .1 (inl e)) (p .1 .1 .1 .1 .1 .1 .1)
     (λ e. none .1 (inr e)) in
-    (rw (at-match .before .head-of .ensures, at-match .before .before .request-kind .ensures) at (c .before .before .make-empty .ensures)) ∙ ap (λ (x : List ℕ). wholePacket x (a .out .now)) (sym q)
+    (rw (at-match .before .head-of .ensures, at-match .before .before .request-kind .ensures) at (c .before .before .make-empty .ensures))
+    ∙ ap (λ (x : List ℕ). wholePacket x (a .out .now)) (sym q)
 
 pub make-plain-spec : {M : Type 1} → statement M
 make-plain-spec = tie.close (tie.spec

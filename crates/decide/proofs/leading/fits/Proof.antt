@@ -20,7 +20,8 @@ returns : tie.Need-returns
 returns c =
     let a = c .before .before .before .before .before .args in
     let q = a .sought in
-    sym (fits-unmarked (q .replied .t) (q .replied .marks) (a .kept .now) (q .slot) (a .j) (c .if1 .taken))
+    let who = q .replied in
+    sym (fits-unmarked (who .t) (who .marks) (a .kept .now) (q .slot) (a .j) (c .if1 .taken))
 
 names-at-requires : tie.Need-names-at-requires
 names-at-requires c κs = let p = c .before .before .before .before .before .pre in (
@@ -39,9 +40,10 @@ returns-2 c =
     let at-start = start-from-names-at (c .before) in
     let a = at-start .args in
     let q = a .sought in
+    let who = q .replied in
     let p = at-start .pre in
     let l : a .j < mostServers = omega (arith, p .2, few (p .0)) in
-    sym (fits-marked (q .replied .t) (q .replied .marks) (a .kept .now) (q .slot) (a .d .now) (p .3) (a .j) l (is-marked (q .replied .marks) (a .j)
+    sym (fits-marked (who .t) (who .marks) (a .kept .now) (q .slot) (a .d .now) (p .3) (a .j) l (is-marked (who .marks) (a .j)
     (c .before .before .if1 .left))
     ∙ rw (sym (c .before .names-at .ensures) ∙ not-true (c .before .names-at .result) (c .if2 .taken)))
 
@@ -51,10 +53,11 @@ intact-at-requires c κs =
     let at-start = start-from-names-at (c .before) in
     let a = at-start .args in
     let q = a .sought in
+    let who = q .replied in
     let p = at-start .pre in (
       p .0,
       p .2,
-      names-full (shelf (q .replied .t)) (replySlotOf (a .kept .now) (a .j)) (candidatesIn (shelf (q .replied .t)) (a .kept .now) (suc (q .slot))) (a .d .now)
+      names-full (shelf (who .t)) (replySlotOf (a .kept .now) (a .j)) (candidatesIn (shelf (who .t)) (a .kept .now) (suc (q .slot))) (a .d .now)
           (sym (c .before .names-at .ensures) ∙ not-false (c .before .names-at .result) (c .if2 .left)),
     )
 
@@ -63,11 +66,12 @@ returns-3 c =
     let at-start = start-from-names-at (c .before .before) in
     let a = at-start .args in
     let q = a .sought in
+    let who = q .replied in
     let p = at-start .pre in
     let l : a .j < mostServers = omega (arith, p .2, few (p .0)) in
     c .intact-at .ensures
-    ∙ sym (fits-marked (q .replied .t) (q .replied .marks) (a .kept .now) (q .slot) (a .d .now) (p .3) (a .j) l
-    (is-marked (q .replied .marks) (a .j) (c .before .before .before .if1 .left))
+    ∙ sym (fits-marked (who .t) (who .marks) (a .kept .now) (q .slot) (a .d .now) (p .3) (a .j) l
+    (is-marked (who .marks) (a .j) (c .before .before .before .if1 .left))
     ∙ rw (sym (c .before .before .names-at .ensures) ∙ not-false (c .before .before .names-at .result) (c .before .if2 .left)))
 
 pub fits-spec : {M : Type 1} → statement M

@@ -22,8 +22,9 @@ returns : tie.Need-returns
 returns c =
     let a = c .before .before .before .before .before .args in
     let q = a .sought in
-    nobody-leads (q .replied .t) (q .replied .marks) (a .kept .now) (q .slot) (a .b) _ (c .no-group .ensures)
-    (leads-unfit (q .replied .t) (q .replied .marks) (a .kept .now) (q .slot) (a .b) (sym (c .before .before .fits2 .ensures) ∙ not-true
+    let who = q .replied in
+    nobody-leads (who .t) (who .marks) (a .kept .now) (q .slot) (a .b) _ (c .no-group .ensures)
+    (leads-unfit (who .t) (who .marks) (a .kept .now) (q .slot) (a .b) (sym (c .before .before .fits2 .ensures) ∙ not-true
     (c .before .before .fits2 .result)
     (c .before .if1 .taken)))
 
@@ -49,8 +50,9 @@ returns-2 c =
     let at-members-of = c .before .before .before .before in
     let a = start-from-members-of at-members-of .args in
     let q = a .sought in
-    nobody-leads (q .replied .t) (q .replied .marks) (a .kept .now) (q .slot) (a .b) _ (c .no-group2 .ensures)
-    (leads-few (q .replied .t) (q .replied .marks) (a .kept .now) (q .slot) (a .b) (sym (at-members-of .before .before .fits2 .ensures) ∙ not-false
+    let who = q .replied in
+    nobody-leads (who .t) (who .marks) (a .kept .now) (q .slot) (a .b) _ (c .no-group2 .ensures)
+    (leads-few (who .t) (who .marks) (a .kept .now) (q .slot) (a .b) (sym (at-members-of .before .before .fits2 .ensures) ∙ not-false
     (at-members-of .before .before .fits2 .result) (at-members-of .before .if1 .left)) (omega (
       arith,
       c .before .if2 .taken,
@@ -67,13 +69,14 @@ returns-3 c =
     let at-members-of = c .before .before .before .before in
     let a = start-from-members-of at-members-of .args in
     let q = a .sought in
+    let who = q .replied in
     let m = at-members-of .members-of .ensures in
-    let l : shelf (q .replied .t) .threshold ≤ length (membersAt (q .replied .t) (q .replied .marks) (a .kept .now) (q .slot) (a .b)) = omega
+    let l : shelf (who .t) .threshold ≤ length (membersAt (who .t) (who .marks) (a .kept .now) (q .slot) (a .b)) = omega
     (arith, c .before .if2 .left, m .count, c .before .before .before .threshold .ensures .0) in
-    let k : shelf (q .replied .t) .threshold ≡ at-members-of .members-of .result .count = omega
-    (arith, l, m .count, members-most (q .replied .t) (q .replied .marks) (a .kept .now) (q .slot) (a .b)) in
-    slot-leads (q .replied .t) (q .replied .marks) (a .kept .now) (q .slot) (a .b) _ (add-one (a .b))
-    (leads-enough (q .replied .t) (q .replied .marks) (a .kept .now) (q .slot) (a .b) (sym (at-members-of .before .before .fits2 .ensures) ∙ not-false
+    let k : shelf (who .t) .threshold ≡ at-members-of .members-of .result .count = omega
+    (arith, l, m .count, members-most (who .t) (who .marks) (a .kept .now) (q .slot) (a .b)) in
+    slot-leads (who .t) (who .marks) (a .kept .now) (q .slot) (a .b) _ (add-one (a .b))
+    (leads-enough (who .t) (who .marks) (a .kept .now) (q .slot) (a .b) (sym (at-members-of .before .before .fits2 .ensures) ∙ not-false
     (at-members-of .before .before .fits2 .result) (at-members-of .before .if1 .left)) l)
     (ap (λ (x : ℕ). take x (at-members-of .members-of .result .servers)) k ∙ m .these)
 

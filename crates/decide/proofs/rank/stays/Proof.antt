@@ -19,7 +19,8 @@ use Rattle.decide.proofs.rank.stays.Statement.{statement}
 use Rattle.decide.proofs.rank.stays.Tie as tie
 
 abbrev Inv-loop : tie.InvT-loop
-Inv-loop kept key replied s n₀ j₀ n j = (j ≤ s) × (n ≡ countTo j (ranksBelow (marked (replied .marks)) (repliesIn (shelf (replied .t)) (replied .marks) kept) key))
+Inv-loop kept key replied s n₀ j₀ n j = (j ≤ s) × (n ≡ countTo j (ranksBelow (marked (replied .marks)) (repliesIn (shelf (replied .t))
+    (replied .marks) kept) key))
 
 abbrev μ-loop : tie.MeasureT-loop
 μ-loop kept key replied s n₀ j₀ n j = s - j

@@ -42,7 +42,8 @@ returns : tie.Need-returns Inv-loop μ-loop
 returns c =
     let at-start = c .before .before .before .before in
     let e : c .before .loop .i ≡ shelf (at-start .args .replied .t) .servers = omega
-    (arith, c .before .before .servers .ensures .0) in c .before .loop .inv .1 ∙ ap (λ (k : ℕ). topAt (at-start .args .replied .t) (at-start .args .replied .marks)
+    (arith, c .before .before .servers .ensures .0) in c .before .loop .inv .1 ∙ ap (λ (k : ℕ). topAt (at-start .args .replied .t)
+    (at-start .args .replied .marks)
     (at-start .args .kept .now) k) e
 
 pub top-spec : {M : Type 1} → statement M
