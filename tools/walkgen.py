@@ -4,13 +4,13 @@
     pub fn F(state: &mut S, p1: .., .., pn: ..) -> K { let s = G(*state, p1, .., pn); *state = s.call; s.answer }
 
 where G is covered (proved), takes S by value first and then the SAME parameters in the same order, and returns a struct
-R { answer: K, call: S } (field 0 the answer, field 1 the new state). Parameter kinds: u8 u16 u32 u64 usize, struct:NAME (one struct by value),
+R { answer: K, call: S } (field 0 the answer, by the name ANSWER of the environment where it has another; field 1 the new state). Parameter kinds: u8 u16 u32 u64 usize, struct:NAME (one struct by value),
 slice (&[u8]), mutslice (&mut [u8]), arr:N (&[u8; N]), arr:N:M (&[[u8; N]; M]), mutarr:N (&mut [u8; N]). What G is lent by &mut it is given for good.
 
 usage: walkgen.py CRATE F G S R K enum|struct 'kinds,..' 'names,..' 'phi' ['use lines']
   phi: what G ensures, a type over r (G's result), h (the state at entry), NAME (a number) or NAME (a list at entry), NAME′ (a list at exit).
   FACT (environment): what F ensures, from e, what G ensures, with r .answer for F's result and r .call for the state at exit. It is e itself where both
-  say so of one record; for begin_write and begin_read it is λ i. record { result = e .0 i .answer; call = e .0 i .call; kept = e .1 i } in brackets.
+  say so of one record; for begin_write and begin_read it is λ i. record { result = e .0 i .outcome; call = e .0 i .call; kept = e .1 i } in brackets.
 """
 import sys
 crate,F,G,S,R,K,kk,kinds,names,phi=sys.argv[1:11]
@@ -27,6 +27,7 @@ def proofs(D):
     m=MODS.get(D,'')
     if m.startswith('.'): return f'Rattle.{crate}.proofs.{m[1:]}.{D}'
     return f'Rattle.{m}.proofs.{D}' if m else f'Rattle.{crate}.proofs.{D}'
+AN=os.environ.get('ANSWER','answer')
 FD=os.environ.get('FIELD'); fd=FD.split(':') if FD else None
 X=1 if fd else 0
 kinds=[k for k in kinds.split(',') if k]; names=[n for n in names.split(',') if n]
@@ -258,7 +259,7 @@ P(f"""  abbrev Arg : Type 0
       move ! (1 ∷ 0 ∷ []) $ join ! $ frame ! $ done !
 
   abbrev answer-val : {R} → Val
-  answer-val r = {EKL}.val K.the-type K′.the-laws (r .answer)
+  answer-val r = {EKL}.val K.the-type K′.the-laws (r .{AN})
 """)
 revkept=list(reversed(kept))
 ctx=[f'‵ (fobs γ (T.the-row .coded .code (r .call)))','‵ (fbor κ (Body (mem T.the-row) b o γ))','‵ (flft κ q)',toks]+[f'‵ ({keptF[i]})' for i in revkept]
@@ -272,14 +273,14 @@ build=[]
 for i in range(n-1,-1,-1):
     build.append('move ! (2 ∷ 0 ∷ []) $ fjoin ! $' if mut[i] else 'nothing ! $ fjoin ! $')
 kv=f'({" ".join(nm(i)+"′" for i in kept)} : List ℕ) → ' if Kn else ''
-P(f"""  exits : (r : {R}) {'→ ' if not Kn else ''}{kv}φ r{keptnames}{lenhyp} → Is K.the-row (r .answer) (answer-val r ∷ [])
+P(f"""  exits : (r : {R}) {'→ ' if not Kn else ''}{kv}φ r{keptnames}{lenhyp} → Is K.the-row (r .{AN}) (answer-val r ∷ [])
       → ent 𝓤 (⋆ 𝓤 H A ({ctxs})) (Post (answer-val r))
   exits r{keptnames} e{lenargs} is =
       qed W ({ctxs}) ∵
-      suffices ! _ (ends-at 𝓤 H A self.ended stayed (self.clauses 𝓤 H A at-mem run) W (({κt}, {qt}, tt, a, vals), tt) (answer-val r) (r .answer) {wsv} {fits}) $
+      suffices ! _ (ends-at 𝓤 H A self.ended stayed (self.clauses 𝓤 H A at-mem run) W (({κt}, {qt}, tt, a, vals), tt) (answer-val r) (r .{AN}) {wsv} {fits}) $
       says ! {fact} $ move ! (2 ∷ 3 ∷ []) $ join ! $ frame ! $
       feqI ! (List Val) (vptr b o ∷ []) (vptr b o ∷ []) refl $ fjoin3 ! $ nothing ! $ {' '.join(build)} move ! (1 ∷ 0 ∷ []) $ fjoin ! $
-      owned ! K.the-row (Is K.the-row) ({EKL}.makes K.the-type K′.the-plain 𝓤 H A) (r .answer) _ is $ move ! (1 ∷ 0 ∷ []) $ done !
+      owned ! K.the-row (Is K.the-row) ({EKL}.makes K.the-type K′.the-plain 𝓤 H A) (r .{AN}) _ is $ move ! (1 ∷ 0 ∷ []) $ done !
 
   module _ (C : Calls 𝓤 H) (Λ : Loops 𝓤 H) (fm : FmC 𝓤 H (W .laws) C) (known : Triple 𝓤 (C #callee) (Callee 𝓤 H A at-mem run)) where""")
 machs='vptr b o ∷ '+''.join(val(i)+' ∷ ' for i in range(n))+'[]'
@@ -328,7 +329,7 @@ A_(f'-- [what the result owns; the other tokens; {Kn} last values; the state\'s 
 A_(f'peeks ! R.the-row (Is R.the-row) (shows 𝓤 H A R.the-row) r (w ∷ []) (λ is.')
 A_(f'land ! (from ! (stop !)) (init ! {p(n+2)} refl (LL.lawful R.the-type R′.the-laws 𝓤 H A W .typed r _ is .0)) $ rewrite ! {p(n+2)} (λ (u : Val). ‵ (fat fullShare R′.mir l{n+2} 0 u)) (ap only (LL.tells R.the-type R′.the-laws r _ is)) refl $')
 A_(f'assigns ! (of-opd ! (load ! (from ! (fld ! refl (stop !))) (look-in ! {p(n+2)} (sub ! 1 refl (whole !))))) (from ! (hop ! (look ! {p(1)} refl) (stop !))) (store-in ! {Kn+2} (whole !) (T′.the-field-laws .lawful 𝓤 H A W .typed (T.the-field .into (r .call)) _ (LL.owed R.the-type R′.the-laws r _ is .1 .0) .0)) $')
-A_(f'assigns ! (of-opd ! (load ! (from ! (fld ! refl (stop !))) (look-in ! {p(n+2)} (sub ! 0 refl (whole !))))) (from ! (stop !)) (init ! {p(0)} refl (K′.the-field-laws .lawful 𝓤 H A W .typed (K.the-field .into (r .answer)) _ (LL.owed R.the-type R′.the-laws r _ is .0) .0)) $')
+A_(f'assigns ! (of-opd ! (load ! (from ! (fld ! refl (stop !))) (look-in ! {p(n+2)} (sub ! 0 refl (whole !))))) (from ! (stop !)) (init ! {p(0)} refl (K′.the-field-laws .lawful 𝓤 H A W .typed (K.the-field .into (r .{AN})) _ (LL.owed R.the-type R′.the-laws r _ is .0) .0)) $')
 A_('-- the borrow is closed at the new record')
 A_(f'drop ! $ move ! ({Kn+1} ∷ []) $ use1 W (‵ (cellAt fullShare (T.the-row .mir) ({hv} (r .call)) b o)) (W .laws .at-raw fullShare T′.mir b o (LL.val T.the-type T′.the-laws (r .call))) $')
 A_(f'owned ! T.the-row (Is T.the-row) (LL.makes T.the-type T′.the-plain 𝓤 H A) (r .call) _ (LL.owed R.the-type R′.the-laws r _ is .1 .0) $ move ! (1 ∷ 0 ∷ {Kn+4} ∷ {Kn+5} ∷ {Kn+6} ∷ []) $ closes ! tt T.the-row (r .call) ({hv} (r .call)) b o $')

@@ -2,7 +2,7 @@
 -- group's tags and the content's length, and the candidate for repair is that slot's name with those tags. Assumes nothing but that the kept bytes
 -- are bytes.
 use mathlib.Core.Path.{_≡_, refl, sym, ap, _∙_, subst}
-use mathlib.Core.Bool.{Bool, true, not}
+use mathlib.Core.Bool.{Bool, true, false, not}
 use mathlib.Core.List.{List, [], _∷_, _++_}
 use mathlib.Core.Option.{Option, none, some}
 use Prim.Native.Nat.{ℕ, zero, suc, _+_, _-_, _*_, _≤_, _<_}
@@ -10,7 +10,7 @@ use native.Mathlib.Omega.{arith}
 use lib.Dec.{T, eqb}
 use lib.ListN.{length, drop}
 use lib.Seq.{take-at}
-use borrow.Author.Tests.{le-leb, le-ltb, eq-eqb}
+use borrow.Author.Tests.{le-leb, le-ltb, eq-eqb, ne-eqb}
 use Rattle.cluster.specs.Config.{shelf}
 use Rattle.cluster.specs.Ranges.{topFaults, contentRoom, mostServers, topLength}
 use Rattle.sha256.specs.Sha256.{sha256}
@@ -18,7 +18,7 @@ use Rattle.erasure.specs.Fragments.{fragmentSize}
 use Rattle.protocol.specs.declared.Call.{Call}
 use Rattle.protocol.specs.declared.Tally.{Tally}
 use Rattle.protocol.specs.declared.Taken.the-variants as taken
-use Rattle.protocol.specs.Answers.{takenAnswer}
+use Rattle.protocol.specs.Answers.{refusals, takenAnswer}
 use Rattle.format.specs.Format.{Bytes}
 use Rattle.protocol.specs.Values.{Candidate, Share, Held, stampSize, nonceSize, digestSize, digestsSize, tagsSize}
 use Rattle.protocol.specs.Packet.{candidateF, shareSize}
@@ -31,41 +31,52 @@ use Rattle.protocol.specs.ClientBytes.{fresh}
 use Rattle.client.specs.Rounds.{took, delivers, foundIn, judgeIn, withTally}
 use Rattle.protocol.proofs.Primitive.{real-lengths}
 use Rattle.protocol.proofs.Room.{shelf-fits}
-use Rattle.decide.specs.declared.Decision.{Decision}
 use Rattle.decide.specs.declared.Decision.the-variants as decisions
-use Rattle.decide.specs.Decided.{Decided, slotOf, decidedOn, decideRefusal, decided}
+use Rattle.decide.specs.Decided.{Verdict, decisionAnswer, Decided, tagsPlace, slotOf, decidedOn, decideRefusal, decided}
 use Rattle.decide.specs.Steps.{Usable, Full, leaderAt, fitsAt, leadsAt}
 use Rattle.decide.proofs.Places.{part-part, candidate-in, reply-in, part-length, bytes-part}
 use Rattle.decide.proofs.Replies.{sizeIn, held-share, tags-in, slot-part}
 use Rattle.decide.proofs.Groups.{leader-leads, leads-fits, leader-full, fits-named}
 use Rattle.decide.proofs.Found.{chosen-slot, found-tags}
-use Rattle.client.specs.Filter.{tagsPlace, repairBytes, foundAt, judgedBy, judgedIn, decidedNow}
+use Rattle.client.specs.Filter.{repairBytes, foundAt, judgedBy, judgedIn, decidedNow}
 use Rattle.client.proofs.Printed.{name-printed}
 
 -- ---- by the decision's answer
 
+-- a refusal's result is none of the other verdicts'
+not-below : (n k : ℕ) → k < refusals → eqb (refusals + n) k ≡ false
+not-below n k h = ne-eqb (refusals + n) k (λ e. omega (arith, e))
+
 module _ (t : ℕ) (c : Call) (kept output : List ℕ) where
-  pub judged-refused : (n : ℕ) → decidedNow t c kept .answer ≡ decisions.Refused n
+  by-verdict : (v : Verdict) → decidedNow t c kept .answer ≡ v
+      → judgedBy t c kept output v (decidedNow t c kept .output) ≡ judgedIn t c kept output
+  unfolding judgedIn
+  by-verdict v e = sym (ap (λ (x : Verdict). judgedBy t c kept output x (decidedNow t c kept .output)) e)
+
+  pub judged-refused : (n : ℕ) → decidedNow t c kept .answer ≡ decisionAnswer (decisions.Refused n)
       → record { answer = takenAnswer (taken.Refused n); call = c; kept = kept; output = output } ≡ judgedIn t c kept output
-  unfolding judgedIn judgedBy
-  judged-refused n e = sym (ap (λ (d : Decision). judgedBy t c kept output d (decidedNow t c kept .output)) e)
+  judged-refused n e = sym (go (decidedNow t c kept .output)) ∙ by-verdict (decisionAnswer (decisions.Refused n)) e
+    where
+      go : (room : List ℕ)
+          → judgedBy t c kept output (decisionAnswer (decisions.Refused n)) room
+          ≡ record { answer = takenAnswer (taken.Refused n); call = c; kept = kept; output = output }
+      go room = unfold judgedBy in rw (not-below n 2 (omega arith), not-below n 3 (omega arith))
 
-  pub judged-wait : decidedNow t c kept .answer ≡ decisions.Wait
+  pub judged-wait : decidedNow t c kept .answer ≡ decisionAnswer decisions.Wait
       → record { answer = takenAnswer taken.More; call = c; kept = kept; output = output } ≡ judgedIn t c kept output
-  unfolding judgedIn judgedBy
-  judged-wait e = sym (ap (λ (d : Decision). judgedBy t c kept output d (decidedNow t c kept .output)) e)
+  unfolding judgedBy
+  judged-wait e = by-verdict (decisionAnswer decisions.Wait) e
 
-  pub judged-blank : decidedNow t c kept .answer ≡ decisions.Blank
+  pub judged-blank : decidedNow t c kept .answer ≡ decisionAnswer decisions.Blank
       → record { answer = takenAnswer taken.Blank; call = withTally c (fresh 0); kept = kept; output = output } ≡ judgedIn t c kept output
-  unfolding judgedIn judgedBy
-  judged-blank e = sym (ap (λ (d : Decision). judgedBy t c kept output d (decidedNow t c kept .output)) e)
+  unfolding judgedBy
+  judged-blank e = by-verdict (decisionAnswer decisions.Blank) e
 
-  pub judged-found : (i b n : ℕ) (content : List ℕ) → decidedNow t c kept .answer ≡ decisions.Found i b n → content
+  pub judged-found : (i b n : ℕ) (content : List ℕ) → decidedNow t c kept .answer ≡ decisionAnswer (decisions.Found i b n) → content
       ≡ bytesAt (decidedNow t c kept .output) 0 n
       → foundAt t c kept output i b content ≡ judgedIn t c kept output
-  unfolding judgedIn judgedBy
-  judged-found i b n content e f =
-      ap (foundAt t c kept output i b) f ∙ sym (ap (λ (d : Decision). judgedBy t c kept output d (decidedNow t c kept .output)) e)
+  unfolding judgedBy
+  judged-found i b n content e f = ap (foundAt t c kept output i b) f ∙ by-verdict (decisionAnswer (decisions.Found i b n)) e
 
 -- the first bytes of what was written over
 cut-over : (x room : List ℕ) → bytesAt (over x room) 0 (length x) ≡ x
@@ -141,10 +152,10 @@ module _ (t : ℕ) (marks kept : List ℕ) (u : Usable t kept) (bytes : Bytes ke
         place : (n : ℕ) → bytesAt (replySlotOf kept b) (stampSize + 3 + fragmentSize (shelf t .threshold) n + digestsSize (shelf t) + digestSize)
             (tagsSize (shelf t))
             ≡ bytesAt (replySlotOf kept b) (tagsPlace t n) (tagsSize (shelf t))
-        place n = unfold tagsPlace in refl
+        place n = refl
 
         room : (n : ℕ) → n ≤ topLength → tagsPlace t n + tagsSize (shelf t) ≤ replySlot
-        room n h = unfold tagsPlace shareSize in omega (arith, shelf-fits t (u .low) (u .high) .room n h)
+        room n h = unfold shareSize in omega (arith, shelf-fits t (u .low) (u .high) .room n h)
 
     -- a candidate with the slot's stamp and nonce is printed with the slot's first bytes
     named : (tags : List ℕ) → candidateF (shelf t) .print (record { stamp = held (suc i) .stamp; nonce = held (suc i) .nonce; tags = tags }) ≡ name
@@ -219,14 +230,15 @@ module _ (t : ℕ) (marks kept : List ℕ) (u : Usable t kept) (bytes : Bytes ke
   -- ---- where a decision points
 
   range-on : (room : List ℕ) (i b n : ℕ) (ls : List Candidate) (o : Option Candidate) → choice real (shelf t) m g listed ≡ o
-      → decidedOn (shelf t) m g held room ls o .answer ≡ decisions.Found i b n → (i < shelf t .servers) × ((1 ≤ b) × (b ≤ shelf t .servers))
+      → decidedOn (shelf t) m g held room ls o .answer ≡ decisionAnswer (decisions.Found i b n)
+      → (i < shelf t .servers) × ((1 ≤ b) × (b ≤ shelf t .servers))
   unfolding decidedOn
-  range-on room i b n [] o e q = let z : _≡_ {A = ℕ} 0 1 = cc in absurd (omega arith)
-  range-on room i b n (l ∷ ls) none e q = let z : _≡_ {A = ℕ} 0 1 = cc in absurd (omega arith)
+  range-on room i b n [] o e q = absurd (omega (arith, ap (λ (v : Verdict). v .result) q))
+  range-on room i b n (l ∷ ls) none e q = absurd (omega (arith, ap (λ (v : Verdict). v .result) q))
   range-on room i b n (l ∷ ls) (some x) e q =
       let k = chosen-slot (shelf t) m g held x e in
-      let j : slotOf held x (shelf t .servers) ≡ i = cc in
-      let w : leaderOf x ≡ b = cc in
+      let j : slotOf held x (shelf t .servers) ≡ i = ap (λ (v : Verdict). v .slot) q in
+      let w : leaderOf x ≡ b = ap (λ (v : Verdict). v .server) q in
       let h : held (suc i) ≡ x = subst (λ (y : ℕ). held (suc y) ≡ x) j (k .1) in
       let p : not (eqb b 0) ≡ true = subst (λ (y : ℕ). not (eqb y 0) ≡ true) w (k .2) in
       let r : leaderAt t marks kept i (shelf t .servers) ≡ leaderOf (held (suc i)) = unfold leaderAt in refl in
@@ -237,7 +249,8 @@ module _ (t : ℕ) (marks kept : List ℕ) (u : Usable t kept) (bytes : Bytes ke
       led-range i zero f p = absurd (subst T (sym p) tt)
       led-range i (suc b) f p = (omega arith, omega (arith, leader-leads t marks kept i (shelf t .servers) b f .1))
 
-  pub found-range : (room : List ℕ) → contentRoom ≤ length room → (i b n : ℕ) → decided t marks kept room .answer ≡ decisions.Found i b n
+  pub found-range : (room : List ℕ) → contentRoom ≤ length room → (i b n : ℕ)
+      → decided t marks kept room .answer ≡ decisionAnswer (decisions.Found i b n)
       → (i < shelf t .servers) × ((1 ≤ b) × (b ≤ shelf t .servers))
   found-range room l i b n q =
       range-on room i b n (live real (shelf t) m g listed) (choice real (shelf t) m g listed) refl

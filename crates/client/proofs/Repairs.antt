@@ -13,13 +13,14 @@ use Rattle.protocol.specs.View.{keptSize, candidatesPlace, candidateSlot, repli
 use Rattle.format.specs.Reading.{bytesAt, put}
 use Rattle.format.proofs.Puts.{put-put}
 use Rattle.format.proofs.Places.{part-same}
-use Rattle.client.specs.Filter.{tagsPlace, repairBytes}
+use Rattle.decide.specs.Decided.{tagsPlace}
+use Rattle.client.specs.Filter.{repairBytes}
 use Rattle.decide.proofs.Places.{part-length}
 use Rattle.client.proofs.Printed.{fragment-most}
 use Rattle.hmac.specs.Hmac.{tagSize}
 
 pub tags-room : (t n : ℕ) → t ≤ topFaults → n ≤ topLength → tagsPlace t n + tagsSize (shelf t) ≤ 2048
-unfolding tagsPlace shelf
+unfolding shelf
 tags-room t n h k = let f : fragmentSize (t + 1) n ≤ n + t = fragment-most t n (fragmentSize (t + 1) n) refl in omega arith
 
 module _ (t : ℕ) (kept : List ℕ) (i b n : ℕ) (top : t ≤ topFaults) (size : length kept ≡ keptSize) (slot : i < mostServers) (low : 1 ≤ b)

@@ -14,7 +14,7 @@ abbrev pub stopped : Stopped → GaveUp
 stopped s = record { answer = abortedAnswer (s .answer); call = s .call }
 
 abbrev pub started : Begun → Started
-started b = record { answer = b .result; call = b .call }
+started b = record { outcome = b .result; call = b .call }
 
 -- with the kept bytes and the output as they are left
 abbrev pub answered : Answered → List ℕ → List ℕ → Took

@@ -3,26 +3,21 @@
 use mathlib.Core.Bool.{cond}
 use mathlib.Core.List.{List, _++_}
 use Prim.Native.Nat.{ℕ, suc, _+_, _-_, _*_}
+use lib.Dec.{eqb}
 use lib.ListN.{length, replicate}
 use Rattle.cluster.specs.Config.{shelf}
 use Rattle.cluster.specs.Ranges.{contentRoom}
-use Rattle.erasure.specs.Fragments.{fragmentSize}
 use Rattle.protocol.specs.declared.Call.{Call}
 use Rattle.protocol.specs.declared.Taken.the-variants as taken
-use Rattle.protocol.specs.Values.{stampSize, nonceSize, digestSize, digestsSize, tagsSize}
-use Rattle.protocol.specs.Answers.{takenAnswer}
+use Rattle.protocol.specs.Values.{stampSize, nonceSize, tagsSize}
+use Rattle.protocol.specs.Answers.{bare, takenAnswer}
 use Rattle.format.specs.Reading.{over, bytesAt, put}
 use Rattle.protocol.specs.View.{chosenPlace, candidatesPlace, candidateSlot, candidatesIn, repliesPlace, replySlot}
 use Rattle.protocol.specs.ClientBytes.{Took, fresh}
 use Rattle.client.specs.Answers.{readAs}
 use Rattle.client.specs.Rounds.{withTally}
-use Rattle.decide.specs.declared.Decision.{Decision}
 use Rattle.decide.specs.declared.Decision.the-variants as decisions
-use Rattle.decide.specs.Decided.{Decided, sameTags, decided}
-
--- where the tags stand in a reply of a content of n bytes: past stamp, byte, length, fragment, digests and nonce digest
-unfoldable pub tagsPlace : ℕ → ℕ → ℕ
-tagsPlace t n = stampSize + 3 + fragmentSize (shelf t .threshold) n + digestsSize (shelf t) + digestSize
+use Rattle.decide.specs.Decided.{Verdict, decisionAnswer, Decided, tagsPlace, sameTags, decided}
 
 -- the candidate of slot i with the tags in server b's reply, of a content of n bytes
 unfoldable pub repairBytes : ℕ → List ℕ → ℕ → ℕ → ℕ → List ℕ
@@ -51,13 +46,18 @@ foundAt t c kept output i b content =
       output = output;
     })
 
--- what a decision leads to; the content stands at the start of room
-unfoldable pub judgedBy : ℕ → Call → List ℕ → List ℕ → Decision → List ℕ → Took
-judgedBy t c kept output (decisions.Refused n) room = record { answer = takenAnswer (taken.Refused n); call = c; kept = kept; output = output }
-judgedBy t c kept output decisions.Wait room = record { answer = takenAnswer taken.More; call = c; kept = kept; output = output }
-judgedBy t c kept output decisions.Blank room =
-    record { answer = takenAnswer taken.Blank; call = withTally c (fresh 0); kept = kept; output = output }
-judgedBy t c kept output (decisions.Found i b n) room = foundAt t c kept output i b (bytesAt room 0 n)
+-- what a verdict leads to: what is found goes on as above, with the content at the start of room; else the reply has the verdict's result, and
+-- blank ends the call
+unfoldable pub judgedBy : ℕ → Call → List ℕ → List ℕ → Verdict → List ℕ → Took
+judgedBy t c kept output v room =
+    cond (eqb (v .result) (decisionAnswer (decisions.Found 0 0 0) .result))
+    (foundAt t c kept output (v .slot) (v .server) (bytesAt room 0 (v .length)))
+    (record {
+      answer = bare (v .result);
+      call = cond (eqb (v .result) (decisionAnswer decisions.Blank .result)) (withTally c (fresh 0)) c;
+      kept = kept;
+      output = output;
+    })
 
 -- the decision over the replies of the servers that the call marks, with room for a content
 abbrev pub decidedNow : ℕ → Call → List ℕ → Decided

@@ -48,16 +48,16 @@ pub fn give_up_in(call: protocol::Call, party: Party) -> Stopped
 
 // What beginning a call answers, and the call after it.
 pub struct Started {
-    pub answer: cluster::Outcome,
+    pub outcome: cluster::Outcome,
     pub call: protocol::Call,
 }
 
 // A refusal, which changes nothing.
 fn not_begun(number: u8, call: protocol::Call) -> Started
-    ensures { λ r. ⌜ r ≡ record { answer = record { number = number; count = 0 }; call = call } ⌝ }
+    ensures { λ r. ⌜ r ≡ record { outcome = record { number = number; count = 0 }; call = call } ⌝ }
 {
     Started {
-        answer: cluster::Outcome {
+        outcome: cluster::Outcome {
             number: number,
             count: 0,
         },
@@ -69,7 +69,7 @@ fn not_begun(number: u8, call: protocol::Call) -> Started
 fn next_call(call: protocol::Call, high: u32, length: u16, round: u8) -> Started
     requires { ⌜ call .number + 1 ≤ topNumber ⌝ }
     ensures { λ r. ⌜ r ≡ record {
-      answer = record { number = 0; count = 0 };
+      outcome = record { number = 0; count = 0 };
       call = record { number = suc (call .number); last = call .last; high = high; length = length; tally = fresh round };
     } ⌝ }
 {
@@ -82,7 +82,7 @@ fn next_call(call: protocol::Call, high: u32, length: u16, round: u8) -> Started
         tally: tally,
     };
     Started {
-        answer: cluster::Outcome {
+        outcome: cluster::Outcome {
             number: 0,
             count: 0,
         },

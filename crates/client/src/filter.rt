@@ -9,9 +9,10 @@ ghost use Rattle.protocol.specs.declared.Taken.the-variants as taken;
 ghost use Rattle.protocol.specs.Values.{labelOf};
 ghost use Rattle.protocol.specs.View.{keptSize, chosenPlace, candidateSlot, candidatesIn, repliesPlace, replySlot};
 ghost use Rattle.format.specs.Reading.{put};
+ghost use Rattle.decide.specs.Decided.{tagsPlace};
 ghost use Rattle.client.specs.Answers.{answered};
 ghost use Rattle.client.specs.Steps.{Ready, TakesAs};
-ghost use Rattle.client.specs.Filter.{tagsPlace, repairBytes, repairCall, foundAt, judgedIn};
+ghost use Rattle.client.specs.Filter.{repairBytes, repairCall, foundAt, judgedIn};
 use crate::Party;
 use crate::answers;
 use crate::answers::Answered;
@@ -30,33 +31,37 @@ fn put_reply(kept: &mut [u8], server: usize, body: &[u8])
     );
 }
 
+// The slot of the chosen candidate and the server that leads its group, on a shelf of t.
+struct Led {
+    t: usize,
+    slot: usize,
+    server: usize,
+}
+
 // Where the tags stand in a reply of a content of n bytes.
 fn tags_at(t: usize, n: usize) -> usize
     requires { ⌜ (t ≤ topFaults) × (n ≤ topLength) ⌝ }
     ensures { λ r. ⌜ (r ≡ tagsPlace t n) × (r ≤ 2048) ⌝ }
 {
-    let u = t as u8;
-    wire::sizes::HELD_LENGTH
-        + wire::sizes::fragment_size(u, n as u32)
-        + wire::sizes::digests_size(u)
-        + wire::sizes::DIGEST
+    decide::tags_at(t as u8, n as u32)
 }
 
-// The candidate of slot i with the tags in server b's reply.
-fn put_repair(bytes: &mut [u8], kept: &[u8], t: usize, i: usize, b: usize, n: usize)
-    requires { ⌜ (t ≤ topFaults) × ((i < mostServers) × ((1 ≤ b) × ((b ≤ mostServers) × ((n ≤ topLength)
+// The chosen candidate with the tags in its leader's reply, of a content of n bytes.
+fn put_repair(bytes: &mut [u8], kept: &[u8], led: Led, n: usize)
+    requires { ⌜ (led .t ≤ topFaults) × ((led .slot < mostServers) × ((1 ≤ led .server) × ((led .server ≤ mostServers) × ((n ≤ topLength)
         × ((length (now kept) ≡ keptSize) × (candidateSlot ≤ length (now bytes))))))) ⌝ }
-    ensures { λ _. ⌜ now (bytes .exit) ≡ put (now (bytes .entry)) 0 (repairBytes t (now (kept .entry)) i b n) ⌝ }
+    ensures { λ _. ⌜ now (bytes .exit)
+        ≡ put (now (bytes .entry)) 0 (repairBytes (led .t) (now (kept .entry)) (led .slot) (led .server) n) ⌝ }
 {
     let name = wire::bytes::part(
         kept,
-        wire::kept::CANDIDATES + wire::kept::CANDIDATE_SLOT * i,
-        wire::sizes::STAMP + wire::sizes::NONCE,
+        wire::kept::CANDIDATES + wire::kept::CANDIDATE_SLOT * led.slot,
+        wire::sizes::NAME,
     );
-    let at = wire::kept::REPLIES + wire::kept::REPLY_SLOT * (b - 1) + tags_at(t, n);
-    let tags = wire::bytes::part(kept, at, wire::sizes::tags_size(t as u8));
+    let at = wire::kept::REPLIES + wire::kept::REPLY_SLOT * (led.server - 1) + tags_at(led.t, n);
+    let tags = wire::bytes::part(kept, at, wire::sizes::tags_size(led.t as u8));
     kept::write_at(bytes, 0, name);
-    kept::write_at(bytes, wire::sizes::STAMP + wire::sizes::NONCE, tags);
+    kept::write_at(bytes, wire::sizes::NAME, tags);
 }
 
 // The repair round of a call, with a content of n bytes.
@@ -69,24 +74,17 @@ fn repairing(call: protocol::Call, n: u16) -> Answered
 }
 
 // Line 155. Amended: the content waits, and the candidate has the tags of the proven group.
-fn repair_with(
-    call: protocol::Call,
-    kept: &mut [u8],
-    t: usize,
-    i: usize,
-    b: usize,
-    content: &[u8],
-) -> Answered
-    requires { ⌜ (t ≤ topFaults) × ((i < mostServers) × ((1 ≤ b) × ((b ≤ mostServers)
+fn repair_with(call: protocol::Call, kept: &mut [u8], led: Led, content: &[u8]) -> Answered
+    requires { ⌜ (led .t ≤ topFaults) × ((led .slot < mostServers) × ((1 ≤ led .server) × ((led .server ≤ mostServers)
         × ((length (now kept) ≡ keptSize) × (length (now content) ≤ topLength))))) ⌝ }
     ensures { λ r. ⌜ (r ≡ record { answer = taken.More; call = repairCall call (length (now (content .entry))) })
         × (now (kept .exit) ≡ put (put (now (kept .entry)) 0 (now (content .entry))) chosenPlace
-        (repairBytes t (now (kept .entry)) i b (length (now (content .entry))))) ⌝ }
+        (repairBytes (led .t) (now (kept .entry)) (led .slot) (led .server) (length (now (content .entry))))) ⌝ }
 {
     let mut bytes = [0u8; wire::kept::CANDIDATE_SLOT];
-    put_repair(&mut bytes, kept, t, i, b, content.len());
+    put_repair(&mut bytes, kept, led, content.len());
     kept::write_at(kept, 0, content);
-    let size = wire::sizes::candidate_size(t as u8);
+    let size = wire::sizes::candidate_size(led.t as u8);
     kept::write_at(kept, wire::kept::CHOSEN, wire::bytes::part(&bytes, 0, size));
     repairing(call, content.len() as u16)
 }
@@ -103,26 +101,24 @@ fn label_in(kept: &[u8], t: usize, i: usize) -> protocol::Label
     ))
 }
 
-// Lines 143 to 145: the candidate of slot i is chosen, and server b leads its group.
+// Lines 143 to 145: a candidate is chosen, and a server leads its group.
 fn found(
     call: protocol::Call,
     kept: &mut [u8],
-    t: usize,
-    i: usize,
-    b: usize,
+    led: Led,
     content: &[u8],
     out: &mut [u8],
 ) -> Answered
-    requires { ⌜ (t ≤ topFaults) × ((i < mostServers) × ((1 ≤ b) × ((b ≤ mostServers) × ((length (now kept) ≡ keptSize)
-        × ((length (now content) ≤ topLength) × (contentRoom ≤ length (now out))))))) ⌝ }
+    requires { ⌜ (led .t ≤ topFaults) × ((led .slot < mostServers) × ((1 ≤ led .server) × ((led .server ≤ mostServers)
+        × ((length (now kept) ≡ keptSize) × ((length (now content) ≤ topLength) × (contentRoom ≤ length (now out))))))) ⌝ }
     ensures { λ r. ⌜ answered r (now (kept .exit)) (now (out .exit))
-        ≡ foundAt t call (now (kept .entry)) (now (out .entry)) i b (now (content .entry)) ⌝ }
+        ≡ foundAt (led .t) call (now (kept .entry)) (now (out .entry)) (led .slot) (led .server) (now (content .entry)) ⌝ }
 {
-    if decide::same_tags(kept, t, i, b) {
-        let label = label_in(kept, t, i);
+    if decide::same_tags(kept, led.t, led.slot, led.server) {
+        let label = label_in(kept, led.t, led.slot);
         return answers::deliver(call, label, content, out);
     }
-    repair_with(call, kept, t, i, b, content)
+    repair_with(call, kept, led, content)
 }
 
 // Lines 142 to 146: what the round has decided. The content stands apart until it is delivered, so that repair leaves the output as it was.
@@ -144,7 +140,8 @@ fn judge(call: protocol::Call, kept: &mut [u8], t: usize, out: &mut [u8]) -> Ans
         },
         decide::Decision::Found(slot, server, n) => {
             let content = wire::bytes::part(&room, 0, n);
-            found(call, kept, t, slot, server, content, out)
+            let led = Led { t, slot, server };
+            found(call, kept, led, content, out)
         }
     }
 }

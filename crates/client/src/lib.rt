@@ -61,7 +61,7 @@ pub fn begin_write(
 {
     let s = begin::write_by_value(*call, kept, party, content, nonce);
     *call = s.call;
-    s.answer
+    s.outcome
 }
 
 // A read begins.
@@ -75,7 +75,7 @@ pub fn begin_read(
 {
     let s = begin::read_by_value(*call, kept, party);
     *call = s.call;
-    s.answer
+    s.outcome
 }
 
 // A reply is taken.

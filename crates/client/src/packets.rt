@@ -106,7 +106,7 @@ fn make_plain(
 {
     let tally = call.tally;
     let round = tally.round;
-    let head = head_of(call, 2 * round - 1, party, server);
+    let head = head_of(call, refusals::request_kind(round), party, server);
     match round {
         protocol::rounds::STORE => make_store(head, kept, party.t, server, out),
         protocol::rounds::COMPLETE | protocol::rounds::REPAIR => make_chosen(

@@ -34,11 +34,11 @@ fn put_fragment(fragments: &mut [u8], digests: &mut [u8], t: usize, i: usize, co
     let f = made.count;
     let digest = sha256::digest(wire::bytes::part(&bytes, 0, f));
     kept::write_at(fragments, f * i, wire::bytes::part(&bytes, 0, f));
-    kept::write_at(digests, cluster::KEY * i, &digest);
+    kept::write_at(digests, wire::sizes::DIGEST * i, &digest);
 }
 
 // The fragments of all servers, and their digests.
-pub(crate) fn put_fragments(fragments: &mut [u8], digests: &mut [u8], t: usize, content: &[u8])
+fn put_fragments(fragments: &mut [u8], digests: &mut [u8], t: usize, content: &[u8])
     requires { ⌜ (1 ≤ t) × ((t ≤ topFaults) × ((length (now content) ≤ topLength)
         × ((fragmentSize (shelf t .threshold) (length (now content)) * shelf t .servers ≤ length (now fragments))
         × (digestSize * shelf t .servers ≤ length (now digests))))) ⌝ }
@@ -72,7 +72,7 @@ fn put_share(
 }
 
 // The shares of all servers at their slots.
-pub(crate) fn put_shares(
+fn put_shares(
     kept: &mut [u8],
     t: usize,
     size: [u8; wire::sizes::LENGTH],
@@ -98,27 +98,23 @@ pub(crate) fn put_shares(
 }
 
 // Line 90: the candidate that complete will show.
-pub(crate) fn put_candidate(kept: &mut [u8], stamp: &[u8], nonce: &[u8], tags: &[u8])
+fn put_candidate(kept: &mut [u8], stamp: &[u8], nonce: &[u8], tags: &[u8])
     requires { ⌜ (length (now kept) ≡ keptSize) × ((length (now stamp) ≡ stampSize)
         × ((length (now nonce) ≡ nonceSize) × (length (now tags) ≤ tagSize * mostServers))) ⌝ }
     ensures { λ _. ⌜ now (kept .exit) ≡ put (now (kept .entry)) chosenPlace (now (stamp .entry) ++ (now (nonce .entry) ++ now (tags .entry))) ⌝ }
 {
     kept::write_at(kept, wire::kept::CHOSEN, stamp);
     kept::write_at(kept, wire::kept::CHOSEN + wire::sizes::STAMP, nonce);
-    kept::write_at(
-        kept,
-        wire::kept::CHOSEN + wire::sizes::STAMP + cluster::KEY,
-        tags,
-    );
+    kept::write_at(kept, wire::kept::CHOSEN + wire::sizes::NAME, tags);
 }
 
 // What follows the digests in each share: the nonce's digest and the tags.
-fn put_common(common: &mut [u8], at: usize, digest: [u8; cluster::KEY], tags: &[u8])
+fn put_common(common: &mut [u8], at: usize, digest: [u8; wire::sizes::DIGEST], tags: &[u8])
     requires { ⌜ at + digestSize + length (now tags) ≤ length (now common) ⌝ }
     ensures { λ _. ⌜ now (common .exit) ≡ put (now (common .entry)) at (digest ++ now (tags .entry)) ⌝ }
 {
     kept::write_at(common, at, &digest);
-    kept::write_at(common, at + cluster::KEY, tags);
+    kept::write_at(common, at + wire::sizes::DIGEST, tags);
 }
 
 // A content's length in 2 bytes.
@@ -129,36 +125,37 @@ fn size_bytes(n: usize) -> [u8; wire::sizes::LENGTH]
     wire::bytes::bytes2(n as u16)
 }
 
-// The fragments of the content, and what is the same in all shares: the digests, the nonce's digest and the tags. Answers the content's length.
+// The fragments of a content, and what is the same in all shares: the digests, the nonce's digest and the tags.
 fn put_parts(
     fragments: &mut [u8],
     common: &mut [u8],
-    kept: &[u8],
-    call: protocol::Call,
+    content: &[u8],
     t: usize,
-    digest: [u8; cluster::KEY],
+    digest: [u8; wire::sizes::DIGEST],
     tags: &[u8],
-) -> usize
-    requires { ⌜ (1 ≤ t) × ((t ≤ topFaults) × ((fragmentSize (shelf t .threshold) (length (contentOf call (now kept))) * shelf t .servers ≤ length
-        (now fragments))
-        × (digestSize * shelf t .servers + digestSize + length (now tags) ≤ length (now common)))) ⌝ }
-    ensures { λ r. ⌜ (r ≡ length (contentOf call (now (kept .entry))))
-        × ((now (fragments .exit) ≡ put (now (fragments .entry)) 0 (fragmentRun t (contentOf call (now (kept .entry))) (shelf t .servers)))
-        × (now (common .exit) ≡ put (now (common .entry)) 0 (digestRun t (contentOf call (now (kept .entry))) (shelf t .servers)
-        ++ (digest ++ now (tags .entry))))) ⌝ }
+)
+    requires { ⌜ (1 ≤ t) × ((t ≤ topFaults) × ((length (now content) ≤ topLength)
+        × ((fragmentSize (shelf t .threshold) (length (now content)) * shelf t .servers ≤ length (now fragments))
+        × (digestSize * shelf t .servers + digestSize + length (now tags) ≤ length (now common))))) ⌝ }
+    ensures { λ _. ⌜ (now (fragments .exit) ≡ put (now (fragments .entry)) 0 (fragmentRun t (now (content .entry)) (shelf t .servers)))
+        × (now (common .exit) ≡ put (now (common .entry)) 0 (digestRun t (now (content .entry)) (shelf t .servers)
+        ++ (digest ++ now (tags .entry)))) ⌝ }
 {
-    let content = kept::content(kept, call);
     put_fragments(fragments, common, t, content);
-    put_common(common, cluster::KEY * refusals::servers(t), digest, tags);
-    content.len()
+    put_common(
+        common,
+        wire::sizes::DIGEST * refusals::servers(t),
+        digest,
+        tags,
+    );
 }
 
 // Bytes of all fragments of a content, and of what is the same in all shares, for every t.
 const FRAGMENTS: usize = cluster::MOST_SERVERS
     * ((cluster::TOP_LENGTH + cluster::TOP_FAULTS) / (cluster::TOP_FAULTS + 1));
 
-const COMMON: usize = cluster::KEY * cluster::MOST_SERVERS
-    + cluster::KEY
+const COMMON: usize = wire::sizes::DIGEST * cluster::MOST_SERVERS
+    + wire::sizes::DIGEST
     + hmac::TAG * cluster::MOST_SERVERS;
 
 // The shares of a content of n bytes at their slots.
@@ -177,7 +174,7 @@ fn put_offer(
     kept: &mut [u8],
     call: protocol::Call,
     t: usize,
-    digest: [u8; cluster::KEY],
+    digest: [u8; wire::sizes::DIGEST],
     tags: &[u8],
 )
     requires { ⌜ (1 ≤ t) × ((t ≤ topFaults) × ((length (now kept) ≡ keptSize) × (length (now tags) ≡ tagSize * shelf t .servers))) ⌝ }
@@ -185,9 +182,17 @@ fn put_offer(
 {
     let mut fragments = [0u8; FRAGMENTS];
     let mut common = [0u8; COMMON];
-    let n = put_parts(&mut fragments, &mut common, kept, call, t, digest, tags);
-    let m = cluster::KEY * refusals::servers(t) + cluster::KEY + tags.len();
+    let content = kept::content(kept, call);
+    let n = content.len();
+    put_parts(&mut fragments, &mut common, content, t, digest, tags);
+    let m = wire::sizes::DIGEST * refusals::servers(t) + wire::sizes::DIGEST + tags.len();
     put_sized(kept, t, n, &fragments, wire::bytes::part(&common, 0, m));
+}
+
+// A write's nonce and its digest.
+struct Nonce {
+    bytes: [u8; wire::sizes::NONCE],
+    digest: [u8; wire::sizes::DIGEST],
 }
 
 // The candidate and the shares. The content stands below the candidate, which leaves it as it was.
@@ -196,17 +201,18 @@ fn put_write(
     call: protocol::Call,
     t: usize,
     stamp: &[u8],
-    nonce: &[u8],
-    digest: [u8; cluster::KEY],
+    nonce: Nonce,
     tags: &[u8],
 )
     requires { ⌜ (1 ≤ t) × ((t ≤ topFaults) × ((length (now kept) ≡ keptSize)
-        × ((length (now stamp) ≡ stampSize) × ((length (now nonce) ≡ nonceSize) × (length (now tags) ≡ tagSize * shelf t .servers))))) ⌝ }
+        × ((length (now stamp) ≡ stampSize) × (length (now tags) ≡ tagSize * shelf t .servers)))) ⌝ }
     ensures { λ _. ⌜ now (kept .exit) ≡ offered t (put (now (kept .entry)) chosenPlace
-        (now (stamp .entry) ++ (now (nonce .entry) ++ now (tags .entry))))
-        (contentOf call (now (kept .entry))) digest (now (tags .entry)) ⌝ }
+        (now (stamp .entry) ++ (nonce .bytes ++ now (tags .entry))))
+        (contentOf call (now (kept .entry))) (nonce .digest) (now (tags .entry)) ⌝ }
 {
-    put_candidate(kept, stamp, nonce, tags);
+    let bytes = nonce.bytes;
+    put_candidate(kept, stamp, &bytes, tags);
+    let digest = nonce.digest;
     put_offer(kept, call, t, digest, tags);
 }
 
@@ -217,7 +223,7 @@ fn put_tagged(
     t: usize,
     keys: &[[u8; cluster::KEY]; cluster::MOST_SERVERS],
     stamp: &[u8],
-    nonce: [u8; cluster::KEY],
+    nonce: [u8; wire::sizes::NONCE],
 )
     requires { ⌜ (1 ≤ t) × ((t ≤ topFaults) × ((length (now kept) ≡ keptSize) × (length (now stamp) ≡ stampSize))) ⌝ }
     ensures { λ _. ⌜ now (kept .exit) ≡ offered t (put (now (kept .entry)) chosenPlace
@@ -228,7 +234,11 @@ fn put_tagged(
     let mut tags = [0u8; hmac::TAG * cluster::MOST_SERVERS];
     stamps::put_tags(&mut tags, t, keys, stamp, digest);
     let made = wire::bytes::part(&tags, 0, hmac::TAG * refusals::servers(t));
-    put_write(kept, call, t, stamp, &nonce, digest, made);
+    let shown = Nonce {
+        bytes: nonce,
+        digest,
+    };
+    put_write(kept, call, t, stamp, shown, made);
 }
 
 // The write under a number: its candidate and its shares, into the kept bytes.

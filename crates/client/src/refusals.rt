@@ -1,6 +1,6 @@
 // Which number refuses a step, 0 for none. Each is a function of numbers; the tests stand in document 01's order.
 ghost use mathlib.Core.Path.{_≡_};
-ghost use Prim.Native.Nat.{_≤_};
+ghost use Prim.Native.Nat.{_≤_, _-_, _*_};
 ghost use Rattle.cluster.specs.Config.{shelf};
 ghost use Rattle.cluster.specs.Ranges.{topFaults};
 ghost use Rattle.protocol.specs.Client.{badClient, ofWrite, writeRefusal, readRefusal, makeRefusal, abortRefusal};
@@ -8,15 +8,27 @@ ghost use Rattle.protocol.specs.ClientBytes.{inHand, awaited};
 use crate::Party;
 
 // A call is in hand.
-pub(crate) fn is_pending(call: protocol::Call) -> bool
+fn is_pending(call: protocol::Call) -> bool
     ensures { λ r. ⌜ r ≡ inHand call ⌝ }
 {
     let tally = call.tally;
     let round = tally.round as usize;
-    if cluster::outside(1, 6, round) {
+    if cluster::outside(
+        protocol::rounds::CLOCK as usize,
+        protocol::rounds::REPAIR as usize,
+        round,
+    ) {
         return false;
     }
     true
+}
+
+// The kind of a round's request; its reply has the next.
+pub(crate) fn request_kind(round: u8) -> u8
+    requires { ⌜ (1 ≤ round) × (round ≤ 6) ⌝ }
+    ensures { λ r. ⌜ r ≡ 2 * round - 1 ⌝ }
+{
+    2 * round - 1
 }
 
 // The kind that the round awaits, 0 with no call in hand.
@@ -25,7 +37,7 @@ pub(crate) fn awaited_kind(call: protocol::Call) -> u8
 {
     if is_pending(call) {
         let tally = call.tally;
-        return 2 * tally.round;
+        return request_kind(tally.round) + 1;
     }
     0
 }
@@ -35,7 +47,11 @@ pub(crate) fn bad_client(kind: u8, client: usize) -> bool
     ensures { λ r. ⌜ r ≡ badClient (ofWrite kind) client ⌝ }
 {
     let k = kind as usize;
-    if cluster::outside(2, 6, k) {
+    if cluster::outside(
+        protocol::kinds::CLOCK_REPLY as usize,
+        protocol::kinds::COMPLETE_REPLY as usize,
+        k,
+    ) {
         return cluster::outside(1, cluster::TOP_CLIENT, client);
     }
     cluster::outside(1, cluster::TOP_WRITER, client)

@@ -24,7 +24,7 @@ pub(crate) fn take_store(call: protocol::Call, t: usize, server: usize, code: u8
           (cond (ends (shelf t) call server) (fresh 3) (noted (shelf t) (call .tally) server)));
     } ⌝ }
 {
-    if code == 11 {
+    if code == protocol::codes::FULL {
         return answers::more(rounds::with_tally(call, rounds::recount(t, call.tally)));
     }
     answers::step(call, t, server, protocol::rounds::COMPLETE)

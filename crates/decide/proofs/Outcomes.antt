@@ -22,7 +22,7 @@ use Rattle.protocol.specs.View.{marked, candidatesIn, repliesIn, replySlotOf}
 use Rattle.protocol.specs.Packet.{shareSize}
 use Rattle.protocol.proofs.Room.{shelf-fits}
 use Rattle.decide.specs.declared.leading.Choice.{Choice}
-use Rattle.decide.specs.Decided.{slotOf, decidedOn, decideRefusal, decided}
+use Rattle.decide.specs.Decided.{slotOf, decisionAnswer, decidedOn, decideRefusal, decided}
 use Rattle.decide.specs.declared.Decision.the-variants as decisions
 use Rattle.decide.specs.Steps.{Usable, blankRank, serversOf, fitsAt, agreesAt, leadsAt, leaderAt, topAt, Full, membersAt, chosenPlace, Hit, contentOf, Rising}
 use Rattle.decide.proofs.Contents.{restored-members}
@@ -76,9 +76,12 @@ module _ (t : ℕ) (marks kept output : List ℕ) where
   abbrev number : ℕ
   number = decideRefusal t (length kept) (length output)
 
-  pub decided-refused : (n : ℕ) → n ≡ number → n ≢ 0 → decided t marks kept output ≡ record { answer = decisions.Refused n; output = output }
+  pub decided-refused : (n : ℕ) → n ≡ number → n ≢ 0 → decided t marks kept output
+      ≡ record { answer = decisionAnswer (decisions.Refused n); output = output }
   unfolding decided
-  decided-refused n e ne = refused-is number _ _ (λ z. ne (e ∙ z)) ∙ ap (λ (k : ℕ). record { answer = decisions.Refused k; output = output }) (sym e)
+  decided-refused n e ne =
+      refused-is number _ _ (λ z. ne (e ∙ z))
+      ∙ ap (λ (k : ℕ). record { answer = decisionAnswer (decisions.Refused k); output = output }) (sym e)
 
   module _ (e : number ≡ 0) (bytes : Bytes kept) where
     writers : (i : ℕ) → candidatesIn (shelf t) kept i .stamp .writer < 256
@@ -94,7 +97,7 @@ module _ (t : ℕ) (marks kept output : List ℕ) where
     on = unfold decided in rw e
 
     pub decided-blank : topAt t marks kept (shelf t .servers) ≤ blankRank → decided t marks kept output ≡ record
-        { answer = decisions.Blank; output = output }
+        { answer = decisionAnswer decisions.Blank; output = output }
     unfolding topAt decidedOn
     decided-blank h = on ∙ rw (live-none (shelf t) (marked marks) (repliesIn (shelf t) marks kept) (candidatesIn (shelf t) kept) writers repliers h)
 
@@ -132,7 +135,7 @@ module _ (t : ℕ) (marks kept output : List ℕ) where
 
     pub decided-none : blankRank < topAt t marks kept (shelf t .servers) → chosenPlace t marks kept (topAt t marks kept (shelf t .servers))
         (shelf t .servers) ≡ none
-        → decided t marks kept output ≡ record { answer = decisions.Wait; output = output }
+        → decided t marks kept output ≡ record { answer = decisionAnswer decisions.Wait; output = output }
     unfolding decidedOn
     decided-none h q = chosen-on h none q
 
@@ -140,7 +143,7 @@ module _ (t : ℕ) (marks kept output : List ℕ) where
         → Hit t marks kept (topAt t marks kept (shelf t .servers)) r b
         → decided t marks kept output
         ≡ record {
-          answer = decisions.Found (r .slot) (suc b) (length (contentOf t kept b (take (shelf t .threshold) (r .servers))));
+          answer = decisionAnswer (decisions.Found (r .slot) (suc b) (length (contentOf t kept b (take (shelf t .threshold) (r .servers)))));
           output = over (contentOf t kept b (take (shelf t .threshold) (r .servers))) output;
         }
     unfolding decidedOn leaderAt

@@ -14,7 +14,8 @@ decisionBy : Verdict → Decision
 decisionBy v =
     let n = v .result in
     cond (leb refusals n) (decisions.Refused (n - refusals))
-    (cond (eqb n 0) decisions.Wait (cond (eqb n 3) decisions.Blank (decisions.Found (v .slot) (v .server) (v .length))))
+    (cond (eqb n (decisionAnswer decisions.Wait .result)) decisions.Wait (cond (eqb n (decisionAnswer decisions.Blank .result)) decisions.Blank
+    (decisions.Found (v .slot) (v .server) (v .length))))
 
 decision-back : (x : Decision) → decisionBy (decisionAnswer x) ≡ x
 unfolding decisionBy

@@ -8,8 +8,10 @@ use lib.ListN.{length, drop}
 use Rattle.cluster.specs.Config.{Config, shelf}
 use Rattle.cluster.specs.Ranges.{within, topFaults, leastLength, topLength, contentRoom}
 use Rattle.cluster.specs.Refusals.{wrongSize, refuse, firstOf, onRefusal}
-use Rattle.protocol.specs.Values.{Candidate, Share, Held, sameList, sameCandidate, stampSize}
-use Rattle.protocol.specs.Answers.{refusals}
+use Rattle.erasure.specs.Fragments.{fragmentSize}
+use Rattle.protocol.specs.Values.{Candidate, Share, Held, sameList, sameCandidate, stampSize, digestSize, digestsSize}
+use Rattle.protocol.specs.declared.Taken.the-variants as taken
+use Rattle.protocol.specs.Answers.{takenAnswer}
 use Rattle.protocol.specs.Primitives.{real}
 use Rattle.protocol.specs.Rules.{ByServer, gather, live, choice, leader, restoredBy}
 use Rattle.format.specs.Reading.{over}
@@ -29,16 +31,17 @@ pub record Verdict : Type 0 where
 abbrev bareVerdict : ℕ → Verdict
 bareVerdict n = record { result = n; slot = 0; server = 0; length = 0 }
 
--- a refusal, goes on, blank, read (client's judgedIn says what each does to the call)
+-- Refusal, goes on and blank have the results of a reply that is taken. What is found may still need repair, so its 2 is the result when the tags
+-- agree (client's judgedBy says what each does to the call).
 abbrev pub decisionAnswer : Decision → Verdict
-decisionAnswer (decisions.Refused n) = bareVerdict (refusals + n)
-decisionAnswer decisions.Wait = bareVerdict 0
-decisionAnswer decisions.Blank = bareVerdict 3
-decisionAnswer (decisions.Found i b n) = record { result = 2; slot = i; server = b; length = n }
+decisionAnswer (decisions.Refused n) = bareVerdict (takenAnswer (taken.Refused n) .result)
+decisionAnswer decisions.Wait = bareVerdict (takenAnswer taken.More .result)
+decisionAnswer decisions.Blank = bareVerdict (takenAnswer taken.Blank .result)
+decisionAnswer (decisions.Found i b n) = record { result = takenAnswer (taken.Read 0 0 n) .result; slot = i; server = b; length = n }
 
 -- the answer, and the output buffer after it
 pub record Decided : Type 0 where
-  pub answer : Decision
+  pub answer : Verdict
   pub output : List ℕ
 
 -- the first of the first n slots that holds the candidate, or n
@@ -50,12 +53,12 @@ module _ (s : Config) (m : ByServer Bool) (g : ByServer Held) (held : ByServer C
   -- of those still in the list and of the choice: no candidate is left; none is proven yet; or the slot that holds the choice,
   -- the server that leads its group, and the length of the content, which is written to the output
   unfoldable pub decidedOn : List Candidate → Option Candidate → Decided
-  decidedOn [] o = record { answer = decisions.Blank; output = output }
-  decidedOn (l ∷ ls) none = record { answer = decisions.Wait; output = output }
+  decidedOn [] o = record { answer = decisionAnswer decisions.Blank; output = output }
+  decidedOn (l ∷ ls) none = record { answer = decisionAnswer decisions.Wait; output = output }
   decidedOn (l ∷ ls) (some c) =
       let b = leader real s m g c (s .servers) in
       let content = restoredBy real s m g c b (g b .share) in
-      record { answer = decisions.Found (slotOf held c (s .servers)) b (length content); output = over content output }
+      record { answer = decisionAnswer (decisions.Found (slotOf held c (s .servers)) b (length content)); output = over content output }
 
 -- size: how many kept bytes there are; room: the output's length
 unfoldable pub decideRefusal : ℕ → ℕ → ℕ → ℕ
@@ -71,7 +74,11 @@ decided t marks kept output =
     let cs = gather (candidatesIn s kept) (s .servers) in
     let n = decideRefusal t (length kept) (length output) in
     onRefusal n (decidedOn s m g (candidatesIn s kept) output (live real s m g cs) (choice real s m g cs))
-    (record { answer = decisions.Refused n; output = output })
+    (record { answer = decisionAnswer (decisions.Refused n); output = output })
+
+-- where the tags stand in a reply of a content of n bytes: past stamp, byte, length, fragment, digests and nonce digest
+abbrev pub tagsPlace : ℕ → ℕ → ℕ
+tagsPlace t n = stampSize + 3 + fragmentSize (shelf t .threshold) n + digestsSize (shelf t) + digestSize
 
 -- the share in server b's reply, whatever its byte and its mark say
 unfoldable pub shareOf : ℕ → List ℕ → ℕ → Share

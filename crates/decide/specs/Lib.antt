@@ -1,3 +1,3 @@
 pub mod Listing
-pub mod Steps
 pub mod Decided
+pub mod Steps

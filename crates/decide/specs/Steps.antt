@@ -22,6 +22,7 @@ use Rattle.decide.specs.declared.leading.Members.{Members}
 use Rattle.decide.specs.declared.leading.Choice.{Choice}
 use Rattle.decide.specs.declared.leading.Group.{Group}
 use Rattle.decide.specs.Listing.{usable, enters}
+use Rattle.decide.specs.Decided.{tagsPlace}
 
 -- what the private functions ask of their arguments
 pub record Usable (t : ℕ) (kept : List ℕ) : Type 0 where
@@ -120,6 +121,10 @@ membersAt t marks kept i b = take (shelf t .threshold) (serversOf (shelf t .serv
 pub record DigestsAt (t n r : ℕ) : Type 0 where
   pub place : r ≡ stampSize + 3 + fragmentSize (shelf t .threshold) n
   pub room : r + digestsSize (shelf t) + digestSize + tagsSize (shelf t) ≤ replySlot
+
+pub record TagsAt (t n r : ℕ) : Type 0 where
+  pub place : r ≡ tagsPlace t n
+  pub room : r + tagsSize (shelf t) ≤ replySlot
 
 -- the first servers of the array are the members
 pub record MembersAs (t : ℕ) (marks kept : List ℕ) (i b : ℕ) (r : Members) : Type 0 where

@@ -18,7 +18,7 @@ use wire::kept::REPLY_SLOT;
 use wire::sizes::HELD_LENGTH;
 
 // The fragments of the first servers of the array, one after the other, of a content of n bytes.
-pub(crate) fn fragments_of(
+fn fragments_of(
     kept: &[u8],
     t: usize,
     n: usize,

@@ -16,13 +16,18 @@ use crate::sizes::servers;
 use crate::sizes::threshold;
 use wire::kept::CANDIDATE_SLOT;
 use wire::kept::CANDIDATES;
-use wire::sizes::DIGEST;
+use wire::sizes::NONCE;
 use wire::sizes::STAMP;
 
-// What a filter round is asked of one candidate: who replied, the shelf's t, and the slot of the candidate that its replies are to prove.
-pub(crate) struct Sought {
+// Who replied in a filter round, and the shelf's t.
+pub(crate) struct Replied {
     pub(crate) marks: [u8; cluster::MOST_SERVERS],
     pub(crate) t: usize,
+}
+
+// What a filter round is asked of one candidate: who replied, and the slot of the candidate that the replies are to prove.
+pub(crate) struct Sought {
+    pub(crate) replied: Replied,
     pub(crate) slot: usize,
 }
 
@@ -46,54 +51,57 @@ pub(crate) struct Choice {
 }
 
 // The reply of slot j fits the sought candidate, whose nonce has the digest d.
-pub(crate) fn fits(kept: &[u8], sought: Sought, d: &[u8], j: usize) -> bool
-    requires { ⌜ (Usable (sought .t) (now kept)) × (sought .slot < mostServers) × (j < shelf (sought .t) .servers)
-        × (now d ≡ sha256 (candidatesIn (shelf (sought .t)) (now kept) (suc (sought .slot)) .nonce)) ⌝ }
-    ensures { λ r. ⌜ r ≡ fitsAt (sought .t) (sought .marks) (now (kept .entry)) (sought .slot) j ⌝ }
+fn fits(kept: &[u8], sought: Sought, d: &[u8], j: usize) -> bool
+    requires { ⌜ (Usable (sought .replied .t) (now kept)) × (sought .slot < mostServers) × (j < shelf (sought .replied .t) .servers)
+        × (now d ≡ sha256 (candidatesIn (shelf (sought .replied .t)) (now kept) (suc (sought .slot)) .nonce)) ⌝ }
+    ensures { λ r. ⌜ r ≡ fitsAt (sought .replied .t) (sought .replied .marks) (now (kept .entry)) (sought .slot) j ⌝ }
 {
-    if sought.marks[j] == 0 {
+    let replied = sought.replied;
+    if replied.marks[j] == 0 {
         return false;
     }
-    if !names_at(kept, sought.t, sought.slot, d, j) {
+    if !names_at(kept, replied.t, sought.slot, d, j) {
         return false;
     }
-    intact_at(kept, sought.t, j)
+    intact_at(kept, replied.t, j)
 }
 
 // 1 where the reply of slot j is of the group of slot b's, which fits; else 0. The fragment is digested last.
-pub(crate) fn agrees(kept: &[u8], sought: Sought, d: &[u8], b: usize, j: usize) -> usize
-    requires { ⌜ (Usable (sought .t) (now kept)) × (sought .slot < mostServers) × (b < shelf (sought .t) .servers) × (j < shelf (sought .t) .servers)
-        × (now d ≡ sha256 (candidatesIn (shelf (sought .t)) (now kept) (suc (sought .slot)) .nonce))
-        × (fitsAt (sought .t) (sought .marks) (now kept) (sought .slot) b ≡ true) ⌝ }
-    ensures { λ r. ⌜ r ≡ bit (agreesAt (sought .t) (sought .marks) (now (kept .entry)) (sought .slot) b (suc j)) ⌝ }
+fn agrees(kept: &[u8], sought: Sought, d: &[u8], b: usize, j: usize) -> usize
+    requires { ⌜ (Usable (sought .replied .t) (now kept)) × (sought .slot < mostServers)
+        × (b < shelf (sought .replied .t) .servers) × (j < shelf (sought .replied .t) .servers)
+        × (now d ≡ sha256 (candidatesIn (shelf (sought .replied .t)) (now kept) (suc (sought .slot)) .nonce))
+        × (fitsAt (sought .replied .t) (sought .replied .marks) (now kept) (sought .slot) b ≡ true) ⌝ }
+    ensures { λ r. ⌜ r ≡ bit (agreesAt (sought .replied .t) (sought .replied .marks) (now (kept .entry)) (sought .slot) b (suc j)) ⌝ }
 {
     if j == b {
         return 1;
     }
-    if sought.marks[j] == 0 {
+    let replied = sought.replied;
+    if replied.marks[j] == 0 {
         return 0;
     }
-    if !names_at(kept, sought.t, sought.slot, d, j) {
+    if !names_at(kept, replied.t, sought.slot, d, j) {
         return 0;
     }
-    if !alike_at(kept, sought.t, b, j) {
+    if !alike_at(kept, replied.t, b, j) {
         return 0;
     }
-    if intact_at(kept, sought.t, j) {
+    if intact_at(kept, replied.t, j) {
         return 1;
     }
     0
 }
 
 // The members of the group of slot b's reply, until there are enough.
-pub(crate) fn members_of(kept: &[u8], sought: Sought, d: &[u8], b: usize) -> Members
-    requires { ⌜ (Usable (sought .t) (now kept)) × (sought .slot < mostServers) × (b < shelf (sought .t) .servers)
-        × (now d ≡ sha256 (candidatesIn (shelf (sought .t)) (now kept) (suc (sought .slot)) .nonce))
-        × (fitsAt (sought .t) (sought .marks) (now kept) (sought .slot) b ≡ true) ⌝ }
-    ensures { λ r. ⌜ MembersAs (sought .t) (sought .marks) (now (kept .entry)) (sought .slot) b r ⌝ }
+fn members_of(kept: &[u8], sought: Sought, d: &[u8], b: usize) -> Members
+    requires { ⌜ (Usable (sought .replied .t) (now kept)) × (sought .slot < mostServers) × (b < shelf (sought .replied .t) .servers)
+        × (now d ≡ sha256 (candidatesIn (shelf (sought .replied .t)) (now kept) (suc (sought .slot)) .nonce))
+        × (fitsAt (sought .replied .t) (sought .replied .marks) (now kept) (sought .slot) b ≡ true) ⌝ }
+    ensures { λ r. ⌜ MembersAs (sought .replied .t) (sought .replied .marks) (now (kept .entry)) (sought .slot) b r ⌝ }
 {
-    let s = servers(sought.t);
-    let k = threshold(sought.t);
+    let s = servers(sought.replied.t);
+    let k = threshold(sought.replied.t);
     let mut out = [0usize; cluster::MOST_SERVERS];
     let mut n = 0;
     let mut j = 0;
@@ -125,17 +133,17 @@ fn no_group() -> Group
 }
 
 // Slot b's group, where it leads one.
-pub(crate) fn group_of(kept: &[u8], sought: Sought, d: &[u8], b: usize) -> Group
-    requires { ⌜ (Usable (sought .t) (now kept)) × (sought .slot < mostServers) × (b < shelf (sought .t) .servers)
-        × (now d ≡ sha256 (candidatesIn (shelf (sought .t)) (now kept) (suc (sought .slot)) .nonce)) ⌝ }
-    ensures { λ r. ⌜ GroupAs (sought .t) (sought .marks) (now (kept .entry)) (sought .slot)
-        (cond (leadsAt (sought .t) (sought .marks) (now (kept .entry)) (sought .slot) b) (suc b) 0) r ⌝ }
+fn group_of(kept: &[u8], sought: Sought, d: &[u8], b: usize) -> Group
+    requires { ⌜ (Usable (sought .replied .t) (now kept)) × (sought .slot < mostServers) × (b < shelf (sought .replied .t) .servers)
+        × (now d ≡ sha256 (candidatesIn (shelf (sought .replied .t)) (now kept) (suc (sought .slot)) .nonce)) ⌝ }
+    ensures { λ r. ⌜ GroupAs (sought .replied .t) (sought .replied .marks) (now (kept .entry)) (sought .slot)
+        (cond (leadsAt (sought .replied .t) (sought .replied .marks) (now (kept .entry)) (sought .slot) b) (suc b) 0) r ⌝ }
 {
     if !fits(kept, sought, d, b) {
         return no_group();
     }
     let m = members_of(kept, sought, d, b);
-    if m.count < threshold(sought.t) {
+    if m.count < threshold(sought.replied.t) {
         return no_group();
     }
     let servers = m.servers;
@@ -146,14 +154,14 @@ pub(crate) fn group_of(kept: &[u8], sought: Sought, d: &[u8], b: usize) -> Group
 }
 
 // The lowest server that leads a group of the sought candidate.
-pub(crate) fn leader(kept: &[u8], sought: Sought) -> Group
-    requires { ⌜ (Usable (sought .t) (now kept)) × (sought .slot < mostServers) ⌝ }
-    ensures { λ r. ⌜ GroupAs (sought .t) (sought .marks) (now (kept .entry)) (sought .slot)
-        (leaderAt (sought .t) (sought .marks) (now (kept .entry)) (sought .slot) (shelf (sought .t) .servers)) r ⌝ }
+fn leader(kept: &[u8], sought: Sought) -> Group
+    requires { ⌜ (Usable (sought .replied .t) (now kept)) × (sought .slot < mostServers) ⌝ }
+    ensures { λ r. ⌜ GroupAs (sought .replied .t) (sought .replied .marks) (now (kept .entry)) (sought .slot)
+        (leaderAt (sought .replied .t) (sought .replied .marks) (now (kept .entry)) (sought .slot) (shelf (sought .replied .t) .servers)) r ⌝ }
 {
     let at = CANDIDATES + CANDIDATE_SLOT * sought.slot + STAMP;
-    let d = sha256::digest(&kept[at..at + DIGEST]);
-    let s = servers(sought.t);
+    let d = sha256::digest(&kept[at..at + NONCE]);
+    let s = servers(sought.replied.t);
     let mut b = 0;
     while b < s {
         let g = group_of(kept, sought, &d, b);
@@ -166,30 +174,30 @@ pub(crate) fn leader(kept: &[u8], sought: Sought) -> Group
 }
 
 // The same, where the candidate is listed and has this rank; else none.
-pub(crate) fn tried(kept: &[u8], sought: Sought, key: u64) -> Group
-    requires { ⌜ (Usable (sought .t) (now kept)) × (sought .slot < mostServers) ⌝ }
-    ensures { λ r. ⌜ GroupAs (sought .t) (sought .marks) (now (kept .entry)) (sought .slot)
-        (cond (triedAt (sought .t) (now (kept .entry)) key (sought .slot))
-        (leaderAt (sought .t) (sought .marks) (now (kept .entry)) (sought .slot) (shelf (sought .t) .servers)) 0) r ⌝ }
+fn tried(kept: &[u8], sought: Sought, key: u64) -> Group
+    requires { ⌜ (Usable (sought .replied .t) (now kept)) × (sought .slot < mostServers) ⌝ }
+    ensures { λ r. ⌜ GroupAs (sought .replied .t) (sought .replied .marks) (now (kept .entry)) (sought .slot)
+        (cond (triedAt (sought .replied .t) (now (kept .entry)) key (sought .slot))
+        (leaderAt (sought .replied .t) (sought .replied .marks) (now (kept .entry)) (sought .slot) (shelf (sought .replied .t) .servers)) 0) r ⌝ }
 {
     if rank_at(kept, CANDIDATES + CANDIDATE_SLOT * sought.slot) != key {
         return no_group();
     }
-    if entry(kept, sought.t, sought.slot) == 0 {
+    if entry(kept, sought.replied.t, sought.slot) == 0 {
         return no_group();
     }
     leader(kept, sought)
 }
 
 // The first slot that is listed, has this rank, and has a leader.
-pub(crate) fn find(kept: &[u8], marks: [u8; cluster::MOST_SERVERS], t: usize, key: u64) -> Choice
-    requires { ⌜ Usable t (now kept) ⌝ }
-    ensures { λ r. ⌜ ChoiceAs t marks (now (kept .entry)) key r ⌝ }
+pub(crate) fn find(kept: &[u8], replied: Replied, key: u64) -> Choice
+    requires { ⌜ Usable (replied .t) (now kept) ⌝ }
+    ensures { λ r. ⌜ ChoiceAs (replied .t) (replied .marks) (now (kept .entry)) key r ⌝ }
 {
-    let s = servers(t);
+    let s = servers(replied.t);
     let mut i = 0;
     while i < s {
-        let sought = Sought { marks, t, slot: i };
+        let sought = Sought { replied, slot: i };
         let g = tried(kept, sought, key);
         if g.server != 0 {
             let group = g.servers;

@@ -3,8 +3,9 @@
 ghost use mathlib.Core.Path.{_≡_};
 ghost use Rattle.decide.specs.Listing.{listedIn, listedCount};
 ghost use Rattle.decide.specs.Steps.{UsableAs};
-ghost use Rattle.decide.specs.Decided.{sameTags, decideRefusal, decisionAnswer, decided};
+ghost use Rattle.decide.specs.Decided.{tagsPlace, sameTags, decideRefusal, decisionAnswer, decided};
 use crate::content::rebuild;
+use crate::leading::Replied;
 use crate::leading::find;
 use crate::list::entry;
 use crate::rank::top;
@@ -17,9 +18,6 @@ mod list;
 mod rank;
 mod reply;
 mod sizes;
-
-// Bytes of a candidate's stamp and nonce.
-pub(crate) const NAME: usize = wire::sizes::STAMP + wire::sizes::NONCE;
 
 // The bytes of k fragments are at most k - 1 more than a content's.
 pub(crate) const FRAGMENTS: usize = cluster::TOP_LENGTH + cluster::TOP_FAULTS;
@@ -70,6 +68,16 @@ pub fn count_listed(kept: &[u8], t: usize) -> u8
     n
 }
 
+// Where the tags stand in a reply of a content of n bytes.
+pub fn tags_at(t: u8, n: u32) -> usize
+    ensures { λ r. ⌜ r ≡ tagsPlace t n ⌝ }
+{
+    wire::sizes::HELD_LENGTH
+        + wire::sizes::fragment_size(t, n)
+        + wire::sizes::digests_size(t)
+        + wire::sizes::DIGEST
+}
+
 // Whether server b's tags are those of the candidate in slot i.
 pub fn same_tags(kept: &[u8], t: usize, i: usize, b: usize) -> bool
     ensures { λ r. ⌜ r ≡ sameTags t (now (kept .entry)) i b ⌝ }
@@ -115,18 +123,19 @@ fn decide_refusal(t: usize, size: usize, room: usize) -> u8
 
 // What the filter round has decided; where a candidate is found, its content at the start of out.
 pub fn decide(kept: &[u8], marks: [u8; cluster::MOST_SERVERS], t: usize, out: &mut [u8]) -> Decision
-    ensures { λ r. ⌜ (decisionAnswer r ≡ decisionAnswer (decided t marks (now (kept .entry)) (now (out .entry)) .answer))
+    ensures { λ r. ⌜ (decisionAnswer r ≡ decided t marks (now (kept .entry)) (now (out .entry)) .answer)
         × (now (out .exit) ≡ decided t marks (now (kept .entry)) (now (out .entry)) .output) ⌝ }
 {
     let n = decide_refusal(t, kept.len(), out.len());
     if n != 0 {
         return Decision::Refused(n);
     }
-    let key = top(kept, marks, t);
+    let replied = Replied { marks, t };
+    let key = top(kept, replied);
     if key <= BLANK_RANK {
         return Decision::Blank;
     }
-    let c = find(kept, marks, t, key);
+    let c = find(kept, replied, key);
     let slot = c.slot;
     let server = c.server;
     let group = c.servers;

@@ -8,15 +8,15 @@ ghost use Rattle.protocol.specs.View.{candidatesIn};
 ghost use Rattle.decide.specs.Listing.{enters};
 ghost use Rattle.decide.specs.Steps.{Usable, bit};
 use crate::BLANK_RANK;
-use crate::NAME;
 use crate::sizes::rank_at;
 use crate::sizes::servers;
 use wire::bytes::same;
 use wire::kept::CANDIDATE_SLOT;
 use wire::kept::CANDIDATES;
+use wire::sizes::NAME;
 
 // Whether slots i and j hold the same candidate.
-pub(crate) fn twins(kept: &[u8], t: usize, i: usize, j: usize) -> bool
+fn twins(kept: &[u8], t: usize, i: usize, j: usize) -> bool
     requires { ⌜ (Usable t (now kept)) × (i < mostServers) × (j < mostServers) ⌝ }
     ensures { λ r. ⌜ r ≡ sameCandidate (candidatesIn (shelf t) (now (kept .entry)) (suc i)) (candidatesIn (shelf t) (now (kept .entry)) (suc j)) ⌝ }
 {

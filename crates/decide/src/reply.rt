@@ -9,10 +9,10 @@ ghost use Rattle.protocol.specs.Rules.{sameShare};
 ghost use Rattle.protocol.specs.View.{replySlot, candidateSlot, candidatesIn, replySlotOf, candidateAt, heldAt};
 ghost use Rattle.decide.specs.Steps.{Usable, Full, names, intact, slotHeld};
 ghost use Rattle.decide.specs.Decided.{sameTagsAt};
-use crate::NAME;
 use crate::sizes::digests_at;
 use crate::sizes::servers;
 use crate::sizes::size_of;
+use crate::sizes::tags_place;
 use wire::bytes::rest;
 use wire::bytes::same;
 use wire::kept::CANDIDATE_SLOT;
@@ -22,10 +22,11 @@ use wire::kept::REPLY_SLOT;
 use wire::packet::share_fragment;
 use wire::sizes::DIGEST;
 use wire::sizes::HELD;
+use wire::sizes::NAME;
 use wire::sizes::STAMP;
 
 // Whether a reply names the candidate: its stamp, a share, a length in its range, and the nonce's digest d. No fragment is digested.
-pub(crate) fn names(reply: &[u8], candidate: &[u8], t: usize, d: &[u8]) -> bool
+fn names(reply: &[u8], candidate: &[u8], t: usize, d: &[u8]) -> bool
     requires { ⌜ (1 ≤ t) × (t ≤ topFaults) × (length (now reply) ≡ replySlot) × (length (now candidate) ≡ candidateSlot) ⌝ }
     ensures { λ r. ⌜ r ≡ names (candidateAt (shelf t) (now (candidate .entry))) (now (d .entry)) (heldAt (shelf t) (now (reply .entry))) ⌝ }
 {
@@ -47,7 +48,7 @@ pub(crate) fn names(reply: &[u8], candidate: &[u8], t: usize, d: &[u8]) -> bool
 }
 
 // Whether the fragment in server j + 1's reply has its own digest.
-pub(crate) fn intact(reply: &[u8], t: usize, j: usize) -> bool
+fn intact(reply: &[u8], t: usize, j: usize) -> bool
     requires { ⌜ (1 ≤ t) × (t ≤ topFaults) × (length (now reply) ≡ replySlot) × (Full (now reply)) × (j < shelf t .servers) ⌝ }
     ensures { λ r. ⌜ r ≡ intact (suc j) (heldAt (shelf t) (now (reply .entry)) .share) ⌝ }
 {
@@ -58,7 +59,7 @@ pub(crate) fn intact(reply: &[u8], t: usize, j: usize) -> bool
 }
 
 // Whether two replies agree: length, digests, nonce digest and tags, the last three one after the other.
-pub(crate) fn alike(a: &[u8], b: &[u8], t: usize) -> bool
+fn alike(a: &[u8], b: &[u8], t: usize) -> bool
     requires { ⌜ (1 ≤ t) × (t ≤ topFaults) × (length (now a) ≡ replySlot) × (length (now b) ≡ replySlot) × (Full (now a)) × (Full (now b)) ⌝ }
     ensures { λ r. ⌜ r ≡ sameShare real (shelf t) (heldAt (shelf t) (now (a .entry)) .share) (heldAt (shelf t) (now (b .entry)) .share) ⌝ }
 {
@@ -67,7 +68,7 @@ pub(crate) fn alike(a: &[u8], b: &[u8], t: usize) -> bool
         return false;
     }
     let at = digests_at(t, n);
-    let e = at + DIGEST * servers(t) + DIGEST + hmac::TAG * servers(t);
+    let e = tags_place(t, n) + hmac::TAG * servers(t);
     same(&a[at..e], &b[at..e])
 }
 
@@ -116,6 +117,6 @@ pub(crate) fn tags_alike(kept: &[u8], t: usize, i: usize, j: usize) -> bool
         return false;
     }
     let s = servers(t);
-    let at = y + digests_at(t, n) + DIGEST * s + DIGEST;
+    let at = y + tags_place(t, n);
     same(&kept[at..at + hmac::TAG * s], &kept[a..a + hmac::TAG * s])
 }

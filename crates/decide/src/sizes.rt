@@ -1,6 +1,6 @@
 // Lengths for a shelf, and runs of bytes.
 ghost use mathlib.Core.Path.{_≡_};
-ghost use Prim.Native.Nat.{_+_, _*_, _<_, _≤_};
+ghost use Prim.Native.Nat.{_+_, _*_, _≤_};
 ghost use lib.ListN.{length, getD};
 ghost use Rattle.cluster.specs.Config.{shelf};
 ghost use Rattle.cluster.specs.Ranges.{topLength, topFaults};
@@ -9,7 +9,7 @@ ghost use Rattle.format.specs.Format.{value2};
 ghost use Rattle.protocol.specs.Values.{stampSize};
 ghost use Rattle.format.specs.Reading.{put};
 ghost use Rattle.protocol.specs.View.{replySlot};
-ghost use Rattle.decide.specs.Steps.{rankAt, DigestsAt};
+ghost use Rattle.decide.specs.Steps.{rankAt, DigestsAt, TagsAt};
 use wire::sizes::HELD;
 use wire::sizes::HELD_LENGTH;
 
@@ -45,18 +45,20 @@ pub(crate) fn digests_at(t: usize, n: usize) -> usize
     HELD_LENGTH + fragment_size(t, n)
 }
 
+// Where its tags stand, with room for them behind it.
+pub(crate) fn tags_place(t: usize, n: usize) -> usize
+    requires { ⌜ (1 ≤ t) × (t ≤ topFaults) × (n ≤ topLength) ⌝ }
+    ensures { λ r. ⌜ TagsAt t n r ⌝ }
+{
+    crate::tags_at(t as u8, n as u32)
+}
+
 // The length of a reply's content.
 pub(crate) fn size_of(reply: &[u8]) -> usize
     requires { ⌜ length (now reply) ≡ replySlot ⌝ }
     ensures { λ r. ⌜ r ≡ value2 (getD (now (reply .entry)) (stampSize + 1) 0) (getD (now (reply .entry)) (stampSize + 2) 0) ⌝ }
 {
     wire::bytes::number2(wire::bytes::rest(reply, HELD)) as usize
-}
-
-pub(crate) fn wide(x: u8) -> u64
-    ensures { λ r. ⌜ (r ≡ x) × (r < 256) ⌝ }
-{
-    x as u64
 }
 
 // The rank of the stamp at a place.

@@ -71,7 +71,7 @@ module _ (w : List ℕ) (c : ℕ) (h : (1 ≤ c) × (c ≤ topClient)) (size : l
       → x ≡ callIn w c → a ≡ keptAt c → k ≡ keptSize → s ≡ started (F x (take k (drop a w))) → ks ≡ F x (take k (drop a w)) .kept → length ks ≡ length
       (take k (drop a w))
       → out ≡ putCall (take a w ++ (ks ++ drop k (drop a w))) c (s .call) → length (s .call .tally .marks) ≡ mostServers
-      → BeginsAs b w c out (s .answer .number)
+      → BeginsAs b w c out (s .outcome .number)
   unfolding putClient keptIn
   begins-as F b k {x} {a} {ks} {out} {s} e ex ea ek es eks l₀ eo m =
       let y : take k (drop a w) ≡ bytesAt w (keptAt c) keptSize = rw ea (lent w (keptAt c) k keptSize ek) in
@@ -79,7 +79,7 @@ module _ (w : List ℕ) (c : ℕ) (h : (1 ≤ c) × (c ≤ topClient)) (size : l
       let f : F x (take k (drop a w)) ≡ b = rw (ex, y) e in
       let es' : s ≡ started b = es ∙ ap started f in
       let ek' : ks ≡ b .kept = eks ∙ ap (λ (z : Begun). z .kept) f in
-      let n = ap (λ (z : Started). z .answer .number) es' in
+      let n = ap (λ (z : Started). z .outcome .number) es' in
       let q : s .call ≡ b .call = ap (λ (z : Started). z .call) es' in
       let g : take a w ++ (ks ++ drop k (drop a w)) ≡ put w (keptAt c) (b .kept) = rw ea (back w (keptAt c) k ks (l ∙ sym ek)) ∙ ap (put w (keptAt c))
       ek' in

@@ -78,8 +78,8 @@ pub(crate) fn begin_write(
         nonce,
     );
     put_call(work, client, s.call);
-    let taken = s.answer;
-    taken.number
+    let outcome = s.outcome;
+    outcome.number
 }
 
 // A read begins.
@@ -92,8 +92,8 @@ pub(crate) fn begin_read(work: &mut [u8], t: usize, client: usize) -> u8
     let e = a + wire::kept::KEPT;
     let s = client::begin::begin_read_in(call, &mut work[a..e], client::Party { t, client });
     put_call(work, client, s.call);
-    let taken = s.answer;
-    taken.number
+    let outcome = s.outcome;
+    outcome.number
 }
 
 // The call is given up.

@@ -87,9 +87,9 @@ module _ (d : List ℕ) (size : length d ≡ clientSize) where
   -- what the core answered and left, put back
   pub began : (b : Begun) (r : Started) (k after : List ℕ) → r ≡ started b → k ≡ b .kept → after ≡ callBytes (r .call) ++ drop stateSize
       (putMid keptPlace (length d - keptPlace) d k)
-      → (r .answer ≡ b .result) × (after ≡ stateWith d (b .call) (b .kept))
+      → (r .outcome ≡ b .result) × (after ≡ stateWith d (b .call) (b .kept))
   began b r k after e f p = (
-    ap (λ (x : Started). x .answer) e,
+    ap (λ (x : Started). x .outcome) e,
     p ∙ put-back k (r .call) ∙ ap (λ (x : Started). stateWith d (x .call) k) e ∙ ap (stateWith d (b .call)) f,
   )
 

@@ -50,7 +50,7 @@ fn write_in(
         &nonce,
     );
     put_call(state, begun.call);
-    begun.answer
+    begun.outcome
 }
 
 // A read begins in a state of its size.
@@ -64,7 +64,7 @@ fn read_in(state: &mut [u8], t: usize, client: usize) -> cluster::Outcome
     let at = state::KEPT_PLACE;
     let begun = client::begin::begin_read_in(call, &mut state[at..], client::Party { t, client });
     put_call(state, begun.call);
-    begun.answer
+    begun.outcome
 }
 
 // An outcome in one number. A begin writes no output.

@@ -45,10 +45,15 @@ abbrev pub resultOf : ℕ → Result
 resultOf zero = more
 resultOf (suc n) = refused (suc n)
 
--- what an answer of a client says, by its number: a content is read from the output buffer
+-- what an answer of a client says, by the case whose result it has: a content is read from the output buffer
 abbrev pub resultBy : Answer → List ℕ → Result
 resultBy a output =
     let n = a .result in
+    let k = a .number in
+    let w = a .writer in
     cond (leb refusals n) (refused (n - refusals))
-    (cond (eqb n 0) more (cond (eqb n 1) (written (labelIn a)) (cond (eqb n 2) (gave (labelIn a) (take (a .length) output))
-    (cond (eqb n 3) gaveBlank (aborted (eqb n 5))))))
+    (cond (eqb n (takenAnswer taken.More .result)) more
+    (cond (eqb n (takenAnswer (taken.Written k w) .result)) (written (labelIn a))
+    (cond (eqb n (takenAnswer (taken.Read k w (a .length)) .result)) (gave (labelIn a) (take (a .length) output))
+    (cond (eqb n (takenAnswer taken.Blank .result)) gaveBlank
+    (aborted (eqb n (abortedAnswer aborts.InComplete .result)))))))

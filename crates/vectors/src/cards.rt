@@ -140,8 +140,8 @@ fn begun(n: usize) -> u64 {
         wire::bytes::part(&content, 0, n),
         &nonce,
     );
-    let taken = started.answer;
-    taken.number as u64
+    let outcome = started.outcome;
+    outcome.number as u64
 }
 
 // A content of no byte is refused with 6, the shortest and the longest are accepted.

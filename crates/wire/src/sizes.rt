@@ -19,7 +19,7 @@ pub const LABEL: usize = NUMBER + 1;
 
 pub const STAMP: usize = LABEL + hmac::TAG;
 
-// Bytes of a candidate without its tags.
+// Bytes of a candidate's stamp and nonce: of a candidate without its tags.
 pub const NAME: usize = STAMP + NONCE;
 
 // Bytes of the record length that a share begins with; of a stamp and the byte that says whether a share follows; and of these and that length.

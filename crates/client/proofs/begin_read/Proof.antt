@@ -122,20 +122,20 @@ module _ {M : Type 1} (𝓤 : URA M) (H : Heap 𝓤) (A : Atoms 𝓤) (W : Given
       move ! (1 ∷ 0 ∷ []) $ join ! $ frame ! $ done !
 
   abbrev answer-val : Started → Val
-  answer-val r = LL.val K.the-type K′.the-laws (r .answer)
+  answer-val r = LL.val K.the-type K′.the-laws (r .outcome)
 
-  exits : (r : Started) (kept′ : List ℕ) → φ r kept′ → Is K.the-row (r .answer) (answer-val r ∷ [])
+  exits : (r : Started) (kept′ : List ℕ) → φ r kept′ → Is K.the-row (r .outcome) (answer-val r ∷ [])
       → ent 𝓤 (⋆ 𝓤 H A (‵ (fobs γ (T.the-row .coded .code (r .call))) ∷ ‵ (fbor κ (Body (mem T.the-row) b o γ)) ∷ ‵ (flft κ q) ∷
       (‵ (flft κ₁ q₁) ⊛ ‵ ftrue) ∷ ‵ (fres (kept .name) (Array u8 tt 24576 .coded .code kept′)) ∷ [])) (Post (answer-val r))
   exits r kept′ e is =
       qed W (‵ (fobs γ (T.the-row .coded .code (r .call))) ∷ ‵ (fbor κ (Body (mem T.the-row) b o γ)) ∷ ‵ (flft κ q) ∷ (‵ (flft κ₁ q₁) ⊛ ‵ ftrue) ∷ ‵
       (fres (kept .name) (Array u8 tt 24576 .coded .code kept′)) ∷ []) ∵
       suffices ! _ (ends-at 𝓤 H A self.ended stayed (self.clauses 𝓤 H A at-mem run) W (((κ, (κ₁, tt)), (q, (q₁, tt)), tt, a, vals), tt)
-      (answer-val r) (r .answer) (r .call, (kept′, (tt, tt))) (tt, (tt, (tt, tt)))) $
-      says ! (λ i. record { result = e .0 i .answer; call = e .0 i .call; kept = e .1 i }) $ move ! (2 ∷ 3 ∷ []) $ join ! $ frame ! $
+      (answer-val r) (r .outcome) (r .call, (kept′, (tt, tt))) (tt, (tt, (tt, tt)))) $
+      says ! (λ i. record { result = e .0 i .outcome; call = e .0 i .call; kept = e .1 i }) $ move ! (2 ∷ 3 ∷ []) $ join ! $ frame ! $
       feqI ! (List Val) (vptr b o ∷ []) (vptr b o ∷ []) refl $ fjoin3 ! $ nothing ! $ nothing ! $ fjoin ! $ move ! (2 ∷ 0 ∷ []) $ fjoin ! $ move !
       (1 ∷ 0 ∷ []) $ fjoin ! $
-      owned ! K.the-row (Is K.the-row) (LL.makes K.the-type K′.the-plain 𝓤 H A) (r .answer) _ is $ move ! (1 ∷ 0 ∷ []) $ done !
+      owned ! K.the-row (Is K.the-row) (LL.makes K.the-type K′.the-plain 𝓤 H A) (r .outcome) _ is $ move ! (1 ∷ 0 ∷ []) $ done !
 
   module _ (C : Calls 𝓤 H) (Λ : Loops 𝓤 H) (fm : FmC 𝓤 H (W .laws) C) (known : Triple 𝓤 (C #callee) (Callee 𝓤 H A at-mem run)) where
     walk : ent 𝓤 (onEntry 𝓤 H A self.signature (κ, (κ₁, tt)) (q, (q₁, tt)) a vals)
@@ -177,7 +177,7 @@ module _ {M : Type 1} (𝓤 : URA M) (H : Heap 𝓤) (A : Atoms 𝓤) (W : Given
         (from ! (hop ! (look ! 18 refl) (stop !))) (store-in ! 3 (whole !)
         (T′.the-field-laws .lawful 𝓤 H A W .typed (T.the-field .into (r .call)) _ (LL.owed R.the-type R′.the-laws r _ is .1 .0) .0)) $
         assigns ! (of-opd ! (load ! (from ! (fld ! refl (stop !))) (look-in ! 12 (sub ! 0 refl (whole !))))) (from ! (stop !))
-        (init ! 20 refl (K′.the-field-laws .lawful 𝓤 H A W .typed (K.the-field .into (r .answer)) _ (LL.owed R.the-type R′.the-laws r _ is .0) .0)) $
+        (init ! 20 refl (K′.the-field-laws .lawful 𝓤 H A W .typed (K.the-field .into (r .outcome)) _ (LL.owed R.the-type R′.the-laws r _ is .0) .0)) $
         -- the borrow is closed at the new record
         drop ! $ move ! (2 ∷ []) $ use1 W (‵ (cellAt fullShare (T.the-row .mir) (LL.vals T.the-type T′.the-laws (r .call)) b o))
         (W .laws .at-raw fullShare T′.mir b o (LL.val T.the-type T′.the-laws (r .call))) $

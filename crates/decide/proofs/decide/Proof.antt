@@ -20,8 +20,8 @@ use Rattle.decide.proofs.decide.Statement.{statement}
 use Rattle.decide.proofs.decide.Tie as tie
 
 -- the answer and the output, out of what is decided
-told : {d r : Decided} → d ≡ r → (decisionAnswer (r .answer) ≡ decisionAnswer (d .answer)) × (r .output ≡ d .output)
-told e = (sym (ap (λ (x : Decided). decisionAnswer (x .answer)) e), sym (ap (λ (x : Decided). x .output) e))
+told : {d r : Decided} → d ≡ r → (r .answer ≡ d .answer) × (r .output ≡ d .output)
+told e = (sym (ap (λ (x : Decided). x .answer) e), sym (ap (λ (x : Decided). x .output) e))
 
 -- Places far back, each named once: the place, and from where it is seen.
 abbrev start-from-else1 : tie.Else1 → tie.Start

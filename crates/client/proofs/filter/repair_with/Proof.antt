@@ -16,18 +16,19 @@ use Rattle.client.proofs.filter.repair_with.Statement.{statement}
 use Rattle.client.proofs.filter.repair_with.Tie as tie
 
 -- Places far back, each named once: the place, and from where it is seen.
-abbrev start-from-write-at : tie.After-write-at → tie.Start
-start-from-write-at c = c .before .before .before .before .before .before .before .before
+abbrev start-from-put-repair : tie.After-put-repair → tie.Start
+start-from-put-repair c = c .before .before .before .before .before
 
 write-at-requires-2 : tie.Need-write-at-requires-2
 unfolding shelf
 write-at-requires-2 c κs =
-    let at-write-at = c .before .before .before .before .before .before in
-    let at-start = start-from-write-at at-write-at in
+    let at-write-at = c .before .before .before .before .before .before .before in
+    let at-put-repair = at-write-at .before .before .before in
+    let at-start = start-from-put-repair at-put-repair in
     let n = c .before .before .before .candidate-size .result in
-    let z : n ≡ 69 + 32 * (3 * at-start .args .t + 1) =
+    let z : n ≡ 69 + 32 * (3 * at-start .args .led .t + 1) =
     c .before .before .before .candidate-size .ensures in
-    let q : length (c .part .result .now) ≤ n = rw (c .part .ensures) (part-most (at-write-at .before .before .before .put-repair .last .0) 0 n) in
+    let q : length (c .part .result .now) ≤ n = rw (c .part .ensures) (part-most (at-put-repair .put-repair .last .0) 0 n) in
     omega (
       arith,
       at-start .pre .0,
@@ -37,17 +38,19 @@ write-at-requires-2 c κs =
 returns : tie.Need-returns
 returns c =
     let at-part = c .before .before .before .before in
-    let at-write-at = at-part .before .before .before .before .before .before in
-    let at-start = start-from-write-at at-write-at in
+    let at-write-at = at-part .before .before .before .before .before .before .before in
+    let at-put-repair = at-write-at .before .before .before in
+    let at-start = start-from-put-repair at-put-repair in
     let a = at-start .args in
     let p = at-start .pre in
-    let R : List ℕ = repairBytes (a .t) (a .kept .now) (a .i) (a .b) (length (a .content .now)) in
-    let e : at-write-at .before .before .before .put-repair .last .0 ≡ put (replicate candidateSlot 0) 0 R =
-    at-write-at .before .before .before .put-repair .ensures in
+    let R : List ℕ = repairBytes (a .led .t) (a .kept .now) (a .led .slot) (a .led .server) (length (a .content .now)) in
+    let e : at-put-repair .put-repair .last .0 ≡ put (replicate candidateSlot 0) 0 R =
+    at-put-repair .put-repair .ensures in
     let l : length {A = ℕ} (replicate candidateSlot 0) ≡ candidateSlot = length-replicate {A = ℕ} candidateSlot 0 in
-    let k : bytesAt (at-write-at .before .before .before .put-repair .last .0) 0 (candidateSize (shelf (a .t))) ≡ R =
-    ap (λ (x : List ℕ). bytesAt x 0 (candidateSize (shelf (a .t)))) e
-    ∙ repair-cut (a .t) (a .kept .now) (a .i) (a .b) (length (a .content .now)) (p .0) (p .1 .1 .1 .1 .0) (p .1 .0) (p .1 .1 .0) (p .1 .1 .1 .0)
+    let k : bytesAt (at-put-repair .put-repair .last .0) 0 (candidateSize (shelf (a .led .t))) ≡ R =
+    ap (λ (x : List ℕ). bytesAt x 0 (candidateSize (shelf (a .led .t)))) e
+    ∙ repair-cut (a .led .t) (a .kept .now) (a .led .slot) (a .led .server) (length (a .content .now)) (p .0) (p .1 .1 .1 .1 .0) (p .1 .0)
+    (p .1 .1 .0) (p .1 .1 .1 .0)
     (p .1 .1 .1 .1 .1) (replicate candidateSlot 0) (omega (arith, l)) in (
       c .repairing .ensures,
       c .before .before .before .write-at2 .ensures ∙ rw (

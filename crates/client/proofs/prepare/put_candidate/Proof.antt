@@ -37,5 +37,5 @@ returns c =
     (omega (arith, p .0, p .1 .1 .1)))
 
 pub put-candidate-spec : {M : Type 1} → statement M
-put-candidate-spec = tie.close (tie.spec write-at-requires (λ c. search needs) write-at-requires-2 (λ c. search needs) (λ c. search needs)
-    write-at-requires-3 (λ c. search needs) returns)
+put-candidate-spec = tie.close (tie.spec write-at-requires (λ c. search needs) write-at-requires-2 (λ c. search needs) write-at-requires-3
+    (λ c. search needs) returns)

@@ -6,7 +6,6 @@ use Prim.Native.Nat.{ℕ, _*_}
 use Rattle.cluster.specs.Config.{shelf}
 use mathlib.Core.List.{List}
 use Rattle.hmac.specs.Hmac.{tagSize}
-use Rattle.protocol.specs.Values.{nonceSize}
 use Rattle.client.specs.Steps.{tagRun}
 use Rattle.client.proofs.StampBytes.{tag-run-length}
 use Rattle.client.proofs.Offered.{run-back, servers-few}
@@ -63,18 +62,16 @@ tags-back c =
 
 put-write-requires : tie.Need-put-write-requires
 put-write-requires c κs =
-    let at-part = c .before .before in
+    let at-part = c .before in
     let at-put-tags = put-tags-from-part at-part in
     let at-start = start-from-put-tags at-put-tags in
     let p = at-start .pre in
-    let w = tags-back (c .before .before) in
-    let z : length (at-start .args .t6) ≡ nonceSize =
-    at-start .good .1 .1 .1 .1 .1 .0 .1 .0 .1 in
-    (p .0, (p .1 .0, (p .1 .1 .0, (p .1 .1 .1, (z, rw (w .1) (w .0))))))
+    let w = tags-back (c .before) in
+    (p .0, (p .1 .0, (p .1 .1 .0, (p .1 .1 .1, rw (w .1) (w .0)))))
 
 returns : tie.Need-returns
 returns c =
-    let at-part = c .before .before .before .before .before in
+    let at-part = c .before .before .before .before in
     c .before .before .put-write .ensures ∙ rw (
       tags-back at-part .1,
       at-part .before .before .before .before .before .before .digest .ensures,
@@ -82,4 +79,4 @@ returns c =
 
 pub put-tagged-spec : {M : Type 1} → statement M
 put-tagged-spec = tie.close (tie.spec (λ c. search needs) (λ c κs. search needs) (λ c. search needs) put-tags-requires (λ c. search needs)
-    (λ c κs. search needs) mul-part (λ c κs. search needs) (λ c. search needs) put-write-requires (λ c. search needs) returns)
+    (λ c κs. search needs) mul-part (λ c κs. search needs) put-write-requires (λ c. search needs) returns)

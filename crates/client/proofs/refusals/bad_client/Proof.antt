@@ -20,4 +20,5 @@ returns-2 : tie.Need-returns-2
 returns-2 c = rw (a-write (c .before)) (c .outside3 .ensures)
 
 pub bad-client-spec : {M : Type 1} → statement M
-bad-client-spec = tie.close (tie.spec (λ c κs. search needs) (λ c κs. search needs) returns (λ c κs. search needs) returns-2)
+bad-client-spec = tie.close (tie.spec (λ c. search needs) (λ c. search needs) (λ c κs. search needs) (λ c κs. search needs) returns
+    (λ c κs. search needs) returns-2)

@@ -15,4 +15,4 @@ unfolding inHand
 returns-2 c = sym (not-false _ (sym (c .before .outside .ensures) ∙ c .if1 .left))
 
 pub is-pending-spec : {M : Type 1} → statement M
-is-pending-spec = tie.close (tie.spec (λ c. search needs) (λ c κs. search needs) returns returns-2)
+is-pending-spec = tie.close (tie.spec (λ c. search needs) (λ c. search needs) (λ c. search needs) (λ c κs. search needs) returns returns-2)

@@ -100,9 +100,13 @@ lent t n k l f g servers frs out e q =
     let y : k * f - 0 ≡ l * g = rw (e, q) (omega arith) in
     rw (x, y)
 
+abbrev fragments-of-from-restore : tie.After-restore → tie.After-fragments-of
+fragments-of-from-restore c = c .before .before .before .before .before .before
+
 returns : tie.Need-returns
 returns c =
-    let at-fragments-of = c .before .before .before .before .before .before .before .before in
+    let at-restore = c .before .before in
+    let at-fragments-of = fragments-of-from-restore at-restore in
     let at-start = start-from-fragments-of at-fragments-of in
     let a = at-start .args in
     let p = at-start .pre in
@@ -112,9 +116,9 @@ returns c =
     let f = at-fragments-of .before .fragment-size .ensures in
     rebuilt (a .t) (a .kept .now) (a .t4) (at-fragments-of .before .before .before .size-of .result)
     (p .0) (omega (arith, p .2 .top, n)) (p .3) (a .b) (at-fragments-of .fragments-of .result)
-    (a .out .now) (c .before .before .restore .last .1 .1 .1 .1 .0)
-    (c .before .before .restore .result) (omega (arith, p .2 .least, n)) n (at-start .good .1 .1 .1 .0 .1 .0
-    .1) (at-fragments-of .fragments-of .ensures) (p .4) (c .before .before .restore .ensures
+    (a .out .now) (at-restore .restore .last .1 .1 .1 .1 .0)
+    (at-restore .restore .result) (omega (arith, p .2 .least, n)) n (at-start .good .1 .1 .1 .0 .1 .0
+    .1) (at-fragments-of .fragments-of .ensures) (p .4) (at-restore .restore .ensures
     ∙ lent (a .t) (at-fragments-of .before .before .before .size-of .result)
     (at-fragments-of .before .before .threshold .result) (shelf (a .t) .threshold) (at-fragments-of .before .fragment-size .result)
     (fragmentSize (shelf (a .t) .threshold) (at-fragments-of .before .before .before .size-of .result))

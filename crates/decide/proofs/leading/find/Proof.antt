@@ -11,16 +11,16 @@ use Rattle.decide.proofs.leading.find.Statement.{statement}
 use Rattle.decide.proofs.leading.find.Tie as tie
 
 abbrev Inv-loop : tie.InvT-loop
-Inv-loop kept marks t key s i₀ i = (i ≤ s) × (chosenPlace t marks kept key i ≡ none)
+Inv-loop kept replied key s i₀ i = (i ≤ s) × (chosenPlace (replied .t) (replied .marks) kept key i ≡ none)
 
 abbrev μ-loop : tie.MeasureT-loop
-μ-loop kept marks t key s i₀ i = s - i
+μ-loop kept replied key s i₀ i = s - i
 
 servers-requires : tie.Need-servers-requires Inv-loop μ-loop
 servers-requires c κs = c .before .pre .high
 
 loop-holds : tie.Need-loop-holds Inv-loop μ-loop
-loop-holds c = let a = c .before .before .args in (omega arith, chosen-none (a .t) (a .marks) (a .kept .now) (a .key))
+loop-holds c = let a = c .before .before .args in (omega arith, chosen-none (a .replied .t) (a .replied .marks) (a .kept .now) (a .key))
 
 tried-requires : tie.Need-tried-requires Inv-loop μ-loop
 tried-requires c κs =
@@ -37,7 +37,7 @@ returns : tie.Need-returns Inv-loop μ-loop
 returns c =
     let at-loop = c .before .before .before .before .before in
     let a = at-loop .before .before .before .args in
-    chosen-here (a .t) (a .marks) (a .kept .now) (a .key) (at-loop .loop .i)
+    chosen-here (a .replied .t) (a .replied .marks) (a .kept .now) (a .key) (at-loop .loop .i)
     (c .before .before .before .tried .result) (omega (arith, at-loop .before .servers .ensures .0))
     (at-loop .loop .inv .1) (c .before .before .before .tried .ensures) (c .before .if1 .taken)
 
@@ -59,16 +59,16 @@ loop-again c =
     let at-loop = at-loop-from-else1 c in
     let a = at-loop .before .before .before .args in (
       omega arith,
-      chosen-passed (a .t) (a .marks) (a .kept .now) (a .key) (at-loop .loop .i)
+      chosen-passed (a .replied .t) (a .replied .marks) (a .kept .now) (a .key) (at-loop .loop .i)
           (c .before .before .tried .result) (at-loop .loop .inv .1) (c .before .before .tried .ensures) (c .if1 .left),
     )
 
 returns-2 : tie.Need-returns-2 Inv-loop μ-loop
 returns-2 c =
     let a = c .before .before .before .before .args in
-    let e : c .before .loop .i ≡ shelf (a .t) .servers = omega (arith, c .before .before .servers .ensures .0) in
+    let e : c .before .loop .i ≡ shelf (a .replied .t) .servers = omega (arith, c .before .before .servers .ensures .0) in
     record {
-      nothing = λ z. sym (ap (chosenPlace (a .t) (a .marks) (a .kept .now) (a .key)) e) ∙ c .before .loop .inv .1;
+      nothing = λ z. sym (ap (chosenPlace (a .replied .t) (a .replied .marks) (a .kept .now) (a .key)) e) ∙ c .before .loop .inv .1;
       hit = λ b z. absurd
           (omega (arith, z));
     }

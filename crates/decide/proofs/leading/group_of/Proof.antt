@@ -1,11 +1,12 @@
 -- `decide::group_of` meets its contract: a slot that does not fit leads none; else its members decide. Nothing is assumed.
 use mathlib.Core.Path.{_≡_, sym, ap, _∙_}
-use Prim.Native.Nat.{ℕ, _≤_}
+use Prim.Native.Nat.{ℕ, _≤_, _<_}
 use native.Mathlib.Numerals.{add-one}
 use native.Mathlib.Omega.{arith}
 use lib.ListN.{length, take}
 use borrow.Author.Tests.{not-true, not-false}
 use Rattle.cluster.specs.Config.{shelf}
+use Rattle.cluster.specs.Ranges.{mostServers}
 use Rattle.decide.specs.Steps.{membersAt}
 use Rattle.decide.proofs.Groups.{leads-unfit, members-most, leads-few, leads-enough}
 use Rattle.decide.proofs.Led.{nobody-leads, slot-leads}
@@ -21,8 +22,9 @@ returns : tie.Need-returns
 returns c =
     let a = c .before .before .before .before .before .args in
     let q = a .sought in
-    nobody-leads (q .t) (q .marks) (a .kept .now) (q .slot) (a .b) _ (c .no-group .ensures)
-    (leads-unfit (q .t) (q .marks) (a .kept .now) (q .slot) (a .b) (sym (c .before .before .fits2 .ensures) ∙ not-true
+    let who = q .replied in
+    nobody-leads (who .t) (who .marks) (a .kept .now) (q .slot) (a .b) _ (c .no-group .ensures)
+    (leads-unfit (who .t) (who .marks) (a .kept .now) (q .slot) (a .b) (sym (c .before .before .fits2 .ensures) ∙ not-true
     (c .before .before .fits2 .result)
     (c .before .if1 .taken)))
 
@@ -48,8 +50,9 @@ returns-2 c =
     let at-members-of = c .before .before .before .before in
     let a = start-from-members-of at-members-of .args in
     let q = a .sought in
-    nobody-leads (q .t) (q .marks) (a .kept .now) (q .slot) (a .b) _ (c .no-group2 .ensures)
-    (leads-few (q .t) (q .marks) (a .kept .now) (q .slot) (a .b) (sym (at-members-of .before .before .fits2 .ensures) ∙ not-false
+    let who = q .replied in
+    nobody-leads (who .t) (who .marks) (a .kept .now) (q .slot) (a .b) _ (c .no-group2 .ensures)
+    (leads-few (who .t) (who .marks) (a .kept .now) (q .slot) (a .b) (sym (at-members-of .before .before .fits2 .ensures) ∙ not-false
     (at-members-of .before .before .fits2 .result) (at-members-of .before .if1 .left)) (omega (
       arith,
       c .before .if2 .taken,
@@ -57,22 +60,27 @@ returns-2 c =
       c .before .before .before .threshold .ensures .0,
     )))
 
+-- the slot is one of few
+slot-low : (c : tie.After-members-of) → start-from-members-of c .args .b < mostServers
+slot-low c = let p = start-from-members-of c .pre in omega (arith, p .2, few (p .0))
+
 returns-3 : tie.Need-returns-3
 returns-3 c =
     let at-members-of = c .before .before .before .before in
     let a = start-from-members-of at-members-of .args in
     let q = a .sought in
+    let who = q .replied in
     let m = at-members-of .members-of .ensures in
-    let l : shelf (q .t) .threshold ≤ length (membersAt (q .t) (q .marks) (a .kept .now) (q .slot) (a .b)) = omega
+    let l : shelf (who .t) .threshold ≤ length (membersAt (who .t) (who .marks) (a .kept .now) (q .slot) (a .b)) = omega
     (arith, c .before .if2 .left, m .count, c .before .before .before .threshold .ensures .0) in
-    let k : shelf (q .t) .threshold ≡ at-members-of .members-of .result .count = omega
-    (arith, l, m .count, members-most (q .t) (q .marks) (a .kept .now) (q .slot) (a .b)) in
-    slot-leads (q .t) (q .marks) (a .kept .now) (q .slot) (a .b) _ (add-one (a .b))
-    (leads-enough (q .t) (q .marks) (a .kept .now) (q .slot) (a .b) (sym (at-members-of .before .before .fits2 .ensures) ∙ not-false
+    let k : shelf (who .t) .threshold ≡ at-members-of .members-of .result .count = omega
+    (arith, l, m .count, members-most (who .t) (who .marks) (a .kept .now) (q .slot) (a .b)) in
+    slot-leads (who .t) (who .marks) (a .kept .now) (q .slot) (a .b) _ (add-one (a .b))
+    (leads-enough (who .t) (who .marks) (a .kept .now) (q .slot) (a .b) (sym (at-members-of .before .before .fits2 .ensures) ∙ not-false
     (at-members-of .before .before .fits2 .result) (at-members-of .before .if1 .left)) l)
     (ap (λ (x : ℕ). take x (at-members-of .members-of .result .servers)) k ∙ m .these)
 
 pub group-of-spec : {M : Type 1} → statement M
 group-of-spec = tie.close (tie.spec fits-requires (λ c κs. search needs) returns members-of-requires threshold-requires (λ c κs. search needs)
     returns-2
-    (λ c. let p = c .before .before .before .before .before .before .before .before .before .pre in omega (arith, p .2, few (p .0))) returns-3)
+    (λ c. omega (arith, slot-low (c .before .before .before .before))) returns-3)

@@ -17,8 +17,9 @@ use Rattle.decide.proofs.leading.members_of.Tie as tie
 
 abbrev Inv-loop : tie.InvT-loop
 Inv-loop kept sought d b s k out₀ n₀ j₀ out n j =
-    (j ≤ s) × (n ≤ k) × (length out ≡ 13) × (n ≡ length (serversOf j (agreesAt (sought .t) (sought .marks) kept (sought .slot) b))) ×
-    (take n out ≡ serversOf j (agreesAt (sought .t) (sought .marks) kept (sought .slot) b))
+    (j ≤ s) × (n ≤ k) × (length out ≡ 13) × (n ≡ length (serversOf j (agreesAt (sought .replied .t) (sought .replied .marks) kept
+    (sought .slot) b))) ×
+    (take n out ≡ serversOf j (agreesAt (sought .replied .t) (sought .replied .marks) kept (sought .slot) b))
 
 abbrev μ-loop : tie.MeasureT-loop
 μ-loop kept sought d b s k out₀ n₀ j₀ out n j = s - j
@@ -66,8 +67,12 @@ returns c =
     let at-threshold = c .before .before .before in
     let a = start-from-threshold at-threshold .args in
     let q = a .sought in
+    let who = q .replied in
     let v = c .before .before .loop .inv in
-    enough (q .t) (q .marks) (a .kept .now) (q .slot) (a .b) (record { count = c .before .before .loop .n; servers = c .before .before .loop .out })
+    enough (who .t) (who .marks) (a .kept .now) (q .slot) (a .b) (record {
+      count = c .before .before .loop .n;
+      servers = c .before .before .loop .out;
+    })
     (c .before .before .loop .j) (omega (arith, at-threshold .before .servers .ensures .0)) (omega (
       arith,
       c .before .before .before .threshold .ensures .0,
@@ -104,12 +109,13 @@ add-n c =
     let at-start = start-from-threshold at-threshold in
     let a = at-start .args in
     let q = a .sought in
+    let who = q .replied in
     omega (
       arith,
       c .before .before .before .loop .inv .1,
       c .agrees .ensures,
       bit-le
-          (agreesAt (q .t) (q .marks) (a .kept .now) (q .slot) (a .b) (suc (c .before .before .before .loop .j))),
+          (agreesAt (who .t) (who .marks) (a .kept .now) (q .slot) (a .b) (suc (c .before .before .before .loop .j))),
       at-threshold .threshold .ensures .1,
       at-start .pre .0 .high,
     )
@@ -129,8 +135,9 @@ loop-again c =
     let at-start = start-from-threshold at-threshold in
     let a = at-start .args in
     let q = a .sought in
+    let who = q .replied in
     let v = c .before .before .before .loop .inv in
-    let p = agreesAt (q .t) (q .marks) (a .kept .now) (q .slot) (a .b) in
+    let p = agreesAt (who .t) (who .marks) (a .kept .now) (q .slot) (a .b) in
     let k = at-threshold .threshold .ensures .1 in
     let w = servers-step p (c .before .before .before .loop .j) (c .before .before .before .loop .n) (c .before .before .before .loop .out) (v .3)
     (v .4) (omega (arith, v .1, v .2, k, at-start .pre .0 .high)) in (
@@ -145,8 +152,9 @@ returns-2 : tie.Need-returns-2 Inv-loop μ-loop
 returns-2 c =
     let a = start-from-threshold (c .before .before) .args in
     let q = a .sought in
+    let who = q .replied in
     let v = c .before .loop .inv in
-    every (q .t) (q .marks) (a .kept .now) (q .slot) (a .b) (record { count = c .before .loop .n; servers = c .before .loop .out })
+    every (who .t) (who .marks) (a .kept .now) (q .slot) (a .b) (record { count = c .before .loop .n; servers = c .before .loop .out })
     (c .before .loop .j)
     (omega (arith, c .before .before .before .servers .ensures .0)) (omega (arith, v .1, c .before .before .threshold .ensures .0)) (v .3) (v .4)
 

@@ -19,19 +19,21 @@ returns c =
     let at-rank-at = c .before .before in
     let a = at-rank-at .before .before .before .args in
     let q = a .sought in
-    let n = leaderAt (q .t) (q .marks) (a .kept .now) (q .slot) (shelf (q .t) .servers) in
-    no-group (q .t) (q .marks) (a .kept .now) (q .slot) (cond (triedAt (q .t) (a .kept .now) (a .key) (q .slot)) n 0) _ (c .no-group .ensures)
-    (rw (other-rank (q .t) (a .kept .now) (a .key) (q .slot) (λ e. c .before .if1 .taken
-    (c .before .before .rank-at .ensures ∙ sym (candidate-rank (shelf (q .t)) (a .kept .now) (q .slot)
+    let who = q .replied in
+    let n = leaderAt (who .t) (who .marks) (a .kept .now) (q .slot) (shelf (who .t) .servers) in
+    no-group (who .t) (who .marks) (a .kept .now) (q .slot) (cond (triedAt (who .t) (a .kept .now) (a .key) (q .slot)) n 0) _ (c .no-group .ensures)
+    (rw (other-rank (who .t) (a .kept .now) (a .key) (q .slot) (λ e. c .before .if1 .taken
+    (c .before .before .rank-at .ensures ∙ sym (candidate-rank (shelf (who .t)) (a .kept .now) (q .slot)
     (at-rank-at .before .before .before .pre .1)) ∙ e))))
 
 returns-2 : tie.Need-returns-2
 returns-2 c =
     let a = c .before .before .before .before .before .before .before .args in
     let q = a .sought in
-    let n = leaderAt (q .t) (q .marks) (a .kept .now) (q .slot) (shelf (q .t) .servers) in
-    no-group (q .t) (q .marks) (a .kept .now) (q .slot) (cond (triedAt (q .t) (a .kept .now) (a .key) (q .slot)) n 0) _ (c .no-group2 .ensures)
-    (rw (not-listed (q .t) (a .kept .now) (a .key) (q .slot) (bit-some (enters (candidatesIn (shelf (q .t)) (a .kept .now)) (suc (q .slot)))
+    let who = q .replied in
+    let n = leaderAt (who .t) (who .marks) (a .kept .now) (q .slot) (shelf (who .t) .servers) in
+    no-group (who .t) (who .marks) (a .kept .now) (q .slot) (cond (triedAt (who .t) (a .kept .now) (a .key) (q .slot)) n 0) _ (c .no-group2 .ensures)
+    (rw (not-listed (who .t) (a .kept .now) (a .key) (q .slot) (bit-some (enters (candidatesIn (shelf (who .t)) (a .kept .now)) (suc (q .slot)))
     (sym (c .before .before .entry .ensures) ∙ c .before .if2 .taken))))
 
 returns-3 : tie.Need-returns-3
@@ -39,9 +41,10 @@ returns-3 c =
     let at-rank-at = c .before .before .before .before in
     let a = at-rank-at .before .before .before .args in
     let q = a .sought in
-    rw (is-tried (q .t) (a .kept .now) (a .key) (q .slot) (candidate-rank (shelf (q .t)) (a .kept .now) (q .slot)
+    let who = q .replied in
+    rw (is-tried (who .t) (a .kept .now) (a .key) (q .slot) (candidate-rank (shelf (who .t)) (a .kept .now) (q .slot)
     (at-rank-at .before .before .before .pre .1) ∙ sym (at-rank-at .rank-at .ensures) ∙ c .before .before .before .if1 .left)
-    (bit-here (enters (candidatesIn (shelf (q .t)) (a .kept .now)) (suc (q .slot))) (λ e. c .before .if2 .left
+    (bit-here (enters (candidatesIn (shelf (who .t)) (a .kept .now)) (suc (q .slot))) (λ e. c .before .if2 .left
     (c .before .before .entry .ensures ∙ e))))
     (c .leader .ensures)
 

@@ -11,9 +11,10 @@ use Rattle.decide.proofs.rank.raised.Tie as tie
 returns : tie.Need-returns
 unfolding raised
 returns c =
-    let a = c .before .before .before .args in
+    let at-start = c .before .before .before .before in
+    let a = at-start .args in
     rw (
-      candidate-rank (shelf (a .t)) (a .kept .now) (a .i) (c .before .before .before .pre .1),
+      candidate-rank (shelf (a .sought .replied .t)) (a .kept .now) (a .sought .slot) (at-start .pre .1),
       ← c .before .rank-at .ensures,
       le-ltb (a .top)
           (c .before .rank-at .result) (omega arith),
@@ -22,10 +23,10 @@ returns c =
 returns-2 : tie.Need-returns-2
 unfolding raised
 returns-2 c =
-    let at-start = c .before .before .before .before .before in
+    let at-start = c .before .before .before .before .before .before in
     let a = at-start .args in
     rw (
-      candidate-rank (shelf (a .t)) (a .kept .now) (a .i) (at-start .pre .1),
+      candidate-rank (shelf (a .sought .replied .t)) (a .kept .now) (a .sought .slot) (at-start .pre .1),
       ←
           c .before .before .before .rank-at .ensures,
       lt-ltb (a .top) (c .before .before .before .rank-at .result) (omega arith),
@@ -37,10 +38,10 @@ returns-2 c =
 returns-3 : tie.Need-returns-3
 unfolding raised
 returns-3 c =
-    let at-start = c .before .before .before .before .before in
+    let at-start = c .before .before .before .before .before .before in
     let a = at-start .args in
     rw (
-      candidate-rank (shelf (a .t)) (a .kept .now) (a .i) (at-start .pre .1),
+      candidate-rank (shelf (a .sought .replied .t)) (a .kept .now) (a .sought .slot) (at-start .pre .1),
       ←
           c .before .before .before .rank-at .ensures,
       lt-ltb (a .top) (c .before .before .before .rank-at .result) (omega arith),

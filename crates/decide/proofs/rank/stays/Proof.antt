@@ -19,69 +19,71 @@ use Rattle.decide.proofs.rank.stays.Statement.{statement}
 use Rattle.decide.proofs.rank.stays.Tie as tie
 
 abbrev Inv-loop : tie.InvT-loop
-Inv-loop kept t key marks s n₀ j₀ n j = (j ≤ s) × (n ≡ countTo j (ranksBelow (marked marks) (repliesIn (shelf t) marks kept) key))
+Inv-loop kept key replied s n₀ j₀ n j = (j ≤ s) × (n ≡ countTo j (ranksBelow (marked (replied .marks)) (repliesIn (shelf (replied .t))
+    (replied .marks) kept) key))
 
 abbrev μ-loop : tie.MeasureT-loop
-μ-loop kept t key marks s n₀ j₀ n j = s - j
+μ-loop kept key replied s n₀ j₀ n j = s - j
 
 loop-holds : tie.Need-loop-holds Inv-loop μ-loop
 loop-holds c =
     let a = c .before .before .args in
-    (omega arith, sym (count-none (ranksBelow (marked (a .t2)) (repliesIn (shelf (a .t)) (a .t2) (a .kept .now)) (a .key))))
+    (omega arith, sym (count-none (ranksBelow (marked (a .t2 .marks)) (repliesIn (shelf (a .t2 .t)) (a .t2 .marks) (a .kept .now)) (a .key))))
 
 -- Places far back, each named once: the place, and from where it is seen.
 abbrev start-from-in-loop : tie.In-loop Inv-loop μ-loop → tie.Start Inv-loop μ-loop
 start-from-in-loop c = c .before .before .before .before
 
-array-read-is-lower : tie.Need-array-read-is-lower Inv-loop μ-loop
-array-read-is-lower c = omega (arith, c .before .before .servers .ensures .1, start-from-in-loop c .pre .high)
+element-copy-out-is-lower : tie.Need-element-copy-out-is-lower Inv-loop μ-loop
+element-copy-out-is-lower c = omega (arith, c .before .before .servers .ensures .1, start-from-in-loop c .pre .high)
 
 is-lower-requires : tie.Need-is-lower-requires Inv-loop μ-loop
 is-lower-requires c κs =
-    let at-start = start-from-in-loop c in (
+    let at-in-loop = c .before in
+    let at-start = start-from-in-loop at-in-loop in (
       at-start .pre .size,
       omega (
         arith,
-        c .before .before .servers .ensures .1,
+        at-in-loop .before .before .servers .ensures .1,
         at-start .pre .high,
       ),
     )
 
 abbrev start-from-is-lower : tie.After-is-lower Inv-loop μ-loop → tie.Start Inv-loop μ-loop
-start-from-is-lower c = c .before .before .before .before .before
+start-from-is-lower c = start-from-in-loop (c .before .before)
 
 -- the slot that is looked at is one of the array's
-slot-low : (c : tie.After-is-lower Inv-loop μ-loop) → c .before .before .loop .j < mostServers
-slot-low c = omega (arith, c .before .before .before .servers .ensures .1, start-from-is-lower c .pre .high)
+slot-low : (c : tie.After-is-lower Inv-loop μ-loop) → c .before .before .before .loop .j < mostServers
+slot-low c = omega (arith, c .before .before .before .before .servers .ensures .1, start-from-is-lower c .pre .high)
 
 add-n : tie.Need-add-n Inv-loop μ-loop
 add-n c =
     let at-start = start-from-is-lower c in
     let a = at-start .args in
-    let p = ranksBelow (marked (a .t2)) (repliesIn (shelf (a .t)) (a .t2) (a .kept .now)) (a .key) in
+    let p = ranksBelow (marked (a .t2 .marks)) (repliesIn (shelf (a .t2 .t)) (a .t2 .marks) (a .kept .now)) (a .key) in
     let j = slot-low c in
     omega (
       arith,
-      c .before .before .loop .inv .1,
-      count-le (c .before .before .loop .j) p,
+      c .before .before .before .loop .inv .1,
+      count-le (c .before .before .before .loop .j) p,
       c .is-lower .ensures,
       at-start .pre .high,
-      c .before .before .before .servers .ensures .1,
-      bit-le (not (eqb (getD (a .t2) (c .before .before .loop .j) 0) 0) && ltb (rankAt (a .kept .now)
-          (repliesPlace + replySlot * c .before .before .loop .j)) (a .key)),
+      c .before .before .before .before .servers .ensures .1,
+      bit-le (not (eqb (getD (a .t2 .marks) (c .before .before .before .loop .j) 0) 0) && ltb (rankAt (a .kept .now)
+          (repliesPlace + replySlot * c .before .before .before .loop .j)) (a .key)),
     )
 
 add-j : tie.Need-add-j Inv-loop μ-loop
-add-j c = omega (arith, c .before .before .before .servers .ensures .1, start-from-is-lower c .pre .high)
+add-j c = omega (arith, c .before .before .before .before .servers .ensures .1, start-from-is-lower c .pre .high)
 
 loop-again : tie.Need-loop-again Inv-loop μ-loop
 loop-again c =
     let a = start-from-is-lower c .args in
-    let p = ranksBelow (marked (a .t2)) (repliesIn (shelf (a .t)) (a .t2) (a .kept .now)) (a .key) in
+    let p = ranksBelow (marked (a .t2 .marks)) (repliesIn (shelf (a .t2 .t)) (a .t2 .marks) (a .kept .now)) (a .key) in
     let j = slot-low c in
-    let e : c .is-lower .result ≡ bit (p (suc (c .before .before .loop .j))) = c .is-lower .ensures ∙ ap bit
-    (sym (below-slot (shelf (a .t)) (a .kept .now) (a .t2) (a .key) (c .before .before .loop .j) j)) in
-    (omega arith, omega (arith, c .before .before .loop .inv .1, count-more (c .before .before .loop .j) p, e))
+    let e : c .is-lower .result ≡ bit (p (suc (c .before .before .before .loop .j))) = c .is-lower .ensures ∙ ap bit
+    (sym (below-slot (shelf (a .t2 .t)) (a .kept .now) (a .t2 .marks) (a .key) (c .before .before .before .loop .j) j)) in
+    (omega arith, omega (arith, c .before .before .before .loop .inv .1, count-more (c .before .before .before .loop .j) p, e))
 
 sub-result : tie.Need-sub-result Inv-loop μ-loop
 sub-result c = omega (arith, c .before .before .servers .ensures .1)
@@ -90,13 +92,13 @@ returns : tie.Need-returns Inv-loop μ-loop
 unfolding stays
 returns c =
     let a = c .before .before .before .before .args in
-    let p = ranksBelow (marked (a .t2)) (repliesIn (shelf (a .t)) (a .t2) (a .kept .now)) (a .key) in
-    let e : c .before .loop .j ≡ shelf (a .t) .servers = omega (arith, c .before .before .servers .ensures .0) in
-    let n : c .before .loop .n ≡ countTo (shelf (a .t) .servers) p = c .before .loop .inv .1 ∙ ap (λ (k : ℕ). countTo k p) e in
-    ap (λ (x : ℕ). ltb x (c .before .before .servers .result - a .t)) n
-    ∙ ap (λ (x : ℕ). ltb (countTo (shelf (a .t) .servers) p) x) (quorum-of (a .t) (c .before .before .servers .result)
+    let p = ranksBelow (marked (a .t2 .marks)) (repliesIn (shelf (a .t2 .t)) (a .t2 .marks) (a .kept .now)) (a .key) in
+    let e : c .before .loop .j ≡ shelf (a .t2 .t) .servers = omega (arith, c .before .before .servers .ensures .0) in
+    let n : c .before .loop .n ≡ countTo (shelf (a .t2 .t) .servers) p = c .before .loop .inv .1 ∙ ap (λ (k : ℕ). countTo k p) e in
+    ap (λ (x : ℕ). ltb x (c .before .before .servers .result - a .t2 .t)) n
+    ∙ ap (λ (x : ℕ). ltb (countTo (shelf (a .t2 .t) .servers) p) x) (quorum-of (a .t2 .t) (c .before .before .servers .result)
     (c .before .before .servers .ensures .1))
 
 pub stays-spec : {M : Type 1} → statement M
-stays-spec = tie.close (tie.spec Inv-loop μ-loop (λ c κs. search needs) loop-holds array-read-is-lower is-lower-requires add-n add-j
+stays-spec = tie.close (tie.spec Inv-loop μ-loop (λ c κs. search needs) loop-holds element-copy-out-is-lower is-lower-requires add-n add-j
     (λ c. omega arith) loop-again sub-result returns)

@@ -11,10 +11,10 @@ use Rattle.decide.proofs.rank.top.Statement.{statement}
 use Rattle.decide.proofs.rank.top.Tie as tie
 
 abbrev Inv-loop : tie.InvT-loop
-Inv-loop kept marks t s key₀ i₀ key i = (i ≤ s) × (key ≡ topAt t marks kept i)
+Inv-loop kept replied s key₀ i₀ key i = (i ≤ s) × (key ≡ topAt (replied .t) (replied .marks) kept i)
 
 abbrev μ-loop : tie.MeasureT-loop
-μ-loop kept marks t s key₀ i₀ key i = s - i
+μ-loop kept replied s key₀ i₀ key i = s - i
 
 loop-holds : tie.Need-loop-holds Inv-loop μ-loop
 unfolding topAt topRank
@@ -41,8 +41,9 @@ loop-again c = (omega arith, rw (add-one, ← c .before .before .loop .inv .1) (
 returns : tie.Need-returns Inv-loop μ-loop
 returns c =
     let at-start = c .before .before .before .before in
-    let e : c .before .loop .i ≡ shelf (at-start .args .t) .servers = omega
-    (arith, c .before .before .servers .ensures .0) in c .before .loop .inv .1 ∙ ap (λ (k : ℕ). topAt (at-start .args .t) (at-start .args .marks)
+    let e : c .before .loop .i ≡ shelf (at-start .args .replied .t) .servers = omega
+    (arith, c .before .before .servers .ensures .0) in c .before .loop .inv .1 ∙ ap (λ (k : ℕ). topAt (at-start .args .replied .t)
+    (at-start .args .replied .marks)
     (at-start .args .kept .now) k) e
 
 pub top-spec : {M : Type 1} → statement M

@@ -26,6 +26,10 @@ fine c =
     let p = c .before .before .before .pre in
     omega (arith, c .digests-at .ensures .room, p .2, p .4)
 
+-- Places far back, each named once: the place, and from where it is seen.
+abbrev digests-at-from-digest : tie.After-digest → tie.After-digests-at
+digests-at-from-digest c = c .before .before .before
+
 returns : tie.Need-returns
 returns c =
     let at-share-fragment = c .before .before .before .before in
@@ -49,7 +53,7 @@ returns c =
 
 pub intact-spec : {M : Type 1} → statement M
 intact-spec = tie.close (tie.spec (λ c κs. search needs) digests-at-requires (λ c κs. search needs) (λ c. search needs)
-    (λ c κs. search needs) (λ c κs. search needs) (λ c. omega (arith, fine (c .before .before .before)))
-    (λ c. omega (arith, fine (c .before .before .before))) (λ c. search needs) (λ c. omega (arith, fine (c .before .before .before .before)))
-    (λ c. omega (arith, fine (c .before .before .before .before))) (λ c. omega (arith, fine (c .before .before .before .before)))
-    (λ c. omega (arith, fine (c .before .before .before .before))) (λ c κs. search needs) returns)
+    (λ c κs. search needs) (λ c κs. search needs) (λ c. omega (arith, fine (digests-at-from-digest c)))
+    (λ c. omega (arith, fine (digests-at-from-digest c))) (λ c. search needs) (λ c. omega (arith, fine (digests-at-from-digest (c .before))))
+    (λ c. omega (arith, fine (digests-at-from-digest (c .before)))) (λ c. omega (arith, fine (digests-at-from-digest (c .before))))
+    (λ c. omega (arith, fine (digests-at-from-digest (c .before)))) (λ c κs. search needs) returns)

@@ -9,7 +9,7 @@ use borrow.Author.Needs.{needs}
 use borrow.Author.Tests.{le-leb, lt-leb}
 use Rattle.cluster.specs.Config.{shelf}
 use Rattle.cluster.specs.Ranges.{leastLength, topLength, mostServers}
-use Rattle.protocol.specs.Values.{sameList, stampSize, nonceSize, tagsSize, digestSize}
+use Rattle.protocol.specs.Values.{sameList, stampSize, nonceSize, tagsSize}
 use Rattle.protocol.specs.View.{candidateSlot, candidatesPlace, repliesPlace, replySlot, keptSize}
 use Rattle.format.specs.Reading.{bytesAt}
 use Rattle.decide.specs.Decided.{shareOf, sameTagsAt}
@@ -62,8 +62,8 @@ servers-requires c κs = c .before .before .before .before .before .pre .0 .high
 abbrev start-from-servers : tie.After-servers → tie.Start
 start-from-servers c = c .before .before .before .before .before .before
 
-digests-at-requires : tie.Need-digests-at-requires
-digests-at-requires c κs = let p = start-from-servers c .pre in (
+tags-place-requires : tie.Need-tags-place-requires
+tags-place-requires c κs = let p = start-from-servers c .pre in (
   p .0 .low,
   p .0 .high,
   omega
@@ -71,13 +71,13 @@ digests-at-requires c κs = let p = start-from-servers c .pre in (
 )
 
 -- the tags of both end within their slots
-fine : (c : tie.After-digests-at)
+fine : (c : tie.After-tags-place)
     → (length (start-from-servers (c .before) .args .kept .now) ≡ keptSize) × (c .before .servers .result ≤ mostServers)
-    × (c .digests-at .result + digestSize * c .before .servers .result + digestSize + tagSize * c .before .servers .result ≤ replySlot)
+    × (c .tags-place .result + tagSize * c .before .servers .result ≤ replySlot)
 fine c =
     let u = start-from-servers (c .before) .pre .0 in
     let e = c .before .servers .ensures .0 in
-    (u .size, omega (arith, e, few u), omega (arith, e, c .digests-at .ensures .room))
+    (u .size, omega (arith, e, few u), omega (arith, e, c .tags-place .ensures .room))
 
 returns-3 : tie.Need-returns-3
 unfolding sameTagsAt
@@ -89,7 +89,7 @@ returns-3 c =
     let n = at-servers .before .before .before .size-of .result in
     let z = size (a .t) (a .kept .now) (a .j) (at-servers .before .before .before .size-of .result)
     (at-servers .before .before .before .size-of .ensures) in
-    let at : ℕ = repliesPlace + replySlot * a .j + c .before .before .before .digests-at .result + 32 * at-servers .servers .result + 32 in
+    let at : ℕ = repliesPlace + replySlot * a .j + c .before .before .before .tags-place .result in
     let w : ℕ = 32 * at-servers .servers .result in
     let e : w ≡ tagsSize (shelf (a .t)) = omega (arith, at-servers .servers .ensures .0) in
     rw (
@@ -99,8 +99,8 @@ returns-3 c =
     (c .same .ensures ∙ both (a .kept .now) at (candidatesPlace + candidateSlot * a .i + (stampSize + nonceSize)) w (tagsSize (shelf (a .t))) e
     ∙ ap (λ (x : List ℕ). sameList x (bytesAt (a .kept .now) (candidatesPlace + candidateSlot * a .i + (stampSize + nonceSize))
     (tagsSize (shelf (a .t))))) (sym (reply-tags (a .t) (a .kept .now) (a .j) (at-servers .before .before .before .size-of .result) at z
-    (omega (arith, c .before .before .before .digests-at .ensures .place, at-servers .servers .ensures .0))
-    (omega (arith, c .before .before .before .digests-at .ensures .room, c .before .before .before .digests-at .ensures .place))))
+    (omega (arith, c .before .before .before .tags-place .ensures .place, at-servers .servers .ensures .0))
+    (omega (arith, c .before .before .before .tags-place .ensures .room, c .before .before .before .tags-place .ensures .place))))
     ∙ ap (sameList (shareOf (a .t) (a .kept .now) (suc (a .j)) .tags)) (sym (candidate-tags (shelf (a .t)) (a .kept .now) (a .i) (p .1)
     (few (p .0)))))
 
@@ -108,8 +108,8 @@ pub tags-alike-spec : {M : Type 1} → statement M
 tags-alike-spec = tie.close (tie.spec (λ c. omega (arith, c .before .pre .0 .size)) (λ c. omega (arith, c .before .pre .0 .size))
     (λ c. omega (arith, c .before .pre .0 .size)) (λ c. omega (arith, c .before .pre .0 .size)) (λ c. omega (arith, c .before .pre .0 .size))
     (λ c. omega (arith, c .before .pre .0 .size)) (λ c. omega (arith, c .before .pre .0 .size)) (λ c. omega (arith, c .before .pre .0 .size))
-    (λ c. omega (arith, c .before .pre .0 .size)) size-of-requires returns returns-2 servers-requires digests-at-requires (λ c. omega (arith, fine c))
-    (λ c. omega (arith, fine c)) (λ c. omega (arith, fine c)) (λ c. omega (arith, fine c)) (λ c. omega (arith, fine c)) (λ c. omega (arith, fine c))
+    (λ c. omega (arith, c .before .pre .0 .size)) size-of-requires returns returns-2 servers-requires tags-place-requires (λ c. omega (arith, fine c))
+    (λ c. omega (arith, fine c)) (λ c. omega (arith, fine c))
     (λ c. omega (arith, fine c)) (λ c. omega (arith, fine c)) (λ c. omega (arith, fine c)) (λ c. omega (arith, fine (c .before)))
     (λ c. omega (arith, fine (c .before))) (λ c. omega (arith, fine (c .before))) (λ c. omega (arith, fine (c .before)))
     (λ c. omega (arith, fine (c .before))) (λ c κs. search needs) returns-3)
