@@ -1,8 +1,7 @@
--- What a row shows of an answer, case by case, and that the first of many copies are copies. By cases. Assumes nothing.
+-- What a row shows of an answer, case by case, and a part of many copies. By cases. Assumes nothing.
 use mathlib.Core.Path.{_≡_, refl, sym, ap, _∙_}
-use mathlib.Core.List.{List, [], _∷_}
+use mathlib.Core.List.{List, []}
 use Prim.Native.Nat.{ℕ, zero, suc, _≤_}
-use native.Mathlib.Omega.{arith}
 use lib.ListN.{length, take, getD, replicate}
 use Rattle.protocol.specs.declared.Answer.{Answer}
 use Rattle.protocol.specs.declared.Taken.{Taken}
@@ -14,6 +13,7 @@ use Rattle.protocol.specs.Client.{refused}
 use Rattle.format.specs.Reading.{bytesAt}
 use Rattle.runs.specs.Runs.{resultOf, resultBy}
 use Rattle.protocol.proofs.Told.{refused-back}
+use Rattle.columns.proofs.Printed.{take-copies}
 use Rattle.drill.specs.Steps.{shownAs, shown}
 
 pub shown-begun : (n : ℕ) → n ≡ 0 → shown (resultOf n) ≡ shownAs (takenAnswer taken.More) []
@@ -47,11 +47,6 @@ row-taken x o a content first e p f =
     rw f (ap (shownAs a) p ∙ ap (λ (z : Answer). shownAs z (take (z .length) o)) e ∙ sym (shown-taken x o))
 
 -- ---- copies of a byte
-
-pub take-copies : (m n x : ℕ) → m ≤ n → take m (replicate n x) ≡ replicate m x
-take-copies zero n x h = refl
-take-copies (suc m) zero x h = absurd (omega arith)
-take-copies (suc m) (suc n) x h = ap (λ (z : List ℕ). x ∷ z) (take-copies m n x (omega arith))
 
 pub part-copies : (m n x : ℕ) → m ≤ n → bytesAt (replicate n x) 0 m ≡ replicate m x
 unfolding bytesAt

@@ -4,7 +4,7 @@ use mathlib.Core.Path.{_≡_, refl, ap, sym, _∙_}
 use mathlib.Core.Bool.{Bool, true, false, cond}
 use mathlib.Core.List.{List, [], _∷_}
 use mathlib.Core.Option.{none, some}
-use Prim.Native.Nat.{ℕ, suc, _+_, _-_, _*_, _/_, _≤_, _<_}
+use Prim.Native.Nat.{ℕ, _+_, _-_, _*_, _/_, _≤_, _<_}
 use native.Mathlib.Omega.{arith}
 use native.Mathlib.Nat.{div-lt-iff-lt-mul, div-add-mod'}
 use lib.Dec.{ltb}
@@ -14,12 +14,12 @@ use Rattle.cluster.specs.Ranges.{within, topFaults}
 use Rattle.format.specs.Reading.{over, put}
 use Rattle.format.proofs.Puts.{put-over}
 use Rattle.drill.specs.declared.sheet.Line.{Line}
-use Rattle.drill.specs.Sheet.{lines, firstLine}
-use Rattle.drill.specs.Reads.{textAt, EndsAt, nextAt}
+use Rattle.columns.specs.Lines.{lines, lineAt, nextAt}
+use Rattle.columns.proofs.Split.{lines-at, one-line-less}
+use Rattle.columns.proofs.Printed.{row-length}
+use Rattle.drill.specs.Sheet.{firstLine}
 use Rattle.drill.specs.Listing.{rowSize, lastRow, listed, listing, workSize, rowsFor, drillRefusal, drillOf, ListsAs}
 use Rattle.drill.specs.Moves.{RowsAs}
-use Rattle.drill.proofs.Split.{next-drop}
-use Rattle.drill.proofs.Printed.{row-length}
 use Rattle.drill.proofs.Visiting.{inside}
 
 -- ---- by the first line
@@ -29,31 +29,33 @@ unfolding listing listed lines over
 lists-none [] d h = record { bytes = refl; count = refl }
 lists-none (x ∷ s) d h = absurd (omega arith)
 
-module _ (s d : List ℕ) (end : ℕ) (e : EndsAt s 0 end) where
-  one-row : (n r : ℕ) {f : List ℕ} → listing s ≡ lastRow n r → f ≡ put d 0 (lastRow n r) → ListsAs s d f rowSize
-  unfolding lastRow
-  one-row n r {f} q p =
-      record {
-        bytes = p ∙ put-over d (lastRow n r) ∙ ap (λ (z : List ℕ). over z d) (sym q);
-        count = sym (row-length (n ∷ 0 ∷ 0 ∷ 0 ∷ r ∷ 0 ∷ 0 ∷ 0 ∷ []) refl) ∙ ap length (sym q);
-      }
+one-row : (s d : List ℕ) (n r : ℕ) {f : List ℕ} → listing s ≡ lastRow n r → f ≡ put d 0 (lastRow n r) → ListsAs s d f rowSize
+unfolding lastRow
+one-row s d n r {f} q p =
+    record {
+      bytes = p ∙ put-over d (lastRow n r) ∙ ap (λ (z : List ℕ). over z d) (sym q);
+      count = sym (row-length (n ∷ 0 ∷ 0 ∷ 0 ∷ r ∷ 0 ∷ 0 ∷ 0 ∷ [])) ∙ ap length (sym q);
+    }
 
-  pub lists-117 : {f : List ℕ} → firstLine (textAt s 0 end) ≡ none → f ≡ put d 0 (lastRow 1 117) → ListsAs s d f rowSize
+module _ (s d : List ℕ) (h : 0 < length s) where
+  first : lines s ≡ lineAt s 0 ∷ lines (drop (nextAt s 0) s)
+  first = lines-at s 0 h
+
+  pub lists-117 : {f : List ℕ} → firstLine (lineAt s 0) ≡ none → f ≡ put d 0 (lastRow 1 117) → ListsAs s d f rowSize
   unfolding listing listed
-  lists-117 {f} o p = one-row 1 117 (rw (e .first, o)) p
+  lists-117 {f} o p = one-row s d 1 117 (rw (first, o)) p
 
-  module _ (l : Line) (o : firstLine (textAt s 0 end) ≡ some l) where
+  module _ (l : Line) (o : firstLine (lineAt s 0) ≡ some l) where
     pub lists-103 : {f : List ℕ} → within 1 topFaults (l .client) ≡ false → f ≡ put d 0 (lastRow 1 103) → ListsAs s d f rowSize
     unfolding listing listed
-    lists-103 {f} h p = one-row 1 103 (rw (e .first, o, h)) p
+    lists-103 {f} w p = one-row s d 1 103 (rw (first, o, w)) p
 
-    pub lists-rows : {f : List ℕ} {n : ℕ} → (1 ≤ l .client) × (l .client ≤ topFaults) → RowsAs (l .client) (lines (drop (nextAt s end) s)) d f n →
+    pub lists-rows : {f : List ℕ} {n : ℕ} → (1 ≤ l .client) × (l .client ≤ topFaults) → RowsAs (l .client) (lines (drop (nextAt s 0) s)) d f n →
         ListsAs s d f n
     unfolding listing listed
-    lists-rows {f} {n} h r =
-        let k = inside 1 topFaults (l .client) h in
-        let z = next-drop s end (e .within) in
-        record { bytes = rw (e .first, o, k) (rw z at (r .bytes)); count = rw (e .first, o, k) (rw z at (r .count)) }
+    lists-rows {f} {n} w r =
+        let k = inside 1 topFaults (l .client) w in
+        record { bytes = rw (first, o, k) (r .bytes); count = rw (first, o, k) (r .count) }
 
 -- ---- room for the rows
 
@@ -77,13 +79,8 @@ module _ (s d : List ℕ) (h : rowSize * rowsFor (length (lines s)) ≤ length d
   pub first-room : 0 + rowSize ≤ length d
   first-room = let k = least-row (length (lines s)) .0 in omega arith
 
-  pub rows-room : (end : ℕ) → EndsAt s 0 end → rowSize * length (lines (drop (nextAt s end) s)) ≤ length d
-  rows-room end e =
-      let k = least-row (length (lines s)) .1 in
-      let l : length (lines s) ≡ suc (length (lines (drop (end + 1) s))) = ap length (e .first) in
-      let z : length (lines (drop (nextAt s end) s)) ≡ length (lines (drop (end + 1) s)) = ap (λ (y : List ℕ). length (lines y))
-      (next-drop s end (e .within)) in
-      omega arith
+  pub rows-room : 0 < length s → rowSize * length (lines (drop (nextAt s 0) s)) ≤ length d
+  rows-room k = let m = least-row (length (lines s)) .1 in omega (arith, one-line-less s 0 k)
 
 -- ---- the refusals
 

@@ -9,7 +9,7 @@ use native.Mathlib.Omega.{arith}
 use native.Mathlib.Numerals.{add-one}
 use lib.Dec.{ltb, eqb}
 use lib.ListN.{length, drop, replicate, length-append, drop-of-length-le}
-use borrow.Author.Tests.{ltb-true}
+use borrow.Author.Tests.{ltb-true, lt-ltb}
 use Rattle.cluster.specs.Ranges.{topNumber}
 use Rattle.protocol.specs.Primitives.{real}
 use Rattle.format.specs.Reading.{over, put}
@@ -20,16 +20,26 @@ use Rattle.drill.specs.declared.sheet.Line.{Line}
 use Rattle.drill.specs.declared.shown.Shown.{Shown}
 use Rattle.format.specs.Format.{guard}
 use Rattle.protocol.specs.Client.{accepted}
-use Rattle.drill.specs.Sheet.{onSome, Text, lines, isStep, readText, stepLine}
-use Rattle.drill.specs.Reads.{textAt, EndsAt, nextAt}
-use Rattle.drill.specs.Listing.{rowSize, row, stepRow, lastRow, rows}
+use Rattle.columns.specs.Lines.{Text, lines, lineAt, nextAt}
+use Rattle.columns.specs.Columns.{columnSize, onSome, row}
+use Rattle.columns.specs.Reads.{RowPrinted, rowAt}
+use Rattle.columns.proofs.Split.{lines-at, next-later, one-line-less}
+use Rattle.columns.proofs.Printed.{row-length}
+use Rattle.drill.specs.Sheet.{isStep, readLine, stepLine}
+use Rattle.drill.specs.Listing.{rowSize, stepRow, lastRow, rows}
 use Rattle.drill.specs.Steps.{State, Stepped, drillShelf, nonceFor, start, writeLine, stepOf, shown, roundOf}
 use Rattle.drill.specs.Area.{Stands}
 use Rattle.drill.specs.Moves.{StepsIn, RoundIn, RowIn, RowsAs}
-use Rattle.drill.proofs.Split.{next-drop, next-later}
-use Rattle.drill.proofs.Printed.{row-length}
 
 -- ---- one line
+
+-- a row printed where there is room for it
+pub row-put : (d : List ℕ) (at : ℕ) (vs : List ℕ) {n : ℕ} {f : List ℕ} → length vs ≡ 8 → at + rowSize ≤ length d
+    → record { next = n; output = f } ≡ rowAt d at vs → f ≡ put d at (row vs)
+unfolding rowAt put
+row-put d at vs {n} {f} l h e =
+    let k : at + columnSize * length vs < length d = omega arith in
+    ap (λ (a : RowPrinted). a .output) e ∙ rw (lt-ltb (at + columnSize * length vs) (length d) k)
 
 pub row-in : (t k n : ℕ) (l : Line) (w v output : List ℕ) (at : ℕ) {printed : List ℕ} {k' round : ℕ} {x : Shown} → StepsIn t
     (λ m. stepOf (drillShelf t) m k l) w v x k'
@@ -61,13 +71,13 @@ pub line-number : (n : ℕ) (x : Text) (l : Line) → stepLine n x ≡ some l �
 unfolding stepLine
 line-number n x l e = go (ltb n topNumber) refl e
   where
-    go : (b : Bool) → ltb n topNumber ≡ b → guard b (onSome (readText x) (λ l. guard (isStep l) (some l))) ≡ some l → n < topNumber
+    go : (b : Bool) → ltb n topNumber ≡ b → guard b (onSome (readLine x) (λ l. guard (isStep l) (some l))) ≡ some l → n < topNumber
     go true q e = ltb-true n topNumber q
     go false q e = let z : _≡_ {A = ℕ} 0 1 = cc in absurd (omega arith)
 
 pub line-form : (n : ℕ) (x : Text) (l : Line) → stepLine n x ≡ some l → isStep l ≡ true
 unfolding stepLine
-line-form n x l e = go (ltb n topNumber) (readText x) e
+line-form n x l e = go (ltb n topNumber) (readLine x) e
   where
     here : (y : Line) (b : Bool) → isStep y ≡ b → guard b (some y) ≡ some l → isStep l ≡ true
     here y true q e = let z : y ≡ l = cc in subst (λ (y : Line). isStep y ≡ true) z q
@@ -130,19 +140,19 @@ module _ (t : ℕ) (s d : List ℕ) (from : ℕ) where
         (rw z at (g .whole)) in
         record { bytes = g .bytes ∙ put-over d (g .printed) ∙ ap (λ (y : List ℕ). over y d) q; count = sym (g .count) ∙ ap length q }
 
-    module _ (end : ℕ) (en : EndsAt s at end) where
-      lines-here : length (lines (drop at s)) ≡ suc (length (lines (drop (end + 1) s)))
-      lines-here = ap length (en .first)
+    module _ (h : at < length s) where
+      lines-here : length (lines (drop at s)) ≡ suc (length (lines (drop (nextAt s at) s)))
+      lines-here = one-line-less s at h
 
       pub row-room : done + rowSize ≤ length e
       row-room = omega (arith, lines-here, g .room, going-size)
 
-      pub going-last : {f : List ℕ} → stepLine n (textAt s at end) ≡ none → f ≡ put e done (lastRow n 117) → RowsAs t (lines (drop from s)) d f
+      pub going-last : {f : List ℕ} → stepLine n (lineAt s at) ≡ none → f ≡ put e done (lastRow n 117) → RowsAs t (lines (drop from s)) d f
           (done + rowSize)
       unfolding rows lastRow
       going-last {f} o q =
-          let l : length (lastRow n 117) ≡ rowSize = row-length (n ∷ 0 ∷ 0 ∷ 0 ∷ 117 ∷ 0 ∷ 0 ∷ 0 ∷ []) refl in
-          let r : rows (drillShelf t) n (g .state) (lines (drop at s)) ≡ lastRow n 117 = rw (en .first, o) in
+          let l : length (lastRow n 117) ≡ rowSize = row-length (n ∷ 0 ∷ 0 ∷ 0 ∷ 117 ∷ 0 ∷ 0 ∷ 0 ∷ []) in
+          let r : rows (drillShelf t) n (g .state) (lines (drop at s)) ≡ lastRow n 117 = rw (lines-at s at h, o) in
           let y : g .printed ++ lastRow n 117 ≡ rows (drillShelf t) 2 (start (drillShelf t)) (lines (drop from s)) = ap
           (λ (z : List ℕ). g .printed ++ z) (sym r) ∙ g .whole in
           record {
@@ -151,31 +161,30 @@ module _ (t : ℕ) (s d : List ℕ) (from : ℕ) where
             count = omega (arith, length-append (g .printed) (lastRow n 117), g .count, ap length y);
           }
 
-      pub going-more : {f v : List ℕ} {k' : ℕ} {l : Line} → stepLine n (textAt s at end) ≡ some l → RowIn t k n l w v e done f k' → at < length s
-          → Going f v (nextAt s end) (n + 1) k' (done + rowSize)
+      pub going-more : {f v : List ℕ} {k' : ℕ} {l : Line} → stepLine n (lineAt s at) ≡ some l → RowIn t k n l w v e done f k'
+          → Going f v (nextAt s at) (n + 1) k' (done + rowSize)
       unfolding rows stepRow
-      going-more {f} {v} {k'} {l} o r h =
+      going-more {f} {v} {k'} {l} o r =
           let S = drillShelf t in
           let m = g .state .machines in
           let x : Stepped = stepOf S m (g .state .begun) l in
           let x' : stepOf S m k l ≡ x = ap (λ (z : ℕ). stepOf S m z l) (g .begun) in
           let b : List ℕ = stepRow n l (roundOf (x .state .machines) (l .client)) (shown (x .result)) in
-          let lb : length b ≡ rowSize = row-length (n ∷ l .verb ∷ l .client ∷ _ ∷ _ ∷ _ ∷ _ ∷ _ ∷ []) refl in
+          let lb : length b ≡ rowSize = row-length (n ∷ l .verb ∷ l .client ∷ _ ∷ _ ∷ _ ∷ _ ∷ _ ∷ []) in
           let fb : f ≡ put e done b = r .row m (g .stands) ∙ ap (λ (z : Stepped). put e done
           (stepRow n l (roundOf (z .state .machines) (l .client)) (shown (z .result)))) x' in
-          let dn = next-drop s end (en .within) in
-          let nl : length (lines (drop (nextAt s end) s)) ≡ length (lines (drop (end + 1) s)) = ap (λ (z : List ℕ). length (lines z)) dn in
           let kn : k' ≡ x .state .begun = r .counts m (g .stands) ∙ ap (λ (z : Stepped). z .state .begun) x' in
           let few' = step-begun S m (g .state .begun) l in
-          let num = line-number n (textAt s at end) l o in
-          let rr : rows S n (g .state) (lines (drop at s)) ≡ b ++ rows S (suc n) (x .state) (lines (drop (end + 1) s)) = rw (en .first, o) in
+          let num = line-number n (lineAt s at) l o in
+          let rr : rows S n (g .state) (lines (drop at s)) ≡ b ++ rows S (suc n) (x .state) (lines (drop (nextAt s at) s)) =
+          rw (lines-at s at h, o) in
           record {
             state = x .state;
             printed = g .printed ++ b;
-            within = next-later s end at (en .after) (en .within) h .1;
+            within = next-later s at h .1;
             bytes = fb ∙ then-put b (omega (arith, lines-here, g .room));
             count = length-append (g .printed) b ∙ omega (arith, g .count);
-            whole = rw (dn, add-one) (append-assoc (g .printed) b (rows S (suc n) (x .state) (lines (drop (end + 1) s))) ∙ ap
+            whole = rw add-one (append-assoc (g .printed) b (rows S (suc n) (x .state) (lines (drop (nextAt s at) s))) ∙ ap
                 (λ (z : List ℕ). g .printed ++ z) (sym rr) ∙ g .whole);
             stands = subst (λ (z : Stepped). Stands t v (z .state .machines)) x' (r .stands m (g .stands));
             begun = kn;

@@ -3,34 +3,23 @@ use mathlib.Core.Path.{_≡_}
 use mathlib.Core.Bool.{cond, not}
 use mathlib.Core.List.{List, [], _∷_, _++_}
 use mathlib.Core.Option.{Option, none, some}
-use Prim.Native.Nat.{ℕ, zero, suc, _+_, _-_, _*_, _/_, _%_}
+use Prim.Native.Nat.{ℕ, suc, _+_, _-_, _*_}
 use lib.Dec.{ltb, eqb}
 use lib.ListN.{length, replicate}
 use Rattle.cluster.specs.Ranges.{within, topFaults}
 use Rattle.cluster.specs.Refusals.{refuse, firstOf, onRefusal}
 use Rattle.cluster.specs.declared.Outcome.{Outcome}
+use Rattle.columns.specs.Lines.{Text, lines}
+use Rattle.columns.specs.Columns.{row}
 use Rattle.format.specs.Reading.{over}
 use Rattle.protocol.specs.Answers.{refusals}
 use Rattle.runs.specs.Runs.{Shelf}
 use Rattle.drill.specs.declared.sheet.Line.{Line}
 use Rattle.drill.specs.declared.shown.Shown.{Shown}
-use Rattle.drill.specs.Sheet.{Text, lines, newline, columnSize, badLine, firstLine, stepLine}
+use Rattle.drill.specs.Sheet.{badLine, firstLine, stepLine}
 use Rattle.drill.specs.Steps.{State, drillShelf, start, stepOf, shown, roundOf}
 
--- ---- rows
-
--- a number right-justified in n columns: its last digit, before it the rest of the number, and spaces where nothing is left.
--- A number of more digits would lose its first ones; none comes so far, since a sheet's numbers and lines end below 100,000,000.
-unfoldable pub justified : ℕ → ℕ → List ℕ
-justified zero v = []
-justified (suc n) v = cond (eqb (v / 10) 0) (replicate n 32) (justified n (v / 10)) ++ ((48 + v % 10) ∷ [])
-
-unfoldable pub columns : List ℕ → List ℕ
-columns [] = []
-columns (v ∷ vs) = justified columnSize v ++ columns vs
-
-unfoldable pub row : List ℕ → List ℕ
-row vs = columns vs ++ (newline ∷ [])
+-- ---- rows. No number in them has more than eight digits: a sheet's numbers and lines end below 100,000,000
 
 -- bytes of a row of eight columns
 abbrev pub rowSize : ℕ

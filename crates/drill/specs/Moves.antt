@@ -6,11 +6,11 @@ use Prim.Native.Nat.{ℕ, _≤_}
 use Rattle.cluster.specs.Config.{shelf}
 use Rattle.cluster.specs.Ranges.{topClient}
 use lib.ListN.{length}
+use Rattle.columns.specs.Lines.{Text}
 use Rattle.format.specs.Reading.{over, put}
 use Rattle.runs.specs.Runs.{Machines, Done}
 use Rattle.drill.specs.declared.sheet.Line.{Line}
 use Rattle.drill.specs.declared.shown.Shown.{Shown}
-use Rattle.drill.specs.Sheet.{Text}
 use Rattle.drill.specs.Steps.{Stepped, drillShelf, start, visitRefusal, stepOf, shown, roundOf}
 use Rattle.drill.specs.Listing.{stepRow, rows}
 use Rattle.drill.specs.Area.{Stands}

@@ -3,8 +3,8 @@ ghost use mathlib.Core.Path.{_≡_};
 ghost use Rattle.drill.specs.Listing.{rowsFor, drillOf};
 
 mod verbs; // the verbs by name
-mod sheet; // the numbers in the columns of a line
-mod lines; // the lines of a sheet
+mod sheet; // the numbers of a line
+mod lines; // which lines are steps
 mod area; // the parties in the work area
 mod servers; // the steps of servers in the work area
 mod visits; // a packet to a server, and its reply back
@@ -31,7 +31,7 @@ pub fn drill(sheet: &[u8], out: &mut [u8], work: &mut [u8]) -> cluster::Outcome
     if work.len() != area::WORK {
         return cluster::refused(cluster::refusals::MEMORY_SIZE);
     }
-    if out.len() / rows::ROW < rows_for(lines::count_lines(sheet)) {
+    if out.len() / rows::ROW < rows_for(columns::lines::count_lines(sheet)) {
         return cluster::refused(cluster::refusals::ROOM);
     }
     server::blank::clear(work);

@@ -1,50 +1,11 @@
-// The lines of a sheet: where each ends, how many there are, and which have the form of a step.
+// Which lines of a sheet have the form of the first one, and which that of a step.
 ghost use mathlib.Core.Path.{_≡_};
-ghost use Prim.Native.Nat.{_≤_, _<_};
-ghost use lib.ListN.{length};
-ghost use Rattle.drill.specs.Sheet.{readText, isFirst, isStep, isWrite, isAlone, isBlanking, noContent, firstLine, stepLine, lines};
-ghost use Rattle.drill.specs.Reads.{readAnswer, sheetAnswer, textAt, EndsAt, nextAt};
+ghost use Rattle.columns.specs.Lines.{lineAt};
+ghost use Rattle.drill.specs.Sheet.{isFirst, isStep, isWrite, isAlone, isBlanking, noContent, firstLine, stepLine};
+ghost use Rattle.drill.specs.Reads.{readAnswer, sheetAnswer};
 use crate::sheet::Line;
 use crate::sheet::Read;
-
-const NEWLINE: u8 = 10;
-
-// The place of the 0Ah that ends the line, or the end of the sheet.
-pub(crate) fn line_end(sheet: &[u8], at: usize) -> usize
-    requires { ⌜ at < length (now sheet) ⌝ }
-    ensures { λ r. ⌜ EndsAt (now (sheet .entry)) at r ⌝ }
-{
-    let mut i = at;
-    while i < sheet.len() {
-        if sheet[i] == NEWLINE {
-            return i;
-        }
-        i += 1;
-    }
-    i
-}
-
-// The place of the line after one that ends at a place.
-pub(crate) fn next_line(sheet: &[u8], end: usize) -> usize
-    ensures { λ r. ⌜ r ≡ nextAt (now (sheet .entry)) end ⌝ }
-{
-    if end < sheet.len() {
-        return end + 1;
-    }
-    sheet.len()
-}
-
-pub(crate) fn count_lines(sheet: &[u8]) -> usize
-    ensures { λ r. ⌜ r ≡ length (lines (now (sheet .entry))) ⌝ }
-{
-    let mut n = 0;
-    let mut at = 0;
-    while at < sheet.len() {
-        at = next_line(sheet, line_end(sheet, at));
-        n += 1;
-    }
-    n
-}
+use crate::sheet::line_at;
 
 // Neither length nor fill.
 fn no_content(l: Line) -> bool
@@ -93,21 +54,10 @@ fn is_step(l: Line) -> bool
     }
 }
 
-// The numbers of the line from a place to another, if 0Ah ended it.
-fn text_at(sheet: &[u8], at: usize, end: usize) -> Read
-    requires { ⌜ at ≤ end ⌝ }
-    ensures { λ r. ⌜ readAnswer r ≡ sheetAnswer (readText (textAt (now (sheet .entry)) at end)) ⌝ }
+pub(crate) fn first_line(sheet: &[u8]) -> Read
+    ensures { λ r. ⌜ readAnswer r ≡ sheetAnswer (firstLine (lineAt (now (sheet .entry)) 0)) ⌝ }
 {
-    if sheet.len() <= end {
-        return Read::Broken;
-    }
-    crate::sheet::fields_of(wire::bytes::part(sheet, at, end - at))
-}
-
-pub(crate) fn first_line(sheet: &[u8], end: usize) -> Read
-    ensures { λ r. ⌜ readAnswer r ≡ sheetAnswer (firstLine (textAt (now (sheet .entry)) 0 end)) ⌝ }
-{
-    let Read::Line(l) = text_at(sheet, 0, end) else {
+    let Read::Line(l) = line_at(sheet, 0) else {
         return Read::Broken;
     };
     if is_first(l) {
@@ -117,14 +67,13 @@ pub(crate) fn first_line(sheet: &[u8], end: usize) -> Read
 }
 
 // Line n of the sheet, after the first.
-pub(crate) fn step_line(sheet: &[u8], at: usize, end: usize, n: u32) -> Read
-    requires { ⌜ at ≤ end ⌝ }
-    ensures { λ r. ⌜ readAnswer r ≡ sheetAnswer (stepLine n (textAt (now (sheet .entry)) at end)) ⌝ }
+pub(crate) fn step_line(sheet: &[u8], at: usize, n: u32) -> Read
+    ensures { λ r. ⌜ readAnswer r ≡ sheetAnswer (stepLine n (lineAt (now (sheet .entry)) at)) ⌝ }
 {
     if cluster::TOP_NUMBER <= n as usize {
         return Read::Broken;
     }
-    let Read::Line(l) = text_at(sheet, at, end) else {
+    let Read::Line(l) = line_at(sheet, at) else {
         return Read::Broken;
     };
     if is_step(l) {

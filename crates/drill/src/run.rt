@@ -4,17 +4,17 @@ ghost use mathlib.Core.Bool.{true};
 ghost use Prim.Native.Nat.{_+_, _*_, _≤_, _<_};
 ghost use lib.ListN.{length, drop, replicate};
 ghost use Rattle.cluster.specs.Ranges.{topNumber, topFaults};
-ghost use Rattle.drill.specs.Sheet.{isStep, lines};
+ghost use Rattle.columns.specs.Lines.{lines};
+ghost use Rattle.drill.specs.Sheet.{isStep};
 ghost use Rattle.drill.specs.Listing.{workSize, rowSize, rowsFor, ListsAs};
 ghost use Rattle.drill.specs.Steps.{drillShelf, start};
 ghost use Rattle.drill.specs.Area.{Stands};
 ghost use Rattle.drill.specs.Moves.{RowIn, RowsAs};
 use crate::lines::first_line;
-use crate::lines::line_end;
-use crate::lines::next_line;
 use crate::lines::step_line;
 use crate::sheet::Line;
 use crate::sheet::Read;
+use columns::lines::next_line;
 
 // The results of a line that ends the run: its form is another, or only its t is wrong.
 const BAD_LINE: u32 = (protocol::REFUSALS + cluster::refusals::LINE as u16) as u32;
@@ -71,13 +71,12 @@ pub(crate) fn rows_from(
     let mut begun = 0u32;
     let mut done = 0;
     while at < sheet.len() {
-        let end = line_end(sheet, at);
-        let Read::Line(l) = step_line(sheet, at, end, n) else {
+        let Read::Line(l) = step_line(sheet, at, n) else {
             crate::rows::put_last(out, done, n, BAD_LINE);
             return done + crate::rows::ROW;
         };
         begun = one_line(out, work, t, done, n, begun, l);
-        at = next_line(sheet, end);
+        at = next_line(sheet, at);
         n += 1;
         done += crate::rows::ROW;
     }
@@ -93,8 +92,7 @@ pub(crate) fn list(sheet: &[u8], out: &mut [u8], work: &mut [u8]) -> usize
     if sheet.len() == 0 {
         return 0;
     }
-    let end = line_end(sheet, 0);
-    let Read::Line(l) = first_line(sheet, end) else {
+    let Read::Line(l) = first_line(sheet) else {
         crate::rows::put_last(out, 0, 1, BAD_LINE);
         return crate::rows::ROW;
     };
@@ -104,5 +102,5 @@ pub(crate) fn list(sheet: &[u8], out: &mut [u8], work: &mut [u8]) -> usize
         return crate::rows::ROW;
     }
     blank_servers(work, t);
-    rows_from(sheet, out, work, t, next_line(sheet, end))
+    rows_from(sheet, out, work, t, next_line(sheet, 0))
 }

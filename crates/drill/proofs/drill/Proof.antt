@@ -1,7 +1,7 @@
 -- Refused with 1 or 15, or the listing, with the area cleared before and after. Assumes nothing.
 use Rattle.drill.proofs.Listed.{drill-1, drill-15, drill-0, room-short, room-fits}
 use Rattle.drill.specs.Listing.{rowsFor}
-use Rattle.drill.specs.Sheet.{lines}
+use Rattle.columns.specs.Lines.{lines}
 use lib.ListN.{length, replicate}
 use Prim.Native.Nat.{ℕ}
 use mathlib.Core.Path.{_≡_, ap, sym, _∙_}

@@ -1,13 +1,13 @@
 -- Line after line: what holds before a line is told once, at its place. Assumes nothing.
 use Rattle.drill.proofs.Running.{Going, going-none, going-size, going-all, going-last, going-more, row-room, line-number, line-form}
-use Rattle.drill.proofs.Split.{next-later}
+use Rattle.columns.specs.Lines.{Text, lineAt}
+use Rattle.columns.proofs.Split.{next-later}
 use Rattle.drill.proofs.Parsed.{line-told}
 use lib.ListN.{length}
 use native.Mathlib.Omega.{arith}
-use Rattle.drill.specs.Sheet.{Text, stepLine}
-use Rattle.drill.specs.Reads.{textAt}
+use Rattle.drill.specs.Sheet.{stepLine}
 use Rattle.drill.specs.Listing.{rowSize}
-use Prim.Native.Nat.{ℕ, _+_, _-_, _≤_}
+use Prim.Native.Nat.{ℕ, _+_, _-_, _≤_, _<_}
 use mathlib.Core.Path.{_≡_, sym, _∙_}
 use mathlib.Core.List.{List}
 use mathlib.Core.Option.{some}
@@ -69,23 +69,25 @@ module _ (c : tie.At-loop Inv-loop μ-loop) where
 
 -- ---- at a line
 
-abbrev line-end-from-enum-told : tie.After-enum-told Inv-loop μ-loop → tie.After-line-end Inv-loop μ-loop
-line-end-from-enum-told c = c .before .before .before
+abbrev line-from-enum-told : tie.After-enum-told Inv-loop μ-loop → tie.In-loop Inv-loop μ-loop
+line-from-enum-told c = c .before .before .before
 
-abbrev line-end-from-l : tie.After-l Inv-loop μ-loop → tie.After-line-end Inv-loop μ-loop
-line-end-from-l c = c .before .before .before
+abbrev line-from-l : tie.After-l Inv-loop μ-loop → tie.In-loop Inv-loop μ-loop
+line-from-l c = c .before .before .before
 
-module _ (c : tie.After-line-end Inv-loop μ-loop) where
+module _ (c : tie.In-loop Inv-loop μ-loop) where
   abbrev line : Text
-  line = textAt (sheet (c .before .before)) (place (c .before .before)) (c .line-end .result)
+  line = lineAt (sheet (c .before)) (place (c .before))
 
-  room : done (c .before .before) + rowSize ≤ length (out (c .before .before))
+  stands : place (c .before) < length (sheet (c .before))
+  stands = omega arith
+
+  room : done (c .before) + rowSize ≤ length (out (c .before))
   room =
-      let p = c .before .before in
-      row-room (t p) (sheet p) (given p) (start p) (out p) (work p) (place p) (n p) (begun p) (done p) (going p) (c .line-end .result)
-      (c .line-end .ensures)
+      let p = c .before in
+      row-room (t p) (sheet p) (given p) (start p) (out p) (work p) (place p) (n p) (begun p) (done p) (going p) stands
 
-step-is : (c : tie.After-l Inv-loop μ-loop) → stepLine (n (line-end-from-l c .before .before)) (line (line-end-from-l c)) ≡ some (c .l .given .0 .0)
+step-is : (c : tie.After-l Inv-loop μ-loop) → stepLine (n (line-from-l c .before)) (line (line-from-l c)) ≡ some (c .l .given .0 .0)
 step-is c = line-told (c .before .before .step-line .ensures) (c .l .given .1)
 
 -- ---- the needs
@@ -96,42 +98,39 @@ loop-holds c =
     let a = at-start .args in
     going-none (a .t) (a .sheet .now) (a .out .now) (a .from) (a .work .now) (at-start .pre .0 .1) (at-start .pre .1 .0) (at-start .pre .1 .1)
 
-step-line-requires : tie.Need-step-line-requires Inv-loop μ-loop
-step-line-requires c κs = c .line-end .ensures .after
-
 put-last-requires : tie.Need-put-last-requires Inv-loop μ-loop
-put-last-requires c κs = room (line-end-from-enum-told (c .before))
+put-last-requires c κs = room (line-from-enum-told (c .before))
 
 abbrev enum-told-from-slice-known3 : tie.After-slice-known3 Inv-loop μ-loop → tie.After-enum-told Inv-loop μ-loop
 enum-told-from-slice-known3 c = c .before .before .before .before
 
 add-result : tie.Need-add-result Inv-loop μ-loop
-add-result c = let h = room (line-end-from-enum-told (enum-told-from-slice-known3 c)) in omega arith
+add-result c = let h = room (line-from-enum-told (enum-told-from-slice-known3 c)) in omega arith
 
 same-length : tie.Need-same-length Inv-loop μ-loop
-same-length c = c .before .out .given ∙ size-is (line-end-from-enum-told (enum-told-from-slice-known3 c) .before .before)
+same-length c = c .before .out .given ∙ size-is (line-from-enum-told (enum-told-from-slice-known3 c) .before)
 
 same-length-2 : tie.Need-same-length-2 Inv-loop μ-loop
-same-length-2 c = work-is (line-end-from-enum-told (enum-told-from-slice-known3 c) .before .before)
+same-length-2 c = work-is (line-from-enum-told (enum-told-from-slice-known3 c) .before)
 
 returns : tie.Need-returns Inv-loop μ-loop
 returns c =
     let at-enum-told = enum-told-from-slice-known3 c in
-    let at-line-end = line-end-from-enum-told at-enum-told in
-    let p = at-line-end .before .before in
-    going-last (t p) (sheet p) (given p) (start p) (out p) (work p) (place p) (n p) (begun p) (done p) (going p) (at-line-end .line-end .result)
-    (at-line-end .line-end .ensures) (line-told (at-enum-told .before .before .step-line .ensures) (at-enum-told .enum-told .given .1))
+    let at-line = line-from-enum-told at-enum-told in
+    let p = at-line .before in
+    going-last (t p) (sheet p) (given p) (start p) (out p) (work p) (place p) (n p) (begun p) (done p) (going p) (stands at-line)
+    (line-told (at-enum-told .before .before .step-line .ensures) (at-enum-told .enum-told .given .1))
     (c .before .before .put-last .ensures)
 
 one-line-requires : tie.Need-one-line-requires Inv-loop μ-loop
 one-line-requires c κs =
     let at-l = c .before .before .before in
-    let at-line-end = line-end-from-l at-l in
-    let p = at-line-end .before .before in
-    let h = line-number (n p) (line at-line-end) _ (step-is at-l) in
+    let at-line = line-from-l at-l in
+    let p = at-line .before in
+    let h = line-number (n p) (line at-line) _ (step-is at-l) in
     let few = going p .few in (
       ((start-from-loop p .pre .0 .0, going p .stands .size), omega arith),
-      (line-form (n p) (line at-line-end) _ (step-is at-l), room at-line-end),
+      (line-form (n p) (line at-line) _ (step-is at-l), room at-line),
     )
 
 abbrev l-from-one-line : tie.After-one-line Inv-loop μ-loop → tie.After-l Inv-loop μ-loop
@@ -143,17 +142,16 @@ one-line-from-next-line c = c .before .before .before .before .before
 add-n : tie.Need-add-n Inv-loop μ-loop
 add-n c =
     let at-l = l-from-one-line (one-line-from-next-line c) in
-    let h = line-number _ (line (line-end-from-l at-l)) _ (step-is at-l) in omega arith
+    let h = line-number _ (line (line-from-l at-l)) _ (step-is at-l) in omega arith
 
 add-done : tie.Need-add-done Inv-loop μ-loop
-add-done c = let h = room (line-end-from-l (l-from-one-line (one-line-from-next-line c))) in omega arith
+add-done c = let h = room (line-from-l (l-from-one-line (one-line-from-next-line c))) in omega arith
 
 loop-less : tie.Need-loop-less Inv-loop μ-loop
 loop-less c =
-    let at-line-end = line-end-from-l (l-from-one-line (one-line-from-next-line c)) in
-    let p = at-line-end .before .before in
-    let e = at-line-end .line-end .ensures in
-    let h = next-later (sheet p) (at-line-end .line-end .result) (place p) (e .after) (e .within) (omega arith) in
+    let at-line = line-from-l (l-from-one-line (one-line-from-next-line c)) in
+    let p = at-line .before in
+    let h = next-later (sheet p) (place p) (stands at-line) in
     let r = c .next-line .ensures in
     omega arith
 
@@ -161,11 +159,11 @@ loop-again : tie.Need-loop-again Inv-loop μ-loop
 loop-again c =
     let at-one-line = one-line-from-next-line c in
     let at-l = l-from-one-line at-one-line in
-    let at-line-end = line-end-from-l at-l in
-    let p = at-line-end .before .before in
+    let at-line = line-from-l at-l in
+    let p = at-line .before in
     rw (c .next-line .ensures)
-    (going-more (t p) (sheet p) (given p) (start p) (out p) (work p) (place p) (n p) (begun p) (done p) (going p) (at-line-end .line-end .result)
-    (at-line-end .line-end .ensures) (step-is at-l) (at-one-line .one-line .ensures) (omega arith))
+    (going-more (t p) (sheet p) (given p) (start p) (out p) (work p) (place p) (n p) (begun p) (done p) (going p) (stands at-line)
+    (step-is at-l) (at-one-line .one-line .ensures))
 
 same-length-3 : tie.Need-same-length-3 Inv-loop μ-loop
 same-length-3 c = size-is (c .before)
@@ -179,6 +177,6 @@ returns-2 c =
     going-all (t p) (sheet p) (given p) (start p) (out p) (work p) (place p) (n p) (begun p) (done p) (going p) (omega arith)
 
 pub rows-from-spec : {M : Type 1} → statement M
-rows-from-spec = tie.close (tie.spec Inv-loop μ-loop loop-holds (λ c κs. search needs) step-line-requires (λ c. search needs) (λ c. search needs)
+rows-from-spec = tie.close (tie.spec Inv-loop μ-loop loop-holds (λ c κs. search needs) (λ c. search needs) (λ c. search needs)
     put-last-requires add-result same-length same-length-2 returns one-line-requires (λ c κs. search needs) add-n add-done loop-less loop-again
     same-length-3 same-length-4 returns-2)
