@@ -1,7 +1,8 @@
 -- Each turn at a pivot that is not zero leaves the system solved one step further; k turns solve it. Assumes nothing.
 use mir.Val.{Fits}
 use mir.Syntax.{w8}
-use Rattle.erasure.proofs.Solved.{begun, begun-small, mat, Small, small-out, turned-mat, half-system, point, pivot-pos, unit-law, solves, toByte}
+use Rattle.erasure.proofs.Solved.{begun, begun-small, mat, Small, small-out, turned-mat, half-system}
+use Rattle.erasure.proofs.Solved.{point, pivot-pos, unit-law, solves, toByte}
 use Rattle.gf256.specs.Gf.{inverse}
 use mathlib.Core.Path.{_≡_, sym, subst}
 use Prim.Native.Nat.{ℕ, _-_, _<_, _≤_}
