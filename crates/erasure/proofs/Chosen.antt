@@ -4,8 +4,8 @@ use mathlib.Core.Path.{_≡_, refl, sym, ap, ap₂, subst, _∙_}
 use mathlib.Core.Logic.{_≢_}
 use mathlib.Core.Bool.{Bool, cond}
 use mathlib.Core.List.{List, [], _∷_, _++_, map}
-use Prim.Native.Nat.{ℕ, suc, _+_, _*_, _/_, _%_, _<_, _≤_, suc-le-suc}
-use native.Mathlib.Nat.{zero-lt-suc, mod-lt, suc-ne-zero, mul-le-mul-right, suc-mul}
+use Prim.Native.Nat.{ℕ, suc, _+_, _-_, _*_, _/_, _%_, _<_, _≤_}
+use native.Mathlib.Nat.{mod-lt, suc-ne-zero, mul-le-mul-right, suc-mul}
 use native.Mathlib.Omega.{arith}
 use borrow.Author.Tests.{lt-ltb, le-ltb}
 use lib.Dec.{ltb}
@@ -13,7 +13,7 @@ use lib.ListN.{length, getD, take, drop, length-map}
 use lib.Seq.{length-take-le, getD-take, getD-drop, take-length}
 use Rattle.gf256.specs.Poly.{through}
 use Rattle.gf256.specs.Bytes.{bytes}
-use Rattle.cluster.specs.Config.{shelf, upTo, pointOf}
+use Rattle.cluster.specs.Config.{shelf, pointOf, PointTable}
 use Rattle.cluster.specs.Refusals.{refuse, firstOf, onRefusal}
 use Rattle.cluster.specs.declared.Outcome.{Outcome}
 use Rattle.cluster.proofs.Tests.{refused-is}
@@ -23,13 +23,12 @@ use Rattle.erasure.specs.Choice.{serversAt, firstDifferent, partsAt}
 use Rattle.erasure.specs.Chosen.{Holds}
 use Rattle.erasure.specs.Steps.{argumentChecks, restoreRefusal, restoredBytes, restoreStep}
 use Rattle.erasure.specs.System.{width, AllDifferent}
-use Rattle.erasure.specs.Lanes.{rebuiltOf}
-use Rattle.erasure.proofs.Lists.{getD-map, table-is}
-use Rattle.erasure.proofs.Laws.{run-lt, size-pos}
+use Rattle.erasure.specs.Lanes.{byteAt, rebuiltOf}
+use Rattle.erasure.proofs.Lists.{getD-table, getD-map, table-is}
+use Rattle.erasure.proofs.Laws.{size-pos, take-map}
 use Rattle.erasure.proofs.Placed.{table-ext}
 use Rattle.erasure.proofs.Choosing.{chosen-different, chosen-lt}
 use Rattle.erasure.proofs.Refused.{first-of-first, first-of-second}
-use Rattle.erasure.proofs.Answers.{point-is}
 
 -- ---- the answer by its refusal
 
@@ -123,50 +122,73 @@ module _ (k : ℕ) (servers : List ℕ) (c : Chosen) (h : Holds k servers (first
         let m : suc (getD (c .at) j 0) * f ≤ length servers * f = mul-le-mul-right f (place-lt j b) in
         omega (arith, m, suc-mul (getD (c .at) j 0) f, w)
 
+    -- a chosen server is one of those given
+    server-is : (j : ℕ) → j < k → getD (c .servers) j 0 ≡ getD servers (getD (c .at) j 0) 0
+    unfolding places
+    server-is j b =
+        sym (getD-take k (c .servers) j 0 b)
+        ∙ ap (λ (l : List ℕ). getD l j 0) servers-at
+        ∙ getD-map (λ p. getD servers p 0) places j 0 0 (omega (arith, long))
+        ∙ ap (λ (p : ℕ). getD servers p 0) (place-is j b)
+
+    pub number-in : (s : ℕ) → ((i : ℕ) → i < length servers → (1 ≤ getD servers i 0) × (getD servers i 0 ≤ s))
+        → (j : ℕ) → j < k → (1 ≤ getD (c .servers) j 0) × (getD (c .servers) j 0 ≤ s)
+    number-in s numbers j b =
+        subst (λ (x : ℕ). (1 ≤ x) × (x ≤ s)) (sym (server-is j b)) (numbers (getD (c .at) j 0) (place-lt j b))
+
     -- ---- what the code adds up is what the definition takes
-    module _ (s n : ℕ) (fragments : List ℕ) (ks : k ≤ s) (kpos : 0 < k)
-        (numbers : (i : ℕ) → i < length servers → (1 ≤ getD servers i 0) × (getD servers i 0 ≤ s)) where
+    module _ (points : List ℕ) (n : ℕ) (fragments : List ℕ) (kpos : 0 < k) where
       abbrev f : ℕ
       f = fragmentSize k n
 
       part : ℕ → Part
       part p = record { server = getD servers p 0; bytes = take f (drop (p * f) fragments) }
 
-      point : (p : ℕ) → p < length servers → pointOf (upTo s) (getD servers p 0) ≡ getD servers p 0
-      point p b = point-is s (getD servers p 0) (numbers p b .0) (numbers p b .1)
-
-      points-are : (ps : List ℕ) → ((j : ℕ) → j < length ps → getD ps j 0 < length servers)
-          → map (λ p. pointOf (upTo s) (p .server)) (map part ps) ≡ serversAt servers ps
+      points-are : (ps : List ℕ) → map (λ p. pointOf points (p .server)) (map part ps) ≡ map (pointOf points) (serversAt servers ps)
       unfolding part
-      points-are [] b = refl
-      points-are (p ∷ ps) b =
-          ap₂ (λ (x : ℕ) (xs : List ℕ). x ∷ xs) (point p (b 0 (zero-lt-suc (length ps)))) (points-are ps (λ j l. b (suc j) (suc-le-suc l)))
+      points-are [] = refl
+      points-are (p ∷ ps) = ap (λ (xs : List ℕ). pointOf points (getD servers p 0) ∷ xs) (points-are ps)
 
       parts-at : take k (map part places) ≡ map part places
       parts-at = ap (λ (n : ℕ). take n (map part places)) (sym (length-map places part ∙ long)) ∙ take-length (map part places)
 
-      byte-at : (q : ℕ) → q < f → map (λ p. getD (p .bytes) q 0) (map part places) ≡ table k (λ j. getD fragments (getD (c .at) j 0 * f + q) 0)
+      byte-at : (q : ℕ) → q < f → map (λ p. getD (p .bytes) q 0) (map part places) ≡ table k (byteAt fragments (map (λ p. p * f) (c .at)) q)
       unfolding part
       byte-at q b =
-          table-is k (map (λ p. getD (p .bytes) q 0) (map part places)) (λ j. getD fragments (getD (c .at) j 0 * f + q) 0)
+          table-is k (map (λ p. getD (p .bytes) q 0) (map part places)) (byteAt fragments (map (λ p. p * f) (c .at)) q)
           (length-map (map part places) (λ p. getD (p .bytes) q 0) ∙ length-map places part ∙ long)
           (λ j h.
           getD-map (λ p. getD (p .bytes) q 0) (map part places) j (part 0) 0 (omega (arith, length-map places part, long))
           ∙ ap (λ (p : Part). getD (p .bytes) q 0) (getD-map part places j 0 (part 0) (omega (arith, long)))
           ∙ getD-take f (drop (getD places j 0 * f) fragments) q 0 b ∙ getD-drop (getD places j 0 * f) fragments q 0
-          ∙ ap (λ (p : ℕ). getD fragments (p * f + q) 0) (place-is j h))
+          ∙ ap (λ (x : ℕ). getD fragments (x + q) 0)
+          (ap (λ (p : ℕ). p * f) (place-is j h) ∙ sym (getD-map (λ p. p * f) (c .at) j 0 0 (omega arith))))
 
-      pub rebuilt-is : rebuiltOf k f n (c .servers) (c .at) fragments ≡ restored (upTo s) k n (partsAt f servers fragments (firstDifferent k servers))
-      unfolding rebuiltOf restored partsAt part places
+      pub rebuilt-is : rebuiltOf k f n points (map (pointOf points) (c .servers)) fragments (map (λ p. p * f) (c .at))
+          ≡ restored points k n (partsAt f servers fragments (firstDifferent k servers))
+      unfolding rebuiltOf restored partsAt part places pointOf
       rebuilt-is =
           table-ext n _ _
           (λ m b.
-          let run : m / f < k = run-lt k n m b kpos in
           let q : ℕ = m % f in
           let inside : q < f = mod-lt m (size-pos k n (omega arith) kpos) in
-          sym (ap₂ (λ (u v : List ℕ). through bytes u v (pointOf (upTo s) (m / f + 1)))
-          (ap (map (λ p. pointOf (upTo s) (p .server))) parts-at ∙ points-are places
-          (λ j l. subst (λ (x : ℕ). x < length servers) (sym (place-is j (omega (arith, long)))) (place-lt j (omega (arith, long)))) ∙ sym servers-at)
+          let run : m / f ≡ m / f + 1 - 1 = omega arith in
+          getD-table f _ q 0 inside
+          ∙ sym (ap₂ (λ (u v : List ℕ). through bytes u v (pointOf points (m / f + 1)))
+          (ap (map (λ p. pointOf points (p .server))) parts-at ∙ points-are places ∙ ap (map (pointOf points)) (sym servers-at)
+          ∙ sym (take-map (pointOf points) k (c .servers)))
           (ap (map (λ p. getD (p .bytes) q 0)) parts-at ∙ byte-at q inside)
-          ∙ ap (through bytes (take k (c .servers)) (table k (λ j. getD fragments (getD (c .at) j 0 * f + q) 0)))
-          (point-is s (m / f + 1) (omega arith) (omega arith))))
+          ∙ ap (λ (i : ℕ). through bytes (take k (map (pointOf points) (c .servers)))
+          (table k (byteAt fragments (map (λ p. p * f) (c .at)) q)) (getD points i 0)) (sym run)))
+
+-- the points of different servers are different
+pub points-differ : (k : ℕ) (points servers given : List ℕ) → PointTable points → AllDifferent k servers
+    → ((j : ℕ) → j < k → (1 ≤ getD servers j 0) × (getD servers j 0 ≤ length points))
+    → ((j : ℕ) → j < k → getD given j 0 ≡ pointOf points (getD servers j 0)) → AllDifferent k given
+unfolding pointOf
+points-differ k points servers given pt d at e i j hi hj ne q =
+    let ri = at i hi in
+    let rj = at j hj in
+    pt .different (getD servers i 0 - 1) (getD servers j 0 - 1) (omega (arith, ri .0, ri .1)) (omega (arith, rj .0, rj .1))
+    (λ p. d i j hi hj ne (omega (arith, p, ri .0, rj .0)))
+    (sym (e i hi) ∙ q ∙ e j hj)

@@ -13,7 +13,7 @@ use Rattle.gf256.specs.Poly.{eval, through}
 use Rattle.gf256.specs.Bytes.{bytes}
 use Rattle.gf256.proofs.Apart.{Distinct}
 use Rattle.gf256.proofs.Byte.{Small, restored-bytes, getD-small, through-value, the-one as one-through, there-is as one-exists}
-use Rattle.cluster.specs.Config.{Config, Legal, pointOf, PointTable}
+use Rattle.cluster.specs.Config.{pointOf, PointTable}
 use Rattle.erasure.specs.Fragments.{table, fragmentSize, column, fragment, Part, restored}
 use Rattle.erasure.proofs.Lists.{length-table, getD-table, getD-map, small-of, distinct-of, distinct-at}
 

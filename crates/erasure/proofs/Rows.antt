@@ -11,7 +11,7 @@ use Rattle.gf256.proofs.Linear.{one-times}
 use Rattle.erasure.specs.System.{width, entry, RowTurned, SystemTurned}
 
 module _ (a out : List (List ℕ)) (p d : ℕ) (unit : List ℕ) (pb : p < length a) (small : d < 256)
-    (one : getD unit p 0 ≡ 1) (nil : (c : ℕ) → c < width → c ≢ p → getD unit c 0 ≡ 0) (p5 : p < width)
+    (one : getD unit p 0 ≡ 1) (nil : (c : ℕ) → c < width → c ≢ p → getD unit c 0 ≡ 0) (pw : p < width)
     (rows : (j : ℕ) → j < width → RowTurned (getD (set a p unit) j []) (getD a p []) d p (getD out j [])) where
   here-row : getD (set a p unit) p [] ≡ unit
   here-row = getD-set-same a p unit [] pb
@@ -23,7 +23,7 @@ module _ (a out : List (List ℕ)) (p d : ℕ) (unit : List ℕ) (pb : p < lengt
   one-d = ap (λ (x : ℕ). times x d) one ∙ one-times d small
 
   rows-p : RowTurned unit (getD a p []) d p (getD out p [])
-  rows-p = subst (λ (x : List ℕ). RowTurned x (getD a p []) d p (getD out p [])) here-row (rows p p5)
+  rows-p = subst (λ (x : List ℕ). RowTurned x (getD a p []) d p (getD out p [])) here-row (rows p pw)
 
   rows-r : (r : ℕ) → r < width → r ≢ p → RowTurned (getD a r []) (getD a p []) d p (getD out r [])
   rows-r r h ne = subst (λ (x : List ℕ). RowTurned x (getD a p []) d p (getD out r [])) (there-row r ne) (rows r h)

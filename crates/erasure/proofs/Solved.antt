@@ -44,7 +44,7 @@ mat a r c = toByte (entry a r c)
 abbrev pub Small : List (List ℕ) → Type 0
 Small a = (r c : ℕ) → r < width → c < width → entry a r c < 256
 
-module _ (a out : List (List ℕ)) (p d : ℕ) (t : SystemTurned a p d out) (small : Small a) (dsmall : d < 256) (p5 : p < width) where
+module _ (a out : List (List ℕ)) (p d : ℕ) (t : SystemTurned a p d out) (small : Small a) (dsmall : d < 256) (pw : p < width) where
   pub small-out : Small out
   small-out r c hr hc = go (ℕ-discrete r p) (ℕ-discrete c p)
     where
@@ -54,20 +54,20 @@ module _ (a out : List (List ℕ)) (p d : ℕ) (t : SystemTurned a p d out) (sma
       go (yes e) (no nf) = subst (λ (x : ℕ). entry out x c < 256) (sym e) (subst (λ (x : ℕ). x < 256) (sym (t .pc c hc nf))
           (times-lt d (entry a p c) dsmall))
       go (no ne) (yes f) = subst (λ (x : ℕ). entry out r x < 256) (sym f) (subst (λ (x : ℕ). x < 256) (sym (t .rp r hr ne))
-          (times-lt (entry a r p) d (small r p hr p5)))
+          (times-lt (entry a r p) d (small r p hr pw)))
       go (no ne) (no nf) =
           subst (λ (x : ℕ). x < 256) (sym (t .rc r c hr hc ne nf))
           (xor-lt 8 (entry a r c) (times (times (entry a r p) d) (entry a p c)) (small r c hr hc)
-          (times-lt (times (entry a r p) d) (entry a p c) (times-lt (entry a r p) d (small r p hr p5))))
+          (times-lt (times (entry a r p) d) (entry a p c) (times-lt (entry a r p) d (small r p hr pw))))
 
   pub turned-mat : (k : ℕ) → k ≤ width → Turned field laws k p (toByte d) (mat a) (mat out)
   turned-mat k kw = record {
     pp = ap toByte (t .pp);
-    pc = λ c h ne. ap toByte (t .pc c (le-trans h kw) ne) ∙ to-mul d (entry a p c) dsmall (small p c p5 (le-trans h kw));
-    rp = λ r h ne. ap toByte (t .rp r (le-trans h kw) ne) ∙ to-mul (entry a r p) d (small r p (le-trans h kw) p5) dsmall;
+    pc = λ c h ne. ap toByte (t .pc c (le-trans h kw) ne) ∙ to-mul d (entry a p c) dsmall (small p c pw (le-trans h kw));
+    rp = λ r h ne. ap toByte (t .rp r (le-trans h kw) ne) ∙ to-mul (entry a r p) d (small r p (le-trans h kw) pw) dsmall;
     rc = λ r c hr hc ne nc.
-        let sr : entry a r p < 256 = small r p (le-trans hr kw) p5 in
-        let sp : entry a p c < 256 = small p c p5 (le-trans hc kw) in
+        let sr : entry a r p < 256 = small r p (le-trans hr kw) pw in
+        let sp : entry a p c < 256 = small p c pw (le-trans hc kw) in
         ap toByte (t .rc r c (le-trans hr kw) (le-trans hc kw) ne nc)
         ∙ to-add (entry a r c) (times (times (entry a r p) d) (entry a p c)) (small r c (le-trans hr kw) (le-trans hc kw))
         (times-lt (times (entry a r p) d) (entry a p c) (times-lt (entry a r p) d sr))

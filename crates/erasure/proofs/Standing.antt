@@ -1,10 +1,10 @@
--- Where a point stands among servers: what the loops find is its first place, the point stands there, and a run whose place is past the servers
--- is not given. By induction on the servers. Nothing is assumed.
+-- Where a point stands among the points given: what the loops find is its first place, the point stands there, and a run whose place is past
+-- them is not given. By induction on the points. Nothing is assumed.
 use mathlib.Core.Path.{_≡_, refl, sym, ap, subst, _∙_}
 use mathlib.Core.Logic.{_≢_}
 use mathlib.Core.Bool.{false}
 use mathlib.Core.List.{List, [], _∷_}
-use Prim.Native.Nat.{ℕ, zero, suc, _+_, _<_, _≤_, suc-le-suc}
+use Prim.Native.Nat.{ℕ, zero, suc, _<_, _≤_, suc-le-suc}
 use native.Mathlib.Nat.{zero-lt-suc, le-of-suc-le-suc, not-suc-le-zero}
 use native.Mathlib.Decide.{ℕ-discrete}
 use native.Mathlib.Omega.{arith}
@@ -50,13 +50,13 @@ stands z (x ∷ xs) h = go (ℕ-discrete x z) (stands z xs)
 -- ---- the runs
 
 -- a run whose place is one of the first k has its point there
-pub places-stand : (k : ℕ) (servers places : List ℕ) → length (take k servers) ≡ k
-    → ((i : ℕ) → i < k → getD places i 0 ≡ placeOf (i + 1) (take k servers))
-    → (i : ℕ) → i < k → getD places i 0 < k → getD servers (getD places i 0) 0 ≡ i + 1
-places-stand k servers places full are i h b =
+pub places-stand : (k : ℕ) (points given places : List ℕ) → length (take k given) ≡ k
+    → ((i : ℕ) → i < k → getD places i 0 ≡ placeOf (getD points i 0) (take k given))
+    → (i : ℕ) → i < k → getD places i 0 < k → getD given (getD places i 0) 0 ≡ getD points i 0
+places-stand k points given places full are i h b =
     let e = are i h in
-    sym (getD-take k servers (getD places i 0) 0 b)
-    ∙ (ap (λ (p : ℕ). getD (take k servers) p 0) e ∙ stands (i + 1) (take k servers) (omega (arith, e, full, b)))
+    sym (getD-take k given (getD places i 0) 0 b)
+    ∙ (ap (λ (p : ℕ). getD (take k given) p 0) e ∙ stands (getD points i 0) (take k given) (omega (arith, e, full, b)))
 
 -- a run whose place is not one of the first k is not given
 pub one-missing : (k : ℕ) (places : List ℕ) → length (take k places) ≡ k → (i : ℕ) → i < k → k ≤ getD places i 0 → allGiven k places ≡ false

@@ -1,9 +1,8 @@
 -- Fragments of a content and how they give it back (document 01, "Digest, tag, fragment").
 -- The points of the servers are a table and k is a number; document 01 has the points 1 to S and k = t+1.
 -- A content is padded with 00h by reading 0 past its end.
-use mathlib.Core.Logic.{_≢_}
 use mathlib.Core.List.{List, [], _∷_, map}
-use Prim.Native.Nat.{ℕ, zero, suc, _+_, _-_, _*_, _/_, _%_, _<_}
+use Prim.Native.Nat.{ℕ, zero, suc, _+_, _-_, _*_, _/_, _%_}
 use lib.ListN.{length, getD, take}
 use Rattle.gf256.specs.Poly.{through}
 use Rattle.gf256.specs.Bytes.{bytes}
@@ -22,11 +21,14 @@ fragmentSize k n = (n + k - 1) / k
 unfoldable pub column : ℕ → List ℕ → ℕ → List ℕ
 column k content q = table k (λ j. getD content (j * fragmentSize k (length content) + q) 0)
 
--- the fragment of a server: at each place, the value at the server's point of the one polynomial of degree below k
--- that takes at the first k points the bytes of the k runs
+-- the value at the point z, from the runs of f bytes at the points xs: at each place, the value at z of the one polynomial of degree below
+-- their number that takes at these points the bytes of the runs there
+abbrev pub valueOf : (xs : List ℕ) (z f : ℕ) (there : ℕ → List ℕ) → List ℕ
+valueOf xs z f there = table f (λ q. through bytes xs (there q) z)
+
+-- the fragment of a server: the value at its point, from the k runs of the content at the first k points
 unfoldable pub fragment : List ℕ → ℕ → List ℕ → ℕ → List ℕ
-fragment points k content server =
-    table (fragmentSize k (length content)) (λ q. through bytes (take k points) (column k content q) (pointOf points server))
+fragment points k content server = valueOf (take k points) (pointOf points server) (fragmentSize k (length content)) (column k content)
 
 -- a fragment, and the server that gave it
 pub record Part : Type 0 where

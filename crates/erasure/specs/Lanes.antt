@@ -7,10 +7,7 @@ use Prim.Native.Nat.{ℕ, _+_, _*_, _/_, _%_, _^_, _≤_, _<_}
 use lib.Dec.{ltb}
 use lib.ListN.{getD, length, take}
 use Rattle.gf256.specs.Gf.{times}
-use Rattle.gf256.specs.Poly.{through}
-use Rattle.gf256.specs.Bytes.{bytes}
-use Rattle.cluster.specs.Config.{upTo}
-use Rattle.erasure.specs.Fragments.{table}
+use Rattle.erasure.specs.Fragments.{table, valueOf}
 use Rattle.erasure.specs.System.{sumTo, weightAt}
 
 abbrev pub lane : ℕ
@@ -24,9 +21,13 @@ bitOf w b = w / 2 ^ b % 2
 abbrev pub Lane : List ℕ → (ℕ → ℕ) → Type 0
 Lane x g = (i : ℕ) → i < lane → getD x i 0 ≡ g i
 
--- at place i, the sum of the runs that begin at starts, each times its weight
-unfoldable pub sumAt : (k : ℕ) (weights src starts : List ℕ) → ℕ → ℕ
-sumAt k weights src starts i = sumTo k (λ j. times (getD src (getD starts j 0 + i) 0) (getD weights j 0))
+-- the byte of run j at place q, where the runs begin at starts
+abbrev pub byteAt : (src starts : List ℕ) (q j : ℕ) → ℕ
+byteAt src starts q j = getD src (getD starts j 0 + q) 0
+
+-- at place q, the sum of the k runs, each times its weight
+unfoldable pub sumAt : (k : ℕ) (weight : ℕ → ℕ) (src starts : List ℕ) → ℕ → ℕ
+sumAt k weight src starts q = sumTo k (λ j. times (byteAt src starts q j) (weight j))
 
 -- new is old, with g 0, .., g (m - 1) written from place at on
 pub record RunWritten (old new : List ℕ) (at m : ℕ) (g : ℕ → ℕ) : Type 0 where
@@ -35,21 +36,19 @@ pub record RunWritten (old new : List ℕ) (at m : ℕ) (g : ℕ → ℕ) : Type
   pub below : (i : ℕ) → i < at → getD new i 0 ≡ getD old i 0
   pub above : (i : ℕ) → at + m ≤ i → getD new i 0 ≡ getD old i 0
 
--- what making and rebuilding write: the plain runs have the points 1 to k
-unfoldable pub madeOf : (k f : ℕ) (content : List ℕ) (z : ℕ) → List ℕ
-madeOf k f content z = table f (λ q. through bytes (upTo k) (table k (λ j. getD content (j * f + q) 0)) z)
+-- the value at z, from the k runs that begin at starts, at the first k points
+abbrev pub valueFrom : (k f : ℕ) (points src starts : List ℕ) (z : ℕ) → List ℕ
+valueFrom k f points src starts z = valueOf (take k points) z f (λ q. table k (byteAt src starts q))
 
 -- run j as it stands in the content
 unfoldable pub plainOf : (f j : ℕ) (content : List ℕ) → List ℕ
 plainOf f j content = table f (λ q. getD content (j * f + q) 0)
 
--- byte q of run i, as rebuilding writes it: the byte of the run's own fragment where its place is below k, and otherwise the sum that the
--- solved system a weighs
-unfoldable pub runAt : (k : ℕ) (a : List (List ℕ)) (places starts fragments : List ℕ) (i q : ℕ) → ℕ
-runAt k a places starts fragments i q =
-    cond (ltb (getD places i 0) k) (getD fragments (getD starts (getD places i 0) 0 + q) 0)
-    (sumTo k (λ j. times (getD fragments (getD starts j 0 + q) 0) (weightAt k a (i + 1) j)))
+-- byte q of a run, as rebuilding writes it: the byte of the run's own fragment where its place is below k, and otherwise the sum that the
+-- solved system a weighs at the run's point z
+unfoldable pub runAt : (k : ℕ) (a : List (List ℕ)) (fragments starts : List ℕ) (place z q : ℕ) → ℕ
+runAt k a fragments starts place z q = cond (ltb place k) (byteAt fragments starts q place) (sumAt k (weightAt k a z) fragments starts q)
 
-unfoldable pub rebuiltOf : (k f n : ℕ) (servers at fragments : List ℕ) → List ℕ
-rebuiltOf k f n servers at fragments =
-    table n (λ m. through bytes (take k servers) (table k (λ j. getD fragments (getD at j 0 * f + m % f) 0)) (m / f + 1))
+-- what rebuilding writes: byte m stands at place m % f of run m / f, which is the value at its point
+unfoldable pub rebuiltOf : (k f n : ℕ) (points given fragments starts : List ℕ) → List ℕ
+rebuiltOf k f n points given fragments starts = table n (λ m. getD (valueFrom k f given fragments starts (getD points (m / f) 0)) (m % f) 0)

@@ -1,5 +1,5 @@
 -- What the private functions on given runs promise each other; no public contract names these.
--- Where the points of the plain runs stand among the servers chosen, and the system that the others need.
+-- Where the points of the plain runs stand among the points given, and the system that the others need.
 use mathlib.Core.Path.{_≡_}
 use mathlib.Core.Bool.{Bool, true, false, cond}
 use mathlib.Core.List.{List, [], _∷_}
@@ -19,6 +19,6 @@ unfoldable pub allGiven : ℕ → List ℕ → Bool
 allGiven k places = each (λ p. ltb p k) (take k places)
 
 -- zeros where all runs are given; otherwise the solved system
-pub record SystemAs (k : ℕ) (servers places : List ℕ) (a : List (List ℕ)) : Type 0 where
+pub record SystemAs (k : ℕ) (given places : List ℕ) (a : List (List ℕ)) : Type 0 where
   pub unused : allGiven k places ≡ true → a ≡ replicate width (replicate width 0)
-  pub solved : allGiven k places ≡ false → Solves k servers a
+  pub solved : allGiven k places ≡ false → Solves k given a

@@ -9,7 +9,7 @@ use Rattle.cluster.specs.Ranges.{within, leastLength, topLength, topFaults, con
 use Rattle.cluster.specs.Refusals.{Check, refuse, firstOf, onRefusal}
 use Rattle.cluster.specs.declared.Outcome.{Outcome}
 use Rattle.erasure.specs.declared.FragmentOutcome.{FragmentOutcome}
-use Rattle.erasure.specs.Fragments.{table, fragmentSize, fragment, restored}
+use Rattle.erasure.specs.Fragments.{fragmentSize, fragment, restored}
 use Rattle.erasure.specs.Choice.{firstDifferent, partsAt}
 
 -- room for the longest fragment: k is at least 2

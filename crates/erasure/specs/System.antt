@@ -1,5 +1,5 @@
 -- What the private functions on the system promise each other; no public contract names these.
--- A system of at most 5 rows of 5 bytes (document 01): row r has the powers of point r. It is turned at one pivot after the other.
+-- A system has at most `width` rows and columns of bytes (document 01): row r has the powers of point r. It is turned at one pivot after the other.
 use mathlib.Core.Path.{_≡_}
 use mathlib.Core.Logic.{_≢_}
 use mathlib.Core.Bool.{cond}

@@ -1,23 +1,23 @@
-// The weights of the first k points in closed form: for a fragment no system need be solved.
+// The weights of the first k points in closed form: for one value no system need be solved.
 ghost use mathlib.Core.Path.{_≡_};
 ghost use Prim.Native.Nat.{ℕ, _<_, _≤_};
-ghost use lib.ListN.{getD};
+ghost use lib.ListN.{getD, length};
 ghost use Rattle.erasure.specs.System.{width, factorAt, directAt};
 
 const WIDTH: usize = crate::system::WIDTH;
 
 // z less point m, but 1 at j.
-fn factor(points: [u8; WIDTH], j: usize, z: u8, m: usize) -> u8
-    requires { ⌜ m < width ⌝ }
-    ensures { λ r. ⌜ r ≡ factorAt points j z m ⌝ }
+fn factor(points: &[u8], j: usize, z: u8, m: usize) -> u8
+    requires { ⌜ m < length (now points) ⌝ }
+    ensures { λ r. ⌜ r ≡ factorAt (now (points .entry)) j z m ⌝ }
 {
     if m == j { 1 } else { z ^ points[m] }
 }
 
 // What the j-th value counts for at z: the product of z less each other point, over that of point j less each.
-fn weight(points: [u8; WIDTH], k: usize, j: usize, z: u8) -> u8
-    requires { ⌜ (k ≤ width) × (j < width) ⌝ }
-    ensures { λ r. ⌜ r ≡ directAt k points z j ⌝ }
+fn weight(points: &[u8], k: usize, j: usize, z: u8) -> u8
+    requires { ⌜ (k ≤ length (now points)) × (j < k) ⌝ }
+    ensures { λ r. ⌜ r ≡ directAt k (now (points .entry)) z j ⌝ }
 {
     let x = points[j];
     let mut top = 1u8;
@@ -32,9 +32,9 @@ fn weight(points: [u8; WIDTH], k: usize, j: usize, z: u8) -> u8
 }
 
 // The weights of the k values at z.
-pub(crate) fn weights(points: [u8; WIDTH], k: usize, z: u8) -> [u8; WIDTH]
-    requires { ⌜ k ≤ width ⌝ }
-    ensures { λ r. ⌜ ((j : ℕ) → j < k → getD r j 0 ≡ directAt k points z j) ⌝ }
+pub(crate) fn weights(points: &[u8], k: usize, z: u8) -> [u8; WIDTH]
+    requires { ⌜ (k ≤ width) × (k ≤ length (now points)) ⌝ }
+    ensures { λ r. ⌜ ((j : ℕ) → j < k → getD r j 0 ≡ directAt k (now (points .entry)) z j) ⌝ }
 {
     let mut out = [0u8; WIDTH];
     let mut j: usize = 0;

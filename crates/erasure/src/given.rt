@@ -1,21 +1,22 @@
-// Which plain runs are among the fragments given: those are copied, and only for the others a system is solved.
+// Which plain runs are among the fragments given, told by their points: those are copied, and only for the others a system is solved.
 ghost use mathlib.Core.Path.{_≡_};
 ghost use Prim.Native.Nat.{ℕ, _+_, _<_, _≤_};
 ghost use lib.ListN.{getD, length, take};
 ghost use Rattle.erasure.specs.System.{width, AllDifferent};
 ghost use Rattle.erasure.specs.Lanes.{runAt, RunWritten};
 ghost use Rattle.erasure.specs.Standing.{placeOf, allGiven, SystemAs};
+use crate::lanes::Runs;
 
 const WIDTH: usize = crate::system::WIDTH;
 
-// Where point z stands among the first k servers, or k where it does not.
-fn place_of(servers: [u8; WIDTH], k: usize, z: u8) -> usize
+// Where point z stands among the first k points given, or k where it does not.
+fn place_of(given: [u8; WIDTH], k: usize, z: u8) -> usize
     requires { ⌜ k ≤ width ⌝ }
-    ensures { λ r. ⌜ r ≡ placeOf z (take k servers) ⌝ }
+    ensures { λ r. ⌜ r ≡ placeOf z (take k given) ⌝ }
 {
     let mut j: usize = 0;
     while j < k {
-        if servers[j] == z {
+        if given[j] == z {
             return j;
         }
         j += 1;
@@ -23,15 +24,15 @@ fn place_of(servers: [u8; WIDTH], k: usize, z: u8) -> usize
     k
 }
 
-// Where each of the k plain runs stands among the first k servers, or k where it does not.
-pub(crate) fn places_of(servers: [u8; WIDTH], k: usize) -> [usize; WIDTH]
-    requires { ⌜ k ≤ width ⌝ }
-    ensures { λ r. ⌜ ((i : ℕ) → i < k → getD r i 0 ≡ placeOf (i + 1) (take k servers)) ⌝ }
+// Where the point of each of the k plain runs, the first k of all points, stands among the first k given, or k where it does not.
+pub(crate) fn places_of(given: [u8; WIDTH], k: usize, points: &[u8]) -> [usize; WIDTH]
+    requires { ⌜ (k ≤ width) × (k ≤ length (now points)) ⌝ }
+    ensures { λ r. ⌜ ((i : ℕ) → i < k → getD r i 0 ≡ placeOf (getD (now (points .entry)) i 0) (take k given)) ⌝ }
 {
     let mut out = [0usize; WIDTH];
     let mut i: usize = 0;
     while i < k {
-        out[i] = place_of(servers, k, (i + 1) as u8);
+        out[i] = place_of(given, k, points[i]);
         i += 1;
     }
     out
@@ -52,41 +53,44 @@ fn all_given(places: [usize; WIDTH], k: usize) -> bool
     true
 }
 
-// The solved system of the first k servers, which a run that is not given needs; where all are given, nothing is solved.
+// The solved system of the first k points given, which a run that is not given needs; where all are given, nothing is solved.
 pub(crate) fn system_of(
-    servers: [u8; WIDTH],
+    given: [u8; WIDTH],
     places: [usize; WIDTH],
     k: usize,
 ) -> [[u8; WIDTH]; WIDTH]
-    requires { ⌜ (k ≤ width) × AllDifferent k servers ⌝ }
-    ensures { λ r. ⌜ SystemAs k servers places r ⌝ }
+    requires { ⌜ (k ≤ width) × AllDifferent k given ⌝ }
+    ensures { λ r. ⌜ SystemAs k given places r ⌝ }
 {
     if all_given(places, k) {
         return [[0u8; WIDTH]; WIDTH];
     }
-    crate::system::solve(servers, k)
+    crate::system::solve(given, k)
 }
 
-// The first m bytes of run i, written from place at on: a copy where the run is given, and otherwise a sum.
-pub(crate) fn run(
-    a: [[u8; WIDTH]; WIDTH],
-    places: [usize; WIDTH],
-    starts: [usize; WIDTH],
-    fragments: &[u8],
-    k: usize,
-    i: usize,
-    out: &mut [u8],
-    at: usize,
-    m: usize,
-)
-    requires { ⌜ (k ≤ width) × (i < k) × ((j : ℕ) → j < k → getD starts j 0 + m ≤ length (now fragments)) × (at + m ≤ length (now out)) ⌝ }
-    ensures { λ _. ⌜ RunWritten (now (out .entry)) (now (out .exit)) at m (runAt k a places starts (now (fragments .entry)) i) ⌝ }
+// A plain run that is to be written: its place among the fragments given, or their count where it has none; its point; from where on it is
+// written, and how many bytes of it.
+pub(crate) struct Wanted {
+    pub(crate) place: usize,
+    pub(crate) point: u8,
+    pub(crate) at: usize,
+    pub(crate) size: usize,
+}
+
+// The bytes of a run: a copy where the run is given, and otherwise a sum that the system weighs at its point.
+pub(crate) fn run(a: [[u8; WIDTH]; WIDTH], runs: Runs, fragments: &[u8], w: Wanted, out: &mut [u8])
+    requires { ⌜ (runs .count ≤ width) × ((j : ℕ) → j < runs .count → getD (runs .starts) j 0 + w .size ≤ length (now fragments))
+        × (w .at + w .size ≤ length (now out)) ⌝ }
+    ensures { λ _. ⌜ RunWritten (now (out .entry)) (now (out .exit)) (w .at) (w .size)
+        (runAt (runs .count) a (now (fragments .entry)) (runs .starts) (w .place) (w .point)) ⌝ }
 {
-    let j = places[i];
+    let j = w.place;
+    let k = runs.count;
     if j < k {
-        crate::lanes::copy(fragments, starts[j], out, at, m);
+        let starts = runs.starts;
+        crate::lanes::copy(fragments, starts[j], out, w.at, w.size);
         return;
     }
-    let weights = crate::system::weights(a, k, (i + 1) as u8);
-    crate::lanes::combine(weights, fragments, starts, k, out, at, m);
+    let weights = crate::system::weights(a, k, w.point);
+    crate::lanes::combine(weights, runs, fragments, out, w.at, w.size);
 }

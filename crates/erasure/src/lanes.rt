@@ -7,12 +7,20 @@ ghost use lib.ListN.{getD, length};
 ghost use mathlib.Core.List.{[]};
 ghost use Rattle.gf256.specs.Gf.{xtime, times};
 ghost use Rattle.erasure.specs.System.{width, entry, sumTo};
-ghost use Rattle.erasure.specs.Lanes.{lane, bitOf, Lane, sumAt, RunWritten};
+ghost use Rattle.erasure.specs.Lanes.{lane, bitOf, Lane, byteAt, sumAt, RunWritten};
 
 // How many places are worked on together.
 const LANE: usize = 64;
 
 const WIDTH: usize = crate::system::WIDTH;
+
+// Runs of bytes that stand in a slice: where each begins, how many they are, and how long each is. A run may end past the slice's end, where
+// it reads as 00h; but since runs are a content divided by their number and rounded up, no further past it than they are many.
+pub(crate) struct Runs {
+    pub(crate) starts: [usize; WIDTH],
+    pub(crate) count: usize,
+    pub(crate) size: usize,
+}
 
 // Each byte doubled.
 fn doubled(x: [u8; LANE]) -> [u8; LANE]
@@ -101,7 +109,7 @@ fn byte_at(src: &[u8], i: usize) -> u8
 
 // The lane of src from at on, with 00h past the end.
 fn part_lane(src: &[u8], at: usize) -> [u8; LANE]
-    requires { ⌜ at ≤ length (now src) + 4096 ⌝ }
+    requires { ⌜ at ≤ length (now src) + width ⌝ }
     ensures { λ r. ⌜ Lane r (λ i. getD (now (src .entry)) (at + i) 0) ⌝ }
 {
     let mut out = [0u8; LANE];
@@ -114,7 +122,7 @@ fn part_lane(src: &[u8], at: usize) -> [u8; LANE]
 }
 
 fn lane_at(src: &[u8], at: usize) -> [u8; LANE]
-    requires { ⌜ at ≤ length (now src) + 4096 ⌝ }
+    requires { ⌜ at ≤ length (now src) + width ⌝ }
     ensures { λ r. ⌜ Lane r (λ i. getD (now (src .entry)) (at + i) 0) ⌝ }
 {
     if at + LANE <= src.len() {
@@ -123,11 +131,13 @@ fn lane_at(src: &[u8], at: usize) -> [u8; LANE]
     part_lane(src, at)
 }
 
-// The lanes of the first k runs from place q on.
-fn gather(src: &[u8], starts: [usize; WIDTH], q: usize, k: usize) -> [[u8; LANE]; WIDTH]
-    requires { ⌜ (k ≤ width) × ((j : ℕ) → j < k → getD starts j 0 + q ≤ length (now src) + 4096) ⌝ }
-    ensures { λ r. ⌜ ((j : ℕ) → j < k → Lane (getD r j []) (λ i. getD (now (src .entry)) (getD starts j 0 + (q + i)) 0)) ⌝ }
+// The lanes of the runs from place q on.
+fn gather(runs: Runs, src: &[u8], q: usize) -> [[u8; LANE]; WIDTH]
+    requires { ⌜ (runs .count ≤ width) × ((j : ℕ) → j < runs .count → getD (runs .starts) j 0 + q ≤ length (now src) + width) ⌝ }
+    ensures { λ r. ⌜ ((j : ℕ) → j < runs .count → Lane (getD r j []) (λ i. byteAt (now (src .entry)) (runs .starts) (q + i) j)) ⌝ }
 {
+    let starts = runs.starts;
+    let k = runs.count;
     let mut out = [[0u8; LANE]; WIDTH];
     let mut j: usize = 0;
     while j < k {
@@ -156,23 +166,25 @@ fn at_most_lane(left: usize) -> usize
     if left < LANE { left } else { LANE }
 }
 
-// The sum of the first k runs, each times its weight: m places of it, written from place at on.
+// The sum of the runs, each times its weight: m places of it, written from place at on.
 pub(crate) fn combine(
     weights: [u8; WIDTH],
+    runs: Runs,
     src: &[u8],
-    starts: [usize; WIDTH],
-    k: usize,
     out: &mut [u8],
     at: usize,
     m: usize,
 )
-    requires { ⌜ (k ≤ width) × ((j : ℕ) → j < k → getD starts j 0 + m ≤ length (now src) + 4096) × (at + m ≤ length (now out)) ⌝ }
-    ensures { λ _. ⌜ RunWritten (now (out .entry)) (now (out .exit)) at m (sumAt k weights (now (src .entry)) starts) ⌝ }
+    requires { ⌜ (runs .count ≤ width) × ((j : ℕ) → j < runs .count → getD (runs .starts) j 0 + m ≤ length (now src) + width)
+        × (at + m ≤ length (now out)) ⌝ }
+    ensures { λ _. ⌜ RunWritten (now (out .entry)) (now (out .exit)) at m
+        (sumAt (runs .count) (λ j. getD weights j 0) (now (src .entry)) (runs .starts)) ⌝ }
 {
+    let k = runs.count;
     let mut q: usize = 0;
     while q < m {
         let n = at_most_lane(m - q);
-        let lanes = gather(src, starts, q, k);
+        let lanes = gather(runs, src, q);
         let sum = lane_sum(lanes, weights, k);
         store(out, at + q, n, sum);
         q += n;

@@ -1,30 +1,19 @@
-// One fragment from the plain runs of a content, and the plain runs from fragments.
+// The value at a point from the runs at other points: a fragment from the plain runs of a content, and the plain runs from fragments.
 ghost use mathlib.Core.Path.{_≡_};
-ghost use mathlib.Core.List.{_++_};
+ghost use mathlib.Core.List.{_++_, map};
 ghost use Prim.Native.Nat.{ℕ, _+_, _-_, _*_, _<_, _≤_};
 ghost use lib.ListN.{getD, length, drop, replicate};
+ghost use Rattle.cluster.specs.Config.{pointOf, PointTable};
 ghost use Rattle.erasure.specs.Steps.{fragmentRoom};
 ghost use Rattle.erasure.specs.System.{width, AllDifferent};
-ghost use Rattle.erasure.specs.Lanes.{madeOf, plainOf, rebuiltOf};
+ghost use Rattle.erasure.specs.Lanes.{valueFrom, plainOf, rebuiltOf};
+use crate::choice::Chosen;
+use crate::given::Wanted;
+use crate::lanes::Runs;
 
 const WIDTH: usize = crate::system::WIDTH;
 
 const ROOM: usize = crate::ROOM;
-
-// The points of the plain runs: 1, 2, ..
-fn plain_points() -> [u8; WIDTH]
-    ensures { λ r. ⌜ ((j : ℕ) → j < width → getD r j 0 ≡ j + 1) ⌝ }
-{
-    let mut out = [0u8; WIDTH];
-    let mut z = 1u8;
-    let mut j: usize = 0;
-    while j < WIDTH {
-        out[j] = z;
-        z += 1;
-        j += 1;
-    }
-    out
-}
 
 // Where the plain runs stand: 0, 1, ..
 fn plain_places() -> [usize; WIDTH]
@@ -39,10 +28,10 @@ fn plain_places() -> [usize; WIDTH]
     out
 }
 
-// Where the runs of f bytes at the first k places begin.
-fn starts_of(at: [usize; WIDTH], f: usize, k: usize) -> [usize; WIDTH]
+// The runs of f bytes at the first k places.
+fn runs_at(at: [usize; WIDTH], f: usize, k: usize) -> Runs
     requires { ⌜ (k ≤ width) × ((j : ℕ) → j < k → getD at j 0 * f < 9223372036854775808) ⌝ }
-    ensures { λ r. ⌜ ((j : ℕ) → j < k → getD r j 0 ≡ getD at j 0 * f) ⌝ }
+    ensures { λ r. ⌜ (r .count ≡ k) × (r .size ≡ f) × ((j : ℕ) → j < k → getD (r .starts) j 0 ≡ getD at j 0 * f) ⌝ }
 {
     let mut out = [0usize; WIDTH];
     let mut j: usize = 0;
@@ -50,7 +39,19 @@ fn starts_of(at: [usize; WIDTH], f: usize, k: usize) -> [usize; WIDTH]
         out[j] = at[j] * f;
         j += 1;
     }
-    out
+    Runs {
+        starts: out,
+        count: k,
+        size: f,
+    }
+}
+
+// The plain runs of a content, k of f bytes.
+pub(crate) fn plain_runs(f: usize, k: usize) -> Runs
+    requires { ⌜ (k ≤ width) × (f ≤ fragmentRoom) ⌝ }
+    ensures { λ r. ⌜ (r .count ≡ k) × (r .size ≡ f) × ((j : ℕ) → j < k → getD (r .starts) j 0 ≡ j * f) ⌝ }
+{
+    runs_at(plain_places(), f, k)
 }
 
 // All 00h.
@@ -60,15 +61,16 @@ pub(crate) fn blank() -> [u8; ROOM]
     [0u8; ROOM]
 }
 
-// The fragment at point z of the content whose k runs have f bytes, padded with 00h.
-pub(crate) fn make(k: usize, f: usize, z: u8, content: &[u8]) -> [u8; ROOM]
-    requires { ⌜ (k ≤ width) × (f ≤ fragmentRoom) ⌝ }
-    ensures { λ r. ⌜ r ≡ madeOf k f (now (content .entry)) z ++ replicate (fragmentRoom - f) 0 ⌝ }
+// The value at z, from runs of which each stands at its point: the first run at the first point, and so on. Padded with 00h.
+pub(crate) fn value(points: &[u8], runs: Runs, src: &[u8], z: u8) -> [u8; ROOM]
+    requires { ⌜ (runs .count ≤ width) × (runs .count ≤ length (now points)) × AllDifferent (runs .count) (now points) × (runs .size ≤ fragmentRoom)
+        × ((j : ℕ) → j < runs .count → getD (runs .starts) j 0 + runs .size ≤ length (now src) + width) ⌝ }
+    ensures { λ r. ⌜ r ≡ valueFrom (runs .count) (runs .size) (now (points .entry)) (now (src .entry)) (runs .starts) z
+        ++ replicate (fragmentRoom - runs .size) 0 ⌝ }
 {
-    let weights = crate::direct::weights(plain_points(), k, z);
-    let starts = starts_of(plain_places(), f, k);
+    let weights = crate::direct::weights(points, runs.count, z);
     let mut bytes = blank();
-    crate::lanes::combine(weights, content, starts, k, &mut bytes, 0, f);
+    crate::lanes::combine(weights, runs, src, &mut bytes, 0, runs.size);
     bytes
 }
 
@@ -94,27 +96,57 @@ pub(crate) fn plain(f: usize, j: usize, content: &[u8]) -> [u8; ROOM]
     bytes
 }
 
-// The content of n bytes that the fragments of k different servers give, at the start of out.
-pub(crate) fn rebuild(
-    servers: [u8; WIDTH],
-    at: [usize; WIDTH],
+// The content of n bytes, run after run: each is the value at its point, the next of all points, from the runs at the points given.
+fn write_runs(
+    points: &[u8],
+    given: [u8; WIDTH],
+    runs: Runs,
     fragments: &[u8],
-    k: usize,
+    n: usize,
+    out: &mut [u8],
+)
+    requires { ⌜ (runs .count ≤ width) × (runs .count ≤ length (now points)) × AllDifferent (runs .count) given × (n ≤ runs .count * runs .size)
+        × (n ≤ length (now out)) × ((j : ℕ) → j < runs .count → getD (runs .starts) j 0 + runs .size ≤ length (now fragments)) ⌝ }
+    ensures { λ _. ⌜ now (out .exit) ≡ rebuiltOf (runs .count) (runs .size) n (now (points .entry)) given (now (fragments .entry)) (runs .starts)
+        ++ drop n (now (out .entry)) ⌝ }
+{
+    let k = runs.count;
+    let f = runs.size;
+    let places = crate::given::places_of(given, k, points);
+    let a = crate::given::system_of(given, places, k);
+    let mut done: usize = 0;
+    while done < n {
+        let i = done / f;
+        let m = at_most(f, n - done);
+        let w = Wanted {
+            place: places[i],
+            point: points[i],
+            at: done,
+            size: m,
+        };
+        crate::given::run(a, runs, fragments, w, out);
+        done += m;
+    }
+}
+
+// The content of n bytes that the fragments of f bytes of the chosen servers give, at the start of out.
+pub(crate) fn rebuild(
+    points: &[u8],
+    c: Chosen,
+    fragments: &[u8],
     f: usize,
     n: usize,
     out: &mut [u8],
 )
-    requires { ⌜ (k ≤ width) × (n ≤ k * f) × (n ≤ length (now out)) × AllDifferent k servers
-        × ((j : ℕ) → j < k → getD at j 0 * f + f ≤ length (now fragments)) ⌝ }
-    ensures { λ _. ⌜ now (out .exit) ≡ rebuiltOf k f n servers at (now (fragments .entry)) ++ drop n (now (out .entry)) ⌝ }
+    requires { ⌜ (c .count ≤ width) × (c .count ≤ length (now points)) × (PointTable (now points)) × AllDifferent (c .count) (c .servers)
+        × ((j : ℕ) → j < c .count → (1 ≤ getD (c .servers) j 0) × (getD (c .servers) j 0 ≤ length (now points)))
+        × (n ≤ c .count * f) × (n ≤ length (now out)) × ((j : ℕ) → j < c .count → getD (c .at) j 0 * f + f ≤ length (now fragments)) ⌝ }
+    ensures { λ _. ⌜ now (out .exit) ≡ rebuiltOf (c .count) f n (now (points .entry)) (map (pointOf (now (points .entry))) (c .servers))
+        (now (fragments .entry)) (map (λ p. p * f) (c .at)) ++ drop n (now (out .entry)) ⌝ }
 {
-    let places = crate::given::places_of(servers, k);
-    let a = crate::given::system_of(servers, places, k);
-    let starts = starts_of(at, f, k);
-    let mut done: usize = 0;
-    while done < n {
-        let m = at_most(f, n - done);
-        crate::given::run(a, places, starts, fragments, k, done / f, out, done, m);
-        done += m;
-    }
+    let servers = c.servers;
+    let at = c.at;
+    let given = crate::points::points_of(servers, c.count, points);
+    let runs = runs_at(at, f, c.count);
+    write_runs(points, given, runs, fragments, n, out);
 }

@@ -1,4 +1,4 @@
-// The system of the powers of at most 5 points, as an array of byte arrays by value: turned, solved, and read off as weights.
+// The system of the powers of at most WIDTH points, as an array of byte arrays by value: turned, solved, and read off as weights.
 ghost use mathlib.Core.Path.{_≡_};
 ghost use mathlib.Core.Logic.{_≢_};
 ghost use Prim.Native.Nat.{ℕ, _<_, _≤_};

@@ -1,15 +1,14 @@
--- Refused: the number alone. Accepted: the arguments are in range, and the run or the sums are the fragment. Assumes nothing.
-use mathlib.Core.Path.{_≡_, sym, ap, ap₂, subst, _∙_}
+-- Refused: the number alone. Accepted: the arguments are in range, and the table lent is the shelf's. Assumes nothing.
+use mathlib.Core.Path.{_≡_, sym, ap, ap₂, _∙_}
 use mathlib.Core.List.{List, _++_}
-use Prim.Native.Nat.{ℕ, _+_, _-_, _*_, _<_, _≤_}
+use Prim.Native.Nat.{ℕ, _+_, _-_}
 use native.Mathlib.Omega.{arith}
-use lib.ListN.{length, getD, replicate}
+use lib.ListN.{length, replicate}
 use Rattle.cluster.specs.Config.{shelf}
-use Rattle.erasure.specs.Fragments.{fragmentSize}
-use Rattle.erasure.specs.Steps.{fragmentRoom, fragmentRefusal, fragmentStep}
-use Rattle.erasure.specs.Lanes.{madeOf}
+use Rattle.erasure.specs.Fragments.{fragmentSize, fragment}
+use Rattle.erasure.specs.Steps.{fragmentRoom, fragmentRefusal}
 use Rattle.erasure.specs.declared.FragmentOutcome.{FragmentOutcome}
-use Rattle.erasure.proofs.Answers.{size-fits, make-refused, make-accepted, run-made}
+use Rattle.erasure.proofs.Answers.{Lent, lent, make-refused, make-accepted}
 use Rattle.erasure.proofs.Refused.{Makes, makes}
 use borrow.Author.Needs.{needs}
 use Rattle.erasure.proofs.fragment.Statement.{statement}
@@ -33,36 +32,15 @@ module _ (c : tie.Else1) where
   ok : Makes t server (length content)
   ok = makes t server (length content) none-applies
 
-threshold-are : (c : tie.After-threshold-of) → c .threshold-of .result ≡ t (c .before) + 1
-unfolding shelf
-threshold-are c = c .threshold-of .ensures
-
-module _ (c : tie.After-size) where
+-- the table that is lent is the shelf's
+module _ (c : tie.After-servers-of) where
   abbrev past : tie.Else1
   past = c .before .before
 
-  size-most : c .size .result ≤ fragmentRoom
-  size-most =
-      subst (λ (x : ℕ). x ≤ fragmentRoom) (sym (c .size .ensures))
-      (size-fits (c .before .threshold-of .result) (length (content past)) (omega (arith, threshold-are (c .before), ok past .faults .0))
-      (ok past .bytes .1))
-
-  -- bytes that are the sums, or a run, are the fragment
-  done : (b : List ℕ) → b ≡ madeOf (c .before .threshold-of .result) (c .size .result) (content past) (server past) ++ replicate
-      (fragmentRoom - c .size .result) 0
-      → record { number = 0; count = c .size .result; bytes = b } ≡ fragmentStep (t past) (server past) (content past)
-  done b e =
-      let threshold = c .before .threshold-of in
-      let f = c .size .ensures ∙ ap (λ (k : ℕ). fragmentSize k (length (content past))) (threshold .ensures) in
-      let outcome : ℕ → ℕ → FragmentOutcome = λ k x. record {
-        number = 0;
-        count = x;
-        bytes = madeOf k x (content past) (server past) ++ replicate
-            (fragmentRoom - x) 0;
-      } in
-      ap (λ (b : List ℕ). record { number = 0; count = c .size .result; bytes = b }) e
-      ∙ ap₂ outcome (threshold .ensures) f
-      ∙ sym (make-accepted (t past) (server past) (content past) (ok past .faults .1) (ok past .number .0) (ok past .number .1) (none-applies past))
+  table : Lent (t past) (c .servers-of .result) (c .before .numbered .result)
+  table =
+      lent (t past) (c .servers-of .result) (c .before .numbered .result) (ok past .faults) (c .servers-of .ensures)
+      (c .before .numbered .ensures)
 
 -- ---- the needs
 
@@ -73,46 +51,44 @@ returns c =
     sym (make-refused (args .t) (args .server) (denote.Ref.now (args .content)) (r .result) (r .ensures) (c .before .if1 .taken)
     ∙ ap (λ (b : List ℕ). record { number = r .result; count = 0; bytes = b }) (sym (c .blank .ensures)))
 
+servers-of-requires : tie.Need-servers-of-requires
+servers-of-requires c κs = ok (c .before) .faults .1
+
+part-end : tie.Need-part-make-end
+part-end c = table (c .before) .enough
+
 threshold-of-requires : tie.Need-threshold-of-requires
-threshold-of-requires c κs = ok c .faults .1
+threshold-of-requires c κs = ok (c .before .before .before .before) .faults .1
 
-size-requires : tie.Need-size-requires
-size-requires c κs = (omega (arith, threshold-are c), omega (arith, threshold-are c, ok (c .before) .faults .1), ok (c .before) .bytes .1)
-
-sub-plain : tie.Need-sub-plain
-sub-plain c = omega (arith, ok (c .before .before .before) .number .0)
-
-plain-requires : tie.Need-plain-requires
-plain-requires c κs =
-    let r = ok (c .before .before .before) in
-    (size-most (c .before), omega (arith, threshold-are (c .before .before), r .faults .1, r .number .0, c .if2 .taken))
+make-requires : tie.Need-make-requires
+unfolding shelf
+make-requires c κs =
+    let at = c .before .before .before in
+    let r = ok (past at) in
+    let points = table at in
+    let many : c .threshold-of .result ≡ t (past at) + 1 = c .threshold-of .ensures in (
+      omega (arith, many, r .faults .0),
+      omega (arith, many, r .faults .1),
+      omega (arith, many, points .long),
+      points .apart,
+      r .number .0,
+      omega (arith, points .long, r .number .1),
+      r .bytes .1,
+    )
 
 returns-2 : tie.Need-returns-2
 returns-2 c =
-    let at-else1 = c .before .before .before .before in
-    let size = c .before .before .size .result in
-    let past = at-else1 in
-    let r = ok past in
-    let small : (j : ℕ) → getD (content past) j 0 < 256 = λ j. (at-else1 .before .before .shared-slice-known .given j .fits) in
-    done (c .before .before) _
-    (c .plain .ensures
-    ∙ ap (λ (l : List ℕ). l ++ replicate (fragmentRoom - size) 0)
-    (run-made (c .before .before .before .threshold-of .result) size (server past) (content past)
-    (omega (arith, threshold-are (c .before .before .before), r .faults .1)) (r .number .0) (c .before .if2 .taken) small))
-
-cast-make : tie.Need-cast-make
-unfolding shelf
-cast-make c =
-    let r = ok (c .before .before .before) in
-    let s : server (c .before .before .before) ≤ 3 * t (c .before .before .before) + 1 = r .number .1 in
-    omega (arith, s, r .faults .1)
-
-make-requires : tie.Need-make-requires
-make-requires c κs = (omega (arith, threshold-are (c .before .before), ok (c .before .before .before) .faults .1), size-most (c .before))
-
-returns-3 : tie.Need-returns-3
-returns-3 c = done (c .before .before) _ (c .make .ensures)
+    let at = c .before .before .before .before in
+    let p = past at in
+    let made : List ℕ → ℕ → FragmentOutcome = λ l k. record {
+      number = 0;
+      count = fragmentSize k (length (content p));
+      bytes = fragment l k (content p) (server p) ++ replicate (fragmentRoom - fragmentSize k (length (content p))) 0;
+    } in
+    c .make .ensures
+    ∙ ap₂ made (table at .points) (c .before .threshold-of .ensures)
+    ∙ sym (make-accepted (t p) (server p) (content p) (none-applies p))
 
 pub fragment-spec : {M : Type 1} → statement M
-fragment-spec = tie.close (tie.spec (λ c κs. search needs) (λ c κs. search needs) returns threshold-of-requires size-requires sub-plain plain-requires
-    returns-2 cast-make make-requires returns-3)
+fragment-spec = tie.close (tie.spec (λ c κs. search needs) (λ c κs. search needs) returns (λ c κs. search needs) servers-of-requires
+    (λ c. search needs) (λ c. omega arith) part-end threshold-of-requires make-requires returns-2)

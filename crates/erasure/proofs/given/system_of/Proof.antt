@@ -2,7 +2,6 @@
 use mathlib.Core.Path.{refl, sym, _∙_}
 use mathlib.Core.Bool.{true≢false}
 use borrow.Author.Needs.{needs}
-use borrow.Author.Tests.{not-false}
 use Rattle.erasure.proofs.given.system_of.Statement.{statement}
 use Rattle.erasure.proofs.given.system_of.Tie as tie
 

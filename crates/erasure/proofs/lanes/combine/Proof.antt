@@ -5,7 +5,7 @@ use native.Mathlib.Omega.{arith}
 use lib.ListN.{getD}
 use Rattle.gf256.specs.Gf.{times}
 use Rattle.erasure.specs.System.{entry}
-use Rattle.erasure.specs.Lanes.{lane, sumAt, RunWritten}
+use Rattle.erasure.specs.Lanes.{lane, byteAt, sumAt, RunWritten}
 use Rattle.erasure.proofs.Lists.{written-none, written-on, written-as}
 use Rattle.erasure.proofs.Sums.{sumTo-ext}
 use borrow.Author.Needs.{needs}
@@ -13,10 +13,10 @@ use Rattle.erasure.proofs.lanes.combine.Statement.{statement}
 use Rattle.erasure.proofs.lanes.combine.Tie as tie
 
 abbrev Inv-loop : tie.InvT-loop
-Inv-loop weights src starts k out₀ at m q₀ out q = (q ≤ m) × RunWritten out₀ out at q (sumAt k weights src starts)
+Inv-loop weights runs src out₀ at m k q₀ out q = (q ≤ m) × RunWritten out₀ out at q (sumAt (runs .count) (λ j. getD weights j 0) src (runs .starts))
 
 abbrev μ-loop : tie.MeasureT-loop
-μ-loop weights src starts k out₀ at m q₀ out q = m - q
+μ-loop weights runs src out₀ at m k q₀ out q = m - q
 
 loop-holds : tie.Need-loop-holds Inv-loop μ-loop
 loop-holds c = (search needs, written-none _ _ _)
@@ -77,13 +77,14 @@ loop-again c =
     let sum = at-lane-sum .lane-sum in
     let src = denote.Ref.now (args .src) in
     let old = denote.Ref.now (args .out) in
-    let g : ℕ → ℕ = sumAt (args .k) (args .weights) src (args .starts) in
+    let runs = args .runs in
+    let g : ℕ → ℕ = sumAt (runs .count) (λ j. getD (args .weights) j 0) src (runs .starts) in
     let piece = written-as (l .out) _ (args .at + l .q) (n .result) (λ i. getD (sum .result) i 0) (λ i. g (l .q + i))
     (λ i h.
     let b : i < lane = omega (arith, n .ensures .1) in
     sum .ensures i b
-    ∙ sumTo-ext (args .k) (λ j. times (entry (lanes .result) j i) (getD (args .weights) j 0))
-    (λ j. times (getD src (getD (args .starts) j 0 + (l .q + i)) 0) (getD (args .weights) j 0))
+    ∙ sumTo-ext (runs .count) (λ j. times (entry (lanes .result) j i) (getD (args .weights) j 0))
+    (λ j. times (byteAt src (runs .starts) (l .q + i) j) (getD (args .weights) j 0))
     (λ j hj. ap (λ (x : ℕ). times x (getD (args .weights) j 0)) (lanes .ensures j hj i b)))
     (c .before .before .store .ensures) in
     (omega (arith, n .ensures .0), written-on old (l .out) _ (args .at) (l .q) (n .result) g (l .inv .1) piece)
@@ -95,8 +96,8 @@ returns : tie.Need-returns Inv-loop μ-loop
 returns c =
     let l = c .before .loop in
     let args = c .before .before .before .before .args in
-    subst (λ (n : ℕ). RunWritten (denote.Ref.now (args .out)) (l .out) (args .at) n (sumAt (args .k) (args .weights) (denote.Ref.now (args .src))
-    (args .starts))) (omega arith) (l .inv .1)
+    let g : ℕ → ℕ = sumAt (args .runs .count) (λ j. getD (args .weights) j 0) (denote.Ref.now (args .src)) (args .runs .starts) in
+    subst (λ (n : ℕ). RunWritten (denote.Ref.now (args .out)) (l .out) (args .at) n g) (omega arith) (l .inv .1)
 
 pub combine-spec : {M : Type 1} → statement M
 combine-spec = tie.close (tie.spec Inv-loop μ-loop loop-holds (λ c. search needs) (λ c κs. search needs) gather-requires (λ c κs. search needs)

@@ -1,133 +1,96 @@
--- Run after run is written behind the last; a run begins at a multiple of its length. Assumes nothing.
-use mathlib.Core.Path.{_≡_, ap, subst, _∙_}
-use Prim.Native.Nat.{ℕ, _+_, _-_, _%_, _<_, _≤_}
-use native.Mathlib.Nat.{add-mod-right, zero-mod}
+-- The points of different servers are different, and what is written depends on the first k points and starts alone. Assumes nothing.
+use mathlib.Core.Path.{_≡_, sym, ap, ap₂, subst, _∙_}
+use mathlib.Core.List.{List, _++_, map}
+use Prim.Native.Nat.{ℕ, _+_, _*_, _<_, _≤_}
 use native.Mathlib.Omega.{arith}
 use borrow.Author.Needs.{needs}
-use lib.ListN.{length, getD}
-use lib.Seq.{length-take-le}
-use mir.Val.{Fits}
-use mir.Syntax.{w8}
+use lib.ListN.{length, take, drop, length-map}
+use lib.Seq.{getD-take, length-take-le}
+use Rattle.cluster.specs.Config.{pointOf}
 use Rattle.erasure.specs.System.{width}
-use Rattle.erasure.specs.Lanes.{RunWritten}
-use Rattle.erasure.proofs.Lists.{written-none}
-use Rattle.erasure.proofs.Rebuilt.{byteOf, run-pos, run-point, run-more, rebuilt}
-use Rattle.erasure.proofs.Standing.{places-stand, one-missing}
+use Rattle.erasure.specs.Lanes.{rebuiltOf}
+use Rattle.erasure.proofs.Lists.{getD-map, take-is}
+use Rattle.erasure.proofs.Rebuilt.{rebuilt-as}
+use Rattle.erasure.proofs.Chosen.{points-differ}
 use Rattle.erasure.proofs.runs.rebuild.Statement.{statement}
 use Rattle.erasure.proofs.runs.rebuild.Tie as tie
 
-abbrev Inv-loop : tie.InvT-loop
-Inv-loop fragments k f n out₀ places a starts done₀ out done = (done ≤ n) × (done < n → done % f ≡ 0) × RunWritten out₀ out 0 done
-    (byteOf k f a places starts fragments)
+-- the arrays that are handed in
+module _ (c : tie.Start) where
+  servers-long : length (c .args .c .servers) ≡ width
+  servers-long = search needs
 
-abbrev μ-loop : tie.MeasureT-loop
-μ-loop fragments k f n out₀ places a starts done₀ out done = n - done
-
-places-of-requires : tie.Need-places-of-requires Inv-loop μ-loop
-places-of-requires c κs = c .before .before .pre .0
-
-system-of-requires : tie.Need-system-of-requires Inv-loop μ-loop
-system-of-requires c κs = (c .before .before .before .pre .0, c .before .before .before .pre .3)
+  places-long : length (c .args .c .at) ≡ width
+  places-long = search needs
 
 -- Places far back, each named once: the place, and from where it is seen.
-abbrev start-from-system-of : tie.After-system-of Inv-loop μ-loop → tie.Start Inv-loop μ-loop
-start-from-system-of c = c .before .before .before .before
+abbrev start-from-points-of : tie.After-points-of → tie.Start
+start-from-points-of c = c .before .before .before .before .before .before
 
-starts-of-requires : tie.Need-starts-of-requires Inv-loop μ-loop
-starts-of-requires c κs =
-    let at-start = start-from-system-of c in
-    (at-start .pre .0, λ j h. omega (arith, at-start .pre .4 j h))
+points-of-requires : tie.Need-points-of-requires
+points-of-requires c κs = let pre = c .before .before .before .before .before .pre in (pre .0, pre .4)
 
-loop-holds : tie.Need-loop-holds Inv-loop μ-loop
-loop-holds c = (search needs, λ h. zero-mod _, written-none _ _ _)
+runs-at-requires : tie.Need-runs-at-requires
+runs-at-requires c κs = let pre = start-from-points-of c .pre in (pre .0, λ j h. omega (arith, pre .7 j h))
 
-abbrev system-of-from-at-most : tie.After-at-most Inv-loop μ-loop → tie.After-system-of Inv-loop μ-loop
-system-of-from-at-most c = c .before .before .before .before
+module _ (c : tie.After-runs-at) where
+  abbrev start : tie.Start
+  start = start-from-points-of (c .before)
 
--- past the loop's test there is a byte to write, so a run has one
-run-has : (c : tie.After-at-most Inv-loop μ-loop) → 0 < start-from-system-of (system-of-from-at-most c) .args .f
-run-has c =
-    let start = start-from-system-of (system-of-from-at-most c) in
-    let args = start .args in
-    run-pos (args .k) (args .f) (args .n) (c .before .before .loop .done) (start .pre .1) (omega arith)
+  abbrev count : ℕ
+  count = start .args .c .count
 
-run-requires : tie.Need-run-requires Inv-loop μ-loop
-run-requires c κs =
-    let at-most = c .before in
-    let start = start-from-system-of (system-of-from-at-most at-most) in
-    let args = start .args in
-    let l = c .before .before .before .loop in
-    let m = c .before .at-most in (
-      start .pre .0,
-      run-point (args .k) (args .f) (args .n) (l .done) (start .pre .1) (omega arith),
-      λ j h. omega (arith, at-most .before .before .before .starts-of .ensures j h, start .pre .4 j h, m .ensures .1),
-      omega (arith, m .ensures .0, l .inv .2 .long, start .pre .2),
+  abbrev points : List ℕ
+  points = denote.Ref.now (start .args .points)
+
+  count-is : c .runs-at .result .count ≡ count
+  count-is = c .runs-at .ensures .0
+
+  size-is : c .runs-at .result .size ≡ start .args .f
+  size-is = c .runs-at .ensures .1
+
+write-runs-requires : tie.Need-write-runs-requires
+write-runs-requires c κs =
+    let at = c .before in
+    let pre = start at .pre in
+    let runs = at .runs-at in
+    let given = at .before .points-of in (
+      omega (arith, count-is at, pre .0),
+      omega (arith, count-is at, pre .1),
+      λ i j hi hj. points-differ (count at) (points at) (start at .args .c .servers) (given .result) (pre .2) (pre .3) (pre .4) (given .ensures) i j
+          (omega (arith, count-is at, hi)) (omega (arith, count-is at, hj)),
+      subst (λ (x : ℕ). start at .args .n ≤ x) (ap₂ (λ (x y : ℕ). x * y) (sym (count-is at)) (sym (size-is at))) (pre .5),
+      pre .6,
+      λ j h. (let b : j < count at = omega (arith, count-is at, h) in omega (arith, runs .ensures .2 j b, size-is at, pre .7 j b)),
     )
 
-abbrev at-most-from-slice-known2 : tie.After-slice-known2 Inv-loop μ-loop → tie.After-at-most Inv-loop μ-loop
-at-most-from-slice-known2 c = c .before .before .before .before
-
-add-done : tie.Need-add-done Inv-loop μ-loop
-add-done c =
-    let m = at-most-from-slice-known2 c .at-most in
-    omega (arith, m .ensures .0)
-
-loop-less : tie.Need-loop-less Inv-loop μ-loop
-loop-less c =
-    let at-most = at-most-from-slice-known2 c in
-    let m = at-most .at-most in
-    let h : 0 < m .result = m .ensures .2 (omega arith) (run-has at-most) in
-    omega (arith, m .ensures .0, h)
-
-loop-again : tie.Need-loop-again Inv-loop μ-loop
-loop-again c =
-    let at-most = at-most-from-slice-known2 c in
-    let at-system-of = system-of-from-at-most at-most in
-    let start = start-from-system-of at-system-of in
-    let args = start .args in
-    let l = at-most .before .before .loop in
-    let m = at-most .at-most in
-    let starts = at-most .before .before .before .starts-of in
-    let a = at-system-of .system-of in
-    let places = at-system-of .before .places-of in
-    let e : l .done % args .f ≡ 0 = l .inv .1 (omega arith) in (
-      omega (arith, m .ensures .0),
-      λ h. (let q : m .result ≡ args .f = m .ensures .3 (omega arith) in ap (λ (x : ℕ). (l .done + x) % args .f) q ∙ add-mod-right (l .done) (args .f)
-          ∙ e),
-      run-more (args .k) (args .f) (l .done) (m .result) (a .result) (places .result) (starts .result) (denote.Ref.now (args .fragments))
-          (denote.Ref.now (args .out)) (l .out) _ e
-          (m .ensures .1) (l .inv .2) (c .before .before .run .ensures),
-    )
-
-same-length : tie.Need-same-length Inv-loop μ-loop
-same-length c = c .before .loop .inv .2 .long
-
-returns : tie.Need-returns Inv-loop μ-loop
+returns : tie.Need-returns
 returns c =
-    let at-system-of = c .before .before .before in
-    let start = start-from-system-of at-system-of in
-    let args = start .args in
-    let l = c .before .loop in
-    let starts = c .before .before .starts-of in
-    let a = c .before .before .before .system-of in
-    let places = at-system-of .before .places-of in
+    let at = c .before .before .before .before in
+    let s = start at in
+    let args = s .args in
+    let pre = s .pre in
+    let runs = at .runs-at in
+    let given = at .before .points-of in
+    let k = count at in
+    let all = points at in
     let fragments = denote.Ref.now (args .fragments) in
-    let old = denote.Ref.now (args .out) in
-    let small : (j : ℕ) → getD fragments j 0 < 256 = λ j. (at-system-of .before .before .before .shared-slice-known .given j .fits) in
-    let points : (j : ℕ) → j < args .k → getD (args .servers) j 0 < 256 = λ j h. (let f : Fits w8 (getD (args .servers) j 0) = search
-    needs in f .fits) in
-    let long : length (args .servers) ≡ width = search needs in
-    let wide : length (places .result) ≡ width = search needs in
-    let chosen = length-take-le (args .k) (args .servers) (omega (arith, long, start .pre .0)) in
-    let placed = length-take-le (args .k) (places .result) (omega (arith, wide, start .pre .0)) in
-    rebuilt (args .k) (args .f) (args .n) (a .result) (places .result) (starts .result) fragments (args .at) (args .servers) old (l .out)
-    (start .pre .0) (start .pre .1) (start .pre .2)
-    (omega (arith, long, start .pre .0)) (start .pre .3) points small (starts .ensures)
-    (places-stand (args .k) (args .servers) (places .result) chosen (places .ensures))
-    (λ i h past. a .ensures .solved (one-missing (args .k) (places .result) placed i h past))
-    (subst (λ (n : ℕ). RunWritten old (l .out) 0 n (byteOf (args .k) (args .f) (a .result) (places .result) (starts .result) fragments)) (omega arith)
-    (l .inv .2))
+    let servers = args .c .servers in
+    let places = args .c .at in
+    let long : length (given .result) ≡ width = search needs in
+    let ls = servers-long s in
+    let la = places-long s in
+    let lm : length (map (pointOf all) servers) ≡ width = length-map servers (pointOf all) ∙ ls in
+    c .before .before .write-runs .ensures
+    ∙ ap (λ (l : List ℕ). l ++ drop (args .n) (denote.Ref.now (args .out)))
+    (ap₂ (λ (x y : ℕ). rebuiltOf x y (args .n) all (given .result) fragments (runs .result .starts)) (count-is at) (size-is at)
+    ∙ rebuilt-as k (args .f) (args .n) all (given .result) (map (pointOf all) servers) fragments (runs .result .starts)
+    (map (λ p. p * args .f) places) (pre .5)
+    (take-is k (given .result) (take k (map (pointOf all) servers)) (omega (arith, long, pre .0))
+    (length-take-le k (map (pointOf all) servers) (omega (arith, lm, pre .0)))
+    (λ j b. given .ensures j b
+    ∙ sym (getD-take k (map (pointOf all) servers) j 0 b ∙ getD-map (pointOf all) servers j 0 0 (omega (arith, ls, pre .0)))))
+    (λ j b. runs .ensures .2 j b ∙ sym (getD-map (λ p. p * args .f) places j 0 0 (omega (arith, la, pre .0)))))
 
 pub rebuild-spec : {M : Type 1} → statement M
-rebuild-spec = tie.close (tie.spec Inv-loop μ-loop places-of-requires system-of-requires starts-of-requires loop-holds (λ c. search needs)
-    (λ c κs. search needs) run-has run-requires add-done loop-less loop-again same-length returns)
+rebuild-spec = tie.close (tie.spec points-of-requires runs-at-requires write-runs-requires (λ c. search needs) returns)

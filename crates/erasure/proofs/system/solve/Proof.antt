@@ -1,7 +1,8 @@
 -- Each turn at a pivot that is not zero leaves the system solved one step further; k turns solve it. Assumes nothing.
 use mir.Val.{Fits}
 use mir.Syntax.{w8}
-use Rattle.erasure.proofs.Solved.{begun, begun-small, mat, Small, small-out, turned-mat, half-system, point, pivot-pos, unit-law, solves, toByte}
+use Rattle.erasure.proofs.Solved.{begun, begun-small, mat, Small, small-out, turned-mat, half-system}
+use Rattle.erasure.proofs.Solved.{point, pivot-pos, unit-law, solves, toByte}
 use Rattle.gf256.specs.Gf.{inverse}
 use mathlib.Core.Path.{_≡_, sym, subst}
 use Prim.Native.Nat.{ℕ, _-_, _<_, _≤_}
@@ -37,19 +38,19 @@ loop-again c =
     let xs = start .args .xs in
     let k = start .args .k in
     let s : (i : ℕ) → getD xs i 0 < 256 = λ i. (let f : Fits w8 (getD xs i 0) = search needs in f .fits) in
-    let p5 : at .p < width = omega arith in
+    let pw : at .p < width = omega arith in
     let pk : at .p < k = omega arith in
     let e = entry (at .a) (at .p) (at .p) in
-    let small : e < 256 = at .inv .1 (at .p) (at .p) p5 p5 in
+    let small : e < 256 = at .inv .1 (at .p) (at .p) pw pw in
     let pos : 0 < e =
     pivot-pos k (at .p) xs (at .a) s (start .pre .1) pk
     (half-system k (at .p) (mat (sys .result)) (λ r j. pow field laws (point xs r) j) (mat (at .a))
     (begun k xs (sys .result) (search needs) s (sys .ensures)) (at .inv .2)) in (
       search needs,
-      small-out (at .a) (c .turn .result) (at .p) (inverse e) (c .turn .ensures) (at .inv .1) (inverse-lt e small) p5,
+      small-out (at .a) (c .turn .result) (at .p) (inverse e) (c .turn .ensures) (at .inv .1) (inverse-lt e small) pw,
       subst (λ (n : ℕ). Half field laws k (mat (sys .result)) n (mat (c .turn .result))) (sym (add-one (at .p)))
           (half-more field laws k (at .p) (mat (sys .result)) (mat (at .a)) (mat (c .turn .result)) (toByte (inverse e))
-          (turned-mat (at .a) (c .turn .result) (at .p) (inverse e) (c .turn .ensures) (at .inv .1) (inverse-lt e small) p5 k (search needs)) pk
+          (turned-mat (at .a) (c .turn .result) (at .p) (inverse e) (c .turn .ensures) (at .inv .1) (inverse-lt e small) pw k (search needs)) pk
           (unit-law (at .a) (at .p) small pos) (at .inv .2)),
     )
 
@@ -61,7 +62,7 @@ returns c =
     let xs = start .args .xs in
     let k = start .args .k in
     let s : (i : ℕ) → getD xs i 0 < 256 = λ i. (let f : Fits w8 (getD xs i 0) = search needs in f .fits) in
-    let five : length xs ≡ width = search needs in
+    let wide : length xs ≡ width = search needs in
     let end : at .p ≡ k = omega arith in
     solves k xs (at .a) (search needs) (omega arith) s (at .inv .1) (start .pre .1)
     (half-system k k (mat (sys .result)) (λ r j. pow field laws (point xs r) j) (mat (at .a))

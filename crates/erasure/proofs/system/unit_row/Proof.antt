@@ -1,8 +1,7 @@
 -- The one store is at p; all else is still 0. Assumes nothing.
 use Rattle.erasure.specs.System.{width}
-use lib.ListN.{getD-replicate}
+use lib.ListN.{replicate, getD-replicate}
 use mathlib.Core.Path.{_∙_}
-use mathlib.Core.List.{[], _∷_}
 use borrow.Author.Needs.{needs}
 use lib.Seq.{getD-set-same, getD-set-other}
 use Rattle.erasure.proofs.system.unit_row.Statement.{statement}
@@ -10,8 +9,8 @@ use Rattle.erasure.proofs.system.unit_row.Tie as tie
 
 returns : tie.Need-returns
 returns c = (
-  getD-set-same (0 ∷ 0 ∷ 0 ∷ 0 ∷ 0 ∷ []) (c .args .p) 1 0 (search needs),
-  λ j h ne. getD-set-other (0 ∷ 0 ∷ 0 ∷ 0 ∷ 0 ∷ []) (c .args .p) j 1 0 ne ∙ getD-replicate width j 0 0 h,
+  getD-set-same (replicate width 0) (c .args .p) 1 0 (search needs),
+  λ j h ne. getD-set-other (replicate width 0) (c .args .p) j 1 0 ne ∙ getD-replicate width j 0 0 h,
 )
 
 pub unit-row-spec : {M : Type 1} → statement M

@@ -6,8 +6,8 @@ use lib.ListN.{getD}
 use Rattle.erasure.proofs.Fill.{Filled, filled-none, filled-more}
 use Rattle.erasure.specs.System.{width}
 use borrow.Author.Needs.{needs}
-use Rattle.erasure.proofs.runs.starts_of.Statement.{statement}
-use Rattle.erasure.proofs.runs.starts_of.Tie as tie
+use Rattle.erasure.proofs.runs.runs_at.Statement.{statement}
+use Rattle.erasure.proofs.runs.runs_at.Tie as tie
 
 abbrev Inv-loop : tie.InvT-loop
 Inv-loop f k at out₀ j₀ out j = (j ≤ k) × Filled 0 (λ i v. v ≡ getD at i 0 * f) width j out
@@ -27,8 +27,8 @@ loop-again : tie.Need-loop-again Inv-loop μ-loop
 loop-again c = (search needs, filled-more (c .before .loop .inv .1) (omega arith) _ refl)
 
 returns : tie.Need-returns Inv-loop μ-loop
-returns c j h = c .before .loop .inv .1 .each j (omega arith)
+returns c = (refl, refl, λ j h. c .before .loop .inv .1 .each j (omega arith))
 
-pub starts-of-spec : {M : Type 1} → statement M
-starts-of-spec = tie.close (tie.spec Inv-loop μ-loop loop-holds (λ c. search needs) (λ c. search needs) mul-out-2 (λ c. search needs)
+pub runs-at-spec : {M : Type 1} → statement M
+runs-at-spec = tie.close (tie.spec Inv-loop μ-loop loop-holds (λ c. search needs) (λ c. search needs) mul-out-2 (λ c. search needs)
     (λ c. search needs) (λ c. search needs) (λ c. search needs) loop-again returns)
