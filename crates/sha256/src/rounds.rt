@@ -90,10 +90,11 @@ pub(crate) fn add(x: u32, y: u32) -> u32
     ((x as u64 + y as u64) % 0x1_0000_0000) as u32
 }
 
+// Choice in three operations.
 fn ch(x: u32, y: u32, z: u32) -> u32
     ensures { λ r. ⌜ r ≡ choose x y z ⌝ }
 {
-    (x & y) ^ (!x & z)
+    z ^ (x & (y ^ z))
 }
 
 // Majority in three operations; y ^ z was x ^ y in the round before.
