@@ -9,12 +9,19 @@ use Rattle.sha256.specs.Sha256.{majority}
 abbrev pub mixed : ℕ → ℕ → ℕ → ℕ
 mixed x y z = bitXor y (bitAnd (bitXor x y) (bitXor y z))
 
--- at one bit
-two : (P : ℕ → Type 0) → P 0 → P 1 → (n : ℕ) → n < 2 → P n
+-- a number of one bit; a word by its last bit and what is before it
+pub two : (P : ℕ → Type 0) → P 0 → P 1 → (n : ℕ) → n < 2 → P n
 two P a b zero h = a
 two P a b (suc zero) h = b
 two P a b (suc (suc n)) h = absurd (omega arith)
 
+pub whole : (f : ℕ → ℕ → ℕ → ℕ) (a b c : ℕ) → f a b c ≡ f (a / 2 * 2 ^ 1 + a % 2) (b / 2 * 2 ^ 1 + b % 2) (c / 2 * 2 ^ 1 + c % 2)
+whole f a b c = ap₂ (λ (p q : ℕ). f p q c) (parts a) (parts b) ∙ ap (λ (r : ℕ). f (a / 2 * 2 ^ 1 + a % 2) (b / 2 * 2 ^ 1 + b % 2) r) (parts c)
+  where
+    parts : (m : ℕ) → m ≡ m / 2 * 2 ^ 1 + m % 2
+    parts m = omega arith
+
+-- at one bit
 bit : (x y z : ℕ) → x < 2 → y < 2 → z < 2 → majority x y z ≡ mixed x y z
 unfolding majority
 bit x y z h k l =
@@ -60,11 +67,5 @@ majority-mixed (suc n) x y z h k l =
     ∙ sym (mixed-split (x / 2) (y / 2) (z / 2) (x % 2) (y % 2) (z % 2) (omega arith) (omega arith) (omega arith))
     ∙ sym (whole mixed x y z)
   where
-    parts : (m : ℕ) → m ≡ m / 2 * 2 ^ 1 + m % 2
-    parts m = omega arith
-
-    whole : (f : ℕ → ℕ → ℕ → ℕ) (a b c : ℕ) → f a b c ≡ f (a / 2 * 2 ^ 1 + a % 2) (b / 2 * 2 ^ 1 + b % 2) (c / 2 * 2 ^ 1 + c % 2)
-    whole f a b c = ap₂ (λ (p q : ℕ). f p q c) (parts a) (parts b) ∙ ap (λ (r : ℕ). f (a / 2 * 2 ^ 1 + a % 2) (b / 2 * 2 ^ 1 + b % 2) r) (parts c)
-
     half : (m : ℕ) → m < 2 ^ suc n → m / 2 < 2 ^ n
     half m p = omega arith

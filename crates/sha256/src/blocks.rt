@@ -1,23 +1,9 @@
 // FIPS 180-4, 5.2.1 and 6.2.2: whole blocks, from the bytes of a slice to the hash value.
-use super::rounds::add;
-use super::rounds::compress;
-use super::rounds::small0;
-use super::rounds::small1;
+use super::turns::compress;
 ghost use mathlib.Core.Path.{_≡_};
-ghost use Prim.Native.Nat.{_+_, _*_, _≤_, _<_, _/_};
-ghost use lib.ListN.{length, getD, take};
-ghost use Rattle.sha256.specs.Sha256.{nextWord, grow, wordAt, block, compressOf, hashed};
-
-// Word t of a schedule whose first t words are there.
-fn next(w: &[u32; 64], t: usize) -> u32
-    requires { ⌜ (16 ≤ t) × (t < 64) ⌝ }
-    ensures { λ r. ⌜ r ≡ nextWord (now (w .entry)) t ⌝ }
-{
-    add(
-        add(add(small1(w[t - 2]), w[t - 7]), small0(w[t - 15])),
-        w[t - 16],
-    )
-}
+ghost use Prim.Native.Nat.{_+_, _*_, _<_, _/_};
+ghost use lib.ListN.{length, getD};
+ghost use Rattle.sha256.specs.Sha256.{grow, wordAt, block, compressOf, hashed};
 
 fn byte(m: &[u8], i: usize) -> u8
     requires { ⌜ i < length (now m) ⌝ }
@@ -38,12 +24,12 @@ fn word(m: &[u8], i: usize) -> u32
     a * 0x100_0000 + b * 0x1_0000 + c * 0x100 + d
 }
 
-// The 16 words of block j, with room for 48 more.
-fn words(m: &[u8], j: usize) -> [u32; 64]
+// The 16 words of block j.
+fn words(m: &[u8], j: usize) -> [u32; 16]
     requires { ⌜ 64 * j + 63 < length (now m) ⌝ }
-    ensures { λ r. ⌜ (length r ≡ 64) × (take 16 r ≡ block (now (m .entry)) j) ⌝ }
+    ensures { λ r. ⌜ r ≡ block (now (m .entry)) j ⌝ }
 {
-    let mut w = [0u32; 64];
+    let mut w = [0u32; 16];
     let mut i = 0;
     while i < 16 {
         w[i] = word(m, 64 * j + 4 * i);
@@ -52,33 +38,12 @@ fn words(m: &[u8], j: usize) -> [u32; 64]
     w
 }
 
-// The schedule behind its first 16 words. Four words in a turn.
-fn extend(w: &mut [u32; 64])
-    requires { ⌜ length (now w) ≡ 64 ⌝ }
-    ensures { λ _. ⌜ now (w .exit) ≡ grow 48 (take 16 (now (w .entry))) ⌝ }
-{
-    let mut t = 16;
-    while t < 64 {
-        let x = next(w, t);
-        w[t] = x;
-        let y = next(w, t + 1);
-        w[t + 1] = y;
-        let z = next(w, t + 2);
-        w[t + 2] = z;
-        let u = next(w, t + 3);
-        w[t + 3] = u;
-        t += 4;
-    }
-}
-
 // The hash value after block j of m, from the value before it.
 fn step(h: [u32; 8], m: &[u8], j: usize) -> [u32; 8]
     requires { ⌜ 64 * j + 63 < length (now m) ⌝ }
     ensures { λ r. ⌜ r ≡ compressOf h (grow 48 (block (now (m .entry)) j)) ⌝ }
 {
-    let mut w = words(m, j);
-    extend(&mut w);
-    compress(h, &w)
+    compress(h, words(m, j))
 }
 
 // The hash value after the whole blocks of m.

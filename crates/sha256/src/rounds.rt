@@ -1,11 +1,10 @@
-// FIPS 180-4, 4.1.2 and 6.2.2: the functions on words, and the rounds over a schedule.
+// FIPS 180-4, 4.1.2 and 6.2.2: the functions on words, and a round.
 ghost use mathlib.Core.Path.{_≡_};
-ghost use Prim.Native.Nat.{_<_};
 ghost use Rattle.sha256.specs.Sha256.{_⊞_, choose, majority, sum0, sum1, sigma0, sigma1};
-ghost use Rattle.sha256.specs.Sha256.{roundOf, addWork, compressOf};
+ghost use Rattle.sha256.specs.Sha256.{roundOf, addWork};
 
 // FIPS 180-4, 4.2.2: the round constants.
-const K: [u32; 64] = [
+pub(crate) const K: [u32; 64] = [
     0x428a_2f98,
     0x7137_4491,
     0xb5c0_fbcf,
@@ -91,10 +90,11 @@ pub(crate) fn add(x: u32, y: u32) -> u32
     ((x as u64 + y as u64) % 0x1_0000_0000) as u32
 }
 
+// Choice in three operations.
 fn ch(x: u32, y: u32, z: u32) -> u32
     ensures { λ r. ⌜ r ≡ choose x y z ⌝ }
 {
-    (x & y) ^ (!x & z)
+    z ^ (x & (y ^ z))
 }
 
 // Majority in three operations; y ^ z was x ^ y in the round before.
@@ -129,7 +129,7 @@ pub(crate) fn small1(x: u32) -> u32
 }
 
 // A round, with its constant and its word of the schedule.
-fn round(v: Work, k: u32, w: u32) -> Work
+pub(crate) fn round(v: Work, k: u32, w: u32) -> Work
     ensures { λ r. ⌜ r ≡ roundOf v k w ⌝ }
 {
     let t1 = add(add(add(add(v.h, big1(v.e)), ch(v.e, v.f, v.g)), k), w);
@@ -147,7 +147,7 @@ fn round(v: Work, k: u32, w: u32) -> Work
 }
 
 // The next hash value: the working variables, added to the last one.
-fn added(h: [u32; 8], v: Work) -> [u32; 8]
+pub(crate) fn added(h: [u32; 8], v: Work) -> [u32; 8]
     ensures { λ r. ⌜ r ≡ addWork h v ⌝ }
 {
     [
@@ -160,31 +160,4 @@ fn added(h: [u32; 8], v: Work) -> [u32; 8]
         add(v.g, h[6]),
         add(v.h, h[7]),
     ]
-}
-
-// The hash value after one block, from the value before it and the block's schedule. Four rounds in a turn, so that no value has to
-// move; the table is copied once, before the rounds.
-pub(crate) fn compress(h: [u32; 8], w: &[u32; 64]) -> [u32; 8]
-    ensures { λ r. ⌜ r ≡ compressOf h (now (w .entry)) ⌝ }
-{
-    let mut v = Work {
-        a: h[0],
-        b: h[1],
-        c: h[2],
-        d: h[3],
-        e: h[4],
-        f: h[5],
-        g: h[6],
-        h: h[7],
-    };
-    let k = K;
-    let mut t = 0;
-    while t < 64 {
-        v = round(v, k[t], w[t]);
-        v = round(v, k[t + 1], w[t + 1]);
-        v = round(v, k[t + 2], w[t + 2]);
-        v = round(v, k[t + 3], w[t + 3]);
-        t += 4;
-    }
-    added(h, v)
 }
