@@ -13,6 +13,9 @@ mod run; // a sheet is run
 mod steps; // one line's step
 mod shown; // what a row shows of a step
 
+// Bytes of the work area.
+pub const WORK: usize = area::WORK;
+
 // Rows for which there must be room.
 fn rows_for(lines: usize) -> usize
     ensures { λ r. ⌜ r ≡ rowsFor lines ⌝ }
@@ -28,7 +31,7 @@ pub fn drill(sheet: &[u8], out: &mut [u8], work: &mut [u8]) -> cluster::Outcome
     ensures { λ r. ⌜ record { result = r; output = now (out .exit); work = now (work .exit) }
         ≡ drillOf (now (sheet .entry)) (now (out .entry)) (now (work .entry)) ⌝ }
 {
-    if work.len() != area::WORK {
+    if work.len() != WORK {
         return cluster::refused(cluster::refusals::MEMORY_SIZE);
     }
     if out.len() / rows::ROW < rows_for(columns::lines::count_lines(sheet)) {

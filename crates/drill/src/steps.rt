@@ -26,7 +26,7 @@ fn nonce_for(k: u32) -> [u8; cluster::KEY]
     ensures { λ r. ⌜ r ≡ nonceFor k ⌝ }
 {
     let mut nonce = [0u8; cluster::KEY];
-    let _ = wire::make::put_number4(&mut nonce, 28, k);
+    let _ = wire::make::put_number4(&mut nonce, cluster::KEY - wire::sizes::NUMBER, k);
     nonce
 }
 

@@ -115,10 +115,10 @@ fn visit_refusal(work: &[u8], t: usize, client: usize, server: usize) -> u8
     ensures { λ r. ⌜ RefusesAs t (now (work .entry)) client server r ⌝ }
 {
     if cluster::outside(1, cluster::servers(t as u8), server) {
-        return 4;
+        return cluster::refusals::SERVER;
     }
     if cluster::outside(1, cluster::TOP_CLIENT, client) {
-        return 5;
+        return cluster::refusals::CLIENT;
     }
     client::refusals::make_refusal(
         client::Party { t, client },

@@ -4,13 +4,18 @@ use libc::STDERR_FILENO;
 use libc::STDIN_FILENO;
 use libc::STDOUT_FILENO;
 
+// Bytes of the buffer that a sheet is read into: one that fills it may go on.
+const SHEET: usize = 65536;
+
 // Room for the rows of as many lines of 41 bytes as a sheet can have.
-fn output() -> [u8; 131072] {
-    [0u8; 131072]
+const LISTING: usize = 131072;
+
+fn output() -> [u8; LISTING] {
+    [0u8; LISTING]
 }
 
-fn work_area() -> [u8; 2097152] {
-    [0u8; 2097152]
+fn work_area() -> [u8; drill::WORK] {
+    [0u8; drill::WORK]
 }
 
 fn say(words: &[u8]) {
@@ -33,7 +38,7 @@ fn run(sheet: &[u8]) {
 fn main() {
     let mut sheet = io::large_buffer();
     let n = io::read_full(STDIN_FILENO, &mut sheet);
-    if n == 65536 {
+    if n == SHEET {
         say(b"drill_run: a sheet has at most 65,535 bytes here\n");
         return;
     }

@@ -6,16 +6,13 @@ ghost use Rattle.erasure.specs.Steps.{fragmentBytes, restoreStep};
 ghost use Rattle.embed.specs.Packing.{answer, writtenBy};
 ghost use Rattle.embed.specs.Coding.{exportRefusal, outcomeOf};
 
-// Room for the longest fragment.
-const FRAGMENT_ROOM: usize = 512;
-
 #[no_mangle]
 pub extern "C" fn cendrulas_fragment(t: usize, server: usize, content: &[u8], out: &mut [u8]) -> u64
     ensures { λ r. ⌜ r ≡ answer (exportRefusal t server (now (content .entry)) (now (out .entry))) (fragmentBytes t server (now (content .entry))) ⌝ }
     ensures { λ _. ⌜ now (out .exit) ≡ writtenBy (exportRefusal t server (now (content .entry)) (now (out .entry)))
         (fragmentBytes t server (now (content .entry))) (now (out .entry)) ⌝ }
 {
-    if out.len() < FRAGMENT_ROOM {
+    if out.len() < erasure::ROOM {
         return pack(cluster::WRONG_SIZE, 0, 0, 0);
     }
     let made = erasure::fragment(t, server, content);

@@ -13,12 +13,12 @@ pub extern "C" fn cendrulas_digest(message: &[u8], out: &mut [u8]) -> u64
     ensures { λ r. ⌜ r ≡ answer (digestRefusal (now (out .entry))) (sha256 (now (message .entry))) ⌝ }
     ensures { λ _. ⌜ now (out .exit) ≡ writtenBy (digestRefusal (now (out .entry))) (sha256 (now (message .entry))) (now (out .entry)) ⌝ }
 {
-    if out.len() < 32 {
+    if out.len() < sha256::DIGEST {
         return pack(cluster::WRONG_SIZE, 0, 0, 0);
     }
     let digest = sha256::digest(message);
-    put(out, &digest, 32);
-    pack(0, 0, 0, 32)
+    put(out, &digest, sha256::DIGEST);
+    pack(0, 0, 0, sha256::DIGEST as u16)
 }
 
 #[no_mangle]

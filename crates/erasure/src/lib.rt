@@ -23,7 +23,7 @@ mod system;
 const WIDTH: usize = system::WIDTH;
 
 // Room for the longest fragment.
-const ROOM: usize = 512;
+pub const ROOM: usize = 512;
 
 // A fragment and its length, padded with 00h; or a refusal.
 pub struct FragmentOutcome {
