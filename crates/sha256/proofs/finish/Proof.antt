@@ -15,14 +15,19 @@ slice-aggregate-absorb c = simp length-take (omega arith)
 
 returns : tie.Need-returns
 returns c =
-    let a = c .before .before .before .before .before .before .before .before .args in
+    let at-tail = c .before .before .before .before in
+    let a = at-tail .before .before .before .before .before .before .args in
     let m : List ℕ = a .m .now in
     let w : ℕ = length m / 64 * 64 in
     let rest = take-all (length m - w) (drop w m) (omega (arith, length-drop w m)) in
-    cc (finished _ m (a .d .now) _ (c .before .before .before .tail .result) (a .n) w _ refl rest refl (omega arith) (omega arith)
-    (c .before .before .before .tail .ensures))
+    cc (
+      finished _ m (a .d .now) _ _ (a .n) w _ refl rest refl (omega arith) (omega arith) (at-tail .tail .ensures),
+      c .bytes .ensures,
+      c .before .absorb2 .ensures,
+      at-tail .before .before .before .absorb .ensures,
+    )
 
 pub finish-spec : {M : Type 1} → statement M
 finish-spec = tie.close (tie.spec (λ c. search needs) (λ c κs. search needs) (λ c. search needs) (λ c. search needs) (λ c. search needs)
-    (λ c κs. search needs) (λ c. search needs) (λ c. search needs) (λ c. search needs) (λ c. search needs) (λ c. search needs) (λ c. search needs)
-    slice-aggregate-absorb (λ c κs. search needs) (λ c κs. search needs) returns)
+    (λ c. search needs) (λ c κs. search needs) (λ c. search needs) (λ c. search needs) (λ c. search needs) (λ c. search needs)
+    (λ c. search needs) (λ c. search needs) slice-aggregate-absorb (λ c κs. search needs) (λ c κs. search needs) returns)
