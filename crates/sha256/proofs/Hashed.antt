@@ -6,7 +6,7 @@ use mathlib.Core.List.{List, _++_, append-assoc}
 use Prim.Native.Nat.{ℕ, zero, suc, _+_, _-_, _*_, _/_, _<_}
 use native.Mathlib.Omega.{arith}
 use lib.ListN.{length, getD, take, drop, length-append, List·getD-append, take-append-drop}
-use lib.Seq.{getD-append-add, length-take-le, getD-take}
+use lib.Seq.{getD-append-add, length-take-le}
 use Rattle.sha256.specs.Sha256.{wordAt, block, grow, compressOf, hashed, initial, padding, pad, bytesOf, digestFrom, sha256}
 use Rattle.sha256.specs.FirstBlock.{digestAfter}
 use Rattle.sha256.proofs.Laws.{tab-ext}
@@ -58,17 +58,15 @@ hashed-split h a b j (suc k) e =
 
 -- the whole blocks of m, then the rest of it with what follows
 pub whole-then-rest : (h m s : List ℕ) (w : ℕ) → w ≡ length m / 64 * 64
-    → hashed h (length (m ++ s) / 64) (m ++ s) ≡ hashed (hashed h (length m / 64) m) (length (drop w m ++ s) / 64) (drop w m ++ s)
+    → hashed h (length (m ++ s) / 64) (m ++ s)
+    ≡ hashed (hashed h (length (take w m) / 64) (take w m)) (length (drop w m ++ s) / 64) (drop w m ++ s)
 whole-then-rest h m s w e =
     let a : List ℕ = take w m in
     let b : List ℕ = drop w m ++ s in
     let l : length a ≡ w = length-take-le w m (omega arith) in
     let p : a ++ b ≡ m ++ s = sym (append-assoc a (drop w m) s) ∙ ap (λ (x : List ℕ). x ++ s) (take-append-drop w m) in
-    let n : length (m ++ s) / 64 ≡ length m / 64 + length b / 64 = omega (arith, ap length p, length-append a b) in
-    ap₂ (λ (i : ℕ) (x : List ℕ). hashed h i x) n (sym p)
-    ∙ hashed-split h a b (length m / 64) (length b / 64) (omega arith)
-    ∙ ap (λ (g : List ℕ). hashed g (length b / 64) b)
-    (hashed-same h a m (length m / 64) (λ i k. getD-take w m i 0 (omega arith)))
+    let n : length (m ++ s) / 64 ≡ length a / 64 + length b / 64 = omega (arith, ap length p, length-append a b) in
+    ap₂ (λ (i : ℕ) (x : List ℕ). hashed h i x) n (sym p) ∙ hashed-split h a b (length a / 64) (length b / 64) (omega arith)
 
 -- a first block, then the rest
 pub digest-after : (b x : List ℕ) → length b ≡ 64 → digestAfter (hashed initial 1 b) x ≡ sha256 (b ++ x)

@@ -88,15 +88,15 @@ tail-length : (rest d : List ℕ) (n : ℕ) → length rest + length d ≤ 119 �
 tail-length rest d n h e = omega (arith, length-append rest (d ++ padding n), length-append d (padding n), padding-length n)
 
 -- the whole blocks of m as they lie, then the last blocks from the array
-pub finished : (h m d rest t : List ℕ) (n w e : ℕ) → w ≡ length m / 64 * 64 → rest ≡ drop w m → e ≡ (length m - w + length d + 8) / 64 * 64 + 64 →
-    length d ≤ 32
-    → n % 64 ≡ (length m + length d) % 64 → t ≡ filled (rest ++ (d ++ padding n))
-    → bytesOf (hashed (hashed h (length m / 64) m) (length (take e t) / 64) (take e t)) ≡ digestFrom h (m ++ (d ++ padding n))
+pub finished : (h m d rest t g : List ℕ) (n w e : ℕ) → w ≡ length m / 64 * 64 → g ≡ hashed h (length (take w m) / 64) (take w m) → rest ≡ drop w m
+    → e ≡ (length m - w + length d + 8) / 64 * 64 + 64 → length d ≤ 32 → n % 64 ≡ (length m + length d) % 64
+    → t ≡ filled (rest ++ (d ++ padding n))
+    → bytesOf (hashed g (length (take e t) / 64) (take e t)) ≡ digestFrom h (m ++ (d ++ padding n))
 unfolding filled digestFrom
-finished h m d rest t n w e hw hr he hd hn ht =
+finished h m d rest t g n w e hw hg hr he hd hn ht =
     let r : length (drop w m) ≡ length m - w = length-drop w m in
     let l : length (drop w m ++ (d ++ padding n)) ≡ e = tail-length (drop w m) d n (omega arith) (omega arith) ∙ omega arith in
     let q : take e t ≡ drop w m ++ (d ++ padding n) = ap (λ (x : List ℕ). take e x) (ht ∙ ap (λ (x : List ℕ). filled (x ++ (d ++ padding n))) hr) ∙
     take-at (drop w m ++ (d ++ padding n)) _ e l in
     ap bytesOf
-    (ap (λ (x : List ℕ). hashed (hashed h (length m / 64) m) (length x / 64) x) q ∙ sym (whole-then-rest h m (d ++ padding n) w hw))
+    (ap₂ (λ (x y : List ℕ). hashed x (length y / 64) y) hg q ∙ sym (whole-then-rest h m (d ++ padding n) w hw))

@@ -1,6 +1,6 @@
 // FIPS 180-4, 6.2.2: the rounds of a block. Only the next 16 words of the schedule are kept, word i at place i % 16, and a round's word
-// makes room for the word 16 rounds on. Each round is written out with its number, so that the compiler needs no table of words or
-// constants while it runs.
+// makes room for the word 16 rounds on. Each round is written out with its number, so that places and constants are known when the
+// code is compiled, and the table is not copied.
 use super::rounds::K;
 use super::rounds::Work;
 use super::rounds::add;
@@ -47,6 +47,8 @@ fn last(v: Work, k: &[u32; 64], w: &[u32; 16], n: usize) -> Work
     round(v, k[n], w[n % 16])
 }
 
+// Rounds 0 to 15. This and the next three functions are called once each, so that the compiler puts them into their caller, where it
+// knows every number.
 fn first(u: Work, k: &[u32; 64], w: &mut [u32; 16]) -> Work
     requires { ⌜ (now k ≡ kTable) × (length (now w) ≡ 16) ⌝ }
     ensures { λ r. ⌜ (length (now (w .exit)) ≡ 16) × Advances 0 16 u (now (w .entry)) r (now (w .exit)) ⌝ }
@@ -71,6 +73,7 @@ fn first(u: Work, k: &[u32; 64], w: &mut [u32; 16]) -> Work
     v
 }
 
+// Rounds 16 to 31.
 fn second(u: Work, k: &[u32; 64], w: &mut [u32; 16]) -> Work
     requires { ⌜ (now k ≡ kTable) × (length (now w) ≡ 16) ⌝ }
     ensures { λ r. ⌜ (length (now (w .exit)) ≡ 16) × Advances 16 32 u (now (w .entry)) r (now (w .exit)) ⌝ }
@@ -95,6 +98,7 @@ fn second(u: Work, k: &[u32; 64], w: &mut [u32; 16]) -> Work
     v
 }
 
+// Rounds 32 to 47.
 fn third(u: Work, k: &[u32; 64], w: &mut [u32; 16]) -> Work
     requires { ⌜ (now k ≡ kTable) × (length (now w) ≡ 16) ⌝ }
     ensures { λ r. ⌜ (length (now (w .exit)) ≡ 16) × Advances 32 48 u (now (w .entry)) r (now (w .exit)) ⌝ }
@@ -119,6 +123,7 @@ fn third(u: Work, k: &[u32; 64], w: &mut [u32; 16]) -> Work
     v
 }
 
+// Rounds 48 to 63.
 fn fourth(u: Work, k: &[u32; 64], w: &[u32; 16]) -> Work
     requires { ⌜ now k ≡ kTable ⌝ }
     ensures { λ r. ⌜ Advances 48 64 u (now (w .entry)) r (now (w .entry)) ⌝ }
