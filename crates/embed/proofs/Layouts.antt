@@ -4,10 +4,10 @@ use mathlib.Core.Path.{_≡_}
 use mathlib.Core.List.{List}
 use mathlib.Core.Option.{none, some}
 use Prim.Native.Nat.{ℕ}
-use Rattle.protocol.specs.Packet.{Packet, decode}
+use Rattle.protocol.specs.Packet.{Packet, decode, brokenPacket}
 use Rattle.embed.specs.Packets.{packetRefusal}
 
-pub layout-broken : (b : List ℕ) → decode b ≡ none → packetRefusal b ≡ 7
+pub layout-broken : (b : List ℕ) → decode b ≡ none → packetRefusal b ≡ brokenPacket
 unfolding packetRefusal
 layout-broken b e = rw e
 

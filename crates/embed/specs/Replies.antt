@@ -2,15 +2,22 @@
 -- the server is full. Any other packet tells nothing, and bytes that are no packet are refused with 7.
 use mathlib.Core.Option.{Option, none, some}
 use mathlib.Core.Bool.{cond}
+use mathlib.Core.List.{List}
 use Prim.Native.Nat.{ℕ}
 use lib.Dec.{eqb}
-use Rattle.protocol.specs.Packet.{Packet, kindOf}
+use Rattle.cluster.specs.Refusals.{onRefusal}
+use Rattle.protocol.specs.Packet.{Packet, kindOf, decode}
 use Rattle.protocol.specs.Pending.{codeIn}
+use Rattle.embed.specs.Packets.{packetRefusal}
 use Rattle.embed.specs.Packing.{packed}
 
 abbrev pub storeReplyKind : ℕ
 storeReplyKind = 4
 
-unfoldable pub codeTold : Option Packet → ℕ
-codeTold none = packed 7 0 0 0
-codeTold (some p) = cond (eqb (kindOf (p .body)) storeReplyKind) (packed 0 1 0 (codeIn (p .body))) (packed 0 0 0 0)
+-- what a packet tells
+unfoldable pub codeOf : Option Packet → ℕ
+codeOf none = packed 0 0 0 0
+codeOf (some p) = cond (eqb (kindOf (p .body)) storeReplyKind) (packed 0 1 0 (codeIn (p .body))) (packed 0 0 0 0)
+
+unfoldable pub codeTold : List ℕ → ℕ
+codeTold b = let n = packetRefusal b in onRefusal n (codeOf (decode b)) (packed n 0 0 0)

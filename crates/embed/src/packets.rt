@@ -8,7 +8,7 @@ ghost use Rattle.embed.specs.Packets.{packetRefusal};
 pub extern "C" fn cendrulas_packet_check(packet: &[u8]) -> u64
     ensures { λ r. ⌜ r ≡ packed (packetRefusal (now (packet .entry))) 0 0 0 ⌝ }
 {
-    let wire::packet::PacketRead::Value(_, _) = wire::packet::read_packet(packet) else {
+    let wire::packet::PacketRead::Value(_) = wire::packet::read_packet(packet) else {
         return pack(cluster::refusals::LAYOUT, 0, 0, 0);
     };
     pack(0, 0, 0, 0)

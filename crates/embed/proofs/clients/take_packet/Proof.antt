@@ -14,8 +14,9 @@ use Rattle.embed.proofs.clients.take_packet.Tie as tie
 returns : tie.Need-returns
 returns c =
     let p = c .before .before .before .before in
-    let m = p .before .before .before .before .before .before .take-in in
-    let q = p .before .before .before .before .before .before .before .before .before in
+    let at-take-in = p .before .before .before .before .before .before in
+    let m = at-take-in .take-in in
+    let q = at-take-in .before .before .before in
     let z = q .before .before .before .before .before in
     let a = z .args in
     let d = a .state .now in

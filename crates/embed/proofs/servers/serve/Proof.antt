@@ -21,7 +21,8 @@ cast-pack : tie.Need-cast-pack
 cast-pack c =
     let past-take = c .before .before .before .before .before .before in
     let past-lent = past-take .before .before .before .before in
-    let a = past-lent .before .before .before .before .before .before .before .before .args in
+    let past-byte = past-lent .before .before .before in
+    let a = past-byte .before .before .before .before .before .args in
     let l = past-lent .lent in
     let t = past-take .take in
     let n : t .result .count ≤ packetRoom = served-count (a .memory .now) (a .t2) (a .packet .now) (a .out .now) (l .result) (l .ensures .0)

@@ -89,14 +89,14 @@ cast-byte-field-2 c = omega (arith, servers-most (byte-range 1 topFaults (t-took
 returns-2 : tie.Need-returns-2
 returns-2 c =
     let p = c .before .before .before .before .before in
-    (no-server (size-is p) (t-took p) (c .before .before .before .servers .ensures)
-    (rw (c .enum-told2 .given .1) at (c .before .before .byte-field2 .ensures)))
+    no-server (size-is p) (t-took p) (c .before .before .before .servers .ensures)
+    (rw (c .enum-told2 .given .1) at (c .before .before .byte-field2 .ensures))
 
 returns-3 : tie.Need-returns-3
 returns-3 c =
     let s = c .before .before .before .before in
-    (no-count (size-is (after-t s)) (t-took (after-t s)) (servers-are s) (server-took s)
-    (rw (c .enum-told3 .given .1) at (c .before .before .byte-field3 .ensures)))
+    no-count (size-is (after-t s)) (t-took (after-t s)) (servers-are s) (server-took s)
+    (rw (c .enum-told3 .given .1) at (c .before .before .byte-field3 .ensures))
 
 cast-any-candidate-field : tie.Need-cast-any-candidate-field
 cast-any-candidate-field c = omega (
@@ -109,8 +109,8 @@ returns-4 : tie.Need-returns-4
 returns-4 c =
     let m = c .before .before .before .before in
     let s = after-server m in
-    (no-latest (size-is (after-t s)) (t-took (after-t s)) (servers-are s) (server-took s) (n-took m)
-    (rw (c .enum-told4 .given .1) at (c .before .before .any-candidate-field .ensures)))
+    no-latest (size-is (after-t s)) (t-took (after-t s)) (servers-are s) (server-took s) (n-took m)
+    (rw (c .enum-told4 .given .1) at (c .before .before .any-candidate-field .ensures))
 
 cast-check-writes : tie.Need-cast-check-writes
 cast-check-writes c = omega (arith, byte-range 1 topFaults (t-took (first (c .before))) .1)
@@ -123,8 +123,7 @@ cast-check-writes-2 c =
 check-writes-requires : tie.Need-check-writes-requires
 check-writes-requires c κs =
     let l = c .before in
-    let s = after-server (after-n l) in
-    (
+    let s = after-server (after-n l) in (
       at-writes (size-is (after-t s)) (t-took (after-t s)) (servers-are s) (server-took s) (n-took (after-n l)) (latest-took l .took),
       latest-took l .took .leaves .within,
     )
@@ -133,9 +132,9 @@ returns-5 : tie.Need-returns-5
 returns-5 c =
     let l = c .before .before .before .before in
     let s = after-server (after-n l) in
-    (no-writes (size-is (after-t s)) (t-took (after-t s)) (servers-are s) (server-took s) (n-took (after-n l))
+    no-writes (size-is (after-t s)) (t-took (after-t s)) (servers-are s) (server-took s) (n-took (after-n l))
     (latest-took l .took) (λ i. first l .before .before .before .shared-slice-known .given i .fits) (c .enum-told5 .given .1)
-    (c .before .before .check-writes .ensures))
+    (c .before .before .check-writes .ensures)
 
 abbrev c4-from-end : tie.After-end → tie.After-c4
 c4-from-end c = c .before .before .before .before
@@ -157,8 +156,8 @@ returns-6 c =
     let l = c4-from-end at-end in
     let s = after-server (after-n l) in
     let w = rw (at-end .end .given .1) at (at-end .before .before .check-writes .ensures) in
-    (opens (size-is (after-t s)) (t-took (after-t s)) (servers-are s) (server-took s) (n-took (after-n l)) (latest-took l .took) w
-    (c .before .before .rest .ensures) (c .before .all-zero .ensures) (c .if1 .taken))
+    opens (size-is (after-t s)) (t-took (after-t s)) (servers-are s) (server-took s) (n-took (after-n l)) (latest-took l .took) w
+    (c .before .before .rest .ensures) (c .before .all-zero .ensures) (c .if1 .taken)
 
 returns-7 : tie.Need-returns-7
 returns-7 c =
@@ -166,8 +165,8 @@ returns-7 c =
     let l = c4-from-end at-end in
     let s = after-server (after-n l) in
     let w = rw (at-end .end .given .1) at (at-end .before .before .check-writes .ensures) in
-    (no-tail (size-is (after-t s)) (t-took (after-t s)) (servers-are s) (server-took s) (n-took (after-n l))
-    (latest-took l .took) w (c .before .before .rest .ensures) (c .before .all-zero .ensures) (c .if1 .left))
+    no-tail (size-is (after-t s)) (t-took (after-t s)) (servers-are s) (server-took s) (n-took (after-n l))
+    (latest-took l .took) w (c .before .before .rest .ensures) (c .before .all-zero .ensures) (c .if1 .left)
 
 pub open-spec : {M : Type 1} → statement M
 open-spec = tie.close (tie.spec (λ c. search needs) (λ c κs. search needs) (λ c. search needs) (λ c. search needs) returns cast-servers
