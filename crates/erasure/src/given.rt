@@ -80,7 +80,7 @@ pub(crate) struct Wanted {
 // The bytes of a run: a copy where the run is given, and otherwise a sum that the system weighs at its point.
 pub(crate) fn run(a: [[u8; WIDTH]; WIDTH], runs: Runs, fragments: &[u8], w: Wanted, out: &mut [u8])
     requires { ⌜ (runs .count ≤ width) × ((j : ℕ) → j < runs .count → getD (runs .starts) j 0 + w .size ≤ length (now fragments))
-        × (w .at + w .size ≤ length (now out)) ⌝ }
+        × (w .at + w .size ≤ length (now out)) × (1 ≤ runs .count) ⌝ }
     ensures { λ _. ⌜ RunWritten (now (out .entry)) (now (out .exit)) (w .at) (w .size)
         (runAt (runs .count) a (now (fragments .entry)) (runs .starts) (w .place) (w .point)) ⌝ }
 {

@@ -131,13 +131,11 @@ fn lane_at(src: &[u8], at: usize) -> [u8; LANE]
     part_lane(src, at)
 }
 
-// The lanes of the runs from place q on.
-fn gather(runs: Runs, src: &[u8], q: usize) -> [[u8; LANE]; WIDTH]
-    requires { ⌜ (runs .count ≤ width) × ((j : ℕ) → j < runs .count → getD (runs .starts) j 0 + q ≤ length (now src) + width) ⌝ }
-    ensures { λ r. ⌜ ((j : ℕ) → j < runs .count → Lane (getD r j []) (λ i. byteAt (now (src .entry)) (runs .starts) (q + i) j)) ⌝ }
+// The lanes of the first k runs from place q on.
+fn gather(src: &[u8], starts: [usize; WIDTH], q: usize, k: usize) -> [[u8; LANE]; WIDTH]
+    requires { ⌜ (k ≤ width) × ((j : ℕ) → j < k → getD starts j 0 + q ≤ length (now src) + width) ⌝ }
+    ensures { λ r. ⌜ ((j : ℕ) → j < k → Lane (getD r j []) (λ i. byteAt (now (src .entry)) starts (q + i) j)) ⌝ }
 {
-    let starts = runs.starts;
-    let k = runs.count;
     let mut out = [[0u8; LANE]; WIDTH];
     let mut j: usize = 0;
     while j < k {
@@ -166,7 +164,8 @@ fn at_most_lane(left: usize) -> usize
     if left < LANE { left } else { LANE }
 }
 
-// The sum of the runs, each times its weight: m places of it, written from place at on.
+// The sum of the runs, each times its weight: m places of it, written from place at on. There is always a run; the test says so to the
+// compiler, whose code for the loop is slower where it cannot know.
 pub(crate) fn combine(
     weights: [u8; WIDTH],
     runs: Runs,
@@ -176,15 +175,19 @@ pub(crate) fn combine(
     m: usize,
 )
     requires { ⌜ (runs .count ≤ width) × ((j : ℕ) → j < runs .count → getD (runs .starts) j 0 + m ≤ length (now src) + width)
-        × (at + m ≤ length (now out)) ⌝ }
+        × (at + m ≤ length (now out)) × (1 ≤ runs .count) ⌝ }
     ensures { λ _. ⌜ RunWritten (now (out .entry)) (now (out .exit)) at m
         (sumAt (runs .count) (λ j. getD weights j 0) (now (src .entry)) (runs .starts)) ⌝ }
 {
+    let starts = runs.starts;
     let k = runs.count;
+    if k == 0 {
+        return;
+    }
     let mut q: usize = 0;
     while q < m {
         let n = at_most_lane(m - q);
-        let lanes = gather(runs, src, q);
+        let lanes = gather(src, starts, q, k);
         let sum = lane_sum(lanes, weights, k);
         store(out, at + q, n, sum);
         q += n;

@@ -1,15 +1,13 @@
 // Fragments of a content, and the content from fragments.
 ghost use mathlib.Core.Bool.{not};
 ghost use mathlib.Core.Path.{_≡_};
-ghost use mathlib.Core.List.{_++_};
-ghost use Prim.Native.Nat.{_-_, _*_, _≤_};
+ghost use Prim.Native.Nat.{_*_, _≤_};
 ghost use lib.Dec.{eqb};
-ghost use lib.ListN.{length, replicate};
-ghost use Rattle.cluster.specs.Config.{shelf, PointTable};
+ghost use Rattle.cluster.specs.Config.{shelf};
 ghost use Rattle.cluster.specs.Ranges.{within, topFaults, topLength};
 ghost use Rattle.cluster.specs.Refusals.{firstOf};
-ghost use Rattle.erasure.specs.Fragments.{fragmentSize, fragment};
-ghost use Rattle.erasure.specs.Steps.{each, fragmentRoom, fragmentRefusal, argumentChecks, fragmentStep, restoreStep};
+ghost use Rattle.erasure.specs.Fragments.{fragmentSize};
+ghost use Rattle.erasure.specs.Steps.{each, fragmentRefusal, argumentChecks, fragmentStep, restoreStep};
 ghost use Rattle.erasure.specs.System.{width};
 
 mod choice;
@@ -125,34 +123,6 @@ fn restore_refusal(t: usize, n: usize, servers: &[usize], given: usize, room: us
 
 // ---- the operations
 
-// The fragment of a server, by a table of points: a run of the content for each of the first k, and otherwise the value at the server's point.
-fn make(points: &[u8], k: usize, server: usize, content: &[u8]) -> FragmentOutcome
-    requires { ⌜ (2 ≤ k) × (k ≤ width) × (k ≤ length (now points)) × (PointTable (now points)) × (1 ≤ server) × (server ≤ length (now points))
-        × (length (now content) ≤ topLength) ⌝ }
-    ensures { λ r. ⌜ r ≡ record {
-      number = 0;
-      count = fragmentSize k (length (now (content .entry)));
-      bytes = fragment (now (points .entry)) k (now (content .entry)) server
-          ++ replicate (fragmentRoom - fragmentSize k (length (now (content .entry)))) 0;
-    } ⌝ }
-{
-    let f = size(k, content.len());
-    if server <= k {
-        let run = runs::plain(f, server - 1, content);
-        return FragmentOutcome {
-            number: 0,
-            count: f,
-            bytes: run,
-        };
-    }
-    let bytes = runs::value(points, runs::plain_runs(f, k), content, points[server - 1]);
-    FragmentOutcome {
-        number: 0,
-        count: f,
-        bytes: bytes,
-    }
-}
-
 // The fragment of a server. The table is document 01's: `shelf t .points`.
 pub fn fragment(t: usize, server: usize, content: &[u8]) -> FragmentOutcome
     ensures { λ r. ⌜ r ≡ fragmentStep t server (now (content .entry)) ⌝ }
@@ -167,7 +137,14 @@ pub fn fragment(t: usize, server: usize, content: &[u8]) -> FragmentOutcome
     }
     let points = points::numbered();
     let s = servers_of(t);
-    make(&points[0..s], threshold_of(t), server, content)
+    let k = threshold_of(t);
+    let f = size(k, content.len());
+    let bytes = runs::make(&points[0..s], k, f, server, content);
+    FragmentOutcome {
+        number: 0,
+        count: f,
+        bytes: bytes,
+    }
 }
 
 // The content of `length` bytes that the fragments of the servers give, which stand one after the other, at the start of out.

@@ -4,6 +4,7 @@ ghost use mathlib.Core.List.{_++_, map};
 ghost use Prim.Native.Nat.{ℕ, _+_, _-_, _*_, _<_, _≤_};
 ghost use lib.ListN.{getD, length, drop, replicate};
 ghost use Rattle.cluster.specs.Config.{pointOf, PointTable};
+ghost use Rattle.erasure.specs.Fragments.{fragmentSize, fragment};
 ghost use Rattle.erasure.specs.Steps.{fragmentRoom};
 ghost use Rattle.erasure.specs.System.{width, AllDifferent};
 ghost use Rattle.erasure.specs.Lanes.{valueFrom, plainOf, rebuiltOf};
@@ -47,7 +48,7 @@ fn runs_at(at: [usize; WIDTH], f: usize, k: usize) -> Runs
 }
 
 // The plain runs of a content, k of f bytes.
-pub(crate) fn plain_runs(f: usize, k: usize) -> Runs
+fn plain_runs(f: usize, k: usize) -> Runs
     requires { ⌜ (k ≤ width) × (f ≤ fragmentRoom) ⌝ }
     ensures { λ r. ⌜ (r .count ≡ k) × (r .size ≡ f) × ((j : ℕ) → j < k → getD (r .starts) j 0 ≡ j * f) ⌝ }
 {
@@ -62,9 +63,9 @@ pub(crate) fn blank() -> [u8; ROOM]
 }
 
 // The value at z, from runs of which each stands at its point: the first run at the first point, and so on. Padded with 00h.
-pub(crate) fn value(points: &[u8], runs: Runs, src: &[u8], z: u8) -> [u8; ROOM]
+fn value(points: &[u8], runs: Runs, src: &[u8], z: u8) -> [u8; ROOM]
     requires { ⌜ (runs .count ≤ width) × (runs .count ≤ length (now points)) × AllDifferent (runs .count) (now points) × (runs .size ≤ fragmentRoom)
-        × ((j : ℕ) → j < runs .count → getD (runs .starts) j 0 + runs .size ≤ length (now src) + width) ⌝ }
+        × ((j : ℕ) → j < runs .count → getD (runs .starts) j 0 + runs .size ≤ length (now src) + width) × (1 ≤ runs .count) ⌝ }
     ensures { λ r. ⌜ r ≡ valueFrom (runs .count) (runs .size) (now (points .entry)) (now (src .entry)) (runs .starts) z
         ++ replicate (fragmentRoom - runs .size) 0 ⌝ }
 {
@@ -82,7 +83,7 @@ fn at_most(f: usize, left: usize) -> usize
 }
 
 // The plain run j of a content, padded with 00h.
-pub(crate) fn plain(f: usize, j: usize, content: &[u8]) -> [u8; ROOM]
+fn plain(f: usize, j: usize, content: &[u8]) -> [u8; ROOM]
     requires { ⌜ (f ≤ fragmentRoom) × (j < width) ⌝ }
     ensures { λ r. ⌜ r ≡ plainOf f j (now (content .entry)) ++ replicate (fragmentRoom - f) 0 ⌝ }
 {
@@ -94,6 +95,19 @@ pub(crate) fn plain(f: usize, j: usize, content: &[u8]) -> [u8; ROOM]
     let m = at_most(f, content.len() - from);
     crate::lanes::copy(content, from, &mut bytes, 0, m);
     bytes
+}
+
+// The fragment of a server, f bytes, padded with 00h: a run of the content for each of the first k servers, and otherwise the value at the
+// server's point.
+pub(crate) fn make(points: &[u8], k: usize, f: usize, server: usize, content: &[u8]) -> [u8; ROOM]
+    requires { ⌜ (1 ≤ k) × (k ≤ width) × (k ≤ length (now points)) × (PointTable (now points)) × (1 ≤ server) × (server ≤ length (now points))
+        × (f ≡ fragmentSize k (length (now content))) × (f ≤ fragmentRoom) ⌝ }
+    ensures { λ r. ⌜ r ≡ fragment (now (points .entry)) k (now (content .entry)) server ++ replicate (fragmentRoom - f) 0 ⌝ }
+{
+    if server <= k {
+        return plain(f, server - 1, content);
+    }
+    value(points, plain_runs(f, k), content, points[server - 1])
 }
 
 // The content of n bytes, run after run: each is the value at its point, the next of all points, from the runs at the points given.

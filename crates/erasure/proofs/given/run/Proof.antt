@@ -36,7 +36,7 @@ start-from-weights c = c .before .before .before .before
 combine-requires : tie.Need-combine-requires
 combine-requires c κs =
     let start = start-from-weights (c .before) in
-    (start .pre .0, λ j h. omega (arith, start .pre .1 j h), start .pre .2)
+    (start .pre .0, λ j h. omega (arith, start .pre .1 j h), start .pre .2, start .pre .3)
 
 returns-2 : tie.Need-returns-2
 returns-2 c =

@@ -13,17 +13,21 @@ use Rattle.erasure.proofs.lanes.combine.Statement.{statement}
 use Rattle.erasure.proofs.lanes.combine.Tie as tie
 
 abbrev Inv-loop : tie.InvT-loop
-Inv-loop weights runs src out₀ at m k q₀ out q = (q ≤ m) × RunWritten out₀ out at q (sumAt (runs .count) (λ j. getD weights j 0) src (runs .starts))
+Inv-loop weights src out₀ at m starts k q₀ out q = (q ≤ m) × RunWritten out₀ out at q (sumAt k (λ j. getD weights j 0) src starts)
 
 abbrev μ-loop : tie.MeasureT-loop
-μ-loop weights runs src out₀ at m k q₀ out q = m - q
+μ-loop weights src out₀ at m starts k q₀ out q = m - q
+
+-- there is a run
+returns : tie.Need-returns Inv-loop μ-loop
+returns c = absurd (omega (arith, c .if1 .taken, c .before .before .before .before .pre .3))
 
 loop-holds : tie.Need-loop-holds Inv-loop μ-loop
 loop-holds c = (search needs, written-none _ _ _)
 
 gather-requires : tie.Need-gather-requires Inv-loop μ-loop
 gather-requires c κs =
-    let start = c .before .before .before .before .before in
+    let start = c .before .before .before .before .before .before .before in
     (search needs, λ j h. omega (arith, start .pre .1 j h))
 
 -- Places far back, each named once: the place, and from where it is seen.
@@ -34,7 +38,7 @@ add-store : tie.Need-add-store Inv-loop μ-loop
 add-store c =
     let at-lane-sum = c .before in
     let at-loop = at-loop-from-lane-sum at-lane-sum in
-    let start = at-loop .before .before .before in
+    let start = at-loop .before .before .before .before .before in
     let l = at-loop .loop in
     omega (arith, l .inv .1 .long, start .pre .2)
 
@@ -42,7 +46,7 @@ store-requires : tie.Need-store-requires Inv-loop μ-loop
 store-requires c κs =
     let at-lane-sum = c .before in
     let at-loop = at-loop-from-lane-sum at-lane-sum in
-    let start = at-loop .before .before .before in
+    let start = at-loop .before .before .before .before .before in
     let l = at-loop .loop in
     let n = c .before .before .before .at-most-lane in
     (n .ensures .1, omega (arith, l .inv .1 .long, start .pre .2, n .ensures .0))
@@ -54,7 +58,7 @@ add-q : tie.Need-add-q Inv-loop μ-loop
 add-q c =
     let at-lane-sum = lane-sum-from-slice-known2 c in
     let at-loop = at-loop-from-lane-sum at-lane-sum in
-    let start = at-loop .before .before .before in
+    let start = at-loop .before .before .before .before .before in
     let l = at-loop .loop in
     let n = at-lane-sum .before .before .at-most-lane in
     omega (arith, n .ensures .0)
@@ -70,7 +74,7 @@ unfolding sumAt
 loop-again c =
     let at-lane-sum = lane-sum-from-slice-known2 c in
     let at-loop = at-loop-from-lane-sum at-lane-sum in
-    let args = at-loop .before .before .before .args in
+    let args = at-loop .before .before .before .before .before .args in
     let l = at-loop .loop in
     let n = at-lane-sum .before .before .at-most-lane in
     let lanes = at-lane-sum .before .gather in
@@ -92,13 +96,13 @@ loop-again c =
 same-length : tie.Need-same-length Inv-loop μ-loop
 same-length c = c .before .loop .inv .1 .long
 
-returns : tie.Need-returns Inv-loop μ-loop
-returns c =
+returns-2 : tie.Need-returns-2 Inv-loop μ-loop
+returns-2 c =
     let l = c .before .loop in
-    let args = c .before .before .before .before .args in
+    let args = c .before .before .before .before .before .before .args in
     let g : ℕ → ℕ = sumAt (args .runs .count) (λ j. getD (args .weights) j 0) (denote.Ref.now (args .src)) (args .runs .starts) in
     subst (λ (n : ℕ). RunWritten (denote.Ref.now (args .out)) (l .out) (args .at) n g) (omega arith) (l .inv .1)
 
 pub combine-spec : {M : Type 1} → statement M
-combine-spec = tie.close (tie.spec Inv-loop μ-loop loop-holds (λ c. search needs) (λ c κs. search needs) gather-requires (λ c κs. search needs)
-    add-store store-requires add-q loop-less loop-again same-length returns)
+combine-spec = tie.close (tie.spec Inv-loop μ-loop returns loop-holds (λ c. search needs) (λ c κs. search needs) gather-requires
+    (λ c κs. search needs) add-store store-requires add-q loop-less loop-again same-length returns-2)

@@ -13,31 +13,29 @@ use Rattle.erasure.proofs.lanes.gather.Statement.{statement}
 use Rattle.erasure.proofs.lanes.gather.Tie as tie
 
 abbrev Inv-loop : tie.InvT-loop
-Inv-loop src q starts k out₀ j₀ out j = (j ≤ k) × Filled [] (λ m x. Lane x (λ i. byteAt src starts (q + i) m)) width j out
+Inv-loop src q k starts out₀ j₀ out j = (j ≤ k) × Filled [] (λ m x. Lane x (λ i. byteAt src starts (q + i) m)) width j out
 
 abbrev μ-loop : tie.MeasureT-loop
-μ-loop src q starts k out₀ j₀ out j = k - j
+μ-loop src q k starts out₀ j₀ out j = k - j
 
 loop-holds : tie.Need-loop-holds Inv-loop μ-loop
 loop-holds c = (search needs, filled-none refl)
 
 add-lane-at : tie.Need-add-lane-at Inv-loop μ-loop
-add-lane-at c =
-    let start = c .before .before .before .before in
-    let h : c .before .loop .j < start .args .runs .count = search needs in
-    omega (arith, start .pre .1 (c .before .loop .j) h)
+add-lane-at c = let h : c .before .loop .j < c .before .before .before .args .k = search needs in omega
+    (arith, c .before .before .before .pre .1 (c .before .loop .j) h)
 
 lane-at-requires : tie.Need-lane-at-requires Inv-loop μ-loop
-lane-at-requires c κs = c .before .before .before .before .pre .1 (c .before .loop .j) (omega arith)
+lane-at-requires c κs = c .before .before .before .pre .1 (c .before .loop .j) (omega arith)
 
 loop-again : tie.Need-loop-again Inv-loop μ-loop
 loop-again c =
     let l = c .before .before .loop in
-    let args = c .before .before .before .before .before .args in
+    let args = c .before .before .before .before .args in
     let src = denote.Ref.now (args .src) in (
       search needs,
       filled-more (l .inv .1) (omega arith) _ (λ i h. c .lane-at .ensures i h ∙ ap (λ (x : ℕ). getD src x 0)
-          (add-assoc (getD (args .runs .starts) (l .j) 0) (args .q) i)),
+          (add-assoc (getD (args .t2) (l .j) 0) (args .q) i)),
     )
 
 returns : tie.Need-returns Inv-loop μ-loop

@@ -19,7 +19,7 @@ combine-requires : tie.Need-combine-requires
 combine-requires c κs =
     let pre = start-from-weights (c .before .before) .pre in
     let l : length (c .before .blank .result) ≡ fragmentRoom = search needs in
-    (pre .0, pre .4, omega (arith, l, pre .3))
+    (pre .0, pre .4, omega (arith, l, pre .3), pre .5)
 
 returns : tie.Need-returns
 returns c =

@@ -63,8 +63,12 @@ run-requires : tie.Need-run-requires Inv-loop μ-loop
 run-requires c κs =
     let at-most = c .before .before in
     let pre = start (at-most .before) .pre in
-    let m = at-most .at-most .ensures in
-    (pre .0, λ j h. omega (arith, pre .5 j h, m .1), omega (arith, m .0, at-most .before .before .loop .inv .2 .long, pre .4))
+    let m = at-most .at-most .ensures in (
+      pre .0,
+      λ j h. omega (arith, pre .5 j h, m .1),
+      omega (arith, m .0, at-most .before .before .loop .inv .2 .long, pre .4),
+      omega (arith, one-of (at-most .before)),
+    )
 
 abbrev at-most-from-slice-known2 : tie.After-slice-known2 Inv-loop μ-loop → tie.After-at-most Inv-loop μ-loop
 at-most-from-slice-known2 c = c .before .before .before .before .before
