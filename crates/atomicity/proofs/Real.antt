@@ -15,7 +15,7 @@ use Rattle.cluster.specs.Ranges.{topFaults, topClient}
 use Rattle.cluster.proofs.Legal.{legal-shelf}
 use Rattle.hmac.specs.Hmac.{tagSize}
 use Rattle.gf256.proofs.Apart.{Distinct, Apart}
-use Rattle.format.specs.Format.{Bytes, byte, number4, seq, via, keep}
+use Rattle.format.specs.Format.{Bytes, byte, number4, seq, via, such}
 use Rattle.protocol.specs.Values.{digestSize}
 use Rattle.protocol.specs.Packet.{Packet, PacketOk, packetF, headF, decode}
 use Rattle.protocol.specs.Primitives.{Primitives, Lengths, real}
@@ -54,7 +54,7 @@ different (x ∷ is) h = (apart-from x is (h .0), different is (h .1))
 
 head-ranges : (b : List ℕ) (p : Packet) → decode b ≡ some p → (1 ≤ p .head .client) × (p .head .client ≤ topClient) × (1 ≤ p .head .server)
     × (p .head .server ≤ shelf (p .head .t) .servers)
-unfolding PacketOk packetF headF via seq keep byte number4
+unfolding PacketOk packetF headF via seq such byte number4
 head-ranges b p e = let o = decode-ok b p e .0 in
     (o .1 .1 .0 .0, o .1 .1 .0 .1, o .1 .1 .1 .0 .0, leb-true (p .head .server) (shelf (p .head .t) .servers) (o .0))
 

@@ -19,7 +19,7 @@ use Rattle.format.proofs.Formats.{print2-value}
 use Rattle.protocol.proofs.Packets.{head-length}
 use Rattle.wire.proofs.Lengths.{fragment-few}
 use Rattle.wire.specs.Places.{shareSize, lengthAt}
-use Rattle.wire.specs.Make.{packetStep, writeStep}
+use Rattle.wire.specs.Make.{packetStep, putStep}
 use Rattle.client.specs.Steps.{wholePacket}
 use Rattle.decide.proofs.Places.{part-split, stamp-bytes}
 
@@ -72,7 +72,7 @@ name-printed s d tags b h =
 -- a packet whose body has no more bytes than a slot of each kind fits its buffer
 pub packet-fits : (h : Head) (a b output : List ℕ) → packetRoom ≤ length output → headSize + (length a + length b) ≤ packetRoom
     → packetStep h a b output ≡ wholePacket (headF .print h ++ (a ++ b)) output
-unfolding packetStep writeStep wholePacket
+unfolding packetStep putStep wholePacket
 packet-fits h a b output r l =
     let n : length (headF .print h ++ (a ++ b)) ≤ packetRoom = omega (
       arith,

@@ -19,7 +19,7 @@ use Rattle.protocol.proofs.Equal.{candidate-same, candidate-refl}
 use Rattle.decide.specs.Decided.{slotOf}
 use Rattle.decide.specs.Listing.{enters}
 use Rattle.decide.specs.declared.leading.Group.{Group}
-use Rattle.decide.specs.Steps.{leaderAt, GroupAs, triedAt, chosenPlace, Hit, ChoiceAs}
+use Rattle.decide.specs.Steps.{leaderAt, GroupAs, triedAt, firstProven, Hit, ChoiceAs}
 use Rattle.decide.proofs.Tops.{keep-append}
 use Rattle.decide.proofs.Gathered.{gather-more, enters-twin, entered}
 
@@ -78,26 +78,26 @@ module _ (p q : Candidate → Bool) (held : ByServer Candidate) where
 -- ---- at slots
 
 module _ (t : ℕ) (marks kept : List ℕ) (key : ℕ) where
-  pub chosen-none : chosenPlace t marks kept key 0 ≡ none
-  unfolding chosenPlace first keep gather
+  pub chosen-none : firstProven t marks kept key 0 ≡ none
+  unfolding firstProven first keep gather
   chosen-none = refl
 
-  chosen-more : (n : ℕ) → chosenPlace t marks kept key n ≡ none
-      → chosenPlace t marks kept key (suc n)
+  chosen-more : (n : ℕ) → firstProven t marks kept key n ≡ none
+      → firstProven t marks kept key (suc n)
       ≡ cond (triedAt t kept key n) (cond (not (eqb (leaderAt t marks kept n (shelf t .servers)) 0)) (some (candidatesIn (shelf t) kept (suc n)))
       none) none
-  unfolding chosenPlace triedAt leaderAt
+  unfolding firstProven triedAt leaderAt
   chosen-more n h =
       found-more (proven real (shelf t) (marked marks) (repliesIn (shelf t) marks kept)) (λ c. eqb (rank (c .stamp)) key)
       (candidatesIn (shelf t) kept) n h
 
   -- the slot is passed
-  pub chosen-passed : (n : ℕ) (r : Group) → chosenPlace t marks kept key n ≡ none
+  pub chosen-passed : (n : ℕ) (r : Group) → firstProven t marks kept key n ≡ none
       → GroupAs t marks kept n (cond (triedAt t kept key n) (leaderAt t marks kept n (shelf t .servers)) 0) r → r .server ≡ 0
-      → chosenPlace t marks kept
+      → firstProven t marks kept
       key (n + 1) ≡ none
   chosen-passed n r h g e =
-      ap (chosenPlace t marks kept key) (add-one n) ∙ chosen-more n h ∙ go (triedAt t kept key n) (leaderAt t marks kept n (shelf t .servers))
+      ap (firstProven t marks kept key) (add-one n) ∙ chosen-more n h ∙ go (triedAt t kept key n) (leaderAt t marks kept n (shelf t .servers))
       (sym (g .server) ∙ e)
     where
       go : (b : Bool) (x : ℕ) → cond b x 0 ≡ 0 → cond b (cond (not (eqb x 0)) (some (candidatesIn (shelf t) kept (suc n))) none) none ≡ none
@@ -105,7 +105,7 @@ module _ (t : ℕ) (marks kept : List ℕ) (key : ℕ) where
       go false x q = refl
 
   -- the slot is the choice's
-  pub chosen-here : (n : ℕ) (r : Group) → n < shelf t .servers → chosenPlace t marks kept key n ≡ none
+  pub chosen-here : (n : ℕ) (r : Group) → n < shelf t .servers → firstProven t marks kept key n ≡ none
       → GroupAs t marks kept n (cond (triedAt t kept key n) (leaderAt t marks kept n (shelf t .servers)) 0) r → (r .server ≡ 0 → ⊥)
       → ChoiceAs t marks kept key (record { slot = n; server = r .server; servers = r .servers })
   chosen-here n r l h g k = record { nothing = λ e. absurd (k e); hit = λ b e. go b e (triedAt t kept key n) refl }
@@ -114,12 +114,12 @@ module _ (t : ℕ) (marks kept : List ℕ) (key : ℕ) where
       entering q = unfold triedAt in and-both (eqb (rank (candidatesIn (shelf t) kept (suc n) .stamp)) key)
           (enters (candidatesIn (shelf t) kept) (suc n)) q .1
 
-      later : (c : Candidate) → chosenPlace t marks kept key (suc n) ≡ some c → chosenPlace t marks kept key (shelf t .servers) ≡ some c
+      later : (c : Candidate) → firstProven t marks kept key (suc n) ≡ some c → firstProven t marks kept key (shelf t .servers) ≡ some c
       later c q =
           let e : suc n + (shelf t .servers - suc n) ≡ shelf t .servers = omega arith in
-          sym (ap (chosenPlace t marks kept key) e)
-          ∙ (unfold chosenPlace in found-kept (proven real (shelf t) (marked marks) (repliesIn (shelf t) marks kept)) (λ d. eqb (rank (d .stamp)) key)
-          (candidatesIn (shelf t) kept) c (suc n) (shelf t .servers - suc n) (unfold chosenPlace in q))
+          sym (ap (firstProven t marks kept key) e)
+          ∙ (unfold firstProven in found-kept (proven real (shelf t) (marked marks) (repliesIn (shelf t) marks kept)) (λ d. eqb (rank (d .stamp)) key)
+          (candidatesIn (shelf t) kept) c (suc n) (shelf t .servers - suc n) (unfold firstProven in q))
 
       go : (b : ℕ) → r .server ≡ suc b → (y : Bool) → triedAt t kept key n ≡ y → Hit t marks kept key
           (record { slot = n; server = r .server; servers = r .servers }) b

@@ -24,7 +24,7 @@ use Rattle.protocol.proofs.Room.{shelf-fits}
 use Rattle.decide.specs.declared.leading.Choice.{Choice}
 use Rattle.decide.specs.Decided.{slotOf, decisionAnswer, decidedOn, decideRefusal, decided}
 use Rattle.decide.specs.declared.Decision.the-variants as decisions
-use Rattle.decide.specs.Steps.{Usable, blankRank, serversOf, fitsAt, agreesAt, leadsAt, leaderAt, topAt, Full, membersAt, chosenPlace, Hit, contentOf, Rising}
+use Rattle.decide.specs.Steps.{Usable, blankRank, serversOf, fitsAt, agreesAt, leadsAt, leaderAt, topAt, Full, membersAt, firstProven, Hit, contentOf, Rising}
 use Rattle.decide.proofs.Contents.{restored-members}
 use Rattle.decide.proofs.Ranks.{candidate-writer, reply-writer}
 use Rattle.decide.proofs.Groups.{leader-full, leads-fits, leader-leads}
@@ -104,8 +104,8 @@ module _ (t : ℕ) (marks kept output : List ℕ) where
     -- the choice is what was looked for
     choice-is : blankRank < topAt t marks kept (shelf t .servers)
         → choice real (shelf t) (marked marks) (repliesIn (shelf t) marks kept) (gather (candidatesIn (shelf t) kept) (shelf t .servers))
-        ≡ chosenPlace t marks kept (topAt t marks kept (shelf t .servers)) (shelf t .servers)
-    unfolding topAt choice chosenPlace
+        ≡ firstProven t marks kept (topAt t marks kept (shelf t .servers)) (shelf t .servers)
+    unfolding topAt choice firstProven
     choice-is h =
         ap (first (proven real (shelf t) (marked marks) (repliesIn (shelf t) marks kept)))
         (highest-top (shelf t) (marked marks) (repliesIn (shelf t) marks kept) (candidatesIn (shelf t) kept) writers repliers h)
@@ -120,7 +120,7 @@ module _ (t : ℕ) (marks kept output : List ℕ) where
     by-choice (x ∷ xs) (some c) h y = refl
 
     chosen-on : blankRank < topAt t marks kept (shelf t .servers) → (o : Option Candidate)
-        → chosenPlace t marks kept (topAt t marks kept (shelf t .servers)) (shelf t .servers) ≡ o
+        → firstProven t marks kept (topAt t marks kept (shelf t .servers)) (shelf t .servers) ≡ o
         → decided t marks kept output
         ≡ decidedOn (shelf t) (marked marks) (repliesIn (shelf t) marks kept) (candidatesIn (shelf t) kept) output
         (candidatesIn (shelf t) kept 0 ∷ []) o
@@ -133,7 +133,7 @@ module _ (t : ℕ) (marks kept output : List ℕ) where
         ∙ ap (decidedOn (shelf t) (marked marks) (repliesIn (shelf t) marks kept) (candidatesIn (shelf t) kept) output
         (candidatesIn (shelf t) kept 0 ∷ [])) (choice-is h ∙ q)
 
-    pub decided-none : blankRank < topAt t marks kept (shelf t .servers) → chosenPlace t marks kept (topAt t marks kept (shelf t .servers))
+    pub decided-none : blankRank < topAt t marks kept (shelf t .servers) → firstProven t marks kept (topAt t marks kept (shelf t .servers))
         (shelf t .servers) ≡ none
         → decided t marks kept output ≡ record { answer = decisionAnswer decisions.Wait; output = output }
     unfolding decidedOn

@@ -141,8 +141,8 @@ unfoldable pub triedAt : ℕ → List ℕ → ℕ → ℕ → Bool
 triedAt t kept key i = eqb (rank (candidatesIn (shelf t) kept (suc i) .stamp)) key && enters (candidatesIn (shelf t) kept) (suc i)
 
 -- the first proven candidate of this rank among those of servers 1 to n
-unfoldable pub chosenPlace : ℕ → List ℕ → List ℕ → ℕ → ℕ → Option Candidate
-chosenPlace t marks kept key n =
+unfoldable pub firstProven : ℕ → List ℕ → List ℕ → ℕ → ℕ → Option Candidate
+firstProven t marks kept key n =
     first (proven real (shelf t) (marked marks) (repliesIn (shelf t) marks kept))
     (keep (λ c. eqb (rank (c .stamp)) key) (gather (candidatesIn (shelf t) kept) n))
 
@@ -150,12 +150,12 @@ chosenPlace t marks kept key n =
 pub record Hit (t : ℕ) (marks kept : List ℕ) (key : ℕ) (r : Choice) (b : ℕ) : Type 0 where
   pub slot : r .slot < shelf t .servers
   pub listed : enters (candidatesIn (shelf t) kept) (suc (r .slot)) ≡ true
-  pub chosen : chosenPlace t marks kept key (shelf t .servers) ≡ some (candidatesIn (shelf t) kept (suc (r .slot)))
+  pub chosen : firstProven t marks kept key (shelf t .servers) ≡ some (candidatesIn (shelf t) kept (suc (r .slot)))
   pub leader : leaderAt t marks kept (r .slot) (shelf t .servers) ≡ suc b
   pub members : take (shelf t .threshold) (r .servers) ≡ membersAt t marks kept (r .slot) b
 
 pub record ChoiceAs (t : ℕ) (marks kept : List ℕ) (key : ℕ) (r : Choice) : Type 0 where
-  pub nothing : r .server ≡ 0 → chosenPlace t marks kept key (shelf t .servers) ≡ none
+  pub nothing : r .server ≡ 0 → firstProven t marks kept key (shelf t .servers) ≡ none
   pub hit : (b : ℕ) → r .server ≡ suc b → Hit t marks kept key r b
 
 -- ---- restoring

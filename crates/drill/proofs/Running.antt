@@ -27,7 +27,7 @@ use Rattle.columns.proofs.Split.{lines-at, next-later, one-line-less}
 use Rattle.columns.proofs.Printed.{row-length}
 use Rattle.drill.specs.Sheet.{isStep, readLine, stepLine}
 use Rattle.drill.specs.Listing.{rowSize, stepRow, lastRow, rows}
-use Rattle.drill.specs.Steps.{State, Stepped, drillShelf, nonceFor, start, writeLine, stepOf, shown, roundOf}
+use Rattle.drill.specs.Steps.{State, Stepped, drillShelf, nonceFor, start, writeLine, stepOf, shown, roundShown}
 use Rattle.drill.specs.Area.{Stands}
 use Rattle.drill.specs.Moves.{StepsIn, RoundIn, RowIn, RowsAs}
 
@@ -48,7 +48,7 @@ row-in t k n l w v output at {printed} {k'} {round} {x} s r e =
     record {
       stands = s .stands;
       row = λ m st. e ∙ ap (λ (z : ℕ). put output at (stepRow n l z x)) (r .told t (stepOf (drillShelf t) m k l .state .machines) (s .stands m st))
-          ∙ ap (λ (z : Shown). put output at (stepRow n l (roundOf (stepOf (drillShelf t) m k l .state .machines) (l .client)) z)) (s .shows m st);
+          ∙ ap (λ (z : Shown). put output at (stepRow n l (roundShown (stepOf (drillShelf t) m k l .state .machines) (l .client)) z)) (s .shows m st);
       counts = s .counts;
     }
 
@@ -169,10 +169,10 @@ module _ (t : ℕ) (s d : List ℕ) (from : ℕ) where
           let m = g .state .machines in
           let x : Stepped = stepOf S m (g .state .begun) l in
           let x' : stepOf S m k l ≡ x = ap (λ (z : ℕ). stepOf S m z l) (g .begun) in
-          let b : List ℕ = stepRow n l (roundOf (x .state .machines) (l .client)) (shown (x .result)) in
+          let b : List ℕ = stepRow n l (roundShown (x .state .machines) (l .client)) (shown (x .result)) in
           let lb : length b ≡ rowSize = row-length (n ∷ l .verb ∷ l .client ∷ _ ∷ _ ∷ _ ∷ _ ∷ _ ∷ []) in
           let fb : f ≡ put e done b = r .row m (g .stands) ∙ ap (λ (z : Stepped). put e done
-          (stepRow n l (roundOf (z .state .machines) (l .client)) (shown (z .result)))) x' in
+          (stepRow n l (roundShown (z .state .machines) (l .client)) (shown (z .result)))) x' in
           let kn : k' ≡ x .state .begun = r .counts m (g .stands) ∙ ap (λ (z : Stepped). z .state .begun) x' in
           let few' = step-begun S m (g .state .begun) l in
           let num = line-number n (lineAt s at) l o in

@@ -20,7 +20,7 @@ use Rattle.server.specs.Blank.{blankLatest}
 use Rattle.drill.specs.declared.sheet.Line.{Line}
 use Rattle.drill.specs.declared.shown.Shown.{Shown}
 use Rattle.drill.specs.Sheet.{isStep}
-use Rattle.drill.specs.Steps.{drillShelf, writeLine, visitRefusal, visited, visitLine, blankLine, after, stepOf, shown, roundOf}
+use Rattle.drill.specs.Steps.{drillShelf, writeLine, visitRefusal, visited, visitLine, blankLine, after, stepOf, shown, roundShown}
 use Rattle.drill.specs.Area.{callIn, memoryIn, Stands, BlanksAs}
 use Rattle.drill.specs.Moves.{DoneIn, StepsIn, RefusesAs, RoundIn}
 use Rattle.drill.proofs.Memories.{server-put}
@@ -97,11 +97,11 @@ module _ (t : ℕ) (w : List ℕ) (b : ℕ) where
 
 module _ (w : List ℕ) (c : ℕ) where
   pub round-none : within 1 topClient c ≡ false → RoundIn w c 0
-  unfolding roundOf
+  unfolding roundShown
   round-none h = record { told = λ t m st. rw h }
 
   pub round-some : (1 ≤ c) × (c ≤ topClient) → {r : ℕ} → r ≡ callIn w c .tally .round → RoundIn w c r
-  unfolding roundOf
+  unfolding roundShown
   round-some hc {r} e = record { told = λ t m st. let k = inside 1 topClient c hc in rw k (e ∙ rw (st .calls c k)) }
 
 -- ---- the verb

@@ -17,7 +17,7 @@ use Rattle.runs.specs.Runs.{Shelf}
 use Rattle.drill.specs.declared.sheet.Line.{Line}
 use Rattle.drill.specs.declared.shown.Shown.{Shown}
 use Rattle.drill.specs.Sheet.{badLine, firstLine, stepLine}
-use Rattle.drill.specs.Steps.{State, drillShelf, start, stepOf, shown, roundOf}
+use Rattle.drill.specs.Steps.{State, drillShelf, start, stepOf, shown, roundShown}
 
 -- ---- rows. No number in them has more than eight digits: a sheet's numbers and lines end below 100,000,000
 
@@ -45,7 +45,7 @@ rows s n d [] = []
 rows s n d (x ∷ xs) =
     onLine (stepLine n x) (lastRow n (refusals + badLine))
     (λ l. let e = stepOf s (d .machines) (d .begun) l in
-    stepRow n l (roundOf (e .state .machines) (l .client)) (shown (e .result)) ++ rows s (suc n) (e .state) xs)
+    stepRow n l (roundShown (e .state .machines) (l .client)) (shown (e .result)) ++ rows s (suc n) (e .state) xs)
 
 -- a first line that is right but for its t gives 103, any other that is not right 117
 unfoldable pub listed : List Text → List ℕ

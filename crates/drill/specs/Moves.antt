@@ -11,7 +11,7 @@ use Rattle.format.specs.Reading.{over, put}
 use Rattle.runs.specs.Runs.{Machines, Done}
 use Rattle.drill.specs.declared.sheet.Line.{Line}
 use Rattle.drill.specs.declared.shown.Shown.{Shown}
-use Rattle.drill.specs.Steps.{Stepped, drillShelf, start, visitRefusal, stepOf, shown, roundOf}
+use Rattle.drill.specs.Steps.{Stepped, drillShelf, start, visitRefusal, stepOf, shown, roundShown}
 use Rattle.drill.specs.Listing.{stepRow, rows}
 use Rattle.drill.specs.Area.{Stands}
 
@@ -32,13 +32,13 @@ pub record RefusesAs (t : ℕ) (w : List ℕ) (client server number : ℕ) : Typ
 
 -- the round that a row shows
 pub record RoundIn (w : List ℕ) (client round : ℕ) : Type 0 where
-  pub told : (t : ℕ) (m : Machines) → Stands t w m → round ≡ roundOf m client
+  pub told : (t : ℕ) (m : Machines) → Stands t w m → round ≡ roundShown m client
 
 -- one line done and its row put at a place: whatever the parties hold, the area and the row are the definition's
 pub record RowIn (t k n : ℕ) (l : Line) (w after output : List ℕ) (at : ℕ) (printed : List ℕ) (begun : ℕ) : Type 0 where
   pub stands : (m : Machines) → Stands t w m → Stands t after (stepOf (drillShelf t) m k l .state .machines)
   pub row : (m : Machines) → Stands t w m
-      → printed ≡ put output at (stepRow n l (roundOf (stepOf (drillShelf t) m k l .state .machines) (l .client))
+      → printed ≡ put output at (stepRow n l (roundShown (stepOf (drillShelf t) m k l .state .machines) (l .client))
       (shown (stepOf (drillShelf t) m k l .result)))
   pub counts : (m : Machines) → Stands t w m → begun ≡ stepOf (drillShelf t) m k l .state .begun
 

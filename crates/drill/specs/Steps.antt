@@ -112,5 +112,5 @@ unfoldable pub shown : Result → Shown
 shown r = shownAs (told r .answer) (told r .content)
 
 -- the client's round, 0 where no client from 1 to 16 is named
-unfoldable pub roundOf : Machines → ℕ → ℕ
-roundOf w client = cond (within 1 topClient client) (w .client client .call .tally .round) 0
+unfoldable pub roundShown : Machines → ℕ → ℕ
+roundShown w client = cond (within 1 topClient client) (w .client client .call .tally .round) 0

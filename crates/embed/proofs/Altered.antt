@@ -15,7 +15,7 @@ use Rattle.cluster.specs.Config.{Config, shelf}
 use Rattle.cluster.specs.Ranges.{memorySize, capacity}
 use Rattle.cluster.specs.Refusals.{onRefusal}
 use Rattle.cluster.proofs.Tests.{untrue}
-use Rattle.format.specs.Format.{Bytes, keep, via, seq, byte, number4, orBlank, many}
+use Rattle.format.specs.Format.{Bytes, such, via, seq, byte, number4, orBlank, many}
 use Rattle.protocol.specs.Values.{Candidate, Write, rank, below, isSome, sameList}
 use Rattle.protocol.specs.Packet.{Packet, Body, stampF, candidateF, anyCandidateF, decode}
 use Rattle.protocol.specs.Packet.{clock, clockReply, store, storeReply, complete, completeReply}
@@ -97,11 +97,11 @@ rankIn d = rank (stampAt (drop latestPlace d))
 
 module _ (t b : ℕ) (v : Server) where
   count-there : countIn (encodeMemory (memoryOf t b v)) ≡ length (v .history)
-  unfolding encodeMemory memoryF keep via seq byte
+  unfolding encodeMemory memoryF such via seq byte
   count-there = refl
 
   rank-there : rankIn (encodeMemory (memoryOf t b v)) ≡ rank (v .latest .stamp)
-  unfolding encodeMemory memoryF keep via seq byte anyCandidateF orBlank candidateF stampF number4 stampAt
+  unfolding encodeMemory memoryF such via seq byte anyCandidateF orBlank candidateF stampF number4 stampAt
   rank-there = ap (λ (n : ℕ). 256 * n + v .latest .stamp .writer) (value4-print (v .latest .stamp .number))
 
 writer-small : (s : Config) (c : Candidate) → anyCandidateF s .Ok c → c .stamp .writer < 256

@@ -15,7 +15,7 @@ use Rattle.cluster.specs.Ranges.{topFaults, topLength, mostServers}
 use Rattle.cluster.specs.Refusals.{onRefusal}
 use Rattle.cluster.proofs.Tests.{refused-is}
 use Rattle.erasure.specs.declared.FragmentOutcome.{FragmentOutcome}
-use Rattle.erasure.specs.Fragments.{table, fragmentSize, column, fragment}
+use Rattle.erasure.specs.Fragments.{table, fragmentSize, across, fragment}
 use Rattle.erasure.specs.Steps.{fragmentRoom, fragmentRefusal, fragmentBytes, fragmentStep}
 use Rattle.erasure.specs.Lanes.{byteAt, valueFrom, plainOf}
 use Rattle.erasure.proofs.Lists.{take-is, small-of}
@@ -94,10 +94,10 @@ module _ (points : List ℕ) (k : ℕ) (content : List ℕ) where
   -- the value at a server's point, from the plain runs, is its fragment
   pub value-made : (starts : List ℕ) (server : ℕ) → ((j : ℕ) → j < k → getD starts j 0 ≡ j * f)
       → valueFrom k f points content starts (pointOf points server) ≡ fragment points k content server
-  unfolding fragment column
+  unfolding fragment across
   value-made starts server e =
       table-ext f (λ q. through bytes (take k points) (table k (byteAt content starts q)) (pointOf points server))
-      (λ q. through bytes (take k points) (column k content q) (pointOf points server))
+      (λ q. through bytes (take k points) (across k content q) (pointOf points server))
       (λ q h. ap (λ (u : List ℕ). through bytes (take k points) u (pointOf points server))
       (table-ext k (byteAt content starts q) (λ j. getD content (j * f + q) 0) (λ j b. ap (λ (x : ℕ). getD content (x + q) 0) (e j b))))
 

@@ -14,7 +14,7 @@ use Rattle.gf256.specs.Bytes.{bytes}
 use Rattle.gf256.proofs.Apart.{Distinct}
 use Rattle.gf256.proofs.Byte.{Small, restored-bytes, getD-small, through-value, the-one as one-through, there-is as one-exists}
 use Rattle.cluster.specs.Config.{pointOf, PointTable}
-use Rattle.erasure.specs.Fragments.{table, fragmentSize, column, fragment, Part, restored}
+use Rattle.erasure.specs.Fragments.{table, fragmentSize, across, fragment, Part, restored}
 use Rattle.erasure.proofs.Lists.{length-table, getD-table, getD-map, small-of, distinct-of, distinct-at}
 
 -- ---- the runs cover the content: a place m below n stands in one of the k runs
@@ -91,10 +91,10 @@ module _ (points : List ℕ) (k : ℕ) (content : List ℕ) (pt : PointTable poi
   lead : length (take k points) ≡ k
   lead = length-take-le k points kp
 
-  small-column : (q : ℕ) → Small (column k content q)
-  unfolding column
+  small-column : (q : ℕ) → Small (across k content q)
+  unfolding across
   small-column q =
-      small-of (column k content q)
+      small-of (across k content q)
       (λ j h. subst (λ (x : ℕ). x < 256) (sym (getD-table k _ j 0 (subst (λ (n : ℕ). j < n) (length-table k _) h))) (getD-small content small _))
 
   small-lead : Small (take k points)
@@ -109,8 +109,8 @@ module _ (points : List ℕ) (k : ℕ) (content : List ℕ) (pt : PointTable poi
       let hi : i < k = omega arith in
       pt .different i j (omega arith) (omega arith) (λ q. omega arith) (sym (getD-take k points i 0 hi) ∙ e ∙ getD-take k points j 0 hj))
 
-  length-column : (q : ℕ) → length (column k content q) ≡ length (take k points)
-  unfolding column
+  length-column : (q : ℕ) → length (across k content q) ≡ length (take k points)
+  unfolding across
   length-column q = length-table k _ ∙ sym lead
 
   -- the point of run j + 1
@@ -119,7 +119,7 @@ module _ (points : List ℕ) (k : ℕ) (content : List ℕ) (pt : PointTable poi
   lead-at j h = getD-take k points j 0 h ∙ ap (λ (x : ℕ). getD points x 0) (omega arith)
 
   values : (q : ℕ) → q < f → (xs : List ℕ)
-      → map (λ p. getD (p .bytes) q 0) (map (partOf points k content) xs) ≡ map (through bytes (take k points) (column k content q))
+      → map (λ p. getD (p .bytes) q 0) (map (partOf points k content) xs) ≡ map (through bytes (take k points) (across k content q))
       (map (pointOf points) xs)
   unfolding fragment
   values q h [] = refl
@@ -132,7 +132,7 @@ module _ (points : List ℕ) (k : ℕ) (content : List ℕ) (pt : PointTable poi
   -- the fragments of any k different servers, in any order; more than k of them do no harm
   pub restores : (servers : List ℕ) → Servers points servers → Distinct servers → k ≤ length servers
       → restored points k (length content) (map (partOf points k content) servers) ≡ content
-  unfolding restored column
+  unfolding restored across
   restores servers at d l = ext-getD 0 (restored points k n (map part servers)) content (restored-length points k n (map part servers))
       (λ m h.
       let b : m < n = subst (λ (x : ℕ). m < x) (restored-length points k n (map part servers)) h in
@@ -143,8 +143,8 @@ module _ (points : List ℕ) (k : ℕ) (content : List ℕ) (pt : PointTable poi
       ∙ ap₂ (λ (u v : List ℕ). through bytes u v (pointOf points (m / f + 1)))
       (ap (map (λ p. pointOf points (p .server))) (take-map part k servers) ∙ places first)
       (ap (map (λ p. getD (p .bytes) q 0)) (take-map part k servers) ∙ values q inside first)
-      ∙ ap (through bytes xs (map (through bytes (take k points) (column k content q)) xs)) (sym (lead-at (m / f) run))
-      ∙ restored-bytes (take k points) (column k content q) xs small-lead (small-column q) (points-small points first pt) (length-column q)
+      ∙ ap (through bytes xs (map (through bytes (take k points) (across k content q)) xs)) (sym (lead-at (m / f) run))
+      ∙ restored-bytes (take k points) (across k content q) xs small-lead (small-column q) (points-small points first pt) (length-column q)
       distinct-lead
       (length-map first (pointOf points) ∙ length-take-le k servers l ∙ sym lead) (points-of points first pt firstAt firstDistinct) (m / f)
       (subst (λ (x : ℕ). m / f < x) (sym lead) run)
@@ -181,14 +181,14 @@ module _ (points : List ℕ) (k : ℕ) (content : List ℕ) (pt : PointTable poi
 
   -- the fragment of a server from 1 to k is its run of the padded content
   pub plain : (j : ℕ) → j < k → fragment points k content (j + 1) ≡ table f (λ q. getD content (j * f + q) 0)
-  unfolding fragment column
+  unfolding fragment across
   plain j h =
       ext-getD 0 (fragment points k content (j + 1)) (table f (λ q. getD content (j * f + q) 0)) (length-table f _ ∙ sym (length-table f _))
       (λ q b.
       let inside : q < f = subst (λ (x : ℕ). q < x) (length-table f _) b in
       getD-table f _ q 0 inside
-      ∙ ap (through bytes (take k points) (column k content q)) (sym (lead-at j h))
-      ∙ through-value (take k points) (column k content q) small-lead (small-column q) (length-column q) distinct-lead j
+      ∙ ap (through bytes (take k points) (across k content q)) (sym (lead-at j h))
+      ∙ through-value (take k points) (across k content q) small-lead (small-column q) (length-column q) distinct-lead j
       (subst (λ (x : ℕ). j < x) (sym lead) h)
       ∙ getD-table k _ j 0 h ∙ sym (getD-table f _ q 0 inside))
 
@@ -196,12 +196,12 @@ module _ (points : List ℕ) (k : ℕ) (content : List ℕ) (pt : PointTable poi
   pub record Through (q : ℕ) (p : List ℕ) : Type 0 where
     pub degree : length p ≡ k
     pub byteful : Small p
-    pub passes : (j : ℕ) → j < k → eval bytes p (pointOf points (j + 1)) ≡ getD (column k content q) j 0
+    pub passes : (j : ℕ) → j < k → eval bytes p (pointOf points (j + 1)) ≡ getD (across k content q) j 0
 
   -- there is such a polynomial
   pub there-is : (q : ℕ) → (p : List ℕ) × Through q p
   there-is q =
-      let (p, l, s, e) = one-exists (take k points) (column k content q) small-lead (small-column q) in (
+      let (p, l, s, e) = one-exists (take k points) (across k content q) small-lead (small-column q) in (
         p,
         record {
           degree = l ∙ lead;
@@ -209,7 +209,7 @@ module _ (points : List ℕ) (k : ℕ) (content : List ℕ) (pt : PointTable poi
           passes = λ j h.
               let b : j < length (take k points) = subst (λ (x : ℕ). j < x) (sym lead) h in
               ap (eval bytes p) (sym (lead-at j h)) ∙ e (getD (take k points) j 0) (getD-small (take k points) small-lead j)
-              ∙ through-value (take k points) (column k content q) small-lead (small-column q) (length-column q) distinct-lead j b;
+              ∙ through-value (take k points) (across k content q) small-lead (small-column q) (length-column q) distinct-lead j b;
         },
       )
 
@@ -218,7 +218,7 @@ module _ (points : List ℕ) (k : ℕ) (content : List ℕ) (pt : PointTable poi
   unfolding fragment pointOf
   the-one q h p t i =
       getD-table f _ q 0 h
-      ∙ sym (one-through (take k points) (column k content q) p small-lead (small-column q) (t .byteful) (t .degree ∙ sym lead) (length-column q)
+      ∙ sym (one-through (take k points) (across k content q) p small-lead (small-column q) (t .byteful) (t .degree ∙ sym lead) (length-column q)
       distinct-lead
       (λ j b. let c : j < k = subst (λ (x : ℕ). j < x) lead b in ap (eval bytes p) (lead-at j c) ∙ t .passes j c) (pointOf points i)
       (pt .bytes (i - 1)))

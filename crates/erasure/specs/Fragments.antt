@@ -18,8 +18,8 @@ unfoldable pub fragmentSize : ℕ → ℕ → ℕ
 fragmentSize k n = (n + k - 1) / k
 
 -- the bytes of the k runs of f bytes at place q
-unfoldable pub column : ℕ → List ℕ → ℕ → List ℕ
-column k content q = table k (λ j. getD content (j * fragmentSize k (length content) + q) 0)
+unfoldable pub across : ℕ → List ℕ → ℕ → List ℕ
+across k content q = table k (λ j. getD content (j * fragmentSize k (length content) + q) 0)
 
 -- the value at the point z, from the runs of f bytes at the points xs: at each place, the value at z of the one polynomial of degree below
 -- their number that takes at these points the bytes of the runs there
@@ -28,7 +28,7 @@ valueOf xs z f there = table f (λ q. through bytes xs (there q) z)
 
 -- the fragment of a server: the value at its point, from the k runs of the content at the first k points
 unfoldable pub fragment : List ℕ → ℕ → List ℕ → ℕ → List ℕ
-fragment points k content server = valueOf (take k points) (pointOf points server) (fragmentSize k (length content)) (column k content)
+fragment points k content server = valueOf (take k points) (pointOf points server) (fragmentSize k (length content)) (across k content)
 
 -- a fragment, and the server that gave it
 pub record Part : Type 0 where

@@ -12,7 +12,7 @@ use borrow.Author.Tests.{ltb-true, leb-true}
 use Rattle.cluster.specs.Config.{Config, shelf}
 use Rattle.cluster.specs.Ranges.{topNumber}
 use Rattle.protocol.specs.declared.Stamp.{Stamp}
-use Rattle.format.specs.Format.{Bytes, byte, number2, number4, run, seq, via, keep, orBlank, many, optional, printMany, print4}
+use Rattle.format.specs.Format.{Bytes, byte, number2, number4, run, seq, via, such, orBlank, many, optional, printMany, print4}
 use Rattle.protocol.specs.Values.{Candidate, Share, Held, runOf}
 use Rattle.protocol.specs.Packet.{Body, Packet, stampF, anyStampF, shareF, writeF, candidateF, anyCandidateF, candidatesF, heldF, codeF, printBody}
 use Rattle.protocol.specs.Packet.{bodyF, headF, packetF, encode}
@@ -123,7 +123,7 @@ module _ (s : Config) where
   held-bytes h (full {a} {g} b k) = row (stamp-bytes a b) (next {x = 1} (omega arith) (share-bytes g k))
 
   body-bytes : (x : Body) → BodyBytes x → Byted (printBody s x)
-  unfolding anyStampF orBlank anyCandidateF writeF candidatesF codeF keep via seq byte many
+  unfolding anyStampF orBlank anyCandidateF writeF candidatesF codeF such via seq byte many
   body-bytes clock h = done
   body-bytes (clockReply a) h = stamp-bytes a h
   body-bytes (store w) h = row (stamp-bytes (w .stamp) (h .0)) (share-bytes (w .share) (h .1))
@@ -148,7 +148,7 @@ pub record PacketBytes (p : Packet) : Type 0 where
   pub body : BodyBytes (p .body)
 
 pub packet-bytes : (p : Packet) → PacketBytes p → Bytes (encode p)
-unfolding encode packetF headF bodyF via seq keep byte number4
+unfolding encode packetF headF bodyF via seq such byte number4
 packet-bytes p h =
     bytes-of (next (h .kind) (next (h .client) (next (h .server) (next (h .t)
     (row (number-bytes (p .head .call) (h .call)) (body-bytes (shelf (p .head .t)) (p .body) (h .body)))))))

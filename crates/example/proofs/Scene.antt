@@ -12,7 +12,7 @@ use lib.ListN.{length, replicate, getD, getD-replicate}
 use borrow.Author.Tests.{eqb-true}
 use Rattle.cluster.specs.Config.{shelf, upTo, pointOf}
 use Rattle.hmac.specs.Hmac.{tagSize}
-use Rattle.erasure.specs.Fragments.{fragment, table, fragmentSize, column}
+use Rattle.erasure.specs.Fragments.{fragment, table, fragmentSize, across}
 use Rattle.erasure.proofs.Lists.{table-is}
 use Rattle.gf256.specs.Gf.{xtime, timesBits, times, power, inverse, product}
 use Rattle.gf256.specs.Bytes.{bytes}
@@ -71,8 +71,8 @@ unfolding content1 nonce1
 twice = refl
 
 -- at every place the line through two equal bytes has that byte everywhere
-column-is : (q : ℕ) → q < 32 → column 2 content1 q ≡ 42 ∷ 42 ∷ []
-unfolding column table content1 fragmentSize
+column-is : (q : ℕ) → q < 32 → across 2 content1 q ≡ 42 ∷ 42 ∷ []
+unfolding across table content1 fragmentSize
 column-is q h = λ i. getD-replicate 64 (0 * 32 + q) 42 0 (omega arith) i ∷ getD-replicate 64 (1 * 32 + q) 42 0 (omega arith) i ∷ []
 
 -- so each fragment is the nonce

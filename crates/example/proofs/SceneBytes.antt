@@ -12,7 +12,7 @@ use Rattle.cluster.specs.Config.{shelf}
 use Rattle.hmac.specs.Hmac.{tagSize}
 use Rattle.erasure.specs.Fragments.{fragment}
 use Rattle.protocol.specs.declared.Stamp.{Stamp}
-use Rattle.format.specs.Format.{byte, number4, run, seq, via, keep, orBlank, many}
+use Rattle.format.specs.Format.{byte, number4, run, seq, via, such, orBlank, many}
 use Rattle.protocol.specs.Values.{nonceSize}
 use Rattle.protocol.specs.Packet.{Packet, PacketOk, stampF, anyStampF, candidateF, anyCandidateF, candidatesF, bodyF, headF, packetF, filter}
 use Rattle.protocol.specs.Primitives.{stampMessage, candidateMessage}
@@ -124,7 +124,7 @@ module _ (H : Hashing) where
   wild-bytes = packet-of wildPacket refl (omega arith, (made-up-bytes, tt))
 
   pub wild-ok : PacketOk wildPacket
-  unfolding PacketOk packetF headF bodyF candidatesF candidateF stampF via seq keep many number4 byte run wildPacket madeUp shelf nonce3
+  unfolding PacketOk packetF headF bodyF candidatesF candidateF stampF via seq such many number4 byte run wildPacket madeUp shelf nonce3
   wild-ok = (
     (
       refl,

@@ -94,7 +94,8 @@ module _ (H : Hashing) where
 
     answer-digests : digestedIn H (now (s H) (serves-it H b request (k .inside) (packet-bytes request (k .ask-bytes)) ∷ makes-it H c b ∷ xs))
         (take-reply c lent (encode reply) contentBuffer) ≡ cond (accepted (t .result))
-        (flatMap (digestsWith (s H)) (stampedFrom c (w .client c .hand) (t .client .hand)) ++ compared (s H) (w .client c) (w .client c .hand) reply) []
+        (flatMap (digestsWith (s H)) (stampedFrom c (w .client c .hand) (t .client .hand))
+        ++ compared (s H) (w .client c) (w .client c .hand) reply) []
     answer-digests =
         ap (λ (u : World). digestedIn H u (take-reply c lent (encode reply) contentBuffer)) answer-here
         ∙ take-digests H (served H w b v) c lent reply t (takes H w c b lent v r t k two xs cs p)

@@ -8,7 +8,7 @@ use mathlib.Core.List.{[], _∷_}
 use Prim.Native.Nat.{ℕ}
 use native.Mathlib.Omega.{arith}
 use Rattle.cluster.specs.Config.{shelf, quorum}
-use Rattle.format.specs.Format.{byte, keep as keepF}
+use Rattle.format.specs.Format.{byte, such}
 use Rattle.protocol.specs.Values.{blankStamp, blankCandidate, isBlank, below}
 use Rattle.protocol.specs.Packet.{clockReply, storeReply, completeReply, codeF}
 use Rattle.protocol.specs.Memory.{lookup}
@@ -118,7 +118,7 @@ module _ (H : Hashing) where
   pub writes : Writes
   unfolding w0 w1 w2 w3 w4 w5 w6 w7 w8 w9 upd nobody begun shelf quorum awaits isIdle
       made makeRefusal takeRefusal serverRefusal barred act onStore lookup raise below turnOn highAt update tooHigh isFull countTo higher checks
-      isBlank onto replyTo prepared cand candidateMade stampOf sharesMade share highStamp codeF keepF byte
+      isBlank onto replyTo prepared cand candidateMade stampOf sharesMade share highStamp codeF such byte
   writes =
       record {
         clock-1 = lie-of H w1 1 ours _ _ refl (λ own. (refl, refl)) (high-ok H) (high-bytes H)

@@ -110,7 +110,8 @@ module _ (H : Hashing) where
       pub play-answered : Play H two (serves-it H b asked (k .inside) (packet-bytes asked (k .ask-bytes)) ∷ makes-it H c b ∷ xs) (served H w b v) cs →
           All (λ kb. Made H kb xs) (clientChecks (s H) (w .client c .hand) r) →
           All (λ u. u ≡ nonce1)
-          (flatMap (digestsWith (s H)) (stampedFrom c (w .client c .hand) (t .client .hand)) ++ compared (s H) (w .client c)
+          (flatMap (digestsWith (s H)) (stampedFrom c (w .client c .hand) (t .client .hand))
+          ++ compared (s H) (w .client c)
           (w .client c .hand) answered) →
           Play H two (exchanged xs) (took H (served H w b v) c t) (followed H w c t (suc (suc (length xs))) cs)
       unfolding Ever replyTo made takes
@@ -123,7 +124,8 @@ module _ (H : Hashing) where
         Timely H (makes-it H c b ∷ xs) (map (λ d. d .nonce) (offered (asked .body))) →
         All (λ kb. Made H kb xs) (clientChecks (s H) (w .client c .hand) r) →
         All (λ u. u ≡ nonce1)
-        (flatMap (digestsWith (s H)) (stampedFrom c (w .client c .hand) (t .client .hand)) ++ compared (s H) (w .client c) (w .client c .hand) answered)
+        (flatMap (digestsWith (s H)) (stampedFrom c (w .client c .hand) (t .client .hand))
+        ++ compared (s H) (w .client c) (w .client c .hand) answered)
         →
         Play H two (exchanged xs) (took H (served H w b v) c t) (followed H w c t (suc (suc (length xs))) cs)
     play-exchange two xs cs p served-tags served-digests timely taken-tags taken-digests =

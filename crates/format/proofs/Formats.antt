@@ -11,7 +11,7 @@ use lib.Seq.{take-at, drop-at, length-take-le}
 use lib.Dec.{leb}
 use borrow.Author.Tests.{le-leb, leb-true}
 use Rattle.format.specs.Format.{Fmt, Lawful, Bytes, guard, andThen, parseByte, parse2, parse4, value2, value4, print2, print4}
-use Rattle.format.specs.Format.{empty, byte, number2, number4, run, seq, via, keep}
+use Rattle.format.specs.Format.{empty, byte, number2, number4, run, seq, via, such}
 use Rattle.format.proofs.Answers.{guard-some, ranged-some, no-some, same-value, same-rest, andThen-some, bytes-rest}
 
 -- ---- one byte from lo to hi
@@ -185,8 +185,8 @@ via-law {A} {B} to from F tf ft f =
 
 -- ---- values that pass a test
 
-pub keep-law : {A : Type 0} (test : A → Bool) (F : Fmt A) → Lawful F → Lawful (keep test F)
-unfolding keep
+pub keep-law : {A : Type 0} (test : A → Bool) (F : Fmt A) → Lawful F → Lawful (such test F)
+unfolding such
 keep-law {A} test F f =
     record {
       made = λ x r h. rw (f .made x r (h .1)) (rw (h .0));

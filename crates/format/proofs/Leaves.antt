@@ -10,7 +10,7 @@ use native.Mathlib.Omega.{arith}
 use lib.ListN.{length, take, drop, length-drop}
 use lib.Seq.{drop-drop}
 use borrow.Author.Tests.{le-leb, lt-leb}
-use Rattle.format.specs.Format.{Fmt, zeros, byte, seq, via, keep, orBlank, many, optional}
+use Rattle.format.specs.Format.{Fmt, zeros, byte, seq, via, such, orBlank, many, optional}
 use Rattle.format.specs.Reading.{Leaves, Stops}
 
 module _ {A B : Type 0} (F : Fmt A) (G : A → Fmt B) {s : List ℕ} {at : ℕ} where
@@ -36,16 +36,16 @@ module _ {A B : Type 0} (to : A → B) (from : B → A) (F : Fmt A) {s : List �
   stops-via f = record { stopped = rw (f .stopped) }
 
 module _ {A : Type 0} (test : A → Bool) (F : Fmt A) {s : List ℕ} {at : ℕ} where
-  pub leaves-keep : {a : A} {k : ℕ} → Leaves F s at a k → test a ≡ true → Leaves (keep test F) s at a k
-  unfolding keep
+  pub leaves-keep : {a : A} {k : ℕ} → Leaves F s at a k → test a ≡ true → Leaves (such test F) s at a k
+  unfolding such
   leaves-keep f t = record { parsed = rw (f .parsed, t); within = f .within; ok = (t, f .ok) }
 
-  pub stops-kept : Stops F s at → Stops (keep test F) s at
-  unfolding keep
+  pub stops-kept : Stops F s at → Stops (such test F) s at
+  unfolding such
   stops-kept f = record { stopped = rw (f .stopped) }
 
-  pub stops-test : {a : A} {k : ℕ} → Leaves F s at a k → test a ≡ false → Stops (keep test F) s at
-  unfolding keep
+  pub stops-test : {a : A} {k : ℕ} → Leaves F s at a k → test a ≡ false → Stops (such test F) s at
+  unfolding such
   stops-test f t = record { stopped = rw (f .parsed, t) }
 
 module _ {A : Type 0} (n : ℕ) (blank : A) (F : Fmt A) {s : List ℕ} {at : ℕ} where

@@ -119,8 +119,8 @@ via to from F =
 
 -- ---- values that pass a test
 
-unfoldable pub keep : {A : Type 0} → (A → Bool) → Fmt A → Fmt A
-keep test F =
+unfoldable pub such : {A : Type 0} → (A → Bool) → Fmt A → Fmt A
+such test F =
     record {
       Ok = λ x. (test x ≡ true) × (F .Ok x);
       print = F .print;

@@ -13,7 +13,7 @@ use borrow.Author.Tests.{ne-eqb, leb-false}
 use Rattle.cluster.specs.Config.{Config}
 use Rattle.cluster.specs.Ranges.{capacity}
 use Rattle.protocol.specs.declared.Stamp.{Stamp}
-use Rattle.format.specs.Format.{All, via, seq, keep, orBlank, many, optional, number4, byte}
+use Rattle.format.specs.Format.{All, via, seq, such, orBlank, many, optional, number4, byte}
 use Rattle.protocol.specs.Values.{Candidate, Share, Write, below, sameStamp, isSome, blankCandidate}
 use Rattle.protocol.specs.Packet.{Body, BodyOk, stampF, anyStampF, writeF, shareF, candidateF, anyCandidateF, candidatesF, heldF, heldMost, codeF}
 use Rattle.protocol.specs.Packet.{clock, clockReply, store, storeReply, complete, completeReply, collect, collectReply, filter, filterReply, repair, repairReply}
@@ -137,7 +137,7 @@ module _ (P : Primitives) (s : Config) (key : List ℕ) (b : ℕ) (v : Server) (
     pub reply : BodyOk s (a .reply)
 
   code-ok : (n : ℕ) → (eqb n 0 || leb 10 n) ≡ true → n ≤ 11 → codeF .Ok n
-  unfolding codeF keep byte
+  unfolding codeF such byte
   code-ok n e h = (e, (omega arith, h))
 
   pub act-ok : (x : Body) → BodyOk s x → Right (act P s key b v x)

@@ -8,7 +8,7 @@ use Prim.Native.Nat.{ℕ}
 use lib.Dec.{eqb}
 use borrow.Author.Tests.{eqb-true}
 use Rattle.cluster.specs.Config.{Config, shelf}
-use Rattle.format.specs.Format.{Fmt, Lawful, Bytes, andThen, whole, empty, seq, via, keep, byte}
+use Rattle.format.specs.Format.{Fmt, Lawful, Bytes, andThen, whole, empty, seq, via, such, byte}
 use Rattle.protocol.specs.Packet.{Body, Packet, kindOf, printBody, parseBody, BodyOk, bodyF, headF, packetF, decode, encode, PacketOk}
 use Rattle.protocol.specs.Packet.{anyStampF, writeF, codeF, candidateF, anyCandidateF, candidatesF, heldF}
 use Rattle.protocol.specs.Packet.{clock, clockReply, store, storeReply, complete, completeReply, collect, collectReply, filter, filterReply, repair, repairReply}
@@ -160,7 +160,7 @@ unfolding decode PacketOk
 decode-ok b p e = packet-law .fits b p [] (whole-some (packetF .parse b) p e)
 
 pub decode-nothing : decode [] ≡ none
-unfolding decode packetF headF keep via seq byte
+unfolding decode packetF headF such via seq byte
 decode-nothing = refl
 
 pub body-ok : (p : Packet) → PacketOk p → BodyOk (shelf (p .head .t)) (p .body)

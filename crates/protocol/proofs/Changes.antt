@@ -8,7 +8,7 @@ use lib.ListN.{length, drop, set, replicate, length-append, length-replicate, re
 use lib.Seq.{take-at, drop-at, drop-append-add}
 use Rattle.cluster.specs.Config.{Config, shelf}
 use Rattle.cluster.specs.Ranges.{memorySize}
-use Rattle.format.specs.Format.{Fmt, printMany, byte, number4, run, seq, via, keep, orBlank, many}
+use Rattle.format.specs.Format.{Fmt, printMany, byte, number4, run, seq, via, such, orBlank, many}
 use Rattle.protocol.specs.Values.{Candidate, Write, blankCandidate, stampSize, nonceSize, tagsSize, candidateSize}
 use Rattle.protocol.specs.Packet.{stampF, writeF, candidateF, anyCandidateF}
 use Rattle.protocol.specs.Memory.{Memory, memoryF, encodeMemory, blankMemory}
@@ -42,7 +42,7 @@ put-zeros p b n h =
 
 pub append-bytes : (m : Memory) (w : Write) → length (memoryF .print m) + length (writeF (shelf (m .t)) .print w) ≤ memorySize
     → put (set (encodeMemory m) 2 (length (m .writes) + 1)) (length (memoryF .print m)) (writeF (shelf (m .t)) .print w) ≡ encodeMemory (added m w)
-unfolding encodeMemory memoryF keep via seq byte many
+unfolding encodeMemory memoryF such via seq byte many
 append-bytes m w h =
     let F : Fmt Write = writeF (shelf (m .t)) in
     let W : List ℕ = printMany F (m .writes) in
@@ -75,7 +75,7 @@ put-same p a b q e =
 pub latest-bytes : (m : Memory) (c : Candidate)
     → length (anyCandidateF (shelf (m .t)) .print (m .latest)) ≡ length (anyCandidateF (shelf (m .t)) .print c)
     → put (encodeMemory m) 3 (anyCandidateF (shelf (m .t)) .print c) ≡ encodeMemory (raised m c)
-unfolding encodeMemory memoryF keep via seq byte many
+unfolding encodeMemory memoryF such via seq byte many
 latest-bytes m c e =
     let W : List ℕ = printMany (writeF (shelf (m .t))) (m .writes) in
     let A : List ℕ = anyCandidateF (shelf (m .t)) .print (m .latest) in
@@ -107,7 +107,7 @@ abbrev pub blankRest : ℕ
 blankRest = memorySize - 2
 
 pub blank-bytes : (t b : ℕ) → candidateSize (shelf t) < blankRest → encodeMemory (blankMemory t b) ≡ t ∷ b ∷ noughts blankRest
-unfolding encodeMemory memoryF keep via seq byte many
+unfolding encodeMemory memoryF such via seq byte many
 blank-bytes t b h =
     let L : List ℕ = anyCandidateF (shelf t) .print (blankCandidate (shelf t)) in
     let l : L ++ [] ≡ noughts (candidateSize (shelf t)) = append-nil L ∙ blank-print (shelf t) in

@@ -9,7 +9,7 @@ use native.Mathlib.Omega.{arith}
 use lib.ListN.{length, length-append}
 use Rattle.cluster.specs.Config.{Config, shelf}
 use Rattle.protocol.specs.declared.Stamp.{Stamp}
-use Rattle.format.specs.Format.{All, printMany, via, seq, keep, byte, orBlank, many, optional}
+use Rattle.format.specs.Format.{All, printMany, via, seq, such, byte, orBlank, many, optional}
 use Rattle.protocol.specs.Values.{Candidate, Share, Held, stampSize, candidateSize}
 use Rattle.protocol.specs.Packet.{Body, BodyOk, Packet, PacketOk, printBody, packetF, headF, bodyF, headSize, shareSize, encode, stampF, anyStampF, shareF, codeF, candidateF, candidatesF, heldF, heldMost}
 use Rattle.protocol.specs.Packet.{clock, clockReply, store, storeReply, complete, completeReply, collect, collectReply, filter, filterReply, repair, repairReply}
@@ -42,7 +42,7 @@ any-stamp-length : (a : Stamp) → anyStampF .Ok a → length (anyStampF .print 
 any-stamp-length a h = unfold anyStampF orBlank in stamp-length a (any-stamp-tag a h)
 
 code-length : (n : ℕ) → length (codeF .print n) ≡ 1
-unfolding codeF keep byte
+unfolding codeF such byte
 code-length n = refl
 
 module _ (s : Config) where

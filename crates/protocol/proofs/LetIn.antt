@@ -12,7 +12,7 @@ use Rattle.cluster.specs.Config.{Config, shelf}
 use Rattle.cluster.specs.Ranges.{within, topWriter, topClient, topNumber, leastLength, topLength}
 use Rattle.cluster.proofs.Tests.{untrue, and-both, or-none, and-rest, within-in, within-bounds, inside, passes}
 use Rattle.protocol.specs.declared.Call.{Call}
-use Rattle.format.specs.Format.{via, seq, keep, byte}
+use Rattle.format.specs.Format.{via, seq, such, byte}
 use Rattle.protocol.specs.Packet.{Body, Packet, PacketOk, packetF, headF, kindOf}
 use Rattle.protocol.specs.Primitives.{Primitives}
 use Rattle.protocol.specs.Rules.{ByServer}
@@ -104,7 +104,7 @@ high-is P writers s (suc (suc (suc (suc (suc (suc (suc n))))))) c kept x full =
 
 -- a packet's server is one of its shelf
 pub server-range : (p : Packet) → PacketOk p → (1 ≤ p .head .server) × (p .head .server ≤ shelf (p .head .t) .servers)
-unfolding PacketOk packetF headF keep via seq byte
+unfolding PacketOk packetF headF such via seq byte
 server-range p h = (h .0 .1 .1 .1 .0 .0, leb-true _ _ (h .0 .0))
 
 pub shelf-t : (t : ℕ) → shelf t .t ≡ t

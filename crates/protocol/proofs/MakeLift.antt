@@ -6,7 +6,7 @@ use native.Mathlib.Omega.{arith}
 use borrow.Author.Tests.{le-leb}
 use Rattle.cluster.specs.Config.{Config, shelf}
 use Rattle.cluster.specs.Ranges.{topFaults, topClient, topNumber}
-use Rattle.format.specs.Format.{via, seq, keep, byte, number4, many}
+use Rattle.format.specs.Format.{via, seq, such, byte, number4, many}
 use Rattle.protocol.specs.Packet.{Body, BodyOk, PacketOk, packetF, headF, bodyF, candidateF, candidatesF, writeF}
 use Rattle.protocol.specs.Client.{Client, Hand, idle, clocking, storing, completing, collecting, filtering, repairing, request, made}
 use Rattle.protocol.proofs.Room.{Fitting}
@@ -25,7 +25,7 @@ request-ok s c (repairing d r) b lo hi h = h .0
 
 pub made-ok : (t c : ℕ) (cl : Client) (b : ℕ) → (1 ≤ t) × (t ≤ topFaults) → Fitting (shelf t) → (1 ≤ c) × (c ≤ topClient)
     → (1 ≤ b) × (b ≤ shelf t .servers) → (1 ≤ cl .calls) × (cl .calls ≤ topNumber) → HandOk (shelf t) c (cl .hand) → PacketOk (made t c cl b)
-unfolding PacketOk packetF headF keep via seq bodyF byte number4 made
+unfolding PacketOk packetF headF such via seq bodyF byte number4 made
 made-ok t c cl b tr f cr br nr h =
     let x : Body = request (cl .hand) b in (
       (le-leb b (shelf t .servers) (br .1), (kind-range x, (cr, ((br .0, omega (arith, br .1, f .few)), (tr, nr))))),

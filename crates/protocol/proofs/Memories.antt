@@ -12,7 +12,7 @@ use lib.Dec.{eqb}
 use borrow.Author.Tests.{eq-eqb, ne-eqb, eqb-true}
 use Rattle.cluster.specs.Config.{Config, shelf}
 use Rattle.cluster.specs.Ranges.{topFaults, memorySize, capacity}
-use Rattle.format.specs.Format.{Lawful, Bytes, All, zeros, printMany, byte, seq, via, keep, many}
+use Rattle.format.specs.Format.{Lawful, Bytes, All, zeros, printMany, byte, seq, via, such, many}
 use Rattle.protocol.specs.Values.{Write, stampSize, candidateSize}
 use Rattle.protocol.specs.Packet.{writeF, anyCandidateF, shareSize}
 use Rattle.protocol.specs.Memory.{Memory, distinct, memoryF, zeroTail, decodeMemory, encodeMemory, MemoryOk}
@@ -43,13 +43,13 @@ pub record Fields (m : Memory) : Type 0 where
   pub once : distinct (m .writes) ≡ true
 
 pub fields : (m : Memory) → MemoryOk m → Fields m
-unfolding MemoryOk memoryF keep via seq byte many
+unfolding MemoryOk memoryF such via seq byte many
 fields m h =
     let g = h .1 in
     record { t-range = g .0; server-range = g .1 .0; few = g .1 .1 .0 .1; latest = g .1 .1 .1 .0; writes = g .1 .1 .1 .1 .1; once = h .0 }
 
 pub of-fields : (m : Memory) → Fields m → MemoryOk m
-unfolding MemoryOk memoryF keep via seq byte many
+unfolding MemoryOk memoryF such via seq byte many
 of-fields m f =
     let z : 0 ≤ length (m .writes) = omega arith in
     (f .once, (f .t-range, (f .server-range, ((z, f .few), (f .latest, (refl, f .writes))))))
@@ -58,7 +58,7 @@ of-fields m f =
 
 print-length : (m : Memory) → length (memoryF .print m)
     ≡ 3 + (length (anyCandidateF (shelf (m .t)) .print (m .latest)) + length (printMany (writeF (shelf (m .t))) (m .writes)))
-unfolding memoryF keep via seq byte many
+unfolding memoryF such via seq byte many
 print-length m =
     omega (arith, length-append (anyCandidateF (shelf (m .t)) .print (m .latest)) (printMany (writeF (shelf (m .t))) (m .writes)))
 

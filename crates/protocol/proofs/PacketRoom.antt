@@ -8,7 +8,7 @@ use lib.Dec.{lit≤}
 use lib.ListN.{length}
 use Rattle.cluster.specs.Config.{Config, shelf}
 use Rattle.cluster.specs.Ranges.{topFaults, mostServers, packetRoom}
-use Rattle.format.specs.Format.{via, seq, keep, byte}
+use Rattle.format.specs.Format.{via, seq, such, byte}
 use Rattle.protocol.specs.Values.{Candidate, candidateSize}
 use Rattle.protocol.specs.Packet.{Body, BodyOk, Packet, PacketOk, printBody, packetF, headF, encode, candidatesF}
 use Rattle.protocol.specs.Packet.{clock, clockReply, store, storeReply, complete, completeReply, collect, collectReply, filter, filterReply, repair, repairReply}
@@ -49,7 +49,7 @@ module _ (s : Config) (f : Fitting s) where
   body-room repairReply h = lit≤ tt
 
 head-t : (p : Packet) → PacketOk p → (1 ≤ p .head .t) × (p .head .t ≤ topFaults)
-unfolding PacketOk packetF headF keep via seq byte
+unfolding PacketOk packetF headF such via seq byte
 head-t p h = h .0 .1 .1 .1 .1 .0
 
 pub packet-room : (p : Packet) → PacketOk p → length (encode p) ≤ packetRoom

@@ -13,7 +13,7 @@ use Rattle.hmac.specs.Hmac.{tagSize}
 use Rattle.erasure.specs.Fragments.{fragmentSize}
 use Rattle.protocol.specs.declared.Stamp.{Stamp}
 use Rattle.protocol.specs.declared.Head.{Head}
-use Rattle.format.specs.Format.{Lawful, byte, number2, number4, run, seq, via, keep, orBlank, many}
+use Rattle.format.specs.Format.{Lawful, byte, number2, number4, run, seq, via, such, orBlank, many}
 use Rattle.protocol.specs.Values.{Candidate, Share, Write, blankStamp, blankCandidate, digestSize, nonceSize, stampSize, digestsSize, tagsSize, candidateSize}
 use Rattle.protocol.specs.Packet.{stampF, anyStampF, shareF, writeF, candidateF, anyCandidateF, candidatesF, heldMost, heldF, codeF, headF, headSize, shareSize}
 use Rattle.format.proofs.Formats.{byte-law, number2-law, number4-law, run-law, seq-law, via-law, keep-law}
@@ -93,7 +93,7 @@ head-law =
 -- ---- how many bytes each takes
 
 pub head-length : (h : Head) → length (headF .print h) ≡ headSize
-unfolding headF keep via seq byte number4
+unfolding headF such via seq byte number4
 head-length h = refl
 
 pub stamp-length : (a : Stamp) → length (a .tag) ≡ tagSize → length (stampF .print a) ≡ stampSize

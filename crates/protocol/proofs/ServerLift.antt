@@ -14,7 +14,7 @@ use Rattle.cluster.specs.Config.{Config, shelf}
 use Rattle.cluster.specs.Ranges.{topFaults, memorySize, packetRoom}
 use Rattle.cluster.specs.Refusals.{onRefusal}
 use Rattle.cluster.proofs.Tests.{and-both}
-use Rattle.format.specs.Format.{via, seq, keep, byte}
+use Rattle.format.specs.Format.{via, seq, such, byte}
 use Rattle.protocol.specs.Packet.{Packet, Body, BodyOk, PacketOk, packetF, headF, bodyF, kindOf, decode, encode}
 use Rattle.protocol.specs.Packet.{clock, clockReply, store, storeReply, complete, completeReply, collect, collectReply, filter, filterReply, repair, repairReply}
 use Rattle.protocol.specs.Memory.{Memory, MemoryOk, decodeMemory, encodeMemory, blankMemory}
@@ -81,7 +81,7 @@ kind-range (repair x) = (lit≤ tt, lit≤ tt)
 kind-range repairReply = (lit≤ tt, lit≤ tt)
 
 pub reply-ok : (p : Packet) (x : Body) → PacketOk p → BodyOk (shelf (p .head .t)) x → PacketOk (replyTo p x)
-unfolding PacketOk packetF replyTo headF keep via seq bodyF byte
+unfolding PacketOk packetF replyTo headF such via seq bodyF byte
 reply-ok p x h k = ((h .0 .0, (kind-range x, h .0 .1 .1)), (refl, k))
 
 -- ---- the operation

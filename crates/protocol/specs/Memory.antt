@@ -8,7 +8,7 @@ use lib.Dec.{eqb}
 use Rattle.cluster.specs.Config.{shelf}
 use Rattle.cluster.specs.Ranges.{topFaults, memorySize, capacity}
 use Rattle.protocol.specs.declared.Stamp.{Stamp}
-use Rattle.format.specs.Format.{Fmt, guard, zeros, byte, seq, via, keep, many}
+use Rattle.format.specs.Format.{Fmt, guard, zeros, byte, seq, via, such, many}
 use Rattle.protocol.specs.Values.{Candidate, Share, Write, sameStamp, isSome, blankCandidate}
 use Rattle.protocol.specs.Packet.{writeF, anyCandidateF}
 
@@ -35,7 +35,7 @@ distinct ws = freshAfter [] ws
 -- t, server, count of stored writes, latest candidate, the stored writes in order of arrival
 unfoldable pub memoryF : Fmt Memory
 memoryF =
-    keep (λ m. distinct (m .writes))
+    such (λ m. distinct (m .writes))
     (via (λ x. record { t = x .0; server = x .1 .0; latest = x .1 .1 .1 .0; writes = x .1 .1 .1 .1 })
     (λ m. (m .t, (m .server, (length (m .writes), (m .latest, m .writes)))))
     (seq (byte 1 topFaults)

@@ -13,7 +13,7 @@ use Rattle.hmac.specs.Hmac.{tagSize}
 use Rattle.erasure.specs.Fragments.{fragmentSize}
 use Rattle.protocol.specs.declared.Stamp.{Stamp}
 use Rattle.protocol.specs.declared.Head.{Head}
-use Rattle.format.specs.Format.{Fmt, andThen, whole, empty, byte, number2, number4, run, seq, via, keep, orBlank, many, optional}
+use Rattle.format.specs.Format.{Fmt, andThen, whole, empty, byte, number2, number4, run, seq, via, such, orBlank, many, optional}
 use Rattle.protocol.specs.Values.{Candidate, Share, Write, Held, blankStamp, blankCandidate, digestSize, nonceSize, stampSize, digestsSize, tagsSize, candidateSize}
 
 -- ---- the layouts of the parts
@@ -66,7 +66,7 @@ heldF s = via (λ x. record { stamp = x .0; share = x .1 }) (λ h. (h .stamp, h 
 
 -- the answer to store: 0, 10 or 11
 unfoldable pub codeF : Fmt ℕ
-codeF = keep (λ c. eqb c 0 || leb 10 c) (byte 0 11)
+codeF = such (λ c. eqb c 0 || leb 10 c) (byte 0 11)
 
 -- ---- bodies by kind
 
@@ -154,7 +154,7 @@ pub record Packet : Type 0 where
 -- the head: kind, client, server, t (1 byte each), call (4 bytes)
 unfoldable pub headF : Fmt Head
 headF =
-    keep (λ h. leb (h .server) (shelf (h .t) .servers))
+    such (λ h. leb (h .server) (shelf (h .t) .servers))
     (via (λ x. record { kind = x .0; client = x .1 .0; server = x .1 .1 .0; t = x .1 .1 .1 .0; call = x .1 .1 .1 .1 })
     (λ h. (h .kind, (h .client, (h .server, (h .t, h .call)))))
     (seq (byte 1 12) (λ k. seq (byte 1 topClient) (λ c. seq (byte 1 mostServers) (λ b. seq (byte 1 topFaults) (λ t. number4 1 topNumber))))))

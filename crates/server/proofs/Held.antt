@@ -22,7 +22,7 @@ use Rattle.format.proofs.Answers.{bytes-drop}
 use Rattle.protocol.proofs.Packets.{write-law, stamp-length, share-lengths, share-length}
 use Rattle.format.proofs.Puts.{put-over, wrote-then, wrote-length}
 use Rattle.wire.specs.Places.{lengthAt, shareSize, writeAt}
-use Rattle.wire.specs.Make.{placed, writeStep, packetStep}
+use Rattle.wire.specs.Make.{placed, putStep, packetStep}
 use Rattle.wire.proofs.Put.{placed-wrote}
 use Rattle.server.specs.declared.memory.Opened.{Opened}
 use Rattle.server.specs.declared.memory.Found.{Found}
@@ -90,7 +90,7 @@ share-there s {d} {at} {q} f bs =
 
 joined : (h : Head) (first second output : List ℕ) → packetStep h first second output ≡ packetStep h (first ++ second) [] output
 unfolding packetStep
-joined h first second output = ap (λ (y : List ℕ). writeStep (headF .print h ++ y) output) (sym (append-nil (first ++ second)))
+joined h first second output = ap (λ (y : List ℕ). putStep (headF .print h ++ y) output) (sym (append-nil (first ++ second)))
 
 held-none : (s : Config) (a : Stamp) → heldF s .print (record { stamp = a; share = none }) ≡ stampF .print a ++ 0 ∷ []
 unfolding heldF anyStampF via seq orBlank optional

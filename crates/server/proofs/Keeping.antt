@@ -7,7 +7,7 @@ use native.Mathlib.Omega.{arith}
 use lib.ListN.{length, drop, set, length-append, length-drop, length-set}
 use Rattle.cluster.specs.Config.{Config, shelf}
 use Rattle.cluster.specs.Ranges.{memorySize, capacity}
-use Rattle.format.specs.Format.{Bytes, printMany, byte, keep, via, seq, many}
+use Rattle.format.specs.Format.{Bytes, printMany, byte, such, via, seq, many}
 use Rattle.protocol.specs.Values.{Write}
 use Rattle.protocol.specs.Packet.{writeF, anyCandidateF}
 use Rattle.protocol.specs.Memory.{Memory, memoryF, encodeMemory}
@@ -30,7 +30,7 @@ use Rattle.server.proofs.Standing.{memory-bytes, memory-size-of, memory
 -- the length of a memory's fields
 printed : {d : List ℕ} {told : Opened} (o : OpenedAs d told)
     → length (memoryF .print (memoryIn o)) ≡ writesPlace (shelf (told .t)) + length (printMany (writeF (shelf (told .t))) (o .writes))
-unfolding memoryF keep via seq byte many
+unfolding memoryF such via seq byte many
 printed {d} {told} o =
     let t = told .t in
     let L : List ℕ = anyCandidateF (shelf t) .print (memoryIn o .latest) in
@@ -72,7 +72,7 @@ module _ {d : List ℕ} {told : Opened} (o : OpenedAs d told) (bs : Bytes d) whe
   module _ (w : Write) (few : n < capacity) (ok : ServerOk (shelf t) (record { latest = memoryIn o .latest; history = o .writes ++ w ∷ [] })) where
     -- one more write fits
     fits : length (memoryF .print (memoryIn o)) + length (writeF (shelf t) .print w) ≤ memorySize
-    unfolding memoryF keep via seq byte many
+    unfolding memoryF such via seq byte many
     fits =
         let f = memory-fields o in
         let m : Memory = added (memoryIn o) w in

@@ -22,7 +22,7 @@ use Rattle.protocol.proofs.Memories.{memory-stops, memory-tail, memory-opens}
 use Rattle.protocol.proofs.Packets.{write-law}
 use Rattle.format.proofs.Repeats.{many-law}
 use Rattle.format.proofs.Walks.{Reads, decide, leaves-moved, many-count}
-use Rattle.wire.specs.Reads.{Took, byteL, anyCandidateL}
+use Rattle.wire.specs.Reads.{TookAt, byteL, anyCandidateL}
 use Rattle.server.specs.declared.memory.Top.{Top}
 use Rattle.server.specs.declared.memory.Writes.{Writes}
 use Rattle.server.specs.declared.memory.Writes.the-variants as writes
@@ -39,7 +39,7 @@ unfolding shelf
 servers-most h e = omega arith
 
 -- a byte that was let through, by the number that its reader answers
-byte-there : (lo hi : ℕ) {d : List ℕ} {at v k : ℕ} → Took (byteL lo hi) d at v k → Leaves (byte lo hi) d at v k
+byte-there : (lo hi : ℕ) {d : List ℕ} {at v k : ℕ} → TookAt (byteL lo hi) d at v k → Leaves (byte lo hi) d at v k
 byte-there lo hi {d} {at} {v} {k} x = subst (λ (i : ℕ). Leaves (byte lo hi) d at i k) (sym (x .number)) (x .leaves)
 
 module _ {d : List ℕ} (size : length d ≡ memorySize) where
@@ -47,14 +47,14 @@ module _ {d : List ℕ} (size : length d ≡ memorySize) where
   unfolding memoryF
   no-t f = memory-stops d size (stops-kept _ _ (stops-via _ _ _ (stops-first _ _ f)))
 
-  module _ {t p : ℕ} (x : Took (byteL 1 topFaults) d 0 t p) {S : ℕ} (most : S ≡ shelf t .servers) where
+  module _ {t p : ℕ} (x : TookAt (byteL 1 topFaults) d 0 t p) {S : ℕ} (most : S ≡ shelf t .servers) where
     pub no-server : Stops (byte 1 S) d p → decodeMemory d ≡ none
     unfolding memoryF
     no-server f =
         let g : Stops (byte 1 (shelf t .servers)) d p = subst (λ (k : ℕ). Stops (byte 1 k) d p) most f in
         memory-stops d size (stops-kept _ _ (stops-via _ _ _ (stops-second _ _ (byte-there 1 topFaults x) (stops-first _ _ g))))
 
-    module _ {b q : ℕ} (y : Took (byteL 1 S) d p b q) where
+    module _ {b q : ℕ} (y : TookAt (byteL 1 S) d p b q) where
       server-there : Leaves (byte 1 (shelf t .servers)) d p b q
       server-there = subst (λ (k : ℕ). Leaves (byte 1 k) d p b q) most (byte-there 1 S y)
 
@@ -64,7 +64,7 @@ module _ {d : List ℕ} (size : length d ≡ memorySize) where
           memory-stops d size
           (stops-kept _ _ (stops-via _ _ _ (stops-second _ _ (byte-there 1 topFaults x) (stops-second _ _ server-there (stops-first _ _ f)))))
 
-      module _ {n r : ℕ} (z : Took (byteL 0 capacity) d q n r) where
+      module _ {n r : ℕ} (z : TookAt (byteL 0 capacity) d q n r) where
         pub no-latest : Stops (anyCandidateF (shelf t)) d r → decodeMemory d ≡ none
         unfolding memoryF
         no-latest f =
@@ -76,7 +76,7 @@ module _ {d : List ℕ} (size : length d ≡ memorySize) where
         at-latest : r ≡ latestPlace
         at-latest = omega (arith, x .place, y .place, z .place)
 
-        module _ {v k : ℕ} (l : Took (anyCandidateL (shelf t)) d r v k) where
+        module _ {v k : ℕ} (l : TookAt (anyCandidateL (shelf t)) d r v k) where
           pub at-writes : k ≡ writesPlace (shelf t)
           at-writes = omega (arith, l .place, at-latest)
 

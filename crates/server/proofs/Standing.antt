@@ -8,7 +8,7 @@ use lib.Seq.{take-at}
 use Rattle.cluster.specs.Config.{Config, shelf}
 use Rattle.cluster.specs.Ranges.{memorySize}
 use Rattle.hmac.specs.Hmac.{tagSize}
-use Rattle.format.specs.Format.{Bytes, printMany, byte, keep, via, seq, run, many}
+use Rattle.format.specs.Format.{Bytes, printMany, byte, such, via, seq, run, many}
 use Rattle.protocol.specs.Values.{Candidate, stampSize, candidateSize}
 use Rattle.protocol.specs.Packet.{stampF, candidateF, writeF, anyCandidateF}
 use Rattle.protocol.specs.Memory.{memoryF, encodeMemory}
@@ -51,7 +51,7 @@ module _ {d : List ℕ} {told : Opened} (o : OpenedAs d told) where
     after = printMany (writeF s) (o .writes) ++ replicate (memorySize - length (memoryF .print (memoryIn o))) 0
 
     latest-on : drop latestPlace d ≡ anyCandidateF s .print (memoryIn o .latest) ++ after
-    unfolding encodeMemory memoryF keep via seq byte many after
+    unfolding encodeMemory memoryF such via seq byte many after
     latest-on =
         ap (drop latestPlace) (sym memory-bytes)
         ∙ append-assoc (anyCandidateF s .print (memoryIn o .latest)) (printMany (writeF s) (o .writes)) _

@@ -13,7 +13,7 @@ use Rattle.cluster.specs.Config.{Config, shelf}
 use Rattle.cluster.specs.Ranges.{capacity, packetRoom}
 use Rattle.cluster.specs.declared.Outcome.{Outcome}
 use Rattle.protocol.specs.declared.Head.{Head}
-use Rattle.format.specs.Format.{Bytes, byte, keep, via, seq, run}
+use Rattle.format.specs.Format.{Bytes, byte, such, via, seq, run}
 use Rattle.protocol.specs.Values.{Write, isSome, stampSize}
 use Rattle.protocol.specs.Packet.{stampF, shareF, writeF, codeF, store, storeReply, printBody, headSize, decode}
 use Rattle.protocol.specs.Memory.{encodeMemory, lookup}
@@ -99,7 +99,7 @@ module _ {d : List ℕ} (bs : Bytes d) (packet : List ℕ) (ps : Bytes packet) (
     step-kept t l = rw (q ∙ t, lt-leb capacity (length (o .writes)) (omega (arith, count, l)))
 
   code-alone : (c : ℕ) → printBody (shelf (h .t)) (storeReply c) ≡ (c ∷ []) ++ []
-  unfolding codeF keep byte
+  unfolding codeF such byte
   code-alone c = refl
 
   module _ {x : List ℕ} (p : x ≡ drop headSize packet) {f : Found} (g : FindAs d (toldTo h n e top) x f) where

@@ -15,7 +15,7 @@ use Rattle.protocol.specs.View.{stampAt, candidateAt}
 use Rattle.format.specs.Reading.{bytesAt}
 use Rattle.format.proofs.Answers.{zeros-only}
 use Rattle.format.proofs.Places.{part-zeros}
-use Rattle.wire.specs.Reads.{first}
+use Rattle.wire.specs.Reads.{firstByte}
 
 module _ (s : List ℕ) (at : ℕ) where
   pub drop-from : {k : ℕ} (n : ℕ) → k ≡ at + n → drop k s ≡ drop n (drop at s)
@@ -25,7 +25,7 @@ module _ (s : List ℕ) (at : ℕ) where
   unfolding bytesAt
   part-from n m e = ap (take m) (drop-from n e)
 
-  pub first-from : {k : ℕ} (n : ℕ) → k ≡ at + n → first (drop k s) ≡ getD (drop at s) n 0
+  pub first-from : {k : ℕ} (n : ℕ) → k ≡ at + n → firstByte (drop k s) ≡ getD (drop at s) n 0
   first-from {k} n e =
       let f : k + 0 ≡ at + n = omega arith in
       getD-drop k s 0 0 ∙ ap (λ (j : ℕ). getD s j 0) f ∙ sym (getD-drop at s n 0)

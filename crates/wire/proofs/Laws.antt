@@ -13,7 +13,7 @@ use borrow.Author.Tests.{leb-true, le-ltb}
 use Rattle.cluster.specs.Config.{Config, shelf}
 use Rattle.cluster.specs.Ranges.{topClient, topFaults, topNumber, packetRoom}
 use Rattle.protocol.specs.declared.Head.{Head}
-use Rattle.format.specs.Format.{Bytes, keep, via, seq, byte, number4, many, optional, printMany, printOptional}
+use Rattle.format.specs.Format.{Bytes, such, via, seq, byte, number4, many, optional, printMany, printOptional}
 use Rattle.protocol.specs.Packet.{stampF, anyStampF, shareF, writeF, candidateF, anyCandidateF, candidatesF, heldF, codeF, Body, clock, clockReply, store, storeReply, complete, completeReply, collect, collectReply, filter, filterReply, repair, repairReply, Packet, printBody, headF, headSize, bodyF, packetF, decode, encode, PacketOk}
 use Rattle.format.specs.Reading.{over}
 use Rattle.protocol.proofs.Bodies.{decode-ok, encode-decode}
@@ -22,7 +22,7 @@ use Rattle.protocol.proofs.PacketRoom.{packet-room}
 use Rattle.protocol.specs.Values.{labelOf}
 use Rattle.protocol.specs.View.{stampAt}
 use Rattle.wire.specs.Places.{bodyAt, packetAt, bodyLabel, bodyNumber}
-use Rattle.wire.specs.Make.{writeStep, packetStep}
+use Rattle.wire.specs.Make.{putStep, packetStep}
 use Rattle.wire.proofs.Whole.{count-of}
 
 -- ---- what was let through
@@ -45,7 +45,7 @@ module _ (s : List ℕ) (p : Packet) (e : decode s ≡ some p) where
     pub call : (1 ≤ h .call) × (h .call ≤ topNumber)
 
   pub head-ranges : HeadRanges (p .head)
-  unfolding PacketOk packetF headF keep via seq byte number4
+  unfolding PacketOk packetF headF such via seq byte number4
   head-ranges =
       let (r, (k, (c, (b, (t, n))))) = decode-ok s p e .0 in
       record { kind = k; client = c; server = (b .0, leb-true (p .head .server) (shelf (p .head .t) .servers) r); t = t; call = n }
@@ -53,16 +53,16 @@ module _ (s : List ℕ) (p : Packet) (e : decode s ≡ some p) where
 -- ---- what is made
 
 module _ (p : Packet) (first second output : List ℕ) (e : printBody (shelf (p .head .t)) (p .body) ≡ first ++ second) where
-  pub made-encode : packetStep (p .head) first second output ≡ writeStep (encode p) output
+  pub made-encode : packetStep (p .head) first second output ≡ putStep (encode p) output
   unfolding packetStep
-  made-encode = ap (λ (b : List ℕ). writeStep b output) (ap (λ (b : List ℕ). headF .print (p .head) ++ b) (sym e) ∙ sym (encode-parts p))
+  made-encode = ap (λ (b : List ℕ). putStep b output) (ap (λ (b : List ℕ). headF .print (p .head) ++ b) (sym e) ∙ sym (encode-parts p))
 
   pub made-accepted : PacketOk p → packetRoom ≤ length output
       → packetStep (p .head) first second output ≡ record {
         result = record { number = 0; count = length (encode p) };
         output = over (encode p) output;
       }
-  unfolding writeStep
+  unfolding putStep
   made-accepted ok h =
       made-encode ∙ simp (le-ltb (length output) packetRoom h, le-ltb (length output) (length (encode p)) (omega (arith, packet-room p ok)))
 
@@ -83,7 +83,7 @@ runs s (repair x) = (candidateF s .print x, [])
 runs s repairReply = ([], [])
 
 body-runs : (s : Config) (x : Body) → printBody s x ≡ runs s x .0 ++ runs s x .1
-unfolding writeF codeF candidatesF heldF via seq keep byte many optional
+unfolding writeF codeF candidatesF heldF via seq such byte many optional
 body-runs s clock = refl
 body-runs s (clockReply x) = sym (append-nil (anyStampF .print x))
 body-runs s (store x) = refl
@@ -98,7 +98,7 @@ body-runs s (repair x) = sym (append-nil (candidateF s .print x))
 body-runs s repairReply = refl
 
 pub made-of : (p : Packet) (output : List ℕ)
-    → packetStep (p .head) (runs (shelf (p .head .t)) (p .body) .0) (runs (shelf (p .head .t)) (p .body) .1) output ≡ writeStep (encode p) output
+    → packetStep (p .head) (runs (shelf (p .head .t)) (p .body) .0) (runs (shelf (p .head .t)) (p .body) .1) output ≡ putStep (encode p) output
 made-of p output = made-encode p _ _ output (body-runs (shelf (p .head .t)) (p .body))
 
 -- ---- what is told of a packet's body, by its place

@@ -15,7 +15,7 @@ use borrow.Author.Tests.{le-leb, lt-leb}
 use Rattle.format.specs.Format.{Fmt, guard, ranged, parseByte, parse2, parse4, value2, run, byte, number2, number4}
 use Rattle.format.specs.Reading.{bytesAt, Leaves, Stops, number4At}
 use Rattle.wire.specs.Places.{lengthAt}
-use Rattle.wire.specs.Reads.{Past, FieldAs, RangedAs, numberL, first}
+use Rattle.wire.specs.Reads.{Past, FieldAs, RangedAs, numberL, firstByte}
 use Rattle.wire.specs.declared.fields.Field.{Field}
 use Rattle.wire.specs.declared.fields.Field.the-variants as field
 
@@ -54,11 +54,11 @@ module _ {F : Fmt ℕ} {lo hi w : ℕ} {X : List ℕ → ℕ} (r : Numbered F lo
   }
 
 -- the byte at a place, counted from it
-pub here : (s : List ℕ) (at : ℕ) → getD s at 0 ≡ first (drop at s)
+pub here : (s : List ℕ) (at : ℕ) → getD s at 0 ≡ firstByte (drop at s)
 here s at = let e : at ≡ at + 0 = omega arith in ap (λ (k : ℕ). getD s k 0) e ∙ sym (getD-drop at s 0 0)
 
 module _ (lo hi : ℕ) where
-  pub byte-numbered : Numbered (byte lo hi) lo hi 1 first
+  pub byte-numbered : Numbered (byte lo hi) lo hi 1 firstByte
   unfolding byte
   byte-numbered = record { some-bytes = omega arith; short = short; long = long; ok = λ x l k. (l, k) }
     where
@@ -66,7 +66,7 @@ module _ (lo hi : ℕ) where
       short [] h = refl
       short (x ∷ d) h = absurd (omega arith)
 
-      long : (d : List ℕ) → 1 ≤ length d → parseByte lo hi d ≡ ranged lo hi (first d) (drop 1 d)
+      long : (d : List ℕ) → 1 ≤ length d → parseByte lo hi d ≡ ranged lo hi (firstByte d) (drop 1 d)
       long [] h = absurd (omega arith)
       long (x ∷ d) h = refl
 

@@ -19,7 +19,7 @@ use Rattle.format.proofs.Answers.{same-rest, andThen-some}
 use Rattle.format.proofs.Leaves.{leaves-none, leaves-seq, leaves-via, stops-via, stops-first, stops-second}
 use Rattle.format.proofs.Walks.{many-count, many-snoc}
 use Rattle.wire.specs.Places.{candidateList}
-use Rattle.wire.specs.Reads.{Took, Past, first, byteL, candidateL, candidatesL}
+use Rattle.wire.specs.Reads.{TookAt, Past, firstByte, byteL, candidateL, candidatesL}
 use Rattle.wire.proofs.From.{drop-from}
 
 -- ---- any format that stops after some
@@ -55,7 +55,7 @@ module _ (c : Config) {s : List ℕ} {at : ℕ} where
   unfolding candidateList
   run-none h = record { leaves = leaves-none (candidateF c) 0 h; place = omega arith }
 
-  pub run-more : (i : ℕ) {k v q : ℕ} → Past (many i (candidateF c)) s at (candidateList c i (drop at s)) k (candidateSize c * i) → Took (candidateL c)
+  pub run-more : (i : ℕ) {k v q : ℕ} → Past (many i (candidateF c)) s at (candidateList c i (drop at s)) k (candidateSize c * i) → TookAt (candidateL c)
       s k v q
       → Past (many (i + 1) (candidateF c)) s at (candidateList c (i + 1) (drop at s)) q (candidateSize c * (i + 1))
   unfolding candidateList
@@ -67,19 +67,19 @@ module _ (c : Config) {s : List ℕ} {at : ℕ} where
       (many-snoc (candidateF c) i (m .leaves) (t .leaves)) in
       record { leaves = rw add-one (rw add-one at g); place = rw add-one (omega (arith, m .place, t .place, mul-suc (candidateSize c) i)) }
 
-  pub list-took : (S : ℕ) → S ≡ c .servers → {n p e : ℕ} → Took (byteL 0 S) s at n p
-      → Past (many n (candidateF c)) s p (candidateList c n (drop p s)) e (candidateSize c * n) → Took (candidatesL c) s at n e
+  pub list-took : (S : ℕ) → S ≡ c .servers → {n p e : ℕ} → TookAt (byteL 0 S) s at n p
+      → Past (many n (candidateF c)) s p (candidateList c n (drop p s)) e (candidateSize c * n) → TookAt (candidatesL c) s at n e
   unfolding candidatesF
   list-took S es {n} {p} {e} a m₀ =
       let d : List ℕ = drop at s in
       let r : drop p s ≡ drop 1 d = drop-from s at 1 (a .place) in
       let m = subst (λ (k : ℕ). Past (many k (candidateF c)) s p (candidateList c k (drop p s)) e (candidateSize c * k)) (a .number) m₀ in
-      let b = subst (λ (k : ℕ). Leaves (byte 0 k) s at (first d) p) es (a .leaves) in
-      let l : List Candidate = candidateList c (first d) (drop p s) in
-      let count : length l ≡ first d = many-count (first d) (candidateF c) (m .leaves) in
+      let b = subst (λ (k : ℕ). Leaves (byte 0 k) s at (firstByte d) p) es (a .leaves) in
+      let l : List Candidate = candidateList c (firstByte d) (drop p s) in
+      let count : length l ≡ firstByte d = many-count (firstByte d) (candidateF c) (m .leaves) in
       record {
         leaves =
-            subst (λ (x : List ℕ). Leaves (candidatesF c) s at (candidateList c (first d) x) e) r
+            subst (λ (x : List ℕ). Leaves (candidatesF c) s at (candidateList c (firstByte d) x) e) r
             (leaves-via _ _ _ (ap (λ (k : ℕ). (k, l)) count) (leaves-seq _ _ b (m .leaves)));
         number = a .number;
         place = omega (arith, a .place, m .place);
@@ -89,9 +89,9 @@ module _ (c : Config) {s : List ℕ} {at : ℕ} where
   unfolding candidatesF
   list-stops S es z = stops-via _ _ _ (stops-first _ _ (subst (λ (k : ℕ). Stops (byte 0 k) s at) es z))
 
-  pub list-breaks : (S : ℕ) → S ≡ c .servers → {n p : ℕ} → Took (byteL 0 S) s at n p → Stops (many n (candidateF c)) s p → Stops (candidatesF c) s at
+  pub list-breaks : (S : ℕ) → S ≡ c .servers → {n p : ℕ} → TookAt (byteL 0 S) s at n p → Stops (many n (candidateF c)) s p → Stops (candidatesF c) s at
   unfolding candidatesF
   list-breaks S es {n} {p} a z =
       stops-via _ _ _
-      (stops-second _ _ (subst (λ (k : ℕ). Leaves (byte 0 k) s at (first (drop at s)) p) es (a .leaves))
+      (stops-second _ _ (subst (λ (k : ℕ). Leaves (byte 0 k) s at (firstByte (drop at s)) p) es (a .leaves))
       (subst (λ (k : ℕ). Stops (many k (candidateF c)) s p) (a .number) z))

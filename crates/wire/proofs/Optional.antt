@@ -20,7 +20,7 @@ use Rattle.format.specs.Reading.{Leaves, Stops}
 use Rattle.format.proofs.Leaves.{leaves-seq, leaves-via, stops-via, stops-second, leaves-keep, stops-test, leaves-absent, leaves-present, stops-flag, stops-present}
 use Rattle.protocol.proofs.Packets.{held-most}
 use Rattle.wire.specs.Places.{lengthAt, shareSize, heldSize}
-use Rattle.wire.specs.Reads.{Took, TookLabelled, byteL, anyStampL, shareL, heldL, codeL}
+use Rattle.wire.specs.Reads.{TookAt, TookLabelled, byteL, anyStampL, shareL, heldL, codeL}
 use Rattle.wire.proofs.From.{drop-from, first-from}
 
 -- ---- a byte that is at most 1
@@ -33,7 +33,7 @@ one (suc (suc x)) h n = absurd (omega arith)
 abbrev heldBy : Config → List ℕ → ℕ → List ℕ → Held
 heldBy c d f e = record { stamp = stampAt d; share = cond (eqb f 0) none (some (shareAt c e)) }
 
-flag-one : (hi : ℕ) (a : Stamp) {s : List ℕ} {p f q : ℕ} → hi ≡ heldMost a → Took (byteL 0 hi) s p f q → (f ≡ 0 → ⊥) → f ≡ 1
+flag-one : (hi : ℕ) (a : Stamp) {s : List ℕ} {p f q : ℕ} → hi ≡ heldMost a → TookAt (byteL 0 hi) s p f q → (f ≡ 0 → ⊥) → f ≡ 1
 unfolding byte
 flag-one hi a {f = f} e b n =
     let o = b .leaves .ok in
@@ -44,7 +44,7 @@ module _ (c : Config) {s : List ℕ} {at : ℕ} {l : Label} {v p : ℕ} (x : Too
   abbrev d : List ℕ
   d = drop at s
 
-  abbrev a : Took anyStampL s at v p
+  abbrev a : TookAt anyStampL s at v p
   a = x .took
 
   -- the limit that the stamp sets
@@ -55,7 +55,7 @@ module _ (c : Config) {s : List ℕ} {at : ℕ} {l : Label} {v p : ℕ} (x : Too
   unfolding heldF
   held-flag-stops z = stops-via _ _ _ (stops-second _ _ (a .leaves) (stops-flag _ _ (subst (λ (k : ℕ). Stops (byte 0 k) s p) most z)))
 
-  module _ {f q : ℕ} (b : Took (byteL 0 hi) s p f q) where
+  module _ {f q : ℕ} (b : TookAt (byteL 0 hi) s p f q) where
     -- the byte after the stamp
     flag-at : Leaves (byte 0 (heldMost (stampAt d))) s p f q
     flag-at = subst (λ (k : ℕ). Leaves (byte 0 k) s p f q) most (subst (λ (y : ℕ). Leaves (byte 0 hi) s p y q) (sym (b .number)) (b .leaves))
@@ -90,7 +90,7 @@ module _ (c : Config) {s : List ℕ} {at : ℕ} {l : Label} {v p : ℕ} (x : Too
       unfolding heldF
       held-share-stops z = stops-via _ _ _ (stops-second _ _ (a .leaves) (stops-present _ _ flag-there z))
 
-      pub held-present : {m u : ℕ} → Took (shareL c) s q m u → TookLabelled (heldL c) s at l f u
+      pub held-present : {m u : ℕ} → TookAt (shareL c) s q m u → TookLabelled (heldL c) s at l f u
       unfolding heldF heldAt heldSize
       held-present {u = u} r =
           let g : getD d stampSize 0 ≡ 1 = sym flag-place ∙ flag-is-one in
@@ -117,16 +117,16 @@ abbrev isCode : ℕ → Bool
 isCode v = eqb v 0 || leb 10 v
 
 module _ {s : List ℕ} {at : ℕ} where
-  code-in : {v p : ℕ} → Took (byteL 0 11) s at v p → isCode v ≡ true → Took codeL s at v p
+  code-in : {v p : ℕ} → TookAt (byteL 0 11) s at v p → isCode v ≡ true → TookAt codeL s at v p
   unfolding codeF
   code-in t e = record { leaves = leaves-keep _ _ (t .leaves) (ap isCode (sym (t .number)) ∙ e); number = t .number; place = t .place }
 
-  pub code-zero : {v p : ℕ} → Took (byteL 0 11) s at v p → v ≡ 0 → Took codeL s at v p
+  pub code-zero : {v p : ℕ} → TookAt (byteL 0 11) s at v p → v ≡ 0 → TookAt codeL s at v p
   code-zero {v} t e = code-in t (simp (eq-eqb v 0 e))
 
-  pub code-high : {v p : ℕ} → Took (byteL 0 11) s at v p → (v ≡ 0 → ⊥) → 10 ≤ v → Took codeL s at v p
+  pub code-high : {v p : ℕ} → TookAt (byteL 0 11) s at v p → (v ≡ 0 → ⊥) → 10 ≤ v → TookAt codeL s at v p
   code-high {v} t n h = code-in t (simp (ne-eqb v 0 n, le-leb 10 v h))
 
-  pub code-stops : {v p : ℕ} → Took (byteL 0 11) s at v p → (v ≡ 0 → ⊥) → v < 10 → Stops codeF s at
+  pub code-stops : {v p : ℕ} → TookAt (byteL 0 11) s at v p → (v ≡ 0 → ⊥) → v < 10 → Stops codeF s at
   unfolding codeF
   code-stops {v} t n h = let e : isCode v ≡ false = simp (ne-eqb v 0 n, lt-leb 10 v h) in stops-test _ _ (t .leaves) (ap isCode (sym (t .number)) ∙ e)

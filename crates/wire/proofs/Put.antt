@@ -11,13 +11,13 @@ use Rattle.cluster.specs.Refusals.{wrongSize}
 use Rattle.protocol.specs.declared.Head.{Head}
 use Rattle.hmac.specs.Hmac.{tagSize}
 use Rattle.protocol.specs.declared.Stamp.{Stamp}
-use Rattle.format.specs.Format.{print4, keep, via, seq, number4, byte, run}
+use Rattle.format.specs.Format.{print4, such, via, seq, number4, byte, run}
 use Rattle.protocol.specs.Values.{stampSize}
 use Rattle.protocol.specs.Packet.{stampF, headF, headSize}
 use Rattle.format.specs.Reading.{over, put, Wrote}
 use Rattle.protocol.proofs.Packets.{head-length, stamp-length}
 use Rattle.format.proofs.Puts.{put-over, wrote-then, wrote-length}
-use Rattle.wire.specs.Make.{Placed, placed, writeStep, packetStep}
+use Rattle.wire.specs.Make.{Placed, placed, putStep, packetStep}
 
 module _ {d e : List ℕ} {at n : ℕ} {b : List ℕ} where
   pub placed-wrote : record { next = n; output = e } ≡ placed d at b → at + length b ≤ length d → Wrote d at b e n
@@ -70,7 +70,7 @@ module _ (h : Head) (d : List ℕ) (at : ℕ) where
   pub head-placed : {e f : List ℕ} {a n : ℕ} → at + headSize ≤ length d
       → record { next = a; output = e } ≡ placed d at (h .kind ∷ h .client ∷ h .server ∷ h .t ∷ [])
       → record { next = n; output = f } ≡ placed e a (print4 (h .call)) → record { next = n; output = f } ≡ placed d at (headF .print h)
-  unfolding headF keep via seq byte number4
+  unfolding headF such via seq byte number4
   head-placed l p q =
       wrote-placed (placed-then (h .kind ∷ h .client ∷ h .server ∷ h .t ∷ []) (print4 (h .call)) p q (omega arith)) (omega arith)
 
@@ -82,12 +82,12 @@ module _ (h : Head) (first second output : List ℕ) where
 
   pub short-buffer : length output < packetRoom → record { result = record { number = 15; count = 0 }; output = output } ≡ packetStep h first second
       output
-  unfolding packetStep writeStep
+  unfolding packetStep putStep
   short-buffer l = simp (lt-ltb (length output) packetRoom l)
 
   pub short-room : packetRoom ≤ length output → length output < headSize + length first + length second
       → record { result = record { number = wrongSize; count = 0 }; output = output } ≡ packetStep h first second output
-  unfolding packetStep writeStep
+  unfolding packetStep putStep
   short-room l k =
       simp (le-ltb (length output) packetRoom l, lt-ltb (length output) (length (headF .print h ++ (first ++ second))) (omega (arith, size)))
 
@@ -95,7 +95,7 @@ module _ (h : Head) (first second output : List ℕ) where
       → record { next = a; output = e } ≡ placed output 0 (headF .print h) → record { next = b; output = f } ≡ placed e a first
       → record { next = n; output = g } ≡ placed f b second → record { result = record { number = 0; count = n }; output = g } ≡ packetStep h first
       second output
-  unfolding packetStep writeStep
+  unfolding packetStep putStep
   packet-made {e} {f} {g} {a} {b} {n} l k p q r =
       let bytes : List ℕ = headF .print h ++ (first ++ second) in
       let w₁ = placed-wrote p (omega (arith, head-length h)) in

@@ -21,7 +21,7 @@ use Rattle.protocol.specs.View.{stampAt, candidateAt, shareAt, shareOfSize}
 use Rattle.format.specs.Reading.{bytesAt, Leaves, Stops, number4At}
 use Rattle.format.proofs.Leaves.{leaves-seq, leaves-via, stops-via, stops-first, stops-second, leaves-some, leaves-blank, stops-short}
 use Rattle.wire.specs.Places.{lengthAt, shareSize, writeAt, noLabel}
-use Rattle.wire.specs.Reads.{Took, TookLabelled, Past, byteL, number2L, number4L, stampL, anyStampL, shareL, writeL, candidateL, anyCandidateL}
+use Rattle.wire.specs.Reads.{TookAt, TookLabelled, Past, byteL, number2L, number4L, stampL, anyStampL, shareL, writeL, candidateL, anyCandidateL}
 use Rattle.wire.proofs.Leaf.{ends, number4-numbered}
 use Rattle.wire.proofs.From.{drop-from, part-from, first-from, blank-stamp, blank-candidate}
 
@@ -30,7 +30,7 @@ abbrev pub Ran : ℕ → List ℕ → ℕ → ℕ → Type 0
 Ran m s p q = Past (run m) s p (bytesAt s p m) q m
 
 module _ {s : List ℕ} {at : ℕ} where
-  pub stamp-took : {v p w q e : ℕ} → Took (number4L 1 topNumber) s at v p → Took (byteL 1 topWriter) s p w q → Ran tagSize s q e
+  pub stamp-took : {v p w q e : ℕ} → TookAt (number4L 1 topNumber) s at v p → TookAt (byteL 1 topWriter) s p w q → Ran tagSize s q e
       → TookLabelled stampL s at (record { number = v; writer = w }) 0 e
   unfolding stampF stampAt
   stamp-took {v} {p} {w} {q} {e} a b r =
@@ -82,9 +82,9 @@ abbrev pub Fragment : Config → List ℕ → ℕ → ℕ → ℕ → Type 0
 Fragment c s n p q = Ran (fragmentSize (c .threshold) n) s p q
 
 module _ (c : Config) {s : List ℕ} {at : ℕ} where
-  pub share-took : {n p q d g e : ℕ} → Took (number2L leastLength topLength) s at n p
+  pub share-took : {n p q d g e : ℕ} → TookAt (number2L leastLength topLength) s at n p
       → Fragment c s n p q → Ran (digestsSize c) s q d → Ran digestSize s d g
-      → Ran (tagsSize c) s g e → Took (shareL c) s at n e
+      → Ran (tagsSize c) s g e → TookAt (shareL c) s at n e
   unfolding shareF shareAt shareOfSize lengthAt shareSize
   share-took {n} {p} {q} {d} {g} {e} a b₀ x y z =
       let m : ℕ = lengthAt (drop at s) in
@@ -110,38 +110,38 @@ module _ (c : Config) {s : List ℕ} {at : ℕ} where
       }
 
   -- the fragment's length is told by the length that stands there
-  sized : {n p q : ℕ} → Took (number2L leastLength topLength) s at n p → Fragment c s n p q
+  sized : {n p q : ℕ} → TookAt (number2L leastLength topLength) s at n p → Fragment c s n p q
       → Leaves (run (fragmentSize (c .threshold) (lengthAt (drop at s)))) s p (bytesAt s p (fragmentSize (c .threshold) (lengthAt (drop at s)))) q
   sized {n} {p} {q} a b = subst (λ (k : ℕ). Leaves (run (fragmentSize (c .threshold) k)) s p (bytesAt s p (fragmentSize (c .threshold) k)) q)
       (a .number)
       (b .leaves)
 
-  pub share-stops1 : {n p : ℕ} → Took (number2L leastLength topLength) s at n p → Stops (run (fragmentSize (c .threshold) n)) s p
+  pub share-stops1 : {n p : ℕ} → TookAt (number2L leastLength topLength) s at n p → Stops (run (fragmentSize (c .threshold) n)) s p
       → Stops (shareF c) s at
   unfolding shareF
   share-stops1 {n} {p} a z =
       stops-via _ _ _ (stops-second _ _ (a .leaves) (stops-first _ _ (subst (λ (k : ℕ). Stops (run (fragmentSize (c .threshold) k)) s p) (a .number)
       z)))
 
-  pub share-stops2 : {n p q : ℕ} → Took (number2L leastLength topLength) s at n p → Fragment c s n p q → Stops (run (digestsSize c)) s q → Stops
+  pub share-stops2 : {n p q : ℕ} → TookAt (number2L leastLength topLength) s at n p → Fragment c s n p q → Stops (run (digestsSize c)) s q → Stops
       (shareF c) s at
   unfolding shareF
   share-stops2 a b z = stops-via _ _ _ (stops-second _ _ (a .leaves) (stops-second _ _ (sized a b) (stops-first _ _ z)))
 
-  pub share-stops3 : {n p q d : ℕ} → Took (number2L leastLength topLength) s at n p → Fragment c s n p q
+  pub share-stops3 : {n p q d : ℕ} → TookAt (number2L leastLength topLength) s at n p → Fragment c s n p q
       → Ran (digestsSize c) s q d → Stops (run digestSize) s d → Stops (shareF c) s at
   unfolding shareF
   share-stops3 a b x z = stops-via _ _ _ (stops-second _ _ (a .leaves) (stops-second _ _ (sized a b)
       (stops-second _ _ (x .leaves) (stops-first _ _ z))))
 
-  pub share-stops4 : {n p q d g : ℕ} → Took (number2L leastLength topLength) s at n p → Fragment c s n p q
+  pub share-stops4 : {n p q d g : ℕ} → TookAt (number2L leastLength topLength) s at n p → Fragment c s n p q
       → Ran (digestsSize c) s q d → Ran digestSize s d g
       → Stops (run (tagsSize c)) s g → Stops (shareF c) s at
   unfolding shareF
   share-stops4 a b x y z =
       stops-via _ _ _ (stops-second _ _ (a .leaves) (stops-second _ _ (sized a b) (stops-second _ _ (x .leaves) (stops-second _ _ (y .leaves) z))))
 
-  pub write-took : {l : Label} {v p n e : ℕ} → TookLabelled stampL s at l v p → Took (shareL c) s p n e → TookLabelled (writeL c) s at l n e
+  pub write-took : {l : Label} {v p n e : ℕ} → TookLabelled stampL s at l v p → TookAt (shareL c) s p n e → TookLabelled (writeL c) s at l n e
   unfolding writeF writeAt
   write-took {p = p} {e = e} x b =
       let a = x .took in

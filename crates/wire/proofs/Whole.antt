@@ -13,7 +13,7 @@ use borrow.Author.Tests.{ne-eqb, eqb-true, eqb-false}
 use Rattle.cluster.specs.Config.{Config, shelf}
 use Rattle.protocol.specs.declared.Head.{Head}
 use Rattle.protocol.specs.declared.Label.{Label}
-use Rattle.format.specs.Format.{byte, empty, seq, via, keep}
+use Rattle.format.specs.Format.{byte, empty, seq, via, such}
 use Rattle.protocol.specs.Values.{isSome, labelOf, stampSize, candidateSize}
 use Rattle.protocol.specs.Packet.{Body, headF, headSize, bodyF, packetF, decode}
 use Rattle.protocol.specs.View.{stampAt, candidateAt, shareAt, heldAt}
@@ -22,7 +22,7 @@ use Rattle.format.proofs.Leaves.{leaves-seq, leaves-via, stops-via, stops-secon
 use Rattle.protocol.proofs.Bodies.{Kind, clock-kind, complete-reply-kind, collect-kind, repair-reply-kind}
 use Rattle.protocol.proofs.Whole.{body-leaves, body-stops, decoded, refused, trailing}
 use Rattle.wire.specs.Places.{bodyAt, packetAt, writeAt, candidateList, noLabel, bodyLabel, bodyNumber, fragmentHeld, fragmentOf, fragmentIn}
-use Rattle.wire.specs.Reads.{Layout, Took, Past, FieldAs, LabelledAs, withoutLabel, TookBody, BodyAs, TookPacket}
+use Rattle.wire.specs.Reads.{Layout, TookAt, Past, FieldAs, LabelledAs, withoutLabel, TookBody, BodyAs, TookPacket}
 use Rattle.wire.specs.declared.fields.Field.{Field}
 use Rattle.wire.specs.declared.fields.Field.the-variants as field
 use Rattle.wire.specs.declared.parts.Labelled.{Labelled}
@@ -51,7 +51,7 @@ module _ (c : Config) (s : List ℕ) (at : ℕ) where
   -- a body of one field: what the field's reader answers, the body's reader answers
   module _ {A : Type 0} (L : Layout A) {con : A → Body} {k : ℕ} (d : Kind c k (L .format) con) (e : (x : List ℕ) → con (L .value x) ≡ bodyAt c k x)
       (m : (x : List ℕ) → L .number x ≡ bodyNumber (bodyAt c k x)) {j : ℕ} (ej : j ≡ k) where
-    there : {l : Label} {v p : ℕ} → Took L s at v p → l ≡ bodyLabel (bodyAt c k (drop at s)) → TookBody c j s at l v p
+    there : {l : Label} {v p : ℕ} → TookAt L s at v p → l ≡ bodyLabel (bodyAt c k (drop at s)) → TookBody c j s at l v p
     there {l} {v} {p} t f =
         subst (λ (i : ℕ). TookBody c i s at l v p) (sym ej)
         (record {
@@ -108,7 +108,7 @@ module _ (c : Config) (s : List ℕ) (at : ℕ) where
 
 module _ {s : List ℕ} {h : Head} {p : ℕ} (f : Past headF s 0 h p headSize) where
   pub kind-range : (1 ≤ h .kind) × (h .kind ≤ 12)
-  unfolding headF keep via seq byte
+  unfolding headF such via seq byte
   kind-range = f .leaves .ok .1 .0
 
   head-past : p ≡ headSize

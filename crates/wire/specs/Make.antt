@@ -22,12 +22,12 @@ placed d at b = cond (leb (at + length b) (length d)) (record { next = at + leng
 
 -- a packet's bytes over the start of a buffer: 15 where it is below its least length, which has room for every packet; wrongSize where it is too
 -- short for the bytes, which are then no packet's
-unfoldable pub writeStep : List ℕ → List ℕ → Filled
-writeStep bytes output =
+unfoldable pub putStep : List ℕ → List ℕ → Filled
+putStep bytes output =
     let n = firstOf (refuse 15 (ltb (length output) packetRoom) ∷ refuse wrongSize (ltb (length output) (length bytes)) ∷ []) in
     onRefusal n (record { result = record { number = n; count = length bytes }; output = over bytes output })
     (record { result = record { number = n; count = 0 }; output = output })
 
 -- a packet of a head, and of a body in two runs
 unfoldable pub packetStep : Head → List ℕ → List ℕ → List ℕ → Filled
-packetStep h first second output = writeStep (headF .print h ++ (first ++ second)) output
+packetStep h first second output = putStep (headF .print h ++ (first ++ second)) output

@@ -83,8 +83,8 @@ bodyLabel (filterReply x) = labelOf (x .stamp)
 bodyLabel (repair x) = labelOf (x .stamp)
 bodyLabel repairReply = noLabel
 
--- the number that a body's reader reads: the record length of a store's share, the code of its reply, the count of a filter, and of its reply the byte
--- that says whether a share follows; 0 where there is none
+-- the number that a body's reader reads: the record length of a store's share, the code of its reply, the count of a filter, and of its reply the
+-- byte that says whether a share follows; 0 where there is none
 unfoldable pub bodyNumber : Body → ℕ
 bodyNumber clock = 0
 bodyNumber (clockReply x) = 0

@@ -39,7 +39,7 @@ pub record Layout (A : Type 0) : Type 1 where
   pub size : List ℕ → ℕ
 
 -- the field was let through: the number v, and the cursor at the place next
-pub record Took {A : Type 0} (L : Layout A) (s : List ℕ) (at v next : ℕ) : Type 0 where
+pub record TookAt {A : Type 0} (L : Layout A) (s : List ℕ) (at v next : ℕ) : Type 0 where
   pub leaves : Leaves (L .format) s at (L .value (drop at s)) next
   pub number : v ≡ L .number (drop at s)
   pub place : next ≡ at + L .size (drop at s)
@@ -57,12 +57,12 @@ fieldAnswer field.Broken = record { number = brokenPacket; value = 0; next = 0 }
 abbrev pub FieldAs : {A : Type 0} → Layout A → List ℕ → ℕ → Field → Type 0
 FieldAs L s at r =
     let a = fieldAnswer r in
-    ByNumber brokenPacket (Took L s at (a .value) (a .next)) (Stops (L .format) s at) (a .number)
+    ByNumber brokenPacket (TookAt L s at (a .value) (a .next)) (Stops (L .format) s at) (a .number)
 
 -- ---- parts that begin with a stamp, whose number and writer are answered too
 
 pub record TookLabelled {A : Type 0} (L : Layout A) (s : List ℕ) (at : ℕ) (l : Label) (v next : ℕ) : Type 0 where
-  pub took : Took L s at v next
+  pub took : TookAt L s at v next
   pub label : l ≡ labelOf (stampAt (drop at s))
 
 -- document 01's number, and the values, as for a field
@@ -98,11 +98,11 @@ RangedAs lo hi v next r =
 abbrev pub numberL : Fmt ℕ → (List ℕ → ℕ) → ℕ → Layout ℕ
 numberL F x w = record { format = F; value = x; number = x; size = λ d. w }
 
-abbrev pub first : List ℕ → ℕ
-first d = getD d 0 0
+abbrev pub firstByte : List ℕ → ℕ
+firstByte d = getD d 0 0
 
 abbrev pub byteL : ℕ → ℕ → Layout ℕ
-byteL lo hi = numberL (byte lo hi) first 1
+byteL lo hi = numberL (byte lo hi) firstByte 1
 
 abbrev pub number2L : ℕ → ℕ → Layout ℕ
 number2L lo hi = numberL (number2 lo hi) lengthAt 2
@@ -112,7 +112,7 @@ number4L lo hi = numberL (number4 lo hi) number4At 4
 
 -- an answer to store
 abbrev pub codeL : Layout ℕ
-codeL = numberL codeF first 1
+codeL = numberL codeF firstByte 1
 
 -- no number follows a stamp
 abbrev pub stampL : Layout Stamp

@@ -13,7 +13,7 @@ use Rattle.format.specs.Format.{Bytes}
 use Rattle.decide.specs.declared.leading.Choice.{Choice}
 use Rattle.decide.specs.Decided.{Decided, decideRefusal, decisionAnswer}
 use Rattle.decide.specs.declared.Decision.the-variants as decisions
-use Rattle.decide.specs.Steps.{Usable, topAt, chosenPlace, Hit, ChoiceAs}
+use Rattle.decide.specs.Steps.{Usable, topAt, firstProven, Hit, ChoiceAs}
 use Rattle.decide.proofs.Outcomes.{decided-refused, decided-blank, decided-none, hit-small, hit-full, hit-rises, decided-found}
 use Rattle.decide.proofs.Arguments.{allowed}
 use Rattle.decide.proofs.decide.Statement.{statement}
@@ -72,8 +72,8 @@ returns-3 c =
     let at-top = c .before .before .before .before in
     let p = at-top .before in
     let q = at-top .top .ensures in
-    let n : chosenPlace (t p) (marks p) (kept p) (topAt (t p) (marks p) (kept p) (shelf (t p) .servers)) (shelf (t p) .servers) ≡ none =
-    ap (λ (x : ℕ). chosenPlace (t p) (marks p) (kept p) x (shelf (t p) .servers)) (sym q)
+    let n : firstProven (t p) (marks p) (kept p) (topAt (t p) (marks p) (kept p) (shelf (t p) .servers)) (shelf (t p) .servers) ≡ none =
+    ap (λ (x : ℕ). firstProven (t p) (marks p) (kept p) x (shelf (t p) .servers)) (sym q)
     ∙ c .before .before .find .ensures .nothing (c .if3 .taken) in
     told (decided-none (t p) (marks p) (kept p) (out p) (not-refused p) (bytes p) (omega (arith, c .before .before .before .if2 .left, q)) n)
 

@@ -84,7 +84,8 @@ module _ (c : tie.After-clock-refusal) where
       at-higher .higher .ensures ∙ ap (λ (d : List ℕ). higher real (start .args .writers .now) (start .args .call .high) (stampAt d))
       (at-higher .before .before .rest .ensures)
 
-  ended : (v : Bool) → c .before .is-full .result ≡ v → ends (shelf (start .args .party .t)) (start .args .call) (start .args .passed .head .server) ≡ v
+  ended : (v : Bool) → c .before .is-full .result ≡ v
+      → ends (shelf (start .args .party .t)) (start .args .call) (start .args .passed .head .server) ≡ v
   ended v e =
       ends-by (start .args .party .t) (start .args .call) (start .args .passed .head .server) _
       (ap (λ (z : Call). z .tally) (c .before .before .note-reply .ensures)
@@ -125,8 +126,8 @@ returns-2 c =
     let a = start q .args in
     let p = start q .pre in
     λ output l. rw (d .end-clock .ensures .0, d .end-clock .ensures .1)
-    (clock-ended (a .party .t) (a .party .client) (a .call) (a .reply .now) (a .passed .head) (p .0) (a .writers .now) (a .keys .now) (a .kept .now) output
-    (p .1 .0)
+    (clock-ended (a .party .t) (a .party .client) (a .call) (a .reply .now) (a .passed .head) (p .0) (a .writers .now) (a .keys .now)
+    (a .kept .now) output (p .1 .0)
     (q .clock-refusal .result) (a .room) (high q) (refusal-is q) (d .before .before .before .if1 .left) (high-is q) l
     (ended q _ (d .before .before .if2 .taken)))
 
@@ -136,8 +137,8 @@ returns-3 c =
     let a = start q .args in
     let p = start q .pre in
     λ output l. rw (c .more .ensures, q .before .before .note-reply .ensures, q .before .before .before .with-high .ensures)
-    (clock-noted (a .party .t) (a .party .client) (a .call) (a .reply .now) (a .passed .head) (p .0) (a .writers .now) (a .keys .now) (a .kept .now) output
-    (p .1 .0)
+    (clock-noted (a .party .t) (a .party .client) (a .call) (a .reply .now) (a .passed .head) (p .0) (a .writers .now) (a .keys .now)
+    (a .kept .now) output (p .1 .0)
     (q .clock-refusal .result) (a .room) (high q) (refusal-is q) (c .before .before .if1 .left) (high-is q) l (ended q _ (c .before .if2 .left)))
 
 pub take-clock-spec : {M : Type 1} → statement M

@@ -5,13 +5,13 @@ use mathlib.Core.Option.{none}
 use Prim.Native.Nat.{_-_, _≤_}
 use native.Mathlib.Omega.{arith}
 use Rattle.cluster.specs.Config.{shelf}
-use Rattle.decide.specs.Steps.{chosenPlace}
+use Rattle.decide.specs.Steps.{firstProven}
 use Rattle.decide.proofs.Firsts.{chosen-none, chosen-passed, chosen-here}
 use Rattle.decide.proofs.leading.find.Statement.{statement}
 use Rattle.decide.proofs.leading.find.Tie as tie
 
 abbrev Inv-loop : tie.InvT-loop
-Inv-loop kept replied key s i₀ i = (i ≤ s) × (chosenPlace (replied .t) (replied .marks) kept key i ≡ none)
+Inv-loop kept replied key s i₀ i = (i ≤ s) × (firstProven (replied .t) (replied .marks) kept key i ≡ none)
 
 abbrev μ-loop : tie.MeasureT-loop
 μ-loop kept replied key s i₀ i = s - i
@@ -68,7 +68,7 @@ returns-2 c =
     let a = c .before .before .before .before .args in
     let e : c .before .loop .i ≡ shelf (a .replied .t) .servers = omega (arith, c .before .before .servers .ensures .0) in
     record {
-      nothing = λ z. sym (ap (chosenPlace (a .replied .t) (a .replied .marks) (a .kept .now) (a .key)) e) ∙ c .before .loop .inv .1;
+      nothing = λ z. sym (ap (firstProven (a .replied .t) (a .replied .marks) (a .kept .now) (a .key)) e) ∙ c .before .loop .inv .1;
       hit = λ b z. absurd
           (omega (arith, z));
     }

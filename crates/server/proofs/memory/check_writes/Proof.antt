@@ -46,7 +46,8 @@ loop-again c =
     let w = took at-label in (
       omega arith,
       check-more _ (at-loop .loop .inv .1) (omega arith) (w .took .leaves) (λ i. at-loop .before .shared-slice-known .given i .fits)
-          (last-rank _ (w .label) (at-repeats .before .rank-of .ensures)) (c .raised .ensures) _ (at-repeats .repeats .ensures) (c .before .if1 .left),
+          (last-rank _ (w .label) (at-repeats .before .rank-of .ensures)) (c .raised .ensures) _ (at-repeats .repeats .ensures)
+          (c .before .if1 .left),
     )
 
 returns-3 : tie.Need-returns-3 Inv-loop μ-loop

@@ -7,7 +7,7 @@ use native.Mathlib.Omega.{arith}
 use lib.ListN.{length}
 use Rattle.cluster.specs.Config.{shelf}
 use Rattle.cluster.specs.Ranges.{topFaults, memorySize, capacity}
-use Rattle.wire.specs.Reads.{Took, TookLabelled, byteL, anyCandidateL}
+use Rattle.wire.specs.Reads.{TookAt, TookLabelled, byteL, anyCandidateL}
 use Rattle.wire.proofs.Heads.{byte-range}
 use Rattle.server.proofs.Open.{no-t, no-server, no-count, no-latest, at-writes, no-writes, opens, no-tail, servers-most}
 use Rattle.server.proofs.memory.open.Statement.{statement}
@@ -28,7 +28,7 @@ module _ (c : tie.After-t) where
   size-is : length memory ≡ memorySize
   size-is = c .before .before .before .before .pre
 
-  t-took : Took (byteL 1 topFaults) memory 0 t past-t
+  t-took : TookAt (byteL 1 topFaults) memory 0 t past-t
   t-took = rw (c .t .given .1) at (c .before .before .byte-field .ensures)
 
 -- Places far back, each named once: the place, and from where it is seen.
@@ -48,7 +48,7 @@ module _ (c : tie.After-server) where
   servers-are : servers ≡ shelf (t after-t) .servers
   servers-are = c .before .before .before .servers .ensures
 
-  server-took : Took (byteL 1 servers) (memory after-t) (past-t after-t) (c .server .given .0 .0) past-server
+  server-took : TookAt (byteL 1 servers) (memory after-t) (past-t after-t) (c .server .given .0 .0) past-server
   server-took = rw (c .server .given .1) at (c .before .before .byte-field2 .ensures)
 
 abbrev server-from-n : tie.After-n → tie.After-server
@@ -61,7 +61,7 @@ module _ (c : tie.After-n) where
   abbrev past-n : ℕ
   past-n = c .n .given .0 .1 .0 .at
 
-  n-took : Took (byteL 0 capacity) (memory (after-t after-server)) (past-server after-server) (c .n .given .0 .0) past-n
+  n-took : TookAt (byteL 0 capacity) (memory (after-t after-server)) (past-server after-server) (c .n .given .0 .0) past-n
   n-took = rw (c .n .given .1) at (c .before .before .byte-field3 .ensures)
 
 module _ (c : tie.After-c4) where

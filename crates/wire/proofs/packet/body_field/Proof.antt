@@ -20,8 +20,8 @@ unfolding bodyAt bodyLabel bodyNumber
 returns c =
     let a = c .before .before .before .args in
     let s = shelf (a .t) in
-    of-part s (a .s .now) (a .c .at) anyStampL (clock-reply-kind s) (λ d. refl) (λ d. refl) (c .before .match .keys1) (λ d. refl) (c .any-stamp-field .result)
-    (c .any-stamp-field .ensures)
+    of-part s (a .s .now) (a .c .at) anyStampL (clock-reply-kind s) (λ d. refl) (λ d. refl) (c .before .match .keys1) (λ d. refl)
+    (c .any-stamp-field .result) (c .any-stamp-field .ensures)
 
 returns-2 : tie.Need-returns-2
 unfolding bodyAt bodyLabel bodyNumber writeAt lengthAt shareAt shareOfSize
@@ -64,7 +64,8 @@ unfolding bodyAt bodyLabel bodyNumber
 returns-6 c =
     let a = c .before .before .before .before .args in
     let s = shelf (a .t) in
-    of-field s (a .s .now) (a .c .at) (candidatesL s) (filter-kind s) (λ d. refl) (λ d. sym (count-of s (getD d 0 0) (drop 1 d))) (c .before .before .match .keys6) (λ d. refl)
+    of-field s (a .s .now) (a .c .at) (candidatesL s) (filter-kind s) (λ d. refl) (λ d. sym (count-of s (getD d 0 0) (drop 1 d)))
+    (c .before .before .match .keys6) (λ d. refl)
     (c .before .candidates-field .result) (c .before .candidates-field .ensures) (c .unlabelled2 .ensures)
 
 returns-7 : tie.Need-returns-7
@@ -72,8 +73,8 @@ unfolding bodyAt bodyLabel bodyNumber heldAt
 returns-7 c =
     let a = c .before .before .before .args in
     let s = shelf (a .t) in
-    of-part s (a .s .now) (a .c .at) (heldL s) (filter-reply-kind s) (λ d. refl) (λ d. flag-of (eqb (getD d stampSize 0) 0) _) (c .before .match .keys7) (λ d. refl) (c .held-field .result)
-    (c .held-field .ensures)
+    of-part s (a .s .now) (a .c .at) (heldL s) (filter-reply-kind s) (λ d. refl) (λ d. flag-of (eqb (getD d stampSize 0) 0) _)
+    (c .before .match .keys7) (λ d. refl) (c .held-field .result) (c .held-field .ensures)
 
 returns-8 : tie.Need-returns-8
 returns-8 c =

@@ -46,7 +46,8 @@ returns-2 c =
     let at-match2 = c .before .before .before in
     let p = passed-from-match2 at-match2 in
     fragment-read (s p) (h p) (read p .packet)
-    (sym (fragment-absent (shelf (h p .t)) (drop headSize (s p)) (h p .kind) (at-match2 .match2 .keys2) (sym (read p .number) ∙ c .before .if1 .taken)))
+    (sym (fragment-absent (shelf (h p .t)) (drop headSize (s p)) (h p .kind) (at-match2 .match2 .keys2)
+    (sym (read p .number) ∙ c .before .if1 .taken)))
 
 returns-3 : tie.Need-returns-3
 returns-3 c =

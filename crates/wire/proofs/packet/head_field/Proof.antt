@@ -7,7 +7,7 @@ use Prim.Native.Nat.{ℕ, _≤_}
 use Rattle.cluster.specs.Ranges.{topClient, mostServers, topFaults, topNumber}
 use Rattle.format.proofs.Leaves.{stops-first, stops-second, stops-via, stops-kept}
 use Rattle.protocol.specs.Packet.{headF}
-use Rattle.wire.specs.Reads.{Took, byteL, number4L}
+use Rattle.wire.specs.Reads.{TookAt, byteL, number4L}
 use Rattle.wire.proofs.Heads.{head-took, head-outside, byte-range}
 use Rattle.wire.proofs.packet.head_field.Statement.{statement}
 use Rattle.wire.proofs.packet.head_field.Tie as tie
@@ -18,21 +18,21 @@ module _ (c : tie.After-kind) where
   abbrev s : List ℕ
   s = c .before .before .before .before .args .s .now
 
-  kind-took : Took (byteL 1 12) s 0 (c .kind .given .0 .0) (c .kind .given .0 .1 .0 .at)
+  kind-took : TookAt (byteL 1 12) s 0 (c .kind .given .0 .0) (c .kind .given .0 .1 .0 .at)
   kind-took = rw (c .kind .given .1) at (c .before .before .byte-field .ensures)
 
 module _ (c : tie.After-client) where
   abbrev kind-at : tie.After-kind
   kind-at = c .before .before .before .before
 
-  client-took : Took (byteL 1 topClient) (s kind-at) (kind-at .kind .given .0 .1 .0 .at) (c .client .given .0 .0) (c .client .given .0 .1 .0 .at)
+  client-took : TookAt (byteL 1 topClient) (s kind-at) (kind-at .kind .given .0 .1 .0 .at) (c .client .given .0 .0) (c .client .given .0 .1 .0 .at)
   client-took = rw (c .client .given .1) at (c .before .before .byte-field2 .ensures)
 
 module _ (c : tie.After-server) where
   abbrev client-at : tie.After-client
   client-at = c .before .before .before .before
 
-  server-took : Took (byteL 1 mostServers) (s (kind-at client-at)) (client-at .client .given .0 .1 .0 .at) (c .server .given .0 .0)
+  server-took : TookAt (byteL 1 mostServers) (s (kind-at client-at)) (client-at .client .given .0 .1 .0 .at) (c .server .given .0 .0)
       (c .server .given .0 .1 .0 .at)
   server-took = rw (c .server .given .1) at (c .before .before .byte-field3 .ensures)
 
@@ -40,7 +40,7 @@ module _ (c : tie.After-t) where
   abbrev server-at : tie.After-server
   server-at = c .before .before .before .before
 
-  t-took : Took (byteL 1 topFaults) (s (kind-at (client-at server-at))) (server-at .server .given .0 .1 .0 .at) (c .t .given .0 .0)
+  t-took : TookAt (byteL 1 topFaults) (s (kind-at (client-at server-at))) (server-at .server .given .0 .1 .0 .at) (c .t .given .0 .0)
       (c .t .given .0 .1 .0 .at)
   t-took = rw (c .t .given .1) at (c .before .before .byte-field4 .ensures)
 
@@ -48,7 +48,7 @@ module _ (c : tie.After-call) where
   abbrev t-at : tie.After-t
   t-at = c .before .before .before .before
 
-  call-took : Took (number4L 1 topNumber) (s (kind-at (client-at (server-at t-at)))) (t-at .t .given .0 .1 .0 .at) (c .call .given .0 .0)
+  call-took : TookAt (number4L 1 topNumber) (s (kind-at (client-at (server-at t-at)))) (t-at .t .given .0 .1 .0 .at) (c .call .given .0 .0)
       (c .call .given .0 .1 .0 .at)
   call-took = rw (c .call .given .1) at (c .before .before .number4-field .ensures)
 

@@ -7,7 +7,7 @@ use Prim.Native.Nat.{ℕ}
 use Rattle.cluster.specs.Config.{Config, shelf}
 use Rattle.format.proofs.Leaves.{stops-first, stops-via}
 use Rattle.protocol.specs.Packet.{heldF}
-use Rattle.wire.specs.Reads.{Took, TookLabelled, anyStampL, byteL}
+use Rattle.wire.specs.Reads.{TookAt, TookLabelled, anyStampL, byteL}
 use Rattle.wire.proofs.Optional.{held-absent, held-present, held-flag-stops, held-share-stops}
 use Rattle.wire.proofs.parts.held_field.Statement.{statement}
 use Rattle.wire.proofs.parts.held_field.Tie as tie
@@ -38,7 +38,7 @@ module _ (c : tie.After-flag) where
   abbrev stamp : tie.After-label
   stamp = c .before .before .before .before .before
 
-  flag-took : Took (byteL 0 (limit .held-most .result)) (s stamp) (p1 stamp) (c .flag .given .0 .0) (c .flag .given .0 .1 .0 .at)
+  flag-took : TookAt (byteL 0 (limit .held-most .result)) (s stamp) (p1 stamp) (c .flag .given .0 .0) (c .flag .given .0 .1 .0 .at)
   flag-took = rw (c .flag .given .1) at (c .before .before .byte-field .ensures)
 
 -- ---- the needs

@@ -8,7 +8,7 @@ use Rattle.cluster.specs.Ranges.{leastLength, topLength}
 use Rattle.protocol.specs.Values.{digestSize, digestsSize, tagsSize}
 use Rattle.protocol.specs.Packet.{shareF}
 use Rattle.format.proofs.Leaves.{stops-first, stops-via}
-use Rattle.wire.specs.Reads.{Took, number2L}
+use Rattle.wire.specs.Reads.{TookAt, number2L}
 use Rattle.wire.proofs.Through.{Ran, Fragment, share-took, share-stops1, share-stops2, share-stops3, share-stops4}
 use Rattle.wire.proofs.parts.share_field.Statement.{statement}
 use Rattle.wire.proofs.parts.share_field.Tie as tie
@@ -35,7 +35,7 @@ module _ (c : tie.After-n) where
   abbrev p1 : ℕ
   p1 = c .n .given .0 .1 .0 .at
 
-  length-took : Took (number2L leastLength topLength) s at size p1
+  length-took : TookAt (number2L leastLength topLength) s at size p1
   length-took = rw (c .n .given .1) at (c .before .before .number2-field .ensures)
 
 module _ (c : tie.After-c2) where

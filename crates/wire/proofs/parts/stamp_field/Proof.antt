@@ -7,7 +7,7 @@ use native.Mathlib.Omega.{arith}
 use Rattle.cluster.specs.Ranges.{topNumber, topWriter}
 use Rattle.format.proofs.Leaves.{stops-first, stops-second, stops-via}
 use Rattle.protocol.specs.Packet.{stampF}
-use Rattle.wire.specs.Reads.{Took, number4L, byteL}
+use Rattle.wire.specs.Reads.{TookAt, number4L, byteL}
 use Rattle.wire.proofs.Heads.{byte-range}
 use Rattle.wire.proofs.Through.{stamp-took}
 use Rattle.wire.proofs.parts.stamp_field.Statement.{statement}
@@ -26,14 +26,14 @@ module _ (c : tie.After-number) where
   abbrev p1 : ℕ
   p1 = c .number .given .0 .1 .0 .at
 
-  number-took : Took (number4L 1 topNumber) s (start-from-number c .args .c .at) (c .number .given .0 .0) p1
+  number-took : TookAt (number4L 1 topNumber) s (start-from-number c .args .c .at) (c .number .given .0 .0) p1
   number-took = rw (c .number .given .1) at (c .before .before .number4-field .ensures)
 
 module _ (c : tie.After-writer) where
   abbrev first : tie.After-number
   first = c .before .before .before .before
 
-  writer-took : Took (byteL 1 topWriter) (s first) (p1 first) (c .writer .given .0 .0) (c .writer .given .0 .1 .0 .at)
+  writer-took : TookAt (byteL 1 topWriter) (s first) (p1 first) (c .writer .given .0 .0) (c .writer .given .0 .1 .0 .at)
   writer-took = rw (c .writer .given .1) at (c .before .before .byte-field .ensures)
 
 -- ---- the needs
