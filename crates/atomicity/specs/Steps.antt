@@ -19,7 +19,6 @@ use Rattle.runs.specs.Runs.{Step, Typed, Account, onTaken}
 -- passed on to those who import the steps
 pub use Rattle.runs.specs.Runs.{bytesIn, makes, serves}
 
-
 -- the functions, the shelf's numbers, the writers' key and the servers' keys
 pub record System : Type 0 where
   pub P : Primitives

@@ -13,7 +13,7 @@ use Rattle.cluster.specs.Config.{shelf}
 use Rattle.cluster.specs.Ranges.{within}
 use Rattle.erasure.specs.Fragments.{Part}
 use Rattle.protocol.specs.Rules.{ByServer, highest}
-use Rattle.erasure.specs.Choice.{among, differentAmong, firstDifferent, partsAt}
+use Rattle.erasure.specs.Choice.{among, picked, firstDifferent, partsAt}
 use Rattle.erasure.specs.Steps.{each}
 use Rattle.decide.specs.Steps.{serversOf, Rising}
 
@@ -106,8 +106,8 @@ module _ (ss : List ℕ) (rise : (i j : ℕ) → i < j → j < length ss → get
       ∙ among-append (getD ss j 0) (map (λ p. getD ss p 0) (places i)) (getD ss i 0 ∷ [])
       ∙ rw (not-before i j (omega arith) h, ne-eqb (getD ss i 0) (getD ss j 0) (λ e. let k = rise i j (omega arith) h in omega arith))
 
-  chosen-places : (i : ℕ) → i ≤ length ss → differentAmong (length ss) ss i ≡ places i
-  unfolding differentAmong places
+  chosen-places : (i : ℕ) → i ≤ length ss → picked (length ss) ss i ≡ places i
+  unfolding picked places
   chosen-places zero h = refl
   chosen-places (suc i) h =
       rw (chosen-places i (omega arith), places-length i, lt-ltb i (length ss) (omega arith), not-before i i (omega arith) (omega arith))

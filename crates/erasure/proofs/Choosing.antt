@@ -13,7 +13,7 @@ use lib.Arith.{lt-of-le-ne}
 use lib.Dec.{eqb, ltb}
 use lib.ListN.{length, getD, length-append, List·getD-append}
 use lib.Seq.{getD-append-seam}
-use Rattle.erasure.specs.Choice.{among, differentAmong, more, serversAt}
+use Rattle.erasure.specs.Choice.{among, picked, more, serversAt}
 
 pub among-found : (b : ℕ) (xs : List ℕ) (j : ℕ) → j < length xs → getD xs j 0 ≡ b → among b xs ≡ true
 unfolding among
@@ -64,22 +64,22 @@ step true true xs b e o = o
 step true false xs b e o = snoc xs b o e
 step false s xs b e o = o
 
-pub chosen-ordered : (k : ℕ) (ss : List ℕ) (i : ℕ) → Ordered (serversAt ss (differentAmong k ss i))
-unfolding differentAmong
+pub chosen-ordered : (k : ℕ) (ss : List ℕ) (i : ℕ) → Ordered (serversAt ss (picked k ss i))
+unfolding picked
 chosen-ordered k ss zero = λ i j l h. absurd (not-suc-le-zero h)
 chosen-ordered k ss (suc i) =
-    let ps = differentAmong k ss i in
+    let ps = picked k ss i in
     let b = getD ss i 0 in
     let s = among b (serversAt ss ps) in
     subst Ordered (sym (more-map (λ p. getD ss p 0) (ltb (length ps) k) s ps i)) (step (ltb (length ps) k) s (serversAt ss ps) b refl
     (chosen-ordered k ss i))
 
-pub chosen-different : (k : ℕ) (ss : List ℕ) (n i j : ℕ) → let xs = serversAt ss (differentAmong k ss n) in i < length xs → j < length xs → i ≢ j → getD xs
+pub chosen-different : (k : ℕ) (ss : List ℕ) (n i j : ℕ) → let xs = serversAt ss (picked k ss n) in i < length xs → j < length xs → i ≢ j → getD xs
     i 0 ≢ getD xs j 0
 chosen-different k ss n i j hi hj ne e = go (decLt i j)
   where
     xs : List ℕ
-    xs = serversAt ss (differentAmong k ss n)
+    xs = serversAt ss (picked k ss n)
 
     go : Dec (i < j) → ⊥
     go (yes l) = chosen-ordered k ss n i j l hj e
@@ -100,9 +100,9 @@ more-lt true false ps i h j l = go (decLt j (length ps))
         let e : getD (ps ++ (i ∷ [])) j 0 ≡ i = ap (λ (x : ℕ). getD (ps ++ (i ∷ [])) x 0) q ∙ getD-append-seam ps i [] 0 in
         omega (arith, e)
 
-pub chosen-lt : (k : ℕ) (ss : List ℕ) (i j : ℕ) → j < length (differentAmong k ss i) → getD (differentAmong k ss i) j 0 < i
-unfolding differentAmong
+pub chosen-lt : (k : ℕ) (ss : List ℕ) (i j : ℕ) → j < length (picked k ss i) → getD (picked k ss i) j 0 < i
+unfolding picked
 chosen-lt k ss zero j h = absurd (not-suc-le-zero h)
 chosen-lt k ss (suc i) j h =
-    more-lt (ltb (length (differentAmong k ss i)) k) (among (getD ss i 0) (map (λ p. getD ss p 0) (differentAmong k ss i))) (differentAmong k ss i) i (chosen-lt k ss i)
+    more-lt (ltb (length (picked k ss i)) k) (among (getD ss i 0) (map (λ p. getD ss p 0) (picked k ss i))) (picked k ss i) i (chosen-lt k ss i)
     j h

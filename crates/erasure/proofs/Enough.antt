@@ -14,7 +14,7 @@ use lib.Dec.{eqb, ltb}
 use lib.ListN.{length, getD, length-append, length-map}
 use lib.Seq.{getD-append-seam}
 use Rattle.gf256.proofs.Apart.{Distinct, apart-at}
-use Rattle.erasure.specs.Choice.{among, more, differentAmong, serversAt, firstDifferent}
+use Rattle.erasure.specs.Choice.{among, more, picked, serversAt, firstDifferent}
 use Rattle.erasure.proofs.Choosing.{among-found, map-snoc}
 
 -- ---- a list without the first d
@@ -86,12 +86,12 @@ step k ss ps i true false r m ih l j h = subst (λ (xs : List ℕ). among (getD 
         among-left (getD ss j 0) (serversAt ss ps) (getD ss i 0 ∷ []) (ih (omega (arith, length-append ps (i ∷ []))) j
         (lt-of-le-ne (le-of-suc-le-suc h) ne))
 
-all-among : (k : ℕ) (ss : List ℕ) (i : ℕ) → length (differentAmong k ss i) < k → (j : ℕ) → j < i → among (getD ss j 0) (serversAt ss (differentAmong k ss i)) ≡
+all-among : (k : ℕ) (ss : List ℕ) (i : ℕ) → length (picked k ss i) < k → (j : ℕ) → j < i → among (getD ss j 0) (serversAt ss (picked k ss i)) ≡
     true
-unfolding differentAmong
+unfolding picked
 all-among k ss zero l j h = absurd (not-suc-le-zero h)
 all-among k ss (suc i) l j h =
-    step k ss (differentAmong k ss i) i (ltb (length (differentAmong k ss i)) k) (among (getD ss i 0) (serversAt ss (differentAmong k ss i))) refl refl
+    step k ss (picked k ss i) i (ltb (length (picked k ss i)) k) (among (getD ss i 0) (serversAt ss (picked k ss i))) refl refl
     (all-among k ss i) l j h
 
 -- d stands somewhere in ss
@@ -104,7 +104,7 @@ unfolding firstDifferent
 enough k ss ds d l at = go (decLt (length ps) k)
   where
     ps : List ℕ
-    ps = differentAmong k ss (length ss)
+    ps = picked k ss (length ss)
 
     go : Dec (length ps < k) → k ≤ length ps
     go (no n) = omega arith

@@ -22,14 +22,14 @@ abbrev pub serversAt : List ℕ → List ℕ → List ℕ
 serversAt servers places = map (λ p. getD servers p 0) places
 
 -- the places of the first k different servers among the first i given, in order
-unfoldable pub differentAmong : ℕ → List ℕ → ℕ → List ℕ
-differentAmong k servers zero = []
-differentAmong k servers (suc i) =
-    more (ltb (length (differentAmong k servers i)) k) (among (getD servers i 0) (serversAt servers (differentAmong k servers i))) (differentAmong k servers i) i
+unfoldable pub picked : ℕ → List ℕ → ℕ → List ℕ
+picked k servers zero = []
+picked k servers (suc i) =
+    more (ltb (length (picked k servers i)) k) (among (getD servers i 0) (serversAt servers (picked k servers i))) (picked k servers i) i
 
 -- the places of the first k different servers
 unfoldable pub firstDifferent : ℕ → List ℕ → List ℕ
-firstDifferent k servers = differentAmong k servers (length servers)
+firstDifferent k servers = picked k servers (length servers)
 
 -- the fragments of f bytes at these places of the fragments given, which stand one after the other
 unfoldable pub partsAt : ℕ → List ℕ → List ℕ → List ℕ → List Part

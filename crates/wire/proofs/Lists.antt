@@ -55,7 +55,8 @@ module _ (c : Config) {s : List ℕ} {at : ℕ} where
   unfolding candidateList
   run-none h = record { leaves = leaves-none (candidateF c) 0 h; place = omega arith }
 
-  pub run-more : (i : ℕ) {k v q : ℕ} → Past (many i (candidateF c)) s at (candidateList c i (drop at s)) k (candidateSize c * i) → TookAt (candidateL c)
+  pub run-more : (i : ℕ) {k v q : ℕ} → Past (many i (candidateF c)) s at (candidateList c i (drop at s)) k (candidateSize c * i)
+      → TookAt (candidateL c)
       s k v q
       → Past (many (i + 1) (candidateF c)) s at (candidateList c (i + 1) (drop at s)) q (candidateSize c * (i + 1))
   unfolding candidateList
@@ -89,7 +90,8 @@ module _ (c : Config) {s : List ℕ} {at : ℕ} where
   unfolding candidatesF
   list-stops S es z = stops-via _ _ _ (stops-first _ _ (subst (λ (k : ℕ). Stops (byte 0 k) s at) es z))
 
-  pub list-breaks : (S : ℕ) → S ≡ c .servers → {n p : ℕ} → TookAt (byteL 0 S) s at n p → Stops (many n (candidateF c)) s p → Stops (candidatesF c) s at
+  pub list-breaks : (S : ℕ) → S ≡ c .servers → {n p : ℕ} → TookAt (byteL 0 S) s at n p → Stops (many n (candidateF c)) s p
+      → Stops (candidatesF c) s at
   unfolding candidatesF
   list-breaks S es {n} {p} a z =
       stops-via _ _ _

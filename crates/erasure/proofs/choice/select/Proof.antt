@@ -9,20 +9,20 @@ use lib.Dec.{ltb}
 use lib.ListN.{length, getD, take}
 use lib.Seq.{length-take-le}
 use Rattle.erasure.specs.System.{width}
-use Rattle.erasure.specs.Choice.{among, more, differentAmong, firstDifferent}
+use Rattle.erasure.specs.Choice.{among, more, picked, firstDifferent}
 use Rattle.erasure.specs.Chosen.{Holds}
 use Rattle.erasure.proofs.Choosing.{more-map}
 use Rattle.erasure.proofs.choice.select.Statement.{statement}
 use Rattle.erasure.proofs.choice.select.Tie as tie
 
 abbrev Inv-loop : tie.InvT-loop
-Inv-loop servers k c₀ i₀ c i = (i ≤ length servers) × (length (differentAmong k servers i) ≡ c .count) × Holds k servers (differentAmong k servers i) c
+Inv-loop servers k c₀ i₀ c i = (i ≤ length servers) × (length (picked k servers i) ≡ c .count) × Holds k servers (picked k servers i) c
 
 abbrev μ-loop : tie.MeasureT-loop
 μ-loop servers k c₀ i₀ c i = length servers - i
 
 loop-holds : tie.Need-loop-holds Inv-loop μ-loop
-unfolding differentAmong
+unfolding picked
 loop-holds c = (search needs, refl, record { room = search needs; places-is = refl; servers-is = refl })
 
 cast-add-server : tie.Need-cast-add-server Inv-loop μ-loop
@@ -35,13 +35,13 @@ add-server-requires : tie.Need-add-server-requires Inv-loop μ-loop
 add-server-requires c κs = (c .before .before .loop .inv .2 .room, search needs)
 
 loop-again : tie.Need-loop-again Inv-loop μ-loop
-unfolding differentAmong
+unfolding picked
 loop-again c =
     let at = c .before .before .before .loop in
     let start = c .before .before .before .before .before in
     let bs = denote.Ref.now (start .args .servers) in
     let k = start .args .k in
-    let ps = differentAmong k bs (at .i) in
+    let ps = picked k bs (at .i) in
     let g : ℕ → ℕ = λ p. getD bs p 0 in
     let b = getD bs (at .i) 0 in
     let new = c .add-server .result in
@@ -60,8 +60,8 @@ loop-again c =
     let room′ : new .count ≤ k = c .add-server .ensures .0 in
     let len : length ps′ ≡ new .count = ap length (sym places′) ∙ length-take-le (new .count) (new .at) (omega arith) in (
       search needs,
-      subst (λ (n : ℕ). length (differentAmong k bs n) ≡ new .count) (sym (add-one (at .i))) len,
-      subst (λ (n : ℕ). Holds k bs (differentAmong k bs n) new) (sym (add-one (at .i))) (record
+      subst (λ (n : ℕ). length (picked k bs n) ≡ new .count) (sym (add-one (at .i))) len,
+      subst (λ (n : ℕ). Holds k bs (picked k bs n) new) (sym (add-one (at .i))) (record
           { room = room′; places-is = places′; servers-is = servers′ }),
     )
 
@@ -71,7 +71,7 @@ returns c =
     let at = c .before .loop in
     let start = c .before .before .before in
     let bs = denote.Ref.now (start .args .servers) in
-    subst (λ (n : ℕ). Holds (start .args .k) bs (differentAmong (start .args .k) bs n) (at .c)) (omega arith) (at .inv .2)
+    subst (λ (n : ℕ). Holds (start .args .k) bs (picked (start .args .k) bs n) (at .c)) (omega arith) (at .inv .2)
 
 pub select-spec : {M : Type 1} → statement M
 select-spec = tie.close (tie.spec Inv-loop μ-loop loop-holds (λ c. search needs) (λ c. search needs) cast-add-server add-server-requires
