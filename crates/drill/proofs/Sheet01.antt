@@ -28,5 +28,5 @@ sheet =
 printed : listing sheet
     ≡ row (2 ∷ 2 ∷ 2 ∷ 4 ∷ 0 ∷ 0 ∷ 0 ∷ 0 ∷ [])
     ++ (row (3 ∷ 3 ∷ 2 ∷ 4 ∷ 0 ∷ 0 ∷ 0 ∷ 0 ∷ []) ++ (row (4 ∷ 3 ∷ 2 ∷ 4 ∷ 0 ∷ 0 ∷ 0 ∷ 0 ∷ []) ++ row (5 ∷ 5 ∷ 2 ∷ 0 ∷ 4 ∷ 0 ∷ 0 ∷ 0 ∷ [])))
-unfolding sheet shelf quorum format.byte format.number2 format.number4 format.run format.empty format.seq format.via format.keep format.orBlank format.many format.optional packet.stampF packet.anyStampF packet.shareF packet.writeF packet.candidateF packet.anyCandidateF packet.candidatesF packet.heldF packet.codeF packet.bodyF packet.headF packet.packetF packet.decode packet.encode memoryF decodeMemory encodeMemory upd made readRefusal makeRefusal abortRefusal takeRefusal act barred replyTo serverRefusal bytesAt marked candidatesIn handOf view over serverIn turnedDown actedOn serverTake put bytes.fresh bytes.inHand bytes.awaited bytes.putMarks bytes.putReply bytes.begins bytes.putBack bytes.after bytes.begunBy bytes.beginRead bytes.giveUp bytes.clientMake bytes.tookBy bytes.clientTake awaits isIdle isFull onto begun update readStep abortStep makeStep turnOn highAt tooHigh takeStep countTo nobody setMachine doBytes nowBytes before lines digits number column numbersIn readColumns readText sheets.fieldsOf sheets.readLine sheets.isStep sheets.firstLine sheets.stepLine steps.drillShelf steps.lentTo steps.start steps.visitRefusal steps.visited steps.visitLine steps.stepOf steps.shownAs steps.shown steps.roundOf justified columns row stepRow rows listed listing
+unfolding sheet shelf quorum format.byte format.number2 format.number4 format.run format.empty format.seq format.via format.such format.orBlank format.many format.optional packet.stampF packet.anyStampF packet.shareF packet.writeF packet.candidateF packet.anyCandidateF packet.candidatesF packet.heldF packet.codeF packet.bodyF packet.headF packet.packetF packet.decode packet.encode memoryF decodeMemory encodeMemory upd made readRefusal makeRefusal abortRefusal takeRefusal act barred replyTo serverRefusal bytesAt marked candidatesIn handOf view over serverIn turnedDown actedOn serverTake put bytes.fresh bytes.inHand bytes.awaited bytes.putMarks bytes.putReply bytes.begins bytes.putBack bytes.after bytes.begunBy bytes.beginRead bytes.giveUp bytes.clientMake bytes.tookBy bytes.clientTake awaits isIdle isFull onto begun update readStep abortStep makeStep turnOn highAt tooHigh takeStep countTo nobody setMachine doBytes nowBytes before lines digits number column numbersIn readColumns readText sheets.fieldsOf sheets.readLine sheets.isStep sheets.firstLine sheets.stepLine steps.drillShelf steps.lentTo steps.start steps.visitRefusal steps.visited steps.visitLine steps.stepOf steps.shownAs steps.shown steps.roundShown justified columns row stepRow rows listed listing
 printed = refl

@@ -21,12 +21,15 @@ pub struct Moved {
     pub begun: u32,
 }
 
+// Where a nonce has its last four bytes, which hold the number.
+const NUMBER_PLACE: usize = cluster::KEY - wire::sizes::NUMBER;
+
 // k as a 32-byte number.
 fn nonce_for(k: u32) -> [u8; cluster::KEY]
     ensures { λ r. ⌜ r ≡ nonceFor k ⌝ }
 {
     let mut nonce = [0u8; cluster::KEY];
-    let _ = wire::make::put_number4(&mut nonce, cluster::KEY - wire::sizes::NUMBER, k);
+    let _ = wire::make::put_number4(&mut nonce, NUMBER_PLACE, k);
     nonce
 }
 

@@ -26,4 +26,4 @@ returns-2 c =
 
 pub cendrulas-digest-spec : {M : Type 1} → statement M
 cendrulas-digest-spec = tie.close (tie.spec (λ c κs. search needs) returns (λ c κs. search needs) (λ c. search needs) (λ c κs. search needs)
-    (λ c κs. search needs) (λ c. search needs) returns-2)
+    (λ c. search needs) (λ c κs. search needs) (λ c. search needs) returns-2)
