@@ -1,15 +1,13 @@
 -- Marks, the writes that have a stamp: each is made by the reply that ends clock, and its stamp is the one that its client makes of its number.
 -- Assumes nothing.
 use mathlib.Core.Path.{_≡_, refl, sym, ap, _∙_, subst}
-use mathlib.Core.Bool.{true, not, _&&_}
+use mathlib.Core.Bool.{true}
 use mathlib.Core.List.{List, [], _∷_}
 use mathlib.Core.Logic.{_⊎_, inl, inr}
 use Prim.Native.Nat.{ℕ, suc, _≤_}
 use native.Mathlib.Omega.{arith}
-use lib.Dec.{eqb}
-use borrow.Author.Tests.{ne-eqb}
 use Rattle.protocol.specs.declared.Stamp.{Stamp}
-use Rattle.protocol.specs.Values.{sameList, isBlank}
+use Rattle.protocol.specs.Values.{sameList}
 use Rattle.protocol.specs.Primitives.{stampMessage}
 use Rattle.protocol.specs.Client.{Client, Hand, awaits, Result, idle, clocking, storing, completing, collecting, filtering, repairing, prepared}
 use Rattle.protocol.specs.Client.{candidateMade, stampOf, checks, accepted}
@@ -17,7 +15,7 @@ use Rattle.runs.specs.Runs.{Lent, Step, write, read, make, take-reply, give-up,
 use Rattle.protocol.proofs.Equal.{same-refl}
 use Rattle.atomicity.specs.Lists.{In}
 use Rattle.atomicity.specs.Steps.{StepIn, System, Stamped, stampedFrom, stampedBy, stampedAt}
-use Rattle.atomicity.proofs.Util.{and-intro, not-f, right-in, split-in}
+use Rattle.atomicity.proofs.Util.{right-in, split-in}
 use Rattle.atomicity.proofs.Model.{Run, account, clientAt, resultAt, handAt, lastAt, marks, stampFor, preparedFor}
 use Rattle.atomicity.proofs.Moves.{MovedAt, kept, wbegan, rbegan, quit, took, moved}
 use Rattle.atomicity.proofs.Rounds.{Next, stays, clock-on, clock-ends, store-ends, collect-on, collect-ends, filter-on, filter-ends, over}

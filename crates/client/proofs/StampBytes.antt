@@ -1,7 +1,7 @@
 -- The bytes of stamps and of runs of tags: what a clock reply's stamp raises the number to, and how runs are written one entry after another.
 -- A number's four bytes print back as they were, and an entry put after a run is the longer run put once. Assumes nothing.
 use mathlib.Core.Path.{_≡_, refl, sym, ap, _∙_}
-use mathlib.Core.Bool.{true, false, not, and-false}
+use mathlib.Core.Bool.{true, false, not}
 use mathlib.Core.List.{List, [], _∷_, _++_, append-nil}
 use Prim.Native.Nat.{ℕ, zero, suc, _+_, _-_, _*_, _≤_, _<_}
 use native.Mathlib.Omega.{arith}
@@ -9,10 +9,10 @@ use native.Mathlib.Numerals.{add-one}
 use lib.Dec.{eqb}
 use lib.ListN.{length, drop, getD, length-append}
 use lib.Seq.{drop-length}
-use borrow.Author.Tests.{lt-ltb, le-ltb, ne-eqb}
+use borrow.Author.Tests.{lt-ltb, le-ltb}
 use Rattle.hmac.specs.Hmac.{tagOf, tagSize}
 use Rattle.format.specs.Format.{Bytes}
-use Rattle.protocol.specs.Values.{sameList, isBlank, runOf}
+use Rattle.protocol.specs.Values.{sameList, runOf}
 use Rattle.protocol.specs.Primitives.{real, stampMessage}
 use Rattle.protocol.specs.Client.{higher, checks}
 use Rattle.protocol.specs.View.{stampAt, marked}

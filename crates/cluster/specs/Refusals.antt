@@ -13,7 +13,7 @@ abbrev pub refuse : ℕ → Bool → Check
 refuse n b = record { number = n; when = b }
 
 -- A number above those of documents 01 and 02: a lent buffer, for whose length the table has no number, is not of its size.
--- Only callers that lend slices can meet it, and it is tested before all others
+-- Only callers that lend slices can meet it, and it is tested before all others (making a packet tests 15 first)
 abbrev pub wrongSize : ℕ
 wrongSize = 255
 

@@ -1,5 +1,5 @@
 -- The steps of a drill: protocol's own steps on bytes, on document 01's keys and nonces, and what a listing shows of each.
-use mathlib.Core.Bool.{true, false, cond, not}
+use mathlib.Core.Bool.{cond, not}
 use mathlib.Core.List.{List, [], _∷_, _++_, map}
 use Prim.Native.Nat.{ℕ, suc, _+_}
 use lib.Dec.{eqb}

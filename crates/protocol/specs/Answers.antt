@@ -17,7 +17,7 @@ use Rattle.protocol.specs.Pending.{Result, refused, more, written, gave,
 abbrev pub bare : ℕ → Answer
 bare n = record { result = n; number = 0; writer = 0; length = 0 }
 
--- results above it tell a refusal
+-- results from it on tell a refusal: it and the refusal's number
 abbrev pub refusals : ℕ
 refusals = 100
 
