@@ -1,4 +1,5 @@
 -- What the covered functions return, as the definitions' records: an enum by its answer in document 01's numbers.
+-- `writtenAs` and `readAs` are for what private functions promise; no public contract names them.
 use mathlib.Core.List.{List}
 use Prim.Native.Nat.{ℕ}
 use Rattle.protocol.specs.declared.Stamp.{Stamp}

@@ -1,5 +1,6 @@
 -- A shelf's parameters (document 01, "The parts"; document 01 says box for server).
 -- Every threshold and every length is a function of these: no other definition writes 2t+1, t+1 or 3t+1.
+-- `PointTable` and `Legal` are for the laws and for private functions; no public contract names them.
 use mathlib.Core.Path.{_≡_}
 use mathlib.Core.Logic.{_≢_}
 use mathlib.Core.List.{List, [], _∷_, _++_}

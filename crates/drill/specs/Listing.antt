@@ -1,4 +1,5 @@
 -- The listing of a drill sheet, and the drill as one operation over a sheet, an output and a lent work area (document 01, "Drill sheets").
+-- `ListsAs` is what a private function promises; no public contract names it.
 use mathlib.Core.Path.{_≡_}
 use mathlib.Core.Bool.{cond, not}
 use mathlib.Core.List.{List, [], _∷_, _++_}

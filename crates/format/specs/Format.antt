@@ -1,5 +1,6 @@
 -- Formats: how a value is printed, how it is parsed off the front of a list of bytes, and which values it holds.
 -- A layout is one term of these combinators. Their laws stand in proofs/Formats: what is printed is parsed back, and what is parsed was printed.
+-- `Lawful` is for these laws; no contract names it.
 use mathlib.Core.Path.{_≡_}
 use mathlib.Core.Bool.{Bool, true, false, cond, _&&_}
 use mathlib.Core.Option.{Option, none, some}

@@ -1,4 +1,5 @@
 -- Places in a list of bytes, and what a reader or a writer of a field does there: the words in which the code's contracts speak of formats.
+-- `Wrote` is for what private functions promise; no public contract names it.
 use mathlib.Core.Path.{_≡_}
 use mathlib.Core.Option.{none, some}
 use mathlib.Core.List.{List, _++_}

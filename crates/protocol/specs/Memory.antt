@@ -1,4 +1,5 @@
 -- A server's memory: what it holds, and the 40,960 bytes that fix it (document 01, "The box").
+-- `MemoryOk` is for the laws that a record and its bytes fix each other; no contract names it.
 use mathlib.Core.Bool.{Bool, true, cond, not, _&&_}
 use mathlib.Core.Option.{Option, none, some}
 use mathlib.Core.List.{List, [], _∷_, _++_}

@@ -1,5 +1,6 @@
 -- Packets: a value for each kind, and the bytes that it fixes (document 01, "Packets").
 -- The layout goes by the packet's own t. A field out of its range breaks the layout, and so does a byte too many or too few: refusal 7.
+-- `PacketOk` is for the laws that packet and fields fix each other; no contract names it.
 use mathlib.Core.Path.{_≡_}
 use mathlib.Core.Bool.{cond, _||_}
 use mathlib.Core.Option.{Option, none, some}

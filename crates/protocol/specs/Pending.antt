@@ -1,5 +1,6 @@
 -- A pending call (Algorithms 4 and 6 as document 01, "The client", amends them): its rounds, what a write makes, its packets, and what a reply holds,
 -- on values. Document 01 says call in hand for pending call and giving up for abort.
+-- `newClient` is for the proof; the contracts have `newCall` of ClientBytes.
 use mathlib.Core.Bool.{Bool, true, false, cond}
 use mathlib.Core.List.{List}
 use Prim.Native.Nat.{ℕ}

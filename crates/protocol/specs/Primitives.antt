@@ -1,4 +1,5 @@
 -- The functions that the protocol rests on, and the bytes that are tagged.
+-- `Lengths` is for the laws; no contract names it.
 use mathlib.Core.Path.{_≡_}
 use mathlib.Core.List.{List, [], _∷_, _++_}
 use Prim.Native.Nat.{ℕ}

@@ -1,5 +1,6 @@
 -- What stands at the places of a packet. A packet that is let through is told by its head and its bytes alone:
 -- every field of its body is read by place, in the words of crate protocol's View.
+-- `heldSize` is for what private functions promise; no public contract names it.
 use mathlib.Core.Bool.{Bool, cond, _&&_}
 use mathlib.Core.List.{List, [], _∷_, _++_}
 use mathlib.Core.Option.{Option, none, some}
