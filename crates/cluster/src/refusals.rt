@@ -1,4 +1,4 @@
-// Document 01's refusals by name; the definitions give the numbers.
+// The refusals of documents 01 and 02 by name; the definitions give the numbers.
 pub const MEMORY_SIZE: u8 = 1; // a memory or a work area has another length
 
 pub const MEMORY: u8 = 2; // the memory is no server record
@@ -28,3 +28,5 @@ pub const ROOM: u8 = 15; // the output has too little room
 pub const FRAGMENTS: u8 = 16; // too few different servers, or fragments of another length
 
 pub const LINE: u8 = 17; // a drill line is not of the form
+
+pub const STORES: u8 = 18; // a plan's stores are more than a memory holds

@@ -20,7 +20,7 @@ use Rattle.protocol.specs.Values.{Candidate, Write, rank, below, isSome, sameLi
 use Rattle.protocol.specs.Packet.{Packet, Body, stampF, candidateF, anyCandidateF, decode}
 use Rattle.protocol.specs.Packet.{clock, clockReply, store, storeReply, complete, completeReply}
 use Rattle.protocol.specs.Packet.{collect, collectReply, filter, filterReply, repair, repairReply}
-use Rattle.protocol.specs.Memory.{Memory, memoryF, decodeMemory, encodeMemory, lookup}
+use Rattle.protocol.specs.Memory.{Memory, memoryF, decodeMemory, encodeMemory, lookup, latestPlace}
 use Rattle.protocol.specs.Primitives.{Primitives}
 use Rattle.protocol.specs.Server.{Server, Acted, memoryOf, raise, onStore, valid, best, act, serverRefusal}
 use Rattle.protocol.proofs.ServerStep.{Stepped, answered, serverStep}
@@ -33,7 +33,6 @@ use Rattle.format.proofs.Formats.{value4-print}
 use Rattle.protocol.proofs.Memories.{fields, decode-memory-ok, encode-decode-memory}
 use Rattle.protocol.proofs.Ranks.{below-rank}
 use Rattle.protocol.proofs.ServerLift.{Holds, Lifted, serve-lift}
-use Rattle.server.specs.Reads.{latestPlace}
 use Rattle.server.specs.Answers.{countPlace}
 use Rattle.embed.specs.Servers.{changed}
 

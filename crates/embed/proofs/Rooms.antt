@@ -19,7 +19,7 @@ use Rattle.protocol.specs.declared.Call.{Call}
 use Rattle.format.specs.Format.{Bytes}
 use Rattle.protocol.specs.Values.{rank}
 use Rattle.protocol.specs.Packet.{Packet, decode, encode}
-use Rattle.protocol.specs.Memory.{Memory, decodeMemory}
+use Rattle.protocol.specs.Memory.{Memory, decodeMemory, latestPlace}
 use Rattle.protocol.specs.Primitives.{Primitives, real}
 use Rattle.protocol.specs.Server.{act, replyTo, serverRefusal}
 use Rattle.protocol.specs.ServerBytes.{Served, serverIn, turnedDown, actedOn, serverTake}
@@ -29,7 +29,6 @@ use Rattle.protocol.specs.ClientBytes.{Filled, awaited, clientMake}
 use Rattle.client.specs.Rounds.{makeByRounds}
 use Rattle.client.proofs.StepsSame.{same-make}
 use Rattle.protocol.specs.View.{stampAt, view}
-use Rattle.server.specs.Reads.{latestPlace}
 use Rattle.server.specs.Answers.{countPlace}
 use Rattle.embed.specs.Packing.{packed}
 use Rattle.embed.specs.Clients.{madeOut}

@@ -11,7 +11,7 @@ ghost use Rattle.protocol.specs.Values.{rank};
 ghost use Rattle.protocol.specs.View.{stampAt};
 ghost use Rattle.protocol.specs.Primitives.{real};
 ghost use Rattle.protocol.specs.ServerBytes.{blankStep, serverTake};
-ghost use Rattle.server.specs.Reads.{latestPlace};
+ghost use Rattle.protocol.specs.Memory.{latestPlace};
 ghost use Rattle.server.specs.Answers.{countPlace};
 ghost use Rattle.embed.specs.Packing.{packed};
 ghost use Rattle.embed.specs.Servers.{servedOut, takeBy};

@@ -13,9 +13,9 @@ use borrow.Author.Tests.{eq-eqb, ne-eqb, eqb-true}
 use Rattle.cluster.specs.Config.{Config, shelf}
 use Rattle.cluster.specs.Ranges.{topFaults, memorySize, capacity}
 use Rattle.format.specs.Format.{Lawful, Bytes, All, zeros, printMany, byte, seq, via, such, many}
-use Rattle.protocol.specs.Values.{Write, stampSize, candidateSize}
+use Rattle.protocol.specs.Values.{Write, stampSize}
 use Rattle.protocol.specs.Packet.{writeF, anyCandidateF, shareSize}
-use Rattle.protocol.specs.Memory.{Memory, distinct, memoryF, zeroTail, decodeMemory, encodeMemory, MemoryOk}
+use Rattle.protocol.specs.Memory.{Memory, distinct, memoryF, writesPlace, zeroTail, decodeMemory, encodeMemory, MemoryOk}
 use Rattle.format.specs.Reading.{Leaves, Stops}
 use Rattle.format.proofs.Answers.{guard-some, no-some, zeros-replicate, zeros-only}
 use Rattle.format.proofs.Formats.{byte-law, seq-law, via-law, keep-law}
@@ -62,13 +62,13 @@ unfolding memoryF such via seq byte many
 print-length m =
     omega (arith, length-append (anyCandidateF (shelf (m .t)) .print (m .latest)) (printMany (writeF (shelf (m .t))) (m .writes)))
 
--- the bytes of stored writes, and of all fields: t, server and count (1 byte each), the latest candidate, the writes
+-- the bytes of stored writes, and of all fields
 abbrev pub writesSize : Config → List Write → ℕ
 writesSize s [] = 0
 writesSize s (w ∷ ws) = stampSize + shareSize s (w .share .size) + writesSize s ws
 
 abbrev pub fieldsSize : Config → List Write → ℕ
-fieldsSize s ws = 3 + candidateSize s + writesSize s ws
+fieldsSize s ws = writesPlace s + writesSize s ws
 
 writes-length : (s : Config) (ws : List Write) → All (writeF s .Ok) ws → length (printMany (writeF s) ws) ≡ writesSize s ws
 writes-length s [] h = refl

@@ -3,14 +3,14 @@
 use mathlib.Core.Bool.{Bool, true, cond, not, _&&_}
 use mathlib.Core.Option.{Option, none, some}
 use mathlib.Core.List.{List, [], _∷_, _++_}
-use Prim.Native.Nat.{ℕ, _-_}
+use Prim.Native.Nat.{ℕ, _+_, _-_}
 use lib.ListN.{length, replicate}
 use lib.Dec.{eqb}
-use Rattle.cluster.specs.Config.{shelf}
+use Rattle.cluster.specs.Config.{Config, shelf}
 use Rattle.cluster.specs.Ranges.{topFaults, memorySize, capacity}
 use Rattle.protocol.specs.declared.Stamp.{Stamp}
 use Rattle.format.specs.Format.{Fmt, guard, zeros, byte, seq, via, such, many}
-use Rattle.protocol.specs.Values.{Candidate, Share, Write, sameStamp, isSome, blankCandidate}
+use Rattle.protocol.specs.Values.{Candidate, Share, Write, sameStamp, isSome, candidateSize, blankCandidate}
 use Rattle.protocol.specs.Packet.{writeF, anyCandidateF}
 
 -- a server's record; document 01 says box for server
@@ -41,6 +41,13 @@ memoryF =
     (λ m. (m .t, (m .server, (length (m .writes), (m .latest, m .writes)))))
     (seq (byte 1 topFaults)
     (λ t. seq (byte 1 (shelf t .servers)) (λ b. seq (byte 0 capacity) (λ n. seq (anyCandidateF (shelf t)) (λ l. many n (writeF (shelf t))))))))
+
+-- the places in it of the latest candidate, which t, server and count stand before, and of the stored writes
+abbrev pub latestPlace : ℕ
+latestPlace = 3
+
+abbrev pub writesPlace : Config → ℕ
+writesPlace s = latestPlace + candidateSize s
 
 -- nothing but zeros after it
 abbrev pub zeroTail : {A : Type 0} → Option (A × List ℕ) → Option A

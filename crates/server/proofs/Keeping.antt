@@ -10,7 +10,7 @@ use Rattle.cluster.specs.Ranges.{memorySize, capacity}
 use Rattle.format.specs.Format.{Bytes, printMany, byte, such, via, seq, many}
 use Rattle.protocol.specs.Values.{Write}
 use Rattle.protocol.specs.Packet.{writeF, anyCandidateF}
-use Rattle.protocol.specs.Memory.{Memory, memoryF, encodeMemory}
+use Rattle.protocol.specs.Memory.{Memory, memoryF, encodeMemory, writesPlace}
 use Rattle.format.specs.Reading.{put}
 use Rattle.protocol.proofs.Acts.{ServerOk}
 use Rattle.format.proofs.Answers.{bytes-drop}
@@ -22,7 +22,7 @@ use Rattle.format.proofs.Repeats.{many-law}
 use Rattle.format.proofs.Walks.{many-count}
 use Rattle.wire.specs.Make.{Placed, placed}
 use Rattle.server.specs.declared.memory.Opened.{Opened}
-use Rattle.server.specs.Reads.{writesPlace, OpenedAs}
+use Rattle.server.specs.Reads.{OpenedAs}
 use Rattle.server.specs.Answers.{memoryIn, countPlace, keptBytes}
 use Rattle.server.proofs.Raising.{size-few, placed-put}
 use Rattle.server.proofs.Standing.{memory-bytes, memory-size-of, memory-fields}

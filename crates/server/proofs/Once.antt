@@ -15,7 +15,7 @@ use Rattle.format.specs.Format.{Bytes, many}
 use Rattle.protocol.specs.declared.Label.{Label}
 use Rattle.protocol.specs.Values.{Write, labelOf, sameList, isSome, stampSize, rankBy, rank}
 use Rattle.protocol.specs.Packet.{stampF, writeF}
-use Rattle.protocol.specs.Memory.{lookup, freshAfter, distinct}
+use Rattle.protocol.specs.Memory.{lookup, freshAfter, distinct, writesPlace}
 use Rattle.protocol.specs.View.{stampAt}
 use Rattle.format.specs.Reading.{bytesAt, Leaves, Stops}
 use Rattle.format.proofs.Answers.{at-cond}
@@ -28,7 +28,7 @@ use Rattle.server.specs.declared.memory.Opened.{Opened}
 use Rattle.server.specs.declared.memory.Found.{Found}
 use Rattle.server.specs.declared.memory.Found.the-variants as found
 use Rattle.server.specs.declared.memory.Writes.the-variants as writes
-use Rattle.server.specs.Reads.{writesPlace, Stored, firstWith, FindIs, highestOf, TopOf, noTop, FindAs, raisedTop, RepeatsAs, NoWrites, WritesAs}
+use Rattle.server.specs.Reads.{Stored, firstWith, FindIs, highestOf, TopOf, noTop, FindAs, raisedTop, RepeatsAs, NoWrites, WritesAs}
 use Rattle.server.proofs.Walk.{stamp-bytes}
 use Rattle.server.proofs.Finding.{max-is-left, max-is-right, highest-more, key-printed, first-above, first-append, shareIn, first-held}
 

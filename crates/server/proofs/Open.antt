@@ -14,7 +14,7 @@ use Rattle.cluster.proofs.Tests.{untrue}
 use Rattle.format.specs.Format.{Bytes, zeros, byte, many}
 use Rattle.protocol.specs.Values.{Write}
 use Rattle.protocol.specs.Packet.{writeF, anyCandidateF}
-use Rattle.protocol.specs.Memory.{distinct, memoryF, decodeMemory}
+use Rattle.protocol.specs.Memory.{distinct, memoryF, decodeMemory, latestPlace, writesPlace}
 use Rattle.protocol.specs.View.{candidateAt}
 use Rattle.format.specs.Reading.{Leaves, Stops}
 use Rattle.format.proofs.Leaves.{leaves-seq, leaves-via, leaves-keep, stops-first, stops-second, stops-via, stops-kept, stops-test}
@@ -26,7 +26,7 @@ use Rattle.wire.specs.Reads.{TookAt, byteL, anyCandidateL}
 use Rattle.server.specs.declared.memory.Top.{Top}
 use Rattle.server.specs.declared.memory.Writes.{Writes}
 use Rattle.server.specs.declared.memory.Writes.the-variants as writes
-use Rattle.server.specs.Reads.{latestPlace, writesPlace, Stored, Checked, NoWrites, WritesAs, OpenedAs}
+use Rattle.server.specs.Reads.{Stored, Checked, NoWrites, WritesAs, OpenedAs}
 
 -- ---- the parts
 

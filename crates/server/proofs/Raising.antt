@@ -15,7 +15,7 @@ use Rattle.protocol.specs.declared.Head.{Head}
 use Rattle.format.specs.Format.{Bytes}
 use Rattle.protocol.specs.Values.{Candidate, below, stampSize, candidateSize}
 use Rattle.protocol.specs.Packet.{candidateF, anyCandidateF, complete, headSize, decode}
-use Rattle.protocol.specs.Memory.{encodeMemory}
+use Rattle.protocol.specs.Memory.{encodeMemory, latestPlace}
 use Rattle.protocol.specs.Primitives.{real}
 use Rattle.protocol.specs.Server.{memoryOf, Server, raise, act}
 use Rattle.protocol.specs.View.{stampAt, candidateAt}
@@ -29,7 +29,7 @@ use Rattle.wire.specs.Places.{padded, headAt, bodyAt, packetAt}
 use Rattle.wire.specs.Make.{Placed, placed, packetStep}
 use Rattle.wire.proofs.Runs.{padded-get}
 use Rattle.server.specs.declared.memory.Opened.{Opened}
-use Rattle.server.specs.Reads.{latestPlace, OpenedAs}
+use Rattle.server.specs.Reads.{OpenedAs}
 use Rattle.server.specs.Answers.{memoryIn, replyHead, raisedBytes, AnswersFor}
 use Rattle.server.proofs.Standing.{memory-bytes, memory-size-of, memory-fields}
 use Rattle.server.proofs.Replies.{body-of, to-server, replied, unchanged, part-none, alone, headed, sent-ok, sent-bytes}

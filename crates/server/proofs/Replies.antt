@@ -12,7 +12,7 @@ use Rattle.protocol.specs.declared.Head.{Head}
 use Rattle.format.specs.Format.{Bytes, orBlank}
 use Rattle.protocol.specs.Values.{stampSize, candidateSize}
 use Rattle.protocol.specs.Packet.{Body, Packet, BodyOk, PacketOk, clock, collect, kindOf, printBody, anyStampF, headSize, decode, encode}
-use Rattle.protocol.specs.Memory.{encodeMemory}
+use Rattle.protocol.specs.Memory.{encodeMemory, latestPlace}
 use Rattle.protocol.specs.Primitives.{real}
 use Rattle.protocol.specs.Server.{memoryOf, Acted, act, replyTo}
 use Rattle.protocol.specs.View.{candidateAt}
@@ -27,7 +27,7 @@ use Rattle.wire.specs.Make.{packetStep}
 use Rattle.wire.proofs.Laws.{made-accepted, body-bytes}
 use Rattle.server.specs.declared.memory.Top.{Top}
 use Rattle.server.specs.declared.memory.Opened.{Opened}
-use Rattle.server.specs.Reads.{latestPlace, OpenedAs}
+use Rattle.server.specs.Reads.{OpenedAs}
 use Rattle.server.specs.Answers.{memoryIn, ToServer, replyHead, AnswersAll}
 use Rattle.server.proofs.Standing.{memory-bytes, server-ok, latest-part, latest-stamp}
 

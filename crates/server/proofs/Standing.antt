@@ -11,14 +11,14 @@ use Rattle.hmac.specs.Hmac.{tagSize}
 use Rattle.format.specs.Format.{Bytes, printMany, byte, such, via, seq, run, many}
 use Rattle.protocol.specs.Values.{Candidate, stampSize, candidateSize}
 use Rattle.protocol.specs.Packet.{stampF, candidateF, writeF, anyCandidateF}
-use Rattle.protocol.specs.Memory.{memoryF, encodeMemory}
+use Rattle.protocol.specs.Memory.{memoryF, encodeMemory, latestPlace}
 use Rattle.format.specs.Reading.{bytesAt}
 use Rattle.protocol.specs.ServerBytes.{serverIn}
 use Rattle.protocol.proofs.Acts.{ServerOk}
 use Rattle.protocol.proofs.Memories.{Fields, fields, memory-length, decode-memory-ok, encode-decode-memory}
 use Rattle.protocol.proofs.Packets.{stamp-length, any-print, any-candidate-length, any-candidate-lengths}
 use Rattle.server.specs.declared.memory.Opened.{Opened}
-use Rattle.server.specs.Reads.{latestPlace, OpenedAs}
+use Rattle.server.specs.Reads.{OpenedAs}
 use Rattle.server.specs.Answers.{memoryIn}
 
 -- a candidate's bytes begin with its stamp's

@@ -15,7 +15,7 @@ use Rattle.format.specs.Format.{All}
 use Rattle.protocol.specs.Values.{Candidate, Write, stampSize, blankCandidate, below, isSome}
 use Rattle.protocol.specs.Packet.{Body, Packet, kindOf, shareSize, decode}
 use Rattle.protocol.specs.Packet.{clock, clockReply, store, storeReply, complete, completeReply, collect, collectReply, filter, filterReply, repair, repairReply}
-use Rattle.protocol.specs.Memory.{Memory, memoryF, lookup, decodeMemory, encodeMemory, blankMemory}
+use Rattle.protocol.specs.Memory.{Memory, memoryF, lookup, decodeMemory, encodeMemory, blankMemory, writesPlace}
 use Rattle.protocol.specs.Primitives.{Primitives}
 use Rattle.protocol.specs.Server.{Server, blankServer, Acted, memoryOf, onStore, raise, valid, best, act, replyTo, serverRefusal}
 use Rattle.protocol.proofs.ServerStep.{Stepped, answered, serverStep}
@@ -27,7 +27,6 @@ use Rattle.protocol.proofs.ServerLift.{Holds, Lifted, memory-ok, holds-decodes,
 use Rattle.protocol.proofs.Memories.{writesSize, fieldsSize, fields-length, same-size}
 use Rattle.protocol.proofs.Changes.{noughts}
 use Rattle.format.proofs.Walks.{all-snoc}
-use Rattle.server.specs.Reads.{writesPlace}
 
 -- ---- what one act adds
 

@@ -12,14 +12,14 @@ use Rattle.hmac.specs.Hmac.{tagSize}
 use Rattle.format.specs.Format.{Bytes}
 use Rattle.protocol.specs.Values.{blankCandidate, stampSize, nonceSize, candidateSize}
 use Rattle.protocol.specs.Packet.{anyCandidateF}
-use Rattle.protocol.specs.Memory.{decodeMemory, encodeMemory, noRecord}
+use Rattle.protocol.specs.Memory.{decodeMemory, encodeMemory, noRecord, latestPlace}
 use Rattle.format.specs.Reading.{bytesAt, put}
 use Rattle.protocol.proofs.Changes.{raised, latest-bytes, blank-print}
 use Rattle.protocol.proofs.Packets.{any-candidate-length}
 use Rattle.format.proofs.Places.{part-zeros}
 use Rattle.wire.specs.Make.{Placed, placed}
 use Rattle.server.specs.declared.memory.Opened.{Opened}
-use Rattle.server.specs.Reads.{latestPlace, OpenedAs}
+use Rattle.server.specs.Reads.{OpenedAs}
 use Rattle.server.specs.Answers.{memoryIn}
 use Rattle.server.specs.Blank.{blanked, unraised, latestRefusal, blankLatest}
 use Rattle.server.proofs.Raising.{placed-put, size-few}

@@ -18,6 +18,7 @@ use Rattle.format.specs.Format.{Bytes, value2, many, via, seq, run}
 use Rattle.protocol.specs.Values.{Write, sameList, stampSize}
 use Rattle.protocol.specs.Packet.{stampF, shareF, writeF}
 use Rattle.protocol.specs.View.{stampAt, shareAt, shareOfSize}
+use Rattle.protocol.specs.Memory.{writesPlace}
 use Rattle.format.specs.Reading.{bytesAt, Leaves, Stops}
 use Rattle.format.proofs.Answers.{bytes-drop}
 use Rattle.format.proofs.Leaves.{stops-via, stops-first}
@@ -27,7 +28,7 @@ use Rattle.format.proofs.Walks.{Reads, decide, leaves-moved, many-next, many-st
 use Rattle.wire.specs.Places.{lengthAt, shareSize, writeAt}
 use Rattle.wire.proofs.Through.{past-stamp}
 use Rattle.server.specs.declared.memory.Found.the-variants as found
-use Rattle.server.specs.Reads.{writesPlace, writeSize, Stored, firstWith, SearchAs}
+use Rattle.server.specs.Reads.{writeSize, Stored, firstWith, SearchAs}
 
 -- ---- the bytes of a stored write
 

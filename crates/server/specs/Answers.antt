@@ -12,7 +12,7 @@ use Rattle.protocol.specs.Values.{below}
 use Rattle.protocol.specs.declared.Head.{Head}
 use Rattle.protocol.specs.declared.Label.{Label}
 use Rattle.protocol.specs.Packet.{Packet, decode}
-use Rattle.protocol.specs.Memory.{Memory}
+use Rattle.protocol.specs.Memory.{Memory, latestPlace}
 use Rattle.protocol.specs.Primitives.{real}
 use Rattle.protocol.specs.Server.{Server, memoryOf, barred, serverRefusal}
 use Rattle.protocol.specs.View.{stampAt}
@@ -20,7 +20,7 @@ use Rattle.protocol.specs.ServerBytes.{Served, actedOn}
 use Rattle.wire.specs.Places.{packetAt, bodyLabel}
 use Rattle.wire.specs.Make.{placed}
 use Rattle.server.specs.declared.memory.Opened.{Opened}
-use Rattle.server.specs.Reads.{latestPlace, memoryWith, OpenedAs}
+use Rattle.server.specs.Reads.{memoryWith, OpenedAs}
 
 -- the memory that opens
 abbrev pub memoryIn : {d : List ℕ} {told : Opened} → OpenedAs d told → Memory

@@ -10,9 +10,9 @@ use lib.ListN.{drop}
 use Rattle.cluster.specs.Config.{Config, shelf}
 use Rattle.cluster.specs.Refusals.{ByNumber}
 use Rattle.format.specs.Format.{many}
-use Rattle.protocol.specs.Values.{Write, sameList, isSome, rank, stampSize, candidateSize}
+use Rattle.protocol.specs.Values.{Write, sameList, isSome, rank, stampSize}
 use Rattle.protocol.specs.Packet.{stampF, writeF}
-use Rattle.protocol.specs.Memory.{Memory, lookup, distinct, decodeMemory, noRecord}
+use Rattle.protocol.specs.Memory.{Memory, lookup, distinct, decodeMemory, noRecord, latestPlace, writesPlace}
 use Rattle.protocol.specs.View.{stampAt, candidateAt}
 use Rattle.format.specs.Reading.{bytesAt, Leaves}
 use Rattle.wire.specs.Places.{lengthAt, shareSize, writeAt}
@@ -24,13 +24,6 @@ use Rattle.server.specs.declared.memory.Writes.{Writes}
 use Rattle.server.specs.declared.memory.Writes.the-variants as writes
 use Rattle.server.specs.declared.memory.MemoryRead.{MemoryRead}
 use Rattle.server.specs.declared.memory.MemoryRead.the-variants as memories
-
--- t, the server's number and the count of stored writes stand before the latest candidate
-abbrev pub latestPlace : ℕ
-latestPlace = 3
-
-abbrev pub writesPlace : Config → ℕ
-writesPlace s = latestPlace + candidateSize s
 
 -- n stored writes stand in the memory d, up to the place e
 abbrev pub Stored : Config → ℕ → List ℕ → List Write → ℕ → Type 0

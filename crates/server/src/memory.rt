@@ -8,8 +8,9 @@ ghost use Rattle.cluster.specs.Config.{shelf};
 ghost use Rattle.cluster.specs.Ranges.{memorySize};
 ghost use Rattle.protocol.specs.Values.{rank, sameList, stampSize};
 ghost use Rattle.protocol.specs.View.{stampAt};
+ghost use Rattle.protocol.specs.Memory.{writesPlace};
 ghost use Rattle.format.specs.Reading.{bytesAt};
-ghost use Rattle.server.specs.Reads.{SearchAs, FindAs, RepeatsAs, WritesAs, MemoryAs, maxOf, raisedTop, writesPlace};
+ghost use Rattle.server.specs.Reads.{SearchAs, FindAs, RepeatsAs, WritesAs, MemoryAs, maxOf, raisedTop};
 use wire::bytes::part;
 use wire::bytes::rest;
 use wire::fields::Cursor;
@@ -60,7 +61,7 @@ pub(crate) enum MemoryRead {
 }
 
 // The place of the stored writes.
-pub(crate) fn writes_place(t: u8) -> usize
+pub fn writes_place(t: u8) -> usize
     ensures { λ r. ⌜ r ≡ writesPlace (shelf t) ⌝ }
 {
     LATEST + wire::sizes::candidate_size(t)

@@ -9,7 +9,7 @@ use borrow.Author.Needs.{needs}
 use borrow.Author.Tests.{eq-eqb, ne-eqb}
 use Rattle.protocol.specs.Values.{rank}
 use Rattle.protocol.specs.View.{stampAt}
-use Rattle.server.specs.Reads.{latestPlace}
+use Rattle.protocol.specs.Memory.{latestPlace}
 use Rattle.server.specs.Answers.{countPlace}
 use Rattle.embed.proofs.servers.changed.Statement.{statement}
 use Rattle.embed.proofs.servers.changed.Tie as tie
