@@ -12,7 +12,7 @@ use Rattle.erasure.specs.Fragments.{table}
 use Rattle.protocol.specs.Values.{stampSize, candidateSize}
 use Rattle.protocol.specs.Packet.{headSize, shareSize}
 use Rattle.protocol.specs.Memory.{writesPlace}
-use Rattle.planner.specs.declared.Plan.{Plan}
+use Rattle.planner.specs.declared.PlanOutcome.{PlanOutcome}
 
 -- a stored write of a content of n bytes
 abbrev pub storedSize : Config → ℕ → ℕ
@@ -87,7 +87,7 @@ planRefusal t n readers stores =
     ∷ [])
 
 -- a plan; or a refusal, and all else 0
-unfoldable pub planStep : (t n readers stores : ℕ) → Plan
+unfoldable pub planStep : (t n readers stores : ℕ) → PlanOutcome
 planStep t n readers stores =
     let s = shelf t in
     let number = planRefusal t n readers stores in
