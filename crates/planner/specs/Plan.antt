@@ -25,16 +25,16 @@ abbrev pub kindSizes : Config → ℕ → List ℕ
 kindSizes s n =
     0
     ∷ headSize
-    ∷ headSize + stampSize
-    ∷ headSize + storedSize s n
-    ∷ headSize + 1
-    ∷ headSize + candidateSize s
+    ∷ (headSize + stampSize)
+    ∷ (headSize + storedSize s n)
+    ∷ (headSize + 1)
+    ∷ (headSize + candidateSize s)
     ∷ headSize
     ∷ headSize
-    ∷ headSize + candidateSize s
+    ∷ (headSize + candidateSize s)
     ∷ 0
     ∷ 0
-    ∷ headSize + candidateSize s
+    ∷ (headSize + candidateSize s)
     ∷ headSize
     ∷ []
 
@@ -44,7 +44,7 @@ filterSize s count = cond (leb count (s .servers)) (headSize + (1 + count * cand
 
 -- kind 10 by its byte: 0 without a share, 1 with one
 abbrev pub heldSizes : Config → ℕ → List ℕ
-heldSizes s n = headSize + (stampSize + 1) ∷ headSize + (stampSize + 1 + shareSize s n) ∷ []
+heldSizes s n = (headSize + (stampSize + 1)) ∷ (headSize + (stampSize + 1 + shareSize s n)) ∷ []
 
 -- ---- "the requests and replies of a write and of so many reads with and without repair when each round goes to all S boxes"
 
