@@ -1,11 +1,12 @@
 -- What a plan says of filters, count by count, and the plan as a whole: refused, or made. By the cases of their tests. Nothing is assumed.
-use mathlib.Core.Path.{_≡_}
+use mathlib.Core.Path.{_≡_, refl}
 use mathlib.Core.Logic.{_≢_}
-use Prim.Native.Nat.{ℕ, _+_, _*_, _≤_, _<_}
+use Prim.Native.Nat.{ℕ, zero, suc, _+_, _*_, _≤_, _<_}
 use lib.ListN.{replicate}
 use borrow.Author.Tests.{le-leb, lt-leb}
 use Rattle.cluster.specs.Config.{Config, shelf}
 use Rattle.cluster.specs.Ranges.{mostServers}
+use Rattle.cluster.specs.Refusals.{onRefusal}
 use Rattle.cluster.proofs.Tests.{refused-is, accepted-is}
 use Rattle.erasure.specs.Fragments.{table}
 use Rattle.protocol.specs.Values.{candidateSize}
@@ -50,3 +51,11 @@ module _ (t n readers stores : ℕ) where
   pub plan-refused : planRefusal t n readers stores ≢ 0 → planStep t n readers stores ≡ turnedDown (planRefusal t n readers stores)
   unfolding planStep
   plan-refused e = refused-is (planRefusal t n readers stores) _ _ e
+
+  pub plan-number : planStep t n readers stores .number ≡ planRefusal t n readers stores
+  unfolding planStep
+  plan-number = go (planRefusal t n readers stores)
+    where
+      go : (k : ℕ) → onRefusal k made (turnedDown k) .number ≡ k
+      go zero = refl
+      go (suc k) = refl
