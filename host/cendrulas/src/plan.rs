@@ -35,13 +35,7 @@ pub struct Plan {
 }
 
 /// The plan of a shelf of which up to `t` servers may lie (1 to 4), for contents of `length` bytes (1 to 1,024), so many clients that read together
-/// (1 to 16), and so many stores that a server keeps (0 to 32).
-///
-/// ```no_run
-/// let plan = cendrulas::plan(1, 1_024, 16, 32)?;
-/// println!("a store has {} bytes", plan.kind(3).expect("one length"));
-/// # Ok::<(), cendrulas::Refusal>(())
-/// ```
+/// (1 to 16), and so many stores that a server keeps (0 to 32). examples/plan.rs has one.
 pub fn plan(t: usize, length: usize, readers: usize, stores: usize) -> Result<Plan, Refusal> {
     let mut numbers = [0; PLAN];
     plan_numbers(t, length, readers, stores, &mut numbers).accepted().map(|_| Plan { numbers })
