@@ -5,8 +5,8 @@ use crate::packet::HEAD;
 use crate::stamp::{candidate_length, STAMP};
 use crate::{boxes_of, Refusal, HISTORY_PLACES, MAX_BOXES, RECORD_MAX};
 
-/// How many numbers a plan has: 13 kinds with 0, which is none; filters of 0 to 13 candidates; two forms of a filter's reply; requests and replies of a
-/// write, of reads and of repaired reads; a memory.
+/// How many numbers a plan has: 13 kinds with 0, which is none; filters of 0 to 13 candidates; two forms of a filter's reply; requests and
+/// replies of a write, of reads and of repaired reads; a memory.
 pub const PLAN: usize = 13 + (MAX_BOXES + 1) + 2 + 6 + 1;
 
 /// Writes the numbers, or is refused and writes nothing.

@@ -1,4 +1,5 @@
-//! Every plan that there is, near enough, on the library and on the plain shelf: arguments in range, next to it and far away, and outputs of any length.
+//! Plans on the library and on the plain shelf: every t and length with the bounds of the others, every number of readers and stores with some
+//! lengths, arguments far out of range, and outputs of any length.
 
 use super::UNWRITTEN;
 use crate::check::{Run, Seen};

@@ -1,4 +1,5 @@
-//! A server's memory after each of 32 real stores: the body of the store packet stands where the plan of the stores before it ends, and what follows it is 00h.
+//! A server's memory after each of 32 real stores: the body of the store packet stands where the plan of the stores before it ends, and what
+//! follows it is 00h.
 
 use super::shelf::Shelf;
 use super::shelves;

@@ -34,7 +34,7 @@ impl Lab {
     }
 
     fn content(&self) -> Vec<u8> {
-        (0..self.length).map(|i| (i * 37 >> 3) as u8).collect()
+        (0..self.length).map(|i| (i * 37 % 251) as u8).collect()
     }
 
     fn everywhere(&self) -> Vec<usize> {
@@ -88,8 +88,7 @@ impl Lab {
         }
     }
 
-    /// Writes that completed at one server each: as many candidates as servers are heard. Which replies end a round is by server number, so the
-    /// last t servers add none.
+    /// Writes that complete at one server each, from the first to the last that a read hears: as many candidates as there are such writes.
     fn apart(&self, run: &mut Run) {
         let mut shelf = Shelf::new(self.t);
         for count in 1..=self.servers - self.t {
@@ -100,7 +99,8 @@ impl Lab {
         }
     }
 
-    /// A writer that spoils its tags, then a read with repair by each of 1 to 16 clients. A repair mends the tags, so each begins from the same memories.
+    /// A writer that spoils its tags, then a read with repair by each of 1 to 16 clients. A repair mends the tags, so that each begins from the
+    /// same memories.
     fn repaired(&self, run: &mut Run) {
         let mut shelf = Shelf::new(self.t);
         shelf.write(2, &self.content(), &self.everywhere(), true);
@@ -119,7 +119,8 @@ impl Lab {
         matches!(called.ended, Taken::Read(_, count) if count == self.length)
     }
 
-    /// A filter with any count of candidates up to S is a packet at its planned length, and one byte shorter or longer none; above S there is no plan.
+    /// A filter with any count of candidates up to S is a packet at its planned length, and one byte shorter or longer none; above S there is
+    /// no plan.
     fn layout(&self, run: &mut Run) {
         let mut shelf = Shelf::new(self.t);
         let complete = shelf.write(1, &self.content(), &self.everywhere(), false).requests.pop().expect("a packet");

@@ -8,7 +8,12 @@ use cendrulas::{plan_numbers, Answer, PLAN};
 const ORDER: [u8; 5] = [255, 3, 5, 6, 18];
 
 /// Values outside the ranges of t, readers, length and stores.
-const OUTSIDE: [&[usize]; 4] = [&[0, 5, 257, usize::MAX], &[0, 17, 257, usize::MAX], &[0, 1_025, 1 << 16 | 1, usize::MAX], &[33, 256, 1 << 32, usize::MAX]];
+const OUTSIDE: [[usize; 4]; 4] = [
+    [0, 5, 257, usize::MAX],
+    [0, 17, 257, usize::MAX],
+    [0, 1_025, 1 << 16 | 1, usize::MAX],
+    [33, 256, 1 << 32, usize::MAX],
+];
 
 pub fn all(run: &mut Run) {
     for faults in 1..1 << ORDER.len() {

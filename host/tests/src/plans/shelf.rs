@@ -34,8 +34,8 @@ impl Shelf {
         Shelf { t: self.t, servers: self.servers.iter().enumerate().map(server).collect(), writes: self.writes }
     }
 
-    /// A whole write by a new client, or until it would complete. A server outside `completed` gets no packet of the last round; a lying writer
-    /// spoils the tags there.
+    /// A write by a client that was never used. Of its last round only the packets for the servers in `completed` arrive: with fewer than end a
+    /// round it stays open. A lying writer spoils the tags in them.
     pub fn write(&mut self, writer: usize, content: &[u8], completed: &[usize], spoilt: bool) -> Called {
         self.writes += 1;
         let mut client = Client::new(self.t, writer);
@@ -54,7 +54,7 @@ impl Shelf {
         self.finish(client, |_| true)
     }
 
-    /// Rounds until the call ends, or until no packet of a round arrives. `arrives` may change a packet, and says whether it gets to its server.
+    /// Rounds until the call ends, or a round does not. `arrives` may change a packet, and says whether it gets to its server.
     fn finish(&mut self, mut client: Client, mut arrives: impl FnMut(&mut Vec<u8>) -> bool) -> Called {
         let mut called = Called { ended: Taken::GoesOn, requests: Vec::new(), replies: Vec::new() };
         while called.ended == Taken::GoesOn {
