@@ -19,18 +19,14 @@ use Rattle.runs.specs.Runs.{Lent, take-reply, Account, sentOf}
 use Rattle.format.proofs.Answers.{at-cond}
 use Rattle.atomicity.specs.Lists.{Always, In}
 use Rattle.atomicity.specs.Steps.{StepIn, System, makes}
+use Rattle.atomicity.specs.Traffic.{withRound, wentThrough, isAsk, asks, asked, requests, EachAsked}
 use Rattle.atomicity.proofs.Util.{clash, and-left, and-right, or-cases, left-in}
-use Rattle.atomicity.proofs.PerRound.{overRounds, EachRound, most-rounds, all-rounds}
+use Rattle.atomicity.proofs.PerRound.{most-rounds, all-rounds}
 use Rattle.atomicity.proofs.Model.{Run, Laws, account, clientAt, handAt, callsAt, sentAt}
 use Rattle.atomicity.proofs.Serving.{Making, making}
 use Rattle.atomicity.proofs.Positions.{pos, stage-awaits, Before, before-one, before-trans}
 use Rattle.atomicity.proofs.Heard.{request-kind}
-use Rattle.atomicity.proofs.Through.{withRound, wentThrough, trail, roundsBy, finishes, gone, ByRounds}
-
--- a packet is the request to server b in the round that awaits k
-abbrev pub isAsk : ℕ → ℕ → Option Packet → Bool
-isAsk k b none = false
-isAsk k b (some p) = eqb (suc (kindOf (p .body))) k && eqb (p .head .server) b
+use Rattle.atomicity.proofs.Through.{trail, roundsBy, finishes, gone, ByRounds}
 
 -- one packet is the request of one round to one server
 pub ask-apart : (k b k' b' : ℕ) (o : Option Packet) → isAsk k b o ≡ true → isAsk k' b' o ≡ true → (k ≡ k') × (b ≡ b')
@@ -43,35 +39,16 @@ ask-apart k b k' b' (some p) e f =
     )
 
 module _ (s : System) (A : Account (StepIn s)) where
-  -- with the step x, after xs, client c makes it
-  abbrev pub asks : ℕ → ℕ → ℕ → StepIn s → List (StepIn s) → Bool
-  asks c k b x xs = makes c (x .step) && isAsk k b (decode (A .sent x xs))
-
-  -- it has done so in its last call
-  unfoldable pub asked : ℕ → List (StepIn s) → ℕ → ℕ → Bool
-  asked c [] k b = false
-  asked c (x ∷ xs) k b = eqb (A .client xs c .calls) (A .client (x ∷ xs) c .calls) && (asks c k b x xs || asked c xs k b)
-
-  -- how many requests it has made, in all rounds of the call
-  abbrev pub requests : ℕ → List (StepIn s) → ℕ
-  requests c l = overRounds (s .config .servers) (asked c l) (wentThrough s A c l)
-
-  -- each round went to all servers
-  abbrev pub EachAsked : ℕ → List (StepIn s) → Type 0
-  EachAsked c l = EachRound (s .config .servers) (asked c l) (wentThrough s A c l)
-
-  -- ---- counts
-
-  pub requests-most : (c : ℕ) (l : List (StepIn s)) → requests c l ≤ length (wentThrough s A c l) * s .config .servers
-  requests-most c l = most-rounds (s .config .servers) (asked c l) (wentThrough s A c l)
+  pub requests-most : (c : ℕ) (l : List (StepIn s)) → requests s A c l ≤ length (wentThrough s A c l) * s .config .servers
+  requests-most c l = most-rounds (s .config .servers) (asked s A c l) (wentThrough s A c l)
 
   -- a finished call, each of whose rounds went to all servers
   pub requests-of : ByRounds s A → (c : ℕ) (x : StepIn s) (xs : List (StepIn s)) (lent : Lent) (reply output : List ℕ)
-      → x .step ≡ take-reply c lent reply output → finishes (A .result x xs) ≡ true → EachAsked c (x ∷ xs)
-      → requests c (x ∷ xs) ≡ length (roundsBy (A .result x xs) (awaits (A .client xs c .hand))) * s .config .servers
+      → x .step ≡ take-reply c lent reply output → finishes (A .result x xs) ≡ true → EachAsked s A c (x ∷ xs)
+      → requests s A c (x ∷ xs) ≡ length (roundsBy (A .result x xs) (awaits (A .client xs c .hand))) * s .config .servers
   unfolding ByRounds
   requests-of h c x xs lent reply output e f g =
-      all-rounds (s .config .servers) (asked c (x ∷ xs)) (wentThrough s A c (x ∷ xs)) g
+      all-rounds (s .config .servers) (asked s A c (x ∷ xs)) (wentThrough s A c (x ∷ xs)) g
       ∙ ap (λ (ks : List ℕ). length ks * s .config .servers) (h c x xs lent reply output e f)
 
 -- ---- no other request is made

@@ -10,16 +10,8 @@ use native.Mathlib.Omega.{arith}
 use lib.ListN.{length}
 use Rattle.protocol.specs.Rules.{countTo}
 use Rattle.atomicity.specs.Lists.{In}
+use Rattle.atomicity.specs.Traffic.{overRounds, EachRound}
 use Rattle.atomicity.proofs.Counting.{split-count}
-
--- how many of the servers 1 to n do p, in these rounds
-abbrev pub overRounds : ℕ → (ℕ → ℕ → Bool) → List ℕ → ℕ
-overRounds n p [] = 0
-overRounds n p (k ∷ ks) = countTo n (p k) + overRounds n p ks
-
--- all of them do, in each of these rounds
-abbrev pub EachRound : ℕ → (ℕ → ℕ → Bool) → List ℕ → Type 0
-EachRound n p ks = (k : ℕ) → In k ks → (b : ℕ) → 1 ≤ b → b ≤ n → p k b ≡ true
 
 count-all : (n : ℕ) (p : ℕ → Bool) → ((b : ℕ) → 1 ≤ b → b ≤ n → p b ≡ true) → countTo n p ≡ n
 unfolding countTo

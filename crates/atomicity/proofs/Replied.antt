@@ -14,36 +14,14 @@ use lib.ListN.{length}
 use Rattle.protocol.specs.Packet.{Packet, kindOf, decode}
 use Rattle.protocol.specs.Client.{Client, idle, awaits, isIdle, begun}
 use Rattle.runs.specs.Runs.{Lent, take-reply, Account}
-use Rattle.atomicity.specs.Steps.{StepIn, System, serves}
+use Rattle.atomicity.specs.Steps.{StepIn, System}
+use Rattle.atomicity.specs.Traffic.{wentThrough, hadReply, repliesHad, EachReplied}
 use Rattle.atomicity.proofs.Util.{clash}
 use Rattle.atomicity.proofs.Model.{Run, account, clientAt, handAt, callsAt}
 use Rattle.atomicity.proofs.Moves.{MovedAt, kept, wbegan, rbegan, quit, took, moved}
 use Rattle.atomicity.proofs.Positions.{pos, stage-bound, before-one}
-use Rattle.atomicity.proofs.Through.{wentThrough, roundsBy, finishes, stay, call-over}
-use Rattle.atomicity.proofs.PerRound.{overRounds, EachRound, most-rounds, all-rounds}
-
--- a packet is server b's reply of kind k in client c's call n
-abbrev pub isReply : ℕ → ℕ → ℕ → ℕ → Option Packet → Bool
-isReply c n k b none = false
-isReply c n k b (some r) = (eqb (kindOf (r .body)) k && eqb (r .head .server) b) && (eqb (r .head .client) c && eqb (r .head .call) n)
-
-module _ (s : System) (A : Account (StepIn s)) where
-  -- with the step x, after xs, server b sends it
-  abbrev pub repliesBy : ℕ → ℕ → ℕ → StepIn s → List (StepIn s) → Bool
-  repliesBy c k b x xs = serves b (x .step) && isReply c (A .client xs c .calls) k b (decode (A .sent x xs))
-
-  -- it has done so in client c's last call
-  unfoldable pub hadReply : ℕ → List (StepIn s) → ℕ → ℕ → Bool
-  hadReply c [] k b = false
-  hadReply c (x ∷ xs) k b = eqb (A .client xs c .calls) (A .client (x ∷ xs) c .calls) && (repliesBy c k b x xs || hadReply c xs k b)
-
-  -- how many replies it has had, in all rounds of the call
-  abbrev pub repliesHad : ℕ → List (StepIn s) → ℕ
-  repliesHad c l = overRounds (s .config .servers) (hadReply c l) (wentThrough s A c l)
-
-  -- in each round all servers replied
-  abbrev pub EachReplied : ℕ → List (StepIn s) → Type 0
-  EachReplied c l = EachRound (s .config .servers) (hadReply c l) (wentThrough s A c l)
+use Rattle.atomicity.proofs.Through.{roundsBy, finishes, stay, call-over}
+use Rattle.atomicity.proofs.PerRound.{most-rounds, all-rounds}
 
 -- of an account of runs
 pub record ByReplies (s : System) (A : Account (StepIn s)) : Type 0 where

@@ -18,12 +18,13 @@ use Rattle.runs.proofs.Accounts.{claimed}
 use Rattle.atomicity.specs.Lists.{Always, In}
 use Rattle.atomicity.specs.Steps.{StepIn, System, makes, serves, packetIn}
 use Rattle.atomicity.specs.Claim.{systemOf, OnBytes}
+use Rattle.atomicity.specs.Traffic.{wentThrough, isAsk, asks, asked, requests, EachAsked}
 use Rattle.atomicity.proofs.Util.{and-right}
 use Rattle.atomicity.proofs.Model.{Run, Laws, account, serverAt}
 use Rattle.atomicity.proofs.Serving.{BehindAt, answer}
 use Rattle.atomicity.proofs.Heard.{act-kind}
-use Rattle.atomicity.proofs.Through.{wentThrough, roundsBy, finishes, ByRounds, by-rounds}
-use Rattle.atomicity.proofs.Asked.{isAsk, ask-apart, asks, asked, requests, EachAsked, requests-most, requests-of, asked-within, same-packet}
+use Rattle.atomicity.proofs.Through.{roundsBy, finishes, ByRounds, by-rounds}
+use Rattle.atomicity.proofs.Asked.{ask-apart, requests-most, requests-of, asked-within, same-packet}
 use Rattle.atomicity.proofs.Replied.{ByReplies, by-replies}
 use Rattle.atomicity.proofs.Real.{real-laws}
 

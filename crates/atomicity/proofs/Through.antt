@@ -17,6 +17,7 @@ use Rattle.protocol.specs.Client.{collecting, filtering, repairing, awaits, isI
 use Rattle.runs.specs.Runs.{Lent, take-reply, Account}
 use Rattle.runs.proofs.ValueRuns.{nowValues}
 use Rattle.atomicity.specs.Steps.{StepIn, System}
+use Rattle.atomicity.specs.Traffic.{withRound, wentThrough}
 use Rattle.atomicity.proofs.Util.{cond-both, clash}
 use Rattle.atomicity.proofs.Model.{Run, account, clientAt, handAt, callsAt, resultAt, updated, turn}
 use Rattle.atomicity.proofs.Moves.{acting, MovedAt, kept, wbegan, rbegan, quit, took, moved}
@@ -34,18 +35,6 @@ readRounds = 8 ∷ 10 ∷ []
 
 abbrev pub repairedRounds : List ℕ
 repairedRounds = 8 ∷ 10 ∷ 12 ∷ []
-
--- the rounds of a call after a step: a new call's is its first; of the same call one that is withRound comes after the others. 0 is no round
-abbrev pub withRound : Bool → ℕ → ℕ → List ℕ → List ℕ
-withRound same was is rounds = cond same (cond (eqb is 0 || eqb was is) rounds (rounds ++ (is ∷ []))) (is ∷ [])
-
-module _ (s : System) (A : Account (StepIn s)) where
-  -- the rounds of client c's last call, oldest first
-  unfoldable pub wentThrough : ℕ → List (StepIn s) → List ℕ
-  wentThrough c [] = []
-  wentThrough c (x ∷ xs) =
-      withRound (eqb (A .client xs c .calls) (A .client (x ∷ xs) c .calls)) (awaits (A .client xs c .hand)) (awaits (A .client (x ∷ xs) c .hand))
-      (wentThrough c xs)
 
 -- what a finished call went through, by its result and the kind of the reply that gave it: a read was repaired if it is repair's
 abbrev pub roundsBy : Result → ℕ → List ℕ

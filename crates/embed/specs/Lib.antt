@@ -7,5 +7,6 @@ pub mod Drills
 pub mod Packets
 pub mod Replies
 pub mod Rounds
+pub mod Plans
 pub mod Versions
 pub mod Exports

@@ -6,6 +6,7 @@ mod drills;
 mod keys;
 mod pack;
 mod packets;
+mod plans;
 mod replies;
 mod rounds;
 mod servers;

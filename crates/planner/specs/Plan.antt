@@ -12,7 +12,7 @@ use Rattle.erasure.specs.Fragments.{table}
 use Rattle.protocol.specs.Values.{stampSize, candidateSize}
 use Rattle.protocol.specs.Packet.{headSize, shareSize}
 use Rattle.protocol.specs.Memory.{writesPlace}
-use Rattle.planner.specs.declared.Plan.{Plan}
+use Rattle.planner.specs.declared.PlanOutcome.{PlanOutcome}
 
 -- a stored write of a content of n bytes
 abbrev pub storedSize : Config → ℕ → ℕ
@@ -25,16 +25,16 @@ abbrev pub kindSizes : Config → ℕ → List ℕ
 kindSizes s n =
     0
     ∷ headSize
-    ∷ headSize + stampSize
-    ∷ headSize + storedSize s n
-    ∷ headSize + 1
-    ∷ headSize + candidateSize s
+    ∷ (headSize + stampSize)
+    ∷ (headSize + storedSize s n)
+    ∷ (headSize + 1)
+    ∷ (headSize + candidateSize s)
     ∷ headSize
     ∷ headSize
-    ∷ headSize + candidateSize s
+    ∷ (headSize + candidateSize s)
     ∷ 0
     ∷ 0
-    ∷ headSize + candidateSize s
+    ∷ (headSize + candidateSize s)
     ∷ headSize
     ∷ []
 
@@ -44,7 +44,7 @@ filterSize s count = cond (leb count (s .servers)) (headSize + (1 + count * cand
 
 -- kind 10 by its byte: 0 without a share, 1 with one
 abbrev pub heldSizes : Config → ℕ → List ℕ
-heldSizes s n = headSize + (stampSize + 1) ∷ headSize + (stampSize + 1 + shareSize s n) ∷ []
+heldSizes s n = (headSize + (stampSize + 1)) ∷ (headSize + (stampSize + 1 + shareSize s n)) ∷ []
 
 -- ---- "the requests and replies of a write and of so many reads with and without repair when each round goes to all S boxes"
 
@@ -87,7 +87,7 @@ planRefusal t n readers stores =
     ∷ [])
 
 -- a plan; or a refusal, and all else 0
-unfoldable pub planStep : (t n readers stores : ℕ) → Plan
+unfoldable pub planStep : (t n readers stores : ℕ) → PlanOutcome
 planStep t n readers stores =
     let s = shelf t in
     let number = planRefusal t n readers stores in

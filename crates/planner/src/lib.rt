@@ -16,7 +16,7 @@ pub const HELD: usize = 2;
 pub const PACKETS: usize = 6;
 
 // A refusal's number or 0, and what is planned, all 0 where it is refused.
-pub struct Plan {
+pub struct PlanOutcome {
     pub number: u8,
     pub kinds: [usize; KINDS], // bytes of a packet, by its kind; 0 for kinds 9 and 10
     pub filters: [usize; FILTERS], // bytes of kind 9, by its count of candidates; 0 above S
@@ -119,12 +119,12 @@ fn memory(t: u8, length: u32, stores: usize) -> usize
 
 // What a shelf with at most t liars takes, for contents of so many bytes, so many clients that read together, and so many stores that a server
 // keeps.
-pub fn plan(t: usize, length: usize, readers: usize, stores: usize) -> Plan
+pub fn plan(t: usize, length: usize, readers: usize, stores: usize) -> PlanOutcome
     ensures { λ r. ⌜ r ≡ planStep t length readers stores ⌝ }
 {
     let number = plan_refusal(t, length, readers, stores);
     if number != 0 {
-        return Plan {
+        return PlanOutcome {
             number,
             kinds: [0usize; KINDS],
             filters: [0usize; FILTERS],
@@ -135,7 +135,7 @@ pub fn plan(t: usize, length: usize, readers: usize, stores: usize) -> Plan
     }
     let faults = t as u8;
     let size = length as u32;
-    Plan {
+    PlanOutcome {
         number: 0,
         kinds: kinds(faults, size),
         filters: filters(faults),

@@ -25,7 +25,7 @@ module _ (P : Primitives) (law : Lengths P) (sh : Shelf) (tr : (1 ≤ sh .t) × 
   abbrev s : Config
   s = configOf sh
 
-  steps-fed : (l : List (StepOn sh)) → AllFed P law sh tr (steps l)
+  pub steps-fed : (l : List (StepOn sh)) → AllFed P law sh tr (steps l)
   unfolding AllFed
   steps-fed [] = tt
   steps-fed (x ∷ xs) = (x .fed, steps-fed xs)

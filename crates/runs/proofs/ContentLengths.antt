@@ -18,7 +18,7 @@ use Rattle.protocol.specs.Rules.{ByServer, upd, leader, tagsIn}
 use Rattle.protocol.specs.Client.{Client, Hand, Turn, Result, accepted, idle, clocking, storing, completing, collecting, filtering, repairing, shareMade, prepared, codeIn, onto, begun, update, judge, found, isIdle, awaits, writeRefusal, readRefusal, abortRefusal, takeRefusal, writeStep, readStep, abortStep, turnOn, highAt, takeStep}
 use Rattle.protocol.specs.View.{keptSize}
 use Rattle.protocol.specs.ClientBytes.{keyOf}
-use Rattle.runs.specs.Runs.{Shelf, configOf, Step, write, read, make, take-reply, give-up, serve, Done, doBytes, nowBytes}
+use Rattle.runs.specs.Runs.{Shelf, configOf, Step, write, read, make, take-reply, give-up, serve, lengthAfter, Done, doBytes, nowBytes}
 use Rattle.format.proofs.Answers.{at-cond}
 use Rattle.protocol.proofs.Prepared.{shares-in}
 use Rattle.protocol.proofs.Fine.{at-refusal}
@@ -97,15 +97,6 @@ module _ (P : Primitives) (law : Lengths P) (s : Config) (c : ℕ) (writers : Li
       (writeRefusal s c (length r) (not (isIdle (cl .hand))) (cl .calls)) _ _ (λ e. refl) h
 
 -- ---- runs
-
--- the length of the content that client c began to write with a step that was done or not, or an earlier one
-abbrev lengthAfter : ℕ → Step → Bool → ℕ → ℕ
-lengthAfter c (write d r m) done n = cond (eqb c d) (cond done (length r) n) n
-lengthAfter c (read d) done n = n
-lengthAfter c (make d b o) done n = n
-lengthAfter c (take-reply d lent p o) done n = n
-lengthAfter c (give-up d) done n = n
-lengthAfter c (serve b p o) done n = n
 
 module _ (P : Primitives) (sh : Shelf) (first : ℕ → List ℕ) where
   -- what a step gives, on bytes

@@ -74,6 +74,15 @@ serves b (take-reply c lent p o) = false
 serves b (give-up c) = false
 serves b (serve e p o) = eqb b e
 
+-- the length of the content that client c began to write with a step that was done or not, or an earlier one
+abbrev pub lengthAfter : ℕ → Step → Bool → ℕ → ℕ
+lengthAfter c (write d r m) done n = cond (eqb c d) (cond done (length r) n) n
+lengthAfter c (read d) done n = n
+lengthAfter c (make d b o) done n = n
+lengthAfter c (take-reply d lent p o) done n = n
+lengthAfter c (give-up d) done n = n
+lengthAfter c (serve b p o) done n = n
+
 -- ---- what a step does on bytes
 
 pub record Machines : Type 0 where

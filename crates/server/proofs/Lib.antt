@@ -17,6 +17,4 @@ pub mod Held
 pub mod Listing
 pub mod Filtering
 pub mod Taking
-pub mod ReplyLengths
-pub mod Stores
 pub mod Unraising

@@ -96,6 +96,10 @@ module _ (P : Primitives) (memory key packet output : List ℕ) where
     pub request : Packet
     pub opened : decodeMemory memory ≡ some holds
     pub read : decode packet ≡ some request
+    pub reply : Packet
+    pub fits : PacketOk reply
+    pub faults : reply .head .t ≡ holds .t
+    pub bytes : take (d .result .count) (d .output) ≡ encode reply
     pub count : d .result .count ≡ replySize holds request
     pub sent : length (take (d .result .count) (d .output)) ≡ replySize holds request
 
@@ -111,6 +115,7 @@ module _ (P : Primitives) (memory key packet output : List ℕ) where
       let h : PacketOk q = decode-ok packet q f in
       let r : Right P s key (m .server) v ok a =
       act-ok P s key (m .server) v ok (q .body) (subst (λ (z : ℕ). BodyOk (shelf z) (q .body)) g (body-ok q h)) in
+      let answer-ok : PacketOk (replyTo q (a .reply)) = reply-ok q (a .reply) h (subst (λ (z : ℕ). BodyOk (shelf z) (a .reply)) (sym g) (r .reply)) in
       let l : length (encode (replyTo q (a .reply))) ≡ replySize m q =
       reply-size q (a .reply) (m .t) g h (r .reply) ∙ ap (λ (n : ℕ). headSize + n) (answer-size P s key (m .server) v (q .body)) in
       record {
@@ -118,6 +123,10 @@ module _ (P : Primitives) (memory key packet output : List ℕ) where
         request = q;
         opened = e;
         read = f;
+        reply = replyTo q (a .reply);
+        fits = answer-ok;
+        faults = unfold replyTo in g;
+        bytes = over-start (encode (replyTo q (a .reply))) output;
         count = l;
         sent = ap length (over-start (encode (replyTo q (a .reply))) output) ∙ l;
       }

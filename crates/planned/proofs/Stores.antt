@@ -7,7 +7,7 @@ use mathlib.Core.Option.{Option, none, some}
 use Prim.Native.Nat.{ℕ, zero, suc, _+_, _-_, _*_, _≤_}
 use native.Mathlib.Omega.{arith}
 use lib.Dec.{eqb, leb}
-use lib.ListN.{length, take, length-append}
+use lib.ListN.{length, take, replicate, length-append}
 use Rattle.cluster.specs.Config.{Config, shelf}
 use Rattle.cluster.specs.Ranges.{topFaults, memorySize, capacity}
 use Rattle.cluster.specs.Refusals.{onRefusal}
@@ -25,32 +25,12 @@ use Rattle.format.proofs.Answers.{at-cond}
 use Rattle.protocol.proofs.Bodies.{decode-encode, decode-nothing}
 use Rattle.protocol.proofs.ServerLift.{Holds, Lifted, memory-ok, holds-decodes, blank-holds, serve-lift}
 use Rattle.protocol.proofs.Memories.{writesSize, fieldsSize, fields-length, same-size}
-use Rattle.protocol.proofs.Changes.{noughts}
 use Rattle.format.proofs.Walks.{all-snoc}
+use Rattle.planner.specs.declared.PlanOutcome.{PlanOutcome}
+use Rattle.planner.proofs.Entries.{plan-made, plan-number}
+use Rattle.planned.specs.Stored.{addedBy, replyOf, keptBy, Given, FilledTo, memoryAfter, served, storedAfter, StoreKept, AllKept, MemoryPlanned}
 
 -- ---- what one act adds
-
--- the write in a request
-abbrev pub writeAsked : Body → List Write
-writeAsked (store w) = w ∷ []
-writeAsked clock = []
-writeAsked (clockReply x) = []
-writeAsked (storeReply x) = []
-writeAsked (complete x) = []
-writeAsked completeReply = []
-writeAsked collect = []
-writeAsked (collectReply x) = []
-writeAsked (filter x) = []
-writeAsked (filterReply x) = []
-writeAsked (repair x) = []
-writeAsked repairReply = []
-
--- a reply that says of a store that it was kept: kind 4, byte 0
-abbrev pub saysKept : Body → Bool
-saysKept y = eqb (kindOf y) 4 && eqb (codeIn y) 0
-
-abbrev pub addedBy : Body → Body → List Write
-addedBy x y = cond (saysKept y) (writeAsked x) []
 
 module _ (P : Primitives) (s : Config) (key : List ℕ) (b : ℕ) (v : Server) where
   same : v .history ≡ v .history ++ []
@@ -84,16 +64,6 @@ module _ (P : Primitives) (s : Config) (key : List ℕ) (b : ℕ) (v : Server) w
   act-history repairReply = same
 
 -- ---- what one packet adds, on bytes
-
--- the bytes of a reply
-abbrev pub replyOf : Served → List ℕ
-replyOf d = take (d .result .count) (d .output)
-
--- of a packet and of the reply to it, as they decode
-abbrev pub keptBy : Option Packet → Option Packet → List Write
-keptBy none r = []
-keptBy (some q) none = []
-keptBy (some q) (some r) = addedBy (q .body) (r .body)
 
 none-kept : (o : Option Packet) → keptBy o none ≡ []
 none-kept none = refl
@@ -129,41 +99,14 @@ module _ (P : Primitives) (t b : ℕ) (v : Server) (memory key packet output : L
       stepped-history (decode packet) (serverRefusal true (some (memoryOf (shelf t .t) b v)) (decode packet) (length output)) refl
       (unfold serverStep in serve-lift P t b v memory key packet output h)
 
--- ---- any packets, newest first, each with the key and the output buffer that were given with it
-
-pub record Given : Type 0 where
-  pub key : List ℕ
-  pub packet : List ℕ
-  pub output : List ℕ
-
--- a memory whose fields, with the writes ws, take so many bytes, and which is zero after them
-pub record FilledTo (memory : List ℕ) (ws : List Write) (bytesTaken : ℕ) : Type 0 where
-  pub fields : Memory
-  pub opened : decodeMemory memory ≡ some fields
-  pub writes : fields .writes ≡ ws
-  pub few : length ws ≤ capacity
-  pub size : length (memoryF .print fields) ≡ bytesTaken
-  pub bytes : memory ≡ memoryF .print fields ++ noughts (memorySize - bytesTaken)
+-- ---- any packets
 
 module _ (P : Primitives) (t b : ℕ) where
-  -- the memory of server b, blank at first
-  unfoldable pub memoryAfter : List Given → List ℕ
-  memoryAfter [] = encodeMemory (blankMemory t b)
-  memoryAfter (x ∷ xs) = serverTake P (memoryAfter xs) (x .key) (x .packet) (x .output) .memory
-
-  abbrev pub served : Given → List Given → Served
-  served x xs = serverTake P (memoryAfter xs) (x .key) (x .packet) (x .output)
-
-  -- the writes of the stores that were answered with 0, oldest first
-  unfoldable pub storedAfter : List Given → List Write
-  storedAfter [] = []
-  storedAfter (x ∷ xs) = storedAfter xs ++ keptBy (decode (x .packet)) (decode (replyOf (served x xs)))
-
   -- the memory holds just these
   pub record HoldsJust (xs : List Given) : Type 0 where
     pub server : Server
-    pub holds : Holds t b server (memoryAfter xs)
-    pub history : server .history ≡ storedAfter xs
+    pub holds : Holds t b server (memoryAfter P t b xs)
+    pub history : server .history ≡ storedAfter P t b xs
 
   module _ (tr : (1 ≤ t) × (t ≤ topFaults)) (br : (1 ≤ b) × (b ≤ shelf t .servers)) where
     stands : (xs : List Given) → HoldsJust xs
@@ -172,21 +115,21 @@ module _ (P : Primitives) (t b : ℕ) where
     stands (x ∷ xs) =
         let w : HoldsJust xs = unfold memoryAfter storedAfter in stands xs in
         let v : Server = w .server in
-        let h : Holds t b v (memoryAfter xs) = w .holds in
+        let h : Holds t b v (memoryAfter P t b xs) = w .holds in
         record {
           server = serverStep P (shelf t) (x .key) b v (length (x .output)) (decode (x .packet)) .server;
-          holds = serve-lift P t b v (memoryAfter xs) (x .key) (x .packet) (x .output) h .memory;
+          holds = serve-lift P t b v (memoryAfter P t b xs) (x .key) (x .packet) (x .output) h .memory;
           history =
-              taken-history P t b v (memoryAfter xs) (x .key) (x .packet) (x .output) h
-              ∙ ap (λ (y : List Write). y ++ keptBy (decode (x .packet)) (decode (replyOf (served x xs)))) (w .history);
+              taken-history P t b v (memoryAfter P t b xs) (x .key) (x .packet) (x .output) h
+              ∙ ap (λ (y : List Write). y ++ keptBy (decode (x .packet)) (decode (replyOf (served P t b x xs)))) (w .history);
         }
 
-    pub memory-filled : (xs : List Given) → FilledTo (memoryAfter xs) (storedAfter xs) (fieldsSize (shelf t) (storedAfter xs))
+    pub memory-filled : (xs : List Given) → FilledTo (memoryAfter P t b xs) (storedAfter P t b xs) (fieldsSize (shelf t) (storedAfter P t b xs))
     unfolding encodeMemory
     memory-filled xs =
         let w : HoldsJust xs = stands xs in
         let m : Memory = memoryOf t b (w .server) in
-        let l : length (memoryF .print m) ≡ fieldsSize (shelf t) (storedAfter xs) =
+        let l : length (memoryF .print m) ≡ fieldsSize (shelf t) (storedAfter P t b xs) =
         fields-length m (memory-ok (w .holds)) ∙ ap (fieldsSize (shelf t)) (w .history) in
         record {
           fields = m;
@@ -194,44 +137,38 @@ module _ (P : Primitives) (t b : ℕ) where
           writes = w .history;
           few = subst (λ (y : List Write). length y ≤ capacity) (w .history) (w .holds .ok .few);
           size = l;
-          bytes = w .holds .bytes ∙ ap (λ (n : ℕ). memoryF .print m ++ noughts (memorySize - n)) l;
+          bytes = w .holds .bytes ∙ ap (λ (n : ℕ). memoryF .print m ++ replicate (memorySize - n) 0) l;
         }
 
-  -- ---- stores of one length, all of them kept
-
-  -- the packet is a store of a content of n bytes, and the reply says that it was kept
-  pub record StoreKept (n : ℕ) (packet : List ℕ) (d : Served) : Type 0 where
-    pub request : Packet
-    pub write : Write
-    pub reply : Packet
-    pub read : decode packet ≡ some request
-    pub asks : request .body ≡ store write
-    pub size : write .share .size ≡ n
-    pub replied : decode (replyOf d) ≡ some reply
-    pub says : reply .body ≡ storeReply 0
-
-  unfoldable pub AllKept : ℕ → List Given → Type 0
-  AllKept n [] = Unit {0}
-  AllKept n (x ∷ xs) = StoreKept n (x .packet) (served x xs) × AllKept n xs
+  -- ---- stores of one length
 
   kept-one : (n : ℕ) (packet : List ℕ) (d : Served) (k : StoreKept n packet d) → keptBy (decode packet) (decode (replyOf d)) ≡ k .write ∷ []
   kept-one n packet d k = rw (k .read, k .replied, k .asks, k .says)
 
-  pub kept-all : (n : ℕ) (xs : List Given) → AllKept n xs → (length (storedAfter xs) ≡ length xs) × All (λ w. w .share .size ≡ n) (storedAfter xs)
+  pub kept-all : (n : ℕ) (xs : List Given) → AllKept P t b n xs → (length (storedAfter P t b xs) ≡ length xs) × All (λ w. w .share .size ≡ n) (storedAfter P t b xs)
   unfolding storedAfter AllKept
   kept-all n [] h = (refl, tt)
   kept-all n (x ∷ xs) h =
       let (l, a) = kept-all n xs (h .1) in
-      rw (kept-one n (x .packet) (served x xs) (h .0))
-      (omega (arith, length-append (storedAfter xs) (h .0 .write ∷ [])), all-snoc _ (storedAfter xs) (h .0 .write) a (h .0 .size))
+      rw (kept-one n (x .packet) (served P t b x xs) (h .0))
+      (omega (arith, length-append (storedAfter P t b xs) (h .0 .write ∷ [])), all-snoc _ (storedAfter P t b xs) (h .0 .write) a (h .0 .size))
 
   module _ (tr : (1 ≤ t) × (t ≤ topFaults)) (br : (1 ≤ b) × (b ≤ shelf t .servers)) where
     -- after m of them m writes of this length stand in the memory, and its fields take so many bytes
-    pub stores-filled : (n : ℕ) (xs : List Given) → AllKept n xs
-        → FilledTo (memoryAfter xs) (storedAfter xs) (writesPlace (shelf t) + length xs * (stampSize + shareSize (shelf t) n))
+    pub stores-filled : (n : ℕ) (xs : List Given) → AllKept P t b n xs
+        → FilledTo (memoryAfter P t b xs) (storedAfter P t b xs) (writesPlace (shelf t) + length xs * (stampSize + shareSize (shelf t) n))
     stores-filled n xs h =
         let s : Config = shelf t in
         let (l, a) = kept-all n xs h in
-        let e : writesSize s (storedAfter xs) ≡ length xs * (stampSize + shareSize s n) =
-        same-size s n (storedAfter xs) a ∙ ap (λ (k : ℕ). k * (stampSize + shareSize s n)) l in
-        subst (λ (k : ℕ). FilledTo (memoryAfter xs) (storedAfter xs) (writesPlace s + k)) e (memory-filled tr br xs)
+        let e : writesSize s (storedAfter P t b xs) ≡ length xs * (stampSize + shareSize s n) =
+        same-size s n (storedAfter P t b xs) a ∙ ap (λ (k : ℕ). k * (stampSize + shareSize s n)) l in
+        subst (λ (k : ℕ). FilledTo (memoryAfter P t b xs) (storedAfter P t b xs) (writesPlace s + k)) e (memory-filled tr br xs)
+
+-- ---- the plan's
+
+pub memory-planned : MemoryPlanned
+unfolding MemoryPlanned
+memory-planned P t b lo hi l h n xs k readers e =
+    subst (FilledTo (memoryAfter P t b xs) (storedAfter P t b xs))
+    (sym (ap (λ (p : PlanOutcome). p .memory) (plan-made t n readers (length xs) (sym (plan-number t n readers (length xs)) ∙ e))))
+    (stores-filled P t b (lo, hi) (l, h) n xs k)

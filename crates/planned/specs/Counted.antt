@@ -1,0 +1,79 @@
+-- "Each must equal .." (document 02, W-201): "the requests and replies of a write and of so many reads with and without repair when each round goes to
+-- all S boxes". The calls are those of a run that finished; atomicity's Traffic counts their packets.
+use mathlib.Core.Path.{_≡_}
+use mathlib.Core.Bool.{Bool, true, false, not}
+use mathlib.Core.List.{List, [], _∷_, _++_}
+use Prim.Native.Nat.{ℕ, _+_}
+use lib.Dec.{eqb}
+use lib.ListN.{length, getD}
+use Rattle.protocol.specs.Client.{Result, refused, more, written, gave, gaveBlank, aborted, awaits}
+use Rattle.runs.specs.Runs.{Lent, take-reply, Account}
+use Rattle.atomicity.specs.Steps.{System, StepIn}
+use Rattle.atomicity.specs.Traffic.{requests, EachAsked, repliesHad, EachReplied}
+use Rattle.planner.specs.Plan.{planStep}
+
+-- ---- which call ends, by the result and the kind of the reply that gave it: a read was repaired if that is repair's, 12
+
+abbrev pub isWrite : Result → ℕ → Bool
+isWrite (written k) kind = true
+isWrite (gave k r) kind = false
+isWrite gaveBlank kind = false
+isWrite (refused n) kind = false
+isWrite more kind = false
+isWrite (aborted b) kind = false
+
+abbrev pub isRead : Result → ℕ → Bool
+isRead (gave k r) kind = not (eqb kind 12)
+isRead gaveBlank kind = true
+isRead (written k) kind = false
+isRead (refused n) kind = false
+isRead more kind = false
+isRead (aborted b) kind = false
+
+abbrev pub isRepaired : Result → ℕ → Bool
+isRepaired (gave k r) kind = eqb kind 12
+isRepaired gaveBlank kind = false
+isRepaired (written k) kind = false
+isRepaired (refused n) kind = false
+isRepaired more kind = false
+isRepaired (aborted b) kind = false
+
+module _ (s : System) (A : Account (StepIn s)) where
+  -- a call that ended with a step, after those before it; each of its rounds went to all servers, and by the end of the steps after it, while it was
+  -- still its client's last call, all had replied in each
+  pub record Finished (is : Result → ℕ → Bool) : Type 0 where
+    pub client : ℕ
+    pub step : StepIn s
+    pub before : List (StepIn s)
+    pub after : List (StepIn s)
+    pub lent : Lent
+    pub reply : List ℕ
+    pub output : List ℕ
+    pub takes : step .step ≡ take-reply client lent reply output
+    pub ends : is (A .result step before) (awaits (A .client before client .hand)) ≡ true
+    pub last : A .client (after ++ step ∷ before) client .calls ≡ A .client (step ∷ before) client .calls
+    pub asked : EachAsked s A client (step ∷ before)
+    pub replied : EachReplied s A client (after ++ step ∷ before)
+
+  module _ {is : Result → ℕ → Bool} where
+    abbrev pub requestsOf : Finished is → ℕ
+    requestsOf e = requests s A (e .client) (e .step ∷ e .before)
+
+    abbrev pub repliesOf : Finished is → ℕ
+    repliesOf e = repliesHad s A (e .client) (e .after ++ e .step ∷ e .before)
+
+    unfoldable pub total : (Finished is → ℕ) → List (Finished is) → ℕ
+    total f [] = 0
+    total f (e ∷ es) = f e + total f es
+
+  -- so many calls of one sort together have the requests and the replies that stand at this place and behind it
+  abbrev pub Together : (is : Result → ℕ → Bool) (n readers stores : ℕ) (calls place : ℕ) → Type 0
+  Together is n readers stores calls place =
+      (es : List (Finished is)) → length es ≡ calls
+      → (total requestsOf es ≡ getD (planStep (s .config .t) n readers stores .packets) place 0)
+      × (total repliesOf es ≡ getD (planStep (s .config .t) n readers stores .packets) (place + 1) 0)
+
+  pub record CountsPlanned : Type 0 where
+    pub write : (n readers stores : ℕ) → planStep (s .config .t) n readers stores .number ≡ 0 → Together isWrite n readers stores 1 0
+    pub reads : (n readers stores : ℕ) → planStep (s .config .t) n readers stores .number ≡ 0 → Together isRead n readers stores readers 2
+    pub repaired : (n readers stores : ℕ) → planStep (s .config .t) n readers stores .number ≡ 0 → Together isRepaired n readers stores readers 4
