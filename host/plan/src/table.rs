@@ -68,8 +68,8 @@ fn moved(figures: &Figures) -> Vec<String> {
         "  settled: every box knows the last record; 1 candidate, and every reply has a fragment.".to_owned(),
         format!("  most: {} different candidates, and every reply has a fragment.", figures.most_candidates()),
         "  A read is repaired where a liar has spoiled the tags of the record's candidate.".to_owned(),
-        "  All records have this length. What a network adds to a packet, and packets that".to_owned(),
-        "  are sent again, are not counted.".to_owned(),
+        "  All records have this length, and no box sends more than it should. What a network".to_owned(),
+        "  adds to a packet, and packets that are sent again, are not counted.".to_owned(),
     ]);
     lines
 }
