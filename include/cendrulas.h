@@ -21,8 +21,8 @@
 extern "C" {
 #endif
 
-/* Version 1.0.0, as major * 65536 + minor * 256 + patch: of this header, and of the archive that is linked. CHANGELOG.md says what changed. */
-#define CENDRULAS_VERSION 65536u
+/* Version 1.1.0, as major * 65536 + minor * 256 + patch: of this header, and of the archive that is linked. CHANGELOG.md says what changed. */
+#define CENDRULAS_VERSION 65792u
 uint32_t cendrulas_version(void);
 
 /* Bytes of what is lent. A packet and a content need so much output, however short they are. */
@@ -36,6 +36,7 @@ uint32_t cendrulas_version(void);
 #define CENDRULAS_NONCE 32u
 #define CENDRULAS_WORK_AREA 2097152u
 #define CENDRULAS_LISTING_LINE 65u
+#define CENDRULAS_PLAN 36u /* numbers of a plan, not bytes */
 
 /* An answer is one number:
  *
@@ -43,13 +44,13 @@ uint32_t cendrulas_version(void);
  *   bits 52 to 55   writer of a stamp, 1 to 8; 0 where no stamp is told
  *   bits 48 to 51   result
  *   bits 16 to 47   number of a stamp
- *   bits  0 to 15   count: bytes written at the front of `out`
+ *   bits  0 to 15   count: bytes written at the front of `out`; of a plan, numbers
  *
  * A refused call answers its refusal with all other parts 0, writes nothing and changes nothing. Bytes of `out` past the count are never written.
  * If several refusals apply, the one that stands first in the function's list is given. Two writes are the same if number and writer are.
  *
- * Refusal 255 stands in no document: a key, a nonce or a client's state was lent with another length than its size, or an output for a digest, a tag
- * or a fragment with less than theirs. It is tested before all others.
+ * Refusal 255 stands in no document: a key, a nonce or a client's state was lent with another length than its size, or an output for a digest, a tag,
+ * a fragment or a plan with less than theirs. It is tested before all others.
  */
 static inline unsigned cendrulas_refusal(uint64_t answer) { return (unsigned)(answer >> 56); }
 static inline unsigned cendrulas_writer(uint64_t answer) { return (unsigned)(answer >> 52) & 0xFu; }
@@ -97,6 +98,7 @@ static inline const char *cendrulas_refusal_name(unsigned refusal) {
     case 15: return "output too small";
     case 16: return "too few fragments, or of a wrong length";
     case 17: return "drill line not of the form";
+    case 18: return "more stores than a memory holds";
     case 255: return "argument of a wrong size";
     default: return "unknown";
     }
@@ -133,6 +135,23 @@ uint64_t cendrulas_packet_check(const uint8_t *packet, size_t packet_len);
  * Refusals: 7 where the packet breaks the layout. Result 1 where it is a reply to a store, with its code as count: 0 kept, 10 held
  * already, 11 full. Result 0 and count 0 for every other packet. Writes nothing. */
 uint64_t cendrulas_store_code(const uint8_t *packet, size_t packet_len);
+
+/* ---- A plan: how large a lab must be, told before there is one. */
+
+/* Where the numbers of a plan stand. Lengths are of whole packets, in bytes. */
+#define CENDRULAS_PLAN_KIND 0u      /* + kind, 0 to 12: a packet's length. Kind 0 is none; kinds 9 and 10 have no one length: 0 in all three places */
+#define CENDRULAS_PLAN_FILTER 13u   /* + count, 0 to 13: length of a filter (kind 9) with so many candidates; 0 above S */
+#define CENDRULAS_PLAN_HELD 27u     /* + 0 or 1: length of a filter's reply (kind 10) without and with a fragment */
+#define CENDRULAS_PLAN_WRITE 29u    /* requests of a write; its replies at + 1. These six are numbers of packets */
+#define CENDRULAS_PLAN_READ 31u     /* of all the reads together, none of them repaired: requests, replies */
+#define CENDRULAS_PLAN_REPAIRED 33u /* of all the reads together, each of them repaired: requests, replies */
+#define CENDRULAS_PLAN_MEMORY 35u   /* bytes of a server's memory that its fields take; the rest of the 40,960 is 00h */
+
+/* What a shelf takes, for contents of `length` bytes: the length of each packet; the packets of a write and of so many clients' reads, one each, when
+ * each round goes to all S servers and all of them reply; and a server's memory after `stores` stores of that length, all kept.
+ * Refusals: 255 where numbers_len < 36; 3 where t is outside 1 to 4; 5 where readers is outside 1 to 16; 6 where length is outside 1 to 1,024;
+ * 18 where stores is above 32. Writes 36 numbers; count 36. */
+uint64_t cendrulas_plan(size_t t, size_t length, size_t readers, size_t stores, size_t *numbers, size_t numbers_len);
 
 /* ---- A server: 40,960 bytes that it is lent with every call, and its key. */
 

@@ -5,6 +5,7 @@ mod table;
 mod calls;
 mod coding;
 mod drill;
+mod plan;
 mod server;
 mod sides;
 
@@ -17,6 +18,7 @@ fn main() {
     server::rows(&mut table);
     calls::rows(&mut table);
     drill::rows(&mut table);
+    plan::rows(&mut table);
 }
 
 /// Bytes that look like no pattern, the same in every run.

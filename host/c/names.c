@@ -9,10 +9,10 @@ static int unknown(unsigned refusal) {
     return strcmp(cendrulas_refusal_name(refusal), "unknown") == 0;
 }
 
-/* Names that are there for 0 to 17 and 255 alone, no two the same. */
+/* Names that are there for 0 to 18 and 255 alone, no two the same. */
 static int names(void) {
     for (unsigned a = 0; a < 1000; a++) {
-        if (unknown(a) != (a > 17 && a != 255)) {
+        if (unknown(a) != (a > 18 && a != 255)) {
             return 0;
         }
         for (unsigned b = 0; b < a; b++) {

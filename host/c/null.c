@@ -5,7 +5,7 @@
 #include <stdio.h>
 #include <string.h>
 
-enum { ALL = 7, FUNCTIONS = 15 };
+enum { ALL = 7, FUNCTIONS = 16 };
 
 static uint8_t message[100], out[CENDRULAS_PACKET_ROOM], work[CENDRULAS_WORK_AREA];
 static struct cendrulas_server server;
@@ -14,6 +14,7 @@ static struct cendrulas_keys keys;
 static struct cendrulas_packet packet, reply;
 static const uint8_t nonce[CENDRULAS_NONCE];
 static const size_t numbers[2] = {1, 2};
+static size_t planned[CENDRULAS_PLAN];
 
 /* which pointer of the function gets length 0 (0: none), and whether it is NULL */
 static int chosen, null;
@@ -52,6 +53,7 @@ static uint64_t call(int function) {
     case 12: return cendrulas_client_take(io(1, s), n(1, s_n), 1, 1, in(2, keys.writers), n(2, 32), in(3, keys.servers), n(3, 416),
                                           in(4, reply.bytes), n(4, reply.length), io(5, out), n(5, 1024));
     case 13: return cendrulas_client_give_up(io(1, s), n(1, s_n), 1, 1);
+    case 14: return cendrulas_plan(1, 100, 1, 1, is(1) && null ? NULL : planned, n(1, CENDRULAS_PLAN));
     default: return cendrulas_drill(in(1, message), n(1, 100), io(2, out), n(2, 65), io(3, work), n(3, sizeof work));
     }
 }
@@ -82,7 +84,7 @@ int main(void) {
         }
     }
     chosen = 1;
-    if (cendrulas_refusal(fresh(0, 1)) != 0 || memcmp(out, empty, sizeof empty) != 0 || cendrulas_refusal(fresh(14, 1)) != 0) {
+    if (cendrulas_refusal(fresh(0, 1)) != 0 || memcmp(out, empty, sizeof empty) != 0 || cendrulas_refusal(fresh(15, 1)) != 0) {
         puts("null: an empty message or sheet is not taken");
         return 1;
     }

@@ -1,15 +1,15 @@
-/* Stack: the functions of servers and clients and the digest, tag and fragments run on painted stacks (painted.h), 64 KiB for a server's
+/* Stack: the functions of servers and clients, the digest, tag, fragments and plan run on painted stacks (painted.h), 64 KiB for a server's
  * functions and 128 KiB for the others, with the longest inputs at t = 4. Compiled and run by host/test. */
 #include "painted.h"
 
 #include "cendrulas.h"
 
 enum { T = 4, SERVERS = 13, CANDIDATE = 485, WRITES = 32 };
-enum { NOTHING, DIGEST, TAG, FRAGMENT, RESTORE, CHECK, CODE, BLANK, SERVE, ROUND, WRITE, READ, MAKE, TAKE, GIVE_UP, FUNCTIONS };
+enum { NOTHING, DIGEST, TAG, FRAGMENT, RESTORE, CHECK, CODE, BLANK, SERVE, ROUND, WRITE, READ, MAKE, TAKE, GIVE_UP, PLAN, FUNCTIONS };
 
 static const char *const names[FUNCTIONS] = {
     "a thread alone", "digest", "tag", "fragment", "restore", "packet_check", "store_code", "server_blank", "server_take",
-    "client_round", "client_begin_write", "client_begin_read", "client_make", "client_take", "client_give_up"};
+    "client_round", "client_begin_write", "client_begin_read", "client_make", "client_take", "client_give_up", "plan"};
 static size_t deepest[FUNCTIONS];
 static unsigned seen_result[6], seen_kind[13], seen_full;
 
@@ -19,7 +19,7 @@ static uint8_t memories[SERVERS][CENDRULAS_SERVER_MEMORY], state[17][CENDRULAS_C
 static uint8_t writers[CENDRULAS_KEY], keys[CENDRULAS_KEYS], nonce[CENDRULAS_NONCE], content[CENDRULAS_CONTENT_ROOM];
 static uint8_t packet[CENDRULAS_PACKET_ROOM], reply[CENDRULAS_PACKET_ROOM], out[CENDRULAS_CONTENT_ROOM];
 static uint8_t fragments[5 * 205];
-static size_t numbers[5];
+static size_t numbers[5], planned[CENDRULAS_PLAN];
 static uint64_t answer;
 
 static void fail(const char *what) {
@@ -50,6 +50,7 @@ static void *call(void *which) {
         answer = cendrulas_client_take(s, size, T, client, writers, sizeof writers, keys, sizeof keys, reply, reply_len, out, sizeof out);
         break;
     case GIVE_UP: answer = cendrulas_client_give_up(s, size, T, client); break;
+    case PLAN: answer = cendrulas_plan(T, sizeof content, 16, WRITES, planned, CENDRULAS_PLAN); break;
     default: break;
     }
     return NULL;
@@ -150,7 +151,7 @@ static void filters(uint8_t *list) {
     }
 }
 
-/* Fragments of servers 9 to 13, and the content from them. */
+/* Fragments of servers 9 to 13, and the content from them; a plan. */
 static void coding(void) {
     accepted(DIGEST);
     accepted(TAG);
@@ -164,6 +165,7 @@ static void coding(void) {
     if (memcmp(out, content, sizeof content) != 0) {
         fail("another content");
     }
+    accepted(PLAN);
 }
 
 /* Writes until the servers are full, the last one by a lying writer; a read with repair; one more write. */

@@ -1,4 +1,4 @@
-//! The trace shelf of document 01 in plain Rust, without proofs: the opponent of every ratio
+//! The trace shelf of documents 01 and 02 in plain Rust, without proofs: the opponent of every ratio
 //! and an independent second implementation. Its words are document 01's (box for server).
 #![forbid(unsafe_code)]
 
@@ -9,6 +9,7 @@ pub mod fragments;
 pub mod gf256;
 pub mod hmac;
 pub mod packet;
+pub mod plan;
 pub mod sha256;
 pub mod stamp;
 
@@ -35,7 +36,7 @@ pub const fn quorum_of(t: u8) -> u32 {
     2 * t as u32 + 1
 }
 
-/// Why a call was turned down; the numbers are document 01's table.
+/// Why a call was turned down; the numbers are document 01's table and document 02's.
 #[derive(Clone, Copy, Debug, PartialEq, Eq)]
 #[repr(u8)]
 pub enum Refusal {
@@ -53,4 +54,5 @@ pub enum Refusal {
     NumbersUsedUp = 14,
     OutputTooSmall = 15,
     CannotRestore = 16,
+    TooManyStores = 18,
 }

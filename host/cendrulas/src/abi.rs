@@ -35,6 +35,15 @@ extern "C" {
     pub fn cendrulas_packet_check(packet: *const u8, packet_len: usize) -> u64;
     pub fn cendrulas_store_code(packet: *const u8, packet_len: usize) -> u64;
 
+    pub fn cendrulas_plan(
+        t: usize,
+        length: usize,
+        readers: usize,
+        stores: usize,
+        numbers: *mut usize,
+        numbers_len: usize,
+    ) -> u64;
+
     pub fn cendrulas_server_blank(memory: *mut u8, memory_len: usize, t: usize, server: usize) -> u64;
     pub fn cendrulas_server_take(
         memory: *mut u8,

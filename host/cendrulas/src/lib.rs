@@ -9,6 +9,7 @@ mod digest;
 mod drill;
 mod packets;
 mod parties;
+mod plan;
 mod refusal;
 mod server;
 
@@ -27,6 +28,7 @@ pub use digest::{digest, tag};
 pub use drill::{drill, listing_room, Listing, WORK_AREA};
 pub use packets::{packet_check, store_code};
 pub use parties::{stored, Client, GivenUp, Keys, Label, Round, Served, Server, Stored, Taken};
+pub use plan::{plan, plan_numbers, Plan, Traffic, PLAN};
 pub use refusal::Refusal;
 pub use server::{server_blank, server_take};
 

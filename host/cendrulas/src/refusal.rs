@@ -1,4 +1,4 @@
-//! Refusals by name. Their numbers are those of document 01, "What is turned down"; 255 is the library's own.
+//! Refusals by name. Their numbers are those of document 01, "What is turned down", and of document 02; 255 is the library's own.
 
 use std::fmt;
 
@@ -21,12 +21,13 @@ pub enum Refusal {
     OutputTooSmall = 15,
     Fragments = 16,
     DrillLine = 17,
-    /// An argument of a wrong size, for which document 01 has no number.
+    Stores = 18,
+    /// An argument of a wrong size, for which the documents have no number.
     WrongSize = 255,
 }
 
 /// Each with its number and the words of cendrulas_refusal_name.
-const NAMES: [(Refusal, &str); 16] = [
+const NAMES: [(Refusal, &str); 17] = [
     (Refusal::MemorySize, "memory or work area of a wrong size"),
     (Refusal::NoServer, "memory that is no server's"),
     (Refusal::T, "t outside 1 to 4"),
@@ -42,6 +43,7 @@ const NAMES: [(Refusal, &str); 16] = [
     (Refusal::OutputTooSmall, "output too small"),
     (Refusal::Fragments, "too few fragments, or of a wrong length"),
     (Refusal::DrillLine, "drill line not of the form"),
+    (Refusal::Stores, "more stores than a memory holds"),
     (Refusal::WrongSize, "argument of a wrong size"),
 ];
 

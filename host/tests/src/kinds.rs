@@ -28,11 +28,15 @@ const DUE: &[(&str, &str)] = &[
     ("any state makes", MAKE),
     ("any state takes", TAKE),
     ("any state gives up", GIVE_UP),
+    ("plan", "accepted,refused 3,refused 5,refused 6,refused 18,refused 255"),
+    ("packet as planned", PLANNED),
     ("drill", "accepted,refused 1,refused 15"),
     ("line of a listing", LISTING),
 ];
 
 const PACKETS: &str = "kind 1,kind 2,kind 3,kind 4,kind 5,kind 6,kind 7,kind 8,kind 9,kind 10,kind 11,kind 12,refused 7";
+const PLANNED: &str = "clock,clock reply,store,store reply,complete,complete reply,collect,collect reply,filter,filter reply without a share,\
+    filter reply with a share,repair,repair reply";
 const SERVER: &str = "clock,store: kept,store: held,store: full,complete,complete: raised,collect,filter: blank,filter: not held,\
     filter: not held: raised,filter: held,filter: held: raised,repair,repair: raised,\
     refused 1,refused 2,refused 7,refused 8,refused 9,refused 15,refused 255";

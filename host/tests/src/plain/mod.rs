@@ -15,6 +15,9 @@ pub use client::Client;
 mod drill;
 pub use drill::drill;
 
+mod plan;
+pub use plan::plan_numbers;
+
 use cendrulas::Answer;
 use shelf::Refusal;
 

@@ -1,4 +1,4 @@
-//! The examples that an independent model of document 01 made.
+//! The examples that an independent model of documents 01 and 02 made.
 
 use crate::check::{Run, Seen, FILLER};
 use crate::text::{number, raw, Line};
@@ -8,6 +8,7 @@ use std::path::Path;
 mod tags;
 mod client;
 mod coding;
+mod planner;
 mod server;
 mod sheets;
 mod packets;
@@ -21,6 +22,7 @@ pub fn all(run: &mut Run, folder: &Path) {
     run.group("packets.txt", |run| packets::packets(run, &vectors));
     server::all(run, &vectors);
     run.group("clients.txt", |run| client::clients(run, &vectors));
+    run.group("planner.txt", |run| planner::plans(run, &vectors));
     run.group("sheets", |run| sheets::sheets(run, folder));
 }
 
