@@ -6,7 +6,7 @@ library=$root/target/staticlib/libcendrulas.a # the same under the name that shi
 
 # Seconds that each crate took on two cores. The time left is scaled by how long this machine has taken so far.
 declare -A usual=([cluster]=2 [sha256]=35 [hmac]=13 [gf256]=6 [columns]=12 [erasure]=37 [protocol]=8 [wire]=44 [state]=10 [decide]=47 [server]=55 \
-    [client]=96 [drill]=57 [embed]=30)
+    [client]=96 [planner]=9 [drill]=57 [embed]=30)
 new_crate=30
 
 say() {
