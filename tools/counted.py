@@ -115,6 +115,7 @@ def counted():
         "edits": f"{edits - whole:,}",
         "all-edits": f"{edits:,}",
         "theorem-edits": files("theorem-edits/*.edit"),
+        "plan-edits": files("theorem-edits/planned/*.edit"),
         **sizes(),
         **first_run(),
         **{name: f"{value(ROOT / file, pattern):,}" for name, (file, pattern) in SAID.items()},
