@@ -3,7 +3,7 @@
 -- its kind and its server: made again within the call it is the same packet, and packets of another kind or server are others.
 -- Assumes the laws of packets (Laws), which the real functions have.
 use mathlib.Core.Path.{_≡_, refl, sym, ap, _∙_, subst}
-use mathlib.Core.Bool.{Bool, true, false, cond, _&&_, _||_}
+use mathlib.Core.Bool.{true, false, _||_}
 use mathlib.Core.List.{List, [], _∷_, _++_}
 use mathlib.Core.Option.{Option, none, some}
 use mathlib.Core.Logic.{_⊎_, inl, inr}

@@ -3,16 +3,13 @@
 -- Replies may still be sent after the call has ended: a finished call's rounds stay until the next call begins, since no step but a begin changes an
 -- idle client. Assumes nothing; it holds of every list of steps, whoever lies.
 use mathlib.Core.Path.{_≡_, refl, sym, ap, _∙_, subst}
-use mathlib.Core.Bool.{Bool, true, false, _&&_, _||_}
+use mathlib.Core.Bool.{true}
 use mathlib.Core.List.{List, [], _∷_, _++_}
-use mathlib.Core.Option.{Option, none, some}
 use Prim.Native.Nat.{ℕ, _*_, _≤_}
 use native.Mathlib.Nat.{le-refl}
 use native.Mathlib.Omega.{arith}
-use lib.Dec.{eqb}
 use lib.ListN.{length}
-use Rattle.protocol.specs.Packet.{Packet, kindOf, decode}
-use Rattle.protocol.specs.Client.{Client, idle, awaits, isIdle, begun}
+use Rattle.protocol.specs.Client.{Client, awaits, isIdle, begun}
 use Rattle.runs.specs.Runs.{Lent, take-reply, Account}
 use Rattle.atomicity.specs.Steps.{StepIn, System}
 use Rattle.atomicity.specs.Traffic.{wentThrough, hadReply, repliesHad, EachReplied}

@@ -9,7 +9,7 @@ use native.Mathlib.Omega.{arith}
 use lib.Dec.{eqb}
 use lib.ListN.{length, getD}
 use Rattle.cluster.specs.Config.{shelf}
-use Rattle.protocol.specs.Client.{Result, refused, more, written, gave, gaveBlank, aborted, awaits}
+use Rattle.protocol.specs.Client.{Result, refused, more, written, gave, gaveBlank, aborted}
 use Rattle.runs.specs.Runs.{Account}
 use Rattle.atomicity.specs.Steps.{System, StepIn}
 use Rattle.atomicity.specs.Claim.{OnBytes}

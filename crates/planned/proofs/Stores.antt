@@ -1,25 +1,24 @@
 -- What stands in a server's memory after any packets that a blank one took, on bytes: just the stores that were answered with 0, in their order.
 -- An act adds its write to the history then, and in no other case; so the bytes that the fields take are known. Assumes nothing.
 use mathlib.Core.Path.{_≡_, refl, sym, ap, _∙_, subst}
-use mathlib.Core.Bool.{Bool, true, cond, _&&_}
+use mathlib.Core.Bool.{true, cond}
 use mathlib.Core.List.{List, [], _∷_, _++_, append-nil}
 use mathlib.Core.Option.{Option, none, some}
 use Prim.Native.Nat.{ℕ, zero, suc, _+_, _-_, _*_, _≤_}
 use native.Mathlib.Omega.{arith}
-use lib.Dec.{eqb, leb}
+use lib.Dec.{leb}
 use lib.ListN.{length, take, replicate, length-append}
 use Rattle.cluster.specs.Config.{Config, shelf}
 use Rattle.cluster.specs.Ranges.{topFaults, memorySize, capacity}
 use Rattle.cluster.specs.Refusals.{onRefusal}
 use Rattle.format.specs.Format.{All}
 use Rattle.protocol.specs.Values.{Candidate, Write, stampSize, blankCandidate, below, isSome}
-use Rattle.protocol.specs.Packet.{Body, Packet, kindOf, shareSize, decode}
+use Rattle.protocol.specs.Packet.{Body, Packet, shareSize, decode}
 use Rattle.protocol.specs.Packet.{clock, clockReply, store, storeReply, complete, completeReply, collect, collectReply, filter, filterReply, repair, repairReply}
-use Rattle.protocol.specs.Memory.{Memory, memoryF, lookup, decodeMemory, encodeMemory, blankMemory, writesPlace}
+use Rattle.protocol.specs.Memory.{Memory, memoryF, lookup, encodeMemory, writesPlace}
 use Rattle.protocol.specs.Primitives.{Primitives}
 use Rattle.protocol.specs.Server.{Server, blankServer, Acted, memoryOf, onStore, raise, valid, best, act, replyTo, serverRefusal}
 use Rattle.protocol.proofs.ServerStep.{Stepped, answered, serverStep}
-use Rattle.protocol.specs.Pending.{codeIn}
 use Rattle.protocol.specs.ServerBytes.{Served, serverTake}
 use Rattle.format.proofs.Answers.{at-cond}
 use Rattle.protocol.proofs.Bodies.{decode-encode, decode-nothing}
