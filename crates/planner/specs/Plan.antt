@@ -20,8 +20,8 @@ storedSize s n = stampSize + shareSize s n
 
 -- ---- "each packet's length (a filter's for each count of candidates, its reply's for each form)"
 
--- by kind, from 0, which is none: clock, store, complete and collect, each before its reply; filter and its reply, which have no one length; repair and
--- its reply
+-- by kind, from 0, which is none: clock, store, complete and collect, each before its reply; filter and its reply, which have no one length;
+-- repair and its reply
 abbrev pub kindSizes : Config → ℕ → List ℕ
 kindSizes s n =
     0
