@@ -27,17 +27,24 @@ abbrev μ-loop : tie.MeasureT-loop
 loop-holds : tie.Need-loop-holds Inv-loop μ-loop
 loop-holds c = (search needs, filled-none refl, λ i h b. getD-replicate (mostServers + 1) i 0 0 b)
 
+-- a place far back, named once
+abbrev start-from-servers : tie.After-servers Inv-loop μ-loop → tie.Start Inv-loop μ-loop
+start-from-servers c = c .before .before
+
+servers-few : (c : tie.After-servers Inv-loop μ-loop) → c .servers .result ≤ mostServers
+servers-few c = omega (arith, c .servers .ensures, servers-most _ (start-from-servers c .pre))
+
+candidate-few : (c : tie.After-servers Inv-loop μ-loop) → c .before .candidate-size .result ≤ plenty
+candidate-few c = omega (arith, c .before .candidate-size .ensures, candidate-most _ (start-from-servers c .pre))
+
 -- in the loop the count is S at most
 count-few : (c : tie.In-loop Inv-loop μ-loop) → c .before .loop .count ≤ mostServers
 count-few c =
     let l : c .before .loop .count ≤ c .before .before .servers .result = search needs in
-    omega (arith, l, c .before .before .servers .ensures, servers-most _ (c .before .before .before .before .pre))
+    omega (arith, l, servers-few (c .before .before))
 
 product : (c : tie.In-loop Inv-loop μ-loop) → c .before .loop .count * c .before .before .before .candidate-size .result ≤ plenty * plenty
-product c =
-    let e = c .before .before .before .candidate-size .ensures in
-    let l : c .before .before .before .candidate-size .result ≤ plenty = omega (arith, e, candidate-most _ (c .before .before .before .before .pre)) in
-    product-most _ _ (omega (arith, count-few c)) l
+product c = product-most _ _ (omega (arith, count-few c)) (candidate-few (c .before .before))
 
 mul-out : tie.Need-mul-out Inv-loop μ-loop
 mul-out c = omega (arith, product c)
@@ -64,20 +71,21 @@ loop-again c =
     )
 
 at : (c : tie.After-loop Inv-loop μ-loop) (i : ℕ) → i < mostServers + 1 → Dec (i ≤ c .before .before .servers .result)
-    → getD (c .before .loop .out) i 0 ≡ filterSize (shelf (c .before .before .before .before .args .t)) i
+    → getD (c .before .loop .out) i 0 ≡ filterSize (shelf (start-from-servers (c .before .before) .args .t)) i
 at c i b (yes h) =
-    let s = c .before .before .servers .ensures in
+    let at-servers = c .before .before in
     c .before .loop .inv .1 .each i (omega (arith, c .before .loop .inv .0))
-    ∙ ap (λ (n : ℕ). headSize + (1 + i * n)) (c .before .before .before .candidate-size .ensures)
-    ∙ sym (filter-fits (shelf (c .before .before .before .before .args .t)) i (omega (arith, s)))
+    ∙ ap (λ (n : ℕ). headSize + (1 + i * n)) (at-servers .before .candidate-size .ensures)
+    ∙ sym (filter-fits (shelf (start-from-servers at-servers .args .t)) i (omega (arith, at-servers .servers .ensures)))
 at c i b (no h) =
-    let s = c .before .before .servers .ensures in
-    c .before .loop .inv .2 i (omega (arith, c .before .loop .inv .0)) b ∙ sym (filter-none (shelf (c .before .before .before .before .args .t)) i (omega (arith, s)))
+    let at-servers = c .before .before in
+    c .before .loop .inv .2 i (omega (arith, c .before .loop .inv .0)) b
+    ∙ sym (filter-none (shelf (start-from-servers at-servers .args .t)) i (omega (arith, at-servers .servers .ensures)))
 
 returns : tie.Need-returns Inv-loop μ-loop
 returns c =
-    table-is (mostServers + 1) (c .before .loop .out) (filterSize (shelf (c .before .before .before .before .args .t))) (c .before .loop .inv .1 .size)
-    (λ i b. at c i b (decLe i (c .before .before .servers .result)))
+    table-is (mostServers + 1) (c .before .loop .out) (filterSize (shelf (start-from-servers (c .before .before) .args .t)))
+    (c .before .loop .inv .1 .size) (λ i b. at c i b (decLe i (c .before .before .servers .result)))
 
 pub filters-spec : {M : Type 1} → statement M
 filters-spec = tie.close (tie.spec Inv-loop μ-loop (λ c κs. search needs) (λ c κs. search needs) loop-holds mul-out add-out add-out-2 mul-out-2
