@@ -19,7 +19,7 @@ use Rattle.atomicity.proofs.Requests.{ByRequests, counted-requests, counted-rep
 use Rattle.planner.specs.declared.PlanOutcome.{PlanOutcome}
 use Rattle.planner.specs.Plan.{planStep, packetCounts}
 use Rattle.planner.proofs.Entries.{plan-made, plan-number}
-use Rattle.planned.specs.Counted.{isWrite, isRead, isRepaired, Finished, requestsOf, repliesOf, total, Together, CountsPlanned}
+use Rattle.planned.specs.Counted.{endsWrite, endsRead, endsRepaired, Finished, requestsOf, repliesOf, total, Together, CountsPlanned}
 
 -- ---- a result tells its rounds
 
@@ -30,7 +30,7 @@ Rounds is rounds = (r : Result) (kind : ℕ) → is r kind ≡ true → (finishe
 not-so : {A : Type 0} → false ≡ true → A
 not-so e = absurd (true≢false (sym e))
 
-write-rounds : Rounds isWrite 3
+write-rounds : Rounds endsWrite 3
 write-rounds (written k) kind e = (refl, refl)
 write-rounds (gave k r) kind e = not-so e
 write-rounds gaveBlank kind e = not-so e
@@ -38,7 +38,7 @@ write-rounds (refused n) kind e = not-so e
 write-rounds more kind e = not-so e
 write-rounds (aborted b) kind e = not-so e
 
-read-rounds : Rounds isRead 2
+read-rounds : Rounds endsRead 2
 read-rounds (gave k r) kind e = (refl, go (eqb kind 12) e)
   where
     go : (b : Bool) → not b ≡ true → length (cond b repairedRounds readRounds) ≡ 2
@@ -50,7 +50,7 @@ read-rounds (refused n) kind e = not-so e
 read-rounds more kind e = not-so e
 read-rounds (aborted b) kind e = not-so e
 
-repaired-rounds : Rounds isRepaired 3
+repaired-rounds : Rounds endsRepaired 3
 repaired-rounds (gave k r) kind e = (refl, go (eqb kind 12) e)
   where
     go : (b : Bool) → b ≡ true → length (cond b repairedRounds readRounds) ≡ 3
@@ -108,7 +108,7 @@ counts-planned sh lo hi first sized =
     let asks = counted-requests sh lo hi first sized in
     let answers = counted-replies sh lo hi first sized in
     record {
-      write = λ n readers stores z. together _ _ asks answers isWrite 3 write-rounds n readers stores 1 0 z (omega arith) (omega arith);
-      reads = λ n readers stores z. together _ _ asks answers isRead 2 read-rounds n readers stores readers 2 z refl refl;
-      repaired = λ n readers stores z. together _ _ asks answers isRepaired 3 repaired-rounds n readers stores readers 4 z refl refl;
+      write = λ n readers stores z. together _ _ asks answers endsWrite 3 write-rounds n readers stores 1 0 z (omega arith) (omega arith);
+      reads = λ n readers stores z. together _ _ asks answers endsRead 2 read-rounds n readers stores readers 2 z refl refl;
+      repaired = λ n readers stores z. together _ _ asks answers endsRepaired 3 repaired-rounds n readers stores readers 4 z refl refl;
     }

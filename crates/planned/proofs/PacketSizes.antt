@@ -19,10 +19,10 @@ use Rattle.protocol.proofs.Bodies.{decode-encode, encode-decode, decode-ok, bod
 use Rattle.protocol.proofs.Lengths.{heldShareSize, bodySize, packet-size}
 use Rattle.runs.proofs.RequestLengths.{requestSize, listAsked}
 use Rattle.planner.specs.declared.PlanOutcome.{PlanOutcome}
-use Rattle.planner.specs.Plan.{filterSize, heldSizes, planRefusal}
+use Rattle.planner.specs.Plan.{filterSize, heldSizes, planRefusal, planOf}
 use Rattle.planner.proofs.Bounds.{servers-most}
 use Rattle.planner.proofs.Refused.{plans}
-use Rattle.planner.proofs.Entries.{filter-fits, made, plan-made, plan-number}
+use Rattle.planner.proofs.Entries.{filter-fits, plan-made, plan-number}
 use Rattle.planned.specs.Planned.{lengthIn, AsPlanned, SharedOf, shareIn, PacketsPlanned, RepliesPlanned}
 use Rattle.planned.proofs.ReplyLengths.{reply-length}
 
@@ -37,7 +37,7 @@ module _ (t n readers stores : ℕ) (tr : t ≤ topFaults) where
   abbrev s : Config
   s = shelf t
 
-  filter-entry : (count : ℕ) → count ≤ s .servers → getD (made t n readers stores .filters) count 0 ≡ headSize + (1 + count * candidateSize s)
+  filter-entry : (count : ℕ) → count ≤ s .servers → getD (planOf t n readers stores .filters) count 0 ≡ headSize + (1 + count * candidateSize s)
   filter-entry count h =
       getD-table (mostServers + 1) (filterSize s) count 0 (omega (arith, h, servers-most t tr)) ∙ filter-fits s count h
 
@@ -45,7 +45,7 @@ module _ (t n readers stores : ℕ) (tr : t ≤ topFaults) where
   held-entry none h = refl
   held-entry (some x) h = ap (λ (k : ℕ). headSize + (stampSize + 1 + shareSize s k)) h
 
-  body-entry : (x : Body) → BodyOk s x → SharedOf n (shareIn x) → headSize + bodySize s x ≡ lengthIn (made t n readers stores) x
+  body-entry : (x : Body) → BodyOk s x → SharedOf n (shareIn x) → headSize + bodySize s x ≡ lengthIn (planOf t n readers stores) x
   body-entry clock o h = refl
   body-entry (clockReply x) o h = refl
   body-entry (store x) o h = ap (λ (k : ℕ). headSize + (stampSize + shareSize s k)) h
@@ -61,7 +61,7 @@ module _ (t n readers stores : ℕ) (tr : t ≤ topFaults) where
 
   -- a request's, whose store is of a content of m bytes
   pub request-entry : (m : ℕ) (h : Hand) (b : ℕ) → (kindOf (request h b) ≡ 3 → n ≡ m) → length (listAsked (request h b)) ≤ s .servers
-      → headSize + requestSize s m (request h b) ≡ lengthIn (made t n readers stores) (request h b)
+      → headSize + requestSize s m (request h b) ≡ lengthIn (planOf t n readers stores) (request h b)
   request-entry m idle b e l = refl
   request-entry m (clocking r a k) b e l = refl
   request-entry m (storing d g) b e l = ap (λ (k : ℕ). headSize + (stampSize + shareSize s k)) (sym (e refl))
@@ -74,7 +74,7 @@ module _ (t n readers stores : ℕ) (tr : t ≤ topFaults) where
 
 -- what is shown of the parts of a plan that is made holds of the plan
 pub planned-by : (t n : ℕ) (x : Body) (bytes : List ℕ)
-    → ((readers stores : ℕ) → t ≤ topFaults → length bytes ≡ lengthIn (made t n readers stores) x) → AsPlanned t n x bytes
+    → ((readers stores : ℕ) → t ≤ topFaults → length bytes ≡ lengthIn (planOf t n readers stores) x) → AsPlanned t n x bytes
 planned-by t n x bytes f readers stores e =
     let r : planRefusal t n readers stores ≡ 0 = sym (plan-number t n readers stores) ∙ e in
     f readers stores (plans t n readers stores r .faults .1) ∙ ap (λ (p : PlanOutcome). lengthIn p x) (sym (plan-made t n readers stores r))

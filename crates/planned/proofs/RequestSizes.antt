@@ -18,8 +18,8 @@ use Rattle.runs.proofs.ContentLengths.{done, lengthOf}
 use Rattle.runs.proofs.RequestLengths.{requestSize, listAsked, Requested, request-length}
 use Rattle.runs.proofs.Accounts.{steps-fed}
 use Rattle.atomicity.specs.Claim.{systemOf, OnBytes}
-use Rattle.planner.proofs.Entries.{made}
-use Rattle.planned.specs.Planned.{AsPlanned, lengthIn, contentLength, Made, RequestsPlanned}
+use Rattle.planner.specs.Plan.{planOf}
+use Rattle.planned.specs.Planned.{AsPlanned, lengthIn, contentLength, PlannedRequest, RequestsPlanned}
 use Rattle.planned.proofs.PacketSizes.{request-entry, planned-by}
 
 -- a request of a shelf, whose client writes a content of m bytes
@@ -30,7 +30,7 @@ module _ (t m : ℕ) (h : Hand) (b : ℕ) (sent : List ℕ) (r : Requested (shel
       (λ readers stores tr. r .size
       ∙ subst
       (λ (y : Body). (kindOf y ≡ 3 → n ≡ m) → length (listAsked y) ≤ shelf t .servers
-      → headSize + requestSize (shelf t) m y ≡ lengthIn (made t n readers stores) y)
+      → headSize + requestSize (shelf t) m y ≡ lengthIn (planOf t n readers stores) y)
       (sym (r .asks)) (request-entry t n readers stores tr m h b) e (r .few))
 
 module _ (sh : Shelf) (tr : (1 ≤ sh .t) × (sh .t ≤ topFaults)) (first : ℕ → List ℕ) (sized : (c : ℕ) → length (first c) ≡ keptSize) where
@@ -46,7 +46,7 @@ module _ (sh : Shelf) (tr : (1 ≤ sh .t) × (sh .t ≤ topFaults)) (first : ℕ
 
   -- of a step that is this one
   made-by : (c b : ℕ) (output : List ℕ) (x : StepOn sh) (xs : List (StepOn sh)) → x .step ≡ make c b output → A .result x xs ≡ more
-      → Made (systemOf sh) A c x xs
+      → PlannedRequest (systemOf sh) A c x xs
   unfolding byBytes shelf
   made-by c b output x xs e q =
       let f = ap (λ (y : Step). done real sh first y (steps xs)) e in
@@ -64,7 +64,7 @@ pub requests-planned : OnBytes RequestsPlanned
 unfolding RequestsPlanned
 requests-planned sh lo hi first sized c x xs m q = go (x .step) refl m
   where
-    go : (y : Step) → x .step ≡ y → makes c y ≡ true → Made (systemOf sh) (byBytes real sh first) c x xs
+    go : (y : Step) → x .step ≡ y → makes c y ≡ true → PlannedRequest (systemOf sh) (byBytes real sh first) c x xs
     go (write d r n) e k = absurd (true≢false (sym k))
     go (read d) e k = absurd (true≢false (sym k))
     go (make d b o) e k =

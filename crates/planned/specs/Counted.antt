@@ -14,29 +14,29 @@ use Rattle.planner.specs.Plan.{planStep}
 
 -- ---- which call ends, by the result and the kind of the reply that gave it: a read was repaired if that is repair's, 12
 
-abbrev pub isWrite : Result → ℕ → Bool
-isWrite (written k) kind = true
-isWrite (gave k r) kind = false
-isWrite gaveBlank kind = false
-isWrite (refused n) kind = false
-isWrite more kind = false
-isWrite (aborted b) kind = false
+abbrev pub endsWrite : Result → ℕ → Bool
+endsWrite (written k) kind = true
+endsWrite (gave k r) kind = false
+endsWrite gaveBlank kind = false
+endsWrite (refused n) kind = false
+endsWrite more kind = false
+endsWrite (aborted b) kind = false
 
-abbrev pub isRead : Result → ℕ → Bool
-isRead (gave k r) kind = not (eqb kind 12)
-isRead gaveBlank kind = true
-isRead (written k) kind = false
-isRead (refused n) kind = false
-isRead more kind = false
-isRead (aborted b) kind = false
+abbrev pub endsRead : Result → ℕ → Bool
+endsRead (gave k r) kind = not (eqb kind 12)
+endsRead gaveBlank kind = true
+endsRead (written k) kind = false
+endsRead (refused n) kind = false
+endsRead more kind = false
+endsRead (aborted b) kind = false
 
-abbrev pub isRepaired : Result → ℕ → Bool
-isRepaired (gave k r) kind = eqb kind 12
-isRepaired gaveBlank kind = false
-isRepaired (written k) kind = false
-isRepaired (refused n) kind = false
-isRepaired more kind = false
-isRepaired (aborted b) kind = false
+abbrev pub endsRepaired : Result → ℕ → Bool
+endsRepaired (gave k r) kind = eqb kind 12
+endsRepaired gaveBlank kind = false
+endsRepaired (written k) kind = false
+endsRepaired (refused n) kind = false
+endsRepaired more kind = false
+endsRepaired (aborted b) kind = false
 
 module _ (s : System) (A : Account (StepIn s)) where
   -- a call that ended with a step, after those before it; each of its rounds went to all servers, and by the end of the steps after it, while it was
@@ -74,6 +74,6 @@ module _ (s : System) (A : Account (StepIn s)) where
       × (total repliesOf es ≡ getD (planStep (s .config .t) n readers stores .packets) (place + 1) 0)
 
   pub record CountsPlanned : Type 0 where
-    pub write : (n readers stores : ℕ) → planStep (s .config .t) n readers stores .number ≡ 0 → Together isWrite n readers stores 1 0
-    pub reads : (n readers stores : ℕ) → planStep (s .config .t) n readers stores .number ≡ 0 → Together isRead n readers stores readers 2
-    pub repaired : (n readers stores : ℕ) → planStep (s .config .t) n readers stores .number ≡ 0 → Together isRepaired n readers stores readers 4
+    pub write : (n readers stores : ℕ) → planStep (s .config .t) n readers stores .number ≡ 0 → Together endsWrite n readers stores 1 0
+    pub reads : (n readers stores : ℕ) → planStep (s .config .t) n readers stores .number ≡ 0 → Together endsRead n readers stores readers 2
+    pub repaired : (n readers stores : ℕ) → planStep (s .config .t) n readers stores .number ≡ 0 → Together endsRepaired n readers stores readers 4

@@ -1,3 +1,3 @@
-pub mod Planned
 pub mod Stored
+pub mod Planned
 pub mod Counted

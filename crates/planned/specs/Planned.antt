@@ -5,7 +5,7 @@ use mathlib.Core.Bool.{true, cond}
 use mathlib.Core.List.{List, [], _∷_}
 use mathlib.Core.Option.{Option, none, some}
 use Prim.Native.Nat.{ℕ}
-use lib.ListN.{length, getD, take}
+use lib.ListN.{length, getD}
 use Rattle.format.specs.Format.{Bytes}
 use Rattle.protocol.specs.Values.{Share, Held, isSome}
 use Rattle.protocol.specs.Packet.{Body, Packet, kindOf, decode}
@@ -18,6 +18,7 @@ use Rattle.runs.specs.Runs.{Account, lengthAfter}
 use Rattle.atomicity.specs.Steps.{System, StepIn, makes}
 use Rattle.planner.specs.declared.PlanOutcome.{PlanOutcome}
 use Rattle.planner.specs.Plan.{planStep}
+use Rattle.planned.specs.Stored.{replyOf}
 
 -- ---- a packet's length, as a plan has it
 
@@ -82,29 +83,27 @@ module _ (s : System) (A : Account (StepIn s)) where
   contentLength c (x ∷ xs) = lengthAfter c (x .step) (accepted (A .result x xs)) (contentLength c xs)
 
   -- a packet that client c made: n is the length of the content that it writes, where the packet is a store, and free where it is not
-  pub record Made (c : ℕ) (x : StepIn s) (xs : List (StepIn s)) : Type 0 where
+  pub record PlannedRequest (c : ℕ) (x : StepIn s) (xs : List (StepIn s)) : Type 0 where
     pub packet : Packet
     pub read : decode (A .sent x xs) ≡ some packet
     pub planned : (n : ℕ) → (kindOf (packet .body) ≡ 3 → n ≡ contentLength c xs) → AsPlanned (s .config .t) n (packet .body) (A .sent x xs)
 
   unfoldable pub RequestsPlanned : Type 0
-  RequestsPlanned = (c : ℕ) (x : StepIn s) (xs : List (StepIn s)) → makes c (x .step) ≡ true → A .result x xs ≡ more → Made c x xs
+  RequestsPlanned = (c : ℕ) (x : StepIn s) (xs : List (StepIn s)) → makes c (x .step) ≡ true → A .result x xs ≡ more → PlannedRequest c x xs
 
 -- ---- what servers reply, for every memory, key, packet and output
 
 module _ (P : Primitives) (memory key packet output : List ℕ) where
-  abbrev pub replyMade : List ℕ
-  replyMade = let d = serverTake P memory key packet output in take (d .result .count) (d .output)
-
   -- the reply, which is for the memory's own t: n is the length of the content of its share, where it has one, and free where it has none
-  pub record Answered : Type 0 where
+  pub record PlannedReply : Type 0 where
     pub holds : Memory
     pub reply : Packet
     pub opened : decodeMemory memory ≡ some holds
-    pub read : decode replyMade ≡ some reply
-    pub planned : (n : ℕ) → SharedOf n (shareIn (reply .body)) → AsPlanned (holds .t) n (reply .body) replyMade
+    pub read : decode (replyOf (serverTake P memory key packet output)) ≡ some reply
+    pub planned : (n : ℕ) → SharedOf n (shareIn (reply .body)) → AsPlanned (holds .t) n (reply .body)
+        (replyOf (serverTake P memory key packet output))
 
 unfoldable pub RepliesPlanned : Type 0
 RepliesPlanned =
     (P : Primitives) (memory key packet output : List ℕ) → serverTake P memory key packet output .result .number ≡ 0
-    → Answered P memory key packet output
+    → PlannedReply P memory key packet output

@@ -2,17 +2,13 @@
 use mathlib.Core.Path.{_≡_, refl}
 use mathlib.Core.Logic.{_≢_}
 use Prim.Native.Nat.{ℕ, zero, suc, _+_, _*_, _≤_, _<_}
-use lib.ListN.{replicate}
 use borrow.Author.Tests.{le-leb, lt-leb}
-use Rattle.cluster.specs.Config.{Config, shelf}
-use Rattle.cluster.specs.Ranges.{mostServers}
+use Rattle.cluster.specs.Config.{Config}
 use Rattle.cluster.specs.Refusals.{onRefusal}
 use Rattle.cluster.proofs.Tests.{refused-is, accepted-is}
-use Rattle.erasure.specs.Fragments.{table}
 use Rattle.protocol.specs.Values.{candidateSize}
 use Rattle.protocol.specs.Packet.{headSize}
-use Rattle.planner.specs.declared.PlanOutcome.{PlanOutcome}
-use Rattle.planner.specs.Plan.{kindSizes, filterSize, heldSizes, packetCounts, fieldsAfter, planRefusal, planStep}
+use Rattle.planner.specs.Plan.{filterSize, planRefusal, planOf, noPlan, planStep}
 
 pub filter-fits : (s : Config) (count : ℕ) → count ≤ s .servers → filterSize s count ≡ headSize + (1 + count * candidateSize s)
 filter-fits s count h = rw (le-leb count (s .servers) h)
@@ -21,34 +17,11 @@ pub filter-none : (s : Config) (count : ℕ) → s .servers < count → filterSi
 filter-none s count h = rw (lt-leb count (s .servers) h)
 
 module _ (t n readers stores : ℕ) where
-  abbrev pub made : PlanOutcome
-  made =
-      let s = shelf t in
-      record {
-        number = 0;
-        kinds = kindSizes s n;
-        filters = table (mostServers + 1) (filterSize s);
-        held = heldSizes s n;
-        packets = packetCounts s readers;
-        memory = fieldsAfter s n stores;
-      }
-
-  abbrev pub turnedDown : ℕ → PlanOutcome
-  turnedDown number =
-      record {
-        number = number;
-        kinds = replicate 13 0;
-        filters = replicate (mostServers + 1) 0;
-        held = replicate 2 0;
-        packets = replicate 6 0;
-        memory = 0;
-      }
-
-  pub plan-made : planRefusal t n readers stores ≡ 0 → planStep t n readers stores ≡ made
+  pub plan-made : planRefusal t n readers stores ≡ 0 → planStep t n readers stores ≡ planOf t n readers stores
   unfolding planStep
   plan-made e = accepted-is (planRefusal t n readers stores) _ _ e
 
-  pub plan-refused : planRefusal t n readers stores ≢ 0 → planStep t n readers stores ≡ turnedDown (planRefusal t n readers stores)
+  pub plan-refused : planRefusal t n readers stores ≢ 0 → planStep t n readers stores ≡ noPlan (planRefusal t n readers stores)
   unfolding planStep
   plan-refused e = refused-is (planRefusal t n readers stores) _ _ e
 
@@ -56,6 +29,6 @@ module _ (t n readers stores : ℕ) where
   unfolding planStep
   plan-number = go (planRefusal t n readers stores)
     where
-      go : (k : ℕ) → onRefusal k made (turnedDown k) .number ≡ k
+      go : (k : ℕ) → onRefusal k (planOf t n readers stores) (noPlan k) .number ≡ k
       go zero = refl
       go (suc k) = refl

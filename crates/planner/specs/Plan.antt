@@ -87,25 +87,31 @@ planRefusal t n readers stores =
     ∷ refuse 18 (ltb capacity stores)
     ∷ [])
 
--- a plan; or a refusal, and all else 0
-unfoldable pub planStep : (t n readers stores : ℕ) → PlanOutcome
-planStep t n readers stores =
+-- what is planned
+abbrev pub planOf : (t n readers stores : ℕ) → PlanOutcome
+planOf t n readers stores =
     let s = shelf t in
-    let number = planRefusal t n readers stores in
-    onRefusal number
-    (record {
+    record {
       number = 0;
       kinds = kindSizes s n;
       filters = table (mostServers + 1) (filterSize s);
       held = heldSizes s n;
       packets = packetCounts s readers;
       memory = fieldsAfter s n stores;
-    })
-    (record {
+    }
+
+-- a refusal, and all else 0
+abbrev pub noPlan : ℕ → PlanOutcome
+noPlan number =
+    record {
       number = number;
       kinds = replicate 13 0;
       filters = replicate (mostServers + 1) 0;
       held = replicate 2 0;
       packets = replicate 6 0;
       memory = 0;
-    })
+    }
+
+unfoldable pub planStep : (t n readers stores : ℕ) → PlanOutcome
+planStep t n readers stores =
+    let number = planRefusal t n readers stores in onRefusal number (planOf t n readers stores) (noPlan number)

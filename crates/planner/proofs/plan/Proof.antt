@@ -3,9 +3,9 @@ use mathlib.Core.Path.{_≡_, sym, ap, _∙_}
 use Prim.Native.Nat.{ℕ}
 use native.Mathlib.Omega.{arith}
 use borrow.Author.Needs.{needs}
-use Rattle.planner.specs.Plan.{planRefusal}
+use Rattle.planner.specs.Plan.{planRefusal, noPlan}
 use Rattle.planner.proofs.Refused.{Plans, plans}
-use Rattle.planner.proofs.Entries.{turnedDown, plan-made, plan-refused}
+use Rattle.planner.proofs.Entries.{plan-made, plan-refused}
 use Rattle.planner.proofs.plan.Statement.{statement}
 use Rattle.planner.proofs.plan.Tie as tie
 
@@ -37,7 +37,7 @@ returns c =
     let args = c .before .before .args in
     let r = c .before .plan-refusal in
     sym (plan-refused (args .t) (args .length) (args .readers) (args .stores) (λ e. c .if1 .taken (r .ensures ∙ e))
-    ∙ ap (turnedDown (args .t) (args .length) (args .readers) (args .stores)) (sym (r .ensures)))
+    ∙ ap noPlan (sym (r .ensures)))
 
 cast-faults : tie.Need-cast-faults
 cast-faults c = omega (arith, ok c .faults)
