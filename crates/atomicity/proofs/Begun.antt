@@ -8,7 +8,7 @@ use mathlib.Core.Logic.{_⊎_, inl, inr}
 use Prim.Native.Nat.{ℕ, suc, _≤_}
 use lib.ListN.{length}
 use Rattle.cluster.specs.Config.{Config}
-use Rattle.cluster.specs.Ranges.{within, topWriter, leastLength, topLength}
+use Rattle.cluster.specs.Ranges.{topWriter, topLength}
 use Rattle.format.specs.Format.{Bytes}
 use Rattle.protocol.specs.Packet.{decode}
 use Rattle.protocol.specs.Client.{Client, Hand, Result, Turn, awaits, isIdle, ofWrite, writeRefusal, writeStep, idle, clocking, storing, completing}
@@ -27,10 +27,9 @@ use Rattle.atomicity.proofs.Rounds.{turn-turned}
 use Rattle.atomicity.proofs.Marks.{Marked, mark-source, marks-up}
 
 -- an accepted write's length is in its range
-write-length : (s : Config) (c : ℕ) (cl : Client) (r n : List ℕ) → accepted (writeStep s c cl r n .result) ≡ true →
-    within leastLength topLength (length r) ≡ true
+write-length : (s : Config) (c : ℕ) (cl : Client) (r n : List ℕ) → accepted (writeStep s c cl r n .result) ≡ true → length r ≤ topLength
 unfolding writeStep
-write-length s c cl r n = at-refusal (λ (u : Turn). accepted (u .result) ≡ true → within leastLength topLength (length r) ≡ true)
+write-length s c cl r n = at-refusal (λ (u : Turn). accepted (u .result) ≡ true → length r ≤ topLength)
     (writeRefusal s c (length r) (not (isIdle (cl .hand))) (cl .calls)) _ _ (λ e q. write-passed s c cl r e .1) (λ q. clash q refl)
 
 -- and its client a writer
@@ -120,7 +119,7 @@ module _ (s : System) where
       (opened xs m i)
 
   -- and its length is in its range: any other is refused
-  pub mark-length : (xs : Run s) (m : Stamped) → In m (marks s xs) → within leastLength topLength (length (m .content)) ≡ true
+  pub mark-length : (xs : Run s) (m : Stamped) → In m (marks s xs) → length (m .content) ≤ topLength
   unfolding doValues setClient
   mark-length xs m i = ever-out (Opening (m .client) (m .content) (m .nonce)) xs
       (λ y ys o. write-length (s .config) (m .client) (clientAt s ys (m .client)) (m .content) (m .nonce)

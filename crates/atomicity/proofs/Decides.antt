@@ -177,7 +177,7 @@ module _ (K : Setup) (xs : Steps K) (fair : Fair K xs) (cs : List Candidate) (g 
         and-intro _ _ (and-right (right K xs j) (m j) (r .tell))
         (and-intro _ _ (subst (λ (a : Stamp). sameStamp a (d .stamp) ≡ true) (sym (v .0)) (stamp-refl (d .stamp)))
         (subst (λ (o : Option Share). shareFits (K .s .P) (K .s .config) d j o ≡ true) (sym (v .1))
-        (and-intro _ _ (mark-length (K .s) xs (gen .origin .write) (gen .origin .made))
+        (and-intro _ _ (le-leb _ _ (mark-length (K .s) xs (gen .origin .write) (gen .origin .made)))
         (and-intro _ _ (same-is _ _ (ap (K .s .P .digest) (gen .nonce-is)))
         (same-is _ _ (sym (K .laws .digest-at (fragmentFor (K .s) (gen .origin .write .content)) j (r .low) (r .high))))))))
 

@@ -15,7 +15,7 @@ use Rattle.hmac.specs.Hmac.{tagSize}
 use Rattle.protocol.specs.declared.Stamp.{Stamp}
 use Rattle.protocol.specs.Values.{Candidate, Share, Held, sameList, sameStamp, nth, digestSize}
 use Rattle.protocol.specs.Primitives.{candidateMessage}
-use Rattle.cluster.specs.Ranges.{within, leastLength, topLength}
+use Rattle.cluster.specs.Ranges.{topLength}
 use Rattle.protocol.specs.Rules.{ByServer, shareFits, fits, sameShare, agrees, leads, leader, partOf, parts}
 use Rattle.protocol.specs.Server.{byTag}
 use Rattle.protocol.specs.Client.{tagsOf}
@@ -55,9 +55,9 @@ module _ (s : System) (m : ByServer Bool) (g : ByServer Held) (c : Candidate) wh
         share-is = q;
         stamp-is = stamp-same _ _ (and-left (sameStamp (g i .stamp) (c .stamp)) _ (and-right (m i) _ e));
         nonce-is = same-true _ _ (and-left (sameList (h .nonceDigest) (s .P .digest (c .nonce))) _
-            (and-right (within leastLength topLength (h .size)) _ k));
+            (and-right (leb (h .size) topLength) _ k));
         digest-is = same-true _ _ (and-right (sameList (h .nonceDigest) (s .P .digest (c .nonce))) _
-            (and-right (within leastLength topLength (h .size)) _ k));
+            (and-right (leb (h .size) topLength) _ k));
       }
 
   -- two shares of one group

@@ -8,10 +8,10 @@ use mathlib.Core.Option.{Option, none, some}
 use Prim.Native.Nat.{ℕ, _≤_}
 use native.Mathlib.Omega.{arith}
 use lib.ListN.{length}
-use lib.Dec.{eqb}
-use borrow.Author.Tests.{eqb-true, not-false}
+use lib.Dec.{ltb, eqb}
+use borrow.Author.Tests.{ltb-false, eqb-true, not-false}
 use Rattle.cluster.specs.Config.{Config}
-use Rattle.cluster.specs.Ranges.{within, topWriter, leastLength, topLength}
+use Rattle.cluster.specs.Ranges.{topWriter, topLength}
 use Rattle.cluster.proofs.Tests.{or-none, inside, passes}
 use Rattle.protocol.specs.Values.{blankCandidate}
 use Rattle.protocol.specs.Packet.{Packet, kindOf, decode}
@@ -29,14 +29,14 @@ use Rattle.atomicity.proofs.Model.{Run, perform, now, clientAt, resultA
 -- ---- a client
 
 pub write-passed : (s : Config) (c : ℕ) (cl : Client) (r : List ℕ) → writeRefusal s c (length r) (not (isIdle (cl .hand))) (cl .calls) ≡ 0 →
-    (c ≤ topWriter) × (within leastLength topLength (length r) ≡ true) × (isIdle (cl .hand) ≡ true)
+    (c ≤ topWriter) × (length r ≤ topLength) × (isIdle (cl .hand) ≡ true)
 unfolding writeRefusal
 write-passed s c cl r e =
     let z1 = passes (badFaults s) 2 _ e in
     let z2 = passes (badClient true c) 4 _ (z1 .1) in
-    let z3 = passes (not (within leastLength topLength (length r))) 5 _ (z2 .1) in
+    let z3 = passes (ltb topLength (length r)) 5 _ (z2 .1) in
     let z4 = passes (not (isIdle (cl .hand))) 12 _ (z3 .1) in
-    (inside 1 topWriter c (z2 .0) .1, not-false _ (z3 .0), not-false _ (z4 .0))
+    (inside 1 topWriter c (z2 .0) .1, ltb-false topLength (length r) (z3 .0), not-false _ (z4 .0))
 
 -- what is known of a reply that is let in
 pub record Fits (s : System) (c : ℕ) (cl : Client) (p : Packet) : Type 0 where

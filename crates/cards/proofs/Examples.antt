@@ -19,7 +19,7 @@ use Rattle.protocol.specs.Primitives.{Primitives, stampMessage, candidateMessag
 use Rattle.protocol.specs.Rules.{ByServer, upd, nobody, countTo, any, keep, first, gather, lower, live, fits, agrees, leads, leader, highest, choice, parts, restoredBy}
 use Rattle.protocol.specs.Server.{Server, blankServer, onStore, raise, byHistory, byTag, valid, best, act, barred, replyTo, serverRefusal}
 use Rattle.protocol.proofs.ServerStep.{answered, serverStep}
-use Rattle.protocol.specs.Client.{Client, Result, more, written, gave, newClient, awaits, isIdle, stampOf, tagsOf, candidateMade, shareMade, sharesMade, prepared, made, onto, checks, higher, isFull, found, judge, update, tooHigh}
+use Rattle.protocol.specs.Client.{Client, Result, more, written, gave, gaveBlank, newClient, awaits, isIdle, stampOf, tagsOf, candidateMade, shareMade, sharesMade, prepared, made, onto, checks, higher, isFull, found, judge, update, tooHigh}
 use Rattle.protocol.specs.Client.{writeRefusal, readRefusal, makeRefusal, takeRefusal, begun, writeStep, readStep, makeStep, turnOn, highAt, takeStep}
 
 -- ---- the toy shelf
@@ -124,6 +124,28 @@ misled =
     hears (asksAll 9 (2 ∷ 3 ∷ []) (hears (reads 9 completed) 9 (lie (collectReply invented)))) 9
     (lie (filterReply (record { stamp = invented .stamp; share = none })))
 
+-- ---- a content of no bytes, which is not blank
+
+-- client c writes at servers 1, 2, 3, and client 9 reads at servers 2, 3, 4
+unfoldable wrote : ℕ → List ℕ → List ℕ → Scene → Scene
+wrote c r n w = asksAll c (1 ∷ 2 ∷ 3 ∷ []) (asksAll c (1 ∷ 2 ∷ 3 ∷ []) (asksAll c (1 ∷ 2 ∷ 3 ∷ []) (writes c r n w)))
+
+unfoldable readOn : Scene → Scene
+readOn w = asksAll 9 (2 ∷ 3 ∷ 4 ∷ []) (asksAll 9 (2 ∷ 3 ∷ 4 ∷ []) (reads 9 w))
+
+-- each read of one and the same shelf, before and after each write: nothing, no bytes, two bytes, no bytes again
+unfoldable blankRead : Scene
+blankRead = readOn new
+
+unfoldable emptyRead : Scene
+emptyRead = readOn (wrote 1 [] (42 ∷ []) blankRead)
+
+unfoldable fullRead : Scene
+fullRead = readOn (wrote 2 (65 ∷ 66 ∷ []) (43 ∷ []) emptyRead)
+
+unfoldable againRead : Scene
+againRead = readOn (wrote 1 [] (44 ∷ []) fullRead)
+
 -- ---- what they give
 
 -- number and writer of the write's stamp
@@ -142,9 +164,14 @@ record Shown : Type 0 where
   -- the write is read
   still-listed : asksAll 9 (2 ∷ 3 ∷ []) misled .result ≡ more
   leaves-list : asksAll 9 (2 ∷ 3 ∷ 4 ∷ []) misled .result ≡ gave label1 (65 ∷ 66 ∷ [])
+  -- a content of no bytes is given with its stamp, and only where nothing was written the read is blank
+  blank-first : blankRead .result ≡ gaveBlank
+  empty-given : emptyRead .result ≡ gave label1 []
+  full-over-it : fullRead .result ≡ gave (record { number = 2; writer = 2 }) (65 ∷ 66 ∷ [])
+  empty-again : againRead .result ≡ gave (record { number = 3; writer = 1 }) []
 
 shown : Shown
-unfolding completed stored readAfter spoilt filtered repaired invented misled asksAll asks hears writes reads new toy mix writers keys shelf upTo quorum
+unfolding completed stored readAfter spoilt filtered repaired invented misled blankRead emptyRead fullRead againRead wrote readOn asksAll asks hears writes reads new toy mix writers keys shelf upTo quorum
     nth runOf isBlank below sameStamp sameCandidate lookup stampMessage candidateMessage upd nobody countTo any keep first gather lower live fits
     agrees
     leads leader highest choice parts restoredBy onStore raise byHistory byTag valid best act barred replyTo serverRefusal answered serverStep awaits
@@ -158,6 +185,10 @@ shown = record {
   tags-repaired = refl;
   still-listed = refl;
   leaves-list = refl;
+  blank-first = refl;
+  empty-given = refl;
+  full-over-it = refl;
+  empty-again = refl;
 }
 
 -- ---- a full history: 11, and 10 for what is held

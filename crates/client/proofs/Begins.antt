@@ -4,11 +4,11 @@ use mathlib.Core.Path.{_≡_, _∙_}
 use mathlib.Core.Bool.{true, false, not}
 use mathlib.Core.List.{List}
 use Prim.Native.Nat.{ℕ, suc, _≤_, _<_, _*_}
-use lib.Dec.{leb}
+use lib.Dec.{leb, ltb}
 use lib.ListN.{length, replicate}
-use borrow.Author.Tests.{eq-eqb, ne-eqb, leb-false}
+use borrow.Author.Tests.{eq-eqb, ne-eqb, leb-false, ltb-false}
 use Rattle.cluster.specs.Config.{shelf}
-use Rattle.cluster.specs.Ranges.{within, mostServers, topNumber, topLength, leastLength}
+use Rattle.cluster.specs.Ranges.{mostServers, topNumber, topLength}
 use Rattle.cluster.proofs.Tests.{inside, passes, refused-is}
 use Rattle.protocol.specs.declared.Call.{Call}
 use Rattle.protocol.specs.Client.{badFaults, badClient, writeRefusal, readRefusal}
@@ -60,10 +60,10 @@ module _ (t client : ℕ) (c : Call) (kept : List ℕ) where
     write-fits e =
         let p₁ = passes (badFaults (shelf t)) 2 _ e in
         let p₂ = passes (badClient true client) 4 _ (p₁ .1) in
-        let p₃ = passes (not (within leastLength topLength (length content))) 5 _ (p₂ .1) in
+        let p₃ = passes (ltb topLength (length content)) 5 _ (p₂ .1) in
         let p₄ = passes (inHand c) 12 _ (p₃ .1) in
         let p₅ = passes (leb topNumber (c .number)) 13 _ (p₄ .1) in
-        (inside leastLength topLength (length content) (p₃ .0) .1, leb-false topNumber (c .number) (p₅ .0))
+        (ltb-false topLength (length content) (p₃ .0), leb-false topNumber (c .number) (p₅ .0))
 
   abbrev none : ℕ
   none = readRefusal (shelf t) client (inHand c) (c .number)

@@ -1,18 +1,16 @@
 -- The fragments of a write, their digests and the shares, as the code writes them: one entry after another.
 -- An entry put after a run is the longer run put once, and runs that follow one another are their join. Assumes nothing.
 use mathlib.Core.Path.{_≡_, refl, sym, ap, _∙_}
-use mathlib.Core.Bool.{Bool, true, false}
-use mathlib.Core.List.{List, [], _∷_, _++_, append-assoc}
+use mathlib.Core.List.{List, _++_, append-assoc}
 use Prim.Native.Nat.{ℕ, suc, _+_, _*_, _≤_}
 use native.Mathlib.Omega.{arith}
-use native.Mathlib.Nat.{div-eq-of-lt, mul-le-mul-left, mul-suc}
+use native.Mathlib.Nat.{mul-le-mul-left, mul-suc}
 use native.Mathlib.Numerals.{add-one}
-use lib.Dec.{leb}
-use lib.ListN.{length, take, drop, length-append}
+use lib.ListN.{length, length-append}
 use lib.Seq.{take-at}
-use borrow.Author.Tests.{le-leb, leb-true, leb-false}
+use borrow.Author.Tests.{le-leb, le-ltb}
 use Rattle.cluster.specs.Config.{shelf}
-use Rattle.cluster.specs.Ranges.{topFaults, leastLength, topLength}
+use Rattle.cluster.specs.Ranges.{topFaults, topLength}
 use Rattle.sha256.specs.Sha256.{sha256}
 use Rattle.erasure.specs.Fragments.{fragment, fragmentSize}
 use Rattle.erasure.specs.Steps.{fragmentStep, fragmentRefusal, fragmentBytes}
@@ -41,10 +39,6 @@ three-puts d at n m a b c e f h =
     ap (λ (x : List ℕ). put x (at + n + m) c) (put-put d at n a b e (omega (arith, f))) ∙ (ap (λ (k : ℕ). put (put d at (a ++ b)) k c) o
     ∙ (put-put d at (n + m) (a ++ b) c (omega (arith, length-append a b)) (omega arith) ∙ ap (put d at) (append-assoc a b c)))
 
-empty : (l : List ℕ) → length l ≡ 0 → l ≡ []
-empty [] e = refl
-empty (x ∷ l) e = let z : ⊥ = omega arith in absurd z
-
 module _ (t i : ℕ) (content : List ℕ) (low : 1 ≤ t) (high : t ≤ topFaults) (within-s : suc i ≤ shelf t .servers)
     (short : length content ≤ topLength) where
   abbrev size : ℕ
@@ -61,49 +55,18 @@ module _ (t i : ℕ) (content : List ℕ) (low : 1 ≤ t) (high : t ≤ topFault
   unfolding bytesAt
   cut rest = take-at piece rest size piece-length
 
-  full : 1 ≤ length content → (fragmentStep t (suc i) content .count ≡ size) × (bytesAt (fragmentStep t (suc i) content .bytes) 0
+  pub fragment-cut : (fragmentStep t (suc i) content .count ≡ size) × (bytesAt (fragmentStep t (suc i) content .bytes) 0
       (fragmentStep t (suc i) content .count) ≡ piece)
   unfolding fragmentStep fragmentRefusal fragmentBytes
-  full h =
+  fragment-cut =
       rw (
         le-leb 1 t low,
         le-leb t topFaults high,
         le-leb 1 (suc i) (omega arith),
         le-leb (suc i) (shelf t .servers) within-s,
-        le-leb leastLength
-            (length content) h,
-        le-leb (length content) topLength short,
+        le-ltb topLength (length content) short,
       )
       (refl, cut _)
-
-  no-size : fragmentSize (shelf t .threshold) 0 ≡ 0
-  unfolding fragmentSize shelf
-  no-size = div-eq-of-lt (omega arith)
-
-  none : length content ≡ 0 → (fragmentStep t (suc i) content .count ≡ size) × (bytesAt (fragmentStep t (suc i) content .bytes) 0
-      (fragmentStep t (suc i) content .count) ≡ piece)
-  unfolding fragmentStep fragmentRefusal bytesAt
-  none z =
-      let s : size ≡ 0 = ap (fragmentSize (shelf t .threshold)) z ∙ no-size in
-      let q : fragmentStep t (suc i) content .count ≡ 0 = rw (
-        le-leb 1 t low,
-        le-leb t topFaults high,
-        le-leb 1 (suc i) (omega arith),
-        le-leb (suc i)
-            (shelf t .servers) within-s,
-        z,
-      ) in
-      (q ∙ sym s, ap (λ (k : ℕ). take k (drop 0 (fragmentStep t (suc i) content .bytes))) q ∙ sym (empty piece (piece-length ∙ s)))
-
-  -- a content without bytes has fragments without bytes, which is what a refusal leaves too
-  pub fragment-cut : (fragmentStep t (suc i) content .count ≡ size) × (bytesAt (fragmentStep t (suc i) content .bytes) 0
-      (fragmentStep t (suc i) content .count) ≡ piece)
-  fragment-cut = go (leb 1 (length content)) refl
-    where
-      go : (b : Bool) → leb 1 (length content) ≡ b → (fragmentStep t (suc i) content .count ≡ size) ×
-          (bytesAt (fragmentStep t (suc i) content .bytes) 0 (fragmentStep t (suc i) content .count) ≡ piece)
-      go true e = full (leb-true 1 (length content) e)
-      go false e = let l = leb-false 1 (length content) e in none (omega arith)
 
 -- ---- runs of fragments and of their digests
 

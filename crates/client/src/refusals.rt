@@ -66,7 +66,7 @@ pub(crate) fn write_refusal(party: Party, n: usize, call: protocol::Call) -> u8
     if cluster::outside(1, cluster::TOP_WRITER, party.client) {
         return cluster::refusals::CLIENT;
     }
-    if cluster::outside(cluster::LEAST_LENGTH, cluster::TOP_LENGTH, n) {
+    if n > cluster::TOP_LENGTH {
         return cluster::refusals::LENGTH;
     }
     if is_pending(call) {

@@ -26,10 +26,7 @@ topClient = 16
 abbrev pub topNumber : ℕ
 topNumber = 99999999
 
--- bytes of a content (document 01: record)
-abbrev pub leastLength : ℕ
-leastLength = 1
-
+-- the most bytes of a content (document 01: record); W-202: none are a content too
 abbrev pub topLength : ℕ
 topLength = 1024
 

@@ -19,9 +19,7 @@ pub const TOP_CLIENT: usize = 16;
 // The largest call number and the largest stamp number.
 pub const TOP_NUMBER: usize = 99999999;
 
-// Bytes of a content.
-pub const LEAST_LENGTH: usize = 1;
-
+// The most bytes of a content.
 pub const TOP_LENGTH: usize = 1024;
 
 // Bytes of a key, a nonce and a digest.

@@ -10,7 +10,7 @@ use lib.Dec.{T, ltb}
 use lib.ListN.{length, drop}
 use borrow.Author.Tests.{ltb-true, ltb-false, lt-ltb, le-leb, eq-eqb}
 use Rattle.cluster.specs.Config.{Config, shelf, quorum}
-use Rattle.cluster.specs.Ranges.{leastLength, topLength, mostServers, topFaults}
+use Rattle.cluster.specs.Ranges.{topLength, mostServers, topFaults}
 use Rattle.sha256.specs.Sha256.{sha256}
 use Rattle.protocol.specs.Values.{Candidate, Held, sameList, sameCandidate, below, stampSize}
 use Rattle.protocol.specs.Primitives.{real}
@@ -146,8 +146,4 @@ found-tags t ms kept i b u l h =
         → sameTagsAt t kept i (suc b) ≡ sameList (shareOfSize (shelf t) (sizeIn (replySlotOf kept b))
         (drop (stampSize + 1) (replySlotOf kept b)) .tags) (candidatesIn (shelf t) kept (suc i) .tags)
     at-slot t kept i b q =
-        unfold sameTagsAt in rw (share-in t kept b) (unfold shareOfSize in rw (
-          le-leb leastLength (sizeIn (replySlotOf kept b)) (q .least),
-          le-leb
-              (sizeIn (replySlotOf kept b)) topLength (q .top),
-        ))
+        unfold sameTagsAt in rw (share-in t kept b) (unfold shareOfSize in rw (le-leb (sizeIn (replySlotOf kept b)) topLength (q .top)))

@@ -12,7 +12,7 @@ use Prim.Native.Nat.{min}
 use lib.ListN.{length, drop, getD, length-take}
 use borrow.Author.Tests.{leb-true, eqb-true, eqb-false, le-leb, lt-leb, eq-eqb, ne-eqb}
 use Rattle.cluster.specs.Config.{Config, shelf}
-use Rattle.cluster.specs.Ranges.{within, leastLength, topLength, mostServers}
+use Rattle.cluster.specs.Ranges.{topLength, mostServers}
 use Rattle.cluster.proofs.Tests.{and-both}
 use Rattle.sha256.specs.Sha256.{sha256}
 use Rattle.protocol.specs.Values.{Candidate, Share, Held, sameList, sameStamp, nth, stampSize, digestSize}
@@ -35,7 +35,7 @@ module _ (s : Config) (c : Candidate) (d : List ℕ) (e : d ≡ sha256 (c .nonce
   unfolding real
   share-fits i none = refl
   share-fits i (some h) =
-      rw e (sym (and-assoc (within leastLength topLength (h .size)) (sameList (h .nonceDigest) (sha256 (c .nonce)))
+      rw e (sym (and-assoc (leb (h .size) topLength) (sameList (h .nonceDigest) (sha256 (c .nonce)))
       (sameList (sha256 (h .fragment)) (nth digestSize (h .digests) i))))
 
   pub fits-in : (i : ℕ) (x : Held) → (sameStamp (x .stamp) (c .stamp) && shareFits real s c i (x .share)) ≡ (names c d x && intact i (x .share))

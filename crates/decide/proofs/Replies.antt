@@ -11,7 +11,7 @@ use lib.ListN.{length, take, drop, getD}
 use lib.Seq.{drop-drop, getD-drop}
 use borrow.Author.Tests.{leb-true, le-leb, lt-leb, eq-eqb, ne-eqb}
 use Rattle.cluster.specs.Config.{Config, shelf}
-use Rattle.cluster.specs.Ranges.{within, leastLength, topLength, mostServers}
+use Rattle.cluster.specs.Ranges.{topLength, mostServers}
 use Rattle.cluster.proofs.Tests.{and-both}
 use Rattle.sha256.specs.Sha256.{sha256}
 use Rattle.erasure.specs.Fragments.{fragmentSize}
@@ -33,11 +33,8 @@ sizeIn d = value2 (getD d (stampSize + 1) 0) (getD d (stampSize + 2) 0)
 abbrev pub digestsIn : Config → List ℕ → ℕ
 digestsIn s d = stampSize + 3 + fragmentSize (s .threshold) (sizeIn d)
 
-named-range : (x : List ℕ) (h : Share) → namesShare x (some h) ≡ true → (leastLength ≤ h .size) × (h .size ≤ topLength)
-named-range x h e =
-    let w = and-both (leb leastLength (h .size)) (leb (h .size) topLength) (and-both (within leastLength topLength (h .size))
-    (sameList (h .nonceDigest) x) e .0) in
-    (leb-true leastLength (h .size) (w .0), leb-true (h .size) topLength (w .1))
+named-range : (x : List ℕ) (h : Share) → namesShare x (some h) ≡ true → h .size ≤ topLength
+named-range x h e = leb-true (h .size) topLength (and-both (leb (h .size) topLength) (sameList (h .nonceDigest) x) e .0)
 
 -- an entry of a run within the slot
 pub nth-part : (d : List ℕ) (p n w j : ℕ) → w * j + w ≤ n → nth w (bytesAt d p n) (suc j) ≡ bytesAt d (p + w * j) w
@@ -94,29 +91,24 @@ module _ (s : Config) (d : List ℕ) where
   module _ (e x : List ℕ) where
     names-some : eqb (getD d stampSize 0) 0 ≡ false
         → names (candidateAt s e) x (heldAt s d)
-        ≡ (sameStamp (stampAt d) (stampAt e) && (within leastLength topLength (sizeIn d) && sameList
+        ≡ (sameStamp (stampAt d) (stampAt e) && (leb (sizeIn d) topLength && sameList
         (bytesAt d (digestsIn s d + digestsSize s) digestSize) x))
     unfolding names candidateAt
     names-some h =
         rw (held-share h)
         (unfold heldAt shareOfSize in (ap (λ (z : List ℕ). sameStamp (stampAt d) (stampAt e) &&
-        (within leastLength topLength (sizeIn d) && sameList z x)) (unfold shareOfSize in nonce-digest-in (sizeIn d))))
+        (leb (sizeIn d) topLength && sameList z x)) (unfold shareOfSize in nonce-digest-in (sizeIn d))))
 
     -- by the tests that fail, or by the last one
-    pub names-short : eqb (getD d stampSize 0) 0 ≡ false → sizeIn d < leastLength → names (candidateAt s e) x (heldAt s d) ≡ false
-    names-short h l = names-some h ∙ rw (lt-leb leastLength (sizeIn d) l) (and-false (sameStamp (stampAt d) (stampAt e)))
-
     pub names-long : eqb (getD d stampSize 0) 0 ≡ false → topLength < sizeIn d → names (candidateAt s e) x (heldAt s d) ≡ false
-    names-long h l =
-        names-some h
-        ∙ rw (lt-leb (sizeIn d) topLength l, and-false (leb leastLength (sizeIn d))) (and-false (sameStamp (stampAt d) (stampAt e)))
+    names-long h l = names-some h ∙ rw (lt-leb (sizeIn d) topLength l) (and-false (sameStamp (stampAt d) (stampAt e)))
 
     pub names-other : eqb (getD d stampSize 0) 0 ≡ false → sameStamp (stampAt d) (stampAt e) ≡ false → names (candidateAt s e) x (heldAt s d) ≡ false
     names-other h q = names-some h ∙ rw q
 
     pub names-last : Full d → sameStamp (stampAt d) (stampAt e) ≡ true
         → names (candidateAt s e) x (heldAt s d) ≡ sameList (bytesAt d (digestsIn s d + digestsSize s) digestSize) x
-    names-last f q = names-some (f .flag) ∙ rw (q, le-leb leastLength (sizeIn d) (f .least), le-leb (sizeIn d) topLength (f .top))
+    names-last f q = names-some (f .flag) ∙ rw (q, le-leb (sizeIn d) topLength (f .top))
 
   -- what naming tells of the slot
   pub names-full : (c : Candidate) (x : List ℕ) → names c x (heldAt s d) ≡ true → Full d
@@ -129,7 +121,7 @@ module _ (s : Config) (d : List ℕ) where
           let k = and-both (sameStamp (stampAt d) (c .stamp)) (namesShare x (heldAt s d .share)) h in
           let w = named-range x (shareOfSize s (sizeIn d) (drop (stampSize + 1) d))
           (subst (λ (z : Option Share). namesShare x z ≡ true) (held-share e) (k .1)) in
-          record { flag = e; least = w .0; top = w .1 }
+          record { flag = e; top = w }
 
   -- ---- a fragment's own digest
   pub intact-in : Full d → (j : ℕ) → j < s .servers

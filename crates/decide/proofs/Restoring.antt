@@ -10,7 +10,7 @@ use lib.ListN.{length, take, drop, getD}
 use lib.Seq.{take-all, getD-take, getD-drop, length-take-le}
 use borrow.Author.Tests.{eqb-true, eqb-false, le-ltb, le-leb, eq-eqb}
 use Rattle.cluster.specs.Config.{shelf}
-use Rattle.cluster.specs.Ranges.{leastLength, topLength, topFaults, mostServers, contentRoom}
+use Rattle.cluster.specs.Ranges.{topLength, topFaults, mostServers, contentRoom}
 use Rattle.cluster.specs.declared.Outcome.{Outcome}
 use Rattle.erasure.specs.Fragments.{fragmentSize, Part, restored}
 use Rattle.format.specs.Format.{value2}
@@ -79,7 +79,7 @@ threshold-few : (t : ℕ) → t ≤ topFaults → shelf t .threshold ≤ mostSer
 unfolding shelf
 threshold-few t h = omega arith
 
-pub restores : (t n : ℕ) (ss frs out : List ℕ) (g : ℕ → Part) → 1 ≤ t → t ≤ topFaults → leastLength ≤ n → n ≤ topLength → length ss
+pub restores : (t n : ℕ) (ss frs out : List ℕ) (g : ℕ → Part) → 1 ≤ t → t ≤ topFaults → n ≤ topLength → length ss
     ≡ shelf t .threshold
     → ((i : ℕ) → i < length ss → (1 ≤ getD ss i 0) × (getD ss i 0 ≤ shelf t .servers)) →
     ((i j : ℕ) → i < j → j < length ss → getD ss i 0 < getD ss j 0)
@@ -91,7 +91,7 @@ pub restores : (t n : ℕ) (ss frs out : List ℕ) (g : ℕ → Part) → 1 ≤ 
     } ≡ g (getD ss p 0))
     → restoreStep t n ss frs out ≡ (record { number = 0; count = n }, restored (shelf t .points) (shelf t .threshold) n (map g ss) ++ drop n out)
 unfolding restoreStep restoreRefusal argumentChecks restoredBytes
-restores t n ss frs out g lo hi least most size within-range rise given room each-part =
+restores t n ss frs out g lo hi most size within-range rise given room each-part =
     let d : firstDifferent (shelf t .threshold) ss ≡ places (length ss) = ap (λ (k : ℕ). firstDifferent k ss) (sym size) ∙ all-chosen ss rise in
     let w : length (firstDifferent (shelf t .threshold) ss) ≡ shelf t .threshold = ap (λ (k : ℕ). length (firstDifferent k ss)) (sym size)
     ∙ chosen-length
@@ -102,8 +102,7 @@ restores t n ss frs out g lo hi least most size within-range rise given room eac
       le-leb 1 t lo,
       le-leb t topFaults hi,
       each-within 1 (shelf t .servers) ss within-range,
-      le-leb leastLength n least,
-      le-leb n topLength most,
+      le-ltb topLength n most,
       le-ltb (length out) contentRoom room,
       eq-eqb (length frs) (length ss * fragmentSize (shelf t .threshold) n) given,
       w,
@@ -170,13 +169,13 @@ module _ (t : ℕ) (kept servers : List ℕ) (n : ℕ) (u : Usable t kept) (most
           kept f (getD servers p 0) .bytes
       here f p at q = part-of kept at f ∙ (unfold fragmentOf in ap (λ (k : ℕ). bytesAt kept k f) q)
 
-  pub rebuilt : (b : ℕ) (frs out out' : List ℕ) (o : Outcome) → leastLength ≤ n → n ≡ sizeIn (replySlotOf kept b) → length servers ≡ mostServers
+  pub rebuilt : (b : ℕ) (frs out out' : List ℕ) (o : Outcome) → n ≡ sizeIn (replySlotOf kept b) → length servers ≡ mostServers
       → FragmentsAs t kept (fragmentSize (shelf t .threshold) n) servers frs → contentRoom ≤ length out
       → (o, out') ≡ restoreStep t n (take (shelf t .threshold) servers) (take (shelf t .threshold * fragmentSize (shelf t .threshold) n) frs) out
       → (o .count ≡ length (contentOf t kept b (take (shelf t .threshold) servers))) ×
       (out' ≡ over (contentOf t kept b (take (shelf t .threshold) servers)) out)
   unfolding over contentOf shareAt shareOfSize
-  rebuilt b frs out out' o least size wide each room h =
+  rebuilt b frs out out' o size wide each room h =
       let c : shelf t .threshold ≤ mostServers = threshold-few t (u .high) in
       let l : length (take (shelf t .threshold) servers) ≡ shelf t .threshold = length-take-le (shelf t .threshold) servers (omega arith) in
       let v : length (take (shelf t .threshold * fragmentSize (shelf t .threshold) n) frs)
@@ -187,7 +186,7 @@ module _ (t : ℕ) (kept servers : List ℕ) (n : ℕ) (u : Usable t kept) (most
       let z =
       restores t n (take (shelf t .threshold) servers) (take (shelf t .threshold * fragmentSize (shelf t .threshold) n) frs) out
       (fragmentOf kept (fragmentSize (shelf t .threshold) n))
-      (u .low) (u .high) least most l
+      (u .low) (u .high) most l
       (λ i q. rw (at i q) (r .lowest i (omega arith), r .highest i (omega arith)))
       (λ i j q p. rw (at i (omega arith), at j p) (r .rising i j q (omega arith)))
       (v ∙ ap (λ (x : ℕ). x * fragmentSize (shelf t .threshold) n) (sym l)) room

@@ -3,10 +3,10 @@ use mathlib.Core.Bool.{Bool, cond, not, _&&_}
 use mathlib.Core.List.{List, [], _∷_}
 use mathlib.Core.Option.{Option, none, some}
 use Prim.Native.Nat.{ℕ, zero, suc, _+_, _-_}
-use lib.Dec.{ltb, eqb}
+use lib.Dec.{leb, ltb, eqb}
 use lib.ListN.{length, drop}
 use Rattle.cluster.specs.Config.{Config, shelf}
-use Rattle.cluster.specs.Ranges.{within, topFaults, leastLength, topLength, contentRoom}
+use Rattle.cluster.specs.Ranges.{within, topFaults, topLength, contentRoom}
 use Rattle.cluster.specs.Refusals.{wrongSize, refuse, firstOf, onRefusal}
 use Rattle.erasure.specs.Fragments.{fragmentSize}
 use Rattle.protocol.specs.Values.{Candidate, Share, Held, sameList, sameCandidate, stampSize, digestSize, digestsSize}
@@ -87,7 +87,7 @@ shareOf t kept b = shareAt (shelf t) (drop (stampSize + 1) (replySlotOf kept (b 
 -- server b's reply has a length in its range and the tags of the candidate in slot i
 unfoldable pub sameTagsAt : ℕ → List ℕ → ℕ → ℕ → Bool
 sameTagsAt t kept i b =
-    within leastLength topLength (shareOf t kept b .size) && sameList (shareOf t kept b .tags) (candidatesIn (shelf t) kept (suc i) .tags)
+    leb (shareOf t kept b .size) topLength && sameList (shareOf t kept b .tags) (candidatesIn (shelf t) kept (suc i) .tags)
 
 -- the same, with other arguments false
 unfoldable pub sameTags : ℕ → List ℕ → ℕ → ℕ → Bool

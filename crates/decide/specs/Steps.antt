@@ -6,10 +6,10 @@ use mathlib.Core.Bool.{Bool, true, false, cond, _&&_}
 use mathlib.Core.List.{List, [], _∷_, _++_, map}
 use mathlib.Core.Option.{Option, none, some}
 use Prim.Native.Nat.{ℕ, zero, suc, _+_, _-_, _*_, _≤_, _<_}
-use lib.Dec.{ltb, eqb}
+use lib.Dec.{leb, ltb, eqb}
 use lib.ListN.{length, take, drop, getD}
 use Rattle.cluster.specs.Config.{Config, quorum, shelf}
-use Rattle.cluster.specs.Ranges.{within, leastLength, topLength, topFaults}
+use Rattle.cluster.specs.Ranges.{topLength, topFaults}
 use Rattle.sha256.specs.Sha256.{sha256}
 use Rattle.format.specs.Format.{value2}
 use Rattle.protocol.specs.Values.{Candidate, Share, Held, sameList, nth, digestSize, digestsSize, tagsSize, stampSize, rank, sameStamp}
@@ -71,7 +71,7 @@ topRank s m g held (suc n) = raised s m g (held (suc n)) (topRank s m g held n)
 -- what a reply shows without a digest of its fragment: the candidate's stamp, a length in its range, and the nonce's digest d
 abbrev pub namesShare : List ℕ → Option Share → Bool
 namesShare d none = false
-namesShare d (some h) = within leastLength topLength (h .size) && sameList (h .nonceDigest) d
+namesShare d (some h) = leb (h .size) topLength && sameList (h .nonceDigest) d
 
 unfoldable pub names : Candidate → List ℕ → Held → Bool
 names c d x = sameStamp (x .stamp) (c .stamp) && namesShare d (x .share)
@@ -109,7 +109,6 @@ slotHeld t kept j = heldAt (shelf t) (replySlotOf kept j)
 -- a reply's slot has byte 1 (any but 0) and a length in its range
 pub record Full (reply : List ℕ) : Type 0 where
   pub flag : eqb (getD reply stampSize 0) 0 ≡ false
-  pub least : leastLength ≤ value2 (getD reply (stampSize + 1) 0) (getD reply (stampSize + 2) 0)
   pub top : value2 (getD reply (stampSize + 1) 0) (getD reply (stampSize + 2) 0) ≤ topLength
 
 -- the servers of b's group, as many as restore a content

@@ -34,9 +34,6 @@ fn names(reply: &[u8], candidate: &[u8], t: usize, d: &[u8]) -> bool
         return false;
     }
     let n = size_of(reply);
-    if n < cluster::LEAST_LENGTH {
-        return false;
-    }
     if n > cluster::TOP_LENGTH {
         return false;
     }
@@ -110,9 +107,6 @@ pub(crate) fn tags_alike(kept: &[u8], t: usize, i: usize, j: usize) -> bool
     let a = CANDIDATES + CANDIDATE_SLOT * i + NAME;
     let y = REPLIES + REPLY_SLOT * j;
     let n = size_of(&kept[y..y + REPLY_SLOT]);
-    if n < cluster::LEAST_LENGTH {
-        return false;
-    }
     if n > cluster::TOP_LENGTH {
         return false;
     }

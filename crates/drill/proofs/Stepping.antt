@@ -6,9 +6,10 @@ use mathlib.Core.List.{List, []}
 use Prim.Native.Nat.{ℕ, zero, suc, _+_, _≤_}
 use native.Mathlib.Numerals.{add-one}
 use lib.ListN.{length, replicate}
+use lib.Dec.{ltb}
 use borrow.Author.Tests.{not-true, not-false}
 use Rattle.cluster.specs.Config.{shelf}
-use Rattle.cluster.specs.Ranges.{within, topFaults, topWriter, topClient, leastLength, topLength}
+use Rattle.cluster.specs.Ranges.{within, topFaults, topWriter, topClient, topLength}
 use Rattle.cluster.proofs.Tests.{within-bounds}
 use Rattle.protocol.specs.declared.Call.{Call}
 use Rattle.protocol.specs.declared.Answer.{Answer}
@@ -46,7 +47,7 @@ module _ (t c : ℕ) (ht : (1 ≤ t) × (t ≤ topFaults)) where
   unfolding beginWrite begunBy after writeStep writeRefusal shelf
   no-writer x k content nonce h = rw (inside 1 topFaults t ht, h)
 
-  pub no-size : (x : Call) (k content nonce : List ℕ) → within 1 topWriter c ≡ true → within leastLength topLength (length content) ≡ false
+  pub no-size : (x : Call) (k content nonce : List ℕ) → within 1 topWriter c ≡ true → ltb topLength (length content) ≡ true
       → beginWrite t c x k content nonce ≡ record { result = record { number = 6; count = 0 }; call = x; kept = k }
   unfolding beginWrite begunBy after writeStep writeRefusal shelf
   no-size x k content nonce h e = rw (inside 1 topFaults t ht, h, e)

@@ -52,7 +52,7 @@ module _ (t server : ℕ) (content : List ℕ) (made : FragmentOutcome) (is : ma
       let n : ℕ = length content in
       let legal = makes t server n (sym made-number ∙ none) in
       let below : (n + (t + 1) - 1) / (t + 1) < 513 = div-lt-iff-lt-mul {k = t + 1} (omega arith) .1
-      (omega (arith, legal .faults .0, legal .bytes .1)) in
+      (omega (arith, legal .faults .0, legal .bytes)) in
       omega (arith, below, made-size none)
 
   pub made-long : made .number ≡ 0 → made .count ≤ length (made .bytes)
@@ -85,7 +85,7 @@ unfolding restoreRefusal
 legal t n servers given space e = go (ℕ-discrete (firstOf (argumentChecks t n servers given space)) 0)
   where
     go : Dec (firstOf (argumentChecks t n servers given space) ≡ 0) → n ≤ topLength
-    go (yes none) = restores t n servers given space none .bytes .1
+    go (yes none) = restores t n servers given space none .bytes
     go (no some) = absurd (some (sym (first-of-first (argumentChecks t n servers given space) _ some) ∙ e))
 
 module _ (t n : ℕ) (servers fragments out : List ℕ) where

@@ -11,7 +11,7 @@ use lib.Dec.{eqb, ltb}
 use lib.ListN.{length, getD}
 use borrow.Author.Tests.{eq-eqb, ne-eqb, ltb-false, eqb-true, not-false}
 use Rattle.cluster.specs.Config.{shelf}
-use Rattle.cluster.specs.Ranges.{within, leastLength, topLength, topFaults, contentRoom}
+use Rattle.cluster.specs.Ranges.{within, topLength, topFaults, contentRoom}
 use Rattle.cluster.specs.Refusals.{Check, firstOf}
 use Rattle.cluster.proofs.Tests.{and-both, within-bounds}
 use Rattle.erasure.specs.Fragments.{fragmentSize}
@@ -64,19 +64,19 @@ quotient given f k h r = go (ℕ-discrete (given / f) k)
 -- ---- making a fragment
 
 pub fragment-tests : (t server n : ℕ) (a b c : Bool) → not (within 1 topFaults t) ≡ a → not (within 1 (shelf t .servers) server) ≡ b
-    → not (within leastLength topLength n) ≡ c → fragmentRefusal t server n ≡ cond a 3 (cond b 4 (cond c 6 0))
+    → ltb topLength n ≡ c → fragmentRefusal t server n ≡ cond a 3 (cond b 4 (cond c 6 0))
 unfolding fragmentRefusal
 fragment-tests t server n a b c p q r = λ i. cond (p i) 3 (cond (q i) 4 (cond (r i) 6 0))
 
 pub record Makes (t server n : ℕ) : Type 0 where
   pub faults : (1 ≤ t) × (t ≤ topFaults)
   pub number : (1 ≤ server) × (server ≤ shelf t .servers)
-  pub bytes : (leastLength ≤ n) × (n ≤ topLength)
+  pub bytes : n ≤ topLength
 
 pub makes : (t server n : ℕ) → fragmentRefusal t server n ≡ 0 → Makes t server n
-makes t server n e = go (not (within 1 topFaults t)) (not (within 1 (shelf t .servers) server)) (not (within leastLength topLength n)) refl refl refl
+makes t server n e = go (not (within 1 topFaults t)) (not (within 1 (shelf t .servers) server)) (ltb topLength n) refl refl refl
   where
-    go : (a b c : Bool) → not (within 1 topFaults t) ≡ a → not (within 1 (shelf t .servers) server) ≡ b → not (within leastLength topLength n) ≡ c
+    go : (a b c : Bool) → not (within 1 topFaults t) ≡ a → not (within 1 (shelf t .servers) server) ≡ b → ltb topLength n ≡ c
         → Makes t server n
     go true b c p q r = absurd (suc-ne-zero 2 (sym (fragment-tests t server n true b c p q r) ∙ e))
     go false true c p q r = absurd (suc-ne-zero 3 (sym (fragment-tests t server n false true c p q r) ∙ e))
@@ -84,14 +84,14 @@ makes t server n e = go (not (within 1 topFaults t)) (not (within 1 (shelf t .se
     go false false false p q r = record {
       faults = within-bounds 1 topFaults t (not-false (within 1 topFaults t) p);
       number = within-bounds 1 (shelf t .servers) server (not-false (within 1 (shelf t .servers) server) q);
-      bytes = within-bounds leastLength topLength n (not-false (within leastLength topLength n) r);
+      bytes = ltb-false topLength n r;
     }
 
 -- ---- restoring
 
 module _ (t n : ℕ) (servers : List ℕ) (given room : ℕ) where
   pub argument-tests : (a b c d e : Bool) → not (within 1 topFaults t) ≡ a → not (each (within 1 (shelf t .servers)) servers) ≡ b
-      → not (within leastLength topLength n) ≡ c → ltb room contentRoom ≡ d → not (eqb given (length servers * fragmentSize (shelf t .threshold) n))
+      → ltb topLength n ≡ c → ltb room contentRoom ≡ d → not (eqb given (length servers * fragmentSize (shelf t .threshold) n))
       ≡ e
       → firstOf (argumentChecks t n servers given room) ≡ cond a 3 (cond b 4 (cond c 6 (cond d 15 (cond e 16 0))))
   unfolding argumentChecks
@@ -100,17 +100,17 @@ module _ (t n : ℕ) (servers : List ℕ) (given room : ℕ) where
   pub record Restores : Type 0 where
     pub faults : (1 ≤ t) × (t ≤ topFaults)
     pub numbers : (i : ℕ) → i < length servers → (1 ≤ getD servers i 0) × (getD servers i 0 ≤ shelf t .servers)
-    pub bytes : (leastLength ≤ n) × (n ≤ topLength)
+    pub bytes : n ≤ topLength
     pub fits : contentRoom ≤ room
     pub whole : given ≡ length servers * fragmentSize (shelf t .threshold) n
 
   pub restores : firstOf (argumentChecks t n servers given room) ≡ 0 → Restores
-  restores e = go (not (within 1 topFaults t)) (not (each (within 1 (shelf t .servers)) servers)) (not (within leastLength topLength n))
+  restores e = go (not (within 1 topFaults t)) (not (each (within 1 (shelf t .servers)) servers)) (ltb topLength n)
       (ltb room contentRoom)
       (not (eqb given (length servers * fragmentSize (shelf t .threshold) n))) refl refl refl refl refl
     where
       go : (a b c d f : Bool) → not (within 1 topFaults t) ≡ a → not (each (within 1 (shelf t .servers)) servers) ≡ b
-          → not (within leastLength topLength n) ≡ c → ltb room contentRoom ≡ d
+          → ltb topLength n ≡ c → ltb room contentRoom ≡ d
           → not (eqb given (length servers * fragmentSize (shelf t .threshold) n))
           ≡ f → Restores
       go true b c d f p q r s u = absurd (suc-ne-zero 2 (sym (argument-tests true b c d f p q r s u) ∙ e))
@@ -122,7 +122,7 @@ module _ (t n : ℕ) (servers : List ℕ) (given room : ℕ) where
         faults = within-bounds 1 topFaults t (not-false (within 1 topFaults t) p);
         numbers = λ i h. within-bounds 1 (shelf t .servers) (getD servers i 0)
             (each-at (within 1 (shelf t .servers)) servers (not-false (each (within 1 (shelf t .servers)) servers) q) i h);
-        bytes = within-bounds leastLength topLength n (not-false (within leastLength topLength n) r);
+        bytes = ltb-false topLength n r;
         fits = ltb-false room contentRoom s;
         whole = eqb-true given (length servers * fragmentSize (shelf t .threshold) n) (not-false
             (eqb given (length servers * fragmentSize (shelf t .threshold) n)) u);

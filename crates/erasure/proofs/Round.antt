@@ -14,7 +14,7 @@ use Rattle.gf256.proofs.Byte.{Small}
 use Rattle.gf256.proofs.Apart.{Distinct}
 use Rattle.cluster.specs.Config.{shelf, upTo}
 use Rattle.cluster.proofs.Legal.{upTo-length, legal-shelf}
-use Rattle.cluster.specs.Ranges.{within, leastLength, topLength, topFaults, contentRoom}
+use Rattle.cluster.specs.Ranges.{within, topLength, topFaults, contentRoom}
 use Rattle.cluster.specs.Refusals.{firstOf, onRefusal}
 use Rattle.cluster.proofs.Tests.{within-in}
 use Rattle.erasure.specs.declared.FragmentOutcome.{FragmentOutcome}
@@ -62,7 +62,7 @@ map-at g h (s ∷ ss) e = ap₂ (λ (x : List ℕ) (xs : List (List ℕ)). x ∷
 abbrev pub madeBy : ℕ → List ℕ → ℕ → List ℕ
 madeBy t content server = take (fragmentStep t server content .count) (fragmentStep t server content .bytes)
 
-module _ (t : ℕ) (content : List ℕ) (faults : (1 ≤ t) × (t ≤ topFaults)) (bytes : (leastLength ≤ length content) × (length content ≤ topLength)) where
+module _ (t : ℕ) (content : List ℕ) (faults : (1 ≤ t) × (t ≤ topFaults)) (bytes : length content ≤ topLength) where
   abbrev k : ℕ
   k = shelf t .threshold
 
@@ -83,7 +83,7 @@ module _ (t : ℕ) (content : List ℕ) (faults : (1 ≤ t) × (t ≤ topFaults)
       let e : fragmentRefusal t server (length content) ≡ 0 =
       fragment-tests t server (length content) false false false (ap not (within-in 1 topFaults t (faults .0) (faults .1)))
       (ap not (within-in 1 s server lo hi))
-      (ap not (within-in leastLength topLength (length content) (bytes .0) (bytes .1))) in
+      (le-ltb topLength (length content) bytes) in
       let done : FragmentOutcome = record { number = 0; count = f; bytes = fragmentBytes t server content ++ replicate (fragmentRoom - f) 0 } in
       ap (λ (x : ℕ). (let o : FragmentOutcome = onRefusal x done (record { number = x; count = 0; bytes = replicate fragmentRoom 0 }) in
       take (o .count) (o .bytes))) e
@@ -144,7 +144,7 @@ module _ (t : ℕ) (content : List ℕ) (faults : (1 ≤ t) × (t ≤ topFaults)
         argument-tests t (length content) servers (length given) (length output) false false false false false
         (ap not (within-in 1 topFaults t (faults .0) (faults .1)))
         (ap not (each-holds (within 1 s) servers (λ i h. within-in 1 s (getD servers i 0) (numbers i h .0) (numbers i h .1))))
-        (ap not (within-in leastLength topLength (length content) (bytes .0) (bytes .1))) (le-ltb (length output) contentRoom room)
+        (le-ltb topLength (length content) bytes) (le-ltb (length output) contentRoom room)
         (ap not (eq-eqb (length given) (length servers * f) (length-joined f (λ i. fragmentBytes t i content) made-length servers)))
 
     -- the theorem: whatever servers are given, if k different ones are among them, the content comes back, and the rest of the buffer is kept

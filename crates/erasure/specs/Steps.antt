@@ -5,7 +5,7 @@ use Prim.Native.Nat.{ℕ, _-_, _*_}
 use lib.Dec.{eqb, ltb}
 use lib.ListN.{length, drop, replicate}
 use Rattle.cluster.specs.Config.{shelf}
-use Rattle.cluster.specs.Ranges.{within, leastLength, topLength, topFaults, contentRoom}
+use Rattle.cluster.specs.Ranges.{within, topLength, topFaults, contentRoom}
 use Rattle.cluster.specs.Refusals.{Check, refuse, firstOf, onRefusal}
 use Rattle.cluster.specs.declared.Outcome.{Outcome}
 use Rattle.erasure.specs.declared.FragmentOutcome.{FragmentOutcome}
@@ -27,7 +27,7 @@ fragmentRefusal t server n =
     firstOf
     (refuse 3 (not (within 1 topFaults t))
     ∷ refuse 4 (not (within 1 (shelf t .servers) server))
-    ∷ refuse 6 (not (within leastLength topLength n))
+    ∷ refuse 6 (ltb topLength n)
     ∷ [])
 
 unfoldable pub fragmentBytes : (t server : ℕ) → List ℕ → List ℕ
@@ -51,7 +51,7 @@ unfoldable pub argumentChecks : (t n : ℕ) (servers : List ℕ) (given room : �
 argumentChecks t n servers given room =
     refuse 3 (not (within 1 topFaults t))
     ∷ refuse 4 (not (each (within 1 (shelf t .servers)) servers))
-    ∷ refuse 6 (not (within leastLength topLength n))
+    ∷ refuse 6 (ltb topLength n)
     ∷ refuse 15 (ltb room contentRoom)
     ∷ refuse 16 (not (eqb given (length servers * fragmentSize (shelf t .threshold) n)))
     ∷ []

@@ -93,7 +93,7 @@ fn fragment_refusal(t: usize, server: usize, n: usize) -> u8
     if cluster::outside(1, servers_of(t), server) {
         return cluster::refusals::SERVER;
     }
-    if cluster::outside(cluster::LEAST_LENGTH, cluster::TOP_LENGTH, n) {
+    if n > cluster::TOP_LENGTH {
         return cluster::refusals::LENGTH;
     }
     0
@@ -109,7 +109,7 @@ fn restore_refusal(t: usize, n: usize, servers: &[usize], given: usize, room: us
     if server_outside(servers, servers_of(t)) {
         return cluster::refusals::SERVER;
     }
-    if cluster::outside(cluster::LEAST_LENGTH, cluster::TOP_LENGTH, n) {
+    if n > cluster::TOP_LENGTH {
         return cluster::refusals::LENGTH;
     }
     if room < cluster::CONTENT_ROOM {

@@ -11,7 +11,7 @@ use lib.Dec.{eqb, leb}
 use lib.ListN.{length}
 use borrow.Author.Tests.{eq-eqb}
 use Rattle.cluster.specs.Config.{shelf, quorum}
-use Rattle.cluster.specs.Ranges.{within}
+use Rattle.cluster.specs.Ranges.{topLength}
 use Rattle.erasure.specs.Fragments.{Part, fragment, restored}
 use Rattle.format.specs.Format.{Bytes}
 use Rattle.protocol.specs.Values.{labelOf, Candidate, Held, sameList, sameStamp, sameCandidate, nth, digestSize, blankCandidate, noHeld, isBlank, below}
@@ -74,7 +74,7 @@ module _ (H : Hashing) where
       (s H .config .servers) b lo hi)
       ∙ same-refl (H .digest (share H b .fragment))
 
-  size-in : (b : ℕ) → within 1 1024 (share H b .size) ≡ true
+  size-in : (b : ℕ) → leb (share H b .size) topLength ≡ true
   unfolding share shareMade content1
   size-in b = refl
 
@@ -85,7 +85,7 @@ module _ (H : Hashing) where
   -- the reply of a server that holds the write proves it
   proves : (b : ℕ) → 1 ≤ b → b ≤ s H .config .servers →
       sameStamp (cand H .stamp) (spoilt H .stamp)
-      && (within 1 1024 (share H b .size) && (sameList (share H b .nonceDigest) (H .digest (spoilt H .nonce))
+      && (leb (share H b .size) topLength && (sameList (share H b .nonceDigest) (H .digest (spoilt H .nonce))
       && sameList (H .digest (share H b .fragment)) (nth digestSize (share H b .digests) b))) ≡ true
   unfolding spoilt
   proves b lo hi = λ i. stamp-refl (cand H .stamp) i && (size-in b i && (nonce-in b i && digest-at b lo hi i))

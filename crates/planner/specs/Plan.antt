@@ -6,7 +6,7 @@ use Prim.Native.Nat.{ℕ, _+_, _*_}
 use lib.Dec.{leb, ltb}
 use lib.ListN.{replicate}
 use Rattle.cluster.specs.Config.{Config, shelf}
-use Rattle.cluster.specs.Ranges.{within, topFaults, mostServers, topClient, leastLength, topLength, capacity}
+use Rattle.cluster.specs.Ranges.{within, topFaults, mostServers, topClient, topLength, capacity}
 use Rattle.cluster.specs.Refusals.{refuse, firstOf, onRefusal}
 use Rattle.erasure.specs.Fragments.{table}
 use Rattle.protocol.specs.Values.{stampSize, candidateSize}
@@ -83,7 +83,7 @@ planRefusal t n readers stores =
     firstOf
     (refuse 3 (not (within 1 topFaults t))
     ∷ refuse 5 (not (within 1 topClient readers))
-    ∷ refuse 6 (not (within leastLength topLength n))
+    ∷ refuse 6 (ltb topLength n)
     ∷ refuse 18 (ltb capacity stores)
     ∷ [])
 

@@ -34,7 +34,7 @@ fn plan_refusal(t: usize, length: usize, readers: usize, stores: usize) -> u8
     if cluster::outside(1, cluster::TOP_CLIENT, readers) {
         return cluster::refusals::CLIENT;
     }
-    if cluster::outside(cluster::LEAST_LENGTH, cluster::TOP_LENGTH, length) {
+    if length > cluster::TOP_LENGTH {
         return cluster::refusals::LENGTH;
     }
     if cluster::CAPACITY < stores {

@@ -6,11 +6,11 @@ use mathlib.Core.List.{List, [], _∷_}
 use mathlib.Core.Option.{Option, none, some}
 use Prim.Native.Nat.{ℕ, zero, suc, _≤_, _<_}
 use native.Mathlib.Omega.{arith}
-use lib.Dec.{T, leb, eqb, lit≤}
+use lib.Dec.{T, leb, ltb, eqb, lit≤}
 use lib.ListN.{length}
-use borrow.Author.Tests.{leb-false}
+use borrow.Author.Tests.{leb-false, ltb-false}
 use Rattle.cluster.specs.Config.{Config, shelf}
-use Rattle.cluster.specs.Ranges.{within, topWriter, topClient, topNumber, leastLength, topLength}
+use Rattle.cluster.specs.Ranges.{within, topWriter, topClient, topNumber, topLength}
 use Rattle.cluster.specs.Refusals.{onRefusal}
 use Rattle.cluster.proofs.Tests.{inside, passes}
 use Rattle.protocol.specs.Values.{Candidate, Held, blankCandidate, nonceSize, sameList}
@@ -78,11 +78,10 @@ module _ (s : Config) (c : ℕ) (cl : Client) (fine : Fine s c cl) where
   write-accepted r n l pending e =
       let (a, e5) = passes (badFaults s) 2 _ e in
       let (w, e6) = passes (not (within 1 topWriter c)) 4 _ e5 in
-      let (z, e13) = passes (not (within leastLength topLength (length r))) 5 _ e6 in
+      let (z, e13) = passes (ltb topLength (length r)) 5 _ e6 in
       let (p, e14) = passes pending 12 _ e13 in
       let (k, _) = passes (leb topNumber (cl .calls)) 13 _ e14 in
-      let size = inside leastLength topLength (length r) z in
-      (record { writer = inside 1 topWriter c w; low = size .0; high = size .1; nonce = l }, leb-false topNumber (cl .calls) k)
+      (record { writer = inside 1 topWriter c w; high = ltb-false topLength (length r) z; nonce = l }, leb-false topNumber (cl .calls) k)
 
   pub write-fine : (r n : List ℕ) → length n ≡ nonceSize → Fine s c (writeStep s c cl r n .client)
   unfolding writeStep

@@ -10,7 +10,7 @@ use native.Mathlib.Omega.{arith}
 use lib.Dec.{T, eqb, lit≤}
 use lib.ListN.{length, length-append}
 use Rattle.cluster.specs.Config.{Config}
-use Rattle.cluster.specs.Ranges.{topWriter, topNumber, leastLength, topLength}
+use Rattle.cluster.specs.Ranges.{topWriter, topNumber, topLength}
 use Rattle.cluster.proofs.Tests.{or-none}
 use Rattle.format.specs.Format.{All, via, seq, run, orBlank, optional}
 use Rattle.protocol.specs.Values.{Candidate, Share, Held, noHeld, isBlank, sameCandidate, nonceSize, stampSize, tagsSize}
@@ -30,7 +30,6 @@ use Rattle.format.proofs.Walks.{all-snoc}
 -- a writer's content and nonce
 pub record WriteOk (c : ℕ) (r n : List ℕ) : Type 0 where
   pub writer : (1 ≤ c) × (c ≤ topWriter)
-  pub low : leastLength ≤ length r
   pub high : length r ≤ topLength
   pub nonce : length n ≡ nonceSize
 

@@ -6,10 +6,10 @@ use mathlib.Core.List.{List}
 use mathlib.Core.Option.{none, some}
 use Prim.Native.Nat.{ℕ, zero, suc, _≤_}
 use native.Mathlib.Omega.{arith}
-use lib.Dec.{leb, eqb, lit<}
+use lib.Dec.{leb, ltb, eqb, lit<}
 use borrow.Author.Tests.{eqb-true, leb-true, not-false, ne-eqb}
 use Rattle.cluster.specs.Config.{Config, shelf}
-use Rattle.cluster.specs.Ranges.{within, topWriter, topClient, topNumber, leastLength, topLength}
+use Rattle.cluster.specs.Ranges.{within, topWriter, topClient, topNumber, topLength}
 use Rattle.cluster.proofs.Tests.{untrue, and-both, or-none, and-rest, within-in, within-bounds, inside, passes}
 use Rattle.protocol.specs.declared.Call.{Call}
 use Rattle.format.specs.Format.{via, seq, such, byte}
@@ -117,7 +117,7 @@ unfolding writeRefusal
 write-idle s client n pending calls e =
     let (a, e5) = passes (badFaults s) 2 _ e in
     let (w, e6) = passes (badClient true client) 4 _ e5 in
-    let (z, e13) = passes (not (within leastLength topLength n)) 5 _ e6 in
+    let (z, e13) = passes (ltb topLength n) 5 _ e6 in
     passes pending 12 _ e13 .0
 
 pub read-idle : (s : Config) (client : ℕ) (pending : Bool) (calls : ℕ) → readRefusal s client pending calls ≡ 0 → pending ≡ false

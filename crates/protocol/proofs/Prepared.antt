@@ -2,7 +2,7 @@
 -- Runs of digests and tags have their lengths because each entry has. Nothing is assumed but the primitives' lengths.
 use mathlib.Core.Path.{_≡_, sym, subst}
 use mathlib.Core.List.{List}
-use Prim.Native.Nat.{ℕ, _≤_}
+use Prim.Native.Nat.{ℕ, _≤_, zero-le}
 use lib.ListN.{length}
 use borrow.Author.Tests.{le-leb}
 use Rattle.cluster.specs.Config.{Config}
@@ -60,7 +60,7 @@ module _ (P : Primitives) (law : Lengths P) (s : Config) (client : ℕ) (writers
 
     share-ok : (b : ℕ) → shareF s .Ok (shareMade P s client writers keys r n k b)
     unfolding shareF via seq run number2 shareMade
-    share-ok b = let l = share-made r n k (w .high) (w .nonce) b in ((w .low, w .high), (l .fragment, (l .digests, (l .nonceDigest, l .tags))))
+    share-ok b = let l = share-made r n k (w .high) (w .nonce) b in ((zero-le, w .high), (l .fragment, (l .digests, (l .nonceDigest, l .tags))))
 
     pub prepared-ok : (1 ≤ k) × (k ≤ topNumber) → HandOk s client (prepared P s client writers keys r n k)
     unfolding HandOk prepared

@@ -12,7 +12,7 @@ use lib.ListN.{length, take, drop, getD, length-drop, length-replicate}
 use lib.Seq.{length-take-le}
 use borrow.Author.Tests.{leb-true, ltb-true}
 use Rattle.cluster.specs.Config.{Config}
-use Rattle.cluster.specs.Ranges.{within, mostServers, leastLength, topLength}
+use Rattle.cluster.specs.Ranges.{mostServers, topLength}
 use Rattle.cluster.proofs.Tests.{and-both}
 use Rattle.hmac.specs.Hmac.{tagSize}
 use Rattle.erasure.specs.Fragments.{fragmentSize}
@@ -158,10 +158,8 @@ module _ (P : Primitives) (law : Lengths P) (s : Config) (m : ByServer Bool) (g 
   unfolding fits
   leader-size none-0 d q e = go (leader-fits d (s .servers))
     where
-      range : (h : Share) (b : Bool) → (within leastLength topLength (h .size) && b) ≡ true → h .size ≤ topLength
-      range h b t =
-          leb-true (h .size) topLength
-          (and-both (leb leastLength (h .size)) (leb (h .size) topLength) (and-both (within leastLength topLength (h .size)) b t .0) .1)
+      range : (h : Share) (b : Bool) → (leb (h .size) topLength && b) ≡ true → h .size ≤ topLength
+      range h b t = leb-true (h .size) topLength (and-both (leb (h .size) topLength) b t .0)
 
       of : (o : Option Share) (i : ℕ) → o ≡ some q → shareFits P s d i o ≡ true → q .size ≤ topLength
       of none i e t = no-some q e

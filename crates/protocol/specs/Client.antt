@@ -6,7 +6,7 @@ use Prim.Native.Nat.{ℕ, suc}
 use lib.Dec.{leb, ltb, eqb}
 use lib.ListN.{length}
 use Rattle.cluster.specs.Config.{Config, quorum}
-use Rattle.cluster.specs.Ranges.{within, topFaults, topWriter, topClient, topNumber, leastLength, topLength, packetRoom, contentRoom}
+use Rattle.cluster.specs.Ranges.{within, topFaults, topWriter, topClient, topNumber, topLength, packetRoom, contentRoom}
 use Rattle.cluster.specs.Refusals.{refuse, firstOf, onRefusal}
 use Rattle.protocol.specs.declared.Stamp.{Stamp}
 use Rattle.protocol.specs.Values.{Candidate, Held, sameList, labelOf, blankCandidate, noHeld, isSome, ofSome}
@@ -109,7 +109,7 @@ badClient writing client = not (within 1 (cond writing topWriter topClient) clie
 unfoldable pub writeRefusal : Config → ℕ → ℕ → Bool → ℕ → ℕ
 writeRefusal s client n pending calls =
     firstOf
-    (refuse 3 (badFaults s) ∷ refuse 5 (badClient true client) ∷ refuse 6 (not (within leastLength topLength n))
+    (refuse 3 (badFaults s) ∷ refuse 5 (badClient true client) ∷ refuse 6 (ltb topLength n)
     ∷ refuse 13 pending ∷ refuse 14 (leb topNumber calls) ∷ [])
 
 unfoldable pub readRefusal : Config → ℕ → Bool → ℕ → ℕ

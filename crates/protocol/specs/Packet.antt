@@ -9,7 +9,7 @@ use Prim.Native.Nat.{ℕ, _+_}
 use lib.ListN.{length}
 use lib.Dec.{leb, eqb}
 use Rattle.cluster.specs.Config.{Config, shelf}
-use Rattle.cluster.specs.Ranges.{topFaults, mostServers, topWriter, topClient, topNumber, leastLength, topLength}
+use Rattle.cluster.specs.Ranges.{topFaults, mostServers, topWriter, topClient, topNumber, topLength}
 use Rattle.hmac.specs.Hmac.{tagSize}
 use Rattle.erasure.specs.Fragments.{fragmentSize}
 use Rattle.protocol.specs.declared.Stamp.{Stamp}
@@ -34,7 +34,7 @@ shareF s =
     via
     (λ x. record { size = x .0; fragment = x .1 .0; digests = x .1 .1 .0; nonceDigest = x .1 .1 .1 .0; tags = x .1 .1 .1 .1 })
     (λ h. (h .size, (h .fragment, (h .digests, (h .nonceDigest, h .tags)))))
-    (seq (number2 leastLength topLength)
+    (seq (number2 0 topLength)
     (λ n. seq (run (fragmentSize (s .threshold) n)) (λ p. seq (run (digestsSize s)) (λ d. seq (run digestSize) (λ e. run (tagsSize s))))))
 
 -- the bytes of a share of a content of n bytes

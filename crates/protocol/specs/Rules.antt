@@ -6,7 +6,7 @@ use mathlib.Core.Option.{Option, none, some}
 use Prim.Native.Nat.{ℕ, zero, suc, _+_}
 use lib.Dec.{leb, ltb, eqb}
 use Rattle.cluster.specs.Config.{Config, quorum}
-use Rattle.cluster.specs.Ranges.{within, leastLength, topLength}
+use Rattle.cluster.specs.Ranges.{topLength}
 use Rattle.erasure.specs.Fragments.{Part}
 use Rattle.protocol.specs.Values.{Candidate, Share, Held, sameList, nth, digestSize, below, sameStamp, sameCandidate, isBlank}
 use Rattle.protocol.specs.Primitives.{Primitives}
@@ -61,7 +61,7 @@ module _ (P : Primitives) (s : Config) where
   abbrev pub shareFits : Candidate → ℕ → Option Share → Bool
   shareFits c i none = false
   shareFits c i (some h) =
-      within leastLength topLength (h .size)
+      leb (h .size) topLength
       && (sameList (h .nonceDigest) (P .digest (c .nonce)) && sameList (P .digest (h .fragment)) (nth digestSize (h .digests) i))
 
   -- line 161, of one reply: the candidate's stamp, and a fragment that has its own digest; amended: byte 1, and a nonce digest that is the nonce's

@@ -9,7 +9,7 @@ use native.Mathlib.Omega.{arith}
 use native.Mathlib.Nat.{add-assoc}
 use lib.ListN.{length, take, drop, length-drop}
 use Rattle.cluster.specs.Config.{Config}
-use Rattle.cluster.specs.Ranges.{topNumber, topWriter, leastLength, topLength}
+use Rattle.cluster.specs.Ranges.{topNumber, topWriter, topLength}
 use Rattle.hmac.specs.Hmac.{tagSize}
 use Rattle.erasure.specs.Fragments.{fragmentSize}
 use Rattle.protocol.specs.declared.Label.{Label}
@@ -82,7 +82,7 @@ abbrev pub Fragment : Config → List ℕ → ℕ → ℕ → ℕ → Type 0
 Fragment c s n p q = Ran (fragmentSize (c .threshold) n) s p q
 
 module _ (c : Config) {s : List ℕ} {at : ℕ} where
-  pub share-took : {n p q d g e : ℕ} → TookAt (number2L leastLength topLength) s at n p
+  pub share-took : {n p q d g e : ℕ} → TookAt (number2L 0 topLength) s at n p
       → Fragment c s n p q → Ran (digestsSize c) s q d → Ran digestSize s d g
       → Ran (tagsSize c) s g e → TookAt (shareL c) s at n e
   unfolding shareF shareAt shareOfSize lengthAt shareSize
@@ -110,31 +110,31 @@ module _ (c : Config) {s : List ℕ} {at : ℕ} where
       }
 
   -- the fragment's length is told by the length that stands there
-  sized : {n p q : ℕ} → TookAt (number2L leastLength topLength) s at n p → Fragment c s n p q
+  sized : {n p q : ℕ} → TookAt (number2L 0 topLength) s at n p → Fragment c s n p q
       → Leaves (run (fragmentSize (c .threshold) (lengthAt (drop at s)))) s p (bytesAt s p (fragmentSize (c .threshold) (lengthAt (drop at s)))) q
   sized {n} {p} {q} a b = subst (λ (k : ℕ). Leaves (run (fragmentSize (c .threshold) k)) s p (bytesAt s p (fragmentSize (c .threshold) k)) q)
       (a .number)
       (b .leaves)
 
-  pub share-stops1 : {n p : ℕ} → TookAt (number2L leastLength topLength) s at n p → Stops (run (fragmentSize (c .threshold) n)) s p
+  pub share-stops1 : {n p : ℕ} → TookAt (number2L 0 topLength) s at n p → Stops (run (fragmentSize (c .threshold) n)) s p
       → Stops (shareF c) s at
   unfolding shareF
   share-stops1 {n} {p} a z =
       stops-via _ _ _ (stops-second _ _ (a .leaves) (stops-first _ _ (subst (λ (k : ℕ). Stops (run (fragmentSize (c .threshold) k)) s p) (a .number)
       z)))
 
-  pub share-stops2 : {n p q : ℕ} → TookAt (number2L leastLength topLength) s at n p → Fragment c s n p q → Stops (run (digestsSize c)) s q → Stops
+  pub share-stops2 : {n p q : ℕ} → TookAt (number2L 0 topLength) s at n p → Fragment c s n p q → Stops (run (digestsSize c)) s q → Stops
       (shareF c) s at
   unfolding shareF
   share-stops2 a b z = stops-via _ _ _ (stops-second _ _ (a .leaves) (stops-second _ _ (sized a b) (stops-first _ _ z)))
 
-  pub share-stops3 : {n p q d : ℕ} → TookAt (number2L leastLength topLength) s at n p → Fragment c s n p q
+  pub share-stops3 : {n p q d : ℕ} → TookAt (number2L 0 topLength) s at n p → Fragment c s n p q
       → Ran (digestsSize c) s q d → Stops (run digestSize) s d → Stops (shareF c) s at
   unfolding shareF
   share-stops3 a b x z = stops-via _ _ _ (stops-second _ _ (a .leaves) (stops-second _ _ (sized a b)
       (stops-second _ _ (x .leaves) (stops-first _ _ z))))
 
-  pub share-stops4 : {n p q d g : ℕ} → TookAt (number2L leastLength topLength) s at n p → Fragment c s n p q
+  pub share-stops4 : {n p q d g : ℕ} → TookAt (number2L 0 topLength) s at n p → Fragment c s n p q
       → Ran (digestsSize c) s q d → Ran digestSize s d g
       → Stops (run (tagsSize c)) s g → Stops (shareF c) s at
   unfolding shareF

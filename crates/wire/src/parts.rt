@@ -83,12 +83,7 @@ pub(crate) fn any_stamp_field(s: &[u8], c: Cursor) -> Labelled
 pub(crate) fn share_field(s: &[u8], c: Cursor, t: u8) -> Field
     ensures { λ r. ⌜ FieldAs (shareL (shelf t)) (now (s .entry)) (c .at) r ⌝ }
 {
-    let Field::Value(n, c1) = number2_field(
-        s,
-        c,
-        cluster::LEAST_LENGTH as u32,
-        cluster::TOP_LENGTH as u32,
-    ) else {
+    let Field::Value(n, c1) = number2_field(s, c, 0, cluster::TOP_LENGTH as u32) else {
         return Field::Broken;
     };
     let Run::Past(c2) = run_field(s, c1, crate::sizes::fragment_size(t, n)) else {

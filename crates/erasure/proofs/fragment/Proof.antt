@@ -62,7 +62,7 @@ unfolding shelf
 threshold-are c = c .threshold-of .ensures
 
 size-requires : tie.Need-size-requires
-size-requires c κs = let r = ok (past (c .before)) in (omega (arith, threshold-are c), omega (arith, threshold-are c, r .faults .1), r .bytes .1)
+size-requires c κs = let r = ok (past (c .before)) in (omega (arith, threshold-are c), omega (arith, threshold-are c, r .faults .1), r .bytes)
 
 part-end : tie.Need-part-make-end
 part-end c = table (c .before .before .before) .enough
@@ -72,7 +72,7 @@ size-most c =
     let r = ok (past (c .before .before)) in
     subst (λ (x : ℕ). x ≤ fragmentRoom) (sym (c .size .ensures))
     (size-fits (c .before .threshold-of .result) (length (content (past (c .before .before))))
-    (omega (arith, threshold-are (c .before), r .faults .0)) (r .bytes .1))
+    (omega (arith, threshold-are (c .before), r .faults .0)) (r .bytes))
 
 make-requires : tie.Need-make-requires
 unfolding shelf

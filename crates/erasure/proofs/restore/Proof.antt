@@ -151,7 +151,7 @@ part-end c = table (c .before) .enough
 size-requires : tie.Need-size-requires
 size-requires c κs =
     let at = select (c .before .before) in
-    (omega (arith, k-is at), k-most at, ok (past at) .bytes .1)
+    (omega (arith, k-is at), k-most at, ok (past at) .bytes)
 
 -- Places far back, each named once: the place, and from where it is seen.
 abbrev servers-of-from-size : tie.After-size → tie.After-servers-of
@@ -176,7 +176,7 @@ rebuild-requires c κs =
           (r .0, omega (arith, r .1, table at .long)),
       subst (λ (x : ℕ). n p ≤ x * size .result) (sym all)
           (subst (λ (x : ℕ). n p ≤ k s * x) (sym (size .ensures)) (runs-cover (k s) (n p) (omega (arith, k-is s)))),
-      omega (arith, ok p .bytes .1, ok p .fits),
+      omega (arith, ok p .bytes, ok p .fits),
       λ j h. fitting s (full at) (size .result) (length (fragments p)) (ok p .whole ∙ ap (λ (x : ℕ). length (servers p) * x) (sym f)) j
           (omega (arith, all, h)),
     )

@@ -8,7 +8,7 @@ use mathlib.Core.List.{List}
 use borrow.Author.Tests.{not-false, lt-ltb, le-ltb}
 use lib.Dec.{eqb, ltb}
 use Rattle.cluster.specs.Config.{shelf}
-use Rattle.cluster.specs.Ranges.{within, topFaults, leastLength, topLength, contentRoom}
+use Rattle.cluster.specs.Ranges.{within, topFaults, topLength, contentRoom}
 use Rattle.cluster.specs.Refusals.{firstOf}
 use Rattle.cluster.proofs.Tests.{within-bounds}
 use Rattle.erasure.specs.Fragments.{fragmentSize}
@@ -52,23 +52,19 @@ module _ (c : tie.Else2) where
   abbrev past : tie.Else1
   past = c .before .before .before
 
-  other-tests : (d e f : Bool) → not (within leastLength topLength (n past)) ≡ d → ltb (room past) contentRoom ≡ e
+  other-tests : (d e f : Bool) → ltb topLength (n past) ≡ d → ltb (room past) contentRoom ≡ e
       → not (eqb (given past) (length (servers past) * fragmentSize (shelf (t past) .threshold) (n past))) ≡ f
       → firstOf (argumentChecks (t past) (n past) (servers past) (given past) (room past)) ≡ cond d 6 (cond e 15 (cond f 16 0))
   other-tests d e f =
       argument-tests (t past) (n past) (servers past) (given past) (room past) false false d e f (faults-in past)
       (servers-tested (c .before) ∙ c .if2 .left)
 
-module _ (c : tie.Else3) where
-  length-in : not (within leastLength topLength (n (past (c .before .before)))) ≡ false
-  length-in = sym (c .before .outside2 .ensures) ∙ c .if3 .left
-
-  lengths : (leastLength ≤ n (past (c .before .before))) × (n (past (c .before .before)) ≤ topLength)
-  lengths = within-bounds leastLength topLength _ (not-false _ length-in)
+length-in : (c : tie.Else3) → ltb topLength (n (past (c .before))) ≡ false
+length-in c = le-ltb topLength (n (past (c .before))) (c .if3 .left)
 
 module _ (c : tie.After-threshold-of) where
   abbrev second : tie.Else2
-  second = c .before .before .before .before
+  second = c .before .before .before
 
   threshold-are : c .threshold-of .result ≡ t (past second) + 1
   unfolding shelf
@@ -103,18 +99,18 @@ returns-2 c =
     refl refl)
 
 returns-3 : tie.Need-returns-3
-returns-3 c = sym (other-tests (c .before .before) true _ _ (sym (c .before .outside2 .ensures) ∙ c .if3 .taken) refl refl)
+returns-3 c = sym (other-tests (c .before) true _ _ (lt-ltb topLength (n (past (c .before))) (c .if3 .taken)) refl refl)
 
 returns-4 : tie.Need-returns-4
 returns-4 c =
-    let s = c .before .before .before in
+    let s = c .before .before in
     sym (other-tests s false true _ (length-in (c .before)) (lt-ltb (room (past s)) contentRoom (c .if4 .taken)) refl)
 
 threshold-of-requires : tie.Need-threshold-of-requires
-threshold-of-requires c κs = faults (past (c .before .before .before)) .1
+threshold-of-requires c κs = faults (past (c .before .before)) .1
 
 size-requires : tie.Need-size-requires
-size-requires c κs = (omega (arith, threshold-are c), omega (arith, threshold-are c, faults (past (second c)) .1), lengths (c .before .before) .1)
+size-requires c κs = (omega (arith, threshold-are c), omega (arith, threshold-are c, faults (past (second c)) .1), c .before .before .if3 .left)
 
 returns-5 : tie.Need-returns-5
 returns-5 c = sym (last-test (c .before) true (c .if5 .taken))
@@ -123,5 +119,5 @@ returns-6 : tie.Need-returns-6
 returns-6 c = sym (last-test (c .before) false (c .if5 .left))
 
 pub restore-refusal-spec : {M : Type 1} → statement M
-restore-refusal-spec = tie.close (tie.spec (λ c κs. search needs) returns servers-of-requires (λ c κs. search needs) returns-2 (λ c κs. search needs)
-    returns-3 returns-4 threshold-of-requires size-requires (λ c κs. search needs) returns-5 returns-6)
+restore-refusal-spec = tie.close (tie.spec (λ c κs. search needs) returns servers-of-requires (λ c κs. search needs) returns-2 returns-3
+    returns-4 threshold-of-requires size-requires (λ c κs. search needs) returns-5 returns-6)

@@ -46,19 +46,19 @@ cast-size : tie.Need-cast-size
 cast-size c = omega (arith, ok c .bytes)
 
 kinds-requires : tie.Need-kinds-requires
-kinds-requires c κs = (ok c .faults .1, ok c .bytes .1)
+kinds-requires c κs = (ok c .faults .1, ok c .bytes)
 
 filters-requires : tie.Need-filters-requires
 filters-requires c κs = ok (c .before) .faults .1
 
 held-requires : tie.Need-held-requires
-held-requires c κs = let p = ok (c .before .before) in (p .faults .1, p .bytes .1)
+held-requires c κs = let p = ok (c .before .before) in (p .faults .1, p .bytes)
 
 packets-requires : tie.Need-packets-requires
 packets-requires c κs = let p = ok (c .before .before .before) in (p .faults .1, p .together .1)
 
 memory-requires : tie.Need-memory-requires
-memory-requires c κs = let p = ok (c .before .before .before .before) in (p .faults .1, p .bytes .1, p .kept)
+memory-requires c κs = let p = ok (c .before .before .before .before) in (p .faults .1, p .bytes, p .kept)
 
 returns-2 : tie.Need-returns-2
 returns-2 c =

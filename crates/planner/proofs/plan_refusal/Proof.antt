@@ -15,7 +15,7 @@ abbrev else1-from-else2 : tie.Else2 → tie.Else1
 else1-from-else2 c = c .before .before
 
 abbrev else2-from-else3 : tie.Else3 → tie.Else2
-else2-from-else3 c = c .before .before
+else2-from-else3 c = c .before
 
 abbrev start-from-else1 : tie.Else1 → tie.Start
 start-from-else1 c = c .before .before
@@ -35,7 +35,7 @@ last-test c b e =
     let at-else1 = else1-from-else2 at-else2 in
     let a = start-from-else1 at-else1 .args in
     plan-tests (a .t) (a .length) (a .readers) (a .stores) false false false b (faults-in at-else1) (readers-in at-else2)
-    (sym (c .before .outside3 .ensures) ∙ c .if3 .left) e
+    (le-ltb _ _ (c .if3 .left)) e
 
 -- ---- the needs
 
@@ -53,11 +53,11 @@ returns-2 c =
 
 returns-3 : tie.Need-returns-3
 returns-3 c =
-    let at-else2 = c .before .before in
+    let at-else2 = c .before in
     let at-else1 = else1-from-else2 at-else2 in
     let a = start-from-else1 at-else1 .args in
     sym (plan-tests (a .t) (a .length) (a .readers) (a .stores) false false true _ (faults-in at-else1) (readers-in at-else2)
-    (sym (c .before .outside3 .ensures) ∙ c .if3 .taken) refl)
+    (lt-ltb _ _ (c .if3 .taken)) refl)
 
 returns-4 : tie.Need-returns-4
 returns-4 c = sym (last-test (c .before) true (lt-ltb _ _ (c .if4 .taken)))
@@ -66,5 +66,4 @@ returns-5 : tie.Need-returns-5
 returns-5 c = sym (last-test (c .before) false (le-ltb _ _ (c .if4 .left)))
 
 pub plan-refusal-spec : {M : Type 1} → statement M
-plan-refusal-spec = tie.close (tie.spec (λ c κs. search needs) returns (λ c κs. search needs) returns-2 (λ c κs. search needs) returns-3 returns-4
-    returns-5)
+plan-refusal-spec = tie.close (tie.spec (λ c κs. search needs) returns (λ c κs. search needs) returns-2 returns-3 returns-4 returns-5)

@@ -3,8 +3,9 @@ use mathlib.Core.Path.{_≡_, sym, _∙_}
 use mathlib.Core.Bool.{false, not}
 use Rattle.cluster.specs.Config.{shelf}
 use Rattle.protocol.specs.ClientBytes.{inHand}
-use Rattle.cluster.specs.Ranges.{within, topWriter, leastLength, topLength, topNumber}
-use borrow.Author.Tests.{lt-leb, le-leb}
+use Rattle.cluster.specs.Ranges.{within, topWriter, topLength, topNumber}
+use lib.Dec.{ltb}
+use borrow.Author.Tests.{lt-leb, le-leb, lt-ltb, le-ltb}
 use native.Mathlib.Omega.{arith}
 use Rattle.protocol.specs.Client.{writeRefusal, badFaults}
 use borrow.Author.Needs.{needs}
@@ -21,10 +22,10 @@ past₂ c = sym (c .before .outside2 .ensures) ∙ c .if2 .left
 
 -- Places far back, each named once: the place, and from where it is seen.
 abbrev else1-from-else3 : tie.Else3 → tie.Else1
-else1-from-else3 c = c .before .before .before .before
+else1-from-else3 c = c .before .before .before
 
-past₃ : (c : tie.Else3) → not (within leastLength topLength (else1-from-else3 c .before .before .args .n)) ≡ false
-past₃ c = sym (c .before .outside3 .ensures) ∙ c .if3 .left
+past₃ : (c : tie.Else3) → ltb topLength (else1-from-else3 c .before .before .args .n) ≡ false
+past₃ c = le-ltb topLength (else1-from-else3 c .before .before .args .n) (c .if3 .left)
 
 past₄ : (c : tie.Else4) → inHand (else1-from-else3 (c .before .before) .before .before .args .call) ≡ false
 past₄ c = sym (c .before .is-pending .ensures) ∙ c .if4 .left
@@ -39,15 +40,15 @@ returns-2 c = rw (past₁ (c .before .before), sym (c .before .outside2 .ensures
 
 returns-3 : tie.Need-returns-3
 unfolding writeRefusal shelf
-returns-3 c = rw (past₁ (c .before .before .before .before), past₂ (c .before .before), sym (c .before .outside3 .ensures) ∙ c .if3 .taken)
+returns-3 c = rw (past₁ (c .before .before .before), past₂ (c .before), lt-ltb topLength (c .before .before .before .before .before .args .n) (c .if3 .taken))
 
 returns-4 : tie.Need-returns-4
 unfolding writeRefusal shelf
 returns-4 c =
     let at-else3 = c .before .before in
     rw (
-      past₁ (at-else3 .before .before .before .before),
-      past₂ (at-else3 .before .before),
+      past₁ (at-else3 .before .before .before),
+      past₂ (at-else3 .before),
       past₃ (c .before .before),
       sym (c .before .is-pending .ensures) ∙ c .if4 .taken,
     )
@@ -56,10 +57,10 @@ returns-5 : tie.Need-returns-5
 unfolding writeRefusal shelf
 returns-5 c =
     let at-else3 = c .before .before .before .before in
-    let at-else1 = at-else3 .before .before .before .before in
+    let at-else1 = at-else3 .before .before .before in
     rw (
       past₁ at-else1,
-      past₂ (at-else3 .before .before),
+      past₂ (at-else3 .before),
       past₃ at-else3,
       past₄ (c .before .before),
       le-leb topNumber (at-else1 .before .before .args .call .number) (omega arith),
@@ -69,15 +70,15 @@ returns-6 : tie.Need-returns-6
 unfolding writeRefusal shelf
 returns-6 c =
     let at-else3 = c .before .before .before .before in
-    let at-else1 = at-else3 .before .before .before .before in
+    let at-else1 = at-else3 .before .before .before in
     rw (
       past₁ at-else1,
-      past₂ (at-else3 .before .before),
+      past₂ (at-else3 .before),
       past₃ at-else3,
       past₄ (c .before .before),
       lt-leb topNumber (at-else1 .before .before .args .call .number) (omega arith),
     )
 
 pub write-refusal-spec : {M : Type 1} → statement M
-write-refusal-spec = tie.close (tie.spec (λ c κs. search needs) returns (λ c κs. search needs) returns-2 (λ c κs. search needs) returns-3
-    (λ c κs. search needs) returns-4 (λ c. search needs) returns-5 returns-6)
+write-refusal-spec = tie.close (tie.spec (λ c κs. search needs) returns (λ c κs. search needs) returns-2 returns-3 (λ c κs. search needs)
+    returns-4 (λ c. search needs) returns-5 returns-6)

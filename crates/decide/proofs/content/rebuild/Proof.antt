@@ -117,7 +117,7 @@ returns c =
     rebuilt (a .t) (a .kept .now) (a .t4) (at-fragments-of .before .before .before .size-of .result)
     (p .0) (omega (arith, p .2 .top, n)) (p .3) (a .b) (at-fragments-of .fragments-of .result)
     (a .out .now) (at-restore .restore .last .1 .1 .1 .1 .0)
-    (at-restore .restore .result) (omega (arith, p .2 .least, n)) n (at-start .good .1 .1 .1 .0 .1 .0
+    (at-restore .restore .result) n (at-start .good .1 .1 .1 .0 .1 .0
     .1) (at-fragments-of .fragments-of .ensures) (p .4) (at-restore .restore .ensures
     ∙ lent (a .t) (at-fragments-of .before .before .before .size-of .result)
     (at-fragments-of .before .before .threshold .result) (shelf (a .t) .threshold) (at-fragments-of .before .fragment-size .result)

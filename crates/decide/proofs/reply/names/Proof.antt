@@ -16,7 +16,7 @@ use Rattle.protocol.specs.View.{stampAt, candidateAt}
 use Rattle.format.specs.Reading.{bytesAt}
 use Rattle.decide.specs.Steps.{Full}
 use Rattle.decide.proofs.Places.{part-of, same-heads}
-use Rattle.decide.proofs.Replies.{digestsIn, names-none, names-short, names-long, names-other, names-last}
+use Rattle.decide.proofs.Replies.{digestsIn, names-none, names-long, names-other, names-last}
 use Rattle.decide.proofs.reply.names.Statement.{statement}
 use Rattle.decide.proofs.reply.names.Tie as tie
 
@@ -33,18 +33,12 @@ shared-slice-known2-from-size-of c = c .before .before .before .before
 returns-2 : tie.Need-returns-2
 returns-2 c =
     let a = shared-slice-known2-from-size-of (c .before) .before .before .args in
-    sym (names-short (shelf (a .t)) (a .reply .now) (a .candidate .now) (a .d .now)
-    (ne-eqb (getD (a .reply .now) stampSize 0) 0 (c .before .before .if1 .left)) (omega (arith, c .before .size-of .ensures)))
+    sym (names-long (shelf (a .t)) (a .reply .now) (a .candidate .now) (a .d .now) (ne-eqb (getD (a .reply .now) stampSize 0) 0
+    (c .before .before .if1 .left)) (omega (arith, c .before .size-of .ensures)))
 
 returns-3 : tie.Need-returns-3
 returns-3 c =
-    let a = shared-slice-known2-from-size-of (c .before .before) .before .before .args in
-    sym (names-long (shelf (a .t)) (a .reply .now) (a .candidate .now) (a .d .now) (ne-eqb (getD (a .reply .now) stampSize 0) 0
-    (c .before .before .before .if1 .left)) (omega (arith, c .before .before .size-of .ensures)))
-
-returns-4 : tie.Need-returns-4
-returns-4 c =
-    let at-size-of = c .before .before .before .before .before .before in
+    let at-size-of = c .before .before .before .before .before in
     let at-shared-slice-known2 = shared-slice-known2-from-size-of at-size-of in
     let a = at-shared-slice-known2 .before .before .args in
     let p = at-shared-slice-known2 .before .before .pre in
@@ -52,46 +46,45 @@ returns-4 c =
     (ne-eqb (getD (a .reply .now) stampSize 0) 0 (at-size-of .before .if1 .left)) (sym (same-heads (a .reply .now) (a .candidate .now)
     (λ k. at-shared-slice-known2 .before .shared-slice-known .given k .fits)
     (λ k. at-shared-slice-known2 .shared-slice-known2 .given k .fits) (omega (arith, p .2)) (omega (arith, p .3)))
-    ∙ sym (c .before .same .ensures) ∙ not-true (c .before .same .result) (c .if4 .taken)))
+    ∙ sym (c .before .same .ensures) ∙ not-true (c .before .same .result) (c .if3 .taken)))
 
-abbrev size-of-from-else4 : tie.Else4 → tie.After-size-of
-size-of-from-else4 c = c .before .before .before .before .before .before
+abbrev size-of-from-else3 : tie.Else3 → tie.After-size-of
+size-of-from-else3 c = c .before .before .before .before .before
 
 digests-at-requires : tie.Need-digests-at-requires
-digests-at-requires c κs = let p = shared-slice-known2-from-size-of (size-of-from-else4 c) .before .before .pre in (
+digests-at-requires c κs = let p = shared-slice-known2-from-size-of (size-of-from-else3 c) .before .before .pre in (
   p .0,
   p .1,
   omega arith,
 )
 
 servers-requires : tie.Need-servers-requires
-servers-requires c κs = shared-slice-known2-from-size-of (size-of-from-else4 (c .before)) .before .before .pre .1
+servers-requires c κs = shared-slice-known2-from-size-of (size-of-from-else3 (c .before)) .before .before .pre .1
 
 part-same-end-3 : tie.Need-part-same-end-3
 part-same-end-3 c = let r = c .before .digests-at .ensures .room in omega (
   arith,
   r,
   c .servers .ensures .0,
-  shared-slice-known2-from-size-of (size-of-from-else4 (c .before .before)) .before .before .pre .2,
+  shared-slice-known2-from-size-of (size-of-from-else3 (c .before .before)) .before .before .pre .2,
 )
 
-returns-5 : tie.Need-returns-5
-returns-5 c =
-    let at-else4 = c .before .before .before .before in
-    let at-size-of = size-of-from-else4 at-else4 in
+returns-4 : tie.Need-returns-4
+returns-4 c =
+    let at-else3 = c .before .before .before .before in
+    let at-size-of = size-of-from-else3 at-else3 in
     let at-shared-slice-known2 = shared-slice-known2-from-size-of at-size-of in
     let a = at-shared-slice-known2 .before .before .args in
     let p = at-shared-slice-known2 .before .before .pre in
     let f : Full (a .reply .now) =
     record {
       flag = ne-eqb (getD (a .reply .now) stampSize 0) 0 (at-size-of .before .if1 .left);
-      least = omega (arith, at-size-of .size-of .ensures);
       top = omega (arith, at-size-of .size-of .ensures);
     } in
     let q : sameStamp (stampAt (a .reply .now)) (stampAt (a .candidate .now)) ≡ true =
     sym (same-heads (a .reply .now) (a .candidate .now) (λ k. at-shared-slice-known2 .before .shared-slice-known .given k .fits)
     (λ k. at-shared-slice-known2 .shared-slice-known2 .given k .fits) (omega (arith, p .2)) (omega (arith, p .3)))
-    ∙ sym (at-else4 .before .same .ensures) ∙ not-false (at-else4 .before .same .result) (at-else4 .if4 .left) in
+    ∙ sym (at-else3 .before .same .ensures) ∙ not-false (at-else3 .before .same .result) (at-else3 .if3 .left) in
     let at : ℕ = c .before .before .before .digests-at .result + 32 * c .before .before .servers .result in
     let e : at ≡ digestsIn (shelf (a .t)) (a .reply .now) + digestsSize (shelf (a .t)) =
     omega (
@@ -105,10 +98,10 @@ returns-5 c =
     ∙ sym (names-last (shelf (a .t)) (a .reply .now) (a .candidate .now) (a .d .now) f q)
 
 pub names-spec : {M : Type 1} → statement M
-names-spec = tie.close (tie.spec (λ c. search needs) returns (λ c κs. search needs) returns-2 returns-3 (λ c. search needs) (λ c. search needs)
-    (λ c. search needs) (λ c. search needs) (λ c. search needs) (λ c. search needs) (λ c κs. search needs) returns-4 digests-at-requires
+names-spec = tie.close (tie.spec (λ c. search needs) returns (λ c κs. search needs) returns-2 (λ c. search needs) (λ c. search needs)
+    (λ c. search needs) (λ c. search needs) (λ c. search needs) (λ c. search needs) (λ c κs. search needs) returns-3 digests-at-requires
     servers-requires (λ c. omega (arith, c .before .digests-at .ensures .room, c .servers .ensures .0))
     (λ c. omega (arith, c .before .digests-at .ensures .room, c .servers .ensures .0))
     (λ c. omega (arith, c .before .digests-at .ensures .room, c .servers .ensures .0))
     (λ c. omega (arith, c .before .digests-at .ensures .room, c .servers .ensures .0))
-    (λ c. omega (arith, c .before .digests-at .ensures .room, c .servers .ensures .0)) part-same-end-3 (λ c κs. search needs) returns-5)
+    (λ c. omega (arith, c .before .digests-at .ensures .room, c .servers .ensures .0)) part-same-end-3 (λ c κs. search needs) returns-4)

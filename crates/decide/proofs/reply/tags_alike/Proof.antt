@@ -3,12 +3,11 @@ use mathlib.Core.Path.{_≡_, sym, ap, _∙_}
 use mathlib.Core.List.{List}
 use Prim.Native.Nat.{ℕ, suc, _+_, _-_, _*_, _≤_}
 use native.Mathlib.Omega.{arith}
-use lib.Dec.{leb}
 use lib.ListN.{length, take, drop}
 use borrow.Author.Needs.{needs}
 use borrow.Author.Tests.{le-leb, lt-leb}
 use Rattle.cluster.specs.Config.{shelf}
-use Rattle.cluster.specs.Ranges.{leastLength, topLength, mostServers}
+use Rattle.cluster.specs.Ranges.{topLength, mostServers}
 use Rattle.protocol.specs.Values.{sameList, stampSize, nonceSize, tagsSize}
 use Rattle.protocol.specs.View.{candidateSlot, candidatesPlace, repliesPlace, replySlot, keptSize}
 use Rattle.format.specs.Reading.{bytesAt}
@@ -17,7 +16,6 @@ use Rattle.decide.proofs.Places.{part-of, candidate-tags}
 use Rattle.decide.proofs.Replies.{reply-tags, sizeIn, lent-length, lentSlot, slot-lent, share-size}
 use Rattle.decide.proofs.Arguments.{few}
 use Rattle.hmac.specs.Hmac.{tagSize}
-use mathlib.Core.Bool.{and-false}
 use Rattle.decide.proofs.reply.tags_alike.Statement.{statement}
 use Rattle.decide.proofs.reply.tags_alike.Tie as tie
 
@@ -37,37 +35,21 @@ returns : tie.Need-returns
 unfolding sameTagsAt
 returns c =
     let a = c .before .before .before .before .args in
-    rw (lt-leb leastLength (shareOf (a .t) (a .kept .now) (suc (a .j)) .size) (omega
+    rw (lt-leb (shareOf (a .t) (a .kept .now) (suc (a .j)) .size) topLength (omega
     (arith, c .if1 .taken, size (a .t) (a .kept .now) (a .j) (c .before .size-of .result) (c .before .size-of .ensures))))
 
-returns-2 : tie.Need-returns-2
-unfolding sameTagsAt
-returns-2 c =
-    let a = c .before .before .before .before .before .args in
-    rw (
-      lt-leb (shareOf (a .t) (a .kept .now) (suc (a .j)) .size) topLength (omega (
-        arith,
-        c .if2 .taken,
-        size (a .t) (a .kept .now) (a .j)
-            (c .before .before .size-of .result) (c .before .before .size-of .ensures),
-      )),
-      and-false
-          (leb leastLength (shareOf (a .t) (a .kept .now) (suc (a .j)) .size)),
-    )
-
 servers-requires : tie.Need-servers-requires
-servers-requires c κs = c .before .before .before .before .before .pre .0 .high
+servers-requires c κs = c .before .before .before .before .pre .0 .high
 
 -- Places far back, each named once: the place, and from where it is seen.
 abbrev start-from-servers : tie.After-servers → tie.Start
-start-from-servers c = c .before .before .before .before .before .before
+start-from-servers c = c .before .before .before .before .before
 
 tags-place-requires : tie.Need-tags-place-requires
 tags-place-requires c κs = let p = start-from-servers c .pre in (
   p .0 .low,
   p .0 .high,
-  omega
-      (arith, c .before .if2 .left),
+  omega (arith, c .before .if1 .left),
 )
 
 -- the tags of both end within their slots
@@ -79,26 +61,22 @@ fine c =
     let e = c .before .servers .ensures .0 in
     (u .size, omega (arith, e, few u), omega (arith, e, c .tags-place .ensures .room))
 
-returns-3 : tie.Need-returns-3
+returns-2 : tie.Need-returns-2
 unfolding sameTagsAt
-returns-3 c =
+returns-2 c =
     let at-servers = c .before .before .before .before in
     let at-start = start-from-servers at-servers in
     let a = at-start .args in
     let p = at-start .pre in
-    let n = at-servers .before .before .before .size-of .result in
-    let z = size (a .t) (a .kept .now) (a .j) (at-servers .before .before .before .size-of .result)
-    (at-servers .before .before .before .size-of .ensures) in
+    let z = size (a .t) (a .kept .now) (a .j) (at-servers .before .before .size-of .result)
+    (at-servers .before .before .size-of .ensures) in
     let at : ℕ = repliesPlace + replySlot * a .j + c .before .before .before .tags-place .result in
     let w : ℕ = 32 * at-servers .servers .result in
     let e : w ≡ tagsSize (shelf (a .t)) = omega (arith, at-servers .servers .ensures .0) in
-    rw (
-      le-leb leastLength (shareOf (a .t) (a .kept .now) (suc (a .j)) .size) (omega (arith, at-servers .before .before .if1 .left, z)),
-      le-leb (shareOf (a .t) (a .kept .now) (suc (a .j)) .size) topLength (omega (arith, at-servers .before .if2 .left, z)),
-    )
+    rw (le-leb (shareOf (a .t) (a .kept .now) (suc (a .j)) .size) topLength (omega (arith, at-servers .before .if1 .left, z)))
     (c .same .ensures ∙ both (a .kept .now) at (candidatesPlace + candidateSlot * a .i + (stampSize + nonceSize)) w (tagsSize (shelf (a .t))) e
     ∙ ap (λ (x : List ℕ). sameList x (bytesAt (a .kept .now) (candidatesPlace + candidateSlot * a .i + (stampSize + nonceSize))
-    (tagsSize (shelf (a .t))))) (sym (reply-tags (a .t) (a .kept .now) (a .j) (at-servers .before .before .before .size-of .result) at z
+    (tagsSize (shelf (a .t))))) (sym (reply-tags (a .t) (a .kept .now) (a .j) (at-servers .before .before .size-of .result) at z
     (omega (arith, c .before .before .before .tags-place .ensures .place, at-servers .servers .ensures .0))
     (omega (arith, c .before .before .before .tags-place .ensures .room, c .before .before .before .tags-place .ensures .place))))
     ∙ ap (sameList (shareOf (a .t) (a .kept .now) (suc (a .j)) .tags)) (sym (candidate-tags (shelf (a .t)) (a .kept .now) (a .i) (p .1)
@@ -108,8 +86,8 @@ pub tags-alike-spec : {M : Type 1} → statement M
 tags-alike-spec = tie.close (tie.spec (λ c. omega (arith, c .before .pre .0 .size)) (λ c. omega (arith, c .before .pre .0 .size))
     (λ c. omega (arith, c .before .pre .0 .size)) (λ c. omega (arith, c .before .pre .0 .size)) (λ c. omega (arith, c .before .pre .0 .size))
     (λ c. omega (arith, c .before .pre .0 .size)) (λ c. omega (arith, c .before .pre .0 .size)) (λ c. omega (arith, c .before .pre .0 .size))
-    (λ c. omega (arith, c .before .pre .0 .size)) size-of-requires returns returns-2 servers-requires tags-place-requires (λ c. omega (arith, fine c))
+    (λ c. omega (arith, c .before .pre .0 .size)) size-of-requires returns servers-requires tags-place-requires (λ c. omega (arith, fine c))
     (λ c. omega (arith, fine c)) (λ c. omega (arith, fine c))
     (λ c. omega (arith, fine c)) (λ c. omega (arith, fine c)) (λ c. omega (arith, fine c)) (λ c. omega (arith, fine (c .before)))
     (λ c. omega (arith, fine (c .before))) (λ c. omega (arith, fine (c .before))) (λ c. omega (arith, fine (c .before)))
-    (λ c. omega (arith, fine (c .before))) (λ c κs. search needs) returns-3)
+    (λ c. omega (arith, fine (c .before))) (λ c κs. search needs) returns-2)

@@ -8,8 +8,8 @@ use native.Mathlib.Omega.{arith}
 use Prim.Native.Nat.{_+_, _≤_}
 use mathlib.Core.Path.{_∙_}
 use borrow.Author.Needs.{needs}
-use Rattle.cluster.specs.Ranges.{topWriter, topClient, leastLength, topLength}
-use Rattle.cluster.proofs.Tests.{within-high}
+use borrow.Author.Tests.{lt-ltb}
+use Rattle.cluster.specs.Ranges.{topWriter, topClient, topLength}
 use Rattle.drill.proofs.steps.write.Statement.{statement}
 use Rattle.drill.proofs.steps.write.Tie as tie
 
@@ -34,7 +34,7 @@ returns-2 c =
     write-stays (a .t) (a .begun) (a .client) (a .size) (a .fill) (at-start .pre .0 .0 .1) (a .work .now) 5
     (λ y z. no-size (a .t) (a .client) (at-start .pre .0 .0) y z _ _
     (inside 1 topWriter (a .client) (writer-in (c .before .before))) (rw length-replicate
-    (within-high leastLength topLength (a .size) (omega arith) (omega arith)))) (c .refused2 .ensures)
+    (lt-ltb topLength (a .size) (c .before .if2 .taken)))) (c .refused2 .ensures)
 
 -- Places far back, each named once: the place, and from where it is seen.
 abbrev start-from-nonce-for : tie.After-nonce-for → tie.Start

@@ -4,7 +4,7 @@ use borrow.Author.Needs.{needs}
 use mathlib.Core.List.{List}
 use Prim.Native.Nat.{ℕ}
 use Rattle.cluster.specs.Config.{Config, shelf}
-use Rattle.cluster.specs.Ranges.{leastLength, topLength}
+use Rattle.cluster.specs.Ranges.{topLength}
 use Rattle.protocol.specs.Values.{digestSize, digestsSize, tagsSize}
 use Rattle.protocol.specs.Packet.{shareF}
 use Rattle.format.proofs.Leaves.{stops-first, stops-via}
@@ -35,7 +35,7 @@ module _ (c : tie.After-n) where
   abbrev p1 : ℕ
   p1 = c .n .given .0 .1 .0 .at
 
-  length-took : TookAt (number2L leastLength topLength) s at size p1
+  length-took : TookAt (number2L 0 topLength) s at size p1
   length-took = rw (c .n .given .1) at (c .before .before .number2-field .ensures)
 
 module _ (c : tie.After-c2) where
@@ -125,7 +125,7 @@ returns-6 c =
     share-took (form (n b)) (length-took (n b)) (fragment-ran b) (digests-ran (c3 a)) (nonce-ran a) (tags-ran (c .before))
 
 pub share-field-spec : {M : Type 1} → statement M
-share-field-spec = tie.close (tie.spec (λ c. search needs) (λ c. search needs) (λ c κs. search needs) (λ c. search needs) (λ c. search needs) returns
+share-field-spec = tie.close (tie.spec (λ c. search needs) (λ c κs. search needs) (λ c. search needs) (λ c. search needs) returns
     (λ c κs. search needs) run-field-requires (λ c. search needs) (λ c. search needs) returns-2 (λ c κs. search needs) run-field-requires-2
     (λ c. search needs) (λ c. search needs) returns-3 run-field-requires-3 (λ c. search needs) (λ c. search needs) returns-4 (λ c κs. search needs)
     run-field-requires-4 (λ c. search needs) (λ c. search needs) returns-5 returns-6)
