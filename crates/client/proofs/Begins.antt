@@ -1,7 +1,7 @@
 -- What a begin does in each of its cases: kept bytes of another length, a refusal, or a call that begins; and what an accepted begin tells of its
 -- arguments. Each is the definition with the case's tests put in. Assumes nothing.
 use mathlib.Core.Path.{_≡_, _∙_}
-use mathlib.Core.Bool.{true, false, not}
+use mathlib.Core.Bool.{true, false}
 use mathlib.Core.List.{List}
 use Prim.Native.Nat.{ℕ, suc, _≤_, _<_, _*_}
 use lib.Dec.{leb, ltb}
@@ -9,7 +9,7 @@ use lib.ListN.{length, replicate}
 use borrow.Author.Tests.{eq-eqb, ne-eqb, leb-false, ltb-false}
 use Rattle.cluster.specs.Config.{shelf}
 use Rattle.cluster.specs.Ranges.{mostServers, topNumber, topLength}
-use Rattle.cluster.proofs.Tests.{inside, passes, refused-is}
+use Rattle.cluster.proofs.Tests.{passes, refused-is}
 use Rattle.protocol.specs.declared.Call.{Call}
 use Rattle.protocol.specs.Client.{badFaults, badClient, writeRefusal, readRefusal}
 use Rattle.protocol.specs.View.{keptSize, noncePlace, candidatesPlace, candidateSlot}

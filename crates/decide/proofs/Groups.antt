@@ -19,7 +19,6 @@ use Rattle.protocol.specs.Values.{Candidate, Share, Held, sameList, sameStamp, 
 use Rattle.protocol.specs.Primitives.{real}
 use Rattle.protocol.specs.Rules.{countTo, shareFits, fits, sameShare, agrees, leads, leader}
 use Rattle.protocol.specs.View.{shareOfSize, heldAt, marked, candidatesIn, repliesIn, replySlotOf}
-use Rattle.format.specs.Reading.{bytesAt}
 use Rattle.protocol.proofs.Equal.{same-refl}
 use Rattle.decide.specs.Steps.{namesShare, names, intact, serversOf, fitsAt, agreesAt, leadsAt, leaderAt, slotHeld, Full, membersAt}
 use Rattle.decide.proofs.Counted.{servers-length}
