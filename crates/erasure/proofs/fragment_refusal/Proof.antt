@@ -24,12 +24,17 @@ server-tested c =
     ap (λ (s : ℕ). not (within 1 s (c .before .before .before .before .args .server))) (sym (c .before .servers-of .ensures)) ∙ sym
     (c .outside2 .ensures)
 
+-- Places far back, each named once: the place, and from where it is seen.
+abbrev else1-from-else2 : tie.Else2 → tie.Else1
+else1-from-else2 c = c .before .before .before
+
 -- past two tests, the number is that of the last
-last-test : (c : tie.Else2) (b : Bool) → let args = c .before .before .before .before .before .args in ltb topLength (args .n) ≡ b
+last-test : (c : tie.Else2) (b : Bool) → let args = else1-from-else2 c .before .before .args in ltb topLength (args .n) ≡ b
     → fragmentRefusal (args .t) (args .server) (args .n) ≡ cond b 6 0
 last-test c b =
-    let args = c .before .before .before .before .before .args in
-    fragment-tests (args .t) (args .server) (args .n) false false b (faults-in (c .before .before .before)) (server-tested (c .before) ∙ c .if2 .left)
+    let at-else1 = else1-from-else2 c in
+    let args = at-else1 .before .before .args in
+    fragment-tests (args .t) (args .server) (args .n) false false b (faults-in at-else1) (server-tested (c .before) ∙ c .if2 .left)
 
 -- ---- the needs
 
@@ -48,10 +53,10 @@ returns-2 c =
     (server-tested (c .before) ∙ c .if2 .taken) refl)
 
 returns-3 : tie.Need-returns-3
-returns-3 c = sym (last-test (c .before) true (lt-ltb topLength (c .before .before .before .before .before .before .args .n) (c .if3 .taken)))
+returns-3 c = sym (last-test (c .before) true (lt-ltb _ _ (c .if3 .taken)))
 
 returns-4 : tie.Need-returns-4
-returns-4 c = sym (last-test (c .before) false (le-ltb topLength (c .before .before .before .before .before .before .args .n) (c .if3 .left)))
+returns-4 c = sym (last-test (c .before) false (le-ltb _ _ (c .if3 .left)))
 
 pub fragment-refusal-spec : {M : Type 1} → statement M
 fragment-refusal-spec = tie.close (tie.spec (λ c κs. search needs) returns servers-of-requires (λ c κs. search needs) returns-2 returns-3 returns-4)

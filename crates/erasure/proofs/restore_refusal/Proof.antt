@@ -60,7 +60,7 @@ module _ (c : tie.Else2) where
       (servers-tested (c .before) ∙ c .if2 .left)
 
 length-in : (c : tie.Else3) → ltb topLength (n (past (c .before))) ≡ false
-length-in c = le-ltb topLength (n (past (c .before))) (c .if3 .left)
+length-in c = le-ltb _ _ (c .if3 .left)
 
 module _ (c : tie.After-threshold-of) where
   abbrev second : tie.Else2
@@ -99,7 +99,7 @@ returns-2 c =
     refl refl)
 
 returns-3 : tie.Need-returns-3
-returns-3 c = sym (other-tests (c .before) true _ _ (lt-ltb topLength (n (past (c .before))) (c .if3 .taken)) refl refl)
+returns-3 c = sym (other-tests (c .before) true _ _ (lt-ltb _ _ (c .if3 .taken)) refl refl)
 
 returns-4 : tie.Need-returns-4
 returns-4 c =

@@ -25,7 +25,7 @@ abbrev else1-from-else3 : tie.Else3 → tie.Else1
 else1-from-else3 c = c .before .before .before
 
 past₃ : (c : tie.Else3) → ltb topLength (else1-from-else3 c .before .before .args .n) ≡ false
-past₃ c = le-ltb topLength (else1-from-else3 c .before .before .args .n) (c .if3 .left)
+past₃ c = le-ltb _ _ (c .if3 .left)
 
 past₄ : (c : tie.Else4) → inHand (else1-from-else3 (c .before .before) .before .before .args .call) ≡ false
 past₄ c = sym (c .before .is-pending .ensures) ∙ c .if4 .left
@@ -40,7 +40,7 @@ returns-2 c = rw (past₁ (c .before .before), sym (c .before .outside2 .ensures
 
 returns-3 : tie.Need-returns-3
 unfolding writeRefusal shelf
-returns-3 c = rw (past₁ (c .before .before .before), past₂ (c .before), lt-ltb topLength (c .before .before .before .before .before .args .n) (c .if3 .taken))
+returns-3 c = rw (past₁ (c .before .before .before), past₂ (c .before), lt-ltb _ _ (c .if3 .taken))
 
 returns-4 : tie.Need-returns-4
 unfolding writeRefusal shelf
