@@ -6,15 +6,15 @@ use cendrulas::{listing_room, Listing, WORK_AREA};
 use std::path::Path;
 
 pub fn sheets(run: &mut Run, folder: &Path) {
-    let mut names: Vec<_> = std::fs::read_dir(folder.join("sheets"))
+    let mut names: Vec<_> = std::fs::read_dir(folder.join("vectors/drill"))
         .expect("the folder of sheets")
         .map(|entry| entry.expect("an entry").path())
-        .filter(|path| path.extension().is_some_and(|e| e == "sheet"))
+        .filter(|path| path.extension().is_some_and(|e| e == "in"))
         .collect();
     names.sort();
     for path in names {
         let sheet = std::fs::read(&path).expect("a sheet");
-        let listing = std::fs::read(path.with_extension("expected")).expect("its listing");
+        let listing = std::fs::read(path.with_extension("out")).expect("its listing");
         let mut out = vec![FILLER; listing_room(&sheet) + 7];
         let mut work = vec![FILLER; WORK_AREA];
         let got = cendrulas::drill(&sheet, &mut out, &mut work);
