@@ -50,7 +50,8 @@ const BEGIN_WRITE: &str = "accepted,accepted of no bytes,refused 3,refused 5,ref
 const BEGIN_READ: &str = "accepted,refused 3,refused 5,refused 13,refused 14,refused 255";
 const MAKE: &str = "clock,store,complete,collect,filter,repair,refused 3,refused 4,refused 5,refused 13,refused 15,refused 255";
 const TAKE: &str = "clock goes on,store goes on,complete goes on,collect goes on,filter goes on,repair goes on,server is full,written,\
-    read by filter,read by repair,read by filter of no bytes,read by repair of no bytes,blank,refused 3,refused 5,refused 7,refused 8,refused 12,refused 13,refused 14,refused 15,refused 255";
+    read by filter,read by repair,read by filter of no bytes,read by repair of no bytes,blank,\
+    refused 3,refused 5,refused 7,refused 8,refused 12,refused 13,refused 14,refused 15,refused 255";
 const GIVE_UP: &str = "before complete,in complete,refused 3,refused 5,refused 13,refused 255";
 const LISTING: &str = "0,1,2,2 of no bytes,3,4,5,103,104,105,106,112,113,117";
 
