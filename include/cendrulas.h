@@ -5,7 +5,7 @@
  * buffer that is written overlaps no other argument. Where a length is 0 the pointer may be anything, NULL too: it is never followed.
  *
  * Words: t is the number of servers that may lie, 1 to 4; there are S = 3t+1 servers, numbered from 1; clients are 1 to 16, and only 1 to 8 write;
- * a content has 1 to 1,024 bytes. Document 01 says box for server and record for content.
+ * a content has 0 to 1,024 bytes. Document 01 says box for server and record for content.
  *
  * The library keeps nothing between calls and has no global state: a server is the bytes that it is lent, a client likewise. A call with
  * another t or client than the one before is not refused, so ordinary programs use cendrulas_parties.h, where a client keeps both
@@ -86,7 +86,7 @@ static inline const char *cendrulas_refusal_name(unsigned refusal) {
     case 3: return "t outside 1 to 4";
     case 4: return "server outside 1 to 3t+1";
     case 5: return "client outside 1 to 16, or a write by 9 to 16";
-    case 6: return "content length outside 1 to 1,024";
+    case 6: return "content length above 1,024";
     case 7: return "bytes that are no packet";
     case 8: return "packet for another t, server or client";
     case 9: return "packet that no client may send here";
@@ -115,15 +115,15 @@ uint64_t cendrulas_tag(const uint8_t *key, size_t key_len, const uint8_t *messag
 
 /* A server's fragment of the content: f bytes, f = content_len / (t+1) rounded up; at most 512.
  * Refusals: 255 where out_len < 512, however short the fragment; 3 where t is outside 1 to 4; 4 where server is outside 1 to 3t+1;
- * 6 where content_len is outside 1 to 1,024. Writes the fragment; count f. */
+ * 6 where content_len is above 1,024. Writes the fragment; count f, which is 0 for a content of no bytes. */
 uint64_t cendrulas_fragment(size_t t, size_t server, const uint8_t *content, size_t content_len,
                             uint8_t *out, size_t out_len);
 
 /* The content of `length` bytes from fragments of the servers named, which stand one after the other in `fragments`, each of f bytes.
  * The first t+1 different servers are used; a server's second fragment is ignored.
- * Refusals: 3 where t is outside 1 to 4; 4 where a server is outside 1 to 3t+1; 6 where length is outside 1 to 1,024;
+ * Refusals: 3 where t is outside 1 to 4; 4 where a server is outside 1 to 3t+1; 6 where length is above 1,024;
  * 15 where out_len < 1,024; 16 where fragments_len is not servers_len times f, or fewer than t+1 different servers are named.
- * Writes the content; count length. */
+ * Writes the content; count length. All this holds for a content of no bytes too, whose fragments are empty. */
 uint64_t cendrulas_restore(size_t t, size_t length, const size_t *servers, size_t servers_len,
                            const uint8_t *fragments, size_t fragments_len, uint8_t *out, size_t out_len);
 
@@ -149,7 +149,7 @@ uint64_t cendrulas_store_code(const uint8_t *packet, size_t packet_len);
 
 /* What a shelf takes, for contents of `length` bytes: the length of each packet; the packets of a write and of so many clients' reads, one each, when
  * each round goes to all S servers and all of them reply; and a server's memory after `stores` stores of that length, all kept.
- * Refusals: 255 where numbers_len < 36; 3 where t is outside 1 to 4; 5 where readers is outside 1 to 16; 6 where length is outside 1 to 1,024;
+ * Refusals: 255 where numbers_len < 36; 3 where t is outside 1 to 4; 5 where readers is outside 1 to 16; 6 where length is above 1,024;
  * 18 where stores is above 32. Writes 36 numbers; count 36. */
 uint64_t cendrulas_plan(size_t t, size_t length, size_t readers, size_t stores, size_t *numbers, size_t numbers_len);
 
@@ -179,8 +179,8 @@ uint64_t cendrulas_client_round(const uint8_t *state, size_t state_len);
 
 /* Begins a write. The nonce has 32 bytes that nobody can guess and that no other write of the shelf gets.
  * Refusals: 255 where state_len is not 24,640 or nonce_len is not 32; 3 where t is outside 1 to 4; 5 where client is outside 1 to 8;
- * 6 where content_len is outside 1 to 1,024; 13 where a call is in hand; 14 where the call numbers are used up.
- * Changes the state; content and nonce are kept there. Count 0. */
+ * 6 where content_len is above 1,024; 13 where a call is in hand; 14 where the call numbers are used up.
+ * Changes the state; content and nonce are kept there. Count 0. A content of no bytes is written like any other; its pointer may be NULL. */
 uint64_t cendrulas_client_begin_write(uint8_t *state, size_t state_len, size_t t, size_t client,
                                       const uint8_t *content, size_t content_len,
                                       const uint8_t *nonce, size_t nonce_len);
@@ -203,7 +203,8 @@ uint64_t cendrulas_client_make(const uint8_t *state, size_t state_len, size_t t,
  * no call is in hand; 12 where it is no reply of this call and round, or this server has replied in it; 14 where it would end the first round
  * and the stamps' numbers are used up; 15 where out_len < 1,024, whatever the reply. Changes the state.
  * Results: 0 the call goes on; 1 written, with the stamp's number and writer; 2 read, with the stamp's number and writer, the content at the front
- * of `out` and its length as count; 3 read blank: no write stands before this read. With 1, 2 and 3 the call has ended. */
+ * of `out` and its length as count; 3 read blank: no write stands before this read. With 1, 2 and 3 the call has ended. A content of no bytes is
+ * result 2 with count 0: the result tells it from a blank shelf, and the count never does. */
 uint64_t cendrulas_client_take(uint8_t *state, size_t state_len, size_t t, size_t client,
                                const uint8_t *writers, size_t writers_len, const uint8_t *keys, size_t keys_len,
                                const uint8_t *packet, size_t packet_len, uint8_t *out, size_t out_len);

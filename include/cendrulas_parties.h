@@ -11,7 +11,8 @@
 extern "C" {
 #endif
 
-/* An output: what was written last stands at the front, `length` bytes; 0 where the call was refused or gave none. */
+/* An output: what was written last stands at the front, `length` bytes; 0 where the call was refused or gave none. A content may have none itself:
+ * the answer tells, not the length. */
 struct cendrulas_packet {
     size_t length;
     uint8_t bytes[CENDRULAS_PACKET_ROOM];

@@ -11,14 +11,15 @@ use std::time::Duration;
 const WRITES: usize = 32;
 
 pub fn rows(table: &mut Table) {
-    for t in [1, 4] {
-        let data = content(1_024);
-        let name = format!("whole write of 1,024 bytes, 0 to 31 held, t = {t}");
-        let (mut ours, mut plain) = (Shelf::<Proved>::new(t), Shelf::<Plain>::new(t));
-        table.batches(&name, WRITES, || ours.writes(&data), || plain.writes(&data));
-        let name = format!("whole read of 1,024 bytes, 32 held, t = {t}");
-        table.row(&name, || ours.read(), || plain.read());
-        assert!(ours.out == data && plain.out == data, "{name}: not what was written");
+    for (length, words) in [(1_024, "1,024 bytes"), (0, "no bytes")] {
+        for t in [1, 4] {
+            let data = content(length);
+            let (mut ours, mut plain) = (Shelf::<Proved>::new(t), Shelf::<Plain>::new(t));
+            table.batches(&format!("whole write of {words}, 0 to 31 held, t = {t}"), WRITES, || ours.writes(&data), || plain.writes(&data));
+            let name = format!("whole read of {words}, 32 held, t = {t}");
+            table.row(&name, || ours.read(), || plain.read());
+            assert!(ours.out[..length] == data && plain.out[..length] == data, "{name}: not what was written");
+        }
     }
 }
 

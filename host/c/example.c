@@ -1,6 +1,7 @@
-/* A shelf of four servers of which one may fail in any way (t = 1), all in one process. One scope writes a record, a server loses
- * everything, and another scope still reads the record. Then the first scope writes until the shelf is full. Servers write their flash only where
- * their memory changed; the scope keeps its client in flash with a checksum. docs/EMBEDDING.md has this file; host/test compiles and runs it. */
+/* A shelf of four servers of which one may fail in any way (t = 1), all in one process. A scope reads the blank shelf, and then a record of no bytes,
+ * which is another answer. One of some bytes is written, a server loses everything, and the record is still read. Then the writer goes on until the
+ * shelf is full. Servers write their flash only where their memory changed; the scope keeps its client in flash with a checksum. docs/EMBEDDING.md
+ * has this file; host/test compiles and runs it. */
 #include "cendrulas_parties.h"
 
 #include <stdio.h>
@@ -129,8 +130,15 @@ static uint64_t read_record(struct scope *scope, struct cendrulas_content *conte
     return finish(scope, content, &full);
 }
 
-static void show(const char *what, uint64_t answer) {
-    printf("%s number %lu of scope %u\n", what, (unsigned long)cendrulas_number(answer), cendrulas_writer(answer));
+/* What a call has led to. A record of no bytes is told from a blank shelf by the result, never by its length. */
+static void show(uint64_t answer) {
+    unsigned long number = cendrulas_number(answer), length = cendrulas_count(answer);
+    switch (cendrulas_result(answer)) {
+    case CENDRULAS_WRITTEN: printf("written: number %lu of scope %u\n", number, cendrulas_writer(answer)); break;
+    case CENDRULAS_READ: printf("read: number %lu of scope %u, %lu bytes\n", number, cendrulas_writer(answer), length); break;
+    case CENDRULAS_BLANK: puts("read: blank, nothing was written before"); break;
+    default: puts("given up");
+    }
 }
 
 /* Scope 1 with all keys, scope 9 with none, and servers that were never used. */
@@ -149,17 +157,20 @@ int main(void) {
     static struct scope writer, reader;
     static struct cendrulas_content content;
     static const char record[] = "CH1 500 mV/div 20 us/div";
-    unsigned full, writes = 1;
+    unsigned full, writes = 2;
 
     if (cendrulas_version() != CENDRULAS_VERSION) {
         fputs("example: this header is not the archive's\n", stderr);
         return 1;
     }
     set_up(&writer, &reader);
-    show("written", write_record(&writer, record, &full));
+    show(read_record(&reader, &content));
+    show(write_record(&writer, "", &full)); /* a channel that is off */
+    show(read_record(&reader, &content));
+    show(write_record(&writer, record, &full));
     cendrulas_blank(&servers[1], T, 2); /* server 2 loses everything */
     uint64_t answer = read_record(&reader, &content);
-    show("read", answer);
+    show(answer);
     printf("%.*s\n", (int)content.length, (const char *)content.bytes);
 
     writer.flash.client.state[7] ^= 1;

@@ -67,6 +67,15 @@ static uint64_t fresh(int function, int is_null) {
     return call(function);
 }
 
+/* A content of no bytes is one: lent as NULL it is written and has fragments, and it comes back from fragments that are NULL. */
+static int no_content(void) {
+    set_up();
+    cendrulas_give_up(&client);
+    return cendrulas_begin_write(&client, NULL, 0, nonce) == 0 && cendrulas_round(&client) == 1 &&
+           cendrulas_fragment(1, 1, NULL, 0, out, CENDRULAS_FRAGMENT_ROOM) == 0 &&
+           cendrulas_restore(1, 0, numbers, 2, NULL, 0, out, CENDRULAS_CONTENT_ROOM) == 0;
+}
+
 int main(void) {
     static const uint8_t empty[4] = {0xe3, 0xb0, 0xc4, 0x42}; /* the digest of the empty message begins so */
     unsigned calls = 0;
@@ -86,6 +95,10 @@ int main(void) {
     chosen = 1;
     if (cendrulas_refusal(fresh(0, 1)) != 0 || memcmp(out, empty, sizeof empty) != 0 || cendrulas_refusal(fresh(15, 1)) != 0) {
         puts("null: an empty message or sheet is not taken");
+        return 1;
+    }
+    if (!no_content()) {
+        puts("null: a content of no bytes is not taken");
         return 1;
     }
     printf("NULL with length 0 is taken for every pointer, %u calls\n", calls);

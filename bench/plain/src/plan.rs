@@ -17,7 +17,7 @@ pub fn plan(t: usize, length: usize, readers: usize, stores: usize, numbers: &mu
     if !(1..=16).contains(&readers) {
         return Err(Refusal::BadClient);
     }
-    if !(1..=RECORD_MAX).contains(&length) {
+    if length > RECORD_MAX {
         return Err(Refusal::BadLength);
     }
     if stores > HISTORY_PLACES {

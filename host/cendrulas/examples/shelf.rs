@@ -1,8 +1,9 @@
-//! A shelf of four servers of which one may fail in any way (t = 1), all in one process. One scope writes a record, a server loses
-//! everything, and another scope still reads the record. Then the first scope writes until the shelf is full. Servers write their flash only where
-//! their memory changed; the scope keeps its state in flash with a checksum. docs/EMBEDDING.md has this file; host/test runs it.
+//! A shelf of four servers of which one may fail in any way (t = 1), all in one process. A scope reads the blank shelf, and then a record of no bytes,
+//! which is another answer. One of some bytes is written, a server loses everything, and the record is still read. Then the writer goes on until the
+//! shelf is full. Servers write their flash only where their memory changed; the scope keeps its state in flash with a checksum. docs/EMBEDDING.md
+//! has this file; host/test runs it.
 
-use cendrulas::{stored, Client, Keys, Label, Refusal, Server, Stored, Taken, CONTENT_ROOM, PACKET_ROOM, SERVER_KEYS};
+use cendrulas::{stored, Client, Keys, Refusal, Server, Stored, Taken, CONTENT_ROOM, PACKET_ROOM, SERVER_KEYS};
 use std::collections::BTreeSet;
 use std::io::Read;
 
@@ -119,8 +120,14 @@ impl Shelf {
     }
 }
 
-fn show(what: &str, label: Label) {
-    println!("{what} number {} of scope {}", label.number, label.writer);
+/// What a call has led to. A record of no bytes is told from a blank shelf by the answer, never by its length.
+fn show(ended: &Ended) {
+    match ended {
+        Ended::By(Taken::Written(label)) => println!("written: number {} of scope {}", label.number, label.writer),
+        Ended::By(Taken::Read(label, length)) => println!("read: number {} of scope {}, {length} bytes", label.number, label.writer),
+        Ended::By(Taken::Blank) => println!("read: blank, nothing was written before"),
+        _ => println!("given up"),
+    }
 }
 
 fn main() -> Result<(), Refusal> {
@@ -133,19 +140,22 @@ fn main() -> Result<(), Refusal> {
     let record = b"CH1 500 mV/div 20 us/div";
     let mut content = [0; CONTENT_ROOM];
 
-    let Ended::By(Taken::Written(label)) = shelf.write(&mut writer, record)? else { panic!("not written") };
-    show("written", label);
+    show(&shelf.read(&mut reader, &mut content)?);
+    show(&shelf.write(&mut writer, b"")?); // a channel that is off
+    show(&shelf.read(&mut reader, &mut content)?);
+    show(&shelf.write(&mut writer, record)?);
     shelf.servers[1] = Server::blank(T, 2, key(2))?; // server 2 loses everything
-    let Ended::By(Taken::Read(label, count)) = shelf.read(&mut reader, &mut content)? else { panic!("not read") };
-    show("read", label);
-    println!("{}", String::from_utf8_lossy(&content[..count]));
-    assert_eq!(&content[..count], record);
+    let read = shelf.read(&mut reader, &mut content)?;
+    show(&read);
+    let Ended::By(Taken::Read(_, length)) = read else { panic!("not read") };
+    println!("{}", String::from_utf8_lossy(&content[..length]));
+    assert_eq!(&content[..length], record);
 
     writer.flash.0[7] ^= 1;
     println!("a damaged state is {}", if writer.restore().is_some() { "taken" } else { "refused" });
     writer.flash.0[7] ^= 1;
     writer.restore().expect("a state that is whole");
-    let mut writes = 1;
+    let mut writes = 2;
     let full = loop {
         match shelf.write(&mut writer, record)? {
             Ended::By(_) => writes += 1,

@@ -25,8 +25,9 @@ pub struct Label {
 pub enum Taken {
     GoesOn,
     Written(Label),
-    /// So many bytes of content stand at the front of the output.
+    /// So many bytes of content stand at the front of the output. A content may have none, and is no `Blank` then.
     Read(Label, usize),
+    /// No write stands before this read.
     Blank,
 }
 

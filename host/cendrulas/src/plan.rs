@@ -34,7 +34,7 @@ pub struct Plan {
     numbers: [usize; PLAN],
 }
 
-/// The plan of a shelf of which up to `t` servers may lie (1 to 4), for contents of `length` bytes (1 to 1,024), so many clients that read together
+/// The plan of a shelf of which up to `t` servers may lie (1 to 4), for contents of `length` bytes (0 to 1,024), so many clients that read together
 /// (1 to 16), and so many stores that a server keeps (0 to 32). examples/plan.rs has one.
 pub fn plan(t: usize, length: usize, readers: usize, stores: usize) -> Result<Plan, Refusal> {
     let mut numbers = [0; PLAN];

@@ -33,7 +33,7 @@ const NAMES: [(Refusal, &str); 17] = [
     (Refusal::T, "t outside 1 to 4"),
     (Refusal::Server, "server outside 1 to 3t+1"),
     (Refusal::Client, "client outside 1 to 16, or a write by 9 to 16"),
-    (Refusal::ContentLength, "content length outside 1 to 1,024"),
+    (Refusal::ContentLength, "content length above 1,024"),
     (Refusal::NoPacket, "bytes that are no packet"),
     (Refusal::NotMine, "packet for another t, server or client"),
     (Refusal::NotAllowed, "packet that no client may send here"),

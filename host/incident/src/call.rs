@@ -80,7 +80,7 @@ impl<D: Durable> Scope<D> {
         self.ahead |= answer.is_ok();
         answer.map_err(|refusal| match refusal {
             Refusal::Client => format!("scope {} only loads", self.keys.number),
-            Refusal::ContentLength => format!("a record has 1 to {CONTENT_ROOM} bytes"),
+            Refusal::ContentLength => format!("a record has at most {CONTENT_ROOM} bytes"),
             Refusal::WrongMoment => "a call is in hand: `scope finish` goes on with it, `scope give-up` gives it up".to_owned(),
             other => format!("{what} was refused: {other}"),
         })

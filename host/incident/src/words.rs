@@ -1,15 +1,15 @@
 //! What programs do with the words after their name, and with an error.
 
 use std::net::{SocketAddr, ToSocketAddrs};
-use std::process::ExitCode;
+use std::process::{ExitCode, Termination};
 use std::time::Duration;
 
 /// Runs a program on its words. An error goes to standard error and gives status 1.
-pub fn run(name: &str, program: impl FnOnce(&[&str]) -> Result<(), String>) -> ExitCode {
+pub fn run<A: Termination>(name: &str, program: impl FnOnce(&[&str]) -> Result<A, String>) -> ExitCode {
     let words: Vec<String> = std::env::args_os().skip(1).map(|word| word.to_string_lossy().into_owned()).collect();
     let words: Vec<&str> = words.iter().map(String::as_str).collect();
     match program(&words) {
-        Ok(()) => ExitCode::SUCCESS,
+        Ok(status) => status.report(),
         Err(message) => {
             eprintln!("{name}: {message}");
             ExitCode::FAILURE

@@ -8,7 +8,7 @@ const USAGE: &str = "usage: plan [--csv] T LENGTH READERS STORES, or --help";
 /// The four words, each with its range and the library's refusal where it is outside.
 const WORDS: [(&str, &str, Refusal); 4] = [
     ("T", "1 to 4", Refusal::T),
-    ("LENGTH", "1 to 1024", Refusal::ContentLength),
+    ("LENGTH", "0 to 1024", Refusal::ContentLength),
     ("READERS", "1 to 16", Refusal::Client),
     ("STORES", "0 to 32", Refusal::Stores),
 ];

@@ -1,7 +1,7 @@
 //! What was compared so far, and what a difference prints.
 
 use crate::kinds::Kinds;
-use std::fmt::Debug;
+use std::fmt::{Debug, Display};
 use std::time::Instant;
 
 /// What fills a lent output before a call, so that a byte written past the count is seen.
@@ -58,12 +58,22 @@ impl Run {
         assert_eq!(got.buffers.len(), want.buffers.len());
     }
 
-    pub fn end(self) {
-        println!("{:<24} {:>8} inputs agree, {:.1} s", "all", self.inputs, self.begun.elapsed().as_secs_f64());
+    /// Says which kinds of answers came; ends the run where one is missing.
+    pub fn every_kind(&self) {
         if let Err(missing) = self.kinds.end() {
             fail("the kinds of answers", &missing);
         }
     }
+
+    pub fn end(self) {
+        println!("{:<24} {:>8} inputs agree, {:.1} s", "all", self.inputs, self.begun.elapsed().as_secs_f64());
+    }
+}
+
+/// Ends the run where something cannot be put to the library: where it stands, and why.
+pub fn stop(place: &dyn Display, why: &dyn Display) -> ! {
+    eprintln!("tests: {place}: {why}");
+    std::process::exit(1)
 }
 
 fn fail(input: &str, difference: &str) -> ! {

@@ -15,20 +15,24 @@ const USAGE: &str = "usage: scope new STATE KEY
        scope load STATE KEY BOXES SECONDS > RECORD
        scope finish STATE KEY BOXES SECONDS    (goes on with a call that was cut off)
        scope give-up STATE KEY
-BOXES are the addresses of boxes 1, 2, .. with commas between; a call that has not ended after SECONDS is given up";
+BOXES are the addresses of boxes 1, 2, .. with commas between; a call that has not ended after SECONDS is given up
+Status 1: an error, told on standard error. 3: a load has found that nothing was ever saved";
+
+/// A record of no bytes prints as little as a blank shelf: the status tells them apart.
+const BLANK: u8 = 3;
 
 fn main() -> ExitCode {
     words::run("scope", |words| match *words {
         ["new", state, key] => {
             let (card, keys) = (Card::lock(Path::new(state))?, ScopeKeys::read(Path::new(key))?);
-            Scope::create(card, keys).map(|_| ())
+            Scope::create(card, keys).map(|_| ExitCode::SUCCESS)
         }
         ["give-up", state, key] => {
             let mut scope = open(state, key)?;
             in_hand(&scope)?;
             let outcome = scope.give_up()?;
             println!("{}", given_up(&scope, &outcome));
-            Ok(())
+            Ok(ExitCode::SUCCESS)
         }
         [verb @ ("save" | "load" | "finish"), state, key, boxes, seconds] => run(verb, open(state, key)?, boxes, seconds),
         _ => Err(USAGE.to_owned()),
@@ -43,7 +47,7 @@ fn in_hand(scope: &Scope) -> Result<(), String> {
     if scope.in_hand() { Ok(()) } else { Err("no call is in hand".to_owned()) }
 }
 
-fn run(verb: &str, mut scope: Scope, boxes: &str, seconds: &str) -> Result<(), String> {
+fn run(verb: &str, mut scope: Scope, boxes: &str, seconds: &str) -> Result<ExitCode, String> {
     let boxes: Vec<SocketAddr> = boxes.split(',').map(words::address).collect::<Result<_, _>>()?;
     if boxes.len() != scope.boxes() {
         return Err(format!("the shelf has {} boxes, and {} addresses are given", scope.boxes(), boxes.len()));
@@ -67,7 +71,7 @@ fn record() -> Result<Vec<u8>, String> {
 }
 
 /// A record goes to standard output, what is said about it to standard error.
-fn show(scope: &Scope, outcome: Outcome) -> Result<(), String> {
+fn show(scope: &Scope, outcome: Outcome) -> Result<ExitCode, String> {
     match outcome {
         Outcome::Saved(label) => println!("saved on the shelf, number {}", label.number),
         Outcome::Shown(label, record) => {
@@ -75,10 +79,13 @@ fn show(scope: &Scope, outcome: Outcome) -> Result<(), String> {
             let mut stdout = io::stdout().lock();
             stdout.write_all(&record).and_then(|()| stdout.flush()).map_err(|e| format!("the record can't be shown: {e}"))?;
         }
-        Outcome::Blank => eprintln!("blank: nothing has been saved"),
+        Outcome::Blank => {
+            eprintln!("blank: nothing has been saved");
+            return Ok(ExitCode::from(BLANK));
+        }
         Outcome::GivenUp { .. } => return Err(given_up(scope, &outcome)),
     }
-    Ok(())
+    Ok(ExitCode::SUCCESS)
 }
 
 fn given_up(scope: &Scope, outcome: &Outcome) -> String {

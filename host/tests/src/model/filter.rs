@@ -45,7 +45,7 @@ impl Client<'_> {
     fn reply(&self, server: usize) -> Option<Reply<'_>> {
         let slot = self.slot(server);
         let length = u16::from_be_bytes([slot[38], slot[39]]) as usize;
-        if slot[37] == 0 || !(1..=RECORD_MAX).contains(&length) {
+        if slot[37] == 0 || length > RECORD_MAX {
             return None;
         }
         let (part, rest) = slot[40..].split_at(fragments::fragment_length(self.t as u8, length));

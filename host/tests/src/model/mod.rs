@@ -110,7 +110,7 @@ impl Client<'_> {
 
     pub fn begin_write(&mut self, content: &[u8], nonce: &[u8]) -> Answer {
         let sized = self.state.len() == STATE && nonce.len() == 32;
-        let length = (!(1..=RECORD_MAX).contains(&content.len())).then_some(6);
+        let length = (content.len() > RECORD_MAX).then_some(6);
         let before = (!sized).then_some(WRONG_SIZE).or(self.refusal(8)).or(length);
         let refused = before.or_else(|| self.begin(1).err());
         if let Some(refusal) = refused {

@@ -102,13 +102,11 @@ impl Client<'_> {
         self.enter(2)
     }
 
-    /// The content's fragments for servers 1 to S; of no content, empty ones.
+    /// The content's fragments for servers 1 to S.
     fn pieces(&self) -> Vec<Vec<u8>> {
         let mut all = [0; fragments::ALL_FRAGMENTS];
-        match fragments::make(self.t as u8, self.content(), &mut all) {
-            Ok(f) => all.chunks_exact(f).take(self.servers()).map(<[u8]>::to_vec).collect(),
-            Err(_) => vec![Vec::new(); self.servers()],
-        }
+        let f = fragments::make(self.t as u8, self.content(), &mut all).expect("no state has a longer content");
+        (0..self.servers()).map(|i| all[i * f..(i + 1) * f].to_vec()).collect()
     }
 
     /// The last reply of a round other than clock and filter.

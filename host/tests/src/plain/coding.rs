@@ -31,7 +31,8 @@ pub fn restore(t: usize, length: usize, servers: &[usize], fragments: &[u8], out
     let f = if (1..=4).contains(&t) { fragments::fragment_length(t, length) } else { 0 };
     // fragments of another length in all are as many of a wrong length
     let fits = f.checked_mul(servers.len()) == Some(fragments.len());
-    let piece = |k: usize| if fits { &fragments[k * f..(k + 1) * f] } else { &[][..] };
+    let wrong = if f == 0 { &[0][..] } else { &[] };
+    let piece = |k: usize| if fits { &fragments[k * f..(k + 1) * f] } else { wrong };
     let given: Vec<(u8, &[u8])> = servers.iter().enumerate().map(|(k, &server)| (narrow(server), piece(k))).collect();
     answer(fragments::restore(t, length, &given, out))
 }

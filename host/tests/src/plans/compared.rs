@@ -3,7 +3,7 @@
 
 use super::UNWRITTEN;
 use crate::check::{Run, Seen};
-use crate::kinds::plainly;
+use crate::kinds::{emptied, kind};
 use crate::plain;
 use cendrulas::{plan_numbers, PLAN};
 
@@ -47,5 +47,5 @@ fn compare(run: &mut Run, words: [usize; 4], room: usize) {
         Seen { answer: (answer, got), buffers: &[] },
         Seen { answer: (plain, want), buffers: &[] },
     );
-    run.kinds.saw("plan", plainly(&answer));
+    run.kinds.saw("plan", kind(&answer, || emptied("accepted".into(), length == 0)));
 }

@@ -46,7 +46,7 @@ fn place(memory: &[u8], body: &[u8]) -> Option<(usize, usize)> {
 /// As many stores as are planned fit every memory, whatever their length; one more is refused.
 fn fits(run: &mut Run) {
     for t in 1..=4 {
-        for length in 1..=1_024 {
+        for length in 0..=1_024 {
             let fits = plan(t, length, 1, WRITES).is_ok_and(|plan| plan.memory() <= SERVER_MEMORY);
             let more = plan(t, length, 1, WRITES + 1).is_ok();
             run.same(

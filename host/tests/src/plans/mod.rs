@@ -18,7 +18,7 @@ pub fn all(run: &mut Run) {
     run.group("memories as planned", memories::all);
 }
 
-/// The shelves and lengths whose packets and memories are made: all t, and lengths at and beside each bound of a fragment's length.
+/// The shelves and lengths whose packets and memories are made: all t, no bytes, and lengths at and beside each bound of a fragment's length.
 fn shelves() -> impl Iterator<Item = (usize, usize)> {
-    (1..=4).flat_map(|t| [1, t, t + 1, t + 2, 100, 511, 1_023, 1_024].map(|length| (t, length)))
+    (1..=4).flat_map(|t| [0, 1, t, t + 1, t + 2, 100, 511, 1_023, 1_024].map(|length| (t, length)))
 }

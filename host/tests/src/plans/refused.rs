@@ -11,7 +11,7 @@ const ORDER: [u8; 5] = [255, 3, 5, 6, 18];
 const OUTSIDE: [[usize; 4]; 4] = [
     [0, 5, 257, usize::MAX],
     [0, 17, 257, usize::MAX],
-    [0, 1_025, 1 << 16 | 1, usize::MAX],
+    [1_025, 1 << 16, 1 << 32 | 1, usize::MAX],
     [33, 256, 1 << 32, usize::MAX],
 ];
 

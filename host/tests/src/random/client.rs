@@ -85,7 +85,7 @@ impl Shelf {
             self.step(run, at, Step::Read);
             return;
         }
-        let length = if source.once_in(20) { *source.pick(&[0, 1_025]) } else { source.within(1, 1_024) };
+        let length = if source.once_in(20) { 1_025 } else { source.content_length() };
         let (content, nonce) = (source.bytes(length), source.bytes(32));
         self.step(run, at, Step::Write { content: &content, nonce: &nonce });
     }

@@ -2,7 +2,7 @@
 
 use super::source::Source;
 use crate::check::{Run, Seen, FILLER};
-use crate::kinds::plainly;
+use crate::kinds::{emptied, plainly};
 use crate::plain;
 use crate::text::hex;
 use shelf::fragments;
@@ -11,7 +11,7 @@ pub fn all(run: &mut Run, source: &mut Source, inputs: usize) {
     for k in 0..inputs {
         let t = argument(source, 1, 4);
         let room = if source.once_in(12) { source.below(1_024) } else { source.within(1_024, 1_040) };
-        let length = if source.once_in(8) { *source.pick(&[0, 1, 2, 1_023, 1_024, 1_025, 3_000]) } else { source.within(1, 1_024) };
+        let length = if source.once_in(12) { *source.pick(&[1, 2, 1_023, 1_025, 3_000]) } else { source.content_length() };
         let content = source.bytes(length);
         if k % 2 == 0 {
             let server = argument(source, 1, 3 * t.min(5) + 1);
@@ -38,12 +38,12 @@ fn fragment(run: &mut Run, t: usize, server: usize, content: &[u8], room: usize)
         Seen { answer: answers.0, buffers: &[&got] },
         Seen { answer: answers.1, buffers: &[&want] },
     );
-    run.kinds.saw("fragment", plainly(&answers.0));
+    run.kinds.saw("fragment", emptied(plainly(&answers.0), content.is_empty()));
 }
 
 fn restore(run: &mut Run, source: &mut Source, t: usize, content: &[u8], room: usize) {
     let (servers, pieces) = given(source, t, content);
-    let n = if source.once_in(20) { argument(source, 1, 1_024) } else { content.len() };
+    let n = if source.once_in(20) { argument(source, 0, 1_024) } else { content.len() };
     let (mut got, mut want) = (vec![FILLER; room], vec![FILLER; room]);
     let answers = (
         cendrulas::restore(t, n, &servers, &pieces, &mut got),
@@ -54,10 +54,10 @@ fn restore(run: &mut Run, source: &mut Source, t: usize, content: &[u8], room: u
         Seen { answer: answers.0, buffers: &[&got] },
         Seen { answer: answers.1, buffers: &[&want] },
     );
-    run.kinds.saw("restore", plainly(&answers.0));
+    run.kinds.saw("restore", emptied(plainly(&answers.0), n == 0));
 }
 
-/// Servers drawn with repetitions, and a fragment for each: its own, or any bytes, at times one too few.
+/// Servers drawn with repetitions, and a fragment for each: its own, or any bytes, at times one byte too few or too many.
 fn given(source: &mut Source, t: usize, content: &[u8]) -> (Vec<usize>, Vec<u8>) {
     let legal = t.clamp(1, 4);
     let f = fragments::fragment_length(legal as u8, content.len());
@@ -73,8 +73,10 @@ fn given(source: &mut Source, t: usize, content: &[u8]) -> (Vec<usize>, Vec<u8>)
     if bad {
         servers[count - 1] = *source.pick(&[0, 3 * legal + 2, 255, 257, usize::MAX]);
     }
-    if source.once_in(20) {
-        pieces.pop();
+    match source.below(30) {
+        0 => drop(pieces.pop()),
+        1 => pieces.push(0),
+        _ => {}
     }
     (servers, pieces)
 }

@@ -2,6 +2,7 @@
 
 use super::source::Source;
 use crate::check::{Run, Seen, FILLER};
+use crate::kinds::emptied;
 use crate::plain;
 use shelf::drill::LISTING_LINE;
 use shelf::WORK_AREA;
@@ -24,8 +25,9 @@ pub fn all(run: &mut Run, source: &mut Source, inputs: usize) {
         );
         run.kinds.saw("drill", if answer.refusal == 0 { "accepted".into() } else { format!("refused {}", answer.refusal) });
         for line in got[..answer.count].chunks_exact(LISTING_LINE) {
-            let result = std::str::from_utf8(&line[32..40]).expect("text").trim_start();
-            run.kinds.saw("line of a listing", result.into());
+            let column = |from: usize| std::str::from_utf8(&line[from..from + 8]).expect("text").trim_start();
+            let (result, length) = (column(32), column(48));
+            run.kinds.saw("line of a listing", emptied(result.into(), result == "2" && length == "0"));
         }
     }
 }
@@ -42,7 +44,7 @@ fn sheet(source: &mut Source) -> Vec<u8> {
         sheet.extend(match source.below(10) {
             0 => line(4, 0, server, 0, 0),
             1 => line(5, client, 0, 0, 0),
-            2..=5 => line(1, client, 0, length(source), source.below(256)),
+            2..=5 => line(1, client, 0, length(source), source.below(257)),
             6 if source.once_in(40) => odd_line(source),
             _ => line(2, client, 0, 0, 0),
         });
@@ -59,10 +61,10 @@ fn sheet(source: &mut Source) -> Vec<u8> {
 }
 
 fn length(source: &mut Source) -> usize {
-    if source.once_in(5) {
-        *source.pick(&[0, 1, 2, 5, 1_024, 1_025, 99_999_999])
+    if source.once_in(8) {
+        *source.pick(&[1, 2, 5, 1_025, 99_999_999])
     } else {
-        source.within(1, 1_024)
+        source.content_length()
     }
 }
 

@@ -4,7 +4,7 @@ use super::damage::damage;
 use super::packets::World;
 use super::source::Source;
 use crate::check::{Run, Seen};
-use crate::kinds::kind;
+use crate::kinds::{carries_none, emptied, kind};
 use crate::text::hex;
 use cendrulas::Answer;
 use shelf::packet::{decode, Body};
@@ -25,7 +25,7 @@ pub fn all(run: &mut Run, source: &mut Source, inputs: usize) {
                 Seen { answer, buffers: &[] },
                 Seen { answer: due, buffers: &[] },
             );
-            run.kinds.saw("packet check", kind(&answer, || format!("kind {}", packet[0])));
+            run.kinds.saw("packet check", kind(&answer, || emptied(format!("kind {}", packet[0]), carries_none(&packet))));
             code(run, &packet);
         }
     }

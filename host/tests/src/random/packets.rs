@@ -92,7 +92,7 @@ fn write(source: &mut Source, t: u8, keys: &[PreparedKey], stamp: [u8; 37]) -> W
     let nonce = source.bytes(32);
     let nonce_digest = digest(&nonce);
     let tags: Vec<u8> = keys.iter().flat_map(|key| candidate_tag(key, Stamp(&stamp), &nonce_digest)).collect();
-    let length = if source.once_in(3) { 1_024 } else { source.within(1, 1_024) };
+    let length = source.content_length();
     let mut entry = (length as u16).to_be_bytes().to_vec();
     entry.extend(source.bytes(fragments::fragment_length(t, length)));
     entry.extend(source.bytes(32 * keys.len()));

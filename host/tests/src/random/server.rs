@@ -71,7 +71,7 @@ fn step(run: &mut Run, memory: &mut Vec<u8>, key: &[u8], packet: &[u8], room: us
         Seen { answer, buffers: &[memory, &got] },
         Seen { answer: plain, buffers: &[&plain_memory, &want] },
     );
-    run.kinds.saw("server takes", reply(&answer, &got));
+    run.kinds.saw("server takes", reply(&answer, packet, &got));
 }
 
 fn blank(run: &mut Run, memory: &mut [u8], t: usize, server: usize) {

@@ -1,5 +1,7 @@
 //! A small generator with a fixed seed (xorshift with a multiplication at the end).
 
+use shelf::RECORD_MAX;
+
 pub struct Source(u64);
 
 impl Source {
@@ -35,6 +37,15 @@ impl Source {
 
     pub fn bytes(&mut self, n: usize) -> Vec<u8> {
         (0..n).map(|_| self.byte()).collect()
+    }
+
+    /// The length of a legal content: in one of eight none, in another the most.
+    pub fn content_length(&mut self) -> usize {
+        match self.below(8) {
+            0 => 0,
+            1 => RECORD_MAX,
+            _ => self.within(1, RECORD_MAX),
+        }
     }
 
     pub fn pick<'a, T>(&mut self, among: &'a [T]) -> &'a T {

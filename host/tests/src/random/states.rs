@@ -54,12 +54,12 @@ pub fn step(run: &mut Run, source: &mut Source, party: &Party, state: &mut [u8],
     };
     let short = source.once_in(100) as usize;
     let state = &mut state[short..];
-    let (content, nonce) = (source.bytes(300), source.bytes(32));
+    let length = *source.pick(&[0, 1, 300, 1_024, 1_025]);
+    let (content, nonce) = (source.bytes(length), source.bytes(32));
     let nonce_length = if source.once_in(20) { 31 } else { 32 };
-    let content_length = if source.once_in(20) { 0 } else { 300 };
     let server = source.below(3 * party.t.min(4) + 3);
     match source.below(12) {
-        0 => Step::Write { content: &content[..content_length], nonce: &nonce[..nonce_length] }.by_two(run, &ANY_STATE, &party, state),
+        0 => Step::Write { content: &content, nonce: &nonce[..nonce_length] }.by_two(run, &ANY_STATE, &party, state),
         1 => Step::Read.by_two(run, &ANY_STATE, &party, state),
         2 => Step::GiveUp.by_two(run, &ANY_STATE, &party, state),
         3..=5 => {

@@ -1,7 +1,7 @@
 //! A step of a client as a value, to be taken by the library, by the model of its bytes and by the plain shelf.
 
 use crate::check::{Run, Seen, FILLER};
-use crate::kinds::{given_up, kind, made, plainly, taken};
+use crate::kinds::{emptied, given_up, kind, made, plainly, taken};
 use crate::text::hex;
 use crate::{model, plain};
 use cendrulas::{Answer, Keys};
@@ -79,7 +79,7 @@ impl Step<'_> {
 
     fn count(&self, run: &mut Run, names: &Names, answer: &Answer, out: &[u8]) {
         let (name, kind) = match self {
-            Step::Write { .. } => (names[0], plainly(answer)),
+            Step::Write { content, .. } => (names[0], kind(answer, || emptied("accepted".into(), content.is_empty()))),
             Step::Read => (names[1], plainly(answer)),
             Step::Make { .. } => (names[2], made(answer, out)),
             Step::Take { packet, .. } => (names[3], taken(answer, packet)),

@@ -1,39 +1,49 @@
 //! Fragments and restoring.
 
-use super::{due, filled};
+use super::{due, filled, servers, shelf, table};
 use crate::check::{Run, Seen, FILLER};
-use crate::text::{each_line, number, raw};
+use crate::text::each_line;
 use cendrulas::Answer;
 use std::path::Path;
 
-pub fn all(run: &mut Run, folder: &Path) {
-    run.group("fragments.txt", |run| fragments(run, folder));
-    run.group("restore.txt", |run| restore(run, folder));
-}
-
-fn fragments(run: &mut Run, folder: &Path) {
-    each_line(folder, "fragments.txt", |line| {
-        let (t, content) = (number(line.left[1]), raw(line.left[2]));
-        for (i, fragment) in line.right.iter().enumerate() {
-            let fragment = raw(fragment);
+/// A content is refused for every server, or has a fragment for each.
+pub fn fragments(run: &mut Run, path: &Path) {
+    each_line(path, |line| {
+        line.past("F");
+        let t = shelf(line);
+        table(line, t);
+        let content = line.bytes();
+        line.past("=");
+        let code: u8 = line.number();
+        for server in 1..=servers(t) {
+            let fragment = if code == 0 { line.bytes() } else { Vec::new() };
             let mut out = vec![FILLER; 512];
-            let answer = cendrulas::fragment(t, i + 1, &content, &mut out);
+            let answer = cendrulas::fragment(t, server, &content, &mut out);
             let left = filled(&fragment, out.len());
-            let want = Seen { answer: Answer::wrote(fragment.len()), buffers: &[&left] };
-            run.same(|| format!("{} server {}", line.place, i + 1), Seen { answer, buffers: &[&out] }, want);
+            let want = if code == 0 { Answer::wrote(fragment.len()) } else { Answer::refused(code) };
+            run.same(
+                || format!("{} server {server}", line.place),
+                Seen { answer, buffers: &[&out] },
+                Seen { answer: want, buffers: &[&left] },
+            );
         }
     });
 }
 
-fn restore(run: &mut Run, folder: &Path) {
-    each_line(folder, "restore.txt", |line| {
-        let words = &line.left;
-        let given: Vec<(usize, Vec<u8>)> =
-            words[4..].iter().filter_map(|w| w.split_once(':')).map(|(s, f)| (number(s), raw(f))).collect();
-        let servers: Vec<usize> = given.iter().map(|(server, _)| *server).collect();
-        let fragments: Vec<u8> = given.iter().flat_map(|(_, fragment)| fragment.clone()).collect();
-        let mut out = vec![FILLER; number(words[3])];
-        let answer = cendrulas::restore(number(words[1]), number(words[2]), &servers, &fragments, &mut out);
+pub fn restore(run: &mut Run, path: &Path) {
+    each_line(path, |line| {
+        line.past("X");
+        let t = shelf(line);
+        table(line, t);
+        let (length, room) = (line.number(), line.number());
+        let (mut servers, mut fragments): (Vec<usize>, Vec<u8>) = (Vec::new(), Vec::new());
+        for word in line.up_to("=") {
+            let Some((server, fragment)) = word.split_once(':') else { line.stop(&format!("\"{word}\" is not BOX:FRAGMENT")) };
+            servers.push(line.as_number(server));
+            fragments.extend(line.as_bytes(fragment));
+        }
+        let mut out = vec![FILLER; room];
+        let answer = cendrulas::restore(t, length, &servers, &fragments, &mut out);
         due(run, line, answer, &out);
     });
 }

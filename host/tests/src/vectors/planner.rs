@@ -1,40 +1,48 @@
-//! Plans of labs. A line has the shelf's S and k too, which follow from t.
+//! Plans of labs.
 
+use super::shelf;
 use crate::check::{Run, Seen};
 use crate::plans::UNWRITTEN;
-use crate::text::{each_line, number, Line};
+use crate::text::{each_line, Line};
 use cendrulas::{plan_numbers, Answer, PLAN};
 use std::path::Path;
 
-/// The kinds of a line's first part, in its order.
-const KINDS: [usize; 10] = [1, 2, 3, 4, 5, 6, 7, 8, 11, 12];
+/// Where the numbers of a line stand in a plan, part by part in the line's order: the kinds that have one length, filters, replies to a filter,
+/// numbers of packets, memory. A line has filters up to S only.
+const PLACES: [&[usize]; 5] =
+    [&[1, 2, 3, 4, 5, 6, 7, 8, 11, 12], &[13, 14, 15, 16, 17, 18, 19, 20, 21, 22, 23, 24, 25, 26], &[27, 28], &[29, 30, 31, 32, 33, 34], &[35]];
 
-pub fn plans(run: &mut Run, folder: &Path) {
-    each_line(folder, "planner.txt", |line| {
-        let [t, _, _, length, readers, stores] = std::array::from_fn(|i| number(line.left[i + 1]));
+pub fn plans(run: &mut Run, path: &Path) {
+    each_line(path, |line| {
+        line.past("L");
+        let t = shelf(line);
+        let (length, readers, stores) = (line.number(), line.number(), line.number());
+        line.past("=");
         let mut numbers = [UNWRITTEN; PLAN + 1];
         let answer = plan_numbers(t, length, readers, stores, &mut numbers);
-        run.same(|| line.place.clone(), Seen { answer: (answer, numbers), buffers: &[] }, Seen { answer: due(line), buffers: &[] });
+        let want = due(line, t);
+        run.same(|| line.place.clone(), Seen { answer: (answer, numbers), buffers: &[] }, Seen { answer: want, buffers: &[] });
     });
 }
 
 /// The answer, and what it leaves in an output with room for one number more.
-fn due(line: &Line) -> (Answer, [usize; PLAN + 1]) {
+fn due(line: &mut Line, t: usize) -> (Answer, [usize; PLAN + 1]) {
     let mut numbers = [UNWRITTEN; PLAN + 1];
-    let code: u8 = number(line.right[0]);
+    let code: u8 = line.number();
     if code != 0 {
         return (Answer::refused(code), numbers);
     }
     numbers[..PLAN].fill(0);
-    let parts: Vec<Vec<usize>> = line.right[1..].split(|word| *word == "|").map(|part| part.iter().map(|word| number(word)).collect()).collect();
-    let [kinds, filters, held, packets, memory] = &parts[..] else { panic!("{}: not five parts", line.place) };
-    assert_eq!(kinds.len(), KINDS.len(), "{}", line.place);
-    for (kind, length) in KINDS.iter().zip(kinds) {
-        numbers[*kind] = *length;
+    let words = line.rest();
+    let parts: Vec<&[&str]> = words.split(|word| *word == "|").collect();
+    let counts: Vec<usize> = parts.iter().map(|part| part.len()).collect();
+    if counts != [10, super::servers(t) + 1, 2, 6, 1] {
+        line.stop("a plan has 10 | S + 1 | 2 | 6 | 1 numbers");
     }
-    numbers[13..13 + filters.len()].copy_from_slice(filters);
-    numbers[27..29].copy_from_slice(held);
-    numbers[29..35].copy_from_slice(packets);
-    numbers[35..PLAN].copy_from_slice(memory);
+    for (part, places) in parts.iter().zip(PLACES) {
+        for (word, place) in part.iter().zip(places) {
+            numbers[*place] = line.as_number(word);
+        }
+    }
     (Answer::wrote(PLAN), numbers)
 }

@@ -2,23 +2,24 @@
 
 use super::filled;
 use crate::check::{Run, Seen, FILLER};
-use crate::text::{each_line, number, raw};
+use crate::text::each_line;
 use cendrulas::Answer;
 use std::path::Path;
 
-pub fn tags(run: &mut Run, folder: &Path) {
-    each_line(folder, "tags.txt", |line| {
-        let words = &line.left;
-        let (key, message) = match words[0] {
-            "S" => ([0xFF; 32], [&number::<u32>(words[1]).to_be_bytes()[..], &[number(words[2])]].concat()),
-            _ => ([number(words[1]); 32], [raw(words[2]), nonce_digest(&raw(words[3]))].concat()),
+pub fn tags(run: &mut Run, path: &Path) {
+    each_line(path, |line| {
+        let (key, message) = match line.word() {
+            "S" => ([0xFF; 32], [&line.number::<u32>().to_be_bytes()[..], &[line.number()]].concat()),
+            "C" => ([line.number(); 32], [line.bytes(), nonce_digest(&line.bytes())].concat()),
+            _ => line.stop("it begins with neither S nor C"),
         };
-        let due = raw(line.right[0]);
-        let tag = &due[due.len() - 32..];
+        line.past("=");
+        let due = line.bytes();
+        let Some((_, tag)) = due.split_last_chunk::<32>() else { line.stop("what is due is shorter than a tag") };
         let mut out = vec![FILLER; 40];
         let answer = cendrulas::tag(&key, &message, &mut out);
         let left = filled(tag, out.len());
-        let want = Seen { answer: Answer::wrote(32), buffers: &[&left] };
+        let want = Seen { answer: Answer::wrote(tag.len()), buffers: &[&left] };
         run.same(|| line.place.clone(), Seen { answer, buffers: &[&out] }, want);
     });
 }
