@@ -21,8 +21,8 @@
 extern "C" {
 #endif
 
-/* Version 1.1.0, as major * 65536 + minor * 256 + patch: of this header, and of the archive that is linked. CHANGELOG.md says what changed. */
-#define CENDRULAS_VERSION 65792u
+/* Version 1.2.0, as major * 65536 + minor * 256 + patch: of this header, and of the archive that is linked. CHANGELOG.md says what changed. */
+#define CENDRULAS_VERSION 66048u
 uint32_t cendrulas_version(void);
 
 /* Bytes of what is lent. A packet and a content need so much output, however short they are. */

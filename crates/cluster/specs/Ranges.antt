@@ -26,7 +26,7 @@ topClient = 16
 abbrev pub topNumber : ℕ
 topNumber = 99999999
 
--- the most bytes of a content (document 01: record); W-202: none are a content too
+-- the most bytes of a content (document 01: record). Amended (W-202): it may have none, and 6 means more than these
 abbrev pub topLength : ℕ
 topLength = 1024
 

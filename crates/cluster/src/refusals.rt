@@ -9,7 +9,7 @@ pub const SERVER: u8 = 4; // the server is outside 1 to S
 
 pub const CLIENT: u8 = 5; // the client is outside its range
 
-pub const LENGTH: u8 = 6; // the length of a content is outside its range
+pub const LENGTH: u8 = 6; // a content is longer than the most
 
 pub const LAYOUT: u8 = 7; // a packet breaks the layout
 

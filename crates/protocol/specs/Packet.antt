@@ -28,7 +28,7 @@ stampF =
 unfoldable pub anyStampF : Fmt Stamp
 anyStampF = orBlank stampSize blankStamp stampF
 
--- a share: record length, fragment, S digests, nonce digest, S tags
+-- a share: record length (amended by W-202: 0 too), fragment, S digests, nonce digest, S tags
 unfoldable pub shareF : Config → Fmt Share
 shareF s =
     via
