@@ -82,6 +82,13 @@ writes c r n w =
 unfoldable reads : ℕ → Scene → Scene
 reads c w = let u = readStep (shelf 1) c (w .client c) in record { client = upd (w .client) c (u .client); server = w .server; result = u .result }
 
+-- a call from its begin to its end: client c's write at servers 1, 2, 3; client 9's read at servers 2, 3, 4
+unfoldable wholeWrite : ℕ → List ℕ → List ℕ → Scene → Scene
+wholeWrite c r n w = asksAll c (1 ∷ 2 ∷ 3 ∷ []) (asksAll c (1 ∷ 2 ∷ 3 ∷ []) (asksAll c (1 ∷ 2 ∷ 3 ∷ []) (writes c r n w)))
+
+unfoldable wholeRead : Scene → Scene
+wholeRead w = asksAll 9 (2 ∷ 3 ∷ 4 ∷ []) (asksAll 9 (2 ∷ 3 ∷ 4 ∷ []) (reads 9 w))
+
 -- ---- a write followed by a read
 
 -- client 1 writes 65, 66 with the nonce 42: clock, store and complete at servers 1, 2, 3
@@ -93,7 +100,7 @@ completed = asksAll 1 (1 ∷ 2 ∷ 3 ∷ []) stored
 
 -- client 9 reads: collect and filter at servers 2, 3, 4, of which 4 missed the write
 unfoldable readAfter : Scene
-readAfter = asksAll 9 (2 ∷ 3 ∷ 4 ∷ []) (asksAll 9 (2 ∷ 3 ∷ 4 ∷ []) (reads 9 completed))
+readAfter = wholeRead completed
 
 -- ---- a write whose tags a liar spoiled, read through repair
 
@@ -126,25 +133,18 @@ misled =
 
 -- ---- a content of no bytes, which is not blank
 
--- client c writes at servers 1, 2, 3, and client 9 reads at servers 2, 3, 4
-unfoldable wrote : ℕ → List ℕ → List ℕ → Scene → Scene
-wrote c r n w = asksAll c (1 ∷ 2 ∷ 3 ∷ []) (asksAll c (1 ∷ 2 ∷ 3 ∷ []) (asksAll c (1 ∷ 2 ∷ 3 ∷ []) (writes c r n w)))
-
-unfoldable readOn : Scene → Scene
-readOn w = asksAll 9 (2 ∷ 3 ∷ 4 ∷ []) (asksAll 9 (2 ∷ 3 ∷ 4 ∷ []) (reads 9 w))
-
 -- each read of one and the same shelf, before and after each write: nothing, no bytes, two bytes, no bytes again
 unfoldable blankRead : Scene
-blankRead = readOn new
+blankRead = wholeRead new
 
 unfoldable emptyRead : Scene
-emptyRead = readOn (wrote 1 [] (42 ∷ []) blankRead)
+emptyRead = wholeRead (wholeWrite 1 [] (42 ∷ []) blankRead)
 
 unfoldable fullRead : Scene
-fullRead = readOn (wrote 2 (65 ∷ 66 ∷ []) (43 ∷ []) emptyRead)
+fullRead = wholeRead (wholeWrite 2 (65 ∷ 66 ∷ []) (43 ∷ []) emptyRead)
 
 unfoldable againRead : Scene
-againRead = readOn (wrote 1 [] (44 ∷ []) fullRead)
+againRead = wholeRead (wholeWrite 1 [] (44 ∷ []) fullRead)
 
 -- ---- what they give
 
@@ -171,7 +171,7 @@ record Shown : Type 0 where
   empty-again : againRead .result ≡ gave (record { number = 3; writer = 1 }) []
 
 shown : Shown
-unfolding completed stored readAfter spoilt filtered repaired invented misled blankRead emptyRead fullRead againRead wrote readOn asksAll asks hears writes reads new toy mix writers keys shelf upTo quorum
+unfolding completed stored readAfter spoilt filtered repaired invented misled blankRead emptyRead fullRead againRead wholeWrite wholeRead asksAll asks hears writes reads new toy mix writers keys shelf upTo quorum
     nth runOf isBlank below sameStamp sameCandidate lookup stampMessage candidateMessage upd nobody countTo any keep first gather lower live fits
     agrees
     leads leader highest choice parts restoredBy onStore raise byHistory byTag valid best act barred replyTo serverRefusal answered serverStep awaits
