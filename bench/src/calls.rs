@@ -9,6 +9,8 @@ use std::time::Duration;
 
 /// As many writes as a history holds.
 const WRITES: usize = 32;
+/// What stands in an output where nothing was written.
+const UNWRITTEN: u8 = 0xA5;
 
 pub fn rows(table: &mut Table) {
     for (length, words) in [(1_024, "1,024 bytes"), (0, "no bytes")] {
@@ -18,7 +20,9 @@ pub fn rows(table: &mut Table) {
             table.batches(&format!("whole write of {words}, 0 to 31 held, t = {t}"), WRITES, || ours.writes(&data), || plain.writes(&data));
             let name = format!("whole read of {words}, 32 held, t = {t}");
             table.row(&name, || ours.read(), || plain.read());
-            assert!(ours.out[..length] == data && plain.out[..length] == data, "{name}: not what was written");
+            let mut due = vec![UNWRITTEN; RECORD_OUTPUT];
+            due[..length].copy_from_slice(&data);
+            assert!(ours.out == due && plain.out == due, "{name}: not what was written");
         }
     }
 }
@@ -34,7 +38,7 @@ struct Shelf<S: Side> {
 impl<S: Side> Shelf<S> {
     fn new(t: u8) -> Self {
         let buffers = vec![(vec![0; PACKET_OUTPUT], 0); boxes_of(t)];
-        Shelf { side: S::new(t), packets: buffers.clone(), replies: buffers, out: vec![0; RECORD_OUTPUT] }
+        Shelf { side: S::new(t), packets: buffers.clone(), replies: buffers, out: vec![UNWRITTEN; RECORD_OUTPUT] }
     }
 
     /// Writes to a blank shelf until it is full.

@@ -48,7 +48,7 @@ const SERVER: &str = "clock,store: kept,store: held,store: full,store: kept of n
     refused 1,refused 2,refused 7,refused 8,refused 9,refused 15,refused 255";
 const BEGIN_WRITE: &str = "accepted,accepted of no bytes,refused 3,refused 5,refused 6,refused 13,refused 14,refused 255";
 const BEGIN_READ: &str = "accepted,refused 3,refused 5,refused 13,refused 14,refused 255";
-const MAKE: &str = "clock,store,complete,collect,filter,repair,refused 3,refused 4,refused 5,refused 13,refused 15,refused 255";
+const MAKE: &str = "clock,store,store of no bytes,complete,collect,filter,repair,refused 3,refused 4,refused 5,refused 13,refused 15,refused 255";
 const TAKE: &str = "clock goes on,store goes on,complete goes on,collect goes on,filter goes on,repair goes on,server is full,written,\
     read by filter,read by repair,read by filter of no bytes,read by repair of no bytes,blank,\
     refused 3,refused 5,refused 7,refused 8,refused 12,refused 13,refused 14,refused 15,refused 255";
@@ -107,7 +107,7 @@ pub fn reply(answer: &Answer, packet: &[u8], reply: &[u8]) -> String {
 
 /// The round of the packet that a client made.
 pub fn made(answer: &Answer, packet: &[u8]) -> String {
-    kind(answer, || ROUNDS[packet[0] as usize / 2].into())
+    kind(answer, || emptied(ROUNDS[packet[0] as usize / 2].into(), carries_none(packet)))
 }
 
 /// What a taken reply led to.

@@ -42,7 +42,7 @@ pub fn steps(run: &mut Run, path: &Path) {
     });
 }
 
-/// Made blank over bytes that are none, so that all of them must be written.
+/// Made blank over bytes that are no memory, so that all of them must be written.
 fn blank(line: &mut Line) -> Server {
     let (t, number): (usize, u8) = (shelf(line), line.number());
     line.only("PROMISES", "-");
