@@ -4,8 +4,8 @@ use mathlib.Core.Path.{_≡_, refl, sym, ap, ap₂, subst, _∙_}
 use mathlib.Core.Logic.{_≢_}
 use mathlib.Core.Bool.{Bool, cond}
 use mathlib.Core.List.{List, [], _∷_, _++_, map}
-use Prim.Native.Nat.{ℕ, suc, _+_, _-_, _*_, _/_, _%_, _<_, _≤_}
-use native.Mathlib.Nat.{mod-lt, suc-ne-zero, mul-le-mul-right, suc-mul}
+use Prim.Native.Nat.{ℕ, zero, suc, _+_, _-_, _*_, _/_, _%_, _<_, _≤_}
+use native.Mathlib.Nat.{zero-lt-suc, mod-lt, suc-ne-zero, mul-le-mul-right, suc-mul}
 use native.Mathlib.Omega.{arith}
 use borrow.Author.Tests.{lt-ltb, le-ltb}
 use lib.Dec.{ltb}
@@ -192,3 +192,10 @@ points-differ k points servers given pt d at e i j hi hj ne q =
     pt .different (getD servers i 0 - 1) (getD servers j 0 - 1) (omega (arith, ri .0, ri .1)) (omega (arith, rj .0, rj .1))
     (λ p. d i j hi hj ne (omega (arith, p, ri .0, rj .0)))
     (sym (e i hi) ∙ q ∙ e j hj)
+
+-- and are bytes
+pub points-small : (points servers : List ℕ) → PointTable points → (j : ℕ) → getD (map (pointOf points) servers) j 0 < 256
+unfolding pointOf
+points-small points [] pt j = zero-lt-suc 255
+points-small points (s ∷ ss) pt zero = pt .bytes (s - 1)
+points-small points (s ∷ ss) pt (suc j) = points-small points ss pt j

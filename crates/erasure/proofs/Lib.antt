@@ -11,7 +11,10 @@ pub mod Choosing
 pub mod Refused
 pub mod Standing
 pub mod Placed
+pub mod Units
 pub mod Rebuilt
+pub mod RowsMade
+pub mod WeightTests
 pub mod Answers
 pub mod Chosen
 pub mod Enough

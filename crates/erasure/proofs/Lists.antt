@@ -128,11 +128,14 @@ written-more old mid at i g v h e w =
     written-on old mid (set mid (at + i) v) at i 1 g w
     (record { long = one .long; here = λ j l. one .here j l ∙ e ∙ ap g (omega arith); below = one .below; above = one .above })
 
+-- a byte that was written from the start on
+pub written-at : (old new : List ℕ) (n : ℕ) (g : ℕ → ℕ) → RunWritten old new 0 n g → (i : ℕ) → i < n → getD new i 0 ≡ g i
+written-at old new n g w i h = ap (λ (x : ℕ). getD new x 0) (sym (zero-add i)) ∙ w .here i h
+
 -- a buffer whose first n bytes were written
 pub written-first : (old new : List ℕ) (n : ℕ) (g : ℕ → ℕ) → n ≤ length old → RunWritten old new 0 n g → new ≡ table n g ++ drop n old
 written-first old new n g h w =
-    written new old n g (w .long) h (λ i b. ap (λ (x : ℕ). getD new x 0) (sym (zero-add i)) ∙ w .here i b)
-    (λ i b. w .above i (omega arith))
+    written new old n g (w .long) h (written-at old new n g w) (λ i b. w .above i (omega arith))
 
 -- the same bytes, told otherwise
 pub written-as : (old new : List ℕ) (at m : ℕ) (g h : ℕ → ℕ) → ((i : ℕ) → i < m → g i ≡ h i) → RunWritten old new at m g → RunWritten old new at m h

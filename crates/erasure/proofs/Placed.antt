@@ -1,6 +1,6 @@
 -- At each place a sum of weights times bytes is the value of the polynomial through the runs' bytes, and at a run's own point it is the run's
 -- byte: so a value is made by weights that `Weighed` shows right, and a plain run by a copy. Nothing is assumed.
-use mathlib.Core.Path.{_≡_, sym, ap, subst, _∙_}
+use mathlib.Core.Path.{_≡_, sym, ap, ap₂, subst, _∙_}
 use mathlib.Core.List.{List, _++_}
 use Prim.Native.Nat.{ℕ, suc, zero, _+_, _-_, _*_, _/_, _<_, _≤_}
 use native.Mathlib.Nat.{zero-add, mul-le-mul, mul-le-mul-right, mul-comm, suc-mul, le-div-iff-mul-le, le-refl}
@@ -69,11 +69,22 @@ value-at k xs y kx sx sy d j h =
 
 -- ---- a fragment
 
-drop-zeros : (n f : ℕ) → f ≤ n → drop {A = ℕ} f (replicate n 0) ≡ replicate (n - f) 0
+pub drop-zeros : (n f : ℕ) → f ≤ n → drop {A = ℕ} f (replicate n 0) ≡ replicate (n - f) 0
 drop-zeros n zero h = let z : n ≡ n - 0 = omega arith in ap (λ (m : ℕ). replicate {A = ℕ} m 0) z
 drop-zeros zero (suc f) h = absurd (omega (arith, h))
 drop-zeros (suc n) (suc f) h = let z : n - f ≡ suc n - suc f = omega arith in
     drop-zeros n f (omega (arith, h)) ∙ ap (λ (m : ℕ). replicate {A = ℕ} m 0) z
+
+-- the first m bytes of xs, copied to the start of zeros
+pub taken : (n m : ℕ) (xs old new : List ℕ) → old ≡ replicate n 0 → m ≤ n → m ≤ length xs → RunWritten old new 0 m (λ i. getD xs (0 + i) 0)
+    → new ≡ take m xs ++ replicate (n - m) 0
+taken n m xs old new eo mn mx wr =
+    let long : length old ≡ n = ap length eo ∙ length-replicate n 0 in
+    written-first old new m (λ i. getD xs (0 + i) 0) (omega arith) wr
+    ∙ ap₂ (λ (u v : List ℕ). u ++ v)
+    (sym (table-is m (take m xs) (λ i. getD xs (0 + i) 0) (length-take-le m xs mx)
+    (λ i h. getD-take m xs i 0 h ∙ ap (λ (x : ℕ). getD xs x 0) (sym (zero-add i)))))
+    (ap (drop m) eo ∙ drop-zeros n m mn)
 
 -- the sums are the value at z
 pub made : (k f room z : ℕ) (w v : ℕ → ℕ) (src starts xs old out : List ℕ) → old ≡ replicate room 0 → f ≤ room → Weighs k xs v z

@@ -1,5 +1,5 @@
 -- The closed form of the weights, of bytes: `Lagrange` at the field of FIPS 197, told in numbers. Nothing is assumed.
-use mathlib.Core.Path.{_≡_, refl, sym, ap, ap₂, _∙_}
+use mathlib.Core.Path.{_≡_, refl, sym, ap, ap₂, subst, _∙_}
 use mathlib.Core.Bool.{Bool, true, false, cond}
 use mathlib.Core.List.{List}
 use Prim.Native.Nat.{ℕ, zero, suc, _+_, _<_, _≤_}
@@ -46,6 +46,10 @@ module _ (k : ℕ) (xs : List ℕ) (small : (i : ℕ) → getD xs i 0 < 256) whe
       ap₂ (λ (u v : ℕ). times u (inverse v)) (prod-number k (factor field laws (point xs) j z) (factorAt xs j n) (λ m _. factor-number j z n e m))
       (prod-number k (factor field laws (point xs) j (point xs j)) (factorAt xs j (getD xs j 0))
       (λ m _. factor-number j (point xs j) (getD xs j 0) (to-val (getD xs j 0) (small j)) m))
+
+  pub direct-lt : (z : ℕ) → z < 256 → (j : ℕ) → directAt k xs z j < 256
+  direct-lt z hz j =
+      let q : Byte = (z, hz) in subst (λ (x : ℕ). x < 256) (direct-number q z refl j) (weightOf field laws k (point xs) q j .1)
 
   pub direct : k ≤ length xs → AllDifferent k xs → (z : ℕ) → z < 256 → Weighs k xs (directAt k xs z) z
   direct kx d z hz y sy =

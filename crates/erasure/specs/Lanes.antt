@@ -1,14 +1,12 @@
 -- What the private functions on lanes promise each other; no public contract names these.
 -- A lane is a run of places that are worked on together.
-use mathlib.Core.Bool.{cond}
 use mathlib.Core.Path.{_≡_}
 use mathlib.Core.List.{List}
 use Prim.Native.Nat.{ℕ, _+_, _*_, _/_, _%_, _^_, _≤_, _<_}
-use lib.Dec.{ltb}
 use lib.ListN.{getD, length, take}
 use Rattle.gf256.specs.Gf.{times}
 use Rattle.erasure.specs.Fragments.{table, valueOf}
-use Rattle.erasure.specs.System.{sumTo, weightAt}
+use Rattle.erasure.specs.System.{sumTo}
 
 abbrev pub lane : ℕ
 lane = 64
@@ -44,10 +42,9 @@ valueFrom k f points src starts z = valueOf (take k points) z f (λ q. table k (
 unfoldable pub plainOf : (f j : ℕ) (content : List ℕ) → List ℕ
 plainOf f j content = table f (λ q. getD content (j * f + q) 0)
 
--- byte q of a run, as rebuilding writes it: the byte of the run's own fragment where its place is below k, and otherwise the sum that the
--- solved system a weighs at the run's point z
-unfoldable pub runAt : (k : ℕ) (a : List (List ℕ)) (fragments starts : List ℕ) (place z q : ℕ) → ℕ
-runAt k a fragments starts place z q = cond (ltb place k) (byteAt fragments starts q place) (sumAt k (weightAt k a z) fragments starts q)
+-- what weights give: byte m stands at place m % f of run m / f, and is the sum that the run's row weighs there
+unfoldable pub weighedOf : (k f n : ℕ) (rows fragments starts : List ℕ) → List ℕ
+weighedOf k f n rows fragments starts = table n (λ m. sumAt k (λ j. getD rows (m / f * k + j) 0) fragments starts (m % f))
 
 -- what rebuilding writes: byte m stands at place m % f of run m / f, which is the value at its point
 unfoldable pub rebuiltOf : (k f n : ℕ) (points given fragments starts : List ℕ) → List ℕ

@@ -1,8 +1,9 @@
 // Which fragments restoring uses: those of the first k different servers given.
 ghost use mathlib.Core.Path.{_≡_};
-ghost use Prim.Native.Nat.{ℕ, _≤_, _<_};
+ghost use mathlib.Core.List.{_++_};
+ghost use Prim.Native.Nat.{ℕ, _-_, _≤_, _<_};
 ghost use lib.Dec.{ltb};
-ghost use lib.ListN.{length, take, getD};
+ghost use lib.ListN.{length, take, getD, replicate};
 ghost use Rattle.cluster.specs.Ranges.{mostServers};
 ghost use Rattle.erasure.specs.System.{width};
 ghost use Rattle.erasure.specs.Choice.{among, more, firstDifferent};
@@ -76,4 +77,15 @@ pub(crate) fn select(servers: &[usize], k: usize) -> Chosen
         i += 1;
     }
     c
+}
+
+// The servers chosen, padded with 0.
+pub(crate) fn used(c: Chosen) -> [u8; WIDTH]
+    requires { ⌜ c .count ≤ width ⌝ }
+    ensures { λ r. ⌜ r ≡ take (c .count) (c .servers) ++ replicate (width - c .count) 0 ⌝ }
+{
+    let servers = c.servers;
+    let mut out = [0u8; WIDTH];
+    crate::lanes::copy(&servers, 0, &mut out, 0, c.count);
+    out
 }

@@ -1,11 +1,9 @@
-// Which plain runs are among the fragments given, told by their points: those are copied, and only for the others a system is solved.
+// Which plain runs are among the fragments given, told by their points: only for the others a system is solved.
 ghost use mathlib.Core.Path.{_≡_};
-ghost use Prim.Native.Nat.{ℕ, _+_, _<_, _≤_};
+ghost use Prim.Native.Nat.{ℕ, _<_, _≤_};
 ghost use lib.ListN.{getD, length, take};
 ghost use Rattle.erasure.specs.System.{width, AllDifferent};
-ghost use Rattle.erasure.specs.Lanes.{runAt, RunWritten};
 ghost use Rattle.erasure.specs.Standing.{placeOf, allGiven, SystemAs};
-use crate::lanes::Runs;
 
 const WIDTH: usize = crate::system::WIDTH;
 
@@ -66,31 +64,4 @@ pub(crate) fn system_of(
         return [[0u8; WIDTH]; WIDTH];
     }
     crate::system::solve(given, k)
-}
-
-// A plain run that is to be written: its place among the fragments given, or their count where it has none; its point; from where on it is
-// written, and how many bytes of it.
-pub(crate) struct Wanted {
-    pub(crate) place: usize,
-    pub(crate) point: u8,
-    pub(crate) at: usize,
-    pub(crate) size: usize,
-}
-
-// The bytes of a run: a copy where the run is given, and otherwise a sum that the system weighs at its point.
-pub(crate) fn run(a: [[u8; WIDTH]; WIDTH], runs: Runs, fragments: &[u8], w: Wanted, out: &mut [u8])
-    requires { ⌜ (runs .count ≤ width) × ((j : ℕ) → j < runs .count → getD (runs .starts) j 0 + w .size ≤ length (now fragments))
-        × (w .at + w .size ≤ length (now out)) × (1 ≤ runs .count) ⌝ }
-    ensures { λ _. ⌜ RunWritten (now (out .entry)) (now (out .exit)) (w .at) (w .size)
-        (runAt (runs .count) a (now (fragments .entry)) (runs .starts) (w .place) (w .point)) ⌝ }
-{
-    let j = w.place;
-    let k = runs.count;
-    if j < k {
-        let starts = runs.starts;
-        crate::lanes::copy(fragments, starts[j], out, w.at, w.size);
-        return;
-    }
-    let weights = crate::system::weights(a, k, w.point);
-    crate::lanes::combine(weights, runs, fragments, out, w.at, w.size);
 }

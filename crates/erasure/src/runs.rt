@@ -7,14 +7,16 @@ ghost use Rattle.cluster.specs.Config.{pointOf, PointTable};
 ghost use Rattle.erasure.specs.Fragments.{fragmentSize, fragment};
 ghost use Rattle.erasure.specs.Steps.{fragmentRoom};
 ghost use Rattle.erasure.specs.System.{width, AllDifferent};
-ghost use Rattle.erasure.specs.Lanes.{valueFrom, plainOf, rebuiltOf};
+ghost use Rattle.erasure.specs.Lanes.{RunWritten, sumAt, valueFrom, plainOf, weighedOf, rebuiltOf};
+ghost use Rattle.erasure.specs.Weights.{weighedBytes};
 use crate::choice::Chosen;
-use crate::given::Wanted;
 use crate::lanes::Runs;
 
 const WIDTH: usize = crate::system::WIDTH;
 
 const ROOM: usize = crate::ROOM;
+
+const ROWS: usize = crate::ROWS;
 
 // Where the plain runs stand: 0, 1, ..
 fn plain_places() -> [usize; WIDTH]
@@ -110,35 +112,37 @@ pub(crate) fn make(points: &[u8], k: usize, f: usize, server: usize, content: &[
     value(points, plain_runs(f, k), content, points[server - 1])
 }
 
-// The content of n bytes, run after run: each is the value at its point, the next of all points, from the runs at the points given.
-fn write_runs(
-    points: &[u8],
-    given: [u8; WIDTH],
-    runs: Runs,
-    fragments: &[u8],
-    n: usize,
-    out: &mut [u8],
-)
-    requires { ⌜ (runs .count ≤ width) × (runs .count ≤ length (now points)) × AllDifferent (runs .count) given × (n ≤ runs .count * runs .size)
-        × (n ≤ length (now out)) × ((j : ℕ) → j < runs .count → getD (runs .starts) j 0 + runs .size ≤ length (now fragments)) ⌝ }
-    ensures { λ _. ⌜ now (out .exit) ≡ rebuiltOf (runs .count) (runs .size) n (now (points .entry)) given (now (fragments .entry)) (runs .starts)
+// m bytes of a run, written from place at on: a copy where its row copies, and otherwise the sum that it weighs.
+fn run(row: [u8; WIDTH], runs: Runs, fragments: &[u8], out: &mut [u8], at: usize, m: usize)
+    requires { ⌜ (runs .count ≤ width) × ((j : ℕ) → j < runs .count → getD (runs .starts) j 0 + m ≤ length (now fragments))
+        × (at + m ≤ length (now out)) × (1 ≤ runs .count) ⌝ }
+    ensures { λ _. ⌜ RunWritten (now (out .entry)) (now (out .exit)) at m
+        (sumAt (runs .count) (λ j. getD row j 0) (now (fragments .entry)) (runs .starts)) ⌝ }
+{
+    let k = runs.count;
+    let j = crate::weighing::unit_of(row, k);
+    if j < k {
+        let starts = runs.starts;
+        crate::lanes::copy(fragments, starts[j], out, at, m);
+        return;
+    }
+    crate::lanes::combine(row, runs, fragments, out, at, m);
+}
+
+// The content of n bytes, run after run, each weighed by its row.
+fn write_runs(rows: [u8; ROWS], runs: Runs, fragments: &[u8], n: usize, out: &mut [u8])
+    requires { ⌜ (runs .count ≤ width) × (n ≤ runs .count * runs .size) × (n ≤ length (now out))
+        × ((j : ℕ) → j < runs .count → getD (runs .starts) j 0 + runs .size ≤ length (now fragments)) ⌝ }
+    ensures { λ _. ⌜ now (out .exit) ≡ weighedOf (runs .count) (runs .size) n rows (now (fragments .entry)) (runs .starts)
         ++ drop n (now (out .entry)) ⌝ }
 {
     let k = runs.count;
     let f = runs.size;
-    let places = crate::given::places_of(given, k, points);
-    let a = crate::given::system_of(given, places, k);
     let mut done: usize = 0;
     while done < n {
-        let i = done / f;
+        let row = crate::weighing::row_at(rows, k, done / f);
         let m = at_most(f, n - done);
-        let w = Wanted {
-            place: places[i],
-            point: points[i],
-            at: done,
-            size: m,
-        };
-        crate::given::run(a, runs, fragments, w, out);
+        run(row, runs, fragments, out, done, m);
         done += m;
     }
 }
@@ -152,15 +156,30 @@ pub(crate) fn rebuild(
     n: usize,
     out: &mut [u8],
 )
-    requires { ⌜ (c .count ≤ width) × (c .count ≤ length (now points)) × (PointTable (now points)) × AllDifferent (c .count) (c .servers)
+    requires { ⌜ (1 ≤ c .count) × (c .count ≤ width) × (c .count ≤ length (now points)) × (PointTable (now points))
+        × AllDifferent (c .count) (c .servers)
         × ((j : ℕ) → j < c .count → (1 ≤ getD (c .servers) j 0) × (getD (c .servers) j 0 ≤ length (now points)))
         × (n ≤ c .count * f) × (n ≤ length (now out)) × ((j : ℕ) → j < c .count → getD (c .at) j 0 * f + f ≤ length (now fragments)) ⌝ }
     ensures { λ _. ⌜ now (out .exit) ≡ rebuiltOf (c .count) f n (now (points .entry)) (map (pointOf (now (points .entry))) (c .servers))
         (now (fragments .entry)) (map (λ p. p * f) (c .at)) ++ drop n (now (out .entry)) ⌝ }
 {
-    let servers = c.servers;
     let at = c.at;
-    let given = crate::points::points_of(servers, c.count, points);
-    let runs = runs_at(at, f, c.count);
-    write_runs(points, given, runs, fragments, n, out);
+    let rows = crate::weighing::of_chosen(points, c);
+    write_runs(rows, runs_at(at, f, c.count), fragments, n, out);
+}
+
+// The content of n bytes that k fragments of f bytes, one after the other, give by these rows, at the start of out.
+pub(crate) fn rebuild_weighed(
+    rows: [u8; ROWS],
+    k: usize,
+    fragments: &[u8],
+    f: usize,
+    n: usize,
+    out: &mut [u8],
+)
+    requires { ⌜ (k ≤ width) × (f ≡ fragmentSize k n) × (f ≤ fragmentRoom) × (n ≤ k * f) × (n ≤ length (now out))
+        × (length (now fragments) ≡ k * f) ⌝ }
+    ensures { λ _. ⌜ now (out .exit) ≡ weighedBytes k n rows (now (fragments .entry)) ++ drop n (now (out .entry)) ⌝ }
+{
+    write_runs(rows, plain_runs(f, k), fragments, n, out);
 }

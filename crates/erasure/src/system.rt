@@ -41,7 +41,7 @@ fn turn_row(row: [u8; WIDTH], pivot: [u8; WIDTH], d: u8, p: usize) -> [u8; WIDTH
 }
 
 // The p-th row of the unit system.
-fn unit_row(p: usize) -> [u8; WIDTH]
+pub(crate) fn unit_row(p: usize) -> [u8; WIDTH]
     requires { ⌜ p < width ⌝ }
     ensures { λ r. ⌜ (getD r p 0 ≡ 1) × ((c : ℕ) → c < width → c ≢ p → getD r c 0 ≡ 0) ⌝ }
 {

@@ -167,6 +167,7 @@ rebuild-requires c κs =
     let all = all-chosen s (full at) in
     let f : size .result ≡ fragmentSize (shelf (t p) .threshold) (n p) = size .ensures ∙ ap (λ (x : ℕ). fragmentSize x (n p))
     (s .before .threshold-of .ensures) in (
+      omega (arith, all, k-is s),
       omega (arith, all, k-most s),
       omega (arith, all, k-is s, table at .long),
       table at .apart,
