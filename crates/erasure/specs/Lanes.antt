@@ -11,7 +11,7 @@ use Rattle.erasure.specs.Fragments.{table, valueOf}
 use Rattle.erasure.specs.System.{sumTo, weightAt}
 
 abbrev pub lane : ℕ
-lane = 64
+lane = 128
 
 -- bit b of w
 abbrev pub bitOf : ℕ → ℕ → ℕ
