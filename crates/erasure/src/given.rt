@@ -9,6 +9,8 @@ use crate::lanes::Runs;
 
 const WIDTH: usize = crate::system::WIDTH;
 
+const ROW: usize = crate::system::ROW;
+
 // Where point z stands among the first k points given, or k where it does not.
 fn place_of(given: [u8; WIDTH], k: usize, z: u8) -> usize
     requires { ⌜ k ≤ width ⌝ }
@@ -54,16 +56,12 @@ fn all_given(places: [usize; WIDTH], k: usize) -> bool
 }
 
 // The solved system of the first k points given, which a run that is not given needs; where all are given, nothing is solved.
-pub(crate) fn system_of(
-    given: [u8; WIDTH],
-    places: [usize; WIDTH],
-    k: usize,
-) -> [[u8; WIDTH]; WIDTH]
+pub(crate) fn system_of(given: [u8; WIDTH], places: [usize; WIDTH], k: usize) -> [[u8; ROW]; WIDTH]
     requires { ⌜ (k ≤ width) × AllDifferent k given ⌝ }
     ensures { λ r. ⌜ SystemAs k given places r ⌝ }
 {
     if all_given(places, k) {
-        return [[0u8; WIDTH]; WIDTH];
+        return [[0u8; ROW]; WIDTH];
     }
     crate::system::solve(given, k)
 }
@@ -78,7 +76,7 @@ pub(crate) struct Wanted {
 }
 
 // The bytes of a run: a copy where the run is given, and otherwise a sum that the system weighs at its point.
-pub(crate) fn run(a: [[u8; WIDTH]; WIDTH], runs: Runs, fragments: &[u8], w: Wanted, out: &mut [u8])
+pub(crate) fn run(a: [[u8; ROW]; WIDTH], runs: Runs, fragments: &[u8], w: Wanted, out: &mut [u8])
     requires { ⌜ (runs .count ≤ width) × ((j : ℕ) → j < runs .count → getD (runs .starts) j 0 + w .size ≤ length (now fragments))
         × (w .at + w .size ≤ length (now out)) × (1 ≤ runs .count) ⌝ }
     ensures { λ _. ⌜ RunWritten (now (out .entry)) (now (out .exit)) (w .at) (w .size)
