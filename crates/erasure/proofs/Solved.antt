@@ -2,7 +2,7 @@
 use mathlib.Core.Path.{_≡_, refl, sym, ap, ap₂, subst, _∙_}
 use mathlib.Core.List.{List, [], _∷_, map}
 use Prim.Native.Nat.{ℕ, zero, suc, _%_, _<_, _≤_}
-use native.Mathlib.Nat.{mod-lt, mod-eq-of-lt, zero-lt-suc, le-of-suc-le-suc, not-suc-le-zero, le-trans}
+use native.Mathlib.Nat.{mod-lt, mod-eq-of-lt, zero-lt-suc, le-of-suc-le-suc, not-suc-le-zero}
 use native.Mathlib.Decide.{ℕ-discrete}
 use native.Mathlib.Omega.{arith}
 use lib.Bits.{bitXor, xor-lt}
@@ -18,7 +18,7 @@ use Rattle.gf256.proofs.Powers.{pivot, all-turned, weights, Different, pow, tab
 use Rattle.gf256.proofs.Byte.{Byte, field, laws, same, addB, mulB, invB, nilB, oneB, through-number}
 use Rattle.erasure.specs.Fragments.{table}
 use Rattle.erasure.proofs.Sums.{sumTo-ext}
-use Rattle.erasure.specs.System.{width, entry, SystemTurned, sumTo, weightAt, AllDifferent, Solves}
+use Rattle.erasure.specs.System.{entry, SystemTurned, sumTo, weightAt, AllDifferent, Solves}
 
 abbrev pub toByte : ℕ → Byte
 toByte n = (n % 256, mod-lt n (zero-lt-suc 255))
@@ -41,11 +41,12 @@ to-inv a h = same (toByte (inverse a)) (invB (toByte a)) (to-val (inverse a) (in
 abbrev pub mat : List (List ℕ) → ℕ → ℕ → Byte
 mat a r c = toByte (entry a r c)
 
-abbrev pub Small : List (List ℕ) → Type 0
-Small a = (r c : ℕ) → r < width → c < width → entry a r c < 256
+-- the entries of the first k rows and columns are bytes
+abbrev pub Small : ℕ → List (List ℕ) → Type 0
+Small k a = (r c : ℕ) → r < k → c < k → entry a r c < 256
 
-module _ (a out : List (List ℕ)) (p d : ℕ) (t : SystemTurned a p d out) (small : Small a) (dsmall : d < 256) (pw : p < width) where
-  pub small-out : Small out
+module _ (k : ℕ) (a out : List (List ℕ)) (p d : ℕ) (t : SystemTurned k a p d out) (small : Small k a) (dsmall : d < 256) (pk : p < k) where
+  pub small-out : Small k out
   small-out r c hr hc = go (ℕ-discrete r p) (ℕ-discrete c p)
     where
       go : Dec (r ≡ p) → Dec (c ≡ p) → entry out r c < 256
@@ -54,22 +55,22 @@ module _ (a out : List (List ℕ)) (p d : ℕ) (t : SystemTurned a p d out) (sma
       go (yes e) (no nf) = subst (λ (x : ℕ). entry out x c < 256) (sym e) (subst (λ (x : ℕ). x < 256) (sym (t .pc c hc nf))
           (times-lt d (entry a p c) dsmall))
       go (no ne) (yes f) = subst (λ (x : ℕ). entry out r x < 256) (sym f) (subst (λ (x : ℕ). x < 256) (sym (t .rp r hr ne))
-          (times-lt (entry a r p) d (small r p hr pw)))
+          (times-lt (entry a r p) d (small r p hr pk)))
       go (no ne) (no nf) =
           subst (λ (x : ℕ). x < 256) (sym (t .rc r c hr hc ne nf))
           (xor-lt 8 (entry a r c) (times (times (entry a r p) d) (entry a p c)) (small r c hr hc)
-          (times-lt (times (entry a r p) d) (entry a p c) (times-lt (entry a r p) d (small r p hr pw))))
+          (times-lt (times (entry a r p) d) (entry a p c) (times-lt (entry a r p) d (small r p hr pk))))
 
-  pub turned-mat : (k : ℕ) → k ≤ width → Turned field laws k p (toByte d) (mat a) (mat out)
-  turned-mat k kw = record {
+  pub turned-mat : Turned field laws k p (toByte d) (mat a) (mat out)
+  turned-mat = record {
     pp = ap toByte (t .pp);
-    pc = λ c h ne. ap toByte (t .pc c (le-trans h kw) ne) ∙ to-mul d (entry a p c) dsmall (small p c pw (le-trans h kw));
-    rp = λ r h ne. ap toByte (t .rp r (le-trans h kw) ne) ∙ to-mul (entry a r p) d (small r p (le-trans h kw) pw) dsmall;
+    pc = λ c h ne. ap toByte (t .pc c h ne) ∙ to-mul d (entry a p c) dsmall (small p c pk h);
+    rp = λ r h ne. ap toByte (t .rp r h ne) ∙ to-mul (entry a r p) d (small r p h pk) dsmall;
     rc = λ r c hr hc ne nc.
-        let sr : entry a r p < 256 = small r p (le-trans hr kw) pw in
-        let sp : entry a p c < 256 = small p c pw (le-trans hc kw) in
-        ap toByte (t .rc r c (le-trans hr kw) (le-trans hc kw) ne nc)
-        ∙ to-add (entry a r c) (times (times (entry a r p) d) (entry a p c)) (small r c (le-trans hr kw) (le-trans hc kw))
+        let sr : entry a r p < 256 = small r p hr pk in
+        let sp : entry a p c < 256 = small p c pk hc in
+        ap toByte (t .rc r c hr hc ne nc)
+        ∙ to-add (entry a r c) (times (times (entry a r p) d) (entry a p c)) (small r c hr hc)
         (times-lt (times (entry a r p) d) (entry a p c) (times-lt (entry a r p) d sr))
         ∙ ap (addB (mat a r c)) (to-mul (times (entry a r p) d) (entry a p c) (times-lt (entry a r p) d sr) sp ∙ ap (λ (x : Byte). mulB x (mat a p c))
         (to-mul (entry a r p) d sr dsmall));
@@ -128,10 +129,10 @@ unfolding tab table
 tab-table zero f y e = refl
 tab-table (suc k) f y e = ap₂ (λ (u : ℕ) (v : List ℕ). u ∷ v) (e 0) (tab-table k (λ i. f (suc i)) (λ i. y (suc i)) (λ i. e (suc i)))
 
-pub solves : (k : ℕ) (xs : List ℕ) (a : List (List ℕ)) → k ≤ width → k ≤ length xs → ((i : ℕ) → getD xs i 0 < 256) → Small a → AllDifferent k xs
+pub solves : (k : ℕ) (xs : List ℕ) (a : List (List ℕ)) → k ≤ length xs → ((i : ℕ) → getD xs i 0 < 256) → Small k a → AllDifferent k xs
     → Half field laws k (λ r c. pow field laws (point xs r) c) k (mat a) → Solves k xs a
 unfolding weightAt
-solves k xs a kw kx s sa d half z hz y sy =
+solves k xs a kx s sa d half z hz y sy =
     let v : ℕ → Byte = λ j. toByte (y j) in
     let q : Byte = (z, hz) in
     let w : ℕ → Byte = λ j. sum field laws k (λ c. mulB (pow field laws q c) (mat a c j)) in
@@ -140,7 +141,7 @@ solves k xs a kw kx s sa d half z hz y sy =
     let e : w j .0 ≡ weightAt k a z j =
     sum-number k (λ c. mulB (pow field laws q c) (mat a c j))
     ∙ sumTo-ext k (λ c. mulB (pow field laws q c) (mat a c j) .0) (λ c. times (power z c) (entry a c j))
-    (λ c hc. ap₂ times (pow-number q c) (to-val (entry a c j) (sa c j (le-trans hc kw) (le-trans hj kw)))) in
+    (λ c hc. ap₂ times (pow-number q c) (to-val (entry a c j) (sa c j hc hj))) in
     times-comm (y j) (weightAt k a z j) (sy j) (subst (λ (x : ℕ). x < 256) e (w j .1))
     ∙ ap₂ times (sym e) (sym (to-val (y j) (sy j))))
     ∙ sym (sum-number k (λ j. mulB (w j) (v j)))
@@ -150,14 +151,13 @@ solves k xs a kw kx s sa d half z hz y sy =
     (tab-table k v y (λ i. to-val (y i) (sy i)))
 
 -- the system that the code begins with
-pub begun : (k : ℕ) (xs : List ℕ) (a : List (List ℕ)) → k ≤ width → ((i : ℕ) → getD xs i 0 < 256)
-    → ((i c : ℕ) → i < width → c < width → entry a i c ≡ power (getD xs i 0) c) → (r c : ℕ) → r < k → c < k → mat a r c ≡ pow field laws (point xs r)
-    c
-begun k xs a kw s e r c hr hc =
-    same (mat a r c) (pow field laws (point xs r) c)
-    (ap (λ (x : ℕ). x % 256) (e r c (le-trans hr kw) (le-trans hc kw)) ∙ to-val (power (getD xs r 0) c) (power-lt (getD xs r 0) c (s r))
-    ∙ sym (pow-number (point xs r) c ∙ ap (λ (x : ℕ). power x c) (to-val (getD xs r 0) (s r))))
+module _ (k : ℕ) (xs : List ℕ) (a : List (List ℕ)) (s : (i : ℕ) → getD xs i 0 < 256)
+    (e : (i c : ℕ) → i < k → c < k → entry a i c ≡ power (getD xs i 0) c) where
+  pub begun : (r c : ℕ) → r < k → c < k → mat a r c ≡ pow field laws (point xs r) c
+  begun r c hr hc =
+      same (mat a r c) (pow field laws (point xs r) c)
+      (ap (λ (x : ℕ). x % 256) (e r c hr hc) ∙ to-val (power (getD xs r 0) c) (power-lt (getD xs r 0) c (s r))
+      ∙ sym (pow-number (point xs r) c ∙ ap (λ (x : ℕ). power x c) (to-val (getD xs r 0) (s r))))
 
-pub begun-small : (xs : List ℕ) (a : List (List ℕ)) → ((i : ℕ) → getD xs i 0 < 256)
-    → ((i c : ℕ) → i < width → c < width → entry a i c ≡ power (getD xs i 0) c) → Small a
-begun-small xs a s e r c hr hc = subst (λ (x : ℕ). x < 256) (sym (e r c hr hc)) (power-lt (getD xs r 0) c (s r))
+  pub begun-small : Small k a
+  begun-small r c hr hc = subst (λ (x : ℕ). x < 256) (sym (e r c hr hc)) (power-lt (getD xs r 0) c (s r))

@@ -4,13 +4,17 @@ use mathlib.Core.Path.{_≡_, refl, sym, ap, ap₂, _∙_}
 use Prim.Native.Nat.{ℕ, zero, suc, _+_, _<_}
 use native.Mathlib.Nat.{zero-lt-suc, le-refl, le-suc, le-trans}
 use native.Mathlib.Numerals.{add-one}
-use lib.Bits.{bitXor, xor-lt}
+use lib.Bits.{bitXor, xor-lt, xor-zero-l}
 use Rattle.gf256.proofs.Xor.{xor-swap}
 use Rattle.erasure.specs.System.{sumTo}
 
 pub sumTo-none : (f : ℕ → ℕ) → sumTo 0 f ≡ 0
 unfolding sumTo
 sumTo-none f = refl
+
+pub sumTo-one : (f : ℕ → ℕ) → sumTo 1 f ≡ f 0
+unfolding sumTo
+sumTo-one f = xor-zero-l (f 0)
 
 -- one term more
 pub sumTo-more : (k : ℕ) (f : ℕ → ℕ) (acc v : ℕ) → acc ≡ sumTo k f → v ≡ f k → bitXor acc v ≡ sumTo (k + 1) f

@@ -1,4 +1,4 @@
--- What the private functions on the system promise each other; no public contract names these.
+-- What the private functions on the system promise each other; of these public contracts name only `width` and `sumTo`, in `Weights`.
 -- A system has at most `width` rows and columns of bytes (document 01): row r has the powers of point r. It is turned at one pivot after the other.
 use mathlib.Core.Path.{_≡_}
 use mathlib.Core.Logic.{_≢_}
@@ -17,6 +17,10 @@ use Rattle.erasure.specs.Fragments.{table}
 abbrev pub width : ℕ
 width = 5
 
+-- the bytes for which a row has room
+abbrev pub rowRoom : ℕ
+rowRoom = 16
+
 -- the entry in row r and column c
 abbrev pub entry : List (List ℕ) → ℕ → ℕ → ℕ
 entry a r c = getD (getD a r []) c 0
@@ -26,13 +30,12 @@ pub record RowTurned (row pivot : List ℕ) (d p : ℕ) (out : List ℕ) : Type 
   pub here : getD out p 0 ≡ times (getD row p 0) d
   pub there : (c : ℕ) → c < width → c ≢ p → getD out c 0 ≡ bitXor (getD row c 0) (times (times (getD row p 0) d) (getD pivot c 0))
 
--- out is a, turned at p: the p-th unknown and the p-th value have changed places
-pub record SystemTurned (a : List (List ℕ)) (p d : ℕ) (out : List (List ℕ)) : Type 0 where
+-- out is a, of k rows and columns, turned at p: the p-th unknown and the p-th value have changed places
+pub record SystemTurned (k : ℕ) (a : List (List ℕ)) (p d : ℕ) (out : List (List ℕ)) : Type 0 where
   pub pp : entry out p p ≡ d
-  pub pc : (c : ℕ) → c < width → c ≢ p → entry out p c ≡ times d (entry a p c)
-  pub rp : (r : ℕ) → r < width → r ≢ p → entry out r p ≡ times (entry a r p) d
-  pub rc : (r c : ℕ) → r < width → c < width → r ≢ p → c ≢ p
-      → entry out r c ≡ bitXor (entry a r c) (times (times (entry a r p) d) (entry a p c))
+  pub pc : (c : ℕ) → c < k → c ≢ p → entry out p c ≡ times d (entry a p c)
+  pub rp : (r : ℕ) → r < k → r ≢ p → entry out r p ≡ times (entry a r p) d
+  pub rc : (r c : ℕ) → r < k → c < k → r ≢ p → c ≢ p → entry out r c ≡ bitXor (entry a r c) (times (times (entry a r p) d) (entry a p c))
 
 -- the sum of f i for i below n
 unfoldable pub sumTo : ℕ → (ℕ → ℕ) → ℕ

@@ -7,6 +7,8 @@ ghost use Rattle.erasure.specs.Standing.{placeOf, allGiven, SystemAs};
 
 const WIDTH: usize = crate::system::WIDTH;
 
+const ROW: usize = crate::system::ROW;
+
 // Where point z stands among the first k points given, or k where it does not.
 fn place_of(given: [u8; WIDTH], k: usize, z: u8) -> usize
     requires { ⌜ k ≤ width ⌝ }
@@ -52,16 +54,12 @@ fn all_given(places: [usize; WIDTH], k: usize) -> bool
 }
 
 // The solved system of the first k points given, which a run that is not given needs; where all are given, nothing is solved.
-pub(crate) fn system_of(
-    given: [u8; WIDTH],
-    places: [usize; WIDTH],
-    k: usize,
-) -> [[u8; WIDTH]; WIDTH]
+pub(crate) fn system_of(given: [u8; WIDTH], places: [usize; WIDTH], k: usize) -> [[u8; ROW]; WIDTH]
     requires { ⌜ (k ≤ width) × AllDifferent k given ⌝ }
     ensures { λ r. ⌜ SystemAs k given places r ⌝ }
 {
     if all_given(places, k) {
-        return [[0u8; WIDTH]; WIDTH];
+        return [[0u8; ROW]; WIDTH];
     }
     crate::system::solve(given, k)
 }

@@ -10,7 +10,7 @@ ghost use Rattle.erasure.specs.System.{width, entry, sumTo};
 ghost use Rattle.erasure.specs.Lanes.{lane, bitOf, Lane, byteAt, sumAt, RunWritten};
 
 // How many places are worked on together.
-const LANE: usize = 64;
+const LANE: usize = 128;
 
 const WIDTH: usize = crate::system::WIDTH;
 
@@ -72,14 +72,14 @@ fn bit_step(
 }
 
 // The sum of the first k lanes, each times its weight.
-fn lane_sum(lanes: [[u8; LANE]; WIDTH], weights: [u8; WIDTH], k: usize) -> [u8; LANE]
-    requires { ⌜ k ≤ width ⌝ }
-    ensures { λ r. ⌜ Lane r (λ i. sumTo k (λ j. times (entry lanes j i) (getD weights j 0))) ⌝ }
+fn lane_sum(lanes: &[[u8; LANE]; WIDTH], weights: [u8; WIDTH], k: usize) -> [u8; LANE]
+    requires { ⌜ (k ≤ width) × ((j i : ℕ) → j < k → i < lane → entry (now lanes) j i < 256) ⌝ }
+    ensures { λ r. ⌜ Lane r (λ i. sumTo k (λ j. times (entry (now (lanes .entry)) j i) (getD weights j 0))) ⌝ }
 {
     let mut out = [0u8; LANE];
     let mut n: u32 = 0;
     while n < 8 {
-        let more = bit_step(out, &lanes, weights, 7 - n, k);
+        let more = bit_step(out, lanes, weights, 7 - n, k);
         out = more;
         n += 1;
     }
@@ -131,18 +131,17 @@ fn lane_at(src: &[u8], at: usize) -> [u8; LANE]
     part_lane(src, at)
 }
 
-// The lanes of the first k runs from place q on.
-fn gather(src: &[u8], starts: [usize; WIDTH], q: usize, k: usize) -> [[u8; LANE]; WIDTH]
-    requires { ⌜ (k ≤ width) × ((j : ℕ) → j < k → getD starts j 0 + q ≤ length (now src) + width) ⌝ }
-    ensures { λ r. ⌜ ((j : ℕ) → j < k → Lane (getD r j []) (λ i. byteAt (now (src .entry)) starts (q + i) j)) ⌝ }
+// The lanes of the first k runs from place q on, written over the first k of out.
+fn gather(out: &mut [[u8; LANE]; WIDTH], src: &[u8], starts: [usize; WIDTH], q: usize, k: usize)
+    requires { ⌜ (k ≤ width) × ((j : ℕ) → j < k → getD starts j 0 + q ≤ length (now src) + width) × (length (now out) ≡ width) ⌝ }
+    ensures { λ _. ⌜ ((j : ℕ) → j < k → Lane (getD (now (out .exit)) j []) (λ i. byteAt (now (src .entry)) starts (q + i) j))
+        × (length (now (out .exit)) ≡ width) ⌝ }
 {
-    let mut out = [[0u8; LANE]; WIDTH];
     let mut j: usize = 0;
     while j < k {
         out[j] = lane_at(src, starts[j] + q);
         j += 1;
     }
-    out
 }
 
 // The first m bytes of a lane, written from place at on.
@@ -184,11 +183,12 @@ pub(crate) fn combine(
     if k == 0 {
         return;
     }
+    let mut lanes = [[0u8; LANE]; WIDTH];
     let mut q: usize = 0;
     while q < m {
         let n = at_most_lane(m - q);
-        let lanes = gather(src, starts, q, k);
-        let sum = lane_sum(lanes, weights, k);
+        gather(&mut lanes, src, starts, q, k);
+        let sum = lane_sum(&lanes, weights, k);
         store(out, at + q, n, sum);
         q += n;
     }

@@ -12,15 +12,19 @@ use crate::choice::Chosen;
 
 const WIDTH: usize = crate::system::WIDTH;
 
+const ROW: usize = crate::system::ROW;
+
 const ROWS: usize = crate::ROWS;
 
 // The weights at z: where z is one of the points given, only the value there counts; otherwise the solved system tells them.
-fn row_of(a: [[u8; WIDTH]; WIDTH], k: usize, place: usize, z: u8) -> [u8; WIDTH]
+fn row_of(a: [[u8; ROW]; WIDTH], k: usize, place: usize, z: u8) -> [u8; WIDTH]
     requires { ⌜ (1 ≤ k) × (k ≤ width) ⌝ }
     ensures { λ r. ⌜ ((j : ℕ) → j < k → getD r j 0 ≡ rowAt k a place z j) ⌝ }
 {
     if place < k {
-        return crate::system::unit_row(place);
+        let mut out = [0u8; WIDTH];
+        out[place] = 1;
+        return out;
     }
     crate::system::weights(a, k, z)
 }

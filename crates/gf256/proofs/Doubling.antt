@@ -2,11 +2,11 @@
 -- where the bit is set, by a mask. The double of a byte is shown by a test that goes through all bytes. Nothing is assumed.
 use mathlib.Core.Path.{_≡_, sym, ap, _∙_}
 use mathlib.Core.Bool.{Bool}
-use Prim.Native.Nat.{ℕ, zero, suc, _+_, _*_, _/_, _%_, _^_, _<_, _≤_}
+use Prim.Native.Nat.{ℕ, zero, suc, _+_, _*_, _/_, _%_, _^_, _<_}
 use native.Mathlib.Nat.{zero-mul, one-mul, mod-eq-of-lt}
 use native.Mathlib.Numerals.{add-one}
 use native.Mathlib.Omega.{arith}
-use lib.Bits.{bitXor, bitAnd, xor-comm, xor-zero-r, and-zero-r, and-mask}
+use lib.Bits.{bitXor, bitAnd, xor-comm, and-zero-r, and-mask}
 use lib.Pow.{shr-shr}
 use lib.Dec.{eqb, eqb→eq}
 use Rattle.gf256.specs.Gf.{xtime, timesBits}
@@ -16,21 +16,11 @@ use Rattle.gf256.proofs.Linear.{timesBits-xtime}
 -- ---- the double of a byte
 
 doubleAt : ℕ → Bool
-doubleAt a = eqb (bitXor (a * 2 % 256) (a / 128 * 27)) (xtime a)
+doubleAt a = eqb (bitXor (a * 2 % 256) (bitAnd (a / 128 % 2 * 255) 27)) (xtime a)
 
-double-all : (a : ℕ) → a < 256 → bitXor (a * 2 % 256) (a / 128 * 27) ≡ xtime a
+pub double-all : (a : ℕ) → a < 256 → bitXor (a * 2 % 256) (bitAnd (a / 128 % 2 * 255) 27) ≡ xtime a
 unfolding xtime doubleAt
-double-all a h = eqb→eq (bitXor (a * 2 % 256) (a / 128 * 27)) (xtime a) (each-at doubleAt 256 tt a h)
-
-pub double-low : (a : ℕ) → a < 128 → a * 2 % 256 ≡ xtime a
-double-low a h =
-    let e : a / 128 * 27 ≡ 0 = omega arith in
-    sym (xor-zero-r (a * 2 % 256)) ∙ ap (bitXor (a * 2 % 256)) (sym e) ∙ double-all a (omega arith)
-
-pub double-high : (a : ℕ) → 128 ≤ a → a < 256 → bitXor (a * 2 % 256) 27 ≡ xtime a
-double-high a l h =
-    let e : a / 128 * 27 ≡ 27 = omega arith in
-    ap (bitXor (a * 2 % 256)) (sym e) ∙ double-all a h
+double-all a h = eqb→eq (bitXor (a * 2 % 256) (bitAnd (a / 128 % 2 * 255) 27)) (xtime a) (each-at doubleAt 256 tt a h)
 
 -- ---- a bit as a mask
 

@@ -12,10 +12,10 @@ use Rattle.erasure.proofs.system.begin.Statement.{statement}
 use Rattle.erasure.proofs.system.begin.Tie as tie
 
 abbrev Inv-loop : tie.InvT-loop
-Inv-loop xs a₀ r₀ a r = (r ≤ width) × Filled [] (λ i row. (c : ℕ) → c < width → getD row c 0 ≡ power (getD xs i 0) c) width r a
+Inv-loop k xs a₀ r₀ a r = (r ≤ k) × Filled [] (λ i row. (c : ℕ) → c < k → getD row c 0 ≡ power (getD xs i 0) c) width r a
 
 abbrev μ-loop : tie.MeasureT-loop
-μ-loop xs a₀ r₀ a r = width - r
+μ-loop k xs a₀ r₀ a r = k - r
 
 loop-holds : tie.Need-loop-holds Inv-loop μ-loop
 loop-holds c = (search needs, filled-none refl)

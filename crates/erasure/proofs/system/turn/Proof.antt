@@ -14,11 +14,11 @@ use Rattle.erasure.proofs.system.turn.Statement.{statement}
 use Rattle.erasure.proofs.system.turn.Tie as tie
 
 abbrev Inv-loop : tie.InvT-loop
-Inv-loop p pivot d out₀ r₀ out r = (r ≤ width) × Filled [] (λ j row. RowTurned (getD out₀ j []) pivot d p row) width r out ×
+Inv-loop p k pivot d out₀ r₀ out r = (r ≤ k) × Filled [] (λ j row. RowTurned (getD out₀ j []) pivot d p row) width r out ×
     ((j : ℕ) → r ≤ j → getD out j [] ≡ getD out₀ j [])
 
 abbrev μ-loop : tie.MeasureT-loop
-μ-loop p pivot d out₀ r₀ out r = width - r
+μ-loop p k pivot d out₀ r₀ out r = k - r
 
 loop-holds : tie.Need-loop-holds Inv-loop μ-loop
 loop-holds c = (search needs, filled-none (search needs), λ j h. refl)
@@ -41,9 +41,9 @@ returns c =
     let args = c .before .before .before .before .before .args in
     let unit = c .before .before .unit-row in
     let d = c .before .before .before .inverse in
-    subst (λ (x : ℕ). SystemTurned (args .t1) (args .p) x (c .before .loop .out)) (d .ensures)
-    (system-turned (args .t1) (c .before .loop .out) (args .p) (d .result) (unit .result) (search needs) (search needs) (unit .ensures .0)
-    (unit .ensures .1) (search needs)
+    subst (λ (x : ℕ). SystemTurned (args .k) (args .t1) (args .p) x (c .before .loop .out)) (d .ensures)
+    (system-turned (args .k) (args .t1) (c .before .loop .out) (args .p) (d .result) (unit .result) (search needs) (search needs) (unit .ensures .0)
+    (unit .ensures .1) (search needs) (search needs)
     (λ j h. c .before .loop .inv .1 .each j (omega arith)))
 
 pub turn-spec : {M : Type 1} → statement M

@@ -1,4 +1,4 @@
--- Each entry is what `weight` gives there. Assumes nothing.
+-- The sum of the rows, each times its power of z, has the weights; the first of its entries are taken. Assumes nothing.
 use mathlib.Core.Path.{_≡_, refl, ap, _∙_}
 use Prim.Native.Nat.{ℕ, _-_, _≤_}
 use native.Mathlib.Omega.{arith}
@@ -12,31 +12,32 @@ use Rattle.erasure.proofs.system.weights.Statement.{statement}
 use Rattle.erasure.proofs.system.weights.Tie as tie
 
 abbrev Inv-loop : tie.InvT-loop
-Inv-loop a k z powers out₀ j₀ out j = (j ≤ width) × Filled 0 (λ i v. v ≡ weightAt k a z i) width j out
+Inv-loop k z sum out₀ j₀ out j = (j ≤ width) × Filled 0 (λ i v. v ≡ getD sum i 0) width j out
 
 abbrev μ-loop : tie.MeasureT-loop
-μ-loop a k z powers out₀ j₀ out j = width - j
+μ-loop k z sum out₀ j₀ out j = width - j
+
+-- the power 0 is 1
+sum-rows-requires : tie.Need-sum-rows-requires Inv-loop μ-loop
+unfolding power
+sum-rows-requires c κs = (search needs, search needs, c .powers-row .ensures 0 (search needs))
 
 loop-holds : tie.Need-loop-holds Inv-loop μ-loop
 loop-holds c = (search needs, filled-none refl)
 
 loop-again : tie.Need-loop-again Inv-loop μ-loop
-unfolding weightAt
-loop-again c =
-    let at = c .before .before .loop in
-    let args = c .before .before .before .before .args in
-    let powers = c .before .before .before .powers-row in (
-      search needs,
-      filled-more (at .inv .1) (omega arith) _
-          (c .weight .ensures
-          ∙ sumTo-ext (args .k) (λ i. times (getD (powers .result) i 0) (entry (args .a) i (at .j)))
-          (λ i. times (power (args .z) i) (entry (args .a) i (at .j)))
-          (λ i h. ap (λ (x : ℕ). times x (entry (args .a) i (at .j))) (powers .ensures i (omega arith)))),
-    )
+loop-again c = (search needs, filled-more (c .before .loop .inv .1) (omega arith) _ refl)
 
 returns : tie.Need-returns Inv-loop μ-loop
-returns c j h = c .before .loop .inv .1 .each j (omega arith)
+unfolding weightAt
+returns c j h =
+    let at-sum = c .before .before in
+    let powers = at-sum .before .powers-row in
+    let args = at-sum .before .before .args in
+    c .before .loop .inv .1 .each j (omega arith) ∙ at-sum .sum-rows .ensures j (omega arith)
+    ∙ sumTo-ext (args .k) (λ i. times (getD (powers .result) i 0) (entry (args .a) i j)) (λ i. times (power (args .z) i) (entry (args .a) i j))
+    (λ i b. ap (λ (x : ℕ). times x (entry (args .a) i j)) (powers .ensures i b))
 
 pub weights-spec : {M : Type 1} → statement M
-weights-spec = tie.close (tie.spec Inv-loop μ-loop (λ c κs. search needs) loop-holds (λ c κs. search needs) (λ c. search needs) (λ c. search needs)
-    (λ c. search needs) loop-again returns)
+weights-spec = tie.close (tie.spec Inv-loop μ-loop (λ c κs. search needs) sum-rows-requires loop-holds (λ c. search needs) (λ c. search needs)
+    (λ c. search needs) (λ c. search needs) loop-again returns)
