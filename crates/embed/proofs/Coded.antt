@@ -74,7 +74,7 @@ no-room t server content out h = rw (lt-ltb _ _ h) refl
 
 -- ---- restoring
 
-by-count : (q n most : ℕ) (x y : List ℕ) → (q ≡ 0 → n ≤ most)
+pub by-count : (q n most : ℕ) (x y : List ℕ) → (q ≡ 0 → n ≤ most)
     → onRefusal {A = Outcome × List ℕ} q (record { number = 0; count = n }, x) (record { number = q; count = 0 }, y) .0 .count ≤ most
 by-count zero n most x y h = h refl
 by-count (suc q) n most x y h = omega arith

@@ -3,6 +3,7 @@ pub mod Layouts
 pub mod CodeTold
 pub mod RoundTold
 pub mod Coded
+pub mod Weighing
 pub mod Planned
 pub mod Sessions
 pub mod Altered

@@ -1,6 +1,7 @@
 pub mod Packing
 pub mod Digests
 pub mod Coding
+pub mod Weights
 pub mod Clients
 pub mod Servers
 pub mod Drills

@@ -11,3 +11,4 @@ mod replies;
 mod rounds;
 mod servers;
 mod versions;
+mod weights;

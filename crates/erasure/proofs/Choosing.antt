@@ -4,11 +4,11 @@ use mathlib.Core.Path.{_≡_, refl, sym, ap, subst, _∙_}
 use mathlib.Core.Logic.{_≢_}
 use mathlib.Core.Bool.{Bool, true, false, _||_, true≢false, or-true}
 use mathlib.Core.List.{List, [], _∷_, _++_, map}
-use Prim.Native.Nat.{ℕ, zero, suc, _+_, _<_, suc-le-suc}
+use Prim.Native.Nat.{ℕ, zero, suc, _+_, _<_, _≤_, suc-le-suc}
 use native.Mathlib.Nat.{zero-lt-suc, le-of-suc-le-suc, not-suc-le-zero}
 use native.Mathlib.Decide.{ℕ-discrete, decLt}
 use native.Mathlib.Omega.{arith}
-use borrow.Author.Tests.{eq-eqb, ne-eqb}
+use borrow.Author.Tests.{eq-eqb, ne-eqb, ltb-true}
 use lib.Arith.{lt-of-le-ne}
 use lib.Dec.{eqb, ltb}
 use lib.ListN.{length, getD, length-append, List·getD-append}
@@ -106,3 +106,15 @@ chosen-lt k ss zero j h = absurd (not-suc-le-zero h)
 chosen-lt k ss (suc i) j h =
     more-lt (ltb (length (picked k ss i)) k) (among (getD ss i 0) (map (λ p. getD ss p 0) (picked k ss i))) (picked k ss i) i (chosen-lt k ss i)
     j h
+
+-- and they are at most k
+pub chosen-most : (k : ℕ) (ss : List ℕ) (i : ℕ) → length (picked k ss i) ≤ k
+unfolding picked
+chosen-most k ss zero = omega arith
+chosen-most k ss (suc i) =
+    go (ltb (length (picked k ss i)) k) (among (getD ss i 0) (serversAt ss (picked k ss i))) refl (chosen-most k ss i)
+  where
+    go : (b h : Bool) → ltb (length (picked k ss i)) k ≡ b → length (picked k ss i) ≤ k → length (more b h (picked k ss i) i) ≤ k
+    go true true e l = l
+    go true false e l = omega (arith, length-append (picked k ss i) (i ∷ []), ltb-true (length (picked k ss i)) k e)
+    go false h e l = l

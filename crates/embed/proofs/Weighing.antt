@@ -1,0 +1,132 @@
+-- What the exports of weights and of restoring by them rest on: the operations' answers by cases on their refusal, and how large a count can be.
+-- As many servers are told as are used, and a count of bytes belongs to a legal content. Assumes nothing.
+use mathlib.Core.Path.{_≡_, refl, sym, ap, subst, _∙_}
+use mathlib.Core.List.{List}
+use Prim.Native.Nat.{ℕ, zero, suc, _+_, _-_, _*_, _≤_, _<_}
+use native.Mathlib.Nat.{mul-le-mul}
+use native.Mathlib.Decide.{ℕ-discrete}
+use native.Mathlib.Omega.{arith}
+use lib.ListN.{length, take, length-append, length-map, replicate}
+use lib.Seq.{take-at}
+use borrow.Author.Tests.{lt-ltb, le-ltb}
+use Rattle.cluster.specs.Config.{shelf}
+use Rattle.cluster.specs.Ranges.{topLength}
+use Rattle.cluster.specs.Refusals.{wrongSize, onRefusal, firstOf}
+use Rattle.cluster.specs.declared.Outcome.{Outcome}
+use Rattle.erasure.specs.declared.WeightsOutcome.{WeightsOutcome}
+use Rattle.erasure.specs.Choice.{firstDifferent}
+use Rattle.erasure.specs.System.{width}
+use Rattle.erasure.specs.Weights.{rowsRoom, weightRows, serverChecks, weightsRefusal, usedServers, usedWeights, weightsStep}
+use Rattle.erasure.specs.Weights.{weighedRefusal, weighedStep}
+use Rattle.erasure.proofs.Choosing.{chosen-most}
+use Rattle.erasure.proofs.Lists.{length-table}
+use Rattle.erasure.proofs.Refused.{first-of-first}
+use Rattle.erasure.proofs.WeightTests.{named, refused-as-few, sums}
+use Rattle.embed.specs.Coding.{outcomeOf}
+use Rattle.embed.proofs.Coded.{by-count}
+use Rattle.embed.specs.Weights.{weightsExportRefusal, weighedBy}
+
+-- ---- the weights
+
+by-number : (q k : ℕ) (us rs vs ws : List ℕ) → onRefusal {A = WeightsOutcome} q (record { number = 0; count = k; servers = us; rows = rs })
+    (record { number = q; count = 0; servers = vs; rows = ws }) .number ≡ q
+by-number zero k us rs vs ws = refl
+by-number (suc q) k us rs vs ws = refl
+
+module _ (t : ℕ) (servers : List ℕ) (none : weightsRefusal t servers ≡ 0) where
+  abbrev k : ℕ
+  k = shelf t .threshold
+
+  tested : firstOf (serverChecks t servers) ≡ 0
+  unfolding weightsRefusal
+  tested = go (ℕ-discrete (firstOf (serverChecks t servers)) 0)
+    where
+      go : Dec (firstOf (serverChecks t servers) ≡ 0) → firstOf (serverChecks t servers) ≡ 0
+      go (yes e) = e
+      go (no some) = absurd (some (sym (first-of-first (serverChecks t servers) _ some) ∙ none))
+
+  pub threshold-most : k ≤ width
+  unfolding shelf
+  threshold-most = omega (arith, named t servers tested .faults .1)
+
+  -- k servers are used
+  pub used-count : length (usedServers t servers) ≡ k
+  unfolding usedServers firstDifferent
+  used-count =
+      length-map (firstDifferent k servers) _ ∙ go (ℕ-discrete (length (firstDifferent k servers)) k)
+    where
+      go : Dec (length (firstDifferent k servers) ≡ k) → length (firstDifferent k servers) ≡ k
+      go (yes e) = e
+      go (no ne) =
+          let few : length (firstDifferent k servers) < k = omega (arith, ne, chosen-most k servers (length servers)) in
+          let refused : 16 ≡ 0 = sym (refused-as-few t servers tested few) ∙ none in
+          omega (arith, refused)
+
+  pub weights-count : length (usedWeights t servers) ≡ k * k
+  unfolding usedWeights weightRows
+  weights-count = length-table (k * k) _
+
+-- what the operation made, where it equals its definition's step
+module _ (t : ℕ) (servers : List ℕ) (made : WeightsOutcome) (is : made ≡ weightsStep t servers) where
+  pub weights-number : made .number ≡ weightsRefusal t servers
+  unfolding weightsStep
+  weights-number = rw is (by-number (weightsRefusal t servers) _ _ _ _ _)
+
+  module _ (none : made .number ≡ 0) where
+    accepted : weightsRefusal t servers ≡ 0
+    accepted = sym weights-number ∙ none
+
+    pub count-is : made .count ≡ shelf t .threshold
+    unfolding weightsStep
+    count-is = rw is (rw accepted refl)
+
+    pub told-servers : take (made .count) (made .servers) ≡ usedServers t servers
+    unfolding weightsStep
+    told-servers = rw is (rw accepted (take-at _ _ _ (used-count t servers accepted)))
+
+    pub told-weights : take (made .count * made .count) (made .rows) ≡ usedWeights t servers
+    unfolding weightsStep
+    told-weights = rw is (rw accepted (take-at _ _ _ (weights-count t servers accepted)))
+
+    pub count-most : made .count ≤ width
+    count-most = omega (arith, count-is, threshold-most t servers accepted)
+
+    pub square-most : made .count * made .count ≤ rowsRoom
+    square-most = mul-le-mul {n₁ = made .count} {m₁ = made .count} {n₂ = width} {m₂ = width} count-most count-most
+
+  -- where the outputs have room, the refusal is the operation's own
+  pub weights-refusal : (used rows : List ℕ) → width ≤ length used → rowsRoom ≤ length rows → weightsExportRefusal t servers used rows ≡ made .number
+  unfolding weightsExportRefusal
+  weights-refusal used rows h g = rw (le-ltb _ _ h) (rw (le-ltb _ _ g) (sym weights-number))
+
+pub no-used : (t : ℕ) (servers used rows : List ℕ) → length used < width → weightsExportRefusal t servers used rows ≡ wrongSize
+unfolding weightsExportRefusal
+no-used t servers used rows h = rw (lt-ltb _ _ h) refl
+
+pub no-rows : (t : ℕ) (servers used rows : List ℕ) → width ≤ length used → length rows < rowsRoom → weightsExportRefusal t servers used rows ≡ wrongSize
+unfolding weightsExportRefusal
+no-rows t servers used rows h g = rw (le-ltb _ _ h) (rw (lt-ltb _ _ g) refl)
+
+-- ---- restoring by weights
+
+module _ (t n : ℕ) (rows fragments out : List ℕ) where
+  most : (r : List ℕ) → weighedStep t n r fragments out .0 .count ≤ topLength
+  unfolding weighedStep
+  most r =
+      by-count (weighedRefusal t n (length fragments) (length out)) n topLength _ _
+      (λ none. sums t n (length fragments) (length out) none .bytes)
+
+  pub weighed-count : (r : List ℕ) (o : Outcome) (after : List ℕ) → (o, after) ≡ weighedStep t n r fragments out → o .count ≤ topLength
+  weighed-count r o after e = subst (λ (p : Outcome × List ℕ). p .0 .count ≤ topLength) (sym e) (most r)
+
+  pub short-rows : (r : ℕ) → length rows < rowsRoom → r ≡ outcomeOf (record { number = wrongSize; count = 0 })
+      → (r ≡ outcomeOf (weighedBy t n rows fragments out .0)) × (out ≡ weighedBy t n rows fragments out .1)
+  unfolding weighedBy
+  short-rows r h gives = rw (lt-ltb _ _ h) (gives, refl)
+
+  pub weighed-answer : (o : Outcome) (after : List ℕ) (r : ℕ) → rowsRoom ≤ length rows
+      → (o, after) ≡ weighedStep t n (take rowsRoom rows) fragments out → r ≡ outcomeOf o
+      → (r ≡ outcomeOf (weighedBy t n rows fragments out .0)) × (after ≡ weighedBy t n rows fragments out .1)
+  unfolding weighedBy
+  weighed-answer o after r h e gives =
+      rw (le-ltb _ _ h) (gives ∙ ap (λ (p : Outcome × List ℕ). outcomeOf (p .0)) e, ap (λ (p : Outcome × List ℕ). p .1) e)
