@@ -1,12 +1,13 @@
 -- What the exports of weights and of restoring by them rest on: the operations' answers by cases on their refusal, and how large a count can be.
 -- As many servers are told as are used, and a count of bytes belongs to a legal content. Assumes nothing.
 use mathlib.Core.Path.{_≡_, refl, sym, ap, subst, _∙_}
-use mathlib.Core.List.{List}
+use mathlib.Core.Logic.{_≢_}
+use mathlib.Core.List.{List, _++_}
 use Prim.Native.Nat.{ℕ, zero, suc, _+_, _-_, _*_, _≤_, _<_}
-use native.Mathlib.Nat.{mul-le-mul}
+use native.Mathlib.Nat.{mul-le-mul, suc-ne-zero}
 use native.Mathlib.Decide.{ℕ-discrete}
 use native.Mathlib.Omega.{arith}
-use lib.ListN.{length, take, length-append, length-map, replicate}
+use lib.ListN.{length, take, drop, length-map}
 use lib.Seq.{take-at}
 use borrow.Author.Tests.{lt-ltb, le-ltb}
 use Rattle.cluster.specs.Config.{shelf}
@@ -22,9 +23,11 @@ use Rattle.erasure.proofs.Choosing.{chosen-most}
 use Rattle.erasure.proofs.Lists.{length-table}
 use Rattle.erasure.proofs.Refused.{first-of-first}
 use Rattle.erasure.proofs.WeightTests.{named, refused-as-few, sums}
+use Rattle.embed.specs.Packing.{packed}
 use Rattle.embed.specs.Coding.{outcomeOf}
+use Rattle.embed.proofs.Laws.{refused-with, carried-out}
 use Rattle.embed.proofs.Coded.{by-count}
-use Rattle.embed.specs.Weights.{weightsExportRefusal, weighedBy}
+use Rattle.embed.specs.Weights.{weightsExportRefusal, weightsOut, weighedBy}
 
 -- ---- the weights
 
@@ -59,8 +62,7 @@ module _ (t : ℕ) (servers : List ℕ) (none : weightsRefusal t servers ≡ 0) 
       go (yes e) = e
       go (no ne) =
           let few : length (firstDifferent k servers) < k = omega (arith, ne, chosen-most k servers (length servers)) in
-          let refused : 16 ≡ 0 = sym (refused-as-few t servers tested few) ∙ none in
-          omega (arith, refused)
+          absurd (suc-ne-zero 15 (sym (refused-as-few t servers tested few) ∙ none))
 
   pub weights-count : length (usedWeights t servers) ≡ k * k
   unfolding usedWeights weightRows
@@ -76,17 +78,23 @@ module _ (t : ℕ) (servers : List ℕ) (made : WeightsOutcome) (is : made ≡ w
     accepted : weightsRefusal t servers ≡ 0
     accepted = sym weights-number ∙ none
 
-    pub count-is : made .count ≡ shelf t .threshold
+    count-is : made .count ≡ shelf t .threshold
     unfolding weightsStep
     count-is = rw is (rw accepted refl)
 
-    pub told-servers : take (made .count) (made .servers) ≡ usedServers t servers
+    told-servers : take (made .count) (made .servers) ≡ usedServers t servers
     unfolding weightsStep
     told-servers = rw is (rw accepted (take-at _ _ _ (used-count t servers accepted)))
 
-    pub told-weights : take (made .count * made .count) (made .rows) ≡ usedWeights t servers
+    told-weights : take (made .count * made .count) (made .rows) ≡ usedWeights t servers
     unfolding weightsStep
     told-weights = rw is (rw accepted (take-at _ _ _ (weights-count t servers accepted)))
+
+    servers-long : length (usedServers t servers) ≡ made .count
+    servers-long = used-count t servers accepted ∙ sym count-is
+
+    weights-long : length (usedWeights t servers) ≡ made .count * made .count
+    weights-long = weights-count t servers accepted ∙ ap (λ (x : ℕ). x * x) (sym count-is)
 
     pub count-most : made .count ≤ width
     count-most = omega (arith, count-is, threshold-most t servers accepted)
@@ -106,6 +114,32 @@ no-used t servers used rows h = rw (lt-ltb _ _ h) refl
 pub no-rows : (t : ℕ) (servers used rows : List ℕ) → width ≤ length used → length rows < rowsRoom → weightsExportRefusal t servers used rows ≡ wrongSize
 unfolding weightsExportRefusal
 no-rows t servers used rows h g = rw (le-ltb _ _ h) (rw (lt-ltb _ _ g) refl)
+
+-- what a refused call answers and leaves
+pub weights-left : (t : ℕ) (servers used rows : List ℕ) (m r : ℕ) → weightsExportRefusal t servers used rows ≡ m → m ≢ 0 → r ≡ packed m 0 0 0
+    → record { answer = r; used = used; rows = rows } ≡ weightsOut t servers used rows
+unfolding weightsOut
+weights-left t servers used rows m r e some gives =
+    let one = refused-with m (weightsExportRefusal t servers used rows) r (usedServers t servers) used e some gives in
+    let two = refused-with m (weightsExportRefusal t servers used rows) r (usedWeights t servers) rows e some gives in
+    λ i. record { answer = one .0 i; used = one .1 i; rows = two .1 i }
+
+-- and an accepted one, of what the operation made
+pub weights-given : (t : ℕ) (servers used rows : List ℕ) (made : WeightsOutcome) (is : made ≡ weightsStep t servers) → made .number ≡ 0
+    → width ≤ length used → rowsRoom ≤ length rows → (r : ℕ) (used-after rows-after : List ℕ) → r ≡ packed 0 0 0 (made .count)
+    → used-after ≡ take (made .count) (made .servers) ++ drop (made .count) used
+    → rows-after ≡ take (made .count * made .count) (made .rows) ++ drop (made .count * made .count) rows
+    → record { answer = r; used = used-after; rows = rows-after } ≡ weightsOut t servers used rows
+unfolding weightsOut
+weights-given t servers used rows made is none h g r used-after rows-after gives put-used put-rows =
+    let n : ℕ = made .count in
+    let q : ℕ = weightsExportRefusal t servers used rows in
+    let e : q ≡ 0 = weights-refusal t servers made is used rows h g ∙ none in
+    let one = carried-out n q r (usedServers t servers) (made .servers) used used-after e gives (told-servers t servers made is none)
+    (servers-long t servers made is none) put-used in
+    let two = carried-out (n * n) q (packed 0 0 0 (n * n)) (usedWeights t servers) (made .rows) rows rows-after e refl
+    (told-weights t servers made is none) (weights-long t servers made is none) put-rows in
+    λ i. record { answer = one .0 i; used = one .1 i; rows = two .1 i }
 
 -- ---- restoring by weights
 

@@ -4,10 +4,9 @@ use super::pack::put;
 ghost use mathlib.Core.Path.{_≡_};
 ghost use Prim.Native.Nat.{_≤_};
 ghost use lib.ListN.{length, take};
-ghost use Rattle.erasure.specs.Weights.{rowsRoom, usedServers, usedWeights};
-ghost use Rattle.embed.specs.Packing.{answer, writtenBy};
+ghost use Rattle.erasure.specs.Weights.{rowsRoom};
 ghost use Rattle.embed.specs.Coding.{outcomeOf};
-ghost use Rattle.embed.specs.Weights.{weightsExportRefusal, weighedBy};
+ghost use Rattle.embed.specs.Weights.{weightsOut, weighedBy};
 
 #[no_mangle]
 pub extern "C" fn cendrulas_weights(
@@ -16,12 +15,8 @@ pub extern "C" fn cendrulas_weights(
     used: &mut [u8],
     rows: &mut [u8],
 ) -> u64
-    ensures { λ r. ⌜ r ≡ answer (weightsExportRefusal t (now (servers .entry)) (now (used .entry)) (now (rows .entry)))
-        (usedServers t (now (servers .entry))) ⌝ }
-    ensures { λ _. ⌜ now (used .exit) ≡ writtenBy (weightsExportRefusal t (now (servers .entry)) (now (used .entry)) (now (rows .entry)))
-        (usedServers t (now (servers .entry))) (now (used .entry)) ⌝ }
-    ensures { λ _. ⌜ now (rows .exit) ≡ writtenBy (weightsExportRefusal t (now (servers .entry)) (now (used .entry)) (now (rows .entry)))
-        (usedWeights t (now (servers .entry))) (now (rows .entry)) ⌝ }
+    ensures { λ r. ⌜ record { answer = r; used = now (used .exit); rows = now (rows .exit) }
+        ≡ weightsOut t (now (servers .entry)) (now (used .entry)) (now (rows .entry)) ⌝ }
 {
     if used.len() < erasure::WIDTH {
         return pack(cluster::WRONG_SIZE, 0, 0, 0);
