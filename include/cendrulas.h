@@ -21,8 +21,8 @@
 extern "C" {
 #endif
 
-/* Version 1.2.0, as major * 65536 + minor * 256 + patch: of this header, and of the archive that is linked. CHANGELOG.md says what changed. */
-#define CENDRULAS_VERSION 66048u
+/* Version 1.3.0, as major * 65536 + minor * 256 + patch: of this header, and of the archive that is linked. CHANGELOG.md says what changed. */
+#define CENDRULAS_VERSION 66304u
 uint32_t cendrulas_version(void);
 
 /* Bytes of what is lent. A packet and a content need so much output, however short they are. */
@@ -31,6 +31,8 @@ uint32_t cendrulas_version(void);
 #define CENDRULAS_PACKET_ROOM 6400u
 #define CENDRULAS_CONTENT_ROOM 1024u
 #define CENDRULAS_FRAGMENT_ROOM 512u
+#define CENDRULAS_USED_SIZE 5u /* the t+1 servers that restoring uses, for every t */
+#define CENDRULAS_ROWS_SIZE 25u /* their weights, t+1 rows of t+1, for every t */
 #define CENDRULAS_KEY 32u
 #define CENDRULAS_KEYS 416u /* the keys of servers 1 to 13, one after the other, whatever t is */
 #define CENDRULAS_NONCE 32u
@@ -44,13 +46,13 @@ uint32_t cendrulas_version(void);
  *   bits 52 to 55   writer of a stamp, 1 to 8; 0 where no stamp is told
  *   bits 48 to 51   result
  *   bits 16 to 47   number of a stamp
- *   bits  0 to 15   count: bytes written at the front of `out`; of a plan, numbers
+ *   bits  0 to 15   count: bytes written at the front of `out`; of a plan, numbers; of weights, servers
  *
  * A refused call answers its refusal with all other parts 0, writes nothing and changes nothing. Bytes of `out` past the count are never written.
  * If several refusals apply, the one that stands first in the function's list is given. Two writes are the same if number and writer are.
  *
- * Refusal 255 stands in no document: a key, a nonce or a client's state was lent with another length than its size, or an output for a digest, a tag,
- * a fragment or a plan with less than theirs. It is tested before all others.
+ * Refusal 255 stands in no document: a key, a nonce or a client's state was lent with another length than its size, or with less than theirs rows of
+ * weights or an output for a digest, a tag, a fragment, weights or a plan. It is tested before all others.
  */
 static inline unsigned cendrulas_refusal(uint64_t answer) { return (unsigned)(answer >> 56); }
 static inline unsigned cendrulas_writer(uint64_t answer) { return (unsigned)(answer >> 52) & 0xFu; }
@@ -126,6 +128,24 @@ uint64_t cendrulas_fragment(size_t t, size_t server, const uint8_t *content, siz
  * Writes the content; count length. All this holds for a content of no bytes too, whose fragments are empty. */
 uint64_t cendrulas_restore(size_t t, size_t length, const size_t *servers, size_t servers_len,
                            const uint8_t *fragments, size_t fragments_len, uint8_t *out, size_t out_len);
+
+/* The weights with which restoring sums the fragments of the servers named. They depend only on which servers answered: one call serves a whole
+ * content, and every other content that the same servers gave. k = t+1 servers are used, the first different ones in the order given. Each plain run
+ * of the content (run i is what server i holds, i from 1 to k) has a row of k weights, one for each server used: the byte at place q of run i is the
+ * sum, over j, of weight j of row i times the byte at place q of the fragment of the j-th server used, in the field of FIPS 197, whose sum is xor.
+ * Refusals: 255 where used_len < 5 or rows_len < 25, however small t is; 3 where t is outside 1 to 4; 4 where a server is outside 1 to 3t+1;
+ * 16 where fewer than t+1 different servers are named.
+ * Writes the k servers used to `used` and the k rows, one after the other, to `rows`; count k. */
+uint64_t cendrulas_weights(size_t t, const size_t *servers, size_t servers_len, uint8_t *used, size_t used_len,
+                           uint8_t *rows, size_t rows_len);
+
+/* Restoring with the weights at hand: the content of `length` bytes from the fragments of the k servers used, which stand one after the other in
+ * `fragments`, in the order of `used`, each of f bytes. With the rows of cendrulas_weights it gives what cendrulas_restore gives (proved); with
+ * other bytes as rows it gives that sum and nothing more.
+ * Refusals: 255 where rows_len < 25, of which the first k*k count; 3 where t is outside 1 to 4; 6 where length is above 1,024;
+ * 15 where out_len < 1,024; 16 where fragments_len is not k times f. Writes the content; count length. */
+uint64_t cendrulas_restore_weighed(size_t t, size_t length, const uint8_t *rows, size_t rows_len,
+                                   const uint8_t *fragments, size_t fragments_len, uint8_t *out, size_t out_len);
 
 /* Whether bytes are a packet. 7 where they break the layout. Writes nothing; count 0. */
 uint64_t cendrulas_packet_check(const uint8_t *packet, size_t packet_len);

@@ -13,7 +13,7 @@ pub struct Table;
 
 impl Table {
     pub fn new() -> Self {
-        println!("{:<58} {:>11} {:>11} {:>6}", "ns per operation, least of several", "proved", "plain", "ratio");
+        println!("{:<60} {:>11} {:>11} {:>6}", "ns per operation, least of several", "proved", "plain", "ratio");
         Table
     }
 
@@ -44,7 +44,7 @@ fn by_turns(name: &str, mut ours: impl FnMut() -> f64, mut plain: impl FnMut() -
         least_plain = least_plain.min(plain());
         rounds += 1;
     }
-    println!("{name:<58} {least_ours:>11.1} {least_plain:>11.1} {:>6.2}", least_ours / least_plain);
+    println!("{name:<60} {least_ours:>11.1} {least_plain:>11.1} {:>6.2}", least_ours / least_plain);
 }
 
 /// A measurement of an operation, repeated as often as a sample needs: nanoseconds for one.

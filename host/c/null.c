@@ -5,9 +5,10 @@
 #include <stdio.h>
 #include <string.h>
 
-enum { ALL = 7, FUNCTIONS = 16 };
+enum { ALL = 7, FUNCTIONS = 18, DRILL = FUNCTIONS - 1 };
 
 static uint8_t message[100], out[CENDRULAS_PACKET_ROOM], work[CENDRULAS_WORK_AREA];
+static uint8_t used[CENDRULAS_USED_SIZE], rows[CENDRULAS_ROWS_SIZE];
 static struct cendrulas_server server;
 static struct cendrulas_client client;
 static struct cendrulas_keys keys;
@@ -23,6 +24,7 @@ static int is(int which) { return chosen == which || chosen == ALL; }
 static size_t n(int which, size_t length) { return is(which) ? 0 : length; }
 static const uint8_t *in(int which, const uint8_t *bytes) { return is(which) && null ? NULL : bytes; }
 static uint8_t *io(int which, uint8_t *bytes) { return is(which) && null ? NULL : bytes; }
+static const size_t *named(int which) { return is(which) && null ? NULL : numbers; }
 
 /* A server that was never used, a client whose write is in its first round, its packet, and the reply. */
 static void set_up(void) {
@@ -40,7 +42,7 @@ static uint64_t call(int function) {
     case 0: return cendrulas_digest(in(1, message), n(1, 100), io(2, out), n(2, 32));
     case 1: return cendrulas_tag(in(1, server.key), n(1, 32), in(2, message), n(2, 100), io(3, out), n(3, 32));
     case 2: return cendrulas_fragment(1, 1, in(1, message), n(1, 100), io(2, out), n(2, 512));
-    case 3: return cendrulas_restore(1, 100, is(1) && null ? NULL : numbers, n(1, 2), in(2, message), n(2, 100), io(3, out), n(3, 1024));
+    case 3: return cendrulas_restore(1, 100, named(1), n(1, 2), in(2, message), n(2, 100), io(3, out), n(3, 1024));
     case 4: return cendrulas_packet_check(in(1, packet.bytes), n(1, packet.length));
     case 5: return cendrulas_store_code(in(1, reply.bytes), n(1, reply.length));
     case 6: return cendrulas_server_blank(io(1, m), n(1, m_n), 1, 1);
@@ -54,6 +56,8 @@ static uint64_t call(int function) {
                                           in(4, reply.bytes), n(4, reply.length), io(5, out), n(5, 1024));
     case 13: return cendrulas_client_give_up(io(1, s), n(1, s_n), 1, 1);
     case 14: return cendrulas_plan(1, 100, 1, 1, is(1) && null ? NULL : planned, n(1, CENDRULAS_PLAN));
+    case 15: return cendrulas_weights(1, named(1), n(1, 2), io(2, used), n(2, sizeof used), io(3, rows), n(3, sizeof rows));
+    case 16: return cendrulas_restore_weighed(1, 100, in(1, rows), n(1, sizeof rows), in(2, message), n(2, 100), io(3, out), n(3, 1024));
     default: return cendrulas_drill(in(1, message), n(1, 100), io(2, out), n(2, 65), io(3, work), n(3, sizeof work));
     }
 }
@@ -73,7 +77,8 @@ static int no_content(void) {
     cendrulas_give_up(&client);
     return cendrulas_begin_write(&client, NULL, 0, nonce) == 0 && cendrulas_round(&client) == 1 &&
            cendrulas_fragment(1, 1, NULL, 0, out, CENDRULAS_FRAGMENT_ROOM) == 0 &&
-           cendrulas_restore(1, 0, numbers, 2, NULL, 0, out, CENDRULAS_CONTENT_ROOM) == 0;
+           cendrulas_restore(1, 0, numbers, 2, NULL, 0, out, CENDRULAS_CONTENT_ROOM) == 0 &&
+           cendrulas_restore_weighed(1, 0, rows, sizeof rows, NULL, 0, out, CENDRULAS_CONTENT_ROOM) == 0;
 }
 
 int main(void) {
@@ -93,7 +98,7 @@ int main(void) {
         }
     }
     chosen = 1;
-    if (cendrulas_refusal(fresh(0, 1)) != 0 || memcmp(out, empty, sizeof empty) != 0 || cendrulas_refusal(fresh(15, 1)) != 0) {
+    if (cendrulas_refusal(fresh(0, 1)) != 0 || memcmp(out, empty, sizeof empty) != 0 || cendrulas_refusal(fresh(DRILL, 1)) != 0) {
         puts("null: an empty message or sheet is not taken");
         return 1;
     }

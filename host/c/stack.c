@@ -1,15 +1,16 @@
-/* Stack: the functions of servers and clients, the digest, tag, fragments and plan run on painted stacks (painted.h), 64 KiB for a server's
+/* Stack: the functions of servers and clients, the digest, tag, fragments, weights and plan run on painted stacks (painted.h), 64 KiB for a server's
  * functions and 128 KiB for the others, with the longest inputs at t = 4. Compiled and run by host/test. */
 #include "painted.h"
 
 #include "cendrulas.h"
 
 enum { T = 4, SERVERS = 13, CANDIDATE = 485, WRITES = 32 };
-enum { NOTHING, DIGEST, TAG, FRAGMENT, RESTORE, CHECK, CODE, BLANK, SERVE, ROUND, WRITE, READ, MAKE, TAKE, GIVE_UP, PLAN, FUNCTIONS };
+enum { NOTHING, DIGEST, TAG, FRAGMENT, RESTORE, WEIGHTS, WEIGHED, CHECK, CODE, BLANK, SERVE,
+       ROUND, WRITE, READ, MAKE, TAKE, GIVE_UP, PLAN, FUNCTIONS };
 
 static const char *const names[FUNCTIONS] = {
-    "a thread alone", "digest", "tag", "fragment", "restore", "packet_check", "store_code", "server_blank", "server_take",
-    "client_round", "client_begin_write", "client_begin_read", "client_make", "client_take", "client_give_up", "plan"};
+    "a thread alone", "digest", "tag", "fragment", "restore", "weights", "restore_weighed", "packet_check", "store_code", "server_blank",
+    "server_take", "client_round", "client_begin_write", "client_begin_read", "client_make", "client_take", "client_give_up", "plan"};
 static size_t deepest[FUNCTIONS];
 static unsigned seen_result[6], seen_kind[13], seen_full;
 
@@ -18,7 +19,7 @@ static size_t client, server, packet_len, reply_len;
 static uint8_t memories[SERVERS][CENDRULAS_SERVER_MEMORY], state[17][CENDRULAS_CLIENT_STATE];
 static uint8_t writers[CENDRULAS_KEY], keys[CENDRULAS_KEYS], nonce[CENDRULAS_NONCE], content[CENDRULAS_CONTENT_ROOM];
 static uint8_t packet[CENDRULAS_PACKET_ROOM], reply[CENDRULAS_PACKET_ROOM], out[CENDRULAS_CONTENT_ROOM];
-static uint8_t fragments[5 * 205];
+static uint8_t fragments[5 * 205], used[CENDRULAS_USED_SIZE], rows[CENDRULAS_ROWS_SIZE];
 static size_t numbers[5], planned[CENDRULAS_PLAN];
 static uint64_t answer;
 
@@ -36,6 +37,8 @@ static void *call(void *which) {
     case TAG: answer = cendrulas_tag(writers, sizeof writers, packet, sizeof packet, out, sizeof out); break;
     case FRAGMENT: answer = cendrulas_fragment(T, server, content, sizeof content, out, sizeof out); break;
     case RESTORE: answer = cendrulas_restore(T, sizeof content, numbers, 5, fragments, sizeof fragments, out, sizeof out); break;
+    case WEIGHTS: answer = cendrulas_weights(T, numbers, 5, used, sizeof used, rows, sizeof rows); break;
+    case WEIGHED: answer = cendrulas_restore_weighed(T, sizeof content, rows, sizeof rows, fragments, sizeof fragments, out, sizeof out); break;
     case CHECK: answer = cendrulas_packet_check(packet, packet_len); break;
     case CODE: answer = cendrulas_store_code(reply, reply_len); break;
     case ROUND: answer = cendrulas_client_round(s, size); break;
@@ -151,7 +154,16 @@ static void filters(uint8_t *list) {
     }
 }
 
-/* Fragments of servers 9 to 13, and the content from them; a plan. */
+/* The content is restored, where none stood before. */
+static void restored(int which) {
+    memset(out, 0, sizeof out);
+    accepted(which);
+    if (memcmp(out, content, sizeof content) != 0) {
+        fail("another content");
+    }
+}
+
+/* Fragments of servers 9 to 13, and the content from them in one call and by their weights; a plan. */
 static void coding(void) {
     accepted(DIGEST);
     accepted(TAG);
@@ -161,10 +173,9 @@ static void coding(void) {
         memcpy(fragments + 205 * (server - 9), out, 205);
     }
     server = 1;
-    accepted(RESTORE);
-    if (memcmp(out, content, sizeof content) != 0) {
-        fail("another content");
-    }
+    restored(RESTORE);
+    accepted(WEIGHTS);
+    restored(WEIGHED);
     accepted(PLAN);
 }
 

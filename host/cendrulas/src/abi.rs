@@ -31,6 +31,25 @@ extern "C" {
         out: *mut u8,
         out_len: usize,
     ) -> u64;
+    pub fn cendrulas_weights(
+        t: usize,
+        servers: *const usize,
+        servers_len: usize,
+        used: *mut u8,
+        used_len: usize,
+        rows: *mut u8,
+        rows_len: usize,
+    ) -> u64;
+    pub fn cendrulas_restore_weighed(
+        t: usize,
+        length: usize,
+        rows: *const u8,
+        rows_len: usize,
+        fragments: *const u8,
+        fragments_len: usize,
+        out: *mut u8,
+        out_len: usize,
+    ) -> u64;
 
     pub fn cendrulas_packet_check(packet: *const u8, packet_len: usize) -> u64;
     pub fn cendrulas_store_code(packet: *const u8, packet_len: usize) -> u64;

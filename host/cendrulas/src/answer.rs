@@ -13,7 +13,7 @@ pub struct Answer {
     /// The stamp's writer and number, with a client's results 1 and 2.
     pub writer: u8,
     pub number: u32,
-    /// Bytes written to the output; numbers, of a plan.
+    /// Bytes written to the output; numbers, of a plan; servers, of weights.
     pub count: usize,
 }
 

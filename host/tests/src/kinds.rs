@@ -13,6 +13,9 @@ const DUE: &[(&str, &str)] = &[
     ("tag", "accepted,refused 255"),
     ("fragment", FRAGMENT),
     ("restore", RESTORE),
+    ("weights", WEIGHTS),
+    ("restore by weights", WEIGHED),
+    ("restore in two calls", IN_TWO_CALLS),
     ("packet check", PACKETS),
     ("store code", "code 0,code 10,code 11,none,refused 7"),
     ("round in hand", "round 0,round 1,round 2,round 3,round 4,round 5,round 6,refused 255"),
@@ -38,6 +41,12 @@ const FRAGMENT: &str = "accepted,refused 3,refused 4,refused 6,refused 255,\
     accepted of no bytes,refused 3 of no bytes,refused 4 of no bytes,refused 255 of no bytes";
 const RESTORE: &str = "accepted,refused 3,refused 4,refused 6,refused 15,refused 16,\
     accepted of no bytes,refused 3 of no bytes,refused 4 of no bytes,refused 15 of no bytes,refused 16 of no bytes";
+const WEIGHTS: &str = "accepted,accepted after a repetition,refused 3,refused 4,refused 16,refused 255";
+const WEIGHED: &str = "accepted,accepted with other rows,refused 3,refused 6,refused 15,refused 16,refused 255,\
+    accepted of no bytes,accepted with other rows of no bytes,refused 3 of no bytes,refused 15 of no bytes,refused 16 of no bytes,\
+    refused 255 of no bytes";
+const IN_TWO_CALLS: &str = "accepted,refused 3,refused 4,refused 16,\
+    accepted of no bytes,refused 3 of no bytes,refused 4 of no bytes,refused 16 of no bytes";
 const PACKETS: &str = "kind 1,kind 2,kind 3,kind 4,kind 5,kind 6,kind 7,kind 8,kind 9,kind 10,kind 11,kind 12,\
     kind 3 of no bytes,kind 10 of no bytes,refused 7";
 const PLANNED: &str = "clock,clock reply,store,store reply,complete,complete reply,collect,collect reply,filter,filter reply without a share,\

@@ -46,6 +46,14 @@ impl<'a> Line<'a> {
         self.as_bytes(word)
     }
 
+    /// Numbers parted by commas; `-` for none.
+    pub fn numbers<T: FromStr>(&mut self) -> Vec<T> {
+        match self.word() {
+            "-" => Vec::new(),
+            word => word.split(',').map(|number| self.as_number(number)).collect(),
+        }
+    }
+
     pub fn as_number<T: FromStr>(&self, word: &str) -> T {
         word.parse().unwrap_or_else(|_| self.stop(&format!("\"{word}\" is no number that can stand there")))
     }

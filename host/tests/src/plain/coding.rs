@@ -1,6 +1,6 @@
 use super::{answer, narrow, WRONG_SIZE};
-use cendrulas::Answer;
-use shelf::fragments::{self, ALL_FRAGMENTS};
+use cendrulas::{Answer, ROWS_SIZE, USED_SIZE};
+use shelf::fragments::{self, Weights, ALL_FRAGMENTS};
 use shelf::{boxes_of, Refusal};
 
 /// The longest fragment: of 1,024 bytes at t = 1. The library asks for so much output, whatever is to be written.
@@ -35,4 +35,39 @@ pub fn restore(t: usize, length: usize, servers: &[usize], fragments: &[u8], out
     let piece = |k: usize| if fits { &fragments[k * f..(k + 1) * f] } else { wrong };
     let given: Vec<(u8, &[u8])> = servers.iter().enumerate().map(|(k, &server)| (narrow(server), piece(k))).collect();
     answer(fragments::restore(t, length, &given, out))
+}
+
+pub fn weight_rows(t: usize, servers: &[usize], used: &mut [u8], rows: &mut [u8]) -> Answer {
+    if used.len() < USED_SIZE || rows.len() < ROWS_SIZE {
+        return Answer::refused(WRONG_SIZE);
+    }
+    let boxes: Vec<u8> = servers.iter().map(|&server| narrow(server)).collect();
+    let found = fragments::weights(narrow(t), &boxes);
+    answer(found.map(|found| put(&found, t + 1, used, rows)))
+}
+
+/// The first k boxes, and of the first k rows as many weights.
+fn put(found: &Weights, k: usize, used: &mut [u8], rows: &mut [u8]) -> usize {
+    used[..k].copy_from_slice(&found.boxes[..k]);
+    for (flat, row) in rows.chunks_exact_mut(k).zip(&found.rows[..k]) {
+        flat.copy_from_slice(&row[..k]);
+    }
+    k
+}
+
+pub fn restore_weighed(t: usize, length: usize, rows: &[u8], fragments: &[u8], out: &mut [u8]) -> Answer {
+    if rows.len() < ROWS_SIZE {
+        return Answer::refused(WRONG_SIZE);
+    }
+    let t = narrow(t);
+    let k = usize::from(t.min(4)) + 1;
+    let mut table = [[0; 5]; 5];
+    for (row, flat) in table.iter_mut().zip(rows.chunks_exact(k)) {
+        row[..k].copy_from_slice(flat);
+    }
+    // fragments of another length in all are none at all
+    let f = fragments::fragment_length(t, length);
+    let count = if f.checked_mul(k) == Some(fragments.len()) { k } else { 0 };
+    let given: Vec<&[u8]> = (0..count).map(|j| &fragments[j * f..(j + 1) * f]).collect();
+    answer(fragments::restore_weighed(t, length, &table, &given, out))
 }

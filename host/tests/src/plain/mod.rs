@@ -4,7 +4,7 @@ mod digest;
 pub use digest::{digest, tag};
 
 mod coding;
-pub use coding::{fragment, restore};
+pub use coding::{fragment, restore, restore_weighed, weight_rows};
 
 mod server;
 pub use server::{server_blank, server_take};

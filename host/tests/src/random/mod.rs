@@ -14,12 +14,14 @@ mod packets;
 mod server;
 mod states;
 mod steps;
+mod weights;
 
 use source::Source;
 
 pub fn all(run: &mut Run) {
     run.group("random digests and tags", |run| digest::all(run, &mut Source::new(1), 20_000));
     run.group("random fragments", |run| coding::all(run, &mut Source::new(2), 20_000));
+    run.group("random weights", |run| weights::all(run, &mut Source::new(7), 30_000));
     run.group("random packets", |run| layout::all(run, &mut Source::new(6), 40_000));
     run.group("random server steps", |run| server::all(run, &mut Source::new(3), 100_000));
     run.group("clients out of range", states::out_of_range);

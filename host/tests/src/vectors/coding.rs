@@ -1,9 +1,9 @@
-//! Fragments and restoring.
+//! Fragments, restoring and its weights.
 
 use super::{due, filled, servers, shelf, table};
 use crate::check::{Run, Seen, FILLER};
-use crate::text::each_line;
-use cendrulas::Answer;
+use crate::text::{each_line, Line};
+use cendrulas::{weight_rows, Answer, ROWS_SIZE, USED_SIZE};
 use std::path::Path;
 
 /// A content is refused for every server, or has a fragment for each.
@@ -46,4 +46,35 @@ pub fn restore(run: &mut Run, path: &Path) {
         let answer = cendrulas::restore(t, length, &servers, &fragments, &mut out);
         due(run, line, answer, &out);
     });
+}
+
+pub fn weights(run: &mut Run, path: &Path) {
+    each_line(path, |line| {
+        line.past("E");
+        let t = shelf(line);
+        table(line, t);
+        let servers: Vec<usize> = line.numbers();
+        line.past("=");
+        let (mut used, mut rows) = ([FILLER; USED_SIZE + 1], [FILLER; ROWS_SIZE + 1]);
+        let answer = weight_rows(t, &servers, &mut used, &mut rows);
+        let (want, due_used, due_rows) = weights_due(line, t);
+        run.same(
+            || line.place.clone(),
+            Seen { answer, buffers: &[&used, &rows] },
+            Seen { answer: want, buffers: &[&filled(&due_used, used.len()), &filled(&due_rows, rows.len())] },
+        );
+    });
+}
+
+/// The answer, the servers used and all rows.
+fn weights_due(line: &mut Line, t: usize) -> (Answer, Vec<u8>, Vec<u8>) {
+    let code: u8 = line.number();
+    if code != 0 {
+        return (Answer::refused(code), Vec::new(), Vec::new());
+    }
+    let (used, rows): (Vec<u8>, Vec<Vec<u8>>) = (line.numbers(), (0..=t).map(|_| line.bytes()).collect());
+    if rows.iter().any(|row| row.len() != t + 1) {
+        line.stop("a row has K weights");
+    }
+    (Answer::wrote(used.len()), used, rows.concat())
 }

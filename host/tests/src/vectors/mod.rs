@@ -16,10 +16,11 @@ mod tags;
 pub use client::{drill_keys, lent_to};
 
 /// What a folder may hold, with the tests of each.
-const PARTS: [(&str, fn(&mut Run, &Path)); 9] = [
+const PARTS: [(&str, fn(&mut Run, &Path)); 10] = [
     ("tags.txt", tags::tags),
     ("fragments.txt", coding::fragments),
     ("restore.txt", coding::restore),
+    ("weights.txt", coding::weights),
     ("packets.txt", packets::packets),
     ("boxcheck.txt", server::memories),
     ("boxes.txt", server::steps),
