@@ -1,10 +1,10 @@
--- The servers that are chosen: a search through a list finds what stands in it; the chosen places stand in the list given, and their servers
--- are all different, since a server joins only where it is not held. Nothing is assumed.
+-- The servers that are chosen: a search through a list finds what stands in it; the chosen places stand in the list given and are at most k, and
+-- their servers are all different, since a server joins only where there is room and it is not held. Nothing is assumed.
 use mathlib.Core.Path.{_≡_, refl, sym, ap, subst, _∙_}
 use mathlib.Core.Logic.{_≢_}
 use mathlib.Core.Bool.{Bool, true, false, _||_, true≢false, or-true}
 use mathlib.Core.List.{List, [], _∷_, _++_, map}
-use Prim.Native.Nat.{ℕ, zero, suc, _+_, _<_, _≤_, suc-le-suc}
+use Prim.Native.Nat.{ℕ, zero, suc, _+_, _<_, _≤_, suc-le-suc, zero-le}
 use native.Mathlib.Nat.{zero-lt-suc, le-of-suc-le-suc, not-suc-le-zero}
 use native.Mathlib.Decide.{ℕ-discrete, decLt}
 use native.Mathlib.Omega.{arith}
@@ -107,14 +107,15 @@ chosen-lt k ss (suc i) j h =
     more-lt (ltb (length (picked k ss i)) k) (among (getD ss i 0) (map (λ p. getD ss p 0) (picked k ss i))) (picked k ss i) i (chosen-lt k ss i)
     j h
 
--- and they are at most k
+-- ---- and are at most k
+
+more-most : (k : ℕ) (room held : Bool) (ps : List ℕ) (i : ℕ) → ltb (length ps) k ≡ room → length ps ≤ k → length (more room held ps i) ≤ k
+more-most k true true ps i e h = h
+more-most k true false ps i e h = omega (arith, ltb-true (length ps) k e, length-append ps (i ∷ []))
+more-most k false held ps i e h = h
+
 pub chosen-most : (k : ℕ) (ss : List ℕ) (i : ℕ) → length (picked k ss i) ≤ k
 unfolding picked
-chosen-most k ss zero = omega arith
+chosen-most k ss zero = zero-le
 chosen-most k ss (suc i) =
-    go (ltb (length (picked k ss i)) k) (among (getD ss i 0) (serversAt ss (picked k ss i))) refl (chosen-most k ss i)
-  where
-    go : (b h : Bool) → ltb (length (picked k ss i)) k ≡ b → length (picked k ss i) ≤ k → length (more b h (picked k ss i) i) ≤ k
-    go true true e l = l
-    go true false e l = omega (arith, length-append (picked k ss i) (i ∷ []), ltb-true (length (picked k ss i)) k e)
-    go false h e l = l
+    more-most k (ltb (length (picked k ss i)) k) (among (getD ss i 0) (serversAt ss (picked k ss i))) (picked k ss i) i refl (chosen-most k ss i)

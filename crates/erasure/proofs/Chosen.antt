@@ -6,6 +6,7 @@ use mathlib.Core.Bool.{Bool, cond}
 use mathlib.Core.List.{List, [], _∷_, _++_, map}
 use Prim.Native.Nat.{ℕ, zero, suc, _+_, _-_, _*_, _/_, _%_, _<_, _≤_}
 use native.Mathlib.Nat.{zero-lt-suc, mod-lt, suc-ne-zero, mul-le-mul-right, suc-mul}
+use native.Mathlib.Decide.{ℕ-discrete, decLt}
 use native.Mathlib.Omega.{arith}
 use borrow.Author.Tests.{lt-ltb, le-ltb}
 use lib.Dec.{ltb}
@@ -74,6 +75,23 @@ module _ (t n : ℕ) (servers fragments output : List ℕ) where
       → restoreRefusal t n servers (length fragments) (length output) ≡ 0
   refused-none e h = accepted-arguments e ∙ ap (λ (b : Bool). cond b 16 0) (le-ltb (length (firstDifferent (shelf t .threshold) servers))
       (shelf t .threshold) h)
+
+  -- where restoring accepts, no test applies
+  pub none-refused : restoreRefusal t n servers (length fragments) (length output) ≡ 0 → arguments ≡ 0
+  none-refused accepts = go (ℕ-discrete arguments 0)
+    where
+      go : Dec (arguments ≡ 0) → arguments ≡ 0
+      go (yes e) = e
+      go (no ne) = absurd (ne (sym (refused-arguments arguments refl ne) ∙ accepts))
+
+  pub not-few : restoreRefusal t n servers (length fragments) (length output) ≡ 0
+      → shelf t .threshold ≤ length (firstDifferent (shelf t .threshold) servers)
+  not-few accepts = go (decLt (length (firstDifferent (shelf t .threshold) servers)) (shelf t .threshold))
+    where
+      go : Dec (length (firstDifferent (shelf t .threshold) servers) < shelf t .threshold)
+          → shelf t .threshold ≤ length (firstDifferent (shelf t .threshold) servers)
+      go (yes h) = absurd (suc-ne-zero 15 (sym (refused-few (none-refused accepts) h) ∙ accepts))
+      go (no nh) = omega arith
 
 -- ---- what was chosen
 

@@ -19,3 +19,4 @@ pub mod Answers
 pub mod Chosen
 pub mod Enough
 pub mod Round
+pub mod ByWeights

@@ -30,6 +30,10 @@ getD-map f [] i d e h = absurd (not-suc-le-zero h)
 getD-map f (x ∷ xs) zero d e h = refl
 getD-map f (x ∷ xs) (suc i) d e h = getD-map f xs i d e (le-of-suc-le-suc h)
 
+pub map-map : {A B C : Type 0} (g : B → C) (h : A → B) (xs : List A) → map g (map h xs) ≡ map (λ x. g (h x)) xs
+map-map g h [] = refl
+map-map {C = C} g h (x ∷ xs) = ap (λ (l : List C). g (h x) ∷ l) (map-map g h xs)
+
 -- a list is the table of its entries
 pub table-is : (n : ℕ) (xs : List ℕ) (g : ℕ → ℕ) → length xs ≡ n → ((i : ℕ) → i < n → getD xs i 0 ≡ g i) → xs ≡ table n g
 table-is n xs g l e =

@@ -34,23 +34,30 @@ unfoldable pub joined : List (List ℕ) → List ℕ
 joined [] = []
 joined (x ∷ xs) = x ++ joined xs
 
-module _ (f : ℕ) (g : ℕ → List ℕ) (long : (s : ℕ) → length (g s) ≡ f) where
-  pub length-joined : (ss : List ℕ) → length (joined (map g ss)) ≡ length ss * f
+-- where each of the lists has f bytes
+module _ (f : ℕ) (g : ℕ → List ℕ) where
+  pub length-joined : (ss : List ℕ) → ((i : ℕ) → i < length ss → length (g (getD ss i 0)) ≡ f) → length (joined (map g ss)) ≡ length ss * f
   unfolding joined
-  length-joined [] = sym (zero-mul f)
-  length-joined (s ∷ ss) =
-      length-append (g s) (joined (map g ss)) ∙ ap₂ (λ (x y : ℕ). x + y) (long s) (length-joined ss) ∙ omega (arith, suc-mul (length ss) f)
+  length-joined [] long = sym (zero-mul f)
+  length-joined (s ∷ ss) long =
+      length-append (g s) (joined (map g ss))
+      ∙ ap₂ (λ (x y : ℕ). x + y) (long 0 (zero-lt-suc (length ss))) (length-joined ss (λ i b. long (suc i) (suc-le-suc b)))
+      ∙ omega (arith, suc-mul (length ss) f)
 
-  -- the fragment at place p is that of the server there
-  pub piece : (ss : List ℕ) (p : ℕ) → p < length ss → take f (drop (p * f) (joined (map g ss))) ≡ g (getD ss p 0)
+  -- the one at place p
+  pub piece : (ss : List ℕ) → ((i : ℕ) → i < length ss → length (g (getD ss i 0)) ≡ f) → (p : ℕ) → p < length ss
+      → take f (drop (p * f) (joined (map g ss))) ≡ g (getD ss p 0)
   unfolding joined
-  piece [] p h = absurd (not-suc-le-zero h)
-  piece (s ∷ ss) zero h = ap (λ (n : ℕ). take f (drop n (g s ++ joined (map g ss)))) (zero-mul f) ∙ take-at (g s) (joined (map g ss)) f (long s)
-  piece (s ∷ ss) (suc p) h =
+  piece [] long p h = absurd (not-suc-le-zero h)
+  piece (s ∷ ss) long zero h =
+      ap (λ (n : ℕ). take f (drop n (g s ++ joined (map g ss)))) (zero-mul f) ∙ take-at (g s) (joined (map g ss)) f (long 0 h)
+  piece (s ∷ ss) long (suc p) h =
       let e : suc p * f ≡ f + p * f = omega (arith, suc-mul p f) in
       ap (λ (n : ℕ). take f (drop n (g s ++ joined (map g ss)))) e
-      ∙ ap (take f) (sym (drop-drop (p * f) f (g s ++ joined (map g ss))) ∙ ap (drop (p * f)) (drop-at (g s) (joined (map g ss)) f (long s)))
-      ∙ piece ss p (le-of-suc-le-suc h)
+      ∙ ap (take f)
+      (sym (drop-drop (p * f) f (g s ++ joined (map g ss)))
+      ∙ ap (drop (p * f)) (drop-at (g s) (joined (map g ss)) f (long 0 (zero-lt-suc (length ss)))))
+      ∙ piece ss (λ i b. long (suc i) (suc-le-suc b)) p (le-of-suc-le-suc h)
 
 map-at : (g h : ℕ → List ℕ) (ss : List ℕ) → ((i : ℕ) → i < length ss → g (getD ss i 0) ≡ h (getD ss i 0)) → map g ss ≡ map h ss
 map-at g h [] e = refl
@@ -114,7 +121,7 @@ module _ (t : ℕ) (content : List ℕ) (faults : (1 ≤ t) × (t ≤ topFaults)
     parts-are [] h = refl
     parts-are (p ∷ ps) h =
         ap₂ (λ (x : List ℕ) (xs : List Part). record { server = getD servers p 0; bytes = x } ∷ xs)
-        (piece f (λ i. fragmentBytes t i content) made-length servers p (h 0 (zero-lt-suc (length ps))))
+        (piece f (λ i. fragmentBytes t i content) servers (λ i _. made-length (getD servers i 0)) p (h 0 (zero-lt-suc (length ps))))
         (parts-are ps (λ j b. h (suc j) (suc-le-suc b)))
 
     enough-chosen : k ≤ length places
@@ -145,7 +152,8 @@ module _ (t : ℕ) (content : List ℕ) (faults : (1 ≤ t) × (t ≤ topFaults)
         (ap not (within-in 1 topFaults t (faults .0) (faults .1)))
         (ap not (each-holds (within 1 s) servers (λ i h. within-in 1 s (getD servers i 0) (numbers i h .0) (numbers i h .1))))
         (le-ltb topLength (length content) bytes) (le-ltb (length output) contentRoom room)
-        (ap not (eq-eqb (length given) (length servers * f) (length-joined f (λ i. fragmentBytes t i content) made-length servers)))
+        (ap not (eq-eqb (length given) (length servers * f)
+        (length-joined f (λ i. fragmentBytes t i content) servers (λ i _. made-length (getD servers i 0)))))
 
     -- the theorem: whatever servers are given, if k different ones are among them, the content comes back, and the rest of the buffer is kept
     pub restores-what-was-made : restoreStep t (length content) servers (joined (map (madeBy t content) servers)) output

@@ -1,7 +1,7 @@
 -- Sums in which one term counts. A row with one weight 1 and no other copies. And weights are known by the values that are 1 at one point: two that
 -- weigh alike at z are the same, so those of the closed form, those of a solved system and, at a point given, all or nothing are the weights that the
 -- definition names. Nothing is assumed.
-use mathlib.Core.Path.{_≡_, refl, sym, ap, ap₂, subst, _∙_}
+use mathlib.Core.Path.{_≡_, refl, sym, ap, ap₂, _∙_}
 use mathlib.Core.Logic.{_≢_}
 use mathlib.Core.Bool.{Bool, true, false, cond}
 use mathlib.Core.List.{List}
@@ -11,7 +11,7 @@ use native.Mathlib.Decide.{ℕ-discrete, decLt}
 use native.Mathlib.Omega.{arith}
 use borrow.Author.Tests.{eq-eqb, ne-eqb, lt-ltb, le-ltb}
 use lib.Bits.{bitXor, xor-zero-r, xor-zero-l}
-use lib.Dec.{eqb, ltb}
+use lib.Dec.{eqb}
 use lib.ListN.{length, getD, take}
 use lib.Seq.{length-take-le}
 use Rattle.gf256.specs.Gf.{times, power}
@@ -20,7 +20,6 @@ use Rattle.gf256.specs.Bytes.{bytes}
 use Rattle.gf256.proofs.Byte.{one-small}
 use Rattle.gf256.proofs.Linear.{times-lt, times-comm, times-zero-l, times-zero-r, one-times}
 use Rattle.gf256.proofs.Tables.{power-lt}
-use Rattle.erasure.specs.Fragments.{table}
 use Rattle.erasure.specs.System.{width, sumTo, entry, weightAt, directAt, AllDifferent, Weighs, Solves}
 use Rattle.erasure.specs.Lanes.{byteAt, sumAt}
 use Rattle.erasure.specs.Standing.{rowAt}
