@@ -1,6 +1,6 @@
 -- `embed::cendrulas_restore_weighed` refuses rows that are cut short, else packs the operation's outcome, whose count fits, and leaves `out` as the
 -- operation does. Assumes nothing.
-use mathlib.Core.Path.{_≡_, ap, _∙_}
+use mathlib.Core.Path.{ap, _∙_}
 use mathlib.Core.List.{List}
 use Prim.Native.Nat.{ℕ}
 use native.Mathlib.Omega.{arith}

@@ -1,11 +1,11 @@
 -- The fragments stand one after the other, so that fragment j begins at j times f. Assumes nothing.
-use mathlib.Core.Path.{_≡_, refl, sym, ap, ap₂, subst, _∙_}
+use mathlib.Core.Path.{sym, ap, ap₂, subst, _∙_}
 use mathlib.Core.List.{List, _++_}
-use Prim.Native.Nat.{ℕ, _+_, _*_, _<_, _≤_}
+use Prim.Native.Nat.{ℕ, _*_, _<_, _≤_}
 use native.Mathlib.Nat.{mul-le-mul-right, suc-mul}
 use native.Mathlib.Omega.{arith}
 use borrow.Author.Needs.{needs}
-use lib.ListN.{length, drop}
+use lib.ListN.{drop}
 use Rattle.erasure.specs.Lanes.{weighedOf}
 use Rattle.erasure.proofs.Rebuilt.{weighed-bytes}
 use Rattle.erasure.proofs.runs.rebuild_weighed.Statement.{statement}

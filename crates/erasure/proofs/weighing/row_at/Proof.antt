@@ -4,7 +4,6 @@ use Prim.Native.Nat.{_+_, _*_}
 use native.Mathlib.Omega.{arith}
 use borrow.Author.Needs.{needs}
 use lib.ListN.{length, getD}
-use Rattle.erasure.specs.System.{width}
 use Rattle.erasure.specs.Weights.{rowsRoom}
 use Rattle.erasure.proofs.Lists.{written-at}
 use Rattle.erasure.proofs.RowsMade.{row-below}
