@@ -31,8 +31,8 @@ uint32_t cendrulas_version(void);
 #define CENDRULAS_PACKET_ROOM 6400u
 #define CENDRULAS_CONTENT_ROOM 1024u
 #define CENDRULAS_FRAGMENT_ROOM 512u
-#define CENDRULAS_USED_SIZE 5u /* the t+1 servers that restoring uses, for every t */
-#define CENDRULAS_ROWS_SIZE 25u /* their weights, t+1 rows of t+1, for every t */
+#define CENDRULAS_USED_ROOM 5u /* the t+1 servers that restoring uses, for every t */
+#define CENDRULAS_ROWS_ROOM 25u /* their weights, t+1 rows of t+1, for every t */
 #define CENDRULAS_KEY 32u
 #define CENDRULAS_KEYS 416u /* the keys of servers 1 to 13, one after the other, whatever t is */
 #define CENDRULAS_NONCE 32u
@@ -51,8 +51,8 @@ uint32_t cendrulas_version(void);
  * A refused call answers its refusal with all other parts 0, writes nothing and changes nothing. Bytes of `out` past the count are never written.
  * If several refusals apply, the one that stands first in the function's list is given. Two writes are the same if number and writer are.
  *
- * Refusal 255 stands in no document: a key, a nonce or a client's state was lent with another length than its size, or with less than theirs rows of
- * weights or an output for a digest, a tag, a fragment, weights or a plan. It is tested before all others.
+ * Refusal 255 stands in no document: a key, a nonce or a client's state was lent with another length than its size; or rows of weights, or an output
+ * for a digest, a tag, a fragment, weights or a plan, were lent with less than their size. It is tested before all others.
  */
 static inline unsigned cendrulas_refusal(uint64_t answer) { return (unsigned)(answer >> 56); }
 static inline unsigned cendrulas_writer(uint64_t answer) { return (unsigned)(answer >> 52) & 0xFu; }
@@ -98,7 +98,7 @@ static inline const char *cendrulas_refusal_name(unsigned refusal) {
     case 13: return "a call is in hand at a begin, or none is at another step";
     case 14: return "call or stamp numbers used up";
     case 15: return "output too small";
-    case 16: return "too few fragments, or of a wrong length";
+    case 16: return "too few different servers, or fragments of a wrong length";
     case 17: return "drill line not of the form";
     case 18: return "more stores than a memory holds";
     case 255: return "argument of a wrong size";
@@ -130,18 +130,19 @@ uint64_t cendrulas_restore(size_t t, size_t length, const size_t *servers, size_
                            const uint8_t *fragments, size_t fragments_len, uint8_t *out, size_t out_len);
 
 /* The weights with which restoring sums the fragments of the servers named. They depend only on which servers answered: one call serves a whole
- * content, and every other content that the same servers gave. k = t+1 servers are used, the first different ones in the order given. Each plain run
- * of the content (run i is what server i holds, i from 1 to k) has a row of k weights, one for each server used: the byte at place q of run i is the
- * sum, over j, of weight j of row i times the byte at place q of the fragment of the j-th server used, in the field of FIPS 197, whose sum is xor.
+ * content, and every other content that the same servers gave. k = t+1 servers are used, the first different ones in the order given. A content
+ * stands in k plain runs of f bytes (f = length / (t+1) rounded up), padded with 00h: byte q of run i, i from 1 to k, is byte (i-1)*f + q of it, and
+ * run i is what server i holds. Each run has a row of k weights, one for each server used: byte q of run i is the sum, over j, of weight j of row i
+ * times byte q of the fragment of the j-th server used, in the field of FIPS 197, whose sum is xor.
  * Refusals: 255 where used_len < 5 or rows_len < 25, however small t is; 3 where t is outside 1 to 4; 4 where a server is outside 1 to 3t+1;
  * 16 where fewer than t+1 different servers are named.
- * Writes the k servers used to `used` and the k rows, one after the other, to `rows`; count k. */
+ * Writes the k servers used to `used` and the k rows, one after the other, to `rows`, and nothing past these k and k*k bytes; count k. */
 uint64_t cendrulas_weights(size_t t, const size_t *servers, size_t servers_len, uint8_t *used, size_t used_len,
                            uint8_t *rows, size_t rows_len);
 
 /* Restoring with the weights at hand: the content of `length` bytes from the fragments of the k servers used, which stand one after the other in
- * `fragments`, in the order of `used`, each of f bytes. With the rows of cendrulas_weights it gives what cendrulas_restore gives (proved); with
- * other bytes as rows it gives that sum and nothing more.
+ * `fragments`, in the order of `used`, each of f bytes. With the rows of cendrulas_weights, and of each server used the first fragment that it gave,
+ * this is what cendrulas_restore gives (proved); with other bytes as rows it is that sum and nothing more.
  * Refusals: 255 where rows_len < 25, of which the first k*k count; 3 where t is outside 1 to 4; 6 where length is above 1,024;
  * 15 where out_len < 1,024; 16 where fragments_len is not k times f. Writes the content; count length. */
 uint64_t cendrulas_restore_weighed(size_t t, size_t length, const uint8_t *rows, size_t rows_len,

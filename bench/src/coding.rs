@@ -2,7 +2,7 @@
 
 use crate::content;
 use crate::table::Table;
-use cendrulas::{ROWS_SIZE, USED_SIZE};
+use cendrulas::{ROWS_ROOM, USED_ROOM};
 use shelf::{boxes_of, fragments};
 use std::hint::black_box;
 
@@ -62,9 +62,9 @@ fn restore(table: &mut Table, t: u8) {
 fn weights(table: &mut Table, t: u8) {
     let (servers, _) = parity(t, &content(LENGTH));
     let boxes = boxes(&servers);
-    let (mut used, mut rows) = ([0; USED_SIZE], [0; ROWS_SIZE]);
+    let (mut used, mut rows) = ([0; USED_ROOM], [0; ROWS_ROOM]);
     table.row(
-        &format!("weights from {} parity fragments, t = {t}", servers.len()),
+        &format!("weights of {} servers without a plain run, t = {t}", servers.len()),
         || cendrulas::weight_rows(t.into(), black_box(&servers), black_box(&mut used), black_box(&mut rows)),
         || fragments::weights(t, black_box(&boxes)),
     );
@@ -77,8 +77,8 @@ fn restore_weighed(table: &mut Table, t: u8) {
     let (servers, flat) = parity(t, &data);
     let given: Vec<&[u8]> = flat.chunks_exact(fragments::fragment_length(t, LENGTH)).collect();
     let plain = fragments::weights(t, &boxes(&servers)).expect("enough boxes");
-    let mut rows = [0; ROWS_SIZE];
-    cendrulas::weight_rows(t.into(), &servers, &mut [0; USED_SIZE], &mut rows);
+    let mut rows = [0; ROWS_ROOM];
+    cendrulas::weight_rows(t.into(), &servers, &mut [0; USED_ROOM], &mut rows);
     let (mut out, mut plain_out) = ([0; LENGTH], [0; LENGTH]);
     table.row(
         &format!("1,024 bytes from {} parity fragments, weights at hand, t = {t}", servers.len()),

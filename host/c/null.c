@@ -8,7 +8,7 @@
 enum { ALL = 7, FUNCTIONS = 18, DRILL = FUNCTIONS - 1 };
 
 static uint8_t message[100], out[CENDRULAS_PACKET_ROOM], work[CENDRULAS_WORK_AREA];
-static uint8_t used[CENDRULAS_USED_SIZE], rows[CENDRULAS_ROWS_SIZE];
+static uint8_t used[CENDRULAS_USED_ROOM], rows[CENDRULAS_ROWS_ROOM];
 static struct cendrulas_server server;
 static struct cendrulas_client client;
 static struct cendrulas_keys keys;

@@ -19,7 +19,7 @@ static size_t client, server, packet_len, reply_len;
 static uint8_t memories[SERVERS][CENDRULAS_SERVER_MEMORY], state[17][CENDRULAS_CLIENT_STATE];
 static uint8_t writers[CENDRULAS_KEY], keys[CENDRULAS_KEYS], nonce[CENDRULAS_NONCE], content[CENDRULAS_CONTENT_ROOM];
 static uint8_t packet[CENDRULAS_PACKET_ROOM], reply[CENDRULAS_PACKET_ROOM], out[CENDRULAS_CONTENT_ROOM];
-static uint8_t fragments[5 * 205], used[CENDRULAS_USED_SIZE], rows[CENDRULAS_ROWS_SIZE];
+static uint8_t fragments[5 * 205], used[CENDRULAS_USED_ROOM], rows[CENDRULAS_ROWS_ROOM];
 static size_t numbers[5], planned[CENDRULAS_PLAN];
 static uint64_t answer;
 

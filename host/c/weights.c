@@ -31,7 +31,7 @@ static size_t gather(const char *record, const uint8_t *used, uint8_t *fragments
 int main(void) {
     static const char *const records[] = {"CH1 500 mV/div 20 us/div", "CH2 2 V/div 1 ms/div"};
     const size_t answered[] = {4, 4, 3, 1}; /* in this order; box 4 was asked again */
-    uint8_t used[CENDRULAS_USED_SIZE], rows[CENDRULAS_ROWS_SIZE];
+    uint8_t used[CENDRULAS_USED_ROOM], rows[CENDRULAS_ROWS_ROOM];
     uint8_t fragments[USED * CENDRULAS_FRAGMENT_ROOM], content[CENDRULAS_CONTENT_ROOM];
 
     accepted("weights", cendrulas_weights(T, answered, 4, used, sizeof used, rows, sizeof rows));

@@ -4,6 +4,7 @@ pub mod CodeTold
 pub mod RoundTold
 pub mod Coded
 pub mod Weighing
+pub mod ExportedWeights
 pub mod Planned
 pub mod Sessions
 pub mod Altered

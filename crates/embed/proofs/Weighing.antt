@@ -52,6 +52,9 @@ module _ (t : ℕ) (servers : List ℕ) (none : weightsRefusal t servers ≡ 0) 
   unfolding shelf
   threshold-most = omega (arith, named t servers tested .faults .1)
 
+  pub square-fits : k * k ≤ rowsRoom
+  square-fits = mul-le-mul {n₁ = k} {m₁ = k} {n₂ = width} {m₂ = width} threshold-most threshold-most
+
   -- k servers are used
   pub used-count : length (usedServers t servers) ≡ k
   unfolding usedServers firstDifferent

@@ -3,7 +3,7 @@
 --   bits 52 to 55   the writer of a stamp that is told, else 0
 --   bits 48 to 51   the result of a client's step, as a drill listing shows it
 --   bits 16 to 47   a stamp's number
---   bits  0 to 15   how many bytes of the output were written; of a plan, how many numbers
+--   bits  0 to 15   how many bytes of the output were written; of a plan, how many numbers; of weights, how many servers
 use mathlib.Core.Bool.{cond}
 use mathlib.Core.List.{List}
 use Prim.Native.Nat.{ℕ, _+_, _-_, _*_, _^_, _/_, _%_}

@@ -11,7 +11,7 @@ use native.Mathlib.Omega.{arith}
 use borrow.Author.Tests.{le-ltb, eq-eqb}
 use lib.Dec.{eqb, ltb}
 use lib.ListN.{length, getD, take, drop, length-map, length-drop, replicate, List·getD-append}
-use lib.Seq.{length-take-le, getD-take, getD-drop, take-length}
+use lib.Seq.{length-take-le, getD-take, getD-drop, take-length, take-at}
 use Rattle.gf256.specs.Gf.{times}
 use Rattle.gf256.specs.Poly.{through}
 use Rattle.gf256.specs.Bytes.{bytes}
@@ -24,7 +24,7 @@ use Rattle.erasure.specs.declared.WeightsOutcome.{WeightsOutcome}
 use Rattle.erasure.specs.Fragments.{table, fragmentSize, Part, restored}
 use Rattle.erasure.specs.Choice.{serversAt, firstDifferent, partsAt}
 use Rattle.erasure.specs.Steps.{each, argumentChecks, restoreRefusal, restoredBytes, restoreStep}
-use Rattle.erasure.specs.System.{sumTo, AllDifferent}
+use Rattle.erasure.specs.System.{width, sumTo, AllDifferent}
 use Rattle.erasure.specs.Weights.{weightOf, serverChecks, weightsRefusal, usedServers, usedWeights, rowsRoom, weightsStep}
 use Rattle.erasure.specs.Weights.{weighedRefusal, weighedBytes, weighedStep}
 use Rattle.erasure.proofs.Lists.{getD-table, getD-map, map-map, table-is}
@@ -69,12 +69,6 @@ module _ (t n : ℕ) (servers fragments output : List ℕ) (accepts : restoreRef
   none-applies : weightsRefusal t servers ≡ 0
   none-applies = sym (same-refusal t n servers (length fragments) (length output) (asked .bytes) (asked .fits) (asked .whole)) ∙ accepts
 
-  -- the weights are accepted, and are of k servers
-  pub weights-serve : (weightsStep t servers .number ≡ 0) × (weightsStep t servers .count ≡ shelf t .threshold)
-  weights-serve =
-      let e = weights-accepted t servers none-applies in
-      (ap (λ (w : WeightsOutcome). w .number) e, ap (λ (w : WeightsOutcome). w .count) e)
-
   -- ---- the servers used are k different ones
 
   abbrev points : List ℕ
@@ -104,6 +98,17 @@ module _ (t n : ℕ) (servers fragments output : List ℕ) (accepts : restoreRef
 
   many : length used ≡ k
   many = length-map places (λ p. getD servers p 0) ∙ long
+
+  -- the weights are accepted, and are of k servers, which they tell
+  pub weights-serve : (weightsStep t servers .number ≡ 0) × (weightsStep t servers .count ≡ shelf t .threshold)
+      × (take (shelf t .threshold) (weightsStep t servers .servers) ≡ serversAt servers (firstDifferent (shelf t .threshold) servers))
+  unfolding usedServers
+  weights-serve =
+      let e = weights-accepted t servers none-applies in (
+        ap (λ (w : WeightsOutcome). w .number) e,
+        ap (λ (w : WeightsOutcome). w .count) e,
+        ap (λ (w : WeightsOutcome). take k (w .servers)) e ∙ take-at used (replicate (width - k) 0) k many,
+      )
 
   -- their points
   xs : List ℕ

@@ -15,6 +15,7 @@ use Rattle.erasure.specs.Fragments.{table, fragmentSize}
 use Rattle.erasure.specs.System.{sumTo, AllDifferent}
 use Rattle.erasure.specs.Lanes.{byteAt, sumAt, RunWritten, valueFrom, weighedOf, rebuiltOf}
 use Rattle.erasure.specs.Weights.{weightOf, weightRows, weighedBytes}
+use Rattle.erasure.proofs.Laws.{run-lt}
 use Rattle.erasure.proofs.Lists.{length-table, getD-table, written-next, written-as}
 use Rattle.erasure.proofs.Placed.{table-ext, sum-through}
 use Rattle.erasure.proofs.Sums.{sumTo-ext}
@@ -121,3 +122,18 @@ weighed-bytes k f n rows fragments starts e es =
     (λ j. times (getD fragments (j * f + m % f) 0) (getD rows (m / f * k + j) 0))
     (λ j b. ap (λ (x : ℕ). times (getD fragments (x + m % f) 0) (getD rows (m / f * k + j) 0)) (es j b)))
     ∙ ap (λ (x : ℕ). table n (λ m. sumTo k (λ j. times (getD fragments (j * x + m % x) 0) (getD rows (m / x * k + j) 0)))) e
+
+-- only the first k * k bytes of rows count
+pub rows-counted : (k n : ℕ) (rows others fragments : List ℕ) → 0 < k → ((i : ℕ) → i < k * k → getD rows i 0 ≡ getD others i 0)
+    → weighedBytes k n rows fragments ≡ weighedBytes k n others fragments
+unfolding weighedBytes
+rows-counted k n rows others fragments pos same =
+    let f : ℕ = fragmentSize k n in
+    let byte : List ℕ → ℕ → ℕ = λ l m. sumTo k (λ j. times (getD fragments (j * f + m % f) 0) (getD l (m / f * k + j) 0)) in
+    table-ext n (byte rows) (byte others)
+    (λ m h.
+    let i : ℕ = m / f in
+    let run : i < k = run-lt k n m h pos in
+    sumTo-ext k (λ j. times (getD fragments (j * f + m % f) 0) (getD rows (i * k + j) 0))
+    (λ j. times (getD fragments (j * f + m % f) 0) (getD others (i * k + j) 0))
+    (λ j b. ap (times (getD fragments (j * f + m % f) 0)) (same (i * k + j) (omega (arith, b, mul-le-mul-right k run, suc-mul i k)))))

@@ -10,7 +10,7 @@ use lib.ListN.{length, getD, take, drop, replicate, length-replicate}
 use Rattle.cluster.specs.Config.{pointOf}
 use Rattle.erasure.specs.System.{width, AllDifferent, Solves}
 use Rattle.erasure.specs.Lanes.{RunWritten}
-use Rattle.erasure.specs.Standing.{rowAt}
+use Rattle.erasure.specs.Standing.{weightIn}
 use Rattle.erasure.specs.Weights.{weightOf, weightRows, rowsRoom}
 use Rattle.erasure.proofs.Lists.{written-next, written-as, written-first}
 use Rattle.erasure.proofs.Placed.{table-ext, drop-zeros}
@@ -26,17 +26,17 @@ row-below k i kw h =
 
 -- weight m of all, as the code makes it
 abbrev pub madeAt : (k : ℕ) (a : List (List ℕ)) (places points : List ℕ) → ℕ → ℕ
-madeAt k a places points m = rowAt k a (getD places (m / k) 0) (getD points (m / k) 0) (m % k)
+madeAt k a places points m = weightIn k a (getD places (m / k) 0) (getD points (m / k) 0) (m % k)
 
 -- one row more
 pub row-more : (k i : ℕ) (a : List (List ℕ)) (places points row old mid new : List ℕ) → i < k
-    → ((j : ℕ) → j < k → getD row j 0 ≡ rowAt k a (getD places i 0) (getD points i 0) j) → RunWritten old mid 0 (i * k) (madeAt k a places points)
+    → ((j : ℕ) → j < k → getD row j 0 ≡ weightIn k a (getD places i 0) (getD points i 0) j) → RunWritten old mid 0 (i * k) (madeAt k a places points)
     → RunWritten mid new (i * k) k (λ j. getD row (0 + j) 0) → RunWritten old new 0 ((i + 1) * k) (madeAt k a places points)
 row-more k i a places points row old mid new h are before piece =
     let d : ℕ = i * k in
     let whole : d % k ≡ 0 = mul-mod-left i k in
     let at : d / k ≡ i = mul-div-cancel i (omega arith) in
-    let byte : ℕ → ℕ → ℕ = λ x. rowAt k a (getD places x 0) (getD points x 0) in
+    let byte : ℕ → ℕ → ℕ = λ x. weightIn k a (getD places x 0) (getD points x 0) in
     subst (λ (x : ℕ). RunWritten old new 0 x (madeAt k a places points)) (omega (arith, suc-mul i k, ap (λ (x : ℕ). x * k) (add-one i)))
     (written-next old mid new d k (madeAt k a places points) before
     (written-as mid new d k (λ j. getD row (0 + j) 0) (λ j. madeAt k a places points (d + j))

@@ -22,7 +22,7 @@ use Rattle.gf256.proofs.Linear.{times-lt, times-comm, times-zero-l, times-zero-
 use Rattle.gf256.proofs.Tables.{power-lt}
 use Rattle.erasure.specs.System.{width, sumTo, entry, weightAt, directAt, AllDifferent, Weighs, Solves}
 use Rattle.erasure.specs.Lanes.{byteAt, sumAt}
-use Rattle.erasure.specs.Standing.{rowAt}
+use Rattle.erasure.specs.Standing.{weightIn}
 use Rattle.erasure.specs.Weights.{unitAt, weightOf}
 use Rattle.erasure.proofs.Sums.{sumTo-ext, sumTo-lt}
 use Rattle.erasure.proofs.Placed.{value-at}
@@ -82,8 +82,8 @@ zero-beside row p k before behind j h ne = go (decLt j p)
 module _ (k : ℕ) (a : List (List ℕ)) (place z j : ℕ) where
   -- all or nothing
   pub row-copied : (row : List ℕ) → k ≤ width → place < k → getD row place 0 ≡ 1 → ((c : ℕ) → c < width → c ≢ place → getD row c 0 ≡ 0) → j < k
-      → getD row j 0 ≡ rowAt k a place z j
-  unfolding rowAt
+      → getD row j 0 ≡ weightIn k a place z j
+  unfolding weightIn
   row-copied row kw b one zeros h =
       go (ℕ-discrete j place) ∙ sym (ap (λ (c : Bool). cond c (cond (eqb place j) 1 0) (weightAt k a z j)) (lt-ltb place k b))
     where
@@ -91,8 +91,8 @@ module _ (k : ℕ) (a : List (List ℕ)) (place z j : ℕ) where
       go (yes e) = ap (λ (x : ℕ). getD row x 0) e ∙ one ∙ sym (ap (λ (c : Bool). cond c 1 0) (eq-eqb place j (sym e)))
       go (no ne) = zeros j (omega (arith, h, kw)) ne ∙ sym (ap (λ (c : Bool). cond c 1 0) (ne-eqb place j (λ e. ne (sym e))))
 
-  pub row-weighed : k ≤ place → rowAt k a place z j ≡ weightAt k a z j
-  unfolding rowAt
+  pub row-weighed : k ≤ place → weightIn k a place z j ≡ weightAt k a z j
+  unfolding weightIn
   row-weighed past = ap (λ (c : Bool). cond c (cond (eqb place j) 1 0) (weightAt k a z j)) (le-ltb place k past)
 
 -- ---- weights are known by one value
@@ -124,8 +124,8 @@ module _ (k : ℕ) (xs : List ℕ) (kx : k ≤ length xs) (small : (i : ℕ) →
 
   -- and they are what the code makes
   pub row-is : (a : List (List ℕ)) (place : ℕ) → (place < k → getD xs place 0 ≡ z) → (k ≤ place → Solves k xs a) → Dec (place < k)
-      → (j : ℕ) → j < k → rowAt k a place z j ≡ weightOf (take k xs) z j
-  unfolding rowAt weightOf weightAt
+      → (j : ℕ) → j < k → weightIn k a place z j ≡ weightOf (take k xs) z j
+  unfolding weightIn weightOf weightAt
   row-is a place stands solved (yes b) j h =
       ap (λ (c : Bool). cond c (cond (eqb place j) 1 0) (weightAt k a z j)) (lt-ltb place k b)
       ∙ sym (value-at k xs (unit j) kx (λ i _. small i) (λ i. unit-lt (eqb i j)) d place b)

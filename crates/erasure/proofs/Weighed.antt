@@ -13,7 +13,7 @@ use Rattle.gf256.specs.Poly.{through}
 use Rattle.gf256.specs.Bytes.{bytes}
 use Rattle.gf256.proofs.Powers.{tab}
 use Rattle.gf256.proofs.Byte.{Byte, field, laws, addB, mulB, oneB, through-number}
-use Rattle.gf256.proofs.Lagrange.{prod, factor, weightOf, weighed}
+use Rattle.gf256.proofs.Lagrange.{prod, factor, closedWeight, weighed}
 use Rattle.erasure.specs.System.{productTo, factorAt, directAt, AllDifferent, Weighs}
 use Rattle.erasure.proofs.Sums.{sumTo-ext}
 use Rattle.erasure.proofs.Solved.{toByte, to-val, point, different, sum-number, tab-take, tab-table}
@@ -40,7 +40,7 @@ module _ (k : ℕ) (xs : List ℕ) (small : (i : ℕ) → getD xs i 0 < 256) whe
   factor-number j z n e m =
       cond-number (eqb m j) (addB z (point xs m)) (bitXor n (getD xs m 0)) (ap₂ bitXor e (to-val (getD xs m 0) (small m)))
 
-  direct-number : (z : Byte) (n : ℕ) → z .0 ≡ n → (j : ℕ) → weightOf field laws k (point xs) z j .0 ≡ directAt k xs n j
+  direct-number : (z : Byte) (n : ℕ) → z .0 ≡ n → (j : ℕ) → closedWeight field laws k (point xs) z j .0 ≡ directAt k xs n j
   unfolding directAt
   direct-number z n e j =
       ap₂ (λ (u v : ℕ). times u (inverse v)) (prod-number k (factor field laws (point xs) j z) (factorAt xs j n) (λ m _. factor-number j z n e m))
@@ -49,15 +49,15 @@ module _ (k : ℕ) (xs : List ℕ) (small : (i : ℕ) → getD xs i 0 < 256) whe
 
   pub direct-lt : (z : ℕ) → z < 256 → (j : ℕ) → directAt k xs z j < 256
   direct-lt z hz j =
-      let q : Byte = (z, hz) in subst (λ (x : ℕ). x < 256) (direct-number q z refl j) (weightOf field laws k (point xs) q j .1)
+      let q : Byte = (z, hz) in subst (λ (x : ℕ). x < 256) (direct-number q z refl j) (closedWeight field laws k (point xs) q j .1)
 
   pub direct : k ≤ length xs → AllDifferent k xs → (z : ℕ) → z < 256 → Weighs k xs (directAt k xs z) z
   direct kx d z hz y sy =
       let q : Byte = (z, hz) in
       let v : ℕ → Byte = λ j. toByte (y j) in
-      sumTo-ext k (λ j. times (y j) (directAt k xs z j)) (λ j. mulB (v j) (weightOf field laws k (point xs) q j) .0)
+      sumTo-ext k (λ j. times (y j) (directAt k xs z j)) (λ j. mulB (v j) (closedWeight field laws k (point xs) q j) .0)
       (λ j h. ap₂ times (sym (to-val (y j) (sy j))) (sym (direct-number q z refl j)))
-      ∙ sym (sum-number k (λ j. mulB (v j) (weightOf field laws k (point xs) q j)))
+      ∙ sym (sum-number k (λ j. mulB (v j) (closedWeight field laws k (point xs) q j)))
       ∙ ap (λ (b : Byte). b .0) (weighed field laws k (point xs) v q (different k xs small d))
       ∙ through-number (tab field laws k (point xs)) (tab field laws k v) q
       ∙ ap₂ (λ (u t : List ℕ). through bytes u t z) (tab-take k xs (point xs) kx (λ i. to-val (getD xs i 0) (small i)))

@@ -17,7 +17,7 @@ use Rattle.cluster.proofs.Tests.{within-bounds, refused-is}
 use Rattle.erasure.specs.declared.WeightsOutcome.{WeightsOutcome}
 use Rattle.erasure.specs.Choice.{firstDifferent}
 use Rattle.erasure.specs.Fragments.{fragmentSize}
-use Rattle.erasure.specs.Steps.{each}
+use Rattle.erasure.specs.Steps.{each, argumentChecks, restoreRefusal}
 use Rattle.erasure.specs.System.{width}
 use Rattle.erasure.specs.Weights.{serverChecks, weightsRefusal, usedServers, usedWeights, rowsRoom, weightsStep}
 use Rattle.erasure.specs.Weights.{weighedRefusal, weighedBytes, weighedStep}
@@ -86,6 +86,17 @@ module _ (t : ℕ) (servers : List ℕ) where
   pub weights-accepted : weightsRefusal t servers ≡ 0 → weightsStep t servers ≡ weights
   unfolding weightsStep
   weights-accepted e = ap (λ (y : ℕ). onRefusal y weights (none y)) e
+
+-- refused for t or a server, restoring is refused with that number whatever else it is given
+pub refused-alike : (t n : ℕ) (servers : List ℕ) (given room : ℕ) → firstOf (serverChecks t servers) ≢ 0
+    → restoreRefusal t n servers given room ≡ firstOf (serverChecks t servers)
+unfolding restoreRefusal argumentChecks serverChecks
+refused-alike t n servers given room some = go (not (within 1 topFaults t)) (not (each (within 1 (shelf t .servers)) servers)) _ some
+  where
+    go : (a b : Bool) (rest : ℕ) → _≢_ {A = ℕ} (cond a 3 (cond b 4 0)) 0 → cond a 3 (cond b 4 rest) ≡ cond a 3 (cond b 4 0)
+    go true b rest h = refl
+    go false true rest h = refl
+    go false false rest h = absurd (h refl)
 
 -- ---- restoring with weights at hand
 

@@ -7,7 +7,7 @@ use Prim.Native.Nat.{ℕ, zero, suc}
 use lib.Dec.{eqb, ltb}
 use lib.ListN.{take, replicate}
 use Rattle.erasure.specs.Steps.{each}
-use Rattle.erasure.specs.System.{width, rowRoom, weightAt, Solves}
+use Rattle.erasure.specs.System.{width, systemRow, weightAt, Solves}
 
 -- the first place of z in xs, or their count where it is not there
 unfoldable pub placeOf : ℕ → List ℕ → ℕ
@@ -20,10 +20,10 @@ allGiven k places = each (λ p. ltb p k) (take k places)
 
 -- zeros where all runs are given; otherwise the solved system
 pub record SystemAs (k : ℕ) (given places : List ℕ) (a : List (List ℕ)) : Type 0 where
-  pub unused : allGiven k places ≡ true → a ≡ replicate width (replicate rowRoom 0)
+  pub unused : allGiven k places ≡ true → a ≡ replicate width (replicate systemRow 0)
   pub solved : allGiven k places ≡ false → Solves k given a
 
 -- what the j-th value counts for in the run whose point z stands at this place: all or nothing where the place is below k, and otherwise as the
 -- solved system a weighs at z
-unfoldable pub rowAt : (k : ℕ) (a : List (List ℕ)) (place z j : ℕ) → ℕ
-rowAt k a place z j = cond (ltb place k) (cond (eqb place j) 1 0) (weightAt k a z j)
+unfoldable pub weightIn : (k : ℕ) (a : List (List ℕ)) (place z j : ℕ) → ℕ
+weightIn k a place z j = cond (ltb place k) (cond (eqb place j) 1 0) (weightAt k a z j)

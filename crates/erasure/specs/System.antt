@@ -18,8 +18,8 @@ abbrev pub width : ℕ
 width = 5
 
 -- the bytes for which a row has room
-abbrev pub rowRoom : ℕ
-rowRoom = 16
+abbrev pub systemRow : ℕ
+systemRow = 16
 
 -- the entry in row r and column c
 abbrev pub entry : List (List ℕ) → ℕ → ℕ → ℕ

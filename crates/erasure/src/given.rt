@@ -7,7 +7,7 @@ ghost use Rattle.erasure.specs.Standing.{placeOf, allGiven, SystemAs};
 
 const WIDTH: usize = crate::system::WIDTH;
 
-const ROW: usize = crate::system::ROW;
+const SYSTEM_ROW: usize = crate::system::SYSTEM_ROW;
 
 // Where point z stands among the first k points given, or k where it does not.
 fn place_of(given: [u8; WIDTH], k: usize, z: u8) -> usize
@@ -54,12 +54,16 @@ fn all_given(places: [usize; WIDTH], k: usize) -> bool
 }
 
 // The solved system of the first k points given, which a run that is not given needs; where all are given, nothing is solved.
-pub(crate) fn system_of(given: [u8; WIDTH], places: [usize; WIDTH], k: usize) -> [[u8; ROW]; WIDTH]
+pub(crate) fn system_of(
+    given: [u8; WIDTH],
+    places: [usize; WIDTH],
+    k: usize,
+) -> [[u8; SYSTEM_ROW]; WIDTH]
     requires { ⌜ (k ≤ width) × AllDifferent k given ⌝ }
     ensures { λ r. ⌜ SystemAs k given places r ⌝ }
 {
     if all_given(places, k) {
-        return [[0u8; ROW]; WIDTH];
+        return [[0u8; SYSTEM_ROW]; WIDTH];
     }
     crate::system::solve(given, k)
 }

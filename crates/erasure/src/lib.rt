@@ -1,22 +1,20 @@
-// Fragments of a content, and the content from fragments.
-ghost use mathlib.Core.Bool.{not};
+// Fragments of a content, the content from fragments, and the weights with which they give it.
 ghost use mathlib.Core.Path.{_≡_};
-ghost use Prim.Native.Nat.{_*_, _≤_};
-ghost use lib.Dec.{eqb};
+ghost use Prim.Native.Nat.{_≤_};
 ghost use lib.ListN.{replicate};
 ghost use Rattle.cluster.specs.Config.{shelf};
-ghost use Rattle.cluster.specs.Ranges.{within, topFaults, topLength};
-ghost use Rattle.cluster.specs.Refusals.{firstOf};
+ghost use Rattle.cluster.specs.Ranges.{topFaults, topLength};
 ghost use Rattle.erasure.specs.Fragments.{fragmentSize};
-ghost use Rattle.erasure.specs.Steps.{each, fragmentRefusal, argumentChecks, fragmentStep, restoreStep};
+ghost use Rattle.erasure.specs.Steps.{fragmentStep, restoreStep};
 ghost use Rattle.erasure.specs.System.{width};
-ghost use Rattle.erasure.specs.Weights.{rowsRoom, serverChecks, weightsStep, weighedRefusal, weighedStep};
+ghost use Rattle.erasure.specs.Weights.{rowsRoom, weightsStep, weighedStep};
 
 mod choice;
 mod direct;
 mod given;
 mod lanes;
 mod points;
+mod refusals;
 mod runs;
 mod system;
 mod weighing;
@@ -46,7 +44,7 @@ pub struct WeightsOutcome {
 }
 
 // S: how many servers there are.
-fn servers_of(t: usize) -> usize
+pub(crate) fn servers_of(t: usize) -> usize
     requires { ⌜ t ≤ topFaults ⌝ }
     ensures { λ r. ⌜ r ≡ shelf t .servers ⌝ }
 {
@@ -54,7 +52,7 @@ fn servers_of(t: usize) -> usize
 }
 
 // k: how many fragments give a content back.
-fn threshold_of(t: usize) -> usize
+pub(crate) fn threshold_of(t: usize) -> usize
     requires { ⌜ t ≤ topFaults ⌝ }
     ensures { λ r. ⌜ r ≡ shelf t .threshold ⌝ }
 {
@@ -62,110 +60,11 @@ fn threshold_of(t: usize) -> usize
 }
 
 // The length of each fragment of a content of n bytes.
-fn size(k: usize, n: usize) -> usize
+pub(crate) fn size(k: usize, n: usize) -> usize
     requires { ⌜ (1 ≤ k) × (k ≤ width) × (n ≤ topLength) ⌝ }
     ensures { λ r. ⌜ r ≡ fragmentSize k n ⌝ }
 {
     (n + k - 1) / k
-}
-
-// ---- refusals
-
-// Whether a server is not from 1 to most.
-fn server_outside(servers: &[usize], most: usize) -> bool
-    ensures { λ r. ⌜ r ≡ not (each (within 1 most) (now (servers .entry))) ⌝ }
-{
-    let mut i: usize = 0;
-    while i < servers.len() {
-        if cluster::outside(1, most, servers[i]) {
-            return true;
-        }
-        i += 1;
-    }
-    false
-}
-
-// Whether given is not count times f. The product is not made: it could pass the largest number.
-// Fragments of no bytes have none together, however many they are.
-fn miscounted(given: usize, count: usize, f: usize) -> bool
-    ensures { λ r. ⌜ r ≡ not (eqb given (count * f)) ⌝ }
-{
-    if f == 0 {
-        return given != 0;
-    }
-    if given % f != 0 {
-        return true;
-    }
-    given / f != count
-}
-
-fn fragment_refusal(t: usize, server: usize, n: usize) -> u8
-    ensures { λ r. ⌜ r ≡ fragmentRefusal t server n ⌝ }
-{
-    if cluster::outside(1, cluster::TOP_FAULTS, t) {
-        return cluster::refusals::FAULTS;
-    }
-    if cluster::outside(1, servers_of(t), server) {
-        return cluster::refusals::SERVER;
-    }
-    if n > cluster::TOP_LENGTH {
-        return cluster::refusals::LENGTH;
-    }
-    0
-}
-
-// The refusals of restoring, but for too few different servers.
-fn restore_refusal(t: usize, n: usize, servers: &[usize], given: usize, room: usize) -> u8
-    ensures { λ r. ⌜ r ≡ firstOf (argumentChecks t n (now (servers .entry)) given room) ⌝ }
-{
-    if cluster::outside(1, cluster::TOP_FAULTS, t) {
-        return cluster::refusals::FAULTS;
-    }
-    if server_outside(servers, servers_of(t)) {
-        return cluster::refusals::SERVER;
-    }
-    if n > cluster::TOP_LENGTH {
-        return cluster::refusals::LENGTH;
-    }
-    if room < cluster::CONTENT_ROOM {
-        return cluster::refusals::ROOM;
-    }
-    if miscounted(given, servers.len(), size(threshold_of(t), n)) {
-        return cluster::refusals::FRAGMENTS;
-    }
-    0
-}
-
-// The refusals of the weights, but for too few different servers.
-fn weights_refusal(t: usize, servers: &[usize]) -> u8
-    ensures { λ r. ⌜ r ≡ firstOf (serverChecks t (now (servers .entry))) ⌝ }
-{
-    if cluster::outside(1, cluster::TOP_FAULTS, t) {
-        return cluster::refusals::FAULTS;
-    }
-    if server_outside(servers, servers_of(t)) {
-        return cluster::refusals::SERVER;
-    }
-    0
-}
-
-fn weighed_refusal(t: usize, n: usize, given: usize, room: usize) -> u8
-    ensures { λ r. ⌜ r ≡ weighedRefusal t n given room ⌝ }
-{
-    if cluster::outside(1, cluster::TOP_FAULTS, t) {
-        return cluster::refusals::FAULTS;
-    }
-    if n > cluster::TOP_LENGTH {
-        return cluster::refusals::LENGTH;
-    }
-    if room < cluster::CONTENT_ROOM {
-        return cluster::refusals::ROOM;
-    }
-    let k = threshold_of(t);
-    if miscounted(given, k, size(k, n)) {
-        return cluster::refusals::FRAGMENTS;
-    }
-    0
 }
 
 // No weights.
@@ -186,7 +85,7 @@ fn no_weights(number: u8) -> WeightsOutcome
 pub fn fragment(t: usize, server: usize, content: &[u8]) -> FragmentOutcome
     ensures { λ r. ⌜ r ≡ fragmentStep t server (now (content .entry)) ⌝ }
 {
-    let number = fragment_refusal(t, server, content.len());
+    let number = refusals::fragment_refusal(t, server, content.len());
     if number != 0 {
         return FragmentOutcome {
             number: number,
@@ -217,7 +116,7 @@ pub fn restore(
 ) -> cluster::Outcome
     ensures { λ r. ⌜ (r, now (out .exit)) ≡ restoreStep t length (now (servers .entry)) (now (fragments .entry)) (now (out .entry)) ⌝ }
 {
-    let number = restore_refusal(t, length, servers, fragments.len(), out.len());
+    let number = refusals::restore_refusal(t, length, servers, fragments.len(), out.len());
     if number != 0 {
         return cluster::refused(number);
     }
@@ -240,7 +139,7 @@ pub fn restore(
 pub fn weights(t: usize, servers: &[usize]) -> WeightsOutcome
     ensures { λ r. ⌜ r ≡ weightsStep t (now (servers .entry)) ⌝ }
 {
-    let number = weights_refusal(t, servers);
+    let number = refusals::weights_refusal(t, servers);
     if number != 0 {
         return no_weights(number);
     }
@@ -272,7 +171,7 @@ pub fn restore_weighed(
 ) -> cluster::Outcome
     ensures { λ r. ⌜ (r, now (out .exit)) ≡ weighedStep t length rows (now (fragments .entry)) (now (out .entry)) ⌝ }
 {
-    let number = weighed_refusal(t, length, fragments.len(), out.len());
+    let number = refusals::weighed_refusal(t, length, fragments.len(), out.len());
     if number != 0 {
         return cluster::refused(number);
     }

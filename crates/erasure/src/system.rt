@@ -5,20 +5,20 @@ ghost use Prim.Native.Nat.{ℕ, _<_, _≤_};
 ghost use lib.Bits.{bitXor};
 ghost use lib.ListN.{getD};
 ghost use Rattle.gf256.specs.Gf.{times, power, inverse};
-ghost use Rattle.erasure.specs.System.{width, rowRoom, entry, RowTurned, SystemTurned, sumTo, weightAt, AllDifferent, Solves};
+ghost use Rattle.erasure.specs.System.{width, systemRow, entry, RowTurned, SystemTurned, sumTo, weightAt, AllDifferent, Solves};
 
 // The most points: rows and columns of the system.
 pub(crate) const WIDTH: usize = 5;
 
 // A row has room for the bytes of one vector register, so that a row is worked on at once.
-pub(crate) const ROW: usize = 16;
+pub(crate) const SYSTEM_ROW: usize = 16;
 
 // The powers of x from 0, as many as k.
-fn powers_row(x: u8, k: usize) -> [u8; ROW]
+fn powers_row(x: u8, k: usize) -> [u8; SYSTEM_ROW]
     requires { ⌜ k ≤ width ⌝ }
     ensures { λ r. ⌜ ((c : ℕ) → c < k → getD r c 0 ≡ power x c) ⌝ }
 {
-    let mut out = [0u8; ROW];
+    let mut out = [0u8; SYSTEM_ROW];
     out[0] = 1;
     let mut c: usize = 1;
     while c < k {
@@ -29,12 +29,12 @@ fn powers_row(x: u8, k: usize) -> [u8; ROW]
 }
 
 // The sum so far, and w times a row.
-fn add_row(sum: [u8; ROW], row: [u8; ROW], w: u8) -> [u8; ROW]
-    ensures { λ r. ⌜ ((c : ℕ) → c < rowRoom → getD r c 0 ≡ bitXor (getD sum c 0) (times w (getD row c 0))) ⌝ }
+fn add_row(sum: [u8; SYSTEM_ROW], row: [u8; SYSTEM_ROW], w: u8) -> [u8; SYSTEM_ROW]
+    ensures { λ r. ⌜ ((c : ℕ) → c < systemRow → getD r c 0 ≡ bitXor (getD sum c 0) (times w (getD row c 0))) ⌝ }
 {
-    let mut out = [0u8; ROW];
+    let mut out = [0u8; SYSTEM_ROW];
     let mut c: usize = 0;
-    while c < ROW {
+    while c < SYSTEM_ROW {
         out[c] = sum[c] ^ gf256::mul(row[c], w);
         c += 1;
     }
@@ -42,7 +42,7 @@ fn add_row(sum: [u8; ROW], row: [u8; ROW], w: u8) -> [u8; ROW]
 }
 
 // One row of the turned system.
-fn turn_row(row: [u8; ROW], pivot: [u8; ROW], d: u8, p: usize) -> [u8; ROW]
+fn turn_row(row: [u8; SYSTEM_ROW], pivot: [u8; SYSTEM_ROW], d: u8, p: usize) -> [u8; SYSTEM_ROW]
     requires { ⌜ p < width ⌝ }
     ensures { λ r. ⌜ RowTurned row pivot d p r ⌝ }
 {
@@ -53,21 +53,21 @@ fn turn_row(row: [u8; ROW], pivot: [u8; ROW], d: u8, p: usize) -> [u8; ROW]
 }
 
 // The p-th row of the unit system.
-fn unit_row(p: usize) -> [u8; ROW]
+fn unit_row(p: usize) -> [u8; SYSTEM_ROW]
     requires { ⌜ p < width ⌝ }
     ensures { λ r. ⌜ (getD r p 0 ≡ 1) × ((c : ℕ) → c < width → c ≢ p → getD r c 0 ≡ 0) ⌝ }
 {
-    let mut out = [0u8; ROW];
+    let mut out = [0u8; SYSTEM_ROW];
     out[p] = 1;
     out
 }
 
 // The system of the first k points: row r has the powers of point r.
-fn begin(xs: [u8; WIDTH], k: usize) -> [[u8; ROW]; WIDTH]
+fn begin(xs: [u8; WIDTH], k: usize) -> [[u8; SYSTEM_ROW]; WIDTH]
     requires { ⌜ k ≤ width ⌝ }
     ensures { λ r. ⌜ ((i c : ℕ) → i < k → c < k → entry r i c ≡ power (getD xs i 0) c) ⌝ }
 {
-    let mut a = [[0u8; ROW]; WIDTH];
+    let mut a = [[0u8; SYSTEM_ROW]; WIDTH];
     let mut r: usize = 0;
     while r < k {
         a[r] = powers_row(xs[r], k);
@@ -77,7 +77,7 @@ fn begin(xs: [u8; WIDTH], k: usize) -> [[u8; ROW]; WIDTH]
 }
 
 // The system of k rows, turned at p: the p-th unknown and the p-th value change places.
-fn turn(a: [[u8; ROW]; WIDTH], p: usize, k: usize) -> [[u8; ROW]; WIDTH]
+fn turn(a: [[u8; SYSTEM_ROW]; WIDTH], p: usize, k: usize) -> [[u8; SYSTEM_ROW]; WIDTH]
     requires { ⌜ (p < k) × (k ≤ width) ⌝ }
     ensures { λ r. ⌜ SystemTurned k a p (inverse (entry a p p)) r ⌝ }
 {
@@ -94,7 +94,7 @@ fn turn(a: [[u8; ROW]; WIDTH], p: usize, k: usize) -> [[u8; ROW]; WIDTH]
 }
 
 // The system of the first k points, solved.
-pub(crate) fn solve(xs: [u8; WIDTH], k: usize) -> [[u8; ROW]; WIDTH]
+pub(crate) fn solve(xs: [u8; WIDTH], k: usize) -> [[u8; SYSTEM_ROW]; WIDTH]
     requires { ⌜ (k ≤ width) × AllDifferent k xs ⌝ }
     ensures { λ r. ⌜ Solves k xs r ⌝ }
 {
@@ -109,9 +109,9 @@ pub(crate) fn solve(xs: [u8; WIDTH], k: usize) -> [[u8; ROW]; WIDTH]
 }
 
 // The sum of the first k rows, each times its power. The power of row 0 is 1, so that the sum begins with the row itself.
-fn sum_rows(a: [[u8; ROW]; WIDTH], powers: [u8; ROW], k: usize) -> [u8; ROW]
+fn sum_rows(a: [[u8; SYSTEM_ROW]; WIDTH], powers: [u8; SYSTEM_ROW], k: usize) -> [u8; SYSTEM_ROW]
     requires { ⌜ (1 ≤ k) × (k ≤ width) × (getD powers 0 0 ≡ 1) ⌝ }
-    ensures { λ r. ⌜ ((j : ℕ) → j < rowRoom → getD r j 0 ≡ sumTo k (λ c. times (getD powers c 0) (entry a c j))) ⌝ }
+    ensures { λ r. ⌜ ((j : ℕ) → j < systemRow → getD r j 0 ≡ sumTo k (λ c. times (getD powers c 0) (entry a c j))) ⌝ }
 {
     let mut sum = a[0];
     let mut c: usize = 1;
@@ -124,7 +124,7 @@ fn sum_rows(a: [[u8; ROW]; WIDTH], powers: [u8; ROW], k: usize) -> [u8; ROW]
 }
 
 // The weights of the k values at z.
-pub(crate) fn weights(a: [[u8; ROW]; WIDTH], k: usize, z: u8) -> [u8; WIDTH]
+pub(crate) fn weights(a: [[u8; SYSTEM_ROW]; WIDTH], k: usize, z: u8) -> [u8; WIDTH]
     requires { ⌜ (1 ≤ k) × (k ≤ width) ⌝ }
     ensures { λ r. ⌜ ((j : ℕ) → j < width → getD r j 0 ≡ weightAt k a z j) ⌝ }
 {

@@ -6,20 +6,20 @@ ghost use Prim.Native.Nat.{ℕ, _+_, _-_, _*_, _<_, _≤_};
 ghost use lib.ListN.{getD, length, take, replicate};
 ghost use Rattle.cluster.specs.Config.{pointOf, PointTable};
 ghost use Rattle.erasure.specs.System.{width, AllDifferent};
-ghost use Rattle.erasure.specs.Standing.{rowAt};
+ghost use Rattle.erasure.specs.Standing.{weightIn};
 ghost use Rattle.erasure.specs.Weights.{weightRows, rowsRoom};
 use crate::choice::Chosen;
 
 const WIDTH: usize = crate::system::WIDTH;
 
-const ROW: usize = crate::system::ROW;
+const SYSTEM_ROW: usize = crate::system::SYSTEM_ROW;
 
 const ROWS: usize = crate::ROWS;
 
 // The weights at z: where z is one of the points given, only the value there counts; otherwise the solved system tells them.
-fn row_of(a: [[u8; ROW]; WIDTH], k: usize, place: usize, z: u8) -> [u8; WIDTH]
+fn row_of(a: [[u8; SYSTEM_ROW]; WIDTH], k: usize, place: usize, z: u8) -> [u8; WIDTH]
     requires { ⌜ (1 ≤ k) × (k ≤ width) ⌝ }
-    ensures { λ r. ⌜ ((j : ℕ) → j < k → getD r j 0 ≡ rowAt k a place z j) ⌝ }
+    ensures { λ r. ⌜ ((j : ℕ) → j < k → getD r j 0 ≡ weightIn k a place z j) ⌝ }
 {
     if place < k {
         let mut out = [0u8; WIDTH];

@@ -151,10 +151,10 @@ module _ (O : Ops) (L : Field.Laws O) where
       ∙ sym (prod-first n (factor x (suc j) z))
 
   -- the weight of the j-th of k points
-  abbrev pub weightOf : ℕ → (ℕ → F) → F → ℕ → F
-  weightOf k x z j = prod k (factor x j z) ⊗ inv (prod k (factor x j (x j)))
+  abbrev pub closedWeight : ℕ → (ℕ → F) → F → ℕ → F
+  closedWeight k x z j = prod k (factor x j z) ⊗ inv (prod k (factor x j (x j)))
 
-  weight-is : (k : ℕ) (x : ℕ → F) (z : F) (j : ℕ) → j < k → weight (tab O L k x) j z ≡ weightOf k x z j
+  weight-is : (k : ℕ) (x : ℕ → F) (z : F) (j : ℕ) → j < k → weight (tab O L k x) j z ≡ closedWeight k x z j
   unfolding weight
   weight-is k x z j h =
       ap₂ (λ s t. s ⊗ inv t) (others-prod k x j z h)
@@ -162,9 +162,9 @@ module _ (O : Ops) (L : Field.Laws O) where
 
   -- the sum of the values, each times its weight, is the polynomial through the points
   pub weighed : (k : ℕ) (x v : ℕ → F) (z : F) → Powers.Different O L k x
-      → Sums.sum O L k (λ j. v j ⊗ weightOf k x z j) ≡ through O (tab O L k x) (tab O L k v) z
+      → Sums.sum O L k (λ j. v j ⊗ closedWeight k x z j) ≡ through O (tab O L k x) (tab O L k v) z
   weighed k x v z d =
-      Sums.sum-ext O L k (λ j. v j ⊗ weightOf k x z j) (λ j. v j ⊗ weight xs j z) (λ j b. ap (λ t. v j ⊗ t) (sym (weight-is k x z j b)))
+      Sums.sum-ext O L k (λ j. v j ⊗ closedWeight k x z j) (λ j. v j ⊗ weight xs j z) (λ j b. ap (λ t. v j ⊗ t) (sym (weight-is k x z j b)))
       ∙ sym (sumC-eval xs v k z)
       ∙ Through.through-is O L xs (tab O L k v) (sumC xs v k) 0# (length-all xs v k long) (Powers.length-tab O L k v ∙ sym long) distinct
       (λ i b.

@@ -32,7 +32,7 @@ pub use parties::{stored, Client, GivenUp, Keys, Label, Round, Served, Server, S
 pub use plan::{plan, plan_numbers, Plan, Traffic, PLAN};
 pub use refusal::Refusal;
 pub use server::{server_blank, server_take};
-pub use weights::{restore_weighed, weight_rows, weights, Weights, ROWS_SIZE, USED_SIZE};
+pub use weights::{restore_weighed, weight_rows, weights, Weights, ROWS_ROOM, USED_ROOM};
 
 /// The version of the archive that is linked, as major * 65536 + minor * 256 + patch.
 pub fn version() -> u32 {

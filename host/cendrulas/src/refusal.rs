@@ -41,7 +41,7 @@ const NAMES: [(Refusal, &str); 17] = [
     (Refusal::WrongMoment, "a call is in hand at a begin, or none is at another step"),
     (Refusal::NumbersUsedUp, "call or stamp numbers used up"),
     (Refusal::OutputTooSmall, "output too small"),
-    (Refusal::Fragments, "too few fragments, or of a wrong length"),
+    (Refusal::Fragments, "too few different servers, or fragments of a wrong length"),
     (Refusal::DrillLine, "drill line not of the form"),
     (Refusal::Stores, "more stores than a memory holds"),
     (Refusal::WrongSize, "argument of a wrong size"),

@@ -4,9 +4,9 @@ use crate::abi;
 use crate::{Answer, Refusal};
 
 /// The t+1 servers that restoring uses, for every t.
-pub const USED_SIZE: usize = 5;
+pub const USED_ROOM: usize = 5;
 /// Their weights, t+1 rows of t+1, for every t.
-pub const ROWS_SIZE: usize = 25;
+pub const ROWS_ROOM: usize = 25;
 
 /// The servers used, to the front of `used`, and their rows of weights, one after the other, to the front of `rows`; the count is of servers.
 pub fn weight_rows(t: usize, servers: &[usize], used: &mut [u8], rows: &mut [u8]) -> Answer {
@@ -33,18 +33,18 @@ pub fn restore_weighed(t: usize, length: usize, rows: &[u8], fragments: &[u8], o
     })
 }
 
-/// Which servers restoring uses, and the weights of their fragments. It keeps its t, so that no content is restored with the weights of another.
+/// Which servers restoring uses, and the weights of their fragments. It keeps its t, so that its rows are not taken for those of another.
 #[derive(Clone, Copy, Debug, PartialEq, Eq)]
 pub struct Weights {
     t: usize,
-    used: [u8; USED_SIZE],
-    rows: [u8; ROWS_SIZE],
+    used: [u8; USED_ROOM],
+    rows: [u8; ROWS_ROOM],
 }
 
 /// The weights for a shelf of which up to `t` servers may lie (1 to 4), of the first t+1 different ones among the servers named.
 /// examples/weights.rs restores two contents by them.
 pub fn weights(t: usize, servers: &[usize]) -> Result<Weights, Refusal> {
-    let mut weights = Weights { t, used: [0; USED_SIZE], rows: [0; ROWS_SIZE] };
+    let mut weights = Weights { t, used: [0; USED_ROOM], rows: [0; ROWS_ROOM] };
     weight_rows(t, servers, &mut weights.used, &mut weights.rows).accepted().map(|_| weights)
 }
 

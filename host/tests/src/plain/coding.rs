@@ -1,5 +1,5 @@
 use super::{answer, narrow, WRONG_SIZE};
-use cendrulas::{Answer, ROWS_SIZE, USED_SIZE};
+use cendrulas::{Answer, ROWS_ROOM, USED_ROOM};
 use shelf::fragments::{self, Weights, ALL_FRAGMENTS};
 use shelf::{boxes_of, Refusal};
 
@@ -38,7 +38,7 @@ pub fn restore(t: usize, length: usize, servers: &[usize], fragments: &[u8], out
 }
 
 pub fn weight_rows(t: usize, servers: &[usize], used: &mut [u8], rows: &mut [u8]) -> Answer {
-    if used.len() < USED_SIZE || rows.len() < ROWS_SIZE {
+    if used.len() < USED_ROOM || rows.len() < ROWS_ROOM {
         return Answer::refused(WRONG_SIZE);
     }
     let boxes: Vec<u8> = servers.iter().map(|&server| narrow(server)).collect();
@@ -56,7 +56,7 @@ fn put(found: &Weights, k: usize, used: &mut [u8], rows: &mut [u8]) -> usize {
 }
 
 pub fn restore_weighed(t: usize, length: usize, rows: &[u8], fragments: &[u8], out: &mut [u8]) -> Answer {
-    if rows.len() < ROWS_SIZE {
+    if rows.len() < ROWS_ROOM {
         return Answer::refused(WRONG_SIZE);
     }
     let t = narrow(t);

@@ -5,7 +5,7 @@ use crate::check::{Run, Seen, FILLER};
 use crate::kinds::{emptied, kind, plainly};
 use crate::plain;
 use crate::text::hex;
-use cendrulas::{Answer, CONTENT_ROOM, ROWS_SIZE, USED_SIZE};
+use cendrulas::{Answer, CONTENT_ROOM, ROWS_ROOM, USED_ROOM};
 use shelf::fragments::fragment_length;
 
 pub fn all(run: &mut Run, source: &mut Source, inputs: usize) {
@@ -53,7 +53,7 @@ fn servers(source: &mut Source, faults: usize, t: usize) -> Vec<usize> {
 fn weights(run: &mut Run, source: &mut Source, faults: usize) {
     let t = argument(source, faults, 4);
     let servers = servers(source, faults, t);
-    let (mut used, mut rows) = (vec![FILLER; room(source, faults, USED_SIZE)], vec![FILLER; room(source, faults, ROWS_SIZE)]);
+    let (mut used, mut rows) = (vec![FILLER; room(source, faults, USED_ROOM)], vec![FILLER; room(source, faults, ROWS_ROOM)]);
     let (mut plain_used, mut plain_rows) = (used.clone(), rows.clone());
     let answer = cendrulas::weight_rows(t, &servers, &mut used, &mut rows);
     let plain = plain::weight_rows(t, &servers, &mut plain_used, &mut plain_rows);
@@ -71,11 +71,11 @@ fn weights(run: &mut Run, source: &mut Source, faults: usize) {
 fn restore_weighed(run: &mut Run, source: &mut Source, faults: usize) {
     let t = argument(source, faults, 4);
     let n = if source.once_in(faults) { *source.pick(&[1_025, 1 << 16 | 1, 1 << 32 | 1, usize::MAX]) } else { source.content_length() };
-    let (length, room) = (room(source, faults, ROWS_SIZE), room(source, faults, CONTENT_ROOM));
+    let (length, room) = (room(source, faults, ROWS_ROOM), room(source, faults, CONTENT_ROOM));
     let mut rows = source.bytes(length);
     let own = source.once_in(2) && {
         let servers = servers(source, faults, t);
-        cendrulas::weight_rows(t, &servers, &mut [0; USED_SIZE], &mut rows).refusal == 0
+        cendrulas::weight_rows(t, &servers, &mut [0; USED_ROOM], &mut rows).refusal == 0
     };
     let fragments = fragments(source, faults, t, n);
     let (mut got, mut want) = (vec![FILLER; room], vec![FILLER; room]);

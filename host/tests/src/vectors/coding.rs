@@ -3,7 +3,7 @@
 use super::{due, filled, servers, shelf, table};
 use crate::check::{Run, Seen, FILLER};
 use crate::text::{each_line, Line};
-use cendrulas::{weight_rows, Answer, ROWS_SIZE, USED_SIZE};
+use cendrulas::{weight_rows, Answer, ROWS_ROOM, USED_ROOM};
 use std::path::Path;
 
 /// A content is refused for every server, or has a fragment for each.
@@ -55,7 +55,7 @@ pub fn weights(run: &mut Run, path: &Path) {
         table(line, t);
         let servers: Vec<usize> = line.numbers();
         line.past("=");
-        let (mut used, mut rows) = ([FILLER; USED_SIZE + 1], [FILLER; ROWS_SIZE + 1]);
+        let (mut used, mut rows) = ([FILLER; USED_ROOM + 1], [FILLER; ROWS_ROOM + 1]);
         let answer = weight_rows(t, &servers, &mut used, &mut rows);
         let (want, due_used, due_rows) = weights_due(line, t);
         run.same(

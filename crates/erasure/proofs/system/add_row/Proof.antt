@@ -8,17 +8,17 @@ use mir.Val.{Fits}
 use mir.Syntax.{w8}
 use Rattle.gf256.specs.Gf.{times}
 use Rattle.gf256.proofs.Linear.{times-comm}
-use Rattle.erasure.specs.System.{rowRoom}
+use Rattle.erasure.specs.System.{systemRow}
 use Rattle.erasure.proofs.Fill.{Filled, filled-none, filled-more}
 use borrow.Author.Needs.{needs}
 use Rattle.erasure.proofs.system.add_row.Statement.{statement}
 use Rattle.erasure.proofs.system.add_row.Tie as tie
 
 abbrev Inv-loop : tie.InvT-loop
-Inv-loop w sum row out₀ c₀ out c = (c ≤ rowRoom) × Filled 0 (λ j v. v ≡ bitXor (getD sum j 0) (times w (getD row j 0))) rowRoom c out
+Inv-loop w sum row out₀ c₀ out c = (c ≤ systemRow) × Filled 0 (λ j v. v ≡ bitXor (getD sum j 0) (times w (getD row j 0))) systemRow c out
 
 abbrev μ-loop : tie.MeasureT-loop
-μ-loop w sum row out₀ c₀ out c = rowRoom - c
+μ-loop w sum row out₀ c₀ out c = systemRow - c
 
 loop-holds : tie.Need-loop-holds Inv-loop μ-loop
 loop-holds c = (search needs, filled-none refl)

@@ -1,5 +1,5 @@
 -- Each power is the one before times x. Assumes nothing.
-use Rattle.erasure.specs.System.{width, rowRoom}
+use Rattle.erasure.specs.System.{width, systemRow}
 use mathlib.Core.Path.{_≡_, refl, ap, _∙_}
 use Prim.Native.Nat.{ℕ, suc, _-_, _≤_}
 use native.Mathlib.Omega.{arith}
@@ -11,14 +11,14 @@ use Rattle.erasure.proofs.system.powers_row.Statement.{statement}
 use Rattle.erasure.proofs.system.powers_row.Tie as tie
 
 abbrev Inv-loop : tie.InvT-loop
-Inv-loop x k out₀ c₀ out c = (1 ≤ c) × (c ≤ width) × Filled 0 (λ j v. v ≡ power x j) rowRoom c out
+Inv-loop x k out₀ c₀ out c = (1 ≤ c) × (c ≤ width) × Filled 0 (λ j v. v ≡ power x j) systemRow c out
 
 abbrev μ-loop : tie.MeasureT-loop
 μ-loop x k out₀ c₀ out c = k - c
 
 loop-holds : tie.Need-loop-holds Inv-loop μ-loop
 unfolding power
-loop-holds c = (search needs, search needs, filled-more {l = replicate rowRoom 0} (filled-none refl) (omega arith) 1 refl)
+loop-holds c = (search needs, search needs, filled-more {l = replicate systemRow 0} (filled-none refl) (omega arith) 1 refl)
 
 loop-again : tie.Need-loop-again Inv-loop μ-loop
 unfolding power

@@ -5,7 +5,7 @@ use native.Mathlib.Omega.{arith}
 use lib.ListN.{getD}
 use Rattle.gf256.specs.Gf.{times}
 use Rattle.gf256.proofs.Linear.{one-times}
-use Rattle.erasure.specs.System.{rowRoom, entry, sumTo}
+use Rattle.erasure.specs.System.{systemRow, entry, sumTo}
 use Rattle.erasure.proofs.Entries.{entry-byte}
 use Rattle.erasure.proofs.Sums.{sumTo-one, sumTo-more}
 use borrow.Author.Needs.{needs}
@@ -13,7 +13,7 @@ use Rattle.erasure.proofs.system.sum_rows.Statement.{statement}
 use Rattle.erasure.proofs.system.sum_rows.Tie as tie
 
 abbrev Inv-loop : tie.InvT-loop
-Inv-loop k a powers sum₀ c₀ sum c = (1 ≤ c) × (c ≤ k) × ((j : ℕ) → j < rowRoom → getD sum j 0 ≡ sumTo c (λ i. times (getD powers i 0) (entry a i j)))
+Inv-loop k a powers sum₀ c₀ sum c = (1 ≤ c) × (c ≤ k) × ((j : ℕ) → j < systemRow → getD sum j 0 ≡ sumTo c (λ i. times (getD powers i 0) (entry a i j)))
 
 abbrev μ-loop : tie.MeasureT-loop
 μ-loop k a powers sum₀ c₀ sum c = k - c
@@ -26,7 +26,7 @@ loop-holds c =
       search needs,
       λ j h.
           sym (sumTo-one (λ i. times (getD (args .t2) i 0) (entry (args .t1) i j)) ∙ ap (λ (x : ℕ). times x (entry (args .t1) 0 j)) (start .pre .2)
-          ∙ one-times (entry (args .t1) 0 j) (entry-byte rowRoom (args .t1) (start .good .0 .0) 0 j (start .good .0 .1 .1))),
+          ∙ one-times (entry (args .t1) 0 j) (entry-byte systemRow (args .t1) (start .good .0 .0) 0 j (start .good .0 .1 .1))),
     )
 
 loop-again : tie.Need-loop-again Inv-loop μ-loop

@@ -9,8 +9,8 @@ use borrow.Author.Tests.{not-true, not-false}
 use Rattle.cluster.specs.Ranges.{within}
 use Rattle.erasure.proofs.Refused.{each-fails, each-holds}
 use borrow.Author.Needs.{needs}
-use Rattle.erasure.proofs.server_outside.Statement.{statement}
-use Rattle.erasure.proofs.server_outside.Tie as tie
+use Rattle.erasure.proofs.refusals.server_outside.Statement.{statement}
+use Rattle.erasure.proofs.refusals.server_outside.Tie as tie
 
 abbrev Inv-loop : tie.InvT-loop
 Inv-loop servers most i₀ i = (i ≤ length servers) × ((j : ℕ) → j < i → within 1 most (getD servers j 0) ≡ true)

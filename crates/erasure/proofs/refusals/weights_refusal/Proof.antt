@@ -9,8 +9,8 @@ use Rattle.cluster.specs.Ranges.{within, topFaults}
 use Rattle.cluster.proofs.Tests.{within-bounds}
 use Rattle.erasure.specs.Steps.{each}
 use Rattle.erasure.proofs.WeightTests.{server-tests}
-use Rattle.erasure.proofs.weights_refusal.Statement.{statement}
-use Rattle.erasure.proofs.weights_refusal.Tie as tie
+use Rattle.erasure.proofs.refusals.weights_refusal.Statement.{statement}
+use Rattle.erasure.proofs.refusals.weights_refusal.Tie as tie
 
 faults-in : (c : tie.Else1) → not (within 1 topFaults (c .before .before .before .args .t)) ≡ false
 faults-in c = sym (c .before .outside .ensures) ∙ c .if1 .left

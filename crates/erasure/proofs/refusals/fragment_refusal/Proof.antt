@@ -10,8 +10,8 @@ use Rattle.cluster.proofs.Tests.{within-bounds}
 use Rattle.erasure.specs.Steps.{fragmentRefusal}
 use Rattle.erasure.proofs.Refused.{fragment-tests}
 use borrow.Author.Needs.{needs}
-use Rattle.erasure.proofs.fragment_refusal.Statement.{statement}
-use Rattle.erasure.proofs.fragment_refusal.Tie as tie
+use Rattle.erasure.proofs.refusals.fragment_refusal.Statement.{statement}
+use Rattle.erasure.proofs.refusals.fragment_refusal.Tie as tie
 
 -- ---- what the tests that were passed say
 

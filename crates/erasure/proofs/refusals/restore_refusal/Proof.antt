@@ -15,8 +15,8 @@ use Rattle.erasure.specs.Fragments.{fragmentSize}
 use Rattle.erasure.specs.Steps.{each, argumentChecks}
 use Rattle.erasure.proofs.Refused.{argument-tests}
 use borrow.Author.Needs.{needs}
-use Rattle.erasure.proofs.restore_refusal.Statement.{statement}
-use Rattle.erasure.proofs.restore_refusal.Tie as tie
+use Rattle.erasure.proofs.refusals.restore_refusal.Statement.{statement}
+use Rattle.erasure.proofs.refusals.restore_refusal.Tie as tie
 
 -- ---- what the tests that were passed say
 

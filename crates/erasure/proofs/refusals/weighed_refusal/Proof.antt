@@ -12,8 +12,8 @@ use Rattle.cluster.proofs.Tests.{within-bounds}
 use Rattle.erasure.specs.Fragments.{fragmentSize}
 use Rattle.erasure.specs.Weights.{weighedRefusal}
 use Rattle.erasure.proofs.WeightTests.{weighed-tests}
-use Rattle.erasure.proofs.weighed_refusal.Statement.{statement}
-use Rattle.erasure.proofs.weighed_refusal.Tie as tie
+use Rattle.erasure.proofs.refusals.weighed_refusal.Statement.{statement}
+use Rattle.erasure.proofs.refusals.weighed_refusal.Tie as tie
 
 -- ---- what the tests that were passed say
 

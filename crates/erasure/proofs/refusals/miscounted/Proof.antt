@@ -3,8 +3,8 @@ use mathlib.Core.Path.{sym, ap}
 use mathlib.Core.Bool.{not}
 use Rattle.erasure.proofs.Refused.{none-counted, not-whole, quotient}
 use borrow.Author.Needs.{needs}
-use Rattle.erasure.proofs.miscounted.Statement.{statement}
-use Rattle.erasure.proofs.miscounted.Tie as tie
+use Rattle.erasure.proofs.refusals.miscounted.Statement.{statement}
+use Rattle.erasure.proofs.refusals.miscounted.Tie as tie
 
 returns : tie.Need-returns
 returns c = none-counted (c .before .args .given) (c .before .args .f) (c .before .args .count) (c .if1 .taken)
