@@ -1,6 +1,6 @@
 -- The two exports on weights together, whatever stood in the buffers: the servers told are those that restoring uses, and their fragments, with the
 -- rows as they were left, are restored to what restoring gives. Only the first k * k bytes of rows count. Assumes nothing.
-use mathlib.Core.Path.{_≡_, refl, sym, ap, ap₂, _∙_}
+use mathlib.Core.Path.{_≡_, refl, sym, ap, _∙_}
 use mathlib.Core.List.{List, _++_, map}
 use Prim.Native.Nat.{ℕ, _-_, _*_, _<_, _≤_}
 use native.Mathlib.Omega.{arith}
@@ -23,7 +23,7 @@ use Rattle.erasure.proofs.Round.{joined}
 use Rattle.erasure.proofs.WeightTests.{weights-accepted}
 use Rattle.embed.specs.Packing.{writtenBy}
 use Rattle.embed.specs.Weights.{weightsExportRefusal, weightsOut, weighedBy}
-use Rattle.embed.proofs.Weighing.{weights-number, weights-refusal, used-count, weights-count, threshold-most, square-fits}
+use Rattle.embed.proofs.Weighing.{weights-number, weights-refusal, used-count, weights-count, square-fits}
 
 -- what restoring by weights gives depends on the sums alone
 by-bytes : (t n : ℕ) (rows others fragments out : List ℕ)
@@ -91,7 +91,7 @@ module _ (t n : ℕ) (servers fragments out : List ℕ) (accepts : restoreRefusa
   unfolding weighedBy left
   restored-by-exports small =
       let given : List ℕ = joined (map (λ p. take f (drop (p * f) fragments)) (firstDifferent k servers)) in
-      rw (le-ltb _ _ (omega (arith, long, rows-room)))
+      rw (le-ltb (length (weightsOut t servers used rows .rows)) rowsRoom (omega (arith, long, rows-room)))
       (by-bytes t n (take rowsRoom left) (weightsStep t servers .rows) given out
       (rows-counted k n (take rowsRoom left) (weightsStep t servers .rows) given k-pos same-rows)
       ∙ sym (same-as-restoring t n servers fragments out accepts small))
