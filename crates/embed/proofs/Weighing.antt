@@ -17,7 +17,7 @@ use Rattle.cluster.specs.declared.Outcome.{Outcome}
 use Rattle.erasure.specs.declared.WeightsOutcome.{WeightsOutcome}
 use Rattle.erasure.specs.Choice.{firstDifferent}
 use Rattle.erasure.specs.System.{width}
-use Rattle.erasure.specs.Weights.{rowsRoom, weightRows, serverChecks, weightsRefusal, usedServers, usedWeights, weightsStep}
+use Rattle.erasure.specs.Weights.{rowsRoom, weightRows, weightsChecks, weightsRefusal, usedServers, usedWeights, weightsStep}
 use Rattle.erasure.specs.Weights.{weighedRefusal, weighedStep}
 use Rattle.erasure.proofs.Choosing.{chosen-most}
 use Rattle.erasure.proofs.Lists.{length-table}
@@ -40,13 +40,13 @@ module _ (t : ℕ) (servers : List ℕ) (none : weightsRefusal t servers ≡ 0) 
   abbrev k : ℕ
   k = shelf t .threshold
 
-  tested : firstOf (serverChecks t servers) ≡ 0
+  tested : firstOf (weightsChecks t servers) ≡ 0
   unfolding weightsRefusal
-  tested = go (ℕ-discrete (firstOf (serverChecks t servers)) 0)
+  tested = go (ℕ-discrete (firstOf (weightsChecks t servers)) 0)
     where
-      go : Dec (firstOf (serverChecks t servers) ≡ 0) → firstOf (serverChecks t servers) ≡ 0
+      go : Dec (firstOf (weightsChecks t servers) ≡ 0) → firstOf (weightsChecks t servers) ≡ 0
       go (yes e) = e
-      go (no some) = absurd (some (sym (first-of-first (serverChecks t servers) _ some) ∙ none))
+      go (no some) = absurd (some (sym (first-of-first (weightsChecks t servers) _ some) ∙ none))
 
   pub threshold-most : k ≤ width
   unfolding shelf

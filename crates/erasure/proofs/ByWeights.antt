@@ -25,7 +25,7 @@ use Rattle.erasure.specs.Fragments.{table, fragmentSize, Part, restored}
 use Rattle.erasure.specs.Choice.{serversAt, firstDifferent, partsAt}
 use Rattle.erasure.specs.Steps.{each, argumentChecks, restoreRefusal, restoredBytes, restoreStep}
 use Rattle.erasure.specs.System.{width, sumTo, AllDifferent}
-use Rattle.erasure.specs.Weights.{weightOf, serverChecks, weightsRefusal, usedServers, usedWeights, rowsRoom, weightsStep}
+use Rattle.erasure.specs.Weights.{weightOf, weightsChecks, weightsRefusal, usedServers, usedWeights, rowsRoom, weightsStep}
 use Rattle.erasure.specs.Weights.{weighedRefusal, weighedBytes, weighedStep}
 use Rattle.erasure.proofs.Lists.{getD-table, getD-map, map-map, table-is}
 use Rattle.erasure.proofs.Laws.{size-pos, run-lt, restored-length}
@@ -43,7 +43,7 @@ use Rattle.erasure.proofs.Round.{joined, length-joined, piece}
 -- where nothing is said against the content's length, the room and the fragments' length, restoring and the weights are refused with one number
 pub same-refusal : (t n : ℕ) (servers : List ℕ) (given room : ℕ) → n ≤ topLength → contentRoom ≤ room
     → given ≡ length servers * fragmentSize (shelf t .threshold) n → restoreRefusal t n servers given room ≡ weightsRefusal t servers
-unfolding restoreRefusal argumentChecks weightsRefusal serverChecks
+unfolding restoreRefusal argumentChecks weightsRefusal weightsChecks
 same-refusal t n servers given room short fits whole =
     let k : ℕ = shelf t .threshold in
     let faults : Bool = not (within 1 topFaults t) in

@@ -19,7 +19,7 @@ use Rattle.erasure.specs.Choice.{firstDifferent}
 use Rattle.erasure.specs.Fragments.{fragmentSize}
 use Rattle.erasure.specs.Steps.{each, argumentChecks, restoreRefusal}
 use Rattle.erasure.specs.System.{width}
-use Rattle.erasure.specs.Weights.{serverChecks, weightsRefusal, usedServers, usedWeights, rowsRoom, weightsStep}
+use Rattle.erasure.specs.Weights.{weightsChecks, weightsRefusal, usedServers, usedWeights, rowsRoom, weightsStep}
 use Rattle.erasure.specs.Weights.{weighedRefusal, weighedBytes, weighedStep}
 use Rattle.erasure.proofs.Refused.{each-at, first-of-first, first-of-second}
 
@@ -27,15 +27,15 @@ use Rattle.erasure.proofs.Refused.{each-at, first-of-first, first-of-se
 
 module _ (t : ℕ) (servers : List ℕ) where
   pub server-tests : (a b : Bool) → not (within 1 topFaults t) ≡ a → not (each (within 1 (shelf t .servers)) servers) ≡ b
-      → firstOf (serverChecks t servers) ≡ cond a 3 (cond b 4 0)
-  unfolding serverChecks
+      → firstOf (weightsChecks t servers) ≡ cond a 3 (cond b 4 0)
+  unfolding weightsChecks
   server-tests a b p q = λ i. cond (p i) 3 (cond (q i) 4 0)
 
   pub record Named : Type 0 where
     pub faults : (1 ≤ t) × (t ≤ topFaults)
     pub numbers : (i : ℕ) → i < length servers → (1 ≤ getD servers i 0) × (getD servers i 0 ≤ shelf t .servers)
 
-  pub named : firstOf (serverChecks t servers) ≡ 0 → Named
+  pub named : firstOf (weightsChecks t servers) ≡ 0 → Named
   named e = go (not (within 1 topFaults t)) (not (each (within 1 (shelf t .servers)) servers)) refl refl
     where
       go : (a b : Bool) → not (within 1 topFaults t) ≡ a → not (each (within 1 (shelf t .servers)) servers) ≡ b → Named
@@ -51,19 +51,19 @@ module _ (t : ℕ) (servers : List ℕ) where
   abbrev few : Bool
   few = ltb (length (firstDifferent (shelf t .threshold) servers)) (shelf t .threshold)
 
-  pub refused-servers : (x : ℕ) → x ≡ firstOf (serverChecks t servers) → x ≢ 0 → weightsRefusal t servers ≡ x
+  pub refused-servers : (x : ℕ) → x ≡ firstOf (weightsChecks t servers) → x ≢ 0 → weightsRefusal t servers ≡ x
   unfolding weightsRefusal
-  refused-servers x e h = first-of-first (serverChecks t servers) _ (λ q. h (e ∙ q)) ∙ sym e
+  refused-servers x e h = first-of-first (weightsChecks t servers) _ (λ q. h (e ∙ q)) ∙ sym e
 
-  accepted-servers : firstOf (serverChecks t servers) ≡ 0 → weightsRefusal t servers ≡ cond few 16 0
-  unfolding weightsRefusal serverChecks
-  accepted-servers e = first-of-second (serverChecks t servers) (refuse 16 few ∷ []) (suc-ne-zero 2, (suc-ne-zero 3, tt)) e
+  accepted-servers : firstOf (weightsChecks t servers) ≡ 0 → weightsRefusal t servers ≡ cond few 16 0
+  unfolding weightsRefusal weightsChecks
+  accepted-servers e = first-of-second (weightsChecks t servers) (refuse 16 few ∷ []) (suc-ne-zero 2, (suc-ne-zero 3, tt)) e
 
-  pub refused-as-few : firstOf (serverChecks t servers) ≡ 0 → length (firstDifferent (shelf t .threshold) servers) < shelf t .threshold
+  pub refused-as-few : firstOf (weightsChecks t servers) ≡ 0 → length (firstDifferent (shelf t .threshold) servers) < shelf t .threshold
       → weightsRefusal t servers ≡ 16
   refused-as-few e h = accepted-servers e ∙ ap (λ (b : Bool). cond b 16 0) (lt-ltb _ (shelf t .threshold) h)
 
-  pub not-refused : firstOf (serverChecks t servers) ≡ 0 → shelf t .threshold ≤ length (firstDifferent (shelf t .threshold) servers)
+  pub not-refused : firstOf (weightsChecks t servers) ≡ 0 → shelf t .threshold ≤ length (firstDifferent (shelf t .threshold) servers)
       → weightsRefusal t servers ≡ 0
   not-refused e h = accepted-servers e ∙ ap (λ (b : Bool). cond b 16 0) (le-ltb _ (shelf t .threshold) h)
 
@@ -88,9 +88,9 @@ module _ (t : ℕ) (servers : List ℕ) where
   weights-accepted e = ap (λ (y : ℕ). onRefusal y weights (none y)) e
 
 -- refused for t or a server, restoring is refused with that number whatever else it is given
-pub refused-alike : (t n : ℕ) (servers : List ℕ) (given room : ℕ) → firstOf (serverChecks t servers) ≢ 0
-    → restoreRefusal t n servers given room ≡ firstOf (serverChecks t servers)
-unfolding restoreRefusal argumentChecks serverChecks
+pub refused-alike : (t n : ℕ) (servers : List ℕ) (given room : ℕ) → firstOf (weightsChecks t servers) ≢ 0
+    → restoreRefusal t n servers given room ≡ firstOf (weightsChecks t servers)
+unfolding restoreRefusal argumentChecks weightsChecks
 refused-alike t n servers given room some = go (not (within 1 topFaults t)) (not (each (within 1 (shelf t .servers)) servers)) _ some
   where
     go : (a b : Bool) (rest : ℕ) → _≢_ {A = ℕ} (cond a 3 (cond b 4 0)) 0 → cond a 3 (cond b 4 rest) ≡ cond a 3 (cond b 4 0)

@@ -40,14 +40,14 @@ rowsRoom = width * width
 -- ---- the operation that gives them
 
 -- what is asked of the arguments, as restoring asks it
-unfoldable pub serverChecks : (t : ℕ) (servers : List ℕ) → List Check
-serverChecks t servers = refuse 3 (not (within 1 topFaults t)) ∷ refuse 4 (not (each (within 1 (shelf t .servers)) servers)) ∷ []
+unfoldable pub weightsChecks : (t : ℕ) (servers : List ℕ) → List Check
+weightsChecks t servers = refuse 3 (not (within 1 topFaults t)) ∷ refuse 4 (not (each (within 1 (shelf t .servers)) servers)) ∷ []
 
 -- and of the choice: k different servers
 unfoldable pub weightsRefusal : (t : ℕ) (servers : List ℕ) → ℕ
 weightsRefusal t servers =
     firstOf
-    (serverChecks t servers
+    (weightsChecks t servers
     ++ (refuse 16 (ltb (length (firstDifferent (shelf t .threshold) servers)) (shelf t .threshold)) ∷ []))
 
 -- the servers that restoring uses: the first k different ones, in the order given

@@ -6,7 +6,7 @@ ghost use lib.Dec.{eqb};
 ghost use Rattle.cluster.specs.Ranges.{within};
 ghost use Rattle.cluster.specs.Refusals.{firstOf};
 ghost use Rattle.erasure.specs.Steps.{each, fragmentRefusal, argumentChecks};
-ghost use Rattle.erasure.specs.Weights.{serverChecks, weighedRefusal};
+ghost use Rattle.erasure.specs.Weights.{weightsChecks, weighedRefusal};
 
 // Whether a server is not from 1 to most.
 fn server_outside(servers: &[usize], most: usize) -> bool
@@ -81,7 +81,7 @@ pub(crate) fn restore_refusal(
 
 // The refusals of the weights, but for too few different servers.
 pub(crate) fn weights_refusal(t: usize, servers: &[usize]) -> u8
-    ensures { λ r. ⌜ r ≡ firstOf (serverChecks t (now (servers .entry))) ⌝ }
+    ensures { λ r. ⌜ r ≡ firstOf (weightsChecks t (now (servers .entry))) ⌝ }
 {
     if cluster::outside(1, cluster::TOP_FAULTS, t) {
         return cluster::refusals::FAULTS;

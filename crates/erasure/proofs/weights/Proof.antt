@@ -12,7 +12,7 @@ use Rattle.erasure.specs.declared.WeightsOutcome.{WeightsOutcome}
 use Rattle.erasure.specs.declared.choice.Chosen.{Chosen}
 use Rattle.erasure.specs.Choice.{serversAt, firstDifferent}
 use Rattle.erasure.specs.System.{width, AllDifferent}
-use Rattle.erasure.specs.Weights.{weightRows, rowsRoom, serverChecks, usedServers, usedWeights}
+use Rattle.erasure.specs.Weights.{weightRows, rowsRoom, weightsChecks, usedServers, usedWeights}
 use Rattle.erasure.proofs.Answers.{Lent, lent}
 use Rattle.erasure.proofs.Chosen.{counted, differ, number-in}
 use Rattle.erasure.proofs.WeightTests.{Named, named, weights-refused, weights-accepted, refused-servers, refused-as-few, not-refused}
@@ -32,7 +32,7 @@ module _ (c : tie.Else1) where
   abbrev servers : List ℕ
   servers = denote.Ref.now (start-from-else1 c .args .servers)
 
-  none-applies : firstOf (serverChecks t servers) ≡ 0
+  none-applies : firstOf (weightsChecks t servers) ≡ 0
   none-applies = sym (c .before .weights-refusal .ensures) ∙ c .if1 .left
 
   ok : Named t servers
