@@ -131,9 +131,10 @@ uint64_t cendrulas_restore(size_t t, size_t length, const size_t *servers, size_
 
 /* The weights with which restoring sums the fragments of the servers named. They depend only on which servers answered: one call serves a whole
  * content, and every other content that the same servers gave. k = t+1 servers are used, the first different ones in the order given. A content
- * stands in k plain runs of f bytes (f = length / (t+1) rounded up), padded with 00h: byte q of run i, i from 1 to k, is byte (i-1)*f + q of it, and
- * run i is what server i holds. Each run has a row of k weights, one for each server used: byte q of run i is the sum, over j, of weight j of row i
- * times byte q of the fragment of the j-th server used, in the field of FIPS 197, whose sum is xor.
+ * stands in k plain runs of f bytes (f = length / (t+1) rounded up), padded with 00h: byte q of run i, i from 1 to k and q from 0 to f-1, is byte
+ * (i-1)*f + q of it, and run i is what server i holds. Each run has a row of k weights, one for each server used, in the order of `used`: weight j of
+ * row i, both from 1, is rows[(i-1)*k + j-1]. Byte q of run i is the sum, over j, of weight j of row i times byte q of the fragment of the j-th server
+ * used, in the field of FIPS 197, whose sum is xor.
  * Refusals: 255 where used_len < 5 or rows_len < 25, however small t is; 3 where t is outside 1 to 4; 4 where a server is outside 1 to 3t+1;
  * 16 where fewer than t+1 different servers are named.
  * Writes the k servers used to `used` and the k rows, one after the other, to `rows`, and nothing past these k and k*k bytes; count k. */
