@@ -10,7 +10,7 @@ pub mod RoundSteps
 pub mod TakenReplies
 pub mod MadeBytes
 pub mod ShareBytes
-pub mod Prepared
+pub mod SlotRuns
 pub mod Printed
 pub mod ReadyRanges
 pub mod TakeTests

@@ -1,6 +1,6 @@
--- What the end of clock writes is what the definition of a write makes: the candidate, and below it a share of the content for each server.
--- Fragments and what is the same in all shares fit their arrays for every t, and bytes put at the start of an array are read back from it. Assumes
--- nothing.
+-- What the end of clock writes is what the definition of a write makes: the candidate, and in each server's slot the share of the content: its own
+-- fragment, and the same digests, nonce digest and tags for all. A share fits its slot, and bytes put at the start of an array are read back
+-- from it. Assumes nothing.
 use mathlib.Core.Path.{_≡_, refl, sym, ap, _∙_}
 use mathlib.Core.Bool.{Bool, true, false, cond}
 use mathlib.Core.List.{List, _++_}
@@ -9,27 +9,29 @@ use native.Mathlib.Omega.{arith}
 use lib.Dec.{leb}
 use lib.ListN.{length, take, length-append}
 use lib.Seq.{take-length}
-use borrow.Author.Tests.{leb-true}
+use borrow.Author.Tests.{leb-true, le-leb}
 use Rattle.cluster.specs.Config.{shelf}
 use Rattle.cluster.specs.Ranges.{topFaults, topLength, mostServers}
 use Rattle.hmac.specs.Hmac.{tagOf, tagSize}
 use Rattle.sha256.specs.Sha256.{sha256}
 use Rattle.erasure.specs.Fragments.{fragment, fragmentSize}
 use Rattle.protocol.specs.declared.Call.{Call}
-use Rattle.format.specs.Format.{print2}
+use Rattle.format.specs.Format.{via, seq, number2, number4, byte, run}
 use Rattle.protocol.specs.Values.{digestSize, nonceSize}
-use Rattle.protocol.specs.Primitives.{real, stampMessage}
-use Rattle.protocol.specs.Client.{sharesMade}
-use Rattle.protocol.specs.View.{keptSize, noncePlace, chosenPlace, candidateSlot, replySlot, contentOf, nonceOf}
+use Rattle.protocol.specs.Packet.{stampF, shareF, candidateF, shareSize}
+use Rattle.protocol.specs.Primitives.{real, stampMessage, candidateMessage}
+use Rattle.protocol.specs.Client.{stampOf, tagsOf, candidateMade, shareMade, sharesMade}
+use Rattle.protocol.specs.View.{keptSize, noncePlace, chosenPlace, candidateSlot, repliesPlace, replySlot, contentOf, nonceOf}
 use Rattle.format.specs.Reading.{bytesAt, put}
 use Rattle.protocol.specs.ClientBytes.{putShares, keyOf}
 use Rattle.protocol.proofs.Primitive.{real-lengths, run-length}
+use Rattle.protocol.proofs.Room.{shelf-fits}
 use Rattle.format.proofs.Places.{part-same, part-below}
 use Rattle.wire.specs.Places.{padded}
 use Rattle.wire.proofs.Runs.{part-most, padded-whole}
-use Rattle.client.specs.Steps.{tagRun, fragmentRun, digestRun, shareRun, offered, writeMade}
-use Rattle.client.proofs.StampBytes.{put-all}
-use Rattle.client.proofs.Prepared.{candidate-made, shares-run, piece-at}
+use Rattle.client.specs.Steps.{tagRun, digestRun, slotRun, startOf, offered, writeMade}
+use Rattle.client.proofs.ShareBytes.{start-length}
+use Rattle.client.proofs.SlotRuns.{Ends, slots-below, slots-join}
 use Rattle.decide.proofs.Places.{part-length}
 
 -- ---- room, for every t
@@ -38,30 +40,15 @@ pub servers-few : (t : ℕ) → t ≤ topFaults → shelf t .servers ≤ mostSer
 unfolding shelf
 servers-few t h = omega arith
 
--- bytes of the array of all fragments: the most are those of the longest content on the largest shelf
-abbrev pub fragmentsRoom : ℕ
-fragmentsRoom = 2665
-
 -- bytes of the array of what is the same in all shares: digests, nonce digest and tags
 abbrev pub commonRoom : ℕ
 commonRoom = digestSize * mostServers + digestSize + tagSize * mostServers
 
-pub rooms : (t n : ℕ) → 1 ≤ t → t ≤ topFaults → n ≤ topLength
-    → (fragmentSize (shelf t .threshold) n * shelf t .servers ≤ fragmentsRoom)
-    × (2 + (fragmentSize (shelf t .threshold) n + (digestSize * shelf t .servers + digestSize + tagSize * shelf t .servers)) ≤ replySlot)
-unfolding fragmentSize shelf
-rooms zero n lo hi l = let z : ⊥ = omega arith in absurd z
-rooms (suc zero) n lo hi l = (omega arith, omega arith)
-rooms (suc (suc zero)) n lo hi l = (omega arith, omega arith)
-rooms (suc (suc (suc zero))) n lo hi l = (omega arith, omega arith)
-rooms (suc (suc (suc (suc zero)))) n lo hi l = (omega arith, omega arith)
-rooms (suc (suc (suc (suc (suc t))))) n lo hi l = let z : ⊥ = omega arith in absurd z
-
--- a share of a content of n bytes, with no more than m bytes that are the same for all, fits its slot
-pub share-room : (t n m k : ℕ) → 1 ≤ t → t ≤ topFaults → n ≤ topLength → m ≡ digestSize * shelf t .servers + digestSize + tagSize * shelf t .servers →
-    k ≤ m
-    → 2 + (fragmentSize (shelf t .threshold) n + k) ≤ replySlot
-share-room t n m k lo hi l e q = let r = rooms t n lo hi l in omega (arith, r .1)
+-- a share of a content of n bytes fits its slot
+pub share-room : (t n : ℕ) → 1 ≤ t → t ≤ topFaults → n ≤ topLength
+    → 2 + fragmentSize (shelf t .threshold) n + (digestSize * shelf t .servers + digestSize + tagSize * shelf t .servers) ≤ replySlot
+unfolding shareSize
+share-room t n lo hi l = omega (arith, shelf-fits t lo hi .room n l)
 
 -- bytes put at the start of an array are read back from it
 pub run-back : (D X : List ℕ) (m : ℕ) {x d : List ℕ} → x ≡ bytesAt d 0 m → d ≡ put D 0 X → m ≡ length X → length X ≤ length D → x ≡ X
@@ -99,74 +86,66 @@ content-stays c kept b h l =
 
 -- ---- the shares
 
--- runs of fragments matter by their fragments alone
-same-shares : (kept size p q : List ℕ) (f : ℕ) (common : List ℕ) (n : ℕ) → ((m : ℕ) → suc m ≤ n → bytesAt p (f * m) f ≡ bytesAt q (f * m) f)
-    → shareRun kept size p f common n ≡ shareRun kept size q f common n
-unfolding shareRun
-same-shares kept size p q f common zero h = refl
-same-shares kept size p q f common (suc n) h = rw (same-shares kept size p q f common n (λ m l. h m (omega arith)), h n (omega arith))
+module _ (t : ℕ) (r : List ℕ) (low : 1 ≤ t) (high : t ≤ topFaults) (short : length r ≤ topLength) where
+  -- the starts of shares end within their slots
+  pub starts-end : (d : List ℕ) (n : ℕ) → length d ≡ keptSize → n ≤ shelf t .servers → Ends replySlot repliesPlace (startOf t r) n (length d)
+  starts-end d n e l i h =
+      omega (arith, start-length t r (suc i), share-room t (length r) low high short, servers-few t high)
 
-piece-in-run : (t : ℕ) (r : List ℕ) (m : ℕ) → suc m ≤ shelf t .servers
-    → bytesAt (fragmentRun t r (shelf t .servers)) (fragmentSize (shelf t .threshold) (length r) * m) (fragmentSize (shelf t .threshold) (length r))
-    ≡ fragment (shelf t .points) (shelf t .threshold) r (suc m)
-unfolding fragmentRun real
-piece-in-run t r m l =
-    let w : ℕ = fragmentSize (shelf t .threshold) (length r) in
-    let R : List ℕ = fragmentRun t r (shelf t .servers) in
-    let n : length R ≡ w * shelf t .servers =
-    run-length w (fragment (shelf t .points) (shelf t .threshold) r) (λ i. real-lengths .fragment (shelf t .points) (shelf t .threshold) r i)
-    (shelf t .servers) in
-    ap (λ (x : List ℕ). bytesAt x (w * m) w) (sym (put-all R R refl)) ∙ piece-at t r R m l (omega (arith, n))
+  -- and leave the content below them as it was
+  pub content-below : (c : Call) (d : List ℕ) (n : ℕ) → length d ≡ keptSize → n ≤ shelf t .servers
+      → contentOf c (slotRun replySlot d repliesPlace (startOf t r) n) ≡ contentOf c d
+  unfolding contentOf
+  content-below c d n e l =
+      slots-below replySlot repliesPlace (startOf t r) d n (starts-end d n e l) 0 (cond (leb (c .length) topLength) (c .length) topLength)
+      (omega (arith, least (c .length)))
 
-common-length : (t : ℕ) (r digest tags : List ℕ) → length digest ≡ digestSize
-    → length (digestRun t r (shelf t .servers) ++ (digest ++ tags)) ≡ digestSize * shelf t .servers + digestSize + length tags
-unfolding digestRun real
-common-length t r digest tags e =
-    let d : length (digestRun t r (shelf t .servers)) ≡ digestSize * shelf t .servers =
-    run-length digestSize (λ k. sha256 (fragment (shelf t .points) (shelf t .threshold) r k))
-    (λ k. real-lengths .digest (fragment (shelf t .points) (shelf t .threshold) r k)) (shelf t .servers) in
-    omega (arith, d, length-append (digestRun t r (shelf t .servers)) (digest ++ tags), length-append digest tags)
+  module _ (digest tags : List ℕ) (whole : length digest ≡ digestSize) (each : length tags ≡ tagSize * shelf t .servers) where
+    abbrev common : List ℕ
+    common = digestRun t r (shelf t .servers) ++ (digest ++ tags)
 
-module _ (t : ℕ) (kept r digest tags F D : List ℕ) (n m : ℕ) where
-  abbrev width : ℕ
-  width = fragmentSize (shelf t .threshold) (length r)
+    pub common-length : length (digestRun t r (shelf t .servers) ++ (digest ++ tags))
+        ≡ digestSize * shelf t .servers + digestSize + tagSize * shelf t .servers
+    unfolding digestRun real
+    common-length =
+        let d : length (digestRun t r (shelf t .servers)) ≡ digestSize * shelf t .servers =
+        run-length digestSize (λ k. sha256 (fragment (shelf t .points) (shelf t .threshold) r k))
+        (λ k. real-lengths .digest (fragment (shelf t .points) (shelf t .threshold) r k)) (shelf t .servers) in
+        omega (arith, d, length-append (digestRun t r (shelf t .servers)) (digest ++ tags), length-append digest tags)
 
-  abbrev common : List ℕ
-  common = digestRun t r (shelf t .servers) ++ (digest ++ tags)
-
-  -- out of the two arrays
-  pub offered-run : n ≡ length r → m ≡ digestSize * shelf t .servers + digestSize + length tags → length digest ≡ digestSize
-      → width * shelf t .servers ≤ length F → m ≤ length D
-      → shareRun kept (print2 n) (put F 0 (fragmentRun t r (shelf t .servers))) (fragmentSize (shelf t .threshold) n) (bytesAt (put D 0 common) 0 m)
-      (shelf t .servers)
-      ≡ offered t kept r digest tags
-  offered-run e l d f g =
-      let q : m ≡ length common = l ∙ sym (common-length t r digest tags d) in
-      let b : bytesAt (put D 0 common) 0 m ≡ common = run-back D common m refl refl q (omega arith) in
-      ap (λ (k : ℕ). shareRun kept (print2 k) (put F 0 (fragmentRun t r (shelf t .servers))) (fragmentSize (shelf t .threshold) k)
-      (bytesAt (put D 0 common) 0 m) (shelf t .servers)) e
-      ∙ (ap (λ (x : List ℕ). shareRun kept (print2 (length r)) (put F 0 (fragmentRun t r (shelf t .servers))) width x (shelf t .servers)) b
-      ∙ same-shares kept (print2 (length r)) (put F 0 (fragmentRun t r (shelf t .servers))) (fragmentRun t r (shelf t .servers)) width common
-      (shelf t .servers)
-      (λ i h. piece-at t r F i h f ∙ sym (piece-in-run t r i h)))
+    -- what is the same in all shares, put behind the starts of all
+    pub offered-run : (kept : List ℕ) → length kept ≡ keptSize → {d x y : List ℕ}
+        → d ≡ slotRun replySlot kept repliesPlace (startOf t r) (shelf t .servers) → x ≡ r → y ≡ digestRun t r (shelf t .servers) ++ (digest ++ tags)
+        → slotRun replySlot d (repliesPlace + (2 + fragmentSize (shelf t .threshold) (length x))) (λ _. y) (shelf t .servers)
+        ≡ offered t kept r digest tags
+    offered-run kept e p q z =
+        rw (p, q, z)
+        (slots-join replySlot repliesPlace (2 + fragmentSize (shelf t .threshold) (length r)) (startOf t r) (λ _. common) (start-length t r)
+        (λ i. omega (arith, common-length, share-room t (length r) low high short)) kept (shelf t .servers) (omega (arith, servers-few t high)))
 
 -- ---- the write
 
 module _ (t client : ℕ) (writers : List ℕ) (keys : List (List ℕ)) (c : Call) (kept : List ℕ) (k : ℕ) where
+  -- a stamp's bytes, and the run of tags over them
   abbrev stamp : List ℕ
   stamp = stampMessage k client ++ tagOf writers (stampMessage k client)
 
   abbrev tags : List ℕ
   tags = tagRun keys stamp (sha256 (nonceOf kept)) (shelf t .servers)
 
+  candidate-made : candidateF (shelf t) .print (candidateMade real (shelf t) client writers (keyOf keys) (nonceOf kept) k)
+      ≡ stamp ++ (nonceOf kept ++ tags)
+  unfolding candidateF stampF via seq number4 byte run candidateMade stampOf tagsOf stampMessage candidateMessage real tagRun
+  candidate-made = refl
+
+  shares-run : (r d : List ℕ) (m : ℕ) → m ≤ shelf t .servers
+      → slotRun replySlot d repliesPlace (λ i. startOf t r i ++ (digestRun t r (shelf t .servers) ++ (sha256 (nonceOf kept) ++ tags))) m
+      ≡ putShares (shelf t) d (sharesMade real (shelf t) client writers (keyOf keys) r (nonceOf kept) k) m
+  unfolding slotRun startOf putShares sharesMade shareMade shareF via seq number2 run tagsOf stampOf stampMessage candidateMessage real digestRun tagRun
+  shares-run r d zero l = refl
+  shares-run r d (suc m) l =
+      rw (shares-run r d m (omega arith), le-leb 1 (suc m) (omega arith), le-leb (suc m) (shelf t .servers) l)
+
   pub offered-made : offered t (put kept chosenPlace (stamp ++ (nonceOf kept ++ tags))) (contentOf c kept) (sha256 (nonceOf kept)) tags ≡ writeMade t
       client writers keys c kept k
-  unfolding tagRun
-  offered-made =
-      let r : List ℕ = contentOf c kept in
-      let a = shares-run t client writers (keyOf keys) r (nonceOf kept) k (put kept chosenPlace (stamp ++ (nonceOf kept ++ tags)))
-      (fragmentRun t r (shelf t .servers))
-      (piece-in-run t r) (shelf t .servers) (omega arith) in
-      a ∙ ap (λ (x : List ℕ). putShares (shelf t) (put kept chosenPlace x) (sharesMade real (shelf t) client writers (keyOf keys) r (nonceOf kept) k)
-      (shelf t .servers))
-      (sym (candidate-made t client writers (keyOf keys) r (nonceOf kept) k))
+  offered-made = rw candidate-made (shares-run (contentOf c kept) (put kept chosenPlace (stamp ++ (nonceOf kept ++ tags))) (shelf t .servers) (omega arith))

@@ -1,10 +1,9 @@
--- The fragments of a write, their digests and the shares, as the code writes them: one entry after another.
--- An entry put after a run is the longer run put once, and runs that follow one another are their join. Assumes nothing.
-use mathlib.Core.Path.{_≡_, refl, sym, ap, _∙_}
+-- The starts of a write's shares and the digests of its fragments, as the code writes them. A fragment is cut out of the array that it was made in, an
+-- entry put after a run is the longer run put once, and runs that follow one another are their join. Assumes nothing.
+use mathlib.Core.Path.{_≡_, sym, ap, _∙_}
 use mathlib.Core.List.{List, _++_, append-assoc}
 use Prim.Native.Nat.{ℕ, suc, _+_, _*_, _≤_}
 use native.Mathlib.Omega.{arith}
-use native.Mathlib.Nat.{mul-le-mul-left, mul-suc}
 use native.Mathlib.Numerals.{add-one}
 use lib.ListN.{length, length-append}
 use lib.Seq.{take-at}
@@ -13,16 +12,18 @@ use Rattle.cluster.specs.Config.{shelf}
 use Rattle.cluster.specs.Ranges.{topFaults, topLength}
 use Rattle.sha256.specs.Sha256.{sha256}
 use Rattle.erasure.specs.Fragments.{fragment, fragmentSize}
+use Rattle.erasure.specs.declared.FragmentOutcome.{FragmentOutcome}
 use Rattle.erasure.specs.Steps.{fragmentStep, fragmentRefusal, fragmentBytes}
+use Rattle.format.specs.Format.{print2}
 use Rattle.protocol.specs.Values.{runOf, digestSize}
 use Rattle.protocol.specs.Primitives.{real}
 use Rattle.format.specs.Reading.{bytesAt, put}
 use Rattle.protocol.proofs.Primitive.{real-lengths, run-length}
 use Rattle.format.proofs.Puts.{put-put}
-use Rattle.client.specs.Steps.{fragmentRun, digestRun}
+use Rattle.client.specs.Steps.{digestRun, startOf}
 
 -- one entry more
-pub run-more : (w : ℕ) (f : ℕ → List ℕ) → ((i : ℕ) → length (f i) ≡ w) → (d : List ℕ) (i : ℕ) → w * i + w ≤ length d
+run-more : (w : ℕ) (f : ℕ → List ℕ) → ((i : ℕ) → length (f i) ≡ w) → (d : List ℕ) (i : ℕ) → w * i + w ≤ length d
     → put (put d 0 (runOf i f)) (w * i) (f (suc i)) ≡ put d 0 (runOf (i + 1) f)
 unfolding runOf
 run-more w f l d i h =
@@ -55,10 +56,9 @@ module _ (t i : ℕ) (content : List ℕ) (low : 1 ≤ t) (high : t ≤ topFault
   unfolding bytesAt
   cut rest = take-at piece rest size piece-length
 
-  pub fragment-cut : (fragmentStep t (suc i) content .count ≡ size) × (bytesAt (fragmentStep t (suc i) content .bytes) 0
-      (fragmentStep t (suc i) content .count) ≡ piece)
+  step-cut : bytesAt (fragmentStep t (suc i) content .bytes) 0 (fragmentStep t (suc i) content .count) ≡ piece
   unfolding fragmentStep fragmentRefusal fragmentBytes
-  fragment-cut =
+  step-cut =
       rw (
         le-leb 1 t low,
         le-leb t topFaults high,
@@ -66,31 +66,33 @@ module _ (t i : ℕ) (content : List ℕ) (low : 1 ≤ t) (high : t ≤ topFault
         le-leb (suc i) (shelf t .servers) within-s,
         le-ltb topLength (length content) short,
       )
-      (refl, cut _)
+      (cut _)
 
--- ---- runs of fragments and of their digests
+  -- the fragment, out of what making it gave
+  pub fragment-cut : (m : FragmentOutcome) → m ≡ fragmentStep t (i + 1) content → bytesAt (m .bytes) 0 (m .count) ≡ piece
+  fragment-cut m e = rw (e, add-one i) step-cut
 
-pub times-more : (w i n : ℕ) → suc i ≤ n → w * i + w ≤ w * n
-times-more w i n h = let m = mul-le-mul-left {m = suc i} {n = n} w h in omega (arith, m, mul-suc w i)
+-- ---- the starts of shares, and runs of digests
 
 module _ (t : ℕ) (content : List ℕ) where
   abbrev width : ℕ
   width = fragmentSize (shelf t .threshold) (length content)
 
-  lengths : (i : ℕ) → length (fragment (shelf t .points) (shelf t .threshold) content i) ≡ width
-  unfolding real
-  lengths i = real-lengths .fragment (shelf t .points) (shelf t .threshold) content i
+  pub start-length : (i : ℕ) → length (startOf t content i) ≡ 2 + width
+  unfolding startOf real
+  start-length i =
+      let f : List ℕ = fragment (shelf t .points) (shelf t .threshold) content i in
+      length-append (print2 (length content)) f ∙ ap (λ (k : ℕ). 2 + k) (real-lengths .fragment (shelf t .points) (shelf t .threshold) content i)
+
+  -- from a content's length and a fragment
+  pub start-made : (i : ℕ) {x f : List ℕ} → x ≡ content → f ≡ fragment (shelf t .points) (shelf t .threshold) content i
+      → print2 (length x) ++ f ≡ startOf t content i
+  unfolding startOf
+  start-made i p q = rw (p, q)
 
   digests : (i : ℕ) → length (sha256 (fragment (shelf t .points) (shelf t .threshold) content i)) ≡ digestSize
   unfolding real
   digests i = real-lengths .digest (fragment (shelf t .points) (shelf t .threshold) content i)
-
-  pub fragments-room : (i : ℕ) (d : List ℕ) → i ≤ shelf t .servers → width * shelf t .servers ≤ length d → 0 + length (fragmentRun t content i) ≤
-      length d
-  unfolding fragmentRun
-  fragments-room i d h r =
-      let m = mul-le-mul-left {m = i} {n = shelf t .servers} width h in
-      omega (arith, m, run-length width (fragment (shelf t .points) (shelf t .threshold) content) lengths i)
 
   pub digests-room : (i : ℕ) (d : List ℕ) → i ≤ shelf t .servers → digestSize * shelf t .servers ≤ length d → 0 + length (digestRun t content i) ≤
       length d
@@ -98,17 +100,11 @@ module _ (t : ℕ) (content : List ℕ) where
   digests-room i d h r =
       omega (arith, h, run-length digestSize (λ k. sha256 (fragment (shelf t .points) (shelf t .threshold) content k)) digests i)
 
-  pub fragment-more : (d : List ℕ) (i : ℕ) → width * i + width ≤ length d
-      → put (put d 0 (fragmentRun t content i)) (width * i) (fragment (shelf t .points) (shelf t .threshold) content (suc i)) ≡ put d 0
-      (fragmentRun t content (i + 1))
-  unfolding fragmentRun
-  fragment-more d i h = run-more width (fragment (shelf t .points) (shelf t .threshold) content) lengths d i h
-
-  pub digest-more : (d : List ℕ) (i : ℕ) → digestSize * i + digestSize ≤ length d
-      → put (put d 0 (digestRun t content i)) (digestSize * i) (sha256 (fragment (shelf t .points) (shelf t .threshold) content (suc i))) ≡ put d 0
-      (digestRun t content (i + 1))
+  -- one digest more, of a fragment of the content x
+  pub digest-more : (d : List ℕ) (i : ℕ) {e x : List ℕ} → e ≡ put d 0 (digestRun t content i) → x ≡ content → digestSize * i + digestSize ≤ length d
+      → put e (digestSize * i) (sha256 (fragment (shelf t .points) (shelf t .threshold) x (suc i))) ≡ put d 0 (digestRun t content (i + 1))
   unfolding digestRun
-  digest-more d i h = run-more digestSize (λ k. sha256 (fragment (shelf t .points) (shelf t .threshold) content k)) digests d i h
+  digest-more d i p q h = rw (p, q) (run-more digestSize (λ k. sha256 (fragment (shelf t .points) (shelf t .threshold) content k)) digests d i h)
 
   -- what follows the digests
   pub digests-then : (d x : List ℕ) (n : ℕ) → digestSize * n + length x ≤ length d → put (put d 0 (digestRun t content n)) (digestSize * n) x ≡ put d

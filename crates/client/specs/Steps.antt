@@ -11,7 +11,7 @@ use Rattle.cluster.specs.Config.{shelf}
 use Rattle.cluster.specs.Refusals.{refuse, firstOf}
 use Rattle.hmac.specs.Hmac.{tagOf}
 use Rattle.sha256.specs.Sha256.{sha256}
-use Rattle.erasure.specs.Fragments.{fragment, fragmentSize}
+use Rattle.erasure.specs.Fragments.{fragment}
 use Rattle.protocol.specs.declared.Call.{Call}
 use Rattle.protocol.specs.declared.Head.{Head}
 use Rattle.protocol.specs.Values.{runOf}
@@ -19,7 +19,7 @@ use Rattle.format.specs.Format.{print2}
 use Rattle.protocol.specs.Packet.{decode, candidateF}
 use Rattle.protocol.specs.Client.{badFaults, badClient, ofWrite, candidateMade, sharesMade}
 use Rattle.wire.specs.Places.{packetAt}
-use Rattle.format.specs.Reading.{over, bytesAt, put}
+use Rattle.format.specs.Reading.{over, put}
 use Rattle.protocol.specs.View.{marked, repliesPlace, replySlot, chosenPlace, contentOf, nonceOf}
 use Rattle.protocol.specs.Primitives.{real}
 use Rattle.protocol.specs.ClientBytes.{Filled, keyOf, putShares, awaited}
@@ -49,24 +49,23 @@ tagRun keys stamp d n = runOf n (λ i. tagOf (keyOf keys i) (stamp ++ d))
 unfoldable pub wholePacket : List ℕ → List ℕ → Filled
 wholePacket bytes output = record { result = record { number = 0; count = length bytes }; output = over bytes output }
 
--- the fragments of servers 1 to n, and their digests
-unfoldable pub fragmentRun : ℕ → List ℕ → ℕ → List ℕ
-fragmentRun t content n = runOf n (fragment (shelf t .points) (shelf t .threshold) content)
-
+-- the digests of the fragments of servers 1 to n
 unfoldable pub digestRun : ℕ → List ℕ → ℕ → List ℕ
 digestRun t content n = runOf n (λ i. sha256 (fragment (shelf t .points) (shelf t .threshold) content i))
 
--- the shares of servers 1 to n in their slots: the length, the fragment out of a run of fragments of f bytes, and what is the same for all
-unfoldable pub shareRun : List ℕ → List ℕ → List ℕ → ℕ → List ℕ → ℕ → List ℕ
-shareRun kept size fragments f common zero = kept
-shareRun kept size fragments f common (suc n) =
-    put (shareRun kept size fragments f common n) (repliesPlace + replySlot * n) (size ++ (bytesAt fragments (f * n) f ++ common))
+-- d with the bytes of servers 1 to n in slots of w bytes, the first of them at the place at
+unfoldable pub slotRun : ℕ → List ℕ → ℕ → (ℕ → List ℕ) → ℕ → List ℕ
+slotRun w d at x zero = d
+slotRun w d at x (suc n) = put (slotRun w d at x n) (at + w * n) (x (suc n))
+
+-- the start of the share of server i: the content's length and the fragment
+unfoldable pub startOf : ℕ → List ℕ → ℕ → List ℕ
+startOf t content i = print2 (length content) ++ fragment (shelf t .points) (shelf t .threshold) content i
 
 -- the shares of a write of the content r in their slots, from the nonce's digest and the tags
 abbrev pub offered : ℕ → List ℕ → List ℕ → List ℕ → List ℕ → List ℕ
 offered t kept r digest tags =
-    shareRun kept (print2 (length r)) (fragmentRun t r (shelf t .servers)) (fragmentSize (shelf t .threshold) (length r))
-    (digestRun t r (shelf t .servers) ++ (digest ++ tags)) (shelf t .servers)
+    slotRun replySlot kept repliesPlace (λ i. startOf t r i ++ (digestRun t r (shelf t .servers) ++ (digest ++ tags))) (shelf t .servers)
 
 -- the kept bytes at the end of clock: the candidate and the shares of the write, under the number k
 abbrev pub writeMade : ℕ → ℕ → List ℕ → List (List ℕ) → Call → List ℕ → ℕ → List ℕ

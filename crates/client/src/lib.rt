@@ -14,6 +14,7 @@ mod replies; // whether a packet is an awaited reply
 mod stamps; // stamps and tags
 mod list; // the list of filter
 pub mod packets; // the packet of the round
+mod shares; // the shares of a write
 mod prepare; // the end of clock
 mod clock; // the first round of a write
 mod writes; // the rounds of a write

@@ -88,7 +88,7 @@ part-zeros n p m h = ap (take m) (drop-zeros p n) ∙ take-zeros m (n - p) (omeg
 
 -- ---- slots of w bytes from a place on
 
-next-slot : (w i j : ℕ) → i < j → w * i + w ≤ w * j
+pub next-slot : (w i j : ℕ) → i < j → w * i + w ≤ w * j
 next-slot w i j h = omega (arith, mul-suc w i, mul-le-mul-left w h)
 
 pub slots-apart : (from w i j len : ℕ) → len ≤ w → j ≢ i → (from + w * j + w ≤ from + w * i) ⊎ (from + w * i + len ≤ from + w * j)

@@ -1,12 +1,12 @@
--- Bytes put over a list: the length stays, and one run put after another is their join put once.
+-- Bytes put over a list: the length stays, one run put after another is their join put once, and runs apart from each other are put in any order.
 -- The list is the join of what stands before, the new bytes and what stands after. Nothing is assumed.
 use mathlib.Core.Path.{_≡_, refl, sym, ap, _∙_}
 use mathlib.Core.List.{List, [], _∷_, _++_, append-assoc}
 use Prim.Native.Nat.{ℕ, _+_, _≤_, _<_}
 use native.Mathlib.Omega.{arith}
 use native.Mathlib.Numerals.{add-one}
-use lib.ListN.{length, take, drop, set, length-append, length-drop}
-use lib.Seq.{length-take-le, take-at, drop-append-add, drop-drop, set-split, paste, take-length}
+use lib.ListN.{length, take, drop, set, take-append-drop, length-append, length-drop}
+use lib.Seq.{length-take-le, take-at, take-take, take-append-le, drop-append-le, drop-append-add, drop-drop, set-split, paste, take-length}
 use Rattle.format.specs.Reading.{put, over, Wrote}
 
 pub put-length : (d : List ℕ) (at : ℕ) (b : List ℕ) → at + length b ≤ length d → length (put d at b) ≡ length d
@@ -27,6 +27,27 @@ put-put d at n a b e h =
     ap (drop (at + n + length b)) ta ∙ ap (λ (k : ℕ). drop (k + length b) (T ++ a ++ D)) (sym lt) ∙ drop-append-add (T ++ a) D (length b)
     ∙ drop-drop (length b) (at + length a) d ∙ ap (λ (k : ℕ). drop k d) m in
     rw (p, q) (simp append-assoc)
+
+-- runs of bytes that do not touch each other are put in any order
+pub puts-apart : (d : List ℕ) (p : ℕ) (a : List ℕ) (q : ℕ) (b : List ℕ) → p + length a ≤ q → q + length b ≤ length d
+    → put (put d p a) q b ≡ put (put d q b) p a
+unfolding put
+puts-apart d p a q b h r =
+    let P : List ℕ = take p d in
+    let Q : List ℕ = take q d in
+    let E : List ℕ = drop (q + length b) d in
+    let M : List ℕ = drop (p + length a) Q in
+    let lq : length Q ≡ q = length-take-le q d (omega arith) in
+    let lm : length (P ++ a ++ M) ≡ q =
+    omega (arith, length-append (P ++ a) M, length-append P a, length-take-le p d (omega arith), length-drop (p + length a) Q) in
+    let w : drop (p + length a) d ≡ M ++ drop q d =
+    ap (drop (p + length a)) (sym (take-append-drop q d)) ∙ drop-append-le (p + length a) Q (drop q d) (omega arith) in
+    let e : P ++ (a ++ drop (p + length a) d) ≡ P ++ a ++ M ++ drop q d = rw w (simp append-assoc) in
+    let f : drop (q + length b) (P ++ a ++ M ++ drop q d) ≡ E =
+    ap (λ (k : ℕ). drop (k + length b) (P ++ a ++ M ++ drop q d)) (sym lm) ∙ drop-append-add (P ++ a ++ M) (drop q d) (length b)
+    ∙ drop-drop (length b) q d in
+    let g : take p (Q ++ (b ++ E)) ≡ P = take-append-le p Q (b ++ E) (omega arith) ∙ take-take p q d (omega arith) in
+    rw (e, take-at (P ++ a ++ M) (drop q d) q lm, f, g, drop-append-le (p + length a) Q (b ++ E) (omega arith)) (simp append-assoc)
 
 -- at the start of a buffer
 pub put-over : (d b : List ℕ) → put d 0 b ≡ over b d

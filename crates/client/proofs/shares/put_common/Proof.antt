@@ -1,12 +1,12 @@
--- `client::prepare::put_common` meets its contract, by those of the functions that it calls. Assumes nothing.
+-- `client::shares::put_common` meets its contract, by those of the functions that it calls. Assumes nothing.
 use borrow.Author.Needs.{needs}
 use native.Mathlib.Omega.{arith}
 use mathlib.Core.Path.{_≡_, _∙_}
 use lib.ListN.{length}
 use Rattle.protocol.specs.Values.{digestSize}
 use Rattle.format.proofs.Puts.{put-put}
-use Rattle.client.proofs.prepare.put_common.Statement.{statement}
-use Rattle.client.proofs.prepare.put_common.Tie as tie
+use Rattle.client.proofs.shares.put_common.Statement.{statement}
+use Rattle.client.proofs.shares.put_common.Tie as tie
 
 write-at-requires : tie.Need-write-at-requires
 write-at-requires c κs =
