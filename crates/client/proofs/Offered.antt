@@ -45,10 +45,10 @@ abbrev pub commonRoom : ℕ
 commonRoom = digestSize * mostServers + digestSize + tagSize * mostServers
 
 -- a share of a content of n bytes fits its slot
-pub share-room : (t n : ℕ) → 1 ≤ t → t ≤ topFaults → n ≤ topLength
+pub offer-room : (t n : ℕ) → 1 ≤ t → t ≤ topFaults → n ≤ topLength
     → 2 + fragmentSize (shelf t .threshold) n + (digestSize * shelf t .servers + digestSize + tagSize * shelf t .servers) ≤ replySlot
 unfolding shareSize
-share-room t n lo hi l = omega (arith, shelf-fits t lo hi .room n l)
+offer-room t n lo hi l = omega (arith, shelf-fits t lo hi .room n l)
 
 -- bytes put at the start of an array are read back from it
 pub run-back : (D X : List ℕ) (m : ℕ) {x d : List ℕ} → x ≡ bytesAt d 0 m → d ≡ put D 0 X → m ≡ length X → length X ≤ length D → x ≡ X
@@ -90,7 +90,7 @@ module _ (t : ℕ) (r : List ℕ) (low : 1 ≤ t) (high : t ≤ topFaults) (shor
   -- the starts of shares end within their slots
   pub starts-end : (d : List ℕ) (n : ℕ) → length d ≡ keptSize → n ≤ shelf t .servers → Ends replySlot repliesPlace (startOf t r) n (length d)
   starts-end d n e l i h =
-      omega (arith, start-length t r (suc i), share-room t (length r) low high short, servers-few t high)
+      omega (arith, start-length t r (suc i), offer-room t (length r) low high short, servers-few t high)
 
   -- and leave the content below them as it was
   pub content-below : (c : Call) (d : List ℕ) (n : ℕ) → length d ≡ keptSize → n ≤ shelf t .servers
@@ -101,11 +101,10 @@ module _ (t : ℕ) (r : List ℕ) (low : 1 ≤ t) (high : t ≤ topFaults) (shor
       (omega (arith, least (c .length)))
 
   module _ (digest tags : List ℕ) (whole : length digest ≡ digestSize) (each : length tags ≡ tagSize * shelf t .servers) where
-    abbrev common : List ℕ
+    abbrev pub common : List ℕ
     common = digestRun t r (shelf t .servers) ++ (digest ++ tags)
 
-    pub common-length : length (digestRun t r (shelf t .servers) ++ (digest ++ tags))
-        ≡ digestSize * shelf t .servers + digestSize + tagSize * shelf t .servers
+    pub common-length : length common ≡ digestSize * shelf t .servers + digestSize + tagSize * shelf t .servers
     unfolding digestRun real
     common-length =
         let d : length (digestRun t r (shelf t .servers)) ≡ digestSize * shelf t .servers =
@@ -115,13 +114,13 @@ module _ (t : ℕ) (r : List ℕ) (low : 1 ≤ t) (high : t ≤ topFaults) (shor
 
     -- what is the same in all shares, put behind the starts of all
     pub offered-run : (kept : List ℕ) → length kept ≡ keptSize → {d x y : List ℕ}
-        → d ≡ slotRun replySlot kept repliesPlace (startOf t r) (shelf t .servers) → x ≡ r → y ≡ digestRun t r (shelf t .servers) ++ (digest ++ tags)
+        → d ≡ slotRun replySlot kept repliesPlace (startOf t r) (shelf t .servers) → x ≡ r → y ≡ common
         → slotRun replySlot d (repliesPlace + (2 + fragmentSize (shelf t .threshold) (length x))) (λ _. y) (shelf t .servers)
         ≡ offered t kept r digest tags
     offered-run kept e p q z =
         rw (p, q, z)
         (slots-join replySlot repliesPlace (2 + fragmentSize (shelf t .threshold) (length r)) (startOf t r) (λ _. common) (start-length t r)
-        (λ i. omega (arith, common-length, share-room t (length r) low high short)) kept (shelf t .servers) (omega (arith, servers-few t high)))
+        (λ i. omega (arith, common-length, offer-room t (length r) low high short)) kept (shelf t .servers) (omega (arith, servers-few t high)))
 
 -- ---- the write
 

@@ -24,7 +24,7 @@ pub(crate) fn higher(writers: &[u8; cluster::KEY], high: u32, number: u32, body:
         return high;
     }
     let tag = hmac::tag(*writers, wire::bytes::part(body, 0, wire::sizes::LABEL));
-    if wire::bytes::same(wire::bytes::part(body, wire::sizes::LABEL, hmac::TAG), &tag) {
+    if wire::bytes::same_throughout(wire::bytes::part(body, wire::sizes::LABEL, hmac::TAG), &tag) {
         return number;
     }
     high

@@ -3,7 +3,7 @@
 use mathlib.Core.Path.{_≡_, refl, sym, ap, _∙_, subst}
 use mathlib.Core.Bool.{Bool, true, false}
 use mathlib.Core.List.{List, _++_, map}
-use Prim.Native.Nat.{ℕ, zero, suc, _+_, _-_, _*_, _≤_, _<_}
+use Prim.Native.Nat.{ℕ, _+_, _-_, _*_, _≤_, _<_}
 use native.Mathlib.Omega.{arith}
 use lib.Dec.{eqb}
 use lib.ListN.{length, take, drop, getD}
@@ -20,10 +20,10 @@ use Rattle.format.specs.Reading.{over, bytesAt, put}
 use Rattle.protocol.specs.View.{shareOfSize, shareAt, repliesPlace, replySlot, replySlotOf}
 use Rattle.protocol.specs.Packet.{shareSize}
 use Rattle.protocol.proofs.Room.{shelf-fits}
-use native.Mathlib.Nat.{mul-le-mul-right, suc-mul}
+use native.Mathlib.Nat.{le-trans, mul-le-mul-right, suc-mul}
 use Rattle.erasure.specs.Choice.{firstDifferent, partsAt}
 use Rattle.erasure.specs.Steps.{each, argumentChecks, restoreRefusal, restoredBytes, restoreStep}
-use Rattle.erasure.proofs.Laws.{restored-length}
+use Rattle.erasure.proofs.Laws.{restored-length, runs-most}
 use Rattle.format.proofs.Places.{part-below, part-inside}
 use Rattle.format.proofs.Puts.{put-length}
 use Rattle.decide.specs.Steps.{Usable, fragmentOf, contentOf, Rising, FragmentsAs}
@@ -37,14 +37,9 @@ use Rattle.decide.proofs.Replies.{sizeIn}
 abbrev pub fragmentsRoom : ℕ
 fragmentsRoom = topLength + topFaults
 
-pub fragments-room : (t n : ℕ) → 1 ≤ t → t ≤ topFaults → n ≤ topLength → shelf t .threshold * fragmentSize (shelf t .threshold) n ≤ fragmentsRoom
-unfolding shelf fragmentSize
-fragments-room zero n l h k = absurd (omega arith)
-fragments-room (suc zero) n l h k = omega arith
-fragments-room (suc (suc zero)) n l h k = omega arith
-fragments-room (suc (suc (suc zero))) n l h k = omega arith
-fragments-room (suc (suc (suc (suc zero)))) n l h k = omega arith
-fragments-room (suc (suc (suc (suc (suc t))))) n l h k = absurd (omega arith)
+pub fragments-room : (t n : ℕ) → t ≤ topFaults → n ≤ topLength → shelf t .threshold * fragmentSize (shelf t .threshold) n ≤ fragmentsRoom
+unfolding shelf
+fragments-room t n h k = le-trans (runs-most (t + 1) n (omega arith)) (omega arith)
 
 pub place-room : (p k f : ℕ) → p < k → p * f + f ≤ k * f
 place-room p k f h = omega (arith, suc-mul p f, mul-le-mul-right f h)
@@ -138,7 +133,7 @@ module _ (t : ℕ) (kept servers : List ℕ) (n : ℕ) (u : Usable t kept) (most
         room = rw e (omega (
           arith,
           place-room p (shelf t .threshold) (fragmentSize (shelf t .threshold) n) l,
-          fragments-room t n (u .low) (u .high)
+          fragments-room t n (u .high)
               most,
         ));
       }

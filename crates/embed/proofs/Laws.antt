@@ -2,23 +2,24 @@
 -- Assumes nothing.
 use mathlib.Core.Path.{_≡_, refl, sym, ap, _∙_}
 use mathlib.Core.Logic.{_≢_}
-use mathlib.Core.List.{List, _++_}
+use mathlib.Core.Bool.{Bool, true, false, not}
+use mathlib.Core.List.{List, [], _∷_, _++_}
 use Prim.Native.Nat.{ℕ, zero, suc, _≤_, _<_}
 use native.Mathlib.Nat.{le-of-eq}
 use native.Mathlib.Omega.{arith}
 use lib.ListN.{length, take, drop}
-use borrow.Author.Tests.{eq-eqb, ne-eqb, lt-ltb, le-ltb}
+use lib.Dec.{eqb, ltb}
+use borrow.Author.Tests.{eq-eqb, ne-eqb, lt-ltb, le-ltb, eqb-true, ltb-false}
 use lib.Seq.{length-take-le, take-all}
 use Rattle.cluster.specs.Ranges.{keySize}
-use Rattle.hmac.specs.Hmac.{tagSize}
 use Rattle.format.specs.Reading.{over, bytesAt}
 use Rattle.protocol.specs.Values.{digestSize}
 use Rattle.format.proofs.Puts.{put-over}
 use Rattle.wire.specs.Make.{placed}
 use Rattle.wire.proofs.Put.{placed-wrote}
-use Rattle.cluster.specs.Refusals.{wrongSize}
+use Rattle.cluster.specs.Refusals.{wrongSize, refuse, firstOf}
 use Rattle.embed.specs.Packing.{packed, answer, writtenBy}
-use Rattle.embed.specs.Digests.{digestRefusal, tagRefusal}
+use Rattle.embed.specs.Digests.{digestRefusal, keyedRefusal}
 
 -- the first n bytes over the front of a buffer
 pub copied-front : (s d : List ℕ) (n : ℕ) {b e : List ℕ} {k : ℕ} → n ≤ length s → n ≤ length d → b ≡ bytesAt s 0 n → record { next = k; output = e } ≡
@@ -64,14 +65,25 @@ pub digest-room : (out : List ℕ) → digestSize ≤ length out → digestRefus
 unfolding digestRefusal
 digest-room out h = rw (le-ltb _ _ h) refl
 
-pub tag-key : (key out : List ℕ) → (length key ≡ keySize → ⊥) → tagRefusal key out ≡ wrongSize
-unfolding tagRefusal
-tag-key key out h = rw (ne-eqb _ _ h) refl
+pub keyed-wrong : (n : ℕ) (key : List ℕ) (room : ℕ) → (length key ≡ keySize → ⊥) → keyedRefusal n key room ≡ wrongSize
+unfolding keyedRefusal
+keyed-wrong n key room h = rw (ne-eqb _ _ h) refl
 
-pub tag-short : (key out : List ℕ) → length key ≡ keySize → length out < tagSize → tagRefusal key out ≡ wrongSize
-unfolding tagRefusal
-tag-short key out k h = rw (eq-eqb _ _ k) (rw (lt-ltb _ _ h) refl)
+pub keyed-short : (n : ℕ) (key : List ℕ) (room : ℕ) → length key ≡ keySize → room < n → keyedRefusal n key room ≡ wrongSize
+unfolding keyedRefusal
+keyed-short n key room k h = rw (eq-eqb _ _ k) (rw (lt-ltb _ _ h) refl)
 
-pub tag-room : (key out : List ℕ) → length key ≡ keySize → tagSize ≤ length out → tagRefusal key out ≡ 0
-unfolding tagRefusal
-tag-room key out k h = rw (eq-eqb _ _ k) (rw (le-ltb _ _ h) refl)
+pub keyed-room : (n : ℕ) (key : List ℕ) (room : ℕ) → length key ≡ keySize → n ≤ room → keyedRefusal n key room ≡ 0
+unfolding keyedRefusal
+keyed-room n key room k h = rw (eq-eqb _ _ k) (rw (le-ltb _ _ h) refl)
+
+-- what is not refused has its key and its room
+pub keyed-fine : (n : ℕ) (key : List ℕ) (room : ℕ) → keyedRefusal n key room ≡ 0 → (length key ≡ keySize) × (n ≤ room)
+unfolding keyedRefusal
+keyed-fine n key room h = go (eqb (length key) keySize) (ltb room n) refl refl h
+  where
+    go : (b c : Bool) → eqb (length key) keySize ≡ b → ltb room n ≡ c
+        → firstOf (refuse wrongSize (not b) ∷ refuse wrongSize c ∷ []) ≡ 0 → (length key ≡ keySize) × (n ≤ room)
+    go true false e f z = (eqb-true _ _ e, ltb-false _ _ f)
+    go true true e f z = absurd (omega (arith, z))
+    go false c e f z = absurd (omega (arith, z))

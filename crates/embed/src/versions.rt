@@ -2,10 +2,10 @@
 ghost use mathlib.Core.Path.{_≡_};
 ghost use Rattle.embed.specs.Versions.{version};
 
-// Major, minor, patch: 1.3.0.
-const MAJOR: u32 = 1;
+// Major, minor, patch: 2.0.0.
+const MAJOR: u32 = 2;
 
-const MINOR: u32 = 3;
+const MINOR: u32 = 0;
 
 const PATCH: u32 = 0;
 

@@ -4,7 +4,7 @@ use mathlib.Core.Path.{_≡_, refl, sym, ap, ap₂, subst, _∙_}
 use mathlib.Core.Logic.{_≢_}
 use mathlib.Core.List.{List, [], _∷_, map}
 use Prim.Native.Nat.{ℕ, zero, suc, _+_, _-_, _*_, _/_, _%_, _<_, _≤_}
-use native.Mathlib.Nat.{mod-lt, lt-of-lt-of-le, div-add-mod', div-lt-iff-lt-mul, le-div-iff-mul-le, lt-mul-div-succ, mul-suc}
+use native.Mathlib.Nat.{le-refl, mod-lt, lt-of-lt-of-le, div-add-mod', div-lt-iff-lt-mul, le-div-iff-mul-le, lt-mul-div-succ, mul-comm, mul-suc}
 use native.Mathlib.Numerals.{add-one}
 use native.Mathlib.Omega.{arith}
 use lib.ListN.{length, getD, take, length-map}
@@ -29,6 +29,14 @@ runs-cover k n hk =
     let a : ℕ = n + k - 1 in
     let e : k * (a / k + 1) ≡ k * (a / k) + k = ap (λ (x : ℕ). k * x) (add-one (a / k)) ∙ mul-suc k (a / k) in
     omega (arith, lt-mul-div-succ a hk, e)
+
+-- and do not end far past it
+pub runs-most : (k n : ℕ) → 0 < k → k * fragmentSize k n ≤ n + k - 1
+unfolding fragmentSize
+runs-most k n hk =
+    let f : ℕ = (n + k - 1) / k in
+    let all : f * k ≤ n + k - 1 = le-div-iff-mul-le hk .0 (le-refl f) in
+    omega (arith, mul-comm f k, all)
 
 pub run-lt : (k n m : ℕ) → m < n → 0 < k → m / fragmentSize k n < k
 run-lt k n m h hk = div-lt-iff-lt-mul (size-pos k n (omega arith) hk) .1 (lt-of-lt-of-le h (runs-cover k n hk))

@@ -2,8 +2,8 @@
 -- byte: so a value is made by weights that `Weighed` shows right, and a plain run by a copy. Nothing is assumed.
 use mathlib.Core.Path.{_≡_, sym, ap, ap₂, subst, _∙_}
 use mathlib.Core.List.{List, _++_}
-use Prim.Native.Nat.{ℕ, suc, zero, _+_, _-_, _*_, _/_, _<_, _≤_}
-use native.Mathlib.Nat.{zero-add, mul-le-mul, mul-le-mul-right, mul-comm, suc-mul, le-div-iff-mul-le, le-refl}
+use Prim.Native.Nat.{ℕ, suc, zero, _+_, _-_, _*_, _<_, _≤_}
+use native.Mathlib.Nat.{zero-add, mul-le-mul, mul-le-mul-right, suc-mul}
 use native.Mathlib.Decide.{decLt}
 use native.Mathlib.Omega.{arith}
 use lib.ListN.{length, getD, take, drop, List·getD-eq-default, replicate, length-replicate, getD-replicate}
@@ -16,6 +16,7 @@ use Rattle.erasure.specs.Fragments.{table, fragmentSize}
 use Rattle.erasure.specs.Steps.{fragmentRoom}
 use Rattle.erasure.specs.System.{width, AllDifferent, Weighs}
 use Rattle.erasure.specs.Lanes.{byteAt, sumAt, RunWritten, valueFrom, plainOf}
+use Rattle.erasure.proofs.Laws.{runs-most}
 use Rattle.erasure.proofs.Lists.{length-table, getD-table, table-is, small-of, distinct-of, written-as, written-first}
 use Rattle.erasure.proofs.Sums.{sumTo-ext}
 
@@ -28,15 +29,12 @@ table-ext n g h e = table-is n (table n g) h (length-table n g) (λ i b. getD-ta
 pub plain-start : (k f j x : ℕ) → k ≤ width → f ≤ fragmentRoom → j < k → x ≡ j → x * f ≤ width * fragmentRoom
 plain-start k f j x kw fr h e = mul-le-mul {n₁ = x} {m₁ = f} {n₂ = width} {m₂ = fragmentRoom} (omega arith) fr
 
--- and do not end far past the content: its length is divided by their number and rounded up
+-- and do not end far past the content
 pub plain-end : (k n j : ℕ) → k ≤ width → j < k → j * fragmentSize k n + fragmentSize k n ≤ n + width
-unfolding fragmentSize
 plain-end k n j kw h =
-    let f : ℕ = (n + k - 1) / k in
+    let f : ℕ = fragmentSize k n in
     let up : suc j * f ≤ k * f = mul-le-mul-right f h in
-    let pos : 0 < k = omega arith in
-    let all : f * k ≤ n + k - 1 = le-div-iff-mul-le pos .0 (le-refl f) in
-    omega (arith, up, suc-mul j f, mul-comm f k, all)
+    omega (arith, up, suc-mul j f, runs-most k n (omega arith))
 
 -- ---- one place
 

@@ -24,8 +24,8 @@ unfolding hmacSha256
 hmac-length k m = sha-length _
 
 pub tag-length : (k m : List ℕ) → length (tagOf k m) ≡ tagSize
-unfolding tagOf tagSize
-tag-length k m = length-take-le 32 (hmacSha256 k m) (omega (arith, hmac-length k m))
+unfolding tagOf
+tag-length k m = length-take-le tagSize (hmacSha256 k m) (omega (arith, hmac-length k m))
 
 pub tag-bytes : (k m : List ℕ) (i : ℕ) → getD (tagOf k m) i 0 < 256
 unfolding tagOf hmacSha256

@@ -1,12 +1,14 @@
--- Room: at every t a held reply fits its slot, a stored write is shorter, and so 32 of them fit a memory.
--- A shelf's numbers enter here alone, by the four cases of t; everything else rests on `Fitting`. Nothing is assumed.
+-- Room: on every legal shelf a held reply fits its slot, a stored write is shorter, and so 32 of them fit a memory.
+-- A fragment has at most 512 bytes and a shelf at most 13 servers; that is all that is used of the numbers. Everything else rests on `Fitting`.
+-- Nothing is assumed.
 use mathlib.Core.List.{List, [], _∷_}
-use Prim.Native.Nat.{ℕ, zero, suc, _+_, _*_, _≤_, _<_}
+use Prim.Native.Nat.{ℕ, _+_, _*_, _≤_, _<_}
 use native.Mathlib.Omega.{arith}
 use lib.ListN.{length, length-append}
-use Rattle.cluster.specs.Config.{Config, shelf}
+use Rattle.cluster.specs.Config.{Config, Legal, shelf}
 use Rattle.cluster.specs.Ranges.{topFaults, mostServers, topLength}
-use Rattle.erasure.specs.Fragments.{fragmentSize}
+use Rattle.cluster.proofs.Legal.{legal-shelf}
+use Rattle.erasure.proofs.Answers.{size-fits}
 use Rattle.format.specs.Format.{All, printMany, via, seq, number2}
 use Rattle.protocol.specs.Values.{Share, Write, stampSize}
 use Rattle.protocol.specs.Packet.{shareF, shareSize, writeF}
@@ -18,14 +20,16 @@ pub record Fitting (s : Config) : Type 0 where
   pub few : s .servers ≤ mostServers
   pub room : (n : ℕ) → n ≤ topLength → stampSize + 1 + shareSize s n ≤ replySlot
 
+pub legal-fits : (s : Config) → Legal s → Fitting s
+unfolding shareSize
+legal-fits s l =
+    record {
+      few = l .few;
+      room = λ n h. omega (arith, size-fits (s .threshold) n (omega (arith, l .faulty, l .restores)) h, l .few);
+    }
+
 pub shelf-fits : (t : ℕ) → 1 ≤ t → t ≤ topFaults → Fitting (shelf t)
-unfolding shelf fragmentSize shareSize
-shelf-fits zero l h = absurd (omega arith)
-shelf-fits (suc zero) l h = record { few = omega arith; room = λ n k. omega arith }
-shelf-fits (suc (suc zero)) l h = record { few = omega arith; room = λ n k. omega arith }
-shelf-fits (suc (suc (suc zero))) l h = record { few = omega arith; room = λ n k. omega arith }
-shelf-fits (suc (suc (suc (suc zero)))) l h = record { few = omega arith; room = λ n k. omega arith }
-shelf-fits (suc (suc (suc (suc (suc t))))) l h = absurd (omega arith)
+shelf-fits t l h = legal-fits (shelf t) (legal-shelf t l h)
 
 module _ (s : Config) (f : Fitting s) where
   pub share-size : (h : Share) → shareF s .Ok h → h .size ≤ topLength

@@ -49,7 +49,7 @@ heldAt s d = record { stamp = stampAt d; share = cond (eqb (getD d stampSize 0) 
 abbrev pub keptSize : ℕ
 keptSize = 24576
 
--- the places and sizes of its parts, for the most servers; a reply's slot takes the longest reply of any shelf (`shelf-fits` of proofs/Room)
+-- the places and sizes of its parts, for the most servers; a reply's slot takes the longest reply of any shelf (`legal-fits` of proofs/Room)
 abbrev pub noncePlace : ℕ
 noncePlace = topLength
 
@@ -66,7 +66,7 @@ abbrev pub repliesPlace : ℕ
 repliesPlace = candidatesPlace + candidateSlot * mostServers
 
 abbrev pub replySlot : ℕ
-replySlot = 1120
+replySlot = 1200
 
 unfoldable pub contentOf : Call → List ℕ → List ℕ
 contentOf c kept = bytesAt kept 0 (cond (leb (c .length) topLength) (c .length) topLength)

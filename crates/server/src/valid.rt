@@ -62,7 +62,7 @@ pub(crate) fn by_tag(
         wire::sizes::NAME,
         wire::sizes::tags_size(opened.t),
     );
-    wire::bytes::same(
+    wire::bytes::same_throughout(
         part(tags, hmac::TAG * ((opened.server as usize) - 1), hmac::TAG),
         &tag,
     )

@@ -149,7 +149,7 @@ fn stamps(m: &[u8; 1024]) {
     stamped(m, 24);
     stamped(m, 31);
     stamped(m, 32);
-    stamped(m, 37);
+    stamped(m, wire::sizes::STAMP);
     stamped(m, 55);
     stamped(m, 56);
     stamped(m, 63);
@@ -168,7 +168,7 @@ fn standard() {
 }
 
 // RFC 4231, cases 1 to 7. A shorter key has zeros behind it, a longer one is digested: RFC 2104 makes these equal. Of case 5 the RFC has
-// 16 bytes.
+// 16 bytes; its tag follows.
 fn cases() {
     whole(hmac::hmac(filled(0x0b, 20), b"Hi There"));
     let mut jefe = [0u8; 32];
@@ -180,6 +180,7 @@ fn cases() {
     whole(hmac::hmac(filled(0xaa, 20), &[0xddu8; 50]));
     whole(hmac::hmac(counted(25), &[0xcdu8; 50]));
     show(hmac::hmac(filled(0x0c, 20), b"Test With Truncation"), 16);
+    tagged(hmac::tag(filled(0x0c, 20), b"Test With Truncation"));
 }
 
 fn long_keys() {

@@ -38,15 +38,12 @@ pub fn all_zero(s: &[u8]) -> bool
     joined_zero(&s[at..])
 }
 
-// The same bytes. Byte 3 is looked at first, where stamps differ most often: it is the last of their number. No difference ends the loop, as in
-// all_zero.
-pub fn same(a: &[u8], b: &[u8]) -> bool
+// The same bytes. No difference ends the loop, as in all_zero: so its steps do not tell where bytes of one length differ, and a tag that is tried is
+// compared by it.
+pub fn same_throughout(a: &[u8], b: &[u8]) -> bool
     ensures { λ r. ⌜ r ≡ sameList (now (a .entry)) (now (b .entry)) ⌝ }
 {
     if a.len() != b.len() {
-        return false;
-    }
-    if byte_at(a, 3) != byte_at(b, 3) {
         return false;
     }
     let mut all = 0u8;
@@ -56,6 +53,16 @@ pub fn same(a: &[u8], b: &[u8]) -> bool
         i += 1;
     }
     all == 0
+}
+
+// The same bytes. Byte 3 is looked at first, where stamps differ most often: it is the last of their number.
+pub fn same(a: &[u8], b: &[u8]) -> bool
+    ensures { λ r. ⌜ r ≡ sameList (now (a .entry)) (now (b .entry)) ⌝ }
+{
+    if byte_at(a, 3) != byte_at(b, 3) {
+        return false;
+    }
+    same_throughout(a, b)
 }
 
 // The bytes from the place at on.

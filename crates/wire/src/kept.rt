@@ -13,4 +13,4 @@ pub const CANDIDATES: usize = CHOSEN + CANDIDATE_SLOT;
 
 pub const REPLIES: usize = CANDIDATES + CANDIDATE_SLOT * cluster::MOST_SERVERS;
 
-pub const REPLY_SLOT: usize = 1120;
+pub const REPLY_SLOT: usize = 1200;

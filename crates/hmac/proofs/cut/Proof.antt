@@ -17,15 +17,12 @@ abbrev μ-loop : tie.MeasureT-loop
 μ-loop full out₀ i₀ out i = tagSize - i
 
 loop-holds : tie.Need-loop-holds Inv-loop μ-loop
-unfolding tagSize
 loop-holds c = (omega arith, refl, refl)
 
 loop-less : tie.Need-loop-less Inv-loop μ-loop
-unfolding tagSize
 loop-less c = search needs
 
 loop-again : tie.Need-loop-again Inv-loop μ-loop
-unfolding tagSize
 loop-again c =
     let at = c .before .loop in (
       omega arith,
@@ -34,11 +31,10 @@ loop-again c =
     )
 
 returns : tie.Need-returns Inv-loop μ-loop
-unfolding tagSize
 returns c =
     let at = c .before .loop in
-    let e : at .i ≡ 32 = omega arith in
-    sym (take-all 32 (at .out) (omega arith)) ∙ rw e at (at .inv .2)
+    let e : at .i ≡ tagSize = omega arith in
+    sym (take-all tagSize (at .out) (omega arith)) ∙ rw e at (at .inv .2)
 
 pub cut-spec : {M : Type 1} → statement M
 cut-spec = tie.close (tie.spec Inv-loop μ-loop loop-holds (λ c. search needs) (λ c. search needs) (λ c. search needs) loop-less loop-again returns)

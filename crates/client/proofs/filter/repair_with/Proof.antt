@@ -3,7 +3,7 @@ use borrow.Author.Needs.{needs}
 use native.Mathlib.Omega.{arith}
 use mathlib.Core.Path.{_≡_, ap, _∙_}
 use mathlib.Core.List.{List}
-use Prim.Native.Nat.{ℕ, _+_, _*_, _≤_}
+use Prim.Native.Nat.{ℕ, _≤_}
 use lib.ListN.{length, replicate, length-replicate}
 use Rattle.cluster.specs.Config.{shelf}
 use Rattle.protocol.specs.Values.{candidateSize}
@@ -26,7 +26,7 @@ write-at-requires-2 c κs =
     let at-put-repair = at-write-at .before .before .before in
     let at-start = start-from-put-repair at-put-repair in
     let n = c .before .before .before .candidate-size .result in
-    let z : n ≡ 69 + 32 * (3 * at-start .args .led .t + 1) =
+    let z : n ≡ candidateSize (shelf (at-start .args .led .t)) =
     c .before .before .before .candidate-size .ensures in
     let q : length (c .part .result .now) ≤ n = rw (c .part .ensures) (part-most (at-put-repair .put-repair .last .0) 0 n) in
     omega (

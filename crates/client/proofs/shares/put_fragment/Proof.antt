@@ -10,7 +10,7 @@ use Rattle.erasure.specs.Fragments.{fragment, fragmentSize}
 use Rattle.protocol.specs.View.{repliesPlace, replySlot, contentOf}
 use Rattle.format.specs.Reading.{put}
 use Rattle.client.proofs.ShareBytes.{fragment-cut, piece-length, start-made}
-use Rattle.client.proofs.Offered.{servers-few, share-room, content-short}
+use Rattle.client.proofs.Offered.{servers-few, offer-room, content-short}
 use Rattle.client.proofs.shares.put_fragment.Statement.{statement}
 use Rattle.client.proofs.shares.put_fragment.Tie as tie
 
@@ -52,7 +52,7 @@ put-start-requires c κs =
     let at-start = start-from-content at-content in
     let a = at-start .args in
     let p = at-start .pre in
-    let k = share-room (a .t) (length (contentOf (a .call) (a .kept .now))) (p .0) (p .1 .0) (content-short (a .call) (a .kept .now)) in
+    let k = offer-room (a .t) (length (contentOf (a .call) (a .kept .now))) (p .0) (p .1 .0) (content-short (a .call) (a .kept .now)) in
     (at-content .content .ensures .1, omega (arith, made at-part .1, few at-start, p .1 .1 .1 .0, k))
 
 returns : tie.Need-returns

@@ -11,7 +11,7 @@ use Rattle.hmac.specs.Hmac.{tagSize}
 use Rattle.protocol.specs.Values.{digestSize}
 use Rattle.protocol.specs.View.{contentOf}
 use Rattle.client.specs.Steps.{digestRun}
-use Rattle.client.proofs.Offered.{servers-few, share-room, commonRoom, run-back, content-short, common-length, offered-run}
+use Rattle.client.proofs.Offered.{servers-few, offer-room, commonRoom, run-back, content-short, common-length, offered-run}
 use Rattle.client.proofs.shares.put_offer.Statement.{statement}
 use Rattle.client.proofs.shares.put_offer.Tie as tie
 
@@ -74,7 +74,7 @@ put-ends-requires c κs =
     let l = common-length (a .t) r (p .0) (p .1 .0) (content-short (a .call) (a .kept .now)) (a .digest) (a .tags .now) (digest-size at-start)
     (p .1 .1 .1) in
     let n = at-content .content .ensures .1 in
-    let k = share-room (a .t) (length (at-content .content .result .now)) (p .0) (p .1 .0) n in
+    let k = offer-room (a .t) (length (at-content .content .result .now)) (p .0) (p .1 .0) n in
     (p .1 .0, (n, (search needs, omega (arith, k, ap length (back c), l))))
 
 returns : tie.Need-returns

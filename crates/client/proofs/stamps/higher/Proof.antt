@@ -26,14 +26,14 @@ up c = let e = c .before .before .pre .1 in rw e at (c .if1 .left)
 abbrev shared-slice-known-from-part : tie.After-part → tie.After-shared-slice-known
 shared-slice-known-from-part c = c .before .before .before
 
-abbrev part-from-same : tie.After-same → tie.After-part
-part-from-same c = c .before .before .before .before
+abbrev part-from-compared : tie.After-same-throughout → tie.After-part
+part-from-compared c = c .before .before .before .before
 
-tags : (c : tie.After-same)
+tags : (c : tie.After-same-throughout)
     → let at-part = c .before .before .before .before in
     let a = at-part .before .before .before .before .args in
-    c .same .result ≡ sameList (bytesAt (a .body .now) 5 tagSize) (tagOf (a .writers .now) (bytesAt (a .body .now) 0 5))
-tags c = c .same .ensures ∙ rw (
+    c .same-throughout .result ≡ sameList (bytesAt (a .body .now) 5 tagSize) (tagOf (a .writers .now) (bytesAt (a .body .now) 0 5))
+tags c = c .same-throughout .ensures ∙ rw (
   c .before .before .part2 .ensures,
   c .before .before .before .tag .ensures,
   c .before .before .before .before .part .ensures,
@@ -41,7 +41,7 @@ tags c = c .same .ensures ∙ rw (
 
 returns-2 : tie.Need-returns-2
 returns-2 c =
-    let at-part = part-from-same (c .before) in
+    let at-part = part-from-compared (c .before) in
     let at-shared-slice-known = shared-slice-known-from-part at-part in
     let z = at-shared-slice-known .before in
     let a = z .args in
@@ -51,7 +51,7 @@ returns-2 c =
 
 returns-3 : tie.Need-returns-3
 returns-3 c =
-    let at-part = part-from-same (c .before) in
+    let at-part = part-from-compared (c .before) in
     let at-shared-slice-known = shared-slice-known-from-part at-part in
     let z = at-shared-slice-known .before in
     let a = z .args in

@@ -88,7 +88,7 @@ returns c =
     let e = c .before .before .before .fragment-size .ensures in
     let p = at-start .pre in
     record {
-      long = omega (arith, fragments-room (a .t) (a .n) (p .0 .low) (p .0 .high) (p .1), c .before .loop .inv .1);
+      long = omega (arith, fragments-room (a .t) (a .n) (p .0 .high) (p .1), c .before .loop .inv .1);
       each = λ q l. subst
           (λ (f : ℕ). bytesAt (c .before .loop .out) (q * f) f ≡ fragmentOf (a .kept .now) f (getD (a .t4) q 0) .bytes) e
           (c .before .loop .inv .2 q (omega (arith, c .before .before .threshold .ensures .0)));

@@ -34,9 +34,9 @@ fragment-size-requires c κs =
     (p .0 .low, p .0 .high, omega (arith, p .2 .top, size (a .kept .now) (a .b) (c .before .size-of .result) (c .before .size-of .ensures)))
 
 -- the fragments' room, by what was read
-room : (t n k f : ℕ) → 1 ≤ t → t ≤ topFaults → n ≤ topLength → k ≡ shelf t .threshold → f ≡ fragmentSize (shelf t .threshold) n
+room : (t n k f : ℕ) → t ≤ topFaults → n ≤ topLength → k ≡ shelf t .threshold → f ≡ fragmentSize (shelf t .threshold) n
     → k * f ≤ fragmentsRoom
-room t n k f l h m e q = rw (e, q) (fragments-room t n l h m)
+room t n k f h m e q = rw (e, q) (fragments-room t n h m)
 
 -- Places far back, each named once: the place, and from where it is seen.
 abbrev start-from-fragment-size : tie.After-fragment-size → tie.Start
@@ -49,7 +49,7 @@ mul-end c =
     let p = at-start .pre in
     omega (
       arith,
-      room (a .t) (c .before .before .size-of .result) (c .before .threshold .result) (c .fragment-size .result) (p .0 .low) (p .0 .high)
+      room (a .t) (c .before .before .size-of .result) (c .before .threshold .result) (c .fragment-size .result) (p .0 .high)
           (omega (arith, p .2 .top, size (a .kept .now) (a .b) (c .before .before .size-of .result) (c .before .before .size-of .ensures)))
           (c .before .threshold .ensures .0) (c .fragment-size .ensures),
     )

@@ -67,10 +67,10 @@ returns-2 c =
     let m : ℕ = at-tags-place .tags-place .result in
     let o : ℕ = c .before .before .before .servers .result in
     let e : at ≡ digestsIn (shelf (a .t)) (a .a .now) = omega (arith, r .place, z) in
-    let l : m + 32 * o - at ≡ digestsSize (shelf (a .t)) + digestSize + tagsSize (shelf (a .t)) = omega
+    let l : m + tagSize * o - at ≡ digestsSize (shelf (a .t)) + digestSize + tagsSize (shelf (a .t)) = omega
     (arith, r .place, at-tags-place .tags-place .ensures .place, c .before .before .before .servers .ensures .0) in
     c .same .ensures
-    ∙ cuts (a .a .now) (a .b .now) at (digestsIn (shelf (a .t)) (a .a .now)) (m + 32 * o - at)
+    ∙ cuts (a .a .now) (a .b .now) at (digestsIn (shelf (a .t)) (a .a .now)) (m + tagSize * o - at)
     (digestsSize (shelf (a .t)) + digestSize + tagsSize (shelf (a .t))) e l
     ∙ sym (alike-in (shelf (a .t)) (a .a .now) (a .b .now) (p .4) (p .5)
     (sym (at-tags-place .before .before .before .size-of2 .ensures) ∙ at-tags-place .before .before .if1 .left ∙ at-size-of .size-of .ensures)

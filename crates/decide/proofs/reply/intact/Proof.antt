@@ -43,12 +43,12 @@ returns c =
     let handed = at-share-fragment .share-fragment .ensures
     ∙ (ap (λ (d : List ℕ). shareAt (shelf (a .t)) d .fragment) (at-share-fragment .before .rest .ensures)
     ∙ fragment-handed (shelf (a .t)) (a .reply .now)) in
-    let at : ℕ = at-share-fragment .before .before .digests-at .result + 32 * a .j in
+    let at : ℕ = at-share-fragment .before .before .digests-at .result + digestSize * a .j in
     c .same .ensures
-    ∙ ap (λ (x : List ℕ). sameList x (take (at + 32 - at) (drop at (a .reply .now))))
+    ∙ ap (λ (x : List ℕ). sameList x (take (at + digestSize - at) (drop at (a .reply .now))))
     (c .before .before .before .digest .ensures ∙ ap sha256 handed)
     ∙ ap (sameList (sha256 (bytesAt (a .reply .now) (stampSize + 3) F)))
-    (part-of (a .reply .now) at digestSize ∙ ap (λ (k : ℕ). bytesAt (a .reply .now) (k + 32 * a .j) digestSize) e)
+    (part-of (a .reply .now) at digestSize ∙ ap (λ (k : ℕ). bytesAt (a .reply .now) (k + digestSize * a .j) digestSize) e)
     ∙ sym (intact-in (shelf (a .t)) (a .reply .now) (p .3) (a .j) (p .4))
 
 pub intact-spec : {M : Type 1} → statement M

@@ -85,7 +85,7 @@ returns-4 c =
     sym (same-heads (a .reply .now) (a .candidate .now) (λ k. at-shared-slice-known2 .before .shared-slice-known .given k .fits)
     (λ k. at-shared-slice-known2 .shared-slice-known2 .given k .fits) (omega (arith, p .2)) (omega (arith, p .3)))
     ∙ sym (at-else3 .before .same .ensures) ∙ not-false (at-else3 .before .same .result) (at-else3 .if3 .left) in
-    let at : ℕ = c .before .before .before .digests-at .result + 32 * c .before .before .servers .result in
+    let at : ℕ = c .before .before .before .digests-at .result + digestSize * c .before .before .servers .result in
     let e : at ≡ digestsIn (shelf (a .t)) (a .reply .now) + digestsSize (shelf (a .t)) =
     omega (
       arith,

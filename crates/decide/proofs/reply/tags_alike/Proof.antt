@@ -71,7 +71,7 @@ returns-2 c =
     let z = size (a .t) (a .kept .now) (a .j) (at-servers .before .before .size-of .result)
     (at-servers .before .before .size-of .ensures) in
     let at : ℕ = repliesPlace + replySlot * a .j + c .before .before .before .tags-place .result in
-    let w : ℕ = 32 * at-servers .servers .result in
+    let w : ℕ = tagSize * at-servers .servers .result in
     let e : w ≡ tagsSize (shelf (a .t)) = omega (arith, at-servers .servers .ensures .0) in
     rw (le-leb (shareOf (a .t) (a .kept .now) (suc (a .j)) .size) topLength (omega (arith, at-servers .before .if1 .left, z)))
     (c .same .ensures ∙ both (a .kept .now) at (candidatesPlace + candidateSlot * a .i + (stampSize + nonceSize)) w (tagsSize (shelf (a .t))) e

@@ -4,6 +4,7 @@ use native.Mathlib.Omega.{arith}
 use borrow.Author.Needs.{needs}
 use Rattle.sha256.specs.Sha256.{sha256}
 use Rattle.sha256.proofs.Laws.{sha-length}
+use Rattle.protocol.specs.Values.{digestSize}
 use Rattle.embed.proofs.Laws.{refused, carried-out, all-of, digest-short, digest-room}
 use Rattle.embed.proofs.digests.cendrulas_digest.Statement.{statement}
 use Rattle.embed.proofs.digests.cendrulas_digest.Tie as tie
@@ -19,8 +20,8 @@ returns-2 c =
     let past-digest = past-put .before .before .before in
     let a = past-digest .before .before .before .before .args in
     let long = sha-length (a .message .now) in
-    carried-out 32 _ _ _ (past-digest .digest .result) (a .out .now) _ (digest-room (a .out .now) (omega arith)) (c .pack2 .ensures)
-    (all-of 32 (past-digest .digest .result) (sha256 (a .message .now)) (past-digest .digest .ensures) long)
+    carried-out digestSize _ _ _ (past-digest .digest .result) (a .out .now) _ (digest-room (a .out .now) (omega arith)) (c .pack2 .ensures)
+    (all-of digestSize (past-digest .digest .result) (sha256 (a .message .now)) (past-digest .digest .ensures) long)
     long
     (past-put .put .ensures)
 

@@ -11,7 +11,7 @@ returns c =
     let a = at-part2 .before .before .before .before .before .args in
     tag-made (a .prepared) (a .opened) (a .candidate .now) (a .digest) (at-part2 .before .before .before .part .ensures)
     (at-part2 .before .before .prepared-tag-with .ensures) (at-part2 .before .tags-size .ensures)
-    (at-part2 .part2 .ensures) (c .before .before .part3 .ensures) (c .same .ensures)
+    (at-part2 .part2 .ensures) (c .before .before .part3 .ensures) (c .same-throughout .ensures)
 
 pub by-tag-spec : {M : Type 1} → statement M
 by-tag-spec = tie.close (tie.spec (λ c κs. search needs) (λ c κs. search needs) (λ c κs. search needs) (λ c κs. search needs) (λ c. search needs)
