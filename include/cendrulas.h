@@ -21,8 +21,8 @@
 extern "C" {
 #endif
 
-/* Version 1.3.0, as major * 65536 + minor * 256 + patch: of this header, and of the archive that is linked. CHANGELOG.md says what changed. */
-#define CENDRULAS_VERSION 66304u
+/* Version 2.0.0, as major * 65536 + minor * 256 + patch: of this header, and of the archive that is linked. CHANGELOG.md says what changed. */
+#define CENDRULAS_VERSION 131072u
 uint32_t cendrulas_version(void);
 
 /* Bytes of what is lent. A packet and a content need so much output, however short they are. */
@@ -36,6 +36,8 @@ uint32_t cendrulas_version(void);
 #define CENDRULAS_KEY 32u
 #define CENDRULAS_KEYS 416u /* the keys of servers 1 to 13, one after the other, whatever t is */
 #define CENDRULAS_NONCE 32u
+#define CENDRULAS_DIGEST 32u /* of a digest, and of a whole HMAC */
+#define CENDRULAS_TAG 16u /* of a tag, the first bytes of an HMAC */
 #define CENDRULAS_WORK_AREA 2097152u
 #define CENDRULAS_LISTING_LINE 65u
 #define CENDRULAS_PLAN 36u /* numbers of a plan, not bytes */
@@ -52,7 +54,7 @@ uint32_t cendrulas_version(void);
  * If several refusals apply, the one that stands first in the function's list is given. Two writes are the same if number and writer are.
  *
  * Refusal 255 stands in no document: a key, a nonce or a client's state was lent with another length than its size; or rows of weights, or an output
- * for a digest, a tag, a fragment, weights or a plan, were lent with less than their size. It is tested before all others.
+ * for a digest, an HMAC, a tag, a fragment, weights or a plan, were lent with less than their size. It is tested before all others.
  */
 static inline unsigned cendrulas_refusal(uint64_t answer) { return (unsigned)(answer >> 56); }
 static inline unsigned cendrulas_writer(uint64_t answer) { return (unsigned)(answer >> 52) & 0xFu; }
@@ -110,8 +112,13 @@ static inline const char *cendrulas_refusal_name(unsigned refusal) {
  * Refusals: 255 where out_len < 32. Writes the 32 bytes of the digest; count 32. */
 uint64_t cendrulas_digest(const uint8_t *message, size_t message_len, uint8_t *out, size_t out_len);
 
-/* HMAC-SHA-256 (RFC 2104) of the message.
- * Refusals: 255 where key_len is not 32 or out_len < 32. Writes the tag; count 32. */
+/* HMAC-SHA-256 (RFC 2104) of the message, whole.
+ * Refusals: 255 where key_len is not 32 or out_len < 32. Writes the 32 bytes of the HMAC; count 32. */
+uint64_t cendrulas_hmac(const uint8_t *key, size_t key_len, const uint8_t *message, size_t message_len,
+                        uint8_t *out, size_t out_len);
+
+/* The shelf's tag of the message: the first CENDRULAS_TAG bytes of its HMAC, as RFC 2104 cuts it.
+ * Refusals: 255 where key_len is not 32 or out_len < CENDRULAS_TAG. Writes the tag; count CENDRULAS_TAG. */
 uint64_t cendrulas_tag(const uint8_t *key, size_t key_len, const uint8_t *message, size_t message_len,
                        uint8_t *out, size_t out_len);
 

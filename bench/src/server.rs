@@ -4,7 +4,7 @@ use crate::content;
 use crate::table::{timed, Table};
 use shelf::hmac::PreparedKey;
 use shelf::sha256::digest;
-use shelf::stamp::{candidate_length, candidate_tag, make_stamp, Stamp};
+use shelf::stamp::{candidate_length, candidate_tag, make_stamp, Stamp, STAMP};
 use shelf::{boxes, boxes_of, fragments, BOX_MEMORY, PACKET_OUTPUT};
 use std::hint::black_box;
 
@@ -121,7 +121,7 @@ fn filters(table: &mut Table, writes: &Writes) {
     let (blank, full) = (writes.memory(0), writes.memory(WRITES));
     let some = &writes.candidates[..servers];
     let mut forged = some.to_vec();
-    forged.iter_mut().for_each(|candidate| candidate[37] ^= 1); // another nonce: neither held nor tagged
+    forged.iter_mut().for_each(|candidate| candidate[STAMP] ^= 1); // another nonce: neither held nor tagged
     step(table, "server: filter, 1 candidate, held", &full, &writes.filter(&writes.candidates[WRITES - 1..]));
     step(table, &format!("server: filter, {servers} candidates, held"), &full, &writes.filter(some));
     step(table, &format!("server: filter, {servers} candidates, right by tag"), &blank, &writes.filter(some));

@@ -5,7 +5,7 @@
 #include <stdio.h>
 #include <string.h>
 
-enum { ALL = 7, FUNCTIONS = 18, DRILL = FUNCTIONS - 1 };
+enum { ALL = 7, FUNCTIONS = 19, DRILL = FUNCTIONS - 1 };
 
 static uint8_t message[100], out[CENDRULAS_PACKET_ROOM], work[CENDRULAS_WORK_AREA];
 static uint8_t used[CENDRULAS_USED_ROOM], rows[CENDRULAS_ROWS_ROOM];
@@ -39,8 +39,8 @@ static uint64_t call(int function) {
     uint8_t *s = client.state, *m = server.memory;
     const size_t s_n = sizeof client.state, m_n = sizeof server.memory;
     switch (function) {
-    case 0: return cendrulas_digest(in(1, message), n(1, 100), io(2, out), n(2, 32));
-    case 1: return cendrulas_tag(in(1, server.key), n(1, 32), in(2, message), n(2, 100), io(3, out), n(3, 32));
+    case 0: return cendrulas_digest(in(1, message), n(1, 100), io(2, out), n(2, CENDRULAS_DIGEST));
+    case 1: return cendrulas_tag(in(1, server.key), n(1, 32), in(2, message), n(2, 100), io(3, out), n(3, CENDRULAS_TAG));
     case 2: return cendrulas_fragment(1, 1, in(1, message), n(1, 100), io(2, out), n(2, 512));
     case 3: return cendrulas_restore(1, 100, named(1), n(1, 2), in(2, message), n(2, 100), io(3, out), n(3, 1024));
     case 4: return cendrulas_packet_check(in(1, packet.bytes), n(1, packet.length));
@@ -58,6 +58,7 @@ static uint64_t call(int function) {
     case 14: return cendrulas_plan(1, 100, 1, 1, is(1) && null ? NULL : planned, n(1, CENDRULAS_PLAN));
     case 15: return cendrulas_weights(1, named(1), n(1, 2), io(2, used), n(2, sizeof used), io(3, rows), n(3, sizeof rows));
     case 16: return cendrulas_restore_weighed(1, 100, in(1, rows), n(1, sizeof rows), in(2, message), n(2, 100), io(3, out), n(3, 1024));
+    case 17: return cendrulas_hmac(in(1, server.key), n(1, 32), in(2, message), n(2, 100), io(3, out), n(3, CENDRULAS_DIGEST));
     default: return cendrulas_drill(in(1, message), n(1, 100), io(2, out), n(2, 65), io(3, work), n(3, sizeof work));
     }
 }

@@ -1,16 +1,18 @@
-/* Stack: the functions of servers and clients, the digest, tag, fragments, weights and plan run on painted stacks (painted.h), 64 KiB for a server's
- * functions and 128 KiB for the others, with the longest inputs at t = 4. Compiled and run by host/test. */
+/* Stack: the functions of servers and clients, the digest, HMAC, tag, fragments, weights and plan run on painted stacks (painted.h), 64 KiB for a
+ * server's functions and 128 KiB for the others, with the longest inputs at t = 4. Compiled and run by host/test. */
 #include "painted.h"
 
 #include "cendrulas.h"
 
-enum { T = 4, SERVERS = 13, CANDIDATE = 485, WRITES = 32 };
-enum { NOTHING, DIGEST, TAG, FRAGMENT, RESTORE, WEIGHTS, WEIGHED, CHECK, CODE, BLANK, SERVE,
+enum { T = 4, SERVERS = 13, WRITES = 32 };
+/* bytes: a packet's head; a stamp, which is number, writer and tag; a candidate, which is stamp, nonce and tags, and the place of its tags */
+enum { HEAD = 8, STAMP = 5 + CENDRULAS_TAG, TAGS = STAMP + CENDRULAS_NONCE, CANDIDATE = TAGS + SERVERS * CENDRULAS_TAG };
+enum { NOTHING, DIGEST, HMAC, TAG, FRAGMENT, RESTORE, WEIGHTS, WEIGHED, CHECK, CODE, BLANK, SERVE,
        ROUND, WRITE, READ, MAKE, TAKE, GIVE_UP, PLAN, FUNCTIONS };
 
 static const char *const names[FUNCTIONS] = {
-    "a thread alone", "digest", "tag", "fragment", "restore", "weights", "restore_weighed", "packet_check", "store_code", "server_blank",
-    "server_take", "client_round", "client_begin_write", "client_begin_read", "client_make", "client_take", "client_give_up", "plan"};
+    "a thread alone", "digest", "hmac", "tag", "fragment", "restore", "weights", "restore_weighed", "packet_check", "store_code",
+    "server_blank", "server_take", "client_round", "client_begin_write", "client_begin_read", "client_make", "client_take", "client_give_up", "plan"};
 static size_t deepest[FUNCTIONS];
 static unsigned seen_result[6], seen_kind[13], seen_full;
 
@@ -34,6 +36,7 @@ static void *call(void *which) {
     const size_t size = CENDRULAS_CLIENT_STATE;
     switch (*(const int *)which) {
     case DIGEST: answer = cendrulas_digest(packet, sizeof packet, out, sizeof out); break;
+    case HMAC: answer = cendrulas_hmac(writers, sizeof writers, packet, sizeof packet, out, sizeof out); break;
     case TAG: answer = cendrulas_tag(writers, sizeof writers, packet, sizeof packet, out, sizeof out); break;
     case FRAGMENT: answer = cendrulas_fragment(T, server, content, sizeof content, out, sizeof out); break;
     case RESTORE: answer = cendrulas_restore(T, sizeof content, numbers, 5, fragments, sizeof fragments, out, sizeof out); break;
@@ -103,7 +106,7 @@ static unsigned deliver(void) {
 static void visit_until(unsigned kind, int spoil) {
     for (server = 1; kind_of_packet() != kind; server = server % SERVERS + 1) {
         if (spoil && packet[0] == 5) {
-            memset(packet + 8 + 69, 7, packet_len - 8 - 69); /* a lying writer: wrong tags */
+            memset(packet + HEAD + TAGS, 7, packet_len - HEAD - TAGS); /* a lying writer: wrong tags */
         }
         if (deliver() != CENDRULAS_GOES_ON) {
             return;
@@ -125,7 +128,7 @@ static void writes_apart(uint8_t *list) {
         visit_until(5, 0);
         server = k;
         kind_of_packet();
-        memcpy(list + CANDIDATE * (k - 1), packet + 8, CANDIDATE);
+        memcpy(list + CANDIDATE * (k - 1), packet + HEAD, CANDIDATE);
         deliver();
         give_up(CENDRULAS_ABORTED_IN_COMPLETE);
     }
@@ -134,7 +137,7 @@ static void writes_apart(uint8_t *list) {
 /* A filter packet with 13 candidates: held, right by their tags alone, and forged. */
 static void filters(uint8_t *list) {
     static uint8_t kept[CENDRULAS_SERVER_MEMORY];
-    const uint8_t head[9] = {9, 9, 13, T, 0, 0, 0, 1, SERVERS};
+    const uint8_t head[HEAD + 1] = {9, 9, 13, T, 0, 0, 0, 1, SERVERS};
     server = 13;
     packet_len = sizeof head + SERVERS * CANDIDATE;
     memcpy(packet, head, sizeof head);
@@ -144,7 +147,7 @@ static void filters(uint8_t *list) {
             accepted(BLANK);
         } else if (round == 2) {
             for (size_t k = 0; k < SERVERS; k++) {
-                list[CANDIDATE * k + 37] ^= 1;
+                list[CANDIDATE * k + STAMP] ^= 1; /* of the nonce */
             }
         } else if (round == 3) {
             memcpy(memories[12], kept, sizeof kept);
@@ -166,6 +169,7 @@ static void restored(int which) {
 /* Fragments of servers 9 to 13, and the content from them in one call and by their weights; a plan. */
 static void coding(void) {
     accepted(DIGEST);
+    accepted(HMAC);
     accepted(TAG);
     for (server = 9; server <= SERVERS; server++) {
         accepted(FRAGMENT);

@@ -1,7 +1,7 @@
 //! What the packets and box memories of a shelf take (document 02, W-201).
 
 use crate::fragments::fragment_length;
-use crate::packet::HEAD;
+use crate::packet::{after_fragment_length, HEAD};
 use crate::stamp::{candidate_length, STAMP};
 use crate::{boxes_of, Refusal, HISTORY_PLACES, MAX_BOXES, RECORD_MAX};
 
@@ -25,8 +25,8 @@ pub fn plan(t: usize, length: usize, readers: usize, stores: usize, numbers: &mu
     }
     let boxes = boxes_of(t);
     let candidate = candidate_length(t);
-    // record length, fragment, S digests, nonce digest, S tags
-    let held = 2 + fragment_length(t, length) + 32 * boxes + 32 + 32 * boxes;
+    // record length, fragment and what follows it
+    let held = 2 + fragment_length(t, length) + after_fragment_length(t);
     let bodies = [0, STAMP, STAMP + held, 1, candidate, 0, 0, candidate, 0, 0, candidate, 0];
 
     numbers.fill(0);
@@ -52,14 +52,19 @@ pub fn plan(t: usize, length: usize, readers: usize, stores: usize, numbers: &mu
 #[cfg(test)]
 mod tests {
     use super::*;
+    use crate::hmac::TAG;
 
+    /// Each length by the tags in it and its other bytes; those of a candidate are number, writer and nonce.
     #[test]
     fn a_plan() {
+        let with = |tags: usize, others: usize| tags * TAG + others;
+        let candidate = with(5, 8 + 5 + 32);
         let mut numbers = [7; PLAN];
         assert_eq!(plan(1, 3, 3, 1, &mut numbers), Ok(()));
-        assert_eq!(numbers[..13], [0, 8, 45, 337, 9, 205, 8, 8, 205, 0, 0, 205, 8]);
-        assert_eq!(numbers[13..29], [9, 206, 403, 600, 797, 0, 0, 0, 0, 0, 0, 0, 0, 0, 46, 338]);
-        assert_eq!(numbers[29..], [12, 12, 24, 24, 36, 36, 529]);
+        assert_eq!(numbers[..13], [0, 8, with(1, 13), with(5, 177), 9, candidate, 8, 8, candidate, 0, 0, candidate, 8]);
+        assert_eq!(numbers[13..18], [9, with(5, 46), with(10, 83), with(15, 120), with(20, 157)]);
+        assert_eq!(numbers[18..27], [0; 9]);
+        assert_eq!(numbers[27..], [with(1, 14), with(5, 178), 12, 12, 24, 24, 36, 36, with(10, 209)]);
         assert_eq!(plan(1, 3, 3, 33, &mut numbers), Err(Refusal::TooManyStores));
     }
 }

@@ -1,6 +1,7 @@
 //! SHA-256 of FIPS 180-4, without the CPU's SHA instructions: the proved code has none either.
 
-pub type Digest = [u8; 32];
+pub const DIGEST: usize = 32;
+pub type Digest = [u8; DIGEST];
 pub(crate) type State = [u32; 8];
 
 pub(crate) const INITIAL: State = [

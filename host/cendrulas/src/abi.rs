@@ -4,6 +4,14 @@ extern "C" {
     pub fn cendrulas_version() -> u32;
 
     pub fn cendrulas_digest(message: *const u8, message_len: usize, out: *mut u8, out_len: usize) -> u64;
+    pub fn cendrulas_hmac(
+        key: *const u8,
+        key_len: usize,
+        message: *const u8,
+        message_len: usize,
+        out: *mut u8,
+        out_len: usize,
+    ) -> u64;
     pub fn cendrulas_tag(
         key: *const u8,
         key_len: usize,

@@ -25,7 +25,7 @@ pub use client::{
     client_begin_read, client_begin_write, client_give_up, client_make, client_round, client_take, CLIENT_STATE, SERVER_KEYS,
 };
 pub use coding::{fragment, restore};
-pub use digest::{digest, tag};
+pub use digest::{digest, hmac, tag, DIGEST, TAG};
 pub use drill::{drill, listing_room, Listing, WORK_AREA};
 pub use packets::{packet_check, store_code};
 pub use parties::{stored, Client, GivenUp, Keys, Label, Round, Served, Server, Stored, Taken};

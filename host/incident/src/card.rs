@@ -4,14 +4,13 @@
 //! returns. The digest at the end tells a damaged file. A lock keeps a second program off; the system lifts it when the holder ends, however it ends.
 
 use crate::words;
+use cendrulas::DIGEST;
 use std::fs::{self, File, OpenOptions};
 use std::io::{self, Write};
 use std::os::linux::net::SocketAddrExt;
 use std::os::unix::net::{SocketAddr, UnixDatagram};
 use std::path::{Path, PathBuf};
 use std::sync::mpsc::{channel, Sender};
-
-const DIGEST: usize = 32;
 
 /// What a box and a scope ask of their card.
 pub trait Durable {

@@ -5,12 +5,14 @@
 //! names its scope, its box and its direction (the kind: odd from the scope, even from the box), and all three are under the tag.
 //! A datagram that is sent back where it came from names the wrong direction, which the library refuses (9 at a box, 12 at a scope).
 //! Copies and delays pass: the protocol bears them, so a link needs no counter and remembers nothing.
+//!
+//! The tag is as long as the shelf's own. A box takes a complete on the sender's word, so there the link's tag is the only seal: what docs/PAGE-41.md
+//! says of guessing a tag is said of this one too.
 
 use crate::packet::parties;
-use cendrulas::PACKET_ROOM;
+use cendrulas::{PACKET_ROOM, TAG};
 
 pub const KEY: usize = 32;
-pub const TAG: usize = 32;
 /// The longest datagram; a longer one is cut when it is received, and its tag is wrong then.
 pub const DATAGRAM: usize = PACKET_ROOM + TAG;
 

@@ -1,6 +1,8 @@
 //! What the host reads of packets (document 01, "Packets"): their head, which is kind, client, box and t, a byte each, and the call; and what stands
 //! first in some replies. The library reads the rest.
 
+use cendrulas::TAG;
+
 pub const CLOCK: u8 = 1;
 pub const STORE: u8 = 3;
 pub const COMPLETE: u8 = 5;
@@ -9,7 +11,8 @@ pub const FILTER: u8 = 9;
 
 const CALL: usize = 4;
 const HEAD: usize = 8;
-const STAMP: usize = 37;
+/// Number, writer and tag.
+const STAMP: usize = 4 + 1 + TAG;
 
 /// The kind of the reply to a question.
 pub const fn reply(kind: u8) -> u8 {

@@ -2,6 +2,8 @@
 //! table must have come, and no other.
 
 use cendrulas::Answer;
+use shelf::packet::HEAD;
+use shelf::stamp::STAMP;
 use std::collections::BTreeMap;
 
 #[derive(Default)]
@@ -10,6 +12,7 @@ pub struct Kinds(BTreeMap<&'static str, BTreeMap<String, u64>>);
 /// Operations with their kinds of answers.
 const DUE: &[(&str, &str)] = &[
     ("digest", "accepted,refused 255"),
+    ("hmac", "accepted,refused 255"),
     ("tag", "accepted,refused 255"),
     ("fragment", FRAGMENT),
     ("restore", RESTORE),
@@ -66,6 +69,9 @@ const LISTING: &str = "0,1,2,2 of no bytes,3,4,5,103,104,105,106,112,113,117";
 
 const ROUNDS: [&str; 6] = ["clock", "store", "complete", "collect", "filter", "repair"];
 
+/// Where a packet's stamp ends; the byte there says whether a filter's reply has a share, and a reply without one ends after it.
+const STAMPED: usize = HEAD + STAMP;
+
 /// A refusal, or what the accepted call did.
 pub fn kind(answer: &Answer, accepted: impl FnOnce() -> String) -> String {
     match answer.refusal {
@@ -90,8 +96,8 @@ pub fn emptied(kind: String, none: bool) -> String {
 /// Whether a packet that keeps the layout carries a fragment of no bytes.
 pub fn carries_none(packet: &[u8]) -> bool {
     let length = match packet[0] {
-        3 => 45,
-        10 => 46,
+        3 => STAMPED,
+        10 => STAMPED + 1,
         _ => return false,
     };
     packet[length..].starts_with(&[0, 0])
@@ -105,8 +111,8 @@ pub fn reply(answer: &Answer, packet: &[u8], reply: &[u8]) -> String {
         let raised = if answer.result == 1 { ": raised" } else { "" };
         let kind = match (reply[0], answer.count) {
             (4, _) => format!("store: {}", ["kept", "held", "full"][reply[8].saturating_sub(9) as usize]),
-            (10, _) if reply[8..45] == [0; 37] => format!("filter: blank{raised}"),
-            (10, 46) => format!("filter: not held{raised}"),
+            (10, _) if reply[HEAD..STAMPED] == [0; STAMP] => format!("filter: blank{raised}"),
+            (10, n) if n == STAMPED + 1 => format!("filter: not held{raised}"),
             (10, _) => format!("filter: held{raised}"),
             _ => format!("{round}{raised}"),
         };

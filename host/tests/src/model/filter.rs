@@ -2,7 +2,9 @@
 
 use super::{four, put, Client, CANDIDATES, CANDIDATE_SLOT, CHOSEN, CONTENT, LENGTH, REPLIES, REPLY_SLOT};
 use cendrulas::Answer;
-use shelf::sha256::digest;
+use shelf::packet::after_fragment_length;
+use shelf::sha256::{digest, DIGEST};
+use shelf::stamp::{STAMP, TAGS_AT};
 use shelf::{fragments, quorum_of, RECORD_MAX};
 
 /// A server's reply with a share, cut by the places of its parts.
@@ -43,23 +45,23 @@ impl Client<'_> {
 
     /// The reply of a server, where it has a share of a length in range.
     fn reply(&self, server: usize) -> Option<Reply<'_>> {
-        let slot = self.slot(server);
-        let length = u16::from_be_bytes([slot[38], slot[39]]) as usize;
-        if slot[37] == 0 || length > RECORD_MAX {
+        let (stamp, rest) = self.slot(server).split_at(STAMP);
+        let length = u16::from_be_bytes([rest[1], rest[2]]) as usize;
+        if rest[0] == 0 || length > RECORD_MAX {
             return None;
         }
-        let (part, rest) = slot[40..].split_at(fragments::fragment_length(self.t as u8, length));
-        Some(Reply { server, stamp: &slot[..37], length, part, rest: &rest[..32 + 64 * self.servers()] })
+        let (part, rest) = rest[3..].split_at(fragments::fragment_length(self.t as u8, length));
+        Some(Reply { server, stamp, length, part, rest: &rest[..after_fragment_length(self.t as u8)] })
     }
 
     /// The replies that speak for a candidate, by server number.
     fn fitting(&self, candidate: &[u8]) -> Vec<Reply<'_>> {
-        let nonce_digest = digest(&candidate[37..69]);
-        let nonce_place = 32 * self.servers();
+        let nonce_digest = digest(&candidate[STAMP..TAGS_AT]);
+        let nonce_place = DIGEST * self.servers();
         let fits = |reply: &Reply| {
-            reply.stamp == &candidate[..37]
-                && reply.rest[nonce_place..nonce_place + 32] == nonce_digest
-                && digest(reply.part) == reply.rest[32 * (reply.server - 1)..32 * reply.server]
+            reply.stamp == &candidate[..STAMP]
+                && reply.rest[nonce_place..nonce_place + DIGEST] == nonce_digest
+                && digest(reply.part) == reply.rest[DIGEST * (reply.server - 1)..DIGEST * reply.server]
         };
         self.replied().filter_map(|server| self.reply(server)).filter(fits).collect()
     }
@@ -104,17 +106,17 @@ impl Client<'_> {
         let mut content = vec![0; RECORD_MAX];
         let count = fragments::restore(self.t as u8, group[0].length, &given, &mut content).expect("t+1 fragments of a length");
         content.truncate(count);
-        (content, group[0].rest[32 * self.servers() + 32..].to_vec())
+        (content, group[0].rest[DIGEST * self.servers() + DIGEST..].to_vec())
     }
 
     /// The content, or the repair round where the proven tags are others.
     fn conclude(&mut self, candidate: &[u8], content: Vec<u8>, tags: Vec<u8>, out: &mut [u8]) -> Answer {
-        if tags == candidate[69..] {
+        if tags == candidate[TAGS_AT..] {
             self.deliver(candidate, &content, out)
         } else {
             put(self.state, LENGTH, &(content.len() as u16).to_be_bytes());
             put(self.state, CONTENT, &content);
-            put(self.state, CHOSEN, &[&candidate[..69], &tags].concat());
+            put(self.state, CHOSEN, &[&candidate[..TAGS_AT], &tags].concat());
             self.enter(6)
         }
     }

@@ -5,7 +5,9 @@ mod filter;
 mod take;
 
 use cendrulas::Answer;
-use shelf::{boxes_of, fragments, PACKET_OUTPUT, RECORD_MAX, TOP_NUMBER};
+use shelf::packet::after_fragment_length;
+use shelf::stamp::{candidate_length, MAX_CANDIDATE, NONCE, STAMP};
+use shelf::{boxes_of, fragments, MAX_BOXES, PACKET_OUTPUT, RECORD_MAX, TOP_NUMBER};
 
 const STATE: usize = 24_640;
 const WRONG_SIZE: u8 = 255;
@@ -17,14 +19,14 @@ const ROUND: usize = 14;
 const COUNT: usize = 15;
 const MARKS: usize = 16;
 const SMALL: usize = 29;
-const STAMP: usize = 37;
-const CONTENT: usize = 64;
-const NONCE: usize = CONTENT + 1_024;
-const CHOSEN: usize = NONCE + 32;
-const CANDIDATES: usize = CHOSEN + CANDIDATE_SLOT;
-const CANDIDATE_SLOT: usize = 485;
-const REPLIES: usize = CANDIDATES + 13 * CANDIDATE_SLOT;
-const REPLY_SLOT: usize = 1_120;
+// the kept bytes follow it: slots have room for the most servers, those of replies for the longest reply of any shelf
+pub const CONTENT: usize = 64;
+const NONCE_AT: usize = CONTENT + RECORD_MAX;
+const CHOSEN: usize = NONCE_AT + NONCE;
+pub const CANDIDATES: usize = CHOSEN + CANDIDATE_SLOT;
+pub const CANDIDATE_SLOT: usize = MAX_CANDIDATE;
+pub const REPLIES: usize = CANDIDATES + MAX_BOXES * CANDIDATE_SLOT;
+pub const REPLY_SLOT: usize = 1_200;
 
 /// A client: its state, its t and its number.
 pub struct Client<'a> {
@@ -47,7 +49,7 @@ impl Client<'_> {
     }
 
     fn candidate_size(&self) -> usize {
-        69 + 32 * self.servers()
+        candidate_length(self.t as u8)
     }
 
     fn round(&self) -> u8 {
@@ -109,7 +111,7 @@ impl Client<'_> {
     }
 
     pub fn begin_write(&mut self, content: &[u8], nonce: &[u8]) -> Answer {
-        let sized = self.state.len() == STATE && nonce.len() == 32;
+        let sized = self.state.len() == STATE && nonce.len() == NONCE;
         let length = (content.len() > RECORD_MAX).then_some(6);
         let before = (!sized).then_some(WRONG_SIZE).or(self.refusal(8)).or(length);
         let refused = before.or_else(|| self.begin(1).err());
@@ -119,7 +121,7 @@ impl Client<'_> {
         self.state.copy_within(LAST..HIGH, HIGH);
         put(self.state, LENGTH, &(content.len() as u16).to_be_bytes());
         put(self.state, CONTENT, content);
-        put(self.state, NONCE, nonce);
+        put(self.state, NONCE_AT, nonce);
         Answer::wrote(0)
     }
 
@@ -166,8 +168,8 @@ impl Client<'_> {
             2 => {
                 let slot = &self.state[REPLIES + REPLY_SLOT * (server - 1)..][..REPLY_SLOT];
                 let length = u16::from_be_bytes([slot[0], slot[1]]) as usize;
-                let size = 34 + fragments::fragment_length(self.t as u8, length) + 64 * self.servers();
-                [&chosen[..37], &slot[..size.min(REPLY_SLOT)]].concat()
+                let size = 2 + fragments::fragment_length(self.t as u8, length) + after_fragment_length(self.t as u8);
+                [&chosen[..STAMP], &slot[..size.min(REPLY_SLOT)]].concat()
             }
             3 | 6 => chosen[..self.candidate_size()].to_vec(),
             5 => {

@@ -1,10 +1,11 @@
 //! The client on its bytes takes a reply: refusals, and every round but filter.
 
-use super::{four, put, Client, CANDIDATES, CANDIDATE_SLOT, CHOSEN, COUNT, HIGH, LAST, MARKS, NONCE, REPLIES, REPLY_SLOT, STAMP, STATE, WRONG_SIZE};
+use super::{four, put, Client, CANDIDATES, CANDIDATE_SLOT, CHOSEN, COUNT, HIGH, LAST, MARKS, NONCE_AT, REPLIES, REPLY_SLOT, STATE, WRONG_SIZE};
 use cendrulas::Answer;
 use shelf::hmac::tag;
-use shelf::packet::decode;
+use shelf::packet::{decode, HEAD};
 use shelf::sha256::digest;
+use shelf::stamp::STAMP;
 use shelf::{fragments, quorum_of, RECORD_OUTPUT, TOP_NUMBER};
 
 impl Client<'_> {
@@ -14,7 +15,7 @@ impl Client<'_> {
         if let Some(refusal) = refused {
             return Answer::refused(refusal);
         }
-        let (server, body) = (packet[2] as usize, &packet[8..]);
+        let (server, body) = (packet[2] as usize, &packet[HEAD..]);
         // the marks decide, whatever count the state was lent with
         let last = self.marks_with(server) >= quorum_of(self.t as u8);
         let high = if self.round() == 1 { self.higher(writers, body) } else { 0 };
@@ -88,7 +89,7 @@ impl Client<'_> {
         let key = |i: usize| keys[32 * i..32 * (i + 1)].try_into().expect("a key");
         let mut stamp = [&(high + 1).to_be_bytes()[..], &[self.number as u8]].concat();
         stamp.extend(tag(writers.try_into().expect("a key"), &stamp));
-        let nonce = self.state[NONCE..CHOSEN].to_vec();
+        let nonce = self.state[NONCE_AT..CHOSEN].to_vec();
         let message = [&stamp[..], &digest(&nonce)].concat();
         let tags: Vec<u8> = (0..self.servers()).flat_map(|i| tag(&key(i), &message)).collect();
         let pieces = self.pieces();

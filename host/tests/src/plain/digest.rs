@@ -6,6 +6,13 @@ pub fn digest(message: &[u8], out: &mut [u8]) -> Answer {
     put(sha256::digest(message), out)
 }
 
+pub fn hmac(key: &[u8], message: &[u8], out: &mut [u8]) -> Answer {
+    match key.try_into() {
+        Ok(key) => put(hmac::hmac(key, message), out),
+        Err(_) => Answer::refused(WRONG_SIZE),
+    }
+}
+
 pub fn tag(key: &[u8], message: &[u8], out: &mut [u8]) -> Answer {
     match key.try_into() {
         Ok(key) => put(hmac::tag(key, message), out),
@@ -13,11 +20,11 @@ pub fn tag(key: &[u8], message: &[u8], out: &mut [u8]) -> Answer {
     }
 }
 
-fn put(bytes: [u8; 32], out: &mut [u8]) -> Answer {
-    match out.get_mut(..32) {
+fn put<const N: usize>(bytes: [u8; N], out: &mut [u8]) -> Answer {
+    match out.first_chunk_mut() {
         Some(front) => {
-            front.copy_from_slice(&bytes);
-            Answer::wrote(32)
+            *front = bytes;
+            Answer::wrote(N)
         }
         None => Answer::refused(WRONG_SIZE),
     }

@@ -1,7 +1,7 @@
 //! The plain shelf behind the library's own interface, so that one call can be made on both.
 
 mod digest;
-pub use digest::{digest, tag};
+pub use digest::{digest, hmac, tag};
 
 mod coding;
 pub use coding::{fragment, restore, restore_weighed, weight_rows};

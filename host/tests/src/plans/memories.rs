@@ -5,9 +5,9 @@ use super::shelf::Shelf;
 use super::shelves;
 use crate::check::{Run, Seen};
 use cendrulas::{plan, stored, Stored, SERVER_MEMORY};
+use shelf::packet::HEAD;
 
 const WRITES: usize = 32;
-const HEAD: usize = 8;
 
 pub fn all(run: &mut Run) {
     for (t, length) in shelves() {

@@ -4,6 +4,8 @@ use super::shelf::{Called, Shelf};
 use super::shelves;
 use crate::check::{Run, Seen};
 use cendrulas::{packet_check, plan, Answer, Plan, Taken, Traffic};
+use shelf::packet::HEAD;
+use shelf::stamp::STAMP;
 
 const ROUNDS: [&str; 6] = ["clock", "store", "complete", "collect", "filter", "repair"];
 const READERS: usize = 16;
@@ -52,7 +54,7 @@ impl Lab {
             let (round, reply) = (ROUNDS[(kind - 1) / 2], if kind % 2 == 0 { " reply" } else { "" });
             let (form, due) = match kind {
                 9 => ("", self.plan.filter(candidates)),
-                10 if packet[45] == 1 => (" with a share", Some(self.plan.held(true))),
+                10 if packet[HEAD + STAMP] == 1 => (" with a share", Some(self.plan.held(true))),
                 10 => (" without a share", Some(self.plan.held(false))),
                 _ => ("", self.plan.kind(kind)),
             };
@@ -126,7 +128,7 @@ impl Lab {
         let complete = shelf.write(1, &self.content(), &self.everywhere(), false).requests.pop().expect("a packet");
         for count in 0..=self.servers + 1 {
             let head = [9, 9, 1, self.t as u8, 0, 0, 0, 1, count as u8];
-            let mut packet = [&head[..], &complete[8..].repeat(count)].concat();
+            let mut packet = [&head[..], &complete[HEAD..].repeat(count)].concat();
             let legal = count <= self.servers;
             let due = if legal { Answer::wrote(0) } else { Answer::refused(7) };
             self.same(run, "a filter's layout", (packet_check(&packet), self.plan.filter(count)), (due, legal.then_some(packet.len())));

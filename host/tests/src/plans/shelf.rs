@@ -2,6 +2,8 @@
 
 use crate::vectors::drill_keys;
 use cendrulas::{Client, Server, Taken, Traffic, CONTENT_ROOM, PACKET_ROOM};
+use shelf::packet::HEAD;
+use shelf::stamp::TAGS_AT;
 
 /// What a call did: how it ended, and the packets that went to the servers and came back.
 pub struct Called {
@@ -42,7 +44,7 @@ impl Shelf {
         client.begin_write(content, &[self.writes; 32]).expect("a legal write");
         self.finish(client, |packet| {
             if packet[0] == 5 && spoilt {
-                packet[8 + 69..].fill(7);
+                packet[HEAD + TAGS_AT..].fill(7);
             }
             packet[0] != 5 || completed.contains(&packet[2].into())
         })

@@ -8,7 +8,8 @@ use crate::check::Run;
 use crate::plain;
 use cendrulas::{Keys, CLIENT_STATE};
 use shelf::hmac::PreparedKey;
-use shelf::stamp::make_stamp;
+use shelf::packet::HEAD;
+use shelf::stamp::{make_stamp, TAGS_AT};
 use shelf::{boxes, boxes_of, BOX_MEMORY, TOP_NUMBER};
 
 /// Events in the life of a shelf.
@@ -99,7 +100,7 @@ impl Shelf {
             return self.begin(run, source, at);
         };
         if packet[0] == 5 && source.once_in(4) {
-            packet[77..].fill(7); // a lying writer: right stamp and nonce, wrong tags
+            packet[HEAD + TAGS_AT..].fill(7); // a lying writer: right stamp and nonce, wrong tags
         }
         let mut reply = vec![0; 6_400];
         let key = [server as u8; 32];
@@ -120,13 +121,13 @@ impl Shelf {
         match source.below(6) {
             0 if reply[0] == 2 => {
                 let stamp = make_stamp(&PreparedKey::new(&self.keys.writers), TOP_NUMBER, 1);
-                reply[8..].copy_from_slice(&stamp);
+                reply[HEAD..].copy_from_slice(&stamp);
             }
-            1 | 2 if reply.len() > 8 => change(source, &mut reply[8..], usize::MAX),
+            1 | 2 if reply.len() > HEAD => change(source, &mut reply[HEAD..], usize::MAX),
             3 if !self.old.is_empty() => {
                 let other = source.pick(&self.old);
-                reply.truncate(8);
-                reply.extend(&other[8.min(other.len())..]);
+                reply.truncate(HEAD);
+                reply.extend(&other[HEAD.min(other.len())..]);
             }
             _ => damage(source, reply),
         }

@@ -19,7 +19,7 @@ mod weights;
 use source::Source;
 
 pub fn all(run: &mut Run) {
-    run.group("random digests and tags", |run| digest::all(run, &mut Source::new(1), 20_000));
+    run.group("random digests and tags", |run| digest::all(run, &mut Source::new(1), 30_000));
     run.group("random fragments", |run| coding::all(run, &mut Source::new(2), 20_000));
     run.group("random weights", |run| weights::all(run, &mut Source::new(7), 30_000));
     run.group("random packets", |run| layout::all(run, &mut Source::new(6), 40_000));

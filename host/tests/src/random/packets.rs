@@ -3,8 +3,8 @@
 use super::damage::change;
 use super::source::Source;
 use shelf::hmac::PreparedKey;
-use shelf::sha256::digest;
-use shelf::stamp::{candidate_tag, make_stamp, Stamp};
+use shelf::sha256::{digest, DIGEST};
+use shelf::stamp::{candidate_tag, make_stamp, Stamp, NONCE, STAMP, TAGS_AT};
 use shelf::{boxes_of, fragments};
 
 const WRITERS: u8 = 3;
@@ -12,7 +12,7 @@ const NUMBERS: u32 = 16;
 
 /// A write as its packets carry it.
 struct Write {
-    stamp: [u8; 37],
+    stamp: [u8; STAMP],
     candidate: Vec<u8>,
     /// The body of kind 3 after its stamp, for server 1 (no server looks at the fragment).
     entry: Vec<u8>,
@@ -50,9 +50,9 @@ impl World {
         let mut bytes = vec![kind, client, server, self.t];
         bytes.extend(call.to_be_bytes());
         match kind {
-            2 if source.once_in(4) => bytes.extend([0; 37]),
+            2 if source.once_in(4) => bytes.extend([0; STAMP]),
             8 if source.once_in(4) => bytes.extend(vec![0; write.candidate.len()]),
-            10 if source.once_in(4) => bytes.extend([0; 38]),
+            10 if source.once_in(4) => bytes.extend([0; STAMP + 1]),
             2 => bytes.extend(write.stamp),
             3 => bytes.extend([&write.stamp[..], &write.entry].concat()),
             4 => bytes.push(*source.pick(&[0, 10, 11, 12])),
@@ -69,9 +69,9 @@ impl World {
     fn candidate(&self, source: &mut Source, write: &Write) -> Vec<u8> {
         let mut candidate = write.candidate.clone();
         match source.below(6) {
-            0 => change(source, &mut candidate[5..37], usize::MAX),
-            1 => change(source, &mut candidate[37..69], usize::MAX),
-            2 => candidate[69..].fill(7),
+            0 => change(source, &mut candidate[5..STAMP], usize::MAX),
+            1 => change(source, &mut candidate[STAMP..TAGS_AT], usize::MAX),
+            2 => candidate[TAGS_AT..].fill(7),
             _ => {}
         }
         candidate
@@ -88,14 +88,14 @@ impl World {
     }
 }
 
-fn write(source: &mut Source, t: u8, keys: &[PreparedKey], stamp: [u8; 37]) -> Write {
-    let nonce = source.bytes(32);
+fn write(source: &mut Source, t: u8, keys: &[PreparedKey], stamp: [u8; STAMP]) -> Write {
+    let nonce = source.bytes(NONCE);
     let nonce_digest = digest(&nonce);
     let tags: Vec<u8> = keys.iter().flat_map(|key| candidate_tag(key, Stamp(&stamp), &nonce_digest)).collect();
     let length = source.content_length();
     let mut entry = (length as u16).to_be_bytes().to_vec();
     entry.extend(source.bytes(fragments::fragment_length(t, length)));
-    entry.extend(source.bytes(32 * keys.len()));
+    entry.extend(source.bytes(DIGEST * keys.len()));
     entry.extend(nonce_digest);
     entry.extend(&tags);
     Write { stamp, candidate: [&stamp[..], &nonce, &tags].concat(), entry }

@@ -7,6 +7,7 @@ use crate::check::{Run, Seen, FILLER};
 use crate::kinds::{plainly, reply};
 use crate::plain;
 use crate::text::hex;
+use shelf::stamp::STAMP;
 
 const MEMORY: usize = 40_960;
 /// Steps before a server is made anew: enough to fill its history.
@@ -54,7 +55,7 @@ fn injure(source: &mut Source, memory: &mut Vec<u8>) {
         3 | 4 => change(source, memory, 3),
         5 => {
             let (from, to) = (source.below(3_000), source.within(40, 6_000));
-            memory.copy_within(from..from + 37, to);
+            memory.copy_within(from..from + STAMP, to);
         }
         _ => change(source, memory, 12_000),
     }

@@ -4,13 +4,10 @@ use super::damage::change;
 use super::source::Source;
 use super::steps::{Names, Party, Step, ANY_STATE, CLIENT};
 use crate::check::Run;
+use crate::model::{CANDIDATES, CANDIDATE_SLOT, CONTENT, REPLIES, REPLY_SLOT};
 use cendrulas::CLIENT_STATE;
+use shelf::stamp::STAMP;
 use shelf::TOP_NUMBER;
-
-/// Where the kept bytes begin, and in the state the candidates' slots and the replies' slots.
-const KEPT: usize = 64;
-const CANDIDATES: usize = KEPT + 1_541;
-const REPLIES: usize = KEPT + 7_846;
 
 /// Damage to a state: of its numbers, round, count and marks, of the slots, or of everything.
 pub fn injure(source: &mut Source, state: &mut [u8]) {
@@ -32,15 +29,15 @@ pub fn injure(source: &mut Source, state: &mut [u8]) {
         6 => state[12..14].copy_from_slice(&source.pick(&[0u16, 1, 1_024, 1_025, 65_535]).to_be_bytes()),
         7 => {
             let (from, to) = (source.below(13), source.below(13));
-            let slot = CANDIDATES + 485 * from..CANDIDATES + 485 * (from + 1);
-            state.copy_within(slot, CANDIDATES + 485 * to);
+            let slot = CANDIDATES + CANDIDATE_SLOT * from..CANDIDATES + CANDIDATE_SLOT * (from + 1);
+            state.copy_within(slot, CANDIDATES + CANDIDATE_SLOT * to);
         }
         8 => {
-            let at = REPLIES + 1_120 * source.below(13) + *source.pick(&[0, 4, 37, 38, 39, 40, 600]);
+            let at = REPLIES + REPLY_SLOT * source.below(13) + *source.pick(&[0, 4, STAMP, STAMP + 1, STAMP + 2, STAMP + 3, 600]);
             state[at] = source.byte();
         }
         9 => change(source, &mut state[CANDIDATES..], usize::MAX),
-        _ => change(source, &mut state[KEPT..], usize::MAX),
+        _ => change(source, &mut state[CONTENT..], usize::MAX),
     }
 }
 
