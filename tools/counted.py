@@ -15,6 +15,7 @@ import promised
 from trying import ROOT, copy_of, crate_lines, needed, rt
 
 HEADER = ROOT / "include" / "cendrulas.h"
+HOSTS = {"cendrulas": ROOT / "host" / "cendrulas" / "src", "plain": ROOT / "bench" / "plain" / "src", "model": ROOT / "host" / "tests" / "src" / "model"}
 EMBED = ROOT / "crates" / "embed" / "src"
 # those that are not counted: off a build, and measured
 BUILT = ("archive", "archive needs", "archive server", "archive client", "stack", "stack server", "stack client")
@@ -80,9 +81,32 @@ def number(name, place):
 
 
 def constant(name, place):
-    """The number of a constant of the code, as in MEMORY of cluster/lib."""
+    """The number of a constant of the code, as in MEMORY of cluster/lib; or of the header, the wrapper (cendrulas/..), the plain
+    shelf (plain/..) or the tests' model of a state (model/..)."""
     crate, file = place.split("/")
+    if crate == "include":
+        return value(HEADER, rf"^#define {name} (\d+)u\b")
+    if crate in HOSTS:
+        return value(HOSTS[crate] / f"{file}.rs", rf"^pub const {name}: \w+ = ([\d_]+);")
     return value(ROOT / "crates" / crate / "src" / f"{file}.rt", rf"^(?:pub(?:\(crate\))? )?const {name}: \w+ = (\d+);")
+
+
+def tagged():
+    """Lengths that have a tag in them, by the definitions' numbers. A stamp is a number of 4 bytes, a writer and a tag; a share is a length of 2 bytes,
+    the fragment, S digests, the nonce's digest and S tags."""
+    ranges = {name: number(name, "cluster/Ranges") for name in ("keySize", "topLength", "topFaults", "mostServers")}
+    tag, digest, faults = number("tagSize", "hmac/Hmac"), ranges["keySize"], ranges["topFaults"]
+    stamp = 4 + 1 + tag
+    stored = stamp + 2 + digest
+    fragment = (ranges["topLength"] + faults) // (faults + 1)
+    return {
+        "tag": f"{tag}",
+        "stamp": f"{stamp}",
+        "tagged": f"{stamp + digest}",
+        "candidate": f"{stamp + digest} + {tag}S",
+        "stored": f"{stored} + f + {digest + tag}S",
+        "most stored": f"{stored + fragment + (digest + tag) * ranges['mostServers']:,}",
+    }
 
 
 def value(file, pattern):
@@ -117,6 +141,7 @@ def counted():
         "theorem-edits": files("theorem-edits/*.edit"),
         "plan-edits": files("theorem-edits/planned/*.edit"),
         **sizes(),
+        **tagged(),
         **first_run(),
         **{name: f"{value(ROOT / file, pattern):,}" for name, (file, pattern) in SAID.items()},
     }
