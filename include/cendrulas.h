@@ -109,16 +109,16 @@ static inline const char *cendrulas_refusal_name(unsigned refusal) {
 }
 
 /* SHA-256 (FIPS 180-4) of the message.
- * Refusals: 255 where out_len < 32. Writes the 32 bytes of the digest; count 32. */
+ * Refusals: 255 where out_len < CENDRULAS_DIGEST. Writes the digest; count CENDRULAS_DIGEST. */
 uint64_t cendrulas_digest(const uint8_t *message, size_t message_len, uint8_t *out, size_t out_len);
 
 /* HMAC-SHA-256 (RFC 2104) of the message, whole.
- * Refusals: 255 where key_len is not 32 or out_len < 32. Writes the 32 bytes of the HMAC; count 32. */
+ * Refusals: 255 where key_len is not CENDRULAS_KEY or out_len < CENDRULAS_DIGEST. Writes the HMAC; count CENDRULAS_DIGEST. */
 uint64_t cendrulas_hmac(const uint8_t *key, size_t key_len, const uint8_t *message, size_t message_len,
                         uint8_t *out, size_t out_len);
 
 /* The shelf's tag of the message: the first CENDRULAS_TAG bytes of its HMAC, as RFC 2104 cuts it.
- * Refusals: 255 where key_len is not 32 or out_len < CENDRULAS_TAG. Writes the tag; count CENDRULAS_TAG. */
+ * Refusals: 255 where key_len is not CENDRULAS_KEY or out_len < CENDRULAS_TAG. Writes the tag; count CENDRULAS_TAG. */
 uint64_t cendrulas_tag(const uint8_t *key, size_t key_len, const uint8_t *message, size_t message_len,
                        uint8_t *out, size_t out_len);
 
