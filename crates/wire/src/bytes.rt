@@ -38,7 +38,7 @@ pub fn all_zero(s: &[u8]) -> bool
     joined_zero(&s[at..])
 }
 
-// The same bytes. No difference ends the loop, as in all_zero: so its steps do not tell where bytes of one length differ, and a tag that is tried is
+// The same bytes. No difference ends the loop, as in all_zero, so that its steps do not tell where bytes of one length differ. A tag that is checked is
 // compared by it.
 pub fn same_throughout(a: &[u8], b: &[u8]) -> bool
     ensures { λ r. ⌜ r ≡ sameList (now (a .entry)) (now (b .entry)) ⌝ }

@@ -1,4 +1,4 @@
--- The stored writes follow the latest candidate. There are few servers, since t is a byte, so their place is a number of the machine. Assumes nothing.
+-- The stored writes follow the latest candidate. t is a byte, so a candidate is short, and the sum is a number of the machine. Assumes nothing.
 use mathlib.Core.Path.{ap}
 use Prim.Native.Nat.{ℕ, _+_}
 use native.Mathlib.Omega.{arith}
