@@ -1,5 +1,5 @@
 /* HMAC and tag from C: cases 1 to 5 of RFC 4231, of which the RFC cuts the last to 128 bits, and refusals. A key of fewer than 32 bytes is that key
- * with 00h up to 32. Compiled and run by host/test. */
+ * with 00h up to 32. Prints both of case 5, as examples/hmac.rs does. Compiled and run by host/test. */
 #include "cendrulas.h"
 
 #include <stdio.h>
@@ -56,6 +56,17 @@ static int refuses(function *f, size_t size) {
            && cendrulas_count(short_out) == 0 && memcmp(out, unwritten, sizeof out) == 0;
 }
 
+/* What a function gives for a case, in hexadecimal. */
+static void print(const char *name, function *f, const struct example *e) {
+    uint8_t out[ROOM];
+    const uint64_t answer = f(e->key, sizeof e->key, (const uint8_t *)e->message, strlen(e->message), out, sizeof out);
+    printf("%s: ", name);
+    for (unsigned i = 0; i < cendrulas_count(answer); i++) {
+        printf("%02x", out[i]);
+    }
+    puts("");
+}
+
 int main(void) {
     memset(examples[0].key, 0x0b, 20);
     memset(examples[2].key, 0xaa, 20);
@@ -73,5 +84,7 @@ int main(void) {
         puts("c: a short key or output is not refused");
         return 1;
     }
+    print("HMAC", cendrulas_hmac, &examples[EXAMPLES - 1]);
+    print("tag", cendrulas_tag, &examples[EXAMPLES - 1]);
     return 0;
 }
