@@ -6,8 +6,8 @@
 //! A datagram that is sent back where it came from names the wrong direction, which the library refuses (9 at a box, 12 at a scope).
 //! Copies and delays pass: the protocol bears them, so a link needs no counter and remembers nothing.
 //!
-//! The tag is as long as the shelf's own. A box takes a complete on the sender's word, so there the link's tag is the only seal: what docs/PAGE-41.md
-//! says of guessing a tag is said of this one too.
+//! The tag is as long as the shelf's own. A box takes a complete, and a scope takes a reply, on the sender's word, so there the link's tag is the only
+//! seal: docs/PAGE-41.md says what guessing it would take.
 
 use crate::packet::parties;
 use cendrulas::{PACKET_ROOM, TAG};
