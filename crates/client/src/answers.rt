@@ -10,7 +10,7 @@ ghost use Rattle.client.specs.Rounds.{noted, ends, with_tally_def};
 use crate::{kept, rounds};
 
 // The answer to a reply, and the call after it.
-#[derive(Drop)]
+#[derive(Clone, Copy)]
 pub struct Answered {
     pub answer: protocol::Taken,
     pub call: protocol::Call,

@@ -11,7 +11,7 @@ ghost use Rattle.client.specs.Core.{core_write, core_read};
 use crate::{Party, kept, refusals, rounds};
 
 // What giving up answers, and the call after it.
-#[derive(Drop)]
+#[derive(Clone, Copy)]
 pub struct Stopped {
     pub answer: protocol::Aborted,
     pub call: protocol::Call,
@@ -44,7 +44,7 @@ pub fn give_up_in(call: protocol::Call, party: Party) -> Stopped
 }
 
 // What beginning a call answers, and the call after it.
-#[derive(Drop)]
+#[derive(Clone, Copy)]
 pub struct Started {
     pub outcome: cluster::Outcome,
     pub call: protocol::Call,

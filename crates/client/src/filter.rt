@@ -27,7 +27,7 @@ fn put_reply(kept: &mut [u8], server: usize, body: &[u8])
 }
 
 // The slot of the chosen candidate and the server that leads its group, on a shelf of t.
-#[derive(Drop)]
+#[derive(Clone, Copy)]
 struct Led {
     t: usize,
     slot: usize,

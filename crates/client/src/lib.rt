@@ -1,5 +1,7 @@
 // The client: a pending call, the packets of its rounds and what their replies do.
 // A call's small state is lent as `protocol::Call`, its bulk as the kept bytes; every value of both has a meaning.
+#![tactic(auto)]
+
 ghost use Rattle.std.specs.Prelude.{◌≡◌};
 ghost use Rattle.protocol.specs.Primitives.{real};
 ghost use Rattle.protocol.specs.Answers.{taken_answer, aborted_answer};
@@ -24,7 +26,7 @@ pub mod begin; // beginning a call and giving it up
 pub mod taking; // a reply is taken
 
 // Which client takes a step: document 01's "Each step gets the shelf's t, its party's number".
-#[derive(Drop)]
+#[derive(Clone, Copy)]
 pub struct Party {
     pub t: usize,
     pub client: usize,
@@ -58,8 +60,8 @@ pub fn begin_write(
     content: &[u8],
     nonce: &[u8; cluster::KEY],
 ) -> cluster::Outcome
-    ensures* { λ r. ⌜ record { result = r; call = call.new; kept = kept.new }
-        ≡ begin_write_def party.t party.client call.old kept.old content.now nonce.now ⌝ }
+    ensures { record { result = result; call = call.new; kept = kept.new }
+        ≡ begin_write_def party.t party.client call.old kept.old content.now nonce.now }
 {
     let s = begin::write_by_value(*call, kept, party, content, nonce);
     *call = s.call;
@@ -72,8 +74,8 @@ pub fn begin_read(
     kept: &mut [u8; wire::kept::KEPT],
     party: Party,
 ) -> cluster::Outcome
-    ensures* { λ r. ⌜ record { result = r; call = call.new; kept = kept.new }
-        ≡ begin_read_def party.t party.client call.old kept.old ⌝ }
+    ensures { record { result = result; call = call.new; kept = kept.new }
+        ≡ begin_read_def party.t party.client call.old kept.old }
 {
     let s = begin::read_by_value(*call, kept, party);
     *call = s.call;
@@ -116,8 +118,8 @@ pub fn make(
     server: usize,
     out: &mut [u8],
 ) -> cluster::Outcome
-    ensures* { λ r. ⌜ record { result = r; output = out.new }
-        ≡ client_make party.t party.client server call kept.now out.old ⌝ }
+    ensures { record { result = result; output = out.new }
+        ≡ client_make party.t party.client server call kept.now out.old }
 {
     packets::make_in(call, kept, party, server, out)
 }

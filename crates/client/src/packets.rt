@@ -39,7 +39,7 @@ fn share_size(t: usize, n: u32) -> usize
 // A packet without a body.
 fn make_empty(head: protocol::Head, out: &mut [u8]) -> cluster::Outcome
     requires { packet_room ≤ length out.old }
-    ensures* { λ r. ⌜ record { result = r; output = out.new } ≡ whole_packet (head_f.print head ++ ([] ++ [])) out.old ⌝ }
+    ensures { record { result = result; output = out.new } ≡ whole_packet (head_f.print head ++ ([] ++ [])) out.old }
 {
     let none: [u8; 0] = [];
     wire::make::make_packet(head, &none, &none, out)
@@ -48,8 +48,8 @@ fn make_empty(head: protocol::Head, out: &mut [u8]) -> cluster::Outcome
 // A packet with the chosen candidate.
 fn make_chosen(head: protocol::Head, kept: &[u8], t: usize, out: &mut [u8]) -> cluster::Outcome
     requires { (t ≤ top_faults) × ((length kept.now ≡ kept_size) × (packet_room ≤ length out.old)) }
-    ensures* { λ r. ⌜ record { result = r; output = out.new }
-        ≡ whole_packet (head_f.print head ++ ((candidate_f (shelf t)).print (chosen_of (shelf t) kept.now) ++ [])) out.old ⌝ }
+    ensures { record { result = result; output = out.new }
+        ≡ whole_packet (head_f.print head ++ ((candidate_f (shelf t)).print (chosen_of (shelf t) kept.now) ++ [])) out.old }
 {
     let chosen = wire::bytes::part(kept, wire::kept::CHOSEN, wire::kept::CANDIDATE_SLOT);
     let none: [u8; 0] = [];
@@ -70,9 +70,9 @@ fn make_store(
     out: &mut [u8],
 ) -> cluster::Outcome
     requires { (t ≤ top_faults) × ((1 ≤ server) × ((server ≤ most_servers) × ((length kept.now ≡ kept_size) × (packet_room ≤ length out.old)))) }
-    ensures* { λ r. ⌜ record { result = r; output = out.new }
+    ensures { record { result = result; output = out.new }
         ≡ whole_packet (head_f.print head ++ (stamp_f.print (chosen_of (shelf t) kept.now).stamp
-        ++ (share_f (shelf t)).print (share_at (shelf t) (reply_slot_of kept.now (server - 1))))) out.old ⌝ }
+        ++ (share_f (shelf t)).print (share_at (shelf t) (reply_slot_of kept.now (server - 1))))) out.old }
 {
     let chosen = wire::bytes::part(kept, wire::kept::CHOSEN, wire::kept::CANDIDATE_SLOT);
     let slot = wire::bytes::part(
@@ -95,8 +95,8 @@ fn make_plain(
 ) -> cluster::Outcome
     requires { (party.t ≤ top_faults) × ((party.client ≤ top_client) × ((1 ≤ server) × ((server ≤ (shelf party.t).servers)
         × ((length kept.now ≡ kept_size) × ((packet_room ≤ length out.old) × ((in_hand call ≡ true) × (call.tally.round ≡ 5 → ⊥))))))) }
-    ensures* { λ r. ⌜ record { result = r; output = out.new } ≡ whole_packet
-        (encode (made party.t party.client (view (shelf party.t) call kept.now) server)) out.old ⌝ }
+    ensures { record { result = result; output = out.new } ≡ whole_packet
+        (encode (made party.t party.client (view (shelf party.t) call kept.now) server)) out.old }
 {
     let tally = call.tally;
     let round = tally.round;
@@ -113,9 +113,9 @@ fn make_plain(
 // The list as collect left it. Its count is known once it is written, by the bytes that it took: no slot is looked at twice.
 fn make_filter(head: protocol::Head, kept: &[u8], t: usize, out: &mut [u8]) -> cluster::Outcome
     requires { (1 ≤ t) × ((t ≤ top_faults) × ((length kept.now ≡ kept_size) × (packet_room ≤ length out.old))) }
-    ensures* { λ r. ⌜ record { result = r; output = out.new }
+    ensures { record { result = result; output = out.new }
         ≡ whole_packet (head_f.print head ++ (candidates_f (shelf t)).print (gather (candidates_in (shelf t) kept.now) (shelf t).servers))
-        out.old ⌝ }
+        out.old }
 {
     let a = wire::make::put_head(out, 0, head);
     let b = a + 1;
@@ -138,8 +138,8 @@ fn make_round(
 ) -> cluster::Outcome
     requires { (1 ≤ party.t) × ((party.t ≤ top_faults) × ((party.client ≤ top_client) × ((1 ≤ server) × ((server ≤ (shelf party.t).servers)
         × ((length kept.now ≡ kept_size) × ((packet_room ≤ length out.old) × (in_hand call ≡ true))))))) }
-    ensures* { λ r. ⌜ record { result = r; output = out.new } ≡ whole_packet
-        (encode (made party.t party.client (view (shelf party.t) call kept.now) server)) out.old ⌝ }
+    ensures { record { result = result; output = out.new } ≡ whole_packet
+        (encode (made party.t party.client (view (shelf party.t) call kept.now) server)) out.old }
 {
     let tally = call.tally;
     let round = tally.round;
@@ -162,8 +162,8 @@ pub fn make_in(
     server: usize,
     out: &mut [u8],
 ) -> cluster::Outcome
-    ensures* { λ r. ⌜ record { result = r; output = out.new }
-        ≡ core_make party.t party.client server call kept.now out.old ⌝ }
+    ensures { record { result = result; output = out.new }
+        ≡ core_make party.t party.client server call kept.now out.old }
 {
     if kept.len() != wire::kept::KEPT {
         return cluster::refused(cluster::WRONG_SIZE);

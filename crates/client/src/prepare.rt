@@ -23,7 +23,7 @@ fn put_candidate(kept: &mut [u8], stamp: &[u8], nonce: &[u8], tags: &[u8])
 }
 
 // A write's nonce and its digest.
-#[derive(Drop)]
+#[derive(Clone, Copy)]
 struct Nonce {
     bytes: [u8; wire::sizes::NONCE],
     digest: [u8; wire::sizes::DIGEST],

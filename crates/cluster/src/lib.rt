@@ -1,4 +1,6 @@
 // The parameters and ranges of a shelf stand in specs/. The struct is what definitions and code share; the constants are those of specs/Ranges.
+#![tactic(auto)]
+
 ghost use Rattle.std.specs.Prelude.{◌≡◌, not};
 ghost use Rattle.cluster.specs.Config.{shelf};
 ghost use Rattle.cluster.specs.Ranges.{within};
@@ -38,7 +40,7 @@ pub const CAPACITY: usize = 32;
 pub const WRONG_SIZE: u8 = 255;
 
 // What an operation answers: 0 or a refusal's number, and the bytes written to the output buffer.
-#[derive(Drop)]
+#[derive(Clone, Copy)]
 pub struct Outcome {
     pub number: u8,
     pub count: usize,

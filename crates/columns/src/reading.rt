@@ -5,7 +5,7 @@ ghost use Rattle.columns.specs.Columns.{column_size, column, number, digits, num
 ghost use Rattle.columns.specs.Reads.{number_read, read_into, is_read, or_zero, Fills};
 
 // The number of a column, or no number.
-#[derive(Drop)]
+#[derive(Clone, Copy)]
 pub enum Number {
     Value(u32),
     Broken,

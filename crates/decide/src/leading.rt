@@ -13,35 +13,35 @@ use wire::kept::{CANDIDATE_SLOT, CANDIDATES};
 use wire::sizes::{NONCE, STAMP};
 
 // Who replied in a filter round, and the shelf's t.
-#[derive(Drop)]
+#[derive(Clone, Copy)]
 pub(crate) struct Replied {
     pub(crate) marks: [u8; cluster::MOST_SERVERS],
     pub(crate) t: usize,
 }
 
 // What a filter round is asked of one candidate: who replied, and the slot of the candidate that the replies are to prove.
-#[derive(Drop)]
+#[derive(Clone, Copy)]
 pub(crate) struct Sought {
     pub(crate) replied: Replied,
     pub(crate) slot: usize,
 }
 
 // A group's servers: how many, and which.
-#[derive(Drop)]
+#[derive(Clone, Copy)]
 pub(crate) struct Members {
     pub(crate) count: usize,
     pub(crate) servers: [usize; cluster::MOST_SERVERS],
 }
 
 // The server that leads a group, or 0, and the servers of its group.
-#[derive(Drop)]
+#[derive(Clone, Copy)]
 pub(crate) struct Group {
     pub(crate) server: usize,
     pub(crate) servers: [usize; cluster::MOST_SERVERS],
 }
 
 // A slot, the server that leads a group of its candidate, or 0, and the servers of the group.
-#[derive(Drop)]
+#[derive(Clone, Copy)]
 pub(crate) struct Choice {
     pub(crate) slot: usize,
     pub(crate) server: usize,

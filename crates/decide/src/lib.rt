@@ -1,5 +1,7 @@
 // A client's reading of a filter round over its kept bytes: which candidates are listed, what is decided, and the content that it gives.
 // A slot is counted from 0, a server from 1: slot i is server i + 1's.
+#![tactic(auto)]
+
 ghost use Rattle.std.specs.Prelude.{◌≡◌};
 ghost use Rattle.decide.specs.Listing.{listed_in, listed_count};
 ghost use Rattle.decide.specs.Steps.{UsableAs};
@@ -99,7 +101,7 @@ pub fn same_tags(kept: &[u8], t: usize, i: usize, b: usize) -> bool
 
 // What a filter round has decided: the arguments are refused; nothing yet; no candidate is left; or the slot that holds the chosen one, the
 // server that leads its group, and the length of the content.
-#[derive(Drop)]
+#[derive(Clone, Copy)]
 pub enum Decision {
     Refused(u8),
     Wait,

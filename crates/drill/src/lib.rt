@@ -1,4 +1,6 @@
 // The drill: one operation over a sheet, an output and a lent work area. Definitions stand in specs/.
+#![tactic(auto)]
+
 ghost use Rattle.std.specs.Prelude.{◌≡◌};
 ghost use Rattle.drill.specs.Listing.{rows_for_def, drill_of};
 
@@ -28,8 +30,8 @@ fn rows_for(lines: usize) -> usize
 
 // Runs a sheet and prints its listing at the start of the output. The work area is cleared first, and left all 00h.
 pub fn drill(sheet: &[u8], out: &mut [u8], work: &mut [u8]) -> cluster::Outcome
-    ensures* { λ r. ⌜ record { result = r; output = out.new; work = work.new }
-        ≡ drill_of sheet.now out.old work.old ⌝ }
+    ensures { record { result = result; output = out.new; work = work.new }
+        ≡ drill_of sheet.now out.old work.old }
 {
     if work.len() != WORK {
         return cluster::refused(cluster::refusals::MEMORY_SIZE);

@@ -5,7 +5,7 @@ ghost use Rattle.drill.specs.Sheet.{read_line_def};
 ghost use Rattle.drill.specs.Reads.{read_answer, sheet_answer};
 
 // The five numbers of a line. Document 01 says box for server.
-#[derive(Drop)]
+#[derive(Clone, Copy)]
 pub struct Line {
     pub verb: u32,
     pub client: u32,
@@ -15,7 +15,7 @@ pub struct Line {
 }
 
 // A line of the form asked for, or another.
-#[derive(Drop)]
+#[derive(Clone, Copy)]
 pub enum Read {
     Line(Line),
     Broken,

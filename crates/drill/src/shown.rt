@@ -7,7 +7,7 @@ ghost use Rattle.runs.specs.Runs.{result_of, result_by};
 ghost use Rattle.drill.specs.Steps.{shown_as, shown};
 
 // Result, stamp number, length, first byte.
-#[derive(Drop)]
+#[derive(Clone, Copy)]
 pub struct Shown {
     pub result: u32,
     pub stamp: u32,

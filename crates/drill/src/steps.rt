@@ -13,7 +13,7 @@ use crate::shown::Shown;
 use crate::{area, shown};
 
 // What a step shows, and how many writes have begun after it.
-#[derive(Drop)]
+#[derive(Clone, Copy)]
 pub struct Moved {
     pub shown: Shown,
     pub begun: u32,

@@ -56,8 +56,8 @@ fn keys_for(client: usize) -> [[u8; cluster::KEY]; cluster::MOST_SERVERS]
 // The packet of a client's round for a server.
 fn make(work: &[u8], t: usize, client: usize, server: usize, out: &mut [u8]) -> cluster::Outcome
     requires { ((1 ≤ client) × (client ≤ top_client)) × (length work.now ≡ work_size) }
-    ensures* { λ r. ⌜ record { result = r; output = out.new } ≡ client_make t client server (call_in work.now client)
-        (kept_in work.now client) out.old ⌝ }
+    ensures { record { result = result; output = out.new } ≡ client_make t client server (call_in work.now client)
+        (kept_in work.now client) out.old }
 {
     let call = area::call_of(work, client);
     client::packets::make_in(

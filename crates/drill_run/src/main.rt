@@ -1,5 +1,7 @@
 // Runs the drill sheet on standard input and writes its listing. A sheet has at most 65,535 bytes here.
 // What it can't take, it says on standard error, and writes no listing then.
+#![tactic(auto)]
+
 use libc::{STDERR_FILENO, STDIN_FILENO, STDOUT_FILENO};
 
 // Bytes of the buffer that a sheet is read into: one that fills it may go on.

@@ -1,4 +1,6 @@
 // The library's functions for C and Rust, on numbers and slices only; include/cendrulas.h declares them.
+#![tactic(auto)]
+
 mod clients;
 mod coding;
 mod digests;

@@ -8,7 +8,7 @@ ghost use Rattle.erasure.specs.Chosen.{Holds};
 const WIDTH: usize = crate::system::WIDTH;
 
 // The servers chosen so far, and where each stands in the list given.
-#[derive(Drop)]
+#[derive(Clone, Copy)]
 pub(crate) struct Chosen {
     pub(crate) servers: [u8; WIDTH],
     pub(crate) at: [usize; WIDTH],

@@ -13,7 +13,7 @@ const WIDTH: usize = crate::system::WIDTH;
 
 // Runs of bytes that stand in a slice: where each begins, how many they are, and how long each is. A run may end past the slice's end, where
 // it reads as 00h; but since runs are a content divided by their number and rounded up, no further past it than they are many.
-#[derive(Drop)]
+#[derive(Clone, Copy)]
 pub(crate) struct Runs {
     pub(crate) starts: [usize; WIDTH],
     pub(crate) count: usize,

@@ -1,4 +1,6 @@
 // Fragments of a content, the content from fragments, and the weights with which they give it.
+#![tactic(auto)]
+
 ghost use Rattle.std.specs.Prelude.{◌≡◌, ◌≤◌, replicate};
 ghost use Rattle.cluster.specs.Config.{shelf};
 ghost use Rattle.cluster.specs.Ranges.{top_faults, top_length};
@@ -27,7 +29,7 @@ pub const ROWS: usize = WIDTH * WIDTH;
 pub const ROOM: usize = 512;
 
 // A fragment and its length, padded with 00h; or a refusal.
-#[derive(Drop)]
+#[derive(Clone, Copy)]
 pub struct FragmentOutcome {
     pub number: u8,
     pub count: usize,
@@ -35,7 +37,7 @@ pub struct FragmentOutcome {
 }
 
 // The servers that restoring uses, k of them, and k rows of k weights, padded with 00h; or a refusal.
-#[derive(Drop)]
+#[derive(Clone, Copy)]
 pub struct WeightsOutcome {
     pub number: u8,
     pub count: usize,

@@ -1,5 +1,7 @@
 // Page 41 for the exported functions: the claim stands in specs/, its proof in proofs/. There is no code here.
-#[derive(Drop)]
+#![tactic(auto)]
+
+#[derive(Clone, Copy)]
 pub struct Nothing {
     pub nothing: u8,
 }

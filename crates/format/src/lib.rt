@@ -1,5 +1,7 @@
 // How values stand in bytes: the definitions stand in specs/, their laws in proofs/.
-#[derive(Drop)]
+#![tactic(auto)]
+
+#[derive(Clone, Copy)]
 pub struct Nothing {
     pub nothing: u8,
 }

@@ -1,4 +1,6 @@
 // The field of FIPS 197 on bytes. Its one product goes by doubling; the tables of powers and logarithms of 03h give the inverse.
+#![tactic(auto)]
+
 ghost use Rattle.std.specs.Prelude.{◌≡◌, ◌*◌, ◌%◌};
 ghost use Rattle.gf256.specs.Gf.{xtime, times, inverse as inverseOf};
 

@@ -1,4 +1,6 @@
 // A plan of a lab: what its packets and memories take. Definitions stand in specs/Plan.
+#![tactic(auto)]
+
 ghost use Rattle.std.specs.Prelude.{◌≡◌, ◌+◌, ◌≤◌};
 ghost use Rattle.cluster.specs.Config.{shelf};
 ghost use Rattle.cluster.specs.Ranges.{top_faults, most_servers, top_client, top_length, capacity};
@@ -15,7 +17,7 @@ pub const HELD: usize = 2;
 pub const PACKETS: usize = 6;
 
 // A refusal's number or 0, and what is planned, all 0 where it is refused.
-#[derive(Drop)]
+#[derive(Clone, Copy)]
 pub struct PlanOutcome {
     pub number: u8,
     pub kinds: [usize; KINDS], // bytes of a packet, by its kind; 0 for kinds 9 and 10

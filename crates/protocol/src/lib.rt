@@ -1,4 +1,6 @@
 // The protocol's definitions stand in specs/, their laws in proofs/. The structs here are the values that definitions and code share.
+#![tactic(auto)]
+
 ghost use Rattle.std.specs.Prelude.{◌≡◌, ◌≤◌, ◌+◌};
 ghost use Rattle.protocol.specs.Values.{blank_stamp, same_list, same_stamp, rank_by, below};
 ghost use Rattle.protocol.specs.Answers.{refusals, bare, taken_answer, aborted_answer};
@@ -22,7 +24,7 @@ fn same_tag(a: [u8; hmac::TAG], b: [u8; hmac::TAG]) -> bool
 }
 
 // A stamp (timestamp): number, writer, and the writers'-key tag of both.
-#[derive(Drop)]
+#[derive(Clone, Copy)]
 pub struct Stamp {
     pub number: u32,
     pub writer: u8,
@@ -90,14 +92,14 @@ impl Stamp {
 }
 
 // A stamp without its tag: what tells two writes of right writers apart.
-#[derive(Drop)]
+#[derive(Clone, Copy)]
 pub struct Label {
     pub number: u32,
     pub writer: u8,
 }
 
 // A packet's head. Document 01 says box for server.
-#[derive(Drop)]
+#[derive(Clone, Copy)]
 pub struct Head {
     pub kind: u8,
     pub client: u8,
@@ -107,7 +109,7 @@ pub struct Head {
 }
 
 // The round of a pending call (0: none), how many servers have replied in it, and which.
-#[derive(Drop)]
+#[derive(Clone, Copy)]
 pub struct Tally {
     pub round: u8,
     pub count: u8,
@@ -116,7 +118,7 @@ pub struct Tally {
 
 // A client's small state: the last call's number, the number of the last stamp made, the highest number seen in clock,
 // the length of the content kept, and the round.
-#[derive(Drop)]
+#[derive(Clone, Copy)]
 pub struct Call {
     pub number: u32,
     pub last: u32,
@@ -126,7 +128,7 @@ pub struct Call {
 }
 
 // An answer in document 01's numbers: a result; number and writer of a stamp with 1 and 2, the length of a content with 2, else 0.
-#[derive(Drop)]
+#[derive(Clone, Copy)]
 pub struct Answer {
     pub result: u16,
     pub number: u32,
@@ -150,7 +152,7 @@ fn bare(res: u16) -> Answer
 
 // What a taken reply gives: a refusal, nothing yet, number and writer of the stamp written, those of the stamp read with the content's length,
 // or blank.
-#[derive(Drop)]
+#[derive(Clone, Copy)]
 pub enum Taken {
     Refused(u8),
     More,
@@ -184,7 +186,7 @@ impl Taken {
 }
 
 // What giving up answers: a refusal, or whether the complete round had begun.
-#[derive(Drop)]
+#[derive(Clone, Copy)]
 pub enum Aborted {
     Refused(u8),
     Before,

@@ -20,8 +20,8 @@ pub(crate) fn reply_head(head: protocol::Head, kind: u8) -> protocol::Head
 
 // Clock: the latest candidate's stamp.
 pub(crate) fn clock(memory: &[u8], head: protocol::Head, out: &mut [u8]) -> cluster::Outcome
-    ensures* { λ r. ⌜ AnswersAll 1 memory.now out.old head
-        (record { result = r; memory = memory.now; output = out.new }) ⌝ }
+    ensures { AnswersAll 1 memory.now out.old head
+        (record { result = result; memory = memory.now; output = out.new }) }
 {
     wire::make::make_packet(
         reply_head(head, protocol::kinds::CLOCK_REPLY),
@@ -33,8 +33,8 @@ pub(crate) fn clock(memory: &[u8], head: protocol::Head, out: &mut [u8]) -> clus
 
 // Collect: the latest candidate.
 pub(crate) fn collect(memory: &[u8], head: protocol::Head, out: &mut [u8]) -> cluster::Outcome
-    ensures* { λ r. ⌜ AnswersAll 7 memory.now out.old head
-        (record { result = r; memory = memory.now; output = out.new }) ⌝ }
+    ensures { AnswersAll 7 memory.now out.old head
+        (record { result = result; memory = memory.now; output = out.new }) }
 {
     wire::make::make_packet(
         reply_head(head, protocol::kinds::COLLECT_REPLY),
@@ -62,8 +62,8 @@ pub(crate) fn complete(
     packet: &[u8],
     out: &mut [u8],
 ) -> cluster::Outcome
-    ensures* { λ r. ⌜ AnswersFor 5 memory.old packet.now out.old head
-        (record { result = r; memory = memory.new; output = out.new }) ⌝ }
+    ensures { AnswersFor 5 memory.old packet.now out.old head
+        (record { result = result; memory = memory.new; output = out.new }) }
 {
     raise(memory, wire::bytes::rest(packet, wire::sizes::HEAD));
     wire::make::make_packet(

@@ -18,7 +18,7 @@ pub fn clear(memory: &mut [u8])
 
 // A new server, blank, whatever the memory held.
 pub fn blank(memory: &mut [u8], t: usize, server: usize) -> cluster::Outcome
-    ensures* { λ r. ⌜ record { result = r; memory = memory.new } ≡ blank_step memory.old t server ⌝ }
+    ensures { record { result = result; memory = memory.new } ≡ blank_step memory.old t server }
 {
     if memory.len() != cluster::MEMORY {
         return cluster::refused(cluster::refusals::MEMORY_SIZE);
@@ -40,7 +40,7 @@ pub fn blank(memory: &mut [u8], t: usize, server: usize) -> cluster::Outcome
 
 // The latest candidate becomes blank, and the history stays.
 pub fn blank_latest(memory: &mut [u8]) -> cluster::Outcome
-    ensures* { λ r. ⌜ record { result = r; memory = memory.new } ≡ blank_latest_def memory.old ⌝ }
+    ensures { record { result = result; memory = memory.new } ≡ blank_latest_def memory.old }
 {
     if memory.len() != cluster::MEMORY {
         return cluster::refused(cluster::refusals::MEMORY_SIZE);

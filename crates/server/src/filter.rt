@@ -12,7 +12,7 @@ use crate::valid::{by_history, by_tag, digest_nonce};
 use wire::bytes::{part, rest};
 
 // The slot of a list's highest valid candidate.
-#[derive(Drop)]
+#[derive(Clone, Copy)]
 pub(crate) enum Chosen {
     At(u8),
     Nothing,
@@ -100,7 +100,7 @@ fn reply_held(
     stamp: protocol::Stamp,
     out: &mut [u8],
 ) -> cluster::Outcome
-    ensures* { λ r. ⌜ HeldAs memory.now head opened stamp out.old (record { result = r; output = out.new }) ⌝ }
+    ensures { HeldAs memory.now head opened stamp out.old (record { result = result; output = out.new }) }
 {
     let nothing = held_head(stamp, 0);
     let Found::At(at) = find(memory, opened, &nothing) else {
@@ -130,8 +130,8 @@ pub(crate) fn filter(
     out: &mut [u8],
 ) -> cluster::Outcome
     requires { (1 ≤ opened.server) × (passed.number ≡ get_or (drop head_size packet.now) 0 0) }
-    ensures* { λ r. ⌜ AnswersAs 9 memory.old key packet.now out.old passed.head opened
-        (record { result = r; memory = memory.new; output = out.new }) ⌝ }
+    ensures { AnswersAs 9 memory.old key packet.now out.old passed.head opened
+        (record { result = result; memory = memory.new; output = out.new }) }
 {
     let head = passed.head;
     let list = rest(rest(packet, wire::sizes::HEAD), COUNT_SIZE);

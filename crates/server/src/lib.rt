@@ -3,6 +3,7 @@
 // take    take: server_take, a packet to the server and its reply
 // blank   blank: blank_step, a new server; blank_latest: specs/Blank's blank_latest_def
 // memory  open: MemoryAs, decodeMemory's answer, told as Opened; find: FindAs, the history searched by a whole stamp
+#![tactic(auto)]
 
 pub mod take; // taking a packet
 pub mod blank; // making a server blank

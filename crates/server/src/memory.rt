@@ -23,21 +23,21 @@ pub const COUNT: usize = 2;
 pub const LATEST: usize = 3;
 
 // The place where a stored write begins.
-#[derive(Drop)]
+#[derive(Clone, Copy)]
 pub(crate) enum Found {
     At(usize),
     Nothing,
 }
 
 // The highest of the stored writes: its stamp in their order, and its place; 0 and 0 where none is stored.
-#[derive(Drop)]
+#[derive(Clone, Copy)]
 pub(crate) struct Top {
     pub key: u64,
     pub at: usize,
 }
 
 // What a server's memory tells: t, the server's number, how many writes are stored, the place past them, and the highest of them.
-#[derive(Drop)]
+#[derive(Clone, Copy)]
 pub(crate) struct Opened {
     pub t: u8,
     pub server: u8,
@@ -47,14 +47,14 @@ pub(crate) struct Opened {
 }
 
 // The place past the stored writes, and the highest of them.
-#[derive(Drop)]
+#[derive(Clone, Copy)]
 pub(crate) enum Writes {
     Past(usize, Top),
     Broken,
 }
 
 // What it tells, or refusal 2.
-#[derive(Drop)]
+#[derive(Clone, Copy)]
 pub(crate) enum MemoryRead {
     Value(Opened),
     Broken,

@@ -25,8 +25,8 @@ pub(crate) fn repair(
     out: &mut [u8],
 ) -> cluster::Outcome
     requires { 1 ≤ opened.server }
-    ensures* { λ r. ⌜ AnswersAs 11 memory.old key packet.now out.old head opened
-        (record { result = r; memory = memory.new; output = out.new }) ⌝ }
+    ensures { AnswersAs 11 memory.old key packet.now out.old head opened
+        (record { result = result; memory = memory.new; output = out.new }) }
 {
     raise_valid(memory, key, opened, rest(packet, wire::sizes::HEAD));
     wire::make::make_packet(

@@ -9,7 +9,7 @@ use wire::bytes::{part, rest};
 
 // The reply: 0, 10 or 11.
 fn store_reply(head: protocol::Head, code: u8, out: &mut [u8]) -> cluster::Outcome
-    ensures* { λ r. ⌜ record { result = r; output = out.new } ≡ packet_step (reply_head_def head 4) (code ∷ []) [] out.old ⌝ }
+    ensures { record { result = result; output = out.new } ≡ packet_step (reply_head_def head 4) (code ∷ []) [] out.old }
 {
     let bytes = [code];
     wire::make::make_packet(
@@ -36,8 +36,8 @@ pub(crate) fn store(
     opened: Opened,
     out: &mut [u8],
 ) -> cluster::Outcome
-    ensures* { λ r. ⌜ AnswersOf 3 memory.old packet.now out.old head opened
-        (record { result = r; memory = memory.new; output = out.new }) ⌝ }
+    ensures { AnswersOf 3 memory.old packet.now out.old head opened
+        (record { result = result; memory = memory.new; output = out.new }) }
 {
     let write = rest(packet, wire::sizes::HEAD);
     let Found::Nothing = find(memory, opened, write) else {

@@ -63,8 +63,8 @@ fn answer(
     out: &mut [u8],
 ) -> cluster::Outcome
     requires { (1 ≤ opened.server) × (passed.number ≡ body_number (packet_at passed.head packet.now).body) }
-    ensures* { λ r. ⌜ AnswersAny memory.old key packet.now out.old passed.head opened
-        (record { result = r; memory = memory.new; output = out.new }) ⌝ }
+    ensures { AnswersAny memory.old key packet.now out.old passed.head opened
+        (record { result = result; memory = memory.new; output = out.new }) }
 {
     let head = passed.head;
     let kind = head.kind;
@@ -85,8 +85,8 @@ pub fn take(
     packet: &[u8],
     out: &mut [u8],
 ) -> cluster::Outcome
-    ensures* { λ r. ⌜ record { result = r; memory = memory.new; output = out.new }
-        ≡ server_take real memory.old key.now packet.now out.old ⌝ }
+    ensures { record { result = result; memory = memory.new; output = out.new }
+        ≡ server_take real memory.old key.now packet.now out.old }
 {
     if memory.len() != cluster::MEMORY {
         return cluster::refused(cluster::refusals::MEMORY_SIZE);

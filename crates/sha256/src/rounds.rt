@@ -72,7 +72,7 @@ pub(crate) const K: [u32; 64] = [
 ];
 
 // The eight working variables.
-#[derive(Drop)]
+#[derive(Clone, Copy)]
 pub struct Work {
     pub a: u32,
     pub b: u32,

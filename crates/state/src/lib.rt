@@ -1,4 +1,6 @@
 // A client's small state as bytes, for callers that keep it in lent memory. Every run of bytes has a meaning.
+#![tactic(auto)]
+
 ghost use Rattle.std.specs.Prelude.{◌≡◌, ◌<◌, length};
 ghost use Rattle.wire.specs.Make.{placed};
 ghost use Rattle.state.specs.State.{marks_at_def, length_at, tally_at_def, numbers, call_at, call_bytes};

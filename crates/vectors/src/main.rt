@@ -1,5 +1,7 @@
 // Runs the vectors of FIPS 180-4 and RFC 4231, and lengths on both sides of each edge of the padding, and writes each digest as a line.
 // Then runs the bench cards of document 01 that are not proved.
+#![tactic(auto)]
+
 mod cards;
 
 const HEX: [u8; 16] = [

@@ -5,20 +5,20 @@ ghost use Rattle.wire.specs.Reads.{FieldAs, RangedAs, byte_l, number2_l, number4
 use crate::bytes::{all_zero, number2, number4, rest};
 
 // A place in bytes.
-#[derive(Drop)]
+#[derive(Clone, Copy)]
 pub struct Cursor {
     pub at: usize,
 }
 
 // A field that was let through: its number, and the cursor past it.
-#[derive(Drop)]
+#[derive(Clone, Copy)]
 pub enum Field {
     Value(u32, Cursor),
     Broken,
 }
 
 // A run of bytes that is there: the cursor past it.
-#[derive(Drop)]
+#[derive(Clone, Copy)]
 pub(crate) enum Run {
     Past(Cursor),
     Broken,

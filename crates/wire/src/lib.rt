@@ -13,6 +13,7 @@
 // packet  read_packet: PacketAs, decode's answer for all kinds, with the label of body_label and the number of body_number; fragment, share_fragment:
 //         the part of the packet; head_field: HeadAs
 // make    put, put_byte, put_number2, put_number4, put_stamp, put_head: placed; make_packet: packet_step, which is encode's bytes (proofs/Laws)
+#![tactic(auto)]
 
 pub mod bytes;
 pub mod fields;

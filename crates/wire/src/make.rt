@@ -89,8 +89,7 @@ pub fn make_packet(
     second: &[u8],
     out: &mut [u8],
 ) -> cluster::Outcome
-    ensures* { λ r. ⌜ record { result = r; output = out.new } ≡ packet_step head first.now second.now out.old
-        ⌝ }
+    ensures { record { result = result; output = out.new } ≡ packet_step head first.now second.now out.old }
 {
     if out.len() < cluster::PACKET_ROOM {
         return cluster::refused(cluster::refusals::ROOM);

@@ -14,7 +14,7 @@ use crate::parts::{
 };
 
 // A packet's head, and the cursor past it.
-#[derive(Drop)]
+#[derive(Clone, Copy)]
 pub(crate) enum HeadRead {
     Value(protocol::Head, Cursor),
     Broken,
@@ -22,7 +22,7 @@ pub(crate) enum HeadRead {
 
 // What is told of a packet that was let through, so that nobody reads it again by its place: its head, number and writer of the stamp that its body
 // begins with, and the number that the body's reader read (a store's record length, its reply's code, a filter's count, its reply's byte).
-#[derive(Drop)]
+#[derive(Clone, Copy)]
 pub struct Passed {
     pub head: protocol::Head,
     pub label: protocol::Label,
@@ -30,7 +30,7 @@ pub struct Passed {
 }
 
 // A packet that was let through, or refusal 7.
-#[derive(Drop)]
+#[derive(Clone, Copy)]
 pub enum PacketRead {
     Value(Passed),
     Broken,

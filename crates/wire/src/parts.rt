@@ -11,7 +11,7 @@ use crate::fields::{
 
 // A part that was let through: number and writer of the stamp that it begins with, 0 and 0 where that is blank; the number that follows the stamp, 0
 // where none does; and the cursor past the part.
-#[derive(Drop)]
+#[derive(Clone, Copy)]
 pub enum Labelled {
     Value(protocol::Label, u32, Cursor),
     Broken,

@@ -32,7 +32,7 @@ pub fn rank_at(s: &[u8]) -> u64
 }
 
 // A candidate without its tags.
-#[derive(Drop)]
+#[derive(Clone, Copy)]
 pub struct CandidateHead {
     pub stamp: protocol::Stamp,
     pub nonce: [u8; cluster::KEY],
